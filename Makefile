@@ -1,0 +1,40 @@
+# khal list. The two commands are `make run` and `make test`; the README says more.
+
+RT ?= rt
+PREFIX ?= /usr/local
+DESTDIR ?=
+ARGS ?= list examples/calendars 2024-01-01 7d
+
+PROGRAM := bin/khal-list
+BUILT := crates/khal_list_cli/out/khal_list_cli
+SOURCES := crates.txt $(shell find crates -name out -prune -o -type f -name '*.rt' -print -o -type f -name '*.antt' -print)
+
+.PHONY: run build test bench install clean kit
+
+# Lists the sample calendars for a fixed week, or whatever ARGS says.
+run: $(PROGRAM)
+	@$(PROGRAM) $(ARGS)
+
+build: $(PROGRAM)
+
+# Every proof from nothing, the edits that must fail, the tests, and the program as two compilers build it.
+test: kit
+	@$(RT) ci
+
+# Proves the program and builds it; its help is printed to see that it runs.
+$(PROGRAM): $(SOURCES) | kit
+	@cd crates/khal_list_cli && $(RT) run -- --help >/dev/null
+	@mkdir -p bin && cp $(BUILT) $@
+
+# Seconds and peak memory over folders that a generator writes.
+bench: $(PROGRAM)
+	@python3 bench/bench.py $(PROGRAM)
+
+install: $(PROGRAM)
+	@mkdir -p $(DESTDIR)$(PREFIX)/bin && cp $(PROGRAM) $(DESTDIR)$(PREFIX)/bin/khal-list
+
+clean:
+	@rm -rf bin bench/data crates/*/out
+
+kit:
+	@command -v $(RT) >/dev/null || { echo "make: '$(RT)' is not found: install the Rattle kit that the README names and put its bin folder on PATH, or run make RT=/path/to/rt" >&2; exit 1; }

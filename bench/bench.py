@@ -1,0 +1,44 @@
+#!/usr/bin/env python3
+"""Measures a khal-list over folders of a generator: `bench.py PROGRAM [RUNS]`.
+
+Prints a line a folder: the least seconds and the greatest peak memory of several runs, the program's
+status and how many lines it wrote."""
+import os
+import sys
+import time
+
+from folders import ROWS, write
+
+HERE = os.path.dirname(os.path.abspath(__file__))
+
+
+def measure(words):
+    """Runs the words once: seconds, peak memory in MiB, status, and lines of standard output."""
+    output = os.path.join(HERE, 'data', 'output')
+    began = time.perf_counter()
+    child = os.fork()
+    if child == 0:
+        os.dup2(os.open(output, os.O_WRONLY | os.O_CREAT | os.O_TRUNC), 1)
+        os.dup2(os.open(os.devnull, os.O_WRONLY), 2)
+        os.execv(words[0], words)
+    _, status, usage = os.wait4(child, 0)
+    seconds = time.perf_counter() - began
+    with open(output, 'rb') as file:
+        lines = file.read().count(b'\n')
+    return seconds, usage.ru_maxrss / 1024, os.waitstatus_to_exitcode(status), lines
+
+
+def main():
+    program = os.path.abspath(sys.argv[1])
+    runs = int(sys.argv[2]) if len(sys.argv) > 2 else 5
+    print('%-40s %9s %9s %7s %8s' % ('folder', 'seconds', 'MiB', 'status', 'lines'))
+    for name, files, words in ROWS:
+        folder = os.path.join(HERE, 'data', name.replace(',', '').replace(' ', '-'))
+        write(folder, files())
+        taken = [measure([program, 'list', folder, *words]) for _ in range(runs)]
+        seconds, memory = min(t[0] for t in taken), max(t[1] for t in taken)
+        print('%-40s %9.4f %9.1f %7d %8d' % (name, seconds, memory, *taken[0][2:]))
+
+
+if __name__ == '__main__':
+    main()

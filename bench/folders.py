@@ -1,0 +1,65 @@
+"""Writes the folders that `make bench` measures, each once, below bench/data."""
+import os
+
+LIMIT = 16 * 1024 * 1024
+
+
+def calendar(lines):
+    return '\r\n'.join(['BEGIN:VCALENDAR', 'VERSION:2.0', *lines, 'END:VCALENDAR', '']).encode()
+
+
+def event(number, *more):
+    """An event of an hour, one after another from 2024-01-01 on, some two hundred a day."""
+    day, minute = divmod(number, 200)
+    month, day = divmod(day, 28)
+    year, month = divmod(month, 12)
+    stamp = '%04d%02d%02dT%02d%02d' % (2024 + year, month + 1, day + 1, minute // 10, minute % 10 * 5)
+    return ['BEGIN:VEVENT', 'UID:%d@example.org' % number, 'DTSTAMP:20240101T000000Z',
+            'DTSTART:%s00Z' % stamp, 'DURATION:PT1H', 'SUMMARY:Event %d' % number, *more, 'END:VEVENT']
+
+
+def events(numbers):
+    return calendar([line for number in numbers for line in event(number)])
+
+
+def filled(line):
+    """A calendar of one event, with copies of a line in it up to the size that a file may have."""
+    start, end = calendar(event(0)).split(b'END:VEVENT')
+    count = (LIMIT - len(start) - len(end) - 10) // len(line)
+    return start + line * count + b'END:VEVENT' + end
+
+
+def unknown(count):
+    return calendar(['BEGIN:X-NOTES', *('X-NOTE;X-KIND="a;b:c":line %d' % n for n in range(count)), 'END:X-NOTES'])
+
+
+def many(count, bad=0):
+    for number in range(count):
+        text = events([number])
+        yield '%05d.ics' % number, text[:-20] if bad and number % bad == 0 else text
+
+
+# what is measured: a name, the files, and the words after the folder
+ROWS = [
+    ('an empty folder', lambda: [], ['2024-01-05', '1d']),
+    ('10,000 events in one file', lambda: [('a.ics', events(range(10_000)))], ['2024-01-05', '1d']),
+    ('the same, all listed', lambda: [('a.ics', events(range(10_000)))], ['2024-01-01', '2026-12-31']),
+    ('10,000 files of one event', lambda: many(10_000), ['2024-01-05', '1d']),
+    ('the same, one of ten bad', lambda: many(10_000, 10), ['2024-01-05', '1d']),
+    ('16 MiB without folds', lambda: [('a.ics', filled(b'X-NOTE;X-KIND=a:' + b'text ' * 11 + b'\r\n'))],
+     ['2024-01-01', '1d']),
+    ('16 MiB, a fold in each line', lambda: [('a.ics', filled(b'X-NOTE;X-KIND=a:' + b'text ' * 5 + b'\r\n '
+                                                              + b'text ' * 5 + b'\r\n'))], ['2024-01-01', '1d']),
+    ('400,000 lines of an unknown component', lambda: [('a.ics', unknown(400_000))], ['2024-01-05', '1d']),
+]
+
+
+def write(folder, files):
+    """Writes the files, unless the folder is there from an earlier run."""
+    if os.path.isdir(folder):
+        return
+    os.makedirs(folder + '.new')
+    for name, text in files:
+        with open(os.path.join(folder + '.new', name), 'wb') as file:
+            file.write(text)
+    os.rename(folder + '.new', folder)
