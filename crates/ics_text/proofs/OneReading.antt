@@ -1,0 +1,62 @@
+-- The text of parameters is read in one way at most.
+use Rattle.std.proofs.Common.{◌≡◌, ℕ, Bool, true, false, ◌==◌, List, [], ◌∷◌, ◌++◌, drop, map, refl, sym, ap, ◌∙◌}
+use Rattle.std.specs.List.{AllByRecursion, list_all, take_while}
+use Rattle.std.proofs.lemmas.Bool.{and_parts}
+use Rattle.ics_text.specs.Bytes.{begins, is_name_byte, is_plain_byte}
+use Rattle.ics_text.specs.Contents.{Value, Param, value_text, IsValue, IsParam, IsParams, pieces, without_quotes, after_name}
+use Rattle.ics_text.proofs.BytesLemmas.{plain-no_sign}
+use Rattle.ics_text.proofs.Parameters.{others_text, text_of, pieces-params, pieces-values, without_quotes-value, name-part, values-part}
+
+-- a value begins with a quote exactly where it has quotes
+begins-value : (quoted : Bool) (bytes : List ℕ) → IsValue (record { quoted = quoted; bytes = bytes }) → begins (λ b. b == 34) (value_text (record { quoted = quoted; bytes = bytes })) ≡ quoted
+begins-value true bytes ok = refl
+begins-value false [] ok = refl
+begins-value false (b ∷ bs) ok = (plain-no_sign b (and_parts (is_plain_byte b) (list_all is_plain_byte bs) ok).0).quote
+
+same-value : (v w : Value) → IsValue v → IsValue w → value_text v ≡ value_text w → v ≡ w
+same-value v w ok_v ok_w e =
+    let quoted : v.quoted ≡ w.quoted = sym (begins-value v.quoted v.bytes ok_v) ∙ ap (begins (λ b. b == 34)) e ∙ begins-value w.quoted w.bytes ok_w in
+    let bytes : v.bytes ≡ w.bytes = sym (without_quotes-value v.quoted v.bytes ok_v) ∙ ap without_quotes e ∙ without_quotes-value w.quoted w.bytes ok_w in
+    ap (λ (q : Bool). record { quoted = q; bytes = v.bytes }) quoted ∙ ap (λ (b : List ℕ). record { quoted = w.quoted; bytes = b }) bytes
+
+same-values : (vs ws : List Value) → AllByRecursion IsValue vs → AllByRecursion IsValue ws → map value_text vs ≡ map value_text ws → vs ≡ ws
+same-values [] [] ok_v ok_w e = refl
+same-values [] (w ∷ ws) ok_v ok_w e = cc
+same-values (v ∷ vs) [] ok_v ok_w e = cc
+same-values (v ∷ vs) (w ∷ ws) ok_v ok_w e =
+    let first = same-value v w ok_v.0 ok_w.0 (cc) in
+    let more = same-values vs ws ok_v.1 ok_w.1 (cc) in
+    cc
+
+same-parts : (p q : Param) → p.name ≡ q.name → p.first ≡ q.first → p.others ≡ q.others → p ≡ q
+same-parts p q name first others =
+    ap (λ (n : List ℕ). record { name = n; first = p.first; others = p.others }) name
+    ∙ ap (λ (v : Value). record { name = q.name; first = v; others = p.others }) first
+    ∙ ap (λ (vs : List Value). record { name = q.name; first = q.first; others = vs }) others
+
+same-param : (p q : Param) → IsParam p → IsParam q → text_of p ≡ text_of q → p ≡ q
+same-param p q ok_p ok_q e =
+    let name : p.name ≡ q.name = sym (name-part p ok_p) ∙ ap (take_while is_name_byte) e ∙ name-part q ok_q in
+    let text : value_text p.first ++ others_text p.others ≡ value_text q.first ++ others_text q.others =
+    sym (values-part p ok_p) ∙ ap (λ t. drop 1 (after_name t)) e ∙ values-part q ok_q in
+    let texts : map value_text (p.first ∷ p.others) ≡ map value_text (q.first ∷ q.others) =
+    sym (pieces-values p.first p.others ok_p.first ok_p.others) ∙ ap (pieces 44 false) text ∙ pieces-values q.first q.others ok_q.first ok_q.others in
+    let values = same-values (p.first ∷ p.others) (q.first ∷ q.others) (ok_p.first, ok_p.others) (ok_q.first, ok_q.others) texts in
+    let first : p.first ≡ q.first = cc in
+    let others : p.others ≡ q.others = cc in
+    same-parts p q name first others
+
+same-all : (ps qs : List Param) → AllByRecursion IsParam ps → AllByRecursion IsParam qs → map text_of ps ≡ map text_of qs → ps ≡ qs
+same-all [] [] ok_p ok_q e = refl
+same-all [] (q ∷ qs) ok_p ok_q e = cc
+same-all (p ∷ ps) [] ok_p ok_q e = cc
+same-all (p ∷ ps) (q ∷ qs) ok_p ok_q e =
+    let first = same-param p q ok_p.0 ok_q.0 (cc) in
+    let more = same-all ps qs ok_p.1 ok_q.1 (cc) in
+    cc
+
+pub same-params : (text : List ℕ) (ps qs : List Param) → IsParams text ps → IsParams text qs → ps ≡ qs
+same-params text ps qs p q =
+    let texts : [] ∷ map text_of ps ≡ [] ∷ map text_of qs =
+    sym (pieces-params ps p.in_order) ∙ ap (pieces 59 false) (sym p.spelled ∙ q.spelled) ∙ pieces-params qs q.in_order in
+    same-all ps qs p.in_order q.in_order (cc)

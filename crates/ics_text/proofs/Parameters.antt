@@ -1,0 +1,162 @@
+-- The search for a parameter finds the first value of the first parameter of its name.
+use Rattle.std.proofs.Common.{◌≡◌, ◌≢◌, cond, ℕ, ◌-◌, Bool, true, false, ◌==◌, ◌&&◌, List, [], ◌∷◌, ◌++◌, length, drop, map, refl, sym, ap, ◌∙◌, append_assoc, length-append, arith}
+use Rattle.std.specs.List.{flat_map, AllByRecursion, list_all, take_while, prefix_len}
+use Rattle.std.proofs.lemmas.List.{append-nil}
+use Rattle.std.proofs.lemmas.Bool.{and_parts, and_right}
+use Rattle.std.proofs.Math.Seq.{take-append_seam, drop-append_seam}
+use Rattle.ics_text.specs.Bytes.{comma, equals, is_name_byte, is_quoted_byte, is_plain_byte}
+use Rattle.ics_text.specs.Unfolded.{onto_first}
+use Rattle.ics_text.specs.Contents.{Value, Param, value_text, params_text, IsValue, IsParam, IsParams, first_value, pieces, turned, without_quotes, after_name, first_of_text, value_among, param_of}
+use Rattle.ics_text.proofs.BytesLemmas.{quoted-no_quote, plain-no_sign, name-no_quote, name-no_semicolon}
+use Rattle.ics_text.proofs.Parting.{prefix_len-front}
+
+-- a text in front of the first piece
+abbrev in_front : List ℕ → List (List ℕ) → List (List ℕ)
+in_front text [] = text ∷ []
+in_front text (piece ∷ more) = (text ++ piece) ∷ more
+
+in_front-one : (b : ℕ) (ps : List (List ℕ)) → onto_first b ps ≡ in_front (b ∷ []) ps
+in_front-one b [] = refl
+in_front-one b (piece ∷ more) = refl
+
+in_front-onto : (b : ℕ) (bs : List ℕ) (ps : List (List ℕ)) → onto_first b (in_front bs ps) ≡ in_front (b ∷ bs) ps
+in_front-onto b bs [] = refl
+in_front-onto b bs (piece ∷ more) = refl
+
+in_front-twice : (a b : List ℕ) (ps : List (List ℕ)) → in_front a (in_front b ps) ≡ in_front (a ++ b) ps
+in_front-twice a b [] = refl
+in_front-twice a b (piece ∷ more) = ap (λ t. t ∷ more) (sym (append_assoc a b piece))
+
+-- no piece ends in the text, and what follows it stands outside quotes
+record Passes (sep : ℕ) (text : List ℕ) : Type 0 where
+  on : (rest : List ℕ) → pieces sep false (text ++ rest) ≡ in_front text (pieces sep false rest)
+
+passes-both : (sep : ℕ) (a b : List ℕ) → Passes sep a → Passes sep b → Passes sep (a ++ b)
+passes-both sep a b p q = record {
+  on = λ rest. ap (pieces sep false) (append_assoc a b rest) ∙ p.on (b ++ rest) ∙ ap (in_front a) (q.on rest) ∙ in_front-twice a b (pieces sep false rest);
+}
+
+passes-one : (sep b : ℕ) → (b == 34) ≡ false → (b == sep) ≡ false → Passes sep (b ∷ [])
+passes-one sep b q s = record { on = λ rest. rw (q, s) (in_front-one b (pieces sep false rest)) }
+
+in_front-none : (ps : List (List ℕ)) → ps ≢ [] → in_front [] ps ≡ ps
+in_front-none [] some = absurd (some refl)
+in_front-none (piece ∷ more) some = refl
+
+some_piece : (sep : ℕ) (text : List ℕ) → pieces sep false text ≢ []
+some_piece sep [] h = cc
+some_piece sep (b ∷ bs) h = by_test (b == sep && true) (pieces sep (turned false b) bs) h
+  where
+    onto : (lines : List (List ℕ)) → onto_first b lines ≢ []
+    onto [] h = cc
+    onto (line ∷ lines) h = cc
+
+    by_test : (t : Bool) (later : List (List ℕ)) → cond t ([] ∷ later) (onto_first b later) ≢ []
+    by_test true later h = cc
+    by_test false later h = onto later h
+
+passes-none : (sep : ℕ) → Passes sep []
+passes-none sep = record { on = λ rest. sym (in_front-none (pieces sep false rest) (some_piece sep rest)) }
+
+-- a run of bytes that are no quote and not the separator
+passes-run : (sep : ℕ) (ok : ℕ → Bool) (no_quote : (b : ℕ) → ok b ≡ true → (b == 34) ≡ false) (no_sep : (b : ℕ) → ok b ≡ true → (b == sep) ≡ false)
+    (bs : List ℕ) → list_all ok bs ≡ true → Passes sep bs
+passes-run sep ok no_quote no_sep [] h = passes-none sep
+passes-run sep ok no_quote no_sep (b ∷ bs) h =
+    let parts = and_parts (ok b) (list_all ok bs) h in
+    passes-both sep (b ∷ []) bs (passes-one sep b (no_quote b parts.0) (no_sep b parts.0)) (passes-run sep ok no_quote no_sep bs parts.1)
+
+-- between quotes nothing parts, and the second quote ends that
+in_quotes : (sep : ℕ) (bs rest : List ℕ) → list_all is_quoted_byte bs ≡ true → pieces sep true (bs ++ 34 ∷ rest) ≡ in_front (bs ++ 34 ∷ []) (pieces sep false rest)
+in_quotes sep [] rest h = rw (and_right (34 == sep) false refl) (in_front-one 34 (pieces sep false rest))
+in_quotes sep (b ∷ bs) rest h =
+    let parts = and_parts (is_quoted_byte b) (list_all is_quoted_byte bs) h in
+    rw (quoted-no_quote b parts.0, and_right (b == sep) false refl)
+    (ap (onto_first b) (in_quotes sep bs rest parts.1) ∙ in_front-onto b (bs ++ 34 ∷ []) (pieces sep false rest))
+
+-- what a separator is: no quote, and no byte of a value without quotes
+record Parts (sep : ℕ) : Type 0 where
+  no_quote : (34 == sep) ≡ false
+  not_plain : (b : ℕ) → is_plain_byte b ≡ true → (b == sep) ≡ false
+
+semicolon-parts : Parts 59
+semicolon-parts = record { no_quote = refl; not_plain = λ b h. (plain-no_sign b h).semicolon }
+
+comma-parts : Parts 44
+comma-parts = record { no_quote = refl; not_plain = λ b h. (plain-no_sign b h).comma }
+
+passes-value : (sep : ℕ) → Parts sep → (quoted : Bool) (bytes : List ℕ) → IsValue (record { quoted = quoted; bytes = bytes }) → Passes sep (value_text (record { quoted = quoted; bytes = bytes }))
+passes-value sep p false bytes ok = passes-run sep is_plain_byte (λ b h. (plain-no_sign b h).quote) p.not_plain bytes ok
+passes-value sep p true bytes ok = record {
+  on = λ rest.
+      rw (append_assoc bytes (34 ∷ []) rest, p.no_quote)
+      (ap (onto_first 34) (in_quotes sep bytes rest ok) ∙ in_front-onto 34 (bytes ++ 34 ∷ []) (pieces sep false rest));
+}
+
+-- the values behind the first, each with its comma
+abbrev pub others_text : List Value → List ℕ
+others_text vs = flat_map (λ v. comma ∷ value_text v) vs
+
+-- a parameter's text, of which the `;` is left off
+abbrev pub text_of : Param → List ℕ
+text_of p = (p.name ++ equals ∷ value_text p.first) ++ others_text p.others
+
+passes-others : (vs : List Value) → AllByRecursion IsValue vs → Passes 59 (others_text vs)
+passes-others [] ok = passes-none 59
+passes-others (v ∷ vs) ok =
+    passes-both 59 (44 ∷ value_text v) (others_text vs)
+    (passes-both 59 (44 ∷ []) (value_text v) (passes-one 59 44 refl refl) (passes-value 59 semicolon-parts v.quoted v.bytes ok.0))
+    (passes-others vs ok.1)
+
+passes-text : (p : Param) → IsParam p → Passes 59 (text_of p)
+passes-text p ok =
+    passes-both 59 (p.name ++ 61 ∷ value_text p.first) (others_text p.others)
+    (passes-both 59 p.name (61 ∷ value_text p.first)
+    (passes-run 59 is_name_byte name-no_quote name-no_semicolon p.name ok.name.bytes)
+    (passes-both 59 (61 ∷ []) (value_text p.first) (passes-one 59 61 refl refl) (passes-value 59 semicolon-parts p.first.quoted p.first.bytes ok.first)))
+    (passes-others p.others ok.others)
+
+-- the pieces of the parameters are an empty one and the parameters' texts
+pub pieces-params : (ps : List Param) → AllByRecursion IsParam ps → pieces 59 false (params_text ps) ≡ [] ∷ map text_of ps
+pieces-params [] ok = refl
+pieces-params (p ∷ ps) ok =
+    ap (λ (t : List (List ℕ)). [] ∷ t) ((passes-text p ok.0).on (params_text ps) ∙ ap (in_front (text_of p)) (pieces-params ps ok.1) ∙ ap (λ t. t ∷ map text_of ps) (append-nil (text_of p)))
+
+-- the pieces of the values are the values
+pub pieces-values : (v : Value) (vs : List Value) → IsValue v → AllByRecursion IsValue vs → pieces 44 false (value_text v ++ others_text vs) ≡ value_text v ∷ map value_text vs
+pieces-values v [] ok more = (passes-value 44 comma-parts v.quoted v.bytes ok).on [] ∙ ap (λ (t : List ℕ). t ∷ []) (append-nil (value_text v))
+pieces-values v (w ∷ ws) ok more =
+    (passes-value 44 comma-parts v.quoted v.bytes ok).on (others_text (w ∷ ws))
+    ∙ ap (λ (ts : List (List ℕ)). in_front (value_text v) ([] ∷ ts)) (pieces-values w ws more.0 more.1)
+    ∙ ap (λ (t : List ℕ). t ∷ map value_text (w ∷ ws)) (append-nil (value_text v))
+
+pub without_quotes-value : (quoted : Bool) (bytes : List ℕ) → IsValue (record { quoted = quoted; bytes = bytes }) → without_quotes (value_text (record { quoted = quoted; bytes = bytes })) ≡ bytes
+without_quotes-value true bytes ok =
+    let inner : length (34 ∷ (bytes ++ 34 ∷ [])) - 2 ≡ length bytes = omega (arith, length-append bytes (34 ∷ [])) in
+    rw inner (take-append_seam bytes (34 ∷ []))
+without_quotes-value false [] ok = refl
+without_quotes-value false (b ∷ bs) ok = rw ((plain-no_sign b (and_parts (is_plain_byte b) (list_all is_plain_byte bs) ok).0).quote) refl
+
+-- the name of a parameter ends at the equals sign
+name-ends : (p : Param) → IsParam p → prefix_len is_name_byte (text_of p) ≡ length p.name
+name-ends p ok = rw (append_assoc p.name (61 ∷ value_text p.first) (others_text p.others)) (prefix_len-front is_name_byte p.name 61 (value_text p.first ++ others_text p.others) ok.name.bytes refl)
+
+pub name-part : (p : Param) → IsParam p → take_while is_name_byte (text_of p) ≡ p.name
+name-part p ok =
+    rw (name-ends p ok, append_assoc p.name (61 ∷ value_text p.first) (others_text p.others)) (take-append_seam p.name (61 ∷ value_text p.first ++ others_text p.others))
+
+pub values-part : (p : Param) → IsParam p → drop 1 (after_name (text_of p)) ≡ value_text p.first ++ others_text p.others
+values-part p ok =
+    let behind : drop (length p.name) (text_of p) ≡ 61 ∷ (value_text p.first ++ others_text p.others) =
+    rw (append_assoc p.name (61 ∷ value_text p.first) (others_text p.others)) (drop-append_seam p.name (61 ∷ (value_text p.first ++ others_text p.others))) in
+    rw (name-ends p ok, behind) refl
+
+value-part : (p : Param) → IsParam p → first_of_text (text_of p) ≡ p.first.bytes
+value-part p ok = rw (values-part p ok, pieces-values p.first p.others ok.first ok.others) (without_quotes-value p.first.quoted p.first.bytes ok.first)
+
+among-first : (name : List ℕ) (ps : List Param) → AllByRecursion IsParam ps → value_among name (map text_of ps) ≡ first_value name ps
+among-first name [] ok = refl
+among-first name (p ∷ ps) ok = rw (name-part p ok.0, value-part p ok.0, among-first name ps ok.1) refl
+
+pub param_of-first : (name params : List ℕ) (ps : List Param) → IsParams params ps → param_of name params ≡ first_value name ps
+param_of-first name params ps ok = rw (ok.spelled, pieces-params ps ok.in_order) (among-first name ps ok.in_order)

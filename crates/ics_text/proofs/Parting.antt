@@ -1,0 +1,118 @@
+-- The parts of a content line as slices.
+use Rattle.std.proofs.Common.{◌≡◌, ℕ, ◌+◌, ◌-◌, ◌<◌, ◌≤◌, Bool, true, false, List, [], ◌∷◌, ◌++◌, length, take, drop, refl, sym, ap, ◌∙◌, arith, append_assoc, Option, Some, None, subst, length-append, one-add}
+use Rattle.std.specs.Prelude.{option_map}
+use Rattle.std.specs.List.{list_all, prefix_len}
+use Rattle.std.proofs.lemmas.Bool.{and_parts}
+use Rattle.std.proofs.lemmas.List.{take_rest, drop-drop}
+use Rattle.std.proofs.Math.Seq.{take-append_seam, drop-append_seam}
+use Rattle.ics_text.specs.Bytes.{is_name_byte}
+use Rattle.ics_text.specs.Contents.{Param, params_text, IsContent, Parts, cut_at}
+use Rattle.ics_text.specs.Places.{colon_from}
+use Rattle.ics_text.specs.declared.place.Place.TheVariants.{Start, InName}
+use Rattle.ics_text.proofs.Colons.{over_name}
+use Rattle.ics_text.proofs.Spelled.{found, comes}
+
+pub prefix_len-front : (p : ℕ → Bool) (xs : List ℕ) (y : ℕ) (ys : List ℕ) → list_all p xs ≡ true → p y ≡ false → prefix_len p (xs ++ y ∷ ys) ≡ length xs
+prefix_len-front p [] y ys h n = rw n refl
+prefix_len-front p (x ∷ xs) y ys h n = let parts = and_parts (p x) (list_all p xs) h in rw (parts.0, prefix_len-front p xs y ys parts.1 n) (one-add (length xs))
+
+-- the name ends where no byte of a name follows
+pub name-length : (name : List ℕ) (ps : List Param) (value : List ℕ) → list_all is_name_byte name ≡ true → prefix_len is_name_byte ((name ++ params_text ps) ++ 58 ∷ value) ≡ length name
+name-length name [] value h = rw (append_assoc name [] (58 ∷ value)) (prefix_len-front is_name_byte name 58 value h refl)
+name-length name (p ∷ ps) value h =
+    subst (λ t. prefix_len is_name_byte t ≡ length name) (sym (append_assoc name (params_text (p ∷ ps)) (58 ∷ value))) (prefix_len-front is_name_byte name 59 _ h refl)
+
+-- the slices of a line that is spelled so
+pub record Sliced (line name params value : List ℕ) (len k : ℕ) : Type 0 where
+  pub order : len ≤ k
+  pub within : k < length line
+  pub name_is : take len line ≡ name
+  pub params_are : take (k - len) (drop len line) ≡ params
+  pub value_is : drop (k + 1) line ≡ value
+
+slices : (line name params value : List ℕ) (len k : ℕ) → line ≡ (name ++ params) ++ 58 ∷ value → len ≡ length name → k ≡ length (name ++ params) → Sliced line name params value len k
+slices line name params value len k e l c =
+    let whole : (name ++ params) ++ 58 ∷ value ≡ name ++ (params ++ 58 ∷ value) = append_assoc name params (58 ∷ value) in
+    let size : k ≡ length name + length params = c ∙ length-append name params in
+    let rest : k - len ≡ length params = omega arith in
+    let after : k + 1 ≡ length ((name ++ params) ++ 58 ∷ []) = ap (λ n. n + 1) c ∙ sym (length-append (name ++ params) (58 ∷ [])) in
+    record {
+      order = omega arith;
+      within = omega (arith, ap length e, length-append (name ++ params) (58 ∷ value));
+      name_is = rw (l, e, whole) (take-append_seam name (params ++ 58 ∷ value));
+      params_are = rw rest (rw (l, e, whole) (rw (drop-append_seam name (params ++ 58 ∷ value)) (take-append_seam params (58 ∷ value))));
+      value_is = rw (after, e) (ap (drop (length ((name ++ params) ++ 58 ∷ []))) (sym (append_assoc (name ++ params) (58 ∷ []) value)) ∙ drop-append_seam ((name ++ params) ++ 58 ∷ []) value);
+    }
+
+-- where the walk comes to the colon, the slices are the parts of a content line
+pub record Read (line : List ℕ) (len k : ℕ) : Type 0 where
+  pub name : List ℕ
+  pub params : List ℕ
+  pub value : List ℕ
+  pub content : IsContent line name params value
+  pub sliced : Sliced line name params value len k
+
+pub read : (line : List ℕ) (k : ℕ) → colon_from line Start ≡ Some k → Read line (prefix_len is_name_byte line) k
+read line k e =
+    let f = found line Start k e in
+    let t = f.tail in
+    record {
+      name = t.bytes;
+      params = params_text t.ps;
+      value = f.behind;
+      content = record { ps = t.ps; name_ok = f.ok.0; params_ok = record { in_order = f.ok.1; spelled = refl }; spelled = f.text };
+      sliced = slices line t.bytes (params_text t.ps) f.behind (prefix_len is_name_byte line) k f.text
+          (ap (prefix_len is_name_byte) f.text ∙ name-length t.bytes t.ps f.behind f.ok.0.bytes) f.count;
+    }
+
+-- where a line is a content line, the walk comes to its colon
+walks : (line name params value : List ℕ) (c : IsContent line name params value) → colon_from line Start ≡ Some (length (name ++ params))
+walks line name params value c =
+    ap (λ l. colon_from l Start) c.spelled ∙ rw c.params_ok.spelled (comes name value c.ps c.name_ok c.params_ok.in_order)
+
+pub is_content : (line : List ℕ) (k : ℕ) → colon_from line Start ≡ Some k → let p = cut_at line k in IsContent line p.name p.params p.value
+is_content line k e =
+    let r = read line k e in
+    let s = r.sliced in
+    rw (s.name_is, s.params_are, s.value_is) r.content
+
+pub same_parts : (line : List ℕ) (k : ℕ) (name params value : List ℕ) → colon_from line Start ≡ Some k → IsContent line name params value →
+    let p = cut_at line k in (name ≡ p.name) × (params ≡ p.params) × (value ≡ p.value)
+same_parts line k name params value e c =
+    let w = walks line name params value c in
+    let count : k ≡ length (name ++ params) = cc in
+    let name_first = rw (← c.params_ok.spelled) at (name-length name c.ps value c.name_ok.bytes) in
+    let len = ap (prefix_len is_name_byte) c.spelled ∙ name_first in
+    let s = slices line name params value (prefix_len is_name_byte line) k c.spelled len count in
+    (sym s.name_is, sym s.params_are, sym s.value_is)
+
+pub refuses : (line : List ℕ) → None ≡ colon_from line Start → (name params value : List ℕ) → IsContent line name params value → ⊥
+refuses line e name params value c = let w = walks line name params value c in cc
+
+-- a line that is cut behind its name, and what the walk finds there
+pub record CutBehind (line name behind : List ℕ) (found : Option ℕ) : Type 0 where
+  pub some : 0 < prefix_len is_name_byte line
+  pub name_is : name ≡ take (prefix_len is_name_byte line) line
+  pub behind_is : behind ≡ drop (prefix_len is_name_byte line) line
+  pub found_is : found ≡ colon_from behind InName
+
+pub reached : (line name behind : List ℕ) (k : ℕ) → CutBehind line name behind (Some k) → colon_from line Start ≡ Some (k + prefix_len is_name_byte line)
+reached line name behind k c =
+    over_name line c.some ∙ ap (λ b. option_map (λ n. n + prefix_len is_name_byte line) (colon_from b InName)) (sym c.behind_is)
+    ∙ ap (option_map (λ n. n + prefix_len is_name_byte line)) (sym c.found_is)
+
+pub not_reached : (line name behind : List ℕ) → CutBehind line name behind None → None ≡ colon_from line Start
+not_reached line name behind c =
+    ap (option_map (λ n. n + prefix_len is_name_byte line)) c.found_is
+    ∙ ap (λ b. option_map (λ n. n + prefix_len is_name_byte line) (colon_from b InName)) c.behind_is
+    ∙ sym (over_name line c.some)
+
+-- the slices of what stands behind the name are slices of the line
+pub slices_behind : (line name behind : List ℕ) (k : ℕ) → CutBehind line name behind (Some k) →
+    ◌≡◌ {A = Parts} (record { name = name; params = take k behind; value = take (length behind - (k + 1)) (drop (k + 1) behind) }) (cut_at line (k + prefix_len is_name_byte line))
+slices_behind line name behind k c =
+    let len = prefix_len is_name_byte line in
+    let between : k ≡ k + len - len = omega arith in
+    let after : len + (k + 1) ≡ k + len + 1 = omega arith in
+    rw (take_rest behind (k + 1), c.name_is, c.behind_is, drop-drop (k + 1) len line, after)
+    (ap (λ n. record { name = take len line; params = take n (drop len line); value = drop (k + len + 1) line }) between)

@@ -1,0 +1,346 @@
+-- A line leads to its colon exactly where it is spelled as a content line.
+use Rattle.std.proofs.Common.{◌≡◌, ◌≢◌, ℕ, suc, ◌+◌, Bool, true, false, List, [], ◌∷◌, ◌++◌, length, refl, sym, ap, ◌∙◌, append_assoc, add-one, Option, Some, None, subst, ◌==◌}
+use Rattle.std.specs.Prelude.{option_map, if◌then◌else◌}
+use Rattle.std.specs.List.{flat_map, AllByRecursion, list_all}
+use Rattle.std.proofs.lemmas.Bool.{eqb-true, and_parts}
+use Rattle.ics_text.specs.Bytes.{comma, is_name_byte, is_quoted_byte, is_plain_byte}
+use Rattle.ics_text.specs.Contents.{Value as Parameter, Param, value_text, params_text, IsName, IsValue, IsParam}
+use Rattle.ics_text.specs.Places.{step, counted, colon_from, ends_value, in_value}
+use Rattle.ics_text.specs.declared.place.Place.{Place}
+use Rattle.ics_text.specs.declared.place.Place.TheVariants.{Start, InName, BeforeParam, InParam, BeforeValue, InPlain, InQuotes, AfterQuotes}
+use Rattle.ics_text.specs.declared.place.Move.{Move}
+use Rattle.ics_text.specs.declared.place.Move.TheVariants.{On, Value, Refused}
+use Rattle.ics_text.proofs.BytesLemmas.{quoted-no_quote, plain-no_sign}
+
+-- what may follow a value: more values, and then parameters
+abbrev pub more : List Parameter → List Param → List ℕ
+more vs ps = flat_map (λ v. comma ∷ value_text v) vs ++ params_text ps
+
+-- a parameter behind its `;`, and what follows it
+abbrev pub body : List ℕ → Parameter → List Parameter → List Param → List ℕ
+body name v vs ps = name ++ (61 ∷ (value_text v ++ more vs ps))
+
+pub more-value : (v : Parameter) (vs : List Parameter) (ps : List Param) → more (v ∷ vs) ps ≡ 44 ∷ (value_text v ++ more vs ps)
+more-value v vs ps = simp append_assoc
+
+pub params-param : (p : Param) (ps : List Param) → params_text (p ∷ ps) ≡ 59 ∷ body p.name p.first p.others ps
+params-param p ps = simp append_assoc
+
+-- a text leads from a place to the colon behind it
+abbrev pub Comes : Place → List ℕ → List ℕ → Type 0
+Comes place rest text = colon_from (text ++ 58 ∷ rest) place ≡ Some (length text)
+
+next : (place q : Place) (b : ℕ) (rest text : List ℕ) → step place b ≡ On q → Comes q rest text → Comes place rest (b ∷ text)
+next place q b rest text s c = rw (s, c, add-one) refl
+
+run : (p : ℕ → Bool) (place : Place) (stays : (b : ℕ) → p b ≡ true → step place b ≡ On place) (bs rest text : List ℕ) → list_all p bs ≡ true → Comes place rest text → Comes place rest (bs ++ text)
+run p place stays [] rest text h c = c
+run p place stays (b ∷ bs) rest text h c =
+    let parts = and_parts (p b) (list_all p bs) h in
+    next place place b rest (bs ++ text) (stays b parts.0) (run p place stays bs rest text parts.1 c)
+
+stays-name : (b : ℕ) → is_name_byte b ≡ true → step InName b ≡ On InName
+stays-name b h = rw h refl
+
+stays-param : (b : ℕ) → is_name_byte b ≡ true → step InParam b ≡ On InParam
+stays-param b h = rw h refl
+
+stays-plain : (b : ℕ) → is_plain_byte b ≡ true → step InPlain b ≡ On InPlain
+stays-plain b h = rw h refl
+
+stays-quotes : (b : ℕ) → is_quoted_byte b ≡ true → step InQuotes b ≡ On InQuotes
+stays-quotes b h = rw (h, quoted-no_quote b h) refl
+
+-- behind a value without quotes all is as behind one with them
+plain-ends : (rest : List ℕ) (vs : List Parameter) (ps : List Param) → Comes AfterQuotes rest (more vs ps) → Comes InPlain rest (more vs ps)
+plain-ends rest [] [] c = c
+plain-ends rest [] (p ∷ ps) c = c
+plain-ends rest (v ∷ vs) ps c = c
+
+empty-ends : (rest : List ℕ) (vs : List Parameter) (ps : List Param) → Comes AfterQuotes rest (more vs ps) → Comes BeforeValue rest (more vs ps)
+empty-ends rest [] [] c = c
+empty-ends rest [] (p ∷ ps) c = c
+empty-ends rest (v ∷ vs) ps c = c
+
+plain-comes : (bytes rest : List ℕ) (vs : List Parameter) (ps : List Param) → list_all is_plain_byte bytes ≡ true → Comes AfterQuotes rest (more vs ps) → Comes BeforeValue rest (bytes ++ more vs ps)
+plain-comes [] rest vs ps h c = empty-ends rest vs ps c
+plain-comes (b ∷ bs) rest vs ps h c =
+    let parts = and_parts (is_plain_byte b) (list_all is_plain_byte bs) h in
+    let first : step BeforeValue b ≡ On InPlain = rw (parts.0, (plain-no_sign b parts.0).quote) refl in
+    next BeforeValue InPlain b rest (bs ++ more vs ps) first (run is_plain_byte InPlain stays-plain bs rest (more vs ps) parts.1 (plain-ends rest vs ps c))
+
+value-comes : (quoted : Bool) (bytes rest : List ℕ) (vs : List Parameter) (ps : List Param) → IsValue (record { quoted = quoted; bytes = bytes }) → Comes AfterQuotes rest (more vs ps) →
+    Comes BeforeValue rest (value_text (record { quoted = quoted; bytes = bytes }) ++ more vs ps)
+value-comes false bytes rest vs ps h c = plain-comes bytes rest vs ps h c
+value-comes true bytes rest vs ps h c =
+    rw (append_assoc bytes (34 ∷ []) (more vs ps))
+    (next BeforeValue InQuotes 34 rest (bytes ++ (34 ∷ more vs ps)) refl
+    (run is_quoted_byte InQuotes stays-quotes bytes rest (34 ∷ more vs ps) h (next InQuotes AfterQuotes 34 rest (more vs ps) refl c)))
+
+body-comes : (name rest : List ℕ) (v : Parameter) (vs : List Parameter) (ps : List Param) → IsName name → IsValue v → Comes AfterQuotes rest (more vs ps) → Comes BeforeParam rest (body name v vs ps)
+body-comes [] rest v vs ps n h c = absurd (n.some refl)
+body-comes (b ∷ bs) rest v vs ps n h c =
+    let parts = and_parts (is_name_byte b) (list_all is_name_byte bs) n.bytes in
+    let first : step BeforeParam b ≡ On InParam = rw parts.0 refl in
+    next BeforeParam InParam b rest (bs ++ (61 ∷ (value_text v ++ more vs ps))) first
+    (run is_name_byte InParam stays-param bs rest (61 ∷ (value_text v ++ more vs ps)) parts.1
+    (next InParam BeforeValue 61 rest (value_text v ++ more vs ps) refl (value-comes v.quoted v.bytes rest vs ps h c)))
+
+values-come : (rest : List ℕ) (vs : List Parameter) (ps : List Param) → AllByRecursion IsValue vs → Comes AfterQuotes rest (params_text ps) → Comes AfterQuotes rest (more vs ps)
+values-come rest [] ps h c = c
+values-come rest (v ∷ vs) ps h c =
+    subst (Comes AfterQuotes rest) (sym (more-value v vs ps)) (next AfterQuotes BeforeValue 44 rest (value_text v ++ more vs ps) refl (value-comes v.quoted v.bytes rest vs ps h.0 (values-come rest vs ps h.1 c)))
+
+params-come : (rest : List ℕ) (ps : List Param) → AllByRecursion IsParam ps → Comes AfterQuotes rest (params_text ps)
+params-come rest [] h = refl
+params-come rest (p ∷ ps) h =
+    subst (Comes AfterQuotes rest) (sym (params-param p ps)) (next AfterQuotes BeforeParam 59 rest (body p.name p.first p.others ps) refl
+    (body-comes p.name rest p.first p.others ps h.0.name h.0.first (values-come rest p.others ps h.0.others (params-come rest ps h.1))))
+
+name-ends : (rest : List ℕ) (ps : List Param) → Comes AfterQuotes rest (params_text ps) → Comes InName rest (params_text ps)
+name-ends rest [] c = c
+name-ends rest (p ∷ ps) c = c
+
+-- what is spelled as a content line leads to its colon
+pub comes : (name rest : List ℕ) (ps : List Param) → IsName name → AllByRecursion IsParam ps → Comes Start rest (name ++ params_text ps)
+comes [] rest ps n h = absurd (n.some refl)
+comes (b ∷ bs) rest ps n h =
+    let parts = and_parts (is_name_byte b) (list_all is_name_byte bs) n.bytes in
+    let first : step Start b ≡ On InName = rw parts.0 refl in
+    next Start InName b rest (bs ++ params_text ps) first (run is_name_byte InName stays-name bs rest (params_text ps) parts.1 (name-ends rest ps (params-come rest ps h)))
+
+-- What the text from a place up to the colon is made of: bytes of what the place stands in, a value, values and parameters behind them.
+pub record Tail : Type 0 where
+  pub bytes : List ℕ
+  pub first : Parameter
+  pub vs : List Parameter
+  pub ps : List Param
+
+abbrev pub tail_text : Place → Tail → List ℕ
+tail_text Start t = t.bytes ++ params_text t.ps
+tail_text InName t = t.bytes ++ params_text t.ps
+tail_text BeforeParam t = body t.bytes t.first t.vs t.ps
+tail_text InParam t = body t.bytes t.first t.vs t.ps
+tail_text BeforeValue t = value_text t.first ++ more t.vs t.ps
+tail_text InPlain t = t.bytes ++ more t.vs t.ps
+tail_text InQuotes t = t.bytes ++ (34 ∷ more t.vs t.ps)
+tail_text AfterQuotes t = more t.vs t.ps
+
+pub record Rest (vs : List Parameter) (ps : List Param) : Type 0 where
+  pub values : AllByRecursion IsValue vs
+  pub params : AllByRecursion IsParam ps
+
+abbrev pub TailOk : Place → Tail → Type 0
+TailOk Start t = IsName t.bytes × AllByRecursion IsParam t.ps
+TailOk InName t = (list_all is_name_byte t.bytes ≡ true) × AllByRecursion IsParam t.ps
+TailOk BeforeParam t = IsName t.bytes × IsValue t.first × Rest t.vs t.ps
+TailOk InParam t = (list_all is_name_byte t.bytes ≡ true) × IsValue t.first × Rest t.vs t.ps
+TailOk BeforeValue t = IsValue t.first × Rest t.vs t.ps
+TailOk InPlain t = (list_all is_plain_byte t.bytes ≡ true) × Rest t.vs t.ps
+TailOk InQuotes t = (list_all is_quoted_byte t.bytes ≡ true) × Rest t.vs t.ps
+TailOk AfterQuotes t = Rest t.vs t.ps
+
+-- a text of one place, with a byte in front of it, is a text of the place before
+abbrev pub Back : Place → ℕ → Tail → Place → Type 0
+Back place b t q = TailOk q t → (u : Tail) × TailOk place u × (tail_text place u ≡ b ∷ tail_text q t)
+
+none : Parameter
+none = record { quoted = false; bytes = [] }
+
+nonempty : (b : ℕ) (bs : List ℕ) → (b ∷ bs) ≢ []
+nonempty b bs h = cc
+
+all-cons : (p : ℕ → Bool) (b : ℕ) (bs : List ℕ) → p b ≡ true → list_all p bs ≡ true → list_all p (b ∷ bs) ≡ true
+all-cons p b bs h k = rw (h, k) refl
+
+by_test : {P : Type 0} (b : Bool) (x y : Move) (q : Place) → (if b then x else y) ≡ On q → (b ≡ true → x ≡ On q → P) → (b ≡ false → y ≡ On q → P) → P
+by_test true x y q e f g = f refl e
+by_test false x y q e f g = g refl e
+
+for_value : {P : Type 0} (b : Bool) (x y : Move) → (if b then x else y) ≡ Value → (b ≡ true → x ≡ Value → P) → (b ≡ false → y ≡ Value → P) → P
+for_value true x y e f g = f refl e
+for_value false x y e f g = g refl e
+
+onto : (p q : Place) → On p ≡ On q → p ≡ q
+onto p q e = cc
+
+refused : (q : Place) → Refused ≡ On q → ⊥
+refused q e = cc
+
+no_value : (q : Place) → Value ≡ On q → ⊥
+no_value q e = cc
+
+back-Start : (b : ℕ) (q : Place) (t : Tail) → step Start b ≡ On q → Back Start b t q
+back-Start b q t s = by_test (is_name_byte b) (On InName) Refused q s
+    (λ h e. subst (Back Start b t) (onto InName q e) (λ ok. (record t { bytes = b ∷ t.bytes }, (record { some = nonempty b t.bytes; bytes = all-cons is_name_byte b t.bytes h ok.0 }, ok.1), refl)))
+    (λ h e. absurd (refused q e))
+
+-- the parameter that begins behind `;`
+abbrev pub begun : Tail → Param
+begun t = record { name = t.bytes; first = t.first; others = t.vs }
+
+begun-ok : (t : Tail) → TailOk BeforeParam t → AllByRecursion IsParam (begun t ∷ t.ps)
+begun-ok t ok = (record { name = ok.0; first = ok.1; others = ok.2.values }, ok.2.params)
+
+begun-text : (b : ℕ) (t : Tail) → b ≡ 59 → params_text (begun t ∷ t.ps) ≡ b ∷ tail_text BeforeParam t
+begun-text b t e = params-param (begun t) t.ps ∙ ap (λ c. c ∷ tail_text BeforeParam t) (sym e)
+
+back-InName : (b : ℕ) (q : Place) (t : Tail) → step InName b ≡ On q → Back InName b t q
+back-InName b q t s = by_test (is_name_byte b) (On InName) _ q s
+    (λ h e. subst (Back InName b t) (onto InName q e) (λ ok. (record t { bytes = b ∷ t.bytes }, (all-cons is_name_byte b t.bytes h ok.0, ok.1), refl)))
+    (λ h e. by_test (b == 59) (On BeforeParam) (if b == 58 then Value else Refused) q e
+    (λ k e. subst (Back InName b t) (onto BeforeParam q e) (λ ok.
+    (record { bytes = []; first = none; vs = []; ps = begun t ∷ t.ps }, (refl, begun-ok t ok), begun-text b t (eqb-true b 59 k))))
+    (λ k e. by_test (b == 58) Value Refused q e (λ m e. absurd (no_value q e)) (λ m e. absurd (refused q e))))
+
+back-BeforeParam : (b : ℕ) (q : Place) (t : Tail) → step BeforeParam b ≡ On q → Back BeforeParam b t q
+back-BeforeParam b q t s = by_test (is_name_byte b) (On InParam) Refused q s
+    (λ h e. subst (Back BeforeParam b t) (onto InParam q e) (λ ok.
+    (record t { bytes = b ∷ t.bytes }, (record { some = nonempty b t.bytes; bytes = all-cons is_name_byte b t.bytes h ok.0 }, ok.1, ok.2), refl)))
+    (λ h e. absurd (refused q e))
+
+back-InParam : (b : ℕ) (q : Place) (t : Tail) → step InParam b ≡ On q → Back InParam b t q
+back-InParam b q t s = by_test (is_name_byte b) (On InParam) (if b == 61 then On BeforeValue else Refused) q s
+    (λ h e. subst (Back InParam b t) (onto InParam q e) (λ ok. (record t { bytes = b ∷ t.bytes }, (all-cons is_name_byte b t.bytes h ok.0, ok.1, ok.2), refl)))
+    (λ h e. by_test (b == 61) (On BeforeValue) Refused q e
+    (λ k e. subst (Back InParam b t) (onto BeforeValue q e) (λ ok.
+    (record t { bytes = [] }, (refl, ok.0, ok.1), ap (λ c. c ∷ tail_text BeforeValue t) (sym (eqb-true b 61 k)))))
+    (λ k e. absurd (refused q e)))
+
+-- a byte that ends a value
+Ends : ℕ → Tail → Place → Type 0
+Ends b t q = TailOk q t → (vs : List Parameter) × (ps : List Param) × AllByRecursion IsValue vs × AllByRecursion IsParam ps × (more vs ps ≡ b ∷ tail_text q t)
+
+back-ends : (b : ℕ) (q : Place) (t : Tail) → ends_value b ≡ On q → Ends b t q
+unfolding Ends
+back-ends b q t s = by_test (b == 44) (On BeforeValue) _ q s
+    (λ h e. subst (λ q. Ends b t q) (onto BeforeValue q e) (λ ok.
+    (t.first ∷ t.vs, t.ps, (ok.0, ok.1.values), ok.1.params, more-value t.first t.vs t.ps ∙ ap (λ c. c ∷ tail_text BeforeValue t) (sym (eqb-true b 44 h)))))
+    (λ h e. by_test (b == 59) (On BeforeParam) _ q e
+    (λ k e. subst (λ q. Ends b t q) (onto BeforeParam q e) (λ ok. ([], begun t ∷ t.ps, tt, begun-ok t ok, begun-text b t (eqb-true b 59 k))))
+    (λ k e. by_test (b == 58) Value Refused q e (λ m e. absurd (no_value q e)) (λ m e. absurd (refused q e))))
+
+back-AfterQuotes : (b : ℕ) (q : Place) (t : Tail) → step AfterQuotes b ≡ On q → Back AfterQuotes b t q
+unfolding Ends
+back-AfterQuotes b q t s = λ ok.
+    let (vs, ps, hv, hp, e) = back-ends b q t s ok in
+    (record { bytes = []; first = none; vs = vs; ps = ps }, record { values = hv; params = hp }, e)
+
+back-InPlain : (b : ℕ) (q : Place) (t : Tail) → step InPlain b ≡ On q → Back InPlain b t q
+unfolding Ends
+back-InPlain b q t s = by_test (is_plain_byte b) (On InPlain) (ends_value b) q s
+    (λ h e. subst (Back InPlain b t) (onto InPlain q e) (λ ok. (record t { bytes = b ∷ t.bytes }, (all-cons is_plain_byte b t.bytes h ok.0, ok.1), refl)))
+    (λ h e ok.
+    let (vs, ps, hv, hp, same) = back-ends b q t e ok in
+    (record { bytes = []; first = none; vs = vs; ps = ps }, (refl, record { values = hv; params = hp }), same))
+
+back-BeforeValue : (b : ℕ) (q : Place) (t : Tail) → step BeforeValue b ≡ On q → Back BeforeValue b t q
+unfolding Ends none
+back-BeforeValue b q t s = by_test (b == 34) (On InQuotes) (in_value b) q s
+    (λ h e. subst (Back BeforeValue b t) (onto InQuotes q e) (λ ok.
+    (record t { first = record { quoted = true; bytes = t.bytes } }, (ok.0, ok.1), ap (λ r. 34 ∷ r) (append_assoc t.bytes (34 ∷ []) (more t.vs t.ps)) ∙ ap (λ c. c ∷ tail_text InQuotes t) (sym (eqb-true b 34 h)))))
+    (λ h e. by_test (is_plain_byte b) (On InPlain) (ends_value b) q e
+    (λ k e. subst (Back BeforeValue b t) (onto InPlain q e) (λ ok.
+    (record t { first = record { quoted = false; bytes = b ∷ t.bytes } }, (all-cons is_plain_byte b t.bytes k ok.0, ok.1), refl)))
+    (λ k e ok.
+    let (vs, ps, hv, hp, same) = back-ends b q t e ok in
+    (record { bytes = []; first = none; vs = vs; ps = ps }, (refl, record { values = hv; params = hp }), same)))
+
+back-InQuotes : (b : ℕ) (q : Place) (t : Tail) → step InQuotes b ≡ On q → Back InQuotes b t q
+back-InQuotes b q t s = by_test (b == 34) (On AfterQuotes) _ q s
+    (λ h e. subst (Back InQuotes b t) (onto AfterQuotes q e) (λ ok. (record t { bytes = [] }, (refl, ok), ap (λ c. c ∷ tail_text AfterQuotes t) (sym (eqb-true b 34 h)))))
+    (λ h e. by_test (is_quoted_byte b) (On InQuotes) Refused q e
+    (λ k e. subst (Back InQuotes b t) (onto InQuotes q e) (λ ok. (record t { bytes = b ∷ t.bytes }, (all-cons is_quoted_byte b t.bytes k ok.0, ok.1), refl)))
+    (λ k e. absurd (refused q e)))
+
+back : (place : Place) (b : ℕ) (q : Place) (t : Tail) → step place b ≡ On q → Back place b t q
+back Start = back-Start
+back InName = back-InName
+back BeforeParam = back-BeforeParam
+back InParam = back-InParam
+back BeforeValue = back-BeforeValue
+back InPlain = back-InPlain
+back InQuotes = back-InQuotes
+back AfterQuotes = back-AfterQuotes
+
+-- where the byte is the colon before the value, nothing may be missing
+Stops : Place → ℕ → Type 0
+Stops place b = (b ≡ 58) × ((t : Tail) × TailOk place t × (tail_text place t ≡ []))
+
+on_no : (q : Place) → On q ≡ Value → ⊥
+on_no q e = cc
+
+refused_no : Refused ≡ Value → ⊥
+refused_no e = cc
+
+ends-colon : (b : ℕ) → ends_value b ≡ Value → b ≡ 58
+ends-colon b s = for_value (b == 44) (On BeforeValue) (if b == 59 then On BeforeParam else if b == 58 then Value else Refused) s
+    (λ h e. absurd (on_no BeforeValue e))
+    (λ h e. for_value (b == 59) (On BeforeParam) (if b == 58 then Value else Refused) e
+    (λ k e. absurd (on_no BeforeParam e))
+    (λ k e. for_value (b == 58) Value Refused e (λ m e. eqb-true b 58 m) (λ m e. absurd (refused_no e))))
+
+value-colon : (b : ℕ) → in_value b ≡ Value → b ≡ 58
+value-colon b s = for_value (is_plain_byte b) (On InPlain) (ends_value b) s (λ h e. absurd (on_no InPlain e)) (λ h e. ends-colon b e)
+
+nothing : Tail
+nothing = record { bytes = []; first = none; vs = []; ps = [] }
+
+no_rest : Rest [] []
+no_rest = record { values = tt; params = tt }
+
+stop : (place : Place) (b : ℕ) → step place b ≡ Value → Stops place b
+unfolding Stops nothing none
+stop Start b s = for_value (is_name_byte b) (On InName) Refused s (λ h e. absurd (on_no InName e)) (λ h e. absurd (refused_no e))
+stop InName b s = for_value (is_name_byte b) (On InName) (if b == 59 then On BeforeParam else if b == 58 then Value else Refused) s
+    (λ h e. absurd (on_no InName e))
+    (λ h e. for_value (b == 59) (On BeforeParam) (if b == 58 then Value else Refused) e
+    (λ k e. absurd (on_no BeforeParam e))
+    (λ k e. for_value (b == 58) Value Refused e (λ m e. (eqb-true b 58 m, (nothing, (refl, tt), refl))) (λ m e. absurd (refused_no e))))
+stop BeforeParam b s = for_value (is_name_byte b) (On InParam) Refused s (λ h e. absurd (on_no InParam e)) (λ h e. absurd (refused_no e))
+stop InParam b s = for_value (is_name_byte b) (On InParam) (if b == 61 then On BeforeValue else Refused) s
+    (λ h e. absurd (on_no InParam e))
+    (λ h e. for_value (b == 61) (On BeforeValue) Refused e (λ k e. absurd (on_no BeforeValue e)) (λ k e. absurd (refused_no e)))
+stop BeforeValue b s = for_value (b == 34) (On InQuotes) (in_value b) s (λ h e. absurd (on_no InQuotes e)) (λ h e. (value-colon b e, (nothing, (refl, no_rest), refl)))
+stop InPlain b s = (value-colon b s, (nothing, (refl, no_rest), refl))
+stop InQuotes b s = for_value (b == 34) (On AfterQuotes) (if is_quoted_byte b then On InQuotes else Refused) s
+    (λ h e. absurd (on_no AfterQuotes e))
+    (λ h e. for_value (is_quoted_byte b) (On InQuotes) Refused e (λ k e. absurd (on_no InQuotes e)) (λ k e. absurd (refused_no e)))
+stop AfterQuotes b s = (ends-colon b s, (nothing, no_rest, refl))
+
+pub record Found (place : Place) (bs : List ℕ) (k : ℕ) : Type 0 where
+  pub tail : Tail
+  pub behind : List ℕ
+  pub ok : TailOk place tail
+  pub text : bs ≡ tail_text place tail ++ 58 ∷ behind
+  pub count : k ≡ length (tail_text place tail)
+
+came : (place : Place) (b : ℕ) (bs : List ℕ) (k : ℕ) (q : Place) (o : Option ℕ) → step place b ≡ On q → colon_from bs q ≡ o → option_map (λ n. n + 1) o ≡ Some k →
+    ((j : ℕ) → colon_from bs q ≡ Some j → Found q bs j) → Found place (b ∷ bs) k
+came place b bs k q None s c e ih = cc
+came place b bs k q (Some j) s c e ih =
+    let f = ih j c in
+    let (u, ok, text) = back place b q f.tail s f.ok in
+    let count : j + 1 ≡ k = cc in
+    record {
+      tail = u;
+      behind = f.behind;
+      ok = ok;
+      text = ap (λ r. b ∷ r) f.text ∙ ap (λ r. r ++ 58 ∷ f.behind) (sym text);
+      count = sym count ∙ add-one j ∙ ap suc f.count ∙ ap length (sym text);
+    }
+
+went : (place : Place) (b : ℕ) (bs : List ℕ) (k : ℕ) (m : Move) → step place b ≡ m → counted m (colon_from bs) ≡ Some k →
+    ((q : Place) (j : ℕ) → colon_from bs q ≡ Some j → Found q bs j) → Found place (b ∷ bs) k
+unfolding Stops
+went place b bs k (On q) s e ih = came place b bs k q (colon_from bs q) s refl e (ih q)
+went place b bs k Value s e ih =
+    let (colon, (t, ok, text)) = stop place b s in
+    let zero_is : 0 ≡ k = cc in
+    record { tail = t; behind = bs; ok = ok; text = ap (λ c. c ∷ bs) colon ∙ ap (λ r. r ++ 58 ∷ bs) (sym text); count = sym zero_is ∙ ap length (sym text) }
+went place b bs k Refused s e ih = cc
+
+-- what leads to its colon is spelled so
+pub found : (bs : List ℕ) (place : Place) (k : ℕ) → colon_from bs place ≡ Some k → Found place bs k
+found [] place k e = cc
+found (b ∷ bs) place k e = went place b bs k (step place b) refl e (found bs)

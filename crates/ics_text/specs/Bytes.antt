@@ -1,0 +1,74 @@
+-- The bytes that have a name in the format, and tests of bytes (RFC 5545, section 3.1).
+use Rattle.std.specs.Prelude.{ℕ, Bool, true, false, ◌&&◌, ◌||◌, not, ◌==◌, ◌-◌, nat_le, List, [], ◌∷◌, if◌then◌else◌}
+
+abbrev pub htab : ℕ
+htab = 9
+
+abbrev pub lf : ℕ
+lf = 10
+
+abbrev pub cr : ℕ
+cr = 13
+
+abbrev pub space : ℕ
+space = 32
+
+abbrev pub dquote : ℕ
+dquote = 34
+
+abbrev pub comma : ℕ
+comma = 44
+
+abbrev pub colon : ℕ
+colon = 58
+
+abbrev pub semicolon : ℕ
+semicolon = 59
+
+abbrev pub equals : ℕ
+equals = 61
+
+abbrev pub is_between : ℕ → ℕ → ℕ → Bool
+is_between low high b = nat_le low b && nat_le b high
+
+abbrev pub is_blank : ℕ → Bool
+is_blank b = b == space || b == htab
+
+-- bytes 0 to 8, 10 to 31 and 127
+abbrev pub is_control : ℕ → Bool
+is_control b = (nat_le b 31 && not (b == htab)) || b == 127
+
+abbrev pub is_digit : ℕ → Bool
+is_digit = is_between 48 57
+
+-- letter, digit, `-` and `_`
+abbrev pub is_name_byte : ℕ → Bool
+is_name_byte b = is_between 65 90 b || is_between 97 122 b || is_digit b || b == 45 || b == 95
+
+-- what may stand between quotes
+abbrev pub is_quoted_byte : ℕ → Bool
+is_quoted_byte b = not (b == dquote) && not (is_control b)
+
+-- what may stand in a parameter's value without quotes
+abbrev pub is_plain_byte : ℕ → Bool
+is_plain_byte b = is_quoted_byte b && not (b == semicolon) && not (b == colon) && not (b == comma)
+
+-- whether there is a first byte, and it passes
+abbrev pub begins : (ℕ → Bool) → List ℕ → Bool
+begins p [] = false
+begins p (b ∷ bs) = p b
+
+-- a byte in upper case, where it is a letter
+abbrev pub upper : ℕ → ℕ
+upper b = if is_between 97 122 b then b - 32 else b
+
+-- the two texts are one but for the case of their letters
+abbrev pub same_name : List ℕ → List ℕ → Bool
+same_name [] [] = true
+same_name [] (c ∷ cs) = false
+same_name (b ∷ bs) [] = false
+same_name (b ∷ bs) (c ∷ cs) = (upper b == upper c) && same_name bs cs
+
+abbrev pub is_empty : List ℕ → Bool
+is_empty [] = true
+is_empty (b ∷ bs) = false

@@ -1,0 +1,37 @@
+-- What reading a file line by line gives (RFC 5545, section 3.1).
+use Rattle.std.specs.Prelude.{◌≡◌, ℕ, Bool, true, ◌==◌, List, [], ◌∷◌, Option, Some, None, if◌then◌else◌}
+use Rattle.ics_text.specs.Bytes.{cr}
+use Rattle.ics_text.specs.Unfolded.{Line, physical_lines, numbered, joined, is_line}
+
+-- a physical line without one CR at its end
+abbrev pub without_cr : List ℕ → List ℕ
+without_cr [] = []
+without_cr (b ∷ []) = if b == cr then [] else b ∷ []
+without_cr (b ∷ c ∷ cs) = b ∷ without_cr (c ∷ cs)
+
+-- the physical lines behind a line end, if there is one
+abbrev pub physical_behind : Option (List ℕ) → List (List ℕ)
+physical_behind None = []
+physical_behind (Some after) = physical_lines after
+
+-- a line by its parts
+abbrev pub line_of : ℕ → List ℕ → Bool → Line
+line_of n bytes folded = record { number = n; bytes = bytes; folded = folded }
+
+-- the lines of bytes that begin at physical line n, the empty ones too
+abbrev pub all_from : ℕ → List ℕ → List Line
+all_from n bytes = joined (numbered n (physical_lines bytes))
+
+-- a line and those behind it, without it if it is empty
+abbrev pub kept : Line → List Line → List Line
+kept line lines = if is_line line then line ∷ lines else lines
+
+-- there is a line, and it is folded
+abbrev pub BeginsFolded : List Line → Type 0
+BeginsFolded [] = ⊥
+BeginsFolded (line ∷ lines) = line.folded ≡ true
+
+-- the lines still to come were this one, if any, and then those that come now; after the end none come
+abbrev pub Takes : List Line → Option Line → List Line → Type 0
+Takes old None new = (old ≡ []) × (new ≡ [])
+Takes old (Some line) new = old ≡ line ∷ new

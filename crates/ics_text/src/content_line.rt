@@ -1,0 +1,49 @@
+ghost use Rattle.std.specs.Prelude.{◌≡◌, ℕ, List, ◌<◌, length, IfOk, IfSome, OnErr};
+ghost use Rattle.std.specs.Result.{result_ok};
+ghost use Rattle.ics_text.specs.Places.{colon_from};
+ghost use Rattle.ics_text.specs.Contents.{IsContent, content_of};
+
+use crate::bytes::name_len;
+use crate::fault::BadLine;
+use crate::parts::Content;
+use crate::place::{Move, Place, step};
+
+/// The parts of a content line.
+pub fn content<'a>(line: &'a [u8]) -> Result<Content<'a>, BadLine>
+    ensures parts { IfOk result (λ c. IsContent line.now c.name c.params c.value) }
+    // A line has one reading at most.
+    ensures only { IfOk result (λ c. (name params value : List ℕ) → IsContent line.now name params value →
+        (name ≡ c.name) × (params ≡ c.params) × (value ≡ c.value)) }
+    ensures refused { OnErr result ((name params value : List ℕ) → IsContent line.now name params value → ⊥) }
+    ensures computes { result_ok result ≡ content_of line.now }
+{
+    let len = name_len(line);
+    if len == 0 {
+        return Err(BadLine);
+    }
+    let (name, behind) = line.split_at(len);
+    let Some(colon) = colon_of(behind) else {
+        return Err(BadLine);
+    };
+    Ok(Content {
+        name,
+        params: &behind[..colon],
+        value: &behind[colon + 1..],
+    })
+}
+
+/// Where the colon stands that the value follows, in what stands behind a name.
+fn colon_of(text: &[u8]) -> Option<usize>
+    ensures value { result ≡ colon_from text.now Place.InName }
+    ensures within { IfSome result (λ k. k < length text.now) }
+{
+    let mut place = Place::InName;
+    for (i, b) in text.iter().enumerate() {
+        match step(place, *b) {
+            Move::On(next) => place = next,
+            Move::Value => return Some(i),
+            Move::Refused => return None,
+        }
+    }
+    None
+}

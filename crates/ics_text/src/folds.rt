@@ -1,0 +1,72 @@
+ghost use Rattle.std.specs.Prelude.{◌≡◌, ℕ, true, false, ◌+◌, ◌<◌, ◌≤◌, length, filter, IfOk, OnErr};
+ghost use Rattle.ics_text.specs.Bytes.{begins, is_blank};
+ghost use Rattle.ics_text.specs.Unfolded.{attach, is_line, lines_from};
+ghost use Rattle.ics_text.specs.Reading.{line_of, all_from, kept, BeginsFolded};
+ghost use Rattle.ics_text.specs.Held.{held_line};
+
+use crate::bytes::without_first;
+use crate::logical::Held;
+use crate::physical::{cut_line, is_continued};
+use std::alloc::{AllocError, Global};
+
+/// A line, what follows it, and how many line ends stand before that.
+#[derive(Drop)]
+pub struct Found<'a> {
+    pub held: Held<'a>,
+    pub rest: &'a [u8],
+    pub breaks: u64,
+}
+
+/// The first line of bytes. Memory is asked for only where it is folded.
+pub fn first_line<'a>(alloc: Global, bytes: &'a [u8]) -> Result<Found<'a>, AllocError>
+    ensures found { IfOk result (λ f. (n : ℕ) → lines_from n bytes.now ≡ kept (held_line n f.held) (lines_from (n + f.breaks) f.rest.now)) }
+    ensures fewer { IfOk result (λ f. f.breaks + length f.rest.now ≤ length bytes.now) }
+    ensures shorter { IfOk result (λ f. 0 < length bytes.now → length f.rest.now < length bytes.now) }
+    ensures err { OnErr result ((n : ℕ) → BeginsFolded (lines_from n bytes.now)) }
+{
+    let (line, behind) = cut_line(bytes);
+    match behind {
+        None => Ok(Found {
+            held: Held::Borrowed(line),
+            rest: &bytes[bytes.len()..],
+            breaks: 0,
+        }),
+        Some(after) if is_continued(after) => join_folds(alloc, line, after),
+        Some(after) => Ok(Found {
+            held: Held::Borrowed(line),
+            rest: after,
+            breaks: 1,
+        }),
+    }
+}
+
+/// Joins the physical lines at the front of `after`, which begins with a fold, to the first line.
+fn join_folds<'a>(alloc: Global, first: &[u8], after: &'a [u8]) -> Result<Found<'a>, AllocError>
+    requires { begins is_blank after.now ≡ true }
+    ensures found { IfOk result (λ f. (n : ℕ) → filter is_line (attach (line_of n first.now false) (all_from (n + 1) after.now))
+        ≡ kept (held_line n f.held) (lines_from (n + f.breaks) f.rest.now)) }
+    ensures fewer { IfOk result (λ f. f.breaks + length f.rest.now ≤ length after.now + 1) }
+    ensures shorter { IfOk result (λ f. length f.rest.now ≤ length after.now) }
+    ensures err { OnErr result ((n : ℕ) → BeginsFolded (filter is_line (attach (line_of n first.now false) (all_from (n + 1) after.now)))) }
+{
+    let mut bytes = Vec::new(alloc);
+    bytes.extend_from_slice(first)?;
+    let mut rest = after;
+    let mut breaks = 1;
+    while is_continued(rest) {
+        let (line, behind) = cut_line(rest);
+        bytes.extend_from_slice(without_first(line))?;
+        match behind {
+            None => rest = &rest[rest.len()..],
+            Some(behind) => {
+                rest = behind;
+                breaks += 1;
+            }
+        }
+    }
+    Ok(Found {
+        held: Held::Owned(bytes),
+        rest,
+        breaks,
+    })
+}

@@ -1,0 +1,24 @@
+//! The lines of an iCalendar file and the parts of a content line (RFC 5545, section 3.1).
+#![tactic(auto)]
+
+mod bytes;
+mod content_line;
+mod fault;
+mod folds;
+mod laws;
+mod lines;
+mod logical;
+mod param;
+mod parts;
+mod physical;
+mod place;
+
+pub use content_line::content;
+pub use fault::{BadFold, BadLine};
+pub use laws::{numbers_rise, numbers_within, params_read_once};
+pub use lines::Lines;
+pub use logical::Logical;
+pub use parts::Content;
+
+#[cfg(test)]
+mod tests;

@@ -1,0 +1,71 @@
+ghost use Rattle.std.specs.Prelude.{◌≡◌, ◌↔◌, false, All, IfOk, OnErr, IsTrue, IsErr};
+ghost use Rattle.ics_text.specs.Unfolded.{StandsIn, unfolded, begins_with_fold};
+ghost use Rattle.ics_text.specs.Reading.{BeginsFolded, Takes};
+
+use crate::fault::BadFold;
+use crate::folds::first_line;
+use crate::logical::Logical;
+use crate::physical::{is_continued, without_mark};
+use std::alloc::{AllocError, Global};
+use std::marker::Model;
+
+/// The lines of a file that are still to come.
+#[derive(Drop)]
+pub struct Lines<'a> {
+    rest: &'a [u8],
+    breaks: u64,
+}
+
+impl<'a> Model for Lines<'a> {
+    ghost use Rattle.std.specs.Prelude.{List, ◌+◌, ◌<◌, ◌^◌, length};
+    ghost use Rattle.ics_text.specs.Unfolded.{Line, lines_from};
+
+    ghost Value = { List Line };
+
+    ghost view = { λ a. lines_from (a.breaks + 1) a.rest.now };
+
+    ghost invariant = { λ a. a.breaks + length a.rest.now < 2 ^ 64 };
+}
+
+impl<'a> Lines<'a> {
+    /// The lines of a file. A fold at its beginning has no line to go on with.
+    pub fn new(bytes: &'a [u8]) -> Result<Lines<'a>, BadFold>
+        ensures lines { IfOk result (λ lines. lines ≡ unfolded bytes.now) }
+        ensures places { IfOk result (λ lines. All (λ line. line.folded ≡ false → StandsIn bytes.now line) lines) }
+        ensures refused { IsErr result ↔ IsTrue (begins_with_fold bytes.now) }
+    {
+        let rest = without_mark(bytes);
+        if is_continued(rest) {
+            return Err(BadFold);
+        }
+        Ok(Lines { rest, breaks: 0 })
+    }
+
+    /// The next line; after the last there is none each time.
+    /// Memory is refused only where the line is folded, and then nothing changes.
+    pub fn next(&mut self, alloc: Global) -> Result<Option<Logical<'a>>, AllocError>
+        ensures ok { IfOk result (λ line. Takes self.old line self.new) }
+        ensures unchanged { OnErr result (self.new ≡ self.old) }
+        ensures only_folded { OnErr result (BeginsFolded self.old) }
+    {
+        let mut rest = self.rest;
+        let mut breaks = self.breaks;
+        while !rest.is_empty() {
+            let number = breaks + 1;
+            let found = first_line(alloc, rest)?;
+            rest = found.rest;
+            breaks += found.breaks;
+            if !found.held.bytes().is_empty() {
+                self.rest = rest;
+                self.breaks = breaks;
+                return Ok(Some(Logical {
+                    number,
+                    held: found.held,
+                }));
+            }
+        }
+        self.rest = rest;
+        self.breaks = breaks;
+        Ok(None)
+    }
+}

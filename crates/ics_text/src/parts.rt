@@ -1,0 +1,53 @@
+ghost use Rattle.std.specs.Prelude.{◌≡◌, List};
+ghost use Rattle.std.specs.Option.{option_copied};
+ghost use Rattle.ics_text.specs.Contents.{Param, IsParams, first_value, param_of};
+
+use crate::param::param_of;
+use std::marker::Model;
+
+/// The parts of a content line, each a slice of it.
+#[derive(Drop)]
+pub struct Content<'a> {
+    pub(crate) name: &'a [u8],
+    pub(crate) params: &'a [u8],
+    pub(crate) value: &'a [u8],
+}
+
+impl<'a> Model for Content<'a> {
+    ghost use Rattle.ics_text.specs.Contents.{Parts};
+
+    ghost Value = { Parts };
+
+    ghost view = { λ a. record { name = a.name.now; params = a.params.now; value = a.value.now } };
+}
+
+impl<'a> Content<'a> {
+    /// The property's name, in the case of the file.
+    pub fn name(&self) -> &'a [u8]
+        ensures { result.now ≡ self.now.name }
+    {
+        self.name
+    }
+
+    /// The text of the parameters, the `;` before each one with it.
+    pub fn params(&self) -> &'a [u8]
+        ensures { result.now ≡ self.now.params }
+    {
+        self.params
+    }
+
+    /// All that stands behind the colon.
+    pub fn value(&self) -> &'a [u8]
+        ensures { result.now ≡ self.now.value }
+    {
+        self.value
+    }
+
+    /// The first value of the first parameter of that name, without its quotes; names compare without case.
+    pub fn param(&self, name: &[u8]) -> Option<&'a [u8]>
+        ensures first { (ps : List Param) → IsParams self.now.params ps → option_copied result ≡ first_value name.now ps }
+        ensures computes { option_copied result ≡ param_of name.now self.now.params }
+    {
+        param_of(self.params, name)
+    }
+}
