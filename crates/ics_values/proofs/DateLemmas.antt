@@ -1,0 +1,66 @@
+-- The dates that there are, and their day numbers, are jiff's.
+use Rattle.std.proofs.Common.{◌≡◌, ℕ, zero, suc, ◌-◌, ◌≤◌, ◌<◌, true, ◌&&◌, nat_le, Some, take, map, sym, ap, subst, arith, ℤ, pos}
+use Rattle.std.specs.Prelude.{sum}
+use Rattle.std.proofs.lemmas.Bool.Decides.{nat_tests}
+use Rattle.jiff_core.specs.Calendar.{days_in_month, days_of_months, days_from_civil, IsCivilDate}
+use Rattle.jiff_core.proofs.SignedLemmas.{signed_arith}
+use Rattle.jiff_core.proofs.CalendarLemmas.{days_from_civil-day_count, day_count-day_of_year}
+use Rattle.ics_values.specs.Dates.{is_date, months, day_number, date_day}
+use Rattle.jiff_core.specs.declared.civil.date.Date.{Date}
+use Rattle.jiff_core.specs.Date.{epoch_day}
+use Rattle.jiff_core.proofs.DateLemmas.{civil}
+use Rattle.ics_values.proofs.DayLemmas.{day_count_is}
+
+pub days_of-months : (y : ℤ) (k : ℕ) → k < 12 → sum (map (days_in_month y) (take k months)) ≡ days_of_months y k
+unfolding days_of_months
+days_of-months y zero h = grind arith
+days_of-months y (suc zero) h = grind arith
+days_of-months y (suc (suc zero)) h = grind arith
+days_of-months y (suc (suc (suc zero))) h = grind arith
+days_of-months y (suc (suc (suc (suc zero)))) h = grind arith
+days_of-months y (suc (suc (suc (suc (suc zero))))) h = grind arith
+days_of-months y (suc (suc (suc (suc (suc (suc zero)))))) h = grind arith
+days_of-months y (suc (suc (suc (suc (suc (suc (suc zero))))))) h = grind arith
+days_of-months y (suc (suc (suc (suc (suc (suc (suc (suc zero)))))))) h = grind arith
+days_of-months y (suc (suc (suc (suc (suc (suc (suc (suc (suc zero))))))))) h = grind arith
+days_of-months y (suc (suc (suc (suc (suc (suc (suc (suc (suc (suc zero)))))))))) h = grind arith
+days_of-months y (suc (suc (suc (suc (suc (suc (suc (suc (suc (suc (suc zero))))))))))) h = grind arith
+days_of-months y (suc (suc (suc (suc (suc (suc (suc (suc (suc (suc (suc (suc k)))))))))))) h = absurd (omega arith)
+
+-- what the test of a date says
+pub record Parts (y m d : ℕ) : Type 0 where
+  pub month_low : 1 ≤ m
+  pub month_high : m ≤ 12
+  pub day_low : 1 ≤ d
+  pub day_high : d ≤ days_in_month (pos y) m
+
+pub parts : (y m d : ℕ) → is_date y m d ≡ true → Parts y m d
+parts y m d h =
+    let p = by_tests 1 m 12 d (days_in_month (pos y) m) h in
+    record { month_low = p.0; month_high = p.1; day_low = p.2; day_high = p.3 }
+  where
+    by_tests : (one m twelve d last : ℕ) → (nat_le one m && nat_le m twelve && nat_le one d && nat_le d last) ≡ true → (one ≤ m) × (m ≤ twelve) × (one ≤ d) × (d ≤ last)
+    by_tests one m twelve d last h = grind (arith, nat_tests)
+
+pub is_date-parts : (y m d : ℕ) → Parts y m d → is_date y m d ≡ true
+is_date-parts y m d p = by_tests 1 m 12 d (days_in_month (pos y) m) p.month_low p.month_high p.day_low p.day_high
+  where
+    by_tests : (one m twelve d last : ℕ) → one ≤ m → m ≤ twelve → one ≤ d → d ≤ last → (nat_le one m && nat_le m twelve && nat_le one d && nat_le d last) ≡ true
+    by_tests one m twelve d last a b c e = grind (arith, nat_tests)
+
+pub day_number-days_from_civil : (y m d : ℕ) → is_date y m d ≡ true → day_number y m d ≡ days_from_civil (pos y) m d
+day_number-days_from_civil y m d h =
+    let p = parts y m d h in
+    let months_before = days_of-months (pos y) (m - 1) (omega arith) in
+    let whole = day_count-day_of_year (pos y) m d (omega arith) in
+    let start = day_count_is y in
+    let place = days_from_civil-day_count (pos y) m d in
+    omega (arith, signed_arith)
+
+-- a date of the calendar is one that the test lets in, with its number
+pub date_day-found : (date : Date) (y : ℕ) → date.year ≡ pos y → date_day y date.month date.day ≡ Some (epoch_day date)
+date_day-found date y same =
+    let c : IsCivilDate (pos y) date.month date.day = subst (λ (z : ℤ). IsCivilDate z date.month date.day) same (civil date) in
+    let there = is_date-parts y date.month date.day (record { month_low = c.1.0; month_high = c.1.1; day_low = c.2.0; day_high = c.2.1 }) in
+    let number = day_number-days_from_civil y date.month date.day there in
+    rw (there, number) (ap (λ (z : ℤ). Some (days_from_civil z date.month date.day)) (sym same))

@@ -1,0 +1,72 @@
+-- The order of locals, the dates of the calendar, times of a day, and escapes.
+use Rattle.std.proofs.Common.{◌≡◌, ℕ, ◌+◌, ◌*◌, ◌<◌, ◌≤◌, Bool, true, false, ◌==◌, ◌&&◌, ◌||◌, nat_le, List, [], ◌∷◌, min, refl, ap, arith, ℤ, pos, ◌+ℤ◌, ◌*ℤ◌, ◌<ℤ◌}
+use Rattle.std.specs.Ordering.{MatchOrdering, ordering_then, int_cmp, nat_cmp}
+use Rattle.std.specs.Cmp.{int_cmp_is, int_ranks, ranks}
+use Rattle.std.specs.declared.cmp.Ordering.{Ordering}
+use Rattle.std.specs.declared.cmp.Ordering.TheVariants.{Less, Equal, Greater}
+use Rattle.std.proofs.Math.Nat.{mod-eq_of_lt}
+use Rattle.std.proofs.lemmas.Int.{ints}
+use Rattle.std.proofs.lemmas.Bool.Decides.{nat_tests}
+use Rattle.std.proofs.lemmas.Bool.{eqb-true}
+use Rattle.jiff_core.specs.Calendar.{IsDate}
+use Rattle.ics_values.specs.Digits.{number_at}
+use Rattle.ics_values.specs.Dates.{IsJiffsDate}
+use Rattle.ics_values.specs.Locals.{local_seconds}
+use Rattle.ics_values.specs.Plain.{stands_for_itself, plain_text, escaped}
+use Rattle.ics_values.specs.Stamps.{time_exists, second_of, local_of}
+use Rattle.ics_values.specs.declared.local.Local.{Local}
+use Rattle.ics_values.proofs.DateLemmas.{parts, is_date-parts, day_number-days_from_civil}
+
+abbrev at : ℤ → ℕ → ℤ
+at day second = day *ℤ pos 86_400 +ℤ pos second
+
+in_time : (o p : Ordering) (d e : ℤ) (s t : ℕ) → s < 86_400 → t < 86_400 → MatchOrdering o (d <ℤ e) (d ≡ e) (e <ℤ d) → MatchOrdering p (s < t) (s ≡ t) (t < s) → MatchOrdering (ordering_then o p) (at d s <ℤ at e t) (at d s ≡ at e t) (at e t <ℤ at d s)
+in_time Less p d e s t low high day second = omega (arith, ints)
+in_time Greater p d e s t low high day second = omega (arith, ints)
+in_time Equal Less d e s t low high day second = omega (arith, ints)
+in_time Equal Equal d e s t low high day second = rw (day, second) refl
+in_time Equal Greater d e s t low high day second = omega (arith, ints)
+
+pub by_time : (a b : Local) → ordering_then (int_cmp a.day b.day) (nat_cmp a.second b.second) ≡ int_cmp (local_seconds a) (local_seconds b)
+by_time a b = int_cmp_is (local_seconds a) (local_seconds b) _ (in_time (int_cmp a.day b.day) (nat_cmp a.second b.second) a.day b.day a.second b.second a.second_in b.second_in (int_ranks a.day b.day) (ranks a.second b.second))
+
+pub is_jiffs : (y m d : ℕ) → y ≤ 9999 → IsJiffsDate y m d
+is_jiffs y m d year = record {
+  exists = (
+    (λ h. let p = parts y m d h in ((omega (arith, ints), omega (arith, ints)), (omega (arith, ints), omega (arith, ints)), (omega (arith, ints), omega (arith, ints)))),
+    (λ (h : IsDate (pos y) (pos m) (pos d)). is_date-parts y m d (record { month_low = omega (arith, ints, h.1.0); month_high = omega (arith, ints, h.1.1); day_low = omega (arith, ints, h.2.0); day_high = omega (arith, ints, h.2.1) })),
+  );
+  number = day_number-days_from_civil y m d;
+}
+
+pub second_fits : (text : List ℕ) → time_exists text ≡ true → second_of text < 86_400
+second_fits text h = by_numbers (number_at text 9 11) (number_at text 11 13) (number_at text 13 15) h
+  where
+    by_numbers : (hour minute second : ℕ) → (nat_le hour 23 && nat_le minute 59 && nat_le second 60) ≡ true → 3600 * hour + 60 * minute + min second 59 < 86_400
+    by_numbers hour minute second h = grind (arith, nat_tests)
+
+pub second_kept : (text : List ℕ) → time_exists text ≡ true → (local_of text).second ≡ second_of text
+second_kept text h = mod-eq_of_lt (second_fits text h)
+
+never : (t : Bool) → (t && false) ≡ false
+never true = refl
+never false = refl
+
+plain : (b : ℕ) → stands_for_itself b ≡ false → (b == 92) ≡ false
+plain b h = by_tests (b == 92) (b == 59) (b == 44) h
+  where
+    by_tests : (x y z : Bool) → (x || y || z) ≡ false → x ≡ false
+    by_tests true true true h = h
+    by_tests true true false h = h
+    by_tests true false true h = h
+    by_tests true false false h = h
+    by_tests false y z h = refl
+
+pub plain_text-escaped : (text : List ℕ) → plain_text (escaped text) false ≡ text
+plain_text-escaped [] = refl
+plain_text-escaped (b ∷ bs) = by_tests (plain_text-escaped bs) (stands_for_itself b) (b == 10) refl refl
+  where
+    by_tests : plain_text (escaped bs) false ≡ bs → (itself lf : Bool) → stands_for_itself b ≡ itself → (b == 10) ≡ lf → plain_text (escaped (b ∷ bs)) false ≡ b ∷ bs
+    by_tests later true lf h k = rw (h, never (b == 92), h) (ap (λ t. b ∷ t) later)
+    by_tests later false true h k = rw (h, k) (let e : b ≡ 10 = eqb-true b 10 k in rw e (ap (λ t. 10 ∷ t) later))
+    by_tests later false false h k = rw (h, k) (rw (plain b h) (ap (λ t. b ∷ t) later))

@@ -1,0 +1,13 @@
+pub mod DayLemmas
+pub mod DateLemmas
+pub mod FormLemmas
+pub mod ShapeLemmas
+pub mod SetLemmas
+pub mod PlaceLemmas
+pub mod WalkLemmas
+pub mod UntilLemmas
+pub mod RuleLemmas
+pub mod RuleExamples
+pub mod StampLemmas
+pub mod LawLemmas
+pub mod Examples

@@ -1,0 +1,58 @@
+-- Places keep within their range.
+use Rattle.std.proofs.Common.{◌≡◌, ℕ, zero, suc, ◌<◌, ◌≤◌, ◌/◌, ◌⊎◌, inl, inr, ◌≢◌, List, [], ◌∷◌, length, get_or, set, get_or-set_same, get_or-set_other, sym, subst, refl, arith}
+use Rattle.std.proofs.lemmas.Bool.Decides.{nat_tests}
+use Rattle.std.proofs.lemmas.List.{set_past}
+use Rattle.jiff_core.specs.declared.civil.weekday.Weekday.{Weekday}
+use Rattle.jiff_core.specs.declared.civil.weekday.Weekday.TheVariants.{Monday, Tuesday, Wednesday, Thursday, Friday, Saturday, Sunday}
+use Rattle.jiff_core.specs.Weekday.{monday_zero}
+use Rattle.ics_values.specs.declared.places.Side.{Side}
+use Rattle.ics_values.specs.declared.places.Side.TheVariants.{Front, Back}
+use Rattle.ics_values.specs.declared.places.Places.{Places}
+use Rattle.ics_values.specs.declared.places.WidePlaces.{WidePlaces}
+use Rattle.ics_values.specs.declared.places.Weekdays.{Weekdays}
+use Rattle.ics_values.specs.Sets.{has, has_wide, with_number, with_wide_number, IsWithin}
+use Rattle.ics_values.specs.Places.{no_places, numbers_of, with_place, with_wide_place, with_weekday, with_numbered_weekday}
+use Rattle.ics_values.specs.RuleParts.{ArePlaces, AreWidePlaces}
+use Rattle.ics_values.proofs.SetLemmas.{within_more, has-with_number, has_wide-with_number}
+
+pub places_more : (side : Side) (n high : ℕ) (p : Places) → n < 64 → 1 ≤ n → n ≤ high → ArePlaces p high → ArePlaces (with_place side n p) high
+places_more Front n high p s l h own = record { front = within_more 1 high n (has p.front) (has (with_number n p.front)) (λ m. has-with_number p.front n m s) own.front l h; back = own.back }
+places_more Back n high p s l h own = record { front = own.front; back = within_more 1 high n (has p.back) (has (with_number n p.back)) (λ m. has-with_number p.back n m s) own.back l h }
+
+pub wide_places_more : (side : Side) (n high : ℕ) (p : WidePlaces) → n < 384 → n / 64 < length p.front → n / 64 < length p.back → 1 ≤ n → n ≤ high → AreWidePlaces p high → AreWidePlaces (with_wide_place side n p) high
+wide_places_more Front n high p s f b l h own =
+    record { front = within_more 1 high n (has_wide p.front) (has_wide (with_wide_number n p.front)) (λ m. has_wide-with_number p.front n m f s) own.front l h; back = own.back }
+wide_places_more Back n high p s f b l h own =
+    record { front = own.front; back = within_more 1 high n (has_wide p.back) (has_wide (with_wide_number n p.back)) (λ m. has_wide-with_number p.back n m b s) own.back l h }
+
+-- a weekday is one of seven
+pub monday_zero_small : (d : Weekday) → monday_zero d ≤ 6
+monday_zero_small Monday = omega arith
+monday_zero_small Tuesday = omega arith
+monday_zero_small Wednesday = omega arith
+monday_zero_small Thursday = omega arith
+monday_zero_small Friday = omega arith
+monday_zero_small Saturday = omega arith
+monday_zero_small Sunday = omega arith
+
+pub weekdays_more : (d : Weekday) (w : Weekdays) → IsWithin 0 6 (has w.plain) → IsWithin 0 6 (has (with_weekday d w).plain)
+weekdays_more d w own =
+    let small = monday_zero_small d in
+    within_more 0 6 (monday_zero d) (has w.plain) (has (with_number (monday_zero d) w.plain)) (λ m. has-with_number w.plain (monday_zero d) m (omega (arith, small))) own (omega arith) small
+
+-- the numbers of one weekday, and those of the others
+pub numbered_more : (d : Weekday) (side : Side) (n : ℕ) (w : Weekdays) → n < 64 → 1 ≤ n → n ≤ 53 → ((k : ℕ) → ArePlaces (numbers_of w k) 53)
+    → (k : ℕ) → ArePlaces (numbers_of (with_numbered_weekday d side n w) k) 53
+numbered_more d side n w s l h own k = elim (by_place (monday_zero d) (length w.numbered)) [
+  | inl inside ↦ elim (same_or_not k (monday_zero d)) [
+    | inl same ↦ rw (same, get_or-set_same) (places_more side n 53 (numbers_of w (monday_zero d)) s l h (own (monday_zero d)))
+    | inr other ↦ rw (get_or-set_other) (own k)
+  ]
+  | inr past ↦ rw (set_past w.numbered (monday_zero d) (with_place side n (numbers_of w (monday_zero d))) past) (own k)
+]
+  where
+    by_place : (a b : ℕ) → (a < b) ⊎ (b ≤ a)
+    by_place a b = grind arith
+
+    same_or_not : (m n : ℕ) → (m ≡ n) ⊎ (m ≢ n)
+    same_or_not m n = grind (arith, nat_tests)

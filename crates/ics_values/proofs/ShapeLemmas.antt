@@ -1,0 +1,171 @@
+-- The shape of a duration's text, and the numbers before its units.
+use Rattle.std.proofs.Common.{◌≡◌, ◌≢◌, ℕ, suc, ◌+◌, ◌-◌, ◌*◌, ◌<◌, Bool, true, false, ◌==◌, ◌&&◌, List, [], ◌∷◌, ◌++◌, length, take, drop, refl, sym, ap, ◌∙◌, arith}
+use Rattle.std.specs.Prelude.{fold}
+use Rattle.std.specs.List.{list_all, list_any}
+use Rattle.std.specs.Str.{bytes_eq}
+use Rattle.std.proofs.lemmas.Bool.Decides.{nat_tests}
+use Rattle.ics_values.specs.Digits.{is_digit, upper, number_of, digit_count}
+use Rattle.ics_values.specs.Texts.{begins, begins_with}
+use Rattle.std.proofs.lemmas.Bool.{eqb-true}
+use Rattle.ics_values.specs.Amounts.{IsLetter, IsAmount, capped}
+use Rattle.ics_values.specs.Durations.{shape, behind, has_shape, amount_from}
+
+-- no digit is a unit, and what is no digit is no zero
+pub upper-unit : (b unit : ℕ) → is_digit b ≡ true → 57 < unit → (upper b == unit) ≡ false
+upper-unit b unit h low = grind (arith, nat_tests)
+
+pub upper-not_zero : (b : ℕ) → is_digit b ≡ false → (upper b == 48) ≡ false
+upper-not_zero b h = grind (arith, nat_tests)
+
+-- one byte more before a text
+digit_count-yes : (b : ℕ) (bs : List ℕ) → is_digit b ≡ true → digit_count (b ∷ bs) ≡ suc (digit_count bs)
+digit_count-yes b bs h = rw h (omega arith)
+
+digit_count-no : (b : ℕ) (bs : List ℕ) → is_digit b ≡ false → digit_count (b ∷ bs) ≡ 0
+digit_count-no b bs h = rw h refl
+
+shape-no : (b : ℕ) (bs : List ℕ) → is_digit b ≡ false → shape (b ∷ bs) ≡ upper b ∷ shape bs
+shape-no b bs h = rw h refl
+
+shape-last : (b : ℕ) (bs : List ℕ) → is_digit b ≡ true → begins is_digit bs ≡ false → shape (b ∷ bs) ≡ 48 ∷ shape bs
+shape-last b bs h k = rw (h, k) refl
+
+shape-more : (b : ℕ) (bs : List ℕ) → is_digit b ≡ true → begins is_digit bs ≡ true → shape (b ∷ bs) ≡ shape bs
+shape-more b bs h k = rw (h, k) refl
+
+-- the digits that begin a text
+pub digit_count-digits : (text : List ℕ) → list_all is_digit (take (digit_count text) text) ≡ true
+digit_count-digits [] = refl
+digit_count-digits (b ∷ bs) = by_test (digit_count-digits bs) (is_digit b) refl
+  where
+    by_test : list_all is_digit (take (digit_count bs) bs) ≡ true → (t : Bool) → is_digit b ≡ t → list_all is_digit (take (digit_count (b ∷ bs)) (b ∷ bs)) ≡ true
+    by_test later true h = rw (digit_count-yes b bs h) (rw h later)
+    by_test later false h = rw (digit_count-no b bs h) refl
+
+pub digit_count-none : (text : List ℕ) → begins is_digit text ≡ false → digit_count text ≡ 0
+digit_count-none [] h = refl
+digit_count-none (b ∷ bs) h = digit_count-no b bs h
+
+pub digit_count-zero : (text : List ℕ) → digit_count text ≡ 0 → begins is_digit text ≡ false
+digit_count-zero [] h = refl
+digit_count-zero (b ∷ bs) h = by_test (is_digit b) refl
+  where
+    by_test : (t : Bool) → is_digit b ≡ t → is_digit b ≡ false
+    by_test true k = let e = digit_count-yes b bs k in absurd (omega arith)
+    by_test false k = k
+
+pub digit_count-some : (text : List ℕ) → digit_count text ≢ 0 → begins is_digit text ≡ true
+digit_count-some text h = by_test (begins is_digit text) refl
+  where
+    by_test : (t : Bool) → begins is_digit text ≡ t → begins is_digit text ≡ true
+    by_test true k = k
+    by_test false k = absurd (h (digit_count-none text k))
+
+pub digits_end : (text : List ℕ) → begins is_digit (drop (digit_count text) text) ≡ false
+digits_end [] = refl
+digits_end (b ∷ bs) = by_test (digits_end bs) (is_digit b) refl
+  where
+    by_test : begins is_digit (drop (digit_count bs) bs) ≡ false → (t : Bool) → is_digit b ≡ t → begins is_digit (drop (digit_count (b ∷ bs)) (b ∷ bs)) ≡ false
+    by_test later true h = rw (digit_count-yes b bs h) later
+    by_test later false h = rw (digit_count-no b bs h) h
+
+-- they are one `0` of its shape
+pub shape-digits : (text : List ℕ) → begins is_digit text ≡ true → shape text ≡ 48 ∷ shape (drop (digit_count text) text)
+shape-digits [] h = cc
+shape-digits (b ∷ bs) h = rw (digit_count-yes b bs h) (by_test (λ k. shape-digits bs k) (begins is_digit bs) refl)
+  where
+    by_test : (begins is_digit bs ≡ true → shape bs ≡ 48 ∷ shape (drop (digit_count bs) bs)) → (t : Bool) → begins is_digit bs ≡ t → shape (b ∷ bs) ≡ 48 ∷ shape (drop (digit_count bs) bs)
+    by_test later true k = shape-more b bs h k ∙ later k
+    by_test later false k = rw (digit_count-none bs k) (shape-last b bs h k)
+
+-- and the number before what is behind them
+amount_from-no : (unit b : ℕ) (bs : List ℕ) (n : ℕ) → (upper b == unit) ≡ false → is_digit b ≡ true → amount_from unit (b ∷ bs) n ≡ amount_from unit bs (10 * n + (b - 48))
+amount_from-no unit b bs n h k = rw (h, k) refl
+
+pub amount_from-digits : (unit : ℕ) (text : List ℕ) (n : ℕ) → 57 < unit → amount_from unit text n ≡ amount_from unit (drop (digit_count text) text) (fold (λ n b. 10 * n + (b - 48)) n (take (digit_count text) text))
+amount_from-digits unit [] n low = refl
+amount_from-digits unit (b ∷ bs) n low = by_test (amount_from-digits unit bs (10 * n + (b - 48)) low) (is_digit b) refl
+  where
+    by_test : amount_from unit bs (10 * n + (b - 48)) ≡ amount_from unit (drop (digit_count bs) bs) (fold (λ n b. 10 * n + (b - 48)) (10 * n + (b - 48)) (take (digit_count bs) bs)) → (t : Bool) → is_digit b ≡ t → amount_from unit (b ∷ bs) n ≡ amount_from unit (drop (digit_count (b ∷ bs)) (b ∷ bs)) (fold (λ n b. 10 * n + (b - 48)) n (take (digit_count (b ∷ bs)) (b ∷ bs)))
+    by_test later true h = rw (digit_count-yes b bs h) (amount_from-no unit b bs n (upper-unit b unit h low) h ∙ later)
+    by_test later false h = rw (digit_count-no b bs h) refl
+
+-- the fronts that a shape has not
+pub lacks-zero : (unit : ℕ) (text : List ℕ) → begins is_digit text ≡ false → begins_with (48 ∷ unit ∷ []) (shape text) ≡ false
+lacks-zero unit [] h = refl
+lacks-zero unit (b ∷ bs) h = rw (shape-no b bs h) (rw (upper-not_zero b h) refl)
+
+pub lacks-letter : (letter b : ℕ) (bs : List ℕ) → 57 < letter → (upper b == letter) ≡ false → begins_with (letter ∷ []) (shape (b ∷ bs)) ≡ false
+lacks-letter letter b bs low other = by_test (is_digit b) refl
+  where
+    by_test : (t : Bool) → is_digit b ≡ t → begins_with (letter ∷ []) (shape (b ∷ bs)) ≡ false
+    by_test true h = rw (shape-digits (b ∷ bs) h) (let e : (48 == letter) ≡ false = grind (arith, nat_tests) in rw e refl)
+    by_test false h = rw (shape-no b bs h) (rw other refl)
+
+pub neq-false : (a b : ℕ) → b ≢ a → (a == b) ≡ false
+neq-false a b h = grind (arith, nat_tests)
+
+pub is_letter : (letter b : ℕ) (bs : List ℕ) → 57 < letter → (upper b == letter) ≡ true → IsLetter letter (b ∷ bs) bs
+is_letter letter b bs low same = by_test (is_digit b) refl
+  where
+    by_test : (t : Bool) → is_digit b ≡ t → IsLetter letter (b ∷ bs) bs
+    by_test true h = let e = upper-unit b letter h low in cc
+    by_test false h =
+        let u : upper b ≡ letter = eqb-true (upper b) letter same in
+        record {
+          shape = shape-no b bs h ∙ ap (λ x. x ∷ shape bs) u;
+          own = λ n. rw same refl;
+          others = λ other n ne. (let e : (upper b == other) ≡ false = rw u (neq-false letter other ne) in rw (e, h) refl);
+        }
+
+eqb-same : (n : ℕ) → (n == n) ≡ true
+eqb-same n = grind (arith, nat_tests)
+
+bytes_eq-front : (front s x : List ℕ) → bytes_eq (front ++ s) (front ++ x) ≡ bytes_eq s x
+bytes_eq-front [] s x = refl
+bytes_eq-front (f ∷ fs) s x = rw (eqb-same f) (bytes_eq-front fs s x)
+
+bytes_eq-other : (front s x : List ℕ) → begins_with front s ≡ false → bytes_eq s (front ++ x) ≡ false
+bytes_eq-other [] s x h = cc
+bytes_eq-other (f ∷ fs) [] x h = refl
+bytes_eq-other (f ∷ fs) (b ∷ bs) x h = by_test (λ k. bytes_eq-other fs bs x k) (b == f) h
+  where
+    by_test : (begins_with fs bs ≡ false → bytes_eq bs (fs ++ x) ≡ false) → (t : Bool) → (t && begins_with fs bs) ≡ false → (t && bytes_eq bs (fs ++ x)) ≡ false
+    by_test later true h = later h
+    by_test later false h = refl
+
+-- what is asked behind a front that is there, and a front that is not
+pub any-behind : (front s : List ℕ) (shapes : List (List ℕ)) → list_any (bytes_eq (front ++ s)) (behind front shapes) ≡ list_any (bytes_eq s) shapes
+any-behind front s [] = refl
+any-behind front s (x ∷ xs) = rw (bytes_eq-front front s x, any-behind front s xs) refl
+
+pub none-behind : (front s : List ℕ) (shapes : List (List ℕ)) → begins_with front s ≡ false → list_any (bytes_eq s) (behind front shapes) ≡ false
+none-behind front s [] h = refl
+none-behind front s (x ∷ xs) h = rw (bytes_eq-other front s x h, none-behind front s xs h) refl
+
+pub has_shape-behind : (front text rest : List ℕ) (shapes : List (List ℕ)) → shape text ≡ front ++ shape rest → has_shape (behind front shapes) text ≡ has_shape shapes rest
+has_shape-behind front text rest shapes h = rw h (any-behind front (shape rest) shapes)
+
+-- only the empty text has the empty shape
+pub shape-some : (text : List ℕ) → (length text == 0) ≡ false → bytes_eq (shape text) [] ≡ false
+shape-some [] h = cc
+shape-some (b ∷ bs) h = by_test (is_digit b) refl
+  where
+    by_test : (t : Bool) → is_digit b ≡ t → bytes_eq (shape (b ∷ bs)) [] ≡ false
+    by_test true h = rw (shape-digits (b ∷ bs) h) refl
+    by_test false h = rw (shape-no b bs h) refl
+
+-- what is behind a front and a number has none of the shapes
+pub no_shape-behind : (front text rest : List ℕ) (shapes : List (List ℕ)) → shape text ≡ front ++ shape rest → (length rest == 0) ≡ false → has_shape shapes rest ≡ false → has_shape (behind front ([] ∷ shapes)) text ≡ false
+no_shape-behind front text rest shapes h some none = has_shape-behind front text rest ([] ∷ shapes) h ∙ rw (shape-some rest some, none) refl
+
+-- the number before a unit
+pub is_amount : (unit : ℕ) (text rest : List ℕ) → 57 < unit → begins is_digit text ≡ true → IsLetter unit (drop (digit_count text) text) rest → IsAmount unit text (capped (number_of (take (digit_count text) text))) rest
+is_amount unit text rest low h letter = record {
+  shape = shape-digits text h ∙ ap (λ s. 48 ∷ s) letter.shape;
+  number = ap capped (sym (amount_from-digits unit text 0 low ∙ letter.own (number_of (take (digit_count text) text))));
+  others = λ other high ne. amount_from-digits other text 0 high ∙ letter.others other (number_of (take (digit_count text) text)) ne;
+}
+
+pub lacks-unit : (unit : ℕ) (text : List ℕ) → begins is_digit text ≡ true → begins_with (unit ∷ []) (shape (drop (digit_count text) text)) ≡ false → begins_with (48 ∷ unit ∷ []) (shape text) ≡ false
+lacks-unit unit text h k = rw (shape-digits text h) k

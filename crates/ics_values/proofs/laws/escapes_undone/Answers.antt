@@ -1,0 +1,5 @@
+use Rattle.ics_values.proofs.LawLemmas.{plain_text-escaped}
+use Rattle.ics_values.proofs.laws.escapes_undone.Goals as goal
+
+pub returns : goal.returns
+returns c = plain_text-escaped

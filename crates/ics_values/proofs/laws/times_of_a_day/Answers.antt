@@ -1,0 +1,5 @@
+use Rattle.ics_values.proofs.LawLemmas.{second_kept}
+use Rattle.ics_values.proofs.laws.times_of_a_day.Goals as goal
+
+pub returns : goal.returns
+returns c = second_kept

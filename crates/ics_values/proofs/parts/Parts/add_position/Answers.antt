@@ -1,0 +1,20 @@
+use Rattle.std.proofs.Common.{arith}
+use Rattle.ics_values.proofs.PlaceLemmas.{wide_places_more}
+use Rattle.ics_values.proofs.parts.Parts.add_position.Goals as goal
+
+pub invariant_of-self : goal.invariant_of-self
+invariant_of-self c = record {
+  interval = c.self.invariant.interval;
+  count = c.self.invariant.count;
+  until = c.self.invariant.until;
+  seconds = c.self.invariant.seconds;
+  minutes = c.self.invariant.minutes;
+  hours = c.self.invariant.hours;
+  weekdays = c.self.invariant.weekdays;
+  numbered = c.self.invariant.numbered;
+  month_days = c.self.invariant.month_days;
+  year_days = c.self.invariant.year_days;
+  weeks = c.self.invariant.weeks;
+  months = c.self.invariant.months;
+  positions = rw c.add.ensures (wide_places_more c.args.side c.args.n 366 c.self.inside.positions (omega arith) (omega arith) (omega arith) c.requires.first c.requires.last c.self.invariant.positions);
+}

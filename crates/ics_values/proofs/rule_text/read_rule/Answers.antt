@@ -1,0 +1,23 @@
+use Rattle.std.proofs.Common.{◌∙◌, sym, ap, rules}
+use Rattle.ics_values.proofs.RuleLemmas.{rule_of-walk, answer_of}
+use Rattle.ics_values.proofs.rule_text.read_rule.Goals as goal
+
+pub returns-in_err-draft : goal.returns-in_err-draft
+returns-in_err-draft c =
+    let e = rule_of-walk c.args.text.now ∙ ap answer_of (sym c.draft_of.ensures) in
+    search rules
+
+pub returns-then-not-is_whole : goal.returns-then-not-is_whole
+returns-then-not-is_whole c =
+    let e = rule_of-walk c.args.text.now ∙ ap answer_of (sym c.draft_of.ensures) in
+    search rules
+
+pub returns-then-draft : goal.returns-then-draft
+returns-then-draft c =
+    let e = rule_of-walk c.args.text.now ∙ ap answer_of (sym c.draft_of.ensures) in
+    search rules
+
+pub returns : goal.returns
+returns c =
+    let e = rule_of-walk c.args.text.now ∙ ap answer_of (sym c.draft_of.ensures) in
+    search rules

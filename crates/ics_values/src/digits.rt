@@ -1,0 +1,94 @@
+//! Digits, the numbers that they spell, and letters of either case.
+ghost use Rattle.std.specs.Prelude.{◌≡◌, ◌+◌, ◌*◌, ◌-◌, ◌<◌, ◌≤◌, ◌^◌, true, min, length, take, drop};
+ghost use Rattle.std.specs.List.{list_all};
+ghost use Rattle.ics_values.specs.Digits.{is_digit, are_digits, number_of, number_at, digit_count, greatest_number, upper, SaysNumber};
+
+fn is_digit(b: u8) -> bool
+    ensures { result ≡ is_digit b }
+{
+    b.is_ascii_digit()
+}
+
+fn all_digits(text: &[u8]) -> bool
+    ensures { result ≡ list_all is_digit text.now }
+{
+    text.iter().all(|b| is_digit(*b))
+}
+
+/// One digit or more, and nothing else.
+pub fn are_digits(text: &[u8]) -> bool
+    ensures { result ≡ are_digits text.now }
+{
+    !text.is_empty() && all_digits(text)
+}
+
+/// The number that at most four digits spell.
+pub fn number(digits: &[u8]) -> u32
+    requires digits { list_all is_digit digits.now ≡ true }
+    requires few { length digits.now ≤ 4 }
+    ensures value { result ≡ number_of digits.now }
+    ensures bound { result < 10 ^ length digits.now }
+{
+    let mut n = 0u32;
+    for b in digits {
+        n = 10 * n + u32::from(*b - b'0');
+    }
+    n
+}
+
+/// A byte in upper case, where it is a letter.
+pub fn upper(b: u8) -> u8
+    ensures { result ≡ upper b }
+{
+    b.to_ascii_uppercase()
+}
+
+/// The number that the digits from place `i` up to place `j` spell.
+pub fn number_at(text: &[u8], i: usize, j: usize) -> u32
+    requires order { i ≤ j }
+    requires few { j ≤ i + 4 }
+    requires within { j ≤ length text.now }
+    requires digits { list_all is_digit (take (j - i) (drop i text.now)) ≡ true }
+    ensures value { result ≡ number_at text.now i j }
+    ensures bound { result < 10 ^ (j - i) }
+{
+    number(&text[i..j])
+}
+
+/// How many digits begin the text.
+pub fn digit_count(text: &[u8]) -> usize
+    ensures value { result ≡ digit_count text.now }
+    ensures within { result ≤ length text.now }
+{
+    for (i, b) in text.iter().enumerate() {
+        if !is_digit(*b) {
+            return i;
+        }
+    }
+    text.len()
+}
+
+/// The number that digits spell, or 4,294,967,296 where it is larger.
+pub fn capped_number(digits: &[u8]) -> u64
+    requires { list_all is_digit digits.now ≡ true }
+    ensures { result ≡ min (number_of digits.now) 4_294_967_296 }
+{
+    let mut n = 0u64;
+    for b in digits {
+        n = (10 * n + u64::from(*b - b'0')).min(4_294_967_296);
+    }
+    n
+}
+
+/// The number that digits spell, where it is not too large.
+pub fn number_within(digits: &[u8]) -> Option<u32>
+    requires { list_all is_digit digits.now ≡ true }
+    ensures { SaysNumber result (number_of digits.now) }
+{
+    let n = capped_number(digits);
+    if n < 4_294_967_296 {
+        Some(n as u32)
+    } else {
+        None
+    }
+}

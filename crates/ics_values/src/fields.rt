@@ -1,0 +1,16 @@
+//! The civil fields of a day.
+use jiff_core::civil::Weekday;
+
+/// A day's place in the Gregorian calendar.
+#[derive(Clone, Copy, Debug, PartialEq, Eq)]
+pub struct Civil {
+    /// 0 to 9999.
+    pub year: u16,
+    /// From 1 for January.
+    pub month: u8,
+    /// The day of the month, from 1.
+    pub day: u8,
+    pub weekday: Weekday,
+    /// The day of the year, from 1.
+    pub year_day: u16,
+}

@@ -1,0 +1,13 @@
+//! How often a recurrence rule repeats.
+
+/// FREQ (RFC 5545, 3.3.10).
+#[derive(Clone, Copy, Debug, PartialEq, Eq)]
+pub enum Frequency {
+    Secondly,
+    Minutely,
+    Hourly,
+    Daily,
+    Weekly,
+    Monthly,
+    Yearly,
+}

@@ -1,0 +1,72 @@
+//! Offsets from UTC as properties write them.
+ghost use Rattle.std.specs.Prelude.{◌≡◌, ◌≤◌, ◌<◌, ◌+◌, ◌*◌, ◌&&◌, true, codes, IfOk, length, nat_le};
+ghost use Rattle.jiff_core.specs.Calendar.{IsWithin};
+ghost use Rattle.ics_values.specs.Offsets.{is_offset_form, offset_hours, offset_minutes, offset_seconds, offset_of};
+
+use crate::digits::{are_digits, number_at};
+use crate::sign::{is_negative, is_sign, with_sign};
+use thiserror::Error;
+
+/// Why a text is no offset.
+#[derive(Clone, Copy, Debug, PartialEq, Eq, Error)]
+#[error("BadOffset")]
+pub struct BadOffset;
+
+impl BadOffset {
+    /// The fault's name.
+    pub fn name(&self) -> &'static str
+        ensures { result.now ≡ codes "BadOffset" }
+    {
+        "BadOffset"
+    }
+}
+
+fn is_offset_form(text: &[u8]) -> bool
+    ensures { result ≡ is_offset_form text.now }
+{
+    (text.len() == 5 || text.len() == 7) && is_sign(text[0]) && are_digits(&text[1..])
+}
+
+fn offset_hours(text: &[u8]) -> u32
+    requires { is_offset_form text.now ≡ true }
+    ensures { result ≡ offset_hours text.now }
+{
+    number_at(text, 1, 3)
+}
+
+fn offset_minutes(text: &[u8]) -> u32
+    requires { is_offset_form text.now ≡ true }
+    ensures { result ≡ offset_minutes text.now }
+{
+    number_at(text, 3, 5)
+}
+
+fn offset_seconds(text: &[u8]) -> u32
+    requires { is_offset_form text.now ≡ true }
+    ensures { result ≡ offset_seconds text.now }
+{
+    if text.len() == 7 {
+        number_at(text, 5, 7)
+    } else {
+        0
+    }
+}
+
+/// The offset of a text, in seconds east of UTC and below a day (RFC 5545, section 3.3.14). `-0000` is
+/// read as zero.
+pub fn read_offset(text: &[u8]) -> Result<i32, BadOffset>
+    ensures value { result ≡ offset_of text.now }
+    ensures range { IfOk result (IsWithin 86_399) }
+{
+    if !is_offset_form(text) {
+        return Err(BadOffset);
+    }
+    let hours = offset_hours(text);
+    let minutes = offset_minutes(text);
+    let seconds = offset_seconds(text);
+    if hours > 23 || minutes > 59 || seconds > 59 {
+        return Err(BadOffset);
+    }
+    let size = 3600 * hours + 60 * minutes + seconds;
+    Ok(with_sign(is_negative(text), size))
+}

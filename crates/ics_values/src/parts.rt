@@ -1,0 +1,352 @@
+//! The value of a recurrence rule text.
+ghost use Rattle.std.specs.Prelude.{◌≡◌, ℕ, ◌≤◌, Some, MatchOption};
+ghost use Rattle.ics_values.specs.Sets.{has, with_number, IsWithin};
+ghost use Rattle.ics_values.specs.Places.{numbers_of, with_place, with_wide_place, with_weekday, with_numbered_weekday};
+ghost use Rattle.ics_values.specs.RuleParts.{every, IsUntil, ArePlaces, AreWidePlaces};
+
+use crate::frequency::Frequency;
+use crate::places::{Places, Side, Weekdays, WidePlaces};
+use crate::sets::Numbers;
+use crate::until::Until;
+use jiff_core::civil::Weekday;
+use std::marker::Model;
+
+/// The parts of a recurrence rule (RFC 5545, 3.3.10), each with numbers that its text may have. An empty list is a part that is
+/// absent.
+#[derive(Clone, Copy)]
+pub struct Parts {
+    frequency: Frequency,
+    interval: u32,
+    count: Option<u32>,
+    until: Option<Until>,
+    seconds: Numbers,
+    minutes: Numbers,
+    hours: Numbers,
+    weekdays: Weekdays,
+    month_days: Places,
+    year_days: WidePlaces,
+    weeks: Places,
+    months: Numbers,
+    positions: WidePlaces,
+    week_start: Weekday,
+}
+
+impl Model for Parts {
+    ghost use Rattle.ics_values.specs.RuleParts.{RuleParts};
+
+    ghost Value = { RuleParts };
+
+    ghost use Rattle.ics_values.specs.RuleParts.{IsRuleParts};
+
+    ghost view = { λ p. record {
+      frequency = p.frequency;
+      interval = p.interval;
+      count = p.count;
+      until = p.until;
+      seconds = p.seconds;
+      minutes = p.minutes;
+      hours = p.hours;
+      weekdays = p.weekdays;
+      month_days = p.month_days;
+      year_days = p.year_days;
+      weeks = p.weeks;
+      months = p.months;
+      positions = p.positions;
+      week_start = p.week_start;
+    } };
+
+    ghost invariant = { λ p. IsRuleParts (record {
+      frequency = p.frequency;
+      interval = p.interval;
+      count = p.count;
+      until = p.until;
+      seconds = p.seconds;
+      minutes = p.minutes;
+      hours = p.hours;
+      weekdays = p.weekdays;
+      month_days = p.month_days;
+      year_days = p.year_days;
+      weeks = p.weeks;
+      months = p.months;
+      positions = p.positions;
+      week_start = p.week_start;
+    }) };
+
+    ghost inverse = { λ v. record {
+      frequency = v.frequency;
+      interval = v.interval;
+      count = v.count;
+      until = v.until;
+      seconds = v.seconds;
+      minutes = v.minutes;
+      hours = v.hours;
+      weekdays = v.weekdays;
+      month_days = v.month_days;
+      year_days = v.year_days;
+      weeks = v.weeks;
+      months = v.months;
+      positions = v.positions;
+      week_start = v.week_start;
+    } };
+}
+
+impl Parts {
+    /// The rule that has FREQ alone: INTERVAL is 1 and weeks start on Monday.
+    pub fn new(frequency: Frequency) -> Parts
+        ensures { result ≡ every frequency }
+    {
+        Parts {
+            frequency,
+            interval: 1,
+            count: None,
+            until: None,
+            seconds: Numbers::new(),
+            minutes: Numbers::new(),
+            hours: Numbers::new(),
+            weekdays: Weekdays::new(),
+            month_days: Places::new(),
+            year_days: WidePlaces::new(),
+            weeks: Places::new(),
+            months: Numbers::new(),
+            positions: WidePlaces::new(),
+            week_start: Weekday::Monday,
+        }
+    }
+
+    /// FREQ.
+    pub fn frequency(&self) -> Frequency
+        ensures { result ≡ self.now.frequency }
+    {
+        self.frequency
+    }
+
+    /// INTERVAL, at least 1.
+    pub fn interval(&self) -> u32
+        ensures value { result ≡ self.now.interval }
+        ensures positive { 1 ≤ self.now.interval }
+    {
+        self.interval
+    }
+
+    /// COUNT, at least 1.
+    pub fn count(&self) -> Option<u32>
+        ensures value { result ≡ self.now.count }
+        ensures positive { MatchOption self.now.count (Unit {0}) (λ n. 1 ≤ n) }
+    {
+        self.count
+    }
+
+    /// UNTIL, a day of the calendar.
+    pub fn until(&self) -> Option<Until>
+        ensures value { result ≡ self.now.until }
+        ensures day { MatchOption self.now.until (Unit {0}) IsUntil }
+    {
+        self.until
+    }
+
+    /// BYSECOND, numbers to 59.
+    pub fn seconds(&self) -> Numbers
+        ensures value { result ≡ self.now.seconds }
+        ensures range { IsWithin 0 59 (has self.now.seconds) }
+    {
+        self.seconds
+    }
+
+    /// BYMINUTE, numbers to 59.
+    pub fn minutes(&self) -> Numbers
+        ensures value { result ≡ self.now.minutes }
+        ensures range { IsWithin 0 59 (has self.now.minutes) }
+    {
+        self.minutes
+    }
+
+    /// BYHOUR, numbers to 23.
+    pub fn hours(&self) -> Numbers
+        ensures value { result ≡ self.now.hours }
+        ensures range { IsWithin 0 23 (has self.now.hours) }
+    {
+        self.hours
+    }
+
+    /// BYDAY, its numbers from 1 to 53.
+    pub fn weekdays(&self) -> Weekdays
+        ensures value { result ≡ self.now.weekdays }
+        ensures range { IsWithin 0 6 (has self.now.weekdays.plain) }
+        ensures numbers { (w : ℕ) → ArePlaces (numbers_of self.now.weekdays w) 53 }
+    {
+        self.weekdays
+    }
+
+    /// BYMONTHDAY, numbers from 1 to 31.
+    pub fn month_days(&self) -> Places
+        ensures value { result ≡ self.now.month_days }
+        ensures range { ArePlaces self.now.month_days 31 }
+    {
+        self.month_days
+    }
+
+    /// BYYEARDAY, numbers from 1 to 366.
+    pub fn year_days(&self) -> WidePlaces
+        ensures value { result ≡ self.now.year_days }
+        ensures range { AreWidePlaces self.now.year_days 366 }
+    {
+        self.year_days
+    }
+
+    /// BYWEEKNO, numbers from 1 to 53.
+    pub fn weeks(&self) -> Places
+        ensures value { result ≡ self.now.weeks }
+        ensures range { ArePlaces self.now.weeks 53 }
+    {
+        self.weeks
+    }
+
+    /// BYMONTH, numbers from 1 to 12.
+    pub fn months(&self) -> Numbers
+        ensures value { result ≡ self.now.months }
+        ensures range { IsWithin 1 12 (has self.now.months) }
+    {
+        self.months
+    }
+
+    /// BYSETPOS, numbers from 1 to 366.
+    pub fn positions(&self) -> WidePlaces
+        ensures value { result ≡ self.now.positions }
+        ensures range { AreWidePlaces self.now.positions 366 }
+    {
+        self.positions
+    }
+
+    /// WKST.
+    pub fn week_start(&self) -> Weekday
+        ensures { result ≡ self.now.week_start }
+    {
+        self.week_start
+    }
+}
+
+impl Parts {
+    /// Sets FREQ.
+    pub fn set_frequency(&mut self, frequency: Frequency)
+        ensures { self.new ≡ record self.old { frequency = frequency } }
+    {
+        self.frequency = frequency;
+    }
+
+    /// Sets INTERVAL.
+    pub fn set_interval(&mut self, interval: u32)
+        requires { 1 ≤ interval }
+        ensures { self.new ≡ record self.old { interval = interval } }
+    {
+        self.interval = interval;
+    }
+
+    /// Sets COUNT.
+    pub fn set_count(&mut self, count: u32)
+        requires { 1 ≤ count }
+        ensures { self.new ≡ record self.old { count = Some count } }
+    {
+        self.count = Some(count);
+    }
+
+    /// Sets UNTIL.
+    pub fn set_until(&mut self, until: Until)
+        requires { IsUntil until }
+        ensures { self.new ≡ record self.old { until = Some until } }
+    {
+        self.until = Some(until);
+    }
+
+    /// Sets WKST.
+    pub fn set_week_start(&mut self, weekday: Weekday)
+        ensures { self.new ≡ record self.old { week_start = weekday } }
+    {
+        self.week_start = weekday;
+    }
+
+    /// Adds a number of BYSECOND.
+    pub fn add_second(&mut self, second: u8)
+        requires { second ≤ 59 }
+        ensures { self.new ≡ record self.old { seconds = with_number second self.old.seconds } }
+    {
+        self.seconds.add(second);
+    }
+
+    /// Adds a number of BYMINUTE.
+    pub fn add_minute(&mut self, minute: u8)
+        requires { minute ≤ 59 }
+        ensures { self.new ≡ record self.old { minutes = with_number minute self.old.minutes } }
+    {
+        self.minutes.add(minute);
+    }
+
+    /// Adds a number of BYHOUR.
+    pub fn add_hour(&mut self, hour: u8)
+        requires { hour ≤ 23 }
+        ensures { self.new ≡ record self.old { hours = with_number hour self.old.hours } }
+    {
+        self.hours.add(hour);
+    }
+
+    /// Adds a weekday of BYDAY that stands without a number.
+    pub fn add_weekday(&mut self, weekday: Weekday)
+        ensures { self.new ≡ record self.old { weekdays = with_weekday weekday self.old.weekdays } }
+    {
+        self.weekdays.add(weekday);
+    }
+
+    /// Adds a weekday of BYDAY that stands with a number.
+    pub fn add_numbered_weekday(&mut self, weekday: Weekday, side: Side, n: u8)
+        requires first { 1 ≤ n }
+        requires last { n ≤ 53 }
+        ensures { self.new
+            ≡ record self.old { weekdays = with_numbered_weekday weekday side n self.old.weekdays } }
+    {
+        self.weekdays.add_numbered(weekday, side, n);
+    }
+
+    /// Adds a number of BYMONTHDAY.
+    pub fn add_month_day(&mut self, side: Side, n: u8)
+        requires first { 1 ≤ n }
+        requires last { n ≤ 31 }
+        ensures { self.new ≡ record self.old { month_days = with_place side n self.old.month_days } }
+    {
+        self.month_days.add(side, n);
+    }
+
+    /// Adds a number of BYYEARDAY.
+    pub fn add_year_day(&mut self, side: Side, n: u16)
+        requires first { 1 ≤ n }
+        requires last { n ≤ 366 }
+        ensures { self.new ≡ record self.old { year_days = with_wide_place side n self.old.year_days } }
+    {
+        self.year_days.add(side, n);
+    }
+
+    /// Adds a number of BYWEEKNO.
+    pub fn add_week(&mut self, side: Side, n: u8)
+        requires first { 1 ≤ n }
+        requires last { n ≤ 53 }
+        ensures { self.new ≡ record self.old { weeks = with_place side n self.old.weeks } }
+    {
+        self.weeks.add(side, n);
+    }
+
+    /// Adds a number of BYMONTH.
+    pub fn add_month(&mut self, month: u8)
+        requires first { 1 ≤ month }
+        requires last { month ≤ 12 }
+        ensures { self.new ≡ record self.old { months = with_number month self.old.months } }
+    {
+        self.months.add(month);
+    }
+
+    /// Adds a number of BYSETPOS.
+    pub fn add_position(&mut self, side: Side, n: u16)
+        requires first { 1 ≤ n }
+        requires last { n ≤ 366 }
+        ensures { self.new ≡ record self.old { positions = with_wide_place side n self.old.positions } }
+    {
+        self.positions.add(side, n);
+    }
+}

@@ -1,0 +1,154 @@
+//! Periods as properties write them.
+ghost use Rattle.std.specs.Prelude.{◌≡◌, ◌==◌, IfOk, Ok};
+ghost use Rattle.std.specs.List.{position};
+ghost use Rattle.ics_values.specs.Periods.{first_half, second_half, half_of, lasts, end_of, both, period_of, IsDateTime, IsPeriodEnd};
+ghost use Rattle.ics_values.specs.Faults.{period_fault_name};
+
+use crate::duration::{Duration, DurationFault, read_duration};
+use crate::sign::is_sign;
+use crate::stamp::{Stamp, StampFault, is_date_time_form, read_stamp};
+use thiserror::Error;
+
+/// How a PERIOD ends: at a stamp, or after a duration.
+#[derive(Clone, Copy, Debug, PartialEq, Eq)]
+pub enum PeriodEnd {
+    At(Stamp),
+    Lasting(Duration),
+}
+
+/// A PERIOD. Its end may lie before its start.
+#[derive(Clone, Copy, Debug, PartialEq, Eq)]
+pub struct Period {
+    pub start: Stamp,
+    pub end: PeriodEnd,
+}
+
+/// Why a text is no period.
+#[derive(Clone, Copy, Debug, PartialEq, Eq, Error)]
+pub enum PeriodFault {
+    #[error("BadStamp")]
+    BadStamp,
+    #[error("BadDuration")]
+    BadDuration,
+    #[error("YearRange")]
+    YearRange,
+    #[error("NumberTooLarge")]
+    NumberTooLarge,
+}
+
+impl PeriodFault {
+    /// The variant's name.
+    pub fn name(&self) -> &'static str
+        ensures { result.now ≡ period_fault_name self.now }
+    {
+        match self {
+            PeriodFault::BadStamp => "BadStamp",
+            PeriodFault::BadDuration => "BadDuration",
+            PeriodFault::YearRange => "YearRange",
+            PeriodFault::NumberTooLarge => "NumberTooLarge",
+        }
+    }
+}
+
+/// Where the first `/` stands.
+fn slash(text: &[u8]) -> Option<usize>
+    ensures { result ≡ position (λ b. b == 47) text.now }
+{
+    text.iter().position(|b| *b == b'/')
+}
+
+/// What stands before the first `/`, and all where there is none.
+fn first_half(text: &[u8]) -> &[u8]
+    ensures { result.now ≡ first_half text.now }
+{
+    match slash(text) {
+        Some(end) => &text[..end],
+        None => text,
+    }
+}
+
+/// What stands behind the first `/`, and nothing where there is none.
+fn second_half(text: &[u8]) -> &[u8]
+    ensures { result.now ≡ second_half text.now }
+{
+    match slash(text) {
+        Some(end) => &text[end + 1..],
+        None => &[],
+    }
+}
+
+fn read_half(text: &[u8], zoned: bool) -> Result<Stamp, PeriodFault>
+    ensures value { result ≡ half_of zoned text.now }
+    ensures range { IfOk result IsDateTime }
+{
+    if !is_date_time_form(text) {
+        return Err(PeriodFault::BadStamp);
+    }
+    match read_stamp(text, zoned) {
+        Ok(stamp) => Ok(stamp),
+        Err(StampFault::BadStamp) => Err(PeriodFault::BadStamp),
+        Err(StampFault::YearRange) => Err(PeriodFault::YearRange),
+    }
+}
+
+/// Whether the half is a duration: it begins with a sign or `P`.
+fn lasts(text: &[u8]) -> bool
+    ensures { result ≡ lasts text.now }
+{
+    match text {
+        [] => false,
+        [first, ..] => is_sign(*first) || *first == b'P' || *first == b'p',
+    }
+}
+
+fn read_end(text: &[u8], zoned: bool) -> Result<PeriodEnd, PeriodFault>
+    ensures value { result ≡ end_of zoned text.now }
+    ensures range { IfOk result IsPeriodEnd }
+{
+    if lasts(text) {
+        match read_duration(text) {
+            Ok(duration) => Ok(PeriodEnd::Lasting(duration)),
+            Err(DurationFault::BadDuration) => Err(PeriodFault::BadDuration),
+            Err(DurationFault::NumberTooLarge) => Err(PeriodFault::NumberTooLarge),
+        }
+    } else {
+        match read_half(text, zoned) {
+            Ok(stamp) => Ok(PeriodEnd::At(stamp)),
+            Err(fault) => Err(fault),
+        }
+    }
+}
+
+/// The period of both halves. A half that is out of order goes before one that is out of range.
+fn both(
+    start: Result<Stamp, PeriodFault>,
+    end: Result<PeriodEnd, PeriodFault>,
+) -> Result<Period, PeriodFault>
+    ensures value { result ≡ both start end }
+    ensures start { IfOk result (λ period. start ≡ Ok period.start) }
+    ensures end { IfOk result (λ period. end ≡ Ok period.end) }
+{
+    match (start, end) {
+        (Ok(start), Ok(end)) => Ok(Period { start, end }),
+        (Ok(_), Err(fault)) => Err(fault),
+        (Err(PeriodFault::YearRange), Err(PeriodFault::BadStamp)) => Err(PeriodFault::BadStamp),
+        (Err(PeriodFault::YearRange), Err(PeriodFault::BadDuration)) => {
+            Err(PeriodFault::BadDuration)
+        }
+        (Err(fault), _) => Err(fault),
+    }
+}
+
+/// The period of a text: a DATE-TIME, `/`, and a DATE-TIME or a DURATION (RFC 5545, section 3.3.9).
+/// `zoned` says that a TZID stands beside it. A first half that is no DATE-TIME is `BadStamp`, and then
+/// a second half that is out of order has its fault; `YearRange` and `NumberTooLarge` come only where
+/// both halves are in order, and `YearRange` first.
+pub fn read_period(text: &[u8], zoned: bool) -> Result<Period, PeriodFault>
+    ensures value { result ≡ period_of zoned text.now }
+    ensures start { IfOk result (λ period. IsDateTime period.start) }
+    ensures end { IfOk result (λ period. IsPeriodEnd period.end) }
+{
+    let start = read_half(first_half(text), zoned);
+    let end = read_end(second_half(text), zoned);
+    both(start, end)
+}

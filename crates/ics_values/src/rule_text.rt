@@ -1,0 +1,224 @@
+//! The text of a recurrence rule.
+ghost use Rattle.std.specs.Prelude.{◌≡◌, ◌<◌, ◌-◌, List, ℕ, true, false, not, ◌&&◌, fold, Some};
+ghost use Rattle.std.specs.List.{before_first, after_first};
+ghost use Rattle.ics_values.specs.Faults.{rule_fault_name};
+ghost use Rattle.ics_values.specs.RuleTexts.{is_equals, without_last, pieces};
+ghost use Rattle.ics_values.specs.Rules.{rule_of};
+ghost use Rattle.ics_values.specs.RuleDrafts.{walk, item_taken, value_taken, part_taken, no_parts, is_whole, Takes};
+
+use crate::frequency::Frequency;
+use crate::part_name::{ListName, PartName, part_name};
+use crate::parts::Parts;
+use crate::rule_value::{
+    Amount, number_between, read_amount, read_day_item, read_frequency, read_place, read_until,
+    read_weekday,
+};
+use crate::sets::Numbers;
+use thiserror::Error;
+
+/// Why a text is no recurrence rule.
+#[derive(Clone, Copy, Debug, PartialEq, Eq, Error)]
+pub enum RuleFault {
+    /// The text is not of the grammar, or a part is out of its range.
+    #[error("BadRule")]
+    BadRule,
+    /// The text is otherwise in order, and COUNT or INTERVAL is past 4,294,967,295.
+    #[error("NumberTooLarge")]
+    NumberTooLarge,
+}
+
+impl RuleFault {
+    /// The variant's name.
+    pub fn name(&self) -> &'static str
+        ensures { result.now ≡ rule_fault_name self.now }
+    {
+        match self {
+            RuleFault::BadRule => "BadRule",
+            RuleFault::NumberTooLarge => "NumberTooLarge",
+        }
+    }
+}
+
+/// The parts read so far.
+#[derive(Clone, Copy)]
+struct Draft {
+    parts: Parts,
+    /// The rows of the names that were read.
+    seen: Numbers,
+    /// COUNT or INTERVAL was past the greatest number.
+    too_large: bool,
+}
+
+/// A part's name and its value, which stands behind the first `=`.
+fn cut(part: &[u8]) -> (&[u8], &[u8])
+    ensures name { result.0.now ≡ before_first is_equals part.now }
+    ensures value { result.1.now ≡ after_first is_equals part.now }
+{
+    match part.iter().position(|b| *b == b'=') {
+        Some(i) => (&part[..i], &part[i + 1..]),
+        None => (part, b""),
+    }
+}
+
+/// The text without the `;` that may stand at its end.
+fn without_last(text: &[u8]) -> &[u8]
+    ensures { result.now ≡ without_last text.now }
+{
+    match text {
+        [before @ .., b';'] => before,
+        _ => text,
+    }
+}
+
+/// Adds an item of a list.
+fn take_item(parts: &mut Parts, list: ListName, item: &[u8]) -> Option<()>
+    ensures { Takes (item_taken list parts.old item.now) result parts.new }
+{
+    match list {
+        ListName::BySecond => parts.add_second(number_between(item, 0, 60)?.min(59) as u8),
+        ListName::ByMinute => parts.add_minute(number_between(item, 0, 59)? as u8),
+        ListName::ByHour => parts.add_hour(number_between(item, 0, 23)? as u8),
+        ListName::ByDay => take_day(parts, item)?,
+        ListName::ByMonthDay => {
+            let (side, n) = read_place(item, 31)?;
+            parts.add_month_day(side, n as u8);
+        }
+        ListName::ByYearDay => {
+            let (side, n) = read_place(item, 366)?;
+            parts.add_year_day(side, n);
+        }
+        ListName::ByWeekNo => {
+            let (side, n) = read_place(item, 53)?;
+            parts.add_week(side, n as u8);
+        }
+        ListName::ByMonth => parts.add_month(number_between(item, 1, 12)? as u8),
+        ListName::BySetPos => {
+            let (side, n) = read_place(item, 366)?;
+            parts.add_position(side, n);
+        }
+    }
+    Some(())
+}
+
+/// Adds an item of BYDAY.
+fn take_day(parts: &mut Parts, item: &[u8]) -> Option<()>
+    ensures { Takes (item_taken ListName.ByDay parts.old item.now) result parts.new }
+{
+    let day = read_day_item(item)?;
+    match day.place {
+        None => parts.add_weekday(day.weekday),
+        Some((side, n)) => parts.add_numbered_weekday(day.weekday, side, n as u8),
+    }
+    Some(())
+}
+
+/// Adds the items of a list.
+fn take_items(parts: &mut Parts, list: ListName, value: &[u8]) -> Option<()>
+    ensures { Takes (walk (item_taken list) parts.old (pieces 44 value.now)) result parts.new }
+{
+    'items: for item in value.split(|b| *b == b',') {
+        take_item(parts, list, item)?;
+    }
+    Some(())
+}
+
+impl Draft {
+    fn new() -> Draft
+        ensures { result ≡ no_parts }
+    {
+        Draft {
+            parts: Parts::new(Frequency::Yearly),
+            seen: Numbers::new(),
+            too_large: false,
+        }
+    }
+
+    fn take_value(&mut self, name: PartName, value: &[u8]) -> Option<()>
+        ensures { Takes (value_taken name value.now self.old) result self.new }
+    {
+        match name {
+            PartName::Freq => self.parts.set_frequency(read_frequency(value)?),
+            PartName::Until => self.parts.set_until(read_until(value)?),
+            PartName::Count => match read_amount(value)? {
+                Amount::Number(n) => self.parts.set_count(n),
+                Amount::TooLarge => self.too_large = true,
+            },
+            PartName::Interval => match read_amount(value)? {
+                Amount::Number(n) => self.parts.set_interval(n),
+                Amount::TooLarge => self.too_large = true,
+            },
+            PartName::List(list) => take_items(&mut self.parts, list, value)?,
+            PartName::Wkst => self.parts.set_week_start(read_weekday(value)?),
+        }
+        Some(())
+    }
+
+    /// Reads a part, which has to be the first of its name.
+    fn take(&mut self, part: &[u8]) -> Option<()>
+        ensures { Takes (part_taken self.old part.now) result self.new }
+    {
+        let (name, value) = cut(part);
+        let name = part_name(name)?;
+        if self.seen.has(name.row()) {
+            return None;
+        }
+        self.seen.add(name.row());
+        self.take_value(name, value)
+    }
+
+    /// Whether FREQ is there, and not both UNTIL and COUNT.
+    fn is_whole(&self) -> bool
+        ensures { result ≡ is_whole self.now }
+    {
+        let until = self.seen.has(PartName::Until.row());
+        let count = self.seen.has(PartName::Count.row());
+        self.seen.has(PartName::Freq.row()) && !(until && count)
+    }
+}
+
+fn draft_of(text: &[u8]) -> Option<Draft>
+    ensures { result ≡ walk part_taken no_parts (pieces 59 (without_last text.now)) }
+{
+    let mut draft = Draft::new();
+    'parts: for part in without_last(text).split(|b| *b == b';') {
+        draft.take(part)?;
+    }
+    Some(draft)
+}
+
+/// The parts of a recurrence rule's text (RFC 5545, section 3.3.10).
+///
+/// The parts stand in any order. One `;` may stand at the end, numbers may have leading zeros, and second 60 is read as 59.
+pub fn read_rule(text: &[u8]) -> Result<Parts, RuleFault>
+    ensures { result ≡ rule_of text.now }
+{
+    let draft = draft_of(text).ok_or(RuleFault::BadRule)?;
+    if !draft.is_whole() {
+        return Err(RuleFault::BadRule);
+    }
+    if draft.too_large {
+        return Err(RuleFault::NumberTooLarge);
+    }
+    Ok(draft.parts)
+}
+
+#[cfg(test)]
+mod tests {
+    use super::*;
+    use jiff_core::civil::Weekday;
+
+    #[test]
+    fn a_fortnightly_rule(rt: HostRuntime) {
+        let text = b"FREQ=WEEKLY;INTERVAL=2;COUNT=4;BYDAY=TU,-1su;WKST=SU;";
+        let Ok(parts) = read_rule(text) else {
+            panic!(rt);
+        };
+        assert_eq!(rt; parts.frequency(), Frequency::Weekly);
+        assert_eq!(rt; parts.interval(), 2);
+        assert_eq!(rt; parts.count(), Some(4));
+        assert!(rt; parts.weekdays().plain.has(1));
+        assert!(rt; parts.weekdays().numbered[6].back.has(1));
+        assert!(rt; parts.week_start() == Weekday::Sunday);
+        assert_eq!(rt; RuleFault::BadRule.name(), "BadRule");
+    }
+}

@@ -1,0 +1,172 @@
+//! The values of a rule's parts.
+ghost use Rattle.std.specs.Prelude.{◌≡◌, ◌≤◌, false, MatchOption, IfSome, map};
+ghost use Rattle.ics_values.specs.Options.{IsWhere};
+ghost use Rattle.ics_values.specs.RuleParts.{IsUntil};
+ghost use Rattle.ics_values.specs.RuleTexts.{frequency_of, weekday_of, until_said, until_of, is_amount, is_number, is_signed, side_of, is_day_item};
+ghost use Rattle.ics_values.specs.Digits.{number_of};
+ghost use Rattle.ics_values.specs.RuleDrafts.{IsAmount, IsPlace, IsDayItem};
+
+use crate::digits::{are_digits, number_within};
+use crate::frequency::Frequency;
+use crate::part_name::is_word;
+use crate::places::Side;
+use crate::sign::{is_negative, unsigned};
+use crate::stamp::{Stamp, any_stamp, year_of};
+use crate::until::Until;
+use jiff_core::civil::Weekday;
+
+/// COUNT or INTERVAL.
+#[derive(Clone, Copy)]
+pub enum Amount {
+    Number(u32),
+    TooLarge,
+}
+
+/// FREQ.
+pub fn read_frequency(text: &[u8]) -> Option<Frequency>
+    ensures { result ≡ frequency_of text.now }
+{
+    if is_word(text, b"SECONDLY") {
+        Some(Frequency::Secondly)
+    } else if is_word(text, b"MINUTELY") {
+        Some(Frequency::Minutely)
+    } else if is_word(text, b"HOURLY") {
+        Some(Frequency::Hourly)
+    } else if is_word(text, b"DAILY") {
+        Some(Frequency::Daily)
+    } else if is_word(text, b"WEEKLY") {
+        Some(Frequency::Weekly)
+    } else if is_word(text, b"MONTHLY") {
+        Some(Frequency::Monthly)
+    } else if is_word(text, b"YEARLY") {
+        Some(Frequency::Yearly)
+    } else {
+        None
+    }
+}
+
+/// A weekday by its two letters.
+pub fn read_weekday(text: &[u8]) -> Option<Weekday>
+    ensures { result ≡ weekday_of text.now }
+{
+    if is_word(text, b"MO") {
+        Some(Weekday::Monday)
+    } else if is_word(text, b"TU") {
+        Some(Weekday::Tuesday)
+    } else if is_word(text, b"WE") {
+        Some(Weekday::Wednesday)
+    } else if is_word(text, b"TH") {
+        Some(Weekday::Thursday)
+    } else if is_word(text, b"FR") {
+        Some(Weekday::Friday)
+    } else if is_word(text, b"SA") {
+        Some(Weekday::Saturday)
+    } else if is_word(text, b"SU") {
+        Some(Weekday::Sunday)
+    } else {
+        None
+    }
+}
+
+fn until_said(stamp: Stamp) -> Until
+    ensures { result ≡ until_said stamp }
+{
+    match stamp {
+        Stamp::Date(day) => Until::Date(day),
+        Stamp::Utc(local) => Until::Utc(local),
+        Stamp::Floating(local) => Until::Local(local),
+        Stamp::Zoned(local) => Until::Local(local),
+    }
+}
+
+/// UNTIL.
+pub fn read_until(text: &[u8]) -> Option<Until>
+    ensures value { result ≡ until_of text.now }
+    ensures day { IfSome result IsUntil }
+{
+    let stamp = any_stamp(text, false)?;
+    if year_of(text) == 0 {
+        return None;
+    }
+    Some(until_said(stamp))
+}
+
+/// COUNT or INTERVAL.
+pub fn read_amount(text: &[u8]) -> Option<Amount>
+    ensures { MatchOption result (is_amount text.now ≡ false) (IsAmount text.now) }
+{
+    if !are_digits(text) {
+        return None;
+    }
+    match number_within(text) {
+        Some(0) => None,
+        Some(n) => Some(Amount::Number(n)),
+        None => Some(Amount::TooLarge),
+    }
+}
+
+/// A number from `low` to `high`.
+pub fn number_between(text: &[u8], low: u16, high: u16) -> Option<u16>
+    ensures value { IsWhere result (is_number low high text.now) (number_of text.now) }
+    ensures first { IfSome result (λ n. low ≤ n) }
+    ensures last { IfSome result (λ n. n ≤ high) }
+{
+    if !are_digits(text) {
+        return None;
+    }
+    let n = number_within(text)?;
+    if u32::from(low) <= n && n <= u32::from(high) {
+        Some(n as u16)
+    } else {
+        None
+    }
+}
+
+/// The side from which a number with an optional sign counts.
+fn side_of(text: &[u8]) -> Side
+    ensures { result ≡ side_of text.now }
+{
+    if is_negative(text) {
+        Side::Back
+    } else {
+        Side::Front
+    }
+}
+
+/// A number from 1 to `high` with an optional sign.
+pub fn read_place(text: &[u8], high: u16) -> Option<(Side, u16)>
+    ensures value { MatchOption result (is_signed high text.now ≡ false) (IsPlace high text.now) }
+    ensures first { IfSome result (λ p. 1 ≤ p.1) }
+    ensures last { IfSome result (λ p. p.1 ≤ high) }
+{
+    let n = number_between(unsigned(text), 1, high)?;
+    Some((side_of(text), n))
+}
+
+/// An item of BYDAY: a weekday, and the place that stands before it.
+#[derive(Clone, Copy)]
+pub struct DayItem {
+    pub weekday: Weekday,
+    pub place: Option<(Side, u16)>,
+}
+
+/// An item of BYDAY.
+pub fn read_day_item(text: &[u8]) -> Option<DayItem>
+    ensures value { MatchOption result (is_day_item text.now ≡ false) (IsDayItem text.now) }
+    ensures first { IfSome result (λ d. IfSome d.place (λ p. 1 ≤ p.1)) }
+    ensures last { IfSome result (λ d. IfSome d.place (λ p. p.1 ≤ 53)) }
+{
+    let (before, day) = text.split_at(text.len().saturating_sub(2));
+    let weekday = read_weekday(day)?;
+    if text.len() == 2 {
+        return Some(DayItem {
+            weekday,
+            place: None,
+        });
+    }
+    let place = read_place(before, 53)?;
+    Some(DayItem {
+        weekday,
+        place: Some(place),
+    })
+}

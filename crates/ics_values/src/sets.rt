@@ -1,0 +1,187 @@
+//! Sets of small numbers, as fixed words of bits.
+ghost use Rattle.std.specs.Prelude.{◌≡◌, ◌≢◌, ℕ, ◌<◌, ◌==◌, ◌↔◌, ◌||◌, ◌*◌, ◌&&◌, nat_lt, length, IsTrue, ◌^◌, ◌≤◌, IfSome};
+ghost use Rattle.ics_values.specs.Sets.{has, is_none, only, with_number, has_wide, is_none_wide, none_wide, with_wide_number, IsNextIn};
+
+use std::marker::Model;
+
+/// The place of the lowest one of a word from place `n` on.
+fn next_bit(bits: u64, n: u8) -> Option<u8>
+    ensures next { IsNextIn (has bits) n result }
+    ensures small { IfSome result (λ m. m < 64) }
+{
+    if n >= 64 {
+        return None;
+    }
+    let rest = bits >> n;
+    if rest == 0 {
+        return None;
+    }
+    Some(n + rest.trailing_zeros() as u8)
+}
+
+/// The same of six words.
+fn next_bit_in(words: &[u64; 6], n: u16) -> Option<u16>
+    ensures next { IsNextIn (has_wide words.now) n result }
+    ensures small { IfSome result (λ m. m < 384) }
+{
+    let first = n as usize / 64;
+    if first >= 6 {
+        return None;
+    }
+    if let Some(bit) = next_bit(words[first], (n % 64) as u8) {
+        return Some(first as u16 * 64 + bit as u16);
+    }
+    for word in first + 1..6 {
+        if let Some(bit) = next_bit(words[word], 0) {
+            return Some(word as u16 * 64 + bit as u16);
+        }
+    }
+    None
+}
+
+/// A set of numbers below 64. A contract sees the number whose binary digits are its members.
+#[derive(Clone, Copy)]
+pub struct Numbers {
+    bits: u64,
+}
+
+impl Model for Numbers {
+    ghost use Rattle.std.specs.Prelude.{ℕ};
+
+    ghost Value = { ℕ };
+
+    ghost view = { λ s. s.bits };
+
+    ghost inverse = { λ n. record { bits = n } };
+}
+
+impl Numbers {
+    /// No number.
+    pub fn new() -> Numbers
+        ensures { result ≡ 0 }
+    {
+        Numbers { bits: 0 }
+    }
+
+    /// The number `n` alone.
+    pub fn only(n: u8) -> Numbers
+        requires { n < 64 }
+        ensures { result ≡ only n }
+    {
+        Numbers { bits: 1 << n }
+    }
+
+    /// Whether there is no member.
+    pub fn is_none(self) -> bool
+        ensures { result ≡ is_none self }
+    {
+        self.bits == 0
+    }
+
+    /// Whether `n` is a member.
+    pub fn has(self, n: u8) -> bool
+        ensures { result ≡ (nat_lt n 64 && has self n) }
+    {
+        n < 64 && (self.bits >> n) & 1 == 1
+    }
+
+    /// The numbers below `size`.
+    pub fn below(size: u8) -> Numbers
+        requires { size < 64 }
+        ensures members { (m : ℕ) → m < size → IsTrue (has result m) }
+        ensures bound { result < 2 ^ size }
+    {
+        Numbers {
+            bits: (1 << size) - 1,
+        }
+    }
+
+    /// The members below `size`.
+    pub fn front(self, size: u8) -> Numbers
+        requires { size < 64 }
+        ensures members { (m : ℕ) → m < size → has result m ≡ has self m }
+        ensures bound { result < 2 ^ size }
+    {
+        Numbers {
+            bits: self.bits % (1 << size),
+        }
+    }
+
+    /// The least member from `n` on.
+    pub fn next_from(self, n: u8) -> Option<u8>
+        ensures next { IsNextIn (has self) n result }
+        ensures small { IfSome result (λ m. m < 64) }
+    {
+        next_bit(self.bits, n)
+    }
+
+    /// Adds `n`.
+    pub fn add(&mut self, n: u8)
+        requires { n < 64 }
+        ensures value { self.new ≡ with_number n self.old }
+        ensures members { (m : ℕ) → has self.new m ≡ ((m == n) || has self.old m) }
+    {
+        self.bits |= 1 << n;
+    }
+}
+
+/// A set of numbers below 384. A contract sees its words.
+#[derive(Clone, Copy)]
+pub struct WideNumbers {
+    words: [u64; 6],
+}
+
+impl Model for WideNumbers {
+    ghost use Rattle.std.specs.Prelude.{ℕ, List};
+
+    ghost Value = { List ℕ };
+
+    ghost view = { λ s. s.words };
+
+    ghost inverse = { λ ws. record { words = ws } };
+}
+
+impl WideNumbers {
+    /// No number.
+    pub fn new() -> WideNumbers
+        ensures { result ≡ none_wide }
+    {
+        WideNumbers { words: [0; 6] }
+    }
+
+    /// Whether there is no member.
+    pub fn is_none(&self) -> bool
+        ensures { result ≡ is_none_wide self.now }
+    {
+        self.words[0] == 0
+            && self.words[1] == 0
+            && self.words[2] == 0
+            && self.words[3] == 0
+            && self.words[4] == 0
+            && self.words[5] == 0
+    }
+
+    /// Whether `n` is a member.
+    pub fn has(&self, n: u16) -> bool
+        ensures { result ≡ has_wide self.now n }
+    {
+        n < 384 && (self.words[n as usize / 64] >> (n % 64)) & 1 == 1
+    }
+
+    /// The least member from `n` on.
+    pub fn next_from(&self, n: u16) -> Option<u16>
+        ensures next { IsNextIn (has_wide self.now) n result }
+        ensures small { IfSome result (λ m. m < 384) }
+    {
+        next_bit_in(&self.words, n)
+    }
+
+    /// Adds `n`.
+    pub fn add(&mut self, n: u16)
+        requires { n < 384 }
+        ensures value { self.new ≡ with_wide_number n self.old }
+        ensures members { (m : ℕ) → has_wide self.new m ≡ ((m == n) || has_wide self.old m) }
+    {
+        self.words[n as usize / 64] |= 1 << (n % 64);
+    }
+}

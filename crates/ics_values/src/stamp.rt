@@ -1,0 +1,178 @@
+//! Dates and times as properties write them.
+ghost use Rattle.std.specs.Prelude.{◌≡◌, ◌+◌, ◌*◌, ◌<◌, ◌≤◌, true, false, length, take, drop, ◌&&◌, MatchOption, IfSome, IfOk};
+ghost use Rattle.ics_values.specs.Stamps.{is_date_form, is_local_form, is_utc_form, is_date_time_form, year_of, date_exists, day_of, time_exists, second_of, local_of, is_stamp_text, stamp_said, is_stamp_year, stamp_of, stamp_day, IsDayOf, IsStampDay, HasDate, HasTime};
+ghost use Rattle.ics_values.specs.Options.{IsWhere};
+ghost use Rattle.ics_values.specs.Forms.{IsFormless, IsOfForm};
+ghost use Rattle.ics_values.specs.Faults.{stamp_fault_name};
+
+use crate::date::date_day;
+use crate::digits::{are_digits, number_at, upper};
+use crate::local::Local;
+use thiserror::Error;
+
+/// A DATE or a DATE-TIME. A day is counted from 1970-01-01.
+#[derive(Clone, Copy, Debug, PartialEq, Eq)]
+pub enum Stamp {
+    /// A day without a time.
+    Date(i32),
+    /// A local time beside which no TZID stands.
+    Floating(Local),
+    /// A time in UTC.
+    Utc(Local),
+    /// A local time beside which a TZID stands.
+    Zoned(Local),
+}
+
+/// Why a text is no stamp.
+#[derive(Clone, Copy, Debug, PartialEq, Eq, Error)]
+pub enum StampFault {
+    #[error("BadStamp")]
+    BadStamp,
+    #[error("YearRange")]
+    YearRange,
+}
+
+impl StampFault {
+    /// The variant's name.
+    pub fn name(&self) -> &'static str
+        ensures { result.now ≡ stamp_fault_name self.now }
+    {
+        match self {
+            StampFault::BadStamp => "BadStamp",
+            StampFault::YearRange => "YearRange",
+        }
+    }
+}
+
+/// The forms of stamps.
+#[derive(Clone, Copy)]
+pub enum Form {
+    Date,
+    Local,
+    Utc,
+}
+
+fn is_date_form(text: &[u8]) -> bool
+    ensures { result ≡ is_date_form text.now }
+{
+    text.len() == 8 && are_digits(text)
+}
+
+fn is_local_form(text: &[u8]) -> bool
+    ensures { result ≡ is_local_form text.now }
+{
+    text.len() == 15 && are_digits(&text[..8]) && upper(text[8]) == b'T' && are_digits(&text[9..])
+}
+
+fn is_utc_form(text: &[u8]) -> bool
+    ensures { result ≡ is_utc_form text.now }
+{
+    text.len() == 16 && is_local_form(&text[..15]) && upper(text[15]) == b'Z'
+}
+
+/// Whether the text has the form of a DATE-TIME.
+pub fn is_date_time_form(text: &[u8]) -> bool
+    ensures { result ≡ is_date_time_form text.now }
+{
+    is_utc_form(text) || is_local_form(text)
+}
+
+fn form_of(text: &[u8]) -> Option<Form>
+    ensures { MatchOption result (IsFormless text.now) (IsOfForm text.now) }
+{
+    if is_date_form(text) {
+        Some(Form::Date)
+    } else if is_utc_form(text) {
+        Some(Form::Utc)
+    } else if is_local_form(text) {
+        Some(Form::Local)
+    } else {
+        None
+    }
+}
+
+/// The number of the text's first four digits.
+pub fn year_of(text: &[u8]) -> u32
+    requires { HasDate text.now }
+    ensures value { result ≡ year_of text.now }
+    ensures bound { result ≤ 9999 }
+{
+    number_at(text, 0, 4)
+}
+
+/// The day of the text's first eight digits, where the calendar has it.
+fn day_of(text: &[u8]) -> Option<i32>
+    requires { HasDate text.now }
+    ensures { IsWhere result (date_exists text.now) (day_of text.now) }
+{
+    date_day(year_of(text), number_at(text, 4, 6), number_at(text, 6, 8))
+}
+
+/// The second of the day that the text's time says, where the clock has it.
+fn second_of(text: &[u8]) -> Option<u32>
+    requires { HasTime text.now }
+    ensures value { IsWhere result (time_exists text.now) (second_of text.now) }
+    ensures bound { IfSome result (λ second. second < 86_400) }
+{
+    let hour = number_at(text, 9, 11);
+    let minute = number_at(text, 11, 13);
+    let second = number_at(text, 13, 15);
+    if hour <= 23 && minute <= 59 && second <= 60 {
+        Some(3600 * hour + 60 * minute + second.min(59))
+    } else {
+        None
+    }
+}
+
+fn local_of(text: &[u8]) -> Option<Local>
+    requires date { HasDate text.now }
+    requires time { HasTime text.now }
+    ensures { IsWhere result (date_exists text.now && time_exists text.now) (local_of text.now) }
+{
+    let day = day_of(text)?;
+    let second = second_of(text)?;
+    Some(Local::at(day, second))
+}
+
+/// The stamp of a text, whatever its year.
+pub fn any_stamp(text: &[u8], zoned: bool) -> Option<Stamp>
+    ensures value { IsWhere result (is_stamp_text text.now) (stamp_said zoned text.now) }
+    ensures digits { IfSome result (λ _. HasDate text.now) }
+{
+    match form_of(text)? {
+        Form::Date => Some(Stamp::Date(day_of(text)?)),
+        Form::Utc => Some(Stamp::Utc(local_of(text)?)),
+        Form::Local => {
+            let local = local_of(text)?;
+            Some(if zoned {
+                Stamp::Zoned(local)
+            } else {
+                Stamp::Floating(local)
+            })
+        }
+    }
+}
+
+fn is_stamp_year(year: u32) -> bool
+    ensures { result ≡ is_stamp_year year }
+{
+    year >= 1 && year <= 9899
+}
+
+/// The stamp of a text: a DATE, or a DATE-TIME whose second 60 is read as 59 (RFC 5545, sections
+/// 3.3.4 and 3.3.5). `zoned` says that a TZID stands beside it. Any other text is `BadStamp`, also one
+/// of a date that the calendar has not; a stamp outside the years 0001 to 9899 is `YearRange`.
+pub fn read_stamp(text: &[u8], zoned: bool) -> Result<Stamp, StampFault>
+    ensures value { result ≡ stamp_of zoned text.now }
+    ensures date { IfOk result (λ stamp. IsDayOf text.now (stamp_day stamp)) }
+    ensures range { IfOk result (λ stamp. IsStampDay (stamp_day stamp)) }
+{
+    let Some(stamp) = any_stamp(text, zoned) else {
+        return Err(StampFault::BadStamp);
+    };
+    if is_stamp_year(year_of(text)) {
+        Ok(stamp)
+    } else {
+        Err(StampFault::YearRange)
+    }
+}

@@ -1,0 +1,12 @@
+//! Where a recurrence rule ends.
+
+use crate::local::Local;
+
+/// UNTIL, by the form of its text (RFC 5545, 3.3.10).
+#[derive(Clone, Copy, Debug, PartialEq, Eq)]
+pub enum Until {
+    /// A day, counted from 1970-01-01.
+    Date(i32),
+    Local(Local),
+    Utc(Local),
+}
