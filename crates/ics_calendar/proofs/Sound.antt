@@ -1,0 +1,313 @@
+-- What is collected of an event is in order where no fault stands on its lines.
+use Rattle.std.proofs.Common.{◌≡◌, ◌≢◌, ℕ, suc, ◌-◌, ◌≤◌, Bool, true, false, not, ◌&&◌, ◌||◌, ◌==◌, nat_le, IsTrue, List, [], ◌∷◌, length, refl, sym, subst, arith, cond, Option, Some, None, is_some, IfSome, unwrap_or, Result, Ok, Err, map, int_lt, ℤ, pos, ◌+ℤ◌, ◌*ℤ◌}
+use Rattle.std.specs.Result.{result_ok}
+use Rattle.std.proofs.lemmas.Bool.Decides.{nat_tests}
+use Rattle.std.proofs.lemmas.Int.{ints}
+use Rattle.jiff_core.specs.Calendar.{IsCivilDate}
+use Rattle.jiff_core.proofs.CalendarLemmas.{day_of_year_bound}
+use Rattle.jiff_core.proofs.SignedLemmas.{signed_arith}
+use Rattle.ics_text.specs.Bytes.{upper}
+use Rattle.ics_text.specs.Contents.{Parts}
+use Rattle.ics_values.specs.Dates.{is_date, day_number}
+use Rattle.ics_values.specs.Digits.{number_at}
+use Rattle.ics_values.specs.Durations.{duration_of}
+use Rattle.ics_values.specs.Stamps.{is_date_form, is_utc_form, is_date_time_form, is_stamp_text, is_stamp_year, year_of, date_exists, time_exists, day_of, local_of, stamp_said, stamp_of}
+use Rattle.ics_values.specs.Texts.{begins, is_minus}
+use Rattle.ics_values.specs.declared.duration.Duration.{Duration}
+use Rattle.ics_values.specs.declared.duration.DurationFault.{DurationFault}
+use Rattle.ics_values.specs.declared.duration.DurationFault.TheVariants as duration
+use Rattle.ics_values.specs.declared.stamp.Stamp.{Stamp}
+use Rattle.ics_values.specs.declared.stamp.Stamp.TheVariants.{Date, Floating, Utc, Zoned}
+use Rattle.ics_values.specs.declared.stamp.StampFault.{StampFault}
+use Rattle.ics_values.specs.declared.stamp.StampFault.TheVariants as stamp
+use Rattle.ics_values.proofs.DateLemmas as dates
+use Rattle.ics_values.proofs.DayLemmas.{days_before_year-next, days_before_year_mono}
+use Rattle.ics_calendar.specs.declared.collected.Collected.{Collected}
+use Rattle.ics_calendar.specs.declared.component.Component.{Component}
+use Rattle.ics_calendar.specs.declared.component.Place.{Place}
+use Rattle.ics_calendar.specs.declared.component.Place.TheVariants as place
+use Rattle.ics_calendar.specs.declared.dated.Dated.{Dated}
+use Rattle.ics_calendar.specs.declared.fault.FaultKind.{FaultKind}
+use Rattle.ics_calendar.specs.declared.fault.FaultKind.TheVariants.{UnknownZone, BadEnd, MissingUid, MissingStart}
+use Rattle.ics_calendar.specs.declared.frame.Frame.{Frame}
+use Rattle.ics_calendar.specs.declared.name.Name.{Name}
+use Rattle.ics_calendar.specs.declared.name.Name.TheVariants as name
+use Rattle.ics_calendar.specs.declared.property.Property.{Property}
+use Rattle.ics_calendar.specs.declared.property.Property.TheVariants as property
+use Rattle.ics_calendar.specs.Event.{IsDayInYears, IsStampInYears, is_zoned, IsTime, longest, seconds_of, IsWithin, IsEnd, IsLasting, IsLength, IsEvent, HasZonesBelow, EndsBelow}
+use Rattle.ics_calendar.specs.Files.{time_of, length_of}
+use Rattle.ics_calendar.specs.Names.{name_of}
+use Rattle.ics_calendar.specs.Pass.{event_of, property_at, read_as, read_on, or_first, behind, closed, event_in, ended, stamp_fault, fault_at, fault_in, fault_on, unknown_zone, later_in, later_on, IsSoundStamp, IsSoundDuration, IsSound, AreSound, IsWhole}
+use Rattle.ics_calendar.specs.Values.{zone_name, dated_of, is_zoned_stamp, length_in_seconds, is_lasting, allowed, lasting_of, is_filled, same_zone, is_out, is_bad_end, is_bad_instant, both, ends_badly, ends_badly_later}
+
+-- THE YEARS.
+years : (y m d : ℕ) → is_date y m d ≡ true → 1 ≤ y → y ≤ 9899 → IsDayInYears (day_number y m d)
+years y m d h low high =
+    let p = dates.parts y m d h in
+    let civil : IsCivilDate (pos y) m d = (omega (arith, signed_arith), (p.month_low, p.month_high), (p.day_low, p.day_high)) in
+    let months = dates.days_of-months (pos y) (m - 1) (omega (arith, p.month_low, p.month_high)) in
+    let bound = day_of_year_bound (pos y) m d civil in
+    let first = days_before_year_mono 1 y low in
+    let next = days_before_year-next y in
+    let last = days_before_year_mono (suc y) 9900 (omega arith) in
+    record { first = omega (arith, signed_arith); last = omega (arith, signed_arith) }
+
+and-first : (a b : Bool) → (a && b) ≡ true → a ≡ true
+and-first true b h = refl
+and-first false b h = cc
+
+and-second : (a b : Bool) → (a && b) ≡ true → b ≡ true
+and-second true b h = h
+and-second false b h = cc
+
+dated-text : (a b d t : Bool) → ((a && d) || (b && d && t)) ≡ true → d ≡ true
+dated-text a b true t h = refl
+dated-text true true false t h = cc
+dated-text true false false t h = cc
+dated-text false true false t h = cc
+dated-text false false false t h = cc
+
+within : (k m n : ℕ) → (nat_le k n && nat_le n m) ≡ true → (k ≤ n) × (n ≤ m)
+within k m n h = grind (arith, nat_tests)
+
+said-years : (zoned : Bool) (text : List ℕ) → IsDayInYears (day_of text) → IsStampInYears (stamp_said zoned text)
+said-years zoned text h = by_form (is_date_form text) (is_utc_form text) zoned
+  where
+    by_form : (d u z : Bool) → IsStampInYears (cond d (Date (day_of text)) (cond u (Utc (local_of text)) (cond z (Zoned (local_of text)) (Floating (local_of text)))))
+    by_form true u z = h
+    by_form false true z = h
+    by_form false false true = h
+    by_form false false false = h
+
+pub stamp-years : (zoned : Bool) (text : List ℕ) (s : Stamp) → stamp_of zoned text ≡ Ok s → IsStampInYears s
+stamp-years zoned text s e = by_tests (is_stamp_text text) (is_stamp_year (year_of text)) refl refl e
+  where
+    by_tests : (t y : Bool) → is_stamp_text text ≡ t → is_stamp_year (year_of text) ≡ y → cond (not t) (Err stamp.BadStamp) (cond (not y) (Err stamp.YearRange) (Ok (stamp_said zoned text))) ≡ Ok s → IsStampInYears s
+    by_tests true true t y e =
+        let exists : date_exists text ≡ true = dated-text (is_date_form text) (is_date_time_form text) (date_exists text) (time_exists text) t in
+        let range : (1 ≤ year_of text) × (year_of text ≤ 9899) = within 1 9899 (year_of text) y in
+        let said : stamp_said zoned text ≡ s = cc in
+        subst (λ (s : Stamp). IsStampInYears s) said (said-years zoned text (years (year_of text) (number_at text 4 6) (number_at text 6 8) exists range.0 range.1))
+    by_tests true false t y e = cc
+    by_tests false y t h e = cc
+
+-- A STAMP AND A DURATION, where no fault stands on their line.
+no-zone : (t : Bool) → cond t (Some UnknownZone) None ≡ None → t ≡ false
+no-zone true e = cc
+no-zone false e = refl
+
+sound-dated : (params value : List ℕ) (more : Option FaultKind) → stamp_fault (dated_of params value).stamp more ≡ None → unknown_zone (dated_of params value) ≡ None → IsSoundStamp (dated_of params value).stamp
+sound-dated params value more = by_result (stamp_of (is_some (zone_name params)) value) refl
+  where
+    by_result : (r : Result Stamp StampFault) → stamp_of (is_some (zone_name params)) value ≡ r → stamp_fault r more ≡ None → cond (is_zoned_stamp r) (Some UnknownZone) None ≡ None → IsSoundStamp r
+    by_result (Ok s) e f l = (stamp-years (is_some (zone_name params)) value s e, no-zone (is_zoned s) l)
+    by_result (Err stamp.BadStamp) e f l = cc
+    by_result (Err stamp.YearRange) e f l = cc
+
+allowed-sound : (minus : Bool) (r : Result Duration DurationFault) → IsSoundDuration (allowed minus r)
+allowed-sound minus (Ok d) = by_test (is_lasting d) refl
+  where
+    by_test : (t : Bool) → is_lasting d ≡ t → IsSoundDuration (cond t (Ok d) (Err duration.BadDuration))
+    by_test true e = e
+    by_test false e = tt
+allowed-sound minus (Err duration.BadDuration) = tt
+allowed-sound true (Err duration.NumberTooLarge) = tt
+allowed-sound false (Err duration.NumberTooLarge) = tt
+
+-- A LINE keeps what is collected in order.
+first-dated : (o : Option Dated) (d : Dated) → IfSome o (λ d. IsSoundStamp d.stamp) → IsSoundStamp d.stamp → IfSome (or_first o d) (λ d. IsSoundStamp d.stamp)
+first-dated (Some c) d h k = h
+first-dated None d h k = k
+
+first-duration : (o : Option (Result Duration DurationFault)) (r : Result Duration DurationFault) → IfSome o IsSoundDuration → IsSoundDuration r → IfSome (or_first o r) IsSoundDuration
+first-duration (Some c) d h k = h
+first-duration None d h k = k
+
+closed-sound : (f : Frame) (fs : List Frame) → AreSound (f ∷ fs) → AreSound (closed (f ∷ fs))
+closed-sound f [] s = s
+closed-sound f (g ∷ gs) s = s.1
+
+abbrev Kept : Place → Name → Parts → Frame → List Frame → Type 0
+Kept q n v f fs = fault_at q (property_at q n v) f (length fs) ≡ None → later_in (property_at q n v) f ≡ None → AreSound (behind (property_at q n v) (f ∷ fs))
+
+kept-calendar : (n : Name) (v : Parts) (f : Frame) (fs : List Frame) → AreSound (f ∷ fs) → Kept place.Calendar n v f fs
+kept-calendar name.Begin v f fs s e l = (record { start = s.0.start; end = s.0.end; duration = s.0.duration }, s.1)
+kept-calendar name.End v f fs s e l = (record { start = s.0.start; end = s.0.end; duration = s.0.duration }, s.1)
+kept-calendar name.Uid v f fs s e l = (record { start = s.0.start; end = s.0.end; duration = s.0.duration }, s.1)
+kept-calendar name.Dtstart v f fs s e l = (record { start = s.0.start; end = s.0.end; duration = s.0.duration }, s.1)
+kept-calendar name.Dtend v f fs s e l = (record { start = s.0.start; end = s.0.end; duration = s.0.duration }, s.1)
+kept-calendar name.Duration v f fs s e l = (record { start = s.0.start; end = s.0.end; duration = s.0.duration }, s.1)
+kept-calendar name.Rrule v f fs s e l = (record { start = s.0.start; end = s.0.end; duration = s.0.duration }, s.1)
+kept-calendar name.RecurrenceId v f fs s e l = (record { start = s.0.start; end = s.0.end; duration = s.0.duration }, s.1)
+kept-calendar name.Sequence v f fs s e l = (record { start = s.0.start; end = s.0.end; duration = s.0.duration }, s.1)
+kept-calendar name.Rdate v f fs s e l = (record { start = s.0.start; end = s.0.end; duration = s.0.duration }, s.1)
+kept-calendar name.Exdate v f fs s e l = (record { start = s.0.start; end = s.0.end; duration = s.0.duration }, s.1)
+kept-calendar name.Exrule v f fs s e l = (record { start = s.0.start; end = s.0.end; duration = s.0.duration }, s.1)
+kept-calendar name.Version v f fs s e l = (record { start = s.0.start; end = s.0.end; duration = s.0.duration }, s.1)
+kept-calendar name.Summary v f fs s e l = (record { start = s.0.start; end = s.0.end; duration = s.0.duration }, s.1)
+kept-calendar name.Location v f fs s e l = (record { start = s.0.start; end = s.0.end; duration = s.0.duration }, s.1)
+kept-calendar name.Description v f fs s e l = (record { start = s.0.start; end = s.0.end; duration = s.0.duration }, s.1)
+kept-calendar name.Status v f fs s e l = (record { start = s.0.start; end = s.0.end; duration = s.0.duration }, s.1)
+kept-calendar name.Other v f fs s e l = (record { start = s.0.start; end = s.0.end; duration = s.0.duration }, s.1)
+
+kept-event : (n : Name) (v : Parts) (f : Frame) (fs : List Frame) → AreSound (f ∷ fs) → Kept place.Event n v f fs
+kept-event name.Begin v f fs s e l = (record { start = s.0.start; end = s.0.end; duration = s.0.duration }, s.1)
+kept-event name.End v f fs s e l = (record { start = s.0.start; end = s.0.end; duration = s.0.duration }, s.1)
+kept-event name.Uid v f fs s e l = (record { start = s.0.start; end = s.0.end; duration = s.0.duration }, s.1)
+kept-event name.Dtstart v f fs s e l = (record { start = first-dated f.collected.start (dated_of v.params v.value) s.0.start (sound-dated v.params v.value _ e l); end = s.0.end; duration = s.0.duration }, s.1)
+kept-event name.Dtend v f fs s e l = (record { start = s.0.start; end = first-dated f.collected.end (dated_of v.params v.value) s.0.end (sound-dated v.params v.value _ e l); duration = s.0.duration }, s.1)
+kept-event name.Duration v f fs s e l = (record { start = s.0.start; end = s.0.end; duration = first-duration f.collected.duration (lasting_of v.value) s.0.duration (allowed-sound (begins is_minus v.value) (duration_of v.value)) }, s.1)
+kept-event name.Rrule v f fs s e l = (record { start = s.0.start; end = s.0.end; duration = s.0.duration }, s.1)
+kept-event name.RecurrenceId v f fs s e l = (record { start = s.0.start; end = s.0.end; duration = s.0.duration }, s.1)
+kept-event name.Sequence v f fs s e l = (record { start = s.0.start; end = s.0.end; duration = s.0.duration }, s.1)
+kept-event name.Rdate v f fs s e l = (record { start = s.0.start; end = s.0.end; duration = s.0.duration }, s.1)
+kept-event name.Exdate v f fs s e l = (record { start = s.0.start; end = s.0.end; duration = s.0.duration }, s.1)
+kept-event name.Exrule v f fs s e l = (record { start = s.0.start; end = s.0.end; duration = s.0.duration }, s.1)
+kept-event name.Version v f fs s e l = (record { start = s.0.start; end = s.0.end; duration = s.0.duration }, s.1)
+kept-event name.Summary v f fs s e l = (record { start = s.0.start; end = s.0.end; duration = s.0.duration }, s.1)
+kept-event name.Location v f fs s e l = (record { start = s.0.start; end = s.0.end; duration = s.0.duration }, s.1)
+kept-event name.Description v f fs s e l = (record { start = s.0.start; end = s.0.end; duration = s.0.duration }, s.1)
+kept-event name.Status v f fs s e l = (record { start = s.0.start; end = s.0.end; duration = s.0.duration }, s.1)
+kept-event name.Other v f fs s e l = (record { start = s.0.start; end = s.0.end; duration = s.0.duration }, s.1)
+
+kept-at : (q : Place) (n : Name) (v : Parts) (f : Frame) (fs : List Frame) → AreSound (f ∷ fs) → Kept q n v f fs
+kept-at place.Outside n v f fs s e l = (record { start = s.0.start; end = s.0.end; duration = s.0.duration }, s.1)
+kept-at place.Calendar n v f fs s e l = kept-calendar n v f fs s e l
+kept-at place.Event n v f fs s e l = kept-event n v f fs s e l
+kept-at place.Elsewhere n v f fs s e l = (record { start = s.0.start; end = s.0.end; duration = s.0.duration }, s.1)
+
+kept-read : (n : Name) (v : Parts) (f : Frame) (fs : List Frame) → AreSound (f ∷ fs) → fault_in (read_as n f v) f (length fs) ≡ None → later_in (read_as n f v) f ≡ None → AreSound (behind (read_as n f v) (f ∷ fs))
+kept-read name.Begin v f fs s e l = (record { start = tt; end = tt; duration = tt }, s)
+kept-read name.End v f fs s e l = closed-sound f fs s
+kept-read name.Uid v f fs s e l = kept-at f.place name.Uid v f fs s e l
+kept-read name.Dtstart v f fs s e l = kept-at f.place name.Dtstart v f fs s e l
+kept-read name.Dtend v f fs s e l = kept-at f.place name.Dtend v f fs s e l
+kept-read name.Duration v f fs s e l = kept-at f.place name.Duration v f fs s e l
+kept-read name.Rrule v f fs s e l = kept-at f.place name.Rrule v f fs s e l
+kept-read name.RecurrenceId v f fs s e l = kept-at f.place name.RecurrenceId v f fs s e l
+kept-read name.Sequence v f fs s e l = kept-at f.place name.Sequence v f fs s e l
+kept-read name.Rdate v f fs s e l = kept-at f.place name.Rdate v f fs s e l
+kept-read name.Exdate v f fs s e l = kept-at f.place name.Exdate v f fs s e l
+kept-read name.Exrule v f fs s e l = kept-at f.place name.Exrule v f fs s e l
+kept-read name.Version v f fs s e l = kept-at f.place name.Version v f fs s e l
+kept-read name.Summary v f fs s e l = kept-at f.place name.Summary v f fs s e l
+kept-read name.Location v f fs s e l = kept-at f.place name.Location v f fs s e l
+kept-read name.Description v f fs s e l = kept-at f.place name.Description v f fs s e l
+kept-read name.Status v f fs s e l = kept-at f.place name.Status v f fs s e l
+kept-read name.Other v f fs s e l = kept-at f.place name.Other v f fs s e l
+
+pub sound-behind : (frames : List Frame) (v : Parts) → fault_on (read_on frames v) frames ≡ None → later_on (read_on frames v) frames ≡ None → AreSound frames → AreSound (behind (read_on frames v) frames)
+sound-behind [] v e l s = tt
+sound-behind (f ∷ fs) v e l s = kept-read (name_of (map upper v.name)) v f fs s e l
+
+-- AN EVENT THAT ENDS is whole.
+cond-none : (t : Bool) (k : FaultKind) → cond t (Some k) None ≡ None → t ≡ false
+cond-none true k e = cc
+cond-none false k e = refl
+
+ended-whole : (c : Component) (q : Place) (own had : Collected) (depth : ℕ) → fault_in (property.End true) (record { component = c; place = q; collected = own }) depth ≡ None →
+    later_in (property.End true) (record { component = c; place = q; collected = own }) ≡ None → IsSound own → event_in (record { component = c; place = q; collected = own }) ≡ Some had → IsWhole had
+ended-whole c place.Event own had depth e l s h =
+    let same : own ≡ had = cc in
+    subst (λ (x : Collected). IsWhole x) same (record { sound = s; no_fault = e; no_later = cond-none (ends_badly_later own.start own.end) BadEnd l })
+ended-whole c place.Outside own had depth e l s h = cc
+ended-whole c place.Calendar own had depth e l s h = cc
+ended-whole c place.Elsewhere own had depth e l s h = cc
+
+pub whole : (p : Property) (frames : List Frame) (had : Collected) → fault_on p frames ≡ None → later_on p frames ≡ None → AreSound frames → ended p frames ≡ Some had → IsWhole had
+whole (property.End true) [] had e l s h = cc
+whole (property.End true) (f ∷ []) had e l s h = cc
+whole (property.End true) (f ∷ g ∷ gs) had e l s h = ended-whole f.component f.place f.collected had (length (g ∷ gs)) e l s.0 h
+whole (property.End false) frames had e l s h = cc
+whole _ frames had e l s h = cc
+
+-- AND SO IS ITS EVENT.
+day-zero : IsDayInYears (pos 0)
+day-zero = record { first = omega (arith, signed_arith); last = omega (arith, signed_arith) }
+
+stamp-time : (r : Result Stamp StampFault) → IsSoundStamp r → IsTime (record { stamp = unwrap_or (result_ok r) (Date (pos 0)); zone = None })
+stamp-time (Ok s) h = record { years = h.0; zone = sym h.1 }
+stamp-time (Err f) h = absurd h
+
+time-sound : (o : Option Dated) → IfSome o (λ d. IsSoundStamp d.stamp) → IsTime (time_of o)
+time-sound None h = record { years = day-zero; zone = refl }
+time-sound (Some d) h = stamp-time d.stamp h
+
+out-within : (start end : ℤ) → is_out start end ≡ false → IsWithin start end
+out-within start end h = by_tests (int_lt end start) (int_lt (start +ℤ pos longest) end) refl refl h
+  where
+    by_tests : (a b : Bool) → int_lt end start ≡ a → int_lt (start +ℤ pos longest) end ≡ b → (a || b) ≡ false → IsWithin start end
+    by_tests false false p q h = record { forward = omega (arith, ints); short = omega (arith, ints) }
+    by_tests false true p q h = cc
+    by_tests true b p q h = cc
+
+end-is : (one_zone : Bool) (a b : Stamp) → is_bad_end one_zone a b ≡ false → is_bad_instant a b ≡ false → IsEnd a b
+end-is z (Date a) (Date b) e l = out-within (a *ℤ pos 86_400) (b *ℤ pos 86_400) e
+end-is z (Floating a) (Floating b) e l = out-within (seconds_of a) (seconds_of b) e
+end-is z (Utc a) (Utc b) e l = out-within (seconds_of a) (seconds_of b) l
+end-is z (Utc a) (Zoned b) e l = tt
+end-is z (Zoned a) (Utc b) e l = tt
+end-is z (Zoned a) (Zoned b) e l = tt
+end-is z (Date a) (Floating b) e l = cc
+end-is z (Date a) (Utc b) e l = cc
+end-is z (Date a) (Zoned b) e l = cc
+end-is z (Floating a) (Date b) e l = cc
+end-is z (Floating a) (Utc b) e l = cc
+end-is z (Floating a) (Zoned b) e l = cc
+end-is z (Utc a) (Date b) e l = cc
+end-is z (Utc a) (Floating b) e l = cc
+end-is z (Zoned a) (Date b) e l = cc
+end-is z (Zoned a) (Floating b) e l = cc
+
+ends-sound : (one_zone : Bool) (r q : Result Stamp StampFault) → IsSoundStamp r → IsSoundStamp q → both (result_ok r) (result_ok q) (is_bad_end one_zone) ≡ false → both (result_ok r) (result_ok q) is_bad_instant ≡ false →
+    IsEnd (unwrap_or (result_ok r) (Date (pos 0))) (unwrap_or (result_ok q) (Date (pos 0)))
+ends-sound z (Ok a) (Ok b) h k e l = end-is z a b e l
+ends-sound z (Err f) q h k e l = absurd h
+ends-sound z (Ok a) (Err f) h k e l = absurd k
+
+lasting-is : (d : Duration) → is_lasting d ≡ true → IsLasting d
+lasting-is d h = let t = by_tests d.negative (length_in_seconds d) h in record { forward = t.0; short = t.1 }
+  where
+    by_tests : (n : Bool) (k : ℕ) → ((not n || (k == 0)) && nat_le k longest) ≡ true → (IsTrue n → k ≡ 0) × (k ≤ longest)
+    by_tests true k h = grind (arith, nat_tests)
+    by_tests false k h = grind (arith, nat_tests)
+
+length-sound : (start end : Option Dated) (duration : Option (Result Duration DurationFault)) → is_some start ≡ true → IfSome start (λ d. IsSoundStamp d.stamp) → IfSome end (λ d. IsSoundStamp d.stamp) → IfSome duration IsSoundDuration →
+    ends_badly start end ≡ false → ends_badly_later start end ≡ false → IsLength (time_of start).stamp (length_of end duration)
+length-sound None end duration t a b c e l = cc
+length-sound (Some s) (Some d) duration t a b c e l = (time-sound (Some d) b, ends-sound (same_zone s.zone d.zone) s.stamp d.stamp a b e l)
+length-sound (Some s) None None t a b c e l = tt
+length-sound (Some s) None (Some (Err f)) t a b c e l = tt
+length-sound (Some s) None (Some (Ok d)) t a b c e l = lasting-is d c
+
+filled-not-empty : (o : Option (List ℕ)) → is_filled o ≡ true → unwrap_or o [] ≢ []
+filled-not-empty None h = cc
+filled-not-empty (Some []) h = cc
+filled-not-empty (Some (b ∷ bs)) h = λ e. cc
+
+-- what no fault at the END says
+at-end : (f s b e : Bool) → cond (not f) (Some MissingUid) (cond (not s) (Some MissingStart) (cond (b || e) (Some BadEnd) None)) ≡ None → (f ≡ true) × (s ≡ true) × (e ≡ false)
+at-end false s b e h = cc
+at-end true false b e h = cc
+at-end true true true e h = cc
+at-end true true false true h = cc
+at-end true true false false h = (refl, refl, refl)
+
+pub event-is : (had : Collected) → IsWhole had → IsEvent (event_of had)
+event-is had w =
+    let tests = at-end (is_filled had.uid) (is_some had.start) (is_some had.end && is_some had.duration) (ends_badly had.start had.end) w.no_fault in
+    record {
+      named = filled-not-empty had.uid tests.0;
+      start = time-sound had.start w.sound.start;
+      length = length-sound had.start had.end had.duration tests.1 w.sound.start w.sound.end w.sound.duration tests.2 w.no_later;
+    }
+
+-- and it names no zone
+ends-below : (end : Option Dated) (duration : Option (Result Duration DurationFault)) → EndsBelow 0 (length_of end duration)
+ends-below (Some d) duration = tt
+ends-below None None = tt
+ends-below None (Some (Ok d)) = tt
+ends-below None (Some (Err f)) = tt
+
+pub zones-below : (had : Collected) → HasZonesBelow 0 (event_of had)
+zones-below had = record { start = tt; length = ends-below had.end had.duration }

@@ -1,0 +1,80 @@
+-- WHICH FAULT STANDS ON WHICH LINE: one case for each kind (RFC 5545, sections 3.1, 3.4, 3.6.1 and 3.8).
+use Rattle.std.specs.Prelude.{ℕ, Bool, false, ◌&&◌, ◌||◌, not, nat_le, List, [], ◌∷◌, length, codes, Option, is_some, is_none, option_map, Result}
+use Rattle.std.specs.Str.{bytes_eq}
+use Rattle.ics_values.specs.Integers.{integer_of}
+use Rattle.ics_values.specs.Plain.{text_of}
+use Rattle.ics_values.specs.declared.duration.Duration.{Duration}
+use Rattle.ics_values.specs.declared.duration.DurationFault.{DurationFault}
+use Rattle.ics_calendar.specs.declared.dated.Dated.{Dated}
+use Rattle.ics_calendar.specs.declared.fault.FaultKind.{FaultKind}
+use Rattle.ics_calendar.specs.declared.fault.FaultKind.TheVariants.{BadLine, BadStamp, BadDuration, YearRange, NumberTooLarge, NotCalendar, BadNesting, TooDeep, MissingUid, MissingStart, Repeated, BadEnd, UnknownZone, ThisAndFuture, Exrule, OldVersion, NotYet}
+use Rattle.ics_calendar.specs.Placed.{Placed, property_name, value, params_of, is_named, is_one_of, param, is_begin, is_end, is_outside, in_calendar, in_event, begins, is_closing, ends_event, has, first_named}
+use Rattle.ics_calendar.specs.Values.{dated_of, is_bad_stamp, is_far_stamp, is_zoned_stamp, lasting_of, is_bad_duration, is_large_duration, is_large_integer, is_filled, ends_badly, ends_badly_later}
+
+-- the properties of an event that hold one stamp, those that it has at most once, and those that are not read yet
+abbrev pub stamp_names : List (List ℕ)
+stamp_names = codes "DTSTART" ∷ codes "DTEND" ∷ codes "RECURRENCE-ID" ∷ []
+
+abbrev pub single_names : List (List ℕ)
+single_names = codes "UID" ∷ codes "DTSTART" ∷ codes "DTEND" ∷ codes "DURATION" ∷ codes "RRULE" ∷ codes "RECURRENCE-ID" ∷ codes "SEQUENCE" ∷ []
+
+abbrev pub unread_names : List (List ℕ)
+unread_names = codes "RRULE" ∷ codes "RDATE" ∷ codes "EXDATE" ∷ codes "RECURRENCE-ID" ∷ []
+
+-- a property of an event with one of these names
+abbrev pub is_event_property : List (List ℕ) → Placed → Bool
+is_event_property names line = in_event line && is_one_of names line
+
+abbrev pub is_property : List ℕ → Placed → Bool
+is_property name line = in_event line && is_named name line
+
+-- what a line says, read as a stamp or as a duration
+abbrev pub dated_on : Placed → Dated
+dated_on line = dated_of (params_of line.content) (value line)
+
+abbrev pub lasting_on : Placed → Result Duration DurationFault
+lasting_on line = lasting_of (value line)
+
+-- what the first of the lines with that name says
+abbrev pub first_text : List ℕ → List Placed → Option (List ℕ)
+first_text name lines = option_map (λ line. text_of (value line)) (first_named name lines)
+
+abbrev pub first_dated : List ℕ → List Placed → Option Dated
+first_dated name lines = option_map dated_on (first_named name lines)
+
+-- THE FIRST ROUND. Does this fault stand on the line? The lines beside it are those before it that stand directly in the same component.
+abbrev pub stands : FaultKind → List Placed → Placed → Bool
+stands BadLine beside line = is_none line.content
+stands BadStamp beside line = is_event_property stamp_names line && is_bad_stamp (dated_on line).stamp
+stands BadDuration beside line = is_property (codes "DURATION") line && is_bad_duration (lasting_on line)
+stands YearRange beside line = is_event_property stamp_names line && is_far_stamp (dated_on line).stamp
+stands NumberTooLarge beside line =
+    (is_property (codes "DURATION") line && is_large_duration (lasting_on line))
+    || (is_property (codes "SEQUENCE") line && is_large_integer (integer_of (value line)))
+stands NotCalendar beside line = is_outside line && not (begins (codes "VCALENDAR") line)
+stands BadNesting beside line = is_end line && not (is_closing line)
+stands TooDeep beside line = is_begin line && nat_le 32 (length line.path)
+stands MissingUid beside line = ends_event line && not (is_filled (first_text (codes "UID") beside))
+stands MissingStart beside line = ends_event line && not (has (codes "DTSTART") beside)
+stands Repeated beside line = is_event_property single_names line && has (property_name line.content) beside
+stands BadEnd beside line =
+    ends_event line
+    && ((has (codes "DTEND") beside && has (codes "DURATION") beside)
+    || ends_badly (first_dated (codes "DTSTART") beside) (first_dated (codes "DTEND") beside))
+stands ThisAndFuture beside line = is_property (codes "RECURRENCE-ID") line && is_some (param (codes "RANGE") line)
+stands Exrule beside line = is_property (codes "EXRULE") line
+stands OldVersion beside line = in_calendar line && is_named (codes "VERSION") line && bytes_eq (value line) (codes "1.0")
+stands NotYet beside line = is_event_property unread_names line || (in_calendar line && begins (codes "VTIMEZONE") line)
+stands _ beside line = false
+
+-- THE SECOND ROUND, of zones and instants. (No zone is known yet.)
+abbrev pub stands_later : FaultKind → List Placed → Placed → Bool
+stands_later BadEnd beside line = ends_event line && ends_badly_later (first_dated (codes "DTSTART") beside) (first_dated (codes "DTEND") beside)
+stands_later UnknownZone beside line = is_event_property stamp_names line && is_zoned_stamp (dated_on line).stamp
+stands_later _ beside line = false
+
+-- the kinds of faults on lines, the least first
+abbrev pub kinds : List FaultKind
+kinds =
+    BadLine ∷ BadStamp ∷ BadDuration ∷ YearRange ∷ NumberTooLarge ∷ NotCalendar ∷ BadNesting ∷ TooDeep ∷ MissingUid ∷ MissingStart ∷ Repeated ∷ BadEnd ∷ UnknownZone ∷ ThisAndFuture ∷ Exrule ∷ OldVersion
+    ∷ NotYet ∷ []

@@ -1,0 +1,11 @@
+pub mod Event
+pub mod FaultNames
+pub mod Names
+pub mod Components
+pub mod Placed
+pub mod Values
+pub mod Faults
+pub mod FirstFault
+pub mod Files
+pub mod Pass
+pub mod Seen

@@ -1,0 +1,27 @@
+-- The names of the properties that a file is read for (RFC 5545, section 3.8).
+use Rattle.std.specs.Prelude.{ℕ, List, codes, if◌then◌else◌}
+use Rattle.std.specs.Str.{bytes_eq}
+use Rattle.ics_calendar.specs.declared.name.Name.{Name}
+use Rattle.ics_calendar.specs.declared.name.Name.TheVariants as name
+
+-- what a name in upper case stands for
+abbrev pub name_of : List ℕ → Name
+name_of u =
+    if bytes_eq u (codes "BEGIN") then name.Begin
+    else if bytes_eq u (codes "END") then name.End
+    else if bytes_eq u (codes "UID") then name.Uid
+    else if bytes_eq u (codes "DTSTART") then name.Dtstart
+    else if bytes_eq u (codes "DTEND") then name.Dtend
+    else if bytes_eq u (codes "DURATION") then name.Duration
+    else if bytes_eq u (codes "RRULE") then name.Rrule
+    else if bytes_eq u (codes "RECURRENCE-ID") then name.RecurrenceId
+    else if bytes_eq u (codes "SEQUENCE") then name.Sequence
+    else if bytes_eq u (codes "RDATE") then name.Rdate
+    else if bytes_eq u (codes "EXDATE") then name.Exdate
+    else if bytes_eq u (codes "EXRULE") then name.Exrule
+    else if bytes_eq u (codes "VERSION") then name.Version
+    else if bytes_eq u (codes "SUMMARY") then name.Summary
+    else if bytes_eq u (codes "LOCATION") then name.Location
+    else if bytes_eq u (codes "DESCRIPTION") then name.Description
+    else if bytes_eq u (codes "STATUS") then name.Status
+    else name.Other

@@ -1,0 +1,30 @@
+-- What the answer of the pass, and that of a file, says.
+use Rattle.std.specs.Prelude.{◌≡◌, ℕ, ◌+◌, ◌<◌, ◌^◌, List, [], ◌∷◌, Option, Some, None, Result, Ok, Err}
+use Rattle.ics_text.specs.Unfolded.{Line}
+use Rattle.ics_calendar.specs.declared.fault.FileFault.{FileFault}
+use Rattle.ics_calendar.specs.declared.fault.FileFault.TheVariants.{Memory, At}
+use Rattle.ics_calendar.specs.declared.fault.FaultKind.{FaultKind}
+use Rattle.ics_calendar.specs.Event.{FileSeen}
+use Rattle.ics_calendar.specs.FirstFault.{Fault}
+
+-- The answer is the file's events, or its first fault, or that memory is refused.
+abbrev pub SaysFile : Result FileSeen FileFault → Result FileSeen Fault → Type 0
+SaysFile (Ok events) file = file ≡ Ok events
+SaysFile (Err Memory) file = Unit {0}
+SaysFile (Err (At line kind)) file = file ≡ Err (record { line = line; kind = kind })
+
+abbrev pub seen_fault : ℕ × FaultKind → Fault
+seen_fault f = record { line = f.0; kind = f.1 }
+
+abbrev pub seen_answer : Result FileSeen (ℕ × FaultKind) → Result FileSeen Fault
+seen_answer (Ok events) = Ok events
+seen_answer (Err fault) = Err (seen_fault fault)
+
+-- there is a number after that of each line
+abbrev pub NumbersFit : List Line → Type 0
+NumbersFit [] = Unit {0}
+NumbersFit (line ∷ lines) = (line.number + 1 < 2 ^ 64) × NumbersFit lines
+
+abbrev pub LastFits : Option ℕ → Type 0
+LastFits None = Unit {0}
+LastFits (Some n) = n + 1 < 2 ^ 64

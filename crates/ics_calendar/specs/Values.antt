@@ -1,0 +1,125 @@
+-- What the properties of an event say (RFC 5545, sections 3.3 and 3.8).
+use Rattle.std.specs.Prelude.{ℕ, ◌+◌, ◌*◌, Bool, true, false, ◌&&◌, ◌||◌, not, ◌==◌, nat_le, List, ◌∷◌, map, codes, Option, Some, None, is_some, Result, Ok, Err, ℤ, pos, ◌+ℤ◌, ◌*ℤ◌, int_lt, if◌then◌else◌}
+use Rattle.std.specs.Result.{result_ok}
+use Rattle.std.specs.Str.{bytes_eq}
+use Rattle.ics_text.specs.Bytes.{upper}
+use Rattle.ics_text.specs.Contents.{param_of}
+use Rattle.ics_values.specs.Durations.{duration_of}
+use Rattle.ics_values.specs.Texts.{begins, is_minus}
+use Rattle.ics_values.specs.Stamps.{stamp_of}
+use Rattle.ics_values.specs.declared.duration.Duration.{Duration}
+use Rattle.ics_values.specs.declared.stamp.Stamp.{Stamp}
+use Rattle.ics_values.specs.declared.stamp.Stamp.TheVariants.{Date, Floating, Utc, Zoned}
+use Rattle.ics_values.specs.declared.stamp.StampFault.{StampFault}
+use Rattle.ics_values.specs.declared.stamp.StampFault.TheVariants as stamp
+use Rattle.ics_values.specs.declared.duration.DurationFault.{DurationFault}
+use Rattle.ics_values.specs.declared.duration.DurationFault.TheVariants as duration
+use Rattle.ics_values.specs.declared.integer.IntegerFault.{IntegerFault}
+use Rattle.ics_values.specs.declared.integer.IntegerFault.TheVariants as integer
+use Rattle.ics_calendar.specs.declared.dated.Dated.{Dated}
+use Rattle.ics_calendar.specs.Event.{longest, seconds_of, is_zoned}
+
+-- the name of the zone that the parameters of a line give
+abbrev pub zone_name : List ℕ → Option (List ℕ)
+zone_name params = param_of (codes "TZID") params
+
+-- the stamp of a line with these parameters and this value, a zoned one only beside a TZID
+abbrev pub dated_of : List ℕ → List ℕ → Dated
+dated_of params value = record { stamp = stamp_of (is_some (zone_name params)) value; zone = zone_name params }
+
+abbrev pub is_bad_stamp : Result Stamp StampFault → Bool
+is_bad_stamp (Err stamp.BadStamp) = true
+is_bad_stamp _ = false
+
+abbrev pub is_far_stamp : Result Stamp StampFault → Bool
+is_far_stamp (Err stamp.YearRange) = true
+is_far_stamp _ = false
+
+-- a local stamp beside a TZID
+abbrev pub is_zoned_stamp : Result Stamp StampFault → Bool
+is_zoned_stamp (Ok s) = is_zoned s
+is_zoned_stamp (Err fault) = false
+
+abbrev pub length_in_seconds : Duration → ℕ
+length_in_seconds d = 86_400 * d.days + d.seconds
+
+-- not negative, but for zero, nor longer than the longest event
+abbrev pub is_lasting : Duration → Bool
+is_lasting d = (not d.negative || (length_in_seconds d == 0)) && nat_le (length_in_seconds d) longest
+
+-- a duration that an event may have, where a negative one is bad also if its numbers are too large
+abbrev pub allowed : Bool → Result Duration DurationFault → Result Duration DurationFault
+allowed minus (Ok d) = if is_lasting d then Ok d else Err duration.BadDuration
+allowed minus (Err duration.BadDuration) = Err duration.BadDuration
+allowed minus (Err duration.NumberTooLarge) = if minus then Err duration.BadDuration else Err duration.NumberTooLarge
+
+-- the duration of an event
+abbrev pub lasting_of : List ℕ → Result Duration DurationFault
+lasting_of text = allowed (begins is_minus text) (duration_of text)
+
+abbrev pub is_bad_duration : Result Duration DurationFault → Bool
+is_bad_duration (Err duration.BadDuration) = true
+is_bad_duration _ = false
+
+abbrev pub is_large_duration : Result Duration DurationFault → Bool
+is_large_duration (Err duration.NumberTooLarge) = true
+is_large_duration _ = false
+
+abbrev pub is_large_integer : Result ℕ IntegerFault → Bool
+is_large_integer (Err integer.NumberTooLarge) = true
+is_large_integer _ = false
+
+-- a SEQUENCE that is no number counts as 0
+abbrev pub ok_or_zero : Result ℕ IntegerFault → ℕ
+ok_or_zero (Ok n) = n
+ok_or_zero (Err fault) = 0
+
+abbrev pub is_cancelled : List ℕ → Bool
+is_cancelled text = bytes_eq (map upper text) (codes "CANCELLED")
+
+-- a text that is there and not empty
+abbrev pub is_filled : Option (List ℕ) → Bool
+is_filled (Some (b ∷ bs)) = true
+is_filled _ = false
+
+-- what stands in a DTSTART or DTEND that is there and in order
+abbrev pub stamp_in : Option Dated → Option Stamp
+stamp_in None = None
+stamp_in (Some dated) = result_ok dated.stamp
+
+abbrev pub zone_in : Option Dated → Option (List ℕ)
+zone_in None = None
+zone_in (Some dated) = dated.zone
+
+abbrev pub same_zone : Option (List ℕ) → Option (List ℕ) → Bool
+same_zone (Some a) (Some b) = bytes_eq a b
+same_zone _ _ = false
+
+-- before the start, or more than the longest event after it
+abbrev pub is_out : ℤ → ℤ → Bool
+is_out start end = int_lt end start || int_lt (start +ℤ pos longest) end
+
+-- Which ends are bad before any zone is known: one of another kind than the start, and one out of its reach where both are dates, floating, or of one TZID.
+abbrev pub is_bad_end : Bool → Stamp → Stamp → Bool
+is_bad_end one_zone (Date a) (Date b) = is_out (a *ℤ pos 86_400) (b *ℤ pos 86_400)
+is_bad_end one_zone (Floating a) (Floating b) = is_out (seconds_of a) (seconds_of b)
+is_bad_end one_zone (Zoned a) (Zoned b) = one_zone && is_out (seconds_of a) (seconds_of b)
+is_bad_end one_zone (Zoned a) (Utc b) = false
+is_bad_end one_zone (Utc a) (Zoned b) = false
+is_bad_end one_zone (Utc a) (Utc b) = false
+is_bad_end one_zone _ _ = true
+
+-- Which ends are bad as instants. (No zone is known yet, so these are times of UTC.)
+abbrev pub is_bad_instant : Stamp → Stamp → Bool
+is_bad_instant (Utc a) (Utc b) = is_out (seconds_of a) (seconds_of b)
+is_bad_instant _ _ = false
+
+abbrev pub both : Option Stamp → Option Stamp → (Stamp → Stamp → Bool) → Bool
+both (Some a) (Some b) test = test a b
+both _ _ test = false
+
+abbrev pub ends_badly : Option Dated → Option Dated → Bool
+ends_badly start end = both (stamp_in start) (stamp_in end) (is_bad_end (same_zone (zone_in start) (zone_in end)))
+
+abbrev pub ends_badly_later : Option Dated → Option Dated → Bool
+ends_badly_later start end = both (stamp_in start) (stamp_in end) is_bad_instant

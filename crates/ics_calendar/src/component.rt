@@ -1,0 +1,67 @@
+//! Components and where their lines stand (RFC 5545, sections 3.4 and 3.6).
+ghost use Rattle.std.specs.Prelude.{◌≡◌, map, IfOk};
+ghost use Rattle.std.specs.Str.{bytes_eq};
+ghost use Rattle.ics_text.specs.Bytes.{upper};
+ghost use Rattle.ics_calendar.specs.Components.{component_of, component_name, place_in};
+
+use crate::text::Text;
+use crate::words::is_word;
+use std::alloc::{AllocError, Global};
+
+/// A component: one of those that a file is read for, or another by its name in upper case.
+#[derive(Drop)]
+pub enum Component {
+    Calendar,
+    Event,
+    Zone,
+    Other(Text),
+}
+
+/// Where a line stands: outside all components, directly in a calendar, directly in an event of one, or anywhere else.
+#[derive(Clone, Copy, PartialEq, Eq)]
+pub enum Place {
+    Outside,
+    Calendar,
+    Event,
+    Elsewhere,
+}
+
+impl Component {
+    /// The component that the value of a BEGIN line names.
+    pub fn named(alloc: Global, name: &[u8]) -> Result<Component, AllocError>
+        ensures { IfOk result (λ component. component ≡ component_of (map upper name.now)) }
+    {
+        if is_word(name, b"VCALENDAR") {
+            Ok(Component::Calendar)
+        } else if is_word(name, b"VEVENT") {
+            Ok(Component::Event)
+        } else if is_word(name, b"VTIMEZONE") {
+            Ok(Component::Zone)
+        } else {
+            Ok(Component::Other(Text::upper_case(alloc, name)?))
+        }
+    }
+
+    /// Whether this is the component that the value of an END line names.
+    pub fn is_named(&self, name: &[u8]) -> bool
+        ensures { result ≡ bytes_eq (map upper name.now) (component_name self.now) }
+    {
+        match self {
+            Component::Calendar => is_word(name, b"VCALENDAR"),
+            Component::Event => is_word(name, b"VEVENT"),
+            Component::Zone => is_word(name, b"VTIMEZONE"),
+            Component::Other(word) => is_word(name, word.as_slice()),
+        }
+    }
+
+    /// Where the lines of the component stand, if it begins on a line that stands there.
+    pub fn place_in(&self, place: Place) -> Place
+        ensures { result ≡ place_in place self.now }
+    {
+        match (place, self) {
+            (Place::Outside, Component::Calendar) => Place::Calendar,
+            (Place::Calendar, Component::Event) => Place::Event,
+            _ => Place::Elsewhere,
+        }
+    }
+}

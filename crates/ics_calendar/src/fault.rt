@@ -1,0 +1,134 @@
+//! Why a file is refused.
+ghost use Rattle.std.specs.Prelude.{◌≡◌};
+ghost use Rattle.ics_calendar.specs.FaultNames.{kind_name, fault_name};
+
+use thiserror::Error;
+
+/// What is wrong on a line. Of two faults on one line the earlier variant counts.
+#[derive(Clone, Copy, Debug, PartialEq, Eq, Error)]
+pub enum FaultKind {
+    /// A line that is no content line.
+    #[error("BadLine")]
+    BadLine,
+    /// The file begins with a space or a tab.
+    #[error("BadFold")]
+    BadFold,
+    /// A stamp of none of its forms, or of no date or time that there is.
+    #[error("BadStamp")]
+    BadStamp,
+    /// A text that is no duration, or a negative duration, or one past 36,525 days.
+    #[error("BadDuration")]
+    BadDuration,
+    /// A text that is no offset from UTC.
+    #[error("BadOffset")]
+    BadOffset,
+    /// A text that is no recurrence rule, or a part of it out of its range.
+    #[error("BadRule")]
+    BadRule,
+    /// A stamp outside the years 0001 to 9899.
+    #[error("YearRange")]
+    YearRange,
+    /// A number past 4,294,967,295 in a value that is otherwise in order.
+    #[error("NumberTooLarge")]
+    NumberTooLarge,
+    /// A time zone without observances.
+    #[error("NoObservance")]
+    NoObservance,
+    /// A property of a time zone or of an observance that is missing, there twice, or of another form.
+    #[error("ObservanceField")]
+    ObservanceField,
+    /// An observance with two recurrence rules, or with one finer than daily.
+    #[error("ZoneRule")]
+    ZoneRule,
+    /// A line outside a calendar, or a file without lines.
+    #[error("NotCalendar")]
+    NotCalendar,
+    /// An END that does not match the innermost BEGIN, or a file that ends inside a component.
+    #[error("BadNesting")]
+    BadNesting,
+    /// A component at depth 33.
+    #[error("TooDeep")]
+    TooDeep,
+    /// An event without a UID, or with an empty one.
+    #[error("MissingUid")]
+    MissingUid,
+    /// An event without a DTSTART.
+    #[error("MissingStart")]
+    MissingStart,
+    /// A property that an event may have once, for the second time.
+    #[error("Repeated")]
+    Repeated,
+    /// A DTEND beside a DURATION, of another kind than the DTSTART, before it, or more than 36,525 days after it.
+    #[error("BadEnd")]
+    BadEnd,
+    /// A TZID that no time zone of the calendar defines.
+    #[error("UnknownZone")]
+    UnknownZone,
+    /// A RECURRENCE-ID with a RANGE.
+    #[error("ThisAndFuture")]
+    ThisAndFuture,
+    /// An EXRULE in an event.
+    #[error("Exrule")]
+    Exrule,
+    /// A calendar of version 1.0.
+    #[error("OldVersion")]
+    OldVersion,
+    /// What is not read so far: rules, sets of dates, overrides and time zones.
+    #[error("NotYet")]
+    NotYet,
+}
+
+/// Why a file is refused: memory, or its first fault.
+#[derive(Clone, Copy, Debug, PartialEq, Eq, Error)]
+pub enum FileFault {
+    #[error("Memory")]
+    Memory,
+    /// Lines count from 1. A file that ends too early has its fault on the line after its last one.
+    #[error("line {line}: {kind}")]
+    At { line: u64, kind: FaultKind },
+}
+
+impl FaultKind {
+    /// The variant's name.
+    pub fn name(&self) -> &'static str
+        ensures { result.now ≡ kind_name self.now }
+    {
+        match self {
+            FaultKind::BadLine => "BadLine",
+            FaultKind::BadFold => "BadFold",
+            FaultKind::BadStamp => "BadStamp",
+            FaultKind::BadDuration => "BadDuration",
+            FaultKind::BadOffset => "BadOffset",
+            FaultKind::BadRule => "BadRule",
+            FaultKind::YearRange => "YearRange",
+            FaultKind::NumberTooLarge => "NumberTooLarge",
+            FaultKind::NoObservance => "NoObservance",
+            FaultKind::ObservanceField => "ObservanceField",
+            FaultKind::ZoneRule => "ZoneRule",
+            FaultKind::NotCalendar => "NotCalendar",
+            FaultKind::BadNesting => "BadNesting",
+            FaultKind::TooDeep => "TooDeep",
+            FaultKind::MissingUid => "MissingUid",
+            FaultKind::MissingStart => "MissingStart",
+            FaultKind::Repeated => "Repeated",
+            FaultKind::BadEnd => "BadEnd",
+            FaultKind::UnknownZone => "UnknownZone",
+            FaultKind::ThisAndFuture => "ThisAndFuture",
+            FaultKind::Exrule => "Exrule",
+            FaultKind::OldVersion => "OldVersion",
+            FaultKind::NotYet => "NotYet",
+        }
+    }
+}
+
+impl FileFault {
+    /// The variant's name, and of a fault on a line that of its kind.
+    pub fn name(&self) -> &'static str
+        ensures { result.now ≡ fault_name self.now }
+    {
+        match self {
+            FileFault::Memory => "Memory",
+            FileFault::At { kind, .. } => kind.name(),
+        }
+    }
+}

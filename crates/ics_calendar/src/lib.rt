@@ -1,0 +1,27 @@
+//! The components of an iCalendar file, and its events or its first fault.
+#![tactic(auto)]
+
+mod collected;
+mod component;
+mod dated;
+mod ends;
+mod event;
+mod events;
+mod fault;
+mod frame;
+mod laws;
+mod name;
+mod property;
+mod read;
+mod stack;
+mod text;
+mod time;
+mod words;
+
+pub use event::Event;
+pub use events::FileEvents;
+pub use fault::{FaultKind, FileFault};
+pub use laws::files_are_one_thing;
+pub use read::read_file;
+pub use text::Text;
+pub use time::{Length, Time};

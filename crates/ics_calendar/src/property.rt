@@ -1,0 +1,166 @@
+//! The lines of a component, each with its value read.
+ghost use Rattle.std.specs.Prelude.{◌≡◌, IfOk, is_some, codes};
+ghost use Rattle.std.specs.Str.{bytes_eq};
+ghost use Rattle.ics_text.specs.Contents.{param_of};
+ghost use Rattle.ics_calendar.specs.Values.{dated_of, zone_name, is_lasting, allowed, lasting_of, is_cancelled};
+ghost use Rattle.ics_calendar.specs.Pass.{event_property, calendar_property, property_at};
+
+use crate::component::{Component, Place};
+use crate::dated::Dated;
+use crate::name::Name;
+use crate::text::Text;
+use crate::words::is_word;
+use ics_text::Content;
+use ics_values::{Duration, DurationFault, IntegerFault, read_duration, read_integer, read_stamp};
+use std::alloc::{AllocError, Global};
+
+/// A line as its component reads it. What is not read there is `Other`.
+#[derive(Drop)]
+pub enum Property {
+    Begin(Component),
+    /// Whether it ends the innermost component.
+    End(bool),
+    Uid(Text),
+    Dtstart(Dated),
+    Dtend(Dated),
+    Duration(Result<Duration, DurationFault>),
+    Rrule,
+    /// With whether it has a RANGE.
+    RecurrenceId(Dated, bool),
+    Sequence(Result<u32, IntegerFault>),
+    /// An RDATE or an EXDATE.
+    Dates,
+    Exrule,
+    /// Whether it is 1.0.
+    Version(bool),
+    Summary(Text),
+    Location(Text),
+    Description(Text),
+    /// Whether it is CANCELLED.
+    Status(bool),
+    Other,
+}
+
+/// The name of the zone that a line's TZID gives.
+fn zone_name(alloc: Global, content: &Content<'_>) -> Result<Option<Text>, AllocError>
+    ensures { IfOk result (λ zone. zone ≡ zone_name content.now.params) }
+{
+    match content.param(b"TZID") {
+        Some(name) => Ok(Some(Text::copied(alloc, name)?)),
+        None => Ok(None),
+    }
+}
+
+/// The stamp of a line and the zone that its TZID names.
+fn dated(alloc: Global, content: &Content<'_>) -> Result<Dated, AllocError>
+    ensures { IfOk result (λ dated. dated ≡ dated_of content.now.params content.now.value) }
+{
+    let zone = zone_name(alloc, content)?;
+    Ok(Dated {
+        stamp: read_stamp(content.value(), zone.is_some()),
+        zone,
+    })
+}
+
+fn has_range(content: &Content<'_>) -> bool
+    ensures { result ≡ is_some (param_of (codes "RANGE") content.now.params) }
+{
+    content.param(b"RANGE").is_some()
+}
+
+/// The longest event, in seconds.
+const LONGEST: u64 = 36_525 * 86_400;
+
+fn is_lasting(duration: Duration) -> bool
+    ensures { result ≡ is_lasting duration }
+{
+    let Some(days) = duration.days.checked_mul(86_400) else {
+        return false;
+    };
+    let Some(seconds) = days.checked_add(duration.seconds) else {
+        return false;
+    };
+    (!duration.negative || seconds == 0) && seconds <= LONGEST
+}
+
+/// The duration of an event: not negative, but for zero, and no longer than an event may be.
+fn lasting(text: &[u8]) -> Result<Duration, DurationFault>
+    ensures { result ≡ lasting_of text.now }
+{
+    match read_duration(text) {
+        Ok(duration) => {
+            if is_lasting(duration) {
+                Ok(duration)
+            } else {
+                Err(DurationFault::BadDuration)
+            }
+        }
+        Err(DurationFault::NumberTooLarge) => {
+            if text.first() == Some(&b'-') {
+                Err(DurationFault::BadDuration)
+            } else {
+                Err(DurationFault::NumberTooLarge)
+            }
+        }
+        Err(DurationFault::BadDuration) => Err(DurationFault::BadDuration),
+    }
+}
+
+fn is_cancelled(text: &[u8]) -> bool
+    ensures { result ≡ is_cancelled text.now }
+{
+    is_word(text, b"CANCELLED")
+}
+
+/// A line directly in an event.
+fn event_property(alloc: Global, name: Name, content: &Content<'_>) -> Result<Property, AllocError>
+    ensures { IfOk result (λ property. property ≡ event_property name content.now) }
+{
+    let value = content.value();
+    match name {
+        Name::Uid => Ok(Property::Uid(Text::of_value(alloc, value)?)),
+        Name::Dtstart => Ok(Property::Dtstart(dated(alloc, content)?)),
+        Name::Dtend => Ok(Property::Dtend(dated(alloc, content)?)),
+        Name::Duration => Ok(Property::Duration(lasting(value))),
+        Name::Rrule => Ok(Property::Rrule),
+        Name::RecurrenceId => {
+            Ok(Property::RecurrenceId(dated(alloc, content)?, has_range(content)))
+        }
+        Name::Sequence => Ok(Property::Sequence(read_integer(value))),
+        Name::Rdate | Name::Exdate => Ok(Property::Dates),
+        Name::Exrule => Ok(Property::Exrule),
+        Name::Summary => Ok(Property::Summary(Text::of_value(alloc, value)?)),
+        Name::Location => Ok(Property::Location(Text::of_value(alloc, value)?)),
+        Name::Description => Ok(Property::Description(Text::of_value(alloc, value)?)),
+        Name::Status => Ok(Property::Status(is_cancelled(value))),
+        _ => Ok(Property::Other),
+    }
+}
+
+/// A line directly in a calendar.
+fn calendar_property(name: Name, content: &Content<'_>) -> Property
+    ensures { result ≡ calendar_property name content.now }
+{
+    match name {
+        Name::Version => Property::Version(content.value() == b"1.0".as_slice()),
+        _ => Property::Other,
+    }
+}
+
+impl Property {
+    /// A line that begins and ends no component, by where it stands.
+    pub fn at(
+        alloc: Global,
+        place: Place,
+        name: Name,
+        content: &Content<'_>,
+    ) -> Result<Property, AllocError>
+        ensures { IfOk result (λ property. property ≡ property_at place name content.now) }
+    {
+        match place {
+            Place::Event => event_property(alloc, name, content),
+            Place::Calendar => Ok(calendar_property(name, content)),
+            _ => Ok(Property::Other),
+        }
+    }
+}

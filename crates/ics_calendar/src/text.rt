@@ -1,0 +1,65 @@
+ghost use Rattle.std.specs.Prelude.{◌≡◌, IfOk, [], map};
+ghost use Rattle.ics_text.specs.Bytes.{upper};
+ghost use Rattle.ics_values.specs.Plain.{text_of};
+
+use crate::words::upper_text;
+use ics_values::text_bytes;
+use std::alloc::{AllocError, Global};
+use std::marker::Model;
+
+/// The bytes of a text, mostly but not always UTF-8.
+#[derive(Drop)]
+pub struct Text {
+    bytes: Vec<u8>,
+}
+
+impl Model for Text {
+    ghost use Rattle.std.specs.Prelude.{List, ℕ};
+
+    ghost Value = { List ℕ };
+
+    ghost view = { λ a. a.bytes.items };
+}
+
+impl Text {
+    /// A text without bytes.
+    pub(crate) fn new(alloc: Global) -> Text
+        ensures { result ≡ [] }
+    {
+        Text {
+            bytes: Vec::new(alloc),
+        }
+    }
+
+    /// A text of these bytes.
+    pub(crate) fn copied(alloc: Global, bytes: &[u8]) -> Result<Text, AllocError>
+        ensures { IfOk result (λ text. text ≡ bytes.now) }
+    {
+        let mut copy = Vec::new(alloc);
+        copy.extend_from_slice(bytes)?;
+        Ok(Text { bytes: copy })
+    }
+
+    /// The text that a TEXT value stands for, without its escapes (RFC 5545, section 3.3.11).
+    pub(crate) fn of_value(alloc: Global, value: &[u8]) -> Result<Text, AllocError>
+        ensures { IfOk result (λ text. text ≡ text_of value.now) }
+    {
+        let bytes = text_bytes(alloc, value)?;
+        Ok(Text { bytes })
+    }
+
+    /// A text of these bytes in upper case.
+    pub(crate) fn upper_case(alloc: Global, bytes: &[u8]) -> Result<Text, AllocError>
+        ensures { IfOk result (λ text. text ≡ map upper bytes.now) }
+    {
+        let bytes = upper_text(alloc, bytes)?;
+        Ok(Text { bytes })
+    }
+
+    /// Its bytes.
+    pub fn as_slice(&self) -> &[u8]
+        ensures { result.now ≡ self.now }
+    {
+        self.bytes.as_slice()
+    }
+}
