@@ -1,0 +1,144 @@
+-- Worked examples of the definitions.
+use Rattle.std.specs.Prelude.{int_lt}
+use Rattle.std.proofs.Common.{◌≡◌, ℕ, ℤ, pos, neg_ℤ, ◌+ℤ◌, [], ◌∷◌, None, Bool, true, false, cond, refl, arith}
+use Rattle.std.proofs.lemmas.Int.{ints}
+use Rattle.std.specs.declared.cmp.Ordering.TheVariants.{Less, Greater}
+use Rattle.ics_values.specs.Locals.{local_at}
+use Rattle.ics_values.specs.declared.stamp.Stamp.{Stamp}
+use Rattle.ics_values.specs.declared.stamp.Stamp.TheVariants.{Date, Floating, Utc}
+use Rattle.ics_calendar.specs.declared.event.Event.{Event}
+use Rattle.ics_calendar.specs.declared.time.Length.{Length}
+use Rattle.ics_calendar.specs.declared.time.Length.TheVariants.{Open, Until, Lasting}
+use Rattle.ics_series.specs.declared.window.Window.{Window}
+use Rattle.ics_series.specs.Clocks.{Clock, utc_clock}
+use Rattle.ics_series.specs.Entry.{Entry}
+use Rattle.ics_series.specs.Finish.{finish}
+use Rattle.ics_series.specs.Meeting.{is_met}
+use Rattle.ics_series.specs.Occurs.{Placed, placed_cmp}
+
+abbrev event_of : ℕ → Stamp → Length → Event
+event_of sequence start length = record {
+  uid = 117 ∷ [];
+  sequence = sequence;
+  start = record { stamp = start; zone = None };
+  length = length;
+  title = [];
+  location = [];
+  description = [];
+  cancelled = false;
+}
+
+abbrev until : Stamp → Length
+until end = Until (record { stamp = end; zone = None })
+
+abbrev lasting : ℕ → ℕ → Length
+lasting days seconds = Lasting (record { negative = false; days = days; seconds = seconds })
+
+abbrev finish_in : Clock → Stamp → Length → ℤ
+finish_in display start length = finish display (event_of 0 start length) (record { stamp = start; zone = None })
+
+-- five hours behind UTC
+abbrev behind : Clock
+behind = record { moment = λ local. local +ℤ pos 18_000; offset = λ t. neg_ℤ (pos 18_000) }
+
+-- five hours behind UTC up to 2007-03-11T07:00:00 UTC, and four from there on
+abbrev springing : Clock
+springing = record {
+  moment = λ local. cond (int_lt local (pos 1_173_582_000)) (local +ℤ pos 18_000) (local +ℤ pos 14_400);
+  offset = λ t. cond (int_lt t (pos 1_173_596_400)) (neg_ℤ (pos 18_000)) (neg_ℤ (pos 14_400));
+}
+
+-- Finishes.
+
+-- from 10:00 to 11:00
+hour : finish_in utc_clock (Utc (local_at (pos 19_727) 36_000)) (until (Utc (local_at (pos 19_727) 39_600))) ≡ pos 1_704_452_400
+hour = refl
+
+-- a date without an end lasts its day, in a zone five hours behind UTC
+day_behind : finish_in behind (Date (pos 19_727)) Open ≡ pos 1_704_517_200
+day_behind = refl
+
+-- a DTEND on the date itself: one day all the same
+day_at_least : finish_in utc_clock (Date (pos 19_727)) (until (Date (pos 19_727))) ≡ pos 1_704_499_200
+day_at_least = refl
+
+-- to a DTEND three days on
+three_days : finish_in utc_clock (Date (pos 19_727)) (until (Date (pos 19_730))) ≡ pos 1_704_672_000
+three_days = refl
+
+-- of P2DT5H a date lasts the two whole days
+whole_days : finish_in utc_clock (Date (pos 19_727)) (lasting 2 18_000) ≡ pos 1_704_585_600
+whole_days = refl
+
+-- of PT5H one day
+time_alone : finish_in utc_clock (Date (pos 19_727)) (lasting 0 18_000) ≡ pos 1_704_499_200
+time_alone = refl
+
+-- P1DT2H from 2024-01-05T23:00 to 2024-01-07T01:00
+nominal_day : finish_in utc_clock (Floating (local_at (pos 19_727) 82_800)) (lasting 1 7_200) ≡ pos 1_704_589_200
+nominal_day = refl
+
+-- P1D from 2007-03-10T12:00 by the clock that springs forward lasts 23 hours
+short_day : finish_in springing (Floating (local_at (pos 13_582) 43_200)) (lasting 1 0) ≡ pos 1_173_628_800
+short_day = refl
+
+-- and in UTC 24
+long_day : finish_in springing (Utc (local_at (pos 13_582) 61_200)) (lasting 1 0) ≡ pos 1_173_632_400
+long_day = refl
+
+no_length : finish_in utc_clock (Utc (local_at (pos 19_727) 36_000)) Open ≡ pos 1_704_448_800
+no_length = refl
+
+-- Windows.
+abbrev window : Bool → Window
+window notstarted = record {
+  from = pos 1_704_448_800;
+  to = pos 1_704_452_400;
+  notstarted = notstarted;
+  ordered = omega (arith, ints);
+  not_early = omega (arith, ints);
+  not_late = omega (arith, ints);
+}
+
+abbrev entry : ℤ → ℤ → Entry
+entry start end = record { start = start; finish = end; recurrence = start; event = event_of 0 (Date (pos 19_727)) Open }
+
+-- at the window's first second, of no length
+at_from : is_met (window false) (entry (pos 1_704_448_800) (pos 1_704_448_800)) ≡ true
+at_from = refl
+
+-- at its end
+at_to : is_met (window false) (entry (pos 1_704_452_400) (pos 1_704_452_400)) ≡ false
+at_to = refl
+
+-- up to the window's first second
+up_to_from : is_met (window false) (entry (pos 1_704_445_200) (pos 1_704_448_800)) ≡ false
+up_to_from = refl
+
+-- a second longer
+past_from : is_met (window false) (entry (pos 1_704_445_200) (pos 1_704_448_801)) ≡ true
+past_from = refl
+
+-- under way before the window and after it
+all_along : is_met (window false) (entry (pos 1_704_405_600) (pos 1_704_585_600)) ≡ true
+all_along = refl
+
+-- which is left out where only what has not started is wanted
+under_way : is_met (window true) (entry (pos 1_704_405_600) (pos 1_704_585_600)) ≡ false
+under_way = refl
+
+begins_with_it : is_met (window true) (entry (pos 1_704_448_800) (pos 1_704_585_600)) ≡ true
+begins_with_it = refl
+
+-- Versions.
+abbrev placed : ℕ → ℕ → ℕ → Placed
+placed sequence file place = record { file = file; place = place; event = event_of sequence (Date (pos 19_727)) Open }
+
+sequence_first : placed_cmp (placed 0 1 0) (placed 1 0 0) ≡ Less
+sequence_first = refl
+
+then_file : placed_cmp (placed 1 1 0) (placed 1 0 5) ≡ Greater
+then_file = refl
+
+then_place : placed_cmp (placed 1 0 0) (placed 1 0 5) ≡ Less
+then_place = refl

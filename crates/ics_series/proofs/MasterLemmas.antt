@@ -1,0 +1,75 @@
+-- There is one master of a UID, and so no two occurrences have one UID and one recurrence.
+use Rattle.std.proofs.Common.{◌≡◌, ℕ, List, Some, refl, sym, ◌∙◌, ap}
+use Rattle.std.specs.Prelude.{ℤ, slice_get}
+use Rattle.std.specs.Cmp.{IsTotalOrder}
+use Rattle.std.specs.Ordering.{nat_cmp, ordering_reverse, ordering_then}
+use Rattle.std.proofs.lemmas.Cmp.{nat_cmp_total, on_total, then_total}
+use Rattle.std.proofs.lemmas.Map.Lookups.{exact_unsigned}
+use Rattle.std.specs.declared.cmp.Ordering.{Ordering}
+use Rattle.std.specs.declared.cmp.Ordering.TheVariants.{Less, Equal, Greater}
+use Rattle.ics_calendar.specs.declared.event.Event.{Event}
+use Rattle.ics_calendar.specs.declared.events.FileEvents.{FileEvents}
+use Rattle.ics_series.specs.Clocks.{Clock, instant}
+use Rattle.ics_series.specs.Entry.{Entry}
+use Rattle.ics_series.specs.Finish.{finish}
+use Rattle.ics_series.specs.Occurs.{Placed, IsPlaced, IsMaster, Occurs, placed_cmp}
+
+pub placed_total : IsTotalOrder placed_cmp
+placed_total = then_total (on_total (λ p. p.event.sequence) nat_cmp_total) (then_total (on_total (λ p. p.file) nat_cmp_total) (on_total (λ p. p.place) nat_cmp_total))
+
+-- of two of which neither is less, the places are the same
+pub tied-by : (p q : Placed) (c : Ordering) → placed_cmp p q ≡ c → (placed_cmp p q ≡ Less → ⊥) → (placed_cmp q p ≡ Less → ⊥) → placed_cmp p q ≡ Equal
+tied-by p q Less e h k = absurd (h e)
+tied-by p q Equal e h k = e
+tied-by p q Greater e h k = absurd (k (placed_total.antisymm q p ∙ ap ordering_reverse e))
+
+pub second-equal : (a b : Ordering) → ordering_then a b ≡ Equal → (a ≡ Equal) × (b ≡ Equal)
+second-equal Less b h = let f : Less ≡ Equal = h in cc
+second-equal Equal b h = (refl, h)
+second-equal Greater b h = let f : Greater ≡ Equal = h in cc
+
+same-places : (p q : Placed) → placed_cmp p q ≡ Equal → (p.file ≡ q.file) × (p.place ≡ q.place)
+same-places p q h =
+    let rest = (second-equal (nat_cmp p.event.sequence q.event.sequence) (ordering_then (nat_cmp p.file q.file) (nat_cmp p.place q.place)) h).1 in
+    let both = second-equal (nat_cmp p.file q.file) (nat_cmp p.place q.place) rest in
+    (exact_unsigned p.file q.file both.0, exact_unsigned p.place q.place both.1)
+
+some-same : {X : Type 0} (x y : X) → Some x ≡ Some y → x ≡ y
+some-same x y h = cc
+
+same-event : (files : List FileEvents) (p q : Placed) → IsPlaced files p → IsPlaced files q → p.file ≡ q.file → p.place ≡ q.place → p.event ≡ q.event
+same-event files p q h k e f =
+    let file : h.within.0 ≡ k.within.0 = some-same _ _ (sym h.within.1 ∙ (ap (slice_get files) e ∙ k.within.1)) in
+    some-same _ _ (sym h.within.2 ∙ (ap (λ x. slice_get x.events p.place) file ∙ (ap (slice_get k.within.0.events) f ∙ k.within.2)))
+
+abbrev make : ℕ → ℕ → Event → Placed
+make file place event = record { file = file; place = place; event = event }
+
+-- of one place there is one event
+pub same-placed : (files : List FileEvents) (p q : Placed) → IsPlaced files p → IsPlaced files q → placed_cmp p q ≡ Equal → p ≡ q
+same-placed files p q h k e =
+    let places = same-places p q e in
+    let event = same-event files p q h k places.0 places.1 in
+    ap (λ f. make f p.place p.event) places.0 ∙ (ap (λ n. make q.file n p.event) places.1 ∙ ap (make q.file q.place) event)
+
+-- a UID has one master at most
+pub one-master : (files : List FileEvents) (p q : Placed) → IsMaster files p → IsMaster files q → p.event.uid ≡ q.event.uid → p ≡ q
+one-master files p q h k u =
+    same-placed files p q h.placed k.placed
+    (tied-by p q (placed_cmp p q) refl (h.greatest q k.placed (sym u)) (k.greatest p h.placed u))
+
+pub same-entry : (o q : Entry) → o.start ≡ q.start → o.finish ≡ q.finish → o.recurrence ≡ q.recurrence → o.event ≡ q.event → o ≡ q
+same-entry o q a b c d =
+    let build : ℤ → ℤ → ℤ → Event → Entry = λ s f r e. record { start = s; finish = f; recurrence = r; event = e } in
+    ap (λ s. build s o.finish o.recurrence o.event) a ∙ (ap (λ f. build q.start f o.recurrence o.event) b
+    ∙ (ap (λ r. build q.start q.finish r o.event) c ∙ ap (λ e. build q.start q.finish q.recurrence e) d))
+
+pub one-recurrence : (files : List FileEvents) (display : Clock) (o q : Entry) → Occurs files display o → Occurs files display q → o.event.uid ≡ q.event.uid → o.recurrence ≡ q.recurrence → o ≡ q
+one-recurrence files display o q h k u r =
+    let uid : h.0.event.uid ≡ k.0.event.uid = sym (ap (λ e. e.uid) h.2.event) ∙ (u ∙ ap (λ e. e.uid) k.2.event) in
+    let event : h.0.event ≡ k.0.event = ap (λ p. p.event) (one-master files h.0 k.0 h.1 k.1 uid) in
+    same-entry o q
+    (h.2.lasts.starts ∙ (ap (λ e. instant display e.start) event ∙ sym k.2.lasts.starts))
+    (h.2.lasts.ends ∙ (ap (λ e. finish display e e.start) event ∙ sym k.2.lasts.ends))
+    r
+    (h.2.event ∙ (event ∙ sym k.2.event))

@@ -1,0 +1,156 @@
+-- Of sorted versions the last of each UID is the master.
+use Rattle.std.specs.Prelude.{◌≢◌}
+use Rattle.std.proofs.Common.{◌≡◌, List, [], ◌∷◌, ◌⊎◌, inl, inr, ⊎_elim, Bool, true, false, cond, refl, sym, ◌∙◌, ap, subst}
+use Rattle.std.specs.Cmp.{IsTotalOrder}
+use Rattle.std.specs.Cmp.Lexicographic.{slice_cmp}
+use Rattle.std.specs.Ordering.{nat_cmp, is_eq, is_gt, ordering_then, ordering_reverse}
+use Rattle.std.specs.declared.cmp.Ordering.{Ordering}
+use Rattle.std.specs.declared.cmp.Ordering.TheVariants.{Less, Equal, Greater}
+use Rattle.std.proofs.lemmas.Cmp.{alike_right, nat_list_cmp_total, on_total, then_total, tied_itself}
+use Rattle.std.proofs.lemmas.Map.Lookups.{exact_bytes}
+use Rattle.ics_calendar.specs.declared.events.FileEvents.{FileEvents}
+use Rattle.ics_series.specs.Listing.{IsIn, IsListing}
+use Rattle.ics_series.specs.Rising.{IsBefore, Rises}
+use Rattle.ics_series.specs.Occurs.{Placed, IsPlaced, IsMaster, placed_cmp}
+use Rattle.ics_series.specs.Versions.{uid_cmp, version_cmp, lasts, is_followed}
+use Rattle.ics_series.proofs.MasterLemmas.{placed_total, tied-by, same-placed}
+use Rattle.ics_series.proofs.SortLemmas.{IsUpTo, Climbs, up-to-in}
+
+pub uid_total : IsTotalOrder uid_cmp
+uid_total = on_total (λ p. p.event.uid) nat_list_cmp_total
+
+pub version_total : IsTotalOrder version_cmp
+version_total = then_total uid_total placed_total
+
+-- no version of the UID in the list is greater
+abbrev IsTop : List Placed → Placed → Type 0
+IsTop xs e = (q : Placed) → IsIn q xs → q.event.uid ≡ e.event.uid → placed_cmp e q ≢ Less
+
+same-uid : (p q : Placed) → p.event.uid ≡ q.event.uid → uid_cmp p q ≡ Equal
+same-uid p q e = ap (slice_cmp nat_cmp p.event.uid) (sym e) ∙ tied_itself nat_list_cmp_total p.event.uid
+
+-- of versions of one UID in order, the first is not greater
+not-greater : (p q : Placed) → uid_cmp p q ≡ Equal → is_gt (version_cmp p q) ≡ false → placed_cmp q p ≢ Less
+not-greater p q e g l =
+    let f : placed_cmp p q ≡ Greater = placed_total.antisymm p q ∙ ap ordering_reverse l in
+    let v : is_gt (version_cmp p q) ≡ true = ap (λ c. is_gt (ordering_then c (placed_cmp p q))) e ∙ ap is_gt f in
+    cc
+
+-- what is not after another, by version, is not after it by UID
+uid-up-to : (p q : Placed) (c : Ordering) → uid_cmp p q ≡ c → is_gt (version_cmp p q) ≡ false → (uid_cmp p q ≡ Less) ⊎ (uid_cmp p q ≡ Equal)
+uid-up-to p q Less e g = inl e
+uid-up-to p q Equal e g = inr e
+uid-up-to p q Greater e g =
+    let v : is_gt (version_cmp p q) ≡ true = ap (λ c. is_gt (ordering_then c (placed_cmp p q))) e in
+    absurd cc
+
+-- a test of one UID
+abbrev SameUid : (Placed → Placed → Bool) → Type 0
+SameUid same = (p q : Placed) → same p q ≡ is_eq (uid_cmp p q)
+
+module _ (same : Placed → Placed → Bool) (ties : SameUid same) where
+  abbrev IsFollowed : Bool → Placed → List Placed → Type 0
+  IsFollowed true x xs = (y : Placed) × IsIn y xs × (uid_cmp x y ≡ Equal)
+  IsFollowed false x xs = (y : Placed) → IsIn y xs → uid_cmp x y ≡ Less
+
+  tied-true : (c : Ordering) → is_eq c ≡ true → c ≡ Equal
+  tied-true Less e = let f : is_eq Less ≡ true = e in cc
+  tied-true Equal e = refl
+  tied-true Greater e = let f : is_eq Greater ≡ true = e in cc
+
+  untied : (c : Ordering) → is_eq c ≡ false → (c ≡ Less) ⊎ (c ≡ Equal) → c ≡ Less
+  untied c e h = ⊎_elim (λ l. l) (λ q. let f : is_eq Equal ≡ false = ap is_eq (sym q) ∙ e in absurd cc) h
+
+  -- all behind the next come after what comes before the next
+  after-next : (x y z : Placed) (zs : List Placed) → uid_cmp x y ≡ Less → IsUpTo version_cmp y zs → IsIn z (y ∷ zs) → uid_cmp x z ≡ Less
+  after-next x y z zs l h m =
+      ⊎_elim (λ s. ap (uid_cmp x) s ∙ l)
+      (λ n. ⊎_elim (λ k. uid_total.trans x y z l k) (λ e. less-equal x y z l e) (uid-up-to y z (uid_cmp y z) refl (up-to-in version_cmp y z zs h n)))
+      m
+    where
+      less-equal : (x y z : Placed) → uid_cmp x y ≡ Less → uid_cmp y z ≡ Equal → uid_cmp x z ≡ Less
+      less-equal x y z l e = sym (alike_right uid_total y z x e) ∙ l
+
+  followed-by : (x : Placed) (xs : List Placed) (b : Bool) → is_followed same x xs ≡ b → Climbs version_cmp (x ∷ xs) → IsFollowed b x xs
+  followed-by x [] true e h = let f : false ≡ true = e in absurd cc
+  followed-by x [] false e h = λ y m. absurd m
+  followed-by x (y ∷ ys) true e h = (y, inl refl, tied-true (uid_cmp x y) (sym (ties x y) ∙ e))
+  followed-by x (y ∷ ys) false e h =
+      λ z m. after-next x y z ys
+      (untied (uid_cmp x y) (sym (ties x y) ∙ e) (uid-up-to x y (uid_cmp x y) refl h.0.0)) h.1.0 m
+
+  -- The members.
+  in-lasts-by : (x e : Placed) (xs : List Placed) (b : Bool) → IsFollowed b x xs → Climbs version_cmp (x ∷ xs)
+      → (IsIn e (lasts same xs) → IsIn e xs × IsTop xs e) → IsIn e (cond b (lasts same xs) (x ∷ lasts same xs)) → IsIn e (x ∷ xs) × IsTop (x ∷ xs) e
+  in-lasts-by x e xs true f h ih m =
+      let k = ih m in (
+        inr k.0,
+        λ q n u. ⊎_elim (λ s. subst (λ w. placed_cmp e w ≢ Less) (sym s)
+            (not-greater x e (same-uid x e (subst (λ w. w.event.uid ≡ e.event.uid) s u)) (up-to-in version_cmp x e xs h.0 k.0)))
+            (λ r. k.1 q r u) n,
+      )
+  in-lasts-by x e xs false f h ih m =
+      ⊎_elim
+      (λ s. (
+        inl s,
+        λ q n u. ⊎_elim (λ t l. let t2 : placed_cmp e q ≡ Equal = ap (placed_cmp e) (t ∙ sym s) ∙ tied_itself placed_total e in cc)
+            (λ r l. let a : uid_cmp x q ≡ Less = f q r in let b : uid_cmp x q ≡ Equal = same-uid x q (ap (λ w. w.event.uid) (sym s) ∙ sym u) in cc) n,
+      ))
+      (λ n. let k = ih n in (
+        inr k.0,
+        λ q w u. ⊎_elim (λ t l. let a : uid_cmp x e ≡ Less = f e k.0 in let b : uid_cmp x e ≡ Equal = same-uid x e (ap (λ v. v.event.uid) (sym t) ∙ u) in cc)
+            (λ r. k.1 q r u) w,
+      ))
+      m
+
+  in-lasts : (e : Placed) (xs : List Placed) → Climbs version_cmp xs → IsIn e (lasts same xs) → IsIn e xs × IsTop xs e
+  in-lasts e [] h m = absurd m
+  in-lasts e (x ∷ xs) h m = in-lasts-by x e xs (is_followed same x xs) (followed-by x xs (is_followed same x xs) refl h) h (in-lasts e xs h.1) m
+
+  abbrev AreApart : List Placed → Type 0
+  AreApart xs = (p q : Placed) → IsIn p xs → IsIn q xs → placed_cmp p q ≡ Equal → p ≡ q
+
+  lasts-in-by : (x e : Placed) (xs : List Placed) (b : Bool) → IsFollowed b x xs → Climbs version_cmp (x ∷ xs) → AreApart (x ∷ xs)
+      → (IsIn e xs → IsTop xs e → IsIn e (lasts same xs)) → IsIn e (x ∷ xs) → IsTop (x ∷ xs) e → IsIn e (cond b (lasts same xs) (x ∷ lasts same xs))
+  lasts-in-by x e xs true f h a ih m t =
+      let y = f.0 in
+      ⊎_elim
+      (λ s.
+      let uid : x.event.uid ≡ y.event.uid = exact_bytes x.event.uid y.event.uid f.2 in
+      let up : placed_cmp x y ≢ Less = subst (λ w. placed_cmp w y ≢ Less) s (t y (inr f.1) (sym uid ∙ ap (λ w. w.event.uid) (sym s))) in
+      let down : placed_cmp y x ≢ Less = not-greater x y f.2 (up-to-in version_cmp x y xs h.0 f.1) in
+      let one : x ≡ y = a x y (inl refl) (inr f.1) (tied-by x y (placed_cmp x y) refl up down) in
+      ih (subst (λ w. IsIn w xs) (sym (s ∙ one)) f.1) (λ q n u. t q (inr n) u))
+      (λ n. ih n (λ q r u. t q (inr r) u))
+      m
+  lasts-in-by x e xs false f h a ih m t = ⊎_elim inl (λ n. inr (ih n (λ q r u. t q (inr r) u))) m
+
+  lasts-in : (e : Placed) (xs : List Placed) → Climbs version_cmp xs → AreApart xs → IsIn e xs → IsTop xs e → IsIn e (lasts same xs)
+  lasts-in e [] h a m t = absurd m
+  lasts-in e (x ∷ xs) h a m t =
+      lasts-in-by x e xs (is_followed same x xs) (followed-by x xs (is_followed same x xs) refl h) h a
+      (lasts-in e xs h.1 (λ p q m n. a p q (inr m) (inr n))) m t
+
+  -- The order.
+  before-lasts : (x : Placed) (xs : List Placed) → ((y : Placed) → IsIn y xs → uid_cmp x y ≡ Less) → IsBefore uid_cmp x xs
+  before-lasts x [] f = tt
+  before-lasts x (y ∷ ys) f = (f y (inl refl), before-lasts x ys (λ z m. f z (inr m)))
+
+  rises-lasts-by : (x : Placed) (xs : List Placed) (b : Bool) → IsFollowed b x xs → Climbs version_cmp xs → Rises uid_cmp (lasts same xs) → Rises uid_cmp (cond b (lasts same xs) (x ∷ lasts same xs))
+  rises-lasts-by x xs true f h r = r
+  rises-lasts-by x xs false f h r = (before-lasts x (lasts same xs) (λ y m. f y (in-lasts y xs h m).0), r)
+
+  rises-lasts : (xs : List Placed) → Climbs version_cmp xs → Rises uid_cmp (lasts same xs)
+  rises-lasts [] h = tt
+  rises-lasts (x ∷ xs) h = rises-lasts-by x xs (is_followed same x xs) (followed-by x xs (is_followed same x xs) refl h) h.1 (rises-lasts xs h.1)
+
+  -- of all that stand in a folder, in order, the last of each UID are the masters
+  pub lasts-masters : (files : List FileEvents) (xs : List Placed) → Climbs version_cmp xs → ((p : Placed) → IsIn p xs → IsPlaced files p) → ((p : Placed) → IsPlaced files p → IsIn p xs)
+      → IsListing uid_cmp (IsMaster files) (lasts same xs)
+  lasts-masters files xs h f g = record {
+    rises = rises-lasts xs h;
+    exact = λ e. (
+      λ m. let k = in-lasts e xs h m in record { placed = f e k.0; greatest = λ q r u. k.1 q (g q r) u },
+      λ k. lasts-in e xs h (λ p q m n t. same-placed files p q (f p m) (f q n) t) (g e k.placed) (λ q n u. k.greatest q (f q n) u),
+    );
+  }

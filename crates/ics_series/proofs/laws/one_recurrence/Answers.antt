@@ -1,0 +1,5 @@
+use Rattle.ics_series.proofs.MasterLemmas.{one-recurrence}
+use Rattle.ics_series.proofs.laws.one_recurrence.Goals as goal
+
+pub returns : goal.returns
+returns c = one-recurrence

@@ -1,0 +1,7 @@
+use Rattle.std.proofs.Common.{◌≡◌, ◌++◌, map, drop}
+use Rattle.ics_series.specs.Versions.{label_of, placed_from, seen}
+use Rattle.ics_series.proofs.version.push_versions.Given as goal
+
+abbrev pub invariant-loop-place : goal.invariant-loop-place
+invariant-loop-place l =
+    map seen l.versions.items ++ map label_of (placed_from l.file l.place (drop l.place l.events)) ≡ map seen l.initial.versions.items ++ map label_of (placed_from l.file 0 l.events)

@@ -1,0 +1,34 @@
+-- Where an occurrence ends (RFC 5545, sections 3.6.1 and 3.8.2).
+use Rattle.std.specs.Prelude.{ℤ, pos, ◌+ℤ◌, ◌-ℤ◌, ◌*◌}
+use Rattle.std.specs.Int.{int_max}
+use Rattle.ics_values.specs.declared.duration.Duration.{Duration}
+use Rattle.ics_values.specs.declared.stamp.Stamp.{Stamp}
+use Rattle.ics_values.specs.declared.stamp.Stamp.TheVariants.{Date}
+use Rattle.ics_calendar.specs.declared.time.Time.{Time}
+use Rattle.ics_calendar.specs.declared.time.Length.{Length}
+use Rattle.ics_calendar.specs.declared.time.Length.TheVariants.{Open, Until, Lasting}
+use Rattle.ics_calendar.specs.declared.event.Event.{Event}
+use Rattle.ics_series.specs.Clocks.{Clock, clock_of, instant, local_at, midnight, day_of}
+
+-- How many days an event lasts that starts on a date: to its DTEND, or the whole days of its DURATION, and one at least.
+abbrev pub days_lasting : ℤ → Length → ℤ
+days_lasting first Open = pos 1
+days_lasting first (Until end) = int_max (pos 1) (day_of end.stamp -ℤ first)
+days_lasting first (Lasting duration) = int_max (pos 1) (pos duration.days)
+
+-- The instant that is a duration later: its days go by the clock, and then its hours, minutes and seconds pass.
+abbrev pub later_by : Clock → Duration → ℤ → ℤ
+later_by clock duration t = clock.moment (local_at clock t +ℤ pos (duration.days * 86_400)) +ℤ pos duration.seconds
+
+-- Where the length of an event with the DTSTART `first` leads from an occurrence whose start the stamp `given` gives. A
+-- date leads to a midnight of the display zone. Of a date-time a DTEND is as many seconds off as it is from DTSTART.
+abbrev pub end_by : Clock → Time → Time → Stamp → Length → ℤ
+end_by display first given (Date day) length = display.moment (midnight (day_of given.stamp +ℤ days_lasting day length))
+end_by display first given stamp Open = instant display given
+end_by display first given stamp (Until end) = instant display given +ℤ (instant display end -ℤ instant display first)
+end_by display first given stamp (Lasting duration) = later_by (clock_of display given) duration (instant display given)
+
+-- The finish of an event's occurrence whose start the stamp `given` gives. It is never before the start.
+abbrev pub finish : Clock → Event → Time → ℤ
+finish display event given =
+    int_max (instant display given) (end_by display event.start given event.start.stamp event.length)

@@ -1,0 +1,14 @@
+pub mod Clocks
+pub mod Contents
+pub mod Entry
+pub mod EntryLaws
+pub mod Finish
+pub mod Laws
+pub mod Listing
+pub mod Meeting
+pub mod Meets
+pub mod MetList
+pub mod Occurs
+pub mod Rising
+pub mod Spots
+pub mod Versions

@@ -1,0 +1,27 @@
+-- Which events' occurrences meet a window, as a test.
+use Rattle.std.specs.Prelude.{ℤ, Bool, not, ◌&&◌, ◌||◌, int_lt, int_le}
+use Rattle.std.specs.Ordering.{int_eq}
+use Rattle.ics_calendar.specs.declared.event.Event.{Event}
+use Rattle.ics_series.specs.declared.window.Window.{Window}
+use Rattle.ics_series.specs.Clocks.{Clock, instant}
+use Rattle.ics_series.specs.Entry.{Entry}
+use Rattle.ics_series.specs.Finish.{finish}
+
+-- the occurrence that starts at an event's DTSTART
+abbrev pub own_entry : Clock → Event → Entry
+own_entry display event = record {
+  start = instant display event.start;
+  finish = finish display event event.start;
+  recurrence = instant display event.start;
+  event = event;
+}
+
+-- what begins before the window's end is to be listed by its finish
+abbrev pub is_under_way : Window → ℤ → ℤ → Bool
+is_under_way w start finish =
+    (int_lt w.from finish || (int_eq finish start && int_le w.from start))
+    && (not w.notstarted || int_le w.from start)
+
+-- it meets the window
+abbrev pub is_met : Window → Entry → Bool
+is_met w o = int_lt o.start w.to && is_under_way w o.start o.finish

@@ -1,0 +1,44 @@
+-- Which occurrences the files of a folder have (RFC 5545, sections 3.6.1, 3.8.4 and 3.8.7.4).
+use Rattle.std.specs.Prelude.{◌≡◌, ◌≢◌, ℕ, ℤ, List, Some, slice_get}
+use Rattle.std.specs.Ordering.{nat_cmp, on, then_cmp}
+use Rattle.std.specs.declared.cmp.Ordering.{Ordering}
+use Rattle.std.specs.declared.cmp.Ordering.TheVariants.{Less}
+use Rattle.ics_calendar.specs.declared.event.Event.{Event}
+use Rattle.ics_calendar.specs.declared.events.FileEvents.{FileEvents}
+use Rattle.ics_series.specs.Clocks.{Clock, instant}
+use Rattle.ics_series.specs.Entry.{Entry}
+use Rattle.ics_series.specs.Finish.{finish}
+
+-- an event, the number of its file and its place in the file
+pub record Placed : Type 0 where
+  pub file : ℕ
+  pub place : ℕ
+  pub event : Event
+
+-- it stands there
+pub record IsPlaced (files : List FileEvents) (p : Placed) : Type 0 where
+  pub within : (f : FileEvents) × (slice_get files p.file ≡ Some f) × (slice_get f.events p.place ≡ Some p.event)
+
+-- by SEQUENCE, then file, then place
+abbrev pub placed_cmp : Placed → Placed → Ordering
+placed_cmp = then_cmp (on (λ p. p.event.sequence) nat_cmp) (then_cmp (on (λ p. p.file) nat_cmp) (on (λ p. p.place) nat_cmp))
+
+-- the master of its UID: the greatest event of that UID in the folder
+pub record IsMaster (files : List FileEvents) (p : Placed) : Type 0 where
+  pub placed : IsPlaced files p
+  pub greatest : (q : Placed) → IsPlaced files q → q.event.uid ≡ p.event.uid → placed_cmp p q ≢ Less
+
+-- an event occurs from this instant to that one
+pub record IsInstance (display : Clock) (event : Event) (start end : ℤ) : Type 0 where
+  pub starts : start ≡ instant display event.start
+  pub ends : end ≡ finish display event event.start
+
+-- an occurrence of the event p, whose start tells it from the others
+pub record IsOf (display : Clock) (p : Placed) (o : Entry) : Type 0 where
+  pub event : o.event ≡ p.event
+  pub recurrence : o.recurrence ≡ o.start
+  pub lasts : IsInstance display p.event o.start o.finish
+
+-- an occurrence of the folder: one of a master
+abbrev pub Occurs : List FileEvents → Clock → Entry → Type 0
+Occurs files display o = (p : Placed) × IsMaster files p × IsOf display p o

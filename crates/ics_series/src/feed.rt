@@ -1,0 +1,30 @@
+//! What hands out occurrences one by one.
+ghost use Rattle.std.specs.Prelude.{◌≡◌, List, IfOk, OnErr};
+ghost use Rattle.ics_series.specs.Entry.{Entry, entry_cmp, Gives};
+ghost use Rattle.ics_series.specs.Rising.{Rises};
+
+use crate::occurrence::Occurrence;
+use std::alloc::AllocError;
+
+/// What is still to come. It stands apart from `Feed` so that a type's ghost field can cite it: a
+/// bound with a lifetime cannot be cited there.
+pub trait Coming {
+    ghost use Rattle.std.specs.Prelude.{List};
+    ghost use Rattle.ics_series.specs.Entry.{Entry};
+
+    /// The list still to come.
+    ghost coming: { Self → List Entry };
+}
+
+/// Hands out occurrences one by one, in the order of their keys: by start, then by the bytes of the
+/// UID, then by recurrence.
+pub trait Feed<'a>: Coming {
+    /// The first of the list still to come, which then has the rest to come; None where there is
+    /// none. After an `AllocError` the list is unchanged.
+    fn next(&mut self) -> Result<Option<Occurrence<'a>>, AllocError>
+        ensures ok { IfOk result (λ given. Gives (Self.coming self.old) given (Self.coming self.new)) }
+        ensures err { OnErr result (Self.coming self.new ≡ Self.coming self.old) };
+
+    /// The keys rise strictly.
+    ghost rises: { (feed : Self) → Rises entry_cmp (Self.coming feed) };
+}

@@ -1,0 +1,84 @@
+//! The events of a folder.
+ghost use Rattle.std.specs.Prelude.{◌≡◌, map, IfOk};
+ghost use Rattle.ics_series.specs.Clocks.{display_clock};
+ghost use Rattle.ics_series.specs.Entry.{entry_cmp, entry_of};
+ghost use Rattle.ics_series.specs.Listing.{IsListing};
+ghost use Rattle.ics_series.specs.MetList.{IsMetList};
+ghost use Rattle.ics_series.specs.Meets.{IsListed};
+
+use crate::agenda::Agenda;
+use crate::feed::Coming;
+use crate::master::masters;
+use crate::occurrence::Occurrence;
+use crate::spot::Spot;
+use crate::window::Window;
+use ics_calendar::FileEvents;
+use ics_zone::Display;
+use std::alloc::{AllocError, Global};
+use std::marker::Model;
+
+/// The events of a folder's files, in the order of the files, and the zone in which they are shown.
+#[derive(Drop)]
+pub struct Folder {
+    files: Vec<FileEvents>,
+    display: Display,
+    masters: Vec<Spot>,
+    alloc: Global,
+}
+
+impl Model for Folder {
+    ghost use Rattle.ics_series.specs.Contents.{Contents};
+
+    ghost Value = { Contents };
+
+    ghost view = { λ a. record { files = a.files.items; display = a.display } };
+
+    ghost use Rattle.ics_series.specs.Versions.{AreMasters};
+
+    ghost invariant = { λ a. AreMasters a.files.items a.masters.items };
+}
+
+impl Folder {
+    /// The events of these files; the order of the list is the order of the files.
+    pub fn new(
+        alloc: Global,
+        files: Vec<FileEvents>,
+        display: Display,
+    ) -> Result<Folder, AllocError>
+        ensures files { IfOk result (λ folder. folder.files ≡ files.items) }
+        ensures display { IfOk result (λ folder. folder.display ≡ display) }
+    {
+        let masters = masters(alloc, &files)?;
+        Ok(Folder {
+            files,
+            display,
+            masters,
+            alloc,
+        })
+    }
+
+    /// The occurrences that meet the window, in the order of their keys.
+    pub fn agenda<'a>(&'a self, window: Window) -> Result<Agenda<'a>, AllocError>
+        ensures listing { IfOk result (λ agenda. IsListing entry_cmp
+            (IsListed self.entry.now.files (display_clock self.entry.now.display) window)
+            (⟦<Agenda<'a> as Coming>⟧.coming agenda)) }
+    {
+        let mut entries = self.met(&window)?;
+        entries.sort_unstable_by(Occurrence::compare);
+        Ok(Agenda::new(entries))
+    }
+
+    // The occurrences that meet the window, in the order of their UIDs.
+    fn met<'a>(&'a self, window: &Window) -> Result<Vec<Occurrence<'a>>, AllocError>
+        ensures { IfOk result (λ entries. IsMetList self.entry.now.files (display_clock self.entry.now.display) window.now (map entry_of entries.items)) }
+    {
+        let mut entries = Vec::new(self.alloc);
+        for spot in &self.masters {
+            let event = spot.event(&self.files);
+            if let Some(occurrence) = Occurrence::within(&self.display, event, window) {
+                entries.push(occurrence)?;
+            }
+        }
+        Ok(entries)
+    }
+}

@@ -1,0 +1,75 @@
+//! One occurrence of an event.
+ghost use Rattle.std.specs.Prelude.{◌≡◌, ◌<ℤ◌, ◌≤ℤ◌, pos, neg_ℤ};
+ghost use Rattle.ics_calendar.specs.Event.{IsEvent};
+
+use crate::finish::finish;
+use crate::instant::instant;
+use crate::window::Window;
+use ics_calendar::Event;
+use ics_values::Moment;
+use ics_zone::Display;
+use std::cmp::Ordering;
+
+/// One occurrence of an event (RFC 5545, section 3.8.4.4).
+///
+/// It begins on or after 0000-12-30 and ends before the year 9950, in UTC.
+#[derive(Clone, Copy)]
+pub struct Occurrence<'a> {
+    pub start: Moment,
+    pub finish: Moment,
+    /// The instant that tells it from the other occurrences of its UID.
+    pub recurrence: Moment,
+    pub event: &'a Event,
+    pub ghost not_early: { neg_ℤ (pos 62_135_769_600) ≤ℤ start },
+    pub ghost forward: { start ≤ℤ finish },
+    pub ghost not_late: { finish <ℤ pos 251_824_464_000 },
+}
+
+impl<'a> Occurrence<'a> {
+    ghost use Rattle.std.specs.Prelude.{if◌then◌else◌, Some, None};
+    ghost use Rattle.std.specs.Option.{option_map};
+    ghost use Rattle.ics_series.specs.Clocks.{display_clock};
+    ghost use Rattle.ics_series.specs.Entry.{entry_cmp, entry_of};
+    ghost use Rattle.ics_series.specs.Meeting.{is_met, own_entry};
+
+    // The occurrence of an event, if it meets the window.
+    pub(crate) fn within(
+        display: &Display,
+        event: &'a Event,
+        window: &Window,
+    ) -> Option<Occurrence<'a>>
+        ensures { option_map entry_of result ≡ (if is_met window.now (own_entry (display_clock display.now) event.entry.now)
+            then Some (own_entry (display_clock display.now) event.entry.now) else None) }
+    {
+        let start = instant(display, event.start);
+        if start >= window.to {
+            return None;
+        }
+        let occurrence = Occurrence {
+            start,
+            finish: finish(display, event, start),
+            recurrence: start,
+            event,
+        };
+        if window.is_met(&occurrence) {
+            Some(occurrence)
+        } else {
+            None
+        }
+    }
+
+    // By start, then by the bytes of the UID, then by recurrence.
+    pub(crate) fn compare(a: &Occurrence<'_>, b: &Occurrence<'_>) -> Ordering
+        ensures { result ≡ entry_cmp (entry_of a.now) (entry_of b.now) }
+    {
+        let (one, other) = (a.event, b.event);
+        match a.start.cmp(&b.start) {
+            Ordering::Equal => one
+                .uid
+                .as_slice()
+                .cmp(other.uid.as_slice())
+                .then(a.recurrence.cmp(&b.recurrence)),
+            order => order,
+        }
+    }
+}

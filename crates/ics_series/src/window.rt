@@ -1,0 +1,43 @@
+//! The instants that a listing looks at.
+ghost use Rattle.std.specs.Prelude.{◌≡◌, ◌≤ℤ◌, ◌<ℤ◌, pos, neg_ℤ};
+
+use crate::occurrence::Occurrence;
+use ics_values::Moment;
+
+/// The instants from `from` on and before `to`.
+///
+/// Both lie from 0000-12-31T00:00 to 9800-01-03T00:00 UTC.
+#[derive(Clone, Copy, Debug, PartialEq, Eq)]
+pub struct Window {
+    pub from: Moment,
+    pub to: Moment,
+    /// Whether what began before `from` is left out.
+    pub notstarted: bool,
+    pub ghost ordered: { from <ℤ to },
+    pub ghost not_early: { neg_ℤ (pos 62_135_683_200) ≤ℤ from },
+    pub ghost not_late: { to ≤ℤ pos 247_091_126_400 },
+}
+
+impl Window {
+    ghost use Rattle.ics_series.specs.Meeting.{is_met, is_under_way};
+    ghost use Rattle.ics_series.specs.Entry.{entry_of};
+
+    // Whether an occurrence meets the window.
+    pub(crate) fn is_met(&self, occurrence: &Occurrence<'_>) -> bool
+        ensures { result ≡ is_met self.now (entry_of occurrence.now) }
+    {
+        let begun = occurrence.start < self.to;
+        let lasting = self.is_under_way(occurrence.start, occurrence.finish);
+        begun & lasting
+    }
+
+    // Whether what begins before the window's end, at `start`, is to be listed by its finish.
+    fn is_under_way(&self, start: Moment, finish: Moment) -> bool
+        ensures { result ≡ is_under_way self.now start finish }
+    {
+        let under_way = self.from < finish;
+        let at_once = finish == start;
+        let started = self.from <= start;
+        (under_way | (at_once & started)) & (!self.notstarted | started)
+    }
+}

@@ -1,0 +1,56 @@
+-- The texts of display zones: `UTC`, `Z`, a sign with hours and minutes, or the rule of a POSIX TZ string.
+use Rattle.std.specs.Prelude.{ℕ, ℤ, pos, ◌+◌, ◌-◌, ◌*◌, ◌==◌, ◌&&◌, ◌||◌, nat_lt, Bool, List, [], ◌∷◌, Option, Some, None, option_map, codes, if◌then◌else◌}
+use Rattle.std.specs.Char.{is_ascii_digit}
+use Rattle.std.specs.Str.{bytes_eq}
+use Rattle.jiff_core.specs.Sign.{signed}
+use Rattle.jiff_tz.specs.PosixReader.{read_whole}
+use Rattle.jiff_tz.specs.PosixText.{TzText, tz_view}
+use Rattle.jiff_tz.specs.declared.timezone.TimeZone.{TimeZone}
+use Rattle.jiff_tz.specs.declared.timezone.TimeZone.TheVariants.{UTC, Unknown, Fixed, Posix, Tzif}
+
+-- what a text says of a zone: one offset, in seconds, or the offsets of a rule
+pub data Said : Type 0 where
+  Always : ℤ → Said
+  ByRule : TzText → Said
+
+-- the number that two digits write
+abbrev pub pair_value : ℕ → ℕ → ℕ
+pair_value tens ones = (tens - 48) * 10 + (ones - 48)
+
+-- two digits that write a number below the limit
+abbrev pub is_pair_below : ℕ → ℕ → ℕ → Bool
+is_pair_below limit tens ones =
+    (is_ascii_digit tens && is_ascii_digit ones) && nat_lt (pair_value tens ones) limit
+
+-- the bytes are a sign, hours to 23, a colon and minutes to 59
+abbrev pub is_offset : ℕ → ℕ → ℕ → ℕ → ℕ → ℕ → Bool
+is_offset sign a b colon c d =
+    (((sign == 43) || (sign == 45)) && is_pair_below 24 a b) && ((colon == 58) && is_pair_below 60 c d)
+
+-- the seconds that a sign with hours and minutes says
+abbrev pub offset_said : List ℕ → Option ℤ
+offset_said (sign ∷ a ∷ b ∷ colon ∷ c ∷ d ∷ []) =
+    if is_offset sign a b colon c d
+    then Some (signed (sign == 45) (pair_value a b * 3_600 + pair_value c d * 60))
+    else None
+offset_said text = None
+
+-- the first of two, if it is there, and else the second
+abbrev first_said : Option ℤ → Option TzText → Option Said
+first_said (Some seconds) rule = Some (Always seconds)
+first_said None rule = option_map ByRule rule
+
+-- what the text of a display zone says, if it is one
+abbrev pub display_of : List ℕ → Option Said
+display_of text =
+    if bytes_eq text (codes "UTC") || bytes_eq text (codes "Z")
+    then Some (Always (pos 0))
+    else first_said (offset_said text) (read_whole text)
+
+-- what a zone of jiff's says, if it is of a kind that a display zone has
+abbrev pub said_by : TimeZone → Option Said
+said_by UTC = Some (Always (pos 0))
+said_by Unknown = None
+said_by (Fixed offset) = Some (Always offset.seconds)
+said_by (Posix rule) = Some (ByRule (tz_view rule))
+said_by (Tzif table) = None

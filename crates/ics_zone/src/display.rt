@@ -1,0 +1,140 @@
+//! The zone in which a listing is shown.
+ghost use Rattle.std.specs.Prelude.{◌≡◌, ◌↔◌, ℤ, pos, IsSome, Some, None, Err, IfOk, IfErr};
+ghost use Rattle.jiff_core.specs.Calendar.{IsWithin};
+ghost use Rattle.jiff.specs.Words.{plain_zone, nanos_of_seconds, civil_nanos};
+ghost use Rattle.ics_zone.specs.DisplayTexts.{Said, display_of, said_by};
+ghost use Rattle.ics_zone.specs.Displays.{IsCompatible, offset_of, moment_of};
+ghost use Rattle.ics_zone.specs.Places.{local_seconds, IsDay};
+ghost use Rattle.ics_zone.specs.Zones.{zone_of};
+
+use crate::display_text::read_offset;
+use crate::{DisplayFault, Place};
+use ics_values::{Local, Moment};
+use jiff::Timestamp;
+use jiff::civil::DateTime;
+use jiff::tz::TimeZone;
+use jiff_core::Offset;
+use jiff_tz::posix;
+use std::alloc::Global;
+
+/// The zone in which a listing is shown: UTC, a fixed offset, or the rule of a POSIX TZ string.
+#[derive(Clone, Copy)]
+pub struct Display {
+    kind: Kind,
+}
+
+/// What the zone goes by. It is none of jiff's zones, which may borrow a table.
+#[derive(Clone, Copy)]
+pub(crate) enum Kind {
+    Fixed(Offset),
+    Posix(posix::TimeZone),
+}
+
+impl Display {
+    /// Reads `UTC`, `Z`, a sign with `HH:MM` (hours to 23, minutes to 59), or else the rule of a
+    /// POSIX TZ string as jiff reads it, such as `EST5EDT,M3.2.0,M11.1.0`. Every other text is
+    /// BadZone. Takes no memory.
+    pub fn parse(_alloc: Global, text: &str) -> Result<Display, DisplayFault>
+        ensures said { IfOk result (λ display. said_by (zone_of display) ≡ display_of text.now) }
+        ensures refused { (result ≡ Err DisplayFault.BadZone) ↔ (display_of text.now ≡ None) }
+        ensures only { IfErr result (λ fault. fault ≡ DisplayFault.BadZone) }
+    {
+        if text == "UTC" || text == "Z" {
+            return Ok(fixed(0));
+        }
+        if let Some(seconds) = read_offset(text.as_bytes()) {
+            return Ok(fixed(seconds));
+        }
+        match posix::TimeZone::parse(text.as_bytes()) {
+            Ok(rule) => Ok(Display {
+                kind: Kind::Posix(rule),
+            }),
+            Err(_) => Err(DisplayFault::BadZone),
+        }
+    }
+
+    // The zone as one of jiff's.
+    fn zone(&self) -> TimeZone<'static>
+        ensures zone { plain_zone result ≡ zone_of self.now }
+        ensures own { IsSome (said_by (plain_zone result)) }
+    {
+        TimeZone::from_plain(match self.kind {
+            Kind::Fixed(offset) => jiff_tz::TimeZone::Fixed(offset),
+            Kind::Posix(rule) => jiff_tz::TimeZone::Posix(rule),
+        })
+    }
+}
+
+// The zone that always has this offset.
+fn fixed(seconds: i32) -> Display
+    requires { IsWithin 86_340 seconds }
+    ensures { said_by (zone_of result) ≡ Some (Said.Always seconds) }
+{
+    let offset = Offset::from_seconds(i64::from(seconds)).unwrap();
+    Display {
+        kind: Kind::Fixed(offset),
+    }
+}
+
+impl Place for Display {
+    ghost use Rattle.std.specs.Prelude.{pos};
+    ghost use Rattle.ics_zone.specs.Displays.{offset_of, moment_of};
+    ghost use Rattle.ics_zone.specs.Near.{offset_near, moment_near};
+    ghost use Rattle.ics_zone.specs.Zones.{zone_of};
+
+    ghost offset_at = { λ display moment. offset_of (zone_of display) moment };
+
+    ghost moment_at = { λ display local. moment_of (zone_of display) local };
+
+    ghost reach = { λ display. pos 9_223_372_036_854_775_807 };
+
+    fn reached(&self) -> Moment {
+        Moment::MAX
+    }
+
+    /// jiff's offset at the instant.
+    fn offset(&self, moment: Moment) -> i32 {
+        let instant = Timestamp::from_second(moment).unwrap();
+        self.zone().to_offset(instant).seconds()
+    }
+
+    /// The instant that jiff calls compatible with the local.
+    fn moment(&self, local: Local) -> Moment
+        requires { IsDay local.day }
+        ensures picked { IsCompatible (zone_of self.now) (local_seconds local.day local.second) result }
+        ensures value { result ≡ moment_of (zone_of self.now) (local_seconds local.day local.second) }
+    {
+        picked_moment(self.zone(), local)
+    }
+
+    ghost near = { λ display moment. offset_near (zone_of display) moment };
+
+    ghost moment_near = { λ display local. moment_near (zone_of display) local };
+}
+
+// The instant that jiff calls compatible with the local in one of its zones.
+fn picked_moment(zone: TimeZone<'static>, local: Local) -> Moment
+    requires day { IsDay local.day }
+    requires own { IsSome (said_by (plain_zone zone)) }
+    ensures picked { IsCompatible (plain_zone zone.entry) (local_seconds local.day local.second) result }
+    ensures value { result ≡ moment_of (plain_zone zone.entry) (local_seconds local.day local.second) }
+{
+    let instant = zone.to_timestamp(datetime(local)).unwrap();
+    instant.as_second()
+}
+
+// The local as a datetime of jiff's.
+fn datetime(local: Local) -> DateTime
+    requires { IsDay local.day }
+    ensures { civil_nanos result ≡ nanos_of_seconds (local_seconds local.day local.second) }
+{
+    let days = (local.day + 4_371_587) as u32;
+    let date = jiff_core::civil::Date::from_days_since_min(days);
+    let time = jiff_core::civil::Time {
+        hour: (local.second / 3_600) as u8,
+        minute: (local.second / 60 % 60) as u8,
+        second: (local.second % 60) as u8,
+        subsec_nanosecond: 0,
+    };
+    DateTime::from_plain(jiff_core::civil::DateTime { date, time })
+}

@@ -1,0 +1,26 @@
+//! Why a text is no display zone.
+ghost use Rattle.std.specs.Prelude.{◌≡◌};
+ghost use Rattle.ics_zone.specs.DisplayFaults.{fault_name};
+
+use thiserror::Error;
+
+/// Why a text is no display zone.
+#[derive(Clone, Copy, Debug, PartialEq, Eq, Error)]
+pub enum DisplayFault {
+    #[error("no display zone")]
+    BadZone,
+    #[error("out of memory")]
+    Memory,
+}
+
+impl DisplayFault {
+    /// The fault's name.
+    pub fn name(&self) -> &'static str
+        ensures { result.now ≡ fault_name self.now }
+    {
+        match self {
+            DisplayFault::BadZone => "BadZone",
+            DisplayFault::Memory => "Memory",
+        }
+    }
+}

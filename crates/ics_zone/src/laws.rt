@@ -1,0 +1,16 @@
+//! Laws of display zones.
+ghost use Rattle.std.specs.Prelude.{◌≡◌, ℤ};
+ghost use Rattle.ics_zone.specs.DisplayTexts.{said_by};
+ghost use Rattle.ics_zone.specs.Displays.{offset_of, moment_of};
+ghost use Rattle.ics_zone.specs.Zones.{zone_of};
+ghost use Rattle.ics_zone.specs.declared.display.Display.{Display};
+
+/// Two display zones that say the same have the same offset at each instant, and read each local
+/// as the same instant. So a text names one display zone.
+pub fn one_display()
+    ensures offset { (a b : Display) (moment : ℤ) → said_by (zone_of a) ≡ said_by (zone_of b)
+        → offset_of (zone_of a) moment ≡ offset_of (zone_of b) moment }
+    ensures moment { (a b : Display) (local : ℤ) → said_by (zone_of a) ≡ said_by (zone_of b)
+        → moment_of (zone_of a) local ≡ moment_of (zone_of b) local }
+{
+}

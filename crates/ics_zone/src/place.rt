@@ -1,0 +1,67 @@
+//! What a clock at a place shows.
+ghost use Rattle.std.specs.Prelude.{◌≡◌, ◌≤ℤ◌, ◌+ℤ◌, ◌-ℤ◌, ℤ, pos, neg_ℤ};
+ghost use Rattle.jiff_core.specs.Calendar.{IsBetween};
+ghost use Rattle.ics_zone.specs.Places.{local_seconds, IsMoment, IsDay};
+
+use ics_values::{Local, Moment};
+
+const DAY: i64 = 86_400;
+
+/// A place's clock: the offset from UTC at each instant, and the instant that each local means
+/// (RFC 5545, sections 3.3.5 and 3.6.5). Contracts see a local as one number, its seconds on a
+/// clock without zones. A caller stays in the years 0000 to 9950.
+pub trait Place {
+    ghost use Rattle.std.specs.Prelude.{◌≡◌, ◌-ℤ◌, ℤ};
+    ghost use Rattle.ics_zone.specs.Places.{IsNear};
+
+    /// The offset at an instant, in seconds.
+    ghost offset_at: { Self → ℤ → ℤ };
+
+    /// The instant that a local means.
+    ghost moment_at: { Self → ℤ → ℤ };
+
+    /// The last instant that may be asked for.
+    ghost reach: { Self → ℤ };
+
+    /// The last instant that may be asked for.
+    fn reached(&self) -> Moment
+        ensures { result ≡ reach self.now };
+
+    /// How many seconds the place's clock is ahead of UTC at an instant.
+    fn offset(&self, moment: Moment) -> i32
+        requires moment { IsMoment moment }
+        requires reached { moment ≤ℤ reach self.now }
+        ensures { result ≡ offset_at self.now moment };
+
+    /// The instant that a local means.
+    fn moment(&self, local: Local) -> Moment
+        requires day { IsDay local.day }
+        requires reached { (local_seconds local.day local.second +ℤ pos 172_800) ≤ℤ reach self.now }
+        ensures { result ≡ moment_at self.now (local_seconds local.day local.second) };
+
+    /// What the place's clock shows at an instant: the instant moved by its offset.
+    fn local(&self, moment: Moment) -> Local
+        requires moment { IsMoment moment }
+        requires reached { moment ≤ℤ reach self.now }
+        ensures { local_seconds result.day result.second ≡ moment +ℤ offset_at self.now moment }
+    {
+        local_of(moment + i64::from(self.offset(moment)))
+    }
+
+    /// An offset is less than two days.
+    ghost near: { (place : Self) (moment : ℤ) → IsNear (offset_at place moment) };
+
+    /// A local means an instant less than two days from the same seconds in UTC.
+    ghost moment_near: { (place : Self) (local : ℤ) → IsNear (moment_at place local -ℤ local) };
+}
+
+// The local with these seconds.
+fn local_of(seconds: i64) -> Local
+    requires { IsBetween (neg_ℤ (pos 100_000_000_000_000)) (pos 100_000_000_000_000) seconds }
+    ensures { local_seconds result.day result.second ≡ seconds }
+{
+    Local {
+        day: seconds.div_euclid(DAY) as i32,
+        second: seconds.rem_euclid(DAY) as u32,
+    }
+}
