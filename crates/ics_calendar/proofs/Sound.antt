@@ -1,17 +1,13 @@
 -- What is collected of an event is in order where no fault stands on its lines.
-use Rattle.std.proofs.Common.{◌≡◌, ◌≢◌, ℕ, suc, ◌-◌, ◌≤◌, Bool, true, false, not, ◌&&◌, ◌||◌, ◌==◌, nat_le, IsTrue, List, [], ◌∷◌, length, refl, sym, subst, arith, cond, Option, Some, None, is_some, IfSome, unwrap_or, Result, Ok, Err, map, int_lt, ℤ, pos, ◌+ℤ◌, ◌*ℤ◌}
+use Rattle.std.proofs.Common.{◌≡◌, ap, ◌∙◌, ◌≢◌, ℕ, ◌≤◌, Bool, true, false, not, ◌&&◌, ◌||◌, ◌==◌, nat_le, IsTrue, List, [], ◌∷◌, length, refl, sym, subst, arith, cond, Option, Some, None, is_some, IfSome, unwrap_or, Result, Ok, Err, map, int_lt, ℤ, pos, ◌+ℤ◌, ◌*ℤ◌}
 use Rattle.std.specs.Result.{result_ok}
 use Rattle.std.proofs.lemmas.Bool.Decides.{nat_tests}
 use Rattle.std.proofs.lemmas.Int.{ints}
-use Rattle.jiff_core.specs.Calendar.{IsCivilDate}
-use Rattle.jiff_core.proofs.CalendarLemmas.{day_of_year_bound}
-use Rattle.jiff_core.proofs.SignedLemmas.{signed_arith}
 use Rattle.ics_text.specs.Bytes.{upper}
 use Rattle.ics_text.specs.Contents.{Parts}
-use Rattle.ics_values.specs.Dates.{is_date, day_number}
 use Rattle.ics_values.specs.Digits.{number_at}
 use Rattle.ics_values.specs.Durations.{duration_of}
-use Rattle.ics_values.specs.Stamps.{is_date_form, is_utc_form, is_date_time_form, is_stamp_text, is_stamp_year, year_of, date_exists, time_exists, day_of, local_of, stamp_said, stamp_of}
+use Rattle.ics_values.specs.Stamps.{is_stamp_text, is_stamp_year, year_of, stamp_said, stamp_of, stamp_day, IsStampDay}
 use Rattle.ics_values.specs.Texts.{begins, is_minus}
 use Rattle.ics_values.specs.declared.duration.Duration.{Duration}
 use Rattle.ics_values.specs.declared.duration.DurationFault.{DurationFault}
@@ -20,8 +16,7 @@ use Rattle.ics_values.specs.declared.stamp.Stamp.{Stamp}
 use Rattle.ics_values.specs.declared.stamp.Stamp.TheVariants.{Date, Floating, Utc, Zoned}
 use Rattle.ics_values.specs.declared.stamp.StampFault.{StampFault}
 use Rattle.ics_values.specs.declared.stamp.StampFault.TheVariants as stamp
-use Rattle.ics_values.proofs.DateLemmas as dates
-use Rattle.ics_values.proofs.DayLemmas.{days_before_year-next, days_before_year_mono}
+use Rattle.ics_values.proofs.StampLemmas.{stamp_day-said, date_of-stamp, day_number_range, stamp_years}
 use Rattle.ics_calendar.specs.declared.collected.Collected.{Collected}
 use Rattle.ics_calendar.specs.declared.component.Component.{Component}
 use Rattle.ics_calendar.specs.declared.component.Place.{Place}
@@ -34,60 +29,22 @@ use Rattle.ics_calendar.specs.declared.name.Name.{Name}
 use Rattle.ics_calendar.specs.declared.name.Name.TheVariants as name
 use Rattle.ics_calendar.specs.declared.property.Property.{Property}
 use Rattle.ics_calendar.specs.declared.property.Property.TheVariants as property
-use Rattle.ics_calendar.specs.Event.{IsDayInYears, IsStampInYears, is_zoned, IsTime, longest, seconds_of, IsWithin, IsEnd, IsLasting, IsLength, IsEvent, HasZonesBelow, EndsBelow}
+use Rattle.ics_calendar.specs.Event.{is_zoned, IsTime, longest, seconds_of, IsWithin, IsEnd, IsLasting, IsLength, IsEvent, HasZonesBelow, EndsBelow}
 use Rattle.ics_calendar.specs.Files.{time_of, length_of}
 use Rattle.ics_calendar.specs.Names.{name_of}
 use Rattle.ics_calendar.specs.Pass.{event_of, property_at, read_as, read_on, or_first, behind, closed, event_in, ended, stamp_fault, fault_at, fault_in, fault_on, unknown_zone, later_in, later_on, IsSoundStamp, IsSoundDuration, IsSound, AreSound, IsWhole}
 use Rattle.ics_calendar.specs.Values.{zone_name, dated_of, is_zoned_stamp, length_in_seconds, is_lasting, allowed, lasting_of, is_filled, same_zone, is_out, is_bad_end, is_bad_instant, both, ends_badly, ends_badly_later}
 
--- THE YEARS.
-years : (y m d : ℕ) → is_date y m d ≡ true → 1 ≤ y → y ≤ 9899 → IsDayInYears (day_number y m d)
-years y m d h low high =
-    let p = dates.parts y m d h in
-    let civil : IsCivilDate (pos y) m d = (omega (arith, signed_arith), (p.month_low, p.month_high), (p.day_low, p.day_high)) in
-    let months = dates.days_of-months (pos y) (m - 1) (omega (arith, p.month_low, p.month_high)) in
-    let bound = day_of_year_bound (pos y) m d civil in
-    let first = days_before_year_mono 1 y low in
-    let next = days_before_year-next y in
-    let last = days_before_year_mono (suc y) 9900 (omega arith) in
-    record { first = omega (arith, signed_arith); last = omega (arith, signed_arith) }
-
-and-first : (a b : Bool) → (a && b) ≡ true → a ≡ true
-and-first true b h = refl
-and-first false b h = cc
-
-and-second : (a b : Bool) → (a && b) ≡ true → b ≡ true
-and-second true b h = h
-and-second false b h = cc
-
-dated-text : (a b d t : Bool) → ((a && d) || (b && d && t)) ≡ true → d ≡ true
-dated-text a b true t h = refl
-dated-text true true false t h = cc
-dated-text true false false t h = cc
-dated-text false true false t h = cc
-dated-text false false false t h = cc
-
-within : (k m n : ℕ) → (nat_le k n && nat_le n m) ≡ true → (k ≤ n) × (n ≤ m)
-within k m n h = grind (arith, nat_tests)
-
-said-years : (zoned : Bool) (text : List ℕ) → IsDayInYears (day_of text) → IsStampInYears (stamp_said zoned text)
-said-years zoned text h = by_form (is_date_form text) (is_utc_form text) zoned
+-- A stamp lies in the years of stamps.
+stamp-range : (zoned : Bool) (text : List ℕ) (s : Stamp) → stamp_of zoned text ≡ Ok s → IsStampDay (stamp_day s)
+stamp-range zoned text s e = by_tests (is_stamp_text text) (is_stamp_year (year_of text)) refl refl e
   where
-    by_form : (d u z : Bool) → IsStampInYears (cond d (Date (day_of text)) (cond u (Utc (local_of text)) (cond z (Zoned (local_of text)) (Floating (local_of text)))))
-    by_form true u z = h
-    by_form false true z = h
-    by_form false false true = h
-    by_form false false false = h
-
-pub stamp-years : (zoned : Bool) (text : List ℕ) (s : Stamp) → stamp_of zoned text ≡ Ok s → IsStampInYears s
-stamp-years zoned text s e = by_tests (is_stamp_text text) (is_stamp_year (year_of text)) refl refl e
-  where
-    by_tests : (t y : Bool) → is_stamp_text text ≡ t → is_stamp_year (year_of text) ≡ y → cond (not t) (Err stamp.BadStamp) (cond (not y) (Err stamp.YearRange) (Ok (stamp_said zoned text))) ≡ Ok s → IsStampInYears s
+    by_tests : (t y : Bool) → is_stamp_text text ≡ t → is_stamp_year (year_of text) ≡ y → cond (not t) (Err stamp.BadStamp) (cond (not y) (Err stamp.YearRange) (Ok (stamp_said zoned text))) ≡ Ok s → IsStampDay (stamp_day s)
     by_tests true true t y e =
-        let exists : date_exists text ≡ true = dated-text (is_date_form text) (is_date_time_form text) (date_exists text) (time_exists text) t in
-        let range : (1 ≤ year_of text) × (year_of text ≤ 9899) = within 1 9899 (year_of text) y in
+        let years = stamp_years (year_of text) y in
         let said : stamp_said zoned text ≡ s = cc in
-        subst (λ (s : Stamp). IsStampInYears s) said (said-years zoned text (years (year_of text) (number_at text 4 6) (number_at text 6 8) exists range.0 range.1))
+        subst (λ (d : ℤ). IsStampDay d) (sym (stamp_day-said zoned text) ∙ ap stamp_day said)
+        (day_number_range (year_of text) (number_at text 4 6) (number_at text 6 8) (date_of-stamp text t) years.0 years.1)
     by_tests true false t y e = cc
     by_tests false y t h e = cc
 
@@ -100,7 +57,7 @@ sound-dated : (params value : List ℕ) (more : Option FaultKind) → stamp_faul
 sound-dated params value more = by_result (stamp_of (is_some (zone_name params)) value) refl
   where
     by_result : (r : Result Stamp StampFault) → stamp_of (is_some (zone_name params)) value ≡ r → stamp_fault r more ≡ None → cond (is_zoned_stamp r) (Some UnknownZone) None ≡ None → IsSoundStamp r
-    by_result (Ok s) e f l = (stamp-years (is_some (zone_name params)) value s e, no-zone (is_zoned s) l)
+    by_result (Ok s) e f l = (stamp-range (is_some (zone_name params)) value s e, no-zone (is_zoned s) l)
     by_result (Err stamp.BadStamp) e f l = cc
     by_result (Err stamp.YearRange) e f l = cc
 
@@ -222,8 +179,8 @@ whole (property.End false) frames had e l s h = cc
 whole _ frames had e l s h = cc
 
 -- AND SO IS ITS EVENT.
-day-zero : IsDayInYears (pos 0)
-day-zero = record { first = omega (arith, signed_arith); last = omega (arith, signed_arith) }
+day-zero : IsStampDay (pos 0)
+day-zero = (omega (arith, ints), omega (arith, ints))
 
 stamp-time : (r : Result Stamp StampFault) → IsSoundStamp r → IsTime (record { stamp = unwrap_or (result_ok r) (Date (pos 0)); zone = None })
 stamp-time (Ok s) h = record { years = h.0; zone = sym h.1 }

@@ -1,6 +1,6 @@
 -- An event of a file, as contracts see it, and what holds of each (RFC 5545, section 3.6.1).
 use Rattle.std.specs.Prelude.{◌≡◌, ◌≢◌, ℕ, ◌+◌, ◌*◌, ◌<◌, ◌≤◌, Bool, true, false, IsTrue, List, [], is_some, IfSome, All, ℤ, pos, ◌≤ℤ◌, ◌+ℤ◌, ◌*ℤ◌}
-use Rattle.ics_values.specs.Dates.{day_number}
+use Rattle.ics_values.specs.Stamps.{stamp_day, IsStampDay}
 use Rattle.ics_values.specs.declared.local.Local.{Local}
 use Rattle.ics_values.specs.declared.duration.Duration.{Duration}
 use Rattle.ics_values.specs.declared.stamp.Stamp.{Stamp}
@@ -24,24 +24,13 @@ pub record EventSeen : Type 0 where
 pub record FileSeen : Type 0 where
   pub events : List EventSeen
 
--- The day lies in the years 0001 to 9899.
-pub record IsDayInYears (day : ℤ) : Type 0 where
-  pub first : day_number 1 1 1 ≤ℤ day
-  pub last : day ≤ℤ day_number 9_899 12 31
-
-abbrev pub IsStampInYears : Stamp → Type 0
-IsStampInYears (Date day) = IsDayInYears day
-IsStampInYears (Floating local) = IsDayInYears local.day
-IsStampInYears (Utc local) = IsDayInYears local.day
-IsStampInYears (Zoned local) = IsDayInYears local.day
-
 abbrev pub is_zoned : Stamp → Bool
 is_zoned (Zoned local) = true
 is_zoned _ = false
 
--- A time whose stamp lies in those years, and that has a zone exactly where its stamp is a zoned one.
+-- A time whose stamp lies in the years 0001 to 9899, and that has a zone exactly where its stamp is a zoned one.
 pub record IsTime (time : Time) : Type 0 where
-  pub years : IsStampInYears time.stamp
+  pub years : IsStampDay (stamp_day time.stamp)
   pub zone : is_some time.zone ≡ is_zoned time.stamp
 
 -- the longest event, in seconds

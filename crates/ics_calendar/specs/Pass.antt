@@ -6,6 +6,7 @@ use Rattle.ics_text.specs.Unfolded.{Line}
 use Rattle.ics_text.specs.Contents.{Parts, content_of, param_of}
 use Rattle.ics_values.specs.Integers.{integer_of}
 use Rattle.ics_values.specs.Plain.{text_of}
+use Rattle.ics_values.specs.Stamps.{stamp_day, IsStampDay}
 use Rattle.ics_values.specs.declared.duration.Duration.{Duration}
 use Rattle.ics_values.specs.declared.stamp.Stamp.{Stamp}
 use Rattle.ics_values.specs.declared.duration.DurationFault.{DurationFault}
@@ -25,7 +26,7 @@ use Rattle.ics_calendar.specs.declared.name.Name.TheVariants as name
 use Rattle.ics_calendar.specs.declared.property.Property.{Property}
 use Rattle.ics_calendar.specs.declared.property.Property.TheVariants as property
 use Rattle.ics_calendar.specs.Components.{component_of, component_name, place_in, is_event_place}
-use Rattle.ics_calendar.specs.Event.{EventSeen, FileSeen, IsStampInYears, is_zoned}
+use Rattle.ics_calendar.specs.Event.{EventSeen, FileSeen, is_zoned}
 use Rattle.ics_calendar.specs.Names.{name_of}
 use Rattle.ics_calendar.specs.Placed.{Placed, value, has, first_named}
 use Rattle.ics_calendar.specs.Values.{dated_of, is_bad_stamp, is_far_stamp, is_zoned_stamp, is_lasting, lasting_of, is_bad_duration, is_large_duration, is_large_integer, ok_or_zero, is_cancelled, is_filled, ends_badly, ends_badly_later}
@@ -284,7 +285,7 @@ pass frames last pending events (line ∷ lines) =
 
 -- WHAT HOLDS OF WHAT IS COLLECTED: its stamps are in order and in no zone, and its duration is one that an event may have.
 abbrev pub IsSoundStamp : Result Stamp StampFault → Type 0
-IsSoundStamp (Ok stamp) = IsStampInYears stamp × (is_zoned stamp ≡ false)
+IsSoundStamp (Ok stamp) = IsStampDay (stamp_day stamp) × (is_zoned stamp ≡ false)
 IsSoundStamp (Err fault) = ⊥
 
 abbrev pub IsSoundDuration : Result Duration DurationFault → Type 0

@@ -7,6 +7,9 @@ pub mod PlaceLemmas
 pub mod WalkLemmas
 pub mod UntilLemmas
 pub mod RuleLemmas
+pub mod SaysLemmas
+pub mod ListedLemmas
+pub mod RuleSays
 pub mod RuleExamples
 pub mod StampLemmas
 pub mod LawLemmas

@@ -1,5 +1,5 @@
 -- A walk over pieces, piece by piece.
-use Rattle.std.proofs.Common.{◌≡◌, ◌<◌, ◌≤◌, ◌+◌, ℕ, List, length, get_or, drop, Option, Some, None, sym, ap, ◌∙◌}
+use Rattle.std.proofs.Common.{◌≡◌, ◌<◌, ◌+◌, ℕ, List, length, get_or, drop, Option, Some, None, sym, ap, ◌∙◌, arith}
 use Rattle.std.specs.Prelude.{option_and_then}
 use Rattle.std.proofs.lemmas.List.{at_drop_more, at_drop_all}
 use Rattle.ics_values.specs.RuleDrafts.{walk}
@@ -17,5 +17,5 @@ pub walk_taken : {S : Type 0} (step : S → List ℕ → Option S) (s t : S) (xs
 walk_taken step s t xs n x h taken = walk-drop step s xs n x h ∙ ap (option_and_then (λ u. walk step u (drop (n + 1) xs))) taken
 
 -- all pieces are taken
-pub walk_all : {S : Type 0} (step : S → List ℕ → Option S) (s : S) (xs : List (List ℕ)) (n : ℕ) → length xs ≤ n → walk step s (drop n xs) ≡ Some s
-walk_all step s xs n h = at_drop_all (walk step s) xs n h
+pub walk_all : {S : Type 0} (step : S → List ℕ → Option S) (s : S) (xs : List (List ℕ)) (n : ℕ) → n ≡ length xs → walk step s (drop n xs) ≡ Some s
+walk_all step s xs n e = at_drop_all (walk step s) xs n (omega arith)

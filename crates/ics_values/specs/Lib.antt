@@ -20,4 +20,5 @@ pub mod RuleParts
 pub mod RuleTexts
 pub mod Rules
 pub mod RuleDrafts
+pub mod RuleLaws
 pub mod Faults

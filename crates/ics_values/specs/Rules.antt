@@ -9,6 +9,7 @@ use Rattle.ics_values.specs.RuleParts.{RuleParts, every}
 use Rattle.ics_values.specs.declared.frequency.Frequency.TheVariants.{Yearly}
 use Rattle.ics_values.specs.declared.rule_text.RuleFault.{RuleFault}
 use Rattle.ics_values.specs.declared.rule_text.RuleFault.TheVariants.{BadRule, NumberTooLarge}
+use Rattle.ics_values.specs.declared.places.Weekdays.{Weekdays}
 use Rattle.ics_values.specs.declared.part_name.ListName.{ListName}
 use Rattle.ics_values.specs.declared.part_name.ListName.TheVariants.{BySecond, ByMinute, ByHour, ByDay, ByMonthDay, ByYearDay, ByWeekNo, ByMonth, BySetPos}
 use Rattle.ics_values.specs.declared.part_name.PartName.{PartName}
@@ -16,19 +17,19 @@ use Rattle.ics_values.specs.declared.part_name.PartName.TheVariants as part
 use Rattle.ics_values.specs.Texts.{unsigned}
 use Rattle.ics_values.specs.RuleTexts.{Part, pieces, frequency_of, weekday_of, until_of, side_of, day_text, number_before, parts_of, are_parts}
 
--- a weekday of BYDAY, without a number or with one
-abbrev pub with_day : Option Weekday → List ℕ → RuleParts → RuleParts
-with_day None item rule = rule
-with_day (Some day) item rule =
-    if length item == 2 then record rule { weekdays = with_weekday day rule.weekdays }
-    else record rule { weekdays = with_numbered_weekday day (side_of item) (number_of (unsigned (number_before item))) rule.weekdays }
+-- with a weekday of BYDAY, which stands without a number or with one
+abbrev pub with_day : Option Weekday → List ℕ → Weekdays → Weekdays
+with_day None item days = days
+with_day (Some day) item days =
+    if length item == 2 then with_weekday day days
+    else with_numbered_weekday day (side_of (number_before item)) (number_of (unsigned (number_before item))) days
 
 -- An item of a list adds its number to the list's set. Second 60 is read as 59.
 abbrev pub with_item : ListName → RuleParts → List ℕ → RuleParts
 with_item BySecond rule item = record rule { seconds = with_number (min (number_of item) 59) rule.seconds }
 with_item ByMinute rule item = record rule { minutes = with_number (number_of item) rule.minutes }
 with_item ByHour rule item = record rule { hours = with_number (number_of item) rule.hours }
-with_item ByDay rule item = with_day (weekday_of (day_text item)) item rule
+with_item ByDay rule item = record rule { weekdays = with_day (weekday_of (day_text item)) item rule.weekdays }
 with_item ByMonthDay rule item = record rule { month_days = with_place (side_of item) (number_of (unsigned item)) rule.month_days }
 with_item ByYearDay rule item = record rule { year_days = with_wide_place (side_of item) (number_of (unsigned item)) rule.year_days }
 with_item ByWeekNo rule item = record rule { weeks = with_place (side_of item) (number_of (unsigned item)) rule.weeks }

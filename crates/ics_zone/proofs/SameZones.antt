@@ -1,5 +1,5 @@
 -- Zones that say the same agree in every offset and in every reading of a local.
-use Rattle.std.proofs.Common.{◌≡◌, ◌-ℤ◌, ℤ, pos, Bool, true, false, Option, Some, None, option_map, refl, ap, ap₂, if◌then◌else◌, IsTrue}
+use Rattle.std.proofs.Common.{◌≡◌, ◌-ℤ◌, ℤ, Bool, true, false, Option, Some, None, option_map, refl, ap, if◌then◌else◌, IsTrue}
 use Rattle.std.proofs.Props.{props}
 use mathlib.Core.HLevel.{is_prop→PathP}
 use Rattle.jiff.specs.Words.{nanos_of_seconds}
@@ -10,17 +10,14 @@ use Rattle.jiff_tz.specs.Ambiguous.{compatible_offset}
 use Rattle.jiff_tz.specs.PosixDay.{is_rule_day}
 use Rattle.jiff_tz.specs.PosixRule as PosixRule
 use Rattle.jiff_tz.specs.PosixRule.{match_some, utc_window, in_window, rule_nanos, ambiguous_by}
-use Rattle.jiff_tz.specs.PosixText.{dst_view, day_time_view, tz_view}
+use Rattle.jiff_tz.specs.PosixText.{dst_view, tz_view}
 use Rattle.jiff_tz.specs.Year.{year_of_nanos}
 use Rattle.jiff_tz.specs.Zone.{offset_at}
 use Rattle.jiff_tz.specs.declared.ambiguous.AmbiguousOffset.{AmbiguousOffset}
-use Rattle.jiff_tz.specs.declared.posix.Day.{Day}
 use Rattle.jiff_tz.specs.declared.posix.DayTime.{DayTime}
 use Rattle.jiff_tz.specs.declared.posix.Dst.{Dst}
-use Rattle.jiff_tz.specs.declared.timezone.TimeZone.{TimeZone}
-use Rattle.jiff_tz.specs.declared.timezone.TimeZone.TheVariants as zone
 use Rattle.ics_zone.specs.DisplayTexts.{said_by}
-use Rattle.ics_zone.specs.Displays.{offset_of, offsets_of, rule_offsets, moment_of}
+use Rattle.ics_zone.specs.Displays.{offset_of, rule_offsets, moment_of}
 use Rattle.ics_zone.specs.Zones.{zone_by}
 use Rattle.ics_zone.specs.declared.display.Kind.{Kind}
 use Rattle.ics_zone.specs.declared.display.Kind.TheVariants.{Fixed, Posix}

@@ -12,5 +12,4 @@ pub fn one_display()
         → offset_of (zone_of a) moment ≡ offset_of (zone_of b) moment }
     ensures moment { (a b : Display) (local : ℤ) → said_by (zone_of a) ≡ said_by (zone_of b)
         → moment_of (zone_of a) local ≡ moment_of (zone_of b) local }
-{
-}
+{}

@@ -58,7 +58,11 @@ fn reads_offsets(rt: HostRuntime) -> Result<(), Fail> {
     ] {
         let zone = Display::parse(rt.alloc(), text)?;
         assert_eq!(rt; zone.offset(0), seconds, "at {text:?}");
-        assert_eq!(rt; zone.moment(at(0, 0, 0)), -i64::from(seconds), "at {text:?}");
+        assert_eq!(rt;
+            zone.moment(at(0, 0, 0)),
+            -i64::from(seconds),
+            "at {text:?}"
+        );
     }
     Ok(())
 }
@@ -66,8 +70,22 @@ fn reads_offsets(rt: HostRuntime) -> Result<(), Fail> {
 #[test]
 fn refuses_other_texts(rt: HostRuntime) {
     for text in [
-        "", "utc", "z", "UTC ", "05:00", "+5:00", "+0500", "+24:00", "+05:60", "+05:00:00", "EST",
-        "EST5EDT", "EST5EDT,M3.2.0", "X5", "XST-1\n", "Europe/Berlin",
+        "",
+        "utc",
+        "z",
+        "UTC ",
+        "05:00",
+        "+5:00",
+        "+0500",
+        "+24:00",
+        "+05:60",
+        "+05:00:00",
+        "EST",
+        "EST5EDT",
+        "EST5EDT,M3.2.0",
+        "X5",
+        "XST-1\n",
+        "Europe/Berlin",
     ] {
         match Display::parse(rt.alloc(), text) {
             Ok(_) => panic!(rt; "taken: {text:?}"),

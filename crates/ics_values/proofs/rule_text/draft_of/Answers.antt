@@ -1,4 +1,4 @@
-use Rattle.std.proofs.Common.{◌≡◌, ◌==◌, ◌∙◌, sym, length, Some, None, rules, tests, arith}
+use Rattle.std.proofs.Common.{◌≡◌, ◌==◌, ◌∙◌, sym, length, Some, None, rules, tests}
 use Rattle.std.proofs.lemmas.Iterator.Splits.{YieldsList-from_slice_split}
 use Rattle.std.proofs.lemmas.Iterator.Consumers.{YieldsList-turn, YieldsList-end}
 use Rattle.std.proofs.lemmas.List.{length_push}
@@ -27,4 +27,4 @@ pub returns : goal.returns
 returns c =
     let road = YieldsList-from_slice_split _ (λ b. b == 59) (without_last c.args.text.now) (cc) (cc) (cc) (λ x r q k. search (rules, tests)) in
     let last = YieldsList-end road c.parts.yielded _ c.parts.yielded_by _ _ c.in-None.is c.next.ensures.steps in
-    sym (sym c.parts.invariant ∙ walk_all part_taken c.parts.draft (pieces 59 (without_last c.args.text.now)) (length c.parts.yielded) (omega (arith, last.1)))
+    sym (sym c.parts.invariant ∙ walk_all part_taken c.parts.draft (pieces 59 (without_last c.args.text.now)) (length c.parts.yielded) last.1)

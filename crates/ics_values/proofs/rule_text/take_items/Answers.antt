@@ -1,4 +1,4 @@
-use Rattle.std.proofs.Common.{◌≡◌, ◌==◌, ◌∙◌, sym, length, Some, None, rules, tests, arith}
+use Rattle.std.proofs.Common.{◌≡◌, ◌==◌, ◌∙◌, sym, length, Some, None, rules, tests}
 use Rattle.std.proofs.lemmas.Iterator.Splits.{YieldsList-from_slice_split}
 use Rattle.std.proofs.lemmas.Iterator.Consumers.{YieldsList-turn, YieldsList-end}
 use Rattle.std.proofs.lemmas.List.{length_push}
@@ -27,4 +27,4 @@ pub returns : goal.returns
 returns c =
     let road = YieldsList-from_slice_split _ (λ b. b == 44) c.args.value.now (cc) (cc) (cc) (λ x r q k. search (rules, tests)) in
     let last = YieldsList-end road c.items.yielded _ c.items.yielded_by _ _ c.in-None.is c.next.ensures.steps in
-    sym c.items.invariant ∙ walk_all (item_taken c.args.list) c.items.parts (pieces 44 c.args.value.now) (length c.items.yielded) (omega (arith, last.1))
+    sym c.items.invariant ∙ walk_all (item_taken c.args.list) c.items.parts (pieces 44 c.args.value.now) (length c.items.yielded) last.1

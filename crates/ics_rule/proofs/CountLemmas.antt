@@ -1,0 +1,171 @@
+-- What a rule chooses is counted period by period.
+use Rattle.std.proofs.Common.{◌≡◌, ◌≢◌, ℕ, suc, ◌+◌, ◌-◌, ◌<◌, ◌≤◌, ◌⊎◌, inl, inr, Bool, true, false, ◌==◌, nat_le, nat_lt, ◌&&◌, Option, Some, None, MatchOption, refl, sym, subst, ap, ◌∙◌, arith}
+use Rattle.std.proofs.lemmas.Bool.Decides.{nat_tests}
+use Rattle.jiff_core.specs.Weekday.{monday_zero}
+use Rattle.ics_values.specs.Sets.{IsLeastFrom}
+use Rattle.ics_values.specs.Places.{lists_none_wide}
+use Rattle.ics_rule.specs.declared.filled.Filled.{Filled}
+use Rattle.ics_rule.specs.declared.period.Period.{Period}
+use Rattle.ics_rule.specs.declared.cursor.Cursor.{Cursor}
+use Rattle.ics_rule.specs.Candidates.{is_stepped, period_in}
+use Rattle.ics_rule.specs.Kept.{count, is_chosen}
+use Rattle.ics_rule.specs.Periods.{first_local, IsPeriodOf, is_taken}
+use Rattle.ics_rule.specs.Cursors.{is_met, fresh, HeldBy, CountedBy, IsCounted, IsCursorIn, HasLookedIn}
+use Rattle.ics_rule.specs.Searches.{is_chosen_within, is_few, is_wanted, NoneWanted, IsNextWanted, IsWalked, LooksOnce, IsTurnOf, AllCounted, IsTurned, after_look}
+use Rattle.ics_rule.proofs.PeriodLemmas.{begun, begins, first_in, period_mono, week_small}
+use Rattle.ics_rule.proofs.Counts.{count-same, count-add, count-none, count_mono, count_most, count_every}
+use Rattle.ics_rule.proofs.RankLemmas.{count_flat}
+use Rattle.ics_rule.proofs.StepLemmas.{stepped_parts, step_on, none_between, not_true}
+use Rattle.ics_rule.proofs.ChosenLemmas.{no_step, taken_is}
+use Rattle.ics_rule.proofs.CursorLemmas.{meets, within_here}
+
+by_order : (a b : ℕ) → (a < b) ⊎ (b ≤ a)
+by_order a b = grind arith
+
+apart_test : (a b : ℕ) → a ≢ b → (a == b) ≡ false
+apart_test a b h = grind (arith, nat_tests)
+
+-- a period that lies a multiple of the interval from the start's is not before it
+pub step_low : (q : Filled) (start number : ℕ) → is_stepped (period_in q start) q.interval number ≡ true → period_in q 0 ≤ number
+step_low q start number step =
+    let parts = stepped_parts (period_in q start) q.interval number step in
+    let low = period_mono q.frequency (monday_zero q.week_start) 0 start (omega arith) in
+    omega (arith, parts.0, low)
+
+-- before the start's period nothing is chosen
+pub none_before_first : (q : Filled) (start : ℕ) → count (first_local q.frequency (monday_zero q.week_start) (period_in q start)) (is_chosen q start) ≡ 0
+none_before_first q start = count-none (first_local q.frequency (monday_zero q.week_start) (period_in q start)) (is_chosen q start) (λ m l. no_step q start m
+    (not_true (is_stepped (period_in q start) q.interval (period_in q m)) (λ yes.
+    let parts = stepped_parts (period_in q start) q.interval (period_in q m) yes in
+    let late = begun q.frequency (monday_zero q.week_start) (period_in q start) m parts.0 in
+    omega (arith, late, l))))
+
+-- a later period begins later
+pub first_mono : (q : Filled) (a b : ℕ) → period_in q 0 ≤ b → a ≤ b → first_local q.frequency (monday_zero q.week_start) a ≤ first_local q.frequency (monday_zero q.week_start) b
+first_mono q a b low h =
+    let own = first_in q.frequency (monday_zero q.week_start) b (week_small q.week_start) low in
+    begun q.frequency (monday_zero q.week_start) a (first_local q.frequency (monday_zero q.week_start) b) (omega (arith, own, h))
+
+module _ (q : Filled) (start : ℕ) (p : Period) (own : IsPeriodOf q p) (step : is_stepped (period_in q start) q.interval p.number ≡ true) (some : 1 ≤ q.interval) where
+  abbrev taken : ℕ → Bool
+  taken = is_taken q.positions (lists_none_wide q.positions) p
+
+  abbrev first : ℕ
+  first = first_local q.frequency (monday_zero q.week_start) p.number
+
+  abbrev next : ℕ
+  next = first_local q.frequency (monday_zero q.week_start) (p.number + q.interval)
+
+  out : (m : ℕ) → period_in q m ≢ p.number → taken m ≡ false
+  out m other = taken_is q start p own step m ∙ ap (λ x. x && is_chosen q start m) (apart_test (period_in q m) p.number other)
+
+  -- from this period's first local to the next one's the two agree
+  same_here : (m : ℕ) → first ≤ m → m < next → is_chosen q start m ≡ taken m
+  same_here m l h =
+      let low = begins q.frequency (monday_zero q.week_start) p.number m l in
+      elim (by_order p.number (period_in q m)) [
+        | inl later ↦
+            let before : period_in q m < p.number + q.interval = (elim (by_order (period_in q m) (p.number + q.interval)) [
+              | inl less ↦ less
+              | inr more ↦ absurd (let late = begun q.frequency (monday_zero q.week_start) (p.number + q.interval) m more in omega (arith, late, h))
+            ]) in
+            no_step q start m (none_between q.interval some (period_in q start) p.number (period_in q m) step later before)
+            ∙ sym (out m (λ e. omega (arith, e, later)))
+        | inr same ↦ sym (taken_is q start p own step m ∙ within_here q start p.number m (omega (arith, same, low)))
+      ]
+
+  pub chosen_before : (n : ℕ) → first ≤ n → n ≤ next → count n (is_chosen q start) ≡ count first (is_chosen q start) + count n taken
+  chosen_before n l h =
+      let whole : first + (n - first) ≡ n = omega arith in
+      let chosen = count-add first (n - first) (is_chosen q start) in
+      let took = count-add first (n - first) taken in
+      let none = count-none first taken (λ m less. out m (λ e. let late = begun q.frequency (monday_zero q.week_start) p.number m (omega (arith, e)) in omega (arith, late, less))) in
+      let same = count-same (n - first) (λ k. is_chosen q start (first + k)) (λ k. taken (first + k)) (λ k less. same_here (first + k) (omega arith) (omega arith)) in
+      let a = ap (λ x. count x (is_chosen q start)) whole in
+      let b = ap (λ x. count x taken) whole in
+      omega (arith, chosen, took, none, same, a, b)
+
+  pub first_next : first ≤ next
+  first_next = first_mono q p.number (p.number + q.interval) (let low = step_low q start p.number step in omega (arith, low)) (omega arith)
+
+  -- the whole period
+  pub chosen_all : (end : ℕ) → next ≤ end → count next (is_chosen q start) ≡ count first (is_chosen q start) + count end taken
+  chosen_all end h =
+      let own = chosen_before next first_next (omega arith) in
+      let flat = count_flat next end taken h (λ m l u. out m (λ e. let late = begins q.frequency (monday_zero q.week_start) (p.number + q.interval) m l in omega (arith, late, e, some))) in
+      omega (arith, own, flat)
+
+-- a count past the limit keeps nothing more
+pub not_few : (q : Filled) (start c limit n m : ℕ) → limit + 1 ≡ c + count (suc start) (is_chosen q start) → limit ≤ count n (is_chosen q start) → n ≤ m → is_few q start c m ≡ false
+not_few q start c limit n m most h l =
+    let more = count_mono n m (is_chosen q start) l in
+    none (count m (is_chosen q start)) (c + count (suc start) (is_chosen q start)) (omega (arith, more, h, most))
+  where
+    none : (a b : ℕ) → b ≤ a + 1 → nat_lt (a + 1) b ≡ false
+    none a b h = grind (arith, nat_tests)
+
+pub are_few : (q : Filled) (start c limit n : ℕ) → limit + 1 ≡ c + count (suc start) (is_chosen q start) → count n (is_chosen q start) < limit → is_few q start c n ≡ true
+are_few q start c limit n most h = some (count n (is_chosen q start)) (c + count (suc start) (is_chosen q start)) (omega (arith, h, most))
+  where
+    some : (a b : ℕ) → a + 1 < b → nat_lt (a + 1) b ≡ true
+    some a b h = grind (arith, nat_tests)
+
+-- the first look, at the start's period
+pub turned_first : (q : Filled) (start c number limit before : ℕ) (cursor : Cursor) (p : Period) → 1 ≤ q.interval → 1 ≤ c → number ≡ period_in q start → is_stepped (period_in q start) q.interval number ≡ true
+    → IsPeriodOf q p → p.number ≡ number → cursor.held ≡ Some p → cursor.counted ≡ 0 → cursor.limit ≡ limit → limit ≡ c - 1 + before → before ≡ count (start + 1) (is_taken q.positions (lists_none_wide q.positions) p)
+    → IsTurned q start c number cursor p
+turned_first q start c number limit before cursor p some positive e step own same held zero most el eb = record {
+  held = held;
+  product = own;
+  number = same;
+  counted = record {
+    step = here;
+    total = zero ∙ sym (none_before_first q start) ∙ ap (λ x. count (first_local q.frequency (monday_zero q.week_start) x) (is_chosen q start)) (sym (same ∙ e));
+    most =
+        let low = begun q.frequency (monday_zero q.week_start) p.number start (omega (arith, same, e)) in
+        let high : start + 1 ≤ first_local q.frequency (monday_zero q.week_start) (p.number + q.interval) = (elim (by_order start (first_local q.frequency (monday_zero q.week_start) (p.number + q.interval))) [
+          | inl less ↦ omega (arith, less)
+          | inr more ↦ absurd (let late = begins q.frequency (monday_zero q.week_start) (p.number + q.interval) start more in omega (arith, late, same, e, some))
+        ]) in
+        let chosen = chosen_before q start p own here some (start + 1) (omega (arith, low)) high in
+        let none = none_before_first q start in
+        let back = ap (λ x. count (first_local q.frequency (monday_zero q.week_start) x) (is_chosen q start)) (same ∙ e) in
+        let one : start + 1 ≡ suc start = omega arith in
+        let same_one = ap (λ x. count x (is_chosen q start)) one in
+        omega (arith, chosen, none, back, same_one, most, el, eb, positive);
+  };
+}
+  where
+    here : is_stepped (period_in q start) q.interval p.number ≡ true
+    here = ap (is_stepped (period_in q start) q.interval) same ∙ step
+
+-- each further look
+pub turned_on : (q : Filled) (start c number total before end : ℕ) (was cursor : Cursor) (o p : Period) → 1 ≤ q.interval → IsPeriodOf q o → IsCounted q start c was.counted was.limit o → o.number + q.interval ≡ number
+    → first_local q.frequency (monday_zero q.week_start) number ≤ end → total ≡ was.counted + before → before ≡ count end (is_taken q.positions (lists_none_wide q.positions) o)
+    → IsPeriodOf q p → p.number ≡ number → cursor ≡ after_look was p total → IsTurned q start c number cursor p
+turned_on q start c number total before end was cursor o p some own counted e h et eb product same look = subst (λ (x : Cursor). IsTurned q start c number x p) (sym look) (record {
+  held = refl;
+  product = product;
+  number = same;
+  counted = record {
+    step = ap (is_stepped (period_in q start) q.interval) (same ∙ sym e) ∙ step_on q.interval some (period_in q start) o.number counted.step;
+    total = et ∙ (let all = chosen_all q start o own counted.step some end (subst (λ x. first_local q.frequency (monday_zero q.week_start) x ≤ end) (sym e) h) in
+        let back = ap (λ x. count (first_local q.frequency (monday_zero q.week_start) x) (is_chosen q start)) (e ∙ sym same) in omega (arith, all, back, eb, counted.total));
+    most = counted.most;
+  };
+})
+
+pub counted_out : (q : Filled) (start c number before end counted limit : ℕ) (o : Period) → 1 ≤ q.interval → IsPeriodOf q o → IsCounted q start c counted limit o → o.number + q.interval ≡ number
+    → first_local q.frequency (monday_zero q.week_start) number ≤ end → before ≡ count end (is_taken q.positions (lists_none_wide q.positions) o) → limit ≤ counted + before → AllCounted q start c number
+counted_out q start c number before end counted limit o some own known e h eb out n l =
+    not_few q start c limit (first_local q.frequency (monday_zero q.week_start) number) n known.most
+    (let all = chosen_all q start o own known.step some end (subst (λ x. first_local q.frequency (monday_zero q.week_start) x ≤ end) (sym e) h) in
+    let back = ap (λ x. count (first_local q.frequency (monday_zero q.week_start) x) (is_chosen q start)) e in omega (arith, all, back, eb, known.total, out)) l
+
+-- counts stay small
+pub counted_small : (q : Filled) (start c number counted limit : ℕ) (o : Period) → IsCounted q start c counted limit o → o.number ≤ number → is_stepped (period_in q start) q.interval number ≡ true
+    → first_local q.frequency (monday_zero q.week_start) number ≤ 309_289_708_800 → counted ≤ 309_289_708_800
+counted_small q start c number counted limit o known l step h =
+    let most = count_most (first_local q.frequency (monday_zero q.week_start) o.number) (is_chosen q start) in
+    let up = first_mono q o.number number (step_low q start number step) l in
+    omega (arith, most, up, known.total)

@@ -1,0 +1,116 @@
+-- Laws of counting, by which places and counts are found without walking each second.
+use Rattle.std.proofs.Common.{◌≡◌, ℕ, zero, suc, ◌+◌, ◌-◌, ◌*◌, ◌/◌, ◌%◌, ◌<◌, ◌≤◌, Bool, true, false, ◌&&◌, cond, refl, sym, ap, ◌∙◌, arith, ◌≢◌}
+use Rattle.std.proofs.lemmas.Nat.{div-mul-add, mod-mul-add}
+use Rattle.ics_rule.specs.Kept.{count}
+
+-- tests that agree below n count alike
+pub count-same : (n : ℕ) (p q : ℕ → Bool) → ((m : ℕ) → m < n → p m ≡ q m) → count n p ≡ count n q
+unfolding count
+count-same zero p q h = refl
+count-same (suc n) p q h = rw (h n (omega arith)) (ap (λ c. c + cond (q n) 1 0) (count-same n p q (λ m l. h m (omega arith))))
+
+-- one number, and one number more
+pub count-suc : (n : ℕ) (p : ℕ → Bool) → count (suc n) p ≡ count n p + cond (p n) 1 0
+unfolding count
+count-suc n p = refl
+
+-- a range in two parts
+pub count-add : (a n : ℕ) (p : ℕ → Bool) → count (a + n) p ≡ count a p + count n (λ k. p (a + k))
+unfolding count
+count-add a zero p = let e : a + 0 ≡ a = omega arith in rw e (omega arith)
+count-add a (suc n) p = let e : a + suc n ≡ suc (a + n) = omega arith in rw e (omega (arith, count-add a n p))
+
+-- a test that nothing passes
+pub count-none : (n : ℕ) (p : ℕ → Bool) → ((m : ℕ) → m < n → p m ≡ false) → count n p ≡ 0
+unfolding count
+count-none zero p h = refl
+count-none (suc n) p h = rw (h n (omega arith)) (omega (arith, count-none n p (λ m l. h m (omega arith))))
+
+-- what nothing passes in front need not be walked
+pub count-from : (a n : ℕ) (p : ℕ → Bool) → ((m : ℕ) → m < a → p m ≡ false) → count (a + n) p ≡ count n (λ k. p (a + k))
+count-from a n p h = omega (arith, count-add a n p, count-none a p h)
+
+-- nor behind
+pub count-up_to : (a n : ℕ) (p : ℕ → Bool) → ((m : ℕ) → a ≤ m → m < a + n → p m ≡ false) → count (a + n) p ≡ count a p
+count-up_to a n p h = omega (arith, count-add a n p, count-none n (λ k. p (a + k)) (λ k l. h (a + k) (omega arith) (omega arith)))
+
+-- a test that does not read the number
+count-all : (b : Bool) (n : ℕ) (q : ℕ → Bool) → count n (λ k. b && q k) ≡ cond b 1 0 * count n q
+unfolding count
+count-all true n q = omega arith
+count-all false n q = count-none n (λ k. false) (λ m l. refl) ∙ omega arith
+
+-- one more block of b
+one_more : (d b : ℕ) (p : ℕ → Bool) → count (suc d * b) p ≡ count (d * b) p + count b (λ k. p (d * b + k))
+one_more d b p = let e : suc d * b ≡ d * b + b = omega arith in rw e (count-add (d * b) b p)
+
+-- a test of the part / b and of the part % b is counted as a product
+pub count-product : (d b : ℕ) (p q : ℕ → Bool) → count (d * b) (λ m. p (m / b) && q (m % b)) ≡ count d p * count b q
+count-product zero b p q = let e : 0 * b ≡ 0 = omega arith in rw e (unfold count in omega arith)
+count-product (suc d) b p q =
+    let block = count-same b (λ k. p ((d * b + k) / b) && q ((d * b + k) % b)) (λ k. p d && q k)
+    (λ k l. ap (λ x. p x && q ((d * b + k) % b)) (div-mul-add d b k l) ∙ ap (λ x. p d && q x) (mod-mul-add d b k l)) in
+    omega (arith, one_more d b (λ m. p (m / b) && q (m % b)), count-product d b p q, block, count-all (p d) b q, ap (λ x. x * count b q) (count-suc d p))
+
+-- of b numbers only t can pass
+only_one : (b t : ℕ) (p : ℕ → Bool) → t < b → ((k : ℕ) → k < b → k ≢ t → p k ≡ false) → count b p ≡ cond (p t) 1 0
+unfolding count
+only_one b t p l h =
+    let e : b ≡ t + suc (b - t - 1) = omega arith in
+    let front = count-none t p (λ m lt. h m (omega arith) (omega arith)) in
+    let same : t + 0 ≡ t = omega arith in
+    let one = count-add t 1 p in
+    let back = count-none (b - t - 1) (λ k. p (t + 1 + k)) (λ m lt. h (t + 1 + m) (omega arith) (omega arith)) in
+    let all = count-add (t + 1) (b - t - 1) p in
+    let f : t + 1 + (b - t - 1) ≡ b = omega arith in
+    let whole = rw f at all in
+    let single : count 1 (λ k. p (t + k)) ≡ cond (p t) 1 0 = rw same (omega arith) in
+    omega (arith, whole, one, front, back, single)
+
+-- a test that only one clock reading passes is counted by days
+pub count-once : (d b t : ℕ) (p : ℕ → Bool) → t < b → ((m : ℕ) → m % b ≢ t → p m ≡ false) → count (d * b) p ≡ count d (λ e. p (e * b + t))
+count-once zero b t p l h = let e : 0 * b ≡ 0 = omega arith in rw e (unfold count in refl)
+count-once (suc d) b t p l h =
+    let block = only_one b t (λ k. p (d * b + k)) l (λ k lt ne. h (d * b + k) (λ e. ne (sym (mod-mul-add d b k lt) ∙ e))) in
+    omega (arith, one_more d b p, count-once d b t p l h, block, count-suc d (λ e. p (e * b + t)))
+
+-- more of the numbers, more that pass
+count_one : (b : Bool) → b ≡ true → ◌≡◌ {A = ℕ} (cond b 1 0) 1
+count_one b e = let f : Bool → ℕ = λ z. cond z 1 0 in ap f e
+
+-- a test that a number below n passes is counted
+pub count_some : (n m : ℕ) (test : ℕ → Bool) → m < n → test m ≡ true → 0 < count n test
+count_some n m test h e =
+    let parts = count-add (suc m) (n - suc m) test in
+    let last = count-suc m test in
+    let one = count_one (test m) e in
+    let all : suc m + (n - suc m) ≡ n = omega arith in
+    let same = ap (λ x. count x test) all in
+    omega (arith, parts, last, one, same)
+
+pub count_mono : (n m : ℕ) (test : ℕ → Bool) → n ≤ m → count n test ≤ count m test
+count_mono n m test h =
+    let parts = count-add n (m - n) test in
+    let same = ap (λ x. count x test) (let all : n + (m - n) ≡ m = omega arith in all) in
+    omega (arith, parts, same)
+
+pub count_one_more : (n m : ℕ) (test : ℕ → Bool) → n ≤ m → test m ≡ true → count n test + 1 ≤ count (suc m) test
+count_one_more n m test h e =
+    let up = count_mono n m test h in
+    let last = count-suc m test in
+    let one = count_one (test m) e in
+    omega (arith, up, last, one)
+
+pub count_most : (n : ℕ) (test : ℕ → Bool) → count n test ≤ n
+unfolding count
+count_most zero test = omega arith
+count_most (suc n) test = let less = count_most n test in let one = at_most (test n) in omega (arith, less, one)
+  where
+    at_most : (b : Bool) → cond b 1 0 ≤ 1
+    at_most true = omega arith
+    at_most false = omega arith
+
+pub count_every : (n : ℕ) → count n (λ m. true) ≡ n
+unfolding count
+count_every zero = refl
+count_every (suc n) = let less = count_every n in omega (arith, less)

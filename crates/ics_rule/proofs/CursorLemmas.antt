@@ -1,0 +1,248 @@
+-- What a cursor looks at.
+use Rattle.std.proofs.Common.{◌≡◌, ℕ, suc, ◌+◌, ◌-◌, ◌<◌, ◌≤◌, ◌⊎◌, inl, inr, Bool, true, false, ◌==◌, nat_le, nat_lt, ◌&&◌, Option, Some, None, MatchOption, refl, sym, subst, ap, ◌∙◌, arith}
+use Rattle.std.proofs.lemmas.Bool.Decides.{nat_tests}
+use Rattle.jiff_core.specs.Weekday.{monday_zero}
+use Rattle.ics_values.specs.Sets.{IsLeastFrom, IsNextIn}
+use Rattle.ics_rule.specs.declared.filled.Filled.{Filled}
+use Rattle.ics_rule.specs.declared.period.Period.{Period}
+use Rattle.ics_rule.specs.declared.cursor.Cursor.{Cursor}
+use Rattle.ics_rule.specs.Candidates.{is_stepped, period_in}
+use Rattle.ics_rule.specs.Kept.{count, is_chosen}
+use Rattle.ics_rule.specs.Periods.{first_local, IsPeriodOf}
+use Rattle.ics_rule.specs.Cursors.{is_met, fresh, HeldBy, CountedBy, IsCursorIn, HasLookedIn, looks_from}
+use Rattle.ics_rule.specs.Searches.{is_chosen_within, is_wanted, NoneWanted, IsNextWanted, IsNextBefore, IsWalked, LooksOnce, after_look}
+use Rattle.ics_rule.proofs.PeriodLemmas.{begun, begins, first_in, period_mono, period_small, week_small}
+use Rattle.ics_rule.proofs.Counts.{count_some, count_mono, count_one_more, count_every}
+use Rattle.ics_rule.proofs.StepLemmas.{step_on, none_between}
+use Rattle.ics_rule.proofs.ChosenLemmas.{no_step}
+
+by_order : (a b : ℕ) → (a < b) ⊎ (b ≤ a)
+by_order a b = grind arith
+
+-- a period that lies a multiple of the interval from the start's, from that of a place to that of a bound, is met
+pub meets : (q : Filled) (start a b place stop p : ℕ) → a ≤ place → place < stop → stop ≤ b
+    → is_stepped (period_in q start) q.interval p ≡ true → period_in q place ≤ p → p ≤ period_in q (stop - 1) → is_met q start a b p ≡ true
+meets q start a b place stop p la lp lb step low high = and_both _ _ step (elim (by_order (period_in q place) p) [
+  | inl later ↦
+      let none : period_in q 0 ≤ p = (let m = period_mono q.frequency (monday_zero q.week_start) 0 place (omega arith) in omega (arith, m)) in
+      let end = begun q.frequency (monday_zero q.week_start) p (stop - 1) high in
+      witness (first_local q.frequency (monday_zero q.week_start) p) (elim (by_order place (first_local q.frequency (monday_zero q.week_start) p)) [
+        | inl after ↦ omega arith
+        | inr before ↦ absurd (let g = begins q.frequency (monday_zero q.week_start) p place before in omega (arith, g, later))
+      ]) (omega (arith, end)) (first_in q.frequency (monday_zero q.week_start) p (week_small q.week_start) none)
+  | inr same ↦ witness place la (omega arith) (omega (arith, same, low))
+])
+  where
+    and_both : (x y : Bool) → x ≡ true → y ≡ true → (x && y) ≡ true
+    and_both x y e f = ap (λ z. z && y) e ∙ f
+
+    both : (x n y z : ℕ) → x ≤ n → y ≡ z → (nat_le x n && (y == z)) ≡ true
+    both x n y z h e = grind (arith, nat_tests)
+
+    positive : (n : ℕ) → 0 < n → nat_lt 0 n ≡ true
+    positive n h = grind (arith, nat_tests)
+
+    witness : (n : ℕ) → a ≤ n → n < b → period_in q n ≡ p → nat_lt 0 (count b (λ m. nat_le a m && period_in q m == p)) ≡ true
+    witness n l u e = positive _ (count_some b n (λ m. nat_le a m && period_in q m == p) u (both a n (period_in q n) p l e))
+
+-- the next number that passes one of two tests that agree
+pub next_same : (f g : ℕ → Bool) (place : ℕ) (o : Option ℕ) → ((n : ℕ) → f n ≡ g n) → IsNextIn f place o → IsNextIn g place o
+next_same f g place None same none = λ m low. sym (same m) ∙ none m low
+next_same f g place (Some n) same next = record { passes = sym (same n) ∙ next.passes; low = next.low; least = λ m low high. sym (same m) ∙ next.least m low high }
+
+fresh_low : (k number : ℕ) → k ≤ number → (k ≡ number → ⊥) → suc k ≤ number
+fresh_low k number h other = elim (by_order k number) [ inl less ↦ omega arith | inr more ↦ absurd (other (omega arith)) ]
+
+pub fresh_some : (number : ℕ) (held : Option Period) (p : Period) → held ≡ Some p → p.number ≤ number → (p.number ≡ number → ⊥) → fresh held ≤ number
+fresh_some number held p e h other = subst (λ o. fresh o ≤ number) (sym e) (fresh_low p.number number h other)
+
+pub fresh_none : (number : ℕ) (held : Option Period) → held ≡ None → fresh held ≤ number
+fresh_none number held e = subst (λ o. fresh o ≤ number) (sym e) (omega arith)
+
+-- a period that no earlier look has reached
+pub looked_at : (number steps after k : ℕ) (held : Option Period) (met : ℕ → Bool) → fresh held ≤ number → met number ≡ true
+    → steps ≤ count (fresh held) met → after ≡ steps + 1 → k ≡ number → after ≤ count (suc k) met
+looked_at number steps after k held met h here few e same =
+    let more = count_one_more (fresh held) number met h here in
+    let back = ap (λ x. count (suc x) met) same in
+    omega (arith, few, more, e, back)
+
+pub looks_once : (number counted : ℕ) (before now : Cursor) (p : Period) → fresh before.held ≤ number → now ≡ after_look before p counted → p.number ≡ number
+    → LooksOnce number before.steps before.held now.steps now.held
+looks_once number counted before now p h e same = λ met here few.
+    subst (λ (c : Cursor). c.steps ≤ count (fresh c.held) met) (sym e) (looked_at number before.steps (before.steps + 1) p.number before.held met h here few refl same)
+
+-- what is held stays so at a later place
+pub held_mono : (q : Filled) (held : Option Period) (n m : ℕ) → HeldBy q held n → n ≤ m → HeldBy q held m
+held_mono q None n m h l = tt
+held_mono q (Some p) n m h l = (h.0, (let up = period_mono q.frequency (monday_zero q.week_start) n m l in omega (arith, h.1, up)))
+
+-- a later place with the same period
+counted_at : (q : Filled) (start : ℕ) (o : Option ℕ) (c : Cursor) (place : ℕ) → CountedBy q start o c → CountedBy q start o (record c { place = place })
+counted_at q start None c place h = tt
+counted_at q start (Some k) c place h = h
+
+pub own_at : (q : Filled) (start : ℕ) (o : Option ℕ) (c : Cursor) (place : ℕ) → IsCursorIn q start o c → c.place ≤ place → place < 315_569_520_000 → IsCursorIn q start o (record c { place = place })
+own_at q start o c place own l h = record { inside = h; held = held_mono q c.held c.place place own.held l; steps = own.steps; counted = counted_at q start o c place own.counted }
+
+pub own_walked : (q : Filled) (start : ℕ) (o : Option ℕ) (stop : ℕ) (found : Option ℕ) (before now : Cursor) (place : ℕ) → IsWalked q start o stop found before now → stop ≤ place → place < 315_569_520_000
+    → IsCursorIn q start o (record now { place = place })
+own_walked q start o stop found before now place walked l h =
+    record { inside = h; held = held_mono q now.held stop place walked.held l; steps = walked.steps; counted = counted_at q start o now place walked.counted }
+
+pub own_found : (q : Filled) (start : ℕ) (o : Option ℕ) (stop n : ℕ) (before now : Cursor) → IsWalked q start o stop (Some n) before now → n + 1 < 315_569_520_000
+    → IsCursorIn q start o (record now { place = n + 1 })
+own_found q start o stop n before now walked h =
+    record { inside = h; held = held_mono q now.held n (n + 1) walked.found (omega arith); steps = walked.steps; counted = counted_at q start o now (n + 1) walked.counted }
+
+-- places only rise
+looks_mono : (o : Option ℕ) (start a b : ℕ) → a ≤ b → looks_from o start a ≤ looks_from o start b
+looks_mono None start a b h = h
+looks_mono (Some c) start a b h = omega arith
+
+pub looked_later : (q : Filled) (start : ℕ) (o : Option ℕ) (c : Cursor) (place a b : ℕ) → c.place ≤ place → HasLookedIn q start o c a b → HasLookedIn q start o (record c { place = place }) a b
+looked_later q start o c place a b l few = record { low = (let up = looks_mono o start c.place place l in omega (arith, few.low, up)); few = few.few }
+
+pub looked_walked : (q : Filled) (start : ℕ) (o : Option ℕ) (stop : ℕ) (found : Option ℕ) (before now : Cursor) (place a b : ℕ) → IsWalked q start o stop found before now → before.place ≤ place → stop ≤ b
+    → HasLookedIn q start o before a b → HasLookedIn q start o (record now { place = place }) a b
+looked_walked q start o stop found before now place a b walked l s few = record { low = (let up = looks_mono o start before.place place l in omega (arith, few.low, up)); few = walked.looked a b s few }
+
+-- a cursor's steps are counted periods
+fresh_small : (q : Filled) (held : Option Period) (n : ℕ) → HeldBy q held n → n < 315_569_520_000 → fresh held ≤ 315_569_520_000
+fresh_small q None n h l = omega arith
+fresh_small q (Some p) n h l = let s = period_small q.frequency (monday_zero q.week_start) n l in omega (arith, h.1, s)
+
+pub few_steps : (q : Filled) (start : ℕ) (o : Option ℕ) (c : Cursor) (a b : ℕ) → IsCursorIn q start o c → HasLookedIn q start o c a b → c.steps ≤ count 315_569_520_000 (is_met q start a b)
+few_steps q start o c a b own few = let more = count_mono (fresh c.held) 315_569_520_000 (is_met q start a b) (fresh_small q c.held c.place own.held own.inside) in omega (arith, few.few, more)
+
+pub within_here : (q : Filled) (start number n : ℕ) → period_in q n ≡ number → is_chosen_within q start number n ≡ is_chosen q start n
+within_here q start number n e = ap (λ x. x && is_chosen q start n) (self_test (period_in q n) number e)
+  where
+    self_test : (a b : ℕ) → a ≡ b → (a == b) ≡ true
+    self_test a b h = grind (arith, nat_tests)
+
+pub within_facts : (q : Filled) (start number n : ℕ) → is_chosen_within q start number n ≡ true → (period_in q n ≡ number) × (is_chosen q start n ≡ true)
+within_facts q start number n h = fact (period_in q n) number (is_chosen q start n) h
+  where
+    and_parts : (a b : Bool) → (a && b) ≡ true → (a ≡ true) × (b ≡ true)
+    and_parts true b h = (refl, h)
+    and_parts false b h = absurd (cc)
+
+    same_fact : (a b : ℕ) → (a == b) ≡ true → a ≡ b
+    same_fact a b h = grind (arith, nat_tests)
+
+    fact : (a b : ℕ) (c : Bool) → ((a == b) && c) ≡ true → (a ≡ b) × (c ≡ true)
+    fact a b c h = let parts = and_parts (a == b) c h in (same_fact a b parts.0, parts.1)
+
+-- how far a walk over the periods has come: nothing from the place on is chosen in a period before this one
+pub record IsWalk (q : Filled) (start stop number : ℕ) (before now : Cursor) : Type 0 where
+  pub step : is_stepped (period_in q start) q.interval number ≡ true
+  pub low : period_in q before.place ≤ number
+  pub none : (n : ℕ) → before.place ≤ n → period_in q n < number → is_chosen q start n ≡ false
+  pub held : MatchOption now.held (Unit {0}) (λ p. IsPeriodOf q p × ((p.number ≤ number) × (p.number ≤ period_in q stop)))
+  pub place : now.place ≡ before.place
+  pub steps : now.steps ≤ fresh now.held
+  pub looked : (a b : ℕ) → stop ≤ b → HasLookedIn q start None before a b → now.steps ≤ count (fresh now.held) (is_met q start a b)
+
+cases_held : (q : Filled) (held : Option Period) (n number stop : ℕ) → HeldBy q held n → period_in q n ≤ number → n ≤ stop
+    → MatchOption held (Unit {0}) (λ p. IsPeriodOf q p × ((p.number ≤ number) × (p.number ≤ period_in q stop)))
+cases_held q None n number stop h l u = tt
+cases_held q (Some p) n number stop h l u = (h.0, (omega (arith, h.1, l), (let m = period_mono q.frequency (monday_zero q.week_start) n stop u in omega (arith, h.1, m))))
+
+-- it begins at the first step from the place on
+pub walk_begins : (q : Filled) (start stop number : ℕ) (c : Cursor) → IsLeastFrom (is_stepped (period_in q start) q.interval) (period_in q c.place) number
+    → c.place < stop → IsCursorIn q start None c → IsWalk q start stop number c c
+walk_begins q start stop number c next h own = record {
+  step = next.passes;
+  low = next.low;
+  none = λ n l u. no_step q start n (next.least (period_in q n) (period_mono q.frequency (monday_zero q.week_start) c.place n l) u);
+  held = cases_held q c.held c.place number stop own.held next.low (omega arith);
+  place = refl;
+  steps = own.steps;
+  looked = λ a b s few. few.few;
+}
+
+pub bounded : (before now : Cursor) (number : ℕ) → LooksOnce number before.steps before.held now.steps now.held → before.steps ≤ fresh before.held → now.steps ≤ fresh now.held
+bounded before now number steps h =
+    let more = steps (λ m. true) refl (let e = count_every (fresh before.held) in omega (arith, e, h)) in let e = count_every (fresh now.held) in omega (arith, e, more)
+
+module _ (q : Filled) (start stop number : ℕ) (before now : Cursor) (walk : IsWalk q start stop number before now) where
+  -- past the bound's period nothing is left
+  pub walk_ends : period_in q (stop - 1) < number → IsNextWanted q start None before.place stop None
+  walk_ends past n l u = walk.none n l (let m = period_mono q.frequency (monday_zero q.week_start) n (stop - 1) (omega arith) in omega (arith, m))
+
+  pub walk_ended : IsWalked q start None stop None before now
+  walk_ended = record { held = past now.held walk.held; found = tt; steps = walk.steps; counted = tt; looked = walk.looked }
+    where
+      past : (o : Option Period) → MatchOption o (Unit {0}) (λ p. IsPeriodOf q p × ((p.number ≤ number) × (p.number ≤ period_in q stop))) → HeldBy q o stop
+      past None h = tt
+      past (Some p) h = (h.0, h.1.1)
+
+  -- where a walk looks
+  pub walk_low : period_in q 0 ≤ number
+  walk_low = let m = period_mono q.frequency (monday_zero q.week_start) 0 before.place (omega arith) in omega (arith, m, walk.low)
+
+  -- a look in a period
+  module _ (after : Cursor) (h : before.place < stop) (top : number ≤ period_in q (stop - 1))
+      (held : MatchOption after.held ⊥ (λ p. IsPeriodOf q p × (p.number ≡ number))) (place : after.place ≡ now.place) (steps : LooksOnce number now.steps now.held after.steps after.held) where
+    looked : (a b : ℕ) → stop ≤ b → HasLookedIn q start None before a b → after.steps ≤ count (fresh after.held) (is_met q start a b)
+    looked a b s few = steps (is_met q start a b) (meets q start a b before.place stop number few.low h s walk.step walk.low top) (walk.looked a b s few)
+
+    -- what it finds is the next
+    pub walk_finds : (n : ℕ) → IsLeastFrom (is_chosen_within q start number) now.place n → IsLeastFrom (is_wanted q start None) before.place n
+    walk_finds n next = let here = within_facts q start number n next.passes in record {
+      passes = here.1;
+      low = omega (arith, next.low, walk.place);
+      least = λ m l u. elim (by_order (period_in q m) number) [
+        | inl less ↦ walk.none m l less
+        | inr more ↦
+            let top = period_mono q.frequency (monday_zero q.week_start) m n (omega arith) in
+            let same : period_in q m ≡ number = omega (arith, more, top, here.0) in
+            sym (within_here q start number m same) ∙ next.least m (omega (arith, l, walk.place)) u
+      ];
+    }
+
+    pub walk_found : (n : ℕ) → IsLeastFrom (is_chosen_within q start number) now.place n → IsWalked q start None stop (Some n) before after
+    walk_found n next = record { held = below after.held held; found = here after.held held; steps = bounded now after number steps walk.steps; counted = tt; looked = looked }
+      where
+        below : (o : Option Period) → MatchOption o ⊥ (λ p. IsPeriodOf q p × (p.number ≡ number)) → HeldBy q o stop
+        below None h = absurd h
+        below (Some p) h = (h.0, (let m = period_mono q.frequency (monday_zero q.week_start) (stop - 1) stop (omega arith) in omega (arith, h.1, m, top)))
+
+        here : (o : Option Period) → MatchOption o ⊥ (λ p. IsPeriodOf q p × (p.number ≡ number)) → HeldBy q o n
+        here None h = absurd h
+        here (Some p) h = (h.0, (let own = within_facts q start number n next.passes in omega (arith, h.1, own.0)))
+
+    -- and where it finds none the walk goes on
+    pub walk_goes_on : 1 ≤ q.interval → ((n : ℕ) → now.place ≤ n → is_chosen_within q start number n ≡ false) → IsWalk q start stop (number + q.interval) before after
+    walk_goes_on some none = record {
+      step = step_on q.interval some (period_in q start) number walk.step;
+      low = omega (arith, walk.low);
+      none = λ n l u. elim (by_order (period_in q n) number) [
+        | inl less ↦ walk.none n l less
+        | inr more ↦ elim (by_order number (period_in q n)) [
+          | inl later ↦ no_step q start n (none_between q.interval some (period_in q start) number (period_in q n) walk.step later u)
+          | inr same ↦ sym (within_here q start number n (omega arith)) ∙ none n (omega (arith, l, walk.place))
+        ]
+      ];
+      held = past after.held held;
+      place = place ∙ walk.place;
+      steps = bounded now after number steps walk.steps;
+      looked = looked;
+    }
+      where
+        past : (o : Option Period) → MatchOption o ⊥ (λ p. IsPeriodOf q p × (p.number ≡ number)) → MatchOption o (Unit {0}) (λ p. IsPeriodOf q p × ((p.number ≤ number + q.interval) × (p.number ≤ period_in q stop)))
+        past None h = absurd h
+        past (Some p) h = (h.0, (omega (arith, h.1), (let m = period_mono q.frequency (monday_zero q.week_start) (stop - 1) stop (omega arith) in omega (arith, h.1, m, top))))
+
+pub walk_reach : (q : Filled) (number stop : ℕ) → number ≤ period_in q (stop - 1) → first_local q.frequency (monday_zero q.week_start) number ≤ stop
+walk_reach q number stop h = let b = begun q.frequency (monday_zero q.week_start) number (stop - 1) h in omega (arith, b)
+
+-- a cursor that has looked at nothing
+pub cursor_begins : (q : Filled) (start : ℕ) (o : Option ℕ) (place : ℕ) → place < 315_569_520_000 → IsCursorIn q start o (record { place = place; steps = 0; held = None; counted = 0; limit = 0 })
+cursor_begins q start None place h = record { inside = h; held = tt; steps = omega arith; counted = tt }
+cursor_begins q start (Some c) place h = record { inside = h; held = tt; steps = omega arith; counted = tt }
+
+pub looked_none : (q : Filled) (start : ℕ) (o : Option ℕ) (place from b : ℕ) → place ≡ from → HasLookedIn q start o (record { place = place; steps = 0; held = None; counted = 0; limit = 0 }) (looks_from o start from) b
+looked_none q start None place from b e = record { low = omega (arith, e); few = omega arith }
+looked_none q start (Some c) place from b e = record { low = omega arith; few = omega arith }

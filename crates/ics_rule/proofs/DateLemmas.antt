@@ -1,0 +1,120 @@
+-- The tests of a date by the fields that `civil` gives.
+use Rattle.std.proofs.Common.{◌≡◌, ℕ, ◌+◌, ◌-◌, ◌/◌, ◌%◌, Bool, true, false, not, ◌&&◌, ◌||◌, ◌==◌, if◌then◌else◌, pos, refl, sym, ap, ◌∙◌, arith}
+use Rattle.std.proofs.lemmas.Bool.Decides.{nat_tests}
+use Rattle.std.proofs.lemmas.Nat.Bits.{bit_at-zero}
+use Rattle.ics_values.specs.declared.frequency.Frequency.{Frequency}
+use Rattle.ics_values.specs.declared.frequency.Frequency.TheVariants.{Secondly, Minutely, Hourly, Daily, Weekly, Monthly, Yearly}
+use Rattle.ics_values.specs.declared.places.Places.{Places}
+use Rattle.ics_values.specs.Sets.{has, is_none}
+use Rattle.ics_values.specs.Places.{lists_none, lists_none_wide, lists_no_weekday, numbers_of}
+use Rattle.jiff_core.specs.Calendar.{days_in_year, days_in_month}
+use Rattle.jiff_core.specs.Weekday.{monday_zero}
+use Rattle.ics_rule.specs.declared.filled.Filled.{Filled}
+use Rattle.ics_values.specs.declared.fields.Civil.{Civil}
+use Rattle.ics_values.specs.Days.{year_of, year_day_of, month_of, month_day_of, weekday_of}
+use Rattle.ics_values.specs.Fields.{IsCivilOf}
+use Rattle.ics_rule.specs.Candidates.{lets, lets_place, lets_wide_place, lets_week, lists_nth, lets_numbered, lets_weekday, lets_date, fourth_day}
+use Rattle.ics_rule.specs.Dates.{names_weekdays_alone}
+
+-- the week of a day, by the fields of its fourth day
+pub lets_week-fields : (q : Filled) (e : ℕ) (c : Civil) → IsCivilOf c (fourth_day (monday_zero q.week_start) e) →
+    lets_place q.weeks ((c.year_day - 1) / 7 + 1) ((days_in_year (pos c.year) - 1 - (c.year_day - 1) % 7) / 7 + 1) ≡ lets_week q e
+lets_week-fields q e c f =
+    ap (λ y. lets_place q.weeks ((c.year_day - 1) / 7 + 1) ((days_in_year (pos y) - 1 - (c.year_day - 1) % 7) / 7 + 1)) f.year
+    ∙ ap (λ d. lets_place q.weeks ((d - 1) / 7 + 1) ((days_in_year (pos (year_of (fourth_day (monday_zero q.week_start) e))) - 1 - (d - 1) % 7) / 7 + 1)) f.year_day
+
+-- a day by its fields
+pub lets_date-fields : (q : Filled) (e : ℕ) (c : Civil) → IsCivilOf c e →
+    (lets q.months c.month && lets_place q.month_days c.day (days_in_month (pos c.year) c.month)
+    && lets_wide_place q.year_days c.year_day (days_in_year (pos c.year)) && lets_week q e && lets_weekday q e) ≡ lets_date q e
+lets_date-fields q e c f =
+    ap (λ y. lets q.months c.month && lets_place q.month_days c.day (days_in_month (pos y) c.month) && lets_wide_place q.year_days c.year_day (days_in_year (pos y)) && lets_week q e && lets_weekday q e) f.year
+    ∙ ap (λ m. lets q.months m && lets_place q.month_days c.day (days_in_month (pos (year_of e)) m) && lets_wide_place q.year_days c.year_day (days_in_year (pos (year_of e))) && lets_week q e && lets_weekday q e) f.month
+    ∙ ap (λ d. lets q.months (month_of e) && lets_place q.month_days d (days_in_month (pos (year_of e)) (month_of e)) && lets_wide_place q.year_days c.year_day (days_in_year (pos (year_of e))) && lets_week q e && lets_weekday q e) f.day
+    ∙ ap (λ d. lets q.months (month_of e) && lets_place q.month_days (month_day_of e) (days_in_month (pos (year_of e)) (month_of e)) && lets_wide_place q.year_days d (days_in_year (pos (year_of e))) && lets_week q e && lets_weekday q e) f.year_day
+
+-- a conjunction fails at each of its parts
+pub out_1 : (a b c d e : Bool) → a ≡ false → (a && b && c && d && e) ≡ false
+out_1 true b c d e h = absurd (cc)
+out_1 false b c d e h = refl
+
+pub out_2 : (a b c d e : Bool) → b ≡ false → (a && b && c && d && e) ≡ false
+out_2 a true c d e h = absurd (cc)
+out_2 true false c d e h = refl
+out_2 false false c d e h = refl
+
+pub out_3 : (a b c d e : Bool) → c ≡ false → (a && b && c && d && e) ≡ false
+out_3 a b true d e h = absurd (cc)
+out_3 true true false d e h = refl
+out_3 true false false d e h = refl
+out_3 false b false d e h = refl
+
+pub out_4 : (a b c d e : Bool) → d ≡ false → (a && b && c && d && e) ≡ false
+out_4 a b c true e h = absurd (cc)
+out_4 true true true false e h = refl
+out_4 true true false false e h = refl
+out_4 true false c false e h = refl
+out_4 false b c false e h = refl
+
+pub out_5 : (a b c d e : Bool) → e ≡ false → (a && b && c && d && e) ≡ false
+out_5 a b c d true h = absurd (cc)
+out_5 true true true true false h = refl
+out_5 true true true false false h = refl
+out_5 true true false d false h = refl
+out_5 true false c d false h = refl
+out_5 false b c d false h = refl
+
+pub all_in : (a b c d e : Bool) → a ≡ true → b ≡ true → c ≡ true → d ≡ true → e ≡ (a && b && c && d && e)
+all_in a b c d e p q r s = rw (p, q, r, s) refl
+
+-- an absent part lets all in
+pub absent_in : (a b : Bool) → a ≡ true → (a || b) ≡ true
+absent_in true b h = refl
+absent_in false b h = absurd (cc)
+
+-- a weekday that stands neither alone nor with a number is out
+none_nth : (p : Places) (n size : ℕ) → lists_none p ≡ true → lists_nth p n size ≡ false
+none_nth p n size h =
+    let parts = and_parts (is_none p.front) (is_none p.back) h in
+    ap (λ x. has x ((n - 1) / 7 + 1) || has p.back ((size - n) / 7 + 1)) (zero_of p.front parts.0)
+    ∙ ap (λ x. has 0 ((n - 1) / 7 + 1) || has x ((size - n) / 7 + 1)) (zero_of p.back parts.1)
+    ∙ ap (λ x. (x == 1) || has 0 ((size - n) / 7 + 1)) (bit_at-zero ((n - 1) / 7 + 1))
+    ∙ ap (λ x. (x == 1)) (bit_at-zero ((size - n) / 7 + 1))
+  where
+    and_parts : (a b : Bool) → (a && b) ≡ true → (a ≡ true) × (b ≡ true)
+    and_parts true b h = (refl, h)
+    and_parts false b h = absurd (cc)
+
+    zero_of : (s : ℕ) → (s == 0) ≡ true → s ≡ 0
+    zero_of s h = grind (arith, nat_tests)
+
+none_numbered : (f : Frequency) (q : Filled) (p : Places) (e : ℕ) → lists_none p ≡ true → lets_numbered f q p e ≡ false
+none_numbered Monthly q p e h = none_nth p (month_day_of e) (days_in_month (pos (year_of e)) (month_of e)) h
+none_numbered Yearly q p e h = by_cases (not (lists_none q.weeks)) (not (is_none q.months))
+  where
+    by_cases : (a b : Bool) → (if a then not (lists_none p) else (if b then lists_nth p (month_day_of e) (days_in_month (pos (year_of e)) (month_of e)) else lists_nth p (year_day_of e) (days_in_year (pos (year_of e))))) ≡ false
+    by_cases true b = ap not h
+    by_cases false true = none_nth p (month_day_of e) (days_in_month (pos (year_of e)) (month_of e)) h
+    by_cases false false = none_nth p (year_day_of e) (days_in_year (pos (year_of e))) h
+none_numbered Weekly q p e h = ap not h
+none_numbered Daily q p e h = ap not h
+none_numbered Hourly q p e h = ap not h
+none_numbered Minutely q p e h = ap not h
+none_numbered Secondly q p e h = ap not h
+
+pub weekday_out : (q : Filled) (e : ℕ) → (lists_no_weekday q.weekdays || has q.weekdays.plain (weekday_of e)) ≡ false → lists_none (numbers_of q.weekdays (weekday_of e)) ≡ true → lets_date q e ≡ false
+weekday_out q e a c = out_5 (lets q.months (month_of e)) (lets_place q.month_days (month_day_of e) (days_in_month (pos (year_of e)) (month_of e))) (lets_wide_place q.year_days (year_day_of e) (days_in_year (pos (year_of e)))) (lets_week q e) (lets_weekday q e)
+    (ap (λ x. x || lets_numbered q.frequency q (numbers_of q.weekdays (weekday_of e)) e) a ∙ none_numbered q.frequency q (numbers_of q.weekdays (weekday_of e)) e c)
+
+-- and one that stands alone is in where no other part speaks of the date
+pub weekday_in : (q : Filled) (e : ℕ) → (lists_no_weekday q.weekdays || has q.weekdays.plain (weekday_of e)) ≡ true → names_weekdays_alone q ≡ true → lets_date q e ≡ true
+weekday_in q e day alone = let f = four (is_none q.months) (lists_none q.month_days) (lists_none_wide q.year_days) (lists_none q.weeks) alone in
+    sym (all_in (lets q.months (month_of e)) (lets_place q.month_days (month_day_of e) (days_in_month (pos (year_of e)) (month_of e))) (lets_wide_place q.year_days (year_day_of e) (days_in_year (pos (year_of e)))) (lets_week q e) (lets_weekday q e)
+    (absent_in (is_none q.months) _ f.0) (absent_in (lists_none q.month_days) _ f.1.0) (absent_in (lists_none_wide q.year_days) _ f.1.1.0) (absent_in (lists_none q.weeks) _ f.1.1.1)) ∙ absent_in (lists_no_weekday q.weekdays || has q.weekdays.plain (weekday_of e)) (lets_numbered q.frequency q (numbers_of q.weekdays (weekday_of e)) e) day
+  where
+    four : (a b c d : Bool) → (a && b && c && d) ≡ true → (a ≡ true) × ((b ≡ true) × ((c ≡ true) × (d ≡ true)))
+    four true true true true h = (refl, (refl, (refl, refl)))
+    four true true true false h = absurd (cc)
+    four true true false d h = absurd (cc)
+    four true false c d h = absurd (cc)
+    four false b c d h = absurd (cc)

@@ -1,0 +1,164 @@
+-- A period is the locals from its first on and before the next period's first.
+use Rattle.std.proofs.Common.{◌≡◌, ℕ, zero, suc, ◌+◌, ◌-◌, ◌*◌, ◌/◌, ◌%◌, ◌<◌, ◌≤◌, ◌⊎◌, inl, inr, sym, subst, ap, arith, pos}
+use Rattle.jiff_core.specs.declared.civil.weekday.Weekday.{Weekday}
+use Rattle.jiff_core.specs.declared.civil.weekday.Weekday.TheVariants.{Monday, Tuesday, Wednesday, Thursday, Friday, Saturday, Sunday}
+use Rattle.jiff_core.specs.Weekday.{monday_zero}
+use Rattle.jiff_core.specs.Calendar.{days_of_months, days_in_month}
+use Rattle.jiff_core.proofs.CalendarLemmas.{days_of_months_more, days_of_months_all, days_of_months-zero, days_in_month_bounds, days_in_year_bounds}
+use Rattle.ics_values.specs.Days.{days_before_year, year_of, month_of}
+use Rattle.ics_values.proofs.DayLemmas.{year_under_way, days_before_year_low, days_before_year_mono, days_before_year-next}
+use Rattle.ics_values.specs.declared.frequency.Frequency.{Frequency}
+use Rattle.ics_values.specs.declared.frequency.Frequency.TheVariants.{Secondly, Minutely, Hourly, Daily, Weekly, Monthly, Yearly}
+use Rattle.ics_rule.specs.Locals.{period, month_number}
+use Rattle.ics_rule.specs.Periods.{month_start, first_local}
+use Rattle.ics_rule.proofs.Months.{earlier_month, later_month, month_of_high}
+
+by_order : (a b : ℕ) → (a < b) ⊎ (b ≤ a)
+by_order a b = grind arith
+
+-- weeks start on one of seven weekdays
+pub week_small : (d : Weekday) → monday_zero d < 7
+week_small Monday = omega arith
+week_small Tuesday = omega arith
+week_small Wednesday = omega arith
+week_small Thursday = omega arith
+week_small Friday = omega arith
+week_small Saturday = omega arith
+week_small Sunday = omega arith
+
+-- years
+year_begun : (p e : ℕ) → p ≤ year_of e → days_before_year p ≤ e
+year_begun p e h = let u = year_under_way e in let m = days_before_year_mono p (year_of e) h in omega (arith, u.0, m)
+
+year_begins : (p e : ℕ) → days_before_year p ≤ e → p ≤ year_of e
+year_begins p e h = elim (by_order (year_of e) p) [
+  | inl less ↦ absurd (let u = year_under_way e in let m = days_before_year_mono (suc (year_of e)) p less in omega (arith, u.1, m))
+  | inr more ↦ more
+]
+
+year_length : (p : ℕ) → (days_before_year p < days_before_year (suc p)) × (days_before_year (suc p) ≤ days_before_year p + 366)
+year_length p = let next = days_before_year-next p in let b = days_in_year_bounds (pos p) in (omega (arith, next, b.1), omega (arith, next, b.0))
+
+-- months
+month_begun : (p e : ℕ) → p ≤ month_number e → month_start p ≤ e
+month_begun zero e h = let none = days_of_months-zero (pos ((0 - 1) / 12)) in omega (arith, none)
+month_begun (suc p) e h =
+    let back : suc p - 1 ≡ p = omega arith in
+    rw back (elim (by_order e (days_before_year (p / 12) + days_of_months (pos (p / 12)) (p % 12))) [
+      | inl less ↦ absurd (
+          let same : p % 12 + 1 - 1 ≡ p % 12 = omega arith in
+          let before = earlier_month (p / 12) (p % 12 + 1) (omega arith) (omega arith) e (subst (λ k. e < days_before_year (p / 12) + days_of_months (pos (p / 12)) k) (sym same) less) in
+          omega (arith, before))
+      | inr more ↦ more
+    ])
+
+month_positive : (e : ℕ) → 0 < month_of e
+month_positive e = month_of_high e 0 (let none = days_of_months-zero (pos (year_of e)) in let u = year_under_way e in omega (arith, none, u.0)) (omega arith)
+
+month_begins : (p e : ℕ) → month_start p ≤ e → p ≤ month_number e
+month_begins zero e h = omega arith
+month_begins (suc p) e h = elim (by_order 0 (p % 12)) [
+  | inl some ↦ let after = later_month (p / 12) (p % 12) (omega arith) (omega arith) e (rw back at h) in omega (arith, after)
+  | inr none ↦ let year = year_begins (p / 12) e (let low : days_before_year (p / 12) ≤ days_before_year (p / 12) + days_of_months (pos (p / 12)) (p % 12) = omega arith in let h' = rw back at h in omega (arith, low, h')) in
+      omega (arith, year, month_positive e)
+]
+  where
+    back : suc p - 1 ≡ p
+    back = omega arith
+
+-- the day after the first k months of year y, and the next month's
+month_at : (y k : ℕ) → k < 12 → (days_before_year y + days_of_months (pos y) (k + 1) ≡ days_before_year y + days_of_months (pos y) k + days_in_month (pos y) (k + 1))
+month_at y k h = let more = days_of_months_more (pos y) (k + 1) (omega arith) in let back : k + 1 - 1 ≡ k = omega arith in let more' = rw back at more in omega (arith, more')
+
+month_length : (p : ℕ) → (month_start (suc p) < month_start (suc (suc p))) × (month_start (suc (suc p)) ≤ month_start (suc p) + 31)
+month_length p =
+    let one : suc p - 1 ≡ p = omega arith in
+    let two : suc (suc p) - 1 ≡ suc p = omega arith in
+    let more = month_at (p / 12) (p % 12) (omega arith) in
+    let bounds = days_in_month_bounds (pos (p / 12)) (p % 12 + 1) in
+    rw one (rw two (elim (by_order (p % 12) 11) [
+      | inl inside ↦
+          let year : suc p / 12 ≡ p / 12 = omega arith in
+          let month : suc p % 12 ≡ p % 12 + 1 = omega arith in
+          rw year (rw month (omega (arith, more, bounds.1), omega (arith, more, bounds.0)))
+      | inr last ↦
+          let year : suc p / 12 ≡ suc (p / 12) = omega arith in
+          let month : suc p % 12 ≡ 0 = omega arith in
+          let december : p % 12 + 1 ≡ 12 = omega arith in
+          let next = days_before_year-next (p / 12) in
+          let all = days_of_months_all (pos (p / 12)) in
+          let none = days_of_months-zero (pos (suc (p / 12))) in
+          let more' = ap (days_of_months (pos (p / 12))) december in
+          rw year (rw month (omega (arith, more, bounds.1, next, all, none, more'), omega (arith, more, bounds.0, next, all, none, more')))
+    ]))
+
+-- a local is no earlier than the first of its period and of those before
+pub begun : (f : Frequency) (w p n : ℕ) → p ≤ period f w n → first_local f w p ≤ n
+begun Secondly w p n h = h
+begun Minutely w p n h = omega arith
+begun Hourly w p n h = omega arith
+begun Daily w p n h = omega arith
+begun Weekly w p n h = omega arith
+begun Monthly w p n h = let b = month_begun p (n / 86_400) h in omega (arith, b)
+begun Yearly w p n h = let b = year_begun p (n / 86_400) h in omega (arith, b)
+
+pub begins : (f : Frequency) (w p n : ℕ) → first_local f w p ≤ n → p ≤ period f w n
+begins Secondly w p n h = h
+begins Minutely w p n h = omega arith
+begins Hourly w p n h = omega arith
+begins Daily w p n h = omega arith
+begins Weekly w p n h = omega arith
+begins Monthly w p n h = month_begins p (n / 86_400) (omega arith)
+begins Yearly w p n h = year_begins p (n / 86_400) (omega arith)
+
+-- a period from the first local's on has a local, and at most 366 days
+pub lasts : (f : Frequency) (w p : ℕ) → w < 7 → period f w 0 ≤ p → first_local f w p < first_local f w (suc p)
+lasts Secondly w p h l = omega arith
+lasts Minutely w p h l = omega arith
+lasts Hourly w p h l = omega arith
+lasts Daily w p h l = omega arith
+lasts Weekly w p h l = omega arith
+lasts Monthly w zero h l = absurd (let some = month_positive (0 / 86_400) in omega (arith, some, l))
+lasts Monthly w (suc p) h l = let m = month_length p in omega (arith, m.0)
+lasts Yearly w p h l = let y = year_length p in omega (arith, y.0)
+
+pub is_short : (f : Frequency) (w p : ℕ) → first_local f w (suc p) ≤ first_local f w p + 366 * 86_400
+is_short Secondly w p = omega arith
+is_short Minutely w p = omega arith
+is_short Hourly w p = omega arith
+is_short Daily w p = omega arith
+is_short Weekly w p = omega arith
+is_short Monthly w zero = let none = days_of_months-zero (pos 0) in omega (arith, none)
+is_short Monthly w (suc p) = let m = month_length p in omega (arith, m.1)
+is_short Yearly w p = let y = year_length p in omega (arith, y.1)
+
+pub period_mono : (f : Frequency) (w n m : ℕ) → n ≤ m → period f w n ≤ period f w m
+period_mono f w n m h = begins f w (period f w n) m (let b = begun f w (period f w n) n (omega arith) in omega (arith, b))
+
+-- the first local of a period lies in it
+pub first_in : (f : Frequency) (w p : ℕ) → w < 7 → period f w 0 ≤ p → period f w (first_local f w p) ≡ p
+first_in f w p h l = let low = begins f w p (first_local f w p) (omega arith) in elim (by_order p (period f w (first_local f w p))) [
+  | inl more ↦ absurd (let late = begun f w (suc p) (first_local f w p) more in let some = lasts f w p h l in omega (arith, late, some))
+  | inr same ↦ omega (arith, low, same)
+]
+
+-- a period and the next, as code counts them
+pub next_first : (f : Frequency) (w p b e : ℕ) → w < 7 → period f w 0 ≤ p → b ≡ first_local f w p → e ≡ first_local f w (p + 1) → (b < e) × (e ≤ b + 366 * 86_400)
+next_first f w p b e h l eb ee =
+    let same = ap (first_local f w) (one_more p) in
+    let longer = lasts f w p h l in
+    let short = is_short f w p in
+    (omega (arith, eb, ee, same, longer), omega (arith, eb, ee, same, short))
+  where
+    one_more : (p : ℕ) → suc p ≡ p + 1
+    one_more p = omega arith
+
+-- a period's number is no more than its locals allow
+pub period_small : (f : Frequency) (w n : ℕ) → n < 315_569_520_000 → period f w n < 315_569_520_000
+period_small Secondly w n h = h
+period_small Minutely w n h = omega arith
+period_small Hourly w n h = omega arith
+period_small Daily w n h = omega arith
+period_small Weekly w n h = omega arith
+period_small Monthly w n h = let b = month_begun (month_number (n / 86_400)) (n / 86_400) (omega arith) in let l = days_before_year_low ((month_number (n / 86_400) - 1) / 12) in omega (arith, b, l)
+period_small Yearly w n h = let b = year_begun (year_of (n / 86_400)) (n / 86_400) (omega arith) in let l = days_before_year_low (year_of (n / 86_400)) in omega (arith, b, l)

@@ -1,0 +1,134 @@
+-- The place of a local in a product, and the product's size, by the sizes of its sets.
+use Rattle.std.proofs.Common.{◌≡◌, ℕ, suc, ◌+◌, ◌-◌, ◌*◌, ◌/◌, ◌%◌, ◌<◌, ◌≤◌, ◌⊎◌, inl, inr, Bool, true, false, cond, ◌&&◌, nat_le, min, Option, None, Some, IfSome, refl, sym, ap, ◌∙◌, arith}
+use Rattle.std.proofs.lemmas.Bool.Decides.{nat_tests}
+use Rattle.std.proofs.lemmas.Nat.{div-mul-add, mod-mul-add, div-add-mod'}
+use Rattle.std.proofs.Math.Nat.{mod-lt}
+use Rattle.ics_values.specs.Sets.{has, has_wide, IsNextIn}
+use Rattle.ics_values.proofs.SetLemmas.{wide_past}
+use Rattle.ics_rule.specs.declared.period.Period.{Period}
+use Rattle.ics_rule.specs.Locals.{calendar_end}
+use Rattle.ics_rule.specs.Kept.{count, size}
+use Rattle.ics_rule.specs.Periods.{has_minute, has_second, has_day, holds, IsNth}
+use Rattle.ics_rule.proofs.Counts.{count-same, count-suc, count-add, count-from, count-up_to, count-product, count-none}
+
+-- how many pass before the t-th of block d: the blocks before it, and what passes in it
+pub count-place : (d b t : ℕ) (p q : ℕ → Bool) → t ≤ b → count (d * b + t) (λ m. p (m / b) && q (m % b)) ≡ count d p * count b q + cond (p d) 1 0 * count t q
+count-place d b t p q h =
+    let parts = count-add (d * b) t (λ m. p (m / b) && q (m % b)) in
+    let whole = count-product d b p q in
+    let block = count-same t (λ k. p ((d * b + k) / b) && q ((d * b + k) % b)) (λ k. p d && q k)
+    (λ k l. ap (λ x. p x && q ((d * b + k) % b)) (div-mul-add d b k (omega arith)) ∙ ap (λ x. p d && q x) (mod-mul-add d b k (omega arith))) in
+    let own = count-held (p d) t q in
+    omega (arith, parts, whole, block, own)
+  where
+    count-held : (c : Bool) (n : ℕ) (q : ℕ → Bool) → count n (λ k. c && q k) ≡ cond c 1 0 * count n q
+    count-held true n q = omega arith
+    count-held false n q = count-none n (λ k. false) (λ m l. refl) ∙ omega arith
+
+pub count-at : (n b : ℕ) (p q : ℕ → Bool) → 0 < b → count n (λ m. p (m / b) && q (m % b)) ≡ count (n / b) p * count b q + cond (p (n / b)) 1 0 * count (n % b) q
+count-at n b p q h = let whole = div-add-mod' n b in
+    sym (ap (λ x. count x (λ m. p (m / b) && q (m % b))) whole) ∙ count-place (n / b) b (n % b) p q (let l : n % b < b = mod-lt n h in omega (arith, l))
+
+count_one : (b : Bool) → b ≡ true → ◌≡◌ {A = ℕ} (cond b 1 0) 1
+count_one b e = let f : Bool → ℕ = λ z. cond z 1 0 in ap f e
+
+count_none_at : (b : Bool) → b ≡ false → ◌≡◌ {A = ℕ} (cond b 1 0) 0
+count_none_at b e = let f : Bool → ℕ = λ z. cond z 1 0 in ap f e
+
+-- where the block of n passes, and where it does not
+pub count_taken : (n b total blocks size rest : ℕ) (p q : ℕ → Bool) → 0 < b → p (n / b) ≡ true → total ≡ blocks * size + rest → blocks ≡ count (n / b) p → size ≡ count b q → rest ≡ count (n % b) q
+    → total ≡ count n (λ m. p (m / b) && q (m % b))
+count_taken n b total blocks size rest p q h e et eb es er = let at = count-at n b p q h in let one = count_one (p (n / b)) e in let product = ap (λ x. x * count (n % b) q) one in
+    let here : blocks * size ≡ count (n / b) p * count b q = ap (λ x. x * size) eb ∙ ap (λ x. count (n / b) p * x) es in omega (arith, at, product, here, et, er)
+
+pub count_left : (n b total blocks size : ℕ) (p q : ℕ → Bool) → 0 < b → p (n / b) ≡ false → total ≡ blocks * size → blocks ≡ count (n / b) p → size ≡ count b q
+    → total ≡ count n (λ m. p (m / b) && q (m % b))
+count_left n b total blocks size p q h e et eb es = let at = count-at n b p q h in let none = count_none_at (p (n / b)) e in let product = ap (λ x. x * count (n % b) q) none in
+    let here : blocks * size ≡ count (n / b) p * count b q = ap (λ x. x * size) eb ∙ ap (λ x. count (n / b) p * x) es in omega (arith, at, product, here, et)
+
+-- one number more in a loop that counts
+pub count_step : (n total : ℕ) (p : ℕ → Bool) → total ≡ count n p → p n ≡ true → total + 1 ≡ count (n + 1) p
+count_step n total p e h = let more = count-suc n p in let one = count_one (p n) h in let same = ap (λ x. count x p) (let s : suc n ≡ n + 1 = omega arith in s) in omega (arith, e, more, one, same)
+
+pub count_stay : (n total : ℕ) (p : ℕ → Bool) → total ≡ count n p → p n ≡ false → total ≡ count (n + 1) p
+count_stay n total p e h = let more = count-suc n p in let none = count_none_at (p n) h in let same = ap (λ x. count x p) (let s : suc n ≡ n + 1 = omega arith in s) in omega (arith, e, more, none, same)
+
+pub count_zero : (p : ℕ → Bool) → 0 ≡ count 0 p
+unfolding count
+count_zero p = refl
+
+-- the size of a product
+pub clock_size : (p : Period) → count 86_400 (has_second p) ≡ count 24 (has p.hours) * count 60 (has p.minutes) * count 60 (has p.seconds)
+clock_size p = count-product 1_440 60 (has_minute p.hours p.minutes) (has p.seconds) ∙ ap (λ x. x * count 60 (has p.seconds)) (count-product 24 60 (has p.hours) (has p.minutes))
+
+pub whole_size : (p : Period) → count calendar_end (holds p) ≡ count 3_652_425 (has_day p) * count 86_400 (has_second p)
+whole_size p = count-product 3_652_425 86_400 (has_day p) (has_second p)
+
+-- its days, by their places in the set
+day_at : (p : Period) (k : ℕ) → has_day p (p.first_day + k) ≡ has_wide p.days k
+day_at p k = let low : nat_le p.first_day (p.first_day + k) ≡ true = grind (arith, nat_tests) in let back : p.first_day + k - p.first_day ≡ k = omega arith in
+    ap (λ x. x && has_wide p.days (p.first_day + k - p.first_day)) low ∙ ap (has_wide p.days) back
+
+day_before : (p : Period) (m : ℕ) → m < p.first_day → has_day p m ≡ false
+day_before p m h = let none : nat_le p.first_day m ≡ false = grind (arith, nat_tests) in ap (λ x. x && has_wide p.days (m - p.first_day)) none
+
+pub days_from_first : (p : Period) (n : ℕ) → count (p.first_day + n) (has_day p) ≡ count n (has_wide p.days)
+days_from_first p n = count-from p.first_day n (has_day p) (day_before p) ∙ count-same n (λ k. has_day p (p.first_day + k)) (has_wide p.days) (λ k l. day_at p k)
+
+pub days_in_all : (p : Period) → p.first_day ≤ 3_600_000 → count 3_652_425 (has_day p) ≡ count 384 (has_wide p.days)
+days_in_all p h =
+    let all : p.first_day + (384 + (3_652_425 - 384 - p.first_day)) ≡ 3_652_425 = omega arith in
+    sym (ap (λ x. count x (has_day p)) all) ∙ days_from_first p (384 + (3_652_425 - 384 - p.first_day))
+    ∙ count-up_to 384 (3_652_425 - 384 - p.first_day) (has_wide p.days) (λ k l u. wide_past p.days k l)
+
+-- its size by the sizes of its sets
+pub product_size : (p : Period) → p.first_day ≤ 3_600_000 → count calendar_end (holds p) ≡ count 384 (has_wide p.days) * count 86_400 (has_second p)
+product_size p h = whole_size p ∙ ap (λ x. x * count 86_400 (has_second p)) (days_in_all p h)
+
+-- its days by their number
+pub nth_of_days : (p : Period) (k n : ℕ) → IsNth (has_wide p.days) k n → IsNth (has_day p) k (p.first_day + n)
+nth_of_days p k n nth = record { passes = day_at p n ∙ nth.passes; before = days_from_first p n ∙ nth.before }
+
+-- the days before one
+pub days_before : (p : Period) (day skipped : ℕ) → skipped ≡ min (day - p.first_day) 384 → count skipped (has_wide p.days) ≡ count day (has_day p)
+days_before p day skipped e = elim (by_order day p.first_day) [
+  | inl early ↦ let none : skipped ≡ 0 = omega (arith, e) in ap (λ x. count x (has_wide p.days)) none ∙ sym (count_zero (has_wide p.days)) ∙ sym (count-none day (has_day p) (λ m l. day_before p m (omega arith)))
+  | inr late ↦ let whole : p.first_day + (day - p.first_day) ≡ day = omega arith in elim (by_order 384 (day - p.first_day)) [
+    | inl far ↦ let top : skipped ≡ 384 = omega (arith, e) in let all : 384 + (day - p.first_day - 384) ≡ day - p.first_day = omega arith in
+        ap (λ x. count x (has_wide p.days)) top ∙ sym (count-up_to 384 (day - p.first_day - 384) (has_wide p.days) (λ k l u. wide_past p.days k l))
+        ∙ ap (λ x. count x (has_wide p.days)) all ∙ sym (days_from_first p (day - p.first_day)) ∙ ap (λ x. count x (has_day p)) whole
+    | inr near ↦ let same : skipped ≡ day - p.first_day = omega (arith, e) in
+        ap (λ x. count x (has_wide p.days)) same ∙ sym (days_from_first p (day - p.first_day)) ∙ ap (λ x. count x (has_day p)) whole
+  ]
+]
+  where
+    by_order : (a b : ℕ) → (a < b) ⊎ (b ≤ a)
+    by_order a b = grind arith
+
+-- the k-th number of a product, by dividing by the size of a block
+pub nth-product : (b s k hi lo : ℕ) (p q : ℕ → Bool) → s ≡ count b q → lo < b → IsNth p (k / s) hi → IsNth q (k % s) lo
+    → IsNth (λ n. p (n / b) && q (n % b)) k (hi * b + lo)
+nth-product b s k hi lo p q es l high low = record {
+  passes = ap (λ z. p z && q ((hi * b + lo) % b)) (div-mul-add hi b lo l) ∙ ap (λ z. p hi && q z) (mod-mul-add hi b lo l) ∙ ap (λ z. z && q lo) high.passes ∙ low.passes;
+  before =
+      let place = count-place hi b lo p q (omega arith) in
+      let one = ap (λ x. x * count lo q) (count_one (p hi) high.passes) in
+      let blocks = ap (λ x. x * count b q) high.before ∙ ap (λ x. k / s * x) (sym es) in
+      let whole = div-add-mod' k s in
+      omega (arith, place, one, blocks, whole, low.before);
+}
+
+-- nothing stands past the calendar
+pub holds_past : (p : Period) → p.first_day ≤ 3_600_000 → (m : ℕ) → calendar_end ≤ m → holds p m ≡ false
+holds_past p h m late = ap (λ x. x && has_second p (m % 86_400)) (and_second (nat_le p.first_day (m / 86_400)) (has_wide p.days (m / 86_400 - p.first_day)) (wide_past p.days (m / 86_400 - p.first_day) (omega arith)))
+  where
+    and_second : (a b : Bool) → b ≡ false → (a && b) ≡ false
+    and_second true b h = h
+    and_second false b h = refl
+
+pub next_small : (p : Period) (n : ℕ) (o : Option ℕ) → p.first_day ≤ 3_600_000 → IsNextIn (holds p) n o → IfSome o (λ m. m < calendar_end)
+next_small p n None h next = tt
+next_small p n (Some m) h next = elim (by_order m calendar_end) [ inl less ↦ less | inr late ↦ absurd (let no = holds_past p h m late in let yes = next.passes in cc) ]
+  where
+    by_order : (a b : ℕ) → (a < b) ⊎ (b ≤ a)
+    by_order a b = grind arith

@@ -1,0 +1,203 @@
+-- A product holds what the rule lets in within the period.
+use Rattle.std.proofs.Common.{◌≡◌, ℕ, ◌+◌, ◌-◌, ◌*◌, ◌/◌, ◌%◌, ◌<◌, ◌≤◌, ◌⊎◌, inl, inr, Bool, true, false, ◌==◌, nat_le, nat_lt, ◌&&◌, ◌||◌, refl, sym, ap, ◌∙◌, arith}
+use Rattle.std.proofs.lemmas.Bool.Decides.{nat_tests}
+use Rattle.jiff_core.specs.Weekday.{monday_zero}
+use Rattle.ics_values.specs.declared.frequency.Frequency.{Frequency}
+use Rattle.ics_values.specs.declared.frequency.Frequency.TheVariants.{Secondly, Minutely, Hourly, Daily, Weekly, Monthly, Yearly}
+use Rattle.ics_rule.specs.declared.filled.Filled.{Filled}
+use Rattle.ics_values.specs.Sets.{has, has_wide}
+use Rattle.ics_values.specs.Days.{days_before_year}
+use Rattle.ics_rule.specs.Locals.{period}
+use Rattle.ics_rule.specs.Filled.{skips_hours, skips_minutes, skips_seconds}
+use Rattle.ics_rule.specs.Candidates.{lets, lets_date, lets_clock}
+use Rattle.ics_rule.specs.declared.period.Period.{Period}
+use Rattle.ics_rule.specs.Periods.{first_local, month_start, holds, is_let_in}
+use Rattle.ics_rule.proofs.PeriodLemmas.{begun, begins}
+
+abbrev day_test : ℕ → ℕ → ℕ → Bool
+day_test b e n = nat_le (b / 86_400) (n / 86_400) && nat_lt (n / 86_400 - b / 86_400) ((e + 86_399) / 86_400 - b / 86_400)
+
+iff : (a b : Bool) → (a ≡ true → b ≡ true) → (b ≡ true → a ≡ true) → a ≡ b
+iff true b p q = sym (p refl)
+iff false true p q = q refl
+iff false false p q = refl
+
+and_parts : (a b : Bool) → (a && b) ≡ true → (a ≡ true) × (b ≡ true)
+and_parts true b h = (refl, h)
+and_parts false b h = absurd (cc)
+
+day_facts : (b e n : ℕ) → day_test b e n ≡ true → (b / 86_400 ≤ n / 86_400) × (n / 86_400 - b / 86_400 < (e + 86_399) / 86_400 - b / 86_400)
+day_facts b e n h = grind (arith, nat_tests)
+
+day_shown : (b e n : ℕ) → b / 86_400 ≤ n / 86_400 → n / 86_400 - b / 86_400 < (e + 86_399) / 86_400 - b / 86_400 → day_test b e n ≡ true
+day_shown b e n h l = grind (arith, nat_tests)
+
+same_true : (a b : ℕ) → a ≡ b → (a == b) ≡ true
+same_true a b h = grind (arith, nat_tests)
+
+same_fact : (a b : ℕ) → (a == b) ≡ true → a ≡ b
+same_fact a b h = grind (arith, nat_tests)
+
+-- whole days
+whole_days : (b e n : ℕ) → day_test (b * 86_400) (e * 86_400) n ≡ true → (b * 86_400 ≤ n) × (n < e * 86_400)
+whole_days b e n h = let f = day_facts (b * 86_400) (e * 86_400) n h in (omega (arith, f.0), omega (arith, f.0, f.1))
+
+days_whole : (b e n : ℕ) → b * 86_400 ≤ n → n < e * 86_400 → day_test (b * 86_400) (e * 86_400) n ≡ true
+days_whole b e n h l = day_shown (b * 86_400) (e * 86_400) n (omega arith) (omega arith)
+
+all_free : (d : Bool) → d ≡ (d && (true && true && true))
+all_free true = refl
+all_free false = refl
+
+abbrev span_test : Frequency → ℕ → ℕ → ℕ → Bool
+span_test f b e n = day_test b e n && ((skips_hours f || (n / 3_600 % 24 == b / 3_600 % 24)) && (skips_minutes f || (n / 60 % 60 == b / 60 % 60)) && (skips_seconds f || (n % 60 == b % 60)))
+
+-- a local by its day and its clock
+whole_local : (n : ℕ) → n ≡ n / 86_400 * 86_400 + n / 3_600 % 24 * 3_600 + n / 60 % 60 * 60 + n % 60
+whole_local n = omega arith
+
+whole_minute : (n : ℕ) → n / 60 ≡ n / 86_400 * 1_440 + n / 3_600 % 24 * 60 + n / 60 % 60
+whole_minute n = omega arith
+
+whole_hour : (n : ℕ) → n / 3_600 ≡ n / 86_400 * 24 + n / 3_600 % 24
+whole_hour n = omega arith
+
+-- a period within a day
+one_day : (b e n : ℕ) → (e + 86_399) / 86_400 ≡ b / 86_400 + 1 → day_test b e n ≡ true → n / 86_400 ≡ b / 86_400
+one_day b e n one h = let f = day_facts b e n h in omega (arith, f.0, f.1, one)
+
+day_one : (b e n : ℕ) → (e + 86_399) / 86_400 ≡ b / 86_400 + 1 → n / 86_400 ≡ b / 86_400 → day_test b e n ≡ true
+day_one b e n one h = day_shown b e n (omega arith) (omega arith)
+
+-- the tests of the day and of the clock's fixed readings say that a local lies between the two firsts
+span_low : (f : Frequency) (w p n : ℕ) → span_test f (first_local f w p) (first_local f w (p + 1)) n ≡ true → (first_local f w p ≤ n) × (n < first_local f w (p + 1))
+span_low Secondly w p n h =
+    let parts = and_parts (day_test p (p + 1) n) _ h in
+    let clock = and_parts _ _ parts.1 in
+    let front = and_parts _ _ clock.0 in
+    let day = one_day p (p + 1) n (omega arith) parts.0 in
+    let hour = same_fact (n / 3_600 % 24) (p / 3_600 % 24) front.0 in
+    let minute = same_fact (n / 60 % 60) (p / 60 % 60) front.1 in
+    let second = same_fact (n % 60) (p % 60) clock.1 in
+    let whole = whole_local n in
+    let own = whole_local p in
+    let same : n ≡ p = omega (arith, day, hour, minute, second, whole, own) in
+    (omega arith, omega arith)
+span_low Minutely w p n h =
+    let parts = and_parts (day_test (p * 60) ((p + 1) * 60) n) _ h in
+    let clock = and_parts _ _ parts.1 in
+    let front = and_parts _ _ clock.0 in
+    let day = one_day (p * 60) ((p + 1) * 60) n (omega arith) parts.0 in
+    let hour = same_fact (n / 3_600 % 24) (p * 60 / 3_600 % 24) front.0 in
+    let minute = same_fact (n / 60 % 60) (p * 60 / 60 % 60) front.1 in
+    let whole = whole_minute n in
+    let own = whole_minute (p * 60) in
+    let same : n / 60 ≡ p = omega (arith, day, hour, minute, whole, own) in
+    (omega arith, omega arith)
+span_low Hourly w p n h =
+    let parts = and_parts (day_test (p * 3_600) ((p + 1) * 3_600) n) _ h in
+    let clock = and_parts _ _ parts.1 in
+    let front = and_parts _ _ clock.0 in
+    let day = one_day (p * 3_600) ((p + 1) * 3_600) n (omega arith) parts.0 in
+    let hour = same_fact (n / 3_600 % 24) (p * 3_600 / 3_600 % 24) front.0 in
+    let whole = whole_hour n in
+    let own = whole_hour (p * 3_600) in
+    let same : n / 3_600 ≡ p = omega (arith, day, hour, whole, own) in
+    (omega arith, omega arith)
+span_low Daily w p n h = whole_days p (p + 1) n (and_parts (day_test (p * 86_400) ((p + 1) * 86_400) n) _ h).0
+span_low Weekly w p n h = whole_days (7 * p - (12 - w)) (7 * (p + 1) - (12 - w)) n (and_parts (day_test ((7 * p - (12 - w)) * 86_400) ((7 * (p + 1) - (12 - w)) * 86_400) n) _ h).0
+span_low Monthly w p n h = whole_days (month_start p) (month_start (p + 1)) n (and_parts (day_test (month_start p * 86_400) (month_start (p + 1) * 86_400) n) _ h).0
+span_low Yearly w p n h = whole_days (days_before_year p) (days_before_year (p + 1)) n (and_parts (day_test (days_before_year p * 86_400) (days_before_year (p + 1) * 86_400) n) _ h).0
+
+free : (d : Bool) → d ≡ true → (d && (true && true && true)) ≡ true
+free d h = ap (λ x. x && (true && true && true)) h
+
+fixed : (d a b c : Bool) → d ≡ true → a ≡ true → b ≡ true → c ≡ true → (d && (a && b && c)) ≡ true
+fixed d a b c p q r s = ap (λ x. x && (a && b && c)) p ∙ ap (λ x. x && b && c) q ∙ ap (λ x. x && c) r ∙ s
+
+span_high : (f : Frequency) (w p n : ℕ) → first_local f w p ≤ n → n < first_local f w (p + 1) → span_test f (first_local f w p) (first_local f w (p + 1)) n ≡ true
+span_high Secondly w p n l h =
+    let same : n ≡ p = omega arith in
+    fixed (day_test p (p + 1) n) (n / 3_600 % 24 == p / 3_600 % 24) (n / 60 % 60 == p / 60 % 60) (n % 60 == p % 60)
+    (day_one p (p + 1) n (omega arith) (omega arith)) (same_true _ _ (ap (λ x. x / 3_600 % 24) same)) (same_true _ _ (ap (λ x. x / 60 % 60) same)) (same_true _ _ (ap (λ x. x % 60) same))
+span_high Minutely w p n l h =
+    let same : n / 60 ≡ p = omega arith in
+    fixed (day_test (p * 60) ((p + 1) * 60) n) (n / 3_600 % 24 == p * 60 / 3_600 % 24) (n / 60 % 60 == p * 60 / 60 % 60) true
+    (day_one (p * 60) ((p + 1) * 60) n (omega arith) (omega arith)) (same_true (n / 3_600 % 24) (p * 60 / 3_600 % 24) (omega arith)) (same_true (n / 60 % 60) (p * 60 / 60 % 60) (omega arith)) refl
+span_high Hourly w p n l h =
+    let same : n / 3_600 ≡ p = omega arith in
+    fixed (day_test (p * 3_600) ((p + 1) * 3_600) n) (n / 3_600 % 24 == p * 3_600 / 3_600 % 24) true true
+    (day_one (p * 3_600) ((p + 1) * 3_600) n (omega arith) (omega arith)) (same_true (n / 3_600 % 24) (p * 3_600 / 3_600 % 24) (omega arith)) refl refl
+span_high Daily w p n l h = free (day_test (p * 86_400) ((p + 1) * 86_400) n) (days_whole p (p + 1) n l h)
+span_high Weekly w p n l h = free (day_test ((7 * p - (12 - w)) * 86_400) ((7 * (p + 1) - (12 - w)) * 86_400) n) (days_whole (7 * p - (12 - w)) (7 * (p + 1) - (12 - w)) n l h)
+span_high Monthly w p n l h = free (day_test (month_start p * 86_400) (month_start (p + 1) * 86_400) n) (days_whole (month_start p) (month_start (p + 1)) n l h)
+span_high Yearly w p n l h = free (day_test (days_before_year p * 86_400) (days_before_year (p + 1) * 86_400) n) (days_whole (days_before_year p) (days_before_year (p + 1)) n l h)
+
+-- they say that a local lies in the period
+pub span_is : (f : Frequency) (w p n : ℕ) → span_test f (first_local f w p) (first_local f w (p + 1)) n ≡ (period f w n == p)
+span_is f w p n = iff (span_test f (first_local f w p) (first_local f w (p + 1)) n) (period f w n == p)
+    (λ h. let s = span_low f w p n h in let low = begins f w p n s.0 in same_true (period f w n) p (elim (by_order p (period f w n)) [
+      | inl more ↦ absurd (let late = begun f w (p + 1) n (omega arith) in omega (arith, late, s.1))
+      | inr same ↦ omega (arith, low, same)
+    ]))
+    (λ h. let e = same_fact (period f w n) p h in span_high f w p n (begun f w p n (omega (arith, e))) (elim (by_order n (first_local f w (p + 1))) [
+      | inl less ↦ less
+      | inr more ↦ absurd (let late = begins f w (p + 1) n more in omega (arith, e, late))
+    ]))
+  where
+    by_order : (a b : ℕ) → (a < b) ⊎ (b ≤ a)
+    by_order a b = grind arith
+
+rearranged : (le lt ld fh lh fm lm fs ls : Bool) → ((le && (lt && ld)) && (((fh && lh) && (fm && lm)) && (fs && ls))) ≡ (((le && lt) && (fh && fm && fs)) && (ld && (lh && lm && ls)))
+rearranged false lt ld fh lh fm lm fs ls = refl
+rearranged true false ld fh lh fm lm fs ls = refl
+rearranged true true false false lh fm lm fs ls = refl
+rearranged true true false true lh false lm fs ls = refl
+rearranged true true false true lh true lm false ls = refl
+rearranged true true false true lh true lm true ls = refl
+rearranged true true true false lh fm lm fs ls = refl
+rearranged true true true true false false lm fs ls = refl
+rearranged true true true true false true lm false ls = refl
+rearranged true true true true false true lm true ls = refl
+rearranged true true true true true false lm fs ls = refl
+rearranged true true true true true true false false ls = refl
+rearranged true true true true true true false true ls = refl
+rearranged true true true true true true true fs ls = refl
+
+day_back : (a e : ℕ) (x : Bool) (f : ℕ → Bool) → (nat_le a e && (x && f (a + (e - a)))) ≡ (nat_le a e && (x && f e))
+day_back a e x f = elim (by_order a e) [
+  | inl low ↦ let same : a + (e - a) ≡ e = omega arith in ap (λ z. nat_le a e && (x && f z)) same
+  | inr high ↦ let none : nat_le a e ≡ false = grind (arith, nat_tests) in ap (λ z. z && (x && f (a + (e - a)))) none ∙ ap (λ z. z && (x && f e)) (sym none)
+]
+  where
+    by_order : (a b : ℕ) → (a ≤ b) ⊎ (b < a)
+    by_order a b = grind arith
+
+-- the product of the days that the rule lets in, and of the readings that it lets in, holds what it lets in within the period
+pub product_is : (q : Filled) (number b e : ℕ) (p : Period) → b ≡ first_local q.frequency (monday_zero q.week_start) number → e ≡ first_local q.frequency (monday_zero q.week_start) (number + 1)
+    → p.first_day ≡ b / 86_400
+    → ((k : ℕ) → has_wide p.days k ≡ (nat_lt k ((e + 86_399) / 86_400 - b / 86_400) && lets_date q (b / 86_400 + k)))
+    → ((m : ℕ) → m < 24 → has p.hours m ≡ ((skips_hours q.frequency || (m == b / 3_600 % 24)) && lets q.hours m))
+    → ((m : ℕ) → m < 60 → has p.minutes m ≡ ((skips_minutes q.frequency || (m == b / 60 % 60)) && lets q.minutes m))
+    → ((m : ℕ) → m < 60 → has p.seconds m ≡ ((skips_seconds q.frequency || (m == b % 60)) && lets q.seconds m))
+    → (n : ℕ) → holds p n ≡ is_let_in q number n
+product_is q number b e p eb ee first days hours minutes seconds n =
+    let hour : n % 86_400 / 60 / 60 ≡ n / 3_600 % 24 = omega arith in
+    let minute : n % 86_400 / 60 % 60 ≡ n / 60 % 60 = omega arith in
+    let second : n % 86_400 % 60 ≡ n % 60 = omega arith in
+    let d = ap (λ z. nat_le z (n / 86_400) && has_wide p.days (n / 86_400 - z)) first ∙ ap (λ z. nat_le (b / 86_400) (n / 86_400) && z) (days (n / 86_400 - b / 86_400))
+    ∙ day_back (b / 86_400) (n / 86_400) (nat_lt (n / 86_400 - b / 86_400) ((e + 86_399) / 86_400 - b / 86_400)) (lets_date q) in
+    let h = ap (has p.hours) hour ∙ hours (n / 3_600 % 24) (omega arith) in
+    let m = ap (has p.minutes) minute ∙ minutes (n / 60 % 60) (omega arith) in
+    let s = ap (has p.seconds) second ∙ seconds (n % 60) (omega arith) in
+    let span = ap (λ z. span_test q.frequency z e n) eb ∙ ap (λ z. span_test q.frequency (first_local q.frequency (monday_zero q.week_start) number) z n) ee ∙ span_is q.frequency (monday_zero q.week_start) number n in
+    ap (λ z. z && ((has p.hours (n % 86_400 / 60 / 60) && has p.minutes (n % 86_400 / 60 % 60)) && has p.seconds (n % 86_400 % 60))) d
+    ∙ four (nat_le (b / 86_400) (n / 86_400) && (nat_lt (n / 86_400 - b / 86_400) ((e + 86_399) / 86_400 - b / 86_400) && lets_date q (n / 86_400))) _ _ _ _ _ _ h m s
+    ∙ rearranged (nat_le (b / 86_400) (n / 86_400)) (nat_lt (n / 86_400 - b / 86_400) ((e + 86_399) / 86_400 - b / 86_400)) (lets_date q (n / 86_400))
+    (skips_hours q.frequency || (n / 3_600 % 24 == b / 3_600 % 24)) (lets q.hours (n / 3_600 % 24))
+    (skips_minutes q.frequency || (n / 60 % 60 == b / 60 % 60)) (lets q.minutes (n / 60 % 60))
+    (skips_seconds q.frequency || (n % 60 == b % 60)) (lets q.seconds (n % 60))
+    ∙ ap (λ z. z && (lets_date q (n / 86_400) && lets_clock q n)) span
+  where
+    four : (d h m s h' m' s' : Bool) → h ≡ h' → m ≡ m' → s ≡ s' → (d && ((h && m) && s)) ≡ (d && ((h' && m') && s'))
+    four d h m s h' m' s' p q r = ap (λ z. d && ((z && m) && s)) p ∙ ap (λ z. d && ((h' && z) && s)) q ∙ ap (λ z. d && ((h' && m') && z)) r

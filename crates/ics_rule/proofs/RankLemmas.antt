@@ -1,0 +1,111 @@
+-- Members by their number, and the members at listed places.
+use Rattle.std.proofs.Common.{◌≡◌, ℕ, zero, suc, ◌+◌, ◌-◌, ◌*◌, ◌/◌, ◌%◌, ◌<◌, ◌≤◌, ◌⊎◌, inl, inr, Bool, true, false, cond, ◌&&◌, refl, sym, ap, ◌∙◌, arith}
+use Rattle.std.proofs.lemmas.Nat.{div-add-mod'}
+use Rattle.std.proofs.Math.Nat.{mod-lt, mul-le-mul_right}
+use Rattle.ics_values.specs.Sets.{IsLeastFrom}
+use Rattle.ics_rule.specs.Kept.{count}
+use Rattle.ics_rule.specs.Periods.{IsNth}
+use Rattle.ics_rule.proofs.Counts.{count-suc, count-add, count-none, count_mono, count_one_more}
+
+by_order : (a b : ℕ) → (a < b) ⊎ (b ≤ a)
+by_order a b = grind arith
+
+-- what no number between two passes counts alike up to both
+pub count_flat : (a b : ℕ) (test : ℕ → Bool) → a ≤ b → ((m : ℕ) → a ≤ m → m < b → test m ≡ false) → count b test ≡ count a test
+count_flat a b test h none =
+    let parts = count-add a (b - a) test in
+    let rest = count-none (b - a) (λ k. test (a + k)) (λ k l. none (a + k) (omega arith) (omega arith)) in
+    let same = ap (λ x. count x test) (let all : a + (b - a) ≡ b = omega arith in all) in
+    omega (arith, parts, rest, same)
+
+-- a walk from member to member that counts them
+module _ (test : ℕ → Bool) (place passed n : ℕ) (next : IsLeastFrom test place n) (own : passed ≡ count place test) where
+  before_next : count n test ≡ passed
+  before_next = count_flat place n test next.low next.least ∙ sym own
+
+  pub nth_here : (k : ℕ) → passed ≡ k → IsNth test k n
+  nth_here k e = record { passes = next.passes; before = before_next ∙ e }
+
+  pub nth_next : passed + 1 ≡ count (n + 1) test
+  nth_next =
+      let last = count-suc n test in
+      let one = count_one (test n) next.passes in
+      let same = ap (λ x. count x test) (let e : suc n ≡ n + 1 = omega arith in e) in
+      omega (arith, before_next, last, one, same)
+    where
+      count_one : (b : Bool) → b ≡ true → ◌≡◌ {A = ℕ} (cond b 1 0) 1
+      count_one b e = let f : Bool → ℕ = λ z. cond z 1 0 in ap f e
+
+pub nth_done : (test : ℕ → Bool) (place passed bound : ℕ) → ((m : ℕ) → place ≤ m → test m ≡ false) → passed ≡ count place test → count bound test ≤ passed
+nth_done test place passed bound none own = elim (by_order place bound) [
+  | inl before ↦ let flat = count_flat place bound test (omega arith) (λ m l h. none m l) in omega (arith, own, flat)
+  | inr past ↦ let low = count_mono bound place test past in omega (arith, own, low)
+]
+
+-- an index of a product, by the size of a block
+pub block_index : (k a s : ℕ) → k < a * s → (k / s < a) × (k % s < s)
+block_index k a zero h = absurd (omega (arith, h))
+block_index k a (suc s) h = let whole = div-add-mod' k (suc s) in (
+  elim (by_order (k / suc s) a) [
+    | inl less ↦ less
+    | inr more ↦ absurd (let up = mul-le-mul_right {m = a} {n = k / suc s} (suc s) more in omega (arith, whole, up, h))
+  ],
+  mod-lt k (omega arith),
+)
+
+and_second : (a b : Bool) → b ≡ false → (a && b) ≡ false
+and_second true b h = h
+and_second false b h = refl
+
+and_both : (a b : Bool) → a ≡ true → b ≡ true → (a && b) ≡ true
+and_both a b p q = ap (λ x. x && b) p ∙ q
+
+-- how many members at listed places come before n
+pub count-ranked : (n : ℕ) (p listed : ℕ → Bool) → count n (λ m. p m && listed (count m p)) ≡ count (count n p) listed
+unfolding count
+count-ranked zero p listed = refl
+count-ranked (suc n) p listed = step (p n) (count n p) (count n (λ m. p m && listed (count m p))) (count-ranked n p listed)
+  where
+    step : (b : Bool) (c x : ℕ) → x ≡ count c listed → x + cond (b && listed c) 1 0 ≡ count (c + cond b 1 0) listed
+    step true c x e = let one : c + 1 ≡ suc c = omega arith in rw (one, e) refl
+    step false c x e = let none : c + 0 ≡ c = omega arith in rw (none, e) (omega arith)
+
+-- the next of them is the member with the next listed number
+module _ (p listed : ℕ → Bool) (n : ℕ) where
+  abbrev test : ℕ → Bool
+  test m = p m && listed (count m p)
+
+  pub next_ranked : (i m : ℕ) → IsLeastFrom listed (count n p) i → IsNth p i m → IsLeastFrom test n m
+  next_ranked i m next nth = record {
+    passes = and_both (p m) (listed (count m p)) nth.passes (ap listed nth.before ∙ next.passes);
+    low = elim (by_order m n) [
+      | inl before ↦ absurd (
+          let more = count_one_more m m p (omega arith) nth.passes in
+          let up = count_mono (suc m) n p before in
+          omega (arith, more, up, nth.before, next.low))
+      | inr after ↦ after
+    ];
+    least = λ o l h. one o l h (p o) refl;
+  }
+    where
+      one : (o : ℕ) → n ≤ o → o < m → (b : Bool) → p o ≡ b → (p o && listed (count o p)) ≡ false
+      one o l h false e = ap (λ x. x && listed (count o p)) e
+      one o l h true e = and_second (p o) (listed (count o p)) (
+          let more = count_one_more o o p (omega arith) e in
+          let up = count_mono (suc o) m p h in
+          let low = count_mono n o p l in
+          next.least (count o p) low (omega (arith, more, up, nth.before)))
+
+  pub none_ranked : (size bound : ℕ) → size ≡ count bound p → ((m : ℕ) → bound ≤ m → p m ≡ false)
+      → ((k : ℕ) → count n p ≤ k → k < size → listed k ≡ false) → (m : ℕ) → n ≤ m → test m ≡ false
+  none_ranked size bound all past none m low = one (p m) refl
+    where
+      one : (b : Bool) → p m ≡ b → (p m && listed (count m p)) ≡ false
+      one false e = ap (λ x. x && listed (count m p)) e
+      one true e = and_second (p m) (listed (count m p)) (elim (by_order m bound) [
+        | inl inside ↦
+            let more = count_one_more m m p (omega arith) e in
+            let up = count_mono (suc m) bound p inside in
+            none (count m p) (count_mono n m p low) (omega (arith, more, up, all))
+        | inr outside ↦ absurd (let no = past m outside in cc)
+      ])

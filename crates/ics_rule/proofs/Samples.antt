@@ -1,0 +1,63 @@
+-- Rules and locals to try the definitions on.
+use Rattle.std.proofs.Common.{ℕ, Bool, ◌+◌, ◌-◌, ◌*◌, ◌%◌, [], ◌∷◌, pos, ◌-ℤ◌, set, arith}
+use Rattle.jiff_core.specs.Calendar.{days_of_months}
+use Rattle.ics_values.specs.declared.local.Local.{Local}
+use Rattle.ics_values.specs.declared.places.Weekdays.{Weekdays}
+use Rattle.ics_values.specs.RuleParts.{RuleParts}
+use Rattle.ics_values.specs.Places.{no_places, no_weekdays}
+use Rattle.ics_values.specs.Sets.{only}
+use Rattle.ics_values.specs.Days.{days_before_year}
+use Rattle.ics_rule.specs.declared.kind.Kind.{Kind}
+use Rattle.ics_rule.specs.Locals.{number}
+use Rattle.ics_rule.specs.Filled.{filled}
+use Rattle.ics_rule.specs.Kept.{is_beside, rank, size}
+use Rattle.ics_rule.specs.Recurrence.{Recurrence}
+
+-- weekdays without numbers, as a set
+abbrev pub on_weekdays : ℕ → Weekdays
+on_weekdays s = record no_weekdays { plain = s }
+
+abbrev pub mo : ℕ
+mo = 0
+
+abbrev pub tu : ℕ
+tu = 1
+
+abbrev pub th : ℕ
+th = 3
+
+abbrev pub fr : ℕ
+fr = 4
+
+abbrev pub su : ℕ
+su = 6
+
+-- the n-th such weekday from the front, and from the end
+abbrev pub nth_weekday : ℕ → ℕ → Weekdays
+nth_weekday n w = record no_weekdays { numbered = set no_weekdays.numbered w (record no_places { front = only n }) }
+
+abbrev pub nth_last_weekday : ℕ → ℕ → Weekdays
+nth_last_weekday n w = record no_weekdays { numbered = set no_weekdays.numbered w (record no_places { back = only n }) }
+
+-- a date and a time of day
+abbrev pub date : ℕ → ℕ → ℕ → ℕ
+date y m d = days_before_year y + days_of_months (pos y) (m - 1) + d - 1
+
+abbrev pub at : ℕ → ℕ → ℕ → ℕ → ℕ → ℕ
+at y m d h i = date y m d * 86_400 + h * 3_600 + i * 60
+
+abbrev pub local : ℕ → ℕ → ℕ → ℕ → ℕ → Local
+local y m d h i = record { day = pos (date y m d) -ℤ pos 719_528; second = (h * 3_600 + i * 60) % 86_400; second_in = omega arith }
+
+abbrev pub rule : RuleParts → Local → Kind → Recurrence
+rule p l k = record { parts = p; start = l; kind = k }
+
+-- the candidates beside a local, its rank and its period's size
+abbrev pub beside : Recurrence → ℕ → ℕ → Bool
+beside r n m = is_beside (filled r) (number r.start) n m
+
+abbrev pub rank_in : Recurrence → ℕ → ℕ
+rank_in r n = rank (filled r) (number r.start) n
+
+abbrev pub size_in : Recurrence → ℕ → ℕ
+size_in r n = size (filled r) (number r.start) n

@@ -1,0 +1,233 @@
+-- The next number that passes a test of its part / k and a test of its part % k.
+use Rattle.std.proofs.Common.{◌≡◌, ℕ, zero, suc, ◌+◌, ◌-◌, ◌*◌, ◌/◌, ◌%◌, ◌^◌, ◌<◌, ◌≤◌, ◌⊎◌, inl, inr, ◌≢◌, Bool, true, false, ◌==◌, ◌||◌, ◌&&◌, nat_lt, nat_le, min, get_or, pos, refl, sym, subst, ap, ◌∙◌, arith}
+use Rattle.std.proofs.lemmas.Bool.Decides.{nat_tests}
+use Rattle.std.proofs.lemmas.List.{get_or_past}
+use Rattle.std.proofs.lemmas.Nat.{div-mul-add, mod-mul-add, div-add-mod', le-div}
+use Rattle.std.proofs.lemmas.Nat.Bits.{bit_at-pow_other, bit_at-pow_same, bit_at-zero}
+use Rattle.std.proofs.Math.Nat.{mod-lt, mul-le-mul_right}
+use Rattle.jiff_core.specs.Calendar.{days_of_months, days_in_month}
+use Rattle.jiff_core.proofs.CalendarLemmas.{days_of_months_more}
+use Rattle.ics_values.proofs.SetLemmas.{member_below}
+use Rattle.ics_rule.specs.declared.period.Period.{Period}
+use Rattle.ics_rule.specs.Periods.{has_minute, has_second, has_day}
+use Rattle.ics_values.specs.Sets.{has, has_wide, none_wide, only, IsLeastFrom}
+
+and_first : (a b : Bool) → a ≡ false → (a && b) ≡ false
+and_first a b h = ap (λ x. x && b) h
+
+and_second : (a b : Bool) → b ≡ false → (a && b) ≡ false
+and_second true b h = h
+and_second false b h = refl
+
+and_both : (a b : Bool) → a ≡ true → b ≡ true → (a && b) ≡ true
+and_both a b p q = ap (λ x. x && b) p ∙ q
+
+three : (a b : ℕ) → a ≤ b → (a ≡ b) ⊎ (a + 1 ≤ b)
+three a b h = grind arith
+
+module _ (k : ℕ) (some : 0 < k) where
+  div_mono : (x m : ℕ) → x ≤ m → x / k ≤ m / k
+  div_mono x m h = le-div (x / k) m k some (let whole = div-add-mod' x k in omega (arith, whole))
+
+  same_block : (x m : ℕ) → m / k ≡ x / k → x ≤ m → x % k ≤ m % k
+  same_block x m e h = let a = div-add-mod' x k in let b = div-add-mod' m k in let c = ap (λ z. z * k) e in omega (arith, a, b, c)
+
+  before_block : (m hi lo : ℕ) → lo < k → m < hi * k + lo → (m / k < hi) ⊎ ((m / k ≡ hi) × (m % k < lo))
+  before_block m hi lo l h =
+      let top : m / k ≤ hi = subst (λ z. m / k ≤ z) (div-mul-add hi k lo l) (div_mono m (hi * k + lo) (omega arith)) in
+      elim (three (m / k) hi top) [
+        | inl same ↦ let b = div-add-mod' m k in let c = ap (λ z. z * k) same in inr (same, omega (arith, b, c))
+        | inr less ↦ inl (omega arith)
+      ]
+
+  module _ (A B : ℕ → Bool) (small : (m : ℕ) → B m ≡ true → m < k) where
+    -- in the block that the place lies in
+    pub next_here : (x lo : ℕ) → A (x / k) ≡ true → IsLeastFrom B (x % k) lo → IsLeastFrom (λ n. A (n / k) && B (n % k)) x (x / k * k + lo)
+    next_here x lo a next =
+        let l = small lo next.passes in record {
+          passes = ap (λ z. A z && B ((x / k * k + lo) % k)) (div-mul-add (x / k) k lo l) ∙ ap (λ z. A (x / k) && B z) (mod-mul-add (x / k) k lo l) ∙ and_both (A (x / k)) (B lo) a next.passes;
+          low = let whole = div-add-mod' x k in omega (arith, whole, next.low);
+          least = λ m low high. elim (before_block m (x / k) lo l high) [
+            | inl less ↦ absurd (let up : x / k ≤ m / k = div_mono x m low in omega (arith, up, less))
+            | inr same ↦ and_second (A (m / k)) (B (m % k)) (next.least (m % k) (same_block x m same.0 low) same.1)
+          ];
+        }
+
+    -- in a later block
+    pub next_later : (x hi lo : ℕ) → ((m : ℕ) → x ≤ m → m / k ≡ x / k → (A (m / k) && B (m % k)) ≡ false) → IsLeastFrom A (x / k + 1) hi → IsLeastFrom B 0 lo → IsLeastFrom (λ n. A (n / k) && B (n % k)) x (hi * k + lo)
+    next_later x hi lo none next first =
+        let l = small lo first.passes in record {
+          passes = ap (λ z. A z && B ((hi * k + lo) % k)) (div-mul-add hi k lo l) ∙ ap (λ z. A hi && B z) (mod-mul-add hi k lo l) ∙ and_both (A hi) (B lo) next.passes first.passes;
+          low = let whole = div-add-mod' x k in let rest : x % k < k = mod-lt x some in let up : (x / k + 1) * k ≤ hi * k = mul-le-mul_right k next.low in
+              let apart : (x / k + 1) * k ≡ x / k * k + k = omega arith in omega (arith, whole, rest, up, apart);
+          least = λ m low high. let up : x / k ≤ m / k = div_mono x m low in elim (three (x / k) (m / k) up) [
+            | inl same ↦ none m low (sym same)
+            | inr later ↦ elim (before_block m hi lo l high) [
+              | inl less ↦ and_first (A (m / k)) (B (m % k)) (next.least (m / k) later less)
+              | inr here ↦ and_second (A (m / k)) (B (m % k)) (first.least (m % k) (omega arith) here.1)
+            ]
+          ];
+        }
+
+    -- nowhere
+    pub none_later : (x : ℕ) → ((m : ℕ) → x ≤ m → m / k ≡ x / k → (A (m / k) && B (m % k)) ≡ false) → ((m : ℕ) → x / k + 1 ≤ m → A m ≡ false) → (m : ℕ) → x ≤ m → (A (m / k) && B (m % k)) ≡ false
+    none_later x none rest m low = let up : x / k ≤ m / k = div_mono x m low in elim (three (x / k) (m / k) up) [
+      | inl same ↦ none m low (sym same)
+      | inr later ↦ and_first (A (m / k)) (B (m % k)) (rest (m / k) later)
+    ]
+
+    pub none_low : ((m : ℕ) → 0 ≤ m → B m ≡ false) → (m : ℕ) → (A (m / k) && B (m % k)) ≡ false
+    none_low rest m = and_second (A (m / k)) (B (m % k)) (rest (m % k) (omega arith))
+
+    -- what is left where the block of the place is done
+    pub block_out : (x : ℕ) → A (x / k) ≡ false → (m : ℕ) → x ≤ m → m / k ≡ x / k → (A (m / k) && B (m % k)) ≡ false
+    block_out x a m low same = and_first (A (m / k)) (B (m % k)) (ap A same ∙ a)
+
+    pub block_done : (x : ℕ) → ((m : ℕ) → x % k ≤ m → B m ≡ false) → (m : ℕ) → x ≤ m → m / k ≡ x / k → (A (m / k) && B (m % k)) ≡ false
+    block_done x b m low same = and_second (A (m / k)) (B (m % k)) (b (m % k) (same_block x m same low))
+
+-- the set of one number, and the empty set
+same_or_not : (m n : ℕ) → (m ≡ n) ⊎ (m ≢ n)
+same_or_not m n = grind (arith, nat_tests)
+
+pub has-only : (h m : ℕ) → has (only h) m ≡ (m == h)
+has-only h m = elim (same_or_not m h) [
+  | inl same ↦ rw same (ap (λ x. x == 1) (bit_at-pow_same h) ∙ self h)
+  | inr other ↦ ap (λ x. x == 1) (bit_at-pow_other h m other) ∙ apart m h other
+]
+  where
+    self : (h : ℕ) → true ≡ (h == h)
+    self h = grind (arith, nat_tests)
+
+    apart : (m h : ℕ) → m ≢ h → false ≡ (m == h)
+    apart m h o = grind (arith, nat_tests)
+
+pub own_only : (f : ℕ → Bool) (own m : ℕ) → f own ≡ true → (m == own) ≡ ((m == own) && f m)
+own_only f own m h = elim (same_or_not m own) [
+  | inl same ↦ rw same (one (own == own) (f own) h)
+  | inr other ↦ two (m == own) (f m) (apart m own other)
+]
+  where
+    one : (a b : Bool) → b ≡ true → a ≡ (a && b)
+    one true b h = sym h
+    one false b h = refl
+
+    two : (a b : Bool) → a ≡ false → a ≡ (a && b)
+    two true b h = absurd (cc)
+    two false b h = refl
+
+    apart : (m h : ℕ) → m ≢ h → (m == h) ≡ false
+    apart m h o = grind (arith, nat_tests)
+
+-- no number is a member of the empty set
+none_get : (i : ℕ) → get_or none_wide i 0 ≡ 0
+none_get zero = refl
+none_get (suc zero) = refl
+none_get (suc (suc zero)) = refl
+none_get (suc (suc (suc zero))) = refl
+none_get (suc (suc (suc (suc zero)))) = refl
+none_get (suc (suc (suc (suc (suc zero))))) = refl
+none_get (suc (suc (suc (suc (suc (suc i)))))) = get_or_past none_wide (suc (suc (suc (suc (suc (suc i)))))) 0 (omega arith)
+
+pub none_has : (m : ℕ) → has_wide none_wide m ≡ false
+none_has m = and_second (nat_lt m 384) (has (get_or none_wide (m / 64) 0) (m % 64)) (ap (λ x. has x (m % 64)) (none_get (m / 64)) ∙ ap (λ x. x == 1) (bit_at-zero (m % 64)))
+
+-- the test of one number more
+pub one_more : (f : ℕ → Bool) (k m : ℕ) (b : Bool) → f k ≡ true → b ≡ (nat_lt m k && f m) → ((m == k) || b) ≡ (nat_lt m (k + 1) && f m)
+one_more f k m b h e = elim (same_or_not m k) [
+  | inl same ↦ ap (λ x. (m == k) || x) e ∙ subst (λ x. ((x == k) || (nat_lt x k && f x)) ≡ (nat_lt x (k + 1) && f x)) (sym same) (here (k == k) (nat_lt k k) (nat_lt k (k + 1)) (f k) (refl_test k) (next_test k) h)
+  | inr other ↦ ap (λ x. (m == k) || x) e ∙ (there (m == k) (nat_lt m k) (nat_lt m (k + 1)) (f m) (apart m k other) (grow m k other))
+]
+  where
+    refl_test : (k : ℕ) → (k == k) ≡ true
+    refl_test k = grind (arith, nat_tests)
+
+    next_test : (k : ℕ) → nat_lt k (k + 1) ≡ true
+    next_test k = grind (arith, nat_tests)
+
+    apart : (m k : ℕ) → m ≢ k → (m == k) ≡ false
+    apart m k o = grind (arith, nat_tests)
+
+    grow : (m k : ℕ) → m ≢ k → nat_lt m k ≡ nat_lt m (k + 1)
+    grow m k o = grind (arith, nat_tests)
+
+    here : (a b c d : Bool) → a ≡ true → c ≡ true → d ≡ true → (a || (b && d)) ≡ (c && d)
+    here a b c d p q r = rw (p, q, r) refl
+
+    there : (a b c d : Bool) → a ≡ false → b ≡ c → (a || (b && d)) ≡ (c && d)
+    there a b c d p q = rw (p, q) refl
+
+pub no_more : (f : ℕ → Bool) (k m : ℕ) (b : Bool) → f k ≡ false → b ≡ (nat_lt m k && f m) → b ≡ (nat_lt m (k + 1) && f m)
+no_more f k m b h e = elim (same_or_not m k) [
+  | inl same ↦ e ∙ subst (λ x. (nat_lt x k && f x) ≡ (nat_lt x (k + 1) && f x)) (sym same) (and_second (nat_lt k k) (f k) h ∙ sym (and_second (nat_lt k (k + 1)) (f k) h))
+  | inr other ↦ e ∙ ap (λ x. x && f m) (grow m k other)
+]
+  where
+    grow : (m k : ℕ) → m ≢ k → nat_lt m k ≡ nat_lt m (k + 1)
+    grow m k o = grind (arith, nat_tests)
+
+-- what the test of one word says below 64
+pub in_word : (n : ℕ) (b : Bool) → n < 64 → (nat_lt n 64 && b) ≡ b
+in_word n b h = ap (λ x. x && b) (within n h)
+  where
+    within : (n : ℕ) → n < 64 → nat_lt n 64 ≡ true
+    within n h = grind (arith, nat_tests)
+
+and_parts : (a b : Bool) → (a && b) ≡ true → (a ≡ true) × (b ≡ true)
+and_parts true b h = (refl, h)
+and_parts false b h = absurd (cc)
+
+-- minutes and seconds of the product lie in the day
+pub minute_below : (hours minutes m : ℕ) → hours < 2 ^ 24 → has_minute hours minutes m ≡ true → m < 1440
+minute_below hours minutes m h e = let l = member_below hours 24 (m / 60) h (and_parts (has hours (m / 60)) (has minutes (m % 60)) e).0 in omega (arith, l)
+
+pub second_below : (p : Period) (t : ℕ) → p.hours < 2 ^ 24 → has_second p t ≡ true → t < 86_400
+second_below p t h e = let l = minute_below p.hours p.minutes (t / 60) h (and_parts (has_minute p.hours p.minutes (t / 60)) (has p.seconds (t % 60)) e).0 in omega (arith, l)
+
+-- one month more
+pub months_more : (y n : ℕ) → days_of_months (pos y) n + days_in_month (pos y) (n + 1) ≡ days_of_months (pos y) (n + 1)
+months_more y n = let more = days_of_months_more (pos y) (n + 1) (omega arith) in let back : n + 1 - 1 ≡ n = omega arith in let more' = rw back at more in sym more'
+
+-- the days of a product from a day on, by the set's places from what is skipped of it
+day_before : (p : Period) (m : ℕ) → m < p.first_day → has_day p m ≡ false
+day_before p m h = let none : nat_le p.first_day m ≡ false = grind (arith, nat_tests) in ap (λ x. x && has_wide p.days (m - p.first_day)) none
+
+pub next_day : (p : Period) (day skipped k : ℕ) → skipped ≡ min (day - p.first_day) 384 → IsLeastFrom (has_wide p.days) skipped k → k < 384 → IsLeastFrom (has_day p) day (p.first_day + k)
+next_day p day skipped k e next small = record {
+  passes = let low : nat_le p.first_day (p.first_day + k) ≡ true = grind (arith, nat_tests) in let back : p.first_day + k - p.first_day ≡ k = omega arith in
+      ap (λ x. x && has_wide p.days (p.first_day + k - p.first_day)) low ∙ ap (has_wide p.days) back ∙ next.passes;
+  low = omega (arith, e, next.low, small);
+  least = λ m low high. elim (by_order m p.first_day) [
+    | inl less ↦ day_before p m less
+    | inr more ↦ and_second (nat_le p.first_day m) (has_wide p.days (m - p.first_day)) (next.least (m - p.first_day) (omega (arith, e)) (omega arith))
+  ];
+}
+  where
+    by_order : (a b : ℕ) → (a < b) ⊎ (b ≤ a)
+    by_order a b = grind arith
+
+pub no_day : (p : Period) (day skipped : ℕ) → skipped ≡ min (day - p.first_day) 384 → ((m : ℕ) → skipped ≤ m → has_wide p.days m ≡ false) → (m : ℕ) → day ≤ m → has_day p m ≡ false
+no_day p day skipped e none m low = elim (by_order m p.first_day) [
+  | inl less ↦ day_before p m less
+  | inr more ↦ and_second (nat_le p.first_day m) (has_wide p.days (m - p.first_day)) (none (m - p.first_day) (omega (arith, e)))
+]
+  where
+    by_order : (a b : ℕ) → (a < b) ⊎ (b ≤ a)
+    by_order a b = grind arith
+
+-- a place passes exactly where it is the next that does
+pub next_is_own : (test : ℕ → Bool) (place n : ℕ) → IsLeastFrom test place n → (n == place) ≡ test place
+next_is_own test place n next = elim (same_or_not n place) [
+  | inl same ↦ self_test n place same ∙ sym (ap test (sym same) ∙ next.passes)
+  | inr other ↦ apart_test n place other ∙ sym (next.least place (omega arith) (omega (arith, next.low)))
+]
+  where
+    self_test : (a b : ℕ) → a ≡ b → (a == b) ≡ true
+    self_test a b h = grind (arith, nat_tests)
+
+    apart_test : (a b : ℕ) → a ≢ b → (a == b) ≡ false
+    apart_test a b h = grind (arith, nat_tests)
+
+pub minute_true : (hours minutes m : ℕ) (a b : Bool) → m ≤ 1440 → a ≡ (nat_lt (m / 60) 64 && has hours (m / 60)) → b ≡ (nat_lt (m % 60) 64 && has minutes (m % 60)) → has_minute hours minutes m ≡ (a && b)
+minute_true hours minutes m a b h ea eb =
+    sym (ap (λ x. x && b) (ea ∙ in_word (m / 60) (has hours (m / 60)) (omega arith)) ∙ ap (λ x. has hours (m / 60) && x) (eb ∙ in_word (m % 60) (has minutes (m % 60)) (omega arith)))

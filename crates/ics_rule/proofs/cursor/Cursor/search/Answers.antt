@@ -1,0 +1,13 @@
+use Rattle.std.proofs.Common.{arith}
+use Rattle.ics_rule.specs.Filled.{filled}
+use Rattle.ics_rule.proofs.CursorLemmas.{own_at, own_walked, own_found}
+use Rattle.ics_rule.proofs.cursor.Cursor.search.Goals as goal
+
+pub returns-then-stop-place-clause-own : goal.returns-then-stop-place-clause-own
+returns-then-stop-place-clause-own c = own_at (filled c.args.rule.now) c.args.start c.args.rule.now.parts.count c.args.self.now c.max-self.result c.requires.own (omega (arith, c.max-self.ensures)) (omega (arith, c.max-self.ensures, c.requires.own.inside, c.requires.end))
+
+pub returns-then-n-stop-clause-own : goal.returns-then-n-stop-clause-own
+returns-then-n-stop-clause-own c = own_found (filled c.args.rule.now) c.args.start c.args.rule.now.parts.count c.args.stop c.in-Some.n c.args.self.now c.walk.new.self c.in-Some.ensures.walked (omega (arith, c.requires.end, c.requires.stop, c.if-n-stop.true))
+
+pub returns-clause-own : goal.returns-clause-own
+returns-clause-own c = own_walked (filled c.args.rule.now) c.args.start c.args.rule.now.parts.count c.args.stop c.walk.result c.args.self.now c.walk.new.self c.args.end c.walk.ensures.walked c.requires.stop (omega (arith, c.requires.end))

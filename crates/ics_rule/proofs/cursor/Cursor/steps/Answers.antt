@@ -1,0 +1,9 @@
+use Rattle.ics_rule.specs.Locals.{number}
+use Rattle.ics_rule.specs.Filled.{filled}
+use Rattle.ics_rule.specs.Cursors.{period_count, IsCursorOf, HasLooked}
+use Rattle.ics_rule.proofs.CursorLemmas.{few_steps}
+use Rattle.ics_rule.proofs.cursor.Cursor.steps.Goals as goal
+
+pub returns : goal.returns
+unfolding period_count IsCursorOf HasLooked
+returns c = λ r a b own few. few_steps (filled r) (number r.start) r.parts.count c.args.self.now a b own few

@@ -1,0 +1,58 @@
+use Rattle.std.proofs.Common.{◌≡◌, ◌∙◌, ◌+◌, ℕ, ◌⊎◌, inl, inr, ap, refl, sym, arith}
+use Rattle.ics_rule.specs.declared.cursor.Cursor.{Cursor}
+use Rattle.ics_rule.proofs.CursorLemmas.{looks_once, fresh_some, fresh_none}
+use Rattle.ics_rule.proofs.CountLemmas.{step_low, turned_first, turned_on, counted_out, counted_small}
+use Rattle.ics_rule.proofs.cursor.Cursor.turn_to.Goals as goal
+use Rattle.ics_rule.proofs.cursor.Cursor.turn_to.Goals.{After-taken_before-before}
+
+-- the period held is the one before
+step_before : (a b i : ℕ) → (a ≡ b) ⊎ (a + i ≡ b) → (a ≡ b → ⊥) → a + i ≡ b
+step_before a b i (inl same) other = absurd (other same)
+step_before a b i (inr on) other = on
+
+pub look_at-period-requires-clause-low : goal.look_at-period-requires-clause-low
+look_at-period-requires-clause-low c = step_low c.args.parts.now c.args.start c.args.number c.requires.step
+
+pub look_at-requires-clause-low : goal.look_at-requires-clause-low
+look_at-requires-clause-low c = step_low c.args.parts.now c.args.start c.args.number c.requires.step
+
+pub overflow_add-self-in-Some : goal.overflow_add-self-in-Some
+overflow_add-self-in-Some c =
+    let turn = rw c.in-Some.is at c.requires.turn in
+    let on = step_before c.in-Some.period.number c.args.number c.args.parts.now.interval turn.1.1 c.if-period-number.false in
+    let small = counted_small c.args.parts.now c.args.start c.args.count c.args.number c.args.self.now.counted c.args.self.now.limit c.in-Some.period turn.1.0 (omega (arith, on)) c.requires.step c.requires.reach in
+    omega (arith, small, c.taken_before-before.ensures.bound)
+
+pub returns-then-self-before-clause-turned : goal.returns-then-self-before-clause-turned
+returns-then-self-before-clause-turned c =
+    let turn = rw c.in-Some.is at c.requires.turn in
+    let on = step_before c.in-Some.period.number c.args.number c.args.parts.now.interval turn.1.1 c.if-period-number.false in (
+      counted_out c.args.parts.now c.args.start c.args.count c.args.number c.taken_before-before.result 315_569_519_999 c.args.self.now.counted c.args.self.now.limit c.in-Some.period c.requires.interval turn.0 turn.1.0 on
+          (omega (arith, c.requires.reach)) c.taken_before-before.ensures.value c.if-self-before.true,
+      refl,
+    )
+
+pub returns-in-None-clause-turned : goal.returns-in-None-clause-turned
+returns-in-None-clause-turned c =
+    let turn = rw c.in-None.is at c.requires.turn in
+    turned_first c.args.parts.now c.args.start c.args.count c.args.number _ c.taken_before.result _ c.look_at-period.result c.requires.interval c.requires.count turn c.requires.step
+    c.look_at-period.ensures.product c.look_at-period.ensures.number
+    (ap (λ (s : Cursor). s.held) c.look_at-period.ensures.cursor) (ap (λ (s : Cursor). s.counted) c.look_at-period.ensures.cursor) refl refl c.taken_before.ensures.value
+
+pub returns-in-None-clause-steps : goal.returns-in-None-clause-steps
+returns-in-None-clause-steps c = looks_once c.args.number 0 c.args.self.now c.look_at-period.new.self c.look_at-period.result
+    (fresh_none c.args.number c.args.self.now.held c.in-None.is) c.look_at-period.ensures.cursor c.look_at-period.ensures.number
+
+pub returns-else-self-before-clause-turned : goal.returns-else-self-before-clause-turned
+returns-else-self-before-clause-turned c =
+    let turn = rw c.in-Some.is at c.requires.turn in
+    let on = step_before c.in-Some.period.number c.args.number c.args.parts.now.interval turn.1.1 c.if-period-number.false in
+    turned_on c.args.parts.now c.args.start c.args.count c.args.number _ c.taken_before-before.result 315_569_519_999 c.args.self.now c.look_at.new.self c.in-Some.period c.look_at.result c.requires.interval turn.0 turn.1.0 on
+    (omega (arith, c.requires.reach)) refl c.taken_before-before.ensures.value c.look_at.ensures.product c.look_at.ensures.number c.look_at.ensures.cursor
+
+pub returns-else-self-before-clause-steps : goal.returns-else-self-before-clause-steps
+returns-else-self-before-clause-steps c =
+    let turn = rw c.in-Some.is at c.requires.turn in
+    let on = step_before c.in-Some.period.number c.args.number c.args.parts.now.interval turn.1.1 c.if-period-number.false in
+    looks_once c.args.number (c.args.self.now.counted + c.taken_before-before.result) c.args.self.now c.look_at.new.self c.look_at.result
+    (fresh_some c.args.number c.args.self.now.held c.in-Some.period c.in-Some.is (omega (arith, on)) c.if-period-number.false) c.look_at.ensures.cursor c.look_at.ensures.number

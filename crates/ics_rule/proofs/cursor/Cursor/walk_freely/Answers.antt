@@ -1,0 +1,36 @@
+use Rattle.std.proofs.Common.{◌<◌, ◌≤◌, subst, arith}
+use Rattle.ics_values.specs.Sets.{IsLeastFrom}
+use Rattle.ics_rule.specs.Candidates.{is_stepped, period_in}
+use Rattle.ics_rule.proofs.CursorLemmas.{walk_begins, walk_goes_on, walk_ends, walk_ended, walk_finds, walk_found, walk_low, walk_reach}
+use Rattle.ics_rule.proofs.cursor.Cursor.walk_freely.Goals as goal
+
+pub loop-number-init : goal.loop-number-init
+loop-number-init c = walk_begins c.args.parts.now c.args.start c.args.stop c.next_step-number.result c.args.self.now
+    (subst (λ x. IsLeastFrom (is_stepped x c.args.parts.now.interval) (period_in c.args.parts.now c.args.self.now.place) c.next_step-number.result) c.period_of-first.ensures.value
+    (subst (λ x. IsLeastFrom (is_stepped c.period_of-first.result c.args.parts.now.interval) x c.next_step-number.result) c.period_of-own.ensures.value c.next_step-number.ensures))
+    c.requires.place c.requires.own
+
+pub find-requires-clause-low : goal.find-requires-clause-low
+find-requires-clause-low c = walk_low c.args.parts.now c.args.start c.args.stop c.loop-number.number c.args.self.now c.loop-number.self c.loop-number.invariant
+
+pub find-requires-clause-reach : goal.find-requires-clause-reach
+find-requires-clause-reach c = let r = walk_reach c.args.parts.now c.loop-number.number c.args.stop (subst (λ x. c.loop-number.number ≤ x) c.period_of-last.ensures.value c.loop-number-test.true) in omega (arith, r, c.requires.stop)
+
+pub returns-in-Some-clause-next : goal.returns-in-Some-clause-next
+returns-in-Some-clause-next c = walk_finds c.args.parts.now c.args.start c.args.stop c.loop-number.number c.args.self.now c.loop-number.self c.loop-number.invariant c.find.new.self c.requires.place
+    (subst (λ x. c.loop-number.number ≤ x) c.period_of-last.ensures.value c.loop-number-test.true) c.find.ensures.held c.find.ensures.place c.find.ensures.steps c.in-Some.n c.in-Some.ensures.next
+
+pub returns-in-Some-clause-walked : goal.returns-in-Some-clause-walked
+returns-in-Some-clause-walked c = walk_found c.args.parts.now c.args.start c.args.stop c.loop-number.number c.args.self.now c.loop-number.self c.loop-number.invariant c.find.new.self c.requires.place
+    (subst (λ x. c.loop-number.number ≤ x) c.period_of-last.ensures.value c.loop-number-test.true) c.find.ensures.held c.find.ensures.place c.find.ensures.steps c.in-Some.n c.in-Some.ensures.next
+
+pub loop-number-preserved : goal.loop-number-preserved
+loop-number-preserved c = walk_goes_on c.args.parts.now c.args.start c.args.stop c.loop-number.number c.args.self.now c.loop-number.self c.loop-number.invariant c.find.new.self c.requires.place
+    (subst (λ x. c.loop-number.number ≤ x) c.period_of-last.ensures.value c.loop-number-test.true) c.find.ensures.held c.find.ensures.place c.find.ensures.steps c.requires.interval c.in_default.ensures.next
+
+pub returns-clause-next : goal.returns-clause-next
+returns-clause-next c = walk_ends c.args.parts.now c.args.start c.args.stop c.loop-number.number c.args.self.now c.loop-number.self c.loop-number.invariant
+    (subst (λ x. x < c.loop-number.number) c.period_of-last.ensures.value c.loop-number-test.false)
+
+pub returns-clause-walked : goal.returns-clause-walked
+returns-clause-walked c = walk_ended c.args.parts.now c.args.start c.args.stop c.loop-number.number c.args.self.now c.loop-number.self c.loop-number.invariant

@@ -1,0 +1,20 @@
+use Rattle.std.proofs.Common.{◌≡◌, ◌∙◌, sym, ap, false, arith}
+use Rattle.ics_values.specs.Places.{lists_none_wide}
+use Rattle.ics_rule.specs.Locals.{calendar_end}
+use Rattle.ics_rule.specs.Kept.{count}
+use Rattle.ics_rule.specs.Periods.{holds, is_listed, is_taken}
+use Rattle.ics_rule.proofs.Counts.{count_mono}
+use Rattle.ics_rule.proofs.RankLemmas.{count-ranked}
+use Rattle.ics_rule.proofs.period.Period.taken_before.Goals as goal
+
+pub listed_below-requires-clause-some : goal.listed_below-requires-clause-some
+listed_below-requires-clause-some c = let more = count_mono c.args.n calendar_end (holds c.args.self.now) (omega (arith, c.requires.n)) in omega (arith, more, c.rank_before-rank.ensures.value, c.size.ensures.value)
+
+pub returns-else-is_none-clause-value : goal.returns-else-is_none-clause-value
+returns-else-is_none-clause-value c =
+    let some : lists_none_wide c.args.positions.now ≡ false = sym c.is_none.ensures ∙ c.if-is_none.false in
+    c.listed_below.ensures.value
+    ∙ ap (λ x. count x (is_listed c.args.positions.now c.size.result)) c.rank_before-rank.ensures.value
+    ∙ ap (λ x. count (count c.args.n (holds c.args.self.now)) (is_listed c.args.positions.now x)) c.size.ensures.value
+    ∙ sym (count-ranked c.args.n (holds c.args.self.now) (is_listed c.args.positions.now (count calendar_end (holds c.args.self.now))))
+    ∙ ap (λ b. count c.args.n (is_taken c.args.positions.now b c.args.self.now)) (sym some)

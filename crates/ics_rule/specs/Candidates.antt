@@ -1,0 +1,104 @@
+-- Which locals a rule lets in, BYSETPOS, COUNT and UNTIL apart (RFC 5545, 3.3.10).
+use Rattle.std.specs.Prelude.{ℕ, ◌+◌, ◌-◌, ◌*◌, ◌/◌, ◌%◌, Bool, not, ◌&&◌, ◌||◌, ◌==◌, nat_le, nat_lt, if◌then◌else◌, pos}
+use Rattle.jiff_core.specs.Calendar.{days_in_month, days_in_year}
+use Rattle.jiff_core.specs.Weekday.{monday_zero}
+use Rattle.ics_values.specs.declared.frequency.Frequency.{Frequency}
+use Rattle.ics_values.specs.declared.frequency.Frequency.TheVariants.{Secondly, Minutely, Hourly, Daily, Weekly, Monthly, Yearly}
+use Rattle.ics_values.specs.declared.places.Places.{Places}
+use Rattle.ics_values.specs.declared.places.WidePlaces.{WidePlaces}
+use Rattle.ics_values.specs.Sets.{is_none, has, has_wide}
+use Rattle.ics_values.specs.Places.{lists_none, lists_none_wide, lists_no_weekday, numbers_of}
+use Rattle.ics_values.specs.Days.{year_of, year_day_of, month_of, month_day_of, weekday_of}
+use Rattle.ics_rule.specs.declared.filled.Filled.{Filled}
+use Rattle.ics_rule.specs.Recurrence.{Recurrence}
+use Rattle.ics_rule.specs.Locals.{number, day_of, hour_of, minute_of, second_of, week_of, period}
+use Rattle.ics_rule.specs.Filled.{filled}
+
+-- a part lets a number in where it is absent or lists it
+abbrev pub lets : ℕ → ℕ → Bool
+lets s n = is_none s || has s n
+
+-- of the numbers 1 to size, n is also the one at n - size - 1 from the end
+abbrev pub lists : Places → ℕ → ℕ → Bool
+lists p n size = has p.front n || has p.back (size + 1 - n)
+
+abbrev pub lists_wide : WidePlaces → ℕ → ℕ → Bool
+lists_wide p n size = has_wide p.front n || has_wide p.back (size + 1 - n)
+
+abbrev pub lets_place : Places → ℕ → ℕ → Bool
+lets_place p n size = lists_none p || lists p n size
+
+abbrev pub lets_wide_place : WidePlaces → ℕ → ℕ → Bool
+lets_wide_place p n size = lists_none_wide p || lists_wide p n size
+
+-- the week of day e, starting on weekday w, belongs to the year of its fourth day. The fourth day of a week that begins before 0000 is
+-- read one cycle of the calendar later: 400 years are 146,097 days, a whole number of weeks
+abbrev pub fourth_day : ℕ → ℕ → ℕ
+fourth_day w e = if nat_lt (7 * week_of w e + w) 9 then 7 * week_of w e + w + 146_088 else 7 * week_of w e + w - 9
+
+-- its number there; f is its fourth day
+abbrev pub week_number : ℕ → ℕ
+week_number f = (year_day_of f - 1) / 7 + 1
+
+-- how many weeks that year has: the number of its last week, whose fourth day is the last in steps of seven from f
+abbrev pub weeks_of_year : ℕ → ℕ
+weeks_of_year f = (days_in_year (pos (year_of f)) - 1 - (year_day_of f - 1) % 7) / 7 + 1
+
+-- of the days 1 to size, day n is the first, second, .. of its weekday from the front, and so from the end
+abbrev pub lists_nth : Places → ℕ → ℕ → Bool
+lists_nth p n size = has p.front ((n - 1) / 7 + 1) || has p.back ((size - n) / 7 + 1)
+
+-- the weekday of day e, with its numbers p: they count in the month under MONTHLY and under YEARLY with BYMONTH, else in the year
+-- under YEARLY without BYWEEKNO; elsewhere a weekday with a number stands for the weekday (our choice)
+abbrev pub lets_numbered : Frequency → Filled → Places → ℕ → Bool
+lets_numbered Monthly q p e = lists_nth p (month_day_of e) (days_in_month (pos (year_of e)) (month_of e))
+lets_numbered Yearly q p e =
+    if not (lists_none q.weeks) then not (lists_none p)
+    else (if not (is_none q.months) then lists_nth p (month_day_of e) (days_in_month (pos (year_of e)) (month_of e))
+    else lists_nth p (year_day_of e) (days_in_year (pos (year_of e))))
+lets_numbered Weekly q p e = not (lists_none p)
+lets_numbered Daily q p e = not (lists_none p)
+lets_numbered Hourly q p e = not (lists_none p)
+lets_numbered Minutely q p e = not (lists_none p)
+lets_numbered Secondly q p e = not (lists_none p)
+
+-- a list with and without numbers is a union
+abbrev pub lets_weekday : Filled → ℕ → Bool
+lets_weekday q e =
+    lists_no_weekday q.weekdays || has q.weekdays.plain (weekday_of e)
+    || lets_numbered q.frequency q (numbers_of q.weekdays (weekday_of e)) e
+
+abbrev pub lets_week : Filled → ℕ → Bool
+lets_week q e =
+    lets_place q.weeks (week_number (fourth_day (monday_zero q.week_start) e)) (weeks_of_year (fourth_day (monday_zero q.week_start) e))
+
+-- each part of a filled rule that speaks of the date lets day e in, under every frequency (where RFC 5545 has N/A this is our choice)
+abbrev pub lets_date : Filled → ℕ → Bool
+lets_date q e =
+    lets q.months (month_of e)
+    && lets_place q.month_days (month_day_of e) (days_in_month (pos (year_of e)) (month_of e))
+    && lets_wide_place q.year_days (year_day_of e) (days_in_year (pos (year_of e)))
+    && lets_week q e && lets_weekday q e
+
+-- each part that speaks of the clock lets local n in
+abbrev pub lets_clock : Filled → ℕ → Bool
+lets_clock q n = lets q.hours (hour_of n) && lets q.minutes (minute_of n) && lets q.seconds (second_of n)
+
+-- the number of the period of local n, under a rule
+abbrev pub period_in : Filled → ℕ → ℕ
+period_in q n = period q.frequency (monday_zero q.week_start) n
+
+-- p is first or later, by a multiple of the interval
+abbrev pub is_stepped : ℕ → ℕ → ℕ → Bool
+is_stepped first interval p = nat_le first p && (p - first) % interval == 0
+
+-- the period of n is that of the start or later, by a multiple of the interval
+abbrev pub in_step : Filled → ℕ → ℕ → Bool
+in_step q start n = is_stepped (period_in q start) q.interval (period_in q n)
+
+-- n is a candidate of a filled rule
+abbrev pub is_candidate_in : Filled → ℕ → ℕ → Bool
+is_candidate_in q start n = in_step q start n && lets_date q (day_of n) && lets_clock q n
+
+unfoldable pub is_candidate : Recurrence → ℕ → Bool
+is_candidate r n = is_candidate_in (filled r) (number r.start) n

@@ -1,0 +1,72 @@
+-- A cursor's place, and how many periods it looks at.
+use Rattle.std.specs.Prelude.{◌≡◌, ℕ, suc, ◌+◌, ◌-◌, ◌<◌, ◌≤◌, Bool, ◌&&◌, ◌==◌, nat_le, nat_lt, Option, Some, None, MatchOption, true}
+use Rattle.jiff_core.specs.Weekday.{monday_zero}
+use Rattle.ics_values.specs.Sets.{IsLeastFrom}
+use Rattle.ics_rule.specs.declared.filled.Filled.{Filled}
+use Rattle.ics_rule.specs.declared.period.Period.{Period}
+use Rattle.ics_rule.specs.declared.cursor.Cursor.{Cursor}
+use Rattle.ics_rule.specs.Recurrence.{Recurrence}
+use Rattle.ics_rule.specs.Locals.{number, calendar_end}
+use Rattle.ics_rule.specs.Filled.{filled}
+use Rattle.ics_rule.specs.Candidates.{is_stepped, period_in}
+use Rattle.ics_rule.specs.Kept.{count, is_chosen}
+use Rattle.ics_rule.specs.Periods.{first_local, IsPeriodOf}
+
+-- a period lies a multiple of the interval from the start's, and holds a local from a on and earlier than b
+abbrev pub is_met : Filled → ℕ → ℕ → ℕ → ℕ → Bool
+is_met q start a b p =
+    is_stepped (period_in q start) q.interval p
+    && nat_lt 0 (count b (λ n. nat_le a n && period_in q n == p))
+
+-- how many periods do
+unfoldable pub period_count : Recurrence → ℕ → ℕ → ℕ
+period_count r a b = count calendar_end (is_met (filled r) (number r.start) a b)
+
+-- where a cursor stands: what it answers later is not earlier
+abbrev pub place_of : Cursor → ℕ
+place_of c = c.place
+
+-- the first number that no period looked at has reached
+abbrev pub fresh : Option Period → ℕ
+fresh None = 0
+fresh (Some p) = suc p.number
+
+-- no period is held, or one of the rule whose number is not past local n
+abbrev pub HeldBy : Filled → Option Period → ℕ → Type 0
+HeldBy q held n = MatchOption held (Unit {0}) (λ p. IsPeriodOf q p × (p.number ≤ period_in q n))
+
+-- under COUNT c the period held is the start's or a later one, the candidates that BYSETPOS lets in before it are counted, and fewer than
+-- the limit come before a kept local
+pub record IsCounted (q : Filled) (start c counted limit : ℕ) (p : Period) : Type 0 where
+  pub step : is_stepped (period_in q start) q.interval p.number ≡ true
+  pub total : counted ≡ count (first_local q.frequency (monday_zero q.week_start) p.number) (is_chosen q start)
+  pub most : limit + 1 ≡ c + count (suc start) (is_chosen q start)
+
+-- what a cursor has counted
+abbrev pub CountedBy : Filled → ℕ → Option ℕ → Cursor → Type 0
+CountedBy q start None cursor = Unit {0}
+CountedBy q start (Some c) cursor = MatchOption cursor.held (Unit {0}) (IsCounted q start c cursor.counted cursor.limit)
+
+-- a cursor of a filled rule with this COUNT, at its place
+pub record IsCursorIn (q : Filled) (start : ℕ) (o : Option ℕ) (c : Cursor) : Type 0 where
+  pub inside : c.place < calendar_end
+  pub held : HeldBy q c.held c.place
+  pub steps : c.steps ≤ fresh c.held
+  pub counted : CountedBy q start o c
+
+-- a cursor of a rule
+unfoldable pub IsCursorOf : Recurrence → Cursor → Type 0
+IsCursorOf r c = IsCursorIn (filled r) (number r.start) r.parts.count c
+
+-- where the periods begin that a cursor at a place looks at: there or, under COUNT, at the start
+abbrev pub looks_from : Option ℕ → ℕ → ℕ → ℕ
+looks_from None start place = place
+looks_from (Some c) start place = start
+
+-- a cursor has looked only at periods that hold a local from a on and earlier than b, at each once
+pub record HasLookedIn (q : Filled) (start : ℕ) (o : Option ℕ) (c : Cursor) (a b : ℕ) : Type 0 where
+  pub low : a ≤ looks_from o start c.place
+  pub few : c.steps ≤ count (fresh c.held) (is_met q start a b)
+
+unfoldable pub HasLooked : Recurrence → Cursor → ℕ → ℕ → Type 0
+HasLooked r c a b = HasLookedIn (filled r) (number r.start) r.parts.count c a b

@@ -1,0 +1,86 @@
+-- Which locals a rule keeps (RFC 5545, 3.3.10).
+use Rattle.std.specs.Prelude.{ℕ, zero, suc, ◌+◌, ◌*◌, Bool, true, false, ◌&&◌, ◌||◌, ◌==◌, nat_le, nat_lt, if◌then◌else◌, Option, Some, None, pos, ◌+ℤ◌, ◌*ℤ◌, ℤ, ⊤}
+use Rattle.ics_values.specs.declared.local.Local.{Local}
+use Rattle.ics_values.specs.declared.until.Until.{Until}
+use Rattle.ics_values.specs.declared.until.Until.TheVariants as until
+use Rattle.ics_values.specs.Days.{day_index}
+use Rattle.ics_values.specs.Places.{lists_none_wide}
+use Rattle.ics_rule.specs.declared.kind.Kind.{Kind}
+use Rattle.ics_rule.specs.declared.kind.Kind.TheVariants.{Date, DateTime}
+use Rattle.ics_rule.specs.declared.filled.Filled.{Filled}
+use Rattle.ics_rule.specs.Recurrence.{Recurrence}
+use Rattle.ics_rule.specs.Locals.{number, day_of, calendar_end, rules_end}
+use Rattle.ics_rule.specs.Filled.{filled}
+use Rattle.ics_rule.specs.Candidates.{is_candidate, is_candidate_in, lists_wide, period_in}
+
+-- how many numbers below n pass the test
+unfoldable pub count : ℕ → (ℕ → Bool) → ℕ
+count zero test = 0
+count (suc n) test = count n test + (if test n then 1 else 0)
+
+-- a candidate m in the period of n
+abbrev pub is_beside : Filled → ℕ → ℕ → ℕ → Bool
+is_beside q start n m = is_candidate_in q start m && period_in q m == period_in q n
+
+-- how many candidates of the whole period of n are not later than n, and how many it has, also before the start
+abbrev pub rank : Filled → ℕ → ℕ → ℕ
+rank q start n = count (suc n) (is_beside q start n)
+
+abbrev pub size : Filled → ℕ → ℕ → ℕ
+size q start n = count calendar_end (is_beside q start n)
+
+-- n stands at one of the places that BYSETPOS lists, from the front or from the end; where it is absent any will do
+abbrev pub is_placed : Filled → ℕ → Bool → ℕ → Bool
+is_placed q start true n = true
+is_placed q start false n = lists_wide q.positions (rank q start n) (size q start n)
+
+-- a candidate that BYSETPOS lets in
+abbrev pub is_chosen : Filled → ℕ → ℕ → Bool
+is_chosen q start n = is_candidate_in q start n && is_placed q start (lists_none_wide q.positions) n
+
+-- the start is in the rule, whether or not it fits (our choice), and so is each later candidate that BYSETPOS lets in
+unfoldable pub is_in_rule : Recurrence → ℕ → Bool
+is_in_rule r n =
+    n == number r.start
+    || (nat_lt (number r.start) n && is_chosen (filled r) (number r.start) n)
+
+-- not after UNTIL: a date is compared with the date, and a local with the local, or with the date where the event has dates (our
+-- choice). UTC under date-times is compared with instants, and bounds no local
+abbrev pub is_until : Kind → Option Until → ℕ → Bool
+is_until kind None n = true
+is_until kind (Some (until.Date d)) n = nat_le (day_of n) (day_index d)
+is_until Date (Some (until.Local l)) n = nat_le (day_of n) (day_index l.day)
+is_until Date (Some (until.Utc l)) n = nat_le (day_of n) (day_index l.day)
+is_until DateTime (Some (until.Local l)) n = nat_le n (number l)
+is_until DateTime (Some (until.Utc l)) n = true
+
+-- fewer than COUNT members are earlier
+abbrev pub is_counted : Recurrence → Option ℕ → ℕ → Bool
+is_counted r None n = true
+is_counted r (Some c) n = nat_lt (count n (is_in_rule r)) c
+
+-- the start is kept, and so is each member that neither the end of the rules, nor UNTIL, nor COUNT cuts off
+unfoldable pub is_kept : Recurrence → ℕ → Bool
+is_kept r n =
+    n == number r.start
+    || (nat_lt n rules_end && is_in_rule r n && is_until r.kind r.parts.until n && is_counted r r.parts.count n)
+
+-- the seconds from 1970-01-01T00:00:00 to a local that is read as UTC
+abbrev pub utc_moment : Local → ℤ
+utc_moment l = l.day *ℤ pos 86_400 +ℤ pos l.second
+
+-- UTC under date-times, for instants
+abbrev pub until_moment_of : Kind → Option Until → Option ℤ
+until_moment_of DateTime (Some (until.Utc l)) = Some (utc_moment l)
+until_moment_of DateTime (Some (until.Local l)) = None
+until_moment_of DateTime (Some (until.Date d)) = None
+until_moment_of DateTime None = None
+until_moment_of Date u = None
+
+unfoldable pub until_moment : Recurrence → Option ℤ
+until_moment r = until_moment_of r.kind r.parts.until
+
+-- what a proof unfolds to compute with a rule that is written out
+unfoldable pub rules_on_literals : ⊤
+unfolding filled is_candidate is_in_rule is_kept
+rules_on_literals = tt

@@ -1,0 +1,10 @@
+pub mod Recurrence
+pub mod Locals
+pub mod Filled
+pub mod Candidates
+pub mod Dates
+pub mod Kept
+pub mod Periods
+pub mod Next
+pub mod Cursors
+pub mod Searches

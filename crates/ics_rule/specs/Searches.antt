@@ -1,0 +1,72 @@
+-- What a cursor looks for, period by period.
+use Rattle.std.specs.Prelude.{◌≡◌, ℕ, suc, ◌+◌, ◌<◌, ◌≤◌, ◌⊎◌, Bool, ◌&&◌, ◌==◌, nat_lt, Option, Some, None, MatchOption, true, false}
+use Rattle.jiff_core.specs.Weekday.{monday_zero}
+use Rattle.ics_values.specs.Sets.{IsLeastFrom}
+use Rattle.ics_rule.specs.declared.filled.Filled.{Filled}
+use Rattle.ics_rule.specs.declared.period.Period.{Period}
+use Rattle.ics_rule.specs.declared.cursor.Cursor.{Cursor}
+use Rattle.ics_rule.specs.Candidates.{period_in}
+use Rattle.ics_rule.specs.Kept.{count, is_chosen}
+use Rattle.ics_rule.specs.Periods.{first_local, IsPeriodOf}
+use Rattle.ics_rule.specs.Cursors.{is_met, fresh, HeldBy, CountedBy, HasLookedIn, IsCounted}
+
+-- a local of the period with a number that is a candidate and that BYSETPOS lets in
+abbrev pub is_chosen_within : Filled → ℕ → ℕ → ℕ → Bool
+is_chosen_within q start number n = period_in q n == number && is_chosen q start n
+
+-- under COUNT c: of what the rule chooses, so few are earlier than n and not before the start that n is kept
+abbrev pub is_few : Filled → ℕ → ℕ → ℕ → Bool
+is_few q start c n = nat_lt (count n (is_chosen q start) + 1) (c + count (suc start) (is_chosen q start))
+
+-- a local later than the start that the rule has, UNTIL apart
+abbrev pub is_wanted : Filled → ℕ → Option ℕ → ℕ → Bool
+is_wanted q start None n = is_chosen q start n
+is_wanted q start (Some c) n = is_chosen q start n && is_few q start c n
+
+-- none from a place on is earlier than a bound
+abbrev pub NoneWanted : Filled → ℕ → Option ℕ → ℕ → ℕ → Type 0
+NoneWanted q start o place stop = (n : ℕ) → place ≤ n → n < stop → is_wanted q start o n ≡ false
+
+-- the answer is the next one from a place on, or that none is earlier than a bound
+abbrev pub IsNextWanted : Filled → ℕ → Option ℕ → ℕ → ℕ → Option ℕ → Type 0
+IsNextWanted q start o place stop found =
+    MatchOption found (NoneWanted q start o place stop) (λ n. IsLeastFrom (is_wanted q start o) place n)
+
+-- n is the next one, and earlier than a bound
+pub record IsNextBefore (q : Filled) (start : ℕ) (o : Option ℕ) (place stop n : ℕ) : Type 0 where
+  pub least : IsLeastFrom (is_wanted q start o) place n
+  pub in_bound : n < stop
+
+-- what a walk over the periods up to a bound leaves of a cursor
+pub record IsWalked (q : Filled) (start : ℕ) (o : Option ℕ) (stop : ℕ) (answer : Option ℕ) (before now : Cursor) : Type 0 where
+  pub held : HeldBy q now.held stop
+  pub found : MatchOption answer (Unit {0}) (λ n. HeldBy q now.held n)
+  pub steps : now.steps ≤ fresh now.held
+  pub counted : CountedBy q start o now
+  pub looked : (a b : ℕ) → stop ≤ b → HasLookedIn q start o before a b → now.steps ≤ count (fresh now.held) (is_met q start a b)
+
+-- each look counts one period that no earlier look has reached
+abbrev pub LooksOnce : ℕ → ℕ → Option Period → ℕ → Option Period → Type 0
+LooksOnce number steps held after now =
+    (met : ℕ → Bool) → met number ≡ true → steps ≤ count (fresh held) met → after ≤ count (fresh now) met
+
+-- under COUNT the period held is the one with a number or, a step before it, the last one; or none is, and it is the start's turn
+abbrev pub IsTurnOf : Filled → ℕ → ℕ → ℕ → Cursor → Type 0
+IsTurnOf q start c number cursor =
+    MatchOption cursor.held (number ≡ period_in q start)
+    (λ p. IsPeriodOf q p × (IsCounted q start c cursor.counted cursor.limit p × ((p.number ≡ number) ⊎ (p.number + q.interval ≡ number))))
+
+-- from the period with a number on COUNT keeps no local
+abbrev pub AllCounted : Filled → ℕ → ℕ → ℕ → Type 0
+AllCounted q start c number = (n : ℕ) → first_local q.frequency (monday_zero q.week_start) number ≤ n → is_few q start c n ≡ false
+
+-- the period with a number is held
+pub record IsTurned (q : Filled) (start c turn : ℕ) (cursor : Cursor) (p : Period) : Type 0 where
+  pub held : cursor.held ≡ Some p
+  pub product : IsPeriodOf q p
+  pub number : p.number ≡ turn
+  pub counted : IsCounted q start c cursor.counted cursor.limit p
+
+-- a cursor after a look at a period
+abbrev pub after_look : Cursor → Period → ℕ → Cursor
+after_look c p counted = record { place = c.place; steps = c.steps + 1; held = Some p; counted = counted; limit = c.limit }

@@ -1,0 +1,91 @@
+//! How a cursor counts the periods of a rule with COUNT, from the start on.
+ghost use Rattle.std.specs.Prelude.{◌≡◌, ℕ, ◌<◌, ◌≤◌, ◌+◌, ◌*◌, ◌^◌, MatchOption, Some, true};
+ghost use Rattle.jiff_core.specs.Weekday.{monday_zero};
+ghost use Rattle.ics_rule.specs.Candidates.{is_stepped, period_in};
+ghost use Rattle.ics_rule.specs.Periods.{first_local};
+ghost use Rattle.ics_rule.specs.Cursors.{IsCursorIn};
+ghost use Rattle.ics_rule.specs.Searches.{IsNextWanted, IsWalked, LooksOnce, IsTurnOf, AllCounted, IsTurned};
+
+use crate::cursor::Cursor;
+use crate::filled::Filled;
+use crate::period::Period;
+use crate::step::period_of;
+
+/// 10000-01-01T00:00:00, where the calendar ends.
+const CALENDAR_END: u64 = 315_569_520_000;
+
+impl Cursor {
+    /// Turns to the period with a number, and looks at it unless it is the one held. None, and nothing changes, where all that COUNT keeps
+    /// is earlier.
+    fn turn_to(&mut self, parts: &Filled, start: u64, count: u32, number: u64) -> Option<Period>
+        requires interval { 1 ≤ parts.now.interval }
+        requires count { 1 ≤ count }
+        requires start { start < 309289708800 }
+        requires step { is_stepped (period_in parts.now start) parts.now.interval number ≡ true }
+        requires reach { first_local parts.now.frequency (monday_zero parts.now.week_start) number ≤ 309289708800 }
+        requires room { self.old.steps < 2 ^ 63 }
+        requires turn { IsTurnOf parts.now start count number self.old }
+        ensures place { self.new.place ≡ self.old.place }
+        ensures turned { MatchOption result
+            (AllCounted parts.now start count number × (self.new ≡ self.old))
+            (IsTurned parts.now start count number self.new) }
+        ensures steps { LooksOnce number self.old.steps self.old.held self.new.steps self.new.held }
+    {
+        match self.held {
+            None => {
+                let period = self.look_at(parts, number, 0);
+                self.limit = count as u64 - 1 + period.taken_before(&parts.positions, start + 1);
+                Some(period)
+            }
+            Some(period) => {
+                if period.number == number {
+                    return Some(period);
+                }
+                let before = period.taken_before(&parts.positions, CALENDAR_END - 1);
+                if self.counted + before >= self.limit {
+                    return None;
+                }
+                Some(self.look_at(parts, number, self.counted + before))
+            }
+        }
+    }
+
+    /// The next local from the place on that the rule chooses and COUNT keeps, found in the periods up to that of the last local before
+    /// `stop`.
+    pub(crate) fn walk_counting(
+        &mut self,
+        parts: &Filled,
+        start: u64,
+        count: u32,
+        stop: u64,
+    ) -> Option<u64>
+        requires interval { 1 ≤ parts.now.interval }
+        requires count { 1 ≤ count }
+        requires after { start < self.old.place }
+        requires place { self.old.place < stop }
+        requires stop { stop ≤ 309289708800 }
+        requires own { IsCursorIn parts.now start (Some count) self.old }
+        ensures next { IsNextWanted parts.now start (Some count) self.old.place stop result }
+        ensures place { self.new.place ≡ self.old.place }
+        ensures walked { IsWalked parts.now start (Some count) stop result self.old self.new }
+    {
+        let last = period_of(parts, stop - 1);
+        let mut number = match &self.held {
+            Some(period) => period.number,
+            None => period_of(parts, start),
+        };
+        while number <= last {
+            match self.turn_to(parts, start, count, number) {
+                None => return None,
+                Some(period) => {
+                    if let Some(n) = period.next_taken(&parts.positions, self.place) {
+                        let earlier = self.counted + period.taken_before(&parts.positions, n);
+                        return if earlier < self.limit { Some(n) } else { None };
+                    }
+                }
+            }
+            number += parts.interval as u64;
+        }
+        None
+    }
+}

@@ -1,0 +1,194 @@
+//! The kept locals of a rule, from a place on.
+ghost use Rattle.std.specs.Prelude.{◌≡◌, ℕ, ◌<◌, ◌≤◌, ◌+◌, ◌*◌, ◌^◌, max, Some, MatchOption, nat_lt};
+ghost use Rattle.jiff_core.specs.Weekday.{monday_zero};
+ghost use Rattle.ics_values.specs.Days.{IsDayNumber, day_index};
+ghost use Rattle.ics_values.specs.RuleParts.{IsUntil};
+ghost use Rattle.ics_rule.specs.Kept.{is_until};
+
+use crate::filled::Filled;
+use crate::kind::Kind;
+use crate::period::Period;
+use crate::rule::Rule;
+use crate::step::{local_of, number};
+use ics_values::{Local, Until};
+
+/// 9801-01-01T00:00:00, where the rules end.
+const RULES_END: u64 = 309_289_708_800;
+
+/// The first local past a day.
+fn after_day(day: i32) -> u64
+    requires { IsDayNumber day }
+    ensures { result ≡ (day_index day + 1) * 86400 }
+{
+    ((day + 719_528) as u64 + 1) * 86_400
+}
+
+/// The first local past UNTIL, or past the last.
+fn until_end(kind: Kind, until: Option<Until>) -> u64
+    requires { MatchOption until (Unit {0}) IsUntil }
+    ensures { (n : ℕ) → n < 309289708800 → is_until kind until n ≡ nat_lt n result }
+{
+    match until {
+        None => RULES_END,
+        Some(Until::Date(day)) => after_day(day),
+        Some(Until::Local(local)) => match kind {
+            Kind::Date => after_day(local.day),
+            Kind::DateTime => number(local) + 1,
+        },
+        Some(Until::Utc(local)) => match kind {
+            Kind::Date => after_day(local.day),
+            Kind::DateTime => RULES_END,
+        },
+    }
+}
+
+/// A place among the locals of a rule, with the period that was looked at last.
+#[derive(Clone, Copy)]
+pub struct Cursor {
+    pub(crate) place: u64,
+    pub(crate) steps: u64,
+    pub(crate) held: Option<Period>,
+    /// Under COUNT, how many candidates that BYSETPOS lets in are earlier than the period held.
+    pub(crate) counted: u64,
+    /// Under COUNT, a kept local has fewer of these before it.
+    pub(crate) limit: u64,
+}
+
+impl Cursor {
+    ghost use Rattle.ics_values.specs.Sets.{IsLeastFrom};
+    ghost use Rattle.ics_rule.specs.Locals.{number};
+    ghost use Rattle.ics_rule.specs.Recurrence.{Recurrence};
+    ghost use Rattle.ics_rule.specs.Filled.{filled};
+    ghost use Rattle.ics_rule.specs.Candidates.{period_in};
+    ghost use Rattle.ics_rule.specs.Periods.{first_local, IsPeriodOf};
+    ghost use Rattle.ics_rule.specs.Next.{IsNextKept, NoneKept};
+    ghost use Rattle.ics_rule.specs.Cursors.{period_count, place_of, looks_from, IsCursorOf, HasLooked, IsCursorIn, HasLookedIn};
+    ghost use Rattle.ics_rule.specs.Searches.{NoneWanted, IsNextWanted, IsNextBefore, IsWalked, after_look};
+
+    /// At a local, whether or not the rule keeps it. No period is looked at.
+    pub fn at(_rule: &Rule, from: Local) -> Cursor
+        requires { IsDayNumber from.day }
+        ensures place { place_of result ≡ number from }
+        ensures own { IsCursorOf _rule.now result }
+        ensures looked { (b : ℕ) → HasLooked _rule.now result (looks_from _rule.now.parts.count (number _rule.now.start) (number from)) b }
+    {
+        Cursor {
+            place: number(from),
+            steps: 0,
+            held: None,
+            counted: 0,
+            limit: 0,
+        }
+    }
+
+    /// Looks at the period with a number, which no earlier look has reached.
+    pub(crate) fn look_at(&mut self, parts: &Filled, number: u64, counted: u64) -> Period
+        requires low { period_in parts.now 0 ≤ number }
+        requires reach { first_local parts.now.frequency (monday_zero parts.now.week_start) number ≤ 309289708800 }
+        requires room { self.old.steps < 2 ^ 63 }
+        ensures product { IsPeriodOf parts.now result }
+        ensures number { result.number ≡ number }
+        ensures cursor { self.new ≡ after_look self.old result counted }
+    {
+        let mut steps = self.steps;
+        let looked = &Period::new(parts, number, &mut steps);
+        self.steps = steps;
+        self.counted = counted;
+        self.held = Some(*looked);
+        *looked
+    }
+
+    /// The next local from the place on that the rule has, UNTIL apart, found in the periods up to that of the last local before `stop`.
+    fn walk(&mut self, rule: &Rule, start: u64, stop: u64) -> Option<u64>
+        requires start { start ≡ number rule.now.start }
+        requires after { start < self.old.place }
+        requires place { self.old.place < stop }
+        requires stop { stop ≤ 309289708800 }
+        requires own { IsCursorIn (filled rule.now) start rule.now.parts.count self.old }
+        ensures next { IsNextWanted (filled rule.now) start rule.now.parts.count self.old.place stop result }
+        ensures place { self.new.place ≡ self.old.place }
+        ensures walked { IsWalked (filled rule.now) start rule.now.parts.count stop result self.old self.new }
+    {
+        match rule.parts.count() {
+            None => self.walk_freely(&rule.whole, start, stop),
+            Some(count) => self.walk_counting(&rule.whole, start, count, stop),
+        }
+    }
+
+    /// The next such local that is earlier than `stop`. Where there is none the place moves to `end`.
+    fn search(&mut self, rule: &Rule, start: u64, stop: u64, end: u64) -> Option<u64>
+        requires start { start ≡ number rule.now.start }
+        requires after { start < self.old.place }
+        requires stop { stop ≤ end }
+        requires end { end ≤ 309289708800 }
+        requires own { IsCursorIn (filled rule.now) start rule.now.parts.count self.old }
+        ensures next { MatchOption result
+            (NoneWanted (filled rule.now) start rule.now.parts.count self.old.place stop × (self.new.place ≡ max self.old.place end))
+            (λ n. IsNextBefore (filled rule.now) start rule.now.parts.count self.old.place stop n × (self.new.place ≡ n + 1)) }
+        ensures own { IsCursorIn (filled rule.now) start rule.now.parts.count self.new }
+        ensures looked { (a b : ℕ) → end ≤ b → HasLookedIn (filled rule.now) start rule.now.parts.count self.old a b
+            → HasLookedIn (filled rule.now) start rule.now.parts.count self.new a b }
+    {
+        let place = self.place;
+        if stop <= place {
+            self.place = place.max(end);
+            return None;
+        }
+        if let Some(n) = self.walk(rule, start, stop) {
+            if n < stop {
+                self.place = n + 1;
+                return Some(n);
+            }
+        }
+        self.place = end;
+        None
+    }
+
+    /// The number of the next kept local from the place on that is earlier than `end`.
+    fn next_number(&mut self, rule: &Rule, start: u64, end: u64) -> Option<u64>
+        requires start { start ≡ number rule.now.start }
+        requires end { end ≤ 309289708800 }
+        requires own { IsCursorIn (filled rule.now) start rule.now.parts.count self.old }
+        ensures next { MatchOption result
+            (NoneKept rule.now self.old.place end × (self.new.place ≡ max self.old.place end))
+            (λ n. IsNextKept rule.now self.old.place end n × (self.new.place ≡ n + 1)) }
+        ensures own { IsCursorIn (filled rule.now) start rule.now.parts.count self.new }
+        ensures looked { (a b : ℕ) → end ≤ b → HasLookedIn (filled rule.now) start rule.now.parts.count self.old a b
+            → HasLookedIn (filled rule.now) start rule.now.parts.count self.new a b }
+    {
+        let place = self.place;
+        if place <= start {
+            if start < end {
+                self.place = start + 1;
+                return Some(start);
+            }
+            self.place = place.max(end);
+            return None;
+        }
+        let stop = end.min(until_end(rule.kind, rule.parts.until()));
+        self.search(rule, start, stop, end)
+    }
+
+    /// The next kept local from the place on that is earlier than `before`, a bound up to 9801-01-01. The place is then just after it. Where
+    /// there is none the place is the bound, or stays if the bound is earlier.
+    pub fn next(&mut self, rule: &Rule, before: Local) -> Option<Local>
+        requires bound { IsDayNumber before.day }
+        requires early { number before ≤ 309289708800 }
+        requires own { IsCursorOf rule.now self.old }
+        ensures next { MatchOption result
+            (NoneKept rule.now (place_of self.old) (number before) × (place_of self.new ≡ max (place_of self.old) (number before)))
+            (λ local. IsNextKept rule.now (place_of self.old) (number before) (number local) × (place_of self.new ≡ number local + 1)) }
+        ensures own { IsCursorOf rule.now self.new }
+        ensures looked { (a b : ℕ) → number before ≤ b → HasLooked rule.now self.old a b → HasLooked rule.now self.new a b }
+    {
+        let n = self.next_number(rule, number(rule.start), number(before))?;
+        Some(local_of(n))
+    }
+
+    /// How many periods of the rule were looked at.
+    pub fn steps(&self) -> u64
+        ensures { (r : Recurrence) (a b : ℕ) → IsCursorOf r self.now → HasLooked r self.now a b → result ≤ period_count r a b }
+    {
+        self.steps
+    }
+}

@@ -1,0 +1,158 @@
+//! The parts that speak of the date.
+ghost use Rattle.std.specs.Prelude.{◌≡◌, ℕ, ◌<◌, ◌≤◌, ◌+◌, ◌*◌, ◌||◌, pos};
+ghost use Rattle.jiff_core.specs.Calendar.{days_in_year, days_in_month};
+ghost use Rattle.jiff_core.specs.Weekday.{monday_zero};
+ghost use Rattle.ics_values.specs.Sets.{has};
+ghost use Rattle.ics_values.specs.Places.{lists_none, lists_no_weekday, numbers_of};
+ghost use Rattle.ics_values.specs.Days.{weekday_of};
+ghost use Rattle.ics_values.specs.Fields.{IsCivilOf};
+ghost use Rattle.ics_rule.specs.Candidates.{fourth_day, lets_numbered, lets_weekday, lets_week, lets_date};
+ghost use Rattle.ics_rule.specs.Dates.{names_weekdays_alone};
+
+use crate::filled::Filled;
+use crate::time::{lets, lets_place, lets_wide_place, lists_nth};
+use ics_values::{Civil, Frequency, Places, Weekdays, civil};
+use jiff_core::civil::{days_in_month, days_in_year};
+
+/// The fields of a day that is counted from 0000-01-01.
+pub(crate) fn civil_at(index: u32) -> Civil
+    requires { index ≤ 3652424 }
+    ensures { IsCivilOf result index }
+{
+    civil(index as i32 - 719_528)
+}
+
+/// How many days the year of a date has.
+fn year_length(fields: &Civil) -> u16
+    requires { fields.now.year ≤ 9999 }
+    ensures { result ≡ days_in_year (pos fields.now.year) }
+{
+    days_in_year(fields.year as i16)
+}
+
+/// How many days the month of a date has.
+pub(crate) fn month_length(fields: &Civil) -> u8
+    requires { fields.now.year ≤ 9999 }
+    ensures { result ≡ days_in_month (pos fields.now.year) fields.now.month }
+{
+    days_in_month(fields.year as i16, fields.month)
+}
+
+/// Whether the numbers of its weekday let a day in.
+fn lets_numbered(parts: &Filled, numbers: &Places, fields: &Civil) -> bool
+    requires { (e : ℕ) × IsCivilOf fields.now e }
+    ensures { (e : ℕ) → IsCivilOf fields.now e → result ≡ lets_numbered parts.now.frequency parts.now numbers.now e }
+{
+    match parts.frequency {
+        Frequency::Monthly => { lists_nth(numbers, fields.day as u16, month_length(fields) as u16) }
+        Frequency::Yearly => {
+            if !parts.weeks.is_none() {
+                !numbers.is_none()
+            } else if !parts.months.is_none() {
+                lists_nth(numbers, fields.day as u16, month_length(fields) as u16)
+            } else {
+                lists_nth(numbers, fields.year_day, year_length(fields))
+            }
+        }
+        _ => !numbers.is_none(),
+    }
+}
+
+/// Whether BYDAY lets a day in.
+fn lets_weekday(parts: &Filled, fields: &Civil) -> bool
+    requires { (e : ℕ) × IsCivilOf fields.now e }
+    ensures { (e : ℕ) → IsCivilOf fields.now e → result ≡ lets_weekday parts.now e }
+{
+    let weekday = fields.weekday.index();
+    let numbers = &parts.weekdays.numbered[weekday as usize];
+    parts.weekdays.is_none()
+        || parts.weekdays.plain.has(weekday)
+        || lets_numbered(parts, numbers, fields)
+}
+
+/// The fourth day of a day's week, or the same one cycle of the calendar later where the week begins before 0000.
+fn fourth_day(parts: &Filled, index: u32) -> u32
+    requires { index ≤ 3652059 }
+    ensures value { result ≡ fourth_day (monday_zero parts.now.week_start) index }
+    ensures bound { result ≤ 3652424 }
+{
+    let first = parts.week_start.index() as u32;
+    let day = 7 * ((index + (12 - first)) / 7) + first;
+    if day < 9 { day + 146_088 } else { day - 9 }
+}
+
+/// Whether BYWEEKNO lets a day in, counted from 0000-01-01.
+fn lets_week(parts: &Filled, index: u32) -> bool
+    requires { index ≤ 3652059 }
+    ensures { result ≡ lets_week parts.now index }
+{
+    if parts.weeks.is_none() {
+        return true;
+    }
+    let fields = civil_at(fourth_day(parts, index));
+    let number = (fields.year_day - 1) / 7 + 1;
+    let weeks = (year_length(&fields) - 1 - (fields.year_day - 1) % 7) / 7 + 1;
+    lets_place(&parts.weeks, number as u8, weeks as u8)
+}
+
+/// Whether each part that speaks of the date lets a day in, by its fields.
+pub(crate) fn lets_fields(parts: &Filled, fields: &Civil, index: u32) -> bool
+    requires day { index ≤ 3652059 }
+    requires fields { IsCivilOf fields.now index }
+    ensures { result ≡ lets_date parts.now index }
+{
+    if !lets(parts.months, fields.month) {
+        return false;
+    }
+    if !lets_place(&parts.month_days, fields.day, month_length(fields)) {
+        return false;
+    }
+    if !lets_wide_place(&parts.year_days, fields.year_day, year_length(fields)) {
+        return false;
+    }
+    if !lets_week(parts, index) {
+        return false;
+    }
+    lets_weekday(parts, fields)
+}
+
+/// Whether BYDAY is absent, or lists the weekday of a day without a number.
+fn has_weekday(weekdays: &Weekdays, index: u32) -> bool
+    requires { index ≤ 3652059 }
+    ensures { result ≡ (lists_no_weekday weekdays.now || has weekdays.now.plain (weekday_of index)) }
+{
+    weekdays.is_none() || weekdays.plain.has(((index + 5) % 7) as u8)
+}
+
+/// Whether BYDAY lists the weekday of a day with no number.
+fn has_no_number(weekdays: &Weekdays, index: u32) -> bool
+    requires { index ≤ 3652059 }
+    ensures { result ≡ lists_none (numbers_of weekdays.now (weekday_of index)) }
+{
+    weekdays.numbered[(index + 5) as usize % 7].is_none()
+}
+
+/// Whether no part but BYDAY speaks of the date.
+fn names_weekdays_alone(parts: &Filled) -> bool
+    ensures { result ≡ names_weekdays_alone parts.now }
+{
+    parts.months.is_none()
+        && parts.month_days.is_none()
+        && parts.year_days.is_none()
+        && parts.weeks.is_none()
+}
+
+/// Whether each part that speaks of the date lets a day in, counted from 0000-01-01.
+pub(crate) fn lets_date(parts: &Filled, index: u32) -> bool
+    requires { index ≤ 3652059 }
+    ensures { result ≡ lets_date parts.now index }
+{
+    if has_weekday(&parts.weekdays, index) {
+        if names_weekdays_alone(parts) {
+            return true;
+        }
+    } else if has_no_number(&parts.weekdays, index) {
+        return false;
+    }
+    lets_fields(parts, &civil_at(index), index)
+}

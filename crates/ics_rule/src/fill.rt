@@ -1,0 +1,154 @@
+//! How a rule is filled from the start of its event.
+ghost use Rattle.std.specs.Prelude.{◌≡◌, ℕ, ◌<◌, ◌≤◌, ◌/◌};
+ghost use Rattle.ics_values.specs.Fields.{IsCivilOf};
+ghost use Rattle.ics_rule.specs.Filled.{names_no_day, takes_month_day, takes_month, takes_weekday, skips_hours, skips_minutes, skips_seconds, clock_part, only_place, only_weekday, filled_at};
+
+use crate::date::civil_at;
+use crate::filled::Filled;
+use crate::kind::Kind;
+use ics_values::{Frequency, Numbers, Parts, Places, Weekdays};
+
+/// Whether BYYEARDAY, BYMONTHDAY and BYDAY are absent.
+fn names_no_day(parts: &Parts) -> bool
+    ensures { result ≡ names_no_day parts.now }
+{
+    parts.month_days().is_none() && parts.year_days().is_none() && parts.weekdays().is_none()
+}
+
+/// Whether the rule takes the day of the month.
+fn takes_month_day(parts: &Parts) -> bool
+    ensures { result ≡ takes_month_day parts.now.frequency parts.now }
+{
+    match parts.frequency() {
+        Frequency::Yearly | Frequency::Monthly => names_no_day(parts) && parts.weeks().is_none(),
+        _ => false,
+    }
+}
+
+/// Whether the rule takes the month.
+fn takes_month(parts: &Parts) -> bool
+    ensures { result ≡ takes_month parts.now.frequency parts.now }
+{
+    match parts.frequency() {
+        Frequency::Yearly => takes_month_day(parts) && parts.months().is_none(),
+        _ => false,
+    }
+}
+
+/// Whether the rule takes the weekday.
+fn takes_weekday(parts: &Parts) -> bool
+    ensures { result ≡ takes_weekday parts.now.frequency parts.now }
+{
+    match parts.frequency() {
+        Frequency::Yearly => names_no_day(parts) && !parts.weeks().is_none(),
+        Frequency::Weekly => parts.weekdays().is_none(),
+        _ => false,
+    }
+}
+
+/// Whether a frequency is coarser than the hour.
+pub(crate) fn skips_hours(frequency: Frequency) -> bool
+    ensures { result ≡ skips_hours frequency }
+{
+    matches!(
+        frequency,
+        Frequency::Yearly | Frequency::Monthly | Frequency::Weekly | Frequency::Daily
+    )
+}
+
+/// Whether a frequency is coarser than the minute.
+pub(crate) fn skips_minutes(frequency: Frequency) -> bool
+    ensures { result ≡ skips_minutes frequency }
+{
+    skips_hours(frequency) || matches!(frequency, Frequency::Hourly)
+}
+
+/// Whether a frequency is coarser than the second.
+pub(crate) fn skips_seconds(frequency: Frequency) -> bool
+    ensures { result ≡ skips_seconds frequency }
+{
+    skips_minutes(frequency) || matches!(frequency, Frequency::Minutely)
+}
+
+/// One part of the clock.
+fn clock_part(kind: Kind, takes: bool, set: Numbers, n: u8) -> Numbers
+    requires { n < 60 }
+    ensures { result ≡ clock_part kind takes set n }
+{
+    match kind {
+        Kind::Date => Numbers::only(0),
+        Kind::DateTime if takes && set.is_none() => Numbers::only(n),
+        Kind::DateTime => set,
+    }
+}
+
+/// Day `n` of the month alone.
+fn only_place(n: u8) -> Places
+    requires { n < 64 }
+    ensures { result ≡ only_place n }
+{
+    let mut places = Places::new();
+    places.front = Numbers::only(n);
+    places
+}
+
+/// A weekday alone, counted from 0 for Monday.
+fn only_weekday(weekday: u8) -> Weekdays
+    requires { weekday < 7 }
+    ensures { result ≡ only_weekday weekday }
+{
+    let mut weekdays = Weekdays::new();
+    weekdays.plain = Numbers::only(weekday);
+    weekdays
+}
+
+/// The rule of an event that starts at the local with this number.
+pub(crate) fn fill(parts: &Parts, kind: Kind, start: u64) -> Filled
+    requires { start < 315569520000 }
+    ensures value { result ≡ filled_at parts.now kind start }
+    ensures interval { 1 ≤ result.interval }
+{
+    let fields = civil_at((start / 86_400) as u32);
+    let frequency = parts.frequency();
+    Filled {
+        frequency,
+        interval: parts.interval(),
+        week_start: parts.week_start(),
+        months: if takes_month(parts) {
+            Numbers::only(fields.month)
+        } else {
+            parts.months()
+        },
+        month_days: if takes_month_day(parts) {
+            only_place(fields.day)
+        } else {
+            parts.month_days()
+        },
+        year_days: parts.year_days(),
+        weeks: parts.weeks(),
+        weekdays: if takes_weekday(parts) {
+            only_weekday(fields.weekday.index())
+        } else {
+            parts.weekdays()
+        },
+        hours: clock_part(
+            kind,
+            skips_hours(frequency),
+            parts.hours(),
+            (start / 3_600 % 24) as u8,
+        ),
+        minutes: clock_part(
+            kind,
+            skips_minutes(frequency),
+            parts.minutes(),
+            (start / 60 % 60) as u8,
+        ),
+        seconds: clock_part(
+            kind,
+            skips_seconds(frequency),
+            parts.seconds(),
+            (start % 60) as u8,
+        ),
+        positions: parts.positions(),
+    }
+}

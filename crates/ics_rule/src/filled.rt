@@ -1,0 +1,21 @@
+//! A rule with what it leaves out.
+
+use ics_values::{Frequency, Numbers, Places, Weekdays, WidePlaces};
+use jiff_core::civil::Weekday;
+
+/// The parts that say which locals a rule lets in, with what the rule takes from the start of its event.
+#[derive(Clone, Copy)]
+pub struct Filled {
+    pub(crate) frequency: Frequency,
+    pub(crate) interval: u32,
+    pub(crate) week_start: Weekday,
+    pub(crate) months: Numbers,
+    pub(crate) month_days: Places,
+    pub(crate) year_days: WidePlaces,
+    pub(crate) weeks: Places,
+    pub(crate) weekdays: Weekdays,
+    pub(crate) hours: Numbers,
+    pub(crate) minutes: Numbers,
+    pub(crate) seconds: Numbers,
+    pub(crate) positions: WidePlaces,
+}

@@ -1,0 +1,23 @@
+//! Recurrence rules of RFC 5545: which locals a rule keeps.
+#![tactic(auto)]
+
+mod count;
+mod cursor;
+mod date;
+mod days;
+mod fill;
+mod filled;
+mod kind;
+mod period;
+mod places;
+mod rule;
+mod sizes;
+mod step;
+#[cfg(test)]
+mod tests;
+mod time;
+mod walk;
+
+pub use cursor::Cursor;
+pub use kind::Kind;
+pub use rule::Rule;

@@ -1,0 +1,213 @@
+//! A period of a rule, as a product of sets.
+ghost use Rattle.std.specs.Prelude.{◌≡◌, ℕ, suc, ◌<◌, ◌≤◌, ◌+◌, ◌*◌, ◌/◌, ◌%◌, ◌^◌, ◌&&◌, ◌||◌, ◌==◌, nat_lt, pos, IfSome};
+ghost use Rattle.jiff_core.specs.Calendar.{days_of_months, days_in_month};
+ghost use Rattle.ics_values.specs.Days.{days_before_year};
+ghost use Rattle.ics_values.specs.Sets.{has, has_wide, IsNextIn};
+ghost use Rattle.ics_rule.specs.Candidates.{lets, lets_date, period_in};
+ghost use Rattle.jiff_core.specs.Weekday.{monday_zero};
+ghost use Rattle.ics_rule.specs.Periods.{first_local, has_minute, has_second, has_day, holds, IsPeriodOf};
+
+use crate::days::days_let_in;
+use crate::fill::{skips_hours, skips_minutes, skips_seconds};
+use crate::filled::Filled;
+use crate::time::lets;
+use ics_values::{Frequency, Numbers, WideNumbers};
+use jiff_core::civil::{Weekday, days_in_month};
+
+/// The locals of a period that its rule lets in: a set of days times sets of hours, minutes and seconds.
+#[derive(Clone, Copy)]
+pub struct Period {
+    /// The number of the period.
+    pub(crate) number: u64,
+    /// The first day, counted from 0000-01-01.
+    pub(crate) first_day: u32,
+    /// The days let in, counted from the first.
+    pub(crate) days: WideNumbers,
+    pub(crate) hours: Numbers,
+    pub(crate) minutes: Numbers,
+    pub(crate) seconds: Numbers,
+}
+
+/// How many days come before a year.
+fn days_before_year(year: u64) -> u64
+    requires { year ≤ 10000 }
+    ensures { result ≡ days_before_year year }
+{
+    365 * year + (year + 3) / 4 - (year + 99) / 100 + (year + 399) / 400
+}
+
+/// How many days a month has.
+fn days_in(year: u64, month: u64) -> u64
+    requires year { year ≤ 10000 }
+    requires month { month ≤ 12 }
+    ensures value { result ≡ days_in_month (pos year) month }
+    ensures high { result ≤ 31 }
+{
+    days_in_month(year as i16, month as u8) as u64
+}
+
+/// How many days the first months of a year have.
+fn days_of_months(year: u64, months: u64) -> u64
+    requires year { year ≤ 10000 }
+    requires months { months ≤ 12 }
+    ensures { result ≡ days_of_months (pos year) months }
+{
+    let mut days = 0;
+    for month in 0..months {
+        days += days_in(year, month + 1);
+    }
+    days
+}
+
+/// The first local of the period with a number.
+pub(crate) fn first_local(frequency: Frequency, week_start: Weekday, number: u64) -> u64
+    requires { first_local frequency (monday_zero week_start) number ≤ 309400000000 }
+    ensures { result ≡ first_local frequency (monday_zero week_start) number }
+{
+    match frequency {
+        Frequency::Secondly => number,
+        Frequency::Minutely => number * 60,
+        Frequency::Hourly => number * 3_600,
+        Frequency::Daily => number * 86_400,
+        Frequency::Weekly => (7 * number).saturating_sub(12 - week_start.index() as u64) * 86_400,
+        Frequency::Monthly => {
+            let before = number.saturating_sub(1);
+            (days_before_year(before / 12) + days_of_months(before / 12, before % 12)) * 86_400
+        }
+        Frequency::Yearly => days_before_year(number) * 86_400,
+    }
+}
+
+/// The readings of one unit of the clock: those that a part lets in, and of them the period's own if it has one.
+fn clock_set(free: bool, part: Numbers, own: u8, size: u8) -> Numbers
+    requires own { own < size }
+    requires size { size < 64 }
+    ensures members { (m : ℕ) → m < size → has result m ≡ ((free || (m == own)) && lets part m) }
+    ensures bound { result < 2 ^ size }
+{
+    if !free {
+        if lets(part, own) {
+            Numbers::only(own)
+        } else {
+            Numbers::new()
+        }
+    } else if part.is_none() {
+        Numbers::below(size)
+    } else {
+        part.front(size)
+    }
+}
+
+impl Period {
+    /// Looks at the period of a rule that has this number.
+    pub(crate) fn new(parts: &Filled, number: u64, steps: &mut u64) -> Period
+        requires low { period_in parts.now 0 ≤ number }
+        requires reach { first_local parts.now.frequency (monday_zero parts.now.week_start) number ≤ 309289708800 }
+        requires room { steps.old < 2 ^ 63 }
+        ensures looked { steps.new ≡ steps.old + 1 }
+        ensures number { result.number ≡ number }
+        ensures product { IsPeriodOf parts.now result }
+    {
+        *steps += 1;
+        let frequency = parts.frequency;
+        let begin = first_local(frequency, parts.week_start, number);
+        let end = first_local(frequency, parts.week_start, number + 1);
+        let first_day = (begin / 86_400) as u32;
+        let len = ((end + 86_399) / 86_400 - begin / 86_400) as u16;
+        let hour = (begin / 3_600 % 24) as u8;
+        let minute = (begin / 60 % 60) as u8;
+        let second = (begin % 60) as u8;
+        Period {
+            number,
+            first_day,
+            days: days_let_in(parts, first_day, len),
+            hours: clock_set(skips_hours(frequency), parts.hours, hour, 24),
+            minutes: clock_set(skips_minutes(frequency), parts.minutes, minute, 60),
+            seconds: clock_set(skips_seconds(frequency), parts.seconds, second, 60),
+        }
+    }
+
+    /// The first second of a day from a second on that lies in the product's clock.
+    fn next_second(&self, at: u32) -> Option<u32>
+        requires hours { self.now.hours < 2 ^ 24 }
+        requires minutes { self.now.minutes < 2 ^ 60 }
+        requires seconds { self.now.seconds < 2 ^ 60 }
+        requires at { at < 86400 }
+        ensures next { IsNextIn (has_second self.now) at result }
+        ensures small { IfSome result (λ t. t < 86400) }
+    {
+        let minute = at / 60;
+        if self.hours.has((minute / 60) as u8) & self.minutes.has((minute % 60) as u8) {
+            if let Some(second) = self.seconds.next_from((at % 60) as u8) {
+                return Some(minute * 60 + second as u32);
+            }
+        }
+        let minute = next_minute(self.hours, self.minutes, minute + 1)?;
+        let second = self.seconds.next_from(0)?;
+        Some(minute * 60 + second as u32)
+    }
+
+    /// The first day of the product from a day on.
+    fn next_day(&self, day: u32) -> Option<u32>
+        requires day { day ≤ 4000000 }
+        requires first { self.now.first_day ≤ 4000000 }
+        ensures next { IsNextIn (has_day self.now) day result }
+        ensures small { IfSome result (λ e. e < 4000384) }
+    {
+        let skipped = day.saturating_sub(self.first_day).min(384);
+        let place = self.days.next_from(skipped as u16)?;
+        Some(self.first_day + place as u32)
+    }
+
+    /// Whether the product has a day.
+    pub(crate) fn has_day(&self, day: u32) -> bool
+        requires day { day ≤ 4000000 }
+        requires first { self.now.first_day ≤ 4000000 }
+        ensures { result ≡ has_day self.now day }
+    {
+        match self.next_day(day) {
+            Some(found) => found == day,
+            None => false,
+        }
+    }
+
+    /// The first local of the product from a local on.
+    pub(crate) fn next_from(&self, n: u64) -> Option<u64>
+        requires n { n < 315569520000 }
+        requires first { self.now.first_day ≤ 4000000 }
+        requires hours { self.now.hours < 2 ^ 24 }
+        requires minutes { self.now.minutes < 2 ^ 60 }
+        requires seconds { self.now.seconds < 2 ^ 60 }
+        ensures next { IsNextIn (holds self.now) n result }
+        ensures small { IfSome result (λ m. m < 2 ^ 63) }
+    {
+        let day = (n / 86_400) as u32;
+        if self.has_day(day) {
+            if let Some(second) = self.next_second((n % 86_400) as u32) {
+                return Some(day as u64 * 86_400 + second as u64);
+            }
+        }
+        let day = self.next_day(day + 1)?;
+        let second = self.next_second(0)?;
+        Some(day as u64 * 86_400 + second as u64)
+    }
+}
+
+/// The first minute of a day from a minute on that lies in a set of hours times a set of minutes.
+fn next_minute(hours: Numbers, minutes: Numbers, at: u32) -> Option<u32>
+    requires hours { hours < 2 ^ 24 }
+    requires minutes { minutes < 2 ^ 60 }
+    requires at { at ≤ 1440 }
+    ensures next { IsNextIn (has_minute hours minutes) at result }
+    ensures small { IfSome result (λ m. m < 1440) }
+{
+    let hour = (at / 60) as u8;
+    if hours.has(hour) {
+        if let Some(minute) = minutes.next_from((at % 60) as u8) {
+            return Some(hour as u32 * 60 + minute as u32);
+        }
+    }
+    let hour = hours.next_from(hour + 1)?;
+    let minute = minutes.next_from(0)?;
+    Some(hour as u32 * 60 + minute as u32)
+}

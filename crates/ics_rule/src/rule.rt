@@ -1,0 +1,95 @@
+//! A rule with the event's start and kind.
+ghost use Rattle.std.specs.Prelude.{◌≡◌, ◌≤◌, pos, ◌≤ℤ◌};
+ghost use Rattle.ics_values.specs.Days.{IsDayNumber};
+ghost use Rattle.ics_rule.specs.Kept.{utc_moment};
+
+use crate::date::lets_date;
+use crate::fill::fill;
+use crate::filled::Filled;
+use crate::kind::Kind;
+use crate::step::{in_step, number};
+use crate::time::lets_clock;
+use ics_values::{Local, Moment, Parts, Until};
+use std::marker::Model;
+
+/// A recurrence rule, with the start and the kind of its event (RFC 5545, 3.3.10). What the rule leaves out is kept beside it.
+#[derive(Clone, Copy)]
+pub struct Rule {
+    pub(crate) parts: Parts,
+    pub(crate) start: Local,
+    pub(crate) kind: Kind,
+    pub(crate) whole: Filled,
+}
+
+/// The instant of a local that is read as UTC.
+fn utc_moment(local: Local) -> Moment
+    ensures { result ≡ utc_moment local }
+{
+    local.day as i64 * 86_400 + local.second as i64
+}
+
+impl Model for Rule {
+    ghost use Rattle.ics_rule.specs.Recurrence.{Recurrence};
+
+    ghost Value = { Recurrence };
+
+    ghost use Rattle.std.specs.Prelude.{◌≡◌, ◌≤◌};
+    ghost use Rattle.ics_values.specs.Days.{IsDayNumber};
+    ghost use Rattle.ics_rule.specs.Filled.{filled};
+
+    ghost view = { λ r. record { parts = r.parts; start = r.start; kind = r.kind } };
+
+    ghost invariant = { λ r. (r.whole ≡ filled (record { parts = r.parts; start = r.start; kind = r.kind }))
+        × (IsDayNumber r.start.day × (1 ≤ r.whole.interval)) };
+
+    ghost inverse = { λ v. record { parts = v.parts; start = v.start; kind = v.kind; whole = filled v } };
+
+    ghost inverse_ok = { λ r h. Prim.rw h.0 };
+}
+
+impl Rule {
+    ghost use Rattle.ics_rule.specs.Locals.{number};
+    ghost use Rattle.ics_rule.specs.Candidates.{is_candidate};
+    ghost use Rattle.ics_rule.specs.Kept.{until_moment};
+
+    /// The rule of an event that starts at a local of the calendar.
+    pub fn new(parts: Parts, start: Local, kind: Kind) -> Rule
+        requires { IsDayNumber start.day }
+        ensures { result ≡ record { parts = parts; start = start; kind = kind } }
+    {
+        let whole = fill(&parts, kind, number(start));
+        Rule {
+            parts,
+            start,
+            kind,
+            whole,
+        }
+    }
+
+    /// Whether each part of the rule lets a local of the years 0000 to 9998 in, BYSETPOS, COUNT and UNTIL apart.
+    pub fn admits(&self, local: Local) -> bool
+        requires day { IsDayNumber local.day }
+        requires before_9999 { local.day ≤ℤ pos 2_932_531 }
+        ensures { result ≡ is_candidate self.now (number local) }
+    {
+        let n = number(local);
+        let in_step = in_step(&self.whole, number(self.start), n);
+        let date = lets_date(&self.whole, (n / 86_400) as u32);
+        let clock = lets_clock(&self.whole, (n % 86_400) as u32);
+        in_step & date & clock
+    }
+
+    #[tactic(auto, unfolding(crate::specs::Kept::until_moment))]
+    /// An UNTIL in UTC, where the event has date-times: it bounds instants, and no local.
+    pub fn until_moment(&self) -> Option<Moment>
+        ensures { result ≡ until_moment self.now }
+    {
+        match self.kind {
+            Kind::Date => None,
+            Kind::DateTime => match self.parts.until() {
+                Some(Until::Utc(local)) => Some(utc_moment(local)),
+                _ => None,
+            },
+        }
+    }
+}

@@ -1,0 +1,98 @@
+//! How many locals of a period's product are earlier than one, by the sizes of its sets.
+ghost use Rattle.std.specs.Prelude.{◌≡◌, ℕ, ◌<◌, ◌≤◌, ◌+◌, ◌*◌, ◌/◌, ◌%◌, ◌^◌};
+ghost use Rattle.ics_values.specs.Sets.{has, has_wide};
+ghost use Rattle.ics_rule.specs.declared.filled.Filled.{Filled};
+ghost use Rattle.ics_rule.specs.Locals.{calendar_end};
+ghost use Rattle.ics_rule.specs.Kept.{count};
+ghost use Rattle.ics_rule.specs.Periods.{has_minute, has_second, has_day, holds, IsPeriodOf};
+
+use crate::period::Period;
+use ics_values::{Numbers, WideNumbers};
+
+/// How many members of a set are below `n`.
+pub(crate) fn members_below(set: Numbers, n: u8) -> u64
+    requires { n ≤ 64 }
+    ensures value { result ≡ count n (has set) }
+    ensures bound { result ≤ n }
+{
+    let mut total = 0;
+    for k in 0..n {
+        if set.has(k) {
+            total += 1;
+        }
+    }
+    total
+}
+
+/// The same of days.
+fn days_below(set: &WideNumbers, n: u16) -> u64
+    requires { n ≤ 384 }
+    ensures value { result ≡ count n (has_wide set.now) }
+    ensures bound { result ≤ n }
+{
+    let mut total = 0;
+    for k in 0..n {
+        if set.has(k) {
+            total += 1;
+        }
+    }
+    total
+}
+
+/// How many minutes of a day before one lie in a set of hours times a set of minutes.
+fn minutes_below(hours: Numbers, minutes: Numbers, minute: u32) -> u64
+    requires { minute ≤ 1440 }
+    ensures value { result ≡ count minute (has_minute hours minutes) }
+    ensures bound { result ≤ minute }
+{
+    let whole = members_below(hours, (minute / 60) as u8) * members_below(minutes, 60);
+    if hours.has((minute / 60) as u8) {
+        whole + members_below(minutes, (minute % 60) as u8)
+    } else {
+        whole
+    }
+}
+
+impl Period {
+    /// How many seconds of a day before one lie in the product's clock.
+    pub(crate) fn seconds_below(&self, second: u32) -> u64
+        requires { second ≤ 86400 }
+        ensures value { result ≡ count second (has_second self.now) }
+        ensures bound { result ≤ second }
+    {
+        let minute = second / 60;
+        let whole = minutes_below(self.hours, self.minutes, minute)
+            * members_below(self.seconds, 60);
+        if self.hours.has((minute / 60) as u8) & self.minutes.has((minute % 60) as u8) {
+            whole + members_below(self.seconds, (second % 60) as u8)
+        } else {
+            whole
+        }
+    }
+
+    /// How many locals the product holds.
+    pub(crate) fn size(&self) -> u64
+        requires { (q : Filled) × IsPeriodOf q self.now }
+        ensures value { result ≡ count calendar_end (holds self.now) }
+        ensures bound { result < 2 ^ 63 }
+    {
+        days_below(&self.days, 384) * self.seconds_below(86_400)
+    }
+
+    /// How many of its locals are earlier than `n`.
+    pub(crate) fn rank_before(&self, n: u64) -> u64
+        requires local { n < 315569520000 }
+        requires own { (q : Filled) × IsPeriodOf q self.now }
+        ensures value { result ≡ count n (holds self.now) }
+        ensures bound { result ≤ n }
+    {
+        let day = (n / 86_400) as u32;
+        let skipped = day.saturating_sub(self.first_day).min(384);
+        let whole = days_below(&self.days, skipped as u16) * self.seconds_below(86_400);
+        if self.has_day(day) {
+            whole + self.seconds_below((n % 86_400) as u32)
+        } else {
+            whole
+        }
+    }
+}

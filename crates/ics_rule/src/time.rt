@@ -1,0 +1,52 @@
+//! The parts that speak of the clock, and tests of one part.
+ghost use Rattle.std.specs.Prelude.{◌≡◌, ℕ, ◌<◌, ◌≤◌, ◌+◌, ◌*◌};
+ghost use Rattle.ics_rule.specs.Candidates.{lets, lets_place, lets_wide_place, lists_nth, lets_clock};
+
+use crate::filled::Filled;
+use ics_values::{Numbers, Places, WidePlaces};
+
+/// Whether a part lets `n` in: it is absent or lists it.
+pub(crate) fn lets(set: Numbers, n: u8) -> bool
+    requires { n < 64 }
+    ensures { result ≡ lets set n }
+{
+    set.is_none() || set.has(n)
+}
+
+/// Whether the part lets the `n`-th of `size` in.
+pub(crate) fn lets_place(places: &Places, n: u8, size: u8) -> bool
+    requires place { n ≤ size }
+    requires small { size < 63 }
+    ensures { result ≡ lets_place places.now n size }
+{
+    places.is_none() || places.front.has(n) || places.back.has(size + 1 - n)
+}
+
+/// The same of a year's days.
+pub(crate) fn lets_wide_place(places: &WidePlaces, n: u16, size: u16) -> bool
+    requires place { n ≤ size }
+    requires small { size < 383 }
+    ensures { result ≡ lets_wide_place places.now n size }
+{
+    places.is_none() || places.front.has(n) || places.back.has(size + 1 - n)
+}
+
+/// Whether the numbers list day `n` of `size`, counted by its weekday.
+pub(crate) fn lists_nth(places: &Places, n: u16, size: u16) -> bool
+    requires first { 1 ≤ n }
+    requires place { n ≤ size }
+    requires small { size ≤ 366 }
+    ensures { result ≡ lists_nth places.now n size }
+{
+    places.front.has(((n - 1) / 7 + 1) as u8) || places.back.has(((size - n) / 7 + 1) as u8)
+}
+
+/// Whether the parts that speak of the clock let this second of a day in.
+pub(crate) fn lets_clock(parts: &Filled, second: u32) -> bool
+    requires { second < 86400 }
+    ensures { (day : ℕ) → result ≡ lets_clock parts.now (day * 86400 + second) }
+{
+    lets(parts.hours, (second / 3600) as u8)
+        && lets(parts.minutes, (second / 60 % 60) as u8)
+        && lets(parts.seconds, (second % 60) as u8)
+}

@@ -1,0 +1,77 @@
+//! How a cursor walks over the periods of a rule without COUNT.
+ghost use Rattle.std.specs.Prelude.{◌≡◌, ℕ, ◌<◌, ◌≤◌, ◌+◌, ◌*◌, ◌/◌, ◌^◌, MatchOption, IfSome, None, true};
+ghost use Rattle.jiff_core.specs.Weekday.{monday_zero};
+ghost use Rattle.ics_values.specs.Sets.{IsLeastFrom, IsNextIn};
+ghost use Rattle.ics_rule.specs.Candidates.{is_stepped, period_in};
+ghost use Rattle.ics_rule.specs.Periods.{first_local, IsPeriodOf};
+ghost use Rattle.ics_rule.specs.Cursors.{IsCursorIn};
+ghost use Rattle.ics_rule.specs.Searches.{is_chosen_within, IsNextWanted, IsWalked, LooksOnce};
+
+use crate::cursor::Cursor;
+use crate::filled::Filled;
+use crate::step::period_of;
+
+/// The least number from `own` on that is `first` or later by a multiple of the interval.
+fn next_step(first: u64, interval: u32, own: u64) -> u64
+    requires interval { 1 ≤ interval }
+    requires first { first < 2 ^ 40 }
+    requires own { own < 2 ^ 40 }
+    ensures { IsLeastFrom (is_stepped first interval) own result }
+{
+    let interval = interval as u64;
+    if own <= first {
+        first
+    } else {
+        first + (own - first + (interval - 1)) / interval * interval
+    }
+}
+
+impl Cursor {
+    /// The first local from the place on that the rule chooses within a period. Looks at the period unless it is the one held.
+    fn find(&mut self, parts: &Filled, start: u64, number: u64) -> Option<u64>
+        requires step { is_stepped (period_in parts.now start) parts.now.interval number ≡ true }
+        requires low { period_in parts.now 0 ≤ number }
+        requires reach { first_local parts.now.frequency (monday_zero parts.now.week_start) number ≤ 309289708800 }
+        requires held { MatchOption self.old.held (Unit {0}) (λ p. IsPeriodOf parts.now p × (p.number ≤ number)) }
+        requires place { self.old.place < 315569520000 }
+        requires room { self.old.steps < 2 ^ 63 }
+        ensures next { IsNextIn (is_chosen_within parts.now start number) self.old.place result }
+        ensures small { IfSome result (λ n. n < 2 ^ 63) }
+        ensures place { self.new.place ≡ self.old.place }
+        ensures held { MatchOption self.new.held ⊥ (λ p. IsPeriodOf parts.now p × (p.number ≡ number)) }
+        ensures steps { LooksOnce number self.old.steps self.old.held self.new.steps self.new.held }
+    {
+        let place = self.place;
+        if let Some(period) = &self.held {
+            if period.number == number {
+                return period.next_taken(&parts.positions, place);
+            }
+        }
+        self.look_at(parts, number, 0)
+            .next_taken(&parts.positions, place)
+    }
+
+    /// The next local from the place on that the rule chooses, found in the periods up to that of the last local before `stop`.
+    pub(crate) fn walk_freely(&mut self, parts: &Filled, start: u64, stop: u64) -> Option<u64>
+        requires interval { 1 ≤ parts.now.interval }
+        requires start { start < 315569520000 }
+        requires place { self.old.place < stop }
+        requires stop { stop ≤ 309289708800 }
+        requires own { IsCursorIn parts.now start None self.old }
+        ensures next { IsNextWanted parts.now start None self.old.place stop result }
+        ensures place { self.new.place ≡ self.old.place }
+        ensures walked { IsWalked parts.now start None stop result self.old self.new }
+    {
+        let first = period_of(parts, start);
+        let own = period_of(parts, self.place);
+        let last = period_of(parts, stop - 1);
+        let mut number = next_step(first, parts.interval, own);
+        while number <= last {
+            if let Some(n) = self.find(parts, start, number) {
+                return Some(n);
+            }
+            number += parts.interval as u64;
+        }
+        None
+    }
+}

@@ -1,0 +1,171 @@
+-- A set to which the items of a list were added has the numbers that stand in the list, and its own.
+use Rattle.std.proofs.Common.{◌≡◌, ℕ, ◌<◌, ◌≤◌, ◌/◌, Bool, true, false, ◌&&◌, ◌||◌, ◌==◌, List, [], ◌∷◌, length, Option, Some, None, cond, refl, sym, ap, subst, ◌∙◌, inl, inr, get_or-set_same, get_or-set_other, arith}
+use Rattle.std.specs.Prelude.{not, fold, nat_le, is_some}
+use Rattle.std.specs.List.{list_any, list_all}
+use Rattle.std.proofs.Math.ListN.{length-set}
+use Rattle.std.proofs.lemmas.Bool.{and_parts, leb-true, cases_eq, ne_eqb, eq-eqb}
+use Rattle.jiff_core.specs.declared.civil.weekday.Weekday.{Weekday}
+use Rattle.jiff_core.specs.Weekday.{monday_zero}
+use Rattle.ics_values.specs.declared.places.Side.{Side}
+use Rattle.ics_values.specs.declared.places.Side.TheVariants.{Front, Back}
+use Rattle.ics_values.specs.declared.places.Places.{Places}
+use Rattle.ics_values.specs.declared.places.WidePlaces.{WidePlaces}
+use Rattle.ics_values.specs.declared.places.Weekdays.{Weekdays}
+use Rattle.ics_values.specs.Digits.{are_digits, number_of}
+use Rattle.ics_values.specs.Texts.{begins, is_minus, unsigned}
+use Rattle.ics_values.specs.Sets.{has, with_number}
+use Rattle.ics_values.specs.Places.{numbers_of, with_place, with_wide_place, with_weekday, with_numbered_weekday}
+use Rattle.ics_values.specs.RuleTexts.{is_number, is_signed, is_day_item, side_of, weekday_of, day_text, number_before}
+use Rattle.ics_values.specs.Rules.{with_day}
+use Rattle.ics_values.specs.RuleLaws.{has_place, has_wide_place, is_side, is_place, is_day, is_weekday, is_numbered}
+use Rattle.ics_values.proofs.SetLemmas.{has-with_number, has_wide-with_number}
+use Rattle.ics_values.proofs.PlaceLemmas.{monday_zero_small}
+
+-- each item that is in order adds what it tests for, and keeps the state fine
+pub record Adds {S : Type 0} (step : S → List ℕ → S) (sees : S → Bool) (test fits : List ℕ → Bool) (Fine : S → Type 0) : Type 0 where
+  pub fine : (s : S) (i : List ℕ) → fits i ≡ true → Fine s → Fine (step s i)
+  pub adds : (s : S) (i : List ℕ) → fits i ≡ true → Fine s → sees (step s i) ≡ (test i || sees s)
+
+or_swap : (a b c : Bool) → (a || (b || c)) ≡ ((b || a) || c)
+or_swap true true c = refl
+or_swap true false c = refl
+or_swap false true c = refl
+or_swap false false c = refl
+
+or_false : (t : Bool) → (t || false) ≡ t
+or_false true = refl
+or_false false = refl
+
+pub gathered : {S : Type 0} (step : S → List ℕ → S) (sees : S → Bool) (test fits : List ℕ → Bool) (Fine : S → Type 0) → Adds step sees test fits Fine
+    → (items : List (List ℕ)) → list_all fits items ≡ true → (s : S) → Fine s → sees (fold step s items) ≡ (list_any test items || sees s)
+gathered step sees test fits Fine a [] h s f = refl
+gathered step sees test fits Fine a (i ∷ items) h s f =
+    let p = and_parts (fits i) (list_all fits items) h in
+    gathered step sees test fits Fine a items p.1 (step s i) (a.fine s i p.0 f)
+    ∙ ap (λ t. list_any test items || t) (a.adds s i p.0 f)
+    ∙ or_swap (list_any test items) (test i) (sees s)
+
+-- the same from a state that sees nothing
+pub gathered_all : {S : Type 0} (step : S → List ℕ → S) (sees : S → Bool) (test fits : List ℕ → Bool) (Fine : S → Type 0) → Adds step sees test fits Fine
+    → (items : List (List ℕ)) → list_all fits items ≡ true → (s : S) → Fine s → sees s ≡ false → sees (fold step s items) ≡ list_any test items
+gathered_all step sees test fits Fine a items h s f none =
+    gathered step sees test fits Fine a items h s f ∙ ap (λ t. list_any test items || t) none ∙ or_false (list_any test items)
+
+-- a number that is in order is not larger than the last
+pub number_high : (low high : ℕ) (text : List ℕ) → is_number low high text ≡ true → number_of text ≤ high
+number_high low high text h = leb-true (number_of text) high (and_parts (are_digits text && nat_le low (number_of text)) (nat_le (number_of text) high) h).1
+
+pub adds_number : (f : List ℕ → ℕ) (fits : List ℕ → Bool) → ((i : List ℕ) → fits i ≡ true → f i < 64) → (n : ℕ)
+    → Adds (λ s i. with_number (f i) s) (λ s. has s n) (λ i. n == f i) fits (λ s. Unit {0})
+adds_number f fits small n = record { fine = λ s i h u. tt; adds = λ s i h u. has-with_number s (f i) n (small i h) }
+
+place_added : (side : Side) (n k : ℕ) (item : List ℕ) (p : Places) → k < 64 → has_place side n (with_place (side_of item) k p) ≡ ((is_side side (begins is_minus item) && (n == k)) || has_place side n p)
+place_added side n k item p h = by_test side (begins is_minus item)
+  where
+    by_test : (s : Side) (b : Bool) → has_place s n (with_place (cond b Back Front) k p) ≡ ((is_side s b && (n == k)) || has_place s n p)
+    by_test Front true = refl
+    by_test Front false = has-with_number p.front k n h
+    by_test Back true = has-with_number p.back k n h
+    by_test Back false = refl
+
+pub adds_place : (high : ℕ) → high < 64 → (side : Side) (n : ℕ)
+    → Adds (λ p i. with_place (side_of i) (number_of (unsigned i)) p) (has_place side n) (is_place side n) (is_signed high) (λ p. Unit {0})
+adds_place high small side n = record {
+  fine = λ p i h u. tt;
+  adds = λ p i h u. let last = number_high 1 high (unsigned i) h in place_added side n (number_of (unsigned i)) i p (omega arith);
+}
+
+-- a wide set has six words
+pub record IsWide (p : WidePlaces) : Type 0 where
+  pub front : length p.front ≡ 6
+  pub back : length p.back ≡ 6
+
+wide_kept : (b : Bool) (k : ℕ) (p : WidePlaces) → IsWide p → IsWide (with_wide_place (cond b Back Front) k p)
+wide_kept true k p w = record { front = w.front; back = length-set p.back (k / 64) _ ∙ w.back }
+wide_kept false k p w = record { front = length-set p.front (k / 64) _ ∙ w.front; back = w.back }
+
+wide_added : (side : Side) (n k : ℕ) (item : List ℕ) (p : WidePlaces) → k < 384 → IsWide p
+    → has_wide_place side n (with_wide_place (side_of item) k p) ≡ ((is_side side (begins is_minus item) && (n == k)) || has_wide_place side n p)
+wide_added side n k item p h w = by_test side (begins is_minus item)
+  where
+    by_test : (s : Side) (b : Bool) → has_wide_place s n (with_wide_place (cond b Back Front) k p) ≡ ((is_side s b && (n == k)) || has_wide_place s n p)
+    by_test Front true = refl
+    by_test Front false = has_wide-with_number p.front k n (let e = w.front in omega arith) h
+    by_test Back true = has_wide-with_number p.back k n (let e = w.back in omega arith) h
+    by_test Back false = refl
+
+pub adds_wide_place : (high : ℕ) → high < 384 → (side : Side) (n : ℕ)
+    → Adds (λ p i. with_wide_place (side_of i) (number_of (unsigned i)) p) (has_wide_place side n) (is_place side n) (is_signed high) IsWide
+adds_wide_place high small side n = record {
+  fine = λ p i h w. wide_kept (begins is_minus i) (number_of (unsigned i)) p w;
+  adds = λ p i h w. let last = number_high 1 high (unsigned i) h in wide_added side n (number_of (unsigned i)) i p (omega arith) w;
+}
+
+day_small : (d : Weekday) → monday_zero d < 64
+day_small d = let small = monday_zero_small d in omega arith
+
+-- a weekday of BYDAY, by whether its item is two letters long
+abbrev day_with : Option Weekday → Bool → List ℕ → Weekdays → Weekdays
+day_with None plain item w = w
+day_with (Some day) plain item w =
+    cond plain (with_weekday day w) (with_numbered_weekday day (side_of (number_before item)) (number_of (unsigned (number_before item))) w)
+
+with_day-is : (o : Option Weekday) (item : List ℕ) (w : Weekdays) → with_day o item w ≡ day_with o (length item == 2) item w
+with_day-is None item w = refl
+with_day-is (Some day) item w = refl
+
+and_true : (t : Bool) → (t && true) ≡ t
+and_true true = refl
+and_true false = refl
+
+and_false : (t : Bool) → (t && false) ≡ false
+and_false true = refl
+and_false false = refl
+
+pub adds_weekday : (d : Weekday) → Adds (λ w i. with_day (weekday_of (day_text i)) i w) (λ w. has w.plain (monday_zero d)) (is_weekday d) is_day_item (λ w. Unit {0})
+adds_weekday d = record {
+  fine = λ w i h u. tt;
+  adds = λ w i h u. ap (λ (x : Weekdays). has x.plain (monday_zero d)) (with_day-is (weekday_of (day_text i)) i w) ∙ by_day w i (weekday_of (day_text i)) (length i == 2);
+}
+  where
+    by_day : (w : Weekdays) (i : List ℕ) (o : Option Weekday) (t : Bool) → has (day_with o t i w).plain (monday_zero d) ≡ ((is_day d o && t) || has w.plain (monday_zero d))
+    by_day w i None t = refl
+    by_day w i (Some e) true = has-with_number w.plain (monday_zero e) (monday_zero d) (day_small e) ∙ ap (λ t. t || has w.plain (monday_zero d)) (sym (and_true (monday_zero d == monday_zero e)))
+    by_day w i (Some e) false = ap (λ t. t || has w.plain (monday_zero d)) (sym (and_false (monday_zero d == monday_zero e)))
+
+-- the numbers of BYDAY stand beside seven weekdays
+abbrev pub HasSeven : Weekdays → Type 0
+HasSeven w = length w.numbered ≡ 7
+
+seven_kept : (o : Option Weekday) (t : Bool) (i : List ℕ) (w : Weekdays) → HasSeven w → HasSeven (day_with o t i w)
+seven_kept None t i w h = h
+seven_kept (Some e) true i w h = h
+seven_kept (Some e) false i w h = length-set w.numbered (monday_zero e) _ ∙ h
+
+numbered_added : (d e : Weekday) (side : Side) (n k : ℕ) (item : List ℕ) (w : Weekdays) → k < 64 → HasSeven w
+    → has_place side n (numbers_of (with_numbered_weekday e (side_of item) k w) (monday_zero d))
+    ≡ (((monday_zero d == monday_zero e) && (is_side side (begins is_minus item) && (n == k))) || has_place side n (numbers_of w (monday_zero d)))
+numbered_added d e side n k item w small seven = elim (cases_eq (monday_zero d) (monday_zero e)) [
+  | inl same ↦
+      let last = monday_zero_small e in
+      let inside : monday_zero e < length w.numbered = omega arith in
+      rw (same, get_or-set_same, eq-eqb (monday_zero e) (monday_zero e) refl) (place_added side n k item (numbers_of w (monday_zero e)) small)
+  | inr other ↦ rw (get_or-set_other, ne_eqb (monday_zero d) (monday_zero e) other) refl
+]
+
+pub adds_numbered : (d : Weekday) (side : Side) (n : ℕ)
+    → Adds (λ w i. with_day (weekday_of (day_text i)) i w) (λ w. has_place side n (numbers_of w (monday_zero d))) (is_numbered d side n) is_day_item HasSeven
+adds_numbered d side n = record {
+  fine = λ w i h u. subst HasSeven (sym (with_day-is (weekday_of (day_text i)) i w)) (seven_kept (weekday_of (day_text i)) (length i == 2) i w u);
+  adds = λ w i h u. ap (λ (x : Weekdays). has_place side n (numbers_of x (monday_zero d))) (with_day-is (weekday_of (day_text i)) i w)
+      ∙ by_day w i (weekday_of (day_text i)) (length i == 2) u (and_parts (is_some (weekday_of (day_text i))) ((length i == 2) || is_signed 53 (number_before i)) h).1;
+}
+  where
+    by_day : (w : Weekdays) (i : List ℕ) (o : Option Weekday) (t : Bool) → HasSeven w → (t || is_signed 53 (number_before i)) ≡ true
+        → has_place side n (numbers_of (day_with o t i w) (monday_zero d)) ≡ (((is_day d o && not t) && is_place side n (number_before i)) || has_place side n (numbers_of w (monday_zero d)))
+    by_day w i None t u h = refl
+    by_day w i (Some e) true u h = ap (λ t. (t && is_place side n (number_before i)) || has_place side n (numbers_of w (monday_zero d))) (sym (and_false (monday_zero d == monday_zero e)))
+    by_day w i (Some e) false u h =
+        let last = number_high 1 53 (unsigned (number_before i)) h in
+        numbered_added d e side n (number_of (unsigned (number_before i))) (number_before i) w (omega arith) u
+        ∙ ap (λ t. (t && is_place side n (number_before i)) || has_place side n (numbers_of w (monday_zero d))) (sym (and_true (monday_zero d == monday_zero e)))
