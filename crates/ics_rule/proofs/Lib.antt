@@ -20,3 +20,4 @@ pub mod Counted
 pub mod Placed
 pub mod LastWeekday
 pub mod DayWalkLemmas
+pub mod LawLemmas

@@ -8,6 +8,7 @@ mod days;
 mod fill;
 mod filled;
 mod kind;
+mod laws;
 mod period;
 mod places;
 mod rule;
@@ -20,4 +21,5 @@ mod walk;
 
 pub use cursor::Cursor;
 pub use kind::Kind;
+pub use laws::{kept_locals, numbered_weeks, weeks_of_a_year};
 pub use rule::Rule;

@@ -5,7 +5,8 @@ use Rattle.ics_values.specs.declared.stamp.Stamp.{Stamp}
 use Rattle.ics_values.specs.declared.stamp.Stamp.TheVariants.{Date, Floating, Utc, Zoned}
 use Rattle.ics_calendar.specs.declared.time.Time.{Time}
 use Rattle.ics_calendar.specs.declared.time.Length.TheVariants.{Until}
-use Rattle.ics_calendar.specs.Event.{IsStampInYears, IsTime}
+use Rattle.ics_values.specs.Stamps.{stamp_day, IsStampDay}
+use Rattle.ics_calendar.specs.Event.{IsTime}
 use Rattle.ics_zone.specs.Displays.{moment_of}
 use Rattle.ics_zone.specs.Near.{moment_near}
 use Rattle.ics_zone.specs.Places.{IsNear}
@@ -27,17 +28,17 @@ result_near display r l e = subst (λ m. IsNear (m -ℤ l)) (sym e) (moment_near
 pub moved : (f : ℤ → ℤ) (s r l m : ℤ) → s ≡ r → r ≡ f l → l ≡ m → s ≡ f m
 moved f s r l m a e h = a ∙ (e ∙ ap f h)
 
-late-written : (s : Stamp) → IsStampInYears s → neg_ℤ (pos 62_135_596_800) ≤ℤ written s
-late-written (Date day) h = omega (arith, ints, h.first)
-late-written (Floating local) h = omega (arith, ints, h.first)
-late-written (Utc local) h = omega (arith, ints, h.first)
-late-written (Zoned local) h = omega (arith, ints, h.first)
+late-written : (s : Stamp) → IsStampDay (stamp_day s) → neg_ℤ (pos 62_135_596_800) ≤ℤ written s
+late-written (Date day) h = omega (arith, ints, h.0)
+late-written (Floating local) h = omega (arith, ints, h.0)
+late-written (Utc local) h = omega (arith, ints, h.0)
+late-written (Zoned local) h = omega (arith, ints, h.0)
 
-early-written : (s : Stamp) → IsStampInYears s → written s <ℤ pos 250_246_627_200
-early-written (Date day) h = omega (arith, ints, h.last)
-early-written (Floating local) h = omega (arith, ints, h.last, local.second_in)
-early-written (Utc local) h = omega (arith, ints, h.last, local.second_in)
-early-written (Zoned local) h = omega (arith, ints, h.last, local.second_in)
+early-written : (s : Stamp) → IsStampDay (stamp_day s) → written s <ℤ pos 250_246_627_200
+early-written (Date day) h = omega (arith, ints, h.1)
+early-written (Floating local) h = omega (arith, ints, h.1, local.second_in)
+early-written (Utc local) h = omega (arith, ints, h.1, local.second_in)
+early-written (Zoned local) h = omega (arith, ints, h.1, local.second_in)
 
 pub early : (display : Display) (time : Time) → IsTime time → instant (display_clock display) time <ℤ pos 250_246_800_000
 early display time h = omega (arith, ints, stamp_near display time.stamp, early-written time.stamp h.years)
@@ -46,8 +47,8 @@ early display time h = omega (arith, ints, stamp_near display time.stamp, early-
 pub late : (display : Display) (time : Time) → IsTime time → neg_ℤ (pos 62_135_769_600) ≤ℤ instant (display_clock display) time
 late display time h = omega (arith, ints, stamp_near display time.stamp, late-written time.stamp h.years)
 
-pub date-late : (s : Stamp) (day : ℤ) → s ≡ Date day → IsStampInYears s → neg_ℤ (pos 719_162) ≤ℤ day
-date-late s day d h = let years : IsStampInYears (Date day) = subst IsStampInYears d h in omega (arith, ints, years.first)
+pub date-late : (s : Stamp) (day : ℤ) → s ≡ Date day → IsStampDay (stamp_day s) → neg_ℤ (pos 719_162) ≤ℤ day
+date-late s day d h = let years : IsStampDay day = subst (λ t. IsStampDay (stamp_day t)) d h in omega (arith, ints, years.0)
 
 -- the date of an event that begins before a window's end
 pub date-early : (display : Display) (s : Stamp) (day start : ℤ) → s ≡ Date day → start ≡ (clock_by (display_clock display) s).moment (written s) → start <ℤ pos 247_091_126_400 → day ≤ℤ pos 2_859_853

@@ -1,0 +1,12 @@
+pub mod AddedLemmas
+pub mod AnswerLemmas
+pub mod Entries
+pub mod Fronts
+pub mod ReadLemmas
+pub mod RefusalLemmas
+pub mod RefusedLemmas
+pub mod RunLemmas
+pub mod TextExamples
+pub mod WindowLemmas
+pub mod WindowTextLemmas
+pub mod Written

@@ -1,0 +1,58 @@
+-- A text of which a sink has taken the first part.
+use Rattle.std.proofs.Common.{◌≡◌, ◌≤◌, ℕ, List, [], ◌++◌, Option, Some, None, Result, Ok, Err, length, take, drop, refl, sym, ap, ◌∙◌, arith, append_assoc, append-nil, length-append}
+use Rattle.std.specs.Prelude.{OnErr}
+use Rattle.std.proofs.lemmas.List.{take-append-drop}
+use Rattle.std.proofs.lemmas.Grind.{common_steps}
+use Rattle.khal_list.specs.Growth.{grown, TookFront}
+
+pub on_err : {T E : Type 0} {P : Type 0} (result : Result T E) → P → OnErr result P
+on_err (Ok x) p = tt
+on_err (Err e) p = p
+
+-- the sink has taken what stands before the rest
+pub record Written (told new : Option (List ℕ)) (rest whole : List ℕ) : Type 0 where
+  pub done : List ℕ
+  pub taken : new ≡ grown told done
+  pub whole_is : done ++ rest ≡ whole
+
+pub grown-nil : (told : Option (List ℕ)) → grown told [] ≡ told
+grown-nil None = refl
+grown-nil (Some bytes) = ap Some (append-nil bytes)
+
+pub grown-grown : (told : Option (List ℕ)) (first second : List ℕ) → grown (grown told first) second ≡ grown told (first ++ second)
+grown-grown None first second = refl
+grown-grown (Some bytes) first second = ap Some (append_assoc bytes first second)
+
+pub written-none : (told : Option (List ℕ)) (whole : List ℕ) → Written told told whole whole
+written-none told whole = record { done = []; taken = sym (grown-nil told); whole_is = refl }
+
+pub written-more : (told middle new : Option (List ℕ)) (piece rest whole : List ℕ) → Written told middle (piece ++ rest) whole → new ≡ grown middle piece → Written told new rest whole
+written-more told middle new piece rest whole w h = record {
+  done = w.done ++ piece;
+  taken = h ∙ (ap (λ t. grown t piece) w.taken ∙ grown-grown told w.done piece);
+  whole_is = append_assoc w.done piece rest ∙ w.whole_is;
+}
+
+pub written-whole : (told new : Option (List ℕ)) (whole : List ℕ) → Written told new [] whole → new ≡ grown told whole
+written-whole told new whole w = w.taken ∙ ap (grown told) (sym (append-nil w.done) ∙ w.whole_is)
+
+take-front : (front rest whole : List ℕ) → front ++ rest ≡ whole → take (length front) whole ≡ front
+take-front front rest whole h = rw (← h) (grind (arith, common_steps))
+
+length-front : (front rest whole : List ℕ) → front ++ rest ≡ whole → length front ≤ length whole
+length-front front rest whole h = rw (← h) (omega (arith, length-append front rest))
+
+pub written-front : (told new : Option (List ℕ)) (rest whole : List ℕ) → Written told new rest whole → TookFront told new whole
+written-front told new rest whole w = record {
+  count = length w.done;
+  within = length-front w.done rest whole w.whole_is;
+  taken = w.taken ∙ ap (grown told) (sym (take-front w.done rest whole w.whole_is));
+}
+
+-- a front of the next piece
+pub written-part : (told middle new : Option (List ℕ)) (piece rest whole : List ℕ) → Written told middle (piece ++ rest) whole → TookFront middle new piece → TookFront told new whole
+written-part told middle new piece rest whole w f =
+    let parted : take f.count piece ++ (drop f.count piece ++ rest) ≡ piece ++ rest =
+    sym (append_assoc (take f.count piece) (drop f.count piece) rest) ∙ ap (λ p. p ++ rest) (take-append-drop f.count piece) in
+    let again : Written told middle (take f.count piece ++ (drop f.count piece ++ rest)) whole = rw parted w in
+    written-front told new (drop f.count piece ++ rest) whole (written-more told middle new (take f.count piece) (drop f.count piece ++ rest) whole again f.taken)

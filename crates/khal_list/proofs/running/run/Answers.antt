@@ -1,0 +1,29 @@
+use Rattle.std.proofs.Common.{ap, ◌∙◌}
+use Rattle.khal_list.specs.Growth.{grown}
+use Rattle.khal_list.specs.Headline.{Stops}
+use Rattle.khal_list.proofs.RunLemmas.{lists, stops}
+use Rattle.khal_list.proofs.Written.{on_err}
+use Rattle.khal_list.proofs.running.run.Goals as goal
+
+pub returns-in_err-list-clause-stops : goal.returns-in_err-list-clause-stops
+returns-in_err-list-clause-stops g c =
+    let all = c.in_ok-reading.ensures.all in
+    let told = g.E.Sink.taken c.args.err.now in
+    let wrote = c.in_ok-put_all.ensures.ok ∙ ap (grown told) c.deref.ensures.value in
+    on_err {P = Stops g.S.Source.reads (g.S.Source.names c.args.source.now) c.args.source.now c.read_all.new.source c.args.request.now
+    (g.O.Sink.taken c.args.out.now) (g.O.Sink.taken c.list.new.out) (g.E.Sink.taken c.args.err.now) (g.E.Sink.taken c.put_all.new.sink)}
+    c.from_residual-in_err-list.result (
+    stops g.S.Source.reads (g.S.Source.names c.args.source.now) c.args.source.now c.read_all.new.source c.args.request.now
+    (g.O.Sink.taken c.args.out.now) (g.O.Sink.taken c.list.new.out) told (g.E.Sink.taken c.put_all.new.sink)
+    all.0 c.in_ok-reading.reading.files.items c.in_ok-reading.reading.errors.items all.1 all.2 wrote c.in_err-list.ensures.err)
+
+pub returns-clause-lists : goal.returns-clause-lists
+returns-clause-lists g c =
+    let all = c.in_ok-reading.ensures.all in
+    let told = g.E.Sink.taken c.args.err.now in
+    let wrote = c.in_ok-put_all.ensures.ok ∙ ap (grown told) c.deref.ensures.value in
+    let listed = c.in_ok-list.ensures.ok in
+    lists g.S.Source.reads (g.S.Source.names c.args.source.now) c.args.source.now c.read_all.new.source c.args.request.now
+    (g.O.Sink.taken c.args.out.now) (g.O.Sink.taken c.list.new.out) told (g.E.Sink.taken c.put_all.new.sink)
+    all.0 c.in_ok-reading.reading.files.items c.in_ok-reading.reading.errors.items all.1 all.2 wrote
+    listed.0 listed.1 listed.2 c.status-status.result c.status-status.ensures

@@ -1,0 +1,56 @@
+use Rattle.std.proofs.Common.{◌≤ℤ◌, ◌<ℤ◌, ◌+ℤ◌, ℤ, pos, arith, rules, FitsSigned, w32, w64}
+use Rattle.std.proofs.lemmas.Int.{to_z-of_z}
+use Rattle.jiff.proofs.SpanFacts.{signed_arith}
+use Rattle.ics_zone.specs.Displays.{moment_of}
+use Rattle.ics_zone.specs.Places.{local_seconds}
+use Rattle.ics_zone.specs.Zones.{zone_of}
+use Rattle.khal_list.specs.Windows.{first_start, last_end}
+use Rattle.khal_list.proofs.WindowLemmas.{between-apart, between-falling, between-rising}
+use Rattle.khal_list.proofs.window.between.Goals as goal
+use Rattle.khal_list.proofs.window.between.Goals.{then-end-lt-FIRST_DAY-via-then-end-lt-FIRST_DAY, then-end-lt-FIRST_DAY-via-else-end-lt-FIRST_DAY+then-start-gt-LAST_DAY}
+
+pub returns-then-end-lt-FIRST_DAY-clause-ends : goal.returns-then-end-lt-FIRST_DAY-clause-ends
+returns-then-end-lt-FIRST_DAY-clause-ends c =
+    let start : ℤ = local_seconds c.args.start.day c.args.start.second in
+    let end : ℤ = local_seconds c.args.end.day c.args.end.second in
+    let start_fits : FitsSigned w32 c.args.start.day = search rules in
+    let end_fits : FitsSigned w32 c.args.end.day = search rules in
+    let apart : (end +ℤ pos 345_598) ≤ℤ start = elim c.then-end-lt-FIRST_DAY.branch [
+      | then-end-lt-FIRST_DAY-via-then-end-lt-FIRST_DAY w ↦ omega (arith, signed_arith)
+      | then-end-lt-FIRST_DAY-via-else-end-lt-FIRST_DAY+then-start-gt-LAST_DAY w ↦ omega (arith, signed_arith)
+    ] in
+    between-apart c.args.zone start end apart
+
+pub invariant_of-result : goal.invariant_of-result
+invariant_of-result c =
+    let from_fits : FitsSigned w64 c.instant-from.result = search rules in
+    let to_fits : FitsSigned w64 c.instant-to.result = search rules in
+    let start_fits : FitsSigned w64 c.seconds.result = search rules in
+    let end_fits : FitsSigned w64 c.seconds-else-seconds-lt-FIRST_START.result = search rules in
+    record {
+      ordered = omega (arith, signed_arith);
+      not_early = omega (arith, signed_arith);
+      not_late = omega (arith, signed_arith);
+    }
+
+pub returns-then-from-to-clause-ends : goal.returns-then-from-to-clause-ends
+returns-then-from-to-clause-ends c =
+    let start : ℤ = local_seconds c.args.start.day c.args.start.second in
+    let end : ℤ = local_seconds c.args.end.day c.args.end.second in
+    let from_fits : FitsSigned w64 c.instant-from.result = search rules in
+    let to_fits : FitsSigned w64 c.instant-to.result = search rules in
+    let start_fits : FitsSigned w64 c.seconds.result = search rules in
+    let end_fits : FitsSigned w64 c.seconds-else-seconds-lt-FIRST_START.result = search rules in
+    let early : first_start ≤ℤ start = omega (arith, signed_arith) in
+    let late : end ≤ℤ last_end = omega (arith, signed_arith) in
+    let rise : moment_of (zone_of c.args.zone) start <ℤ moment_of (zone_of c.args.zone) end = rw (← c.instant-from.ensures.value, ← c.instant-to.ensures.value) (omega (arith, signed_arith)) in
+    simp to_z-of_z (rw (c.instant-from.ensures.value, c.instant-to.ensures.value) (between-rising c.args.zone start end early late rise))
+
+pub returns-else-from-to-clause-ends : goal.returns-else-from-to-clause-ends
+returns-else-from-to-clause-ends c =
+    let start : ℤ = local_seconds c.args.start.day c.args.start.second in
+    let end : ℤ = local_seconds c.args.end.day c.args.end.second in
+    let from_fits : FitsSigned w64 c.instant-from.result = search rules in
+    let to_fits : FitsSigned w64 c.instant-to.result = search rules in
+    let late : moment_of (zone_of c.args.zone) end ≤ℤ moment_of (zone_of c.args.zone) start = rw (← c.instant-from.ensures.value, ← c.instant-to.ensures.value) (omega (arith, signed_arith)) in
+    between-falling c.args.zone start end late

@@ -1,0 +1,57 @@
+-- What the words of the command line give: clap's entries of the subcommand that they name, or clap's refusal.
+use Rattle.std.specs.Prelude.{◌≡◌, ◌↔◌, Bool, IsTrue, false, List, [], ◌∷◌, Option, codes, option_and_then, unwrap_or, if◌then◌else◌}
+use Rattle.std.specs.Option.{option_map_or}
+use Rattle.std.specs.Str.{bytes_eq}
+use Rattle.clap.specs.Walk.{first_of}
+use Rattle.clap.specs.Words.{Text, Row, subcommand_of, IsAmong, fault_of}
+use Rattle.clap.specs.declared.error.kind.ErrorKind.{ErrorKind}
+use Rattle.clap.specs.declared.error.kind.ErrorKind.TheVariants.{DisplayHelp}
+use Rattle.khal_list.specs.Commands.{khal_app}
+
+-- a subcommand's name and its entries
+abbrev pub Entries : Type 0
+Entries = Option (Text × List Row)
+
+-- the words with the program's name before them, as clap takes them
+abbrev pub with_name : List Text → List Text
+with_name words = codes "khal-list" ∷ words
+
+-- the subcommand that these words name, with its entries; the first word is the program's name
+abbrev pub entries_in : List Text → Entries
+entries_in words = subcommand_of khal_app words
+
+-- the same of the words behind that name
+abbrev pub entries_of : List Text → Entries
+entries_of words = entries_in (with_name words)
+
+-- the entry of this name
+abbrev pub entry : Text → Entries → Option Text
+entry id entries = option_and_then (λ found. first_of id found.1) entries
+
+-- its text, empty where there is no such entry
+abbrev pub text_of : Text → Entries → Text
+text_of id entries = unwrap_or (entry id entries) []
+
+-- what window the entries ask for: that of a moment, or one from START, where it stands, to END
+pub data Span : Type 0 where
+  At : Text → Span
+  FromTo : Option Text → Text → Span
+
+-- the subcommand is `at`
+abbrev pub is_at : Entries → Bool
+is_at entries = option_map_or (λ found. bytes_eq found.0 (codes "at")) entries false
+
+abbrev pub span_of : Entries → Span
+span_of entries =
+    if is_at entries then At (text_of (codes "moment") entries)
+    else FromTo (entry (codes "start") entries) (text_of (codes "end") entries)
+
+-- clap takes the words
+abbrev pub AreTaken : List Text → Type 0
+AreTaken words = fault_of khal_app (with_name words) ≡ []
+
+-- clap refuses the words, for another cause than memory, and shows help or not
+pub record IsRefused (words : List Text) (help : Bool) : Type 0 where
+  pub kind : ErrorKind
+  pub among : IsAmong kind (fault_of khal_app (with_name words))
+  pub asks : IsTrue help ↔ (kind ≡ DisplayHelp)

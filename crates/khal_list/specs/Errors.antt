@@ -1,0 +1,51 @@
+-- What is written of the files that are not listed: a line for each that was not read or is refused (the program's own
+-- form).
+use Rattle.std.specs.Prelude.{ℕ, List, [], ◌∷◌, ◌++◌, Option, Some, None, Result, Ok, Err, codes}
+use Rattle.std.specs.Fmt.{decimal}
+use Rattle.ics_calendar.specs.Event.{FileSeen}
+use Rattle.ics_calendar.specs.FaultNames.{kind_name}
+use Rattle.ics_calendar.specs.Files.{file_of}
+use Rattle.ics_calendar.specs.FirstFault.{Fault}
+use Rattle.khal_list.specs.Answers.{Answer}
+use Rattle.khal_list.specs.Shown.{shown}
+
+-- Why a file is not listed: its first fault, or none where it was not read.
+abbrev pub Refusal : Type 0
+Refusal = Option Fault
+
+abbrev pub file_or_refusal : Result FileSeen Fault → Result FileSeen Refusal
+file_or_refusal (Ok file) = Ok file
+file_or_refusal (Err fault) = Err (Some fault)
+
+-- what a read comes to: the events of the file, or why it is not listed
+abbrev pub file_by : Answer → Result FileSeen Refusal
+file_by (Ok bytes) = file_or_refusal (file_of bytes)
+file_by (Err fault) = Err None
+
+abbrev pub events_first : Result FileSeen Refusal → List FileSeen → List FileSeen
+events_first (Ok file) files = file ∷ files
+events_first (Err refusal) files = files
+
+-- the accepted files, in the order of the reads
+abbrev pub accepted : List Answer → List FileSeen
+accepted [] = []
+accepted (answer ∷ answers) = events_first (file_by answer) (accepted answers)
+
+abbrev pub refusal_text : Refusal → List ℕ
+refusal_text (Some fault) = codes "line " ++ (decimal fault.line ++ (codes ": " ++ kind_name fault.kind))
+refusal_text None = codes "ReadFault"
+
+-- `khal-list: NAME: line N: KIND` or `khal-list: NAME: ReadFault`, and LF
+abbrev pub refusal_line : List ℕ → Refusal → List ℕ
+refusal_line name refusal = codes "khal-list: " ++ (shown name ++ (codes ": " ++ (refusal_text refusal ++ 10 ∷ [])))
+
+-- the line of a file that is not listed, and nothing of an accepted one
+abbrev pub error_line : List ℕ → Result FileSeen Refusal → List ℕ
+error_line name (Ok file) = []
+error_line name (Err refusal) = refusal_line name refusal
+
+-- the lines of the files that are not listed, in the order of the reads
+abbrev pub error_lines : List (List ℕ) → List Answer → List ℕ
+error_lines [] answers = []
+error_lines (name ∷ names) [] = []
+error_lines (name ∷ names) (answer ∷ answers) = error_line name (file_by answer) ++ error_lines names answers

@@ -1,0 +1,26 @@
+-- Why words are no request: the names of the faults, and what clap's refusal becomes.
+use Rattle.std.specs.Prelude.{◌≡◌, ◌≢◌, ◌↔◌, ℕ, List, IsTrue, codes}
+use Rattle.clap.specs.declared.error.kind.ErrorKind.{ErrorKind}
+use Rattle.clap.specs.declared.error.kind.ErrorKind.TheVariants.{DisplayHelp, OutOfMemory}
+use Rattle.ics_zone.specs.declared.display_fault.DisplayFault.{DisplayFault}
+use Rattle.ics_zone.specs.declared.display_fault.DisplayFault.TheVariants as zone
+use Rattle.khal_list.specs.declared.request_fault.RequestFault.{RequestFault}
+use Rattle.khal_list.specs.declared.request_fault.RequestFault.TheVariants.{Usage, BadZone, BadWindow, Memory}
+
+abbrev pub fault_name : RequestFault → List ℕ
+fault_name (Usage text help) = codes "Usage"
+fault_name BadZone = codes "BadZone"
+fault_name BadWindow = codes "BadWindow"
+fault_name Memory = codes "Memory"
+
+-- the fault of a refusal of this kind: usage, with help or not, or want of memory
+abbrev pub IsFaultOf : ErrorKind → RequestFault → Type 0
+IsFaultOf kind (Usage text help) = (kind ≢ OutOfMemory) × (IsTrue help ↔ (kind ≡ DisplayHelp))
+IsFaultOf kind BadZone = ⊥
+IsFaultOf kind BadWindow = ⊥
+IsFaultOf kind Memory = Unit {0}
+
+-- the fault of a text that is no display zone
+abbrev pub zone_fault : DisplayFault → RequestFault
+zone_fault zone.BadZone = BadZone
+zone_fault zone.Memory = Memory

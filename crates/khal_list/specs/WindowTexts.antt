@@ -1,0 +1,90 @@
+-- The texts that name the ends of a window: `YYYY-MM-DD`, `YYYY-MM-DDTHH:MM` and `Nd`. A local is the number
+-- of its seconds since 1970-01-01T00:00:00 on a clock without zones.
+use Rattle.std.specs.Prelude.{ℕ, ℤ, pos, ◌+◌, ◌-◌, ◌*◌, ◌==◌, ◌&&◌, nat_lt, nat_le, Bool, List, [], ◌∷◌, length, take, drop, slice_index, Option, Some, None, option_map, option_and_then, if◌then◌else◌}
+use Rattle.std.specs.Char.{is_ascii_digit}
+use Rattle.std.specs.List.{list_all}
+use Rattle.std.specs.Option.{option_or}
+use Rattle.std.specs.Str.Parse.{digits_value}
+use Rattle.jiff_core.specs.Calendar.{days_in_month, days_from_civil}
+use Rattle.ics_zone.specs.Places.{local_seconds}
+
+-- what a window text names: a day, a local, or a number of days
+pub data Named : Type 0 where
+  Day : ℤ → Named
+  Local : ℤ → Named
+  Days : ℕ → Named
+
+-- the number that two digits write
+abbrev pub pair : ℕ → ℕ → Option ℕ
+pair tens ones =
+    if is_ascii_digit tens && is_ascii_digit ones then Some ((tens - 48) * 10 + (ones - 48)) else None
+
+-- the number that four digits write
+abbrev pub quad : ℕ → ℕ → ℕ → ℕ → Option ℕ
+quad a b c d =
+    option_and_then (λ front. option_map (λ back. front * 100 + back) (pair c d)) (pair a b)
+
+-- the calendar has this date
+abbrev pub has_date : ℕ → ℕ → ℕ → Bool
+has_date year month day =
+    (nat_le 1 month && nat_le month 12)
+    && (nat_le 1 day && nat_le day (days_in_month (pos year) month))
+
+-- the number of this date, counted from 1970-01-01
+abbrev pub day_number : ℕ → ℕ → ℕ → Option ℤ
+day_number year month day =
+    if has_date year month day then Some (days_from_civil (pos year) month day) else None
+
+abbrev pub date_of : Option ℕ → Option ℕ → Option ℕ → Option ℤ
+date_of year month day =
+    option_and_then (λ y. option_and_then (λ m. option_and_then (λ d. day_number y m d) day) month) year
+
+-- the day of `YYYY-MM-DD`
+abbrev pub day_said : List ℕ → Option ℤ
+day_said (a ∷ b ∷ c ∷ d ∷ x ∷ e ∷ f ∷ y ∷ g ∷ h ∷ []) =
+    if (x == 45) && (y == 45) then date_of (quad a b c d) (pair e f) (pair g h) else None
+day_said text = None
+
+-- the second of the day at these hours and minutes
+abbrev pub clock_second : ℕ → ℕ → Option ℕ
+clock_second hours minutes =
+    if nat_lt hours 24 && nat_lt minutes 60 then Some (hours * 3_600 + minutes * 60) else None
+
+-- the second of the day of `THH:MM`
+abbrev pub second_said : List ℕ → Option ℕ
+second_said (t ∷ a ∷ b ∷ colon ∷ c ∷ d ∷ []) =
+    if (t == 84) && (colon == 58)
+    then option_and_then (λ hours. option_and_then (λ minutes. clock_second hours minutes) (pair c d)) (pair a b)
+    else None
+second_said text = None
+
+-- the local of `YYYY-MM-DDTHH:MM`
+abbrev pub local_said : List ℕ → Option ℤ
+local_said text =
+    option_and_then (λ day. option_map (λ second. local_seconds day second) (second_said (drop 10 text)))
+    (day_said (take 10 text))
+
+-- the text without the `d` at its end
+abbrev pub before_d : List ℕ → Option (List ℕ)
+before_d text =
+    if slice_index text (length text - 1) == 100 then Some (take (length text - 1) text) else None
+
+-- a number of days from 1 to 3,700,000
+abbrev pub is_number_of_days : ℕ → Bool
+is_number_of_days n = nat_le 1 n && nat_le n 3_700_000
+
+abbrev pub number_said : List ℕ → Option ℕ
+number_said digits =
+    if list_all is_ascii_digit digits && is_number_of_days (digits_value 10 digits)
+    then Some (digits_value 10 digits)
+    else None
+
+-- the number of `Nd`
+abbrev pub days_said : List ℕ → Option ℕ
+days_said text = option_and_then number_said (before_d text)
+
+-- what a text names, if it is of a form
+abbrev pub named : List ℕ → Option Named
+named text =
+    option_or (option_map Day (day_said text))
+    (option_or (option_map Local (local_said text)) (option_map Days (days_said text)))

@@ -1,0 +1,78 @@
+-- The window of a listing: its first instant and the one after its last, by what the words ask, a display zone
+-- and a clock. Locals and instants are numbers of seconds since 1970-01-01T00:00:00.
+use Rattle.std.specs.Prelude.{ℤ, pos, neg_ℤ, ◌*◌, ◌+ℤ◌, ◌*ℤ◌, ◌&&◌, int_le, int_lt, Option, Some, None, option_and_then, if◌then◌else◌}
+use Rattle.std.specs.Int.{int_div_euclid}
+use Rattle.clap.specs.Words.{Text}
+use Rattle.ics_zone.specs.Displays.{offset_of, moment_of}
+use Rattle.ics_zone.specs.Places.{local_seconds}
+use Rattle.ics_zone.specs.Zones.{zone_of}
+use Rattle.ics_zone.specs.declared.display.Display.{Display}
+use Rattle.khal_list.specs.Entries.{Span}
+use Rattle.khal_list.specs.WindowTexts.{Named, named}
+
+-- 0001-01-02T00:00, before which no window starts
+abbrev pub first_start : ℤ
+first_start = neg_ℤ (pos 62_135_510_400)
+
+-- 9800-01-01T00:00, after which no window ends
+abbrev pub last_end : ℤ
+last_end = pos 247_090_953_600
+
+-- the midnight that begins the day of a local
+abbrev pub midnight : ℤ → ℤ
+midnight local = int_div_euclid local (pos 86_400) *ℤ pos 86_400
+
+-- today's midnight in the zone, by a clock that lies within those bounds
+abbrev pub today : Display → ℤ → Option ℤ
+today zone now =
+    if int_le first_start now && int_le now last_end
+    then Some (midnight (now +ℤ offset_of (zone_of zone) now))
+    else None
+
+-- the local at which a window starts: a day's midnight, or the local that is named
+abbrev pub start_named : Named → Option ℤ
+start_named (Named.Day day) = Some (local_seconds day 0)
+start_named (Named.Local local) = Some local
+start_named (Named.Days n) = None
+
+-- the local at which a window ends: the midnight after a day, the local that is named, or so many days after
+-- the start
+abbrev pub end_named : ℤ → Named → ℤ
+end_named start (Named.Day day) = local_seconds (day +ℤ pos 1) 0
+end_named start (Named.Local local) = local
+end_named start (Named.Days n) = start +ℤ pos (n * 86_400)
+
+-- the local of a moment, which is no day
+abbrev pub moment_named : Named → Option ℤ
+moment_named (Named.Day day) = None
+moment_named (Named.Local local) = Some local
+moment_named (Named.Days n) = None
+
+-- START's local, today's midnight where it is left out
+abbrev pub start_said : Display → ℤ → Option Text → Option ℤ
+start_said zone now None = today zone now
+start_said zone now (Some text) = option_and_then start_named (named text)
+
+-- the instants of two locals, where the start is not too early, the end not too late, and the instants rise
+abbrev pub between : Display → ℤ → ℤ → Option (ℤ × ℤ)
+between zone start end =
+    if (int_le first_start start && int_le end last_end)
+    && int_lt (moment_of (zone_of zone) start) (moment_of (zone_of zone) end)
+    then Some (moment_of (zone_of zone) start, moment_of (zone_of zone) end)
+    else None
+
+-- the one second of a local that lies within those bounds
+abbrev pub second_at : Display → ℤ → Option (ℤ × ℤ)
+second_at zone local =
+    if int_le first_start local && int_le local last_end
+    then Some (moment_of (zone_of zone) local, moment_of (zone_of zone) local +ℤ pos 1)
+    else None
+
+-- the ends of the window from a start to what END's text names
+abbrev pub ends_from : Display → Text → ℤ → Option (ℤ × ℤ)
+ends_from zone end start = option_and_then (λ name. between zone start (end_named start name)) (named end)
+
+-- the ends of the window that the words ask for, or none
+abbrev pub ends_of : Display → ℤ → Span → Option (ℤ × ℤ)
+ends_of zone now (Span.At text) = option_and_then (second_at zone) (option_and_then moment_named (named text))
+ends_of zone now (Span.FromTo start end) = option_and_then (ends_from zone end) (start_said zone now start)

@@ -1,0 +1,72 @@
+//! The times of an entry, in eleven columns.
+ghost use Rattle.std.specs.Prelude.{◌≡◌, ◌<◌, ◌++◌, ◌∷◌, OnOk};
+ghost use Rattle.ics_zone.specs.Places.{local_seconds};
+ghost use Rattle.khal_list.specs.Text.{time_text, start_text, finish_text, times_text, is_end_of};
+
+use crate::digits::add_two_digits;
+use ics_values::Local;
+use std::alloc::AllocError;
+
+/// What stands for a time on another day.
+const BLANK: &[u8] = b"     ";
+
+/// Adds a second of the day as `HH:MM`, the seconds left off.
+fn add_time(text: &mut Vec<u8>, second: u32) -> Result<(), AllocError>
+    requires { second < 86_400 }
+    ensures { OnOk result (text.new.items ≡ text.old.items ++ time_text second) }
+{
+    add_two_digits(text, (second / 3_600) as u8)?;
+    text.push(b':')?;
+    add_two_digits(text, (second / 60 % 60) as u8)
+}
+
+/// Adds the time of a start, blank where it lies on another day than the entry's.
+fn add_start(text: &mut Vec<u8>, day: i32, start: Local) -> Result<(), AllocError>
+    ensures { OnOk result (text.new.items
+        ≡ text.old.items ++ start_text day (local_seconds start.day start.second)) }
+{
+    if start.day == day {
+        add_time(text, start.second)
+    } else {
+        text.extend_from_slice(BLANK)
+    }
+}
+
+/// Whether a local is the first second of the day after.
+fn is_end_of(day: i32, local: Local) -> bool
+    ensures { result ≡ is_end_of day (local_seconds local.day local.second) }
+{
+    let is_next = i64::from(local.day) == i64::from(day) + 1;
+    is_next & (local.second == 0)
+}
+
+/// Adds the time of a finish, blank where it lies on another day, but `24:00` at the first second
+/// of the next day.
+fn add_finish(text: &mut Vec<u8>, day: i32, finish: Local) -> Result<(), AllocError>
+    ensures { OnOk result (text.new.items
+        ≡ text.old.items ++ finish_text day (local_seconds finish.day finish.second)) }
+{
+    if finish.day == day {
+        add_time(text, finish.second)
+    } else if is_end_of(day, finish) {
+        text.extend_from_slice(b"24:00")
+    } else {
+        text.extend_from_slice(BLANK)
+    }
+}
+
+/// Adds the times of an entry that stands under a day.
+pub(crate) fn add_times(
+    text: &mut Vec<u8>,
+    day: i32,
+    start: Local,
+    finish: Local,
+) -> Result<(), AllocError>
+    ensures { OnOk result (text.new.items
+        ≡ text.old.items ++ times_text day (local_seconds start.day start.second) (local_seconds finish.day finish.second)) }
+{
+    add_start(text, day, start)?;
+    text.push(b'-')?;
+    add_finish(text, day, finish)?;
+    Ok(())
+}

@@ -1,0 +1,106 @@
+//! The program's command line, as clap takes it.
+ghost use Rattle.std.specs.Prelude.{◌≡◌, IfOk, false};
+ghost use Rattle.clap.specs.Words.{app_of, rule_of};
+ghost use Rattle.clap.specs.declared.builder.command.Command.TheViews.{out-Command};
+ghost use Rattle.khal_list.specs.Commands as spec;
+
+use clap::{Arg, ArgAction, Command};
+use std::alloc::{AllocError, Global};
+
+/// The program's command: `list FOLDER [START [END]] [--zone Z] [--notstarted]` and
+/// `at FOLDER MOMENT [--zone Z]`.
+pub(crate) fn command<'a>(alloc: Global) -> Result<Command<'a>, AllocError>
+    ensures shape { IfOk result (λ c. app_of c ≡ spec.khal_app) }
+    ensures local { IfOk result (λ c. (out-Command c).has_globals ≡ false) }
+{
+    let list = list_command(alloc)?;
+    let at = at_command(alloc)?;
+    bare_command(alloc).subcommand(list)?.subcommand(at)
+}
+
+fn bare_command<'a>(alloc: Global) -> Command<'a>
+    ensures shape { app_of result ≡ spec.bare_app }
+    ensures local { (out-Command result).has_globals ≡ false }
+{
+    Command::new(alloc, "khal-list").subcommand_required(true)
+}
+
+fn list_command<'a>(alloc: Global) -> Result<Command<'a>, AllocError>
+    ensures shape { IfOk result (λ c. app_of c ≡ spec.list_app) }
+    ensures local { IfOk result (λ c. (out-Command c).has_globals ≡ false) }
+{
+    list_places(alloc)?
+        .arg(zone_arg(alloc))?
+        .arg(notstarted_arg(alloc))
+}
+
+fn list_places<'a>(alloc: Global) -> Result<Command<'a>, AllocError>
+    ensures shape { IfOk result (λ c. app_of c ≡ spec.list_places_app) }
+    ensures local { IfOk result (λ c. (out-Command c).has_globals ≡ false) }
+{
+    Command::new(alloc, "list")
+        .arg(folder_arg(alloc))?
+        .arg(start_arg(alloc))?
+        .arg(end_arg(alloc))
+}
+
+fn at_command<'a>(alloc: Global) -> Result<Command<'a>, AllocError>
+    ensures shape { IfOk result (λ c. app_of c ≡ spec.at_app) }
+    ensures local { IfOk result (λ c. (out-Command c).has_globals ≡ false) }
+{
+    Command::new(alloc, "at")
+        .arg(folder_arg(alloc))?
+        .arg(moment_arg(alloc))?
+        .arg(zone_arg(alloc))
+}
+
+fn folder_arg<'a>(alloc: Global) -> Arg<'a>
+    ensures rule { rule_of result ≡ spec.folder }
+    ensures local { result.global ≡ false }
+{
+    Arg::new(alloc, "folder")
+        .value_name("FOLDER")
+        .required(true)
+}
+
+fn start_arg<'a>(alloc: Global) -> Arg<'a>
+    ensures rule { rule_of result ≡ spec.start }
+    ensures local { result.global ≡ false }
+{
+    Arg::new(alloc, "start").value_name("START")
+}
+
+fn end_arg<'a>(alloc: Global) -> Arg<'a>
+    ensures rule { rule_of result ≡ spec.end }
+    ensures local { result.global ≡ false }
+{
+    Arg::new(alloc, "end").value_name("END").default_value("2d")
+}
+
+fn moment_arg<'a>(alloc: Global) -> Arg<'a>
+    ensures rule { rule_of result ≡ spec.moment }
+    ensures local { result.global ≡ false }
+{
+    Arg::new(alloc, "moment")
+        .value_name("MOMENT")
+        .required(true)
+}
+
+fn zone_arg<'a>(alloc: Global) -> Arg<'a>
+    ensures rule { rule_of result ≡ spec.zone }
+    ensures local { result.global ≡ false }
+{
+    Arg::new(alloc, "zone")
+        .long("zone")
+        .value_name("Z")
+        .default_value("UTC")
+}
+
+fn notstarted_arg<'a>(alloc: Global) -> Arg<'a>
+    ensures rule { rule_of result ≡ spec.notstarted }
+    ensures local { result.global ≡ false }
+{
+    Arg::new(alloc, "notstarted")
+        .long("notstarted")
+        .action(ArgAction::SetTrue)
+}

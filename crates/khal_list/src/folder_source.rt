@@ -1,0 +1,136 @@
+//! The calendar files of a folder.
+ghost use Rattle.std.specs.Prelude.{◌≡◌, map};
+
+use crate::fault::SourceFault;
+use crate::source::{MOST_BYTES, Source};
+use std::alloc::Global;
+use std::fs::{self, File};
+use std::io::{self, ErrorKind, Read};
+use std::rt::Files;
+
+/// The files of a folder whose names end in `.ics` and do not begin with `.`, sorted by bytes, and
+/// then a `?` for each name that is not UTF-8, which is never read. Folders below are not looked
+/// into.
+///
+/// A read answers Device for every fault of the system, and TooLarge once it has read one byte more
+/// than a file may have.
+#[derive(Drop)]
+pub struct FolderSource<R> {
+    rt: R,
+    path: String,
+    names: Vec<String>,
+    // how many of the names, from the first on, are those of files
+    named: usize,
+    failures: u64,
+}
+
+fn is_calendar(name: &str) -> bool {
+    name.ends_with(".ics") && !name.starts_with('.')
+}
+
+/// The names of a folder's calendar files, sorted, and how many names are not UTF-8.
+fn list<R: Files + AllocGlobal + Clone>(rt: &R, path: &str) -> io::Result<(Vec<String>, u64)> {
+    let mut names = Vec::new(rt.alloc());
+    let mut unnamed = 0u64;
+    for entry in fs::read_dir(rt, path)? {
+        match entry {
+            Ok(entry) => {
+                let name = entry.file_name();
+                if is_calendar(name) {
+                    names.push(String::from_str(rt.alloc(), name)?)?;
+                }
+            }
+            Err(error) => {
+                if error.kind() != ErrorKind::InvalidFilename {
+                    return Err(error);
+                }
+                unnamed = unnamed.saturating_add(1);
+            }
+        }
+    }
+    names.sort()?;
+    Ok((names, unnamed))
+}
+
+impl<R: Files + AllocGlobal + Clone + Drop> FolderSource<R> {
+    /// Lists a folder.
+    pub fn open(rt: R, path: String) -> io::Result<FolderSource<R>> {
+        let (mut names, unnamed) = list(&rt, path.as_str())?;
+        let named = names.len();
+        for _ in 0..unnamed {
+            names.push(String::from_str(rt.alloc(), "?")?)?;
+        }
+        Ok(FolderSource {
+            rt,
+            path,
+            names,
+            named,
+            failures: 0,
+        })
+    }
+}
+
+/// A file's bytes, at most one more than it may have.
+fn read_some<R: Files>(
+    rt: &R,
+    alloc: Global,
+    folder: &str,
+    name: &str,
+) -> Result<Vec<u8>, SourceFault> {
+    let path = format!(in alloc; "{folder}/{name}").map_err(|_| SourceFault::Memory)?;
+    let file = File::open(rt, path.as_str()).map_err(fault_of)?;
+    let mut bytes = Vec::new(alloc);
+    let mut front = file.take(MOST_BYTES as u64 + 1);
+    front.read_to_end(&mut bytes).map_err(fault_of)?;
+    Ok(bytes)
+}
+
+fn fault_of(error: io::Error) -> SourceFault {
+    if error.kind() == ErrorKind::OutOfMemory {
+        return SourceFault::Memory;
+    }
+    SourceFault::Device
+}
+
+impl<R: Files + AllocGlobal + Clone + Drop> Source for FolderSource<R> {
+    ghost use Rattle.std.specs.Prelude.{map, string_bytes};
+
+    ghost names = { λ source. map (λ name. string_bytes name) source.names.items };
+
+    ghost reads = { λ before index answer after. Unit {0} };
+
+    ghost failed = { λ source. source.failures };
+
+    fn count(&self) -> usize {
+        self.names.len()
+    }
+
+    fn name(&self, index: usize) -> &str {
+        self.names[index].as_str()
+    }
+
+    fn read(&mut self, alloc: Global, index: usize) -> Result<Vec<u8>, SourceFault> {
+        if index >= self.named {
+            self.failures = self.failures.saturating_add(1);
+            return Err(SourceFault::Device);
+        }
+        let name = self.names[index].as_str();
+        match read_some(&self.rt, alloc, self.path.as_str(), name) {
+            Ok(bytes) => {
+                if bytes.len() > MOST_BYTES {
+                    return Err(SourceFault::TooLarge);
+                }
+                Ok(bytes)
+            }
+            Err(SourceFault::Device) => {
+                self.failures = self.failures.saturating_add(1);
+                Err(SourceFault::Device)
+            }
+            Err(fault) => Err(fault),
+        }
+    }
+
+    fn failures(&self) -> u64 {
+        self.failures
+    }
+}

@@ -1,0 +1,58 @@
+//! Dates, and the headings that they stand in.
+ghost use Rattle.std.specs.Prelude.{◌≡◌, ◌++◌, OnOk};
+ghost use Rattle.jiff_core.specs.Weekday.{monday_zero};
+ghost use Rattle.ics_values.specs.Days.{IsDayNumber, day_index, weekday_of};
+ghost use Rattle.khal_list.specs.Text.{weekday_name, date_text, heading_text};
+
+use crate::digits::{add_four_digits, add_two_digits};
+use ics_values::civil;
+use jiff_core::civil::Weekday;
+use std::alloc::AllocError;
+
+fn name_of(weekday: Weekday) -> &'static str
+    ensures { result.now ≡ weekday_name (monday_zero weekday) }
+{
+    match weekday {
+        Weekday::Monday => "Monday",
+        Weekday::Tuesday => "Tuesday",
+        Weekday::Wednesday => "Wednesday",
+        Weekday::Thursday => "Thursday",
+        Weekday::Friday => "Friday",
+        Weekday::Saturday => "Saturday",
+        Weekday::Sunday => "Sunday",
+    }
+}
+
+/// Adds the date of a day of the years 0000 to 9999, as `2024-01-05`.
+pub(crate) fn add_date(text: &mut Vec<u8>, day: i32) -> Result<(), AllocError>
+    requires { IsDayNumber day }
+    ensures { OnOk result (text.new.items ≡ text.old.items ++ date_text day) }
+{
+    let date = civil(day);
+    add_four_digits(text, date.year)?;
+    text.push(b'-')?;
+    add_two_digits(text, date.month)?;
+    text.push(b'-')?;
+    add_two_digits(text, date.day)
+}
+
+/// Adds the name of a day of the years 0000 to 9999.
+fn add_weekday(text: &mut Vec<u8>, day: i32) -> Result<(), AllocError>
+    requires { IsDayNumber day }
+    ensures { OnOk result (text.new.items ≡ text.old.items ++ weekday_name (weekday_of (day_index day))) }
+{
+    text.extend_from_slice(name_of(civil(day).weekday).as_bytes())?;
+    Ok(())
+}
+
+/// Adds the heading of a day of the years 0000 to 9999, as `Friday, 2024-01-05` and LF.
+pub(crate) fn add_heading(text: &mut Vec<u8>, day: i32) -> Result<(), AllocError>
+    requires { IsDayNumber day }
+    ensures { OnOk result (text.new.items ≡ text.old.items ++ heading_text day) }
+{
+    add_weekday(text, day)?;
+    text.extend_from_slice(b", ")?;
+    add_date(text, day)?;
+    text.push(b'\n')?;
+    Ok(())
+}

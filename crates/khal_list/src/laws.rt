@@ -1,0 +1,17 @@
+//! Laws of requests.
+ghost use Rattle.std.specs.Prelude.{ℤ, List, Result};
+ghost use Rattle.clap.specs.Words.{Text};
+ghost use Rattle.khal_list.specs.Agree.{Agree};
+ghost use Rattle.khal_list.specs.RequestOf.{RequestOf};
+ghost use Rattle.khal_list.specs.declared.request.Request.{Request};
+ghost use Rattle.khal_list.specs.declared.request_fault.RequestFault.{RequestFault};
+
+use ics_zone::one_display;
+
+/// Words and a clock have one answer, want of memory apart: one request, or one fault.
+pub fn one_answer()
+    ensures { (words : List Text) (now : ℤ) (a b : Result Request RequestFault)
+        → RequestOf words now a → RequestOf words now b → Agree a b }
+{
+    one_display();
+}

@@ -1,0 +1,79 @@
+//! The files of a source, read one by one.
+ghost use Rattle.std.specs.Prelude.{◌≡◌, ◌≢◌, ◌↔◌, ◌++◌, List, [], IfOk, IfErr, OnOk};
+ghost use Rattle.khal_list.specs.Answers.{Answer};
+ghost use Rattle.khal_list.specs.Errors.{events_first, error_line};
+ghost use Rattle.khal_list.specs.Outcomes.{seen_outcome, IsReading};
+ghost use Rattle.khal_list.specs.Reads.{ReadsAll, ReadsSome};
+
+use crate::fault::RunFault;
+use crate::outcome::{Outcome, read_outcome};
+use crate::refusal::add_refusal_line;
+use crate::source::Source;
+use crate::status::Status;
+use ics_calendar::FileEvents;
+use std::alloc::Global;
+
+/// What is kept of the files of a source: the events of those that are accepted, and the lines of
+/// the others.
+#[derive(Drop)]
+pub(crate) struct Reading {
+    pub(crate) files: Vec<FileEvents>,
+    pub(crate) errors: Vec<u8>,
+}
+
+impl Reading {
+    fn new(alloc: Global) -> Reading
+        ensures files { result.files.items ≡ [] }
+        ensures errors { result.errors.items ≡ [] }
+    {
+        Reading {
+            files: Vec::new(alloc),
+            errors: Vec::new(alloc),
+        }
+    }
+
+    /// Keeps the events of the next file, or the line that says why it is not listed.
+    fn keep(&mut self, alloc: Global, name: &str, outcome: Outcome) -> Result<(), RunFault>
+        ensures files { OnOk result (self.new.files.items
+            ≡ self.old.files.items ++ events_first (seen_outcome outcome) []) }
+        ensures errors { OnOk result (self.new.errors.items
+            ≡ self.old.errors.items ++ error_line name.now (seen_outcome outcome)) }
+        ensures err { IfErr result (λ fault. fault ≡ RunFault.Memory) }
+    {
+        match outcome {
+            Outcome::Accepted(file) => self.files.push(file)?,
+            Outcome::Refused(refusal) => {
+                add_refusal_line(alloc, &mut self.errors, name, refusal)?;
+            }
+        }
+        Ok(())
+    }
+
+    /// Faulty where some file is not listed.
+    pub(crate) fn status(&self) -> Status
+        ensures { (result ≡ Status.Faulty) ↔ (self.now.errors.items ≢ []) }
+    {
+        if self.errors.is_empty() {
+            Status::Clean
+        } else {
+            Status::Faulty
+        }
+    }
+}
+
+/// Reads each file once, in order. Only want of memory ends it early.
+pub(crate) fn read_all<S: Source>(alloc: Global, source: &mut S) -> Result<Reading, RunFault>
+    ensures some { (answers : List Answer)
+        × ReadsSome S.reads (S.names source.old) source.old answers source.new }
+    ensures all { IfOk result (λ reading. (answers : List Answer)
+        × ReadsAll S.reads (S.names source.old) source.old answers source.new
+        × IsReading (S.names source.old) answers reading.files.items reading.errors.items) }
+    ensures err { IfErr result (λ fault. fault ≡ RunFault.Memory) }
+{
+    let mut reading = Reading::new(alloc);
+    for index in 0..source.count() {
+        let outcome = read_outcome(alloc, source, index)?;
+        reading.keep(alloc, source.name(index), outcome)?;
+    }
+    Ok(reading)
+}

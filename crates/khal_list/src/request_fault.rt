@@ -1,0 +1,81 @@
+//! Why words are no request.
+ghost use Rattle.std.specs.Prelude.{◌≡◌};
+ghost use Rattle.clap.specs.Words.{kind_of};
+
+use clap::Error;
+use clap::error::ErrorKind;
+use ics_zone::DisplayFault;
+use std::alloc::{AllocError, Global};
+use thiserror::Error as ErrorText;
+
+/// Why words are no request.
+#[derive(Debug, Drop, ErrorText)]
+pub enum RequestFault {
+    /// clap refuses the words, and says why by `text`; `help` is set where they ask for help.
+    #[error("{text}")]
+    Usage { text: String, help: bool },
+    /// `--zone` has no display zone.
+    #[error("BadZone")]
+    BadZone,
+    /// The words name no window, or one that may not be asked for.
+    #[error("BadWindow")]
+    BadWindow,
+    /// Memory was refused.
+    #[error("Memory")]
+    Memory,
+}
+
+impl RequestFault {
+    ghost use Rattle.khal_list.specs.RequestFaults.{fault_name, IsFaultOf};
+
+    /// The fault's name.
+    pub fn name(&self) -> &'static str
+        ensures { result.now ≡ fault_name self.now }
+    {
+        match self {
+            RequestFault::Usage { .. } => "Usage",
+            RequestFault::BadZone => "BadZone",
+            RequestFault::BadWindow => "BadWindow",
+            RequestFault::Memory => "Memory",
+        }
+    }
+
+    // What clap says of words that it refuses.
+    pub(crate) fn of_clap(alloc: Global, error: Error) -> RequestFault
+        ensures { IsFaultOf (kind_of error) result }
+    {
+        if error.kind() == ErrorKind::OutOfMemory {
+            return RequestFault::Memory;
+        }
+        let help = error.kind() == ErrorKind::DisplayHelp;
+        match error.to_string(alloc) {
+            Ok(text) => RequestFault::Usage { text, help },
+            Err(_) => RequestFault::Memory,
+        }
+    }
+}
+
+impl From<AllocError> for RequestFault {
+    ghost use Rattle.std.specs.Prelude.{◌≡◌};
+    ghost use Rattle.khal_list.specs.declared.request_fault.RequestFault.TheVariants.{Memory};
+
+    ghost from_gives = { λ _ fault. fault ≡ Memory };
+
+    fn from(_error: AllocError) -> RequestFault {
+        RequestFault::Memory
+    }
+}
+
+impl From<DisplayFault> for RequestFault {
+    ghost use Rattle.std.specs.Prelude.{◌≡◌};
+    ghost use Rattle.khal_list.specs.RequestFaults.{zone_fault};
+
+    ghost from_gives = { λ display fault. fault ≡ zone_fault display };
+
+    fn from(fault: DisplayFault) -> RequestFault {
+        match fault {
+            DisplayFault::BadZone => RequestFault::BadZone,
+            DisplayFault::Memory => RequestFault::Memory,
+        }
+    }
+}

@@ -1,0 +1,63 @@
+//! A whole run: files, errors and the listing.
+ghost use Rattle.std.specs.Prelude.{◌≡◌, ◌⊎◌, List, IfOk, OnOk, OnErr, IsErrOf};
+ghost use Rattle.ics_series.specs.Entry.{Entry};
+ghost use Rattle.khal_list.specs.Growth.{grown, TookFront, LeftByFault};
+ghost use Rattle.khal_list.specs.Headline.{IsListingOf, Lists, Stops};
+ghost use Rattle.khal_list.specs.Listed.{text_of};
+
+use crate::fault::RunFault;
+use crate::printing::print;
+use crate::reading::read_all;
+use crate::request::Request;
+use crate::sink::{Sink, put_all};
+use crate::source::Source;
+use crate::status::Status;
+use ics_calendar::FileEvents;
+use ics_series::Folder;
+use std::alloc::Global;
+
+/// Writes the listing of these files.
+fn list<O: Sink>(
+    alloc: Global,
+    files: Vec<FileEvents>,
+    request: &Request,
+    out: &mut O,
+) -> Result<(), RunFault>
+    ensures ok { OnOk result ((list : List Entry) × IsListingOf files.items request.now list
+        × (O.taken out.new ≡ grown (O.taken out.old) (text_of request.now list))) }
+    ensures err { OnErr result ((O.taken out.new ≡ O.taken out.old)
+        ⊎ ((list : List Entry) × IsListingOf files.items request.now list
+        × TookFront (O.taken out.old) (O.taken out.new) (text_of request.now list))) }
+    ensures cause { IsErrOf result RunFault.WriteFault → LeftByFault O.puts out.new }
+{
+    let folder = Folder::new(alloc, files, request.zone)?;
+    let mut agenda = folder.agenda(request.window)?;
+    print(alloc, &mut agenda, request, out)?;
+    Ok(())
+}
+
+/// Reads each file of the source once, in order. Writes to `err` a line for each that is not read
+/// or is refused, and then to `out` the listing of the others: each of their occurrences that
+/// meets the request's window once, in the order of start, UID and recurrence.
+///
+/// WriteFault comes only where an output failed, or was given bytes and took none.
+pub fn run<S: Source, O: Sink, E: Sink>(
+    alloc: Global,
+    source: &mut S,
+    request: &Request,
+    out: &mut O,
+    err: &mut E,
+) -> Result<Status, RunFault>
+    ensures lists { IfOk result (Lists S.reads (S.names source.old) source.old source.new request.now
+        (O.taken out.old) (O.taken out.new) (E.taken err.old) (E.taken err.new)) }
+    ensures stops { OnErr result (Stops S.reads (S.names source.old) source.old source.new request.now
+        (O.taken out.old) (O.taken out.new) (E.taken err.old) (E.taken err.new)) }
+    ensures cause { IsErrOf result RunFault.WriteFault
+        → LeftByFault O.puts out.new ⊎ LeftByFault E.puts err.new }
+{
+    let reading = read_all(alloc, source)?;
+    put_all(err, &reading.errors)?;
+    let status = reading.status();
+    list(alloc, reading.files, request, out)?;
+    Ok(status)
+}

@@ -1,0 +1,52 @@
+//! A stream of the program as a sink.
+ghost use Rattle.std.specs.Prelude.{None};
+
+use crate::fault::{RunFault, SinkFault};
+use crate::sink::Sink;
+use std::io::Write;
+
+/// A writer as a sink. It tells nothing of its bytes.
+#[derive(Drop)]
+pub struct Stream<W> {
+    writer: W,
+    failures: u64,
+}
+
+impl<W: Write> Stream<W> {
+    /// The sink of a writer.
+    pub fn new(writer: W) -> Stream<W> {
+        Stream {
+            writer,
+            failures: 0,
+        }
+    }
+
+    /// Writes out what the writer still holds. WriteFault where it fails.
+    pub fn finish(&mut self) -> Result<(), RunFault> {
+        self.writer.flush().map_err(|_| RunFault::WriteFault)
+    }
+}
+
+impl<W: Write + Drop> Sink for Stream<W> {
+    ghost use Rattle.std.specs.Prelude.{None};
+
+    ghost taken = { λ _. None };
+
+    ghost puts = { λ before bytes answer after. Unit {0} };
+
+    ghost failed = { λ stream. stream.failures };
+
+    fn put(&mut self, bytes: &[u8]) -> Result<usize, SinkFault> {
+        match self.writer.write(bytes) {
+            Ok(count) => Ok(count),
+            Err(_) => {
+                self.failures = self.failures.saturating_add(1);
+                Err(SinkFault::Device)
+            }
+        }
+    }
+
+    fn failures(&self) -> u64 {
+        self.failures
+    }
+}

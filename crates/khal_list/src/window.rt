@@ -1,0 +1,173 @@
+//! The window that the words ask for.
+ghost use Rattle.std.specs.Prelude.{◌≡◌, ◌≤◌, ◌<◌, ◌*◌, ◌-ℤ◌, ◌+ℤ◌, pos, option_map, IfSome};
+ghost use Rattle.jiff_core.specs.Calendar.{IsEpochDay};
+ghost use Rattle.ics_zone.specs.Displays.{moment_of};
+ghost use Rattle.ics_zone.specs.Places.{local_seconds, IsDay, IsNear};
+ghost use Rattle.ics_zone.specs.Zones.{zone_of};
+ghost use Rattle.khal_list.specs.Windows as spec;
+ghost use Rattle.khal_list.specs.SpanTexts.{span_by};
+ghost use Rattle.khal_list.specs.WindowEnds.{ends_by};
+ghost use Rattle.khal_list.specs.WindowTextNames.{named_by, IsInCalendar};
+
+use crate::span::Span;
+use crate::window_text::WindowText;
+use ics_series::Window;
+use ics_values::{Local, Moment};
+use ics_zone::{Display, Place};
+
+// 0001-01-02T00:00, before which no window starts, and 9800-01-01T00:00, after which none ends.
+const FIRST_START: i64 = -62_135_510_400;
+
+const LAST_END: i64 = 247_090_953_600;
+
+// The days of the years in which a zone is asked, 0000 to 9950.
+const FIRST_DAY: i32 = -719_528;
+
+const LAST_DAY: i32 = 2_914_999;
+
+/// The window that the texts ask for, by a display zone and a clock.
+pub(crate) fn window_of(
+    zone: Display,
+    now: Moment,
+    span: Span<'_>,
+    notstarted: bool,
+) -> Option<Window>
+    ensures ends { ends_by result ≡ spec.ends_of zone now (span_by span.entry) }
+    ensures flag { IfSome result (λ w. w.notstarted ≡ notstarted) }
+{
+    match span {
+        Span::At(text) => {
+            let moment = moment_local(WindowText::parse(text)?)?;
+            second_at(zone, moment, notstarted)
+        }
+        Span::FromTo { start, end } => {
+            let start = start_said(zone, now, start)?;
+            let end = end_local(start, WindowText::parse(end)?);
+            between(zone, start, end, notstarted)
+        }
+    }
+}
+
+// START's local, today's midnight where it is left out.
+fn start_said(zone: Display, now: Moment, text: Option<&str>) -> Option<Local>
+    ensures value { option_map (λ l. local_seconds l.day l.second) result
+        ≡ spec.start_said zone now (option_map (λ t. t.now) text.entry) }
+    ensures bound { IfSome result (λ l. IsEpochDay l.day) }
+{
+    match text {
+        None => today(zone, now),
+        Some(text) => start_local(WindowText::parse(text)?),
+    }
+}
+
+// Today's midnight, by a clock within the bounds of windows.
+fn today(zone: Display, now: Moment) -> Option<Local>
+    ensures value { option_map (λ l. local_seconds l.day l.second) result
+        ≡ spec.today zone now }
+    ensures bound { IfSome result (λ l. IsEpochDay l.day) }
+{
+    if now < FIRST_START || now > LAST_END {
+        return None;
+    }
+    let day = zone.local(now).day;
+    Some(Local { day, second: 0 })
+}
+
+fn start_local(name: WindowText) -> Option<Local>
+    requires { IsInCalendar name }
+    ensures value { option_map (λ l. local_seconds l.day l.second) result
+        ≡ spec.start_named (named_by name) }
+    ensures bound { IfSome result (λ l. IsEpochDay l.day) }
+{
+    match name {
+        WindowText::Day(day) => Some(Local { day, second: 0 }),
+        WindowText::Local(local) => Some(local),
+        WindowText::Days(_) => None,
+    }
+}
+
+fn end_local(start: Local, name: WindowText) -> Local
+    requires start { IsEpochDay start.day }
+    requires name { IsInCalendar name }
+    ensures { local_seconds result.day result.second
+        ≡ spec.end_named (local_seconds start.day start.second) (named_by name) }
+{
+    match name {
+        WindowText::Day(day) => Local {
+            day: day + 1,
+            second: 0,
+        },
+        WindowText::Local(local) => local,
+        WindowText::Days(number) => Local {
+            day: start.day + number as i32,
+            second: start.second,
+        },
+    }
+}
+
+fn moment_local(name: WindowText) -> Option<Local>
+    ensures value { option_map (λ l. local_seconds l.day l.second) result
+        ≡ spec.moment_named (named_by name) }
+{
+    match name {
+        WindowText::Local(local) => Some(local),
+        _ => None,
+    }
+}
+
+// The window between two locals.
+fn between(zone: Display, start: Local, end: Local, notstarted: bool) -> Option<Window>
+    ensures ends { ends_by result ≡ spec.between zone
+        (local_seconds start.day start.second) (local_seconds end.day end.second) }
+    ensures flag { IfSome result (λ w. w.notstarted ≡ notstarted) }
+{
+    if seconds(start) < FIRST_START || seconds(end) > LAST_END {
+        return None;
+    }
+    // Days before every start, or days behind every end, the instants do not rise.
+    if end.day < FIRST_DAY || start.day > LAST_DAY {
+        return None;
+    }
+    let from = instant(zone, start);
+    let to = instant(zone, end);
+    if from < to {
+        Some(Window {
+            from,
+            to,
+            notstarted,
+        })
+    } else {
+        None
+    }
+}
+
+// The window of one second.
+fn second_at(zone: Display, local: Local, notstarted: bool) -> Option<Window>
+    ensures ends { ends_by result ≡ spec.second_at zone (local_seconds local.day local.second) }
+    ensures flag { IfSome result (λ w. w.notstarted ≡ notstarted) }
+{
+    if seconds(local) < FIRST_START || seconds(local) > LAST_END {
+        return None;
+    }
+    let from = instant(zone, local);
+    Some(Window {
+        from,
+        to: from + 1,
+        notstarted,
+    })
+}
+
+fn instant(zone: Display, local: Local) -> Moment
+    requires { IsDay local.day }
+    ensures value { result ≡ moment_of (zone_of zone) (local_seconds local.day local.second) }
+    ensures near { IsNear (result -ℤ local_seconds local.day local.second) }
+{
+    zone.moment(local)
+}
+
+// The seconds of a local since 1970-01-01T00:00:00 on a clock without zones.
+fn seconds(local: Local) -> i64
+    ensures { result ≡ local_seconds local.day local.second }
+{
+    i64::from(local.day) * 86_400 + i64::from(local.second)
+}

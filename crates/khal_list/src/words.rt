@@ -1,0 +1,45 @@
+//! The words of the command line, as clap reads them.
+ghost use Rattle.std.specs.Prelude.{◌≡◌, IfOk, map, option_map, codes};
+ghost use Rattle.std.specs.Str.{bytes_eq};
+ghost use Rattle.clap.specs.Words.{fault_of, subcommand_rows_of, FailsBy};
+ghost use Rattle.khal_list.specs.Commands.{khal_app};
+ghost use Rattle.khal_list.specs.Entries as spec;
+
+use crate::command::command;
+use clap::{ArgMatches, Error};
+use std::alloc::Global;
+
+/// What clap makes of the words, of which the first is the program's name.
+pub(crate) fn matches<'a>(alloc: Global, words: &'a [&'a str]) -> Result<ArgMatches<'a>, Error>
+    ensures entries { IfOk result (λ m. subcommand_rows_of m
+        ≡ spec.entries_in (map (λ word. word.now) words.entry.now)) }
+    ensures faults { FailsBy (fault_of khal_app (map (λ word. word.now) words.entry.now)) result }
+{
+    command(alloc)?.try_get_matches_from(words)
+}
+
+/// The entry of the subcommand with this name.
+pub(crate) fn entry<'a>(found: &ArgMatches<'a>, id: &str) -> Option<&'a str>
+    ensures { option_map (λ text. text.now) result
+        ≡ spec.entry id.now (subcommand_rows_of found.now) }
+{
+    let (_, entries) = found.subcommand()?;
+    entries.get_str(id)
+}
+
+/// The text of that entry, empty where there is none.
+pub(crate) fn text<'a>(found: &ArgMatches<'a>, id: &str) -> &'a str
+    ensures { result.now ≡ spec.text_of id.now (subcommand_rows_of found.now) }
+{
+    entry(found, id).unwrap_or("")
+}
+
+/// Whether the words name the subcommand `at`.
+pub(crate) fn is_at<'a>(found: &ArgMatches<'a>) -> bool
+    ensures { result ≡ spec.is_at (subcommand_rows_of found.now) }
+{
+    match found.subcommand() {
+        Some((name, _)) => name == "at",
+        None => false,
+    }
+}

@@ -1,0 +1,58 @@
+//! The program `khal-list`: its clock, its words, a folder, and the standard streams.
+#![tactic(auto)]
+
+mod failure;
+
+use failure::Failure;
+use khal_list::{FolderSource, Request, Status, Stream, run};
+use std::env;
+use std::io::BufWriter;
+use std::process::ExitCode;
+use std::rt::{Clock, Env};
+
+/// The instant that the clock shows.
+fn clock_now(clock: &impl Clock) -> Result<i64, Failure> {
+    let Ok(since) = clock.since_1970() else {
+        return Err(Failure::Read);
+    };
+    i64::try_from(since.as_secs()).map_err(|_| Failure::Read)
+}
+
+/// The words of the command line, the program's name with them.
+fn own_words<R: Env + AllocGlobal>(rt: &R) -> Result<Vec<String>, Failure> {
+    let words = env::args(rt).map_err(Failure::of_words)?;
+    words.collect(rt.alloc()).map_err(|_| Failure::Memory)
+}
+
+/// The request of the words behind the program's name.
+fn request<R: Env + AllocGlobal>(rt: &R, now: i64) -> Result<Request, Failure> {
+    let words = own_words(rt)?;
+    let mut texts = Vec::new(rt.alloc());
+    for word in words.iter().skip(1) {
+        texts.push(word.as_str())?;
+    }
+    Request::of(rt.alloc(), texts.as_slice(), now).map_err(Failure::Request)
+}
+
+/// Lists a folder to the standard streams. The listing is written in large pieces.
+fn list(rt: HostRuntime) -> Result<Status, Failure> {
+    let now = clock_now(&rt)?;
+    let request = request(&rt, now)?;
+    let folder = String::from_str(rt.alloc(), request.folder())?;
+    let mut source = FolderSource::open(rt, folder).map_err(Failure::of_folder)?;
+    let buffered = BufWriter::new(rt.alloc(), rt.stdout()).map_err(|_| Failure::Memory)?;
+    let mut out = Stream::new(buffered);
+    let mut err = Stream::new(rt.stderr());
+    let ran = run(rt.alloc(), &mut source, &request, &mut out, &mut err);
+    let finished = out.finish();
+    let status = ran?;
+    finished?;
+    Ok(status)
+}
+
+fn main(rt: HostRuntime) -> ExitCode {
+    match list(rt) {
+        Ok(status) => ExitCode::from(status.code()),
+        Err(failure) => ExitCode::from(failure.report(&rt)),
+    }
+}
