@@ -1,0 +1,11 @@
+//! Worked examples: the words of a command, the files of a folder, and what is written of them.
+#![tactic(auto)]
+
+#[cfg(test)]
+mod events;
+#[cfg(test)]
+mod refusals;
+#[cfg(test)]
+mod requests;
+#[cfg(test)]
+mod runs;
