@@ -235,5 +235,6 @@ fn folder_on_disk(rt: HostRuntime) -> Result<(), Fail> {
     );
     assert_eq!(rt; ran.err(), b"".as_slice());
     assert_eq!(rt; ran.status, Status::Clean);
+    fs::remove_dir_all(&rt, "calendars")?;
     Ok(())
 }
