@@ -1,8 +1,7 @@
 -- What a rule chooses is counted period by period.
-use Rattle.std.proofs.Common.{◌≡◌, ◌≢◌, ℕ, suc, ◌+◌, ◌-◌, ◌<◌, ◌≤◌, ◌⊎◌, inl, inr, Bool, true, false, ◌==◌, nat_le, nat_lt, ◌&&◌, Option, Some, None, MatchOption, refl, sym, subst, ap, ◌∙◌, arith}
+use Rattle.std.proofs.Common.{◌≡◌, ◌≢◌, ℕ, suc, ◌+◌, ◌-◌, ◌<◌, ◌≤◌, ◌⊎◌, inl, inr, Bool, true, false, ◌==◌, nat_lt, ◌&&◌, Some, refl, sym, subst, ap, ◌∙◌, arith}
 use Rattle.std.proofs.lemmas.Bool.Decides.{nat_tests}
 use Rattle.jiff_core.specs.Weekday.{monday_zero}
-use Rattle.ics_values.specs.Sets.{IsLeastFrom}
 use Rattle.ics_values.specs.Places.{lists_none_wide}
 use Rattle.ics_rule.specs.declared.filled.Filled.{Filled}
 use Rattle.ics_rule.specs.declared.period.Period.{Period}
@@ -10,14 +9,14 @@ use Rattle.ics_rule.specs.declared.cursor.Cursor.{Cursor}
 use Rattle.ics_rule.specs.Candidates.{is_stepped, period_in}
 use Rattle.ics_rule.specs.Kept.{count, is_chosen}
 use Rattle.ics_rule.specs.Periods.{first_local, IsPeriodOf, is_taken}
-use Rattle.ics_rule.specs.Cursors.{is_met, fresh, HeldBy, CountedBy, IsCounted, IsCursorIn, HasLookedIn}
-use Rattle.ics_rule.specs.Searches.{is_chosen_within, is_few, is_wanted, NoneWanted, IsNextWanted, IsWalked, LooksOnce, IsTurnOf, AllCounted, IsTurned, after_look}
+use Rattle.ics_rule.specs.Cursors.{IsCounted}
+use Rattle.ics_rule.specs.Searches.{is_few, AllCounted, IsTurned, after_look}
 use Rattle.ics_rule.proofs.PeriodLemmas.{begun, begins, first_in, period_mono, week_small}
-use Rattle.ics_rule.proofs.Counts.{count-same, count-add, count-none, count_mono, count_most, count_every}
+use Rattle.ics_rule.proofs.Counts.{count-same, count-add, count-none, count_mono, count_most}
 use Rattle.ics_rule.proofs.RankLemmas.{count_flat}
 use Rattle.ics_rule.proofs.StepLemmas.{stepped_parts, step_on, none_between, not_true}
 use Rattle.ics_rule.proofs.ChosenLemmas.{no_step, taken_is}
-use Rattle.ics_rule.proofs.CursorLemmas.{meets, within_here}
+use Rattle.ics_rule.proofs.CursorLemmas.{within_here}
 
 by_order : (a b : ℕ) → (a < b) ⊎ (b ≤ a)
 by_order a b = grind arith

@@ -17,7 +17,7 @@ use Rattle.ics_rule.specs.Candidates.{is_candidate, period_in}
 use Rattle.ics_rule.specs.Kept.{count, is_in_rule, is_kept, is_until, is_counted}
 use Rattle.ics_rule.proofs.Counts.{count-suc, count-add, count-none, count-from, count-up_to, count-once}
 use Rattle.ics_rule.proofs.KeptLemmas.{candidate_clock_of, in_rule_cases, clock_only}
-use Rattle.ics_rule.proofs.Samples.{beside, rank_in, size_in, on_weekdays, at, local, rule, mo, tu, fr, su}
+use Rattle.ics_rule.proofs.Samples.{beside, rank_in, size_in, on_weekdays, at, local, rule, tu, fr, su}
 
 -- not true is false
 is_false : (b : Bool) → (b ≡ true → ⊥) → b ≡ false

@@ -1,5 +1,5 @@
 -- How far a walk under COUNT has come.
-use Rattle.std.proofs.Common.{◌≡◌, ℕ, suc, ◌+◌, ◌-◌, ◌*◌, ◌%◌, ◌<◌, ◌≤◌, ◌⊎◌, inl, inr, Bool, true, false, ◌&&◌, Option, Some, None, MatchOption, refl, sym, subst, ap, ◌∙◌, arith}
+use Rattle.std.proofs.Common.{◌≡◌, ℕ, ◌+◌, ◌-◌, ◌*◌, ◌%◌, ◌<◌, ◌≤◌, ◌⊎◌, inl, inr, Bool, true, false, ◌&&◌, Option, Some, None, MatchOption, refl, sym, subst, ap, ◌∙◌, arith}
 use Rattle.std.proofs.lemmas.Nat.{mod-mul-add}
 use Rattle.jiff_core.specs.Weekday.{monday_zero}
 use Rattle.ics_values.specs.Sets.{IsLeastFrom}
@@ -10,13 +10,12 @@ use Rattle.ics_rule.specs.declared.cursor.Cursor.{Cursor}
 use Rattle.ics_rule.specs.Candidates.{is_stepped, period_in}
 use Rattle.ics_rule.specs.Kept.{count, is_chosen}
 use Rattle.ics_rule.specs.Periods.{first_local, IsPeriodOf, is_taken}
-use Rattle.ics_rule.specs.Cursors.{is_met, fresh, HeldBy, CountedBy, IsCounted, IsCursorIn, HasLookedIn}
-use Rattle.ics_rule.specs.Searches.{is_few, is_wanted, NoneWanted, IsNextWanted, IsWalked, LooksOnce, IsTurnOf, AllCounted, IsTurned}
+use Rattle.ics_rule.specs.Cursors.{is_met, fresh, HasBegun, HeldBy, CountedBy, IsCounted, IsCursorIn, HasLookedIn}
+use Rattle.ics_rule.specs.Searches.{is_few, is_wanted, NoneWanted, IsWalked, HoldsPeriodOf, LooksOrStays, LooksOnce, IsTurnOf, AllCounted, IsTurned}
 use Rattle.ics_rule.proofs.PeriodLemmas.{begun, begins, period_mono}
-use Rattle.ics_rule.proofs.Counts.{count_every}
 use Rattle.ics_rule.proofs.StepLemmas.{stepped_parts, stepped_shown, step_on, none_between}
 use Rattle.ics_rule.proofs.ChosenLemmas.{no_step, taken_within}
-use Rattle.ics_rule.proofs.CursorLemmas.{meets, within_here, within_facts, bounded}
+use Rattle.ics_rule.proofs.CursorLemmas.{meets, then_moves, within_here, within_facts, bounded}
 use Rattle.ics_rule.proofs.CountLemmas.{chosen_before, not_few, are_few}
 
 by_order : (a b : ℕ) → (a < b) ⊎ (b ≤ a)
@@ -39,6 +38,8 @@ pub record IsCounting (q : Filled) (start c stop number : ℕ) (before now : Cur
   pub turn : IsTurnOf q start c number now
   pub high : MatchOption now.held (Unit {0}) (λ p. p.number ≤ period_in q stop)
   pub place : now.place ≡ before.place
+  pub begun : HasBegun now.held now.steps
+  pub moved : LooksOrStays before now
   pub steps : now.steps ≤ fresh now.held
   pub looked : (a b : ℕ) → stop ≤ b → HasLookedIn q start (Some c) before a b → now.steps ≤ count (fresh now.held) (is_met q start a b)
 
@@ -54,6 +55,8 @@ counting_begins q start c stop number cursor None some e h late early own = reco
   turn = subst (λ x. MatchOption x (number ≡ period_in q start) (λ p. IsPeriodOf q p × (IsCounted q start c cursor.counted cursor.limit p × ((p.number ≡ number) ⊎ (p.number + q.interval ≡ number))))) (sym e) h;
   high = subst (λ (x : Option Period). MatchOption x (Unit {0}) (λ p. p.number ≤ period_in q stop)) (sym e) tt;
   place = refl;
+  begun = own.begun;
+  moved = inl (refl, refl);
   steps = own.steps;
   looked = λ a b s few. few.few;
 }
@@ -67,6 +70,8 @@ counting_begins q start c stop number cursor (Some p) some e h late early own =
           (held.0, (counted, inl (sym h)));
       high = subst (λ (x : Option Period). MatchOption x (Unit {0}) (λ p. p.number ≤ period_in q stop)) (sym e) (let up = period_mono q.frequency (monday_zero q.week_start) cursor.place stop (omega arith) in omega (arith, up, held.1));
       place = refl;
+      begun = own.begun;
+      moved = inl (refl, refl);
       steps = own.steps;
       looked = λ a b s few. few.few;
     }
@@ -81,7 +86,7 @@ module _ (q : Filled) (start c stop number : ℕ) (before now : Cursor) (walk : 
   -- what a walk leaves that finds nothing
   pub counting_ended : IsWalked q start (Some c) stop None before now
   counting_ended = let own = held_counting q start c stop number now.counted now.limit now.held walk.turn walk.high in
-      record { held = own.0; found = tt; steps = walk.steps; counted = own.1; looked = walk.looked }
+      record { held = own.0; found = tt; moved = walk.moved; begun = walk.begun; steps = walk.steps; counted = own.1; looked = walk.looked }
 
   pub counting_ends : period_in q (stop - 1) < number → NoneWanted q start (Some c) before.place stop
   counting_ends past n l u = walk.none n l (let m = period_mono q.frequency (monday_zero q.week_start) n (stop - 1) (omega arith) in omega (arith, m))
@@ -94,7 +99,8 @@ module _ (q : Filled) (start c stop number : ℕ) (before now : Cursor) (walk : 
 
   -- where this period is looked at
   module _ (after : Cursor) (p : Period) (some : 1 ≤ q.interval) (late : start < before.place) (early : before.place < stop) (top : number ≤ period_in q (stop - 1))
-      (turned : IsTurned q start c number after p) (place : after.place ≡ now.place) (steps : LooksOnce number now.steps now.held after.steps after.held) where
+      (turned : IsTurned q start c number after p) (place : after.place ≡ now.place)
+      (steps : LooksOnce number now.steps now.held after.steps after.held) (looks : HasBegun now.held now.steps → HasBegun after.held after.steps) (moved : LooksOrStays now after) where
     abbrev taken : ℕ → Bool
     taken = is_taken q.positions (lists_none_wide q.positions) p
 
@@ -112,6 +118,9 @@ module _ (q : Filled) (start c stop number : ℕ) (before now : Cursor) (walk : 
 
     held_at : (n : ℕ) → number ≤ period_in q n → HeldBy q after.held n
     held_at n h = subst (λ o. HeldBy q o n) (sym turned.held) (turned.product, omega (arith, turned.number, h))
+
+    holds_at : (n : ℕ) → p.number ≡ period_in q n → HoldsPeriodOf q after.held n
+    holds_at n e = subst (λ o. HoldsPeriodOf q o n) (sym turned.held) e
 
     counted_after : CountedBy q start (Some c) after
     counted_after = subst (λ o. MatchOption o (Unit {0}) (IsCounted q start c after.counted after.limit)) (sym turned.held) turned.counted
@@ -149,7 +158,9 @@ module _ (q : Filled) (start c stop number : ℕ) (before now : Cursor) (walk : 
     pub counting_found : (n : ℕ) → IsLeastFrom taken after.place n → IsWalked q start (Some c) stop (Some n) before after
     counting_found n next = record {
       held = held_at stop top_stop;
-      found = held_at n (let here = taken_here n next.passes in omega (arith, here.0));
+      found = (held_at n (let here = taken_here n next.passes in omega (arith, here.0)), (subst (λ o. HasBegun o after.steps) turned.held (looks walk.begun), holds_at n (let here = taken_here n next.passes in turned.number ∙ sym here.0)));
+      begun = looks walk.begun;
+      moved = then_moves before now after walk.moved moved;
       steps = bounded now after number steps walk.steps;
       counted = counted_after;
       looked = looked;
@@ -164,7 +175,7 @@ module _ (q : Filled) (start c stop number : ℕ) (before now : Cursor) (walk : 
     ]
 
     pub counting_stopped : IsWalked q start (Some c) stop None before after
-    counting_stopped = record { held = held_at stop top_stop; found = tt; steps = bounded now after number steps walk.steps; counted = counted_after; looked = looked }
+    counting_stopped = record { held = held_at stop top_stop; found = tt; moved = then_moves before now after walk.moved moved; begun = looks walk.begun; steps = bounded now after number steps walk.steps; counted = counted_after; looked = looked }
 
     -- or the walk goes on
     pub counting_goes_on : ((m : ℕ) → after.place ≤ m → taken m ≡ false) → IsCounting q start c stop (number + q.interval) before after
@@ -181,6 +192,8 @@ module _ (q : Filled) (start c stop number : ℕ) (before now : Cursor) (walk : 
           (turned.product, (turned.counted, inr (ap (λ x. x + q.interval) turned.number)));
       high = subst (λ (x : Option Period). MatchOption x (Unit {0}) (λ p. p.number ≤ period_in q stop)) (sym turned.held) (let t = top_stop in omega (arith, t, turned.number));
       place = place ∙ walk.place;
+      begun = looks walk.begun;
+      moved = then_moves before now after walk.moved moved;
       steps = bounded now after number steps walk.steps;
       looked = looked;
     }

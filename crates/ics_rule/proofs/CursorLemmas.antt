@@ -9,8 +9,8 @@ use Rattle.ics_rule.specs.declared.cursor.Cursor.{Cursor}
 use Rattle.ics_rule.specs.Candidates.{is_stepped, period_in}
 use Rattle.ics_rule.specs.Kept.{count, is_chosen}
 use Rattle.ics_rule.specs.Periods.{first_local, IsPeriodOf}
-use Rattle.ics_rule.specs.Cursors.{is_met, fresh, HeldBy, CountedBy, IsCursorIn, HasLookedIn, looks_from}
-use Rattle.ics_rule.specs.Searches.{is_chosen_within, is_wanted, NoneWanted, IsNextWanted, IsNextBefore, IsWalked, LooksOnce, after_look}
+use Rattle.ics_rule.specs.Cursors.{is_met, fresh, HasBegun, HeldBy, CountedBy, IsCursorIn, HasLookedIn, looks_from}
+use Rattle.ics_rule.specs.Searches.{is_chosen_within, is_wanted, IsNextWanted, IsWalked, HoldsPeriodOf, LooksOrStays, LooksOnce, after_look}
 use Rattle.ics_rule.proofs.PeriodLemmas.{begun, begins, first_in, period_mono, period_small, week_small}
 use Rattle.ics_rule.proofs.Counts.{count_some, count_mono, count_one_more, count_every}
 use Rattle.ics_rule.proofs.StepLemmas.{step_on, none_between}
@@ -72,6 +72,24 @@ pub looks_once : (number counted : ℕ) (before now : Cursor) (p : Period) → f
 looks_once number counted before now p h e same = λ met here few.
     subst (λ (c : Cursor). c.steps ≤ count (fresh c.held) met) (sym e) (looked_at number before.steps (before.steps + 1) p.number before.held met h here few refl same)
 
+-- and after a look a period is held
+pub begins_look : (counted : ℕ) (before now : Cursor) (p : Period) → now ≡ after_look before p counted → HasBegun now.held now.steps
+begins_look counted before now p e = subst (λ (c : Cursor). HasBegun c.held c.steps) (sym e) (omega arith)
+
+-- and the steps are more
+pub looks_more : (counted : ℕ) (before now : Cursor) (p : Period) → now ≡ after_look before p counted → LooksOrStays before now
+looks_more counted before now p e = inr (subst (λ (c : Cursor). before.steps < c.steps) (sym e) (omega arith))
+
+pub never_fewer : (before now : Cursor) → LooksOrStays before now → before.steps ≤ now.steps
+never_fewer before now (inl same) = omega (arith, same.1)
+never_fewer before now (inr more) = omega (arith, more)
+
+pub then_moves : (a b c : Cursor) → LooksOrStays a b → LooksOrStays b c → LooksOrStays a c
+then_moves a b c (inl p) (inl q) = inl (q.0 ∙ p.0, q.1 ∙ p.1)
+then_moves a b c (inl p) (inr q) = inr (omega (arith, p.1, q))
+then_moves a b c (inr p) (inl q) = inr (omega (arith, p, q.1))
+then_moves a b c (inr p) (inr q) = inr (omega (arith, p, q))
+
 -- what is held stays so at a later place
 pub held_mono : (q : Filled) (held : Option Period) (n m : ℕ) → HeldBy q held n → n ≤ m → HeldBy q held m
 held_mono q None n m h l = tt
@@ -83,17 +101,30 @@ counted_at q start None c place h = tt
 counted_at q start (Some k) c place h = h
 
 pub own_at : (q : Filled) (start : ℕ) (o : Option ℕ) (c : Cursor) (place : ℕ) → IsCursorIn q start o c → c.place ≤ place → place < 315_569_520_000 → IsCursorIn q start o (record c { place = place })
-own_at q start o c place own l h = record { inside = h; held = held_mono q c.held c.place place own.held l; steps = own.steps; counted = counted_at q start o c place own.counted }
+own_at q start o c place own l h = record { inside = h; held = held_mono q c.held c.place place own.held l; begun = own.begun; steps = own.steps; counted = counted_at q start o c place own.counted }
 
 pub own_walked : (q : Filled) (start : ℕ) (o : Option ℕ) (stop : ℕ) (found : Option ℕ) (before now : Cursor) (place : ℕ) → IsWalked q start o stop found before now → stop ≤ place → place < 315_569_520_000
     → IsCursorIn q start o (record now { place = place })
 own_walked q start o stop found before now place walked l h =
-    record { inside = h; held = held_mono q now.held stop place walked.held l; steps = walked.steps; counted = counted_at q start o now place walked.counted }
+    record { inside = h; held = held_mono q now.held stop place walked.held l; begun = walked.begun; steps = walked.steps; counted = counted_at q start o now place walked.counted }
 
 pub own_found : (q : Filled) (start : ℕ) (o : Option ℕ) (stop n : ℕ) (before now : Cursor) → IsWalked q start o stop (Some n) before now → n + 1 < 315_569_520_000
     → IsCursorIn q start o (record now { place = n + 1 })
 own_found q start o stop n before now walked h =
-    record { inside = h; held = held_mono q now.held n (n + 1) walked.found (omega arith); steps = walked.steps; counted = counted_at q start o now (n + 1) walked.counted }
+    record { inside = h; held = held_mono q now.held n (n + 1) walked.found.0 (omega arith); begun = walked.begun; steps = walked.steps; counted = counted_at q start o now (n + 1) walked.counted }
+
+-- an answer in a later period than the place has taken a look
+pub counts_look : (q : Filled) (start : ℕ) (o : Option ℕ) (stop n : ℕ) (before now : Cursor) → IsCursorIn q start o before → IsWalked q start o stop (Some n) before now
+    → period_in q before.place < period_in q n → before.steps < now.steps
+counts_look q start o stop n before now own walked later = by_move walked.moved
+  where
+    not_held : (held : Option Period) → HeldBy q held before.place → HoldsPeriodOf q held n → ⊥
+    not_held None h e = e
+    not_held (Some p) h e = omega (arith, h.1, e, later)
+
+    by_move : LooksOrStays before now → before.steps < now.steps
+    by_move (inl same) = absurd (not_held before.held own.held (subst (λ o. HoldsPeriodOf q o n) same.0 walked.found.1.1))
+    by_move (inr more) = more
 
 -- places only rise
 looks_mono : (o : Option ℕ) (start a b : ℕ) → a ≤ b → looks_from o start a ≤ looks_from o start b
@@ -141,6 +172,8 @@ pub record IsWalk (q : Filled) (start stop number : ℕ) (before now : Cursor) :
   pub none : (n : ℕ) → before.place ≤ n → period_in q n < number → is_chosen q start n ≡ false
   pub held : MatchOption now.held (Unit {0}) (λ p. IsPeriodOf q p × ((p.number ≤ number) × (p.number ≤ period_in q stop)))
   pub place : now.place ≡ before.place
+  pub begun : HasBegun now.held now.steps
+  pub moved : LooksOrStays before now
   pub steps : now.steps ≤ fresh now.held
   pub looked : (a b : ℕ) → stop ≤ b → HasLookedIn q start None before a b → now.steps ≤ count (fresh now.held) (is_met q start a b)
 
@@ -158,6 +191,8 @@ walk_begins q start stop number c next h own = record {
   none = λ n l u. no_step q start n (next.least (period_in q n) (period_mono q.frequency (monday_zero q.week_start) c.place n l) u);
   held = cases_held q c.held c.place number stop own.held next.low (omega arith);
   place = refl;
+  begun = own.begun;
+  moved = inl (refl, refl);
   steps = own.steps;
   looked = λ a b s few. few.few;
 }
@@ -172,7 +207,7 @@ module _ (q : Filled) (start stop number : ℕ) (before now : Cursor) (walk : Is
   walk_ends past n l u = walk.none n l (let m = period_mono q.frequency (monday_zero q.week_start) n (stop - 1) (omega arith) in omega (arith, m))
 
   pub walk_ended : IsWalked q start None stop None before now
-  walk_ended = record { held = past now.held walk.held; found = tt; steps = walk.steps; counted = tt; looked = walk.looked }
+  walk_ended = record { held = past now.held walk.held; found = tt; moved = walk.moved; begun = walk.begun; steps = walk.steps; counted = tt; looked = walk.looked }
     where
       past : (o : Option Period) → MatchOption o (Unit {0}) (λ p. IsPeriodOf q p × ((p.number ≤ number) × (p.number ≤ period_in q stop))) → HeldBy q o stop
       past None h = tt
@@ -184,7 +219,8 @@ module _ (q : Filled) (start stop number : ℕ) (before now : Cursor) (walk : Is
 
   -- a look in a period
   module _ (after : Cursor) (h : before.place < stop) (top : number ≤ period_in q (stop - 1))
-      (held : MatchOption after.held ⊥ (λ p. IsPeriodOf q p × (p.number ≡ number))) (place : after.place ≡ now.place) (steps : LooksOnce number now.steps now.held after.steps after.held) where
+      (held : MatchOption after.held ⊥ (λ p. IsPeriodOf q p × (p.number ≡ number))) (place : after.place ≡ now.place)
+      (steps : LooksOnce number now.steps now.held after.steps after.held) (looks : HasBegun now.held now.steps → HasBegun after.held after.steps) (moved : LooksOrStays now after) where
     looked : (a b : ℕ) → stop ≤ b → HasLookedIn q start None before a b → after.steps ≤ count (fresh after.held) (is_met q start a b)
     looked a b s few = steps (is_met q start a b) (meets q start a b before.place stop number few.low h s walk.step walk.low top) (walk.looked a b s few)
 
@@ -203,15 +239,15 @@ module _ (q : Filled) (start stop number : ℕ) (before now : Cursor) (walk : Is
     }
 
     pub walk_found : (n : ℕ) → IsLeastFrom (is_chosen_within q start number) now.place n → IsWalked q start None stop (Some n) before after
-    walk_found n next = record { held = below after.held held; found = here after.held held; steps = bounded now after number steps walk.steps; counted = tt; looked = looked }
+    walk_found n next = record { held = below after.held held; found = here after.held held (looks walk.begun); moved = then_moves before now after walk.moved moved; begun = looks walk.begun; steps = bounded now after number steps walk.steps; counted = tt; looked = looked }
       where
         below : (o : Option Period) → MatchOption o ⊥ (λ p. IsPeriodOf q p × (p.number ≡ number)) → HeldBy q o stop
         below None h = absurd h
         below (Some p) h = (h.0, (let m = period_mono q.frequency (monday_zero q.week_start) (stop - 1) stop (omega arith) in omega (arith, h.1, m, top)))
 
-        here : (o : Option Period) → MatchOption o ⊥ (λ p. IsPeriodOf q p × (p.number ≡ number)) → HeldBy q o n
-        here None h = absurd h
-        here (Some p) h = (h.0, (let own = within_facts q start number n next.passes in omega (arith, h.1, own.0)))
+        here : (o : Option Period) → MatchOption o ⊥ (λ p. IsPeriodOf q p × (p.number ≡ number)) → HasBegun o after.steps → HeldBy q o n × ((1 ≤ after.steps) × HoldsPeriodOf q o n)
+        here None h some = absurd h
+        here (Some p) h some = let own = within_facts q start number n next.passes in ((h.0, omega (arith, h.1, own.0)), (some, h.1 ∙ sym own.0))
 
     -- and where it finds none the walk goes on
     pub walk_goes_on : 1 ≤ q.interval → ((n : ℕ) → now.place ≤ n → is_chosen_within q start number n ≡ false) → IsWalk q start stop (number + q.interval) before after
@@ -227,6 +263,8 @@ module _ (q : Filled) (start stop number : ℕ) (before now : Cursor) (walk : Is
       ];
       held = past after.held held;
       place = place ∙ walk.place;
+      begun = looks walk.begun;
+      moved = then_moves before now after walk.moved moved;
       steps = bounded now after number steps walk.steps;
       looked = looked;
     }
@@ -240,8 +278,8 @@ walk_reach q number stop h = let b = begun q.frequency (monday_zero q.week_start
 
 -- a cursor that has looked at nothing
 pub cursor_begins : (q : Filled) (start : ℕ) (o : Option ℕ) (place : ℕ) → place < 315_569_520_000 → IsCursorIn q start o (record { place = place; steps = 0; held = None; counted = 0; limit = 0 })
-cursor_begins q start None place h = record { inside = h; held = tt; steps = omega arith; counted = tt }
-cursor_begins q start (Some c) place h = record { inside = h; held = tt; steps = omega arith; counted = tt }
+cursor_begins q start None place h = record { inside = h; held = tt; begun = tt; steps = omega arith; counted = tt }
+cursor_begins q start (Some c) place h = record { inside = h; held = tt; begun = tt; steps = omega arith; counted = tt }
 
 pub looked_none : (q : Filled) (start : ℕ) (o : Option ℕ) (place from b : ℕ) → place ≡ from → HasLookedIn q start o (record { place = place; steps = 0; held = None; counted = 0; limit = 0 }) (looks_from o start from) b
 looked_none q start None place from b e = record { low = omega (arith, e); few = omega arith }

@@ -1,17 +1,17 @@
 -- The date after a date, and the first of the month after it.
-use Rattle.std.proofs.Common.{◌≡◌, ℕ, suc, ◌+◌, ◌-◌, ◌*◌, ◌/◌, ◌%◌, ◌<◌, ◌≤◌, ◌⊎◌, inl, inr, Bool, true, false, ◌&&◌, nat_lt, List, ◌==◌, ◌||◌, pos, refl, sym, subst, ap, ◌∙◌, arith}
+use Rattle.std.proofs.Common.{◌≡◌, ℕ, suc, ◌+◌, ◌-◌, ◌<◌, ◌≤◌, ◌⊎◌, inl, inr, Bool, true, false, ◌&&◌, nat_lt, List, ◌==◌, ◌||◌, pos, refl, sym, subst, ap, ◌∙◌, arith}
 use Rattle.std.proofs.lemmas.Bool.Decides.{nat_tests}
-use Rattle.jiff_core.specs.Calendar.{IsCivilDate, IsYear, days_of_months, days_in_month, days_in_year}
+use Rattle.jiff_core.specs.Calendar.{IsCivilDate, IsYear, days_of_months, days_in_month}
 use Rattle.jiff_core.specs.Weekday.{monday_zero}
 use Rattle.jiff_core.proofs.SignedLemmas.{signed_arith}
 use Rattle.jiff_core.proofs.CalendarLemmas.{day_count-day_of_year, day_of_year_bound, days_of_months_more, days_of_months_all, days_of_months-zero, days_in_month_bounds}
-use Rattle.ics_values.specs.Days.{days_before_year, year_of, year_day_of, month_of, weekday_of}
+use Rattle.ics_values.specs.Days.{days_before_year, year_day_of, month_of, weekday_of}
 use Rattle.ics_values.specs.Fields.{IsCivilOf}
 use Rattle.ics_values.specs.declared.fields.Civil.{Civil}
 use Rattle.ics_values.specs.Sets.{has_wide, none_wide}
 use Rattle.ics_values.proofs.DayLemmas.{fields_of, day_count_is, year_under_way, days_before_year-next, days_before_year_mono, Fields}
 use Rattle.ics_rule.specs.declared.filled.Filled.{Filled}
-use Rattle.ics_rule.specs.Candidates.{lets, lets_place, lets_wide_place, lets_week, lets_weekday, lets_date}
+use Rattle.ics_rule.specs.Candidates.{lets, lets_week, lets_weekday, lets_date}
 use Rattle.ics_rule.proofs.DateLemmas.{out_1}
 use Rattle.ics_rule.proofs.ScanLemmas.{none_has, one_more, no_more}
 

@@ -1,14 +1,14 @@
 -- What the definitions mean, in other words.
-use Rattle.std.proofs.Common.{◌≡◌, ◌≢◌, ℕ, zero, suc, ◌+◌, ◌-◌, ◌*◌, ◌/◌, ◌%◌, ◌<◌, ◌≤◌, ◌⊎◌, inl, inr, Bool, true, false, cond, nat_lt, ◌==◌, Some, pos, refl, sym, subst, ap, ◌∙◌, arith}
+use Rattle.std.proofs.Common.{◌≡◌, ◌≢◌, ℕ, zero, suc, ◌+◌, ◌-◌, ◌*◌, ◌%◌, ◌<◌, ◌≤◌, ◌⊎◌, inl, inr, Bool, true, false, cond, nat_lt, Some, pos, refl, sym, subst, ap, arith}
 use Rattle.std.proofs.lemmas.Bool.Decides.{nat_tests}
 use Rattle.jiff_core.specs.Calendar.{days_in_year}
 use Rattle.jiff_core.proofs.CalendarLemmas.{days_in_year_bounds}
 use Rattle.ics_values.specs.Days.{days_before_year, year_of, year_day_of}
 use Rattle.ics_values.proofs.DayLemmas.{year_under_way, year_of_is, days_before_year-next, days_before_year_mono}
 use Rattle.ics_rule.specs.Recurrence.{Recurrence}
-use Rattle.ics_rule.specs.Locals.{number, week_of, rules_end}
+use Rattle.ics_rule.specs.Locals.{number, week_of}
 use Rattle.ics_rule.specs.Candidates.{fourth_day, week_number, weeks_of_year}
-use Rattle.ics_rule.specs.Kept.{count, is_in_rule, is_kept, is_counted, is_until}
+use Rattle.ics_rule.specs.Kept.{count, is_in_rule, is_kept, is_counted}
 use Rattle.ics_rule.proofs.Counts.{count-none}
 use Rattle.ics_rule.proofs.KeptLemmas.{and_true, or_true, eqb_true, ltb_true}
 use Rattle.ics_rule.proofs.NextLemmas.{in_rule_start, in_rule_earlier}
@@ -84,7 +84,7 @@ week_fourth w e h late =
     not_less : (a b : ℕ) → b ≤ a → nat_lt a b ≡ false
     not_less a b h = grind (arith, nat_tests)
 
-year_day_is : (f : ℕ) → year_day_of f + days_before_year (year_of f) ≡ f + 1
+pub year_day_is : (f : ℕ) → year_day_of f + days_before_year (year_of f) ≡ f + 1
 unfolding year_day_of
 year_day_is f = let u = year_under_way f in omega (arith, u.0)
 

@@ -21,3 +21,4 @@ pub mod Placed
 pub mod LastWeekday
 pub mod DayWalkLemmas
 pub mod LawLemmas
+pub mod IsoWeeks

@@ -1,5 +1,5 @@
 -- Rules and locals to try the definitions on.
-use Rattle.std.proofs.Common.{ℕ, Bool, ◌+◌, ◌-◌, ◌*◌, ◌%◌, [], ◌∷◌, pos, ◌-ℤ◌, set, arith}
+use Rattle.std.proofs.Common.{ℕ, Bool, ◌+◌, ◌-◌, ◌*◌, ◌%◌, pos, ◌-ℤ◌, set, arith}
 use Rattle.jiff_core.specs.Calendar.{days_of_months}
 use Rattle.ics_values.specs.declared.local.Local.{Local}
 use Rattle.ics_values.specs.declared.places.Weekdays.{Weekdays}

@@ -1,7 +1,7 @@
 -- A cursor's place, and how many periods it looks at.
-use Rattle.std.specs.Prelude.{◌≡◌, ℕ, suc, ◌+◌, ◌-◌, ◌<◌, ◌≤◌, Bool, ◌&&◌, ◌==◌, nat_le, nat_lt, Option, Some, None, MatchOption, true}
+use Rattle.std.specs.Prelude.{◌≡◌, ℕ, suc, ◌+◌, ◌<◌, ◌≤◌, Bool, ◌&&◌, ◌==◌, nat_le, nat_lt, Option, Some, None, MatchOption, true}
 use Rattle.jiff_core.specs.Weekday.{monday_zero}
-use Rattle.ics_values.specs.Sets.{IsLeastFrom}
+use Rattle.ics_values.specs.declared.local.Local.{Local}
 use Rattle.ics_rule.specs.declared.filled.Filled.{Filled}
 use Rattle.ics_rule.specs.declared.period.Period.{Period}
 use Rattle.ics_rule.specs.declared.cursor.Cursor.{Cursor}
@@ -25,6 +25,14 @@ period_count r a b = count calendar_end (is_met (filled r) (number r.start) a b)
 -- where a cursor stands: what it answers later is not earlier
 abbrev pub place_of : Cursor → ℕ
 place_of c = c.place
+
+-- how many periods it has looked at
+abbrev pub steps_of : Cursor → ℕ
+steps_of c = c.steps
+
+-- a period is held only after a look
+abbrev pub HasBegun : Option Period → ℕ → Type 0
+HasBegun held steps = MatchOption held (Unit {0}) (λ p. 1 ≤ steps)
 
 -- the first number that no period looked at has reached
 abbrev pub fresh : Option Period → ℕ
@@ -51,8 +59,17 @@ CountedBy q start (Some c) cursor = MatchOption cursor.held (Unit {0}) (IsCounte
 pub record IsCursorIn (q : Filled) (start : ℕ) (o : Option ℕ) (c : Cursor) : Type 0 where
   pub inside : c.place < calendar_end
   pub held : HeldBy q c.held c.place
+  pub begun : HasBegun c.held c.steps
   pub steps : c.steps ≤ fresh c.held
   pub counted : CountedBy q start o c
+
+-- what the steps of a cursor say of an answer past the start: it comes from a period that was looked at, and one in a later period than
+-- the cursor's place from a new look
+pub record HasCounted (r : Recurrence) (answer : Option Local) (before now : Cursor) : Type 0 where
+  pub rise : steps_of before ≤ steps_of now
+  pub some : MatchOption answer (Unit {0}) (λ local. number r.start < number local → 1 ≤ steps_of now)
+  pub more : MatchOption answer (Unit {0})
+      (λ local. number r.start < number local → period_in (filled r) (place_of before) < period_in (filled r) (number local) → steps_of before < steps_of now)
 
 -- a cursor of a rule
 unfoldable pub IsCursorOf : Recurrence → Cursor → Type 0

@@ -2,6 +2,7 @@ pub mod Recurrence
 pub mod Locals
 pub mod Filled
 pub mod Candidates
+pub mod IsoWeeks
 pub mod Dates
 pub mod Kept
 pub mod Periods

@@ -1,12 +1,11 @@
 -- The locals of a period, and a period as a product of sets.
-use Rattle.std.specs.Prelude.{◌≡◌, ℕ, suc, ◌+◌, ◌-◌, ◌*◌, ◌/◌, ◌%◌, ◌^◌, ◌<◌, ◌≤◌, Bool, ◌&&◌, ◌==◌, nat_le, pos, true, false, List, Option, MatchOption}
+use Rattle.std.specs.Prelude.{◌≡◌, ℕ, ◌+◌, ◌-◌, ◌*◌, ◌/◌, ◌%◌, ◌^◌, ◌<◌, ◌≤◌, Bool, ◌&&◌, ◌==◌, nat_le, pos, true, false, List, Option, MatchOption}
 use Rattle.jiff_core.specs.Calendar.{days_of_months}
 use Rattle.ics_values.specs.Days.{days_before_year}
 use Rattle.ics_values.specs.Sets.{has, has_wide, IsLeastFrom}
 use Rattle.ics_values.specs.declared.frequency.Frequency.{Frequency}
 use Rattle.ics_values.specs.declared.frequency.Frequency.TheVariants.{Secondly, Minutely, Hourly, Daily, Weekly, Monthly, Yearly}
 use Rattle.ics_values.specs.declared.places.WidePlaces.{WidePlaces}
-use Rattle.ics_values.specs.Places.{lists_none_wide}
 use Rattle.ics_rule.specs.declared.filled.Filled.{Filled}
 use Rattle.ics_rule.specs.declared.period.Period.{Period}
 use Rattle.ics_rule.specs.Locals.{day_of, calendar_end}

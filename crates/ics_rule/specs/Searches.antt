@@ -8,7 +8,7 @@ use Rattle.ics_rule.specs.declared.cursor.Cursor.{Cursor}
 use Rattle.ics_rule.specs.Candidates.{period_in}
 use Rattle.ics_rule.specs.Kept.{count, is_chosen}
 use Rattle.ics_rule.specs.Periods.{first_local, IsPeriodOf}
-use Rattle.ics_rule.specs.Cursors.{is_met, fresh, HeldBy, CountedBy, HasLookedIn, IsCounted}
+use Rattle.ics_rule.specs.Cursors.{is_met, fresh, HasBegun, HeldBy, CountedBy, HasLookedIn, IsCounted}
 
 -- a local of the period with a number that is a candidate and that BYSETPOS lets in
 abbrev pub is_chosen_within : Filled → ℕ → ℕ → ℕ → Bool
@@ -37,10 +37,20 @@ pub record IsNextBefore (q : Filled) (start : ℕ) (o : Option ℕ) (place stop 
   pub least : IsLeastFrom (is_wanted q start o) place n
   pub in_bound : n < stop
 
+-- the period held is that of local n
+abbrev pub HoldsPeriodOf : Filled → Option Period → ℕ → Type 0
+HoldsPeriodOf q held n = MatchOption held ⊥ (λ p. p.number ≡ period_in q n)
+
+-- a cursor has looked at a period, or holds what it held
+abbrev pub LooksOrStays : Cursor → Cursor → Type 0
+LooksOrStays before now = ((now.held ≡ before.held) × (now.steps ≡ before.steps)) ⊎ (before.steps < now.steps)
+
 -- what a walk over the periods up to a bound leaves of a cursor
 pub record IsWalked (q : Filled) (start : ℕ) (o : Option ℕ) (stop : ℕ) (answer : Option ℕ) (before now : Cursor) : Type 0 where
   pub held : HeldBy q now.held stop
-  pub found : MatchOption answer (Unit {0}) (λ n. HeldBy q now.held n)
+  pub found : MatchOption answer (Unit {0}) (λ n. HeldBy q now.held n × ((1 ≤ now.steps) × HoldsPeriodOf q now.held n))
+  pub moved : LooksOrStays before now
+  pub begun : HasBegun now.held now.steps
   pub steps : now.steps ≤ fresh now.held
   pub counted : CountedBy q start o now
   pub looked : (a b : ℕ) → stop ≤ b → HasLookedIn q start o before a b → now.steps ≤ count (fresh now.held) (is_met q start a b)

@@ -3,8 +3,8 @@ ghost use Rattle.std.specs.Prelude.{◌≡◌, ℕ, ◌<◌, ◌≤◌, ◌+◌,
 ghost use Rattle.jiff_core.specs.Weekday.{monday_zero};
 ghost use Rattle.ics_rule.specs.Candidates.{is_stepped, period_in};
 ghost use Rattle.ics_rule.specs.Periods.{first_local};
-ghost use Rattle.ics_rule.specs.Cursors.{IsCursorIn};
-ghost use Rattle.ics_rule.specs.Searches.{IsNextWanted, IsWalked, LooksOnce, IsTurnOf, AllCounted, IsTurned};
+ghost use Rattle.ics_rule.specs.Cursors.{HasBegun, IsCursorIn};
+ghost use Rattle.ics_rule.specs.Searches.{IsNextWanted, IsWalked, LooksOrStays, LooksOnce, IsTurnOf, AllCounted, IsTurned};
 
 use crate::cursor::Cursor;
 use crate::filled::Filled;
@@ -29,6 +29,8 @@ impl Cursor {
         ensures turned { MatchOption result
             (AllCounted parts.now start count number × (self.new ≡ self.old))
             (IsTurned parts.now start count number self.new) }
+        ensures moved { LooksOrStays self.old self.new }
+        ensures begun { HasBegun self.old.held self.old.steps → HasBegun self.new.held self.new.steps }
         ensures steps { LooksOnce number self.old.steps self.old.held self.new.steps self.new.held }
     {
         match self.held {

@@ -42,7 +42,8 @@ fn until_end(kind: Kind, until: Option<Until>) -> u64
     }
 }
 
-/// A place among the locals of a rule, with the period that was looked at last.
+/// A place among the locals of a rule, with the period that was looked at last (RFC 5545, 3.3.10). It holds at most one period, and takes no
+/// memory. Each call names the rule that the cursor was made for.
 #[derive(Clone, Copy)]
 pub struct Cursor {
     pub(crate) place: u64,
@@ -62,13 +63,14 @@ impl Cursor {
     ghost use Rattle.ics_rule.specs.Candidates.{period_in};
     ghost use Rattle.ics_rule.specs.Periods.{first_local, IsPeriodOf};
     ghost use Rattle.ics_rule.specs.Next.{IsNextKept, NoneKept};
-    ghost use Rattle.ics_rule.specs.Cursors.{period_count, place_of, looks_from, IsCursorOf, HasLooked, IsCursorIn, HasLookedIn};
+    ghost use Rattle.ics_rule.specs.Cursors.{period_count, place_of, steps_of, looks_from, IsCursorOf, HasCounted, HasLooked, IsCursorIn, HasLookedIn};
     ghost use Rattle.ics_rule.specs.Searches.{NoneWanted, IsNextWanted, IsNextBefore, IsWalked, after_look};
 
-    /// At a local, whether or not the rule keeps it. No period is looked at.
+    /// At a local of the years 0000 to 9999, whether or not the rule keeps it. No period is looked at.
     pub fn at(_rule: &Rule, from: Local) -> Cursor
         requires { IsDayNumber from.day }
         ensures place { place_of result ≡ number from }
+        ensures steps { steps_of result ≡ 0 }
         ensures own { IsCursorOf _rule.now result }
         ensures looked { (b : ℕ) → HasLooked _rule.now result (looks_from _rule.now.parts.count (number _rule.now.start) (number from)) b }
     {
@@ -126,6 +128,10 @@ impl Cursor {
             (NoneWanted (filled rule.now) start rule.now.parts.count self.old.place stop × (self.new.place ≡ max self.old.place end))
             (λ n. IsNextBefore (filled rule.now) start rule.now.parts.count self.old.place stop n × (self.new.place ≡ n + 1)) }
         ensures own { IsCursorIn (filled rule.now) start rule.now.parts.count self.new }
+        ensures rise { self.old.steps ≤ self.new.steps }
+        ensures shown { MatchOption result (Unit {0}) (λ n. start < n → 1 ≤ self.new.steps) }
+        ensures counts { MatchOption result (Unit {0})
+            (λ n. start < n → period_in (filled rule.now) self.old.place < period_in (filled rule.now) n → self.old.steps < self.new.steps) }
         ensures looked { (a b : ℕ) → end ≤ b → HasLookedIn (filled rule.now) start rule.now.parts.count self.old a b
             → HasLookedIn (filled rule.now) start rule.now.parts.count self.new a b }
     {
@@ -153,6 +159,10 @@ impl Cursor {
             (NoneKept rule.now self.old.place end × (self.new.place ≡ max self.old.place end))
             (λ n. IsNextKept rule.now self.old.place end n × (self.new.place ≡ n + 1)) }
         ensures own { IsCursorIn (filled rule.now) start rule.now.parts.count self.new }
+        ensures rise { self.old.steps ≤ self.new.steps }
+        ensures shown { MatchOption result (Unit {0}) (λ n. start < n → 1 ≤ self.new.steps) }
+        ensures counts { MatchOption result (Unit {0})
+            (λ n. start < n → period_in (filled rule.now) self.old.place < period_in (filled rule.now) n → self.old.steps < self.new.steps) }
         ensures looked { (a b : ℕ) → end ≤ b → HasLookedIn (filled rule.now) start rule.now.parts.count self.old a b
             → HasLookedIn (filled rule.now) start rule.now.parts.count self.new a b }
     {
@@ -169,8 +179,10 @@ impl Cursor {
         self.search(rule, start, stop, end)
     }
 
-    /// The next kept local from the place on that is earlier than `before`, a bound up to 9801-01-01. The place is then just after it. Where
-    /// there is none the place is the bound, or stays if the bound is earlier.
+    /// The next kept local from the place on that is earlier than `before`, a bound up to 9801-01-01 (RFC 5545, 3.3.10). The place is then
+    /// just after it. Where there is none the place is the bound, or stays if the bound is earlier, and a call with a later bound goes on from
+    /// there. Each answer past the start comes from a period that was looked at, and one in a later period than the place from a new look.
+    /// Without COUNT the cursor goes straight to the first period at or after its place; under COUNT it begins at the start's.
     pub fn next(&mut self, rule: &Rule, before: Local) -> Option<Local>
         requires bound { IsDayNumber before.day }
         requires early { number before ≤ 309289708800 }
@@ -179,15 +191,18 @@ impl Cursor {
             (NoneKept rule.now (place_of self.old) (number before) × (place_of self.new ≡ max (place_of self.old) (number before)))
             (λ local. IsNextKept rule.now (place_of self.old) (number before) (number local) × (place_of self.new ≡ number local + 1)) }
         ensures own { IsCursorOf rule.now self.new }
+        ensures counted { HasCounted rule.now result self.old self.new }
         ensures looked { (a b : ℕ) → number before ≤ b → HasLooked rule.now self.old a b → HasLooked rule.now self.new a b }
     {
         let n = self.next_number(rule, number(rule.start), number(before))?;
         Some(local_of(n))
     }
 
-    /// How many periods of the rule were looked at.
+    /// How many periods of the rule were looked at: at most those that hold a local from the first place on, under COUNT from the start on, and
+    /// earlier than the greatest bound so far.
     pub fn steps(&self) -> u64
-        ensures { (r : Recurrence) (a b : ℕ) → IsCursorOf r self.now → HasLooked r self.now a b → result ≤ period_count r a b }
+        ensures value { result ≡ steps_of self.now }
+        ensures most { (r : Recurrence) (a b : ℕ) → IsCursorOf r self.now → HasLooked r self.now a b → result ≤ period_count r a b }
     {
         self.steps
     }

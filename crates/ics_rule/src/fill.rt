@@ -1,5 +1,6 @@
 //! How a rule is filled from the start of its event.
-ghost use Rattle.std.specs.Prelude.{◌≡◌, ℕ, ◌<◌, ◌≤◌, ◌/◌};
+ghost use Rattle.std.specs.Prelude.{◌≡◌, ℕ, ◌<◌, ◌≤◌, ◌/◌, if◌then◌else◌};
+ghost use Rattle.ics_values.specs.Sets.{only};
 ghost use Rattle.ics_values.specs.Fields.{IsCivilOf};
 ghost use Rattle.ics_rule.specs.Filled.{names_no_day, takes_month_day, takes_month, takes_weekday, skips_hours, skips_minutes, skips_seconds, clock_part, only_place, only_weekday, filled_at};
 
@@ -102,6 +103,42 @@ fn only_weekday(weekday: u8) -> Weekdays
     weekdays
 }
 
+/// BYMONTH, or the month that the rule takes.
+fn months(parts: &Parts, month: u8) -> Numbers
+    requires { month < 64 }
+    ensures { result ≡ (if takes_month parts.now.frequency parts.now then only month else parts.now.months) }
+{
+    if takes_month(parts) {
+        Numbers::only(month)
+    } else {
+        parts.months()
+    }
+}
+
+/// BYMONTHDAY, or the day of the month that the rule takes.
+fn month_days(parts: &Parts, day: u8) -> Places
+    requires { day < 64 }
+    ensures { result ≡ (if takes_month_day parts.now.frequency parts.now then only_place day else parts.now.month_days) }
+{
+    if takes_month_day(parts) {
+        only_place(day)
+    } else {
+        parts.month_days()
+    }
+}
+
+/// BYDAY, or the weekday that the rule takes.
+fn weekdays(parts: &Parts, weekday: u8) -> Weekdays
+    requires { weekday < 7 }
+    ensures { result ≡ (if takes_weekday parts.now.frequency parts.now then only_weekday weekday else parts.now.weekdays) }
+{
+    if takes_weekday(parts) {
+        only_weekday(weekday)
+    } else {
+        parts.weekdays()
+    }
+}
+
 /// The rule of an event that starts at the local with this number.
 pub(crate) fn fill(parts: &Parts, kind: Kind, start: u64) -> Filled
     requires { start < 315569520000 }
@@ -114,23 +151,11 @@ pub(crate) fn fill(parts: &Parts, kind: Kind, start: u64) -> Filled
         frequency,
         interval: parts.interval(),
         week_start: parts.week_start(),
-        months: if takes_month(parts) {
-            Numbers::only(fields.month)
-        } else {
-            parts.months()
-        },
-        month_days: if takes_month_day(parts) {
-            only_place(fields.day)
-        } else {
-            parts.month_days()
-        },
+        months: months(parts, fields.month),
+        month_days: month_days(parts, fields.day),
         year_days: parts.year_days(),
         weeks: parts.weeks(),
-        weekdays: if takes_weekday(parts) {
-            only_weekday(fields.weekday.index())
-        } else {
-            parts.weekdays()
-        },
+        weekdays: weekdays(parts, fields.weekday.index()),
         hours: clock_part(
             kind,
             skips_hours(frequency),

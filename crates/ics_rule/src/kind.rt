@@ -1,8 +1,10 @@
 //! What kind of event a rule belongs to.
 
-/// Whether the event's stamps are dates or date-times.
+/// Whether the event's stamps are dates or date-times (RFC 5545, 3.8.2.4).
 #[derive(Clone, Copy, Debug, PartialEq, Eq)]
 pub enum Kind {
+    /// Days (RFC 5545, 3.3.4). The clock of each local is at zero, whatever the rule says of it.
     Date,
+    /// Days with a time (RFC 5545, 3.3.5).
     DateTime,
 }

@@ -52,7 +52,8 @@ impl Rule {
     ghost use Rattle.ics_rule.specs.Candidates.{is_candidate};
     ghost use Rattle.ics_rule.specs.Kept.{until_moment};
 
-    /// The rule of an event that starts at a local of the calendar.
+    /// The rule of an event that starts at a local of the years 0000 to 9999. What the text leaves out is taken from the start
+    /// (RFC 5545, 3.3.10).
     pub fn new(parts: Parts, start: Local, kind: Kind) -> Rule
         requires { IsDayNumber start.day }
         ensures { result ≡ record { parts = parts; start = start; kind = kind } }
@@ -66,7 +67,8 @@ impl Rule {
         }
     }
 
-    /// Whether each part of the rule lets a local of the years 0000 to 9998 in, BYSETPOS, COUNT and UNTIL apart.
+    /// Whether each part of the rule lets a local of the years 0000 to 9998 in, BYSETPOS, COUNT and UNTIL apart (RFC 5545, 3.3.10). The start
+    /// is kept also where this is false of it.
     pub fn admits(&self, local: Local) -> bool
         requires day { IsDayNumber local.day }
         requires before_9999 { local.day ≤ℤ pos 2_932_531 }
@@ -80,7 +82,8 @@ impl Rule {
     }
 
     #[tactic(auto, unfolding(crate::specs::Kept::until_moment))]
-    /// An UNTIL in UTC, where the event has date-times: it bounds instants, and no local.
+    /// An UNTIL in UTC, where the event has date-times, in seconds since 1970-01-01T00:00:00 UTC (RFC 5545, 3.3.10): it bounds instants, both
+    /// ends included, and no local.
     pub fn until_moment(&self) -> Option<Moment>
         ensures { result ≡ until_moment self.now }
     {

@@ -98,6 +98,20 @@ fn last_workdays_are_counted(rt: HostRuntime) {
 }
 
 #[test]
+fn first_of_the_week_counts_days_before_the_start(rt: HostRuntime) {
+    // from Wednesday 2024-01-03 09:00; Thursday is the second of its week, so 2024-01-08 is next
+    let mut parts = Parts::new(Frequency::Weekly);
+    parts.add_weekday(Weekday::Monday);
+    parts.add_weekday(Weekday::Thursday);
+    parts.add_position(Side::Front, 1);
+    let rule = Rule::new(parts, at(19_725, 32_400), Kind::DateTime);
+    let mut cursor = Cursor::at(&rule, at(19_725, 0));
+    assert_eq!(rt; cursor.next(&rule, at(19_737, 0)), Some(at(19_725, 32_400)));
+    assert_eq!(rt; cursor.next(&rule, at(19_737, 0)), Some(at(19_730, 32_400)));
+    assert_eq!(rt; cursor.next(&rule, at(19_737, 0)), None);
+}
+
+#[test]
 fn fridays_the_thirteenth(rt: HostRuntime) {
     // from 1997-09-02 09:00, which does not fit: then 1998-02-13
     let mut parts = Parts::new(Frequency::Monthly);

@@ -4,8 +4,8 @@ ghost use Rattle.jiff_core.specs.Weekday.{monday_zero};
 ghost use Rattle.ics_values.specs.Sets.{IsLeastFrom, IsNextIn};
 ghost use Rattle.ics_rule.specs.Candidates.{is_stepped, period_in};
 ghost use Rattle.ics_rule.specs.Periods.{first_local, IsPeriodOf};
-ghost use Rattle.ics_rule.specs.Cursors.{IsCursorIn};
-ghost use Rattle.ics_rule.specs.Searches.{is_chosen_within, IsNextWanted, IsWalked, LooksOnce};
+ghost use Rattle.ics_rule.specs.Cursors.{HasBegun, IsCursorIn};
+ghost use Rattle.ics_rule.specs.Searches.{is_chosen_within, IsNextWanted, IsWalked, LooksOrStays, LooksOnce};
 
 use crate::cursor::Cursor;
 use crate::filled::Filled;
@@ -39,6 +39,8 @@ impl Cursor {
         ensures small { IfSome result (λ n. n < 2 ^ 63) }
         ensures place { self.new.place ≡ self.old.place }
         ensures held { MatchOption self.new.held ⊥ (λ p. IsPeriodOf parts.now p × (p.number ≡ number)) }
+        ensures moved { LooksOrStays self.old self.new }
+        ensures begun { HasBegun self.old.held self.old.steps → HasBegun self.new.held self.new.steps }
         ensures steps { LooksOnce number self.old.steps self.old.held self.new.steps self.new.held }
     {
         let place = self.place;

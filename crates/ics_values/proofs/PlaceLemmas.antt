@@ -1,5 +1,5 @@
 -- Places keep within their range.
-use Rattle.std.proofs.Common.{◌≡◌, ℕ, zero, suc, ◌<◌, ◌≤◌, ◌/◌, ◌⊎◌, inl, inr, ◌≢◌, List, [], ◌∷◌, length, get_or, set, get_or-set_same, get_or-set_other, sym, subst, refl, arith}
+use Rattle.std.proofs.Common.{◌≡◌, ℕ, ◌<◌, ◌≤◌, ◌/◌, ◌⊎◌, inl, inr, ◌≢◌, length, get_or-set_same, get_or-set_other, arith}
 use Rattle.std.proofs.lemmas.Bool.Decides.{nat_tests}
 use Rattle.std.proofs.lemmas.List.{set_past}
 use Rattle.jiff_core.specs.declared.civil.weekday.Weekday.{Weekday}
@@ -11,7 +11,7 @@ use Rattle.ics_values.specs.declared.places.Places.{Places}
 use Rattle.ics_values.specs.declared.places.WidePlaces.{WidePlaces}
 use Rattle.ics_values.specs.declared.places.Weekdays.{Weekdays}
 use Rattle.ics_values.specs.Sets.{has, has_wide, with_number, with_wide_number, IsWithin}
-use Rattle.ics_values.specs.Places.{no_places, numbers_of, with_place, with_wide_place, with_weekday, with_numbered_weekday}
+use Rattle.ics_values.specs.Places.{numbers_of, with_place, with_wide_place, with_weekday, with_numbered_weekday}
 use Rattle.ics_values.specs.RuleParts.{ArePlaces, AreWidePlaces}
 use Rattle.ics_values.proofs.SetLemmas.{within_more, has-with_number, has_wide-with_number}
 

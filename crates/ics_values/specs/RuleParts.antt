@@ -1,5 +1,5 @@
 -- The value of a recurrence rule text (RFC 5545, 3.3.10).
-use Rattle.std.specs.Prelude.{◌≡◌, ℕ, ◌≤◌, ◌<◌, Option, Some, None, true, MatchOption}
+use Rattle.std.specs.Prelude.{ℕ, ◌≤◌, Option, None, MatchOption}
 use Rattle.jiff_core.specs.declared.civil.weekday.Weekday.{Weekday}
 use Rattle.jiff_core.specs.declared.civil.weekday.Weekday.TheVariants.{Monday}
 use Rattle.ics_values.specs.declared.frequency.Frequency.{Frequency}

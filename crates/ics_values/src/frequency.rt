@@ -1,6 +1,6 @@
 //! How often a recurrence rule repeats.
 
-/// FREQ (RFC 5545, 3.3.10).
+/// FREQ, the length of a rule's periods (RFC 5545, 3.3.10).
 #[derive(Clone, Copy, Debug, PartialEq, Eq)]
 pub enum Frequency {
     Secondly,

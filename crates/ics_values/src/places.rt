@@ -5,14 +5,16 @@ ghost use Rattle.jiff_core.specs.Weekday.{monday_zero};
 use crate::sets::{Numbers, WideNumbers};
 use jiff_core::civil::Weekday;
 
-/// From which end a number counts.
+/// From which end a number of a recurrence rule counts (RFC 5545, 3.3.10).
 #[derive(Clone, Copy, Debug, PartialEq, Eq)]
 pub enum Side {
+    /// A number without a sign or with `+`: 1 is the first.
     Front,
+    /// A number with `-`: 1 is the last.
     Back,
 }
 
-/// Numbers below 64, counted from the front or from the end.
+/// Numbers below 64, counted from the front or from the end, as BYMONTHDAY and BYWEEKNO have them (RFC 5545, 3.3.10).
 #[derive(Clone, Copy)]
 pub struct Places {
     pub front: Numbers,
@@ -51,7 +53,7 @@ impl Places {
     }
 }
 
-/// Numbers below 384, counted from the front or from the end.
+/// Numbers below 384, counted from the front or from the end, as BYYEARDAY and BYSETPOS have them (RFC 5545, 3.3.10).
 #[derive(Clone, Copy)]
 pub struct WidePlaces {
     pub front: WideNumbers,
@@ -90,7 +92,7 @@ impl WidePlaces {
     }
 }
 
-/// BYDAY. Weekdays are numbered from 0 for Monday.
+/// BYDAY (RFC 5545, 3.3.10). Weekdays are numbered from 0 for Monday.
 #[derive(Clone, Copy)]
 pub struct Weekdays {
     /// The weekdays that stand without a number.

@@ -7,6 +7,8 @@ use crate::local::Local;
 pub enum Until {
     /// A day, counted from 1970-01-01.
     Date(i32),
+    /// A date and time in no zone.
     Local(Local),
+    /// A date and time of UTC.
     Utc(Local),
 }

@@ -1,6 +1,4 @@
-use Rattle.std.proofs.Common.{◌≡◌, ◌∙◌, ◌+◌, ◌-◌, ◌==◌, ◌||◌, ℕ, pos, sym, subst, ap, arith}
-use Rattle.jiff_core.specs.Calendar.{days_in_month}
-use Rattle.ics_values.specs.Sets.{has_wide}
+use Rattle.std.proofs.Common.{◌∙◌, ◌+◌, ◌-◌, sym, subst, ap, arith}
 use Rattle.ics_values.specs.Fields.{IsCivilOf}
 use Rattle.ics_rule.proofs.DayWalkLemmas.{IsDayWalk, walk_starts, walk_adds, walk_passes, walk_skips, walk_done}
 use Rattle.ics_rule.proofs.days.days_by_month.Goals as goal

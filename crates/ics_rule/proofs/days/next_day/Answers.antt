@@ -1,6 +1,4 @@
-use Rattle.std.proofs.Common.{◌≡◌, ◌+◌, ◌-◌, refl, subst, arith, pos}
-use Rattle.jiff_core.specs.Calendar.{days_in_month}
-use Rattle.ics_values.specs.Fields.{IsCivilOf}
+use Rattle.std.proofs.Common.{refl, arith}
 use Rattle.ics_rule.proofs.DayWalkLemmas.{next_in_month}
 use Rattle.ics_rule.proofs.days.next_day.Goals as goal
 

@@ -1,4 +1,4 @@
-use Rattle.std.proofs.Common.{◌≡◌, ◌∙◌, ◌+◌, ◌-◌, refl, ap, arith}
+use Rattle.std.proofs.Common.{◌∙◌, ◌+◌, ◌-◌, refl, ap, arith}
 use Rattle.ics_values.specs.Days.{weekday_of}
 use Rattle.ics_rule.proofs.DayWalkLemmas.{next_month, next_year, early_year}
 use Rattle.ics_rule.proofs.days.next_month.Goals as goal

@@ -1,7 +1,6 @@
-use Rattle.std.proofs.Common.{◌≡◌, ℕ, ◌≤◌, Option, Some, None, ap, refl, sym, subst, arith}
 use Rattle.ics_rule.specs.Locals.{number}
 use Rattle.ics_rule.specs.Filled.{filled}
-use Rattle.ics_rule.specs.Cursors.{IsCursorOf, HasLooked, looks_from}
+use Rattle.ics_rule.specs.Cursors.{IsCursorOf, HasLooked}
 use Rattle.ics_rule.proofs.CursorLemmas.{cursor_begins, looked_none}
 use Rattle.ics_rule.proofs.cursor.Cursor.at.Goals as goal
 

@@ -1,10 +1,10 @@
-use Rattle.std.proofs.Common.{◌≡◌, ◌∙◌, ℕ, ap, subst}
+use Rattle.std.proofs.Common.{◌∙◌, ap}
 use Rattle.ics_values.specs.Places.{lists_none_wide}
 use Rattle.ics_rule.specs.declared.cursor.Cursor.{Cursor}
 use Rattle.ics_rule.specs.Periods.{is_taken}
 use Rattle.ics_rule.specs.Searches.{is_chosen_within, after_look}
 use Rattle.ics_rule.proofs.ChosenLemmas.{taken_within}
-use Rattle.ics_rule.proofs.CursorLemmas.{next_same, looks_once, fresh_some, fresh_none}
+use Rattle.ics_rule.proofs.CursorLemmas.{begins_look, looks_more, next_same, looks_once, fresh_some, fresh_none}
 use Rattle.ics_rule.proofs.cursor.Cursor.find.Goals as goal
 use Rattle.ics_rule.proofs.cursor.Cursor.find.Goals.{in-Some+else-period-number, in_default}
 
@@ -30,4 +30,15 @@ returns-clause-steps c = elim c.match-self.branch [
       looks_once c.args.number 0 c.args.self.now c.look_at.new.self c.look_at.result
       (fresh_none c.args.number c.args.self.now.held w.in_default.is)
       (c.look_at.ensures.cursor ∙ ap (λ (s : Cursor). after_look s c.look_at.result 0) w.self-is) c.look_at.ensures.number
+]
+
+pub returns-clause-begun : goal.returns-clause-begun
+returns-clause-begun c = λ before. begins_look 0 c.match-self.self c.look_at.new.self c.look_at.result c.look_at.ensures.cursor
+
+pub returns-clause-moved : goal.returns-clause-moved
+returns-clause-moved c = elim c.match-self.branch [
+  | in-Some+else-period-number w ↦
+      looks_more 0 c.args.self.now c.look_at.new.self c.look_at.result (c.look_at.ensures.cursor ∙ ap (λ (s : Cursor). after_look s c.look_at.result 0) w.self-is)
+  | in_default w ↦
+      looks_more 0 c.args.self.now c.look_at.new.self c.look_at.result (c.look_at.ensures.cursor ∙ ap (λ (s : Cursor). after_look s c.look_at.result 0) w.self-is)
 ]

@@ -1,8 +1,11 @@
-use Rattle.std.proofs.Common.{◌≡◌, ◌∙◌, ap, sym, subst, arith}
+use Rattle.std.proofs.Common.{◌≡◌, ◌∙◌, ◌<◌, ◌≤◌, Option, Some, None, ap, sym, subst, arith}
+use Rattle.ics_values.specs.declared.local.Local.{Local}
+use Rattle.ics_rule.specs.declared.cursor.Cursor.{Cursor}
 use Rattle.ics_rule.specs.Recurrence.{Recurrence}
 use Rattle.ics_rule.specs.Locals.{number}
 use Rattle.ics_rule.specs.Filled.{filled}
-use Rattle.ics_rule.specs.Cursors.{IsCursorOf, HasLooked, IsCursorIn, HasLookedIn}
+use Rattle.ics_rule.specs.Candidates.{period_in}
+use Rattle.ics_rule.specs.Cursors.{IsCursorOf, HasCounted, HasLooked, IsCursorIn, HasLookedIn}
 use Rattle.ics_rule.proofs.cursor.Cursor.next.Goals as goal
 use Rattle.ics_rule.proofs.cursor.Cursor.next.Goals.{After-number}
 
@@ -38,3 +41,19 @@ returns-clause-looked c = λ a b h few.
     subst (λ s. HasLookedIn (filled c.args.rule.now) s c.args.rule.now.parts.count c.next_number.new.self a b) (start_is (goal.at.returns-clause-looked c).After-number)
     (c.next_number.ensures.looked a b (omega (arith, h, c.number-2.ensures.value))
     (subst (λ s. HasLookedIn (filled c.args.rule.now) s c.args.rule.now.parts.count c.args.self.now a b) (sym (start_is (goal.at.returns-clause-looked c).After-number)) few))
+
+none_counted : (r : Recurrence) (o : Option Local) (before now : Cursor) → o ≡ None → before.steps ≤ now.steps → HasCounted r o before now
+none_counted r None before now e rise = record { rise = rise; some = tt; more = tt }
+none_counted r (Some local) before now e rise = absurd (cc)
+
+pub returns-in_err-n-clause-counted : goal.returns-in_err-n-clause-counted
+returns-in_err-n-clause-counted c =
+    none_counted c.args.rule.now c.from_residual.result c.args.self.now c.next_number.new.self c.from_residual.ensures c.next_number.ensures.rise
+
+pub returns-clause-counted : goal.returns-clause-counted
+returns-clause-counted c = let start = start_is (goal.at.returns-clause-counted c).After-number in record {
+  rise = c.next_number.ensures.rise;
+  some = λ late. c.in_ok-n.ensures.shown (omega (arith, late, start, c.local_of.ensures.value));
+  more = λ late later. c.in_ok-n.ensures.counts (omega (arith, late, start, c.local_of.ensures.value))
+      (subst (λ n. period_in (filled c.args.rule.now) c.args.self.now.place < period_in (filled c.args.rule.now) n) c.local_of.ensures.value later);
+}

@@ -1,6 +1,5 @@
 use Rattle.std.proofs.Common.{◌≡◌, ◌∙◌, ℕ, ◌+◌, Option, MatchOption, max, min, refl, ap, sym, subst, arith}
 use Rattle.ics_rule.specs.Recurrence.{Recurrence}
-use Rattle.ics_rule.specs.Locals.{number}
 use Rattle.ics_rule.specs.Filled.{filled}
 use Rattle.ics_rule.specs.Kept.{is_until}
 use Rattle.ics_rule.specs.Searches.{NoneWanted, IsNextBefore}

@@ -1,6 +1,6 @@
-use Rattle.std.proofs.Common.{◌≡◌, ◌∙◌, ◌+◌, ℕ, ◌⊎◌, inl, inr, ap, refl, sym, arith}
+use Rattle.std.proofs.Common.{◌≡◌, ◌+◌, ℕ, ◌⊎◌, inl, inr, ap, refl, arith}
 use Rattle.ics_rule.specs.declared.cursor.Cursor.{Cursor}
-use Rattle.ics_rule.proofs.CursorLemmas.{looks_once, fresh_some, fresh_none}
+use Rattle.ics_rule.proofs.CursorLemmas.{begins_look, looks_more, looks_once, fresh_some, fresh_none}
 use Rattle.ics_rule.proofs.CountLemmas.{step_low, turned_first, turned_on, counted_out, counted_small}
 use Rattle.ics_rule.proofs.cursor.Cursor.turn_to.Goals as goal
 use Rattle.ics_rule.proofs.cursor.Cursor.turn_to.Goals.{After-taken_before-before}
@@ -56,3 +56,15 @@ returns-else-self-before-clause-steps c =
     let on = step_before c.in-Some.period.number c.args.number c.args.parts.now.interval turn.1.1 c.if-period-number.false in
     looks_once c.args.number (c.args.self.now.counted + c.taken_before-before.result) c.args.self.now c.look_at.new.self c.look_at.result
     (fresh_some c.args.number c.args.self.now.held c.in-Some.period c.in-Some.is (omega (arith, on)) c.if-period-number.false) c.look_at.ensures.cursor c.look_at.ensures.number
+
+pub returns-in-None-clause-begun : goal.returns-in-None-clause-begun
+returns-in-None-clause-begun c = λ before. begins_look 0 c.args.self.now c.look_at-period.new.self c.look_at-period.result c.look_at-period.ensures.cursor
+
+pub returns-else-self-before-clause-begun : goal.returns-else-self-before-clause-begun
+returns-else-self-before-clause-begun c = λ before. begins_look (c.args.self.now.counted + c.taken_before-before.result) c.args.self.now c.look_at.new.self c.look_at.result c.look_at.ensures.cursor
+
+pub returns-in-None-clause-moved : goal.returns-in-None-clause-moved
+returns-in-None-clause-moved c = looks_more 0 c.args.self.now c.look_at-period.new.self c.look_at-period.result c.look_at-period.ensures.cursor
+
+pub returns-else-self-before-clause-moved : goal.returns-else-self-before-clause-moved
+returns-else-self-before-clause-moved c = looks_more (c.args.self.now.counted + c.taken_before-before.result) c.args.self.now c.look_at.new.self c.look_at.result c.look_at.ensures.cursor

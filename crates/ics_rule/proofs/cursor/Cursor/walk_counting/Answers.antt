@@ -1,4 +1,4 @@
-use Rattle.std.proofs.Common.{◌≡◌, ◌∙◌, ◌-◌, ◌≤◌, ◌<◌, Some, None, sym, subst, arith}
+use Rattle.std.proofs.Common.{◌∙◌, ◌-◌, ◌≤◌, ◌<◌, Some, None, sym, subst, arith}
 use Rattle.ics_rule.specs.Candidates.{period_in}
 use Rattle.ics_rule.proofs.CursorLemmas.{walk_reach}
 use Rattle.ics_rule.proofs.CountLemmas.{counted_small}
@@ -34,27 +34,27 @@ overflow_add-earlier c =
 pub returns-then-earlier-self-clause-next : goal.returns-then-earlier-self-clause-next
 returns-then-earlier-self-clause-next c =
     counting_finds c.args.parts.now c.args.start c.args.count c.args.stop c.loop-number.number c.args.self.now c.loop-number.self c.loop-number.invariant
-    c.turn_to.new.self c.in-Some-turn_to.period c.requires.interval c.requires.after c.requires.place (top (goal.at.returns-then-earlier-self-clause-next c).After-turn_to) c.in-Some-turn_to.ensures.turned c.turn_to.ensures.place c.turn_to.ensures.steps c.in-Some-next_taken.n c.taken_before.result c.in-Some-next_taken.ensures.next c.taken_before.ensures.value c.if-earlier-self.true
+    c.turn_to.new.self c.in-Some-turn_to.period c.requires.interval c.requires.after c.requires.place (top (goal.at.returns-then-earlier-self-clause-next c).After-turn_to) c.in-Some-turn_to.ensures.turned c.turn_to.ensures.place c.turn_to.ensures.steps c.turn_to.ensures.begun c.turn_to.ensures.moved c.in-Some-next_taken.n c.taken_before.result c.in-Some-next_taken.ensures.next c.taken_before.ensures.value c.if-earlier-self.true
 
 pub returns-then-earlier-self-clause-walked : goal.returns-then-earlier-self-clause-walked
 returns-then-earlier-self-clause-walked c =
     counting_found c.args.parts.now c.args.start c.args.count c.args.stop c.loop-number.number c.args.self.now c.loop-number.self c.loop-number.invariant
-    c.turn_to.new.self c.in-Some-turn_to.period c.requires.interval c.requires.after c.requires.place (top (goal.at.returns-then-earlier-self-clause-walked c).After-turn_to) c.in-Some-turn_to.ensures.turned c.turn_to.ensures.place c.turn_to.ensures.steps c.in-Some-next_taken.n c.in-Some-next_taken.ensures.next
+    c.turn_to.new.self c.in-Some-turn_to.period c.requires.interval c.requires.after c.requires.place (top (goal.at.returns-then-earlier-self-clause-walked c).After-turn_to) c.in-Some-turn_to.ensures.turned c.turn_to.ensures.place c.turn_to.ensures.steps c.turn_to.ensures.begun c.turn_to.ensures.moved c.in-Some-next_taken.n c.in-Some-next_taken.ensures.next
 
 pub returns-else-earlier-self-clause-next : goal.returns-else-earlier-self-clause-next
 returns-else-earlier-self-clause-next c =
     counting_stops c.args.parts.now c.args.start c.args.count c.args.stop c.loop-number.number c.args.self.now c.loop-number.self c.loop-number.invariant
-    c.turn_to.new.self c.in-Some-turn_to.period c.requires.interval c.requires.after c.requires.place (top (goal.at.returns-else-earlier-self-clause-next c).After-turn_to) c.in-Some-turn_to.ensures.turned c.turn_to.ensures.place c.turn_to.ensures.steps c.in-Some-next_taken.n c.taken_before.result c.in-Some-next_taken.ensures.next c.taken_before.ensures.value c.if-earlier-self.false
+    c.turn_to.new.self c.in-Some-turn_to.period c.requires.interval c.requires.after c.requires.place (top (goal.at.returns-else-earlier-self-clause-next c).After-turn_to) c.in-Some-turn_to.ensures.turned c.turn_to.ensures.place c.turn_to.ensures.steps c.turn_to.ensures.begun c.turn_to.ensures.moved c.in-Some-next_taken.n c.taken_before.result c.in-Some-next_taken.ensures.next c.taken_before.ensures.value c.if-earlier-self.false
 
 pub returns-else-earlier-self-clause-walked : goal.returns-else-earlier-self-clause-walked
 returns-else-earlier-self-clause-walked c =
     counting_stopped c.args.parts.now c.args.start c.args.count c.args.stop c.loop-number.number c.args.self.now c.loop-number.self c.loop-number.invariant
-    c.turn_to.new.self c.in-Some-turn_to.period c.requires.interval c.requires.after c.requires.place (top (goal.at.returns-else-earlier-self-clause-walked c).After-turn_to) c.in-Some-turn_to.ensures.turned c.turn_to.ensures.place c.turn_to.ensures.steps
+    c.turn_to.new.self c.in-Some-turn_to.period c.requires.interval c.requires.after c.requires.place (top (goal.at.returns-else-earlier-self-clause-walked c).After-turn_to) c.in-Some-turn_to.ensures.turned c.turn_to.ensures.place c.turn_to.ensures.steps c.turn_to.ensures.begun c.turn_to.ensures.moved
 
 pub loop-number-preserved : goal.loop-number-preserved
 loop-number-preserved c =
     counting_goes_on c.args.parts.now c.args.start c.args.count c.args.stop c.loop-number.number c.args.self.now c.loop-number.self c.loop-number.invariant
-    c.turn_to.new.self c.in-Some-turn_to.period c.requires.interval c.requires.after c.requires.place (top (goal.at.loop-number-preserved c).After-turn_to) c.in-Some-turn_to.ensures.turned c.turn_to.ensures.place c.turn_to.ensures.steps c.in_default.ensures.next
+    c.turn_to.new.self c.in-Some-turn_to.period c.requires.interval c.requires.after c.requires.place (top (goal.at.loop-number-preserved c).After-turn_to) c.in-Some-turn_to.ensures.turned c.turn_to.ensures.place c.turn_to.ensures.steps c.turn_to.ensures.begun c.turn_to.ensures.moved c.in_default.ensures.next
 
 pub returns-clause-next : goal.returns-clause-next
 returns-clause-next c = counting_ends c.args.parts.now c.args.start c.args.count c.args.stop c.loop-number.number c.args.self.now c.loop-number.self c.loop-number.invariant

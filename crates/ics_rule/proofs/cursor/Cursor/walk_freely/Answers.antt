@@ -18,15 +18,15 @@ find-requires-clause-reach c = let r = walk_reach c.args.parts.now c.loop-number
 
 pub returns-in-Some-clause-next : goal.returns-in-Some-clause-next
 returns-in-Some-clause-next c = walk_finds c.args.parts.now c.args.start c.args.stop c.loop-number.number c.args.self.now c.loop-number.self c.loop-number.invariant c.find.new.self c.requires.place
-    (subst (λ x. c.loop-number.number ≤ x) c.period_of-last.ensures.value c.loop-number-test.true) c.find.ensures.held c.find.ensures.place c.find.ensures.steps c.in-Some.n c.in-Some.ensures.next
+    (subst (λ x. c.loop-number.number ≤ x) c.period_of-last.ensures.value c.loop-number-test.true) c.find.ensures.held c.find.ensures.place c.find.ensures.steps c.find.ensures.begun c.find.ensures.moved c.in-Some.n c.in-Some.ensures.next
 
 pub returns-in-Some-clause-walked : goal.returns-in-Some-clause-walked
 returns-in-Some-clause-walked c = walk_found c.args.parts.now c.args.start c.args.stop c.loop-number.number c.args.self.now c.loop-number.self c.loop-number.invariant c.find.new.self c.requires.place
-    (subst (λ x. c.loop-number.number ≤ x) c.period_of-last.ensures.value c.loop-number-test.true) c.find.ensures.held c.find.ensures.place c.find.ensures.steps c.in-Some.n c.in-Some.ensures.next
+    (subst (λ x. c.loop-number.number ≤ x) c.period_of-last.ensures.value c.loop-number-test.true) c.find.ensures.held c.find.ensures.place c.find.ensures.steps c.find.ensures.begun c.find.ensures.moved c.in-Some.n c.in-Some.ensures.next
 
 pub loop-number-preserved : goal.loop-number-preserved
 loop-number-preserved c = walk_goes_on c.args.parts.now c.args.start c.args.stop c.loop-number.number c.args.self.now c.loop-number.self c.loop-number.invariant c.find.new.self c.requires.place
-    (subst (λ x. c.loop-number.number ≤ x) c.period_of-last.ensures.value c.loop-number-test.true) c.find.ensures.held c.find.ensures.place c.find.ensures.steps c.requires.interval c.in_default.ensures.next
+    (subst (λ x. c.loop-number.number ≤ x) c.period_of-last.ensures.value c.loop-number-test.true) c.find.ensures.held c.find.ensures.place c.find.ensures.steps c.find.ensures.begun c.find.ensures.moved c.requires.interval c.in_default.ensures.next
 
 pub returns-clause-next : goal.returns-clause-next
 returns-clause-next c = walk_ends c.args.parts.now c.args.start c.args.stop c.loop-number.number c.args.self.now c.loop-number.self c.loop-number.invariant

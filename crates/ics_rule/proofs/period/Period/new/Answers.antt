@@ -1,7 +1,6 @@
 use Rattle.jiff_core.specs.Weekday.{monday_zero}
-use Rattle.std.proofs.Common.{◌≡◌, ◌∙◌, ℕ, ◌+◌, ◌-◌, ◌*◌, ◌/◌, ◌%◌, ◌<◌, ◌≤◌, ◌==◌, ◌||◌, ◌&&◌, Bool, false, nat_lt, refl, ap, arith}
-use Rattle.std.proofs.lemmas.Bool.Decides.{nat_tests}
-use Rattle.ics_rule.specs.Candidates.{lets, lets_date}
+use Rattle.std.proofs.Common.{◌∙◌, ◌+◌, ◌*◌, ◌/◌, ◌%◌, ◌<◌, ◌≤◌, ◌==◌, ◌||◌, ◌&&◌, refl, ap, arith}
+use Rattle.ics_rule.specs.Candidates.{lets}
 use Rattle.ics_rule.proofs.PeriodLemmas.{next_first, week_small}
 use Rattle.ics_rule.proofs.ProductLemmas.{product_is}
 use Rattle.ics_rule.proofs.period.Period.new.Goals as goal

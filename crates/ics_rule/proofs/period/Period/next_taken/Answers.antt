@@ -1,4 +1,4 @@
-use Rattle.std.proofs.Common.{◌≡◌, ◌∙◌, ℕ, ◌<◌, ◌≤◌, sym, ap, subst, true, false, arith}
+use Rattle.std.proofs.Common.{◌≡◌, ◌∙◌, ℕ, ◌≤◌, sym, ap, subst, true, false, arith}
 use Rattle.ics_values.specs.Sets.{IsNextIn, IsLeastFrom}
 use Rattle.ics_values.specs.Places.{lists_none_wide}
 use Rattle.ics_rule.specs.Locals.{calendar_end}

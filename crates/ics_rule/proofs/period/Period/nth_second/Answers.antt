@@ -1,4 +1,4 @@
-use Rattle.std.proofs.Common.{◌<◌, ◌*◌, ◌/◌, ◌%◌, subst, sym, arith}
+use Rattle.std.proofs.Common.{◌<◌, ◌*◌, subst, sym, arith}
 use Rattle.ics_values.specs.Sets.{has}
 use Rattle.ics_values.proofs.SetLemmas.{member_below}
 use Rattle.ics_rule.specs.Kept.{count}

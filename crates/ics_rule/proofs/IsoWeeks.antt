@@ -1,0 +1,184 @@
+-- Weeks from Monday are the weeks of ISO 8601.
+use Rattle.std.proofs.Common.{◌≡◌, ℕ, zero, suc, ◌+◌, ◌-◌, ◌*◌, ◌/◌, ◌%◌, ◌<◌, ◌≤◌, true, false, cond, nat_lt, refl, sym, ap, ◌∙◌, arith, ℤ, pos, negsuc, neg_ℤ, ◌+ℤ◌, ◌-ℤ◌}
+use Rattle.std.proofs.lemmas.Bool.Decides.{nat_tests}
+use Rattle.jiff_core.specs.Calendar.{days_in_year, iso_year_start, IsYear, IsBetween}
+use Rattle.jiff_core.specs.IsoWeek.{weeks_in_year, days_from_iso}
+use Rattle.jiff_core.specs.Weekday.{monday_zero}
+use Rattle.jiff_core.specs.declared.civil.iso_week_date.ISOWeekDate.{ISOWeekDate}
+use Rattle.jiff_core.specs.declared.civil.weekday.Weekday.{Weekday}
+use Rattle.jiff_core.specs.declared.civil.weekday.Weekday.TheVariants.{Monday, Tuesday, Wednesday, Thursday, Friday, Saturday, Sunday}
+use Rattle.jiff_core.proofs.SignedLemmas.{signed_arith}
+use Rattle.jiff_core.proofs.CalendarLemmas.{days_from_civil-day_count, day_count-later_year, day_count-next_year, days_in_year_bounds}
+use Rattle.jiff_core.proofs.IsoWeekLemmas.{day_count-fourth, iso_year_start-day_count, iso_year_start_near, weeks_in_year-next}
+use borrow.Author.Differences.{up, down}
+use Rattle.ics_values.specs.Days.{days_before_year, year_of, weekday_of}
+use Rattle.ics_values.proofs.DayLemmas.{day_count_is, year_of_is, days_before_year-next}
+use Rattle.ics_rule.specs.Locals.{week_of}
+use Rattle.ics_rule.specs.Candidates.{fourth_day, week_number, weeks_of_year}
+use Rattle.ics_rule.specs.IsoWeeks.{IsDay}
+use Rattle.ics_rule.proofs.LawLemmas.{year_day_is}
+
+-- the Monday that begins an ISO year, counted from 0000-01-01
+abbrev start_of : ℕ → ℕ
+start_of y = days_before_year y + 3 - (days_before_year y + 1) % 7
+
+start_is : (y : ℕ) → y ≤ 10000 → up (iso_year_start (pos y)) + 719_528 ≡ down (iso_year_start (pos y)) + start_of y
+start_is y h =
+    let here : IsBetween (neg_ℤ (pos 9999)) (pos 10000) (pos y) = omega (arith, signed_arith) in
+    let fourth = day_count-fourth (pos y) here in
+    let start = iso_year_start-day_count (pos y) here in
+    let first = day_count_is y in
+    omega (arith, fourth.0, start, first)
+
+-- what a rule says of the week of day e, and of the day
+record IsWeek (y n all w e : ℕ) : Type 0 where
+  pub year : year_of (fourth_day 0 e) ≡ y
+  pub number : week_number (fourth_day 0 e) ≡ n
+  pub weeks : weeks_of_year (fourth_day 0 e) ≡ all
+  pub weekday : weekday_of e ≡ w
+
+fourth_later : (e : ℕ) → 2 ≤ e → fourth_day 0 e ≡ 7 * ((e + 12) / 7) - 9
+fourth_later e late = ap (λ b. cond b (7 * week_of 0 e + 0 + 146_088) (7 * week_of 0 e + 0 - 9)) (not_less (7 * week_of 0 e + 0) 9 (omega arith)) ∙ omega arith
+  where
+    not_less : (a b : ℕ) → b ≤ a → nat_lt a b ≡ false
+    not_less a b h = grind (arith, nat_tests)
+
+-- the Thursday f of week n in a year from a up to b, which begins on Monday s, and the next one on t
+record IsThursday (a b s t n f : ℕ) : Type 0 where
+  pub low : a ≤ f
+  pub high : f < b
+  pub place : (f - a) / 7 + 1 ≡ n
+  pub weeks : s + 7 * ((b - a - 1 - (f - a) % 7) / 7 + 1) ≡ t
+
+thursday : (a b s t n f : ℕ) → s ≡ a + 3 - (a + 1) % 7 → t ≡ b + 3 - (b + 1) % 7 → a + 365 ≤ b → 1 ≤ n → s + 7 * n ≤ t → f ≡ s + 3 + 7 * (n - 1) → IsThursday a b s t n f
+thursday a b s t n f first next long one most at =
+    record { low = omega arith; high = omega arith; place = omega arith; weeks = omega arith }
+
+-- the day w of week n in a year from 0 on
+later_week : (y n w e : ℕ) → y ≤ 9999 → 1 ≤ n → n ≤ weeks_in_year (pos y) → w < 7 → iso_year_start (pos y) +ℤ pos ((n - 1) * 7 + w) ≡ pos e -ℤ pos 719_528
+    → (2 ≤ e) × IsWeek y n (weeks_in_year (pos y)) w e
+later_week y n w e range one most week day =
+    let year : IsYear (pos y) = omega (arith, signed_arith) in
+    let weeks = weeks_in_year-next (pos y) (pos (suc y)) year (omega (arith, signed_arith)) in
+    let start = start_is y (omega arith) in
+    let next = start_is (suc y) (omega arith) in
+    let end : start_of y + 7 * weeks_in_year (pos y) ≡ start_of (suc y) = omega (arith, signed_arith, start, next, ap up weeks.0, ap down weeks.0) in
+    let place : e ≡ start_of y + (n - 1) * 7 + w = omega (arith, signed_arith, start, ap up day, ap down day) in
+    of_place y n w e (weeks_in_year (pos y)) one most week place end
+  where
+    of_place : (y n w e weeks : ℕ) → 1 ≤ n → n ≤ weeks → w < 7 → e ≡ start_of y + (n - 1) * 7 + w → start_of y + 7 * weeks ≡ start_of (suc y)
+        → (2 ≤ e) × IsWeek y n weeks w e
+    of_place y n w e weeks one most week place end =
+        let length = days_before_year-next y in
+        let late : 2 ≤ e = omega arith in
+        let fourth = fourth_later e late in
+        let own = thursday (days_before_year y) (days_before_year (suc y)) (start_of y) (start_of (suc y)) n (fourth_day 0 e) refl refl (omega (arith, length)) one (omega arith) (omega (arith, fourth, place)) in
+        let year = year_of_is (fourth_day 0 e) y own.low own.high in
+        let day = year_day_is (fourth_day 0 e) in
+        let before = ap days_before_year year in
+        let size = ap (λ y. days_in_year (pos y)) year in (
+          late,
+          record {
+            year = year;
+            number = omega (arith, day, before, own.place);
+            weeks = omega (arith, day, before, size, length, own.weeks, end);
+            weekday = omega (arith, place);
+          },
+        )
+
+-- week 52 of the year -1 is named one cycle of the calendar later
+early_week : (n w e : ℕ) → 1 ≤ n → n ≤ weeks_in_year (negsuc 0) → w < 7 → iso_year_start (negsuc 0) +ℤ pos ((n - 1) * 7 + w) ≡ pos e -ℤ pos 719_528
+    → (e < 2) × IsWeek 399 n (weeks_in_year (negsuc 0)) w e
+early_week n w e one most week day =
+    let year : IsYear (negsuc 0) = omega (arith, signed_arith) in
+    let here : IsBetween (neg_ℤ (pos 9999)) (pos 10000) (negsuc 0) = omega (arith, signed_arith) in
+    let weeks = weeks_in_year-next (negsuc 0) (pos 0) year refl in
+    let next = start_is 0 (omega arith) in
+    let fourth = day_count-fourth (negsuc 0) here in
+    let start = iso_year_start-day_count (negsuc 0) here in
+    let zero_day = day_count_is 0 in
+    let before = day_count-next_year (negsuc 0) (pos 0) (omega (arith, signed_arith)) refl in
+    let monday : up (iso_year_start (negsuc 0)) + 719_890 ≡ down (iso_year_start (negsuc 0)) = omega (arith, fourth.0, start, zero_day, before) in
+    let all : weeks_in_year (negsuc 0) ≡ 52 = omega (arith, signed_arith, monday, next, ap up weeks.0, ap down weeks.0) in
+    let place : e + 362 ≡ (n - 1) * 7 + w = omega (arith, signed_arith, monday, ap up day, ap down day) in
+    of_place n w e (weeks_in_year (negsuc 0)) one most all week place
+  where
+    fourth_early : (e : ℕ) → e < 2 → fourth_day 0 e ≡ 146_095
+    fourth_early e early = ap (λ b. cond b (7 * week_of 0 e + 0 + 146_088) (7 * week_of 0 e + 0 - 9)) (less (7 * week_of 0 e + 0) 9 (omega arith)) ∙ omega arith
+      where
+        less : (a b : ℕ) → a < b → nat_lt a b ≡ true
+        less a b h = grind (arith, nat_tests)
+
+    of_place : (n w e weeks : ℕ) → 1 ≤ n → n ≤ weeks → weeks ≡ 52 → w < 7 → e + 362 ≡ (n - 1) * 7 + w → (e < 2) × IsWeek 399 n weeks w e
+    of_place n w e weeks one most all week place =
+        let early : e < 2 = omega arith in
+        let fourth = fourth_early e early in
+        let year = ap year_of fourth ∙ year_of_is 146_095 399 (omega arith) (omega arith) in
+        let day = year_day_is (fourth_day 0 e) in
+        let before = ap days_before_year year in
+        let size = ap (λ y. days_in_year (pos y)) year in (
+          early,
+          record {
+            year = year;
+            number = omega (arith, fourth, day, before, place);
+            weeks = omega (arith, fourth, day, before, size, all);
+            weekday = omega (arith, place);
+          },
+        )
+
+-- no day from 0000-01-01 on is in a week of an earlier year
+no_earlier : (k n w e : ℕ) → k < 9998 → n ≤ weeks_in_year (negsuc (suc k)) → 1 ≤ n → w < 7 → iso_year_start (negsuc (suc k)) +ℤ pos ((n - 1) * 7 + w) ≡ pos e -ℤ pos 719_528 → ⊥
+no_earlier k n w e range most one week day =
+    let year : IsYear (negsuc (suc k)) = omega (arith, signed_arith) in
+    let weeks = weeks_in_year-next (negsuc (suc k)) (negsuc k) year (omega (arith, signed_arith)) in
+    let near = iso_year_start_near (negsuc k) (omega (arith, signed_arith)) in
+    let first = days_from_civil-day_count (negsuc k) 1 1 in
+    let later = day_count-later_year (negsuc k) (pos 0) (omega (arith, signed_arith)) (omega (arith, signed_arith)) in
+    let long = days_in_year_bounds (negsuc k) in
+    let zero_day = day_count_is 0 in
+    omega (arith, signed_arith, near.0, first, later, long.1, zero_day, ap up weeks.0, ap down weeks.0, ap up day, ap down day)
+
+monday_zero_bound : (d : Weekday) → monday_zero d < 7
+monday_zero_bound Monday = omega arith
+monday_zero_bound Tuesday = omega arith
+monday_zero_bound Wednesday = omega arith
+monday_zero_bound Thursday = omega arith
+monday_zero_bound Friday = omega arith
+monday_zero_bound Saturday = omega arith
+monday_zero_bound Sunday = omega arith
+
+-- ISO 8601 says the same of a day as a rule whose weeks start on Monday; of the first two days of 0000 a cycle earlier
+pub record IsIsoWeek (d : ISOWeekDate) (e : ℕ) : Type 0 where
+  pub year : 2 ≤ e → d.year ≡ pos (year_of (fourth_day 0 e))
+  pub cycle : e < 2 → d.year +ℤ pos 400 ≡ pos (year_of (fourth_day 0 e))
+  pub number : d.week ≡ week_number (fourth_day 0 e)
+  pub weeks : weeks_in_year d.year ≡ weeks_of_year (fourth_day 0 e)
+  pub weekday : monday_zero d.weekday ≡ weekday_of e
+
+pub iso_week : (d : ISOWeekDate) (e : ℕ) → IsDay d e → IsIsoWeek d e
+unfolding days_from_iso
+iso_week d e day = by_year d.year refl
+  where
+    by_year : (y : ℤ) → d.year ≡ y → IsIsoWeek d e
+    by_year (pos y) is =
+        let range = rw is at d.year_in in
+        let r = later_week y d.week (monday_zero d.weekday) e (omega (arith, signed_arith, range)) d.week_in.0 (rw is at d.week_in.1) (monday_zero_bound d.weekday) (rw is at day) in
+        record {
+          year = λ late. is ∙ ap pos (sym r.1.year);
+          cycle = λ early. absurd (omega (arith, r.0, early));
+          number = sym r.1.number;
+          weeks = ap weeks_in_year is ∙ sym r.1.weeks;
+          weekday = sym r.1.weekday;
+        }
+    by_year (negsuc zero) is =
+        let r = early_week d.week (monday_zero d.weekday) e d.week_in.0 (rw is at d.week_in.1) (monday_zero_bound d.weekday) (rw is at day) in
+        record {
+          year = λ late. absurd (omega (arith, r.0, late));
+          cycle = λ early. ap (λ y. y +ℤ pos 400) is ∙ ap pos (sym r.1.year);
+          number = sym r.1.number;
+          weeks = ap weeks_in_year is ∙ sym r.1.weeks;
+          weekday = sym r.1.weekday;
+        }
+    by_year (negsuc (suc k)) is =
+        let range = rw is at d.year_in in
+        absurd (no_earlier k d.week (monday_zero d.weekday) e (omega (arith, signed_arith, range)) (rw is at d.week_in.1) d.week_in.0 (monday_zero_bound d.weekday) (rw is at day))
