@@ -22,6 +22,16 @@ def events(numbers):
     return calendar([line for number in numbers for line in event(number)])
 
 
+def recurring(count, start, rule):
+    """A calendar of events that begin at a moment and recur by a rule, each on a day and at a time of its own."""
+    lines = []
+    for number in range(count):
+        stamp = start % (number % 28 + 1, number // 28 % 24, number % 60)
+        lines += ['BEGIN:VEVENT', 'UID:%d@example.org' % number, 'DTSTART:%s' % stamp, 'DURATION:PT1H',
+                  'RRULE:' + rule, 'SUMMARY:Event %d' % number, 'END:VEVENT']
+    return calendar(lines)
+
+
 def filled(line):
     """A calendar of one event, with copies of a line in it up to the size that a file may have."""
     start, end = calendar(event(0)).split(b'END:VEVENT')
@@ -31,6 +41,10 @@ def filled(line):
 
 def unknown(count):
     return calendar(['BEGIN:X-NOTES', *('X-NOTE;X-KIND="a;b:c":line %d' % n for n in range(count)), 'END:X-NOTES'])
+
+
+def weekly(count):
+    return [('a.ics', recurring(count, '200001%02dT%02d%02d00Z', 'FREQ=WEEKLY'))]
 
 
 def many(count, bad=0):
@@ -51,6 +65,18 @@ ROWS = [
     ('16 MiB, a fold in each line', lambda: [('a.ics', filled(b'X-NOTE;X-KIND=a:' + b'text ' * 5 + b'\r\n '
                                                               + b'text ' * 5 + b'\r\n'))], ['2024-01-01', '1d']),
     ('400,000 lines of an unknown component', lambda: [('a.ics', unknown(400_000))], ['2024-01-05', '1d']),
+    ('1,000 weekly rules since 2000', lambda: weekly(1_000), ['2024-01-05', '7d']),
+    ('weekly rules, a window in 2500', lambda: weekly(1_000), ['2500-01-05', '7d']),
+    ('one minutely rule since 2000', lambda: [('a.ics', recurring(1, '200001%02dT%02d%02d00Z', 'FREQ=MINUTELY'))],
+     ['2024-01-05', '1d']),
+    ('a minutely rule, a window in 2500', lambda: [('a.ics', recurring(1, '200001%02dT%02d%02d00Z', 'FREQ=MINUTELY'))],
+     ['2500-01-05', '1d']),
+    ('1,000 rules that never match', lambda: [('a.ics', recurring(1_000, '200001%02dT%02d%02d00Z',
+                                                                  'FREQ=YEARLY;BYMONTH=2;BYMONTHDAY=30'))],
+     ['2024-01-05', '1d']),
+    ('1,000 daily rules with COUNT', lambda: [('a.ics', recurring(1_000, '200001%02dT%02d%02d00Z',
+                                                                  'FREQ=DAILY;COUNT=100000'))],
+     ['2024-01-05', '1d']),
 ]
 
 

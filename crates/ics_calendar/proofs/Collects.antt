@@ -5,14 +5,16 @@ use Rattle.std.specs.Str.{bytes_eq}
 use Rattle.ics_text.specs.Contents.{Parts}
 use Rattle.ics_values.specs.Integers.{integer_of}
 use Rattle.ics_values.specs.Plain.{text_of}
+use Rattle.ics_values.specs.Rules.{rule_of}
 use Rattle.ics_calendar.specs.declared.collected.Collected.{Collected}
 use Rattle.ics_calendar.specs.declared.name.Name.{Name}
 use Rattle.ics_calendar.specs.declared.name.Name.TheVariants as name
 use Rattle.ics_calendar.specs.Names.{name_of}
 use Rattle.ics_calendar.specs.Placed.{Placed, property_name, value, value_of, params_of, has, is_named, first_named, first_of, all_named}
 use Rattle.ics_calendar.specs.Values.{dated_of, lasting_of, ok_or_zero, is_cancelled}
-use Rattle.ics_calendar.specs.Faults.{dated_on, lasting_on}
-use Rattle.ics_calendar.specs.Pass.{collected_of, event_property, or_first, note}
+use Rattle.ics_calendar.specs.Faults.{dated_on, lasting_on, rule_on}
+use Rattle.ics_calendar.specs.Reading.{event_property}
+use Rattle.ics_calendar.specs.Collecting.{collected_of, or_first, note}
 use Rattle.ics_calendar.proofs.NameLemmas.{Tells, tells}
 
 has-more : (n : List ℕ) (ls : List Placed) (l : Placed) → has n (ls ++ l ∷ []) ≡ cond (is_named n l) true (has n ls)
@@ -63,7 +65,7 @@ noted : (n : Name) (u : List ℕ) (v : Parts) (had : Collected) → Tells u n �
       start = cond (bytes_eq u (codes "DTSTART")) (or_first had.start (dated_of v.params v.value)) had.start;
       end = cond (bytes_eq u (codes "DTEND")) (or_first had.end (dated_of v.params v.value)) had.end;
       duration = cond (bytes_eq u (codes "DURATION")) (or_first had.duration (lasting_of v.value)) had.duration;
-      has_rule = cond (bytes_eq u (codes "RRULE")) true had.has_rule;
+      rule = cond (bytes_eq u (codes "RRULE")) (or_first had.rule (rule_of v.value)) had.rule;
       has_recurrence = cond (bytes_eq u (codes "RECURRENCE-ID")) true had.has_recurrence;
       sequence = cond (bytes_eq u (codes "SEQUENCE")) (or_first had.sequence (ok_or_zero (integer_of v.value))) had.sequence;
       title = cond (bytes_eq u (codes "SUMMARY")) (or_first had.title (text_of v.value)) had.title;
@@ -98,7 +100,7 @@ collected_of-more ls l =
       kept-more dated_on (codes "DTSTART") ls l,
       kept-more dated_on (codes "DTEND") ls l,
       kept-more lasting_on (codes "DURATION") ls l,
-      has-more (codes "RRULE") ls l,
+      kept-more rule_on (codes "RRULE") ls l,
       has-more (codes "RECURRENCE-ID") ls l,
       kept-more (λ l. ok_or_zero (integer_of (value l))) (codes "SEQUENCE") ls l,
       kept-more (λ l. text_of (value l)) (codes "SUMMARY") ls l,

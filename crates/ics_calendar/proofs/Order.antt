@@ -1,10 +1,8 @@
 -- In a file without faults the events end in the order in which they begin.
-use Rattle.std.proofs.Common.{◌≡◌, ◌≢◌, ℕ, ◌+◌, ◌<◌, ◌≤◌, Bool, true, false, ◌&&◌, ◌==◌, List, [], ◌∷◌, ◌++◌, take, drop, map, filter, refl, sym, ap, subst, ◌∙◌, append_assoc, arith, cond, Option, Some, None, inl, inr}
+use Rattle.std.proofs.Common.{◌≡◌, ◌≢◌, ℕ, ◌+◌, ◌<◌, ◌≤◌, Bool, true, false, ◌&&◌, List, [], ◌∷◌, ◌++◌, take, drop, map, filter, refl, sym, ap, subst, ◌∙◌, append_assoc, arith, cond, Option, Some, None}
 use Rattle.std.specs.Prelude.{find, codes, not}
 use Rattle.std.specs.Str.{bytes_eq}
-use Rattle.std.proofs.lemmas.Bool.Decides.{eqb_tells}
 use Rattle.ics_text.specs.Unfolded.{Line, Rises}
-use Rattle.ics_text.specs.Contents.{content_of}
 use Rattle.ics_calendar.specs.declared.component.Component.{Component}
 use Rattle.ics_calendar.specs.declared.component.Component.TheVariants as component
 use Rattle.ics_calendar.specs.declared.component.Place.{Place}
@@ -19,77 +17,17 @@ use Rattle.ics_calendar.specs.Placed.{Placed, Open, property_name, place_of, is_
 use Rattle.ics_calendar.specs.Faults.{stands, kinds}
 use Rattle.ics_calendar.specs.FirstFault.{Fault, found, least_on, first_from, fault_at_end, no_open}
 use Rattle.ics_calendar.specs.Files.{event_by, begins_event, events_of}
-use Rattle.ics_calendar.specs.Pass.{collected_of, event_of, event_property, note}
+use Rattle.ics_calendar.specs.Reading.{event_property}
+use Rattle.ics_calendar.specs.Collecting.{collected_of, event_of, note}
 use Rattle.ics_calendar.proofs.NameLemmas.{TellsComponent, tells_component, equal}
 use Rattle.ics_calendar.proofs.Collects.{collected_of-more, parts_at}
-use Rattle.ics_calendar.proofs.PassLemmas.{ended_on, events_from, fault_at_end-more}
-
--- what began later stands further in
-abbrev Falls : List Open → Type 0
-Falls [] = Unit {0}
-Falls (c ∷ cs) = (innermost cs < c.begun) × Falls cs
-
--- the component that began on that line is not open
-abbrev Absent : ℕ → List Open → Type 0
-Absent b [] = Unit {0}
-Absent b (c ∷ cs) = (c.begun ≢ b) × Absent b cs
-
-below : (b : ℕ) (path : List Open) → Falls path → innermost path < b → Absent b path
-below b [] f h = tt
-below b (c ∷ cs) f h = (λ e. omega (arith, e, h), below b cs f.1 (omega (arith, f.0, h)))
-
-absent-innermost : (b : ℕ) (path : List Open) → 0 < b → Absent b path → innermost path ≢ b
-absent-innermost b [] h a = λ e. omega (arith, e, h)
-absent-innermost b (c ∷ cs) h a = a.0
-
-absent-behind : (b : ℕ) (l : Placed) → b < l.number → Absent b l.path → Absent b (path_behind l)
-absent-behind b l h a = by_kind (is_begin l) (is_end l)
-  where
-    out : (path : List Open) → Absent b path → Absent b (drop 1 path)
-    out [] a = tt
-    out (c ∷ cs) a = a.1
-
-    by_kind : (t e : Bool) → Absent b (cond t (record { name = component l; begun = l.number } ∷ l.path) (cond e (drop 1 l.path) l.path))
-    by_kind true e = (λ e. omega (arith, e, h), a)
-    by_kind false true = out l.path a
-    by_kind false false = a
-
-abbrev here : Line → List Open → Placed
-here line path = record { number = line.number; content = content_of line.bytes; path = path }
-
--- no line stands any more in a component that is closed
-gone : (b n : ℕ) (path : List Open) (lines : List Line) → 0 < b → b ≤ n → Absent b path → Rises n lines → lines_in b (placed_from path lines) ≡ []
-gone b n path [] p h a r = refl
-gone b n path (line ∷ lines) p h a r =
-    let l : Placed = here line path in
-    let later = gone b line.number (path_behind l) lines p (omega (arith, h, r.0)) (absent-behind b l (omega (arith, h, r.0)) a) r.1 in
-    other (innermost path) l (lines_in b (placed_from (path_behind l) lines)) (absent-innermost b path p a) ∙ later
-  where
-    other : (i : ℕ) (l : Placed) (ls : List Placed) → i ≢ b → cond (i == b) (l ∷ ls) ls ≡ ls
-    other i l ls ne = elim (eqb_tells i b) [ inl e ↦ absurd (ne e.1) | inr e ↦ rw e.0 refl ]
-
-lines_in-append : (b : ℕ) (xs ys : List Placed) → lines_in b (xs ++ ys) ≡ lines_in b xs ++ lines_in b ys
-lines_in-append b [] ys = refl
-lines_in-append b (x ∷ xs) ys = ap (λ r. cond (innermost x.path == b) (x ∷ r) r) (lines_in-append b xs ys) ∙ choose (innermost x.path == b) (lines_in b xs) (lines_in b ys)
-  where
-    choose : (t : Bool) (ys zs : List Placed) → cond t (x ∷ (ys ++ zs)) (ys ++ zs) ≡ cond t (x ∷ ys) ys ++ zs
-    choose true ys zs = refl
-    choose false ys zs = refl
-
-lines_in-here : (l : Placed) (ls : List Placed) → lines_in (innermost l.path) (l ∷ ls) ≡ l ∷ lines_in (innermost l.path) ls
-lines_in-here l ls = same (innermost l.path)
-  where
-    same : (i : ℕ) → cond (i == i) (l ∷ lines_in (innermost l.path) ls) (lines_in (innermost l.path) ls) ≡ l ∷ lines_in (innermost l.path) ls
-    same i = elim (eqb_tells i i) [ inl e ↦ rw e.0 refl | inr e ↦ absurd (e.1 refl) ]
+use Rattle.ics_calendar.proofs.Ended.{and-false, ended_on, events_from}
+use Rattle.ics_calendar.proofs.PassLemmas.{fault_at_end-more}
+use Rattle.ics_calendar.proofs.Paths.{Falls, Absent, below, here, gone, lines_in-whole}
 
 -- an END adds nothing to its event
 event_by-end : (ls : List Placed) (l : Placed) → name_of (property_name l.content) ≡ name.End → event_by (ls ++ l ∷ []) ≡ event_by ls
 event_by-end ls l e = ap event_of (collected_of-more ls l ∙ ap (λ n. note (event_property n (parts_at l)) (collected_of ls)) e)
-
--- what stands directly in a component stands there before its END
-lines_in-whole : (before : List Placed) (l : Placed) (lines : List Placed) → lines_in (innermost l.path) lines ≡ [] → lines_in (innermost l.path) (before ++ l ∷ lines) ≡ lines_in (innermost l.path) before ++ l ∷ []
-lines_in-whole before l lines e =
-    lines_in-append (innermost l.path) before (l ∷ lines) ∙ ap (λ ls. lines_in (innermost l.path) before ++ ls) (lines_in-here l lines ∙ ap (λ ls. l ∷ ls) e)
 
 abbrev event_at : List Placed → ℕ → EventSeen
 event_at whole begun = event_by (lines_in begun whole)
@@ -158,7 +96,7 @@ none-found p [] rest k e = (skip (p k) k (find p rest) e).0
 none-found p (j ∷ js) rest k e = none-found p js rest k (skip (p j) j (find p (js ++ k ∷ rest)) e).1
 
 nested : (p : FaultKind → Bool) → find p kinds ≡ None → p BadNesting ≡ false
-nested p e = none-found p (take 6 kinds) (drop 7 kinds) BadNesting e
+nested p e = none-found p (take 7 kinds) (drop 8 kinds) BadNesting e
 
 found-none : (number : ℕ) (kind : Option FaultKind) (later : Option Fault) → found number kind later ≡ None → (kind ≡ None) × (later ≡ None)
 found-none number (Some k) later e = cc
@@ -182,10 +120,6 @@ begin-no-end u e = let same : u ≡ codes "BEGIN" = equal u (codes "BEGIN") e in
 
 end-name : (u : List ℕ) → bytes_eq u (codes "END") ≡ true → name_of u ≡ name.End
 end-name u e = let same : u ≡ codes "END" = equal u (codes "END") e in rw same refl
-
-and-false : (b : Bool) → (b && false) ≡ false
-and-false true = refl
-and-false false = refl
 
 -- the events that begin on the lines
 abbrev begun : List Placed → List Placed → List EventSeen

@@ -32,7 +32,11 @@ use Rattle.ics_calendar.specs.declared.property.Property.TheVariants as property
 use Rattle.ics_calendar.specs.Event.{is_zoned, IsTime, longest, seconds_of, IsWithin, IsEnd, IsLasting, IsLength, IsEvent, HasZonesBelow, EndsBelow}
 use Rattle.ics_calendar.specs.Files.{time_of, length_of}
 use Rattle.ics_calendar.specs.Names.{name_of}
-use Rattle.ics_calendar.specs.Pass.{event_of, property_at, read_as, read_on, or_first, behind, closed, event_in, ended, stamp_fault, fault_at, fault_in, fault_on, unknown_zone, later_in, later_on, IsSoundStamp, IsSoundDuration, IsSound, AreSound, IsWhole}
+use Rattle.ics_calendar.specs.Reading.{property_at, read_as, read_on}
+use Rattle.ics_calendar.specs.Collecting.{event_of, or_first}
+use Rattle.ics_calendar.specs.LineFaults.{stamp_fault, fault_at, fault_in, fault_on, unknown_zone, later_in, later_on}
+use Rattle.ics_calendar.specs.Sound.{IsSoundStamp, IsSoundDuration, IsSound, AreSound, IsWhole}
+use Rattle.ics_calendar.specs.Pass.{behind, closed, event_in, ended}
 use Rattle.ics_calendar.specs.Values.{zone_name, dated_of, is_zoned_stamp, length_in_seconds, is_lasting, allowed, lasting_of, is_filled, same_zone, is_out, is_bad_end, is_bad_instant, both, ends_badly, ends_badly_later}
 
 -- A stamp lies in the years of stamps.

@@ -9,7 +9,11 @@ use Rattle.ics_calendar.specs.declared.property.Property.{Property}
 use Rattle.std.proofs.lemmas.List.Elements.{All-nil, All-push, All-append}
 use Rattle.ics_calendar.specs.Event.{EventSeen, FileSeen, HasZonesBelow, AreEvents}
 use Rattle.ics_calendar.specs.FirstFault.{Fault, found}
-use Rattle.ics_calendar.specs.Pass.{event_of, read_on, fault_on, later_on, behind, ended, or_else, given, refused, on_property, on_content, pass, AreSound, IsWhole}
+use Rattle.ics_calendar.specs.Reading.{read_on}
+use Rattle.ics_calendar.specs.Collecting.{event_of}
+use Rattle.ics_calendar.specs.LineFaults.{fault_on, later_on}
+use Rattle.ics_calendar.specs.Sound.{AreSound, IsWhole}
+use Rattle.ics_calendar.specs.Pass.{behind, ended, or_else, given, refused, on_property, on_content, pass}
 use Rattle.ics_calendar.specs.Seen.{seen_fault, NumbersFit}
 use Rattle.ics_calendar.proofs.Sound.{whole, zones-below, sound-behind}
 

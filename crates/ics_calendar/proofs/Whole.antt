@@ -11,7 +11,8 @@ use Rattle.ics_calendar.specs.Placed.{Placed, placed}
 use Rattle.ics_calendar.specs.Seen.{NumbersFit}
 use Rattle.ics_calendar.proofs.Firsts.{Finds, finds, finds-none, found-at-end, found-on-line}
 use Rattle.ics_calendar.proofs.Order.{events_from-begun}
-use Rattle.ics_calendar.proofs.PassLemmas.{events_from, pass-whole}
+use Rattle.ics_calendar.proofs.Ended.{events_from}
+use Rattle.ics_calendar.proofs.PassLemmas.{pass-whole}
 
 pub fits-from_within : (n : ℕ) (lines : List Line) → n + 1 < 2 ^ 64 → Within n lines → NumbersFit lines
 fits-from_within n [] l h = tt

@@ -1,5 +1,6 @@
 -- An event of a file, as contracts see it, and what holds of each (RFC 5545, section 3.6.1).
-use Rattle.std.specs.Prelude.{◌≡◌, ◌≢◌, ℕ, ◌+◌, ◌*◌, ◌<◌, ◌≤◌, Bool, true, false, IsTrue, List, [], is_some, IfSome, All, ℤ, pos, ◌≤ℤ◌, ◌+ℤ◌, ◌*ℤ◌}
+use Rattle.std.specs.Prelude.{◌≡◌, ◌≢◌, ℕ, ◌+◌, ◌*◌, ◌<◌, ◌≤◌, Bool, true, false, IsTrue, List, [], Option, is_some, IfSome, All, ℤ, pos, ◌≤ℤ◌, ◌+ℤ◌, ◌*ℤ◌}
+use Rattle.ics_values.specs.RuleParts.{RuleParts}
 use Rattle.ics_values.specs.Stamps.{stamp_day, IsStampDay}
 use Rattle.ics_values.specs.declared.local.Local.{Local}
 use Rattle.ics_values.specs.declared.duration.Duration.{Duration}
@@ -15,6 +16,7 @@ pub record EventSeen : Type 0 where
   pub sequence : ℕ
   pub start : Time
   pub length : Length
+  pub rule : Option RuleParts
   pub title : List ℕ
   pub location : List ℕ
   pub description : List ℕ

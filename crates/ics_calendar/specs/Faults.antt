@@ -1,15 +1,21 @@
 -- WHICH FAULT STANDS ON WHICH LINE: one case for each kind (RFC 5545, sections 3.1, 3.4, 3.6.1 and 3.8).
-use Rattle.std.specs.Prelude.{ℕ, Bool, false, ◌&&◌, ◌||◌, not, nat_le, List, [], ◌∷◌, length, codes, Option, is_some, is_none, option_map, Result}
+use Rattle.std.specs.Prelude.{ℕ, Bool, false, ◌&&◌, ◌||◌, not, nat_le, List, [], ◌∷◌, length, codes, Option, is_some, is_none, option_map, Result, if◌then◌else◌}
+use Rattle.std.specs.List.{list_any}
 use Rattle.std.specs.Str.{bytes_eq}
 use Rattle.ics_values.specs.Integers.{integer_of}
 use Rattle.ics_values.specs.Plain.{text_of}
+use Rattle.ics_values.specs.RuleParts.{RuleParts}
+use Rattle.ics_values.specs.Rules.{rule_of}
 use Rattle.ics_values.specs.declared.duration.Duration.{Duration}
 use Rattle.ics_values.specs.declared.duration.DurationFault.{DurationFault}
+use Rattle.ics_values.specs.declared.rule_text.RuleFault.{RuleFault}
+use Rattle.ics_calendar.specs.declared.date_values.DateValue.{DateValue}
 use Rattle.ics_calendar.specs.declared.dated.Dated.{Dated}
 use Rattle.ics_calendar.specs.declared.fault.FaultKind.{FaultKind}
-use Rattle.ics_calendar.specs.declared.fault.FaultKind.TheVariants.{BadLine, BadStamp, BadDuration, YearRange, NumberTooLarge, NotCalendar, BadNesting, TooDeep, MissingUid, MissingStart, Repeated, BadEnd, UnknownZone, ThisAndFuture, Exrule, OldVersion, NotYet}
+use Rattle.ics_calendar.specs.declared.fault.FaultKind.TheVariants.{BadLine, BadStamp, BadDuration, BadRule, YearRange, NumberTooLarge, NotCalendar, BadNesting, TooDeep, MissingUid, MissingStart, Repeated, BadEnd, UnknownZone, ThisAndFuture, Exrule, OldVersion, NotYet}
 use Rattle.ics_calendar.specs.Placed.{Placed, property_name, value, params_of, is_named, is_one_of, param, is_begin, is_end, is_outside, in_calendar, in_event, begins, is_closing, ends_event, has, first_named}
-use Rattle.ics_calendar.specs.Values.{dated_of, is_bad_stamp, is_far_stamp, is_zoned_stamp, lasting_of, is_bad_duration, is_large_duration, is_large_integer, is_filled, ends_badly, ends_badly_later}
+use Rattle.ics_calendar.specs.DateValues.{rdates_of, exdates_of, has_bad_stamp, has_far_stamp, has_bad_duration, has_large_duration}
+use Rattle.ics_calendar.specs.Values.{zone_name, dated_of, is_bad_stamp, is_far_stamp, is_zoned_stamp, lasting_of, is_bad_duration, is_large_duration, is_bad_rule, is_large_rule, is_large_integer, is_filled, ends_badly, ends_badly_later}
 
 -- the properties of an event that hold one stamp, those that it has at most once, and those that are not read yet
 abbrev pub stamp_names : List (List ℕ)
@@ -19,7 +25,7 @@ abbrev pub single_names : List (List ℕ)
 single_names = codes "UID" ∷ codes "DTSTART" ∷ codes "DTEND" ∷ codes "DURATION" ∷ codes "RRULE" ∷ codes "RECURRENCE-ID" ∷ codes "SEQUENCE" ∷ []
 
 abbrev pub unread_names : List (List ℕ)
-unread_names = codes "RRULE" ∷ codes "RDATE" ∷ codes "EXDATE" ∷ codes "RECURRENCE-ID" ∷ []
+unread_names = codes "RDATE" ∷ codes "EXDATE" ∷ codes "RECURRENCE-ID" ∷ []
 
 -- a property of an event with one of these names
 abbrev pub is_event_property : List (List ℕ) → Placed → Bool
@@ -28,12 +34,27 @@ is_event_property names line = in_event line && is_one_of names line
 abbrev pub is_property : List ℕ → Placed → Bool
 is_property name line = in_event line && is_named name line
 
--- what a line says, read as a stamp or as a duration
+-- what a line says, read as a stamp, as a duration or as a rule
 abbrev pub dated_on : Placed → Dated
 dated_on line = dated_of (params_of line.content) (value line)
 
 abbrev pub lasting_on : Placed → Result Duration DurationFault
 lasting_on line = lasting_of (value line)
+
+abbrev pub rule_on : Placed → Result RuleParts RuleFault
+rule_on line = rule_of (value line)
+
+-- what its values say, if it is an RDATE or an EXDATE
+abbrev pub dates_on : Placed → List DateValue
+dates_on line =
+    let zoned = is_some (zone_name (params_of line.content)) in
+    if is_named (codes "RDATE") line then rdates_of zoned (value line)
+    else if is_named (codes "EXDATE") line then exdates_of zoned (value line)
+    else []
+
+-- a property of an event with a value that passes
+abbrev pub has_date : (DateValue → Bool) → Placed → Bool
+has_date test line = in_event line && list_any test (dates_on line)
 
 -- what the first of the lines with that name says
 abbrev pub first_text : List ℕ → List Placed → Option (List ℕ)
@@ -45,11 +66,14 @@ first_dated name lines = option_map dated_on (first_named name lines)
 -- THE FIRST ROUND. Does this fault stand on the line? The lines beside it are those before it that stand directly in the same component.
 abbrev pub stands : FaultKind → List Placed → Placed → Bool
 stands BadLine beside line = is_none line.content
-stands BadStamp beside line = is_event_property stamp_names line && is_bad_stamp (dated_on line).stamp
-stands BadDuration beside line = is_property (codes "DURATION") line && is_bad_duration (lasting_on line)
-stands YearRange beside line = is_event_property stamp_names line && is_far_stamp (dated_on line).stamp
+stands BadStamp beside line = has_date has_bad_stamp line || (is_event_property stamp_names line && is_bad_stamp (dated_on line).stamp)
+stands BadDuration beside line = has_date has_bad_duration line || (is_property (codes "DURATION") line && is_bad_duration (lasting_on line))
+stands BadRule beside line = is_property (codes "RRULE") line && is_bad_rule (rule_on line)
+stands YearRange beside line = has_date has_far_stamp line || (is_event_property stamp_names line && is_far_stamp (dated_on line).stamp)
 stands NumberTooLarge beside line =
-    (is_property (codes "DURATION") line && is_large_duration (lasting_on line))
+    has_date has_large_duration line
+    || (is_property (codes "DURATION") line && is_large_duration (lasting_on line))
+    || (is_property (codes "RRULE") line && is_large_rule (rule_on line))
     || (is_property (codes "SEQUENCE") line && is_large_integer (integer_of (value line)))
 stands NotCalendar beside line = is_outside line && not (begins (codes "VCALENDAR") line)
 stands BadNesting beside line = is_end line && not (is_closing line)
@@ -76,5 +100,5 @@ stands_later _ beside line = false
 -- the kinds of faults on lines, the least first
 abbrev pub kinds : List FaultKind
 kinds =
-    BadLine ∷ BadStamp ∷ BadDuration ∷ YearRange ∷ NumberTooLarge ∷ NotCalendar ∷ BadNesting ∷ TooDeep ∷ MissingUid ∷ MissingStart ∷ Repeated ∷ BadEnd ∷ UnknownZone ∷ ThisAndFuture ∷ Exrule ∷ OldVersion
+    BadLine ∷ BadStamp ∷ BadDuration ∷ BadRule ∷ YearRange ∷ NumberTooLarge ∷ NotCalendar ∷ BadNesting ∷ TooDeep ∷ MissingUid ∷ MissingStart ∷ Repeated ∷ BadEnd ∷ UnknownZone ∷ ThisAndFuture ∷ Exrule ∷ OldVersion
     ∷ NotYet ∷ []

@@ -12,8 +12,8 @@ use Rattle.ics_calendar.specs.declared.time.Length.{Length}
 use Rattle.ics_calendar.specs.declared.time.Length.TheVariants.{Open, Until, Lasting}
 use Rattle.ics_calendar.specs.Event.{EventSeen, FileSeen}
 use Rattle.ics_calendar.specs.Placed.{Placed, placed, value, in_calendar, begins, lines_in, first_named}
-use Rattle.ics_calendar.specs.Values.{stamp_in, ok_or_zero, is_cancelled}
-use Rattle.ics_calendar.specs.Faults.{first_text, first_dated, lasting_on, stands, stands_later}
+use Rattle.ics_calendar.specs.Values.{stamp_in, rule_in, ok_or_zero, is_cancelled}
+use Rattle.ics_calendar.specs.Faults.{first_text, first_dated, lasting_on, rule_on, stands, stands_later}
 use Rattle.ics_calendar.specs.FirstFault.{Fault, IsFirst, IsFirstOrLast, NoneStand, fault_at_end, first_fault, later_fault}
 
 -- The time of a DTSTART or DTEND. An accepted file has one where it is asked for, and no zones yet.
@@ -33,6 +33,7 @@ event_by own = record {
   sequence = unwrap_or (option_map (λ line. ok_or_zero (integer_of (value line))) (first_named (codes "SEQUENCE") own)) 0;
   start = time_of (first_dated (codes "DTSTART") own);
   length = length_of (first_dated (codes "DTEND") own) (option_map lasting_on (first_named (codes "DURATION") own));
+  rule = rule_in (option_map rule_on (first_named (codes "RRULE") own));
   title = unwrap_or (first_text (codes "SUMMARY") own) [];
   location = unwrap_or (first_text (codes "LOCATION") own) [];
   description = unwrap_or (first_text (codes "DESCRIPTION") own) [];

@@ -4,8 +4,13 @@ pub mod Names
 pub mod Components
 pub mod Placed
 pub mod Values
+pub mod DateValues
 pub mod Faults
 pub mod FirstFault
 pub mod Files
+pub mod Reading
+pub mod Collecting
+pub mod LineFaults
+pub mod Sound
 pub mod Pass
 pub mod Seen

@@ -5,6 +5,7 @@ use Rattle.std.specs.Str.{bytes_eq}
 use Rattle.ics_text.specs.Bytes.{upper}
 use Rattle.ics_text.specs.Contents.{param_of}
 use Rattle.ics_values.specs.Durations.{duration_of}
+use Rattle.ics_values.specs.RuleParts.{RuleParts}
 use Rattle.ics_values.specs.Texts.{begins, is_minus}
 use Rattle.ics_values.specs.Stamps.{stamp_of}
 use Rattle.ics_values.specs.declared.duration.Duration.{Duration}
@@ -16,6 +17,8 @@ use Rattle.ics_values.specs.declared.duration.DurationFault.{DurationFault}
 use Rattle.ics_values.specs.declared.duration.DurationFault.TheVariants as duration
 use Rattle.ics_values.specs.declared.integer.IntegerFault.{IntegerFault}
 use Rattle.ics_values.specs.declared.integer.IntegerFault.TheVariants as integer
+use Rattle.ics_values.specs.declared.rule_text.RuleFault.{RuleFault}
+use Rattle.ics_values.specs.declared.rule_text.RuleFault.TheVariants as rule
 use Rattle.ics_calendar.specs.declared.dated.Dated.{Dated}
 use Rattle.ics_calendar.specs.Event.{longest, seconds_of, is_zoned}
 
@@ -68,6 +71,19 @@ is_large_duration _ = false
 abbrev pub is_large_integer : Result ℕ IntegerFault → Bool
 is_large_integer (Err integer.NumberTooLarge) = true
 is_large_integer _ = false
+
+abbrev pub is_bad_rule : Result RuleParts RuleFault → Bool
+is_bad_rule (Err rule.BadRule) = true
+is_bad_rule _ = false
+
+abbrev pub is_large_rule : Result RuleParts RuleFault → Bool
+is_large_rule (Err rule.NumberTooLarge) = true
+is_large_rule _ = false
+
+-- the rule of an RRULE that is there and in order
+abbrev pub rule_in : Option (Result RuleParts RuleFault) → Option RuleParts
+rule_in None = None
+rule_in (Some rule) = result_ok rule
 
 -- a SEQUENCE that is no number counts as 0
 abbrev pub ok_or_zero : Result ℕ IntegerFault → ℕ

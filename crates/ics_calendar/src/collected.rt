@@ -1,8 +1,10 @@
 //! What has been read of an event so far.
 ghost use Rattle.std.specs.Prelude.{◌≡◌, [], unwrap_or};
-ghost use Rattle.ics_calendar.specs.Values.{ends_badly, ends_badly_later, is_filled};
+ghost use Rattle.ics_calendar.specs.Values.{ends_badly, ends_badly_later, is_filled, rule_in};
 ghost use Rattle.ics_calendar.specs.Files.{time_of, length_of};
-ghost use Rattle.ics_calendar.specs.Pass.{nothing, note, or_first, end_of_event, event_of, IsWhole};
+ghost use Rattle.ics_calendar.specs.Collecting.{nothing, note, or_first, event_of};
+ghost use Rattle.ics_calendar.specs.LineFaults.{end_of_event};
+ghost use Rattle.ics_calendar.specs.Sound.{IsWhole};
 
 use crate::dated::Dated;
 use crate::ends::{ends_badly, ends_badly_later};
@@ -11,7 +13,7 @@ use crate::fault::FaultKind;
 use crate::property::Property;
 use crate::text::Text;
 use crate::time::{Length, Time};
-use ics_values::{Duration, DurationFault, Stamp};
+use ics_values::{Duration, DurationFault, Parts, RuleFault, Stamp};
 use std::alloc::Global;
 
 /// The first value of each property of an event, and whether it has had the others that it may have once.
@@ -21,7 +23,7 @@ pub struct Collected {
     pub start: Option<Dated>,
     pub end: Option<Dated>,
     pub duration: Option<Result<Duration, DurationFault>>,
-    pub has_rule: bool,
+    pub rule: Option<Result<Parts, RuleFault>>,
     pub has_recurrence: bool,
     pub sequence: Option<u32>,
     pub title: Option<Text>,
@@ -86,6 +88,15 @@ fn length_of(end: &Option<Dated>, duration: Option<Result<Duration, DurationFaul
     }
 }
 
+fn rule_in(rule: Option<Result<Parts, RuleFault>>) -> Option<Parts>
+    ensures { result ≡ rule_in rule }
+{
+    match rule {
+        Some(Ok(rule)) => Some(rule),
+        _ => None,
+    }
+}
+
 impl Collected {
     /// What an event has that has only begun.
     pub fn nothing() -> Collected
@@ -96,7 +107,7 @@ impl Collected {
             start: None,
             end: None,
             duration: None,
-            has_rule: false,
+            rule: None,
             has_recurrence: false,
             sequence: None,
             title: None,
@@ -115,7 +126,7 @@ impl Collected {
             Property::Dtstart(dated) => keep_dated(&mut self.start, dated),
             Property::Dtend(dated) => keep_dated(&mut self.end, dated),
             Property::Duration(duration) => self.duration = self.duration.or(Some(duration)),
-            Property::Rrule => self.has_rule = true,
+            Property::Rrule(rule) => self.rule = self.rule.or(Some(rule)),
             Property::RecurrenceId(_, _) => self.has_recurrence = true,
             Property::Sequence(number) => {
                 self.sequence = self.sequence.or(Some(number.unwrap_or(0)));
@@ -160,6 +171,7 @@ impl Collected {
         Event {
             start: time_of(&self.start),
             length: length_of(&self.end, self.duration),
+            rule: rule_in(self.rule),
             uid: text_or_empty(alloc, self.uid),
             sequence: self.sequence.unwrap_or(0),
             title: text_or_empty(alloc, self.title),

@@ -1,5 +1,6 @@
 use crate::text::Text;
 use crate::time::{Length, Time};
+use ics_values::Parts;
 use std::marker::Model;
 
 /// An event of a file (RFC 5545, section 3.6.1).
@@ -13,6 +14,8 @@ pub struct Event {
     pub sequence: u32,
     pub start: Time,
     pub length: Length,
+    /// The recurrence rule of its RRULE (RFC 5545, section 3.8.5.3).
+    pub rule: Option<Parts>,
     /// The SUMMARY, empty where there is none.
     pub title: Text,
     pub location: Text,
@@ -26,7 +29,7 @@ impl Model for Event {
 
     ghost Value = { EventSeen };
 
-    ghost view = { λ a. record { uid = a.uid; sequence = a.sequence; start = a.start; length = a.length; title = a.title; location = a.location; description = a.description; cancelled = a.cancelled } };
+    ghost view = { λ a. record { uid = a.uid; sequence = a.sequence; start = a.start; length = a.length; rule = a.rule; title = a.title; location = a.location; description = a.description; cancelled = a.cancelled } };
 
-    ghost invariant = { λ a. IsEvent (record { uid = a.uid; sequence = a.sequence; start = a.start; length = a.length; title = a.title; location = a.location; description = a.description; cancelled = a.cancelled }) };
+    ghost invariant = { λ a. IsEvent (record { uid = a.uid; sequence = a.sequence; start = a.start; length = a.length; rule = a.rule; title = a.title; location = a.location; description = a.description; cancelled = a.cancelled }) };
 }

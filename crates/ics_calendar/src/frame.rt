@@ -1,15 +1,18 @@
 //! A component that is open.
 ghost use Rattle.std.specs.Prelude.{◌≡◌, IfOk};
-ghost use Rattle.ics_calendar.specs.Pass.{zone_fault, begin_fault, end_fault_in, once, stamp_fault, duration_fault, number_fault, range_fault, event_fault, inside_fault, outside_fault, fault_in, unknown_zone, later_end, later_in, read_in, event_in};
+ghost use Rattle.ics_calendar.specs.Reading.{read_in};
+ghost use Rattle.ics_calendar.specs.LineFaults.{zone_fault, begin_fault, end_fault_in, once, stamp_fault, duration_fault, rule_fault, number_fault, dates_fault, range_fault, event_fault, inside_fault, outside_fault, fault_in, unknown_zone, later_end, later_in};
+ghost use Rattle.ics_calendar.specs.Pass.{event_in};
 
 use crate::collected::Collected;
 use crate::component::{Component, Place};
+use crate::date_values::DateValues;
 use crate::dated::Dated;
 use crate::fault::FaultKind;
 use crate::name::{Name, name_of};
 use crate::property::Property;
 use ics_text::Content;
-use ics_values::{Duration, DurationFault, IntegerFault, Stamp, StampFault};
+use ics_values::{Duration, DurationFault, IntegerFault, Parts, RuleFault, Stamp, StampFault};
 use std::alloc::{AllocError, Global};
 
 /// A component that is open: which one, where its lines stand, and what has been read of it if it is an event.
@@ -71,12 +74,38 @@ fn duration_fault(
     }
 }
 
+fn rule_fault(rule: Result<Parts, RuleFault>, more: Option<FaultKind>) -> Option<FaultKind>
+    ensures { result ≡ rule_fault rule more }
+{
+    match rule {
+        Err(RuleFault::BadRule) => Some(FaultKind::BadRule),
+        Err(RuleFault::NumberTooLarge) => Some(FaultKind::NumberTooLarge),
+        Ok(_) => more,
+    }
+}
+
 fn number_fault(number: Result<u32, IntegerFault>, more: Option<FaultKind>) -> Option<FaultKind>
     ensures { result ≡ number_fault number more }
 {
     match number {
         Err(IntegerFault::NumberTooLarge) => Some(FaultKind::NumberTooLarge),
         _ => more,
+    }
+}
+
+fn dates_fault(values: &DateValues) -> Option<FaultKind>
+    ensures { result ≡ dates_fault values.now }
+{
+    if values.have_bad_stamp() {
+        Some(FaultKind::BadStamp)
+    } else if values.have_bad_duration() {
+        Some(FaultKind::BadDuration)
+    } else if values.have_far_stamp() {
+        Some(FaultKind::YearRange)
+    } else if values.have_large_duration() {
+        Some(FaultKind::NumberTooLarge)
+    } else {
+        Some(FaultKind::NotYet)
     }
 }
 
@@ -100,12 +129,12 @@ fn event_fault(property: &Property, had: &Collected) -> Option<FaultKind>
         Property::Duration(duration) => {
             duration_fault(*duration, once(had.duration.is_some(), None))
         }
-        Property::Rrule => once(had.has_rule, Some(FaultKind::NotYet)),
+        Property::Rrule(rule) => rule_fault(*rule, once(had.rule.is_some(), None)),
         Property::RecurrenceId(dated, range) => {
             stamp_fault(dated.stamp, once(had.has_recurrence, range_fault(*range)))
         }
         Property::Sequence(number) => number_fault(*number, once(had.sequence.is_some(), None)),
-        Property::Dates => Some(FaultKind::NotYet),
+        Property::Dates(values) => dates_fault(values),
         Property::Exrule => Some(FaultKind::Exrule),
         Property::Version(old) => {
             if *old {

@@ -3,12 +3,14 @@
 
 mod collected;
 mod component;
+mod date_values;
 mod dated;
 mod ends;
 mod event;
 mod events;
 mod fault;
 mod frame;
+mod lasting;
 mod laws;
 mod name;
 mod property;

@@ -2,16 +2,20 @@
 ghost use Rattle.std.specs.Prelude.{◌≡◌, IfOk, is_some, codes};
 ghost use Rattle.std.specs.Str.{bytes_eq};
 ghost use Rattle.ics_text.specs.Contents.{param_of};
-ghost use Rattle.ics_calendar.specs.Values.{dated_of, zone_name, is_lasting, allowed, lasting_of, is_cancelled};
-ghost use Rattle.ics_calendar.specs.Pass.{event_property, calendar_property, property_at};
+ghost use Rattle.ics_calendar.specs.Values.{dated_of, zone_name, is_cancelled};
+ghost use Rattle.ics_calendar.specs.Reading.{event_property, calendar_property, property_at};
 
 use crate::component::{Component, Place};
+use crate::date_values::DateValues;
 use crate::dated::Dated;
+use crate::lasting::lasting;
 use crate::name::Name;
 use crate::text::Text;
 use crate::words::is_word;
 use ics_text::Content;
-use ics_values::{Duration, DurationFault, IntegerFault, read_duration, read_integer, read_stamp};
+use ics_values::{
+    Duration, DurationFault, IntegerFault, Parts, RuleFault, read_integer, read_rule, read_stamp,
+};
 use std::alloc::{AllocError, Global};
 
 /// A line as its component reads it. What is not read there is `Other`.
@@ -24,12 +28,12 @@ pub enum Property {
     Dtstart(Dated),
     Dtend(Dated),
     Duration(Result<Duration, DurationFault>),
-    Rrule,
+    Rrule(Result<Parts, RuleFault>),
     /// With whether it has a RANGE.
     RecurrenceId(Dated, bool),
     Sequence(Result<u32, IntegerFault>),
     /// An RDATE or an EXDATE.
-    Dates,
+    Dates(DateValues),
     Exrule,
     /// Whether it is 1.0.
     Version(bool),
@@ -62,48 +66,16 @@ fn dated(alloc: Global, content: &Content<'_>) -> Result<Dated, AllocError>
     })
 }
 
+fn has_zone(content: &Content<'_>) -> bool
+    ensures { result ≡ is_some (zone_name content.now.params) }
+{
+    content.param(b"TZID").is_some()
+}
+
 fn has_range(content: &Content<'_>) -> bool
     ensures { result ≡ is_some (param_of (codes "RANGE") content.now.params) }
 {
     content.param(b"RANGE").is_some()
-}
-
-/// The longest event, in seconds.
-const LONGEST: u64 = 36_525 * 86_400;
-
-fn is_lasting(duration: Duration) -> bool
-    ensures { result ≡ is_lasting duration }
-{
-    let Some(days) = duration.days.checked_mul(86_400) else {
-        return false;
-    };
-    let Some(seconds) = days.checked_add(duration.seconds) else {
-        return false;
-    };
-    (!duration.negative || seconds == 0) && seconds <= LONGEST
-}
-
-/// The duration of an event: not negative, but for zero, and no longer than an event may be.
-fn lasting(text: &[u8]) -> Result<Duration, DurationFault>
-    ensures { result ≡ lasting_of text.now }
-{
-    match read_duration(text) {
-        Ok(duration) => {
-            if is_lasting(duration) {
-                Ok(duration)
-            } else {
-                Err(DurationFault::BadDuration)
-            }
-        }
-        Err(DurationFault::NumberTooLarge) => {
-            if text.first() == Some(&b'-') {
-                Err(DurationFault::BadDuration)
-            } else {
-                Err(DurationFault::NumberTooLarge)
-            }
-        }
-        Err(DurationFault::BadDuration) => Err(DurationFault::BadDuration),
-    }
 }
 
 fn is_cancelled(text: &[u8]) -> bool
@@ -122,12 +94,17 @@ fn event_property(alloc: Global, name: Name, content: &Content<'_>) -> Result<Pr
         Name::Dtstart => Ok(Property::Dtstart(dated(alloc, content)?)),
         Name::Dtend => Ok(Property::Dtend(dated(alloc, content)?)),
         Name::Duration => Ok(Property::Duration(lasting(value))),
-        Name::Rrule => Ok(Property::Rrule),
+        Name::Rrule => Ok(Property::Rrule(read_rule(value))),
         Name::RecurrenceId => {
             Ok(Property::RecurrenceId(dated(alloc, content)?, has_range(content)))
         }
         Name::Sequence => Ok(Property::Sequence(read_integer(value))),
-        Name::Rdate | Name::Exdate => Ok(Property::Dates),
+        Name::Rdate => Ok(Property::Dates(DateValues::of_rdate(alloc, value, has_zone(content))?)),
+        Name::Exdate => Ok(Property::Dates(DateValues::of_exdate(
+            alloc,
+            value,
+            has_zone(content),
+        )?)),
         Name::Exrule => Ok(Property::Exrule),
         Name::Summary => Ok(Property::Summary(Text::of_value(alloc, value)?)),
         Name::Location => Ok(Property::Location(Text::of_value(alloc, value)?)),

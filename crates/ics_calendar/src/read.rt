@@ -2,7 +2,8 @@
 ghost use Rattle.std.specs.Prelude.{◌≡◌, ◌∷◌, ◌++◌, [], ◌≤◌, length, IfOk, IfSome, option_map, None};
 ghost use Rattle.ics_calendar.specs.FirstFault.{found};
 ghost use Rattle.ics_calendar.specs.Files.{file_of};
-ghost use Rattle.ics_calendar.specs.Pass.{pass, bottom, at_end, or_else, given, IsWhole};
+ghost use Rattle.ics_calendar.specs.Sound.{IsWhole};
+ghost use Rattle.ics_calendar.specs.Pass.{pass, bottom, at_end, or_else, given};
 ghost use Rattle.ics_calendar.specs.Seen.{seen_fault, seen_answer, NumbersFit, LastFits, SaysFile};
 
 use crate::collected::Collected;

@@ -1,6 +1,8 @@
 //! The components that are open.
 ghost use Rattle.std.specs.Prelude.{◌≡◌, ◌∷◌, [], IfOk};
-ghost use Rattle.ics_calendar.specs.Pass.{bottom, opened, closed, closed_event, behind, ended, read_on, fault_on, later_on, is_lowest};
+ghost use Rattle.ics_calendar.specs.Reading.{read_on};
+ghost use Rattle.ics_calendar.specs.LineFaults.{fault_on, later_on};
+ghost use Rattle.ics_calendar.specs.Pass.{bottom, opened, closed, closed_event, behind, ended, is_lowest};
 
 use crate::collected::Collected;
 use crate::component::{Component, Place};

@@ -1,18 +1,30 @@
 -- Worked examples of the definitions.
 use Rattle.std.specs.Prelude.{int_lt}
-use Rattle.std.proofs.Common.{◌≡◌, ℕ, ℤ, pos, neg_ℤ, ◌+ℤ◌, [], ◌∷◌, None, Bool, true, false, cond, refl, arith}
+use Rattle.std.proofs.Common.{◌≡◌, ℕ, ℤ, pos, neg_ℤ, ◌+ℤ◌, ◌≤ℤ◌, [], ◌∷◌, None, Some, IfSome, Bool, true, false, cond, refl, sym, subst, arith}
 use Rattle.std.proofs.lemmas.Int.{ints}
 use Rattle.std.specs.declared.cmp.Ordering.TheVariants.{Less, Greater}
+use Rattle.ics_values.specs.Days.{days_on_literals}
 use Rattle.ics_values.specs.Locals.{local_at}
+use Rattle.ics_values.specs.RuleParts.{RuleParts, every}
+use Rattle.ics_values.specs.declared.frequency.Frequency.TheVariants.{Daily}
+use Rattle.ics_values.specs.declared.local.Local.{Local}
+use Rattle.ics_values.specs.declared.until.Until.TheVariants as until
+use Rattle.ics_rule.specs.Kept.{is_kept, rules_on_literals, until_moment}
+use Rattle.ics_rule.specs.Locals.{number}
+use Rattle.ics_rule.specs.Recurrence.{Recurrence}
 use Rattle.ics_values.specs.declared.stamp.Stamp.{Stamp}
 use Rattle.ics_values.specs.declared.stamp.Stamp.TheVariants.{Date, Floating, Utc}
 use Rattle.ics_calendar.specs.declared.event.Event.{Event}
+use Rattle.ics_calendar.specs.declared.time.Time.{Time}
 use Rattle.ics_calendar.specs.declared.time.Length.{Length}
 use Rattle.ics_calendar.specs.declared.time.Length.TheVariants.{Open, Until, Lasting}
 use Rattle.ics_series.specs.declared.window.Window.{Window}
 use Rattle.ics_series.specs.Clocks.{Clock, utc_clock}
 use Rattle.ics_series.specs.Entry.{Entry}
 use Rattle.ics_series.specs.Finish.{finish}
+use Rattle.ics_series.specs.Found.{firsts_after}
+use Rattle.ics_series.specs.Starts.{recurrence_by, time_at, IsRuleStart}
+use Rattle.ics_series.specs.declared.start.Start.{Start}
 use Rattle.ics_series.specs.Meeting.{is_met}
 use Rattle.ics_series.specs.Occurs.{Placed, placed_cmp}
 
@@ -22,14 +34,15 @@ event_of sequence start length = record {
   sequence = sequence;
   start = record { stamp = start; zone = None };
   length = length;
+  rule = None;
   title = [];
   location = [];
   description = [];
   cancelled = false;
 }
 
-abbrev until : Stamp → Length
-until end = Until (record { stamp = end; zone = None })
+abbrev to : Stamp → Length
+to end = Until (record { stamp = end; zone = None })
 
 abbrev lasting : ℕ → ℕ → Length
 lasting days seconds = Lasting (record { negative = false; days = days; seconds = seconds })
@@ -51,7 +64,7 @@ springing = record {
 -- Finishes.
 
 -- from 10:00 to 11:00
-hour : finish_in utc_clock (Utc (local_at (pos 19_727) 36_000)) (until (Utc (local_at (pos 19_727) 39_600))) ≡ pos 1_704_452_400
+hour : finish_in utc_clock (Utc (local_at (pos 19_727) 36_000)) (to (Utc (local_at (pos 19_727) 39_600))) ≡ pos 1_704_452_400
 hour = refl
 
 -- a date without an end lasts its day, in a zone five hours behind UTC
@@ -59,11 +72,11 @@ day_behind : finish_in behind (Date (pos 19_727)) Open ≡ pos 1_704_517_200
 day_behind = refl
 
 -- a DTEND on the date itself: one day all the same
-day_at_least : finish_in utc_clock (Date (pos 19_727)) (until (Date (pos 19_727))) ≡ pos 1_704_499_200
+day_at_least : finish_in utc_clock (Date (pos 19_727)) (to (Date (pos 19_727))) ≡ pos 1_704_499_200
 day_at_least = refl
 
 -- to a DTEND three days on
-three_days : finish_in utc_clock (Date (pos 19_727)) (until (Date (pos 19_730))) ≡ pos 1_704_672_000
+three_days : finish_in utc_clock (Date (pos 19_727)) (to (Date (pos 19_730))) ≡ pos 1_704_672_000
 three_days = refl
 
 -- of P2DT5H a date lasts the two whole days
@@ -88,6 +101,71 @@ long_day = refl
 
 no_length : finish_in utc_clock (Utc (local_at (pos 19_727) 36_000)) Open ≡ pos 1_704_448_800
 no_length = refl
+
+-- Finishes of later starts.
+abbrev later_in : Clock → Stamp → Length → Local → ℤ
+later_in display start length local = finish display (event_of 0 start length) (time_at (record { stamp = start; zone = None }) local)
+
+-- an hour, a week later
+later_hour : later_in utc_clock (Utc (local_at (pos 19_727) 36_000)) (to (Utc (local_at (pos 19_727) 39_600))) (local_at (pos 19_734) 36_000) ≡ pos 1_705_057_200
+later_hour = refl
+
+-- three days, from another date
+later_days : later_in utc_clock (Date (pos 19_727)) (to (Date (pos 19_730))) (local_at (pos 19_734) 0) ≡ pos 1_705_276_800
+later_days = refl
+
+-- P1D from 2007-03-10T12:00 lasts 23 hours also where DTSTART is a week before
+later_short_day : later_in springing (Floating (local_at (pos 13_575) 43_200)) (lasting 1 0) (local_at (pos 13_582) 43_200) ≡ pos 1_173_628_800
+later_short_day = refl
+
+-- a DTEND is 24 hours off, as it is from DTSTART
+later_exact_day : later_in springing (Floating (local_at (pos 13_575) 43_200)) (to (Floating (local_at (pos 13_576) 43_200))) (local_at (pos 13_582) 43_200) ≡ pos 1_173_632_400
+later_exact_day = refl
+
+-- Starts of a rule: 2024-01-05T10:00:00Z, each day until 2024-01-06T10:00:00Z.
+abbrev daily : RuleParts
+daily = record (every Daily) { until = Some (until.Utc (local_at (pos 19_728) 36_000)) }
+
+abbrev daily_event : Event
+daily_event = record (event_of 0 (Utc (local_at (pos 19_727) 36_000)) Open) { rule = Some daily }
+
+abbrev daily_time : ℤ → Time
+daily_time day = time_at daily_event.start (local_at day 36_000)
+
+second_day : IsRuleStart utc_clock daily_event (daily_time (pos 19_728))
+unfolding rules_on_literals days_on_literals until_moment
+second_day = record {
+  rule = recurrence_by (Utc (local_at (pos 19_727) 36_000)) daily;
+  has = refl;
+  local = local_at (pos 19_728) 36_000;
+  calendar = (omega (arith, ints), omega (arith, ints));
+  kept = refl;
+  is = refl;
+  until = omega (arith, ints);
+}
+
+-- the rule keeps the third day's local too, but its instant is after UNTIL
+third_kept : is_kept (recurrence_by (Utc (local_at (pos 19_727) 36_000)) daily) (number (local_at (pos 19_729) 36_000)) ≡ true
+unfolding rules_on_literals days_on_literals
+third_kept = refl
+
+third_day : IsRuleStart utc_clock daily_event (daily_time (pos 19_729)) → ⊥
+unfolding until_moment
+third_day r =
+    let of : recurrence_by (Utc (local_at (pos 19_727) 36_000)) daily ≡ r.rule = some-same _ _ r.has in
+    let last : pos 1_704_621_600 ≤ℤ pos 1_704_535_200 = subst (λ q. IfSome (until_moment q) (λ last. pos 1_704_621_600 ≤ℤ last)) (sym of) r.until in
+    omega (arith, ints, last)
+  where
+    some-same : (a b : Recurrence) → Some a ≡ Some b → a ≡ b
+    some-same a b h = cc
+
+-- of equal instants the first
+abbrev start : ℤ → ℕ → Start
+start moment second = record { moment = moment; local = local_at (pos 19_727) second }
+
+each_once : firsts_after None (start (pos 1) 0 ∷ start (pos 1) 60 ∷ start (pos 2) 30 ∷ start (pos 1) 90 ∷ [])
+    ≡ start (pos 1) 0 ∷ start (pos 2) 30 ∷ start (pos 1) 90 ∷ []
+each_once = refl
 
 -- Windows.
 abbrev window : Bool → Window

@@ -1,18 +1,20 @@
 -- There is one master of a UID, and so no two occurrences have one UID and one recurrence.
-use Rattle.std.proofs.Common.{◌≡◌, ℕ, List, Some, refl, sym, ◌∙◌, ap}
+use Rattle.std.proofs.Common.{◌≡◌, ℕ, List, Some, refl, sym, ◌∙◌, ap, subst, arith}
 use Rattle.std.specs.Prelude.{ℤ, slice_get}
 use Rattle.std.specs.Cmp.{IsTotalOrder}
 use Rattle.std.specs.Ordering.{nat_cmp, ordering_reverse, ordering_then}
 use Rattle.std.proofs.lemmas.Cmp.{nat_cmp_total, on_total, then_total}
+use Rattle.std.proofs.lemmas.Int.{ints}
 use Rattle.std.proofs.lemmas.Map.Lookups.{exact_unsigned}
 use Rattle.std.specs.declared.cmp.Ordering.{Ordering}
 use Rattle.std.specs.declared.cmp.Ordering.TheVariants.{Less, Equal, Greater}
 use Rattle.ics_calendar.specs.declared.event.Event.{Event}
 use Rattle.ics_calendar.specs.declared.events.FileEvents.{FileEvents}
-use Rattle.ics_series.specs.Clocks.{Clock, instant}
+use Rattle.ics_series.specs.Clocks.{Clock}
 use Rattle.ics_series.specs.Entry.{Entry}
 use Rattle.ics_series.specs.Finish.{finish}
-use Rattle.ics_series.specs.Occurs.{Placed, IsPlaced, IsMaster, Occurs, placed_cmp}
+use Rattle.ics_series.specs.Occurs.{Placed, IsPlaced, IsInstance, IsMaster, Occurs, placed_cmp}
+use Rattle.ics_series.proofs.GiverLemmas.{same-giver}
 
 pub placed_total : IsTotalOrder placed_cmp
 placed_total = then_total (on_total (λ p. p.event.sequence) nat_cmp_total) (then_total (on_total (λ p. p.file) nat_cmp_total) (on_total (λ p. p.place) nat_cmp_total))
@@ -64,12 +66,18 @@ same-entry o q a b c d =
     ap (λ s. build s o.finish o.recurrence o.event) a ∙ (ap (λ f. build q.start f o.recurrence o.event) b
     ∙ (ap (λ r. build q.start q.finish r o.event) c ∙ ap (λ e. build q.start q.finish q.recurrence e) d))
 
+-- an event has one occurrence at most with a start
+one-instance : (display : Clock) (event : Event) (start end other : ℤ) → IsInstance display event start end → IsInstance display event start other → end ≡ other
+one-instance display event start end other h k =
+    let below = h.earliest k.given k.gives (sym k.starts) in
+    let above = k.earliest h.given h.gives (sym h.starts) in
+    let same : h.given ≡ k.given = same-giver display event h.given k.given h.gives k.gives (omega (arith, ints, below, above)) in
+    h.ends ∙ (ap (finish display event) same ∙ sym k.ends)
+
 pub one-recurrence : (files : List FileEvents) (display : Clock) (o q : Entry) → Occurs files display o → Occurs files display q → o.event.uid ≡ q.event.uid → o.recurrence ≡ q.recurrence → o ≡ q
 one-recurrence files display o q h k u r =
     let uid : h.0.event.uid ≡ k.0.event.uid = sym (ap (λ e. e.uid) h.2.event) ∙ (u ∙ ap (λ e. e.uid) k.2.event) in
     let event : h.0.event ≡ k.0.event = ap (λ p. p.event) (one-master files h.0 k.0 h.1 k.1 uid) in
-    same-entry o q
-    (h.2.lasts.starts ∙ (ap (λ e. instant display e.start) event ∙ sym k.2.lasts.starts))
-    (h.2.lasts.ends ∙ (ap (λ e. finish display e e.start) event ∙ sym k.2.lasts.ends))
-    r
-    (h.2.event ∙ (event ∙ sym k.2.event))
+    let start : o.start ≡ q.start = sym h.2.recurrence ∙ (r ∙ k.2.recurrence) in
+    let instance : IsInstance display k.0.event q.start o.finish = subst (λ e. IsInstance display e q.start o.finish) event (subst (λ t. IsInstance display h.0.event t o.finish) start h.2.lasts) in
+    same-entry o q start (one-instance display k.0.event q.start o.finish q.finish instance k.2.lasts) r (h.2.event ∙ (event ∙ sym k.2.event))

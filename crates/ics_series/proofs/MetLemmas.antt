@@ -1,230 +1,178 @@
--- The masters' occurrences that meet a window.
-use Rattle.std.specs.Prelude.{◌<ℤ◌, ◌≤ℤ◌, int_lt, int_le, slice_get, if◌then◌else◌, IsSome}
-use Rattle.std.proofs.Common.{◌≡◌, ℕ, ◌<◌, ◌≤◌, ℤ, List, [], ◌∷◌, ◌++◌, map, length, get_or, drop, Option, Some, None, ◌⊎◌, inl, inr, ⊎_elim, Bool, true, false, not, ◌&&◌, ◌||◌, refl, sym, ◌∙◌, ap, subst, arith}
+-- The occurrences of one event that meet a window.
+use Rattle.std.specs.Prelude.{◌≤ℤ◌, if◌then◌else◌}
+use Rattle.std.proofs.Common.{◌≡◌, ℕ, ◌≤◌, List, [], ◌∷◌, ◌++◌, length, drop, Some, None, inl, inr, ⊎_elim, Bool, true, false, refl, sym, ◌∙◌, ap, subst, arith}
 use Rattle.std.specs.List.{cons_option, filter_map}
-use Rattle.std.specs.Option.{option_and_then}
-use Rattle.std.specs.Ordering.{int_eq}
 use Rattle.std.specs.declared.cmp.Ordering.TheVariants.{Less}
 use Rattle.std.proofs.lemmas.Int.{ints}
 use Rattle.std.proofs.Math.ListN.{drop_of_length-le}
 use Rattle.std.proofs.lemmas.List.{append-nil}
-use Rattle.std.proofs.lemmas.List.Elements.{Contains-get_or}
+use Rattle.std.specs.Ordering.{int_cmp}
+use Rattle.ics_zone.specs.declared.display.Display.{Display}
 use Rattle.ics_calendar.specs.declared.event.Event.{Event}
-use Rattle.ics_calendar.specs.declared.events.FileEvents.{FileEvents}
-use Rattle.ics_series.specs.declared.spot.Spot.{Spot}
+use Rattle.ics_calendar.specs.declared.time.Time.{Time}
+use Rattle.ics_series.specs.declared.start.Start.{Start}
 use Rattle.ics_series.specs.declared.window.Window.{Window}
-use Rattle.ics_series.specs.Clocks.{Clock}
+use Rattle.ics_series.specs.Clocks.{Clock, display_clock, instant, written}
 use Rattle.ics_series.specs.Entry.{Entry}
-use Rattle.ics_series.specs.Listing.{IsIn}
+use Rattle.ics_series.specs.Found.{met_by, moment_cmp, time_of, AreStarts, IsStart}
+use Rattle.ics_series.specs.Listing.{IsIn, IsListing}
 use Rattle.ics_series.specs.Rising.{IsBefore, Rises}
-use Rattle.ics_series.specs.Meeting.{is_met, is_under_way, own_entry}
+use Rattle.ics_series.specs.Meeting.{is_met, entry_from}
 use Rattle.ics_series.specs.Meets.{Meets}
-use Rattle.ics_series.specs.MetList.{IsMetList, entry_uid_cmp}
-use Rattle.ics_series.specs.Occurs.{Placed, IsPlaced, IsOf}
-use Rattle.ics_series.specs.Spots.{event_at}
-use Rattle.ics_series.specs.Versions.{AreMasters, spot_of, uid_cmp}
+use Rattle.ics_series.specs.MetList.{entry_start_cmp, IsEventMet, IsLengthened}
+use Rattle.ics_series.proofs.FirstLemmas.{moment_total, same-moment}
+use Rattle.ics_series.proofs.GiverLemmas.{same-giver}
+use Rattle.ics_series.proofs.ListingLemmas.{before-in}
 use Rattle.ics_series.proofs.MasterLemmas.{same-entry}
-use Rattle.ics_series.proofs.SortLemmas.{in-contains}
+use Rattle.ics_series.proofs.MeetingLemmas.{is_met-meets, meets-is_met}
+use Rattle.ics_series.proofs.NearLemmas.{meets-nearby}
 
--- an event's occurrence, if it meets the window
-abbrev pub own_met : Clock → Window → Event → Option Entry
-own_met display w event = if is_met w (own_entry display event) then Some (own_entry display event) else None
+-- the occurrences with these starts that meet the window
+abbrev pub met : Clock → Window → Event → List Start → List Entry
+met display w event starts = filter_map (met_by display w event) starts
 
-abbrev pub met_at : Clock → Window → List FileEvents → Spot → Option Entry
-met_at display w files spot = option_and_then (own_met display w) (event_at files spot)
+-- of a strictly rising list two that tie are one
+one-of-tied : (x y : Start) (xs : List Start) → Rises moment_cmp xs → IsIn x xs → IsIn y xs → x.moment ≡ y.moment → x ≡ y
+one-of-tied x y [] r m n e = absurd m
+one-of-tied x y (z ∷ zs) r m n e =
+    ⊎_elim
+    (λ a. ⊎_elim (λ b. a ∙ sym b) (λ b. absurd (untied z y (before-in moment_cmp moment_total z y zs r.0 b) (ap (λ s. s.moment) (sym a) ∙ e))) n)
+    (λ a. ⊎_elim (λ b. absurd (untied z x (before-in moment_cmp moment_total z x zs r.0 a) (ap (λ s. s.moment) (sym b) ∙ sym e))) (λ b. one-of-tied x y zs r.1 a b e) n)
+    m
+  where
+    untied : (s t : Start) → moment_cmp s t ≡ Less → s.moment ≡ t.moment → ⊥
+    untied s t l f = let q = same-moment s t f in cc
 
-abbrev pub met : Clock → Window → List FileEvents → List Spot → List Entry
-met display w files spots = filter_map (met_at display w files) spots
+module _ (display : Clock) (w : Window) (event : Event) where
+  -- the occurrence with a start
+  own : Start → Entry
+  own s = entry_from display event (time_of event s)
 
--- The test.
-both : (a b : Bool) → (a && b) ≡ true → (a ≡ true) × (b ≡ true)
-both true b e = (refl, e)
-both false b e = let f : false ≡ true = e in absurd cc
+  added : Bool → Start → List Entry → List Entry
+  added true s es = own s ∷ es
+  added false s es = es
 
-both-back : (a b : Bool) → a ≡ true → b ≡ true → (a && b) ≡ true
-both-back true b e f = f
-both-back false b e f = e
-
-either : (a b : Bool) → (a || b) ≡ true → (a ≡ true) ⊎ (b ≡ true)
-either true b e = inl refl
-either false b e = inr e
-
-either-left : (a b : Bool) → a ≡ true → (a || b) ≡ true
-either-left true b e = refl
-either-left false b e = let f : false ≡ true = e in absurd cc
-
-either-right : (a b : Bool) → b ≡ true → (a || b) ≡ true
-either-right true b e = refl
-either-right false b e = e
-
-not-or-by : (a b : Bool) → (a ≡ true → b ≡ true) → (not a || b) ≡ true
-not-or-by true b h = h refl
-not-or-by false b h = refl
-
-by-not-or : (a b : Bool) → (not a || b) ≡ true → a ≡ true → b ≡ true
-by-not-or true b h e = h
-by-not-or false b h e = let f : false ≡ true = e in absurd cc
-
-less-true : (a b : ℤ) → int_lt a b ≡ true → a <ℤ b
-less-true a b e = grind (arith, ints)
-
-true-less : (a b : ℤ) → a <ℤ b → int_lt a b ≡ true
-true-less a b e = grind (arith, ints)
-
-le-true : (a b : ℤ) → int_le a b ≡ true → a ≤ℤ b
-le-true a b e = grind (arith, ints)
-
-true-le : (a b : ℤ) → a ≤ℤ b → int_le a b ≡ true
-true-le a b e = grind (arith, ints)
-
-equal-true : (a b : ℤ) → int_eq a b ≡ true → a ≡ b
-equal-true a b e = grind (arith, ints)
-
-true-equal : (a b : ℤ) → a ≡ b → int_eq a b ≡ true
-true-equal a b e = grind (arith, ints)
-
-pub is_met-meets : (w : Window) (o : Entry) → is_met w o ≡ true → Meets w o
-is_met-meets w o e =
-    let begun = both (int_lt o.start w.to) (is_under_way w o.start o.finish) e in
-    let parts = both (int_lt w.from o.finish || (int_eq o.finish o.start && int_le w.from o.start)) (not w.notstarted || int_le w.from o.start) begun.1 in
-    record {
-      begun = less-true o.start w.to begun.0;
-      lasting = ⊎_elim (λ l. inl (less-true w.from o.finish l))
-          (λ r. let k = both (int_eq o.finish o.start) (int_le w.from o.start) r in inr (equal-true o.finish o.start k.0, le-true w.from o.start k.1))
-          (either (int_lt w.from o.finish) (int_eq o.finish o.start && int_le w.from o.start) parts.0);
-      started = λ n. le-true w.from o.start (by-not-or w.notstarted (int_le w.from o.start) parts.1 n);
-    }
-
-pub meets-is_met : (w : Window) (o : Entry) → Meets w o → is_met w o ≡ true
-meets-is_met w o m =
-    both-back (int_lt o.start w.to) (is_under_way w o.start o.finish) (true-less o.start w.to m.begun)
-    (both-back (int_lt w.from o.finish || (int_eq o.finish o.start && int_le w.from o.start)) (not w.notstarted || int_le w.from o.start)
-    (⊎_elim
-    (λ l. either-left (int_lt w.from o.finish) (int_eq o.finish o.start && int_le w.from o.start) (true-less w.from o.finish l))
-    (λ r. either-right (int_lt w.from o.finish) (int_eq o.finish o.start && int_le w.from o.start)
-    (both-back (int_eq o.finish o.start) (int_le w.from o.start) (true-equal o.finish o.start r.0) (true-le w.from o.start r.1)))
-    m.lasting)
-    (not-or-by w.notstarted (int_le w.from o.start) (λ n. true-le w.from o.start (m.started n))))
-
--- The events that stand there.
-placed-event : (files : List FileEvents) (p : Placed) → IsPlaced files p → event_at files (spot_of p) ≡ Some p.event
-placed-event files p h = ap (option_and_then (λ f. slice_get f.events p.place)) h.within.1 ∙ h.within.2
-
--- the occurrences of placed events that meet the window
-met_of : Clock → Window → List Placed → List Entry
-met_of display w ps = filter_map (λ p. own_met display w p.event) ps
-
-module _ (display : Clock) (w : Window) where
-  own : Placed → Entry
-  own p = own_entry display p.event
-
-  added : Bool → Placed → List Entry → List Entry
-  added true p es = own p ∷ es
-  added false p es = es
-
-  met_of-cons : (p : Placed) (ps : List Placed) → met_of display w (p ∷ ps) ≡ added (is_met w (own p)) p (met_of display w ps)
-  unfolding met_of own added
-  met_of-cons p ps = by (is_met w (own p))
+  met-cons : (s : Start) (ss : List Start) → met display w event (s ∷ ss) ≡ added (is_met w (own s)) s (met display w event ss)
+  unfolding own added
+  met-cons s ss = by (is_met w (own s))
     where
-      by : (b : Bool) → cons_option (if b then Some (own p) else None) (met_of display w ps) ≡ added b p (met_of display w ps)
+      by : (b : Bool) → cons_option (if b then Some (own s) else None) (met display w event ss) ≡ added b s (met display w event ss)
       by true = refl
       by false = refl
 
-  met-placed : (files : List FileEvents) (ps : List Placed) → ((p : Placed) → IsIn p ps → IsPlaced files p) → met display w files (map spot_of ps) ≡ met_of display w ps
-  unfolding met_of
-  met-placed files [] h = refl
-  met-placed files (p ∷ ps) h =
-      ap (λ o. cons_option (option_and_then (own_met display w) o) (met display w files (map spot_of ps))) (placed-event files p (h p (inl refl)))
-      ∙ ap (cons_option (own_met display w p.event)) (met-placed files ps (λ q m. h q (inr m)))
+  abbrev AreOwn : List Start → Type 0
+  AreOwn ss = (s : Start) → IsIn s ss → IsStart display event s
 
-  before-added : (b : Bool) (x p : Placed) (es : List Entry) → uid_cmp x p ≡ Less → IsBefore entry_uid_cmp (own x) es → IsBefore entry_uid_cmp (own x) (added b p es)
-  unfolding own added
-  before-added true x p es l h = (l, h)
-  before-added false x p es l h = h
+  -- The order.
+  own-less : (s t : Start) → IsStart display event s → IsStart display event t → moment_cmp s t ≡ Less → entry_start_cmp (own s) (own t) ≡ Less
+  unfolding own
+  own-less s t a b l = ap (λ x. int_cmp x (instant display (time_of event t))) (sym a.moment) ∙ (ap (int_cmp s.moment) (sym b.moment) ∙ l)
 
-  before-met : (x : Placed) (ps : List Placed) → IsBefore uid_cmp x ps → IsBefore entry_uid_cmp (own x) (met_of display w ps)
-  unfolding met_of
-  before-met x [] h = tt
-  before-met x (p ∷ ps) h =
-      subst (IsBefore entry_uid_cmp (own x)) (sym (met_of-cons p ps)) (before-added (is_met w (own p)) x p (met_of display w ps) h.0 (before-met x ps h.1))
-
-  rises-added : (b : Bool) (p : Placed) (es : List Entry) → IsBefore entry_uid_cmp (own p) es → Rises entry_uid_cmp es → Rises entry_uid_cmp (added b p es)
+  before-added : (b : Bool) (x s : Start) (es : List Entry) → entry_start_cmp (own x) (own s) ≡ Less → IsBefore entry_start_cmp (own x) es → IsBefore entry_start_cmp (own x) (added b s es)
   unfolding added
-  rises-added true p es h r = (h, r)
-  rises-added false p es h r = r
+  before-added true x s es l h = (l, h)
+  before-added false x s es l h = h
 
-  rises-met : (ps : List Placed) → Rises uid_cmp ps → Rises entry_uid_cmp (met_of display w ps)
-  unfolding met_of
-  rises-met [] h = tt
-  rises-met (p ∷ ps) h =
-      subst (Rises entry_uid_cmp) (sym (met_of-cons p ps)) (rises-added (is_met w (own p)) p (met_of display w ps) (before-met p ps h.0) (rises-met ps h.1))
+  before-met : (x : Start) (ss : List Start) → IsStart display event x → AreOwn ss → IsBefore moment_cmp x ss → IsBefore entry_start_cmp (own x) (met display w event ss)
+  before-met x [] a o h = tt
+  before-met x (s ∷ ss) a o h =
+      subst (IsBefore entry_start_cmp (own x)) (sym (met-cons s ss))
+      (before-added (is_met w (own s)) x s (met display w event ss) (own-less x s a (o s (inl refl)) h.0) (before-met x ss a (λ t m. o t (inr m)) h.1))
 
-  -- e is the occurrence of one of them, and meets the window
-  record IsMetOf (ps : List Placed) (e : Entry) : Type 0 where
-    of : Placed
-    in_list : IsIn of ps
-    is : e ≡ own of
+  rises-added : (b : Bool) (s : Start) (es : List Entry) → IsBefore entry_start_cmp (own s) es → Rises entry_start_cmp es → Rises entry_start_cmp (added b s es)
+  unfolding added
+  rises-added true s es h r = (h, r)
+  rises-added false s es h r = r
+
+  rises-met : (ss : List Start) → AreOwn ss → Rises moment_cmp ss → Rises entry_start_cmp (met display w event ss)
+  rises-met [] o h = tt
+  rises-met (s ∷ ss) o h =
+      subst (Rises entry_start_cmp) (sym (met-cons s ss))
+      (rises-added (is_met w (own s)) s (met display w event ss) (before-met s ss (o s (inl refl)) (λ t m. o t (inr m)) h.0) (rises-met ss (λ t m. o t (inr m)) h.1))
+
+  -- The members: e has one of these starts, and meets the window.
+  record IsMetOf (ss : List Start) (e : Entry) : Type 0 where
+    start : Start
+    stands : IsIn start ss
+    is : e ≡ own start
     met : is_met w e ≡ true
 
-  in-added : (b : Bool) (p : Placed) (ps : List Placed) (es : List Entry) (e : Entry) → is_met w (own p) ≡ b → (IsIn e es → IsMetOf ps e) → IsIn e (added b p es) → IsMetOf (p ∷ ps) e
+  in-added : (b : Bool) (s : Start) (ss : List Start) (es : List Entry) (e : Entry) → is_met w (own s) ≡ b → (IsIn e es → IsMetOf ss e) → IsIn e (added b s es) → IsMetOf (s ∷ ss) e
   unfolding added
-  in-added true p ps es e t ih m =
-      ⊎_elim (λ s. record { of = p; in_list = inl refl; is = s; met = ap (is_met w) s ∙ t })
-      (λ n. let k = ih n in record { of = k.of; in_list = inr k.in_list; is = k.is; met = k.met }) m
-  in-added false p ps es e t ih m = let k = ih m in record { of = k.of; in_list = inr k.in_list; is = k.is; met = k.met }
+  in-added true s ss es e t ih m =
+      ⊎_elim (λ a. record { start = s; stands = inl refl; is = a; met = ap (is_met w) a ∙ t })
+      (λ n. let k = ih n in record { start = k.start; stands = inr k.stands; is = k.is; met = k.met }) m
+  in-added false s ss es e t ih m = let k = ih m in record { start = k.start; stands = inr k.stands; is = k.is; met = k.met }
 
-  in-met : (ps : List Placed) (e : Entry) → IsIn e (met_of display w ps) → IsMetOf ps e
-  unfolding met_of
+  in-met : (ss : List Start) (e : Entry) → IsIn e (met display w event ss) → IsMetOf ss e
   in-met [] e m = absurd m
-  in-met (p ∷ ps) e m = in-added (is_met w (own p)) p ps (met_of display w ps) e refl (in-met ps e) (subst (IsIn e) (met_of-cons p ps) m)
+  in-met (s ∷ ss) e m = in-added (is_met w (own s)) s ss (met display w event ss) e refl (in-met ss e) (subst (IsIn e) (met-cons s ss) m)
 
-  added-in : (b : Bool) (p q : Placed) (ps : List Placed) (es : List Entry) → is_met w (own p) ≡ b → is_met w (own q) ≡ true → (IsIn q ps → IsIn (own q) es) → IsIn q (p ∷ ps) → IsIn (own q) (added b p es)
+  added-in : (b : Bool) (s t : Start) (ss : List Start) (es : List Entry) → is_met w (own s) ≡ b → is_met w (own t) ≡ true → (IsIn t ss → IsIn (own t) es) → IsIn t (s ∷ ss) → IsIn (own t) (added b s es)
   unfolding added
-  added-in true p q ps es t u ih m = ⊎_elim (λ s. inl (ap own s)) (λ n. inr (ih n)) m
-  added-in false p q ps es t u ih m = ⊎_elim (λ s. let f : true ≡ false = sym u ∙ (ap (λ x. is_met w (own x)) s ∙ t) in absurd cc) ih m
+  added-in true s t ss es e u ih m = ⊎_elim (λ a. inl (ap own a)) (λ n. inr (ih n)) m
+  added-in false s t ss es e u ih m = ⊎_elim (λ a. let f : true ≡ false = sym u ∙ (ap (λ x. is_met w (own x)) a ∙ e) in absurd cc) ih m
 
-  met-in : (q : Placed) (ps : List Placed) → is_met w (own q) ≡ true → IsIn q ps → IsIn (own q) (met_of display w ps)
-  unfolding met_of
-  met-in q [] u m = absurd m
-  met-in q (p ∷ ps) u m =
-      subst (IsIn (own q)) (sym (met_of-cons p ps)) (added-in (is_met w (own p)) p q ps (met_of display w ps) refl u (met-in q ps u) m)
+  met-in : (t : Start) (ss : List Start) → is_met w (own t) ≡ true → IsIn t ss → IsIn (own t) (met display w event ss)
+  met-in t [] u m = absurd m
+  met-in t (s ∷ ss) u m =
+      subst (IsIn (own t)) (sym (met-cons s ss)) (added-in (is_met w (own s)) s t ss (met display w event ss) refl u (met-in t ss u) m)
 
-  own-is : (p : Placed) → IsOf display p (own p)
+-- Found starts give the occurrences.
+module _ (display : Display) (w : Window) (event : Event) (starts : List Start) (h : AreStarts (display_clock display) event w starts) where
+  -- a start that meets the window is given by its earliest local
+  found-is : (s : Start) → IsIn s starts → is_met w (entry_from (display_clock display) event (time_of event s)) ≡ true
+      → IsEventMet (display_clock display) event w (entry_from (display_clock display) event (time_of event s))
+  found-is s m t =
+      let start = h.has.are s m in
+      let meets = is_met-meets w (entry_from (display_clock display) event (time_of event s)) t in (
+        record {
+          event = refl;
+          recurrence = refl;
+          lasts = record {
+            given = time_of event s;
+            gives = start.gives;
+            starts = refl;
+            earliest = λ other g e.
+                let found = h.has.all other g (meets-nearby display event w (time_of event s) other start.gives e meets) in
+                let same : found.start ≡ s = one-of-tied found.start s starts h.rises found.stands m (found.same ∙ (e ∙ sym start.moment)) in
+                subst (λ x. written (time_of event x).stamp ≤ℤ written other.stamp) same found.earlier;
+            ends = refl;
+          };
+        },
+        meets,
+      )
+
+  -- an occurrence that meets the window has a start that was found
+  is-found : (e : Entry) → IsEventMet (display_clock display) event w e → (s : Start) × IsIn s starts × (e ≡ entry_from (display_clock display) event (time_of event s))
+  is-found e o =
+      let of = o.0 in
+      let given : Time = of.lasts.given in
+      let by : e ≡ entry_from (display_clock display) event given = same-entry e (entry_from (display_clock display) event given) of.lasts.starts of.lasts.ends (of.recurrence ∙ of.lasts.starts) of.event in
+      let found = h.has.all given of.lasts.gives (meets-nearby display event w given given of.lasts.gives refl (subst (Meets w) by o.1)) in
+      let start = h.has.are found.start found.stands in
+      let above = of.lasts.earliest (time_of event found.start) start.gives (sym start.moment ∙ (found.same ∙ sym of.lasts.starts)) in
+      let same : given ≡ time_of event found.start = same-giver (display_clock display) event given (time_of event found.start) of.lasts.gives start.gives (omega (arith, ints, above, found.earlier)) in
+      (found.start, found.stands, by ∙ ap (entry_from (display_clock display) event) same)
+
+  pub met-listing : IsListing entry_start_cmp (IsEventMet (display_clock display) event w) (met (display_clock display) w event starts)
   unfolding own
-  own-is p = record { event = refl; recurrence = refl; lasts = record { starts = refl; ends = refl } }
+  met-listing = record {
+    rises = rises-met (display_clock display) w event starts h.has.are h.rises;
+    exact = λ e. (
+      λ m. let k = in-met (display_clock display) w event starts e m in
+          subst (IsEventMet (display_clock display) event w) (sym k.is) (found-is k.start k.stands (ap (is_met w) (sym k.is) ∙ k.met)),
+      λ o. let k = is-found e o in
+          subst (λ x. IsIn x (met (display_clock display) w event starts)) (sym k.2)
+          (met-in (display_clock display) w event k.0 starts (ap (is_met w) (sym k.2) ∙ meets-is_met w e o.1) k.1),
+    );
+  }
 
-  is-own : (p : Placed) (e : Entry) → IsOf display p e → e ≡ own p
-  unfolding own
-  is-own p e h = same-entry e (own_entry display p.event)
-      h.lasts.starts h.lasts.ends (h.recurrence ∙ h.lasts.starts) h.event
-
-  pub met-listing : (files : List FileEvents) (spots : List Spot) → AreMasters files spots → IsMetList files display w (met display w files spots)
-  met-listing files spots h =
-      let placed : (p : Placed) → IsIn p h.masters → IsPlaced files p = λ p m. ((h.listing.exact p).0 m).placed in
-      let same : met display w files spots ≡ met_of display w h.masters = ap (met display w files) h.spots_are ∙ met-placed files h.masters placed in
-      subst (IsMetList files display w) (sym same) (record {
-        rises = rises-met h.masters h.listing.rises;
-        exact = λ e. (
-          λ m. let k = in-met h.masters e m in
-              ((k.of, (h.listing.exact k.of).0 k.in_list, subst (IsOf display k.of) (sym k.is) (own-is k.of)), is_met-meets w e k.met),
-          λ o. let same = is-own o.0.0 e o.0.2 in
-              subst (λ x. IsIn x (met_of display w h.masters)) (sym same)
-              (met-in o.0.0 h.masters (ap (is_met w) (sym same) ∙ meets-is_met w e o.1) ((h.listing.exact o.0.0).1 o.0.1)),
-        );
-      })
-
--- The loop over the masters.
-pub stands : (files : List FileEvents) (spots : List Spot) (i : ℕ) (d : Spot) → AreMasters files spots → i < length spots → IsSome (event_at files (get_or spots i d))
-stands files spots i d h l =
-    let m : IsIn (get_or spots i d) (map spot_of h.masters) = subst (IsIn (get_or spots i d)) h.spots_are (in-contains (get_or spots i d) spots (Contains-get_or spots i d l)) in
-    let p = in-map (get_or spots i d) h.masters m in
-    let e : event_at files (get_or spots i d) ≡ Some p.0.event = ap (event_at files) p.2 ∙ placed-event files p.0 ((h.listing.exact p.0).0 p.1).placed in
-    subst IsSome (sym e) refl
-  where
-    in-map : (s : Spot) (ps : List Placed) → IsIn s (map spot_of ps) → (p : Placed) × IsIn p ps × (s ≡ spot_of p)
-    in-map s [] m = absurd m
-    in-map s (p ∷ ps) m = ⊎_elim (λ e. (p, inl refl, e)) (λ n. let k = in-map s ps n in (k.0, inr k.1, k.2)) m
-
-pub finished : (display : Clock) (w : Window) (files : List FileEvents) (spots : List Spot) (xs : List Entry) (i : ℕ) → length spots ≤ i
-    → xs ++ met display w files (drop i spots) ≡ met display w files spots → met display w files spots ≡ xs
-finished display w files spots xs i l e = sym e ∙ (ap (λ s. xs ++ met display w files s) (drop_of_length-le spots l) ∙ append-nil xs)
+-- The loop over the starts.
+pub lengthened : (display : Display) (w : Window) (event : Event) (starts : List Start) (before after : List Entry) (i : ℕ) → AreStarts (display_clock display) event w starts → length starts ≤ i
+    → after ++ met (display_clock display) w event (drop i starts) ≡ before ++ met (display_clock display) w event starts → IsLengthened (display_clock display) event w before after
+lengthened display w event starts before after i h l e = record {
+  more = met (display_clock display) w event starts;
+  are = met-listing display w event starts h;
+  behind = sym (sym e ∙ (ap (λ s. after ++ met (display_clock display) w event s) (drop_of_length-le starts l) ∙ append-nil after));
+}

@@ -1,5 +1,5 @@
 -- Where an occurrence ends (RFC 5545, sections 3.6.1 and 3.8.2).
-use Rattle.std.specs.Prelude.{ℤ, pos, ◌+ℤ◌, ◌-ℤ◌, ◌*◌}
+use Rattle.std.specs.Prelude.{ℤ, pos, ◌+◌, ◌*◌, ◌+ℤ◌, ◌-ℤ◌, ◌*ℤ◌}
 use Rattle.std.specs.Int.{int_max}
 use Rattle.ics_values.specs.declared.duration.Duration.{Duration}
 use Rattle.ics_values.specs.declared.stamp.Stamp.{Stamp}
@@ -32,3 +32,13 @@ end_by display first given stamp (Lasting duration) = later_by (clock_of display
 abbrev pub finish : Clock → Event → Time → ℤ
 finish display event given =
     int_max (instant display given) (end_by display event.start given event.start.stamp event.length)
+
+-- How many seconds an event lasts, where each day counts 86,400 of them.
+abbrev pub seconds_by : Clock → Time → Stamp → Length → ℤ
+seconds_by display first (Date day) length = days_lasting day length *ℤ pos 86_400
+seconds_by display first stamp Open = pos 0
+seconds_by display first stamp (Until end) = int_max (pos 0) (instant display end -ℤ instant display first)
+seconds_by display first stamp (Lasting duration) = pos (duration.days * 86_400 + duration.seconds)
+
+abbrev pub seconds_lasting : Clock → Event → ℤ
+seconds_lasting display event = seconds_by display event.start event.start.stamp event.length

@@ -3,6 +3,7 @@ pub mod Contents
 pub mod Entry
 pub mod EntryLaws
 pub mod Finish
+pub mod Found
 pub mod Laws
 pub mod Listing
 pub mod Meeting
@@ -11,4 +12,5 @@ pub mod MetList
 pub mod Occurs
 pub mod Rising
 pub mod Spots
+pub mod Starts
 pub mod Versions

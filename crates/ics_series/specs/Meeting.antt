@@ -1,18 +1,19 @@
--- Which events' occurrences meet a window, as a test.
+-- Which occurrences meet a window, as a test.
 use Rattle.std.specs.Prelude.{ℤ, Bool, not, ◌&&◌, ◌||◌, int_lt, int_le}
 use Rattle.std.specs.Ordering.{int_eq}
 use Rattle.ics_calendar.specs.declared.event.Event.{Event}
+use Rattle.ics_calendar.specs.declared.time.Time.{Time}
 use Rattle.ics_series.specs.declared.window.Window.{Window}
 use Rattle.ics_series.specs.Clocks.{Clock, instant}
 use Rattle.ics_series.specs.Entry.{Entry}
 use Rattle.ics_series.specs.Finish.{finish}
 
--- the occurrence that starts at an event's DTSTART
-abbrev pub own_entry : Clock → Event → Entry
-own_entry display event = record {
-  start = instant display event.start;
-  finish = finish display event event.start;
-  recurrence = instant display event.start;
+-- the occurrence of an event whose start a time gives
+abbrev pub entry_from : Clock → Event → Time → Entry
+entry_from display event given = record {
+  start = instant display given;
+  finish = finish display event given;
+  recurrence = instant display given;
   event = event;
 }
 

@@ -1,13 +1,15 @@
--- Which occurrences the files of a folder have (RFC 5545, sections 3.6.1, 3.8.4 and 3.8.7.4).
-use Rattle.std.specs.Prelude.{◌≡◌, ◌≢◌, ℕ, ℤ, List, Some, slice_get}
+-- Which occurrences the files of a folder have (RFC 5545, sections 3.6.1, 3.8.4, 3.8.5 and 3.8.7.4).
+use Rattle.std.specs.Prelude.{◌≡◌, ◌≢◌, ◌≤ℤ◌, ℕ, ℤ, List, Some, slice_get}
 use Rattle.std.specs.Ordering.{nat_cmp, on, then_cmp}
 use Rattle.std.specs.declared.cmp.Ordering.{Ordering}
 use Rattle.std.specs.declared.cmp.Ordering.TheVariants.{Less}
 use Rattle.ics_calendar.specs.declared.event.Event.{Event}
 use Rattle.ics_calendar.specs.declared.events.FileEvents.{FileEvents}
-use Rattle.ics_series.specs.Clocks.{Clock, instant}
+use Rattle.ics_calendar.specs.declared.time.Time.{Time}
+use Rattle.ics_series.specs.Clocks.{Clock, instant, written}
 use Rattle.ics_series.specs.Entry.{Entry}
 use Rattle.ics_series.specs.Finish.{finish}
+use Rattle.ics_series.specs.Starts.{GivesStart}
 
 -- an event, the number of its file and its place in the file
 pub record Placed : Type 0 where
@@ -28,17 +30,20 @@ pub record IsMaster (files : List FileEvents) (p : Placed) : Type 0 where
   pub placed : IsPlaced files p
   pub greatest : (q : Placed) → IsPlaced files q → q.event.uid ≡ p.event.uid → placed_cmp p q ≢ Less
 
--- an event occurs from this instant to that one
+-- an event occurs from this instant to that one; of the times that give the start the one with the earliest local gives the finish
 pub record IsInstance (display : Clock) (event : Event) (start end : ℤ) : Type 0 where
-  pub starts : start ≡ instant display event.start
-  pub ends : end ≡ finish display event event.start
+  pub given : Time
+  pub gives : GivesStart display event given
+  pub starts : start ≡ instant display given
+  pub earliest : (other : Time) → GivesStart display event other → instant display other ≡ start → written given.stamp ≤ℤ written other.stamp
+  pub ends : end ≡ finish display event given
 
--- an occurrence of the event p, whose start tells it from the others
-pub record IsOf (display : Clock) (p : Placed) (o : Entry) : Type 0 where
-  pub event : o.event ≡ p.event
+-- an occurrence of the event e, whose start tells it from the others
+pub record IsOf (display : Clock) (e : Event) (o : Entry) : Type 0 where
+  pub event : o.event ≡ e
   pub recurrence : o.recurrence ≡ o.start
-  pub lasts : IsInstance display p.event o.start o.finish
+  pub lasts : IsInstance display e o.start o.finish
 
 -- an occurrence of the folder: one of a master
 abbrev pub Occurs : List FileEvents → Clock → Entry → Type 0
-Occurs files display o = (p : Placed) × IsMaster files p × IsOf display p o
+Occurs files display o = (p : Placed) × IsMaster files p × IsOf display p.event o

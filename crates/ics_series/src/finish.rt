@@ -1,82 +1,70 @@
 //! Where an event's occurrence ends.
-ghost use Rattle.std.specs.Prelude.{◌≡◌, ◌+◌, ◌*◌, ◌≤◌, ◌<ℤ◌, ◌≤ℤ◌, ◌+ℤ◌, ◌*ℤ◌, pos, neg_ℤ};
-ghost use Rattle.ics_calendar.specs.Event.{IsLasting, IsLength, IsTime};
-ghost use Rattle.ics_series.specs.Clocks.{clock_of, day_of, display_clock, instant, local_at, midnight};
-ghost use Rattle.ics_series.specs.Finish.{days_lasting, end_by, finish, later_by};
+ghost use Rattle.std.specs.Prelude.{◌≡◌, ◌+◌, ◌*◌, ◌<◌, ◌≤◌, ◌<ℤ◌, ◌≤ℤ◌, ◌+ℤ◌, ◌*ℤ◌, pos, neg_ℤ, IfSome};
+ghost use Rattle.ics_calendar.specs.Event.{EndsBelow, HasZonesBelow, IsLasting, IsLength, IsTime};
+ghost use Rattle.ics_series.specs.Clocks.{clock_of, display_clock, instant, local_at, midnight};
+ghost use Rattle.ics_series.specs.Finish.{end_by, finish, later_by};
+ghost use Rattle.ics_series.specs.Found.{time_of, IsStart};
+ghost use Rattle.ics_series.specs.Starts.{time_at};
 
 use crate::instant::instant;
+use crate::lasting::days_lasting;
+use crate::start::Start;
 use ics_calendar::{Event, Length, Time};
 use ics_values::{Duration, Local, Moment, Stamp};
 use ics_zone::{Display, Place};
 
 const DAY: i64 = 86_400;
 
-/// Where the occurrence ends that starts at an event's DTSTART (RFC 5545, section 3.6.1), for one
-/// that starts before the latest end of a window.
-pub(crate) fn finish(display: &Display, event: &Event, start: Moment) -> Moment
-    requires start { start ≡ instant (display_clock display.now) event.now.start }
-    requires early { start <ℤ pos 247_091_126_400 }
-    ensures value { result ≡ finish (display_clock display.now) event.now event.now.start }
-    ensures forward { start ≤ℤ result }
+/// Where the occurrence of an event ends that has a start (RFC 5545, section 3.6.1), for one that
+/// starts before the latest end of a window.
+pub(crate) fn finish(display: &Display, event: &Event, start: Start) -> Moment
+    requires zones { HasZonesBelow 0 event.now }
+    requires start { IsStart (display_clock display.now) event.now start }
+    requires early { start.moment <ℤ pos 247_091_126_400 }
+    ensures value { result ≡ finish (display_clock display.now) event.now (time_of event.now start) }
+    ensures forward { start.moment ≤ℤ result }
     ensures early { result <ℤ pos 250_247_232_000 }
 {
-    start.max(end_by(display, event.start, event.length, start))
+    let end = end_by(display, event.start, event.length, start);
+    start.moment.max(end)
 }
 
-// Where a length leads from the start that it is counted from.
-fn end_by(display: &Display, first: Time, length: Length, start: Moment) -> Moment
-    requires time { IsTime first }
+// Where a length leads from a start of an event with this DTSTART.
+fn end_by(display: &Display, first: Time, length: Length, start: Start) -> Moment
+    requires first { IsTime first }
     requires length { IsLength first.stamp length }
-    requires start { start ≡ instant (display_clock display.now) first }
-    requires early { start <ℤ pos 247_091_126_400 }
-    ensures value { result ≡ end_by (display_clock display.now) first first first.stamp length }
+    requires first_zone { IfSome first.zone (λ zone. zone < 0) }
+    requires end_zone { EndsBelow 0 length }
+    requires given { IsTime (time_at first start.local) }
+    requires start { start.moment ≡ instant (display_clock display.now) (time_at first start.local) }
+    requires early { start.moment <ℤ pos 247_091_126_400 }
+    ensures value { result
+        ≡ end_by (display_clock display.now) first (time_at first start.local) first.stamp length }
     ensures early { result <ℤ pos 250_247_232_000 }
 {
     match (first.stamp, length) {
-        (Stamp::Date(day), length) => midnight_after(display, day, length),
-        (_, Length::Open) => start,
-        (_, Length::Until(end)) => instant(display, end),
-        (_, Length::Lasting(duration)) => later_by(display, first, duration, start),
+        (Stamp::Date(day), length) => {
+            midnight_after(display, start.local.day, days_lasting(day, length))
+        }
+        (_, Length::Open) => start.moment,
+        (_, Length::Until(end)) => start.moment + (instant(display, end) - instant(display, first)),
+        (_, Length::Lasting(duration)) => later_by(display, first, duration, start.moment),
     }
 }
 
-// The midnight of the display zone at which an event ends that starts on a date.
-fn midnight_after(display: &Display, day: i32, length: Length) -> Moment
+// The midnight of the display zone that is so many days after a day.
+fn midnight_after(display: &Display, day: i32, days: i32) -> Moment
     requires late { neg_ℤ (pos 719_162) ≤ℤ day }
     requires early { day ≤ℤ pos 2_859_853 }
-    requires length { IsLength (Stamp.Date day) length }
-    ensures value { result
-        ≡ (display_clock display.now).moment (midnight (day +ℤ days_lasting day length)) }
+    requires least { pos 1 ≤ℤ days }
+    requires most { days ≤ℤ pos 36_525 }
+    ensures value { result ≡ (display_clock display.now).moment (midnight (day +ℤ days)) }
     ensures early { result <ℤ pos 250_247_232_000 }
 {
     display.moment(Local {
-        day: day + days_lasting(day, length),
+        day: day + days,
         second: 0,
     })
-}
-
-// How many days an event lasts that starts on a date.
-fn days_lasting(first: i32, length: Length) -> i32
-    requires { IsLength (Stamp.Date first) length }
-    ensures value { result ≡ days_lasting first length }
-    ensures least { pos 1 ≤ℤ result }
-    ensures most { result ≤ℤ pos 36_525 }
-{
-    match length {
-        Length::Open => 1,
-        Length::Until(end) => (day_of(end.stamp) - first).max(1),
-        Length::Lasting(duration) => (duration.days as i32).max(1),
-    }
-}
-
-// The day that a stamp writes.
-fn day_of(stamp: Stamp) -> i32
-    ensures { result ≡ day_of stamp }
-{
-    match stamp {
-        Stamp::Date(day) => day,
-        Stamp::Floating(local) | Stamp::Utc(local) | Stamp::Zoned(local) => local.day,
-    }
 }
 
 // The instant that is a duration later: its days go by the clock of a time's zone.

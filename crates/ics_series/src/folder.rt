@@ -9,6 +9,7 @@ ghost use Rattle.ics_series.specs.Meets.{IsListed};
 use crate::agenda::Agenda;
 use crate::feed::Coming;
 use crate::master::masters;
+use crate::met::push_met;
 use crate::occurrence::Occurrence;
 use crate::spot::Spot;
 use crate::window::Window;
@@ -68,16 +69,14 @@ impl Folder {
         Ok(Agenda::new(entries))
     }
 
-    // The occurrences that meet the window, in the order of their UIDs.
+    // The occurrences that meet the window, in the order of their UIDs, then of their starts.
     fn met<'a>(&'a self, window: &Window) -> Result<Vec<Occurrence<'a>>, AllocError>
         ensures { IfOk result (λ entries. IsMetList self.entry.now.files (display_clock self.entry.now.display) window.now (map entry_of entries.items)) }
     {
         let mut entries = Vec::new(self.alloc);
         for spot in &self.masters {
             let event = spot.event(&self.files);
-            if let Some(occurrence) = Occurrence::within(&self.display, event, window) {
-                entries.push(occurrence)?;
-            }
+            push_met(self.alloc, &mut entries, &self.display, event, window)?;
         }
         Ok(entries)
     }

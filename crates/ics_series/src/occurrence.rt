@@ -1,9 +1,9 @@
 //! One occurrence of an event.
 ghost use Rattle.std.specs.Prelude.{◌≡◌, ◌<ℤ◌, ◌≤ℤ◌, pos, neg_ℤ};
-ghost use Rattle.ics_calendar.specs.Event.{IsEvent};
+ghost use Rattle.ics_calendar.specs.Event.{HasZonesBelow, IsEvent};
 
 use crate::finish::finish;
-use crate::instant::instant;
+use crate::start::Start;
 use crate::window::Window;
 use ics_calendar::Event;
 use ics_values::Moment;
@@ -26,29 +26,29 @@ pub struct Occurrence<'a> {
 }
 
 impl<'a> Occurrence<'a> {
-    ghost use Rattle.std.specs.Prelude.{if◌then◌else◌, Some, None};
     ghost use Rattle.std.specs.Option.{option_map};
     ghost use Rattle.ics_series.specs.Clocks.{display_clock};
     ghost use Rattle.ics_series.specs.Entry.{entry_cmp, entry_of};
-    ghost use Rattle.ics_series.specs.Meeting.{is_met, own_entry};
+    ghost use Rattle.ics_series.specs.Found.{met_by, IsStart};
 
-    // The occurrence of an event, if it meets the window.
+    // The occurrence of an event that has a start, if it meets the window.
     pub(crate) fn within(
         display: &Display,
         event: &'a Event,
+        start: Start,
         window: &Window,
     ) -> Option<Occurrence<'a>>
-        ensures { option_map entry_of result ≡ (if is_met window.now (own_entry (display_clock display.now) event.entry.now)
-            then Some (own_entry (display_clock display.now) event.entry.now) else None) }
+        requires zones { HasZonesBelow 0 event.now }
+        requires start { IsStart (display_clock display.now) event.now start }
+        ensures { option_map entry_of result ≡ met_by (display_clock display.now) window.now event.entry.now start }
     {
-        let start = instant(display, event.start);
-        if start >= window.to {
+        if start.moment >= window.to {
             return None;
         }
         let occurrence = Occurrence {
-            start,
+            start: start.moment,
             finish: finish(display, event, start),
-            recurrence: start,
+            recurrence: start.moment,
             event,
         };
         if window.is_met(&occurrence) {

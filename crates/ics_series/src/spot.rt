@@ -1,5 +1,6 @@
 //! Where an event of a folder stands.
 ghost use Rattle.std.specs.Prelude.{◌≡◌, Some, IsSome};
+ghost use Rattle.ics_calendar.specs.Event.{HasZonesBelow};
 
 use ics_calendar::{Event, FileEvents};
 
@@ -16,7 +17,8 @@ impl Spot {
     // The event that stands there.
     pub(crate) fn event<'a>(self, files: &'a [FileEvents]) -> &'a Event
         requires { IsSome (event_at files.now self) }
-        ensures { event_at files.entry.now self ≡ Some result.now }
+        ensures event { event_at files.entry.now self ≡ Some result.now }
+        ensures zones { HasZonesBelow 0 result.now }
     {
         let file = &files[self.file];
         &file.events[self.place]

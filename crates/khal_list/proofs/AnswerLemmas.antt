@@ -1,17 +1,16 @@
 -- Answers to the same words agree.
 use Rattle.std.proofs.Common.{◌≡◌, ◌+ℤ◌, ℤ, pos, Bool, true, false, List, Some, None, Ok, Err, Result, Option, IsTrue, ◌↔◌, option_and_then, ◌&&◌, if◌then◌else◌, refl, sym, ◌∙◌, ap, ap₂, subst}
-use Rattle.std.specs.Prelude.{int_le, int_lt, codes}
-use Rattle.clap.specs.Words.{Text, IsAmong, fault_of}
-use Rattle.ics_zone.specs.DisplayTexts.{said_by, display_of}
+use Rattle.std.specs.Prelude.{int_le, int_lt}
+use Rattle.clap.specs.Words.{Text, IsAmong}
+use Rattle.ics_zone.specs.DisplayTexts.{said_by}
 use Rattle.ics_zone.specs.Displays.{offset_of, moment_of}
 use Rattle.ics_zone.specs.Zones.{zone_of, zone_by}
 use Rattle.ics_zone.specs.declared.display.Display.{Display}
 use Rattle.ics_zone.specs.declared.display.Kind.{Kind}
 use Rattle.ics_zone.specs.declared.display.Kind.TheVariants.{Fixed, Posix}
 use Rattle.khal_list.specs.Agree.{Agree, SameRequest}
-use Rattle.khal_list.specs.Commands.{khal_app}
-use Rattle.khal_list.specs.Entries.{Entries, Span, entries_of, span_of, text_of, with_name, IsRefused, AreTaken}
-use Rattle.khal_list.specs.RequestOf.{RequestOf, IsRequest, IsBadWindow, zone_text}
+use Rattle.khal_list.specs.Entries.{Entries, Span, entries_of, span_of, IsRefused, AreTaken}
+use Rattle.khal_list.specs.RequestOf.{RequestOf, IsRequest, IsBadWindow}
 use Rattle.khal_list.specs.WindowTexts.{Named, named}
 use Rattle.khal_list.specs.Windows.{first_start, last_end, midnight, today, start_said, between, second_at, ends_from, ends_of, end_named, moment_named}
 use Rattle.khal_list.specs.declared.request.Request.{Request}

@@ -28,6 +28,7 @@ entry stamp start finish title = record {
     sequence = 0;
     start = record { stamp = stamp; zone = None };
     length = Open;
+    rule = None;
     title = title;
     location = [];
     description = [];

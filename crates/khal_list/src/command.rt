@@ -22,7 +22,9 @@ fn bare_command<'a>(alloc: Global) -> Command<'a>
     ensures shape { app_of result ≡ spec.bare_app }
     ensures local { (out-Command result).has_globals ≡ false }
 {
-    Command::new(alloc, "khal-list").subcommand_required(true)
+    Command::new(alloc, "khal-list")
+        .about("Lists the events of a folder of iCalendar files (RFC 5545)")
+        .subcommand_required(true)
 }
 
 fn list_command<'a>(alloc: Global) -> Result<Command<'a>, AllocError>
@@ -39,6 +41,7 @@ fn list_places<'a>(alloc: Global) -> Result<Command<'a>, AllocError>
     ensures local { IfOk result (λ c. (out-Command c).has_globals ≡ false) }
 {
     Command::new(alloc, "list")
+        .about("Lists what meets a window of time")
         .arg(folder_arg(alloc))?
         .arg(start_arg(alloc))?
         .arg(end_arg(alloc))
@@ -49,6 +52,7 @@ fn at_command<'a>(alloc: Global) -> Result<Command<'a>, AllocError>
     ensures local { IfOk result (λ c. (out-Command c).has_globals ≡ false) }
 {
     Command::new(alloc, "at")
+        .about("Lists what goes on at a moment")
         .arg(folder_arg(alloc))?
         .arg(moment_arg(alloc))?
         .arg(zone_arg(alloc))
@@ -60,6 +64,7 @@ fn folder_arg<'a>(alloc: Global) -> Arg<'a>
 {
     Arg::new(alloc, "folder")
         .value_name("FOLDER")
+        .help("The folder whose .ics files are read")
         .required(true)
 }
 
@@ -67,14 +72,19 @@ fn start_arg<'a>(alloc: Global) -> Arg<'a>
     ensures rule { rule_of result ≡ spec.start }
     ensures local { result.global ≡ false }
 {
-    Arg::new(alloc, "start").value_name("START")
+    Arg::new(alloc, "start").value_name("START").help(
+        "YYYY-MM-DD or YYYY-MM-DDTHH:MM; today where it is left out",
+    )
 }
 
 fn end_arg<'a>(alloc: Global) -> Arg<'a>
     ensures rule { rule_of result ≡ spec.end }
     ensures local { result.global ≡ false }
 {
-    Arg::new(alloc, "end").value_name("END").default_value("2d")
+    Arg::new(alloc, "end")
+        .value_name("END")
+        .help("A date (its day is listed too), a date-time, or Nd: so many days from START")
+        .default_value("2d")
 }
 
 fn moment_arg<'a>(alloc: Global) -> Arg<'a>
@@ -83,6 +93,7 @@ fn moment_arg<'a>(alloc: Global) -> Arg<'a>
 {
     Arg::new(alloc, "moment")
         .value_name("MOMENT")
+        .help("YYYY-MM-DDTHH:MM, in the zone shown")
         .required(true)
 }
 
@@ -93,6 +104,9 @@ fn zone_arg<'a>(alloc: Global) -> Arg<'a>
     Arg::new(alloc, "zone")
         .long("zone")
         .value_name("Z")
+        .help(
+            "The zone shown: UTC, an offset as --zone=-05:00, or a POSIX rule as EST5EDT,M3.2.0,M11.1.0",
+        )
         .default_value("UTC")
 }
 
@@ -102,5 +116,6 @@ fn notstarted_arg<'a>(alloc: Global) -> Arg<'a>
 {
     Arg::new(alloc, "notstarted")
         .long("notstarted")
+        .help("Leaves out what began before the window")
         .action(ArgAction::SetTrue)
 }

@@ -1,5 +1,5 @@
 //! The calendar files of a folder.
-ghost use Rattle.std.specs.Prelude.{◌≡◌, map};
+ghost use Rattle.std.specs.Prelude.{◌≡◌, IfOk};
 
 use crate::fault::SourceFault;
 use crate::source::{MOST_BYTES, Source};
@@ -53,8 +53,10 @@ fn list<R: Files + AllocGlobal + Clone>(rt: &R, path: &str) -> io::Result<(Vec<S
 }
 
 impl<R: Files + AllocGlobal + Clone + Drop> FolderSource<R> {
-    /// Lists a folder.
-    pub fn open(rt: R, path: String) -> io::Result<FolderSource<R>> {
+    /// Lists a folder, of which no read has failed so far.
+    pub fn open(rt: R, path: String) -> io::Result<FolderSource<R>>
+        ensures { IfOk result (λ source. ⟦<FolderSource<R> as Source>⟧.failed source ≡ 0) }
+    {
         let (mut names, unnamed) = list(&rt, path.as_str())?;
         let named = names.len();
         for _ in 0..unnamed {

@@ -27,7 +27,7 @@ fn outcome_of(alloc: Global, bytes: &[u8]) -> Result<Outcome, RunFault>
 {
     match read_file(alloc, bytes) {
         Ok(file) => Ok(Outcome::Accepted(file)),
-        Err(FileFault::At { line, kind }) => { Ok(Outcome::Refused(Refusal::At { line, kind })) },
+        Err(FileFault::At { line, kind }) => Ok(Outcome::Refused(Refusal::At { line, kind })),
         Err(FileFault::Memory) => Err(RunFault::Memory),
     }
 }

@@ -1,5 +1,5 @@
 //! A stream of the program as a sink.
-ghost use Rattle.std.specs.Prelude.{None};
+ghost use Rattle.std.specs.Prelude.{◌≡◌, IfErr};
 
 use crate::fault::{RunFault, SinkFault};
 use crate::sink::Sink;
@@ -12,9 +12,11 @@ pub struct Stream<W> {
     failures: u64,
 }
 
-impl<W: Write> Stream<W> {
-    /// The sink of a writer.
-    pub fn new(writer: W) -> Stream<W> {
+impl<W: Write + Drop> Stream<W> {
+    /// The sink of a writer, which has not failed so far.
+    pub fn new(writer: W) -> Stream<W>
+        ensures { ⟦<Stream<W> as Sink>⟧.failed result ≡ 0 }
+    {
         Stream {
             writer,
             failures: 0,
@@ -22,7 +24,9 @@ impl<W: Write> Stream<W> {
     }
 
     /// Writes out what the writer still holds. WriteFault where it fails.
-    pub fn finish(&mut self) -> Result<(), RunFault> {
+    pub fn finish(&mut self) -> Result<(), RunFault>
+        ensures { IfErr result (λ fault. fault ≡ RunFault.WriteFault) }
+    {
         self.writer.flush().map_err(|_| RunFault::WriteFault)
     }
 }

@@ -8,4 +8,6 @@ mod refusals;
 #[cfg(test)]
 mod requests;
 #[cfg(test)]
+mod rules;
+#[cfg(test)]
 mod runs;

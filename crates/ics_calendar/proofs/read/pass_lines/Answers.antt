@@ -1,6 +1,6 @@
 use Rattle.std.proofs.Common.{rules, ◌≡◌, sym, ap, ◌∙◌, None, option_map}
 use Rattle.ics_text.specs.Contents.{content_of}
-use Rattle.ics_calendar.specs.Pass.{fault_on}
+use Rattle.ics_calendar.specs.LineFaults.{fault_on}
 use Rattle.ics_calendar.specs.Seen.{seen_fault}
 use Rattle.ics_calendar.proofs.Steps.{waits-none, map-none, ended-whole, took}
 use Rattle.ics_calendar.proofs.read.pass_lines.Goals as goal

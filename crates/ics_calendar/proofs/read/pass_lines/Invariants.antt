@@ -1,7 +1,8 @@
 use Rattle.std.proofs.Common.{◌≡◌, length, [], ◌∷◌, None}
 use Rattle.std.specs.Prelude.{option_map}
 use Rattle.ics_calendar.specs.Event.{AreEvents}
-use Rattle.ics_calendar.specs.Pass.{pass, bottom, AreSound}
+use Rattle.ics_calendar.specs.Sound.{AreSound}
+use Rattle.ics_calendar.specs.Pass.{pass, bottom}
 use Rattle.ics_calendar.specs.Seen.{NumbersFit, LastFits, seen_fault}
 use Rattle.ics_calendar.proofs.read.pass_lines.Given as goal
 

@@ -1,5 +1,5 @@
 use Rattle.std.proofs.Common.{◌≡◌, w32, w64, to_z, of_z, arith}
-use Rattle.std.proofs.lemmas.Int.{ints, to_z-of_z}
+use Rattle.std.proofs.lemmas.Int.{ints}
 use mir.Val.{SFits}
 use Rattle.ics_zone.specs.Displays.{moment_of}
 use Rattle.ics_zone.specs.Zones.{zone_of}
@@ -8,13 +8,12 @@ use Rattle.ics_series.proofs.finish.midnight_after.Goals as goal
 
 pub returns-clause-value : goal.returns-clause-value
 returns-clause-value c =
-    let fits : SFits w32 c.args.day = c.ranges.day in
-    let days = simp to_z-of_z at c.days_lasting.ensures.value in
+    let day : SFits w32 c.args.day = c.ranges.day in
+    let days : SFits w32 c.args.days = c.ranges.days in
     let same : to_z w64 (of_z w64 c.moment.result) ≡ c.moment.result = omega (arith, ints, c.moment.type_inv) in
-    moved (moment_of (zone_of c.args.display.now)) _ _ _ _ same c.moment.ensures.value
-    (omega (arith, ints, days, c.days_lasting.ensures.least, c.days_lasting.ensures.most))
+    moved (moment_of (zone_of c.args.display.now)) _ _ _ _ same c.moment.ensures.value (omega (arith, ints))
 
 pub returns-clause-early : goal.returns-clause-early
 returns-clause-early c =
     let far = result_near c.args.display.now c.moment.result _ c.moment.ensures.value in
-    omega (arith, ints, far, c.days_lasting.ensures.least, c.days_lasting.ensures.most)
+    omega (arith, ints, far)

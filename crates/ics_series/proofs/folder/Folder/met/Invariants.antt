@@ -1,10 +1,9 @@
-use Rattle.std.proofs.Common.{◌≡◌, ◌++◌, map, drop}
+use Rattle.std.proofs.Common.{map, drop}
 use Rattle.ics_series.specs.Clocks.{display_clock}
 use Rattle.ics_series.specs.Entry.{entry_of}
-use Rattle.ics_series.proofs.MetLemmas.{met}
+use Rattle.ics_series.proofs.MastersMetLemmas.{AreMetBehind}
 use Rattle.ics_series.proofs.folder.Folder.met.Given as goal
 
 abbrev pub invariant-loop-spot : goal.invariant-loop-spot
 invariant-loop-spot l =
-    map entry_of l.entries.items ++ met (display_clock l.self.display) l.window l.self.files (drop l.spot-index l.self-inside.masters.items)
-    ≡ met (display_clock l.self.display) l.window l.self.files l.self-inside.masters.items
+    AreMetBehind l.self.files (display_clock l.self.display) l.window l.self-inside.masters.items (map entry_of l.entries.items) (drop l.spot-index l.self-inside.masters.items)

@@ -1,13 +1,14 @@
 use Rattle.std.proofs.Common.{arith}
 use Rattle.std.proofs.lemmas.Int.{ints}
+use Rattle.ics_series.specs.Found.{time_of}
 use Rattle.ics_series.proofs.InstantLemmas.{late}
 use Rattle.ics_series.proofs.occurrence.Occurrence.within.Goals as goal
 
 pub invariant_of-occurrence : goal.invariant_of-occurrence
 invariant_of-occurrence c =
-    let from = late c.args.display.now c.event.inside.start c.event.invariant.start in
+    let from = late c.args.display.now (time_of c.args.event.now c.args.start) c.requires.start.time in
     record {
-      not_early = omega (arith, ints, c.instant-start.ensures, from);
+      not_early = omega (arith, ints, c.requires.start.moment, from);
       forward = omega (arith, ints, c.finish.ensures.forward);
       not_late = omega (arith, ints, c.finish.ensures.early);
     }

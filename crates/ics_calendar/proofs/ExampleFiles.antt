@@ -1,0 +1,28 @@
+-- Files for worked examples, and their first faults.
+use Rattle.std.proofs.Common.{ℕ, List, [], ◌∷◌, ◌++◌, Option, Some, None, Result, Ok, Err}
+use Rattle.std.specs.Prelude.{codes}
+use Rattle.std.specs.List.{flat_map}
+use Rattle.ics_calendar.specs.declared.fault.FaultKind.{FaultKind}
+use Rattle.ics_calendar.specs.Event.{FileSeen}
+use Rattle.ics_calendar.specs.FirstFault.{Fault}
+use Rattle.ics_calendar.specs.Files.{file_of}
+
+-- each line ends with CRLF
+abbrev pub text : List (List ℕ) → List ℕ
+text lines = flat_map (λ l. l ++ 13 ∷ 10 ∷ []) lines
+
+abbrev pub calendar : List (List ℕ) → List ℕ
+calendar lines = text (codes "BEGIN:VCALENDAR" ∷ lines ++ codes "END:VCALENDAR" ∷ [])
+
+abbrev pub event : List (List ℕ) → List ℕ
+event lines = calendar (codes "BEGIN:VEVENT" ∷ lines ++ codes "END:VEVENT" ∷ [])
+
+abbrev fault_in : Result FileSeen Fault → Option Fault
+fault_in (Ok seen) = None
+fault_in (Err fault) = Some fault
+
+abbrev pub fault : List ℕ → Option Fault
+fault file = fault_in (file_of file)
+
+abbrev pub at : ℕ → FaultKind → Option Fault
+at line kind = Some (record { line = line; kind = kind })

@@ -1,0 +1,63 @@
+-- What is collected of an event, line by line.
+use Rattle.std.specs.Prelude.{true, false, List, [], codes, Option, Some, None, option_map, unwrap_or}
+use Rattle.ics_values.specs.Integers.{integer_of}
+use Rattle.ics_calendar.specs.declared.collected.Collected.{Collected}
+use Rattle.ics_calendar.specs.declared.property.Property.{Property}
+use Rattle.ics_calendar.specs.declared.property.Property.TheVariants as property
+use Rattle.ics_calendar.specs.Event.{EventSeen}
+use Rattle.ics_calendar.specs.Placed.{Placed, value, has, first_named}
+use Rattle.ics_calendar.specs.Values.{rule_in, ok_or_zero, is_cancelled}
+use Rattle.ics_calendar.specs.Faults.{first_text, first_dated, lasting_on, rule_on}
+use Rattle.ics_calendar.specs.Files.{time_of, length_of}
+
+-- WHAT IS COLLECTED, as read of the lines that stand directly in the event.
+abbrev pub collected_of : List Placed → Collected
+collected_of lines = record {
+  uid = first_text (codes "UID") lines;
+  start = first_dated (codes "DTSTART") lines;
+  end = first_dated (codes "DTEND") lines;
+  duration = option_map lasting_on (first_named (codes "DURATION") lines);
+  rule = option_map rule_on (first_named (codes "RRULE") lines);
+  has_recurrence = has (codes "RECURRENCE-ID") lines;
+  sequence = option_map (λ line. ok_or_zero (integer_of (value line))) (first_named (codes "SEQUENCE") lines);
+  title = first_text (codes "SUMMARY") lines;
+  location = first_text (codes "LOCATION") lines;
+  description = first_text (codes "DESCRIPTION") lines;
+  cancelled = option_map (λ line. is_cancelled (value line)) (first_named (codes "STATUS") lines);
+}
+
+abbrev pub nothing : Collected
+nothing = record { uid = None; start = None; end = None; duration = None; rule = None; has_recurrence = false; sequence = None; title = None; location = None; description = None; cancelled = None }
+
+-- the event of what is collected
+abbrev pub event_of : Collected → EventSeen
+event_of had = record {
+  uid = unwrap_or had.uid [];
+  sequence = unwrap_or had.sequence 0;
+  start = time_of had.start;
+  length = length_of had.end had.duration;
+  rule = rule_in had.rule;
+  title = unwrap_or had.title [];
+  location = unwrap_or had.location [];
+  description = unwrap_or had.description [];
+  cancelled = unwrap_or had.cancelled false;
+}
+
+-- WHAT IS COLLECTED with a line more. The first value of a property counts.
+abbrev pub or_first : {X : Type 0} → Option X → X → Option X
+or_first (Some x) y = Some x
+or_first None y = Some y
+
+abbrev pub note : Property → Collected → Collected
+note (property.Uid text) had = record had { uid = or_first had.uid text }
+note (property.Dtstart dated) had = record had { start = or_first had.start dated }
+note (property.Dtend dated) had = record had { end = or_first had.end dated }
+note (property.Duration duration) had = record had { duration = or_first had.duration duration }
+note (property.Rrule rule) had = record had { rule = or_first had.rule rule }
+note (property.RecurrenceId dated range) had = record had { has_recurrence = true }
+note (property.Sequence number) had = record had { sequence = or_first had.sequence (ok_or_zero number) }
+note (property.Summary text) had = record had { title = or_first had.title text }
+note (property.Location text) had = record had { location = or_first had.location text }
+note (property.Description text) had = record had { description = or_first had.description text }
+note (property.Status cancelled) had = record had { cancelled = or_first had.cancelled cancelled }
+note _ had = had

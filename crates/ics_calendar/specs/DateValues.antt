@@ -1,0 +1,58 @@
+-- What the values of an RDATE or an EXDATE say (RFC 5545, sections 3.8.5.1 and 3.8.5.2).
+use Rattle.std.specs.Prelude.{ℕ, Bool, false, ◌||◌, ◌==◌, List, map, Result, Err, if◌then◌else◌}
+use Rattle.std.specs.List.{list_any}
+use Rattle.ics_values.specs.Periods.{first_half, second_half, lasts}
+use Rattle.ics_values.specs.RuleTexts.{pieces}
+use Rattle.ics_values.specs.Stamps.{is_date_time_form, stamp_of}
+use Rattle.ics_values.specs.declared.stamp.Stamp.{Stamp}
+use Rattle.ics_values.specs.declared.stamp.StampFault.{StampFault}
+use Rattle.ics_values.specs.declared.stamp.StampFault.TheVariants as stamp
+use Rattle.ics_calendar.specs.declared.date_values.DateValue.{DateValue}
+use Rattle.ics_calendar.specs.declared.date_values.DateValue.TheVariants.{At, Between, Lasting}
+use Rattle.ics_calendar.specs.Values.{is_bad_stamp, is_far_stamp, lasting_of, is_bad_duration, is_large_duration}
+
+-- a half of a PERIOD that is a stamp: no DATE
+abbrev pub date_time_of : Bool → List ℕ → Result Stamp StampFault
+date_time_of zoned text = if is_date_time_form text then stamp_of zoned text else Err stamp.BadStamp
+
+-- A PERIOD, by its halves: the second is a duration if it begins as one, and else a stamp.
+abbrev pub period_of : Bool → List ℕ → List ℕ → DateValue
+period_of zoned start end =
+    if lasts end then Lasting (date_time_of zoned start) (lasting_of end)
+    else Between (date_time_of zoned start) (date_time_of zoned end)
+
+abbrev pub has_slash : List ℕ → Bool
+has_slash text = list_any (λ b. b == 47) text
+
+-- A value of an RDATE is a stamp, or a PERIOD where it has a `/`, and one of an EXDATE is a stamp; `zoned` says that a TZID stands beside it.
+abbrev pub rdate_of : Bool → List ℕ → DateValue
+rdate_of zoned text = if has_slash text then period_of zoned (first_half text) (second_half text) else At (stamp_of zoned text)
+
+abbrev pub exdate_of : Bool → List ℕ → DateValue
+exdate_of zoned text = At (stamp_of zoned text)
+
+-- the values between the commas
+abbrev pub rdates_of : Bool → List ℕ → List DateValue
+rdates_of zoned text = map (rdate_of zoned) (pieces 44 text)
+
+abbrev pub exdates_of : Bool → List ℕ → List DateValue
+exdates_of zoned text = map (exdate_of zoned) (pieces 44 text)
+
+-- which faults a value has
+abbrev pub has_bad_stamp : DateValue → Bool
+has_bad_stamp (At stamp) = is_bad_stamp stamp
+has_bad_stamp (Between start end) = is_bad_stamp start || is_bad_stamp end
+has_bad_stamp (Lasting start duration) = is_bad_stamp start
+
+abbrev pub has_far_stamp : DateValue → Bool
+has_far_stamp (At stamp) = is_far_stamp stamp
+has_far_stamp (Between start end) = is_far_stamp start || is_far_stamp end
+has_far_stamp (Lasting start duration) = is_far_stamp start
+
+abbrev pub has_bad_duration : DateValue → Bool
+has_bad_duration (Lasting start duration) = is_bad_duration duration
+has_bad_duration _ = false
+
+abbrev pub has_large_duration : DateValue → Bool
+has_large_duration (Lasting start duration) = is_large_duration duration
+has_large_duration _ = false

@@ -1,0 +1,57 @@
+-- A line, as its component reads it (RFC 5545, section 3.6.1).
+use Rattle.std.specs.Prelude.{List, [], ◌∷◌, map, codes, is_some}
+use Rattle.std.specs.Str.{bytes_eq}
+use Rattle.ics_text.specs.Bytes.{upper}
+use Rattle.ics_text.specs.Contents.{Parts, param_of}
+use Rattle.ics_values.specs.Integers.{integer_of}
+use Rattle.ics_values.specs.Plain.{text_of}
+use Rattle.ics_values.specs.Rules.{rule_of}
+use Rattle.ics_calendar.specs.declared.component.Place.{Place}
+use Rattle.ics_calendar.specs.declared.component.Place.TheVariants as place
+use Rattle.ics_calendar.specs.declared.frame.Frame.{Frame}
+use Rattle.ics_calendar.specs.declared.name.Name.{Name}
+use Rattle.ics_calendar.specs.declared.name.Name.TheVariants as name
+use Rattle.ics_calendar.specs.declared.property.Property.{Property}
+use Rattle.ics_calendar.specs.declared.property.Property.TheVariants as property
+use Rattle.ics_calendar.specs.Components.{component_of, component_name}
+use Rattle.ics_calendar.specs.DateValues.{rdates_of, exdates_of}
+use Rattle.ics_calendar.specs.Names.{name_of}
+use Rattle.ics_calendar.specs.Values.{zone_name, dated_of, lasting_of, is_cancelled}
+
+abbrev pub event_property : Name → Parts → Property
+event_property name.Uid c = property.Uid (text_of c.value)
+event_property name.Dtstart c = property.Dtstart (dated_of c.params c.value)
+event_property name.Dtend c = property.Dtend (dated_of c.params c.value)
+event_property name.Duration c = property.Duration (lasting_of c.value)
+event_property name.Rrule c = property.Rrule (rule_of c.value)
+event_property name.RecurrenceId c = property.RecurrenceId (dated_of c.params c.value) (is_some (param_of (codes "RANGE") c.params))
+event_property name.Sequence c = property.Sequence (integer_of c.value)
+event_property name.Rdate c = property.Dates (rdates_of (is_some (zone_name c.params)) c.value)
+event_property name.Exdate c = property.Dates (exdates_of (is_some (zone_name c.params)) c.value)
+event_property name.Exrule c = property.Exrule
+event_property name.Summary c = property.Summary (text_of c.value)
+event_property name.Location c = property.Location (text_of c.value)
+event_property name.Description c = property.Description (text_of c.value)
+event_property name.Status c = property.Status (is_cancelled c.value)
+event_property _ c = property.Other
+
+abbrev pub calendar_property : Name → Parts → Property
+calendar_property name.Version c = property.Version (bytes_eq c.value (codes "1.0"))
+calendar_property _ c = property.Other
+
+abbrev pub property_at : Place → Name → Parts → Property
+property_at place.Event n c = event_property n c
+property_at place.Calendar n c = calendar_property n c
+property_at _ n c = property.Other
+
+abbrev pub read_as : Name → Frame → Parts → Property
+read_as name.Begin frame c = property.Begin (component_of (map upper c.value))
+read_as name.End frame c = property.End (bytes_eq (map upper c.value) (component_name frame.component))
+read_as n frame c = property_at frame.place n c
+
+abbrev pub read_in : Frame → Parts → Property
+read_in frame c = read_as (name_of (map upper c.name)) frame c
+
+abbrev pub read_on : List Frame → Parts → Property
+read_on [] c = property.Other
+read_on (f ∷ fs) c = read_in f c

@@ -1,0 +1,190 @@
+//! The values of RDATE and EXDATE (RFC 5545, sections 3.8.5.1 and 3.8.5.2).
+ghost use Rattle.std.specs.Prelude.{◌≡◌, ◌==◌, map, IfOk};
+ghost use Rattle.std.specs.List.{list_any, position};
+ghost use Rattle.ics_values.specs.Periods.{lasts};
+ghost use Rattle.ics_values.specs.RuleTexts.{pieces};
+ghost use Rattle.ics_calendar.specs.Values.{is_bad_stamp, is_far_stamp};
+ghost use Rattle.ics_calendar.specs.DateValues.{date_time_of, period_of, rdate_of, exdate_of, rdates_of, exdates_of, has_bad_stamp, has_far_stamp, has_bad_duration, has_large_duration};
+
+use crate::lasting::lasting;
+use ics_values::{Duration, DurationFault, Stamp, StampFault, read_stamp};
+use std::alloc::{AllocError, Global};
+use std::marker::Model;
+
+/// A value as its text gives it: a stamp, or a PERIOD with its end or its duration.
+#[derive(Clone, Copy)]
+pub enum DateValue {
+    At(Result<Stamp, StampFault>),
+    Between(Result<Stamp, StampFault>, Result<Stamp, StampFault>),
+    Lasting(Result<Stamp, StampFault>, Result<Duration, DurationFault>),
+}
+
+/// The values of a line, in its order.
+#[derive(Drop)]
+pub struct DateValues {
+    values: Vec<DateValue>,
+}
+
+impl Model for DateValues {
+    ghost use Rattle.std.specs.Prelude.{List};
+    ghost use Rattle.ics_calendar.specs.declared.date_values.DateValue.{DateValue};
+
+    ghost Value = { List DateValue };
+
+    ghost view = { λ a. a.values.items };
+}
+
+/// A half of a PERIOD that is a stamp. A DATE is none.
+fn date_time(text: &[u8], zoned: bool) -> Result<Stamp, StampFault>
+    ensures { result ≡ date_time_of zoned text.now }
+{
+    if text.len() == 8 {
+        return Err(StampFault::BadStamp);
+    }
+    read_stamp(text, zoned)
+}
+
+/// Whether the second half of a PERIOD is a duration: it begins with a sign or `P`.
+fn lasts(text: &[u8]) -> bool
+    ensures { result ≡ lasts text.now }
+{
+    match text {
+        [] => false,
+        [b'+' | b'-' | b'P' | b'p', ..] => true,
+        _ => false,
+    }
+}
+
+fn period(start: &[u8], end: &[u8], zoned: bool) -> DateValue
+    ensures { result ≡ period_of zoned start.now end.now }
+{
+    let start = date_time(start, zoned);
+    if lasts(end) {
+        DateValue::Lasting(start, lasting(end))
+    } else {
+        DateValue::Between(start, date_time(end, zoned))
+    }
+}
+
+/// Where the first `/` stands.
+fn slash(text: &[u8]) -> Option<usize>
+    ensures { result ≡ position (λ b. b == 47) text.now }
+{
+    text.iter().position(|b| *b == b'/')
+}
+
+fn rdate(text: &[u8], zoned: bool) -> DateValue
+    ensures { result ≡ rdate_of zoned text.now }
+{
+    match slash(text) {
+        Some(i) => period(&text[..i], &text[i + 1..], zoned),
+        None => DateValue::At(read_stamp(text, zoned)),
+    }
+}
+
+fn exdate(text: &[u8], zoned: bool) -> DateValue
+    ensures { result ≡ exdate_of zoned text.now }
+{
+    DateValue::At(read_stamp(text, zoned))
+}
+
+fn is_bad_stamp(stamp: Result<Stamp, StampFault>) -> bool
+    ensures { result ≡ is_bad_stamp stamp }
+{
+    matches!(stamp, Err(StampFault::BadStamp))
+}
+
+fn is_far_stamp(stamp: Result<Stamp, StampFault>) -> bool
+    ensures { result ≡ is_far_stamp stamp }
+{
+    matches!(stamp, Err(StampFault::YearRange))
+}
+
+impl DateValue {
+    fn has_bad_stamp(self) -> bool
+        ensures { result ≡ has_bad_stamp self }
+    {
+        match self {
+            DateValue::At(stamp) => is_bad_stamp(stamp),
+            DateValue::Between(start, end) => is_bad_stamp(start) || is_bad_stamp(end),
+            DateValue::Lasting(start, _) => is_bad_stamp(start),
+        }
+    }
+
+    fn has_far_stamp(self) -> bool
+        ensures { result ≡ has_far_stamp self }
+    {
+        match self {
+            DateValue::At(stamp) => is_far_stamp(stamp),
+            DateValue::Between(start, end) => is_far_stamp(start) || is_far_stamp(end),
+            DateValue::Lasting(start, _) => is_far_stamp(start),
+        }
+    }
+
+    fn has_bad_duration(self) -> bool
+        ensures { result ≡ has_bad_duration self }
+    {
+        matches!(self, DateValue::Lasting(_, Err(DurationFault::BadDuration)))
+    }
+
+    fn has_large_duration(self) -> bool
+        ensures { result ≡ has_large_duration self }
+    {
+        matches!(
+            self,
+            DateValue::Lasting(_, Err(DurationFault::NumberTooLarge))
+        )
+    }
+}
+
+impl DateValues {
+    /// The values of an RDATE; `zoned` says that a TZID stands beside them.
+    pub fn of_rdate(alloc: Global, text: &[u8], zoned: bool) -> Result<DateValues, AllocError>
+        ensures { IfOk result (λ values. values ≡ rdates_of zoned text.now) }
+    {
+        let mut values = Vec::new(alloc);
+        'values: for value in text.split(|b| *b == b',') {
+            values.push(rdate(value, zoned))?;
+        }
+        Ok(DateValues { values })
+    }
+
+    /// The values of an EXDATE, of which none is a PERIOD.
+    pub fn of_exdate(alloc: Global, text: &[u8], zoned: bool) -> Result<DateValues, AllocError>
+        ensures { IfOk result (λ values. values ≡ exdates_of zoned text.now) }
+    {
+        let mut values = Vec::new(alloc);
+        'values: for value in text.split(|b| *b == b',') {
+            values.push(exdate(value, zoned))?;
+        }
+        Ok(DateValues { values })
+    }
+
+    /// Whether a stamp among them is of no form, or of no date or time that there is.
+    pub fn have_bad_stamp(&self) -> bool
+        ensures { result ≡ list_any has_bad_stamp self.now }
+    {
+        self.values.iter().any(|value| value.has_bad_stamp())
+    }
+
+    /// Whether a stamp among them lies outside the years 0001 to 9899.
+    pub fn have_far_stamp(&self) -> bool
+        ensures { result ≡ list_any has_far_stamp self.now }
+    {
+        self.values.iter().any(|value| value.has_far_stamp())
+    }
+
+    /// Whether a duration among them is none, or none that an event may have.
+    pub fn have_bad_duration(&self) -> bool
+        ensures { result ≡ list_any has_bad_duration self.now }
+    {
+        self.values.iter().any(|value| value.has_bad_duration())
+    }
+
+    /// Whether a duration among them has a number past 4,294,967,295.
+    pub fn have_large_duration(&self) -> bool
+        ensures { result ≡ list_any has_large_duration self.now }
+    {
+        self.values.iter().any(|value| value.has_large_duration())
+    }
+}

@@ -1,0 +1,177 @@
+-- Of sorted starts the first at each instant.
+use Rattle.std.specs.Prelude.{◌≤ℤ◌, ◌<ℤ◌}
+use Rattle.std.proofs.Common.{◌≡◌, ℕ, ◌<◌, ◌≤◌, ℤ, List, [], ◌∷◌, Bool, true, false, cond, Option, Some, None, ◌⊎◌, inl, inr, ⊎_elim, refl, sym, ◌∙◌, ap, subst, arith}
+use Rattle.std.specs.Cmp.{IsTotalOrder, int_ranks, ranks}
+use Rattle.std.specs.List.Sorted.{IsPermutation, IsSorted}
+use Rattle.std.specs.Ordering.{int_cmp, int_eq, nat_cmp, is_gt, on, ordering_then, then_cmp, MatchOrdering}
+use Rattle.std.specs.declared.cmp.Ordering.{Ordering}
+use Rattle.std.specs.declared.cmp.Ordering.TheVariants.{Less, Equal, Greater}
+use Rattle.std.proofs.lemmas.Cmp.{int_cmp_total, nat_cmp_total, on_total, then_total, tied_itself}
+use Rattle.std.proofs.lemmas.Int.{ints}
+use Rattle.std.proofs.lemmas.List.Sorted.{IsPermutation-sym}
+use Rattle.ics_calendar.specs.declared.event.Event.{Event}
+use Rattle.ics_values.specs.declared.local.Local.{Local}
+use Rattle.ics_series.specs.declared.start.Start.{Start}
+use Rattle.ics_series.specs.declared.window.Window.{Window}
+use Rattle.ics_series.specs.Clocks.{Clock, seconds_of}
+use Rattle.ics_series.specs.Found.{firsts_after, is_at, moment_cmp, AreStarts, HasStarts}
+use Rattle.ics_series.specs.Listing.{IsIn}
+use Rattle.ics_series.specs.Rising.{IsBefore, Rises}
+use Rattle.ics_series.proofs.GiverLemmas.{written-order}
+use Rattle.ics_series.proofs.SortLemmas.{IsUpTo, Climbs, climbs-sorted, in-permutation, up-to-in}
+
+-- by instant, then by local
+abbrev local_cmp : Local → Local → Ordering
+local_cmp = then_cmp (on (λ l. l.day) int_cmp) (on (λ l. l.second) nat_cmp)
+
+abbrev pub start_cmp : Start → Start → Ordering
+start_cmp = then_cmp moment_cmp (on (λ s. s.local) local_cmp)
+
+start_total : IsTotalOrder start_cmp
+start_total =
+    then_total (on_total (λ s. s.moment) int_cmp_total)
+    (on_total (λ s. s.local) (then_total (on_total (λ l. l.day) int_cmp_total) (on_total (λ l. l.second) nat_cmp_total)))
+
+pub moment_total : IsTotalOrder moment_cmp
+moment_total = on_total (λ s. s.moment) int_cmp_total
+
+-- Comparisons.
+up-to-front : (c d : Ordering) → is_gt (ordering_then c d) ≡ false → is_gt c ≡ false
+up-to-front Less d h = refl
+up-to-front Equal d h = refl
+up-to-front Greater d h = h
+
+up-to-back : (c d : Ordering) → c ≡ Equal → is_gt (ordering_then c d) ≡ false → is_gt d ≡ false
+up-to-back c d e h = subst (λ x. is_gt (ordering_then x d) ≡ false) e h
+
+pub same-moment : (s t : Start) → s.moment ≡ t.moment → moment_cmp s t ≡ Equal
+same-moment s t e = ap (int_cmp s.moment) (sym e) ∙ tied_itself int_cmp_total s.moment
+
+pub tied-moment : (s t : Start) → moment_cmp s t ≡ Equal → s.moment ≡ t.moment
+tied-moment s t e = subst (λ o. MatchOrdering o (s.moment <ℤ t.moment) (s.moment ≡ t.moment) (t.moment <ℤ s.moment)) e (int_ranks s.moment t.moment)
+
+int-up-to : (a b : ℤ) (c : Ordering) → int_cmp a b ≡ c → is_gt c ≡ false → (a ≡ b) ⊎ (int_cmp a b ≡ Less)
+int-up-to a b Less e g = inr e
+int-up-to a b Equal e g = inl (subst (λ o. MatchOrdering o (a <ℤ b) (a ≡ b) (b <ℤ a)) e (int_ranks a b))
+int-up-to a b Greater e g = let f : is_gt Greater ≡ false = g in absurd cc
+
+int-less : (a b : ℤ) → int_cmp a b ≡ Less → a <ℤ b
+int-less a b e = subst (λ o. MatchOrdering o (a <ℤ b) (a ≡ b) (b <ℤ a)) e (int_ranks a b)
+
+nat-up-to : (a b : ℕ) (c : Ordering) → nat_cmp a b ≡ c → is_gt c ≡ false → a ≤ b
+nat-up-to a b Less e g = let r = subst (λ o. MatchOrdering o (a < b) (a ≡ b) (b < a)) e (ranks a b) in omega (arith, r)
+nat-up-to a b Equal e g = let r = subst (λ o. MatchOrdering o (a < b) (a ≡ b) (b < a)) e (ranks a b) in omega (arith, r)
+nat-up-to a b Greater e g = let f : is_gt Greater ≡ false = g in absurd cc
+
+-- a local that is not after another by its day and second is not after it by its seconds
+local-order : (a b : Local) → is_gt (local_cmp a b) ≡ false → seconds_of a ≤ℤ seconds_of b
+local-order a b h =
+    ⊎_elim
+    (λ same. let later = nat-up-to a.second b.second (nat_cmp a.second b.second) refl
+    (up-to-back (int_cmp a.day b.day) (nat_cmp a.second b.second) (ap (int_cmp a.day) (sym same) ∙ tied_itself int_cmp_total a.day) h) in
+    omega (arith, ints, same, later))
+    (λ less. let below = int-less a.day b.day less in omega (arith, ints, below, a.second_in, b.second_in))
+    (int-up-to a.day b.day (int_cmp a.day b.day) refl (up-to-front (int_cmp a.day b.day) (nat_cmp a.second b.second) h))
+
+-- Climbing by the finer order is climbing by instants.
+climbs-moments : (xs : List Start) → Climbs start_cmp xs → Climbs moment_cmp xs
+climbs-moments [] h = tt
+climbs-moments (x ∷ xs) h = (up-to xs h.0, climbs-moments xs h.1)
+  where
+    up-to : (ys : List Start) → IsUpTo start_cmp x ys → IsUpTo moment_cmp x ys
+    up-to [] k = tt
+    up-to (y ∷ ys) k = (up-to-front (moment_cmp x y) (local_cmp x.local y.local) k.0, up-to ys k.1)
+
+before-by : (x y : Start) (zs : List Start) → ((z : Start) → moment_cmp y z ≡ Less → moment_cmp x z ≡ Less) → IsBefore moment_cmp y zs → IsBefore moment_cmp x zs
+before-by x y [] f h = tt
+before-by x y (z ∷ zs) f h = (f z h.0, before-by x y zs f h.1)
+
+eq-true : (a b : ℤ) → int_eq a b ≡ true → a ≡ b
+eq-true a b e = grind (arith, ints)
+
+true-eq : (a b : ℤ) → a ≡ b → int_eq a b ≡ true
+true-eq a b e = grind (arith, ints)
+
+-- The instants rise.
+abbrev RisesAfter : Start → List Start → Type 0
+RisesAfter x zs = IsBefore moment_cmp x zs × Rises moment_cmp zs
+
+rises-step : (x y : Start) (zs : List Start) (b : Bool) → int_eq x.moment y.moment ≡ b → is_gt (moment_cmp x y) ≡ false → RisesAfter y zs → RisesAfter x (cond b zs (y ∷ zs))
+rises-step x y zs true e g h =
+    let same = eq-true x.moment y.moment e in
+    (before-by x y zs (λ z l. ap (λ t. int_cmp t z.moment) same ∙ l) h.0, h.1)
+rises-step x y zs false e g h =
+    let less : moment_cmp x y ≡ Less = ⊎_elim (λ same. let t = true-eq x.moment y.moment same in absurd cc) (λ l. l) (int-up-to x.moment y.moment (moment_cmp x y) refl g) in
+    ((less, before-by x y zs (λ z l. moment_total.trans x y z less l) h.0), h)
+
+rises-after : (x : Start) (xs : List Start) → IsUpTo moment_cmp x xs → Climbs moment_cmp xs → RisesAfter x (firsts_after (Some x.moment) xs)
+rises-after x [] u h = (tt, tt)
+rises-after x (y ∷ ys) u h =
+    rises-step x y (firsts_after (Some y.moment) ys) (int_eq x.moment y.moment) refl u.0 (rises-after y ys h.0 h.1)
+
+rises-firsts : (xs : List Start) → Climbs moment_cmp xs → Rises moment_cmp (firsts_after None xs)
+rises-firsts [] h = tt
+rises-firsts (x ∷ xs) h = rises-after x xs h.0 h.1
+
+-- The members.
+firsts-in-by : (b : Bool) (s x : Start) (zs xs : List Start) → (IsIn s zs → IsIn s xs) → IsIn s (cond b zs (x ∷ zs)) → IsIn s (x ∷ xs)
+firsts-in-by true s x zs xs ih m = inr (ih m)
+firsts-in-by false s x zs xs ih m = ⊎_elim inl (λ n. inr (ih n)) m
+
+firsts-in : (last : Option ℤ) (s : Start) (xs : List Start) → IsIn s (firsts_after last xs) → IsIn s xs
+firsts-in last s [] m = m
+firsts-in last s (x ∷ xs) m = firsts-in-by (is_at last x.moment) s x (firsts_after (Some x.moment) xs) xs (firsts-in (Some x.moment) s xs) m
+
+-- the list has a start at the same instant whose local is not later
+record HasFirst (zs : List Start) (x : Start) : Type 0 where
+  first : Start
+  stands : IsIn first zs
+  same : first.moment ≡ x.moment
+  earlier : is_gt (start_cmp first x) ≡ false
+
+at-true : (last : Option ℤ) (t : ℤ) → is_at last t ≡ true → last ≡ Some t
+at-true None t e = let f : false ≡ true = e in absurd cc
+at-true (Some u) t e = ap Some (eq-true u t e)
+
+some-same : (a b : ℤ) → Some a ≡ Some b → a ≡ b
+some-same a b h = cc
+
+in-firsts-by : (last : Option ℤ) (x s : Start) (xs : List Start) (b : Bool) → is_at last x.moment ≡ b → IsUpTo start_cmp x xs
+    → (IsIn s xs → (Some x.moment ≡ Some s.moment) ⊎ HasFirst (firsts_after (Some x.moment) xs) s)
+    → IsIn s (x ∷ xs) → (last ≡ Some s.moment) ⊎ HasFirst (cond b (firsts_after (Some x.moment) xs) (x ∷ firsts_after (Some x.moment) xs)) s
+in-firsts-by last x s xs true e u ih m =
+    let at = at-true last x.moment e in
+    ⊎_elim (λ same. inl (at ∙ ap (λ t. Some t.moment) (sym same)))
+    (λ n. ⊎_elim (λ f. inl (at ∙ f)) inr (ih n)) m
+in-firsts-by last x s xs false e u ih m =
+    ⊎_elim
+    (λ is. inr (record { first = x; stands = inl refl; same = ap (λ t. t.moment) (sym is); earlier = ap (λ t. is_gt (start_cmp x t)) is ∙ ap is_gt (tied_itself start_total x) }))
+    (λ n. ⊎_elim
+    (λ f. inr (record { first = x; stands = inl refl; same = some-same x.moment s.moment f; earlier = up-to-in start_cmp x s xs u n }))
+    (λ h. inr (record { first = h.first; stands = inr h.stands; same = h.same; earlier = h.earlier }))
+    (ih n))
+    m
+
+in-firsts : (last : Option ℤ) (s : Start) (xs : List Start) → Climbs start_cmp xs → IsIn s xs → (last ≡ Some s.moment) ⊎ HasFirst (firsts_after last xs) s
+in-firsts last s [] h m = absurd m
+in-firsts last s (x ∷ xs) h m = in-firsts-by last x s xs (is_at last x.moment) refl h.0 (in-firsts (Some x.moment) s xs h.1) m
+
+in-all-firsts : (s : Start) (xs : List Start) → Climbs start_cmp xs → IsIn s xs → HasFirst (firsts_after None xs) s
+in-all-firsts s xs h m = ⊎_elim (λ f. let g : None ≡ Some s.moment = f in absurd cc) (λ k. k) (in-firsts None s xs h m)
+
+-- starts in any order, sorted, and of each run the first
+pub first-starts : (display : Clock) (event : Event) (w : Window) (xs ys : List Start) → HasStarts display event w xs → IsPermutation xs ys → IsSorted start_cmp ys → AreStarts display event w (firsts_after None ys)
+first-starts display event w xs ys h p s =
+    let climbs : Climbs start_cmp ys = climbs-sorted start_cmp start_total ys s in
+    record {
+      rises = rises-firsts ys (climbs-moments ys climbs);
+      has = record {
+        are = λ t m. h.are t (in-permutation t ys xs (IsPermutation-sym xs ys p) (firsts-in None t ys m));
+        all = λ given g n.
+            let k = h.all given g n in
+            let f = in-all-firsts k.start ys climbs (in-permutation k.start xs ys p k.stands) in
+            let back = up-to-back (moment_cmp f.first k.start) (local_cmp f.first.local k.start.local) (same-moment f.first k.start f.same) f.earlier in
+            let order = written-order event.start.stamp f.first.local k.start.local (local-order f.first.local k.start.local back) in
+            record { start = f.first; stands = f.stands; same = f.same ∙ k.same; earlier = omega (arith, ints, order, k.earlier) };
+      };
+    }

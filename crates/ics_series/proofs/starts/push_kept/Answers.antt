@@ -1,0 +1,36 @@
+use Rattle.std.proofs.Common.{◌≡◌, ◌∙◌, ap, sym}
+use Rattle.ics_rule.specs.Cursors.{place_of}
+use Rattle.ics_rule.specs.Kept.{is_kept}
+use Rattle.ics_rule.specs.Locals.{number}
+use Rattle.ics_rule.specs.Recurrence.{Recurrence}
+use Rattle.ics_series.specs.Clocks.{display_clock, instant}
+use Rattle.ics_series.specs.Found.{is_until, with_start}
+use Rattle.ics_series.specs.Starts.{local_of, time_at}
+use Rattle.ics_series.proofs.GiverLemmas.{calendar-day, kept-time, own-day, rule-is}
+use Rattle.ics_series.proofs.KeptLemmas.{start_at, pushed-all, pushed-one}
+use Rattle.ics_series.proofs.starts.push_kept.Goals as goal
+
+pub push_start-requires : goal.push_start-requires
+push_start-requires c =
+    kept-time c.args.event.now c.args.rule.now c.of_calendar.result c.requires.time c.requires.rule c.of_calendar.ensures.day
+    (ap (is_kept c.args.rule.now) c.of_calendar.ensures.same ∙ c.in-Some.ensures.next.0.kept)
+
+pub loop-local-preserved : goal.loop-local-preserved
+loop-local-preserved c =
+    let display = display_clock c.args.display.now in
+    let event = c.args.event.now in
+    let local = c.of_calendar.result in
+    let time = kept-time c.args.event.now c.args.rule.now c.of_calendar.result c.requires.time c.requires.rule c.of_calendar.ensures.day
+    (ap (is_kept c.args.rule.now) c.of_calendar.ensures.same ∙ c.in-Some.ensures.next.0.kept) in
+    let new : c.push_start.new.starts.items ≡ with_start (is_until c.until_moment-until.result (instant display (time_at event.start local))) c.loop-local.starts.items (start_at display event local) = c.in_ok-push_start.ensures in
+    pushed-one display event c.args.rule.now c.requires.rule (place_of c.at-cursor.result) c.loop-local.cursor c.next.new.self c.args.starts.now.items c.loop-local.starts.items c.push_start.new.starts.items
+    c.loop-local.invariant (number c.end_nearby-end.result) (number c.in-Some.local) local c.in-Some.ensures.next.0 c.in-Some.ensures.next.1 c.in-Some.ensures.own c.of_calendar.ensures.day c.of_calendar.ensures.same time
+    (new ∙ ap (λ until. with_start (is_until until (instant display (time_at event.start local))) c.loop-local.starts.items (start_at display event local)) c.until_moment-until.ensures)
+
+pub returns : goal.returns
+returns c =
+    let event = c.args.event.now in
+    let start : c.args.rule.now.start ≡ local_of event.start.stamp = ap (λ (r : Recurrence). r.start) (rule-is event.start.stamp event.rule c.args.rule.now c.requires.rule).1 in
+    pushed-all (display_clock c.args.display.now) event c.args.rule.now c.requires.rule c.args.window.now (place_of c.at-cursor.result) c.first_nearby.result c.end_nearby-end.result c.loop-local.cursor
+    c.args.starts.now.items c.loop-local.starts.items c.loop-local.invariant c.first_nearby.ensures.day (sym c.at-cursor.ensures.place)
+    (calendar-day (local_of event.start.stamp).day (own-day event.start c.requires.time)) c.first_nearby.ensures.low c.end_nearby-end.ensures.day c.end_nearby-end.ensures.after c.in_default.ensures.next.0 (ap number start)

@@ -1,0 +1,60 @@
+//! How long an event lasts.
+ghost use Rattle.std.specs.Prelude.{◌≡◌, ◌≤ℤ◌, pos};
+ghost use Rattle.ics_calendar.specs.Event.{IsLength, IsTime};
+ghost use Rattle.ics_series.specs.Clocks.{day_of, display_clock};
+ghost use Rattle.ics_series.specs.Finish.{days_lasting, seconds_by, seconds_lasting};
+
+use crate::instant::instant;
+use ics_calendar::{Event, Length, Time};
+use ics_values::Stamp;
+use ics_zone::Display;
+
+const DAY: i64 = 86_400;
+
+/// How many days an event lasts that starts on a date.
+pub(crate) fn days_lasting(first: i32, length: Length) -> i32
+    requires { IsLength (Stamp.Date first) length }
+    ensures value { result ≡ days_lasting first length }
+    ensures least { pos 1 ≤ℤ result }
+    ensures most { result ≤ℤ pos 36_525 }
+{
+    match length {
+        Length::Open => 1,
+        Length::Until(end) => (day_of(end.stamp) - first).max(1),
+        Length::Lasting(duration) => (duration.days as i32).max(1),
+    }
+}
+
+// The day that a stamp writes.
+fn day_of(stamp: Stamp) -> i32
+    ensures { result ≡ day_of stamp }
+{
+    match stamp {
+        Stamp::Date(day) => day,
+        Stamp::Floating(local) | Stamp::Utc(local) | Stamp::Zoned(local) => local.day,
+    }
+}
+
+/// How many seconds an event lasts, where each day counts 86,400 of them.
+pub(crate) fn seconds_lasting(display: &Display, event: &Event) -> i64
+    ensures value { result ≡ seconds_lasting (display_clock display.now) event.now }
+    ensures least { pos 0 ≤ℤ result }
+    ensures most { result ≤ℤ pos 400_000_000_000 }
+{
+    seconds_by(display, event.start, event.length)
+}
+
+fn seconds_by(display: &Display, first: Time, length: Length) -> i64
+    requires time { IsTime first }
+    requires length { IsLength first.stamp length }
+    ensures value { result ≡ seconds_by (display_clock display.now) first first.stamp length }
+    ensures least { pos 0 ≤ℤ result }
+    ensures most { result ≤ℤ pos 400_000_000_000 }
+{
+    match (first.stamp, length) {
+        (Stamp::Date(day), length) => i64::from(days_lasting(day, length)) * DAY,
+        (_, Length::Open) => 0,
+        (_, Length::Until(end)) => (instant(display, end) - instant(display, first)).max(0),
+        (_, Length::Lasting(duration)) => duration.days as i64 * DAY + duration.seconds as i64,
+    }
+}
