@@ -14,7 +14,7 @@ use Rattle.ics_calendar.specs.Placed.{Placed, property_name, value, value_of, pa
 use Rattle.ics_calendar.specs.Values.{dated_of, lasting_of, ok_or_zero, is_cancelled}
 use Rattle.ics_calendar.specs.Faults.{dated_on, lasting_on, rule_on}
 use Rattle.ics_calendar.specs.Reading.{event_property}
-use Rattle.ics_calendar.specs.Collecting.{collected_of, or_first, note}
+use Rattle.ics_calendar.specs.Collecting.{collected_of, or_first, note_event}
 use Rattle.ics_calendar.proofs.NameLemmas.{Tells, tells}
 
 has-more : (n : List ℕ) (ls : List Placed) (l : Placed) → has n (ls ++ l ∷ []) ≡ cond (is_named n l) true (has n ls)
@@ -32,7 +32,7 @@ has-more n (k ∷ ks) l = ap (λ t. is_named n k || t) (has-more n ks l) ∙ swa
     swap false false c = refl
 
 -- what is kept of the first line of a name, with one line more
-kept-more : {X : Type 0} (f : Placed → X) (n : List ℕ) (ls : List Placed) (l : Placed) →
+pub kept-more : {X : Type 0} (f : Placed → X) (n : List ℕ) (ls : List Placed) (l : Placed) →
     option_map f (first_named n (ls ++ l ∷ [])) ≡ cond (is_named n l) (or_first (option_map f (first_named n ls)) (f l)) (option_map f (first_named n ls))
 kept-more f n [] l = last (is_named n l)
   where
@@ -72,7 +72,7 @@ noted : (n : Name) (u : List ℕ) (v : Parts) (had : Collected) → Tells u n �
       location = cond (bytes_eq u (codes "LOCATION")) (or_first had.location (text_of v.value)) had.location;
       description = cond (bytes_eq u (codes "DESCRIPTION")) (or_first had.description (text_of v.value)) had.description;
       cancelled = cond (bytes_eq u (codes "STATUS")) (or_first had.cancelled (is_cancelled v.value)) had.cancelled;
-    } ≡ note (event_property n v) had
+    } ≡ note_event (event_property n v) had
 noted name.Begin u v had e = rw e refl
 noted name.End u v had e = rw e refl
 noted name.Uid u v had e = rw e refl
@@ -90,10 +90,13 @@ noted name.Summary u v had e = rw e refl
 noted name.Location u v had e = rw e refl
 noted name.Description u v had e = rw e refl
 noted name.Status u v had e = rw e refl
+noted name.Tzid u v had e = rw e refl
+noted name.OffsetFrom u v had e = rw e refl
+noted name.OffsetTo u v had e = rw e refl
 noted name.Other u v had e = simp (e.no_uid, e.no_dtstart, e.no_dtend, e.no_duration, e.no_rrule, e.no_recurrence_id, e.no_sequence, e.no_summary, e.no_location, e.no_description, e.no_status) refl
 
 -- WHAT IS COLLECTED of an event, with one line more.
-pub collected_of-more : (ls : List Placed) (l : Placed) → collected_of (ls ++ l ∷ []) ≡ note (event_property (name_of (property_name l.content)) (parts_at l)) (collected_of ls)
+pub collected_of-more : (ls : List Placed) (l : Placed) → collected_of (ls ++ l ∷ []) ≡ note_event (event_property (name_of (property_name l.content)) (parts_at l)) (collected_of ls)
 collected_of-more ls l =
     rw (
       kept-more (λ l. text_of (value l)) (codes "UID") ls l,

@@ -6,7 +6,7 @@ use Rattle.ics_values.specs.RuleParts.{RuleParts, every}
 use Rattle.ics_values.specs.Rules.{rule_of}
 use Rattle.ics_values.specs.declared.frequency.Frequency.TheVariants.{Daily}
 use Rattle.ics_values.specs.declared.stamp.Stamp.TheVariants.{Utc}
-use Rattle.ics_calendar.specs.declared.fault.FaultKind.TheVariants.{BadFold, BadLine, BadNesting, BadStamp, NotCalendar, NotYet, OldVersion, Repeated, TooDeep, UnknownZone}
+use Rattle.ics_calendar.specs.declared.fault.FaultKind.TheVariants.{BadFold, BadLine, BadNesting, BadStamp, NotCalendar, OldVersion, Repeated, TooDeep, UnknownZone}
 use Rattle.ics_calendar.specs.declared.time.Length.TheVariants.{Until}
 use Rattle.ics_calendar.specs.Files.{file_of, events_of}
 use Rattle.ics_calendar.specs.Placed.{placed}
@@ -70,9 +70,7 @@ old_version = refl
 version_inside : fault (event (codes "UID:a" ∷ codes "DTSTART:20240105" ∷ codes "VERSION:1.0" ∷ [])) ≡ None
 version_inside = refl
 
--- a time zone of a calendar is not read yet, and one elsewhere is not looked at
-zone_not_yet : fault (calendar (codes "BEGIN:VTIMEZONE" ∷ codes "TZID:E" ∷ codes "END:VTIMEZONE" ∷ [])) ≡ at 2 NotYet
-zone_not_yet = refl
+-- a time zone elsewhere than in a calendar is not looked at
 
 zone_elsewhere : fault (calendar (codes "BEGIN:X" ∷ codes "BEGIN:VTIMEZONE" ∷ codes "TZID:E" ∷ codes "END:VTIMEZONE" ∷ codes "END:X" ∷ [])) ≡ None
 zone_elsewhere = refl

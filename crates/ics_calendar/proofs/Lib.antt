@@ -2,6 +2,7 @@ pub mod NameLemmas
 pub mod DateValueLemmas
 pub mod Rows
 pub mod Table
+mod SummaryLemmas
 pub mod Collects
 pub mod Bundles
 pub mod Frames
@@ -16,4 +17,5 @@ pub mod Sound
 pub mod Steps
 mod ExampleFiles
 mod PropertyExamples
+mod ZoneExamples
 mod Examples

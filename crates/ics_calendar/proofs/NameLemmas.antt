@@ -29,6 +29,9 @@ pub record IsUnknown (u : List ℕ) : Type 0 where
   pub no_location : bytes_eq u (codes "LOCATION") ≡ false
   pub no_description : bytes_eq u (codes "DESCRIPTION") ≡ false
   pub no_status : bytes_eq u (codes "STATUS") ≡ false
+  pub no_tzid : bytes_eq u (codes "TZID") ≡ false
+  pub no_offset_from : bytes_eq u (codes "TZOFFSETFROM") ≡ false
+  pub no_offset_to : bytes_eq u (codes "TZOFFSETTO") ≡ false
 
 -- the name, where it is one of them, is the word
 abbrev pub Tells : List ℕ → Name → Type 0
@@ -49,6 +52,9 @@ Tells u name.Summary = u ≡ codes "SUMMARY"
 Tells u name.Location = u ≡ codes "LOCATION"
 Tells u name.Description = u ≡ codes "DESCRIPTION"
 Tells u name.Status = u ≡ codes "STATUS"
+Tells u name.Tzid = u ≡ codes "TZID"
+Tells u name.OffsetFrom = u ≡ codes "TZOFFSETFROM"
+Tells u name.OffsetTo = u ≡ codes "TZOFFSETTO"
 Tells u name.Other = IsUnknown u
 
 pub equal : (xs ys : List ℕ) → bytes_eq xs ys ≡ true → xs ≡ ys
@@ -77,6 +83,9 @@ tells u =
     choose u name.Location _ (bytes_eq u (codes "LOCATION")) (equal u (codes "LOCATION")) (λ no_location.
     choose u name.Description _ (bytes_eq u (codes "DESCRIPTION")) (equal u (codes "DESCRIPTION")) (λ no_description.
     choose u name.Status _ (bytes_eq u (codes "STATUS")) (equal u (codes "STATUS")) (λ no_status.
+    choose u name.Tzid _ (bytes_eq u (codes "TZID")) (equal u (codes "TZID")) (λ no_tzid.
+    choose u name.OffsetFrom _ (bytes_eq u (codes "TZOFFSETFROM")) (equal u (codes "TZOFFSETFROM")) (λ no_offset_from.
+    choose u name.OffsetTo _ (bytes_eq u (codes "TZOFFSETTO")) (equal u (codes "TZOFFSETTO")) (λ no_offset_to.
     record {
       no_begin = no_begin;
       no_end = no_end;
@@ -95,18 +104,25 @@ tells u =
       no_location = no_location;
       no_description = no_description;
       no_status = no_status;
-    })))))))))))))))))
+      no_tzid = no_tzid;
+      no_offset_from = no_offset_from;
+      no_offset_to = no_offset_to;
+    }))))))))))))))))))))
 
 -- the component is none of those that a file is read for
 pub record IsUnknownComponent (u : List ℕ) : Type 0 where
   pub no_calendar : bytes_eq u (codes "VCALENDAR") ≡ false
   pub no_event : bytes_eq u (codes "VEVENT") ≡ false
   pub no_zone : bytes_eq u (codes "VTIMEZONE") ≡ false
+  pub no_standard : bytes_eq u (codes "STANDARD") ≡ false
+  pub no_daylight : bytes_eq u (codes "DAYLIGHT") ≡ false
 
 abbrev pub TellsComponent : List ℕ → Component → Type 0
 TellsComponent u component.Calendar = u ≡ codes "VCALENDAR"
 TellsComponent u component.Event = u ≡ codes "VEVENT"
 TellsComponent u component.Zone = u ≡ codes "VTIMEZONE"
+TellsComponent u component.Standard = u ≡ codes "STANDARD"
+TellsComponent u component.Daylight = u ≡ codes "DAYLIGHT"
 TellsComponent u (component.Other w) = IsUnknownComponent u × (w ≡ u)
 
 choose_component : (u : List ℕ) (p q : Component) (b : Bool) → (b ≡ true → TellsComponent u p) → (b ≡ false → TellsComponent u q) → TellsComponent u (cond b p q)
@@ -118,7 +134,9 @@ tells_component u =
     choose_component u component.Calendar _ (bytes_eq u (codes "VCALENDAR")) (equal u (codes "VCALENDAR")) (λ a.
     choose_component u component.Event _ (bytes_eq u (codes "VEVENT")) (equal u (codes "VEVENT")) (λ b.
     choose_component u component.Zone _ (bytes_eq u (codes "VTIMEZONE")) (equal u (codes "VTIMEZONE")) (λ c.
-    (record { no_calendar = a; no_event = b; no_zone = c }, refl))))
+    choose_component u component.Standard _ (bytes_eq u (codes "STANDARD")) (equal u (codes "STANDARD")) (λ d.
+    choose_component u component.Daylight _ (bytes_eq u (codes "DAYLIGHT")) (equal u (codes "DAYLIGHT")) (λ e.
+    (record { no_calendar = a; no_event = b; no_zone = c; no_standard = d; no_daylight = e }, refl))))))
 
 pub component_name-of : (u : List ℕ) → component_name (component_of u) ≡ u
 component_name-of u = named (component_of u) (tells_component u)
@@ -127,4 +145,6 @@ component_name-of u = named (component_of u) (tells_component u)
     named component.Calendar e = cc
     named component.Event e = cc
     named component.Zone e = cc
+    named component.Standard e = cc
+    named component.Daylight e = cc
     named (component.Other w) e = e.1

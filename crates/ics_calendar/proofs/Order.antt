@@ -18,7 +18,7 @@ use Rattle.ics_calendar.specs.Faults.{stands, kinds}
 use Rattle.ics_calendar.specs.FirstFault.{Fault, found, least_on, first_from, fault_at_end, no_open}
 use Rattle.ics_calendar.specs.Files.{event_by, begins_event, events_of}
 use Rattle.ics_calendar.specs.Reading.{event_property}
-use Rattle.ics_calendar.specs.Collecting.{collected_of, event_of, note}
+use Rattle.ics_calendar.specs.Collecting.{collected_of, event_of, note_event}
 use Rattle.ics_calendar.proofs.NameLemmas.{TellsComponent, tells_component, equal}
 use Rattle.ics_calendar.proofs.Collects.{collected_of-more, parts_at}
 use Rattle.ics_calendar.proofs.Ended.{and-false, ended_on, events_from}
@@ -27,7 +27,7 @@ use Rattle.ics_calendar.proofs.Paths.{Falls, Absent, below, here, gone, lines_in
 
 -- an END adds nothing to its event
 event_by-end : (ls : List Placed) (l : Placed) → name_of (property_name l.content) ≡ name.End → event_by (ls ++ l ∷ []) ≡ event_by ls
-event_by-end ls l e = ap event_of (collected_of-more ls l ∙ ap (λ n. note (event_property n (parts_at l)) (collected_of ls)) e)
+event_by-end ls l e = ap event_of (collected_of-more ls l ∙ ap (λ n. note_event (event_property n (parts_at l)) (collected_of ls)) e)
 
 abbrev event_at : List Placed → ℕ → EventSeen
 event_at whole begun = event_by (lines_in begun whole)
@@ -40,30 +40,24 @@ open_events whole (c ∷ cs) = cond (is_event_place (place_of (c ∷ cs))) (even
 -- only a calendar holds events, and it stands in none
 place-in-outside : (q : Place) (c : Component) → place_in q c ≢ place.Outside
 place-in-outside place.Outside component.Calendar = λ e. cc
-place-in-outside place.Outside component.Event = λ e. cc
-place-in-outside place.Outside component.Zone = λ e. cc
-place-in-outside place.Outside (component.Other n) = λ e. cc
-place-in-outside place.Calendar component.Calendar = λ e. cc
+place-in-outside place.Outside _ = λ e. cc
 place-in-outside place.Calendar component.Event = λ e. cc
-place-in-outside place.Calendar component.Zone = λ e. cc
-place-in-outside place.Calendar (component.Other n) = λ e. cc
-place-in-outside place.Event c = λ e. cc
-place-in-outside place.Elsewhere c = λ e. cc
+place-in-outside place.Calendar _ = λ e. cc
+place-in-outside place.Zone component.Standard = λ e. cc
+place-in-outside place.Zone _ = λ e. cc
+place-in-outside _ c = λ e. cc
 
 calendar-from : (q : Place) (c : Component) → is_calendar_place (place_in q c) ≡ true → q ≡ place.Outside
 calendar-from place.Outside c e = refl
-calendar-from place.Calendar component.Calendar e = cc
 calendar-from place.Calendar component.Event e = cc
-calendar-from place.Calendar component.Zone e = cc
-calendar-from place.Calendar (component.Other n) e = cc
-calendar-from place.Event c e = cc
-calendar-from place.Elsewhere c e = cc
+calendar-from place.Calendar _ e = cc
+calendar-from place.Zone component.Standard e = cc
+calendar-from place.Zone _ e = cc
+calendar-from _ c e = cc
 
 calendar-no-event : (q : Place) → is_calendar_place q ≡ true → is_event_place q ≡ false
-calendar-no-event place.Outside e = refl
-calendar-no-event place.Calendar e = refl
 calendar-no-event place.Event e = cc
-calendar-no-event place.Elsewhere e = refl
+calendar-no-event _ e = refl
 
 calendar-alone : (whole : List Placed) (path : List Open) → is_calendar_place (place_of path) ≡ true → open_events whole path ≡ []
 calendar-alone whole [] e = refl
@@ -76,15 +70,13 @@ event-begins q w = by_place q (component_of w) (tells_component w)
   where
     by_place : (q : Place) (c : Component) → TellsComponent w c → is_event_place (place_in q c) ≡ (is_calendar_place q && bytes_eq w (codes "VEVENT"))
     by_place place.Outside component.Calendar e = refl
-    by_place place.Outside component.Event e = refl
-    by_place place.Outside component.Zone e = refl
-    by_place place.Outside (component.Other n) e = refl
-    by_place place.Calendar component.Calendar e = rw e refl
-    by_place place.Calendar component.Event e = rw e refl
-    by_place place.Calendar component.Zone e = rw e refl
+    by_place place.Outside _ e = refl
     by_place place.Calendar (component.Other n) e = sym e.0.no_event
-    by_place place.Event c e = refl
-    by_place place.Elsewhere c e = refl
+    by_place place.Calendar component.Event e = rw e refl
+    by_place place.Calendar _ e = rw e refl
+    by_place place.Zone component.Standard e = refl
+    by_place place.Zone _ e = refl
+    by_place _ c e = refl
 
 -- no fault on a line, and thus no bad nesting
 skip : (b : Bool) (k : FaultKind) (rest : Option FaultKind) → cond b (Some k) rest ≡ None → (b ≡ false) × (rest ≡ None)
@@ -96,7 +88,7 @@ none-found p [] rest k e = (skip (p k) k (find p rest) e).0
 none-found p (j ∷ js) rest k e = none-found p js rest k (skip (p j) j (find p (js ++ k ∷ rest)) e).1
 
 nested : (p : FaultKind → Bool) → find p kinds ≡ None → p BadNesting ≡ false
-nested p e = none-found p (take 7 kinds) (drop 8 kinds) BadNesting e
+nested p e = none-found p (take 11 kinds) (drop 12 kinds) BadNesting e
 
 found-none : (number : ℕ) (kind : Option FaultKind) (later : Option Fault) → found number kind later ≡ None → (kind ≡ None) × (later ≡ None)
 found-none number (Some k) later e = cc

@@ -1,31 +1,37 @@
 -- The table of faults and the pass, for each name that a line may have.
-use Rattle.std.proofs.Common.{◌≡◌, ℕ, Bool, true, false, List, [], map, refl, ap, cond, Option, Some, None}
+use Rattle.std.proofs.Common.{◌≡◌, ℕ, Bool, true, false, List, [], ◌∷◌, map, refl, cond, Option, Some, None}
 use Rattle.std.specs.Prelude.{codes, nat_le, not, ◌&&◌, ◌||◌, is_some, if◌then◌else◌}
 use Rattle.std.specs.List.{list_any}
 use Rattle.std.specs.Str.{bytes_eq}
 use Rattle.ics_text.specs.Bytes.{upper}
 use Rattle.ics_text.specs.Contents.{Parts, param_of}
 use Rattle.ics_values.specs.Integers.{integer_of}
+use Rattle.ics_values.specs.Offsets.{offset_of}
 use Rattle.ics_values.specs.Rules.{rule_of}
+use Rattle.ics_values.specs.Stamps.{stamp_of}
 use Rattle.ics_calendar.specs.declared.collected.Collected.{Collected}
 use Rattle.ics_calendar.specs.declared.component.Component.{Component}
 use Rattle.ics_calendar.specs.declared.component.Component.TheVariants as component
 use Rattle.ics_calendar.specs.declared.component.Place.{Place}
 use Rattle.ics_calendar.specs.declared.component.Place.TheVariants as place
 use Rattle.ics_calendar.specs.declared.fault.FaultKind.{FaultKind}
-use Rattle.ics_calendar.specs.declared.fault.FaultKind.TheVariants.{BadStamp, BadDuration, BadRule, YearRange, NumberTooLarge, NotCalendar, BadNesting, TooDeep, MissingUid, MissingStart, Repeated, BadEnd, ThisAndFuture, Exrule, OldVersion, NotYet}
+use Rattle.ics_calendar.specs.declared.fault.FaultKind.TheVariants.{BadStamp, BadDuration, BadOffset, BadRule, YearRange, NumberTooLarge, NoObservance, ObservanceField, ZoneRule, NotCalendar, BadNesting, TooDeep, MissingUid, MissingStart, Repeated, BadEnd, ThisAndFuture, Exrule, OldVersion, NotYet}
 use Rattle.ics_calendar.specs.declared.date_values.DateValue.{DateValue}
+use Rattle.ics_calendar.specs.declared.date_values.DateValue.TheVariants.{At}
 use Rattle.ics_calendar.specs.declared.frame.Frame.{Frame}
 use Rattle.ics_calendar.specs.declared.name.Name.{Name}
 use Rattle.ics_calendar.specs.declared.name.Name.TheVariants as name
 use Rattle.ics_calendar.specs.declared.property.Property.TheVariants as property
-use Rattle.ics_calendar.specs.Components.{component_of, component_name, is_outside_place, is_calendar_place, is_event_place}
-use Rattle.ics_calendar.specs.DateValues.{rdates_of, exdates_of, has_bad_stamp, has_far_stamp, has_bad_duration, has_large_duration}
-use Rattle.ics_calendar.specs.Values.{zone_name, dated_of, is_bad_stamp, is_far_stamp, lasting_of, is_bad_duration, is_large_duration, is_bad_rule, is_large_rule, is_large_integer, is_filled, ends_badly}
-use Rattle.ics_calendar.specs.Faults.{stamp_names, single_names, unread_names}
+use Rattle.ics_calendar.specs.declared.summary.ObservanceSummary.{ObservanceSummary}
+use Rattle.ics_calendar.specs.declared.summary.Summary.{Summary}
+use Rattle.ics_calendar.specs.declared.summary.Summary.TheVariants as summary
+use Rattle.ics_calendar.specs.declared.summary.ZoneSummary.{ZoneSummary}
+use Rattle.ics_calendar.specs.Components.{component_of, component_name, is_outside_place, is_calendar_place, is_event_place, is_zone_place, is_observance_place}
+use Rattle.ics_calendar.specs.DateValues.{rdates_of, exdates_of, has_bad_stamp, has_far_stamp, has_bad_duration, has_large_duration, is_not_local}
+use Rattle.ics_calendar.specs.Values.{zone_name, dated_of, is_bad_stamp, is_far_stamp, lasting_of, is_bad_duration, is_large_duration, is_bad_offset, is_bad_rule, is_large_rule, is_fine_rule, is_large_integer, is_filled, ends_badly}
+use Rattle.ics_calendar.specs.Faults.{stamp_names, single_names, unread_names, offset_names, field_names}
 use Rattle.ics_calendar.specs.Reading.{read_as}
-use Rattle.ics_calendar.specs.Collecting.{nothing}
-use Rattle.ics_calendar.specs.LineFaults.{dates_fault, fault_in}
+use Rattle.ics_calendar.specs.LineFaults.{fault_in}
 use Rattle.ics_calendar.proofs.NameLemmas.{IsUnknown, TellsComponent, tells_component}
 
 abbrev dates_at : List ℕ → Parts → List DateValue
@@ -34,17 +40,30 @@ dates_at u v =
     else if bytes_eq u (codes "EXDATE") then exdates_of (is_some (zone_name v.params)) v.value
     else []
 
+abbrev onsets_at : List ℕ → Parts → List DateValue
+onsets_at u v =
+    if bytes_eq u (codes "DTSTART") then At (stamp_of false v.value) ∷ []
+    else if bytes_eq u (codes "RDATE") then rdates_of false v.value
+    else []
+
 -- The table, of what it reads of a line: its name, its value in upper case, its parts, its place, and tests of what stands around it.
-abbrev pub flat : (u w : List ℕ) (v : Parts) (q : Place) (cl deep filled start be h : Bool) → Option FaultKind
-flat u w v q cl deep filled start be h =
-    if (is_event_place q && list_any has_bad_stamp (dates_at u v)) || (is_event_place q && list_any (bytes_eq u) stamp_names && is_bad_stamp (dated_of v.params v.value).stamp) then Some BadStamp
-    else if (is_event_place q && list_any has_bad_duration (dates_at u v)) || (is_event_place q && bytes_eq u (codes "DURATION") && is_bad_duration (lasting_of v.value)) then Some BadDuration
-    else if is_event_place q && bytes_eq u (codes "RRULE") && is_bad_rule (rule_of v.value) then Some BadRule
-    else if (is_event_place q && list_any has_far_stamp (dates_at u v)) || (is_event_place q && list_any (bytes_eq u) stamp_names && is_far_stamp (dated_of v.params v.value).stamp) then Some YearRange
-    else if (is_event_place q && list_any has_large_duration (dates_at u v))
+abbrev pub flat : (u w : List ℕ) (v : Parts) (q : Place) (cl deep filled start be some fields h : Bool) → Option FaultKind
+flat u w v q cl deep filled start be some fields h =
+    if (is_observance_place q && list_any has_bad_stamp (onsets_at u v)) || (is_event_place q && list_any has_bad_stamp (dates_at u v)) || (is_event_place q && list_any (bytes_eq u) stamp_names && is_bad_stamp (dated_of v.params v.value).stamp) then Some BadStamp
+    else if (is_observance_place q && list_any has_bad_duration (onsets_at u v)) || (is_event_place q && list_any has_bad_duration (dates_at u v)) || (is_event_place q && bytes_eq u (codes "DURATION") && is_bad_duration (lasting_of v.value)) then Some BadDuration
+    else if is_observance_place q && list_any (bytes_eq u) offset_names && is_bad_offset (offset_of v.value) then Some BadOffset
+    else if (is_event_place q || is_observance_place q) && bytes_eq u (codes "RRULE") && is_bad_rule (rule_of v.value) then Some BadRule
+    else if (is_observance_place q && list_any has_far_stamp (onsets_at u v)) || (is_event_place q && list_any has_far_stamp (dates_at u v)) || (is_event_place q && list_any (bytes_eq u) stamp_names && is_far_stamp (dated_of v.params v.value).stamp) then Some YearRange
+    else if (is_observance_place q && list_any has_large_duration (onsets_at u v))
+    || (is_event_place q && list_any has_large_duration (dates_at u v))
     || (is_event_place q && bytes_eq u (codes "DURATION") && is_large_duration (lasting_of v.value))
-    || (is_event_place q && bytes_eq u (codes "RRULE") && is_large_rule (rule_of v.value))
+    || ((is_event_place q || is_observance_place q) && bytes_eq u (codes "RRULE") && is_large_rule (rule_of v.value))
     || (is_event_place q && bytes_eq u (codes "SEQUENCE") && is_large_integer (integer_of v.value)) then Some NumberTooLarge
+    else if bytes_eq u (codes "END") && cl && is_zone_place q && not some then Some NoObservance
+    else if (is_observance_place q && list_any is_not_local (onsets_at u v))
+    || (bytes_eq u (codes "END") && cl && not fields)
+    || (list_any (bytes_eq u) (field_names q) && h) then Some ObservanceField
+    else if is_observance_place q && bytes_eq u (codes "RRULE") && (h || is_fine_rule (rule_of v.value)) then Some ZoneRule
     else if is_outside_place q && not (bytes_eq u (codes "BEGIN") && bytes_eq w (codes "VCALENDAR")) then Some NotCalendar
     else if bytes_eq u (codes "END") && not (bytes_eq u (codes "END") && cl) then Some BadNesting
     else if bytes_eq u (codes "BEGIN") && deep then Some TooDeep
@@ -55,172 +74,162 @@ flat u w v q cl deep filled start be h =
     else if is_event_place q && bytes_eq u (codes "RECURRENCE-ID") && is_some (param_of (codes "RANGE") v.params) then Some ThisAndFuture
     else if is_event_place q && bytes_eq u (codes "EXRULE") then Some Exrule
     else if is_calendar_place q && bytes_eq u (codes "VERSION") && bytes_eq v.value (codes "1.0") then Some OldVersion
-    else if (is_event_place q && list_any (bytes_eq u) unread_names)
-    || (is_calendar_place q && (bytes_eq u (codes "BEGIN") && bytes_eq w (codes "VTIMEZONE"))) then Some NotYet
+    else if is_event_place q && list_any (bytes_eq u) unread_names then Some NotYet
     else None
+
+-- what is collected of some lines of a calendar, read as those of an event, of a time zone and of an observance
+pub record Gathered : Type 0 where
+  pub calendar : ℕ
+  pub event : Collected
+  pub zone : ZoneSummary
+  pub observance : ObservanceSummary
+
+abbrev pub summary_at : Place → Gathered → Summary
+summary_at place.Event g = summary.Event g.event
+summary_at place.Zone g = summary.Zone g.zone
+summary_at place.Observance g = summary.Observance g.observance
+summary_at _ g = summary.Nothing
 
 abbrev pub bad_end_of : Collected → Bool
 bad_end_of had = (is_some had.end && is_some had.duration) || ends_badly had.start had.end
 
--- the frame of a component, with what is collected if it is an event
-abbrev pub frame_at : Component → Place → Collected → Frame
-frame_at c q had = record { component = c; place = q; collected = if is_event_place q then had else nothing }
+abbrev pub has_fields : Place → Gathered → Bool
+has_fields place.Zone g = is_some g.zone.name && true
+has_fields place.Observance g = is_some g.observance.start && (is_some g.observance.from && (is_some g.observance.to && true))
+has_fields _ g = true
 
-abbrev pub flat_of : List ℕ → Parts → Place → Bool → ℕ → Collected → Bool → Option FaultKind
-flat_of u v q cl depth had h = flat u (map upper v.value) v q cl (nat_le 32 depth) (is_filled had.uid) (is_some had.start) (bad_end_of had) h
+-- the frame of a component, with what is collected of it
+abbrev pub frame_at : Component → Place → Gathered → Frame
+frame_at c q g = record { component = c; place = q; calendar = g.calendar; summary = summary_at q g }
 
-abbrev pub fault_of : Name → Parts → Component → Place → ℕ → Collected → Option FaultKind
-fault_of n v c q depth had = fault_in (read_as n (frame_at c q had) v) (frame_at c q had) depth
+abbrev pub flat_of : List ℕ → Parts → Place → Bool → ℕ → Gathered → Bool → Option FaultKind
+flat_of u v q cl depth g h = flat u (map upper v.value) v q cl (nat_le 32 depth) (is_filled g.event.uid) (is_some g.event.start) (bad_end_of g.event) g.zone.has_observance (has_fields q g) h
 
-or-false : (b : Bool) → (b || false) ≡ b
+abbrev pub fault_of : Name → Parts → Component → Place → ℕ → Gathered → Option FaultKind
+fault_of n v c q depth g = fault_in (read_as n (frame_at c q g) v) (frame_at c q g) depth
+
+-- the properties that both an event and an observance have
+abbrev pub start_flag : Place → Gathered → Bool
+start_flag place.Observance g = is_some g.observance.start
+start_flag _ g = is_some g.event.start
+
+abbrev pub rule_flag : Place → Gathered → Bool
+rule_flag place.Observance g = is_some g.observance.rule
+rule_flag _ g = is_some g.event.rule
+
+pub or-false : (b : Bool) → (b || false) ≡ b
 or-false true = refl
 or-false false = refl
 
-or-both-false : (b : Bool) → ((b || false) || false) ≡ b
-or-both-false true = refl
-or-both-false false = refl
+pub at-uid : (v : Parts) (c : Component) (q : Place) (cl : Bool) (depth : ℕ) (g : Gathered) → flat_of (codes "UID") v q cl depth g (is_some g.event.uid) ≡ fault_of name.Uid v c q depth g
+at-uid v c place.Event cl depth g = refl
+at-uid v c _ cl depth g = refl
 
--- where the values of a line alone have faults
-of-dates : (a b c d : Bool) →
-    cond (a || false) (Some BadStamp) (cond (b || false) (Some BadDuration) (cond (c || false) (Some YearRange) (cond (((d || false) || false) || false) (Some NumberTooLarge) (Some NotYet))))
-    ≡ cond a (Some BadStamp) (cond b (Some BadDuration) (cond c (Some YearRange) (cond d (Some NumberTooLarge) (Some NotYet))))
-of-dates true b c d = refl
-of-dates false true c d = refl
-of-dates false false true d = refl
-of-dates false false false true = refl
-of-dates false false false false = refl
+pub at-dtstart : (v : Parts) (c : Component) (q : Place) (cl : Bool) (depth : ℕ) (g : Gathered) → flat_of (codes "DTSTART") v q cl depth g (start_flag q g) ≡ fault_of name.Dtstart v c q depth g
+at-dtstart v c place.Observance cl depth g = simp or-false refl
+at-dtstart v c place.Event cl depth g = refl
+at-dtstart v c _ cl depth g = refl
 
-dates-event : (values : List DateValue) →
-    cond (list_any has_bad_stamp values || false) (Some BadStamp)
-    (cond (list_any has_bad_duration values || false) (Some BadDuration)
-    (cond (list_any has_far_stamp values || false) (Some YearRange) (cond (((list_any has_large_duration values || false) || false) || false) (Some NumberTooLarge) (Some NotYet))))
-    ≡ dates_fault values
-dates-event values = of-dates (list_any has_bad_stamp values) (list_any has_bad_duration values) (list_any has_far_stamp values) (list_any has_large_duration values)
+pub at-dtend : (v : Parts) (c : Component) (q : Place) (cl : Bool) (depth : ℕ) (g : Gathered) → flat_of (codes "DTEND") v q cl depth g (is_some g.event.end) ≡ fault_of name.Dtend v c q depth g
+at-dtend v c place.Event cl depth g = refl
+at-dtend v c _ cl depth g = refl
 
-pub at-uid : (v : Parts) (c : Component) (q : Place) (cl : Bool) (depth : ℕ) (had : Collected) → flat_of (codes "UID") v q cl depth had (is_some had.uid) ≡ fault_of name.Uid v c q depth had
-at-uid v c place.Outside cl depth had = refl
-at-uid v c place.Calendar cl depth had = refl
-at-uid v c place.Event cl depth had = refl
-at-uid v c place.Elsewhere cl depth had = refl
+pub at-duration : (v : Parts) (c : Component) (q : Place) (cl : Bool) (depth : ℕ) (g : Gathered) → flat_of (codes "DURATION") v q cl depth g (is_some g.event.duration) ≡ fault_of name.Duration v c q depth g
+at-duration v c place.Event cl depth g = simp or-false refl
+at-duration v c _ cl depth g = refl
 
-pub at-dtstart : (v : Parts) (c : Component) (q : Place) (cl : Bool) (depth : ℕ) (had : Collected) → flat_of (codes "DTSTART") v q cl depth had (is_some had.start) ≡ fault_of name.Dtstart v c q depth had
-at-dtstart v c place.Outside cl depth had = refl
-at-dtstart v c place.Calendar cl depth had = refl
-at-dtstart v c place.Event cl depth had = refl
-at-dtstart v c place.Elsewhere cl depth had = refl
+pub at-rrule : (v : Parts) (c : Component) (q : Place) (cl : Bool) (depth : ℕ) (g : Gathered) → flat_of (codes "RRULE") v q cl depth g (rule_flag q g) ≡ fault_of name.Rrule v c q depth g
+at-rrule v c place.Event cl depth g = simp or-false refl
+at-rrule v c place.Observance cl depth g = simp or-false refl
+at-rrule v c _ cl depth g = refl
 
-pub at-dtend : (v : Parts) (c : Component) (q : Place) (cl : Bool) (depth : ℕ) (had : Collected) → flat_of (codes "DTEND") v q cl depth had (is_some had.end) ≡ fault_of name.Dtend v c q depth had
-at-dtend v c place.Outside cl depth had = refl
-at-dtend v c place.Calendar cl depth had = refl
-at-dtend v c place.Event cl depth had = refl
-at-dtend v c place.Elsewhere cl depth had = refl
+pub at-recurrence_id : (v : Parts) (c : Component) (q : Place) (cl : Bool) (depth : ℕ) (g : Gathered) → flat_of (codes "RECURRENCE-ID") v q cl depth g (g.event.has_recurrence) ≡ fault_of name.RecurrenceId v c q depth g
+at-recurrence_id v c place.Event cl depth g = refl
+at-recurrence_id v c _ cl depth g = refl
 
-pub at-duration : (v : Parts) (c : Component) (q : Place) (cl : Bool) (depth : ℕ) (had : Collected) → flat_of (codes "DURATION") v q cl depth had (is_some had.duration) ≡ fault_of name.Duration v c q depth had
-at-duration v c place.Outside cl depth had = refl
-at-duration v c place.Calendar cl depth had = refl
-at-duration v c place.Event cl depth had = ap (λ t. cond (is_bad_duration (lasting_of v.value)) (Some BadDuration) (cond t (Some NumberTooLarge) (cond (is_some had.duration) (Some Repeated) None))) (or-both-false (is_large_duration (lasting_of v.value)))
-at-duration v c place.Elsewhere cl depth had = refl
+pub at-sequence : (v : Parts) (c : Component) (q : Place) (cl : Bool) (depth : ℕ) (g : Gathered) → flat_of (codes "SEQUENCE") v q cl depth g (is_some g.event.sequence) ≡ fault_of name.Sequence v c q depth g
+at-sequence v c place.Event cl depth g = refl
+at-sequence v c _ cl depth g = refl
 
-pub at-rrule : (v : Parts) (c : Component) (q : Place) (cl : Bool) (depth : ℕ) (had : Collected) → flat_of (codes "RRULE") v q cl depth had (is_some had.rule) ≡ fault_of name.Rrule v c q depth had
-at-rrule v c place.Outside cl depth had = refl
-at-rrule v c place.Calendar cl depth had = refl
-at-rrule v c place.Event cl depth had = ap (λ t. cond (is_bad_rule (rule_of v.value)) (Some BadRule) (cond t (Some NumberTooLarge) (cond (is_some had.rule) (Some Repeated) None))) (or-false (is_large_rule (rule_of v.value)))
-at-rrule v c place.Elsewhere cl depth had = refl
+pub at-rdate : (v : Parts) (c : Component) (q : Place) (cl : Bool) (depth : ℕ) (g : Gathered) (h : Bool) → flat_of (codes "RDATE") v q cl depth g h ≡ fault_of name.Rdate v c q depth g
+at-rdate v c place.Event cl depth g h = simp or-false refl
+at-rdate v c place.Observance cl depth g h = simp or-false refl
+at-rdate v c _ cl depth g h = refl
 
-pub at-recurrence_id : (v : Parts) (c : Component) (q : Place) (cl : Bool) (depth : ℕ) (had : Collected) → flat_of (codes "RECURRENCE-ID") v q cl depth had had.has_recurrence ≡ fault_of name.RecurrenceId v c q depth had
-at-recurrence_id v c place.Outside cl depth had = refl
-at-recurrence_id v c place.Calendar cl depth had = refl
-at-recurrence_id v c place.Event cl depth had = refl
-at-recurrence_id v c place.Elsewhere cl depth had = refl
+pub at-exdate : (v : Parts) (c : Component) (q : Place) (cl : Bool) (depth : ℕ) (g : Gathered) (h : Bool) → flat_of (codes "EXDATE") v q cl depth g h ≡ fault_of name.Exdate v c q depth g
+at-exdate v c place.Event cl depth g h = simp or-false refl
+at-exdate v c _ cl depth g h = refl
 
-pub at-sequence : (v : Parts) (c : Component) (q : Place) (cl : Bool) (depth : ℕ) (had : Collected) → flat_of (codes "SEQUENCE") v q cl depth had (is_some had.sequence) ≡ fault_of name.Sequence v c q depth had
-at-sequence v c place.Outside cl depth had = refl
-at-sequence v c place.Calendar cl depth had = refl
-at-sequence v c place.Event cl depth had = refl
-at-sequence v c place.Elsewhere cl depth had = refl
+pub at-exrule : (v : Parts) (c : Component) (q : Place) (cl : Bool) (depth : ℕ) (g : Gathered) (h : Bool) → flat_of (codes "EXRULE") v q cl depth g h ≡ fault_of name.Exrule v c q depth g
+at-exrule v c place.Event cl depth g h = refl
+at-exrule v c _ cl depth g h = refl
 
-pub at-rdate : (v : Parts) (c : Component) (q : Place) (cl : Bool) (depth : ℕ) (had : Collected) (h : Bool) → flat_of (codes "RDATE") v q cl depth had h ≡ fault_of name.Rdate v c q depth had
-at-rdate v c place.Outside cl depth had h = refl
-at-rdate v c place.Calendar cl depth had h = refl
-at-rdate v c place.Event cl depth had h = dates-event (rdates_of (is_some (zone_name v.params)) v.value)
-at-rdate v c place.Elsewhere cl depth had h = refl
+pub at-version : (v : Parts) (c : Component) (q : Place) (cl : Bool) (depth : ℕ) (g : Gathered) (h : Bool) → flat_of (codes "VERSION") v q cl depth g h ≡ fault_of name.Version v c q depth g
+at-version v c place.Event cl depth g h = refl
+at-version v c _ cl depth g h = refl
 
-pub at-exdate : (v : Parts) (c : Component) (q : Place) (cl : Bool) (depth : ℕ) (had : Collected) (h : Bool) → flat_of (codes "EXDATE") v q cl depth had h ≡ fault_of name.Exdate v c q depth had
-at-exdate v c place.Outside cl depth had h = refl
-at-exdate v c place.Calendar cl depth had h = refl
-at-exdate v c place.Event cl depth had h = dates-event (exdates_of (is_some (zone_name v.params)) v.value)
-at-exdate v c place.Elsewhere cl depth had h = refl
+pub at-summary : (v : Parts) (c : Component) (q : Place) (cl : Bool) (depth : ℕ) (g : Gathered) (h : Bool) → flat_of (codes "SUMMARY") v q cl depth g h ≡ fault_of name.Summary v c q depth g
+at-summary v c place.Event cl depth g h = refl
+at-summary v c _ cl depth g h = refl
 
-pub at-exrule : (v : Parts) (c : Component) (q : Place) (cl : Bool) (depth : ℕ) (had : Collected) (h : Bool) → flat_of (codes "EXRULE") v q cl depth had h ≡ fault_of name.Exrule v c q depth had
-at-exrule v c place.Outside cl depth had h = refl
-at-exrule v c place.Calendar cl depth had h = refl
-at-exrule v c place.Event cl depth had h = refl
-at-exrule v c place.Elsewhere cl depth had h = refl
+pub at-location : (v : Parts) (c : Component) (q : Place) (cl : Bool) (depth : ℕ) (g : Gathered) (h : Bool) → flat_of (codes "LOCATION") v q cl depth g h ≡ fault_of name.Location v c q depth g
+at-location v c place.Event cl depth g h = refl
+at-location v c _ cl depth g h = refl
 
-pub at-version : (v : Parts) (c : Component) (q : Place) (cl : Bool) (depth : ℕ) (had : Collected) (h : Bool) → flat_of (codes "VERSION") v q cl depth had h ≡ fault_of name.Version v c q depth had
-at-version v c place.Outside cl depth had h = refl
-at-version v c place.Calendar cl depth had h = refl
-at-version v c place.Event cl depth had h = refl
-at-version v c place.Elsewhere cl depth had h = refl
+pub at-description : (v : Parts) (c : Component) (q : Place) (cl : Bool) (depth : ℕ) (g : Gathered) (h : Bool) → flat_of (codes "DESCRIPTION") v q cl depth g h ≡ fault_of name.Description v c q depth g
+at-description v c place.Event cl depth g h = refl
+at-description v c _ cl depth g h = refl
 
-pub at-summary : (v : Parts) (c : Component) (q : Place) (cl : Bool) (depth : ℕ) (had : Collected) (h : Bool) → flat_of (codes "SUMMARY") v q cl depth had h ≡ fault_of name.Summary v c q depth had
-at-summary v c place.Outside cl depth had h = refl
-at-summary v c place.Calendar cl depth had h = refl
-at-summary v c place.Event cl depth had h = refl
-at-summary v c place.Elsewhere cl depth had h = refl
+pub at-status : (v : Parts) (c : Component) (q : Place) (cl : Bool) (depth : ℕ) (g : Gathered) (h : Bool) → flat_of (codes "STATUS") v q cl depth g h ≡ fault_of name.Status v c q depth g
+at-status v c place.Event cl depth g h = refl
+at-status v c _ cl depth g h = refl
 
-pub at-location : (v : Parts) (c : Component) (q : Place) (cl : Bool) (depth : ℕ) (had : Collected) (h : Bool) → flat_of (codes "LOCATION") v q cl depth had h ≡ fault_of name.Location v c q depth had
-at-location v c place.Outside cl depth had h = refl
-at-location v c place.Calendar cl depth had h = refl
-at-location v c place.Event cl depth had h = refl
-at-location v c place.Elsewhere cl depth had h = refl
+pub at-tzid : (v : Parts) (c : Component) (q : Place) (cl : Bool) (depth : ℕ) (g : Gathered) → flat_of (codes "TZID") v q cl depth g (is_some g.zone.name) ≡ fault_of name.Tzid v c q depth g
+at-tzid v c place.Event cl depth g = refl
+at-tzid v c _ cl depth g = refl
 
-pub at-description : (v : Parts) (c : Component) (q : Place) (cl : Bool) (depth : ℕ) (had : Collected) (h : Bool) → flat_of (codes "DESCRIPTION") v q cl depth had h ≡ fault_of name.Description v c q depth had
-at-description v c place.Outside cl depth had h = refl
-at-description v c place.Calendar cl depth had h = refl
-at-description v c place.Event cl depth had h = refl
-at-description v c place.Elsewhere cl depth had h = refl
+pub at-offset_from : (v : Parts) (c : Component) (q : Place) (cl : Bool) (depth : ℕ) (g : Gathered) → flat_of (codes "TZOFFSETFROM") v q cl depth g (is_some g.observance.from) ≡ fault_of name.OffsetFrom v c q depth g
+at-offset_from v c place.Event cl depth g = refl
+at-offset_from v c _ cl depth g = refl
 
-pub at-status : (v : Parts) (c : Component) (q : Place) (cl : Bool) (depth : ℕ) (had : Collected) (h : Bool) → flat_of (codes "STATUS") v q cl depth had h ≡ fault_of name.Status v c q depth had
-at-status v c place.Outside cl depth had h = refl
-at-status v c place.Calendar cl depth had h = refl
-at-status v c place.Event cl depth had h = refl
-at-status v c place.Elsewhere cl depth had h = refl
+pub at-offset_to : (v : Parts) (c : Component) (q : Place) (cl : Bool) (depth : ℕ) (g : Gathered) → flat_of (codes "TZOFFSETTO") v q cl depth g (is_some g.observance.to) ≡ fault_of name.OffsetTo v c q depth g
+at-offset_to v c place.Event cl depth g = refl
+at-offset_to v c _ cl depth g = refl
 
-pub at-end : (v : Parts) (c : Component) (q : Place) (cl : Bool) (depth : ℕ) (had : Collected) (h : Bool) → (is_outside_place q ≡ false → bytes_eq (map upper v.value) (component_name c) ≡ cl) →
-    flat_of (codes "END") v q cl depth had h ≡ fault_of name.End v c q depth had
-at-end v c place.Outside cl depth had h e = refl
-at-end v c place.Calendar true depth had h e = rw (e refl) refl
-at-end v c place.Calendar false depth had h e = rw (e refl) refl
-at-end v c place.Event true depth had h e = rw (e refl) refl
-at-end v c place.Event false depth had h e = rw (e refl) refl
-at-end v c place.Elsewhere true depth had h e = rw (e refl) refl
-at-end v c place.Elsewhere false depth had h e = rw (e refl) refl
+-- what the END of a time zone, and that of an observance, meets
+zone-end : (some name : Bool) →
+    cond (not some) (Some NoObservance) (cond (not (name && true) || false) (Some ObservanceField) None) ≡ cond (not some) (Some NoObservance) (cond (not name) (Some ObservanceField) None)
+zone-end some true = refl
+zone-end some false = refl
 
-at-component : (b : Component) (w : List ℕ) (v : Parts) (c : Component) (q : Place) (cl : Bool) (depth : ℕ) (had : Collected) (h : Bool) → TellsComponent w b →
-    flat (codes "BEGIN") w v q cl (nat_le 32 depth) (is_filled had.uid) (is_some had.start) (bad_end_of had) h ≡ fault_in (property.Begin b) (frame_at c q had) depth
-at-component component.Calendar w v c place.Outside cl depth had h e = rw e refl
-at-component component.Calendar w v c place.Calendar cl depth had h e = rw e refl
-at-component component.Calendar w v c place.Event cl depth had h e = refl
-at-component component.Calendar w v c place.Elsewhere cl depth had h e = refl
-at-component component.Event w v c place.Outside cl depth had h e = rw e refl
-at-component component.Event w v c place.Calendar cl depth had h e = rw e refl
-at-component component.Event w v c place.Event cl depth had h e = refl
-at-component component.Event w v c place.Elsewhere cl depth had h e = refl
-at-component component.Zone w v c place.Outside cl depth had h e = rw e refl
-at-component component.Zone w v c place.Calendar cl depth had h e = rw e refl
-at-component component.Zone w v c place.Event cl depth had h e = refl
-at-component component.Zone w v c place.Elsewhere cl depth had h e = refl
-at-component (component.Other n) w v c place.Outside cl depth had h e = simp (e.0.no_calendar, e.0.no_zone) refl
-at-component (component.Other n) w v c place.Calendar cl depth had h e = simp (e.0.no_calendar, e.0.no_zone) refl
-at-component (component.Other n) w v c place.Event cl depth had h e = refl
-at-component (component.Other n) w v c place.Elsewhere cl depth had h e = refl
+observance-end : (a b c : Bool) → cond (not (a && (b && (c && true))) || false) (Some ObservanceField) None ≡ cond (a && b && c) None (Some ObservanceField)
+observance-end true true true = refl
+observance-end true true false = refl
+observance-end true false c = refl
+observance-end false b c = refl
 
-pub at-begin : (v : Parts) (c : Component) (q : Place) (cl : Bool) (depth : ℕ) (had : Collected) (h : Bool) → flat_of (codes "BEGIN") v q cl depth had h ≡ fault_of name.Begin v c q depth had
-at-begin v c q cl depth had h = at-component (component_of (map upper v.value)) (map upper v.value) v c q cl depth had h (tells_component (map upper v.value))
+pub at-end : (v : Parts) (c : Component) (q : Place) (cl : Bool) (depth : ℕ) (g : Gathered) (h : Bool) → (is_outside_place q ≡ false → bytes_eq (map upper v.value) (component_name c) ≡ cl) →
+    flat_of (codes "END") v q cl depth g h ≡ fault_of name.End v c q depth g
+at-end v c place.Outside true depth g h e = refl
+at-end v c place.Outside false depth g h e = refl
+at-end v c place.Zone true depth g h e = rw (e refl) (zone-end g.zone.has_observance (is_some g.zone.name))
+at-end v c place.Observance true depth g h e = rw (e refl) (observance-end (is_some g.observance.start) (is_some g.observance.from) (is_some g.observance.to))
+at-end v c _ true depth g h e = rw (e refl) refl
+at-end v c _ false depth g h e = rw (e refl) refl
 
-pub at-other : (u : List ℕ) (v : Parts) (c : Component) (q : Place) (cl : Bool) (depth : ℕ) (had : Collected) (h : Bool) → IsUnknown u → flat_of u v q cl depth had h ≡ fault_of name.Other v c q depth had
-at-other u v c place.Outside cl depth had h n = simp (n.no_begin, n.no_end, n.no_uid, n.no_dtstart, n.no_dtend, n.no_duration, n.no_rrule, n.no_recurrence_id, n.no_sequence, n.no_rdate, n.no_exdate, n.no_exrule, n.no_version) refl
-at-other u v c place.Calendar cl depth had h n = simp (n.no_begin, n.no_end, n.no_uid, n.no_dtstart, n.no_dtend, n.no_duration, n.no_rrule, n.no_recurrence_id, n.no_sequence, n.no_rdate, n.no_exdate, n.no_exrule, n.no_version) refl
-at-other u v c place.Event cl depth had h n = simp (n.no_begin, n.no_end, n.no_uid, n.no_dtstart, n.no_dtend, n.no_duration, n.no_rrule, n.no_recurrence_id, n.no_sequence, n.no_rdate, n.no_exdate, n.no_exrule, n.no_version) refl
-at-other u v c place.Elsewhere cl depth had h n = simp (n.no_begin, n.no_end, n.no_uid, n.no_dtstart, n.no_dtend, n.no_duration, n.no_rrule, n.no_recurrence_id, n.no_sequence, n.no_rdate, n.no_exdate, n.no_exrule, n.no_version) refl
+outside-begin : (b : Component) (w : List ℕ) (v : Parts) (c : Component) (cl : Bool) (depth : ℕ) (g : Gathered) (h : Bool) → TellsComponent w b →
+    flat (codes "BEGIN") w v place.Outside cl (nat_le 32 depth) (is_filled g.event.uid) (is_some g.event.start) (bad_end_of g.event) g.zone.has_observance true h ≡ fault_in (property.Begin b) (frame_at c place.Outside g) depth
+outside-begin component.Calendar w v c cl depth g h e = rw e refl
+outside-begin component.Event w v c cl depth g h e = rw e refl
+outside-begin component.Zone w v c cl depth g h e = rw e refl
+outside-begin component.Standard w v c cl depth g h e = rw e refl
+outside-begin component.Daylight w v c cl depth g h e = rw e refl
+outside-begin (component.Other n) w v c cl depth g h e = simp e.0.no_calendar refl
+
+pub at-begin : (v : Parts) (c : Component) (q : Place) (cl : Bool) (depth : ℕ) (g : Gathered) (h : Bool) → flat_of (codes "BEGIN") v q cl depth g h ≡ fault_of name.Begin v c q depth g
+at-begin v c place.Outside cl depth g h = outside-begin (component_of (map upper v.value)) (map upper v.value) v c cl depth g h (tells_component (map upper v.value))
+at-begin v c _ cl depth g h = refl
+
+pub at-other : (u : List ℕ) (v : Parts) (c : Component) (q : Place) (cl : Bool) (depth : ℕ) (g : Gathered) (h : Bool) → IsUnknown u → flat_of u v q cl depth g h ≡ fault_of name.Other v c q depth g
+at-other u v c place.Outside cl depth g h n = simp (n.no_begin, n.no_end, n.no_uid, n.no_dtstart, n.no_dtend, n.no_duration, n.no_rrule, n.no_recurrence_id, n.no_sequence, n.no_rdate, n.no_exdate, n.no_exrule, n.no_version, n.no_tzid, n.no_offset_from, n.no_offset_to) refl
+at-other u v c _ cl depth g h n = simp (n.no_begin, n.no_end, n.no_uid, n.no_dtstart, n.no_dtend, n.no_duration, n.no_rrule, n.no_recurrence_id, n.no_sequence, n.no_rdate, n.no_exdate, n.no_exrule, n.no_version, n.no_tzid, n.no_offset_from, n.no_offset_to) refl

@@ -23,21 +23,28 @@ use Rattle.ics_calendar.specs.declared.component.Place.{Place}
 use Rattle.ics_calendar.specs.declared.component.Place.TheVariants as place
 use Rattle.ics_calendar.specs.declared.dated.Dated.{Dated}
 use Rattle.ics_calendar.specs.declared.fault.FaultKind.{FaultKind}
-use Rattle.ics_calendar.specs.declared.fault.FaultKind.TheVariants.{UnknownZone, BadEnd, MissingUid, MissingStart}
+use Rattle.ics_calendar.specs.declared.fault.FaultKind.TheVariants.{BadEnd, MissingUid, MissingStart}
 use Rattle.ics_calendar.specs.declared.frame.Frame.{Frame}
+use Rattle.ics_calendar.specs.declared.later.Later.{Later}
+use Rattle.ics_calendar.specs.declared.later.Later.TheVariants as later
 use Rattle.ics_calendar.specs.declared.name.Name.{Name}
 use Rattle.ics_calendar.specs.declared.name.Name.TheVariants as name
 use Rattle.ics_calendar.specs.declared.property.Property.{Property}
 use Rattle.ics_calendar.specs.declared.property.Property.TheVariants as property
+use Rattle.ics_calendar.specs.declared.summary.Summary.{Summary}
+use Rattle.ics_calendar.specs.declared.summary.Summary.TheVariants as summary
+use Rattle.ics_calendar.specs.Components.{component_of, place_in}
 use Rattle.ics_calendar.specs.Event.{is_zoned, IsTime, longest, seconds_of, IsWithin, IsEnd, IsLasting, IsLength, IsEvent, HasZonesBelow, EndsBelow}
 use Rattle.ics_calendar.specs.Files.{time_of, length_of}
 use Rattle.ics_calendar.specs.Names.{name_of}
-use Rattle.ics_calendar.specs.Reading.{property_at, read_as, read_on}
-use Rattle.ics_calendar.specs.Collecting.{event_of, or_first}
-use Rattle.ics_calendar.specs.LineFaults.{stamp_fault, fault_at, fault_in, fault_on, unknown_zone, later_in, later_on}
-use Rattle.ics_calendar.specs.Sound.{IsSoundStamp, IsSoundDuration, IsSound, AreSound, IsWhole}
-use Rattle.ics_calendar.specs.Pass.{behind, closed, event_in, ended}
-use Rattle.ics_calendar.specs.Values.{zone_name, dated_of, is_zoned_stamp, length_in_seconds, is_lasting, allowed, lasting_of, is_filled, same_zone, is_out, is_bad_end, is_bad_instant, both, ends_badly, ends_badly_later}
+use Rattle.ics_calendar.specs.Reading.{event_property, calendar_property, zone_property, observance_property, property_at, read_as, read_on}
+use Rattle.ics_calendar.specs.Collecting.{event_of, or_first, note_event}
+use Rattle.ics_calendar.specs.Summaries.{fresh, note}
+use Rattle.ics_calendar.specs.LineFaults.{stamp_fault, event_fault, fault_in, fault_on, used_zone, later_in, later_on}
+use Rattle.ics_calendar.specs.Sound.{IsSoundStamp, IsSoundDuration, IsSound, IsSoundSummary, AreSound, IsWhole}
+use Rattle.ics_calendar.specs.Pass.{noted, behind, closed, event_in, ended}
+use Rattle.ics_calendar.specs.Values.{zone_name, dated_of, is_zoned_stamp, length_in_seconds, is_lasting, allowed, is_filled, same_zone, is_out, is_bad_end, is_bad_instant, both, ends_badly, ends_badly_later}
+use Rattle.ics_calendar.proofs.Frames.{behind-at}
 
 -- A stamp lies in the years of stamps.
 stamp-range : (zoned : Bool) (text : List ℕ) (s : Stamp) → stamp_of zoned text ≡ Ok s → IsStampDay (stamp_day s)
@@ -53,15 +60,15 @@ stamp-range zoned text s e = by_tests (is_stamp_text text) (is_stamp_year (year_
     by_tests false y t h e = cc
 
 -- A STAMP AND A DURATION, where no fault stands on their line.
-no-zone : (t : Bool) → cond t (Some UnknownZone) None ≡ None → t ≡ false
-no-zone true e = cc
-no-zone false e = refl
+no-zone : (t : Bool) (l : Later) → cond t (Some l) None ≡ None → t ≡ false
+no-zone true l e = cc
+no-zone false l e = refl
 
-sound-dated : (params value : List ℕ) (more : Option FaultKind) → stamp_fault (dated_of params value).stamp more ≡ None → unknown_zone (dated_of params value) ≡ None → IsSoundStamp (dated_of params value).stamp
-sound-dated params value more = by_result (stamp_of (is_some (zone_name params)) value) refl
+sound-dated : (params value : List ℕ) (k : ℕ) (more : Option FaultKind) → stamp_fault (dated_of params value).stamp more ≡ None → used_zone k (dated_of params value) ≡ None → IsSoundStamp (dated_of params value).stamp
+sound-dated params value k more = by_result (stamp_of (is_some (zone_name params)) value) refl
   where
-    by_result : (r : Result Stamp StampFault) → stamp_of (is_some (zone_name params)) value ≡ r → stamp_fault r more ≡ None → cond (is_zoned_stamp r) (Some UnknownZone) None ≡ None → IsSoundStamp r
-    by_result (Ok s) e f l = (stamp-range (is_some (zone_name params)) value s e, no-zone (is_zoned s) l)
+    by_result : (r : Result Stamp StampFault) → stamp_of (is_some (zone_name params)) value ≡ r → stamp_fault r more ≡ None → cond (is_zoned_stamp r) (Some (later.Zone (record { calendar = k; name = unwrap_or (zone_name params) [] }))) None ≡ None → IsSoundStamp r
+    by_result (Ok s) e f l = (stamp-range (is_some (zone_name params)) value s e, no-zone (is_zoned s) (later.Zone (record { calendar = k; name = unwrap_or (zone_name params) [] })) l)
     by_result (Err stamp.BadStamp) e f l = cc
     by_result (Err stamp.YearRange) e f l = cc
 
@@ -88,97 +95,122 @@ closed-sound : (f : Frame) (fs : List Frame) → AreSound (f ∷ fs) → AreSoun
 closed-sound f [] s = s
 closed-sound f (g ∷ gs) s = s.1
 
-abbrev Kept : Place → Name → Parts → Frame → List Frame → Type 0
-Kept q n v f fs = fault_at q (property_at q n v) f (length fs) ≡ None → later_in (property_at q n v) f ≡ None → AreSound (behind (property_at q n v) (f ∷ fs))
+-- what is read of a line is in order
+abbrev IsRead : Property → Type 0
+IsRead (property.Dtstart dated) = IsSoundStamp dated.stamp
+IsRead (property.Dtend dated) = IsSoundStamp dated.stamp
+IsRead (property.Duration duration) = IsSoundDuration duration
+IsRead _ = Unit {0}
 
-kept-calendar : (n : Name) (v : Parts) (f : Frame) (fs : List Frame) → AreSound (f ∷ fs) → Kept place.Calendar n v f fs
-kept-calendar name.Begin v f fs s e l = (record { start = s.0.start; end = s.0.end; duration = s.0.duration }, s.1)
-kept-calendar name.End v f fs s e l = (record { start = s.0.start; end = s.0.end; duration = s.0.duration }, s.1)
-kept-calendar name.Uid v f fs s e l = (record { start = s.0.start; end = s.0.end; duration = s.0.duration }, s.1)
-kept-calendar name.Dtstart v f fs s e l = (record { start = s.0.start; end = s.0.end; duration = s.0.duration }, s.1)
-kept-calendar name.Dtend v f fs s e l = (record { start = s.0.start; end = s.0.end; duration = s.0.duration }, s.1)
-kept-calendar name.Duration v f fs s e l = (record { start = s.0.start; end = s.0.end; duration = s.0.duration }, s.1)
-kept-calendar name.Rrule v f fs s e l = (record { start = s.0.start; end = s.0.end; duration = s.0.duration }, s.1)
-kept-calendar name.RecurrenceId v f fs s e l = (record { start = s.0.start; end = s.0.end; duration = s.0.duration }, s.1)
-kept-calendar name.Sequence v f fs s e l = (record { start = s.0.start; end = s.0.end; duration = s.0.duration }, s.1)
-kept-calendar name.Rdate v f fs s e l = (record { start = s.0.start; end = s.0.end; duration = s.0.duration }, s.1)
-kept-calendar name.Exdate v f fs s e l = (record { start = s.0.start; end = s.0.end; duration = s.0.duration }, s.1)
-kept-calendar name.Exrule v f fs s e l = (record { start = s.0.start; end = s.0.end; duration = s.0.duration }, s.1)
-kept-calendar name.Version v f fs s e l = (record { start = s.0.start; end = s.0.end; duration = s.0.duration }, s.1)
-kept-calendar name.Summary v f fs s e l = (record { start = s.0.start; end = s.0.end; duration = s.0.duration }, s.1)
-kept-calendar name.Location v f fs s e l = (record { start = s.0.start; end = s.0.end; duration = s.0.duration }, s.1)
-kept-calendar name.Description v f fs s e l = (record { start = s.0.start; end = s.0.end; duration = s.0.duration }, s.1)
-kept-calendar name.Status v f fs s e l = (record { start = s.0.start; end = s.0.end; duration = s.0.duration }, s.1)
-kept-calendar name.Other v f fs s e l = (record { start = s.0.start; end = s.0.end; duration = s.0.duration }, s.1)
+read-event : (n : Name) (v : Parts) (had : Collected) (f : Frame) → event_fault (event_property n v) had ≡ None → later_in (event_property n v) f ≡ None → IsRead (event_property n v)
+read-event name.Dtstart v had f e l = sound-dated v.params v.value f.calendar _ e l
+read-event name.Dtend v had f e l = sound-dated v.params v.value f.calendar _ e l
+read-event name.Duration v had f e l = allowed-sound (begins is_minus v.value) (duration_of v.value)
+read-event _ v had f e l = tt
 
-kept-event : (n : Name) (v : Parts) (f : Frame) (fs : List Frame) → AreSound (f ∷ fs) → Kept place.Event n v f fs
-kept-event name.Begin v f fs s e l = (record { start = s.0.start; end = s.0.end; duration = s.0.duration }, s.1)
-kept-event name.End v f fs s e l = (record { start = s.0.start; end = s.0.end; duration = s.0.duration }, s.1)
-kept-event name.Uid v f fs s e l = (record { start = s.0.start; end = s.0.end; duration = s.0.duration }, s.1)
-kept-event name.Dtstart v f fs s e l = (record { start = first-dated f.collected.start (dated_of v.params v.value) s.0.start (sound-dated v.params v.value _ e l); end = s.0.end; duration = s.0.duration }, s.1)
-kept-event name.Dtend v f fs s e l = (record { start = s.0.start; end = first-dated f.collected.end (dated_of v.params v.value) s.0.end (sound-dated v.params v.value _ e l); duration = s.0.duration }, s.1)
-kept-event name.Duration v f fs s e l = (record { start = s.0.start; end = s.0.end; duration = first-duration f.collected.duration (lasting_of v.value) s.0.duration (allowed-sound (begins is_minus v.value) (duration_of v.value)) }, s.1)
-kept-event name.Rrule v f fs s e l = (record { start = s.0.start; end = s.0.end; duration = s.0.duration }, s.1)
-kept-event name.RecurrenceId v f fs s e l = (record { start = s.0.start; end = s.0.end; duration = s.0.duration }, s.1)
-kept-event name.Sequence v f fs s e l = (record { start = s.0.start; end = s.0.end; duration = s.0.duration }, s.1)
-kept-event name.Rdate v f fs s e l = (record { start = s.0.start; end = s.0.end; duration = s.0.duration }, s.1)
-kept-event name.Exdate v f fs s e l = (record { start = s.0.start; end = s.0.end; duration = s.0.duration }, s.1)
-kept-event name.Exrule v f fs s e l = (record { start = s.0.start; end = s.0.end; duration = s.0.duration }, s.1)
-kept-event name.Version v f fs s e l = (record { start = s.0.start; end = s.0.end; duration = s.0.duration }, s.1)
-kept-event name.Summary v f fs s e l = (record { start = s.0.start; end = s.0.end; duration = s.0.duration }, s.1)
-kept-event name.Location v f fs s e l = (record { start = s.0.start; end = s.0.end; duration = s.0.duration }, s.1)
-kept-event name.Description v f fs s e l = (record { start = s.0.start; end = s.0.end; duration = s.0.duration }, s.1)
-kept-event name.Status v f fs s e l = (record { start = s.0.start; end = s.0.end; duration = s.0.duration }, s.1)
-kept-event name.Other v f fs s e l = (record { start = s.0.start; end = s.0.end; duration = s.0.duration }, s.1)
+noted-sound : (p : Property) (had : Collected) → IsSound had → IsRead p → IsSound (note_event p had)
+noted-sound (property.Dtstart dated) had s r = record { start = first-dated had.start dated s.start r; end = s.end; duration = s.duration }
+noted-sound (property.Dtend dated) had s r = record { start = s.start; end = first-dated had.end dated s.end r; duration = s.duration }
+noted-sound (property.Duration duration) had s r = record { start = s.start; end = s.end; duration = first-duration had.duration duration s.duration r }
+noted-sound _ had s r = record { start = s.start; end = s.end; duration = s.duration }
 
-kept-at : (q : Place) (n : Name) (v : Parts) (f : Frame) (fs : List Frame) → AreSound (f ∷ fs) → Kept q n v f fs
-kept-at place.Outside n v f fs s e l = (record { start = s.0.start; end = s.0.end; duration = s.0.duration }, s.1)
-kept-at place.Calendar n v f fs s e l = kept-calendar n v f fs s e l
-kept-at place.Event n v f fs s e l = kept-event n v f fs s e l
-kept-at place.Elsewhere n v f fs s e l = (record { start = s.0.start; end = s.0.end; duration = s.0.duration }, s.1)
+-- a line that is read elsewhere says nothing of an event
+read-calendar : (n : Name) (v : Parts) → IsRead (calendar_property n v)
+read-calendar name.Version v = tt
+read-calendar _ v = tt
 
-kept-read : (n : Name) (v : Parts) (f : Frame) (fs : List Frame) → AreSound (f ∷ fs) → fault_in (read_as n f v) f (length fs) ≡ None → later_in (read_as n f v) f ≡ None → AreSound (behind (read_as n f v) (f ∷ fs))
-kept-read name.Begin v f fs s e l = (record { start = tt; end = tt; duration = tt }, s)
-kept-read name.End v f fs s e l = closed-sound f fs s
-kept-read name.Uid v f fs s e l = kept-at f.place name.Uid v f fs s e l
-kept-read name.Dtstart v f fs s e l = kept-at f.place name.Dtstart v f fs s e l
-kept-read name.Dtend v f fs s e l = kept-at f.place name.Dtend v f fs s e l
-kept-read name.Duration v f fs s e l = kept-at f.place name.Duration v f fs s e l
-kept-read name.Rrule v f fs s e l = kept-at f.place name.Rrule v f fs s e l
-kept-read name.RecurrenceId v f fs s e l = kept-at f.place name.RecurrenceId v f fs s e l
-kept-read name.Sequence v f fs s e l = kept-at f.place name.Sequence v f fs s e l
-kept-read name.Rdate v f fs s e l = kept-at f.place name.Rdate v f fs s e l
-kept-read name.Exdate v f fs s e l = kept-at f.place name.Exdate v f fs s e l
-kept-read name.Exrule v f fs s e l = kept-at f.place name.Exrule v f fs s e l
-kept-read name.Version v f fs s e l = kept-at f.place name.Version v f fs s e l
-kept-read name.Summary v f fs s e l = kept-at f.place name.Summary v f fs s e l
-kept-read name.Location v f fs s e l = kept-at f.place name.Location v f fs s e l
-kept-read name.Description v f fs s e l = kept-at f.place name.Description v f fs s e l
-kept-read name.Status v f fs s e l = kept-at f.place name.Status v f fs s e l
-kept-read name.Other v f fs s e l = kept-at f.place name.Other v f fs s e l
+read-zone : (n : Name) (v : Parts) → IsRead (zone_property n v)
+read-zone name.Tzid v = tt
+read-zone _ v = tt
 
-pub sound-behind : (frames : List Frame) (v : Parts) → fault_on (read_on frames v) frames ≡ None → later_on (read_on frames v) frames ≡ None → AreSound frames → AreSound (behind (read_on frames v) frames)
-sound-behind [] v e l s = tt
-sound-behind (f ∷ fs) v e l s = kept-read (name_of (map upper v.name)) v f fs s e l
+read-observance : (n : Name) (v : Parts) → IsRead (observance_property n v)
+read-observance name.Dtstart v = tt
+read-observance _ v = tt
+
+-- a line that begins and ends nothing
+abbrev IsPlain : Property → Type 0
+IsPlain (property.Begin c) = ⊥
+IsPlain (property.End matches) = ⊥
+IsPlain _ = Unit {0}
+
+plain-event : (n : Name) (v : Parts) → IsPlain (event_property n v)
+plain-event name.Uid v = tt
+plain-event _ v = tt
+
+plain-fault : (p : Property) (c : Component) (k : ℕ) (had : Collected) (depth : ℕ) → IsPlain p → fault_in p (record { component = c; place = place.Event; calendar = k; summary = summary.Event had }) depth ≡ None → event_fault p had ≡ None
+plain-fault (property.Begin b) c k had depth i e = absurd i
+plain-fault (property.End m) c k had depth i e = absurd i
+plain-fault _ c k had depth i e = e
+
+kept-at : (q : Place) (n : Name) (v : Parts) (c : Component) (k : ℕ) (s : Summary) (depth : ℕ) → IsSoundSummary s →
+    fault_in (property_at q n v) (record { component = c; place = q; calendar = k; summary = s }) depth ≡ None →
+    later_in (property_at q n v) (record { component = c; place = q; calendar = k; summary = s }) ≡ None → IsSoundSummary (note (property_at q n v) s)
+kept-at place.Event n v c k (summary.Event had) depth h e l =
+    let f : Frame = record { component = c; place = place.Event; calendar = k; summary = summary.Event had } in
+    noted-sound (event_property n v) had h (read-event n v had f (plain-fault (event_property n v) c k had depth (plain-event n v) e) l)
+kept-at place.Calendar n v c k (summary.Event had) depth h e l = noted-sound (calendar_property n v) had h (read-calendar n v)
+kept-at place.Zone n v c k (summary.Event had) depth h e l = noted-sound (zone_property n v) had h (read-zone n v)
+kept-at place.Observance n v c k (summary.Event had) depth h e l = noted-sound (observance_property n v) had h (read-observance n v)
+kept-at _ n v c k (summary.Event had) depth h e l = noted-sound property.Other had h tt
+kept-at q n v c k (summary.Zone had) depth h e l = tt
+kept-at q n v c k (summary.Observance had) depth h e l = tt
+kept-at q n v c k summary.Nothing depth h e l = tt
+
+kept-begin : (c : Component) (s : Summary) → IsSoundSummary s → IsSoundSummary (note (property.Begin c) s)
+kept-begin c (summary.Event had) h = h
+kept-begin c _ h = tt
+
+fresh-sound : (q : Place) → IsSoundSummary (fresh q)
+fresh-sound place.Event = record { start = tt; end = tt; duration = tt }
+fresh-sound _ = tt
+
+behind-plain : (number : ℕ) (q : Place) (n : Name) (v : Parts) (frames : List Frame) → AreSound (noted (property_at q n v) frames) → AreSound (behind number (property_at q n v) frames)
+behind-plain number q n v frames h = subst (λ (fs : List Frame). AreSound fs) (sym (behind-at number q n v frames)) h
+
+kept-read : (number : ℕ) (n : Name) (v : Parts) (f : Frame) (fs : List Frame) → AreSound (f ∷ fs) → fault_in (read_as n f v) f (length fs) ≡ None → later_in (read_as n f v) f ≡ None → AreSound (behind number (read_as n f v) (f ∷ fs))
+kept-read number name.Begin v f fs s e l = (fresh-sound (place_in f.place (component_of (map upper v.value))), (kept-begin (component_of (map upper v.value)) f.summary s.0, s.1))
+kept-read number name.End v f fs s e l = closed-sound f fs s
+kept-read number name.Uid v f fs s e l = behind-plain number f.place name.Uid v (f ∷ fs) (kept-at f.place name.Uid v f.component f.calendar f.summary (length fs) s.0 e l, s.1)
+kept-read number name.Dtstart v f fs s e l = behind-plain number f.place name.Dtstart v (f ∷ fs) (kept-at f.place name.Dtstart v f.component f.calendar f.summary (length fs) s.0 e l, s.1)
+kept-read number name.Dtend v f fs s e l = behind-plain number f.place name.Dtend v (f ∷ fs) (kept-at f.place name.Dtend v f.component f.calendar f.summary (length fs) s.0 e l, s.1)
+kept-read number name.Duration v f fs s e l = behind-plain number f.place name.Duration v (f ∷ fs) (kept-at f.place name.Duration v f.component f.calendar f.summary (length fs) s.0 e l, s.1)
+kept-read number name.Rrule v f fs s e l = behind-plain number f.place name.Rrule v (f ∷ fs) (kept-at f.place name.Rrule v f.component f.calendar f.summary (length fs) s.0 e l, s.1)
+kept-read number name.RecurrenceId v f fs s e l = behind-plain number f.place name.RecurrenceId v (f ∷ fs) (kept-at f.place name.RecurrenceId v f.component f.calendar f.summary (length fs) s.0 e l, s.1)
+kept-read number name.Sequence v f fs s e l = behind-plain number f.place name.Sequence v (f ∷ fs) (kept-at f.place name.Sequence v f.component f.calendar f.summary (length fs) s.0 e l, s.1)
+kept-read number name.Rdate v f fs s e l = behind-plain number f.place name.Rdate v (f ∷ fs) (kept-at f.place name.Rdate v f.component f.calendar f.summary (length fs) s.0 e l, s.1)
+kept-read number name.Exdate v f fs s e l = behind-plain number f.place name.Exdate v (f ∷ fs) (kept-at f.place name.Exdate v f.component f.calendar f.summary (length fs) s.0 e l, s.1)
+kept-read number name.Exrule v f fs s e l = behind-plain number f.place name.Exrule v (f ∷ fs) (kept-at f.place name.Exrule v f.component f.calendar f.summary (length fs) s.0 e l, s.1)
+kept-read number name.Version v f fs s e l = behind-plain number f.place name.Version v (f ∷ fs) (kept-at f.place name.Version v f.component f.calendar f.summary (length fs) s.0 e l, s.1)
+kept-read number name.Summary v f fs s e l = behind-plain number f.place name.Summary v (f ∷ fs) (kept-at f.place name.Summary v f.component f.calendar f.summary (length fs) s.0 e l, s.1)
+kept-read number name.Location v f fs s e l = behind-plain number f.place name.Location v (f ∷ fs) (kept-at f.place name.Location v f.component f.calendar f.summary (length fs) s.0 e l, s.1)
+kept-read number name.Description v f fs s e l = behind-plain number f.place name.Description v (f ∷ fs) (kept-at f.place name.Description v f.component f.calendar f.summary (length fs) s.0 e l, s.1)
+kept-read number name.Status v f fs s e l = behind-plain number f.place name.Status v (f ∷ fs) (kept-at f.place name.Status v f.component f.calendar f.summary (length fs) s.0 e l, s.1)
+kept-read number name.Tzid v f fs s e l = behind-plain number f.place name.Tzid v (f ∷ fs) (kept-at f.place name.Tzid v f.component f.calendar f.summary (length fs) s.0 e l, s.1)
+kept-read number name.OffsetFrom v f fs s e l = behind-plain number f.place name.OffsetFrom v (f ∷ fs) (kept-at f.place name.OffsetFrom v f.component f.calendar f.summary (length fs) s.0 e l, s.1)
+kept-read number name.OffsetTo v f fs s e l = behind-plain number f.place name.OffsetTo v (f ∷ fs) (kept-at f.place name.OffsetTo v f.component f.calendar f.summary (length fs) s.0 e l, s.1)
+kept-read number name.Other v f fs s e l = behind-plain number f.place name.Other v (f ∷ fs) (kept-at f.place name.Other v f.component f.calendar f.summary (length fs) s.0 e l, s.1)
+
+pub sound-behind : (number : ℕ) (frames : List Frame) (v : Parts) → fault_on (read_on frames v) frames ≡ None → later_on (read_on frames v) frames ≡ None → AreSound frames → AreSound (behind number (read_on frames v) frames)
+sound-behind number [] v e l s = tt
+sound-behind number (f ∷ fs) v e l s = kept-read number (name_of (map upper v.name)) v f fs s e l
 
 -- AN EVENT THAT ENDS is whole.
-cond-none : (t : Bool) (k : FaultKind) → cond t (Some k) None ≡ None → t ≡ false
+cond-none : (t : Bool) (k : Later) → cond t (Some k) None ≡ None → t ≡ false
 cond-none true k e = cc
 cond-none false k e = refl
 
-ended-whole : (c : Component) (q : Place) (own had : Collected) (depth : ℕ) → fault_in (property.End true) (record { component = c; place = q; collected = own }) depth ≡ None →
-    later_in (property.End true) (record { component = c; place = q; collected = own }) ≡ None → IsSound own → event_in (record { component = c; place = q; collected = own }) ≡ Some had → IsWhole had
-ended-whole c place.Event own had depth e l s h =
+ended-whole : (c : Component) (q : Place) (k : ℕ) (s : Summary) (had : Collected) (depth : ℕ) → fault_in (property.End true) (record { component = c; place = q; calendar = k; summary = s }) depth ≡ None →
+    later_in (property.End true) (record { component = c; place = q; calendar = k; summary = s }) ≡ None → IsSoundSummary s → event_in s ≡ Some had → IsWhole had
+ended-whole c place.Outside k s had depth e l h i = cc
+ended-whole c _ k (summary.Event own) had depth e l h i =
     let same : own ≡ had = cc in
-    subst (λ (x : Collected). IsWhole x) same (record { sound = s; no_fault = e; no_later = cond-none (ends_badly_later own.start own.end) BadEnd l })
-ended-whole c place.Outside own had depth e l s h = cc
-ended-whole c place.Calendar own had depth e l s h = cc
-ended-whole c place.Elsewhere own had depth e l s h = cc
+    subst (λ (x : Collected). IsWhole x) same (record { sound = h; no_fault = e; no_later = cond-none (ends_badly_later own.start own.end) later.End l })
+ended-whole c _ k _ had depth e l h i = cc
 
 pub whole : (p : Property) (frames : List Frame) (had : Collected) → fault_on p frames ≡ None → later_on p frames ≡ None → AreSound frames → ended p frames ≡ Some had → IsWhole had
 whole (property.End true) [] had e l s h = cc
 whole (property.End true) (f ∷ []) had e l s h = cc
-whole (property.End true) (f ∷ g ∷ gs) had e l s h = ended-whole f.component f.place f.collected had (length (g ∷ gs)) e l s.0 h
+whole (property.End true) (f ∷ g ∷ gs) had e l s h = ended-whole f.component f.place f.calendar f.summary had (length (g ∷ gs)) e l s.0 h
 whole (property.End false) frames had e l s h = cc
 whole _ frames had e l s h = cc
 

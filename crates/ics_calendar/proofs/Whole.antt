@@ -24,7 +24,7 @@ decide-events (Some f) later es fs h = refl
 decide-events None (Some f) es fs h = refl
 decide-events None None es fs h = ap (decide None None) (h refl)
 
-pub file_of-pass : (file : List ℕ) → begins_with_fold file ≡ false → Rises 0 (unfolded file) → file_of file ≡ pass (bottom ∷ []) None None [] (unfolded file)
+pub file_of-pass : (file : List ℕ) → begins_with_fold file ≡ false → Rises 0 (unfolded file) → file_of file ≡ pass (bottom ∷ []) None None [] [] (unfolded file)
 file_of-pass file f r =
     ap (λ t. cond t (Err bad_fold) (decide (first_fault (placed file)) (later_fault (placed file)) (events_of (placed file)))) f
     ∙ sym (decide-events (first_fault (placed file)) (later_fault (placed file)) (events_from [] (placed file)) (events_of (placed file)) (events_from-begun (unfolded file) r))
@@ -43,14 +43,14 @@ decided : (file : List ℕ) → begins_with_fold file ≡ false → (first later
 decided file b (Some f) later e g = inr (b, inl (finds stands fault_at_end [] (placed file) f e))
 decided file b None (Some f) e g =
     let none = finds-none stands fault_at_end [] (placed file) e in
-    inr (b, inr (none.0, none.1, on_line (finds stands_later none_later [] (placed file) f g)))
+    inr (b, inr (none.0, none.1, on_line (finds (stands_later (placed file)) none_later [] (placed file) f g)))
   where
-    on_line : Finds stands_later none_later [] (placed file) f → IsFirst stands_later [] (placed file) f
+    on_line : Finds (stands_later (placed file)) none_later [] (placed file) f → IsFirst (stands_later (placed file)) [] (placed file) f
     on_line (inl r) = r
     on_line (inr r) = let n : None ≡ Some f = r.1 in cc
 decided file b None None e g =
     let none = finds-none stands fault_at_end [] (placed file) e in
-    (b, none.0, none.1, (finds-none stands_later none_later [] (placed file) g).0, refl)
+    (b, none.0, none.1, (finds-none (stands_later (placed file)) none_later [] (placed file) g).0, refl)
 
 pub is-file : (file : List ℕ) → IsFile file (file_of file)
 is-file file = by_fold (begins_with_fold file) refl
@@ -74,9 +74,9 @@ pub file-is : (file : List ℕ) (answer : Result FileSeen Fault) → IsFile file
 file-is file (Err f) (inl h) = ap (λ t. cond t (Err bad_fold) (decide (first_fault (placed file)) (later_fault (placed file)) (events_of (placed file)))) h.0 ∙ ap (λ (g : Fault). Err g) (sym h.1)
 file-is file (Err f) (inr h) = by_round h.1
   where
-    by_round : IsFirstOrLast (placed file) f ⊎ (NoneStand stands [] (placed file) × (fault_at_end (placed file) ≡ None) × IsFirst stands_later [] (placed file) f) → file_of file ≡ Err f
+    by_round : IsFirstOrLast (placed file) f ⊎ (NoneStand stands [] (placed file) × (fault_at_end (placed file) ≡ None) × IsFirst (stands_later (placed file)) [] (placed file) f) → file_of file ≡ Err f
     by_round (inl r) = whole-is file (Some f) (later_fault (placed file)) h.0 (first-is file f r) refl
-    by_round (inr r) = whole-is file None (Some f) h.0 (found-at-end stands fault_at_end [] (placed file) None r.0 r.1) (found-on-line stands_later none_later [] (placed file) f r.2)
+    by_round (inr r) = whole-is file None (Some f) h.0 (found-at-end stands fault_at_end [] (placed file) None r.0 r.1) (found-on-line (stands_later (placed file)) none_later [] (placed file) f r.2)
 file-is file (Ok seen) h =
-    whole-is file None None h.0 (found-at-end stands fault_at_end [] (placed file) None h.1 h.2) (found-at-end stands_later none_later [] (placed file) None h.3 refl)
+    whole-is file None None h.0 (found-at-end stands fault_at_end [] (placed file) None h.1 h.2) (found-at-end (stands_later (placed file)) none_later [] (placed file) None h.3 refl)
     ∙ ap (λ (s : FileSeen). Ok s) (sym h.4)

@@ -48,16 +48,16 @@ abbrev pub or_first : {X : Type 0} → Option X → X → Option X
 or_first (Some x) y = Some x
 or_first None y = Some y
 
-abbrev pub note : Property → Collected → Collected
-note (property.Uid text) had = record had { uid = or_first had.uid text }
-note (property.Dtstart dated) had = record had { start = or_first had.start dated }
-note (property.Dtend dated) had = record had { end = or_first had.end dated }
-note (property.Duration duration) had = record had { duration = or_first had.duration duration }
-note (property.Rrule rule) had = record had { rule = or_first had.rule rule }
-note (property.RecurrenceId dated range) had = record had { has_recurrence = true }
-note (property.Sequence number) had = record had { sequence = or_first had.sequence (ok_or_zero number) }
-note (property.Summary text) had = record had { title = or_first had.title text }
-note (property.Location text) had = record had { location = or_first had.location text }
-note (property.Description text) had = record had { description = or_first had.description text }
-note (property.Status cancelled) had = record had { cancelled = or_first had.cancelled cancelled }
-note _ had = had
+abbrev pub note_event : Property → Collected → Collected
+note_event (property.Uid text) had = record had { uid = or_first had.uid text }
+note_event (property.Dtstart dated) had = record had { start = or_first had.start dated }
+note_event (property.Dtend dated) had = record had { end = or_first had.end dated }
+note_event (property.Duration duration) had = record had { duration = or_first had.duration duration }
+note_event (property.Rrule rule) had = record had { rule = or_first had.rule rule }
+note_event (property.RecurrenceId dated range) had = record had { has_recurrence = true }
+note_event (property.Sequence number) had = record had { sequence = or_first had.sequence (ok_or_zero number) }
+note_event (property.Summary text) had = record had { title = or_first had.title text }
+note_event (property.Location text) had = record had { location = or_first had.location text }
+note_event (property.Description text) had = record had { description = or_first had.description text }
+note_event (property.Status cancelled) had = record had { cancelled = or_first had.cancelled cancelled }
+note_event _ had = had

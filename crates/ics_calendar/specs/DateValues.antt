@@ -1,10 +1,11 @@
 -- What the values of an RDATE or an EXDATE say (RFC 5545, sections 3.8.5.1 and 3.8.5.2).
-use Rattle.std.specs.Prelude.{ℕ, Bool, false, ◌||◌, ◌==◌, List, map, Result, Err, if◌then◌else◌}
+use Rattle.std.specs.Prelude.{ℕ, Bool, true, false, ◌||◌, not, ◌==◌, List, map, Result, Ok, Err, if◌then◌else◌}
 use Rattle.std.specs.List.{list_any}
 use Rattle.ics_values.specs.Periods.{first_half, second_half, lasts}
 use Rattle.ics_values.specs.RuleTexts.{pieces}
 use Rattle.ics_values.specs.Stamps.{is_date_time_form, stamp_of}
 use Rattle.ics_values.specs.declared.stamp.Stamp.{Stamp}
+use Rattle.ics_values.specs.declared.stamp.Stamp.TheVariants.{Floating}
 use Rattle.ics_values.specs.declared.stamp.StampFault.{StampFault}
 use Rattle.ics_values.specs.declared.stamp.StampFault.TheVariants as stamp
 use Rattle.ics_calendar.specs.declared.date_values.DateValue.{DateValue}
@@ -56,3 +57,11 @@ has_bad_duration _ = false
 abbrev pub has_large_duration : DateValue → Bool
 has_large_duration (Lasting start duration) = is_large_duration duration
 has_large_duration _ = false
+
+-- a local stamp, read without a TZID
+abbrev pub is_local : DateValue → Bool
+is_local (At (Ok (Floating local))) = true
+is_local _ = false
+
+abbrev pub is_not_local : DateValue → Bool
+is_not_local value = not (is_local value)

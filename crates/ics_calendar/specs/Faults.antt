@@ -1,21 +1,26 @@
--- WHICH FAULT STANDS ON WHICH LINE: one case for each kind (RFC 5545, sections 3.1, 3.4, 3.6.1 and 3.8).
-use Rattle.std.specs.Prelude.{ℕ, Bool, false, ◌&&◌, ◌||◌, not, nat_le, List, [], ◌∷◌, length, codes, Option, is_some, is_none, option_map, Result, if◌then◌else◌}
+-- WHICH FAULT STANDS ON WHICH LINE: one case for each kind (RFC 5545, sections 3.1, 3.4, 3.6.1, 3.6.5 and 3.8).
+use Rattle.std.specs.Prelude.{ℕ, Bool, false, ◌&&◌, ◌||◌, not, nat_le, ◌==◌, List, [], ◌∷◌, unwrap_or, length, codes, Option, is_some, is_none, option_map, Result, if◌then◌else◌}
 use Rattle.std.specs.List.{list_any}
 use Rattle.std.specs.Str.{bytes_eq}
 use Rattle.ics_values.specs.Integers.{integer_of}
+use Rattle.ics_values.specs.Offsets.{offset_of}
 use Rattle.ics_values.specs.Plain.{text_of}
 use Rattle.ics_values.specs.RuleParts.{RuleParts}
 use Rattle.ics_values.specs.Rules.{rule_of}
+use Rattle.ics_values.specs.Stamps.{stamp_of}
 use Rattle.ics_values.specs.declared.duration.Duration.{Duration}
 use Rattle.ics_values.specs.declared.duration.DurationFault.{DurationFault}
 use Rattle.ics_values.specs.declared.rule_text.RuleFault.{RuleFault}
+use Rattle.ics_calendar.specs.declared.component.Place.{Place}
+use Rattle.ics_calendar.specs.declared.component.Place.TheVariants as place
 use Rattle.ics_calendar.specs.declared.date_values.DateValue.{DateValue}
+use Rattle.ics_calendar.specs.declared.date_values.DateValue.TheVariants.{At}
 use Rattle.ics_calendar.specs.declared.dated.Dated.{Dated}
 use Rattle.ics_calendar.specs.declared.fault.FaultKind.{FaultKind}
-use Rattle.ics_calendar.specs.declared.fault.FaultKind.TheVariants.{BadLine, BadStamp, BadDuration, BadRule, YearRange, NumberTooLarge, NotCalendar, BadNesting, TooDeep, MissingUid, MissingStart, Repeated, BadEnd, UnknownZone, ThisAndFuture, Exrule, OldVersion, NotYet}
-use Rattle.ics_calendar.specs.Placed.{Placed, property_name, value, params_of, is_named, is_one_of, param, is_begin, is_end, is_outside, in_calendar, in_event, begins, is_closing, ends_event, has, first_named}
-use Rattle.ics_calendar.specs.DateValues.{rdates_of, exdates_of, has_bad_stamp, has_far_stamp, has_bad_duration, has_large_duration}
-use Rattle.ics_calendar.specs.Values.{zone_name, dated_of, is_bad_stamp, is_far_stamp, is_zoned_stamp, lasting_of, is_bad_duration, is_large_duration, is_bad_rule, is_large_rule, is_large_integer, is_filled, ends_badly, ends_badly_later}
+use Rattle.ics_calendar.specs.declared.fault.FaultKind.TheVariants.{BadLine, BadStamp, BadDuration, BadOffset, BadRule, YearRange, NumberTooLarge, NoObservance, ObservanceField, ZoneRule, NotCalendar, BadNesting, TooDeep, MissingUid, MissingStart, Repeated, BadEnd, UnknownZone, ThisAndFuture, Exrule, OldVersion, NotYet}
+use Rattle.ics_calendar.specs.Placed.{Placed, place_of, property_name, value, params_of, is_named, is_one_of, param, is_begin, is_end, is_outside, in_calendar, in_event, in_zone, in_observance, calendar_of, begins, is_closing, ends_event, ends_zone, begins_observance, has, has_all, first_named}
+use Rattle.ics_calendar.specs.DateValues.{rdates_of, exdates_of, has_bad_stamp, has_far_stamp, has_bad_duration, has_large_duration, is_not_local}
+use Rattle.ics_calendar.specs.Values.{zone_name, dated_of, is_bad_stamp, is_far_stamp, is_zoned_stamp, lasting_of, is_bad_duration, is_large_duration, is_bad_offset, is_bad_rule, is_large_rule, is_fine_rule, is_large_integer, is_filled, ends_badly, ends_badly_later}
 
 -- the properties of an event that hold one stamp, those that it has at most once, and those that are not read yet
 abbrev pub stamp_names : List (List ℕ)
@@ -27,12 +32,28 @@ single_names = codes "UID" ∷ codes "DTSTART" ∷ codes "DTEND" ∷ codes "DURA
 abbrev pub unread_names : List (List ℕ)
 unread_names = codes "RDATE" ∷ codes "EXDATE" ∷ codes "RECURRENCE-ID" ∷ []
 
+-- the properties that a time zone or an observance has exactly once
+abbrev pub field_names : Place → List (List ℕ)
+field_names place.Zone = codes "TZID" ∷ []
+field_names place.Observance = codes "DTSTART" ∷ codes "TZOFFSETFROM" ∷ codes "TZOFFSETTO" ∷ []
+field_names _ = []
+
+abbrev pub fields : Placed → List (List ℕ)
+fields line = field_names (place_of line.path)
+
+abbrev pub offset_names : List (List ℕ)
+offset_names = codes "TZOFFSETFROM" ∷ codes "TZOFFSETTO" ∷ []
+
 -- a property of an event with one of these names
 abbrev pub is_event_property : List (List ℕ) → Placed → Bool
 is_event_property names line = in_event line && is_one_of names line
 
 abbrev pub is_property : List ℕ → Placed → Bool
 is_property name line = in_event line && is_named name line
+
+-- an RRULE of an event or of an observance
+abbrev pub is_rule : Placed → Bool
+is_rule line = (in_event line || in_observance line) && is_named (codes "RRULE") line
 
 -- what a line says, read as a stamp, as a duration or as a rule
 abbrev pub dated_on : Placed → Dated
@@ -56,6 +77,17 @@ dates_on line =
 abbrev pub has_date : (DateValue → Bool) → Placed → Bool
 has_date test line = in_event line && list_any test (dates_on line)
 
+-- what its values say, if it is a DTSTART or an RDATE of an observance; a TZID beside them is disregarded
+abbrev pub onsets_on : Placed → List DateValue
+onsets_on line =
+    if is_named (codes "DTSTART") line then At (stamp_of false (value line)) ∷ []
+    else if is_named (codes "RDATE") line then rdates_of false (value line)
+    else []
+
+-- such a property with a value that passes
+abbrev pub has_onset : (DateValue → Bool) → Placed → Bool
+has_onset test line = in_observance line && list_any test (onsets_on line)
+
 -- what the first of the lines with that name says
 abbrev pub first_text : List ℕ → List Placed → Option (List ℕ)
 first_text name lines = option_map (λ line. text_of (value line)) (first_named name lines)
@@ -66,15 +98,23 @@ first_dated name lines = option_map dated_on (first_named name lines)
 -- THE FIRST ROUND. Does this fault stand on the line? The lines beside it are those before it that stand directly in the same component.
 abbrev pub stands : FaultKind → List Placed → Placed → Bool
 stands BadLine beside line = is_none line.content
-stands BadStamp beside line = has_date has_bad_stamp line || (is_event_property stamp_names line && is_bad_stamp (dated_on line).stamp)
-stands BadDuration beside line = has_date has_bad_duration line || (is_property (codes "DURATION") line && is_bad_duration (lasting_on line))
-stands BadRule beside line = is_property (codes "RRULE") line && is_bad_rule (rule_on line)
-stands YearRange beside line = has_date has_far_stamp line || (is_event_property stamp_names line && is_far_stamp (dated_on line).stamp)
+stands BadStamp beside line = has_onset has_bad_stamp line || has_date has_bad_stamp line || (is_event_property stamp_names line && is_bad_stamp (dated_on line).stamp)
+stands BadDuration beside line = has_onset has_bad_duration line || has_date has_bad_duration line || (is_property (codes "DURATION") line && is_bad_duration (lasting_on line))
+stands BadOffset beside line = in_observance line && is_one_of offset_names line && is_bad_offset (offset_of (value line))
+stands BadRule beside line = is_rule line && is_bad_rule (rule_on line)
+stands YearRange beside line = has_onset has_far_stamp line || has_date has_far_stamp line || (is_event_property stamp_names line && is_far_stamp (dated_on line).stamp)
 stands NumberTooLarge beside line =
-    has_date has_large_duration line
+    has_onset has_large_duration line
+    || has_date has_large_duration line
     || (is_property (codes "DURATION") line && is_large_duration (lasting_on line))
-    || (is_property (codes "RRULE") line && is_large_rule (rule_on line))
+    || (is_rule line && is_large_rule (rule_on line))
     || (is_property (codes "SEQUENCE") line && is_large_integer (integer_of (value line)))
+stands NoObservance beside line = ends_zone line && not (list_any begins_observance beside)
+stands ObservanceField beside line =
+    has_onset is_not_local line
+    || (is_closing line && not (has_all (fields line) beside))
+    || (is_one_of (fields line) line && has (property_name line.content) beside)
+stands ZoneRule beside line = in_observance line && is_named (codes "RRULE") line && (has (property_name line.content) beside || is_fine_rule (rule_on line))
 stands NotCalendar beside line = is_outside line && not (begins (codes "VCALENDAR") line)
 stands BadNesting beside line = is_end line && not (is_closing line)
 stands TooDeep beside line = is_begin line && nat_le 32 (length line.path)
@@ -88,17 +128,29 @@ stands BadEnd beside line =
 stands ThisAndFuture beside line = is_property (codes "RECURRENCE-ID") line && is_some (param (codes "RANGE") line)
 stands Exrule beside line = is_property (codes "EXRULE") line
 stands OldVersion beside line = in_calendar line && is_named (codes "VERSION") line && bytes_eq (value line) (codes "1.0")
-stands NotYet beside line = is_event_property unread_names line || (in_calendar line && begins (codes "VTIMEZONE") line)
+stands NotYet beside line = is_event_property unread_names line
 stands _ beside line = false
 
--- THE SECOND ROUND, of zones and instants. (No zone is known yet.)
-abbrev pub stands_later : FaultKind → List Placed → Placed → Bool
-stands_later BadEnd beside line = ends_event line && ends_badly_later (first_dated (codes "DTSTART") beside) (first_dated (codes "DTEND") beside)
-stands_later UnknownZone beside line = is_event_property stamp_names line && is_zoned_stamp (dated_on line).stamp
-stands_later _ beside line = false
+-- the TZID of a time zone of that calendar, which is this name when its escapes are read
+abbrev pub defines : ℕ → List ℕ → Placed → Bool
+defines calendar name line = in_zone line && is_named (codes "TZID") line && calendar == calendar_of line.path && bytes_eq name (text_of (value line))
+
+-- a stamp in a time zone, and whether some line of its calendar defines that
+abbrev pub is_in_zone : Placed → Bool
+is_in_zone line = is_event_property stamp_names line && is_zoned_stamp (dated_on line).stamp
+
+abbrev pub has_zone : List Placed → Placed → Bool
+has_zone lines line = list_any (defines (calendar_of line.path) (unwrap_or (dated_on line).zone [])) lines
+
+-- THE SECOND ROUND, of zones and instants, given all lines of the file. (A stamp in a zone is not read yet.)
+abbrev pub stands_later : List Placed → FaultKind → List Placed → Placed → Bool
+stands_later lines BadEnd beside line = ends_event line && ends_badly_later (first_dated (codes "DTSTART") beside) (first_dated (codes "DTEND") beside)
+stands_later lines UnknownZone beside line = is_in_zone line && not (has_zone lines line)
+stands_later lines NotYet beside line = is_in_zone line && has_zone lines line
+stands_later lines _ beside line = false
 
 -- the kinds of faults on lines, the least first
 abbrev pub kinds : List FaultKind
 kinds =
-    BadLine ∷ BadStamp ∷ BadDuration ∷ BadRule ∷ YearRange ∷ NumberTooLarge ∷ NotCalendar ∷ BadNesting ∷ TooDeep ∷ MissingUid ∷ MissingStart ∷ Repeated ∷ BadEnd ∷ UnknownZone ∷ ThisAndFuture ∷ Exrule ∷ OldVersion
+    BadLine ∷ BadStamp ∷ BadDuration ∷ BadOffset ∷ BadRule ∷ YearRange ∷ NumberTooLarge ∷ NoObservance ∷ ObservanceField ∷ ZoneRule ∷ NotCalendar ∷ BadNesting ∷ TooDeep ∷ MissingUid ∷ MissingStart ∷ Repeated ∷ BadEnd ∷ UnknownZone ∷ ThisAndFuture ∷ Exrule ∷ OldVersion
     ∷ NotYet ∷ []

@@ -56,9 +56,9 @@ abbrev pub IsFile : List ℕ → Result FileSeen Fault → Type 0
 IsFile file (Err fault) =
     (IsTrue (begins_with_fold file) × (fault ≡ bad_fold))
     ⊎ ((begins_with_fold file ≡ false) × (IsFirstOrLast (placed file) fault
-    ⊎ (NoneStand stands [] (placed file) × (fault_at_end (placed file) ≡ None) × IsFirst stands_later [] (placed file) fault)))
+    ⊎ (NoneStand stands [] (placed file) × (fault_at_end (placed file) ≡ None) × IsFirst (stands_later (placed file)) [] (placed file) fault)))
 IsFile file (Ok seen) =
-    (begins_with_fold file ≡ false) × NoneStand stands [] (placed file) × (fault_at_end (placed file) ≡ None) × NoneStand stands_later [] (placed file)
+    (begins_with_fold file ≡ false) × NoneStand stands [] (placed file) × (fault_at_end (placed file) ≡ None) × NoneStand (stands_later (placed file)) [] (placed file)
     × (seen ≡ record { events = events_of (placed file) })
 
 -- the first fault of round one, or else that of round two, or else the events

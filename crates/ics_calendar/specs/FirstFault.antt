@@ -67,4 +67,4 @@ abbrev pub first_fault : List Placed → Option Fault
 first_fault lines = first_from stands fault_at_end [] lines
 
 abbrev pub later_fault : List Placed → Option Fault
-later_fault lines = first_from stands_later (λ before. None) [] lines
+later_fault lines = first_from (stands_later lines) (λ before. None) [] lines

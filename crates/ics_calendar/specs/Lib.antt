@@ -10,7 +10,10 @@ pub mod FirstFault
 pub mod Files
 pub mod Reading
 pub mod Collecting
+pub mod Summaries
+pub mod Laters
 pub mod LineFaults
 pub mod Sound
 pub mod Pass
 pub mod Seen
+pub mod Progresses

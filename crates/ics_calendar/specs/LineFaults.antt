@@ -1,36 +1,39 @@
 -- The fault on a line, by what its component has collected.
-use Rattle.std.specs.Prelude.{ℕ, Bool, true, ◌&&◌, ◌||◌, not, nat_le, List, [], ◌∷◌, length, Option, Some, None, is_some, Result, if◌then◌else◌}
+use Rattle.std.specs.Prelude.{ℕ, Bool, true, ◌&&◌, ◌||◌, not, nat_le, List, [], ◌∷◌, length, unwrap_or, Option, Some, None, is_some, Result, ℤ, if◌then◌else◌}
 use Rattle.std.specs.List.{list_any}
 use Rattle.ics_values.specs.RuleParts.{RuleParts}
 use Rattle.ics_values.specs.declared.duration.Duration.{Duration}
 use Rattle.ics_values.specs.declared.stamp.Stamp.{Stamp}
 use Rattle.ics_values.specs.declared.duration.DurationFault.{DurationFault}
 use Rattle.ics_values.specs.declared.integer.IntegerFault.{IntegerFault}
+use Rattle.ics_values.specs.declared.offset.BadOffset.{BadOffset}
 use Rattle.ics_values.specs.declared.rule_text.RuleFault.{RuleFault}
 use Rattle.ics_values.specs.declared.stamp.StampFault.{StampFault}
 use Rattle.ics_calendar.specs.declared.collected.Collected.{Collected}
-use Rattle.ics_calendar.specs.declared.component.Component.{Component}
 use Rattle.ics_calendar.specs.declared.component.Component.TheVariants as component
 use Rattle.ics_calendar.specs.declared.component.Place.{Place}
 use Rattle.ics_calendar.specs.declared.component.Place.TheVariants as place
 use Rattle.ics_calendar.specs.declared.date_values.DateValue.{DateValue}
+use Rattle.ics_calendar.specs.declared.date_values.DateValue.TheVariants.{At}
 use Rattle.ics_calendar.specs.declared.dated.Dated.{Dated}
 use Rattle.ics_calendar.specs.declared.fault.FaultKind.{FaultKind}
 use Rattle.ics_calendar.specs.declared.fault.FaultKind.TheVariants as kind
 use Rattle.ics_calendar.specs.declared.frame.Frame.{Frame}
+use Rattle.ics_calendar.specs.declared.later.Later.{Later}
+use Rattle.ics_calendar.specs.declared.later.Later.TheVariants as later
+use Rattle.ics_calendar.specs.declared.later.ZoneName.{ZoneName}
 use Rattle.ics_calendar.specs.declared.property.Property.{Property}
 use Rattle.ics_calendar.specs.declared.property.Property.TheVariants as property
-use Rattle.ics_calendar.specs.Components.{is_event_place}
-use Rattle.ics_calendar.specs.DateValues.{has_bad_stamp, has_far_stamp, has_bad_duration, has_large_duration}
-use Rattle.ics_calendar.specs.Values.{is_bad_stamp, is_far_stamp, is_zoned_stamp, is_bad_duration, is_large_duration, is_bad_rule, is_large_rule, is_large_integer, is_filled, ends_badly, ends_badly_later}
+use Rattle.ics_calendar.specs.declared.summary.ObservanceSummary.{ObservanceSummary}
+use Rattle.ics_calendar.specs.declared.summary.Summary.{Summary}
+use Rattle.ics_calendar.specs.declared.summary.Summary.TheVariants as summary
+use Rattle.ics_calendar.specs.declared.summary.ZoneSummary.{ZoneSummary}
+use Rattle.ics_calendar.specs.DateValues.{has_bad_stamp, has_far_stamp, has_bad_duration, has_large_duration, is_not_local}
+use Rattle.ics_calendar.specs.Values.{is_bad_stamp, is_far_stamp, is_zoned_stamp, is_bad_duration, is_large_duration, is_bad_offset, is_bad_rule, is_large_rule, is_fine_rule, is_large_integer, is_filled, ends_badly, ends_badly_later}
 
 -- THE LEAST FAULT of the first round.
-abbrev pub zone_fault : Place → Component → Option FaultKind
-zone_fault place.Calendar component.Zone = Some kind.NotYet
-zone_fault _ _ = None
-
-abbrev pub begin_fault : Place → Component → ℕ → Option FaultKind
-begin_fault at c depth = if nat_le 32 depth then Some kind.TooDeep else zone_fault at c
+abbrev pub begin_fault : ℕ → Option FaultKind
+begin_fault depth = if nat_le 32 depth then Some kind.TooDeep else None
 
 abbrev pub end_of_event : Collected → Option FaultKind
 end_of_event had =
@@ -39,11 +42,23 @@ end_of_event had =
     else if (is_some had.end && is_some had.duration) || ends_badly had.start had.end then Some kind.BadEnd
     else None
 
-abbrev pub end_fault_in : Bool → Frame → Option FaultKind
-end_fault_in matches f =
-    if not matches then Some kind.BadNesting
-    else if is_event_place f.place then end_of_event f.collected
+abbrev pub end_of_zone : ZoneSummary → Option FaultKind
+end_of_zone had =
+    if not had.has_observance then Some kind.NoObservance
+    else if not (is_some had.name) then Some kind.ObservanceField
     else None
+
+abbrev pub end_of_observance : ObservanceSummary → Option FaultKind
+end_of_observance had = if is_some had.start && is_some had.from && is_some had.to then None else Some kind.ObservanceField
+
+abbrev pub end_of : Summary → Option FaultKind
+end_of (summary.Event had) = end_of_event had
+end_of (summary.Zone had) = end_of_zone had
+end_of (summary.Observance had) = end_of_observance had
+end_of summary.Nothing = None
+
+abbrev pub end_fault_in : Bool → Frame → Option FaultKind
+end_fault_in matches f = if not matches then Some kind.BadNesting else end_of f.summary
 
 abbrev pub once : Bool → Option FaultKind → Option FaultKind
 once had more = if had then Some kind.Repeated else more
@@ -60,13 +75,13 @@ rule_fault rule more = if is_bad_rule rule then Some kind.BadRule else if is_lar
 abbrev pub number_fault : Result ℕ IntegerFault → Option FaultKind → Option FaultKind
 number_fault number more = if is_large_integer number then Some kind.NumberTooLarge else more
 
-abbrev pub dates_fault : List DateValue → Option FaultKind
-dates_fault values =
+abbrev pub dates_fault : List DateValue → Option FaultKind → Option FaultKind
+dates_fault values more =
     if list_any has_bad_stamp values then Some kind.BadStamp
     else if list_any has_bad_duration values then Some kind.BadDuration
     else if list_any has_far_stamp values then Some kind.YearRange
     else if list_any has_large_duration values then Some kind.NumberTooLarge
-    else Some kind.NotYet
+    else more
 
 abbrev pub range_fault : Bool → Option FaultKind
 range_fault range = if range then Some kind.ThisAndFuture else Some kind.NotYet
@@ -79,18 +94,49 @@ event_fault (property.Duration duration) had = duration_fault duration (once (is
 event_fault (property.Rrule rule) had = rule_fault rule (once (is_some had.rule) None)
 event_fault (property.RecurrenceId dated range) had = stamp_fault dated.stamp (once had.has_recurrence (range_fault range))
 event_fault (property.Sequence number) had = number_fault number (once (is_some had.sequence) None)
-event_fault (property.Dates values) had = dates_fault values
+event_fault (property.Dates values) had = dates_fault values (Some kind.NotYet)
 event_fault property.Exrule had = Some kind.Exrule
-event_fault (property.Version old) had = if old then Some kind.OldVersion else None
 event_fault _ had = None
 
+abbrev pub calendar_fault : Property → Option FaultKind
+calendar_fault (property.Version old) = if old then Some kind.OldVersion else None
+calendar_fault _ = None
+
+-- a field that is there twice, or of another form
+abbrev pub field_fault : Bool → Option FaultKind
+field_fault bad = if bad then Some kind.ObservanceField else None
+
+abbrev pub zone_fault : Property → ZoneSummary → Option FaultKind
+zone_fault (property.ZoneName name) had = field_fault (is_some had.name)
+zone_fault _ had = None
+
+abbrev pub offset_fault : Result ℤ BadOffset → Bool → Option FaultKind
+offset_fault offset had = if is_bad_offset offset then Some kind.BadOffset else field_fault had
+
+abbrev pub zone_rule_fault : Bool → Option FaultKind
+zone_rule_fault bad = if bad then Some kind.ZoneRule else None
+
+abbrev pub observance_fault : Property → ObservanceSummary → Option FaultKind
+observance_fault (property.Onset stamp) had = stamp_fault stamp (field_fault (is_not_local (At stamp) || is_some had.start))
+observance_fault (property.OffsetFrom offset) had = offset_fault offset (is_some had.from)
+observance_fault (property.OffsetTo offset) had = offset_fault offset (is_some had.to)
+observance_fault (property.Rrule rule) had = rule_fault rule (zone_rule_fault (is_some had.rule || is_fine_rule rule))
+observance_fault (property.Dates values) had = dates_fault values (field_fault (list_any is_not_local values))
+observance_fault _ had = None
+
+abbrev pub property_fault : Property → Summary → Option FaultKind
+property_fault p (summary.Event had) = event_fault p had
+property_fault p (summary.Zone had) = zone_fault p had
+property_fault p (summary.Observance had) = observance_fault p had
+property_fault p summary.Nothing = calendar_fault p
+
 abbrev pub inside_fault : Property → Frame → ℕ → Option FaultKind
-inside_fault (property.Begin c) f depth = begin_fault f.place c depth
+inside_fault (property.Begin c) f depth = begin_fault depth
 inside_fault (property.End matches) f depth = end_fault_in matches f
-inside_fault p f depth = event_fault p f.collected
+inside_fault p f depth = property_fault p f.summary
 
 abbrev pub outside_fault : Property → ℕ → Option FaultKind
-outside_fault (property.Begin component.Calendar) depth = if nat_le 32 depth then Some kind.TooDeep else None
+outside_fault (property.Begin component.Calendar) depth = begin_fault depth
 outside_fault _ depth = Some kind.NotCalendar
 
 abbrev pub fault_at : Place → Property → Frame → ℕ → Option FaultKind
@@ -104,20 +150,30 @@ abbrev pub fault_on : Property → List Frame → Option FaultKind
 fault_on p [] = None
 fault_on p (f ∷ fs) = fault_in p f (length fs)
 
--- THE FAULT of the second round.
-abbrev pub unknown_zone : Dated → Option FaultKind
-unknown_zone dated = if is_zoned_stamp dated.stamp then Some kind.UnknownZone else None
+-- WHAT THE SECOND ROUND FINDS, to be judged when all time zones are known.
+abbrev pub used_zone : ℕ → Dated → Option Later
+used_zone calendar dated = if is_zoned_stamp dated.stamp then Some (later.Zone (record { calendar = calendar; name = unwrap_or dated.zone [] })) else None
 
-abbrev pub later_end : Frame → Option FaultKind
-later_end f = if is_event_place f.place && ends_badly_later f.collected.start f.collected.end then Some kind.BadEnd else None
+abbrev pub later_end : Summary → Option Later
+later_end (summary.Event had) = if ends_badly_later had.start had.end then Some later.End else None
+later_end _ = None
 
-abbrev pub later_in : Property → Frame → Option FaultKind
-later_in (property.End true) f = later_end f
-later_in (property.Dtstart dated) f = unknown_zone dated
-later_in (property.Dtend dated) f = unknown_zone dated
-later_in (property.RecurrenceId dated range) f = unknown_zone dated
+abbrev pub later_in : Property → Frame → Option Later
+later_in (property.End true) f = later_end f.summary
+later_in (property.Dtstart dated) f = used_zone f.calendar dated
+later_in (property.Dtend dated) f = used_zone f.calendar dated
+later_in (property.RecurrenceId dated range) f = used_zone f.calendar dated
 later_in _ f = None
 
-abbrev pub later_on : Property → List Frame → Option FaultKind
+abbrev pub later_on : Property → List Frame → Option Later
 later_on p [] = None
 later_on p (f ∷ fs) = later_in p f
+
+-- THE TIME ZONE that a line names.
+abbrev pub named_in : Property → Frame → List ZoneName
+named_in (property.ZoneName name) f = record { calendar = f.calendar; name = name } ∷ []
+named_in _ f = []
+
+abbrev pub named_on : Property → List Frame → List ZoneName
+named_on p [] = []
+named_on p (f ∷ fs) = named_in p f

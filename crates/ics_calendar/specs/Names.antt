@@ -24,4 +24,7 @@ name_of u =
     else if bytes_eq u (codes "LOCATION") then name.Location
     else if bytes_eq u (codes "DESCRIPTION") then name.Description
     else if bytes_eq u (codes "STATUS") then name.Status
+    else if bytes_eq u (codes "TZID") then name.Tzid
+    else if bytes_eq u (codes "TZOFFSETFROM") then name.OffsetFrom
+    else if bytes_eq u (codes "TZOFFSETTO") then name.OffsetTo
     else name.Other

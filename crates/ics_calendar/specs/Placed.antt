@@ -1,13 +1,13 @@
 -- The components of a file, as the path of open components on which each line stands (RFC 5545, sections 3.4 and 3.6).
-use Rattle.std.specs.Prelude.{ℕ, Bool, false, ◌&&◌, ◌==◌, List, [], ◌∷◌, drop, map, filter, codes, Option, Some, None, if◌then◌else◌}
-use Rattle.std.specs.List.{list_any}
+use Rattle.std.specs.Prelude.{ℕ, Bool, false, ◌&&◌, ◌||◌, ◌==◌, List, [], ◌∷◌, drop, map, filter, codes, Option, Some, None, if◌then◌else◌}
+use Rattle.std.specs.List.{list_all, list_any}
 use Rattle.std.specs.Str.{bytes_eq}
 use Rattle.ics_text.specs.Bytes.{upper}
 use Rattle.ics_text.specs.Unfolded.{Line, unfolded}
 use Rattle.ics_text.specs.Contents.{Parts, content_of, param_of}
 use Rattle.ics_calendar.specs.declared.component.Place.{Place}
 use Rattle.ics_calendar.specs.declared.component.Place.TheVariants as place
-use Rattle.ics_calendar.specs.Components.{component_of, place_in, is_outside_place, is_calendar_place, is_event_place}
+use Rattle.ics_calendar.specs.Components.{component_of, place_in, is_outside_place, is_calendar_place, is_event_place, is_zone_place, is_observance_place}
 
 -- A component that is open: its name in upper case, and the number of its BEGIN line.
 pub record Open : Type 0 where
@@ -78,7 +78,7 @@ abbrev pub place_of : List Open → Place
 place_of [] = place.Outside
 place_of (c ∷ cs) = place_in (place_of cs) (component_of c.name)
 
--- outside all components, directly in a calendar, or directly in an event of one
+-- outside all components, directly in a calendar, directly in an event or a time zone of one, or directly in an observance of a time zone
 abbrev pub is_outside : Placed → Bool
 is_outside line = is_outside_place (place_of line.path)
 
@@ -87,6 +87,12 @@ in_calendar line = is_calendar_place (place_of line.path)
 
 abbrev pub in_event : Placed → Bool
 in_event line = is_event_place (place_of line.path)
+
+abbrev pub in_zone : Placed → Bool
+in_zone line = is_zone_place (place_of line.path)
+
+abbrev pub in_observance : Placed → Bool
+in_observance line = is_observance_place (place_of line.path)
 
 -- the BEGIN line of such a component
 abbrev pub begins : List ℕ → Placed → Bool
@@ -101,14 +107,27 @@ closes (c ∷ cs) name = bytes_eq name c.name
 abbrev pub is_closing : Placed → Bool
 is_closing line = is_end line && closes line.path (component line)
 
--- the END of an event
+-- the END of an event, and that of a time zone
 abbrev pub ends_event : Placed → Bool
 ends_event line = is_closing line && in_event line
+
+abbrev pub ends_zone : Placed → Bool
+ends_zone line = is_closing line && in_zone line
+
+-- a part of a time zone begins on the line
+abbrev pub begins_observance : Placed → Bool
+begins_observance line = begins (codes "STANDARD") line || begins (codes "DAYLIGHT") line
 
 -- the number of the BEGIN line of the innermost component
 abbrev pub innermost : List Open → ℕ
 innermost [] = 0
 innermost (c ∷ cs) = c.begun
+
+-- the number of the BEGIN line of the outermost component: that of the calendar
+abbrev pub calendar_of : List Open → ℕ
+calendar_of [] = 0
+calendar_of (c ∷ []) = c.begun
+calendar_of (c ∷ d ∷ ds) = calendar_of (d ∷ ds)
 
 -- the lines that stand directly in the component that begins on that line
 abbrev pub lines_in : ℕ → List Placed → List Placed
@@ -121,6 +140,10 @@ beside before line = lines_in (innermost line.path) before
 -- whether one of the lines has that name
 abbrev pub has : List ℕ → List Placed → Bool
 has name lines = list_any (is_named name) lines
+
+-- whether for each of the names one has it
+abbrev pub has_all : List (List ℕ) → List Placed → Bool
+has_all names lines = list_all (λ name. has name lines) names
 
 abbrev pub first_of : List Placed → Option Placed
 first_of [] = None

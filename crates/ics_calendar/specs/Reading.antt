@@ -1,11 +1,13 @@
--- A line, as its component reads it (RFC 5545, section 3.6.1).
-use Rattle.std.specs.Prelude.{List, [], ◌∷◌, map, codes, is_some}
+-- A line, as its component reads it (RFC 5545, sections 3.6.1 and 3.6.5).
+use Rattle.std.specs.Prelude.{false, List, [], ◌∷◌, map, codes, is_some}
 use Rattle.std.specs.Str.{bytes_eq}
 use Rattle.ics_text.specs.Bytes.{upper}
 use Rattle.ics_text.specs.Contents.{Parts, param_of}
 use Rattle.ics_values.specs.Integers.{integer_of}
+use Rattle.ics_values.specs.Offsets.{offset_of}
 use Rattle.ics_values.specs.Plain.{text_of}
 use Rattle.ics_values.specs.Rules.{rule_of}
+use Rattle.ics_values.specs.Stamps.{stamp_of}
 use Rattle.ics_calendar.specs.declared.component.Place.{Place}
 use Rattle.ics_calendar.specs.declared.component.Place.TheVariants as place
 use Rattle.ics_calendar.specs.declared.frame.Frame.{Frame}
@@ -39,9 +41,23 @@ abbrev pub calendar_property : Name → Parts → Property
 calendar_property name.Version c = property.Version (bytes_eq c.value (codes "1.0"))
 calendar_property _ c = property.Other
 
+abbrev pub zone_property : Name → Parts → Property
+zone_property name.Tzid c = property.ZoneName (text_of c.value)
+zone_property _ c = property.Other
+
+abbrev pub observance_property : Name → Parts → Property
+observance_property name.Dtstart c = property.Onset (stamp_of false c.value)
+observance_property name.OffsetFrom c = property.OffsetFrom (offset_of c.value)
+observance_property name.OffsetTo c = property.OffsetTo (offset_of c.value)
+observance_property name.Rrule c = property.Rrule (rule_of c.value)
+observance_property name.Rdate c = property.Dates (rdates_of false c.value)
+observance_property _ c = property.Other
+
 abbrev pub property_at : Place → Name → Parts → Property
 property_at place.Event n c = event_property n c
 property_at place.Calendar n c = calendar_property n c
+property_at place.Zone n c = zone_property n c
+property_at place.Observance n c = observance_property n c
 property_at _ n c = property.Other
 
 abbrev pub read_as : Name → Frame → Parts → Property

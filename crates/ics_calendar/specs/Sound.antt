@@ -7,6 +7,8 @@ use Rattle.ics_values.specs.declared.duration.DurationFault.{DurationFault}
 use Rattle.ics_values.specs.declared.stamp.StampFault.{StampFault}
 use Rattle.ics_calendar.specs.declared.collected.Collected.{Collected}
 use Rattle.ics_calendar.specs.declared.frame.Frame.{Frame}
+use Rattle.ics_calendar.specs.declared.summary.Summary.{Summary}
+use Rattle.ics_calendar.specs.declared.summary.Summary.TheVariants as summary
 use Rattle.ics_calendar.specs.Event.{is_zoned}
 use Rattle.ics_calendar.specs.Values.{is_lasting, ends_badly_later}
 use Rattle.ics_calendar.specs.LineFaults.{end_of_event}
@@ -25,9 +27,13 @@ pub record IsSound (had : Collected) : Type 0 where
   pub end : IfSome had.end (λ dated. IsSoundStamp dated.stamp)
   pub duration : IfSome had.duration IsSoundDuration
 
+abbrev pub IsSoundSummary : Summary → Type 0
+IsSoundSummary (summary.Event had) = IsSound had
+IsSoundSummary _ = Unit {0}
+
 abbrev pub AreSound : List Frame → Type 0
 AreSound [] = Unit {0}
-AreSound (f ∷ fs) = IsSound f.collected × AreSound fs
+AreSound (f ∷ fs) = IsSoundSummary f.summary × AreSound fs
 
 -- sound, and without a fault at its END
 pub record IsWhole (had : Collected) : Type 0 where

@@ -1,4 +1,4 @@
--- What the properties of an event say (RFC 5545, sections 3.3 and 3.8).
+-- What the properties of an event or of an observance say (RFC 5545, sections 3.3 and 3.8).
 use Rattle.std.specs.Prelude.{ℕ, ◌+◌, ◌*◌, Bool, true, false, ◌&&◌, ◌||◌, not, ◌==◌, nat_le, List, ◌∷◌, map, codes, Option, Some, None, is_some, Result, Ok, Err, ℤ, pos, ◌+ℤ◌, ◌*ℤ◌, int_lt, if◌then◌else◌}
 use Rattle.std.specs.Result.{result_ok}
 use Rattle.std.specs.Str.{bytes_eq}
@@ -17,6 +17,9 @@ use Rattle.ics_values.specs.declared.duration.DurationFault.{DurationFault}
 use Rattle.ics_values.specs.declared.duration.DurationFault.TheVariants as duration
 use Rattle.ics_values.specs.declared.integer.IntegerFault.{IntegerFault}
 use Rattle.ics_values.specs.declared.integer.IntegerFault.TheVariants as integer
+use Rattle.ics_values.specs.declared.frequency.Frequency.{Frequency}
+use Rattle.ics_values.specs.declared.frequency.Frequency.TheVariants.{Secondly, Minutely, Hourly}
+use Rattle.ics_values.specs.declared.offset.BadOffset.{BadOffset}
 use Rattle.ics_values.specs.declared.rule_text.RuleFault.{RuleFault}
 use Rattle.ics_values.specs.declared.rule_text.RuleFault.TheVariants as rule
 use Rattle.ics_calendar.specs.declared.dated.Dated.{Dated}
@@ -79,6 +82,21 @@ is_bad_rule _ = false
 abbrev pub is_large_rule : Result RuleParts RuleFault → Bool
 is_large_rule (Err rule.NumberTooLarge) = true
 is_large_rule _ = false
+
+-- a rule that repeats more often than daily
+abbrev pub is_fine : Frequency → Bool
+is_fine Secondly = true
+is_fine Minutely = true
+is_fine Hourly = true
+is_fine _ = false
+
+abbrev pub is_fine_rule : Result RuleParts RuleFault → Bool
+is_fine_rule (Ok parts) = is_fine parts.frequency
+is_fine_rule (Err fault) = false
+
+abbrev pub is_bad_offset : Result ℤ BadOffset → Bool
+is_bad_offset (Ok offset) = false
+is_bad_offset (Err fault) = true
 
 -- the rule of an RRULE that is there and in order
 abbrev pub rule_in : Option (Result RuleParts RuleFault) → Option RuleParts

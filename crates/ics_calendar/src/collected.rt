@@ -2,7 +2,7 @@
 ghost use Rattle.std.specs.Prelude.{◌≡◌, [], unwrap_or};
 ghost use Rattle.ics_calendar.specs.Values.{ends_badly, ends_badly_later, is_filled, rule_in};
 ghost use Rattle.ics_calendar.specs.Files.{time_of, length_of};
-ghost use Rattle.ics_calendar.specs.Collecting.{nothing, note, or_first, event_of};
+ghost use Rattle.ics_calendar.specs.Collecting.{nothing, note_event, or_first, event_of};
 ghost use Rattle.ics_calendar.specs.LineFaults.{end_of_event};
 ghost use Rattle.ics_calendar.specs.Sound.{IsWhole};
 
@@ -32,7 +32,8 @@ pub struct Collected {
     pub cancelled: Option<bool>,
 }
 
-fn keep_text(kept: &mut Option<Text>, text: Text)
+/// Keeps the first text of several.
+pub fn keep_text(kept: &mut Option<Text>, text: Text)
     ensures { kept.new ≡ or_first kept.old text }
 {
     if kept.is_none() {
@@ -119,7 +120,7 @@ impl Collected {
 
     /// One line more. What stands in no event changes nothing.
     pub fn note(&mut self, property: Property)
-        ensures { self.new ≡ note property self.old }
+        ensures { self.new ≡ note_event property self.old }
     {
         match property {
             Property::Uid(text) => keep_text(&mut self.uid, text),

@@ -2,7 +2,7 @@
 ghost use Rattle.std.specs.Prelude.{◌≡◌, map, IfOk};
 ghost use Rattle.std.specs.Str.{bytes_eq};
 ghost use Rattle.ics_text.specs.Bytes.{upper};
-ghost use Rattle.ics_calendar.specs.Components.{component_of, component_name, place_in};
+ghost use Rattle.ics_calendar.specs.Components.{component_of, component_name, place_in, is_observance};
 
 use crate::text::Text;
 use crate::words::is_word;
@@ -14,15 +14,20 @@ pub enum Component {
     Calendar,
     Event,
     Zone,
+    Standard,
+    Daylight,
     Other(Text),
 }
 
-/// Where a line stands: outside all components, directly in a calendar, directly in an event of one, or anywhere else.
+/// Where a line stands: outside all components, directly in a calendar, directly in an event or a time zone of one,
+/// directly in an observance of a time zone, or anywhere else.
 #[derive(Clone, Copy, PartialEq, Eq)]
 pub enum Place {
     Outside,
     Calendar,
     Event,
+    Zone,
+    Observance,
     Elsewhere,
 }
 
@@ -37,6 +42,10 @@ impl Component {
             Ok(Component::Event)
         } else if is_word(name, b"VTIMEZONE") {
             Ok(Component::Zone)
+        } else if is_word(name, b"STANDARD") {
+            Ok(Component::Standard)
+        } else if is_word(name, b"DAYLIGHT") {
+            Ok(Component::Daylight)
         } else {
             Ok(Component::Other(Text::upper_case(alloc, name)?))
         }
@@ -50,8 +59,17 @@ impl Component {
             Component::Calendar => is_word(name, b"VCALENDAR"),
             Component::Event => is_word(name, b"VEVENT"),
             Component::Zone => is_word(name, b"VTIMEZONE"),
+            Component::Standard => is_word(name, b"STANDARD"),
+            Component::Daylight => is_word(name, b"DAYLIGHT"),
             Component::Other(word) => is_word(name, word.as_slice()),
         }
+    }
+
+    /// Whether this is a part of a time zone.
+    pub fn is_observance(&self) -> bool
+        ensures { result ≡ is_observance self.now }
+    {
+        matches!(self, Component::Standard | Component::Daylight)
     }
 
     /// Where the lines of the component stand, if it begins on a line that stands there.
@@ -61,6 +79,8 @@ impl Component {
         match (place, self) {
             (Place::Outside, Component::Calendar) => Place::Calendar,
             (Place::Calendar, Component::Event) => Place::Event,
+            (Place::Calendar, Component::Zone) => Place::Zone,
+            (Place::Zone, Component::Standard | Component::Daylight) => Place::Observance,
             _ => Place::Elsewhere,
         }
     }

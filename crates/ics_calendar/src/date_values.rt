@@ -4,7 +4,7 @@ ghost use Rattle.std.specs.List.{list_any, position};
 ghost use Rattle.ics_values.specs.Periods.{lasts};
 ghost use Rattle.ics_values.specs.RuleTexts.{pieces};
 ghost use Rattle.ics_calendar.specs.Values.{is_bad_stamp, is_far_stamp};
-ghost use Rattle.ics_calendar.specs.DateValues.{date_time_of, period_of, rdate_of, exdate_of, rdates_of, exdates_of, has_bad_stamp, has_far_stamp, has_bad_duration, has_large_duration};
+ghost use Rattle.ics_calendar.specs.DateValues.{date_time_of, period_of, rdate_of, exdate_of, rdates_of, exdates_of, has_bad_stamp, has_far_stamp, has_bad_duration, has_large_duration, is_local, is_not_local};
 
 use crate::lasting::lasting;
 use ics_values::{Duration, DurationFault, Stamp, StampFault, read_stamp};
@@ -101,6 +101,19 @@ fn is_far_stamp(stamp: Result<Stamp, StampFault>) -> bool
 }
 
 impl DateValue {
+    /// Whether it is a local stamp, read without a TZID.
+    pub fn is_local(self) -> bool
+        ensures { result ≡ is_local self }
+    {
+        matches!(self, DateValue::At(Ok(Stamp::Floating(_))))
+    }
+
+    fn is_not_local(self) -> bool
+        ensures { result ≡ is_not_local self }
+    {
+        !self.is_local()
+    }
+
     fn has_bad_stamp(self) -> bool
         ensures { result ≡ has_bad_stamp self }
     {
@@ -172,6 +185,13 @@ impl DateValues {
         ensures { result ≡ list_any has_far_stamp self.now }
     {
         self.values.iter().any(|value| value.has_far_stamp())
+    }
+
+    /// Whether one of them is no local stamp, read without a TZID.
+    pub fn have_not_local(&self) -> bool
+        ensures { result ≡ list_any is_not_local self.now }
+    {
+        self.values.iter().any(|value| value.is_not_local())
     }
 
     /// Whether a duration among them is none, or none that an event may have.

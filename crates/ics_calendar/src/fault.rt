@@ -73,7 +73,7 @@ pub enum FaultKind {
     /// A calendar of version 1.0.
     #[error("OldVersion")]
     OldVersion,
-    /// What is not read so far: sets of dates, overrides and time zones.
+    /// What is not read so far: sets of dates, overrides, and stamps in a time zone.
     #[error("NotYet")]
     NotYet,
 }

@@ -1,121 +1,46 @@
 //! A component that is open.
-ghost use Rattle.std.specs.Prelude.{◌≡◌, IfOk};
+ghost use Rattle.std.specs.Prelude.{◌≡◌, ◌++◌, [], unwrap_or, IfOk};
 ghost use Rattle.ics_calendar.specs.Reading.{read_in};
-ghost use Rattle.ics_calendar.specs.LineFaults.{zone_fault, begin_fault, end_fault_in, once, stamp_fault, duration_fault, rule_fault, number_fault, dates_fault, range_fault, event_fault, inside_fault, outside_fault, fault_in, unknown_zone, later_end, later_in};
-ghost use Rattle.ics_calendar.specs.Pass.{event_in};
+ghost use Rattle.ics_calendar.specs.LineFaults.{named_in, used_zone, begin_fault, end_fault_in, event_fault, calendar_fault, zone_fault, observance_fault, property_fault, inside_fault, outside_fault, fault_in, later_end, later_in};
 
 use crate::collected::Collected;
 use crate::component::{Component, Place};
-use crate::date_values::DateValues;
+use crate::date_values::DateValue;
 use crate::dated::Dated;
 use crate::fault::FaultKind;
+use crate::later::{Later, ZoneName};
 use crate::name::{Name, name_of};
 use crate::property::Property;
+use crate::summary::{ObservanceSummary, Summary, ZoneSummary};
+use crate::text::Text;
+use crate::value_faults::{
+    dates_fault, duration_fault, field_fault, is_fine_rule, number_fault, offset_fault, once,
+    range_fault, rule_fault, stamp_fault, zone_rule_fault,
+};
 use ics_text::Content;
-use ics_values::{Duration, DurationFault, IntegerFault, Parts, RuleFault, Stamp, StampFault};
+use ics_values::Stamp;
 use std::alloc::{AllocError, Global};
 
-/// A component that is open: which one, where its lines stand, and what has been read of it if it is an event.
+/// A component that is open: which one, where its lines stand, and what has been read of it.
 #[derive(Drop)]
 pub struct Frame {
     pub component: Component,
     pub place: Place,
-    pub collected: Collected,
+    /// The number of the BEGIN line of the calendar that it belongs to.
+    pub calendar: u64,
+    pub summary: Summary,
 }
 
 /// How many components may be open.
 const MAX_DEPTH: usize = 32;
 
-fn zone_fault(place: Place, component: &Component) -> Option<FaultKind>
-    ensures { result ≡ zone_fault place component.now }
-{
-    match (place, component) {
-        (Place::Calendar, Component::Zone) => Some(FaultKind::NotYet),
-        _ => None,
-    }
-}
-
-fn begin_fault(place: Place, component: &Component, depth: usize) -> Option<FaultKind>
-    ensures { result ≡ begin_fault place component.now depth }
+fn begin_fault(depth: usize) -> Option<FaultKind>
+    ensures { result ≡ begin_fault depth }
 {
     if depth >= MAX_DEPTH {
         Some(FaultKind::TooDeep)
     } else {
-        zone_fault(place, component)
-    }
-}
-
-fn once(had: bool, more: Option<FaultKind>) -> Option<FaultKind>
-    ensures { result ≡ once had more }
-{
-    if had { Some(FaultKind::Repeated) } else { more }
-}
-
-fn stamp_fault(stamp: Result<Stamp, StampFault>, more: Option<FaultKind>) -> Option<FaultKind>
-    ensures { result ≡ stamp_fault stamp more }
-{
-    match stamp {
-        Err(StampFault::BadStamp) => Some(FaultKind::BadStamp),
-        Err(StampFault::YearRange) => Some(FaultKind::YearRange),
-        Ok(_) => more,
-    }
-}
-
-fn duration_fault(
-    duration: Result<Duration, DurationFault>,
-    more: Option<FaultKind>,
-) -> Option<FaultKind>
-    ensures { result ≡ duration_fault duration more }
-{
-    match duration {
-        Err(DurationFault::BadDuration) => Some(FaultKind::BadDuration),
-        Err(DurationFault::NumberTooLarge) => Some(FaultKind::NumberTooLarge),
-        Ok(_) => more,
-    }
-}
-
-fn rule_fault(rule: Result<Parts, RuleFault>, more: Option<FaultKind>) -> Option<FaultKind>
-    ensures { result ≡ rule_fault rule more }
-{
-    match rule {
-        Err(RuleFault::BadRule) => Some(FaultKind::BadRule),
-        Err(RuleFault::NumberTooLarge) => Some(FaultKind::NumberTooLarge),
-        Ok(_) => more,
-    }
-}
-
-fn number_fault(number: Result<u32, IntegerFault>, more: Option<FaultKind>) -> Option<FaultKind>
-    ensures { result ≡ number_fault number more }
-{
-    match number {
-        Err(IntegerFault::NumberTooLarge) => Some(FaultKind::NumberTooLarge),
-        _ => more,
-    }
-}
-
-fn dates_fault(values: &DateValues) -> Option<FaultKind>
-    ensures { result ≡ dates_fault values.now }
-{
-    if values.have_bad_stamp() {
-        Some(FaultKind::BadStamp)
-    } else if values.have_bad_duration() {
-        Some(FaultKind::BadDuration)
-    } else if values.have_far_stamp() {
-        Some(FaultKind::YearRange)
-    } else if values.have_large_duration() {
-        Some(FaultKind::NumberTooLarge)
-    } else {
-        Some(FaultKind::NotYet)
-    }
-}
-
-fn range_fault(range: bool) -> Option<FaultKind>
-    ensures { result ≡ range_fault range }
-{
-    if range {
-        Some(FaultKind::ThisAndFuture)
-    } else {
-        Some(FaultKind::NotYet)
+        None
     }
 }
 
@@ -134,16 +59,57 @@ fn event_fault(property: &Property, had: &Collected) -> Option<FaultKind>
             stamp_fault(dated.stamp, once(had.has_recurrence, range_fault(*range)))
         }
         Property::Sequence(number) => number_fault(*number, once(had.sequence.is_some(), None)),
-        Property::Dates(values) => dates_fault(values),
+        Property::Dates(values) => dates_fault(values, Some(FaultKind::NotYet)),
         Property::Exrule => Some(FaultKind::Exrule),
-        Property::Version(old) => {
-            if *old {
-                Some(FaultKind::OldVersion)
-            } else {
-                None
-            }
-        }
         _ => None,
+    }
+}
+
+fn calendar_fault(property: &Property) -> Option<FaultKind>
+    ensures { result ≡ calendar_fault property.now }
+{
+    match property {
+        Property::Version(true) => Some(FaultKind::OldVersion),
+        _ => None,
+    }
+}
+
+fn zone_fault(property: &Property, had: &ZoneSummary) -> Option<FaultKind>
+    ensures { result ≡ zone_fault property.now had.now }
+{
+    match property {
+        Property::ZoneName(_) => field_fault(had.name.is_some()),
+        _ => None,
+    }
+}
+
+fn observance_fault(property: &Property, had: &ObservanceSummary) -> Option<FaultKind>
+    ensures { result ≡ observance_fault property.now had.now }
+{
+    match property {
+        Property::Onset(stamp) => {
+            let bad = !DateValue::At(*stamp).is_local() || had.start.is_some();
+            stamp_fault(*stamp, field_fault(bad))
+        }
+        Property::OffsetFrom(offset) => offset_fault(*offset, had.from.is_some()),
+        Property::OffsetTo(offset) => offset_fault(*offset, had.to.is_some()),
+        Property::Rrule(rule) => {
+            let bad = had.rule.is_some() || is_fine_rule(rule);
+            rule_fault(*rule, zone_rule_fault(bad))
+        }
+        Property::Dates(values) => dates_fault(values, field_fault(values.have_not_local())),
+        _ => None,
+    }
+}
+
+fn property_fault(property: &Property, had: &Summary) -> Option<FaultKind>
+    ensures { result ≡ property_fault property.now had.now }
+{
+    match had {
+        Summary::Event(had) => event_fault(property, had),
+        Summary::Zone(had) => zone_fault(property, had),
+        Summary::Observance(had) => observance_fault(property, had),
+        Summary::Nothing => calendar_fault(property),
     }
 }
 
@@ -151,22 +117,39 @@ fn outside_fault(property: &Property, depth: usize) -> Option<FaultKind>
     ensures { result ≡ outside_fault property.now depth }
 {
     match property {
-        Property::Begin(Component::Calendar) => {
-            if depth >= MAX_DEPTH {
-                Some(FaultKind::TooDeep)
-            } else {
-                None
-            }
-        }
+        Property::Begin(Component::Calendar) => begin_fault(depth),
         _ => Some(FaultKind::NotCalendar),
     }
 }
 
-fn unknown_zone(dated: &Dated) -> Option<FaultKind>
-    ensures { result ≡ unknown_zone dated.now }
+/// The text, or an empty one.
+fn copied(alloc: Global, name: &Option<Text>) -> Result<Text, AllocError>
+    ensures { IfOk result (λ text. text ≡ unwrap_or name.now []) }
+{
+    match name {
+        Some(name) => Text::copied(alloc, name.as_slice()),
+        None => Ok(Text::new(alloc)),
+    }
+}
+
+/// The time zone of a stamp.
+fn used_zone(alloc: Global, calendar: u64, dated: &Dated) -> Result<Option<Later>, AllocError>
+    ensures { IfOk result (λ later. later ≡ used_zone calendar dated.now) }
 {
     match dated.stamp {
-        Ok(Stamp::Zoned(_)) => Some(FaultKind::UnknownZone),
+        Ok(Stamp::Zoned(_)) => {
+            let name = copied(alloc, &dated.zone)?;
+            Ok(Some(Later::Zone(ZoneName { calendar, name })))
+        }
+        _ => Ok(None),
+    }
+}
+
+fn later_end(had: &Summary) -> Option<Later>
+    ensures { result ≡ later_end had.now }
+{
+    match had {
+        Summary::Event(had) if had.ends_badly_later() => Some(Later::End),
         _ => None,
     }
 }
@@ -189,19 +172,16 @@ impl Frame {
         if !matches {
             return Some(FaultKind::BadNesting);
         }
-        match self.place {
-            Place::Event => self.collected.end_of_event(),
-            _ => None,
-        }
+        self.summary.end()
     }
 
     fn inside_fault(&self, property: &Property, depth: usize) -> Option<FaultKind>
         ensures { result ≡ inside_fault property.now self.now depth }
     {
         match property {
-            Property::Begin(component) => begin_fault(self.place, component, depth),
+            Property::Begin(_) => begin_fault(depth),
             Property::End(matches) => self.end_fault(*matches),
-            _ => event_fault(property, &self.collected),
+            _ => property_fault(property, &self.summary),
         }
     }
 
@@ -215,34 +195,34 @@ impl Frame {
         }
     }
 
-    fn later_end(&self) -> Option<FaultKind>
-        ensures { result ≡ later_end self.now }
-    {
-        match self.place {
-            Place::Event if self.collected.ends_badly_later() => Some(FaultKind::BadEnd),
-            _ => None,
-        }
-    }
-
-    /// The fault of the second round on such a line.
-    pub fn later(&self, property: &Property) -> Option<FaultKind>
-        ensures { result ≡ later_in property.now self.now }
+    /// What the second round finds on such a line.
+    pub fn later(&self, alloc: Global, property: &Property) -> Result<Option<Later>, AllocError>
+        ensures { IfOk result (λ later. later ≡ later_in property.now self.now) }
     {
         match property {
-            Property::End(true) => self.later_end(),
+            Property::End(true) => Ok(later_end(&self.summary)),
             Property::Dtstart(dated) | Property::Dtend(dated) | Property::RecurrenceId(dated, _) =>
-                { unknown_zone(dated) }
-            _ => None,
+                { used_zone(alloc, self.calendar, dated) }
+            _ => Ok(None),
         }
     }
 
-    /// What has been read of the event, if the component is one.
-    pub fn into_event(self) -> Option<Collected>
-        ensures { result ≡ event_in self }
+    /// Adds the name of the time zone that such a line gives.
+    pub fn name(
+        &self,
+        alloc: Global,
+        property: &Property,
+        names: &mut Vec<ZoneName>,
+    ) -> Result<(), AllocError>
+        ensures { IfOk result (λ _. names.new.items ≡ names.old.items ++ named_in property.now self.now) }
     {
-        match self.place {
-            Place::Event => Some(self.collected),
-            _ => None,
+        if let Property::ZoneName(name) = property {
+            let name = Text::copied(alloc, name.as_slice())?;
+            names.push(ZoneName {
+                calendar: self.calendar,
+                name,
+            })?;
         }
+        Ok(())
     }
 }

@@ -11,13 +11,16 @@ mod events;
 mod fault;
 mod frame;
 mod lasting;
+mod later;
 mod laws;
 mod name;
 mod property;
 mod read;
 mod stack;
+mod summary;
 mod text;
 mod time;
+mod value_faults;
 mod words;
 
 pub use event::Event;

@@ -25,6 +25,9 @@ pub enum Name {
     Location,
     Description,
     Status,
+    Tzid,
+    OffsetFrom,
+    OffsetTo,
     Other,
 }
 
@@ -66,6 +69,12 @@ pub fn name_of(name: &[u8]) -> Name
         Name::Description
     } else if is_word(name, b"STATUS") {
         Name::Status
+    } else if is_word(name, b"TZID") {
+        Name::Tzid
+    } else if is_word(name, b"TZOFFSETFROM") {
+        Name::OffsetFrom
+    } else if is_word(name, b"TZOFFSETTO") {
+        Name::OffsetTo
     } else {
         Name::Other
     }

@@ -3,7 +3,7 @@ ghost use Rattle.std.specs.Prelude.{◌≡◌, IfOk, is_some, codes};
 ghost use Rattle.std.specs.Str.{bytes_eq};
 ghost use Rattle.ics_text.specs.Contents.{param_of};
 ghost use Rattle.ics_calendar.specs.Values.{dated_of, zone_name, is_cancelled};
-ghost use Rattle.ics_calendar.specs.Reading.{event_property, calendar_property, property_at};
+ghost use Rattle.ics_calendar.specs.Reading.{event_property, calendar_property, zone_property, observance_property, property_at};
 
 use crate::component::{Component, Place};
 use crate::date_values::DateValues;
@@ -14,7 +14,8 @@ use crate::text::Text;
 use crate::words::is_word;
 use ics_text::Content;
 use ics_values::{
-    Duration, DurationFault, IntegerFault, Parts, RuleFault, read_integer, read_rule, read_stamp,
+    BadOffset, Duration, DurationFault, IntegerFault, Parts, RuleFault, Stamp, StampFault,
+    read_integer, read_offset, read_rule, read_stamp,
 };
 use std::alloc::{AllocError, Global};
 
@@ -42,6 +43,14 @@ pub enum Property {
     Description(Text),
     /// Whether it is CANCELLED.
     Status(bool),
+    /// The TZID of a time zone.
+    ZoneName(Text),
+    /// The DTSTART of an observance.
+    Onset(Result<Stamp, StampFault>),
+    /// TZOFFSETFROM.
+    OffsetFrom(Result<i32, BadOffset>),
+    /// TZOFFSETTO.
+    OffsetTo(Result<i32, BadOffset>),
     Other,
 }
 
@@ -124,6 +133,35 @@ fn calendar_property(name: Name, content: &Content<'_>) -> Property
     }
 }
 
+/// A line directly in a time zone.
+fn zone_property(alloc: Global, name: Name, content: &Content<'_>) -> Result<Property, AllocError>
+    ensures { IfOk result (λ property. property ≡ zone_property name content.now) }
+{
+    match name {
+        Name::Tzid => Ok(Property::ZoneName(Text::of_value(alloc, content.value())?)),
+        _ => Ok(Property::Other),
+    }
+}
+
+/// A line directly in an observance. Its locals are on the clock before it, whatever TZID stands beside them.
+fn observance_property(
+    alloc: Global,
+    name: Name,
+    content: &Content<'_>,
+) -> Result<Property, AllocError>
+    ensures { IfOk result (λ property. property ≡ observance_property name content.now) }
+{
+    let value = content.value();
+    match name {
+        Name::Dtstart => Ok(Property::Onset(read_stamp(value, false))),
+        Name::OffsetFrom => Ok(Property::OffsetFrom(read_offset(value))),
+        Name::OffsetTo => Ok(Property::OffsetTo(read_offset(value))),
+        Name::Rrule => Ok(Property::Rrule(read_rule(value))),
+        Name::Rdate => Ok(Property::Dates(DateValues::of_rdate(alloc, value, false)?)),
+        _ => Ok(Property::Other),
+    }
+}
+
 impl Property {
     /// A line that begins and ends no component, by where it stands.
     pub fn at(
@@ -137,6 +175,8 @@ impl Property {
         match place {
             Place::Event => event_property(alloc, name, content),
             Place::Calendar => Ok(calendar_property(name, content)),
+            Place::Zone => zone_property(alloc, name, content),
+            Place::Observance => observance_property(alloc, name, content),
             _ => Ok(Property::Other),
         }
     }

@@ -1,14 +1,16 @@
 //! The components that are open.
-ghost use Rattle.std.specs.Prelude.{◌≡◌, ◌∷◌, [], IfOk};
+ghost use Rattle.std.specs.Prelude.{◌≡◌, ◌∷◌, ◌++◌, [], IfOk};
 ghost use Rattle.ics_calendar.specs.Reading.{read_on};
-ghost use Rattle.ics_calendar.specs.LineFaults.{fault_on, later_on};
-ghost use Rattle.ics_calendar.specs.Pass.{bottom, opened, closed, closed_event, behind, ended, is_lowest};
+ghost use Rattle.ics_calendar.specs.LineFaults.{fault_on, later_on, named_on};
+ghost use Rattle.ics_calendar.specs.Pass.{bottom, calendar_in, opened, closed, closed_event, behind, ended, is_lowest};
 
 use crate::collected::Collected;
 use crate::component::{Component, Place};
 use crate::fault::FaultKind;
 use crate::frame::Frame;
+use crate::later::{Later, ZoneName};
 use crate::property::Property;
+use crate::summary::Summary;
 use crate::text::Text;
 use ics_text::Content;
 use std::alloc::{AllocError, Global};
@@ -40,7 +42,8 @@ impl Stack {
             top: Frame {
                 component: Component::Other(Text::new(alloc)),
                 place: Place::Outside,
-                collected: Collected::nothing(),
+                calendar: 0,
+                summary: Summary::Nothing,
             },
             outer: Vec::new(alloc),
         }
@@ -67,20 +70,47 @@ impl Stack {
         self.top.fault(property, self.outer.len())
     }
 
-    /// The fault of the second round on the line.
-    pub fn later(&self, property: &Property) -> Option<FaultKind>
-        ensures { result ≡ later_on property.now self.now }
+    /// What the second round finds on the line.
+    pub fn later(&self, alloc: Global, property: &Property) -> Result<Option<Later>, AllocError>
+        ensures { IfOk result (λ later. later ≡ later_on property.now self.now) }
     {
-        self.top.later(property)
+        self.top.later(alloc, property)
     }
 
-    fn open(&mut self, component: Component) -> Result<(), AllocError>
-        ensures { IfOk result (λ _. self.new ≡ opened component self.old) }
+    /// Adds the name of the time zone that the line gives.
+    pub fn name(
+        &self,
+        alloc: Global,
+        property: &Property,
+        names: &mut Vec<ZoneName>,
+    ) -> Result<(), AllocError>
+        ensures { IfOk result (λ _. names.new.items ≡ names.old.items ++ named_on property.now self.now) }
     {
+        self.top.name(alloc, property, names)
+    }
+
+    /// The calendar of a component that begins on the line with that number.
+    fn calendar_in(&self, number: u64) -> u64
+        ensures { result ≡ calendar_in number self.now }
+    {
+        if self.outer.is_empty() {
+            number
+        } else {
+            self.top.calendar
+        }
+    }
+
+    fn open(&mut self, number: u64, component: Component) -> Result<(), AllocError>
+        ensures { IfOk result (λ _. self.new ≡ opened number component self.old) }
+    {
+        let calendar = self.calendar_in(number);
+        self.top.summary.begin(&component);
+        let place = component.place_in(self.top.place);
         let inner = Frame {
-            place: component.place_in(self.top.place),
             component,
-            collected: Collected::nothing(),
+            place,
+            calendar,
+            summary: Summary::fresh(place),
         };
         let outer = mem::replace(&mut self.top, inner);
         self.outer.push(outer)?;
@@ -94,17 +124,17 @@ impl Stack {
     {
         let outer = self.outer.pop()?;
         let inner = mem::replace(&mut self.top, outer);
-        inner.into_event()
+        inner.summary.into_event()
     }
 
-    /// Goes behind the line, and gives what has been read of the event that ends there.
-    pub fn pass(&mut self, property: Property) -> Result<Option<Collected>, AllocError>
-        ensures frames { IfOk result (λ _. self.new ≡ behind property self.old) }
+    /// Goes behind the line with that number, and gives what has been read of the event that ends there.
+    pub fn pass(&mut self, number: u64, property: Property) -> Result<Option<Collected>, AllocError>
+        ensures frames { IfOk result (λ _. self.new ≡ behind number property self.old) }
         ensures event { IfOk result (λ event. event ≡ ended property self.old) }
     {
         match property {
             Property::Begin(component) => {
-                self.open(component)?;
+                self.open(number, component)?;
                 Ok(None)
             }
             Property::End(matches) => {
@@ -112,7 +142,7 @@ impl Stack {
                 Ok(if matches { event } else { None })
             }
             property => {
-                self.top.collected.note(property);
+                self.top.summary.note(property);
                 Ok(None)
             }
         }

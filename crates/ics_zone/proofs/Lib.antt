@@ -1,3 +1,15 @@
+pub mod Cases
 pub mod Examples
 pub mod Readings
 pub mod SameZones
+pub mod SearchLemmas
+pub mod OffsetLaws
+pub mod OnsetLemmas
+pub mod MomentLemmas
+pub mod ZoneExamples
+pub mod TableLemmas
+pub mod MomentSteps
+pub mod ZoneLemmas
+pub mod GatherLemmas
+pub mod TableMade
+pub mod NewYork

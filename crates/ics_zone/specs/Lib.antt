@@ -4,3 +4,11 @@ pub mod Displays
 pub mod Near
 pub mod DisplayFaults
 pub mod Zones
+pub mod Years
+pub mod Observances
+pub mod Offsets
+pub mod Moments
+pub mod ZoneFaults
+pub mod ZoneBounds
+pub mod Tables
+pub mod Gathered

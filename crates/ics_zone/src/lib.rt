@@ -4,13 +4,26 @@
 mod display;
 mod display_fault;
 mod display_text;
+mod gather;
 mod laws;
+mod observance;
+mod onset;
 mod place;
+mod table;
+mod zone;
+mod zone_fault;
+mod zone_laws;
 
 pub use display::Display;
 pub use display_fault::DisplayFault;
 pub use laws::one_display;
+pub use observance::Observance;
 pub use place::Place;
+pub use zone::Zone;
+pub use zone_fault::ZoneFault;
+pub use zone_laws::{one_moment, one_offset};
 
 #[cfg(test)]
 mod tests;
+#[cfg(test)]
+mod zone_tests;

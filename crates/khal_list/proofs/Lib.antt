@@ -2,6 +2,7 @@ pub mod AddedLemmas
 pub mod AnswerLemmas
 pub mod Entries
 pub mod Fronts
+pub mod OutcomeLemmas
 pub mod ReadLemmas
 pub mod RefusalLemmas
 pub mod RefusedLemmas

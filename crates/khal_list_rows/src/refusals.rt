@@ -117,6 +117,47 @@ fn cut_file(rt: HostRuntime) -> Result<(), Fail> {
 }
 
 #[test]
+fn bad_rules(rt: HostRuntime) -> Result<(), Fail> {
+    for (rule, kind) in [
+        ("RRULE:FREQ=DAILY;COUNT=0", "BadRule"),
+        ("RRULE:FREQ=DAILY;COUNT=4294967296", "NumberTooLarge"),
+    ] {
+        let inside = ["UID:u", "DTSTART:20240105T090000", rule];
+        let mut source = folder(rt.alloc());
+        add(
+            rt.alloc(),
+            &mut source,
+            "a.ics",
+            event(rt.alloc(), &inside)?,
+        )?;
+        let ran = run_words(rt.alloc(), &mut source, &["list", ".", "2024-01-05", "1d"])?;
+        let line = format!(in rt.alloc(); "khal-list: a.ics: line 5: {kind}\n")?;
+        assert_eq!(rt; ran.out(), b"".as_slice());
+        assert_eq!(rt; ran.err(), line.as_bytes(), "at {rule}");
+    }
+    Ok(())
+}
+
+#[test]
+fn zone_without_observances(rt: HostRuntime) -> Result<(), Fail> {
+    let zone = [
+        "BEGIN:VCALENDAR",
+        "BEGIN:VTIMEZONE",
+        "TZID:E",
+        "END:VTIMEZONE",
+        "END:VCALENDAR",
+    ];
+    let mut source = folder(rt.alloc());
+    add(rt.alloc(), &mut source, "a.ics", lines(rt.alloc(), &zone)?)?;
+    let ran = run_words(rt.alloc(), &mut source, &["list", ".", "2024-01-05", "1d"])?;
+    assert_eq!(rt;
+        ran.err(),
+        b"khal-list: a.ics: line 4: NoObservance\n".as_slice()
+    );
+    Ok(())
+}
+
+#[test]
 fn name_without_controls(rt: HostRuntime) -> Result<(), Fail> {
     let mut source = folder(rt.alloc());
     add(

@@ -12,10 +12,10 @@ pub returns-in-Ok-Ok : goal.returns-in-Ok-Ok
 returns-in-Ok-Ok c =
     let fold : begins_with_fold c.args.bytes.now ≡ false = not_true (begins_with_fold c.args.bytes.now) (λ t. let e : false ≡ true = c.in-Ok.ensures.refused.1 t in cc) in
     let passed = file_of-pass c.args.bytes.now fold (c.numbers_rise.ensures c.args.bytes.now) in
-    passed ∙ ap (pass (bottom ∷ []) None None []) (sym c.in-Ok.ensures.lines) ∙ sym (rw c.in-Ok-Ok.field-0-is at c.in-Ok-Ok.ensures)
+    passed ∙ ap (pass (bottom ∷ []) None None [] []) (sym c.in-Ok.ensures.lines) ∙ sym (rw c.in-Ok-Ok.field-0-is at c.in-Ok-Ok.ensures)
 
 pub returns-in-Ok-Err : goal.returns-in-Ok-Err
 returns-in-Ok-Err c =
     let fold : begins_with_fold c.args.bytes.now ≡ false = not_true (begins_with_fold c.args.bytes.now) (λ t. let e : false ≡ true = c.in-Ok.ensures.refused.1 t in cc) in
     let passed = file_of-pass c.args.bytes.now fold (c.numbers_rise.ensures c.args.bytes.now) in
-    passed ∙ ap (pass (bottom ∷ []) None None []) (sym c.in-Ok.ensures.lines) ∙ sym (rw c.in-Ok-Err.field-0-is at c.in-Ok-Err.ensures)
+    passed ∙ ap (pass (bottom ∷ []) None None [] []) (sym c.in-Ok.ensures.lines) ∙ sym (rw c.in-Ok-Err.field-0-is at c.in-Ok-Err.ensures)

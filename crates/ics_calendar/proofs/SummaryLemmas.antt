@@ -1,0 +1,100 @@
+-- A line changes what is collected of a component as the pass notes it.
+use Rattle.std.proofs.Common.{◌≡◌, ℕ, Bool, true, false, List, [], ◌∷◌, ◌++◌, map, refl, ap, ◌∙◌, cond}
+use Rattle.std.specs.Prelude.{codes, ◌&&◌, ◌||◌}
+use Rattle.std.specs.List.{list_any}
+use Rattle.std.specs.Str.{bytes_eq}
+use Rattle.ics_text.specs.Bytes.{upper}
+use Rattle.ics_text.specs.Contents.{Parts}
+use Rattle.ics_values.specs.Offsets.{offset_of}
+use Rattle.ics_values.specs.Plain.{text_of}
+use Rattle.ics_values.specs.Rules.{rule_of}
+use Rattle.ics_values.specs.Stamps.{stamp_of}
+use Rattle.ics_calendar.specs.declared.collected.Collected.{Collected}
+use Rattle.ics_calendar.specs.declared.component.Component.{Component}
+use Rattle.ics_calendar.specs.declared.component.Component.TheVariants as component
+use Rattle.ics_calendar.specs.declared.component.Place.{Place}
+use Rattle.ics_calendar.specs.declared.component.Place.TheVariants as place
+use Rattle.ics_calendar.specs.declared.name.Name.{Name}
+use Rattle.ics_calendar.specs.declared.name.Name.TheVariants as name
+use Rattle.ics_calendar.specs.declared.property.Property.{Property}
+use Rattle.ics_calendar.specs.declared.property.Property.TheVariants as property
+use Rattle.ics_calendar.specs.declared.summary.ObservanceSummary.{ObservanceSummary}
+use Rattle.ics_calendar.specs.declared.summary.Summary.TheVariants as summary
+use Rattle.ics_calendar.specs.declared.summary.ZoneSummary.{ZoneSummary}
+use Rattle.ics_calendar.specs.Components.{component_of, is_observance}
+use Rattle.ics_calendar.specs.Names.{name_of}
+use Rattle.ics_calendar.specs.Placed.{Placed, property_name, value, begins_observance}
+use Rattle.ics_calendar.specs.Faults.{rule_on}
+use Rattle.ics_calendar.specs.Reading.{event_property, property_at}
+use Rattle.ics_calendar.specs.Collecting.{collected_of, or_first, note_event}
+use Rattle.ics_calendar.specs.Summaries.{onset_on, offset_on, zone_of, observance_of, note_zone, note_observance, note}
+use Rattle.ics_calendar.proofs.NameLemmas.{Tells, tells, TellsComponent, tells_component}
+use Rattle.ics_calendar.proofs.Collects.{collected_of-more, kept-more, parts_at}
+use Rattle.ics_calendar.proofs.Rows.{summary_at, or-false}
+use Rattle.ics_calendar.proofs.Table.{gathered}
+
+-- a line that does not end a component, as its component notes it
+abbrev pub line_as : Name → Place → Parts → Property
+line_as name.Begin q v = property.Begin (component_of (map upper v.value))
+line_as n q v = property_at q n v
+
+any-more : (p : Placed → Bool) (ls : List Placed) (l : Placed) → list_any p (ls ++ l ∷ []) ≡ (list_any p ls || p l)
+any-more p [] l = or-false (p l)
+any-more p (k ∷ ks) l = ap (λ t. p k || t) (any-more p ks l) ∙ apart (p k)
+  where
+    apart : (t : Bool) → (t || (list_any p ks || p l)) ≡ ((t || list_any p ks) || p l)
+    apart true = refl
+    apart false = refl
+
+observance-is : (w : List ℕ) → (bytes_eq w (codes "STANDARD") || bytes_eq w (codes "DAYLIGHT")) ≡ is_observance (component_of w)
+observance-is w = by_component (component_of w) (tells_component w)
+  where
+    by_component : (c : Component) → TellsComponent w c → (bytes_eq w (codes "STANDARD") || bytes_eq w (codes "DAYLIGHT")) ≡ is_observance c
+    by_component component.Calendar e = rw e refl
+    by_component component.Event e = rw e refl
+    by_component component.Zone e = rw e refl
+    by_component component.Standard e = rw e refl
+    by_component component.Daylight e = rw e refl
+    by_component (component.Other n) e = rw (e.0.no_standard, e.0.no_daylight) refl
+
+zone-noted : (n : Name) (u : List ℕ) (v : Parts) (had : ZoneSummary) → Tells u n →
+    record {
+      name = cond (bytes_eq u (codes "TZID")) (or_first had.name (text_of v.value)) had.name;
+      has_observance = had.has_observance || ((bytes_eq u (codes "BEGIN") && bytes_eq (map upper v.value) (codes "STANDARD")) || (bytes_eq u (codes "BEGIN") && bytes_eq (map upper v.value) (codes "DAYLIGHT")));
+    } ≡ note_zone (line_as n place.Zone v) had
+zone-noted name.Begin u v had e = rw e (ap (λ t. record { name = had.name; has_observance = had.has_observance || t }) (observance-is (map upper v.value)))
+zone-noted name.Tzid u v had e = rw e (ap (λ t. record { name = or_first had.name (text_of v.value); has_observance = t }) (or-false had.has_observance))
+zone-noted name.Other u v had e = rw (e.no_tzid, e.no_begin) (ap (λ t. record { name = had.name; has_observance = t }) (or-false had.has_observance))
+zone-noted _ u v had e = rw e (ap (λ t. record { name = had.name; has_observance = t }) (or-false had.has_observance))
+
+zone_of-more : (ls : List Placed) (l : Placed) → zone_of (ls ++ l ∷ []) ≡ note_zone (line_as (name_of (property_name l.content)) place.Zone (parts_at l)) (zone_of ls)
+zone_of-more ls l =
+    rw (kept-more (λ l. text_of (value l)) (codes "TZID") ls l, any-more begins_observance ls l)
+    (zone-noted (name_of (property_name l.content)) (property_name l.content) (parts_at l) (zone_of ls) (tells (property_name l.content)))
+
+observance-noted : (n : Name) (u : List ℕ) (v : Parts) (had : ObservanceSummary) → Tells u n →
+    record {
+      start = cond (bytes_eq u (codes "DTSTART")) (or_first had.start (stamp_of false v.value)) had.start;
+      from = cond (bytes_eq u (codes "TZOFFSETFROM")) (or_first had.from (offset_of v.value)) had.from;
+      to = cond (bytes_eq u (codes "TZOFFSETTO")) (or_first had.to (offset_of v.value)) had.to;
+      rule = cond (bytes_eq u (codes "RRULE")) (or_first had.rule (rule_of v.value)) had.rule;
+    } ≡ note_observance (line_as n place.Observance v) had
+observance-noted name.Other u v had e = simp (e.no_dtstart, e.no_offset_from, e.no_offset_to, e.no_rrule) refl
+observance-noted name.Begin u v had e = rw e refl
+observance-noted _ u v had e = rw e refl
+
+observance_of-more : (ls : List Placed) (l : Placed) → observance_of (ls ++ l ∷ []) ≡ note_observance (line_as (name_of (property_name l.content)) place.Observance (parts_at l)) (observance_of ls)
+observance_of-more ls l =
+    rw (kept-more onset_on (codes "DTSTART") ls l, kept-more offset_on (codes "TZOFFSETFROM") ls l, kept-more offset_on (codes "TZOFFSETTO") ls l, kept-more rule_on (codes "RRULE") ls l)
+    (observance-noted (name_of (property_name l.content)) (property_name l.content) (parts_at l) (observance_of ls) (tells (property_name l.content)))
+
+event-line : (n : Name) (v : Parts) (had : Collected) → note_event (event_property n v) had ≡ note_event (line_as n place.Event v) had
+event-line name.Begin v had = refl
+event-line _ v had = refl
+
+-- WHAT IS COLLECTED of a component, with one line more.
+pub summary-more : (q : Place) (k : ℕ) (ls : List Placed) (l : Placed) → summary_at q (gathered k (ls ++ l ∷ [])) ≡ note (line_as (name_of (property_name l.content)) q (parts_at l)) (summary_at q (gathered k ls))
+summary-more place.Event k ls l = ap summary.Event (collected_of-more ls l ∙ event-line (name_of (property_name l.content)) (parts_at l) (collected_of ls))
+summary-more place.Zone k ls l = ap summary.Zone (zone_of-more ls l)
+summary-more place.Observance k ls l = ap summary.Observance (observance_of-more ls l)
+summary-more _ k ls l = refl

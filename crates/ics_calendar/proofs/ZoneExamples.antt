@@ -1,0 +1,123 @@
+-- Worked faults of time zones and their observances. What is expected comes from a separate program.
+use Rattle.std.proofs.Common.{◌≡◌, ℕ, List, [], ◌∷◌, ◌++◌, refl, None}
+use Rattle.std.specs.Prelude.{codes}
+use Rattle.ics_values.specs.Rules.{rule_of}
+use Rattle.ics_calendar.specs.declared.fault.FaultKind.TheVariants.{BadDuration, BadNesting, BadOffset, BadRule, BadStamp, NoObservance, NotYet, NumberTooLarge, ObservanceField, UnknownZone, YearRange, ZoneRule}
+use Rattle.ics_calendar.proofs.ExampleFiles.{calendar, fault, at}
+
+abbrev zone : List (List ℕ) → List ℕ
+zone lines = calendar (codes "BEGIN:VTIMEZONE" ∷ lines ++ codes "END:VTIMEZONE" ∷ [])
+
+-- the observance of line 4
+abbrev standard : List (List ℕ) → List ℕ
+standard lines = zone (codes "TZID:E" ∷ codes "BEGIN:STANDARD" ∷ lines ++ codes "END:STANDARD" ∷ [])
+
+-- its three fields, on lines 5 to 7
+abbrev fields : List (List ℕ)
+fields = codes "DTSTART:20071104T020000" ∷ codes "TZOFFSETFROM:-0400" ∷ codes "TZOFFSETTO:-0500" ∷ []
+
+no_parts : fault (zone (codes "TZID:E" ∷ [])) ≡ at 4 NoObservance
+no_parts = refl
+
+nothing_at_all : fault (zone []) ≡ at 3 NoObservance
+nothing_at_all = refl
+
+good : fault (standard fields) ≡ None
+good = refl
+
+two_names : fault (zone (codes "TZID:E" ∷ codes "TZID:E" ∷ [])) ≡ at 4 ObservanceField
+two_names = refl
+
+no_name : fault (zone (codes "BEGIN:DAYLIGHT" ∷ fields ++ codes "END:DAYLIGHT" ∷ [])) ≡ at 8 ObservanceField
+no_name = refl
+
+-- the END of another part
+crossed : fault (zone (codes "TZID:E" ∷ codes "BEGIN:STANDARD" ∷ codes "END:DAYLIGHT" ∷ [])) ≡ at 5 BadNesting
+crossed = refl
+
+-- a field that is missing, or there twice
+no_offset : fault (standard (codes "DTSTART:20071104T020000" ∷ codes "TZOFFSETTO:-0500" ∷ [])) ≡ at 7 ObservanceField
+no_offset = refl
+
+two_offsets : fault (standard (codes "TZOFFSETTO:-0500" ∷ codes "TZOFFSETTO:-0500" ∷ [])) ≡ at 6 ObservanceField
+two_offsets = refl
+
+bad_offset : fault (standard (codes "TZOFFSETTO:-5" ∷ [])) ≡ at 5 BadOffset
+bad_offset = refl
+
+bad_second_offset : fault (standard (codes "TZOFFSETFROM:+0100" ∷ codes "TZOFFSETFROM:+2400" ∷ [])) ≡ at 6 BadOffset
+bad_second_offset = refl
+
+-- stamps are local, whatever TZID stands beside them
+date_start : fault (standard (codes "DTSTART:20071104" ∷ [])) ≡ at 5 ObservanceField
+date_start = refl
+
+utc_start : fault (standard (codes "DTSTART:20071104T020000Z" ∷ [])) ≡ at 5 ObservanceField
+utc_start = refl
+
+far_utc_start : fault (standard (codes "DTSTART:99990101T020000Z" ∷ [])) ≡ at 5 YearRange
+far_utc_start = refl
+
+bad_start : fault (standard (codes "DTSTART:2007" ∷ [])) ≡ at 5 BadStamp
+bad_start = refl
+
+tzid_beside : fault (standard (codes "DTSTART;TZID=X:20071104T020000" ∷ codes "TZOFFSETFROM:-0400" ∷ codes "TZOFFSETTO:-0500" ∷ [])) ≡ None
+tzid_beside = refl
+
+-- RDATE
+good_dates : fault (standard (fields ++ codes "RDATE:20081102T020000,20091101T020000" ∷ codes "RDATE:20101107T020000" ∷ [])) ≡ None
+good_dates = refl
+
+date_among : fault (standard (codes "RDATE:20081102T020000,20091101" ∷ [])) ≡ at 5 ObservanceField
+date_among = refl
+
+period : fault (standard (codes "RDATE:20081102T020000/PT1H" ∷ [])) ≡ at 5 ObservanceField
+period = refl
+
+bad_period : fault (standard (codes "RDATE:20081102T020000/PT" ∷ [])) ≡ at 5 BadDuration
+bad_period = refl
+
+large_period : fault (standard (codes "RDATE:20081102T020000/P4294967296D" ∷ [])) ≡ at 5 NumberTooLarge
+large_period = refl
+
+-- RRULE
+hourly : fault (standard (codes "RRULE:FREQ=HOURLY" ∷ [])) ≡ at 5 ZoneRule
+unfolding rule_of
+hourly = refl
+
+two_rules : fault (standard (codes "RRULE:FREQ=DAILY" ∷ codes "RRULE:FREQ=DAILY" ∷ [])) ≡ at 6 ZoneRule
+unfolding rule_of
+two_rules = refl
+
+bad_rule : fault (standard (codes "RRULE:FREQ=DAILY" ∷ codes "RRULE:FREQ" ∷ [])) ≡ at 6 BadRule
+unfolding rule_of
+bad_rule = refl
+
+-- other properties, and components inside, are skipped
+skipped : fault (standard (fields ++ codes "DTEND:x" ∷ codes "EXRULE:x" ∷ codes "DURATION:x" ∷ codes "BEGIN:X" ∷ codes "DTSTART:x" ∷ codes "END:X" ∷ [])) ≡ None
+skipped = refl
+
+-- THE NAMES OF TIME ZONES. A zone is known by its TZID without escapes, also behind its use, in its own calendar.
+abbrev known : List (List ℕ) → List (List ℕ)
+known name = codes "BEGIN:VTIMEZONE" ∷ name ++ codes "BEGIN:STANDARD" ∷ fields ++ codes "END:STANDARD" ∷ codes "END:VTIMEZONE" ∷ []
+
+abbrev used : List ℕ → List (List ℕ)
+used start = codes "BEGIN:VEVENT" ∷ codes "UID:a" ∷ start ∷ codes "END:VEVENT" ∷ []
+
+zone_before : fault (calendar (known (codes "TZID:E" ∷ []) ++ used (codes "DTSTART;TZID=E:20240105T100000"))) ≡ at 12 NotYet
+zone_before = refl
+
+zone_behind : fault (calendar (used (codes "DTSTART;TZID=E:20240105T100000") ++ known (codes "TZID:E" ∷ []))) ≡ at 4 NotYet
+zone_behind = refl
+
+other_zone : fault (calendar (known (codes "TZID:E" ∷ []) ++ used (codes "DTSTART;TZID=e:20240105T100000"))) ≡ at 12 UnknownZone
+other_zone = refl
+
+escaped : fault (calendar (known (codes "TZID:E\\,F" ∷ []) ++ used (codes "DTSTART;TZID=\"E,F\":20240105T100000"))) ≡ at 12 NotYet
+escaped = refl
+
+other_calendar : fault (calendar (known (codes "TZID:E" ∷ [])) ++ calendar (used (codes "DTSTART;TZID=E:20240105T100000"))) ≡ at 14 UnknownZone
+other_calendar = refl
+
+not_a_zone : fault (calendar (codes "TZID:E" ∷ used (codes "DTSTART;TZID=E:20240105T100000"))) ≡ at 5 UnknownZone
+not_a_zone = refl

@@ -1,0 +1,192 @@
+-- Where the onsets of a zone lie, and that the searches find the greatest and the least.
+use Rattle.std.proofs.Common.{◌≡◌, ◌≢◌, ℕ, ◌+◌, ◌<◌, ◌≤◌, inl, inr, Bool, true, false, ◌||◌, refl, sym, ap, ◌∙◌, arith, List, [], ◌∷◌, length, Option, Some, None, slice_get, ℤ, pos, negsuc, ◌+ℤ◌, ◌*ℤ◌, ◌<ℤ◌, ◌≤ℤ◌}
+use Rattle.std.proofs.lemmas.Int.{ints}
+use Rattle.std.proofs.lemmas.Option.{slice_get_within}
+use Rattle.std.proofs.lemmas.Bool.Decides.{Decides-eqb}
+use Rattle.ics_values.specs.declared.local.Local.{Local}
+use Rattle.ics_values.specs.Stamps.{IsStampDay}
+use Rattle.ics_values.proofs.DayLemmas.{day_index_parts}
+use Rattle.ics_rule.specs.Locals.{number}
+use Rattle.ics_zone.specs.Observances.{Phase, IsPhase, IsZone, epoch, instant_by, is_begin, test_at, is_onset}
+use Rattle.ics_zone.specs.Offsets.{IsOnset, IsInForce, IsBeforeAll, IsOffset, instant, natural, instants_to, if_onset, last_at, first_at, in_force, earliest, offset_by, zone_offset}
+use Rattle.ics_zone.specs.ZoneBounds.{if_onset-some}
+use Rattle.ics_zone.proofs.SearchLemmas.{last_below-none, last_below-some, first_below-none, first_below-some}
+use Rattle.ics_zone.proofs.Cases.{less_or_not_z, less_same_or_more}
+
+-- the seconds of a local from 1970-01-01 on, by its number
+pub number-seconds : (l : Local) → IsStampDay l.day → pos (number l) ≡ l.day *ℤ pos 86_400 +ℤ pos l.second +ℤ pos epoch
+number-seconds l h =
+    let parts = day_index_parts l.day (omega (arith, ints, h.0), omega (arith, ints, h.1)) in
+    omega (arith, ints, parts)
+
+pub natural-is : (z : ℤ) → pos 0 ≤ℤ z → pos (natural z) ≡ z
+natural-is (pos n) h = refl
+natural-is (negsuc n) h = absurd (omega (arith, ints))
+
+test_at-is : (z : ℤ) (n : ℕ) (test : ℕ → Bool) → z ≡ pos n → test_at z test ≡ test n
+test_at-is z n test e = ap (λ x. test_at x test) e
+
+test_at-true : (z : ℤ) (test : ℕ → Bool) → test_at z test ≡ true → (n : ℕ) × (z ≡ pos n) × (test n ≡ true)
+test_at-true (pos n) test e = (n, refl, e)
+test_at-true (negsuc n) test e = absurd (cc)
+
+-- an onset is the instant of a local at which the observance begins, and the other way round
+pub onset-local : (p : Phase) (t : ℤ) → is_onset p t ≡ true → (n : ℕ) × (t ≡ instant_by p.offset_from n) × (is_begin p n ≡ true)
+unfolding is_onset
+onset-local p t e = let found = test_at-true (t +ℤ p.offset_from +ℤ pos epoch) (is_begin p) e in (found.0, let at = found.1 in omega (arith, ints, at), found.2)
+
+pub local-onset : (p : Phase) (t : ℤ) (n : ℕ) → t ≡ instant_by p.offset_from n → is_onset p t ≡ is_begin p n
+unfolding is_onset
+local-onset p t n e = test_at-is (t +ℤ p.offset_from +ℤ pos epoch) n (is_begin p) (omega (arith, ints))
+
+or_true : (b c : Bool) → b ≡ true → (b || c) ≡ true
+or_true b c e = rw e refl
+
+-- an observance begins at its DTSTART
+pub start_is_onset : (p : Phase) → is_onset p (instant_by p.offset_from (number p.start)) ≡ true
+start_is_onset p =
+    local-onset p (instant_by p.offset_from (number p.start)) (number p.start) refl
+    ∙ or_true _ _ ((Decides-eqb (number p.start) (number p.start)).1 refl)
+
+-- each onset has a number among the instants
+pub onset_number : (p : Phase) → IsPhase p → (t : ℤ) → is_onset p t ≡ true → (k : ℕ) × (t ≡ instant k)
+onset_number p facts t e =
+    let found = onset-local p t e in
+    let at = found.1 in
+    let bound = facts.from_in in
+    let is = natural-is (t +ℤ pos (epoch + 86_400)) (omega (arith, ints, at, bound.0, bound.1)) in
+    (natural (t +ℤ pos (epoch + 86_400)), omega (arith, ints, is))
+
+pub in_instants : (t : ℤ) (k : ℕ) → instant k ≤ℤ t → k < instants_to t
+in_instants t k h = let is = natural-is (t +ℤ pos (epoch + 86_401)) (omega (arith, ints)) in omega (arith, ints, is)
+
+natural-below : (z : ℤ) (k : ℕ) → k < natural z → pos k <ℤ z
+natural-below (pos n) k h = omega (arith, ints)
+natural-below (negsuc n) k h = absurd (omega arith)
+
+pub from_instants : (t : ℤ) (k : ℕ) → k < instants_to t → instant k ≤ℤ t
+from_instants t k h = let below = natural-below (t +ℤ pos (epoch + 86_401)) k h in omega (arith, ints, below)
+
+some_is_not_none : (p : Phase) → Some p ≡ None → ⊥
+some_is_not_none p e = cc
+
+if_onset-none : (o : Option Phase) (t : ℤ) (p : Phase) → o ≡ Some p → is_onset p t ≡ true → if_onset o t ≡ None → ⊥
+if_onset-none o t p e is none =
+    let there : elim (is_onset p t) [ true ↦ Some p | false ↦ None ] ≡ None = sym (ap (λ x. if_onset x t) e) ∙ none in
+    let given : Some p ≡ None = rw is at there in
+    some_is_not_none p given
+
+module _ (zone : List Phase) (facts : IsZone zone) where
+  -- the last and the first onset of an instant
+  last_at-some : (t : ℤ) (p : Phase) → last_at zone t ≡ Some p → (i : ℕ) × IsOnset zone i t p × ((j : ℕ) (q : Phase) → IsOnset zone j t q → j ≤ i)
+  last_at-some t p e =
+      let found = last_below-some (λ i. if_onset (slice_get zone i) t) (length zone) p e in
+      let onset = if_onset-some (slice_get zone found.place) t p found.gives in (
+        found.place,
+        (onset.0, onset.1),
+        λ j q h. elim (less_same_or_more found.place j) [
+          | inl l ↦ absurd (if_onset-none (slice_get zone j) t q h.0 h.1 (found.later j l (slice_get_within zone j q h.0)))
+          | inr (inl s) ↦ omega (arith, s)
+          | inr (inr l) ↦ omega (arith, l)
+        ],
+      )
+
+  first_at-some : (t : ℤ) (p : Phase) → first_at zone t ≡ Some p → (i : ℕ) × IsOnset zone i t p × ((j : ℕ) (q : Phase) → IsOnset zone j t q → i ≤ j)
+  first_at-some t p e =
+      let found = first_below-some (λ i. if_onset (slice_get zone i) t) (length zone) p e in
+      let onset = if_onset-some (slice_get zone found.place) t p found.gives in (
+        found.place,
+        (onset.0, onset.1),
+        λ j q h. elim (less_same_or_more found.place j) [
+          | inl l ↦ omega (arith, l)
+          | inr (inl s) ↦ omega (arith, s)
+          | inr (inr l) ↦ absurd (if_onset-none (slice_get zone j) t q h.0 h.1 (found.earlier j l))
+        ],
+      )
+
+  last_at-none : (t : ℤ) (i : ℕ) (p : Phase) → last_at zone t ≡ None → IsOnset zone i t p → ⊥
+  last_at-none t i p none h = if_onset-none (slice_get zone i) t p h.0 h.1 (last_below-none (λ i. if_onset (slice_get zone i) t) (length zone) none i (slice_get_within zone i p h.0))
+
+  first_at-none : (t : ℤ) (i : ℕ) (p : Phase) → first_at zone t ≡ None → IsOnset zone i t p → ⊥
+  first_at-none t i p none h = if_onset-none (slice_get zone i) t p h.0 h.1 (first_below-none (λ i. if_onset (slice_get zone i) t) (length zone) none i (slice_get_within zone i p h.0))
+
+  in_force-some : (t : ℤ) (p : Phase) → in_force zone t ≡ Some p → IsInForce zone t p
+  unfolding in_force
+  in_force-some t p e =
+      let found = last_below-some (λ k. last_at zone (instant k)) (instants_to t) p e in
+      let last = last_at-some (instant found.place) p found.gives in
+      record {
+        place = last.0;
+        since = instant found.place;
+        onset = last.1;
+        not_after = from_instants t found.place found.in_bound;
+        greatest = λ i s q h l.
+            let k = onset_number q (facts i q h.0) s h.1 in
+            let at = k.1 in
+            let there : IsOnset zone i (instant k.0) q = (h.0, rw at at h.1) in
+            elim (less_same_or_more k.0 found.place) [
+              | inl less ↦ inl (omega (arith, ints, at, less))
+              | inr (inl same) ↦ inr (omega (arith, ints, at, same), last.2 i q (rw same at there))
+              | inr (inr more) ↦ absurd (last_at-none (instant k.0) i q (found.later k.0 more (in_instants t k.0 (omega (arith, ints, at, l)))) there)
+            ];
+      }
+
+  in_force-none : (t : ℤ) (i : ℕ) (s : ℤ) (p : Phase) → in_force zone t ≡ None → IsOnset zone i s p → t <ℤ s
+  unfolding in_force
+  in_force-none t i s p none h = elim (less_or_not_z t s) [
+    | inl l ↦ l
+    | inr l ↦ absurd (
+        let k = onset_number p (facts i p h.0) s h.1 in
+        let at = k.1 in
+        last_at-none (instant k.0) i p
+        (last_below-none (λ k. last_at zone (instant k)) (instants_to t) none k.0 (in_instants t k.0 (omega (arith, ints, at, l))))
+        (h.0, rw at at h.1))
+  ]
+
+  earliest-some : (t : ℤ) (p : Phase) → in_force zone t ≡ None → earliest zone ≡ Some p → IsBeforeAll zone t p
+  unfolding earliest
+  earliest-some t p none e =
+      let found = first_below-some (λ k. first_at zone (instant k)) (instants_to (pos 253_402_214_400)) p e in
+      let first = first_at-some (instant found.place) p found.gives in
+      record {
+        place = first.0;
+        first = instant found.place;
+        onset = first.1;
+        before = in_force-none t first.0 (instant found.place) p none first.1;
+        least = λ i s q h.
+            let k = onset_number q (facts i q h.0) s h.1 in
+            let at = k.1 in
+            let there : IsOnset zone i (instant k.0) q = (h.0, rw at at h.1) in
+            elim (less_same_or_more found.place k.0) [
+              | inl less ↦ inl (omega (arith, ints, at, less))
+              | inr (inl same) ↦ inr (omega (arith, ints, at, same), first.2 i q (rw (sym same) at there))
+              | inr (inr more) ↦ absurd (first_at-none (instant k.0) i q (found.earlier k.0 more) there)
+            ];
+      }
+
+-- a zone with an observance has a least onset
+earliest-none : (p : Phase) (zone : List Phase) → IsZone (p ∷ zone) → earliest (p ∷ zone) ≡ None → ⊥
+unfolding earliest
+earliest-none p zone facts none =
+    let is = facts 0 p refl in
+    let start = start_is_onset p in
+    let k = onset_number p is (instant_by p.offset_from (number p.start)) start in
+    let at = k.1 in
+    let seconds = number-seconds p.start is.start_in in
+    let days = is.start_in in
+    let second = p.start.second_in in
+    let shift = is.from_in in
+    let early : instant k.0 ≤ℤ pos 253_402_214_400 = omega (arith, ints, at, seconds, days.0, days.1, second, shift.0, shift.1) in
+    first_at-none (p ∷ zone) facts (instant k.0) 0 p
+    (first_below-none (λ k. first_at (p ∷ zone) (instant k)) (instants_to (pos 253_402_214_400)) none k.0 (in_instants (pos 253_402_214_400) k.0 early))
+    (refl, rw at at start)
+
+pub offset_found : (zone : List Phase) → IsZone zone → (t : ℤ) → zone ≢ [] → IsOffset zone t (zone_offset zone t)
+unfolding zone_offset
+offset_found [] facts t some = absurd (some refl)
+offset_found (p ∷ zone) facts t some = by (in_force (p ∷ zone) t) (earliest (p ∷ zone)) refl refl
+  where
+    by : (now first : Option Phase) → in_force (p ∷ zone) t ≡ now → earliest (p ∷ zone) ≡ first → IsOffset (p ∷ zone) t (offset_by now first)
+    by (Some q) first is least = inl (q, in_force-some (p ∷ zone) facts t q is, refl)
+    by None (Some q) is least = inr (q, earliest-some (p ∷ zone) facts t q is least, refl)
+    by None None is least = absurd (earliest-none p zone facts least)

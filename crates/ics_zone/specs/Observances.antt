@@ -1,0 +1,91 @@
+-- When the observances of a VTIMEZONE begin (RFC 5545, section 3.6.5).
+use Rattle.std.specs.Prelude.{◌≡◌, ℕ, Bool, true, false, ◌&&◌, ◌||◌, ◌==◌, List, Option, Some, None, slice_get, int_le, ℤ, pos, negsuc, ◌+ℤ◌, ◌-ℤ◌}
+use Rattle.std.specs.List.{list_any}
+use Rattle.jiff_core.specs.Calendar.{IsWithin}
+use Rattle.ics_values.specs.declared.local.Local.{Local}
+use Rattle.ics_values.specs.declared.frequency.Frequency.{Frequency}
+use Rattle.ics_values.specs.declared.frequency.Frequency.TheVariants.{Secondly, Minutely, Hourly}
+use Rattle.ics_values.specs.RuleParts.{RuleParts}
+use Rattle.ics_values.specs.Stamps.{IsStampDay}
+use Rattle.ics_rule.specs.declared.kind.Kind.TheVariants.{DateTime}
+use Rattle.ics_rule.specs.Recurrence.{Recurrence}
+use Rattle.ics_rule.specs.Locals.{number}
+use Rattle.ics_rule.specs.Kept.{is_kept, until_moment}
+use Rattle.ics_zone.specs.declared.observance.Observance.{Observance}
+
+-- what an observance says: when it begins, and the offsets before and after
+pub record Phase : Type 0 where
+  pub start : Local
+  pub offset_from : ℤ
+  pub offset_to : ℤ
+  pub rule : Option RuleParts
+  pub rdates : List Local
+
+abbrev pub phase_of : Observance → Phase
+phase_of o = record {
+  start = o.start;
+  offset_from = o.offset_from;
+  offset_to = o.offset_to;
+  rule = o.rule;
+  rdates = o.rdates.items;
+}
+
+-- it begins in the years 0001 to 9899, and its offsets are less than a day
+pub record IsPhase (p : Phase) : Type 0 where
+  pub start_in : IsStampDay p.start.day
+  pub from_in : IsWithin 86_399 p.offset_from
+  pub to_in : IsWithin 86_399 p.offset_to
+
+abbrev pub IsZone : List Phase → Type 0
+IsZone zone = (i : ℕ) (p : Phase) → slice_get zone i ≡ Some p → IsPhase p
+
+-- the seconds from 0000-01-01 to 1970-01-01
+abbrev pub epoch : ℕ
+epoch = 62_167_219_200
+
+-- the instant at which a clock with this offset shows the local with number n
+abbrev pub instant_by : ℤ → ℕ → ℤ
+instant_by offset n = pos n -ℤ pos epoch -ℤ offset
+
+-- the rule of an observance, from its DTSTART on
+abbrev pub rule_from : Local → RuleParts → Recurrence
+rule_from start parts = record { parts = parts; start = start; kind = DateTime }
+
+-- an instant is not after a UTC UNTIL, where there is one
+abbrev pub is_until : Option ℤ → ℤ → Bool
+is_until None t = true
+is_until (Some until) t = int_le t until
+
+-- the rule keeps local n, and a UTC UNTIL its onset
+abbrev pub is_by_rule : Phase → Option RuleParts → ℕ → Bool
+is_by_rule p None n = false
+is_by_rule p (Some parts) n =
+    is_kept (rule_from p.start parts) n
+    && is_until (until_moment (rule_from p.start parts)) (instant_by p.offset_from n)
+
+-- the observance begins when the clock before it shows local n: that is its DTSTART, an RDATE, or kept by its RRULE
+abbrev pub is_begin : Phase → ℕ → Bool
+is_begin p n = n == number p.start || (list_any (λ l. number l == n) p.rdates || is_by_rule p p.rule n)
+
+-- a test of a local that is given by the seconds since 0000-01-01; none is earlier
+abbrev pub test_at : ℤ → (ℕ → Bool) → Bool
+test_at (pos n) test = test n
+test_at (negsuc n) test = false
+
+-- instant t is an onset of the observance: the clock with TZOFFSETFROM then shows a local at which it begins
+unfoldable pub is_onset : Phase → ℤ → Bool
+is_onset p t = test_at (t +ℤ p.offset_from +ℤ pos epoch) (is_begin p)
+
+-- the rule repeats more often than daily
+abbrev pub is_finer_than_daily : Frequency → Bool
+is_finer_than_daily Secondly = true
+is_finer_than_daily Minutely = true
+is_finer_than_daily Hourly = true
+is_finer_than_daily frequency = false
+
+abbrev pub is_finer_rule : Option RuleParts → Bool
+is_finer_rule None = false
+is_finer_rule (Some parts) = is_finer_than_daily parts.frequency
+
+abbrev pub has_finer_rule : Phase → Bool
+has_finer_rule p = is_finer_rule p.rule

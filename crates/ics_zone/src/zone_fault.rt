@@ -1,0 +1,29 @@
+//! Why observances make no zone.
+ghost use Rattle.std.specs.Prelude.{◌≡◌};
+ghost use Rattle.ics_zone.specs.ZoneFaults.{zone_fault_name};
+
+use thiserror::Error;
+
+/// Why observances make no zone.
+#[derive(Clone, Copy, Debug, PartialEq, Eq, Error)]
+pub enum ZoneFault {
+    #[error("no STANDARD or DAYLIGHT part")]
+    NoObservance,
+    #[error("a rule finer than DAILY")]
+    ZoneRule,
+    #[error("out of memory")]
+    Memory,
+}
+
+impl ZoneFault {
+    /// The fault's name.
+    pub fn name(&self) -> &'static str
+        ensures { result.now ≡ zone_fault_name self.now }
+    {
+        match self {
+            ZoneFault::NoObservance => "NoObservance",
+            ZoneFault::ZoneRule => "ZoneRule",
+            ZoneFault::Memory => "Memory",
+        }
+    }
+}

@@ -1,0 +1,17 @@
+//! Laws of the zones of observances.
+ghost use Rattle.std.specs.Prelude.{◌≡◌, ◌≢◌, [], List, ℤ};
+ghost use Rattle.ics_zone.specs.Observances.{Phase, IsZone};
+ghost use Rattle.ics_zone.specs.Offsets.{IsOffset, zone_offset};
+ghost use Rattle.ics_zone.specs.Moments.{IsMomentOf, zone_moment};
+
+/// A zone with an observance has exactly one offset at each instant: the one that the search finds.
+pub fn one_offset()
+    ensures most { (zone : List Phase) (t a b : ℤ) → IsOffset zone t a → IsOffset zone t b → a ≡ b }
+    ensures found { (zone : List Phase) (t : ℤ) → IsZone zone → zone ≢ [] → IsOffset zone t (zone_offset zone t) }
+{}
+
+/// A local means exactly one instant: the one that the search finds.
+pub fn one_moment()
+    ensures most { (zone : List Phase) (local s t : ℤ) → IsMomentOf zone local s → IsMomentOf zone local t → s ≡ t }
+    ensures found { (zone : List Phase) (local : ℤ) → IsZone zone → IsMomentOf zone local (zone_moment zone local) }
+{}
