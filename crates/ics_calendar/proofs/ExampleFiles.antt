@@ -3,7 +3,7 @@ use Rattle.std.proofs.Common.{ℕ, List, [], ◌∷◌, ◌++◌, Option, Some, 
 use Rattle.std.specs.Prelude.{codes}
 use Rattle.std.specs.List.{flat_map}
 use Rattle.ics_calendar.specs.declared.fault.FaultKind.{FaultKind}
-use Rattle.ics_calendar.specs.Event.{FileSeen}
+use Rattle.ics_calendar.specs.Event.{FileSaid}
 use Rattle.ics_calendar.specs.FirstFault.{Fault}
 use Rattle.ics_calendar.specs.Files.{file_of}
 
@@ -17,7 +17,7 @@ calendar lines = text (codes "BEGIN:VCALENDAR" ∷ lines ++ codes "END:VCALENDAR
 abbrev pub event : List (List ℕ) → List ℕ
 event lines = calendar (codes "BEGIN:VEVENT" ∷ lines ++ codes "END:VEVENT" ∷ [])
 
-abbrev fault_in : Result FileSeen Fault → Option Fault
+abbrev fault_in : Result FileSaid Fault → Option Fault
 fault_in (Ok seen) = None
 fault_in (Err fault) = Some fault
 

@@ -87,6 +87,7 @@ abbrev standup : List ℕ
 standup = event (codes "UID:a" ∷ codes "DTSTART:20240105T100000Z" ∷ codes "DTEND:20240105T110000Z" ∷ codes "SUMMARY:Standup" ∷ [])
 
 standup_event : file_of standup ≡ Ok (record {
+  zones = [];
   events =
       record {
         uid = codes "a";

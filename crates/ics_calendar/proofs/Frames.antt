@@ -15,10 +15,10 @@ use Rattle.ics_calendar.specs.declared.property.Property.{Property}
 use Rattle.ics_calendar.specs.declared.property.Property.TheVariants as property
 use Rattle.ics_calendar.specs.Components.{component_of, place_in}
 use Rattle.ics_calendar.specs.Names.{name_of}
-use Rattle.ics_calendar.specs.Placed.{Placed, Open, place_of, property_name, is_begin, is_end, component, path_behind, calendar_of}
+use Rattle.ics_calendar.specs.Placed.{Placed, Open, place_of, property_name, is_begin, is_end, component, path_behind, innermost, calendar_of}
 use Rattle.ics_calendar.specs.Reading.{event_property, calendar_property, zone_property, observance_property, property_at, read_as, read_in, read_on}
 use Rattle.ics_calendar.specs.Summaries.{fresh}
-use Rattle.ics_calendar.specs.LineFaults.{fault_in, fault_on, later_in, later_on, named_in, named_on}
+use Rattle.ics_calendar.specs.LineFaults.{fault_in, fault_on, later_in, later_on}
 use Rattle.ics_calendar.specs.Pass.{bottom, calendar_in, opened, closed, noted, behind}
 use Rattle.ics_calendar.proofs.NameLemmas.{Tells, tells}
 use Rattle.ics_calendar.proofs.Collects.{parts_at}
@@ -43,7 +43,7 @@ added before l [] bundles k = refl
 added before l (c ∷ cs) [] k = absurd k
 added before l (c ∷ cs) (b ∷ bs) k =
     let q : Place = place_of (c ∷ cs) in
-    ap (λ s. record { component = component_of c.name; place = q; calendar = calendar_of (c ∷ cs); summary = s } ∷ frames_of cs bs) (summary-more q (calendar_of (c ∷ cs)) b.lines l)
+    ap (λ s. record { component = component_of c.name; place = q; calendar = calendar_of (c ∷ cs); begun = c.begun; summary = s } ∷ frames_of cs bs) (summary-more q (c ∷ cs) b.lines l)
 
 -- what stands behind a line that begins and ends nothing
 pub behind-at : (number : ℕ) (q : Place) (n : Name) (v : Parts) (frames : List Frame) → behind number (property_at q n v) frames ≡ noted (property_at q n v) frames
@@ -111,9 +111,9 @@ behind-read number name.OffsetFrom f v frames = behind-at number f.place name.Of
 behind-read number name.OffsetTo f v frames = behind-at number f.place name.OffsetTo v frames
 behind-read number name.Other f v frames = behind-at number f.place name.Other v frames
 
-fresh-at : (c : Component) (q : Place) (k : ℕ) → frame_at c q (gathered k []) ≡ record { component = c; place = q; calendar = k; summary = fresh q }
-fresh-at c place.Event k = refl
-fresh-at c _ k = refl
+fresh-at : (c : Component) (q : Place) (path : List Open) → frame_at c q (gathered path []) ≡ record { component = c; place = q; calendar = calendar_of path; begun = innermost path; summary = fresh q }
+fresh-at c place.Event path = refl
+fresh-at c _ path = refl
 
 calendar-is : (name : List ℕ) (number : ℕ) (before : List Placed) (path : List Open) (bundles : List Bundle) → Keeps before path bundles →
     calendar_of (record { name = name; begun = number } ∷ path) ≡ calendar_in number (frames_of path bundles)
@@ -124,7 +124,7 @@ calendar-is name number before (c ∷ d ∷ ds) (b ∷ []) k = absurd k.3
 calendar-is name number before (c ∷ d ∷ ds) (b ∷ e ∷ es) k = refl
 
 opened-over : (number : ℕ) (c : Component) (before : List Placed) (path : List Open) (bundles : List Bundle) → Keeps before path bundles →
-    record { component = c; place = place_in (place_of path) c; calendar = calendar_in number (frames_of path bundles); summary = fresh (place_in (place_of path) c) } ∷ noted (property.Begin c) (frames_of path bundles)
+    record { component = c; place = place_in (place_of path) c; calendar = calendar_in number (frames_of path bundles); begun = number; summary = fresh (place_in (place_of path) c) } ∷ noted (property.Begin c) (frames_of path bundles)
     ≡ opened number c (frames_of path bundles)
 opened-over number c before [] bundles k = refl
 opened-over number c before (d ∷ ds) [] k = absurd k
@@ -138,9 +138,9 @@ begun before l path bundles k e =
     let new : Open = record { name = component l; begun = l.number } in
     let joined : frames_of path (add_line l bundles) ≡ noted (property.Begin c) (frames_of path bundles) =
     added before l path bundles k ∙ ap (λ n. noted (line_as n (place_of path) (parts_at l)) (frames_of path bundles)) e in
-    ap (λ (f : Frame). f ∷ frames_of path (add_line l bundles)) (fresh-at c q (calendar_of (new ∷ path)))
-    ∙ ap (λ (m : ℕ). record { component = c; place = q; calendar = m; summary = fresh q } ∷ frames_of path (add_line l bundles)) (calendar-is (component l) l.number before path bundles k)
-    ∙ ap (λ (fs : List Frame). record { component = c; place = q; calendar = calendar_in l.number (frames_of path bundles); summary = fresh q } ∷ fs) joined
+    ap (λ (f : Frame). f ∷ frames_of path (add_line l bundles)) (fresh-at c q (new ∷ path))
+    ∙ ap (λ (m : ℕ). record { component = c; place = q; calendar = m; begun = l.number; summary = fresh q } ∷ frames_of path (add_line l bundles)) (calendar-is (component l) l.number before path bundles k)
+    ∙ ap (λ (fs : List Frame). record { component = c; place = q; calendar = calendar_in l.number (frames_of path bundles); begun = l.number; summary = fresh q } ∷ fs) joined
     ∙ opened-over l.number c before path bundles k
 
 closed-over : (before : List Placed) (l : Placed) (path : List Open) (bundles : List Bundle) → Keeps before path bundles → frames_of (drop 1 path) (close l bundles) ≡ closed (frames_of path bundles)
@@ -213,8 +213,3 @@ pub later-top : (p : Property) (before : List Placed) (path : List Open) (bundle
 later-top p before [] bundles k = refl
 later-top p before (c ∷ cs) [] k = absurd k
 later-top p before (c ∷ cs) (b ∷ bs) k = refl
-
-pub named-top : (p : Property) (before : List Placed) (path : List Open) (bundles : List Bundle) → Keeps before path bundles → named_on p (frames_of path bundles) ≡ named_in p (top_of path bundles)
-named-top p before [] bundles k = refl
-named-top p before (c ∷ cs) [] k = absurd k
-named-top p before (c ∷ cs) (b ∷ bs) k = refl

@@ -7,15 +7,31 @@ pub mod Collects
 pub mod Bundles
 pub mod Frames
 pub mod LaterTable
+pub mod Paths
+pub mod LastLines
+pub mod Order
 pub mod Ended
 pub mod PassLemmas
-pub mod Paths
-pub mod Order
+pub mod EventOrder
+pub mod ZoneOrder
 pub mod Firsts
+pub mod Settles
 pub mod Whole
 pub mod Sound
+pub mod Awaits
+pub mod Filled
+pub mod Phases
+pub mod PassSound
+pub mod EventSound
+pub mod EventsOf
+pub mod ZoneTables
+pub mod Settling
 pub mod Steps
+pub mod ZonesMade
 mod ExampleFiles
 mod PropertyExamples
 mod ZoneExamples
+mod ZoneRows
+mod LaterRows
+mod InstantRows
 mod Examples

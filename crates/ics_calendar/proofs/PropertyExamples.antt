@@ -1,4 +1,4 @@
--- Worked faults of the properties of an event, with the lines and the kinds that the table of faults gives them.
+-- Worked faults of the properties of an event. What is expected comes from a separate program.
 use Rattle.std.proofs.Common.{◌≡◌, [], ◌∷◌, ◌++◌, refl, None}
 use Rattle.std.specs.Prelude.{codes}
 use Rattle.ics_values.specs.Rules.{rule_of}

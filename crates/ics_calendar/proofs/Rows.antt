@@ -80,6 +80,7 @@ flat u w v q cl deep filled start be some fields h =
 -- what is collected of some lines of a calendar, read as those of an event, of a time zone and of an observance
 pub record Gathered : Type 0 where
   pub calendar : ℕ
+  pub begun : ℕ
   pub event : Collected
   pub zone : ZoneSummary
   pub observance : ObservanceSummary
@@ -100,7 +101,7 @@ has_fields _ g = true
 
 -- the frame of a component, with what is collected of it
 abbrev pub frame_at : Component → Place → Gathered → Frame
-frame_at c q g = record { component = c; place = q; calendar = g.calendar; summary = summary_at q g }
+frame_at c q g = record { component = c; place = q; calendar = g.calendar; begun = g.begun; summary = summary_at q g }
 
 abbrev pub flat_of : List ℕ → Parts → Place → Bool → ℕ → Gathered → Bool → Option FaultKind
 flat_of u v q cl depth g h = flat u (map upper v.value) v q cl (nat_le 32 depth) (is_filled g.event.uid) (is_some g.event.start) (bad_end_of g.event) g.zone.has_observance (has_fields q g) h

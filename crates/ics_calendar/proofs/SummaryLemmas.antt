@@ -1,8 +1,11 @@
 -- A line changes what is collected of a component as the pass notes it.
 use Rattle.std.proofs.Common.{◌≡◌, ℕ, Bool, true, false, List, [], ◌∷◌, ◌++◌, map, refl, ap, ◌∙◌, cond}
-use Rattle.std.specs.Prelude.{codes, ◌&&◌, ◌||◌}
+use Rattle.std.specs.Prelude.{codes, ◌&&◌, ◌||◌, flat_map}
 use Rattle.std.specs.List.{list_any}
 use Rattle.std.specs.Str.{bytes_eq}
+use Rattle.std.proofs.lemmas.List.{append-nil}
+use Rattle.std.proofs.lemmas.List.Concat.{flat_map-append, flat_map-cons}
+use Rattle.std.proofs.lemmas.List.Elements.{filter-append}
 use Rattle.ics_text.specs.Bytes.{upper}
 use Rattle.ics_text.specs.Contents.{Parts}
 use Rattle.ics_values.specs.Offsets.{offset_of}
@@ -22,12 +25,13 @@ use Rattle.ics_calendar.specs.declared.summary.ObservanceSummary.{ObservanceSumm
 use Rattle.ics_calendar.specs.declared.summary.Summary.TheVariants as summary
 use Rattle.ics_calendar.specs.declared.summary.ZoneSummary.{ZoneSummary}
 use Rattle.ics_calendar.specs.Components.{component_of, is_observance}
+use Rattle.ics_calendar.specs.DateValues.{rdates_of}
 use Rattle.ics_calendar.specs.Names.{name_of}
-use Rattle.ics_calendar.specs.Placed.{Placed, property_name, value, begins_observance}
+use Rattle.ics_calendar.specs.Placed.{Placed, Open, property_name, value, is_named, all_named, begins_observance}
 use Rattle.ics_calendar.specs.Faults.{rule_on}
 use Rattle.ics_calendar.specs.Reading.{event_property, property_at}
 use Rattle.ics_calendar.specs.Collecting.{collected_of, or_first, note_event}
-use Rattle.ics_calendar.specs.Summaries.{onset_on, offset_on, zone_of, observance_of, note_zone, note_observance, note}
+use Rattle.ics_calendar.specs.Summaries.{onset_on, offset_on, listed_on, zone_of, observance_of, note_zone, note_observance, note}
 use Rattle.ics_calendar.proofs.NameLemmas.{Tells, tells, TellsComponent, tells_component}
 use Rattle.ics_calendar.proofs.Collects.{collected_of-more, kept-more, parts_at}
 use Rattle.ics_calendar.proofs.Rows.{summary_at, or-false}
@@ -72,20 +76,32 @@ zone_of-more ls l =
     rw (kept-more (λ l. text_of (value l)) (codes "TZID") ls l, any-more begins_observance ls l)
     (zone-noted (name_of (property_name l.content)) (property_name l.content) (parts_at l) (zone_of ls) (tells (property_name l.content)))
 
+-- what all lines of a name list, with one line more
+listed-more : {X : Type 0} (f : Placed → List X) (n : List ℕ) (ls : List Placed) (l : Placed) →
+    flat_map f (all_named n (ls ++ l ∷ [])) ≡ cond (is_named n l) (flat_map f (all_named n ls) ++ f l) (flat_map f (all_named n ls))
+listed-more f n ls l = ap (flat_map f) (filter-append (is_named n) ls (l ∷ [])) ∙ by_test (is_named n l)
+  where
+    by_test : (t : Bool) → flat_map f (all_named n ls ++ cond t (l ∷ []) []) ≡ cond t (flat_map f (all_named n ls) ++ f l) (flat_map f (all_named n ls))
+    by_test true =
+        flat_map-append f (all_named n ls) (l ∷ [])
+        ∙ ap (λ xs. flat_map f (all_named n ls) ++ xs) (flat_map-cons f l [] ∙ append-nil (f l))
+    by_test false = ap (flat_map f) (append-nil (all_named n ls))
+
 observance-noted : (n : Name) (u : List ℕ) (v : Parts) (had : ObservanceSummary) → Tells u n →
     record {
       start = cond (bytes_eq u (codes "DTSTART")) (or_first had.start (stamp_of false v.value)) had.start;
       from = cond (bytes_eq u (codes "TZOFFSETFROM")) (or_first had.from (offset_of v.value)) had.from;
       to = cond (bytes_eq u (codes "TZOFFSETTO")) (or_first had.to (offset_of v.value)) had.to;
       rule = cond (bytes_eq u (codes "RRULE")) (or_first had.rule (rule_of v.value)) had.rule;
+      rdates = cond (bytes_eq u (codes "RDATE")) (had.rdates ++ rdates_of false v.value) had.rdates;
     } ≡ note_observance (line_as n place.Observance v) had
-observance-noted name.Other u v had e = simp (e.no_dtstart, e.no_offset_from, e.no_offset_to, e.no_rrule) refl
+observance-noted name.Other u v had e = simp (e.no_dtstart, e.no_offset_from, e.no_offset_to, e.no_rrule, e.no_rdate) refl
 observance-noted name.Begin u v had e = rw e refl
 observance-noted _ u v had e = rw e refl
 
 observance_of-more : (ls : List Placed) (l : Placed) → observance_of (ls ++ l ∷ []) ≡ note_observance (line_as (name_of (property_name l.content)) place.Observance (parts_at l)) (observance_of ls)
 observance_of-more ls l =
-    rw (kept-more onset_on (codes "DTSTART") ls l, kept-more offset_on (codes "TZOFFSETFROM") ls l, kept-more offset_on (codes "TZOFFSETTO") ls l, kept-more rule_on (codes "RRULE") ls l)
+    rw (kept-more onset_on (codes "DTSTART") ls l, kept-more offset_on (codes "TZOFFSETFROM") ls l, kept-more offset_on (codes "TZOFFSETTO") ls l, kept-more rule_on (codes "RRULE") ls l, listed-more listed_on (codes "RDATE") ls l)
     (observance-noted (name_of (property_name l.content)) (property_name l.content) (parts_at l) (observance_of ls) (tells (property_name l.content)))
 
 event-line : (n : Name) (v : Parts) (had : Collected) → note_event (event_property n v) had ≡ note_event (line_as n place.Event v) had
@@ -93,7 +109,7 @@ event-line name.Begin v had = refl
 event-line _ v had = refl
 
 -- WHAT IS COLLECTED of a component, with one line more.
-pub summary-more : (q : Place) (k : ℕ) (ls : List Placed) (l : Placed) → summary_at q (gathered k (ls ++ l ∷ [])) ≡ note (line_as (name_of (property_name l.content)) q (parts_at l)) (summary_at q (gathered k ls))
+pub summary-more : (q : Place) (k : List Open) (ls : List Placed) (l : Placed) → summary_at q (gathered k (ls ++ l ∷ [])) ≡ note (line_as (name_of (property_name l.content)) q (parts_at l)) (summary_at q (gathered k ls))
 summary-more place.Event k ls l = ap summary.Event (collected_of-more ls l ∙ event-line (name_of (property_name l.content)) (parts_at l) (collected_of ls))
 summary-more place.Zone k ls l = ap summary.Zone (zone_of-more ls l)
 summary-more place.Observance k ls l = ap summary.Observance (observance_of-more ls l)

@@ -16,7 +16,7 @@ use Rattle.ics_calendar.specs.declared.name.Name.{Name}
 use Rattle.ics_calendar.specs.declared.name.Name.TheVariants as name
 use Rattle.ics_calendar.specs.Components.{component_of, component_name, is_outside_place}
 use Rattle.ics_calendar.specs.Names.{name_of}
-use Rattle.ics_calendar.specs.Placed.{Placed, Open, place_of, value, closes, begins_observance, calendar_of, has, has_all, is_named, first_named, first_of, all_named}
+use Rattle.ics_calendar.specs.Placed.{Placed, Open, place_of, value, closes, begins_observance, innermost, calendar_of, has, has_all, is_named, first_named, first_of, all_named}
 use Rattle.ics_calendar.specs.Values.{ok_or_zero, is_filled, ends_badly}
 use Rattle.ics_calendar.specs.Faults.{dated_on, lasting_on, rule_on, first_text, first_dated, field_names, stands, kinds}
 use Rattle.ics_calendar.specs.Reading.{read_in}
@@ -73,19 +73,19 @@ has-first f n (k ∷ ks) = by_test (is_named n k) (has-first f n ks)
     by_test true ih = refl
     by_test false ih = ih
 
--- what is collected of some lines of a calendar
-abbrev pub gathered : ℕ → List Placed → Gathered
-gathered k ls = record { calendar = k; event = collected_of ls; zone = zone_of ls; observance = observance_of ls }
+-- what is collected of some lines, where these components are open
+abbrev pub gathered : List Open → List Placed → Gathered
+gathered path ls = record { calendar = calendar_of path; begun = innermost path; event = collected_of ls; zone = zone_of ls; observance = observance_of ls }
 
-start-flag-is : (q : Place) (k : ℕ) (ls : List Placed) → start_flag q (gathered k ls) ≡ has (codes "DTSTART") ls
+start-flag-is : (q : Place) (k : List Open) (ls : List Placed) → start_flag q (gathered k ls) ≡ has (codes "DTSTART") ls
 start-flag-is place.Observance k ls = has-first onset_on (codes "DTSTART") ls
 start-flag-is _ k ls = has-first dated_on (codes "DTSTART") ls
 
-rule-flag-is : (q : Place) (k : ℕ) (ls : List Placed) → rule_flag q (gathered k ls) ≡ has (codes "RRULE") ls
+rule-flag-is : (q : Place) (k : List Open) (ls : List Placed) → rule_flag q (gathered k ls) ≡ has (codes "RRULE") ls
 rule-flag-is place.Observance k ls = has-first rule_on (codes "RRULE") ls
 rule-flag-is _ k ls = has-first rule_on (codes "RRULE") ls
 
-flag-gathered : (n : Name) (q : Place) (k : ℕ) (u : List ℕ) (ls : List Placed) → Tells u n → flag n q (gathered k ls) (has u ls) ≡ has u ls
+flag-gathered : (n : Name) (q : Place) (k : List Open) (u : List ℕ) (ls : List Placed) → Tells u n → flag n q (gathered k ls) (has u ls) ≡ has u ls
 flag-gathered name.Uid q k u ls e = rw e (has-first (λ line. text_of (value line)) (codes "UID") ls)
 flag-gathered name.Dtstart q k u ls e = rw e (start-flag-is q k ls)
 flag-gathered name.Dtend q k u ls e = rw e (has-first dated_on (codes "DTEND") ls)
@@ -99,7 +99,7 @@ flag-gathered name.OffsetTo q k u ls e = rw e (has-first offset_on (codes "TZOFF
 flag-gathered _ q k u ls e = refl
 
 -- the fields of a component of a time zone are all there
-fields-are : (q : Place) (k : ℕ) (ls : List Placed) → has_all (field_names q) ls ≡ has_fields q (gathered k ls)
+fields-are : (q : Place) (k : List Open) (ls : List Placed) → has_all (field_names q) ls ≡ has_fields q (gathered k ls)
 fields-are place.Zone k ls = ap (λ t. t && true) (sym (has-first (λ line. text_of (value line)) (codes "TZID") ls))
 fields-are place.Observance k ls =
     ap (λ t. t && (has (codes "TZOFFSETFROM") ls && (has (codes "TZOFFSETTO") ls && true))) (sym (has-first onset_on (codes "DTSTART") ls))
@@ -114,10 +114,10 @@ top_component (c ∷ cs) = component_of c.name
 
 -- the frame that a path and the lines directly in its innermost component stand for
 abbrev pub frame_of : List Open → List Placed → Frame
-frame_of path ls = frame_at (top_component path) (place_of path) (gathered (calendar_of path) ls)
+frame_of path ls = frame_at (top_component path) (place_of path) (gathered path ls)
 
 -- what the table reads of the lines beside, as the pass keeps it
-tests-same : (u : List ℕ) (v : Parts) (q : Place) (k : ℕ) (cl deep h : Bool) (ls : List Placed) →
+tests-same : (u : List ℕ) (v : Parts) (q : Place) (k : List Open) (cl deep h : Bool) (ls : List Placed) →
     flat u (map upper v.value) v q cl deep (is_filled (first_text (codes "UID") ls)) (has (codes "DTSTART") ls)
     ((has (codes "DTEND") ls && has (codes "DURATION") ls) || ends_badly (first_dated (codes "DTSTART") ls) (first_dated (codes "DTEND") ls)) (list_any begins_observance ls) (has_all (field_names q) ls) h
     ≡ flat u (map upper v.value) v q cl deep (is_filled (collected_of ls).uid) (is_some (collected_of ls).start) (bad_end_of (collected_of ls)) (zone_of ls).has_observance (has_fields q (gathered k ls)) h
@@ -136,11 +136,11 @@ pub least-same : (path : List Open) (number : ℕ) (parts : Parts) (ls : List Pl
     find (λ k. stands k ls (record { number = number; content = Some parts; path = path })) kinds ≡ fault_in (read_in (frame_of path ls) parts) (frame_of path ls) (length path)
 least-same [] number parts ls =
     let u : List ℕ = map upper parts.name in
-    tests-same u parts place.Outside 0 false (nat_le 32 0) (has u ls) ls
-    ∙ same (name_of u) u parts (component.Other []) place.Outside false 0 (gathered 0 ls) (has u ls) (tells u) (flag-gathered (name_of u) place.Outside 0 u ls (tells u)) (λ e. cc)
+    tests-same u parts place.Outside [] false (nat_le 32 0) (has u ls) ls
+    ∙ same (name_of u) u parts (component.Other []) place.Outside false 0 (gathered [] ls) (has u ls) (tells u) (flag-gathered (name_of u) place.Outside [] u ls (tells u)) (λ e. cc)
 least-same (c ∷ cs) number parts ls =
     let u : List ℕ = map upper parts.name in
     let cl : Bool = closes (c ∷ cs) (map upper parts.value) in
-    tests-same u parts (place_of (c ∷ cs)) (calendar_of (c ∷ cs)) cl (nat_le 32 (length (c ∷ cs))) (has u ls) ls
-    ∙ same (name_of u) u parts (component_of c.name) (place_of (c ∷ cs)) cl (length (c ∷ cs)) (gathered (calendar_of (c ∷ cs)) ls) (has u ls) (tells u) (flag-gathered (name_of u) (place_of (c ∷ cs)) (calendar_of (c ∷ cs)) u ls (tells u))
+    tests-same u parts (place_of (c ∷ cs)) (c ∷ cs) cl (nat_le 32 (length (c ∷ cs))) (has u ls) ls
+    ∙ same (name_of u) u parts (component_of c.name) (place_of (c ∷ cs)) cl (length (c ∷ cs)) (gathered (c ∷ cs) ls) (has u ls) (tells u) (flag-gathered (name_of u) (place_of (c ∷ cs)) (c ∷ cs) u ls (tells u))
     (λ e. ap (bytes_eq (map upper parts.value)) (component_name-of c.name))

@@ -2,33 +2,33 @@
 use Rattle.std.proofs.Common.{◌≡◌, ◌⊎◌, ℕ, ◌+◌, ◌<◌, ◌^◌, Bool, true, false, List, [], ◌∷◌, refl, sym, ap, ◌∙◌, arith, cond, Option, Some, None, Result, Ok, Err, inl, inr}
 use Rattle.std.specs.Prelude.{IsTrue}
 use Rattle.ics_text.specs.Unfolded.{Line, Rises, Within, unfolded, begins_with_fold}
-use Rattle.ics_calendar.specs.Event.{EventSeen, FileSeen}
+use Rattle.ics_calendar.specs.Event.{FileSaid}
 use Rattle.ics_calendar.specs.Faults.{stands, stands_later}
 use Rattle.ics_calendar.specs.FirstFault.{Fault, IsFirst, IsFirstOrLast, NoneStand, first_fault, later_fault, fault_at_end}
-use Rattle.ics_calendar.specs.Files.{IsFile, bad_fold, file_of, decide, events_of}
-use Rattle.ics_calendar.specs.Pass.{pass, bottom}
+use Rattle.ics_calendar.specs.Files.{IsFile, bad_fold, file_of, decide, said_of}
+use Rattle.ics_calendar.specs.Gathered.{settled_of}
+use Rattle.ics_calendar.specs.Gathering.{nothing_gathered}
+use Rattle.ics_calendar.specs.Pass.{pass, bottom, unless}
 use Rattle.ics_calendar.specs.Placed.{Placed, placed}
 use Rattle.ics_calendar.specs.Seen.{NumbersFit}
+use Rattle.ics_calendar.specs.Zones.{zones_on}
 use Rattle.ics_calendar.proofs.Firsts.{Finds, finds, finds-none, found-at-end, found-on-line}
-use Rattle.ics_calendar.proofs.Order.{events_from-begun}
-use Rattle.ics_calendar.proofs.Ended.{events_from}
-use Rattle.ics_calendar.proofs.PassLemmas.{pass-whole}
+use Rattle.ics_calendar.proofs.PassLemmas.{gathered_from, pass-whole}
+use Rattle.ics_calendar.proofs.Settles.{settled-is}
 
 pub fits-from_within : (n : ℕ) (lines : List Line) → n + 1 < 2 ^ 64 → Within n lines → NumbersFit lines
 fits-from_within n [] l h = tt
 fits-from_within n (line ∷ lines) l h = (omega (arith, l, h.0), fits-from_within n lines l h.1)
 
--- the events count only where there is no fault
-decide-events : (first later : Option Fault) (es fs : List EventSeen) → (first ≡ None → es ≡ fs) → decide first later es ≡ decide first later fs
-decide-events (Some f) later es fs h = refl
-decide-events None (Some f) es fs h = refl
-decide-events None None es fs h = ap (decide None None) (h refl)
-
-pub file_of-pass : (file : List ℕ) → begins_with_fold file ≡ false → Rises 0 (unfolded file) → file_of file ≡ pass (bottom ∷ []) None None [] [] (unfolded file)
+pub file_of-pass : (file : List ℕ) → begins_with_fold file ≡ false → Rises 0 (unfolded file) → file_of file ≡ settled_of (pass (bottom ∷ []) None nothing_gathered (unfolded file))
 file_of-pass file f r =
-    ap (λ t. cond t (Err bad_fold) (decide (first_fault (placed file)) (later_fault (placed file)) (events_of (placed file)))) f
-    ∙ sym (decide-events (first_fault (placed file)) (later_fault (placed file)) (events_from [] (placed file)) (events_of (placed file)) (events_from-begun (unfolded file) r))
-    ∙ sym (pass-whole (unfolded file) r)
+    ap (λ t. cond t (Err bad_fold) (decide (first_fault (placed file)) (later_fault (placed file)) (said_of (placed file)))) f
+    ∙ by_first (first_fault (placed file)) refl
+    ∙ ap settled_of (sym (pass-whole (unfolded file) r))
+  where
+    by_first : (o : Option Fault) → first_fault (placed file) ≡ o → decide o (later_fault (placed file)) (said_of (placed file)) ≡ settled_of (unless o (gathered_from nothing_gathered [] (placed file)))
+    by_first (Some fault) e = refl
+    by_first None e = sym (settled-is (unfolded file) r e)
 
 pub not_true : (b : Bool) → (IsTrue b → ⊥) → b ≡ false
 not_true true h = absurd (h refl)
@@ -39,23 +39,23 @@ none_later before = None
 
 -- WHAT A FILE IS, by its first faults.
 decided : (file : List ℕ) → begins_with_fold file ≡ false → (first later : Option Fault) → first_fault (placed file) ≡ first → later_fault (placed file) ≡ later →
-    IsFile file (decide first later (events_of (placed file)))
+    IsFile file (decide first later (said_of (placed file)))
 decided file b (Some f) later e g = inr (b, inl (finds stands fault_at_end [] (placed file) f e))
 decided file b None (Some f) e g =
     let none = finds-none stands fault_at_end [] (placed file) e in
-    inr (b, inr (none.0, none.1, on_line (finds (stands_later (placed file)) none_later [] (placed file) f g)))
+    inr (b, inr (none.0, none.1, on_line (finds (stands_later (zones_on (placed file))) none_later [] (placed file) f g)))
   where
-    on_line : Finds (stands_later (placed file)) none_later [] (placed file) f → IsFirst (stands_later (placed file)) [] (placed file) f
+    on_line : Finds (stands_later (zones_on (placed file))) none_later [] (placed file) f → IsFirst (stands_later (zones_on (placed file))) [] (placed file) f
     on_line (inl r) = r
     on_line (inr r) = let n : None ≡ Some f = r.1 in cc
 decided file b None None e g =
     let none = finds-none stands fault_at_end [] (placed file) e in
-    (b, none.0, none.1, (finds-none (stands_later (placed file)) none_later [] (placed file) g).0, refl)
+    (b, none.0, none.1, (finds-none (stands_later (zones_on (placed file))) none_later [] (placed file) g).0, refl)
 
 pub is-file : (file : List ℕ) → IsFile file (file_of file)
 is-file file = by_fold (begins_with_fold file) refl
   where
-    by_fold : (t : Bool) → begins_with_fold file ≡ t → IsFile file (cond t (Err bad_fold) (decide (first_fault (placed file)) (later_fault (placed file)) (events_of (placed file))))
+    by_fold : (t : Bool) → begins_with_fold file ≡ t → IsFile file (cond t (Err bad_fold) (decide (first_fault (placed file)) (later_fault (placed file)) (said_of (placed file))))
     by_fold true e = inl (e, refl)
     by_fold false e = decided file e (first_fault (placed file)) (later_fault (placed file)) refl refl
 
@@ -63,20 +63,20 @@ first-is : (file : List ℕ) (f : Fault) → IsFirstOrLast (placed file) f → f
 first-is file f (inl r) = found-on-line stands fault_at_end [] (placed file) f r
 first-is file f (inr r) = found-at-end stands fault_at_end [] (placed file) (Some f) r.0 r.1
 
-whole-is : (file : List ℕ) (first later : Option Fault) → begins_with_fold file ≡ false → first_fault (placed file) ≡ first → later_fault (placed file) ≡ later → file_of file ≡ decide first later (events_of (placed file))
+whole-is : (file : List ℕ) (first later : Option Fault) → begins_with_fold file ≡ false → first_fault (placed file) ≡ first → later_fault (placed file) ≡ later → file_of file ≡ decide first later (said_of (placed file))
 whole-is file first later b e g =
-    ap (λ t. cond t (Err bad_fold) (decide (first_fault (placed file)) (later_fault (placed file)) (events_of (placed file)))) b
-    ∙ ap (λ f. decide f (later_fault (placed file)) (events_of (placed file))) e
-    ∙ ap (λ f. decide first f (events_of (placed file))) g
+    ap (λ t. cond t (Err bad_fold) (decide (first_fault (placed file)) (later_fault (placed file)) (said_of (placed file)))) b
+    ∙ ap (λ f. decide f (later_fault (placed file)) (said_of (placed file))) e
+    ∙ ap (λ f. decide first f (said_of (placed file))) g
 
 -- and it is nothing else
-pub file-is : (file : List ℕ) (answer : Result FileSeen Fault) → IsFile file answer → file_of file ≡ answer
-file-is file (Err f) (inl h) = ap (λ t. cond t (Err bad_fold) (decide (first_fault (placed file)) (later_fault (placed file)) (events_of (placed file)))) h.0 ∙ ap (λ (g : Fault). Err g) (sym h.1)
+pub file-is : (file : List ℕ) (answer : Result FileSaid Fault) → IsFile file answer → file_of file ≡ answer
+file-is file (Err f) (inl h) = ap (λ t. cond t (Err bad_fold) (decide (first_fault (placed file)) (later_fault (placed file)) (said_of (placed file)))) h.0 ∙ ap (λ (g : Fault). Err g) (sym h.1)
 file-is file (Err f) (inr h) = by_round h.1
   where
-    by_round : IsFirstOrLast (placed file) f ⊎ (NoneStand stands [] (placed file) × (fault_at_end (placed file) ≡ None) × IsFirst (stands_later (placed file)) [] (placed file) f) → file_of file ≡ Err f
+    by_round : IsFirstOrLast (placed file) f ⊎ (NoneStand stands [] (placed file) × (fault_at_end (placed file) ≡ None) × IsFirst (stands_later (zones_on (placed file))) [] (placed file) f) → file_of file ≡ Err f
     by_round (inl r) = whole-is file (Some f) (later_fault (placed file)) h.0 (first-is file f r) refl
-    by_round (inr r) = whole-is file None (Some f) h.0 (found-at-end stands fault_at_end [] (placed file) None r.0 r.1) (found-on-line (stands_later (placed file)) none_later [] (placed file) f r.2)
+    by_round (inr r) = whole-is file None (Some f) h.0 (found-at-end stands fault_at_end [] (placed file) None r.0 r.1) (found-on-line (stands_later (zones_on (placed file))) none_later [] (placed file) f r.2)
 file-is file (Ok seen) h =
-    whole-is file None None h.0 (found-at-end stands fault_at_end [] (placed file) None h.1 h.2) (found-at-end (stands_later (placed file)) none_later [] (placed file) None h.3 refl)
-    ∙ ap (λ (s : FileSeen). Ok s) (sym h.4)
+    whole-is file None None h.0 (found-at-end stands fault_at_end [] (placed file) None h.1 h.2) (found-at-end (stands_later (zones_on (placed file))) none_later [] (placed file) None h.3 refl)
+    ∙ ap (λ (s : FileSaid). Ok s) (sym h.4)

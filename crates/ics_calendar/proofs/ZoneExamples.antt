@@ -2,7 +2,7 @@
 use Rattle.std.proofs.Common.{◌≡◌, ℕ, List, [], ◌∷◌, ◌++◌, refl, None}
 use Rattle.std.specs.Prelude.{codes}
 use Rattle.ics_values.specs.Rules.{rule_of}
-use Rattle.ics_calendar.specs.declared.fault.FaultKind.TheVariants.{BadDuration, BadNesting, BadOffset, BadRule, BadStamp, NoObservance, NotYet, NumberTooLarge, ObservanceField, UnknownZone, YearRange, ZoneRule}
+use Rattle.ics_calendar.specs.declared.fault.FaultKind.TheVariants.{BadDuration, BadNesting, BadOffset, BadRule, BadStamp, NoObservance, NumberTooLarge, ObservanceField, UnknownZone, YearRange, ZoneRule}
 use Rattle.ics_calendar.proofs.ExampleFiles.{calendar, fault, at}
 
 abbrev zone : List (List ℕ) → List ℕ
@@ -93,6 +93,18 @@ bad_rule : fault (standard (codes "RRULE:FREQ=DAILY" ∷ codes "RRULE:FREQ" ∷ 
 unfolding rule_of
 bad_rule = refl
 
+-- New York from 2007 on
+abbrev new_york : List (List ℕ)
+new_york =
+    codes "BEGIN:VTIMEZONE" ∷ codes "TZID:NY"
+    ∷ codes "BEGIN:STANDARD" ∷ codes "DTSTART:20071104T020000" ∷ codes "TZOFFSETFROM:-0400" ∷ codes "TZOFFSETTO:-0500" ∷ codes "RRULE:FREQ=YEARLY;BYMONTH=11;BYDAY=1SU" ∷ codes "END:STANDARD"
+    ∷ codes "BEGIN:DAYLIGHT" ∷ codes "DTSTART:20070311T020000" ∷ codes "TZOFFSETFROM:-0500" ∷ codes "TZOFFSETTO:-0400" ∷ codes "RRULE:FREQ=YEARLY;BYMONTH=3;BYDAY=2SU" ∷ codes "END:DAYLIGHT"
+    ∷ codes "END:VTIMEZONE" ∷ []
+
+accepted : fault (calendar new_york) ≡ None
+unfolding rule_of
+accepted = refl
+
 -- other properties, and components inside, are skipped
 skipped : fault (standard (fields ++ codes "DTEND:x" ∷ codes "EXRULE:x" ∷ codes "DURATION:x" ∷ codes "BEGIN:X" ∷ codes "DTSTART:x" ∷ codes "END:X" ∷ [])) ≡ None
 skipped = refl
@@ -104,16 +116,16 @@ known name = codes "BEGIN:VTIMEZONE" ∷ name ++ codes "BEGIN:STANDARD" ∷ fiel
 abbrev used : List ℕ → List (List ℕ)
 used start = codes "BEGIN:VEVENT" ∷ codes "UID:a" ∷ start ∷ codes "END:VEVENT" ∷ []
 
-zone_before : fault (calendar (known (codes "TZID:E" ∷ []) ++ used (codes "DTSTART;TZID=E:20240105T100000"))) ≡ at 12 NotYet
+zone_before : fault (calendar (known (codes "TZID:E" ∷ []) ++ used (codes "DTSTART;TZID=E:20240105T100000"))) ≡ None
 zone_before = refl
 
-zone_behind : fault (calendar (used (codes "DTSTART;TZID=E:20240105T100000") ++ known (codes "TZID:E" ∷ []))) ≡ at 4 NotYet
+zone_behind : fault (calendar (used (codes "DTSTART;TZID=E:20240105T100000") ++ known (codes "TZID:E" ∷ []))) ≡ None
 zone_behind = refl
 
 other_zone : fault (calendar (known (codes "TZID:E" ∷ []) ++ used (codes "DTSTART;TZID=e:20240105T100000"))) ≡ at 12 UnknownZone
 other_zone = refl
 
-escaped : fault (calendar (known (codes "TZID:E\\,F" ∷ []) ++ used (codes "DTSTART;TZID=\"E,F\":20240105T100000"))) ≡ at 12 NotYet
+escaped : fault (calendar (known (codes "TZID:E\\,F" ∷ []) ++ used (codes "DTSTART;TZID=\"E,F\":20240105T100000"))) ≡ None
 escaped = refl
 
 other_calendar : fault (calendar (known (codes "TZID:E" ∷ [])) ++ calendar (used (codes "DTSTART;TZID=E:20240105T100000"))) ≡ at 14 UnknownZone

@@ -1,14 +1,16 @@
 -- What is collected of an event, line by line.
-use Rattle.std.specs.Prelude.{true, false, List, [], codes, Option, Some, None, option_map, unwrap_or}
+use Rattle.std.specs.Prelude.{ℕ, true, false, List, [], codes, Option, Some, None, option_map, unwrap_or}
 use Rattle.ics_values.specs.Integers.{integer_of}
 use Rattle.ics_calendar.specs.declared.collected.Collected.{Collected}
+use Rattle.ics_calendar.specs.declared.gathered.EndedEvent.{EndedEvent}
+use Rattle.ics_calendar.specs.declared.later.ZoneName.{ZoneName}
 use Rattle.ics_calendar.specs.declared.property.Property.{Property}
 use Rattle.ics_calendar.specs.declared.property.Property.TheVariants as property
 use Rattle.ics_calendar.specs.Event.{EventSeen}
 use Rattle.ics_calendar.specs.Placed.{Placed, value, has, first_named}
 use Rattle.ics_calendar.specs.Values.{rule_in, ok_or_zero, is_cancelled}
 use Rattle.ics_calendar.specs.Faults.{first_text, first_dated, lasting_on, rule_on}
-use Rattle.ics_calendar.specs.Files.{time_of, length_of}
+use Rattle.ics_calendar.specs.Times.{time_of, length_of}
 
 -- WHAT IS COLLECTED, as read of the lines that stand directly in the event.
 abbrev pub collected_of : List Placed → Collected
@@ -29,19 +31,22 @@ collected_of lines = record {
 abbrev pub nothing : Collected
 nothing = record { uid = None; start = None; end = None; duration = None; rule = None; has_recurrence = false; sequence = None; title = None; location = None; description = None; cancelled = None }
 
--- the event of what is collected
-abbrev pub event_of : Collected → EventSeen
-event_of had = record {
+-- the event of what is collected in a calendar, given the index of the zone that a name stands for
+abbrev pub event_from : (ZoneName → Option ℕ) → ℕ → Collected → EventSeen
+event_from index calendar had = record {
   uid = unwrap_or had.uid [];
   sequence = unwrap_or had.sequence 0;
-  start = time_of had.start;
-  length = length_of had.end had.duration;
+  start = time_of index calendar had.start;
+  length = length_of index calendar had.end had.duration;
   rule = rule_in had.rule;
   title = unwrap_or had.title [];
   location = unwrap_or had.location [];
   description = unwrap_or had.description [];
   cancelled = unwrap_or had.cancelled false;
 }
+
+abbrev pub event_of : (ZoneName → Option ℕ) → EndedEvent → EventSeen
+event_of index event = event_from index event.calendar event.had
 
 -- WHAT IS COLLECTED with a line more. The first value of a property counts.
 abbrev pub or_first : {X : Type 0} → Option X → X → Option X

@@ -1,11 +1,14 @@
 -- An event of a file, as contracts see it, and what holds of each (RFC 5545, section 3.6.1).
-use Rattle.std.specs.Prelude.{◌≡◌, ◌≢◌, ℕ, ◌+◌, ◌*◌, ◌<◌, ◌≤◌, Bool, true, false, IsTrue, List, [], Option, is_some, IfSome, All, ℤ, pos, ◌≤ℤ◌, ◌+ℤ◌, ◌*ℤ◌}
+use Rattle.std.specs.Prelude.{◌≡◌, ◌≢◌, ℕ, ◌+◌, ◌*◌, ◌<◌, ◌≤◌, ◌==◌, Bool, true, false, IsTrue, List, [], map, Option, Some, None, is_some, ◌||◌, length, slice_get, IfSome, All, ℤ, pos, ◌≤ℤ◌, ◌+ℤ◌, ◌*ℤ◌}
 use Rattle.ics_values.specs.RuleParts.{RuleParts}
 use Rattle.ics_values.specs.Stamps.{stamp_day, IsStampDay}
 use Rattle.ics_values.specs.declared.local.Local.{Local}
 use Rattle.ics_values.specs.declared.duration.Duration.{Duration}
 use Rattle.ics_values.specs.declared.stamp.Stamp.{Stamp}
 use Rattle.ics_values.specs.declared.stamp.Stamp.TheVariants.{Date, Floating, Utc, Zoned}
+use Rattle.ics_zone.specs.Moments.{zone_moment}
+use Rattle.ics_zone.specs.Observances.{Phase}
+use Rattle.ics_zone.specs.Tables.{Timeline, phases_of}
 use Rattle.ics_calendar.specs.declared.time.Time.{Time}
 use Rattle.ics_calendar.specs.declared.time.Length.{Length}
 use Rattle.ics_calendar.specs.declared.time.Length.TheVariants.{Open, Until, Lasting}
@@ -22,9 +25,18 @@ pub record EventSeen : Type 0 where
   pub description : List ℕ
   pub cancelled : Bool
 
--- A file: its events, in the order of their BEGIN lines.
-pub record FileSeen : Type 0 where
+-- WHAT A FILE SAYS: its time zones, each by its observances, and its events, each in the order of their BEGIN lines.
+pub record FileSaid : Type 0 where
+  pub zones : List (List Phase)
   pub events : List EventSeen
+
+-- A file that has been read. Its zones have been reached up to some instant, which changes nothing of what it says.
+pub record FileSeen : Type 0 where
+  pub zones : List Timeline
+  pub events : List EventSeen
+
+abbrev pub said_by : FileSeen → FileSaid
+said_by file = record { zones = map phases_of file.zones; events = file.events }
 
 abbrev pub is_zoned : Stamp → Bool
 is_zoned (Zoned local) = true
@@ -41,6 +53,13 @@ longest = 36_525 * 86_400
 
 abbrev pub seconds_of : Local → ℤ
 seconds_of local = local.day *ℤ pos 86_400 +ℤ pos local.second
+
+-- the seconds of a stamp's local
+abbrev pub stamp_seconds : Stamp → ℤ
+stamp_seconds (Date day) = day *ℤ pos 86_400
+stamp_seconds (Floating local) = seconds_of local
+stamp_seconds (Utc local) = seconds_of local
+stamp_seconds (Zoned local) = seconds_of local
 
 -- The end is not before the start, nor past the longest event from there.
 pub record IsWithin (start end : ℤ) : Type 0 where
@@ -82,6 +101,37 @@ pub record HasZonesBelow (zones : ℕ) (event : EventSeen) : Type 0 where
   pub start : IfSome event.start.zone (λ zone. zone < zones)
   pub length : EndsBelow zones event.length
 
--- What holds of the events of a file that has no zones.
-abbrev pub AreEvents : List EventSeen → Type 0
-AreEvents events = All (HasZonesBelow 0) events
+-- the instant that a local means in a zone, if there is one
+abbrev pub moment_by : Option (List Phase) → Local → ℤ
+moment_by (Some zone) local = zone_moment zone (seconds_of local)
+moment_by None local = seconds_of local
+
+-- the instant of a stamp in UTC, or in one of these zones
+abbrev pub moment_in : List (List Phase) → Option ℕ → Stamp → ℤ
+moment_in zones (Some index) (Zoned local) = moment_by (slice_get zones index) local
+moment_in zones _ (Utc local) = seconds_of local
+moment_in zones _ _ = pos 0
+
+abbrev pub is_one_zone : Option ℕ → Option ℕ → Bool
+is_one_zone (Some a) (Some b) = a == b
+is_one_zone _ _ = false
+
+-- two times of one zone compare as locals, others as instants
+abbrev pub compared : Bool → List (List Phase) → Time → ℤ
+compared true zones time = stamp_seconds time.stamp
+compared false zones time = moment_in zones time.zone time.stamp
+
+-- Where DTSTART or DTEND has a zone, the end is within reach of the start.
+abbrev pub EndsWithin : List (List Phase) → Time → Length → Type 0
+EndsWithin zones start (Until end) =
+    (is_some start.zone || is_some end.zone) ≡ true
+    → IsWithin (compared (is_one_zone start.zone end.zone) zones start) (compared (is_one_zone start.zone end.zone) zones end)
+EndsWithin zones start _ = Unit {0}
+
+-- What holds of each event of a file with these zones.
+pub record IsEventOf (zones : List (List Phase)) (event : EventSeen) : Type 0 where
+  pub below : HasZonesBelow (length zones) event
+  pub short : EndsWithin zones event.start event.length
+
+abbrev pub AreEventsOf : List (List Phase) → List EventSeen → Type 0
+AreEventsOf zones events = All (IsEventOf zones) events

@@ -1,5 +1,5 @@
 -- WHICH FAULT STANDS ON WHICH LINE: one case for each kind (RFC 5545, sections 3.1, 3.4, 3.6.1, 3.6.5 and 3.8).
-use Rattle.std.specs.Prelude.{ℕ, Bool, false, ◌&&◌, ◌||◌, not, nat_le, ◌==◌, List, [], ◌∷◌, unwrap_or, length, codes, Option, is_some, is_none, option_map, Result, if◌then◌else◌}
+use Rattle.std.specs.Prelude.{ℕ, Bool, false, ◌&&◌, ◌||◌, not, nat_le, List, [], ◌∷◌, length, codes, Option, is_some, is_none, option_map, Result, if◌then◌else◌}
 use Rattle.std.specs.List.{list_any}
 use Rattle.std.specs.Str.{bytes_eq}
 use Rattle.ics_values.specs.Integers.{integer_of}
@@ -18,9 +18,10 @@ use Rattle.ics_calendar.specs.declared.date_values.DateValue.TheVariants.{At}
 use Rattle.ics_calendar.specs.declared.dated.Dated.{Dated}
 use Rattle.ics_calendar.specs.declared.fault.FaultKind.{FaultKind}
 use Rattle.ics_calendar.specs.declared.fault.FaultKind.TheVariants.{BadLine, BadStamp, BadDuration, BadOffset, BadRule, YearRange, NumberTooLarge, NoObservance, ObservanceField, ZoneRule, NotCalendar, BadNesting, TooDeep, MissingUid, MissingStart, Repeated, BadEnd, UnknownZone, ThisAndFuture, Exrule, OldVersion, NotYet}
-use Rattle.ics_calendar.specs.Placed.{Placed, place_of, property_name, value, params_of, is_named, is_one_of, param, is_begin, is_end, is_outside, in_calendar, in_event, in_zone, in_observance, calendar_of, begins, is_closing, ends_event, ends_zone, begins_observance, has, has_all, first_named}
+use Rattle.ics_calendar.specs.Placed.{Placed, place_of, property_name, value, params_of, is_named, is_one_of, param, is_begin, is_end, is_outside, in_calendar, in_event, in_observance, calendar_of, begins, is_closing, ends_event, ends_zone, begins_observance, has, has_all, first_named}
+use Rattle.ics_calendar.specs.Laters.{KnownZones, zone_used, ends_badly_later}
 use Rattle.ics_calendar.specs.DateValues.{rdates_of, exdates_of, has_bad_stamp, has_far_stamp, has_bad_duration, has_large_duration, is_not_local}
-use Rattle.ics_calendar.specs.Values.{zone_name, dated_of, is_bad_stamp, is_far_stamp, is_zoned_stamp, lasting_of, is_bad_duration, is_large_duration, is_bad_offset, is_bad_rule, is_large_rule, is_fine_rule, is_large_integer, is_filled, ends_badly, ends_badly_later}
+use Rattle.ics_calendar.specs.Values.{zone_name, dated_of, is_bad_stamp, is_far_stamp, is_zoned_stamp, lasting_of, is_bad_duration, is_large_duration, is_bad_offset, is_bad_rule, is_large_rule, is_fine_rule, is_large_integer, is_filled, ends_badly}
 
 -- the properties of an event that hold one stamp, those that it has at most once, and those that are not read yet
 abbrev pub stamp_names : List (List ℕ)
@@ -131,23 +132,18 @@ stands OldVersion beside line = in_calendar line && is_named (codes "VERSION") l
 stands NotYet beside line = is_event_property unread_names line
 stands _ beside line = false
 
--- the TZID of a time zone of that calendar, which is this name when its escapes are read
-abbrev pub defines : ℕ → List ℕ → Placed → Bool
-defines calendar name line = in_zone line && is_named (codes "TZID") line && calendar == calendar_of line.path && bytes_eq name (text_of (value line))
-
--- a stamp in a time zone, and whether some line of its calendar defines that
+-- a stamp in a time zone, and whether its calendar has one of that name
 abbrev pub is_in_zone : Placed → Bool
 is_in_zone line = is_event_property stamp_names line && is_zoned_stamp (dated_on line).stamp
 
-abbrev pub has_zone : List Placed → Placed → Bool
-has_zone lines line = list_any (defines (calendar_of line.path) (unwrap_or (dated_on line).zone [])) lines
+abbrev pub has_zone : KnownZones → Placed → Bool
+has_zone known line = is_some (known.index (zone_used (calendar_of line.path) (dated_on line)))
 
--- THE SECOND ROUND, of zones and instants, given all lines of the file. (A stamp in a zone is not read yet.)
-abbrev pub stands_later : List Placed → FaultKind → List Placed → Placed → Bool
-stands_later lines BadEnd beside line = ends_event line && ends_badly_later (first_dated (codes "DTSTART") beside) (first_dated (codes "DTEND") beside)
-stands_later lines UnknownZone beside line = is_in_zone line && not (has_zone lines line)
-stands_later lines NotYet beside line = is_in_zone line && has_zone lines line
-stands_later lines _ beside line = false
+-- THE SECOND ROUND, of zones and instants, given the time zones of the file.
+abbrev pub stands_later : KnownZones → FaultKind → List Placed → Placed → Bool
+stands_later known BadEnd beside line = ends_event line && ends_badly_later known (calendar_of line.path) (first_dated (codes "DTSTART") beside) (first_dated (codes "DTEND") beside)
+stands_later known UnknownZone beside line = is_in_zone line && not (has_zone known line)
+stands_later known _ beside line = false
 
 -- the kinds of faults on lines, the least first
 abbrev pub kinds : List FaultKind

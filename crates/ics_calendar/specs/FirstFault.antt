@@ -4,6 +4,7 @@ use Rattle.ics_calendar.specs.declared.fault.FaultKind.{FaultKind}
 use Rattle.ics_calendar.specs.declared.fault.FaultKind.TheVariants.{NotCalendar, BadNesting}
 use Rattle.ics_calendar.specs.Placed.{Placed, Open, path_behind, beside}
 use Rattle.ics_calendar.specs.Faults.{stands, stands_later, kinds}
+use Rattle.ics_calendar.specs.Zones.{zones_on}
 
 -- A fault on a line.
 pub record Fault : Type 0 where
@@ -67,4 +68,4 @@ abbrev pub first_fault : List Placed → Option Fault
 first_fault lines = first_from stands fault_at_end [] lines
 
 abbrev pub later_fault : List Placed → Option Fault
-later_fault lines = first_from (stands_later lines) (λ before. None) [] lines
+later_fault lines = first_from (stands_later (zones_on lines)) (λ before. None) [] lines

@@ -1,20 +1,83 @@
--- What the second round looks at, and what becomes of it when all time zones of the file are known.
-use Rattle.std.specs.Prelude.{Bool, ◌&&◌, ◌==◌, List, if◌then◌else◌}
-use Rattle.std.specs.List.{list_any}
+-- What the second round looks at, and what becomes of it when all time zones of the file are known (RFC 5545, section 3.8.2.4).
+use Rattle.std.specs.Prelude.{ℕ, Bool, false, ◌&&◌, not, ◌==◌, List, slice_get, Option, Some, None, is_some, option_map, Result, Ok, ℤ, if◌then◌else◌}
+use Rattle.std.specs.List.{position}
+use Rattle.std.specs.Option.{option_and_then}
 use Rattle.std.specs.Str.{bytes_eq}
+use Rattle.ics_values.specs.declared.local.Local.{Local}
+use Rattle.ics_values.specs.declared.stamp.Stamp.{Stamp}
+use Rattle.ics_values.specs.declared.stamp.Stamp.TheVariants as stamp
+use Rattle.ics_values.specs.declared.stamp.StampFault.{StampFault}
+use Rattle.ics_zone.specs.Moments.{zone_moment}
+use Rattle.ics_zone.specs.Observances.{Phase}
+use Rattle.ics_calendar.specs.declared.dated.Dated.{Dated}
 use Rattle.ics_calendar.specs.declared.fault.FaultKind.{FaultKind}
-use Rattle.ics_calendar.specs.declared.fault.FaultKind.TheVariants.{BadEnd, UnknownZone, NotYet}
+use Rattle.ics_calendar.specs.declared.fault.FaultKind.TheVariants.{BadEnd, UnknownZone}
+use Rattle.ics_calendar.specs.declared.later.Instant.{Instant}
+use Rattle.ics_calendar.specs.declared.later.Instant.TheVariants as instant
 use Rattle.ics_calendar.specs.declared.later.Later.{Later}
 use Rattle.ics_calendar.specs.declared.later.Later.TheVariants as later
 use Rattle.ics_calendar.specs.declared.later.ZoneName.{ZoneName}
+use Rattle.ics_calendar.specs.Event.{seconds_of}
+use Rattle.ics_calendar.specs.Values.{is_zoned_stamp, tzid, same_zone, is_out}
 
 -- the same name in the same calendar
 abbrev pub is_same : ZoneName → ZoneName → Bool
 is_same a b = a.calendar == b.calendar && bytes_eq a.name b.name
 
-abbrev pub is_known : List ZoneName → ZoneName → Bool
-is_known names name = list_any (is_same name) names
+-- Of several zones with one TZID in one calendar the first counts.
+abbrev pub zone_index : List ZoneName → ZoneName → Option ℕ
+zone_index names used = position (is_same used) names
 
-abbrev pub judged : List ZoneName → Later → FaultKind
-judged names later.End = BadEnd
-judged names (later.Zone name) = if is_known names name then NotYet else UnknownZone
+-- The time zones of a file, and the index of the one that a name stands for.
+pub record KnownZones : Type 0 where
+  pub index : ZoneName → Option ℕ
+  pub zones : List (List Phase)
+
+abbrev pub known_zones : List ZoneName → List (List Phase) → KnownZones
+known_zones names zones = record { index = zone_index names; zones = zones }
+
+-- the instant that a local means in the zone with an index, and in the one that a name stands for
+abbrev pub moment_at : List (List Phase) → Local → ℕ → Option ℤ
+moment_at zones local index = option_map (λ zone. zone_moment zone (seconds_of local)) (slice_get zones index)
+
+abbrev pub moment_there : KnownZones → ZoneName → Local → Option ℤ
+moment_there known name local = option_and_then (moment_at known.zones local) (known.index name)
+
+-- out of reach as instants, where there are both
+abbrev pub are_out : Option ℤ → Option ℤ → Bool
+are_out (Some start) (Some end) = is_out start end
+are_out _ _ = false
+
+-- THE STAMPS OF AN EVENT in a calendar: the name of the zone that a TZID gives, and the instant of a stamp in UTC, or in a zone that is known.
+abbrev pub zone_used : ℕ → Dated → ZoneName
+zone_used calendar dated = record { calendar = calendar; name = tzid dated }
+
+abbrev pub moment_on : KnownZones → ZoneName → Result Stamp StampFault → Option ℤ
+moment_on known name (Ok (stamp.Utc local)) = Some (seconds_of local)
+moment_on known name (Ok (stamp.Zoned local)) = moment_there known name local
+moment_on known name _ = None
+
+abbrev pub moment_in : KnownZones → ℕ → Dated → Option ℤ
+moment_in known calendar dated = moment_on known (zone_used calendar dated) dated.stamp
+
+-- two stamps beside one TZID, which the first round compares as locals
+abbrev pub are_of_one_zone : Dated → Dated → Bool
+are_of_one_zone a b = is_zoned_stamp a.stamp && (is_zoned_stamp b.stamp && same_zone a b)
+
+-- Which ends are out of reach of their starts as instants.
+abbrev pub ends_badly_later : KnownZones → ℕ → Option Dated → Option Dated → Bool
+ends_badly_later known calendar (Some start) (Some end) = not (are_of_one_zone start end) && are_out (moment_in known calendar start) (moment_in known calendar end)
+ends_badly_later known calendar _ _ = false
+
+-- WHAT BECOMES of what the second round looks at.
+abbrev pub moment_of : KnownZones → Instant → Option ℤ
+moment_of known (instant.Utc local) = Some (seconds_of local)
+moment_of known (instant.Zoned local name) = moment_there known name local
+
+abbrev pub ends_out : KnownZones → Instant → Instant → Bool
+ends_out known start end = are_out (moment_of known start) (moment_of known end)
+
+abbrev pub judged : KnownZones → Later → Option FaultKind
+judged known later.End = Some BadEnd
+judged known (later.Zone name) = if is_some (known.index name) then None else Some UnknownZone
+judged known (later.Ends start end) = if ends_out known start end then Some BadEnd else None

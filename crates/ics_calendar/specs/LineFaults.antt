@@ -1,9 +1,10 @@
 -- The fault on a line, by what its component has collected.
-use Rattle.std.specs.Prelude.{ℕ, Bool, true, ◌&&◌, ◌||◌, not, nat_le, List, [], ◌∷◌, length, unwrap_or, Option, Some, None, is_some, Result, ℤ, if◌then◌else◌}
+use Rattle.std.specs.Prelude.{ℕ, Bool, true, ◌&&◌, ◌||◌, not, nat_le, List, [], ◌∷◌, length, Option, Some, None, is_some, Result, Ok, ℤ, if◌then◌else◌}
 use Rattle.std.specs.List.{list_any}
 use Rattle.ics_values.specs.RuleParts.{RuleParts}
 use Rattle.ics_values.specs.declared.duration.Duration.{Duration}
 use Rattle.ics_values.specs.declared.stamp.Stamp.{Stamp}
+use Rattle.ics_values.specs.declared.stamp.Stamp.TheVariants as stamp
 use Rattle.ics_values.specs.declared.duration.DurationFault.{DurationFault}
 use Rattle.ics_values.specs.declared.integer.IntegerFault.{IntegerFault}
 use Rattle.ics_values.specs.declared.offset.BadOffset.{BadOffset}
@@ -19,6 +20,8 @@ use Rattle.ics_calendar.specs.declared.dated.Dated.{Dated}
 use Rattle.ics_calendar.specs.declared.fault.FaultKind.{FaultKind}
 use Rattle.ics_calendar.specs.declared.fault.FaultKind.TheVariants as kind
 use Rattle.ics_calendar.specs.declared.frame.Frame.{Frame}
+use Rattle.ics_calendar.specs.declared.later.Instant.{Instant}
+use Rattle.ics_calendar.specs.declared.later.Instant.TheVariants as instant
 use Rattle.ics_calendar.specs.declared.later.Later.{Later}
 use Rattle.ics_calendar.specs.declared.later.Later.TheVariants as later
 use Rattle.ics_calendar.specs.declared.later.ZoneName.{ZoneName}
@@ -28,8 +31,10 @@ use Rattle.ics_calendar.specs.declared.summary.ObservanceSummary.{ObservanceSumm
 use Rattle.ics_calendar.specs.declared.summary.Summary.{Summary}
 use Rattle.ics_calendar.specs.declared.summary.Summary.TheVariants as summary
 use Rattle.ics_calendar.specs.declared.summary.ZoneSummary.{ZoneSummary}
+use Rattle.ics_calendar.specs.Event.{seconds_of}
+use Rattle.ics_calendar.specs.Laters.{zone_used, are_of_one_zone}
 use Rattle.ics_calendar.specs.DateValues.{has_bad_stamp, has_far_stamp, has_bad_duration, has_large_duration, is_not_local}
-use Rattle.ics_calendar.specs.Values.{is_bad_stamp, is_far_stamp, is_zoned_stamp, is_bad_duration, is_large_duration, is_bad_offset, is_bad_rule, is_large_rule, is_fine_rule, is_large_integer, is_filled, ends_badly, ends_badly_later}
+use Rattle.ics_calendar.specs.Values.{is_bad_stamp, is_far_stamp, is_zoned_stamp, is_bad_duration, is_large_duration, is_bad_offset, is_bad_rule, is_large_rule, is_fine_rule, is_large_integer, is_filled, is_out, ends_badly}
 
 -- THE LEAST FAULT of the first round.
 abbrev pub begin_fault : ℕ → Option FaultKind
@@ -152,14 +157,40 @@ fault_on p (f ∷ fs) = fault_in p f (length fs)
 
 -- WHAT THE SECOND ROUND FINDS, to be judged when all time zones are known.
 abbrev pub used_zone : ℕ → Dated → Option Later
-used_zone calendar dated = if is_zoned_stamp dated.stamp then Some (later.Zone (record { calendar = calendar; name = unwrap_or dated.zone [] })) else None
+used_zone calendar dated = if is_zoned_stamp dated.stamp then Some (later.Zone (zone_used calendar dated)) else None
 
-abbrev pub later_end : Summary → Option Later
-later_end (summary.Event had) = if ends_badly_later had.start had.end then Some later.End else None
-later_end _ = None
+abbrev pub used_in : ℕ → Option Dated → Option Later
+used_in calendar None = None
+used_in calendar (Some dated) = used_zone calendar dated
+
+-- a stamp that is an instant: one in UTC, or in a time zone
+abbrev pub instant_on : ZoneName → Result Stamp StampFault → Option Instant
+instant_on name (Ok (stamp.Utc local)) = Some (instant.Utc local)
+instant_on name (Ok (stamp.Zoned local)) = Some (instant.Zoned local name)
+instant_on name _ = None
+
+abbrev pub instant_in : ℕ → Dated → Option Instant
+instant_in calendar dated = instant_on (zone_used calendar dated) dated.stamp
+
+-- Times of UTC compare at once, and other instants when the zones are known.
+abbrev pub compared : Instant → Instant → Option Later
+compared (instant.Utc a) (instant.Utc b) = if is_out (seconds_of a) (seconds_of b) then Some later.End else None
+compared a b = Some (later.Ends a b)
+
+abbrev pub both_compared : Option Instant → Option Instant → Option Later
+both_compared (Some a) (Some b) = compared a b
+both_compared _ _ = None
+
+abbrev pub ends_in : ℕ → Option Dated → Option Dated → Option Later
+ends_in calendar (Some start) (Some end) = if are_of_one_zone start end then None else both_compared (instant_in calendar start) (instant_in calendar end)
+ends_in calendar _ _ = None
+
+abbrev pub later_end : ℕ → Summary → Option Later
+later_end calendar (summary.Event had) = ends_in calendar had.start had.end
+later_end calendar _ = None
 
 abbrev pub later_in : Property → Frame → Option Later
-later_in (property.End true) f = later_end f.summary
+later_in (property.End true) f = later_end f.calendar f.summary
 later_in (property.Dtstart dated) f = used_zone f.calendar dated
 later_in (property.Dtend dated) f = used_zone f.calendar dated
 later_in (property.RecurrenceId dated range) f = used_zone f.calendar dated
@@ -168,12 +199,3 @@ later_in _ f = None
 abbrev pub later_on : Property → List Frame → Option Later
 later_on p [] = None
 later_on p (f ∷ fs) = later_in p f
-
--- THE TIME ZONE that a line names.
-abbrev pub named_in : Property → Frame → List ZoneName
-named_in (property.ZoneName name) f = record { calendar = f.calendar; name = name } ∷ []
-named_in _ f = []
-
-abbrev pub named_on : Property → List Frame → List ZoneName
-named_on p [] = []
-named_on p (f ∷ fs) = named_in p f

@@ -1,8 +1,7 @@
 -- One pass over the lines with the components that are open, the innermost first, each with what has been read of it.
-use Rattle.std.specs.Prelude.{ℕ, ◌+◌, Bool, true, false, List, [], ◌∷◌, ◌++◌, Option, Some, None, option_map, Result, Err, if◌then◌else◌}
+use Rattle.std.specs.Prelude.{ℕ, ◌+◌, Bool, true, false, List, [], ◌∷◌, unwrap_or, Option, Some, None, Result, Ok, Err, if◌then◌else◌}
 use Rattle.ics_text.specs.Unfolded.{Line}
 use Rattle.ics_text.specs.Contents.{Parts, content_of}
-use Rattle.ics_calendar.specs.declared.collected.Collected.{Collected}
 use Rattle.ics_calendar.specs.declared.component.Component.{Component}
 use Rattle.ics_calendar.specs.declared.component.Component.TheVariants as component
 use Rattle.ics_calendar.specs.declared.component.Place.{Place}
@@ -10,25 +9,23 @@ use Rattle.ics_calendar.specs.declared.component.Place.TheVariants as place
 use Rattle.ics_calendar.specs.declared.fault.FaultKind.{FaultKind}
 use Rattle.ics_calendar.specs.declared.fault.FaultKind.TheVariants as kind
 use Rattle.ics_calendar.specs.declared.frame.Frame.{Frame}
-use Rattle.ics_calendar.specs.declared.later.Later.{Later}
-use Rattle.ics_calendar.specs.declared.later.ZoneName.{ZoneName}
+use Rattle.ics_calendar.specs.declared.gathered.Ended.{Ended}
+use Rattle.ics_calendar.specs.declared.gathered.Ended.TheVariants as ended
 use Rattle.ics_calendar.specs.declared.property.Property.{Property}
 use Rattle.ics_calendar.specs.declared.property.Property.TheVariants as property
 use Rattle.ics_calendar.specs.declared.summary.Summary.{Summary}
 use Rattle.ics_calendar.specs.declared.summary.Summary.TheVariants as summary
 use Rattle.ics_calendar.specs.Components.{place_in}
-use Rattle.ics_calendar.specs.Event.{EventSeen, FileSeen}
 use Rattle.ics_calendar.specs.FirstFault.{Fault}
-use Rattle.ics_calendar.specs.Files.{decide}
+use Rattle.ics_calendar.specs.GatheredSeen.{GatheredSeen}
+use Rattle.ics_calendar.specs.Gathering.{and_waits, and_ended}
 use Rattle.ics_calendar.specs.Reading.{read_on}
-use Rattle.ics_calendar.specs.Collecting.{event_of}
 use Rattle.ics_calendar.specs.Summaries.{fresh, note}
-use Rattle.ics_calendar.specs.Laters.{judged}
-use Rattle.ics_calendar.specs.LineFaults.{fault_on, later_on, named_on}
+use Rattle.ics_calendar.specs.LineFaults.{fault_on, later_on}
 
 -- below all components
 abbrev pub bottom : Frame
-bottom = record { component = component.Other []; place = place.Outside; calendar = 0; summary = summary.Nothing }
+bottom = record { component = component.Other []; place = place.Outside; calendar = 0; begun = 0; summary = summary.Nothing }
 
 abbrev pub noted : Property → List Frame → List Frame
 noted p [] = []
@@ -44,7 +41,7 @@ abbrev pub opened : ℕ → Component → List Frame → List Frame
 opened number c [] = []
 opened number c (f ∷ fs) =
     let q : Place = place_in f.place c in
-    record { component = c; place = q; calendar = calendar_in number (f ∷ fs); summary = fresh q } ∷ noted (property.Begin c) (f ∷ fs)
+    record { component = c; place = q; calendar = calendar_in number (f ∷ fs); begun = number; summary = fresh q } ∷ noted (property.Begin c) (f ∷ fs)
 
 abbrev pub closed : List Frame → List Frame
 closed [] = []
@@ -56,19 +53,25 @@ behind number (property.Begin c) frames = opened number c frames
 behind number (property.End matches) frames = closed frames
 behind number p frames = noted p frames
 
--- the event that ends
-abbrev pub event_in : Summary → Option Collected
-event_in (summary.Event had) = Some had
-event_in _ = None
+-- What a component is when it has ended, by the number of the BEGIN line of the one that it stands in.
+abbrev pub ended_as : Frame → ℕ → Summary → Ended
+ended_as f outer (summary.Event had) = ended.Event (record { calendar = f.calendar; had = had })
+ended_as f outer (summary.Zone had) = ended.Zone (record { begun = f.begun; name = record { calendar = f.calendar; name = unwrap_or had.name [] } })
+ended_as f outer (summary.Observance had) = ended.Observance (record { zone = outer; had = had })
+ended_as f outer summary.Nothing = ended.Nothing
 
-abbrev pub closed_event : List Frame → Option Collected
-closed_event [] = None
-closed_event (f ∷ []) = None
-closed_event (f ∷ g ∷ gs) = event_in f.summary
+abbrev pub ended_in : ℕ → Frame → Ended
+ended_in outer f = ended_as f outer f.summary
 
-abbrev pub ended : Property → List Frame → Option Collected
-ended (property.End true) frames = closed_event frames
-ended _ frames = None
+-- what ends where the innermost component is closed, and what ends on a line
+abbrev pub closing : List Frame → Ended
+closing [] = ended.Nothing
+closing (f ∷ []) = ended.Nothing
+closing (f ∷ g ∷ gs) = ended_in g.begun f
+
+abbrev pub ends : Property → List Frame → Ended
+ends (property.End true) frames = closing frames
+ends _ frames = ended.Nothing
 
 -- WHERE THE LINES END, given the number of the last one.
 abbrev pub is_lowest : List Frame → Bool
@@ -80,42 +83,28 @@ abbrev pub at_end : List Frame → Option ℕ → Option Fault
 at_end frames None = Some (record { line = 1; kind = kind.NotCalendar })
 at_end frames (Some last) = if is_lowest frames then None else Some (record { line = last + 1; kind = kind.BadNesting })
 
--- THE PASS. What the second round finds waits until the first is over, and no event counts behind it. The names of time zones are gathered.
-abbrev pub or_else : {X : Type 0} → Option X → Option X → Option X
-or_else (Some x) later = Some x
-or_else None later = later
-
--- what waits, with the number of its line
-abbrev pub Waits : Type 0
-Waits = Option (ℕ × Later)
-
-abbrev pub waiting : ℕ → Option Later → Waits
-waiting number late = option_map (λ l. (number, l)) late
-
-abbrev pub given : Waits → Option Collected → List EventSeen
-given None (Some had) = event_of had ∷ []
-given _ _ = []
-
-abbrev pub refused : ℕ → Option FaultKind → Result FileSeen Fault → Result FileSeen Fault
+-- THE PASS is the first round alone. It gathers what ends, and what the second round looks at.
+abbrev pub refused : {X : Type 0} → ℕ → Option FaultKind → Result X Fault → Result X Fault
 refused number (Some kind) later = Err (record { line = number; kind = kind })
 refused number None later = later
 
-abbrev pub resolved : List ZoneName → Waits → Option Fault
-resolved names waits = option_map (λ w. record { line = w.0; kind = judged names w.1 }) waits
+abbrev pub unless : {X : Type 0} → Option Fault → X → Result X Fault
+unless (Some fault) answer = Err fault
+unless None answer = Ok answer
+
+abbrev pub gathered_behind : ℕ → Property → List Frame → GatheredSeen → GatheredSeen
+gathered_behind number p frames had = and_ended (ends p frames) (and_waits number (later_on p frames) had)
 
 abbrev pub Going : Type 0
-Going = List Frame → Waits → List ZoneName → List EventSeen → Result FileSeen Fault
+Going = List Frame → GatheredSeen → Result GatheredSeen Fault
 
-abbrev pub on_property : ℕ → Property → List Frame → Waits → List ZoneName → List EventSeen → Going → Result FileSeen Fault
-on_property number p frames pending names events later =
-    let waits = or_else pending (waiting number (later_on p frames)) in
-    refused number (fault_on p frames) (later (behind number p frames) waits (names ++ named_on p frames) (events ++ given waits (ended p frames)))
+abbrev pub on_property : ℕ → Property → List Frame → GatheredSeen → Going → Result GatheredSeen Fault
+on_property number p frames had later = refused number (fault_on p frames) (later (behind number p frames) (gathered_behind number p frames had))
 
-abbrev pub on_content : ℕ → Option Parts → List Frame → Waits → List ZoneName → List EventSeen → Going → Result FileSeen Fault
-on_content number None frames pending names events later = Err (record { line = number; kind = kind.BadLine })
-on_content number (Some parts) frames pending names events later = on_property number (read_on frames parts) frames pending names events later
+abbrev pub on_content : ℕ → Option Parts → List Frame → GatheredSeen → Going → Result GatheredSeen Fault
+on_content number None frames had later = Err (record { line = number; kind = kind.BadLine })
+on_content number (Some parts) frames had later = on_property number (read_on frames parts) frames had later
 
-abbrev pub pass : List Frame → Option ℕ → Waits → List ZoneName → List EventSeen → List Line → Result FileSeen Fault
-pass frames last pending names events [] = decide (at_end frames last) (resolved names pending) events
-pass frames last pending names events (line ∷ lines) =
-    on_content line.number (content_of line.bytes) frames pending names events (λ frames pending names events. pass frames (Some line.number) pending names events lines)
+abbrev pub pass : List Frame → Option ℕ → GatheredSeen → List Line → Result GatheredSeen Fault
+pass frames last had [] = unless (at_end frames last) had
+pass frames last had (line ∷ lines) = on_content line.number (content_of line.bytes) frames had (λ frames had. pass frames (Some line.number) had lines)

@@ -1,21 +1,17 @@
 -- What holds of what is collected of an event, where no fault stands on its lines.
-use Rattle.std.specs.Prelude.{◌≡◌, true, false, List, [], ◌∷◌, None, IfSome, Result, Ok, Err}
+use Rattle.std.specs.Prelude.{◌≡◌, true, None, IfSome, Result, Ok, Err}
 use Rattle.ics_values.specs.Stamps.{stamp_day, IsStampDay}
 use Rattle.ics_values.specs.declared.duration.Duration.{Duration}
 use Rattle.ics_values.specs.declared.stamp.Stamp.{Stamp}
 use Rattle.ics_values.specs.declared.duration.DurationFault.{DurationFault}
 use Rattle.ics_values.specs.declared.stamp.StampFault.{StampFault}
 use Rattle.ics_calendar.specs.declared.collected.Collected.{Collected}
-use Rattle.ics_calendar.specs.declared.frame.Frame.{Frame}
-use Rattle.ics_calendar.specs.declared.summary.Summary.{Summary}
-use Rattle.ics_calendar.specs.declared.summary.Summary.TheVariants as summary
-use Rattle.ics_calendar.specs.Event.{is_zoned}
-use Rattle.ics_calendar.specs.Values.{is_lasting, ends_badly_later}
+use Rattle.ics_calendar.specs.Values.{is_lasting}
 use Rattle.ics_calendar.specs.LineFaults.{end_of_event}
 
--- Its stamps are in order and in no zone, and its duration is one that an event may have.
+-- Its stamps are in order, and its duration is one that an event may have.
 abbrev pub IsSoundStamp : Result Stamp StampFault → Type 0
-IsSoundStamp (Ok stamp) = IsStampDay (stamp_day stamp) × (is_zoned stamp ≡ false)
+IsSoundStamp (Ok stamp) = IsStampDay (stamp_day stamp)
 IsSoundStamp (Err fault) = ⊥
 
 abbrev pub IsSoundDuration : Result Duration DurationFault → Type 0
@@ -27,16 +23,7 @@ pub record IsSound (had : Collected) : Type 0 where
   pub end : IfSome had.end (λ dated. IsSoundStamp dated.stamp)
   pub duration : IfSome had.duration IsSoundDuration
 
-abbrev pub IsSoundSummary : Summary → Type 0
-IsSoundSummary (summary.Event had) = IsSound had
-IsSoundSummary _ = Unit {0}
-
-abbrev pub AreSound : List Frame → Type 0
-AreSound [] = Unit {0}
-AreSound (f ∷ fs) = IsSoundSummary f.summary × AreSound fs
-
 -- sound, and without a fault at its END
 pub record IsWhole (had : Collected) : Type 0 where
   pub sound : IsSound had
   pub no_fault : end_of_event had ≡ None
-  pub no_later : ends_badly_later had.start had.end ≡ false

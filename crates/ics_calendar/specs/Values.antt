@@ -1,5 +1,5 @@
 -- What the properties of an event or of an observance say (RFC 5545, sections 3.3 and 3.8).
-use Rattle.std.specs.Prelude.{ℕ, ◌+◌, ◌*◌, Bool, true, false, ◌&&◌, ◌||◌, not, ◌==◌, nat_le, List, ◌∷◌, map, codes, Option, Some, None, is_some, Result, Ok, Err, ℤ, pos, ◌+ℤ◌, ◌*ℤ◌, int_lt, if◌then◌else◌}
+use Rattle.std.specs.Prelude.{ℕ, ◌+◌, ◌*◌, Bool, true, false, ◌&&◌, ◌||◌, not, ◌==◌, nat_le, List, [], ◌∷◌, map, unwrap_or, codes, Option, Some, None, is_some, Result, Ok, Err, ℤ, pos, ◌+ℤ◌, ◌*ℤ◌, int_lt, if◌then◌else◌}
 use Rattle.std.specs.Result.{result_ok}
 use Rattle.std.specs.Str.{bytes_eq}
 use Rattle.ics_text.specs.Bytes.{upper}
@@ -116,18 +116,12 @@ abbrev pub is_filled : Option (List ℕ) → Bool
 is_filled (Some (b ∷ bs)) = true
 is_filled _ = false
 
--- what stands in a DTSTART or DTEND that is there and in order
-abbrev pub stamp_in : Option Dated → Option Stamp
-stamp_in None = None
-stamp_in (Some dated) = result_ok dated.stamp
+-- the name that a TZID gives
+abbrev pub tzid : Dated → List ℕ
+tzid dated = unwrap_or dated.zone []
 
-abbrev pub zone_in : Option Dated → Option (List ℕ)
-zone_in None = None
-zone_in (Some dated) = dated.zone
-
-abbrev pub same_zone : Option (List ℕ) → Option (List ℕ) → Bool
-same_zone (Some a) (Some b) = bytes_eq a b
-same_zone _ _ = false
+abbrev pub same_zone : Dated → Dated → Bool
+same_zone a b = bytes_eq (tzid a) (tzid b)
 
 -- before the start, or more than the longest event after it
 abbrev pub is_out : ℤ → ℤ → Bool
@@ -143,17 +137,10 @@ is_bad_end one_zone (Utc a) (Zoned b) = false
 is_bad_end one_zone (Utc a) (Utc b) = false
 is_bad_end one_zone _ _ = true
 
--- Which ends are bad as instants. (No zone is known yet, so these are times of UTC.)
-abbrev pub is_bad_instant : Stamp → Stamp → Bool
-is_bad_instant (Utc a) (Utc b) = is_out (seconds_of a) (seconds_of b)
-is_bad_instant _ _ = false
-
 abbrev pub both : Option Stamp → Option Stamp → (Stamp → Stamp → Bool) → Bool
 both (Some a) (Some b) test = test a b
 both _ _ test = false
 
 abbrev pub ends_badly : Option Dated → Option Dated → Bool
-ends_badly start end = both (stamp_in start) (stamp_in end) (is_bad_end (same_zone (zone_in start) (zone_in end)))
-
-abbrev pub ends_badly_later : Option Dated → Option Dated → Bool
-ends_badly_later start end = both (stamp_in start) (stamp_in end) is_bad_instant
+ends_badly (Some start) (Some end) = both (result_ok start.stamp) (result_ok end.stamp) (is_bad_end (same_zone start end))
+ends_badly _ _ = false

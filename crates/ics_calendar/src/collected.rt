@@ -1,18 +1,21 @@
 //! What has been read of an event so far.
-ghost use Rattle.std.specs.Prelude.{◌≡◌, [], unwrap_or};
-ghost use Rattle.ics_calendar.specs.Values.{ends_badly, ends_badly_later, is_filled, rule_in};
-ghost use Rattle.ics_calendar.specs.Files.{time_of, length_of};
-ghost use Rattle.ics_calendar.specs.Collecting.{nothing, note_event, or_first, event_of};
+ghost use Rattle.std.specs.Prelude.{◌≡◌, List, [], unwrap_or};
+ghost use Rattle.ics_zone.specs.Observances.{Phase};
+ghost use Rattle.ics_calendar.specs.Values.{ends_badly, is_filled, rule_in};
+ghost use Rattle.ics_calendar.specs.Times.{zone_of, time_of, length_of};
+ghost use Rattle.ics_calendar.specs.Collecting.{nothing, note_event, or_first, event_from};
 ghost use Rattle.ics_calendar.specs.LineFaults.{end_of_event};
-ghost use Rattle.ics_calendar.specs.Sound.{IsWhole};
+ghost use Rattle.ics_calendar.specs.ZoneTables.{index_in};
+ghost use Rattle.ics_calendar.specs.Ready.{IsReady};
 
 use crate::dated::Dated;
-use crate::ends::{ends_badly, ends_badly_later};
+use crate::ends::ends_badly;
 use crate::event::Event;
 use crate::fault::FaultKind;
 use crate::property::Property;
 use crate::text::Text;
 use crate::time::{Length, Time};
+use crate::zone_table::ZoneTable;
 use ics_values::{Duration, DurationFault, Parts, RuleFault, Stamp};
 use std::alloc::Global;
 
@@ -58,7 +61,8 @@ fn is_filled(text: &Option<Text>) -> bool
     }
 }
 
-fn text_or_empty(alloc: Global, text: Option<Text>) -> Text
+/// The text, or an empty one.
+pub fn text_or_empty(alloc: Global, text: Option<Text>) -> Text
     ensures { result ≡ unwrap_or text [] }
 {
     match text {
@@ -67,21 +71,41 @@ fn text_or_empty(alloc: Global, text: Option<Text>) -> Text
     }
 }
 
-fn time_of(dated: &Option<Dated>) -> Time
-    ensures { result ≡ time_of dated.now }
+fn zone_of(alloc: Global, table: &ZoneTable, calendar: u64, dated: Dated) -> Option<u32>
+    ensures { result ≡ zone_of (index_in table.now) calendar dated }
 {
-    let stamp = match dated {
-        Some(dated) => dated.stamp.unwrap_or(Stamp::Date(0)),
-        None => Stamp::Date(0),
-    };
-    Time { stamp, zone: None }
+    if !dated.is_zoned() {
+        return None;
+    }
+    table.index(&dated.into_zone_name(alloc, calendar))
 }
 
-fn length_of(end: &Option<Dated>, duration: Option<Result<Duration, DurationFault>>) -> Length
-    ensures { result ≡ length_of end.now duration }
+fn time_of(alloc: Global, table: &ZoneTable, calendar: u64, dated: Option<Dated>) -> Time
+    ensures { result ≡ time_of (index_in table.now) calendar dated }
+{
+    match dated {
+        Some(dated) => Time {
+            stamp: dated.stamp.unwrap_or(Stamp::Date(0)),
+            zone: zone_of(alloc, table, calendar, dated),
+        },
+        None => Time {
+            stamp: Stamp::Date(0),
+            zone: None,
+        },
+    }
+}
+
+fn length_of(
+    alloc: Global,
+    table: &ZoneTable,
+    calendar: u64,
+    end: Option<Dated>,
+    duration: Option<Result<Duration, DurationFault>>,
+) -> Length
+    ensures { result ≡ length_of (index_in table.now) calendar end duration }
 {
     if end.is_some() {
-        return Length::Until(time_of(end));
+        return Length::Until(time_of(alloc, table, calendar, end));
     }
     match duration {
         Some(Ok(duration)) => Length::Lasting(duration),
@@ -89,7 +113,8 @@ fn length_of(end: &Option<Dated>, duration: Option<Result<Duration, DurationFaul
     }
 }
 
-fn rule_in(rule: Option<Result<Parts, RuleFault>>) -> Option<Parts>
+/// The rule of an RRULE that is there and in order.
+pub fn rule_in(rule: Option<Result<Parts, RuleFault>>) -> Option<Parts>
     ensures { result ≡ rule_in rule }
 {
     match rule {
@@ -157,21 +182,14 @@ impl Collected {
         }
     }
 
-    /// Whether the second round refuses the end.
-    pub fn ends_badly_later(&self) -> bool
-        ensures { result ≡ ends_badly_later self.now.start self.now.end }
-    {
-        ends_badly_later(&self.start, &self.end)
-    }
-
-    /// The event, where no fault stands on its lines.
-    pub fn into_event(self, alloc: Global) -> Event
-        requires { IsWhole self }
-        ensures { result ≡ event_of self }
+    /// The event of that calendar, where no fault stands on its lines.
+    pub fn into_event(self, alloc: Global, table: &ZoneTable, calendar: u64) -> Event
+        requires { (zones : List (List Phase)) × IsReady (record { index = index_in table.now; zones = zones }) calendar self }
+        ensures { result ≡ event_from (index_in table.now) calendar self }
     {
         Event {
-            start: time_of(&self.start),
-            length: length_of(&self.end, self.duration),
+            start: time_of(alloc, table, calendar, self.start),
+            length: length_of(alloc, table, calendar, self.end, self.duration),
             rule: rule_in(self.rule),
             uid: text_or_empty(alloc, self.uid),
             sequence: self.sequence.unwrap_or(0),

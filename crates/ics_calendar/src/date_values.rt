@@ -1,13 +1,14 @@
 //! The values of RDATE and EXDATE (RFC 5545, sections 3.8.5.1 and 3.8.5.2).
-ghost use Rattle.std.specs.Prelude.{◌≡◌, ◌==◌, map, IfOk};
+ghost use Rattle.std.specs.Prelude.{◌≡◌, ◌==◌, ◌++◌, [], map, filter_map, IfOk};
 ghost use Rattle.std.specs.List.{list_any, position};
 ghost use Rattle.ics_values.specs.Periods.{lasts};
 ghost use Rattle.ics_values.specs.RuleTexts.{pieces};
 ghost use Rattle.ics_calendar.specs.Values.{is_bad_stamp, is_far_stamp};
+ghost use Rattle.ics_calendar.specs.Zones.{local_in};
 ghost use Rattle.ics_calendar.specs.DateValues.{date_time_of, period_of, rdate_of, exdate_of, rdates_of, exdates_of, has_bad_stamp, has_far_stamp, has_bad_duration, has_large_duration, is_local, is_not_local};
 
 use crate::lasting::lasting;
-use ics_values::{Duration, DurationFault, Stamp, StampFault, read_stamp};
+use ics_values::{Duration, DurationFault, Local, Stamp, StampFault, read_stamp};
 use std::alloc::{AllocError, Global};
 use std::marker::Model;
 
@@ -108,6 +109,16 @@ impl DateValue {
         matches!(self, DateValue::At(Ok(Stamp::Floating(_))))
     }
 
+    /// The local that it is, if it is one.
+    fn local(self) -> Option<Local>
+        ensures { result ≡ local_in self }
+    {
+        match self {
+            DateValue::At(Ok(Stamp::Floating(local))) => Some(local),
+            _ => None,
+        }
+    }
+
     fn is_not_local(self) -> bool
         ensures { result ≡ is_not_local self }
     {
@@ -151,6 +162,22 @@ impl DateValue {
 }
 
 impl DateValues {
+    /// No values.
+    pub fn new(alloc: Global) -> DateValues
+        ensures { result ≡ [] }
+    {
+        DateValues {
+            values: Vec::new(alloc),
+        }
+    }
+
+    /// Adds the values of a line more.
+    pub fn append(&mut self, mut more: DateValues) -> Result<(), AllocError>
+        ensures { IfOk result (λ _. self.new ≡ self.old ++ more) }
+    {
+        self.values.append(&mut more.values)
+    }
+
     /// The values of an RDATE; `zoned` says that a TZID stands beside them.
     pub fn of_rdate(alloc: Global, text: &[u8], zoned: bool) -> Result<DateValues, AllocError>
         ensures { IfOk result (λ values. values ≡ rdates_of zoned text.now) }
@@ -171,6 +198,16 @@ impl DateValues {
             values.push(exdate(value, zoned))?;
         }
         Ok(DateValues { values })
+    }
+
+    /// The locals among them.
+    pub fn into_locals(self, alloc: Global) -> Result<Vec<Local>, AllocError>
+        ensures { IfOk result (λ locals. locals.items ≡ filter_map local_in self) }
+    {
+        self.values
+            .iter()
+            .filter_map(|value| value.local())
+            .collect(alloc)
     }
 
     /// Whether a stamp among them is of no form, or of no date or time that there is.

@@ -1,34 +1,36 @@
 //! The end of an event against its start (RFC 5545, section 3.8.2.2).
-ghost use Rattle.std.specs.Prelude.{◌≡◌, pos, ◌*ℤ◌, ◌<ℤ◌, ◌^◌};
+ghost use Rattle.std.specs.Prelude.{◌≡◌, pos, ◌*ℤ◌, IfOk};
 ghost use Rattle.ics_calendar.specs.Event.{seconds_of};
-ghost use Rattle.ics_calendar.specs.Values.{is_out, is_bad_end, is_bad_instant, same_zone, stamp_in, zone_in, ends_badly, ends_badly_later};
+ghost use Rattle.ics_calendar.specs.Laters.{are_of_one_zone};
+ghost use Rattle.ics_calendar.specs.LineFaults.{compared, ends_in};
+ghost use Rattle.ics_calendar.specs.Values.{is_out, is_bad_end, same_zone, ends_badly};
 
 use crate::dated::Dated;
+use crate::later::{Instant, Later};
 use ics_values::{Local, Stamp};
+use std::alloc::{AllocError, Global};
 
 /// The longest event, in seconds.
 const LONGEST: i64 = 36_525 * 86_400;
 
 fn day_seconds(day: i32) -> i64
-    ensures value { result ≡ day *ℤ pos 86_400 }
-    ensures bound { result <ℤ pos (2 ^ 60) }
+    ensures { result ≡ day *ℤ pos 86_400 }
 {
     i64::from(day) * 86_400
 }
 
-fn seconds_of(local: Local) -> i64
-    ensures value { result ≡ seconds_of local }
-    ensures bound { result <ℤ pos (2 ^ 61) }
+/// The seconds of a local on a clock without zones.
+pub fn seconds_of(local: Local) -> i64
+    ensures { result ≡ seconds_of local }
 {
     day_seconds(local.day) + i64::from(local.second)
 }
 
 /// The end is before the start, or more than the longest event after it.
-fn is_out(start: i64, end: i64) -> bool
-    requires { start <ℤ pos (2 ^ 61) }
+pub fn is_out(start: i64, end: i64) -> bool
     ensures { result ≡ is_out start end }
 {
-    end < start || start + LONGEST < end
+    end < start || start.saturating_add(LONGEST) < end
 }
 
 /// An end of another kind than its start, or out of its reach where they are dates, floating, or of one zone.
@@ -46,23 +48,10 @@ fn is_bad_end(one_zone: bool, start: Stamp, end: Stamp) -> bool
     }
 }
 
-/// An end out of reach of its start as instants.
-fn is_bad_instant(start: Stamp, end: Stamp) -> bool
-    ensures { result ≡ is_bad_instant start end }
-{
-    match (start, end) {
-        (Stamp::Utc(a), Stamp::Utc(b)) => is_out(seconds_of(a), seconds_of(b)),
-        _ => false,
-    }
-}
-
 fn same_zone(start: &Dated, end: &Dated) -> bool
-    ensures { result ≡ same_zone start.now.zone end.now.zone }
+    ensures { result ≡ same_zone start.now end.now }
 {
-    match (&start.zone, &end.zone) {
-        (Some(a), Some(b)) => a.as_slice() == b.as_slice(),
-        _ => false,
-    }
+    start.tzid() == end.tzid()
 }
 
 /// Whether the first round refuses the end.
@@ -78,15 +67,46 @@ pub fn ends_badly(start: &Option<Dated>, end: &Option<Dated>) -> bool
     }
 }
 
-/// Whether the second round refuses the end.
-pub fn ends_badly_later(start: &Option<Dated>, end: &Option<Dated>) -> bool
-    ensures { result ≡ ends_badly_later start.now end.now }
+/// Whether two stamps compare as locals.
+fn are_of_one_zone(start: &Dated, end: &Dated) -> bool
+    ensures { result ≡ are_of_one_zone start.now end.now }
+{
+    start.is_zoned() && end.is_zoned() && same_zone(start, end)
+}
+
+/// What the second round looks at where these are a start and its end.
+fn compared(start: Instant, end: Instant) -> Option<Later>
+    ensures { result ≡ compared start end }
+{
+    if let (Instant::Utc(a), Instant::Utc(b)) = (&start, &end) {
+        if is_out(seconds_of(*a), seconds_of(*b)) {
+            return Some(Later::End);
+        }
+        return None;
+    }
+    Some(Later::Ends(start, end))
+}
+
+/// What the second round looks at on the END of an event of that calendar.
+pub fn ends_in(
+    alloc: Global,
+    calendar: u64,
+    start: &Option<Dated>,
+    end: &Option<Dated>,
+) -> Result<Option<Later>, AllocError>
+    ensures { IfOk result (λ later. later ≡ ends_in calendar start.now end.now) }
 {
     let (Some(start), Some(end)) = (start, end) else {
-        return false;
+        return Ok(None);
     };
-    match (start.stamp, end.stamp) {
-        (Ok(a), Ok(b)) => is_bad_instant(a, b),
-        _ => false,
+    if are_of_one_zone(start, end) {
+        return Ok(None);
+    }
+    match (
+        start.instant(alloc, calendar)?,
+        end.instant(alloc, calendar)?,
+    ) {
+        (Some(start), Some(end)) => Ok(compared(start, end)),
+        _ => Ok(None),
     }
 }

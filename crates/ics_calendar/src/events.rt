@@ -1,18 +1,25 @@
 use crate::event::Event;
+use ics_zone::Zone;
 use std::marker::Model;
 
-/// The events of a file, in the order of their BEGIN lines.
+/// The time zones and the events of a file, each in the order of their BEGIN lines.
+///
+/// The zone of each time is one of these. Where a start or an end has one, the event ends by at most 36,525 days after its
+/// start: as locals where both are of one zone, and else as instants.
 #[derive(Drop)]
 pub struct FileEvents {
+    pub zones: Vec<Zone>,
     pub events: Vec<Event>,
 }
 
 impl Model for FileEvents {
-    ghost use Rattle.ics_calendar.specs.Event.{FileSeen, AreEvents};
+    ghost use Rattle.std.specs.Prelude.{map};
+    ghost use Rattle.ics_zone.specs.Tables.{phases_of};
+    ghost use Rattle.ics_calendar.specs.Event.{FileSeen, AreEventsOf};
 
     ghost Value = { FileSeen };
 
-    ghost view = { λ a. record { events = a.events.items } };
+    ghost view = { λ a. record { zones = a.zones.items; events = a.events.items } };
 
-    ghost invariant = { λ a. AreEvents a.events.items };
+    ghost invariant = { λ a. AreEventsOf (map phases_of a.zones.items) a.events.items };
 }

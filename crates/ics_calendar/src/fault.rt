@@ -88,6 +88,9 @@ pub enum FileFault {
     At { line: u64, kind: FaultKind },
 }
 
+/// A fault and the number of its line.
+pub(crate) type Found = (u64, FaultKind);
+
 impl FaultKind {
     /// The variant's name.
     pub fn name(&self) -> &'static str

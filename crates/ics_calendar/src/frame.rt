@@ -1,13 +1,16 @@
 //! A component that is open.
-ghost use Rattle.std.specs.Prelude.{◌≡◌, ◌++◌, [], unwrap_or, IfOk};
+ghost use Rattle.std.specs.Prelude.{◌≡◌, IfOk};
 ghost use Rattle.ics_calendar.specs.Reading.{read_in};
-ghost use Rattle.ics_calendar.specs.LineFaults.{named_in, used_zone, begin_fault, end_fault_in, event_fault, calendar_fault, zone_fault, observance_fault, property_fault, inside_fault, outside_fault, fault_in, later_end, later_in};
+ghost use Rattle.ics_calendar.specs.LineFaults.{used_zone, begin_fault, end_fault_in, event_fault, calendar_fault, zone_fault, observance_fault, property_fault, inside_fault, outside_fault, fault_in, later_end, later_in};
+ghost use Rattle.ics_calendar.specs.Pass.{ended_in};
 
-use crate::collected::Collected;
+use crate::collected::{Collected, text_or_empty};
 use crate::component::{Component, Place};
 use crate::date_values::DateValue;
 use crate::dated::Dated;
+use crate::ends::ends_in;
 use crate::fault::FaultKind;
+use crate::gathered::{Ended, EndedEvent, EndedObservance, EndedZone};
 use crate::later::{Later, ZoneName};
 use crate::name::{Name, name_of};
 use crate::property::Property;
@@ -18,7 +21,6 @@ use crate::value_faults::{
     range_fault, rule_fault, stamp_fault, zone_rule_fault,
 };
 use ics_text::Content;
-use ics_values::Stamp;
 use std::alloc::{AllocError, Global};
 
 /// A component that is open: which one, where its lines stand, and what has been read of it.
@@ -28,6 +30,8 @@ pub struct Frame {
     pub place: Place,
     /// The number of the BEGIN line of the calendar that it belongs to.
     pub calendar: u64,
+    /// The number of its own BEGIN line.
+    pub begun: u64,
     pub summary: Summary,
 }
 
@@ -122,35 +126,23 @@ fn outside_fault(property: &Property, depth: usize) -> Option<FaultKind>
     }
 }
 
-/// The text, or an empty one.
-fn copied(alloc: Global, name: &Option<Text>) -> Result<Text, AllocError>
-    ensures { IfOk result (λ text. text ≡ unwrap_or name.now []) }
-{
-    match name {
-        Some(name) => Text::copied(alloc, name.as_slice()),
-        None => Ok(Text::new(alloc)),
-    }
-}
-
 /// The time zone of a stamp.
 fn used_zone(alloc: Global, calendar: u64, dated: &Dated) -> Result<Option<Later>, AllocError>
     ensures { IfOk result (λ later. later ≡ used_zone calendar dated.now) }
 {
-    match dated.stamp {
-        Ok(Stamp::Zoned(_)) => {
-            let name = copied(alloc, &dated.zone)?;
-            Ok(Some(Later::Zone(ZoneName { calendar, name })))
-        }
-        _ => Ok(None),
+    if !dated.is_zoned() {
+        return Ok(None);
     }
+    Ok(Some(Later::Zone(dated.zone_name(alloc, calendar)?)))
 }
 
-fn later_end(had: &Summary) -> Option<Later>
-    ensures { result ≡ later_end had.now }
+/// What the second round looks at where an event ends.
+fn later_end(alloc: Global, calendar: u64, had: &Summary) -> Result<Option<Later>, AllocError>
+    ensures { IfOk result (λ later. later ≡ later_end calendar had.now) }
 {
     match had {
-        Summary::Event(had) if had.ends_badly_later() => Some(Later::End),
-        _ => None,
+        Summary::Event(had) => ends_in(alloc, calendar, &had.start, &had.end),
+        _ => Ok(None),
     }
 }
 
@@ -195,34 +187,39 @@ impl Frame {
         }
     }
 
-    /// What the second round finds on such a line.
+    /// What the second round looks at on such a line.
     pub fn later(&self, alloc: Global, property: &Property) -> Result<Option<Later>, AllocError>
         ensures { IfOk result (λ later. later ≡ later_in property.now self.now) }
     {
         match property {
-            Property::End(true) => Ok(later_end(&self.summary)),
+            Property::End(true) => later_end(alloc, self.calendar, &self.summary),
             Property::Dtstart(dated) | Property::Dtend(dated) | Property::RecurrenceId(dated, _) =>
                 { used_zone(alloc, self.calendar, dated) }
             _ => Ok(None),
         }
     }
 
-    /// Adds the name of the time zone that such a line gives.
-    pub fn name(
-        &self,
-        alloc: Global,
-        property: &Property,
-        names: &mut Vec<ZoneName>,
-    ) -> Result<(), AllocError>
-        ensures { IfOk result (λ _. names.new.items ≡ names.old.items ++ named_in property.now self.now) }
+    /// What the component is when it has ended, by the number of the BEGIN line of the one that it stands in.
+    pub fn into_ended(self, alloc: Global, outer: u64) -> Ended
+        ensures { result ≡ ended_in outer self }
     {
-        if let Property::ZoneName(name) = property {
-            let name = Text::copied(alloc, name.as_slice())?;
-            names.push(ZoneName {
-                calendar: self.calendar,
-                name,
-            })?;
+        let Frame {
+            calendar,
+            begun,
+            summary,
+            ..
+        } = self;
+        match summary {
+            Summary::Event(had) => Ended::Event(EndedEvent { calendar, had }),
+            Summary::Zone(had) => {
+                let name = text_or_empty(alloc, had.name);
+                Ended::Zone(EndedZone {
+                    begun,
+                    name: ZoneName { calendar, name },
+                })
+            }
+            Summary::Observance(had) => Ended::Observance(EndedObservance { zone: outer, had }),
+            Summary::Nothing => Ended::Nothing,
         }
-        Ok(())
     }
 }

@@ -1,53 +1,29 @@
 //! What the second round looks at: time zones by their names, which may stand after their use.
 ghost use Rattle.std.specs.Prelude.{◌≡◌};
-ghost use Rattle.ics_calendar.specs.Laters.{is_same, is_known, judged};
+ghost use Rattle.ics_calendar.specs.Laters.{is_same};
 
-use crate::fault::FaultKind;
 use crate::text::Text;
+use ics_values::Local;
 
 /// The name of a time zone, and the number of the BEGIN line of the calendar that it belongs to.
-#[derive(Drop)]
+#[derive(PartialEq, Eq, PartialOrd, Ord, Drop)]
 pub struct ZoneName {
     pub calendar: u64,
     pub name: Text,
 }
 
-/// What the second round finds on a line: an end out of reach of its start, or a stamp in a time zone.
+/// A stamp that is an instant: one in UTC, or one in the time zone of that name.
+#[derive(Drop)]
+pub enum Instant {
+    Utc(Local),
+    Zoned(Local, ZoneName),
+}
+
+/// What the second round looks at on a line: an end out of reach of its start in UTC, a stamp in a time zone, or a start
+/// and an end that compare as instants.
 #[derive(Drop)]
 pub enum Later {
     End,
     Zone(ZoneName),
-}
-
-impl ZoneName {
-    fn is_same(&self, other: &ZoneName) -> bool
-        ensures { result ≡ is_same self.now other.now }
-    {
-        self.calendar == other.calendar && self.name.as_slice() == other.name.as_slice()
-    }
-
-    /// Whether it is one of the names.
-    fn is_known(&self, names: &[ZoneName]) -> bool
-        ensures { result ≡ is_known names.now self.now }
-    {
-        names.iter().any(|name| self.is_same(name))
-    }
-}
-
-impl Later {
-    /// The fault that it is, given the names of all time zones of the file.
-    pub fn judged(&self, names: &[ZoneName]) -> FaultKind
-        ensures { result ≡ judged names.now self.now }
-    {
-        match self {
-            Later::End => FaultKind::BadEnd,
-            Later::Zone(name) => {
-                if name.is_known(names) {
-                    FaultKind::NotYet
-                } else {
-                    FaultKind::UnknownZone
-                }
-            }
-        }
-    }
+    Ends(Instant, Instant),
 }

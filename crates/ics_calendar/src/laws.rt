@@ -1,11 +1,11 @@
 //! Laws of the definitions that the contract of `read_file` cites.
 ghost use Rattle.std.specs.Prelude.{◌≡◌, List, ℕ, Result};
-ghost use Rattle.ics_calendar.specs.Event.{FileSeen};
+ghost use Rattle.ics_calendar.specs.Event.{FileSaid};
 ghost use Rattle.ics_calendar.specs.FirstFault.{Fault};
 ghost use Rattle.ics_calendar.specs.Files.{IsFile, file_of};
 
 /// Each file is one thing: its first fault, or its events where none stands, and `file_of` computes it.
 pub fn files_are_one_thing()
     ensures is { (file : List ℕ) → IsFile file (file_of file) }
-    ensures only { (file : List ℕ) (answer : Result FileSeen Fault) → IsFile file answer → file_of file ≡ answer }
+    ensures only { (file : List ℕ) (answer : Result FileSaid Fault) → IsFile file answer → file_of file ≡ answer }
 {}

@@ -1,55 +1,28 @@
 //! Reading a file.
-ghost use Rattle.std.specs.Prelude.{◌≡◌, ◌∷◌, ◌++◌, [], ◌≤◌, length, IfOk, IfSome, option_map, None};
+ghost use Rattle.std.specs.Prelude.{◌≡◌, ◌∷◌, [], ◌≤◌, length, IfOk, option_map, None};
+ghost use Rattle.ics_text.specs.Unfolded.{Rises};
 ghost use Rattle.ics_calendar.specs.Files.{file_of};
+ghost use Rattle.ics_calendar.specs.Gathered.{settled_of};
+ghost use Rattle.ics_calendar.specs.Gathering.{nothing_gathered};
 ghost use Rattle.ics_calendar.specs.Reading.{read_on};
 ghost use Rattle.ics_calendar.specs.LineFaults.{fault_on};
-ghost use Rattle.ics_calendar.specs.Sound.{AreSound, IsWhole};
-ghost use Rattle.ics_calendar.specs.Pass.{pass, bottom, at_end, or_else, waiting, resolved, given};
+ghost use Rattle.ics_calendar.specs.Pass.{pass, bottom, at_end};
 ghost use Rattle.ics_calendar.specs.Progresses.{IsBehind};
-ghost use Rattle.ics_calendar.specs.Seen.{seen_fault, seen_answer, NumbersFit, LastFits, SaysFile};
+ghost use Rattle.ics_calendar.specs.Seen.{seen_fault, seen_gathered, seen_answer, NumbersFit, LastFits, SaysFile};
 
-use crate::collected::Collected;
-use crate::event::Event;
 use crate::events::FileEvents;
-use crate::fault::{FaultKind, FileFault};
-use crate::later::{Later, ZoneName};
+use crate::fault::{FaultKind, FileFault, Found};
+use crate::gathered::Gathered;
+use crate::settle::settle;
 use crate::stack::Stack;
 use ics_text::{Content, Lines, content, numbers_rise, numbers_within};
 use std::alloc::{AllocError, Global};
 
-/// A fault and its line.
-type Found = (u64, FaultKind);
-
-/// What the second round finds on a line, and the line's number.
-type Waits = Option<(u64, Later)>;
-
-/// What has been read of the file so far: the components that are open, what waits for the second round, the time zones
-/// by their names, and the events.
+/// What has been read of the file so far: the components that are open, and what is gathered of those that have ended.
 #[derive(Drop)]
 pub struct Progress {
     pub stack: Stack,
-    pub waits: Waits,
-    pub names: Vec<ZoneName>,
-    pub events: Vec<Event>,
-}
-
-/// Lets what is found on a line wait, unless something waits already.
-fn keep_first(waits: &mut Waits, number: u64, later: Option<Later>)
-    ensures { waits.new ≡ or_else waits.old (waiting number later) }
-{
-    if let (None, Some(later)) = (&*waits, later) {
-        *waits = Some((number, later));
-    }
-}
-
-/// The fault that waits, when all time zones are known.
-fn resolved(waits: &Waits, names: &[ZoneName]) -> Option<Found>
-    ensures { option_map seen_fault result ≡ resolved names.now waits.now }
-{
-    match waits {
-        Some((number, later)) => Some((*number, later.judged(names))),
-        None => None,
-    }
+    pub gathered: Gathered,
 }
 
 /// What stands where the lines end.
@@ -69,22 +42,6 @@ fn at_end(stack: &Stack, last: Option<u64>) -> Option<Found>
     }
 }
 
-/// An event that ends counts, unless something waits.
-fn give(
-    alloc: Global,
-    waits: &Waits,
-    ended: Option<Collected>,
-    events: &mut Vec<Event>,
-) -> Result<(), AllocError>
-    requires { waits.now ≡ None → IfSome ended IsWhole }
-    ensures { IfOk result (λ _. events.new.items ≡ events.old.items ++ given waits.now ended) }
-{
-    if let (None, Some(collected)) = (waits, ended) {
-        events.push(collected.into_event(alloc))?;
-    }
-    Ok(())
-}
-
 /// Goes behind a line, or gives the least fault of the first round that stands on it.
 fn go_behind(
     alloc: Global,
@@ -92,7 +49,6 @@ fn go_behind(
     number: u64,
     parts: &Content<'_>,
 ) -> Result<Option<FaultKind>, AllocError>
-    requires { progress.old.waits ≡ None → AreSound progress.old.stack }
     ensures fault { IfOk result (λ fault. fault ≡ fault_on (read_on progress.old.stack parts.now) progress.old.stack) }
     ensures behind { IfOk result (λ fault. fault ≡ None → IsBehind number (read_on progress.old.stack parts.now) progress.old progress.new) }
 {
@@ -101,24 +57,21 @@ fn go_behind(
         return Ok(Some(kind));
     }
     let later = progress.stack.later(alloc, &property)?;
-    keep_first(&mut progress.waits, number, later);
-    progress.stack.name(alloc, &property, &mut progress.names)?;
-    let ended = progress.stack.pass(number, property)?;
-    give(alloc, &progress.waits, ended, &mut progress.events)?;
+    progress.gathered.wait(number, later)?;
+    let ended = progress.stack.pass(alloc, number, property)?;
+    progress.gathered.end(ended)?;
     Ok(None)
 }
 
-/// The events of the lines, or their first fault.
-fn pass_lines(alloc: Global, mut lines: Lines<'_>) -> Result<Result<FileEvents, Found>, AllocError>
+/// What is gathered of the lines, or the first fault of the first round.
+fn pass_lines(alloc: Global, mut lines: Lines<'_>) -> Result<Result<Gathered, Found>, AllocError>
     requires { NumbersFit lines }
-    ensures { IfOk result (λ answer. seen_answer answer ≡ pass (bottom ∷ []) None None [] [] lines.entry) }
+    ensures { IfOk result (λ answer. seen_gathered answer ≡ pass (bottom ∷ []) None nothing_gathered lines.entry) }
 {
     let mut last = None;
     let mut progress = Progress {
         stack: Stack::new(alloc),
-        waits: None,
-        names: Vec::new(alloc),
-        events: Vec::new(alloc),
+        gathered: Gathered::new(alloc),
     };
     'lines: while let Some(line) = lines.next(alloc)? {
         let number = line.number();
@@ -131,14 +84,21 @@ fn pass_lines(alloc: Global, mut lines: Lines<'_>) -> Result<Result<FileEvents, 
         }
         last = Some(number);
     }
-    if let Some(fault) = at_end(&progress.stack, last) {
-        return Ok(Err(fault));
-    }
-    match resolved(&progress.waits, &progress.names) {
+    match at_end(&progress.stack, last) {
         Some(fault) => Ok(Err(fault)),
-        None => Ok(Ok(FileEvents {
-            events: progress.events,
-        })),
+        None => Ok(Ok(progress.gathered)),
+    }
+}
+
+/// What the lines say, or their first fault.
+fn read_lines(alloc: Global, lines: Lines<'_>) -> Result<Result<FileEvents, Found>, AllocError>
+    requires fit { NumbersFit lines }
+    requires rise { Rises 0 lines }
+    ensures { IfOk result (λ answer. seen_answer answer ≡ settled_of (pass (bottom ∷ []) None nothing_gathered lines.entry)) }
+{
+    match pass_lines(alloc, lines)? {
+        Ok(gathered) => settle(alloc, gathered),
+        Err(fault) => Ok(Err(fault)),
     }
 }
 
@@ -158,7 +118,7 @@ pub fn read_file(alloc: Global, bytes: &[u8]) -> Result<FileEvents, FileFault>
             kind: FaultKind::BadFold,
         });
     };
-    match pass_lines(alloc, lines) {
+    match read_lines(alloc, lines) {
         Err(_) => Err(FileFault::Memory),
         Ok(Ok(events)) => Ok(events),
         Ok(Err((line, kind))) => Err(FileFault::At { line, kind }),

@@ -1,14 +1,14 @@
 //! The components that are open.
-ghost use Rattle.std.specs.Prelude.{◌≡◌, ◌∷◌, ◌++◌, [], IfOk};
+ghost use Rattle.std.specs.Prelude.{◌≡◌, ◌∷◌, [], IfOk};
 ghost use Rattle.ics_calendar.specs.Reading.{read_on};
-ghost use Rattle.ics_calendar.specs.LineFaults.{fault_on, later_on, named_on};
-ghost use Rattle.ics_calendar.specs.Pass.{bottom, calendar_in, opened, closed, closed_event, behind, ended, is_lowest};
+ghost use Rattle.ics_calendar.specs.LineFaults.{fault_on, later_on};
+ghost use Rattle.ics_calendar.specs.Pass.{bottom, calendar_in, opened, closed, closing, behind, ends, is_lowest};
 
-use crate::collected::Collected;
 use crate::component::{Component, Place};
 use crate::fault::FaultKind;
 use crate::frame::Frame;
-use crate::later::{Later, ZoneName};
+use crate::gathered::Ended;
+use crate::later::Later;
 use crate::property::Property;
 use crate::summary::Summary;
 use crate::text::Text;
@@ -43,6 +43,7 @@ impl Stack {
                 component: Component::Other(Text::new(alloc)),
                 place: Place::Outside,
                 calendar: 0,
+                begun: 0,
                 summary: Summary::Nothing,
             },
             outer: Vec::new(alloc),
@@ -77,18 +78,6 @@ impl Stack {
         self.top.later(alloc, property)
     }
 
-    /// Adds the name of the time zone that the line gives.
-    pub fn name(
-        &self,
-        alloc: Global,
-        property: &Property,
-        names: &mut Vec<ZoneName>,
-    ) -> Result<(), AllocError>
-        ensures { IfOk result (λ _. names.new.items ≡ names.old.items ++ named_on property.now self.now) }
-    {
-        self.top.name(alloc, property, names)
-    }
-
     /// The calendar of a component that begins on the line with that number.
     fn calendar_in(&self, number: u64) -> u64
         ensures { result ≡ calendar_in number self.now }
@@ -100,7 +89,7 @@ impl Stack {
         }
     }
 
-    fn open(&mut self, number: u64, component: Component) -> Result<(), AllocError>
+    fn open(&mut self, alloc: Global, number: u64, component: Component) -> Result<(), AllocError>
         ensures { IfOk result (λ _. self.new ≡ opened number component self.old) }
     {
         let calendar = self.calendar_in(number);
@@ -110,40 +99,49 @@ impl Stack {
             component,
             place,
             calendar,
-            summary: Summary::fresh(place),
+            begun: number,
+            summary: Summary::fresh(alloc, place),
         };
         let outer = mem::replace(&mut self.top, inner);
         self.outer.push(outer)?;
         Ok(())
     }
 
-    /// Closes the innermost component, and gives what has been read of it if it is an event.
-    fn close(&mut self) -> Option<Collected>
+    /// Closes the innermost component, and gives what it is.
+    fn close(&mut self, alloc: Global) -> Ended
         ensures frames { self.new ≡ closed self.old }
-        ensures event { result ≡ closed_event self.old }
+        ensures ended { result ≡ closing self.old }
     {
-        let outer = self.outer.pop()?;
+        let Some(outer) = self.outer.pop() else {
+            return Ended::Nothing;
+        };
+        let zone = outer.begun;
         let inner = mem::replace(&mut self.top, outer);
-        inner.summary.into_event()
+        inner.into_ended(alloc, zone)
     }
 
-    /// Goes behind the line with that number, and gives what has been read of the event that ends there.
-    pub fn pass(&mut self, number: u64, property: Property) -> Result<Option<Collected>, AllocError>
+    /// Goes behind the line with that number, and gives what ends there.
+    pub fn pass(
+        &mut self,
+        alloc: Global,
+        number: u64,
+        property: Property,
+    ) -> Result<Ended, AllocError>
         ensures frames { IfOk result (λ _. self.new ≡ behind number property self.old) }
-        ensures event { IfOk result (λ event. event ≡ ended property self.old) }
+        ensures ended { IfOk result (λ ended. ended ≡ ends property self.old) }
     {
         match property {
             Property::Begin(component) => {
-                self.open(number, component)?;
-                Ok(None)
+                self.open(alloc, number, component)?;
+                Ok(Ended::Nothing)
             }
             Property::End(matches) => {
-                let event = self.close();
-                Ok(if matches { event } else { None })
+                let ended = self.close(alloc);
+                Ok(if matches { ended } else { Ended::Nothing })
             }
             property => {
-                self.top.summary.note(property);
-                Ok(None)
+                self.top.summary.note(property)?;
+                Ok(Ended::Nothing)
             }
         }
     }

@@ -1,17 +1,22 @@
 //! What has been read of a component so far.
-ghost use Rattle.std.specs.Prelude.{◌≡◌};
+ghost use Rattle.std.specs.Prelude.{◌≡◌, IfOk};
 ghost use Rattle.ics_calendar.specs.Collecting.{or_first};
-ghost use Rattle.ics_calendar.specs.Summaries.{nothing_zone, nothing_observance, begin_zone, note_zone, note_observance, fresh, note};
+ghost use Rattle.ics_calendar.specs.Summaries.{nothing_zone, nothing_observance, begin_zone, note_zone, note_once, note_observance, fresh, note};
 ghost use Rattle.ics_calendar.specs.LineFaults.{end_of_zone, end_of_observance, end_of};
-ghost use Rattle.ics_calendar.specs.Pass.{event_in};
+ghost use Rattle.ics_zone.specs.Observances.{phase_of as made_phase};
+ghost use Rattle.ics_calendar.specs.Zones.{phase_of, onset_in, offset_in};
+ghost use Rattle.ics_calendar.specs.ZonesSound.{IsSoundPhase};
 ghost use Rattle.ics_calendar.specs.declared.property.Property.TheVariants.{Begin};
 
-use crate::collected::{Collected, keep_text};
+use crate::collected::{Collected, keep_text, rule_in};
 use crate::component::{Component, Place};
+use crate::date_values::DateValues;
 use crate::fault::FaultKind;
 use crate::property::Property;
 use crate::text::Text;
-use ics_values::{BadOffset, Parts, RuleFault, Stamp, StampFault};
+use ics_values::{BadOffset, Local, Parts, RuleFault, Stamp, StampFault};
+use ics_zone::Observance;
+use std::alloc::{AllocError, Global};
 
 /// What has been read of a component so far, if it is one that is read.
 #[derive(Drop)]
@@ -29,13 +34,14 @@ pub struct ZoneSummary {
     pub has_observance: bool,
 }
 
-/// The first value of each property that an observance has once.
-#[derive(Clone, Copy)]
+/// The first value of each property that an observance has once, and the values of all its RDATEs.
+#[derive(Drop)]
 pub struct ObservanceSummary {
     pub start: Option<Result<Stamp, StampFault>>,
     pub from: Option<Result<i32, BadOffset>>,
     pub to: Option<Result<i32, BadOffset>>,
     pub rule: Option<Result<Parts, RuleFault>>,
+    pub rdates: DateValues,
 }
 
 impl ZoneSummary {
@@ -78,7 +84,7 @@ impl ZoneSummary {
 }
 
 impl ObservanceSummary {
-    fn nothing() -> ObservanceSummary
+    fn nothing(alloc: Global) -> ObservanceSummary
         ensures { result ≡ nothing_observance }
     {
         ObservanceSummary {
@@ -86,11 +92,13 @@ impl ObservanceSummary {
             from: None,
             to: None,
             rule: None,
+            rdates: DateValues::new(alloc),
         }
     }
 
-    fn note(&mut self, property: &Property)
-        ensures { self.new ≡ note_observance property.now self.old }
+    /// A line more that is no RDATE.
+    fn note_once(&mut self, property: &Property)
+        ensures { self.new ≡ note_once property.now self.old }
     {
         match property {
             Property::Onset(stamp) => self.start = self.start.or(Some(*stamp)),
@@ -98,6 +106,18 @@ impl ObservanceSummary {
             Property::OffsetTo(offset) => self.to = self.to.or(Some(*offset)),
             Property::Rrule(rule) => self.rule = self.rule.or(Some(*rule)),
             _ => {}
+        }
+    }
+
+    fn note(&mut self, property: Property) -> Result<(), AllocError>
+        ensures { IfOk result (λ _. self.new ≡ note_observance property self.old) }
+    {
+        match property {
+            Property::Dates(values) => self.rdates.append(values),
+            property => {
+                self.note_once(&property);
+                Ok(())
+            }
         }
     }
 
@@ -110,31 +130,66 @@ impl ObservanceSummary {
             Some(FaultKind::ObservanceField)
         }
     }
+
+    /// The observance, where no fault stands on its lines.
+    pub fn into_observance(self, alloc: Global) -> Result<Observance, AllocError>
+        requires { IsSoundPhase (phase_of self) }
+        ensures { IfOk result (λ observance. made_phase observance ≡ phase_of self) }
+    {
+        Ok(Observance {
+            start: onset_in(self.start),
+            offset_from: offset_in(self.from),
+            offset_to: offset_in(self.to),
+            rule: rule_in(self.rule),
+            rdates: self.rdates.into_locals(alloc)?,
+        })
+    }
+}
+
+// An accepted file has a DTSTART where one is asked for.
+fn onset_in(start: Option<Result<Stamp, StampFault>>) -> Local
+    ensures { result ≡ onset_in start }
+{
+    match start {
+        Some(Ok(Stamp::Floating(local))) => local,
+        _ => Local::at(0, 0),
+    }
+}
+
+// An accepted file has the offsets where they are asked for.
+fn offset_in(offset: Option<Result<i32, BadOffset>>) -> i32
+    ensures { result ≡ offset_in offset }
+{
+    match offset {
+        Some(Ok(offset)) => offset,
+        _ => 0,
+    }
 }
 
 impl Summary {
     /// What a component has that has only begun, by where its lines stand.
-    pub fn fresh(place: Place) -> Summary
+    pub fn fresh(alloc: Global, place: Place) -> Summary
         ensures { result ≡ fresh place }
     {
         match place {
             Place::Event => Summary::Event(Collected::nothing()),
             Place::Zone => Summary::Zone(ZoneSummary::nothing()),
-            Place::Observance => Summary::Observance(ObservanceSummary::nothing()),
+            Place::Observance => Summary::Observance(ObservanceSummary::nothing(alloc)),
             _ => Summary::Nothing,
         }
     }
 
     /// One line more that begins no component.
-    pub fn note(&mut self, property: Property)
-        ensures { self.new ≡ note property self.old }
+    pub fn note(&mut self, property: Property) -> Result<(), AllocError>
+        ensures { IfOk result (λ _. self.new ≡ note property self.old) }
     {
         match self {
             Summary::Event(had) => had.note(property),
             Summary::Zone(had) => had.note(property),
-            Summary::Observance(had) => had.note(&property),
+            Summary::Observance(had) => had.note(property)?,
             Summary::Nothing => {}
         }
+        Ok(())
     }
 
     /// A component more that begins directly in this one.
@@ -155,16 +210,6 @@ impl Summary {
             Summary::Zone(had) => had.end(),
             Summary::Observance(had) => had.end(),
             Summary::Nothing => None,
-        }
-    }
-
-    /// What has been read of the event, if the component is one.
-    pub fn into_event(self) -> Option<Collected>
-        ensures { result ≡ event_in self }
-    {
-        match self {
-            Summary::Event(had) => Some(had),
-            _ => None,
         }
     }
 }

@@ -1,10 +1,14 @@
-ghost use Rattle.std.specs.Prelude.{◌≡◌, IfOk, [], map};
+ghost use Rattle.std.specs.Prelude.{◌≡◌, IfOk, [], map, Some, refl, bytes_eq};
+ghost use Rattle.std.specs.Cmp.{partial_equiv_from_equiv};
+ghost use Rattle.std.specs.Cmp.Lexicographic.{slice_cmp, nat_list_eq_equiv, nat_list_cmp_total, texts_ties, texts_po};
+ghost use Rattle.std.specs.Ordering.{nat_cmp};
 ghost use Rattle.ics_text.specs.Bytes.{upper};
 ghost use Rattle.ics_values.specs.Plain.{text_of};
 
 use crate::words::upper_text;
 use ics_values::text_bytes;
 use std::alloc::{AllocError, Global};
+use std::cmp::Ordering;
 use std::marker::Model;
 
 /// The bytes of a text, mostly but not always UTF-8.
@@ -61,5 +65,44 @@ impl Text {
         ensures { result.now ≡ self.now }
     {
         self.bytes.as_slice()
+    }
+}
+
+impl PartialEq for Text {
+    ghost eq = { bytes_eq };
+
+    ghost laws = { partial_equiv_from_equiv nat_list_eq_equiv };
+
+    fn eq(&self, other: &Text) -> bool {
+        self.as_slice() == other.as_slice()
+    }
+}
+
+impl Eq for Text {
+    ghost laws = { nat_list_eq_equiv };
+}
+
+impl PartialOrd for Text {
+    ghost partial_cmp = { λ a b. Some (slice_cmp nat_cmp a b) };
+
+    ghost laws = { texts_po };
+
+    fn partial_cmp(&self, other: &Text) -> Option<Ordering> {
+        Some(self.cmp(other))
+    }
+}
+
+/// By the bytes.
+impl Ord for Text {
+    ghost cmp = { slice_cmp nat_cmp };
+
+    ghost total = { nat_list_cmp_total };
+
+    ghost matches_partial_cmp = { λ a b. refl };
+
+    ghost matches_eq = { texts_ties };
+
+    fn cmp(&self, other: &Text) -> Ordering {
+        self.as_slice().cmp(other.as_slice())
     }
 }

@@ -13,13 +13,13 @@ use Rattle.ics_rule.specs.Kept.{is_kept, rules_on_literals, until_moment}
 use Rattle.ics_rule.specs.Locals.{number}
 use Rattle.ics_rule.specs.Recurrence.{Recurrence}
 use Rattle.ics_values.specs.declared.stamp.Stamp.{Stamp}
-use Rattle.ics_values.specs.declared.stamp.Stamp.TheVariants.{Date, Floating, Utc}
+use Rattle.ics_values.specs.declared.stamp.Stamp.TheVariants.{Date, Floating, Utc, Zoned}
 use Rattle.ics_calendar.specs.declared.event.Event.{Event}
 use Rattle.ics_calendar.specs.declared.time.Time.{Time}
 use Rattle.ics_calendar.specs.declared.time.Length.{Length}
 use Rattle.ics_calendar.specs.declared.time.Length.TheVariants.{Open, Until, Lasting}
 use Rattle.ics_series.specs.declared.window.Window.{Window}
-use Rattle.ics_series.specs.Clocks.{Clock, utc_clock}
+use Rattle.ics_series.specs.Clocks.{Clock, Clocks, clocks_of, instant, utc_clock}
 use Rattle.ics_series.specs.Entry.{Entry}
 use Rattle.ics_series.specs.Finish.{finish}
 use Rattle.ics_series.specs.Found.{firsts_after}
@@ -47,8 +47,12 @@ to end = Until (record { stamp = end; zone = None })
 abbrev lasting : ℕ → ℕ → Length
 lasting days seconds = Lasting (record { negative = false; days = days; seconds = seconds })
 
+-- the clocks of a file without zones
+abbrev only : Clock → Clocks
+only display = clocks_of display []
+
 abbrev finish_in : Clock → Stamp → Length → ℤ
-finish_in display start length = finish display (event_of 0 start length) (record { stamp = start; zone = None })
+finish_in display start length = finish (only display) (event_of 0 start length) (record { stamp = start; zone = None })
 
 -- five hours behind UTC
 abbrev behind : Clock
@@ -104,7 +108,7 @@ no_length = refl
 
 -- Finishes of later starts.
 abbrev later_in : Clock → Stamp → Length → Local → ℤ
-later_in display start length local = finish display (event_of 0 start length) (time_at (record { stamp = start; zone = None }) local)
+later_in display start length local = finish (only display) (event_of 0 start length) (time_at (record { stamp = start; zone = None }) local)
 
 -- an hour, a week later
 later_hour : later_in utc_clock (Utc (local_at (pos 19_727) 36_000)) (to (Utc (local_at (pos 19_727) 39_600))) (local_at (pos 19_734) 36_000) ≡ pos 1_705_057_200
@@ -122,6 +126,30 @@ later_short_day = refl
 later_exact_day : later_in springing (Floating (local_at (pos 13_575) 43_200)) (to (Floating (local_at (pos 13_576) 43_200))) (local_at (pos 13_582) 43_200) ≡ pos 1_173_632_400
 later_exact_day = refl
 
+-- Times in the zones of a file: the first is five hours behind UTC, the second springs forward.
+abbrev two_zones : Clocks
+two_zones = record { display = utc_clock; zones = behind ∷ springing ∷ [] }
+
+abbrev zoned : ℕ → Local → Time
+zoned index local = record { stamp = Zoned local; zone = Some index }
+
+abbrev zoned_day : ℕ → Event
+zoned_day index = record (event_of 0 (Date (pos 0)) (lasting 1 0)) { start = zoned index (local_at (pos 13_582) 43_200) }
+
+-- noon on 2007-03-11
+in_first : instant two_zones (zoned 0 (local_at (pos 13_583) 43_200)) ≡ pos 1_173_632_400
+in_first = refl
+
+in_second : instant two_zones (zoned 1 (local_at (pos 13_583) 43_200)) ≡ pos 1_173_628_800
+in_second = refl
+
+-- P1D from noon of the day before is a day in the first zone, and 23 hours in the second
+day_in_first : finish two_zones (zoned_day 0) (zoned_day 0).start ≡ pos 1_173_632_400
+day_in_first = refl
+
+day_in_second : finish two_zones (zoned_day 1) (zoned_day 1).start ≡ pos 1_173_628_800
+day_in_second = refl
+
 -- Starts of a rule: 2024-01-05T10:00:00Z, each day until 2024-01-06T10:00:00Z.
 abbrev daily : RuleParts
 daily = record (every Daily) { until = Some (until.Utc (local_at (pos 19_728) 36_000)) }
@@ -132,7 +160,7 @@ daily_event = record (event_of 0 (Utc (local_at (pos 19_727) 36_000)) Open) { ru
 abbrev daily_time : ℤ → Time
 daily_time day = time_at daily_event.start (local_at day 36_000)
 
-second_day : IsRuleStart utc_clock daily_event (daily_time (pos 19_728))
+second_day : IsRuleStart (only utc_clock) daily_event (daily_time (pos 19_728))
 unfolding rules_on_literals days_on_literals until_moment
 second_day = record {
   rule = recurrence_by (Utc (local_at (pos 19_727) 36_000)) daily;
@@ -149,7 +177,7 @@ third_kept : is_kept (recurrence_by (Utc (local_at (pos 19_727) 36_000)) daily) 
 unfolding rules_on_literals days_on_literals
 third_kept = refl
 
-third_day : IsRuleStart utc_clock daily_event (daily_time (pos 19_729)) → ⊥
+third_day : IsRuleStart (only utc_clock) daily_event (daily_time (pos 19_729)) → ⊥
 unfolding until_moment
 third_day r =
     let of : recurrence_by (Utc (local_at (pos 19_727) 36_000)) daily ≡ r.rule = some-same _ _ r.has in

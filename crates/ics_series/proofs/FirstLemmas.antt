@@ -13,7 +13,7 @@ use Rattle.ics_calendar.specs.declared.event.Event.{Event}
 use Rattle.ics_values.specs.declared.local.Local.{Local}
 use Rattle.ics_series.specs.declared.start.Start.{Start}
 use Rattle.ics_series.specs.declared.window.Window.{Window}
-use Rattle.ics_series.specs.Clocks.{Clock, seconds_of}
+use Rattle.ics_series.specs.Clocks.{Clocks, seconds_of}
 use Rattle.ics_series.specs.Found.{firsts_after, is_at, moment_cmp, AreStarts, HasStarts}
 use Rattle.ics_series.specs.Listing.{IsIn}
 use Rattle.ics_series.specs.Rising.{IsBefore, Rises}
@@ -160,8 +160,8 @@ in-all-firsts : (s : Start) (xs : List Start) → Climbs start_cmp xs → IsIn s
 in-all-firsts s xs h m = ⊎_elim (λ f. let g : None ≡ Some s.moment = f in absurd cc) (λ k. k) (in-firsts None s xs h m)
 
 -- starts in any order, sorted, and of each run the first
-pub first-starts : (display : Clock) (event : Event) (w : Window) (xs ys : List Start) → HasStarts display event w xs → IsPermutation xs ys → IsSorted start_cmp ys → AreStarts display event w (firsts_after None ys)
-first-starts display event w xs ys h p s =
+pub first-starts : (clocks : Clocks) (event : Event) (w : Window) (xs ys : List Start) → HasStarts clocks event w xs → IsPermutation xs ys → IsSorted start_cmp ys → AreStarts clocks event w (firsts_after None ys)
+first-starts clocks event w xs ys h p s =
     let climbs : Climbs start_cmp ys = climbs-sorted start_cmp start_total ys s in
     record {
       rises = rises-firsts ys (climbs-moments ys climbs);

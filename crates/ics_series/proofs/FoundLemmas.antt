@@ -8,7 +8,7 @@ use Rattle.std.specs.declared.cmp.Ordering.{Ordering}
 use Rattle.std.specs.Cmp.{unsigned_ties}
 use Rattle.std.proofs.lemmas.Cmp.{nat_cmp_total, nat_list_cmp_total, on_total, then_total}
 use Rattle.std.proofs.lemmas.List.Sorted.{IsPermutation-map, IsPermutation-sym}
-use Rattle.ics_calendar.specs.declared.events.FileEvents.{FileEvents}
+use Rattle.ics_calendar.specs.Event.{FileSaid}
 use Rattle.ics_series.specs.declared.spot.Spot.{Spot}
 use Rattle.ics_series.specs.declared.version.Version.{Version}
 use Rattle.ics_series.specs.Versions.{Label, seen, label_of, placed_in, is_same_uid, is_followed, lasts, AreMasters}
@@ -46,7 +46,7 @@ map-map : {A B C : Type 0} (f : A → B) (g : B → C) (xs : List A) → map g (
 map-map f g [] = refl
 map-map f g (x ∷ xs) = ap (λ l. g (f x) ∷ l) (map-map f g xs)
 
-pub found : (files : List FileEvents) (vs ws : List Version) (spots : List Spot) → map seen vs ≡ map label_of (placed_in 0 files) → IsPermutation vs ws → IsSorted (on seen label_cmp) ws
+pub found : (files : List FileSaid) (vs ws : List Version) (spots : List Spot) → map seen vs ≡ map label_of (placed_in 0 files) → IsPermutation vs ws → IsSorted (on seen label_cmp) ws
     → spots ≡ map (λ l. l.spot) (lasts is_same_uid (map seen ws)) → AreMasters files spots
 found files vs ws spots e p s l =
     let moved = followed label_of (placed_in 0 files) (map seen vs) (map seen ws) e (IsPermutation-map seen vs ws p) in

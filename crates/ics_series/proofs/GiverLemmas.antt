@@ -18,7 +18,7 @@ use Rattle.ics_rule.proofs.NextLemmas.{in_rule_earlier}
 use Rattle.ics_calendar.specs.declared.time.Time.{Time}
 use Rattle.ics_calendar.specs.declared.event.Event.{Event}
 use Rattle.ics_calendar.specs.Event.{IsTime, is_zoned}
-use Rattle.ics_series.specs.Clocks.{Clock, seconds_of, written}
+use Rattle.ics_series.specs.Clocks.{Clocks, seconds_of, written}
 use Rattle.ics_series.specs.Starts.{local_of, stamp_at, time_at, recurrence_by, recurrence_of, GivesStart}
 
 -- Locals.
@@ -146,8 +146,8 @@ rule-is first (Some parts) rule e = (parts, some-same rule (recurrence_by first 
 rule-is first None rule e = let f : None ≡ Some rule = e in absurd cc
 
 -- Times that give starts.
-pub giver-local : (display : Clock) (event : Event) (given : Time) → GivesStart display event given → (a : Local) × (given ≡ time_at event.start a)
-giver-local display event given g =
+pub giver-local : (clocks : Clocks) (event : Event) (given : Time) → GivesStart clocks event given → (a : Local) × (given ≡ time_at event.start a)
+giver-local clocks event given g =
     ⊎_elim (λ e. (local_of event.start.stamp, e ∙ sym (own-time event.start))) (λ r. (r.local, r.is)) g
 
 -- what the rule keeps is a time of the years of stamps
@@ -157,9 +157,9 @@ kept-time event rule a h e d k =
     time-at event.start a h (kept-day event.start by.0 a h d (subst (λ r. is_kept r (number a) ≡ true) by.1 k))
 
 -- two that write the same are the same
-pub same-giver : (display : Clock) (event : Event) (g k : Time) → GivesStart display event g → GivesStart display event k → written g.stamp ≡ written k.stamp → g ≡ k
-same-giver display event g k gs ks e =
-    let a = giver-local display event g gs in
-    let b = giver-local display event k ks in
+pub same-giver : (clocks : Clocks) (event : Event) (g k : Time) → GivesStart clocks event g → GivesStart clocks event k → written g.stamp ≡ written k.stamp → g ≡ k
+same-giver clocks event g k gs ks e =
+    let a = giver-local clocks event g gs in
+    let b = giver-local clocks event k ks in
     let stamps = same-written event.start.stamp a.0 b.0 (sym (ap (λ t. written t.stamp) a.1) ∙ (e ∙ ap (λ t. written t.stamp) b.1)) in
     a.1 ∙ (ap (λ s. record { stamp = s; zone = event.start.zone }) stamps ∙ sym b.1)

@@ -1,31 +1,71 @@
 -- Where instants lie.
-use Rattle.std.proofs.Common.{◌≡◌, ℕ, ◌+◌, ◌*◌, ◌<◌, ℤ, pos, neg_ℤ, ◌+ℤ◌, ◌-ℤ◌, ◌<ℤ◌, ◌≤ℤ◌, true, false, Option, Some, None, is_some, IfSome, refl, sym, ◌∙◌, ap, subst, arith}
+use Rattle.std.specs.Prelude.{slice_get, ◌==◌, ◌||◌}
+use Rattle.std.proofs.Common.{◌≡◌, ℕ, Bool, zero, suc, ◌+◌, ◌*◌, ℤ, pos, neg_ℤ, ◌+ℤ◌, ◌-ℤ◌, ◌<ℤ◌, ◌≤ℤ◌, true, false, List, [], ◌∷◌, map, Option, Some, None, is_some, refl, sym, ◌∙◌, ap, subst, arith}
 use Rattle.std.specs.Int.{int_max}
 use Rattle.std.proofs.lemmas.Int.{int_max_is, ints}
 use Rattle.ics_values.specs.declared.duration.Duration.{Duration}
+use Rattle.ics_values.specs.declared.local.Local.{Local}
 use Rattle.ics_values.specs.declared.stamp.Stamp.{Stamp}
 use Rattle.ics_values.specs.declared.stamp.Stamp.TheVariants.{Date, Floating, Utc, Zoned}
-use Rattle.ics_calendar.specs.declared.time.Time.{Time}
-use Rattle.ics_calendar.specs.declared.time.Length.TheVariants.{Lasting, Until}
 use Rattle.ics_values.specs.Stamps.{stamp_day, IsStampDay}
-use Rattle.ics_calendar.specs.Event.{IsEnd, IsLength, IsTime, is_zoned}
+use Rattle.ics_calendar.specs.declared.time.Time.{Time}
+use Rattle.ics_calendar.specs.declared.time.Length.{Length}
+use Rattle.ics_calendar.specs.declared.time.Length.TheVariants.{Open, Lasting, Until}
+use Rattle.ics_calendar.specs.Event.{compared, is_one_zone, stamp_seconds, EndsWithin, IsEnd, IsLength, IsTime, IsWithin, is_zoned, moment_by}
 use Rattle.ics_zone.specs.Displays.{moment_of}
-use Rattle.ics_zone.specs.Near.{moment_near}
+use Rattle.ics_zone.specs.Near.{moment_near, offset_near}
+use Rattle.ics_zone.specs.Observances.{Phase}
 use Rattle.ics_zone.specs.Places.{IsNear}
+use Rattle.ics_zone.specs.Tables.{Timeline, phases_of}
+use Rattle.ics_zone.specs.ZoneBounds.{timeline_moment_near, timeline_offset_near}
 use Rattle.ics_zone.specs.Zones.{zone_of}
 use Rattle.ics_zone.specs.declared.display.Display.{Display}
-use Rattle.ics_series.specs.Clocks.{Clock, clock_by, display_clock, instant, midnight, written}
+use Rattle.ics_series.specs.declared.zones.FileZones.{FileZones}
+use Rattle.ics_series.specs.Clocks.{Clock, Clocks, clock_at, clock_by, clocks_of, display_clock, instant, midnight, seconds_of, utc_clock, written, zone_clock}
 use Rattle.ics_series.specs.Finish.{end_by, seconds_by}
+use Rattle.ics_series.specs.Zones.{clocks_in, EndsNear}
+
+-- a clock moves a local, or an instant, by less than two days
+pub record IsNearClock (clock : Clock) : Type 0 where
+  pub moment : (x : ℤ) → IsNear (clock.moment x -ℤ x)
+  pub offset : (t : ℤ) → IsNear (clock.offset t)
+
+near-utc : IsNearClock utc_clock
+near-utc = record { moment = λ x. (omega (arith, ints), omega (arith, ints)); offset = λ t. (omega (arith, ints), omega (arith, ints)) }
+
+near-zone : (zone : Timeline) → IsNearClock (zone_clock (phases_of zone))
+near-zone zone = record { moment = timeline_moment_near zone; offset = timeline_offset_near zone }
+
+near-display : (display : Display) → IsNearClock (display_clock display)
+near-display display = record { moment = moment_near (zone_of display); offset = offset_near (zone_of display) }
+
+near-at : (zones : List Timeline) (zone : Option ℕ) → IsNearClock (clock_at (map zone_clock (map phases_of zones)) zone)
+near-at zones None = near-utc
+near-at [] (Some zone) = near-utc
+near-at (z ∷ zones) (Some zero) = near-zone z
+near-at (z ∷ zones) (Some (suc zone)) = near-at zones (Some zone)
+
+near-by : (display : Display) (zones : List Timeline) (index : Option ℕ) (s : Stamp) → IsNearClock (clock_by (clocks_of (display_clock display) (map phases_of zones)) index s)
+near-by display zones index (Date day) = near-display display
+near-by display zones index (Floating local) = near-display display
+near-by display zones index (Utc local) = near-utc
+near-by display zones index (Zoned local) = near-at zones index
+
+pub near-clock : (zones : FileZones) (index : Option ℕ) (s : Stamp) → IsNearClock (clock_by (clocks_in zones) index s)
+near-clock zones = near-by zones.display.now zones.zones.now
 
 -- an instant lies less than two days from what its stamp writes
-pub stamp_near : (display : Display) (s : Stamp) → IsNear ((clock_by (display_clock display) s).moment (written s) -ℤ written s)
-stamp_near display (Date day) = moment_near (zone_of display) (written (Date day))
-stamp_near display (Floating local) = moment_near (zone_of display) (written (Floating local))
-stamp_near display (Utc local) = (omega (arith, ints), omega (arith, ints))
-stamp_near display (Zoned local) = moment_near (zone_of display) (written (Zoned local))
+near-written : (display : Display) (zones : List Timeline) (time : Time) → IsNear (instant (clocks_of (display_clock display) (map phases_of zones)) time -ℤ written time.stamp)
+near-written display zones time = (near-by display zones time.zone time.stamp).moment (written time.stamp)
+
+pub instant-near : (zones : FileZones) (time : Time) → IsNear (instant (clocks_in zones) time -ℤ written time.stamp)
+instant-near zones = near-written zones.display.now zones.zones.now
+
+pub near-moved : (f : ℤ → ℤ) (near : (x : ℤ) → IsNear (f x -ℤ x)) (r l : ℤ) → r ≡ f l → IsNear (r -ℤ l)
+near-moved f near r l e = subst (λ m. IsNear (m -ℤ l)) (sym e) (near l)
 
 pub result_near : (display : Display) (r l : ℤ) → r ≡ moment_of (zone_of display) l → IsNear (r -ℤ l)
-result_near display r l e = subst (λ m. IsNear (m -ℤ l)) (sym e) (moment_near (zone_of display) l)
+result_near display = near-moved (moment_of (zone_of display)) (moment_near (zone_of display))
 
 pub moved : (f : ℤ → ℤ) (s r l m : ℤ) → s ≡ r → r ≡ f l → l ≡ m → s ≡ f m
 moved f s r l m a e h = a ∙ (e ∙ ap f h)
@@ -45,67 +85,116 @@ early-written (Zoned local) h = omega (arith, ints, h.1, local.second_in)
 max-turned : (a b : ℤ) → int_max a b ≡ int_max b a
 max-turned a b = omega (arith, ints, int_max_is a b, int_max_is b a)
 
-pub early : (display : Display) (time : Time) → IsTime time → instant (display_clock display) time <ℤ pos 250_246_800_000
-early display time h = omega (arith, ints, stamp_near display time.stamp, early-written time.stamp h.years)
+pub early : (zones : FileZones) (time : Time) → IsTime time → instant (clocks_in zones) time <ℤ pos 250_246_800_000
+early zones time h = omega (arith, ints, instant-near zones time, early-written time.stamp h.years)
 
 -- an event begins after the last two days of the year 0000 have begun
-pub late : (display : Display) (time : Time) → IsTime time → neg_ℤ (pos 62_135_769_600) ≤ℤ instant (display_clock display) time
-late display time h = omega (arith, ints, stamp_near display time.stamp, late-written time.stamp h.years)
+pub late : (zones : FileZones) (time : Time) → IsTime time → neg_ℤ (pos 62_135_769_600) ≤ℤ instant (clocks_in zones) time
+late zones time h = omega (arith, ints, instant-near zones time, late-written time.stamp h.years)
 
 pub date-late : (s : Stamp) (day : ℤ) → s ≡ Date day → IsStampDay (stamp_day s) → neg_ℤ (pos 719_162) ≤ℤ day
 date-late s day d h = let years : IsStampDay day = subst (λ t. IsStampDay (stamp_day t)) d h in omega (arith, ints, years.0)
 
 -- the date of an event that begins before a window's end
-pub date-early : (display : Display) (s : Stamp) (day start : ℤ) → s ≡ Date day → start ≡ (clock_by (display_clock display) s).moment (written s) → start <ℤ pos 247_091_126_400 → day ≤ℤ pos 2_859_853
-date-early display s day start d e h =
-    let same : start ≡ moment_of (zone_of display) (midnight day) = e ∙ ap (λ t. (clock_by (display_clock display) t).moment (written t)) d in
-    omega (arith, ints, result_near display start (midnight day) same)
+pub date-early : (zones : FileZones) (zone : Option ℕ) (s : Stamp) (day start : ℤ) → s ≡ Date day → start ≡ (clock_by (clocks_in zones) zone s).moment (written s) → start <ℤ pos 247_091_126_400 → day ≤ℤ pos 2_859_853
+date-early zones zone s day start d e h =
+    let same : start ≡ moment_of (zone_of zones.display.now) (midnight day) = e ∙ ap (λ t. (clock_by (clocks_in zones) zone t).moment (written t)) d in
+    omega (arith, ints, result_near zones.display.now start (midnight day) same)
 
 -- a DTEND is as far off from a start as from DTSTART
-pub until : (display : Clock) (first given end : Time) (s : Stamp) → ((day : ℤ) → s ≡ Date day → ⊥)
-    → instant display given +ℤ (instant display end -ℤ instant display first) ≡ end_by display first given s (Until end)
-until display first given end (Date day) h = absurd (h day refl)
-until display first given end (Floating local) h = refl
-until display first given end (Utc local) h = refl
-until display first given end (Zoned local) h = refl
+pub until : (clocks : Clocks) (first given end : Time) (s : Stamp) → ((day : ℤ) → s ≡ Date day → ⊥)
+    → instant clocks given +ℤ (instant clocks end -ℤ instant clocks first) ≡ end_by clocks first given s (Until end)
+until clocks first given end (Date day) h = absurd (h day refl)
+until clocks first given end (Floating local) h = refl
+until clocks first given end (Utc local) h = refl
+until clocks first given end (Zoned local) h = refl
 
-pub until-seconds : (display : Clock) (first end : Time) (s : Stamp) → ((day : ℤ) → s ≡ Date day → ⊥)
-    → int_max (instant display end -ℤ instant display first) (pos 0) ≡ seconds_by display first s (Until end)
-until-seconds display first end (Date day) h = absurd (h day refl)
-until-seconds display first end (Floating local) h = max-turned (instant display end -ℤ instant display first) (pos 0)
-until-seconds display first end (Utc local) h = max-turned (instant display end -ℤ instant display first) (pos 0)
-until-seconds display first end (Zoned local) h = max-turned (instant display end -ℤ instant display first) (pos 0)
+pub until-seconds : (clocks : Clocks) (first end : Time) (s : Stamp) → ((day : ℤ) → s ≡ Date day → ⊥)
+    → int_max (instant clocks end -ℤ instant clocks first) (pos 0) ≡ seconds_by clocks first s (Until end)
+until-seconds clocks first end (Date day) h = absurd (h day refl)
+until-seconds clocks first end (Floating local) h = max-turned (instant clocks end -ℤ instant clocks first) (pos 0)
+until-seconds clocks first end (Utc local) h = max-turned (instant clocks end -ℤ instant clocks first) (pos 0)
+until-seconds clocks first end (Zoned local) h = max-turned (instant clocks end -ℤ instant clocks first) (pos 0)
 
-pub lasting-seconds : (display : Clock) (first : Time) (duration : Duration) (s : Stamp) → ((day : ℤ) → s ≡ Date day → ⊥)
-    → pos (duration.days * 86_400 + duration.seconds) ≡ seconds_by display first s (Lasting duration)
-lasting-seconds display first duration (Date day) h = absurd (h day refl)
-lasting-seconds display first duration (Floating local) h = refl
-lasting-seconds display first duration (Utc local) h = refl
-lasting-seconds display first duration (Zoned local) h = refl
+pub lasting-seconds : (clocks : Clocks) (first : Time) (duration : Duration) (s : Stamp) → ((day : ℤ) → s ≡ Date day → ⊥)
+    → pos (duration.days * 86_400 + duration.seconds) ≡ seconds_by clocks first s (Lasting duration)
+lasting-seconds clocks first duration (Date day) h = absurd (h day refl)
+lasting-seconds clocks first duration (Floating local) h = refl
+lasting-seconds clocks first duration (Utc local) h = refl
+lasting-seconds clocks first duration (Zoned local) h = refl
 
 -- Events without zones.
-no-zone : (o : Option ℕ) → IfSome o (λ zone. zone < 0) → is_some o ≡ false
-no-zone None h = refl
-no-zone (Some zone) h = absurd (omega (arith, h))
+end-within : (s e : Stamp) → IsEnd s e → is_zoned s ≡ false → is_zoned e ≡ false → written e ≤ℤ (written s +ℤ pos 3_155_760_000)
+end-within (Date a) (Date b) k z y = omega (arith, ints, k.short)
+end-within (Date a) (Floating b) k z y = absurd k
+end-within (Date a) (Utc b) k z y = absurd k
+end-within (Date a) (Zoned b) k z y = absurd k
+end-within (Floating a) (Date b) k z y = absurd k
+end-within (Floating a) (Floating b) k z y = omega (arith, ints, k.short)
+end-within (Floating a) (Utc b) k z y = absurd k
+end-within (Floating a) (Zoned b) k z y = absurd k
+end-within (Utc a) (Date b) k z y = absurd k
+end-within (Utc a) (Floating b) k z y = absurd k
+end-within (Utc a) (Utc b) k z y = omega (arith, ints, k.short)
+end-within (Utc a) (Zoned b) k z y = let f : true ≡ false = y in absurd cc
+end-within (Zoned a) e k z y = let f : true ≡ false = z in absurd cc
 
-unzoned : (time : Time) → IsTime time → IfSome time.zone (λ zone. zone < 0) → is_zoned time.stamp ≡ false
-unzoned time h z = sym h.zone ∙ no-zone time.zone z
+-- the instant that a local means by its index
+zone-moment : (zones : List (List Phase)) (index : ℕ) (local : Local) → (clock_at (map zone_clock zones) (Some index)).moment (seconds_of local) ≡ moment_by (slice_get zones index) local
+zone-moment [] index local = refl
+zone-moment (z ∷ zones) zero local = refl
+zone-moment (z ∷ zones) (suc index) local = zone-moment zones index local
 
-end-within : (s e : Stamp) → ((day : ℤ) → s ≡ Date day → ⊥) → IsEnd s e → is_zoned s ≡ false → is_zoned e ≡ false → written e ≤ℤ (written s +ℤ pos 3_155_760_000)
-end-within (Date day) e h k z y = absurd (h day refl)
-end-within (Floating a) (Date b) h k z y = absurd k
-end-within (Floating a) (Floating b) h k z y = omega (arith, ints, k.short)
-end-within (Floating a) (Utc b) h k z y = absurd k
-end-within (Floating a) (Zoned b) h k z y = absurd k
-end-within (Utc a) (Date b) h k z y = absurd k
-end-within (Utc a) (Floating b) h k z y = absurd k
-end-within (Utc a) (Utc b) h k z y = omega (arith, ints, k.short)
-end-within (Utc a) (Zoned b) h k z y = let f : true ≡ false = y in absurd cc
-end-within (Zoned a) e h k z y = let f : true ≡ false = z in absurd cc
+-- DTEND is not far from DTSTART
+module _ (zones : FileZones) where
+  abbrev moment_of-stamp : Option ℕ → Stamp → ℤ
+  moment_of-stamp index s = (clock_by (clocks_in zones) index s).moment (written s)
 
--- in an event without zones DTEND is not far from DTSTART
-pub end-span : (display : Display) (first end : Time) → ((day : ℤ) → first.stamp ≡ Date day → ⊥) → IsTime first → IfSome first.zone (λ zone. zone < 0) → IfSome end.zone (λ zone. zone < 0) → IsLength first.stamp (Until end)
-    → instant (display_clock display) end ≤ℤ (instant (display_clock display) first +ℤ pos 3_156_105_598)
-end-span display first end h t z y l =
-    let within = end-within first.stamp end.stamp h l.1 (unzoned first t z) (unzoned end l.0 y) in
-    omega (arith, ints, within, stamp_near display first.stamp, stamp_near display end.stamp)
+  unzoned-near : (i j : Option ℕ) (s e : Stamp) → IsEnd s e → is_zoned s ≡ false → is_zoned e ≡ false → moment_of-stamp j e ≤ℤ (moment_of-stamp i s +ℤ pos 3_156_105_600)
+  unzoned-near i j s e k z y =
+      let within = end-within s e k z y in
+      omega (arith, ints, within, (near-clock zones i s).moment (written s), (near-clock zones j e).moment (written e))
+
+  abbrev own : List (List Phase)
+  own = map phases_of zones.zones.now
+
+  abbrev time_by : Option ℕ → Stamp → Time
+  time_by index s = record { stamp = s; zone = index }
+
+  one-zone-near : (i j : Option ℕ) (a b : Local) → IsWithin (stamp_seconds (Zoned a)) (stamp_seconds (Zoned b)) → moment_of-stamp j (Zoned b) ≤ℤ (moment_of-stamp i (Zoned a) +ℤ pos 3_156_105_600)
+  one-zone-near i j a b within = omega (arith, ints, within.short, (near-clock zones i (Zoned a)).moment (seconds_of a), (near-clock zones j (Zoned b)).moment (seconds_of b))
+
+  zoned-near : (one : Bool) (x y : ℕ) (a b : Local) → IsWithin (compared one own (time_by (Some x) (Zoned a))) (compared one own (time_by (Some y) (Zoned b)))
+      → moment_of-stamp (Some y) (Zoned b) ≤ℤ (moment_of-stamp (Some x) (Zoned a) +ℤ pos 3_156_105_600)
+  zoned-near true x y a b within = one-zone-near (Some x) (Some y) a b within
+  zoned-near false x y a b within = omega (arith, ints, within.short, zone-moment own x a, zone-moment own y b)
+
+  stamps-near : (i j : Option ℕ) (s e : Stamp) → is_some i ≡ is_zoned s → is_some j ≡ is_zoned e → IsEnd s e
+      → ((is_some i || is_some j) ≡ true → IsWithin (compared (is_one_zone i j) own (time_by i s)) (compared (is_one_zone i j) own (time_by j e))) → moment_of-stamp j e ≤ℤ (moment_of-stamp i s +ℤ pos 3_156_105_600)
+  stamps-near i j (Date a) (Date b) p q k h = unzoned-near i j (Date a) (Date b) k refl refl
+  stamps-near i j (Date a) (Floating b) p q k h = absurd k
+  stamps-near i j (Date a) (Utc b) p q k h = absurd k
+  stamps-near i j (Date a) (Zoned b) p q k h = absurd k
+  stamps-near i j (Floating a) (Date b) p q k h = absurd k
+  stamps-near i j (Floating a) (Floating b) p q k h = unzoned-near i j (Floating a) (Floating b) k refl refl
+  stamps-near i j (Floating a) (Utc b) p q k h = absurd k
+  stamps-near i j (Floating a) (Zoned b) p q k h = absurd k
+  stamps-near i j (Utc a) (Date b) p q k h = absurd k
+  stamps-near i j (Utc a) (Floating b) p q k h = absurd k
+  stamps-near i j (Utc a) (Utc b) p q k h = unzoned-near i j (Utc a) (Utc b) k refl refl
+  stamps-near None (Some y) (Utc a) (Zoned b) p q k h = let short = (h refl).short in omega (arith, ints, short, zone-moment own y b)
+  stamps-near None None (Utc a) (Zoned b) p q k h = let f : false ≡ true = q in absurd cc
+  stamps-near (Some x) j (Utc a) (Zoned b) p q k h = let f : true ≡ false = p in absurd cc
+  stamps-near i j (Zoned a) (Date b) p q k h = absurd k
+  stamps-near i j (Zoned a) (Floating b) p q k h = absurd k
+  stamps-near (Some x) None (Zoned a) (Utc b) p q k h = let short = (h refl).short in omega (arith, ints, short, zone-moment own x a)
+  stamps-near (Some x) (Some y) (Zoned a) (Utc b) p q k h = let f : true ≡ false = q in absurd cc
+  stamps-near None j (Zoned a) (Utc b) p q k h = let f : false ≡ true = p in absurd cc
+  stamps-near (Some x) (Some y) (Zoned a) (Zoned b) p q k h = zoned-near (x == y) x y a b (h refl)
+  stamps-near (Some x) None (Zoned a) (Zoned b) p q k h = let f : false ≡ true = q in absurd cc
+  stamps-near None j (Zoned a) (Zoned b) p q k h = let f : false ≡ true = p in absurd cc
+
+  pub ends-near : (first : Time) (length : Length) → IsTime first → IsLength first.stamp length → EndsWithin own first length → EndsNear (clocks_in zones) first length
+  ends-near first Open t l h = tt
+  ends-near first (Lasting duration) t l h = tt
+  ends-near first (Until end) t l h = stamps-near first.zone end.zone first.stamp end.stamp t.zone l.0.zone l.1 h

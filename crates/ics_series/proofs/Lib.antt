@@ -13,6 +13,9 @@ pub mod MeetingLemmas
 pub mod MetLemmas
 pub mod NearLemmas
 pub mod PlacedLemmas
+pub mod ReachLemmas
 pub mod SortLemmas
+pub mod SpotLemmas
 pub mod StartLaws
 pub mod VersionLemmas
+pub mod ZoneLemmas

@@ -8,12 +8,12 @@ use Rattle.std.proofs.lemmas.Int.{ints}
 use Rattle.std.proofs.lemmas.Map.Lookups.{exact_unsigned}
 use Rattle.std.specs.declared.cmp.Ordering.{Ordering}
 use Rattle.std.specs.declared.cmp.Ordering.TheVariants.{Less, Equal, Greater}
+use Rattle.ics_calendar.specs.Event.{FileSaid}
 use Rattle.ics_calendar.specs.declared.event.Event.{Event}
-use Rattle.ics_calendar.specs.declared.events.FileEvents.{FileEvents}
-use Rattle.ics_series.specs.Clocks.{Clock}
+use Rattle.ics_series.specs.Clocks.{Clock, Clocks, clocks_of}
 use Rattle.ics_series.specs.Entry.{Entry}
 use Rattle.ics_series.specs.Finish.{finish}
-use Rattle.ics_series.specs.Occurs.{Placed, IsPlaced, IsInstance, IsMaster, Occurs, placed_cmp}
+use Rattle.ics_series.specs.Occurs.{Placed, IsPlaced, IsInstance, IsMaster, Occurs, placed_cmp, zones_in}
 use Rattle.ics_series.proofs.GiverLemmas.{same-giver}
 
 pub placed_total : IsTotalOrder placed_cmp
@@ -39,7 +39,7 @@ same-places p q h =
 some-same : {X : Type 0} (x y : X) → Some x ≡ Some y → x ≡ y
 some-same x y h = cc
 
-same-event : (files : List FileEvents) (p q : Placed) → IsPlaced files p → IsPlaced files q → p.file ≡ q.file → p.place ≡ q.place → p.event ≡ q.event
+same-event : (files : List FileSaid) (p q : Placed) → IsPlaced files p → IsPlaced files q → p.file ≡ q.file → p.place ≡ q.place → p.event ≡ q.event
 same-event files p q h k e f =
     let file : h.within.0 ≡ k.within.0 = some-same _ _ (sym h.within.1 ∙ (ap (slice_get files) e ∙ k.within.1)) in
     some-same _ _ (sym h.within.2 ∙ (ap (λ x. slice_get x.events p.place) file ∙ (ap (slice_get k.within.0.events) f ∙ k.within.2)))
@@ -48,14 +48,14 @@ abbrev make : ℕ → ℕ → Event → Placed
 make file place event = record { file = file; place = place; event = event }
 
 -- of one place there is one event
-pub same-placed : (files : List FileEvents) (p q : Placed) → IsPlaced files p → IsPlaced files q → placed_cmp p q ≡ Equal → p ≡ q
+pub same-placed : (files : List FileSaid) (p q : Placed) → IsPlaced files p → IsPlaced files q → placed_cmp p q ≡ Equal → p ≡ q
 same-placed files p q h k e =
     let places = same-places p q e in
     let event = same-event files p q h k places.0 places.1 in
     ap (λ f. make f p.place p.event) places.0 ∙ (ap (λ n. make q.file n p.event) places.1 ∙ ap (make q.file q.place) event)
 
 -- a UID has one master at most
-pub one-master : (files : List FileEvents) (p q : Placed) → IsMaster files p → IsMaster files q → p.event.uid ≡ q.event.uid → p ≡ q
+pub one-master : (files : List FileSaid) (p q : Placed) → IsMaster files p → IsMaster files q → p.event.uid ≡ q.event.uid → p ≡ q
 one-master files p q h k u =
     same-placed files p q h.placed k.placed
     (tied-by p q (placed_cmp p q) refl (h.greatest q k.placed (sym u)) (k.greatest p h.placed u))
@@ -67,17 +67,18 @@ same-entry o q a b c d =
     ∙ (ap (λ r. build q.start q.finish r o.event) c ∙ ap (λ e. build q.start q.finish q.recurrence e) d))
 
 -- an event has one occurrence at most with a start
-one-instance : (display : Clock) (event : Event) (start end other : ℤ) → IsInstance display event start end → IsInstance display event start other → end ≡ other
-one-instance display event start end other h k =
+one-instance : (clocks : Clocks) (event : Event) (start end other : ℤ) → IsInstance clocks event start end → IsInstance clocks event start other → end ≡ other
+one-instance clocks event start end other h k =
     let below = h.earliest k.given k.gives (sym k.starts) in
     let above = k.earliest h.given h.gives (sym h.starts) in
-    let same : h.given ≡ k.given = same-giver display event h.given k.given h.gives k.gives (omega (arith, ints, below, above)) in
-    h.ends ∙ (ap (finish display event) same ∙ sym k.ends)
+    let same : h.given ≡ k.given = same-giver clocks event h.given k.given h.gives k.gives (omega (arith, ints, below, above)) in
+    h.ends ∙ (ap (finish clocks event) same ∙ sym k.ends)
 
-pub one-recurrence : (files : List FileEvents) (display : Clock) (o q : Entry) → Occurs files display o → Occurs files display q → o.event.uid ≡ q.event.uid → o.recurrence ≡ q.recurrence → o ≡ q
+pub one-recurrence : (files : List FileSaid) (display : Clock) (o q : Entry) → Occurs files display o → Occurs files display q → o.event.uid ≡ q.event.uid → o.recurrence ≡ q.recurrence → o ≡ q
 one-recurrence files display o q h k u r =
     let uid : h.0.event.uid ≡ k.0.event.uid = sym (ap (λ e. e.uid) h.2.event) ∙ (u ∙ ap (λ e. e.uid) k.2.event) in
-    let event : h.0.event ≡ k.0.event = ap (λ p. p.event) (one-master files h.0 k.0 h.1 k.1 uid) in
+    let master : h.0 ≡ k.0 = one-master files h.0 k.0 h.1 k.1 uid in
     let start : o.start ≡ q.start = sym h.2.recurrence ∙ (r ∙ k.2.recurrence) in
-    let instance : IsInstance display k.0.event q.start o.finish = subst (λ e. IsInstance display e q.start o.finish) event (subst (λ t. IsInstance display h.0.event t o.finish) start h.2.lasts) in
-    same-entry o q start (one-instance display k.0.event q.start o.finish q.finish instance k.2.lasts) r (h.2.event ∙ (event ∙ sym k.2.event))
+    let clocks : Placed → Clocks = λ p. clocks_of display (zones_in files p.file) in
+    let instance : IsInstance (clocks k.0) k.0.event q.start o.finish = subst (λ p. IsInstance (clocks p) p.event q.start o.finish) master (subst (λ t. IsInstance (clocks h.0) h.0.event t o.finish) start h.2.lasts) in
+    same-entry o q start (one-instance (clocks k.0) k.0.event q.start o.finish q.finish instance k.2.lasts) r (h.2.event ∙ (ap (λ p. p.event) master ∙ sym k.2.event))

@@ -10,16 +10,16 @@ use Rattle.std.proofs.Math.ListN.{drop_of_length-le}
 use Rattle.std.proofs.Math.Seq.{drop-cons}
 use Rattle.std.proofs.lemmas.List.{append-nil, append_assoc}
 use Rattle.std.proofs.lemmas.List.Elements.{Contains-get_or}
+use Rattle.ics_calendar.specs.Event.{FileSaid}
 use Rattle.ics_calendar.specs.declared.event.Event.{Event}
-use Rattle.ics_calendar.specs.declared.events.FileEvents.{FileEvents}
 use Rattle.ics_series.specs.declared.spot.Spot.{Spot}
 use Rattle.ics_series.specs.declared.window.Window.{Window}
-use Rattle.ics_series.specs.Clocks.{Clock}
+use Rattle.ics_series.specs.Clocks.{Clock, clocks_of}
 use Rattle.ics_series.specs.Entry.{Entry}
 use Rattle.ics_series.specs.Listing.{IsIn, IsListing}
 use Rattle.ics_series.specs.Rising.{IsBefore, Rises}
 use Rattle.ics_series.specs.MetList.{entry_start_cmp, met_cmp, IsEventMet, IsLengthened, IsMetList}
-use Rattle.ics_series.specs.Occurs.{Placed, IsPlaced}
+use Rattle.ics_series.specs.Occurs.{Placed, IsPlaced, zones_in}
 use Rattle.ics_series.specs.Spots.{event_at}
 use Rattle.ics_series.specs.Versions.{AreMasters, spot_of, uid_cmp}
 use Rattle.ics_series.proofs.ListingLemmas.{before-in}
@@ -28,10 +28,10 @@ use Rattle.ics_series.proofs.SortLemmas.{in-contains}
 use Rattle.ics_series.proofs.VersionLemmas.{uid_total}
 
 -- The events that stand there.
-placed-event : (files : List FileEvents) (p : Placed) → IsPlaced files p → event_at files (spot_of p) ≡ Some p.event
+placed-event : (files : List FileSaid) (p : Placed) → IsPlaced files p → event_at files (spot_of p) ≡ Some p.event
 placed-event files p h = ap (option_and_then (λ f. slice_get f.events p.place)) h.within.1 ∙ h.within.2
 
-pub stands : (files : List FileEvents) (spots : List Spot) (i : ℕ) (d : Spot) → AreMasters files spots → i < length spots → IsSome (event_at files (get_or spots i d))
+pub stands : (files : List FileSaid) (spots : List Spot) (i : ℕ) (d : Spot) → AreMasters files spots → i < length spots → IsSome (event_at files (get_or spots i d))
 stands files spots i d h l =
     let m : IsIn (get_or spots i d) (map spot_of h.masters) = subst (IsIn (get_or spots i d)) h.spots_are (in-contains (get_or spots i d) spots (Contains-get_or spots i d l)) in
     let p = in-map (get_or spots i d) h.masters m in
@@ -42,13 +42,13 @@ stands files spots i d h l =
     in-map s [] m = absurd m
     in-map s (p ∷ ps) m = ⊎_elim (λ e. (p, inl refl, e)) (λ n. let k = in-map s ps n in (k.0, inr k.1, k.2)) m
 
-module _ (files : List FileEvents) (display : Clock) (w : Window) where
+module _ (files : List FileSaid) (display : Clock) (w : Window) where
   -- the occurrences of the event that stands there, in the order of their starts, and then others
   pub record IsMetFrom (spot : Spot) (Rest : List Entry → Type 0) (es : List Entry) : Type 0 where
     pub event : Event
     pub stands : event_at files spot ≡ Some event
     pub more : List Entry
-    pub are : IsListing entry_start_cmp (IsEventMet display event w) more
+    pub are : IsListing entry_start_cmp (IsEventMet (clocks_of display (zones_in files spot.file)) event w) more
     pub rest : List Entry
     pub others : Rest rest
     pub joined : es ≡ more ++ rest
@@ -62,14 +62,14 @@ module _ (files : List FileEvents) (display : Clock) (w : Window) where
   abbrev pub AreMetBehind : List Spot → List Entry → List Spot → Type 0
   AreMetBehind spots before rest = (es : List Entry) → AreMet rest es → AreMet spots (before ++ es)
 
-module _ (files : List FileEvents) (display : Clock) (w : Window) where
-  pub met-step : (d : Spot) (spots looked : List Spot) (read : List FileEvents) (before after : List Entry) (i j : ℕ) (event : Event) → looked ≡ spots → read ≡ files → j ≡ suc i → i < length spots
+module _ (files : List FileSaid) (display : Clock) (w : Window) where
+  pub met-step : (d : Spot) (spots looked : List Spot) (read : List FileSaid) (before after : List Entry) (i j : ℕ) (event : Event) → looked ≡ spots → read ≡ files → j ≡ suc i → i < length spots
       → event_at read (get_or looked i d) ≡ Some event
-      → AreMetBehind files display w spots before (drop i spots) → IsLengthened display event w before after → AreMetBehind files display w spots after (drop j spots)
+      → AreMetBehind files display w spots before (drop i spots) → IsLengthened (clocks_of display (zones_in files (get_or looked i d).file)) event w before after → AreMetBehind files display w spots after (drop j spots)
   met-step d spots looked read before after i j event same_spots same_files next l s h k = λ es m.
       let there : event_at files (get_or spots i d) ≡ Some event = ap (λ f. event_at f (get_or spots i d)) (sym same_files) ∙ (ap (λ ss. event_at read (get_or ss i d)) (sym same_spots) ∙ s) in
       let here : AreMet files display w (get_or spots i d ∷ drop (suc i) spots) (k.more ++ es) =
-      record { event = event; stands = there; more = k.more; are = k.are; rest = es; others = subst (λ n. AreMet files display w (drop n spots) es) next m; joined = refl } in
+      record { event = event; stands = there; more = k.more; are = subst (λ ss. IsListing entry_start_cmp (IsEventMet (clocks_of display (zones_in files (get_or ss i d).file)) event w) k.more) same_spots k.are; rest = es; others = subst (λ n. AreMet files display w (drop n spots) es) next m; joined = refl } in
       let whole = h (k.more ++ es) (subst (λ ss. AreMet files display w ss (k.more ++ es)) (sym (drop-cons spots i d l)) here) in
       subst (AreMet files display w spots) (sym (ap (λ xs. xs ++ es) k.behind ∙ append_assoc before k.more es)) whole
 
@@ -110,7 +110,7 @@ module _ (files : List FileEvents) (display : Clock) (w : Window) where
   record IsMetOf (ps : List Placed) (e : Entry) : Type 0 where
     of : Placed
     in_list : IsIn of ps
-    is : IsEventMet display of.event w e
+    is : IsEventMet (clocks_of display (zones_in files of.file)) of.event w e
 
   -- the list has exactly these, in order
   record AreAll (ps : List Placed) (es : List Entry) : Type 0 where
@@ -121,7 +121,7 @@ module _ (files : List FileEvents) (display : Clock) (w : Window) where
   some-same : (x y : Event) → Some x ≡ Some y → x ≡ y
   some-same x y h = cc
 
-  all-step : (p : Placed) (ps : List Placed) (more rest : List Entry) → IsBefore uid_cmp p ps → IsListing entry_start_cmp (IsEventMet display p.event w) more → AreAll ps rest → AreAll (p ∷ ps) (more ++ rest)
+  all-step : (p : Placed) (ps : List Placed) (more rest : List Entry) → IsBefore uid_cmp p ps → IsListing entry_start_cmp (IsEventMet (clocks_of display (zones_in files p.file)) p.event w) more → AreAll ps rest → AreAll (p ∷ ps) (more ++ rest)
   all-step p ps more rest b l h =
       let own : (e : Entry) → IsIn e more → e.event ≡ p.event = λ e m. ((l.exact e).0 m).0.event in
       record {
@@ -135,7 +135,7 @@ module _ (files : List FileEvents) (display : Clock) (w : Window) where
             ⊎_elim (λ a. record { of = p; in_list = inl refl; is = (l.exact e).0 a }) (λ a. let k = h.are e a in record { of = k.of; in_list = inr k.in_list; is = k.is })
             (in-append e more rest m);
         all = λ e k.
-            ⊎_elim (λ s. in-append_left e more rest ((l.exact e).1 (subst (λ q. IsEventMet display q.event w e) s k.is)))
+            ⊎_elim (λ s. in-append_left e more rest ((l.exact e).1 (subst (λ q. IsEventMet (clocks_of display (zones_in files q.file)) q.event w e) s k.is)))
             (λ n. in-append_right e more rest (h.all e (record { of = k.of; in_list = n; is = k.is })))
             k.in_list;
       }
@@ -146,7 +146,7 @@ module _ (files : List FileEvents) (display : Clock) (w : Window) where
       let event : h.event ≡ p.event = some-same h.event p.event (sym h.stands ∙ placed-event files p (placed p (inl refl))) in
       let rest = are-all ps h.rest (λ q m. placed q (inr m)) r.1 h.others in
       subst (AreAll (p ∷ ps)) (sym h.joined)
-      (all-step p ps h.more h.rest r.0 (subst (λ v. IsListing entry_start_cmp (IsEventMet display v w) h.more) event h.are) rest)
+      (all-step p ps h.more h.rest r.0 (subst (λ v. IsListing entry_start_cmp (IsEventMet (clocks_of display (zones_in files p.file)) v w) h.more) event h.are) rest)
 
   pub met-listing : (spots : List Spot) (es : List Entry) → AreMasters files spots → AreMet files display w spots es → IsMetList files display w es
   met-listing spots es h m =

@@ -42,8 +42,11 @@ less-true a b e = grind (arith, ints)
 true-less : (a b : ℤ) → a <ℤ b → int_lt a b ≡ true
 true-less a b e = grind (arith, ints)
 
-le-true : (a b : ℤ) → int_le a b ≡ true → a ≤ℤ b
+pub le-true : (a b : ℤ) → int_le a b ≡ true → a ≤ℤ b
 le-true a b e = grind (arith, ints)
+
+pub not-le : (a b : ℤ) → int_le a b ≡ false → b <ℤ a
+not-le a b e = grind (arith, ints)
 
 true-le : (a b : ℤ) → a ≤ℤ b → int_le a b ≡ true
 true-le a b e = grind (arith, ints)

@@ -1,8 +1,8 @@
 -- The list of a folder's events holds each that stands there.
 use Rattle.std.specs.Prelude.{zero, suc, slice_get}
 use Rattle.std.proofs.Common.{◌≡◌, ℕ, ◌+◌, List, [], ◌∷◌, ◌++◌, Some, None, ◌⊎◌, inl, inr, ⊎_elim, refl, sym, ◌∙◌, ap, subst, arith}
+use Rattle.ics_calendar.specs.Event.{FileSaid}
 use Rattle.ics_calendar.specs.declared.event.Event.{Event}
-use Rattle.ics_calendar.specs.declared.events.FileEvents.{FileEvents}
 use Rattle.ics_series.specs.Listing.{IsIn}
 use Rattle.ics_series.specs.Occurs.{Placed, IsPlaced}
 use Rattle.ics_series.specs.Versions.{placed_from, placed_in}
@@ -48,14 +48,14 @@ among-placed_from file place (x ∷ xs) event zero e =
 among-placed_from file place (x ∷ xs) event (suc k) e =
     inr (subst (λ n. IsIn (make file n event) (placed_from file (place + 1) xs)) (omega arith) (among-placed_from file (place + 1) xs event k e))
 
-record IsAmongFiles (file : ℕ) (files : List FileEvents) (p : Placed) : Type 0 where
+record IsAmongFiles (file : ℕ) (files : List FileSaid) (p : Placed) : Type 0 where
   from : ℕ
   in_file : p.file ≡ file + from
-  of : FileEvents
+  of : FileSaid
   is_file : slice_get files from ≡ Some of
   is : slice_get of.events p.place ≡ Some p.event
 
-placed_in-among : (file : ℕ) (files : List FileEvents) (p : Placed) → IsIn p (placed_in file files) → IsAmongFiles file files p
+placed_in-among : (file : ℕ) (files : List FileSaid) (p : Placed) → IsIn p (placed_in file files) → IsAmongFiles file files p
 placed_in-among file [] p m = absurd m
 placed_in-among file (f ∷ fs) p m =
     ⊎_elim
@@ -65,7 +65,7 @@ placed_in-among file (f ∷ fs) p m =
     record { from = suc h.from; in_file = omega (arith, h.in_file); of = h.of; is_file = h.is_file; is = h.is })
     (in-append p (placed_from file 0 f.events) (placed_in (file + 1) fs) m)
 
-among-placed_in : (file : ℕ) (files : List FileEvents) (of : FileEvents) (k place : ℕ) (event : Event) → slice_get files k ≡ Some of → slice_get of.events place ≡ Some event
+among-placed_in : (file : ℕ) (files : List FileSaid) (of : FileSaid) (k place : ℕ) (event : Event) → slice_get files k ≡ Some of → slice_get of.events place ≡ Some event
     → IsIn (make (file + k) place event) (placed_in file files)
 among-placed_in file [] of k place event h e = let f : None ≡ Some of = h in cc
 among-placed_in file (f ∷ fs) of zero place event h e =
@@ -75,18 +75,18 @@ among-placed_in file (f ∷ fs) of zero place event h e =
     (subst (λ n. IsIn (make file n event) (placed_from file 0 f.events)) (omega arith)
     (among-placed_from file 0 f.events event place (ap (λ x. slice_get x.events place) same ∙ e))))
   where
-    some-same : (a b : FileEvents) → Some a ≡ Some b → a ≡ b
+    some-same : (a b : FileSaid) → Some a ≡ Some b → a ≡ b
     some-same a b h = cc
 among-placed_in file (f ∷ fs) of (suc k) place event h e =
     in-append_right (make (file + suc k) place event) (placed_from file 0 f.events) (placed_in (file + 1) fs)
     (subst (λ n. IsIn (make n place event) (placed_in (file + 1) fs)) (omega arith) (among-placed_in (file + 1) fs of k place event h e))
 
-pub placed-in : (files : List FileEvents) (p : Placed) → IsPlaced files p → IsIn p (placed_in 0 files)
+pub placed-in : (files : List FileSaid) (p : Placed) → IsPlaced files p → IsIn p (placed_in 0 files)
 placed-in files p h =
     subst (λ n. IsIn (make n p.place p.event) (placed_in 0 files)) (omega arith)
     (among-placed_in 0 files h.within.0 p.file p.place p.event h.within.1 h.within.2)
 
-pub in-placed : (files : List FileEvents) (p : Placed) → IsIn p (placed_in 0 files) → IsPlaced files p
+pub in-placed : (files : List FileSaid) (p : Placed) → IsIn p (placed_in 0 files) → IsPlaced files p
 in-placed files p m =
     let h = placed_in-among 0 files p m in
     record { within = (h.of, ap (slice_get files) (omega (arith, h.in_file)) ∙ h.is_file, h.is) }

@@ -13,7 +13,7 @@ use Rattle.ics_rule.proofs.KeptLemmas.{and_true}
 use Rattle.ics_calendar.specs.Event.{IsTime}
 use Rattle.ics_calendar.specs.declared.event.Event.{Event}
 use Rattle.ics_calendar.specs.declared.time.Time.{Time}
-use Rattle.ics_series.specs.Clocks.{Clock, instant, written}
+use Rattle.ics_series.specs.Clocks.{Clocks, instant, written}
 use Rattle.ics_series.specs.Finish.{finish}
 use Rattle.ics_series.specs.Found.{is_until}
 use Rattle.ics_series.specs.Occurs.{IsInstance}
@@ -22,14 +22,14 @@ use Rattle.ics_series.proofs.GiverLemmas.{calendar-day, index-is, kept-late, num
 use Rattle.ics_series.proofs.KeptLemmas.{true-until, until-true}
 
 -- an event without a rule has the start at DTSTART alone
-ruleless : (display : Clock) (event : Event) (given : Time) → event.rule ≡ None → GivesStart display event given → given ≡ event.start
-ruleless display event given none g =
+ruleless : (clocks : Clocks) (event : Event) (given : Time) → event.rule ≡ None → GivesStart clocks event given → given ≡ event.start
+ruleless clocks event given none g =
     ⊎_elim (λ e. e) (λ r. let f : None ≡ Some r.rule = ap (option_map (recurrence_by event.start.stamp)) (sym none) ∙ r.has in absurd cc) g
 
-pub one-start : (display : Clock) (event : Event) (start end : ℤ) → event.rule ≡ None → IsInstance display event start end → (start ≡ instant display event.start) × (end ≡ finish display event event.start)
-one-start display event start end none h =
-    let same = ruleless display event h.given none h.gives in
-    (h.starts ∙ ap (instant display) same, h.ends ∙ ap (finish display event) same)
+pub one-start : (clocks : Clocks) (event : Event) (start end : ℤ) → event.rule ≡ None → IsInstance clocks event start end → (start ≡ instant clocks event.start) × (end ≡ finish clocks event event.start)
+one-start clocks event start end none h =
+    let same = ruleless clocks event h.given none h.gives in
+    (h.starts ∙ ap (instant clocks) same, h.ends ∙ ap (finish clocks event) same)
 
 -- The local with a number.
 local_from : ℕ → Local
@@ -80,7 +80,7 @@ equal-true a b e = grind (arith, ints)
 both : (a b : Bool) → a ≡ true → b ≡ true → (a && b) ≡ true
 both a b p q = ap (λ x. x && b) p ∙ q
 
-module _ (display : Clock) (event : Event) (time : IsTime event.start) (t : ℤ) where
+module _ (clocks : Clocks) (event : Event) (time : IsTime event.start) where
   first-day : IsDayNumber (local_of event.start.stamp).day
   first-day = calendar-day (local_of event.start.stamp).day (own-day event.start time)
 
@@ -89,7 +89,7 @@ module _ (display : Clock) (event : Event) (time : IsTime event.start) (t : ℤ)
   number-order a b h k l = written-order event.start.stamp a b (omega (arith, ints, number-seconds a h, number-seconds b k, l))
 
   -- what the rule keeps is not before DTSTART
-  start-least : (other : Time) → IsRuleStart display event other → written event.start.stamp ≤ℤ written other.stamp
+  start-least : (other : Time) → IsRuleStart clocks event other → written event.start.stamp ≤ℤ written other.stamp
   start-least other r =
       let rule = rule-is event.start.stamp event.rule r.rule r.has in
       let late : number (local_of event.start.stamp) ≤ number r.local = subst (λ (q : Recurrence). number q.start ≤ number r.local) rule.1 (kept-late r.rule (number r.local) r.kept) in
@@ -98,21 +98,26 @@ module _ (display : Clock) (event : Event) (time : IsTime event.start) (t : ℤ)
       let is = ap (λ x. written x.stamp) r.is in
       omega (arith, ints, order, own, is)
 
-  start-instance : instant display event.start ≡ t → (end : ℤ) × IsInstance display event t end
+  -- so no time that gives a start is written before it
+  pub giver-late : (given : Time) → GivesStart clocks event given → written event.start.stamp ≤ℤ written given.stamp
+  giver-late given g = ⊎_elim (λ is. let w = ap (λ x. written x.stamp) is in omega (arith, ints, w)) (start-least given) g
+
+module _ (clocks : Clocks) (event : Event) (time : IsTime event.start) (t : ℤ) where
+  start-instance : instant clocks event.start ≡ t → (end : ℤ) × IsInstance clocks event t end
   start-instance e = (
-    finish display event event.start,
+    finish clocks event event.start,
     record {
       given = event.start;
       gives = inl refl;
       starts = sym e;
-      earliest = λ other g same. ⊎_elim (λ is. let w = ap (λ x. written x.stamp) is in omega (arith, ints, w)) (start-least other) g;
+      earliest = λ other g same. giver-late clocks event time other g;
       ends = refl;
     },
   )
 
   module _ (rule : Recurrence) (has : recurrence_of event ≡ Some rule) where
     instant_from : ℕ → ℤ
-    instant_from n = instant display (time_at event.start (local_from n))
+    instant_from n = instant clocks (time_at event.start (local_from n))
 
     -- the local with this number gives the start t
     gives_at : ℕ → Bool
@@ -122,19 +127,19 @@ module _ (display : Clock) (event : Event) (time : IsTime event.start) (t : ℤ)
     some-same x y k = cc
 
     -- a start by the rule passes the test
-    given-test : (other : Time) (r : IsRuleStart display event other) → instant display other ≡ t → gives_at (number r.local) ≡ true
+    given-test : (other : Time) (r : IsRuleStart clocks event other) → instant clocks other ≡ t → gives_at (number r.local) ≡ true
     unfolding gives_at instant_from
     given-test other r same =
         let of : r.rule ≡ rule = some-same r.rule rule (sym r.has ∙ has) in
         let local : local_from (number r.local) ≡ r.local = same-number (local_from (number r.local)) r.local (from-day (number r.local) (number-below r.local r.calendar)) r.calendar (from-number (number r.local) (number-below r.local r.calendar)) in
-        let is : instant display (time_at event.start (local_from (number r.local))) ≡ instant display other = ap (λ a. instant display (time_at event.start a)) local ∙ ap (instant display) (sym r.is) in
+        let is : instant clocks (time_at event.start (local_from (number r.local))) ≡ instant clocks other = ap (λ a. instant clocks (time_at event.start a)) local ∙ ap (instant clocks) (sym r.is) in
         both (is_kept rule (number r.local)) _ (ap (λ q. is_kept q (number r.local)) (sym of) ∙ r.kept)
         (both (is_until (until_moment rule) (instant_from (number r.local))) _
-        (ap (is_until (until_moment rule)) is ∙ until-true (until_moment rule) (instant display other) (subst (λ q. IfSome (until_moment q) (λ last. instant display other ≤ℤ last)) of r.until))
+        (ap (is_until (until_moment rule)) is ∙ until-true (until_moment rule) (instant clocks other) (subst (λ q. IfSome (until_moment q) (λ last. instant clocks other ≤ℤ last)) of r.until))
         (true-equal (instant_from (number r.local)) t (is ∙ same)))
 
     -- and what passes it is a start
-    test-given : (n : ℕ) → n < 315_569_520_000 → gives_at n ≡ true → IsRuleStart display event (time_at event.start (local_from n)) × (instant display (time_at event.start (local_from n)) ≡ t)
+    test-given : (n : ℕ) → n < 315_569_520_000 → gives_at n ≡ true → IsRuleStart clocks event (time_at event.start (local_from n)) × (instant clocks (time_at event.start (local_from n)) ≡ t)
     unfolding gives_at instant_from
     test-given n l h =
         let parts = and_true h in
@@ -146,16 +151,16 @@ module _ (display : Clock) (event : Event) (time : IsTime event.start) (t : ℤ)
             calendar = from-day n l;
             kept = ap (is_kept rule) (from-number n l) ∙ parts.0;
             is = refl;
-            until = true-until (until_moment rule) (instant display (time_at event.start (local_from n))) rest.0;
+            until = true-until (until_moment rule) (instant clocks (time_at event.start (local_from n))) rest.0;
           },
-          equal-true (instant display (time_at event.start (local_from n))) t rest.1,
+          equal-true (instant clocks (time_at event.start (local_from n))) t rest.1,
         )
 
     sides : (a b : ℕ) → (a < b) ⊎ (b ≤ a)
     sides a b = grind arith
 
     -- where DTSTART gives another start, the least that passes the test is the earliest
-    rule-instance : (instant display event.start ≡ t → ⊥) → (given : Time) (r : IsRuleStart display event given) → instant display given ≡ t → (end : ℤ) × IsInstance display event t end
+    rule-instance : (instant clocks event.start ≡ t → ⊥) → (given : Time) (r : IsRuleStart clocks event given) → instant clocks given ≡ t → (end : ℤ) × IsInstance clocks event t end
     rule-instance other_start given r same =
         ⊎_elim
         (λ none. let no = none (number r.local) (omega arith) in let yes = given-test given r same in absurd cc)
@@ -163,15 +168,15 @@ module _ (display : Clock) (event : Event) (time : IsTime event.start) (t : ℤ)
         let n = found.0 in
         let small : found.0 < 315_569_520_000 = omega (arith, found.1, number-below r.local r.calendar) in
         let is = test-given found.0 small found.2 in (
-          finish display event (time_at event.start (local_from n)),
+          finish clocks event (time_at event.start (local_from n)),
           record {
             given = time_at event.start (local_from n);
             gives = inr is.0;
             starts = sym is.1;
-            earliest = λ o g e. ⊎_elim (λ s. absurd (other_start (ap (instant display) (sym s) ∙ e)))
+            earliest = λ o g e. ⊎_elim (λ s. absurd (other_start (ap (instant clocks) (sym s) ∙ e)))
                 (λ q. ⊎_elim (λ less. let no = found.3 (number q.local) less in let yes = given-test o q e in absurd cc)
                 (λ more.
-                let order = number-order (local_from found.0) q.local (from-day found.0 small) q.calendar (omega (arith, more, from-number found.0 small)) in
+                let order = number-order clocks event time (local_from found.0) q.local (from-day found.0 small) q.calendar (omega (arith, more, from-number found.0 small)) in
                 subst (λ x. written (stamp_at event.start.stamp (local_from found.0)) ≤ℤ written x.stamp) (sym q.is) order)
                 (sides (number q.local) found.0)) g;
             ends = refl;
@@ -179,8 +184,8 @@ module _ (display : Clock) (event : Event) (time : IsTime event.start) (t : ℤ)
         ))
         (none-or-least gives_at (suc (number r.local)))
 
-pub each-start : (display : Clock) (event : Event) (given : Time) → IsTime event.start → GivesStart display event given → (end : ℤ) × IsInstance display event (instant display given) end
-each-start display event given time g =
-    ⊎_elim (start-instance display event time (instant display given))
-    (λ other. ⊎_elim (λ e. absurd (other (ap (instant display) (sym e)))) (λ r. rule-instance display event time (instant display given) r.rule r.has other given r refl) g)
-    (equal-or-not (instant display event.start) (instant display given))
+pub each-start : (clocks : Clocks) (event : Event) (given : Time) → IsTime event.start → GivesStart clocks event given → (end : ℤ) × IsInstance clocks event (instant clocks given) end
+each-start clocks event given time g =
+    ⊎_elim (start-instance clocks event time (instant clocks given))
+    (λ other. ⊎_elim (λ e. absurd (other (ap (instant clocks) (sym e)))) (λ r. rule-instance clocks event time (instant clocks given) r.rule r.has other given r refl) g)
+    (equal-or-not (instant clocks event.start) (instant clocks given))

@@ -8,7 +8,7 @@ use Rattle.std.specs.declared.cmp.Ordering.{Ordering}
 use Rattle.std.specs.declared.cmp.Ordering.TheVariants.{Less, Equal, Greater}
 use Rattle.std.proofs.lemmas.Cmp.{alike_right, nat_list_cmp_total, on_total, then_total, tied_itself}
 use Rattle.std.proofs.lemmas.Map.Lookups.{exact_bytes}
-use Rattle.ics_calendar.specs.declared.events.FileEvents.{FileEvents}
+use Rattle.ics_calendar.specs.Event.{FileSaid}
 use Rattle.ics_series.specs.Listing.{IsIn, IsListing}
 use Rattle.ics_series.specs.Rising.{IsBefore, Rises}
 use Rattle.ics_series.specs.Occurs.{Placed, IsPlaced, IsMaster, placed_cmp}
@@ -145,7 +145,7 @@ module _ (same : Placed → Placed → Bool) (ties : SameUid same) where
   rises-lasts (x ∷ xs) h = rises-lasts-by x xs (is_followed same x xs) (followed-by x xs (is_followed same x xs) refl h) h.1 (rises-lasts xs h.1)
 
   -- of all that stand in a folder, in order, the last of each UID are the masters
-  pub lasts-masters : (files : List FileEvents) (xs : List Placed) → Climbs version_cmp xs → ((p : Placed) → IsIn p xs → IsPlaced files p) → ((p : Placed) → IsPlaced files p → IsIn p xs)
+  pub lasts-masters : (files : List FileSaid) (xs : List Placed) → Climbs version_cmp xs → ((p : Placed) → IsIn p xs → IsPlaced files p) → ((p : Placed) → IsPlaced files p → IsIn p xs)
       → IsListing uid_cmp (IsMaster files) (lasts same xs)
   lasts-masters files xs h f g = record {
     rises = rises-lasts xs h;

@@ -1,11 +1,14 @@
--- Instants and locals of stamps (RFC 5545, sections 3.3.4 and 3.3.5). A local counts as its seconds on a clock without
--- zones.
-use Rattle.std.specs.Prelude.{ℤ, pos, ◌+ℤ◌}
+-- Instants and locals of times (RFC 5545, sections 3.3.4, 3.3.5 and 3.6.5). A local counts as its seconds on a clock
+-- without zones.
+use Rattle.std.specs.Prelude.{ℕ, ℤ, pos, ◌+ℤ◌, List, map, slice_index_or, Option, Some, None}
 use Rattle.ics_values.specs.declared.local.Local.{Local}
 use Rattle.ics_values.specs.declared.stamp.Stamp.{Stamp}
 use Rattle.ics_values.specs.declared.stamp.Stamp.TheVariants.{Date, Floating, Utc, Zoned}
 use Rattle.ics_calendar.specs.declared.time.Time.{Time}
 use Rattle.ics_zone.specs.Displays.{offset_of, moment_of}
+use Rattle.ics_zone.specs.Moments.{zone_moment}
+use Rattle.ics_zone.specs.Observances.{Phase}
+use Rattle.ics_zone.specs.Offsets.{zone_offset}
 use Rattle.ics_zone.specs.Places.{local_seconds}
 use Rattle.ics_zone.specs.Zones.{zone_of}
 use Rattle.ics_zone.specs.declared.display.Display.{Display}
@@ -20,6 +23,17 @@ utc_clock = record { moment = λ local. local; offset = λ t. pos 0 }
 
 abbrev pub display_clock : Display → Clock
 display_clock display = record { moment = moment_of (zone_of display); offset = offset_of (zone_of display) }
+
+abbrev pub zone_clock : List Phase → Clock
+zone_clock zone = record { moment = zone_moment zone; offset = zone_offset zone }
+
+-- the clocks by which the times of a file are read: that of the display zone, and those of the file's own zones
+pub record Clocks : Type 0 where
+  pub display : Clock
+  pub zones : List Clock
+
+abbrev pub clocks_of : Clock → List (List Phase) → Clocks
+clocks_of display zones = record { display = display; zones = map zone_clock zones }
 
 -- what a clock shows at an instant
 abbrev pub local_at : Clock → ℤ → ℤ
@@ -46,18 +60,23 @@ day_of (Floating local) = local.day
 day_of (Utc local) = local.day
 day_of (Zoned local) = local.day
 
--- The clock by which a stamp is read: that of the display zone for a date and a floating stamp, UTC's for one in UTC. (A
--- zoned one is for the clock of its own zone; no file that has one is accepted yet.)
-abbrev pub clock_by : Clock → Stamp → Clock
-clock_by display (Date day) = display
-clock_by display (Floating local) = display
-clock_by display (Utc local) = utc_clock
-clock_by display (Zoned local) = display
+-- the clock of the zone with an index
+abbrev pub clock_at : List Clock → Option ℕ → Clock
+clock_at zones (Some index) = slice_index_or zones index utc_clock
+clock_at zones None = utc_clock
+
+-- The clock by which a stamp is read: that of the display zone for a date and a floating stamp, UTC's for one in UTC, and for
+-- a zoned one that of its own zone, which is one of the file's.
+abbrev pub clock_by : Clocks → Option ℕ → Stamp → Clock
+clock_by clocks index (Date day) = clocks.display
+clock_by clocks index (Floating local) = clocks.display
+clock_by clocks index (Utc local) = utc_clock
+clock_by clocks index (Zoned local) = clock_at clocks.zones index
 
 -- the clock of a time's zone
-abbrev pub clock_of : Clock → Time → Clock
-clock_of display time = clock_by display time.stamp
+abbrev pub clock_of : Clocks → Time → Clock
+clock_of clocks time = clock_by clocks time.zone time.stamp
 
 -- the instant that a time stands for
-abbrev pub instant : Clock → Time → ℤ
-instant display time = (clock_of display time).moment (written time.stamp)
+abbrev pub instant : Clocks → Time → ℤ
+instant clocks time = (clock_of clocks time).moment (written time.stamp)

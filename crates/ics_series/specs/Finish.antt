@@ -8,7 +8,7 @@ use Rattle.ics_calendar.specs.declared.time.Time.{Time}
 use Rattle.ics_calendar.specs.declared.time.Length.{Length}
 use Rattle.ics_calendar.specs.declared.time.Length.TheVariants.{Open, Until, Lasting}
 use Rattle.ics_calendar.specs.declared.event.Event.{Event}
-use Rattle.ics_series.specs.Clocks.{Clock, clock_of, instant, local_at, midnight, day_of}
+use Rattle.ics_series.specs.Clocks.{Clock, Clocks, clock_of, instant, local_at, midnight, day_of}
 
 -- How many days an event lasts that starts on a date: to its DTEND, or the whole days of its DURATION, and one at least.
 abbrev pub days_lasting : ℤ → Length → ℤ
@@ -22,23 +22,23 @@ later_by clock duration t = clock.moment (local_at clock t +ℤ pos (duration.da
 
 -- Where the length of an event with the DTSTART `first` leads from an occurrence whose start the stamp `given` gives. A
 -- date leads to a midnight of the display zone. Of a date-time a DTEND is as many seconds off as it is from DTSTART.
-abbrev pub end_by : Clock → Time → Time → Stamp → Length → ℤ
-end_by display first given (Date day) length = display.moment (midnight (day_of given.stamp +ℤ days_lasting day length))
-end_by display first given stamp Open = instant display given
-end_by display first given stamp (Until end) = instant display given +ℤ (instant display end -ℤ instant display first)
-end_by display first given stamp (Lasting duration) = later_by (clock_of display given) duration (instant display given)
+abbrev pub end_by : Clocks → Time → Time → Stamp → Length → ℤ
+end_by clocks first given (Date day) length = clocks.display.moment (midnight (day_of given.stamp +ℤ days_lasting day length))
+end_by clocks first given stamp Open = instant clocks given
+end_by clocks first given stamp (Until end) = instant clocks given +ℤ (instant clocks end -ℤ instant clocks first)
+end_by clocks first given stamp (Lasting duration) = later_by (clock_of clocks given) duration (instant clocks given)
 
 -- The finish of an event's occurrence whose start the stamp `given` gives. It is never before the start.
-abbrev pub finish : Clock → Event → Time → ℤ
-finish display event given =
-    int_max (instant display given) (end_by display event.start given event.start.stamp event.length)
+abbrev pub finish : Clocks → Event → Time → ℤ
+finish clocks event given =
+    int_max (instant clocks given) (end_by clocks event.start given event.start.stamp event.length)
 
 -- How many seconds an event lasts, where each day counts 86,400 of them.
-abbrev pub seconds_by : Clock → Time → Stamp → Length → ℤ
-seconds_by display first (Date day) length = days_lasting day length *ℤ pos 86_400
-seconds_by display first stamp Open = pos 0
-seconds_by display first stamp (Until end) = int_max (pos 0) (instant display end -ℤ instant display first)
-seconds_by display first stamp (Lasting duration) = pos (duration.days * 86_400 + duration.seconds)
+abbrev pub seconds_by : Clocks → Time → Stamp → Length → ℤ
+seconds_by clocks first (Date day) length = days_lasting day length *ℤ pos 86_400
+seconds_by clocks first stamp Open = pos 0
+seconds_by clocks first stamp (Until end) = int_max (pos 0) (instant clocks end -ℤ instant clocks first)
+seconds_by clocks first stamp (Lasting duration) = pos (duration.days * 86_400 + duration.seconds)
 
-abbrev pub seconds_lasting : Clock → Event → ℤ
-seconds_lasting display event = seconds_by display event.start event.start.stamp event.length
+abbrev pub seconds_lasting : Clocks → Event → ℤ
+seconds_lasting clocks event = seconds_by clocks event.start event.start.stamp event.length

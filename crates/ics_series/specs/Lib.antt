@@ -14,3 +14,4 @@ pub mod Rising
 pub mod Spots
 pub mod Starts
 pub mod Versions
+pub mod Zones

@@ -4,16 +4,16 @@ use Rattle.std.specs.Ordering.{int_eq}
 use Rattle.ics_calendar.specs.declared.event.Event.{Event}
 use Rattle.ics_calendar.specs.declared.time.Time.{Time}
 use Rattle.ics_series.specs.declared.window.Window.{Window}
-use Rattle.ics_series.specs.Clocks.{Clock, instant}
+use Rattle.ics_series.specs.Clocks.{Clocks, instant}
 use Rattle.ics_series.specs.Entry.{Entry}
 use Rattle.ics_series.specs.Finish.{finish}
 
 -- the occurrence of an event whose start a time gives
-abbrev pub entry_from : Clock → Event → Time → Entry
-entry_from display event given = record {
-  start = instant display given;
-  finish = finish display event given;
-  recurrence = instant display given;
+abbrev pub entry_from : Clocks → Event → Time → Entry
+entry_from clocks event given = record {
+  start = instant clocks given;
+  finish = finish clocks event given;
+  recurrence = instant clocks given;
   event = event;
 }
 

@@ -1,6 +1,6 @@
 -- Which occurrences a listing of a window shows.
 use Rattle.std.specs.Prelude.{◌≡◌, ◌⊎◌, ◌<ℤ◌, ◌≤ℤ◌, IsTrue, List}
-use Rattle.ics_calendar.specs.declared.events.FileEvents.{FileEvents}
+use Rattle.ics_calendar.specs.Event.{FileSaid}
 use Rattle.ics_series.specs.declared.window.Window.{Window}
 use Rattle.ics_series.specs.Clocks.{Clock}
 use Rattle.ics_series.specs.Entry.{Entry}
@@ -13,5 +13,5 @@ pub record Meets (w : Window) (o : Entry) : Type 0 where
   pub started : IsTrue w.notstarted → w.from ≤ℤ o.start
 
 -- an occurrence of the folder that meets the window
-abbrev pub IsListed : List FileEvents → Clock → Window → Entry → Type 0
+abbrev pub IsListed : List FileSaid → Clock → Window → Entry → Type 0
 IsListed files display w o = Occurs files display o × Meets w o

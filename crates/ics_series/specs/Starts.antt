@@ -14,7 +14,7 @@ use Rattle.ics_rule.specs.declared.kind.Kind.{Kind}
 use Rattle.ics_rule.specs.declared.kind.Kind.TheVariants as kind
 use Rattle.ics_calendar.specs.declared.time.Time.{Time}
 use Rattle.ics_calendar.specs.declared.event.Event.{Event}
-use Rattle.ics_series.specs.Clocks.{Clock, instant}
+use Rattle.ics_series.specs.Clocks.{Clocks, instant}
 
 -- an event that starts on a date recurs by dates
 abbrev pub kind_of : Stamp → Kind
@@ -51,15 +51,15 @@ recurrence_of event = option_map (recurrence_by event.start.stamp) event.rule
 
 -- a local that the event's rule keeps gives the time at that local, in DTSTART's kind and zone. Where UNTIL is in UTC and the event has
 -- date-times, it does so only if the instant is not after UNTIL
-pub record IsRuleStart (display : Clock) (event : Event) (given : Time) : Type 0 where
+pub record IsRuleStart (clocks : Clocks) (event : Event) (given : Time) : Type 0 where
   pub rule : Recurrence
   pub has : recurrence_of event ≡ Some rule
   pub local : Local
   pub calendar : IsDayNumber local.day
   pub kept : is_kept rule (number local) ≡ true
   pub is : given ≡ time_at event.start local
-  pub until : IfSome (until_moment rule) (λ last. instant display given ≤ℤ last)
+  pub until : IfSome (until_moment rule) (λ last. instant clocks given ≤ℤ last)
 
 -- a time gives a start of the event: its DTSTART does, and so does each such time
-abbrev pub GivesStart : Clock → Event → Time → Type 0
-GivesStart display event given = (given ≡ event.start) ⊎ IsRuleStart display event given
+abbrev pub GivesStart : Clocks → Event → Time → Type 0
+GivesStart clocks event given = (given ≡ event.start) ⊎ IsRuleStart clocks event given

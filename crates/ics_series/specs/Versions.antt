@@ -4,8 +4,8 @@ use Rattle.std.specs.Ordering.{nat_cmp, on, then_cmp}
 use Rattle.std.specs.Cmp.Lexicographic.{slice_cmp}
 use Rattle.std.specs.Str.{bytes_eq}
 use Rattle.std.specs.declared.cmp.Ordering.{Ordering}
+use Rattle.ics_calendar.specs.Event.{FileSaid}
 use Rattle.ics_calendar.specs.declared.event.Event.{Event}
-use Rattle.ics_calendar.specs.declared.events.FileEvents.{FileEvents}
 use Rattle.ics_series.specs.declared.spot.Spot.{Spot}
 use Rattle.ics_series.specs.declared.version.Version.{Version}
 use Rattle.ics_series.specs.Listing.{IsListing}
@@ -32,7 +32,7 @@ placed_from file place [] = []
 placed_from file place (e ∷ es) = record { file = file; place = place; event = e } ∷ placed_from file (place + 1) es
 
 -- the events of files, numbered from here on
-abbrev pub placed_in : ℕ → List FileEvents → List Placed
+abbrev pub placed_in : ℕ → List FileSaid → List Placed
 placed_in file [] = []
 placed_in file (f ∷ fs) = placed_from file 0 f.events ++ placed_in (file + 1) fs
 
@@ -58,7 +58,7 @@ lasts same [] = []
 lasts same (x ∷ xs) = if is_followed same x xs then lasts same xs else x ∷ lasts same xs
 
 -- the spots are those of the masters, in the order of their UIDs
-pub record AreMasters (files : List FileEvents) (spots : List Spot) : Type 0 where
+pub record AreMasters (files : List FileSaid) (spots : List Spot) : Type 0 where
   pub masters : List Placed
   pub listing : IsListing uid_cmp (IsMaster files) masters
   pub spots_are : spots ≡ map spot_of masters

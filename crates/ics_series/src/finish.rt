@@ -1,14 +1,16 @@
 //! Where an event's occurrence ends.
-ghost use Rattle.std.specs.Prelude.{◌≡◌, ◌+◌, ◌*◌, ◌<◌, ◌≤◌, ◌<ℤ◌, ◌≤ℤ◌, ◌+ℤ◌, ◌*ℤ◌, pos, neg_ℤ, IfSome};
-ghost use Rattle.ics_calendar.specs.Event.{EndsBelow, HasZonesBelow, IsLasting, IsLength, IsTime};
+ghost use Rattle.std.specs.Prelude.{◌≡◌, ◌+◌, ◌*◌, ◌<◌, ◌≤◌, ◌<ℤ◌, ◌≤ℤ◌, ◌+ℤ◌, ◌*ℤ◌, length, pos, neg_ℤ, is_some, IfSome};
+ghost use Rattle.ics_calendar.specs.Event.{is_zoned, IsLasting, IsLength, IsTime};
 ghost use Rattle.ics_series.specs.Clocks.{clock_of, display_clock, instant, local_at, midnight};
 ghost use Rattle.ics_series.specs.Finish.{end_by, finish, later_by};
 ghost use Rattle.ics_series.specs.Found.{time_of, IsStart};
 ghost use Rattle.ics_series.specs.Starts.{time_at};
+ghost use Rattle.ics_series.specs.Zones.{clocks_in, AreReached, EndIsReadable, EndsNear, IsReadable, IsReadableEvent};
 
 use crate::instant::instant;
 use crate::lasting::days_lasting;
 use crate::start::Start;
+use crate::zones::FileZones;
 use ics_calendar::{Event, Length, Time};
 use ics_values::{Duration, Local, Moment, Stamp};
 use ics_zone::{Display, Place};
@@ -17,38 +19,40 @@ const DAY: i64 = 86_400;
 
 /// Where the occurrence of an event ends that has a start (RFC 5545, section 3.6.1), for one that
 /// starts before the latest end of a window.
-pub(crate) fn finish(display: &Display, event: &Event, start: Start) -> Moment
-    requires zones { HasZonesBelow 0 event.now }
-    requires start { IsStart (display_clock display.now) event.now start }
+pub(crate) fn finish(zones: FileZones<'_>, event: &Event, start: Start) -> Moment
+    requires event { IsReadableEvent zones event.now }
+    requires start { IsStart (clocks_in zones) event.now start }
     requires early { start.moment <ℤ pos 247_091_126_400 }
-    ensures value { result ≡ finish (display_clock display.now) event.now (time_of event.now start) }
+    requires reached { AreReached zones.zones.now (start.moment +ℤ pos 3_156_105_600) }
+    ensures value { result ≡ finish (clocks_in zones.entry) event.now (time_of event.now start) }
     ensures forward { start.moment ≤ℤ result }
     ensures early { result <ℤ pos 250_247_232_000 }
 {
-    let end = end_by(display, event.start, event.length, start);
+    let end = end_by(zones, event.start, event.length, start);
     start.moment.max(end)
 }
 
 // Where a length leads from a start of an event with this DTSTART.
-fn end_by(display: &Display, first: Time, length: Length, start: Start) -> Moment
-    requires first { IsTime first }
+fn end_by(zones: FileZones<'_>, first: Time, length: Length, start: Start) -> Moment
+    requires first { IsReadable zones.zones.now first }
     requires length { IsLength first.stamp length }
-    requires first_zone { IfSome first.zone (λ zone. zone < 0) }
-    requires end_zone { EndsBelow 0 length }
+    requires end { EndIsReadable zones.zones.now length }
+    requires near { EndsNear (clocks_in zones) first length }
     requires given { IsTime (time_at first start.local) }
-    requires start { start.moment ≡ instant (display_clock display.now) (time_at first start.local) }
+    requires start { start.moment ≡ instant (clocks_in zones) (time_at first start.local) }
     requires early { start.moment <ℤ pos 247_091_126_400 }
+    requires reached { AreReached zones.zones.now (start.moment +ℤ pos 3_156_105_600) }
     ensures value { result
-        ≡ end_by (display_clock display.now) first (time_at first start.local) first.stamp length }
+        ≡ end_by (clocks_in zones.entry) first (time_at first start.local) first.stamp length }
     ensures early { result <ℤ pos 250_247_232_000 }
 {
     match (first.stamp, length) {
         (Stamp::Date(day), length) => {
-            midnight_after(display, start.local.day, days_lasting(day, length))
+            midnight_after(zones.display, start.local.day, days_lasting(day, length))
         }
         (_, Length::Open) => start.moment,
-        (_, Length::Until(end)) => start.moment + (instant(display, end) - instant(display, first)),
-        (_, Length::Lasting(duration)) => later_by(display, first, duration, start.moment),
+        (_, Length::Until(end)) => start.moment + (instant(zones, end) - instant(zones, first)),
+        (_, Length::Lasting(duration)) => later_by(zones, first, duration, start.moment),
     }
 }
 
@@ -68,48 +72,54 @@ fn midnight_after(display: &Display, day: i32, days: i32) -> Moment
 }
 
 // The instant that is a duration later: its days go by the clock of a time's zone.
-fn later_by(display: &Display, time: Time, duration: Duration, start: Moment) -> Moment
+fn later_by(zones: FileZones<'_>, time: Time, duration: Duration, start: Moment) -> Moment
+    requires zone { IfSome time.zone (λ zone. zone < length zones.zones.now) }
+    requires own { is_some time.zone ≡ is_zoned time.stamp }
     requires late { neg_ℤ (pos 62_135_769_600) ≤ℤ start }
     requires early { start <ℤ pos 247_091_126_400 }
     requires short { IsLasting duration }
-    ensures value { result ≡ later_by (clock_of (display_clock display.now) time) duration start }
+    requires reached { AreReached zones.zones.now (start +ℤ pos 3_156_105_600) }
+    ensures value { result ≡ later_by (clock_of (clocks_in zones.entry) time) duration start }
     ensures early { result <ℤ pos 250_247_232_000 }
 {
-    days_after(display, time, start, duration.days as i64) + duration.seconds as i64
+    days_after(zones, time, start, duration.days as i64) + duration.seconds as i64
 }
 
 // The instant that is so many days later by the clock of a time's zone.
-fn days_after(display: &Display, time: Time, start: Moment, days: i64) -> Moment
+fn days_after(zones: FileZones<'_>, time: Time, start: Moment, days: i64) -> Moment
+    requires zone { IfSome time.zone (λ zone. zone < length zones.zones.now) }
+    requires own { is_some time.zone ≡ is_zoned time.stamp }
     requires late { neg_ℤ (pos 62_135_769_600) ≤ℤ start }
     requires early { start <ℤ pos 247_091_126_400 }
     requires forward { pos 0 ≤ℤ days }
     requires short { days ≤ℤ pos 36_525 }
-    ensures value { result ≡ (clock_of (display_clock display.now) time).moment
-        (local_at (clock_of (display_clock display.now) time) start +ℤ days *ℤ pos 86_400) }
+    requires reached { AreReached zones.zones.now (start +ℤ pos 3_156_105_600) }
+    ensures value { result ≡ (clock_of (clocks_in zones.entry) time).moment
+        (local_at (clock_of (clocks_in zones.entry) time) start +ℤ days *ℤ pos 86_400) }
     ensures late { neg_ℤ (pos 62_136_115_200) ≤ℤ result }
     ensures early { result <ℤ ((start +ℤ days *ℤ pos 86_400) +ℤ pos 345_600) }
 {
     match time.stamp {
         Stamp::Utc(_) => start + days * DAY,
-        Stamp::Date(_) | Stamp::Floating(_) | Stamp::Zoned(_) => {
-            days_after_in_display(display, start, days)
-        }
+        Stamp::Date(_) | Stamp::Floating(_) => days_after_at(zones.display, start, days),
+        Stamp::Zoned(_) => days_after_at(zones.zone_of(time), start, days),
     }
 }
 
-// The instant that is so many days later by the clock of the display zone.
-fn days_after_in_display(display: &Display, start: Moment, days: i64) -> Moment
+// The instant that is so many days later by the clock of a place.
+fn days_after_at<P: Place>(place: &P, start: Moment, days: i64) -> Moment
     requires late { neg_ℤ (pos 62_135_769_600) ≤ℤ start }
     requires early { start <ℤ pos 247_091_126_400 }
     requires forward { pos 0 ≤ℤ days }
     requires short { days ≤ℤ pos 36_525 }
-    ensures value { result ≡ (display_clock display.now).moment
-        (local_at (display_clock display.now) start +ℤ days *ℤ pos 86_400) }
+    requires reached { (start +ℤ pos 3_156_105_600) ≤ℤ P.reach place.now }
+    ensures value { result ≡ P.moment_at place.now
+        ((start +ℤ P.offset_at place.now start) +ℤ days *ℤ pos 86_400) }
     ensures late { neg_ℤ (pos 62_136_115_200) ≤ℤ result }
     ensures early { result <ℤ ((start +ℤ days *ℤ pos 86_400) +ℤ pos 345_600) }
 {
-    let local = display.local(start);
-    display.moment(Local {
+    let local = place.local(start);
+    place.moment(Local {
         day: local.day + days as i32,
         second: local.second,
     })

@@ -1,27 +1,29 @@
 //! Times read as instants.
 ghost use Rattle.std.specs.Prelude.{◌≡◌};
-ghost use Rattle.ics_calendar.specs.Event.{IsTime};
-ghost use Rattle.ics_series.specs.Clocks.{display_clock, instant, seconds_of};
+ghost use Rattle.ics_series.specs.Clocks.{instant, seconds_of};
+ghost use Rattle.ics_series.specs.Zones.{clocks_in, IsReadable};
 
+use crate::zones::FileZones;
 use ics_calendar::Time;
 use ics_values::{Local, Moment, Stamp};
-use ics_zone::{Display, Place};
+use ics_zone::Place;
 
 /// The instant that a time stands for: a date, by its midnight, and a floating local are read in the
-/// display zone (RFC 5545, section 3.3.5).
-pub(crate) fn instant(display: &Display, time: Time) -> Moment
-    requires { IsTime time }
-    ensures { result ≡ instant (display_clock display.now) time }
+/// display zone, a zoned local in its own (RFC 5545, section 3.3.5).
+pub(crate) fn instant(zones: FileZones<'_>, time: Time) -> Moment
+    requires { IsReadable zones.zones.now time }
+    ensures { result ≡ instant (clocks_in zones.entry) time }
 {
     match time.stamp {
-        Stamp::Date(day) => display.moment(Local { day, second: 0 }),
-        Stamp::Floating(local) | Stamp::Zoned(local) => display.moment(local),
+        Stamp::Date(day) => zones.display.moment(Local { day, second: 0 }),
+        Stamp::Floating(local) => zones.display.moment(local),
         Stamp::Utc(local) => seconds_of(local),
+        Stamp::Zoned(local) => zones.zone_of(time).moment(local),
     }
 }
 
-// The seconds of a local on a clock without zones.
-fn seconds_of(local: Local) -> i64
+/// The seconds of a local on a clock without zones.
+pub(crate) fn seconds_of(local: Local) -> i64
     ensures { result ≡ seconds_of local }
 {
     i64::from(local.day) * 86_400 + i64::from(local.second)

@@ -1,13 +1,14 @@
 //! How long an event lasts.
 ghost use Rattle.std.specs.Prelude.{◌≡◌, ◌≤ℤ◌, pos};
-ghost use Rattle.ics_calendar.specs.Event.{IsLength, IsTime};
-ghost use Rattle.ics_series.specs.Clocks.{day_of, display_clock};
+ghost use Rattle.ics_calendar.specs.Event.{IsLength};
+ghost use Rattle.ics_series.specs.Clocks.{day_of};
 ghost use Rattle.ics_series.specs.Finish.{days_lasting, seconds_by, seconds_lasting};
+ghost use Rattle.ics_series.specs.Zones.{clocks_in, EndIsReadable, IsReadable, IsReadableEvent};
 
 use crate::instant::instant;
+use crate::zones::FileZones;
 use ics_calendar::{Event, Length, Time};
 use ics_values::Stamp;
-use ics_zone::Display;
 
 const DAY: i64 = 86_400;
 
@@ -36,25 +37,27 @@ fn day_of(stamp: Stamp) -> i32
 }
 
 /// How many seconds an event lasts, where each day counts 86,400 of them.
-pub(crate) fn seconds_lasting(display: &Display, event: &Event) -> i64
-    ensures value { result ≡ seconds_lasting (display_clock display.now) event.now }
+pub(crate) fn seconds_lasting(zones: FileZones<'_>, event: &Event) -> i64
+    requires { IsReadableEvent zones event.now }
+    ensures value { result ≡ seconds_lasting (clocks_in zones.entry) event.now }
     ensures least { pos 0 ≤ℤ result }
     ensures most { result ≤ℤ pos 400_000_000_000 }
 {
-    seconds_by(display, event.start, event.length)
+    seconds_by(zones, event.start, event.length)
 }
 
-fn seconds_by(display: &Display, first: Time, length: Length) -> i64
-    requires time { IsTime first }
+fn seconds_by(zones: FileZones<'_>, first: Time, length: Length) -> i64
+    requires first { IsReadable zones.zones.now first }
     requires length { IsLength first.stamp length }
-    ensures value { result ≡ seconds_by (display_clock display.now) first first.stamp length }
+    requires end { EndIsReadable zones.zones.now length }
+    ensures value { result ≡ seconds_by (clocks_in zones.entry) first first.stamp length }
     ensures least { pos 0 ≤ℤ result }
     ensures most { result ≤ℤ pos 400_000_000_000 }
 {
     match (first.stamp, length) {
         (Stamp::Date(day), length) => i64::from(days_lasting(day, length)) * DAY,
         (_, Length::Open) => 0,
-        (_, Length::Until(end)) => (instant(display, end) - instant(display, first)).max(0),
+        (_, Length::Until(end)) => (instant(zones, end) - instant(zones, first)).max(0),
         (_, Length::Lasting(duration)) => duration.days as i64 * DAY + duration.seconds as i64,
     }
 }

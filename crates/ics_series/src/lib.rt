@@ -11,11 +11,13 @@ mod laws;
 mod master;
 mod met;
 mod occurrence;
+mod reach;
 mod spot;
 mod start;
 mod starts;
 mod version;
 mod window;
+mod zones;
 
 pub use agenda::Agenda;
 pub use feed::{Coming, Feed};

@@ -1,5 +1,6 @@
 //! The events that count, one for each UID.
 ghost use Rattle.std.specs.Prelude.{◌≡◌, map, IfOk};
+ghost use Rattle.ics_calendar.specs.Event.{said_by};
 ghost use Rattle.ics_series.specs.Versions.{is_followed, is_same_uid, lasts, seen, AreMasters};
 
 use crate::spot::Spot;
@@ -10,7 +11,7 @@ use std::alloc::{AllocError, Global};
 /// Where the masters of these files stand: for each UID the greatest event by SEQUENCE, then file,
 /// then place (RFC 5545, section 3.8.7.4).
 pub(crate) fn masters(alloc: Global, files: &[FileEvents]) -> Result<Vec<Spot>, AllocError>
-    ensures { IfOk result (λ spots. AreMasters files.now spots.items) }
+    ensures { IfOk result (λ spots. AreMasters (map said_by files.now) spots.items) }
 {
     let mut versions = versions(alloc, files)?;
     versions.sort_unstable();

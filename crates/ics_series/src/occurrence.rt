@@ -1,13 +1,13 @@
 //! One occurrence of an event.
-ghost use Rattle.std.specs.Prelude.{◌≡◌, ◌<ℤ◌, ◌≤ℤ◌, pos, neg_ℤ};
-ghost use Rattle.ics_calendar.specs.Event.{HasZonesBelow, IsEvent};
+ghost use Rattle.std.specs.Prelude.{◌≡◌, ◌<ℤ◌, ◌≤ℤ◌, ◌+ℤ◌, pos, neg_ℤ};
+ghost use Rattle.ics_calendar.specs.Event.{IsEvent};
 
 use crate::finish::finish;
 use crate::start::Start;
 use crate::window::Window;
+use crate::zones::FileZones;
 use ics_calendar::Event;
 use ics_values::Moment;
-use ics_zone::Display;
 use std::cmp::Ordering;
 
 /// One occurrence of an event (RFC 5545, section 3.8.4.4).
@@ -27,27 +27,28 @@ pub struct Occurrence<'a> {
 
 impl<'a> Occurrence<'a> {
     ghost use Rattle.std.specs.Option.{option_map};
-    ghost use Rattle.ics_series.specs.Clocks.{display_clock};
     ghost use Rattle.ics_series.specs.Entry.{entry_cmp, entry_of};
     ghost use Rattle.ics_series.specs.Found.{met_by, IsStart};
+    ghost use Rattle.ics_series.specs.Zones.{ahead, clocks_in, AreReached, IsReadableEvent};
 
     // The occurrence of an event that has a start, if it meets the window.
     pub(crate) fn within(
-        display: &Display,
+        zones: FileZones<'_>,
         event: &'a Event,
         start: Start,
         window: &Window,
     ) -> Option<Occurrence<'a>>
-        requires zones { HasZonesBelow 0 event.now }
-        requires start { IsStart (display_clock display.now) event.now start }
-        ensures { option_map entry_of result ≡ met_by (display_clock display.now) window.now event.entry.now start }
+        requires event { IsReadableEvent zones event.now }
+        requires start { IsStart (clocks_in zones) event.now start }
+        requires reached { AreReached zones.zones.now (window.now.to +ℤ ahead) }
+        ensures { option_map entry_of result ≡ met_by (clocks_in zones.entry) window.now event.entry.now start }
     {
         if start.moment >= window.to {
             return None;
         }
         let occurrence = Occurrence {
             start: start.moment,
-            finish: finish(display, event, start),
+            finish: finish(zones, event, start),
             recurrence: start.moment,
             event,
         };

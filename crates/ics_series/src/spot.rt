@@ -1,8 +1,10 @@
 //! Where an event of a folder stands.
-ghost use Rattle.std.specs.Prelude.{◌≡◌, Some, IsSome};
-ghost use Rattle.ics_calendar.specs.Event.{HasZonesBelow};
+ghost use Rattle.std.specs.Prelude.{◌≡◌, ℤ, Some, IsSome, All, map};
+ghost use Rattle.ics_calendar.specs.Event.{said_by, IsEventOf};
 
+use crate::zones::FileZones;
 use ics_calendar::{Event, FileEvents};
+use ics_zone::Display;
 
 /// The number of an event's file, and the event's place in that file.
 #[derive(Clone, Copy, Debug, PartialEq, Eq, PartialOrd, Ord)]
@@ -12,15 +14,34 @@ pub(crate) struct Spot {
 }
 
 impl Spot {
+    ghost use Rattle.ics_series.specs.Clocks.{clocks_of, display_clock};
+    ghost use Rattle.ics_series.specs.Occurs.{zones_in};
     ghost use Rattle.ics_series.specs.Spots.{event_at};
+    ghost use Rattle.ics_series.specs.Zones.{clocks_in, AreReached};
+    ghost use Rattle.ics_zone.specs.Tables.{phases_of};
 
     // The event that stands there.
     pub(crate) fn event<'a>(self, files: &'a [FileEvents]) -> &'a Event
-        requires { IsSome (event_at files.now self) }
-        ensures event { event_at files.entry.now self ≡ Some result.now }
-        ensures zones { HasZonesBelow 0 result.now }
+        requires { IsSome (event_at (map said_by files.now) self) }
+        ensures event { event_at (map said_by files.entry.now) self ≡ Some result.now }
+        ensures own { IsEventOf (zones_in (map said_by files.entry.now) self.file) result.now }
     {
         let file = &files[self.file];
         &file.events[self.place]
+    }
+
+    // The zones by which the times of the event are read.
+    pub(crate) fn zones<'a>(self, files: &'a [FileEvents], display: &'a Display) -> FileZones<'a>
+        requires { IsSome (event_at (map said_by files.now) self) }
+        ensures zones { map phases_of result.zones.now ≡ zones_in (map said_by files.entry.now) self.file }
+        ensures clocks { clocks_in result
+            ≡ clocks_of (display_clock display.entry.now) (zones_in (map said_by files.entry.now) self.file) }
+        ensures reached { (to : ℤ) → All (λ file. AreReached file.zones to) files.entry.now → AreReached result.zones.now to }
+    {
+        let file = &files[self.file];
+        FileZones {
+            display,
+            zones: &file.zones,
+        }
     }
 }

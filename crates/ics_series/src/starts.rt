@@ -3,20 +3,20 @@ ghost use Rattle.std.specs.Prelude.{◌≡◌, ◌≤◌, ◌<ℤ◌, ◌≤ℤ�
 ghost use Rattle.std.specs.Int.{int_max};
 ghost use Rattle.ics_values.specs.Days.{IsDayNumber};
 ghost use Rattle.ics_rule.specs.Locals.{number};
-ghost use Rattle.ics_calendar.specs.Event.{IsTime};
-ghost use Rattle.ics_series.specs.Clocks.{display_clock, instant, seconds_of};
+ghost use Rattle.ics_series.specs.Clocks.{instant, seconds_of};
 ghost use Rattle.ics_series.specs.Finish.{seconds_lasting};
 ghost use Rattle.ics_series.specs.Found.{firsts_after, is_at, is_until, with_start, AreStarts, HasRuleStarts, HasStarts};
 ghost use Rattle.ics_series.specs.Starts.{local_of, recurrence_of, time_at};
+ghost use Rattle.ics_series.specs.Zones.{ahead, clocks_in, AreReached, IsReadable, IsReadableEvent};
 
 use crate::instant::instant;
 use crate::lasting::seconds_lasting;
 use crate::start::{Start, kind_of, local_of, time_at};
 use crate::window::Window;
+use crate::zones::FileZones;
 use ics_calendar::Event;
 use ics_rule::{Cursor, Rule};
 use ics_values::{Local, Moment};
-use ics_zone::Display;
 use std::alloc::{AllocError, Global};
 
 const DAY: i64 = 86_400;
@@ -25,13 +25,15 @@ const DAY: i64 = 86_400;
 /// order. Of several locals that mean one instant the first gives the start.
 pub(crate) fn starts(
     alloc: Global,
-    display: &Display,
+    zones: FileZones<'_>,
     event: &Event,
     window: &Window,
 ) -> Result<Vec<Start>, AllocError>
-    ensures { IfOk result (λ starts. AreStarts (display_clock display.now) event.now window.now starts.items) }
+    requires event { IsReadableEvent zones event.now }
+    requires reached { AreReached zones.zones.now (window.now.to +ℤ ahead) }
+    ensures { IfOk result (λ starts. AreStarts (clocks_in zones.entry) event.now window.now starts.items) }
 {
-    let mut starts = given_starts(alloc, display, event, window)?;
+    let mut starts = given_starts(alloc, zones, event, window)?;
     starts.sort_unstable();
     firsts(alloc, &starts)
 }
@@ -39,43 +41,46 @@ pub(crate) fn starts(
 // The start at DTSTART, and those that the rule gives nearby.
 fn given_starts(
     alloc: Global,
-    display: &Display,
+    zones: FileZones<'_>,
     event: &Event,
     window: &Window,
 ) -> Result<Vec<Start>, AllocError>
-    ensures { IfOk result (λ starts. HasStarts (display_clock display.now) event.now window.now starts.items) }
+    requires event { IsReadableEvent zones event.now }
+    requires reached { AreReached zones.zones.now (window.now.to +ℤ ahead) }
+    ensures { IfOk result (λ starts. HasStarts (clocks_in zones.entry) event.now window.now starts.items) }
 {
     let mut starts = Vec::new(alloc);
     let first = local_of(event.start.stamp);
     starts.push(Start {
-        moment: instant(display, event.start),
+        moment: instant(zones, event.start),
         local: first,
     })?;
     let Some(parts) = event.rule else {
         return Ok(starts);
     };
     let rule = Rule::new(parts, first, kind_of(event.start.stamp));
-    push_kept(&mut starts, display, event, &rule, window)?;
+    push_kept(&mut starts, zones, event, &rule, window)?;
     Ok(starts)
 }
 
 // Adds the starts that the locals nearby give that the rule keeps.
 fn push_kept(
     starts: &mut Vec<Start>,
-    display: &Display,
+    zones: FileZones<'_>,
     event: &Event,
     rule: &Rule,
     window: &Window,
 ) -> Result<(), AllocError>
-    requires time { IsTime event.now.start }
+    requires event { IsReadableEvent zones event.now }
+    requires reached { AreReached zones.zones.now (window.now.to +ℤ ahead) }
     requires rule { recurrence_of event.now ≡ Some rule.now }
-    ensures { IfOk result (λ _. HasRuleStarts (display_clock display.now) event.now window.now starts.old.items starts.new.items) }
+    ensures { IfOk result (λ _. HasRuleStarts (clocks_in zones.entry) event.now window.now starts.old.items starts.new.items) }
 {
-    let mut cursor = Cursor::at(rule, first_nearby(display, event, window));
+    let mut cursor = Cursor::at(rule, first_nearby(zones, event, window));
     let end = end_nearby(window);
     let until = rule.until_moment();
     while let Some(local) = cursor.next(rule, end) {
-        push_start(starts, display, event, until, of_calendar(local))?;
+        push_start(starts, zones, event, until, of_calendar(local))?;
     }
     Ok(())
 }
@@ -83,16 +88,16 @@ fn push_kept(
 // Adds the start that a local gives, unless it is after UNTIL.
 fn push_start(
     starts: &mut Vec<Start>,
-    display: &Display,
+    zones: FileZones<'_>,
     event: &Event,
     until: Option<Moment>,
     local: Local,
 ) -> Result<(), AllocError>
-    requires { IsTime (time_at event.now.start local) }
-    ensures { IfOk result (λ _. let moment = instant (display_clock display.now) (time_at event.now.start local) in
+    requires { IsReadable zones.zones.now (time_at event.now.start local) }
+    ensures { IfOk result (λ _. let moment = instant (clocks_in zones.entry) (time_at event.now.start local) in
         starts.new.items ≡ with_start (is_until until moment) starts.old.items (record { moment = moment; local = local })) }
 {
-    let moment = instant(display, time_at(event.start, local));
+    let moment = instant(zones, time_at(event.start, local));
     if is_until(until, moment) {
         starts.push(Start { moment, local })?;
     }
@@ -112,15 +117,16 @@ fn is_until(until: Option<Moment>, moment: Moment) -> bool
 // The local from which on the event can meet the window: DTSTART's or, if that is later, a midnight
 // seven to eight days before what the event's length leaves of the window's start. So a rule that
 // began long ago is not asked for what is long past.
-fn first_nearby(display: &Display, event: &Event, window: &Window) -> Local
+fn first_nearby(zones: FileZones<'_>, event: &Event, window: &Window) -> Local
+    requires { IsReadableEvent zones event.now }
     ensures day { IsDayNumber result.day }
     ensures late { int_max (seconds_of (local_of event.now.start.stamp))
-        ((window.now.from -ℤ seconds_lasting (display_clock display.now) event.now) -ℤ pos 691_200) ≤ℤ seconds_of result }
+        ((window.now.from -ℤ seconds_lasting (clocks_in zones.entry) event.now) -ℤ pos 691_200) ≤ℤ seconds_of result }
     ensures low { seconds_of result ≤ℤ int_max (seconds_of (local_of event.now.start.stamp))
-        ((window.now.from -ℤ seconds_lasting (display_clock display.now) event.now) -ℤ pos 604_800) }
+        ((window.now.from -ℤ seconds_lasting (clocks_in zones.entry) event.now) -ℤ pos 604_800) }
 {
     let first = local_of(event.start.stamp);
-    let latest = window.from - seconds_lasting(display, event);
+    let latest = window.from - seconds_lasting(zones, event);
     let day = latest.div_euclid(DAY) - 7;
     if day <= i64::from(first.day) {
         first

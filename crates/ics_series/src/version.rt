@@ -1,5 +1,6 @@
 //! The versions of the events of a folder.
 ghost use Rattle.std.specs.Prelude.{◌≡◌, ◌++◌, map, IfOk};
+ghost use Rattle.ics_calendar.specs.Event.{said_by};
 ghost use Rattle.ics_series.specs.Versions.{label_of, placed_from, placed_in, seen};
 
 use crate::spot::Spot;
@@ -19,7 +20,7 @@ pub(crate) fn versions<'a>(
     alloc: Global,
     files: &'a [FileEvents],
 ) -> Result<Vec<Version<'a>>, AllocError>
-    ensures { IfOk result (λ versions. map seen versions.items ≡ map label_of (placed_in 0 files.entry.now)) }
+    ensures { IfOk result (λ versions. map seen versions.items ≡ map label_of (placed_in 0 (map said_by files.entry.now))) }
 {
     let mut versions = Vec::new(alloc);
     for (number, file) in files.iter().enumerate() {

@@ -2,14 +2,14 @@
 use Rattle.std.proofs.Common.{◌≡◌, ◌≢◌, ◌≤◌, ℕ, zero, suc, ◌+◌, List, [], ◌∷◌, ◌++◌, All, Result, Ok, Err, Some, length, refl, sym, ◌∙◌, ap, subst, arith, length-append, append_assoc, append-nil}
 use Rattle.std.specs.Prelude.{slice_get}
 use Rattle.std.proofs.lemmas.List.Elements.{All-append, All-nil}
-use Rattle.ics_calendar.specs.Event.{FileSeen}
+use Rattle.ics_calendar.specs.Event.{FileSaid}
 use Rattle.khal_list.specs.Answers.{Answer}
 use Rattle.khal_list.specs.Errors.{Refusal, file_by, events_first, accepted, error_line, error_lines}
 use Rattle.khal_list.specs.Outcomes.{IsReading}
 use Rattle.khal_list.specs.Reads.{ReadsFrom, ReadsSome, ReadsAll}
 use Rattle.khal_list.specs.declared.fault.SourceFault.TheVariants.{Memory}
 
-events_first-append : (file : Result FileSeen Refusal) (xs ys : List FileSeen) → events_first file (xs ++ ys) ≡ events_first file xs ++ ys
+events_first-append : (file : Result FileSaid Refusal) (xs ys : List FileSaid) → events_first file (xs ++ ys) ≡ events_first file xs ++ ys
 events_first-append (Ok file) xs ys = refl
 events_first-append (Err refusal) xs ys = refl
 
@@ -44,14 +44,14 @@ module _ {S : Type 0} (reads : S → ℕ → Answer → S → Type 0) where
   reads-more before i (b ∷ answers) after j a last h e r = (h.0, h.1, reads-more h.0 (i + 1) answers after j a last h.2 (omega (arith, e)) r)
 
   -- the reads of the first files, and what is kept of them
-  pub record Done (names : List (List ℕ)) (before : S) (i : ℕ) (after : S) (files : List FileSeen) (errors : List ℕ) : Type 0 where
+  pub record Done (names : List (List ℕ)) (before : S) (i : ℕ) (after : S) (files : List FileSaid) (errors : List ℕ) : Type 0 where
     pub answers : List Answer
     pub from_first : ReadsFrom reads before 0 answers after
     pub long : length answers ≡ i
     pub ample : All (λ answer. answer ≢ Err Memory) answers
     pub kept : IsReading names answers files errors
 
-  pub done-none : (names : List (List ℕ)) (before : S) (files : List FileSeen) (errors : List ℕ) → files ≡ [] → errors ≡ [] → Done names before 0 before files errors
+  pub done-none : (names : List (List ℕ)) (before : S) (files : List FileSaid) (errors : List ℕ) → files ≡ [] → errors ≡ [] → Done names before 0 before files errors
   done-none names before files errors f e = record {
     answers = [];
     from_first = refl;
@@ -60,16 +60,16 @@ module _ {S : Type 0} (reads : S → ℕ → Answer → S → Type 0) where
     kept = record { files_are = f; errors_are = e ∙ sym (error_lines-none names) };
   }
 
-  pub done-some : (names : List (List ℕ)) (before : S) (i : ℕ) (after : S) (files : List FileSeen) (errors : List ℕ) → Done names before i after files errors → i ≤ length names
+  pub done-some : (names : List (List ℕ)) (before : S) (i : ℕ) (after : S) (files : List FileSaid) (errors : List ℕ) → Done names before i after files errors → i ≤ length names
       → (answers : List Answer) × ReadsSome reads names before answers after
   done-some names before i after files errors d h = (d.answers, record { from_first = d.from_first; within = omega (arith, d.long) })
 
-  pub done-all : (names : List (List ℕ)) (before : S) (i : ℕ) (after : S) (files : List FileSeen) (errors : List ℕ) → Done names before i after files errors → i ≡ length names
+  pub done-all : (names : List (List ℕ)) (before : S) (i : ℕ) (after : S) (files : List FileSaid) (errors : List ℕ) → Done names before i after files errors → i ≡ length names
       → (answers : List Answer) × ReadsAll reads names before answers after × IsReading names answers files errors
   done-all names before i after files errors d h = (d.answers, record { from_first = d.from_first; each = d.long ∙ h; ample = d.ample }, d.kept)
 
   -- the next read, whatever it gives
-  pub read-some : (names : List (List ℕ)) (before : S) (i : ℕ) (after : S) (files : List FileSeen) (errors : List ℕ) → Done names before i after files errors
+  pub read-some : (names : List (List ℕ)) (before : S) (i : ℕ) (after : S) (files : List FileSaid) (errors : List ℕ) → Done names before i after files errors
       → (a : Answer) (last : S) → reads after i a last → suc i ≤ length names → (answers : List Answer) × ReadsSome reads names before answers last
   read-some names before i after files errors d a last r h = (
     d.answers ++ a ∷ [],
@@ -79,9 +79,9 @@ module _ {S : Type 0} (reads : S → ℕ → Answer → S → Type 0) where
     },
   )
 
-  pub done-more : (names : List (List ℕ)) (before : S) (i : ℕ) (after : S) (files : List FileSeen) (errors : List ℕ) → Done names before i after files errors
+  pub done-more : (names : List (List ℕ)) (before : S) (i : ℕ) (after : S) (files : List FileSaid) (errors : List ℕ) → Done names before i after files errors
       → (a : Answer) (last : S) → reads after i a last → a ≢ Err Memory → (name : List ℕ) → slice_get names i ≡ Some name
-      → (file : Result FileSeen Refusal) → file ≡ file_by a → (files' : List FileSeen) (errors' : List ℕ) → files' ≡ files ++ events_first file [] → errors' ≡ errors ++ error_line name file
+      → (file : Result FileSaid Refusal) → file ≡ file_by a → (files' : List FileSaid) (errors' : List ℕ) → files' ≡ files ++ events_first file [] → errors' ≡ errors ++ error_line name file
       → Done names before (i + 1) last files' errors'
   done-more names before i after files errors d a last r ample name found file same files' errors' f e = record {
     answers = d.answers ++ a ∷ [];

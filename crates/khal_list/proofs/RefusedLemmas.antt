@@ -3,12 +3,12 @@ use Rattle.std.proofs.Common.{◌≡◌, ◌≢◌, ℕ, List, [], ◌∷◌, �
 use Rattle.std.specs.Prelude.{◌↔◌, ◌||◌, is_err, IsErr}
 use Rattle.std.specs.List.{list_any}
 use Rattle.std.proofs.lemmas.List.Folds.{Any-from_list_any, list_any-from_Any}
-use Rattle.ics_calendar.specs.Event.{FileSeen}
+use Rattle.ics_calendar.specs.Event.{FileSaid}
 use Rattle.khal_list.specs.Answers.{Answer}
 use Rattle.khal_list.specs.Errors.{Refusal, file_by, error_line, error_lines}
 
 -- one line more
-line-more : (name : List ℕ) (file : Result FileSeen Refusal) (rest : List ℕ) (more : Bool) → (more ≡ true) ↔ (rest ≢ []) → ((is_err file || more) ≡ true) ↔ (error_line name file ++ rest ≢ [])
+line-more : (name : List ℕ) (file : Result FileSaid Refusal) (rest : List ℕ) (more : Bool) → (more ≡ true) ↔ (rest ≢ []) → ((is_err file || more) ≡ true) ↔ (error_line name file ++ rest ≢ [])
 line-more name (Ok file) rest more h = h
 line-more name (Err refusal) rest more h = (λ _ e. cc, λ _. refl)
 

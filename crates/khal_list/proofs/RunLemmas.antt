@@ -2,7 +2,7 @@
 use Rattle.std.proofs.Common.{◌≡◌, ◌≢◌, ◌⊎◌, inl, inr, ℕ, List, [], Option, length, take, sym, ap, ◌∙◌, subst, arith}
 use Rattle.std.specs.Prelude.{◌↔◌}
 use Rattle.std.proofs.lemmas.Grind.{common_steps}
-use Rattle.ics_calendar.specs.Event.{FileSeen}
+use Rattle.ics_calendar.specs.Event.{FileSaid}
 use Rattle.ics_series.specs.Entry.{Entry}
 use Rattle.khal_list.specs.declared.request.Request.{Request}
 use Rattle.khal_list.specs.declared.status.Status.{Status}
@@ -24,7 +24,7 @@ whole-front : (told new : Option (List ℕ)) (text : List ℕ) → new ≡ grown
 whole-front told new text h = record { count = length text; within = omega arith; taken = h ∙ ap (grown told) (sym (take-length text)) }
 
 module _ {S : Type 0} (reads : S → ℕ → Answer → S → Type 0) (names : List (List ℕ)) (before after : S) (request : Request) (out out' err err' : Option (List ℕ))
-    (answers : List Answer) (files : List FileSeen) (errors : List ℕ)
+    (answers : List Answer) (files : List FileSaid) (errors : List ℕ)
     (read : ReadsAll reads names before answers after) (kept : IsReading names answers files errors) (wrote : err' ≡ grown err errors) where
   lines : err' ≡ grown err (error_lines names answers)
   lines = wrote ∙ ap (grown err) kept.errors_are

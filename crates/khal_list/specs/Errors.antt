@@ -2,7 +2,7 @@
 -- form).
 use Rattle.std.specs.Prelude.{ℕ, List, [], ◌∷◌, ◌++◌, Option, Some, None, Result, Ok, Err, codes}
 use Rattle.std.specs.Fmt.{decimal}
-use Rattle.ics_calendar.specs.Event.{FileSeen}
+use Rattle.ics_calendar.specs.Event.{FileSaid}
 use Rattle.ics_calendar.specs.FaultNames.{kind_name}
 use Rattle.ics_calendar.specs.Files.{file_of}
 use Rattle.ics_calendar.specs.FirstFault.{Fault}
@@ -13,21 +13,21 @@ use Rattle.khal_list.specs.Shown.{shown}
 abbrev pub Refusal : Type 0
 Refusal = Option Fault
 
-abbrev pub file_or_refusal : Result FileSeen Fault → Result FileSeen Refusal
+abbrev pub file_or_refusal : Result FileSaid Fault → Result FileSaid Refusal
 file_or_refusal (Ok file) = Ok file
 file_or_refusal (Err fault) = Err (Some fault)
 
 -- what a read comes to: the events of the file, or why it is not listed
-abbrev pub file_by : Answer → Result FileSeen Refusal
+abbrev pub file_by : Answer → Result FileSaid Refusal
 file_by (Ok bytes) = file_or_refusal (file_of bytes)
 file_by (Err fault) = Err None
 
-abbrev pub events_first : Result FileSeen Refusal → List FileSeen → List FileSeen
+abbrev pub events_first : Result FileSaid Refusal → List FileSaid → List FileSaid
 events_first (Ok file) files = file ∷ files
 events_first (Err refusal) files = files
 
 -- the accepted files, in the order of the reads
-abbrev pub accepted : List Answer → List FileSeen
+abbrev pub accepted : List Answer → List FileSaid
 accepted [] = []
 accepted (answer ∷ answers) = events_first (file_by answer) (accepted answers)
 
@@ -40,7 +40,7 @@ abbrev pub refusal_line : List ℕ → Refusal → List ℕ
 refusal_line name refusal = codes "khal-list: " ++ (shown name ++ (codes ": " ++ (refusal_text refusal ++ 10 ∷ [])))
 
 -- the line of a file that is not listed, and nothing of an accepted one
-abbrev pub error_line : List ℕ → Result FileSeen Refusal → List ℕ
+abbrev pub error_line : List ℕ → Result FileSaid Refusal → List ℕ
 error_line name (Ok file) = []
 error_line name (Err refusal) = refusal_line name refusal
 

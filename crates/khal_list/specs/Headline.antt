@@ -1,6 +1,6 @@
 -- THE HEADLINE: what a run reads, lists and writes.
 use Rattle.std.specs.Prelude.{◌≡◌, ◌↔◌, ◌⊎◌, ℕ, List, Option, Any, IsErr}
-use Rattle.ics_calendar.specs.Event.{FileSeen}
+use Rattle.ics_calendar.specs.Event.{FileSaid}
 use Rattle.ics_series.specs.Clocks.{display_clock}
 use Rattle.ics_series.specs.Entry.{Entry, entry_cmp}
 use Rattle.ics_series.specs.Listing.{IsListing}
@@ -15,7 +15,7 @@ use Rattle.khal_list.specs.Listed.{text_of}
 use Rattle.khal_list.specs.Reads.{ReadsAll, ReadsSome}
 
 -- THE listing of the files: the one strictly rising list of exactly their occurrences that meet the window
-abbrev pub IsListingOf : List FileSeen → Request → List Entry → Type 0
+abbrev pub IsListingOf : List FileSaid → Request → List Entry → Type 0
 IsListingOf files request list = IsListing entry_cmp (IsListed files (display_clock request.zone) request.window) list
 
 -- Every file was read once, in order. `err` has gained exactly the lines of the files that were not read or are refused,

@@ -1,5 +1,6 @@
 //! The files of a source, read one by one.
-ghost use Rattle.std.specs.Prelude.{◌≡◌, ◌≢◌, ◌↔◌, ◌++◌, List, [], IfOk, IfErr, OnOk};
+ghost use Rattle.std.specs.Prelude.{◌≡◌, ◌≢◌, ◌↔◌, ◌++◌, List, [], IfOk, IfErr, OnOk, map};
+ghost use Rattle.ics_calendar.specs.Event.{said_by};
 ghost use Rattle.khal_list.specs.Answers.{Answer};
 ghost use Rattle.khal_list.specs.Errors.{events_first, error_line};
 ghost use Rattle.khal_list.specs.Outcomes.{seen_outcome, IsReading};
@@ -34,8 +35,8 @@ impl Reading {
 
     /// Keeps the events of the next file, or the line that says why it is not listed.
     fn keep(&mut self, alloc: Global, name: &str, outcome: Outcome) -> Result<(), RunFault>
-        ensures files { OnOk result (self.new.files.items
-            ≡ self.old.files.items ++ events_first (seen_outcome outcome) []) }
+        ensures files { OnOk result (map said_by self.new.files.items
+            ≡ map said_by self.old.files.items ++ events_first (seen_outcome outcome) []) }
         ensures errors { OnOk result (self.new.errors.items
             ≡ self.old.errors.items ++ error_line name.now (seen_outcome outcome)) }
         ensures err { IfErr result (λ fault. fault ≡ RunFault.Memory) }
@@ -67,7 +68,7 @@ pub(crate) fn read_all<S: Source>(alloc: Global, source: &mut S) -> Result<Readi
         × ReadsSome S.reads (S.names source.old) source.old answers source.new }
     ensures all { IfOk result (λ reading. (answers : List Answer)
         × ReadsAll S.reads (S.names source.old) source.old answers source.new
-        × IsReading (S.names source.old) answers reading.files.items reading.errors.items) }
+        × IsReading (S.names source.old) answers (map said_by reading.files.items) reading.errors.items) }
     ensures err { IfErr result (λ fault. fault ≡ RunFault.Memory) }
 {
     let mut reading = Reading::new(alloc);

@@ -1,5 +1,6 @@
 //! A whole run: files, errors and the listing.
-ghost use Rattle.std.specs.Prelude.{◌≡◌, ◌⊎◌, List, IfOk, OnOk, OnErr, IsErrOf};
+ghost use Rattle.std.specs.Prelude.{◌≡◌, ◌⊎◌, List, IfOk, OnOk, OnErr, IsErrOf, map};
+ghost use Rattle.ics_calendar.specs.Event.{said_by};
 ghost use Rattle.ics_series.specs.Entry.{Entry};
 ghost use Rattle.khal_list.specs.Growth.{grown, TookFront, LeftByFault};
 ghost use Rattle.khal_list.specs.Headline.{IsListingOf, Lists, Stops};
@@ -23,14 +24,15 @@ fn list<O: Sink>(
     request: &Request,
     out: &mut O,
 ) -> Result<(), RunFault>
-    ensures ok { OnOk result ((list : List Entry) × IsListingOf files.items request.now list
+    ensures ok { OnOk result ((list : List Entry) × IsListingOf (map said_by files.items) request.now list
         × (O.taken out.new ≡ grown (O.taken out.old) (text_of request.now list))) }
     ensures err { OnErr result ((O.taken out.new ≡ O.taken out.old)
-        ⊎ ((list : List Entry) × IsListingOf files.items request.now list
+        ⊎ ((list : List Entry) × IsListingOf (map said_by files.items) request.now list
         × TookFront (O.taken out.old) (O.taken out.new) (text_of request.now list))) }
     ensures cause { IsErrOf result RunFault.WriteFault → LeftByFault O.puts out.new }
 {
-    let folder = Folder::new(alloc, files, request.zone)?;
+    let mut folder = Folder::new(alloc, files, request.zone)?;
+    folder.reach(&request.window)?;
     let mut agenda = folder.agenda(request.window)?;
     print(alloc, &mut agenda, request, out)?;
     Ok(())

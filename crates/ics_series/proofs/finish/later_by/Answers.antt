@@ -1,7 +1,8 @@
 use Rattle.std.proofs.Common.{◌≡◌, pos, ◌+ℤ◌, ◌*◌, w64, refl, arith}
 use Rattle.std.proofs.lemmas.Int.{ints, to_z-of_z}
 use mir.Val.{SFits}
-use Rattle.ics_series.specs.Clocks.{Clock, clock_of, display_clock, local_at}
+use Rattle.ics_series.specs.Clocks.{Clock, clock_of, local_at}
+use Rattle.ics_series.specs.Zones.{clocks_in}
 use Rattle.ics_series.proofs.InstantLemmas.{moved}
 use Rattle.ics_series.proofs.finish.later_by.Goals as goal
 
@@ -9,7 +10,7 @@ pub returns-clause-value : goal.returns-clause-value
 returns-clause-value c =
     let fits : SFits w64 c.args.start = c.ranges.start in
     let shown = simp to_z-of_z at c.days_after.ensures.value in
-    let clock : Clock = clock_of (display_clock c.args.display.now) c.args.time in
+    let clock : Clock = clock_of (clocks_in c.args.zones) c.args.time in
     let value : c.days_after.result ≡ clock.moment (local_at clock c.args.start +ℤ pos (c.args.duration.days * 86_400)) =
     moved clock.moment _ _ _ _ refl shown (omega (arith, ints)) in
     omega (arith, ints, value)

@@ -3,47 +3,51 @@ use Rattle.std.specs.Int.{int_max}
 use Rattle.std.proofs.lemmas.Int.{ints, int_max_is}
 use Rattle.ics_calendar.specs.declared.time.Length.TheVariants.{Until}
 use Rattle.ics_calendar.specs.Event.{IsLasting, IsLength}
-use Rattle.ics_series.specs.Clocks.{display_clock, instant}
+use Rattle.ics_series.specs.Clocks.{instant}
 use Rattle.ics_series.specs.Finish.{seconds_by}
+use Rattle.ics_series.specs.Zones.{clocks_in, EndIsReadable}
 use Rattle.ics_series.proofs.InstantLemmas.{early, late, lasting-seconds, until-seconds}
 use Rattle.ics_series.proofs.lasting.seconds_by.Goals as goal
+
+pub instant-requires : goal.instant-requires
+instant-requires c = subst (EndIsReadable c.args.zones.zones.now) c.in_default-Until.is-1 c.requires.end
 
 pub overflow_sub-instant : goal.overflow_sub-instant
 overflow_sub-instant c =
     let length : IsLength c.args.first.stamp (Until c.in_default-Until.end) = subst (IsLength c.args.first.stamp) c.in_default-Until.is-1 c.requires.length in
-    let a = early c.args.display.now c.in_default-Until.end length.0 in
-    let b = late c.args.display.now c.in_default-Until.end length.0 in
-    let d = early c.args.display.now c.args.first c.requires.time in
-    let e = late c.args.display.now c.args.first c.requires.time in
+    let a = early c.args.zones c.in_default-Until.end length.0 in
+    let b = late c.args.zones c.in_default-Until.end length.0 in
+    let d = early c.args.zones c.args.first c.requires.first.is_time in
+    let e = late c.args.zones c.args.first c.requires.first.is_time in
     omega (arith, ints, c.instant.ensures, c.instant-in_default-Until.ensures, a, b, d, e)
 
 pub returns-in_default-Until : goal.returns-in_default-Until
 returns-in_default-Until c =
-    let display = display_clock c.args.display.now in
+    let clocks = clocks_in c.args.zones in
     let first = c.args.first in
     let end = c.in_default-Until.end in
     let length : IsLength c.args.first.stamp (Until c.in_default-Until.end) = subst (IsLength c.args.first.stamp) c.in_default-Until.is-1 c.requires.length in
-    let a = early c.args.display.now c.in_default-Until.end length.0 in
-    let b = late c.args.display.now c.in_default-Until.end length.0 in
-    let d = early c.args.display.now c.args.first c.requires.time in
-    let e = late c.args.display.now c.args.first c.requires.time in
-    let value : to_z w64 (of_z w64 c.max.result) ≡ int_max (instant display end -ℤ instant display first) (pos 0) =
+    let a = early c.args.zones c.in_default-Until.end length.0 in
+    let b = late c.args.zones c.in_default-Until.end length.0 in
+    let d = early c.args.zones c.args.first c.requires.first.is_time in
+    let e = late c.args.zones c.args.first c.requires.first.is_time in
+    let value : to_z w64 (of_z w64 c.max.result) ≡ int_max (instant clocks end -ℤ instant clocks first) (pos 0) =
     omega (arith, ints, c.max.type_inv, c.max.ensures.value, c.instant.ensures, c.instant-in_default-Until.ensures, a, b, d, e, int_max_is) in
     record {
-      value = value ∙ (until-seconds display first end first.stamp c.in_default-Until.not-Date-0 ∙ ap (seconds_by display first first.stamp) (sym c.in_default-Until.is-1));
-      least = omega (arith, ints, value, int_max_is (instant display end -ℤ instant display first) (pos 0));
-      most = omega (arith, ints, value, a, b, d, e, int_max_is (instant display end -ℤ instant display first) (pos 0));
+      value = value ∙ (until-seconds clocks first end first.stamp c.in_default-Until.not-Date-0 ∙ ap (seconds_by clocks first first.stamp) (sym c.in_default-Until.is-1));
+      least = omega (arith, ints, value, int_max_is (instant clocks end -ℤ instant clocks first) (pos 0));
+      most = omega (arith, ints, value, a, b, d, e, int_max_is (instant clocks end -ℤ instant clocks first) (pos 0));
     }
 
 pub returns-in_default-Lasting : goal.returns-in_default-Lasting
 returns-in_default-Lasting c =
-    let display = display_clock c.args.display.now in
+    let clocks = clocks_in c.args.zones in
     let first = c.args.first in
     let duration = c.in_default-Lasting.duration in
     let lasting : IsLasting duration = subst (IsLength c.args.first.stamp) c.in_default-Lasting.is-1 c.requires.length in
     record {
       value = omega (arith, ints, lasting.short)
-          ∙ (lasting-seconds display first duration first.stamp c.in_default-Lasting.not-Date-0 ∙ ap (seconds_by display first first.stamp) (sym c.in_default-Lasting.is-1));
+          ∙ (lasting-seconds clocks first duration first.stamp c.in_default-Lasting.not-Date-0 ∙ ap (seconds_by clocks first first.stamp) (sym c.in_default-Lasting.is-1));
       least = omega (arith, ints, lasting.short);
       most = omega (arith, ints, lasting.short);
     }

@@ -1,36 +1,42 @@
-use Rattle.std.proofs.Common.{◌≡◌, ◌∙◌, ap, sym}
+use Rattle.std.proofs.Common.{◌≡◌, ◌<ℤ◌, ◌+ℤ◌, pos, arith, ◌∙◌, ap, sym}
+use Rattle.std.proofs.lemmas.Int.{ints}
 use Rattle.ics_rule.specs.Cursors.{place_of}
 use Rattle.ics_rule.specs.Kept.{is_kept}
 use Rattle.ics_rule.specs.Locals.{number}
 use Rattle.ics_rule.specs.Recurrence.{Recurrence}
-use Rattle.ics_series.specs.Clocks.{display_clock, instant}
+use Rattle.ics_series.specs.Clocks.{instant, seconds_of}
 use Rattle.ics_series.specs.Found.{is_until, with_start}
 use Rattle.ics_series.specs.Starts.{local_of, time_at}
-use Rattle.ics_series.proofs.GiverLemmas.{calendar-day, kept-time, own-day, rule-is}
+use Rattle.ics_series.specs.Zones.{clocks_in}
+use Rattle.ics_series.proofs.GiverLemmas.{calendar-day, kept-time, number-seconds, own-day, rule-is}
 use Rattle.ics_series.proofs.KeptLemmas.{start_at, pushed-all, pushed-one}
+use Rattle.ics_series.proofs.ZoneLemmas.{local-readable}
 use Rattle.ics_series.proofs.starts.push_kept.Goals as goal
 
 pub push_start-requires : goal.push_start-requires
 push_start-requires c =
-    kept-time c.args.event.now c.args.rule.now c.of_calendar.result c.requires.time c.requires.rule c.of_calendar.ensures.day
-    (ap (is_kept c.args.rule.now) c.of_calendar.ensures.same ∙ c.in-Some.ensures.next.0.kept)
+    let local = c.of_calendar.result in
+    let time = kept-time c.args.event.now c.args.rule.now c.of_calendar.result c.requires.event.start.is_time c.requires.rule c.of_calendar.ensures.day
+    (ap (is_kept c.args.rule.now) c.of_calendar.ensures.same ∙ c.in-Some.ensures.next.0.kept) in
+    let early : seconds_of local <ℤ (c.args.window.now.to +ℤ pos 345_600) = omega (arith, ints, c.of_calendar.ensures.same, c.in-Some.ensures.next.0.in_bound, c.end_nearby-end.ensures.soon, number-seconds local c.of_calendar.ensures.day, number-seconds c.end_nearby-end.result c.end_nearby-end.ensures.day) in
+    local-readable c.args.zones.zones.now c.args.window.now.to c.args.event.now.start local c.requires.reached c.requires.event.start time early
 
 pub loop-local-preserved : goal.loop-local-preserved
 loop-local-preserved c =
-    let display = display_clock c.args.display.now in
+    let clocks = clocks_in c.args.zones in
     let event = c.args.event.now in
     let local = c.of_calendar.result in
-    let time = kept-time c.args.event.now c.args.rule.now c.of_calendar.result c.requires.time c.requires.rule c.of_calendar.ensures.day
+    let time = kept-time c.args.event.now c.args.rule.now c.of_calendar.result c.requires.event.start.is_time c.requires.rule c.of_calendar.ensures.day
     (ap (is_kept c.args.rule.now) c.of_calendar.ensures.same ∙ c.in-Some.ensures.next.0.kept) in
-    let new : c.push_start.new.starts.items ≡ with_start (is_until c.until_moment-until.result (instant display (time_at event.start local))) c.loop-local.starts.items (start_at display event local) = c.in_ok-push_start.ensures in
-    pushed-one display event c.args.rule.now c.requires.rule (place_of c.at-cursor.result) c.loop-local.cursor c.next.new.self c.args.starts.now.items c.loop-local.starts.items c.push_start.new.starts.items
+    let new : c.push_start.new.starts.items ≡ with_start (is_until c.until_moment-until.result (instant clocks (time_at event.start local))) c.loop-local.starts.items (start_at clocks event local) = c.in_ok-push_start.ensures in
+    pushed-one clocks event c.args.rule.now c.requires.rule (place_of c.at-cursor.result) c.loop-local.cursor c.next.new.self c.args.starts.now.items c.loop-local.starts.items c.push_start.new.starts.items
     c.loop-local.invariant (number c.end_nearby-end.result) (number c.in-Some.local) local c.in-Some.ensures.next.0 c.in-Some.ensures.next.1 c.in-Some.ensures.own c.of_calendar.ensures.day c.of_calendar.ensures.same time
-    (new ∙ ap (λ until. with_start (is_until until (instant display (time_at event.start local))) c.loop-local.starts.items (start_at display event local)) c.until_moment-until.ensures)
+    (new ∙ ap (λ until. with_start (is_until until (instant clocks (time_at event.start local))) c.loop-local.starts.items (start_at clocks event local)) c.until_moment-until.ensures)
 
 pub returns : goal.returns
 returns c =
     let event = c.args.event.now in
     let start : c.args.rule.now.start ≡ local_of event.start.stamp = ap (λ (r : Recurrence). r.start) (rule-is event.start.stamp event.rule c.args.rule.now c.requires.rule).1 in
-    pushed-all (display_clock c.args.display.now) event c.args.rule.now c.requires.rule c.args.window.now (place_of c.at-cursor.result) c.first_nearby.result c.end_nearby-end.result c.loop-local.cursor
+    pushed-all (clocks_in c.args.zones) event c.args.rule.now c.requires.rule c.args.window.now (place_of c.at-cursor.result) c.first_nearby.result c.end_nearby-end.result c.loop-local.cursor
     c.args.starts.now.items c.loop-local.starts.items c.loop-local.invariant c.first_nearby.ensures.day (sym c.at-cursor.ensures.place)
-    (calendar-day (local_of event.start.stamp).day (own-day event.start c.requires.time)) c.first_nearby.ensures.low c.end_nearby-end.ensures.day c.end_nearby-end.ensures.after c.in_default.ensures.next.0 (ap number start)
+    (calendar-day (local_of event.start.stamp).day (own-day event.start c.requires.event.start.is_time)) c.first_nearby.ensures.low c.end_nearby-end.ensures.day c.end_nearby-end.ensures.after c.in_default.ensures.next.0 (ap number start)

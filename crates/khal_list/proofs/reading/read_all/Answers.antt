@@ -1,5 +1,6 @@
-use Rattle.std.proofs.Common.{◌≡◌, ◌≤◌, suc, length, refl, sym, arith, ap, ◌∙◌}
+use Rattle.std.proofs.Common.{◌≡◌, ◌≤◌, suc, length, map, refl, sym, arith, ap, ◌∙◌}
 use Rattle.std.specs.Prelude.{slice_get}
+use Rattle.ics_calendar.specs.Event.{said_by}
 use Rattle.khal_list.specs.Outcomes.{seen_outcome}
 use Rattle.khal_list.proofs.ReadLemmas.{done-none, done-more, read-some}
 use Rattle.khal_list.proofs.reading.read_all.Goals as goal
@@ -7,8 +8,8 @@ use Rattle.khal_list.proofs.reading.read_all.Goals as goal
 pub loop-index-init : goal.loop-index-init
 loop-index-init g c = record {
   names = refl;
-  done = done-none g.S.Source.reads (g.S.Source.names c.args.source.now) c.args.source.now c.new-reading.result.files.items c.new-reading.result.errors.items
-      c.new-reading.ensures.files c.new-reading.ensures.errors;
+  done = done-none g.S.Source.reads (g.S.Source.names c.args.source.now) c.args.source.now (map said_by c.new-reading.result.files.items) c.new-reading.result.errors.items
+      (ap (map said_by) c.new-reading.ensures.files) c.new-reading.ensures.errors;
 }
 
 pub returns-in_err-outcome-clause-some : goal.returns-in_err-outcome-clause-some
@@ -34,5 +35,5 @@ loop-index-preserved g c =
       names = kept;
       done = done-more g.S.Source.reads names c.args.source.now c.loop-index.index c.loop-index.source _ _ c.loop-index.invariant.done read.0 c.read_outcome.new.source read.1 read.2.0
           c.name.result.now (ap (λ list. slice_get list c.loop-index.index) (sym kept) ∙ c.name.ensures) (seen_outcome c.in_ok-outcome.outcome) read.2.1
-          c.keep.new.self.files.items c.keep.new.self.errors.items c.in_ok-keep.ensures.files c.in_ok-keep.ensures.errors;
+          (map said_by c.keep.new.self.files.items) c.keep.new.self.errors.items c.in_ok-keep.ensures.files c.in_ok-keep.ensures.errors;
     }

@@ -1,9 +1,10 @@
-use Rattle.std.proofs.Common.{◌≡◌}
+use Rattle.std.proofs.Common.{◌≡◌, map}
+use Rattle.ics_calendar.specs.Event.{said_by}
 use Rattle.khal_list.proofs.ReadLemmas.{Done}
 use Rattle.khal_list.proofs.reading.read_all.Given as goal
 
 abbrev pub invariant-loop-index : goal.invariant-loop-index
 invariant-loop-index g l = record {
   names : g.S.Source.names l.source ≡ g.S.Source.names l.fn.source;
-  done : Done g.S.Source.reads (g.S.Source.names l.fn.source) l.fn.source l.index l.source l.reading.files.items l.reading.errors.items;
+  done : Done g.S.Source.reads (g.S.Source.names l.fn.source) l.fn.source l.index l.source (map said_by l.reading.files.items) l.reading.errors.items;
 }

@@ -1,4 +1,5 @@
-use Rattle.std.proofs.Common.{ap, ◌∙◌}
+use Rattle.std.proofs.Common.{map, ap, ◌∙◌}
+use Rattle.ics_calendar.specs.Event.{said_by}
 use Rattle.khal_list.specs.Growth.{grown}
 use Rattle.khal_list.specs.Headline.{Stops}
 use Rattle.khal_list.proofs.RunLemmas.{lists, stops}
@@ -15,7 +16,7 @@ returns-in_err-list-clause-stops g c =
     c.from_residual-in_err-list.result (
     stops g.S.Source.reads (g.S.Source.names c.args.source.now) c.args.source.now c.read_all.new.source c.args.request.now
     (g.O.Sink.taken c.args.out.now) (g.O.Sink.taken c.list.new.out) told (g.E.Sink.taken c.put_all.new.sink)
-    all.0 c.in_ok-reading.reading.files.items c.in_ok-reading.reading.errors.items all.1 all.2 wrote c.in_err-list.ensures.err)
+    all.0 (map said_by c.in_ok-reading.reading.files.items) c.in_ok-reading.reading.errors.items all.1 all.2 wrote c.in_err-list.ensures.err)
 
 pub returns-clause-lists : goal.returns-clause-lists
 returns-clause-lists g c =
@@ -25,5 +26,5 @@ returns-clause-lists g c =
     let listed = c.in_ok-list.ensures.ok in
     lists g.S.Source.reads (g.S.Source.names c.args.source.now) c.args.source.now c.read_all.new.source c.args.request.now
     (g.O.Sink.taken c.args.out.now) (g.O.Sink.taken c.list.new.out) told (g.E.Sink.taken c.put_all.new.sink)
-    all.0 c.in_ok-reading.reading.files.items c.in_ok-reading.reading.errors.items all.1 all.2 wrote
+    all.0 (map said_by c.in_ok-reading.reading.files.items) c.in_ok-reading.reading.errors.items all.1 all.2 wrote
     listed.0 listed.1 listed.2 c.status-status.result c.status-status.ensures

@@ -6,7 +6,7 @@ use Rattle.ics_series.proofs.occurrence.Occurrence.within.Goals as goal
 
 pub invariant_of-occurrence : goal.invariant_of-occurrence
 invariant_of-occurrence c =
-    let from = late c.args.display.now (time_of c.args.event.now c.args.start) c.requires.start.time in
+    let from = late c.args.zones (time_of c.args.event.now c.args.start) c.requires.start.time in
     record {
       not_early = omega (arith, ints, c.requires.start.moment, from);
       forward = omega (arith, ints, c.finish.ensures.forward);

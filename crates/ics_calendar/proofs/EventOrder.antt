@@ -1,0 +1,86 @@
+-- In a file without faults the events end in the order in which they begin.
+use Rattle.std.proofs.Common.{◌≡◌, ◌≢◌, ℕ, Bool, true, false, ◌&&◌, List, [], ◌∷◌, ◌++◌, refl, sym, ap, ◌∙◌}
+use Rattle.std.specs.Prelude.{codes}
+use Rattle.std.specs.Str.{bytes_eq}
+use Rattle.ics_calendar.specs.declared.collected.Collected.{Collected}
+use Rattle.ics_calendar.specs.declared.component.Component.{Component}
+use Rattle.ics_calendar.specs.declared.component.Component.TheVariants as component
+use Rattle.ics_calendar.specs.declared.component.Place.{Place}
+use Rattle.ics_calendar.specs.declared.component.Place.TheVariants as place
+use Rattle.ics_calendar.specs.declared.name.Name.TheVariants as name
+use Rattle.ics_calendar.specs.Components.{component_of, place_in, is_calendar_place, is_event_place}
+use Rattle.ics_calendar.specs.Names.{name_of}
+use Rattle.ics_calendar.specs.Placed.{Placed, Open, property_name, place_of, is_begin, component, calendar_of}
+use Rattle.ics_calendar.specs.Reading.{event_property}
+use Rattle.ics_calendar.specs.Collecting.{collected_of, note_event}
+use Rattle.ics_calendar.proofs.NameLemmas.{TellsComponent, tells_component}
+use Rattle.ics_calendar.proofs.Collects.{collected_of-more, parts_at}
+use Rattle.ics_calendar.proofs.Ended.{events}
+use Rattle.ics_calendar.proofs.Order.{open_as, IsSort}
+
+-- an END adds nothing to its event
+event-end : (ls : List Placed) (l : Placed) → name_of (property_name l.content) ≡ name.End → collected_of (ls ++ l ∷ []) ≡ collected_of ls
+event-end ls l e = collected_of-more ls l ∙ ap (λ n. note_event (event_property n (parts_at l)) (collected_of ls)) e
+
+-- only a calendar holds events, and it stands in none
+pub place-in-outside : (q : Place) (c : Component) → place_in q c ≢ place.Outside
+place-in-outside place.Outside component.Calendar = λ e. cc
+place-in-outside place.Outside _ = λ e. cc
+place-in-outside place.Calendar component.Event = λ e. cc
+place-in-outside place.Calendar _ = λ e. cc
+place-in-outside place.Zone component.Standard = λ e. cc
+place-in-outside place.Zone _ = λ e. cc
+place-in-outside _ c = λ e. cc
+
+pub calendar-from : (q : Place) (c : Component) → is_calendar_place (place_in q c) ≡ true → q ≡ place.Outside
+calendar-from place.Outside c e = refl
+calendar-from place.Calendar component.Event e = cc
+calendar-from place.Calendar _ e = cc
+calendar-from place.Zone component.Standard e = cc
+calendar-from place.Zone _ e = cc
+calendar-from _ c e = cc
+
+calendar-no-event : (q : Place) → is_calendar_place q ≡ true → is_event_place q ≡ false
+calendar-no-event place.Event e = cc
+calendar-no-event _ e = refl
+
+calendar-alone : (whole : List Placed) (path : List Open) → is_calendar_place (place_of path) ≡ true → open_as events whole path ≡ []
+calendar-alone whole [] e = refl
+calendar-alone whole (c ∷ []) e = rw (calendar-no-event (place_of (c ∷ [])) e) refl
+calendar-alone whole (c ∷ d ∷ ds) e = absurd (place-in-outside (place_of ds) (component_of d.name) (calendar-from (place_of (d ∷ ds)) (component_of c.name) e))
+
+-- an event begins exactly on a VEVENT in a calendar
+event-begins : (q : Place) (w : List ℕ) → is_event_place (place_in q (component_of w)) ≡ (is_calendar_place q && bytes_eq w (codes "VEVENT"))
+event-begins q w = by_place q (component_of w) (tells_component w)
+  where
+    by_place : (q : Place) (c : Component) → TellsComponent w c → is_event_place (place_in q c) ≡ (is_calendar_place q && bytes_eq w (codes "VEVENT"))
+    by_place place.Outside component.Calendar e = refl
+    by_place place.Outside _ e = refl
+    by_place place.Calendar (component.Other n) e = sym e.0.no_event
+    by_place place.Calendar component.Event e = rw e refl
+    by_place place.Calendar _ e = rw e refl
+    by_place place.Zone component.Standard e = refl
+    by_place place.Zone _ e = refl
+    by_place _ c e = refl
+
+-- what begins an event stands in a calendar
+in-calendar : (q : Place) (c : Component) → is_event_place (place_in q c) ≡ true → is_calendar_place q ≡ true
+in-calendar place.Outside component.Calendar e = cc
+in-calendar place.Outside _ e = cc
+in-calendar place.Calendar c e = refl
+in-calendar place.Zone component.Standard e = cc
+in-calendar place.Zone _ e = cc
+in-calendar _ c e = cc
+
+pub events-are : IsSort events
+events-are = record {
+  starts = λ l. reorder (is_calendar_place (place_of l.path)) (is_begin l) (bytes_eq (component l) (codes "VEVENT")) ∙ ap (λ t. is_begin l && t) (sym (event-begins (place_of l.path) (component l)));
+  alone = λ whole l e. calendar-alone whole l.path (in-calendar (place_of l.path) (component_of (component l)) e);
+  ends = λ path ls l e. ap (λ (had : Collected). record { calendar = calendar_of path; had = had }) (event-end ls l e);
+}
+  where
+    reorder : (a b c : Bool) → (a && (b && c)) ≡ (b && (a && c))
+    reorder true true c = refl
+    reorder true false c = refl
+    reorder false true c = refl
+    reorder false false c = refl

@@ -1,0 +1,136 @@
+-- An event that no fault of either round stands on is one, of the zones of its file.
+use Rattle.std.proofs.Common.{◌≡◌, ◌≢◌, ℕ, ◌≤◌, Bool, true, false, not, ◌&&◌, ◌||◌, ◌==◌, nat_le, IsTrue, List, [], ◌∷◌, refl, arith, cond, Option, Some, None, is_some, IfSome, unwrap_or, Result, Ok, Err, int_lt, ℤ, pos, ◌+ℤ◌, ◌*ℤ◌}
+use Rattle.std.specs.Result.{result_ok}
+use Rattle.std.proofs.lemmas.Bool.Decides.{nat_tests}
+use Rattle.std.proofs.lemmas.Int.{ints}
+use Rattle.ics_values.specs.Stamps.{IsStampDay}
+use Rattle.ics_values.specs.declared.duration.Duration.{Duration}
+use Rattle.ics_values.specs.declared.duration.DurationFault.{DurationFault}
+use Rattle.ics_values.specs.declared.stamp.Stamp.{Stamp}
+use Rattle.ics_values.specs.declared.stamp.Stamp.TheVariants.{Date, Floating, Utc, Zoned}
+use Rattle.ics_values.specs.declared.stamp.StampFault.{StampFault}
+use Rattle.ics_calendar.specs.declared.collected.Collected.{Collected}
+use Rattle.ics_calendar.specs.declared.dated.Dated.{Dated}
+use Rattle.ics_calendar.specs.declared.fault.FaultKind.TheVariants.{BadEnd, MissingUid, MissingStart, UnknownZone}
+use Rattle.ics_calendar.specs.declared.later.Later.{Later}
+use Rattle.ics_calendar.specs.declared.later.Later.TheVariants as later
+use Rattle.ics_calendar.specs.declared.later.ZoneName.{ZoneName}
+use Rattle.ics_calendar.specs.Event.{IsTime, longest, seconds_of, IsWithin, IsEnd, IsLasting, IsLength, IsEvent}
+use Rattle.ics_calendar.specs.Collecting.{event_from}
+use Rattle.ics_calendar.specs.Laters.{KnownZones, zone_used, judged}
+use Rattle.ics_calendar.specs.LineFaults.{used_in, instant_on, both_compared, ends_in}
+use Rattle.ics_calendar.specs.Ready.{IsReady}
+use Rattle.ics_calendar.specs.Sound.{IsSoundStamp, IsSoundDuration, IsWhole}
+use Rattle.ics_calendar.specs.Times.{time_of, length_of}
+use Rattle.ics_calendar.specs.Values.{is_zoned_stamp, length_in_seconds, is_lasting, is_filled, same_zone, is_out, is_bad_end, both, ends_badly}
+
+-- WHAT IS COLLECTED of an event that is ready.
+day-zero : IsStampDay (pos 0)
+day-zero = (omega (arith, ints), omega (arith, ints))
+
+-- what the second round looks at is no fault
+abbrev pub IsFine : KnownZones → Option Later → Type 0
+IsFine known o = IfSome o (λ l. judged known l ≡ None)
+
+pub known-zone : (t : Bool) → cond t None (Some UnknownZone) ≡ None → t ≡ true
+known-zone true e = refl
+known-zone false e = cc
+
+stamp-time : (known : KnownZones) (name : ZoneName) (r : Result Stamp StampFault) → IsSoundStamp r → IsFine known (cond (is_zoned_stamp r) (Some (later.Zone name)) None) →
+    IsTime (record { stamp = unwrap_or (result_ok r) (Date (pos 0)); zone = cond (is_zoned_stamp r) (known.index name) None })
+stamp-time known name (Ok (Date d)) h k = record { years = h; zone = refl }
+stamp-time known name (Ok (Floating l)) h k = record { years = h; zone = refl }
+stamp-time known name (Ok (Utc l)) h k = record { years = h; zone = refl }
+stamp-time known name (Ok (Zoned l)) h k = record { years = h; zone = known-zone (is_some (known.index name)) k }
+stamp-time known name (Err f) h k = absurd h
+
+time-sound : (known : KnownZones) (calendar : ℕ) (o : Option Dated) → IfSome o (λ d. IsSoundStamp d.stamp) → IsFine known (used_in calendar o) → IsTime (time_of known.index calendar o)
+time-sound known calendar None h k = record { years = day-zero; zone = refl }
+time-sound known calendar (Some d) h k = stamp-time known (zone_used calendar d) d.stamp h k
+
+pub out-within : (start end : ℤ) → is_out start end ≡ false → IsWithin start end
+out-within start end h = by_tests (int_lt end start) (int_lt (start +ℤ pos longest) end) refl refl h
+  where
+    by_tests : (a b : Bool) → int_lt end start ≡ a → int_lt (start +ℤ pos longest) end ≡ b → (a || b) ≡ false → IsWithin start end
+    by_tests false false p q h = record { forward = omega (arith, ints); short = omega (arith, ints) }
+    by_tests false true p q h = cc
+    by_tests true b p q h = cc
+
+-- what waits of a start and its end
+abbrev pub waits_of : ZoneName → ZoneName → Bool → Result Stamp StampFault → Result Stamp StampFault → Option Later
+waits_of m n z r q = cond (is_zoned_stamp r && (is_zoned_stamp q && z)) None (both_compared (instant_on m r) (instant_on n q))
+
+not-end : (known : KnownZones) (t : Bool) → IsFine known (cond t (Some later.End) None) → t ≡ false
+not-end known true h = cc
+not-end known false h = refl
+
+end-is : (known : KnownZones) (m n : ZoneName) (z : Bool) (a b : Stamp) → is_bad_end z a b ≡ false → IsFine known (waits_of m n z (Ok a) (Ok b)) → IsEnd a b
+end-is known m n z (Date a) (Date b) e l = out-within (a *ℤ pos 86_400) (b *ℤ pos 86_400) e
+end-is known m n z (Floating a) (Floating b) e l = out-within (seconds_of a) (seconds_of b) e
+end-is known m n z (Utc a) (Utc b) e l = out-within (seconds_of a) (seconds_of b) (not-end known (is_out (seconds_of a) (seconds_of b)) l)
+end-is known m n z (Utc a) (Zoned b) e l = tt
+end-is known m n z (Zoned a) (Utc b) e l = tt
+end-is known m n z (Zoned a) (Zoned b) e l = tt
+end-is known m n z (Date a) (Floating b) e l = cc
+end-is known m n z (Date a) (Utc b) e l = cc
+end-is known m n z (Date a) (Zoned b) e l = cc
+end-is known m n z (Floating a) (Date b) e l = cc
+end-is known m n z (Floating a) (Utc b) e l = cc
+end-is known m n z (Floating a) (Zoned b) e l = cc
+end-is known m n z (Utc a) (Date b) e l = cc
+end-is known m n z (Utc a) (Floating b) e l = cc
+end-is known m n z (Zoned a) (Date b) e l = cc
+end-is known m n z (Zoned a) (Floating b) e l = cc
+
+ends-sound : (known : KnownZones) (m n : ZoneName) (z : Bool) (r q : Result Stamp StampFault) → IsSoundStamp r → IsSoundStamp q → both (result_ok r) (result_ok q) (is_bad_end z) ≡ false → IsFine known (waits_of m n z r q) →
+    IsEnd (unwrap_or (result_ok r) (Date (pos 0))) (unwrap_or (result_ok q) (Date (pos 0)))
+ends-sound known m n z (Ok a) (Ok b) h k e l = end-is known m n z a b e l
+ends-sound known m n z (Err f) q h k e l = absurd h
+ends-sound known m n z (Ok a) (Err f) h k e l = absurd k
+
+lasting-is : (d : Duration) → is_lasting d ≡ true → IsLasting d
+lasting-is d h = let t = by_tests d.negative (length_in_seconds d) h in record { forward = t.0; short = t.1 }
+  where
+    by_tests : (n : Bool) (k : ℕ) → ((not n || (k == 0)) && nat_le k longest) ≡ true → (IsTrue n → k ≡ 0) × (k ≤ longest)
+    by_tests true k h = grind (arith, nat_tests)
+    by_tests false k h = grind (arith, nat_tests)
+
+length-sound : (known : KnownZones) (calendar : ℕ) (start end : Option Dated) (duration : Option (Result Duration DurationFault)) → is_some start ≡ true →
+    IfSome start (λ d. IsSoundStamp d.stamp) → IfSome end (λ d. IsSoundStamp d.stamp) → IfSome duration IsSoundDuration →
+    ends_badly start end ≡ false → IsFine known (used_in calendar end) → IsFine known (ends_in calendar start end) →
+    IsLength (time_of known.index calendar start).stamp (length_of known.index calendar end duration)
+length-sound known k None end duration t a b c e u l = cc
+length-sound known k (Some s) (Some d) duration t a b c e u l =
+    (time-sound known k (Some d) b u, ends-sound known (zone_used k s) (zone_used k d) (same_zone s d) s.stamp d.stamp a b e l)
+length-sound known k (Some s) None None t a b c e u l = tt
+length-sound known k (Some s) None (Some (Err f)) t a b c e u l = tt
+length-sound known k (Some s) None (Some (Ok d)) t a b c e u l = lasting-is d c
+
+filled-not-empty : (o : Option (List ℕ)) → is_filled o ≡ true → unwrap_or o [] ≢ []
+filled-not-empty (Some (b ∷ bs)) e = λ h. cc
+filled-not-empty (Some []) e = cc
+filled-not-empty None e = cc
+
+-- what no fault at the END says
+at-end : (f s b e : Bool) → cond (not f) (Some MissingUid) (cond (not s) (Some MissingStart) (cond (b || e) (Some BadEnd) None)) ≡ None → (f ≡ true) × (s ≡ true) × (e ≡ false)
+at-end false s b e h = cc
+at-end true false b e h = cc
+at-end true true true e h = cc
+at-end true true false true h = cc
+at-end true true false false h = (refl, refl, refl)
+
+-- its DTSTART is there, and its DTEND in order as far as locals say
+pub at-end-of : (had : Collected) → IsWhole had → (is_some had.start ≡ true) × (ends_badly had.start had.end ≡ false)
+at-end-of had w =
+    let tests = at-end (is_filled had.uid) (is_some had.start) (is_some had.end && is_some had.duration) (ends_badly had.start had.end) w.no_fault in
+    (tests.1, tests.2)
+
+pub event-is : (known : KnownZones) (calendar : ℕ) (had : Collected) → IsReady known calendar had → IsEvent (event_from known.index calendar had)
+event-is known calendar had r =
+    let w = r.whole in
+    let tests = at-end-of had w in
+    record {
+      named = filled-not-empty had.uid (at-end (is_filled had.uid) (is_some had.start) (is_some had.end && is_some had.duration) (ends_badly had.start had.end) w.no_fault).0;
+      start = time-sound known calendar had.start w.sound.start r.start;
+      length = length-sound known calendar had.start had.end had.duration tests.0 w.sound.start w.sound.end w.sound.duration tests.1 r.end r.length;
+    }

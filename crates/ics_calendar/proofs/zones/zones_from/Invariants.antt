@@ -1,0 +1,7 @@
+use Rattle.std.proofs.Common.{◌≡◌, map}
+use Rattle.ics_zone.specs.Tables.{phases_of}
+use Rattle.ics_calendar.specs.ZonesSound.{phases_in}
+use Rattle.ics_calendar.proofs.zones.zones_from.Given as goal
+
+abbrev pub invariant-parts : goal.invariant-parts
+invariant-parts l = map phases_of l.made.items ≡ phases_in l.yielded

@@ -1,0 +1,43 @@
+-- What is gathered of a file, line by line.
+use Rattle.std.specs.Prelude.{ℕ, List, [], ◌∷◌, ◌++◌, Option, Some, None}
+use Rattle.ics_calendar.specs.declared.gathered.Ended.{Ended}
+use Rattle.ics_calendar.specs.declared.gathered.Ended.TheVariants as ended
+use Rattle.ics_calendar.specs.declared.gathered.EndedEvent.{EndedEvent}
+use Rattle.ics_calendar.specs.declared.gathered.EndedObservance.{EndedObservance}
+use Rattle.ics_calendar.specs.declared.gathered.EndedZone.{EndedZone}
+use Rattle.ics_calendar.specs.declared.gathered.Waiting.{Waiting}
+use Rattle.ics_calendar.specs.declared.later.Later.{Later}
+use Rattle.ics_calendar.specs.GatheredSeen.{GatheredSeen}
+
+abbrev pub nothing_gathered : GatheredSeen
+nothing_gathered = record { zones = []; observances = []; events = []; waits = [] }
+
+-- what ends on a line, if it is of the kind
+abbrev pub zones_of_end : Ended → List EndedZone
+zones_of_end (ended.Zone zone) = zone ∷ []
+zones_of_end _ = []
+
+abbrev pub observances_of_end : Ended → List EndedObservance
+observances_of_end (ended.Observance observance) = observance ∷ []
+observances_of_end _ = []
+
+abbrev pub events_of_end : Ended → List EndedEvent
+events_of_end (ended.Event event) = event ∷ []
+events_of_end _ = []
+
+-- what waits for the second round, with the number of its line
+abbrev pub waits_of : ℕ → Option Later → List Waiting
+waits_of number None = []
+waits_of number (Some later) = record { line = number; later = later } ∷ []
+
+-- WHAT IS GATHERED with what the second round looks at on a line more, and with what ends there.
+abbrev pub and_waits : ℕ → Option Later → GatheredSeen → GatheredSeen
+and_waits number later had = record { zones = had.zones; observances = had.observances; events = had.events; waits = had.waits ++ waits_of number later }
+
+abbrev pub and_ended : Ended → GatheredSeen → GatheredSeen
+and_ended end had = record {
+  zones = had.zones ++ zones_of_end end;
+  observances = had.observances ++ observances_of_end end;
+  events = had.events ++ events_of_end end;
+  waits = had.waits;
+}

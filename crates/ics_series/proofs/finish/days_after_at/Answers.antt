@@ -1,0 +1,51 @@
+use Rattle.std.proofs.Common.{◌≡◌, w64, to_z, of_z, arith}
+use Rattle.std.proofs.lemmas.Int.{ints, to_z-of_z}
+use mir.Val.{SFits}
+use Rattle.ics_zone.specs.Places.{IsNear}
+use Rattle.ics_series.proofs.InstantLemmas.{moved, near-moved}
+use Rattle.ics_series.proofs.finish.days_after_at.Goals as goal
+
+pub overflow_add-local : goal.overflow_add-local
+overflow_add-local g c =
+    let fits : SFits w64 c.args.start = c.ranges.start in
+    let shown = simp to_z-of_z at c.local-local.ensures in
+    let near : IsNear (g.P.Place.offset_at c.args.place.now c.args.start) = g.met.P.Place.near c.args.place.now c.args.start in
+    omega (arith, ints, shown, near)
+
+pub moment-requires-clause-day : goal.moment-requires-clause-day
+moment-requires-clause-day g c =
+    let fits : SFits w64 c.args.start = c.ranges.start in
+    let shown = simp to_z-of_z at c.local-local.ensures in
+    let near : IsNear (g.P.Place.offset_at c.args.place.now c.args.start) = g.met.P.Place.near c.args.place.now c.args.start in
+    (omega (arith, ints, shown, near), omega (arith, ints, shown, near))
+
+pub moment-requires-clause-reached : goal.moment-requires-clause-reached
+moment-requires-clause-reached g c =
+    let fits : SFits w64 c.args.start = c.ranges.start in
+    let shown = simp to_z-of_z at c.local-local.ensures in
+    let near : IsNear (g.P.Place.offset_at c.args.place.now c.args.start) = g.met.P.Place.near c.args.place.now c.args.start in
+    omega (arith, ints, shown, near, c.requires.reached)
+
+pub returns-clause-value : goal.returns-clause-value
+returns-clause-value g c =
+    let fits : SFits w64 c.args.start = c.ranges.start in
+    let shown = simp to_z-of_z at c.local-local.ensures in
+    let near : IsNear (g.P.Place.offset_at c.args.place.now c.args.start) = g.met.P.Place.near c.args.place.now c.args.start in
+    let same : to_z w64 (of_z w64 c.moment.result) ≡ c.moment.result = omega (arith, ints, c.moment.type_inv) in
+    moved (g.P.Place.moment_at c.args.place.now) _ _ _ _ same c.moment.ensures (omega (arith, ints, shown, near))
+
+pub returns-clause-late : goal.returns-clause-late
+returns-clause-late g c =
+    let fits : SFits w64 c.args.start = c.ranges.start in
+    let shown = simp to_z-of_z at c.local-local.ensures in
+    let near : IsNear (g.P.Place.offset_at c.args.place.now c.args.start) = g.met.P.Place.near c.args.place.now c.args.start in
+    let far = near-moved (g.P.Place.moment_at c.args.place.now) (g.met.P.Place.moment_near c.args.place.now) _ _ c.moment.ensures in
+    omega (arith, ints, shown, near, far)
+
+pub returns-clause-early : goal.returns-clause-early
+returns-clause-early g c =
+    let fits : SFits w64 c.args.start = c.ranges.start in
+    let shown = simp to_z-of_z at c.local-local.ensures in
+    let near : IsNear (g.P.Place.offset_at c.args.place.now c.args.start) = g.met.P.Place.near c.args.place.now c.args.start in
+    let far = near-moved (g.P.Place.moment_at c.args.place.now) (g.met.P.Place.moment_near c.args.place.now) _ _ c.moment.ensures in
+    omega (arith, ints, shown, near, far)

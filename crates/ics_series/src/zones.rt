@@ -1,0 +1,27 @@
+//! The zones by which the times of a file are read.
+ghost use Rattle.std.specs.Prelude.{◌≡◌, ◌<◌, ◌≤ℤ◌, ℤ, length, IfSome, IsSome};
+ghost use Rattle.ics_series.specs.Clocks.{clock_at, zone_clock};
+ghost use Rattle.ics_zone.specs.Tables.{phases_of};
+ghost use Rattle.ics_series.specs.Zones.{clocks_in, AreReached};
+
+use ics_calendar::Time;
+use ics_zone::{Display, Zone};
+
+/// The display zone, and the zones of a file.
+#[derive(Clone, Copy)]
+pub(crate) struct FileZones<'a> {
+    pub(crate) display: &'a Display,
+    pub(crate) zones: &'a [Zone],
+}
+
+impl<'a> FileZones<'a> {
+    // The zone of a time that has one of the file's.
+    pub(crate) fn zone_of(self, time: Time) -> &'a Zone
+        requires some { IsSome time.zone }
+        requires within { IfSome time.zone (λ zone. zone < length self.zones.now) }
+        ensures clock { zone_clock (phases_of result.now) ≡ clock_at (clocks_in self.entry).zones time.zone }
+        ensures reached { (to : ℤ) → AreReached self.entry.zones.now to → to ≤ℤ result.now.reached }
+    {
+        &self.zones[time.zone.unwrap() as usize]
+    }
+}
