@@ -11,3 +11,5 @@ mod requests;
 mod rules;
 #[cfg(test)]
 mod runs;
+#[cfg(test)]
+mod zones;

@@ -1,7 +1,7 @@
 //! Recurring events: the starts of a rule that meet a window.
 
-use crate::runs::{Written, add, event, folder, run_words};
-use std::alloc::{AllocError, Global};
+use crate::runs::{Written, add, event, folder, run_words, text};
+use std::alloc::Global;
 use std::test::Fail;
 
 /// What is written of one event of these lines, for a window.
@@ -9,16 +9,6 @@ fn listed(alloc: Global, inside: &[&str], start: &str, end: &str) -> Result<Writ
     let mut source = folder(alloc);
     add(alloc, &mut source, "a.ics", event(alloc, inside)?)?;
     run_words(alloc, &mut source, &["list", ".", start, end])
-}
-
-/// These lines, each ended by LF.
-fn text(alloc: Global, lines: &[&str]) -> Result<Vec<u8>, AllocError> {
-    let mut bytes = Vec::new(alloc);
-    for line in lines {
-        bytes.extend_from_slice(line.as_bytes())?;
-        bytes.push(b'\n')?;
-    }
-    Ok(bytes)
 }
 
 #[test]

@@ -37,6 +37,16 @@ pub fn lines(alloc: Global, lines: &[&str]) -> Result<Vec<u8>, AllocError> {
     Ok(bytes)
 }
 
+/// These lines, each ended by LF.
+pub fn text(alloc: Global, lines: &[&str]) -> Result<Vec<u8>, AllocError> {
+    let mut bytes = Vec::new(alloc);
+    for line in lines {
+        bytes.extend_from_slice(line.as_bytes())?;
+        bytes.push(b'\n')?;
+    }
+    Ok(bytes)
+}
+
 /// The bytes of a calendar of one event with these lines.
 pub fn event(alloc: Global, inside: &[&str]) -> Result<Vec<u8>, AllocError> {
     let mut bytes = lines(alloc, &["BEGIN:VCALENDAR", "BEGIN:VEVENT"])?;
