@@ -3,7 +3,7 @@
 RT ?= rt
 PREFIX ?= /usr/local
 DESTDIR ?=
-ARGS ?= list examples/calendars 2024-01-01 7d
+ARGS ?= list examples/calendars 2024-01-01 7d --zone=CET-1CEST,M3.5.0,M10.5.0/3
 
 PROGRAM := bin/khal-list
 BUILT := crates/khal_list_cli/out/khal_list_cli

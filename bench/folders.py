@@ -22,12 +22,18 @@ def events(numbers):
     return calendar([line for number in numbers for line in event(number)])
 
 
-def recurring(count, start, rule):
+NEW_YORK = ['BEGIN:VTIMEZONE', 'TZID:NY', 'BEGIN:STANDARD', 'DTSTART:19971026T020000', 'TZOFFSETFROM:-0400',
+            'TZOFFSETTO:-0500', 'RRULE:FREQ=YEARLY;BYMONTH=11;BYDAY=1SU', 'END:STANDARD', 'BEGIN:DAYLIGHT',
+            'DTSTART:19970406T020000', 'TZOFFSETFROM:-0500', 'TZOFFSETTO:-0400', 'RRULE:FREQ=YEARLY;BYMONTH=3;BYDAY=2SU',
+            'END:DAYLIGHT', 'END:VTIMEZONE']
+
+
+def recurring(count, start, rule, zone=(), name=''):
     """A calendar of events that begin at a moment and recur by a rule, each on a day and at a time of its own."""
-    lines = []
+    lines = [*zone]
     for number in range(count):
         stamp = start % (number % 28 + 1, number // 28 % 24, number % 60)
-        lines += ['BEGIN:VEVENT', 'UID:%d@example.org' % number, 'DTSTART:%s' % stamp, 'DURATION:PT1H',
+        lines += ['BEGIN:VEVENT', 'UID:%d@example.org' % number, 'DTSTART%s:%s' % (name, stamp), 'DURATION:PT1H',
                   'RRULE:' + rule, 'SUMMARY:Event %d' % number, 'END:VEVENT']
     return calendar(lines)
 
@@ -45,6 +51,19 @@ def unknown(count):
 
 def weekly(count):
     return [('a.ics', recurring(count, '200001%02dT%02d%02d00Z', 'FREQ=WEEKLY'))]
+
+
+def zoned_weekly(count):
+    return [('a.ics', recurring(count, '200001%02dT%02d%02d00', 'FREQ=WEEKLY', NEW_YORK, ';TZID=NY'))]
+
+
+def zoned(count):
+    """Events of an hour in a time zone."""
+    lines = [*NEW_YORK]
+    for number in range(count):
+        lines += [line.replace('DTSTART:', 'DTSTART;TZID=NY:').replace('00Z', '00') if line.startswith('DTSTART') else line
+                  for line in event(number)]
+    return calendar(lines)
 
 
 def many(count, bad=0):
@@ -67,6 +86,9 @@ ROWS = [
     ('400,000 lines of an unknown component', lambda: [('a.ics', unknown(400_000))], ['2024-01-05', '1d']),
     ('1,000 weekly rules since 2000', lambda: weekly(1_000), ['2024-01-05', '7d']),
     ('weekly rules, a window in 2500', lambda: weekly(1_000), ['2500-01-05', '7d']),
+    ('1,000 zoned weekly rules since 2000', lambda: zoned_weekly(1_000), ['2024-01-05', '7d']),
+    ('zoned weekly rules, a window in 2500', lambda: zoned_weekly(1_000), ['2500-01-05', '7d']),
+    ('10,000 zoned events in one file', lambda: [('a.ics', zoned(10_000))], ['2024-01-05', '1d']),
     ('one minutely rule since 2000', lambda: [('a.ics', recurring(1, '200001%02dT%02d%02d00Z', 'FREQ=MINUTELY'))],
      ['2024-01-05', '1d']),
     ('a minutely rule, a window in 2500', lambda: [('a.ics', recurring(1, '200001%02dT%02d%02d00Z', 'FREQ=MINUTELY'))],
