@@ -57,10 +57,10 @@ def zoned_weekly(count):
     return [('a.ics', recurring(count, '200001%02dT%02d%02d00', 'FREQ=WEEKLY', NEW_YORK, ';TZID=NY'))]
 
 
-def zoned(count):
-    """Events of an hour in a time zone."""
+def zoned(numbers):
+    """A calendar of events of an hour in a time zone."""
     lines = [*NEW_YORK]
-    for number in range(count):
+    for number in numbers:
         lines += [line.replace('DTSTART:', 'DTSTART;TZID=NY:').replace('00Z', '00') if line.startswith('DTSTART') else line
                   for line in event(number)]
     return calendar(lines)
@@ -70,6 +70,11 @@ def many(count, bad=0):
     for number in range(count):
         text = events([number])
         yield '%05d.ics' % number, text[:-20] if bad and number % bad == 0 else text
+
+
+def many_zoned(count):
+    for number in range(count):
+        yield '%05d.ics' % number, zoned([number])
 
 
 # what is measured: a name, the files, and the words after the folder
@@ -88,7 +93,8 @@ ROWS = [
     ('weekly rules, a window in 2500', lambda: weekly(1_000), ['2500-01-05', '7d']),
     ('1,000 zoned weekly rules since 2000', lambda: zoned_weekly(1_000), ['2024-01-05', '7d']),
     ('zoned weekly rules, a window in 2500', lambda: zoned_weekly(1_000), ['2500-01-05', '7d']),
-    ('10,000 zoned events in one file', lambda: [('a.ics', zoned(10_000))], ['2024-01-05', '1d']),
+    ('10,000 zoned events in one file', lambda: [('a.ics', zoned(range(10_000)))], ['2024-01-05', '1d']),
+    ('2,000 files with a zone of their own', lambda: many_zoned(2_000), ['2024-01-05', '1d']),
     ('one minutely rule since 2000', lambda: [('a.ics', recurring(1, '200001%02dT%02d%02d00Z', 'FREQ=MINUTELY'))],
      ['2024-01-05', '1d']),
     ('a minutely rule, a window in 2500', lambda: [('a.ics', recurring(1, '200001%02dT%02d%02d00Z', 'FREQ=MINUTELY'))],

@@ -22,7 +22,7 @@ use Rattle.ics_series.proofs.GiverLemmas.{calendar-day, index-is, kept-late, num
 use Rattle.ics_series.proofs.KeptLemmas.{true-until, until-true}
 
 -- an event without a rule has the start at DTSTART alone
-ruleless : (clocks : Clocks) (event : Event) (given : Time) → event.rule ≡ None → GivesStart clocks event given → given ≡ event.start
+pub ruleless : (clocks : Clocks) (event : Event) (given : Time) → event.rule ≡ None → GivesStart clocks event given → given ≡ event.start
 ruleless clocks event given none g =
     ⊎_elim (λ e. e) (λ r. let f : None ≡ Some r.rule = ap (option_map (recurrence_by event.start.stamp)) (sym none) ∙ r.has in absurd cc) g
 

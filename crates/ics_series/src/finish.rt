@@ -5,7 +5,7 @@ ghost use Rattle.ics_series.specs.Clocks.{clock_of, display_clock, instant, loca
 ghost use Rattle.ics_series.specs.Finish.{end_by, finish, later_by};
 ghost use Rattle.ics_series.specs.Found.{time_of, IsStart};
 ghost use Rattle.ics_series.specs.Starts.{time_at};
-ghost use Rattle.ics_series.specs.Zones.{clocks_in, AreReached, EndIsReadable, EndsNear, IsReadable, IsReadableEvent};
+ghost use Rattle.ics_series.specs.Zones.{clocks_in, span, span_by, AreReached, EndIsReadable, EndsNear, IsReadable, IsReadableEvent};
 
 use crate::instant::instant;
 use crate::lasting::days_lasting;
@@ -23,7 +23,7 @@ pub(crate) fn finish(zones: FileZones<'_>, event: &Event, start: Start) -> Momen
     requires event { IsReadableEvent zones event.now }
     requires start { IsStart (clocks_in zones) event.now start }
     requires early { start.moment <ℤ pos 247_091_126_400 }
-    requires reached { AreReached zones.zones.now (start.moment +ℤ pos 3_156_105_600) }
+    requires reached { AreReached zones.zones.now ((start.moment +ℤ span event.now) +ℤ pos 345_600) }
     ensures value { result ≡ finish (clocks_in zones.entry) event.now (time_of event.now start) }
     ensures forward { start.moment ≤ℤ result }
     ensures early { result <ℤ pos 250_247_232_000 }
@@ -41,7 +41,7 @@ fn end_by(zones: FileZones<'_>, first: Time, length: Length, start: Start) -> Mo
     requires given { IsTime (time_at first start.local) }
     requires start { start.moment ≡ instant (clocks_in zones) (time_at first start.local) }
     requires early { start.moment <ℤ pos 247_091_126_400 }
-    requires reached { AreReached zones.zones.now (start.moment +ℤ pos 3_156_105_600) }
+    requires reached { AreReached zones.zones.now ((start.moment +ℤ span_by first.stamp length) +ℤ pos 345_600) }
     ensures value { result
         ≡ end_by (clocks_in zones.entry) first (time_at first start.local) first.stamp length }
     ensures early { result <ℤ pos 250_247_232_000 }
@@ -78,7 +78,7 @@ fn later_by(zones: FileZones<'_>, time: Time, duration: Duration, start: Moment)
     requires late { neg_ℤ (pos 62_135_769_600) ≤ℤ start }
     requires early { start <ℤ pos 247_091_126_400 }
     requires short { IsLasting duration }
-    requires reached { AreReached zones.zones.now (start +ℤ pos 3_156_105_600) }
+    requires reached { AreReached zones.zones.now ((start +ℤ pos (duration.days * 86_400 + duration.seconds)) +ℤ pos 345_600) }
     ensures value { result ≡ later_by (clock_of (clocks_in zones.entry) time) duration start }
     ensures early { result <ℤ pos 250_247_232_000 }
 {
@@ -93,7 +93,7 @@ fn days_after(zones: FileZones<'_>, time: Time, start: Moment, days: i64) -> Mom
     requires early { start <ℤ pos 247_091_126_400 }
     requires forward { pos 0 ≤ℤ days }
     requires short { days ≤ℤ pos 36_525 }
-    requires reached { AreReached zones.zones.now (start +ℤ pos 3_156_105_600) }
+    requires reached { AreReached zones.zones.now ((start +ℤ days *ℤ pos 86_400) +ℤ pos 345_600) }
     ensures value { result ≡ (clock_of (clocks_in zones.entry) time).moment
         (local_at (clock_of (clocks_in zones.entry) time) start +ℤ days *ℤ pos 86_400) }
     ensures late { neg_ℤ (pos 62_136_115_200) ≤ℤ result }
@@ -112,7 +112,7 @@ fn days_after_at<P: Place>(place: &P, start: Moment, days: i64) -> Moment
     requires early { start <ℤ pos 247_091_126_400 }
     requires forward { pos 0 ≤ℤ days }
     requires short { days ≤ℤ pos 36_525 }
-    requires reached { (start +ℤ pos 3_156_105_600) ≤ℤ P.reach place.now }
+    requires reached { ((start +ℤ days *ℤ pos 86_400) +ℤ pos 345_600) ≤ℤ P.reach place.now }
     ensures value { result ≡ P.moment_at place.now
         ((start +ℤ P.offset_at place.now start) +ℤ days *ℤ pos 86_400) }
     ensures late { neg_ℤ (pos 62_136_115_200) ≤ℤ result }

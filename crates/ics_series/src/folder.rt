@@ -70,7 +70,7 @@ impl Folder {
         ensures display { self.new.display ≡ self.old.display }
         ensures reached { OnOk result (IsReached self.new.files window.now) }
     {
-        reach_each(&mut self.files, window.zones_until())
+        reach_each(&mut self.files, window)
     }
 
     /// The occurrences that meet the window, in the order of their keys. The folder has been reached

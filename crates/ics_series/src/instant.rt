@@ -1,8 +1,9 @@
 //! Times read as instants.
 ghost use Rattle.std.specs.Prelude.{◌≡◌};
-ghost use Rattle.ics_series.specs.Clocks.{instant, seconds_of};
+ghost use Rattle.ics_series.specs.Clocks.{instant, seconds_of, written};
 ghost use Rattle.ics_series.specs.Zones.{clocks_in, IsReadable};
 
+use crate::start::local_of;
 use crate::zones::FileZones;
 use ics_calendar::Time;
 use ics_values::{Local, Moment, Stamp};
@@ -22,8 +23,15 @@ pub(crate) fn instant(zones: FileZones<'_>, time: Time) -> Moment
     }
 }
 
-/// The seconds of a local on a clock without zones.
-pub(crate) fn seconds_of(local: Local) -> i64
+/// The local that a stamp writes, on a clock without zones: a date stands for its midnight.
+pub(crate) fn written(stamp: Stamp) -> i64
+    ensures { result ≡ written stamp }
+{
+    seconds_of(local_of(stamp))
+}
+
+// The seconds of a local on a clock without zones.
+fn seconds_of(local: Local) -> i64
     ensures { result ≡ seconds_of local }
 {
     i64::from(local.day) * 86_400 + i64::from(local.second)

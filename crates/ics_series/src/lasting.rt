@@ -1,11 +1,12 @@
 //! How long an event lasts.
 ghost use Rattle.std.specs.Prelude.{◌≡◌, ◌≤ℤ◌, pos};
+ghost use Rattle.ics_values.specs.Stamps.{stamp_day, IsStampDay};
 ghost use Rattle.ics_calendar.specs.Event.{IsLength};
 ghost use Rattle.ics_series.specs.Clocks.{day_of};
 ghost use Rattle.ics_series.specs.Finish.{days_lasting, seconds_by, seconds_lasting};
-ghost use Rattle.ics_series.specs.Zones.{clocks_in, EndIsReadable, IsReadable, IsReadableEvent};
+ghost use Rattle.ics_series.specs.Zones.{clocks_in, span, span_by, EndIsReadable, IsReadable, IsReadableEvent};
 
-use crate::instant::instant;
+use crate::instant::{instant, written};
 use crate::zones::FileZones;
 use ics_calendar::{Event, Length, Time};
 use ics_values::Stamp;
@@ -59,5 +60,28 @@ fn seconds_by(zones: FileZones<'_>, first: Time, length: Length) -> i64
         (_, Length::Open) => 0,
         (_, Length::Until(end)) => (instant(zones, end) - instant(zones, first)).max(0),
         (_, Length::Lasting(duration)) => duration.days as i64 * DAY + duration.seconds as i64,
+    }
+}
+
+/// How many seconds past its DTSTART the length of an event leads, as both are written.
+pub(crate) fn span(event: &Event) -> i64
+    ensures value { result ≡ span event.now }
+    ensures least { pos 0 ≤ℤ result }
+    ensures most { result ≤ℤ pos 400_000_000_000 }
+{
+    span_by(event.start.stamp, event.length)
+}
+
+fn span_by(first: Stamp, length: Length) -> i64
+    requires years { IsStampDay (stamp_day first) }
+    requires length { IsLength first length }
+    ensures value { result ≡ span_by first length }
+    ensures least { pos 0 ≤ℤ result }
+    ensures most { result ≤ℤ pos 400_000_000_000 }
+{
+    match length {
+        Length::Open => 0,
+        Length::Until(end) => (written(end.stamp) - written(first)).max(0),
+        Length::Lasting(duration) => duration.days as i64 * DAY + duration.seconds as i64,
     }
 }

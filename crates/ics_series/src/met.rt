@@ -5,11 +5,10 @@ ghost use Rattle.ics_series.specs.Clocks.{written};
 ghost use Rattle.ics_series.specs.Entry.{entry_of};
 ghost use Rattle.ics_series.specs.MetList.{IsLengthened};
 ghost use Rattle.ics_zone.specs.Tables.{phases_of};
-ghost use Rattle.ics_series.specs.Zones.{ahead, clocks_in, AreReached};
+ghost use Rattle.ics_series.specs.Zones.{asked, clocks_in, AreReached};
 
-use crate::instant::seconds_of;
+use crate::instant::written;
 use crate::occurrence::Occurrence;
-use crate::start::local_of;
 use crate::starts::starts;
 use crate::window::Window;
 use crate::zones::FileZones;
@@ -25,7 +24,7 @@ pub(crate) fn push_met<'a>(
     window: &Window,
 ) -> Result<(), AllocError>
     requires own { IsEventOf (map phases_of zones.zones.now) event.now }
-    requires reached { AreReached zones.zones.now (window.now.to +ℤ ahead) }
+    requires reached { AreReached zones.zones.now (asked window.now event.now) }
     ensures { IfOk result (λ _. IsLengthened (clocks_in zones.entry) event.entry.now window.now
         (map entry_of entries.old.items) (map entry_of entries.new.items)) }
 {
@@ -47,5 +46,5 @@ fn begins_after(event: &Event, window: &Window) -> bool
     ensures sound { IsEvent event.now }
     ensures value { result ≡ int_le (window.now.to +ℤ pos 172_800) (written event.now.start.stamp) }
 {
-    window.to + 2 * 86_400 <= seconds_of(local_of(event.start.stamp))
+    window.to + 2 * 86_400 <= written(event.start.stamp)
 }

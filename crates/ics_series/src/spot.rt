@@ -1,6 +1,6 @@
 //! Where an event of a folder stands.
-ghost use Rattle.std.specs.Prelude.{◌≡◌, ℤ, Some, IsSome, All, map};
-ghost use Rattle.ics_calendar.specs.Event.{said_by, IsEventOf};
+ghost use Rattle.std.specs.Prelude.{◌≡◌, Some, IsSome, map};
+ghost use Rattle.ics_calendar.specs.Event.{said_by, EventSeen, IsEventOf};
 
 use crate::zones::FileZones;
 use ics_calendar::{Event, FileEvents};
@@ -17,7 +17,8 @@ impl Spot {
     ghost use Rattle.ics_series.specs.Clocks.{clocks_of, display_clock};
     ghost use Rattle.ics_series.specs.Occurs.{zones_in};
     ghost use Rattle.ics_series.specs.Spots.{event_at};
-    ghost use Rattle.ics_series.specs.Zones.{clocks_in, AreReached};
+    ghost use Rattle.ics_series.specs.Zones.{asked, clocks_in, AreReached, IsReached};
+    ghost use Rattle.ics_series.specs.declared.window.Window.{Window};
     ghost use Rattle.ics_zone.specs.Tables.{phases_of};
 
     // The event that stands there.
@@ -36,7 +37,8 @@ impl Spot {
         ensures zones { map phases_of result.zones.now ≡ zones_in (map said_by files.entry.now) self.file }
         ensures clocks { clocks_in result
             ≡ clocks_of (display_clock display.entry.now) (zones_in (map said_by files.entry.now) self.file) }
-        ensures reached { (to : ℤ) → All (λ file. AreReached file.zones to) files.entry.now → AreReached result.zones.now to }
+        ensures reached { (window : Window) (event : EventSeen) → event_at (map said_by files.entry.now) self ≡ Some event
+            → IsReached files.entry.now window → AreReached result.zones.now (asked window event) }
     {
         let file = &files[self.file];
         FileZones {

@@ -7,7 +7,7 @@ ghost use Rattle.ics_series.specs.Clocks.{instant, seconds_of};
 ghost use Rattle.ics_series.specs.Finish.{seconds_lasting};
 ghost use Rattle.ics_series.specs.Found.{firsts_after, is_at, is_until, with_start, AreStarts, HasRuleStarts, HasStarts};
 ghost use Rattle.ics_series.specs.Starts.{local_of, recurrence_of, time_at};
-ghost use Rattle.ics_series.specs.Zones.{ahead, clocks_in, AreReached, IsReadable, IsReadableEvent};
+ghost use Rattle.ics_series.specs.Zones.{asked, clocks_in, AreReached, IsReadable, IsReadableEvent};
 
 use crate::instant::instant;
 use crate::lasting::seconds_lasting;
@@ -30,7 +30,7 @@ pub(crate) fn starts(
     window: &Window,
 ) -> Result<Vec<Start>, AllocError>
     requires event { IsReadableEvent zones event.now }
-    requires reached { AreReached zones.zones.now (window.now.to +ℤ ahead) }
+    requires reached { AreReached zones.zones.now (asked window.now event.now) }
     ensures { IfOk result (λ starts. AreStarts (clocks_in zones.entry) event.now window.now starts.items) }
 {
     let mut starts = given_starts(alloc, zones, event, window)?;
@@ -46,7 +46,7 @@ fn given_starts(
     window: &Window,
 ) -> Result<Vec<Start>, AllocError>
     requires event { IsReadableEvent zones event.now }
-    requires reached { AreReached zones.zones.now (window.now.to +ℤ ahead) }
+    requires reached { AreReached zones.zones.now (asked window.now event.now) }
     ensures { IfOk result (λ starts. HasStarts (clocks_in zones.entry) event.now window.now starts.items) }
 {
     let mut starts = Vec::new(alloc);
@@ -72,7 +72,7 @@ fn push_kept(
     window: &Window,
 ) -> Result<(), AllocError>
     requires event { IsReadableEvent zones event.now }
-    requires reached { AreReached zones.zones.now (window.now.to +ℤ ahead) }
+    requires reached { AreReached zones.zones.now (asked window.now event.now) }
     requires rule { recurrence_of event.now ≡ Some rule.now }
     ensures { IfOk result (λ _. HasRuleStarts (clocks_in zones.entry) event.now window.now starts.old.items starts.new.items) }
 {

@@ -1,12 +1,8 @@
 //! The instants that a listing looks at.
-ghost use Rattle.std.specs.Prelude.{◌≡◌, ◌+ℤ◌, ◌≤ℤ◌, ◌<ℤ◌, pos, neg_ℤ};
+ghost use Rattle.std.specs.Prelude.{◌≡◌, ◌≤ℤ◌, ◌<ℤ◌, pos, neg_ℤ};
 
 use crate::occurrence::Occurrence;
 use ics_values::Moment;
-
-/// How far past a window's end the zones are asked, in seconds: an event may last 36,525 days, and a
-/// clock differs from UTC by less than two days.
-const AHEAD: i64 = 3_157_056_000;
 
 /// The instants from `from` on and before `to`.
 ///
@@ -25,14 +21,6 @@ pub struct Window {
 impl Window {
     ghost use Rattle.ics_series.specs.Meeting.{is_met, is_under_way};
     ghost use Rattle.ics_series.specs.Entry.{entry_of};
-    ghost use Rattle.ics_series.specs.Zones.{ahead};
-
-    // The last instant up to which the zones are asked.
-    pub(crate) fn zones_until(&self) -> Moment
-        ensures { result ≡ self.now.to +ℤ ahead }
-    {
-        self.to + AHEAD
-    }
 
     // Whether an occurrence meets the window.
     pub(crate) fn is_met(&self, occurrence: &Occurrence<'_>) -> bool

@@ -1,11 +1,11 @@
 use Rattle.std.proofs.Common.{◌≡◌, pos, neg_ℤ, ◌+ℤ◌, ◌-ℤ◌, ◌≤ℤ◌, ◌∙◌, ap, sym, subst, w64, to_z, of_z, arith}
 use Rattle.std.proofs.lemmas.Int.{ints}
-use Rattle.ics_calendar.specs.declared.time.Length.TheVariants.{Until}
+use Rattle.ics_calendar.specs.declared.time.Length.TheVariants.{Lasting, Until}
 use Rattle.ics_calendar.specs.Event.{IsLength}
 use Rattle.ics_series.specs.Clocks.{instant}
 use Rattle.ics_series.specs.Finish.{end_by}
 use Rattle.ics_series.specs.Starts.{stamp_at, time_at}
-use Rattle.ics_series.specs.Zones.{clocks_in, EndIsReadable, EndsNear}
+use Rattle.ics_series.specs.Zones.{clocks_in, span_by, AreReached, EndIsReadable, EndsNear}
 use Rattle.ics_series.proofs.InstantLemmas.{date-early, date-late, early, late, until}
 use Rattle.ics_series.proofs.ZoneLemmas.{reached-less}
 use Rattle.ics_series.proofs.finish.end_by.Goals as goal
@@ -43,13 +43,15 @@ overflow_add-result c =
 pub later_by-requires : goal.later_by-requires
 later_by-requires c =
     let from : neg_ℤ (pos 62_135_769_600) ≤ℤ instant (clocks_in c.args.zones) (time_at c.args.first c.args.start.local) = late c.args.zones (time_at c.args.first c.args.start.local) c.requires.given in
+    let reached : AreReached c.args.zones.zones.now ((c.args.start.moment +ℤ span_by c.args.first.stamp (Lasting c.in_default-Lasting.duration)) +ℤ pos 345_600) =
+    subst (λ length. AreReached c.args.zones.zones.now ((c.args.start.moment +ℤ span_by c.args.first.stamp length) +ℤ pos 345_600)) c.in_default-Lasting.is-1 c.requires.reached in
     record {
       zone = c.requires.first.within;
       own = c.requires.first.is_time.zone;
       late = omega (arith, ints, c.requires.start, from);
       early = omega (arith, ints, c.requires.early);
       short = subst (IsLength c.args.first.stamp) c.in_default-Lasting.is-1 c.requires.length;
-      reached = reached-less c.args.zones.zones.now _ _ (omega (arith, ints)) c.requires.reached;
+      reached = reached-less c.args.zones.zones.now _ _ (omega (arith, ints)) reached;
     }
 
 pub returns-in_default-Until : goal.returns-in_default-Until

@@ -19,13 +19,13 @@ pub starts-requires-clause-event : goal.starts-requires-clause-event
 starts-requires-clause-event c =
     let event = c.begins_after.ensures.sound in
     let early = not-le (c.args.window.now.to +ℤ pos 172_800) (written c.args.event.now.start.stamp) (sym c.begins_after.ensures.value ∙ c.if-begins_after.false) in
-    event-readable c.args.zones c.args.window.now.to c.requires.reached c.args.event.now event.start event.length c.requires.own early
+    event-readable c.args.zones c.args.window.now c.args.event.now c.requires.reached event.start event.length c.requires.own early
 
 pub within-requires-clause-event : goal.within-requires-clause-event
 within-requires-clause-event c =
     let event = c.begins_after.ensures.sound in
     let early = not-le (c.args.window.now.to +ℤ pos 172_800) (written c.args.event.now.start.stamp) (sym c.begins_after.ensures.value ∙ c.if-begins_after.false) in
-    event-readable c.args.zones c.args.window.now.to c.requires.reached c.args.event.now event.start event.length c.requires.own early
+    event-readable c.args.zones c.args.window.now c.args.event.now c.requires.reached event.start event.length c.requires.own early
 
 pub within-requires-clause-start : goal.within-requires-clause-start
 within-requires-clause-start c =

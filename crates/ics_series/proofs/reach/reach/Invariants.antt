@@ -8,4 +8,4 @@ use Rattle.ics_series.proofs.reach.reach.Given as goal
 abbrev pub invariant-loop-k : goal.invariant-loop-k
 invariant-loop-k l =
     let file : FileEvents = record { zones = l.file-inside.zones.items; events = l.file-inside.events.items } in
-    (said_by file ≡ said_by l.fn.file) × AllWithin (λ zone. l.fn.to ≤ℤ zone.reached) file.zones 0 l.k
+    (said_by file ≡ said_by l.fn.file) × AllWithin (λ zone. l.to ≤ℤ zone.reached) file.zones 0 l.k

@@ -19,7 +19,7 @@ push_start-requires c =
     let time = kept-time c.args.event.now c.args.rule.now c.of_calendar.result c.requires.event.start.is_time c.requires.rule c.of_calendar.ensures.day
     (ap (is_kept c.args.rule.now) c.of_calendar.ensures.same ∙ c.in-Some.ensures.next.0.kept) in
     let early : seconds_of local <ℤ (c.args.window.now.to +ℤ pos 345_600) = omega (arith, ints, c.of_calendar.ensures.same, c.in-Some.ensures.next.0.in_bound, c.end_nearby-end.ensures.soon, number-seconds local c.of_calendar.ensures.day, number-seconds c.end_nearby-end.result c.end_nearby-end.ensures.day) in
-    local-readable c.args.zones.zones.now c.args.window.now.to c.args.event.now.start local c.requires.reached c.requires.event.start time early
+    local-readable c.args.zones.zones.now c.args.window.now c.args.event.now c.args.rule.now local c.requires.rule c.requires.reached c.requires.event.start time early
 
 pub loop-local-preserved : goal.loop-local-preserved
 loop-local-preserved c =

@@ -1,5 +1,5 @@
-use Rattle.std.proofs.Common.{◌≡◌, ◌+◌, ◌+ℤ◌, ◌<◌, ◌≤◌, ◌∙◌, List, length, get_or, map, ap, subst, sym, arith}
-use Rattle.ics_calendar.specs.Event.{said_by, IsEventOf}
+use Rattle.std.proofs.Common.{◌≡◌, ◌+◌, ◌<◌, ◌≤◌, ◌∙◌, List, length, get_or, map, ap, subst, sym, arith}
+use Rattle.ics_calendar.specs.Event.{said_by, FileSaid, IsEventOf}
 use Rattle.ics_calendar.specs.declared.events.FileEvents.{FileEvents}
 use Rattle.ics_zone.specs.Observances.{Phase}
 use Rattle.ics_zone.specs.Tables.{phases_of}
@@ -10,7 +10,8 @@ use Rattle.ics_series.specs.Entry.{entry_of}
 use Rattle.ics_series.specs.MetList.{IsLengthened}
 use Rattle.ics_series.specs.Occurs.{zones_in}
 use Rattle.ics_series.specs.Versions.{AreMasters}
-use Rattle.ics_series.specs.Zones.{ahead, clocks_in, IsReached}
+use Rattle.ics_series.specs.Spots.{event_at}
+use Rattle.ics_series.specs.Zones.{clocks_in, IsReached}
 use Rattle.ics_series.specs.declared.spot.Spot.{Spot}
 use Rattle.ics_series.proofs.MastersMetLemmas.{met-all, met-listing, met-step, stands}
 use Rattle.ics_series.proofs.folder.Folder.met.Goals as goal
@@ -43,7 +44,8 @@ pub push_met-requires-clause-reached : goal.push_met-requires-clause-reached
 push_met-requires-clause-reached c =
     let files : c.deref.result.now ≡ c.args.self.now.files = c.deref.ensures.value ∙ ap (λ (v : Contents). v.files) c.self.view_is in
     let reached : IsReached c.deref.result.now c.args.window.now = subst (λ (read : List FileEvents). IsReached read c.args.window.now) (sym files) c.requires in
-    c.zones-zones.ensures.reached (c.args.window.now.to +ℤ ahead) reached
+    let read : map said_by c.deref-in-loop-spot.result.now ≡ map said_by c.deref.result.now = ap (map said_by) (c.deref-in-loop-spot.ensures.value ∙ sym c.deref.ensures.value) in
+    c.zones-zones.ensures.reached c.args.window.now c.event-event.result.now (ap (λ (said : List FileSaid). event_at said (get_or c.deref-spot-items.result.now c.loop-spot.spot-index (record { file = 0; place = 0 }))) (sym read) ∙ c.event-event.ensures.event) reached
 
 pub returns : goal.returns
 returns c =
