@@ -166,6 +166,18 @@ no_more f k m b h e = elim (same_or_not m k) [
     grow : (m k : ℕ) → m ≢ k → nat_lt m k ≡ nat_lt m (k + 1)
     grow m k o = grind (arith, nat_tests)
 
+-- the same of what some let in alike
+or_swap : (a b c : Bool) → (b || (a || c)) ≡ (a || (b || c))
+or_swap true true c = refl
+or_swap true false c = refl
+or_swap false b c = refl
+
+pub one_more_or : (f g : ℕ → Bool) (k m : ℕ) (b : Bool) → f k ≡ true → b ≡ (g m || (nat_lt m k && f m)) → ((m == k) || b) ≡ (g m || (nat_lt m (k + 1) && f m))
+one_more_or f g k m b h e = ap (λ x. (m == k) || x) e ∙ or_swap (g m) (m == k) (nat_lt m k && f m) ∙ ap (λ x. g m || x) (one_more f k m (nat_lt m k && f m) h refl)
+
+pub no_more_or : (f g : ℕ → Bool) (k m : ℕ) (b : Bool) → f k ≡ false → b ≡ (g m || (nat_lt m k && f m)) → b ≡ (g m || (nat_lt m (k + 1) && f m))
+no_more_or f g k m b h e = e ∙ ap (λ x. g m || x) (no_more f k m (nat_lt m k && f m) h refl)
+
 -- what the test of one word says below 64
 pub in_word : (n : ℕ) (b : Bool) → n < 64 → (nat_lt n 64 && b) ≡ b
 in_word n b h = ap (λ x. x && b) (within n h)

@@ -7,11 +7,11 @@ ghost use Rattle.ics_values.specs.Places.{lists_none, lists_no_weekday, numbers_
 ghost use Rattle.ics_values.specs.Days.{weekday_of};
 ghost use Rattle.ics_values.specs.Fields.{IsCivilOf};
 ghost use Rattle.ics_rule.specs.Candidates.{fourth_day, lets_numbered, lets_weekday, lets_week, lets_date};
-ghost use Rattle.ics_rule.specs.Dates.{names_weekdays_alone};
+ghost use Rattle.ics_rule.specs.Dates.{is_open, names_weekdays_alone};
 
 use crate::filled::Filled;
 use crate::time::{lets, lets_place, lets_wide_place, lists_nth};
-use ics_values::{Civil, Frequency, Places, Weekdays, civil};
+use ics_values::{Civil, Frequency, Numbers, Places, Weekdays, civil};
 use jiff_core::civil::{days_in_month, days_in_year};
 
 /// The fields of a day that is counted from 0000-01-01.
@@ -124,12 +124,28 @@ fn has_weekday(weekdays: &Weekdays, index: u32) -> bool
     weekdays.is_none() || weekdays.plain.has(((index + 5) % 7) as u8)
 }
 
-/// Whether BYDAY lists the weekday of a day with no number.
-fn has_no_number(weekdays: &Weekdays, index: u32) -> bool
-    requires { index ≤ 3652059 }
-    ensures { result ≡ lists_none (numbers_of weekdays.now (weekday_of index)) }
+/// Whether BYDAY lists a weekday with no number.
+fn has_no_number(weekdays: &Weekdays, weekday: u8) -> bool
+    requires { weekday < 7 }
+    ensures { result ≡ lists_none (numbers_of weekdays.now weekday) }
 {
-    weekdays.numbered[(index + 5) as usize % 7].is_none()
+    weekdays.numbered[weekday as usize].is_none()
+}
+
+/// The weekdays on which BYDAY may let a day in.
+pub(crate) fn open_weekdays(weekdays: &Weekdays) -> Numbers
+    ensures { (d : ℕ) → d < 7 → has result d ≡ is_open weekdays.now d }
+{
+    if weekdays.is_none() {
+        return Numbers::below(7);
+    }
+    let mut open = weekdays.plain;
+    for d in 0..7 {
+        if !has_no_number(weekdays, d) {
+            open.add(d);
+        }
+    }
+    open
 }
 
 /// Whether no part but BYDAY speaks of the date.
@@ -151,7 +167,7 @@ pub(crate) fn lets_date(parts: &Filled, index: u32) -> bool
         if names_weekdays_alone(parts) {
             return true;
         }
-    } else if has_no_number(&parts.weekdays, index) {
+    } else if has_no_number(&parts.weekdays, ((index + 5) % 7) as u8) {
         return false;
     }
     lets_fields(parts, &civil_at(index), index)
