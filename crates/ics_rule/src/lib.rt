@@ -14,8 +14,6 @@ mod places;
 mod rule;
 mod sizes;
 mod step;
-#[cfg(test)]
-mod tests;
 mod time;
 mod walk;
 

@@ -42,6 +42,3 @@ pub use sets::{Numbers, WideNumbers};
 pub use stamp::{Stamp, StampFault, read_stamp};
 pub use text::text_bytes;
 pub use until::Until;
-
-#[cfg(test)]
-mod tests;

@@ -201,24 +201,3 @@ pub fn read_rule(text: &[u8]) -> Result<Parts, RuleFault>
     }
     Ok(draft.parts)
 }
-
-#[cfg(test)]
-mod tests {
-    use super::*;
-    use jiff_core::civil::Weekday;
-
-    #[test]
-    fn a_fortnightly_rule(rt: HostRuntime) {
-        let text = b"FREQ=WEEKLY;INTERVAL=2;COUNT=4;BYDAY=TU,-1su;WKST=SU;";
-        let Ok(parts) = read_rule(text) else {
-            panic!(rt);
-        };
-        assert_eq!(rt; parts.frequency(), Frequency::Weekly);
-        assert_eq!(rt; parts.interval(), 2);
-        assert_eq!(rt; parts.count(), Some(4));
-        assert!(rt; parts.weekdays().plain.has(1));
-        assert!(rt; parts.weekdays().numbered[6].back.has(1));
-        assert!(rt; parts.week_start() == Weekday::Sunday);
-        assert_eq!(rt; RuleFault::BadRule.name(), "BadRule");
-    }
-}

@@ -2,6 +2,8 @@
 #![tactic(auto)]
 
 #[cfg(test)]
+mod cursors;
+#[cfg(test)]
 mod events;
 #[cfg(test)]
 mod refusals;
@@ -11,5 +13,7 @@ mod requests;
 mod rules;
 #[cfg(test)]
 mod runs;
+#[cfg(test)]
+mod values;
 #[cfg(test)]
 mod zones;

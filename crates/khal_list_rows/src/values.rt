@@ -1,4 +1,11 @@
-use super::*;
+//! The values of properties, and the parts of a rule's text.
+
+use ics_values::{
+    BadOffset, Duration, DurationFault, Frequency, IntegerFault, Local, Period, PeriodEnd,
+    PeriodFault, RuleFault, Stamp, StampFault, civil, order_of_locals, read_duration, read_integer,
+    read_offset, read_period, read_rule, read_stamp, text_bytes,
+};
+use jiff_core::civil::Weekday;
 
 #[test]
 fn civil_fields(rt: HostRuntime) {
@@ -85,4 +92,19 @@ fn integers(rt: HostRuntime) {
 fn texts(rt: HostRuntime) {
     let text = text_bytes(rt.alloc(), b"a\\,b\\n\\x").expect(&rt, "memory");
     assert_eq!(rt; text.as_slice(), b"a,b\n\\x".as_slice());
+}
+
+#[test]
+fn a_fortnightly_rule(rt: HostRuntime) {
+    let text = b"FREQ=WEEKLY;INTERVAL=2;COUNT=4;BYDAY=TU,-1su;WKST=SU;";
+    let Ok(parts) = read_rule(text) else {
+        panic!(rt);
+    };
+    assert_eq!(rt; parts.frequency(), Frequency::Weekly);
+    assert_eq!(rt; parts.interval(), 2);
+    assert_eq!(rt; parts.count(), Some(4));
+    assert!(rt; parts.weekdays().plain.has(1));
+    assert!(rt; parts.weekdays().numbered[6].back.has(1));
+    assert!(rt; parts.week_start() == Weekday::Sunday);
+    assert_eq!(rt; RuleFault::BadRule.name(), "BadRule");
 }
