@@ -35,7 +35,7 @@ pub use local::{Local, Moment};
 pub use offset::{BadOffset, read_offset};
 pub use parts::Parts;
 pub use period::{Period, PeriodEnd, PeriodFault, read_period};
-pub use places::{Places, Side, Weekdays, WidePlaces};
+pub use places::{Places, Weekdays, WidePlaces};
 pub use rule_law::rule_says;
 pub use rule_text::{RuleFault, read_rule};
 pub use sets::{Numbers, WideNumbers};

@@ -92,7 +92,7 @@ impl Model for Parts {
 
 impl Parts {
     /// The rule that has FREQ alone: INTERVAL is 1 and weeks start on Monday.
-    pub fn new(frequency: Frequency) -> Parts
+    pub(crate) fn new(frequency: Frequency) -> Parts
         ensures { result ≡ every frequency }
     {
         Parts {
@@ -227,14 +227,14 @@ impl Parts {
 
 impl Parts {
     /// Sets FREQ.
-    pub fn set_frequency(&mut self, frequency: Frequency)
+    pub(crate) fn set_frequency(&mut self, frequency: Frequency)
         ensures { self.new ≡ record self.old { frequency = frequency } }
     {
         self.frequency = frequency;
     }
 
     /// Sets INTERVAL.
-    pub fn set_interval(&mut self, interval: u32)
+    pub(crate) fn set_interval(&mut self, interval: u32)
         requires { 1 ≤ interval }
         ensures { self.new ≡ record self.old { interval = interval } }
     {
@@ -242,7 +242,7 @@ impl Parts {
     }
 
     /// Sets COUNT.
-    pub fn set_count(&mut self, count: u32)
+    pub(crate) fn set_count(&mut self, count: u32)
         requires { 1 ≤ count }
         ensures { self.new ≡ record self.old { count = Some count } }
     {
@@ -250,7 +250,7 @@ impl Parts {
     }
 
     /// Sets UNTIL.
-    pub fn set_until(&mut self, until: Until)
+    pub(crate) fn set_until(&mut self, until: Until)
         requires { IsUntil until }
         ensures { self.new ≡ record self.old { until = Some until } }
     {
@@ -258,14 +258,14 @@ impl Parts {
     }
 
     /// Sets WKST.
-    pub fn set_week_start(&mut self, weekday: Weekday)
+    pub(crate) fn set_week_start(&mut self, weekday: Weekday)
         ensures { self.new ≡ record self.old { week_start = weekday } }
     {
         self.week_start = weekday;
     }
 
     /// Adds a number of BYSECOND.
-    pub fn add_second(&mut self, second: u8)
+    pub(crate) fn add_second(&mut self, second: u8)
         requires { second ≤ 59 }
         ensures { self.new ≡ record self.old { seconds = with_number second self.old.seconds } }
     {
@@ -273,7 +273,7 @@ impl Parts {
     }
 
     /// Adds a number of BYMINUTE.
-    pub fn add_minute(&mut self, minute: u8)
+    pub(crate) fn add_minute(&mut self, minute: u8)
         requires { minute ≤ 59 }
         ensures { self.new ≡ record self.old { minutes = with_number minute self.old.minutes } }
     {
@@ -281,7 +281,7 @@ impl Parts {
     }
 
     /// Adds a number of BYHOUR.
-    pub fn add_hour(&mut self, hour: u8)
+    pub(crate) fn add_hour(&mut self, hour: u8)
         requires { hour ≤ 23 }
         ensures { self.new ≡ record self.old { hours = with_number hour self.old.hours } }
     {
@@ -289,14 +289,14 @@ impl Parts {
     }
 
     /// Adds a weekday of BYDAY that stands without a number.
-    pub fn add_weekday(&mut self, weekday: Weekday)
+    pub(crate) fn add_weekday(&mut self, weekday: Weekday)
         ensures { self.new ≡ record self.old { weekdays = with_weekday weekday self.old.weekdays } }
     {
         self.weekdays.add(weekday);
     }
 
     /// Adds a weekday of BYDAY that stands with a number.
-    pub fn add_numbered_weekday(&mut self, weekday: Weekday, side: Side, n: u8)
+    pub(crate) fn add_numbered_weekday(&mut self, weekday: Weekday, side: Side, n: u8)
         requires first { 1 ≤ n }
         requires last { n ≤ 53 }
         ensures { self.new
@@ -306,7 +306,7 @@ impl Parts {
     }
 
     /// Adds a number of BYMONTHDAY.
-    pub fn add_month_day(&mut self, side: Side, n: u8)
+    pub(crate) fn add_month_day(&mut self, side: Side, n: u8)
         requires first { 1 ≤ n }
         requires last { n ≤ 31 }
         ensures { self.new ≡ record self.old { month_days = with_place side n self.old.month_days } }
@@ -315,7 +315,7 @@ impl Parts {
     }
 
     /// Adds a number of BYYEARDAY.
-    pub fn add_year_day(&mut self, side: Side, n: u16)
+    pub(crate) fn add_year_day(&mut self, side: Side, n: u16)
         requires first { 1 ≤ n }
         requires last { n ≤ 366 }
         ensures { self.new ≡ record self.old { year_days = with_wide_place side n self.old.year_days } }
@@ -324,7 +324,7 @@ impl Parts {
     }
 
     /// Adds a number of BYWEEKNO.
-    pub fn add_week(&mut self, side: Side, n: u8)
+    pub(crate) fn add_week(&mut self, side: Side, n: u8)
         requires first { 1 ≤ n }
         requires last { n ≤ 53 }
         ensures { self.new ≡ record self.old { weeks = with_place side n self.old.weeks } }
@@ -333,7 +333,7 @@ impl Parts {
     }
 
     /// Adds a number of BYMONTH.
-    pub fn add_month(&mut self, month: u8)
+    pub(crate) fn add_month(&mut self, month: u8)
         requires first { 1 ≤ month }
         requires last { month ≤ 12 }
         ensures { self.new ≡ record self.old { months = with_number month self.old.months } }
@@ -342,7 +342,7 @@ impl Parts {
     }
 
     /// Adds a number of BYSETPOS.
-    pub fn add_position(&mut self, side: Side, n: u16)
+    pub(crate) fn add_position(&mut self, side: Side, n: u16)
         requires first { 1 ≤ n }
         requires last { n ≤ 366 }
         ensures { self.new ≡ record self.old { positions = with_wide_place side n self.old.positions } }

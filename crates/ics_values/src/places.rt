@@ -7,7 +7,7 @@ use jiff_core::civil::Weekday;
 
 /// From which end a number of a recurrence rule counts (RFC 5545, 3.3.10).
 #[derive(Clone, Copy, Debug, PartialEq, Eq)]
-pub enum Side {
+pub(crate) enum Side {
     /// A number without a sign or with `+`: 1 is the first.
     Front,
     /// A number with `-`: 1 is the last.
@@ -42,7 +42,7 @@ impl Places {
     }
 
     /// Adds the `n`-th from a side.
-    pub fn add(&mut self, side: Side, n: u8)
+    pub(crate) fn add(&mut self, side: Side, n: u8)
         requires { n < 64 }
         ensures { self.new ≡ with_place side n self.old }
     {
@@ -64,7 +64,7 @@ impl WidePlaces {
     ghost use Rattle.ics_values.specs.Places.{no_wide_places, lists_none_wide, with_wide_place};
 
     /// No number.
-    pub fn new() -> WidePlaces
+    pub(crate) fn new() -> WidePlaces
         ensures { result ≡ no_wide_places }
     {
         WidePlaces {
@@ -81,7 +81,7 @@ impl WidePlaces {
     }
 
     /// Adds the `n`-th from a side.
-    pub fn add(&mut self, side: Side, n: u16)
+    pub(crate) fn add(&mut self, side: Side, n: u16)
         requires { n < 384 }
         ensures { self.new ≡ with_wide_place side n self.old }
     {
@@ -129,14 +129,14 @@ impl Weekdays {
     }
 
     /// Adds a weekday without a number.
-    pub fn add(&mut self, weekday: Weekday)
+    pub(crate) fn add(&mut self, weekday: Weekday)
         ensures { self.new ≡ with_weekday weekday self.old }
     {
         self.plain.add(weekday.index());
     }
 
     /// Adds a weekday with a number.
-    pub fn add_numbered(&mut self, weekday: Weekday, side: Side, n: u8)
+    pub(crate) fn add_numbered(&mut self, weekday: Weekday, side: Side, n: u8)
         requires { n < 64 }
         ensures { self.new ≡ with_numbered_weekday weekday side n self.old }
     {

@@ -150,7 +150,7 @@ impl WideNumbers {
     }
 
     /// Whether there is no member.
-    pub fn is_none(&self) -> bool
+    pub(crate) fn is_none(&self) -> bool
         ensures { result ≡ is_none_wide self.now }
     {
         self.words[0] == 0
