@@ -1,4 +1,4 @@
-//! Worked examples: the words of a command, the files of a folder, and what is written of them.
+//! Worked examples: the words of a command, the files of a folder, and what is written of them; rules and single values.
 #![tactic(auto)]
 
 #[cfg(test)]
