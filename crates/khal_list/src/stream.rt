@@ -1,5 +1,6 @@
 //! A stream of the program as a sink.
-ghost use Rattle.std.specs.Prelude.{◌≡◌, IfErr};
+ghost use Rattle.std.specs.Prelude.{◌≡◌, IfErr, OnOk, OnErr};
+ghost use Rattle.khal_list.specs.Growth.{risen};
 
 use crate::fault::{RunFault, SinkFault};
 use crate::sink::Sink;
@@ -23,11 +24,26 @@ impl<W: Write + Drop> Stream<W> {
         }
     }
 
-    /// Writes out what the writer still holds. WriteFault where it fails.
-    pub fn finish(&mut self) -> Result<(), RunFault>
-        ensures { IfErr result (λ fault. fault ≡ RunFault.WriteFault) }
+    // Counts a failure of the writer.
+    fn fail(&mut self)
+        ensures { ⟦<Stream<W> as Sink>⟧.failed self.new ≡ risen (⟦<Stream<W> as Sink>⟧.failed self.old) }
     {
-        self.writer.flush().map_err(|_| RunFault::WriteFault)
+        self.failures = self.failures.saturating_add(1);
+    }
+
+    /// Writes out what the writer still holds. Where that fails it is WriteFault, and counts as a failure.
+    pub fn finish(&mut self) -> Result<(), RunFault>
+        ensures ok { OnOk result (⟦<Stream<W> as Sink>⟧.failed self.new ≡ ⟦<Stream<W> as Sink>⟧.failed self.old) }
+        ensures fault { IfErr result (λ fault. fault ≡ RunFault.WriteFault) }
+        ensures counted { OnErr result (⟦<Stream<W> as Sink>⟧.failed self.new ≡ risen (⟦<Stream<W> as Sink>⟧.failed self.old)) }
+    {
+        match self.writer.flush() {
+            Ok(()) => Ok(()),
+            Err(_) => {
+                self.fail();
+                Err(RunFault::WriteFault)
+            }
+        }
     }
 }
 
@@ -44,7 +60,7 @@ impl<W: Write + Drop> Sink for Stream<W> {
         match self.writer.write(bytes) {
             Ok(count) => Ok(count),
             Err(_) => {
-                self.failures = self.failures.saturating_add(1);
+                self.fail();
                 Err(SinkFault::Device)
             }
         }
