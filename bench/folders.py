@@ -72,6 +72,12 @@ def many(count, bad=0):
         yield '%05d.ics' % number, text[:-20] if bad and number % bad == 0 else text
 
 
+def many_weekly(count):
+    for number in range(count):
+        text = recurring(1, '200001%02dT%02d%02d00', 'FREQ=WEEKLY', NEW_YORK, ';TZID=NY')
+        yield '%05d.ics' % number, text.replace(b'UID:0', b'UID:%d' % number)
+
+
 def many_zoned(count):
     for number in range(count):
         yield '%05d.ics' % number, zoned([number])
@@ -93,6 +99,7 @@ ROWS = [
     ('weekly rules, a window in 2500', lambda: weekly(1_000), ['2500-01-05', '7d']),
     ('1,000 zoned weekly rules since 2000', lambda: zoned_weekly(1_000), ['2024-01-05', '7d']),
     ('zoned weekly rules, a window in 2500', lambda: zoned_weekly(1_000), ['2500-01-05', '7d']),
+    ('100 zones, a window in 2500', lambda: many_weekly(100), ['2500-01-05', '7d']),
     ('10,000 zoned events in one file', lambda: [('a.ics', zoned(range(10_000)))], ['2024-01-05', '1d']),
     ('2,000 files with a zone of their own', lambda: many_zoned(2_000), ['2024-01-05', '1d']),
     ('one minutely rule since 2000', lambda: [('a.ics', recurring(1, '200001%02dT%02d%02d00Z', 'FREQ=MINUTELY'))],

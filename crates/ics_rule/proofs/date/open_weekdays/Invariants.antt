@@ -1,4 +1,4 @@
-use Rattle.std.proofs.Common.{◌≡◌, ℕ, ◌<◌, ◌&&◌, ◌||◌, not, nat_lt}
+use Rattle.std.proofs.Common.{◌≡◌, ℕ, ◌&&◌, ◌||◌, not, nat_lt}
 use Rattle.ics_values.specs.Sets.{has}
 use Rattle.ics_values.specs.Places.{lists_none, numbers_of}
 use Rattle.ics_rule.proofs.date.open_weekdays.Given as goal
