@@ -1,14 +1,15 @@
 -- The second round looks at the zones of each event's stamps, and at its end against its start.
 use Rattle.std.proofs.Common.{◌≡◌, ℕ, Bool, true, false, List, [], ◌∷◌, ◌++◌, map, refl, ap, subst, ◌∙◌, cond, Option, Some, None, IfSome, Result, Ok, Err}
-use Rattle.std.specs.List.{All, Contains}
+use Rattle.std.specs.List.{All, Contains, list_any}
 use Rattle.std.proofs.lemmas.List.{map-append}
-use Rattle.std.proofs.lemmas.List.Elements.{All-nil, All-cons, Contains-append_left, Contains-push}
+use Rattle.std.proofs.lemmas.List.Elements.{All-nil, All-cons, All-push, Contains-append_left, Contains-push}
 use Rattle.ics_values.specs.declared.stamp.Stamp.{Stamp}
 use Rattle.ics_values.specs.declared.stamp.Stamp.TheVariants as stamp
 use Rattle.ics_values.specs.declared.stamp.StampFault.{StampFault}
 use Rattle.ics_calendar.specs.declared.collected.Collected.{Collected}
 use Rattle.ics_calendar.specs.declared.component.Place.{Place}
 use Rattle.ics_calendar.specs.declared.component.Place.TheVariants as place
+use Rattle.ics_calendar.specs.declared.date_list.DateList.{DateList}
 use Rattle.ics_calendar.specs.declared.dated.Dated.{Dated}
 use Rattle.ics_calendar.specs.declared.frame.Frame.{Frame}
 use Rattle.ics_calendar.specs.declared.gathered.Waiting.{Waiting}
@@ -23,15 +24,19 @@ use Rattle.ics_calendar.specs.declared.summary.Summary.{Summary}
 use Rattle.ics_calendar.specs.declared.summary.Summary.TheVariants as summary
 use Rattle.ics_calendar.specs.Collecting.{or_first, note_event}
 use Rattle.ics_calendar.specs.Components.{place_in}
+use Rattle.ics_calendar.specs.DateLists.{zone_listed}
+use Rattle.ics_calendar.specs.DateValues.{has_zoned}
 use Rattle.ics_calendar.specs.Event.{seconds_of}
 use Rattle.ics_calendar.specs.GatheredSound.{IsAwaited, IsSoundInstant, IsSoundLater}
 use Rattle.ics_calendar.specs.Gathering.{waits_of, events_of_end}
 use Rattle.ics_calendar.specs.Laters.{zone_used, are_of_one_zone}
-use Rattle.ics_calendar.specs.LineFaults.{used_zone, used_in, instant_on, instant_in, both_compared, ends_in, later_end, later_in, later_on}
+use Rattle.ics_calendar.specs.LineFaults.{used_zone, used_in, listed_zone, instant_on, instant_in, both_compared, ends_in, later_end, later_in, later_on}
 use Rattle.ics_calendar.specs.Pass.{noted, closed, behind, ended_as, ends}
+use Rattle.ics_calendar.specs.Ready.{EachZone}
 use Rattle.ics_calendar.specs.Sound.{IsSoundStamp}
 use Rattle.ics_calendar.specs.Summaries.{fresh, note}
 use Rattle.ics_calendar.specs.Values.{is_zoned_stamp, is_out}
+use Rattle.ics_calendar.proofs.Listed.{each-weaker}
 use Rattle.ics_calendar.proofs.Sound.{IsSoundAt, AreSound}
 
 abbrev pub laters : List Waiting → List Later
@@ -49,28 +54,24 @@ laters-more waits number o = map-append (λ (w : Waiting). w.later) waits (waits
     by_option None = refl
     by_option (Some l) = refl
 
-pub some-more : (waits more : List Later) (o : Option Later) → IfSome o (Contains waits) → IfSome o (Contains (waits ++ more))
-some-more waits more None h = tt
-some-more waits more (Some l) h = Contains-append_left waits more l h
-
 some-here : (waits : List Later) (o : Option Later) → IfSome o (Contains (waits ++ one o))
 some-here waits None = tt
 some-here waits (Some l) = Contains-push waits l
 
 -- WHAT IS COLLECTED of an event so far: the second round looks at the zones of its stamps.
-abbrev IsLookedAt : List Later → ℕ → Option Dated → Type 0
-IsLookedAt waits calendar dated = IfSome (used_in calendar dated) (Contains waits)
-
 abbrev IsAwaitedIn : List Later → ℕ → Summary → Type 0
-IsAwaitedIn waits calendar (summary.Event had) = IsLookedAt waits calendar had.start × IsLookedAt waits calendar had.end
+IsAwaitedIn waits calendar (summary.Event had) = EachZone (Contains waits) calendar had
 IsAwaitedIn waits calendar _ = Unit {0}
 
 abbrev pub AreAwaited : List Later → List Frame → Type 0
 AreAwaited waits [] = Unit {0}
 AreAwaited waits (f ∷ fs) = IsAwaitedIn waits f.calendar f.summary × AreAwaited waits fs
 
+pub zones-more : (waits more : List Later) (calendar : ℕ) (had : Collected) → EachZone (Contains waits) calendar had → EachZone (Contains (waits ++ more)) calendar had
+zones-more waits more = each-weaker (Contains waits) (Contains (waits ++ more)) (λ l. Contains-append_left waits more l)
+
 awaited-more : (waits more : List Later) (calendar : ℕ) (s : Summary) → IsAwaitedIn waits calendar s → IsAwaitedIn (waits ++ more) calendar s
-awaited-more waits more k (summary.Event had) h = (some-more waits more (used_in k had.start) h.0, some-more waits more (used_in k had.end) h.1)
+awaited-more waits more k (summary.Event had) h = zones-more waits more k had h
 awaited-more waits more k (summary.Zone had) h = tt
 awaited-more waits more k (summary.Observance had) h = tt
 awaited-more waits more k summary.Nothing h = tt
@@ -79,14 +80,26 @@ pub are-awaited-more : (waits more : List Later) (frames : List Frame) → AreAw
 are-awaited-more waits more [] h = tt
 are-awaited-more waits more (f ∷ fs) h = (awaited-more waits more f.calendar f.summary h.0, are-awaited-more waits more fs h.1)
 
-first-looked : (waits : List Later) (calendar : ℕ) (o : Option Dated) (dated : Dated) → IsLookedAt waits calendar o → IsLookedAt (waits ++ one (used_zone calendar dated)) calendar (or_first o dated)
-first-looked waits k (Some d) dated h = some-more waits (one (used_zone k dated)) (used_in k (Some d)) h
+first-looked : (waits : List Later) (calendar : ℕ) (o : Option Dated) (dated : Dated) → IfSome (used_in calendar o) (Contains (waits ++ one (used_zone calendar dated))) →
+    IfSome (used_in calendar (or_first o dated)) (Contains (waits ++ one (used_zone calendar dated)))
+first-looked waits k (Some d) dated h = h
 first-looked waits k None dated h = some-here waits (used_zone k dated)
 
-event-noted : (waits : List Later) (p : Property) (f : Frame) (had : Collected) → IsAwaitedIn waits f.calendar (summary.Event had) → IsAwaitedIn (waits ++ one (later_in p f)) f.calendar (summary.Event (note_event p had))
-event-noted waits (property.Dtstart dated) f had h = (first-looked waits f.calendar had.start dated h.0, some-more waits (one (used_zone f.calendar dated)) (used_in f.calendar had.end) h.1)
-event-noted waits (property.Dtend dated) f had h = (some-more waits (one (used_zone f.calendar dated)) (used_in f.calendar had.start) h.0, first-looked waits f.calendar had.end dated h.1)
-event-noted waits _ f had h = awaited-more waits _ f.calendar (summary.Event had) h
+last-looked : (waits : List Later) (calendar : ℕ) (lists : List DateList) (list : DateList) → All (λ l. IfSome (listed_zone calendar l) (Contains (waits ++ one (listed_zone calendar list)))) lists →
+    All (λ l. IfSome (listed_zone calendar l) (Contains (waits ++ one (listed_zone calendar list)))) (lists ++ list ∷ [])
+last-looked waits k lists list h = All-push (λ l. IfSome (listed_zone k l) (Contains (waits ++ one (listed_zone k list)))) lists list h (some-here waits (listed_zone k list))
+
+event-noted : (waits : List Later) (p : Property) (f : Frame) (had : Collected) → EachZone (Contains waits) f.calendar had → EachZone (Contains (waits ++ one (later_in p f))) f.calendar (note_event p had)
+event-noted waits p f had h = by_kind p (zones-more waits (one (later_in p f)) f.calendar had h)
+  where
+    by_kind : (p : Property) → EachZone (Contains (waits ++ one (later_in p f))) f.calendar had → EachZone (Contains (waits ++ one (later_in p f))) f.calendar (note_event p had)
+    by_kind (property.Dtstart dated) z = record { start = first-looked waits f.calendar had.start dated z.start; end = z.end; rdates = z.rdates; exdates = z.exdates; recurrence = z.recurrence }
+    by_kind (property.Dtend dated) z = record { start = z.start; end = first-looked waits f.calendar had.end dated z.end; rdates = z.rdates; exdates = z.exdates; recurrence = z.recurrence }
+    by_kind (property.RecurrenceId dated range) z =
+        record { start = z.start; end = z.end; rdates = z.rdates; exdates = z.exdates; recurrence = first-looked waits f.calendar had.recurrence dated z.recurrence }
+    by_kind (property.Rdate list) z = record { start = z.start; end = z.end; rdates = last-looked waits f.calendar had.rdates list z.rdates; exdates = z.exdates; recurrence = z.recurrence }
+    by_kind (property.Exdate list) z = record { start = z.start; end = z.end; rdates = z.rdates; exdates = last-looked waits f.calendar had.exdates list z.exdates; recurrence = z.recurrence }
+    by_kind _ z = record { start = z.start; end = z.end; rdates = z.rdates; exdates = z.exdates; recurrence = z.recurrence }
 
 noted-awaited : (waits : List Later) (p : Property) (f : Frame) (s : Summary) → IsAwaitedIn waits f.calendar s → IsAwaitedIn (waits ++ one (later_in p f)) f.calendar (note p s)
 noted-awaited waits p f (summary.Event had) h = event-noted waits p f had h
@@ -95,7 +108,13 @@ noted-awaited waits p f (summary.Observance had) h = tt
 noted-awaited waits p f summary.Nothing h = tt
 
 fresh-awaited : (waits : List Later) (calendar : ℕ) (q : Place) → IsAwaitedIn waits calendar (fresh q)
-fresh-awaited waits k place.Event = (tt, tt)
+fresh-awaited waits k place.Event = record {
+  start = tt;
+  end = tt;
+  rdates = All-nil (λ list. IfSome (listed_zone k list) (Contains waits));
+  exdates = All-nil (λ list. IfSome (listed_zone k list) (Contains waits));
+  recurrence = tt;
+}
 fresh-awaited waits k _ = tt
 
 all-noted : (waits : List Later) (p : Property) (frames : List Frame) → AreAwaited waits frames → AreAwaited (waits ++ one (later_on p frames)) (noted p frames)
@@ -138,7 +157,7 @@ ended-awaited waits (property.End true) (f ∷ g ∷ gs) h = by_summary f.summar
     by_summary (summary.Event had) h =
         let late : Option Later = ends_in f.calendar had.start had.end in
         All-cons (IsAwaited (waits ++ one late)) (record { calendar = f.calendar; had = had }) []
-        (record { start = some-more waits (one late) (used_in f.calendar had.start) h.0; end = some-more waits (one late) (used_in f.calendar had.end) h.1; length = some-here waits late })
+        (record { zones = zones-more waits (one late) f.calendar had h; length = some-here waits late })
         (All-nil (IsAwaited (waits ++ one late)))
     by_summary (summary.Zone had) h = All-nil (IsAwaited (waits ++ []))
     by_summary (summary.Observance had) h = All-nil (IsAwaited (waits ++ []))
@@ -182,6 +201,13 @@ zone-sound k dated = by_test (is_zoned_stamp dated.stamp)
     by_test true = tt
     by_test false = tt
 
+listed-sound : (calendar : ℕ) (list : DateList) → IfSome (listed_zone calendar list) IsSoundLater
+listed-sound k list = by_test (list_any has_zoned list.values)
+  where
+    by_test : (t : Bool) → IfSome (cond t (Some (later.Zone (zone_listed k list))) None) IsSoundLater
+    by_test true = tt
+    by_test false = tt
+
 end-sound : (calendar : ℕ) (q : Place) (s : Summary) → IsSoundAt q s → IfSome (later_end calendar s) IsSoundLater
 end-sound k place.Event (summary.Event had) h = ends-sound k had.start had.end h.start h.end
 end-sound k _ (summary.Event had) h = absurd h
@@ -196,6 +222,8 @@ later-sound (property.End false) (f ∷ fs) s = tt
 later-sound (property.Dtstart dated) (f ∷ fs) s = zone-sound f.calendar dated
 later-sound (property.Dtend dated) (f ∷ fs) s = zone-sound f.calendar dated
 later-sound (property.RecurrenceId dated range) (f ∷ fs) s = zone-sound f.calendar dated
+later-sound (property.Rdate list) (f ∷ fs) s = listed-sound f.calendar list
+later-sound (property.Exdate list) (f ∷ fs) s = listed-sound f.calendar list
 later-sound _ (f ∷ fs) s = tt
 
 pub waits-sound : (number : ℕ) (p : Property) (frames : List Frame) → AreSound frames → All (λ w. IsSoundLater w.later) (waits_of number (later_on p frames))

@@ -1,7 +1,9 @@
 -- A line changes what is collected of an event as the pass notes it.
-use Rattle.std.proofs.Common.{◌≡◌, ℕ, Bool, true, false, List, [], ◌∷◌, ◌++◌, refl, ap, ◌∙◌, cond, Option, Some, None}
-use Rattle.std.specs.Prelude.{codes, ◌||◌, option_map}
+use Rattle.std.proofs.Common.{◌≡◌, ℕ, Bool, true, false, List, [], ◌∷◌, ◌++◌, map, refl, ap, ◌∙◌, cond, Option, Some, None}
+use Rattle.std.specs.Prelude.{codes, option_map}
 use Rattle.std.specs.Str.{bytes_eq}
+use Rattle.std.proofs.lemmas.List.{append-nil, map-append}
+use Rattle.std.proofs.lemmas.List.Elements.{filter-append}
 use Rattle.ics_text.specs.Contents.{Parts}
 use Rattle.ics_values.specs.Integers.{integer_of}
 use Rattle.ics_values.specs.Plain.{text_of}
@@ -9,27 +11,22 @@ use Rattle.ics_values.specs.Rules.{rule_of}
 use Rattle.ics_calendar.specs.declared.collected.Collected.{Collected}
 use Rattle.ics_calendar.specs.declared.name.Name.{Name}
 use Rattle.ics_calendar.specs.declared.name.Name.TheVariants as name
+use Rattle.ics_calendar.specs.DateLists.{rdate_list, exdate_list}
 use Rattle.ics_calendar.specs.Names.{name_of}
-use Rattle.ics_calendar.specs.Placed.{Placed, property_name, value, value_of, params_of, has, is_named, first_named, first_of, all_named}
+use Rattle.ics_calendar.specs.Placed.{Placed, property_name, value, value_of, params_of, is_named, first_named, first_of, all_named}
 use Rattle.ics_calendar.specs.Values.{dated_of, lasting_of, ok_or_zero, is_cancelled}
-use Rattle.ics_calendar.specs.Faults.{dated_on, lasting_on, rule_on}
+use Rattle.ics_calendar.specs.Faults.{dated_on, lasting_on, rule_on, rdates_on, exdates_on}
 use Rattle.ics_calendar.specs.Reading.{event_property}
 use Rattle.ics_calendar.specs.Collecting.{collected_of, or_first, note_event}
 use Rattle.ics_calendar.proofs.NameLemmas.{Tells, tells}
 
-has-more : (n : List ℕ) (ls : List Placed) (l : Placed) → has n (ls ++ l ∷ []) ≡ cond (is_named n l) true (has n ls)
-has-more n [] l = last (is_named n l)
+-- what all lines of a name say, with one line more
+named-more : {X : Type 0} (f : Placed → X) (n : List ℕ) (ls : List Placed) (l : Placed) → map f (all_named n (ls ++ l ∷ [])) ≡ cond (is_named n l) (map f (all_named n ls) ++ f l ∷ []) (map f (all_named n ls))
+named-more f n ls l = ap (map f) (filter-append (is_named n) ls (l ∷ [])) ∙ by_test (is_named n l)
   where
-    last : (t : Bool) → (t || false) ≡ cond t true false
-    last true = refl
-    last false = refl
-has-more n (k ∷ ks) l = ap (λ t. is_named n k || t) (has-more n ks l) ∙ swap (is_named n k) (is_named n l) (has n ks)
-  where
-    swap : (a b c : Bool) → (a || cond b true c) ≡ cond b true (a || c)
-    swap true true c = refl
-    swap true false c = refl
-    swap false true c = refl
-    swap false false c = refl
+    by_test : (t : Bool) → map f (all_named n ls ++ cond t (l ∷ []) []) ≡ cond t (map f (all_named n ls) ++ f l ∷ []) (map f (all_named n ls))
+    by_test true = map-append f (all_named n ls) (l ∷ [])
+    by_test false = ap (map f) (append-nil (all_named n ls))
 
 -- what is kept of the first line of a name, with one line more
 pub kept-more : {X : Type 0} (f : Placed → X) (n : List ℕ) (ls : List Placed) (l : Placed) →
@@ -66,7 +63,9 @@ noted : (n : Name) (u : List ℕ) (v : Parts) (had : Collected) → Tells u n �
       end = cond (bytes_eq u (codes "DTEND")) (or_first had.end (dated_of v.params v.value)) had.end;
       duration = cond (bytes_eq u (codes "DURATION")) (or_first had.duration (lasting_of v.value)) had.duration;
       rule = cond (bytes_eq u (codes "RRULE")) (or_first had.rule (rule_of v.value)) had.rule;
-      has_recurrence = cond (bytes_eq u (codes "RECURRENCE-ID")) true had.has_recurrence;
+      rdates = cond (bytes_eq u (codes "RDATE")) (had.rdates ++ rdate_list v.params v.value ∷ []) had.rdates;
+      exdates = cond (bytes_eq u (codes "EXDATE")) (had.exdates ++ exdate_list v.params v.value ∷ []) had.exdates;
+      recurrence = cond (bytes_eq u (codes "RECURRENCE-ID")) (or_first had.recurrence (dated_of v.params v.value)) had.recurrence;
       sequence = cond (bytes_eq u (codes "SEQUENCE")) (or_first had.sequence (ok_or_zero (integer_of v.value))) had.sequence;
       title = cond (bytes_eq u (codes "SUMMARY")) (or_first had.title (text_of v.value)) had.title;
       location = cond (bytes_eq u (codes "LOCATION")) (or_first had.location (text_of v.value)) had.location;
@@ -93,7 +92,7 @@ noted name.Status u v had e = rw e refl
 noted name.Tzid u v had e = rw e refl
 noted name.OffsetFrom u v had e = rw e refl
 noted name.OffsetTo u v had e = rw e refl
-noted name.Other u v had e = simp (e.no_uid, e.no_dtstart, e.no_dtend, e.no_duration, e.no_rrule, e.no_recurrence_id, e.no_sequence, e.no_summary, e.no_location, e.no_description, e.no_status) refl
+noted name.Other u v had e = simp (e.no_uid, e.no_dtstart, e.no_dtend, e.no_duration, e.no_rrule, e.no_rdate, e.no_exdate, e.no_recurrence_id, e.no_sequence, e.no_summary, e.no_location, e.no_description, e.no_status) refl
 
 -- WHAT IS COLLECTED of an event, with one line more.
 pub collected_of-more : (ls : List Placed) (l : Placed) → collected_of (ls ++ l ∷ []) ≡ note_event (event_property (name_of (property_name l.content)) (parts_at l)) (collected_of ls)
@@ -104,7 +103,9 @@ collected_of-more ls l =
       kept-more dated_on (codes "DTEND") ls l,
       kept-more lasting_on (codes "DURATION") ls l,
       kept-more rule_on (codes "RRULE") ls l,
-      has-more (codes "RECURRENCE-ID") ls l,
+      named-more rdates_on (codes "RDATE") ls l,
+      named-more exdates_on (codes "EXDATE") ls l,
+      kept-more dated_on (codes "RECURRENCE-ID") ls l,
       kept-more (λ l. ok_or_zero (integer_of (value l))) (codes "SEQUENCE") ls l,
       kept-more (λ l. text_of (value l)) (codes "SUMMARY") ls l,
       kept-more (λ l. text_of (value l)) (codes "LOCATION") ls l,

@@ -1,8 +1,11 @@
 -- An event that no fault of either round stands on is one, of the zones of its file.
 use Rattle.std.proofs.Common.{◌≡◌, ◌≢◌, ℕ, ◌≤◌, Bool, true, false, not, ◌&&◌, ◌||◌, ◌==◌, nat_le, IsTrue, List, [], ◌∷◌, refl, arith, cond, Option, Some, None, is_some, IfSome, unwrap_or, Result, Ok, Err, int_lt, ℤ, pos, ◌+ℤ◌, ◌*ℤ◌}
+use Rattle.std.specs.Prelude.{flat_map, map, option_map, get_or}
+use Rattle.std.specs.List.{All, list_any}
 use Rattle.std.specs.Result.{result_ok}
 use Rattle.std.proofs.lemmas.Bool.Decides.{nat_tests}
 use Rattle.std.proofs.lemmas.Int.{ints}
+use Rattle.std.proofs.lemmas.List.Elements.{All-nil, All-cons, All-head, All-tail}
 use Rattle.ics_values.specs.Stamps.{IsStampDay}
 use Rattle.ics_values.specs.declared.duration.Duration.{Duration}
 use Rattle.ics_values.specs.declared.duration.DurationFault.{DurationFault}
@@ -10,19 +13,25 @@ use Rattle.ics_values.specs.declared.stamp.Stamp.{Stamp}
 use Rattle.ics_values.specs.declared.stamp.Stamp.TheVariants.{Date, Floating, Utc, Zoned}
 use Rattle.ics_values.specs.declared.stamp.StampFault.{StampFault}
 use Rattle.ics_calendar.specs.declared.collected.Collected.{Collected}
+use Rattle.ics_calendar.specs.declared.date_list.DateList.{DateList}
+use Rattle.ics_calendar.specs.declared.date_values.DateValue.{DateValue}
+use Rattle.ics_calendar.specs.declared.date_values.DateValue.TheVariants as value
 use Rattle.ics_calendar.specs.declared.dated.Dated.{Dated}
 use Rattle.ics_calendar.specs.declared.fault.FaultKind.TheVariants.{BadEnd, MissingUid, MissingStart, UnknownZone}
 use Rattle.ics_calendar.specs.declared.later.Later.{Later}
 use Rattle.ics_calendar.specs.declared.later.Later.TheVariants as later
 use Rattle.ics_calendar.specs.declared.later.ZoneName.{ZoneName}
-use Rattle.ics_calendar.specs.Event.{IsTime, longest, seconds_of, IsWithin, IsEnd, IsLasting, IsLength, IsEvent}
+use Rattle.ics_calendar.specs.Event.{IsTime, longest, seconds_of, IsWithin, IsEnd, IsLasting, IsLength, IsRdate, IsEvent}
 use Rattle.ics_calendar.specs.Collecting.{event_from}
+use Rattle.ics_calendar.specs.DateLists.{zone_listed, rdate_in, exdate_in}
+use Rattle.ics_calendar.specs.DateValues.{has_zoned}
 use Rattle.ics_calendar.specs.Laters.{KnownZones, zone_used, judged}
-use Rattle.ics_calendar.specs.LineFaults.{used_in, instant_on, both_compared, ends_in}
+use Rattle.ics_calendar.specs.LineFaults.{used_in, listed_zone, instant_on, both_compared, ends_in}
 use Rattle.ics_calendar.specs.Ready.{IsReady}
-use Rattle.ics_calendar.specs.Sound.{IsSoundStamp, IsSoundDuration, IsWhole}
-use Rattle.ics_calendar.specs.Times.{time_of, length_of}
+use Rattle.ics_calendar.specs.Sound.{IsSoundStamp, IsSoundDuration, IsSoundValue, IsSoundList, IsWhole}
+use Rattle.ics_calendar.specs.Times.{time_on, time_of, length_of}
 use Rattle.ics_calendar.specs.Values.{is_zoned_stamp, length_in_seconds, is_lasting, is_filled, same_zone, is_out, is_bad_end, both, ends_badly}
+use Rattle.ics_calendar.proofs.Listed.{All-flat_map}
 
 -- WHAT IS COLLECTED of an event that is ready.
 day-zero : IsStampDay (pos 0)
@@ -103,8 +112,53 @@ length-sound known k None end duration t a b c e u l = cc
 length-sound known k (Some s) (Some d) duration t a b c e u l =
     (time-sound known k (Some d) b u, ends-sound known (zone_used k s) (zone_used k d) (same_zone s d) s.stamp d.stamp a b e l)
 length-sound known k (Some s) None None t a b c e u l = tt
-length-sound known k (Some s) None (Some (Err f)) t a b c e u l = tt
+length-sound known k (Some s) None (Some (Err f)) t a b c e u l = absurd c
 length-sound known k (Some s) None (Some (Ok d)) t a b c e u l = lasting-is d c
+
+-- WHAT A LINE LISTS, in the zone that it names.
+abbrev fault_by : Bool → ZoneName → Option Later
+fault_by zoned name = cond zoned (Some (later.Zone name)) None
+
+fine-first : (known : KnownZones) (name : ZoneName) (a b : Bool) → IsFine known (fault_by (a || b) name) → IsFine known (fault_by a name)
+fine-first known name true b h = h
+fine-first known name false b h = tt
+
+fine-rest : (known : KnownZones) (name : ZoneName) (a b : Bool) → IsFine known (fault_by (a || b) name) → IsFine known (fault_by b name)
+fine-rest known name true true h = h
+fine-rest known name true false h = tt
+fine-rest known name false b h = h
+
+rdate-is : (known : KnownZones) (name : ZoneName) (v : DateValue) → IsSoundValue v → IsFine known (fault_by (has_zoned v) name) → IsRdate (rdate_in (known.index name) v)
+rdate-is known name (value.At r) h k = stamp-time known name r h k
+rdate-is known name (value.Between r q) h k =
+    (stamp-time known name r h.0 (fine-first known name (is_zoned_stamp r) (is_zoned_stamp q) k), stamp-time known name q h.1 (fine-rest known name (is_zoned_stamp r) (is_zoned_stamp q) k))
+rdate-is known name (value.Lasting r (Ok d)) h k = (stamp-time known name r h.0 k, lasting-is d h.1)
+rdate-is known name (value.Lasting r (Err f)) h k = absurd h.1
+
+exdate-is : (known : KnownZones) (name : ZoneName) (v : DateValue) → IsSoundValue v → IsFine known (fault_by (has_zoned v) name) → IsTime (exdate_in (known.index name) v)
+exdate-is known name (value.At r) h k = stamp-time known name r h k
+exdate-is known name (value.Between r q) h k = stamp-time known name r h.0 (fine-first known name (is_zoned_stamp r) (is_zoned_stamp q) k)
+exdate-is known name (value.Lasting r d) h k = stamp-time known name r h.0 k
+
+-- each value of a list, and each list
+values-are : {A : Type 0} (P : A → Type 0) (f : DateValue → A) (known : KnownZones) (name : ZoneName) → ((v : DateValue) → IsSoundValue v → IsFine known (fault_by (has_zoned v) name) → P (f v)) →
+    (values : List DateValue) → All IsSoundValue values → IsFine known (fault_by (list_any has_zoned values) name) → All P (map f values)
+values-are P f known name each [] h k = All-nil P
+values-are P f known name each (v ∷ vs) h k =
+    All-cons P (f v) (map f vs) (each v (All-head IsSoundValue v vs h) (fine-first known name (has_zoned v) (list_any has_zoned vs) k))
+    (values-are P f known name each vs (All-tail IsSoundValue v vs h) (fine-rest known name (has_zoned v) (list_any has_zoned vs) k))
+
+lists-are : {A : Type 0} (P : A → Type 0) (f : Option ℕ → DateValue → A) (known : KnownZones) (calendar : ℕ) →
+    ((name : ZoneName) (v : DateValue) → IsSoundValue v → IsFine known (fault_by (has_zoned v) name) → P (f (known.index name) v)) →
+    (lists : List DateList) → All IsSoundList lists → All (λ list. IsFine known (listed_zone calendar list)) lists →
+    All P (flat_map (λ list. map (f (known.index (zone_listed calendar list))) list.values) lists)
+lists-are P f known calendar each lists h k =
+    All-flat_map P (λ list. map (f (known.index (zone_listed calendar list))) list.values) lists
+    (λ i d l. values-are P (f (known.index (zone_listed calendar (get_or lists i d)))) known (zone_listed calendar (get_or lists i d)) (each (zone_listed calendar (get_or lists i d))) (get_or lists i d).values (h i d l) (k i d l))
+
+recurrence-is : (known : KnownZones) (calendar : ℕ) (o : Option Dated) → IfSome o (λ d. IsSoundStamp d.stamp) → IsFine known (used_in calendar o) → IfSome (option_map (time_on known.index calendar) o) IsTime
+recurrence-is known calendar None h k = tt
+recurrence-is known calendar (Some d) h k = time-sound known calendar (Some d) h k
 
 filled-not-empty : (o : Option (List ℕ)) → is_filled o ≡ true → unwrap_or o [] ≢ []
 filled-not-empty (Some (b ∷ bs)) e = λ h. cc
@@ -131,6 +185,9 @@ event-is known calendar had r =
     let tests = at-end-of had w in
     record {
       named = filled-not-empty had.uid (at-end (is_filled had.uid) (is_some had.start) (is_some had.end && is_some had.duration) (ends_badly had.start had.end) w.no_fault).0;
-      start = time-sound known calendar had.start w.sound.start r.start;
-      length = length-sound known calendar had.start had.end had.duration tests.0 w.sound.start w.sound.end w.sound.duration tests.1 r.end r.length;
+      start = time-sound known calendar had.start w.sound.start r.zones.start;
+      length = length-sound known calendar had.start had.end had.duration tests.0 w.sound.start w.sound.end w.sound.duration tests.1 r.zones.end r.length;
+      rdates = lists-are IsRdate rdate_in known calendar (rdate-is known) had.rdates w.sound.rdates r.zones.rdates;
+      exdates = lists-are IsTime exdate_in known calendar (exdate-is known) had.exdates w.sound.exdates r.zones.exdates;
+      recurrence = recurrence-is known calendar had.recurrence w.sound.recurrence r.zones.recurrence;
     }

@@ -1,6 +1,6 @@
 -- An event that no fault of either round stands on is one of the zones of its file.
 use Rattle.std.proofs.Common.{◌≡◌, ℕ, ◌<◌, Bool, true, false, ◌&&◌, ◌||◌, ◌==◌, List, [], length, get_or, refl, sym, ap, ◌∙◌, subst, arith, cond, Option, Some, None, is_some, IfSome, unwrap_or, Result, Ok, Err, ℤ, pos}
-use Rattle.std.specs.Prelude.{slice_get, map}
+use Rattle.std.specs.Prelude.{slice_get, map, flat_map, option_map}
 use Rattle.std.specs.List.{All}
 use Rattle.std.specs.Option.{option_and_then}
 use Rattle.std.specs.Result.{result_ok}
@@ -18,6 +18,9 @@ use Rattle.ics_values.specs.declared.stamp.Stamp.TheVariants.{Date, Floating, Ut
 use Rattle.ics_values.specs.declared.stamp.StampFault.{StampFault}
 use Rattle.ics_zone.specs.Observances.{Phase}
 use Rattle.ics_calendar.specs.declared.collected.Collected.{Collected}
+use Rattle.ics_calendar.specs.declared.date_list.DateList.{DateList}
+use Rattle.ics_calendar.specs.declared.date_values.DateValue.{DateValue}
+use Rattle.ics_calendar.specs.declared.date_values.DateValue.TheVariants as value
 use Rattle.ics_calendar.specs.declared.dated.Dated.{Dated}
 use Rattle.ics_calendar.specs.declared.fault.FaultKind.TheVariants.{BadEnd}
 use Rattle.ics_calendar.specs.declared.gathered.EndedEvent.{EndedEvent}
@@ -25,15 +28,17 @@ use Rattle.ics_calendar.specs.declared.later.Instant.TheVariants as instant
 use Rattle.ics_calendar.specs.declared.later.Later.TheVariants as later
 use Rattle.ics_calendar.specs.declared.later.ZoneName.{ZoneName}
 use Rattle.ics_calendar.specs.declared.time.Time.{Time}
-use Rattle.ics_calendar.specs.Event.{seconds_of, IsWithin, EndsBelow, EndsWithin, IsEventOf, AreEventsOf, compared, is_one_zone, moment_in}
+use Rattle.ics_calendar.specs.Event.{seconds_of, IsWithin, EndsBelow, RdateBelow, TimeBelow, EndsWithin, IsEventOf, AreEventsOf, compared, is_one_zone, moment_in}
 use Rattle.ics_calendar.specs.Collecting.{event_from, event_of}
+use Rattle.ics_calendar.specs.DateLists.{zone_listed, rdate_in, stamp_in, exdate_in}
 use Rattle.ics_calendar.specs.Laters.{KnownZones, known_zones, is_same, zone_index, zone_used, moment_at, moment_there, are_out}
 use Rattle.ics_calendar.specs.LineFaults.{used_in, ends_in}
 use Rattle.ics_calendar.specs.Ready.{IsReady}
 use Rattle.ics_calendar.specs.Sound.{IsSoundStamp}
-use Rattle.ics_calendar.specs.Times.{time_of, length_of}
+use Rattle.ics_calendar.specs.Times.{time_on, time_of, length_of}
 use Rattle.ics_calendar.specs.Values.{is_zoned_stamp, tzid, is_out, is_bad_end, both, ends_badly}
 use Rattle.ics_calendar.proofs.EventSound.{IsFine, known-zone, out-within, waits_of, at-end-of}
+use Rattle.ics_calendar.proofs.Listed.{All-flat_map}
 
 some-same : {X : Type 0} (x y : X) → Some x ≡ Some y → x ≡ y
 some-same x y h = cc
@@ -190,12 +195,37 @@ module _ (names : List ZoneName) (zones : List (List Phase)) (long : length name
   ends-below k None (Some (Ok e)) = tt
   ends-below k None (Some (Err f)) = tt
 
+  rdate-below : (used : ZoneName) (v : DateValue) → RdateBelow (length zones) (rdate_in (zone_index names used) v)
+  rdate-below used (value.At r) = stamp-below used r
+  rdate-below used (value.Between r q) = (stamp-below used r, stamp-below used q)
+  rdate-below used (value.Lasting r (Ok d)) = (stamp-below used r, tt)
+  rdate-below used (value.Lasting r (Err f)) = (stamp-below used r, tt)
+
+  exdate-below : (used : ZoneName) (v : DateValue) → TimeBelow (length zones) (exdate_in (zone_index names used) v)
+  exdate-below used v = stamp-below used (stamp_in v)
+
+  lists-below : {A : Type 0} (P : A → Type 0) (f : Option ℕ → DateValue → A) → ((used : ZoneName) (v : DateValue) → P (f (zone_index names used) v)) → (k : ℕ) (lists : List DateList) →
+      All P (flat_map (λ list. map (f (zone_index names (zone_listed k list))) list.values) lists)
+  lists-below P f each k lists =
+      All-flat_map P (λ list. map (f (zone_index names (zone_listed k list))) list.values) lists
+      (λ i d l. All-map P (f (zone_index names (zone_listed k (get_or lists i d)))) (get_or lists i d).values (λ j e m. each (zone_listed k (get_or lists i d)) (get_or (get_or lists i d).values j e)))
+
+  recurrence-below : (k : ℕ) (o : Option Dated) → IfSome (option_map (time_on (zone_index names) k) o) (TimeBelow (length zones))
+  recurrence-below k None = tt
+  recurrence-below k (Some d) = stamp-below (zone_used k d) d.stamp
+
   event-of : (k : ℕ) (had : Collected) → IsReady known k had → IsEventOf zones (event_from (zone_index names) k had)
   event-of k had r =
       let tests = at-end-of had r.whole in
       record {
-        below = record { start = time-below k had.start; length = ends-below k had.end had.duration };
-        short = ends-within k had.start had.end had.duration tests.0 r.whole.sound.start r.whole.sound.end tests.1 r.start r.end r.length;
+        below = record {
+          start = time-below k had.start;
+          length = ends-below k had.end had.duration;
+          rdates = lists-below (RdateBelow (length zones)) rdate_in rdate-below k had.rdates;
+          exdates = lists-below (TimeBelow (length zones)) exdate_in exdate-below k had.exdates;
+          recurrence = recurrence-below k had.recurrence;
+        };
+        short = ends-within k had.start had.end had.duration tests.0 r.whole.sound.start r.whole.sound.end tests.1 r.zones.start r.zones.end r.length;
       }
 
   -- THE EVENTS of a file.

@@ -17,6 +17,12 @@ calendar lines = text (codes "BEGIN:VCALENDAR" ∷ lines ++ codes "END:VCALENDAR
 abbrev pub event : List (List ℕ) → List ℕ
 event lines = calendar (codes "BEGIN:VEVENT" ∷ lines ++ codes "END:VEVENT" ∷ [])
 
+-- a time zone of that name, as lines of a calendar
+abbrev pub zone : List ℕ → List (List ℕ)
+zone name =
+    codes "BEGIN:VTIMEZONE" ∷ (codes "TZID:" ++ name) ∷ codes "BEGIN:STANDARD" ∷ codes "DTSTART:20240105T100000" ∷ codes "TZOFFSETFROM:-0400" ∷ codes "TZOFFSETTO:-0500" ∷ codes "END:STANDARD"
+    ∷ codes "END:VTIMEZONE" ∷ []
+
 abbrev fault_in : Result FileSaid Fault → Option Fault
 fault_in (Ok seen) = None
 fault_in (Err fault) = Some fault

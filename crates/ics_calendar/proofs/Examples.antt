@@ -95,6 +95,9 @@ standup_event : file_of standup ≡ Ok (record {
         start = record { stamp = Utc (local_at (pos 19_727) 36_000); zone = None };
         length = Until (record { stamp = Utc (local_at (pos 19_727) 39_600); zone = None });
         rule = None;
+        rdates = [];
+        exdates = [];
+        recurrence = None;
         title = codes "Standup";
         location = [];
         description = [];

@@ -7,12 +7,7 @@ use Rattle.ics_calendar.specs.declared.time.Length.TheVariants.{Until}
 use Rattle.ics_calendar.specs.Event.{EventSeen}
 use Rattle.ics_calendar.specs.Files.{events_of}
 use Rattle.ics_calendar.specs.Placed.{placed}
-use Rattle.ics_calendar.proofs.ExampleFiles.{calendar, fault, at}
-
-abbrev zone : List ℕ → List (List ℕ)
-zone name =
-    codes "BEGIN:VTIMEZONE" ∷ (codes "TZID:" ++ name) ∷ codes "BEGIN:STANDARD" ∷ codes "DTSTART:20240105T100000" ∷ codes "TZOFFSETFROM:-0400" ∷ codes "TZOFFSETTO:-0500" ∷ codes "END:STANDARD"
-    ∷ codes "END:VTIMEZONE" ∷ []
+use Rattle.ics_calendar.proofs.ExampleFiles.{calendar, zone, fault, at}
 
 abbrev event : List (List ℕ) → List (List ℕ)
 event lines = codes "BEGIN:VEVENT" ∷ codes "UID:a" ∷ lines ++ codes "END:VEVENT" ∷ []

@@ -1,5 +1,5 @@
 -- The table of the second round and the pass find one fault on a line.
-use Rattle.std.proofs.Common.{◌≡◌, ℕ, Bool, true, false, ◌&&◌, List, [], ◌∷◌, map, refl, sym, ap, ◌∙◌, cond, Option, Some, None, is_some, Result, Ok, Err, ℤ}
+use Rattle.std.proofs.Common.{◌≡◌, ℕ, Bool, true, false, ◌&&◌, ◌||◌, List, [], ◌∷◌, map, refl, sym, ap, ◌∙◌, cond, Option, Some, None, is_some, Result, Ok, Err, ℤ}
 use Rattle.std.specs.Prelude.{find, codes, not}
 use Rattle.std.specs.List.{list_any}
 use Rattle.std.specs.Option.{option_and_then}
@@ -25,6 +25,8 @@ use Rattle.ics_calendar.specs.declared.later.ZoneName.{ZoneName}
 use Rattle.ics_calendar.specs.declared.name.Name.{Name}
 use Rattle.ics_calendar.specs.declared.name.Name.TheVariants as name
 use Rattle.ics_calendar.specs.Components.{component_of, component_name, is_event_place}
+use Rattle.ics_calendar.specs.DateLists.{rdate_list, exdate_list}
+use Rattle.ics_calendar.specs.DateValues.{has_zoned}
 use Rattle.ics_calendar.specs.Event.{seconds_of}
 use Rattle.ics_calendar.specs.Names.{name_of}
 use Rattle.ics_calendar.specs.Placed.{Placed, Open, place_of, closes}
@@ -34,7 +36,7 @@ use Rattle.ics_calendar.specs.Reading.{read_as, read_in}
 use Rattle.ics_calendar.specs.LineFaults.{instant_on, instant_in, both_compared, ends_in, later_in}
 use Rattle.ics_calendar.specs.Laters.{KnownZones, are_out, zone_used, moment_on, moment_in, are_of_one_zone, ends_badly_later, moment_of, judged}
 use Rattle.ics_calendar.proofs.NameLemmas.{Tells, tells, component_name-of}
-use Rattle.ics_calendar.proofs.Rows.{Gathered, frame_at}
+use Rattle.ics_calendar.proofs.Rows.{Gathered, dates_at, frame_at, or-false}
 use Rattle.ics_calendar.proofs.Table.{gathered, frame_of}
 use Rattle.ics_calendar.proofs.Frames.{with}
 
@@ -80,7 +82,7 @@ ends-judged known k (Some a) (Some b) =
 abbrev later_flat : (u : List ℕ) (v : Parts) (q : Place) (cl be has : Bool) → Option FaultKind
 later_flat u v q cl be has =
     cond (bytes_eq u (codes "END") && cl && is_event_place q && be) (Some BadEnd)
-    (cond (is_event_place q && list_any (bytes_eq u) stamp_names && is_zoned_stamp (dated_of v.params v.value).stamp && not has) (Some UnknownZone) None)
+    (cond (((is_event_place q && list_any has_zoned (dates_at u v)) || (is_event_place q && list_any (bytes_eq u) stamp_names && is_zoned_stamp (dated_of v.params v.value).stamp)) && not has) (Some UnknownZone) None)
 
 abbrev later_of : Name → Parts → Component → Place → Gathered → Option Later
 later_of n v c q g = later_in (read_as n (frame_at c q g) v) (frame_at c q g)
@@ -117,8 +119,12 @@ later-other known name.Dtend u v c place.Event cl g e m = rw e (in-zone known (i
 later-other known name.Dtend u v c _ cl g e m = rw e refl
 later-other known name.RecurrenceId u v c place.Event cl g e m = rw e (in-zone known (is_zoned_stamp (dated_of v.params v.value).stamp) (use_of g v))
 later-other known name.RecurrenceId u v c _ cl g e m = rw e refl
-later-other known name.Other u v c place.Event cl g e m = simp (e.no_end, e.no_dtstart, e.no_dtend, e.no_recurrence_id) refl
-later-other known name.Other u v c _ cl g e m = simp (e.no_end, e.no_dtstart, e.no_dtend, e.no_recurrence_id) refl
+later-other known name.Rdate u v c place.Event cl g e m = rw e (simp or-false (in-zone known (list_any has_zoned (rdate_list v.params v.value).values) (use_of g v)))
+later-other known name.Rdate u v c _ cl g e m = rw e refl
+later-other known name.Exdate u v c place.Event cl g e m = rw e (simp or-false (in-zone known (list_any has_zoned (exdate_list v.params v.value).values) (use_of g v)))
+later-other known name.Exdate u v c _ cl g e m = rw e refl
+later-other known name.Other u v c place.Event cl g e m = simp (e.no_end, e.no_rdate, e.no_exdate, e.no_dtstart, e.no_dtend, e.no_recurrence_id) refl
+later-other known name.Other u v c _ cl g e m = simp (e.no_end, e.no_rdate, e.no_exdate, e.no_dtstart, e.no_dtend, e.no_recurrence_id) refl
 later-other known _ u v c place.Event cl g e m = rw e refl
 later-other known _ u v c _ cl g e m = rw e refl
 

@@ -17,7 +17,9 @@ pub mod ZoneOrder
 pub mod Firsts
 pub mod Settles
 pub mod Whole
+pub mod SoundValues
 pub mod Sound
+pub mod Listed
 pub mod Awaits
 pub mod Filled
 pub mod Phases
@@ -33,5 +35,6 @@ mod PropertyExamples
 mod ZoneExamples
 mod ZoneRows
 mod LaterRows
+mod DateRows
 mod InstantRows
 mod Examples

@@ -1,8 +1,8 @@
 -- What is gathered is sound, where the first round finds nothing.
 use Rattle.std.proofs.Common.{◌≡◌, ℕ, ◌+◌, ◌<◌, ◌≤◌, zero, suc, Bool, true, false, IsTrue, List, [], ◌∷◌, ◌++◌, map, filter, refl, sym, subst, ◌∙◌, arith, cond, Option, Some, None, Ok}
-use Rattle.std.specs.List.{All, slice_index}
+use Rattle.std.specs.List.{All, Contains, slice_index}
 use Rattle.std.specs.List.Sorted.{IsStrictlyIncreasing}
-use Rattle.std.proofs.lemmas.List.Elements.{All-nil, All-append, All-weaker}
+use Rattle.std.proofs.lemmas.List.Elements.{All-nil, All-append, All-weaker, Contains-append_left}
 use Rattle.ics_text.specs.Unfolded.{Line, Rises}
 use Rattle.ics_text.specs.Contents.{Parts, content_of}
 use Rattle.ics_calendar.specs.declared.fault.FaultKind.{FaultKind}
@@ -16,16 +16,17 @@ use Rattle.ics_calendar.specs.FirstFault.{Fault, first_from, first_fault, fault_
 use Rattle.ics_calendar.specs.GatheredSeen.{GatheredSeen}
 use Rattle.ics_calendar.specs.GatheredSound.{IsAwaited, IsSoundLater, IsSoundGathered}
 use Rattle.ics_calendar.specs.Gathering.{nothing_gathered, zones_of_end, observances_of_end, events_of_end, waits_of}
-use Rattle.ics_calendar.specs.LineFaults.{fault_on, used_in, ends_in, later_on}
+use Rattle.ics_calendar.specs.LineFaults.{fault_on, ends_in, later_on}
 use Rattle.ics_calendar.specs.Pass.{bottom, behind, ends, at_end, refused, unless, gathered_behind, on_content, pass}
 use Rattle.ics_calendar.specs.Placed.{Placed, Open, path_behind, placed_from, lines_in}
 use Rattle.ics_calendar.specs.Reading.{read_on}
 use Rattle.ics_calendar.specs.Sound.{IsWhole}
 use Rattle.ics_calendar.specs.Zones.{begins_zone}
 use Rattle.ics_calendar.specs.ZonesSound.{IsSoundObservance, has_observance}
-use Rattle.ics_calendar.proofs.Awaits.{laters, one, laters-more, some-more, AreAwaited, awaited-behind, ended-awaited, waits-sound}
+use Rattle.ics_calendar.proofs.Awaits.{laters, one, laters-more, zones-more, AreAwaited, awaited-behind, ended-awaited, waits-sound}
 use Rattle.ics_calendar.proofs.Ended.{zones}
 use Rattle.ics_calendar.proofs.Filled.{AreFilled, part-more, filled-behind, zone-ends-filled}
+use Rattle.ics_calendar.proofs.Listed.{some-weaker}
 use Rattle.ics_calendar.proofs.Order.{inside, begun, ended_from, ordered}
 use Rattle.ics_calendar.proofs.PassLemmas.{gathered_from, pass-whole}
 use Rattle.ics_calendar.proofs.Phases.{observances-sound, events-whole}
@@ -51,9 +52,8 @@ still-awaited : (waits more : List Later) (es : List EndedEvent) → All (IsAwai
 still-awaited waits more es h =
     All-weaker (IsAwaited waits) (IsAwaited (waits ++ more))
     (λ e a. record {
-      start = some-more waits more (used_in e.calendar e.had.start) a.start;
-      end = some-more waits more (used_in e.calendar e.had.end) a.end;
-      length = some-more waits more (ends_in e.calendar e.had.start e.had.end) a.length;
+      zones = zones-more waits more e.calendar e.had a.zones;
+      length = some-weaker (Contains waits) (Contains (waits ++ more)) (λ l. Contains-append_left waits more l) (ends_in e.calendar e.had.start e.had.end) a.length;
     }) es h
 
 good-behind : (number : ℕ) (p : Property) (frames : List Frame) (g : GatheredSeen) → fault_on p frames ≡ None → Holds frames g → IsGood (gathered_behind number p frames g)

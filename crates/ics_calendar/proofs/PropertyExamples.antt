@@ -2,7 +2,7 @@
 use Rattle.std.proofs.Common.{◌≡◌, [], ◌∷◌, ◌++◌, refl, None}
 use Rattle.std.specs.Prelude.{codes}
 use Rattle.ics_values.specs.Rules.{rule_of}
-use Rattle.ics_calendar.specs.declared.fault.FaultKind.TheVariants.{BadDuration, BadEnd, BadLine, BadRule, BadStamp, Exrule, MissingStart, MissingUid, NotYet, NumberTooLarge, Repeated, ThisAndFuture, UnknownZone, YearRange}
+use Rattle.ics_calendar.specs.declared.fault.FaultKind.TheVariants.{BadDuration, BadEnd, BadLine, BadRule, BadStamp, Exrule, MissingStart, MissingUid, NumberTooLarge, Repeated, ThisAndFuture, UnknownZone, YearRange}
 use Rattle.ics_calendar.proofs.ExampleFiles.{event, fault, at}
 
 -- stamps, and a bad one before a repeated one
@@ -216,11 +216,3 @@ large_length_from_a_far_start = refl
 
 far_end : fault (event (codes "UID:a" ∷ codes "DTSTART:20240105" ∷ codes "RDATE:20240106T100000/99000101T000000" ∷ [])) ≡ at 5 YearRange
 far_end = refl
-
--- what is not read yet
-dates_not_yet : fault (event (codes "UID:a" ∷ codes "DTSTART:20240105" ∷ codes "RRULE:FREQ=DAILY" ∷ codes "EXDATE:20240106" ∷ [])) ≡ at 6 NotYet
-unfolding rule_of
-dates_not_yet = refl
-
-identifier_not_yet : fault (event (codes "UID:a" ∷ codes "RECURRENCE-ID:20240105" ∷ [])) ≡ at 4 NotYet
-identifier_not_yet = refl

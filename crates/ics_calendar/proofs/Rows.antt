@@ -15,7 +15,7 @@ use Rattle.ics_calendar.specs.declared.component.Component.TheVariants as compon
 use Rattle.ics_calendar.specs.declared.component.Place.{Place}
 use Rattle.ics_calendar.specs.declared.component.Place.TheVariants as place
 use Rattle.ics_calendar.specs.declared.fault.FaultKind.{FaultKind}
-use Rattle.ics_calendar.specs.declared.fault.FaultKind.TheVariants.{BadStamp, BadDuration, BadOffset, BadRule, YearRange, NumberTooLarge, NoObservance, ObservanceField, ZoneRule, NotCalendar, BadNesting, TooDeep, MissingUid, MissingStart, Repeated, BadEnd, ThisAndFuture, Exrule, OldVersion, NotYet}
+use Rattle.ics_calendar.specs.declared.fault.FaultKind.TheVariants.{BadStamp, BadDuration, BadOffset, BadRule, YearRange, NumberTooLarge, NoObservance, ObservanceField, ZoneRule, NotCalendar, BadNesting, TooDeep, MissingUid, MissingStart, Repeated, BadEnd, ThisAndFuture, Exrule, OldVersion}
 use Rattle.ics_calendar.specs.declared.date_values.DateValue.{DateValue}
 use Rattle.ics_calendar.specs.declared.date_values.DateValue.TheVariants.{At}
 use Rattle.ics_calendar.specs.declared.frame.Frame.{Frame}
@@ -29,12 +29,12 @@ use Rattle.ics_calendar.specs.declared.summary.ZoneSummary.{ZoneSummary}
 use Rattle.ics_calendar.specs.Components.{component_of, component_name, is_outside_place, is_calendar_place, is_event_place, is_zone_place, is_observance_place}
 use Rattle.ics_calendar.specs.DateValues.{rdates_of, exdates_of, has_bad_stamp, has_far_stamp, has_bad_duration, has_large_duration, is_not_local}
 use Rattle.ics_calendar.specs.Values.{zone_name, dated_of, is_bad_stamp, is_far_stamp, lasting_of, is_bad_duration, is_large_duration, is_bad_offset, is_bad_rule, is_large_rule, is_fine_rule, is_large_integer, is_filled, ends_badly}
-use Rattle.ics_calendar.specs.Faults.{stamp_names, single_names, unread_names, offset_names, field_names}
+use Rattle.ics_calendar.specs.Faults.{stamp_names, single_names, offset_names, field_names}
 use Rattle.ics_calendar.specs.Reading.{read_as}
 use Rattle.ics_calendar.specs.LineFaults.{fault_in}
 use Rattle.ics_calendar.proofs.NameLemmas.{IsUnknown, TellsComponent, tells_component}
 
-abbrev dates_at : List ℕ → Parts → List DateValue
+abbrev pub dates_at : List ℕ → Parts → List DateValue
 dates_at u v =
     if bytes_eq u (codes "RDATE") then rdates_of (is_some (zone_name v.params)) v.value
     else if bytes_eq u (codes "EXDATE") then exdates_of (is_some (zone_name v.params)) v.value
@@ -74,7 +74,6 @@ flat u w v q cl deep filled start be some fields h =
     else if is_event_place q && bytes_eq u (codes "RECURRENCE-ID") && is_some (param_of (codes "RANGE") v.params) then Some ThisAndFuture
     else if is_event_place q && bytes_eq u (codes "EXRULE") then Some Exrule
     else if is_calendar_place q && bytes_eq u (codes "VERSION") && bytes_eq v.value (codes "1.0") then Some OldVersion
-    else if is_event_place q && list_any (bytes_eq u) unread_names then Some NotYet
     else None
 
 -- what is collected of some lines of a calendar, read as those of an event, of a time zone and of an observance
@@ -144,7 +143,7 @@ at-rrule v c place.Event cl depth g = simp or-false refl
 at-rrule v c place.Observance cl depth g = simp or-false refl
 at-rrule v c _ cl depth g = refl
 
-pub at-recurrence_id : (v : Parts) (c : Component) (q : Place) (cl : Bool) (depth : ℕ) (g : Gathered) → flat_of (codes "RECURRENCE-ID") v q cl depth g (g.event.has_recurrence) ≡ fault_of name.RecurrenceId v c q depth g
+pub at-recurrence_id : (v : Parts) (c : Component) (q : Place) (cl : Bool) (depth : ℕ) (g : Gathered) → flat_of (codes "RECURRENCE-ID") v q cl depth g (is_some g.event.recurrence) ≡ fault_of name.RecurrenceId v c q depth g
 at-recurrence_id v c place.Event cl depth g = refl
 at-recurrence_id v c _ cl depth g = refl
 

@@ -1,5 +1,5 @@
 -- What is gathered of a file, settled: its first fault of the second round, or what it says.
-use Rattle.std.proofs.Common.{◌≡◌, ℕ, ◌<◌, List, [], ◌∷◌, ◌++◌, map, length, take, drop, get_or, refl, sym, ap, ◌∙◌, subst, Option, Some, None, IfSome, Ok, Err}
+use Rattle.std.proofs.Common.{◌≡◌, ℕ, ◌<◌, List, [], ◌∷◌, ◌++◌, map, length, take, drop, get_or, refl, sym, ap, ◌∙◌, subst, Option, Some, None, Ok, Err}
 use Rattle.std.specs.List.{All, AllByRecursion, Contains}
 use Rattle.std.specs.Option.{option_map}
 use Rattle.std.proofs.Math.Seq.{take-append_seam}
@@ -24,6 +24,7 @@ use Rattle.ics_calendar.specs.GatheredSound.{IsSoundGathered}
 use Rattle.ics_calendar.specs.Laters.{KnownZones, zone_index, moment_at, judged}
 use Rattle.ics_calendar.specs.Ready.{IsReady}
 use Rattle.ics_calendar.proofs.EventsOf.{events-of}
+use Rattle.ics_calendar.proofs.Listed.{some-weaker, each-weaker}
 
 -- a local in the zone with an index
 pub moment-here : (zones : List Timeline) (local : Local) (i : ℕ) (d : Timeline) → i < length zones → moment_at (map phases_of zones) local i ≡ Some (zone_moment (phases_of (get_or zones i d)) (seconds_of local))
@@ -45,9 +46,8 @@ none-judged : (known : KnownZones) (ws : List Waiting) → first_judged known ws
 none-judged known [] e = tt
 none-judged known (w ∷ ws) e = let n = none-found w.line (judged known w.later) (first_judged known ws) e in (n.0, none-judged known ws n.1)
 
-awaited-fine : (known : KnownZones) (laters : List Later) → All (λ l. judged known l ≡ None) laters → (o : Option Later) → IfSome o (Contains laters) → IfSome o (λ l. judged known l ≡ None)
-awaited-fine known laters h None c = tt
-awaited-fine known laters h (Some l) c = All-contains (λ l. judged known l ≡ None) laters l h c
+awaited-fine : (known : KnownZones) (laters : List Later) → All (λ l. judged known l ≡ None) laters → (l : Later) → Contains laters l → judged known l ≡ None
+awaited-fine known laters h l c = All-contains (λ l. judged known l ≡ None) laters l h c
 
 pub ready : (g : GatheredSeen) → IsSoundGathered g → first_judged (known_in g) g.waits ≡ None → All (λ e. IsReady (known_in g) e.calendar e.had) g.events
 ready g s n =
@@ -56,9 +56,8 @@ ready g s n =
     let w = s.awaited i d l in
     record {
       whole = s.whole i d l;
-      start = awaited-fine (known_in g) _ fine _ w.start;
-      end = awaited-fine (known_in g) _ fine _ w.end;
-      length = awaited-fine (known_in g) _ fine _ w.length;
+      zones = each-weaker (Contains (map (λ w. w.later) g.waits)) (λ l. judged (known_in g) l ≡ None) (awaited-fine (known_in g) _ fine) _ _ w.zones;
+      length = some-weaker (Contains (map (λ w. w.later) g.waits)) (λ l. judged (known_in g) l ≡ None) (awaited-fine (known_in g) _ fine) _ w.length;
     }
 
 -- THE ANSWER, by a table of the names and the zones.

@@ -1,24 +1,19 @@
 -- What is collected of an event or of an observance is in order where no fault stands on its lines.
-use Rattle.std.proofs.Common.{◌≡◌, ◌≤◌, ◌+◌, ◌*◌, ap, ◌∙◌, ℕ, Bool, true, false, not, ◌&&◌, ◌||◌, nat_le, List, [], ◌∷◌, length, refl, sym, subst, arith, cond, Option, Some, None, is_some, IfSome, Result, Ok, Err, map, ℤ}
+use Rattle.std.proofs.Common.{◌≡◌, ◌≤◌, ◌+◌, ◌*◌, ℕ, Bool, true, false, ◌&&◌, ◌||◌, nat_le, List, [], ◌∷◌, length, refl, sym, subst, arith, cond, Option, Some, None, is_some, IfSome, Result, Ok, Err, map, ℤ}
 use Rattle.std.specs.List.{All, list_any}
 use Rattle.std.proofs.lemmas.Bool.Decides.{nat_tests}
 use Rattle.std.proofs.lemmas.Int.{ints}
-use Rattle.std.proofs.lemmas.List.Elements.{All-nil, All-cons, All-append}
+use Rattle.std.proofs.lemmas.List.Elements.{All-nil, All-cons, All-push, All-append}
 use Rattle.jiff_core.specs.Calendar.{IsWithin}
 use Rattle.ics_text.specs.Bytes.{upper}
 use Rattle.ics_text.specs.Contents.{Parts}
-use Rattle.ics_values.specs.Digits.{number_at}
-use Rattle.ics_values.specs.Durations.{duration_of}
 use Rattle.ics_values.specs.Offsets.{is_offset_form, is_offset_text, offset_hours, offset_minutes, offset_seconds, offset_size, offset_said, offset_of}
 use Rattle.ics_values.specs.Periods.{first_half, second_half, lasts}
 use Rattle.ics_values.specs.RuleParts.{RuleParts}
 use Rattle.ics_values.specs.RuleTexts.{pieces}
 use Rattle.ics_values.specs.Rules.{rule_of}
-use Rattle.ics_values.specs.Stamps.{is_stamp_text, is_stamp_year, year_of, stamp_said, stamp_of, stamp_day, IsStampDay}
+use Rattle.ics_values.specs.Stamps.{stamp_of}
 use Rattle.ics_values.specs.Texts.{begins, is_minus, with_sign}
-use Rattle.ics_values.specs.declared.duration.Duration.{Duration}
-use Rattle.ics_values.specs.declared.duration.DurationFault.{DurationFault}
-use Rattle.ics_values.specs.declared.duration.DurationFault.TheVariants as duration
 use Rattle.ics_values.specs.declared.offset.BadOffset.{BadOffset}
 use Rattle.ics_values.specs.declared.rule_text.RuleFault.{RuleFault}
 use Rattle.ics_values.specs.declared.rule_text.RuleFault.TheVariants as rule
@@ -26,7 +21,6 @@ use Rattle.ics_values.specs.declared.stamp.Stamp.{Stamp}
 use Rattle.ics_values.specs.declared.stamp.Stamp.TheVariants.{Date, Floating, Utc, Zoned}
 use Rattle.ics_values.specs.declared.stamp.StampFault.{StampFault}
 use Rattle.ics_values.specs.declared.stamp.StampFault.TheVariants as stamp
-use Rattle.ics_values.proofs.StampLemmas.{stamp_day-said, date_of-stamp, day_number_range, stamp_years}
 use Rattle.ics_calendar.specs.declared.collected.Collected.{Collected}
 use Rattle.ics_calendar.specs.declared.component.Component.{Component}
 use Rattle.ics_calendar.specs.declared.component.Place.{Place}
@@ -34,8 +28,6 @@ use Rattle.ics_calendar.specs.declared.component.Place.TheVariants as place
 use Rattle.ics_calendar.specs.declared.date_values.DateValue.{DateValue}
 use Rattle.ics_calendar.specs.declared.date_values.DateValue.TheVariants.{At, Between, Lasting}
 use Rattle.ics_calendar.specs.declared.dated.Dated.{Dated}
-use Rattle.ics_calendar.specs.declared.fault.FaultKind.{FaultKind}
-use Rattle.ics_calendar.specs.declared.fault.FaultKind.TheVariants as kind
 use Rattle.ics_calendar.specs.declared.frame.Frame.{Frame}
 use Rattle.ics_calendar.specs.declared.name.Name.{Name}
 use Rattle.ics_calendar.specs.declared.name.Name.TheVariants as name
@@ -46,15 +38,16 @@ use Rattle.ics_calendar.specs.declared.summary.Summary.{Summary}
 use Rattle.ics_calendar.specs.declared.summary.Summary.TheVariants as summary
 use Rattle.ics_calendar.specs.Collecting.{or_first, note_event}
 use Rattle.ics_calendar.specs.Components.{component_of, place_in}
-use Rattle.ics_calendar.specs.DateValues.{date_time_of, has_slash, rdate_of, rdates_of, has_bad_stamp, has_far_stamp, has_bad_duration, has_large_duration, is_local, is_not_local}
-use Rattle.ics_calendar.specs.LineFaults.{stamp_fault, event_fault, offset_fault, field_fault, zone_rule_fault, rule_fault, dates_fault, observance_fault, property_fault, inside_fault, end_of, fault_at, fault_in, fault_on}
+use Rattle.ics_calendar.specs.DateValues.{date_time_of, has_slash, rdate_of, rdates_of, is_local, is_not_local}
+use Rattle.ics_calendar.specs.LineFaults.{stamp_fault, event_fault, offset_fault, field_fault, zone_rule_fault, rule_fault, observance_fault, property_fault, inside_fault, end_of, fault_at, fault_in, fault_on}
 use Rattle.ics_calendar.specs.Names.{name_of}
 use Rattle.ics_calendar.specs.Pass.{behind, closed}
 use Rattle.ics_calendar.specs.Reading.{event_property, calendar_property, zone_property, observance_property, property_at, read_as, read_on}
-use Rattle.ics_calendar.specs.Sound.{IsSoundStamp, IsSoundDuration, IsSound}
+use Rattle.ics_calendar.specs.Sound.{IsSoundStamp, IsSoundDuration, IsSoundList, IsSound}
 use Rattle.ics_calendar.specs.Summaries.{fresh, note, note_observance}
-use Rattle.ics_calendar.specs.Values.{zone_name, dated_of, lasting_of, is_lasting, allowed, is_fine, is_fine_rule}
+use Rattle.ics_calendar.specs.Values.{zone_name, lasting_of, is_fine, is_fine_rule}
 use Rattle.ics_calendar.proofs.Frames.{behind-at}
+use Rattle.ics_calendar.proofs.SoundValues.{stamp-range, sound-dated, sound-length, no-fault, sound-rdates, sound-exdates}
 
 -- WHAT IS COLLECTED of an observance: locals in order, offsets of less than a day, and a rule that repeats no more often than daily.
 abbrev pub IsSoundLocal : DateValue → Type 0
@@ -90,19 +83,6 @@ abbrev pub AreSound : List Frame → Type 0
 AreSound [] = Unit {0}
 AreSound (f ∷ fs) = IsSoundAt f.place f.summary × AreSound fs
 
--- A stamp lies in the years of stamps.
-stamp-range : (zoned : Bool) (text : List ℕ) (s : Stamp) → stamp_of zoned text ≡ Ok s → IsStampDay (stamp_day s)
-stamp-range zoned text s e = by_tests (is_stamp_text text) (is_stamp_year (year_of text)) refl refl e
-  where
-    by_tests : (t y : Bool) → is_stamp_text text ≡ t → is_stamp_year (year_of text) ≡ y → cond (not t) (Err stamp.BadStamp) (cond (not y) (Err stamp.YearRange) (Ok (stamp_said zoned text))) ≡ Ok s → IsStampDay (stamp_day s)
-    by_tests true true t y e =
-        let years = stamp_years (year_of text) y in
-        let said : stamp_said zoned text ≡ s = cc in
-        subst (λ (d : ℤ). IsStampDay d) (sym (stamp_day-said zoned text) ∙ ap stamp_day said)
-        (day_number_range (year_of text) (number_at text 4 6) (number_at text 6 8) (date_of-stamp text t) years.0 years.1)
-    by_tests true false t y e = cc
-    by_tests false y t h e = cc
-
 -- An offset is less than a day.
 offset-small : (text : List ℕ) → is_offset_text text ≡ true → offset_size text ≤ 86_399
 offset-small text t = by_tests (is_offset_form text) (offset_hours text) (offset_minutes text) (offset_seconds text) t
@@ -129,30 +109,18 @@ abbrev IsRead : Property → Type 0
 IsRead (property.Dtstart dated) = IsSoundStamp dated.stamp
 IsRead (property.Dtend dated) = IsSoundStamp dated.stamp
 IsRead (property.Duration duration) = IsSoundDuration duration
+IsRead (property.Rdate list) = IsSoundList list
+IsRead (property.Exdate list) = IsSoundList list
+IsRead (property.RecurrenceId dated range) = IsSoundStamp dated.stamp
 IsRead _ = Unit {0}
-
-sound-dated : (params value : List ℕ) (more : Option FaultKind) → stamp_fault (dated_of params value).stamp more ≡ None → IsSoundStamp (dated_of params value).stamp
-sound-dated params value more = by_result (stamp_of (is_some (zone_name params)) value) refl
-  where
-    by_result : (r : Result Stamp StampFault) → stamp_of (is_some (zone_name params)) value ≡ r → stamp_fault r more ≡ None → IsSoundStamp r
-    by_result (Ok s) e f = stamp-range (is_some (zone_name params)) value s e
-    by_result (Err stamp.BadStamp) e f = cc
-    by_result (Err stamp.YearRange) e f = cc
-
-allowed-sound : (minus : Bool) (r : Result Duration DurationFault) → IsSoundDuration (allowed minus r)
-allowed-sound minus (Ok d) = by_test (is_lasting d) refl
-  where
-    by_test : (t : Bool) → is_lasting d ≡ t → IsSoundDuration (cond t (Ok d) (Err duration.BadDuration))
-    by_test true e = e
-    by_test false e = tt
-allowed-sound minus (Err duration.BadDuration) = tt
-allowed-sound true (Err duration.NumberTooLarge) = tt
-allowed-sound false (Err duration.NumberTooLarge) = tt
 
 read-event : (n : Name) (v : Parts) (had : Collected) → event_fault (event_property n v) had ≡ None → IsRead (event_property n v)
 read-event name.Dtstart v had e = sound-dated v.params v.value _ e
 read-event name.Dtend v had e = sound-dated v.params v.value _ e
-read-event name.Duration v had e = allowed-sound (begins is_minus v.value) (duration_of v.value)
+read-event name.Duration v had e = sound-length v.value _ e
+read-event name.Rdate v had e = sound-rdates (is_some (zone_name v.params)) v.value e
+read-event name.Exdate v had e = sound-exdates (is_some (zone_name v.params)) v.value e
+read-event name.RecurrenceId v had e = sound-dated v.params v.value _ e
 read-event _ v had e = tt
 
 abbrev IsReadPart : Property → Type 0
@@ -224,21 +192,12 @@ sound-dates (t ∷ ts) e = by_test (sound-dates ts) (is_not_local (rdate_of fals
     by_test again true f e = cc
     by_test again false f e = All-cons IsSoundLocal (rdate_of false t) (map (rdate_of false) ts) (sound-date t f) (again e)
 
-no-more : (b : Bool) (k : FaultKind) (more : Option FaultKind) → cond b (Some k) more ≡ None → more ≡ None
-no-more true k more e = cc
-no-more false k more e = e
-
-dates-more : (values : List DateValue) (more : Option FaultKind) → dates_fault values more ≡ None → more ≡ None
-dates-more values more e =
-    no-more (list_any has_large_duration values) kind.NumberTooLarge more
-    (no-more (list_any has_far_stamp values) kind.YearRange _ (no-more (list_any has_bad_duration values) kind.BadDuration _ (no-more (list_any has_bad_stamp values) kind.BadStamp _ e)))
-
 read-part : (n : Name) (v : Parts) (had : ObservanceSummary) → observance_fault (observance_property n v) had ≡ None → IsReadPart (observance_property n v)
 read-part name.Dtstart v had e = sound-onset v.value (is_some had.start) e
 read-part name.OffsetFrom v had e = sound-offset v.value (is_some had.from) e
 read-part name.OffsetTo v had e = sound-offset v.value (is_some had.to) e
 read-part name.Rrule v had e = sound-rule (is_some had.rule) (rule_of v.value) e
-read-part name.Rdate v had e = sound-dates (pieces 44 v.value) (no-field (list_any is_not_local (rdates_of false v.value)) (dates-more (rdates_of false v.value) (field_fault (list_any is_not_local (rdates_of false v.value))) e))
+read-part name.Rdate v had e = sound-dates (pieces 44 v.value) (no-field (list_any is_not_local (rdates_of false v.value)) (no-fault (rdates_of false v.value) (field_fault (list_any is_not_local (rdates_of false v.value))) e).4)
 read-part _ v had e = tt
 
 -- A LINE keeps what is collected in order.
@@ -247,10 +206,13 @@ first-kept P (Some y) x h k = h
 first-kept P None x h k = k
 
 noted-sound : (p : Property) (had : Collected) → IsSound had → IsRead p → IsSound (note_event p had)
-noted-sound (property.Dtstart dated) had s r = record { start = first-kept (λ (d : Dated). IsSoundStamp d.stamp) had.start dated s.start r; end = s.end; duration = s.duration }
-noted-sound (property.Dtend dated) had s r = record { start = s.start; end = first-kept (λ (d : Dated). IsSoundStamp d.stamp) had.end dated s.end r; duration = s.duration }
-noted-sound (property.Duration duration) had s r = record { start = s.start; end = s.end; duration = first-kept IsSoundDuration had.duration duration s.duration r }
-noted-sound _ had s r = record { start = s.start; end = s.end; duration = s.duration }
+noted-sound (property.Dtstart dated) had s r = record { start = first-kept (λ (d : Dated). IsSoundStamp d.stamp) had.start dated s.start r; end = s.end; duration = s.duration; rdates = s.rdates; exdates = s.exdates; recurrence = s.recurrence }
+noted-sound (property.Dtend dated) had s r = record { start = s.start; end = first-kept (λ (d : Dated). IsSoundStamp d.stamp) had.end dated s.end r; duration = s.duration; rdates = s.rdates; exdates = s.exdates; recurrence = s.recurrence }
+noted-sound (property.Duration duration) had s r = record { start = s.start; end = s.end; duration = first-kept IsSoundDuration had.duration duration s.duration r; rdates = s.rdates; exdates = s.exdates; recurrence = s.recurrence }
+noted-sound (property.Rdate list) had s r = record { start = s.start; end = s.end; duration = s.duration; rdates = All-push IsSoundList had.rdates list s.rdates r; exdates = s.exdates; recurrence = s.recurrence }
+noted-sound (property.Exdate list) had s r = record { start = s.start; end = s.end; duration = s.duration; rdates = s.rdates; exdates = All-push IsSoundList had.exdates list s.exdates r; recurrence = s.recurrence }
+noted-sound (property.RecurrenceId dated range) had s r = record { start = s.start; end = s.end; duration = s.duration; rdates = s.rdates; exdates = s.exdates; recurrence = first-kept (λ (d : Dated). IsSoundStamp d.stamp) had.recurrence dated s.recurrence r }
+noted-sound _ had s r = record { start = s.start; end = s.end; duration = s.duration; rdates = s.rdates; exdates = s.exdates; recurrence = s.recurrence }
 
 noted-part : (p : Property) (had : ObservanceSummary) → IsSoundPart had → IsReadPart p → IsSoundPart (note_observance p had)
 noted-part (property.Onset stamp) had s r = record { start = first-kept (λ stamp. IsSoundLocal (At stamp)) had.start stamp s.start r; from = s.from; to = s.to; rule = s.rule; rdates = s.rdates }
@@ -309,7 +271,7 @@ kept-at place.Elsewhere n v summary.Nothing h e = tt
 kept-at _ n v _ h e = absurd h
 
 kept-begin : (c : Component) (q : Place) (s : Summary) → IsSoundAt q s → IsSoundAt q (note (property.Begin c) s)
-kept-begin c place.Event (summary.Event had) h = record { start = h.start; end = h.end; duration = h.duration }
+kept-begin c place.Event (summary.Event had) h = record { start = h.start; end = h.end; duration = h.duration; rdates = h.rdates; exdates = h.exdates; recurrence = h.recurrence }
 kept-begin c place.Observance (summary.Observance had) h = record { start = h.start; from = h.from; to = h.to; rule = h.rule; rdates = h.rdates }
 kept-begin c place.Zone (summary.Zone had) h = tt
 kept-begin c place.Outside summary.Nothing h = tt
@@ -318,7 +280,7 @@ kept-begin c place.Elsewhere summary.Nothing h = tt
 kept-begin c _ _ h = absurd h
 
 fresh-sound : (q : Place) → IsSoundAt q (fresh q)
-fresh-sound place.Event = record { start = tt; end = tt; duration = tt }
+fresh-sound place.Event = record { start = tt; end = tt; duration = tt; rdates = All-nil IsSoundList; exdates = All-nil IsSoundList; recurrence = tt }
 fresh-sound place.Observance = record { start = tt; from = tt; to = tt; rule = tt; rdates = All-nil IsSoundLocal }
 fresh-sound _ = tt
 

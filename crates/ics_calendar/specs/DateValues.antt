@@ -10,7 +10,7 @@ use Rattle.ics_values.specs.declared.stamp.StampFault.{StampFault}
 use Rattle.ics_values.specs.declared.stamp.StampFault.TheVariants as stamp
 use Rattle.ics_calendar.specs.declared.date_values.DateValue.{DateValue}
 use Rattle.ics_calendar.specs.declared.date_values.DateValue.TheVariants.{At, Between, Lasting}
-use Rattle.ics_calendar.specs.Values.{is_bad_stamp, is_far_stamp, lasting_of, is_bad_duration, is_large_duration}
+use Rattle.ics_calendar.specs.Values.{is_bad_stamp, is_far_stamp, is_zoned_stamp, lasting_of, is_bad_duration, is_large_duration}
 
 -- a half of a PERIOD that is a stamp: no DATE
 abbrev pub date_time_of : Bool → List ℕ → Result Stamp StampFault
@@ -57,6 +57,12 @@ has_bad_duration _ = false
 abbrev pub has_large_duration : DateValue → Bool
 has_large_duration (Lasting start duration) = is_large_duration duration
 has_large_duration _ = false
+
+-- a local stamp beside a TZID
+abbrev pub has_zoned : DateValue → Bool
+has_zoned (At stamp) = is_zoned_stamp stamp
+has_zoned (Between start end) = is_zoned_stamp start || is_zoned_stamp end
+has_zoned (Lasting start duration) = is_zoned_stamp start
 
 -- a local stamp, read without a TZID
 abbrev pub is_local : DateValue → Bool

@@ -12,6 +12,8 @@ use Rattle.ics_zone.specs.Tables.{Timeline, phases_of}
 use Rattle.ics_calendar.specs.declared.time.Time.{Time}
 use Rattle.ics_calendar.specs.declared.time.Length.{Length}
 use Rattle.ics_calendar.specs.declared.time.Length.TheVariants.{Open, Until, Lasting}
+use Rattle.ics_calendar.specs.declared.time.Rdate.{Rdate}
+use Rattle.ics_calendar.specs.declared.time.Rdate.TheVariants.{At, Span}
 
 -- An event.
 pub record EventSeen : Type 0 where
@@ -20,6 +22,9 @@ pub record EventSeen : Type 0 where
   pub start : Time
   pub length : Length
   pub rule : Option RuleParts
+  pub rdates : List Rdate
+  pub exdates : List Time
+  pub recurrence : Option Time
   pub title : List ℕ
   pub location : List ℕ
   pub description : List ℕ
@@ -86,20 +91,44 @@ IsLength start Open = Unit {0}
 IsLength start (Until end) = IsTime end × IsEnd start end.stamp
 IsLength start (Lasting duration) = IsLasting duration
 
+-- The length of a PERIOD: an end, which may also lie before its start, or a duration.
+abbrev pub IsSpan : Length → Type 0
+IsSpan Open = ⊥
+IsSpan (Until end) = IsTime end
+IsSpan (Lasting duration) = IsLasting duration
+
+abbrev pub IsRdate : Rdate → Type 0
+IsRdate (At time) = IsTime time
+IsRdate (Span start length) = IsTime start × IsSpan length
+
 -- What holds of each event of a file.
 pub record IsEvent (event : EventSeen) : Type 0 where
   pub named : event.uid ≢ []
   pub start : IsTime event.start
   pub length : IsLength event.start.stamp event.length
+  pub rdates : All IsRdate event.rdates
+  pub exdates : All IsTime event.exdates
+  pub recurrence : IfSome event.recurrence IsTime
+
+-- The zones that a time, a length and a value of an RDATE name are among so many.
+abbrev pub TimeBelow : ℕ → Time → Type 0
+TimeBelow zones time = IfSome time.zone (λ zone. zone < zones)
 
 abbrev pub EndsBelow : ℕ → Length → Type 0
-EndsBelow zones (Until end) = IfSome end.zone (λ zone. zone < zones)
+EndsBelow zones (Until end) = TimeBelow zones end
 EndsBelow zones _ = Unit {0}
+
+abbrev pub RdateBelow : ℕ → Rdate → Type 0
+RdateBelow zones (At time) = TimeBelow zones time
+RdateBelow zones (Span start length) = TimeBelow zones start × EndsBelow zones length
 
 -- The zones that an event names are among so many.
 pub record HasZonesBelow (zones : ℕ) (event : EventSeen) : Type 0 where
-  pub start : IfSome event.start.zone (λ zone. zone < zones)
+  pub start : TimeBelow zones event.start
   pub length : EndsBelow zones event.length
+  pub rdates : All (RdateBelow zones) event.rdates
+  pub exdates : All (TimeBelow zones) event.exdates
+  pub recurrence : IfSome event.recurrence (TimeBelow zones)
 
 -- the instant that a local means in a zone, if there is one
 abbrev pub moment_by : Option (List Phase) → Local → ℤ

@@ -13,25 +13,24 @@ use Rattle.ics_values.specs.declared.duration.DurationFault.{DurationFault}
 use Rattle.ics_values.specs.declared.rule_text.RuleFault.{RuleFault}
 use Rattle.ics_calendar.specs.declared.component.Place.{Place}
 use Rattle.ics_calendar.specs.declared.component.Place.TheVariants as place
+use Rattle.ics_calendar.specs.declared.date_list.DateList.{DateList}
 use Rattle.ics_calendar.specs.declared.date_values.DateValue.{DateValue}
 use Rattle.ics_calendar.specs.declared.date_values.DateValue.TheVariants.{At}
 use Rattle.ics_calendar.specs.declared.dated.Dated.{Dated}
 use Rattle.ics_calendar.specs.declared.fault.FaultKind.{FaultKind}
-use Rattle.ics_calendar.specs.declared.fault.FaultKind.TheVariants.{BadLine, BadStamp, BadDuration, BadOffset, BadRule, YearRange, NumberTooLarge, NoObservance, ObservanceField, ZoneRule, NotCalendar, BadNesting, TooDeep, MissingUid, MissingStart, Repeated, BadEnd, UnknownZone, ThisAndFuture, Exrule, OldVersion, NotYet}
+use Rattle.ics_calendar.specs.declared.fault.FaultKind.TheVariants.{BadLine, BadStamp, BadDuration, BadOffset, BadRule, YearRange, NumberTooLarge, NoObservance, ObservanceField, ZoneRule, NotCalendar, BadNesting, TooDeep, MissingUid, MissingStart, Repeated, BadEnd, UnknownZone, ThisAndFuture, Exrule, OldVersion}
 use Rattle.ics_calendar.specs.Placed.{Placed, place_of, property_name, value, params_of, is_named, is_one_of, param, is_begin, is_end, is_outside, in_calendar, in_event, in_observance, calendar_of, begins, is_closing, ends_event, ends_zone, begins_observance, has, has_all, first_named}
-use Rattle.ics_calendar.specs.Laters.{KnownZones, zone_used, ends_badly_later}
-use Rattle.ics_calendar.specs.DateValues.{rdates_of, exdates_of, has_bad_stamp, has_far_stamp, has_bad_duration, has_large_duration, is_not_local}
+use Rattle.ics_calendar.specs.Laters.{KnownZones, zone_named, ends_badly_later}
+use Rattle.ics_calendar.specs.DateLists.{rdate_list, exdate_list}
+use Rattle.ics_calendar.specs.DateValues.{rdates_of, has_bad_stamp, has_far_stamp, has_bad_duration, has_large_duration, has_zoned, is_not_local}
 use Rattle.ics_calendar.specs.Values.{zone_name, dated_of, is_bad_stamp, is_far_stamp, is_zoned_stamp, lasting_of, is_bad_duration, is_large_duration, is_bad_offset, is_bad_rule, is_large_rule, is_fine_rule, is_large_integer, is_filled, ends_badly}
 
--- the properties of an event that hold one stamp, those that it has at most once, and those that are not read yet
+-- the properties of an event that hold one stamp, and those that it has at most once
 abbrev pub stamp_names : List (List ℕ)
 stamp_names = codes "DTSTART" ∷ codes "DTEND" ∷ codes "RECURRENCE-ID" ∷ []
 
 abbrev pub single_names : List (List ℕ)
 single_names = codes "UID" ∷ codes "DTSTART" ∷ codes "DTEND" ∷ codes "DURATION" ∷ codes "RRULE" ∷ codes "RECURRENCE-ID" ∷ codes "SEQUENCE" ∷ []
-
-abbrev pub unread_names : List (List ℕ)
-unread_names = codes "RDATE" ∷ codes "EXDATE" ∷ codes "RECURRENCE-ID" ∷ []
 
 -- the properties that a time zone or an observance has exactly once
 abbrev pub field_names : Place → List (List ℕ)
@@ -66,12 +65,17 @@ lasting_on line = lasting_of (value line)
 abbrev pub rule_on : Placed → Result RuleParts RuleFault
 rule_on line = rule_of (value line)
 
--- what its values say, if it is an RDATE or an EXDATE
+-- what a line lists, read as an RDATE and as an EXDATE, and its values, if it is one of them
+abbrev pub rdates_on : Placed → DateList
+rdates_on line = rdate_list (params_of line.content) (value line)
+
+abbrev pub exdates_on : Placed → DateList
+exdates_on line = exdate_list (params_of line.content) (value line)
+
 abbrev pub dates_on : Placed → List DateValue
 dates_on line =
-    let zoned = is_some (zone_name (params_of line.content)) in
-    if is_named (codes "RDATE") line then rdates_of zoned (value line)
-    else if is_named (codes "EXDATE") line then exdates_of zoned (value line)
+    if is_named (codes "RDATE") line then (rdates_on line).values
+    else if is_named (codes "EXDATE") line then (exdates_on line).values
     else []
 
 -- a property of an event with a value that passes
@@ -129,15 +133,14 @@ stands BadEnd beside line =
 stands ThisAndFuture beside line = is_property (codes "RECURRENCE-ID") line && is_some (param (codes "RANGE") line)
 stands Exrule beside line = is_property (codes "EXRULE") line
 stands OldVersion beside line = in_calendar line && is_named (codes "VERSION") line && bytes_eq (value line) (codes "1.0")
-stands NotYet beside line = is_event_property unread_names line
 stands _ beside line = false
 
--- a stamp in a time zone, and whether its calendar has one of that name
+-- a property of an event with a stamp in a time zone, and whether its calendar has one of the name in its TZID
 abbrev pub is_in_zone : Placed → Bool
-is_in_zone line = is_event_property stamp_names line && is_zoned_stamp (dated_on line).stamp
+is_in_zone line = has_date has_zoned line || (is_event_property stamp_names line && is_zoned_stamp (dated_on line).stamp)
 
 abbrev pub has_zone : KnownZones → Placed → Bool
-has_zone known line = is_some (known.index (zone_used (calendar_of line.path) (dated_on line)))
+has_zone known line = is_some (known.index (zone_named (calendar_of line.path) (zone_name (params_of line.content))))
 
 -- THE SECOND ROUND, of zones and instants, given the time zones of the file.
 abbrev pub stands_later : KnownZones → FaultKind → List Placed → Placed → Bool
@@ -148,5 +151,4 @@ stands_later known _ beside line = false
 -- the kinds of faults on lines, the least first
 abbrev pub kinds : List FaultKind
 kinds =
-    BadLine ∷ BadStamp ∷ BadDuration ∷ BadOffset ∷ BadRule ∷ YearRange ∷ NumberTooLarge ∷ NoObservance ∷ ObservanceField ∷ ZoneRule ∷ NotCalendar ∷ BadNesting ∷ TooDeep ∷ MissingUid ∷ MissingStart ∷ Repeated ∷ BadEnd ∷ UnknownZone ∷ ThisAndFuture ∷ Exrule ∷ OldVersion
-    ∷ NotYet ∷ []
+    BadLine ∷ BadStamp ∷ BadDuration ∷ BadOffset ∷ BadRule ∷ YearRange ∷ NumberTooLarge ∷ NoObservance ∷ ObservanceField ∷ ZoneRule ∷ NotCalendar ∷ BadNesting ∷ TooDeep ∷ MissingUid ∷ MissingStart ∷ Repeated ∷ BadEnd ∷ UnknownZone ∷ ThisAndFuture ∷ Exrule ∷ OldVersion ∷ []

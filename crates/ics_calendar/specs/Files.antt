@@ -4,13 +4,14 @@ use Rattle.ics_text.specs.Unfolded.{begins_with_fold}
 use Rattle.ics_values.specs.Integers.{integer_of}
 use Rattle.ics_calendar.specs.declared.fault.FaultKind.TheVariants.{BadFold}
 use Rattle.ics_calendar.specs.declared.later.ZoneName.{ZoneName}
+use Rattle.ics_calendar.specs.DateLists.{rdates_by, exdates_by}
 use Rattle.ics_calendar.specs.Event.{EventSeen, FileSaid}
 use Rattle.ics_calendar.specs.Laters.{zone_index}
-use Rattle.ics_calendar.specs.Placed.{Placed, placed, value, in_calendar, begins, calendar_of, lines_in, first_named}
-use Rattle.ics_calendar.specs.Times.{time_of, length_of}
+use Rattle.ics_calendar.specs.Placed.{Placed, placed, value, in_calendar, begins, calendar_of, lines_in, first_named, all_named}
+use Rattle.ics_calendar.specs.Times.{time_on, time_of, length_of}
 use Rattle.ics_calendar.specs.Zones.{zones_of, zone_names, zones_on}
 use Rattle.ics_calendar.specs.Values.{rule_in, ok_or_zero, is_cancelled}
-use Rattle.ics_calendar.specs.Faults.{first_text, first_dated, lasting_on, rule_on, stands, stands_later}
+use Rattle.ics_calendar.specs.Faults.{first_text, first_dated, lasting_on, rule_on, rdates_on, exdates_on, stands, stands_later}
 use Rattle.ics_calendar.specs.FirstFault.{Fault, IsFirst, IsFirstOrLast, NoneStand, fault_at_end, first_fault, later_fault}
 
 -- An event of a calendar, by the lines that stand directly in it, given the index of the zone that a name stands for.
@@ -21,6 +22,9 @@ event_by index calendar own = record {
   start = time_of index calendar (first_dated (codes "DTSTART") own);
   length = length_of index calendar (first_dated (codes "DTEND") own) (option_map lasting_on (first_named (codes "DURATION") own));
   rule = rule_in (option_map rule_on (first_named (codes "RRULE") own));
+  rdates = rdates_by index calendar (map rdates_on (all_named (codes "RDATE") own));
+  exdates = exdates_by index calendar (map exdates_on (all_named (codes "EXDATE") own));
+  recurrence = option_map (time_on index calendar) (first_dated (codes "RECURRENCE-ID") own);
   title = unwrap_or (first_text (codes "SUMMARY") own) [];
   location = unwrap_or (first_text (codes "LOCATION") own) [];
   description = unwrap_or (first_text (codes "DESCRIPTION") own) [];

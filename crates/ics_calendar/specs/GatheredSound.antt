@@ -8,14 +8,14 @@ use Rattle.ics_calendar.specs.declared.later.Instant.TheVariants.{Utc, Zoned}
 use Rattle.ics_calendar.specs.declared.later.Later.{Later}
 use Rattle.ics_calendar.specs.declared.later.Later.TheVariants.{Ends}
 use Rattle.ics_calendar.specs.GatheredSeen.{GatheredSeen}
-use Rattle.ics_calendar.specs.LineFaults.{used_in, ends_in}
+use Rattle.ics_calendar.specs.LineFaults.{ends_in}
+use Rattle.ics_calendar.specs.Ready.{EachZone}
 use Rattle.ics_calendar.specs.Sound.{IsWhole}
 use Rattle.ics_calendar.specs.ZonesSound.{AreSoundZones}
 
 -- The second round looks at the zones of the event's stamps, and at its end against its start.
 pub record IsAwaited (waits : List Later) (event : EndedEvent) : Type 0 where
-  pub start : IfSome (used_in event.calendar event.had.start) (Contains waits)
-  pub end : IfSome (used_in event.calendar event.had.end) (Contains waits)
+  pub zones : EachZone (Contains waits) event.calendar event.had
   pub length : IfSome (ends_in event.calendar event.had.start event.had.end) (Contains waits)
 
 -- What is to be read in a time zone lies in the years of stamps.

@@ -1,5 +1,5 @@
 -- What the second round looks at, and what becomes of it when all time zones of the file are known (RFC 5545, section 3.8.2.4).
-use Rattle.std.specs.Prelude.{ℕ, Bool, false, ◌&&◌, not, ◌==◌, List, slice_get, Option, Some, None, is_some, option_map, Result, Ok, ℤ, if◌then◌else◌}
+use Rattle.std.specs.Prelude.{ℕ, Bool, false, ◌&&◌, not, ◌==◌, List, [], slice_get, unwrap_or, Option, Some, None, is_some, option_map, Result, Ok, ℤ, if◌then◌else◌}
 use Rattle.std.specs.List.{position}
 use Rattle.std.specs.Option.{option_and_then}
 use Rattle.std.specs.Str.{bytes_eq}
@@ -18,7 +18,7 @@ use Rattle.ics_calendar.specs.declared.later.Later.{Later}
 use Rattle.ics_calendar.specs.declared.later.Later.TheVariants as later
 use Rattle.ics_calendar.specs.declared.later.ZoneName.{ZoneName}
 use Rattle.ics_calendar.specs.Event.{seconds_of}
-use Rattle.ics_calendar.specs.Values.{is_zoned_stamp, tzid, same_zone, is_out}
+use Rattle.ics_calendar.specs.Values.{is_zoned_stamp, same_zone, is_out}
 
 -- the same name in the same calendar
 abbrev pub is_same : ZoneName → ZoneName → Bool
@@ -49,8 +49,11 @@ are_out (Some start) (Some end) = is_out start end
 are_out _ _ = false
 
 -- THE STAMPS OF AN EVENT in a calendar: the name of the zone that a TZID gives, and the instant of a stamp in UTC, or in a zone that is known.
+abbrev pub zone_named : ℕ → Option (List ℕ) → ZoneName
+zone_named calendar zone = record { calendar = calendar; name = unwrap_or zone [] }
+
 abbrev pub zone_used : ℕ → Dated → ZoneName
-zone_used calendar dated = record { calendar = calendar; name = tzid dated }
+zone_used calendar dated = zone_named calendar dated.zone
 
 abbrev pub moment_on : KnownZones → ZoneName → Result Stamp StampFault → Option ℤ
 moment_on known name (Ok (stamp.Utc local)) = Some (seconds_of local)

@@ -5,6 +5,7 @@ pub mod Components
 pub mod Placed
 pub mod Values
 pub mod DateValues
+pub mod DateLists
 pub mod Faults
 pub mod FirstFault
 pub mod Files

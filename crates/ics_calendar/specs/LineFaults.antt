@@ -14,6 +14,7 @@ use Rattle.ics_calendar.specs.declared.collected.Collected.{Collected}
 use Rattle.ics_calendar.specs.declared.component.Component.TheVariants as component
 use Rattle.ics_calendar.specs.declared.component.Place.{Place}
 use Rattle.ics_calendar.specs.declared.component.Place.TheVariants as place
+use Rattle.ics_calendar.specs.declared.date_list.DateList.{DateList}
 use Rattle.ics_calendar.specs.declared.date_values.DateValue.{DateValue}
 use Rattle.ics_calendar.specs.declared.date_values.DateValue.TheVariants.{At}
 use Rattle.ics_calendar.specs.declared.dated.Dated.{Dated}
@@ -32,8 +33,9 @@ use Rattle.ics_calendar.specs.declared.summary.Summary.{Summary}
 use Rattle.ics_calendar.specs.declared.summary.Summary.TheVariants as summary
 use Rattle.ics_calendar.specs.declared.summary.ZoneSummary.{ZoneSummary}
 use Rattle.ics_calendar.specs.Event.{seconds_of}
+use Rattle.ics_calendar.specs.DateLists.{zone_listed}
 use Rattle.ics_calendar.specs.Laters.{zone_used, are_of_one_zone}
-use Rattle.ics_calendar.specs.DateValues.{has_bad_stamp, has_far_stamp, has_bad_duration, has_large_duration, is_not_local}
+use Rattle.ics_calendar.specs.DateValues.{has_bad_stamp, has_far_stamp, has_bad_duration, has_large_duration, has_zoned, is_not_local}
 use Rattle.ics_calendar.specs.Values.{is_bad_stamp, is_far_stamp, is_zoned_stamp, is_bad_duration, is_large_duration, is_bad_offset, is_bad_rule, is_large_rule, is_fine_rule, is_large_integer, is_filled, is_out, ends_badly}
 
 -- THE LEAST FAULT of the first round.
@@ -89,7 +91,7 @@ dates_fault values more =
     else more
 
 abbrev pub range_fault : Bool → Option FaultKind
-range_fault range = if range then Some kind.ThisAndFuture else Some kind.NotYet
+range_fault range = if range then Some kind.ThisAndFuture else None
 
 abbrev pub event_fault : Property → Collected → Option FaultKind
 event_fault (property.Uid text) had = once (is_some had.uid) None
@@ -97,9 +99,10 @@ event_fault (property.Dtstart dated) had = stamp_fault dated.stamp (once (is_som
 event_fault (property.Dtend dated) had = stamp_fault dated.stamp (once (is_some had.end) None)
 event_fault (property.Duration duration) had = duration_fault duration (once (is_some had.duration) None)
 event_fault (property.Rrule rule) had = rule_fault rule (once (is_some had.rule) None)
-event_fault (property.RecurrenceId dated range) had = stamp_fault dated.stamp (once had.has_recurrence (range_fault range))
+event_fault (property.RecurrenceId dated range) had = stamp_fault dated.stamp (once (is_some had.recurrence) (range_fault range))
 event_fault (property.Sequence number) had = number_fault number (once (is_some had.sequence) None)
-event_fault (property.Dates values) had = dates_fault values (Some kind.NotYet)
+event_fault (property.Rdate list) had = dates_fault list.values None
+event_fault (property.Exdate list) had = dates_fault list.values None
 event_fault property.Exrule had = Some kind.Exrule
 event_fault _ had = None
 
@@ -159,6 +162,9 @@ fault_on p (f ∷ fs) = fault_in p f (length fs)
 abbrev pub used_zone : ℕ → Dated → Option Later
 used_zone calendar dated = if is_zoned_stamp dated.stamp then Some (later.Zone (zone_used calendar dated)) else None
 
+abbrev pub listed_zone : ℕ → DateList → Option Later
+listed_zone calendar list = if list_any has_zoned list.values then Some (later.Zone (zone_listed calendar list)) else None
+
 abbrev pub used_in : ℕ → Option Dated → Option Later
 used_in calendar None = None
 used_in calendar (Some dated) = used_zone calendar dated
@@ -194,6 +200,8 @@ later_in (property.End true) f = later_end f.calendar f.summary
 later_in (property.Dtstart dated) f = used_zone f.calendar dated
 later_in (property.Dtend dated) f = used_zone f.calendar dated
 later_in (property.RecurrenceId dated range) f = used_zone f.calendar dated
+later_in (property.Rdate list) f = listed_zone f.calendar list
+later_in (property.Exdate list) f = listed_zone f.calendar list
 later_in _ f = None
 
 abbrev pub later_on : Property → List Frame → Option Later

@@ -16,9 +16,10 @@ use Rattle.ics_calendar.specs.declared.name.Name.TheVariants as name
 use Rattle.ics_calendar.specs.declared.property.Property.{Property}
 use Rattle.ics_calendar.specs.declared.property.Property.TheVariants as property
 use Rattle.ics_calendar.specs.Components.{component_of, component_name}
-use Rattle.ics_calendar.specs.DateValues.{rdates_of, exdates_of}
+use Rattle.ics_calendar.specs.DateLists.{rdate_list, exdate_list}
+use Rattle.ics_calendar.specs.DateValues.{rdates_of}
 use Rattle.ics_calendar.specs.Names.{name_of}
-use Rattle.ics_calendar.specs.Values.{zone_name, dated_of, lasting_of, is_cancelled}
+use Rattle.ics_calendar.specs.Values.{dated_of, lasting_of, is_cancelled}
 
 abbrev pub event_property : Name → Parts → Property
 event_property name.Uid c = property.Uid (text_of c.value)
@@ -28,8 +29,8 @@ event_property name.Duration c = property.Duration (lasting_of c.value)
 event_property name.Rrule c = property.Rrule (rule_of c.value)
 event_property name.RecurrenceId c = property.RecurrenceId (dated_of c.params c.value) (is_some (param_of (codes "RANGE") c.params))
 event_property name.Sequence c = property.Sequence (integer_of c.value)
-event_property name.Rdate c = property.Dates (rdates_of (is_some (zone_name c.params)) c.value)
-event_property name.Exdate c = property.Dates (exdates_of (is_some (zone_name c.params)) c.value)
+event_property name.Rdate c = property.Rdate (rdate_list c.params c.value)
+event_property name.Exdate c = property.Exdate (exdate_list c.params c.value)
 event_property name.Exrule c = property.Exrule
 event_property name.Summary c = property.Summary (text_of c.value)
 event_property name.Location c = property.Location (text_of c.value)

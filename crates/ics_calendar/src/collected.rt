@@ -1,25 +1,28 @@
 //! What has been read of an event so far.
-ghost use Rattle.std.specs.Prelude.{◌≡◌, List, [], unwrap_or};
+ghost use Rattle.std.specs.Prelude.{◌≡◌, List, option_map, IfOk};
 ghost use Rattle.ics_zone.specs.Observances.{Phase};
 ghost use Rattle.ics_calendar.specs.Values.{ends_badly, is_filled, rule_in};
-ghost use Rattle.ics_calendar.specs.Times.{zone_of, time_of, length_of};
-ghost use Rattle.ics_calendar.specs.Collecting.{nothing, note_event, or_first, event_from};
+ghost use Rattle.ics_calendar.specs.Laters.{zone_used};
+ghost use Rattle.ics_calendar.specs.Times.{zone_in, time_on, time_of, length_of};
+ghost use Rattle.ics_calendar.specs.Collecting.{nothing, note_first, note_event, or_first, event_from};
 ghost use Rattle.ics_calendar.specs.LineFaults.{end_of_event};
 ghost use Rattle.ics_calendar.specs.ZoneTables.{index_in};
 ghost use Rattle.ics_calendar.specs.Ready.{IsReady};
 
+use crate::date_list::DateLists;
 use crate::dated::Dated;
 use crate::ends::ends_badly;
 use crate::event::Event;
 use crate::fault::FaultKind;
+use crate::later::ZoneName;
 use crate::property::Property;
-use crate::text::Text;
+use crate::text::{Text, text_or_empty};
 use crate::time::{Length, Time};
 use crate::zone_table::ZoneTable;
 use ics_values::{Duration, DurationFault, Parts, RuleFault, Stamp};
-use std::alloc::Global;
+use std::alloc::{AllocError, Global};
 
-/// The first value of each property of an event, and whether it has had the others that it may have once.
+/// The first value of each property that an event may have once, and what all its RDATEs and EXDATEs list.
 #[derive(Drop)]
 pub struct Collected {
     pub uid: Option<Text>,
@@ -27,7 +30,9 @@ pub struct Collected {
     pub end: Option<Dated>,
     pub duration: Option<Result<Duration, DurationFault>>,
     pub rule: Option<Result<Parts, RuleFault>>,
-    pub has_recurrence: bool,
+    pub rdates: DateLists,
+    pub exdates: DateLists,
+    pub recurrence: Option<Dated>,
     pub sequence: Option<u32>,
     pub title: Option<Text>,
     pub location: Option<Text>,
@@ -61,37 +66,48 @@ fn is_filled(text: &Option<Text>) -> bool
     }
 }
 
-/// The text, or an empty one.
-pub fn text_or_empty(alloc: Global, text: Option<Text>) -> Text
-    ensures { result ≡ unwrap_or text [] }
-{
-    match text {
-        Some(text) => text,
-        None => Text::new(alloc),
-    }
-}
-
 fn zone_of(alloc: Global, table: &ZoneTable, calendar: u64, dated: Dated) -> Option<u32>
-    ensures { result ≡ zone_of (index_in table.now) calendar dated }
+    ensures { result ≡ zone_in (index_in table.now (zone_used calendar dated)) dated.stamp }
 {
     if !dated.is_zoned() {
         return None;
     }
-    table.index(&dated.into_zone_name(alloc, calendar))
+    table.index(&ZoneName::of(alloc, calendar, dated.zone))
+}
+
+fn time_on(alloc: Global, table: &ZoneTable, calendar: u64, dated: Dated) -> Time
+    ensures { result ≡ time_on (index_in table.now) calendar dated }
+{
+    Time {
+        stamp: dated.stamp.unwrap_or(Stamp::Date(0)),
+        zone: zone_of(alloc, table, calendar, dated),
+    }
 }
 
 fn time_of(alloc: Global, table: &ZoneTable, calendar: u64, dated: Option<Dated>) -> Time
     ensures { result ≡ time_of (index_in table.now) calendar dated }
 {
     match dated {
-        Some(dated) => Time {
-            stamp: dated.stamp.unwrap_or(Stamp::Date(0)),
-            zone: zone_of(alloc, table, calendar, dated),
-        },
+        Some(dated) => time_on(alloc, table, calendar, dated),
         None => Time {
             stamp: Stamp::Date(0),
             zone: None,
         },
+    }
+}
+
+/// The time of a RECURRENCE-ID, if there is one.
+fn recurrence_of(
+    alloc: Global,
+    table: &ZoneTable,
+    calendar: u64,
+    recurrence: Option<Dated>,
+) -> Option<Time>
+    ensures { result ≡ option_map (time_on (index_in table.now) calendar) recurrence }
+{
+    match recurrence {
+        Some(dated) => Some(time_on(alloc, table, calendar, dated)),
+        None => None,
     }
 }
 
@@ -125,7 +141,7 @@ pub fn rule_in(rule: Option<Result<Parts, RuleFault>>) -> Option<Parts>
 
 impl Collected {
     /// What an event has that has only begun.
-    pub fn nothing() -> Collected
+    pub fn nothing(alloc: Global) -> Collected
         ensures { result ≡ nothing }
     {
         Collected {
@@ -134,7 +150,9 @@ impl Collected {
             end: None,
             duration: None,
             rule: None,
-            has_recurrence: false,
+            rdates: DateLists::new(alloc),
+            exdates: DateLists::new(alloc),
+            recurrence: None,
             sequence: None,
             title: None,
             location: None,
@@ -143,9 +161,9 @@ impl Collected {
         }
     }
 
-    /// One line more. What stands in no event changes nothing.
-    pub fn note(&mut self, property: Property)
-        ensures { self.new ≡ note_event property self.old }
+    /// A line more that is no RDATE and no EXDATE. What stands in no event changes nothing.
+    fn note_first(&mut self, property: Property)
+        ensures { self.new ≡ note_first property self.old }
     {
         match property {
             Property::Uid(text) => keep_text(&mut self.uid, text),
@@ -153,7 +171,7 @@ impl Collected {
             Property::Dtend(dated) => keep_dated(&mut self.end, dated),
             Property::Duration(duration) => self.duration = self.duration.or(Some(duration)),
             Property::Rrule(rule) => self.rule = self.rule.or(Some(rule)),
-            Property::RecurrenceId(_, _) => self.has_recurrence = true,
+            Property::RecurrenceId(dated, _) => keep_dated(&mut self.recurrence, dated),
             Property::Sequence(number) => {
                 self.sequence = self.sequence.or(Some(number.unwrap_or(0)));
             }
@@ -162,6 +180,20 @@ impl Collected {
             Property::Description(text) => keep_text(&mut self.description, text),
             Property::Status(cancelled) => self.cancelled = self.cancelled.or(Some(cancelled)),
             _ => {}
+        }
+    }
+
+    /// One line more.
+    pub fn note(&mut self, property: Property) -> Result<(), AllocError>
+        ensures { IfOk result (λ _. self.new ≡ note_event property self.old) }
+    {
+        match property {
+            Property::Rdate(list) => self.rdates.add(list),
+            Property::Exdate(list) => self.exdates.add(list),
+            property => {
+                self.note_first(property);
+                Ok(())
+            }
         }
     }
 
@@ -183,20 +215,28 @@ impl Collected {
     }
 
     /// The event of that calendar, where no fault stands on its lines.
-    pub fn into_event(self, alloc: Global, table: &ZoneTable, calendar: u64) -> Event
+    pub fn into_event(
+        self,
+        alloc: Global,
+        table: &ZoneTable,
+        calendar: u64,
+    ) -> Result<Event, AllocError>
         requires { (zones : List (List Phase)) × IsReady (record { index = index_in table.now; zones = zones }) calendar self }
-        ensures { result ≡ event_from (index_in table.now) calendar self }
+        ensures { IfOk result (λ event. event ≡ event_from (index_in table.now) calendar self) }
     {
-        Event {
+        Ok(Event {
             start: time_of(alloc, table, calendar, self.start),
             length: length_of(alloc, table, calendar, self.end, self.duration),
             rule: rule_in(self.rule),
+            rdates: self.rdates.into_rdates(alloc, table, calendar)?,
+            exdates: self.exdates.into_exdates(alloc, table, calendar)?,
+            recurrence: recurrence_of(alloc, table, calendar, self.recurrence),
             uid: text_or_empty(alloc, self.uid),
             sequence: self.sequence.unwrap_or(0),
             title: text_or_empty(alloc, self.title),
             location: text_or_empty(alloc, self.location),
             description: text_or_empty(alloc, self.description),
             cancelled: self.cancelled.unwrap_or(false),
-        }
+        })
     }
 }

@@ -5,9 +5,10 @@ ghost use Rattle.ics_values.specs.Periods.{lasts};
 ghost use Rattle.ics_values.specs.RuleTexts.{pieces};
 ghost use Rattle.ics_calendar.specs.Values.{is_bad_stamp, is_far_stamp};
 ghost use Rattle.ics_calendar.specs.Zones.{local_in};
-ghost use Rattle.ics_calendar.specs.DateValues.{date_time_of, period_of, rdate_of, exdate_of, rdates_of, exdates_of, has_bad_stamp, has_far_stamp, has_bad_duration, has_large_duration, is_local, is_not_local};
+ghost use Rattle.ics_calendar.specs.DateValues.{date_time_of, period_of, rdate_of, exdate_of, rdates_of, exdates_of, has_bad_stamp, has_far_stamp, has_bad_duration, has_large_duration, has_zoned, is_local, is_not_local};
 
 use crate::lasting::lasting;
+use crate::time::is_zoned_stamp;
 use ics_values::{Duration, DurationFault, Local, Stamp, StampFault, read_stamp};
 use std::alloc::{AllocError, Global};
 use std::marker::Model;
@@ -125,6 +126,17 @@ impl DateValue {
         !self.is_local()
     }
 
+    /// Whether one of its stamps is a local one beside a TZID.
+    fn has_zoned(self) -> bool
+        ensures { result ≡ has_zoned self }
+    {
+        match self {
+            DateValue::At(stamp) => is_zoned_stamp(stamp),
+            DateValue::Between(start, end) => is_zoned_stamp(start) || is_zoned_stamp(end),
+            DateValue::Lasting(start, _) => is_zoned_stamp(start),
+        }
+    }
+
     fn has_bad_stamp(self) -> bool
         ensures { result ≡ has_bad_stamp self }
     {
@@ -200,6 +212,13 @@ impl DateValues {
         Ok(DateValues { values })
     }
 
+    /// The values themselves.
+    pub fn as_slice(&self) -> &[DateValue]
+        ensures { result.now ≡ self.now }
+    {
+        self.values.as_slice()
+    }
+
     /// The locals among them.
     pub fn into_locals(self, alloc: Global) -> Result<Vec<Local>, AllocError>
         ensures { IfOk result (λ locals. locals.items ≡ filter_map local_in self) }
@@ -208,6 +227,13 @@ impl DateValues {
             .iter()
             .filter_map(|value| value.local())
             .collect(alloc)
+    }
+
+    /// Whether a stamp among them is a local one beside a TZID.
+    pub fn have_zoned(&self) -> bool
+        ensures { result ≡ list_any has_zoned self.now }
+    {
+        self.values.iter().any(|value| value.has_zoned())
     }
 
     /// Whether a stamp among them is of no form, or of no date or time that there is.

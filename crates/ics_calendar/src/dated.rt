@@ -1,10 +1,10 @@
 ghost use Rattle.std.specs.Prelude.{◌≡◌, IfOk};
-ghost use Rattle.ics_calendar.specs.Laters.{zone_used};
 ghost use Rattle.ics_calendar.specs.LineFaults.{instant_in};
 ghost use Rattle.ics_calendar.specs.Values.{is_zoned_stamp, tzid};
 
 use crate::later::{Instant, ZoneName};
 use crate::text::Text;
+use crate::time::is_zoned_stamp;
 use ics_values::{Stamp, StampFault};
 use std::alloc::{AllocError, Global};
 
@@ -20,7 +20,7 @@ impl Dated {
     pub fn is_zoned(&self) -> bool
         ensures { result ≡ is_zoned_stamp self.now.stamp }
     {
-        matches!(self.stamp, Ok(Stamp::Zoned(_)))
+        is_zoned_stamp(self.stamp)
     }
 
     /// The name that its TZID gives.
@@ -33,25 +33,6 @@ impl Dated {
         }
     }
 
-    /// The time zone of that calendar that it names.
-    pub fn zone_name(&self, alloc: Global, calendar: u64) -> Result<ZoneName, AllocError>
-        ensures { IfOk result (λ name. name ≡ zone_used calendar self.now) }
-    {
-        let name = Text::copied(alloc, self.tzid())?;
-        Ok(ZoneName { calendar, name })
-    }
-
-    /// The same, of a stamp that is not needed any more.
-    pub fn into_zone_name(self, alloc: Global, calendar: u64) -> ZoneName
-        ensures { result ≡ zone_used calendar self }
-    {
-        let name = match self.zone {
-            Some(name) => name,
-            None => Text::new(alloc),
-        };
-        ZoneName { calendar, name }
-    }
-
     /// The stamp, if it is an instant.
     pub fn instant(&self, alloc: Global, calendar: u64) -> Result<Option<Instant>, AllocError>
         ensures { IfOk result (λ instant. instant ≡ instant_in calendar self.now) }
@@ -59,7 +40,7 @@ impl Dated {
         match self.stamp {
             Ok(Stamp::Utc(local)) => Ok(Some(Instant::Utc(local))),
             Ok(Stamp::Zoned(local)) => {
-                let name = self.zone_name(alloc, calendar)?;
+                let name = ZoneName::copied(alloc, calendar, &self.zone)?;
                 Ok(Some(Instant::Zoned(local, name)))
             }
             _ => Ok(None),

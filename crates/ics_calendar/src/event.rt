@@ -1,5 +1,5 @@
 use crate::text::Text;
-use crate::time::{Length, Time};
+use crate::time::{Length, Rdate, Time};
 use ics_values::Parts;
 use std::marker::Model;
 
@@ -16,6 +16,12 @@ pub struct Event {
     pub length: Length,
     /// The recurrence rule of its RRULE (RFC 5545, section 3.8.5.3).
     pub rule: Option<Parts>,
+    /// The values of its RDATEs, in the order of the file.
+    pub rdates: Vec<Rdate>,
+    /// The values of its EXDATEs, in the order of the file: which starts are taken out.
+    pub exdates: Vec<Time>,
+    /// Its RECURRENCE-ID. An event with one is an override: it stands for that instance of the event of its UID without one.
+    pub recurrence: Option<Time>,
     /// The SUMMARY, empty where there is none.
     pub title: Text,
     pub location: Text,
@@ -29,7 +35,7 @@ impl Model for Event {
 
     ghost Value = { EventSeen };
 
-    ghost view = { λ a. record { uid = a.uid; sequence = a.sequence; start = a.start; length = a.length; rule = a.rule; title = a.title; location = a.location; description = a.description; cancelled = a.cancelled } };
+    ghost view = { λ a. record { uid = a.uid; sequence = a.sequence; start = a.start; length = a.length; rule = a.rule; rdates = a.rdates.items; exdates = a.exdates.items; recurrence = a.recurrence; title = a.title; location = a.location; description = a.description; cancelled = a.cancelled } };
 
-    ghost invariant = { λ a. IsEvent (record { uid = a.uid; sequence = a.sequence; start = a.start; length = a.length; rule = a.rule; title = a.title; location = a.location; description = a.description; cancelled = a.cancelled }) };
+    ghost invariant = { λ a. IsEvent (record { uid = a.uid; sequence = a.sequence; start = a.start; length = a.length; rule = a.rule; rdates = a.rdates.items; exdates = a.exdates.items; recurrence = a.recurrence; title = a.title; location = a.location; description = a.description; cancelled = a.cancelled }) };
 }

@@ -73,9 +73,6 @@ pub enum FaultKind {
     /// A calendar of version 1.0.
     #[error("OldVersion")]
     OldVersion,
-    /// What is not read so far: sets of dates, overrides, and stamps in a time zone.
-    #[error("NotYet")]
-    NotYet,
 }
 
 /// Why a file is refused: memory, or its first fault.
@@ -119,7 +116,6 @@ impl FaultKind {
             FaultKind::ThisAndFuture => "ThisAndFuture",
             FaultKind::Exrule => "Exrule",
             FaultKind::OldVersion => "OldVersion",
-            FaultKind::NotYet => "NotYet",
         }
     }
 }

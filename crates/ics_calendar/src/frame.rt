@@ -1,11 +1,12 @@
 //! A component that is open.
 ghost use Rattle.std.specs.Prelude.{◌≡◌, IfOk};
 ghost use Rattle.ics_calendar.specs.Reading.{read_in};
-ghost use Rattle.ics_calendar.specs.LineFaults.{used_zone, begin_fault, end_fault_in, event_fault, calendar_fault, zone_fault, observance_fault, property_fault, inside_fault, outside_fault, fault_in, later_end, later_in};
+ghost use Rattle.ics_calendar.specs.LineFaults.{used_zone, listed_zone, begin_fault, end_fault_in, event_fault, calendar_fault, zone_fault, observance_fault, property_fault, inside_fault, outside_fault, fault_in, later_end, later_in};
 ghost use Rattle.ics_calendar.specs.Pass.{ended_in};
 
-use crate::collected::{Collected, text_or_empty};
+use crate::collected::Collected;
 use crate::component::{Component, Place};
+use crate::date_list::DateList;
 use crate::date_values::DateValue;
 use crate::dated::Dated;
 use crate::ends::ends_in;
@@ -15,7 +16,6 @@ use crate::later::{Later, ZoneName};
 use crate::name::{Name, name_of};
 use crate::property::Property;
 use crate::summary::{ObservanceSummary, Summary, ZoneSummary};
-use crate::text::Text;
 use crate::value_faults::{
     dates_fault, duration_fault, field_fault, is_fine_rule, number_fault, offset_fault, once,
     range_fault, rule_fault, stamp_fault, zone_rule_fault,
@@ -60,10 +60,13 @@ fn event_fault(property: &Property, had: &Collected) -> Option<FaultKind>
         }
         Property::Rrule(rule) => rule_fault(*rule, once(had.rule.is_some(), None)),
         Property::RecurrenceId(dated, range) => {
-            stamp_fault(dated.stamp, once(had.has_recurrence, range_fault(*range)))
+            stamp_fault(
+                dated.stamp,
+                once(had.recurrence.is_some(), range_fault(*range)),
+            )
         }
         Property::Sequence(number) => number_fault(*number, once(had.sequence.is_some(), None)),
-        Property::Dates(values) => dates_fault(values, Some(FaultKind::NotYet)),
+        Property::Rdate(list) | Property::Exdate(list) => dates_fault(&list.values, None),
         Property::Exrule => Some(FaultKind::Exrule),
         _ => None,
     }
@@ -133,7 +136,19 @@ fn used_zone(alloc: Global, calendar: u64, dated: &Dated) -> Result<Option<Later
     if !dated.is_zoned() {
         return Ok(None);
     }
-    Ok(Some(Later::Zone(dated.zone_name(alloc, calendar)?)))
+    let name = ZoneName::copied(alloc, calendar, &dated.zone)?;
+    Ok(Some(Later::Zone(name)))
+}
+
+/// The time zone of the stamps of a list.
+fn listed_zone(alloc: Global, calendar: u64, list: &DateList) -> Result<Option<Later>, AllocError>
+    ensures { IfOk result (λ later. later ≡ listed_zone calendar list.now) }
+{
+    if !list.values.have_zoned() {
+        return Ok(None);
+    }
+    let name = ZoneName::copied(alloc, calendar, &list.zone)?;
+    Ok(Some(Later::Zone(name)))
 }
 
 /// What the second round looks at where an event ends.
@@ -195,6 +210,9 @@ impl Frame {
             Property::End(true) => later_end(alloc, self.calendar, &self.summary),
             Property::Dtstart(dated) | Property::Dtend(dated) | Property::RecurrenceId(dated, _) =>
                 { used_zone(alloc, self.calendar, dated) }
+            Property::Rdate(list) | Property::Exdate(list) => {
+                listed_zone(alloc, self.calendar, list)
+            }
             _ => Ok(None),
         }
     }
@@ -211,13 +229,10 @@ impl Frame {
         } = self;
         match summary {
             Summary::Event(had) => Ended::Event(EndedEvent { calendar, had }),
-            Summary::Zone(had) => {
-                let name = text_or_empty(alloc, had.name);
-                Ended::Zone(EndedZone {
-                    begun,
-                    name: ZoneName { calendar, name },
-                })
-            }
+            Summary::Zone(had) => Ended::Zone(EndedZone {
+                begun,
+                name: ZoneName::of(alloc, calendar, had.name),
+            }),
             Summary::Observance(had) => Ended::Observance(EndedObservance { zone: outer, had }),
             Summary::Nothing => Ended::Nothing,
         }

@@ -1,9 +1,10 @@
 //! What the second round looks at: time zones by their names, which may stand after their use.
-ghost use Rattle.std.specs.Prelude.{◌≡◌};
-ghost use Rattle.ics_calendar.specs.Laters.{is_same};
+ghost use Rattle.std.specs.Prelude.{◌≡◌, IfOk};
+ghost use Rattle.ics_calendar.specs.Laters.{zone_named};
 
-use crate::text::Text;
+use crate::text::{Text, text_or_empty};
 use ics_values::Local;
+use std::alloc::{AllocError, Global};
 
 /// The name of a time zone, and the number of the BEGIN line of the calendar that it belongs to.
 #[derive(PartialEq, Eq, PartialOrd, Ord, Drop)]
@@ -26,4 +27,25 @@ pub enum Later {
     End,
     Zone(ZoneName),
     Ends(Instant, Instant),
+}
+
+impl ZoneName {
+    /// The zone of that calendar with the name that a TZID gives.
+    pub fn of(alloc: Global, calendar: u64, zone: Option<Text>) -> ZoneName
+        ensures { result ≡ zone_named calendar zone }
+    {
+        let name = text_or_empty(alloc, zone);
+        ZoneName { calendar, name }
+    }
+
+    /// The same of a TZID that is kept.
+    pub fn copied(alloc: Global, calendar: u64, zone: &Option<Text>) -> Result<ZoneName, AllocError>
+        ensures { IfOk result (λ name. name ≡ zone_named calendar zone.now) }
+    {
+        let zone = match zone {
+            Some(name) => Some(Text::copied(alloc, name.as_slice())?),
+            None => None,
+        };
+        Ok(ZoneName::of(alloc, calendar, zone))
+    }
 }

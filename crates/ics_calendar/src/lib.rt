@@ -3,6 +3,7 @@
 
 mod collected;
 mod component;
+mod date_list;
 mod date_values;
 mod dated;
 mod ends;
@@ -34,4 +35,4 @@ pub use fault::{FaultKind, FileFault};
 pub use laws::files_are_one_thing;
 pub use read::read_file;
 pub use text::Text;
-pub use time::{Length, Time};
+pub use time::{Length, Rdate, Time};

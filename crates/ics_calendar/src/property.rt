@@ -2,10 +2,12 @@
 ghost use Rattle.std.specs.Prelude.{◌≡◌, IfOk, is_some, codes};
 ghost use Rattle.std.specs.Str.{bytes_eq};
 ghost use Rattle.ics_text.specs.Contents.{param_of};
+ghost use Rattle.ics_calendar.specs.DateLists.{rdate_list, exdate_list};
 ghost use Rattle.ics_calendar.specs.Values.{dated_of, zone_name, is_cancelled};
 ghost use Rattle.ics_calendar.specs.Reading.{event_property, calendar_property, zone_property, observance_property, property_at};
 
 use crate::component::{Component, Place};
+use crate::date_list::DateList;
 use crate::date_values::DateValues;
 use crate::dated::Dated;
 use crate::lasting::lasting;
@@ -33,8 +35,8 @@ pub enum Property {
     /// With whether it has a RANGE.
     RecurrenceId(Dated, bool),
     Sequence(Result<u32, IntegerFault>),
-    /// An RDATE or an EXDATE.
-    Dates(DateValues),
+    Rdate(DateList),
+    Exdate(DateList),
     Exrule,
     /// Whether it is 1.0.
     Version(bool),
@@ -47,6 +49,8 @@ pub enum Property {
     ZoneName(Text),
     /// The DTSTART of an observance.
     Onset(Result<Stamp, StampFault>),
+    /// An RDATE of an observance.
+    Dates(DateValues),
     /// TZOFFSETFROM.
     OffsetFrom(Result<i32, BadOffset>),
     /// TZOFFSETTO.
@@ -75,10 +79,22 @@ fn dated(alloc: Global, content: &Content<'_>) -> Result<Dated, AllocError>
     })
 }
 
-fn has_zone(content: &Content<'_>) -> bool
-    ensures { result ≡ is_some (zone_name content.now.params) }
+/// What an RDATE lists.
+fn rdate_list(alloc: Global, content: &Content<'_>) -> Result<DateList, AllocError>
+    ensures { IfOk result (λ list. list ≡ rdate_list content.now.params content.now.value) }
 {
-    content.param(b"TZID").is_some()
+    let zone = zone_name(alloc, content)?;
+    let values = DateValues::of_rdate(alloc, content.value(), zone.is_some())?;
+    Ok(DateList { values, zone })
+}
+
+/// What an EXDATE lists.
+fn exdate_list(alloc: Global, content: &Content<'_>) -> Result<DateList, AllocError>
+    ensures { IfOk result (λ list. list ≡ exdate_list content.now.params content.now.value) }
+{
+    let zone = zone_name(alloc, content)?;
+    let values = DateValues::of_exdate(alloc, content.value(), zone.is_some())?;
+    Ok(DateList { values, zone })
 }
 
 fn has_range(content: &Content<'_>) -> bool
@@ -108,12 +124,8 @@ fn event_property(alloc: Global, name: Name, content: &Content<'_>) -> Result<Pr
             Ok(Property::RecurrenceId(dated(alloc, content)?, has_range(content)))
         }
         Name::Sequence => Ok(Property::Sequence(read_integer(value))),
-        Name::Rdate => Ok(Property::Dates(DateValues::of_rdate(alloc, value, has_zone(content))?)),
-        Name::Exdate => Ok(Property::Dates(DateValues::of_exdate(
-            alloc,
-            value,
-            has_zone(content),
-        )?)),
+        Name::Rdate => Ok(Property::Rdate(rdate_list(alloc, content)?)),
+        Name::Exdate => Ok(Property::Exdate(exdate_list(alloc, content)?)),
         Name::Exrule => Ok(Property::Exrule),
         Name::Summary => Ok(Property::Summary(Text::of_value(alloc, value)?)),
         Name::Location => Ok(Property::Location(Text::of_value(alloc, value)?)),

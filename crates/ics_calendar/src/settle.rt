@@ -49,7 +49,7 @@ fn events_of(
 {
     let mut events = Vec::new(alloc);
     for event in ended {
-        events.push(event.had.into_event(alloc, table, event.calendar))?;
+        events.push(event.had.into_event(alloc, table, event.calendar)?)?;
     }
     Ok(events)
 }

@@ -172,7 +172,7 @@ impl Summary {
         ensures { result ≡ fresh place }
     {
         match place {
-            Place::Event => Summary::Event(Collected::nothing()),
+            Place::Event => Summary::Event(Collected::nothing(alloc)),
             Place::Zone => Summary::Zone(ZoneSummary::nothing()),
             Place::Observance => Summary::Observance(ObservanceSummary::nothing(alloc)),
             _ => Summary::Nothing,
@@ -184,7 +184,7 @@ impl Summary {
         ensures { IfOk result (λ _. self.new ≡ note property self.old) }
     {
         match self {
-            Summary::Event(had) => had.note(property),
+            Summary::Event(had) => had.note(property)?,
             Summary::Zone(had) => had.note(property),
             Summary::Observance(had) => had.note(property)?,
             Summary::Nothing => {}

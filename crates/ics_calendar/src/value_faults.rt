@@ -87,7 +87,7 @@ pub fn range_fault(range: bool) -> Option<FaultKind>
     if range {
         Some(FaultKind::ThisAndFuture)
     } else {
-        Some(FaultKind::NotYet)
+        None
     }
 }
 

@@ -1,6 +1,6 @@
 -- Worked examples of the definitions.
 use Rattle.std.specs.Prelude.{int_lt}
-use Rattle.std.proofs.Common.{◌≡◌, ℕ, ℤ, pos, neg_ℤ, ◌+ℤ◌, ◌≤ℤ◌, [], ◌∷◌, None, Some, IfSome, Bool, true, false, cond, refl, sym, subst, arith}
+use Rattle.std.proofs.Common.{◌≡◌, ℕ, ℤ, pos, neg_ℤ, ◌+ℤ◌, ◌≤ℤ◌, [], ◌∷◌, None, Some, IfSome, Bool, true, false, cond, inl, refl, sym, subst, arith}
 use Rattle.std.proofs.lemmas.Int.{ints}
 use Rattle.std.specs.declared.cmp.Ordering.TheVariants.{Less, Greater}
 use Rattle.ics_values.specs.Days.{days_on_literals}
@@ -15,18 +15,21 @@ use Rattle.ics_rule.specs.Recurrence.{Recurrence}
 use Rattle.ics_values.specs.declared.stamp.Stamp.{Stamp}
 use Rattle.ics_values.specs.declared.stamp.Stamp.TheVariants.{Date, Floating, Utc, Zoned}
 use Rattle.ics_calendar.specs.declared.event.Event.{Event}
+use Rattle.ics_calendar.specs.declared.time.Rdate.TheVariants.{At, Span}
 use Rattle.ics_calendar.specs.declared.time.Time.{Time}
 use Rattle.ics_calendar.specs.declared.time.Length.{Length}
 use Rattle.ics_calendar.specs.declared.time.Length.TheVariants.{Open, Until, Lasting}
 use Rattle.ics_series.specs.declared.window.Window.{Window}
 use Rattle.ics_series.specs.Clocks.{Clock, Clocks, clocks_of, instant, utc_clock}
 use Rattle.ics_series.specs.Entry.{Entry}
+use Rattle.ics_series.specs.Exclusions.{excludes}
 use Rattle.ics_series.specs.Finish.{finish}
 use Rattle.ics_series.specs.Found.{firsts_after}
-use Rattle.ics_series.specs.Starts.{recurrence_by, time_at, IsRuleStart}
+use Rattle.ics_series.specs.Starts.{given_by, recurrence_by, time_at, time_of, GivesStart, IsNotAfter, IsRuleStart}
+use Rattle.ics_series.specs.declared.start.Giver.TheVariants.{Kept, Listed}
 use Rattle.ics_series.specs.declared.start.Start.{Start}
 use Rattle.ics_series.specs.Meeting.{is_met}
-use Rattle.ics_series.specs.Occurs.{Placed, placed_cmp}
+use Rattle.ics_series.specs.Placed.{Placed, placed_cmp}
 
 abbrev event_of : ℕ → Stamp → Length → Event
 event_of sequence start length = record {
@@ -35,6 +38,9 @@ event_of sequence start length = record {
   start = record { stamp = start; zone = None };
   length = length;
   rule = None;
+  rdates = [];
+  exdates = [];
+  recurrence = None;
   title = [];
   location = [];
   description = [];
@@ -52,7 +58,7 @@ abbrev only : Clock → Clocks
 only display = clocks_of display []
 
 abbrev finish_in : Clock → Stamp → Length → ℤ
-finish_in display start length = finish (only display) (event_of 0 start length) (record { stamp = start; zone = None })
+finish_in display start length = finish (only display) (event_of 0 start length) (At (record { stamp = start; zone = None }))
 
 -- five hours behind UTC
 abbrev behind : Clock
@@ -108,7 +114,7 @@ no_length = refl
 
 -- Finishes of later starts.
 abbrev later_in : Clock → Stamp → Length → Local → ℤ
-later_in display start length local = finish (only display) (event_of 0 start length) (time_at (record { stamp = start; zone = None }) local)
+later_in display start length local = finish (only display) (event_of 0 start length) (At (time_at (record { stamp = start; zone = None }) local))
 
 -- an hour, a week later
 later_hour : later_in utc_clock (Utc (local_at (pos 19_727) 36_000)) (to (Utc (local_at (pos 19_727) 39_600))) (local_at (pos 19_734) 36_000) ≡ pos 1_705_057_200
@@ -144,10 +150,10 @@ in_second : instant two_zones (zoned 1 (local_at (pos 13_583) 43_200)) ≡ pos 1
 in_second = refl
 
 -- P1D from noon of the day before is a day in the first zone, and 23 hours in the second
-day_in_first : finish two_zones (zoned_day 0) (zoned_day 0).start ≡ pos 1_173_632_400
+day_in_first : finish two_zones (zoned_day 0) (At (zoned_day 0).start) ≡ pos 1_173_632_400
 day_in_first = refl
 
-day_in_second : finish two_zones (zoned_day 1) (zoned_day 1).start ≡ pos 1_173_628_800
+day_in_second : finish two_zones (zoned_day 1) (At (zoned_day 1).start) ≡ pos 1_173_628_800
 day_in_second = refl
 
 -- Starts of a rule: 2024-01-05T10:00:00Z, each day until 2024-01-06T10:00:00Z.
@@ -157,18 +163,13 @@ daily = record (every Daily) { until = Some (until.Utc (local_at (pos 19_728) 36
 abbrev daily_event : Event
 daily_event = record (event_of 0 (Utc (local_at (pos 19_727) 36_000)) Open) { rule = Some daily }
 
-abbrev daily_time : ℤ → Time
-daily_time day = time_at daily_event.start (local_at day 36_000)
-
-second_day : IsRuleStart (only utc_clock) daily_event (daily_time (pos 19_728))
+second_day : IsRuleStart (only utc_clock) daily_event (local_at (pos 19_728) 36_000)
 unfolding rules_on_literals days_on_literals until_moment
 second_day = record {
   rule = recurrence_by (Utc (local_at (pos 19_727) 36_000)) daily;
   has = refl;
-  local = local_at (pos 19_728) 36_000;
   calendar = (omega (arith, ints), omega (arith, ints));
   kept = refl;
-  is = refl;
   until = omega (arith, ints);
 }
 
@@ -177,7 +178,7 @@ third_kept : is_kept (recurrence_by (Utc (local_at (pos 19_727) 36_000)) daily) 
 unfolding rules_on_literals days_on_literals
 third_kept = refl
 
-third_day : IsRuleStart (only utc_clock) daily_event (daily_time (pos 19_729)) → ⊥
+third_day : IsRuleStart (only utc_clock) daily_event (local_at (pos 19_729) 36_000) → ⊥
 unfolding until_moment
 third_day r =
     let of : recurrence_by (Utc (local_at (pos 19_727) 36_000)) daily ≡ r.rule = some-same _ _ r.has in
@@ -187,13 +188,95 @@ third_day r =
     some-same : (a b : Recurrence) → Some a ≡ Some b → a ≡ b
     some-same a b h = cc
 
+abbrev utc : ℤ → ℕ → Time
+utc day second = record { stamp = Utc (local_at day second); zone = None }
+
 -- of equal instants the first
 abbrev start : ℤ → ℕ → Start
-start moment second = record { moment = moment; local = local_at (pos 19_727) second }
+start moment second = record { moment = moment; giver = Kept (local_at (pos 19_727) second); given = At (utc (pos 19_727) second) }
 
 each_once : firsts_after None (start (pos 1) 0 ∷ start (pos 1) 60 ∷ start (pos 2) 30 ∷ start (pos 1) 90 ∷ [])
     ≡ start (pos 1) 0 ∷ start (pos 2) 30 ∷ start (pos 1) 90 ∷ []
 each_once = refl
+
+-- What RDATEs give.
+abbrev date : ℤ → Time
+date day = record { stamp = Date day; zone = None }
+
+-- a date means that date at DTSTART's time of the day, in DTSTART's zone
+date_of_time : given_by (zoned 1 (local_at (pos 13_582) 43_200)) (At (date (pos 13_583))) ≡ At (zoned 1 (local_at (pos 13_583) 43_200))
+date_of_time = refl
+
+-- under an event of dates each form means its date
+time_of_date : given_by (date (pos 19_727)) (At (utc (pos 19_730) 36_000)) ≡ At (date (pos 19_730))
+time_of_date = refl
+
+span_of_date : given_by (date (pos 19_727)) (Span (utc (pos 19_730) 36_000) (lasting 0 3_600)) ≡ At (date (pos 19_730))
+span_of_date = refl
+
+-- any other stays
+other_zone : given_by (zoned 1 (local_at (pos 13_582) 43_200)) (At (utc (pos 19_727) 36_000)) ≡ At (utc (pos 19_727) 36_000)
+other_zone = refl
+
+-- 2024-01-05T10:00:00Z to 10:30, and further starts by PERIODs: at 12:00 for an hour, and at 10:00 for two
+abbrev with_spans : Event
+with_spans = record (event_of 0 (Utc (local_at (pos 19_727) 36_000)) (to (Utc (local_at (pos 19_727) 37_800)))) {
+  rdates = Span (utc (pos 19_727) 43_200) (lasting 0 3_600) ∷ Span (utc (pos 19_727) 36_000) (lasting 0 7_200) ∷ [];
+}
+
+own_length : finish (only utc_clock) with_spans (At with_spans.start) ≡ pos 1_704_450_600
+own_length = refl
+
+span_length : finish (only utc_clock) with_spans (Span (utc (pos 19_727) 43_200) (lasting 0 3_600)) ≡ pos 1_704_459_600
+span_length = refl
+
+-- the start at 10:00 is DTSTART's, whose length the longer PERIOD does not change
+first_giver : GivesStart (only utc_clock) with_spans (Kept (local_at (pos 19_727) 36_000)) (At with_spans.start)
+first_giver = (inl refl, refl)
+
+second_giver : GivesStart (only utc_clock) with_spans (Listed 1) (Span (utc (pos 19_727) 36_000) (lasting 0 7_200))
+second_giver = (Span (utc (pos 19_727) 36_000) (lasting 0 7_200), refl, refl)
+
+one_instant : instant (only utc_clock) (time_of (Span (utc (pos 19_727) 36_000) (lasting 0 7_200))) ≡ instant (only utc_clock) with_spans.start
+one_instant = refl
+
+first_goes : IsNotAfter (Kept (local_at (pos 19_727) 36_000)) (Listed 1)
+first_goes = tt
+
+-- a PERIOD to an end, and one whose end lies before its start
+span_to : finish (only utc_clock) with_spans (Span (utc (pos 19_727) 43_200) (to (Utc (local_at (pos 19_728) 0)))) ≡ pos 1_704_499_200
+span_to = refl
+
+span_back : finish (only utc_clock) with_spans (Span (utc (pos 19_727) 43_200) (to (Utc (local_at (pos 19_727) 0)))) ≡ pos 1_704_456_000
+span_back = refl
+
+-- P1D from noon before the clock springs forward lasts 23 hours by the PERIOD's own zone
+span_day : finish two_zones with_spans (Span (zoned 1 (local_at (pos 13_582) 43_200)) (lasting 1 0)) ≡ pos 1_173_628_800
+span_day = refl
+
+-- What EXDATEs take out, where 2024-01-05T22:00 five hours behind UTC is 2024-01-06T03:00:00Z.
+abbrev late_start : Time
+late_start = zoned 0 (local_at (pos 19_727) 79_200)
+
+by_instant : excludes two_zones late_start (utc (pos 19_728) 10_800) (pos 1_704_510_000) ≡ true
+by_instant = refl
+
+by_other_instant : excludes two_zones late_start (utc (pos 19_728) 10_801) (pos 1_704_510_000) ≡ false
+by_other_instant = refl
+
+-- a date goes by DTSTART's clock
+by_date : excludes two_zones late_start (date (pos 19_727)) (pos 1_704_510_000) ≡ true
+by_date = refl
+
+by_next_date : excludes two_zones late_start (date (pos 19_728)) (pos 1_704_510_000) ≡ false
+by_next_date = refl
+
+-- and under an event of dates each form means its date, as its midnight in the display zone
+date_by_time : excludes (only behind) (date (pos 19_727)) (utc (pos 19_727) 36_000) (pos 1_704_430_800) ≡ true
+date_by_time = refl
+
+date_by_date : excludes (only behind) (date (pos 19_727)) (date (pos 19_728)) (pos 1_704_430_800) ≡ false
+date_by_date = refl
 
 -- Windows.
 abbrev window : Bool → Window

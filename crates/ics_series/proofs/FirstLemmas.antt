@@ -1,36 +1,34 @@
 -- Of sorted starts the first at each instant.
-use Rattle.std.specs.Prelude.{◌≤ℤ◌, ◌<ℤ◌}
+use Rattle.std.specs.Prelude.{◌<ℤ◌}
 use Rattle.std.proofs.Common.{◌≡◌, ℕ, ◌<◌, ◌≤◌, ℤ, List, [], ◌∷◌, Bool, true, false, cond, Option, Some, None, ◌⊎◌, inl, inr, ⊎_elim, refl, sym, ◌∙◌, ap, subst, arith}
 use Rattle.std.specs.Cmp.{IsTotalOrder, int_ranks, ranks}
-use Rattle.std.specs.List.Sorted.{IsPermutation, IsSorted}
-use Rattle.std.specs.Ordering.{int_cmp, int_eq, nat_cmp, is_gt, on, ordering_then, then_cmp, MatchOrdering}
+use Rattle.std.specs.Fn.{Called}
+use Rattle.std.specs.List.Sorted.{IsPermutation, IsSortedByClosure}
+use Rattle.std.specs.Ordering.{int_cmp, int_eq, nat_cmp, is_gt, is_lt, ordering_then, MatchOrdering}
 use Rattle.std.specs.declared.cmp.Ordering.{Ordering}
 use Rattle.std.specs.declared.cmp.Ordering.TheVariants.{Less, Equal, Greater}
 use Rattle.std.proofs.lemmas.Cmp.{int_cmp_total, nat_cmp_total, on_total, then_total, tied_itself}
 use Rattle.std.proofs.lemmas.Int.{ints}
-use Rattle.std.proofs.lemmas.List.Sorted.{IsPermutation-sym}
+use Rattle.std.proofs.lemmas.List.Sorted.{IsPermutation-sym, answers_always, ranks_by}
+use denote.Param.Members.{Mut}
+use denote.Ref.{Bor}
 use Rattle.ics_calendar.specs.declared.event.Event.{Event}
-use Rattle.ics_values.specs.declared.local.Local.{Local}
+use Rattle.ics_series.specs.declared.start.Giver.{Giver}
+use Rattle.ics_series.specs.declared.start.Giver.TheVariants.{Kept, Listed}
 use Rattle.ics_series.specs.declared.start.Start.{Start}
 use Rattle.ics_series.specs.declared.window.Window.{Window}
-use Rattle.ics_series.specs.Clocks.{Clocks, seconds_of}
-use Rattle.ics_series.specs.Found.{firsts_after, is_at, moment_cmp, AreStarts, HasStarts}
+use Rattle.ics_series.specs.Clocks.{Clocks}
+use Rattle.ics_series.specs.Found.{day_in, firsts_after, giver_cmp, is_at, moment_cmp, part_of, place_in, start_by, start_cmp, AreStarts, HasStarts}
 use Rattle.ics_series.specs.Listing.{IsIn}
 use Rattle.ics_series.specs.Rising.{IsBefore, Rises}
-use Rattle.ics_series.proofs.GiverLemmas.{written-order}
+use Rattle.ics_series.specs.Starts.{IsNotAfter}
 use Rattle.ics_series.proofs.SortLemmas.{IsUpTo, Climbs, climbs-sorted, in-permutation, up-to-in}
 
--- by instant, then by local
-abbrev local_cmp : Local → Local → Ordering
-local_cmp = then_cmp (on (λ l. l.day) int_cmp) (on (λ l. l.second) nat_cmp)
-
-abbrev pub start_cmp : Start → Start → Ordering
-start_cmp = then_cmp moment_cmp (on (λ s. s.local) local_cmp)
+giver_total : IsTotalOrder giver_cmp
+giver_total = then_total (on_total part_of nat_cmp_total) (then_total (on_total day_in int_cmp_total) (on_total place_in nat_cmp_total))
 
 start_total : IsTotalOrder start_cmp
-start_total =
-    then_total (on_total (λ s. s.moment) int_cmp_total)
-    (on_total (λ s. s.local) (then_total (on_total (λ l. l.day) int_cmp_total) (on_total (λ l. l.second) nat_cmp_total)))
+start_total = then_total (on_total (λ s. s.moment) int_cmp_total) (on_total (λ s. s.giver) giver_total)
 
 pub moment_total : IsTotalOrder moment_cmp
 moment_total = on_total (λ s. s.moment) int_cmp_total
@@ -47,9 +45,6 @@ up-to-back c d e h = subst (λ x. is_gt (ordering_then x d) ≡ false) e h
 pub same-moment : (s t : Start) → s.moment ≡ t.moment → moment_cmp s t ≡ Equal
 same-moment s t e = ap (int_cmp s.moment) (sym e) ∙ tied_itself int_cmp_total s.moment
 
-pub tied-moment : (s t : Start) → moment_cmp s t ≡ Equal → s.moment ≡ t.moment
-tied-moment s t e = subst (λ o. MatchOrdering o (s.moment <ℤ t.moment) (s.moment ≡ t.moment) (t.moment <ℤ s.moment)) e (int_ranks s.moment t.moment)
-
 int-up-to : (a b : ℤ) (c : Ordering) → int_cmp a b ≡ c → is_gt c ≡ false → (a ≡ b) ⊎ (int_cmp a b ≡ Less)
 int-up-to a b Less e g = inr e
 int-up-to a b Equal e g = inl (subst (λ o. MatchOrdering o (a <ℤ b) (a ≡ b) (b <ℤ a)) e (int_ranks a b))
@@ -63,15 +58,18 @@ nat-up-to a b Less e g = let r = subst (λ o. MatchOrdering o (a < b) (a ≡ b) 
 nat-up-to a b Equal e g = let r = subst (λ o. MatchOrdering o (a < b) (a ≡ b) (b < a)) e (ranks a b) in omega (arith, r)
 nat-up-to a b Greater e g = let f : is_gt Greater ≡ false = g in absurd cc
 
--- a local that is not after another by its day and second is not after it by its seconds
-local-order : (a b : Local) → is_gt (local_cmp a b) ≡ false → seconds_of a ≤ℤ seconds_of b
-local-order a b h =
+-- what is not after another by its parts stands no later in the order of what gives starts
+giver-order : (g k : Giver) → is_gt (giver_cmp g k) ≡ false → IsNotAfter g k
+giver-order (Kept a) (Kept b) h =
     ⊎_elim
     (λ same. let later = nat-up-to a.second b.second (nat_cmp a.second b.second) refl
     (up-to-back (int_cmp a.day b.day) (nat_cmp a.second b.second) (ap (int_cmp a.day) (sym same) ∙ tied_itself int_cmp_total a.day) h) in
     omega (arith, ints, same, later))
     (λ less. let below = int-less a.day b.day less in omega (arith, ints, below, a.second_in, b.second_in))
     (int-up-to a.day b.day (int_cmp a.day b.day) refl (up-to-front (int_cmp a.day b.day) (nat_cmp a.second b.second) h))
+giver-order (Kept a) (Listed b) h = tt
+giver-order (Listed a) (Kept b) h = let f : true ≡ false = h in absurd cc
+giver-order (Listed a) (Listed b) h = nat-up-to a b (nat_cmp a b) refl h
 
 -- Climbing by the finer order is climbing by instants.
 climbs-moments : (xs : List Start) → Climbs start_cmp xs → Climbs moment_cmp xs
@@ -80,7 +78,7 @@ climbs-moments (x ∷ xs) h = (up-to xs h.0, climbs-moments xs h.1)
   where
     up-to : (ys : List Start) → IsUpTo start_cmp x ys → IsUpTo moment_cmp x ys
     up-to [] k = tt
-    up-to (y ∷ ys) k = (up-to-front (moment_cmp x y) (local_cmp x.local y.local) k.0, up-to ys k.1)
+    up-to (y ∷ ys) k = (up-to-front (moment_cmp x y) (giver_cmp x.giver y.giver) k.0, up-to ys k.1)
 
 before-by : (x y : Start) (zs : List Start) → ((z : Start) → moment_cmp y z ≡ Less → moment_cmp x z ≡ Less) → IsBefore moment_cmp y zs → IsBefore moment_cmp x zs
 before-by x y [] f h = tt
@@ -160,18 +158,21 @@ in-all-firsts : (s : Start) (xs : List Start) → Climbs start_cmp xs → IsIn s
 in-all-firsts s xs h m = ⊎_elim (λ f. let g : None ≡ Some s.moment = f in absurd cc) (λ k. k) (in-firsts None s xs h m)
 
 -- starts in any order, sorted, and of each run the first
-pub first-starts : (clocks : Clocks) (event : Event) (w : Window) (xs ys : List Start) → HasStarts clocks event w xs → IsPermutation xs ys → IsSorted start_cmp ys → AreStarts clocks event w (firsts_after None ys)
-first-starts clocks event w xs ys h p s =
-    let climbs : Climbs start_cmp ys = climbs-sorted start_cmp start_total ys s in
-    record {
-      rises = rises-firsts ys (climbs-moments ys climbs);
-      has = record {
-        are = λ t m. h.are t (in-permutation t ys xs (IsPermutation-sym xs ys p) (firsts-in None t ys m));
-        all = λ given g n.
-            let k = h.all given g n in
-            let f = in-all-firsts k.start ys climbs (in-permutation k.start xs ys p k.stands) in
-            let back = up-to-back (moment_cmp f.first k.start) (local_cmp f.first.local k.start.local) (same-moment f.first k.start f.same) f.earlier in
-            let order = written-order event.start.stamp f.first.local k.start.local (local-order f.first.local k.start.local back) in
-            record { start = f.first; stands = f.stands; same = f.same ∙ k.same; earlier = omega (arith, ints, order, k.earlier) };
-      };
-    }
+pub first-starts : (clocks : Clocks) (event : Event) (w : Window) (xs ys : List Start) → HasStarts clocks event w xs → IsPermutation xs ys → Climbs start_cmp ys → AreStarts clocks event w (firsts_after None ys)
+first-starts clocks event w xs ys h p climbs = record {
+  rises = rises-firsts ys (climbs-moments ys climbs);
+  are = λ t m. h.are t (in-permutation t ys xs (IsPermutation-sym xs ys p) (firsts-in None t ys m));
+  all = λ giver given g sought.
+      let s = start_by clocks giver given in
+      let f = in-all-firsts s ys climbs (in-permutation s xs ys p (h.all giver given g sought)) in
+      let back = up-to-back (moment_cmp f.first s) (giver_cmp f.first.giver giver) (same-moment f.first s f.same) f.earlier in
+      record { start = f.first; stands = f.stands; same = f.same; earlier = giver-order f.first.giver giver back };
+}
+
+-- a list sorted by what compares so climbs
+pub climbs-by : {F : Type 0} {g : Mut F (Bor Start × (Bor Start × Unit {0})) Ordering} {f : F} (ys : List Start) → IsSortedByClosure g f ys
+    → ((f : F) (a : Bor Start × (Bor Start × Unit {0})) (r : Ordering) (f' : F) → Called g f a r f' → r ≡ start_cmp a.0.now a.1.0.now) → Climbs start_cmp ys
+climbs-by {g = g} {f = f} ys s h =
+    climbs-sorted start_cmp start_total ys
+    (s (λ x y. is_lt (start_cmp x y)) (ranks_by start_total (λ x. x))
+    (answers_always g (λ a r. is_lt r ≡ is_lt (start_cmp a.0.now a.1.0.now)) f (λ k a r f' c. ap is_lt (h k a r f' c))))

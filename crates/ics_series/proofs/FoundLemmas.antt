@@ -1,30 +1,50 @@
--- The masters as the code finds them: the versions sorted, and of each UID the last.
-use Rattle.std.proofs.Common.{◌≡◌, List, [], ◌∷◌, map, Bool, true, false, cond, refl, sym, ◌∙◌, ap, subst}
+-- The versions that count as the code finds them: all sorted, and of each subject the last.
+use Rattle.std.proofs.Common.{◌≡◌, ℤ, ◌&&◌, List, [], ◌∷◌, map, Option, Some, None, Bool, true, false, cond, refl, sym, ◌∙◌, ap, subst}
 use Rattle.std.specs.Cmp.{IsTotalOrder}
 use Rattle.std.specs.Cmp.Lexicographic.{slice_cmp, lists_ties}
 use Rattle.std.specs.List.Sorted.{IsPermutation, IsSorted}
-use Rattle.std.specs.Ordering.{nat_cmp, on, then_cmp}
+use Rattle.std.specs.Option.{option_cmp, option_eq}
+use Rattle.std.specs.Ordering.{int_cmp, int_eq, is_eq, nat_cmp, on, ordering_then, then_cmp}
 use Rattle.std.specs.declared.cmp.Ordering.{Ordering}
+use Rattle.std.specs.declared.cmp.Ordering.TheVariants.{Less, Equal, Greater}
 use Rattle.std.specs.Cmp.{unsigned_ties}
-use Rattle.std.proofs.lemmas.Cmp.{nat_cmp_total, nat_list_cmp_total, on_total, then_total}
+use Rattle.std.proofs.lemmas.Cmp.{nat_cmp_total, on_total, then_total}
 use Rattle.std.proofs.lemmas.List.Sorted.{IsPermutation-map, IsPermutation-sym}
 use Rattle.ics_calendar.specs.Event.{FileSaid}
-use Rattle.ics_series.specs.declared.spot.Spot.{Spot}
 use Rattle.ics_series.specs.declared.version.Version.{Version}
-use Rattle.ics_series.specs.Versions.{Label, seen, label_of, placed_in, is_same_uid, is_followed, lasts, AreMasters}
+use Rattle.ics_series.specs.Clocks.{Clock}
+use Rattle.ics_series.specs.Versions.{Label, seen, label_of, placed_in, subject_cmp, is_same, is_followed, lasts, AreChosen}
 use Rattle.ics_series.proofs.PlacedLemmas.{placed-in, in-placed}
 use Rattle.ics_series.proofs.SortLemmas.{Climbs, climbs-map, map-climbs, climbs-sorted, followed, in-permutation}
-use Rattle.ics_series.proofs.VersionLemmas.{lasts-masters}
+use Rattle.ics_series.proofs.VersionLemmas.{lasts-chosen, subject_total}
 
 abbrev pub label_cmp : Label → Label → Ordering
 label_cmp =
-    then_cmp (on (λ l. l.uid) (slice_cmp nat_cmp))
+    then_cmp (on (λ l. l.subject) subject_cmp)
     (then_cmp (on (λ l. l.sequence) nat_cmp) (then_cmp (on (λ l. l.spot.file) nat_cmp) (on (λ l. l.spot.place) nat_cmp)))
 
 label_total : IsTotalOrder label_cmp
 label_total =
-    then_total (on_total (λ l. l.uid) nat_list_cmp_total)
+    then_total (on_total (λ l. l.subject) subject_total)
     (then_total (on_total (λ l. l.sequence) nat_cmp_total) (then_total (on_total (λ l. l.spot.file) nat_cmp_total) (on_total (λ l. l.spot.place) nat_cmp_total)))
+
+-- Versions are the same where their subjects tie.
+option-ties : (a b : Option ℤ) → option_eq int_eq a b ≡ is_eq (option_cmp int_cmp a b)
+option-ties None None = refl
+option-ties None (Some y) = refl
+option-ties (Some x) None = refl
+option-ties (Some x) (Some y) = refl
+
+both-tie : (c d : Ordering) → (is_eq c && is_eq d) ≡ is_eq (ordering_then c d)
+both-tie Less d = refl
+both-tie Equal d = refl
+both-tie Greater d = refl
+
+same-ties : (a b : Label) → is_same a b ≡ is_eq (subject_cmp a.subject b.subject)
+same-ties a b =
+    ap (λ t. t && option_eq int_eq a.subject.recurrence b.subject.recurrence) (lists_ties nat_cmp unsigned_ties a.subject.uid b.subject.uid)
+    ∙ (ap (λ t. is_eq (slice_cmp nat_cmp a.subject.uid b.subject.uid) && t) (option-ties a.subject.recurrence b.subject.recurrence)
+    ∙ both-tie (slice_cmp nat_cmp a.subject.uid b.subject.uid) (option_cmp int_cmp a.subject.recurrence b.subject.recurrence))
 
 module _ {A B : Type 0} (f : A → B) (same : B → B → Bool) where
   is_followed-map : (x : A) (xs : List A) → is_followed same (f x) (map f xs) ≡ is_followed (on f same) x xs
@@ -42,22 +62,17 @@ module _ {A B : Type 0} (f : A → B) (same : B → B → Bool) where
       ap (λ b. cond b (lasts same (map f xs)) (f x ∷ lasts same (map f xs))) (is_followed-map x xs)
       ∙ lasts-map-by x xs (is_followed (on f same) x xs) (lasts-map xs)
 
-map-map : {A B C : Type 0} (f : A → B) (g : B → C) (xs : List A) → map g (map f xs) ≡ map (λ x. g (f x)) xs
-map-map f g [] = refl
-map-map f g (x ∷ xs) = ap (λ l. g (f x) ∷ l) (map-map f g xs)
-
-pub found : (files : List FileSaid) (vs ws : List Version) (spots : List Spot) → map seen vs ≡ map label_of (placed_in 0 files) → IsPermutation vs ws → IsSorted (on seen label_cmp) ws
-    → spots ≡ map (λ l. l.spot) (lasts is_same_uid (map seen ws)) → AreMasters files spots
-found files vs ws spots e p s l =
-    let moved = followed label_of (placed_in 0 files) (map seen vs) (map seen ws) e (IsPermutation-map seen vs ws p) in
+pub found : (files : List FileSaid) (display : Clock) (vs ws last : List Version) → map seen vs ≡ map (label_of files display) (placed_in 0 files) → IsPermutation vs ws → IsSorted (on seen label_cmp) ws
+    → map seen last ≡ lasts is_same (map seen ws) → AreChosen files display last
+found files display vs ws last e p s l =
+    let moved = followed (label_of files display) (placed_in 0 files) (map seen vs) (map seen ws) e (IsPermutation-map seen vs ws p) in
     let xs = moved.0 in
-    let climbs : Climbs (on label_of label_cmp) xs =
-    climbs-map label_of label_cmp xs (subst (Climbs label_cmp) (sym moved.2) (map-climbs seen label_cmp ws (climbs-sorted (on seen label_cmp) (on_total seen label_total) ws s))) in
+    let climbs : Climbs (on (label_of files display) label_cmp) xs =
+    climbs-map (label_of files display) label_cmp xs (subst (Climbs label_cmp) (sym moved.2) (map-climbs seen label_cmp ws (climbs-sorted (on seen label_cmp) (on_total seen label_total) ws s))) in
     record {
-      masters = lasts (on label_of is_same_uid) xs;
-      listing = lasts-masters (on label_of is_same_uid) (λ a b. lists_ties nat_cmp unsigned_ties a.event.uid b.event.uid) files xs climbs
+      chosen = lasts (on (label_of files display) is_same) xs;
+      listing = lasts-chosen files display (on (label_of files display) is_same) (λ a b. same-ties (label_of files display a) (label_of files display b)) xs climbs
           (λ a m. in-placed files a (in-permutation a xs (placed_in 0 files) (IsPermutation-sym (placed_in 0 files) xs moved.1) m))
           (λ a h. in-permutation a (placed_in 0 files) xs moved.1 (placed-in files a h));
-      spots_are = l ∙ (ap (λ k. map (λ l. l.spot) (lasts is_same_uid k)) (sym moved.2)
-          ∙ (ap (map (λ l. l.spot)) (lasts-map label_of is_same_uid xs) ∙ map-map label_of (λ l. l.spot) (lasts (on label_of is_same_uid) xs)));
+      are = l ∙ (ap (lasts is_same) (sym moved.2) ∙ lasts-map (label_of files display) is_same xs);
     }

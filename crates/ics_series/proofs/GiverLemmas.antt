@@ -1,9 +1,12 @@
--- The times that give starts: they are of DTSTART's kind, and lie in the years of stamps.
-use Rattle.std.proofs.Common.{◌≡◌, ℕ, ◌<◌, ◌≤◌, ℤ, pos, ◌+ℤ◌, ◌*ℤ◌, ◌<ℤ◌, ◌≤ℤ◌, true, ◌⊎◌, inl, inr, ⊎_elim, Option, Some, None, option_map, refl, sym, ◌∙◌, ap, subst, arith}
+-- What gives starts: the values by which it does lie in the years of stamps.
+use Rattle.std.specs.Prelude.{slice_get}
+use Rattle.std.proofs.Common.{◌≡◌, ℕ, ◌<◌, ◌≤◌, ℤ, pos, ◌+ℤ◌, ◌<ℤ◌, ◌≤ℤ◌, List, All, true, ◌⊎◌, inl, inr, ⊎_elim, Option, Some, None, option_map, refl, sym, ◌∙◌, ap, subst, arith}
 use Rattle.std.proofs.Props.{props}
 use Rattle.std.proofs.lemmas.Int.{ints}
+use Rattle.std.proofs.lemmas.Option.{get_or_from_slice_get, slice_get_within}
 use mathlib.Core.HLevel.{is_prop→PathP}
 use Rattle.ics_values.specs.Days.{IsDayNumber, day_index}
+use Rattle.ics_values.specs.Locals.{local_at}
 use Rattle.ics_values.specs.Stamps.{stamp_day, IsStampDay}
 use Rattle.ics_values.specs.RuleParts.{RuleParts}
 use Rattle.ics_values.specs.declared.local.Local.{Local}
@@ -15,11 +18,17 @@ use Rattle.ics_rule.specs.Recurrence.{Recurrence}
 use Rattle.ics_rule.proofs.KeptLemmas.{and_true, or_true, eqb_true, ltb_true}
 use Rattle.ics_rule.proofs.LawLemmas.{kept_in_rule}
 use Rattle.ics_rule.proofs.NextLemmas.{in_rule_earlier}
+use Rattle.ics_calendar.specs.declared.time.Rdate.{Rdate}
+use Rattle.ics_calendar.specs.declared.time.Rdate.TheVariants.{At, Span}
 use Rattle.ics_calendar.specs.declared.time.Time.{Time}
 use Rattle.ics_calendar.specs.declared.event.Event.{Event}
-use Rattle.ics_calendar.specs.Event.{IsTime, is_zoned}
-use Rattle.ics_series.specs.Clocks.{Clocks, seconds_of, written}
-use Rattle.ics_series.specs.Starts.{local_of, stamp_at, time_at, recurrence_by, recurrence_of, GivesStart}
+use Rattle.ics_calendar.specs.Event.{is_zoned, HasZonesBelow, IsRdate, IsTime, RdateBelow, TimeBelow}
+use Rattle.ics_series.specs.declared.start.Giver.{Giver}
+use Rattle.ics_series.specs.declared.start.Giver.TheVariants.{Kept, Listed}
+use Rattle.ics_series.specs.Clocks.{Clocks, day_of, seconds_of, written}
+use Rattle.ics_series.specs.Finish.{finish}
+use Rattle.ics_series.specs.Occurs.{IsInstance}
+use Rattle.ics_series.specs.Starts.{date_of, given_by, given_from, local_of, stamp_at, time_at, time_by, time_of, recurrence_by, recurrence_of, GivesStart, IsNotAfter}
 
 -- Locals.
 pub same-local : (a b : Local) → a.day ≡ b.day → a.second ≡ b.second → a ≡ b
@@ -49,16 +58,6 @@ own-stamp (Date day) = refl
 own-stamp (Floating local) = refl
 own-stamp (Utc local) = refl
 own-stamp (Zoned local) = refl
-
-same-midnight : (a b : ℤ) → a *ℤ pos 86_400 +ℤ pos 0 ≡ b *ℤ pos 86_400 +ℤ pos 0 → a ≡ b
-same-midnight a b e = omega (arith, ints)
-
--- two stamps of one kind that write the same are the same
-pub same-written : (s : Stamp) (a b : Local) → written (stamp_at s a) ≡ written (stamp_at s b) → stamp_at s a ≡ stamp_at s b
-same-written (Date day) a b e = ap Date (same-midnight a.day b.day e)
-same-written (Floating local) a b e = ap Floating (same-seconds a b e)
-same-written (Utc local) a b e = ap Utc (same-seconds a b e)
-same-written (Zoned local) a b e = ap Zoned (same-seconds a b e)
 
 -- a stamp writes the local, or the midnight of its day
 pub written-at : (s : Stamp) (a : Local) → (written (stamp_at s a) ≤ℤ seconds_of a) × (seconds_of a <ℤ (written (stamp_at s a) +ℤ pos 86_400))
@@ -145,21 +144,102 @@ pub rule-is : (first : Stamp) (o : Option RuleParts) (rule : Recurrence) → opt
 rule-is first (Some parts) rule e = (parts, some-same rule (recurrence_by first parts) (sym e))
 rule-is first None rule e = let f : None ≡ Some rule = e in absurd cc
 
--- Times that give starts.
-pub giver-local : (clocks : Clocks) (event : Event) (given : Time) → GivesStart clocks event given → (a : Local) × (given ≡ time_at event.start a)
-giver-local clocks event given g =
-    ⊎_elim (λ e. (local_of event.start.stamp, e ∙ sym (own-time event.start))) (λ r. (r.local, r.is)) g
-
+-- What gives starts.
 -- what the rule keeps is a time of the years of stamps
 pub kept-time : (event : Event) (rule : Recurrence) (a : Local) → IsTime event.start → recurrence_of event ≡ Some rule → IsDayNumber a.day → is_kept rule (number a) ≡ true → IsTime (time_at event.start a)
 kept-time event rule a h e d k =
     let by = rule-is event.start.stamp event.rule rule e in
     time-at event.start a h (kept-day event.start by.0 a h d (subst (λ r. is_kept r (number a) ≡ true) by.1 k))
 
--- two that write the same are the same
-pub same-giver : (clocks : Clocks) (event : Event) (g k : Time) → GivesStart clocks event g → GivesStart clocks event k → written g.stamp ≡ written k.stamp → g ≡ k
-same-giver clocks event g k gs ks e =
-    let a = giver-local clocks event g gs in
-    let b = giver-local clocks event k ks in
-    let stamps = same-written event.start.stamp a.0 b.0 (sym (ap (λ t. written t.stamp) a.1) ∙ (e ∙ ap (λ t. written t.stamp) b.1)) in
-    a.1 ∙ (ap (λ s. record { stamp = s; zone = event.start.zone }) stamps ∙ sym b.1)
+-- two of which none is after the other are the same
+same-giver : (g k : Giver) → IsNotAfter g k → IsNotAfter k g → g ≡ k
+same-giver (Kept a) (Kept b) h l = ap Kept (same-seconds a b (omega (arith, ints, h, l)))
+same-giver (Kept a) (Listed b) h l = absurd l
+same-giver (Listed a) (Kept b) h l = absurd h
+same-giver (Listed a) (Listed b) h l = ap Listed (omega (arith, h, l))
+
+-- it gives one value
+same-given : (clocks : Clocks) (event : Event) (g : Giver) (x y : Rdate) → GivesStart clocks event g x → GivesStart clocks event g y → x ≡ y
+same-given clocks event (Kept local) x y h k = h.1 ∙ sym k.1
+same-given clocks event (Listed place) x y h k = h.2 ∙ (ap (given_by event.start) (some-same h.0 k.0 (sym h.1 ∙ k.1)) ∙ sym k.2)
+
+pub same-first : (clocks : Clocks) (event : Event) (g k : Giver) (x y : Rdate) → GivesStart clocks event g x → GivesStart clocks event k y → IsNotAfter g k → IsNotAfter k g → x ≡ y
+same-first clocks event g k x y gives other h l =
+    same-given clocks event k x y (subst (λ i. GivesStart clocks event i x) (same-giver g k h l) gives) other
+
+-- an event has one occurrence at most with a start
+pub one-instance : (clocks : Clocks) (event : Event) (start end other : ℤ) → IsInstance clocks event start end → IsInstance clocks event start other → end ≡ other
+one-instance clocks event start end other h k =
+    let below = h.earliest k.giver k.given k.gives (sym k.starts) in
+    let above = k.earliest h.giver h.given h.gives (sym h.starts) in
+    h.ends ∙ (ap (finish clocks event) (same-first clocks event h.giver k.giver h.given k.given h.gives k.gives below above) ∙ sym k.ends)
+
+-- Values that give starts.
+pub rdate-time : (r : Rdate) → IsRdate r → IsTime (time_of r)
+rdate-time (At time) h = h
+rdate-time (Span start lasts) h = h.0
+
+pub rdate-below : (zones : ℕ) (r : Rdate) → RdateBelow zones r → TimeBelow zones (time_of r)
+rdate-below zones (At time) h = h
+rdate-below zones (Span start lasts) h = h.0
+
+stamp_day-is : (s : Stamp) → stamp_day s ≡ day_of s
+stamp_day-is (Date day) = refl
+stamp_day-is (Floating local) = refl
+stamp_day-is (Utc local) = refl
+stamp_day-is (Zoned local) = refl
+
+pub day-years : (time : Time) → IsTime time → IsStampDay (day_of time.stamp)
+day-years time h = subst IsStampDay (stamp_day-is time.stamp) h.years
+
+pub date-time : (time : Time) → IsTime time → IsTime (date_of time)
+date-time time h = record { years = day-years time h; zone = refl }
+
+time-by : (first time : Time) (s : Stamp) → IsTime first → IsTime time → s ≡ time.stamp → IsTime (time_by first time s)
+time-by first time (Date day) h t e = time-at first (local_at day (local_of first.stamp).second) h (subst (λ q. IsStampDay (stamp_day q)) (sym e) t.years)
+time-by first time (Floating local) h t e = t
+time-by first time (Utc local) h t e = t
+time-by first time (Zoned local) h t e = t
+
+time-below : (zones : ℕ) (first time : Time) (s : Stamp) → TimeBelow zones first → TimeBelow zones time → TimeBelow zones (time_by first time s)
+time-below zones first time (Date day) h t = h
+time-below zones first time (Floating local) h t = t
+time-below zones first time (Utc local) h t = t
+time-below zones first time (Zoned local) h t = t
+
+given-value : (first : Time) (s : Stamp) (r : Rdate) → IsTime first → IsRdate r → IsRdate (given_from first s r)
+given-value first (Date day) r h v = date-time (time_of r) (rdate-time r v)
+given-value first (Floating local) (At time) h v = time-by first time time.stamp h v refl
+given-value first (Floating local) (Span start lasts) h v = v
+given-value first (Utc local) (At time) h v = time-by first time time.stamp h v refl
+given-value first (Utc local) (Span start lasts) h v = v
+given-value first (Zoned local) (At time) h v = time-by first time time.stamp h v refl
+given-value first (Zoned local) (Span start lasts) h v = v
+
+given-zone : (zones : ℕ) (first : Time) (s : Stamp) (r : Rdate) → TimeBelow zones first → RdateBelow zones r → RdateBelow zones (given_from first s r)
+given-zone zones first (Date day) r h v = tt
+given-zone zones first (Floating local) (At time) h v = time-below zones first time time.stamp h v
+given-zone zones first (Floating local) (Span start lasts) h v = v
+given-zone zones first (Utc local) (At time) h v = time-below zones first time time.stamp h v
+given-zone zones first (Utc local) (Span start lasts) h v = v
+given-zone zones first (Zoned local) (At time) h v = time-below zones first time time.stamp h v
+given-zone zones first (Zoned local) (Span start lasts) h v = v
+
+-- what holds of all of a list holds at each of its places
+pub all-at : {A : Type 0} (P : A → Type 0) (xs : List A) (k : ℕ) (x : A) → All P xs → slice_get xs k ≡ Some x → P x
+all-at P xs k x h e = subst P (get_or_from_slice_get xs k x x e) (h k x (slice_get_within xs k x e))
+
+-- what gives a start of an event is a value such as RDATEs have
+pub gives-value : (clocks : Clocks) (event : Event) (g : Giver) (given : Rdate) → IsTime event.start → All IsRdate event.rdates → GivesStart clocks event g given → IsRdate given
+gives-value clocks event (Kept local) given h all g =
+    subst IsRdate (sym g.1)
+    (⊎_elim (λ e. subst (λ l. IsTime (time_at event.start l)) (sym e) (subst IsTime (sym (own-time event.start)) h))
+    (λ r. kept-time event r.rule local h r.has r.calendar r.kept) g.0)
+gives-value clocks event (Listed place) given h all g =
+    subst IsRdate (sym g.2) (given-value event.start event.start.stamp g.0 h (all-at IsRdate event.rdates place g.0 all g.1))
+
+-- whose zones are the file's
+pub gives-below : (zones : ℕ) (clocks : Clocks) (event : Event) (g : Giver) (given : Rdate) → HasZonesBelow zones event → GivesStart clocks event g given → RdateBelow zones given
+gives-below zones clocks event (Kept local) given below g = subst (RdateBelow zones) (sym g.1) below.start
+gives-below zones clocks event (Listed place) given below g =
+    subst (RdateBelow zones) (sym g.2) (given-zone zones event.start event.start.stamp g.0 below.start (all-at (RdateBelow zones) event.rdates place g.0 below.rdates g.1))

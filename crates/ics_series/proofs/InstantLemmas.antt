@@ -21,7 +21,7 @@ use Rattle.ics_zone.specs.ZoneBounds.{timeline_moment_near, timeline_offset_near
 use Rattle.ics_zone.specs.Zones.{zone_of}
 use Rattle.ics_zone.specs.declared.display.Display.{Display}
 use Rattle.ics_series.specs.declared.zones.FileZones.{FileZones}
-use Rattle.ics_series.specs.Clocks.{Clock, Clocks, clock_at, clock_by, clocks_of, display_clock, instant, midnight, seconds_of, utc_clock, written, zone_clock}
+use Rattle.ics_series.specs.Clocks.{Clock, Clocks, clock_at, clock_by, clocks_of, display_clock, instant, seconds_of, utc_clock, written, zone_clock}
 use Rattle.ics_series.specs.Finish.{end_by, seconds_by}
 use Rattle.ics_series.specs.Zones.{clocks_in, EndsNear}
 
@@ -91,15 +91,6 @@ early zones time h = omega (arith, ints, instant-near zones time, early-written 
 -- an event begins after the last two days of the year 0000 have begun
 pub late : (zones : FileZones) (time : Time) → IsTime time → neg_ℤ (pos 62_135_769_600) ≤ℤ instant (clocks_in zones) time
 late zones time h = omega (arith, ints, instant-near zones time, late-written time.stamp h.years)
-
-pub date-late : (s : Stamp) (day : ℤ) → s ≡ Date day → IsStampDay (stamp_day s) → neg_ℤ (pos 719_162) ≤ℤ day
-date-late s day d h = let years : IsStampDay day = subst (λ t. IsStampDay (stamp_day t)) d h in omega (arith, ints, years.0)
-
--- the date of an event that begins before a window's end
-pub date-early : (zones : FileZones) (zone : Option ℕ) (s : Stamp) (day start : ℤ) → s ≡ Date day → start ≡ (clock_by (clocks_in zones) zone s).moment (written s) → start <ℤ pos 247_091_126_400 → day ≤ℤ pos 2_859_853
-date-early zones zone s day start d e h =
-    let same : start ≡ moment_of (zone_of zones.display.now) (midnight day) = e ∙ ap (λ t. (clock_by (clocks_in zones) zone t).moment (written t)) d in
-    omega (arith, ints, result_near zones.display.now start (midnight day) same)
 
 -- a DTEND is as far off from a start as from DTSTART
 pub until : (clocks : Clocks) (first given end : Time) (s : Stamp) → ((day : ℤ) → s ≡ Date day → ⊥)

@@ -1,21 +1,33 @@
+pub mod AfterLemmas
 pub mod AgendaLemmas
 pub mod DayLemmas
 mod Examples
+pub mod ExclusionLemmas
+pub mod FilterLemmas
 pub mod FirstLemmas
 pub mod FoundLemmas
+pub mod GivenLemmas
 pub mod GiverLemmas
 pub mod InstantLemmas
 pub mod KeptLemmas
+pub mod LabelLemmas
+pub mod ListedLemmas
 pub mod ListingLemmas
 pub mod MasterLemmas
-pub mod MastersMetLemmas
 pub mod MeetingLemmas
 pub mod MetLemmas
+pub mod MovedLemmas
+pub mod NameLemmas
 pub mod NearLemmas
+pub mod OccursLemmas
+mod OverrideExamples
+pub mod OverrideLemmas
 pub mod PlacedLemmas
 pub mod ReachLemmas
 pub mod SortLemmas
+pub mod SoughtLemmas
 pub mod SpotLemmas
 pub mod StartLaws
+pub mod ToComeLemmas
 pub mod VersionLemmas
 pub mod ZoneLemmas

@@ -13,10 +13,10 @@ module _ {A : Type 0} (R : A → A → Ordering) (o : IsTotalOrder R) where
   before-in x y [] h m = absurd m
   before-in x y (z ∷ zs) h m = ⊎_elim (λ e. ap (R x) e ∙ h.0) (λ k. before-in x y zs h.1 k) m
 
-  not-less-itself : (x : A) → R x x ≡ Less → ⊥
+  pub not-less-itself : (x : A) → R x x ≡ Less → ⊥
   not-less-itself x h = let t = tied_itself o x in cc
 
-  not-both-less : (x y : A) → R x y ≡ Less → R y x ≡ Less → ⊥
+  pub not-both-less : (x y : A) → R x y ≡ Less → R y x ≡ Less → ⊥
   not-both-less x y h k = let t = o.antisymm x y ∙ ap ordering_reverse k in cc
 
   -- the first of two rising lists with the same members is the same

@@ -1,20 +1,18 @@
--- There is one master of a UID, and so no two occurrences have one UID and one recurrence.
-use Rattle.std.proofs.Common.{◌≡◌, ℕ, List, Some, refl, sym, ◌∙◌, ap, subst, arith}
+-- One version of a subject counts, and an event has one occurrence at most with a start.
+use Rattle.std.proofs.Common.{◌≡◌, ℕ, List, Some, refl, sym, ◌∙◌, ap}
 use Rattle.std.specs.Prelude.{ℤ, slice_get}
 use Rattle.std.specs.Cmp.{IsTotalOrder}
 use Rattle.std.specs.Ordering.{nat_cmp, ordering_reverse, ordering_then}
 use Rattle.std.proofs.lemmas.Cmp.{nat_cmp_total, on_total, then_total}
-use Rattle.std.proofs.lemmas.Int.{ints}
 use Rattle.std.proofs.lemmas.Map.Lookups.{exact_unsigned}
 use Rattle.std.specs.declared.cmp.Ordering.{Ordering}
 use Rattle.std.specs.declared.cmp.Ordering.TheVariants.{Less, Equal, Greater}
 use Rattle.ics_calendar.specs.Event.{FileSaid}
 use Rattle.ics_calendar.specs.declared.event.Event.{Event}
-use Rattle.ics_series.specs.Clocks.{Clock, Clocks, clocks_of}
+use Rattle.ics_series.specs.Chosen.{subject_of, IsChosen}
+use Rattle.ics_series.specs.Clocks.{Clock}
 use Rattle.ics_series.specs.Entry.{Entry}
-use Rattle.ics_series.specs.Finish.{finish}
-use Rattle.ics_series.specs.Occurs.{Placed, IsPlaced, IsInstance, IsMaster, Occurs, placed_cmp, zones_in}
-use Rattle.ics_series.proofs.GiverLemmas.{same-giver}
+use Rattle.ics_series.specs.Placed.{Placed, IsPlaced, placed_cmp}
 
 pub placed_total : IsTotalOrder placed_cmp
 placed_total = then_total (on_total (λ p. p.event.sequence) nat_cmp_total) (then_total (on_total (λ p. p.file) nat_cmp_total) (on_total (λ p. p.place) nat_cmp_total))
@@ -54,9 +52,9 @@ same-placed files p q h k e =
     let event = same-event files p q h k places.0 places.1 in
     ap (λ f. make f p.place p.event) places.0 ∙ (ap (λ n. make q.file n p.event) places.1 ∙ ap (make q.file q.place) event)
 
--- a UID has one master at most
-pub one-master : (files : List FileSaid) (p q : Placed) → IsMaster files p → IsMaster files q → p.event.uid ≡ q.event.uid → p ≡ q
-one-master files p q h k u =
+-- of a subject one version counts
+pub one-chosen : (files : List FileSaid) (display : Clock) (p q : Placed) → IsChosen files display p → IsChosen files display q → subject_of files display p ≡ subject_of files display q → p ≡ q
+one-chosen files display p q h k u =
     same-placed files p q h.placed k.placed
     (tied-by p q (placed_cmp p q) refl (h.greatest q k.placed (sym u)) (k.greatest p h.placed u))
 
@@ -65,20 +63,3 @@ same-entry o q a b c d =
     let build : ℤ → ℤ → ℤ → Event → Entry = λ s f r e. record { start = s; finish = f; recurrence = r; event = e } in
     ap (λ s. build s o.finish o.recurrence o.event) a ∙ (ap (λ f. build q.start f o.recurrence o.event) b
     ∙ (ap (λ r. build q.start q.finish r o.event) c ∙ ap (λ e. build q.start q.finish q.recurrence e) d))
-
--- an event has one occurrence at most with a start
-one-instance : (clocks : Clocks) (event : Event) (start end other : ℤ) → IsInstance clocks event start end → IsInstance clocks event start other → end ≡ other
-one-instance clocks event start end other h k =
-    let below = h.earliest k.given k.gives (sym k.starts) in
-    let above = k.earliest h.given h.gives (sym h.starts) in
-    let same : h.given ≡ k.given = same-giver clocks event h.given k.given h.gives k.gives (omega (arith, ints, below, above)) in
-    h.ends ∙ (ap (finish clocks event) same ∙ sym k.ends)
-
-pub one-recurrence : (files : List FileSaid) (display : Clock) (o q : Entry) → Occurs files display o → Occurs files display q → o.event.uid ≡ q.event.uid → o.recurrence ≡ q.recurrence → o ≡ q
-one-recurrence files display o q h k u r =
-    let uid : h.0.event.uid ≡ k.0.event.uid = sym (ap (λ e. e.uid) h.2.event) ∙ (u ∙ ap (λ e. e.uid) k.2.event) in
-    let master : h.0 ≡ k.0 = one-master files h.0 k.0 h.1 k.1 uid in
-    let start : o.start ≡ q.start = sym h.2.recurrence ∙ (r ∙ k.2.recurrence) in
-    let clocks : Placed → Clocks = λ p. clocks_of display (zones_in files p.file) in
-    let instance : IsInstance (clocks k.0) k.0.event q.start o.finish = subst (λ p. IsInstance (clocks p) p.event q.start o.finish) master (subst (λ t. IsInstance (clocks h.0) h.0.event t o.finish) start h.2.lasts) in
-    same-entry o q start (one-instance (clocks k.0) k.0.event q.start o.finish q.finish instance k.2.lasts) r (h.2.event ∙ (ap (λ p. p.event) master ∙ sym k.2.event))

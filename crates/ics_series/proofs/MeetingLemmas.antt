@@ -1,10 +1,14 @@
 -- Whether an occurrence meets a window, by the test.
 use Rattle.std.specs.Prelude.{◌<ℤ◌, ◌≤ℤ◌, int_lt, int_le}
-use Rattle.std.proofs.Common.{◌≡◌, ℤ, ◌⊎◌, inl, inr, ⊎_elim, Bool, true, false, not, ◌&&◌, ◌||◌, refl, arith}
+use Rattle.std.proofs.Common.{◌≡◌, ℤ, ◌⊎◌, inl, inr, ⊎_elim, Bool, true, false, not, ◌&&◌, ◌||◌, refl, ap, arith}
 use Rattle.std.specs.Ordering.{int_eq}
 use Rattle.std.proofs.lemmas.Int.{ints}
+use Rattle.ics_calendar.specs.declared.event.Event.{Event}
 use Rattle.ics_series.specs.declared.window.Window.{Window}
+use Rattle.ics_series.specs.Clocks.{Clocks}
 use Rattle.ics_series.specs.Entry.{Entry}
+use Rattle.ics_series.specs.Exclusions.{is_excluded}
+use Rattle.ics_series.specs.Found.{is_shown}
 use Rattle.ics_series.specs.Meeting.{is_met, is_under_way}
 use Rattle.ics_series.specs.Meets.{Meets}
 
@@ -48,6 +52,9 @@ le-true a b e = grind (arith, ints)
 pub not-le : (a b : ℤ) → int_le a b ≡ false → b <ℤ a
 not-le a b e = grind (arith, ints)
 
+pub less-le : (a b : ℤ) → b <ℤ a → int_le a b ≡ false
+less-le a b e = grind (arith, ints)
+
 true-le : (a b : ℤ) → a ≤ℤ b → int_le a b ≡ true
 true-le a b e = grind (arith, ints)
 
@@ -79,3 +86,16 @@ meets-is_met w o m =
     (both-back (int_eq o.finish o.start) (int_le w.from o.start) (true-equal o.finish o.start r.0) (true-le w.from o.start r.1)))
     m.lasting)
     (not-or-by w.notstarted (int_le w.from o.start) (λ n. true-le w.from o.start (m.started n))))
+
+-- What is shown meets the window, and no EXDATE takes it out.
+not-true : (b : Bool) → not b ≡ true → b ≡ false
+not-true true e = let f : false ≡ true = e in absurd cc
+not-true false e = refl
+
+pub shown-met : (clocks : Clocks) (w : Window) (event : Event) (o : Entry) → is_shown clocks w event o ≡ true → Meets w o × (is_excluded clocks event o.start ≡ false)
+shown-met clocks w event o e =
+    let parts = both (is_met w o) (not (is_excluded clocks event o.start)) e in
+    (is_met-meets w o parts.0, not-true (is_excluded clocks event o.start) parts.1)
+
+pub met-shown : (clocks : Clocks) (w : Window) (event : Event) (o : Entry) → Meets w o → is_excluded clocks event o.start ≡ false → is_shown clocks w event o ≡ true
+met-shown clocks w event o m e = both-back (is_met w o) (not (is_excluded clocks event o.start)) (meets-is_met w o m) (ap not e)

@@ -158,29 +158,31 @@ module _ {A : Type 0} (R : A → A → Ordering) (o : IsTotalOrder R) where
       ⊎_elim (λ s. omega (arith, ties_of-cons x z zs, ap tie (ap (R x) (sym s) ∙ e)))
       (λ n. omega (arith, ties_of-cons x z zs, some-tie x y zs e n)) m
 
-  module _ (S : A → A → Ordering) (finer : (x y : A) → S x y ≡ Equal → R x y ≡ Equal) where
-    less-by : (x y : A) (ys : List A) (c : Ordering) → S x y ≡ c → is_gt (S x y) ≡ false → IsIn y ys → ties_of x (x ∷ ys) ≤ 1 → S x y ≡ Less
-    less-by x y ys Less e g m t = e
-    less-by x y ys Equal e g m t =
-        absurd (omega (arith, ties_of-cons x x ys, ap tie (tied_itself o x), some-tie x y ys (finer x y e) m))
-    less-by x y ys Greater e g m t = let f : is_gt Greater ≡ false = ap is_gt (sym e) ∙ g in cc
+  -- S orders what P holds of, and ties no more there than R does
+  module _ (S : A → A → Ordering) (P : A → Type 0) (finer : (x y : A) → P x → P y → S x y ≡ Equal → R x y ≡ Equal) where
+    less-by : (x y : A) (ys : List A) (c : Ordering) → P x → P y → S x y ≡ c → is_gt (S x y) ≡ false → IsIn y ys → ties_of x (x ∷ ys) ≤ 1 → S x y ≡ Less
+    less-by x y ys Less p q e g m t = e
+    less-by x y ys Equal p q e g m t =
+        absurd (omega (arith, ties_of-cons x x ys, ap tie (tied_itself o x), some-tie x y ys (finer x y p q e) m))
+    less-by x y ys Greater p q e g m t = let f : is_gt Greater ≡ false = ap is_gt (sym e) ∙ g in cc
 
-    before-all : (x : A) (ys zs : List A) → ((y : A) → IsIn y zs → IsIn y ys) → IsUpTo S x zs → ties_of x (x ∷ ys) ≤ 1 → IsBefore S x zs
-    before-all x ys [] f h t = tt
-    before-all x ys (z ∷ zs) f h t =
-        (less-by x z ys (S x z) refl h.0 (f z (inl refl)) t, before-all x ys zs (λ y m. f y (inr m)) h.1 t)
+    before-all : (x : A) (ys zs : List A) → P x → ((y : A) → IsIn y ys → P y) → ((y : A) → IsIn y zs → IsIn y ys) → IsUpTo S x zs → ties_of x (x ∷ ys) ≤ 1 → IsBefore S x zs
+    before-all x ys [] p all f h t = tt
+    before-all x ys (z ∷ zs) p all f h t =
+        (less-by x z ys (S x z) p (all z (f z (inl refl))) refl h.0 (f z (inl refl)) t, before-all x ys zs p all (λ y m. f y (inr m)) h.1 t)
 
-    rises-climbing : (xs : List A) → Climbs S xs → ((x : A) → ties_of x xs ≤ 1) → Rises S xs
-    rises-climbing [] h t = tt
-    rises-climbing (x ∷ xs) h t =
-        (before-all x xs xs (λ y m. m) h.0 (t x), rises-climbing xs h.1 (λ y. omega (arith, ties_of-cons y x xs, t y)))
+    rises-climbing : (xs : List A) → ((x : A) → IsIn x xs → P x) → Climbs S xs → ((x : A) → ties_of x xs ≤ 1) → Rises S xs
+    rises-climbing [] all h t = tt
+    rises-climbing (x ∷ xs) all h t = (
+      before-all x xs xs (all x (inl refl)) (λ y m. all y (inr m)) (λ y m. m) h.0 (t x),
+      rises-climbing xs (λ y m. all y (inr m)) h.1 (λ y. omega (arith, ties_of-cons y x xs, t y)),
+    )
 
     -- a listing by R, sorted by S, is the listing by S
-    pub listing-sorted : (P : A → Type 0) (xs ys : List A) → IsListing R P xs → IsPermutation xs ys → Climbs S ys → IsListing S P ys
-    listing-sorted P xs ys l p h = record {
-      rises = rises-climbing ys h (λ x. omega (arith, ties_of-permutation x xs ys p, one-tie x xs l.rises));
-      exact = λ x. (
-        λ m. (l.exact x).0 (in-permutation x ys xs (IsPermutation-sym xs ys p) m),
-        λ m. in-permutation x xs ys p ((l.exact x).1 m),
-      );
-    }
+    pub listing-sorted : (xs ys : List A) → IsListing R P xs → IsPermutation xs ys → Climbs S ys → IsListing S P ys
+    listing-sorted xs ys l p h =
+        let back : (x : A) → IsIn x ys → P x = λ x m. (l.exact x).0 (in-permutation x ys xs (IsPermutation-sym xs ys p) m) in
+        record {
+          rises = rises-climbing ys back h (λ x. omega (arith, ties_of-permutation x xs ys p, one-tie x xs l.rises));
+          exact = λ x. (λ m. back x m, λ m. in-permutation x xs ys p ((l.exact x).1 m));
+        }

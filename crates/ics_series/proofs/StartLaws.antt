@@ -1,8 +1,9 @@
--- Each start that a time gives is that of an occurrence: of the times that give it one has the earliest local.
-use Rattle.std.specs.Prelude.{◌≤ℤ◌}
-use Rattle.std.proofs.Common.{◌≡◌, ℕ, zero, suc, ◌/◌, ◌%◌, ◌<◌, ◌≤◌, ℤ, pos, ◌-ℤ◌, Bool, true, false, ◌&&◌, Some, None, IfSome, option_map, ◌⊎◌, inl, inr, ⊎_elim, refl, sym, ◌∙◌, ap, subst, arith}
+-- Each start that something gives is that of an occurrence, unless an EXDATE takes it out: of what gives it one is the first.
+use Rattle.std.specs.Prelude.{◌≤ℤ◌, slice_get, Contains}
+use Rattle.std.proofs.Common.{◌≡◌, ℕ, zero, suc, ◌/◌, ◌%◌, ◌<◌, ◌≤◌, ℤ, pos, ◌-ℤ◌, List, [], Bool, true, false, ◌&&◌, Option, Some, None, IfSome, option_map, ◌⊎◌, inl, inr, ⊎_elim, refl, sym, ◌∙◌, ap, subst, arith}
 use Rattle.std.specs.Ordering.{int_eq}
 use Rattle.std.proofs.lemmas.Int.{ints}
+use Rattle.std.proofs.lemmas.List.Folds.{list_any_at}
 use Rattle.ics_values.specs.Days.{IsDayNumber}
 use Rattle.ics_values.specs.Locals.{local_at}
 use Rattle.ics_values.specs.declared.local.Local.{Local}
@@ -12,24 +13,37 @@ use Rattle.ics_rule.specs.Recurrence.{Recurrence}
 use Rattle.ics_rule.proofs.KeptLemmas.{and_true}
 use Rattle.ics_calendar.specs.Event.{IsTime}
 use Rattle.ics_calendar.specs.declared.event.Event.{Event}
+use Rattle.ics_calendar.specs.declared.time.Rdate.{Rdate}
+use Rattle.ics_calendar.specs.declared.time.Rdate.TheVariants.{At}
 use Rattle.ics_calendar.specs.declared.time.Time.{Time}
-use Rattle.ics_series.specs.Clocks.{Clocks, instant, written}
+use Rattle.ics_series.specs.declared.start.Giver.{Giver}
+use Rattle.ics_series.specs.declared.start.Giver.TheVariants.{Kept, Listed}
+use Rattle.ics_series.specs.Clocks.{Clocks, instant, seconds_of, written}
+use Rattle.ics_series.specs.Exclusions.{excludes, is_excluded}
 use Rattle.ics_series.specs.Finish.{finish}
 use Rattle.ics_series.specs.Found.{is_until}
 use Rattle.ics_series.specs.Occurs.{IsInstance}
-use Rattle.ics_series.specs.Starts.{local_of, stamp_at, time_at, recurrence_by, recurrence_of, IsRuleStart, GivesStart}
-use Rattle.ics_series.proofs.GiverLemmas.{calendar-day, index-is, kept-late, number-seconds, own-day, own-stamp, rule-is, same-number, written-order}
+use Rattle.ics_series.specs.Starts.{given_by, local_of, time_at, time_of, recurrence_by, recurrence_of, GivesStart, IsNotAfter, IsRuleStart}
+use Rattle.ics_series.proofs.GiverLemmas.{calendar-day, index-is, kept-late, number-seconds, own-day, own-stamp, own-time, rule-is, same-number, written-order}
 use Rattle.ics_series.proofs.KeptLemmas.{true-until, until-true}
 
--- an event without a rule has the start at DTSTART alone
-pub ruleless : (clocks : Clocks) (event : Event) (given : Time) → event.rule ≡ None → GivesStart clocks event given → given ≡ event.start
-ruleless clocks event given none g =
-    ⊎_elim (λ e. e) (λ r. let f : None ≡ Some r.rule = ap (option_map (recurrence_by event.start.stamp)) (sym none) ∙ r.has in absurd cc) g
+-- an event without a rule and without RDATEs has the start at DTSTART alone
+pub ruleless : (clocks : Clocks) (event : Event) (giver : Giver) (given : Rdate) → event.rule ≡ None → event.rdates ≡ [] → GivesStart clocks event giver given → given ≡ At event.start
+ruleless clocks event (Kept local) given none bare g =
+    ⊎_elim (λ e. g.1 ∙ ap (λ l. At (time_at event.start l)) e ∙ ap At (own-time event.start))
+    (λ r. let f : None ≡ Some r.rule = ap (option_map (recurrence_by event.start.stamp)) (sym none) ∙ r.has in absurd cc) g.0
+ruleless clocks event (Listed place) given none bare g = let f : None ≡ Some g.0 = ap (λ (xs : List Rdate). slice_get xs place) (sym bare) ∙ g.1 in absurd cc
 
-pub one-start : (clocks : Clocks) (event : Event) (start end : ℤ) → event.rule ≡ None → IsInstance clocks event start end → (start ≡ instant clocks event.start) × (end ≡ finish clocks event event.start)
-one-start clocks event start end none h =
-    let same = ruleless clocks event h.given none h.gives in
-    (h.starts ∙ ap (instant clocks) same, h.ends ∙ ap (finish clocks event) same)
+pub one-start : (clocks : Clocks) (event : Event) (start end : ℤ) → event.rule ≡ None → event.rdates ≡ [] → IsInstance clocks event start end
+    → (start ≡ instant clocks event.start) × (end ≡ finish clocks event (At event.start))
+one-start clocks event start end none bare h =
+    let same = ruleless clocks event h.giver h.given none bare h.gives in
+    (h.starts ∙ ap (λ x. instant clocks (time_of x)) same, h.ends ∙ ap (finish clocks event) same)
+
+pub none-excluded : (clocks : Clocks) (event : Event) (exdate : Time) (start end : ℤ) → Contains event.exdates exdate → excludes clocks event.start exdate start ≡ true → ¬ IsInstance clocks event start end
+none-excluded clocks event exdate start end there out h =
+    let f : true ≡ false = sym (list_any_at (λ x. excludes clocks event.start x start) event.exdates there.0 exdate there.1 (ap (λ x. excludes clocks event.start x start) there.2 ∙ out)) ∙ h.stays in
+    absurd cc
 
 -- The local with a number.
 local_from : ℕ → Local
@@ -80,77 +94,91 @@ equal-true a b e = grind (arith, ints)
 both : (a b : Bool) → a ≡ true → b ≡ true → (a && b) ≡ true
 both a b p q = ap (λ x. x && b) p ∙ q
 
+abbrev IsKept : Clocks → Event → Local → Type 0
+IsKept clocks event local = (local ≡ local_of event.start.stamp) ⊎ IsRuleStart clocks event local
+
 module _ (clocks : Clocks) (event : Event) (time : IsTime event.start) where
   first-day : IsDayNumber (local_of event.start.stamp).day
   first-day = calendar-day (local_of event.start.stamp).day (own-day event.start time)
 
-  -- a local with a number that is not less is written as no earlier a stamp
-  number-order : (a b : Local) → IsDayNumber a.day → IsDayNumber b.day → number a ≤ number b → written (stamp_at event.start.stamp a) ≤ℤ written (stamp_at event.start.stamp b)
-  number-order a b h k l = written-order event.start.stamp a b (omega (arith, ints, number-seconds a h, number-seconds b k, l))
-
   -- what the rule keeps is not before DTSTART
-  start-least : (other : Time) → IsRuleStart clocks event other → written event.start.stamp ≤ℤ written other.stamp
-  start-least other r =
+  pub kept-first : (local : Local) → IsKept clocks event local → seconds_of (local_of event.start.stamp) ≤ℤ seconds_of local
+  kept-first local k =
+      ⊎_elim (λ e. let same = ap seconds_of e in omega (arith, ints, same))
+      (λ r.
       let rule = rule-is event.start.stamp event.rule r.rule r.has in
-      let late : number (local_of event.start.stamp) ≤ number r.local = subst (λ (q : Recurrence). number q.start ≤ number r.local) rule.1 (kept-late r.rule (number r.local) r.kept) in
-      let order = number-order (local_of event.start.stamp) r.local first-day r.calendar late in
+      let late : number (local_of event.start.stamp) ≤ number local = subst (λ (q : Recurrence). number q.start ≤ number local) rule.1 (kept-late r.rule (number local) r.kept) in
+      omega (arith, ints, late, number-seconds (local_of event.start.stamp) first-day, number-seconds local r.calendar))
+      k
+
+  -- so without RDATEs nothing gives a start that is written before it
+  pub giver-late : (giver : Giver) (given : Rdate) → event.rdates ≡ [] → GivesStart clocks event giver given → written event.start.stamp ≤ℤ written (time_of given).stamp
+  giver-late (Kept local) given none g =
+      let order = written-order event.start.stamp (local_of event.start.stamp) local (kept-first local g.0) in
       let own = ap written (own-stamp event.start.stamp) in
-      let is = ap (λ x. written x.stamp) r.is in
+      let is = ap (λ x. written (time_of x).stamp) g.1 in
       omega (arith, ints, order, own, is)
+  giver-late (Listed place) given none g = let f : None ≡ Some g.0 = ap (λ (xs : List Rdate). slice_get xs place) (sym none) ∙ g.1 in absurd cc
 
-  -- so no time that gives a start is written before it
-  pub giver-late : (given : Time) → GivesStart clocks event given → written event.start.stamp ≤ℤ written given.stamp
-  giver-late given g = ⊎_elim (λ is. let w = ap (λ x. written x.stamp) is in omega (arith, ints, w)) (start-least given) g
+module _ (clocks : Clocks) (event : Event) (time : IsTime event.start) (t : ℤ) (stays : is_excluded clocks event t ≡ false) where
+  instant_of : Local → ℤ
+  instant_of local = instant clocks (time_at event.start local)
 
-module _ (clocks : Clocks) (event : Event) (time : IsTime event.start) (t : ℤ) where
-  start-instance : instant clocks event.start ≡ t → (end : ℤ) × IsInstance clocks event t end
-  start-instance e = (
-    finish clocks event event.start,
+  -- the least of the locals that give the start t
+  kept-instance : (local : Local) → IsKept clocks event local → instant_of local ≡ t → ((other : Local) → IsKept clocks event other → instant_of other ≡ t → seconds_of local ≤ℤ seconds_of other)
+      → (end : ℤ) × IsInstance clocks event t end
+  unfolding instant_of
+  kept-instance local k e least = (
+    finish clocks event (At (time_at event.start local)),
     record {
-      given = event.start;
-      gives = inl refl;
+      giver = Kept local;
+      given = At (time_at event.start local);
+      gives = (k, refl);
       starts = sym e;
-      earliest = λ other g same. giver-late clocks event time other g;
+      earliest = first;
       ends = refl;
+      stays = stays;
     },
   )
+    where
+      first : (other : Giver) (value : Rdate) → GivesStart clocks event other value → instant clocks (time_of value) ≡ t → IsNotAfter (Kept local) other
+      first (Kept other) value g same = least other g.0 (ap (λ x. instant clocks (time_of x)) (sym g.1) ∙ same)
+      first (Listed place) value g same = tt
+
+  start-instance : instant_of (local_of event.start.stamp) ≡ t → (end : ℤ) × IsInstance clocks event t end
+  start-instance e = kept-instance (local_of event.start.stamp) (inl refl) e (λ other k f. kept-first clocks event time other k)
 
   module _ (rule : Recurrence) (has : recurrence_of event ≡ Some rule) where
-    instant_from : ℕ → ℤ
-    instant_from n = instant clocks (time_at event.start (local_from n))
-
     -- the local with this number gives the start t
     gives_at : ℕ → Bool
-    gives_at n = is_kept rule n && (is_until (until_moment rule) (instant_from n) && int_eq (instant_from n) t)
+    gives_at n = is_kept rule n && (is_until (until_moment rule) (instant_of (local_from n)) && int_eq (instant_of (local_from n)) t)
 
     some-same : (x y : Recurrence) → Some x ≡ Some y → x ≡ y
     some-same x y k = cc
 
     -- a start by the rule passes the test
-    given-test : (other : Time) (r : IsRuleStart clocks event other) → instant clocks other ≡ t → gives_at (number r.local) ≡ true
-    unfolding gives_at instant_from
-    given-test other r same =
+    given-test : (local : Local) (r : IsRuleStart clocks event local) → instant_of local ≡ t → gives_at (number local) ≡ true
+    unfolding gives_at instant_of
+    given-test local r same =
         let of : r.rule ≡ rule = some-same r.rule rule (sym r.has ∙ has) in
-        let local : local_from (number r.local) ≡ r.local = same-number (local_from (number r.local)) r.local (from-day (number r.local) (number-below r.local r.calendar)) r.calendar (from-number (number r.local) (number-below r.local r.calendar)) in
-        let is : instant clocks (time_at event.start (local_from (number r.local))) ≡ instant clocks other = ap (λ a. instant clocks (time_at event.start a)) local ∙ ap (instant clocks) (sym r.is) in
-        both (is_kept rule (number r.local)) _ (ap (λ q. is_kept q (number r.local)) (sym of) ∙ r.kept)
-        (both (is_until (until_moment rule) (instant_from (number r.local))) _
-        (ap (is_until (until_moment rule)) is ∙ until-true (until_moment rule) (instant clocks other) (subst (λ q. IfSome (until_moment q) (λ last. instant clocks other ≤ℤ last)) of r.until))
-        (true-equal (instant_from (number r.local)) t (is ∙ same)))
+        let is : local_from (number local) ≡ local = same-number (local_from (number local)) local (from-day (number local) (number-below local r.calendar)) r.calendar (from-number (number local) (number-below local r.calendar)) in
+        let there : instant_of (local_from (number local)) ≡ instant_of local = ap instant_of is in
+        both (is_kept rule (number local)) _ (ap (λ q. is_kept q (number local)) (sym of) ∙ r.kept)
+        (both (is_until (until_moment rule) (instant_of (local_from (number local)))) _
+        (ap (is_until (until_moment rule)) there ∙ until-true (until_moment rule) (instant_of local) (subst (λ q. IfSome (until_moment q) (λ last. instant_of local ≤ℤ last)) of r.until))
+        (true-equal (instant_of (local_from (number local))) t (there ∙ same)))
 
     -- and what passes it is a start
-    test-given : (n : ℕ) → n < 315_569_520_000 → gives_at n ≡ true → IsRuleStart clocks event (time_at event.start (local_from n)) × (instant clocks (time_at event.start (local_from n)) ≡ t)
-    unfolding gives_at instant_from
+    test-given : (n : ℕ) → n < 315_569_520_000 → gives_at n ≡ true → IsRuleStart clocks event (local_from n) × (instant_of (local_from n) ≡ t)
+    unfolding gives_at instant_of
     test-given n l h =
         let parts = and_true h in
         let rest = and_true parts.1 in (
           record {
             rule = rule;
             has = has;
-            local = local_from n;
             calendar = from-day n l;
             kept = ap (is_kept rule) (from-number n l) ∙ parts.0;
-            is = refl;
             until = true-until (until_moment rule) (instant clocks (time_at event.start (local_from n))) rest.0;
           },
           equal-true (instant clocks (time_at event.start (local_from n))) t rest.1,
@@ -159,33 +187,90 @@ module _ (clocks : Clocks) (event : Event) (time : IsTime event.start) (t : ℤ)
     sides : (a b : ℕ) → (a < b) ⊎ (b ≤ a)
     sides a b = grind arith
 
-    -- where DTSTART gives another start, the least that passes the test is the earliest
-    rule-instance : (instant clocks event.start ≡ t → ⊥) → (given : Time) (r : IsRuleStart clocks event given) → instant clocks given ≡ t → (end : ℤ) × IsInstance clocks event t end
-    rule-instance other_start given r same =
+    -- where DTSTART gives another start, the least that passes the test is the first
+    rule-instance : (instant_of (local_of event.start.stamp) ≡ t → ⊥) → ((end : ℤ) × IsInstance clocks event t end) ⊎ ((local : Local) → IsKept clocks event local → instant_of local ≡ t → ⊥)
+    rule-instance other_start =
         ⊎_elim
-        (λ none. let no = none (number r.local) (omega arith) in let yes = given-test given r same in absurd cc)
+        (λ none. inr (λ local k same.
+        ⊎_elim (λ e. other_start (ap instant_of (sym e) ∙ same))
+        (λ r. let no = none (number local) (number-below local r.calendar) in let yes = given-test local r same in absurd cc) k))
         (λ found.
-        let n = found.0 in
-        let small : found.0 < 315_569_520_000 = omega (arith, found.1, number-below r.local r.calendar) in
-        let is = test-given found.0 small found.2 in (
-          finish clocks event (time_at event.start (local_from n)),
-          record {
-            given = time_at event.start (local_from n);
-            gives = inr is.0;
-            starts = sym is.1;
-            earliest = λ o g e. ⊎_elim (λ s. absurd (other_start (ap (instant clocks) (sym s) ∙ e)))
-                (λ q. ⊎_elim (λ less. let no = found.3 (number q.local) less in let yes = given-test o q e in absurd cc)
-                (λ more.
-                let order = number-order clocks event time (local_from found.0) q.local (from-day found.0 small) q.calendar (omega (arith, more, from-number found.0 small)) in
-                subst (λ x. written (stamp_at event.start.stamp (local_from found.0)) ≤ℤ written x.stamp) (sym q.is) order)
-                (sides (number q.local) found.0)) g;
-            ends = refl;
-          },
-        ))
-        (none-or-least gives_at (suc (number r.local)))
+        let small : found.0 < 315_569_520_000 = found.1 in
+        let is = test-given found.0 small found.2 in
+        inl (kept-instance (local_from found.0) (inr is.0) is.1
+        (λ other k same.
+        ⊎_elim (λ e. absurd (other_start (ap instant_of (sym e) ∙ same)))
+        (λ q. ⊎_elim (λ less. let no = found.3 (number other) less in let yes = given-test other q same in absurd cc)
+        (λ more. omega (arith, ints, more, from-number found.0 small, number-seconds (local_from found.0) (from-day found.0 small), number-seconds other q.calendar))
+        (sides (number other) found.0)) k)))
+        (none-or-least gives_at 315_569_520_000)
 
-pub each-start : (clocks : Clocks) (event : Event) (given : Time) → IsTime event.start → GivesStart clocks event given → (end : ℤ) × IsInstance clocks event (instant clocks given) end
-each-start clocks event given time g =
-    ⊎_elim (start-instance clocks event time (instant clocks given))
-    (λ other. ⊎_elim (λ e. absurd (other (ap (instant clocks) (sym e)))) (λ r. rule-instance clocks event time (instant clocks given) r.rule r.has other given r refl) g)
-    (equal-or-not (instant clocks event.start) (instant clocks given))
+  -- a local gives the start t, or none does
+  kept-or-none : ((end : ℤ) × IsInstance clocks event t end) ⊎ ((local : Local) → IsKept clocks event local → instant_of local ≡ t → ⊥)
+  kept-or-none = ⊎_elim (λ e. inl (start-instance e)) (λ other. by other (recurrence_of event) refl) (equal-or-not (instant_of (local_of event.start.stamp)) t)
+    where
+      by : (instant_of (local_of event.start.stamp) ≡ t → ⊥) → (o : Option Recurrence) → recurrence_of event ≡ o
+          → ((end : ℤ) × IsInstance clocks event t end) ⊎ ((local : Local) → IsKept clocks event local → instant_of local ≡ t → ⊥)
+      by other (Some rule) has = rule-instance rule has other
+      by other None has =
+          inr (λ local k same. ⊎_elim (λ e. other (ap instant_of (sym e) ∙ same)) (λ r. let f : None ≡ Some r.rule = sym has ∙ r.has in absurd cc) k)
+
+  -- the RDATE at a place gives the start t
+  is_given : Option Rdate → Bool
+  is_given (Some r) = int_eq (instant clocks (time_of (given_by event.start r))) t
+  is_given None = false
+
+  lists_at : ℕ → Bool
+  lists_at place = is_given (slice_get event.rdates place)
+
+  listed-test : (place : ℕ) (given : Rdate) → GivesStart clocks event (Listed place) given → instant clocks (time_of given) ≡ t → lists_at place ≡ true
+  unfolding lists_at is_given
+  listed-test place given g same =
+      ap is_given g.1 ∙ true-equal (instant clocks (time_of (given_by event.start g.0))) t (ap (λ x. instant clocks (time_of x)) (sym g.2) ∙ same)
+
+  test-listed : (place : ℕ) → lists_at place ≡ true → (r : Rdate) × (slice_get event.rdates place ≡ Some r) × (instant clocks (time_of (given_by event.start r)) ≡ t)
+  unfolding lists_at is_given
+  test-listed place = by (slice_get event.rdates place)
+    where
+      by : (o : Option Rdate) → is_given o ≡ true → (r : Rdate) × (o ≡ Some r) × (instant clocks (time_of (given_by event.start r)) ≡ t)
+      by (Some r) h = (r, refl, equal-true (instant clocks (time_of (given_by event.start r))) t h)
+      by None h = let f : false ≡ true = h in absurd cc
+
+  split : (a b : ℕ) → (a < b) ⊎ (b ≤ a)
+  split a b = grind arith
+
+  -- where no local gives it, the first of the RDATEs that do is the first of all
+  listed-instance : ((local : Local) → IsKept clocks event local → instant_of local ≡ t → ⊥) → (place : ℕ) (given : Rdate) → GivesStart clocks event (Listed place) given → instant clocks (time_of given) ≡ t
+      → (end : ℤ) × IsInstance clocks event t end
+  unfolding instant_of
+  listed-instance unkept place given g same =
+      ⊎_elim
+      (λ none. let f = none place (omega arith) in let yes = listed-test place given g same in absurd cc)
+      (λ found.
+      let is = test-listed found.0 found.2 in (
+        finish clocks event (given_by event.start is.0),
+        record {
+          giver = Listed found.0;
+          given = given_by event.start is.0;
+          gives = (is.0, is.1, refl);
+          starts = sym is.2;
+          earliest = first found.0 found.3;
+          ends = refl;
+          stays = stays;
+        },
+      ))
+      (none-or-least lists_at (suc place))
+    where
+      first : (n : ℕ) → ((m : ℕ) → m < n → lists_at m ≡ false) → (other : Giver) (value : Rdate) → GivesStart clocks event other value → instant clocks (time_of value) ≡ t → IsNotAfter (Listed n) other
+      first n least (Kept local) value k e = unkept local k.0 (ap (λ x. instant clocks (time_of x)) (sym k.1) ∙ e)
+      first n least (Listed m) value k e = ⊎_elim (λ less. let f = least m less in let yes = listed-test m value k e in absurd cc) (λ more. more) (split m n)
+
+  some-instance : (giver : Giver) (given : Rdate) → GivesStart clocks event giver given → instant clocks (time_of given) ≡ t → (end : ℤ) × IsInstance clocks event t end
+  unfolding instant_of
+  some-instance (Kept local) given g same =
+      ⊎_elim (λ found. found) (λ unkept. absurd (unkept local g.0 (ap (λ x. instant clocks (time_of x)) (sym g.1) ∙ same))) kept-or-none
+  some-instance (Listed place) given g same = ⊎_elim (λ found. found) (λ unkept. listed-instance unkept place given g same) kept-or-none
+
+pub each-start : (clocks : Clocks) (event : Event) (giver : Giver) (given : Rdate) → IsTime event.start → GivesStart clocks event giver given
+    → is_excluded clocks event (instant clocks (time_of given)) ≡ false → (end : ℤ) × IsInstance clocks event (instant clocks (time_of given)) end
+each-start clocks event giver given time g stays = some-instance clocks event time (instant clocks (time_of given)) stays giver given g refl

@@ -4,6 +4,7 @@ use Rattle.std.specs.Ordering.{int_cmp, nat_cmp, on, then_cmp}
 use Rattle.std.specs.Cmp.Lexicographic.{slice_cmp}
 use Rattle.std.specs.declared.cmp.Ordering.{Ordering}
 use Rattle.ics_calendar.specs.declared.event.Event.{Event}
+use Rattle.ics_series.specs.declared.key.Key.{Key}
 use Rattle.ics_series.specs.declared.occurrence.Occurrence.{Occurrence}
 
 -- an occurrence, with its event's value
@@ -24,6 +25,9 @@ entry_of o = record { start = o.start; finish = o.finish; recurrence = o.recurre
 
 abbrev pub rank_of : Entry → Rank
 rank_of e = record { start = e.start; uid = e.event.uid; recurrence = e.recurrence }
+
+abbrev pub key_rank : Key → Rank
+key_rank key = record { start = key.start; uid = key.uid.items; recurrence = key.recurrence }
 
 -- by start, then by the bytes of the UID, then by recurrence
 abbrev pub rank_cmp : Rank → Rank → Ordering

@@ -4,11 +4,14 @@ use Rattle.std.specs.Int.{int_max}
 use Rattle.ics_values.specs.declared.duration.Duration.{Duration}
 use Rattle.ics_values.specs.declared.stamp.Stamp.{Stamp}
 use Rattle.ics_values.specs.declared.stamp.Stamp.TheVariants.{Date}
+use Rattle.ics_calendar.specs.declared.time.Rdate.{Rdate}
+use Rattle.ics_calendar.specs.declared.time.Rdate.TheVariants.{At, Span}
 use Rattle.ics_calendar.specs.declared.time.Time.{Time}
 use Rattle.ics_calendar.specs.declared.time.Length.{Length}
 use Rattle.ics_calendar.specs.declared.time.Length.TheVariants.{Open, Until, Lasting}
 use Rattle.ics_calendar.specs.declared.event.Event.{Event}
 use Rattle.ics_series.specs.Clocks.{Clock, Clocks, clock_of, instant, local_at, midnight, day_of}
+use Rattle.ics_series.specs.Starts.{time_of}
 
 -- How many days an event lasts that starts on a date: to its DTEND, or the whole days of its DURATION, and one at least.
 abbrev pub days_lasting : ℤ → Length → ℤ
@@ -20,7 +23,7 @@ days_lasting first (Lasting duration) = int_max (pos 1) (pos duration.days)
 abbrev pub later_by : Clock → Duration → ℤ → ℤ
 later_by clock duration t = clock.moment (local_at clock t +ℤ pos (duration.days * 86_400)) +ℤ pos duration.seconds
 
--- Where the length of an event with the DTSTART `first` leads from an occurrence whose start the stamp `given` gives. A
+-- Where the length of an event with the DTSTART `first` leads from an occurrence whose start the time `given` gives. A
 -- date leads to a midnight of the display zone. Of a date-time a DTEND is as many seconds off as it is from DTSTART.
 abbrev pub end_by : Clocks → Time → Time → Stamp → Length → ℤ
 end_by clocks first given (Date day) length = clocks.display.moment (midnight (day_of given.stamp +ℤ days_lasting day length))
@@ -28,10 +31,20 @@ end_by clocks first given stamp Open = instant clocks given
 end_by clocks first given stamp (Until end) = instant clocks given +ℤ (instant clocks end -ℤ instant clocks first)
 end_by clocks first given stamp (Lasting duration) = later_by (clock_of clocks given) duration (instant clocks given)
 
--- The finish of an event's occurrence whose start the stamp `given` gives. It is never before the start.
-abbrev pub finish : Clocks → Event → Time → ℤ
-finish clocks event given =
-    int_max (instant clocks given) (end_by clocks event.start given event.start.stamp event.length)
+-- Where a PERIOD ends that begins at a time: at its end, or its duration later.
+abbrev pub span_end : Clocks → Time → Length → ℤ
+span_end clocks start Open = instant clocks start
+span_end clocks start (Until end) = instant clocks end
+span_end clocks start (Lasting duration) = later_by (clock_of clocks start) duration (instant clocks start)
+
+-- Where what gives an event a start leads: a PERIOD by its own length, any other by the event's.
+abbrev pub end_of : Clocks → Event → Rdate → ℤ
+end_of clocks event (At given) = end_by clocks event.start given event.start.stamp event.length
+end_of clocks event (Span start length) = span_end clocks start length
+
+-- The finish of an event's occurrence whose start this gives. It is never before the start.
+abbrev pub finish : Clocks → Event → Rdate → ℤ
+finish clocks event given = int_max (instant clocks (time_of given)) (end_of clocks event given)
 
 -- How many seconds an event lasts, where each day counts 86,400 of them.
 abbrev pub seconds_by : Clocks → Time → Stamp → Length → ℤ

@@ -1,16 +1,21 @@
 -- Laws of the occurrences of events and of folders, and of listings.
-use Rattle.std.specs.Prelude.{◌≡◌, ℤ, List, None}
+use Rattle.std.specs.Prelude.{◌≡◌, ℤ, true, false, List, [], ◌∷◌, ◌++◌, Some, None, Contains, filter}
+use Rattle.std.specs.Ordering.{is_lt}
 use Rattle.ics_calendar.specs.Event.{FileSaid, IsTime}
 use Rattle.ics_calendar.specs.declared.event.Event.{Event}
+use Rattle.ics_calendar.specs.declared.time.Rdate.{Rdate}
+use Rattle.ics_calendar.specs.declared.time.Rdate.TheVariants.{At}
 use Rattle.ics_calendar.specs.declared.time.Time.{Time}
 use Rattle.ics_series.specs.declared.window.Window.{Window}
 use Rattle.ics_series.specs.Clocks.{Clock, Clocks, instant}
-use Rattle.ics_series.specs.Entry.{Entry, entry_cmp}
+use Rattle.ics_series.specs.Entry.{Entry, Rank, entry_cmp, rank_cmp, rank_of}
+use Rattle.ics_series.specs.Exclusions.{excludes, is_excluded}
 use Rattle.ics_series.specs.Finish.{finish}
 use Rattle.ics_series.specs.Listing.{IsListing}
-use Rattle.ics_series.specs.Meets.{IsListed}
+use Rattle.ics_series.specs.Meets.{IsListed, IsToCome}
 use Rattle.ics_series.specs.Occurs.{IsInstance, Occurs}
-use Rattle.ics_series.specs.Starts.{GivesStart}
+use Rattle.ics_series.specs.Starts.{time_of, GivesStart}
+use Rattle.ics_series.specs.declared.start.Giver.{Giver}
 
 -- a window has one listing at most
 abbrev pub OneListing : Type 0
@@ -18,20 +23,40 @@ OneListing =
     (files : List FileSaid) (display : Clock) (w : Window) (xs ys : List Entry)
     → IsListing entry_cmp (IsListed files display w) xs → IsListing entry_cmp (IsListed files display w) ys → xs ≡ ys
 
+-- a listing that goes on after a key is those members of the whole listing whose keys are greater
+abbrev pub ListingAfter : Type 0
+ListingAfter =
+    (files : List FileSaid) (display : Clock) (w : Window) (key : Rank) (xs ys : List Entry)
+    → IsListing entry_cmp (IsListed files display w) xs → IsListing entry_cmp (IsToCome files display w (Some key)) ys
+    → ys ≡ filter (λ o. is_lt (rank_cmp key (rank_of o))) xs
+
+-- and after the key of one of its entries those that stand behind it
+abbrev pub ListingBehind : Type 0
+ListingBehind =
+    (files : List FileSaid) (display : Clock) (w : Window) (front : List Entry) (o : Entry) (behind ys : List Entry)
+    → IsListing entry_cmp (IsListed files display w) (front ++ o ∷ behind)
+    → IsListing entry_cmp (IsToCome files display w (Some (rank_of o))) ys → ys ≡ behind
+
 -- no two occurrences of a folder have one UID and one recurrence, and so none have one key
 abbrev pub OneRecurrence : Type 0
 OneRecurrence =
     (files : List FileSaid) (display : Clock) (o q : Entry)
     → Occurs files display o → Occurs files display q → o.event.uid ≡ q.event.uid → o.recurrence ≡ q.recurrence → o ≡ q
 
--- each start that a time gives an event is that of an occurrence, where DTSTART lies in the years of stamps
+-- each start that something gives an event is that of an occurrence, where DTSTART lies in the years of stamps and no EXDATE takes it out
 abbrev pub EachStart : Type 0
 EachStart =
-    (clocks : Clocks) (event : Event) (given : Time) → IsTime event.start
-    → GivesStart clocks event given → (end : ℤ) × IsInstance clocks event (instant clocks given) end
+    (clocks : Clocks) (event : Event) (giver : Giver) (given : Rdate) → IsTime event.start → GivesStart clocks event giver given
+    → is_excluded clocks event (instant clocks (time_of given)) ≡ false → (end : ℤ) × IsInstance clocks event (instant clocks (time_of given)) end
 
--- an event without a rule occurs at its DTSTART alone
+-- an event without a rule and without RDATEs occurs at its DTSTART alone
 abbrev pub OneStart : Type 0
 OneStart =
-    (clocks : Clocks) (event : Event) (start end : ℤ)
-    → event.rule ≡ None → IsInstance clocks event start end → (start ≡ instant clocks event.start) × (end ≡ finish clocks event event.start)
+    (clocks : Clocks) (event : Event) (start end : ℤ) → event.rule ≡ None → event.rdates ≡ []
+    → IsInstance clocks event start end → (start ≡ instant clocks event.start) × (end ≡ finish clocks event (At event.start))
+
+-- a start that an EXDATE takes out is that of no occurrence
+abbrev pub NoneExcluded : Type 0
+NoneExcluded =
+    (clocks : Clocks) (event : Event) (exdate : Time) (start end : ℤ) → Contains event.exdates exdate
+    → excludes clocks event.start exdate start ≡ true → ¬ IsInstance clocks event start end

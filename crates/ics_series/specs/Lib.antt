@@ -1,7 +1,9 @@
+pub mod Chosen
 pub mod Clocks
 pub mod Contents
 pub mod Entry
 pub mod EntryLaws
+pub mod Exclusions
 pub mod Finish
 pub mod Found
 pub mod Laws
@@ -10,6 +12,7 @@ pub mod Meeting
 pub mod Meets
 pub mod MetList
 pub mod Occurs
+pub mod Placed
 pub mod Rising
 pub mod Spots
 pub mod Starts

@@ -2,18 +2,19 @@
 use Rattle.std.specs.Prelude.{ℤ, Bool, not, ◌&&◌, ◌||◌, int_lt, int_le}
 use Rattle.std.specs.Ordering.{int_eq}
 use Rattle.ics_calendar.specs.declared.event.Event.{Event}
-use Rattle.ics_calendar.specs.declared.time.Time.{Time}
+use Rattle.ics_calendar.specs.declared.time.Rdate.{Rdate}
 use Rattle.ics_series.specs.declared.window.Window.{Window}
 use Rattle.ics_series.specs.Clocks.{Clocks, instant}
 use Rattle.ics_series.specs.Entry.{Entry}
 use Rattle.ics_series.specs.Finish.{finish}
+use Rattle.ics_series.specs.Starts.{time_of}
 
--- the occurrence of an event whose start a time gives
-abbrev pub entry_from : Clocks → Event → Time → Entry
+-- the occurrence of an event whose start this gives
+abbrev pub entry_from : Clocks → Event → Rdate → Entry
 entry_from clocks event given = record {
-  start = instant clocks given;
+  start = instant clocks (time_of given);
   finish = finish clocks event given;
-  recurrence = instant clocks given;
+  recurrence = instant clocks (time_of given);
   event = event;
 }
 

@@ -1,9 +1,10 @@
 -- Which occurrences a listing of a window shows.
-use Rattle.std.specs.Prelude.{◌≡◌, ◌⊎◌, ◌<ℤ◌, ◌≤ℤ◌, IsTrue, List}
+use Rattle.std.specs.Prelude.{◌≡◌, ◌⊎◌, ◌<ℤ◌, ◌≤ℤ◌, IsTrue, List, Option, Some, None}
+use Rattle.std.specs.declared.cmp.Ordering.TheVariants.{Less}
 use Rattle.ics_calendar.specs.Event.{FileSaid}
 use Rattle.ics_series.specs.declared.window.Window.{Window}
 use Rattle.ics_series.specs.Clocks.{Clock}
-use Rattle.ics_series.specs.Entry.{Entry}
+use Rattle.ics_series.specs.Entry.{Entry, Rank, rank_cmp, rank_of}
 use Rattle.ics_series.specs.Occurs.{Occurs}
 
 -- an occurrence meets a window
@@ -15,3 +16,8 @@ pub record Meets (w : Window) (o : Entry) : Type 0 where
 -- an occurrence of the folder that meets the window
 abbrev pub IsListed : List FileSaid → Clock → Window → Entry → Type 0
 IsListed files display w o = Occurs files display o × Meets w o
+
+-- of these, where a listing goes on after a key, those with a greater key
+abbrev pub IsToCome : List FileSaid → Clock → Window → Option Rank → Entry → Type 0
+IsToCome files display w None = IsListed files display w
+IsToCome files display w (Some key) = λ o. IsListed files display w o × (rank_cmp key (rank_of o) ≡ Less)

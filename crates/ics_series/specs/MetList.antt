@@ -1,32 +1,23 @@
--- The occurrences of a folder that meet a window, in the order in which they are found.
-use Rattle.std.specs.Prelude.{◌≡◌, ◌++◌, List}
-use Rattle.std.specs.Ordering.{int_cmp, nat_cmp, on, then_cmp}
-use Rattle.std.specs.Cmp.Lexicographic.{slice_cmp}
+-- The occurrences that the chosen events of a folder give in a window, in the order in which they are found.
+use Rattle.std.specs.Prelude.{◌≡◌, ◌++◌, ◌||◌, ℤ, Bool, true, not, List, Option, Some, None, is_some}
+use Rattle.std.specs.Option.{option_map}
+use Rattle.std.specs.Ordering.{int_cmp, is_lt, on, then_cmp}
 use Rattle.std.specs.declared.cmp.Ordering.{Ordering}
 use Rattle.ics_calendar.specs.Event.{FileSaid}
 use Rattle.ics_calendar.specs.declared.event.Event.{Event}
 use Rattle.ics_series.specs.declared.window.Window.{Window}
+use Rattle.ics_series.specs.Chosen.{SubjectSeen, overridden, IsChosen}
 use Rattle.ics_series.specs.Clocks.{Clock, Clocks}
-use Rattle.ics_series.specs.Entry.{Entry}
+use Rattle.ics_series.specs.Entry.{Entry, Rank, rank_cmp, rank_of}
 use Rattle.ics_series.specs.Listing.{IsListing}
-use Rattle.ics_series.specs.Meets.{Meets, IsListed}
-use Rattle.ics_series.specs.Occurs.{IsOf}
+use Rattle.ics_series.specs.Meets.{Meets}
+use Rattle.ics_series.specs.Occurs.{IsMoved, IsOf}
+use Rattle.ics_series.specs.Placed.{Placed, clocks_at}
+use Rattle.ics_series.specs.Versions.{Label, is_named, subject_cmp}
 
 -- by start
 abbrev pub entry_start_cmp : Entry → Entry → Ordering
 entry_start_cmp = on (λ e. e.start) int_cmp
-
--- by the bytes of the UID
-abbrev pub entry_uid_cmp : Entry → Entry → Ordering
-entry_uid_cmp = on (λ e. e.event.uid) (slice_cmp nat_cmp)
-
--- by UID, then by start
-abbrev pub met_cmp : Entry → Entry → Ordering
-met_cmp = then_cmp entry_uid_cmp entry_start_cmp
-
--- the listing in the order of UIDs, then of starts
-abbrev pub IsMetList : List FileSaid → Clock → Window → List Entry → Type 0
-IsMetList files display w = IsListing met_cmp (IsListed files display w)
 
 -- an occurrence of the event that meets the window
 abbrev pub IsEventMet : Clocks → Event → Window → Entry → Type 0
@@ -37,3 +28,45 @@ pub record IsLengthened (clocks : Clocks) (event : Event) (w : Window) (before a
   pub more : List Entry
   pub are : IsListing entry_start_cmp (IsEventMet clocks event w) more
   pub behind : after ≡ before ++ more
+
+-- what an event gives: a master each of its own occurrences, an override that of the instance for which it stands
+abbrev pub IsGivenBy : Clocks → Event → Option ℤ → Entry → Type 0
+IsGivenBy clocks event None o = IsOf clocks event o
+IsGivenBy clocks event (Some recurrence) o = IsMoved clocks event o × (o.recurrence ≡ recurrence)
+
+abbrev pub IsGivenMet : Clocks → Event → Option ℤ → Window → Entry → Type 0
+IsGivenMet clocks event recurrence w o = IsGivenBy clocks event recurrence o × Meets w o
+
+-- what the event gives that meets the window, in the order of starts, stands behind what was there before
+pub record HasGiven (clocks : Clocks) (event : Event) (recurrence : Option ℤ) (w : Window) (before after : List Entry) : Type 0 where
+  pub more : List Entry
+  pub are : IsListing entry_start_cmp (IsGivenMet clocks event recurrence w) more
+  pub behind : after ≡ before ++ more
+
+-- what a version that counts gives, and that meets the window
+pub record IsGiven (files : List FileSaid) (display : Clock) (w : Window) (o : Entry) : Type 0 where
+  pub by : Placed
+  pub chosen : IsChosen files display by
+  pub is : IsGivenMet (clocks_at files display by.file) by.event (overridden (clocks_at files display by.file) by.event) w o
+
+-- the subject of what gave an occurrence
+abbrev pub subject_from : Entry → SubjectSeen
+subject_from o = record { uid = o.event.uid; recurrence = option_map (λ time. o.recurrence) o.event.recurrence }
+
+-- by subject, then by start
+abbrev pub given_cmp : Entry → Entry → Ordering
+given_cmp = then_cmp (on subject_from subject_cmp) entry_start_cmp
+
+-- all that is given, in the order of subjects, then of starts
+abbrev pub IsMetList : List FileSaid → Clock → Window → List Entry → Type 0
+IsMetList files display w = IsListing given_cmp (IsGiven files display w)
+
+-- it is an override's, or none of the versions overrides it
+abbrev pub is_kept : List Label → Entry → Bool
+is_kept labels o =
+    is_some o.event.recurrence || not (is_named (record { uid = o.event.uid; recurrence = Some o.recurrence }) labels)
+
+-- its key is greater than this one, if there is one
+abbrev pub is_after : Option Rank → Entry → Bool
+is_after None o = true
+is_after (Some key) o = is_lt (rank_cmp key (rank_of o))

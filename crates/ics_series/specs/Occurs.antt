@@ -1,43 +1,27 @@
--- Which occurrences the files of a folder have (RFC 5545, sections 3.6.1, 3.8.4, 3.8.5 and 3.8.7.4).
-use Rattle.std.specs.Prelude.{◌≡◌, ◌≢◌, ◌≤ℤ◌, ℕ, ℤ, List, [], Option, Some, None, slice_get}
-use Rattle.std.specs.Ordering.{nat_cmp, on, then_cmp}
-use Rattle.std.specs.declared.cmp.Ordering.{Ordering}
-use Rattle.std.specs.declared.cmp.Ordering.TheVariants.{Less}
+-- Which occurrences the files of a folder have (RFC 5545, sections 3.6.1, 3.8.4 and 3.8.5).
+use Rattle.std.specs.Prelude.{◌≡◌, ◌⊎◌, ℤ, false, List}
 use Rattle.ics_calendar.specs.Event.{FileSaid}
 use Rattle.ics_calendar.specs.declared.event.Event.{Event}
-use Rattle.ics_calendar.specs.declared.time.Time.{Time}
-use Rattle.ics_zone.specs.Observances.{Phase}
-use Rattle.ics_series.specs.Clocks.{Clock, Clocks, clocks_of, instant, written}
+use Rattle.ics_calendar.specs.declared.time.Rdate.{Rdate}
+use Rattle.ics_calendar.specs.declared.time.Rdate.TheVariants.{At}
+use Rattle.ics_series.specs.Chosen.{IsMaster, IsOverride, IsOverridden}
+use Rattle.ics_series.specs.Clocks.{Clock, Clocks, instant}
 use Rattle.ics_series.specs.Entry.{Entry}
+use Rattle.ics_series.specs.Exclusions.{is_excluded}
 use Rattle.ics_series.specs.Finish.{finish}
-use Rattle.ics_series.specs.Starts.{GivesStart}
+use Rattle.ics_series.specs.Placed.{Placed, clocks_at}
+use Rattle.ics_series.specs.Starts.{time_of, GivesStart, IsNotAfter}
+use Rattle.ics_series.specs.declared.start.Giver.{Giver}
 
--- an event, the number of its file and its place in the file
-pub record Placed : Type 0 where
-  pub file : ℕ
-  pub place : ℕ
-  pub event : Event
-
--- it stands there
-pub record IsPlaced (files : List FileSaid) (p : Placed) : Type 0 where
-  pub within : (f : FileSaid) × (slice_get files p.file ≡ Some f) × (slice_get f.events p.place ≡ Some p.event)
-
--- by SEQUENCE, then file, then place
-abbrev pub placed_cmp : Placed → Placed → Ordering
-placed_cmp = then_cmp (on (λ p. p.event.sequence) nat_cmp) (then_cmp (on (λ p. p.file) nat_cmp) (on (λ p. p.place) nat_cmp))
-
--- the master of its UID: the greatest event of that UID in the folder
-pub record IsMaster (files : List FileSaid) (p : Placed) : Type 0 where
-  pub placed : IsPlaced files p
-  pub greatest : (q : Placed) → IsPlaced files q → q.event.uid ≡ p.event.uid → placed_cmp p q ≢ Less
-
--- an event occurs from this instant to that one; of the times that give the start the one with the earliest local gives the finish
+-- an event occurs from this instant to that one; of what gives the start the first gives the finish, and no EXDATE takes the start out
 pub record IsInstance (clocks : Clocks) (event : Event) (start end : ℤ) : Type 0 where
-  pub given : Time
-  pub gives : GivesStart clocks event given
-  pub starts : start ≡ instant clocks given
-  pub earliest : (other : Time) → GivesStart clocks event other → instant clocks other ≡ start → written given.stamp ≤ℤ written other.stamp
+  pub giver : Giver
+  pub given : Rdate
+  pub gives : GivesStart clocks event giver given
+  pub starts : start ≡ instant clocks (time_of given)
+  pub earliest : (other : Giver) (value : Rdate) → GivesStart clocks event other value → instant clocks (time_of value) ≡ start → IsNotAfter giver other
   pub ends : end ≡ finish clocks event given
+  pub stays : is_excluded clocks event start ≡ false
 
 -- an occurrence of the event e, whose start tells it from the others
 pub record IsOf (clocks : Clocks) (e : Event) (o : Entry) : Type 0 where
@@ -45,14 +29,25 @@ pub record IsOf (clocks : Clocks) (e : Event) (o : Entry) : Type 0 where
   pub recurrence : o.recurrence ≡ o.start
   pub lasts : IsInstance clocks e o.start o.finish
 
--- the zones of the file with this number
-abbrev pub zones_of : Option FileSaid → List (List Phase)
-zones_of (Some f) = f.zones
-zones_of None = []
+-- the occurrence of an override: at its own DTSTART, whatever its RRULE, RDATE and EXDATE say
+pub record IsMoved (clocks : Clocks) (e : Event) (o : Entry) : Type 0 where
+  pub event : o.event ≡ e
+  pub starts : o.start ≡ instant clocks e.start
+  pub ends : o.finish ≡ finish clocks e (At e.start)
 
-abbrev pub zones_in : List FileSaid → ℕ → List (List Phase)
-zones_in files file = zones_of (slice_get files file)
+-- an occurrence of a master, for which no override stands
+pub record IsOfMaster (files : List FileSaid) (display : Clock) (o : Entry) : Type 0 where
+  pub master : Placed
+  pub is : IsMaster files display master
+  pub of : IsOf (clocks_at files display master.file) master.event o
+  pub kept : IsOverridden files display o.event.uid o.recurrence → ⊥
 
--- an occurrence of the folder: one of a master, whose times are read by the clocks of its file
+-- the occurrence of an override, told from the others by its RECURRENCE-ID
+pub record IsOfOverride (files : List FileSaid) (display : Clock) (o : Entry) : Type 0 where
+  pub override : Placed
+  pub is : IsOverride files display override o.recurrence
+  pub of : IsMoved (clocks_at files display override.file) override.event o
+
+-- an occurrence of the folder
 abbrev pub Occurs : List FileSaid → Clock → Entry → Type 0
-Occurs files display o = (p : Placed) × IsMaster files p × IsOf (clocks_of display (zones_in files p.file)) p.event o
+Occurs files display o = IsOfMaster files display o ⊎ IsOfOverride files display o

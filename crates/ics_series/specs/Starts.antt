@@ -1,5 +1,5 @@
--- Which times give an event its starts (RFC 5545, sections 3.3.10, 3.8.2.4 and 3.8.5.3).
-use Rattle.std.specs.Prelude.{◌≡◌, ◌≤ℤ◌, true, Option, Some, IfSome, ◌⊎◌}
+-- What gives an event its starts (RFC 5545, sections 3.3.10, 3.8.2.4, 3.8.5.2 and 3.8.5.3).
+use Rattle.std.specs.Prelude.{◌≡◌, ◌≤◌, ◌≤ℤ◌, ⊤, true, Option, None, Some, IfSome, ◌⊎◌, slice_get}
 use Rattle.std.specs.Option.{option_map}
 use Rattle.ics_values.specs.Days.{IsDayNumber}
 use Rattle.ics_values.specs.Locals.{local_at}
@@ -12,9 +12,13 @@ use Rattle.ics_rule.specs.Locals.{number}
 use Rattle.ics_rule.specs.Recurrence.{Recurrence}
 use Rattle.ics_rule.specs.declared.kind.Kind.{Kind}
 use Rattle.ics_rule.specs.declared.kind.Kind.TheVariants as kind
+use Rattle.ics_calendar.specs.declared.time.Rdate.{Rdate}
+use Rattle.ics_calendar.specs.declared.time.Rdate.TheVariants.{At, Span}
 use Rattle.ics_calendar.specs.declared.time.Time.{Time}
 use Rattle.ics_calendar.specs.declared.event.Event.{Event}
-use Rattle.ics_series.specs.Clocks.{Clocks, instant}
+use Rattle.ics_series.specs.Clocks.{Clocks, day_of, instant, seconds_of}
+use Rattle.ics_series.specs.declared.start.Giver.{Giver}
+use Rattle.ics_series.specs.declared.start.Giver.TheVariants.{Kept, Listed}
 
 -- an event that starts on a date recurs by dates
 abbrev pub kind_of : Stamp → Kind
@@ -49,17 +53,51 @@ recurrence_by first parts = record { parts = parts; start = local_of first; kind
 abbrev pub recurrence_of : Event → Option Recurrence
 recurrence_of event = option_map (recurrence_by event.start.stamp) event.rule
 
--- a local that the event's rule keeps gives the time at that local, in DTSTART's kind and zone. Where UNTIL is in UTC and the event has
--- date-times, it does so only if the instant is not after UNTIL
-pub record IsRuleStart (clocks : Clocks) (event : Event) (given : Time) : Type 0 where
+-- a local that the event's rule keeps. Where UNTIL is in UTC and the event has date-times, the instant that the local means in DTSTART's
+-- zone is not after UNTIL
+pub record IsRuleStart (clocks : Clocks) (event : Event) (local : Local) : Type 0 where
   pub rule : Recurrence
   pub has : recurrence_of event ≡ Some rule
-  pub local : Local
   pub calendar : IsDayNumber local.day
   pub kept : is_kept rule (number local) ≡ true
-  pub is : given ≡ time_at event.start local
-  pub until : IfSome (until_moment rule) (λ last. instant clocks given ≤ℤ last)
+  pub until : IfSome (until_moment rule) (λ last. instant clocks (time_at event.start local) ≤ℤ last)
 
--- a time gives a start of the event: its DTSTART does, and so does each such time
-abbrev pub GivesStart : Clocks → Event → Time → Type 0
-GivesStart clocks event given = (given ≡ event.start) ⊎ IsRuleStart clocks event given
+-- the date of a time
+abbrev pub date_of : Time → Time
+date_of time = record { stamp = Date (day_of time.stamp); zone = None }
+
+-- the time at which a value of an RDATE begins
+abbrev pub time_of : Rdate → Time
+time_of (At time) = time
+time_of (Span start length) = start
+
+-- a time of an RDATE under an event of date-times: a date stands for that date at DTSTART's time of the day, in DTSTART's zone
+abbrev pub time_by : Time → Time → Stamp → Time
+time_by first time (Date day) = time_at first (local_at day (local_of first.stamp).second)
+time_by first time (Floating local) = time
+time_by first time (Utc local) = time
+time_by first time (Zoned local) = time
+
+-- where a value of an RDATE starts an event with this DTSTART: under an event of dates each form means its date
+abbrev pub given_from : Time → Stamp → Rdate → Rdate
+given_from first (Date day) rdate = At (date_of (time_of rdate))
+given_from first stamp (At time) = At (time_by first time time.stamp)
+given_from first stamp (Span start length) = Span start length
+
+abbrev pub given_by : Time → Rdate → Rdate
+given_by first rdate = given_from first first.stamp rdate
+
+-- What gives the event a start, and the value by which it does: a local that DTSTART has or the rule keeps gives the time at that local, in
+-- DTSTART's kind and zone, and the RDATE at a place among them what it means under this DTSTART.
+abbrev pub GivesStart : Clocks → Event → Giver → Rdate → Type 0
+GivesStart clocks event (Kept local) given =
+    ((local ≡ local_of event.start.stamp) ⊎ IsRuleStart clocks event local) × (given ≡ At (time_at event.start local))
+GivesStart clocks event (Listed place) given =
+    (rdate : Rdate) × (slice_get event.rdates place ≡ Some rdate) × (given ≡ given_by event.start rdate)
+
+-- Of what gives starts the one is not after the other: the locals come first, in their order, and then the RDATEs as the file has them.
+abbrev pub IsNotAfter : Giver → Giver → Type 0
+IsNotAfter (Kept a) (Kept b) = seconds_of a ≤ℤ seconds_of b
+IsNotAfter (Kept a) (Listed place) = ⊤
+IsNotAfter (Listed place) (Kept b) = ⊥
+IsNotAfter (Listed a) (Listed b) = a ≤ b

@@ -1,17 +1,16 @@
 //! Where an event's occurrence ends.
-ghost use Rattle.std.specs.Prelude.{◌≡◌, ◌+◌, ◌*◌, ◌<◌, ◌≤◌, ◌<ℤ◌, ◌≤ℤ◌, ◌+ℤ◌, ◌*ℤ◌, length, pos, neg_ℤ, is_some, IfSome};
-ghost use Rattle.ics_calendar.specs.Event.{is_zoned, IsLasting, IsLength, IsTime};
+ghost use Rattle.std.specs.Prelude.{◌≡◌, ◌+◌, ◌*◌, ◌<◌, ◌≤◌, ◌<ℤ◌, ◌≤ℤ◌, ◌+ℤ◌, ◌*ℤ◌, pos, neg_ℤ, is_some};
+ghost use Rattle.ics_calendar.specs.Event.{is_zoned, IsLasting, IsLength, IsSpan, IsTime};
 ghost use Rattle.ics_series.specs.Clocks.{clock_of, display_clock, instant, local_at, midnight};
-ghost use Rattle.ics_series.specs.Finish.{end_by, finish, later_by};
-ghost use Rattle.ics_series.specs.Found.{time_of, IsStart};
-ghost use Rattle.ics_series.specs.Starts.{time_at};
-ghost use Rattle.ics_series.specs.Zones.{clocks_in, span, span_by, AreReached, EndIsReadable, EndsNear, IsReadable, IsReadableEvent};
+ghost use Rattle.ics_series.specs.Finish.{end_by, finish, later_by, span_end};
+ghost use Rattle.ics_series.specs.Found.{IsStart};
+ghost use Rattle.ics_series.specs.Zones.{asked_at, asked_by_span, clocks_in, span_by, AreReached, EndIsReadable, EndsNear, HasEndIn, HasZoneIn, IsReadable, IsReadableEvent};
 
 use crate::instant::instant;
-use crate::lasting::days_lasting;
+use crate::lasting::{day_of, days_lasting};
 use crate::start::Start;
 use crate::zones::FileZones;
-use ics_calendar::{Event, Length, Time};
+use ics_calendar::{Event, Length, Rdate, Time};
 use ics_values::{Duration, Local, Moment, Stamp};
 use ics_zone::{Display, Place};
 
@@ -23,36 +22,59 @@ pub(crate) fn finish(zones: FileZones<'_>, event: &Event, start: Start) -> Momen
     requires event { IsReadableEvent zones event.now }
     requires start { IsStart (clocks_in zones) event.now start }
     requires early { start.moment <ℤ pos 247_091_126_400 }
-    requires reached { AreReached zones.zones.now ((start.moment +ℤ span event.now) +ℤ pos 345_600) }
-    ensures value { result ≡ finish (clocks_in zones.entry) event.now (time_of event.now start) }
+    requires reached { AreReached zones.zones.now (asked_at event.now start.moment start.given) }
+    ensures value { result ≡ finish (clocks_in zones.entry) event.now start.given }
     ensures forward { start.moment ≤ℤ result }
     ensures early { result <ℤ pos 250_247_232_000 }
 {
-    let end = end_by(zones, event.start, event.length, start);
+    let end = match start.given {
+        Rdate::At(given) => end_by(zones, event.start, event.length, given, start.moment),
+        Rdate::Span(given, length) => span_end(zones, given, length, start.moment),
+    };
     start.moment.max(end)
 }
 
 // Where a length leads from a start of an event with this DTSTART.
-fn end_by(zones: FileZones<'_>, first: Time, length: Length, start: Start) -> Moment
+fn end_by(zones: FileZones<'_>, first: Time, length: Length, given: Time, start: Moment) -> Moment
     requires first { IsReadable zones.zones.now first }
     requires length { IsLength first.stamp length }
     requires end { EndIsReadable zones.zones.now length }
     requires near { EndsNear (clocks_in zones) first length }
-    requires given { IsTime (time_at first start.local) }
-    requires start { start.moment ≡ instant (clocks_in zones) (time_at first start.local) }
-    requires early { start.moment <ℤ pos 247_091_126_400 }
-    requires reached { AreReached zones.zones.now ((start.moment +ℤ span_by first.stamp length) +ℤ pos 345_600) }
-    ensures value { result
-        ≡ end_by (clocks_in zones.entry) first (time_at first start.local) first.stamp length }
+    requires given { IsTime given }
+    requires within { HasZoneIn zones.zones.now given }
+    requires start { start ≡ instant (clocks_in zones) given }
+    requires early { start <ℤ pos 247_091_126_400 }
+    requires reached { AreReached zones.zones.now ((start +ℤ span_by first.stamp length) +ℤ pos 345_600) }
+    ensures value { result ≡ end_by (clocks_in zones.entry) first given first.stamp length }
     ensures early { result <ℤ pos 250_247_232_000 }
 {
     match (first.stamp, length) {
         (Stamp::Date(day), length) => {
-            midnight_after(zones.display, start.local.day, days_lasting(day, length))
+            let days = days_lasting(day, length);
+            midnight_after(zones.display, day_of(given.stamp), days)
         }
-        (_, Length::Open) => start.moment,
-        (_, Length::Until(end)) => start.moment + (instant(zones, end) - instant(zones, first)),
-        (_, Length::Lasting(duration)) => later_by(zones, first, duration, start.moment),
+        (_, Length::Open) => start,
+        (_, Length::Until(end)) => start + (instant(zones, end) - instant(zones, first)),
+        (_, Length::Lasting(duration)) => later_by(zones, given, duration, start),
+    }
+}
+
+// Where a PERIOD ends that begins at a time.
+fn span_end(zones: FileZones<'_>, given: Time, length: Length, start: Moment) -> Moment
+    requires given { IsTime given }
+    requires within { HasZoneIn zones.zones.now given }
+    requires span { IsSpan length }
+    requires end { HasEndIn zones.zones.now length }
+    requires start { start ≡ instant (clocks_in zones) given }
+    requires early { start <ℤ pos 247_091_126_400 }
+    requires reached { AreReached zones.zones.now (asked_by_span start length) }
+    ensures value { result ≡ span_end (clocks_in zones.entry) given length }
+    ensures early { result <ℤ pos 250_247_232_000 }
+{
+    match length {
+        Length::Open => start,
+        Length::Until(end) => instant(zones, end),
+        Length::Lasting(duration) => later_by(zones, given, duration, start),
     }
 }
 
@@ -73,7 +95,7 @@ fn midnight_after(display: &Display, day: i32, days: i32) -> Moment
 
 // The instant that is a duration later: its days go by the clock of a time's zone.
 fn later_by(zones: FileZones<'_>, time: Time, duration: Duration, start: Moment) -> Moment
-    requires zone { IfSome time.zone (λ zone. zone < length zones.zones.now) }
+    requires zone { HasZoneIn zones.zones.now time }
     requires own { is_some time.zone ≡ is_zoned time.stamp }
     requires late { neg_ℤ (pos 62_135_769_600) ≤ℤ start }
     requires early { start <ℤ pos 247_091_126_400 }
@@ -87,7 +109,7 @@ fn later_by(zones: FileZones<'_>, time: Time, duration: Duration, start: Moment)
 
 // The instant that is so many days later by the clock of a time's zone.
 fn days_after(zones: FileZones<'_>, time: Time, start: Moment, days: i64) -> Moment
-    requires zone { IfSome time.zone (λ zone. zone < length zones.zones.now) }
+    requires zone { HasZoneIn zones.zones.now time }
     requires own { is_some time.zone ≡ is_zoned time.stamp }
     requires late { neg_ℤ (pos 62_135_769_600) ≤ℤ start }
     requires early { start <ℤ pos 247_091_126_400 }

@@ -1,20 +1,23 @@
 //! The events of a folder.
 ghost use Rattle.std.specs.Prelude.{◌≡◌, map, IfOk, OnOk};
+ghost use Rattle.std.specs.Option.{option_map};
 ghost use Rattle.ics_calendar.specs.Event.{said_by};
 ghost use Rattle.ics_series.specs.Clocks.{display_clock};
-ghost use Rattle.ics_series.specs.Entry.{entry_cmp, entry_of};
+ghost use Rattle.ics_series.specs.Entry.{entry_cmp, entry_of, key_rank};
 ghost use Rattle.ics_series.specs.Listing.{IsListing};
 ghost use Rattle.ics_series.specs.MetList.{IsMetList};
-ghost use Rattle.ics_series.specs.Meets.{IsListed};
+ghost use Rattle.ics_series.specs.Meets.{IsToCome};
+ghost use Rattle.ics_series.specs.Versions.{AreChosen};
 ghost use Rattle.ics_series.specs.Zones.{IsReached};
 
-use crate::agenda::Agenda;
+use crate::agenda::{Agenda, to_come};
+use crate::chosen::{chosen, overrides};
 use crate::feed::Coming;
-use crate::master::masters;
-use crate::met::push_met;
+use crate::key::Key;
+use crate::moved::push_given;
 use crate::occurrence::Occurrence;
 use crate::reach::reach_each;
-use crate::spot::Spot;
+use crate::version::Version;
 use crate::window::Window;
 use ics_calendar::FileEvents;
 use ics_zone::Display;
@@ -26,7 +29,6 @@ use std::marker::Model;
 pub struct Folder {
     files: Vec<FileEvents>,
     display: Display,
-    masters: Vec<Spot>,
     alloc: Global,
 }
 
@@ -36,12 +38,6 @@ impl Model for Folder {
     ghost Value = { Contents };
 
     ghost view = { λ a. record { files = a.files.items; display = a.display } };
-
-    ghost use Rattle.std.specs.Prelude.{map};
-    ghost use Rattle.ics_calendar.specs.Event.{said_by};
-    ghost use Rattle.ics_series.specs.Versions.{AreMasters};
-
-    ghost invariant = { λ a. AreMasters (map said_by a.files.items) a.masters.items };
 }
 
 impl Folder {
@@ -54,11 +50,9 @@ impl Folder {
         ensures files { IfOk result (λ folder. folder.files ≡ files.items) }
         ensures display { IfOk result (λ folder. folder.display ≡ display) }
     {
-        let masters = masters(alloc, &files)?;
         Ok(Folder {
             files,
             display,
-            masters,
             alloc,
         })
     }
@@ -73,30 +67,51 @@ impl Folder {
         reach_each(&mut self.files, window)
     }
 
-    /// The occurrences that meet the window, in the order of their keys. The folder has been reached
-    /// for that window.
-    pub fn agenda<'a>(&'a self, window: Window) -> Result<Agenda<'a>, AllocError>
+    /// The occurrences that meet the window, in the order of their keys; after a key only those
+    /// that come after it. The folder has been reached for that window.
+    pub fn agenda<'a>(
+        &'a self,
+        window: Window,
+        after: Option<&Key>,
+    ) -> Result<Agenda<'a>, AllocError>
         requires reached { IsReached self.now.files window }
         ensures listing { IfOk result (λ agenda. IsListing entry_cmp
-            (IsListed (map said_by self.entry.now.files) (display_clock self.entry.now.display) window)
+            (IsToCome (map said_by self.entry.now.files) (display_clock self.entry.now.display) window
+            (option_map (λ key. key_rank key.now) after.entry))
             (⟦<Agenda<'a> as Coming>⟧.coming agenda)) }
     {
-        let mut entries = self.met(&window)?;
+        let chosen = chosen(self.alloc, &self.files, &self.display)?;
+        let overrides = overrides(self.alloc, &chosen)?;
+        let met = self.met(&chosen, &window)?;
+        let mut entries = to_come(self.alloc, &met, &overrides, after)?;
         entries.sort_unstable_by(Occurrence::compare);
         Ok(Agenda::new(entries))
     }
 
-    // The occurrences that meet the window, in the order of their UIDs, then of their starts.
-    fn met<'a>(&'a self, window: &Window) -> Result<Vec<Occurrence<'a>>, AllocError>
-        requires { IsReached self.now.files window.now }
+    // What the versions that count give in the window, in the order of their subjects, then of the
+    // starts.
+    fn met<'a>(
+        &'a self,
+        chosen: &[Version<'_>],
+        window: &Window,
+    ) -> Result<Vec<Occurrence<'a>>, AllocError>
+        requires reached { IsReached self.now.files window.now }
+        requires chosen { AreChosen (map said_by self.now.files) (display_clock self.now.display) chosen.now }
         ensures { IfOk result (λ entries. IsMetList (map said_by self.entry.now.files)
             (display_clock self.entry.now.display) window.now (map entry_of entries.items)) }
     {
         let mut entries = Vec::new(self.alloc);
-        for spot in &self.masters {
-            let zones = spot.zones(&self.files, &self.display);
-            let event = spot.event(&self.files);
-            push_met(self.alloc, &mut entries, zones, event, window)?;
+        for version in chosen {
+            let zones = version.spot.zones(&self.files, &self.display);
+            let event = version.spot.event(&self.files);
+            push_given(
+                self.alloc,
+                &mut entries,
+                zones,
+                event,
+                version.subject.recurrence,
+                window,
+            )?;
         }
         Ok(entries)
     }

@@ -1,9 +1,10 @@
 //! Times read as instants.
 ghost use Rattle.std.specs.Prelude.{◌≡◌};
 ghost use Rattle.ics_series.specs.Clocks.{instant, seconds_of, written};
-ghost use Rattle.ics_series.specs.Zones.{clocks_in, IsReadable};
+ghost use Rattle.ics_series.specs.Zones.{clocks_in, is_past, IsReadable};
 
 use crate::start::local_of;
+use crate::window::Window;
 use crate::zones::FileZones;
 use ics_calendar::Time;
 use ics_values::{Local, Moment, Stamp};
@@ -21,6 +22,14 @@ pub(crate) fn instant(zones: FileZones<'_>, time: Time) -> Moment
         Stamp::Utc(local) => seconds_of(local),
         Stamp::Zoned(local) => zones.zone_of(time).moment(local),
     }
+}
+
+/// Whether a time is written two days or more past the window's end: then it lies after it in each
+/// zone, and no zone has to be asked.
+pub(crate) fn is_past(time: Time, window: &Window) -> bool
+    ensures { result ≡ is_past window.now time }
+{
+    window.to + 2 * 86_400 <= written(time.stamp)
 }
 
 /// The local that a stamp writes, on a clock without zones: a date stands for its midnight.

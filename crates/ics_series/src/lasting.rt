@@ -27,8 +27,8 @@ pub(crate) fn days_lasting(first: i32, length: Length) -> i32
     }
 }
 
-// The day that a stamp writes.
-fn day_of(stamp: Stamp) -> i32
+/// The day that a stamp writes.
+pub(crate) fn day_of(stamp: Stamp) -> i32
     ensures { result ≡ day_of stamp }
 {
     match stamp {

@@ -1,9 +1,24 @@
 //! Laws of the definitions, each the contract of a function that does nothing.
-ghost use Rattle.ics_series.specs.Laws.{EachStart, OneListing, OneRecurrence, OneStart};
+ghost use Rattle.std.specs.Prelude.{◌≡◌};
+ghost use Rattle.ics_series.specs.Entry.{key_rank, rank_cmp};
+ghost use Rattle.ics_series.specs.Laws.{EachStart, ListingAfter, ListingBehind, NoneExcluded, OneListing, OneRecurrence, OneStart};
+ghost use Rattle.ics_series.specs.declared.key.Key.{Key};
+
+use crate::key::Key;
 
 /// A window of a folder has one listing at most.
 pub fn one_listing()
     ensures { OneListing }
+{}
+
+/// A listing that goes on after a key is those entries of the whole listing whose keys are greater.
+pub fn listing_after()
+    ensures { ListingAfter }
+{}
+
+/// After the key of one of its entries a listing goes on with those that stand behind it.
+pub fn listing_behind()
+    ensures { ListingBehind }
 {}
 
 /// No two occurrences of a folder have one UID and one recurrence.
@@ -11,13 +26,24 @@ pub fn one_recurrence()
     ensures { OneRecurrence }
 {}
 
-/// Each DTSTART and each local that a rule keeps starts an occurrence, where several mean one instant
-/// one of them; a UTC UNTIL leaves out the kept locals past it.
+/// Each DTSTART, each local that a rule keeps and each RDATE starts an occurrence, where several mean
+/// one instant the first of them; a UTC UNTIL leaves out the kept locals past it, and EXDATEs leave out
+/// starts.
 pub fn each_start()
     ensures { EachStart }
 {}
 
-/// An event without a rule occurs at its DTSTART alone.
+/// An event without a rule and without RDATEs occurs at its DTSTART alone.
 pub fn one_start()
     ensures { OneStart }
+{}
+
+/// A start that an EXDATE takes out is that of no occurrence.
+pub fn none_excluded()
+    ensures { NoneExcluded }
+{}
+
+/// Keys are ordered as the occurrences of a listing are.
+pub fn keys_as_listed()
+    ensures { (a b : Key) → ⟦<Key as Ord>⟧.cmp a b ≡ rank_cmp (key_rank a) (key_rank b) }
 {}

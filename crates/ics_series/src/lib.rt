@@ -2,14 +2,18 @@
 #![tactic(auto)]
 
 mod agenda;
+mod chosen;
+mod exclusion;
 mod feed;
 mod finish;
 mod folder;
 mod instant;
+mod key;
 mod lasting;
 mod laws;
-mod master;
+mod listed;
 mod met;
+mod moved;
 mod occurrence;
 mod reach;
 mod spot;
@@ -22,6 +26,10 @@ mod zones;
 pub use agenda::Agenda;
 pub use feed::{Coming, Feed};
 pub use folder::Folder;
-pub use laws::{each_start, one_listing, one_recurrence, one_start};
+pub use key::Key;
+pub use laws::{
+    each_start, keys_as_listed, listing_after, listing_behind, none_excluded, one_listing,
+    one_recurrence, one_start,
+};
 pub use occurrence::Occurrence;
 pub use window::Window;

@@ -1,14 +1,18 @@
 //! The occurrences of one event that meet a window.
-ghost use Rattle.std.specs.Prelude.{◌≡◌, ◌+ℤ◌, pos, int_le, map, IfOk};
+ghost use Rattle.std.specs.Prelude.{◌≡◌, ◌&&◌, ◌==◌, length, map, IfOk};
+ghost use Rattle.std.specs.Option.{option_map};
 ghost use Rattle.ics_calendar.specs.Event.{IsEvent, IsEventOf};
-ghost use Rattle.ics_series.specs.Clocks.{written};
 ghost use Rattle.ics_series.specs.Entry.{entry_of};
+ghost use Rattle.ics_series.specs.Exclusions.{AreExclusions};
+ghost use Rattle.ics_series.specs.Found.{shown_by, IsStart};
 ghost use Rattle.ics_series.specs.MetList.{IsLengthened};
 ghost use Rattle.ics_zone.specs.Tables.{phases_of};
-ghost use Rattle.ics_series.specs.Zones.{asked, clocks_in, AreReached};
+ghost use Rattle.ics_series.specs.Zones.{asked, clocks_in, is_past, AreReached, IsReadableEvent};
 
-use crate::instant::written;
+use crate::exclusion::Exclusions;
+use crate::instant::is_past;
 use crate::occurrence::Occurrence;
+use crate::start::Start;
 use crate::starts::starts;
 use crate::window::Window;
 use crate::zones::FileZones;
@@ -31,20 +35,44 @@ pub(crate) fn push_met<'a>(
     if begins_after(event, window) {
         return Ok(());
     }
+    let exclusions = Exclusions::new(alloc, zones, event, window)?;
     let starts = starts(alloc, zones, event, window)?;
     for start in &starts {
-        if let Some(occurrence) = Occurrence::within(zones, event, *start, window) {
+        if let Some(occurrence) = shown(zones, event, &exclusions, *start, window) {
             entries.push(occurrence)?;
         }
     }
     Ok(())
 }
 
-// Whether DTSTART is written two days or more past the window's end: then no start of the event is
-// before it, and no zone has to be asked.
-fn begins_after(event: &Event, window: &Window) -> bool
+/// Whether DTSTART is written two days or more past the window's end and there are no RDATEs: then no
+/// start of the event is before it, and no zone has to be asked.
+pub(crate) fn begins_after(event: &Event, window: &Window) -> bool
     ensures sound { IsEvent event.now }
-    ensures value { result ≡ int_le (window.now.to +ℤ pos 172_800) (written event.now.start.stamp) }
+    ensures value { result ≡ (is_past window.now event.now.start && length event.now.rdates == 0) }
 {
-    window.to + 2 * 86_400 <= written(event.start.stamp)
+    is_past(event.start, window) && event.rdates.is_empty()
+}
+
+// The occurrence of an event that has a start, if it meets the window and no EXDATE takes it out.
+fn shown<'a>(
+    zones: FileZones<'_>,
+    event: &'a Event,
+    exclusions: &Exclusions,
+    start: Start,
+    window: &Window,
+) -> Option<Occurrence<'a>>
+    requires event { IsReadableEvent zones event.now }
+    requires reached { AreReached zones.zones.now (asked window.now event.now) }
+    requires exclusions { AreExclusions (clocks_in zones) event.now window.now
+        exclusions.now.instants.items exclusions.now.days.items }
+    requires start { IsStart (clocks_in zones) event.now start }
+    ensures { option_map entry_of result ≡ shown_by (clocks_in zones.entry) window.now event.entry.now start }
+{
+    let occurrence = Occurrence::within(zones, event, start, window)?;
+    if exclusions.has(zones, event.start, occurrence.start) {
+        None
+    } else {
+        Some(occurrence)
+    }
 }

@@ -14,8 +14,8 @@ pub(crate) struct Spot {
 }
 
 impl Spot {
-    ghost use Rattle.ics_series.specs.Clocks.{clocks_of, display_clock};
-    ghost use Rattle.ics_series.specs.Occurs.{zones_in};
+    ghost use Rattle.ics_series.specs.Clocks.{display_clock};
+    ghost use Rattle.ics_series.specs.Placed.{clocks_at, zones_in};
     ghost use Rattle.ics_series.specs.Spots.{event_at};
     ghost use Rattle.ics_series.specs.Zones.{asked, clocks_in, AreReached, IsReached};
     ghost use Rattle.ics_series.specs.declared.window.Window.{Window};
@@ -36,7 +36,7 @@ impl Spot {
         requires { IsSome (event_at (map said_by files.now) self) }
         ensures zones { map phases_of result.zones.now ≡ zones_in (map said_by files.entry.now) self.file }
         ensures clocks { clocks_in result
-            ≡ clocks_of (display_clock display.entry.now) (zones_in (map said_by files.entry.now) self.file) }
+            ≡ clocks_at (map said_by files.entry.now) (display_clock display.entry.now) self.file }
         ensures reached { (window : Window) (event : EventSeen) → event_at (map said_by files.entry.now) self ≡ Some event
             → IsReached files.entry.now window → AreReached result.zones.now (asked window event) }
     {

@@ -1,16 +1,72 @@
 //! What gives an event its starts.
 ghost use Rattle.std.specs.Prelude.{◌≡◌};
-ghost use Rattle.ics_series.specs.Starts.{kind_of, local_of, time_at};
+ghost use Rattle.ics_series.specs.Found.{giver_cmp};
+ghost use Rattle.ics_series.specs.Starts.{date_of, kind_of, local_of, time_at, time_of};
 
-use ics_calendar::Time;
+use ics_calendar::{Rdate, Time};
 use ics_rule::Kind;
 use ics_values::{Local, Moment, Stamp};
+use std::cmp::Ordering;
 
-/// A start of an event: its instant, and the local that gives it in the zone of DTSTART.
-#[derive(Clone, Copy, Debug, PartialEq, Eq, PartialOrd, Ord)]
+/// What gives an event a start: a local that DTSTART has or the rule keeps, or the value of an RDATE
+/// at this place among them.
+#[derive(Clone, Copy, Debug, PartialEq, Eq)]
+pub(crate) enum Giver {
+    Kept(Local),
+    Listed(usize),
+}
+
+/// A start of an event: its instant, what gives it, and the value by which it does.
+#[derive(Clone, Copy, Debug, PartialEq, Eq)]
 pub(crate) struct Start {
     pub(crate) moment: Moment,
-    pub(crate) local: Local,
+    pub(crate) giver: Giver,
+    pub(crate) given: Rdate,
+}
+
+impl Start {
+    ghost use Rattle.ics_series.specs.Found.{start_cmp};
+
+    // By instant, then by what gives the start.
+    pub(crate) fn compare(a: &Start, b: &Start) -> Ordering
+        ensures { result ≡ start_cmp a.now b.now }
+    {
+        match a.moment.cmp(&b.moment) {
+            Ordering::Equal => compare_givers(a.giver, b.giver),
+            order => order,
+        }
+    }
+}
+
+// The locals in their order, and then the RDATEs as the file has them.
+fn compare_givers(a: Giver, b: Giver) -> Ordering
+    ensures { result ≡ giver_cmp a b }
+{
+    match (a, b) {
+        (Giver::Kept(a), Giver::Kept(b)) => a.cmp(&b),
+        (Giver::Kept(_), Giver::Listed(_)) => Ordering::Less,
+        (Giver::Listed(_), Giver::Kept(_)) => Ordering::Greater,
+        (Giver::Listed(a), Giver::Listed(b)) => a.cmp(&b),
+    }
+}
+
+/// The time at which a value of an RDATE begins.
+pub(crate) fn time_of(rdate: Rdate) -> Time
+    ensures { result ≡ time_of rdate }
+{
+    match rdate {
+        Rdate::At(time) | Rdate::Span(time, _) => time,
+    }
+}
+
+/// The date of a time.
+pub(crate) fn date_of(time: Time) -> Time
+    ensures { result ≡ date_of time }
+{
+    Time {
+        stamp: Stamp::Date(local_of(time.stamp).day),
+        zone: None,
+    }
 }
 
 /// The kind of an event that starts at a stamp.

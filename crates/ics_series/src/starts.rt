@@ -1,20 +1,21 @@
 //! The starts of an event by which it can meet a window.
-ghost use Rattle.std.specs.Prelude.{◌≡◌, ◌≤◌, ◌<ℤ◌, ◌≤ℤ◌, ◌+ℤ◌, ◌-ℤ◌, pos, None, Some, IfOk};
+ghost use Rattle.std.specs.Prelude.{◌≡◌, ◌≤◌, ◌<ℤ◌, ◌≤ℤ◌, ◌+ℤ◌, ◌-ℤ◌, pos, neg_ℤ, None, Some, All, IfOk};
 ghost use Rattle.std.specs.Int.{int_max};
 ghost use Rattle.ics_values.specs.Days.{IsDayNumber};
 ghost use Rattle.ics_rule.specs.Locals.{number};
 ghost use Rattle.ics_series.specs.Clocks.{instant, seconds_of};
-ghost use Rattle.ics_series.specs.Finish.{seconds_lasting};
-ghost use Rattle.ics_series.specs.Found.{firsts_after, is_at, is_until, with_start, AreStarts, HasRuleStarts, HasStarts};
+ghost use Rattle.ics_series.specs.Found.{earliest, firsts_after, is_at, is_span_met, is_until, start_at, with_start, AreStarts, HasRuleStarts, HasStarts, IsStart};
 ghost use Rattle.ics_series.specs.Starts.{local_of, recurrence_of, time_at};
 ghost use Rattle.ics_series.specs.Zones.{asked, clocks_in, AreReached, IsReadable, IsReadableEvent};
 
 use crate::instant::instant;
 use crate::lasting::seconds_lasting;
-use crate::start::{Start, kind_of, local_of, time_at};
+use crate::listed::push_listed;
+use crate::occurrence::Occurrence;
+use crate::start::{Giver, Start, kind_of, local_of, time_at};
 use crate::window::Window;
 use crate::zones::FileZones;
-use ics_calendar::Event;
+use ics_calendar::{Event, Rdate};
 use ics_rule::{Cursor, Rule};
 use ics_values::{Local, Moment};
 use std::alloc::{AllocError, Global};
@@ -22,7 +23,8 @@ use std::alloc::{AllocError, Global};
 const DAY: i64 = 86_400;
 
 /// The starts by which an event can meet a window, and perhaps others, each instant once, in their
-/// order. Of several locals that mean one instant the first gives the start.
+/// order. Of what gives one instant the first gives the start: DTSTART and the locals of the rule go
+/// before RDATEs.
 pub(crate) fn starts(
     alloc: Global,
     zones: FileZones<'_>,
@@ -34,11 +36,11 @@ pub(crate) fn starts(
     ensures { IfOk result (λ starts. AreStarts (clocks_in zones.entry) event.now window.now starts.items) }
 {
     let mut starts = given_starts(alloc, zones, event, window)?;
-    starts.sort_unstable();
+    starts.sort_unstable_by(Start::compare);
     firsts(alloc, &starts)
 }
 
-// The start at DTSTART, and those that the rule gives nearby.
+// The start at DTSTART, those by RDATEs, and those that the rule gives nearby.
 fn given_starts(
     alloc: Global,
     zones: FileZones<'_>,
@@ -51,32 +53,79 @@ fn given_starts(
 {
     let mut starts = Vec::new(alloc);
     let first = local_of(event.start.stamp);
-    starts.push(Start {
-        moment: instant(zones, event.start),
-        local: first,
-    })?;
+    starts.push(start_at(zones, event, first))?;
+    push_listed(&mut starts, zones, event, window)?;
     let Some(parts) = event.rule else {
         return Ok(starts);
     };
     let rule = Rule::new(parts, first, kind_of(event.start.stamp));
-    push_kept(&mut starts, zones, event, &rule, window)?;
+    let from = first_nearby(first, earliest(zones, event, window, &starts));
+    push_kept(&mut starts, zones, event, &rule, from, window)?;
     Ok(starts)
 }
 
-// Adds the starts that the locals nearby give that the rule keeps.
+// The start by a local that DTSTART has or the rule keeps.
+fn start_at(zones: FileZones<'_>, event: &Event, local: Local) -> Start
+    requires { IsReadable zones.zones.now (time_at event.now.start local) }
+    ensures { result ≡ start_at (clocks_in zones.entry) event.now local }
+{
+    let time = time_at(event.start, local);
+    Start {
+        moment: instant(zones, time),
+        giver: Giver::Kept(local),
+        given: Rdate::At(time),
+    }
+}
+
+// From where on the rule is asked: from where an event of this length can still meet the window, or
+// from the earliest start by a PERIOD that does, since a local at that instant gives it the event's
+// length.
+fn earliest(zones: FileZones<'_>, event: &Event, window: &Window, starts: &[Start]) -> Moment
+    requires event { IsReadableEvent zones event.now }
+    requires reached { AreReached zones.zones.now (asked window.now event.now) }
+    requires starts { All (IsStart (clocks_in zones) event.now) starts.now }
+    ensures value { result ≡ earliest (clocks_in zones.entry) window.now event.now starts.now }
+    ensures late { neg_ℤ (pos 500_000_000_000) ≤ℤ result }
+    ensures early { result ≤ℤ window.now.to }
+{
+    let mut earliest = window.from - seconds_lasting(zones, event);
+    for start in starts {
+        if is_span_met(zones, event, *start, window) {
+            earliest = earliest.min(start.moment);
+        }
+    }
+    earliest
+}
+
+// Whether a start by a PERIOD meets the window by its own length.
+fn is_span_met(zones: FileZones<'_>, event: &Event, start: Start, window: &Window) -> bool
+    requires event { IsReadableEvent zones event.now }
+    requires reached { AreReached zones.zones.now (asked window.now event.now) }
+    requires start { IsStart (clocks_in zones) event.now start }
+    ensures { result ≡ is_span_met (clocks_in zones.entry) window.now event.now start start.given }
+{
+    match start.given {
+        Rdate::At(_) => false,
+        Rdate::Span(_, _) => Occurrence::within(zones, event, start, window).is_some(),
+    }
+}
+
+// Adds the starts that the locals give that the rule keeps, from one on.
 fn push_kept(
     starts: &mut Vec<Start>,
     zones: FileZones<'_>,
     event: &Event,
     rule: &Rule,
+    from: Local,
     window: &Window,
 ) -> Result<(), AllocError>
     requires event { IsReadableEvent zones event.now }
     requires reached { AreReached zones.zones.now (asked window.now event.now) }
     requires rule { recurrence_of event.now ≡ Some rule.now }
-    ensures { IfOk result (λ _. HasRuleStarts (clocks_in zones.entry) event.now window.now starts.old.items starts.new.items) }
+    requires from { IsDayNumber from.day }
+    ensures { IfOk result (λ _. HasRuleStarts (clocks_in zones.entry) event.now window.now from starts.old.items starts.new.items) }
 {
-    let mut cursor = Cursor::at(rule, first_nearby(zones, event, window));
+    let mut cursor = Cursor::at(rule, from);
     let end = end_nearby(window);
     let until = rule.until_moment();
     while let Some(local) = cursor.next(rule, end) {
@@ -94,12 +143,13 @@ fn push_start(
     local: Local,
 ) -> Result<(), AllocError>
     requires { IsReadable zones.zones.now (time_at event.now.start local) }
-    ensures { IfOk result (λ _. let moment = instant (clocks_in zones.entry) (time_at event.now.start local) in
-        starts.new.items ≡ with_start (is_until until moment) starts.old.items (record { moment = moment; local = local })) }
+    ensures { IfOk result (λ _. starts.new.items
+        ≡ with_start (is_until until (instant (clocks_in zones.entry) (time_at event.now.start local))) starts.old.items
+        (start_at (clocks_in zones.entry) event.now local)) }
 {
-    let moment = instant(zones, time_at(event.start, local));
-    if is_until(until, moment) {
-        starts.push(Start { moment, local })?;
+    let start = start_at(zones, event, local);
+    if is_until(until, start.moment) {
+        starts.push(start)?;
     }
     Ok(())
 }
@@ -114,20 +164,18 @@ fn is_until(until: Option<Moment>, moment: Moment) -> bool
     }
 }
 
-// The local from which on the event can meet the window: DTSTART's or, if that is later, a midnight
-// seven to eight days before what the event's length leaves of the window's start. So a rule that
-// began long ago is not asked for what is long past.
-fn first_nearby(zones: FileZones<'_>, event: &Event, window: &Window) -> Local
-    requires { IsReadableEvent zones event.now }
+// The local from which on a rule with this first local is asked: that or, if it is later, a midnight
+// seven to eight days before the earliest instant that counts. So a rule that began long ago is not
+// asked for what is long past.
+fn first_nearby(first: Local, earliest: Moment) -> Local
+    requires first { IsDayNumber first.day }
+    requires late { neg_ℤ (pos 500_000_000_000) ≤ℤ earliest }
+    requires early { earliest ≤ℤ pos 247_091_126_400 }
     ensures day { IsDayNumber result.day }
-    ensures late { int_max (seconds_of (local_of event.now.start.stamp))
-        ((window.now.from -ℤ seconds_lasting (clocks_in zones.entry) event.now) -ℤ pos 691_200) ≤ℤ seconds_of result }
-    ensures low { seconds_of result ≤ℤ int_max (seconds_of (local_of event.now.start.stamp))
-        ((window.now.from -ℤ seconds_lasting (clocks_in zones.entry) event.now) -ℤ pos 604_800) }
+    ensures late { int_max (seconds_of first) (earliest -ℤ pos 691_200) ≤ℤ seconds_of result }
+    ensures low { seconds_of result ≤ℤ int_max (seconds_of first) (earliest -ℤ pos 604_800) }
 {
-    let first = local_of(event.start.stamp);
-    let latest = window.from - seconds_lasting(zones, event);
-    let day = latest.div_euclid(DAY) - 7;
+    let day = earliest.div_euclid(DAY) - 7;
     if day <= i64::from(first.day) {
         first
     } else {

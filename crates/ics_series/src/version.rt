@@ -1,16 +1,32 @@
 //! The versions of the events of a folder.
-ghost use Rattle.std.specs.Prelude.{◌≡◌, ◌++◌, map, IfOk};
-ghost use Rattle.ics_calendar.specs.Event.{said_by};
-ghost use Rattle.ics_series.specs.Versions.{label_of, placed_from, placed_in, seen};
+ghost use Rattle.std.specs.Prelude.{◌≡◌, ◌++◌, map, All, IfOk};
+ghost use Rattle.ics_calendar.specs.Event.{said_by, AreEventsOf, IsEventOf};
+ghost use Rattle.ics_series.specs.Chosen.{overridden};
+ghost use Rattle.ics_series.specs.Clocks.{display_clock};
+ghost use Rattle.ics_series.specs.Versions.{label_by, label_of, placed_from, placed_in, seen};
+ghost use Rattle.ics_series.specs.Zones.{clocks_in, AreNamesReached, IsNameReached};
+ghost use Rattle.ics_zone.specs.Tables.{phases_of};
 
+use crate::instant::instant;
 use crate::spot::Spot;
+use crate::zones::FileZones;
 use ics_calendar::{Event, FileEvents};
+use ics_values::Moment;
+use ics_zone::Display;
 use std::alloc::{AllocError, Global};
 
-/// An event among those of its UID, ordered by UID, then SEQUENCE, then file, then place.
+/// What the versions of an event share: its UID, and the instance that they override, by its
+/// instant. Those of a master override none (RFC 5545, section 3.8.4.4).
+#[derive(Clone, Copy, Debug, PartialEq, Eq, PartialOrd, Ord)]
+pub(crate) struct Subject<'a> {
+    pub(crate) uid: &'a [u8],
+    pub(crate) recurrence: Option<Moment>,
+}
+
+/// An event among those of its subject, ordered by subject, then SEQUENCE, then file, then place.
 #[derive(Clone, Copy, Debug, PartialEq, Eq, PartialOrd, Ord)]
 pub(crate) struct Version<'a> {
-    pub(crate) uid: &'a [u8],
+    pub(crate) subject: Subject<'a>,
     pub(crate) sequence: u32,
     pub(crate) spot: Spot,
 }
@@ -19,12 +35,19 @@ pub(crate) struct Version<'a> {
 pub(crate) fn versions<'a>(
     alloc: Global,
     files: &'a [FileEvents],
+    display: &Display,
 ) -> Result<Vec<Version<'a>>, AllocError>
-    ensures { IfOk result (λ versions. map seen versions.items ≡ map label_of (placed_in 0 (map said_by files.entry.now))) }
+    requires { AreNamesReached files.now }
+    ensures { IfOk result (λ versions. map seen versions.items
+        ≡ map (label_of (map said_by files.entry.now) (display_clock display.now)) (placed_in 0 (map said_by files.entry.now))) }
 {
     let mut versions = Vec::new(alloc);
     for (number, file) in files.iter().enumerate() {
-        push_versions(&mut versions, number, &file.events)?;
+        let zones = FileZones {
+            display,
+            zones: &file.zones,
+        };
+        push_versions(&mut versions, number, zones, &file.events)?;
     }
     Ok(versions)
 }
@@ -33,18 +56,36 @@ pub(crate) fn versions<'a>(
 fn push_versions<'a>(
     versions: &mut Vec<Version<'a>>,
     file: usize,
+    zones: FileZones<'_>,
     events: &'a [Event],
 ) -> Result<(), AllocError>
+    requires own { AreEventsOf (map phases_of zones.zones.now) events.now }
+    requires reached { All (IsNameReached zones.zones.now) events.now }
     ensures { IfOk result (λ _. map seen versions.new.items
-        ≡ map seen versions.old.items ++ map label_of (placed_from file 0 events.entry.now)) }
+        ≡ map seen versions.old.items ++ map (label_by (clocks_in zones.entry)) (placed_from file 0 events.entry.now)) }
 {
     for (place, event) in events.iter().enumerate() {
         let version = Version {
-            uid: event.uid.as_slice(),
+            subject: Subject {
+                uid: event.uid.as_slice(),
+                recurrence: overridden(zones, event),
+            },
             sequence: event.sequence,
             spot: Spot { file, place },
         };
         versions.push(version)?;
     }
     Ok(())
+}
+
+// The instance of its UID that an event overrides.
+fn overridden(zones: FileZones<'_>, event: &Event) -> Option<Moment>
+    requires own { IsEventOf (map phases_of zones.zones.now) event.now }
+    requires reached { IsNameReached zones.zones.now event.now }
+    ensures { result ≡ overridden (clocks_in zones.entry) event.now }
+{
+    match event.recurrence {
+        None => None,
+        Some(time) => Some(instant(zones, time)),
+    }
 }

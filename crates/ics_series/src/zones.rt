@@ -1,8 +1,8 @@
 //! The zones by which the times of a file are read.
-ghost use Rattle.std.specs.Prelude.{◌≡◌, ◌<◌, ◌≤ℤ◌, ℤ, length, IfSome, IsSome};
+ghost use Rattle.std.specs.Prelude.{◌≡◌, ◌≤ℤ◌, ℤ, IsSome};
 ghost use Rattle.ics_series.specs.Clocks.{clock_at, zone_clock};
 ghost use Rattle.ics_zone.specs.Tables.{phases_of};
-ghost use Rattle.ics_series.specs.Zones.{clocks_in, AreReached};
+ghost use Rattle.ics_series.specs.Zones.{clocks_in, AreReached, HasZoneIn};
 
 use ics_calendar::Time;
 use ics_zone::{Display, Zone};
@@ -18,7 +18,7 @@ impl<'a> FileZones<'a> {
     // The zone of a time that has one of the file's.
     pub(crate) fn zone_of(self, time: Time) -> &'a Zone
         requires some { IsSome time.zone }
-        requires within { IfSome time.zone (λ zone. zone < length self.zones.now) }
+        requires within { HasZoneIn self.zones.now time }
         ensures clock { zone_clock (phases_of result.now) ≡ clock_at (clocks_in self.entry).zones time.zone }
         ensures reached { (to : ℤ) → AreReached self.entry.zones.now to → to ≤ℤ result.now.reached }
     {

@@ -29,6 +29,9 @@ entry stamp start finish title = record {
     start = record { stamp = stamp; zone = None };
     length = Open;
     rule = None;
+    rdates = [];
+    exdates = [];
+    recurrence = None;
     title = title;
     location = [];
     description = [];

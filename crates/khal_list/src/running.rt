@@ -33,7 +33,7 @@ fn list<O: Sink>(
 {
     let mut folder = Folder::new(alloc, files, request.zone)?;
     folder.reach(&request.window)?;
-    let mut agenda = folder.agenda(request.window)?;
+    let mut agenda = folder.agenda(request.window, None)?;
     print(alloc, &mut agenda, request, out)?;
     Ok(())
 }

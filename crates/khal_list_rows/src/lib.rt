@@ -14,6 +14,8 @@ mod rules;
 #[cfg(test)]
 mod runs;
 #[cfg(test)]
+mod sets;
+#[cfg(test)]
 mod values;
 #[cfg(test)]
 mod zones;

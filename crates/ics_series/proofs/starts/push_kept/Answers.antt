@@ -1,15 +1,14 @@
-use Rattle.std.proofs.Common.{◌≡◌, ◌<ℤ◌, ◌+ℤ◌, pos, arith, ◌∙◌, ap, sym}
+use Rattle.std.proofs.Common.{◌≡◌, ◌<ℤ◌, ◌+ℤ◌, pos, arith, ◌∙◌, ap, subst}
 use Rattle.std.proofs.lemmas.Int.{ints}
 use Rattle.ics_rule.specs.Cursors.{place_of}
 use Rattle.ics_rule.specs.Kept.{is_kept}
 use Rattle.ics_rule.specs.Locals.{number}
-use Rattle.ics_rule.specs.Recurrence.{Recurrence}
 use Rattle.ics_series.specs.Clocks.{instant, seconds_of}
-use Rattle.ics_series.specs.Found.{is_until, with_start}
-use Rattle.ics_series.specs.Starts.{local_of, time_at}
+use Rattle.ics_series.specs.Found.{is_until, start_at, with_start}
+use Rattle.ics_series.specs.Starts.{time_at}
 use Rattle.ics_series.specs.Zones.{clocks_in}
-use Rattle.ics_series.proofs.GiverLemmas.{calendar-day, kept-time, number-seconds, own-day, rule-is}
-use Rattle.ics_series.proofs.KeptLemmas.{start_at, pushed-all, pushed-one}
+use Rattle.ics_series.proofs.GiverLemmas.{kept-time, number-seconds}
+use Rattle.ics_series.proofs.KeptLemmas.{pushed-all, pushed-one, IsPushed}
 use Rattle.ics_series.proofs.ZoneLemmas.{local-readable}
 use Rattle.ics_series.proofs.starts.push_kept.Goals as goal
 
@@ -35,8 +34,9 @@ loop-local-preserved c =
 
 pub returns : goal.returns
 returns c =
+    let clocks = clocks_in c.args.zones in
     let event = c.args.event.now in
-    let start : c.args.rule.now.start ≡ local_of event.start.stamp = ap (λ (r : Recurrence). r.start) (rule-is event.start.stamp event.rule c.args.rule.now c.requires.rule).1 in
-    pushed-all (clocks_in c.args.zones) event c.args.rule.now c.requires.rule c.args.window.now (place_of c.at-cursor.result) c.first_nearby.result c.end_nearby-end.result c.loop-local.cursor
-    c.args.starts.now.items c.loop-local.starts.items c.loop-local.invariant c.first_nearby.ensures.day (sym c.at-cursor.ensures.place)
-    (calendar-day (local_of event.start.stamp).day (own-day event.start c.requires.event.start.is_time)) c.first_nearby.ensures.low c.end_nearby-end.ensures.day c.end_nearby-end.ensures.after c.in_default.ensures.next.0 (ap number start)
+    let pushed : IsPushed clocks event c.args.rule.now (number c.args.from) c.loop-local.cursor c.args.starts.now.items c.loop-local.starts.items =
+    subst (λ n. IsPushed clocks event c.args.rule.now n c.loop-local.cursor c.args.starts.now.items c.loop-local.starts.items) c.at-cursor.ensures.place c.loop-local.invariant in
+    pushed-all clocks event c.args.rule.now c.requires.rule c.args.window.now c.args.from c.end_nearby-end.result c.loop-local.cursor
+    c.args.starts.now.items c.loop-local.starts.items pushed c.requires.from c.end_nearby-end.ensures.day c.end_nearby-end.ensures.after c.in_default.ensures.next.0

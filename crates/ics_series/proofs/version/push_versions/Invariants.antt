@@ -1,7 +1,9 @@
 use Rattle.std.proofs.Common.{◌≡◌, ◌++◌, map, drop}
-use Rattle.ics_series.specs.Versions.{label_of, placed_from, seen}
+use Rattle.ics_series.specs.Versions.{label_by, placed_from, seen}
+use Rattle.ics_series.specs.Zones.{clocks_in}
 use Rattle.ics_series.proofs.version.push_versions.Given as goal
 
 abbrev pub invariant-loop-place : goal.invariant-loop-place
 invariant-loop-place l =
-    map seen l.versions.items ++ map label_of (placed_from l.file l.place (drop l.place l.events)) ≡ map seen l.initial.versions.items ++ map label_of (placed_from l.file 0 l.events)
+    map seen l.versions.items ++ map (label_by (clocks_in l.zones)) (placed_from l.file l.place (drop l.place l.events))
+    ≡ map seen l.initial.versions.items ++ map (label_by (clocks_in l.zones)) (placed_from l.file 0 l.events)

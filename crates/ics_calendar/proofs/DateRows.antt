@@ -1,0 +1,103 @@
+-- Worked RDATEs, EXDATEs and RECURRENCE-IDs. What is expected comes from a separate program.
+use Rattle.std.proofs.Common.{◌≡◌, ℕ, List, [], ◌∷◌, ◌++◌, map, refl, Option, Some, None, pos}
+use Rattle.std.specs.Prelude.{codes, false}
+use Rattle.ics_values.specs.Locals.{local_at}
+use Rattle.ics_values.specs.declared.stamp.Stamp.{Stamp}
+use Rattle.ics_values.specs.declared.stamp.Stamp.TheVariants.{Date, Floating, Utc, Zoned}
+use Rattle.ics_calendar.specs.declared.fault.FaultKind.TheVariants.{BadStamp, Repeated, UnknownZone}
+use Rattle.ics_calendar.specs.declared.time.Length.TheVariants.{Until, Lasting}
+use Rattle.ics_calendar.specs.declared.time.Rdate.{Rdate}
+use Rattle.ics_calendar.specs.declared.time.Rdate.TheVariants.{At, Span}
+use Rattle.ics_calendar.specs.declared.time.Time.{Time}
+use Rattle.ics_calendar.specs.Event.{EventSeen}
+use Rattle.ics_calendar.specs.Files.{events_of}
+use Rattle.ics_calendar.specs.Placed.{placed}
+use Rattle.ics_calendar.proofs.ExampleFiles.{calendar, zone, fault, at}
+
+abbrev event : List (List ℕ) → List (List ℕ)
+event lines = codes "BEGIN:VEVENT" ∷ codes "UID:a" ∷ codes "DTSTART:20240105T100000Z" ∷ lines ++ codes "END:VEVENT" ∷ []
+
+abbrev rdates : List ℕ → List (List Rdate)
+rdates file = map (λ (e : EventSeen). e.rdates) (events_of (placed file))
+
+abbrev exdates : List ℕ → List (List Time)
+exdates file = map (λ (e : EventSeen). e.exdates) (events_of (placed file))
+
+abbrev recurrences : List ℕ → List (Option Time)
+recurrences file = map (λ (e : EventSeen). e.recurrence) (events_of (placed file))
+
+abbrev time : Stamp → Option ℕ → Time
+time stamp zone = record { stamp = stamp; zone = zone }
+
+-- the lines of an event behind those of the zones A and B
+abbrev zoned : List (List ℕ) → List ℕ
+zoned lines = calendar (zone (codes "A") ++ zone (codes "B") ++ event lines)
+
+-- several values on a line, of which only locals are in the zone of its TZID
+three_stamps : rdates (zoned (codes "RDATE;TZID=B:20240106T100000,20240107,20240108T100000Z" ∷ [])) ≡ (
+    At (time (Zoned (local_at (pos 19_728) 36_000)) (Some 1)) ∷ At (time (Date (pos 19_729)) None) ∷ At (time (Utc (local_at (pos 19_730) 36_000)) None) ∷ []
+    ) ∷ []
+three_stamps = refl
+
+-- periods by an end, also before the start, and by a duration
+three_periods : rdates (zoned (codes "RDATE;TZID=A;VALUE=PERIOD:20240109T100000/20240109T090000,20240110T100000/PT1H,20240111T100000Z/20240111T110000" ∷ [])) ≡ (
+    Span (time (Zoned (local_at (pos 19_731) 36_000)) (Some 0)) (Until (time (Zoned (local_at (pos 19_731) 32_400)) (Some 0)))
+    ∷ Span (time (Zoned (local_at (pos 19_732) 36_000)) (Some 0)) (Lasting (record { negative = false; days = 0; seconds = 3_600 }))
+    ∷ Span (time (Utc (local_at (pos 19_733) 36_000)) None) (Until (time (Zoned (local_at (pos 19_733) 39_600)) (Some 0))) ∷ []
+    ) ∷ []
+three_periods = refl
+
+-- several lines, each with its own zone or none, in the order of the file
+abbrev three_lines : List ℕ
+three_lines = zoned (codes "EXDATE;TZID=B:20240106T100000,20240107" ∷ codes "rdate:20240112T100000" ∷ codes "EXDATE;TZID=A:20240106T100000" ∷ codes "EXDATE:20240108T100000" ∷ [])
+
+four_exceptions : exdates three_lines ≡ (
+    time (Zoned (local_at (pos 19_728) 36_000)) (Some 1) ∷ time (Date (pos 19_729)) None ∷ time (Zoned (local_at (pos 19_728) 36_000)) (Some 0)
+    ∷ time (Floating (local_at (pos 19_730) 36_000)) None ∷ []
+    ) ∷ []
+four_exceptions = refl
+
+one_date : rdates three_lines ≡ (At (time (Floating (local_at (pos 19_734) 36_000)) None) ∷ []) ∷ []
+one_date = refl
+
+accepted : fault three_lines ≡ None
+accepted = refl
+
+override : recurrences (zoned (codes "RECURRENCE-ID;TZID=B:20240106T100000" ∷ [])) ≡ Some (time (Zoned (local_at (pos 19_728) 36_000)) (Some 1)) ∷ []
+override = refl
+
+master : recurrences (zoned []) ≡ None ∷ []
+master = refl
+
+-- the second calendar has a zone of its own of that name, and a zone may stand behind its use
+of_two_calendars : exdates (calendar (zone (codes "A")) ++ calendar (event (codes "EXDATE;TZID=A:20240106T100000" ∷ []) ++ zone (codes "A"))) ≡ (time (Zoned (local_at (pos 19_728) 36_000)) (Some 1) ∷ []) ∷ []
+of_two_calendars = refl
+
+-- zones that the calendar has not
+unknown_date : fault (calendar (event (codes "RDATE;TZID=A:20240106,20240107T100000Z,20240108T100000" ∷ []) ++ zone (codes "B"))) ≡ at 5 UnknownZone
+unknown_date = refl
+
+unknown_end : fault (calendar (event (codes "RDATE;TZID=A:20240106T100000Z/20240106T110000" ∷ []))) ≡ at 5 UnknownZone
+unknown_end = refl
+
+unknown_exception : fault (calendar (zone (codes "A")) ++ calendar (event (codes "EXDATE;TZID=A:20240106T100000" ∷ []))) ≡ at 15 UnknownZone
+unknown_exception = refl
+
+unknown_identifier : fault (calendar (event (codes "RECURRENCE-ID;TZID=A:20240106T100000" ∷ []))) ≡ at 5 UnknownZone
+unknown_identifier = refl
+
+empty_name : fault (calendar (event (codes "EXDATE;TZID=:20240106T100000" ∷ []))) ≡ at 5 UnknownZone
+empty_name = refl
+
+none_needed : fault (calendar (event (codes "RDATE;TZID=A:20240106,20240107T100000Z,20240108T100000Z/PT1H" ∷ codes "EXDATE;TZID=A:20240106" ∷ codes "RECURRENCE-ID;TZID=A:20240106" ∷ []))) ≡ None
+none_needed = refl
+
+-- any other fault comes first, and of those of the second round the first line
+bad_date_behind : fault (calendar (event (codes "EXDATE;TZID=A:20240106T100000" ∷ codes "RDATE:x" ∷ []))) ≡ at 6 BadStamp
+bad_date_behind = refl
+
+end_behind : fault (calendar (event (codes "DTEND;TZID=B:20240105T100000" ∷ codes "EXDATE;TZID=A:20240106T100000" ∷ []) ++ zone (codes "B"))) ≡ at 6 UnknownZone
+end_behind = refl
+
+two_identifiers : fault (calendar (event (codes "RECURRENCE-ID:20240106" ∷ codes "RECURRENCE-ID:20240107" ∷ []))) ≡ at 6 Repeated
+two_identifiers = refl

@@ -1,0 +1,95 @@
+-- Which starts EXDATEs take out.
+use Rattle.std.specs.Prelude.{◌<ℤ◌, not}
+use Rattle.std.proofs.Common.{◌≡◌, ℕ, ◌<◌, ◌≤◌, ℤ, pos, ◌+ℤ◌, Bool, true, false, ◌||◌, List, [], ◌∷◌, length, get_or, Result, Ok, Err, is_ok, ◌⊎◌, ⊎_elim, refl, sym, ◌∙◌, ap, subst, arith}
+use Rattle.std.specs.Cmp.{int_ranks}
+use Rattle.std.specs.List.{list_any}
+use Rattle.std.specs.List.Sorted.{IsBinarySearchResult, IsPermutation, IsSearchInRange, IsSorted}
+use Rattle.std.specs.Ordering.{int_cmp, int_eq, MatchOrdering}
+use Rattle.std.specs.declared.cmp.Ordering.TheVariants.{Less, Equal, Greater}
+use Rattle.std.proofs.lemmas.Cmp.{int_cmp_total}
+use Rattle.std.proofs.lemmas.Int.{ints}
+use Rattle.std.proofs.lemmas.List.Folds.{list_any-append, list_any_at, list_any_none}
+use Rattle.std.proofs.lemmas.List.Sorted.{list_any-IsPermutation, searchable_from_sorted}
+use Rattle.ics_values.specs.declared.stamp.Stamp.{Stamp}
+use Rattle.ics_values.specs.declared.stamp.Stamp.TheVariants.{Date, Floating, Utc, Zoned}
+use Rattle.ics_calendar.specs.declared.time.Time.{Time}
+use Rattle.ics_series.specs.declared.window.Window.{Window}
+use Rattle.ics_series.specs.declared.zones.FileZones.{FileZones}
+use Rattle.ics_series.specs.Clocks.{Clock, Clocks, instant, written}
+use Rattle.ics_series.specs.Exclusions.{excludes_by, excludes_time, is_day_in, takes_out, with_instant}
+use Rattle.ics_series.specs.Zones.{clocks_in, is_past}
+use Rattle.ics_series.proofs.InstantLemmas.{instant-near}
+use Rattle.ics_series.proofs.MeetingLemmas.{le-true}
+
+-- Whether a search finds a number.
+equal-true : (a b : ℤ) → int_cmp a b ≡ Equal → int_eq a b ≡ true
+equal-true a b e = let same : a ≡ b = subst (λ o. MatchOrdering o (a <ℤ b) (a ≡ b) (b <ℤ a)) e (int_ranks a b) in grind (arith, ints)
+
+less-false : (a b : ℤ) → int_cmp a b ≡ Less → int_eq a b ≡ false
+less-false a b e = let less : a <ℤ b = subst (λ o. MatchOrdering o (a <ℤ b) (a ≡ b) (b <ℤ a)) e (int_ranks a b) in grind (arith, ints)
+
+greater-false : (a b : ℤ) → int_cmp a b ≡ Greater → int_eq a b ≡ false
+greater-false a b e = let more : b <ℤ a = subst (λ o. MatchOrdering o (a <ℤ b) (a ≡ b) (b <ℤ a)) e (int_ranks a b) in grind (arith, ints)
+
+pub found-in : (xs : List ℤ) (x : ℤ) (r : Result ℕ ℕ) → IsSorted int_cmp xs → IsSearchInRange r (length xs) → IsBinarySearchResult (λ y. int_cmp y x) xs r → is_ok r ≡ list_any (λ y. int_eq y x) xs
+found-in xs x (Ok i) s b h = sym (list_any_at (λ y. int_eq y x) xs i (pos 0) b (equal-true (get_or xs i (pos 0)) x (h (pos 0))))
+found-in xs x (Err i) s b h =
+    let parts = h (searchable_from_sorted int_cmp_total (λ y. y) xs x s) in
+    sym (list_any_none (λ y. int_eq y x) xs (λ k d l.
+    ⊎_elim (λ low. less-false (get_or xs k d) x (parts.0 k d (omega arith) low)) (λ high. greater-false (get_or xs k d) x (parts.1 k d high l)) (sides k i)))
+  where
+    sides : (a b : ℕ) → (a < b) ⊎ (b ≤ a)
+    sides a b = grind arith
+
+-- One more instant.
+or-false : (a : Bool) → (a || false) ≡ a
+or-false true = refl
+or-false false = refl
+
+or-moved : (a b c : Bool) → ((a || (b || false)) || c) ≡ ((a || c) || b)
+or-moved true b c = refl
+or-moved false true true = refl
+or-moved false true false = refl
+or-moved false false true = refl
+or-moved false false false = refl
+
+pushed-by : (clock : Clock) (instants days : List ℤ) (moment t : ℤ) (past : Bool) → (past ≡ true → int_eq moment t ≡ false)
+    → takes_out clock (with_instant (not past) instants moment) days t ≡ (takes_out clock instants days t || int_eq moment t)
+pushed-by clock instants days moment t true h = sym (ap (λ b. takes_out clock instants days t || b) (h refl) ∙ or-false (takes_out clock instants days t))
+pushed-by clock instants days moment t false h =
+    ap (λ b. b || is_day_in clock days t) (list_any-append (λ x. int_eq x t) instants (moment ∷ []))
+    ∙ or-moved (list_any (λ x. int_eq x t) instants) (int_eq moment t) (is_day_in clock days t)
+
+later-false : (zones : FileZones) (w : Window) (time : Time) (t : ℤ) → t <ℤ w.to → is_past w time ≡ true → int_eq (instant (clocks_in zones) time) t ≡ false
+later-false zones w time t early past =
+    let late = le-true (w.to +ℤ pos 172_800) (written time.stamp) past in
+    unequal (instant (clocks_in zones) time) t (omega (arith, ints, late, early, instant-near zones time))
+  where
+    unequal : (a b : ℤ) → b <ℤ a → int_eq a b ≡ false
+    unequal a b l = grind (arith, ints)
+
+-- the instant of a time takes out the start there, or lies past the window
+pub pushed-instant : (zones : FileZones) (w : Window) (clock : Clock) (instants new days : List ℤ) (time : Time) (t : ℤ) → t <ℤ w.to → new ≡ with_instant (not (is_past w time)) instants (instant (clocks_in zones) time)
+    → takes_out clock new days t ≡ (takes_out clock instants days t || int_eq (instant (clocks_in zones) time) t)
+pushed-instant zones w clock instants new days time t early e =
+    ap (λ xs. takes_out clock xs days t) e
+    ∙ pushed-by clock instants days (instant (clocks_in zones) time) t (is_past w time) (later-false zones w time t early)
+
+excludes-time : (clocks : Clocks) (first exdate : Time) (s : Stamp) (t : ℤ) → ((day : ℤ) → s ≡ Date day → ⊥) → excludes_time clocks first exdate s t ≡ int_eq (instant clocks exdate) t
+excludes-time clocks first exdate (Date day) t h = absurd (h day refl)
+excludes-time clocks first exdate (Floating local) t h = refl
+excludes-time clocks first exdate (Utc local) t h = refl
+excludes-time clocks first exdate (Zoned local) t h = refl
+
+-- of date-times a time takes out the start at its instant
+pub excludes-instant : (clocks : Clocks) (first exdate : Time) (s : Stamp) (t : ℤ) → ((day : ℤ) → s ≡ Date day → ⊥) → ((day : ℤ) → exdate.stamp ≡ Date day → ⊥) → excludes_by clocks first s exdate t ≡ int_eq (instant clocks exdate) t
+excludes-instant clocks first exdate (Date day) t h k = absurd (h day refl)
+excludes-instant clocks first exdate (Floating local) t h k = excludes-time clocks first exdate exdate.stamp t k
+excludes-instant clocks first exdate (Utc local) t h k = excludes-time clocks first exdate exdate.stamp t k
+excludes-instant clocks first exdate (Zoned local) t h k = excludes-time clocks first exdate exdate.stamp t k
+
+-- a sort takes nothing out and adds nothing
+pub sorted-takes_out : (clock : Clock) (instants days sorted rising : List ℤ) (t : ℤ) → IsPermutation instants sorted → IsPermutation days rising → takes_out clock sorted rising t ≡ takes_out clock instants days t
+sorted-takes_out clock instants days sorted rising t p q =
+    ap (λ b. b || is_day_in clock rising t) (sym (list_any-IsPermutation (λ x. int_eq x t) instants sorted p))
+    ∙ ap (λ b. list_any (λ x. int_eq x t) instants || b) (sym (list_any-IsPermutation _ days rising q))

@@ -1,0 +1,71 @@
+-- The starts at DTSTART and by RDATEs, and with them those by the rule.
+use Rattle.std.specs.Prelude.{slice_get, not}
+use Rattle.std.proofs.Common.{◌≡◌, ℕ, zero, suc, ◌+◌, List, [], ◌∷◌, Bool, true, false, Some, None, ◌⊎◌, inl, inr, ⊎_elim, refl, sym, ◌∙◌, ap, subst, arith}
+use Rattle.ics_calendar.specs.declared.time.Rdate.{Rdate}
+use Rattle.ics_calendar.specs.declared.time.Time.{Time}
+use Rattle.ics_series.specs.declared.start.Giver.TheVariants.{Listed}
+use Rattle.ics_series.specs.declared.start.Start.{Start}
+use Rattle.ics_series.specs.declared.window.Window.{Window}
+use Rattle.ics_series.specs.Clocks.{Clocks}
+use Rattle.ics_series.specs.Found.{listed_from, start_by, with_front}
+use Rattle.ics_series.specs.Listing.{IsIn}
+use Rattle.ics_series.specs.Starts.{given_by, time_of}
+use Rattle.ics_series.specs.Zones.{is_past}
+
+-- a start of the list is by one of the RDATEs
+pub record IsListed (clocks : Clocks) (first : Time) (place : ℕ) (rdates : List Rdate) (s : Start) : Type 0 where
+  pub index : ℕ
+  pub rdate : Rdate
+  pub stands : slice_get rdates index ≡ Some rdate
+  pub is : s ≡ start_by clocks (Listed (place + index)) (given_by first rdate)
+
+module _ (clocks : Clocks) (w : Window) (first : Time) where
+  behind : (place : ℕ) (r : Rdate) (rdates : List Rdate) (s : Start) → IsListed clocks first (place + 1) rdates s → IsListed clocks first place (r ∷ rdates) s
+  behind place r rdates s k = record {
+    index = suc k.index;
+    rdate = k.rdate;
+    stands = k.stands;
+    is = k.is ∙ ap (λ n. start_by clocks (Listed n) (given_by first k.rdate)) (omega arith);
+  }
+
+  in-front : (b : Bool) (s x : Start) (xs : List Start) → IsIn s (with_front b x xs) → (s ≡ x) ⊎ IsIn s xs
+  in-front true s x xs m = m
+  in-front false s x xs m = inr m
+
+  pub listed-in : (place : ℕ) (rdates : List Rdate) (s : Start) → IsIn s (listed_from clocks w first place rdates) → IsListed clocks first place rdates s
+  listed-in place [] s m = absurd m
+  listed-in place (r ∷ rdates) s m =
+      ⊎_elim
+      (λ e. record { index = 0; rdate = r; stands = refl; is = e ∙ ap (λ n. start_by clocks (Listed n) (given_by first r)) (omega arith) })
+      (λ n. behind place r rdates s (listed-in (place + 1) rdates s n))
+      (in-front (not (is_past w (time_of (given_by first r)))) s (start_by clocks (Listed place) (given_by first r)) (listed_from clocks w first (place + 1) rdates) m)
+
+  front-in : (b : Bool) (x : Start) (xs : List Start) → b ≡ true → IsIn x (with_front b x xs)
+  front-in true x xs e = inl refl
+  front-in false x xs e = let f : false ≡ true = e in absurd cc
+
+  rest-in : (b : Bool) (s x : Start) (xs : List Start) → IsIn s xs → IsIn s (with_front b x xs)
+  rest-in true s x xs m = inr m
+  rest-in false s x xs m = m
+
+  -- each of them that can begin before the window's end is there
+  pub in-listed : (place k : ℕ) (rdates : List Rdate) (r : Rdate) → slice_get rdates k ≡ Some r → is_past w (time_of (given_by first r)) ≡ false
+      → IsIn (start_by clocks (Listed (place + k)) (given_by first r)) (listed_from clocks w first place rdates)
+  in-listed place k [] r e p = let f : None ≡ Some r = e in absurd cc
+  in-listed place zero (q ∷ rdates) r e p =
+      let same : q ≡ r = some-same q r e in
+      let wanted : not (is_past w (time_of (given_by first q))) ≡ true = ap (λ x. not (is_past w (time_of (given_by first x)))) same ∙ ap not p in
+      let is : start_by clocks (Listed (place + 0)) (given_by first r) ≡ start_by clocks (Listed place) (given_by first q) =
+      ap (λ n. start_by clocks (Listed n) (given_by first r)) (omega arith) ∙ ap (λ x. start_by clocks (Listed place) (given_by first x)) (sym same) in
+      subst (λ s. IsIn s (listed_from clocks w first place (q ∷ rdates))) (sym is)
+      (front-in (not (is_past w (time_of (given_by first q)))) (start_by clocks (Listed place) (given_by first q)) (listed_from clocks w first (place + 1) rdates) wanted)
+    where
+      some-same : (x y : Rdate) → Some x ≡ Some y → x ≡ y
+      some-same x y h = cc
+  in-listed place (suc k) (q ∷ rdates) r e p =
+      subst (λ n. IsIn (start_by clocks (Listed n) (given_by first r)) (listed_from clocks w first place (q ∷ rdates))) (moved place k)
+      (rest-in (not (is_past w (time_of (given_by first q)))) (start_by clocks (Listed (place + 1 + k)) (given_by first r)) (start_by clocks (Listed place) (given_by first q))
+      (listed_from clocks w first (place + 1) rdates) (in-listed (place + 1) k rdates r e p))
+    where
+      moved : (a b : ℕ) → (a + 1) + b ≡ a + suc b
+      moved a b = omega arith

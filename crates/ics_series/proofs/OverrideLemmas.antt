@@ -1,0 +1,175 @@
+-- The overrides among the versions that count, and what they name.
+use Rattle.std.specs.Prelude.{zero, suc, is_some, is_ok}
+use Rattle.std.proofs.Common.{◌≡◌, ℕ, ◌+◌, ◌<◌, ◌≤◌, ℤ, ◌||◌, List, [], ◌∷◌, map, length, get_or, ◌⊎◌, inl, inr, ⊎_elim, Option, Some, None, Result, Ok, Err, Bool, true, false, cond, refl, sym, ◌∙◌, ap, subst, arith}
+use Rattle.std.specs.Cmp.{IsTotalOrder}
+use Rattle.std.specs.List.{filter}
+use Rattle.std.specs.List.Sorted.{IsBinarySearchResult, IsSearchInRange, IsSorted}
+use Rattle.std.specs.Cmp.Lexicographic.{slice_cmp}
+use Rattle.std.specs.Option.{option_cmp}
+use Rattle.std.specs.Ordering.{int_cmp, is_eq, is_lt, nat_cmp, on, ordering_reverse, ordering_then}
+use Rattle.std.specs.declared.cmp.Ordering.{Ordering}
+use Rattle.std.specs.declared.cmp.Ordering.TheVariants.{Less, Equal, Greater}
+use Rattle.std.proofs.lemmas.Cmp.{on_total, tied_itself}
+use Rattle.std.proofs.lemmas.List.Sorted.{searchable_from_sorted}
+use Rattle.ics_calendar.specs.Event.{FileSaid}
+use Rattle.ics_series.specs.declared.version.Version.{Version}
+use Rattle.ics_series.specs.Chosen.{subject_of, IsOverridden, SubjectSeen}
+use Rattle.ics_series.specs.Clocks.{Clock}
+use Rattle.ics_series.specs.Listing.{IsIn}
+use Rattle.ics_series.specs.Placed.{Placed}
+use Rattle.ics_series.specs.Rising.{IsBefore, Rises}
+use Rattle.ics_series.specs.Versions.{is_named, is_override, label_of, seen, subject_cmp, subject_seen, AreChosen, Label}
+use Rattle.ics_series.proofs.FilterLemmas.{rises-filter}
+use Rattle.ics_series.proofs.OccursLemmas.{override-subject}
+use Rattle.ics_series.proofs.VersionLemmas.{exact-subject, subject_total}
+
+pub or-true : (a b : Bool) → b ≡ true → (a || b) ≡ true
+or-true true b e = refl
+or-true false b e = e
+
+or-false : (a b : Bool) → a ≡ false → b ≡ false → (a || b) ≡ false
+or-false true b e f = e
+or-false false b e f = f
+
+eq-Equal : (c : Ordering) → is_eq c ≡ true → c ≡ Equal
+eq-Equal Less e = let f : false ≡ true = e in cc
+eq-Equal Equal e = refl
+eq-Equal Greater e = let f : false ≡ true = e in cc
+
+-- The versions that count are sorted by subject.
+module _ {A : Type 0} (R : A → A → Ordering) (o : IsTotalOrder R) where
+  before-at : (x : A) (ys : List A) (j : ℕ) (d : A) → IsBefore R x ys → j < length ys → R x (get_or ys j d) ≡ Less
+  before-at x [] j d h l = absurd (omega (arith, l))
+  before-at x (y ∷ ys) zero d h l = h.0
+  before-at x (y ∷ ys) (suc j) d h l = before-at x ys j d h.1 (omega arith)
+
+  rises-at : (xs : List A) (i j : ℕ) (d : A) → Rises R xs → i < j → j < length xs → R (get_or xs i d) (get_or xs j d) ≡ Less
+  rises-at [] i j d h a b = absurd (omega (arith, b))
+  rises-at (x ∷ xs) zero zero d h a b = absurd (omega (arith, a))
+  rises-at (x ∷ xs) zero (suc j) d h a b = before-at x xs j d h.0 (omega arith)
+  rises-at (x ∷ xs) (suc i) zero d h a b = absurd (omega (arith, a))
+  rises-at (x ∷ xs) (suc i) (suc j) d h a b = rises-at xs i j d h.1 (omega arith) (omega arith)
+
+  rises-sorted : (xs : List A) → Rises R xs → IsSorted R xs
+  rises-sorted xs h = λ k d a b.
+      let less = rises-at xs k (k + 1) d h (omega arith) b in
+      ap is_lt (o.antisymm (get_or xs (k + 1) d) (get_or xs k d) ∙ ap ordering_reverse less)
+
+module _ {A B : Type 0} (f : A → B) (R : B → B → Ordering) where
+  before-map : (x : A) (ys : List A) → IsBefore (on f R) x ys → IsBefore R (f x) (map f ys)
+  before-map x [] h = tt
+  before-map x (y ∷ ys) h = (h.0, before-map x ys h.1)
+
+  rises-map : (xs : List A) → Rises (on f R) xs → Rises R (map f xs)
+  rises-map [] h = tt
+  rises-map (x ∷ xs) h = (before-map x xs h.0, rises-map xs h.1)
+
+  map-before : (x : A) (ys : List A) → IsBefore R (f x) (map f ys) → IsBefore (on f R) x ys
+  map-before x [] h = tt
+  map-before x (y ∷ ys) h = (h.0, map-before x ys h.1)
+
+  map-rises : (xs : List A) → Rises R (map f xs) → Rises (on f R) xs
+  map-rises [] h = tt
+  map-rises (x ∷ xs) h = (map-before x xs h.0, map-rises xs h.1)
+
+abbrev label_subject_cmp : Label → Label → Ordering
+label_subject_cmp = on (λ l. l.subject) subject_cmp
+
+chosen-rises : (files : List FileSaid) (display : Clock) (vs : List Version) → AreChosen files display vs → Rises label_subject_cmp (map seen vs)
+chosen-rises files display vs h = subst (Rises label_subject_cmp) (sym h.are) (rises-map (label_of files display) label_subject_cmp h.chosen h.listing.rises)
+
+-- The overrides among them.
+pub overrides-sorted : (files : List FileSaid) (display : Clock) (vs os : List Version) → AreChosen files display vs → map seen os ≡ filter is_override (map seen vs) → IsSorted (on (λ v. subject_seen v.subject) subject_cmp) os
+overrides-sorted files display vs os h e =
+    rises-sorted (on (λ v. subject_seen v.subject) subject_cmp) (on_total (λ v. subject_seen v.subject) subject_total) os
+    (map-rises seen label_subject_cmp os (subst (Rises label_subject_cmp) (sym e) (rises-filter is_override label_subject_cmp (map seen vs) (chosen-rises files display vs h))))
+
+-- an instance is named where an override names it
+module _ (uid : List ℕ) (t : ℤ) where
+  abbrev instance : SubjectSeen
+  instance = record { uid = uid; recurrence = Some t }
+
+  less-not : (c : Ordering) → is_eq (ordering_then c Less) ≡ false
+  less-not Less = refl
+  less-not Equal = refl
+  less-not Greater = refl
+
+  untied : (l : Label) (r : Option ℤ) → l.subject.recurrence ≡ r → is_some r ≡ false → is_eq (subject_cmp l.subject instance) ≡ false
+  untied l None e n = ap (λ r. is_eq (ordering_then (slice_cmp nat_cmp l.subject.uid uid) (option_cmp int_cmp r (Some t)))) e ∙ less-not (slice_cmp nat_cmp l.subject.uid uid)
+  untied l (Some u) e n = let f : true ≡ false = n in cc
+
+  named-overrides-by : (l : Label) (ls : List Label) (b : Bool) → is_override l ≡ b → is_named instance (filter is_override ls) ≡ is_named instance ls
+      → is_named instance (cond b (l ∷ filter is_override ls) (filter is_override ls)) ≡ is_named instance (l ∷ ls)
+  named-overrides-by l ls true e ih = ap (λ b. is_eq (subject_cmp l.subject instance) || b) ih
+  named-overrides-by l ls false e ih = ih ∙ ap (λ b. b || is_named instance ls) (sym (untied l l.subject.recurrence refl e))
+
+  pub named-overrides : (ls : List Label) → is_named instance (filter is_override ls) ≡ is_named instance ls
+  named-overrides [] = refl
+  named-overrides (l ∷ ls) = named-overrides-by l ls (is_override l) refl (named-overrides ls)
+
+-- A subject found by halving.
+module _ (s : SubjectSeen) where
+  abbrev ranks : Version → Ordering
+  ranks v = subject_cmp (subject_seen v.subject) s
+
+  named-at : (vs : List Version) (k : ℕ) → k < length vs → ((d : Version) → ranks (get_or vs k d) ≡ Equal) → is_named s (map seen vs) ≡ true
+  named-at [] k l e = absurd (omega (arith, l))
+  named-at (v ∷ vs) zero l e = ap (λ c. is_eq c || is_named s (map seen vs)) (e v)
+  named-at (v ∷ vs) (suc k) l e = or-true (is_eq (ranks v)) (is_named s (map seen vs)) (named-at vs k (omega arith) e)
+
+  none-named : (vs : List Version) → ((k : ℕ) (d : Version) → k < length vs → is_eq (ranks (get_or vs k d)) ≡ false) → is_named s (map seen vs) ≡ false
+  none-named [] f = refl
+  none-named (v ∷ vs) f =
+      or-false (is_eq (ranks v)) (is_named s (map seen vs)) (f 0 v (omega arith)) (none-named vs (λ k d l. f (suc k) d (omega arith)))
+
+  sides : (a b : ℕ) → (a < b) ⊎ (b ≤ a)
+  sides a b = grind arith
+
+  pub searched : (vs : List Version) (r : Result ℕ ℕ) → IsSorted (on (λ v. subject_seen v.subject) subject_cmp) vs → IsSearchInRange r (length vs) → IsBinarySearchResult ranks vs r
+      → is_ok r ≡ is_named s (map seen vs)
+  searched vs (Ok k) sorted within found = sym (named-at vs k within found)
+  searched vs (Err i) sorted within parted =
+      let halves = parted (searchable_from_sorted subject_total (λ v. subject_seen v.subject) vs s sorted) in
+      sym (none-named vs (λ k d l.
+      ⊎_elim (λ less. ap is_eq (halves.0 k d (omega arith) less)) (λ more. ap is_eq (halves.1 k d more l)) (sides k i)))
+
+-- What is named is overridden.
+module _ (files : List FileSaid) (display : Clock) where
+  abbrev HasNamed : SubjectSeen → List Placed → Type 0
+  HasNamed s ps = (p : Placed) × IsIn p ps × (subject_of files display p ≡ s)
+
+  named-in-by : (s : SubjectSeen) (p : Placed) (ps : List Placed) (b : Bool) → is_eq (subject_cmp (subject_of files display p) s) ≡ b → (is_named s (map (label_of files display) ps) ≡ true → HasNamed s ps)
+      → (b || is_named s (map (label_of files display) ps)) ≡ true → HasNamed s (p ∷ ps)
+  named-in-by s p ps true same ih h = (p, inl refl, exact-subject (subject_of files display p) s (eq-Equal (subject_cmp (subject_of files display p) s) same))
+  named-in-by s p ps false same ih h = let k = ih h in (k.0, inr k.1, k.2)
+
+  named-in : (s : SubjectSeen) (ps : List Placed) → is_named s (map (label_of files display) ps) ≡ true → HasNamed s ps
+  named-in s [] e = let f : false ≡ true = e in absurd cc
+  named-in s (p ∷ ps) e = named-in-by s p ps (is_eq (subject_cmp (subject_of files display p) s)) refl (named-in s ps) e
+
+  in-named : (s : SubjectSeen) (ps : List Placed) (p : Placed) → IsIn p ps → subject_of files display p ≡ s → is_named s (map (label_of files display) ps) ≡ true
+  in-named s [] p m e = absurd m
+  in-named s (q ∷ qs) p m e =
+      ⊎_elim
+      (λ a. ap (λ c. is_eq c || is_named s (map (label_of files display) qs))
+      (ap (λ t. subject_cmp t s) (ap (subject_of files display) (sym a) ∙ e) ∙ tied_itself subject_total s))
+      (λ n. or-true (is_eq (subject_cmp (subject_of files display q) s)) (is_named s (map (label_of files display) qs)) (in-named s qs p n e)) m
+
+  module _ (vs : List Version) (h : AreChosen files display vs) (uid : List ℕ) (t : ℤ) where
+    abbrev s : SubjectSeen
+    s = record { uid = uid; recurrence = Some t }
+
+    pub named-overridden : is_named s (map seen vs) ≡ true → IsOverridden files display uid t
+    named-overridden e =
+        let k = named-in s h.chosen (ap (is_named s) (sym h.are) ∙ e) in
+        record {
+          by = k.0;
+          is = record { chosen = (h.listing.exact k.0).0 k.1; of = ap (λ (v : SubjectSeen). v.recurrence) k.2 };
+          same = ap (λ (v : SubjectSeen). v.uid) k.2;
+        }
+
+    pub overridden-named : IsOverridden files display uid t → is_named s (map seen vs) ≡ true
+    overridden-named o =
+        ap (is_named s) h.are
+        ∙ in-named s h.chosen o.by ((h.listing.exact o.by).1 o.is.chosen)
+        (override-subject files display o.by t o.is ∙ ap (λ u. record { uid = u; recurrence = Some t }) o.same)

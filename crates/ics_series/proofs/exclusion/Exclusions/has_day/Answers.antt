@@ -1,0 +1,23 @@
+use Rattle.std.proofs.Common.{◌≡◌, w32, w64, to_z, of_z, is_ok, sym, ◌∙◌, ap, subst, arith}
+use Rattle.std.specs.List.{list_any}
+use Rattle.std.specs.List.Sorted.{IsSorted}
+use Rattle.std.specs.Ordering.{int_cmp, int_eq}
+use Rattle.std.proofs.lemmas.Int.{ints}
+use mir.Val.{SFits}
+use Rattle.ics_series.specs.Clocks.{Clock, clock_of}
+use Rattle.ics_series.specs.Exclusions.{is_day_in, shown_day}
+use Rattle.ics_series.specs.Zones.{clocks_in}
+use Rattle.ics_series.proofs.ExclusionLemmas.{found-in}
+use Rattle.ics_series.proofs.exclusion.Exclusions.has_day.Goals as goal
+
+pub returns : goal.returns
+returns c =
+    let rise : IsSorted int_cmp c.deref.result.now = subst (IsSorted int_cmp) (sym c.deref.ensures.value) c.args.self.now.days_rise in
+    let found : is_ok c.binary_search.result ≡ list_any (λ y. int_eq y (to_z w32 (of_z w32 c.shown_day-day.result))) c.deref.result.now =
+    found-in c.deref.result.now _ c.binary_search.result rise c.binary_search.ensures.bound c.binary_search.ensures.position in
+    let day : to_z w32 (of_z w32 c.shown_day-day.result) ≡ c.shown_day-day.result = omega (arith, ints, c.shown_day-day.type_inv) in
+    let fits : SFits w64 c.args.moment = c.ranges.moment in
+    let same : to_z w64 (of_z w64 c.args.moment) ≡ c.args.moment = omega (arith, ints) in
+    let clock : Clock = clock_of (clocks_in c.args.zones) c.args.first in
+    let shown : c.shown_day-day.result ≡ shown_day clock c.args.moment = c.shown_day-day.ensures ∙ ap (shown_day clock) same in
+    c.is_ok.ensures.value ∙ (found ∙ (ap (λ x. list_any (λ y. int_eq y x) c.deref.result.now) (day ∙ shown) ∙ ap (λ xs. is_day_in (clock_of (clocks_in c.args.zones) c.args.first) xs c.args.moment) c.deref.ensures.value))

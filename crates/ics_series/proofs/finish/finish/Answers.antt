@@ -1,0 +1,29 @@
+use Rattle.std.proofs.Common.{length, arith, subst}
+use Rattle.std.proofs.lemmas.Int.{ints, int_max_is}
+use Rattle.ics_calendar.specs.Event.{RdateBelow}
+use Rattle.ics_series.specs.Zones.{clocks_in}
+use Rattle.ics_series.proofs.GiverLemmas.{gives-below}
+use Rattle.ics_series.proofs.finish.finish.Goals as goal
+use Rattle.ics_series.proofs.finish.finish.Goals.{in-At, in-Span}
+
+pub end_by-end-requires-clause-within : goal.end_by-end-requires-clause-within
+end_by-end-requires-clause-within c =
+    subst (RdateBelow (length c.args.zones.zones.now)) c.in-At.is
+    (gives-below (length c.args.zones.zones.now) (clocks_in c.args.zones) c.args.event.now c.args.start.giver c.args.start.given c.requires.event.below c.requires.start.gives)
+
+pub span_end-end-requires-clause-within : goal.span_end-end-requires-clause-within
+span_end-end-requires-clause-within c =
+    (subst (RdateBelow (length c.args.zones.zones.now)) c.in-Span.is
+    (gives-below (length c.args.zones.zones.now) (clocks_in c.args.zones) c.args.event.now c.args.start.giver c.args.start.given c.requires.event.below c.requires.start.gives)).0
+
+pub span_end-end-requires-clause-end : goal.span_end-end-requires-clause-end
+span_end-end-requires-clause-end c =
+    (subst (RdateBelow (length c.args.zones.zones.now)) c.in-Span.is
+    (gives-below (length c.args.zones.zones.now) (clocks_in c.args.zones) c.args.event.now c.args.start.giver c.args.start.given c.requires.event.below c.requires.start.gives)).1
+
+pub returns-clause-early : goal.returns-clause-early
+returns-clause-early c =
+    elim c.match-start.branch [
+      | in-At w ↦ omega (arith, ints, c.max.type_inv, c.max.ensures.value, c.match-start.end-is, w.end-is, w.end_by-end.ensures.early, c.requires.early, int_max_is)
+      | in-Span w ↦ omega (arith, ints, c.max.type_inv, c.max.ensures.value, c.match-start.end-is, w.end-is, w.span_end-end.ensures.early, c.requires.early, int_max_is)
+    ]

@@ -1,0 +1,5 @@
+use Rattle.ics_series.proofs.StartLaws.{none-excluded}
+use Rattle.ics_series.proofs.laws.none_excluded.Goals as goal
+
+pub returns : goal.returns
+returns c = none-excluded

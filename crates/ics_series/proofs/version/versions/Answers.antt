@@ -1,0 +1,19 @@
+use Rattle.std.proofs.Common.{◌≡◌, Some, map, refl, sym, ◌∙◌, ap}
+use Rattle.std.specs.Prelude.{slice_get}
+use Rattle.std.proofs.lemmas.Option.{slice_get_read}
+use Rattle.ics_calendar.specs.declared.events.FileEvents.{FileEvents}
+use Rattle.ics_series.specs.Clocks.{display_clock}
+use Rattle.ics_series.specs.Versions.{seen}
+use Rattle.ics_series.proofs.LabelLemmas.{labels-step}
+use Rattle.ics_series.proofs.version.versions.Goals as goal
+
+pub loop-number-preserved : goal.loop-number-preserved
+loop-number-preserved c =
+    let files = c.args.files.now in
+    let display = display_clock c.args.display.now in
+    let file : FileEvents = record { zones = c.deref.result.now; events = c.deref-in-loop-number.result.now } in
+    let same : c.index-files-number.result ≡ record { zones = c.deref.result.now; events = c.deref-in-loop-number.result.now } =
+    sym c.file.view_is ∙ (λ i. record { zones = sym c.deref.ensures.value i; events = sym c.deref-in-loop-number.ensures.value i }) in
+    let there : slice_get c.args.files.now c.loop-number.number ≡ Some (record { zones = c.deref.result.now; events = c.deref-in-loop-number.result.now }) =
+    slice_get_read c.args.files.now _ c.loop-number.number c.index-files-number.result refl c.loop-number-test.true c.index-files-number.is ∙ ap Some same in
+    labels-step files display c.loop-number.number file (map seen c.loop-number.versions.items) (map seen c.push_versions.new.versions.items) _ there c.in_ok-push_versions.ensures c.loop-number.invariant

@@ -1,0 +1,77 @@
+//! The events that count: for each UID a master, and for each of its instances an override.
+ghost use Rattle.std.specs.Prelude.{◌≡◌, filter, map, IfOk};
+ghost use Rattle.std.specs.List.Sorted.{IsSorted};
+ghost use Rattle.std.specs.Ordering.{on};
+ghost use Rattle.ics_calendar.specs.Event.{said_by};
+ghost use Rattle.ics_series.specs.Clocks.{display_clock};
+ghost use Rattle.ics_series.specs.Versions.{is_followed, is_named, is_override, is_same, lasts, seen, subject_cmp, subject_seen, AreChosen};
+ghost use Rattle.ics_series.specs.Zones.{AreNamesReached};
+
+use crate::version::{Subject, Version, versions};
+use ics_calendar::FileEvents;
+use ics_zone::Display;
+use std::alloc::{AllocError, Global};
+
+/// Of the versions of each subject the greatest by SEQUENCE, then file, then place (RFC 5545,
+/// section 3.8.7.4), in the order of their subjects.
+pub(crate) fn chosen<'a>(
+    alloc: Global,
+    files: &'a [FileEvents],
+    display: &Display,
+) -> Result<Vec<Version<'a>>, AllocError>
+    requires { AreNamesReached files.now }
+    ensures { IfOk result (λ chosen. AreChosen (map said_by files.entry.now) (display_clock display.now) chosen.items) }
+{
+    let mut versions = versions(alloc, files, display)?;
+    versions.sort_unstable();
+    last_of_each(alloc, &versions)
+}
+
+// Of each run of versions of one subject the last.
+fn last_of_each<'a>(alloc: Global, versions: &[Version<'a>]) -> Result<Vec<Version<'a>>, AllocError>
+    ensures { IfOk result (λ last. map seen last.items ≡ lasts is_same (map seen versions.entry.now)) }
+{
+    let mut last = Vec::new(alloc);
+    for (k, version) in versions.iter().enumerate() {
+        if !is_followed(version, &versions[k + 1..]) {
+            last.push(*version)?;
+        }
+    }
+    Ok(last)
+}
+
+// Whether the next version has the same subject.
+fn is_followed(version: &Version<'_>, rest: &[Version<'_>]) -> bool
+    ensures { result ≡ is_followed is_same (seen version.now) (map seen rest.now) }
+{
+    match rest.first() {
+        Some(next) => version.subject == next.subject,
+        None => false,
+    }
+}
+
+/// Those of these versions that override an instance.
+pub(crate) fn overrides<'a>(
+    alloc: Global,
+    chosen: &[Version<'a>],
+) -> Result<Vec<Version<'a>>, AllocError>
+    ensures { IfOk result (λ overrides. map seen overrides.items ≡ filter is_override (map seen chosen.entry.now)) }
+{
+    let mut overrides = Vec::new(alloc);
+    for version in chosen {
+        if version.subject.recurrence.is_some() {
+            overrides.push(*version)?;
+        }
+    }
+    Ok(overrides)
+}
+
+/// Whether one of these versions has a subject.
+pub(crate) fn is_named(subject: Subject<'_>, versions: &[Version<'_>]) -> bool
+    requires { IsSorted (on (λ v. subject_seen v.subject) subject_cmp) versions.now }
+    ensures { result ≡ is_named (subject_seen subject.entry) (map seen versions.now) }
+{
+    versions
+        .binary_search_by_key(&subject, |version| version.subject)
+        .is_ok()
+}

@@ -1,0 +1,160 @@
+//! What the EXDATEs of an event take out.
+ghost use Rattle.std.specs.Prelude.{◌≡◌, ◌<ℤ◌, ◌≤ℤ◌, ◌+ℤ◌, ◌||◌, ℤ, neg_ℤ, not, pos, IfOk};
+ghost use Rattle.std.specs.Int.{int_div_euclid};
+ghost use Rattle.std.specs.List.Sorted.{IsSorted};
+ghost use Rattle.std.specs.Ordering.{int_cmp};
+ghost use Rattle.ics_calendar.specs.Event.{IsTime};
+ghost use Rattle.ics_series.specs.Clocks.{clock_of, instant};
+ghost use Rattle.ics_series.specs.Exclusions.{excludes, is_day_in, shown_day, takes_out, with_instant};
+ghost use Rattle.ics_series.specs.Zones.{clocks_in, is_past, AreReached, HasZoneIn, IsReadable};
+
+use crate::instant::{instant, is_past};
+use crate::start::date_of;
+use crate::window::Window;
+use crate::zones::FileZones;
+use ics_calendar::{Event, Time};
+use ics_values::{Moment, Stamp};
+use ics_zone::Place;
+use std::alloc::{AllocError, Global};
+
+const DAY: i64 = 86_400;
+
+/// The instants that the EXDATEs of an event take out, and under an event of date-times the days that
+/// they do by the clock of DTSTART, each in order.
+#[derive(Drop)]
+pub(crate) struct Exclusions {
+    instants: Vec<Moment>,
+    days: Vec<i32>,
+    ghost instants_rise: { IsSorted int_cmp instants.items },
+    ghost days_rise: { IsSorted int_cmp days.items },
+}
+
+impl Exclusions {
+    ghost use Rattle.ics_series.specs.Exclusions.{AreExclusions};
+    ghost use Rattle.ics_series.specs.Zones.{asked, IsReadableEvent};
+
+    // What they take out of the starts before the window's end.
+    pub(crate) fn new(
+        alloc: Global,
+        zones: FileZones<'_>,
+        event: &Event,
+        window: &Window,
+    ) -> Result<Exclusions, AllocError>
+        requires event { IsReadableEvent zones event.now }
+        requires reached { AreReached zones.zones.now (asked window.now event.now) }
+        ensures { IfOk result (λ exclusions. AreExclusions (clocks_in zones.entry) event.now window.now
+            exclusions.instants.items exclusions.days.items) }
+    {
+        let mut instants = Vec::new(alloc);
+        let mut days = Vec::new(alloc);
+        for exdate in &event.exdates {
+            push_exdate(
+                &mut instants,
+                &mut days,
+                zones,
+                event.start,
+                *exdate,
+                window,
+            )?;
+        }
+        instants.sort_unstable();
+        days.sort_unstable();
+        Ok(Exclusions { instants, days })
+    }
+
+    // Whether they take out a start at an instant.
+    pub(crate) fn has(&self, zones: FileZones<'_>, first: Time, moment: Moment) -> bool
+        requires first { IsReadable zones.zones.now first }
+        requires late { neg_ℤ (pos 62_135_769_600) ≤ℤ moment }
+        requires early { moment <ℤ pos 247_091_126_400 }
+        requires reached { AreReached zones.zones.now moment }
+        ensures { result ≡ takes_out (clock_of (clocks_in zones.entry) first)
+            self.now.instants.items self.now.days.items moment }
+    {
+        self.instants.binary_search(&moment).is_ok() || self.has_day(zones, first, moment)
+    }
+
+    // Whether they take out the day that a time's clock shows at an instant.
+    fn has_day(&self, zones: FileZones<'_>, first: Time, moment: Moment) -> bool
+        requires first { IsReadable zones.zones.now first }
+        requires late { neg_ℤ (pos 62_135_769_600) ≤ℤ moment }
+        requires early { moment <ℤ pos 247_091_126_400 }
+        requires reached { AreReached zones.zones.now moment }
+        ensures { result ≡ is_day_in (clock_of (clocks_in zones.entry) first) self.now.days.items moment }
+    {
+        if self.days.is_empty() {
+            return false;
+        }
+        let day = shown_day(zones, first, moment);
+        self.days.binary_search(&day).is_ok()
+    }
+}
+
+// Adds what an EXDATE takes out of an event with this DTSTART. Under an event of dates each form means
+// its date.
+fn push_exdate(
+    instants: &mut Vec<Moment>,
+    days: &mut Vec<i32>,
+    zones: FileZones<'_>,
+    first: Time,
+    exdate: Time,
+    window: &Window,
+) -> Result<(), AllocError>
+    requires time { IsTime exdate }
+    requires within { HasZoneIn zones.zones.now exdate }
+    requires reached { AreReached zones.zones.now (window.now.to +ℤ pos 345_600) }
+    ensures { IfOk result (λ _. (t : ℤ) → t <ℤ window.now.to → let clocks = clocks_in zones.entry in
+        takes_out (clock_of clocks first) instants.new.items days.new.items t
+        ≡ (takes_out (clock_of clocks first) instants.old.items days.old.items t || excludes clocks first exdate t)) }
+{
+    match (first.stamp, exdate.stamp) {
+        (Stamp::Date(_), _) => push_instant(instants, zones, date_of(exdate), window)?,
+        (_, Stamp::Date(day)) => days.push(day)?,
+        _ => push_instant(instants, zones, exdate, window)?,
+    }
+    Ok(())
+}
+
+// Adds the instant of a time, unless it is written two days or more past the window's end.
+fn push_instant(
+    instants: &mut Vec<Moment>,
+    zones: FileZones<'_>,
+    time: Time,
+    window: &Window,
+) -> Result<(), AllocError>
+    requires time { IsTime time }
+    requires within { HasZoneIn zones.zones.now time }
+    requires reached { AreReached zones.zones.now (window.now.to +ℤ pos 345_600) }
+    ensures { IfOk result (λ _. instants.new.items
+        ≡ with_instant (not (is_past window.now time)) instants.old.items (instant (clocks_in zones.entry) time)) }
+{
+    if !is_past(time, window) {
+        instants.push(instant(zones, time))?;
+    }
+    Ok(())
+}
+
+// The day that a time's clock shows at an instant.
+fn shown_day(zones: FileZones<'_>, time: Time, moment: Moment) -> i32
+    requires time { IsReadable zones.zones.now time }
+    requires late { neg_ℤ (pos 62_135_769_600) ≤ℤ moment }
+    requires early { moment <ℤ pos 247_091_126_400 }
+    requires reached { AreReached zones.zones.now moment }
+    ensures { result ≡ shown_day (clock_of (clocks_in zones.entry) time) moment }
+{
+    match time.stamp {
+        Stamp::Utc(_) => moment.div_euclid(DAY) as i32,
+        Stamp::Date(_) | Stamp::Floating(_) => day_at(zones.display, moment),
+        Stamp::Zoned(_) => day_at(zones.zone_of(time), moment),
+    }
+}
+
+// The day that the clock of a place shows at an instant.
+fn day_at<P: Place>(place: &P, moment: Moment) -> i32
+    requires late { neg_ℤ (pos 62_135_769_600) ≤ℤ moment }
+    requires early { moment <ℤ pos 247_091_126_400 }
+    requires reached { moment ≤ℤ P.reach place.now }
+    ensures { result ≡ int_div_euclid (moment +ℤ P.offset_at place.now moment) (pos 86_400) }
+{
+    place.local(moment).day
+}

@@ -1,0 +1,35 @@
+//! What orders the occurrences of a listing.
+ghost use Rattle.std.specs.Prelude.{◌≡◌};
+ghost use Rattle.std.specs.Ordering.{is_lt};
+ghost use Rattle.ics_series.specs.Entry.{entry_of, key_rank, rank_cmp, rank_of};
+
+use crate::occurrence::Occurrence;
+use ics_values::Moment;
+use std::cmp::Ordering;
+
+/// What tells an occurrence from the others of a folder, and where it stands among them: by its
+/// start, then by the bytes of its UID, then by its recurrence.
+#[derive(Debug, Drop, PartialEq, Eq, PartialOrd, Ord)]
+pub struct Key {
+    pub start: Moment,
+    pub uid: Vec<u8>,
+    pub recurrence: Moment,
+}
+
+impl Key {
+    // Whether an occurrence comes after this key.
+    pub(crate) fn is_before(&self, occurrence: &Occurrence<'_>) -> bool
+        ensures { result ≡ is_lt (rank_cmp (key_rank self.now) (rank_of (entry_of occurrence.now))) }
+    {
+        let event = occurrence.event;
+        let order = match self.start.cmp(&occurrence.start) {
+            Ordering::Equal => self
+                .uid
+                .as_slice()
+                .cmp(event.uid.as_slice())
+                .then(self.recurrence.cmp(&occurrence.recurrence)),
+            order => order,
+        };
+        order.is_lt()
+    }
+}

@@ -1,0 +1,62 @@
+//! The starts that RDATEs give.
+ghost use Rattle.std.specs.Prelude.{◌≡◌, ◌++◌, IfOk};
+ghost use Rattle.ics_series.specs.Found.{listed_from};
+ghost use Rattle.ics_series.specs.Starts.{given_by, time_by};
+ghost use Rattle.ics_series.specs.Zones.{asked, clocks_in, AreReached, IsReadableEvent};
+
+use crate::instant::{instant, is_past};
+use crate::start::{Giver, Start, date_of, local_of, time_at, time_of};
+use crate::window::Window;
+use crate::zones::FileZones;
+use ics_calendar::{Event, Rdate, Time};
+use ics_values::{Local, Stamp};
+use std::alloc::AllocError;
+
+/// Adds the starts that the RDATEs of an event give, but for those written two days or more past the
+/// window's end, which begin after it.
+pub(crate) fn push_listed(
+    starts: &mut Vec<Start>,
+    zones: FileZones<'_>,
+    event: &Event,
+    window: &Window,
+) -> Result<(), AllocError>
+    requires event { IsReadableEvent zones event.now }
+    requires reached { AreReached zones.zones.now (asked window.now event.now) }
+    ensures { IfOk result (λ _. starts.new.items
+        ≡ starts.old.items ++ listed_from (clocks_in zones.entry) window.now event.now.start 0 event.now.rdates) }
+{
+    for (place, rdate) in event.rdates.iter().enumerate() {
+        let given = given_by(event.start, *rdate);
+        if !is_past(time_of(given), window) {
+            starts.push(Start {
+                moment: instant(zones, time_of(given)),
+                giver: Giver::Listed(place),
+                given,
+            })?;
+        }
+    }
+    Ok(())
+}
+
+// Where a value of an RDATE starts an event with this DTSTART: under an event of dates each form
+// means its date.
+fn given_by(first: Time, rdate: Rdate) -> Rdate
+    ensures { result ≡ given_by first rdate }
+{
+    match (first.stamp, rdate) {
+        (Stamp::Date(_), rdate) => Rdate::At(date_of(time_of(rdate))),
+        (_, Rdate::At(time)) => Rdate::At(time_by(first, time)),
+        (_, span) => span,
+    }
+}
+
+// A time of an RDATE under an event of date-times: a date stands for that date at DTSTART's time of
+// the day, in DTSTART's zone.
+fn time_by(first: Time, time: Time) -> Time
+    ensures { result ≡ time_by first time time.stamp }
+{
+    match time.stamp {
+        Stamp::Date(day) => time_at(first, Local::at(day, local_of(first.stamp).second)),
+        Stamp::Floating(_) | Stamp::Utc(_) | Stamp::Zoned(_) => time,
+    }
+}
