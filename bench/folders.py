@@ -38,6 +38,28 @@ def recurring(count, start, rule, zone=(), name=''):
     return calendar(lines)
 
 
+def day_stamp(number, hour):
+    """A time of a day of 2000 or later, one day after another, each month with 28."""
+    return '%04d%02d%02dT%02d0000Z' % (2000 + number // 336, number // 28 % 12 + 1, number % 28 + 1, hour)
+
+
+def dates(count):
+    """An event with so many further dates, and as many exceptions, every other one of a further date."""
+    lines = ['BEGIN:VEVENT', 'UID:dates@example.org', 'DTSTART:19991231T100000Z', 'DURATION:PT1H', 'SUMMARY:Dates']
+    lines += ['RDATE:' + day_stamp(number, 10) for number in range(count)]
+    lines += ['EXDATE:' + day_stamp(number, 10 + number % 2) for number in range(count)]
+    return calendar([*lines, 'END:VEVENT'])
+
+
+def moved(count):
+    """A daily event with so many overrides, each an hour late."""
+    lines = event(0, 'RRULE:FREQ=DAILY')
+    for number in range(count):
+        lines += ['BEGIN:VEVENT', 'UID:0@example.org', 'RECURRENCE-ID:' + day_stamp(number, 0),
+                  'DTSTART:' + day_stamp(number, 1), 'DURATION:PT1H', 'SUMMARY:Moved %d' % number, 'END:VEVENT']
+    return calendar([line.replace('DTSTART:2024', 'DTSTART:2000') for line in lines])
+
+
 def filled(line):
     """A calendar of one event, with copies of a line in it up to the size that a file may have."""
     start, end = calendar(event(0)).split(b'END:VEVENT')
@@ -106,6 +128,8 @@ ROWS = [
      ['2024-01-05', '1d']),
     ('a minutely rule, a window in 2500', lambda: [('a.ics', recurring(1, '200001%02dT%02d%02d00Z', 'FREQ=MINUTELY'))],
      ['2500-01-05', '1d']),
+    ('5,000 further dates and exceptions', lambda: [('a.ics', dates(5_000))], ['2014-01-05', '1d']),
+    ('10,000 overrides of one event', lambda: [('a.ics', moved(10_000))], ['2014-01-05', '7d']),
     ('1,000 rules that never match', lambda: [('a.ics', recurring(1_000, '200001%02dT%02d%02d00Z',
                                                                   'FREQ=YEARLY;BYMONTH=2;BYMONTHDAY=30'))],
      ['2024-01-05', '1d']),
