@@ -19,6 +19,3 @@ pub use laws::{numbers_rise, numbers_within, params_read_once};
 pub use lines::Lines;
 pub use logical::Logical;
 pub use parts::Content;
-
-#[cfg(test)]
-mod tests;

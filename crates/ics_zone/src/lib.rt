@@ -22,8 +22,3 @@ pub use place::Place;
 pub use zone::Zone;
 pub use zone_fault::ZoneFault;
 pub use zone_laws::{one_moment, one_offset};
-
-#[cfg(test)]
-mod tests;
-#[cfg(test)]
-mod zone_tests;

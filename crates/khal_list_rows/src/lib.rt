@@ -1,10 +1,16 @@
-//! Worked examples: the words of a command, the files of a folder, and what is written of them; rules and single values.
+//! Worked examples: the words of a command, the files of a folder, and what is written of them; lines, rules, zones and single values.
 #![tactic(auto)]
 
 #[cfg(test)]
 mod cursors;
 #[cfg(test)]
+mod displays;
+#[cfg(test)]
 mod events;
+#[cfg(test)]
+mod lines;
+#[cfg(test)]
+mod observances;
 #[cfg(test)]
 mod refusals;
 #[cfg(test)]

@@ -23,6 +23,12 @@ fn request(alloc: Global, line: &str, now: i64) -> Result<Request, RequestFault>
     Request::of(alloc, words.as_slice(), now)
 }
 
+// The bounds of the window that the words ask for.
+fn window(alloc: Global, line: &str) -> Result<(i64, i64), RequestFault> {
+    let request = request(alloc, line, NOW)?;
+    Ok((request.window.from, request.window.to))
+}
+
 #[test]
 fn windows(rt: HostRuntime) -> Result<(), Fail> {
     for (line, from, to) in [
@@ -53,6 +59,15 @@ fn windows(rt: HostRuntime) -> Result<(), Fail> {
         ),
         ("list cal 0001-01-02 3579010d", FIRST, LAST),
         ("list cal 9799-12-31 9799-12-31", 247_090_867_200, LAST),
+    ] {
+        assert_eq!(rt; window(rt.alloc(), line)?, (from, to), "at {line:?}");
+    }
+    Ok(())
+}
+
+#[test]
+fn windows_in_zones(rt: HostRuntime) -> Result<(), Fail> {
+    for (line, from, to) in [
         (
             "list cal 2024-01-05 1d --zone=-05:00",
             1_704_430_800,
@@ -82,25 +97,41 @@ fn windows(rt: HostRuntime) -> Result<(), Fail> {
             1_194_148_800,
             1_194_238_800,
         ),
-        ("at cal 2024-01-05T10:30", 1_704_450_600, 1_704_450_601),
-        (
-            "at cal 2024-01-05T10:30 --zone Z",
-            1_704_450_600,
-            1_704_450_601,
-        ),
-        ("at cal 0001-01-02T00:00", FIRST, FIRST + 1),
-        ("at cal 9800-01-01T00:00", LAST, LAST + 1),
     ] {
-        let request = request(rt.alloc(), line, NOW)?;
-        assert_eq!(rt; request.folder(), "cal", "at {line:?}");
-        assert_eq!(rt; request.window.from, from, "at {line:?}");
-        assert_eq!(rt; request.window.to, to, "at {line:?}");
-        assert!(rt; !request.window.notstarted, "at {line:?}");
+        assert_eq!(rt; window(rt.alloc(), line)?, (from, to), "at {line:?}");
     }
+    Ok(())
+}
+
+#[test]
+fn moments(rt: HostRuntime) -> Result<(), Fail> {
+    for (line, moment) in [
+        ("at cal 2024-01-05T10:30", 1_704_450_600),
+        ("at cal 2024-01-05T10:30 --zone Z", 1_704_450_600),
+        ("at cal 0001-01-02T00:00", FIRST),
+        ("at cal 9800-01-01T00:00", LAST),
+    ] {
+        assert_eq!(rt;
+            window(rt.alloc(), line)?,
+            (moment, moment + 1),
+            "at {line:?}"
+        );
+    }
+    Ok(())
+}
+
+#[test]
+fn folders_and_notstarted(rt: HostRuntime) -> Result<(), Fail> {
+    let plain = request(rt.alloc(), "list cal 2024-01-05 1d", NOW)?;
+    assert_eq!(rt; plain.folder(), "cal");
+    assert!(rt; !plain.window.notstarted);
     let notstarted = request(rt.alloc(), "list cal 2024-01-05 1d --notstarted", NOW)?;
     assert!(rt; notstarted.window.notstarted);
     let dashed = request(rt.alloc(), "list -- -cal 2024-01-05 1d", NOW)?;
     assert_eq!(rt; dashed.folder(), "-cal");
+    let moment = request(rt.alloc(), "at cal 2024-01-05T10:30", NOW)?;
+    assert_eq!(rt; moment.folder(), "cal");
+    assert!(rt; !moment.window.notstarted);
     Ok(())
 }
 
@@ -133,63 +164,90 @@ fn clocks(rt: HostRuntime) -> Result<(), Fail> {
     Ok(())
 }
 
+// How the words are refused.
+fn refusal(alloc: Global, line: &str) -> Option<&'static str> {
+    let fault = request(alloc, line, NOW).err()?;
+    Some(fault.name())
+}
+
 #[test]
-fn refusals(rt: HostRuntime) {
-    for (line, name) in [
-        ("list cal 2024-01-05 0d", "BadWindow"),
-        ("list cal 2024-01-05 3700000d", "BadWindow"),
-        ("list cal 0001-01-02 3579011d", "BadWindow"),
-        ("list cal 2024-01-05 3700001d", "BadWindow"),
-        ("list cal 2024-01-05 99999999999999999999d", "BadWindow"),
-        ("list cal 2024-01-05 d", "BadWindow"),
-        ("list cal 2024-01-05 +1d", "BadWindow"),
-        ("list cal 2024-01-05 1D", "BadWindow"),
-        ("list cal 2024-01-05 1", "BadWindow"),
-        ("list cal 2024-01-05 2024-01-05T00:00", "BadWindow"),
-        ("list cal 2024-01-05 2024-01-04", "BadWindow"),
-        ("list cal 9800-01-01 1d", "BadWindow"),
-        ("list cal 9799-12-31 9800-01-01", "BadWindow"),
-        ("list cal 9999-12-31 9999-12-31", "BadWindow"),
-        ("list cal 0001-01-01 1d", "BadWindow"),
-        ("list cal 0000-01-01 1d", "BadWindow"),
-        ("list cal 2024-01-05 0000-01-01", "BadWindow"),
-        ("list cal 10000-01-01 1d", "BadWindow"),
-        ("list cal 2023-02-29 1d", "BadWindow"),
-        ("list cal 2024-13-01 1d", "BadWindow"),
-        ("list cal 2024-00-01 1d", "BadWindow"),
-        ("list cal 2024-01-00 1d", "BadWindow"),
-        ("list cal 2024-01-05T24:00 1d", "BadWindow"),
-        ("list cal 2024-01-05T10:60 1d", "BadWindow"),
-        ("list cal 2024-01-05t10:00 1d", "BadWindow"),
-        ("list cal 2024-01-05T10:00:00 1d", "BadWindow"),
-        ("list cal 2024-1-5 1d", "BadWindow"),
-        ("list cal 20240105 1d", "BadWindow"),
-        ("list cal 2d", "BadWindow"),
-        ("at cal 2024-01-05", "BadWindow"),
-        ("at cal 1d", "BadWindow"),
-        ("at cal 0001-01-01T23:59", "BadWindow"),
-        ("at cal 9800-01-01T00:01", "BadWindow"),
-        ("list cal x y --zone XST", "BadZone"),
-        ("list cal 2024-01-05 1d --zone utc", "BadZone"),
-        ("list cal x y --zone XST --bad", "Usage"),
-        ("", "Usage"),
-        ("list", "Usage"),
-        ("at cal", "Usage"),
-        ("agenda cal", "Usage"),
-        ("list cal a b c", "Usage"),
-        ("list cal --zone", "Usage"),
-        ("list cal --zone -05:00", "Usage"),
-        ("list cal --zone UTC --zone UTC", "Usage"),
-        ("list cal --limit 1", "Usage"),
-        ("list cal --notstarted=true", "Usage"),
-        ("list cal --notstarted --notstarted", "Usage"),
-        ("list -cal", "Usage"),
-        ("at cal 2024-01-05T10:30 --notstarted", "Usage"),
+fn bad_starts(rt: HostRuntime) {
+    for line in [
+        "list cal 0001-01-02 3579011d",
+        "list cal 9800-01-01 1d",
+        "list cal 9799-12-31 9800-01-01",
+        "list cal 9999-12-31 9999-12-31",
+        "list cal 0001-01-01 1d",
+        "list cal 0000-01-01 1d",
+        "list cal 10000-01-01 1d",
+        "list cal 2023-02-29 1d",
+        "list cal 2024-13-01 1d",
+        "list cal 2024-00-01 1d",
+        "list cal 2024-01-00 1d",
+        "list cal 2024-01-05T24:00 1d",
+        "list cal 2024-01-05T10:60 1d",
+        "list cal 2024-01-05t10:00 1d",
+        "list cal 2024-01-05T10:00:00 1d",
+        "list cal 2024-1-5 1d",
+        "list cal 20240105 1d",
+        "list cal 2d",
+        "at cal 2024-01-05",
+        "at cal 1d",
+        "at cal 0001-01-01T23:59",
+        "at cal 9800-01-01T00:01",
     ] {
-        match request(rt.alloc(), line, NOW) {
-            Ok(_) => panic!(rt; "taken: {line:?}"),
-            Err(fault) => assert_eq!(rt; fault.name(), name, "at {line:?}"),
-        }
+        assert_eq!(rt; refusal(rt.alloc(), line), Some("BadWindow"), "at {line:?}");
+    }
+}
+
+#[test]
+fn bad_ends(rt: HostRuntime) {
+    for line in [
+        "list cal 2024-01-05 0d",
+        "list cal 2024-01-05 3700000d",
+        "list cal 2024-01-05 3700001d",
+        "list cal 2024-01-05 99999999999999999999d",
+        "list cal 2024-01-05 d",
+        "list cal 2024-01-05 +1d",
+        "list cal 2024-01-05 1D",
+        "list cal 2024-01-05 1",
+        "list cal 2024-01-05 2024-01-05T00:00",
+        "list cal 2024-01-05 2024-01-04",
+        "list cal 2024-01-05 0000-01-01",
+    ] {
+        assert_eq!(rt; refusal(rt.alloc(), line), Some("BadWindow"), "at {line:?}");
+    }
+}
+
+#[test]
+fn bad_zones(rt: HostRuntime) {
+    for line in [
+        "list cal x y --zone XST",
+        "list cal 2024-01-05 1d --zone utc",
+    ] {
+        assert_eq!(rt; refusal(rt.alloc(), line), Some("BadZone"), "at {line:?}");
+    }
+}
+
+#[test]
+fn usages(rt: HostRuntime) {
+    for line in [
+        "list cal x y --zone XST --bad",
+        "",
+        "list",
+        "at cal",
+        "agenda cal",
+        "list cal a b c",
+        "list cal --zone",
+        "list cal --zone -05:00",
+        "list cal --zone UTC --zone UTC",
+        "list cal --limit 1",
+        "list cal --notstarted=true",
+        "list cal --notstarted --notstarted",
+        "list -cal",
+        "at cal 2024-01-05T10:30 --notstarted",
+    ] {
+        assert_eq!(rt; refusal(rt.alloc(), line), Some("Usage"), "at {line:?}");
     }
 }
 

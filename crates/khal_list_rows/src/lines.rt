@@ -1,4 +1,6 @@
-use crate::{BadFold, BadLine, Lines, content};
+//! The lines of a file, and the parts of a content line.
+
+use ics_text::{BadFold, BadLine, Lines, content};
 use std::test::Fail;
 
 #[test]

@@ -1,7 +1,8 @@
+//! Display zones, by offsets and by the rules of POSIX texts.
 ghost use Rattle.std.specs.Prelude.{◌≡◌, ◌<◌};
 
-use crate::{Display, DisplayFault, Place};
 use ics_values::Local;
+use ics_zone::{Display, DisplayFault, Place};
 use std::test::Fail;
 
 // 2007-03-11T07:00:00Z, when New York's clocks go forward, from 02:00 to 03:00.

@@ -1,11 +1,12 @@
+//! Time zones of observances, asked directly.
 ghost use Rattle.std.specs.Prelude.{IsTrue};
 ghost use Rattle.std.specs.List.{list_all};
 ghost use Rattle.jiff_core.specs.Calendar.{IsWithin};
 ghost use Rattle.ics_values.specs.Stamps.{IsStampDay};
 ghost use Rattle.ics_zone.specs.Years.{is_stamp_local};
 
-use crate::{Observance, Place, Zone, ZoneFault};
 use ics_values::{Local, Parts, read_rule};
+use ics_zone::{Observance, Place, Zone, ZoneFault};
 use std::alloc::{AllocError, Global};
 use std::test::Fail;
 
