@@ -16,10 +16,11 @@ use crate::event::Event;
 use crate::fault::FaultKind;
 use crate::later::ZoneName;
 use crate::property::Property;
+use crate::rule_value::RuleValue;
 use crate::text::{Text, text_or_empty};
 use crate::time::{Length, Time};
 use crate::zone_table::ZoneTable;
-use ics_values::{Duration, DurationFault, Parts, RuleFault, Stamp};
+use ics_values::{Duration, DurationFault, Parts, Stamp};
 use std::alloc::{AllocError, Global};
 
 /// The first value of each property that an event may have once, and what all its RDATEs and EXDATEs list.
@@ -29,7 +30,7 @@ pub struct Collected {
     pub start: Option<Dated>,
     pub end: Option<Dated>,
     pub duration: Option<Result<Duration, DurationFault>>,
-    pub rule: Option<Result<Parts, RuleFault>>,
+    pub rule: Option<RuleValue>,
     pub rdates: DateLists,
     pub exdates: DateLists,
     pub recurrence: Option<Dated>,
@@ -54,6 +55,15 @@ fn keep_dated(kept: &mut Option<Dated>, dated: Dated)
 {
     if kept.is_none() {
         *kept = Some(dated);
+    }
+}
+
+/// Keeps the first rule of several.
+pub fn keep_rule(kept: &mut Option<RuleValue>, rule: RuleValue)
+    ensures { kept.new ≡ or_first kept.old rule }
+{
+    if kept.is_none() {
+        *kept = Some(rule);
     }
 }
 
@@ -130,12 +140,12 @@ fn length_of(
 }
 
 /// The rule of an RRULE that is there and in order.
-pub fn rule_in(rule: Option<Result<Parts, RuleFault>>) -> Option<Parts>
-    ensures { result ≡ rule_in rule }
+pub fn rule_in(rule: &Option<RuleValue>) -> Option<Parts>
+    ensures { result ≡ rule_in rule.now }
 {
     match rule {
-        Some(Ok(rule)) => Some(rule),
-        _ => None,
+        Some(rule) => (*rule.get()).ok(),
+        None => None,
     }
 }
 
@@ -170,7 +180,7 @@ impl Collected {
             Property::Dtstart(dated) => keep_dated(&mut self.start, dated),
             Property::Dtend(dated) => keep_dated(&mut self.end, dated),
             Property::Duration(duration) => self.duration = self.duration.or(Some(duration)),
-            Property::Rrule(rule) => self.rule = self.rule.or(Some(rule)),
+            Property::Rrule(rule) => keep_rule(&mut self.rule, rule),
             Property::RecurrenceId(dated, _) => keep_dated(&mut self.recurrence, dated),
             Property::Sequence(number) => {
                 self.sequence = self.sequence.or(Some(number.unwrap_or(0)));
@@ -227,7 +237,7 @@ impl Collected {
         Ok(Event {
             start: time_of(alloc, table, calendar, self.start),
             length: length_of(alloc, table, calendar, self.end, self.duration),
-            rule: rule_in(self.rule),
+            rule: rule_in(&self.rule),
             rdates: self.rdates.into_rdates(alloc, table, calendar)?,
             exdates: self.exdates.into_exdates(alloc, table, calendar)?,
             recurrence: recurrence_of(alloc, table, calendar, self.recurrence),

@@ -58,7 +58,7 @@ fn event_fault(property: &Property, had: &Collected) -> Option<FaultKind>
         Property::Duration(duration) => {
             duration_fault(*duration, once(had.duration.is_some(), None))
         }
-        Property::Rrule(rule) => rule_fault(*rule, once(had.rule.is_some(), None)),
+        Property::Rrule(rule) => rule_fault(rule.get(), once(had.rule.is_some(), None)),
         Property::RecurrenceId(dated, range) => {
             stamp_fault(
                 dated.stamp,
@@ -101,8 +101,8 @@ fn observance_fault(property: &Property, had: &ObservanceSummary) -> Option<Faul
         Property::OffsetFrom(offset) => offset_fault(*offset, had.from.is_some()),
         Property::OffsetTo(offset) => offset_fault(*offset, had.to.is_some()),
         Property::Rrule(rule) => {
-            let bad = had.rule.is_some() || is_fine_rule(rule);
-            rule_fault(*rule, zone_rule_fault(bad))
+            let bad = had.rule.is_some() || is_fine_rule(rule.get());
+            rule_fault(rule.get(), zone_rule_fault(bad))
         }
         Property::Dates(values) => dates_fault(values, field_fault(values.have_not_local())),
         _ => None,

@@ -19,6 +19,7 @@ mod laws;
 mod name;
 mod property;
 mod read;
+mod rule_value;
 mod settle;
 mod stack;
 mod summary;

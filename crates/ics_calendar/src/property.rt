@@ -12,12 +12,13 @@ use crate::date_values::DateValues;
 use crate::dated::Dated;
 use crate::lasting::lasting;
 use crate::name::Name;
+use crate::rule_value::RuleValue;
 use crate::text::Text;
 use crate::words::is_word;
 use ics_text::Content;
 use ics_values::{
-    BadOffset, Duration, DurationFault, IntegerFault, Parts, RuleFault, Stamp, StampFault,
-    read_integer, read_offset, read_rule, read_stamp,
+    BadOffset, Duration, DurationFault, IntegerFault, Stamp, StampFault, read_integer, read_offset,
+    read_stamp,
 };
 use std::alloc::{AllocError, Global};
 
@@ -31,7 +32,7 @@ pub enum Property {
     Dtstart(Dated),
     Dtend(Dated),
     Duration(Result<Duration, DurationFault>),
-    Rrule(Result<Parts, RuleFault>),
+    Rrule(RuleValue),
     /// With whether it has a RANGE.
     RecurrenceId(Dated, bool),
     Sequence(Result<u32, IntegerFault>),
@@ -119,7 +120,7 @@ fn event_property(alloc: Global, name: Name, content: &Content<'_>) -> Result<Pr
         Name::Dtstart => Ok(Property::Dtstart(dated(alloc, content)?)),
         Name::Dtend => Ok(Property::Dtend(dated(alloc, content)?)),
         Name::Duration => Ok(Property::Duration(lasting(value))),
-        Name::Rrule => Ok(Property::Rrule(read_rule(value))),
+        Name::Rrule => Ok(Property::Rrule(RuleValue::of(alloc, value)?)),
         Name::RecurrenceId => {
             Ok(Property::RecurrenceId(dated(alloc, content)?, has_range(content)))
         }
@@ -168,7 +169,7 @@ fn observance_property(
         Name::Dtstart => Ok(Property::Onset(read_stamp(value, false))),
         Name::OffsetFrom => Ok(Property::OffsetFrom(read_offset(value))),
         Name::OffsetTo => Ok(Property::OffsetTo(read_offset(value))),
-        Name::Rrule => Ok(Property::Rrule(read_rule(value))),
+        Name::Rrule => Ok(Property::Rrule(RuleValue::of(alloc, value)?)),
         Name::Rdate => Ok(Property::Dates(DateValues::of_rdate(alloc, value, false)?)),
         _ => Ok(Property::Other),
     }

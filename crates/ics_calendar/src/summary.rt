@@ -8,13 +8,14 @@ ghost use Rattle.ics_calendar.specs.Zones.{phase_of, onset_in, offset_in};
 ghost use Rattle.ics_calendar.specs.ZonesSound.{IsSoundPhase};
 ghost use Rattle.ics_calendar.specs.declared.property.Property.TheVariants.{Begin};
 
-use crate::collected::{Collected, keep_text, rule_in};
+use crate::collected::{Collected, keep_rule, keep_text, rule_in};
 use crate::component::{Component, Place};
 use crate::date_values::DateValues;
 use crate::fault::FaultKind;
 use crate::property::Property;
+use crate::rule_value::RuleValue;
 use crate::text::Text;
-use ics_values::{BadOffset, Local, Parts, RuleFault, Stamp, StampFault};
+use ics_values::{BadOffset, Local, Stamp, StampFault};
 use ics_zone::Observance;
 use std::alloc::{AllocError, Global};
 
@@ -40,7 +41,7 @@ pub struct ObservanceSummary {
     pub start: Option<Result<Stamp, StampFault>>,
     pub from: Option<Result<i32, BadOffset>>,
     pub to: Option<Result<i32, BadOffset>>,
-    pub rule: Option<Result<Parts, RuleFault>>,
+    pub rule: Option<RuleValue>,
     pub rdates: DateValues,
 }
 
@@ -97,14 +98,14 @@ impl ObservanceSummary {
     }
 
     /// A line more that is no RDATE.
-    fn note_once(&mut self, property: &Property)
-        ensures { self.new ≡ note_once property.now self.old }
+    fn note_once(&mut self, property: Property)
+        ensures { self.new ≡ note_once property self.old }
     {
         match property {
-            Property::Onset(stamp) => self.start = self.start.or(Some(*stamp)),
-            Property::OffsetFrom(offset) => self.from = self.from.or(Some(*offset)),
-            Property::OffsetTo(offset) => self.to = self.to.or(Some(*offset)),
-            Property::Rrule(rule) => self.rule = self.rule.or(Some(*rule)),
+            Property::Onset(stamp) => self.start = self.start.or(Some(stamp)),
+            Property::OffsetFrom(offset) => self.from = self.from.or(Some(offset)),
+            Property::OffsetTo(offset) => self.to = self.to.or(Some(offset)),
+            Property::Rrule(rule) => keep_rule(&mut self.rule, rule),
             _ => {}
         }
     }
@@ -115,7 +116,7 @@ impl ObservanceSummary {
         match property {
             Property::Dates(values) => self.rdates.append(values),
             property => {
-                self.note_once(&property);
+                self.note_once(property);
                 Ok(())
             }
         }
@@ -140,7 +141,7 @@ impl ObservanceSummary {
             start: onset_in(self.start),
             offset_from: offset_in(self.from),
             offset_to: offset_in(self.to),
-            rule: rule_in(self.rule),
+            rule: rule_in(&self.rule),
             rdates: self.rdates.into_locals(alloc)?,
         })
     }

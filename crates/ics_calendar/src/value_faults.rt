@@ -43,8 +43,8 @@ pub fn duration_fault(
 }
 
 /// What stands on a line with a rule.
-pub fn rule_fault(rule: Result<Parts, RuleFault>, more: Option<FaultKind>) -> Option<FaultKind>
-    ensures { result ≡ rule_fault rule more }
+pub fn rule_fault(rule: &Result<Parts, RuleFault>, more: Option<FaultKind>) -> Option<FaultKind>
+    ensures { result ≡ rule_fault rule.now more }
 {
     match rule {
         Err(RuleFault::BadRule) => Some(FaultKind::BadRule),
