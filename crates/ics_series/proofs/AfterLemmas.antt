@@ -1,10 +1,11 @@
 -- What a listing goes on with after a key.
-use Rattle.std.proofs.Common.{◌≡◌, List, [], ◌∷◌, ◌++◌, Some, inl, inr, ⊎_elim, refl, sym, ◌∙◌, ap}
+use Rattle.std.proofs.Common.{◌≡◌, List, [], ◌∷◌, ◌++◌, Option, Some, None, inl, inr, ⊎_elim, refl, sym, ◌∙◌, ap}
 use Rattle.std.specs.List.{filter}
 use Rattle.std.specs.Ordering.{is_lt}
 use Rattle.std.specs.declared.cmp.Ordering.TheVariants.{Less}
 use Rattle.ics_calendar.specs.Event.{FileSaid}
 use Rattle.ics_series.specs.declared.window.Window.{Window}
+use Rattle.ics_series.specs.After.{after_key}
 use Rattle.ics_series.specs.Clocks.{Clock}
 use Rattle.ics_series.specs.Entry.{Entry, Rank, entry_cmp, rank_cmp, rank_of}
 use Rattle.ics_series.specs.EntryLaws.{entry_total}
@@ -22,6 +23,12 @@ listing-after files display w key xs ys h k =
     one-listing entry_cmp entry_total (IsToCome files display w (Some key)) ys (filter (λ o. is_lt (rank_cmp key (rank_of o))) xs) k
     (listing-filter (λ o. is_lt (rank_cmp key (rank_of o))) entry_cmp (IsListed files display w) (IsToCome files display w (Some key)) xs h
     (λ o l e. (l, lt-Less (rank_cmp key (rank_of o)) e)) (λ o t. (t.0, ap is_lt t.1)))
+
+-- so too where there may be no key
+pub listing-after_key : (files : List FileSaid) (display : Clock) (w : Window) (after : Option Rank) (xs ys : List Entry) → IsListing entry_cmp (IsListed files display w) xs → IsListing entry_cmp (IsToCome files display w after) ys
+    → ys ≡ after_key after xs
+listing-after_key files display w None xs ys h k = one-listing entry_cmp entry_total (IsListed files display w) ys xs k h
+listing-after_key files display w (Some key) xs ys h k = listing-after files display w key xs ys h k
 
 -- the end of a rising list rises, and what stands before it comes before it
 rises-end : (front back : List Entry) → Rises entry_cmp (front ++ back) → Rises entry_cmp back

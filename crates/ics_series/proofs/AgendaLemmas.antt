@@ -1,5 +1,5 @@
 -- The occurrences that are to come, sorted by key, are their listing.
-use Rattle.std.proofs.Common.{◌≡◌, ◌&&◌, List, map, Option, sym, ◌∙◌, ap, subst}
+use Rattle.std.proofs.Common.{◌≡◌, ◌&&◌, List, map, Option, None, sym, ◌∙◌, ap, subst}
 use Rattle.std.specs.Cmp.{IsTotalOrder}
 use Rattle.std.specs.Cmp.Lexicographic.{slice_cmp}
 use Rattle.std.specs.Fn.{Called}
@@ -17,15 +17,18 @@ use Rattle.ics_calendar.specs.Event.{FileSaid}
 use Rattle.ics_series.specs.declared.occurrence.Occurrence.{Occurrence}
 use Rattle.ics_series.specs.declared.version.Version.{Version}
 use Rattle.ics_series.specs.declared.window.Window.{Window}
+use Rattle.ics_series.specs.After.{after_key}
 use Rattle.ics_series.specs.Clocks.{Clock}
 use Rattle.ics_series.specs.Entry.{Entry, Rank, entry_of, entry_cmp}
 use Rattle.ics_series.specs.EntryLaws.{entry_total}
 use Rattle.ics_series.specs.Listing.{IsListing}
-use Rattle.ics_series.specs.Meets.{IsToCome}
+use Rattle.ics_series.specs.Meets.{IsListed, IsToCome}
 use Rattle.ics_series.specs.MetList.{given_cmp, is_after, is_kept, subject_from, IsMetList}
 use Rattle.ics_series.specs.Versions.{is_override, seen, AreChosen}
+use Rattle.ics_series.proofs.AfterLemmas.{listing-after_key}
 use Rattle.ics_series.proofs.MasterLemmas.{second-equal}
 use Rattle.ics_series.proofs.OccursLemmas.{one-recurrence}
+use Rattle.ics_series.proofs.PutLemmas.{listing-ordered}
 use Rattle.ics_series.proofs.SortLemmas.{climbs-sorted, map-climbs, listing-sorted}
 use Rattle.ics_series.proofs.ToComeLemmas.{come-listed, come-listing}
 use Rattle.ics_series.proofs.VersionLemmas.{subject_total}
@@ -58,3 +61,12 @@ module _ (files : List FileSaid) (display : Clock) (w : Window) (after : Option 
       (climbs-sorted (on entry_of entry_cmp) (on_total entry_of entry_total) sorted
       (s (λ x y. is_lt (on entry_of entry_cmp x y)) (ranks_by entry_total entry_of)
       (answers_always g (λ a r. is_lt r ≡ is_lt (entry_cmp (entry_of a.0.now) (entry_of a.1.0.now))) f (λ k a r f' c. ap is_lt (h k a r f' c))))))
+
+-- there is the whole listing, and what comes is what of it stands after the key
+pub agenda-after : (files : List FileSaid) (display : Clock) (w : Window) (after : Option Rank) (vs os : List Version) (met come : List Entry) → AreChosen files display vs → map seen os ≡ filter is_override (map seen vs) → IsMetList files display w met
+    → IsListing entry_cmp (IsToCome files display w after) come → (list : List Entry) × IsListing entry_cmp (IsListed files display w) list × (come ≡ after_key after list)
+agenda-after files display w after vs os met come chosen overrides l h =
+    let kept = come-listing files display w vs (map seen os) None met given_cmp chosen overrides l in
+    let whole = listing-ordered entry_cmp entry_total given_cmp given_total (IsListed files display w) (tied-given files display w None)
+    (filter (λ o. is_kept (map seen os) o && is_after None o) met) kept in
+    (whole.0, whole.1, listing-after_key files display w after whole.0 come whole.1 h)

@@ -23,11 +23,13 @@ pub mod OccursLemmas
 mod OverrideExamples
 pub mod OverrideLemmas
 pub mod PlacedLemmas
+pub mod PutLemmas
 pub mod ReachLemmas
 pub mod SortLemmas
 pub mod SoughtLemmas
 pub mod SpotLemmas
 pub mod StartLaws
 pub mod ToComeLemmas
+pub mod TokenLemmas
 pub mod VersionLemmas
 pub mod ZoneLemmas

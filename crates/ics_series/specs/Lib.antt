@@ -1,3 +1,4 @@
+pub mod After
 pub mod Chosen
 pub mod Clocks
 pub mod Contents
@@ -16,5 +17,6 @@ pub mod Placed
 pub mod Rising
 pub mod Spots
 pub mod Starts
+pub mod Tokens
 pub mod Versions
 pub mod Zones

@@ -1,12 +1,13 @@
 //! The events of a folder.
-ghost use Rattle.std.specs.Prelude.{◌≡◌, map, IfOk, OnOk};
+ghost use Rattle.std.specs.Prelude.{◌≡◌, List, map, IfOk, OnOk};
 ghost use Rattle.std.specs.Option.{option_map};
 ghost use Rattle.ics_calendar.specs.Event.{said_by};
+ghost use Rattle.ics_series.specs.After.{after_key};
 ghost use Rattle.ics_series.specs.Clocks.{display_clock};
-ghost use Rattle.ics_series.specs.Entry.{entry_cmp, entry_of, key_rank};
+ghost use Rattle.ics_series.specs.Entry.{Entry, entry_cmp, entry_of, key_rank};
 ghost use Rattle.ics_series.specs.Listing.{IsListing};
 ghost use Rattle.ics_series.specs.MetList.{IsMetList};
-ghost use Rattle.ics_series.specs.Meets.{IsToCome};
+ghost use Rattle.ics_series.specs.Meets.{IsListed, IsToCome};
 ghost use Rattle.ics_series.specs.Versions.{AreChosen};
 ghost use Rattle.ics_series.specs.Zones.{IsReached};
 
@@ -67,8 +68,8 @@ impl Folder {
         reach_each(&mut self.files, window)
     }
 
-    /// The occurrences that meet the window, in the order of their keys; after a key only those
-    /// that come after it. The folder has been reached for that window.
+    /// The occurrences that meet the window, in the order of their keys; after a key only those of
+    /// this listing that come after it. The folder has been reached for that window.
     pub fn agenda<'a>(
         &'a self,
         window: Window,
@@ -79,6 +80,9 @@ impl Folder {
             (IsToCome (map said_by self.entry.now.files) (display_clock self.entry.now.display) window
             (option_map (λ key. key_rank key.now) after.entry))
             (⟦<Agenda<'a> as Coming>⟧.coming agenda)) }
+        ensures behind { IfOk result (λ agenda. (list : List Entry)
+            × IsListing entry_cmp (IsListed (map said_by self.entry.now.files) (display_clock self.entry.now.display) window) list
+            × (⟦<Agenda<'a> as Coming>⟧.coming agenda ≡ after_key (option_map (λ key. key_rank key.now) after.entry) list)) }
     {
         let chosen = chosen(self.alloc, &self.files, &self.display)?;
         let overrides = overrides(self.alloc, &chosen)?;

@@ -1,10 +1,11 @@
 //! What orders the occurrences of a listing.
-ghost use Rattle.std.specs.Prelude.{◌≡◌};
+ghost use Rattle.std.specs.Prelude.{◌≡◌, IfOk};
 ghost use Rattle.std.specs.Ordering.{is_lt};
 ghost use Rattle.ics_series.specs.Entry.{entry_of, key_rank, rank_cmp, rank_of};
 
 use crate::occurrence::Occurrence;
 use ics_values::Moment;
+use std::alloc::{AllocError, Global};
 use std::cmp::Ordering;
 
 /// What tells an occurrence from the others of a folder, and where it stands among them: by its
@@ -17,6 +18,18 @@ pub struct Key {
 }
 
 impl Key {
+    /// The key of an occurrence.
+    pub fn of(alloc: Global, occurrence: &Occurrence<'_>) -> Result<Key, AllocError>
+        ensures { IfOk result (λ key. key_rank key ≡ rank_of (entry_of occurrence.now)) }
+    {
+        let event = occurrence.event;
+        Ok(Key {
+            start: occurrence.start,
+            uid: event.uid.as_slice().to_vec(alloc)?,
+            recurrence: occurrence.recurrence,
+        })
+    }
+
     // Whether an occurrence comes after this key.
     pub(crate) fn is_before(&self, occurrence: &Occurrence<'_>) -> bool
         ensures { result ≡ is_lt (rank_cmp (key_rank self.now) (rank_of (entry_of occurrence.now))) }

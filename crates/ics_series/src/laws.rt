@@ -2,6 +2,7 @@
 ghost use Rattle.std.specs.Prelude.{◌≡◌};
 ghost use Rattle.ics_series.specs.Entry.{key_rank, rank_cmp};
 ghost use Rattle.ics_series.specs.Laws.{EachStart, ListingAfter, ListingBehind, NoneExcluded, OneListing, OneRecurrence, OneStart};
+ghost use Rattle.ics_series.specs.Tokens.{OneSpelling};
 ghost use Rattle.ics_series.specs.declared.key.Key.{Key};
 
 use crate::key::Key;
@@ -46,4 +47,9 @@ pub fn none_excluded()
 /// Keys are ordered as the occurrences of a listing are.
 pub fn keys_as_listed()
     ensures { (a b : Key) → ⟦<Key as Ord>⟧.cmp a b ≡ rank_cmp (key_rank a) (key_rank b) }
+{}
+
+/// A key has one token, and no two keys have the same.
+pub fn one_spelling()
+    ensures { OneSpelling }
 {}

@@ -19,6 +19,7 @@ mod reach;
 mod spot;
 mod start;
 mod starts;
+mod token;
 mod version;
 mod window;
 mod zones;
@@ -29,7 +30,8 @@ pub use folder::Folder;
 pub use key::Key;
 pub use laws::{
     each_start, keys_as_listed, listing_after, listing_behind, none_excluded, one_listing,
-    one_recurrence, one_start,
+    one_recurrence, one_spelling, one_start,
 };
 pub use occurrence::Occurrence;
+pub use token::{Token, TokenFault};
 pub use window::Window;

@@ -8,12 +8,12 @@ use Rattle.ics_calendar.specs.declared.events.FileEvents.{FileEvents}
 use Rattle.ics_series.specs.declared.version.Version.{Version}
 use Rattle.ics_series.specs.Clocks.{display_clock}
 use Rattle.ics_series.specs.Contents.{Contents}
-use Rattle.ics_series.specs.Entry.{entry_cmp, key_rank}
+use Rattle.ics_series.specs.Entry.{entry_cmp, entry_of, key_rank}
 use Rattle.ics_series.specs.Listing.{IsListing}
 use Rattle.ics_series.specs.Meets.{IsToCome}
 use Rattle.ics_series.specs.Versions.{is_override, seen, subject_cmp, subject_seen, AreChosen}
 use Rattle.ics_series.specs.Zones.{AreNamesReached}
-use Rattle.ics_series.proofs.AgendaLemmas.{agenda-listing}
+use Rattle.ics_series.proofs.AgendaLemmas.{agenda-after, agenda-listing}
 use Rattle.ics_series.proofs.NameLemmas.{names-reached}
 use Rattle.ics_series.proofs.OverrideLemmas.{overrides-sorted}
 use Rattle.ics_series.proofs.folder.Folder.agenda.Goals as goal
@@ -51,4 +51,9 @@ returns c =
     let listing = agenda-listing (map said_by c.args.self.now.files) (display_clock c.args.self.now.display) c.args.window (option_map (λ key. key_rank key.now) c.args.after)
     c.in_ok-chosen.chosen.items c.in_ok-overrides.overrides.items c.deref-5.result.now c.in_ok-met.met.items c.deref-4.result.now c.in_ok-entries.entries.items c.sort_unstable_by.new.self.items
     chosen overrides c.deref-5.ensures.value c.deref-4.ensures.value c.in_ok-met.ensures c.in_ok-entries.ensures c.sort_unstable_by.ensures.permutation c.sort_unstable_by.ensures.sorted (λ f a r f' k. search rules) in
-    record { listing = subst (IsListing entry_cmp (IsToCome (map said_by c.args.self.now.files) (display_clock c.args.self.now.display) c.args.window (option_map (λ key. key_rank key.now) c.args.after))) (sym c.new.ensures) listing }
+    let come = subst (IsListing entry_cmp (IsToCome (map said_by c.args.self.now.files) (display_clock c.args.self.now.display) c.args.window (option_map (λ key. key_rank key.now) c.args.after))) (sym c.new.ensures) listing in
+    record {
+      listing = come;
+      behind = agenda-after (map said_by c.args.self.now.files) (display_clock c.args.self.now.display) c.args.window (option_map (λ key. key_rank key.now) c.args.after)
+          c.in_ok-chosen.chosen.items c.in_ok-overrides.overrides.items (map entry_of c.in_ok-met.met.items) _ chosen overrides c.in_ok-met.ensures come;
+    }

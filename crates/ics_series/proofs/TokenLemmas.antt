@@ -1,0 +1,53 @@
+-- No point stands in a number, and a key's spelling gives the key back.
+use Rattle.std.proofs.Common.{◌≡◌, ℕ, suc, ◌<◌, List, [], ◌∷◌, ◌++◌, length, get_or, refl, sym, ◌∙◌, ap, subst, arith, drop}
+use Rattle.std.specs.Prelude.{ℤ, pos, negsuc, FitsSigned, ◌≢◌}
+use Rattle.std.specs.Int.{w64}
+use Rattle.std.specs.Char.{digit_value}
+use Rattle.std.specs.Fmt.{decimal, signed_decimal}
+use Rattle.std.specs.Str.Parse.{AllDigits}
+use Rattle.std.specs.List.{AllByRecursion}
+use Rattle.std.proofs.lemmas.Fmt.{decimal_is_IsNumeral, signed_decimal_injective}
+use Rattle.hex.specs.Hex.{encode_lower, decode_of}
+use Rattle.hex.proofs.HexLemmas.{decode_of-encode_lower}
+use Rattle.ics_series.specs.Entry.{Rank}
+use Rattle.ics_series.specs.Tokens.{spelling, IsKey}
+use Rattle.std.proofs.lemmas.List.Elements.{All-from_recursion}
+
+not-point : (c : ℕ) → digit_value c < 10 → c ≢ 46
+not-point c h e = let k : digit_value 46 < 10 = subst (λ x. digit_value x < 10) e h in absurd (omega arith)
+
+no-point-in : (ds : List ℕ) → AllDigits 10 ds → AllByRecursion (λ c. c ≢ 46) ds
+no-point-in [] h = tt
+no-point-in (c ∷ cs) h = (not-point c h.0, no-point-in cs h.1)
+
+no-point-list : (z : ℤ) → FitsSigned w64 z → AllByRecursion (λ c. c ≢ 46) (signed_decimal z)
+no-point-list (pos n) f = no-point-in (decimal n) (decimal_is_IsNumeral n (omega (arith, f.sfits))).0.1
+no-point-list (negsuc n) f = (λ e. omega arith, no-point-in (decimal (suc n)) (decimal_is_IsNumeral (suc n) (omega (arith, f.sfits))).0.1)
+
+pub no-point : (z : ℤ) → FitsSigned w64 z → (i : ℕ) → i < length (signed_decimal z) → get_or (signed_decimal z) i 0 ≢ 46
+no-point z f i l = All-from_recursion (λ c. c ≢ 46) (signed_decimal z) (no-point-list z f) i 0 l
+
+-- the first point parts a text in one way
+one-cut : (xs ys as' bs : List ℕ) → AllByRecursion (λ c. c ≢ 46) xs → AllByRecursion (λ c. c ≢ 46) ys → xs ++ (46 ∷ as') ≡ ys ++ (46 ∷ bs) → (xs ≡ ys) × (as' ≡ bs)
+one-cut [] [] as' bs h k e = (refl, cc)
+one-cut [] (y ∷ ys) as' bs h k e = let same : y ≡ 46 = cc in absurd (k.0 same)
+one-cut (x ∷ xs) [] as' bs h k e = let same : x ≡ 46 = cc in absurd (h.0 same)
+one-cut (x ∷ xs) (y ∷ ys) as' bs h k e =
+    let heads : x ≡ y = cc in
+    let rests : xs ++ (46 ∷ as') ≡ ys ++ (46 ∷ bs) = cc in
+    let r = one-cut xs ys as' bs h.1 k.1 rests in (cc, r.1)
+
+same-rank : (a b : Rank) → a.start ≡ b.start → a.uid ≡ b.uid → a.recurrence ≡ b.recurrence → a ≡ b
+same-rank a b p q r =
+    let make : ℤ → List ℕ → ℤ → Rank = λ s u t. record { start = s; uid = u; recurrence = t } in
+    ap (λ s. make s a.uid a.recurrence) p ∙ (ap (λ u. make b.start u a.recurrence) q ∙ ap (λ t. make b.start b.uid t) r)
+
+-- no two keys share a spelling
+pub one-spelling : (a b : Rank) → IsKey a → IsKey b → spelling a ≡ spelling b → a ≡ b
+one-spelling a b h k e =
+    let inner : signed_decimal a.start ++ (46 ∷ (signed_decimal a.recurrence ++ (46 ∷ encode_lower a.uid))) ≡ signed_decimal b.start ++ (46 ∷ (signed_decimal b.recurrence ++ (46 ∷ encode_lower b.uid))) = ap (drop 3) e in
+    let first = one-cut (signed_decimal a.start) (signed_decimal b.start) (signed_decimal a.recurrence ++ (46 ∷ encode_lower a.uid)) (signed_decimal b.recurrence ++ (46 ∷ encode_lower b.uid)) (no-point-list a.start h.start) (no-point-list b.start k.start) inner in
+    let second = one-cut (signed_decimal a.recurrence) (signed_decimal b.recurrence) (encode_lower a.uid) (encode_lower b.uid) (no-point-list a.recurrence h.recurrence) (no-point-list b.recurrence k.recurrence) first.1 in
+    let uid : a.uid ≡ b.uid = let q = sym (decode_of-encode_lower a.uid h.uid) ∙ (ap decode_of second.1 ∙ decode_of-encode_lower b.uid k.uid) in cc in
+    same-rank a b (signed_decimal_injective a.start b.start h.start.sfits k.start.sfits first.0) uid
+    (signed_decimal_injective a.recurrence b.recurrence h.recurrence.sfits k.recurrence.sfits second.0)
