@@ -1,6 +1,6 @@
 -- Answers to the same words agree.
-use Rattle.std.proofs.Common.{◌≡◌, ◌+ℤ◌, ℤ, pos, Bool, true, false, List, Some, None, Ok, Err, Result, Option, IsTrue, ◌↔◌, option_and_then, ◌&&◌, if◌then◌else◌, refl, sym, ◌∙◌, ap, ap₂, subst}
-use Rattle.std.specs.Prelude.{int_le, int_lt}
+use Rattle.std.proofs.Common.{◌≡◌, ◌⊎◌, inl, inr, ◌+ℤ◌, ℕ, ℤ, pos, Bool, true, false, true≢false, List, [], Some, None, Ok, Err, Result, Option, IsTrue, ◌↔◌, option_and_then, ◌&&◌, if◌then◌else◌, refl, sym, ◌∙◌, ap, ap₂, subst}
+use Rattle.std.specs.Prelude.{int_le, int_lt, option_map, unwrap_or, IsSome}
 use Rattle.clap.specs.Words.{Text, IsAmong}
 use Rattle.ics_zone.specs.DisplayTexts.{said_by}
 use Rattle.ics_zone.specs.Displays.{offset_of, moment_of}
@@ -8,14 +8,19 @@ use Rattle.ics_zone.specs.Zones.{zone_of, zone_by}
 use Rattle.ics_zone.specs.declared.display.Display.{Display}
 use Rattle.ics_zone.specs.declared.display.Kind.{Kind}
 use Rattle.ics_zone.specs.declared.display.Kind.TheVariants.{Fixed, Posix}
+use Rattle.ics_series.specs.Entry.{key_rank}
+use Rattle.ics_series.specs.Tokens.{OneSpelling}
+use Rattle.ics_series.specs.declared.key.Key.{Key}
 use Rattle.khal_list.specs.Agree.{Agree, SameRequest}
-use Rattle.khal_list.specs.Entries.{Entries, Span, entries_of, span_of, IsRefused, AreTaken}
-use Rattle.khal_list.specs.RequestOf.{RequestOf, IsRequest, IsBadWindow}
+use Rattle.khal_list.specs.Entries.{Entries, Span, entries_of, limit_text, span_of, IsRefused, AreTaken}
+use Rattle.khal_list.specs.Formats.{day_name, entry_name, IsFormat, OneFormat}
+use Rattle.khal_list.specs.Limits.{IsLimitOf}
+use Rattle.khal_list.specs.RequestOf.{RequestOf, IsRequest, IsBadWindow, IsKeyOf, IsNoToken, HasWindow, after_text, day_format_text, format_text}
 use Rattle.khal_list.specs.WindowTexts.{Named, named}
 use Rattle.khal_list.specs.Windows.{first_start, last_end, midnight, today, start_said, between, second_at, ends_from, ends_of, end_named, moment_named}
 use Rattle.khal_list.specs.declared.request.Request.{Request}
 use Rattle.khal_list.specs.declared.request_fault.RequestFault.{RequestFault}
-use Rattle.khal_list.specs.declared.request_fault.RequestFault.TheVariants.{Usage, BadZone, BadWindow, Memory}
+use Rattle.khal_list.specs.declared.request_fault.RequestFault.TheVariants.{Usage, BadZone, BadWindow, BadToken, BadFormat, Memory}
 
 -- two display zones give the same offsets and read the same instants
 pub record Alike (a b : Display) : Type 0 where
@@ -79,42 +84,112 @@ same_pair a b c d e =
     let pairs : ◌≡◌ {A = ℤ × ℤ} (a, b) (c, d) = cc in
     (ap (λ (p : ℤ × ℤ). p.0) pairs, ap (λ (p : ℤ × ℤ). p.1) pairs)
 
-same_request : OneDisplay → (entries : Entries) (now : ℤ) (a b : Request) → IsRequest entries now a → IsRequest entries now b → SameRequest a b
+same_limit : (given : Option Text) (a b : Option ℕ) → IsLimitOf given a → IsLimitOf given b → a ≡ b
+same_limit None None None p q = refl
+same_limit None None (Some b) p q = absurd q
+same_limit None (Some a) b p q = absurd p
+same_limit (Some text) None b p q = absurd p
+same_limit (Some text) (Some a) None p q = absurd q
+same_limit (Some text) (Some a) (Some b) p q = sym p.0 ∙ q.0
+
+-- the key of a token is one
+same_key : OneSpelling → (given : Option Text) (a b : Option Key) → IsKeyOf given a → IsKeyOf given b → option_map key_rank a ≡ option_map key_rank b
+same_key one None None None p q = refl
+same_key one None None (Some b) p q = absurd q
+same_key one None (Some a) b p q = absurd p
+same_key one (Some text) None b p q = absurd p
+same_key one (Some text) (Some a) None p q = absurd q
+same_key one (Some text) (Some a) (Some b) p q = ap Some (one (key_rank a) (key_rank b) p.0 q.0 (sym p.1 ∙ q.1))
+
+-- a text that gives a key is a token
+no_token : (given : Option Text) (key : Option Key) → IsKeyOf given key → IsNoToken given → ⊥
+no_token None key p bad = let stands = bad.stands in cc
+no_token (Some text) None p bad = absurd p
+no_token (Some text) (Some key) p bad = bad.none (key_rank key, p.0, ap (λ (o : Option Text). unwrap_or o []) (sym bad.stands) ∙ p.1)
+
+-- a request was made of two formats
+no_format : (entries : Entries) (now : ℤ) (a : Request) → IsRequest entries now a
+    → (¬ IsFormat entry_name (format_text entries)) ⊎ (¬ IsFormat day_name (day_format_text entries)) → ⊥
+no_format entries now a p (inl none) = none (a.format.pieces.items, p.format)
+no_format entries now a p (inr none) = none (a.day_format.pieces.items, p.day_format)
+
+has_window : (entries : Entries) (now : ℤ) (a : Request) → IsRequest entries now a → HasWindow entries now
+has_window entries now a p = record { display = a.zone; zone = p.zone; some = subst IsSome p.window refl }
+
+no_window : OneDisplay → (entries : Entries) (now : ℤ) → HasWindow entries now → IsBadWindow entries now → ⊥
+no_window one entries now has bad =
+    let same = same_ends has.display bad.display now (span_of entries) (one has.display bad.display (has.zone ∙ sym bad.zone)) in
+    let some : IsSome {T = ℤ × ℤ} None = subst IsSome (same ∙ bad.none) has.some in
+    absurd (true≢false (sym some))
+
+-- what the parts of a request are read as in one way
+pub record Readings : Type 0 where
+  pub display : OneDisplay
+  pub spelling : OneSpelling
+  pub entries : OneFormat entry_name
+  pub days : OneFormat day_name
+
+same_request : Readings → (entries : Entries) (now : ℤ) (a b : Request) → IsRequest entries now a → IsRequest entries now b → SameRequest a b
 same_request one entries now a b p q =
     let zone = p.zone ∙ sym q.zone in
-    let ends = same_pair _ _ _ _ (p.window ∙ (same_ends a.zone b.zone now (span_of entries) (one a.zone b.zone zone) ∙ sym q.window)) in
+    let ends = same_pair _ _ _ _ (p.window ∙ (same_ends a.zone b.zone now (span_of entries) (one.display a.zone b.zone zone) ∙ sym q.window)) in
     record {
       folder = p.folder ∙ sym q.folder;
       zone = zone;
       from = ends.0;
       to = ends.1;
       notstarted = same_flag a.window.notstarted b.window.notstarted _ p.notstarted q.notstarted;
+      limit = same_limit (limit_text entries) a.limit b.limit p.limit q.limit;
+      after = same_key one.spelling (after_text entries) a.after b.after p.after q.after;
+      format = one.entries _ _ (sym p.format ∙ q.format);
+      day_format = one.days _ _ (sym p.day_format ∙ q.day_format);
     }
 
-no_window : OneDisplay → (entries : Entries) (now : ℤ) (a : Request) → IsRequest entries now a → IsBadWindow entries now → ⊥
-no_window one entries now a p bad =
-    let ends = p.window ∙ (same_ends a.zone bad.display now (span_of entries) (one a.zone bad.display (p.zone ∙ sym bad.zone)) ∙ bad.none) in
-    cc
+module _ (one : Readings) (words : List Text) (now : ℤ) where
+  abbrev entries : Entries
+  entries = entries_of words
 
-pub agree : OneDisplay → (words : List Text) (now : ℤ) (a b : Result Request RequestFault) → RequestOf words now a → RequestOf words now b → Agree a b
-agree one words now (Ok a) (Ok b) p q = same_request one (entries_of words) now a b p.1 q.1
-agree one words now (Ok a) (Err (Usage text help)) p q = absurd (taken words help p.0 q)
-agree one words now (Ok a) (Err BadZone) p q = absurd (says a.zone.kind (p.1.zone ∙ q.1))
-agree one words now (Ok a) (Err BadWindow) p q = absurd (no_window one (entries_of words) now a p.1 q.1)
-agree one words now (Ok a) (Err Memory) p q = tt
-agree one words now (Err (Usage text help)) (Ok b) p q = absurd (taken words help q.0 p)
-agree one words now (Err (Usage text help)) (Err (Usage other asks)) p q = tt
-agree one words now (Err (Usage text help)) (Err BadZone) p q = absurd (taken words help q.0 p)
-agree one words now (Err (Usage text help)) (Err BadWindow) p q = absurd (taken words help q.0 p)
-agree one words now (Err (Usage text help)) (Err Memory) p q = tt
-agree one words now (Err BadZone) (Ok b) p q = absurd (says b.zone.kind (q.1.zone ∙ p.1))
-agree one words now (Err BadZone) (Err (Usage text help)) p q = absurd (taken words help p.0 q)
-agree one words now (Err BadZone) (Err BadZone) p q = tt
-agree one words now (Err BadZone) (Err BadWindow) p q = absurd (says q.1.display.kind (q.1.zone ∙ p.1))
-agree one words now (Err BadZone) (Err Memory) p q = tt
-agree one words now (Err BadWindow) (Ok b) p q = absurd (no_window one (entries_of words) now b q.1 p.1)
-agree one words now (Err BadWindow) (Err (Usage text help)) p q = absurd (taken words help p.0 q)
-agree one words now (Err BadWindow) (Err BadZone) p q = absurd (says p.1.display.kind (p.1.zone ∙ q.1))
-agree one words now (Err BadWindow) (Err BadWindow) p q = tt
-agree one words now (Err BadWindow) (Err Memory) p q = tt
-agree one words now (Err Memory) b p q = tt
+  pub agree : (a b : Result Request RequestFault) → RequestOf words now a → RequestOf words now b → Agree a b
+  agree (Err Memory) b p q = tt
+  agree (Ok a) (Ok b) p q = same_request one entries now a b p.1 q.1
+  agree (Ok a) (Err (Usage text help)) p q = absurd (taken words help p.0 q)
+  agree (Ok a) (Err BadZone) p q = absurd (says a.zone.kind (p.1.zone ∙ q.1))
+  agree (Ok a) (Err BadWindow) p q = absurd (no_window one.display entries now (has_window entries now a p.1) q.1)
+  agree (Ok a) (Err BadToken) p q = absurd (no_token (after_text entries) a.after p.1.after q.1.token)
+  agree (Ok a) (Err BadFormat) p q = absurd (no_format entries now a p.1 q.1.none)
+  agree (Ok a) (Err Memory) p q = tt
+  agree (Err (Usage text help)) (Ok b) p q = absurd (taken words help q.0 p)
+  agree (Err (Usage text help)) (Err (Usage other asks)) p q = tt
+  agree (Err (Usage text help)) (Err BadZone) p q = absurd (taken words help q.0 p)
+  agree (Err (Usage text help)) (Err BadWindow) p q = absurd (taken words help q.0 p)
+  agree (Err (Usage text help)) (Err BadToken) p q = absurd (taken words help q.0 p)
+  agree (Err (Usage text help)) (Err BadFormat) p q = absurd (taken words help q.0 p)
+  agree (Err (Usage text help)) (Err Memory) p q = tt
+  agree (Err BadZone) (Ok b) p q = absurd (says b.zone.kind (q.1.zone ∙ p.1))
+  agree (Err BadZone) (Err (Usage text help)) p q = absurd (taken words help p.0 q)
+  agree (Err BadZone) (Err BadZone) p q = tt
+  agree (Err BadZone) (Err BadWindow) p q = absurd (says q.1.display.kind (q.1.zone ∙ p.1))
+  agree (Err BadZone) (Err BadToken) p q = absurd (says q.1.window.display.kind (q.1.window.zone ∙ p.1))
+  agree (Err BadZone) (Err BadFormat) p q = absurd (says q.1.window.display.kind (q.1.window.zone ∙ p.1))
+  agree (Err BadZone) (Err Memory) p q = tt
+  agree (Err BadWindow) (Ok b) p q = absurd (no_window one.display entries now (has_window entries now b q.1) p.1)
+  agree (Err BadWindow) (Err (Usage text help)) p q = absurd (taken words help p.0 q)
+  agree (Err BadWindow) (Err BadZone) p q = absurd (says p.1.display.kind (p.1.zone ∙ q.1))
+  agree (Err BadWindow) (Err BadWindow) p q = tt
+  agree (Err BadWindow) (Err BadToken) p q = absurd (no_window one.display entries now q.1.window p.1)
+  agree (Err BadWindow) (Err BadFormat) p q = absurd (no_window one.display entries now q.1.window p.1)
+  agree (Err BadWindow) (Err Memory) p q = tt
+  agree (Err BadToken) (Ok b) p q = absurd (no_token (after_text entries) b.after q.1.after p.1.token)
+  agree (Err BadToken) (Err (Usage text help)) p q = absurd (taken words help p.0 q)
+  agree (Err BadToken) (Err BadZone) p q = absurd (says p.1.window.display.kind (p.1.window.zone ∙ q.1))
+  agree (Err BadToken) (Err BadWindow) p q = absurd (no_window one.display entries now p.1.window q.1)
+  agree (Err BadToken) (Err BadToken) p q = tt
+  agree (Err BadToken) (Err BadFormat) p q = absurd (no_token (after_text entries) q.1.key q.1.after p.1.token)
+  agree (Err BadToken) (Err Memory) p q = tt
+  agree (Err BadFormat) (Ok b) p q = absurd (no_format entries now b q.1 p.1.none)
+  agree (Err BadFormat) (Err (Usage text help)) p q = absurd (taken words help p.0 q)
+  agree (Err BadFormat) (Err BadZone) p q = absurd (says p.1.window.display.kind (p.1.window.zone ∙ q.1))
+  agree (Err BadFormat) (Err BadWindow) p q = absurd (no_window one.display entries now p.1.window q.1)
+  agree (Err BadFormat) (Err BadToken) p q = absurd (no_token (after_text entries) p.1.key p.1.after q.1.token)
+  agree (Err BadFormat) (Err BadFormat) p q = tt
+  agree (Err BadFormat) (Err Memory) p q = tt

@@ -1,20 +1,29 @@
 -- What a run has done once every file is read and the lines of those that are not listed are written.
-use Rattle.std.proofs.Common.{◌≡◌, ◌≢◌, ◌⊎◌, inl, inr, ℕ, List, [], Option, length, take, sym, ap, ◌∙◌, subst, arith}
-use Rattle.std.specs.Prelude.{◌↔◌}
+use Rattle.std.proofs.Common.{◌≡◌, ◌≢◌, ◌⊎◌, inl, inr, ℕ, List, [], ◌++◌, Option, Some, None, Result, Ok, Err, length, take, sym, ap, ◌∙◌, subst, arith}
+use Rattle.std.specs.Prelude.{◌↔◌, IfOk, OnErr, OnOk}
+use Rattle.std.specs.Option.{option_copied, option_map}
 use Rattle.std.proofs.lemmas.Grind.{common_steps}
+use denote.Ref.{Bor}
 use Rattle.ics_calendar.specs.Event.{FileSaid}
-use Rattle.ics_series.specs.Entry.{Entry}
+use Rattle.ics_zone.specs.declared.display.Display.{Display}
+use Rattle.ics_series.specs.After.{after_key}
+use Rattle.ics_series.specs.Clocks.{display_clock}
+use Rattle.ics_series.specs.declared.key.Key.{Key}
+use Rattle.ics_series.specs.Entry.{Entry, Rank, entry_cmp, key_rank}
+use Rattle.ics_series.specs.Listing.{IsListing}
+use Rattle.ics_series.specs.Meets.{IsListed}
 use Rattle.khal_list.specs.declared.request.Request.{Request}
 use Rattle.khal_list.specs.declared.status.Status.{Status}
 use Rattle.khal_list.specs.declared.status.Status.TheVariants.{Faulty}
 use Rattle.khal_list.specs.Answers.{Answer}
-use Rattle.khal_list.specs.Errors.{error_lines}
+use Rattle.khal_list.specs.Errors.{accepted, error_lines}
 use Rattle.khal_list.specs.Growth.{grown, TookFront}
-use Rattle.khal_list.specs.Headline.{IsListingOf, Lists, Stops}
-use Rattle.khal_list.specs.Listed.{text_of}
+use Rattle.khal_list.specs.Headline.{more_line, IsListingOf, Lists, Stops}
+use Rattle.khal_list.specs.Listed.{asked_after, key_on, text_of}
 use Rattle.khal_list.specs.Outcomes.{IsReading}
 use Rattle.khal_list.specs.Reads.{ReadsAll}
 use Rattle.khal_list.proofs.RefusedLemmas.{lines-refused}
+use Rattle.khal_list.proofs.Written.{grown-grown}
 
 take-length : (xs : List ℕ) → take (length xs) xs ≡ xs
 take-length xs = grind (arith, common_steps)
@@ -23,25 +32,71 @@ take-length xs = grind (arith, common_steps)
 whole-front : (told new : Option (List ℕ)) (text : List ℕ) → new ≡ grown told text → TookFront told new text
 whole-front told new text h = record { count = length text; within = omega arith; taken = h ∙ ap (grown told) (sym (take-length text)) }
 
-module _ {S : Type 0} (reads : S → ℕ → Answer → S → Type 0) (names : List (List ℕ)) (before after : S) (request : Request) (out out' err err' : Option (List ℕ))
+-- the key that is lent to the agenda
+pub copied-key : (lent : Option (Bor Key)) (key : Option Key) → option_copied lent ≡ key → option_map (λ k. key_rank k.now) lent ≡ option_map key_rank key
+copied-key None key h = ap (option_map key_rank) h
+copied-key (Some k) key h = ap (option_map key_rank) h
+
+-- what an agenda of these files has to come is what the request asks for
+pub asked : (files made : List FileSaid) (display : Display) (request : Request) (coming : List Entry) (after : Option Rank) → made ≡ files → display ≡ request.zone → after ≡ option_map key_rank request.after
+    → (list : List Entry) × IsListing entry_cmp (IsListed made (display_clock display) request.window) list × (coming ≡ after_key after list) → (list : List Entry) × IsListingOf files request list × (coming ≡ asked_after request list)
+asked files made display request coming after said zone key whole = (
+  whole.0,
+  subst (λ d. IsListing entry_cmp (IsListed files (display_clock d) request.window) whole.0) zone (subst (λ these. IsListing entry_cmp (IsListed these (display_clock display) request.window) whole.0) said whole.1),
+  whole.2 ∙ ap (λ k. after_key k whole.0) key,
+)
+
+module _ {E : Type 0} (files : List FileSaid) (request : Request) (out out' : Option (List ℕ)) (coming : List Entry) (whole : (list : List Entry) × IsListingOf files request list × (coming ≡ asked_after request list)) where
+  pub listed : (result : Result (Option Key) E) → OnOk result (out' ≡ grown out (text_of request coming)) → IfOk result (λ key. option_map key_rank key ≡ key_on request.limit coming)
+      → IfOk result (λ key. (list : List Entry) × IsListingOf files request list × (out' ≡ grown out (text_of request (asked_after request list))) × (option_map key_rank key ≡ key_on request.limit (asked_after request list)))
+  listed (Ok key) text named =
+      (whole.0, whole.1, text ∙ ap (λ l. grown out (text_of request l)) whole.2, named ∙ ap (key_on request.limit) whole.2)
+  listed (Err fault) text named = tt
+
+  pub not-listed : (result : Result (Option Key) E) → OnErr result (TookFront out out' (text_of request coming))
+      → OnErr result ((out' ≡ out) ⊎ ((list : List Entry) × IsListingOf files request list × TookFront out out' (text_of request (asked_after request list))))
+  not-listed (Ok key) front = tt
+  not-listed (Err fault) front = inr (whole.0, whole.1, subst (λ l. TookFront out out' (text_of request l)) whole.2 front)
+
+module _ {S : Type 0} (reads : S → ℕ → Answer → S → Type 0) (names : List (List ℕ)) (before after : S) (request : Request) (out out' err told : Option (List ℕ))
     (answers : List Answer) (files : List FileSaid) (errors : List ℕ)
-    (read : ReadsAll reads names before answers after) (kept : IsReading names answers files errors) (wrote : err' ≡ grown err errors) where
-  lines : err' ≡ grown err (error_lines names answers)
+    (read : ReadsAll reads names before answers after) (kept : IsReading names answers files errors) (wrote : told ≡ grown err errors) where
+  lines : told ≡ grown err (error_lines names answers)
   lines = wrote ∙ ap (grown err) kept.errors_are
 
-  pub lists : (list : List Entry) → IsListingOf files request list → out' ≡ grown out (text_of request list) → (status : Status) → (status ≡ Faulty) ↔ (errors ≢ [])
-      → Lists reads names before after request out out' err err' status
-  lists list listing text status faulty = record {
-    answers = answers;
-    read = read;
-    list = list;
-    listing = subst (λ these. IsListingOf these request list) kept.files_are listing;
-    errors = lines;
-    text = text;
-    faulty = lines-refused names answers (status ≡ Faulty) read.each (subst (λ these. (status ≡ Faulty) ↔ (these ≢ [])) kept.errors_are faulty);
-  }
+  -- the listing failed
+  pub stops : (out' ≡ out) ⊎ ((list : List Entry) × IsListingOf files request list × TookFront out out' (text_of request (asked_after request list)))
+      → Stops reads names before after request out out' err told
+  stops (inl none) = inl (answers, record { from_first = read.from_first; within = omega (arith, read.each) }, none, whole-front err told (error_lines names answers) lines)
+  stops (inr some) = inr (
+    answers,
+    read,
+    record { list = some.0; listing = subst (λ these. IsListingOf these request some.0) kept.files_are some.1; taken = inl (lines, some.2) },
+  )
 
-  pub stops : (out' ≡ out) ⊎ ((list : List Entry) × IsListingOf files request list × TookFront out out' (text_of request list))
-      → Stops reads names before after request out out' err err'
-  stops (inl none) = inl (answers, record { from_first = read.from_first; within = omega (arith, read.each) }, none, whole-front err err' (error_lines names answers) lines)
-  stops (inr some) = inr (answers, read, lines, (some.0, subst (λ these. IsListingOf these request some.0) kept.files_are some.1, some.2))
+  -- the listing is written
+  module _ (list : List Entry) (listing : IsListingOf files request list) (text : out' ≡ grown out (text_of request (asked_after request list))) (key : Option Rank) (key-is : key ≡ key_on request.limit (asked_after request list)) where
+    is-listing : IsListingOf (accepted answers) request list
+    is-listing = subst (λ these. IsListingOf these request list) kept.files_are listing
+
+    pub stops-more : (err' : Option (List ℕ)) → TookFront told err' (more_line key) → Stops reads names before after request out out' err err'
+    stops-more err' f = inr (
+      answers,
+      read,
+      record {
+        list = list;
+        listing = is-listing;
+        taken = inr (text, subst (λ k. TookFront (grown err (error_lines names answers)) err' (more_line k)) key-is (subst (λ t. TookFront t err' (more_line key)) lines f));
+      },
+    )
+
+    pub lists : (err' : Option (List ℕ)) → err' ≡ grown told (more_line key) → (status : Status) → (status ≡ Faulty) ↔ (errors ≢ []) → Lists reads names before after request out out' err err' status
+    lists err' more status faulty = record {
+      answers = answers;
+      read = read;
+      list = list;
+      listing = is-listing;
+      text = text;
+      errors = more ∙ (ap (λ t. grown t (more_line key)) lines ∙ (grown-grown err (error_lines names answers) (more_line key) ∙ ap (λ k. grown err (error_lines names answers ++ more_line k)) key-is));
+      faulty = lines-refused names answers (status ≡ Faulty) read.each (subst (λ these. (status ≡ Faulty) ↔ (these ≢ [])) kept.errors_are faulty);
+    }

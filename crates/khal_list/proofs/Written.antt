@@ -23,18 +23,12 @@ pub grown-grown : (told : Option (List ℕ)) (first second : List ℕ) → grown
 grown-grown None first second = refl
 grown-grown (Some bytes) first second = ap Some (append_assoc bytes first second)
 
-pub written-none : (told : Option (List ℕ)) (whole : List ℕ) → Written told told whole whole
-written-none told whole = record { done = []; taken = sym (grown-nil told); whole_is = refl }
-
-pub written-more : (told middle new : Option (List ℕ)) (piece rest whole : List ℕ) → Written told middle (piece ++ rest) whole → new ≡ grown middle piece → Written told new rest whole
+written-more : (told middle new : Option (List ℕ)) (piece rest whole : List ℕ) → Written told middle (piece ++ rest) whole → new ≡ grown middle piece → Written told new rest whole
 written-more told middle new piece rest whole w h = record {
   done = w.done ++ piece;
   taken = h ∙ (ap (λ t. grown t piece) w.taken ∙ grown-grown told w.done piece);
   whole_is = append_assoc w.done piece rest ∙ w.whole_is;
 }
-
-pub written-whole : (told new : Option (List ℕ)) (whole : List ℕ) → Written told new [] whole → new ≡ grown told whole
-written-whole told new whole w = w.taken ∙ ap (grown told) (sym (append-nil w.done) ∙ w.whole_is)
 
 take-front : (front rest whole : List ℕ) → front ++ rest ≡ whole → take (length front) whole ≡ front
 take-front front rest whole h = rw (← h) (grind (arith, common_steps))

@@ -1,19 +1,25 @@
 -- Two answers to the same words say the same: the same request, as its parts show it, or the same fault.
 use Rattle.std.specs.Prelude.{◌≡◌, Result, Ok, Err}
 use Rattle.std.specs.String.{string_bytes}
+use Rattle.std.specs.Option.{option_map}
+use Rattle.ics_series.specs.Entry.{key_rank}
 use Rattle.ics_zone.specs.DisplayTexts.{said_by}
 use Rattle.ics_zone.specs.Zones.{zone_of}
 use Rattle.khal_list.specs.declared.request.Request.{Request}
 use Rattle.khal_list.specs.declared.request_fault.RequestFault.{RequestFault}
-use Rattle.khal_list.specs.declared.request_fault.RequestFault.TheVariants.{Usage, BadZone, BadWindow, Memory}
+use Rattle.khal_list.specs.declared.request_fault.RequestFault.TheVariants.{Usage, BadZone, BadWindow, BadToken, BadFormat, Memory}
 
--- the folder, what the zone says, and the window are the same
+-- the folder, what the zone says, the window, the limit, the key and the formats are the same
 pub record SameRequest (a b : Request) : Type 0 where
   pub folder : string_bytes a.folder ≡ string_bytes b.folder
   pub zone : said_by (zone_of a.zone) ≡ said_by (zone_of b.zone)
   pub from : a.window.from ≡ b.window.from
   pub to : a.window.to ≡ b.window.to
   pub notstarted : a.window.notstarted ≡ b.window.notstarted
+  pub limit : a.limit ≡ b.limit
+  pub after : option_map key_rank a.after ≡ option_map key_rank b.after
+  pub format : a.format.pieces.items ≡ b.format.pieces.items
+  pub day_format : a.day_format.pieces.items ≡ b.day_format.pieces.items
 
 -- both are requests, and the same, or both are one fault; nothing is said where memory was refused
 abbrev pub Agree : Result Request RequestFault → Result Request RequestFault → Type 0
@@ -22,5 +28,7 @@ Agree a (Err Memory) = Unit {0}
 Agree (Ok a) (Ok b) = SameRequest a b
 Agree (Err BadZone) (Err BadZone) = Unit {0}
 Agree (Err BadWindow) (Err BadWindow) = Unit {0}
+Agree (Err BadToken) (Err BadToken) = Unit {0}
+Agree (Err BadFormat) (Err BadFormat) = Unit {0}
 Agree (Err (Usage text help)) (Err (Usage other asks)) = Unit {0}
 Agree a b = ⊥

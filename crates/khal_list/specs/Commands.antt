@@ -1,9 +1,10 @@
--- The command line, as clap's model sees it: `list FOLDER [START [END]] [--zone Z] [--notstarted]` and
--- `at FOLDER MOMENT [--zone Z]`.
-use Rattle.std.specs.Prelude.{true, Some, [], ◌∷◌, codes}
+-- The command line, as clap's model sees it: `list FOLDER [START [END]] [--zone Z] [--limit N] [--after TOKEN] [--notstarted] [--format F]
+-- [--day-format F]` and `at FOLDER MOMENT [--zone Z]`.
+use Rattle.std.specs.Prelude.{true, Some, [], ◌∷◌, codes, pos}
 use Rattle.clap.specs.Words.{App, Rule, new_app, new_rule, with_rule, with_subcommand}
 use Rattle.clap.specs.Simple.{on_top}
 use Rattle.clap.specs.declared.builder.ArgAction.TheVariants.{SetTrue}
+use Rattle.clap.specs.declared.builder.value_parser.ValueParser.TheVariants.{Signed}
 
 abbrev pub folder : Rule
 folder = record (new_rule (codes "folder")) { required = true; value_names = 1 }
@@ -24,18 +25,37 @@ zone = record (new_rule (codes "zone")) {
   value_names = 1;
 }
 
+abbrev pub limit : Rule
+limit = record (new_rule (codes "limit")) {
+  long = Some (codes "limit");
+  parser = Some (Signed (pos 1) (pos 4_294_967_295));
+  value_names = 1;
+}
+
+abbrev pub after : Rule
+after = record (new_rule (codes "after")) { long = Some (codes "after"); value_names = 1 }
+
 abbrev pub notstarted : Rule
 notstarted = record (new_rule (codes "notstarted")) {
   long = Some (codes "notstarted");
   action = Some SetTrue;
 }
 
--- `list` with its places, and with its options
+abbrev pub format : Rule
+format = record (new_rule (codes "format")) { long = Some (codes "format"); value_names = 1 }
+
+abbrev pub day_format : Rule
+day_format = record (new_rule (codes "day-format")) { long = Some (codes "day-format"); value_names = 1 }
+
+-- `list` with its places, with what chooses the entries, and with how they are written
 abbrev pub list_places_app : App
 list_places_app = with_rule (with_rule (with_rule (new_app (codes "list")) folder) start) end
 
+abbrev pub list_choices_app : App
+list_choices_app = with_rule (with_rule (with_rule (with_rule list_places_app zone) limit) after) notstarted
+
 abbrev pub list_app : App
-list_app = with_rule (with_rule list_places_app zone) notstarted
+list_app = with_rule (with_rule list_choices_app format) day_format
 
 abbrev pub at_app : App
 at_app = with_rule (with_rule (with_rule (new_app (codes "at")) folder) moment) zone

@@ -1,5 +1,5 @@
 -- What the words of the command line give: clap's entries of the subcommand that they name, or clap's refusal.
-use Rattle.std.specs.Prelude.{◌≡◌, ◌↔◌, Bool, IsTrue, false, List, [], ◌∷◌, Option, codes, option_and_then, unwrap_or, if◌then◌else◌}
+use Rattle.std.specs.Prelude.{◌≡◌, ◌↔◌, Bool, IsTrue, false, List, [], ◌∷◌, Option, Some, codes, option_and_then, unwrap_or, if◌then◌else◌}
 use Rattle.std.specs.Option.{option_map_or}
 use Rattle.std.specs.Str.{bytes_eq}
 use Rattle.clap.specs.Walk.{first_of}
@@ -7,6 +7,7 @@ use Rattle.clap.specs.Words.{Text, Row, subcommand_of, IsAmong, fault_of}
 use Rattle.clap.specs.declared.error.kind.ErrorKind.{ErrorKind}
 use Rattle.clap.specs.declared.error.kind.ErrorKind.TheVariants.{DisplayHelp}
 use Rattle.khal_list.specs.Commands.{khal_app}
+use Rattle.khal_list.specs.Limits.{IsLimit}
 
 -- a subcommand's name and its entries
 abbrev pub Entries : Type 0
@@ -28,9 +29,21 @@ entries_of words = entries_in (with_name words)
 abbrev pub entry : Text → Entries → Option Text
 entry id entries = option_and_then (λ found. first_of id found.1) entries
 
+-- its text, or another where there is no such entry
+abbrev pub text_or : Text → Text → Entries → Text
+text_or id default entries = unwrap_or (entry id entries) default
+
 -- its text, empty where there is no such entry
 abbrev pub text_of : Text → Entries → Text
-text_of id entries = unwrap_or (entry id entries) []
+text_of id entries = text_or id [] entries
+
+-- the text of `--limit`, where it stands
+abbrev pub limit_text : Entries → Option Text
+limit_text entries = entry (codes "limit") entries
+
+-- what stands there is a number of entries
+abbrev pub HasLimit : Entries → Type 0
+HasLimit entries = (text : Text) → limit_text entries ≡ Some text → IsLimit text
 
 -- what window the entries ask for: that of a moment, or one from START, where it stands, to END
 pub data Span : Type 0 where

@@ -1,39 +1,58 @@
 -- THE HEADLINE: what a run reads, lists and writes.
-use Rattle.std.specs.Prelude.{◌≡◌, ◌↔◌, ◌⊎◌, ℕ, List, Option, Any, IsErr}
+use Rattle.std.specs.Prelude.{◌≡◌, ◌↔◌, ◌⊎◌, ℕ, List, [], ◌∷◌, ◌++◌, Option, Some, None, Any, IsErr, codes}
 use Rattle.ics_calendar.specs.Event.{FileSaid}
 use Rattle.ics_series.specs.Clocks.{display_clock}
-use Rattle.ics_series.specs.Entry.{Entry, entry_cmp}
+use Rattle.ics_series.specs.Entry.{Entry, Rank, entry_cmp}
 use Rattle.ics_series.specs.Listing.{IsListing}
 use Rattle.ics_series.specs.Meets.{IsListed}
+use Rattle.ics_series.specs.Tokens.{spelling}
 use Rattle.khal_list.specs.declared.request.Request.{Request}
 use Rattle.khal_list.specs.declared.status.Status.{Status}
 use Rattle.khal_list.specs.declared.status.Status.TheVariants.{Faulty}
 use Rattle.khal_list.specs.Answers.{Answer}
 use Rattle.khal_list.specs.Errors.{accepted, error_lines, file_by}
 use Rattle.khal_list.specs.Growth.{grown, TookFront}
-use Rattle.khal_list.specs.Listed.{text_of}
+use Rattle.khal_list.specs.Listed.{asked_after, key_on, text_of}
 use Rattle.khal_list.specs.Reads.{ReadsAll, ReadsSome}
 
 -- THE listing of the files: the one strictly rising list of exactly their occurrences that meet the window
 abbrev pub IsListingOf : List FileSaid → Request → List Entry → Type 0
 IsListingOf files request list = IsListing entry_cmp (IsListed files (display_clock request.zone) request.window) list
 
--- Every file was read once, in order. `err` has gained exactly the lines of the files that were not read or are refused,
--- and `out` exactly the text of the listing of the others. The status is Faulty exactly where there is such a line.
+-- the line that says where a listing goes on: `more: TOKEN` and LF
+abbrev pub more_line : Option Rank → List ℕ
+more_line None = []
+more_line (Some key) = codes "more: " ++ (spelling key ++ 10 ∷ [])
+
+-- that line where the limit cut the list
+abbrev pub more_of : Request → List Entry → List ℕ
+more_of request list = more_line (key_on request.limit list)
+
+-- Every file was read once, in order. `out` has gained exactly the text of the first entries of the listing after the request's key, up to its
+-- limit; `err` exactly the lines of the files that were not read or are refused and, where the limit cut the listing, the line that says where it
+-- goes on. The status is Faulty exactly where there is a line of a file.
 pub record Lists {S : Type 0} (reads : S → ℕ → Answer → S → Type 0) (names : List (List ℕ)) (before after : S) (request : Request)
     (out out' err err' : Option (List ℕ)) (status : Status) : Type 0 where
   pub answers : List Answer
   pub read : ReadsAll reads names before answers after
   pub list : List Entry
   pub listing : IsListingOf (accepted answers) request list
-  pub errors : err' ≡ grown err (error_lines names answers)
-  pub text : out' ≡ grown out (text_of request list)
+  pub text : out' ≡ grown out (text_of request (asked_after request list))
+  pub errors : err' ≡ grown err (error_lines names answers ++ more_of request (asked_after request list))
   pub faulty : (status ≡ Faulty) ↔ Any (λ answer. IsErr (file_by answer)) answers
 
--- What stands where a run ends by a fault: nothing in `out` and a front of the lines of the files that were read in `err`;
--- or all of these lines in `err`, every file being read, and a front of the listing's text in `out`.
+-- What stands where a run ends by a fault once every file is read and all their lines are in `err`: a front of the listing's text in `out`, or
+-- that whole text and a front of the last line in `err`.
+pub record StopsListing (answers : List Answer) (request : Request) (out out' err err' : Option (List ℕ)) : Type 0 where
+  pub list : List Entry
+  pub listing : IsListingOf (accepted answers) request list
+  pub taken : ((err' ≡ err) × TookFront out out' (text_of request (asked_after request list)))
+      ⊎ ((out' ≡ grown out (text_of request (asked_after request list))) × TookFront err err' (more_of request (asked_after request list)))
+
+-- What stands where a run ends by a fault: nothing in `out` and a front of the lines of the files that were read in `err`; or it ends in the listing
+-- or in the last line.
 abbrev pub Stops : {S : Type 0} → (S → ℕ → Answer → S → Type 0) → List (List ℕ) → S → S → Request → Option (List ℕ) → Option (List ℕ) → Option (List ℕ) → Option (List ℕ) → Type 0
 Stops reads names before after request out out' err err' =
     ((answers : List Answer) × ReadsSome reads names before answers after × (out' ≡ out) × TookFront err err' (error_lines names answers))
-    ⊎ ((answers : List Answer) × ReadsAll reads names before answers after × (err' ≡ grown err (error_lines names answers))
-    × ((list : List Entry) × IsListingOf (accepted answers) request list × TookFront out out' (text_of request list)))
+    ⊎ ((answers : List Answer) × ReadsAll reads names before answers after
+    × StopsListing answers request out out' (grown err (error_lines names answers)) err')

@@ -1,13 +1,17 @@
 pub mod Agree
 pub mod Answers
 pub mod Commands
+pub mod Drawn
 pub mod Entries
 pub mod Errors
 pub mod FaultNames
+pub mod Formats
 pub mod Growth
 pub mod Headline
+pub mod Limits
 pub mod Listed
 pub mod Outcomes
+pub mod Pages
 pub mod Reads
 pub mod RequestFaults
 pub mod RequestOf

@@ -1,10 +1,45 @@
--- What is written of a list of entries, as a request asks for it.
-use Rattle.std.specs.Prelude.{ℕ, List}
+-- What is shown of a list of entries, as a request asks for it, and how it is written.
+use Rattle.std.specs.Prelude.{◌∷◌, ℕ, Bool, false, List, [], Option, Some, None, length, nat_lt, take, if◌then◌else◌}
+use Rattle.std.specs.Option.{option_map}
+use Rattle.ics_series.specs.After.{after_key}
 use Rattle.ics_series.specs.Clocks.{display_clock}
-use Rattle.ics_series.specs.Entry.{Entry}
+use Rattle.ics_series.specs.Entry.{Entry, Rank, key_rank, rank_of}
 use Rattle.khal_list.specs.declared.request.Request.{Request}
-use Rattle.khal_list.specs.Text.{text}
+use Rattle.khal_list.specs.Text.{Style, text}
 
--- the text of a list, in the display zone and from the window's start on
+-- the first entries, up to a limit
+abbrev pub first_of : Option ℕ → List Entry → List Entry
+first_of None list = list
+first_of (Some limit) list = take limit list
+
+-- there are more than the limit
+abbrev pub is_cut : Option ℕ → List Entry → Bool
+is_cut None list = false
+is_cut (Some limit) list = nat_lt limit (length list)
+
+-- the key of the last entry, where there is one
+abbrev pub last_key : List Entry → Option Rank
+last_key [] = None
+last_key (e ∷ []) = Some (rank_of e)
+last_key (e ∷ f ∷ more) = last_key (f ∷ more)
+
+-- the key from which a listing goes on: that of the last of the first entries, where there are more
+abbrev pub key_on : Option ℕ → List Entry → Option Rank
+key_on limit list = if is_cut limit list then last_key (first_of limit list) else None
+
+-- what of the listing of the window comes after the request's key
+abbrev pub asked_after : Request → List Entry → List Entry
+asked_after request list = after_key (option_map key_rank request.after) list
+
+-- how a request has its listing written
+abbrev pub style_of : Request → Style
+style_of request = record {
+  clock = display_clock request.zone;
+  from = request.window.from;
+  entries = request.format.pieces.items;
+  days = request.day_format.pieces.items;
+}
+
+-- the text of the first entries of a list, up to the request's limit
 abbrev pub text_of : Request → List Entry → List ℕ
-text_of request list = text (display_clock request.zone) request.window.from list
+text_of request list = text (style_of request) (first_of request.limit list)

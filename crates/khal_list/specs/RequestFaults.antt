@@ -4,13 +4,19 @@ use Rattle.clap.specs.declared.error.kind.ErrorKind.{ErrorKind}
 use Rattle.clap.specs.declared.error.kind.ErrorKind.TheVariants.{DisplayHelp, OutOfMemory}
 use Rattle.ics_zone.specs.declared.display_fault.DisplayFault.{DisplayFault}
 use Rattle.ics_zone.specs.declared.display_fault.DisplayFault.TheVariants as zone
+use Rattle.ics_series.specs.declared.token.TokenFault.{TokenFault}
+use Rattle.ics_series.specs.declared.token.TokenFault.TheVariants as token
+use Rattle.khal_list.specs.declared.format.FormatFault.{FormatFault}
+use Rattle.khal_list.specs.declared.format.FormatFault.TheVariants as format
 use Rattle.khal_list.specs.declared.request_fault.RequestFault.{RequestFault}
-use Rattle.khal_list.specs.declared.request_fault.RequestFault.TheVariants.{Usage, BadZone, BadWindow, Memory}
+use Rattle.khal_list.specs.declared.request_fault.RequestFault.TheVariants.{Usage, BadZone, BadWindow, BadToken, BadFormat, Memory}
 
 abbrev pub fault_name : RequestFault → List ℕ
 fault_name (Usage text help) = codes "Usage"
 fault_name BadZone = codes "BadZone"
 fault_name BadWindow = codes "BadWindow"
+fault_name BadToken = codes "BadToken"
+fault_name BadFormat = codes "BadFormat"
 fault_name Memory = codes "Memory"
 
 -- the fault of a refusal of this kind: usage, with help or not, or want of memory
@@ -18,9 +24,21 @@ abbrev pub IsFaultOf : ErrorKind → RequestFault → Type 0
 IsFaultOf kind (Usage text help) = (kind ≢ OutOfMemory) × (IsTrue help ↔ (kind ≡ DisplayHelp))
 IsFaultOf kind BadZone = ⊥
 IsFaultOf kind BadWindow = ⊥
+IsFaultOf kind BadToken = ⊥
+IsFaultOf kind BadFormat = ⊥
 IsFaultOf kind Memory = Unit {0}
 
 -- the fault of a text that is no display zone
 abbrev pub zone_fault : DisplayFault → RequestFault
 zone_fault zone.BadZone = BadZone
 zone_fault zone.Memory = Memory
+
+-- the fault of a text that is no token
+abbrev pub token_fault : TokenFault → RequestFault
+token_fault token.BadToken = BadToken
+token_fault token.Memory = Memory
+
+-- the fault of a text that is no format
+abbrev pub format_fault : FormatFault → RequestFault
+format_fault format.BadFormat = BadFormat
+format_fault format.Memory = Memory

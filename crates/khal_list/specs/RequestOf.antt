@@ -1,20 +1,48 @@
 -- What the words of the command line and the clock ask for, or why they are no request.
-use Rattle.std.specs.Prelude.{◌≡◌, ◌↔◌, IsTrue, List, Some, None, Result, Ok, Err, codes}
+use Rattle.std.specs.Prelude.{◌≡◌, ◌↔◌, ◌⊎◌, ⊤, ℤ, IsTrue, List, Option, Some, None, IsSome, Result, Ok, Err, codes}
 use Rattle.std.specs.String.{string_bytes}
-use Rattle.std.specs.Prelude.{ℤ}
 use Rattle.clap.specs.Words.{Text}
 use Rattle.ics_zone.specs.DisplayTexts.{display_of, said_by}
 use Rattle.ics_zone.specs.Zones.{zone_of}
 use Rattle.ics_zone.specs.declared.display.Display.{Display}
-use Rattle.khal_list.specs.Entries.{Entries, entries_of, text_of, span_of, AreTaken, IsRefused}
+use Rattle.ics_series.specs.Entry.{key_rank}
+use Rattle.ics_series.specs.Tokens.{spelling, IsKey, IsToken}
+use Rattle.ics_series.specs.declared.key.Key.{Key}
+use Rattle.khal_list.specs.Formats.{day_default, day_name, entry_default, entry_name, written, IsFormat}
+use Rattle.khal_list.specs.Entries.{Entries, entry, entries_of, limit_text, text_of, text_or, span_of, AreTaken, IsRefused}
+use Rattle.khal_list.specs.Limits.{IsLimitOf}
 use Rattle.khal_list.specs.Windows.{ends_of}
 use Rattle.khal_list.specs.declared.request.Request.{Request}
 use Rattle.khal_list.specs.declared.request_fault.RequestFault.{RequestFault}
-use Rattle.khal_list.specs.declared.request_fault.RequestFault.TheVariants.{Usage, BadZone, BadWindow, Memory}
+use Rattle.khal_list.specs.declared.request_fault.RequestFault.TheVariants.{Usage, BadZone, BadWindow, BadToken, BadFormat, Memory}
 
 -- the text of the display zone
 abbrev pub zone_text : Entries → Text
 zone_text entries = text_of (codes "zone") entries
+
+-- the format of the entries, and of the days, that the words give
+abbrev pub format_text : Entries → Text
+format_text entries = text_or (codes "format") entry_default entries
+
+abbrev pub day_format_text : Entries → Text
+day_format_text entries = text_or (codes "day-format") day_default entries
+
+-- the text of `--after`, where it stands
+abbrev pub after_text : Entries → Option Text
+after_text entries = entry (codes "after") entries
+
+-- the key of a token, and none where there is no token
+abbrev pub IsKeyOf : Option Text → Option Key → Type 0
+IsKeyOf None None = ⊤
+IsKeyOf None (Some key) = ⊥
+IsKeyOf (Some text) None = ⊥
+IsKeyOf (Some text) (Some key) = IsKey (key_rank key) × (text ≡ spelling (key_rank key))
+
+-- a text stands there that is no token
+pub record IsNoToken (given : Option Text) : Type 0 where
+  pub text : Text
+  pub stands : given ≡ Some text
+  pub none : ¬ IsToken text
 
 -- the request that clap's entries and the clock make
 pub record IsRequest (entries : Entries) (now : ℤ) (request : Request) : Type 0 where
@@ -22,6 +50,10 @@ pub record IsRequest (entries : Entries) (now : ℤ) (request : Request) : Type 
   pub zone : said_by (zone_of request.zone) ≡ display_of (zone_text entries)
   pub window : Some (request.window.from, request.window.to) ≡ ends_of request.zone now (span_of entries)
   pub notstarted : IsTrue request.window.notstarted ↔ (text_of (codes "notstarted") entries ≡ codes "true")
+  pub limit : IsLimitOf (limit_text entries) request.limit
+  pub after : IsKeyOf (after_text entries) request.after
+  pub format : format_text entries ≡ written entry_name request.format.pieces.items
+  pub day_format : day_format_text entries ≡ written day_name request.day_format.pieces.items
 
 -- the words name a display zone, and no window in it
 pub record IsBadWindow (entries : Entries) (now : ℤ) : Type 0 where
@@ -29,12 +61,32 @@ pub record IsBadWindow (entries : Entries) (now : ℤ) : Type 0 where
   pub zone : said_by (zone_of display) ≡ display_of (zone_text entries)
   pub none : ends_of display now (span_of entries) ≡ None
 
+-- the words name a display zone and a window in it
+pub record HasWindow (entries : Entries) (now : ℤ) : Type 0 where
+  pub display : Display
+  pub zone : said_by (zone_of display) ≡ display_of (zone_text entries)
+  pub some : IsSome (ends_of display now (span_of entries))
+
+-- they do, and what `--after` has is no token
+pub record IsBadToken (entries : Entries) (now : ℤ) : Type 0 where
+  pub window : HasWindow entries now
+  pub token : IsNoToken (after_text entries)
+
+-- they do, what `--after` has is a token, and one of the formats is none
+pub record IsBadFormat (entries : Entries) (now : ℤ) : Type 0 where
+  pub window : HasWindow entries now
+  pub key : Option Key
+  pub after : IsKeyOf (after_text entries) key
+  pub none : (¬ IsFormat entry_name (format_text entries)) ⊎ (¬ IsFormat day_name (day_format_text entries))
+
 -- the answer to clap's entries, which are there where it takes the words
 abbrev pub EntriesAnswer : Entries → ℤ → Result Request RequestFault → Type 0
 EntriesAnswer entries now (Ok request) = IsRequest entries now request
 EntriesAnswer entries now (Err (Usage text help)) = ⊥
 EntriesAnswer entries now (Err BadZone) = display_of (zone_text entries) ≡ None
 EntriesAnswer entries now (Err BadWindow) = IsBadWindow entries now
+EntriesAnswer entries now (Err BadToken) = IsBadToken entries now
+EntriesAnswer entries now (Err BadFormat) = IsBadFormat entries now
 EntriesAnswer entries now (Err Memory) = Unit {0}
 
 -- the answer to words, in the order in which the faults are looked for

@@ -1,5 +1,5 @@
 -- The text of a listing: each entry on a line, under the day that it stands under (the program's own form).
-use Rattle.std.specs.Prelude.{ℕ, ℤ, pos, ◌+◌, ◌/◌, ◌%◌, ◌==◌, ◌&&◌, ◌+ℤ◌, Bool, true, false, List, [], ◌∷◌, ◌++◌, Option, Some, None, codes, replicate, slice_get, unwrap_or, unsigned_abs, if◌then◌else◌}
+use Rattle.std.specs.Prelude.{ℕ, ℤ, pos, ◌+◌, ◌/◌, ◌%◌, ◌==◌, ◌&&◌, ◌+ℤ◌, ◌-ℤ◌, Bool, true, false, List, [], ◌∷◌, ◌++◌, Option, Some, None, codes, replicate, slice_get, unwrap_or, unsigned_abs, if◌then◌else◌}
 use Rattle.std.specs.Int.{int_div_euclid, int_rem_euclid, int_max}
 use Rattle.std.specs.Option.{option_eq}
 use Rattle.std.specs.Ordering.{int_eq}
@@ -8,6 +8,12 @@ use Rattle.ics_values.specs.declared.stamp.Stamp.TheVariants.{Date, Floating, Ut
 use Rattle.ics_values.specs.Days.{year_of, month_of, month_day_of, weekday_of, day_index}
 use Rattle.ics_series.specs.Clocks.{Clock, local_at}
 use Rattle.ics_series.specs.Entry.{Entry}
+use Rattle.khal_list.specs.declared.field.EntryField.{EntryField}
+use Rattle.khal_list.specs.declared.field.EntryField.TheVariants.{Cell, Title, StartTime, EndTime, StartDate, EndDate, Location, Description, Uid, Cancelled}
+use Rattle.khal_list.specs.declared.field.DayField.{DayField}
+use Rattle.khal_list.specs.declared.field.DayField.TheVariants as day
+use Rattle.khal_list.specs.declared.format.Piece.{Piece}
+use Rattle.khal_list.specs.Formats.{filled}
 use Rattle.khal_list.specs.Shown.{shown}
 
 -- the day of a local, counted from 1970-01-01, and its second of that day
@@ -34,10 +40,6 @@ weekday_name n = unwrap_or (slice_get names n) []
 -- `2024-01-05`
 abbrev pub date_text : ℤ → List ℕ
 date_text day = four_digits (year_of (day_index day)) ++ 45 ∷ (two_digits (month_of (day_index day)) ++ 45 ∷ two_digits (month_day_of (day_index day)))
-
--- `Friday, 2024-01-05` and LF
-abbrev pub heading_text : ℤ → List ℕ
-heading_text day = weekday_name (weekday_of (day_index day)) ++ (codes ", " ++ (date_text day ++ 10 ∷ []))
 
 -- `HH:MM`, the seconds left off
 abbrev pub time_text : ℕ → List ℕ
@@ -76,28 +78,68 @@ cell_text clock day e =
     if is_date e.event.start.stamp then codes "all day    "
     else times_text day (local_at clock e.start) (local_at clock e.finish)
 
--- an entry's line under this day: the cell, a space, the title and LF
-abbrev pub line_text : Clock → ℤ → Entry → List ℕ
-line_text clock day e = cell_text clock day e ++ 32 ∷ (shown e.event.title ++ 10 ∷ [])
+-- the display dates of a start and of a finish; of an event of dates the finish's is its last day
+abbrev pub start_date : Clock → Entry → ℤ
+start_date clock e = date_of (local_at clock e.start)
+
+abbrev pub end_date : Clock → Entry → ℤ
+end_date clock e = if is_date e.event.start.stamp then date_of (local_at clock e.finish) -ℤ pos 1 else date_of (local_at clock e.finish)
+
+-- the time of a local, left out of an event of dates
+abbrev pub time_unless_date : Entry → ℤ → List ℕ
+time_unless_date e local = if is_date e.event.start.stamp then [] else time_text (second_of local)
+
+-- what a placeholder stands for, of an entry under this day
+abbrev pub entry_field_text : Clock → ℤ → Entry → EntryField → List ℕ
+entry_field_text clock day e Cell = cell_text clock day e
+entry_field_text clock day e Title = shown e.event.title
+entry_field_text clock day e StartTime = time_unless_date e (local_at clock e.start)
+entry_field_text clock day e EndTime = time_unless_date e (local_at clock e.finish)
+entry_field_text clock day e StartDate = date_text (start_date clock e)
+entry_field_text clock day e EndDate = date_text (end_date clock e)
+entry_field_text clock day e Location = shown e.event.location
+entry_field_text clock day e Description = shown e.event.description
+entry_field_text clock day e Uid = shown e.event.uid
+entry_field_text clock day e Cancelled = if e.event.cancelled then codes "CANCELLED " else []
+
+-- and of a day
+abbrev pub day_field_text : ℤ → DayField → List ℕ
+day_field_text number day.Name = weekday_name (weekday_of (day_index number))
+day_field_text number day.Date = date_text number
+
+-- how a listing is written: by the clock of the display zone, from the window's start on, and by these formats
+pub record Style : Type 0 where
+  pub clock : Clock
+  pub from : ℤ
+  pub entries : List (Piece EntryField)
+  pub days : List (Piece DayField)
+
+-- an entry's line under this day, and LF
+abbrev pub line_text : Style → ℤ → Entry → List ℕ
+line_text style day e = filled (entry_field_text style.clock day e) style.entries ++ 10 ∷ []
+
+-- the heading of a day, and LF
+abbrev pub heading_text : Style → ℤ → List ℕ
+heading_text style day = filled (day_field_text day) style.days ++ 10 ∷ []
 
 -- an entry stands under the display date of the later of its start and the window's start
-abbrev pub day_under : Clock → ℤ → Entry → ℤ
-day_under clock from e = date_of (local_at clock (int_max e.start from))
+abbrev pub day_under : Style → Entry → ℤ
+day_under style e = date_of (local_at style.clock (int_max e.start style.from))
 
 -- the heading of a day, where the entry before stands under another day or there is none
-abbrev pub heading_after : Option ℤ → ℤ → List ℕ
-heading_after before day = if option_eq int_eq before (Some day) then [] else heading_text day
+abbrev pub heading_after : Style → Option ℤ → ℤ → List ℕ
+heading_after style before day = if option_eq int_eq before (Some day) then [] else heading_text style day
 
 -- an entry under its day, after the heading where one is due
-abbrev pub entry_text : Clock → Option ℤ → ℤ → Entry → List ℕ
-entry_text clock before day e = heading_after before day ++ line_text clock day e
+abbrev pub entry_text : Style → Option ℤ → ℤ → Entry → List ℕ
+entry_text style before day e = heading_after style before day ++ line_text style day e
 
 -- the entries in order, each after the day of the one before
-abbrev pub text_after : Clock → ℤ → Option ℤ → List Entry → List ℕ
-text_after clock from before [] = []
-text_after clock from before (e ∷ es) =
-    entry_text clock before (day_under clock from e) e ++ text_after clock from (Some (day_under clock from e)) es
+abbrev pub text_after : Style → Option ℤ → List Entry → List ℕ
+text_after style before [] = []
+text_after style before (e ∷ es) =
+    entry_text style before (day_under style e) e ++ text_after style (Some (day_under style e)) es
 
--- the text of a list of entries, by the clock of the display zone and the window's start
-abbrev pub text : Clock → ℤ → List Entry → List ℕ
-text clock from list = text_after clock from None list
+-- the text of a list of entries
+abbrev pub text : Style → List Entry → List ℕ
+text style list = text_after style None list

@@ -11,7 +11,7 @@ use std::alloc::AllocError;
 const BLANK: &[u8] = b"     ";
 
 /// Adds a second of the day as `HH:MM`, the seconds left off.
-fn add_time(text: &mut Vec<u8>, second: u32) -> Result<(), AllocError>
+pub(crate) fn add_time(text: &mut Vec<u8>, second: u32) -> Result<(), AllocError>
     requires { second < 86_400 }
     ensures { OnOk result (text.new.items ≡ text.old.items ++ time_text second) }
 {

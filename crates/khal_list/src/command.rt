@@ -7,8 +7,8 @@ ghost use Rattle.khal_list.specs.Commands as spec;
 use clap::{Arg, ArgAction, Command};
 use std::alloc::{AllocError, Global};
 
-/// The program's command: `list FOLDER [START [END]] [--zone Z] [--notstarted]` and
-/// `at FOLDER MOMENT [--zone Z]`.
+/// The program's command: `list FOLDER [START [END]] [--zone Z] [--limit N] [--after TOKEN]
+/// [--notstarted] [--format F] [--day-format F]` and `at FOLDER MOMENT [--zone Z]`.
 pub(crate) fn command<'a>(alloc: Global) -> Result<Command<'a>, AllocError>
     ensures shape { IfOk result (λ c. app_of c ≡ spec.khal_app) }
     ensures local { IfOk result (λ c. (out-Command c).has_globals ≡ false) }
@@ -31,8 +31,19 @@ fn list_command<'a>(alloc: Global) -> Result<Command<'a>, AllocError>
     ensures shape { IfOk result (λ c. app_of c ≡ spec.list_app) }
     ensures local { IfOk result (λ c. (out-Command c).has_globals ≡ false) }
 {
+    list_choices(alloc)?
+        .arg(format_arg(alloc))?
+        .arg(day_format_arg(alloc))
+}
+
+fn list_choices<'a>(alloc: Global) -> Result<Command<'a>, AllocError>
+    ensures shape { IfOk result (λ c. app_of c ≡ spec.list_choices_app) }
+    ensures local { IfOk result (λ c. (out-Command c).has_globals ≡ false) }
+{
     list_places(alloc)?
         .arg(zone_arg(alloc))?
+        .arg(limit_arg(alloc))?
+        .arg(after_arg(alloc))?
         .arg(notstarted_arg(alloc))
 }
 
@@ -110,6 +121,27 @@ fn zone_arg<'a>(alloc: Global) -> Arg<'a>
         .default_value("UTC")
 }
 
+fn limit_arg<'a>(alloc: Global) -> Arg<'a>
+    ensures rule { rule_of result ≡ spec.limit }
+    ensures local { result.global ≡ false }
+{
+    Arg::new(alloc, "limit")
+        .long("limit")
+        .value_name("N")
+        .help("Lists the first N entries, and says where to go on where there are more")
+        .value_parser(clap::value_parser!(u32).range(1..))
+}
+
+fn after_arg<'a>(alloc: Global) -> Arg<'a>
+    ensures rule { rule_of result ≡ spec.after }
+    ensures local { result.global ≡ false }
+{
+    Arg::new(alloc, "after")
+        .long("after")
+        .value_name("TOKEN")
+        .help("Goes on behind the entry of a token, as the line `more: TOKEN` gives it")
+}
+
 fn notstarted_arg<'a>(alloc: Global) -> Arg<'a>
     ensures rule { rule_of result ≡ spec.notstarted }
     ensures local { result.global ≡ false }
@@ -118,4 +150,26 @@ fn notstarted_arg<'a>(alloc: Global) -> Arg<'a>
         .long("notstarted")
         .help("Leaves out what began before the window")
         .action(ArgAction::SetTrue)
+}
+
+fn format_arg<'a>(alloc: Global) -> Arg<'a>
+    ensures rule { rule_of result ≡ spec.format }
+    ensures local { result.global ≡ false }
+{
+    Arg::new(alloc, "format")
+        .long("format")
+        .value_name("F")
+        .help(
+            "How an entry is written; by default {cell} {title}. Also: {start-time} {end-time} {start-date} {end-date} {location} {description} {uid} {cancelled}",
+        )
+}
+
+fn day_format_arg<'a>(alloc: Global) -> Arg<'a>
+    ensures rule { rule_of result ≡ spec.day_format }
+    ensures local { result.global ≡ false }
+{
+    Arg::new(alloc, "day-format")
+        .long("day-format")
+        .value_name("F")
+        .help("How a day is written; by default {name}, {date}")
 }

@@ -1,53 +1,57 @@
 //! An entry of a listing, under its day.
-ghost use Rattle.std.specs.Prelude.{◌≡◌, ◌++◌, ◌≤ℤ◌, neg_ℤ, pos, OnOk, Option};
+ghost use Rattle.std.specs.Prelude.{◌≡◌, ◌++◌, OnOk};
 ghost use Rattle.ics_values.specs.Days.{IsDayNumber};
-ghost use Rattle.ics_series.specs.Clocks.{display_clock};
 ghost use Rattle.ics_series.specs.Entry.{entry_of};
+ghost use Rattle.khal_list.specs.Listed.{style_of};
 ghost use Rattle.khal_list.specs.Text.{heading_after, entry_text, day_under};
 
+use crate::display_day::display_day;
 use crate::heading::add_heading;
 use crate::line::add_line;
+use crate::request::Request;
 use ics_series::Occurrence;
-use ics_values::Moment;
-use ics_zone::{Display, Place};
 use std::alloc::{AllocError, Global};
 
 /// The day that an occurrence stands under: the display date of the later of its start and the
 /// window's start.
-pub(crate) fn day_under(zone: &Display, from: Moment, occurrence: &Occurrence<'_>) -> i32
-    requires early { neg_ℤ (pos 62_135_683_200) ≤ℤ from }
-    requires late { from ≤ℤ pos 247_091_126_400 }
-    ensures day { result ≡ day_under (display_clock zone.now) from (entry_of occurrence.now) }
+pub(crate) fn day_under(request: &Request, occurrence: &Occurrence<'_>) -> i32
+    ensures day { result ≡ day_under (style_of request.now) (entry_of occurrence.now) }
     ensures within { IsDayNumber result }
 {
-    zone.local(occurrence.start.max(from)).day
+    let shown = occurrence.start.max(request.window.from);
+    display_day(&request.zone, shown)
 }
 
 /// Adds the heading of a day, where the entry before stands under another day or there is none.
-fn add_heading_after(text: &mut Vec<u8>, before: Option<i32>, day: i32) -> Result<(), AllocError>
+fn add_heading_after(
+    text: &mut Vec<u8>,
+    request: &Request,
+    before: Option<i32>,
+    day: i32,
+) -> Result<(), AllocError>
     requires { IsDayNumber day }
-    ensures { OnOk result (text.new.items ≡ text.old.items ++ heading_after before day) }
+    ensures { OnOk result (text.new.items ≡ text.old.items ++ heading_after (style_of request.now) before day) }
 {
     if before == Some(day) {
         return Ok(());
     }
-    add_heading(text, day)
+    add_heading(text, &request.day_format, day)
 }
 
 /// Adds an occurrence under its day, after the heading where one is due.
 pub(crate) fn add_entry(
     alloc: Global,
     text: &mut Vec<u8>,
-    zone: &Display,
+    request: &Request,
     before: Option<i32>,
     day: i32,
     occurrence: &Occurrence<'_>,
 ) -> Result<(), AllocError>
     requires { IsDayNumber day }
     ensures { OnOk result (text.new.items
-        ≡ text.old.items ++ entry_text (display_clock zone.now) before day (entry_of occurrence.now)) }
+        ≡ text.old.items ++ entry_text (style_of request.now) before day (entry_of occurrence.now)) }
 {
-    add_heading_after(text, before, day)?;
-    add_line(alloc, text, zone, day, occurrence)?;
+    add_heading_after(text, request, before, day)?;
+    add_line(alloc, text, request, day, occurrence)?;
     Ok(())
 }

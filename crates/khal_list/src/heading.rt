@@ -1,10 +1,13 @@
 //! Dates, and the headings that they stand in.
-ghost use Rattle.std.specs.Prelude.{◌≡◌, ◌++◌, OnOk};
+ghost use Rattle.std.specs.Prelude.{◌≡◌, ◌++◌, ◌∷◌, [], OnOk};
 ghost use Rattle.jiff_core.specs.Weekday.{monday_zero};
 ghost use Rattle.ics_values.specs.Days.{IsDayNumber, day_index, weekday_of};
-ghost use Rattle.khal_list.specs.Text.{weekday_name, date_text, heading_text};
+ghost use Rattle.khal_list.specs.Formats.{filled, shown_piece};
+ghost use Rattle.khal_list.specs.Text.{weekday_name, date_text, day_field_text};
 
 use crate::digits::{add_four_digits, add_two_digits};
+use crate::field::DayField;
+use crate::format::{Format, Piece};
 use ics_values::civil;
 use jiff_core::civil::Weekday;
 use std::alloc::AllocError;
@@ -45,14 +48,31 @@ fn add_weekday(text: &mut Vec<u8>, day: i32) -> Result<(), AllocError>
     Ok(())
 }
 
-/// Adds the heading of a day of the years 0000 to 9999, as `Friday, 2024-01-05` and LF.
-pub(crate) fn add_heading(text: &mut Vec<u8>, day: i32) -> Result<(), AllocError>
+/// Adds what a piece of a heading comes to, for a day of the years 0000 to 9999.
+fn add_piece(text: &mut Vec<u8>, day: i32, piece: Piece<DayField>) -> Result<(), AllocError>
     requires { IsDayNumber day }
-    ensures { OnOk result (text.new.items ≡ text.old.items ++ heading_text day) }
+    ensures { OnOk result (text.new.items ≡ text.old.items ++ shown_piece (day_field_text day) piece) }
 {
-    add_weekday(text, day)?;
-    text.extend_from_slice(b", ")?;
-    add_date(text, day)?;
+    match piece {
+        Piece::Byte(byte) => Ok(text.push(byte)?),
+        Piece::Field(DayField::Name) => add_weekday(text, day),
+        Piece::Field(DayField::Date) => add_date(text, day),
+    }
+}
+
+/// Adds the heading of a day of the years 0000 to 9999, as this format has it, and LF.
+pub(crate) fn add_heading(
+    text: &mut Vec<u8>,
+    format: &Format<DayField>,
+    day: i32,
+) -> Result<(), AllocError>
+    requires { IsDayNumber day }
+    ensures { OnOk result (text.new.items
+        ≡ text.old.items ++ (filled (day_field_text day) format.now.pieces.items ++ 10 ∷ [])) }
+{
+    for piece in &format.pieces {
+        add_piece(text, day, *piece)?;
+    }
     text.push(b'\n')?;
     Ok(())
 }

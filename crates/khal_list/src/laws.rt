@@ -6,6 +6,8 @@ ghost use Rattle.khal_list.specs.RequestOf.{RequestOf};
 ghost use Rattle.khal_list.specs.declared.request.Request.{Request};
 ghost use Rattle.khal_list.specs.declared.request_fault.RequestFault.{RequestFault};
 
+use crate::format_laws::one_format;
+use ics_series::one_spelling;
 use ics_zone::one_display;
 
 /// Words and a clock have one answer, want of memory apart: one request, or one fault.
@@ -14,4 +16,6 @@ pub fn one_answer()
         → RequestOf words now a → RequestOf words now b → Agree a b }
 {
     one_display();
+    one_spelling();
+    one_format();
 }

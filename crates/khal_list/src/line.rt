@@ -1,66 +1,51 @@
 //! The line of an entry.
-ghost use Rattle.std.specs.Prelude.{◌≡◌, ◌++◌, ◌<◌, OnOk};
+ghost use Rattle.std.specs.Prelude.{◌≡◌, ◌++◌, OnOk};
 ghost use Rattle.ics_series.specs.Clocks.{display_clock};
 ghost use Rattle.ics_series.specs.Entry.{entry_of};
-ghost use Rattle.khal_list.specs.Shown.{shown};
-ghost use Rattle.khal_list.specs.Text.{cell_text, line_text, is_date};
+ghost use Rattle.khal_list.specs.Formats.{shown_piece};
+ghost use Rattle.khal_list.specs.Listed.{style_of};
+ghost use Rattle.khal_list.specs.Text.{entry_field_text, line_text};
 
-use crate::cell::add_times;
-use crate::shown::add_shown;
-use ics_calendar::Event;
+use crate::entry_text::add_field;
+use crate::field::EntryField;
+use crate::format::Piece;
+use crate::request::Request;
 use ics_series::Occurrence;
-use ics_values::Stamp;
-use ics_zone::{Display, Place};
+use ics_zone::Display;
 use std::alloc::{AllocError, Global};
 
-/// Whether an event takes whole days.
-fn is_all_day(event: &Event) -> bool
-    ensures { result ≡ is_date event.now.start.stamp }
-{
-    matches!(event.start.stamp, Stamp::Date(_))
-}
-
-/// Adds the cell of an occurrence: its times by the display zone's clock, or that it takes all day.
-fn add_cell(
+/// Adds the line of an occurrence that stands under this day, as the request has it written.
+pub(crate) fn add_line(
+    alloc: Global,
     text: &mut Vec<u8>,
-    zone: &Display,
+    request: &Request,
     day: i32,
     occurrence: &Occurrence<'_>,
 ) -> Result<(), AllocError>
     ensures { OnOk result (text.new.items
-        ≡ text.old.items ++ cell_text (display_clock zone.now) day (entry_of occurrence.now)) }
+        ≡ text.old.items ++ line_text (style_of request.now) day (entry_of occurrence.now)) }
 {
-    if is_all_day(occurrence.event) {
-        return text.extend_from_slice(b"all day    ");
+    for piece in &request.format.pieces {
+        add_piece(alloc, text, &request.zone, day, occurrence, *piece)?;
     }
-    let start = zone.local(occurrence.start);
-    let finish = zone.local(occurrence.finish);
-    add_times(text, day, start, finish)?;
+    text.push(b'\n')?;
     Ok(())
 }
 
-/// Adds the title of an event.
-fn add_title(alloc: Global, text: &mut Vec<u8>, event: &Event) -> Result<(), AllocError>
-    ensures { OnOk result (text.new.items ≡ text.old.items ++ shown event.now.title) }
-{
-    add_shown(alloc, text, event.title.as_slice())?;
-    Ok(())
-}
-
-/// Adds the line of an occurrence that stands under this day: its cell, and its title.
-pub(crate) fn add_line(
+/// Adds what a piece of the line comes to.
+fn add_piece(
     alloc: Global,
     text: &mut Vec<u8>,
     zone: &Display,
     day: i32,
     occurrence: &Occurrence<'_>,
+    piece: Piece<EntryField>,
 ) -> Result<(), AllocError>
     ensures { OnOk result (text.new.items
-        ≡ text.old.items ++ line_text (display_clock zone.now) day (entry_of occurrence.now)) }
+        ≡ text.old.items ++ shown_piece (entry_field_text (display_clock zone.now) day (entry_of occurrence.now)) piece) }
 {
-    add_cell(text, zone, day, occurrence)?;
-    text.push(b' ')?;
-    add_title(alloc, text, occurrence.event)?;
-    text.push(b'\n')?;
-    Ok(())
+    match piece {
+        Piece::Byte(byte) => Ok(text.push(byte)?),
+        Piece::Field(field) => add_field(alloc, text, zone, day, occurrence, field),
+    }
 }

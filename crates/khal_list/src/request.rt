@@ -1,42 +1,61 @@
 //! What a listing is asked for.
-ghost use Rattle.std.specs.Prelude.{◌≡◌, ◌∷◌, IfOk, map, codes};
+ghost use Rattle.std.specs.Prelude.{◌≡◌, ◌∷◌, IfOk, IsErrOf, map, codes};
 ghost use Rattle.std.specs.String.{string_bytes};
 ghost use Rattle.clap.specs.Words.{subcommand_rows_of};
-ghost use Rattle.khal_list.specs.Entries.{with_name};
+ghost use Rattle.khal_list.specs.Entries.{limit_text, with_name, HasLimit};
+ghost use Rattle.khal_list.specs.Limits.{number_of, IsLimitOf};
+ghost use Rattle.khal_list.specs.RequestOf as spec;
 
 use crate::RequestFault;
+use crate::field::{DayField, EntryField};
+use crate::format::Format;
 use crate::span::Span;
 use crate::window::window_of;
-use crate::words::{matches, text};
+use crate::words::{entry, matches, text, text_or};
 use clap::ArgMatches;
-use ics_series::Window;
+use ics_series::{Key, Token, TokenFault, Window};
 use ics_values::Moment;
 use ics_zone::Display;
 use std::alloc::{AllocError, Global};
 
-/// What a listing is asked for: the folder, the zone in which it is shown, and the window that an
-/// occurrence has to meet.
+/// What a listing is asked for: the folder, the zone in which it is shown, the window that an
+/// occurrence has to meet, how many entries are listed and from where on, and how they are written.
 #[derive(Drop)]
 pub struct Request {
     pub folder: String,
     pub zone: Display,
     pub window: Window,
+    /// The most entries that are listed.
+    pub limit: Option<u32>,
+    /// The key from which a listing goes on: those entries are listed whose keys are greater.
+    pub after: Option<Key>,
+    /// How an entry's line is written.
+    pub format: Format<EntryField>,
+    /// How a day's heading is written.
+    pub day_format: Format<DayField>,
 }
 
 impl Request {
     ghost use Rattle.khal_list.specs.RequestOf.{RequestOf, EntriesAnswer};
 
     /// The request of the words behind the program's name, at a clock: `list FOLDER [START [END]]
-    /// [--zone Z] [--notstarted]` or `at FOLDER MOMENT [--zone Z]`.
+    /// [--zone Z] [--limit N] [--after TOKEN] [--notstarted] [--format F] [--day-format F]` or
+    /// `at FOLDER MOMENT [--zone Z]`.
     ///
     /// START is `YYYY-MM-DD` (its midnight) or `YYYY-MM-DDTHH:MM`, by default today. END is a date
     /// (its day included), a date-time (excluded) or `Nd`, START's local plus 1 to 3,700,000 days;
     /// by default `2d`. MOMENT is a date-time, whose one second is the window. All are locals of the
     /// display zone, from 0001-01-02 to 9800-01-01.
     ///
+    /// `--limit` takes a number from 1 to 4,294,967,295, the most entries that are listed, and
+    /// `--after` the token of the key behind which the listing goes on. `--format` says how an entry
+    /// is written, by default `{cell} {title}`, and `--day-format` how a day is, by default
+    /// `{name}, {date}`.
+    ///
     /// Faults are looked for in this order: Usage where clap refuses the words, BadZone where `--zone`
     /// is no text of a display zone, BadWindow where a window text is of another form, out of its
-    /// bounds, or the end's instant is not after the start's.
+    /// bounds, or the end's instant is not after the start's, BadToken where `--after` is no token,
+    /// BadFormat where `--format` or `--day-format` is no format.
     pub fn of(alloc: Global, words: &[&str], now: Moment) -> Result<Request, RequestFault>
         ensures { RequestOf (map (λ word. word.now) words.now) now result }
     {
@@ -47,8 +66,9 @@ impl Request {
         }
     }
 
-    // The request of clap's entries.
+    // The request of clap's entries, in which clap has tested the limit.
     fn by<'a>(alloc: Global, found: &ArgMatches<'a>, now: Moment) -> Result<Request, RequestFault>
+        requires { HasLimit (subcommand_rows_of found.now) }
         ensures { EntriesAnswer (subcommand_rows_of found.now) now result }
     {
         let zone = Display::parse(alloc, text(found, "zone"))?;
@@ -56,11 +76,18 @@ impl Request {
         let Some(window) = window_of(zone, now, Span::of(found), notstarted) else {
             return Err(RequestFault::BadWindow);
         };
+        let after = key_after(alloc, found)?;
+        let format = Format::parse(alloc, text_or(found, "format", "{cell} {title}"))?;
+        let day_format = Format::parse(alloc, text_or(found, "day-format", "{name}, {date}"))?;
         let folder = String::from_str(alloc, text(found, "folder"))?;
         Ok(Request {
             folder,
             zone,
             window,
+            limit: limit_of(found),
+            after,
+            format,
+            day_format,
         })
     }
 
@@ -81,4 +108,29 @@ fn named<'a>(alloc: Global, words: &[&'a str]) -> Result<Vec<&'a str>, AllocErro
     named.push("khal-list")?;
     named.extend_from_slice(words)?;
     Ok(named)
+}
+
+// The number of `--limit`, where it stands.
+fn limit_of<'a>(found: &ArgMatches<'a>) -> Option<u32>
+    requires { HasLimit (subcommand_rows_of found.now) }
+    ensures { IsLimitOf (limit_text (subcommand_rows_of found.now)) result }
+{
+    number(entry(found, "limit")?)
+}
+
+fn number(text: &str) -> Option<u32>
+    ensures { result ≡ number_of text.now }
+{
+    text.parse::<u32>().ok()
+}
+
+// The key of `--after`, where it stands.
+fn key_after<'a>(alloc: Global, found: &ArgMatches<'a>) -> Result<Option<Key>, TokenFault>
+    ensures ok { IfOk result (spec.IsKeyOf (spec.after_text (subcommand_rows_of found.now))) }
+    ensures bad { IsErrOf result TokenFault.BadToken → spec.IsNoToken (spec.after_text (subcommand_rows_of found.now)) }
+{
+    match entry(found, "after") {
+        Some(token) => Ok(Some(Token::read(alloc, token)?)),
+        None => Ok(None),
+    }
 }

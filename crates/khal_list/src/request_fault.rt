@@ -2,8 +2,10 @@
 ghost use Rattle.std.specs.Prelude.{◌≡◌};
 ghost use Rattle.clap.specs.Words.{kind_of};
 
+use crate::format::FormatFault;
 use clap::Error;
 use clap::error::ErrorKind;
+use ics_series::TokenFault;
 use ics_zone::DisplayFault;
 use std::alloc::{AllocError, Global};
 use thiserror::Error as ErrorText;
@@ -20,6 +22,12 @@ pub enum RequestFault {
     /// The words name no window, or one that may not be asked for.
     #[error("BadWindow")]
     BadWindow,
+    /// `--after` has no token.
+    #[error("BadToken")]
+    BadToken,
+    /// `--format` or `--day-format` has no format.
+    #[error("BadFormat")]
+    BadFormat,
     /// Memory was refused.
     #[error("Memory")]
     Memory,
@@ -36,6 +44,8 @@ impl RequestFault {
             RequestFault::Usage { .. } => "Usage",
             RequestFault::BadZone => "BadZone",
             RequestFault::BadWindow => "BadWindow",
+            RequestFault::BadToken => "BadToken",
+            RequestFault::BadFormat => "BadFormat",
             RequestFault::Memory => "Memory",
         }
     }
@@ -76,6 +86,34 @@ impl From<DisplayFault> for RequestFault {
         match fault {
             DisplayFault::BadZone => RequestFault::BadZone,
             DisplayFault::Memory => RequestFault::Memory,
+        }
+    }
+}
+
+impl From<TokenFault> for RequestFault {
+    ghost use Rattle.std.specs.Prelude.{◌≡◌};
+    ghost use Rattle.khal_list.specs.RequestFaults.{token_fault};
+
+    ghost from_gives = { λ token fault. fault ≡ token_fault token };
+
+    fn from(fault: TokenFault) -> RequestFault {
+        match fault {
+            TokenFault::BadToken => RequestFault::BadToken,
+            TokenFault::Memory => RequestFault::Memory,
+        }
+    }
+}
+
+impl From<FormatFault> for RequestFault {
+    ghost use Rattle.std.specs.Prelude.{◌≡◌};
+    ghost use Rattle.khal_list.specs.RequestFaults.{format_fault};
+
+    ghost from_gives = { λ format fault. fault ≡ format_fault format };
+
+    fn from(fault: FormatFault) -> RequestFault {
+        match fault {
+            FormatFault::BadFormat => RequestFault::BadFormat,
+            FormatFault::Memory => RequestFault::Memory,
         }
     }
 }

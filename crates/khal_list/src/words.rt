@@ -13,6 +13,7 @@ use std::alloc::Global;
 pub(crate) fn matches<'a>(alloc: Global, words: &'a [&'a str]) -> Result<ArgMatches<'a>, Error>
     ensures entries { IfOk result (λ m. subcommand_rows_of m
         ≡ spec.entries_in (map (λ word. word.now) words.entry.now)) }
+    ensures limit { IfOk result (λ m. spec.HasLimit (subcommand_rows_of m)) }
     ensures faults { FailsBy (fault_of khal_app (map (λ word. word.now) words.entry.now)) result }
 {
     command(alloc)?.try_get_matches_from(words)
@@ -31,7 +32,14 @@ pub(crate) fn entry<'a>(found: &ArgMatches<'a>, id: &str) -> Option<&'a str>
 pub(crate) fn text<'a>(found: &ArgMatches<'a>, id: &str) -> &'a str
     ensures { result.now ≡ spec.text_of id.now (subcommand_rows_of found.now) }
 {
-    entry(found, id).unwrap_or("")
+    text_or(found, id, "")
+}
+
+/// The text of that entry, or `default` where there is none.
+pub(crate) fn text_or<'a>(found: &ArgMatches<'a>, id: &str, default: &'a str) -> &'a str
+    ensures { result.now ≡ spec.text_or id.now default.entry.now (subcommand_rows_of found.now) }
+{
+    entry(found, id).unwrap_or(default)
 }
 
 /// Whether the words name the subcommand `at`.

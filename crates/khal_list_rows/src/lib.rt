@@ -8,9 +8,13 @@ mod displays;
 #[cfg(test)]
 mod events;
 #[cfg(test)]
+mod formats;
+#[cfg(test)]
 mod lines;
 #[cfg(test)]
 mod observances;
+#[cfg(test)]
+mod pages;
 #[cfg(test)]
 mod refusals;
 #[cfg(test)]

@@ -1,7 +1,8 @@
 //! Words of the command line, and the requests that they make. The instants were counted apart from
 //! this program.
 
-use khal_list::{Request, RequestFault};
+use ics_series::Key;
+use khal_list::{DayField, EntryField, Piece, Request, RequestFault};
 use std::alloc::Global;
 use std::test::Fail;
 
@@ -241,13 +242,188 @@ fn usages(rt: HostRuntime) {
         "list cal --zone",
         "list cal --zone -05:00",
         "list cal --zone UTC --zone UTC",
-        "list cal --limit 1",
         "list cal --notstarted=true",
         "list cal --notstarted --notstarted",
         "list -cal",
         "at cal 2024-01-05T10:30 --notstarted",
     ] {
         assert_eq!(rt; refusal(rt.alloc(), line), Some("Usage"), "at {line:?}");
+    }
+}
+
+#[test]
+fn bad_limits(rt: HostRuntime) {
+    for line in [
+        "list cal --limit 0",
+        "list cal --limit x",
+        "list cal --limit=",
+        "list cal --limit 1.0",
+        "list cal --limit 4294967296",
+        "list cal --limit=-1",
+        "list cal --limit 1 --limit 1",
+        "at cal 2024-01-05T10:30 --limit 1",
+        "at cal 2024-01-05T10:30 --after K1.0.0.61",
+        "at cal 2024-01-05T10:30 --format x",
+        "at cal 2024-01-05T10:30 --day-format x",
+    ] {
+        assert_eq!(rt; refusal(rt.alloc(), line), Some("Usage"), "at {line:?}");
+    }
+}
+
+#[test]
+fn limits(rt: HostRuntime) -> Result<(), Fail> {
+    for (line, limit) in [
+        ("list cal", None),
+        ("list cal --limit 1", Some(1)),
+        ("list cal --limit 01", Some(1)),
+        ("list cal --limit +1", Some(1)),
+        ("list cal --limit 4294967295", Some(4_294_967_295)),
+        ("at cal 2024-01-05T10:30", None),
+    ] {
+        let request = request(rt.alloc(), line, NOW)?;
+        assert_eq!(rt; request.limit, limit, "at {line:?}");
+    }
+    Ok(())
+}
+
+#[test]
+fn bad_tokens(rt: HostRuntime) {
+    for line in [
+        "list cal --after K1.01.0.61",
+        "list cal --after K1.-0.0.61",
+        "list cal --after K1.+1.0.61",
+        "list cal --after K1.0.0.6A",
+        "list cal --after K1.0.0.6",
+        "list cal --after K1.0.0",
+        "list cal --after K2.0.0.0.61",
+        "list cal --after k1.0.0.61",
+        "list cal --after K1.9223372036854775808.0.61",
+        "list cal --after=",
+    ] {
+        assert_eq!(rt; refusal(rt.alloc(), line), Some("BadToken"), "at {line:?}");
+    }
+}
+
+// The key from which the words let a listing go on.
+fn key(alloc: Global, line: &str) -> Result<Option<Key>, RequestFault> {
+    let request = request(alloc, line, NOW)?;
+    Ok(request.after)
+}
+
+#[test]
+fn tokens(rt: HostRuntime) -> Result<(), Fail> {
+    for (token, start, recurrence, uid) in [
+        (
+            "K1.1704448800.1704448800.61",
+            1_704_448_800,
+            1_704_448_800,
+            "a",
+        ),
+        ("K1.0.0.", 0, 0, ""),
+        ("K1.-5.9223372036854775807.61", -5, i64::MAX, "a"),
+        ("K1.0.-9223372036854775808.c3a9", 0, i64::MIN, "é"),
+    ] {
+        let line = format!(in rt.alloc(); "list cal --after {token}")?;
+        let key = key(rt.alloc(), line.as_str())?.ok_or("no key")?;
+        assert_eq!(rt;
+            (key.start, key.recurrence),
+            (start, recurrence),
+            "at {token}"
+        );
+        assert_eq!(rt; key.uid.as_slice(), uid.as_bytes(), "at {token}");
+    }
+    assert!(rt; key(rt.alloc(), "list cal")?.is_none());
+    assert!(rt; key(rt.alloc(), "at cal 2024-01-05T10:30")?.is_none());
+    Ok(())
+}
+
+#[test]
+fn bad_formats(rt: HostRuntime) {
+    for line in [
+        "list cal --format {title",
+        "list cal --format {nope}",
+        "list cal --format {Title}",
+        "list cal --format {name}",
+        "list cal --format {}",
+        "list cal --format }",
+        "list cal --day-format {title}",
+        "list cal --day-format {",
+    ] {
+        assert_eq!(rt; refusal(rt.alloc(), line), Some("BadFormat"), "at {line:?}");
+    }
+}
+
+#[test]
+fn formats(rt: HostRuntime) -> Result<(), Fail> {
+    let line = "list cal --format x{uid} --day-format {{{date}";
+    let request = request(rt.alloc(), line, NOW)?;
+    assert_eq!(rt;
+        request.format.pieces.as_slice(),
+        [Piece::Byte(b'x'), Piece::Field(EntryField::Uid)].as_slice()
+    );
+    assert_eq!(rt;
+        request.day_format.pieces.as_slice(),
+        [Piece::Byte(b'{'), Piece::Field(DayField::Date)].as_slice()
+    );
+    Ok(())
+}
+
+#[test]
+fn default_formats(rt: HostRuntime) -> Result<(), Fail> {
+    for line in ["list cal", "at cal 2024-01-05T10:30"] {
+        let request = request(rt.alloc(), line, NOW)?;
+        assert_eq!(rt;
+            request.format.pieces.as_slice(),
+            [
+                Piece::Field(EntryField::Cell),
+                Piece::Byte(b' '),
+                Piece::Field(EntryField::Title)
+            ]
+            .as_slice(),
+            "at {line:?}"
+        );
+        assert_eq!(rt;
+            request.day_format.pieces.as_slice(),
+            [
+                Piece::Field(DayField::Name),
+                Piece::Byte(b','),
+                Piece::Byte(b' '),
+                Piece::Field(DayField::Date)
+            ]
+            .as_slice(),
+            "at {line:?}"
+        );
+    }
+    Ok(())
+}
+
+// One fault is answered, that which is looked for first.
+#[test]
+fn faults_in_order(rt: HostRuntime) {
+    for (line, name) in [
+        (
+            "list cal 2024-01-05 2024-01-05T00:00 --after x --format } --zone=+24:00 --limit 0",
+            "Usage",
+        ),
+        (
+            "list cal 2024-01-05 2024-01-05T00:00 --after x --format } --zone=+24:00",
+            "BadZone",
+        ),
+        (
+            "list cal 2024-01-05 2024-01-05T00:00 --after x --format }",
+            "BadWindow",
+        ),
+        ("list cal 2024-01-05 1d --after x --format }", "BadToken"),
+        (
+            "list cal 2024-01-05 1d --after x --day-format {title}",
+            "BadToken",
+        ),
+        (
+            "list cal 2024-01-05 1d --after K1.0.0.61 --format }",
+            "BadFormat",
+        ),
+    ] {
+        assert_eq!(rt; refusal(rt.alloc(), line), Some(name), "at {line:?}");
     }
 }
 
@@ -258,9 +434,13 @@ fn usage_texts(rt: HostRuntime) {
         ("--help", true, "Usage: khal-list <COMMAND>"),
         ("help", true, "Usage: khal-list <COMMAND>"),
         ("list --help", true, "<FOLDER> [START] [END]"),
+        ("list --help", true, "--limit <N>"),
+        ("list --help", true, "--after <TOKEN>"),
+        ("list --help", true, "--format <F>"),
+        ("list --help", true, "--day-format <F>"),
         ("at -h", true, "<FOLDER> <MOMENT>"),
         ("list", false, "<FOLDER>"),
-        ("list cal --limit 1", false, "--limit"),
+        ("list cal --limit 0", false, "--limit"),
         ("agenda cal", false, "agenda"),
     ] {
         match request(rt.alloc(), line, NOW) {

@@ -1,11 +1,15 @@
-use Rattle.std.proofs.Common.{w32}
-use Rattle.std.proofs.Math.Facts.{to_z-of_z}
-use Rattle.khal_list.proofs.AddedLemmas.{four_added}
+use Rattle.std.proofs.Common.{◌∷◌, [], drop, ap, w32}
+use Rattle.std.proofs.lemmas.Int.{to_z-of_z}
+use Rattle.std.proofs.lemmas.List.{drop_all}
+use Rattle.khal_list.specs.Formats.{filled}
+use Rattle.khal_list.specs.Text.{day_field_text}
+use Rattle.khal_list.proofs.AddedLemmas.{all_added}
 use Rattle.khal_list.proofs.heading.add_heading.Goals as goal
 
--- src/heading.rt:54:1
 pub returns : goal.returns
 returns c =
-    let name = simp (to_z-of_z {w = w32} {z = c.args.day} c.ranges.day) at c.in_ok-add_weekday.ensures in
-    let date = simp (to_z-of_z {w = w32} {z = c.args.day} c.ranges.day) at c.in_ok-add_date.ensures in
-    four_added _ _ _ _ _ name c.in_ok-extend_from_slice.ensures.items date c.in_ok-push.ensures.items
+    let value = day_field_text c.args.day in
+    let pieces = c.deref-piece-items.result.now in
+    let none = ap (filled value) (drop_all c.loop-piece.piece-index pieces c.loop-piece-test.false) in
+    let added = rw (to_z-of_z w32 c.args.day c.ranges.day) at c.loop-piece.invariant in
+    all_added c.args.text.now.items (filled value c.args.format.now.pieces.items) (filled value (drop c.loop-piece.piece-index pieces)) (10 ∷ []) c.loop-piece.text.items c.push.new.self.items none added c.in_ok-push.ensures.items

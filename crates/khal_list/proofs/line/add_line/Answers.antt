@@ -1,10 +1,17 @@
-use Rattle.std.proofs.Common.{w32}
-use Rattle.std.proofs.Math.Facts.{to_z-of_z}
-use Rattle.khal_list.proofs.AddedLemmas.{four_added}
+use Rattle.std.proofs.Common.{◌∷◌, [], drop, ap, w32}
+use Rattle.std.proofs.lemmas.Int.{to_z-of_z}
+use Rattle.std.proofs.lemmas.List.{drop_all}
+use Rattle.ics_series.specs.Clocks.{display_clock}
+use Rattle.ics_series.specs.Entry.{entry_of}
+use Rattle.khal_list.specs.Formats.{filled}
+use Rattle.khal_list.specs.Text.{entry_field_text}
+use Rattle.khal_list.proofs.AddedLemmas.{all_added}
 use Rattle.khal_list.proofs.line.add_line.Goals as goal
 
--- src/pieces.rt:44:1
 pub returns : goal.returns
 returns c =
-    let cell = simp (to_z-of_z {w = w32} {z = c.args.day} c.ranges.day) at c.in_ok-add_cell.ensures in
-    four_added _ _ _ _ _ cell c.in_ok-push.ensures.items c.in_ok-add_title.ensures c.in_ok-push-2.ensures.items
+    let value = entry_field_text (display_clock c.args.request.now.zone) c.args.day (entry_of c.args.occurrence.now) in
+    let pieces = c.deref-piece-items.result.now in
+    let none = ap (filled value) (drop_all c.loop-piece.piece-index pieces c.loop-piece-test.false) in
+    let added = rw (to_z-of_z w32 c.args.day c.ranges.day) at c.loop-piece.invariant in
+    all_added c.args.text.now.items (filled value c.args.request.now.format.pieces.items) (filled value (drop c.loop-piece.piece-index pieces)) (10 ∷ []) c.loop-piece.text.items c.push.new.self.items none added c.in_ok-push.ensures.items

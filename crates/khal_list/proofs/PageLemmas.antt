@@ -1,0 +1,80 @@
+-- Pages of a listing, each from the key that the one before names.
+use Rattle.std.proofs.Common.{◌≡◌, ℕ, ◌≤◌, ◌<◌, List, [], ◌∷◌, ◌++◌, Option, Some, None, Bool, true, false, cond, length, take, drop, refl, sym, ◌∙◌, ap, subst, arith, append_assoc, nat_lt}
+use Rattle.std.specs.Option.{option_map}
+use Rattle.std.specs.Ordering.{is_lt, ordering_reverse}
+use Rattle.std.proofs.lemmas.Bool.{ltb-false, ltb-true}
+use Rattle.std.proofs.lemmas.Cmp.{tied_itself}
+use Rattle.std.proofs.lemmas.List.{take_all, take-append-drop, length-drop, length-take-le}
+use Rattle.std.specs.declared.cmp.Ordering.TheVariants.{Less, Greater}
+use Rattle.ics_calendar.specs.Event.{FileSaid}
+use Rattle.ics_series.specs.After.{after_key}
+use Rattle.ics_series.specs.Entry.{Entry, Rank, entry_cmp, key_rank, rank_cmp, rank_of}
+use Rattle.ics_series.specs.EntryLaws.{entry_total}
+use Rattle.ics_series.specs.Rising.{IsBefore, Rises}
+use Rattle.khal_list.specs.declared.request.Request.{Request}
+use Rattle.khal_list.specs.Headline.{IsListingOf}
+use Rattle.khal_list.specs.Listed.{asked_after, key_on, last_key}
+use Rattle.khal_list.specs.Pages.{joined, total, ArePositive}
+
+-- of what comes after an entry all has a greater key
+keeps-later : (o : Entry) (ys : List Entry) → IsBefore entry_cmp o ys → after_key (Some (rank_of o)) ys ≡ ys
+keeps-later o [] h = refl
+keeps-later o (y ∷ ys) h =
+    ap (λ c. cond (is_lt c) (y ∷ after_key (Some (rank_of o)) ys) (after_key (Some (rank_of o)) ys)) h.0 ∙ ap (λ l. y ∷ l) (keeps-later o ys h.1)
+
+before-later : (x o : Entry) (xs ys : List Entry) → IsBefore entry_cmp x (xs ++ o ∷ ys) → entry_cmp x o ≡ Less
+before-later x o [] ys h = h.0
+before-later x o (z ∷ zs) ys h = before-later x o zs ys h.1
+
+-- of a rising list what stands behind an entry
+behind-entry : (xs : List Entry) (o : Entry) (ys : List Entry) → Rises entry_cmp (xs ++ o ∷ ys) → after_key (Some (rank_of o)) (xs ++ o ∷ ys) ≡ ys
+behind-entry [] o ys h =
+    ap (λ c. cond (is_lt c) (o ∷ after_key (Some (rank_of o)) ys) (after_key (Some (rank_of o)) ys)) (tied_itself entry_total o) ∙ keeps-later o ys h.0
+behind-entry (x ∷ xs) o ys h =
+    let later : rank_cmp (rank_of o) (rank_of x) ≡ Greater = entry_total.antisymm o x ∙ ap ordering_reverse (before-later x o xs ys h.0) in
+    ap (λ c. cond (is_lt c) (x ∷ after_key (Some (rank_of o)) (xs ++ o ∷ ys)) (after_key (Some (rank_of o)) (xs ++ o ∷ ys))) later ∙ behind-entry xs o ys h.1
+
+pub goes-on : (files : List FileSaid) (request : Request) (front : List Entry) (o : Entry) (behind : List Entry) → IsListingOf files request (front ++ o ∷ behind)
+    → option_map key_rank request.after ≡ Some (rank_of o) → asked_after request (front ++ o ∷ behind) ≡ behind
+goes-on files request front o behind h e = ap (λ key. after_key key (front ++ o ∷ behind)) e ∙ behind-entry front o behind h.rises
+
+-- what stands behind the last of some entries
+behind-last : (xs ps ys : List Entry) → Rises entry_cmp (xs ++ (ps ++ ys)) → 1 ≤ length ps → after_key (last_key ps) (xs ++ (ps ++ ys)) ≡ ys
+behind-last xs [] ys h l = absurd (omega arith)
+behind-last xs (p ∷ []) ys h l = behind-entry xs p ys h
+behind-last xs (p ∷ q ∷ ps) ys h l =
+    let regroup : xs ++ (p ∷ ((q ∷ ps) ++ ys)) ≡ (xs ++ p ∷ []) ++ ((q ∷ ps) ++ ys) = sym (append_assoc xs (p ∷ []) ((q ∷ ps) ++ ys)) in
+    ap (after_key (last_key (q ∷ ps))) regroup ∙ behind-last (xs ++ p ∷ []) (q ∷ ps) ys (subst (Rises entry_cmp) regroup h) (omega arith)
+
+-- a page that is cut and what the others list together, or a page that is all
+joined-by : (b : Bool) (limit : ℕ) (rest more : List Entry) → nat_lt limit (length rest) ≡ b → (b ≡ true → more ≡ drop limit rest) → cond b (take limit rest ++ more) (take limit rest) ≡ rest
+joined-by true limit rest more p f = ap (λ l. take limit rest ++ l) (f refl) ∙ take-append-drop limit rest
+joined-by false limit rest more p f = take_all limit rest (ltb-false limit (length rest) p)
+
+-- the pages from a place in the listing on
+joined-from : (limits : List ℕ) (key : Option Rank) (xs rest : List Entry) → Rises entry_cmp (xs ++ rest) → after_key key (xs ++ rest) ≡ rest → ArePositive limits → length rest ≤ total limits
+    → joined limits key (xs ++ rest) ≡ rest
+joined-from [] key xs [] h k p l = refl
+joined-from [] key xs (y ∷ ys) h k p l = absurd (omega arith)
+joined-from (limit ∷ limits) key xs rest h k p l =
+    let regroup : xs ++ rest ≡ xs ++ (take limit rest ++ drop limit rest) = ap (λ l. xs ++ l) (sym (take-append-drop limit rest)) in
+    let whole : xs ++ rest ≡ (xs ++ take limit rest) ++ drop limit rest = regroup ∙ sym (append_assoc xs (take limit rest) (drop limit rest)) in
+    ap (λ r. cond (nat_lt limit (length r)) (take limit r ++ joined limits (key_on (Some limit) r) (xs ++ rest)) (take limit r)) k
+    ∙ joined-by (nat_lt limit (length rest)) limit rest (joined limits (key_on (Some limit) rest) (xs ++ rest)) refl
+    (λ cut.
+    let more : limit < length rest = ltb-true limit (length rest) cut in
+    let some : 1 ≤ length (take limit rest) = omega (arith, length-take-le limit rest (omega arith), p.0) in
+    let named : key_on (Some limit) rest ≡ last_key (take limit rest) = ap (λ b. cond b (last_key (take limit rest)) None) cut in
+    let found : after_key (last_key (take limit rest)) (xs ++ rest) ≡ drop limit rest =
+    ap (after_key (last_key (take limit rest))) regroup ∙ behind-last xs (take limit rest) (drop limit rest) (subst (Rises entry_cmp) regroup h) some in
+    ap (λ next. joined limits next (xs ++ rest)) named
+    ∙ (ap (joined limits (last_key (take limit rest))) whole
+    ∙ joined-from limits (last_key (take limit rest)) (xs ++ take limit rest) (drop limit rest)
+    (subst (Rises entry_cmp) whole h)
+    (ap (after_key (last_key (take limit rest))) (sym whole) ∙ found)
+    p.1
+    (omega (arith, l, length-drop limit rest))))
+
+pub pages-join : (files : List FileSaid) (request : Request) (list : List Entry) (limits : List ℕ) → IsListingOf files request list → ArePositive limits → length list ≤ total limits
+    → joined limits None list ≡ list
+pages-join files request list limits h p l = joined-from limits None [] list h.rises refl p l

@@ -1,0 +1,5 @@
+use Rattle.khal_list.proofs.PageLemmas.{goes-on}
+use Rattle.khal_list.proofs.resuming.goes_on.Goals as goal
+
+pub returns : goal.returns
+returns c = goes-on
