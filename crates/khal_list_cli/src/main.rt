@@ -6,7 +6,7 @@ mod failure;
 use failure::Failure;
 use khal_list::{FolderSource, Request, Status, Stream, run};
 use std::env;
-use std::io::BufWriter;
+use std::io::{BufWriter, Write};
 use std::process::ExitCode;
 use std::rt::{Clock, Env};
 
@@ -34,16 +34,30 @@ fn request<R: Env + AllocGlobal>(rt: &R, now: i64) -> Result<Request, Failure> {
     Request::of(rt.alloc(), texts.as_slice(), now).map_err(Failure::Request)
 }
 
-/// Lists a folder to the standard streams. The listing is written in large pieces.
+/// Lists a folder to the standard streams. The listing is written in large pieces; where it may end
+/// with the line that says where it goes on, entry by entry, so that the line stands behind it.
 fn list(rt: HostRuntime) -> Result<Status, Failure> {
     let now = clock_now(&rt)?;
     let request = request(&rt, now)?;
     let folder = String::from_str(rt.alloc(), request.folder())?;
-    let mut source = FolderSource::open(rt, folder).map_err(Failure::of_folder)?;
+    let source = FolderSource::open(rt, folder).map_err(Failure::of_folder)?;
+    if request.limit.is_some() {
+        return list_to(rt, source, &request, rt.stdout());
+    }
     let buffered = BufWriter::new(rt.alloc(), rt.stdout()).map_err(|_| Failure::Memory)?;
-    let mut out = Stream::new(buffered);
+    list_to(rt, source, &request, buffered)
+}
+
+/// Lists a folder to a writer, and says on standard error what is to be said.
+fn list_to<W: Write + Drop>(
+    rt: HostRuntime,
+    mut source: FolderSource<HostRuntime>,
+    request: &Request,
+    writer: W,
+) -> Result<Status, Failure> {
+    let mut out = Stream::new(writer);
     let mut err = Stream::new(rt.stderr());
-    let ran = run(rt.alloc(), &mut source, &request, &mut out, &mut err);
+    let ran = run(rt.alloc(), &mut source, request, &mut out, &mut err);
     let finished = out.finish();
     let status = ran?;
     finished?;
