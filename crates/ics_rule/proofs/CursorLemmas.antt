@@ -1,5 +1,5 @@
 -- What a cursor looks at.
-use Rattle.std.proofs.Common.{◌≡◌, ℕ, suc, ◌+◌, ◌-◌, ◌<◌, ◌≤◌, ◌⊎◌, inl, inr, Bool, true, false, ◌==◌, nat_le, nat_lt, ◌&&◌, Option, Some, None, MatchOption, refl, sym, subst, ap, ◌∙◌, arith}
+use Rattle.std.proofs.Common.{◌≡◌, ℕ, zero, suc, ◌+◌, ◌-◌, ◌<◌, ◌≤◌, ◌⊎◌, inl, inr, Bool, true, false, ◌==◌, nat_le, nat_lt, ◌&&◌, Option, Some, None, MatchOption, cond, refl, sym, subst, ap, ◌∙◌, arith}
 use Rattle.std.proofs.lemmas.Bool.Decides.{nat_tests}
 use Rattle.jiff_core.specs.Weekday.{monday_zero}
 use Rattle.ics_values.specs.Sets.{IsLeastFrom, IsNextIn}
@@ -12,26 +12,16 @@ use Rattle.ics_rule.specs.Periods.{first_local, IsPeriodOf}
 use Rattle.ics_rule.specs.Cursors.{is_met, fresh, HasBegun, HeldBy, CountedBy, IsCursorIn, HasLookedIn, looks_from}
 use Rattle.ics_rule.specs.Searches.{is_chosen_within, is_wanted, IsNextWanted, IsWalked, HoldsPeriodOf, LooksOrStays, LooksOnce, after_look}
 use Rattle.ics_rule.proofs.PeriodLemmas.{begun, begins, first_in, period_mono, period_small, week_small}
-use Rattle.ics_rule.proofs.Counts.{count_some, count_mono, count_one_more, count_every}
+use Rattle.ics_rule.proofs.Counts.{count-suc, count_some, count_mono, count_most, count_one_more, count_every}
 use Rattle.ics_rule.proofs.StepLemmas.{step_on, none_between}
 use Rattle.ics_rule.proofs.ChosenLemmas.{no_step}
 
 by_order : (a b : ℕ) → (a < b) ⊎ (b ≤ a)
 by_order a b = grind arith
 
--- a period that lies a multiple of the interval from the start's, from that of a place to that of a bound, is met
-pub meets : (q : Filled) (start a b place stop p : ℕ) → a ≤ place → place < stop → stop ≤ b
-    → is_stepped (period_in q start) q.interval p ≡ true → period_in q place ≤ p → p ≤ period_in q (stop - 1) → is_met q start a b p ≡ true
-meets q start a b place stop p la lp lb step low high = and_both _ _ step (elim (by_order (period_in q place) p) [
-  | inl later ↦
-      let none : period_in q 0 ≤ p = (let m = period_mono q.frequency (monday_zero q.week_start) 0 place (omega arith) in omega (arith, m)) in
-      let end = begun q.frequency (monday_zero q.week_start) p (stop - 1) high in
-      witness (first_local q.frequency (monday_zero q.week_start) p) (elim (by_order place (first_local q.frequency (monday_zero q.week_start) p)) [
-        | inl after ↦ omega arith
-        | inr before ↦ absurd (let g = begins q.frequency (monday_zero q.week_start) p place before in omega (arith, g, later))
-      ]) (omega (arith, end)) (first_in q.frequency (monday_zero q.week_start) p (week_small q.week_start) none)
-  | inr same ↦ witness place la (omega arith) (omega (arith, same, low))
-])
+-- a period that lies a multiple of the interval from the start's is met by a local of it
+met_by : (q : Filled) (start a b p n : ℕ) → a ≤ n → n < b → period_in q n ≡ p → is_stepped (period_in q start) q.interval p ≡ true → is_met q start a b p ≡ true
+met_by q start a b p n l u e step = and_both _ _ step (positive _ (count_some b n (λ m. nat_le a m && period_in q m == p) u (both a n (period_in q n) p l e)))
   where
     and_both : (x y : Bool) → x ≡ true → y ≡ true → (x && y) ≡ true
     and_both x y e f = ap (λ z. z && y) e ∙ f
@@ -42,8 +32,19 @@ meets q start a b place stop p la lp lb step low high = and_both _ _ step (elim 
     positive : (n : ℕ) → 0 < n → nat_lt 0 n ≡ true
     positive n h = grind (arith, nat_tests)
 
-    witness : (n : ℕ) → a ≤ n → n < b → period_in q n ≡ p → nat_lt 0 (count b (λ m. nat_le a m && period_in q m == p)) ≡ true
-    witness n l u e = positive _ (count_some b n (λ m. nat_le a m && period_in q m == p) u (both a n (period_in q n) p l e))
+-- so is one from that of a place to that of a bound
+pub meets : (q : Filled) (start a b place stop p : ℕ) → a ≤ place → place < stop → stop ≤ b
+    → is_stepped (period_in q start) q.interval p ≡ true → period_in q place ≤ p → p ≤ period_in q (stop - 1) → is_met q start a b p ≡ true
+meets q start a b place stop p la lp lb step low high = elim (by_order (period_in q place) p) [
+  | inl later ↦
+      let none : period_in q 0 ≤ p = (let m = period_mono q.frequency (monday_zero q.week_start) 0 place (omega arith) in omega (arith, m)) in
+      let end = begun q.frequency (monday_zero q.week_start) p (stop - 1) high in
+      met_by q start a b p (first_local q.frequency (monday_zero q.week_start) p) (elim (by_order place (first_local q.frequency (monday_zero q.week_start) p)) [
+        | inl after ↦ omega arith
+        | inr before ↦ absurd (let g = begins q.frequency (monday_zero q.week_start) p place before in omega (arith, g, later))
+      ]) (omega (arith, end)) (first_in q.frequency (monday_zero q.week_start) p (week_small q.week_start) none) step
+  | inr same ↦ met_by q start a b p place la (omega arith) (omega (arith, same, low)) step
+]
 
 -- the next number that passes one of two tests that agree
 pub next_same : (f g : ℕ → Bool) (place : ℕ) (o : Option ℕ) → ((n : ℕ) → f n ≡ g n) → IsNextIn f place o → IsNextIn g place o
@@ -137,6 +138,105 @@ looked_later q start o c place a b l few = record { low = (let up = looks_mono o
 pub looked_walked : (q : Filled) (start : ℕ) (o : Option ℕ) (stop : ℕ) (found : Option ℕ) (before now : Cursor) (place a b : ℕ) → IsWalked q start o stop found before now → before.place ≤ place → stop ≤ b
     → HasLookedIn q start o before a b → HasLookedIn q start o (record now { place = place }) a b
 looked_walked q start o stop found before now place a b walked l s few = record { low = (let up = looks_mono o start before.place place l in omega (arith, few.low, up)); few = walked.looked a b s few }
+
+-- one that passes a test is among those counted
+counted_one : (n : ℕ) (test : ℕ → Bool) → 0 < count n test → (m : ℕ) × ((m < n) × (test m ≡ true))
+counted_one zero test h = absurd (let none = count_most 0 test in omega (arith, none, h))
+counted_one (suc n) test h = by_last (test n) refl (counted_one n test)
+  where
+    by_last : (b : Bool) → test n ≡ b → (0 < count n test → (m : ℕ) × ((m < n) × (test m ≡ true))) → (m : ℕ) × ((m < suc n) × (test m ≡ true))
+    by_last true e before = (n, (omega arith, e))
+    by_last false e before =
+        let last = count-suc n test in
+        let none : ◌≡◌ {A = ℕ} (cond (test n) 1 0) 0 = ap (λ z. cond z 1 0) e in
+        let one = before (omega (arith, last, none, h)) in
+        (one.0, (omega (arith, one.1.0), one.1.1))
+
+-- where one test implies another, no more pass it
+count_within : (n : ℕ) (f g : ℕ → Bool) → ((m : ℕ) → m < n → f m ≡ true → g m ≡ true) → count n f ≤ count n g
+count_within zero f g h = let e = count_most 0 f in omega (arith, e)
+count_within (suc n) f g h =
+    let less = count_within n f g (λ m l. h m (omega arith)) in
+    let one = count-suc n f in
+    let other = count-suc n g in
+    let last = cond_within (f n) (g n) (h n (omega arith)) in
+    omega (arith, less, one, other, last)
+  where
+    cond_within : (a b : Bool) → (a ≡ true → b ≡ true) → cond a 1 0 ≤ cond b 1 0
+    cond_within false b h = omega arith
+    cond_within true b h = let e : ◌≡◌ {A = ℕ} (cond b 1 0) 1 = ap (λ z. cond z 1 0) (h refl) in omega (arith, e)
+
+-- what is met before some bound and is not past the period of n is met before each bound past n
+met_soon : (q : Filled) (start a b c n p : ℕ) → a ≤ n → n < b → p ≤ period_in q n → is_met q start a c p ≡ true → is_met q start a b p ≡ true
+met_soon q start a b c n p low high here met =
+    let parts = and_facts (is_stepped (period_in q start) q.interval p) (nat_lt 0 (count c (λ m. nat_le a m && period_in q m == p))) met in
+    let one = counted_one c (λ m. nat_le a m && period_in q m == p) (positive_fact (count c (λ m. nat_le a m && period_in q m == p)) parts.1) in
+    let facts = both_facts a one.0 (period_in q one.0) p one.1.1 in
+    elim (by_order n one.0) [
+      | inl later ↦
+          let up = period_mono q.frequency (monday_zero q.week_start) n one.0 (omega arith) in
+          met_by q start a b p n low high (omega (arith, up, facts.1, here)) parts.0
+      | inr before ↦ met_by q start a b p one.0 facts.0 (omega arith) facts.1 parts.0
+    ]
+  where
+    and_facts : (x y : Bool) → (x && y) ≡ true → (x ≡ true) × (y ≡ true)
+    and_facts true y h = (refl, h)
+    and_facts false y h = absurd (cc)
+
+    positive_fact : (n : ℕ) → nat_lt 0 n ≡ true → 0 < n
+    positive_fact n h = grind (arith, nat_tests)
+
+    same_fact : (x y : ℕ) → (x == y) ≡ true → x ≡ y
+    same_fact x y h = grind (arith, nat_tests)
+
+    least_fact : (x y : ℕ) → nat_le x y ≡ true → x ≤ y
+    least_fact x y h = grind (arith, nat_tests)
+
+    both_facts : (x n y z : ℕ) → (nat_le x n && (y == z)) ≡ true → (x ≤ n) × (y ≡ z)
+    both_facts x n y z h = let parts = and_facts (nat_le x n) (y == z) h in (least_fact x n parts.0, same_fact y z parts.1)
+
+-- and what is met before a bound is met before a later one
+met_later : (q : Filled) (start a b c p : ℕ) → b ≤ c → is_met q start a b p ≡ true → is_met q start a c p ≡ true
+met_later q start a b c p h met =
+    let parts = and_facts (is_stepped (period_in q start) q.interval p) (nat_lt 0 (count b (λ m. nat_le a m && period_in q m == p))) met in
+    let more = count_mono b c (λ m. nat_le a m && period_in q m == p) h in
+    more_positive (is_stepped (period_in q start) q.interval p) (count b (λ m. nat_le a m && period_in q m == p)) (count c (λ m. nat_le a m && period_in q m == p)) parts.0 parts.1 more
+  where
+    and_facts : (x y : Bool) → (x && y) ≡ true → (x ≡ true) × (y ≡ true)
+    and_facts true y h = (refl, h)
+    and_facts false y h = absurd (cc)
+
+    more_positive : (x : Bool) (m n : ℕ) → x ≡ true → nat_lt 0 m ≡ true → m ≤ n → (x && nat_lt 0 n) ≡ true
+    more_positive x m n e h l = grind (arith, nat_tests)
+
+-- An answer past the start is known from periods that hold a local not past it.
+pub looked_found : (q : Filled) (start : ℕ) (o : Option ℕ) (stop n : ℕ) (before now : Cursor) (a b : ℕ) → IsWalked q start o stop (Some n) before now
+    → start ≤ n → before.place ≤ n → n + 1 ≤ b → HasLookedIn q start o before a b → HasLookedIn q start o (record now { place = n + 1 }) a b
+looked_found q start o stop n before now a b walked after low soon few = record {
+  low = (let up = looks_mono o start before.place (n + 1) (omega (arith, low)) in omega (arith, few.low, up));
+  few = elim (by_order b stop) [
+    | inl early ↦
+        let wide = count_within (fresh before.held) (is_met q start a b) (is_met q start a stop) (λ p l met. met_wide p met early) in
+        let most = walked.looked a stop (omega arith) (record { low = few.low; few = omega (arith, few.few, wide) }) in
+        let near = count_within (fresh now.held) (is_met q start a stop) (is_met q start a b) (λ p l met. met_soon q start a b stop n p begins (omega (arith, soon)) (below now.held walked.found.0 p l) met) in
+        omega (arith, most, near)
+    | inr late ↦ walked.looked a b late few
+  ];
+}
+  where
+    begins : a ≤ n
+    begins = let m = looks_from_low o in omega (arith, few.low, m)
+      where
+        looks_from_low : (o : Option ℕ) → looks_from o start before.place ≤ n
+        looks_from_low None = low
+        looks_from_low (Some c) = after
+
+    met_wide : (p : ℕ) → is_met q start a b p ≡ true → b < stop → is_met q start a stop p ≡ true
+    met_wide p met early = met_later q start a b stop p (omega (arith, early)) met
+
+    below : (held : Option Period) → HeldBy q held n → (p : ℕ) → p < fresh held → p ≤ period_in q n
+    below None h p l = absurd (omega (arith, l))
+    below (Some k) h p l = omega (arith, h.1, l)
 
 -- a cursor's steps are counted periods
 fresh_small : (q : Filled) (held : Option Period) (n : ℕ) → HeldBy q held n → n < 315_569_520_000 → fresh held ≤ 315_569_520_000

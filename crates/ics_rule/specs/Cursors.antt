@@ -75,6 +75,11 @@ pub record HasCounted (r : Recurrence) (answer : Option Local) (before now : Cur
 unfoldable pub IsCursorOf : Recurrence → Cursor → Type 0
 IsCursorOf r c = IsCursorIn (filled r) (number r.start) r.parts.count c
 
+-- up to where the locals are known after an answer: past the one answered or, where there is none, up to the bound
+abbrev pub known_to : Option ℕ → ℕ → ℕ
+known_to None bound = bound
+known_to (Some n) bound = n + 1
+
 -- where the periods begin that a cursor at a place looks at: there or, under COUNT, at the start
 abbrev pub looks_from : Option ℕ → ℕ → ℕ → ℕ
 looks_from None start place = place

@@ -63,7 +63,8 @@ impl Cursor {
     ghost use Rattle.ics_rule.specs.Candidates.{period_in};
     ghost use Rattle.ics_rule.specs.Periods.{first_local, IsPeriodOf};
     ghost use Rattle.ics_rule.specs.Next.{IsNextKept, NoneKept};
-    ghost use Rattle.ics_rule.specs.Cursors.{period_count, place_of, steps_of, looks_from, IsCursorOf, HasCounted, HasLooked, IsCursorIn, HasLookedIn};
+    ghost use Rattle.std.specs.Option.{option_map};
+    ghost use Rattle.ics_rule.specs.Cursors.{known_to, period_count, place_of, steps_of, looks_from, IsCursorOf, HasCounted, HasLooked, IsCursorIn, HasLookedIn};
     ghost use Rattle.ics_rule.specs.Searches.{NoneWanted, IsNextWanted, IsNextBefore, IsWalked, after_look};
 
     /// At a local of the years 0000 to 9999, whether or not the rule keeps it. No period is looked at.
@@ -132,7 +133,7 @@ impl Cursor {
         ensures shown { MatchOption result (Unit {0}) (λ n. start < n → 1 ≤ self.new.steps) }
         ensures counts { MatchOption result (Unit {0})
             (λ n. start < n → period_in (filled rule.now) self.old.place < period_in (filled rule.now) n → self.old.steps < self.new.steps) }
-        ensures looked { (a b : ℕ) → end ≤ b → HasLookedIn (filled rule.now) start rule.now.parts.count self.old a b
+        ensures looked { (a b : ℕ) → known_to result end ≤ b → HasLookedIn (filled rule.now) start rule.now.parts.count self.old a b
             → HasLookedIn (filled rule.now) start rule.now.parts.count self.new a b }
     {
         let place = self.place;
@@ -163,7 +164,7 @@ impl Cursor {
         ensures shown { MatchOption result (Unit {0}) (λ n. start < n → 1 ≤ self.new.steps) }
         ensures counts { MatchOption result (Unit {0})
             (λ n. start < n → period_in (filled rule.now) self.old.place < period_in (filled rule.now) n → self.old.steps < self.new.steps) }
-        ensures looked { (a b : ℕ) → end ≤ b → HasLookedIn (filled rule.now) start rule.now.parts.count self.old a b
+        ensures looked { (a b : ℕ) → known_to result end ≤ b → HasLookedIn (filled rule.now) start rule.now.parts.count self.old a b
             → HasLookedIn (filled rule.now) start rule.now.parts.count self.new a b }
     {
         let place = self.place;
@@ -192,7 +193,8 @@ impl Cursor {
             (λ local. IsNextKept rule.now (place_of self.old) (number before) (number local) × (place_of self.new ≡ number local + 1)) }
         ensures own { IsCursorOf rule.now self.new }
         ensures counted { HasCounted rule.now result self.old self.new }
-        ensures looked { (a b : ℕ) → number before ≤ b → HasLooked rule.now self.old a b → HasLooked rule.now self.new a b }
+        ensures looked { (a b : ℕ) → known_to (option_map number result) (number before) ≤ b → HasLooked rule.now self.old a b
+            → HasLooked rule.now self.new a b }
     {
         let n = self.next_number(rule, number(rule.start), number(before))?;
         Some(local_of(n))

@@ -12,13 +12,10 @@ use Rattle.std.proofs.lemmas.Int.{ints}
 use Rattle.std.proofs.lemmas.List.Sorted.{IsPermutation-sym, answers_always, ranks_by}
 use denote.Param.Members.{Mut}
 use denote.Ref.{Bor}
-use Rattle.ics_calendar.specs.declared.event.Event.{Event}
 use Rattle.ics_series.specs.declared.start.Giver.{Giver}
 use Rattle.ics_series.specs.declared.start.Giver.TheVariants.{Kept, Listed}
 use Rattle.ics_series.specs.declared.start.Start.{Start}
-use Rattle.ics_series.specs.declared.window.Window.{Window}
-use Rattle.ics_series.specs.Clocks.{Clocks}
-use Rattle.ics_series.specs.Found.{day_in, firsts_after, giver_cmp, is_at, moment_cmp, part_of, place_in, start_by, start_cmp, AreStarts, HasStarts}
+use Rattle.ics_series.specs.Found.{day_in, firsts_after, giver_cmp, is_at, moment_cmp, part_of, place_in, start_cmp, AreFirsts}
 use Rattle.ics_series.specs.Listing.{IsIn}
 use Rattle.ics_series.specs.Rising.{IsBefore, Rises}
 use Rattle.ics_series.specs.Starts.{IsNotAfter}
@@ -45,12 +42,15 @@ up-to-back c d e h = subst (λ x. is_gt (ordering_then x d) ≡ false) e h
 pub same-moment : (s t : Start) → s.moment ≡ t.moment → moment_cmp s t ≡ Equal
 same-moment s t e = ap (int_cmp s.moment) (sym e) ∙ tied_itself int_cmp_total s.moment
 
+pub tied-moment : (s t : Start) → moment_cmp s t ≡ Equal → s.moment ≡ t.moment
+tied-moment s t e = subst (λ o. MatchOrdering o (s.moment <ℤ t.moment) (s.moment ≡ t.moment) (t.moment <ℤ s.moment)) e (int_ranks s.moment t.moment)
+
 int-up-to : (a b : ℤ) (c : Ordering) → int_cmp a b ≡ c → is_gt c ≡ false → (a ≡ b) ⊎ (int_cmp a b ≡ Less)
 int-up-to a b Less e g = inr e
 int-up-to a b Equal e g = inl (subst (λ o. MatchOrdering o (a <ℤ b) (a ≡ b) (b <ℤ a)) e (int_ranks a b))
 int-up-to a b Greater e g = let f : is_gt Greater ≡ false = g in absurd cc
 
-int-less : (a b : ℤ) → int_cmp a b ≡ Less → a <ℤ b
+pub int-less : (a b : ℤ) → int_cmp a b ≡ Less → a <ℤ b
 int-less a b e = subst (λ o. MatchOrdering o (a <ℤ b) (a ≡ b) (b <ℤ a)) e (int_ranks a b)
 
 nat-up-to : (a b : ℕ) (c : Ordering) → nat_cmp a b ≡ c → is_gt c ≡ false → a ≤ b
@@ -84,10 +84,10 @@ before-by : (x y : Start) (zs : List Start) → ((z : Start) → moment_cmp y z 
 before-by x y [] f h = tt
 before-by x y (z ∷ zs) f h = (f z h.0, before-by x y zs f h.1)
 
-eq-true : (a b : ℤ) → int_eq a b ≡ true → a ≡ b
+pub eq-true : (a b : ℤ) → int_eq a b ≡ true → a ≡ b
 eq-true a b e = grind (arith, ints)
 
-true-eq : (a b : ℤ) → a ≡ b → int_eq a b ≡ true
+pub true-eq : (a b : ℤ) → a ≡ b → int_eq a b ≡ true
 true-eq a b e = grind (arith, ints)
 
 -- The instants rise.
@@ -157,16 +157,15 @@ in-firsts last s (x ∷ xs) h m = in-firsts-by last x s xs (is_at last x.moment)
 in-all-firsts : (s : Start) (xs : List Start) → Climbs start_cmp xs → IsIn s xs → HasFirst (firsts_after None xs) s
 in-all-firsts s xs h m = ⊎_elim (λ f. let g : None ≡ Some s.moment = f in absurd cc) (λ k. k) (in-firsts None s xs h m)
 
--- starts in any order, sorted, and of each run the first
-pub first-starts : (clocks : Clocks) (event : Event) (w : Window) (xs ys : List Start) → HasStarts clocks event w xs → IsPermutation xs ys → Climbs start_cmp ys → AreStarts clocks event w (firsts_after None ys)
-first-starts clocks event w xs ys h p climbs = record {
+-- of starts in any order, sorted, the first of each run
+pub firsts-of : (xs ys : List Start) → IsPermutation xs ys → Climbs start_cmp ys → AreFirsts xs (firsts_after None ys)
+firsts-of xs ys p climbs = record {
   rises = rises-firsts ys (climbs-moments ys climbs);
-  are = λ t m. h.are t (in-permutation t ys xs (IsPermutation-sym xs ys p) (firsts-in None t ys m));
-  all = λ giver given g sought.
-      let s = start_by clocks giver given in
-      let f = in-all-firsts s ys climbs (in-permutation s xs ys p (h.all giver given g sought)) in
-      let back = up-to-back (moment_cmp f.first s) (giver_cmp f.first.giver giver) (same-moment f.first s f.same) f.earlier in
-      record { start = f.first; stands = f.stands; same = f.same; earlier = giver-order f.first.giver giver back };
+  are = λ t m. in-permutation t ys xs (IsPermutation-sym xs ys p) (firsts-in None t ys m);
+  all = λ s m.
+      let f = in-all-firsts s ys climbs (in-permutation s xs ys p m) in
+      let back = up-to-back (moment_cmp f.first s) (giver_cmp f.first.giver s.giver) (same-moment f.first s f.same) f.earlier in
+      record { start = f.first; stands = f.stands; same = f.same; earlier = giver-order f.first.giver s.giver back };
 }
 
 -- a list sorted by what compares so climbs

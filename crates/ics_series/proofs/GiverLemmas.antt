@@ -207,7 +207,7 @@ time-below zones first time (Floating local) h t = t
 time-below zones first time (Utc local) h t = t
 time-below zones first time (Zoned local) h t = t
 
-given-value : (first : Time) (s : Stamp) (r : Rdate) → IsTime first → IsRdate r → IsRdate (given_from first s r)
+pub given-value : (first : Time) (s : Stamp) (r : Rdate) → IsTime first → IsRdate r → IsRdate (given_from first s r)
 given-value first (Date day) r h v = date-time (time_of r) (rdate-time r v)
 given-value first (Floating local) (At time) h v = time-by first time time.stamp h v refl
 given-value first (Floating local) (Span start lasts) h v = v

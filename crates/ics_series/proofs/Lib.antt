@@ -1,5 +1,7 @@
+pub mod AfterKeyLemmas
 pub mod AfterLemmas
 pub mod AgendaLemmas
+pub mod BeginsLemmas
 pub mod DayLemmas
 mod Examples
 pub mod ExclusionLemmas
@@ -8,28 +10,58 @@ pub mod FirstLemmas
 pub mod FoundLemmas
 pub mod GivenLemmas
 pub mod GiverLemmas
+pub mod HeldLemmas
+mod HeldMostExamples
+pub mod HeldMostLaws
+pub mod HeldMostLemmas
+pub mod HoldingLaws
 pub mod InstantLemmas
 pub mod KeptLemmas
 pub mod LabelLemmas
+pub mod LeadLemmas
+pub mod LeftLemmas
 pub mod ListedLemmas
 pub mod ListingLemmas
 pub mod MasterLemmas
 pub mod MeetingLemmas
+pub mod MergedMembers
 pub mod MetLemmas
-pub mod MovedLemmas
 pub mod NameLemmas
 pub mod NearLemmas
 pub mod OccursLemmas
+pub mod OverriddenLemmas
 mod OverrideExamples
 pub mod OverrideLemmas
+pub mod OwnRuleLemmas
+pub mod PartLemmas
+pub mod PeriodCountLemmas
+pub mod PickLemmas
 pub mod PlacedLemmas
+pub mod PushLemmas
 pub mod PutLemmas
+pub mod PutMemberLemmas
 pub mod ReachLemmas
+pub mod RecurringLemmas
+pub mod RuleDayLemmas
+pub mod RuleLawLemmas
+pub mod RuleLocalLemmas
+pub mod RuleReadLemmas
+mod RuleStartExamples
+pub mod RuleStartLemmas
+pub mod RuleStepLemmas
+pub mod SeriesLemmas
+pub mod SinceLemmas
+pub mod SingleLemmas
+pub mod SinglesLemmas
 pub mod SortLemmas
 pub mod SoughtLemmas
 pub mod SpotLemmas
 pub mod StartLaws
+pub mod StepsLaws
 pub mod ToComeLemmas
 pub mod TokenLemmas
+pub mod TournamentLemmas
+pub mod UnionLemmas
 pub mod VersionLemmas
+pub mod WholeLemmas
 pub mod ZoneLemmas

@@ -29,7 +29,7 @@ module _ {A : Type 0} (R : A → A → Ordering) (o : IsTotalOrder R) where
   tail-in x y e xs ys s h m n =
       ⊎_elim (λ p. absurd (not-less-itself x (ap (R x) (s ∙ sym p) ∙ before-in x e xs h m))) (λ k. k) n
 
-  one-rising : (xs ys : List A) → Rises R xs → Rises R ys → ((e : A) → IsIn e xs → IsIn e ys) → ((e : A) → IsIn e ys → IsIn e xs) → xs ≡ ys
+  pub one-rising : (xs ys : List A) → Rises R xs → Rises R ys → ((e : A) → IsIn e xs → IsIn e ys) → ((e : A) → IsIn e ys → IsIn e xs) → xs ≡ ys
   one-rising [] [] h k f g = refl
   one-rising [] (y ∷ ys) h k f g = absurd (g y (inl refl))
   one-rising (x ∷ xs) [] h k f g = absurd (f x (inl refl))

@@ -16,7 +16,7 @@ both : (a b : Bool) → (a && b) ≡ true → (a ≡ true) × (b ≡ true)
 both true b e = (refl, e)
 both false b e = let f : false ≡ true = e in absurd cc
 
-both-back : (a b : Bool) → a ≡ true → b ≡ true → (a && b) ≡ true
+pub both-back : (a b : Bool) → a ≡ true → b ≡ true → (a && b) ≡ true
 both-back true b e f = f
 both-back false b e f = e
 
@@ -40,10 +40,10 @@ by-not-or : (a b : Bool) → (not a || b) ≡ true → a ≡ true → b ≡ true
 by-not-or true b h e = h
 by-not-or false b h e = let f : false ≡ true = e in absurd cc
 
-less-true : (a b : ℤ) → int_lt a b ≡ true → a <ℤ b
+pub less-true : (a b : ℤ) → int_lt a b ≡ true → a <ℤ b
 less-true a b e = grind (arith, ints)
 
-true-less : (a b : ℤ) → a <ℤ b → int_lt a b ≡ true
+pub true-less : (a b : ℤ) → a <ℤ b → int_lt a b ≡ true
 true-less a b e = grind (arith, ints)
 
 pub le-true : (a b : ℤ) → int_le a b ≡ true → a ≤ℤ b
@@ -55,13 +55,13 @@ not-le a b e = grind (arith, ints)
 pub less-le : (a b : ℤ) → b <ℤ a → int_le a b ≡ false
 less-le a b e = grind (arith, ints)
 
-true-le : (a b : ℤ) → a ≤ℤ b → int_le a b ≡ true
+pub true-le : (a b : ℤ) → a ≤ℤ b → int_le a b ≡ true
 true-le a b e = grind (arith, ints)
 
-equal-true : (a b : ℤ) → int_eq a b ≡ true → a ≡ b
+pub equal-true : (a b : ℤ) → int_eq a b ≡ true → a ≡ b
 equal-true a b e = grind (arith, ints)
 
-true-equal : (a b : ℤ) → a ≡ b → int_eq a b ≡ true
+pub true-equal : (a b : ℤ) → a ≡ b → int_eq a b ≡ true
 true-equal a b e = grind (arith, ints)
 
 pub is_met-meets : (w : Window) (o : Entry) → is_met w o ≡ true → Meets w o

@@ -1,11 +1,9 @@
 -- The occurrences of one event that meet a window.
 use Rattle.std.specs.Prelude.{◌≤ℤ◌, ◌&&◌, not, if◌then◌else◌}
-use Rattle.std.proofs.Common.{◌≡◌, ℕ, ◌≤◌, pos, ◌+ℤ◌, List, [], ◌∷◌, ◌++◌, length, drop, Some, None, inl, inr, ⊎_elim, Bool, true, false, refl, sym, ◌∙◌, ap, subst, arith}
+use Rattle.std.proofs.Common.{◌≡◌, ℤ, pos, ◌+ℤ◌, List, [], ◌∷◌, Some, None, inl, inr, ⊎_elim, Bool, true, false, refl, sym, ◌∙◌, ap, subst, arith}
 use Rattle.std.specs.List.{cons_option, filter_map}
 use Rattle.std.specs.declared.cmp.Ordering.TheVariants.{Less}
 use Rattle.std.proofs.lemmas.Int.{ints}
-use Rattle.std.proofs.Math.ListN.{drop_of_length-le}
-use Rattle.std.proofs.lemmas.List.{append-nil}
 use Rattle.std.specs.Ordering.{int_cmp}
 use Rattle.ics_series.specs.declared.zones.FileZones.{FileZones}
 use Rattle.ics_calendar.specs.Event.{IsTime}
@@ -17,12 +15,12 @@ use Rattle.ics_series.specs.declared.window.Window.{Window}
 use Rattle.ics_series.specs.Clocks.{Clocks, instant, written}
 use Rattle.ics_series.specs.Entry.{Entry}
 use Rattle.ics_series.specs.Exclusions.{is_excluded}
-use Rattle.ics_series.specs.Found.{is_shown, met_by, moment_cmp, shown_by, AreStarts, IsSought, IsStart}
+use Rattle.ics_series.specs.Found.{is_shown, met_by, moment_cmp, shown_by, HasStart, IsSought, IsStart}
 use Rattle.ics_series.specs.Listing.{IsIn, IsListing}
 use Rattle.ics_series.specs.Rising.{IsBefore, Rises}
 use Rattle.ics_series.specs.Meeting.{entry_from, is_met}
 use Rattle.ics_series.specs.Meets.{Meets}
-use Rattle.ics_series.specs.MetList.{entry_start_cmp, IsEventMet, IsLengthened}
+use Rattle.ics_series.specs.MetList.{entry_start_cmp, IsEventMet}
 use Rattle.ics_series.specs.Starts.{time_of, GivesStart, IsNotAfter}
 use Rattle.ics_series.specs.Zones.{clocks_in}
 use Rattle.ics_series.proofs.FirstLemmas.{moment_total, same-moment}
@@ -30,7 +28,7 @@ use Rattle.ics_series.proofs.GiverLemmas.{same-first}
 use Rattle.ics_series.proofs.InstantLemmas.{instant-near}
 use Rattle.ics_series.proofs.ListingLemmas.{before-in}
 use Rattle.ics_series.proofs.MasterLemmas.{same-entry}
-use Rattle.ics_series.proofs.MeetingLemmas.{met-shown, shown-met}
+use Rattle.ics_series.proofs.MeetingLemmas.{shown-met}
 use Rattle.ics_series.proofs.StartLaws.{giver-late}
 
 -- Whether the occurrence with a start is shown.
@@ -71,7 +69,12 @@ module _ (clocks : Clocks) (w : Window) (event : Event) (s : Start) where
       by true true e f = let g : true ≡ false = f in absurd cc
       by false c e f = let g : false ≡ true = e in absurd cc
 
--- the occurrences with these starts that are shown
+-- those of the occurrences with these starts that pass a test
+abbrev pub picked : Clocks → Event → (Entry → Bool) → List Start → List Entry
+picked clocks event test starts =
+    filter_map (λ s. if test (entry_from clocks event s.given) then Some (entry_from clocks event s.given) else None) starts
+
+-- those that are shown
 abbrev pub met : Clocks → Window → Event → List Start → List Entry
 met clocks w event starts = filter_map (shown_by clocks w event) starts
 
@@ -87,7 +90,7 @@ one-of-tied x y (z ∷ zs) r m n e =
     untied : (s t : Start) → moment_cmp s t ≡ Less → s.moment ≡ t.moment → ⊥
     untied s t l f = let q = same-moment s t f in cc
 
-module _ (clocks : Clocks) (w : Window) (event : Event) where
+module _ (clocks : Clocks) (event : Event) (test : Entry → Bool) where
   -- the occurrence with a start
   own : Start → Entry
   own s = entry_from clocks event s.given
@@ -96,11 +99,11 @@ module _ (clocks : Clocks) (w : Window) (event : Event) where
   added true s es = own s ∷ es
   added false s es = es
 
-  met-cons : (s : Start) (ss : List Start) → met clocks w event (s ∷ ss) ≡ added (is_shown clocks w event (own s)) s (met clocks w event ss)
+  picked-cons : (s : Start) (ss : List Start) → picked clocks event test (s ∷ ss) ≡ added (test (own s)) s (picked clocks event test ss)
   unfolding own added
-  met-cons s ss = by (is_shown clocks w event (own s))
+  picked-cons s ss = by (test (own s))
     where
-      by : (b : Bool) → cons_option (if b then Some (own s) else None) (met clocks w event ss) ≡ added b s (met clocks w event ss)
+      by : (b : Bool) → cons_option (if b then Some (own s) else None) (picked clocks event test ss) ≡ added b s (picked clocks event test ss)
       by true = refl
       by false = refl
 
@@ -117,61 +120,75 @@ module _ (clocks : Clocks) (w : Window) (event : Event) where
   before-added true x s es l h = (l, h)
   before-added false x s es l h = h
 
-  before-met : (x : Start) (ss : List Start) → IsStart clocks event x → AreOwn ss → IsBefore moment_cmp x ss → IsBefore entry_start_cmp (own x) (met clocks w event ss)
-  before-met x [] a o h = tt
-  before-met x (s ∷ ss) a o h =
-      subst (IsBefore entry_start_cmp (own x)) (sym (met-cons s ss))
-      (before-added (is_shown clocks w event (own s)) x s (met clocks w event ss) (own-less x s a (o s (inl refl)) h.0) (before-met x ss a (λ t m. o t (inr m)) h.1))
+  before-picked : (x : Start) (ss : List Start) → IsStart clocks event x → AreOwn ss → IsBefore moment_cmp x ss → IsBefore entry_start_cmp (own x) (picked clocks event test ss)
+  before-picked x [] a o h = tt
+  before-picked x (s ∷ ss) a o h =
+      subst (IsBefore entry_start_cmp (own x)) (sym (picked-cons s ss))
+      (before-added (test (own s)) x s (picked clocks event test ss) (own-less x s a (o s (inl refl)) h.0) (before-picked x ss a (λ t m. o t (inr m)) h.1))
 
   rises-added : (b : Bool) (s : Start) (es : List Entry) → IsBefore entry_start_cmp (own s) es → Rises entry_start_cmp es → Rises entry_start_cmp (added b s es)
   unfolding added
   rises-added true s es h r = (h, r)
   rises-added false s es h r = r
 
-  rises-met : (ss : List Start) → AreOwn ss → Rises moment_cmp ss → Rises entry_start_cmp (met clocks w event ss)
-  rises-met [] o h = tt
-  rises-met (s ∷ ss) o h =
-      subst (Rises entry_start_cmp) (sym (met-cons s ss))
-      (rises-added (is_shown clocks w event (own s)) s (met clocks w event ss) (before-met s ss (o s (inl refl)) (λ t m. o t (inr m)) h.0) (rises-met ss (λ t m. o t (inr m)) h.1))
+  rises-picked : (ss : List Start) → AreOwn ss → Rises moment_cmp ss → Rises entry_start_cmp (picked clocks event test ss)
+  rises-picked [] o h = tt
+  rises-picked (s ∷ ss) o h =
+      subst (Rises entry_start_cmp) (sym (picked-cons s ss))
+      (rises-added (test (own s)) s (picked clocks event test ss) (before-picked s ss (o s (inl refl)) (λ t m. o t (inr m)) h.0) (rises-picked ss (λ t m. o t (inr m)) h.1))
 
-  -- The members: e has one of these starts, and is shown.
-  record IsMetOf (ss : List Start) (e : Entry) : Type 0 where
-    start : Start
-    stands : IsIn start ss
-    is : e ≡ own start
-    met : is_shown clocks w event e ≡ true
+  -- The members: e has one of these starts, and passes.
+  pub record IsPicked (ss : List Start) (e : Entry) : Type 0 where
+    pub start : Start
+    pub stands : IsIn start ss
+    pub is : e ≡ entry_from clocks event start.given
+    pub passes : test e ≡ true
 
-  in-added : (b : Bool) (s : Start) (ss : List Start) (es : List Entry) (e : Entry) → is_shown clocks w event (own s) ≡ b → (IsIn e es → IsMetOf ss e) → IsIn e (added b s es) → IsMetOf (s ∷ ss) e
-  unfolding added
+  in-added : (b : Bool) (s : Start) (ss : List Start) (es : List Entry) (e : Entry) → test (own s) ≡ b → (IsIn e es → IsPicked ss e) → IsIn e (added b s es) → IsPicked (s ∷ ss) e
+  unfolding own added
   in-added true s ss es e t ih m =
-      ⊎_elim (λ a. record { start = s; stands = inl refl; is = a; met = ap (is_shown clocks w event) a ∙ t })
-      (λ n. let k = ih n in record { start = k.start; stands = inr k.stands; is = k.is; met = k.met }) m
-  in-added false s ss es e t ih m = let k = ih m in record { start = k.start; stands = inr k.stands; is = k.is; met = k.met }
+      ⊎_elim (λ a. record { start = s; stands = inl refl; is = a; passes = ap test a ∙ t })
+      (λ n. let k = ih n in record { start = k.start; stands = inr k.stands; is = k.is; passes = k.passes }) m
+  in-added false s ss es e t ih m = let k = ih m in record { start = k.start; stands = inr k.stands; is = k.is; passes = k.passes }
 
-  in-met : (ss : List Start) (e : Entry) → IsIn e (met clocks w event ss) → IsMetOf ss e
-  in-met [] e m = absurd m
-  in-met (s ∷ ss) e m = in-added (is_shown clocks w event (own s)) s ss (met clocks w event ss) e refl (in-met ss e) (subst (IsIn e) (met-cons s ss) m)
+  pub in-picked : (ss : List Start) (e : Entry) → IsIn e (picked clocks event test ss) → IsPicked ss e
+  in-picked [] e m = absurd m
+  in-picked (s ∷ ss) e m = in-added (test (own s)) s ss (picked clocks event test ss) e refl (in-picked ss e) (subst (IsIn e) (picked-cons s ss) m)
 
-  added-in : (b : Bool) (s t : Start) (ss : List Start) (es : List Entry) → is_shown clocks w event (own s) ≡ b → is_shown clocks w event (own t) ≡ true → (IsIn t ss → IsIn (own t) es) → IsIn t (s ∷ ss) → IsIn (own t) (added b s es)
+  added-in : (b : Bool) (s t : Start) (ss : List Start) (es : List Entry) → test (own s) ≡ b → test (own t) ≡ true → (IsIn t ss → IsIn (own t) es) → IsIn t (s ∷ ss) → IsIn (own t) (added b s es)
   unfolding added
   added-in true s t ss es e u ih m = ⊎_elim (λ a. inl (ap own a)) (λ n. inr (ih n)) m
-  added-in false s t ss es e u ih m = ⊎_elim (λ a. let f : true ≡ false = sym u ∙ (ap (λ x. is_shown clocks w event (own x)) a ∙ e) in absurd cc) ih m
+  added-in false s t ss es e u ih m = ⊎_elim (λ a. let f : true ≡ false = sym u ∙ (ap (λ x. test (own x)) a ∙ e) in absurd cc) ih m
 
-  met-in : (t : Start) (ss : List Start) → is_shown clocks w event (own t) ≡ true → IsIn t ss → IsIn (own t) (met clocks w event ss)
-  met-in t [] u m = absurd m
-  met-in t (s ∷ ss) u m =
-      subst (IsIn (own t)) (sym (met-cons s ss)) (added-in (is_shown clocks w event (own s)) s t ss (met clocks w event ss) refl u (met-in t ss u) m)
+  picked-in : (t : Start) (ss : List Start) → test (own t) ≡ true → IsIn t ss → IsIn (own t) (picked clocks event test ss)
+  picked-in t [] u m = absurd m
+  picked-in t (s ∷ ss) u m =
+      subst (IsIn (own t)) (sym (picked-cons s ss)) (added-in (test (own s)) s t ss (picked clocks event test ss) refl u (picked-in t ss u) m)
 
--- Found starts give the occurrences.
-module _ (clocks : Clocks) (w : Window) (event : Event) (starts : List Start) (h : AreStarts clocks event w starts) where
+  -- they are what P holds of, if it holds exactly of those that pass
+  pub listing-picked : (P : Entry → Type 0) (ss : List Start) → Rises moment_cmp ss → ((s : Start) → IsIn s ss → IsStart clocks event s)
+      → ((s : Start) → IsIn s ss → test (entry_from clocks event s.given) ≡ true → P (entry_from clocks event s.given)) → ((e : Entry) → P e → IsPicked ss e)
+      → IsListing entry_start_cmp P (picked clocks event test ss)
+  unfolding own
+  listing-picked P ss r o f g = record {
+    rises = rises-picked ss o r;
+    exact = λ e. (
+      λ m. let k = in-picked ss e m in subst P (sym k.is) (f k.start k.stands (ap test (sym k.is) ∙ k.passes)),
+      λ p. let k = g e p in subst (λ x. IsIn x (picked clocks event test ss)) (sym k.is) (picked-in k.start ss (ap test (sym k.is) ∙ k.passes) k.stands),
+    );
+  }
+
+-- Found starts give the occurrences: here those that are sought at the instants that count.
+module _ (clocks : Clocks) (w : Window) (event : Event) (starts : List Start) (Counts : ℤ → Type 0) (rises : Rises moment_cmp starts) (are : (s : Start) → IsIn s starts → IsStart clocks event s)
+    (all : (giver : Giver) (given : Rdate) → GivesStart clocks event giver given → IsSought clocks event w (instant clocks (time_of given)) → Counts (instant clocks (time_of given)) → HasStart starts giver (instant clocks (time_of given))) where
   -- a start from which the event meets the window is sought
   own-sought : (giver : Giver) (given : Rdate) → GivesStart clocks event giver given → Meets w (entry_from clocks event given) → IsSought clocks event w (instant clocks (time_of given))
   own-sought giver given g m = record { giver = giver; given = given; gives = g; starts = refl; meets = m }
 
   -- a start that is shown is given by the first to do so
-  found-is : (s : Start) → IsIn s starts → is_shown clocks w event (entry_from clocks event s.given) ≡ true → IsEventMet clocks event w (entry_from clocks event s.given)
-  found-is s m t =
-      let start = h.are s m in
+  pub found-is : (s : Start) → IsIn s starts → is_shown clocks w event (entry_from clocks event s.given) ≡ true → Counts (instant clocks (time_of s.given)) → IsEventMet clocks event w (entry_from clocks event s.given)
+  found-is s m t counts =
+      let start = are s m in
       let shown = shown-met clocks w event (entry_from clocks event s.given) t in
       let sought = own-sought s.giver s.given start.gives shown.0 in (
         record {
@@ -183,8 +200,8 @@ module _ (clocks : Clocks) (w : Window) (event : Event) (starts : List Start) (h
             gives = start.gives;
             starts = refl;
             earliest = λ other value g e.
-                let found = h.all other value g (subst (IsSought clocks event w) (sym e) sought) in
-                let same : found.start ≡ s = one-of-tied found.start s starts h.rises found.stands m (found.same ∙ (e ∙ sym start.moment)) in
+                let found = all other value g (subst (IsSought clocks event w) (sym e) sought) (subst Counts (sym e) counts) in
+                let same : found.start ≡ s = one-of-tied found.start s starts rises found.stands m (found.same ∙ (e ∙ sym start.moment)) in
                 subst (λ x. IsNotAfter x.giver other) same found.earlier;
             ends = refl;
             stays = shown.1;
@@ -194,48 +211,19 @@ module _ (clocks : Clocks) (w : Window) (event : Event) (starts : List Start) (h
       )
 
   -- an occurrence that meets the window has a start that was found
-  is-found : (e : Entry) → IsEventMet clocks event w e → (s : Start) × IsIn s starts × (e ≡ entry_from clocks event s.given)
-  is-found e o =
+  pub is-found : (e : Entry) → IsEventMet clocks event w e → Counts e.start → (s : Start) × IsIn s starts × (e ≡ entry_from clocks event s.given)
+  is-found e o counts =
       let of = o.0.lasts in
       let by : e ≡ entry_from clocks event of.given = same-entry e (entry_from clocks event of.given) of.starts of.ends (o.0.recurrence ∙ of.starts) o.0.event in
-      let found = h.all of.giver of.given of.gives (own-sought of.giver of.given of.gives (subst (Meets w) by o.1)) in
-      let start = h.are found.start found.stands in
+      let found = all of.giver of.given of.gives (own-sought of.giver of.given of.gives (subst (Meets w) by o.1)) (subst Counts of.starts counts) in
+      let start = are found.start found.stands in
       let above = of.earliest found.start.giver found.start.given start.gives (sym start.moment ∙ (found.same ∙ sym of.starts)) in
       (found.start, found.stands, by ∙ ap (entry_from clocks event) (same-first clocks event of.giver found.start.giver of.given found.start.given of.gives start.gives above found.earlier))
 
-  pub met-listing : IsListing entry_start_cmp (IsEventMet clocks event w) (met clocks w event starts)
-  unfolding own
-  met-listing = record {
-    rises = rises-met clocks w event starts h.are h.rises;
-    exact = λ e. (
-      λ m. let k = in-met clocks w event starts e m in
-          subst (IsEventMet clocks event w) (sym k.is) (found-is k.start k.stands (ap (is_shown clocks w event) (sym k.is) ∙ k.met)),
-      λ o. let k = is-found e o in
-          subst (λ x. IsIn x (met clocks w event starts)) (sym k.2)
-          (met-in clocks w event k.0 starts (ap (is_shown clocks w event) (sym k.2) ∙ met-shown clocks w event e o.1 o.0.lasts.stays) k.1),
-    );
-  }
-
--- The loop over the starts.
-pub lengthened : (clocks : Clocks) (w : Window) (event : Event) (starts : List Start) (before after : List Entry) (i : ℕ) → AreStarts clocks event w starts → length starts ≤ i
-    → after ++ met clocks w event (drop i starts) ≡ before ++ met clocks w event starts → IsLengthened clocks event w before after
-lengthened clocks w event starts before after i h l e = record {
-  more = met clocks w event starts;
-  are = met-listing clocks w event starts h;
-  behind = sym (sym e ∙ (ap (λ s. after ++ met clocks w event s) (drop_of_length-le starts l) ∙ append-nil after));
-}
-
 -- An event without RDATEs whose DTSTART is written two days or more past the window's end.
-pub none-met : (zones : FileZones) (w : Window) (event : Event) (entries : List Entry) → IsTime event.start → event.rdates ≡ [] → (w.to +ℤ pos 172_800) ≤ℤ written event.start.stamp
-    → IsLengthened (clocks_in zones) event w entries entries
-none-met zones w event entries time none late = record {
-  more = [];
-  are = record { rises = tt; exact = λ e. (λ m. absurd m, λ o. begins-later e o) };
-  behind = sym (append-nil entries);
-}
-  where
-    begins-later : (e : Entry) → IsEventMet (clocks_in zones) event w e → ⊥
-    begins-later e o =
-        let given = o.0.lasts.given in
-        let not-before = giver-late (clocks_in zones) event time o.0.lasts.giver given none o.0.lasts.gives in
-        omega (arith, ints, o.0.lasts.starts, o.1.begun, instant-near zones (time_of given), not-before, late)
+pub begins-later : (zones : FileZones) (w : Window) (event : Event) → IsTime event.start → event.rdates ≡ [] → (w.to +ℤ pos 172_800) ≤ℤ written event.start.stamp
+    → (e : Entry) → IsEventMet (clocks_in zones) event w e → ⊥
+begins-later zones w event time none late e o =
+    let given = o.0.lasts.given in
+    let not-before = giver-late (clocks_in zones) event time o.0.lasts.giver given none o.0.lasts.gives in
+    omega (arith, ints, o.0.lasts.starts, o.1.begun, instant-near zones (time_of given), not-before, late)

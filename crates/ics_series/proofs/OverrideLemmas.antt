@@ -50,7 +50,7 @@ module _ {A : Type 0} (R : A → A → Ordering) (o : IsTotalOrder R) where
   rises-at (x ∷ xs) (suc i) zero d h a b = absurd (omega (arith, a))
   rises-at (x ∷ xs) (suc i) (suc j) d h a b = rises-at xs i j d h.1 (omega arith) (omega arith)
 
-  rises-sorted : (xs : List A) → Rises R xs → IsSorted R xs
+  pub rises-sorted : (xs : List A) → Rises R xs → IsSorted R xs
   rises-sorted xs h = λ k d a b.
       let less = rises-at xs k (k + 1) d h (omega arith) b in
       ap is_lt (o.antisymm (get_or xs (k + 1) d) (get_or xs k d) ∙ ap ordering_reverse less)
@@ -68,14 +68,14 @@ module _ {A B : Type 0} (f : A → B) (R : B → B → Ordering) where
   map-before x [] h = tt
   map-before x (y ∷ ys) h = (h.0, map-before x ys h.1)
 
-  map-rises : (xs : List A) → Rises R (map f xs) → Rises (on f R) xs
+  pub map-rises : (xs : List A) → Rises R (map f xs) → Rises (on f R) xs
   map-rises [] h = tt
   map-rises (x ∷ xs) h = (map-before x xs h.0, map-rises xs h.1)
 
 abbrev label_subject_cmp : Label → Label → Ordering
 label_subject_cmp = on (λ l. l.subject) subject_cmp
 
-chosen-rises : (files : List FileSaid) (display : Clock) (vs : List Version) → AreChosen files display vs → Rises label_subject_cmp (map seen vs)
+pub chosen-rises : (files : List FileSaid) (display : Clock) (vs : List Version) → AreChosen files display vs → Rises label_subject_cmp (map seen vs)
 chosen-rises files display vs h = subst (Rises label_subject_cmp) (sym h.are) (rises-map (label_of files display) label_subject_cmp h.chosen h.listing.rises)
 
 -- The overrides among them.

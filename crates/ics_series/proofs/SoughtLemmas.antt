@@ -1,10 +1,8 @@
 -- The starts that are sought are among those that are found.
 use Rattle.std.specs.Prelude.{slice_get}
 use Rattle.std.proofs.Common.{◌≡◌, ℕ, suc, ◌+◌, ◌<◌, ℤ, pos, ◌+ℤ◌, ◌-ℤ◌, ◌<ℤ◌, ◌≤ℤ◌, List, [], ◌∷◌, length, get_or, drop, add-one, Bool, true, false, Some, None, option_map, inl, inr, ⊎_elim, refl, sym, ◌∙◌, ap, subst, arith}
-use Rattle.std.specs.Int.{int_max}
 use Rattle.std.proofs.Math.Seq.{drop-cons}
-use Rattle.std.proofs.lemmas.Int.{int_max_is, int_min_is, ints}
-use Rattle.ics_values.specs.declared.local.Local.{Local}
+use Rattle.std.proofs.lemmas.Int.{int_min_is, ints}
 use Rattle.ics_calendar.specs.declared.event.Event.{Event}
 use Rattle.ics_calendar.specs.declared.time.Rdate.{Rdate}
 use Rattle.ics_calendar.specs.declared.time.Rdate.TheVariants.{At, Span}
@@ -13,20 +11,19 @@ use Rattle.ics_series.specs.declared.start.Giver.TheVariants.{Kept, Listed}
 use Rattle.ics_series.specs.declared.start.Start.{Start}
 use Rattle.ics_series.specs.declared.window.Window.{Window}
 use Rattle.ics_series.specs.declared.zones.FileZones.{FileZones}
-use Rattle.ics_series.specs.Clocks.{Clocks, instant, seconds_of, written}
+use Rattle.ics_series.specs.Clocks.{Clocks, instant, written}
 use Rattle.ics_series.specs.Finish.{seconds_lasting}
-use Rattle.ics_series.specs.Found.{earlier, earliest, earliest_from, is_span_met, listed_from, start_at, start_by, HasRuleStarts, HasStarts, IsSought, IsStart}
+use Rattle.ics_series.specs.Found.{earlier, earliest, earliest_from, is_span_met, listed_from, start_at, start_by, HasStarts, IsSought, IsStart}
 use Rattle.ics_series.specs.Listing.{IsIn}
 use Rattle.ics_series.specs.Meeting.{entry_from}
 use Rattle.ics_series.specs.Meets.{Meets}
-use Rattle.ics_series.specs.Starts.{given_by, local_of, recurrence_by, time_at, time_of, GivesStart, IsRuleStart}
+use Rattle.ics_series.specs.Starts.{given_by, local_of, recurrence_by, time_at, time_of, GivesStart}
 use Rattle.ics_series.specs.Zones.{clocks_in, is_past, IsReadableEvent}
-use Rattle.ics_series.proofs.GiverLemmas.{gives-value, written-at}
+use Rattle.ics_series.proofs.GiverLemmas.{gives-value}
 use Rattle.ics_series.proofs.InstantLemmas.{instant-near}
 use Rattle.ics_series.proofs.ListedLemmas.{in-listed, listed-in}
 use Rattle.ics_series.proofs.MeetingLemmas.{less-le, meets-is_met}
 use Rattle.ics_series.proofs.NearLemmas.{meets-late}
-use Rattle.ics_series.proofs.StartLaws.{kept-first}
 
 -- From where on the rule is asked.
 earlier-most : (b : Bool) (least t : ℤ) → earlier b least t ≤ℤ least
@@ -84,7 +81,7 @@ module _ (zones : FileZones) (w : Window) (event : Event) (readable : IsReadable
       start-is s (Listed (0 + k.index)) (given_by event.start k.rdate) (k.rdate, subst (λ i. slice_get event.rdates i ≡ Some k.rdate) (omega arith) k.stands, refl) k.is)
       m
 
-  listed-there : (place : ℕ) (given : Rdate) → GivesStart (clocks_in zones) event (Listed place) given → instant (clocks_in zones) (time_of given) <ℤ w.to → IsIn (start_by (clocks_in zones) (Listed place) given) (front (clocks_in zones) w event)
+  pub listed-there : (place : ℕ) (given : Rdate) → GivesStart (clocks_in zones) event (Listed place) given → instant (clocks_in zones) (time_of given) <ℤ w.to → IsIn (start_by (clocks_in zones) (Listed place) given) (front (clocks_in zones) w event)
   listed-there place given g early =
       let time = time_of (given_by event.start g.0) in
       let same = ap (λ x. instant (clocks_in zones) (time_of x)) g.2 in
@@ -93,11 +90,11 @@ module _ (zones : FileZones) (w : Window) (event : Event) (readable : IsReadable
       inr (subst (λ s. IsIn s (listed_from (clocks_in zones) w event.start 0 event.rdates))
       (ap (λ n. start_by (clocks_in zones) (Listed n) (given_by event.start g.0)) (omega arith) ∙ ap (start_by (clocks_in zones) (Listed place)) (sym g.2)) there)
 
-  sought-early : (t : ℤ) → IsSought (clocks_in zones) event w t → t <ℤ w.to
+  pub sought-early : (t : ℤ) → IsSought (clocks_in zones) event w t → t <ℤ w.to
   sought-early t s = omega (arith, ints, s.starts, s.meets.begun)
 
   -- what is sought begins at most four days before what counts first
-  sought-late : (t : ℤ) → IsSought (clocks_in zones) event w t → (earliest (clocks_in zones) w event (front (clocks_in zones) w event) -ℤ pos 345_600) ≤ℤ t
+  pub sought-late : (t : ℤ) → IsSought (clocks_in zones) event w t → (earliest (clocks_in zones) w event (front (clocks_in zones) w event) -ℤ pos 345_600) ≤ℤ t
   sought-late t s = by s.giver s.given s.gives s.starts s.meets
     where
       by : (giver : Giver) (given : Rdate) → GivesStart (clocks_in zones) event giver given → instant (clocks_in zones) (time_of given) ≡ t → Meets w (entry_from (clocks_in zones) event given)
@@ -122,30 +119,3 @@ module _ (zones : FileZones) (w : Window) (event : Event) (readable : IsReadable
           (λ r. let f : None ≡ Some r.rule = ap (option_map (recurrence_by event.start.stamp)) (sym none) ∙ r.has in absurd cc)
           g.0
       all (Listed place) given g s = listed-there place given g (sought-early (instant (clocks_in zones) (time_of given)) s)
-
-  -- the rule adds its own
-  pub with-rule : (from : Local) (starts : List Start) → seconds_of from ≤ℤ int_max (seconds_of (local_of event.start.stamp)) (earliest (clocks_in zones) w event (front (clocks_in zones) w event) -ℤ pos 604_800)
-      → HasRuleStarts (clocks_in zones) event w from (front (clocks_in zones) w event) starts → HasStarts (clocks_in zones) event w starts
-  with-rule from starts low h = record { are = λ s m. ⊎_elim (front-are s) (λ k. k) (h.are s m); all = all }
-    where
-      ruled : (local : Local) (given : Rdate) → IsRuleStart (clocks_in zones) event local → given ≡ At (time_at event.start local) → IsSought (clocks_in zones) event w (instant (clocks_in zones) (time_of given))
-          → IsIn (start_by (clocks_in zones) (Kept local) given) starts
-      ruled local given r e s =
-          let time = time_at event.start local in
-          let same = ap (λ x. instant (clocks_in zones) (time_of x)) e in
-          let late = sought-late (instant (clocks_in zones) (time_of given)) s in
-          let early = sought-early (instant (clocks_in zones) (time_of given)) s in
-          let near = instant-near zones time in
-          let at = written-at event.start.stamp local in
-          let first = kept-first (clocks_in zones) event readable.is_event.start local (inr r) in
-          subst (λ x. IsIn (start_by (clocks_in zones) (Kept local) x) starts) (sym e)
-          (h.all local r (omega (arith, ints, low, same, late, near, at.0, at.1, first, int_max_is (seconds_of (local_of event.start.stamp)) (earliest (clocks_in zones) w event (front (clocks_in zones) w event) -ℤ pos 604_800)))
-          (omega (arith, ints, same, early, near, at.0, at.1)))
-
-      all : (giver : Giver) (given : Rdate) → GivesStart (clocks_in zones) event giver given → IsSought (clocks_in zones) event w (instant (clocks_in zones) (time_of given)) → IsIn (start_by (clocks_in zones) giver given) starts
-      all (Kept local) given g s =
-          ⊎_elim
-          (λ e. h.stay (start_by (clocks_in zones) (Kept local) given) (inl (ap (start_by (clocks_in zones) (Kept local)) g.1 ∙ ap (start_at (clocks_in zones) event) e)))
-          (λ r. ruled local given r g.1 s)
-          g.0
-      all (Listed place) given g s = h.stay (start_by (clocks_in zones) (Listed place) given) (listed-there place given g (sought-early (instant (clocks_in zones) (time_of given)) s))

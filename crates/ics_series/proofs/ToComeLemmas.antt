@@ -1,7 +1,6 @@
 -- What is left of the occurrences that are given: those for which no override stands, after a key.
 use Rattle.std.specs.Prelude.{is_some, not}
 use Rattle.std.proofs.Common.{◌≡◌, ◌&&◌, ◌||◌, List, map, inl, inr, ⊎_elim, Option, Some, None, Bool, true, false, refl, sym, ◌∙◌, ap, subst}
-use Rattle.std.specs.List.{filter}
 use Rattle.std.specs.Option.{option_map}
 use Rattle.std.specs.Ordering.{is_lt}
 use Rattle.std.specs.declared.cmp.Ordering.{Ordering}
@@ -14,14 +13,12 @@ use Rattle.ics_series.specs.declared.window.Window.{Window}
 use Rattle.ics_series.specs.Chosen.{IsOverridden}
 use Rattle.ics_series.specs.Clocks.{Clock, instant}
 use Rattle.ics_series.specs.Entry.{Entry, Rank, rank_cmp, rank_of}
-use Rattle.ics_series.specs.Listing.{IsListing}
 use Rattle.ics_series.specs.Meets.{Meets, IsListed, IsToCome}
 use Rattle.ics_series.specs.MetList.{is_after, is_kept, IsGiven, IsGivenBy}
 use Rattle.ics_series.specs.Occurs.{Occurs, IsOfMaster, IsOfOverride}
 use Rattle.ics_series.specs.Placed.{clocks_at}
-use Rattle.ics_series.specs.Versions.{is_named, is_override, seen, AreChosen, Label}
-use Rattle.ics_series.proofs.FilterLemmas.{listing-filter}
-use Rattle.ics_series.proofs.OverrideLemmas.{named-overridden, named-overrides, or-true, overridden-named}
+use Rattle.ics_series.specs.Versions.{is_named, seen, AreChosen}
+use Rattle.ics_series.proofs.OverrideLemmas.{named-overridden, or-true, overridden-named}
 
 pub lt-Less : (c : Ordering) → is_lt c ≡ true → c ≡ Less
 lt-Less Less e = refl
@@ -85,30 +82,18 @@ module _ (files : List FileSaid) (display : Clock) (w : Window) (vs : List Versi
       some None e = let f : None ≡ Some o.recurrence = e in cc
       some (Some time) e = refl
 
-  to-come : (after : Option Rank) (o : Entry) → IsGiven files display w o → is_kept (map seen vs) o ≡ true → is_after after o ≡ true → IsToCome files display w after o
+  pub to-come : (after : Option Rank) (o : Entry) → IsGiven files display w o → is_kept (map seen vs) o ≡ true → is_after after o ≡ true → IsToCome files display w after o
   to-come None o g k a = (given-occurs o g k, g.is.1)
   to-come (Some key) o g k a = ((given-occurs o g k, g.is.1), lt-Less (rank_cmp key (rank_of o)) a)
 
-  is-after : (after : Option Rank) (o : Entry) → IsToCome files display w after o → is_after after o ≡ true
+  pub is-after : (after : Option Rank) (o : Entry) → IsToCome files display w after o → is_after after o ≡ true
   is-after None o t = refl
   is-after (Some key) o t = ap is_lt t.1
 
-  listed-given : (o : Entry) → IsListed files display w o → IsGiven files display w o × (is_kept (map seen vs) o ≡ true)
+  pub listed-given : (o : Entry) → IsListed files display w o → IsGiven files display w o × (is_kept (map seen vs) o ≡ true)
   listed-given o l = ⊎_elim (λ m. master-given o m l.1) (λ m. override-given o m l.1) l.0
 
 -- what is to come is listed
 pub come-listed : (files : List FileSaid) (display : Clock) (w : Window) (after : Option Rank) (o : Entry) → IsToCome files display w after o → IsListed files display w o
 come-listed files display w None o t = t
 come-listed files display w (Some key) o t = t.0
-
--- what is given, those kept after the key, is what is to come
-pub come-listing : (files : List FileSaid) (display : Clock) (w : Window) (vs : List Version) (os : List Label) (after : Option Rank) (es : List Entry) (R : Entry → Entry → Ordering) → AreChosen files display vs → os ≡ filter is_override (map seen vs)
-    → IsListing R (IsGiven files display w) es → IsListing R (IsToCome files display w after) (filter (λ o. is_kept os o && is_after after o) es)
-come-listing files display w vs os after es R h e l =
-    listing-filter (λ o. is_kept os o && is_after after o) R (IsGiven files display w) (IsToCome files display w after) es l
-    (λ o g t. let both = and-true (is_kept os o) (is_after after o) t in to-come files display w vs h after o g (sym (kept-same o) ∙ both.0) both.1)
-    (λ o t. let given = listed-given files display w vs h o (come-listed files display w after o t) in
-    (given.0, ap (λ b. b && is_after after o) (kept-same o ∙ given.1) ∙ is-after files display w vs h after o t))
-  where
-    kept-same : (o : Entry) → is_kept os o ≡ is_kept (map seen vs) o
-    kept-same o = ap (λ b. is_some o.event.recurrence || not b) (ap (is_named (record { uid = o.event.uid; recurrence = Some o.recurrence })) e ∙ named-overrides o.event.uid o.recurrence (map seen vs))

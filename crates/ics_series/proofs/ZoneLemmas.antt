@@ -55,7 +55,7 @@ not-false : (b : Bool) → not b ≡ false → b ≡ true
 not-false true e = refl
 not-false false e = let f : true ≡ false = e in absurd cc
 
-rule-none : (o : Option RuleParts) → is_none o ≡ true → o ≡ None
+pub rule-none : (o : Option RuleParts) → is_none o ≡ true → o ≡ None
 rule-none None e = refl
 rule-none (Some parts) e = let f : false ≡ true = e in absurd cc
 

@@ -14,7 +14,7 @@ rank_total = then_total (on_total (λ r. r.start) int_cmp_total) (then_total (on
 pub entry_total : IsTotalOrder entry_cmp
 entry_total = on_total rank_of rank_total
 
-before-prop : (x : Entry) (xs : List Entry) → IsProp (IsBefore entry_cmp x xs)
+pub before-prop : (x : Entry) (xs : List Entry) → IsProp (IsBefore entry_cmp x xs)
 before-prop x [] = Unit-prop
 before-prop x (y ∷ ys) = ×_prop (Ordering-set (entry_cmp x y) Less) (before-prop x ys)
 

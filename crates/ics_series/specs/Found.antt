@@ -85,11 +85,23 @@ giver_cmp = then_cmp (on part_of nat_cmp) (then_cmp (on day_in int_cmp) (on plac
 abbrev pub start_cmp : Start → Start → Ordering
 start_cmp = then_cmp moment_cmp (on (λ s. s.giver) giver_cmp)
 
+-- of these starts those at each instant whose giver is the first
+pub record AreFirsts (starts firsts : List Start) : Type 0 where
+  pub rises : Rises moment_cmp firsts
+  pub are : (s : Start) → IsIn s firsts → IsIn s starts
+  pub all : (s : Start) → IsIn s starts → HasStart firsts s.giver s.moment
+
 -- starts of the event in the order of their instants, each instant once, and of those that are sought the first giver
 pub record AreStarts (clocks : Clocks) (event : Event) (w : Window) (starts : List Start) : Type 0 where
   pub rises : Rises moment_cmp starts
   pub are : (s : Start) → IsIn s starts → IsStart clocks event s
   pub all : (giver : Giver) (given : Rdate) → GivesStart clocks event giver given → IsSought clocks event w (instant clocks (time_of given)) → HasStart starts giver (instant clocks (time_of given))
+
+-- the same, where only what is sought from an instant on counts
+pub record AreStartsSince (clocks : Clocks) (event : Event) (w : Window) (since : ℤ) (starts : List Start) : Type 0 where
+  pub rises : Rises moment_cmp starts
+  pub are : (s : Start) → IsIn s starts → IsStart clocks event s
+  pub all : (giver : Giver) (given : Rdate) → GivesStart clocks event giver given → IsSought clocks event w (instant clocks (time_of given)) → since ≤ℤ instant clocks (time_of given) → HasStart starts giver (instant clocks (time_of given))
 
 -- an instant is the last one
 abbrev pub is_at : Option ℤ → ℤ → Bool

@@ -1,5 +1,5 @@
 -- Laws of the occurrences of events and of folders, and of listings.
-use Rattle.std.specs.Prelude.{◌≡◌, ℤ, true, false, List, [], ◌∷◌, ◌++◌, Some, None, Contains, filter}
+use Rattle.std.specs.Prelude.{◌≡◌, ℤ, true, false, List, [], ◌∷◌, ◌++◌, Some, None, All, Contains, filter}
 use Rattle.std.specs.Ordering.{is_lt}
 use Rattle.ics_calendar.specs.Event.{FileSaid, IsTime}
 use Rattle.ics_calendar.specs.declared.event.Event.{Event}
@@ -13,7 +13,9 @@ use Rattle.ics_series.specs.Exclusions.{excludes, is_excluded}
 use Rattle.ics_series.specs.Finish.{finish}
 use Rattle.ics_series.specs.Listing.{IsListing}
 use Rattle.ics_series.specs.Meets.{IsListed, IsToCome}
+use Rattle.ics_series.specs.Merged.{merged, IsFromFirst}
 use Rattle.ics_series.specs.Occurs.{IsInstance, Occurs}
+use Rattle.ics_series.specs.Rising.{Rises}
 use Rattle.ics_series.specs.Starts.{time_of, GivesStart}
 use Rattle.ics_series.specs.declared.start.Giver.{Giver}
 
@@ -36,6 +38,11 @@ ListingBehind =
     (files : List FileSaid) (display : Clock) (w : Window) (front : List Entry) (o : Entry) (behind ys : List Entry)
     → IsListing entry_cmp (IsListed files display w) (front ++ o ∷ behind)
     → IsListing entry_cmp (IsToCome files display w (Some (rank_of o))) ys → ys ≡ behind
+
+-- the merge of rising lists is the listing of their entries, of each key that of the first list that has it
+abbrev pub ListingMerged : Type 0
+ListingMerged =
+    (lists : List (List Entry)) → All (Rises entry_cmp) lists → IsListing entry_cmp (λ o. IsFromFirst entry_cmp o lists) (merged entry_cmp lists)
 
 -- no two occurrences of a folder have one UID and one recurrence, and so none have one key
 abbrev pub OneRecurrence : Type 0

@@ -1,5 +1,5 @@
 -- The occurrences that the chosen events of a folder give in a window, in the order in which they are found.
-use Rattle.std.specs.Prelude.{◌≡◌, ◌++◌, ◌||◌, ℤ, Bool, true, not, List, Option, Some, None, is_some}
+use Rattle.std.specs.Prelude.{◌≡◌, ◌||◌, ℤ, Bool, true, not, List, Option, Some, None, is_some}
 use Rattle.std.specs.Option.{option_map}
 use Rattle.std.specs.Ordering.{int_cmp, is_lt, on, then_cmp}
 use Rattle.std.specs.declared.cmp.Ordering.{Ordering}
@@ -9,7 +9,6 @@ use Rattle.ics_series.specs.declared.window.Window.{Window}
 use Rattle.ics_series.specs.Chosen.{SubjectSeen, overridden, IsChosen}
 use Rattle.ics_series.specs.Clocks.{Clock, Clocks}
 use Rattle.ics_series.specs.Entry.{Entry, Rank, rank_cmp, rank_of}
-use Rattle.ics_series.specs.Listing.{IsListing}
 use Rattle.ics_series.specs.Meets.{Meets}
 use Rattle.ics_series.specs.Occurs.{IsMoved, IsOf}
 use Rattle.ics_series.specs.Placed.{Placed, clocks_at}
@@ -23,12 +22,6 @@ entry_start_cmp = on (λ e. e.start) int_cmp
 abbrev pub IsEventMet : Clocks → Event → Window → Entry → Type 0
 IsEventMet clocks event w o = IsOf clocks event o × Meets w o
 
--- the occurrences of the event that meet the window, in the order of their starts, stand behind those before
-pub record IsLengthened (clocks : Clocks) (event : Event) (w : Window) (before after : List Entry) : Type 0 where
-  pub more : List Entry
-  pub are : IsListing entry_start_cmp (IsEventMet clocks event w) more
-  pub behind : after ≡ before ++ more
-
 -- what an event gives: a master each of its own occurrences, an override that of the instance for which it stands
 abbrev pub IsGivenBy : Clocks → Event → Option ℤ → Entry → Type 0
 IsGivenBy clocks event None o = IsOf clocks event o
@@ -36,12 +29,6 @@ IsGivenBy clocks event (Some recurrence) o = IsMoved clocks event o × (o.recurr
 
 abbrev pub IsGivenMet : Clocks → Event → Option ℤ → Window → Entry → Type 0
 IsGivenMet clocks event recurrence w o = IsGivenBy clocks event recurrence o × Meets w o
-
--- what the event gives that meets the window, in the order of starts, stands behind what was there before
-pub record HasGiven (clocks : Clocks) (event : Event) (recurrence : Option ℤ) (w : Window) (before after : List Entry) : Type 0 where
-  pub more : List Entry
-  pub are : IsListing entry_start_cmp (IsGivenMet clocks event recurrence w) more
-  pub behind : after ≡ before ++ more
 
 -- what a version that counts gives, and that meets the window
 pub record IsGiven (files : List FileSaid) (display : Clock) (w : Window) (o : Entry) : Type 0 where
@@ -56,10 +43,6 @@ subject_from o = record { uid = o.event.uid; recurrence = option_map (λ time. o
 -- by subject, then by start
 abbrev pub given_cmp : Entry → Entry → Ordering
 given_cmp = then_cmp (on subject_from subject_cmp) entry_start_cmp
-
--- all that is given, in the order of subjects, then of starts
-abbrev pub IsMetList : List FileSaid → Clock → Window → List Entry → Type 0
-IsMetList files display w = IsListing given_cmp (IsGiven files display w)
 
 -- it is an override's, or none of the versions overrides it
 abbrev pub is_kept : List Label → Entry → Bool

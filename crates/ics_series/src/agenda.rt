@@ -1,77 +1,110 @@
 //! The listing of a window.
-ghost use Rattle.std.specs.Prelude.{◌≡◌, ◌&&◌, filter, map, IfOk};
+ghost use Rattle.std.specs.Prelude.{◌≡◌, List, map, IfOk};
 ghost use Rattle.std.specs.List.Sorted.{IsSorted};
 ghost use Rattle.std.specs.Option.{option_map};
 ghost use Rattle.std.specs.Ordering.{on};
-ghost use Rattle.std.specs.Vec.Iter.{into_iter_items};
-ghost use Rattle.ics_series.specs.Entry.{entry_cmp, entry_of, key_rank};
-ghost use Rattle.ics_series.specs.EntryLaws.{Rises-prop};
+ghost use Rattle.ics_calendar.specs.Event.{said_by};
+ghost use Rattle.ics_series.specs.After.{after_key};
+ghost use Rattle.ics_series.specs.Clocks.{display_clock};
+ghost use Rattle.ics_series.specs.Entry.{Entry, entry_cmp, entry_of, key_rank};
+ghost use Rattle.ics_series.specs.EntryLaws.{entry_total};
+ghost use Rattle.ics_series.specs.Leads.{listed, past};
+ghost use Rattle.ics_series.specs.Listing.{IsListing};
+ghost use Rattle.ics_series.specs.Meets.{IsListed, IsToCome};
+ghost use Rattle.ics_series.specs.Merged.{merged};
+ghost use Rattle.ics_series.specs.MergedLaws.{rises-merged};
 ghost use Rattle.ics_series.specs.MetList.{is_after, is_kept};
-ghost use Rattle.ics_series.specs.Rising.{Rises};
-ghost use Rattle.ics_series.specs.Versions.{seen, subject_cmp, subject_seen};
+ghost use Rattle.ics_series.specs.Parts.{part_coming};
+ghost use Rattle.ics_series.specs.Versions.{seen, subject_cmp, subject_seen, AreChosen};
+ghost use Rattle.ics_series.specs.Zones.{IsReached};
 
-use crate::chosen::is_named;
+use crate::chosen::{chosen, is_named, overrides};
 use crate::feed::{Coming, Feed};
 use crate::key::Key;
+use crate::masters::push_series;
+use crate::merge::Merge;
 use crate::occurrence::Occurrence;
+use crate::part::Part;
+use crate::singles::Singles;
 use crate::version::{Subject, Version};
+use crate::window::Window;
+use ics_calendar::FileEvents;
+use ics_zone::Display;
 use std::alloc::{AllocError, Global};
-use std::vec::IntoIter;
 
-/// The occurrences of a folder that meet a window, in the order of their keys.
+/// The occurrences of a folder that meet a window, in the order of their keys. Each is found when it
+/// is asked for.
 #[derive(Drop)]
 pub struct Agenda<'a> {
-    rest: IntoIter<Occurrence<'a>, Global>,
-    ghost rising: { Rises entry_cmp (map entry_of (into_iter_items rest)) } by { Rises-prop (map entry_of (into_iter_items rest)) },
+    merge: Merge<'a, Part<'a>>,
 }
 
 impl<'a> Agenda<'a> {
-    pub(crate) fn new(entries: Vec<Occurrence<'a>>) -> Agenda<'a>
-        requires { Rises entry_cmp (map entry_of entries.items) }
-        ensures { ⟦<Agenda<'a> as Coming>⟧.coming result ≡ map entry_of entries.entry.items }
+    // The occurrences to come of the events of these files.
+    pub(crate) fn new(
+        alloc: Global,
+        files: &'a [FileEvents],
+        display: &'a Display,
+        window: Window,
+        after: Option<&Key>,
+    ) -> Result<Agenda<'a>, AllocError>
+        requires reached { IsReached files.now window }
+        ensures listing { IfOk result (λ agenda. IsListing entry_cmp
+            (IsToCome (map said_by files.entry.now) (display_clock display.entry.now) window
+            (option_map (λ key. key_rank key.now) after.entry))
+            (⟦<Agenda<'a> as Coming>⟧.coming agenda)) }
+        ensures behind { IfOk result (λ agenda. (list : List Entry)
+            × IsListing entry_cmp (IsListed (map said_by files.entry.now) (display_clock display.entry.now) window) list
+            × (⟦<Agenda<'a> as Coming>⟧.coming agenda ≡ after_key (option_map (λ key. key_rank key.now) after.entry) list)) }
     {
-        Agenda {
-            rest: entries.into_iter(),
-        }
+        let chosen = chosen(alloc, files, display)?;
+        let parts = parts(alloc, files, display, &chosen, window, after)?;
+        let merge = Merge::new(alloc, parts)?;
+        Ok(Agenda { merge })
     }
+}
+
+// The feeds of what the versions that count give: one of all events that start once, and one of each
+// master that recurs.
+fn parts<'a>(
+    alloc: Global,
+    files: &'a [FileEvents],
+    display: &'a Display,
+    chosen: &[Version<'_>],
+    window: Window,
+    after: Option<&Key>,
+) -> Result<Vec<Part<'a>>, AllocError>
+    requires reached { IsReached files.now window }
+    requires chosen { AreChosen (map said_by files.now) (display_clock display.now) chosen.now }
+    ensures listing { IfOk result (λ parts. IsListing entry_cmp
+        (IsToCome (map said_by files.entry.now) (display_clock display.entry.now) window
+        (option_map (λ key. key_rank key.now) after.entry))
+        (merged entry_cmp (map part_coming parts.items))) }
+    ensures whole { IfOk result (λ _. (list : List Entry)
+        × IsListing entry_cmp (IsListed (map said_by files.entry.now) (display_clock display.entry.now) window) list) }
+{
+    let overrides = overrides(alloc, chosen)?;
+    let singles = Singles::new(alloc, files, display, chosen, &overrides, &window, after)?;
+    let mut parts = Vec::new(alloc);
+    parts.push(Part::Singles(singles))?;
+    push_series(alloc, &mut parts, files, display, chosen, window, after)?;
+    Ok(parts)
 }
 
 impl<'a> Coming for Agenda<'a> {
-    ghost coming = { λ agenda. map entry_of (into_iter_items agenda.rest) };
+    ghost coming = { λ agenda. merged entry_cmp (map (λ l. past agenda.merge.last (listed l.head (part_coming l.feed))) agenda.merge.leads.items) };
 }
 
 impl<'a> Feed<'a> for Agenda<'a> {
-    ghost rises = { λ agenda. agenda.rising };
+    ghost rises = { λ agenda. rises-merged entry_cmp entry_total (map (λ l. past agenda.merge.last (listed l.head (part_coming l.feed))) agenda.merge.leads.items) };
 
-    /// Takes no memory.
     fn next(&mut self) -> Result<Option<Occurrence<'a>>, AllocError> {
-        Ok(self.rest.next())
+        self.merge.next()
     }
 }
 
-/// Those of the occurrences for which no override stands, after the key.
-pub(crate) fn to_come<'a>(
-    alloc: Global,
-    met: &[Occurrence<'a>],
-    overrides: &[Version<'_>],
-    after: Option<&Key>,
-) -> Result<Vec<Occurrence<'a>>, AllocError>
-    requires { IsSorted (on (λ v. subject_seen v.subject) subject_cmp) overrides.now }
-    ensures { IfOk result (λ entries. map entry_of entries.items
-        ≡ filter (λ o. is_kept (map seen overrides.now) o && is_after (option_map (λ key. key_rank key.now) after.entry) o)
-        (map entry_of met.entry.now)) }
-{
-    let mut entries = Vec::new(alloc);
-    for occurrence in met {
-        if is_kept(occurrence, overrides) & is_after(after, occurrence) {
-            entries.push(*occurrence)?;
-        }
-    }
-    Ok(entries)
-}
-
-// Whether no override stands for an occurrence, or it is an override's own.
-fn is_kept(occurrence: &Occurrence<'_>, overrides: &[Version<'_>]) -> bool
+/// Whether no override stands for an occurrence, or it is an override's own.
+pub(crate) fn is_kept(occurrence: &Occurrence<'_>, overrides: &[Version<'_>]) -> bool
     requires { IsSorted (on (λ v. subject_seen v.subject) subject_cmp) overrides.now }
     ensures { result ≡ is_kept (map seen overrides.now) (entry_of occurrence.now) }
 {
@@ -83,8 +116,8 @@ fn is_kept(occurrence: &Occurrence<'_>, overrides: &[Version<'_>]) -> bool
     event.recurrence.is_some() || !is_named(subject, overrides)
 }
 
-// Whether an occurrence comes after the key, if there is one.
-fn is_after(after: Option<&Key>, occurrence: &Occurrence<'_>) -> bool
+/// Whether an occurrence comes after the key, if there is one.
+pub(crate) fn is_after(after: Option<&Key>, occurrence: &Occurrence<'_>) -> bool
     ensures { result ≡ is_after (option_map (λ key. key_rank key.now) after.entry) (entry_of occurrence.now) }
 {
     match after {

@@ -62,6 +62,14 @@ impl Exclusions {
         Ok(Exclusions { instants, days })
     }
 
+    // Nothing.
+    pub(crate) fn none(alloc: Global) -> Exclusions {
+        Exclusions {
+            instants: Vec::new(alloc),
+            days: Vec::new(alloc),
+        }
+    }
+
     // Whether they take out a start at an instant.
     pub(crate) fn has(&self, zones: FileZones<'_>, first: Time, moment: Moment) -> bool
         requires first { IsReadable zones.zones.now first }

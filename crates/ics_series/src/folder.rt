@@ -4,21 +4,15 @@ ghost use Rattle.std.specs.Option.{option_map};
 ghost use Rattle.ics_calendar.specs.Event.{said_by};
 ghost use Rattle.ics_series.specs.After.{after_key};
 ghost use Rattle.ics_series.specs.Clocks.{display_clock};
-ghost use Rattle.ics_series.specs.Entry.{Entry, entry_cmp, entry_of, key_rank};
+ghost use Rattle.ics_series.specs.Entry.{Entry, entry_cmp, key_rank};
 ghost use Rattle.ics_series.specs.Listing.{IsListing};
-ghost use Rattle.ics_series.specs.MetList.{IsMetList};
 ghost use Rattle.ics_series.specs.Meets.{IsListed, IsToCome};
-ghost use Rattle.ics_series.specs.Versions.{AreChosen};
 ghost use Rattle.ics_series.specs.Zones.{IsReached};
 
-use crate::agenda::{Agenda, to_come};
-use crate::chosen::{chosen, overrides};
+use crate::agenda::Agenda;
 use crate::feed::Coming;
 use crate::key::Key;
-use crate::moved::push_given;
-use crate::occurrence::Occurrence;
 use crate::reach::reach_each;
-use crate::version::Version;
 use crate::window::Window;
 use ics_calendar::FileEvents;
 use ics_zone::Display;
@@ -84,39 +78,6 @@ impl Folder {
             × IsListing entry_cmp (IsListed (map said_by self.entry.now.files) (display_clock self.entry.now.display) window) list
             × (⟦<Agenda<'a> as Coming>⟧.coming agenda ≡ after_key (option_map (λ key. key_rank key.now) after.entry) list)) }
     {
-        let chosen = chosen(self.alloc, &self.files, &self.display)?;
-        let overrides = overrides(self.alloc, &chosen)?;
-        let met = self.met(&chosen, &window)?;
-        let mut entries = to_come(self.alloc, &met, &overrides, after)?;
-        entries.sort_unstable_by(Occurrence::compare);
-        Ok(Agenda::new(entries))
-    }
-
-    // What the versions that count give in the window, in the order of their subjects, then of the
-    // starts.
-    fn met<'a>(
-        &'a self,
-        chosen: &[Version<'_>],
-        window: &Window,
-    ) -> Result<Vec<Occurrence<'a>>, AllocError>
-        requires reached { IsReached self.now.files window.now }
-        requires chosen { AreChosen (map said_by self.now.files) (display_clock self.now.display) chosen.now }
-        ensures { IfOk result (λ entries. IsMetList (map said_by self.entry.now.files)
-            (display_clock self.entry.now.display) window.now (map entry_of entries.items)) }
-    {
-        let mut entries = Vec::new(self.alloc);
-        for version in chosen {
-            let zones = version.spot.zones(&self.files, &self.display);
-            let event = version.spot.event(&self.files);
-            push_given(
-                self.alloc,
-                &mut entries,
-                zones,
-                event,
-                version.subject.recurrence,
-                window,
-            )?;
-        }
-        Ok(entries)
+        Agenda::new(self.alloc, &self.files, &self.display, window, after)
     }
 }

@@ -1,7 +1,7 @@
 //! Laws of the definitions, each the contract of a function that does nothing.
 ghost use Rattle.std.specs.Prelude.{◌≡◌};
 ghost use Rattle.ics_series.specs.Entry.{key_rank, rank_cmp};
-ghost use Rattle.ics_series.specs.Laws.{EachStart, ListingAfter, ListingBehind, NoneExcluded, OneListing, OneRecurrence, OneStart};
+ghost use Rattle.ics_series.specs.Laws.{EachStart, ListingAfter, ListingBehind, ListingMerged, NoneExcluded, OneListing, OneRecurrence, OneStart};
 ghost use Rattle.ics_series.specs.Tokens.{OneSpelling};
 ghost use Rattle.ics_series.specs.declared.key.Key.{Key};
 
@@ -20,6 +20,12 @@ pub fn listing_after()
 /// After the key of one of its entries a listing goes on with those that stand behind it.
 pub fn listing_behind()
     ensures { ListingBehind }
+{}
+
+/// The merge of rising lists is the listing of their entries, where of each key that of the first list
+/// which has it counts.
+pub fn listing_merged()
+    ensures { ListingMerged }
 {}
 
 /// No two occurrences of a folder have one UID and one recurrence.

@@ -7,19 +7,31 @@ mod exclusion;
 mod feed;
 mod finish;
 mod folder;
+mod holding;
 mod instant;
 mod key;
 mod lasting;
 mod laws;
+mod lead;
 mod listed;
+mod listed_starts;
+mod masters;
+mod merge;
 mod met;
-mod moved;
 mod occurrence;
+mod overridden;
+mod part;
+mod queue;
 mod reach;
+mod rule_starts;
+mod series;
+mod single;
+mod singles;
 mod spot;
 mod start;
 mod starts;
 mod token;
+mod tournament;
 mod version;
 mod window;
 mod zones;
@@ -29,9 +41,10 @@ pub use feed::{Coming, Feed};
 pub use folder::Folder;
 pub use key::Key;
 pub use laws::{
-    each_start, keys_as_listed, listing_after, listing_behind, none_excluded, one_listing,
-    one_recurrence, one_spelling, one_start,
+    each_start, keys_as_listed, listing_after, listing_behind, listing_merged, none_excluded,
+    one_listing, one_recurrence, one_spelling, one_start,
 };
+pub use merge::Merge;
 pub use occurrence::Occurrence;
 pub use token::{Token, TokenFault};
 pub use window::Window;

@@ -1,71 +1,27 @@
 //! The starts of an event by which it can meet a window.
-ghost use Rattle.std.specs.Prelude.{◌≡◌, ◌≤◌, ◌<ℤ◌, ◌≤ℤ◌, ◌+ℤ◌, ◌-ℤ◌, pos, neg_ℤ, None, Some, All, IfOk};
+ghost use Rattle.std.specs.Prelude.{◌≡◌, ◌≤◌, ◌<ℤ◌, ◌≤ℤ◌, ◌+ℤ◌, ◌-ℤ◌, pos, neg_ℤ, None, All, IfOk};
 ghost use Rattle.std.specs.Int.{int_max};
 ghost use Rattle.ics_values.specs.Days.{IsDayNumber};
 ghost use Rattle.ics_rule.specs.Locals.{number};
-ghost use Rattle.ics_series.specs.Clocks.{instant, seconds_of};
-ghost use Rattle.ics_series.specs.Found.{earliest, firsts_after, is_at, is_span_met, is_until, start_at, with_start, AreStarts, HasRuleStarts, HasStarts, IsStart};
-ghost use Rattle.ics_series.specs.Starts.{local_of, recurrence_of, time_at};
+ghost use Rattle.ics_series.specs.Clocks.{seconds_of};
+ghost use Rattle.ics_series.specs.Found.{earliest, firsts_after, is_at, is_span_met, is_until, start_at, IsStart};
+ghost use Rattle.ics_series.specs.Starts.{time_at};
 ghost use Rattle.ics_series.specs.Zones.{asked, clocks_in, AreReached, IsReadable, IsReadableEvent};
 
 use crate::instant::instant;
 use crate::lasting::seconds_lasting;
-use crate::listed::push_listed;
 use crate::occurrence::Occurrence;
-use crate::start::{Giver, Start, kind_of, local_of, time_at};
+use crate::start::{Giver, Start, time_at};
 use crate::window::Window;
 use crate::zones::FileZones;
 use ics_calendar::{Event, Rdate};
-use ics_rule::{Cursor, Rule};
 use ics_values::{Local, Moment};
 use std::alloc::{AllocError, Global};
 
 const DAY: i64 = 86_400;
 
-/// The starts by which an event can meet a window, and perhaps others, each instant once, in their
-/// order. Of what gives one instant the first gives the start: DTSTART and the locals of the rule go
-/// before RDATEs.
-pub(crate) fn starts(
-    alloc: Global,
-    zones: FileZones<'_>,
-    event: &Event,
-    window: &Window,
-) -> Result<Vec<Start>, AllocError>
-    requires event { IsReadableEvent zones event.now }
-    requires reached { AreReached zones.zones.now (asked window.now event.now) }
-    ensures { IfOk result (λ starts. AreStarts (clocks_in zones.entry) event.now window.now starts.items) }
-{
-    let mut starts = given_starts(alloc, zones, event, window)?;
-    starts.sort_unstable_by(Start::compare);
-    firsts(alloc, &starts)
-}
-
-// The start at DTSTART, those by RDATEs, and those that the rule gives nearby.
-fn given_starts(
-    alloc: Global,
-    zones: FileZones<'_>,
-    event: &Event,
-    window: &Window,
-) -> Result<Vec<Start>, AllocError>
-    requires event { IsReadableEvent zones event.now }
-    requires reached { AreReached zones.zones.now (asked window.now event.now) }
-    ensures { IfOk result (λ starts. HasStarts (clocks_in zones.entry) event.now window.now starts.items) }
-{
-    let mut starts = Vec::new(alloc);
-    let first = local_of(event.start.stamp);
-    starts.push(start_at(zones, event, first))?;
-    push_listed(&mut starts, zones, event, window)?;
-    let Some(parts) = event.rule else {
-        return Ok(starts);
-    };
-    let rule = Rule::new(parts, first, kind_of(event.start.stamp));
-    let from = first_nearby(first, earliest(zones, event, window, &starts));
-    push_kept(&mut starts, zones, event, &rule, from, window)?;
-    Ok(starts)
-}
-
 // The start by a local that DTSTART has or the rule keeps.
-fn start_at(zones: FileZones<'_>, event: &Event, local: Local) -> Start
+pub(crate) fn start_at(zones: FileZones<'_>, event: &Event, local: Local) -> Start
     requires { IsReadable zones.zones.now (time_at event.now.start local) }
     ensures { result ≡ start_at (clocks_in zones.entry) event.now local }
 {
@@ -80,7 +36,12 @@ fn start_at(zones: FileZones<'_>, event: &Event, local: Local) -> Start
 // From where on the rule is asked: from where an event of this length can still meet the window, or
 // from the earliest start by a PERIOD that does, since a local at that instant gives it the event's
 // length.
-fn earliest(zones: FileZones<'_>, event: &Event, window: &Window, starts: &[Start]) -> Moment
+pub(crate) fn earliest(
+    zones: FileZones<'_>,
+    event: &Event,
+    window: &Window,
+    starts: &[Start],
+) -> Moment
     requires event { IsReadableEvent zones event.now }
     requires reached { AreReached zones.zones.now (asked window.now event.now) }
     requires starts { All (IsStart (clocks_in zones) event.now) starts.now }
@@ -110,52 +71,8 @@ fn is_span_met(zones: FileZones<'_>, event: &Event, start: Start, window: &Windo
     }
 }
 
-// Adds the starts that the locals give that the rule keeps, from one on.
-fn push_kept(
-    starts: &mut Vec<Start>,
-    zones: FileZones<'_>,
-    event: &Event,
-    rule: &Rule,
-    from: Local,
-    window: &Window,
-) -> Result<(), AllocError>
-    requires event { IsReadableEvent zones event.now }
-    requires reached { AreReached zones.zones.now (asked window.now event.now) }
-    requires rule { recurrence_of event.now ≡ Some rule.now }
-    requires from { IsDayNumber from.day }
-    ensures { IfOk result (λ _. HasRuleStarts (clocks_in zones.entry) event.now window.now from starts.old.items starts.new.items) }
-{
-    let mut cursor = Cursor::at(rule, from);
-    let end = end_nearby(window);
-    let until = rule.until_moment();
-    while let Some(local) = cursor.next(rule, end) {
-        push_start(starts, zones, event, until, of_calendar(local))?;
-    }
-    Ok(())
-}
-
-// Adds the start that a local gives, unless it is after UNTIL.
-fn push_start(
-    starts: &mut Vec<Start>,
-    zones: FileZones<'_>,
-    event: &Event,
-    until: Option<Moment>,
-    local: Local,
-) -> Result<(), AllocError>
-    requires { IsReadable zones.zones.now (time_at event.now.start local) }
-    ensures { IfOk result (λ _. starts.new.items
-        ≡ with_start (is_until until (instant (clocks_in zones.entry) (time_at event.now.start local))) starts.old.items
-        (start_at (clocks_in zones.entry) event.now local)) }
-{
-    let start = start_at(zones, event, local);
-    if is_until(until, start.moment) {
-        starts.push(start)?;
-    }
-    Ok(())
-}
-
 // Whether an instant is not after UNTIL.
-fn is_until(until: Option<Moment>, moment: Moment) -> bool
+pub(crate) fn is_until(until: Option<Moment>, moment: Moment) -> bool
     ensures { result ≡ is_until until moment }
 {
     match until {
@@ -165,17 +82,17 @@ fn is_until(until: Option<Moment>, moment: Moment) -> bool
 }
 
 // The local from which on a rule with this first local is asked: that or, if it is later, a midnight
-// seven to eight days before the earliest instant that counts. So a rule that began long ago is not
+// six to seven days before the earliest instant that counts. So a rule that began long ago is not
 // asked for what is long past.
-fn first_nearby(first: Local, earliest: Moment) -> Local
+pub(crate) fn first_nearby(first: Local, earliest: Moment) -> Local
     requires first { IsDayNumber first.day }
     requires late { neg_ℤ (pos 500_000_000_000) ≤ℤ earliest }
-    requires early { earliest ≤ℤ pos 247_091_126_400 }
+    requires early { earliest ≤ℤ pos 247_092_336_000 }
     ensures day { IsDayNumber result.day }
-    ensures late { int_max (seconds_of first) (earliest -ℤ pos 691_200) ≤ℤ seconds_of result }
-    ensures low { seconds_of result ≤ℤ int_max (seconds_of first) (earliest -ℤ pos 604_800) }
+    ensures late { int_max (seconds_of first) (earliest -ℤ pos 604_800) ≤ℤ seconds_of result }
+    ensures low { seconds_of result ≤ℤ int_max (seconds_of first) (earliest -ℤ pos 518_400) }
 {
-    let day = earliest.div_euclid(DAY) - 7;
+    let day = earliest.div_euclid(DAY) - 6;
     if day <= i64::from(first.day) {
         first
     } else {
@@ -184,7 +101,7 @@ fn first_nearby(first: Local, earliest: Moment) -> Local
 }
 
 // A midnight past all locals by which an event can meet the window, three to four days after it.
-fn end_nearby(window: &Window) -> Local
+pub(crate) fn end_nearby(window: &Window) -> Local
     ensures day { IsDayNumber result.day }
     ensures early { number result ≤ 309_289_708_800 }
     ensures after { (window.now.to +ℤ pos 259_200) ≤ℤ seconds_of result }
@@ -196,7 +113,7 @@ fn end_nearby(window: &Window) -> Local
 
 // The local of the calendar with this number. A cursor tells its locals by their numbers, which
 // count a day before the calendar as if it were one within.
-fn of_calendar(local: Local) -> Local
+pub(crate) fn of_calendar(local: Local) -> Local
     requires { number local ≤ 309_289_708_800 }
     ensures day { IsDayNumber result.day }
     ensures same { number result ≡ number local }
@@ -206,7 +123,7 @@ fn of_calendar(local: Local) -> Local
 }
 
 // Of each run of starts at one instant the first.
-fn firsts(alloc: Global, starts: &[Start]) -> Result<Vec<Start>, AllocError>
+pub(crate) fn firsts(alloc: Global, starts: &[Start]) -> Result<Vec<Start>, AllocError>
     ensures { IfOk result (λ firsts. firsts.items ≡ firsts_after None starts.now) }
 {
     let mut firsts = Vec::new(alloc);

@@ -1,11 +1,12 @@
 use Rattle.std.proofs.Common.{◌≡◌, ◌∙◌, ◌<◌, ◌≤◌, Option, Some, None, ap, sym, subst, arith}
+use Rattle.std.specs.Option.{option_map}
 use Rattle.ics_values.specs.declared.local.Local.{Local}
 use Rattle.ics_rule.specs.declared.cursor.Cursor.{Cursor}
 use Rattle.ics_rule.specs.Recurrence.{Recurrence}
 use Rattle.ics_rule.specs.Locals.{number}
 use Rattle.ics_rule.specs.Filled.{filled}
 use Rattle.ics_rule.specs.Candidates.{period_in}
-use Rattle.ics_rule.specs.Cursors.{IsCursorOf, HasCounted, HasLooked, IsCursorIn, HasLookedIn}
+use Rattle.ics_rule.specs.Cursors.{known_to, IsCursorOf, HasCounted, HasLooked, IsCursorIn, HasLookedIn}
 use Rattle.ics_rule.proofs.cursor.Cursor.next.Goals as goal
 use Rattle.ics_rule.proofs.cursor.Cursor.next.Goals.{After-number}
 
@@ -27,7 +28,7 @@ pub returns-in_err-n-clause-looked : goal.returns-in_err-n-clause-looked
 unfolding HasLooked
 returns-in_err-n-clause-looked c = λ a b h few.
     subst (λ s. HasLookedIn (filled c.args.rule.now) s c.args.rule.now.parts.count c.next_number.new.self a b) (start_is (goal.at.returns-in_err-n-clause-looked c).After-number)
-    (c.next_number.ensures.looked a b (omega (arith, h, c.number-2.ensures.value))
+    (c.in_err-n.ensures.looked a b (omega (arith, c.number-2.ensures.value, subst (λ o. known_to (option_map number o) (number c.args.before) ≤ b) c.from_residual.ensures h))
     (subst (λ s. HasLookedIn (filled c.args.rule.now) s c.args.rule.now.parts.count c.args.self.now a b) (sym (start_is (goal.at.returns-in_err-n-clause-looked c).After-number)) few))
 
 pub returns-clause-own : goal.returns-clause-own
@@ -39,7 +40,7 @@ pub returns-clause-looked : goal.returns-clause-looked
 unfolding HasLooked
 returns-clause-looked c = λ a b h few.
     subst (λ s. HasLookedIn (filled c.args.rule.now) s c.args.rule.now.parts.count c.next_number.new.self a b) (start_is (goal.at.returns-clause-looked c).After-number)
-    (c.next_number.ensures.looked a b (omega (arith, h, c.number-2.ensures.value))
+    (c.in_ok-n.ensures.looked a b (omega (arith, h, c.local_of.ensures.value))
     (subst (λ s. HasLookedIn (filled c.args.rule.now) s c.args.rule.now.parts.count c.args.self.now a b) (sym (start_is (goal.at.returns-clause-looked c).After-number)) few))
 
 none_counted : (r : Recurrence) (o : Option Local) (before now : Cursor) → o ≡ None → before.steps ≤ now.steps → HasCounted r o before now

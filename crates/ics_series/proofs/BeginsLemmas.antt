@@ -1,0 +1,162 @@
+-- What the merge of rising lists begins with, and what it leaves.
+use Rattle.std.specs.List.{AllByRecursion}
+use Rattle.std.proofs.Common.{◌≡◌, ℕ, zero, suc, ◌<◌, List, [], ◌∷◌, refl, sym, ◌∙◌, ap, subst, map, get_or, arith}
+use Rattle.std.specs.Cmp.{IsTotalOrder}
+use Rattle.std.specs.Ordering.{ordering_reverse}
+use Rattle.std.proofs.lemmas.Cmp.{tied_itself}
+use Rattle.std.specs.declared.cmp.Ordering.{Ordering}
+use Rattle.std.specs.declared.cmp.Ordering.TheVariants.{Less, Equal, Greater}
+use Rattle.ics_series.specs.Rising.{IsBefore, Rises}
+use Rattle.ics_series.specs.Merged.{by_order, put, union, merged, cut}
+use Rattle.ics_series.specs.MergedLaws.{back, before-put, before-tied, before-trans}
+
+-- x comes before each of the lists, but for an entry of its key at the front
+abbrev pub AllFront : {A : Type 0} → (A → A → Ordering) → A → List (List A) → Type 0
+AllFront R x lists = AllByRecursion (IsBefore R x) (map (cut R x) lists)
+
+abbrev pub AllRise : {A : Type 0} → (A → A → Ordering) → List (List A) → Type 0
+AllRise R = AllByRecursion (Rises R)
+
+module _ {A : Type 0} (R : A → A → Ordering) (o : IsTotalOrder R) where
+  pub over : (x y : A) → R x y ≡ Less → R y x ≡ Greater
+  over x y e = o.antisymm y x ∙ ap ordering_reverse e
+
+  pub before-union : (x : A) (ys zs : List A) → IsBefore R x ys → IsBefore R x zs → IsBefore R x (union R ys zs)
+  before-union x [] zs h k = k
+  before-union x (y ∷ ys) zs h k = before-put R o x y (union R ys zs) h.0 (before-union x ys zs h.1 k)
+
+  pub cut-before : (x : A) (ys : List A) → IsBefore R x ys → cut R x ys ≡ ys
+  cut-before x [] h = refl
+  cut-before x (y ∷ ys) h = ap (λ c. by_order c (y ∷ ys) ys (y ∷ ys)) h.0
+
+  -- x, of e's key, goes to the front where e would
+  put-by_order : (e x y : A) (ys : List A) (c : Ordering) → R e y ≡ c → R x y ≡ c → IsBefore R e (by_order c (y ∷ ys) ys (y ∷ ys))
+      → by_order c (x ∷ y ∷ ys) (x ∷ ys) (y ∷ put R x ys) ≡ x ∷ by_order c (y ∷ ys) ys (y ∷ ys)
+  put-by_order e x y ys Less p q h = refl
+  put-by_order e x y ys Equal p q h = refl
+  put-by_order e x y ys Greater p q h = let l = h.0 in cc
+
+  pub put-front : (e x : A) (ys : List A) → R e x ≡ Equal → IsBefore R e (cut R e ys) → put R x ys ≡ x ∷ cut R e ys
+  put-front e x [] t h = refl
+  put-front e x (y ∷ ys) t h =
+      let same : R x y ≡ R e y = sym (o.congr e x y t) in
+      ap (λ c. by_order c (x ∷ y ∷ ys) (x ∷ ys) (y ∷ put R x ys)) same
+      ∙ put-by_order e x y ys (R e y) refl same h
+
+  -- what comes before both lists stands at the front of their union
+  pub union-front : (e : A) (xs ys : List A) → IsBefore R e xs → union R xs (e ∷ ys) ≡ e ∷ union R xs ys
+  union-front e [] ys h = refl
+  union-front e (x ∷ xs) ys h =
+      ap (put R x) (union-front e xs ys h.1)
+      ∙ ap (λ c. by_order c (x ∷ e ∷ union R xs ys) (x ∷ union R xs ys) (e ∷ put R x (union R xs ys))) (over e x h.0)
+
+  cut-union-by : (e : A) (xs : List A) (y : A) (ys : List A) (c : Ordering) → R e y ≡ c → IsBefore R e xs → IsBefore R e (by_order c (y ∷ ys) ys (y ∷ ys))
+      → cut R e (union R xs (y ∷ ys)) ≡ union R xs (by_order c (y ∷ ys) ys (y ∷ ys))
+  cut-union-by e xs y ys Less p h k = cut-before e (union R xs (y ∷ ys)) (before-union e xs (y ∷ ys) h k)
+  cut-union-by e xs y ys Equal p h k =
+      ap (cut R e) (union-front y xs ys (before-tied R o y e xs (o.antisymm y e ∙ ap ordering_reverse p) h))
+      ∙ ap (λ c. by_order c (y ∷ union R xs ys) (union R xs ys) (y ∷ union R xs ys)) p
+  cut-union-by e xs y ys Greater p h k = let l = k.0 in cc
+
+  pub cut-union : (e : A) (xs ys : List A) → IsBefore R e xs → IsBefore R e (cut R e ys) → cut R e (union R xs ys) ≡ union R xs (cut R e ys)
+  cut-union e xs [] h k = cut-before e (union R xs []) (before-union e xs [] h tt)
+  cut-union e xs (y ∷ ys) h k = cut-union-by e xs y ys (R e y) refl h k
+
+  pub front-union : (e : A) (xs ys : List A) → IsBefore R e xs → IsBefore R e (cut R e ys) → IsBefore R e (cut R e (union R xs ys))
+  front-union e xs ys h k = subst (IsBefore R e) (sym (cut-union e xs ys h k)) (before-union e xs (cut R e ys) h k)
+
+  -- the same, where e's key may stand at the front of the first list too
+  union-both-by : (e x : A) (xs ys : List A) (c : Ordering) → R e x ≡ c → IsBefore R e (by_order c (x ∷ xs) xs (x ∷ xs)) → Rises R (x ∷ xs) → IsBefore R e (cut R e ys)
+      → cut R e (put R x (union R xs ys)) ≡ union R (by_order c (x ∷ xs) xs (x ∷ xs)) (cut R e ys)
+  union-both-by e x xs ys Less p h r k = cut-union e (x ∷ xs) ys h k
+  union-both-by e x xs ys Equal p h r k =
+      ap (cut R e) (put-front e x (union R xs ys) p (front-union e xs ys h k))
+      ∙ (ap (λ c. by_order c (x ∷ cut R e (union R xs ys)) (cut R e (union R xs ys)) (x ∷ cut R e (union R xs ys))) p
+      ∙ cut-union e xs ys h k)
+  union-both-by e x xs ys Greater p h r k = let l = h.0 in cc
+
+  pub cut-union-both : (e : A) (xs ys : List A) → IsBefore R e (cut R e xs) → Rises R xs → IsBefore R e (cut R e ys)
+      → cut R e (union R xs ys) ≡ union R (cut R e xs) (cut R e ys)
+  cut-union-both e [] ys h r k = refl
+  cut-union-both e (x ∷ xs) ys h r k = union-both-by e x xs ys (R e x) refl h r k
+
+  pub front-merged : (e : A) (xss : List (List A)) → AllFront R e xss → AllRise R xss → IsBefore R e (cut R e (merged R xss))
+  front-merged e [] h r = tt
+  front-merged e (xs ∷ xss) h r =
+      let k = front-merged e xss h.1 r.1 in
+      subst (IsBefore R e) (sym (cut-union-both e xs (merged R xss) h.0 r.0 k)) (before-union e (cut R e xs) (cut R e (merged R xss)) h.0 k)
+
+  pub cut-merged : (e : A) (xss : List (List A)) → AllFront R e xss → AllRise R xss → cut R e (merged R xss) ≡ merged R (map (cut R e) xss)
+  cut-merged e [] h r = refl
+  cut-merged e (xs ∷ xss) h r =
+      cut-union-both e xs (merged R xss) h.0 r.0 (front-merged e xss h.1 r.1) ∙ ap (union R (cut R e xs)) (cut-merged e xss h.1 r.1)
+
+  -- from y to x, where x does not come after y
+  front-lower-by : (x y z : A) (zs : List A) (c : Ordering) → R y z ≡ c → R x y ≡ Less → IsBefore R y (by_order c (z ∷ zs) zs (z ∷ zs)) → IsBefore R x (z ∷ zs)
+  front-lower-by x y z zs Less p l h = before-trans R o x y (z ∷ zs) l h
+  front-lower-by x y z zs Equal p l h =
+      let tied : R z y ≡ Equal = o.antisymm z y ∙ ap ordering_reverse p in
+      let turned : R z x ≡ R y x = o.congr z y x tied in
+      let later : R z x ≡ Greater = turned ∙ over x y l in
+      (back R o z x later, before-trans R o x y zs l h)
+  front-lower-by x y z zs Greater p l h = let q = h.0 in cc
+
+  before-front : (x y : A) (zs : List A) → R x y ≡ Less → IsBefore R y (cut R y zs) → IsBefore R x zs
+  before-front x y [] l h = tt
+  before-front x y (z ∷ zs) l h = front-lower-by x y z zs (R y z) refl l h
+
+  -- what the merge begins with, and what it leaves
+  pub record Begins (e : A) (xss : List (List A)) : Type 0 where
+    pub fronts : AllFront R e xss
+    pub is : merged R xss ≡ e ∷ merged R (map (cut R e) xss)
+
+  -- e stands at the front of the first list, and not after any other
+  begins-here : (e : A) (xs : List A) (xss : List (List A)) → Rises R (e ∷ xs) → AllFront R e xss → AllRise R xss → Begins e ((e ∷ xs) ∷ xss)
+  begins-here e xs xss r h rs =
+      let tied : R e e ≡ Equal = tied_itself o e in
+      let k = front-merged e xss h rs in
+      let whole : cut R e (e ∷ xs) ≡ xs = ap (λ c. by_order c (e ∷ xs) xs (e ∷ xs)) tied in
+      record {
+        fronts = (subst (IsBefore R e) (sym whole) r.0, h);
+        is =
+            put-front e e (union R xs (merged R xss)) tied (front-union e xs (merged R xss) r.0 k)
+            ∙ ap (λ l. e ∷ l) (cut-union e xs (merged R xss) r.0 k
+            ∙ (ap (union R xs) (cut-merged e xss h rs) ∙ ap (λ l. union R l (merged R (map (cut R e) xss))) (sym whole)));
+      }
+
+  -- e stands in a later list, and the first list comes after it
+  begins-later : (e : A) (xs : List A) (xss : List (List A)) → IsBefore R e xs → Begins e xss → Begins e (xs ∷ xss)
+  begins-later e xs xss h b =
+      let whole : cut R e xs ≡ xs = cut-before e xs h in
+      record {
+        fronts = (subst (IsBefore R e) (sym whole) h, b.fronts);
+        is =
+            ap (union R xs) b.is ∙ (union-front e xs (merged R (map (cut R e) xss)) h
+            ∙ ap (λ l. e ∷ union R l (merged R (map (cut R e) xss))) (sym whole));
+      }
+
+  all_front : (e : A) (xss : List (List A)) → ((i : ℕ) → IsBefore R e (cut R e (get_or xss i []))) → AllFront R e xss
+  all_front e [] h = tt
+  all_front e (xs ∷ xss) h = (h 0, all_front e xss (λ i. h (suc i)))
+
+  -- e stands at the front of a list, before all of each list in front of that one, and after nothing of those behind it
+  pub begins-at : (e : A) (xss : List (List A)) (place : ℕ) (xs : List A) → AllRise R xss → get_or xss place [] ≡ e ∷ xs
+      → ((i : ℕ) → i < place → IsBefore R e (get_or xss i []))
+      → ((i : ℕ) → place < i → IsBefore R e (cut R e (get_or xss i []))) → Begins e xss
+  begins-at e [] place xs r is before after = cc
+  begins-at e (ys ∷ yss) zero xs r is before after =
+      subst (λ (zs : List A). Begins e (zs ∷ yss)) (sym is)
+      (begins-here e xs yss (subst (Rises R) is r.0) (all_front e yss (λ i. after (suc i) (omega arith))) r.1)
+  begins-at e (ys ∷ yss) (suc place) xs r is before after =
+      begins-later e ys yss (before 0 (omega arith))
+      (begins-at e yss place xs r.1 is (λ i l. before (suc i) (omega arith)) (λ i l. after (suc i) (omega arith)))
+
+  pub front-at : (x : A) (xss : List (List A)) (i : ℕ) → AllFront R x xss → IsBefore R x (cut R x (get_or xss i []))
+  front-at x [] i h = tt
+  front-at x (xs ∷ xss) zero h = h.0
+  front-at x (xs ∷ xss) (suc i) h = front-at x xss i h.1
+
+  -- a key before all that there is cuts nothing
+  pub uncut : (x e : A) (xss : List (List A)) → R x e ≡ Less → AllFront R e xss → map (cut R x) xss ≡ xss
+  uncut x e [] l h = refl
+  uncut x e (xs ∷ xss) l h = ap (λ ys. ys ∷ map (cut R x) xss) (cut-before x xs (before-front x e xs l h.0)) ∙ ap (λ yss. xs ∷ yss) (uncut x e xss l h.1)

@@ -1,0 +1,72 @@
+-- Where one value more stands in a rising list.
+use Rattle.std.proofs.Common.{◌≡◌, ℕ, zero, suc, ◌<◌, List, [], ◌∷◌, get_or, drop, length, ◌⊎◌, inl, inr, refl, ◌∙◌, ap, arith}
+use Rattle.std.specs.Cmp.{IsTotalOrder}
+use Rattle.std.specs.List.{insert}
+use Rattle.std.specs.Ordering.{ordering_reverse}
+use Rattle.std.specs.declared.cmp.Ordering.{Ordering}
+use Rattle.std.specs.declared.cmp.Ordering.TheVariants.{Less, Equal, Greater}
+use Rattle.ics_series.specs.Listing.{IsIn}
+use Rattle.ics_series.specs.Rising.{IsBefore, Rises}
+use Rattle.ics_series.specs.Merged.{by_order, put, union}
+use Rattle.ics_series.specs.MergedLaws.{before-put}
+use Rattle.ics_series.proofs.UnionLemmas.{in-union}
+
+module _ {A : Type 0} (R : A → A → Ordering) (o : IsTotalOrder R) where
+  pub before-all : (x : A) (ys : List A) → ((y : A) → IsIn y ys → R x y ≡ Less) → IsBefore R x ys
+  before-all x [] f = tt
+  before-all x (y ∷ ys) f = (f y (inl refl), before-all x ys (λ z m. f z (inr m)))
+
+  pub put-before : (x : A) (ys : List A) → IsBefore R x ys → put R x ys ≡ x ∷ ys
+  put-before x [] h = refl
+  put-before x (y ∷ ys) h = ap (λ c. by_order c (x ∷ y ∷ ys) (x ∷ ys) (y ∷ put R x ys)) h.0
+
+  pub before-union : (x : A) (ys zs : List A) → IsBefore R x ys → IsBefore R x zs → IsBefore R x (union R ys zs)
+  before-union x [] zs h k = k
+  before-union x (y ∷ ys) zs h k = before-put R o x y (union R ys zs) h.0 (before-union x ys zs h.1 k)
+
+  pub union-none : (xs : List A) → Rises R xs → union R xs [] ≡ xs
+  union-none [] r = refl
+  union-none (x ∷ xs) r = ap (put R x) (union-none xs r.1) ∙ put-before x xs r.0
+
+  -- what comes before all of a rising list stands before it
+  pub one-first : (s : A) (xs : List A) → Rises R xs → IsBefore R s xs → union R xs (s ∷ []) ≡ s ∷ xs
+  one-first s [] r h = refl
+  one-first s (x ∷ xs) r h =
+      let later : R x s ≡ Greater = o.antisymm x s ∙ ap ordering_reverse h.0 in
+      ap (put R x) (one-first s xs r.1 h.1)
+      ∙ (ap (λ c. by_order c (x ∷ s ∷ xs) (x ∷ xs) (s ∷ put R x xs)) later ∙ ap (λ ws. s ∷ ws) (put-before x xs r.0))
+
+  before-at : (x : A) (xs : List A) (i : ℕ) (d : A) → IsBefore R x xs → i < length xs → R x (get_or xs i d) ≡ Less
+  before-at x [] i d h l = absurd (omega arith)
+  before-at x (y ∷ ys) zero d h l = h.0
+  before-at x (y ∷ ys) (suc i) d h l = before-at x ys i d h.1 (omega arith)
+
+  -- what comes after the value at a place, and before all behind that, stands behind it
+  pub one-after : (s : A) (xs : List A) (i : ℕ) (d : A) → Rises R xs → i < length xs → R (get_or xs i d) s ≡ Less → IsBefore R s (drop (suc i) xs)
+      → union R xs (s ∷ []) ≡ insert xs (suc i) s
+  one-after s [] i d r l less h = absurd (omega arith)
+  one-after s (x ∷ xs) zero d r l less h = ap (put R x) (one-first s xs r.1 h) ∙ put-before x (s ∷ xs) (less, r.0)
+  one-after s (x ∷ xs) (suc i) d r l less h =
+      let low : i < length xs = omega arith in
+      let first : R x s ≡ Less = o.trans x (get_or xs i d) s (before-at x xs i d r.0 low) less in
+      put-before x (union R xs (s ∷ [])) (before-union x xs (s ∷ []) r.0 (first, tt))
+      ∙ ap (λ ws. x ∷ ws) (one-after s xs i d r.1 low less h)
+
+  -- what is tied with the value at a place changes nothing
+  pub one-tied : (s : A) (xs : List A) (i : ℕ) (d : A) → Rises R xs → i < length xs → R s (get_or xs i d) ≡ Equal → IsBefore R s (drop (suc i) xs)
+      → union R xs (s ∷ []) ≡ xs
+  one-tied s [] i d r l same h = absurd (omega arith)
+  one-tied s (x ∷ xs) zero d r l same h =
+      let tied : R x s ≡ Equal = o.antisymm x s ∙ ap ordering_reverse same in
+      ap (put R x) (one-first s xs r.1 h) ∙ ap (λ c. by_order c (x ∷ s ∷ xs) (x ∷ xs) (s ∷ put R x xs)) tied
+  one-tied s (x ∷ xs) (suc i) d r l same h =
+      ap (put R x) (one-tied s xs i d r.1 (omega arith) same h) ∙ put-before x xs r.0
+
+  -- what stands in a list stays there with one more, unless it is tied with that
+  pub stays-or-tied : (e s : A) (xs : List A) → IsIn e xs → IsIn e (put R s xs) ⊎ (R s e ≡ Equal)
+  stays-or-tied e s xs m = by (R e s) refl
+    where
+      by : (c : Ordering) → R e s ≡ c → IsIn e (put R s xs) ⊎ (R s e ≡ Equal)
+      by Less p = inl (in-union R o e (s ∷ []) xs (tt, tt) (inr (((λ t. cc), tt), m)))
+      by Equal p = inr (o.antisymm s e ∙ ap ordering_reverse p)
+      by Greater p = inl (in-union R o e (s ∷ []) xs (tt, tt) (inr (((λ t. cc), tt), m)))

@@ -1,0 +1,264 @@
+-- What the merge of the leads' lists begins with, from the lead that goes first.
+use Rattle.std.specs.List.{AllByRecursion}
+use Rattle.std.proofs.Common.{◌≡◌, ℕ, zero, suc, ◌+◌, ◌<◌, ◌≤◌, true, false, ⊎_elim, List, [], ◌∷◌, ◌++◌, length, get_or, set, take, drop, map, sum_by, Option, Some, None, refl, sym, ◌∙◌, ap, subst, arith}
+use Rattle.std.specs.Option.{option_map}
+use Rattle.std.specs.Ordering.{is_eq, is_gt, nat_cmp, ordering_then}
+use Rattle.std.specs.declared.cmp.Ordering.{Ordering}
+use Rattle.std.specs.declared.cmp.Ordering.TheVariants.{Less, Equal, Greater}
+use Rattle.std.proofs.lemmas.Bool.{cases_lt}
+use Rattle.std.proofs.lemmas.Bool.Decides.{nat_tests}
+use Rattle.std.proofs.lemmas.List.{get_or-map, get_or-set_other, get_or_past, length-map, map-set}
+use Rattle.std.proofs.lemmas.List.Sums.{sum_by-set}
+use Rattle.std.proofs.Math.Seq.{map-set_same, take-append_seam}
+use Rattle.ics_series.specs.Entry.{Entry, entry_cmp, entry_of}
+use Rattle.ics_series.specs.EntryLaws.{entry_total}
+use Rattle.ics_series.specs.Leads.{is_given, listed, past, ComeAfter, IsAhead, IsEmpty}
+use Rattle.ics_series.specs.Merged.{by_order, cut, merged, union}
+use Rattle.ics_series.specs.MergedLaws.{before-tied, before-trans}
+use Rattle.ics_series.proofs.BeginsLemmas.{begins-at, cut-before, front-at, uncut, AllFront, AllRise, Begins}
+use Rattle.ics_series.specs.Rising.{IsBefore, Rises}
+use Rattle.ics_series.specs.Tournament.{above, head_cmp, lead_cmp, winner, AreSettled, AreSettledBut}
+use Rattle.ics_series.proofs.TournamentLemmas.{settled_but, wins}
+use Rattle.ics_series.specs.declared.occurrence.Occurrence.{Occurrence}
+
+-- what a lead holds is the first of its list
+abbrev IsHeaded : Option Entry → List Entry → Type 0
+IsHeaded None list = list ≡ []
+IsHeaded (Some e) list = (rest : List Entry) × ((list ≡ e ∷ rest) × IsBefore entry_cmp e rest)
+
+no-list : (rest : List Entry) → IsEmpty rest → rest ≡ []
+no-list [] h = refl
+no-list (x ∷ xs) h = absurd h
+
+headed-one : (o : Option Occurrence) (rest : List Entry) → IsAhead o rest → IsHeaded (option_map entry_of o) (listed o rest)
+headed-one None rest h = no-list rest h
+headed-one (Some o) rest h = (rest, (refl, h))
+
+-- e comes before a list, if it comes before what heads it
+before-headed : (e : Entry) (k : Option Entry) (list : List Entry) → IsHeaded k list → head_cmp (Some e) k ≡ Less → IsBefore entry_cmp e list
+before-headed e None list h l = subst (IsBefore entry_cmp e) (sym h) tt
+before-headed e (Some f) list h l = subst (IsBefore entry_cmp e) (sym h.1.0) (l, before-trans entry_cmp entry_total e f h.0 l h.1.1)
+
+behind-by : (e f : Entry) (rest : List Entry) (c : Ordering) → entry_cmp e f ≡ c → IsBefore entry_cmp f rest → is_gt c ≡ false
+    → IsBefore entry_cmp e (by_order c (f ∷ rest) rest (f ∷ rest))
+behind-by e f rest Less p h n = (p, before-trans entry_cmp entry_total e f rest p h)
+behind-by e f rest Equal p h n = before-tied entry_cmp entry_total e f rest p h
+behind-by e f rest Greater p h n = cc
+
+behind-headed : (e : Entry) (k : Option Entry) (list : List Entry) → IsHeaded k list → is_gt (head_cmp (Some e) k) ≡ false → IsBefore entry_cmp e (cut entry_cmp e list)
+behind-headed e None list h n = subst (λ l. IsBefore entry_cmp e (cut entry_cmp e l)) (sym h) tt
+behind-headed e (Some f) list h n =
+    subst (λ l. IsBefore entry_cmp e (cut entry_cmp e l)) (sym h.1.0) (behind-by e f h.0 (entry_cmp e f) refl h.1.1 n)
+
+not-after : (c d : Ordering) → is_gt (ordering_then c d) ≡ false → is_gt c ≡ false
+not-after Less d h = refl
+not-after Equal d h = refl
+not-after Greater d h = h
+
+strictly : (c d : Ordering) → d ≡ Greater → is_gt (ordering_then c d) ≡ false → c ≡ Less
+strictly Less d e h = refl
+strictly Equal d e h = cc
+strictly Greater d e h = cc
+
+nothing-after : (k : Option Entry) → is_gt (head_cmp None k) ≡ false → k ≡ None
+nothing-after None h = refl
+nothing-after (Some e) h = cc
+
+level : (c : Ordering) → is_eq c ≡ true → c ≡ Equal
+level Less h = cc
+level Equal h = refl
+level Greater h = cc
+
+map-map : {A B C : Type 0} (f : B → C) (g : A → B) (xs : List A) → map f (map g xs) ≡ map (λ x. f (g x)) xs
+map-map f g [] = refl
+map-map f g (x ∷ xs) = ap (λ ys. f (g x) ∷ ys) (map-map f g xs)
+
+later : (a b : ℕ) → b < a → nat_cmp a b ≡ Greater
+later a b h = grind (arith, nat_tests)
+
+-- the last given comes before what is not given
+given-before-by : (p e : Entry) (rest : List Entry) (c : Ordering) → entry_cmp p e ≡ c → is_eq c ≡ false → IsBefore entry_cmp p (by_order c (e ∷ rest) rest (e ∷ rest)) → entry_cmp p e ≡ Less
+given-before-by p e rest Less q n h = q
+given-before-by p e rest Equal q n h = cc
+given-before-by p e rest Greater q n h = h.0
+
+-- leads, by what they hold and what is left behind it
+module _ {X : Type 0} (head : X → Option Occurrence) (rest : X → List Entry) (ahead : (x : X) → IsAhead (head x) (rest x)) where
+  headed : (xs : List X) (i : ℕ) → IsHeaded (get_or (map (λ x. option_map entry_of (head x)) xs) i None) (get_or (map (λ x. listed (head x) (rest x)) xs) i [])
+  headed [] i = refl
+  headed (x ∷ xs) zero = headed-one (head x) (rest x) (ahead x)
+  headed (x ∷ xs) (suc i) = headed xs i
+
+  rises-listed : (o : Option Occurrence) (es : List Entry) → IsAhead o es → Rises entry_cmp es → Rises entry_cmp (listed o es)
+  rises-listed None es a r = r
+  rises-listed (Some o) es a r = (a, r)
+
+  all_rise : ((x : X) → Rises entry_cmp (rest x)) → (xs : List X) → AllRise entry_cmp (map (λ x. listed (head x) (rest x)) xs)
+  all_rise r [] = tt
+  all_rise r (x ∷ xs) = (rises-listed (head x) (rest x) (ahead x) (r x), all_rise r xs)
+
+  -- no lead holds anything
+  past-nothing : (last o : Option Occurrence) (es : List Entry) → IsAhead o es → option_map entry_of o ≡ None → past last (listed o es) ≡ []
+  past-nothing None None es a e = no-list es a
+  past-nothing (Some p) None es a e = ap (cut entry_cmp (entry_of p)) (no-list es a)
+  past-nothing last (Some o) es a e = cc
+
+  merged-nothing : (last : Option Occurrence) (xs : List X) → ((i : ℕ) → get_or (map (λ x. option_map entry_of (head x)) xs) i None ≡ None)
+      → merged entry_cmp (map (λ x. past last (listed (head x) (rest x))) xs) ≡ []
+  merged-nothing last [] h = refl
+  merged-nothing last (x ∷ xs) h =
+      ap (λ l. union entry_cmp l (merged entry_cmp (map (λ y. past last (listed (head y) (rest y))) xs))) (past-nothing last (head x) (rest x) (ahead x) (h 0))
+      ∙ merged-nothing last xs (λ i. h (suc i))
+
+  module _ (xs : List X) (first : ℕ)
+      (wins : (lead : ℕ) → lead < length xs → is_gt (lead_cmp (map (λ x. option_map entry_of (head x)) xs) first lead) ≡ false) where
+    -- where the first lead holds nothing, no lead does
+    pub nothing-comes : (last : Option Occurrence) → get_or (map (λ x. option_map entry_of (head x)) xs) first None ≡ None
+        → merged entry_cmp (map (λ x. past last (listed (head x) (rest x))) xs) ≡ []
+    nothing-comes last e = merged-nothing last xs (λ i. ⊎_elim (within i) (past_end i) (cases_lt i (length xs)))
+      where
+        within : (i : ℕ) → i < length xs → get_or (map (λ x. option_map entry_of (head x)) xs) i None ≡ None
+        within i l =
+            nothing-after (get_or (map (λ x. option_map entry_of (head x)) xs) i None)
+            (subst (λ h. is_gt (head_cmp h (get_or (map (λ x. option_map entry_of (head x)) xs) i None)) ≡ false) e
+            (not-after (head_cmp (get_or (map (λ x. option_map entry_of (head x)) xs) first None) (get_or (map (λ x. option_map entry_of (head x)) xs) i None)) (nat_cmp first i) (wins i l)))
+
+        past_end : (i : ℕ) → length xs ≤ i → get_or (map (λ x. option_map entry_of (head x)) xs) i None ≡ None
+        past_end i l = get_or_past (map (λ x. option_map entry_of (head x)) xs) i None (omega (arith, length-map xs (λ x. option_map entry_of (head x))))
+
+    -- the list of a lead, or none past the leads
+    at_lead : (i : ℕ) (P : List Entry → Type 0) → P [] → (i < length xs → P (get_or (map (λ x. listed (head x) (rest x)) xs) i [])) → P (get_or (map (λ x. listed (head x) (rest x)) xs) i [])
+    at_lead i P none some =
+        ⊎_elim some
+        (λ l. subst P (sym (get_or_past (map (λ x. listed (head x) (rest x)) xs) i [] (omega (arith, length-map xs (λ x. listed (head x) (rest x)))))) none)
+        (cases_lt i (length xs))
+
+    begins-first : ((x : X) → Rises entry_cmp (rest x)) → (e : Entry) → get_or (map (λ x. option_map entry_of (head x)) xs) first None ≡ Some e
+        → Begins entry_cmp entry_total e (map (λ x. listed (head x) (rest x)) xs)
+    begins-first rises e is =
+        let heads : List (Option Entry) = map (λ x. option_map entry_of (head x)) xs in
+        let lists : List (List Entry) = map (λ x. listed (head x) (rest x)) xs in
+        let found : IsHeaded (Some e) (get_or lists first []) = subst (λ h. IsHeaded h (get_or lists first [])) is (headed xs first) in
+        begins-at entry_cmp entry_total e lists first found.0 (all_rise rises xs) found.1.0
+        (λ i l. at_lead i (IsBefore entry_cmp e) tt (λ within.
+        before-headed e (get_or heads i None) (get_or lists i []) (headed xs i)
+        (subst (λ h. head_cmp h (get_or heads i None) ≡ Less) is
+        (strictly (head_cmp (get_or heads first None) (get_or heads i None)) (nat_cmp first i) (later first i l) (wins i within)))))
+        (λ i l. at_lead i (λ list. IsBefore entry_cmp e (cut entry_cmp e list)) tt (λ within.
+        behind-headed e (get_or heads i None) (get_or lists i []) (headed xs i)
+        (subst (λ h. is_gt (head_cmp h (get_or heads i None)) ≡ false) is
+        (not-after (head_cmp (get_or heads first None) (get_or heads i None)) (nat_cmp first i) (wins i within)))))
+
+    -- what is not given comes after what was given last
+    fresh-after : ((x : X) → Rises entry_cmp (rest x)) → (p : Occurrence) (e : Entry) → get_or (map (λ x. option_map entry_of (head x)) xs) first None ≡ Some e
+        → is_given (Some p) (Some e) ≡ false → AllFront entry_cmp (entry_of p) (map (λ x. listed (head x) (rest x)) xs) → entry_cmp (entry_of p) e ≡ Less
+    fresh-after rises p e is fresh follows =
+        let lists : List (List Entry) = map (λ x. listed (head x) (rest x)) xs in
+        let found : IsHeaded (Some e) (get_or lists first []) = subst (λ h. IsHeaded h (get_or lists first [])) is (headed xs first) in
+        given-before-by (entry_of p) e found.0 (entry_cmp (entry_of p) e) refl fresh
+        (subst (λ l. IsBefore entry_cmp (entry_of p) (cut entry_cmp (entry_of p) l)) found.1.0 (front-at entry_cmp entry_total (entry_of p) lists first follows))
+
+    uncut-fresh : ((x : X) → Rises entry_cmp (rest x)) → (last : Option Occurrence) (e : Entry) → get_or (map (λ x. option_map entry_of (head x)) xs) first None ≡ Some e
+        → is_given last (Some e) ≡ false → ComeAfter last (map (λ x. past last (listed (head x) (rest x))) xs)
+        → map (λ x. past last (listed (head x) (rest x))) xs ≡ map (λ x. listed (head x) (rest x)) xs
+    uncut-fresh rises None e is fresh follows = refl
+    uncut-fresh rises (Some p) e is fresh follows =
+        let lists : List (List Entry) = map (λ x. listed (head x) (rest x)) xs in
+        let one = map-map (cut entry_cmp (entry_of p)) (λ x. listed (head x) (rest x)) xs in
+        let less = fresh-after rises p e is fresh (subst (AllByRecursion (IsBefore entry_cmp (entry_of p))) (sym one) follows) in
+        sym one ∙ uncut entry_cmp entry_total (entry_of p) e lists less (begins-first rises e is).fronts
+
+    -- the first of all, where it is not given, comes next
+    pub first-comes : ((x : X) → Rises entry_cmp (rest x)) → (last : Option Occurrence) (o : Occurrence)
+        → get_or (map (λ x. option_map entry_of (head x)) xs) first None ≡ Some (entry_of o)
+        → is_given last (get_or (map (λ x. option_map entry_of (head x)) xs) first None) ≡ false
+        → ComeAfter last (map (λ x. past last (listed (head x) (rest x))) xs)
+        → (merged entry_cmp (map (λ x. past last (listed (head x) (rest x))) xs) ≡ entry_of o ∷ merged entry_cmp (map (λ x. past (Some o) (listed (head x) (rest x))) xs))
+        × ComeAfter (Some o) (map (λ x. past (Some o) (listed (head x) (rest x))) xs)
+    first-comes rises last o is fresh follows =
+        let same = uncut-fresh rises last (entry_of o) is (subst (λ h. is_given last h ≡ false) is fresh) follows in
+        let b = begins-first rises (entry_of o) is in
+        let one = map-map (cut entry_cmp (entry_of o)) (λ x. listed (head x) (rest x)) xs in
+        (ap (merged entry_cmp) same ∙ (b.is ∙ ap (λ ls. entry_of o ∷ merged entry_cmp ls) one), subst (AllByRecursion (IsBefore entry_cmp (entry_of o))) one b.fronts)
+
+-- drawing what is given leaves what is still to come
+pub past-drawn : (last head : Option Occurrence) (rest : List Entry) → IsAhead head rest → is_given last (option_map entry_of head) ≡ true → past last rest ≡ past last (listed head rest)
+past-drawn None head rest a g = cc
+past-drawn (Some p) None rest a g = cc
+past-drawn (Some p) (Some o) rest a g =
+    let tied : entry_cmp (entry_of p) (entry_of o) ≡ Equal = level (entry_cmp (entry_of p) (entry_of o)) g in
+    cut-before entry_cmp entry_total (entry_of p) rest (before-tied entry_cmp entry_total (entry_of p) (entry_of o) rest tied a)
+    ∙ sym (ap (λ c. by_order c (entry_of o ∷ rest) rest (entry_of o ∷ rest)) tied)
+
+-- and shortens the list
+pub shorter-drawn : (last head : Option Occurrence) (rest : List Entry) → is_given last (option_map entry_of head) ≡ true → length rest < length (listed head rest)
+shorter-drawn None head rest g = cc
+shorter-drawn (Some p) None rest g = cc
+shorter-drawn (Some p) (Some o) rest g = omega arith
+
+-- no lead goes before the winner of all
+pub wins-leads : {X : Type 0} (head : X → Option Occurrence) (xs : List X) (winners : List ℕ) → length winners ≡ length xs
+    → AreSettled (map (λ x. option_map entry_of (head x)) xs) winners
+    → (lead : ℕ) → lead < length xs → is_gt (lead_cmp (map (λ x. option_map entry_of (head x)) xs) (winner winners 1) lead) ≡ false
+wins-leads head xs winners long settled lead l = wins (map (λ x. option_map entry_of (head x)) xs) winners settled lead (omega arith)
+
+-- what a vector has after its elements were lent as a slice of the same length
+pub written-back : {X : Type 0} (before after : List X) (n : ℕ) → n ≡ length before → length after ≡ length before → take n (after ++ drop (length after) before) ≡ after
+written-back before after n h k = ap (λ j. take j (after ++ drop (length after) before)) (h ∙ sym k) ∙ take-append_seam after (drop (length after) before)
+
+-- a lead that holds what was given is one of the leads
+pub given-within : (last : Option Occurrence) (heads : List (Option Entry)) (lead : ℕ) → is_given last (get_or heads lead None) ≡ true → lead < length heads
+given-within last heads lead g =
+    ⊎_elim (λ l. l) (λ l. absurd (none-given last (subst (λ h. is_given last h ≡ true) (get_or_past heads lead None l) g))) (cases_lt lead (length heads))
+  where
+    none-given : (last : Option Occurrence) → is_given last None ≡ true → ⊥
+    none-given None g = cc
+    none-given (Some o) g = cc
+
+-- after a draw of a lead, whose value was old and is new
+module _ {X : Type 0} (head : X → Option Occurrence) (rest : X → List Entry) (xs : List X) (lead : ℕ) (old new : X) (read : old ≡ get_or xs lead old) where
+  -- all winners stay right but for those above the lead
+  pub settled-drawn : (winners : List ℕ) → AreSettled (map (λ x. option_map entry_of (head x)) xs) winners
+      → AreSettledBut (above 1 (length winners + lead)) (map (λ x. option_map entry_of (head x)) (set xs lead new)) winners
+  settled-drawn winners settled =
+      settled_but (map (λ x. option_map entry_of (head x)) xs) (map (λ x. option_map entry_of (head x)) (set xs lead new)) winners lead
+      (λ j h. ap (λ hs. get_or hs j None) (map-set (λ x. option_map entry_of (head x)) xs lead new)
+      ∙ get_or-set_other (map (λ x. option_map entry_of (head x)) xs) lead j (option_map entry_of (head new)) None h)
+      settled
+
+  given-read : (last : Option Occurrence) (first : ℕ) → lead ≡ first → is_given last (get_or (map (λ x. option_map entry_of (head x)) xs) first None) ≡ true
+      → (lead < length xs) × (is_given last (option_map entry_of (head old)) ≡ true)
+  given-read last first is g =
+      let within : lead < length xs = omega (arith, given-within last (map (λ x. option_map entry_of (head x)) xs) first g, length-map xs (λ x. option_map entry_of (head x))) in (
+        within,
+        subst (λ h. is_given last h ≡ true)
+            (ap (λ i. get_or (map (λ x. option_map entry_of (head x)) xs) i None) (sym is)
+            ∙ (get_or-map (λ x. option_map entry_of (head x)) xs lead old None within ∙ sym (ap (λ x. option_map entry_of (head x)) read))) g,
+      )
+
+  to_come-set : (last : Option Occurrence) → past last (listed (head new) (rest new)) ≡ past last (listed (head old) (rest old))
+      → map (λ x. past last (listed (head x) (rest x))) (set xs lead new) ≡ map (λ x. past last (listed (head x) (rest x))) xs
+  to_come-set last e = map-set_same (λ x. past last (listed (head x) (rest x))) xs lead new old (e ∙ ap (λ x. past last (listed (head x) (rest x))) read)
+
+  -- where nothing was drawn
+  pub heads-kept : head new ≡ head old → map (λ x. option_map entry_of (head x)) (set xs lead new) ≡ map (λ x. option_map entry_of (head x)) xs
+  heads-kept e = map-set_same (λ x. option_map entry_of (head x)) xs lead new old (ap (option_map entry_of) e ∙ ap (λ x. option_map entry_of (head x)) read)
+
+  pub to_come-kept : (last : Option Occurrence) → head new ≡ head old → rest new ≡ rest old
+      → map (λ x. past last (listed (head x) (rest x))) (set xs lead new) ≡ map (λ x. past last (listed (head x) (rest x))) xs
+  to_come-kept last e r = to_come-set last (ap (λ h. past last (listed h (rest new))) e ∙ ap (λ l. past last (listed (head old) l)) r)
+
+  -- where the first lead has drawn, which held what was given
+  module _ (drawn : listed (head new) (rest new) ≡ rest old) (last : Option Occurrence) (first : ℕ) (is : lead ≡ first)
+      (given : is_given last (get_or (map (λ x. option_map entry_of (head x)) xs) first None) ≡ true) where
+    pub to_come-drawn : IsAhead (head old) (rest old) → map (λ x. past last (listed (head x) (rest x))) (set xs lead new) ≡ map (λ x. past last (listed (head x) (rest x))) xs
+    to_come-drawn ahead = to_come-set last (ap (past last) drawn ∙ past-drawn last (head old) (rest old) ahead (given-read last first is given).1)
+
+    pub fewer-drawn : sum_by (λ x. length (listed (head x) (rest x))) (set xs lead new) < sum_by (λ x. length (listed (head x) (rest x))) xs
+    fewer-drawn =
+        let known = given-read last first is given in
+        let same : length (listed (head (get_or xs lead old)) (rest (get_or xs lead old))) ≡ length (listed (head old) (rest old)) =
+        ap (λ x. length (listed (head x) (rest x))) (sym read) in
+        let less : length (listed (head new) (rest new)) < length (listed (head old) (rest old)) =
+        subst (λ l. length l < length (listed (head old) (rest old))) (sym drawn) (shorter-drawn last (head old) (rest old) known.1) in
+        omega (arith, sum_by-set (λ x. length (listed (head x) (rest x))) xs lead new old known.0)

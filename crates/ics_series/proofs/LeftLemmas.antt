@@ -1,0 +1,120 @@
+-- The starts still to come of a rule and of those that are known from the first, as one list.
+use Rattle.std.specs.Prelude.{int_lt, slice_get, if◌then◌else◌}
+use Rattle.std.proofs.Common.{◌≡◌, ℤ, List, [], ◌∷◌, Bool, true, false, Some, None, inl, inr, ⊎_elim, refl, sym, ◌∙◌, ap, subst}
+use Rattle.std.specs.Cmp.{IsTotalOrder}
+use Rattle.std.specs.declared.cmp.Ordering.{Ordering}
+use Rattle.std.specs.declared.cmp.Ordering.TheVariants.{Less, Equal, Greater}
+use Rattle.std.proofs.lemmas.Cmp.{tied_itself}
+use Rattle.ics_series.specs.declared.start.Giver.{Giver}
+use Rattle.ics_series.specs.declared.start.Start.{Start}
+use Rattle.ics_series.specs.Found.{moment_cmp, HasStart}
+use Rattle.ics_series.specs.Listing.{IsIn}
+use Rattle.ics_series.specs.Merged.{by_order, cut, put, union}
+use Rattle.ics_series.specs.MergedLaws.{back, before-tied, before-trans}
+use Rattle.ics_series.specs.Rising.{IsBefore, Rises}
+use Rattle.ics_series.specs.SeriesStarts.{earlier_of}
+use Rattle.ics_series.specs.Starts.{IsNotAfter}
+use Rattle.ics_series.proofs.BeginsLemmas.{cut-before, cut-union, front-union, put-front, union-front}
+use Rattle.ics_series.proofs.FirstLemmas.{int-less, moment_total, tied-moment}
+use Rattle.ics_series.proofs.ListingLemmas.{before-in}
+use Rattle.ics_series.proofs.MeetingLemmas.{less-true, true-less}
+use Rattle.ics_series.proofs.RuleDayLemmas.{less-start}
+use Rattle.ics_series.proofs.PutMemberLemmas.{itself-put, member-put}
+
+module _ {A : Type 0} (R : A → A → Ordering) (o : IsTotalOrder R) where
+  -- what stands in the first of two lists stands in their union
+  pub member-union : (e : A) (xs ys : List A) → Rises R xs → IsIn e xs → IsIn e (union R xs ys)
+  member-union e [] ys r m = absurd m
+  member-union e (x ∷ xs) ys r m =
+      ⊎_elim (λ s. subst (λ y. IsIn y (put R x (union R xs ys))) (sym s) (itself-put R o x (union R xs ys)))
+      (λ n. ⊎_elim (λ k. k) (λ tied. let less = before-in R o x e xs r.0 n in absurd cc) (member-put R o e x (union R xs ys) (member-union e xs ys r.1 n))) m
+
+  member-cut-by : (e x : A) (xs : List A) (c : Ordering) → (c ≡ Equal → e ≡ x → ⊥) → IsIn e (x ∷ xs) → IsIn e (by_order c (x ∷ xs) xs (x ∷ xs))
+  member-cut-by e x xs Less n m = m
+  member-cut-by e x xs Equal n m = ⊎_elim (λ s. absurd (n refl s)) (λ k. k) m
+  member-cut-by e x xs Greater n m = m
+
+  -- what is not tied with what goes stays
+  pub member-cut : (s e : A) (xs : List A) → (R s e ≡ Equal → ⊥) → IsIn e xs → IsIn e (cut R s xs)
+  member-cut s e [] n m = absurd m
+  member-cut s e (x ∷ xs) n m = member-cut-by e x xs (R s x) (λ t is. n (ap (R s) is ∙ t)) m
+
+  cut-own : (s : A) (xs : List A) → cut R s (s ∷ xs) ≡ xs
+  cut-own s xs = ap (λ c. by_order c (s ∷ xs) xs (s ∷ xs)) (tied_itself o s)
+
+  pub begins-alone : (s : A) (ys : List A) → union R [] (s ∷ ys) ≡ s ∷ union R (cut R s []) (cut R s (s ∷ ys))
+  begins-alone s ys = ap (λ zs. s ∷ zs) (sym (cut-own s ys))
+
+  pub begins-first : (s : A) (xs ys : List A) → Rises R (s ∷ xs) → IsBefore R s (cut R s ys) → union R (s ∷ xs) ys ≡ s ∷ union R (cut R s (s ∷ xs)) (cut R s ys)
+  begins-first s xs ys r h =
+      put-front R o s s (union R xs ys) (tied_itself o s) (front-union R o s xs ys r.0 h)
+      ∙ ap (λ zs. s ∷ zs) (cut-union R o s xs ys r.0 h ∙ ap (λ zs. union R zs (cut R s ys)) (sym (cut-own s xs)))
+
+  pub begins-second : (s x : A) (xs ys : List A) → Rises R (x ∷ xs) → R s x ≡ Less → union R (x ∷ xs) (s ∷ ys) ≡ s ∷ union R (cut R s (x ∷ xs)) (cut R s (s ∷ ys))
+  begins-second s x xs ys r l =
+      let before : IsBefore R s (x ∷ xs) = (l, before-trans R o s x xs l r.0) in
+      union-front R o s (x ∷ xs) ys before
+      ∙ ap (λ zs. s ∷ zs) (ap (λ zs. union R zs ys) (sym (cut-before R o s (x ∷ xs) before)) ∙ ap (union R (cut R s (x ∷ xs))) (sym (cut-own s ys)))
+
+  -- what is not after the first of a rising list comes before all of it but for one of its key
+  pub not-after-front : (x y : A) (ys : List A) (c : Ordering) → R x y ≡ c → (c ≡ Greater → ⊥) → Rises R (y ∷ ys) → IsBefore R x (by_order c (y ∷ ys) ys (y ∷ ys))
+  not-after-front x y ys Less e n r = (e, before-trans R o x y ys e r.0)
+  not-after-front x y ys Equal e n r = before-tied R o x y ys e r.0
+  not-after-front x y ys Greater e n r = absurd (n refl)
+
+-- Of the first of both kinds the earlier one is taken.
+taken-some : (s : Start) (xs ys : List Start) → union moment_cmp xs ys ≡ s ∷ union moment_cmp (cut moment_cmp s xs) (cut moment_cmp s ys) → (t : Start) → Some s ≡ Some t
+    → union moment_cmp xs ys ≡ t ∷ union moment_cmp (cut moment_cmp t xs) (cut moment_cmp t ys)
+taken-some s xs ys h t e = let same : s ≡ t = some-same s t e in subst (λ u. union moment_cmp xs ys ≡ u ∷ union moment_cmp (cut moment_cmp u xs) (cut moment_cmp u ys)) same h
+  where
+    some-same : (x y : Start) → Some x ≡ Some y → x ≡ y
+    some-same x y h = cc
+
+less-by : (a b : Start) → int_lt b.moment a.moment ≡ true → moment_cmp b a ≡ Less
+less-by a b e = less-start b a (less-true b.moment a.moment e)
+
+not-greater-by : (a b : Start) → int_lt b.moment a.moment ≡ false → moment_cmp a b ≡ Greater → ⊥
+not-greater-by a b e g =
+    let later = int-less b.moment a.moment (back moment_cmp moment_total a b g) in
+    let f : true ≡ false = sym (true-less b.moment a.moment later) ∙ e in
+    cc
+
+-- if one is the first of what is left, and both lists rise
+pub first-taken : (xs ys : List Start) (s : Start) → Rises moment_cmp xs → Rises moment_cmp ys → earlier_of (slice_get xs 0) (slice_get ys 0) ≡ Some s
+    → union moment_cmp xs ys ≡ s ∷ union moment_cmp (cut moment_cmp s xs) (cut moment_cmp s ys)
+first-taken [] [] s r k e = let f : None ≡ Some s = e in absurd cc
+first-taken [] (y ∷ ys) s r k e = taken-some y [] (y ∷ ys) (begins-alone moment_cmp moment_total y ys) s e
+first-taken (x ∷ xs) [] s r k e = taken-some x (x ∷ xs) [] (begins-first moment_cmp moment_total x xs [] r tt) s e
+first-taken (x ∷ xs) (y ∷ ys) s r k e = by (int_lt y.moment x.moment) refl e
+  where
+    by : (b : Bool) → int_lt y.moment x.moment ≡ b → (if b then Some y else Some x) ≡ Some s
+        → union moment_cmp (x ∷ xs) (y ∷ ys) ≡ s ∷ union moment_cmp (cut moment_cmp s (x ∷ xs)) (cut moment_cmp s (y ∷ ys))
+    by true t e = taken-some y (x ∷ xs) (y ∷ ys) (begins-second moment_cmp moment_total y x xs ys r (less-by x y t)) s e
+    by false f e =
+        taken-some x (x ∷ xs) (y ∷ ys)
+        (begins-first moment_cmp moment_total x xs (y ∷ ys) r (not-after-front moment_cmp moment_total x y ys (moment_cmp x y) refl (not-greater-by x y f) k)) s e
+
+pub none-taken : (xs ys : List Start) → earlier_of (slice_get xs 0) (slice_get ys 0) ≡ None → union moment_cmp xs ys ≡ []
+none-taken [] [] e = refl
+none-taken [] (y ∷ ys) e = let f : Some y ≡ None = e in absurd cc
+none-taken (x ∷ xs) [] e = let f : Some x ≡ None = e in absurd cc
+none-taken (x ∷ xs) (y ∷ ys) e = by (int_lt y.moment x.moment) e
+  where
+    by : (b : Bool) → (if b then Some y else Some x) ≡ None → union moment_cmp (x ∷ xs) (y ∷ ys) ≡ []
+    by true e = let f : Some y ≡ None = e in absurd cc
+    by false e = let f : Some x ≡ None = e in absurd cc
+
+-- Which lists have a start at an instant by a giver or an earlier one.
+pub put-has : (x : Start) (ys : List Start) (giver : Giver) (t : ℤ) → IsNotAfter x.giver giver → HasStart ys giver t → HasStart (put moment_cmp x ys) giver t
+put-has x ys giver t early h =
+    ⊎_elim
+    (λ m. record { start = h.start; stands = m; same = h.same; earlier = h.earlier })
+    (λ tied. record { start = x; stands = itself-put moment_cmp moment_total x ys; same = tied-moment x h.start tied ∙ h.same; earlier = early })
+    (member-put moment_cmp moment_total h.start x ys h.stands)
+
+pub union-has : (xs ys : List Start) (giver : Giver) (t : ℤ) → ((x : Start) → IsIn x xs → IsNotAfter x.giver giver) → HasStart ys giver t → HasStart (union moment_cmp xs ys) giver t
+union-has [] ys giver t early h = h
+union-has (x ∷ xs) ys giver t early h = put-has x (union moment_cmp xs ys) giver t (early x (inl refl)) (union-has xs ys giver t (λ y m. early y (inr m)) h)
+
+pub has-union : (xs ys : List Start) (giver : Giver) (t : ℤ) → Rises moment_cmp xs → HasStart xs giver t → HasStart (union moment_cmp xs ys) giver t
+has-union xs ys giver t r h = record { start = h.start; stands = member-union moment_cmp moment_total h.start xs ys r h.stands; same = h.same; earlier = h.earlier }

@@ -1,0 +1,212 @@
+-- What a master gives that recurs: of the occurrences to come those of its event.
+use Rattle.std.specs.Prelude.{◌≤ℤ◌, ◌||◌, ◌&&◌, ◌==◌, int_le, neg_ℤ, not, slice_get, is_none, is_some}
+use Rattle.std.proofs.Common.{◌≡◌, ◌<◌, ◌<ℤ◌, ℕ, zero, suc, ℤ, pos, List, [], ◌∷◌, map, length, get_or, inl, inr, ⊎_elim, Option, Some, None, Bool, true, false, refl, sym, ◌∙◌, ap, subst, arith}
+use Rattle.std.specs.List.{filter, list_any}
+use Rattle.std.specs.Option.{option_map}
+use Rattle.std.specs.Ordering.{int_eq}
+use Rattle.std.proofs.lemmas.Int.{ints}
+use Rattle.std.proofs.lemmas.Option.{slice_get-get_or}
+use Rattle.ics_calendar.specs.Event.{FileSaid, IsEvent, IsEventOf}
+use Rattle.ics_calendar.specs.declared.event.Event.{Event}
+use Rattle.ics_calendar.specs.declared.time.Time.{Time}
+use Rattle.ics_zone.specs.Tables.{phases_of}
+use Rattle.ics_series.specs.declared.version.Version.{Version}
+use Rattle.ics_series.specs.declared.window.Window.{Window}
+use Rattle.ics_series.specs.declared.zones.FileZones.{FileZones}
+use Rattle.ics_series.specs.Clocks.{Clock, Clocks, instant}
+use Rattle.ics_series.specs.Entry.{Entry, Rank, entry_cmp}
+use Rattle.ics_series.specs.Listing.{IsIn, IsListing}
+use Rattle.ics_series.specs.Masters.{IsOfVersion, IsSince, Recurs}
+use Rattle.ics_series.specs.MetList.{is_after, is_kept, IsEventMet, IsGiven, IsGivenBy}
+use Rattle.ics_series.specs.Occurs.{IsOf}
+use Rattle.ics_series.specs.Overridden.{AreOverridden}
+use Rattle.ics_series.specs.Placed.{Placed, clocks_at}
+use Rattle.ics_series.specs.SeriesStarts.{IsSeriesMet}
+use Rattle.ics_series.specs.Singles.{is_single}
+use Rattle.ics_series.specs.Spots.{event_at}
+use Rattle.ics_series.specs.Starts.{time_of}
+use Rattle.ics_series.specs.Versions.{is_named, label_of, seen, AreChosen, Label}
+use Rattle.ics_series.specs.Zones.{asked, clocks_in, AreReached}
+use Rattle.ics_series.proofs.AfterKeyLemmas.{since-none}
+use Rattle.ics_series.proofs.FilterLemmas.{listing-filter}
+use Rattle.ics_series.proofs.GivenLemmas.{in-map, placed-event}
+use Rattle.ics_series.proofs.GiverLemmas.{gives-value, rdate-time}
+use Rattle.ics_series.proofs.InstantLemmas.{late}
+use Rattle.ics_series.proofs.ToComeLemmas.{come-listed, is-after, listed-given, to-come}
+use Rattle.ics_series.proofs.WholeLemmas.{whole-listing}
+
+-- an event that recurs is a master
+pub recurring-master : (event : Event) → is_single event ≡ false → event.recurrence ≡ None
+recurring-master event = by event.recurrence ((is_none event.rule && length event.rdates == 0) && length event.exdates == 0)
+  where
+    by : (r : Option Time) (b : Bool) → (is_some r || b) ≡ false → r ≡ None
+    by None b e = refl
+    by (Some time) b e = let f : true ≡ false = e in absurd cc
+
+not-named : (b : Bool) → not b ≡ true → b ≡ false
+not-named true e = let f : false ≡ true = e in absurd cc
+not-named false e = refl
+
+-- Instants among others.
+among-by : (x t : ℤ) (b rest : Bool) → int_eq x t ≡ b → ((t ≡ x) → ⊥) → rest ≡ false → (b || rest) ≡ false
+among-by x t true rest e n f = absurd (n (grind (arith, ints)))
+among-by x t false rest e n f = f
+
+pub not-among : (t : ℤ) (instants : List ℤ) → (IsIn t instants → ⊥) → list_any (λ x. int_eq x t) instants ≡ false
+not-among t [] n = refl
+not-among t (x ∷ xs) n = among-by x t (int_eq x t) (list_any (λ x. int_eq x t) xs) refl (λ e. n (inl e)) (not-among t xs (λ m. n (inr m)))
+
+itself : (x t : ℤ) → t ≡ x → int_eq x t ≡ true
+itself x t e = grind (arith, ints)
+
+or-true : (a b : Bool) → b ≡ true → (a || b) ≡ true
+or-true true b e = refl
+or-true false b e = e
+
+pub in-among : (t : ℤ) (instants : List ℤ) → IsIn t instants → list_any (λ x. int_eq x t) instants ≡ true
+in-among t [] m = absurd m
+in-among t (x ∷ xs) m = ⊎_elim (λ e. ap (λ b. b || list_any (λ x. int_eq x t) xs) (itself x t e)) (λ n. or-true (int_eq x t) (list_any (λ x. int_eq x t) xs) (in-among t xs n)) m
+
+-- an occurrence begins after the last two days of the year 0000 have begun
+pub of-late : (zones : FileZones) (event : Event) (o : Entry) → IsEvent event → IsOf (clocks_in zones) event o → neg_ℤ (pos 62_135_769_600) ≤ℤ o.start
+of-late zones event o e h =
+    let time = rdate-time h.lasts.given (gives-value (clocks_in zones) event h.lasts.giver h.lasts.given e.start e.rdates h.lasts.gives) in
+    let near = late zones (time_of h.lasts.given) time in
+    let starts = h.lasts.starts in
+    omega (arith, ints, near, starts)
+
+module _ (files : List FileSaid) (display : Clock) (w : Window) (after : Option Rank) (vs : List Version) (chosen : AreChosen files display vs) (label : Label) (there : IsIn label (map seen vs))
+    (event : Event) (stands : event_at files label.spot ≡ Some event) (recurs : is_single event ≡ false) where
+  abbrev clocks : Clocks
+  clocks = clocks_at files display label.spot.file
+
+  some-same : (x y : Event) → Some x ≡ Some y → x ≡ y
+  some-same x y h = cc
+
+  -- the event as it counts
+  own : (p : Placed) × IsIn p chosen.chosen × (label ≡ label_of files display p)
+  own = in-map (label_of files display) label chosen.chosen (subst (IsIn label) chosen.are there)
+
+  own-event : own.0.event ≡ event
+  own-event = some-same own.0.event event (sym (placed-event files own.0 ((chosen.listing.exact own.0).0 own.1).placed) ∙ (ap (λ (l : Label). event_at files l.spot) (sym own.2) ∙ stands))
+
+  own-clocks : clocks_at files display own.0.file ≡ clocks
+  own-clocks = ap (λ (l : Label). clocks_at files display l.spot.file) (sym own.2)
+
+  -- its subject is its UID alone
+  pub own-subject : label.subject ≡ record { uid = event.uid; recurrence = None }
+  own-subject =
+      ap (λ (l : Label). l.subject) own.2
+      ∙ ((λ i. record { uid = (own-event i).uid; recurrence = option_map (instant (clocks_at files display own.0.file)) (own-event i).recurrence })
+      ∙ ap (λ (r : Option Time). record { uid = event.uid; recurrence = option_map (instant (clocks_at files display own.0.file)) r }) (recurring-master event recurs))
+
+  module _ (zones : FileZones) (read : clocks_in zones ≡ clocks) (is_event : IsEvent event) (since : ℤ) (from : IsSince after event.uid since) (instants : List ℤ) (are : AreOverridden event.uid (map seen vs) instants) where
+    named : (o : Entry) → o.event ≡ event → is_kept (map seen vs) o ≡ not (list_any (λ x. int_eq x o.recurrence) instants)
+    named o e =
+        ap (λ (v : Event). is_some v.recurrence || not (is_named (record { uid = v.uid; recurrence = Some o.recurrence }) (map seen vs))) e
+        ∙ (ap (λ (r : Option Time). is_some r || not (is_named (record { uid = event.uid; recurrence = Some o.recurrence }) (map seen vs))) (recurring-master event recurs)
+        ∙ ap not (sym (are o.recurrence)))
+
+    begun : (o : Entry) → IsOf clocks event o → o.start <ℤ w.to → is_after after o ≡ int_le since o.start
+    begun o of b =
+        let low = of-late zones event o is_event (subst (λ k. IsOf k event o) (sym read) of) in
+        from o (ap (λ (v : Event). v.uid) of.event) of.recurrence (omega (arith, ints, low)) (omega (arith, ints, b, w.not_late))
+
+    le-true : (a b : ℤ) → a ≤ℤ b → int_le a b ≡ true
+    le-true a b h = grind (arith, ints)
+
+    true-le : (a b : ℤ) → int_le a b ≡ true → a ≤ℤ b
+    true-le a b h = grind (arith, ints)
+
+    met-come : (o : Entry) → IsSeriesMet clocks event w since instants o → IsOfVersion files display w after label o
+    met-come o m =
+        let of = m.0.0 in
+        let given : IsGiven files display w o = record {
+          by = own.0;
+          chosen = (chosen.listing.exact own.0).0 own.1;
+          is = (
+            subst (λ r. IsGivenBy (clocks_at files display own.0.file) own.0.event (option_map (instant (clocks_at files display own.0.file)) r) o) (sym (ap (λ (v : Event). v.recurrence) own-event ∙ recurring-master event recurs))
+                (subst (λ v. IsOf (clocks_at files display own.0.file) v o) (sym own-event) (subst (λ k. IsOf k event o) (sym own-clocks) of)),
+            m.0.1,
+          );
+        } in
+        let kept = named o of.event ∙ ap not (ap (λ t. list_any (λ x. int_eq x t) instants) of.recurrence ∙ not-among o.start instants m.1.1) in
+        record {
+          by = record { event = event; stands = stands; recurs = recurs };
+          of = of;
+          to_come = to-come files display w vs chosen after o given kept (begun o of m.0.1.begun ∙ le-true since o.start m.1.0);
+        }
+
+    come-met : (o : Entry) → IsOfVersion files display w after label o → IsSeriesMet clocks event w since instants o
+    come-met o h =
+        let same : h.by.event ≡ event = some-same h.by.event event (sym h.by.stands ∙ stands) in
+        let of : IsOf clocks event o = subst (λ v. IsOf clocks v o) same h.of in
+        let listed = listed-given files display w vs chosen o (come-listed files display w after o h.to_come) in
+        let meets = listed.0.is.1 in
+        let out : list_any (λ x. int_eq x o.start) instants ≡ false =
+        ap (λ t. list_any (λ x. int_eq x t) instants) (sym of.recurrence) ∙ not-named (list_any (λ x. int_eq x o.recurrence) instants) (sym (named o of.event) ∙ listed.1) in (
+          (of, meets),
+          (
+            true-le since o.start (sym (begun o of meets.begun) ∙ is-after files display w vs chosen after o h.to_come),
+            λ m. let f : true ≡ false = sym (in-among o.start instants m) ∙ out in cc,
+          ),
+        )
+
+    -- what its series gives are its occurrences to come
+    pub series-listing : (list : List Entry) → IsListing entry_cmp (IsSeriesMet (clocks_in zones) event w since instants) list → IsListing entry_cmp (IsOfVersion files display w after label) list
+    series-listing list l =
+        let k = subst (λ k. IsListing entry_cmp (IsSeriesMet k event w since instants) list) read l in record {
+          rises = k.rises;
+          exact = λ o. (λ m. met-come o ((k.exact o).0 m), λ h. (k.exact o).1 (come-met o h));
+        }
+
+-- what stands at a place of a list
+pub there-in : {A B : Type 0} (f : A → B) (xs : List A) (k : ℕ) (x : A) → slice_get xs k ≡ Some x → IsIn (f x) (map f xs)
+there-in f [] k x e = let n : None ≡ Some x = e in absurd cc
+there-in f (y ∷ ys) zero x e = let s : y ≡ x = cc in inl (ap f (sym s))
+there-in f (y ∷ ys) (suc k) x e = inr (there-in f ys k x e)
+
+pub version-there : {A : Type 0} (xs : List A) (k : ℕ) (d x : A) → k < length xs → slice_get xs k ≡ Some x → get_or xs k d ≡ x
+version-there xs k d x l e = some-same (get_or xs k d) x (sym (slice_get-get_or xs k d l) ∙ e)
+  where
+    some-same : {A : Type 0} (x y : A) → Some x ≡ Some y → x ≡ y
+    some-same x y h = cc
+
+-- an event that starts once does not recur
+pub not-single : (files : List FileSaid) (vs : List Version) (k : ℕ) (d v : Version) → k < length vs → slice_get vs k ≡ Some v
+    → (event : Event) → event_at files (get_or vs k d).spot ≡ Some event → is_single event ≡ true → Recurs files (seen v) → ⊥
+not-single files vs k d v l e event there single r =
+    let same : r.event ≡ event = some-same r.event event (sym r.stands ∙ (ap (λ (v : Version). event_at files v.spot) (sym (version-there vs k d v l e)) ∙ there)) in
+    let f : false ≡ true = sym r.recurs ∙ (ap is_single same ∙ single) in cc
+  where
+    some-same : (x y : Event) → Some x ≡ Some y → x ≡ y
+    some-same x y h = cc
+
+-- a version whose event starts once has none
+pub single-none : (files : List FileSaid) (display : Clock) (w : Window) (label : Label) → (Recurs files label → ⊥) → (list : List Entry) × IsListing entry_cmp (IsOfVersion files display w None label) list
+single-none files display w label n = ([], record { rises = tt; exact = λ o. (λ m. absurd m, λ h. absurd (n h.by)) })
+
+abbrev least : ℤ
+least = neg_ℤ (pos 9_223_372_036_854_775_808)
+
+-- a version whose event recurs has a list of all its occurrences that meet the window
+pub whole-version : (files : List FileSaid) (display : Clock) (w : Window) (vs : List Version) (chosen : AreChosen files display vs) (label : Label) (there : IsIn label (map seen vs))
+    (event : Event) (stands : event_at files label.spot ≡ Some event) (recurs : is_single event ≡ false) (zones : FileZones) (read : clocks_in zones ≡ clocks_at files display label.spot.file) (is_event : IsEvent event)
+    → AreReached zones.zones.now (asked w event) → IsEventOf (map phases_of zones.zones.now) event → (instants : List ℤ) → AreOverridden event.uid (map seen vs) instants
+    → (list : List Entry) × IsListing entry_cmp (IsOfVersion files display w None label) list
+whole-version files display w vs chosen label there event stands recurs zones read is_event reached own instants are =
+    let whole = whole-listing zones w event reached is_event own in
+    let kept = listing-filter (λ o. not (list_any (λ x. int_eq x o.start) instants)) entry_cmp (IsEventMet (clocks_in zones) event w) (IsSeriesMet (clocks_in zones) event w least instants) whole.0 whole.1 to from in (
+      filter (λ o. not (list_any (λ x. int_eq x o.start) instants)) whole.0,
+      series-listing files display w None vs chosen label there event stands recurs zones read is_event least (since-none None event.uid refl) instants are
+          (filter (λ o. not (list_any (λ x. int_eq x o.start) instants)) whole.0) kept,
+    )
+  where
+    low : (o : Entry) → IsEventMet (clocks_in zones) event w o → least ≤ℤ o.start
+    low o m = let l = of-late zones event o is_event m.0 in omega (arith, ints, l)
+
+    to : (o : Entry) → IsEventMet (clocks_in zones) event w o → not (list_any (λ x. int_eq x o.start) instants) ≡ true → IsSeriesMet (clocks_in zones) event w least instants o
+    to o m t = (m, (low o m, λ n. let f : true ≡ false = sym (in-among o.start instants n) ∙ not-named (list_any (λ x. int_eq x o.start) instants) t in cc))
+
+    from : (o : Entry) → IsSeriesMet (clocks_in zones) event w least instants o → IsEventMet (clocks_in zones) event w o × (not (list_any (λ x. int_eq x o.start) instants) ≡ true)
+    from o m = (m.0, ap not (not-among o.start instants m.1.1))

@@ -1,0 +1,224 @@
+-- The starts of a rule by the days of their locals.
+use Rattle.std.specs.Prelude.{◌≤ℤ◌, ◌<ℤ◌, int_lt, not, slice_get}
+use Rattle.std.proofs.Common.{◌≡◌, ℕ, zero, suc, ◌+◌, ◌-◌, ◌<◌, ◌≤◌, ℤ, pos, ◌+ℤ◌, ◌-ℤ◌, Bool, true, false, ◌&&◌, List, [], ◌∷◌, length, get_or, drop, ⊎_elim, refl, sym, ◌∙◌, ap, subst, arith}
+use Rattle.std.proofs.lemmas.Int.{ints}
+use Rattle.std.specs.Cmp.{int_cmp_is}
+use Rattle.std.specs.declared.cmp.Ordering.TheVariants.{Less, Equal, Greater}
+use Rattle.ics_values.specs.Days.{IsDayNumber}
+use Rattle.ics_values.specs.declared.local.Local.{Local}
+use Rattle.ics_values.specs.declared.stamp.Stamp.{Stamp}
+use Rattle.ics_values.specs.declared.stamp.Stamp.TheVariants.{Date, Floating, Utc, Zoned}
+use Rattle.ics_rule.specs.Kept.{is_kept}
+use Rattle.ics_rule.specs.Locals.{rules_end}
+use Rattle.ics_rule.specs.Recurrence.{Recurrence}
+use Rattle.ics_rule.proofs.KeptLemmas.{and_true}
+use Rattle.ics_calendar.specs.declared.event.Event.{Event}
+use Rattle.ics_series.specs.declared.start.Start.{Start}
+use Rattle.ics_series.specs.declared.window.Window.{Window}
+use Rattle.ics_series.specs.declared.zones.FileZones.{FileZones}
+use Rattle.ics_series.specs.Clocks.{midnight, seconds_of, written}
+use Rattle.ics_series.specs.Found.{moment_cmp, start_at}
+use Rattle.ics_series.specs.Listing.{IsIn}
+use Rattle.ics_series.specs.Merged.{by_order, cut, union}
+use Rattle.ics_series.specs.Rising.{IsBefore, Rises}
+use Rattle.ics_series.specs.RuleStarts.{found, found_in, gives, is_behind, is_ready, lets_until, local_numbered, midnight_number, moment_numbered, to_come, with_put, AreHeld}
+use Rattle.ics_series.specs.Starts.{stamp_at, time_at}
+use Rattle.ics_series.specs.Zones.{clocks_in}
+use Rattle.ics_series.proofs.FirstLemmas.{moment_total}
+use Rattle.ics_series.proofs.GiverLemmas.{written-at}
+use Rattle.ics_series.proofs.HeldLemmas.{before-all, before-union, put-before}
+use Rattle.ics_series.proofs.InstantLemmas.{instant-near}
+use Rattle.ics_series.proofs.MeetingLemmas.{le-true, less-true}
+use Rattle.ics_series.proofs.RuleStartLemmas.{found-none, rises-found, rises-found_in}
+use Rattle.ics_series.proofs.UnionLemmas.{union-in}
+
+-- Numbers and days.
+pub number-day : (day : ℤ) → IsDayNumber day → pos (midnight_number day) ≡ midnight day +ℤ pos 62_167_219_200
+number-day day h = omega (arith, ints, h.0)
+
+pub seconds-numbered : (n : ℕ) → seconds_of (local_numbered n) ≡ pos n -ℤ pos 62_167_219_200
+seconds-numbered n = omega (arith, ints)
+
+day-written : (s : Stamp) (a : Local) → midnight a.day ≤ℤ written (stamp_at s a)
+day-written (Date day) a = omega (arith, ints)
+day-written (Floating local) a = omega (arith, ints)
+day-written (Utc local) a = omega (arith, ints)
+day-written (Zoned local) a = omega (arith, ints)
+
+day-under : (day : ℤ) (n : ℕ) → IsDayNumber day → midnight_number day ≤ n → midnight day ≤ℤ midnight (local_numbered n).day
+day-under day n h l = omega (arith, ints, h.0, l)
+
+pub less-start : (s t : Start) → s.moment <ℤ t.moment → moment_cmp s t ≡ Less
+less-start s t l = sym (int_cmp_is s.moment t.moment Less l)
+
+module _ (zones : FileZones) (event : Event) where
+  -- a local from a day's midnight on means an instant that is less than two days before it
+  pub late-numbered : (day : ℤ) (n : ℕ) → IsDayNumber day → midnight_number day ≤ n → (midnight day -ℤ pos 172_800) <ℤ moment_numbered (clocks_in zones) event n
+  late-numbered day n h l =
+      let near = instant-near zones (time_at event.start (local_numbered n)) in
+      let wrote = day-written event.start.stamp (local_numbered n) in
+      let under = day-under day n h l in
+      omega (arith, ints, near.0, wrote, under)
+
+  -- and one before it an instant that is less than two days after it
+  pub early-numbered : (day : ℤ) (n : ℕ) → IsDayNumber day → n < midnight_number day → moment_numbered (clocks_in zones) event n <ℤ (midnight day +ℤ pos 172_800)
+  early-numbered day n h l =
+      let near = instant-near zones (time_at event.start (local_numbered n)) in
+      let wrote = written-at event.start.stamp (local_numbered n) in
+      omega (arith, ints, near.1, wrote.0, seconds-numbered n, number-day day h, l)
+
+  module _ (rule : Recurrence) (w : Window) where
+    -- what gives a start does so before the window's end
+    pub given-early : (n : ℕ) → gives (clocks_in zones) event rule w n ≡ true → moment_numbered (clocks_in zones) event n <ℤ w.to
+    unfolding gives
+    given-early n g = less-true (moment_numbered (clocks_in zones) event n) w.to (and_true {a = lets_until rule n (moment_numbered (clocks_in zones) event n)} (and_true {a = is_kept rule n} g).1).1
+
+    -- no local from a day on does that begins two days after the window's end
+    pub none-past : (end : ℤ) (n : ℕ) → IsDayNumber end → (w.to +ℤ pos 172_800) <ℤ midnight end → midnight_number end ≤ n → gives (clocks_in zones) event rule w n ≡ false
+    none-past end n h after l = by (gives (clocks_in zones) event rule w n) refl
+      where
+        by : (b : Bool) → gives (clocks_in zones) event rule w n ≡ b → b ≡ false
+        by false e = refl
+        by true e = let soon = given-early n e in let late = late-numbered end n h l in absurd (omega (arith, ints, soon, late, after))
+
+    -- What the locals from one on give.
+    pub record IsFound (from : ℕ) (s : Start) : Type 0 where
+      pub by : ℕ
+      pub from_place : from ≤ by
+      pub given : gives (clocks_in zones) event rule w by ≡ true
+      pub is : s ≡ start_at (clocks_in zones) event (local_numbered by)
+
+    later : (from : ℕ) (s : Start) → IsFound (from + 1) s → IsFound from s
+    later from s f = record { by = f.by; from_place = omega (arith, f.from_place); given = f.given; is = f.is }
+
+    found-by : (from : ℕ) (rest : List Start) (s : Start) (b : Bool) → Rises moment_cmp rest → gives (clocks_in zones) event rule w from ≡ b → (IsIn s rest → IsFound (from + 1) s)
+        → IsIn s (with_put b (start_at (clocks_in zones) event (local_numbered from)) rest) → IsFound from s
+    found-by from rest s true r e ih m =
+        ⊎_elim (λ n. ⊎_elim (λ same. record { by = from; from_place = omega arith; given = e; is = same }) (λ f. absurd f) n) (λ n. later from s (ih n.1))
+        (union-in moment_cmp moment_total s (start_at (clocks_in zones) event (local_numbered from) ∷ []) rest r m)
+    found-by from rest s false r e ih m = later from s (ih m)
+
+    found_in-is : (from n : ℕ) (s : Start) → IsIn s (found_in (clocks_in zones) event rule w from n) → IsFound from s
+    found_in-is from zero s m = absurd m
+    found_in-is from (suc n) s m =
+        found-by from (found_in (clocks_in zones) event rule w (from + 1) n) s (gives (clocks_in zones) event rule w from)
+        (rises-found_in (clocks_in zones) event rule w (from + 1) n) refl (found_in-is (from + 1) n s) m
+
+    pub found-is : (from : ℕ) (s : Start) → IsIn s (found (clocks_in zones) event rule w from) → IsFound from s
+    unfolding found
+    found-is from s m = found_in-is from (rules_end - from) s m
+
+    -- a start two days or more before a day comes before all that the locals from the day on give
+    ready-before : (day : ℤ) (place : ℕ) (s : Start) → IsDayNumber day → midnight_number day ≤ place → s.moment ≤ℤ (midnight day -ℤ pos 172_800)
+        → IsBefore moment_cmp s (found (clocks_in zones) event rule w place)
+    ready-before day place s h read l =
+        before-all moment_cmp moment_total s (found (clocks_in zones) event rule w place)
+        (λ t m.
+        let f = found-is place t m in
+        let late = late-numbered day f.by h (omega (arith, read, f.from_place)) in
+        let is = ap (λ (x : Start). x.moment) f.is in
+        less-start s t (omega (arith, ints, late, is, l)))
+
+    -- Where no day more has to be read the first that is held is the first still to come.
+    pub past-end : (day end : ℤ) (place : ℕ) → IsDayNumber day → IsDayNumber end → (w.to +ℤ pos 172_800) <ℤ midnight end → end ≤ℤ day → midnight_number day ≤ place
+        → found (clocks_in zones) event rule w place ≡ []
+    past-end day end place d e after l read =
+        found-none (clocks_in zones) event rule w place (λ n low. none-past end n e after (omega (arith, ints, number-day day d, number-day end e, read, low, l)))
+
+    abbrev Settled : List Start → ℕ → Type 0
+    Settled [] place = found (clocks_in zones) event rule w place ≡ []
+    Settled (s ∷ held) place = IsBefore moment_cmp s (found (clocks_in zones) event rule w place)
+
+    not-less : (a b : ℤ) → int_lt a b ≡ false → b ≤ℤ a
+    not-less a b e = grind (arith, ints)
+
+    settled : (day end : ℤ) (held : List Start) (place : ℕ) → IsDayNumber day → IsDayNumber end → (w.to +ℤ pos 172_800) <ℤ midnight end → midnight_number day ≤ place
+        → is_behind day end held ≡ false → Settled held place
+    settled day end held place d e after read b = by (int_lt day end) refl held b
+      where
+        by : (early : Bool) → int_lt day end ≡ early → (xs : List Start) → (early && not (is_ready day xs)) ≡ false → Settled xs place
+        by false p [] q = past-end day end place d e after (not-less day end p) read
+        by false p (x ∷ xs) q = subst (IsBefore moment_cmp x) (sym (past-end day end place d e after (not-less day end p) read)) tt
+        by true p [] q = let f : true ≡ false = q in absurd cc
+        by true p (x ∷ xs) q = ready-before day place x d read (le-true x.moment (midnight day -ℤ pos 172_800) (not-not (is_ready day (x ∷ xs)) q))
+          where
+            not-not : (c : Bool) → not c ≡ false → c ≡ true
+            not-not true k = refl
+            not-not false k = let f : true ≡ false = k in absurd cc
+
+    come-first : (s : Start) (held : List Start) (place : ℕ) → Rises moment_cmp (s ∷ held) → IsBefore moment_cmp s (found (clocks_in zones) event rule w place)
+        → to_come (clocks_in zones) event rule w (s ∷ held) place ≡ s ∷ to_come (clocks_in zones) event rule w held place
+    unfolding to_come
+    come-first s held place r b =
+        put-before moment_cmp moment_total s (union moment_cmp held (found (clocks_in zones) event rule w place))
+        (before-union moment_cmp moment_total s held (found (clocks_in zones) event rule w place) r.0 b)
+
+    come-nothing : (place : ℕ) → found (clocks_in zones) event rule w place ≡ [] → to_come (clocks_in zones) event rule w [] place ≡ []
+    unfolding to_come
+    come-nothing place e = e
+
+    module _ (day end : ℤ) (place : ℕ) (d : IsDayNumber day) (e : IsDayNumber end) (after : (w.to +ℤ pos 172_800) <ℤ midnight end) (read : midnight_number day ≤ place) where
+      pub first-held : (held : List Start) → Rises moment_cmp held → is_behind day end held ≡ false
+          → slice_get held 0 ≡ slice_get (to_come (clocks_in zones) event rule w held place) 0
+      first-held [] r b = sym (ap (λ (xs : List Start). slice_get xs 0) (come-nothing place (settled day end [] place d e after read b)))
+      first-held (s ∷ held) r b = sym (ap (λ (xs : List Start). slice_get xs 0) (come-first s held place r (settled day end (s ∷ held) place d e after read b)))
+
+      -- the first goes where it is tied with another
+      pub passed : (t s : Start) (held : List Start) → Rises moment_cmp (s ∷ held) → is_behind day end (s ∷ held) ≡ false → moment_cmp t s ≡ Equal
+          → to_come (clocks_in zones) event rule w held place ≡ cut moment_cmp t (to_come (clocks_in zones) event rule w (s ∷ held) place)
+      passed t s held r b tied =
+          let rest = to_come (clocks_in zones) event rule w held place in
+          sym (ap (cut moment_cmp t) (come-first s held place r (settled day end (s ∷ held) place d e after read b))
+          ∙ ap (λ c. by_order c (s ∷ rest) rest (s ∷ rest)) tied)
+
+      pub not-passed : (t s : Start) (held : List Start) → Rises moment_cmp (s ∷ held) → is_behind day end (s ∷ held) ≡ false → (moment_cmp t s ≡ Equal → ⊥)
+          → to_come (clocks_in zones) event rule w (s ∷ held) place ≡ cut moment_cmp t (to_come (clocks_in zones) event rule w (s ∷ held) place)
+      not-passed t s held r b untied =
+          let rest = to_come (clocks_in zones) event rule w held place in
+          let is = come-first s held place r (settled day end (s ∷ held) place d e after read b) in
+          is ∙ sym (ap (cut moment_cmp t) is ∙ stays rest (moment_cmp t s) refl)
+        where
+          stays : (rest : List Start) (c : _) → moment_cmp t s ≡ c → by_order c (s ∷ rest) rest (s ∷ rest) ≡ s ∷ rest
+          stays rest Less p = refl
+          stays rest Equal p = absurd (untied p)
+          stays rest Greater p = refl
+
+      pub nothing-passed : (t : Start) → is_behind day end [] ≡ false
+          → to_come (clocks_in zones) event rule w [] place ≡ cut moment_cmp t (to_come (clocks_in zones) event rule w [] place)
+      nothing-passed t b =
+          let is = come-nothing place (settled day end [] place d e after read b) in
+          is ∙ sym (ap (cut moment_cmp t) is)
+
+      -- the same of a list whose first is known
+      pub passed-at : (t d : Start) (held new : List Start) → 0 < length held → d ≡ get_or held 0 d → new ≡ drop 1 held → Rises moment_cmp held → is_behind day end held ≡ false
+          → moment_cmp t d ≡ Equal → to_come (clocks_in zones) event rule w new place ≡ cut moment_cmp t (to_come (clocks_in zones) event rule w held place)
+      passed-at t d [] new l is n r b tied = absurd (omega arith)
+      passed-at t d (s ∷ held) new l is n r b tied =
+          ap (λ xs. to_come (clocks_in zones) event rule w xs place) n ∙ passed t s held r b (subst (λ x. moment_cmp t x ≡ Equal) is tied)
+
+      pub not-passed-at : (t d : Start) (held : List Start) → 0 < length held → d ≡ get_or held 0 d → Rises moment_cmp held → is_behind day end held ≡ false
+          → (moment_cmp t d ≡ Equal → ⊥) → to_come (clocks_in zones) event rule w held place ≡ cut moment_cmp t (to_come (clocks_in zones) event rule w held place)
+      not-passed-at t d [] l is r b untied = absurd (omega arith)
+      not-passed-at t d (s ∷ held) l is r b untied = not-passed t s held r b (λ tied. untied (subst (λ x. moment_cmp t x ≡ Equal) (sym is) tied))
+
+      pub nothing-passed-at : (t : Start) (held : List Start) → length held ≡ 0 → is_behind day end held ≡ false
+          → to_come (clocks_in zones) event rule w held place ≡ cut moment_cmp t (to_come (clocks_in zones) event rule w held place)
+      nothing-passed-at t [] l b = nothing-passed t b
+      nothing-passed-at t (s ∷ held) l b = absurd (omega (arith, l))
+
+    -- each start still to come begins no more than three days before the day that is not asked for yet
+    pub near-left : (day asked : ℤ) (held : List Start) (place : ℕ) → IsDayNumber day → asked ≤ℤ (day +ℤ pos 1) → midnight_number day ≤ place
+        → AreHeld (clocks_in zones) event rule w asked held → (s : Start) → IsIn s (to_come (clocks_in zones) event rule w held place) → (midnight asked -ℤ pos 259_200) ≤ℤ s.moment
+    unfolding to_come
+    near-left day asked held place d soon read are s m =
+        ⊎_elim (λ n. (are s n).late)
+        (λ n.
+        let f = found-is place s n.1 in
+        let late = late-numbered day f.by d (omega (arith, read, f.from_place)) in
+        let is = ap (λ (x : Start). x.moment) f.is in
+        omega (arith, ints, late, is, soon))
+        (union-in moment_cmp moment_total s held (found (clocks_in zones) event rule w place) (rises-found (clocks_in zones) event rule w place) m)
+
+    pub come-empty : (held : List Start) (place from : ℕ) → held ≡ [] → place ≡ from → to_come (clocks_in zones) event rule w held place ≡ found (clocks_in zones) event rule w from
+    unfolding to_come
+    come-empty held place from h e = ap (λ xs. union moment_cmp xs (found (clocks_in zones) event rule w place)) h ∙ ap (found (clocks_in zones) event rule w) e

@@ -1,0 +1,82 @@
+-- A local and its number.
+use Rattle.std.specs.Prelude.{◌≤ℤ◌, ◌==◌, int_lt}
+use Rattle.std.proofs.Common.{◌≡◌, ℕ, ◌<◌, ℤ, pos, ◌+ℤ◌, Bool, true, false, ◌&&◌, List, Some, refl, sym, ◌∙◌, ap, arith}
+use Rattle.std.proofs.lemmas.Bool.Decides.{nat_tests}
+use Rattle.std.proofs.lemmas.Int.{ints}
+use Rattle.std.specs.Ordering.{int_eq}
+use Rattle.ics_values.specs.Days.{IsDayNumber}
+use Rattle.ics_values.specs.declared.local.Local.{Local}
+use Rattle.ics_rule.specs.Kept.{is_kept}
+use Rattle.ics_rule.specs.Locals.{number}
+use Rattle.ics_rule.specs.Recurrence.{Recurrence}
+use Rattle.ics_rule.proofs.KeptLemmas.{and_true, eqb_true}
+use Rattle.ics_calendar.specs.declared.event.Event.{Event}
+use Rattle.ics_zone.specs.Tables.{Timeline}
+use Rattle.ics_series.specs.declared.window.Window.{Window}
+use Rattle.ics_series.specs.Clocks.{Clocks, instant, midnight}
+use Rattle.ics_series.specs.RuleStarts.{gives, lets_until, local_numbered, midnight_number, moment_numbered, AreReadable}
+use Rattle.ics_series.specs.Starts.{local_of, recurrence_of, time_at}
+use Rattle.ics_series.specs.Zones.{asked, AreReached, IsReadable}
+use Rattle.ics_series.proofs.FirstLemmas.{eq-true, true-eq}
+use Rattle.ics_series.proofs.GiverLemmas.{kept-time, rule-is, same-number}
+use Rattle.ics_series.proofs.RuleDayLemmas.{number-day, seconds-numbered}
+use Rattle.ics_series.proofs.ZoneLemmas.{local-readable}
+
+same-test : (p q : Bool) → (p ≡ true → q ≡ true) → (q ≡ true → p ≡ true) → p ≡ q
+same-test true q f h = sym (f refl)
+same-test false true f h = h refl
+same-test false false f h = refl
+
+pub true-eqb : (a b : ℕ) → a ≡ b → (a == b) ≡ true
+true-eqb a b e = grind (arith, nat_tests)
+
+pub both : (p q : Bool) → p ≡ true → q ≡ true → (p && q) ≡ true
+both p q e f = ap (λ b. b && q) e ∙ f
+
+-- two locals are one exactly if their numbers are
+pub local-test : (a b : Local) → IsDayNumber a.day → IsDayNumber b.day → (int_eq a.day b.day && (a.second == b.second)) ≡ (number a == number b)
+local-test a b h k =
+    same-test (int_eq a.day b.day && (a.second == b.second)) (number a == number b)
+    (λ t.
+    let parts = and_true {a = int_eq a.day b.day} t in
+    let day = eq-true a.day b.day parts.0 in
+    let second = eqb_true a.second b.second parts.1 in
+    true-eqb (number a) (number b) (omega (arith, ints, day, second)))
+    (λ t.
+    let same : a ≡ b = same-number a b h k (eqb_true (number a) (number b) t) in
+    both (int_eq a.day b.day) (a.second == b.second) (true-eq a.day b.day (ap (λ (l : Local). l.day) same)) (true-eqb a.second b.second (ap (λ (l : Local). l.second) same)))
+
+pub day-numbered : (n : ℕ) (day : ℤ) → IsDayNumber day → n < midnight_number day → IsDayNumber (local_numbered n).day
+day-numbered n day h l = (omega (arith, ints), omega (arith, ints, h.0, h.1, l))
+
+pub number-numbered : (n : ℕ) → number (local_numbered n) ≡ n
+number-numbered n = omega (arith, ints)
+
+pub numbered-number : (a : Local) → IsDayNumber a.day → local_numbered (number a) ≡ a
+numbered-number a h =
+    same-number (local_numbered (number a)) a
+    (omega (arith, ints, h.0, a.second_in), omega (arith, ints, h.0, h.1, a.second_in)) h (number-numbered (number a))
+
+-- whether a kept local gives a start
+pub gives-kept : (clocks : Clocks) (event : Event) (rule : Recurrence) (w : Window) (a : Local) → IsDayNumber a.day → is_kept rule (number a) ≡ true
+    → gives clocks event rule w (number a) ≡ (lets_until rule (number a) (instant clocks (time_at event.start a)) && int_lt (instant clocks (time_at event.start a)) w.to)
+unfolding gives
+gives-kept clocks event rule w a h k =
+    ap (λ b. b && (lets_until rule (number a) (moment_numbered clocks event (number a)) && int_lt (moment_numbered clocks event (number a)) w.to)) k
+    ∙ ap (λ l. lets_until rule (number a) (instant clocks (time_at event.start l)) && int_lt (instant clocks (time_at event.start l)) w.to) (numbered-number a h)
+
+pub gives-by : (clocks : Clocks) (event : Event) (rule : Recurrence) (w : Window) (a : Local) (t : ℤ) (b : Bool) → IsDayNumber a.day → is_kept rule (number a) ≡ true
+    → t ≡ instant clocks (time_at event.start a) → b ≡ (lets_until rule (number a) t && int_lt t w.to) → b ≡ gives clocks event rule w (number a)
+gives-by clocks event rule w a t b h k e test =
+    test ∙ (ap (λ x. lets_until rule (number a) x && int_lt x w.to) e ∙ sym (gives-kept clocks event rule w a h k))
+
+-- the kept locals before a day that is near enough can be read
+pub kept-readable : (zones : List Timeline) (w : Window) (event : Event) (rule : Recurrence) (end : ℤ) → recurrence_of event ≡ Some rule → AreReached zones (asked w event) → IsReadable zones event.start
+    → IsDayNumber end → midnight end ≤ℤ (w.to +ℤ pos 345_600) → AreReadable zones event rule end
+kept-readable zones w event rule end has reached start h soon n kept early =
+    let day = day-numbered n end h early in
+    let time = kept-time event rule (local_numbered n) start.is_time has day (ap (is_kept rule) (number-numbered n) ∙ kept) in
+    local-readable zones w event rule (local_numbered n) has reached start time (omega (arith, ints, seconds-numbered n, number-day end h, early, soon))
+
+pub rule-first : (event : Event) (rule : Recurrence) → recurrence_of event ≡ Some rule → rule.start ≡ local_of event.start.stamp
+rule-first event rule has = let by = rule-is event.start.stamp event.rule rule has in sym (ap (λ (r : Recurrence). r.start) (sym by.1))

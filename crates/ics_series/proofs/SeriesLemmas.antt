@@ -1,0 +1,284 @@
+-- What a series gives.
+use Rattle.std.specs.Prelude.{◌≤ℤ◌, ◌<ℤ◌, ◌==◌, ◌&&◌, ◌||◌, not, int_le, slice_get, MatchOption}
+use Rattle.std.proofs.Common.{◌≡◌, ℕ, zero, suc, ◌≤◌, ℤ, pos, ◌+ℤ◌, ◌-ℤ◌, List, [], ◌∷◌, drop, Bool, true, false, Option, Some, None, IfSome, option_map, ◌⊎◌, inl, inr, ⊎_elim, refl, sym, ◌∙◌, ap, subst, arith}
+use Rattle.std.proofs.lemmas.Int.{ints}
+use Rattle.std.specs.List.{cons_option}
+use Rattle.std.specs.Cmp.Lexicographic.{slice_cmp}
+use Rattle.std.specs.Ordering.{int_cmp, int_eq, nat_cmp, on, ordering_then, then_cmp}
+use Rattle.std.specs.declared.cmp.Ordering.{Ordering}
+use Rattle.std.specs.declared.cmp.Ordering.TheVariants.{Less}
+use Rattle.ics_values.specs.Days.{IsDayNumber}
+use Rattle.ics_values.specs.declared.local.Local.{Local}
+use Rattle.ics_rule.specs.Cursors.{looks_from, period_count, place_of}
+use Rattle.ics_rule.specs.Kept.{is_kept, until_moment}
+use Rattle.ics_rule.specs.Locals.{number}
+use Rattle.ics_rule.specs.Recurrence.{Recurrence}
+use Rattle.ics_rule.proofs.KeptLemmas.{and_true, eqb_true, or_true}
+use Rattle.ics_calendar.specs.Event.{IsEvent, IsTime}
+use Rattle.ics_calendar.specs.declared.event.Event.{Event}
+use Rattle.ics_calendar.specs.declared.time.Rdate.{Rdate}
+use Rattle.ics_series.specs.declared.listed_starts.ListedStarts.{ListedStarts}
+use Rattle.ics_series.specs.declared.rule_starts.RuleStarts.{RuleStarts}
+use Rattle.ics_series.specs.declared.start.Giver.{Giver}
+use Rattle.ics_series.specs.declared.start.Giver.TheVariants.{Kept, Listed}
+use Rattle.ics_series.specs.declared.start.Start.{Start}
+use Rattle.ics_series.specs.declared.window.Window.{Window}
+use Rattle.ics_series.specs.declared.zones.FileZones.{FileZones}
+use Rattle.ics_series.specs.Clocks.{Clocks, instant, midnight}
+use Rattle.ics_series.specs.Entry.{Entry, Rank, entry_cmp, rank_of}
+use Rattle.ics_series.specs.Found.{is_shown, moment_cmp, AreStartsSince, IsStart}
+use Rattle.ics_series.specs.Listing.{IsIn, IsListing}
+use Rattle.ics_series.specs.Meeting.{entry_from}
+use Rattle.ics_series.specs.Merged.{cut, union}
+use Rattle.ics_series.specs.MetList.{entry_start_cmp, IsEventMet}
+use Rattle.ics_series.specs.Rising.{IsBefore, Rises}
+use Rattle.ics_series.specs.RuleFeed.{starts_left}
+use Rattle.ics_series.specs.RuleStarts.{gives, lets_until, midnight_number, moment_numbered}
+use Rattle.ics_series.specs.SeriesStarts.{given_of, is_among, has_moment, is_wanted, listed_left, rule_left, wanted_by, AreKnown, HasRuled, HasSameRule, HaveRuled, IsGivenAt, IsGivenBy, IsKnown, IsSeriesMet, IsStepCount}
+use Rattle.ics_series.specs.Starts.{given_by, local_of, recurrence_of, time_at, GivesStart, IsRuleStart}
+use Rattle.ics_series.specs.Zones.{clocks_in}
+use Rattle.ics_series.proofs.FirstLemmas.{int-less, moment_total, tied-moment}
+use Rattle.ics_series.proofs.GiverLemmas.{calendar-day, gives-value, own-day, same-number}
+use Rattle.ics_series.proofs.KeptLemmas.{true-until}
+use Rattle.ics_series.proofs.LeftLemmas.{member-cut}
+use Rattle.ics_series.proofs.ListingLemmas.{before-in}
+use Rattle.ics_series.proofs.MeetingLemmas.{both-back, equal-true, le-true, met-shown, true-equal, true-le}
+use Rattle.ics_series.proofs.MetLemmas.{found-is, in-picked, is-found, listing-picked}
+use Rattle.ics_series.proofs.RuleLocalLemmas.{numbered-number, rule-first}
+use Rattle.ics_series.proofs.RuleStartLemmas.{rises-to_come}
+
+-- Both kinds of starts rise.
+rises-drop : {A : Type 0} (R : A → A → Ordering) (n : ℕ) (xs : List A) → Rises R xs → Rises R (drop n xs)
+rises-drop R zero xs r = r
+rises-drop R (suc n) [] r = tt
+rises-drop R (suc n) (x ∷ xs) r = rises-drop R n xs r.1
+
+pub rises-rule : (o : Option RuleStarts) → Rises moment_cmp (rule_left o)
+rises-rule None = tt
+rises-rule (Some s) = rises-to_come (clocks_in s.zones) s.event.now s.rule s.window s.held.items (place_of s.cursor)
+
+pub rises-listed : (s : ListedStarts) → Rises moment_cmp (listed_left s)
+rises-listed s = rises-drop moment_cmp s.gone s.starts.items s.rises
+
+-- What is known of some starts and what they give, where one of them goes.
+module _ (clocks : Clocks) (w : Window) (event : Event) where
+  pub known-rest : (s : Start) (all rest : List Start) → all ≡ s ∷ rest → AreKnown clocks event w all → AreKnown clocks event w rest
+  known-rest s all rest e h t m = h t (subst (IsIn t) (sym e) (inr m))
+
+  rises-behind : (o : Option Entry) (es : List Entry) → Rises entry_cmp (cons_option o es) → Rises entry_cmp es
+  rises-behind None es r = r
+  rises-behind (Some e) es r = r.1
+
+  pub rises-rest : (since : ℤ) (overridden : List ℤ) (s : Start) (all rest : List Start) → all ≡ s ∷ rest
+      → Rises entry_cmp (given_of clocks w event since overridden all) → Rises entry_cmp (given_of clocks w event since overridden rest)
+  rises-rest since overridden s all rest e r =
+      rises-behind (wanted_by clocks w event since overridden s) (given_of clocks w event since overridden rest)
+      (subst (λ xs. Rises entry_cmp (given_of clocks w event since overridden xs)) e r)
+
+-- The first of both kinds goes.
+pub both-passed : (rule rule' listed listed' rule'' : List Start) (t : Start) → rule' ≡ rule → rule'' ≡ cut moment_cmp t rule' → listed' ≡ cut moment_cmp t listed
+    → union moment_cmp rule' listed ≡ t ∷ union moment_cmp (cut moment_cmp t rule') (cut moment_cmp t listed)
+    → union moment_cmp rule listed ≡ t ∷ union moment_cmp rule'' listed'
+both-passed rule rule' listed listed' rule'' t a b c h =
+    ap (λ xs. union moment_cmp xs listed) (sym a)
+    ∙ (h ∙ ap (λ xs. t ∷ xs) (ap (λ xs. union moment_cmp xs (cut moment_cmp t listed)) (sym b) ∙ ap (union moment_cmp rule'') (sym c)))
+
+-- What is known of a start makes it one of the event.
+module _ (zones : FileZones) (w : Window) (event : Event) where
+  same-or-ruled : (local : Local) (rule : Recurrence) → recurrence_of event ≡ Some rule → IsTime event.start → IsDayNumber local.day → gives (clocks_in zones) event rule w (number local) ≡ true
+      → (local ≡ local_of event.start.stamp) ⊎ IsRuleStart (clocks_in zones) event local
+  unfolding gives
+  same-or-ruled local rule has time day g =
+      let kept = and_true {a = is_kept rule (number local)} g in
+      let let-through = and_true {a = lets_until rule (number local) (moment_numbered (clocks_in zones) event (number local))} kept.1 in
+      let first = rule-first event rule has in
+      ⊎_elim
+      (λ e. inl (same-number local (local_of event.start.stamp) day (calendar-day (local_of event.start.stamp).day (own-day event.start time))
+      (eqb_true (number local) (number rule.start) e ∙ ap (λ (l : Local). number l) first)))
+      (λ u. inr (record {
+        rule = rule;
+        has = has;
+        calendar = day;
+        kept = kept.0;
+        until = subst (λ l. IfSome (until_moment rule) (λ last. instant (clocks_in zones) (time_at event.start l) ≤ℤ last)) (numbered-number local day)
+            (true-until (until_moment rule) (moment_numbered (clocks_in zones) event (number local)) u);
+      }))
+      (or_true {a = number local == number rule.start} let-through.0)
+
+  given-local : (local : Local) (o : Option Recurrence) → recurrence_of event ≡ o → IsTime event.start → IsGivenAt (clocks_in zones) event w local o
+      → (local ≡ local_of event.start.stamp) ⊎ IsRuleStart (clocks_in zones) event local
+  given-local local None e time g = inl g
+  given-local local (Some rule) e time g = same-or-ruled local rule e time g.0 g.1
+
+  known-gives : (giver : Giver) (given : Rdate) → IsTime event.start → IsGivenBy (clocks_in zones) event w giver given → GivesStart (clocks_in zones) event giver given
+  known-gives (Kept local) given time g = (given-local local (recurrence_of event) refl time g.0, g.1)
+  known-gives (Listed place) given time g = by (slice_get event.rdates place) refl g
+    where
+      some-same : (x y : Rdate) → Some x ≡ Some y → x ≡ y
+      some-same x y h = cc
+
+      by : (o : Option Rdate) → slice_get event.rdates place ≡ o → option_map (given_by event.start) o ≡ Some given
+          → (rdate : Rdate) × (slice_get event.rdates place ≡ Some rdate) × (given ≡ given_by event.start rdate)
+      by None e f = let k : None ≡ Some given = f in absurd cc
+      by (Some rdate) e f = (rdate, e, some-same given (given_by event.start rdate) (sym f))
+
+  pub known-start : (s : Start) → IsEvent event → IsKnown (clocks_in zones) event w s → IsStart (clocks_in zones) event s
+  known-start s sound k =
+      let gives = known-gives s.giver s.given sound.start k.gives in
+      record { gives = gives; value = gives-value (clocks_in zones) event s.giver s.given sound.start sound.rdates gives; moment = k.moment }
+
+-- An instant is one of some.
+among-in-by : (b : Bool) (x t : ℤ) (xs : List ℤ) → int_eq x t ≡ b → (is_among xs t ≡ true → IsIn t xs) → (b || is_among xs t) ≡ true → IsIn t (x ∷ xs)
+among-in-by true x t xs e ih h = inl (sym (equal-true x t e))
+among-in-by false x t xs e ih h = inr (ih h)
+
+among-in : (t : ℤ) (xs : List ℤ) → is_among xs t ≡ true → IsIn t xs
+among-in t [] e = let f : false ≡ true = e in absurd cc
+among-in t (x ∷ xs) e = among-in-by (int_eq x t) x t xs refl (among-in t xs) e
+
+in-among-by : (b : Bool) (x t : ℤ) (xs : List ℤ) → int_eq x t ≡ b → (IsIn t xs → is_among xs t ≡ true) → IsIn t (x ∷ xs) → (b || is_among xs t) ≡ true
+in-among-by true x t xs e ih m = refl
+in-among-by false x t xs e ih m = ⊎_elim (λ s. let f : true ≡ false = sym (true-equal x t (sym s)) ∙ e in absurd cc) ih m
+
+in-among : (t : ℤ) (xs : List ℤ) → IsIn t xs → is_among xs t ≡ true
+in-among t [] m = absurd m
+in-among t (x ∷ xs) m = in-among-by (int_eq x t) x t xs refl (in-among t xs) m
+
+-- Wanted is what is shown from an instant on, but for the instants of overrides.
+module _ (clocks : Clocks) (w : Window) (event : Event) (since : ℤ) (overridden : List ℤ) where
+  pub wanted-is : (o : Entry) → is_wanted clocks w event since overridden o ≡ true → (is_shown clocks w event o ≡ true) × (since ≤ℤ o.start) × (IsIn o.start overridden → ⊥)
+  wanted-is o e =
+      let parts = and_true {a = int_le since o.start && not (is_among overridden o.start)} e in
+      let own = and_true {a = int_le since o.start} parts.0 in
+      (parts.1, le-true since o.start own.0, λ m. not-both (is_among overridden o.start) (in-among o.start overridden m) own.1)
+    where
+      not-both : (b : Bool) → b ≡ true → not b ≡ true → ⊥
+      not-both true e f = let g : false ≡ true = f in cc
+      not-both false e f = let g : false ≡ true = e in cc
+
+  pub is-wanted : (o : Entry) → is_shown clocks w event o ≡ true → since ≤ℤ o.start → (IsIn o.start overridden → ⊥) → is_wanted clocks w event since overridden o ≡ true
+  is-wanted o shown late none =
+      both-back (int_le since o.start && not (is_among overridden o.start)) (is_shown clocks w event o)
+      (both-back (int_le since o.start) (not (is_among overridden o.start)) (true-le since o.start late) (by (is_among overridden o.start) refl)) shown
+    where
+      by : (b : Bool) → is_among overridden o.start ≡ b → not b ≡ true
+      by true e = absurd (none (among-in o.start overridden e))
+      by false e = refl
+
+  -- what starts later goes later
+  later-entry : (a b : Entry) → entry_start_cmp a b ≡ Less → entry_cmp a b ≡ Less
+  later-entry a b l = ap (λ c. ordering_then c (rest_cmp a b)) l
+    where
+      rest_cmp : Entry → Entry → Ordering
+      rest_cmp a b = then_cmp (on (λ (r : Rank). r.uid) (slice_cmp nat_cmp)) (on (λ (r : Rank). r.recurrence) int_cmp) (rank_of a) (rank_of b)
+
+  before-later : (a : Entry) (es : List Entry) → IsBefore entry_start_cmp a es → IsBefore entry_cmp a es
+  before-later a [] h = tt
+  before-later a (e ∷ es) h = (later-entry a e h.0, before-later a es h.1)
+
+  rises-later : (es : List Entry) → Rises entry_start_cmp es → Rises entry_cmp es
+  rises-later [] r = tt
+  rises-later (e ∷ es) r = (before-later e es r.0, rises-later es r.1)
+
+  -- the starts from an instant on give what the series has
+  pub series-listing : (starts : List Start) → AreStartsSince clocks event w since starts → IsListing entry_cmp (IsSeriesMet clocks event w since overridden) (given_of clocks w event since overridden starts)
+  series-listing starts h =
+      let listing : IsListing entry_start_cmp (IsSeriesMet clocks event w since overridden) (given_of clocks w event since overridden starts) =
+      listing-picked clocks event (is_wanted clocks w event since overridden) (IsSeriesMet clocks event w since overridden) starts h.rises h.are
+      (λ s m t.
+      let is = wanted-is (entry_from clocks event s.given) t in
+      (found-is clocks w event starts (λ x. since ≤ℤ x) h.rises h.are h.all s m is.0 is.1, (is.1, is.2)))
+      (λ e o.
+      let k = is-found clocks w event starts (λ x. since ≤ℤ x) h.rises h.are h.all e o.0 o.1.0 in
+      record { start = k.0; stands = k.1; is = k.2; passes = is-wanted e (met-shown clocks w event e o.0.1 o.0.0.lasts.stays) o.1.0 o.1.1 }) in
+      record { rises = rises-later (given_of clocks w event since overridden starts) listing.rises; exact = listing.exact }
+
+-- Starts at an instant.
+moment-in-by : (b : Bool) (s : Start) (t : ℤ) (xs : List Start) → int_eq s.moment t ≡ b → (has_moment xs t ≡ true → (x : Start) × IsIn x xs × (x.moment ≡ t)) → (b || has_moment xs t) ≡ true → (x : Start) × IsIn x (s ∷ xs) × (x.moment ≡ t)
+moment-in-by true s t xs e ih h = (s, inl refl, equal-true s.moment t e)
+moment-in-by false s t xs e ih h = let k = ih h in (k.0, inr k.1, k.2)
+
+pub moment-in : (xs : List Start) (t : ℤ) → has_moment xs t ≡ true → (x : Start) × IsIn x xs × (x.moment ≡ t)
+moment-in [] t e = let f : false ≡ true = e in absurd cc
+moment-in (s ∷ xs) t e = moment-in-by (int_eq s.moment t) s t xs refl (moment-in xs t) e
+
+in-moment-by : (b : Bool) (s x : Start) (t : ℤ) (xs : List Start) → int_eq s.moment t ≡ b → x.moment ≡ t → (IsIn x xs → has_moment xs t ≡ true) → IsIn x (s ∷ xs) → (b || has_moment xs t) ≡ true
+in-moment-by true s x t xs e is ih m = refl
+in-moment-by false s x t xs e is ih m =
+    ⊎_elim (λ same. let f : true ≡ false = sym (true-equal s.moment t (ap (λ (y : Start). y.moment) (sym same) ∙ is)) ∙ e in absurd cc) ih m
+
+pub in-moment : (x : Start) (t : ℤ) (xs : List Start) → x.moment ≡ t → IsIn x xs → has_moment xs t ≡ true
+in-moment x t [] is m = absurd m
+in-moment x t (s ∷ xs) is m = in-moment-by (int_eq s.moment t) s x t xs refl is (in-moment x t xs is) m
+
+-- What goes before all that is left is not tied with what is still to come.
+module _ (clocks : Clocks) (w : Window) (event : Event) (since : ℤ) (overridden : List ℤ) where
+  begins-after : (t : Start) (rest : List Start) (o : Entry) → IsBefore moment_cmp t rest → AreKnown clocks event w rest → IsIn o (given_of clocks w event since overridden rest) → t.moment <ℤ o.start
+  begins-after t rest o b known m =
+      let k = in-picked clocks event (is_wanted clocks w event since overridden) rest o m in
+      let less = int-less t.moment k.start.moment (before-in moment_cmp moment_total t k.start rest b k.stands) in
+      subst (λ x. t.moment <ℤ x) ((known k.start k.stands).moment ∙ ap (λ (e : Entry). e.start) (sym k.is)) less
+
+  in-behind : (o : Option Entry) (e : Entry) (es : List Entry) → IsIn e es → IsIn e (cons_option o es)
+  in-behind None e es m = m
+  in-behind (Some x) e es m = inr m
+
+  ruled-behind : (t : Start) (rules all rest : List Start) → all ≡ t ∷ rest → Rises moment_cmp all → AreKnown clocks event w all
+      → HaveRuled clocks event rules (given_of clocks w event since overridden all) → HaveRuled clocks event (cut moment_cmp t rules) (given_of clocks w event since overridden rest)
+  ruled-behind t rules all rest e r known h o m local k =
+      let rises : Rises moment_cmp (t ∷ rest) = subst (Rises moment_cmp) e r in
+      let after = begins-after t rest o rises.0 (known-rest clocks w event t all rest e known) m in
+      let there = subst (λ xs. IsIn o (given_of clocks w event since overridden xs)) (sym e) (in-behind (wanted_by clocks w event since overridden t) o (given_of clocks w event since overridden rest) m) in
+      let x = moment-in rules o.start (h o there local k) in
+      in-moment x.0 o.start (cut moment_cmp t rules) x.2
+      (member-cut moment_cmp moment_total t x.0 rules (λ tied. let same = tied-moment t x.0 tied in let is = x.2 in omega (arith, ints, after, same, is)) x.1)
+
+  -- the same of the rule's starts, where there is one
+  pub ruled-same : (a b : Option RuleStarts) (coming coming' : List Entry) → HasSameRule a b → rule_left b ≡ rule_left a → coming' ≡ coming → HasRuled clocks event a coming → HasRuled clocks event b coming'
+  ruled-same None None coming coming' same e f h = tt
+  ruled-same (Some a) (Some b) coming coming' same e f h =
+      subst (HaveRuled clocks event (starts_left b)) (sym f) (subst (λ xs. HaveRuled clocks event xs coming) (sym e) h)
+  ruled-same None (Some b) coming coming' same e f h = absurd same
+  ruled-same (Some a) None coming coming' same e f h = absurd same
+
+  pub ruled-rest : (a b : Option RuleStarts) (t : Start) (all rest : List Start) → HasSameRule a b → rule_left b ≡ cut moment_cmp t (rule_left a) → all ≡ t ∷ rest → Rises moment_cmp all → AreKnown clocks event w all
+      → HasRuled clocks event a (given_of clocks w event since overridden all) → HasRuled clocks event b (given_of clocks w event since overridden rest)
+  ruled-rest None None t all rest same c e r known h = tt
+  ruled-rest (Some a) (Some b) t all rest same c e r known h =
+      subst (λ xs. HaveRuled clocks event xs (given_of clocks w event since overridden rest)) (sym c) (ruled-behind t (starts_left a) all rest e r known h)
+  ruled-rest None (Some b) t all rest same c e r known h = absurd same
+  ruled-rest (Some a) None t all rest same c e r known h = absurd same
+
+-- what the steps of a rule say is near an occurrence that the rule gives
+pub step-count : (clocks : Clocks) (event : Event) (coming : List Entry) (steps : ℕ) (o : Option RuleStarts) (s : RuleStarts) → o ≡ Some s → HasRuled clocks event o coming
+    → steps ≤ period_count s.rule (looks_from s.rule.parts.count (number s.rule.start) (number s.from)) (midnight_number s.asked)
+    → ((x : Start) → IsIn x (starts_left s) → (midnight s.asked -ℤ pos 259_200) ≤ℤ x.moment) → midnight s.asked ≤ℤ (s.window.to +ℤ pos 345_600)
+    → MatchOption o (steps ≡ 0) (λ x. IsStepCount clocks event x coming steps)
+step-count clocks event coming steps None s e h most near end = let f : None ≡ Some s = e in absurd cc
+step-count clocks event coming steps (Some x) s e h most near end =
+    let same : x ≡ s = some-same x s e in
+    subst (λ y. HaveRuled clocks event (starts_left y) coming → IsStepCount clocks event y coming steps) (sym same)
+    (λ ruled. record {
+      most = most;
+      near = λ o m local k.
+          let there = moment-in (starts_left s) o.start (ruled o m local k) in
+          subst (λ t. (midnight s.asked -ℤ pos 259_200) ≤ℤ t) there.2 (near there.0 there.1);
+      end = end;
+    })
+    h
+  where
+    some-same : (x y : RuleStarts) → Some x ≡ Some y → x ≡ y
+    some-same x y h = cc
+
+-- No starts give nothing.
+module _ (clocks : Clocks) (w : Window) (event : Event) (since : ℤ) (overridden : List ℤ) where
+  pub rises-none : (starts : List Start) → starts ≡ [] → Rises entry_cmp (given_of clocks w event since overridden starts)
+  rises-none starts e = subst (λ xs. Rises entry_cmp (given_of clocks w event since overridden xs)) (sym e) tt
+
+  pub known-none : (starts : List Start) → starts ≡ [] → AreKnown clocks event w starts
+  known-none starts e s m = absurd (subst (IsIn s) e m)
+
+  pub listing-none : (starts : List Start) → starts ≡ [] → ((e : Entry) → IsEventMet clocks event w e → ⊥) → IsListing entry_cmp (IsSeriesMet clocks event w since overridden) (given_of clocks w event since overridden starts)
+  listing-none starts e none =
+      subst (λ xs. IsListing entry_cmp (IsSeriesMet clocks event w since overridden) (given_of clocks w event since overridden xs)) (sym e)
+      (record { rises = tt; exact = λ o. (λ m. absurd m, λ p. none o p.0) })

@@ -1,0 +1,284 @@
+-- The starts of a series: all that are sought from an instant on are among them.
+use Rattle.std.specs.Prelude.{◌≤ℤ◌, ◌<ℤ◌, ◌==◌, ◌||◌, int_lt, slice_get, MatchOption}
+use Rattle.std.proofs.Common.{◌≡◌, ℕ, zero, suc, ◌+◌, ◌-◌, ◌<◌, ◌≤◌, ℤ, pos, ◌+ℤ◌, ◌-ℤ◌, List, Bool, true, false, Option, Some, None, option_map, ◌⊎◌, ⊎_elim, refl, sym, ◌∙◌, ap, subst, arith}
+use Rattle.std.specs.Int.{int_max, int_min}
+use Rattle.std.proofs.lemmas.Bool.Decides.{nat_tests}
+use Rattle.std.proofs.lemmas.Int.{int_max_is, int_min_is, ints}
+use Rattle.ics_values.specs.Days.{IsDayNumber}
+use Rattle.ics_values.specs.RuleParts.{RuleParts}
+use Rattle.ics_values.specs.declared.local.Local.{Local}
+use Rattle.ics_rule.specs.Kept.{is_kept, until_moment}
+use Rattle.ics_rule.specs.Locals.{number, rules_end}
+use Rattle.ics_rule.specs.Recurrence.{Recurrence}
+use Rattle.ics_rule.proofs.NextLemmas.{kept_start}
+use Rattle.ics_calendar.specs.declared.event.Event.{Event}
+use Rattle.ics_calendar.specs.declared.time.Rdate.{Rdate}
+use Rattle.ics_calendar.specs.declared.time.Rdate.TheVariants.{At}
+use Rattle.ics_series.specs.declared.rule_starts.RuleStarts.{RuleStarts}
+use Rattle.ics_series.specs.declared.start.Giver.{Giver}
+use Rattle.ics_series.specs.declared.start.Giver.TheVariants.{Kept, Listed}
+use Rattle.ics_series.specs.declared.start.Start.{Start}
+use Rattle.ics_series.specs.declared.window.Window.{Window}
+use Rattle.ics_series.specs.declared.zones.FileZones.{FileZones}
+use Rattle.ics_series.specs.Clocks.{Clocks, instant, seconds_of}
+use Rattle.ics_series.specs.Entry.{Entry, entry_cmp}
+use Rattle.ics_series.specs.Found.{earliest, is_until, listed_from, moment_cmp, start_at, start_by, AreFirsts, AreStartsSince, HasStart, IsSought}
+use Rattle.ics_series.specs.Listing.{IsIn, IsListing}
+use Rattle.ics_series.specs.Meeting.{entry_from}
+use Rattle.ics_series.specs.Meets.{Meets}
+use Rattle.ics_series.specs.Merged.{union}
+use Rattle.ics_series.specs.MergedLaws.{rises-union}
+use Rattle.ics_series.specs.MetList.{IsEventMet}
+use Rattle.ics_series.specs.Rising.{Rises}
+use Rattle.ics_series.specs.RuleFeed.{starts_left}
+use Rattle.ics_series.specs.RuleStarts.{found, found_in, gives, lets_until, local_numbered, moment_numbered, with_put}
+use Rattle.ics_series.specs.SeriesStarts.{first_asked, listed_apart, rule_left, AreKnown, HasRuled, HaveRuled, IsBegun, IsGivenAt, IsGivenBy, IsKnown, IsRuleFrom, IsSeriesMet}
+use Rattle.ics_series.specs.Starts.{given_by, local_of, recurrence_by, recurrence_of, time_at, time_of, GivesStart, IsNotAfter, IsRuleStart}
+use Rattle.ics_series.specs.Zones.{clocks_in, IsReadableEvent}
+use Rattle.ics_series.proofs.FirstLemmas.{moment_total}
+use Rattle.ics_series.proofs.GiverLemmas.{calendar-day, number-seconds, own-day, written-at}
+use Rattle.ics_series.proofs.InstantLemmas.{instant-near}
+use Rattle.ics_series.proofs.KeptLemmas.{until-true}
+use Rattle.ics_series.proofs.LeftLemmas.{has-union, put-has, union-has}
+use Rattle.ics_series.proofs.ListedLemmas.{listed-in}
+use Rattle.ics_series.proofs.MasterLemmas.{same-entry}
+use Rattle.ics_series.proofs.MeetingLemmas.{both-back, true-less}
+use Rattle.ics_series.proofs.RuleDayLemmas.{found-is, given-early, seconds-numbered}
+use Rattle.ics_series.proofs.RuleLocalLemmas.{gives-kept, number-numbered, numbered-number, rule-first}
+use Rattle.ics_series.proofs.SeriesLemmas.{in-moment, known-start, rises-rule}
+use Rattle.ics_series.proofs.SoughtLemmas.{listed-there, none-else, sought-early, sought-late}
+use Rattle.ics_series.proofs.StartLaws.{kept-first}
+use Rattle.ics_series.proofs.PutMemberLemmas.{itself-put, union-member}
+
+module _ (zones : FileZones) (w : Window) (event : Event) where
+  known-is : (s : Start) (giver : Giver) (given : Rdate) → IsBegun w event → IsGivenBy (clocks_in zones) event w giver given → s ≡ start_by (clocks_in zones) giver given → IsKnown (clocks_in zones) event w s
+  known-is s giver given begun g e = subst (IsKnown (clocks_in zones) event w) (sym e) (record { begun = begun; gives = g; moment = refl })
+
+  -- What is known from the first.
+  known-listed : (s : Start) → IsBegun w event → IsIn s (listed_from (clocks_in zones) w event.start 0 event.rdates) → IsKnown (clocks_in zones) event w s
+  known-listed s begun m =
+      let k = listed-in (clocks_in zones) w event.start 0 event.rdates s m in
+      known-is s (Listed (0 + k.index)) (given_by event.start k.rdate) begun
+      (ap (option_map (given_by event.start)) (subst (λ i. slice_get event.rdates i ≡ Some k.rdate) (omega arith) k.stands)) k.is
+
+  known-first : (s : Start) → IsBegun w event → event.rule ≡ None → s ≡ start_at (clocks_in zones) event (local_of event.start.stamp) → IsKnown (clocks_in zones) event w s
+  known-first s begun none e =
+      known-is s (Kept (local_of event.start.stamp)) (At (time_at event.start (local_of event.start.stamp))) begun
+      (subst (IsGivenAt (clocks_in zones) event w (local_of event.start.stamp)) (sym (ap (option_map (recurrence_by event.start.stamp)) none)) refl, refl) e
+
+  pub known-apart : (o : Option RuleParts) (s : Start) → IsBegun w event → event.rule ≡ o → IsIn s (listed_apart (clocks_in zones) w event o) → IsKnown (clocks_in zones) event w s
+  known-apart None s begun e m = ⊎_elim (known-first s begun e) (known-listed s begun) m
+  known-apart (Some parts) s begun e m = known-listed s begun m
+
+  -- What the rule gives.
+  day-given : (rule : Recurrence) (n : ℕ) → gives (clocks_in zones) event rule w n ≡ true → IsDayNumber (local_numbered n).day
+  day-given rule n g =
+      let early = given-early zones event rule w n g in
+      let near = instant-near zones (time_at event.start (local_numbered n)) in
+      let wrote = written-at event.start.stamp (local_numbered n) in
+      let bound : n < 309_289_708_800 = omega (arith, ints, early, near.0, wrote.1, seconds-numbered n, w.not_late) in
+      (omega (arith, ints), omega (arith, ints, bound))
+
+  pub known-ruled : (since : ℤ) (listed starts : List Start) (s : Start) → IsBegun w event → IsRuleFrom (clocks_in zones) event w since listed starts → IsIn s starts → IsKnown (clocks_in zones) event w s
+  known-ruled since listed starts s begun r m =
+      let f = found-is zones event r.rule w (number r.from) s (subst (IsIn s) r.gives m) in
+      let given : gives (clocks_in zones) event r.rule w (number (local_numbered f.by)) ≡ true = ap (gives (clocks_in zones) event r.rule w) (number-numbered f.by) ∙ f.given in
+      known-is s (Kept (local_numbered f.by)) (At (time_at event.start (local_numbered f.by))) begun
+      (subst (IsGivenAt (clocks_in zones) event w (local_numbered f.by)) (sym r.has) (day-given r.rule f.by f.given, given), refl) f.is
+
+  -- The list has a start for each local that gives one.
+  module _ (rule : Recurrence) where
+    here-or-later : (a b : ℕ) → a ≤ b → (a ≡ b) ⊎ (a < b)
+    here-or-later a b l = grind arith
+
+    has-here : (from : ℕ) (rest : List Start) (b : Bool) → b ≡ true
+        → HasStart (with_put b (start_at (clocks_in zones) event (local_numbered from)) rest) (Kept (local_numbered from)) (moment_numbered (clocks_in zones) event from)
+    has-here from rest true e = record {
+      start = start_at (clocks_in zones) event (local_numbered from);
+      stands = itself-put moment_cmp moment_total (start_at (clocks_in zones) event (local_numbered from)) rest;
+      same = refl;
+      earlier = omega (arith, ints);
+    }
+    has-here from rest false e = let f : false ≡ true = e in absurd cc
+
+    has-later : (from k : ℕ) (rest : List Start) (b : Bool) → from < k → HasStart rest (Kept (local_numbered k)) (moment_numbered (clocks_in zones) event k)
+        → HasStart (with_put b (start_at (clocks_in zones) event (local_numbered from)) rest) (Kept (local_numbered k)) (moment_numbered (clocks_in zones) event k)
+    has-later from k rest true l h =
+        put-has (start_at (clocks_in zones) event (local_numbered from)) rest (Kept (local_numbered k)) (moment_numbered (clocks_in zones) event k)
+        (omega (arith, ints, seconds-numbered from, seconds-numbered k, l)) h
+    has-later from k rest false l h = h
+
+    found_in-has : (from n k : ℕ) → from ≤ k → k < from + n → gives (clocks_in zones) event rule w k ≡ true
+        → HasStart (found_in (clocks_in zones) event rule w from n) (Kept (local_numbered k)) (moment_numbered (clocks_in zones) event k)
+    found_in-has from zero k l u g = absurd (omega (arith, l, u))
+    found_in-has from (suc n) k l u g =
+        ⊎_elim
+        (λ e. subst (λ i. HasStart (found_in (clocks_in zones) event rule w from (suc n)) (Kept (local_numbered i)) (moment_numbered (clocks_in zones) event i)) e
+        (has-here from (found_in (clocks_in zones) event rule w (from + 1) n) (gives (clocks_in zones) event rule w from) (ap (gives (clocks_in zones) event rule w) e ∙ g)))
+        (λ less. has-later from k (found_in (clocks_in zones) event rule w (from + 1) n) (gives (clocks_in zones) event rule w from) less
+        (found_in-has (from + 1) n k (omega (arith, less)) (omega (arith, u)) g))
+        (here-or-later from k l)
+
+    found-has : (from k : ℕ) → from ≤ k → k < rules_end → gives (clocks_in zones) event rule w k ≡ true
+        → HasStart (found (clocks_in zones) event rule w from) (Kept (local_numbered k)) (moment_numbered (clocks_in zones) event k)
+    unfolding found
+    found-has from k l u g = found_in-has from (rules_end - from) k l (omega (arith, l, u)) g
+
+    -- a local that DTSTART has or the rule keeps gives one before the window's end
+    let-through : (local : Local) → recurrence_of event ≡ Some rule → (local ≡ local_of event.start.stamp) ⊎ IsRuleStart (clocks_in zones) event local
+        → (is_kept rule (number local) ≡ true) × (lets_until rule (number local) (instant (clocks_in zones) (time_at event.start local)) ≡ true)
+    let-through local has k =
+        ⊎_elim
+        (λ e.
+        let first : number local ≡ number rule.start = ap (λ (l : Local). number l) (e ∙ sym (rule-first event rule has)) in
+        (ap (is_kept rule) first ∙ kept_start rule, either-left (number local == number rule.start) (is_until (until_moment rule) (instant (clocks_in zones) (time_at event.start local))) (true-eqb (number local) (number rule.start) first)))
+        (λ r.
+        let same : r.rule ≡ rule = some-same r.rule rule (sym r.has ∙ has) in
+        let until : is_until (until_moment rule) (instant (clocks_in zones) (time_at event.start local)) ≡ true =
+        ap (λ (q : Recurrence). is_until (until_moment q) (instant (clocks_in zones) (time_at event.start local))) (sym same) ∙ until-true (until_moment r.rule) (instant (clocks_in zones) (time_at event.start local)) r.until in
+        (ap (λ (q : Recurrence). is_kept q (number local)) (sym same) ∙ r.kept, either-right (number local == number rule.start) (is_until (until_moment rule) (instant (clocks_in zones) (time_at event.start local))) until))
+        k
+      where
+        some-same : (x y : Recurrence) → Some x ≡ Some y → x ≡ y
+        some-same x y h = cc
+
+        true-eqb : (a b : ℕ) → a ≡ b → (a == b) ≡ true
+        true-eqb a b e = grind (arith, nat_tests)
+
+        either-left : (a b : Bool) → a ≡ true → (a || b) ≡ true
+        either-left true b e = refl
+        either-left false b e = let f : false ≡ true = e in absurd cc
+
+        either-right : (a b : Bool) → b ≡ true → (a || b) ≡ true
+        either-right true b e = refl
+        either-right false b e = e
+
+    gives-own : (local : Local) → recurrence_of event ≡ Some rule → IsDayNumber local.day → (local ≡ local_of event.start.stamp) ⊎ IsRuleStart (clocks_in zones) event local
+        → instant (clocks_in zones) (time_at event.start local) <ℤ w.to → gives (clocks_in zones) event rule w (number local) ≡ true
+    gives-own local has day k early =
+        let parts = let-through local has k in
+        gives-kept (clocks_in zones) event rule w local day parts.0
+        ∙ both-back (lets_until rule (number local) (instant (clocks_in zones) (time_at event.start local))) (int_lt (instant (clocks_in zones) (time_at event.start local)) w.to)
+        parts.1 (true-less (instant (clocks_in zones) (time_at event.start local)) w.to early)
+
+low-by : (from first earliest since to t local : ℤ) → from ≤ℤ int_max first (int_max earliest (int_min since to) -ℤ pos 518_400) → (earliest -ℤ pos 345_600) ≤ℤ t → since ≤ℤ t → first ≤ℤ local → (t -ℤ pos 172_800) <ℤ local → from ≤ℤ local
+low-by from first earliest since to t local low late own above near =
+    omega (arith, ints, int_max_is first (int_max earliest (int_min since to) -ℤ pos 518_400), int_max_is earliest (int_min since to), int_min_is since to, low, late, own, above, near)
+
+module _ (zones : FileZones) (w : Window) (event : Event) (readable : IsReadableEvent zones event) (since : ℤ) where
+  -- what gives a start that is sought from the instant on is asked for
+  asked-for : (from local : Local) (given : Rdate) → seconds_of from ≤ℤ int_max (seconds_of (local_of event.start.stamp)) (first_asked (clocks_in zones) w event since (listed_from (clocks_in zones) w event.start 0 event.rdates) -ℤ pos 518_400)
+      → GivesStart (clocks_in zones) event (Kept local) given → IsSought (clocks_in zones) event w (instant (clocks_in zones) (time_of given)) → since ≤ℤ instant (clocks_in zones) (time_of given) → seconds_of from ≤ℤ seconds_of local
+  asked-for from local given low g s late =
+      let time = time_at event.start local in
+      let same = ap (λ x. instant (clocks_in zones) (time_of x)) g.1 in
+      let sought : (earliest (clocks_in zones) w event (listed_from (clocks_in zones) w event.start 0 event.rdates) -ℤ pos 345_600) ≤ℤ instant (clocks_in zones) (time_of given) =
+      sought-late zones w event readable (instant (clocks_in zones) (time_of given)) s in
+      let near = instant-near zones time in
+      let at = written-at event.start.stamp local in
+      low-by (seconds_of from) (seconds_of (local_of event.start.stamp)) (earliest (clocks_in zones) w event (listed_from (clocks_in zones) w event.start 0 event.rdates)) since (w.to +ℤ pos 1_209_600)
+      (instant (clocks_in zones) (time_of given)) (seconds_of local) low sought late (kept-first (clocks_in zones) event readable.is_event.start local g.0) (omega (arith, ints, same, near.1, at.0))
+
+  own-day-of : (local : Local) → (local ≡ local_of event.start.stamp) ⊎ IsRuleStart (clocks_in zones) event local → IsDayNumber local.day
+  own-day-of local k =
+      ⊎_elim (λ e. subst (λ (l : Local). IsDayNumber l.day) (sym e) (calendar-day (local_of event.start.stamp).day (own-day event.start readable.is_event.start))) (λ r. r.calendar) k
+
+  -- The rule gives a start for each that is sought.
+  module _ (starts : List Start) (r : IsRuleFrom (clocks_in zones) event w since (listed_from (clocks_in zones) w event.start 0 event.rdates) starts) where
+    ruled : (local : Local) (given : Rdate) → GivesStart (clocks_in zones) event (Kept local) given → IsSought (clocks_in zones) event w (instant (clocks_in zones) (time_of given)) → since ≤ℤ instant (clocks_in zones) (time_of given)
+        → HasStart starts (Kept local) (instant (clocks_in zones) (time_of given))
+    ruled local given g s late =
+        let time = time_at event.start local in
+        let same : instant (clocks_in zones) (time_of given) ≡ instant (clocks_in zones) (time_at event.start local) = ap (λ x. instant (clocks_in zones) (time_of x)) g.1 in
+        let early = sought-early zones w event readable (instant (clocks_in zones) (time_of given)) s in
+        let day = own-day-of local g.0 in
+        let asked = asked-for r.from local given r.low g s late in
+        let from : number r.from ≤ number local = omega (arith, ints, asked, number-seconds r.from r.day, number-seconds local day) in
+        let near = instant-near zones time in
+        let at = written-at event.start.stamp local in
+        let below : number local < rules_end = omega (arith, ints, same, early, near.0, at.1, number-seconds local day, w.not_late) in
+        let given-there : gives (clocks_in zones) event r.rule w (number local) ≡ true = gives-own zones w event r.rule local r.has day g.0 (subst (λ t. t <ℤ w.to) same early) in
+        let has = found-has zones w event r.rule (number r.from) (number local) from below given-there in
+        subst (λ xs. HasStart xs (Kept local) (instant (clocks_in zones) (time_of given))) (sym r.gives)
+        (subst (HasStart (found (clocks_in zones) event r.rule w (number r.from)) (Kept local)) (sym same)
+        (subst (λ l. HasStart (found (clocks_in zones) event r.rule w (number r.from)) (Kept l) (instant (clocks_in zones) (time_at event.start l))) (numbered-number local day) has))
+
+    -- all that it gives goes before an RDATE
+    local-first : (place : ℕ) (x : Start) → IsIn x starts → IsNotAfter x.giver (Listed place)
+    local-first place x m =
+        let f = found-is zones event r.rule w (number r.from) x (subst (IsIn x) r.gives m) in
+        subst (λ (s : Start). IsNotAfter s.giver (Listed place)) (sym f.is) tt
+
+    pub with-ruled : (listed : List Start) → Rises moment_cmp starts → AreFirsts (listed_from (clocks_in zones) w event.start 0 event.rdates) listed
+        → (giver : Giver) (given : Rdate) → GivesStart (clocks_in zones) event giver given → IsSought (clocks_in zones) event w (instant (clocks_in zones) (time_of given)) → since ≤ℤ instant (clocks_in zones) (time_of given)
+        → HasStart (union moment_cmp starts listed) giver (instant (clocks_in zones) (time_of given))
+    with-ruled listed rises firsts (Kept local) given g s late =
+        has-union starts listed (Kept local) (instant (clocks_in zones) (time_of given)) rises (ruled local given g s late)
+    with-ruled listed rises firsts (Listed place) given g s late =
+        union-has starts listed (Listed place) (instant (clocks_in zones) (time_of given)) (local-first place)
+        (firsts.all (start_by (clocks_in zones) (Listed place) given)
+        (⊎_elim
+        (λ e. let f : Listed place ≡ Kept (local_of event.start.stamp) = ap (λ (x : Start). x.giver) e in absurd cc)
+        (λ m. m)
+        (listed-there zones w event readable place given g (sought-early zones w event readable (instant (clocks_in zones) (time_of given)) s))))
+
+  -- Both kinds together.
+  pub known-left : (o : Option RuleStarts) (listed : List Start) → IsBegun w event → AreFirsts (listed_apart (clocks_in zones) w event event.rule) listed
+      → MatchOption o (event.rule ≡ None) (λ s. IsRuleFrom (clocks_in zones) event w since (listed_apart (clocks_in zones) w event event.rule) (starts_left s))
+      → AreKnown (clocks_in zones) event w (union moment_cmp (rule_left o) listed)
+  known-left None listed begun firsts r s m = known-apart zones w event event.rule s begun refl (firsts.are s m)
+  known-left (Some starts) listed begun firsts r s m =
+      ⊎_elim (known-ruled zones w event since (listed_apart (clocks_in zones) w event event.rule) (starts_left starts) s begun r)
+      (λ n. known-apart zones w event event.rule s begun refl (firsts.are s n))
+      (union-member moment_cmp moment_total s (starts_left starts) listed m)
+
+  all-by : (o : Option RuleStarts) (parts : Option RuleParts) (listed : List Start) → event.rule ≡ parts → AreFirsts (listed_apart (clocks_in zones) w event parts) listed
+      → MatchOption o (event.rule ≡ None) (λ s. IsRuleFrom (clocks_in zones) event w since (listed_apart (clocks_in zones) w event parts) (starts_left s))
+      → (giver : Giver) (given : Rdate) → GivesStart (clocks_in zones) event giver given → IsSought (clocks_in zones) event w (instant (clocks_in zones) (time_of given)) → since ≤ℤ instant (clocks_in zones) (time_of given)
+      → HasStart (union moment_cmp (rule_left o) listed) giver (instant (clocks_in zones) (time_of given))
+  all-by None None listed e firsts r giver given g s late = firsts.all (start_by (clocks_in zones) giver given) ((none-else zones w event readable e).all giver given g s)
+  all-by None (Some parts) listed e firsts r giver given g s late = let f : None ≡ Some parts = sym r ∙ e in absurd cc
+  all-by (Some starts) None listed e firsts r giver given g s late = let f : None ≡ Some r.rule = ap (option_map (recurrence_by event.start.stamp)) (sym e) ∙ r.has in absurd cc
+  all-by (Some starts) (Some parts) listed e firsts r giver given g s late = with-ruled (starts_left starts) r listed (rises-rule (Some starts)) firsts giver given g s late
+
+  -- Where an occurrence begins at the instant of a local that DTSTART has or the rule keeps, the rule has a start there.
+  sought-at : (e : Entry) → IsEventMet (clocks_in zones) event w e → IsSought (clocks_in zones) event w e.start
+  sought-at e o =
+      let of = o.0.lasts in
+      let is : e ≡ entry_from (clocks_in zones) event of.given = same-entry e (entry_from (clocks_in zones) event of.given) of.starts of.ends (o.0.recurrence ∙ of.starts) o.0.event in
+      record { giver = of.giver; given = of.given; gives = of.gives; starts = sym of.starts; meets = subst (Meets w) is o.1 }
+
+  ruled-coming : (overridden : List ℤ) (starts : List Start) (coming : List Entry) → IsRuleFrom (clocks_in zones) event w since (listed_from (clocks_in zones) w event.start 0 event.rdates) starts
+      → ((o : Entry) → IsIn o coming → IsSeriesMet (clocks_in zones) event w since overridden o) → HaveRuled (clocks_in zones) event starts coming
+  ruled-coming overridden starts coming r f o m local k =
+      let met = f o m in
+      let has = ruled starts r local (At (time_at event.start local)) (k.0, refl) (subst (IsSought (clocks_in zones) event w) (sym k.1) (sought-at o met.0)) (subst (λ t. since ≤ℤ t) (sym k.1) met.1.0) in
+      in-moment has.start o.start starts (has.same ∙ k.1) has.stands
+
+  has-ruled-by : (o : Option RuleStarts) (parts : Option RuleParts) (overridden : List ℤ) (coming : List Entry) → event.rule ≡ parts
+      → MatchOption o (event.rule ≡ None) (λ s. IsRuleFrom (clocks_in zones) event w since (listed_apart (clocks_in zones) w event parts) (starts_left s))
+      → ((e : Entry) → IsIn e coming → IsSeriesMet (clocks_in zones) event w since overridden e) → HasRuled (clocks_in zones) event o coming
+  has-ruled-by None parts overridden coming e r f = tt
+  has-ruled-by (Some starts) None overridden coming e r f = let g : None ≡ Some r.rule = ap (option_map (recurrence_by event.start.stamp)) (sym e) ∙ r.has in absurd cc
+  has-ruled-by (Some starts) (Some parts) overridden coming e r f = ruled-coming overridden (starts_left starts) coming r f
+
+  pub has-ruled : (o : Option RuleStarts) (overridden : List ℤ) (coming : List Entry)
+      → MatchOption o (event.rule ≡ None) (λ s. IsRuleFrom (clocks_in zones) event w since (listed_apart (clocks_in zones) w event event.rule) (starts_left s))
+      → IsListing entry_cmp (IsSeriesMet (clocks_in zones) event w since overridden) coming → HasRuled (clocks_in zones) event o coming
+  has-ruled o overridden coming r l = has-ruled-by o event.rule overridden coming refl r (λ e m. (l.exact e).0 m)
+
+  pub starts-since : (o : Option RuleStarts) (listed : List Start) → IsBegun w event → AreFirsts (listed_apart (clocks_in zones) w event event.rule) listed
+      → MatchOption o (event.rule ≡ None) (λ s. IsRuleFrom (clocks_in zones) event w since (listed_apart (clocks_in zones) w event event.rule) (starts_left s))
+      → AreStartsSince (clocks_in zones) event w since (union moment_cmp (rule_left o) listed)
+  starts-since o listed begun firsts r = record {
+    rises = rises-union moment_cmp moment_total (rule_left o) listed firsts.rises;
+    are = λ s m. known-start zones w event s readable.is_event (known-left o listed begun firsts r s m);
+    all = all-by o event.rule listed refl firsts r;
+  }
+
+-- the rule's starts by what the starts that are known from the first and the instant are
+pub ruled-as : (clocks : Clocks) (event : Event) (w : Window) (t since : ℤ) (given listed : List Start) (o : Option RuleStarts) → t ≡ since → given ≡ listed
+    → MatchOption o (event.rule ≡ None) (λ s. IsRuleFrom clocks event w t given (starts_left s)) → MatchOption o (event.rule ≡ None) (λ s. IsRuleFrom clocks event w since listed (starts_left s))
+ruled-as clocks event w t since given listed o e f h =
+    subst (λ x. MatchOption o (event.rule ≡ None) (λ s. IsRuleFrom clocks event w x listed (starts_left s))) e
+    (subst (λ xs. MatchOption o (event.rule ≡ None) (λ s. IsRuleFrom clocks event w t xs (starts_left s))) f h)

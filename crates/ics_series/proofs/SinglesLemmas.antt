@@ -1,0 +1,201 @@
+-- What the versions that count give whose events start once, sorted by key, is the listing of such occurrences to come.
+use Rattle.std.specs.Prelude.{◌==◌, ◌&&◌, ◌||◌, not, is_none, is_some, if◌then◌else◌}
+use Rattle.std.proofs.Common.{◌≡◌, ℤ, List, [], map, length, ⊎_elim, Option, Some, None, Bool, true, false, refl, sym, ◌∙◌, ap, subst, arith}
+use Rattle.std.specs.Fn.{Called}
+use Rattle.std.specs.List.{filter, filter_map, list_any}
+use Rattle.std.specs.List.Sorted.{IsPermutation, IsSortedByClosure}
+use Rattle.std.specs.Option.{option_and_then, option_map}
+use Rattle.std.specs.Ordering.{is_lt, on, ordering_then}
+use Rattle.std.specs.declared.cmp.Ordering.{Ordering}
+use Rattle.std.specs.declared.cmp.Ordering.TheVariants.{Less}
+use Rattle.std.proofs.lemmas.Cmp.{on_total}
+use Rattle.std.proofs.lemmas.Int.{ints}
+use Rattle.std.proofs.lemmas.List.Sorted.{IsPermutation-map, answers_always, ranks_by}
+use denote.Param.Members.{Mut}
+use denote.Ref.{Bor}
+use Rattle.ics_calendar.specs.Event.{FileSaid}
+use Rattle.ics_calendar.specs.declared.event.Event.{Event}
+use Rattle.ics_calendar.specs.declared.time.Rdate.{Rdate}
+use Rattle.ics_calendar.specs.declared.time.Rdate.TheVariants.{At}
+use Rattle.ics_calendar.specs.declared.time.Time.{Time}
+use Rattle.ics_series.specs.declared.single.Single.{Single}
+use Rattle.ics_series.specs.declared.start.Giver.{Giver}
+use Rattle.ics_series.specs.declared.start.Giver.TheVariants.{Kept, Listed}
+use Rattle.ics_series.specs.declared.version.Version.{Version}
+use Rattle.ics_series.specs.declared.window.Window.{Window}
+use Rattle.ics_series.specs.Chosen.{overridden, subject_of, IsChosen}
+use Rattle.ics_series.specs.Clocks.{Clock, Clocks, instant, seconds_of}
+use Rattle.ics_series.specs.Entry.{Entry, Rank, entry_cmp}
+use Rattle.ics_series.specs.EntryLaws.{entry_total}
+use Rattle.ics_series.specs.Exclusions.{excludes}
+use Rattle.ics_series.specs.Finish.{finish}
+use Rattle.ics_series.specs.Listing.{IsListing}
+use Rattle.ics_series.specs.Meeting.{is_met}
+use Rattle.ics_series.specs.MetList.{entry_start_cmp, given_cmp, is_after, is_kept, subject_from, IsGiven, IsGivenBy}
+use Rattle.ics_series.specs.Occurs.{IsInstance}
+use Rattle.ics_series.specs.Placed.{Placed, clocks_at}
+use Rattle.ics_series.specs.Singles.{entry_first, is_single, is_to_come, single_at, single_entry, single_of, IsSingleToCome}
+use Rattle.ics_series.specs.Starts.{local_of, recurrence_by, GivesStart, IsNotAfter}
+use Rattle.ics_series.specs.Versions.{by_subject, is_named, is_override, label_of, seen, subject_cmp, AreChosen, Label}
+use Rattle.ics_series.proofs.AgendaLemmas.{given_total, tied-given}
+use Rattle.ics_series.proofs.GivenLemmas.{given-subject, placed-event}
+use Rattle.ics_series.proofs.MasterLemmas.{same-entry}
+use Rattle.ics_series.proofs.MeetingLemmas.{is_met-meets, meets-is_met}
+use Rattle.ics_series.proofs.OverrideLemmas.{named-overrides}
+use Rattle.ics_series.proofs.PickLemmas.{filter_map-map, listing-picked}
+use Rattle.ics_series.proofs.PutLemmas.{listing-ordered}
+use Rattle.ics_series.proofs.SingleLemmas.{first-gives}
+use Rattle.ics_series.proofs.SortLemmas.{climbs-sorted, listing-sorted, map-climbs}
+use Rattle.ics_series.proofs.StartLaws.{one-start}
+use Rattle.ics_series.proofs.ToComeLemmas.{and-true, come-listed, is-after, listed-given, to-come}
+use Rattle.ics_series.proofs.VersionLemmas.{group-total}
+use Rattle.ics_series.proofs.ZoneLemmas.{none-of, rule-none}
+
+-- An event that starts once, and is no override.
+module _ (clocks : Clocks) (event : Event) (rule : event.rule ≡ None) (rdates : event.rdates ≡ []) (exdates : event.exdates ≡ []) where
+  first-earliest : (other : Giver) (value : Rdate) → GivesStart clocks event other value → IsNotAfter (Kept (local_of event.start.stamp)) other
+  first-earliest (Kept local) value g =
+      ⊎_elim (λ e. let same = ap seconds_of e in omega (arith, ints, same))
+      (λ r. let f : None ≡ Some r.rule = ap (option_map (recurrence_by event.start.stamp)) (sym rule) ∙ r.has in absurd cc) g.0
+  first-earliest (Listed place) value g = tt
+
+  -- it occurs at its DTSTART
+  first-instance : IsInstance clocks event (instant clocks event.start) (finish clocks event (At event.start))
+  first-instance = record {
+    giver = Kept (local_of event.start.stamp);
+    given = At event.start;
+    gives = first-gives clocks event;
+    starts = refl;
+    earliest = λ other value g e. first-earliest other value g;
+    ends = refl;
+    stays = ap (list_any (λ exdate. excludes clocks event.start exdate (instant clocks event.start))) exdates;
+  }
+
+-- Tests.
+three-true : (a b c : Bool) → ((a && b) && c) ≡ true → (a ≡ true) × (b ≡ true) × (c ≡ true)
+three-true a b c e = let outer = and-true (a && b) c e in let inner = and-true a b outer.0 in (inner.0, inner.1, outer.1)
+
+true-three : (a b c : Bool) → a ≡ true → b ≡ true → c ≡ true → ((a && b) && c) ≡ true
+true-three a b c e f g = λ i. (e i && f i) && g i
+
+-- what is given is of the event that gives it
+pub given-event : (clocks : Clocks) (event : Event) (recurrence : Option ℤ) (o : Entry) → IsGivenBy clocks event recurrence o → o.event ≡ event
+given-event clocks event None o h = h.event
+given-event clocks event (Some t) o h = h.0.event
+
+-- An event that starts once gives what it gives at its DTSTART.
+
+module _ (clocks : Clocks) (event : Event) (single : is_single event ≡ true) where
+  abbrev first : Entry
+  first = entry_first clocks event (overridden clocks event)
+
+  -- a master has neither a rule nor RDATEs nor EXDATEs
+  plain : event.recurrence ≡ None → (event.rule ≡ None) × (event.rdates ≡ []) × (event.exdates ≡ [])
+  plain none =
+      let bare = three-true (is_none event.rule) (length event.rdates == 0) (length event.exdates == 0)
+      (sym (ap (λ (r : Option Time). is_some r || ((is_none event.rule && length event.rdates == 0) && length event.exdates == 0)) none) ∙ single) in
+      (rule-none event.rule bare.0, none-of event.rdates bare.1, none-of event.exdates bare.2)
+
+  first-given : IsGivenBy clocks event (overridden clocks event) first
+  first-given = by event.recurrence refl
+    where
+      by : (r : Option Time) → event.recurrence ≡ r → IsGivenBy clocks event (option_map (instant clocks) r) (entry_first clocks event (option_map (instant clocks) r))
+      by None none = let bare = plain none in record { event = refl; recurrence = refl; lasts = first-instance clocks event bare.0 bare.1 bare.2 }
+      by (Some time) some = (record { event = refl; starts = refl; ends = refl }, refl)
+
+  given-first : (o : Entry) → IsGivenBy clocks event (overridden clocks event) o → o ≡ first
+  given-first o = by event.recurrence refl
+    where
+      by : (r : Option Time) → event.recurrence ≡ r → IsGivenBy clocks event (option_map (instant clocks) r) o → o ≡ entry_first clocks event (option_map (instant clocks) r)
+      by None none of =
+          let bare = plain none in
+          let once = one-start clocks event o.start o.finish bare.0 bare.1 of.lasts in
+          same-entry o (entry_first clocks event None) once.0 once.1 (of.recurrence ∙ once.0) of.event
+      by (Some time) some of = same-entry o (entry_first clocks event (Some (instant clocks time))) of.0.starts of.0.ends of.1 of.0.event
+
+-- Of the versions that count.
+module _ (files : List FileSaid) (display : Clock) (w : Window) (after : Option Rank) (vs : List Version) (os : List Label) (chosen : AreChosen files display vs) (overrides : os ≡ filter is_override (map seen vs)) where
+  abbrev clocks_by : Placed → Clocks
+  clocks_by p = clocks_at files display p.file
+
+  abbrev own : Placed → Entry
+  own p = entry_first (clocks_by p) p.event (overridden (clocks_by p) p.event)
+
+  -- what an event that counts gives of that
+  abbrev given : Placed → Option Entry
+  given p = single_at files display w os after (label_of files display p)
+
+  given-by : (p : Placed) → IsChosen files display p → given p ≡ (if is_single p.event && is_to_come w os after (own p) then Some (own p) else None)
+  given-by p c = ap (option_and_then (single_of (clocks_by p) w os after (overridden (clocks_by p) p.event))) (placed-event files p c.placed)
+
+  given-is : (p : Placed) (o : Entry) → IsChosen files display p → given p ≡ Some o → (is_single p.event ≡ true) × (is_to_come w os after (own p) ≡ true) × (o ≡ own p)
+  given-is p o c e = by (is_single p.event) (is_to_come w os after (own p)) refl refl (sym (given-by p c) ∙ e)
+    where
+      by : (a b : Bool) → is_single p.event ≡ a → is_to_come w os after (own p) ≡ b → (if a && b then Some (own p) else None) ≡ Some o → (is_single p.event ≡ true) × (is_to_come w os after (own p) ≡ true) × (o ≡ own p)
+      by true true s t e = (s, t, cc)
+      by true false s t e = let f : None ≡ Some o = e in absurd cc
+      by false b s t e = let f : None ≡ Some o = e in absurd cc
+
+  is-given : (p : Placed) → IsChosen files display p → is_single p.event ≡ true → is_to_come w os after (own p) ≡ true → given p ≡ Some (own p)
+  is-given p c s t = given-by p c ∙ (λ i. if s i && t i then Some (own p) else None)
+
+  -- the order of subjects is that of what is given
+  subjects-keep : (p q : Placed) (x y : Entry) → IsChosen files display p → IsChosen files display q → given p ≡ Some x → given q ≡ Some y → by_subject files display p q ≡ Less → given_cmp x y ≡ Less
+  subjects-keep p q x y c d e f less =
+      let a = given-is p x c e in
+      let b = given-is q y d f in
+      let one : subject_from x ≡ subject_of files display p = ap subject_from a.2 ∙ given-subject (clocks_by p) p.event (own p) (first-given (clocks_by p) p.event a.0) in
+      let other : subject_from y ≡ subject_of files display q = ap subject_from b.2 ∙ given-subject (clocks_by q) q.event (own q) (first-given (clocks_by q) q.event b.0) in
+      ap (λ c. ordering_then c (entry_start_cmp x y)) ((λ i. subject_cmp (one i) (other i)) ∙ less)
+
+  kept-same : (o : Entry) → is_kept os o ≡ is_kept (map seen vs) o
+  kept-same o = ap (λ b. is_some o.event.recurrence || not b) (ap (is_named (record { uid = o.event.uid; recurrence = Some o.recurrence })) overrides ∙ named-overrides o.event.uid o.recurrence (map seen vs))
+
+  given-come : (p : Placed) (o : Entry) → IsChosen files display p → given p ≡ Some o → IsSingleToCome files display w after o
+  given-come p o c e =
+      let is = given-is p o c e in
+      let parts = three-true (is_met w (own p)) (is_after after (own p)) (is_kept os (own p)) is.1 in
+      let is_given : IsGiven files display w (own p) = record { by = p; chosen = c; is = (first-given (clocks_by p) p.event is.0, is_met-meets w (own p) parts.0) } in
+      subst (IsSingleToCome files display w after) (sym is.2)
+      (to-come files display w vs chosen after (own p) is_given (sym (kept-same (own p)) ∙ parts.2) parts.1, is.0)
+
+  come-given : (o : Entry) → IsSingleToCome files display w after o → (p : Placed) × IsChosen files display p × (given p ≡ Some o)
+  come-given o t =
+      let listed = listed-given files display w vs chosen o (come-listed files display w after o t.0) in
+      let p = listed.0.by in
+      let event : o.event ≡ listed.0.by.event = given-event (clocks_by p) p.event (overridden (clocks_by p) p.event) o listed.0.is.0 in
+      let single : is_single listed.0.by.event ≡ true = ap is_single (sym event) ∙ t.1 in
+      let is = given-first (clocks_by p) p.event single o listed.0.is.0 in
+      let comes : is_to_come w os after o ≡ true = true-three (is_met w o) (is_after after o) (is_kept os o) (meets-is_met w o listed.0.is.1) (is-after files display w vs chosen after o t.0) (kept-same o ∙ listed.1) in
+      (p, listed.0.chosen, is-given p listed.0.chosen single (ap (is_to_come w os after) (sym is) ∙ comes) ∙ ap Some (sym is))
+
+-- The versions that count give the listing.
+pub singles-listing : {F : Type 0} {g : Mut F (Bor Single × (Bor Single × Unit {0})) Ordering} {f : F} (files : List FileSaid) (display : Clock) (w : Window) (after : Option Rank) (vs os : List Version) (given sorted : List Single) → AreChosen files display vs → map seen os ≡ filter is_override (map seen vs)
+    → map single_entry given ≡ filter_map (single_at files display w (map seen os) after) (map seen vs) → IsPermutation given sorted
+    → IsSortedByClosure g f sorted → ((f : F) (a : Bor Single × (Bor Single × Unit {0})) (r : Ordering) (f' : F) → Called g f a r f' → r ≡ entry_cmp (single_entry a.0.now) (single_entry a.1.0.now))
+    → IsListing entry_cmp (IsSingleToCome files display w after) (map single_entry sorted)
+singles-listing {g = g} {f = f} files display w after vs os given sorted chosen overrides are p s h =
+    let label = label_of files display in
+    let one = single_at files display w (map seen os) after in
+    let picked : filter_map (λ p. single_at files display w (map seen os) after (label_of files display p)) chosen.chosen ≡ map single_entry given =
+    sym (filter_map-map label one chosen.chosen) ∙ (ap (filter_map one) (sym chosen.are) ∙ sym are) in
+    let found = listing-picked (λ p. one (label p)) (by_subject files display) (group-total files display) given_cmp (IsChosen files display)
+    (subjects-keep files display w after vs (map seen os) chosen overrides) (IsSingleToCome files display w after) chosen.chosen chosen.listing
+    (given-come files display w after vs (map seen os) chosen overrides) (come-given files display w after vs (map seen os) chosen overrides) in
+    listing-sorted given_cmp given_total entry_cmp (IsSingleToCome files display w after) (λ x y a b e. tied-given files display w after x y a.0 b.0 e)
+    (map single_entry given) (map single_entry sorted) (subst (IsListing given_cmp (IsSingleToCome files display w after)) picked found) (IsPermutation-map single_entry given sorted p)
+    (map-climbs single_entry entry_cmp sorted
+    (climbs-sorted (on single_entry entry_cmp) (on_total single_entry entry_total) sorted
+    (s (λ x y. is_lt (on single_entry entry_cmp x y)) (ranks_by entry_total single_entry)
+    (answers_always g (λ a r. is_lt r ≡ is_lt (entry_cmp (single_entry a.0.now) (single_entry a.1.0.now))) f (λ k a r f' c. ap is_lt (h k a r f' c))))))
+
+-- and all that meet the window have a list
+pub singles-whole : (files : List FileSaid) (display : Clock) (w : Window) (vs : List Version) → AreChosen files display vs → (list : List Entry) × IsListing entry_cmp (IsSingleToCome files display w None) list
+singles-whole files display w vs chosen =
+    let os = filter is_override (map seen vs) in
+    let one = single_at files display w (filter is_override (map seen vs)) None in
+    let found = listing-picked (λ p. one (label_of files display p)) (by_subject files display) (group-total files display) given_cmp (IsChosen files display)
+    (subjects-keep files display w None vs os chosen refl) (IsSingleToCome files display w None) chosen.chosen chosen.listing
+    (given-come files display w None vs os chosen refl) (come-given files display w None vs os chosen refl) in
+    listing-ordered entry_cmp entry_total given_cmp given_total (IsSingleToCome files display w None) (λ x y a b e. tied-given files display w None x y a.0 b.0 e)
+    (filter_map (λ p. one (label_of files display p)) chosen.chosen) found

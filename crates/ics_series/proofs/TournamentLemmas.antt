@@ -1,0 +1,211 @@
+-- Which lead wins a tournament, and how one is put right from a lead upwards.
+use Rattle.std.specs.Prelude.{nat_lt, slice_index, slice_index_or}
+use Rattle.std.proofs.Common.{◌≡◌, ◌≢◌, ℕ, zero, suc, ◌+◌, ◌*◌, ◌/◌, ◌-◌, ◌<◌, ◌≤◌, Bool, true, false, cond, ◌⊎◌, inl, inr, ⊎_elim, List, length, get_or, replicate, set, Option, Some, None, refl, sym, ◌∙◌, ap, arith, length-set, get_or-set_same}
+use Rattle.std.specs.Cmp.{IsTotalOrder}
+use Rattle.std.specs.List.{All}
+use Rattle.std.specs.Ordering.{is_gt, is_lt, nat_cmp, ordering_reverse, ordering_then}
+use Rattle.std.specs.declared.cmp.Ordering.{Ordering}
+use Rattle.std.specs.declared.cmp.Ordering.TheVariants.{Less, Equal, Greater}
+use Rattle.std.proofs.lemmas.Bool.{cases_eq, cases_lt}
+use Rattle.std.proofs.lemmas.Bool.Decides.{nat_tests}
+use Rattle.std.proofs.lemmas.Cmp.{nat_cmp_total, on_total, then_total, tied_itself, tied_back, upto}
+use Rattle.std.proofs.lemmas.List.{get_or-replicate, get_or-set_other, length-replicate}
+use Rattle.ics_series.specs.Entry.{Entry}
+use Rattle.ics_series.specs.EntryLaws.{entry_total}
+use Rattle.ics_series.specs.Tournament.{above, first_below, first_of, head_cmp, lead_cmp, winner, AreSettled, AreSettledBut, AreSettledWhere}
+
+pub head_total : IsTotalOrder head_cmp
+head_total = record {
+  antisymm = turned;
+  trans = chained;
+  congr = tied;
+}
+  where
+    turned : (x y : Option Entry) → head_cmp x y ≡ ordering_reverse (head_cmp y x)
+    turned None None = refl
+    turned None (Some y) = refl
+    turned (Some x) None = refl
+    turned (Some x) (Some y) = entry_total.antisymm x y
+
+    chained : (x y z : Option Entry) → head_cmp x y ≡ Less → head_cmp y z ≡ Less → head_cmp x z ≡ Less
+    chained None None z p q = cc
+    chained None (Some y) z p q = cc
+    chained (Some x) None None p q = cc
+    chained (Some x) None (Some z) p q = cc
+    chained (Some x) (Some y) None p q = refl
+    chained (Some x) (Some y) (Some z) p q = entry_total.trans x y z p q
+
+    tied : (x y z : Option Entry) → head_cmp x y ≡ Equal → head_cmp x z ≡ head_cmp y z
+    tied None None z p = refl
+    tied None (Some y) z p = cc
+    tied (Some x) None z p = cc
+    tied (Some x) (Some y) None p = refl
+    tied (Some x) (Some y) (Some z) p = entry_total.congr x y z p
+
+pub lead_total : (heads : List (Option Entry)) → IsTotalOrder (lead_cmp heads)
+lead_total heads = then_total (on_total (λ lead. slice_index_or heads lead None) head_total) nat_cmp_total
+
+-- neither of two goes before the one that goes first
+module _ (heads : List (Option Entry)) (a b : ℕ) where
+  first_by : (c : Ordering) → lead_cmp heads a b ≡ c
+      → (is_gt (lead_cmp heads (cond (is_lt c) a b) a) ≡ false) × (is_gt (lead_cmp heads (cond (is_lt c) a b) b) ≡ false)
+  first_by Less e = (ap is_gt (tied_itself (lead_total heads) a), ap is_gt e)
+  first_by Equal e = (ap is_gt (tied_back (lead_total heads) a b e), ap is_gt (tied_itself (lead_total heads) b))
+  first_by Greater e =
+      (ap is_gt ((lead_total heads).antisymm b a ∙ ap ordering_reverse e), ap is_gt (tied_itself (lead_total heads) b))
+
+  pub first_of-first : (is_gt (lead_cmp heads (first_of heads a b) a) ≡ false) × (is_gt (lead_cmp heads (first_of heads a b) b) ≡ false)
+  first_of-first = first_by (lead_cmp heads a b) refl
+
+one_of : (b : Bool) (x y : ℕ) → (cond b x y ≡ x) ⊎ (cond b x y ≡ y)
+one_of true x y = inl refl
+one_of false x y = inr refl
+
+-- where nothing has been played yet
+pub zeros-within : (n : ℕ) (winners : List ℕ) → winners ≡ replicate n 0 → All (λ lead. lead < n) winners
+zeros-within n winners e k d l =
+    let long : length winners ≡ n = ap length e ∙ length-replicate n 0 in
+    let zero_at : get_or winners k d ≡ 0 = ap (λ ws. get_or ws k d) e ∙ get_or-replicate n k 0 d (omega arith) in
+    omega arith
+
+pub winner-node : (winners : List ℕ) (node : ℕ) → node < length winners → winner winners node ≡ slice_index winners node
+winner-node winners node l = grind (arith, nat_tests)
+
+pub winner-lead : (winners : List ℕ) (lead : ℕ) → winner winners (length winners + lead) ≡ lead
+winner-lead winners lead = grind (arith, nat_tests)
+
+-- a node is one of the two below the one above it
+two_below : (node : ℕ) → (node ≡ 2 * (node / 2)) ⊎ (node ≡ 2 * (node / 2) + 1)
+two_below node = ⊎_elim (λ l. inl (omega arith)) (λ l. inr (omega arith)) (cases_lt node (2 * (node / 2) + 1))
+
+above-suc : (steps node : ℕ) → above (suc steps) node ≡ above steps node / 2
+above-suc zero node = refl
+above-suc (suc steps) node = above-suc steps (node / 2)
+
+pub above-zero : (steps : ℕ) → above steps 0 ≡ 0
+above-zero zero = refl
+above-zero (suc steps) = above-zero steps
+
+module _ (heads : List (Option Entry)) (winners : List ℕ) (settled : AreSettled heads winners) where
+  -- each node but the first has lost to the winner above it, or is that
+  over : (node : ℕ) → 1 < node → node < 2 * length winners → is_gt (lead_cmp heads (winner winners (node / 2)) (winner winners node)) ≡ false
+  over node low high =
+      let up : ℕ = node / 2 in
+      let is : winner winners up ≡ first_below heads winners up =
+      winner-node winners up (omega arith) ∙ settled up (omega arith) (omega arith) in
+      let both = first_of-first heads (winner winners (2 * up)) (winner winners (2 * up + 1)) in
+      ap (λ w. is_gt (lead_cmp heads w (winner winners node))) is
+      ∙ ⊎_elim
+      (λ e. ap (λ k. is_gt (lead_cmp heads (first_below heads winners up) (winner winners k))) e ∙ both.0)
+      (λ e. ap (λ k. is_gt (lead_cmp heads (first_below heads winners up) (winner winners k))) e ∙ both.1)
+      (two_below node)
+
+  over_all : (fuel node : ℕ) → 0 < node → node ≤ fuel → node < 2 * length winners → is_gt (lead_cmp heads (winner winners 1) (winner winners node)) ≡ false
+  over_all zero node low most high = absurd (omega arith)
+  over_all (suc fuel) node low most high =
+      ⊎_elim
+      (λ e. ap (λ k. is_gt (lead_cmp heads (winner winners 1) (winner winners k))) (sym e) ∙ ap is_gt (tied_itself (lead_total heads) (winner winners 1)))
+      (λ l. upto (lead_total heads) (winner winners 1) (winner winners (node / 2)) (winner winners node)
+      (over_all fuel (node / 2) (omega arith) (omega arith) (omega arith)) (over node l high))
+      (first_or node low)
+    where
+      first_or : (node : ℕ) → 0 < node → (1 ≡ node) ⊎ (1 < node)
+      first_or node low = ⊎_elim (λ l. inr l) (λ l. inl (omega arith)) (cases_lt 1 node)
+
+  -- no lead goes before the winner of all
+  pub wins : (lead : ℕ) → lead < length winners → is_gt (lead_cmp heads (winner winners 1) lead) ≡ false
+  wins lead l =
+      ap (λ k. is_gt (lead_cmp heads (winner winners 1) k)) (sym (winner-lead winners lead))
+      ∙ over_all (length winners + lead) (length winners + lead) (omega arith) (omega arith) (omega arith)
+
+  leaf : (node : ℕ) → length winners ≤ node → length winners + winner winners node ≡ node
+  leaf node l =
+      let at : length winners + (node - length winners) ≡ node = omega arith in
+      ap (λ k. length winners + winner winners k) (sym at) ∙ (ap (λ k. length winners + k) (winner-lead winners (node - length winners)) ∙ at)
+
+  -- the winner at a node is that at one of the two below it
+  from_below : (node : ℕ) → 0 < node → node < length winners → (winner winners node ≡ winner winners (2 * node)) ⊎ (winner winners node ≡ winner winners (2 * node + 1))
+  from_below node low high =
+      let is : winner winners node ≡ first_below heads winners node = winner-node winners node high ∙ settled node low high in
+      ⊎_elim (λ e. inl (is ∙ e)) (λ e. inr (is ∙ e))
+      (one_of (is_lt (lead_cmp heads (winner winners (2 * node)) (winner winners (2 * node + 1)))) (winner winners (2 * node)) (winner winners (2 * node + 1)))
+
+  rise : (node child : ℕ) → child / 2 ≡ node → winner winners node ≡ winner winners child
+      → ((steps : ℕ) × (above steps (length winners + winner winners child) ≡ child)) → (steps : ℕ) × (above steps (length winners + winner winners node) ≡ node)
+  rise node child up e p =
+      (suc p.0, above-suc p.0 (length winners + winner winners node) ∙ (ap (λ k. above p.0 (length winners + k) / 2) e ∙ (ap (λ k. k / 2) p.1 ∙ up)))
+
+  -- a node's winner stands below it
+  stands_by : (fuel node : ℕ) → 0 < node → node < 2 * length winners → 2 * length winners ≤ node + fuel → (steps : ℕ) × (above steps (length winners + winner winners node) ≡ node)
+  stands_by zero node low high most = absurd (omega arith)
+  stands_by (suc fuel) node low high most =
+      ⊎_elim
+      (λ l. ⊎_elim
+      (λ e. rise node (2 * node) (omega arith) e (stands_by fuel (2 * node) (omega arith) (omega arith) (omega arith)))
+      (λ e. rise node (2 * node + 1) (omega arith) e (stands_by fuel (2 * node + 1) (omega arith) (omega arith) (omega arith)))
+      (from_below node low l))
+      (λ l. (zero, leaf node l))
+      (cases_lt node (length winners))
+
+  pub stands : (node : ℕ) → 0 < node → node < 2 * length winners → (steps : ℕ) × (above steps (length winners + winner winners node) ≡ node)
+  stands node low high = stands_by (2 * length winners) node low high (omega arith)
+
+first_of-same : (heads news : List (Option Entry)) (a b : ℕ) → slice_index_or news a None ≡ slice_index_or heads a None → slice_index_or news b None ≡ slice_index_or heads b None
+    → first_of news a b ≡ first_of heads a b
+first_of-same heads news a b p q =
+    ap (λ h. cond (is_lt (ordering_then (head_cmp h (slice_index_or news b None)) (nat_cmp a b))) a b) p
+    ∙ ap (λ h. cond (is_lt (ordering_then (head_cmp (slice_index_or heads a None) h) (nat_cmp a b))) a b) q
+
+-- where only one lead has changed, all is right but for what stands above it
+pub settled_but : (heads news : List (Option Entry)) (winners : List ℕ) (lead : ℕ) → ((j : ℕ) → j ≢ lead → slice_index_or news j None ≡ slice_index_or heads j None)
+    → AreSettled heads winners → AreSettledBut (above 1 (length winners + lead)) news winners
+settled_but heads news winners lead same settled node low high apart =
+    let other : (child : ℕ) → child / 2 ≡ node → child < 2 * length winners → 0 < child → winner winners child ≢ lead =
+    λ child up within low e.
+    let p = stands heads winners settled child low within in
+    apart p.0
+    (ap (λ k. above (suc p.0) (length winners + k)) (sym e) ∙ (above-suc p.0 (length winners + winner winners child) ∙ (ap (λ k. k / 2) p.1 ∙ up))) in
+    settled node low high
+    ∙ sym (first_of-same heads news (winner winners (2 * node)) (winner winners (2 * node + 1))
+    (same _ (other (2 * node) (omega arith) (omega arith) (omega arith)))
+    (same _ (other (2 * node + 1) (omega arith) (omega arith) (omega arith))))
+
+-- a node's winner is not read where another is
+winner-set : (winners : List ℕ) (node w k : ℕ) → k ≢ node → winner (set winners node w) k ≡ winner winners k
+winner-set winners node w k h =
+    ap (λ n. cond (nat_lt k n) (slice_index (set winners node w) k) (k - n)) (length-set winners node w)
+    ∙ ap (λ x. cond (nat_lt k (length winners)) x (k - length winners)) (get_or-set_other winners node k w 0 h)
+
+-- after a node is put right
+pub settle : (heads : List (Option Entry)) (winners : List ℕ) (node : ℕ) (P Q : ℕ → Type 0) → 0 < node → node < length winners → AreSettledWhere P heads winners
+    → ((k : ℕ) → 0 < k → k ≢ node → Q k → P k × ((2 * k ≢ node) × (2 * k + 1 ≢ node)))
+    → AreSettledWhere Q heads (set winners node (first_below heads winners node))
+settle heads winners node P Q low l settled more k k_low k_in q =
+    let news : List ℕ = set winners node (first_below heads winners node) in
+    let within : k < length winners = omega (arith, length-set winners node (first_below heads winners node)) in
+    let below : 2 * k ≢ node → 2 * k + 1 ≢ node → first_below heads news k ≡ first_below heads winners k =
+    λ p r. ap (λ a. first_of heads a (winner news (2 * k + 1))) (winner-set winners node (first_below heads winners node) (2 * k) p)
+    ∙ ap (λ b. first_of heads (winner winners (2 * k)) b) (winner-set winners node (first_below heads winners node) (2 * k + 1) r) in
+    ⊎_elim
+    (λ e. ap (slice_index news) e ∙ (get_or-set_same winners node (first_below heads winners node) 0 l
+    ∙ (ap (first_below heads winners) (sym e) ∙ sym (below (λ z. absurd (omega arith)) (λ z. absurd (omega arith))))))
+    (λ h.
+    let m = more k k_low h q in
+    get_or-set_other winners node k (first_below heads winners node) 0 h ∙ (settled k k_low within m.0 ∙ sym (below m.1.0 m.1.1)))
+    (cases_eq k node)
+
+pub settle_up : (heads : List (Option Entry)) (winners : List ℕ) (node : ℕ) → 0 < node → node < length winners → AreSettledBut node heads winners
+    → AreSettledBut (node / 2) heads (set winners node (first_below heads winners node))
+settle_up heads winners node low l settled =
+    settle heads winners node (λ k. (steps : ℕ) → above steps node ≢ k) (λ k. (steps : ℕ) → above steps (node / 2) ≢ k) low l settled
+    (λ k k_low h apart. (not-above k h apart, (λ e. apart 0 (omega arith), λ e. apart 0 (omega arith))))
+  where
+    not-above : (k : ℕ) → k ≢ node → ((steps : ℕ) → above steps (node / 2) ≢ k) → (steps : ℕ) → above steps node ≢ k
+    not-above k h apart zero e = h (sym e)
+    not-above k h apart (suc steps) e = apart steps e
+
+pub settle_down : (heads : List (Option Entry)) (winners : List ℕ) (node : ℕ) → 0 < node → node < length winners → AreSettledWhere (λ k. node + 1 ≤ k) heads winners
+    → AreSettledWhere (λ k. node ≤ k) heads (set winners node (first_below heads winners node))
+settle_down heads winners node low l settled =
+    settle heads winners node (λ k. node + 1 ≤ k) (λ k. node ≤ k) low l settled
+    (λ k k_low h q. (omega arith, (λ e. absurd (omega arith), λ e. absurd (omega arith))))

@@ -1,0 +1,150 @@
+-- What stands in the union of two lists and in the merge of several.
+use Rattle.std.specs.List.{AllByRecursion}
+use Rattle.std.proofs.Common.{◌≡◌, ◌≢◌, List, [], ◌∷◌, ◌⊎◌, inl, inr, ⊎_elim, refl, sym, ◌∙◌, ap}
+use Rattle.std.specs.Cmp.{IsTotalOrder}
+use Rattle.std.proofs.lemmas.Cmp.{alike_right, tied_back}
+use Rattle.std.specs.declared.cmp.Ordering.{Ordering}
+use Rattle.std.specs.declared.cmp.Ordering.TheVariants.{Less, Equal, Greater}
+use Rattle.ics_series.specs.Listing.{IsIn, IsListing}
+use Rattle.ics_series.specs.Merged.{by_order, put, union, merged, HasNoKey, IsFromFirst}
+use Rattle.ics_series.specs.MergedLaws.{rises-merged, rises-put, rises-union}
+use Rattle.ics_series.specs.Rising.{IsBefore, Rises}
+use Rattle.ics_series.proofs.ListingLemmas.{before-in, one-rising}
+
+module _ {A : Type 0} (R : A → A → Ordering) (o : IsTotalOrder R) where
+  -- x takes the place of an entry of its key
+  put-in-by : (e x y : A) (ys : List A) (c : Ordering) → R x y ≡ c → IsBefore R y ys → (IsIn e (put R x ys) → (e ≡ x) ⊎ (IsIn e ys × (R x e ≢ Equal)))
+      → IsIn e (by_order c (x ∷ y ∷ ys) (x ∷ ys) (y ∷ put R x ys)) → (e ≡ x) ⊎ (IsIn e (y ∷ ys) × (R x e ≢ Equal))
+  put-in-by e x y ys Less p h ih m =
+      ⊎_elim inl
+      (λ k. inr (k, ⊎_elim (λ s t. let q : R x y ≡ Equal = sym (ap (R x) s) ∙ t in cc) (λ n t. let q : R x e ≡ Less = o.trans x y e p (before-in R o y e ys h n) in cc) k)) m
+  put-in-by e x y ys Equal p h ih m =
+      ⊎_elim inl
+      (λ n. inr (inr n, λ t. let q : R y e ≡ Less = before-in R o y e ys h n in let s : R x e ≡ R y e = o.congr x y e p in cc)) m
+  put-in-by e x y ys Greater p h ih m =
+      ⊎_elim (λ s. inr (inl s, λ t. let q : R x y ≡ Equal = sym (ap (R x) s) ∙ t in cc))
+      (λ n. ⊎_elim inl (λ k. inr (inr k.0, k.1)) (ih n)) m
+
+  put-in : (e x : A) (ys : List A) → Rises R ys → IsIn e (put R x ys) → (e ≡ x) ⊎ (IsIn e ys × (R x e ≢ Equal))
+  put-in e x [] h m = ⊎_elim inl (λ k. absurd k) m
+  put-in e x (y ∷ ys) h m = put-in-by e x y ys (R x y) refl h.0 (put-in e x ys h.1) m
+
+  in-put-by : (e x y : A) (ys : List A) (c : Ordering) → R x y ≡ c → ((e ≡ x) ⊎ (IsIn e ys × (R x e ≢ Equal)) → IsIn e (put R x ys))
+      → (e ≡ x) ⊎ (IsIn e (y ∷ ys) × (R x e ≢ Equal)) → IsIn e (by_order c (x ∷ y ∷ ys) (x ∷ ys) (y ∷ put R x ys))
+  in-put-by e x y ys Less p ih m = ⊎_elim inl (λ k. inr k.0) m
+  in-put-by e x y ys Equal p ih m = ⊎_elim inl (λ k. inr (⊎_elim (λ s. absurd (k.1 (ap (R x) s ∙ p))) (λ n. n) k.0)) m
+  in-put-by e x y ys Greater p ih m = ⊎_elim (λ s. inr (ih (inl s))) (λ k. ⊎_elim inl (λ n. inr (ih (inr (n, k.1)))) k.0) m
+
+  in-put : (e x : A) (ys : List A) → (e ≡ x) ⊎ (IsIn e ys × (R x e ≢ Equal)) → IsIn e (put R x ys)
+  in-put e x [] m = ⊎_elim inl (λ k. absurd k.0) m
+  in-put e x (y ∷ ys) m = in-put-by e x y ys (R x y) refl (in-put e x ys) m
+
+  not-tied-back : (x y : A) → R x y ≢ Equal → R y x ≢ Equal
+  not-tied-back x y h e = h (tied_back o y x e)
+
+  -- what of the second list stands in the union has no key of the first
+  pub union-in : (e : A) (xs ys : List A) → Rises R ys → IsIn e (union R xs ys) → IsIn e xs ⊎ (HasNoKey R e xs × IsIn e ys)
+  union-in e [] ys h m = inr (tt, m)
+  union-in e (x ∷ xs) ys h m =
+      ⊎_elim (λ s. inl (inl s))
+      (λ k. ⊎_elim (λ n. inl (inr n)) (λ n. inr ((not-tied-back x e k.1, n.0), n.1)) (union-in e xs ys h k.0))
+      (put-in e x (union R xs ys) (rises-union R o xs ys h) m)
+
+  pub in-union : (e : A) (xs ys : List A) → Rises R xs → IsIn e xs ⊎ (HasNoKey R e xs × IsIn e ys) → IsIn e (union R xs ys)
+  in-union e [] ys h m = ⊎_elim (λ k. absurd k) (λ k. k.1) m
+  in-union e (x ∷ xs) ys h m =
+      in-put e x (union R xs ys)
+      (⊎_elim
+      (λ k. ⊎_elim inl (λ n. inr (in-union e xs ys h.1 (inl n), λ t. let q = before-in R o x e xs h.0 n in cc)) k)
+      (λ k. inr (in-union e xs ys h.1 (inr (k.0.1, k.1)), not-tied-back e x k.0.0))
+      m)
+
+  merged-in : (e : A) (xss : List (List A)) → IsIn e (merged R xss) → IsFromFirst R e xss
+  merged-in e [] m = m
+  merged-in e (xs ∷ xss) m = ⊎_elim inl (λ k. inr (k.0, merged-in e xss k.1)) (union-in e xs (merged R xss) (rises-merged R o xss) m)
+
+  in-merged : (e : A) (xss : List (List A)) → AllByRecursion (Rises R) xss → IsFromFirst R e xss → IsIn e (merged R xss)
+  in-merged e [] h m = m
+  in-merged e (xs ∷ xss) h m = in-union e xs (merged R xss) h.0 (⊎_elim inl (λ k. inr (k.0, in-merged e xss h.1 k.1)) m)
+
+  -- the merge of rising lists is the listing of what stands in them, of equal keys in the first of them
+  pub merged-is : (xss : List (List A)) → AllByRecursion (Rises R) xss → IsListing R (λ e. IsFromFirst R e xss) (merged R xss)
+  merged-is xss h = record { rises = rises-merged R o xss; exact = λ e. (merged-in e xss, in-merged e xss h) }
+
+  -- a key that is not x's is that of something in the list where it is in the list with x
+  no_key-put-by : (e x y : A) (ys : List A) (c : Ordering) → R x y ≡ c → (HasNoKey R e (put R x ys) → (R e x ≢ Equal) × HasNoKey R e ys)
+      → HasNoKey R e (by_order c (x ∷ y ∷ ys) (x ∷ ys) (y ∷ put R x ys)) → (R e x ≢ Equal) × HasNoKey R e (y ∷ ys)
+  no_key-put-by e x y ys Less p ih h = h
+  no_key-put-by e x y ys Equal p ih h = (h.0, (λ t. h.0 (alike_right o x y e p ∙ t), h.1))
+  no_key-put-by e x y ys Greater p ih h = let k = ih h.1 in (k.0, (h.0, k.1))
+
+  no_key-put : (e x : A) (ys : List A) → HasNoKey R e (put R x ys) → (R e x ≢ Equal) × HasNoKey R e ys
+  no_key-put e x [] h = h
+  no_key-put e x (y ∷ ys) h = no_key-put-by e x y ys (R x y) refl (no_key-put e x ys) h
+
+  put-no_key-by : (e x y : A) (ys : List A) (c : Ordering) → (R e x ≢ Equal) → HasNoKey R e (y ∷ ys) → HasNoKey R e (put R x ys)
+      → HasNoKey R e (by_order c (x ∷ y ∷ ys) (x ∷ ys) (y ∷ put R x ys))
+  put-no_key-by e x y ys Less n h k = (n, h)
+  put-no_key-by e x y ys Equal n h k = (n, h.1)
+  put-no_key-by e x y ys Greater n h k = (h.0, k)
+
+  put-no_key : (e x : A) (ys : List A) → (R e x ≢ Equal) → HasNoKey R e ys → HasNoKey R e (put R x ys)
+  put-no_key e x [] n h = (n, tt)
+  put-no_key e x (y ∷ ys) n h = put-no_key-by e x y ys (R x y) n h (put-no_key e x ys n h.1)
+
+  no_key-union : (e : A) (xs ys : List A) → HasNoKey R e (union R xs ys) → HasNoKey R e xs × HasNoKey R e ys
+  no_key-union e [] ys h = (tt, h)
+  no_key-union e (x ∷ xs) ys h =
+      let k = no_key-put e x (union R xs ys) h in
+      let rest = no_key-union e xs ys k.1 in
+      ((k.0, rest.0), rest.1)
+
+  union-no_key : (e : A) (xs ys : List A) → HasNoKey R e xs → HasNoKey R e ys → HasNoKey R e (union R xs ys)
+  union-no_key e [] ys h k = k
+  union-no_key e (x ∷ xs) ys h k = put-no_key e x (union R xs ys) h.0 (union-no_key e xs ys h.1 k)
+
+  -- the union of rising lists is the same however they are grouped
+  pub union_assoc : (xs ys zs : List A) → Rises R xs → Rises R ys → Rises R zs → union R (union R xs ys) zs ≡ union R xs (union R ys zs)
+  union_assoc xs ys zs p q r =
+      one-rising R o (union R (union R xs ys) zs) (union R xs (union R ys zs)) (rises-union R o (union R xs ys) zs r)
+      (rises-union R o xs (union R ys zs) (rises-union R o ys zs r))
+      (λ e m. in-union e xs (union R ys zs) p
+      (⊎_elim
+      (λ k. ⊎_elim inl (λ n. inr (n.0, in-union e ys zs q (inl n.1))) (union-in e xs ys q k))
+      (λ k. let n = no_key-union e xs ys k.0 in inr (n.0, in-union e ys zs q (inr (n.1, k.1))))
+      (union-in e (union R xs ys) zs r m)))
+      (λ e m. in-union e (union R xs ys) zs (rises-union R o xs ys q)
+      (⊎_elim
+      (λ k. inl (in-union e xs ys p (inl k)))
+      (λ k. ⊎_elim (λ n. inl (in-union e xs ys p (inr (k.0, n)))) (λ n. inr (union-no_key e xs ys k.0 n.0, n.1)) (union-in e ys zs r k.1))
+      (union-in e xs (union R ys zs) (rises-union R o ys zs r) m)))
+
+  pub union-put : (x : A) (ys zs : List A) → Rises R ys → Rises R zs → union R (put R x ys) zs ≡ put R x (union R ys zs)
+  union-put x ys zs q r = union_assoc (x ∷ []) ys zs (tt, tt) q r
+
+  -- of two of one key the last put stands
+  put-tied-by : (x y z : A) (zs : List A) (c : Ordering) → R x y ≡ Equal → R x z ≡ c → put R x (put R y zs) ≡ put R x zs
+      → put R x (by_order c (y ∷ z ∷ zs) (y ∷ zs) (z ∷ put R y zs)) ≡ by_order c (x ∷ z ∷ zs) (x ∷ zs) (z ∷ put R x zs)
+  put-tied-by x y z zs Less t p ih = ap (λ c. by_order c (x ∷ y ∷ z ∷ zs) (x ∷ z ∷ zs) (y ∷ put R x (z ∷ zs))) t
+  put-tied-by x y z zs Equal t p ih = ap (λ c. by_order c (x ∷ y ∷ zs) (x ∷ zs) (y ∷ put R x zs)) t
+  put-tied-by x y z zs Greater t p ih =
+      ap (λ c. by_order c (x ∷ z ∷ put R y zs) (x ∷ put R y zs) (z ∷ put R x (put R y zs))) p ∙ ap (λ l. z ∷ l) ih
+
+  pub put-tied : (x y : A) (zs : List A) → R x y ≡ Equal → put R x (put R y zs) ≡ put R x zs
+  put-tied x y [] t = ap (λ c. by_order c (x ∷ y ∷ []) (x ∷ []) (y ∷ x ∷ [])) t
+  put-tied x y (z ∷ zs) t =
+      ap (λ c. put R x (by_order c (y ∷ z ∷ zs) (y ∷ zs) (z ∷ put R y zs))) (sym (o.congr x y z t)) ∙ put-tied-by x y z zs (R x z) t refl (put-tied x y zs t)
+
+  -- of two keys either may be put first
+  put-in-other : (x y e : A) (zs : List A) → Rises R zs → R x y ≢ Equal → IsIn e (put R x (put R y zs)) → IsIn e (put R y (put R x zs))
+  put-in-other x y e zs r n m =
+      in-put e y (put R x zs)
+      (⊎_elim (λ s. inr (in-put e x zs (inl s), λ t. not-tied-back x y n (ap (R y) (sym s) ∙ t)))
+      (λ k. ⊎_elim inl (λ j. inr (in-put e x zs (inr (j.0, k.1)), j.1)) (put-in e y zs r k.0))
+      (put-in e x (put R y zs) (rises-put R o y zs r) m))
+
+  pub put_comm : (x y : A) (zs : List A) → Rises R zs → R x y ≢ Equal → put R x (put R y zs) ≡ put R y (put R x zs)
+  put_comm x y zs r n =
+      one-rising R o (put R x (put R y zs)) (put R y (put R x zs)) (rises-put R o x (put R y zs) (rises-put R o y zs r))
+      (rises-put R o y (put R x zs) (rises-put R o x zs r))
+      (λ e m. put-in-other x y e zs r n m) (λ e m. put-in-other y x e zs r (not-tied-back x y n) m)

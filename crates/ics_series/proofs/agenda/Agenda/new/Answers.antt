@@ -1,0 +1,22 @@
+use Rattle.std.proofs.Common.{map, sym, subst}
+use Rattle.std.specs.Option.{option_map}
+use Rattle.ics_calendar.specs.Event.{said_by}
+use Rattle.ics_series.specs.Clocks.{display_clock}
+use Rattle.ics_series.specs.Entry.{entry_cmp, key_rank}
+use Rattle.ics_series.specs.Listing.{IsListing}
+use Rattle.ics_series.specs.Meets.{IsToCome}
+use Rattle.ics_series.proofs.NameLemmas.{names-reached}
+use Rattle.ics_series.proofs.PartLemmas.{behind-key}
+use Rattle.ics_series.proofs.agenda.Agenda.new.Goals as goal
+
+pub chosen-requires : goal.chosen-requires
+chosen-requires c = names-reached c.args.files.now c.args.window c.requires.reached
+
+pub returns : goal.returns
+returns c =
+    let listing = subst (IsListing entry_cmp (IsToCome (map said_by c.args.files.now) (display_clock c.args.display.now) c.args.window (option_map (λ key. key_rank key.now) c.args.after)))
+    (sym c.in_ok-merge.ensures) c.in_ok-parts.ensures.listing in
+    record {
+      listing = listing;
+      behind = behind-key (map said_by c.args.files.now) (display_clock c.args.display.now) c.args.window (option_map (λ key. key_rank key.now) c.args.after) _ c.in_ok-parts.ensures.whole listing;
+    }

@@ -1,0 +1,77 @@
+use Rattle.std.proofs.Common.{◌≡◌, ◌+◌, [], ◌∷◌, ◌++◌, None, Vec, Global, map, get_or, take, refl, ap, sym, subst, add-one, ◌∙◌}
+use Rattle.std.specs.Prelude.{MatchOption}
+use Rattle.std.specs.Option.{option_map}
+use Rattle.std.proofs.lemmas.List.{map-append}
+use Rattle.std.proofs.lemmas.Option.{slice_get-get_or}
+use Rattle.ics_calendar.specs.Event.{said_by}
+use Rattle.ics_series.specs.declared.part.Part.{Part}
+use Rattle.ics_series.specs.declared.part.Part.TheVariants as part
+use Rattle.ics_series.specs.declared.series.Series.{Series}
+use Rattle.ics_series.specs.declared.version.Version.{Version}
+use Rattle.ics_series.specs.Clocks.{display_clock}
+use Rattle.ics_series.specs.Entry.{entry_cmp, key_rank}
+use Rattle.ics_series.specs.Listing.{IsListing}
+use Rattle.ics_series.specs.Masters.{HasLists, HasWhole, IsOfVersion, Recurs}
+use Rattle.ics_series.specs.Parts.{part_coming}
+use Rattle.ics_series.specs.SeriesFeed.{series_left, series_of}
+use Rattle.ics_series.specs.Versions.{seen}
+use Rattle.ics_series.proofs.PushLemmas.{lists-none, matched, matched-none, versions-all, versions-more, versions-skip}
+use Rattle.ics_series.proofs.masters.push_series.Goals as goal
+use Rattle.ics_series.proofs.masters.push_series.Goals.{in-Some+in_ok-new+in_ok-push, in_default}
+
+abbrev none : Version
+none = record { subject = record { uid = record { ref_ptr = (0, 0); now = [] }; recurrence = None }; sequence = 0; spot = record { file = 0; place = 0 } }
+
+pub loop-place-init : goal.loop-place-init
+loop-place-init c = record {
+  lists = lists-none (map said_by c.args.files.now) (display_clock c.args.display.now) c.args.window (option_map (λ key. key_rank key.now) c.args.after) (map part_coming c.args.parts.now.items);
+  whole = ([], lists-none (map said_by c.args.files.now) (display_clock c.args.display.now) c.args.window None []);
+}
+
+pub loop-place-preserved : goal.loop-place-preserved
+loop-place-preserved c =
+    let files = map said_by c.args.files.now in
+    let display = display_clock c.args.display.now in
+    let after = option_map (λ key. key_rank key.now) c.args.after in
+    let v = get_or c.args.chosen.now c.loop-place.place none in
+    let there = slice_get-get_or c.args.chosen.now c.loop-place.place none c.loop-place-test.true in
+    let before = map part_coming c.args.parts.now.items in
+    let now = map part_coming c.loop-place.parts.items in
+    let given : MatchOption c.in_ok-series.field-0
+    (Recurs (map said_by c.args.files.now) (seen (get_or c.args.chosen.now c.loop-place.place none)) → ⊥)
+    (λ (series : Series). IsListing entry_cmp (IsOfVersion (map said_by c.args.files.now) (display_clock c.args.display.now) c.args.window (option_map (λ key. key_rank key.now) c.args.after) (seen (get_or c.args.chosen.now c.loop-place.place none))) (series_of series (series_left series))) =
+    c.in_ok-series.ensures.series v there in
+    let whole : HasWhole (map said_by c.args.files.now) (display_clock c.args.display.now) c.args.window (seen (get_or c.args.chosen.now c.loop-place.place none)) = c.in_ok-series.ensures.whole v there in
+    let lists = c.loop-place.invariant.whole in
+    record {
+      lists =
+          elim c.match-branch-2.branch [
+            | in-Some+in_ok-new+in_ok-push w ↦
+                let value : w.in_ok-new.field-0.value ≡ w.in-Some.series = w.in_ok-new.ensures.ok in
+                let listing = subst (λ (s : Series). IsListing entry_cmp (IsOfVersion (map said_by c.args.files.now) (display_clock c.args.display.now) c.args.window (option_map (λ key. key_rank key.now) c.args.after) (seen (get_or c.args.chosen.now c.loop-place.place none))) (series_of s (series_left s)))
+                (sym value) (matched _ _ c.in_ok-series.field-0 w.in-Some.series w.in-Some.is given) in
+                versions-more files display c.args.window after c.args.chosen.now c.loop-place.place (c.loop-place.place + 1) none (series_of w.in_ok-new.field-0.value (series_left w.in_ok-new.field-0.value))
+                before now (map part_coming c.match-branch-2.parts.items) (add-one c.loop-place.place) c.loop-place-test.true c.loop-place.invariant.lists listing
+                (ap (λ (p : Vec Part Global). map part_coming p.items) w.parts-is ∙ (ap (map part_coming) w.in_ok-push.ensures.items ∙ map-append part_coming c.loop-place.parts.items (part.Series w.in_ok-new.field-0 ∷ [])))
+            | in_default w ↦
+                subst (λ (p : Vec Part Global). HasLists (map said_by c.args.files.now) (display_clock c.args.display.now) c.args.window (option_map (λ key. key_rank key.now) c.args.after) (map seen (take (c.loop-place.place + 1) c.args.chosen.now)) (map part_coming c.args.parts.now.items) (map part_coming p.items))
+                (sym w.parts-is)
+                (versions-skip files display c.args.window after c.args.chosen.now c.loop-place.place (c.loop-place.place + 1) none before now (add-one c.loop-place.place) c.loop-place-test.true c.loop-place.invariant.lists
+                (matched-none _ _ c.in_ok-series.field-0 w.in_default.is given))
+          ];
+      whole = (
+        lists.0 ++ whole.0 ∷ [],
+        versions-more files display c.args.window None c.args.chosen.now c.loop-place.place (c.loop-place.place + 1) none whole.0 [] lists.0 (lists.0 ++ whole.0 ∷ []) (add-one c.loop-place.place) c.loop-place-test.true lists.1 whole.1 refl,
+      );
+    }
+
+pub returns : goal.returns
+returns c =
+    let lists = c.loop-place.invariant.whole in
+    let whole = versions-all (map said_by c.args.files.now) (display_clock c.args.display.now) c.args.window None c.args.chosen.now c.loop-place.place [] lists.0 c.loop-place-test.false lists.1 in
+    record {
+      lists =
+          versions-all (map said_by c.args.files.now) (display_clock c.args.display.now) c.args.window (option_map (λ key. key_rank key.now) c.args.after) c.args.chosen.now c.loop-place.place
+          (map part_coming c.args.parts.now.items) (map part_coming c.loop-place.parts.items) c.loop-place-test.false c.loop-place.invariant.lists;
+      whole = (whole.more, whole.are);
+    }

@@ -1,0 +1,87 @@
+use Rattle.std.proofs.Common.{◌≡◌, ◌∙◌, rules, [], get_or, map, Some, None, false, ℤ, w64, to_z, of_z, sym, ap, subst}
+use Rattle.std.specs.Option.{option_map}
+use Rattle.std.proofs.lemmas.Option.{slice_get-get_or}
+use Rattle.ics_calendar.specs.Event.{said_by, IsEvent, IsEventOf}
+use Rattle.ics_calendar.specs.declared.event.Event.{Event}
+use Rattle.ics_series.specs.declared.version.Version.{Version}
+use Rattle.ics_series.specs.Clocks.{display_clock}
+use Rattle.ics_series.specs.Entry.{entry_cmp, key_rank}
+use Rattle.ics_series.specs.Listing.{IsListing}
+use Rattle.ics_series.specs.Masters.{HasWhole, IsOfVersion, IsSince}
+use Rattle.ics_series.specs.Overridden.{AreOverridden}
+use Rattle.ics_series.specs.SeriesFeed.{series_left, series_of}
+use Rattle.ics_series.specs.Singles.{is_single}
+use Rattle.ics_series.specs.Versions.{seen, subject_seen}
+use Rattle.ics_series.proofs.GivenLemmas.{stands}
+use Rattle.ics_series.proofs.OverriddenLemmas.{chosen-order}
+use Rattle.ics_series.proofs.RecurringLemmas.{not-single, own-subject, series-listing, single-none, there-in, version-there, whole-version}
+use Rattle.ics_series.proofs.masters.series_at.Goals as goal
+
+abbrev none : Version
+none = record { subject = record { uid = record { ref_ptr = (0, 0); now = [] }; recurrence = None }; sequence = 0; spot = record { file = 0; place = 0 } }
+
+pub event-event-requires : goal.event-event-requires
+event-event-requires c = stands (map said_by c.args.files.now) (display_clock c.args.display.now) c.args.chosen.now c.args.place none c.requires.chosen c.requires.within
+
+pub returns-then-is_single : goal.returns-then-is_single
+returns-then-is_single c = record {
+  series = λ version there.
+      not-single (map said_by c.args.files.now) c.args.chosen.now c.args.place none version c.requires.within there c.event-event.result.now c.event-event.ensures.event (sym c.is_single.ensures ∙ c.if-is_single.true);
+  whole = λ version there.
+      single-none (map said_by c.args.files.now) (display_clock c.args.display.now) c.args.window (seen version)
+      (not-single (map said_by c.args.files.now) c.args.chosen.now c.args.place none version c.requires.within there c.event-event.result.now c.event-event.ensures.event (sym c.is_single.ensures ∙ c.if-is_single.true));
+}
+
+pub overridden_instants-requires-clause-order : goal.overridden_instants-requires-clause-order
+overridden_instants-requires-clause-order c = chosen-order (map said_by c.args.files.now) (display_clock c.args.display.now) c.args.chosen.now c.requires.chosen
+
+pub overridden_instants-requires-clause-master : goal.overridden_instants-requires-clause-master
+overridden_instants-requires-clause-master c =
+    let files = map said_by c.args.files.now in
+    let display = display_clock c.args.display.now in
+    let v = get_or c.args.chosen.now c.args.place none in
+    let there = slice_get-get_or c.args.chosen.now c.args.place none c.requires.within in
+    let recurs : is_single c.event-event.result.now ≡ false = sym c.is_single.ensures ∙ c.if-is_single.false in
+    let uid : c.as_slice-2.result.now ≡ c.event-event.result.now.uid = c.as_slice-2.ensures ∙ ap (λ (e : Event). e.uid) c.event.view_is in
+    ap (option_map (λ (v : Version). subject_seen v.subject)) there
+    ∙ ap Some (own-subject files display c.args.window (option_map (λ key. key_rank key.now) c.args.after) c.args.chosen.now c.requires.chosen (seen v) (there-in seen c.args.chosen.now c.args.place v there) c.event-event.result.now c.event-event.ensures.event recurs
+    ∙ ap (λ u. record { uid = u; recurrence = None }) (sym uid))
+
+pub returns-clause-series : goal.returns-clause-series
+returns-clause-series c = λ version there.
+    let files = map said_by c.args.files.now in
+    let display = display_clock c.args.display.now in
+    let after = option_map (λ key. key_rank key.now) c.args.after in
+    let v = get_or c.args.chosen.now c.args.place none in
+    let stands = slice_get-get_or c.args.chosen.now c.args.place none c.requires.within in
+    let recurs : is_single c.event-event.result.now ≡ false = sym c.is_single.ensures ∙ c.if-is_single.false in
+    let uid : c.as_slice.result.now ≡ c.event-event.result.now.uid = c.as_slice.ensures ∙ ap (λ (e : Event). e.uid) c.event.view_is in
+    let uid-2 : c.as_slice-2.result.now ≡ c.event-event.result.now.uid = c.as_slice-2.ensures ∙ ap (λ (e : Event). e.uid) c.event.view_is in
+    let fits : to_z w64 (of_z w64 c.since_of-since.result) ≡ c.since_of-since.result = search rules in
+    let since : IsSince (option_map (λ key. key_rank key.now) c.args.after) c.event-event.result.now.uid (to_z w64 (of_z w64 c.since_of-since.result)) =
+    subst (λ (t : ℤ). IsSince (option_map (λ key. key_rank key.now) c.args.after) c.event-event.result.now.uid t) (sym fits)
+    (subst (λ u. IsSince (option_map (λ key. key_rank key.now) c.args.after) u c.since_of-since.result) uid c.since_of-since.ensures) in
+    let is_event : IsEvent c.event-event.result.now = search rules in
+    let are = subst (λ u. AreOverridden u (map seen c.args.chosen.now) c.in_ok-overridden.overridden.items) uid-2 c.in_ok-overridden.ensures.overridden in
+    subst (λ (v : Version). IsListing entry_cmp (IsOfVersion (map said_by c.args.files.now) (display_clock c.args.display.now) c.args.window (option_map (λ key. key_rank key.now) c.args.after) (seen v)) (series_of c.in_ok-series.series (series_left c.in_ok-series.series)))
+    (version-there c.args.chosen.now c.args.place none version c.requires.within there)
+    (series-listing files display c.args.window after c.args.chosen.now c.requires.chosen (seen v) (there-in seen c.args.chosen.now c.args.place v stands) c.event-event.result.now c.event-event.ensures.event recurs
+    c.zones-zones.result c.zones-zones.ensures.clocks is_event (to_z w64 (of_z w64 c.since_of-since.result)) since c.in_ok-overridden.overridden.items are
+    (series_of c.in_ok-series.series (series_left c.in_ok-series.series)) c.in_ok-series.ensures)
+
+pub returns-clause-whole : goal.returns-clause-whole
+returns-clause-whole c = λ version there.
+    let files = map said_by c.args.files.now in
+    let display = display_clock c.args.display.now in
+    let v = get_or c.args.chosen.now c.args.place none in
+    let stands = slice_get-get_or c.args.chosen.now c.args.place none c.requires.within in
+    let recurs : is_single c.event-event.result.now ≡ false = sym c.is_single.ensures ∙ c.if-is_single.false in
+    let uid : c.as_slice-2.result.now ≡ c.event-event.result.now.uid = c.as_slice-2.ensures ∙ ap (λ (e : Event). e.uid) c.event.view_is in
+    let is_event : IsEvent c.event-event.result.now = search rules in
+    let are = subst (λ u. AreOverridden u (map seen c.args.chosen.now) c.in_ok-overridden.overridden.items) uid c.in_ok-overridden.ensures.overridden in
+    let own = subst (λ zs. IsEventOf zs c.event-event.result.now) (sym c.zones-zones.ensures.zones) c.event-event.ensures.own in
+    let reached = c.zones-zones.ensures.reached c.args.window c.event-event.result.now c.event-event.ensures.event c.requires.reached in
+    subst (λ (v : Version). HasWhole (map said_by c.args.files.now) (display_clock c.args.display.now) c.args.window (seen v))
+    (version-there c.args.chosen.now c.args.place none version c.requires.within there)
+    (whole-version files display c.args.window c.args.chosen.now c.requires.chosen (seen v) (there-in seen c.args.chosen.now c.args.place v stands) c.event-event.result.now c.event-event.ensures.event recurs
+    c.zones-zones.result c.zones-zones.ensures.clocks is_event reached own c.in_ok-overridden.overridden.items are)

@@ -1,0 +1,79 @@
+use Rattle.std.proofs.Common.{◌≡◌, ◌+◌, ◌<◌, ◌++◌, All, length, map, set, take, drop, ap, sym, subst, ◌∙◌, length-set}
+use Rattle.std.specs.Option.{option_map}
+use Rattle.ics_series.specs.Entry.{entry_cmp, entry_of}
+use Rattle.ics_series.specs.Leads.{ComeAfter}
+use Rattle.ics_series.specs.Merged.{merged}
+use Rattle.ics_series.specs.Tournament.{above, winner, AreSettled, AreSettledBut}
+use Rattle.ics_series.proofs.LeadLemmas.{fewer-drawn, heads-kept, settled-drawn, to_come-drawn, to_come-kept, written-back}
+use Rattle.ics_series.proofs.merge.Merge.draw_first.Goals as goal
+
+pub invariant_of-self : goal.invariant_of-self
+invariant_of-self g c =
+    let self = c.args.self.now in
+    let old = c.index_mut.result.now in
+    let new = c.draw.new.self in
+    let lead = c.winner-lead.result in
+    let long = length-set self.leads.items lead new in
+    record {
+      same_length = self.same_length ∙ sym long;
+      within = subst (λ n. All (λ l. l < n) self.winners.items) (sym long) self.within;
+      settled = subst (λ hs. AreSettled hs self.winners.items) (sym (heads-kept (λ x. x.head) (λ x. g.F.Coming.coming x.feed) self.leads.items lead old new c.index_mut.ensures.value c.in_err-draw.ensures.head)) self.settled;
+      follows =
+          subst (ComeAfter self.last)
+          (sym (to_come-kept (λ x. x.head) (λ x. g.F.Coming.coming x.feed) self.leads.items lead old new c.index_mut.ensures.value self.last c.in_err-draw.ensures.head c.in_err-draw.ensures.rest)) self.follows;
+    }
+
+pub returns-in_err-draw-clause-same : goal.returns-in_err-draw-clause-same
+returns-in_err-draw-clause-same g c =
+    let self = c.args.self.now in
+    ap (merged entry_cmp) (to_come-kept (λ x. x.head) (λ x. g.F.Coming.coming x.feed) self.leads.items c.winner-lead.result c.index_mut.result.now c.draw.new.self c.index_mut.ensures.value self.last c.in_err-draw.ensures.head c.in_err-draw.ensures.rest)
+
+pub replay-requires-clause-settled : goal.replay-requires-clause-settled
+replay-requires-clause-settled g c =
+    let self = c.args.self.now in
+    let lead = c.winner-lead.result in
+    let new = c.draw.new.self in
+    let leads = set self.leads.items lead new in
+    let winners = self.winners.items in
+    let drawn = settled-drawn (λ x. x.head) (λ x. g.F.Coming.coming x.feed) self.leads.items lead c.index_mut.result.now new c.index_mut.ensures.value winners self.settled in
+    let long = self.same_length ∙ sym (length-set self.leads.items lead new) in
+    subst (λ ws. AreSettledBut (above 1 (length c.deref-2.result.now + lead)) (map (λ x. option_map entry_of x.head) c.deref-2.result.now) ws) (sym c.deref_mut.ensures.value)
+    (subst (λ ls. AreSettledBut (above 1 (length ls + lead)) (map (λ x. option_map entry_of x.head) ls) winners) (sym c.deref-2.ensures.value)
+    (subst (λ n. AreSettledBut (above 1 (n + lead)) (map (λ x. option_map entry_of x.head) leads) winners) long drawn))
+
+pub invariant_of-self-2 : goal.invariant_of-self-2
+invariant_of-self-2 g c =
+    let self = c.args.self.now in
+    let lead = c.winner-lead.result in
+    let new = c.draw.new.self in
+    let leads = set self.leads.items lead new in
+    let replayed = c.replay.new.winners in
+    let kept = c.replay.auto.winners in
+    let back : take self.winners.len (replayed ++ drop (length replayed) self.winners.items) ≡ replayed =
+    written-back self.winners.items replayed self.winners.len self.winners.ok.0 (kept ∙ ap length c.deref_mut.ensures.value) in
+    record {
+      same_length = ap length back ∙ (kept ∙ (ap length c.deref_mut.ensures.value ∙ (self.same_length ∙ sym (length-set self.leads.items lead new))));
+      within =
+          subst (λ ws. All (λ l. l < length leads) ws) (sym back)
+          (subst (λ ls. All (λ l. l < length ls) replayed) c.deref-2.ensures.value c.replay.ensures.leads);
+      settled =
+          subst (λ ws. AreSettled (map (λ x. option_map entry_of x.head) leads) ws) (sym back)
+          (subst (λ ls. AreSettled (map (λ x. option_map entry_of x.head) ls) replayed) c.deref-2.ensures.value c.replay.ensures.settled);
+      follows =
+          subst (ComeAfter self.last)
+          (sym (to_come-drawn (λ x. x.head) (λ x. g.F.Coming.coming x.feed) self.leads.items lead c.index_mut.result.now new c.index_mut.ensures.value
+          c.in_ok-draw.ensures.drawn self.last (winner self.winners.items 1)
+          (c.winner-lead.ensures ∙ ap (λ ws. winner ws 1) c.deref.ensures.value) c.requires c.index_mut.result.now.ahead)) self.follows;
+    }
+
+pub returns-clause-same : goal.returns-clause-same
+returns-clause-same g c = ap (merged entry_cmp)
+    (to_come-drawn (λ x. x.head) (λ x. g.F.Coming.coming x.feed) c.args.self.now.leads.items c.winner-lead.result c.index_mut.result.now c.draw.new.self c.index_mut.ensures.value
+    c.in_ok-draw.ensures.drawn c.args.self.now.last (winner c.args.self.now.winners.items 1)
+    (c.winner-lead.ensures ∙ ap (λ ws. winner ws 1) c.deref.ensures.value) c.requires c.index_mut.result.now.ahead)
+
+pub returns-clause-fewer : goal.returns-clause-fewer
+returns-clause-fewer g c =
+    fewer-drawn (λ x. x.head) (λ x. g.F.Coming.coming x.feed) c.args.self.now.leads.items c.winner-lead.result c.index_mut.result.now c.draw.new.self c.index_mut.ensures.value
+    c.in_ok-draw.ensures.drawn c.args.self.now.last (winner c.args.self.now.winners.items 1)
+    (c.winner-lead.ensures ∙ ap (λ ws. winner ws 1) c.deref.ensures.value) c.requires

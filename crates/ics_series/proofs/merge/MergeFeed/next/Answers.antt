@@ -1,0 +1,34 @@
+use Rattle.std.proofs.Common.{ap, sym, ◌∙◌, rules}
+use Rattle.std.specs.Option.{option_map}
+use Rattle.ics_series.specs.Entry.{entry_of}
+use Rattle.ics_series.specs.Tournament.{winner}
+use Rattle.ics_series.proofs.LeadLemmas.{first-comes, nothing-comes, wins-leads}
+use Rattle.ics_series.proofs.merge.MergeFeed.next.Goals as goal
+
+pub invariant_of-self-clause-follows : goal.invariant_of-self-clause-follows
+invariant_of-self-clause-follows g c =
+    let met : g.claim c.lifetimes = search rules in
+    let self = c.skip_given.new.self in
+    (first-comes (λ x. x.head) (λ x. g.F.Coming.coming x.feed) (λ x. x.ahead) self.leads.items (winner self.winners.items 1)
+    (wins-leads (λ x. x.head) self.leads.items self.winners.items self.same_length self.settled)
+    (λ x. (g.met.F.Feed c.lifetimes met).rises x.feed) self.last c.in-Some.first
+    (sym c.first.ensures ∙ ap (option_map entry_of) c.in-Some.is) c.in_ok-skip_given.ensures.skipped self.follows).1
+
+pub returns-in-Some-clause-ok : goal.returns-in-Some-clause-ok
+returns-in-Some-clause-ok g c =
+    let met : g.claim c.lifetimes = search rules in
+    let self = c.skip_given.new.self in
+    sym c.in_ok-skip_given.ensures.same
+    ∙ (first-comes (λ x. x.head) (λ x. g.F.Coming.coming x.feed) (λ x. x.ahead) self.leads.items (winner self.winners.items 1)
+    (wins-leads (λ x. x.head) self.leads.items self.winners.items self.same_length self.settled)
+    (λ x. (g.met.F.Feed c.lifetimes met).rises x.feed) self.last c.in-Some.first
+    (sym c.first.ensures ∙ ap (option_map entry_of) c.in-Some.is) c.in_ok-skip_given.ensures.skipped self.follows).0
+
+pub returns-in-None-clause-ok : goal.returns-in-None-clause-ok
+returns-in-None-clause-ok g c =
+    let self = c.skip_given.new.self in
+    let nothing =
+    nothing-comes (λ x. x.head) (λ x. g.F.Coming.coming x.feed) (λ x. x.ahead) self.leads.items (winner self.winners.items 1)
+    (wins-leads (λ x. x.head) self.leads.items self.winners.items self.same_length self.settled) self.last
+    (sym c.first.ensures ∙ ap (option_map entry_of) c.in-None.is) in
+    (sym c.in_ok-skip_given.ensures.same ∙ nothing, nothing)

@@ -1,0 +1,45 @@
+use Rattle.std.proofs.Common.{◌≡◌, rules, ◌+◌, ◌-◌, suc, length, take, drop, add-one, List, [], ◌∷◌, ◌++◌, ℕ, None, w64, to_z, of_z, ◌∙◌, ap, sym}
+use Rattle.std.proofs.lemmas.List.{take_rest}
+use Rattle.ics_series.specs.declared.version.Version.{Version}
+use Rattle.ics_series.proofs.OverriddenLemmas.{found-ends, found-step, found-stops, overridden-all, overridden-sorted}
+use Rattle.ics_series.proofs.overridden.overridden_instants.Goals as goal
+
+abbrev none : Version
+none = record { subject = record { uid = record { ref_ptr = (0, 0); now = [] }; recurrence = None }; sequence = 0; spot = record { file = 0; place = 0 } }
+
+-- the slice of what stands behind a place
+abbrev behind : List Version → ℕ → List Version
+behind versions place = take (length versions - (place + 1)) (drop (place + 1) versions)
+
+rest : (versions : List Version) (place : ℕ) → behind versions place ≡ drop (suc place) versions
+rest versions place = take_rest versions (place + 1) ∙ ap (λ n. drop n versions) (add-one place)
+
+pub returns-in_default : goal.returns-in_default
+returns-in_default c =
+    let uid = c.args.uid.now in
+    let versions = c.args.versions.now in
+    let place = c.args.place in
+    let all = found-stops uid versions (behind versions place) place c.requires.order c.requires.master (rest versions place) c.loop-version.version-index none c.loop-version.instants.items c.loop-version-test.true c.loop-version.invariant
+    (sym c.instance_of.ensures ∙ c.in_default.is) in
+    record {
+      overridden = overridden-all uid versions (behind versions place) place c.requires.order c.requires.master (rest versions place) c.loop-version.instants.items all;
+      sorted = overridden-sorted uid versions (behind versions place) place c.requires.order c.requires.master (rest versions place) c.loop-version.instants.items all;
+    }
+
+pub loop-version-preserved : goal.loop-version-preserved
+loop-version-preserved c =
+    let fits : to_z w64 (of_z w64 c.in-Some.instant) ≡ c.in-Some.instant = search rules in
+    found-step c.args.uid.now (behind c.args.versions.now c.args.place) c.loop-version.version-index (c.loop-version.version-index + 1) none
+    c.loop-version.instants.items c.push.new.self.items _ c.in-Some.instant (add-one c.loop-version.version-index) c.loop-version-test.true
+    (sym c.instance_of.ensures ∙ c.in-Some.is) (c.in_ok-push.ensures.items ∙ ap (λ t. c.loop-version.instants.items ++ t ∷ []) fits) c.loop-version.invariant
+
+pub returns : goal.returns
+returns c =
+    let uid = c.args.uid.now in
+    let versions = c.args.versions.now in
+    let place = c.args.place in
+    let all = found-ends uid versions (behind versions place) place c.requires.order c.requires.master (rest versions place) c.loop-version.version-index c.loop-version.instants.items c.loop-version-test.false c.loop-version.invariant in
+    record {
+      overridden = overridden-all uid versions (behind versions place) place c.requires.order c.requires.master (rest versions place) c.loop-version.instants.items all;
+      sorted = overridden-sorted uid versions (behind versions place) place c.requires.order c.requires.master (rest versions place) c.loop-version.instants.items all;
+    }

@@ -1,0 +1,179 @@
+use Rattle.std.proofs.Common.{◌≡◌, ◌≤◌, ◌+ℤ◌, pos, w32, to_z, of_z, sym, ap, subst, arith}
+use Rattle.std.proofs.lemmas.Int.{ints}
+use Rattle.ics_values.specs.Days.{IsDayNumber}
+use Rattle.ics_values.specs.declared.local.Local.{Local}
+use Rattle.ics_rule.specs.Cursors.{place_of}
+use Rattle.ics_rule.specs.Locals.{number}
+use Rattle.ics_rule.specs.Next.{NoneKept, IsNextKept}
+use Rattle.ics_series.specs.Found.{moment_cmp}
+use Rattle.ics_series.specs.Rising.{Rises}
+use Rattle.ics_series.specs.RuleStarts.{bound_of, midnight_number, AreHeld}
+use Rattle.ics_series.specs.Zones.{clocks_in}
+use Rattle.ics_series.proofs.RuleReadLemmas.{behind-early}
+use Rattle.ics_series.proofs.RuleStepLemmas.{bound-days, bound-early, none-asked, none-held, none-less, none-same, one-asked, one-held, one-less, one-on, one-readable, one-rises, one-same, within}
+use Rattle.ics_series.proofs.rule_starts.RuleStarts.read_on.Goals as goal
+
+pub bound-bound-requires : goal.bound-bound-requires
+bound-bound-requires c = behind-early c.args.self.now.day c.args.self.now.end c.args.self.now.held.items c.requires
+
+pub invariant_of-self : goal.invariant_of-self
+invariant_of-self c =
+    let s = c.args.self.now in
+    let held : c.reserve.new.self.items ≡ c.args.self.now.held.items = c.reserve.ensures.items in
+    record {
+      of = s.of;
+      rises = subst (Rises moment_cmp) (sym held) s.rises;
+      are = subst (AreHeld (clocks_in s.zones) s.event.now s.rule s.window s.asked) (sym held) s.are;
+      own = s.own;
+      looked = s.looked;
+      readable = s.readable;
+      first = s.first;
+      read = s.read;
+      low = s.low;
+      asked_on = s.asked_on;
+      asked_soon = s.asked_soon;
+      asked_end = s.asked_end;
+      early = s.early;
+      after = s.after;
+      soon = s.soon;
+    }
+
+pub next-requires-clause-bound : goal.next-requires-clause-bound
+next-requires-clause-bound c =
+    let bound = to_z w32 (of_z w32 c.bound-bound.result) in
+    let is : to_z w32 (of_z w32 c.bound-bound.result) ≡ bound_of c.args.self.now.day c.args.self.now.end c.args.self.now.held.items = omega (arith, ints, c.bound-bound.type_inv, c.bound-bound.ensures) in
+    subst (λ (l : Local). IsDayNumber l.day) (sym c.at.ensures) (bound-days c.args.self.now c.requires bound is)
+
+pub next-requires-clause-early : goal.next-requires-clause-early
+next-requires-clause-early c =
+    let bound = to_z w32 (of_z w32 c.bound-bound.result) in
+    let is : to_z w32 (of_z w32 c.bound-bound.result) ≡ bound_of c.args.self.now.day c.args.self.now.end c.args.self.now.held.items = omega (arith, ints, c.bound-bound.type_inv, c.bound-bound.ensures) in
+    subst (λ (l : Local). number l ≤ 309_289_708_800) (sym c.at.ensures) (bound-early c.args.self.now c.requires bound is)
+
+pub invariant_of-self-in-None : goal.invariant_of-self-in-None
+invariant_of-self-in-None c =
+    let s = c.args.self.now in
+    let bound = to_z w32 (of_z w32 c.bound-bound.result) in
+    let is : to_z w32 (of_z w32 c.bound-bound.result) ≡ bound_of c.args.self.now.day c.args.self.now.end c.args.self.now.held.items = omega (arith, ints, c.bound-bound.type_inv, c.bound-bound.ensures) in
+    let at : number c.at.result ≡ midnight_number (to_z w32 (of_z w32 c.bound-bound.result)) = ap (λ (l : Local). number l) c.at.ensures in
+    let held : c.reserve.new.self.items ≡ c.args.self.now.held.items = c.reserve.ensures.items in
+    let range = bound-days s c.requires bound is in
+    let on = within s c.requires bound is in
+    let asked = none-asked s c.requires bound is in
+    record {
+      of = s.of;
+      rises = subst (Rises moment_cmp) (sym held) s.rises;
+      are = subst (AreHeld (clocks_in s.zones) s.event.now s.rule s.window bound) (sym held) (none-held s c.requires bound is);
+      own = c.in-None.ensures.own;
+      looked = λ before m. c.in-None.ensures.looked _ before (omega (arith, at, m)) (s.looked before (omega (arith, asked, m)));
+      readable = s.readable;
+      first = s.first;
+      read = omega (arith, c.in-None.ensures.next.1, at);
+      low = range.0;
+      asked_on = omega (arith, ints);
+      asked_soon = omega (arith, ints);
+      asked_end = on.1;
+      early = s.early;
+      after = s.after;
+      soon = s.soon;
+    }
+
+pub of_calendar-local-requires : goal.of_calendar-local-requires
+of_calendar-local-requires c =
+    let bound = to_z w32 (of_z w32 c.bound-bound.result) in
+    let is : to_z w32 (of_z w32 c.bound-bound.result) ≡ bound_of c.args.self.now.day c.args.self.now.end c.args.self.now.held.items = omega (arith, ints, c.bound-bound.type_inv, c.bound-bound.ensures) in
+    let at : number c.at.result ≡ midnight_number (to_z w32 (of_z w32 c.bound-bound.result)) = ap (λ (l : Local). number l) c.at.ensures in
+    let early = bound-early c.args.self.now c.requires bound is in
+    omega (arith, c.in-Some.ensures.next.0.in_bound, at, early)
+
+pub hold-requires-clause-readable : goal.hold-requires-clause-readable
+hold-requires-clause-readable c =
+    let s = c.args.self.now in
+    let bound = to_z w32 (of_z w32 c.bound-bound.result) in
+    let is : to_z w32 (of_z w32 c.bound-bound.result) ≡ bound_of c.args.self.now.day c.args.self.now.end c.args.self.now.held.items = omega (arith, ints, c.bound-bound.type_inv, c.bound-bound.ensures) in
+    let at : number c.at.result ≡ midnight_number (to_z w32 (of_z w32 c.bound-bound.result)) = ap (λ (l : Local). number l) c.at.ensures in
+    let a = c.of_calendar-local.result in
+    let next : IsNextKept c.args.self.now.rule (place_of c.args.self.now.cursor) (midnight_number (to_z w32 (of_z w32 c.bound-bound.result))) (number c.of_calendar-local.result) =
+    subst (IsNextKept s.rule (place_of s.cursor) (midnight_number bound)) (sym c.of_calendar-local.ensures.same)
+    (subst (λ n. IsNextKept s.rule (place_of s.cursor) n (number c.in-Some.local)) at c.in-Some.ensures.next.0) in
+    one-readable s c.requires bound is a c.of_calendar-local.ensures.day next
+
+pub invariant_of-self-in-Some : goal.invariant_of-self-in-Some
+invariant_of-self-in-Some c =
+    let s = c.args.self.now in
+    let bound = to_z w32 (of_z w32 c.bound-bound.result) in
+    let is : to_z w32 (of_z w32 c.bound-bound.result) ≡ bound_of c.args.self.now.day c.args.self.now.end c.args.self.now.held.items = omega (arith, ints, c.bound-bound.type_inv, c.bound-bound.ensures) in
+    let at : number c.at.result ≡ midnight_number (to_z w32 (of_z w32 c.bound-bound.result)) = ap (λ (l : Local). number l) c.at.ensures in
+    let a = c.of_calendar-local.result in
+    let next : IsNextKept c.args.self.now.rule (place_of c.args.self.now.cursor) (midnight_number (to_z w32 (of_z w32 c.bound-bound.result))) (number c.of_calendar-local.result) =
+    subst (IsNextKept s.rule (place_of s.cursor) (midnight_number bound)) (sym c.of_calendar-local.ensures.same)
+    (subst (λ n. IsNextKept s.rule (place_of s.cursor) n (number c.in-Some.local)) at c.in-Some.ensures.next.0) in
+    let held : c.reserve.new.self.items ≡ c.args.self.now.held.items = c.reserve.ensures.items in
+    let h = c.of_calendar-local.ensures.day in
+    let day : to_z w32 (of_z w32 c.of_calendar-local.result.day) ≡ c.of_calendar-local.result.day = omega (arith, ints, h.0, h.1) in
+    let asked : to_z w32 (of_z w32 (to_z w32 (of_z w32 c.of_calendar-local.result.day) +ℤ pos 1)) ≡ c.of_calendar-local.result.day +ℤ pos 1 = omega (arith, ints, h.0, h.1, day) in
+    let new = to_z w32 (of_z w32 (to_z w32 (of_z w32 c.of_calendar-local.result.day) +ℤ pos 1)) in
+    let on = one-on s c.requires bound is a h next in
+    let range = within s c.requires bound is in
+    let past = one-asked s c.requires bound is a h next new asked in
+    record {
+      of = s.of;
+      rises = one-rises s c.requires bound is a h next c.reserve.new.self.items c.hold.new.held.items held c.hold.ensures;
+      are = one-held s c.requires bound is a h next c.reserve.new.self.items c.hold.new.held.items held c.hold.ensures new asked;
+      own = c.in-Some.ensures.own;
+      looked = λ before m. c.in-Some.ensures.looked _ before (omega (arith, past.1, m, c.of_calendar-local.ensures.same)) (s.looked before (omega (arith, past.0, m)));
+      readable = s.readable;
+      first = s.first;
+      read = omega (arith, ints, c.in-Some.ensures.next.1, c.of_calendar-local.ensures.same, day, h.0);
+      low = omega (arith, ints, day, h.0);
+      asked_on = omega (arith, ints, day, asked);
+      asked_soon = omega (arith, ints, day, asked);
+      asked_end = omega (arith, ints, asked, on.1, range.1);
+      early = s.early;
+      after = s.after;
+      soon = s.soon;
+    }
+
+pub returns-in-None-clause-same : goal.returns-in-None-clause-same
+returns-in-None-clause-same c =
+    let s = c.args.self.now in
+    let bound = to_z w32 (of_z w32 c.bound-bound.result) in
+    let is : to_z w32 (of_z w32 c.bound-bound.result) ≡ bound_of c.args.self.now.day c.args.self.now.end c.args.self.now.held.items = omega (arith, ints, c.bound-bound.type_inv, c.bound-bound.ensures) in
+    let at : number c.at.result ≡ midnight_number (to_z w32 (of_z w32 c.bound-bound.result)) = ap (λ (l : Local). number l) c.at.ensures in
+    none-same s c.requires bound is c.reserve.new.self.items (place_of c.next.new.self) c.reserve.ensures.items (omega (arith, c.in-None.ensures.next.1, at))
+    (subst (NoneKept s.rule (place_of s.cursor)) at c.in-None.ensures.next.0)
+
+pub returns-in-None-clause-less : goal.returns-in-None-clause-less
+returns-in-None-clause-less c =
+    let s = c.args.self.now in
+    let bound = to_z w32 (of_z w32 c.bound-bound.result) in
+    let is : to_z w32 (of_z w32 c.bound-bound.result) ≡ bound_of c.args.self.now.day c.args.self.now.end c.args.self.now.held.items = omega (arith, ints, c.bound-bound.type_inv, c.bound-bound.ensures) in
+    let at : number c.at.result ≡ midnight_number (to_z w32 (of_z w32 c.bound-bound.result)) = ap (λ (l : Local). number l) c.at.ensures in
+    none-less s c.requires bound is (place_of c.next.new.self) (omega (arith, c.in-None.ensures.next.1, at))
+
+pub returns-in-Some-clause-same : goal.returns-in-Some-clause-same
+returns-in-Some-clause-same c =
+    let s = c.args.self.now in
+    let bound = to_z w32 (of_z w32 c.bound-bound.result) in
+    let is : to_z w32 (of_z w32 c.bound-bound.result) ≡ bound_of c.args.self.now.day c.args.self.now.end c.args.self.now.held.items = omega (arith, ints, c.bound-bound.type_inv, c.bound-bound.ensures) in
+    let at : number c.at.result ≡ midnight_number (to_z w32 (of_z w32 c.bound-bound.result)) = ap (λ (l : Local). number l) c.at.ensures in
+    let a = c.of_calendar-local.result in
+    let next : IsNextKept c.args.self.now.rule (place_of c.args.self.now.cursor) (midnight_number (to_z w32 (of_z w32 c.bound-bound.result))) (number c.of_calendar-local.result) =
+    subst (IsNextKept s.rule (place_of s.cursor) (midnight_number bound)) (sym c.of_calendar-local.ensures.same)
+    (subst (λ n. IsNextKept s.rule (place_of s.cursor) n (number c.in-Some.local)) at c.in-Some.ensures.next.0) in
+    one-same s c.requires bound is a c.of_calendar-local.ensures.day next c.reserve.new.self.items c.hold.new.held.items c.reserve.ensures.items c.hold.ensures (place_of c.next.new.self)
+    (omega (arith, c.in-Some.ensures.next.1, c.of_calendar-local.ensures.same))
+
+pub returns-in-Some-clause-less : goal.returns-in-Some-clause-less
+returns-in-Some-clause-less c =
+    let s = c.args.self.now in
+    let bound = to_z w32 (of_z w32 c.bound-bound.result) in
+    let is : to_z w32 (of_z w32 c.bound-bound.result) ≡ bound_of c.args.self.now.day c.args.self.now.end c.args.self.now.held.items = omega (arith, ints, c.bound-bound.type_inv, c.bound-bound.ensures) in
+    let at : number c.at.result ≡ midnight_number (to_z w32 (of_z w32 c.bound-bound.result)) = ap (λ (l : Local). number l) c.at.ensures in
+    let a = c.of_calendar-local.result in
+    let next : IsNextKept c.args.self.now.rule (place_of c.args.self.now.cursor) (midnight_number (to_z w32 (of_z w32 c.bound-bound.result))) (number c.of_calendar-local.result) =
+    subst (IsNextKept s.rule (place_of s.cursor) (midnight_number bound)) (sym c.of_calendar-local.ensures.same)
+    (subst (λ n. IsNextKept s.rule (place_of s.cursor) n (number c.in-Some.local)) at c.in-Some.ensures.next.0) in
+    let h = c.of_calendar-local.ensures.day in
+    one-less s c.requires bound is a h next (to_z w32 (of_z w32 c.of_calendar-local.result.day)) (place_of c.next.new.self) (omega (arith, ints, h.0, h.1))
+    (omega (arith, c.in-Some.ensures.next.1, c.of_calendar-local.ensures.same))

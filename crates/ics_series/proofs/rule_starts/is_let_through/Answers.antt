@@ -1,0 +1,25 @@
+use Rattle.std.proofs.Common.{◌≡◌, ◌||◌, ◌&&◌, w64, to_z, of_z, sym, ◌∙◌, ap, arith}
+use Rattle.std.specs.Prelude.{◌==◌, int_lt}
+use Rattle.std.proofs.lemmas.Int.{ints}
+use mir.Val.{SFits}
+use Rattle.ics_rule.specs.Kept.{until_moment}
+use Rattle.ics_rule.specs.Locals.{number}
+use Rattle.ics_series.specs.Found.{is_until}
+use Rattle.ics_series.proofs.RuleLocalLemmas.{local-test}
+use Rattle.ics_series.proofs.rule_starts.is_let_through.Goals as goal
+
+pub returns : goal.returns
+returns c =
+    let rule = c.args.rule.now in
+    let n = number c.args.local in
+    let fits : SFits w64 c.args.moment = c.ranges.moment in
+    let t : to_z w64 (of_z w64 c.args.moment) ≡ c.args.moment = omega (arith, ints) in
+    let to : to_z w64 (of_z w64 c.args.window.to) ≡ c.args.window.to = omega (arith, ints, c.args.window.not_early, c.args.window.ordered, c.args.window.not_late) in
+    let first : c.eq-first.result ≡ (n == number rule.start) =
+    c.eq-first.ensures ∙ (local-test c.args.local c.args.first c.requires.local c.requires.first ∙ ap (λ k. n == k) (sym c.requires.start)) in
+    let until : c.is_until-until.result ≡ is_until (until_moment rule) c.args.moment =
+    c.is_until-until.ensures ∙ (ap (is_until c.until_moment.result) t ∙ ap (λ o. is_until o c.args.moment) c.until_moment.ensures) in
+    ap (λ b. (b || c.is_until-until.result) && int_lt (to_z w64 (of_z w64 c.args.moment)) (to_z w64 (of_z w64 c.args.window.to))) first
+    ∙ (ap (λ b. ((n == number rule.start) || b) && int_lt (to_z w64 (of_z w64 c.args.moment)) (to_z w64 (of_z w64 c.args.window.to))) until
+    ∙ (ap (λ x. ((n == number rule.start) || is_until (until_moment rule) c.args.moment) && int_lt x (to_z w64 (of_z w64 c.args.window.to))) t
+    ∙ ap (λ x. ((n == number rule.start) || is_until (until_moment rule) c.args.moment) && int_lt c.args.moment x) to))

@@ -1,0 +1,23 @@
+use Rattle.std.proofs.Common.{◌≡◌, ◌<◌, ◌/◌, length, map, set, sym, ◌∙◌, ap, subst, arith}
+use Rattle.std.specs.Option.{option_map}
+use Rattle.std.proofs.lemmas.List.Elements.{All-set}
+use Rattle.ics_series.specs.Entry.{entry_of}
+use Rattle.ics_series.specs.Tournament.{above, AreSettledBut}
+use Rattle.ics_series.proofs.TournamentLemmas.{above-zero, settle_up}
+use Rattle.ics_series.proofs.tournament.replay.Goals as goal
+
+pub loop-node-preserved : goal.loop-node-preserved
+loop-node-preserved g c =
+    let heads = map (λ x. option_map entry_of x.head) c.args.leads.now in
+    record {
+      node_in = omega arith;
+      leads = All-set (λ lead. lead < length c.args.leads.now) c.loop-node.winners c.loop-node.node c.first_below.result c.first_below.ensures.lead c.loop-node.invariant.leads;
+      settled =
+          subst (λ w. AreSettledBut (c.loop-node.node / 2) heads (set c.loop-node.winners c.loop-node.node w)) (sym c.first_below.ensures.first)
+          (settle_up heads c.loop-node.winners c.loop-node.node (omega arith) (omega arith) c.loop-node.invariant.settled);
+    }
+
+pub returns-clause-settled : goal.returns-clause-settled
+returns-clause-settled g c node low high =
+    let last : c.loop-node.node ≡ 0 = omega arith in
+    c.loop-node.invariant.settled node low high (λ steps e. absurd (omega (arith, ap (above steps) last ∙ above-zero steps)))

@@ -1,0 +1,54 @@
+-- How many occurrences a listing holds at most: in five UTC days in a row an event has no more than so many starts.
+use Rattle.std.specs.Prelude.{ℕ, zero, suc, ◌+◌, max, ℤ, pos, ◌+ℤ◌, ◌-ℤ◌, Bool, ◌&&◌, int_le, int_lt, if◌then◌else◌, List, sum_by, count_by, Option, None, Some}
+use Rattle.ics_rule.specs.Kept.{count, is_kept}
+use Rattle.ics_rule.specs.Locals.{calendar_end}
+use Rattle.ics_rule.specs.Recurrence.{Recurrence}
+use Rattle.ics_calendar.specs.declared.event.Event.{Event}
+use Rattle.ics_series.specs.Clocks.{Clocks, instant, midnight}
+use Rattle.ics_series.specs.RuleStarts.{lets_until, moment_numbered}
+use Rattle.ics_series.specs.Starts.{given_by, recurrence_of, time_of}
+
+-- an instant lies in the five UTC days that begin with this one
+abbrev pub is_within_days : ℤ → ℤ → Bool
+is_within_days day t = int_le (midnight day) t && int_lt t (midnight (day +ℤ pos 5))
+
+-- the rule keeps the local with this number and lets its instant through, which lies in these days
+abbrev pub is_raw : Clocks → Event → Recurrence → ℤ → ℕ → Bool
+is_raw clocks event rule day n =
+    is_kept rule n && (lets_until rule n (moment_numbered clocks event n) && is_within_days day (moment_numbered clocks event n))
+
+-- how many locals of the calendar give the event such an instant by the rule: DTSTART is one that it keeps
+unfoldable pub raw_by_rule : Clocks → Event → Recurrence → ℤ → ℕ
+raw_by_rule clocks event rule day = count calendar_end (is_raw clocks event rule day)
+
+-- how many do so by the rule, and under none DTSTART alone
+abbrev pub raw_by : Clocks → Event → Option Recurrence → ℤ → ℕ
+raw_by clocks event None day = if is_within_days day (instant clocks event.start) then 1 else 0
+raw_by clocks event (Some rule) day = raw_by_rule clocks event rule day
+
+-- how many values of its RDATEs do
+unfoldable pub raw_listed : Clocks → Event → ℤ → ℕ
+raw_listed clocks event day = count_by (λ rdate. is_within_days day (instant clocks (time_of (given_by event.start rdate)))) event.rdates
+
+-- how many there are of both, where what is given twice counts twice, and EXDATE takes nothing out
+unfoldable pub raw_in : Clocks → Event → ℤ → ℕ
+raw_in clocks event day = raw_by clocks event (recurrence_of event) day + raw_listed clocks event day
+
+-- the greatest of the first n numbers that a function gives
+unfoldable pub greatest : ℕ → (ℕ → ℕ) → ℕ
+greatest zero f = 0
+greatest (suc n) f = max (greatest n f) (f n)
+
+-- The greatest number that any five UTC days in a row have. An instant lies less than two days from its local, so that five days have none
+-- that begin more than six days before 0000-01-01, or more than two days after 9999-12-31.
+unfoldable pub most_in_days : Clocks → Event → ℕ
+most_in_days clocks event = greatest 3_652_433 (λ k. raw_in clocks event (pos k -ℤ pos 719_534))
+
+-- a master, with the clocks by which its times are read
+pub record Master : Type 0 where
+  pub clocks : Clocks
+  pub event : Event
+
+-- how many occurrences the listing of these masters holds at most
+unfoldable pub held_most : List Master → ℕ
+held_most masters = 2 + sum_by (λ m. 2 + most_in_days m.clocks m.event) masters

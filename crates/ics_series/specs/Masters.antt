@@ -1,0 +1,62 @@
+-- What the versions that count give whose events recur, each as a list of its own.
+use Rattle.std.specs.Prelude.{◌≡◌, ◌<ℤ◌, ◌≤ℤ◌, ◌++◌, ℕ, ℤ, pos, neg_ℤ, int_le, false, List, Option, Some, None}
+use Rattle.std.specs.List.{AllByRecursion}
+use Rattle.ics_calendar.specs.Event.{FileSaid}
+use Rattle.ics_calendar.specs.declared.event.Event.{Event}
+use Rattle.ics_series.specs.declared.window.Window.{Window}
+use Rattle.ics_series.specs.Clocks.{Clock}
+use Rattle.ics_series.specs.Entry.{Entry, Rank, entry_cmp}
+use Rattle.ics_series.specs.Listing.{IsIn, IsListing}
+use Rattle.ics_series.specs.Meets.{IsToCome}
+use Rattle.ics_series.specs.MetList.{is_after}
+use Rattle.ics_series.specs.Occurs.{IsOf}
+use Rattle.ics_series.specs.Placed.{clocks_at}
+use Rattle.ics_series.specs.Singles.{is_single}
+use Rattle.ics_series.specs.Spots.{event_at}
+use Rattle.ics_series.specs.Versions.{Label}
+
+-- the event of a version is a master that recurs
+pub record Recurs (files : List FileSaid) (l : Label) : Type 0 where
+  pub event : Event
+  pub stands : event_at files l.spot ≡ Some event
+  pub recurs : is_single event ≡ false
+
+-- of the occurrences to come one of the event of this version, which recurs
+pub record IsOfVersion (files : List FileSaid) (display : Clock) (w : Window) (after : Option Rank) (l : Label) (o : Entry) : Type 0 where
+  pub by : Recurs files l
+  pub of : IsOf (clocks_at files display l.spot.file) by.event o
+  pub to_come : IsToCome files display w after o
+
+-- Of the occurrences of a master with this UID those come after the key that begin at this instant or later. Each begins well within the
+-- instants of an i64.
+abbrev pub IsSince : Option Rank → List ℕ → ℤ → Type 0
+IsSince after uid since =
+    (o : Entry) → o.event.uid ≡ uid → o.recurrence ≡ o.start → neg_ℤ (pos 9_223_372_036_854_775_808) ≤ℤ o.start → o.start <ℤ pos 9_223_372_036_854_775_807
+    → is_after after o ≡ int_le since o.start
+
+-- the occurrences of a version that meet the window have a list, whatever the key
+abbrev pub HasWhole : List FileSaid → Clock → Window → Label → Type 0
+HasWhole files display w label = (list : List Entry) × IsListing entry_cmp (IsOfVersion files display w None label) list
+
+-- a list is that of the occurrences to come of one of these versions
+pub record IsOneOf (files : List FileSaid) (display : Clock) (w : Window) (after : Option Rank) (labels : List Label) (list : List Entry) : Type 0 where
+  pub label : Label
+  pub stands : IsIn label labels
+  pub listing : IsListing entry_cmp (IsOfVersion files display w after label) list
+
+-- a version has its list among these
+pub record HasList (files : List FileSaid) (display : Clock) (w : Window) (after : Option Rank) (lists : List (List Entry)) (label : Label) : Type 0 where
+  pub list : List Entry
+  pub stands : IsIn list lists
+  pub listing : IsListing entry_cmp (IsOfVersion files display w after label) list
+
+-- these lists are those of the occurrences to come of the versions whose events recur, one for each
+pub record AreLists (files : List FileSaid) (display : Clock) (w : Window) (after : Option Rank) (labels : List Label) (lists : List (List Entry)) : Type 0 where
+  pub each : AllByRecursion (IsOneOf files display w after labels) lists
+  pub every : (l : Label) → IsIn l labels → Recurs files l → HasList files display w after lists l
+
+-- and stand behind the lists that were there before
+pub record HasLists (files : List FileSaid) (display : Clock) (w : Window) (after : Option Rank) (labels : List Label) (before now : List (List Entry)) : Type 0 where
+  pub more : List (List Entry)
+  pub are : AreLists files display w after labels more
+  pub behind : now ≡ before ++ more

@@ -1,0 +1,67 @@
+-- What is known of the starts of a rule while they are read has one proof at most.
+use Rattle.std.specs.Prelude.{◌≡◌, ℕ, ℤ, List, [], ◌∷◌, Option, None, Some}
+use Rattle.std.specs.Coded.{×_prop, Unit-prop, Π_prop, codes}
+use Rattle.std.specs.Ordering.{Ordering-set}
+use Rattle.std.proofs.Props.{props}
+use Rattle.std.specs.declared.cmp.Ordering.TheVariants.{Less}
+use Rattle.ics_rule.specs.Cursors.{CountedBy, HasLooked, IsCursorIn, IsCursorOf}
+use Rattle.ics_rule.specs.Filled.{filled}
+use Rattle.ics_rule.specs.Locals.{number}
+use Rattle.ics_rule.specs.Recurrence.{Recurrence}
+use Rattle.ics_rule.specs.declared.cursor.Cursor.{Cursor}
+use Rattle.ics_rule.specs.declared.filled.Filled.{Filled}
+use Rattle.ics_calendar.specs.declared.event.Event.{Event}
+use Rattle.ics_calendar.specs.declared.time.Time.{Time}
+use Rattle.ics_values.specs.declared.local.Local.{Local}
+use Rattle.ics_zone.specs.Tables.{Timeline}
+use Rattle.ics_series.specs.declared.start.Start.{Start}
+use Rattle.ics_series.specs.declared.window.Window.{Window}
+use Rattle.ics_series.specs.Clocks.{Clocks}
+use Rattle.ics_series.specs.Found.{moment_cmp}
+use Rattle.ics_series.specs.Rising.{IsBefore, Rises}
+use Rattle.ics_series.specs.RuleStarts.{AreHeld, AreReadable, HasLookedTo, IsHeld}
+use Rattle.ics_series.specs.Zones.{IsReadable}
+
+before-prop : (x : Start) (xs : List Start) → IsProp (IsBefore moment_cmp x xs)
+before-prop x [] = Unit-prop
+before-prop x (y ∷ ys) = ×_prop (Ordering-set (moment_cmp x y) Less) (before-prop x ys)
+
+pub starts-prop : (xs : List Start) → IsProp (Rises moment_cmp xs)
+starts-prop [] = Unit-prop
+starts-prop (x ∷ xs) = ×_prop (before-prop x xs) (starts-prop xs)
+
+Start-set : (a b : Start) → IsProp (a ≡ b)
+Start-set a b = hlevel (props, codes)
+
+pub rule-prop : (a b : Option Recurrence) → IsProp (a ≡ b)
+rule-prop a b = hlevel (props, codes)
+
+is-held-prop : (clocks : Clocks) (event : Event) (rule : Recurrence) (w : Window) (day : ℤ) (s : Start) → IsProp (IsHeld clocks event rule w day s)
+is-held-prop clocks event rule w day s = hlevel (props, Start-set)
+
+pub held-prop : (clocks : Clocks) (event : Event) (rule : Recurrence) (w : Window) (day : ℤ) (held : List Start) → IsProp (AreHeld clocks event rule w day held)
+held-prop clocks event rule w day held = Π_prop λ s. Π_prop λ m. is-held-prop clocks event rule w day s
+
+looked-at-prop : (rule : Recurrence) (cursor : Cursor) (a b : ℕ) → IsProp (HasLooked rule cursor a b)
+unfolding HasLooked
+looked-at-prop rule cursor a b = hlevel props
+
+pub looked-prop : (rule : Recurrence) (from : Local) (day : ℤ) (cursor : Cursor) → IsProp (HasLookedTo rule from day cursor)
+looked-prop rule from day cursor = Π_prop λ before. Π_prop λ h. looked-at-prop rule cursor _ before
+
+readable-at-prop : (zones : List Timeline) (time : Time) → IsProp (IsReadable zones time)
+readable-at-prop zones time = hlevel props
+
+pub readable-prop : (zones : List Timeline) (event : Event) (rule : Recurrence) (day : ℤ) → IsProp (AreReadable zones event rule day)
+readable-prop zones event rule day = Π_prop λ n. Π_prop λ k. Π_prop λ h. readable-at-prop zones _
+
+counted-prop : (q : Filled) (start : ℕ) (o : Option ℕ) (cursor : Cursor) → IsProp (CountedBy q start o cursor)
+counted-prop q start None cursor = Unit-prop
+counted-prop q start (Some c) cursor = hlevel props
+
+cursor-in-prop : (q : Filled) (start : ℕ) (o : Option ℕ) (cursor : Cursor) → IsProp (IsCursorIn q start o cursor)
+cursor-in-prop q start o cursor = hlevel (props, counted-prop)
+
+pub cursor-prop : (rule : Recurrence) (cursor : Cursor) → IsProp (IsCursorOf rule cursor)
+unfolding IsCursorOf
+cursor-prop rule cursor = cursor-in-prop (filled rule) (number rule.start) rule.parts.count cursor

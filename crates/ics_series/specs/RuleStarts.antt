@@ -1,0 +1,112 @@
+-- The starts that the rule of an event gives before the end of a window, as one rising list.
+use Rattle.std.specs.Prelude.{◌≡◌, ◌≤ℤ◌, ◌<ℤ◌, ℕ, zero, suc, ◌+◌, ◌-◌, ◌/◌, ◌<◌, ◌≤◌, ℤ, pos, ◌-ℤ◌, ◌+ℤ◌, Bool, true, false, ◌&&◌, ◌||◌, ◌==◌, not, int_le, int_lt, List, [], ◌∷◌}
+use Rattle.ics_values.specs.Days.{day_index}
+use Rattle.ics_values.specs.Locals.{local_at}
+use Rattle.ics_values.specs.declared.local.Local.{Local}
+use Rattle.ics_rule.specs.Cursors.{looks_from, HasLooked}
+use Rattle.ics_rule.specs.Kept.{is_kept, until_moment}
+use Rattle.ics_rule.specs.Locals.{number, rules_end}
+use Rattle.ics_rule.specs.Recurrence.{Recurrence}
+use Rattle.ics_rule.specs.declared.cursor.Cursor.{Cursor}
+use Rattle.ics_calendar.specs.declared.event.Event.{Event}
+use Rattle.ics_zone.specs.Tables.{Timeline}
+use Rattle.ics_series.specs.declared.start.Giver.{Giver}
+use Rattle.ics_series.specs.declared.start.Giver.TheVariants.{Kept, Listed}
+use Rattle.ics_series.specs.declared.start.Start.{Start}
+use Rattle.ics_series.specs.declared.window.Window.{Window}
+use Rattle.ics_series.specs.Clocks.{Clocks, instant, midnight}
+use Rattle.ics_series.specs.Found.{is_until, moment_cmp, start_at}
+use Rattle.ics_series.specs.Listing.{IsIn}
+use Rattle.ics_series.specs.Merged.{put, union}
+use Rattle.ics_series.specs.Starts.{time_at}
+use Rattle.ics_series.specs.Zones.{IsReadable}
+
+-- the local with a number
+abbrev pub local_numbered : ℕ → Local
+local_numbered n = local_at (pos (n / 86_400) -ℤ pos 719_528) n
+
+-- the instant at which it would start the event
+abbrev pub moment_numbered : Clocks → Event → ℕ → ℤ
+moment_numbered clocks event n = instant clocks (time_at event.start (local_numbered n))
+
+-- a rule lets an instant through that a local with this number means: it is DTSTART, or not after an UNTIL in UTC
+abbrev pub lets_until : Recurrence → ℕ → ℤ → Bool
+lets_until rule n t = (n == number rule.start) || is_until (until_moment rule) t
+
+-- the local with this number gives the event a start before the window's end: the rule keeps it and lets its instant through
+unfoldable pub gives : Clocks → Event → Recurrence → Window → ℕ → Bool
+gives clocks event rule w n =
+    is_kept rule n && (lets_until rule n (moment_numbered clocks event n) && int_lt (moment_numbered clocks event n) w.to)
+
+-- a start in its place in a list, if it is given
+abbrev pub with_put : Bool → Start → List Start → List Start
+with_put true s starts = put moment_cmp s starts
+with_put false s starts = starts
+
+-- the starts that are held, with one more, if it is given and none at its instant is held
+abbrev pub with_held : Bool → Start → List Start → List Start
+with_held true s held = union moment_cmp held (s ∷ [])
+with_held false s held = held
+
+-- The starts that so many locals from one on give, in the order of their instants. Of two at one instant that by the earlier local stands.
+abbrev pub found_in : Clocks → Event → Recurrence → Window → ℕ → ℕ → List Start
+found_in clocks event rule w from zero = []
+found_in clocks event rule w from (suc n) =
+    with_put (gives clocks event rule w from) (start_at clocks event (local_numbered from)) (found_in clocks event rule w (from + 1) n)
+
+-- the starts that all locals from one on give
+unfoldable pub found : Clocks → Event → Recurrence → Window → ℕ → List Start
+found clocks event rule w from = found_in clocks event rule w from (rules_end - from)
+
+-- the starts still to come: those that are held, and those that the locals from a place on give
+unfoldable pub to_come : Clocks → Event → Recurrence → Window → List Start → ℕ → List Start
+to_come clocks event rule w held place = union moment_cmp held (found clocks event rule w place)
+
+-- the number of the local that gives a start
+abbrev pub number_in : Giver → ℕ
+number_in (Kept local) = number local
+number_in (Listed place) = 0
+
+-- the number of a day's midnight
+abbrev pub midnight_number : ℤ → ℕ
+midnight_number day = number (local_at day 0)
+
+-- a start by a local that gives one, in the five UTC days of which the fourth begins at this day's midnight
+pub record IsHeld (clocks : Clocks) (event : Event) (rule : Recurrence) (w : Window) (day : ℤ) (s : Start) : Type 0 where
+  pub by : s ≡ start_at clocks event (local_numbered (number_in s.giver))
+  pub given : gives clocks event rule w (number_in s.giver) ≡ true
+  pub late : (midnight day -ℤ pos 259_200) ≤ℤ s.moment
+  pub early : s.moment <ℤ (midnight day +ℤ pos 172_800)
+
+abbrev pub AreHeld : Clocks → Event → Recurrence → Window → ℤ → List Start → Type 0
+AreHeld clocks event rule w day starts = (s : Start) → IsIn s starts → IsHeld clocks event rule w day s
+
+-- the first start comes two days or more before a day's midnight: so it does before all that later locals give
+abbrev pub is_ready : ℤ → List Start → Bool
+is_ready day [] = false
+is_ready day (s ∷ starts) = int_le s.moment (midnight day -ℤ pos 172_800)
+
+-- a day more has to be read before the first start still to come is known
+abbrev pub is_behind : ℤ → ℤ → List Start → Bool
+is_behind day end held = int_lt day end && not (is_ready day held)
+
+-- up to which day's midnight the cursor is asked next: where nothing is held to the end, else a day on
+abbrev pub bound_of : ℤ → ℤ → List Start → ℤ
+bound_of day end [] = end
+bound_of day end (s ∷ starts) = day +ℤ pos 1
+
+-- a cursor set at `from` has looked only at periods that hold a local from there on, under COUNT from DTSTART on, and before a day's
+-- midnight
+abbrev pub HasLookedTo : Recurrence → Local → ℤ → Cursor → Type 0
+HasLookedTo rule from day cursor =
+    (before : ℕ) → midnight_number day ≤ before
+    → HasLooked rule cursor (looks_from rule.parts.count (number rule.start) (number from)) before
+
+-- the times at the locals that the rule keeps before a day's midnight can be read
+abbrev pub AreReadable : List Timeline → Event → Recurrence → ℤ → Type 0
+AreReadable zones event rule day =
+    (n : ℕ) → is_kept rule n ≡ true → n < midnight_number day → IsReadable zones (time_at event.start (local_numbered n))
+
+-- how many seconds and days there are at most to be read
+abbrev pub steps_left : ℤ → ℤ → ℕ → ℕ
+steps_left day end place = (midnight_number end - place) + (day_index end - day_index day)

@@ -1,0 +1,188 @@
+-- The starts that a series holds still to come, and the occurrences that they give.
+use Rattle.std.specs.Prelude.{◌≡◌, ◌≤◌, ◌≤ℤ◌, ℕ, ℤ, pos, ◌+ℤ◌, ◌-ℤ◌, Bool, true, false, ◌&&◌, ◌==◌, not, int_le, int_lt, List, [], ◌∷◌, length, drop, slice_get, Option, None, Some, ◌⊎◌, if◌then◌else◌}
+use Rattle.std.specs.Int.{int_max, int_min}
+use Rattle.std.specs.List.{filter_map, list_any}
+use Rattle.std.specs.Option.{option_map}
+use Rattle.std.specs.Ordering.{int_eq}
+use Rattle.ics_values.specs.Days.{IsDayNumber}
+use Rattle.ics_values.specs.RuleParts.{RuleParts}
+use Rattle.ics_values.specs.declared.local.Local.{Local}
+use Rattle.ics_rule.specs.Cursors.{looks_from, period_count}
+use Rattle.ics_rule.specs.Locals.{number}
+use Rattle.ics_rule.specs.Recurrence.{Recurrence}
+use Rattle.ics_calendar.specs.declared.event.Event.{Event}
+use Rattle.ics_calendar.specs.declared.time.Rdate.{Rdate}
+use Rattle.ics_calendar.specs.declared.time.Rdate.TheVariants.{At}
+use Rattle.ics_series.specs.declared.listed_starts.ListedStarts.{ListedStarts}
+use Rattle.ics_series.specs.declared.rule_starts.RuleStarts.{RuleStarts}
+use Rattle.ics_series.specs.declared.start.Giver.{Giver}
+use Rattle.ics_series.specs.declared.start.Giver.TheVariants.{Kept, Listed}
+use Rattle.ics_series.specs.declared.start.Start.{Start}
+use Rattle.ics_series.specs.declared.window.Window.{Window}
+use Rattle.ics_series.specs.declared.zones.FileZones.{FileZones}
+use Rattle.ics_series.specs.Clocks.{Clocks, instant, midnight, seconds_of}
+use Rattle.ics_series.specs.Entry.{Entry}
+use Rattle.ics_series.specs.Exclusions.{AreExclusions}
+use Rattle.ics_series.specs.Found.{earliest, is_shown, listed_from, moment_cmp, start_at}
+use Rattle.ics_series.specs.Listing.{IsIn}
+use Rattle.ics_series.specs.Meeting.{entry_from}
+use Rattle.ics_series.specs.Merged.{union}
+use Rattle.ics_series.specs.MetList.{IsEventMet}
+use Rattle.ics_series.specs.Rising.{Rises}
+use Rattle.ics_series.specs.RuleFeed.{starts_left, HasSameSource}
+use Rattle.ics_series.specs.RuleStarts.{found, gives, is_behind, midnight_number, AreHeld}
+use Rattle.ics_series.specs.Starts.{given_by, local_of, recurrence_of, time_at, time_of, IsRuleStart}
+use Rattle.ics_series.specs.Zones.{clocks_in, is_past}
+
+-- an occurrence of the event that meets the window, begins at this instant or later, and whose start is none of these
+abbrev pub IsSeriesMet : Clocks → Event → Window → ℤ → List ℤ → Entry → Type 0
+IsSeriesMet clocks event w since overridden o =
+    IsEventMet clocks event w o × ((since ≤ℤ o.start) × (IsIn o.start overridden → ⊥))
+
+-- the known starts that have not gone
+abbrev pub listed_left : ListedStarts → List Start
+listed_left s = drop s.gone s.starts.items
+
+-- the starts that a rule still gives, where there is one
+abbrev pub rule_left : Option RuleStarts → List Start
+rule_left None = []
+rule_left (Some s) = starts_left s
+
+-- the starts of both kinds still to come: at one instant that by the rule goes before that by an RDATE
+abbrev pub left : Option RuleStarts → ListedStarts → List Start
+left rule listed = union moment_cmp (rule_left rule) (listed_left listed)
+
+-- the first that the rule gives is known
+abbrev pub IsReady : Option RuleStarts → Type 0
+IsReady None = Unit {0}
+IsReady (Some s) = is_behind s.day s.end s.held.items ≡ false
+
+-- they are those of the same rule
+abbrev pub HasSameRule : Option RuleStarts → Option RuleStarts → Type 0
+HasSameRule None None = Unit {0}
+HasSameRule (Some old) (Some new) = HasSameSource old new
+HasSameRule _ _ = ⊥
+
+-- So many starts of a rule are held: they rise, and lie in the five UTC days of which the fourth begins at the midnight up to which the
+-- cursor was asked.
+pub record IsHeldCount (s : RuleStarts) (held : ℕ) : Type 0 where
+  pub count : held ≡ length s.held.items
+  pub rise : Rises moment_cmp s.held.items
+  pub days : AreHeld (clocks_in s.zones) s.event.now s.rule s.window s.asked s.held.items
+
+-- the starts that are known from the first: those by RDATEs and, where there is no rule, that at DTSTART
+abbrev pub listed_apart : Clocks → Window → Event → Option RuleParts → List Start
+listed_apart clocks w event None = start_at clocks event (local_of event.start.stamp) ∷ listed_from clocks w event.start 0 event.rdates
+listed_apart clocks w event (Some parts) = listed_from clocks w event.start 0 event.rdates
+
+-- From which instant on starts are asked for. None begins at the window's end or later, so that two weeks past it stand for all later instants.
+abbrev pub first_asked : Clocks → Window → Event → ℤ → List Start → ℤ
+first_asked clocks w event since starts = int_max (earliest clocks w event starts) (int_min since (w.to +ℤ pos 1_209_600))
+
+-- the starts that the event's rule gives by the locals from one on, which is DTSTART or lies six days or more before the first instant that
+-- is asked for
+pub record IsRuleFrom (clocks : Clocks) (event : Event) (w : Window) (since : ℤ) (listed starts : List Start) : Type 0 where
+  pub rule : Recurrence
+  pub has : recurrence_of event ≡ Some rule
+  pub from : Local
+  pub day : IsDayNumber from.day
+  pub low : seconds_of from ≤ℤ int_max (seconds_of (local_of event.start.stamp)) (first_asked clocks w event since listed -ℤ pos 518_400)
+  pub gives : starts ≡ found clocks event rule w (number from)
+
+-- These starts are those of this event's rule in this window, read from a local on that lies no more than seven days before the first
+-- instant that is asked for, or not before DTSTART.
+pub record IsOwnRule (zones : FileZones) (event : Event) (w : Window) (first : ℤ) (s : RuleStarts) : Type 0 where
+  pub zones_are : s.zones ≡ zones
+  pub event_is : s.event.now ≡ event
+  pub window_is : s.window ≡ w
+  pub day : IsDayNumber s.from.day
+  pub late : int_max (seconds_of (local_of event.start.stamp)) (first -ℤ pos 604_800) ≤ℤ seconds_of s.from
+
+abbrev pub HasOwnRule : FileZones → Event → Window → ℤ → Option RuleStarts → Type 0
+HasOwnRule zones event w first None = Unit {0}
+HasOwnRule zones event w first (Some s) = IsOwnRule zones event w first s
+
+-- from which instant on a series asks for starts
+abbrev pub first_of : Clocks → Window → Event → ℤ → ℤ
+first_of clocks w event since = first_asked clocks w event since (listed_apart clocks w event event.rule)
+
+-- some instants name this one
+abbrev pub is_among : List ℤ → ℤ → Bool
+is_among instants t = list_any (λ x. int_eq x t) instants
+
+-- it is shown, begins at this instant or later, and its start is none of these
+abbrev pub is_wanted : Clocks → Window → Event → ℤ → List ℤ → Entry → Bool
+is_wanted clocks w event since overridden o = (int_le since o.start && not (is_among overridden o.start)) && is_shown clocks w event o
+
+-- the occurrence with this start, if it is wanted
+abbrev pub wanted_by : Clocks → Window → Event → ℤ → List ℤ → Start → Option Entry
+wanted_by clocks w event since overridden s =
+    if is_wanted clocks w event since overridden (entry_from clocks event s.given) then Some (entry_from clocks event s.given) else None
+
+-- the occurrences that some starts give
+abbrev pub given_of : Clocks → Window → Event → ℤ → List ℤ → List Start → List Entry
+given_of clocks w event since overridden starts = filter_map (wanted_by clocks w event since overridden) starts
+
+-- one of some starts is at an instant
+abbrev pub has_moment : List Start → ℤ → Bool
+has_moment starts t = list_any (λ s. int_eq s.moment t) starts
+
+-- a local that DTSTART has or the rule keeps means an instant
+abbrev pub IsKeptAt : Clocks → Event → Local → ℤ → Type 0
+IsKeptAt clocks event local t =
+    ((local ≡ local_of event.start.stamp) ⊎ IsRuleStart clocks event local) × (instant clocks (time_at event.start local) ≡ t)
+
+-- where an occurrence still to come begins at the instant of such a local, these starts have one there
+abbrev pub HaveRuled : Clocks → Event → List Start → List Entry → Type 0
+HaveRuled clocks event starts coming =
+    (o : Entry) → IsIn o coming → (local : Local) → IsKeptAt clocks event local o.start → has_moment starts o.start ≡ true
+
+abbrev pub HasRuled : Clocks → Event → Option RuleStarts → List Entry → Type 0
+HasRuled clocks event None coming = Unit {0}
+HasRuled clocks event (Some s) coming = HaveRuled clocks event (starts_left s) coming
+
+-- So many periods were looked at: at most those that hold a local from the first on, under COUNT from DTSTART on, and before that midnight,
+-- which lies no more than three days past each occurrence still to come that begins at the instant of a local that DTSTART has or the rule
+-- keeps, and no more than four past the window's end.
+pub record IsStepCount (clocks : Clocks) (event : Event) (s : RuleStarts) (coming : List Entry) (steps : ℕ) : Type 0 where
+  pub most : steps ≤ period_count s.rule (looks_from s.rule.parts.count (number s.rule.start) (number s.from)) (midnight_number s.asked)
+  pub near : (o : Entry) → IsIn o coming → (local : Local) → IsKeptAt clocks event local o.start → (midnight s.asked -ℤ pos 259_200) ≤ℤ o.start
+  pub end : midnight s.asked ≤ℤ (s.window.to +ℤ pos 345_600)
+
+-- a local gives an event a start: under no rule that of DTSTART
+abbrev pub IsGivenAt : Clocks → Event → Window → Local → Option Recurrence → Type 0
+IsGivenAt clocks event w local None = local ≡ local_of event.start.stamp
+IsGivenAt clocks event w local (Some rule) = IsDayNumber local.day × (gives clocks event rule w (number local) ≡ true)
+
+-- what gives an event a start before the window's end, and the value by which it does
+abbrev pub IsGivenBy : Clocks → Event → Window → Giver → Rdate → Type 0
+IsGivenBy clocks event w (Kept local) given = IsGivenAt clocks event w local (recurrence_of event) × (given ≡ At (time_at event.start local))
+IsGivenBy clocks event w (Listed place) given = option_map (given_by event.start) (slice_get event.rdates place) ≡ Some given
+
+-- DTSTART is written less than two days past the window's end, or there are RDATEs
+abbrev pub IsBegun : Window → Event → Type 0
+IsBegun w event = (is_past w event.start && length event.rdates == 0) ≡ false
+
+-- a start of the event
+pub record IsKnown (clocks : Clocks) (event : Event) (w : Window) (s : Start) : Type 0 where
+  pub begun : IsBegun w event
+  pub gives : IsGivenBy clocks event w s.giver s.given
+  pub moment : s.moment ≡ instant clocks (time_of s.given)
+
+abbrev pub AreKnown : Clocks → Event → Window → List Start → Type 0
+AreKnown clocks event w starts = (s : Start) → IsIn s starts → IsKnown clocks event w s
+
+-- where the event has begun, these take out what its EXDATEs do
+abbrev pub AreTakenOut : Clocks → Event → Window → List ℤ → List ℤ → Type 0
+AreTakenOut clocks event w instants days = IsBegun w event → AreExclusions clocks event w instants days
+
+-- Which of two starts goes first: at one instant that by the rule.
+abbrev pub earlier_of : Option Start → Option Start → Option Start
+earlier_of None listed = listed
+earlier_of (Some a) None = Some a
+earlier_of (Some a) (Some b) = if int_lt b.moment a.moment then Some b else Some a
+
+-- the first of some starts is taken from them
+abbrev pub IsTaken : List Start → Option Start → List Start → Type 0
+IsTaken old None new = (old ≡ []) × (new ≡ [])
+IsTaken old (Some s) new = old ≡ s ∷ new

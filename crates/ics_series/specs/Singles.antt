@@ -1,0 +1,66 @@
+-- The events of a folder that start once, and what they give: overrides, and masters without RRULE, RDATE and EXDATE
+-- (RFC 5545, sections 3.6.1 and 3.8.4.4).
+use Rattle.std.specs.Prelude.{◌≡◌, ◌==◌, ◌&&◌, ◌||◌, ℤ, int_lt, Bool, true, List, length, Option, Some, None, is_none, is_some, if◌then◌else◌}
+use Rattle.std.specs.Option.{option_and_then, unwrap_or}
+use Rattle.ics_calendar.specs.Event.{FileSaid}
+use Rattle.ics_calendar.specs.declared.event.Event.{Event}
+use Rattle.ics_calendar.specs.declared.time.Rdate.TheVariants.{At}
+use Rattle.ics_series.specs.declared.single.Single.{Single}
+use Rattle.ics_series.specs.declared.window.Window.{Window}
+use Rattle.ics_series.specs.Clocks.{Clock, Clocks, instant}
+use Rattle.ics_series.specs.Entry.{Entry, Rank}
+use Rattle.ics_series.specs.Finish.{finish}
+use Rattle.ics_series.specs.Meeting.{is_met}
+use Rattle.ics_series.specs.Meets.{IsToCome}
+use Rattle.ics_series.specs.MetList.{is_after, is_kept}
+use Rattle.ics_series.specs.Placed.{clocks_at}
+use Rattle.ics_series.specs.Spots.{event_at}
+use Rattle.ics_series.specs.Versions.{Label}
+use Rattle.ics_series.specs.Zones.{clocks_in}
+
+-- an override stands at its own DTSTART, whatever its RRULE, RDATE and EXDATE say; a master that has none of them starts there alone
+abbrev pub is_single : Event → Bool
+is_single event =
+    is_some event.recurrence || ((is_none event.rule && length event.rdates == 0) && length event.exdates == 0)
+
+-- of the occurrences to come those whose events start once
+abbrev pub IsSingleToCome : List FileSaid → Clock → Window → Option Rank → Entry → Type 0
+IsSingleToCome files display w after o = IsToCome files display w after o × (is_single o.event ≡ true)
+
+-- The occurrence of an event at its DTSTART. The instance that it overrides tells it from the others of its UID, or else its start.
+abbrev pub entry_first : Clocks → Event → Option ℤ → Entry
+entry_first clocks event recurrence = record {
+  start = instant clocks event.start;
+  finish = finish clocks event (At event.start);
+  recurrence = unwrap_or recurrence (instant clocks event.start);
+  event = event;
+}
+
+-- such an occurrence, if it begins before the window's end
+abbrev pub begun_first : Clocks → Window → Event → Option ℤ → Option Entry
+begun_first clocks w event recurrence =
+    if int_lt (instant clocks event.start) w.to then Some (entry_first clocks event recurrence) else None
+
+-- the occurrence that is kept without its finish
+abbrev pub single_entry : Single → Entry
+single_entry s = record {
+  start = s.start;
+  finish = finish (clocks_in s.zones) s.event.now (At s.event.now.start);
+  recurrence = s.recurrence;
+  event = s.event.now;
+}
+
+-- it meets the window, comes after the key, and no override stands for it
+abbrev pub is_to_come : Window → List Label → Option Rank → Entry → Bool
+is_to_come w overrides after o = is_met w o && is_after after o && is_kept overrides o
+
+-- what an event gives at its DTSTART that is to come, where it starts there alone
+abbrev pub single_of : Clocks → Window → List Label → Option Rank → Option ℤ → Event → Option Entry
+single_of clocks w overrides after recurrence event =
+    let o = entry_first clocks event recurrence in
+    if is_single event && is_to_come w overrides after o then Some o else None
+
+-- and so of the event of a version
+abbrev pub single_at : List FileSaid → Clock → Window → List Label → Option Rank → Label → Option Entry
+single_at files display w overrides after label =
+    option_and_then (single_of (clocks_at files display label.spot.file) w overrides after label.subject.recurrence) (event_at files label.spot)

@@ -1,0 +1,49 @@
+//! A feed of which the first is known.
+ghost use Rattle.std.specs.Prelude.{◌≡◌, ◌-◌, ◌^◌, length, min, IfOk, OnErr, OnOk};
+ghost use Rattle.ics_series.specs.Leads.{listed, IsAhead, IsAhead-prop};
+
+use crate::feed::{Coming, Feed};
+use crate::holding::Holding;
+use crate::occurrence::Occurrence;
+use std::alloc::AllocError;
+
+/// A feed, and the first that is still to come of it, which is drawn already.
+#[derive(Drop)]
+pub(crate) struct Lead<'a, F: Coming> {
+    pub(crate) feed: F,
+    // None where nothing is left.
+    pub(crate) head: Option<Occurrence<'a>>,
+    pub(crate) ghost ahead: { IsAhead head (F.coming feed) } by { IsAhead-prop head (F.coming feed) },
+}
+
+impl<'a, F: Feed<'a> + Drop> Lead<'a, F> {
+    pub(crate) fn new(mut feed: F) -> Result<Lead<'a, F>, AllocError>
+        ensures { IfOk result (λ lead. listed lead.head (F.coming lead.feed) ≡ F.coming feed) }
+    {
+        let head = feed.next()?;
+        Ok(Lead { feed, head })
+    }
+}
+
+impl<'a, F: Feed<'a>> Lead<'a, F> {
+    // Lets go what is drawn, and draws the next.
+    pub(crate) fn draw(&mut self) -> Result<(), AllocError>
+        ensures drawn { OnOk result (listed self.new.head (F.coming self.new.feed) ≡ F.coming self.old.feed) }
+        ensures head { OnErr result (self.new.head ≡ self.old.head) }
+        ensures rest { OnErr result (F.coming self.new.feed ≡ F.coming self.old.feed) }
+    {
+        let next = self.feed.next()?;
+        self.head = next;
+        Ok(())
+    }
+}
+
+impl<'a, F: Holding> Lead<'a, F> {
+    // How many built occurrences it holds: what is drawn, and what its feed holds.
+    pub(crate) fn held(&self) -> usize
+        ensures { result ≡ min (length (listed self.now.head (F.holds self.now.feed))) (2 ^ 64 - 1) }
+    {
+        let drawn = usize::from(self.head.is_some());
+        self.feed.held().saturating_add(drawn)
+    }
+}

@@ -1,0 +1,101 @@
+//! The masters that recur, each as a feed of its own.
+ghost use Rattle.std.specs.Prelude.{◌≡◌, ◌<◌, length, map, slice_get, IfOk, List, MatchOption, None, Some};
+ghost use Rattle.std.specs.Option.{option_map};
+ghost use Rattle.ics_calendar.specs.Event.{said_by};
+ghost use Rattle.ics_series.specs.Clocks.{display_clock};
+ghost use Rattle.ics_series.specs.Entry.{Entry, entry_cmp, key_rank};
+ghost use Rattle.ics_series.specs.Listing.{IsListing};
+ghost use Rattle.ics_series.specs.Masters.{AreLists, HasLists, HasWhole, IsOfVersion, IsSince, Recurs};
+ghost use Rattle.ics_series.specs.Parts.{part_coming};
+ghost use Rattle.ics_series.specs.Singles.{is_single};
+ghost use Rattle.ics_series.specs.Versions.{seen, AreChosen};
+ghost use Rattle.ics_series.specs.Zones.{IsReached};
+
+use crate::feed::Coming;
+use crate::key::Key;
+use crate::overridden::overridden_instants;
+use crate::part::Part;
+use crate::series::Series;
+use crate::singles::is_single;
+use crate::version::Version;
+use crate::window::Window;
+use ics_calendar::FileEvents;
+use ics_values::Moment;
+use ics_zone::Display;
+use std::alloc::{AllocError, Global};
+use std::cmp::Ordering;
+
+/// Adds, for each of the versions that count whose event recurs, the feed of its occurrences that
+/// meet the window, after a key those that come after it.
+pub(crate) fn push_series<'a>(
+    alloc: Global,
+    parts: &mut Vec<Part<'a>>,
+    files: &'a [FileEvents],
+    display: &'a Display,
+    chosen: &[Version<'_>],
+    window: Window,
+    after: Option<&Key>,
+) -> Result<(), AllocError>
+    requires reached { IsReached files.now window }
+    requires chosen { AreChosen (map said_by files.now) (display_clock display.now) chosen.now }
+    ensures lists { IfOk result (λ _. HasLists (map said_by files.entry.now) (display_clock display.entry.now) window
+        (option_map (λ key. key_rank key.now) after.entry) (map seen chosen.entry.now)
+        (map part_coming parts.old.items) (map part_coming parts.new.items)) }
+    ensures whole { IfOk result (λ _. (lists : List (List Entry))
+        × AreLists (map said_by files.entry.now) (display_clock display.entry.now) window None (map seen chosen.entry.now) lists) }
+{
+    for place in 0..chosen.len() {
+        if let Some(series) = series_at(alloc, files, display, chosen, place, window, after)? {
+            parts.push(Part::Series(Box::new(alloc, series)?))?;
+        }
+    }
+    Ok(())
+}
+
+// The occurrences to come of the version at a place, if its event recurs.
+fn series_at<'a>(
+    alloc: Global,
+    files: &'a [FileEvents],
+    display: &'a Display,
+    chosen: &[Version<'_>],
+    place: usize,
+    window: Window,
+    after: Option<&Key>,
+) -> Result<Option<Series<'a>>, AllocError>
+    requires reached { IsReached files.now window }
+    requires chosen { AreChosen (map said_by files.now) (display_clock display.now) chosen.now }
+    requires within { place < length chosen.now }
+    ensures series { (version : Version) → slice_get chosen.entry.now place ≡ Some version → IfOk result (λ given. MatchOption given
+        (Recurs (map said_by files.entry.now) (seen version) → ⊥)
+        (λ series. IsListing entry_cmp (IsOfVersion (map said_by files.entry.now) (display_clock display.entry.now) window
+        (option_map (λ key. key_rank key.now) after.entry) (seen version)) (⟦<Series<'a> as Coming>⟧.coming series))) }
+    ensures whole { (version : Version) → slice_get chosen.entry.now place ≡ Some version → IfOk result (λ _.
+        HasWhole (map said_by files.entry.now) (display_clock display.entry.now) window (seen version)) }
+{
+    let version = chosen[place];
+    let event = version.spot.event(files);
+    if is_single(event) {
+        return Ok(None);
+    }
+    let zones = version.spot.zones(files, display);
+    let since = since_of(after, event.uid.as_slice());
+    let overridden = overridden_instants(alloc, event.uid.as_slice(), chosen, place)?;
+    let series = Series::new(alloc, zones, event, window, since, overridden)?;
+    Ok(Some(series))
+}
+
+// From when on the occurrences of a master with this UID come after the key.
+fn since_of(after: Option<&Key>, uid: &[u8]) -> Moment
+    ensures { IsSince (option_map (λ key. key_rank key.now) after.entry) uid.entry.now result }
+{
+    let Some(key) = after else {
+        return Moment::MIN;
+    };
+    match uid
+        .cmp(key.uid.as_slice())
+        .then(key.start.cmp(&key.recurrence))
+    {
+        Ordering::Greater => key.start,
+        _ => key.start.saturating_add(1),
+    }
+}

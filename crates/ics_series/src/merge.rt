@@ -1,0 +1,137 @@
+//! The merge of feeds.
+ghost use Rattle.std.specs.Prelude.{◌≡◌, ◌<◌, ◌-◌, ◌^◌, true, false, All, IfOk, OnOk, length, map, min, sum_by};
+ghost use Rattle.std.specs.List.{flat_map};
+ghost use Rattle.std.specs.Option.{option_map};
+ghost use Rattle.ics_series.specs.Entry.{entry_cmp, entry_of};
+ghost use Rattle.ics_series.specs.EntryLaws.{entry_total};
+ghost use Rattle.ics_series.specs.Leads.{is_given, listed, past, ComeAfter, ComeAfter-prop};
+ghost use Rattle.ics_series.specs.Merged.{merged};
+ghost use Rattle.ics_series.specs.MergedLaws.{rises-merged};
+ghost use Rattle.ics_series.specs.Tournament.{first_held, AreSettled};
+
+use crate::feed::{Coming, Feed};
+use crate::holding::Holding;
+use crate::lead::Lead;
+use crate::occurrence::Occurrence;
+use crate::tournament::{replay, winner, winners};
+use std::alloc::{AllocError, Global};
+
+/// Feeds as one feed: it gives each of their keys once, and where several feeds hold a key, the entry of
+/// the first of them.
+#[derive(Drop)]
+pub struct Merge<'a, F: Coming> {
+    leads: Vec<Lead<'a, F>>,
+    // For each node of a tournament of the leads, which of those below it goes first.
+    winners: Vec<usize>,
+    // What was given last: what has its key counts as given.
+    last: Option<Occurrence<'a>>,
+    ghost same_length: { length winners.items ≡ length leads.items },
+    ghost within: { All (λ lead. lead < length leads.items) winners.items },
+    ghost settled: { AreSettled (map (λ l. option_map entry_of l.head) leads.items) winners.items },
+    ghost follows: { ComeAfter last (map (λ l. past last (listed l.head (F.coming l.feed))) leads.items) } by { ComeAfter-prop last (map (λ l. past last (listed l.head (F.coming l.feed))) leads.items) },
+}
+
+impl<'a, F: Feed<'a> + Drop> Merge<'a, F> {
+    /// The merge of these feeds.
+    pub fn new(alloc: Global, feeds: Vec<F>) -> Result<Merge<'a, F>, AllocError>
+        ensures { IfOk result (λ merge. ⟦<Merge<'a, F> as Coming>⟧.coming merge ≡ merged entry_cmp (map F.coming feeds.items)) }
+    {
+        let mut leads = Vec::with_capacity(alloc, feeds.len())?;
+        for feed in feeds {
+            leads.push(Lead::new(feed)?)?;
+        }
+        let winners = winners(alloc, &leads)?;
+        Ok(Merge {
+            leads,
+            winners,
+            last: None,
+        })
+    }
+}
+
+impl<'a, F: Coming> Coming for Merge<'a, F> {
+    ghost coming = { λ merge. merged entry_cmp (map (λ l. past merge.last (listed l.head (F.coming l.feed))) merge.leads.items) };
+}
+
+impl<'a, F: Feed<'a>> Feed<'a> for Merge<'a, F> {
+    ghost rises = { λ merge. rises-merged entry_cmp entry_total (map (λ l. past merge.last (listed l.head (F.coming l.feed))) merge.leads.items) };
+
+    fn next(&mut self) -> Result<Option<Occurrence<'a>>, AllocError> {
+        self.skip_given()?;
+        match self.first() {
+            None => Ok(None),
+            Some(first) => {
+                self.last = Some(first);
+                Ok(Some(first))
+            }
+        }
+    }
+}
+
+impl<'a, F: Feed<'a>> Merge<'a, F> {
+    // Draws from the leads that go first while they hold what has been given.
+    fn skip_given(&mut self) -> Result<(), AllocError>
+        ensures same { ⟦<Merge<'a, F> as Coming>⟧.coming self.new ≡ ⟦<Merge<'a, F> as Coming>⟧.coming self.old }
+        ensures skipped { OnOk result (is_given self.new.last (first_held (map (λ l. option_map entry_of l.head) self.new.leads.items) self.new.winners.items) ≡ false) }
+    {
+        while self.is_first_given() {
+            self.draw_first()?;
+        }
+        Ok(())
+    }
+
+    // Draws from the lead that goes first, where it holds what has been given.
+    fn draw_first(&mut self) -> Result<(), AllocError>
+        requires { is_given self.old.last (first_held (map (λ l. option_map entry_of l.head) self.old.leads.items) self.old.winners.items) ≡ true }
+        ensures same { ⟦<Merge<'a, F> as Coming>⟧.coming self.new ≡ ⟦<Merge<'a, F> as Coming>⟧.coming self.old }
+        ensures fewer { OnOk result (sum_by (λ l. length (listed l.head (F.coming l.feed))) self.new.leads.items
+            < sum_by (λ l. length (listed l.head (F.coming l.feed))) self.old.leads.items) }
+    {
+        let lead = winner(&self.winners, 1);
+        self.leads[lead].draw()?;
+        replay(&self.leads, &mut self.winners, lead);
+        Ok(())
+    }
+
+    // Whether what the first lead holds has been given.
+    fn is_first_given(&self) -> bool
+        ensures { result ≡ is_given self.now.last (first_held (map (λ l. option_map entry_of l.head) self.now.leads.items) self.now.winners.items) }
+    {
+        match (self.last, self.first()) {
+            (Some(last), Some(first)) => Occurrence::compare(&last, &first).is_eq(),
+            _ => false,
+        }
+    }
+
+    // What the lead that goes first holds.
+    fn first(&self) -> Option<Occurrence<'a>>
+        ensures { option_map entry_of result ≡ first_held (map (λ l. option_map entry_of l.head) self.now.leads.items) self.now.winners.items }
+    {
+        self.leads.get(winner(&self.winners, 1))?.head
+    }
+}
+
+impl<'a, F: Holding> Merge<'a, F> {
+    /// How many built occurrences are held, or the greatest number where that is less: the one that
+    /// was given last, of each feed the one that is drawn, and those that the feed holds.
+    pub(crate) fn held(&self) -> usize
+        ensures { result ≡ min (length (listed self.now.last (flat_map (λ l. listed l.head (F.holds l.feed)) self.now.leads.items))) (2 ^ 64 - 1) }
+    {
+        let mut held = usize::from(self.last.is_some());
+        for lead in &self.leads {
+            held = held.saturating_add(lead.held());
+        }
+        held
+    }
+
+    /// How many periods of rules the feeds have looked at, or the greatest number where that is less.
+    pub(crate) fn steps(&self) -> u64
+        ensures { result ≡ min (sum_by (λ l. F.looked l.feed) self.now.leads.items) (2 ^ 64 - 1) }
+    {
+        let mut steps: u64 = 0;
+        for lead in &self.leads {
+            steps = steps.saturating_add(lead.feed.steps());
+        }
+        steps
+    }
+}

@@ -1,0 +1,56 @@
+//! The feeds that an agenda merges.
+use crate::feed::{Coming, Feed};
+use crate::holding::Holding;
+use crate::occurrence::Occurrence;
+use crate::series::Series;
+use crate::singles::Singles;
+use std::alloc::AllocError;
+
+/// A feed of an agenda: the occurrences of the events that start once, or those of a master that
+/// recurs.
+#[derive(Drop)]
+pub(crate) enum Part<'a> {
+    Singles(Singles<'a>),
+    Series(Box<Series<'a>>),
+}
+
+impl<'a> Coming for Part<'a> {
+    ghost use Rattle.ics_series.specs.Parts.{part_coming};
+
+    ghost coming = { part_coming };
+}
+
+impl<'a> Holding for Part<'a> {
+    ghost use Rattle.ics_series.specs.Holding.{part_holds, part_looked};
+
+    ghost holds = { part_holds };
+
+    ghost looked = { part_looked };
+
+    fn held(&self) -> usize {
+        match self {
+            Part::Singles(singles) => Holding::held(singles),
+            Part::Series(series) => Holding::held(&**series),
+        }
+    }
+
+    fn steps(&self) -> u64 {
+        match self {
+            Part::Singles(singles) => Holding::steps(singles),
+            Part::Series(series) => Holding::steps(&**series),
+        }
+    }
+}
+
+impl<'a> Feed<'a> for Part<'a> {
+    ghost use Rattle.ics_series.specs.declared.part.Part.TheVariants as part;
+
+    ghost rises = { elim [ part.Singles s ↦ s.rising | part.Series s ↦ s.value.rising ] };
+
+    fn next(&mut self) -> Result<Option<Occurrence<'a>>, AllocError> {
+        match self {
+            Part::Singles(singles) => singles.next(),
+            Part::Series(series) => series.next(),
+        }
+    }
+}

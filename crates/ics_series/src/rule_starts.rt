@@ -1,0 +1,261 @@
+//! The starts that the rule of an event gives, read one UTC day at a time.
+ghost use Rattle.std.specs.Prelude.{◌≡◌, ◌<◌, ◌≤◌, ◌+◌, ◌<ℤ◌, ◌≤ℤ◌, ◌+ℤ◌, ◌-ℤ◌, ◌&&◌, ◌||◌, pos, neg_ℤ, true, int_lt, Some};
+ghost use Rattle.std.specs.VecDeque.{deque_len, deque_capacity};
+ghost use Rattle.ics_values.specs.Days.{IsDayNumber};
+ghost use Rattle.ics_rule.specs.Cursors.{place_of, IsCursorOf};
+ghost use Rattle.ics_rule.specs.Kept.{is_kept};
+ghost use Rattle.ics_rule.specs.Locals.{number};
+ghost use Rattle.ics_series.specs.Clocks.{instant, midnight};
+ghost use Rattle.ics_series.specs.Found.{moment_cmp, start_at};
+ghost use Rattle.ics_series.specs.Rising.{Rises};
+ghost use Rattle.ics_series.specs.RuleStarts.{gives, is_behind, is_ready, lets_until, midnight_number, with_held, AreHeld, AreReadable, HasLookedTo};
+ghost use Rattle.ics_series.specs.RuleStartLaws.{cursor-prop, held-prop, looked-prop, readable-prop, rule-prop, starts-prop};
+ghost use Rattle.ics_series.specs.Starts.{local_of, recurrence_of, time_at};
+ghost use Rattle.ics_series.specs.Zones.{clocks_in, IsReadable};
+
+use crate::queue::put_in;
+use crate::start::{Start, local_of};
+use crate::starts::{end_nearby, is_until, of_calendar, start_at};
+use crate::window::Window;
+use crate::zones::FileZones;
+use ics_calendar::Event;
+use ics_rule::{Cursor, Rule};
+use ics_values::{Local, Moment};
+use std::alloc::{AllocError, Global};
+use std::collections::VecDeque;
+
+/// The starts that a rule gives before a window's end. All locals before the midnight of `day` are
+/// read; those of their starts that are not given out yet are held.
+#[derive(Drop)]
+pub(crate) struct RuleStarts<'a> {
+    zones: FileZones<'a>,
+    event: &'a Event,
+    window: Window,
+    rule: Rule,
+    /// Where the cursor began.
+    from: Local,
+    cursor: Cursor,
+    day: i32,
+    /// No period was looked at for a local from this day on: `day` or, while that is read, the next.
+    asked: i32,
+    /// No local from this day on has an instant before the window's end.
+    end: i32,
+    held: VecDeque<Start>,
+    ghost of: { recurrence_of event.now ≡ Some rule } by { rule-prop (recurrence_of event.now) (Some rule) },
+    ghost rises: { Rises moment_cmp held.items } by { starts-prop held.items },
+    ghost are: { AreHeld (clocks_in zones) event.now rule window asked held.items } by { held-prop (clocks_in zones) event.now rule window asked held.items },
+    ghost own: { IsCursorOf rule cursor } by { cursor-prop rule cursor },
+    ghost looked: { HasLookedTo rule from asked cursor } by { looked-prop rule from asked cursor },
+    ghost readable: { AreReadable zones.zones.now event.now rule end } by { readable-prop zones.zones.now event.now rule end },
+    ghost first: { number rule.start ≡ number (local_of event.now.start.stamp) },
+    ghost read: { midnight_number day ≤ place_of cursor },
+    ghost low: { neg_ℤ (pos 719_528) ≤ℤ day },
+    ghost asked_on: { day ≤ℤ asked },
+    ghost asked_soon: { asked ≤ℤ (day +ℤ pos 1) },
+    ghost asked_end: { asked ≤ℤ end },
+    ghost early: { midnight_number end ≤ 309_289_708_800 },
+    ghost after: { (window.to +ℤ pos 172_800) <ℤ midnight end },
+    ghost soon: { midnight end ≤ℤ (window.to +ℤ pos 345_600) },
+}
+
+// Whether a rule lets an instant through that a local means, and it lies before the window's end.
+fn is_let_through(rule: &Rule, window: Window, first: Local, local: Local, moment: Moment) -> bool
+    requires first { IsDayNumber first.day }
+    requires local { IsDayNumber local.day }
+    requires start { number rule.now.start ≡ number first }
+    ensures { result ≡ (lets_until rule.now (number local) moment && int_lt moment window.to) }
+{
+    let first = local == first;
+    let until = is_until(rule.until_moment(), moment);
+    let early = moment < window.to;
+    (first | until) & early
+}
+
+// Holds the start that a kept local gives, unless one at its instant is held.
+fn hold(
+    held: &mut VecDeque<Start>,
+    zones: FileZones<'_>,
+    event: &Event,
+    rule: &Rule,
+    window: Window,
+    local: Local,
+)
+    requires room { deque_len held.old < deque_capacity held.old }
+    requires rises { Rises moment_cmp held.old.items }
+    requires readable { IsReadable zones.zones.now (time_at event.now.start local) }
+    requires kept { is_kept rule.now (number local) ≡ true }
+    requires day { IsDayNumber local.day }
+    requires first { number rule.now.start ≡ number (local_of event.now.start.stamp) }
+    ensures { held.new.items ≡ with_held (gives (clocks_in zones.entry) event.now rule.now window (number local)) (start_at (clocks_in zones.entry) event.now local) held.old.items }
+{
+    let start = start_at(zones, event, local);
+    if is_let_through(
+        rule,
+        window,
+        local_of(event.start.stamp),
+        local,
+        start.moment,
+    ) {
+        put_in(held, start);
+    }
+}
+
+// Whether the first of what is held comes two days or more before a day's midnight: so it does
+// before all that later locals give.
+fn is_ready(day: i32, held: &VecDeque<Start>) -> bool
+    ensures { result ≡ is_ready day held.now.items }
+{
+    match held.front() {
+        None => false,
+        Some(first) => first.moment <= i64::from(day) * 86_400 - 2 * 86_400,
+    }
+}
+
+impl<'a> RuleStarts<'a> {
+    ghost use Rattle.std.specs.Prelude.{◌≡◌, ◌+◌, ◌-◌, ◌<◌, ◌≤ℤ◌, false, length, slice_get, IfOk, OnOk, Some};
+    ghost use Rattle.ics_values.specs.Days.{day_index};
+    ghost use Rattle.ics_rule.specs.Cursors.{looks_from, period_count, steps_of};
+    ghost use Rattle.ics_series.specs.HeldMost.{most_in_days};
+    ghost use Rattle.ics_series.specs.Listing.{IsIn};
+    ghost use Rattle.ics_series.specs.Merged.{cut};
+    ghost use Rattle.ics_series.specs.RuleFeed.{starts_left, HasSameSource};
+    ghost use Rattle.ics_series.specs.RuleStarts.{bound_of, found, steps_left};
+    ghost use Rattle.ics_series.specs.Zones.{asked, AreReached, IsReadableEvent};
+
+    /// The starts by the locals from one on.
+    pub(crate) fn new(
+        alloc: Global,
+        zones: FileZones<'a>,
+        event: &'a Event,
+        window: Window,
+        rule: Rule,
+        from: Local,
+    ) -> Self
+        requires event { IsReadableEvent zones event.now }
+        requires reached { AreReached zones.zones.now (asked window event.now) }
+        requires rule { recurrence_of event.now ≡ Some rule }
+        requires from { IsDayNumber from.day }
+        ensures left { starts_left result ≡ found (clocks_in zones.entry) event.entry.now rule window (number from) }
+        ensures zones { result.zones ≡ zones.entry }
+        ensures event { result.event ≡ event.entry }
+        ensures window { result.window ≡ window }
+        ensures rule { result.rule ≡ rule }
+        ensures from { result.from ≡ from }
+    {
+        let end = end_nearby(&window).day;
+        let day = from.day.min(end);
+        RuleStarts {
+            zones,
+            event,
+            window,
+            rule,
+            from,
+            cursor: Cursor::at(&rule, from),
+            day,
+            asked: day,
+            end,
+            held: VecDeque::new(alloc),
+        }
+    }
+
+    // Whether a day more has to be read before the first start still to come is known.
+    fn is_behind(&self) -> bool
+        ensures { result ≡ is_behind self.now.day self.now.end self.now.held.items }
+    {
+        self.day < self.end && !is_ready(self.day, &self.held)
+    }
+
+    // How far the cursor is asked next: where nothing is held to the end, else a day on.
+    fn bound(&self) -> i32
+        requires { self.now.day <ℤ self.now.end }
+        ensures { result ≡ bound_of self.now.day self.now.end self.now.held.items }
+    {
+        if self.held.is_empty() {
+            self.end
+        } else {
+            self.day + 1
+        }
+    }
+
+    // Reads on to the next kept local or, where a start is held, to the end of the day at most.
+    fn read_on(&mut self) -> Result<(), AllocError>
+        requires { is_behind self.old.day self.old.end self.old.held.items ≡ true }
+        ensures same { starts_left self.new ≡ starts_left self.old }
+        ensures source { HasSameSource self.old self.new }
+        ensures less { OnOk result (steps_left self.new.day self.new.end (place_of self.new.cursor) < steps_left self.old.day self.old.end (place_of self.old.cursor)) }
+    {
+        let bound = self.bound();
+        // The room is taken before the cursor goes on, so that no local is lost.
+        self.held.reserve(1)?;
+        match self.cursor.next(&self.rule, Local::at(bound, 0)) {
+            None => {
+                self.day = bound;
+                self.asked = bound;
+            }
+            Some(local) => {
+                let local = of_calendar(local);
+                self.day = local.day;
+                self.asked = local.day + 1;
+                hold(
+                    &mut self.held,
+                    self.zones,
+                    self.event,
+                    &self.rule,
+                    self.window,
+                    local,
+                );
+            }
+        }
+        Ok(())
+    }
+
+    /// The first of the starts still to come, None where there is none.
+    pub(crate) fn peek(&mut self) -> Result<Option<Start>, AllocError>
+        ensures same { starts_left self.new ≡ starts_left self.old }
+        ensures source { HasSameSource self.old self.new }
+        ensures first { IfOk result (λ given. given ≡ slice_get (starts_left self.new) 0) }
+        ensures ready { OnOk result (is_behind self.new.day self.new.end self.new.held.items ≡ false) }
+    {
+        while self.is_behind() {
+            self.read_on()?;
+        }
+        Ok(self.held.front().copied())
+    }
+
+    /// Lets the first of the starts still to come go, where it begins at the instant of this one.
+    /// `peek` has answered.
+    pub(crate) fn pass(&mut self, start: &Start)
+        requires { is_behind self.old.day self.old.end self.old.held.items ≡ false }
+        ensures left { starts_left self.new ≡ cut moment_cmp start.now (starts_left self.old) }
+        ensures source { HasSameSource self.old self.new }
+    {
+        if let Some(first) = self.held.front() {
+            if first.moment == start.moment {
+                self.held.pop_front();
+            }
+        }
+    }
+
+    /// How many starts are held. They lie in the five UTC days of which the fourth begins at the
+    /// midnight of `asked`, and are no more than the event has in any five.
+    pub(crate) fn held(&self) -> usize
+        ensures count { result ≡ length self.now.held.items }
+        ensures rise { Rises moment_cmp self.now.held.items }
+        ensures days { AreHeld (clocks_in self.now.zones) self.now.event.now self.now.rule self.now.window self.now.asked self.now.held.items }
+        ensures most { result ≤ most_in_days (clocks_in self.now.zones) self.now.event.now }
+    {
+        self.held.len()
+    }
+
+    /// How many periods of the rule were looked at: at most those that hold a local from the first
+    /// on, under COUNT from DTSTART on, and before the midnight of `asked`. That lies no more than
+    /// three days past each start still to come, and no more than four past the window's end.
+    pub(crate) fn steps(&self) -> u64
+        ensures count { result ≡ steps_of self.now.cursor }
+        ensures most { result ≤ period_count self.now.rule (looks_from self.now.rule.parts.count (number self.now.rule.start) (number self.now.from)) (midnight_number self.now.asked) }
+        ensures near { (s : Start) → IsIn s (starts_left self.now) → (midnight self.now.asked -ℤ pos 259_200) ≤ℤ s.moment }
+        ensures end { midnight self.now.asked ≤ℤ (self.now.window.to +ℤ pos 345_600) }
+    {
+        self.cursor.steps()
+    }
+}

@@ -1,0 +1,296 @@
+//! The occurrences of one event that meet a window, found as they are asked for.
+ghost use Rattle.std.specs.Prelude.{◌≡◌, map, slice_get, All, IfOk, MatchOption, None, OnOk};
+ghost use Rattle.std.specs.List.Sorted.{IsSorted};
+ghost use Rattle.std.specs.Ordering.{int_cmp};
+ghost use Rattle.ics_calendar.specs.Event.{IsEvent, IsEventOf};
+ghost use Rattle.ics_series.specs.Entry.{entry_cmp};
+ghost use Rattle.ics_series.specs.EntryLaws.{Rises-prop};
+ghost use Rattle.ics_series.specs.Found.{moment_cmp, IsStart};
+ghost use Rattle.ics_series.specs.Merged.{cut};
+ghost use Rattle.ics_series.specs.Rising.{Rises};
+ghost use Rattle.ics_series.specs.RuleFeed.{starts_left};
+ghost use Rattle.ics_series.specs.SeriesLaws.{event-prop, known-prop, own-rule-prop, reached-prop, ruled-prop, sound-prop, taken-out-prop};
+ghost use Rattle.ics_series.specs.SeriesStarts.{earlier_of, first_asked, first_of, given_of, is_among, left, listed_apart, rule_left, AreKnown, AreTakenOut, HasOwnRule, HasRuled, HasSameRule, IsReady, IsRuleFrom};
+ghost use Rattle.ics_series.specs.Zones.{asked, clocks_in, AreReached, IsReadableEvent};
+ghost use Rattle.ics_zone.specs.Tables.{phases_of};
+
+use crate::exclusion::Exclusions;
+use crate::feed::{Coming, Feed};
+use crate::holding::Holding;
+use crate::listed::push_listed;
+use crate::listed_starts::ListedStarts;
+use crate::met::{begins_after, shown};
+use crate::occurrence::Occurrence;
+use crate::rule_starts::RuleStarts;
+use crate::start::{Start, kind_of, local_of};
+use crate::starts::{earliest, first_nearby, start_at};
+use crate::window::Window;
+use crate::zones::FileZones;
+use ics_calendar::Event;
+use ics_rule::Rule;
+use ics_values::Moment;
+use std::alloc::{AllocError, Global};
+
+/// The occurrences of an event that meet a window and begin at an instant or later, but for those
+/// that overrides name.
+#[derive(Drop)]
+pub(crate) struct Series<'a> {
+    zones: FileZones<'a>,
+    event: &'a Event,
+    window: Window,
+    since: Moment,
+    exclusions: Exclusions,
+    // The instants that overrides name, in order.
+    overridden: Vec<Moment>,
+    rule_starts: Option<RuleStarts<'a>>,
+    // The starts by RDATEs and, where there is no rule, that at DTSTART.
+    listed: ListedStarts,
+    ghost in_order: { IsSorted int_cmp overridden.items },
+    ghost sound: { IsEvent event.now } by { sound-prop event.now },
+    ghost own: { IsEventOf (map phases_of zones.zones.now) event.now } by { event-prop (map phases_of zones.zones.now) event.now },
+    ghost reached: { AreReached zones.zones.now (asked window event.now) } by { reached-prop zones.zones.now (asked window event.now) },
+    ghost taken_out: { AreTakenOut (clocks_in zones) event.now window exclusions.instants.items exclusions.days.items } by { taken-out-prop (clocks_in zones) event.now window exclusions.instants.items exclusions.days.items },
+    ghost known: { AreKnown (clocks_in zones) event.now window (left rule_starts listed) } by { known-prop (clocks_in zones) event.now window (left rule_starts listed) },
+    ghost ruled: { HasRuled (clocks_in zones) event.now rule_starts (given_of (clocks_in zones) window event.now since overridden.items (left rule_starts listed)) } by { ruled-prop (clocks_in zones) event.now rule_starts (given_of (clocks_in zones) window event.now since overridden.items (left rule_starts listed)) },
+    ghost own_rule: { HasOwnRule zones event.now window (first_of (clocks_in zones) window event.now since) rule_starts } by { own-rule-prop zones event.now window (first_of (clocks_in zones) window event.now since) rule_starts },
+    ghost rising: { Rises entry_cmp (given_of (clocks_in zones) window event.now since overridden.items (left rule_starts listed)) } by { Rises-prop (given_of (clocks_in zones) window event.now since overridden.items (left rule_starts listed)) },
+}
+
+// The starts that are known from the first: those by RDATEs and, where there is no rule, that at
+// DTSTART. A rule keeps DTSTART.
+fn listed_apart(
+    alloc: Global,
+    zones: FileZones<'_>,
+    event: &Event,
+    window: &Window,
+) -> Result<Vec<Start>, AllocError>
+    requires event { IsReadableEvent zones event.now }
+    requires reached { AreReached zones.zones.now (asked window.now event.now) }
+    ensures { IfOk result (λ starts. starts.items ≡ listed_apart (clocks_in zones.entry) window.now event.now event.now.rule) }
+{
+    let mut starts = Vec::new(alloc);
+    if event.rule.is_none() {
+        starts.push(start_at(zones, event, local_of(event.start.stamp)))?;
+    }
+    push_listed(&mut starts, zones, event, window)?;
+    Ok(starts)
+}
+
+// The starts that the rule of an event gives, if it has one: those from an instant on and, where the
+// event is long, earlier ones that can still meet the window.
+fn starts_by_rule<'a>(
+    alloc: Global,
+    zones: FileZones<'a>,
+    event: &'a Event,
+    window: Window,
+    since: Moment,
+    listed: &[Start],
+) -> Option<RuleStarts<'a>>
+    requires event { IsReadableEvent zones event.now }
+    requires reached { AreReached zones.zones.now (asked window event.now) }
+    requires listed { All (IsStart (clocks_in zones) event.now) listed.now }
+    ensures own { HasOwnRule zones.entry event.entry.now window (first_asked (clocks_in zones.entry) window event.entry.now since listed.entry.now) result }
+    ensures from { MatchOption result (event.entry.now.rule ≡ None)
+        (λ starts. IsRuleFrom (clocks_in zones.entry) event.entry.now window since listed.entry.now (starts_left starts)) }
+{
+    let parts = event.rule?;
+    let first = local_of(event.start.stamp);
+    let rule = Rule::new(parts, first, kind_of(event.start.stamp));
+    let earliest = earliest(zones, event, &window, listed);
+    // All instants so late after the window's end count as one: none of its days is read for them.
+    let late = window.to + 14 * 86_400;
+    let from = first_nearby(first, earliest.max(since.min(late)));
+    Some(RuleStarts::new(alloc, zones, event, window, rule, from))
+}
+
+// The first of the starts that a rule still gives.
+fn peek_rule(rule: &mut Option<RuleStarts<'_>>) -> Result<Option<Start>, AllocError>
+    ensures same { rule_left rule.new ≡ rule_left rule.old }
+    ensures rule { HasSameRule rule.old rule.new }
+    ensures first { IfOk result (λ given. given ≡ slice_get (rule_left rule.new) 0) }
+    ensures ready { OnOk result (IsReady rule.new) }
+{
+    match rule {
+        None => Ok(None),
+        Some(starts) => starts.peek(),
+    }
+}
+
+// Lets the first of these go, where it begins at the instant of this one.
+fn pass_rule(rule: &mut Option<RuleStarts<'_>>, start: &Start)
+    requires { IsReady rule.old }
+    ensures left { rule_left rule.new ≡ cut moment_cmp start.now (rule_left rule.old) }
+    ensures rule { HasSameRule rule.old rule.new }
+{
+    if let Some(starts) = rule {
+        starts.pass(start);
+    }
+}
+
+// Which of two starts goes first: at one instant that by the rule.
+fn earlier_of(ruled: Option<Start>, listed: Option<Start>) -> Option<Start>
+    ensures { result ≡ earlier_of ruled listed }
+{
+    match (ruled, listed) {
+        (Some(a), Some(b)) => {
+            if b.moment < a.moment {
+                Some(b)
+            } else {
+                Some(a)
+            }
+        }
+        (Some(a), None) => Some(a),
+        (None, listed) => listed,
+    }
+}
+
+// Whether an instant is one of some in order.
+fn is_among(instants: &[Moment], moment: Moment) -> bool
+    requires { IsSorted int_cmp instants.now }
+    ensures { result ≡ is_among instants.now moment }
+{
+    instants.binary_search(&moment).is_ok()
+}
+
+impl<'a> Series<'a> {
+    ghost use Rattle.std.specs.Prelude.{length, IfOk, OnErr};
+    ghost use Rattle.std.specs.Option.{option_map};
+    ghost use Rattle.ics_series.specs.Entry.{entry_of};
+    ghost use Rattle.ics_series.specs.Holding.{rule_held, rule_looked};
+    ghost use Rattle.ics_series.specs.Listing.{IsListing};
+    ghost use Rattle.ics_series.specs.SeriesFeed.{series_left, series_of, IsSameSeries};
+    ghost use Rattle.ics_series.specs.SeriesStarts.{wanted_by, IsHeldCount, IsKnown, IsSeriesMet, IsStepCount, IsTaken};
+
+    /// The occurrences of an event from an instant on, but for those at the instants that overrides
+    /// name, which are in order.
+    pub(crate) fn new(
+        alloc: Global,
+        zones: FileZones<'a>,
+        event: &'a Event,
+        window: Window,
+        since: Moment,
+        overridden: Vec<Moment>,
+    ) -> Result<Series<'a>, AllocError>
+        requires own { IsEventOf (map phases_of zones.zones.now) event.now }
+        requires reached { AreReached zones.zones.now (asked window event.now) }
+        requires order { IsSorted int_cmp overridden.items }
+        ensures { IfOk result (λ series. IsListing entry_cmp
+            (IsSeriesMet (clocks_in zones.entry) event.entry.now window since overridden.items)
+            (⟦<Series<'a> as Coming>⟧.coming series)) }
+    {
+        if begins_after(event, &window) {
+            return Ok(Series {
+                zones,
+                event,
+                window,
+                since,
+                exclusions: Exclusions::none(alloc),
+                overridden,
+                rule_starts: None,
+                listed: ListedStarts::none(alloc),
+            });
+        }
+        let exclusions = Exclusions::new(alloc, zones, event, &window)?;
+        let listed = listed_apart(alloc, zones, event, &window)?;
+        let rule_starts = starts_by_rule(alloc, zones, event, window, since, &listed);
+        Ok(Series {
+            zones,
+            event,
+            window,
+            since,
+            exclusions,
+            overridden,
+            rule_starts,
+            listed: ListedStarts::new(alloc, listed)?,
+        })
+    }
+
+    // Takes the first start still to come.
+    fn take(&mut self) -> Result<Option<Start>, AllocError>
+        ensures taken { IfOk result (λ given. IsTaken (series_left self.old) given (series_left self.new)) }
+        ensures err { OnErr result (series_left self.new ≡ series_left self.old) }
+        ensures same { IsSameSeries self.old self.new }
+    {
+        let ruled = peek_rule(&mut self.rule_starts)?;
+        let first = earlier_of(ruled, self.listed.peek());
+        if let Some(start) = first {
+            pass_rule(&mut self.rule_starts, &start);
+            self.listed.pass(&start);
+        }
+        Ok(first)
+    }
+
+    // The occurrence with a start, if it is wanted.
+    fn wanted(&self, start: Start) -> Option<Occurrence<'a>>
+        requires { IsKnown (clocks_in self.now.zones) self.now.event.now self.now.window start }
+        ensures { option_map entry_of result ≡ wanted_by (clocks_in self.now.zones) self.now.window self.now.event.now self.now.since self.now.overridden.items start }
+    {
+        if start.moment < self.since || is_among(&self.overridden, start.moment) {
+            return None;
+        }
+        shown(
+            self.zones,
+            self.event,
+            &self.exclusions,
+            start,
+            &self.window,
+        )
+    }
+
+    /// How many starts of its rule are held.
+    pub(crate) fn held(&self) -> usize
+        ensures count { result ≡ length (rule_held self.now.rule_starts) }
+        ensures held { MatchOption self.now.rule_starts (result ≡ 0) (λ starts. IsHeldCount starts result) }
+    {
+        match &self.rule_starts {
+            None => 0,
+            Some(starts) => starts.held(),
+        }
+    }
+
+    /// How many periods of its rule were looked at.
+    pub(crate) fn steps(&self) -> u64
+        ensures count { result ≡ rule_looked self.now.rule_starts }
+        ensures steps { MatchOption self.now.rule_starts (result ≡ 0) (λ starts. IsStepCount (clocks_in self.now.zones) self.now.event.now starts (series_of self.now (series_left self.now)) result) }
+    {
+        match &self.rule_starts {
+            None => 0,
+            Some(starts) => starts.steps(),
+        }
+    }
+}
+
+impl<'a> Coming for Series<'a> {
+    ghost use Rattle.ics_series.specs.SeriesFeed.{series_left, series_of};
+
+    ghost coming = { λ series. series_of series (series_left series) };
+}
+
+impl<'a> Holding for Series<'a> {
+    ghost use Rattle.ics_series.specs.Holding.{rule_looked, series_holds};
+
+    ghost holds = { series_holds };
+
+    ghost looked = { λ series. rule_looked series.rule_starts };
+
+    fn held(&self) -> usize {
+        Series::held(self)
+    }
+
+    fn steps(&self) -> u64 {
+        Series::steps(self)
+    }
+}
+
+impl<'a> Feed<'a> for Series<'a> {
+    ghost rises = { λ series. series.rising };
+
+    fn next(&mut self) -> Result<Option<Occurrence<'a>>, AllocError> {
+        while let Some(start) = self.take()? {
+            if let Some(occurrence) = self.wanted(start) {
+                return Ok(Some(occurrence));
+            }
+        }
+        Ok(None)
+    }
+}

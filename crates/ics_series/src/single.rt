@@ -1,0 +1,111 @@
+//! The occurrence of an event that starts once.
+ghost use Rattle.std.specs.Prelude.{◌≡◌, ◌<ℤ◌, pos};
+ghost use Rattle.std.proofs.Props.{props};
+ghost use Rattle.ics_calendar.specs.declared.time.Rdate.TheVariants.{At};
+ghost use Rattle.ics_series.specs.Clocks.{instant};
+ghost use Rattle.ics_series.specs.ReadingLaws.{readable-prop};
+ghost use Rattle.ics_series.specs.Zones.{asked_at, clocks_in, AreReached, IsReadableEvent};
+
+use crate::finish::finish;
+use crate::instant::instant;
+use crate::met::begins_after;
+use crate::occurrence::Occurrence;
+use crate::start::{Giver, Start, local_of};
+use crate::window::Window;
+use crate::zones::FileZones;
+use ics_calendar::{Event, Rdate};
+use ics_values::Moment;
+use std::cmp::Ordering;
+
+/// The occurrence of an event at its DTSTART, but for its finish, which is found when the occurrence
+/// is given.
+#[derive(Clone, Copy)]
+pub(crate) struct Single<'a> {
+    start: Moment,
+    recurrence: Moment,
+    zones: FileZones<'a>,
+    event: &'a Event,
+    ghost readable: { IsReadableEvent zones event.now } by { readable-prop zones event.now },
+    ghost first: { start ≡ instant (clocks_in zones) event.now.start },
+    ghost early: { start <ℤ pos 247_091_126_400 },
+    ghost reached: { AreReached zones.zones.now (asked_at event.now start (At event.now.start)) } by { Prim.hlevel props },
+}
+
+impl<'a> Single<'a> {
+    ghost use Rattle.std.specs.Prelude.{map};
+    ghost use Rattle.std.specs.Option.{option_map};
+    ghost use Rattle.ics_calendar.specs.Event.{IsEventOf};
+    ghost use Rattle.ics_series.specs.Entry.{entry_cmp, entry_of};
+    ghost use Rattle.ics_series.specs.Found.{IsStart};
+    ghost use Rattle.ics_series.specs.Singles.{begun_first, single_entry};
+    ghost use Rattle.ics_series.specs.Zones.{asked};
+    ghost use Rattle.ics_zone.specs.Tables.{phases_of};
+
+    // What an event gives at its DTSTART, if that is before the window's end. It stands for the
+    // instance at `recurrence`, or for its own start.
+    pub(crate) fn begun(
+        zones: FileZones<'a>,
+        event: &'a Event,
+        recurrence: Option<Moment>,
+        window: &Window,
+    ) -> Option<Single<'a>>
+        requires own { IsEventOf (map phases_of zones.zones.now) event.now }
+        requires reached { AreReached zones.zones.now (asked window.now event.now) }
+        ensures { option_map single_entry result ≡ begun_first (clocks_in zones.entry) window.now event.entry.now recurrence }
+    {
+        if begins_after(event, window) {
+            return None;
+        }
+        let start = instant(zones, event.start);
+        if start >= window.to {
+            return None;
+        }
+        Some(Single {
+            start,
+            recurrence: recurrence.unwrap_or(start),
+            zones,
+            event,
+        })
+    }
+
+    // The occurrence, with its finish.
+    pub(crate) fn occurrence(&self) -> Occurrence<'a>
+        ensures { entry_of result ≡ single_entry self.now }
+    {
+        Occurrence {
+            start: self.start,
+            finish: finish(self.zones, self.event, self.first()),
+            recurrence: self.recurrence,
+            event: self.event,
+        }
+    }
+
+    // The start at DTSTART.
+    fn first(&self) -> Start
+        ensures start { IsStart (clocks_in self.now.zones) self.now.event.now result }
+        ensures moment { result.moment ≡ self.now.start }
+        ensures given { result.given ≡ Rdate.At self.now.event.now.start }
+    {
+        let event = self.event;
+        Start {
+            moment: self.start,
+            giver: Giver::Kept(local_of(event.start.stamp)),
+            given: Rdate::At(event.start),
+        }
+    }
+
+    // By start, then by the bytes of the UID, then by recurrence.
+    pub(crate) fn compare(a: &Single<'_>, b: &Single<'_>) -> Ordering
+        ensures { result ≡ entry_cmp (single_entry a.now) (single_entry b.now) }
+    {
+        let (one, other) = (a.event, b.event);
+        match a.start.cmp(&b.start) {
+            Ordering::Equal => one
+                .uid
+                .as_slice()
+                .cmp(other.uid.as_slice())
+                .then(a.recurrence.cmp(&b.recurrence)),
+            order => order,
+        }
+    }
+}

@@ -1,0 +1,173 @@
+//! The occurrences of a folder whose events start once.
+ghost use Rattle.std.specs.Prelude.{◌≡◌, filter, map, IfOk, IsSome};
+ghost use Rattle.std.specs.List.{filter_map};
+ghost use Rattle.std.specs.List.Sorted.{IsSorted};
+ghost use Rattle.std.specs.Option.{option_map};
+ghost use Rattle.std.specs.Ordering.{on};
+ghost use Rattle.std.specs.Vec.Iter.{into_iter_items};
+ghost use Rattle.ics_calendar.specs.Event.{said_by};
+ghost use Rattle.ics_series.specs.Clocks.{display_clock};
+ghost use Rattle.ics_series.specs.Entry.{entry_cmp, entry_of, key_rank};
+ghost use Rattle.ics_series.specs.EntryLaws.{Rises-prop};
+ghost use Rattle.ics_series.specs.Listing.{IsListing};
+ghost use Rattle.ics_series.specs.Rising.{Rises};
+ghost use Rattle.ics_series.specs.Singles.{is_single, is_to_come, single_at, single_entry, IsSingleToCome};
+ghost use Rattle.ics_series.specs.Spots.{event_at};
+ghost use Rattle.ics_series.specs.Versions.{is_override, seen, subject_cmp, subject_seen, AreChosen};
+ghost use Rattle.ics_series.specs.Zones.{IsReached};
+
+use crate::agenda::{is_after, is_kept};
+use crate::feed::{Coming, Feed};
+use crate::holding::Holding;
+use crate::key::Key;
+use crate::occurrence::Occurrence;
+use crate::single::Single;
+use crate::version::Version;
+use crate::window::Window;
+use ics_calendar::{Event, FileEvents};
+use ics_zone::Display;
+use std::alloc::{AllocError, Global};
+use std::vec::IntoIter;
+
+/// The occurrences to come of the events that start once, in the order of their keys. None is built
+/// before it is given.
+#[derive(Drop)]
+pub(crate) struct Singles<'a> {
+    rest: IntoIter<Single<'a>, Global>,
+    ghost rising: { Rises entry_cmp (map single_entry (into_iter_items rest)) } by { Rises-prop (map single_entry (into_iter_items rest)) },
+}
+
+impl<'a> Singles<'a> {
+    // Those that the versions that count give in the window, after a key only those that come after it.
+    pub(crate) fn new(
+        alloc: Global,
+        files: &'a [FileEvents],
+        display: &'a Display,
+        chosen: &[Version<'_>],
+        overrides: &[Version<'_>],
+        window: &Window,
+        after: Option<&Key>,
+    ) -> Result<Singles<'a>, AllocError>
+        requires reached { IsReached files.now window.now }
+        requires chosen { AreChosen (map said_by files.now) (display_clock display.now) chosen.now }
+        requires overrides { map seen overrides.now ≡ filter is_override (map seen chosen.now) }
+        ensures { IfOk result (λ singles. IsListing entry_cmp
+            (IsSingleToCome (map said_by files.entry.now) (display_clock display.entry.now) window.now
+            (option_map (λ key. key_rank key.now) after.entry))
+            (⟦<Singles<'a> as Coming>⟧.coming singles)) }
+    {
+        let mut singles = to_come(alloc, files, display, chosen, overrides, window, after)?;
+        singles.sort_unstable_by(Single::compare);
+        Ok(Singles {
+            rest: singles.into_iter(),
+        })
+    }
+}
+
+impl<'a> Coming for Singles<'a> {
+    ghost coming = { λ singles. map single_entry (into_iter_items singles.rest) };
+}
+
+impl<'a> Holding for Singles<'a> {
+    ghost use Rattle.std.specs.Prelude.{[]};
+
+    ghost holds = { λ singles. [] };
+
+    ghost looked = { λ singles. 0 };
+
+    fn held(&self) -> usize {
+        0
+    }
+
+    fn steps(&self) -> u64 {
+        0
+    }
+}
+
+impl<'a> Feed<'a> for Singles<'a> {
+    ghost rises = { λ singles. singles.rising };
+
+    /// Takes no memory.
+    fn next(&mut self) -> Result<Option<Occurrence<'a>>, AllocError> {
+        match self.rest.next() {
+            None => Ok(None),
+            Some(single) => Ok(Some(single.occurrence())),
+        }
+    }
+}
+
+// What the versions that count give of that, in the order of their subjects.
+fn to_come<'a>(
+    alloc: Global,
+    files: &'a [FileEvents],
+    display: &'a Display,
+    chosen: &[Version<'_>],
+    overrides: &[Version<'_>],
+    window: &Window,
+    after: Option<&Key>,
+) -> Result<Vec<Single<'a>>, AllocError>
+    requires reached { IsReached files.now window.now }
+    requires chosen { AreChosen (map said_by files.now) (display_clock display.now) chosen.now }
+    requires overrides { IsSorted (on (λ v. subject_seen v.subject) subject_cmp) overrides.now }
+    ensures { IfOk result (λ singles. map single_entry singles.items
+        ≡ filter_map (single_at (map said_by files.entry.now) (display_clock display.entry.now) window.now
+        (map seen overrides.entry.now) (option_map (λ key. key_rank key.now) after.entry)) (map seen chosen.entry.now)) }
+{
+    let mut singles = Vec::new(alloc);
+    for version in chosen {
+        if let Some(single) = given(files, display, version, overrides, window, after) {
+            singles.push(single)?;
+        }
+    }
+    Ok(singles)
+}
+
+// What a version gives of that.
+fn given<'a>(
+    files: &'a [FileEvents],
+    display: &'a Display,
+    version: &Version<'_>,
+    overrides: &[Version<'_>],
+    window: &Window,
+    after: Option<&Key>,
+) -> Option<Single<'a>>
+    requires there { IsSome (event_at (map said_by files.now) version.now.spot) }
+    requires reached { IsReached files.now window.now }
+    requires overrides { IsSorted (on (λ v. subject_seen v.subject) subject_cmp) overrides.now }
+    ensures { option_map single_entry result
+        ≡ single_at (map said_by files.entry.now) (display_clock display.entry.now) window.now
+        (map seen overrides.entry.now) (option_map (λ key. key_rank key.now) after.entry) (seen version.now) }
+{
+    let zones = version.spot.zones(files, display);
+    let event = version.spot.event(files);
+    if !is_single(event) {
+        return None;
+    }
+    let single = Single::begun(zones, event, version.subject.recurrence, window)?;
+    if is_to_come(&single.occurrence(), overrides, window, after) {
+        Some(single)
+    } else {
+        None
+    }
+}
+
+// Whether an event starts once: an override stands at its DTSTART alone.
+pub(crate) fn is_single(event: &Event) -> bool
+    ensures { result ≡ is_single event.now }
+{
+    event.recurrence.is_some()
+        || (event.rule.is_none() && event.rdates.is_empty() && event.exdates.is_empty())
+}
+
+// Whether an occurrence meets the window, comes after the key, and no override stands for it.
+fn is_to_come(
+    occurrence: &Occurrence<'_>,
+    overrides: &[Version<'_>],
+    window: &Window,
+    after: Option<&Key>,
+) -> bool
+    requires { IsSorted (on (λ v. subject_seen v.subject) subject_cmp) overrides.now }
+    ensures { result ≡ is_to_come window.now (map seen overrides.now) (option_map (λ key. key_rank key.now) after.entry) (entry_of occurrence.now) }
+{
+    window.is_met(occurrence) && is_after(after, occurrence) && is_kept(occurrence, overrides)
+}

@@ -1,0 +1,84 @@
+//! Which of several leads goes first.
+ghost use Rattle.std.specs.Prelude.{◌≡◌, ◌+◌, ◌<◌, All, IfOk, length, map};
+ghost use Rattle.std.specs.Option.{option_map};
+ghost use Rattle.std.specs.Ordering.{is_lt};
+ghost use Rattle.ics_series.specs.Entry.{entry_of};
+ghost use Rattle.ics_series.specs.Tournament.{above, first_below, lead_cmp, winner, AreSettled, AreSettledBut};
+
+use crate::feed::Coming;
+use crate::lead::Lead;
+use crate::occurrence::Occurrence;
+use std::alloc::{AllocError, Global};
+
+/// For each node of a tournament of the leads, which of those below it goes first.
+pub(crate) fn winners<'a, F: Coming>(
+    alloc: Global,
+    leads: &[Lead<'a, F>],
+) -> Result<Vec<usize>, AllocError>
+    ensures length { IfOk result (λ winners. length winners.items ≡ length leads.now) }
+    ensures leads { IfOk result (λ winners. All (λ lead. lead < length leads.now) winners.items) }
+    ensures settled { IfOk result (λ winners. AreSettled (map (λ l. option_map entry_of l.head) leads.now) winners.items) }
+{
+    let mut winners = vec![in alloc; 0; leads.len()]?;
+    for node in (1..leads.len()).rev() {
+        winners[node] = first_below(leads, &winners, node);
+    }
+    Ok(winners)
+}
+
+/// Plays again what stands above a lead, after it has drawn.
+pub(crate) fn replay<'a, F: Coming>(leads: &[Lead<'a, F>], winners: &mut [usize], lead: usize)
+    requires lead { lead < length leads.now }
+    requires length { length winners.old ≡ length leads.now }
+    requires leads { All (λ lead. lead < length leads.now) winners.old }
+    requires settled { AreSettledBut (above 1 (length leads.now + lead)) (map (λ l. option_map entry_of l.head) leads.now) winners.old }
+    ensures leads { All (λ lead. lead < length leads.now) winners.new }
+    ensures settled { AreSettled (map (λ l. option_map entry_of l.head) leads.now) winners.new }
+{
+    let mut node = (leads.len() + lead) / 2;
+    while node > 0 {
+        winners[node] = first_below(leads, winners, node);
+        node /= 2;
+    }
+}
+
+/// Which lead has won at a node.
+pub(crate) fn winner(winners: &[usize], node: usize) -> usize
+    ensures { result ≡ winner winners.now node }
+{
+    if node < winners.len() {
+        winners[node]
+    } else {
+        node - winners.len()
+    }
+}
+
+// Of the leads that have won at the two nodes below this one the one that goes first.
+fn first_below<'a, F: Coming>(leads: &[Lead<'a, F>], winners: &[usize], node: usize) -> usize
+    requires node { node < length winners.now }
+    requires length { length winners.now ≡ length leads.now }
+    requires leads { All (λ lead. lead < length leads.now) winners.now }
+    ensures lead { result < length leads.now }
+    ensures first { result ≡ first_below (map (λ l. option_map entry_of l.head) leads.now) winners.now node }
+{
+    let one = winner(winners, 2 * node);
+    let other = winner(winners, 2 * node + 1);
+    if goes_first(leads, one, other) {
+        one
+    } else {
+        other
+    }
+}
+
+// By what the leads hold, and where that is alike by their places.
+fn goes_first<'a, F: Coming>(leads: &[Lead<'a, F>], one: usize, other: usize) -> bool
+    requires one { one < length leads.now }
+    requires other { other < length leads.now }
+    ensures { result ≡ is_lt (lead_cmp (map (λ l. option_map entry_of l.head) leads.now) one other) }
+{
+    match (leads[one].head, leads[other].head) {
+        (Some(a), Some(b)) => Occurrence::compare(&a, &b).then(one.cmp(&other)).is_lt(),
+        (None, None) => one < other,
+        (head, _) => head.is_some(),
+    }
+}
