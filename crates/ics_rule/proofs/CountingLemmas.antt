@@ -76,18 +76,7 @@ counting_begins q start c stop number cursor (Some p) some e h late early own =
       looked = λ a b s few. few.few;
     }
 
-held_counting : (q : Filled) (start c stop number counted limit : ℕ) (o : Option Period)
-    → MatchOption o (number ≡ period_in q start) (λ p. IsPeriodOf q p × (IsCounted q start c counted limit p × ((p.number ≡ number) ⊎ (p.number + q.interval ≡ number))))
-    → MatchOption o (Unit {0}) (λ p. p.number ≤ period_in q stop) → HeldBy q o stop × MatchOption o (Unit {0}) (IsCounted q start c counted limit)
-held_counting q start c stop number counted limit None t h = (tt, tt)
-held_counting q start c stop number counted limit (Some p) t h = ((t.0, h), t.1.0)
-
 module _ (q : Filled) (start c stop number : ℕ) (before now : Cursor) (walk : IsCounting q start c stop number before now) where
-  -- what a walk leaves that finds nothing
-  pub counting_ended : IsWalked q start (Some c) stop None before now
-  counting_ended = let own = held_counting q start c stop number now.counted now.limit now.held walk.turn walk.high in
-      record { held = own.0; found = tt; moved = walk.moved; begun = walk.begun; steps = walk.steps; counted = own.1; looked = walk.looked }
-
   pub counting_ends : period_in q (stop - 1) < number → NoneWanted q start (Some c) before.place stop
   counting_ends past n l u = walk.none n l (let m = period_mono q.frequency (monday_zero q.week_start) n (stop - 1) (omega arith) in omega (arith, m))
 

@@ -132,9 +132,6 @@ looks_mono : (o : Option ℕ) (start a b : ℕ) → a ≤ b → looks_from o sta
 looks_mono None start a b h = h
 looks_mono (Some c) start a b h = omega arith
 
-pub looked_later : (q : Filled) (start : ℕ) (o : Option ℕ) (c : Cursor) (place a b : ℕ) → c.place ≤ place → HasLookedIn q start o c a b → HasLookedIn q start o (record c { place = place }) a b
-looked_later q start o c place a b l few = record { low = (let up = looks_mono o start c.place place l in omega (arith, few.low, up)); few = few.few }
-
 pub looked_walked : (q : Filled) (start : ℕ) (o : Option ℕ) (stop : ℕ) (found : Option ℕ) (before now : Cursor) (place a b : ℕ) → IsWalked q start o stop found before now → before.place ≤ place → stop ≤ b
     → HasLookedIn q start o before a b → HasLookedIn q start o (record now { place = place }) a b
 looked_walked q start o stop found before now place a b walked l s few = record { low = (let up = looks_mono o start before.place place l in omega (arith, few.low, up)); few = walked.looked a b s few }

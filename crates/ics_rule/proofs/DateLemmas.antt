@@ -23,38 +23,10 @@ lets_week-fields q e c f =
     ap (λ y. lets_place q.weeks ((c.year_day - 1) / 7 + 1) ((days_in_year (pos y) - 1 - (c.year_day - 1) % 7) / 7 + 1)) f.year
     ∙ ap (λ d. lets_place q.weeks ((d - 1) / 7 + 1) ((days_in_year (pos (year_of (fourth_day (monday_zero q.week_start) e))) - 1 - (d - 1) % 7) / 7 + 1)) f.year_day
 
--- a day by its fields
-pub lets_date-fields : (q : Filled) (e : ℕ) (c : Civil) → IsCivilOf c e →
-    (lets q.months c.month && lets_place q.month_days c.day (days_in_month (pos c.year) c.month)
-    && lets_wide_place q.year_days c.year_day (days_in_year (pos c.year)) && lets_week q e && lets_weekday q e) ≡ lets_date q e
-lets_date-fields q e c f =
-    ap (λ y. lets q.months c.month && lets_place q.month_days c.day (days_in_month (pos y) c.month) && lets_wide_place q.year_days c.year_day (days_in_year (pos y)) && lets_week q e && lets_weekday q e) f.year
-    ∙ ap (λ m. lets q.months m && lets_place q.month_days c.day (days_in_month (pos (year_of e)) m) && lets_wide_place q.year_days c.year_day (days_in_year (pos (year_of e))) && lets_week q e && lets_weekday q e) f.month
-    ∙ ap (λ d. lets q.months (month_of e) && lets_place q.month_days d (days_in_month (pos (year_of e)) (month_of e)) && lets_wide_place q.year_days c.year_day (days_in_year (pos (year_of e))) && lets_week q e && lets_weekday q e) f.day
-    ∙ ap (λ d. lets q.months (month_of e) && lets_place q.month_days (month_day_of e) (days_in_month (pos (year_of e)) (month_of e)) && lets_wide_place q.year_days d (days_in_year (pos (year_of e))) && lets_week q e && lets_weekday q e) f.year_day
-
 -- a conjunction fails at each of its parts
 pub out_1 : (a b c d e : Bool) → a ≡ false → (a && b && c && d && e) ≡ false
 out_1 true b c d e h = absurd (cc)
 out_1 false b c d e h = refl
-
-pub out_2 : (a b c d e : Bool) → b ≡ false → (a && b && c && d && e) ≡ false
-out_2 a true c d e h = absurd (cc)
-out_2 true false c d e h = refl
-out_2 false false c d e h = refl
-
-pub out_3 : (a b c d e : Bool) → c ≡ false → (a && b && c && d && e) ≡ false
-out_3 a b true d e h = absurd (cc)
-out_3 true true false d e h = refl
-out_3 true false false d e h = refl
-out_3 false b false d e h = refl
-
-pub out_4 : (a b c d e : Bool) → d ≡ false → (a && b && c && d && e) ≡ false
-out_4 a b c true e h = absurd (cc)
-out_4 true true true false e h = refl
-out_4 true true false false e h = refl
-out_4 true false c false e h = refl
-out_4 false b c false e h = refl
 
 pub out_5 : (a b c d e : Bool) → e ≡ false → (a && b && c && d && e) ≡ false
 out_5 a b c d true h = absurd (cc)

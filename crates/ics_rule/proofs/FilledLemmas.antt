@@ -1,14 +1,10 @@
 -- What filling a rule leaves as it was; a candidate by its parts.
-use Rattle.std.proofs.Common.{◌≡◌, ℕ, ◌+◌, ◌*◌, ◌/◌, ◌%◌, Bool, true, false, ◌&&◌, refl, ap, ◌∙◌, arith}
+use Rattle.std.proofs.Common.{◌≡◌, ℕ, ◌+◌, ◌*◌, ◌/◌, ◌%◌, Bool, ◌&&◌, ap, ◌∙◌, arith}
 use Rattle.ics_rule.specs.declared.filled.Filled.{Filled}
 use Rattle.ics_rule.specs.Recurrence.{Recurrence}
 use Rattle.ics_rule.specs.Locals.{number}
 use Rattle.ics_rule.specs.Filled.{filled}
 use Rattle.ics_rule.specs.Candidates.{is_candidate, is_candidate_in, in_step, lets_date, lets_clock}
-
-pub filled-positions : (r : Recurrence) → (filled r).positions ≡ r.parts.positions
-unfolding filled
-filled-positions r = refl
 
 -- the three tests together
 pub candidate_by_parts : (r : Recurrence) (q : Filled) (n s m : ℕ) (a b k : Bool) → q ≡ filled r → n ≡ m → s ≡ number r.start
@@ -22,17 +18,3 @@ candidate_by_parts r q n s m a b k eq en es ea eb ek =
     ∙ ap (λ q. is_candidate_in q s n) eq
     ∙ ap (λ s. is_candidate_in (filled r) s n) es
     ∙ ap (λ n. is_candidate_in (filled r) (number r.start) n) en
-
-pub all_three : (a b k : Bool) → a ≡ true → b ≡ true → k ≡ (a && b && k)
-all_three true true k p q = refl
-all_three true false k p q = absurd (cc)
-all_three false b k p q = absurd (cc)
-
-pub first_out : (a b k : Bool) → a ≡ false → a ≡ (a && b && k)
-first_out true b k p = absurd (cc)
-first_out false b k p = refl
-
-pub second_out : (a b k : Bool) → a ≡ true → b ≡ false → b ≡ (a && b && k)
-second_out true true k p q = absurd (cc)
-second_out true false k p q = refl
-second_out false b k p q = absurd (cc)

@@ -9,6 +9,7 @@ pub mod ScanLemmas
 pub mod RankLemmas
 pub mod StepLemmas
 pub mod ChosenLemmas
+pub mod CallLemmas
 pub mod CursorLemmas
 pub mod NextLemmas
 pub mod CountLemmas

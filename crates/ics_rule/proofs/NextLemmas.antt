@@ -1,5 +1,5 @@
 -- What a rule keeps: the start, and of the later locals that it has those that UNTIL lets through.
-use Rattle.std.proofs.Common.{◌≡◌, ℕ, suc, ◌+◌, ◌-◌, ◌*◌, ◌/◌, ◌<◌, ◌≤◌, ◌⊎◌, inl, inr, Bool, true, false, cond, ◌&&◌, ◌||◌, ◌==◌, nat_le, nat_lt, min, max, Some, None, Option, MatchOption, refl, sym, ap, ◌∙◌, arith}
+use Rattle.std.proofs.Common.{◌≡◌, ℕ, suc, ◌+◌, ◌-◌, ◌<◌, ◌≤◌, ◌⊎◌, inl, inr, Bool, true, false, cond, ◌&&◌, ◌||◌, ◌==◌, nat_lt, min, max, Some, None, Option, MatchOption, refl, ap, ◌∙◌, arith}
 use Rattle.std.proofs.lemmas.Bool.Decides.{nat_tests}
 use Rattle.ics_rule.specs.Recurrence.{Recurrence}
 use Rattle.ics_rule.specs.Locals.{number, rules_end}
@@ -8,33 +8,6 @@ use Rattle.ics_rule.specs.Kept.{count, is_chosen, is_kept, is_in_rule, is_until,
 use Rattle.ics_rule.specs.Searches.{is_few, is_wanted, NoneWanted, IsNextBefore}
 use Rattle.ics_rule.specs.Next.{NoneKept, IsNextKept}
 use Rattle.ics_rule.proofs.Counts.{count-suc, count-add, count-none, count-same}
-
--- the last local of a day, as a test
-pub day_end : (n d : ℕ) → nat_le (n / 86_400) d ≡ nat_lt n ((d + 1) * 86_400)
-day_end n d = iff (nat_le (n / 86_400) d) (nat_lt n ((d + 1) * 86_400)) (λ h. lt_shown _ _ (let f = le_fact _ _ h in omega (arith, f))) (λ h. le_shown _ _ (let f = lt_fact _ _ h in omega (arith, f)))
-  where
-    iff : (a b : Bool) → (a ≡ true → b ≡ true) → (b ≡ true → a ≡ true) → a ≡ b
-    iff true b p q = sym (p refl)
-    iff false true p q = q refl
-    iff false false p q = refl
-
-    le_fact : (a b : ℕ) → nat_le a b ≡ true → a ≤ b
-    le_fact a b h = grind (arith, nat_tests)
-
-    le_shown : (a b : ℕ) → a ≤ b → nat_le a b ≡ true
-    le_shown a b h = grind (arith, nat_tests)
-
-    lt_fact : (a b : ℕ) → nat_lt a b ≡ true → a < b
-    lt_fact a b h = grind (arith, nat_tests)
-
-    lt_shown : (a b : ℕ) → a < b → nat_lt a b ≡ true
-    lt_shown a b h = grind (arith, nat_tests)
-
-pub local_end : (n l : ℕ) → nat_le n l ≡ nat_lt n (l + 1)
-local_end n l = grind (arith, nat_tests)
-
-pub all_early : (n end : ℕ) → n < end → true ≡ nat_lt n end
-all_early n end h = grind (arith, nat_tests)
 
 unequal : (a b : ℕ) → (a < b) ⊎ (b < a) → (a == b) ≡ false
 unequal a b h = grind (arith, nat_tests)

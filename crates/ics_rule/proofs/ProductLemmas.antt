@@ -45,10 +45,6 @@ whole_days b e n h = let f = day_facts (b * 86_400) (e * 86_400) n h in (omega (
 days_whole : (b e n : ℕ) → b * 86_400 ≤ n → n < e * 86_400 → day_test (b * 86_400) (e * 86_400) n ≡ true
 days_whole b e n h l = day_shown (b * 86_400) (e * 86_400) n (omega arith) (omega arith)
 
-all_free : (d : Bool) → d ≡ (d && (true && true && true))
-all_free true = refl
-all_free false = refl
-
 abbrev span_test : Frequency → ℕ → ℕ → ℕ → Bool
 span_test f b e n = day_test b e n && ((skips_hours f || (n / 3_600 % 24 == b / 3_600 % 24)) && (skips_minutes f || (n / 60 % 60 == b / 60 % 60)) && (skips_seconds f || (n % 60 == b % 60)))
 

@@ -76,9 +76,6 @@ module _ (k : ℕ) (some : 0 < k) where
       | inr later ↦ and_first (A (m / k)) (B (m % k)) (rest (m / k) later)
     ]
 
-    pub none_low : ((m : ℕ) → 0 ≤ m → B m ≡ false) → (m : ℕ) → (A (m / k) && B (m % k)) ≡ false
-    none_low rest m = and_second (A (m / k)) (B (m % k)) (rest (m % k) (omega arith))
-
     -- what is left where the block of the place is done
     pub block_out : (x : ℕ) → A (x / k) ≡ false → (m : ℕ) → x ≤ m → m / k ≡ x / k → (A (m / k) && B (m % k)) ≡ false
     block_out x a m low same = and_first (A (m / k)) (B (m % k)) (ap A same ∙ a)
@@ -226,19 +223,6 @@ no_day p day skipped e none m low = elim (by_order m p.first_day) [
   where
     by_order : (a b : ℕ) → (a < b) ⊎ (b ≤ a)
     by_order a b = grind arith
-
--- a place passes exactly where it is the next that does
-pub next_is_own : (test : ℕ → Bool) (place n : ℕ) → IsLeastFrom test place n → (n == place) ≡ test place
-next_is_own test place n next = elim (same_or_not n place) [
-  | inl same ↦ self_test n place same ∙ sym (ap test (sym same) ∙ next.passes)
-  | inr other ↦ apart_test n place other ∙ sym (next.least place (omega arith) (omega (arith, next.low)))
-]
-  where
-    self_test : (a b : ℕ) → a ≡ b → (a == b) ≡ true
-    self_test a b h = grind (arith, nat_tests)
-
-    apart_test : (a b : ℕ) → a ≢ b → (a == b) ≡ false
-    apart_test a b h = grind (arith, nat_tests)
 
 pub minute_true : (hours minutes m : ℕ) (a b : Bool) → m ≤ 1440 → a ≡ (nat_lt (m / 60) 64 && has hours (m / 60)) → b ≡ (nat_lt (m % 60) 64 && has minutes (m % 60)) → has_minute hours minutes m ≡ (a && b)
 minute_true hours minutes m a b h ea eb =

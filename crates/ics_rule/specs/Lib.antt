@@ -7,5 +7,6 @@ pub mod Dates
 pub mod Kept
 pub mod Periods
 pub mod Next
+pub mod Calls
 pub mod Cursors
 pub mod Searches

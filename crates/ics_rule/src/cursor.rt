@@ -63,7 +63,7 @@ impl Cursor {
     ghost use Rattle.ics_rule.specs.Candidates.{period_in};
     ghost use Rattle.ics_rule.specs.Periods.{first_local, IsPeriodOf};
     ghost use Rattle.ics_rule.specs.Next.{IsNextKept, NoneKept};
-    ghost use Rattle.std.specs.Option.{option_map};
+    ghost use Rattle.ics_rule.specs.Calls.{IsAnswer, LooksUpTo};
     ghost use Rattle.ics_rule.specs.Cursors.{known_to, period_count, place_of, steps_of, looks_from, IsCursorOf, HasCounted, HasLooked, IsCursorIn, HasLookedIn};
     ghost use Rattle.ics_rule.specs.Searches.{NoneWanted, IsNextWanted, IsNextBefore, IsWalked, after_look};
 
@@ -188,13 +188,10 @@ impl Cursor {
         requires bound { IsDayNumber before.day }
         requires early { number before ≤ 309289708800 }
         requires own { IsCursorOf rule.now self.old }
-        ensures next { MatchOption result
-            (NoneKept rule.now (place_of self.old) (number before) × (place_of self.new ≡ max (place_of self.old) (number before)))
-            (λ local. IsNextKept rule.now (place_of self.old) (number before) (number local) × (place_of self.new ≡ number local + 1)) }
+        ensures next { IsAnswer rule.now (number before) result self.old self.new }
         ensures own { IsCursorOf rule.now self.new }
         ensures counted { HasCounted rule.now result self.old self.new }
-        ensures looked { (a b : ℕ) → known_to (option_map number result) (number before) ≤ b → HasLooked rule.now self.old a b
-            → HasLooked rule.now self.new a b }
+        ensures looked { LooksUpTo rule.now (number before) result self.old self.new }
     {
         let n = self.next_number(rule, number(rule.start), number(before))?;
         Some(local_of(n))

@@ -5,6 +5,7 @@ ghost use Rattle.jiff_core.specs.IsoWeek.{weeks_in_year};
 ghost use Rattle.jiff_core.specs.declared.civil.iso_week_date.ISOWeekDate.{ISOWeekDate};
 ghost use Rattle.ics_values.specs.Days.{year_of, weekday_of};
 ghost use Rattle.ics_rule.specs.Recurrence.{Recurrence};
+ghost use Rattle.ics_rule.specs.Calls.{FewSteps};
 ghost use Rattle.ics_rule.specs.Locals.{number, week_of};
 ghost use Rattle.ics_rule.specs.Candidates.{fourth_day, week_number, weeks_of_year};
 ghost use Rattle.ics_rule.specs.IsoWeeks.{IsDay};
@@ -16,6 +17,12 @@ pub fn kept_locals()
     ensures least { (r : Recurrence) (n : ℕ) → n < number r.start → is_kept r n ≡ false }
     ensures members { (r : Recurrence) (n : ℕ) → is_kept r n ≡ true → is_in_rule r n ≡ true }
     ensures count { (r : Recurrence) (c n : ℕ) → r.parts.count ≡ Some c → 1 ≤ c → count n (is_kept r) ≤ c }
+{}
+
+/// After any calls of `next` with bounds up to one a cursor has looked at no more periods of its rule than hold a local from its first place
+/// on, under COUNT from the start on, and earlier than that bound.
+pub fn few_steps()
+    ensures { FewSteps }
 {}
 
 /// A week belongs to the year of its fourth day. The weeks of a year are numbered one after the other, and week 1 is the first with four

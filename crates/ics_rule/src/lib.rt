@@ -19,5 +19,5 @@ mod walk;
 
 pub use cursor::Cursor;
 pub use kind::Kind;
-pub use laws::{kept_locals, numbered_weeks, weeks_from_monday, weeks_of_a_year};
+pub use laws::{few_steps, kept_locals, numbered_weeks, weeks_from_monday, weeks_of_a_year};
 pub use rule::Rule;

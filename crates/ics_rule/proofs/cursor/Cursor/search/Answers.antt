@@ -1,4 +1,4 @@
-use Rattle.std.proofs.Common.{◌+◌, arith}
+use Rattle.std.proofs.Common.{arith}
 use Rattle.ics_rule.specs.Filled.{filled}
 use Rattle.ics_rule.proofs.CursorLemmas.{own_at, own_walked, own_found, looked_found, looked_walked, counts_look, never_fewer}
 use Rattle.ics_rule.proofs.cursor.Cursor.search.Goals as goal
