@@ -1,5 +1,5 @@
 -- Laws of counting, by which places and counts are found without walking each second.
-use Rattle.std.proofs.Common.{◌≡◌, ℕ, zero, suc, ◌+◌, ◌-◌, ◌*◌, ◌/◌, ◌%◌, ◌<◌, ◌≤◌, Bool, true, false, ◌&&◌, cond, refl, sym, ap, ◌∙◌, arith, ◌≢◌}
+use Rattle.std.proofs.Common.{◌≡◌, ℕ, zero, suc, ◌+◌, ◌-◌, ◌*◌, ◌/◌, ◌%◌, ◌<◌, ◌≤◌, Bool, true, false, ◌&&◌, cond, refl, ap, ◌∙◌, arith}
 use Rattle.std.proofs.lemmas.Nat.{div-mul-add, mod-mul-add}
 use Rattle.ics_rule.specs.Kept.{count}
 
@@ -51,28 +51,6 @@ count-product (suc d) b p q =
     let block = count-same b (λ k. p ((d * b + k) / b) && q ((d * b + k) % b)) (λ k. p d && q k)
     (λ k l. ap (λ x. p x && q ((d * b + k) % b)) (div-mul-add d b k l) ∙ ap (λ x. p d && q x) (mod-mul-add d b k l)) in
     omega (arith, one_more d b (λ m. p (m / b) && q (m % b)), count-product d b p q, block, count-all (p d) b q, ap (λ x. x * count b q) (count-suc d p))
-
--- of b numbers only t can pass
-only_one : (b t : ℕ) (p : ℕ → Bool) → t < b → ((k : ℕ) → k < b → k ≢ t → p k ≡ false) → count b p ≡ cond (p t) 1 0
-unfolding count
-only_one b t p l h =
-    let e : b ≡ t + suc (b - t - 1) = omega arith in
-    let front = count-none t p (λ m lt. h m (omega arith) (omega arith)) in
-    let same : t + 0 ≡ t = omega arith in
-    let one = count-add t 1 p in
-    let back = count-none (b - t - 1) (λ k. p (t + 1 + k)) (λ m lt. h (t + 1 + m) (omega arith) (omega arith)) in
-    let all = count-add (t + 1) (b - t - 1) p in
-    let f : t + 1 + (b - t - 1) ≡ b = omega arith in
-    let whole = rw f at all in
-    let single : count 1 (λ k. p (t + k)) ≡ cond (p t) 1 0 = rw same (omega arith) in
-    omega (arith, whole, one, front, back, single)
-
--- a test that only one clock reading passes is counted by days
-pub count-once : (d b t : ℕ) (p : ℕ → Bool) → t < b → ((m : ℕ) → m % b ≢ t → p m ≡ false) → count (d * b) p ≡ count d (λ e. p (e * b + t))
-count-once zero b t p l h = let e : 0 * b ≡ 0 = omega arith in rw e (unfold count in refl)
-count-once (suc d) b t p l h =
-    let block = only_one b t (λ k. p (d * b + k)) l (λ k lt ne. h (d * b + k) (λ e. ne (sym (mod-mul-add d b k lt) ∙ e))) in
-    omega (arith, one_more d b p, count-once d b t p l h, block, count-suc d (λ e. p (e * b + t)))
 
 -- more of the numbers, more that pass
 count_one : (b : Bool) → b ≡ true → ◌≡◌ {A = ℕ} (cond b 1 0) 1

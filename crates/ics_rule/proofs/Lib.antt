@@ -17,9 +17,6 @@ pub mod CountingLemmas
 pub mod Samples
 pub mod Examples
 pub mod KeptLemmas
-pub mod Counted
-pub mod Placed
-pub mod LastWeekday
 pub mod DayWalkLemmas
 pub mod LawLemmas
 pub mod IsoWeeks

@@ -1,5 +1,5 @@
 -- Rules and locals to try the definitions on.
-use Rattle.std.proofs.Common.{ℕ, Bool, ◌+◌, ◌-◌, ◌*◌, ◌%◌, pos, ◌-ℤ◌, set, arith}
+use Rattle.std.proofs.Common.{ℕ, ◌+◌, ◌-◌, ◌*◌, ◌%◌, pos, ◌-ℤ◌, set, arith}
 use Rattle.jiff_core.specs.Calendar.{days_of_months}
 use Rattle.ics_values.specs.declared.local.Local.{Local}
 use Rattle.ics_values.specs.declared.places.Weekdays.{Weekdays}
@@ -8,9 +8,6 @@ use Rattle.ics_values.specs.Places.{no_places, no_weekdays}
 use Rattle.ics_values.specs.Sets.{only}
 use Rattle.ics_values.specs.Days.{days_before_year}
 use Rattle.ics_rule.specs.declared.kind.Kind.{Kind}
-use Rattle.ics_rule.specs.Locals.{number}
-use Rattle.ics_rule.specs.Filled.{filled}
-use Rattle.ics_rule.specs.Kept.{is_beside, rank, size}
 use Rattle.ics_rule.specs.Recurrence.{Recurrence}
 
 -- weekdays without numbers, as a set
@@ -22,9 +19,6 @@ mo = 0
 
 abbrev pub tu : ℕ
 tu = 1
-
-abbrev pub th : ℕ
-th = 3
 
 abbrev pub fr : ℕ
 fr = 4
@@ -51,13 +45,3 @@ local y m d h i = record { day = pos (date y m d) -ℤ pos 719_528; second = (h 
 
 abbrev pub rule : RuleParts → Local → Kind → Recurrence
 rule p l k = record { parts = p; start = l; kind = k }
-
--- the candidates beside a local, its rank and its period's size
-abbrev pub beside : Recurrence → ℕ → ℕ → Bool
-beside r n m = is_beside (filled r) (number r.start) n m
-
-abbrev pub rank_in : Recurrence → ℕ → ℕ
-rank_in r n = rank (filled r) (number r.start) n
-
-abbrev pub size_in : Recurrence → ℕ → ℕ
-size_in r n = size (filled r) (number r.start) n
