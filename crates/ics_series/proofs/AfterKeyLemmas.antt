@@ -13,7 +13,7 @@ use Rattle.std.proofs.lemmas.Cmp.{int_cmp_total, nat_list_cmp_total}
 use Rattle.std.proofs.lemmas.Int.{ints}
 use Rattle.ics_series.specs.Entry.{Entry, Rank}
 use Rattle.ics_series.specs.Masters.{IsSince}
-use Rattle.ics_series.specs.MetList.{is_after}
+use Rattle.ics_series.specs.After.{is_after}
 
 -- the answers turned round
 then-turned : (a b : Ordering) → ordering_then (ordering_reverse a) (ordering_reverse b) ≡ ordering_reverse (ordering_then a b)

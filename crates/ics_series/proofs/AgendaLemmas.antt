@@ -11,11 +11,11 @@ use Rattle.ics_series.specs.declared.window.Window.{Window}
 use Rattle.ics_series.specs.Clocks.{Clock}
 use Rattle.ics_series.specs.Entry.{Entry, Rank, entry_cmp}
 use Rattle.ics_series.specs.Meets.{IsToCome}
-use Rattle.ics_series.specs.MetList.{given_cmp, subject_from}
 use Rattle.ics_series.proofs.MasterLemmas.{second-equal}
 use Rattle.ics_series.proofs.OccursLemmas.{one-recurrence}
 use Rattle.ics_series.proofs.ToComeLemmas.{come-listed}
 use Rattle.ics_series.proofs.VersionLemmas.{subject_total}
+use Rattle.ics_series.proofs.GivenLemmas.{given_cmp, subject_from}
 
 pub given_total : IsTotalOrder given_cmp
 given_total = then_total (on_total subject_from subject_total) (on_total (λ e. e.start) int_cmp_total)

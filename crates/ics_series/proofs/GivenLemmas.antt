@@ -1,21 +1,48 @@
 -- What the versions that count give in a window, one version after the other.
 use Rattle.std.specs.Prelude.{slice_get, IsSome}
-use Rattle.std.proofs.Common.{◌≡◌, ℕ, ◌<◌, List, [], ◌∷◌, map, length, get_or, Option, Some, None, inl, inr, ⊎_elim, refl, sym, ◌∙◌, ap, subst}
+use Rattle.std.proofs.Common.{◌≡◌, ℕ, ℤ, ◌<◌, List, [], ◌∷◌, map, length, get_or, Option, Some, None, inl, inr, ⊎_elim, refl, sym, ◌∙◌, ap, subst}
 use Rattle.std.specs.Option.{option_and_then, option_map}
+use Rattle.std.specs.Ordering.{int_cmp, on, then_cmp}
+use Rattle.std.specs.declared.cmp.Ordering.{Ordering}
 use Rattle.std.proofs.lemmas.List.Elements.{Contains-get_or}
 use Rattle.ics_calendar.specs.Event.{FileSaid}
 use Rattle.ics_calendar.specs.declared.event.Event.{Event}
 use Rattle.ics_calendar.specs.declared.time.Time.{Time}
 use Rattle.ics_series.specs.declared.version.Version.{Version}
-use Rattle.ics_series.specs.Chosen.{overridden, subject_by, SubjectSeen}
+use Rattle.ics_series.specs.Chosen.{overridden, subject_by, IsChosen, SubjectSeen}
 use Rattle.ics_series.specs.Clocks.{Clock, Clocks, instant}
 use Rattle.ics_series.specs.Entry.{Entry}
 use Rattle.ics_series.specs.Listing.{IsIn}
-use Rattle.ics_series.specs.MetList.{subject_from, IsGivenBy}
-use Rattle.ics_series.specs.Placed.{Placed, IsPlaced}
+use Rattle.ics_series.specs.declared.window.Window.{Window}
+use Rattle.ics_series.specs.Meets.{Meets}
+use Rattle.ics_series.specs.Occurs.{IsMoved, IsOf}
+use Rattle.ics_series.specs.Placed.{Placed, IsPlaced, clocks_at}
 use Rattle.ics_series.specs.Spots.{event_at}
-use Rattle.ics_series.specs.Versions.{label_of, seen, spot_of, AreChosen, Label}
+use Rattle.ics_series.specs.Versions.{label_of, seen, spot_of, subject_cmp, AreChosen, Label}
 use Rattle.ics_series.proofs.SortLemmas.{in-contains}
+
+-- what an event gives: a master each of its own occurrences, an override that of the instance for which it stands
+abbrev pub IsGivenBy : Clocks → Event → Option ℤ → Entry → Type 0
+IsGivenBy clocks event None o = IsOf clocks event o
+IsGivenBy clocks event (Some recurrence) o = IsMoved clocks event o × (o.recurrence ≡ recurrence)
+
+-- what a version that counts gives, and that meets the window
+pub record IsGiven (files : List FileSaid) (display : Clock) (w : Window) (o : Entry) : Type 0 where
+  pub by : Placed
+  pub chosen : IsChosen files display by
+  pub is : IsGivenBy (clocks_at files display by.file) by.event (overridden (clocks_at files display by.file) by.event) o × Meets w o
+
+-- the subject of what gave an occurrence
+abbrev pub subject_from : Entry → SubjectSeen
+subject_from o = record { uid = o.event.uid; recurrence = option_map (λ time. o.recurrence) o.event.recurrence }
+
+-- by start
+abbrev pub entry_start_cmp : Entry → Entry → Ordering
+entry_start_cmp = on (λ e. e.start) int_cmp
+
+-- by subject, then by start
+abbrev pub given_cmp : Entry → Entry → Ordering
+given_cmp = then_cmp (on subject_from subject_cmp) entry_start_cmp
 
 -- The events that stand there.
 pub placed-event : (files : List FileSaid) (p : Placed) → IsPlaced files p → event_at files (spot_of p) ≡ Some p.event

@@ -1,5 +1,5 @@
 -- Where one value more stands in a rising list.
-use Rattle.std.proofs.Common.{◌≡◌, ℕ, zero, suc, ◌<◌, List, [], ◌∷◌, get_or, drop, length, ◌⊎◌, inl, inr, refl, ◌∙◌, ap, arith}
+use Rattle.std.proofs.Common.{◌≡◌, ℕ, zero, suc, ◌<◌, List, [], ◌∷◌, get_or, drop, length, inl, inr, refl, ◌∙◌, ap, arith}
 use Rattle.std.specs.Cmp.{IsTotalOrder}
 use Rattle.std.specs.List.{insert}
 use Rattle.std.specs.Ordering.{ordering_reverse}
@@ -9,7 +9,6 @@ use Rattle.ics_series.specs.Listing.{IsIn}
 use Rattle.ics_series.specs.Rising.{IsBefore, Rises}
 use Rattle.ics_series.specs.Merged.{by_order, put, union}
 use Rattle.ics_series.specs.MergedLaws.{before-put}
-use Rattle.ics_series.proofs.UnionLemmas.{in-union}
 
 module _ {A : Type 0} (R : A → A → Ordering) (o : IsTotalOrder R) where
   pub before-all : (x : A) (ys : List A) → ((y : A) → IsIn y ys → R x y ≡ Less) → IsBefore R x ys
@@ -23,10 +22,6 @@ module _ {A : Type 0} (R : A → A → Ordering) (o : IsTotalOrder R) where
   pub before-union : (x : A) (ys zs : List A) → IsBefore R x ys → IsBefore R x zs → IsBefore R x (union R ys zs)
   before-union x [] zs h k = k
   before-union x (y ∷ ys) zs h k = before-put R o x y (union R ys zs) h.0 (before-union x ys zs h.1 k)
-
-  pub union-none : (xs : List A) → Rises R xs → union R xs [] ≡ xs
-  union-none [] r = refl
-  union-none (x ∷ xs) r = ap (put R x) (union-none xs r.1) ∙ put-before x xs r.0
 
   -- what comes before all of a rising list stands before it
   pub one-first : (s : A) (xs : List A) → Rises R xs → IsBefore R s xs → union R xs (s ∷ []) ≡ s ∷ xs
@@ -61,12 +56,3 @@ module _ {A : Type 0} (R : A → A → Ordering) (o : IsTotalOrder R) where
       ap (put R x) (one-first s xs r.1 h) ∙ ap (λ c. by_order c (x ∷ s ∷ xs) (x ∷ xs) (s ∷ put R x xs)) tied
   one-tied s (x ∷ xs) (suc i) d r l same h =
       ap (put R x) (one-tied s xs i d r.1 (omega arith) same h) ∙ put-before x xs r.0
-
-  -- what stands in a list stays there with one more, unless it is tied with that
-  pub stays-or-tied : (e s : A) (xs : List A) → IsIn e xs → IsIn e (put R s xs) ⊎ (R s e ≡ Equal)
-  stays-or-tied e s xs m = by (R e s) refl
-    where
-      by : (c : Ordering) → R e s ≡ c → IsIn e (put R s xs) ⊎ (R s e ≡ Equal)
-      by Less p = inl (in-union R o e (s ∷ []) xs (tt, tt) (inr (((λ t. cc), tt), m)))
-      by Equal p = inr (o.antisymm s e ∙ ap ordering_reverse p)
-      by Greater p = inl (in-union R o e (s ∷ []) xs (tt, tt) (inr (((λ t. cc), tt), m)))

@@ -16,19 +16,11 @@ use Rattle.ics_series.specs.SeriesStarts.{earlier_of}
 use Rattle.ics_series.specs.Starts.{IsNotAfter}
 use Rattle.ics_series.proofs.BeginsLemmas.{cut-before, cut-union, front-union, put-front, union-front}
 use Rattle.ics_series.proofs.FirstLemmas.{int-less, moment_total, tied-moment}
-use Rattle.ics_series.proofs.ListingLemmas.{before-in}
 use Rattle.ics_series.proofs.MeetingLemmas.{less-true, true-less}
 use Rattle.ics_series.proofs.RuleDayLemmas.{less-start}
-use Rattle.ics_series.proofs.PutMemberLemmas.{itself-put, member-put}
+use Rattle.ics_series.proofs.UnionLemmas.{in-union, itself-put, member-put}
 
 module _ {A : Type 0} (R : A → A → Ordering) (o : IsTotalOrder R) where
-  -- what stands in the first of two lists stands in their union
-  pub member-union : (e : A) (xs ys : List A) → Rises R xs → IsIn e xs → IsIn e (union R xs ys)
-  member-union e [] ys r m = absurd m
-  member-union e (x ∷ xs) ys r m =
-      ⊎_elim (λ s. subst (λ y. IsIn y (put R x (union R xs ys))) (sym s) (itself-put R o x (union R xs ys)))
-      (λ n. ⊎_elim (λ k. k) (λ tied. let less = before-in R o x e xs r.0 n in absurd cc) (member-put R o e x (union R xs ys) (member-union e xs ys r.1 n))) m
-
   member-cut-by : (e x : A) (xs : List A) (c : Ordering) → (c ≡ Equal → e ≡ x → ⊥) → IsIn e (x ∷ xs) → IsIn e (by_order c (x ∷ xs) xs (x ∷ xs))
   member-cut-by e x xs Less n m = m
   member-cut-by e x xs Equal n m = ⊎_elim (λ s. absurd (n refl s)) (λ k. k) m
@@ -117,4 +109,4 @@ union-has [] ys giver t early h = h
 union-has (x ∷ xs) ys giver t early h = put-has x (union moment_cmp xs ys) giver t (early x (inl refl)) (union-has xs ys giver t (λ y m. early y (inr m)) h)
 
 pub has-union : (xs ys : List Start) (giver : Giver) (t : ℤ) → Rises moment_cmp xs → HasStart xs giver t → HasStart (union moment_cmp xs ys) giver t
-has-union xs ys giver t r h = record { start = h.start; stands = member-union moment_cmp moment_total h.start xs ys r h.stands; same = h.same; earlier = h.earlier }
+has-union xs ys giver t r h = record { start = h.start; stands = in-union moment_cmp moment_total h.start xs ys r (inl h.stands); same = h.same; earlier = h.earlier }

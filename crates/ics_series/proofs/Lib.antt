@@ -39,7 +39,6 @@ pub mod PickLemmas
 pub mod PlacedLemmas
 pub mod PushLemmas
 pub mod PutLemmas
-pub mod PutMemberLemmas
 pub mod ReachLemmas
 pub mod RecurringLemmas
 pub mod RuleDayLemmas

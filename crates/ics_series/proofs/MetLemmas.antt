@@ -19,8 +19,7 @@ use Rattle.ics_series.specs.Found.{is_shown, met_by, moment_cmp, shown_by, HasSt
 use Rattle.ics_series.specs.Listing.{IsIn, IsListing}
 use Rattle.ics_series.specs.Rising.{IsBefore, Rises}
 use Rattle.ics_series.specs.Meeting.{entry_from, is_met}
-use Rattle.ics_series.specs.Meets.{Meets}
-use Rattle.ics_series.specs.MetList.{entry_start_cmp, IsEventMet}
+use Rattle.ics_series.specs.Meets.{Meets, IsEventMet}
 use Rattle.ics_series.specs.Starts.{time_of, GivesStart, IsNotAfter}
 use Rattle.ics_series.specs.Zones.{clocks_in}
 use Rattle.ics_series.proofs.FirstLemmas.{moment_total, same-moment}
@@ -30,6 +29,7 @@ use Rattle.ics_series.proofs.ListingLemmas.{before-in}
 use Rattle.ics_series.proofs.MasterLemmas.{same-entry}
 use Rattle.ics_series.proofs.MeetingLemmas.{shown-met}
 use Rattle.ics_series.proofs.StartLaws.{giver-late}
+use Rattle.ics_series.proofs.GivenLemmas.{entry_start_cmp}
 
 -- Whether the occurrence with a start is shown.
 module _ (clocks : Clocks) (w : Window) (event : Event) (s : Start) where
@@ -73,10 +73,6 @@ module _ (clocks : Clocks) (w : Window) (event : Event) (s : Start) where
 abbrev pub picked : Clocks → Event → (Entry → Bool) → List Start → List Entry
 picked clocks event test starts =
     filter_map (λ s. if test (entry_from clocks event s.given) then Some (entry_from clocks event s.given) else None) starts
-
--- those that are shown
-abbrev pub met : Clocks → Window → Event → List Start → List Entry
-met clocks w event starts = filter_map (shown_by clocks w event) starts
 
 -- of a strictly rising list two that tie are one
 one-of-tied : (x y : Start) (xs : List Start) → Rises moment_cmp xs → IsIn x xs → IsIn y xs → x.moment ≡ y.moment → x ≡ y

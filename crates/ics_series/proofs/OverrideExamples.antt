@@ -11,7 +11,8 @@ use Rattle.ics_calendar.specs.declared.time.Length.TheVariants.{Open}
 use Rattle.ics_series.specs.Chosen.{overridden, SubjectSeen}
 use Rattle.ics_series.specs.Clocks.{Clocks, clocks_of}
 use Rattle.ics_series.specs.Entry.{Entry, Rank, rank_of}
-use Rattle.ics_series.specs.MetList.{is_after, is_kept}
+use Rattle.ics_series.specs.Overridden.{is_kept}
+use Rattle.ics_series.specs.After.{is_after}
 use Rattle.ics_series.specs.Versions.{subject_cmp, Label}
 
 -- five hours behind UTC

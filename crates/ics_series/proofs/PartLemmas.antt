@@ -14,14 +14,13 @@ use Rattle.ics_series.specs.Listing.{IsIn, IsListing}
 use Rattle.ics_series.specs.Masters.{AreLists, HasLists, IsOneOf, Recurs}
 use Rattle.ics_series.specs.Meets.{IsListed, IsToCome}
 use Rattle.ics_series.specs.Merged.{merged}
-use Rattle.ics_series.specs.MetList.{IsGivenBy}
 use Rattle.ics_series.specs.Placed.{clocks_at}
 use Rattle.ics_series.specs.Rising.{Rises}
 use Rattle.ics_series.specs.Singles.{is_single, IsSingleToCome}
 use Rattle.ics_series.specs.Versions.{label_of, seen, AreChosen, Label}
 use Rattle.ics_series.proofs.AfterLemmas.{listing-after_key}
 use Rattle.ics_series.proofs.AgendaLemmas.{one-key}
-use Rattle.ics_series.proofs.GivenLemmas.{map-in, placed-event}
+use Rattle.ics_series.proofs.GivenLemmas.{map-in, placed-event, IsGivenBy}
 use Rattle.ics_series.proofs.MergedMembers.{merged-listing, IsInOne}
 use Rattle.ics_series.proofs.RecurringLemmas.{recurring-master}
 use Rattle.ics_series.proofs.SinglesLemmas.{given-event, singles-whole}

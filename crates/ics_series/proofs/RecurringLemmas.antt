@@ -17,9 +17,10 @@ use Rattle.ics_series.specs.Clocks.{Clock, Clocks, instant}
 use Rattle.ics_series.specs.Entry.{Entry, Rank, entry_cmp}
 use Rattle.ics_series.specs.Listing.{IsIn, IsListing}
 use Rattle.ics_series.specs.Masters.{IsOfVersion, IsSince, Recurs}
-use Rattle.ics_series.specs.MetList.{is_after, is_kept, IsEventMet, IsGiven, IsGivenBy}
+use Rattle.ics_series.specs.Meets.{IsEventMet}
+use Rattle.ics_series.specs.After.{is_after}
 use Rattle.ics_series.specs.Occurs.{IsOf}
-use Rattle.ics_series.specs.Overridden.{AreOverridden}
+use Rattle.ics_series.specs.Overridden.{AreOverridden, is_kept}
 use Rattle.ics_series.specs.Placed.{Placed, clocks_at}
 use Rattle.ics_series.specs.SeriesStarts.{IsSeriesMet}
 use Rattle.ics_series.specs.Singles.{is_single}
@@ -29,7 +30,7 @@ use Rattle.ics_series.specs.Versions.{is_named, label_of, seen, AreChosen, Label
 use Rattle.ics_series.specs.Zones.{asked, clocks_in, AreReached}
 use Rattle.ics_series.proofs.AfterKeyLemmas.{since-none}
 use Rattle.ics_series.proofs.FilterLemmas.{listing-filter}
-use Rattle.ics_series.proofs.GivenLemmas.{in-map, placed-event}
+use Rattle.ics_series.proofs.GivenLemmas.{in-map, placed-event, IsGiven, IsGivenBy}
 use Rattle.ics_series.proofs.GiverLemmas.{gives-value, rdate-time}
 use Rattle.ics_series.proofs.InstantLemmas.{late}
 use Rattle.ics_series.proofs.ToComeLemmas.{come-listed, is-after, listed-given, to-come}

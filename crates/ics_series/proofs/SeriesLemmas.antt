@@ -30,7 +30,7 @@ use Rattle.ics_series.specs.Found.{is_shown, moment_cmp, AreStartsSince, IsStart
 use Rattle.ics_series.specs.Listing.{IsIn, IsListing}
 use Rattle.ics_series.specs.Meeting.{entry_from}
 use Rattle.ics_series.specs.Merged.{cut, union}
-use Rattle.ics_series.specs.MetList.{entry_start_cmp, IsEventMet}
+use Rattle.ics_series.specs.Meets.{IsEventMet}
 use Rattle.ics_series.specs.Rising.{IsBefore, Rises}
 use Rattle.ics_series.specs.RuleFeed.{starts_left}
 use Rattle.ics_series.specs.RuleStarts.{gives, lets_until, midnight_number, moment_numbered}
@@ -46,6 +46,7 @@ use Rattle.ics_series.proofs.MeetingLemmas.{both-back, equal-true, le-true, met-
 use Rattle.ics_series.proofs.MetLemmas.{found-is, in-picked, is-found, listing-picked}
 use Rattle.ics_series.proofs.RuleLocalLemmas.{numbered-number, rule-first}
 use Rattle.ics_series.proofs.RuleStartLemmas.{rises-to_come}
+use Rattle.ics_series.proofs.GivenLemmas.{entry_start_cmp}
 
 -- Both kinds of starts rise.
 rises-drop : {A : Type 0} (R : A → A → Ordering) (n : ℕ) (xs : List A) → Rises R xs → Rises R (drop n xs)

@@ -25,10 +25,9 @@ use Rattle.ics_series.specs.Entry.{Entry, entry_cmp}
 use Rattle.ics_series.specs.Found.{earliest, is_until, listed_from, moment_cmp, start_at, start_by, AreFirsts, AreStartsSince, HasStart, IsSought}
 use Rattle.ics_series.specs.Listing.{IsIn, IsListing}
 use Rattle.ics_series.specs.Meeting.{entry_from}
-use Rattle.ics_series.specs.Meets.{Meets}
+use Rattle.ics_series.specs.Meets.{Meets, IsEventMet}
 use Rattle.ics_series.specs.Merged.{union}
 use Rattle.ics_series.specs.MergedLaws.{rises-union}
-use Rattle.ics_series.specs.MetList.{IsEventMet}
 use Rattle.ics_series.specs.Rising.{Rises}
 use Rattle.ics_series.specs.RuleFeed.{starts_left}
 use Rattle.ics_series.specs.RuleStarts.{found, found_in, gives, lets_until, local_numbered, moment_numbered, with_put}
@@ -48,7 +47,7 @@ use Rattle.ics_series.proofs.RuleLocalLemmas.{gives-kept, number-numbered, numbe
 use Rattle.ics_series.proofs.SeriesLemmas.{in-moment, known-start, rises-rule}
 use Rattle.ics_series.proofs.SoughtLemmas.{listed-there, none-else, sought-early, sought-late}
 use Rattle.ics_series.proofs.StartLaws.{kept-first}
-use Rattle.ics_series.proofs.PutMemberLemmas.{itself-put, union-member}
+use Rattle.ics_series.proofs.UnionLemmas.{itself-put, union-in}
 
 module _ (zones : FileZones) (w : Window) (event : Event) where
   known-is : (s : Start) (giver : Giver) (given : Rdate) → IsBegun w event → IsGivenBy (clocks_in zones) event w giver given → s ≡ start_by (clocks_in zones) giver given → IsKnown (clocks_in zones) event w s
@@ -229,14 +228,14 @@ module _ (zones : FileZones) (w : Window) (event : Event) (readable : IsReadable
   known-left None listed begun firsts r s m = known-apart zones w event event.rule s begun refl (firsts.are s m)
   known-left (Some starts) listed begun firsts r s m =
       ⊎_elim (known-ruled zones w event since (listed_apart (clocks_in zones) w event event.rule) (starts_left starts) s begun r)
-      (λ n. known-apart zones w event event.rule s begun refl (firsts.are s n))
-      (union-member moment_cmp moment_total s (starts_left starts) listed m)
+      (λ n. known-apart zones w event event.rule s begun refl (firsts.are s n.1))
+      (union-in moment_cmp moment_total s (starts_left starts) listed firsts.rises m)
 
   all-by : (o : Option RuleStarts) (parts : Option RuleParts) (listed : List Start) → event.rule ≡ parts → AreFirsts (listed_apart (clocks_in zones) w event parts) listed
       → MatchOption o (event.rule ≡ None) (λ s. IsRuleFrom (clocks_in zones) event w since (listed_apart (clocks_in zones) w event parts) (starts_left s))
       → (giver : Giver) (given : Rdate) → GivesStart (clocks_in zones) event giver given → IsSought (clocks_in zones) event w (instant (clocks_in zones) (time_of given)) → since ≤ℤ instant (clocks_in zones) (time_of given)
       → HasStart (union moment_cmp (rule_left o) listed) giver (instant (clocks_in zones) (time_of given))
-  all-by None None listed e firsts r giver given g s late = firsts.all (start_by (clocks_in zones) giver given) ((none-else zones w event readable e).all giver given g s)
+  all-by None None listed e firsts r giver given g s late = firsts.all (start_by (clocks_in zones) giver given) (none-else zones w event readable e giver given g s)
   all-by None (Some parts) listed e firsts r giver given g s late = let f : None ≡ Some parts = sym r ∙ e in absurd cc
   all-by (Some starts) None listed e firsts r giver given g s late = let f : None ≡ Some r.rule = ap (option_map (recurrence_by event.start.stamp)) (sym e) ∙ r.has in absurd cc
   all-by (Some starts) (Some parts) listed e firsts r giver given g s late = with-ruled (starts_left starts) r listed (rises-rule (Some starts)) firsts giver given g s late

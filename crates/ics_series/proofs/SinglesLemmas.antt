@@ -31,14 +31,15 @@ use Rattle.ics_series.specs.Exclusions.{excludes}
 use Rattle.ics_series.specs.Finish.{finish}
 use Rattle.ics_series.specs.Listing.{IsListing}
 use Rattle.ics_series.specs.Meeting.{is_met}
-use Rattle.ics_series.specs.MetList.{entry_start_cmp, given_cmp, is_after, is_kept, subject_from, IsGiven, IsGivenBy}
+use Rattle.ics_series.specs.Overridden.{is_kept}
+use Rattle.ics_series.specs.After.{is_after}
 use Rattle.ics_series.specs.Occurs.{IsInstance}
 use Rattle.ics_series.specs.Placed.{Placed, clocks_at}
 use Rattle.ics_series.specs.Singles.{entry_first, is_single, is_to_come, single_at, single_entry, single_of, IsSingleToCome}
 use Rattle.ics_series.specs.Starts.{local_of, recurrence_by, GivesStart, IsNotAfter}
 use Rattle.ics_series.specs.Versions.{by_subject, is_named, is_override, label_of, seen, subject_cmp, AreChosen, Label}
 use Rattle.ics_series.proofs.AgendaLemmas.{given_total, tied-given}
-use Rattle.ics_series.proofs.GivenLemmas.{given-subject, placed-event}
+use Rattle.ics_series.proofs.GivenLemmas.{given-subject, placed-event, entry_start_cmp, given_cmp, subject_from, IsGiven, IsGivenBy}
 use Rattle.ics_series.proofs.MasterLemmas.{same-entry}
 use Rattle.ics_series.proofs.MeetingLemmas.{is_met-meets, meets-is_met}
 use Rattle.ics_series.proofs.OverrideLemmas.{named-overrides}

@@ -131,11 +131,6 @@ module _ {A : Type 0} (R : A → A → Ordering) (o : IsTotalOrder R) where
   unfolding ties_of
   ties_of-permutation x xs ys p = sum_by-IsPermutation (λ z. tie (R x z)) xs ys p
 
-  tie-at-most : (c : Ordering) → tie c ≤ 1
-  tie-at-most Less = omega arith
-  tie-at-most Equal = omega arith
-  tie-at-most Greater = omega arith
-
   -- what is not after the first of a rising list ties with none behind it
   none-tied : (x y : A) (ys : List A) → ((z : A) → R y z ≡ Less → R x z ≡ Less) → IsBefore R y ys → ties_of x ys ≡ 0
   none-tied x y [] f h = ties_of-nil x

@@ -1,6 +1,5 @@
 -- The starts that are sought are among those that are found.
-use Rattle.std.specs.Prelude.{slice_get}
-use Rattle.std.proofs.Common.{◌≡◌, ℕ, suc, ◌+◌, ◌<◌, ℤ, pos, ◌+ℤ◌, ◌-ℤ◌, ◌<ℤ◌, ◌≤ℤ◌, List, [], ◌∷◌, length, get_or, drop, add-one, Bool, true, false, Some, None, option_map, inl, inr, ⊎_elim, refl, sym, ◌∙◌, ap, subst, arith}
+use Rattle.std.proofs.Common.{◌≡◌, ℕ, suc, ◌+◌, ◌<◌, ℤ, pos, ◌+ℤ◌, ◌-ℤ◌, ◌<ℤ◌, ◌≤ℤ◌, List, [], ◌∷◌, length, get_or, drop, add-one, Bool, true, false, Some, None, option_map, inl, inr, ⊎_elim, sym, ◌∙◌, ap, subst, arith}
 use Rattle.std.proofs.Math.Seq.{drop-cons}
 use Rattle.std.proofs.lemmas.Int.{int_min_is, ints}
 use Rattle.ics_calendar.specs.declared.event.Event.{Event}
@@ -13,15 +12,14 @@ use Rattle.ics_series.specs.declared.window.Window.{Window}
 use Rattle.ics_series.specs.declared.zones.FileZones.{FileZones}
 use Rattle.ics_series.specs.Clocks.{Clocks, instant, written}
 use Rattle.ics_series.specs.Finish.{seconds_lasting}
-use Rattle.ics_series.specs.Found.{earlier, earliest, earliest_from, is_span_met, listed_from, start_at, start_by, HasStarts, IsSought, IsStart}
+use Rattle.ics_series.specs.Found.{earlier, earliest, earliest_from, is_span_met, listed_from, start_at, start_by, IsSought}
 use Rattle.ics_series.specs.Listing.{IsIn}
 use Rattle.ics_series.specs.Meeting.{entry_from}
 use Rattle.ics_series.specs.Meets.{Meets}
 use Rattle.ics_series.specs.Starts.{given_by, local_of, recurrence_by, time_at, time_of, GivesStart}
 use Rattle.ics_series.specs.Zones.{clocks_in, is_past, IsReadableEvent}
-use Rattle.ics_series.proofs.GiverLemmas.{gives-value}
 use Rattle.ics_series.proofs.InstantLemmas.{instant-near}
-use Rattle.ics_series.proofs.ListedLemmas.{in-listed, listed-in}
+use Rattle.ics_series.proofs.ListedLemmas.{in-listed}
 use Rattle.ics_series.proofs.MeetingLemmas.{less-le, meets-is_met}
 use Rattle.ics_series.proofs.NearLemmas.{meets-late}
 
@@ -65,22 +63,6 @@ abbrev pub front : Clocks → Window → Event → List Start
 front clocks w event = start_at clocks event (local_of event.start.stamp) ∷ listed_from clocks w event.start 0 event.rdates
 
 module _ (zones : FileZones) (w : Window) (event : Event) (readable : IsReadableEvent zones event) where
-  start-is : (s : Start) (giver : Giver) (given : Rdate) → GivesStart (clocks_in zones) event giver given → s ≡ start_by (clocks_in zones) giver given → IsStart (clocks_in zones) event s
-  start-is s giver given g e = subst (IsStart (clocks_in zones) event) (sym e) (record {
-    gives = g;
-    value = gives-value (clocks_in zones) event giver given readable.is_event.start readable.is_event.rdates g;
-    moment = refl;
-  })
-
-  pub front-are : (s : Start) → IsIn s (front (clocks_in zones) w event) → IsStart (clocks_in zones) event s
-  front-are s m =
-      ⊎_elim
-      (λ e. start-is s (Kept (local_of event.start.stamp)) (At (time_at event.start (local_of event.start.stamp))) (inl refl, refl) e)
-      (λ n.
-      let k = listed-in (clocks_in zones) w event.start 0 event.rdates s n in
-      start-is s (Listed (0 + k.index)) (given_by event.start k.rdate) (k.rdate, subst (λ i. slice_get event.rdates i ≡ Some k.rdate) (omega arith) k.stands, refl) k.is)
-      m
-
   pub listed-there : (place : ℕ) (given : Rdate) → GivesStart (clocks_in zones) event (Listed place) given → instant (clocks_in zones) (time_of given) <ℤ w.to → IsIn (start_by (clocks_in zones) (Listed place) given) (front (clocks_in zones) w event)
   listed-there place given g early =
       let time = time_of (given_by event.start g.0) in
@@ -109,13 +91,11 @@ module _ (zones : FileZones) (w : Window) (event : Event) (readable : IsReadable
           omega (arith, ints, e, each)
 
   -- an event without a rule has no other starts
-  pub none-else : event.rule ≡ None → HasStarts (clocks_in zones) event w (front (clocks_in zones) w event)
-  none-else none = record { are = front-are; all = all }
-    where
-      all : (giver : Giver) (given : Rdate) → GivesStart (clocks_in zones) event giver given → IsSought (clocks_in zones) event w (instant (clocks_in zones) (time_of given)) → IsIn (start_by (clocks_in zones) giver given) (front (clocks_in zones) w event)
-      all (Kept local) given g s =
-          ⊎_elim
-          (λ e. inl (ap (start_by (clocks_in zones) (Kept local)) g.1 ∙ ap (start_at (clocks_in zones) event) e))
-          (λ r. let f : None ≡ Some r.rule = ap (option_map (recurrence_by event.start.stamp)) (sym none) ∙ r.has in absurd cc)
-          g.0
-      all (Listed place) given g s = listed-there place given g (sought-early (instant (clocks_in zones) (time_of given)) s)
+  pub none-else : event.rule ≡ None → (giver : Giver) (given : Rdate) → GivesStart (clocks_in zones) event giver given
+      → IsSought (clocks_in zones) event w (instant (clocks_in zones) (time_of given)) → IsIn (start_by (clocks_in zones) giver given) (front (clocks_in zones) w event)
+  none-else none (Kept local) given g s =
+      ⊎_elim
+      (λ e. inl (ap (start_by (clocks_in zones) (Kept local)) g.1 ∙ ap (start_at (clocks_in zones) event) e))
+      (λ r. let f : None ≡ Some r.rule = ap (option_map (recurrence_by event.start.stamp)) (sym none) ∙ r.has in absurd cc)
+      g.0
+  none-else none (Listed place) given g s = listed-there place given g (sought-early (instant (clocks_in zones) (time_of given)) s)

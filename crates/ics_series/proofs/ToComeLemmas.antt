@@ -14,11 +14,13 @@ use Rattle.ics_series.specs.Chosen.{IsOverridden}
 use Rattle.ics_series.specs.Clocks.{Clock, instant}
 use Rattle.ics_series.specs.Entry.{Entry, Rank, rank_cmp, rank_of}
 use Rattle.ics_series.specs.Meets.{Meets, IsListed, IsToCome}
-use Rattle.ics_series.specs.MetList.{is_after, is_kept, IsGiven, IsGivenBy}
+use Rattle.ics_series.specs.Overridden.{is_kept}
+use Rattle.ics_series.specs.After.{is_after}
 use Rattle.ics_series.specs.Occurs.{Occurs, IsOfMaster, IsOfOverride}
 use Rattle.ics_series.specs.Placed.{clocks_at}
 use Rattle.ics_series.specs.Versions.{is_named, seen, AreChosen}
 use Rattle.ics_series.proofs.OverrideLemmas.{named-overridden, or-true, overridden-named}
+use Rattle.ics_series.proofs.GivenLemmas.{IsGiven, IsGivenBy}
 
 pub lt-Less : (c : Ordering) → is_lt c ≡ true → c ≡ Less
 lt-Less Less e = refl

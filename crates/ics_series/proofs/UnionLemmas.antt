@@ -7,7 +7,7 @@ use Rattle.std.specs.declared.cmp.Ordering.{Ordering}
 use Rattle.std.specs.declared.cmp.Ordering.TheVariants.{Less, Equal, Greater}
 use Rattle.ics_series.specs.Listing.{IsIn, IsListing}
 use Rattle.ics_series.specs.Merged.{by_order, put, union, merged, HasNoKey, IsFromFirst}
-use Rattle.ics_series.specs.MergedLaws.{rises-merged, rises-put, rises-union}
+use Rattle.ics_series.specs.MergedLaws.{rises-merged, rises-union}
 use Rattle.ics_series.specs.Rising.{IsBefore, Rises}
 use Rattle.ics_series.proofs.ListingLemmas.{before-in, one-rising}
 
@@ -38,6 +38,18 @@ module _ {A : Type 0} (R : A → A → Ordering) (o : IsTotalOrder R) where
   in-put : (e x : A) (ys : List A) → (e ≡ x) ⊎ (IsIn e ys × (R x e ≢ Equal)) → IsIn e (put R x ys)
   in-put e x [] m = ⊎_elim inl (λ k. absurd k.0) m
   in-put e x (y ∷ ys) m = in-put-by e x y ys (R x y) refl (in-put e x ys) m
+
+  pub itself-put : (x : A) (ys : List A) → IsIn x (put R x ys)
+  itself-put x ys = in-put x x ys (inl refl)
+
+  -- what stands in a list stays there with one more, unless it is tied with that
+  pub member-put : (e x : A) (ys : List A) → IsIn e ys → IsIn e (put R x ys) ⊎ (R x e ≡ Equal)
+  member-put e x ys m = by (R x e) refl
+    where
+      by : (c : Ordering) → R x e ≡ c → IsIn e (put R x ys) ⊎ (R x e ≡ Equal)
+      by Less p = inl (in-put e x ys (inr (m, λ t. cc)))
+      by Equal p = inr p
+      by Greater p = inl (in-put e x ys (inr (m, λ t. cc)))
 
   not-tied-back : (x y : A) → R x y ≢ Equal → R y x ≢ Equal
   not-tied-back x y h e = h (tied_back o y x e)
@@ -118,33 +130,3 @@ module _ {A : Type 0} (R : A → A → Ordering) (o : IsTotalOrder R) where
       (λ k. inl (in-union e xs ys p (inl k)))
       (λ k. ⊎_elim (λ n. inl (in-union e xs ys p (inr (k.0, n)))) (λ n. inr (union-no_key e xs ys k.0 n.0, n.1)) (union-in e ys zs r k.1))
       (union-in e xs (union R ys zs) (rises-union R o ys zs r) m)))
-
-  pub union-put : (x : A) (ys zs : List A) → Rises R ys → Rises R zs → union R (put R x ys) zs ≡ put R x (union R ys zs)
-  union-put x ys zs q r = union_assoc (x ∷ []) ys zs (tt, tt) q r
-
-  -- of two of one key the last put stands
-  put-tied-by : (x y z : A) (zs : List A) (c : Ordering) → R x y ≡ Equal → R x z ≡ c → put R x (put R y zs) ≡ put R x zs
-      → put R x (by_order c (y ∷ z ∷ zs) (y ∷ zs) (z ∷ put R y zs)) ≡ by_order c (x ∷ z ∷ zs) (x ∷ zs) (z ∷ put R x zs)
-  put-tied-by x y z zs Less t p ih = ap (λ c. by_order c (x ∷ y ∷ z ∷ zs) (x ∷ z ∷ zs) (y ∷ put R x (z ∷ zs))) t
-  put-tied-by x y z zs Equal t p ih = ap (λ c. by_order c (x ∷ y ∷ zs) (x ∷ zs) (y ∷ put R x zs)) t
-  put-tied-by x y z zs Greater t p ih =
-      ap (λ c. by_order c (x ∷ z ∷ put R y zs) (x ∷ put R y zs) (z ∷ put R x (put R y zs))) p ∙ ap (λ l. z ∷ l) ih
-
-  pub put-tied : (x y : A) (zs : List A) → R x y ≡ Equal → put R x (put R y zs) ≡ put R x zs
-  put-tied x y [] t = ap (λ c. by_order c (x ∷ y ∷ []) (x ∷ []) (y ∷ x ∷ [])) t
-  put-tied x y (z ∷ zs) t =
-      ap (λ c. put R x (by_order c (y ∷ z ∷ zs) (y ∷ zs) (z ∷ put R y zs))) (sym (o.congr x y z t)) ∙ put-tied-by x y z zs (R x z) t refl (put-tied x y zs t)
-
-  -- of two keys either may be put first
-  put-in-other : (x y e : A) (zs : List A) → Rises R zs → R x y ≢ Equal → IsIn e (put R x (put R y zs)) → IsIn e (put R y (put R x zs))
-  put-in-other x y e zs r n m =
-      in-put e y (put R x zs)
-      (⊎_elim (λ s. inr (in-put e x zs (inl s), λ t. not-tied-back x y n (ap (R y) (sym s) ∙ t)))
-      (λ k. ⊎_elim inl (λ j. inr (in-put e x zs (inr (j.0, k.1)), j.1)) (put-in e y zs r k.0))
-      (put-in e x (put R y zs) (rises-put R o y zs r) m))
-
-  pub put_comm : (x y : A) (zs : List A) → Rises R zs → R x y ≢ Equal → put R x (put R y zs) ≡ put R y (put R x zs)
-  put_comm x y zs r n =
-      one-rising R o (put R x (put R y zs)) (put R y (put R x zs)) (rises-put R o x (put R y zs) (rises-put R o y zs r))
-      (rises-put R o y (put R x zs) (rises-put R o x zs r))
-      (λ e m. put-in-other x y e zs r n m) (λ e m. put-in-other y x e zs r (not-tied-back x y n) m)

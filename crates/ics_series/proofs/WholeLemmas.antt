@@ -21,7 +21,7 @@ use Rattle.ics_series.specs.Found.{listed_from, moment_cmp, start_by, with_front
 use Rattle.ics_series.specs.Listing.{IsIn, IsListing}
 use Rattle.ics_series.specs.Merged.{union}
 use Rattle.ics_series.specs.MergedLaws.{rises-union}
-use Rattle.ics_series.specs.MetList.{IsEventMet}
+use Rattle.ics_series.specs.Meets.{IsEventMet}
 use Rattle.ics_series.specs.RuleStarts.{found}
 use Rattle.ics_series.specs.SeriesStarts.{first_asked, given_of, listed_apart, IsBegun, IsRuleFrom, IsSeriesMet}
 use Rattle.ics_series.specs.Starts.{given_by, local_of, recurrence_by, time_of, IsNotAfter}
@@ -36,7 +36,7 @@ use Rattle.ics_series.proofs.MetLemmas.{begins-later}
 use Rattle.ics_series.proofs.RuleStartLemmas.{rises-found}
 use Rattle.ics_series.proofs.SeriesLemmas.{known-start, series-listing}
 use Rattle.ics_series.proofs.SinceLemmas.{known-apart, known-ruled, starts-since, with-ruled}
-use Rattle.ics_series.proofs.PutMemberLemmas.{itself-put, union-member}
+use Rattle.ics_series.proofs.UnionLemmas.{itself-put, union-in}
 use Rattle.ics_series.proofs.ZoneLemmas.{event-readable, none-of}
 
 -- of each two the giver of the first is not after that of the second
@@ -60,7 +60,7 @@ has-own (x ∷ starts) s h m =
 firsts-by-union : (starts : List Start) → GiversClimb starts → AreFirsts starts (union moment_cmp starts [])
 firsts-by-union starts h = record {
   rises = rises-union moment_cmp moment_total starts [] tt;
-  are = λ s m. ⊎_elim (λ n. n) (λ n. absurd n) (union-member moment_cmp moment_total s starts [] m);
+  are = λ s m. ⊎_elim (λ n. n) (λ n. absurd n.1) (union-in moment_cmp moment_total s starts [] tt m);
   all = λ s m. has-own starts s h m;
 }
 
@@ -117,8 +117,8 @@ module _ (zones : FileZones) (w : Window) (event : Event) (readable : IsReadable
           are = λ s m.
               known-start zones w event s readable.is_event
               (⊎_elim (known-ruled zones w event since (listed_from (clocks_in zones) w event.start 0 event.rdates) ruled s begun from)
-              (λ n. known-apart zones w event (Some parts) s begun e (firsts.are s n))
-              (union-member moment_cmp moment_total s ruled listed m));
+              (λ n. known-apart zones w event (Some parts) s begun e (firsts.are s n.1))
+              (union-in moment_cmp moment_total s ruled listed firsts.rises m));
           all = with-ruled zones w event readable since ruled from listed rises firsts;
         },
       )

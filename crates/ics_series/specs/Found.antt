@@ -1,5 +1,5 @@
 -- The starts of an event by which it can meet a window, as they are found.
-use Rattle.std.specs.Prelude.{◌≡◌, ◌<ℤ◌, ◌≤ℤ◌, ◌+ℤ◌, ◌-ℤ◌, ℕ, ◌+◌, ℤ, pos, Bool, true, false, ◌&&◌, not, int_le, ◌⊎◌, List, [], ◌∷◌, ◌++◌, Option, Some, None, if◌then◌else◌}
+use Rattle.std.specs.Prelude.{◌≡◌, ◌≤ℤ◌, ◌-ℤ◌, ℕ, ◌+◌, ℤ, pos, Bool, true, false, ◌&&◌, not, int_le, List, [], ◌∷◌, Option, Some, None, if◌then◌else◌}
 use Rattle.std.specs.Int.{int_min}
 use Rattle.std.specs.Ordering.{int_cmp, int_eq, nat_cmp, on, then_cmp}
 use Rattle.std.specs.declared.cmp.Ordering.{Ordering}
@@ -13,7 +13,7 @@ use Rattle.ics_series.specs.declared.start.Giver.{Giver}
 use Rattle.ics_series.specs.declared.start.Giver.TheVariants.{Kept, Listed}
 use Rattle.ics_series.specs.declared.start.Start.{Start}
 use Rattle.ics_series.specs.declared.window.Window.{Window}
-use Rattle.ics_series.specs.Clocks.{Clocks, instant, seconds_of}
+use Rattle.ics_series.specs.Clocks.{Clocks, instant}
 use Rattle.ics_series.specs.Entry.{Entry}
 use Rattle.ics_series.specs.Exclusions.{is_excluded}
 use Rattle.ics_series.specs.Finish.{seconds_lasting}
@@ -21,7 +21,7 @@ use Rattle.ics_series.specs.Listing.{IsIn}
 use Rattle.ics_series.specs.Rising.{Rises}
 use Rattle.ics_series.specs.Meeting.{is_met, entry_from}
 use Rattle.ics_series.specs.Meets.{Meets}
-use Rattle.ics_series.specs.Starts.{given_by, time_at, time_of, GivesStart, IsNotAfter, IsRuleStart}
+use Rattle.ics_series.specs.Starts.{given_by, time_at, time_of, GivesStart, IsNotAfter}
 use Rattle.ics_series.specs.Zones.{is_past}
 
 -- the start that something gives by a value
@@ -45,11 +45,6 @@ pub record IsSought (clocks : Clocks) (event : Event) (w : Window) (t : ℤ) : T
   pub gives : GivesStart clocks event giver given
   pub starts : instant clocks (time_of given) ≡ t
   pub meets : Meets w (entry_from clocks event given)
-
--- starts of the event, among them all at the instants that are sought
-pub record HasStarts (clocks : Clocks) (event : Event) (w : Window) (starts : List Start) : Type 0 where
-  pub are : (s : Start) → IsIn s starts → IsStart clocks event s
-  pub all : (giver : Giver) (given : Rdate) → GivesStart clocks event giver given → IsSought clocks event w (instant clocks (time_of given)) → IsIn (start_by clocks giver given) starts
 
 -- the list has a start at this instant, by this giver or an earlier one
 pub record HasStart (starts : List Start) (giver : Giver) (t : ℤ) : Type 0 where
@@ -91,12 +86,6 @@ pub record AreFirsts (starts firsts : List Start) : Type 0 where
   pub are : (s : Start) → IsIn s firsts → IsIn s starts
   pub all : (s : Start) → IsIn s starts → HasStart firsts s.giver s.moment
 
--- starts of the event in the order of their instants, each instant once, and of those that are sought the first giver
-pub record AreStarts (clocks : Clocks) (event : Event) (w : Window) (starts : List Start) : Type 0 where
-  pub rises : Rises moment_cmp starts
-  pub are : (s : Start) → IsIn s starts → IsStart clocks event s
-  pub all : (giver : Giver) (given : Rdate) → GivesStart clocks event giver given → IsSought clocks event w (instant clocks (time_of given)) → HasStart starts giver (instant clocks (time_of given))
-
 -- the same, where only what is sought from an instant on counts
 pub record AreStartsSince (clocks : Clocks) (event : Event) (w : Window) (since : ℤ) (starts : List Start) : Type 0 where
   pub rises : Rises moment_cmp starts
@@ -132,17 +121,6 @@ shown_by clocks w event s =
 abbrev pub is_until : Option ℤ → ℤ → Bool
 is_until None moment = true
 is_until (Some last) moment = int_le moment last
-
--- a list with a start at its end, unless that is after UNTIL
-abbrev pub with_start : Bool → List Start → Start → List Start
-with_start true starts s = starts ++ (s ∷ [])
-with_start false starts s = starts
-
--- the starts that were there, and those by the locals that the rule keeps from one on and before three days past the window's end
-pub record HasRuleStarts (clocks : Clocks) (event : Event) (w : Window) (from : Local) (before after : List Start) : Type 0 where
-  pub stay : (s : Start) → IsIn s before → IsIn s after
-  pub are : (s : Start) → IsIn s after → IsIn s before ⊎ IsStart clocks event s
-  pub all : (local : Local) → IsRuleStart clocks event local → seconds_of from ≤ℤ seconds_of local → seconds_of local <ℤ (w.to +ℤ pos 259_200) → IsIn (start_at clocks event local) after
 
 -- a start at the front of a list, if it is wanted
 abbrev pub with_front : Bool → Start → List Start → List Start

@@ -17,7 +17,6 @@ pub mod Meeting
 pub mod Meets
 pub mod Merged
 pub mod MergedLaws
-pub mod MetList
 pub mod Occurs
 pub mod Overridden
 pub mod Parts

@@ -8,7 +8,7 @@ use Rattle.ics_series.specs.Clocks.{Clock}
 use Rattle.ics_series.specs.Entry.{Entry, Rank, entry_cmp}
 use Rattle.ics_series.specs.Listing.{IsIn, IsListing}
 use Rattle.ics_series.specs.Meets.{IsToCome}
-use Rattle.ics_series.specs.MetList.{is_after}
+use Rattle.ics_series.specs.After.{is_after}
 use Rattle.ics_series.specs.Occurs.{IsOf}
 use Rattle.ics_series.specs.Placed.{clocks_at}
 use Rattle.ics_series.specs.Singles.{is_single}

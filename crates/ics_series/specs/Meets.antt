@@ -3,15 +3,20 @@ use Rattle.std.specs.Prelude.{◌≡◌, ◌⊎◌, ◌<ℤ◌, ◌≤ℤ◌, Is
 use Rattle.std.specs.declared.cmp.Ordering.TheVariants.{Less}
 use Rattle.ics_calendar.specs.Event.{FileSaid}
 use Rattle.ics_series.specs.declared.window.Window.{Window}
-use Rattle.ics_series.specs.Clocks.{Clock}
+use Rattle.ics_calendar.specs.declared.event.Event.{Event}
+use Rattle.ics_series.specs.Clocks.{Clock, Clocks}
 use Rattle.ics_series.specs.Entry.{Entry, Rank, rank_cmp, rank_of}
-use Rattle.ics_series.specs.Occurs.{Occurs}
+use Rattle.ics_series.specs.Occurs.{IsOf, Occurs}
 
 -- an occurrence meets a window
 pub record Meets (w : Window) (o : Entry) : Type 0 where
   pub begun : o.start <ℤ w.to
   pub lasting : (w.from <ℤ o.finish) ⊎ ((o.finish ≡ o.start) × (w.from ≤ℤ o.start))
   pub started : IsTrue w.notstarted → w.from ≤ℤ o.start
+
+-- an occurrence of the event that meets the window
+abbrev pub IsEventMet : Clocks → Event → Window → Entry → Type 0
+IsEventMet clocks event w o = IsOf clocks event o × Meets w o
 
 -- an occurrence of the folder that meets the window
 abbrev pub IsListed : List FileSaid → Clock → Window → Entry → Type 0

@@ -1,9 +1,10 @@
 -- The instances of a master that overrides stand for, as they are found among the versions that count.
-use Rattle.std.specs.Prelude.{◌≡◌, ℤ, ℕ, List, Option, Some, None, if◌then◌else◌}
+use Rattle.std.specs.Prelude.{◌≡◌, ◌||◌, ℤ, ℕ, Bool, not, List, Option, Some, None, is_some, if◌then◌else◌}
 use Rattle.std.specs.List.{list_any}
 use Rattle.std.specs.Ordering.{int_eq}
 use Rattle.std.specs.Str.{bytes_eq}
 use Rattle.ics_series.specs.Chosen.{SubjectSeen}
+use Rattle.ics_series.specs.Entry.{Entry}
 use Rattle.ics_series.specs.Versions.{Label, is_named}
 
 -- the instance of this UID that versions of a subject override
@@ -14,3 +15,8 @@ instance_of uid subject = if bytes_eq subject.uid uid then subject.recurrence el
 abbrev pub AreOverridden : List ℕ → List Label → List ℤ → Type 0
 AreOverridden uid labels instants =
     (t : ℤ) → list_any (λ x. int_eq x t) instants ≡ is_named (record { uid = uid; recurrence = Some t }) labels
+
+-- an occurrence is an override's, or none of the versions overrides it
+abbrev pub is_kept : List Label → Entry → Bool
+is_kept labels o =
+    is_some o.event.recurrence || not (is_named (record { uid = o.event.uid; recurrence = Some o.recurrence }) labels)

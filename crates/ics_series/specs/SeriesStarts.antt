@@ -27,7 +27,7 @@ use Rattle.ics_series.specs.Found.{earliest, is_shown, listed_from, moment_cmp, 
 use Rattle.ics_series.specs.Listing.{IsIn}
 use Rattle.ics_series.specs.Meeting.{entry_from}
 use Rattle.ics_series.specs.Merged.{union}
-use Rattle.ics_series.specs.MetList.{IsEventMet}
+use Rattle.ics_series.specs.Meets.{IsEventMet}
 use Rattle.ics_series.specs.Rising.{Rises}
 use Rattle.ics_series.specs.RuleFeed.{starts_left, HasSameSource}
 use Rattle.ics_series.specs.RuleStarts.{found, gives, is_behind, midnight_number, AreHeld}

@@ -12,7 +12,8 @@ use Rattle.ics_series.specs.Entry.{Entry, Rank}
 use Rattle.ics_series.specs.Finish.{finish}
 use Rattle.ics_series.specs.Meeting.{is_met}
 use Rattle.ics_series.specs.Meets.{IsToCome}
-use Rattle.ics_series.specs.MetList.{is_after, is_kept}
+use Rattle.ics_series.specs.Overridden.{is_kept}
+use Rattle.ics_series.specs.After.{is_after}
 use Rattle.ics_series.specs.Placed.{clocks_at}
 use Rattle.ics_series.specs.Spots.{event_at}
 use Rattle.ics_series.specs.Versions.{Label}
