@@ -168,6 +168,14 @@ module _ {X : Type 0} (head : X → Option Occurrence) (rest : X → List Entry)
         let less = fresh-after rises p e is fresh (subst (AllByRecursion (IsBefore entry_cmp (entry_of p))) (sym one) follows) in
         sym one ∙ uncut entry_cmp entry_total (entry_of p) e lists less (begins-first rises e is).fronts
 
+    -- where the first of all is not given, nothing of the lists was
+    pub uncut-first : ((x : X) → Rises entry_cmp (rest x)) → (last : Option Occurrence) (o : Occurrence)
+        → get_or (map (λ x. option_map entry_of (head x)) xs) first None ≡ Some (entry_of o)
+        → is_given last (get_or (map (λ x. option_map entry_of (head x)) xs) first None) ≡ false
+        → ComeAfter last (map (λ x. past last (listed (head x) (rest x))) xs)
+        → map (λ x. past last (listed (head x) (rest x))) xs ≡ map (λ x. listed (head x) (rest x)) xs
+    uncut-first rises last o is fresh follows = uncut-fresh rises last (entry_of o) is (subst (λ h. is_given last h ≡ false) is fresh) follows
+
     -- the first of all, where it is not given, comes next
     pub first-comes : ((x : X) → Rises entry_cmp (rest x)) → (last : Option Occurrence) (o : Occurrence)
         → get_or (map (λ x. option_map entry_of (head x)) xs) first None ≡ Some (entry_of o)
@@ -176,7 +184,7 @@ module _ {X : Type 0} (head : X → Option Occurrence) (rest : X → List Entry)
         → (merged entry_cmp (map (λ x. past last (listed (head x) (rest x))) xs) ≡ entry_of o ∷ merged entry_cmp (map (λ x. past (Some o) (listed (head x) (rest x))) xs))
         × ComeAfter (Some o) (map (λ x. past (Some o) (listed (head x) (rest x))) xs)
     first-comes rises last o is fresh follows =
-        let same = uncut-fresh rises last (entry_of o) is (subst (λ h. is_given last h ≡ false) is fresh) follows in
+        let same = uncut-first rises last o is fresh follows in
         let b = begins-first rises (entry_of o) is in
         let one = map-map (cut entry_cmp (entry_of o)) (λ x. listed (head x) (rest x)) xs in
         (ap (merged entry_cmp) same ∙ (b.is ∙ ap (λ ls. entry_of o ∷ merged entry_cmp ls) one), subst (AllByRecursion (IsBefore entry_cmp (entry_of o))) one b.fronts)
@@ -226,7 +234,7 @@ module _ {X : Type 0} (head : X → Option Occurrence) (rest : X → List Entry)
       ∙ get_or-set_other (map (λ x. option_map entry_of (head x)) xs) lead j (option_map entry_of (head new)) None h)
       settled
 
-  given-read : (last : Option Occurrence) (first : ℕ) → lead ≡ first → is_given last (get_or (map (λ x. option_map entry_of (head x)) xs) first None) ≡ true
+  pub given-read : (last : Option Occurrence) (first : ℕ) → lead ≡ first → is_given last (get_or (map (λ x. option_map entry_of (head x)) xs) first None) ≡ true
       → (lead < length xs) × (is_given last (option_map entry_of (head old)) ≡ true)
   given-read last first is g =
       let within : lead < length xs = omega (arith, given-within last (map (λ x. option_map entry_of (head x)) xs) first g, length-map xs (λ x. option_map entry_of (head x))) in (

@@ -19,6 +19,7 @@ pub mod InstantLemmas
 pub mod KeptLemmas
 pub mod LabelLemmas
 pub mod LeadLemmas
+pub mod LeadNearLemmas
 pub mod LeftLemmas
 pub mod ListedLemmas
 pub mod ListingLemmas
@@ -54,6 +55,7 @@ pub mod SingleLemmas
 pub mod SinglesLemmas
 pub mod SortLemmas
 pub mod SoughtLemmas
+pub mod SourceLemmas
 pub mod SpotLemmas
 pub mod StartLaws
 pub mod StepsLaws

@@ -61,7 +61,7 @@ module _ (files : List FileSaid) (display : Clock) (w : Window) (after : Option 
   }
 
   -- the first so many versions, and one more
-  taken : (vs : List Version) (i j : ℕ) (d : Version) → j ≡ suc i → i < length vs → map seen (take i vs) ++ seen (get_or vs i d) ∷ [] ≡ map seen (take j vs)
+  pub taken : (vs : List Version) (i j : ℕ) (d : Version) → j ≡ suc i → i < length vs → map seen (take i vs) ++ seen (get_or vs i d) ∷ [] ≡ map seen (take j vs)
   taken vs i j d next l = sym (ap (λ n. map seen (take n vs)) next ∙ (ap (map seen) (take-suc vs i d l) ∙ map-append seen (take i vs) (get_or vs i d ∷ [])))
 
   pub versions-skip : (vs : List Version) (i j : ℕ) (d : Version) (before now : List (List Entry)) → j ≡ suc i → i < length vs → HasLists files display w after (map seen (take i vs)) before now

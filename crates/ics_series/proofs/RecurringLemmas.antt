@@ -85,13 +85,13 @@ module _ (files : List FileSaid) (display : Clock) (w : Window) (after : Option 
   some-same x y h = cc
 
   -- the event as it counts
-  own : (p : Placed) × IsIn p chosen.chosen × (label ≡ label_of files display p)
+  pub own : (p : Placed) × IsIn p chosen.chosen × (label ≡ label_of files display p)
   own = in-map (label_of files display) label chosen.chosen (subst (IsIn label) chosen.are there)
 
-  own-event : own.0.event ≡ event
+  pub own-event : own.0.event ≡ event
   own-event = some-same own.0.event event (sym (placed-event files own.0 ((chosen.listing.exact own.0).0 own.1).placed) ∙ (ap (λ (l : Label). event_at files l.spot) (sym own.2) ∙ stands))
 
-  own-clocks : clocks_at files display own.0.file ≡ clocks
+  pub own-clocks : clocks_at files display own.0.file ≡ clocks
   own-clocks = ap (λ (l : Label). clocks_at files display l.spot.file) (sym own.2)
 
   -- its subject is its UID alone

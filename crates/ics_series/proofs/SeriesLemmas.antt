@@ -34,7 +34,7 @@ use Rattle.ics_series.specs.Meets.{IsEventMet}
 use Rattle.ics_series.specs.Rising.{IsBefore, Rises}
 use Rattle.ics_series.specs.RuleFeed.{starts_left}
 use Rattle.ics_series.specs.RuleStarts.{gives, lets_until, midnight_number, moment_numbered}
-use Rattle.ics_series.specs.SeriesStarts.{given_of, is_among, has_moment, is_wanted, listed_left, rule_left, wanted_by, AreKnown, HasRuled, HasSameRule, HaveRuled, IsGivenAt, IsGivenBy, IsKnown, IsSeriesMet, IsStepCount}
+use Rattle.ics_series.specs.SeriesStarts.{given_of, is_among, has_moment, is_wanted, listed_left, rule_asked, rule_left, wanted_by, AreKnown, HasRuled, HasSameRule, HaveRuled, IsAskedNear, IsGivenAt, IsGivenBy, IsKnown, IsSeriesMet, IsStepCount}
 use Rattle.ics_series.specs.Starts.{given_by, local_of, recurrence_of, time_at, GivesStart, IsRuleStart}
 use Rattle.ics_series.specs.Zones.{clocks_in}
 use Rattle.ics_series.proofs.FirstLemmas.{int-less, moment_total, tied-moment}
@@ -47,6 +47,7 @@ use Rattle.ics_series.proofs.MetLemmas.{found-is, in-picked, is-found, listing-p
 use Rattle.ics_series.proofs.RuleLocalLemmas.{numbered-number, rule-first}
 use Rattle.ics_series.proofs.RuleStartLemmas.{rises-to_come}
 use Rattle.ics_series.proofs.GivenLemmas.{entry_start_cmp}
+use Rattle.ics_series.proofs.RuleStepLemmas.{left-near}
 
 -- Both kinds of starts rise.
 rises-drop : {A : Type 0} (R : A → A → Ordering) (n : ℕ) (xs : List A) → Rises R xs → Rises R (drop n xs)
@@ -249,6 +250,29 @@ module _ (clocks : Clocks) (w : Window) (event : Event) (since : ℤ) (overridde
       subst (λ xs. HaveRuled clocks event xs (given_of clocks w event since overridden rest)) (sym c) (ruled-behind t (starts_left a) all rest e r known h)
   ruled-rest None (Some b) t all rest same c e r known h = absurd same
   ruled-rest (Some a) None t all rest same c e r known h = absurd same
+
+-- A rule has been read no further than three days past an occurrence that it gives and that is still to come.
+pub rule-near : (clocks : Clocks) (event : Event) (o : Option RuleStarts) (coming : List Entry) → HasRuled clocks event o coming → (e : Entry) → IsIn e coming → IsAskedNear clocks event (rule_asked o) e.start
+rule-near clocks event None coming ruled e m = tt
+rule-near clocks event (Some s) coming ruled e m = λ local k.
+    let there = moment-in (starts_left s) e.start (ruled e m local k) in
+    subst (λ t. (midnight s.asked -ℤ pos 259_200) ≤ℤ t) there.2 (left-near s there.0 there.1)
+
+-- so it is where it has been read on
+pub asked-near : (clocks : Clocks) (event : Event) (a b : Option RuleStarts) → HasSameRule a b → rule_left b ≡ rule_left a → (coming : List Entry) → HasRuled clocks event a coming
+    → (e : Entry) → IsIn e coming → IsAskedNear clocks event (rule_asked b) e.start
+asked-near clocks event a b same left coming ruled =
+    rule-near clocks event b coming (ruled-on a b same left ruled)
+  where
+    ruled-on : (a b : Option RuleStarts) → HasSameRule a b → rule_left b ≡ rule_left a → HasRuled clocks event a coming → HasRuled clocks event b coming
+    ruled-on None None same e h = tt
+    ruled-on (Some a) (Some b) same e h = subst (λ xs. HaveRuled clocks event xs coming) (sym e) h
+    ruled-on None (Some b) same e h = absurd same
+    ruled-on (Some a) None same e h = absurd same
+
+-- and each that the starts of an event give is of it
+pub given-own : (clocks : Clocks) (w : Window) (event : Event) (since : ℤ) (overridden : List ℤ) (starts : List Start) (e : Entry) → IsIn e (given_of clocks w event since overridden starts) → e.event ≡ event
+given-own clocks w event since overridden starts e m = ap (λ (o : Entry). o.event) (in-picked clocks event (is_wanted clocks w event since overridden) starts e m).is
 
 -- what the steps of a rule say is near an occurrence that the rule gives
 pub step-count : (clocks : Clocks) (event : Event) (coming : List Entry) (steps : ℕ) (o : Option RuleStarts) (s : RuleStarts) → o ≡ Some s → HasRuled clocks event o coming

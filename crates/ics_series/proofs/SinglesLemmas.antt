@@ -1,6 +1,6 @@
 -- What the versions that count give whose events start once, sorted by key, is the listing of such occurrences to come.
 use Rattle.std.specs.Prelude.{◌==◌, ◌&&◌, ◌||◌, not, is_none, is_some, if◌then◌else◌}
-use Rattle.std.proofs.Common.{◌≡◌, ℤ, List, [], map, length, ⊎_elim, Option, Some, None, Bool, true, false, refl, sym, ◌∙◌, ap, subst, arith}
+use Rattle.std.proofs.Common.{◌≡◌, ℤ, List, [], ◌∷◌, map, length, inl, inr, ⊎_elim, Option, Some, None, Bool, true, false, refl, sym, ◌∙◌, ap, subst, arith}
 use Rattle.std.specs.Fn.{Called}
 use Rattle.std.specs.List.{filter, filter_map, list_any}
 use Rattle.std.specs.List.Sorted.{IsPermutation, IsSortedByClosure}
@@ -29,13 +29,13 @@ use Rattle.ics_series.specs.Entry.{Entry, Rank, entry_cmp}
 use Rattle.ics_series.specs.EntryLaws.{entry_total}
 use Rattle.ics_series.specs.Exclusions.{excludes}
 use Rattle.ics_series.specs.Finish.{finish}
-use Rattle.ics_series.specs.Listing.{IsListing}
+use Rattle.ics_series.specs.Listing.{IsIn, IsListing}
 use Rattle.ics_series.specs.Meeting.{is_met}
 use Rattle.ics_series.specs.Overridden.{is_kept}
 use Rattle.ics_series.specs.After.{is_after}
 use Rattle.ics_series.specs.Occurs.{IsInstance}
 use Rattle.ics_series.specs.Placed.{Placed, clocks_at}
-use Rattle.ics_series.specs.Singles.{entry_first, is_single, is_to_come, single_at, single_entry, single_of, IsSingleToCome}
+use Rattle.ics_series.specs.Singles.{entry_first, is_single, is_to_come, single_at, single_entry, single_of, AreSingle, IsSingleToCome}
 use Rattle.ics_series.specs.Starts.{local_of, recurrence_by, GivesStart, IsNotAfter}
 use Rattle.ics_series.specs.Versions.{by_subject, is_named, is_override, label_of, seen, subject_cmp, AreChosen, Label}
 use Rattle.ics_series.proofs.AgendaLemmas.{given_total, tied-given}
@@ -200,3 +200,12 @@ singles-whole files display w vs chosen =
     (given-come files display w None vs os chosen refl) (come-given files display w None vs os chosen refl) in
     listing-ordered entry_cmp entry_total given_cmp given_total (IsSingleToCome files display w None) (λ x y a b e. tied-given files display w None x y a.0 b.0 e)
     (filter_map (λ p. one (label_of files display p)) chosen.chosen) found
+
+-- what holds of each occurrence of a list
+pub are-single : (list : List Entry) → ((o : Entry) → IsIn o list → is_single o.event ≡ true) → AreSingle list
+are-single [] h = tt
+are-single (x ∷ xs) h = (h x (inl refl), are-single xs (λ o m. h o (inr m)))
+
+pub single-in : (list : List Entry) → AreSingle list → (o : Entry) → IsIn o list → is_single o.event ≡ true
+single-in [] h o m = absurd m
+single-in (x ∷ xs) h o m = ⊎_elim (λ e. ap (λ (y : Entry). is_single y.event) e ∙ h.0) (λ n. single-in xs h.1 o n) m

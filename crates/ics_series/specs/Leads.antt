@@ -1,10 +1,11 @@
 -- The lists of the leads of a merge: what was drawn of a feed, and what is left of it.
 use Rattle.std.specs.Prelude.{Bool, false, List, [], ◌∷◌, ⊤, Option, Some, None}
-use Rattle.std.specs.Coded.{Unit-prop}
+use Rattle.std.specs.Coded.{Unit-prop, Π_prop}
 use Rattle.std.specs.List.{AllByRecursion, AllByRecursion-prop}
 use Rattle.std.specs.Ordering.{is_eq}
 use Rattle.ics_series.specs.Entry.{Entry, entry_cmp, entry_of}
 use Rattle.ics_series.specs.EntryLaws.{before-prop}
+use Rattle.ics_series.specs.Listing.{IsIn}
 use Rattle.ics_series.specs.Merged.{cut}
 use Rattle.ics_series.specs.Rising.{IsBefore}
 use Rattle.ics_series.specs.declared.occurrence.Occurrence.{Occurrence}
@@ -53,3 +54,17 @@ ComeAfter (Some o) lists = AllByRecursion (IsBefore entry_cmp (entry_of o)) list
 pub ComeAfter-prop : (last : Option Occurrence) (lists : List (List Entry)) → IsProp (ComeAfter last lists)
 ComeAfter-prop None lists = Unit-prop
 ComeAfter-prop (Some o) lists = AllByRecursion-prop (IsBefore entry_cmp (entry_of o)) (before-prop (entry_of o)) lists
+
+-- it holds of each of a list
+abbrev pub AreNear : (Entry → Type 0) → List Entry → Type 0
+AreNear P list = (o : Entry) → IsIn o list → P o
+
+pub AreNear-prop : (P : Entry → Type 0) → ((o : Entry) → IsProp (P o)) → (list : List Entry) → IsProp (AreNear P list)
+AreNear-prop P h list = Π_prop λ o. Π_prop λ m. h o
+
+-- it holds of an occurrence, where that stands in a list
+abbrev pub HasNear : (Entry → Type 0) → List Entry → Entry → Type 0
+HasNear P list o = IsIn o list → P o
+
+pub HasNear-prop : (P : Entry → Type 0) → ((o : Entry) → IsProp (P o)) → (list : List Entry) → (o : Entry) → IsProp (HasNear P list o)
+HasNear-prop P h list o = Π_prop λ m. h o

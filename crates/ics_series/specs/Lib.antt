@@ -30,6 +30,7 @@ pub mod SeriesFeed
 pub mod SeriesLaws
 pub mod SeriesStarts
 pub mod Singles
+pub mod Sources
 pub mod Spots
 pub mod Starts
 pub mod Steps

@@ -1,5 +1,5 @@
 -- What the versions that count give whose events recur, each as a list of its own.
-use Rattle.std.specs.Prelude.{◌≡◌, ◌<ℤ◌, ◌≤ℤ◌, ◌++◌, ℕ, ℤ, pos, neg_ℤ, int_le, false, List, Option, Some, None}
+use Rattle.std.specs.Prelude.{◌≡◌, ◌<ℤ◌, ◌≤ℤ◌, ◌++◌, ℕ, ℤ, pos, neg_ℤ, int_le, false, List, map, Option, Some, None}
 use Rattle.std.specs.List.{AllByRecursion}
 use Rattle.ics_calendar.specs.Event.{FileSaid}
 use Rattle.ics_calendar.specs.declared.event.Event.{Event}
@@ -11,7 +11,10 @@ use Rattle.ics_series.specs.Meets.{IsToCome}
 use Rattle.ics_series.specs.After.{is_after}
 use Rattle.ics_series.specs.Occurs.{IsOf}
 use Rattle.ics_series.specs.Placed.{clocks_at}
+use Rattle.ics_series.specs.Rising.{Rises}
 use Rattle.ics_series.specs.Singles.{is_single}
+use Rattle.ics_series.specs.Sources.{Recurring, Source, uid_cmp, IsFrom}
+use Rattle.ics_series.specs.Sources.Source.{Of}
 use Rattle.ics_series.specs.Spots.{event_at}
 use Rattle.ics_series.specs.Versions.{Label}
 
@@ -60,3 +63,24 @@ pub record HasLists (files : List FileSaid) (display : Clock) (w : Window) (afte
   pub more : List (List Entry)
   pub are : AreLists files display w after labels more
   pub behind : now ≡ before ++ more
+
+-- a master is that of this version, which recurs, in the window and after the key
+pub record IsSourceOf (files : List FileSaid) (display : Clock) (w : Window) (after : Option Rank) (label : Label) (m : Recurring) : Type 0 where
+  pub stands : event_at files label.spot ≡ Some m.event
+  pub recurs : is_single m.event ≡ false
+  pub clocks : m.clocks ≡ clocks_at files display label.spot.file
+  pub window : m.window ≡ w
+  pub since : IsFrom after m.since
+
+-- it is that of one of these versions
+pub record IsSource (files : List FileSaid) (display : Clock) (w : Window) (after : Option Rank) (labels : List Label) (m : Recurring) : Type 0 where
+  pub label : Label
+  pub stands : IsIn label labels
+  pub is : IsSourceOf files display w after label m
+
+-- and such masters, each of a UID of its own, stand behind the sources that were there before
+pub record HasSources (files : List FileSaid) (display : Clock) (w : Window) (after : Option Rank) (labels : List Label) (before now : List Source) : Type 0 where
+  pub more : List Recurring
+  pub each : AllByRecursion (IsSource files display w after labels) more
+  pub rises : Rises uid_cmp more
+  pub behind : now ≡ before ++ map Of more

@@ -1,13 +1,29 @@
 -- What contracts see of a part of an agenda.
-use Rattle.std.specs.Prelude.{List, map}
+use Rattle.std.specs.Prelude.{◌≡◌, true, List, [], ◌∷◌, map}
 use Rattle.std.specs.Vec.Iter.{into_iter_items}
 use Rattle.ics_series.specs.declared.part.Part.{Part}
 use Rattle.ics_series.specs.declared.part.Part.TheVariants.{Singles, Series}
 use Rattle.ics_series.specs.Entry.{Entry}
-use Rattle.ics_series.specs.SeriesFeed.{series_left, series_of}
-use Rattle.ics_series.specs.Singles.{single_entry}
+use Rattle.ics_series.specs.SeriesFeed.{series_left, series_near, series_near-prop, series_of, series_sources}
+use Rattle.ics_series.specs.Singles.{is_single, single-prop, single_entry}
+use Rattle.ics_series.specs.Sources.{Source}
+use Rattle.ics_series.specs.Sources.Source.{Once}
 
 -- what is still to come of it
 abbrev pub part_coming : Part → List Entry
 part_coming (Singles s) = map single_entry (into_iter_items s.rest)
 part_coming (Series s) = series_of s.value (series_left s.value)
+
+-- what its occurrences are of
+abbrev pub part_sources : Part → List Source
+part_sources (Singles s) = Once ∷ []
+part_sources (Series s) = series_sources s.value
+
+-- an occurrence is of them, and no rule has been read further than it asks
+abbrev pub part_near : Part → Entry → Type 0
+part_near (Singles s) o = is_single o.event ≡ true
+part_near (Series s) o = series_near s.value o
+
+pub part_near-prop : (p : Part) (o : Entry) → IsProp (part_near p o)
+part_near-prop (Singles s) o = single-prop o
+part_near-prop (Series s) o = series_near-prop s.value o

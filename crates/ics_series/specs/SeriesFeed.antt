@@ -1,9 +1,16 @@
 -- What contracts see of a series.
-use Rattle.std.specs.Prelude.{◌≡◌, List}
+use Rattle.std.specs.Prelude.{◌≡◌, ℤ, List, [], ◌∷◌, Option, Some, None}
+use Rattle.std.specs.Coded.{×_prop, Unit-prop, Π_prop, codes}
+use Rattle.std.proofs.Props.{props}
+use Rattle.ics_calendar.specs.declared.event.Event.{Event}
+use Rattle.ics_series.specs.declared.window.Window.{Window}
+use Rattle.ics_series.specs.Clocks.{Clocks}
+use Rattle.ics_series.specs.Sources.{Source}
+use Rattle.ics_series.specs.Sources.Source.{Of}
 use Rattle.ics_series.specs.declared.series.Series.{Series}
 use Rattle.ics_series.specs.declared.start.Start.{Start}
 use Rattle.ics_series.specs.Entry.{Entry}
-use Rattle.ics_series.specs.SeriesStarts.{given_of, left, HasSameRule}
+use Rattle.ics_series.specs.SeriesStarts.{given_of, left, rule_asked, HasSameRule, IsAskedNear}
 use Rattle.ics_series.specs.Zones.{clocks_in}
 
 -- the starts still to come
@@ -13,6 +20,28 @@ series_left s = left s.rule_starts s.listed
 -- the occurrences that some starts give it
 abbrev pub series_of : Series → List Start → List Entry
 series_of s starts = given_of (clocks_in s.zones) s.window s.event.now s.since s.overridden.items starts
+
+-- they are of its event, in its window, from an instant on
+abbrev pub source_of : Clocks → Event → Window → ℤ → List Source
+source_of clocks event w since = Of (record { clocks = clocks; event = event; window = w; since = since }) ∷ []
+
+abbrev pub series_sources : Series → List Source
+series_sources s = source_of (clocks_in s.zones) s.event.now s.window s.since
+
+-- An occurrence is of its event, and its rule has been read no further than three days past it, if it begins at the instant of a local that
+-- DTSTART has or the rule keeps.
+abbrev pub series_near : Series → Entry → Type 0
+series_near s o = (o.event ≡ s.event.now) × IsAskedNear (clocks_in s.zones) s.event.now (rule_asked s.rule_starts) o.start
+
+asked-prop : (clocks : Clocks) (event : Event) (asked : Option ℤ) (t : ℤ) → IsProp (IsAskedNear clocks event asked t)
+asked-prop clocks event None t = Unit-prop
+asked-prop clocks event (Some day) t = Π_prop λ local. Π_prop λ k. hlevel props
+
+event-set : (a b : Event) → IsProp (a ≡ b)
+event-set a b = hlevel (props, codes)
+
+pub series_near-prop : (s : Series) (o : Entry) → IsProp (series_near s o)
+series_near-prop s o = ×_prop (event-set o.event s.event.now) (asked-prop (clocks_in s.zones) s.event.now (rule_asked s.rule_starts) o.start)
 
 -- it tells the same event's occurrences
 pub record IsSameSeries (old new : Series) : Type 0 where

@@ -132,6 +132,16 @@ abbrev pub IsKeptAt : Clocks → Event → Local → ℤ → Type 0
 IsKeptAt clocks event local t =
     ((local ≡ local_of event.start.stamp) ⊎ IsRuleStart clocks event local) × (instant clocks (time_at event.start local) ≡ t)
 
+-- up to the midnight of which day the cursor of a rule was asked
+abbrev pub rule_asked : Option RuleStarts → Option ℤ
+rule_asked None = None
+rule_asked (Some s) = Some s.asked
+
+-- That lies no more than three days past this instant, if it is that of such a local.
+abbrev pub IsAskedNear : Clocks → Event → Option ℤ → ℤ → Type 0
+IsAskedNear clocks event None t = Unit {0}
+IsAskedNear clocks event (Some day) t = (local : Local) → IsKeptAt clocks event local t → (midnight day -ℤ pos 259_200) ≤ℤ t
+
 -- where an occurrence still to come begins at the instant of such a local, these starts have one there
 abbrev pub HaveRuled : Clocks → Event → List Start → List Entry → Type 0
 HaveRuled clocks event starts coming =

@@ -1,7 +1,9 @@
 -- The events of a folder that start once, and what they give: overrides, and masters without RRULE, RDATE and EXDATE
 -- (RFC 5545, sections 3.6.1 and 3.8.4.4).
 use Rattle.std.specs.Prelude.{◌≡◌, ◌==◌, ◌&&◌, ◌||◌, ℤ, int_lt, Bool, true, List, length, Option, Some, None, is_none, is_some, if◌then◌else◌}
+use Rattle.std.specs.List.{AllByRecursion, AllByRecursion-prop}
 use Rattle.std.specs.Option.{option_and_then, unwrap_or}
+use Rattle.std.proofs.Props.{props}
 use Rattle.ics_calendar.specs.Event.{FileSaid}
 use Rattle.ics_calendar.specs.declared.event.Event.{Event}
 use Rattle.ics_calendar.specs.declared.time.Rdate.TheVariants.{At}
@@ -23,6 +25,16 @@ use Rattle.ics_series.specs.Zones.{clocks_in}
 abbrev pub is_single : Event → Bool
 is_single event =
     is_some event.recurrence || ((is_none event.rule && length event.rdates == 0) && length event.exdates == 0)
+
+-- the events of these occurrences start once
+abbrev pub AreSingle : List Entry → Type 0
+AreSingle list = AllByRecursion (λ o. is_single o.event ≡ true) list
+
+pub single-prop : (o : Entry) → IsProp (is_single o.event ≡ true)
+single-prop o = hlevel props
+
+pub AreSingle-prop : (list : List Entry) → IsProp (AreSingle list)
+AreSingle-prop list = AllByRecursion-prop (λ o. is_single o.event ≡ true) single-prop list
 
 -- of the occurrences to come those whose events start once
 abbrev pub IsSingleToCome : List FileSaid → Clock → Window → Option Rank → Entry → Type 0

@@ -1,5 +1,6 @@
 //! The listing of a window.
 ghost use Rattle.std.specs.Prelude.{◌≡◌, List, map, IfOk};
+ghost use Rattle.std.specs.List.{flat_map};
 ghost use Rattle.std.specs.List.Sorted.{IsSorted};
 ghost use Rattle.std.specs.Option.{option_map};
 ghost use Rattle.std.specs.Ordering.{on};
@@ -14,7 +15,8 @@ ghost use Rattle.ics_series.specs.Meets.{IsListed, IsToCome};
 ghost use Rattle.ics_series.specs.Merged.{merged};
 ghost use Rattle.ics_series.specs.MergedLaws.{rises-merged};
 ghost use Rattle.ics_series.specs.Overridden.{is_kept};
-ghost use Rattle.ics_series.specs.Parts.{part_coming};
+ghost use Rattle.ics_series.specs.Parts.{part_coming, part_sources};
+ghost use Rattle.ics_series.specs.Sources.{AreApart, AreApart-prop, AreSources};
 ghost use Rattle.ics_series.specs.Versions.{seen, subject_cmp, subject_seen, AreChosen};
 ghost use Rattle.ics_series.specs.Zones.{IsReached};
 
@@ -37,6 +39,7 @@ use std::alloc::{AllocError, Global};
 #[derive(Drop)]
 pub struct Agenda<'a> {
     merge: Merge<'a, Part<'a>>,
+    ghost apart: { AreApart (flat_map (λ l. part_sources l.feed) merge.leads.items) } by { AreApart-prop (flat_map (λ l. part_sources l.feed) merge.leads.items) },
 }
 
 impl<'a> Agenda<'a> {
@@ -56,6 +59,8 @@ impl<'a> Agenda<'a> {
         ensures behind { IfOk result (λ agenda. (list : List Entry)
             × IsListing entry_cmp (IsListed (map said_by files.entry.now) (display_clock display.entry.now) window) list
             × (⟦<Agenda<'a> as Coming>⟧.coming agenda ≡ after_key (option_map (λ key. key_rank key.now) after.entry) list)) }
+        ensures sources { IfOk result (λ agenda. AreSources (map said_by files.entry.now) (display_clock display.entry.now) window
+            (option_map (λ key. key_rank key.now) after.entry) (⟦<Agenda<'a> as Coming>⟧.sources agenda)) }
     {
         let chosen = chosen(alloc, files, display)?;
         let parts = parts(alloc, files, display, &chosen, window, after)?;
@@ -80,6 +85,8 @@ fn parts<'a>(
         (IsToCome (map said_by files.entry.now) (display_clock display.entry.now) window
         (option_map (λ key. key_rank key.now) after.entry))
         (merged entry_cmp (map part_coming parts.items))) }
+    ensures sources { IfOk result (λ parts. AreSources (map said_by files.entry.now) (display_clock display.entry.now) window
+        (option_map (λ key. key_rank key.now) after.entry) (flat_map part_sources parts.items)) }
     ensures whole { IfOk result (λ _. (list : List Entry)
         × IsListing entry_cmp (IsListed (map said_by files.entry.now) (display_clock display.entry.now) window) list) }
 {
@@ -92,7 +99,17 @@ fn parts<'a>(
 }
 
 impl<'a> Coming for Agenda<'a> {
+    ghost use Rattle.std.specs.List.{AllByRecursion, AllByRecursion-prop};
+    ghost use Rattle.ics_series.specs.Leads.{HasNear, HasNear-prop};
+    ghost use Rattle.ics_series.specs.Parts.{part_near, part_near-prop};
+
     ghost coming = { λ agenda. merged entry_cmp (map (λ l. past agenda.merge.last (listed l.head (part_coming l.feed))) agenda.merge.leads.items) };
+
+    ghost sources = { λ agenda. flat_map (λ l. part_sources l.feed) agenda.merge.leads.items };
+
+    ghost near = { λ agenda o. AllByRecursion (λ l. HasNear (part_near l.feed) (listed l.head (part_coming l.feed)) o) agenda.merge.leads.items };
+
+    ghost near_prop = { λ agenda o. AllByRecursion-prop (λ l. HasNear (part_near l.feed) (listed l.head (part_coming l.feed)) o) (λ l. HasNear-prop (part_near l.feed) (part_near-prop l.feed) (listed l.head (part_coming l.feed)) o) agenda.merge.leads.items };
 }
 
 impl<'a> Feed<'a> for Agenda<'a> {

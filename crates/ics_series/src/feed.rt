@@ -1,6 +1,7 @@
 //! What hands out occurrences one by one.
 ghost use Rattle.std.specs.Prelude.{◌≡◌, List, IfOk, OnErr};
 ghost use Rattle.ics_series.specs.Entry.{Entry, entry_cmp, Gives};
+ghost use Rattle.ics_series.specs.Listing.{IsIn};
 ghost use Rattle.ics_series.specs.Rising.{Rises};
 
 use crate::occurrence::Occurrence;
@@ -11,19 +12,33 @@ use std::alloc::AllocError;
 pub trait Coming {
     ghost use Rattle.std.specs.Prelude.{List};
     ghost use Rattle.ics_series.specs.Entry.{Entry};
+    ghost use Rattle.ics_series.specs.Sources.{Source};
 
     /// The list still to come.
     ghost coming: { Self → List Entry };
+
+    /// What its occurrences are of.
+    ghost sources: { Self → List Source };
+
+    /// This occurrence is of its sources and, where it is still to come, no rule has been read
+    /// further than it asks.
+    ghost near: { Self → Entry → Type 0 };
+
+    /// That has one proof at most.
+    ghost near_prop: { (feed : Self) → (o : Entry) → IsProp (Self.near feed o) };
 }
 
 /// Hands out occurrences one by one, in the order of their keys: by start, then by the bytes of the
 /// UID, then by recurrence.
 pub trait Feed<'a>: Coming {
     /// The first of the list still to come, which then has the rest to come; None where there is
-    /// none. After an `AllocError` the list is unchanged.
+    /// none. After an `AllocError` the list is unchanged. What its occurrences are of stays, and no
+    /// rule is read further than the first that was to come asks.
     fn next(&mut self) -> Result<Option<Occurrence<'a>>, AllocError>
         ensures ok { IfOk result (λ given. Gives (Self.coming self.old) given (Self.coming self.new)) }
-        ensures err { OnErr result (Self.coming self.new ≡ Self.coming self.old) };
+        ensures err { OnErr result (Self.coming self.new ≡ Self.coming self.old) }
+        ensures sources { Self.sources self.new ≡ Self.sources self.old }
+        ensures near { (o : Entry) → IsIn o (Self.coming self.old) → Self.near self.new o };
 
     /// The keys rise strictly.
     ghost rises: { (feed : Self) → Rises entry_cmp (Self.coming feed) };

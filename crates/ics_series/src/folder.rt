@@ -7,6 +7,7 @@ ghost use Rattle.ics_series.specs.Clocks.{display_clock};
 ghost use Rattle.ics_series.specs.Entry.{Entry, entry_cmp, key_rank};
 ghost use Rattle.ics_series.specs.Listing.{IsListing};
 ghost use Rattle.ics_series.specs.Meets.{IsListed, IsToCome};
+ghost use Rattle.ics_series.specs.Sources.{AreSources};
 ghost use Rattle.ics_series.specs.Zones.{IsReached};
 
 use crate::agenda::Agenda;
@@ -77,6 +78,8 @@ impl Folder {
         ensures behind { IfOk result (λ agenda. (list : List Entry)
             × IsListing entry_cmp (IsListed (map said_by self.entry.now.files) (display_clock self.entry.now.display) window) list
             × (⟦<Agenda<'a> as Coming>⟧.coming agenda ≡ after_key (option_map (λ key. key_rank key.now) after.entry) list)) }
+        ensures sources { IfOk result (λ agenda. AreSources (map said_by self.entry.now.files) (display_clock self.entry.now.display) window
+            (option_map (λ key. key_rank key.now) after.entry) (⟦<Agenda<'a> as Coming>⟧.sources agenda)) }
     {
         Agenda::new(self.alloc, &self.files, &self.display, window, after)
     }

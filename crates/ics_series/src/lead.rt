@@ -1,6 +1,6 @@
 //! A feed of which the first is known.
 ghost use Rattle.std.specs.Prelude.{◌≡◌, ◌-◌, ◌^◌, length, min, IfOk, OnErr, OnOk};
-ghost use Rattle.ics_series.specs.Leads.{listed, IsAhead, IsAhead-prop};
+ghost use Rattle.ics_series.specs.Leads.{listed, AreNear, IsAhead, IsAhead-prop};
 
 use crate::feed::{Coming, Feed};
 use crate::holding::Holding;
@@ -18,7 +18,9 @@ pub(crate) struct Lead<'a, F: Coming> {
 
 impl<'a, F: Feed<'a> + Drop> Lead<'a, F> {
     pub(crate) fn new(mut feed: F) -> Result<Lead<'a, F>, AllocError>
-        ensures { IfOk result (λ lead. listed lead.head (F.coming lead.feed) ≡ F.coming feed) }
+        ensures listed { IfOk result (λ lead. listed lead.head (F.coming lead.feed) ≡ F.coming feed) }
+        ensures sources { IfOk result (λ lead. F.sources lead.feed ≡ F.sources feed) }
+        ensures near { IfOk result (λ lead. AreNear (F.near lead.feed) (listed lead.head (F.coming lead.feed))) }
     {
         let head = feed.next()?;
         Ok(Lead { feed, head })
@@ -31,6 +33,8 @@ impl<'a, F: Feed<'a>> Lead<'a, F> {
         ensures drawn { OnOk result (listed self.new.head (F.coming self.new.feed) ≡ F.coming self.old.feed) }
         ensures head { OnErr result (self.new.head ≡ self.old.head) }
         ensures rest { OnErr result (F.coming self.new.feed ≡ F.coming self.old.feed) }
+        ensures sources { F.sources self.new.feed ≡ F.sources self.old.feed }
+        ensures near { AreNear (F.near self.new.feed) (F.coming self.old.feed) }
     {
         let next = self.feed.next()?;
         self.head = next;

@@ -1,13 +1,17 @@
 //! The masters that recur, each as a feed of its own.
-ghost use Rattle.std.specs.Prelude.{◌≡◌, ◌<◌, length, map, slice_get, IfOk, List, MatchOption, None, Some};
+ghost use Rattle.std.specs.Prelude.{◌≡◌, ◌<◌, [], ◌∷◌, length, map, slice_get, IfOk, List, MatchOption, None, Some};
+ghost use Rattle.std.specs.List.{flat_map};
 ghost use Rattle.std.specs.Option.{option_map};
 ghost use Rattle.ics_calendar.specs.Event.{said_by};
 ghost use Rattle.ics_series.specs.Clocks.{display_clock};
 ghost use Rattle.ics_series.specs.Entry.{Entry, entry_cmp, key_rank};
 ghost use Rattle.ics_series.specs.Listing.{IsListing};
-ghost use Rattle.ics_series.specs.Masters.{AreLists, HasLists, HasWhole, IsOfVersion, IsSince, Recurs};
-ghost use Rattle.ics_series.specs.Parts.{part_coming};
+ghost use Rattle.ics_series.specs.Masters.{AreLists, HasLists, HasSources, HasWhole, IsOfVersion, IsSince, IsSourceOf, Recurs};
+ghost use Rattle.ics_series.specs.Parts.{part_coming, part_sources};
+ghost use Rattle.ics_series.specs.SeriesFeed.{series_sources};
 ghost use Rattle.ics_series.specs.Singles.{is_single};
+ghost use Rattle.ics_series.specs.Sources.{Recurring, IsFrom};
+ghost use Rattle.ics_series.specs.Sources.Source.{Of};
 ghost use Rattle.ics_series.specs.Versions.{seen, AreChosen};
 ghost use Rattle.ics_series.specs.Zones.{IsReached};
 
@@ -41,6 +45,9 @@ pub(crate) fn push_series<'a>(
     ensures lists { IfOk result (λ _. HasLists (map said_by files.entry.now) (display_clock display.entry.now) window
         (option_map (λ key. key_rank key.now) after.entry) (map seen chosen.entry.now)
         (map part_coming parts.old.items) (map part_coming parts.new.items)) }
+    ensures sources { IfOk result (λ _. HasSources (map said_by files.entry.now) (display_clock display.entry.now) window
+        (option_map (λ key. key_rank key.now) after.entry) (map seen chosen.entry.now)
+        (flat_map part_sources parts.old.items) (flat_map part_sources parts.new.items)) }
     ensures whole { IfOk result (λ _. (lists : List (List Entry))
         × AreLists (map said_by files.entry.now) (display_clock display.entry.now) window None (map seen chosen.entry.now) lists) }
 {
@@ -69,6 +76,9 @@ fn series_at<'a>(
         (Recurs (map said_by files.entry.now) (seen version) → ⊥)
         (λ series. IsListing entry_cmp (IsOfVersion (map said_by files.entry.now) (display_clock display.entry.now) window
         (option_map (λ key. key_rank key.now) after.entry) (seen version)) (⟦<Series<'a> as Coming>⟧.coming series))) }
+    ensures sources { (version : Version) → slice_get chosen.entry.now place ≡ Some version → IfOk result (λ given. MatchOption given (Unit {0})
+        (λ series. (m : Recurring) × IsSourceOf (map said_by files.entry.now) (display_clock display.entry.now) window
+        (option_map (λ key. key_rank key.now) after.entry) (seen version) m × (series_sources series ≡ Of m ∷ []))) }
     ensures whole { (version : Version) → slice_get chosen.entry.now place ≡ Some version → IfOk result (λ _.
         HasWhole (map said_by files.entry.now) (display_clock display.entry.now) window (seen version)) }
 {
@@ -86,7 +96,8 @@ fn series_at<'a>(
 
 // From when on the occurrences of a master with this UID come after the key.
 fn since_of(after: Option<&Key>, uid: &[u8]) -> Moment
-    ensures { IsSince (option_map (λ key. key_rank key.now) after.entry) uid.entry.now result }
+    ensures since { IsSince (option_map (λ key. key_rank key.now) after.entry) uid.entry.now result }
+    ensures from { IsFrom (option_map (λ key. key_rank key.now) after.entry) result }
 {
     let Some(key) = after else {
         return Moment::MIN;

@@ -1,10 +1,10 @@
 //! The merge of feeds.
 ghost use Rattle.std.specs.Prelude.{◌≡◌, ◌<◌, ◌-◌, ◌^◌, true, false, All, IfOk, OnOk, length, map, min, sum_by};
-ghost use Rattle.std.specs.List.{flat_map};
+ghost use Rattle.std.specs.List.{flat_map, AllByRecursion, AllByRecursion-prop};
 ghost use Rattle.std.specs.Option.{option_map};
 ghost use Rattle.ics_series.specs.Entry.{entry_cmp, entry_of};
 ghost use Rattle.ics_series.specs.EntryLaws.{entry_total};
-ghost use Rattle.ics_series.specs.Leads.{is_given, listed, past, ComeAfter, ComeAfter-prop};
+ghost use Rattle.ics_series.specs.Leads.{is_given, listed, past, AreNear, AreNear-prop, ComeAfter, ComeAfter-prop, HasNear, HasNear-prop};
 ghost use Rattle.ics_series.specs.Merged.{merged};
 ghost use Rattle.ics_series.specs.MergedLaws.{rises-merged};
 ghost use Rattle.ics_series.specs.Tournament.{first_held, AreSettled};
@@ -29,12 +29,14 @@ pub struct Merge<'a, F: Coming> {
     ghost within: { All (λ lead. lead < length leads.items) winners.items },
     ghost settled: { AreSettled (map (λ l. option_map entry_of l.head) leads.items) winners.items },
     ghost follows: { ComeAfter last (map (λ l. past last (listed l.head (F.coming l.feed))) leads.items) } by { ComeAfter-prop last (map (λ l. past last (listed l.head (F.coming l.feed))) leads.items) },
+    ghost near: { AllByRecursion (λ l. AreNear (F.near l.feed) (past last (listed l.head (F.coming l.feed)))) leads.items } by { AllByRecursion-prop (λ l. AreNear (F.near l.feed) (past last (listed l.head (F.coming l.feed)))) (λ l. AreNear-prop (F.near l.feed) (F.near_prop l.feed) (past last (listed l.head (F.coming l.feed)))) leads.items },
 }
 
 impl<'a, F: Feed<'a> + Drop> Merge<'a, F> {
     /// The merge of these feeds.
     pub fn new(alloc: Global, feeds: Vec<F>) -> Result<Merge<'a, F>, AllocError>
-        ensures { IfOk result (λ merge. ⟦<Merge<'a, F> as Coming>⟧.coming merge ≡ merged entry_cmp (map F.coming feeds.items)) }
+        ensures coming { IfOk result (λ merge. ⟦<Merge<'a, F> as Coming>⟧.coming merge ≡ merged entry_cmp (map F.coming feeds.items)) }
+        ensures sources { IfOk result (λ merge. ⟦<Merge<'a, F> as Coming>⟧.sources merge ≡ flat_map F.sources feeds.items) }
     {
         let mut leads = Vec::with_capacity(alloc, feeds.len())?;
         for feed in feeds {
@@ -51,6 +53,12 @@ impl<'a, F: Feed<'a> + Drop> Merge<'a, F> {
 
 impl<'a, F: Coming> Coming for Merge<'a, F> {
     ghost coming = { λ merge. merged entry_cmp (map (λ l. past merge.last (listed l.head (F.coming l.feed))) merge.leads.items) };
+
+    ghost sources = { λ merge. flat_map (λ l. F.sources l.feed) merge.leads.items };
+
+    ghost near = { λ merge o. AllByRecursion (λ l. HasNear (F.near l.feed) (listed l.head (F.coming l.feed)) o) merge.leads.items };
+
+    ghost near_prop = { λ merge o. AllByRecursion-prop (λ l. HasNear (F.near l.feed) (listed l.head (F.coming l.feed)) o) (λ l. HasNear-prop (F.near l.feed) (F.near_prop l.feed) (listed l.head (F.coming l.feed)) o) merge.leads.items };
 }
 
 impl<'a, F: Feed<'a>> Feed<'a> for Merge<'a, F> {
@@ -72,6 +80,7 @@ impl<'a, F: Feed<'a>> Merge<'a, F> {
     // Draws from the leads that go first while they hold what has been given.
     fn skip_given(&mut self) -> Result<(), AllocError>
         ensures same { ⟦<Merge<'a, F> as Coming>⟧.coming self.new ≡ ⟦<Merge<'a, F> as Coming>⟧.coming self.old }
+        ensures sources { ⟦<Merge<'a, F> as Coming>⟧.sources self.new ≡ ⟦<Merge<'a, F> as Coming>⟧.sources self.old }
         ensures skipped { OnOk result (is_given self.new.last (first_held (map (λ l. option_map entry_of l.head) self.new.leads.items) self.new.winners.items) ≡ false) }
     {
         while self.is_first_given() {
@@ -84,6 +93,7 @@ impl<'a, F: Feed<'a>> Merge<'a, F> {
     fn draw_first(&mut self) -> Result<(), AllocError>
         requires { is_given self.old.last (first_held (map (λ l. option_map entry_of l.head) self.old.leads.items) self.old.winners.items) ≡ true }
         ensures same { ⟦<Merge<'a, F> as Coming>⟧.coming self.new ≡ ⟦<Merge<'a, F> as Coming>⟧.coming self.old }
+        ensures sources { ⟦<Merge<'a, F> as Coming>⟧.sources self.new ≡ ⟦<Merge<'a, F> as Coming>⟧.sources self.old }
         ensures fewer { OnOk result (sum_by (λ l. length (listed l.head (F.coming l.feed))) self.new.leads.items
             < sum_by (λ l. length (listed l.head (F.coming l.feed))) self.old.leads.items) }
     {

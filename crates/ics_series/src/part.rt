@@ -15,9 +15,15 @@ pub(crate) enum Part<'a> {
 }
 
 impl<'a> Coming for Part<'a> {
-    ghost use Rattle.ics_series.specs.Parts.{part_coming};
+    ghost use Rattle.ics_series.specs.Parts.{part_coming, part_near, part_near-prop, part_sources};
 
     ghost coming = { part_coming };
+
+    ghost sources = { part_sources };
+
+    ghost near = { part_near };
+
+    ghost near_prop = { part_near-prop };
 }
 
 impl<'a> Holding for Part<'a> {

@@ -228,6 +228,7 @@ impl<'a> RuleStarts<'a> {
         requires { is_behind self.old.day self.old.end self.old.held.items ≡ false }
         ensures left { starts_left self.new ≡ cut moment_cmp start.now (starts_left self.old) }
         ensures source { HasSameSource self.old self.new }
+        ensures asked { self.new.asked ≡ self.old.asked }
     {
         if let Some(first) = self.held.front() {
             if first.moment == start.moment {

@@ -10,7 +10,7 @@ ghost use Rattle.ics_series.specs.Merged.{cut};
 ghost use Rattle.ics_series.specs.Rising.{Rises};
 ghost use Rattle.ics_series.specs.RuleFeed.{starts_left};
 ghost use Rattle.ics_series.specs.SeriesLaws.{event-prop, known-prop, own-rule-prop, reached-prop, ruled-prop, sound-prop, taken-out-prop};
-ghost use Rattle.ics_series.specs.SeriesStarts.{earlier_of, first_asked, first_of, given_of, is_among, left, listed_apart, rule_left, AreKnown, AreTakenOut, HasOwnRule, HasRuled, HasSameRule, IsReady, IsRuleFrom};
+ghost use Rattle.ics_series.specs.SeriesStarts.{earlier_of, first_asked, first_of, given_of, is_among, left, listed_apart, rule_asked, rule_left, AreKnown, AreTakenOut, HasOwnRule, HasRuled, HasSameRule, IsReady, IsRuleFrom};
 ghost use Rattle.ics_series.specs.Zones.{asked, clocks_in, AreReached, IsReadableEvent};
 ghost use Rattle.ics_zone.specs.Tables.{phases_of};
 
@@ -121,6 +121,7 @@ fn pass_rule(rule: &mut Option<RuleStarts<'_>>, start: &Start)
     requires { IsReady rule.old }
     ensures left { rule_left rule.new ≡ cut moment_cmp start.now (rule_left rule.old) }
     ensures rule { HasSameRule rule.old rule.new }
+    ensures asked { rule_asked rule.new ≡ rule_asked rule.old }
 {
     if let Some(starts) = rule {
         starts.pass(start);
@@ -155,10 +156,10 @@ fn is_among(instants: &[Moment], moment: Moment) -> bool
 impl<'a> Series<'a> {
     ghost use Rattle.std.specs.Prelude.{length, IfOk, OnErr};
     ghost use Rattle.std.specs.Option.{option_map};
-    ghost use Rattle.ics_series.specs.Entry.{entry_of};
+    ghost use Rattle.ics_series.specs.Entry.{Entry, entry_of};
     ghost use Rattle.ics_series.specs.Holding.{rule_held, rule_looked};
-    ghost use Rattle.ics_series.specs.Listing.{IsListing};
-    ghost use Rattle.ics_series.specs.SeriesFeed.{series_left, series_of, IsSameSeries};
+    ghost use Rattle.ics_series.specs.Listing.{IsIn, IsListing};
+    ghost use Rattle.ics_series.specs.SeriesFeed.{series_left, series_near, series_of, series_sources, source_of, IsSameSeries};
     ghost use Rattle.ics_series.specs.SeriesStarts.{wanted_by, IsHeldCount, IsKnown, IsSeriesMet, IsStepCount, IsTaken};
 
     /// The occurrences of an event from an instant on, but for those at the instants that overrides
@@ -174,9 +175,10 @@ impl<'a> Series<'a> {
         requires own { IsEventOf (map phases_of zones.zones.now) event.now }
         requires reached { AreReached zones.zones.now (asked window event.now) }
         requires order { IsSorted int_cmp overridden.items }
-        ensures { IfOk result (λ series. IsListing entry_cmp
+        ensures listing { IfOk result (λ series. IsListing entry_cmp
             (IsSeriesMet (clocks_in zones.entry) event.entry.now window since overridden.items)
             (⟦<Series<'a> as Coming>⟧.coming series)) }
+        ensures sources { IfOk result (λ series. series_sources series ≡ source_of (clocks_in zones.entry) event.entry.now window since) }
     {
         if begins_after(event, &window) {
             return Ok(Series {
@@ -210,6 +212,7 @@ impl<'a> Series<'a> {
         ensures taken { IfOk result (λ given. IsTaken (series_left self.old) given (series_left self.new)) }
         ensures err { OnErr result (series_left self.new ≡ series_left self.old) }
         ensures same { IsSameSeries self.old self.new }
+        ensures near { (o : Entry) → IsIn o (series_of self.old (series_left self.old)) → series_near self.new o }
     {
         let ruled = peek_rule(&mut self.rule_starts)?;
         let first = earlier_of(ruled, self.listed.peek());
@@ -261,9 +264,15 @@ impl<'a> Series<'a> {
 }
 
 impl<'a> Coming for Series<'a> {
-    ghost use Rattle.ics_series.specs.SeriesFeed.{series_left, series_of};
+    ghost use Rattle.ics_series.specs.SeriesFeed.{series_left, series_near, series_near-prop, series_of, series_sources};
 
     ghost coming = { λ series. series_of series (series_left series) };
+
+    ghost sources = { series_sources };
+
+    ghost near = { series_near };
+
+    ghost near_prop = { series_near-prop };
 }
 
 impl<'a> Holding for Series<'a> {

@@ -11,7 +11,7 @@ ghost use Rattle.ics_series.specs.Entry.{entry_cmp, entry_of, key_rank};
 ghost use Rattle.ics_series.specs.EntryLaws.{Rises-prop};
 ghost use Rattle.ics_series.specs.Listing.{IsListing};
 ghost use Rattle.ics_series.specs.Rising.{Rises};
-ghost use Rattle.ics_series.specs.Singles.{is_single, is_to_come, single_at, single_entry, IsSingleToCome};
+ghost use Rattle.ics_series.specs.Singles.{is_single, is_to_come, single_at, single_entry, AreSingle, AreSingle-prop, IsSingleToCome};
 ghost use Rattle.ics_series.specs.Spots.{event_at};
 ghost use Rattle.ics_series.specs.Versions.{is_override, seen, subject_cmp, subject_seen, AreChosen};
 ghost use Rattle.ics_series.specs.Zones.{IsReached};
@@ -34,6 +34,7 @@ use std::vec::IntoIter;
 #[derive(Drop)]
 pub(crate) struct Singles<'a> {
     rest: IntoIter<Single<'a>, Global>,
+    ghost single: { AreSingle (map single_entry (into_iter_items rest)) } by { AreSingle-prop (map single_entry (into_iter_items rest)) },
     ghost rising: { Rises entry_cmp (map single_entry (into_iter_items rest)) } by { Rises-prop (map single_entry (into_iter_items rest)) },
 }
 
@@ -65,7 +66,17 @@ impl<'a> Singles<'a> {
 }
 
 impl<'a> Coming for Singles<'a> {
+    ghost use Rattle.std.specs.Prelude.{true, [], ◌∷◌};
+    ghost use Rattle.ics_series.specs.Singles.{single-prop};
+    ghost use Rattle.ics_series.specs.Sources.Source.{Once};
+
     ghost coming = { λ singles. map single_entry (into_iter_items singles.rest) };
+
+    ghost sources = { λ singles. Once ∷ [] };
+
+    ghost near = { λ singles o. is_single o.event ≡ true };
+
+    ghost near_prop = { λ singles o. single-prop o };
 }
 
 impl<'a> Holding for Singles<'a> {

@@ -1,7 +1,9 @@
 use Rattle.std.proofs.Common.{◌≡◌, ◌+◌, [], ◌∷◌, ◌++◌, None, Vec, Global, map, get_or, take, refl, ap, sym, subst, add-one, ◌∙◌}
 use Rattle.std.specs.Prelude.{MatchOption}
+use Rattle.std.specs.List.{flat_map}
 use Rattle.std.specs.Option.{option_map}
-use Rattle.std.proofs.lemmas.List.{map-append}
+use Rattle.std.proofs.lemmas.List.{append-nil, map-append}
+use Rattle.std.proofs.lemmas.List.Concat.{flat_map-append}
 use Rattle.std.proofs.lemmas.Option.{slice_get-get_or}
 use Rattle.ics_calendar.specs.Event.{said_by}
 use Rattle.ics_series.specs.declared.part.Part.{Part}
@@ -11,11 +13,14 @@ use Rattle.ics_series.specs.declared.version.Version.{Version}
 use Rattle.ics_series.specs.Clocks.{display_clock}
 use Rattle.ics_series.specs.Entry.{entry_cmp, key_rank}
 use Rattle.ics_series.specs.Listing.{IsListing}
-use Rattle.ics_series.specs.Masters.{HasLists, HasWhole, IsOfVersion, Recurs}
-use Rattle.ics_series.specs.Parts.{part_coming}
-use Rattle.ics_series.specs.SeriesFeed.{series_left, series_of}
+use Rattle.ics_series.specs.Masters.{HasLists, HasSources, HasWhole, IsOfVersion, IsSourceOf, Recurs}
+use Rattle.ics_series.specs.Parts.{part_coming, part_sources}
+use Rattle.ics_series.specs.SeriesFeed.{series_left, series_of, series_sources}
+use Rattle.ics_series.specs.Sources.{Recurring}
+use Rattle.ics_series.specs.Sources.Source.{Of}
 use Rattle.ics_series.specs.Versions.{seen}
 use Rattle.ics_series.proofs.PushLemmas.{lists-none, matched, matched-none, versions-all, versions-more, versions-skip}
+use Rattle.ics_series.proofs.SourceLemmas.{sources-all, sources-more, sources-none, sources-skip}
 use Rattle.ics_series.proofs.masters.push_series.Goals as goal
 use Rattle.ics_series.proofs.masters.push_series.Goals.{in-Some+in_ok-new+in_ok-push, in_default}
 
@@ -25,6 +30,7 @@ none = record { subject = record { uid = record { ref_ptr = (0, 0); now = [] }; 
 pub loop-place-init : goal.loop-place-init
 loop-place-init c = record {
   lists = lists-none (map said_by c.args.files.now) (display_clock c.args.display.now) c.args.window (option_map (λ key. key_rank key.now) c.args.after) (map part_coming c.args.parts.now.items);
+  sources = sources-none (map said_by c.args.files.now) (display_clock c.args.display.now) c.args.window (option_map (λ key. key_rank key.now) c.args.after) (flat_map part_sources c.args.parts.now.items);
   whole = ([], lists-none (map said_by c.args.files.now) (display_clock c.args.display.now) c.args.window None []);
 }
 
@@ -44,6 +50,22 @@ loop-place-preserved c =
     let whole : HasWhole (map said_by c.args.files.now) (display_clock c.args.display.now) c.args.window (seen (get_or c.args.chosen.now c.loop-place.place none)) = c.in_ok-series.ensures.whole v there in
     let lists = c.loop-place.invariant.whole in
     record {
+      sources =
+          elim c.match-branch-2.branch [
+            | in-Some+in_ok-new+in_ok-push w ↦
+                let value : w.in_ok-new.field-0.value ≡ w.in-Some.series = w.in_ok-new.ensures.ok in
+                let given : MatchOption c.in_ok-series.field-0 (Unit {0}) (λ (series : Series). (m : Recurring) × IsSourceOf (map said_by c.args.files.now) (display_clock c.args.display.now) c.args.window (option_map (λ key. key_rank key.now) c.args.after) (seen (get_or c.args.chosen.now c.loop-place.place none)) m × (series_sources series ≡ Of m ∷ [])) =
+                c.in_ok-series.ensures.sources v there in
+                let m = matched _ _ c.in_ok-series.field-0 w.in-Some.series w.in-Some.is given in
+                sources-more files display c.args.window after c.args.chosen.now c.requires.chosen c.loop-place.place (c.loop-place.place + 1) none m.0 (flat_map part_sources c.args.parts.now.items) (flat_map part_sources c.loop-place.parts.items) (flat_map part_sources c.match-branch-2.parts.items)
+                (add-one c.loop-place.place) c.loop-place-test.true c.loop-place.invariant.sources m.1
+                (ap (λ (p : Vec Part Global). flat_map part_sources p.items) w.parts-is ∙ (ap (flat_map part_sources) (w.in_ok-push.ensures.items)
+                ∙ (flat_map-append part_sources c.loop-place.parts.items (part.Series w.in_ok-new.field-0 ∷ []) ∙ ap (λ xs. flat_map part_sources c.loop-place.parts.items ++ xs) (append-nil (series_sources w.in_ok-new.field-0.value) ∙ (ap series_sources value ∙ m.2)))))
+            | in_default w ↦
+                subst (λ (p : Vec Part Global). HasSources (map said_by c.args.files.now) (display_clock c.args.display.now) c.args.window (option_map (λ key. key_rank key.now) c.args.after) (map seen (take (c.loop-place.place + 1) c.args.chosen.now)) (flat_map part_sources c.args.parts.now.items) (flat_map part_sources p.items))
+                (sym w.parts-is)
+                (sources-skip files display c.args.window after c.args.chosen.now c.requires.chosen c.loop-place.place (c.loop-place.place + 1) none (flat_map part_sources c.args.parts.now.items) (flat_map part_sources c.loop-place.parts.items) (add-one c.loop-place.place) c.loop-place-test.true c.loop-place.invariant.sources)
+          ];
       lists =
           elim c.match-branch-2.branch [
             | in-Some+in_ok-new+in_ok-push w ↦
@@ -73,5 +95,8 @@ returns c =
       lists =
           versions-all (map said_by c.args.files.now) (display_clock c.args.display.now) c.args.window (option_map (λ key. key_rank key.now) c.args.after) c.args.chosen.now c.loop-place.place
           (map part_coming c.args.parts.now.items) (map part_coming c.loop-place.parts.items) c.loop-place-test.false c.loop-place.invariant.lists;
+      sources =
+          sources-all (map said_by c.args.files.now) (display_clock c.args.display.now) c.args.window (option_map (λ key. key_rank key.now) c.args.after) c.args.chosen.now c.requires.chosen c.loop-place.place
+          (flat_map part_sources c.args.parts.now.items) (flat_map part_sources c.loop-place.parts.items) c.loop-place-test.false c.loop-place.invariant.sources;
       whole = (whole.more, whole.are);
     }

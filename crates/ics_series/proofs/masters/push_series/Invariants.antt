@@ -1,10 +1,11 @@
 use Rattle.std.proofs.Common.{List, [], None, map, take}
+use Rattle.std.specs.List.{flat_map}
 use Rattle.std.specs.Option.{option_map}
 use Rattle.ics_calendar.specs.Event.{said_by}
 use Rattle.ics_series.specs.Clocks.{display_clock}
 use Rattle.ics_series.specs.Entry.{Entry, key_rank}
-use Rattle.ics_series.specs.Masters.{HasLists}
-use Rattle.ics_series.specs.Parts.{part_coming}
+use Rattle.ics_series.specs.Masters.{HasLists, HasSources}
+use Rattle.ics_series.specs.Parts.{part_coming, part_sources}
 use Rattle.ics_series.specs.Versions.{seen}
 use Rattle.ics_series.proofs.masters.push_series.Given as goal
 
@@ -14,5 +15,8 @@ invariant-loop-place l = record {
   lists :
       HasLists (map said_by l.files) (display_clock l.display) l.window (option_map (λ key. key_rank key.now) l.after) (map seen (take l.place l.chosen))
       (map part_coming l.initial.parts.items) (map part_coming l.parts.items);
+  sources :
+      HasSources (map said_by l.files) (display_clock l.display) l.window (option_map (λ key. key_rank key.now) l.after) (map seen (take l.place l.chosen))
+      (flat_map part_sources l.initial.parts.items) (flat_map part_sources l.parts.items);
   whole : (lists : List (List Entry)) × HasLists (map said_by l.files) (display_clock l.display) l.window None (map seen (take l.place l.chosen)) [] lists;
 }

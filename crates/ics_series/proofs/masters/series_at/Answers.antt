@@ -1,4 +1,4 @@
-use Rattle.std.proofs.Common.{◌≡◌, ◌∙◌, rules, [], get_or, map, Some, None, false, ℤ, w64, to_z, of_z, sym, ap, subst}
+use Rattle.std.proofs.Common.{◌≡◌, ◌∙◌, rules, [], get_or, map, Some, None, false, ℤ, w64, to_z, of_z, refl, sym, ap, subst}
 use Rattle.std.specs.Option.{option_map}
 use Rattle.std.proofs.lemmas.Option.{slice_get-get_or}
 use Rattle.ics_calendar.specs.Event.{said_by, IsEvent, IsEventOf}
@@ -7,11 +7,13 @@ use Rattle.ics_series.specs.declared.version.Version.{Version}
 use Rattle.ics_series.specs.Clocks.{display_clock}
 use Rattle.ics_series.specs.Entry.{entry_cmp, key_rank}
 use Rattle.ics_series.specs.Listing.{IsListing}
-use Rattle.ics_series.specs.Masters.{HasWhole, IsOfVersion, IsSince}
+use Rattle.ics_series.specs.Masters.{HasWhole, IsOfVersion, IsSince, IsSourceOf}
 use Rattle.ics_series.specs.Overridden.{AreOverridden}
 use Rattle.ics_series.specs.SeriesFeed.{series_left, series_of}
 use Rattle.ics_series.specs.Singles.{is_single}
+use Rattle.ics_series.specs.Sources.{IsFrom, Recurring}
 use Rattle.ics_series.specs.Versions.{seen, subject_seen}
+use Rattle.ics_series.specs.Zones.{clocks_in}
 use Rattle.ics_series.proofs.GivenLemmas.{stands}
 use Rattle.ics_series.proofs.OverriddenLemmas.{chosen-order}
 use Rattle.ics_series.proofs.RecurringLemmas.{not-single, own-subject, series-listing, single-none, there-in, version-there, whole-version}
@@ -25,6 +27,7 @@ event-event-requires c = stands (map said_by c.args.files.now) (display_clock c.
 
 pub returns-then-is_single : goal.returns-then-is_single
 returns-then-is_single c = record {
+  sources = λ version there. tt;
   series = λ version there.
       not-single (map said_by c.args.files.now) c.args.chosen.now c.args.place none version c.requires.within there c.event-event.result.now c.event-event.ensures.event (sym c.is_single.ensures ∙ c.if-is_single.true);
   whole = λ version there.
@@ -60,14 +63,14 @@ returns-clause-series c = λ version there.
     let fits : to_z w64 (of_z w64 c.since_of-since.result) ≡ c.since_of-since.result = search rules in
     let since : IsSince (option_map (λ key. key_rank key.now) c.args.after) c.event-event.result.now.uid (to_z w64 (of_z w64 c.since_of-since.result)) =
     subst (λ (t : ℤ). IsSince (option_map (λ key. key_rank key.now) c.args.after) c.event-event.result.now.uid t) (sym fits)
-    (subst (λ u. IsSince (option_map (λ key. key_rank key.now) c.args.after) u c.since_of-since.result) uid c.since_of-since.ensures) in
+    (subst (λ u. IsSince (option_map (λ key. key_rank key.now) c.args.after) u c.since_of-since.result) uid c.since_of-since.ensures.since) in
     let is_event : IsEvent c.event-event.result.now = search rules in
     let are = subst (λ u. AreOverridden u (map seen c.args.chosen.now) c.in_ok-overridden.overridden.items) uid-2 c.in_ok-overridden.ensures.overridden in
     subst (λ (v : Version). IsListing entry_cmp (IsOfVersion (map said_by c.args.files.now) (display_clock c.args.display.now) c.args.window (option_map (λ key. key_rank key.now) c.args.after) (seen v)) (series_of c.in_ok-series.series (series_left c.in_ok-series.series)))
     (version-there c.args.chosen.now c.args.place none version c.requires.within there)
     (series-listing files display c.args.window after c.args.chosen.now c.requires.chosen (seen v) (there-in seen c.args.chosen.now c.args.place v stands) c.event-event.result.now c.event-event.ensures.event recurs
     c.zones-zones.result c.zones-zones.ensures.clocks is_event (to_z w64 (of_z w64 c.since_of-since.result)) since c.in_ok-overridden.overridden.items are
-    (series_of c.in_ok-series.series (series_left c.in_ok-series.series)) c.in_ok-series.ensures)
+    (series_of c.in_ok-series.series (series_left c.in_ok-series.series)) c.in_ok-series.ensures.listing)
 
 pub returns-clause-whole : goal.returns-clause-whole
 returns-clause-whole c = λ version there.
@@ -85,3 +88,20 @@ returns-clause-whole c = λ version there.
     (version-there c.args.chosen.now c.args.place none version c.requires.within there)
     (whole-version files display c.args.window c.args.chosen.now c.requires.chosen (seen v) (there-in seen c.args.chosen.now c.args.place v stands) c.event-event.result.now c.event-event.ensures.event recurs
     c.zones-zones.result c.zones-zones.ensures.clocks is_event reached own c.in_ok-overridden.overridden.items are)
+
+pub returns-clause-sources : goal.returns-clause-sources
+returns-clause-sources c = λ version there.
+    let recurs : is_single c.event-event.result.now ≡ false = sym c.is_single.ensures ∙ c.if-is_single.false in
+    let fits : to_z w64 (of_z w64 c.since_of-since.result) ≡ c.since_of-since.result = search rules in
+    let m : Recurring = record { clocks = clocks_in c.zones-zones.result; event = c.event-event.result.now; window = c.args.window; since = to_z w64 (of_z w64 c.since_of-since.result) } in
+    let is : IsSourceOf (map said_by c.args.files.now) (display_clock c.args.display.now) c.args.window (option_map (λ key. key_rank key.now) c.args.after) (seen (get_or c.args.chosen.now c.args.place none))
+    (record { clocks = clocks_in c.zones-zones.result; event = c.event-event.result.now; window = c.args.window; since = to_z w64 (of_z w64 c.since_of-since.result) }) = record {
+      stands = c.event-event.ensures.event;
+      recurs = recurs;
+      clocks = c.zones-zones.ensures.clocks;
+      window = refl;
+      since = subst (IsFrom (option_map (λ key. key_rank key.now) c.args.after)) (sym fits) c.since_of-since.ensures.from;
+    } in
+    (m, subst (λ (v : Version). IsSourceOf (map said_by c.args.files.now) (display_clock c.args.display.now) c.args.window (option_map (λ key. key_rank key.now) c.args.after) (seen v)
+    (record { clocks = clocks_in c.zones-zones.result; event = c.event-event.result.now; window = c.args.window; since = to_z w64 (of_z w64 c.since_of-since.result) }))
+    (version-there c.args.chosen.now c.args.place none version c.requires.within there) is, c.in_ok-series.ensures.sources)

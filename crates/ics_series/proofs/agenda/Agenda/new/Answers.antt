@@ -5,6 +5,7 @@ use Rattle.ics_series.specs.Clocks.{display_clock}
 use Rattle.ics_series.specs.Entry.{entry_cmp, key_rank}
 use Rattle.ics_series.specs.Listing.{IsListing}
 use Rattle.ics_series.specs.Meets.{IsToCome}
+use Rattle.ics_series.specs.Sources.{AreApart, AreSources}
 use Rattle.ics_series.proofs.NameLemmas.{names-reached}
 use Rattle.ics_series.proofs.PartLemmas.{behind-key}
 use Rattle.ics_series.proofs.agenda.Agenda.new.Goals as goal
@@ -15,8 +16,12 @@ chosen-requires c = names-reached c.args.files.now c.args.window c.requires.reac
 pub returns : goal.returns
 returns c =
     let listing = subst (IsListing entry_cmp (IsToCome (map said_by c.args.files.now) (display_clock c.args.display.now) c.args.window (option_map (λ key. key_rank key.now) c.args.after)))
-    (sym c.in_ok-merge.ensures) c.in_ok-parts.ensures.listing in
+    (sym c.in_ok-merge.ensures.coming) c.in_ok-parts.ensures.listing in
     record {
+      sources = subst (AreSources (map said_by c.args.files.now) (display_clock c.args.display.now) c.args.window (option_map (λ key. key_rank key.now) c.args.after)) (sym c.in_ok-merge.ensures.sources) c.in_ok-parts.ensures.sources;
       listing = listing;
       behind = behind-key (map said_by c.args.files.now) (display_clock c.args.display.now) c.args.window (option_map (λ key. key_rank key.now) c.args.after) _ c.in_ok-parts.ensures.whole listing;
     }
+
+pub invariant_of-result : goal.invariant_of-result
+invariant_of-result c = record { apart = subst AreApart (sym c.in_ok-merge.ensures.sources) c.in_ok-parts.ensures.sources.apart }

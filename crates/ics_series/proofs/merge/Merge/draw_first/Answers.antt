@@ -4,7 +4,8 @@ use Rattle.ics_series.specs.Entry.{entry_cmp, entry_of}
 use Rattle.ics_series.specs.Leads.{ComeAfter}
 use Rattle.ics_series.specs.Merged.{merged}
 use Rattle.ics_series.specs.Tournament.{above, winner, AreSettled, AreSettledBut}
-use Rattle.ics_series.proofs.LeadLemmas.{fewer-drawn, heads-kept, settled-drawn, to_come-drawn, to_come-kept, written-back}
+use Rattle.ics_series.proofs.LeadLemmas.{fewer-drawn, given-read, heads-kept, settled-drawn, to_come-drawn, to_come-kept, written-back}
+use Rattle.ics_series.proofs.LeadNearLemmas.{flat-set, near-drawn, near-kept}
 use Rattle.ics_series.proofs.merge.Merge.draw_first.Goals as goal
 
 pub invariant_of-self : goal.invariant_of-self
@@ -21,12 +22,25 @@ invariant_of-self g c =
       follows =
           subst (ComeAfter self.last)
           (sym (to_come-kept (λ x. x.head) (λ x. g.F.Coming.coming x.feed) self.leads.items lead old new c.index_mut.ensures.value self.last c.in_err-draw.ensures.head c.in_err-draw.ensures.rest)) self.follows;
+      near =
+          near-kept (λ x. x.head) (λ x. g.F.Coming.coming x.feed) (λ x. g.F.Coming.near x.feed) self.last self.leads.items lead old new c.in_err-draw.ensures.head c.in_err-draw.ensures.rest old.ahead
+          (given-read (λ x. x.head) (λ x. g.F.Coming.coming x.feed) self.leads.items lead old new c.index_mut.ensures.value self.last (winner self.winners.items 1)
+          (c.winner-lead.ensures ∙ ap (λ ws. winner ws 1) c.deref.ensures.value) c.requires).1
+          c.draw.ensures.near self.near;
     }
 
 pub returns-in_err-draw-clause-same : goal.returns-in_err-draw-clause-same
 returns-in_err-draw-clause-same g c =
     let self = c.args.self.now in
     ap (merged entry_cmp) (to_come-kept (λ x. x.head) (λ x. g.F.Coming.coming x.feed) self.leads.items c.winner-lead.result c.index_mut.result.now c.draw.new.self c.index_mut.ensures.value self.last c.in_err-draw.ensures.head c.in_err-draw.ensures.rest)
+
+pub returns-in_err-draw-clause-sources : goal.returns-in_err-draw-clause-sources
+returns-in_err-draw-clause-sources g c =
+    flat-set (λ x. g.F.Coming.sources x.feed) c.args.self.now.leads.items c.winner-lead.result c.index_mut.result.now c.draw.new.self c.index_mut.ensures.value c.draw.ensures.sources
+
+pub returns-clause-sources : goal.returns-clause-sources
+returns-clause-sources g c =
+    flat-set (λ x. g.F.Coming.sources x.feed) c.args.self.now.leads.items c.winner-lead.result c.index_mut.result.now c.draw.new.self c.index_mut.ensures.value c.draw.ensures.sources
 
 pub replay-requires-clause-settled : goal.replay-requires-clause-settled
 replay-requires-clause-settled g c =
@@ -64,6 +78,7 @@ invariant_of-self-2 g c =
           (sym (to_come-drawn (λ x. x.head) (λ x. g.F.Coming.coming x.feed) self.leads.items lead c.index_mut.result.now new c.index_mut.ensures.value
           c.in_ok-draw.ensures.drawn self.last (winner self.winners.items 1)
           (c.winner-lead.ensures ∙ ap (λ ws. winner ws 1) c.deref.ensures.value) c.requires c.index_mut.result.now.ahead)) self.follows;
+      near = near-drawn (λ x. x.head) (λ x. g.F.Coming.coming x.feed) (λ x. g.F.Coming.near x.feed) self.last self.leads.items lead c.index_mut.result.now new c.in_ok-draw.ensures.drawn c.draw.ensures.near self.near;
     }
 
 pub returns-clause-same : goal.returns-clause-same

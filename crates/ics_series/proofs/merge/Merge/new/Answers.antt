@@ -13,4 +13,5 @@ invariant_of-result g c =
       within = subst (λ leads. All (λ lead. lead < length leads) c.in_ok-winners.winners.items) lent made.leads;
       settled = subst (λ leads. AreSettled (map (λ x. option_map entry_of x.head) leads) c.in_ok-winners.winners.items) lent made.settled;
       follows = tt;
+      near = c.loop-feed.invariant.near;
     }

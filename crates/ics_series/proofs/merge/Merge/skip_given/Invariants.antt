@@ -1,13 +1,17 @@
 use Rattle.std.proofs.Common.{◌≡◌, length, map, sum_by}
+use Rattle.std.specs.List.{flat_map}
 use Rattle.ics_series.specs.Entry.{entry_cmp}
 use Rattle.ics_series.specs.Leads.{listed, past}
 use Rattle.ics_series.specs.Merged.{merged}
 use Rattle.ics_series.proofs.merge.Merge.skip_given.Given as goal
 
 abbrev pub invariant-loop-self : goal.invariant-loop-self
-invariant-loop-self g l =
-    merged entry_cmp (map (λ x. past l.self.last (listed x.head (g.F.Coming.coming x.feed))) l.self.leads.items)
-    ≡ merged entry_cmp (map (λ x. past l.fn.self.last (listed x.head (g.F.Coming.coming x.feed))) l.fn.self.leads.items)
+invariant-loop-self g l = record {
+  same :
+      merged entry_cmp (map (λ x. past l.self.last (listed x.head (g.F.Coming.coming x.feed))) l.self.leads.items)
+      ≡ merged entry_cmp (map (λ x. past l.fn.self.last (listed x.head (g.F.Coming.coming x.feed))) l.fn.self.leads.items);
+  sources : flat_map (λ x. g.F.Coming.sources x.feed) l.self.leads.items ≡ flat_map (λ x. g.F.Coming.sources x.feed) l.fn.self.leads.items;
+}
 
 abbrev pub decreases-loop-self : goal.decreases-loop-self
 decreases-loop-self g l = sum_by (λ x. length (listed x.head (g.F.Coming.coming x.feed))) l.self.leads.items

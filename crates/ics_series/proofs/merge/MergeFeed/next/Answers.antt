@@ -1,8 +1,10 @@
-use Rattle.std.proofs.Common.{ap, sym, ◌∙◌, rules}
+use Rattle.std.proofs.Common.{Some, ap, sym, subst, ◌∙◌, rules}
 use Rattle.std.specs.Option.{option_map}
 use Rattle.ics_series.specs.Entry.{entry_of}
+use Rattle.ics_series.specs.Listing.{IsIn}
 use Rattle.ics_series.specs.Tournament.{winner}
-use Rattle.ics_series.proofs.LeadLemmas.{first-comes, nothing-comes, wins-leads}
+use Rattle.ics_series.proofs.LeadLemmas.{first-comes, nothing-comes, uncut-first, wins-leads}
+use Rattle.ics_series.proofs.LeadNearLemmas.{near-each, near-past, near-to_come, near-whole}
 use Rattle.ics_series.proofs.merge.MergeFeed.next.Goals as goal
 
 pub invariant_of-self-clause-follows : goal.invariant_of-self-clause-follows
@@ -32,3 +34,35 @@ returns-in-None-clause-ok g c =
     (wins-leads (λ x. x.head) self.leads.items self.winners.items self.same_length self.settled) self.last
     (sym c.first.ensures ∙ ap (option_map entry_of) c.in-None.is) in
     (sym c.in_ok-skip_given.ensures.same ∙ nothing, nothing)
+
+pub invariant_of-self-clause-near : goal.invariant_of-self-clause-near
+invariant_of-self-clause-near g c =
+    let met : g.claim c.lifetimes = search rules in
+    let self = c.skip_given.new.self in
+    near-past (λ x. x.head) (λ x. g.F.Coming.coming x.feed) (λ x. g.F.Coming.near x.feed) (Some c.in-Some.first) self.leads.items
+    (near-whole (λ x. x.head) (λ x. g.F.Coming.coming x.feed) (λ x. g.F.Coming.near x.feed) self.last self.leads.items
+    (uncut-first (λ x. x.head) (λ x. g.F.Coming.coming x.feed) (λ x. x.ahead) self.leads.items (winner self.winners.items 1)
+    (wins-leads (λ x. x.head) self.leads.items self.winners.items self.same_length self.settled)
+    (λ x. (g.met.F.Feed c.lifetimes met).rises x.feed) self.last c.in-Some.first
+    (sym c.first.ensures ∙ ap (option_map entry_of) c.in-Some.is) c.in_ok-skip_given.ensures.skipped self.follows) self.near)
+
+pub returns-in-Some-clause-near : goal.returns-in-Some-clause-near
+returns-in-Some-clause-near g c = λ o m.
+    let met : g.claim c.lifetimes = search rules in
+    let self = c.skip_given.new.self in
+    near-each (λ x. x.head) (λ x. g.F.Coming.coming x.feed) (λ x. g.F.Coming.near x.feed) o self.leads.items
+    (near-whole (λ x. x.head) (λ x. g.F.Coming.coming x.feed) (λ x. g.F.Coming.near x.feed) self.last self.leads.items
+    (uncut-first (λ x. x.head) (λ x. g.F.Coming.coming x.feed) (λ x. x.ahead) self.leads.items (winner self.winners.items 1)
+    (wins-leads (λ x. x.head) self.leads.items self.winners.items self.same_length self.settled)
+    (λ x. (g.met.F.Feed c.lifetimes met).rises x.feed) self.last c.in-Some.first
+    (sym c.first.ensures ∙ ap (option_map entry_of) c.in-Some.is) c.in_ok-skip_given.ensures.skipped self.follows) self.near)
+
+pub returns-in-None-clause-near : goal.returns-in-None-clause-near
+returns-in-None-clause-near g c = λ o m.
+    let self = c.skip_given.new.self in
+    near-to_come (λ x. x.head) (λ x. g.F.Coming.coming x.feed) (λ x. g.F.Coming.near x.feed) self.last o self.leads.items self.follows (subst (IsIn o) (sym c.skip_given.ensures.same) m) self.near
+
+pub returns-in_err-skip_given-clause-near : goal.returns-in_err-skip_given-clause-near
+returns-in_err-skip_given-clause-near g c = λ o m.
+    let self = c.skip_given.new.self in
+    near-to_come (λ x. x.head) (λ x. g.F.Coming.coming x.feed) (λ x. g.F.Coming.near x.feed) self.last o self.leads.items self.follows (subst (IsIn o) (sym c.skip_given.ensures.same) m) self.near

@@ -1,4 +1,4 @@
-use Rattle.std.proofs.Common.{◌≡◌, ◌+ℤ◌, pos, true, false, refl, w64, to_z, of_z, get_or, sym, ◌∙◌, subst, arith}
+use Rattle.std.proofs.Common.{◌≡◌, ◌+ℤ◌, pos, true, false, refl, w64, to_z, of_z, get_or, sym, ◌∙◌, ap, subst, arith}
 use Rattle.std.proofs.lemmas.Int.{ints}
 use Rattle.std.proofs.lemmas.List.Elements.{Contains-get_or}
 use mir.Val.{SFits}
@@ -9,6 +9,7 @@ use Rattle.ics_series.specs.Entry.{entry_cmp}
 use Rattle.ics_series.specs.Found.{AreFirsts, AreStartsSince}
 use Rattle.ics_series.specs.Listing.{IsIn, IsListing}
 use Rattle.ics_series.specs.Rising.{Rises}
+use Rattle.ics_series.specs.SeriesFeed.{source_of}
 use Rattle.ics_series.specs.SeriesStarts.{given_of, left, listed_apart, listed_left, HasRuled, IsBegun, IsSeriesMet}
 use Rattle.ics_series.specs.Zones.{clocks_in}
 use Rattle.ics_series.proofs.MeetingLemmas.{le-true}
@@ -35,8 +36,8 @@ invariant_of-result c =
       rising = rises-none clocks c.args.window c.args.event.now _ c.args.overridden.items (listed_left c.none-then-begins_after.result) c.none-then-begins_after.ensures;
     }
 
-pub returns-then-begins_after : goal.returns-then-begins_after
-returns-then-begins_after c =
+pub returns-then-begins_after-clause-listing : goal.returns-then-begins_after-clause-listing
+returns-then-begins_after-clause-listing c =
     let w = c.args.window in
     let event = c.args.event.now in
     let clocks = clocks_in c.args.zones in
@@ -99,8 +100,8 @@ invariant_of-result-2 c =
           (series-listing clocks w event c.args.since c.args.overridden.items (left c.starts_by_rule-rule_starts.result c.in_ok-new.field-0) starts).rises;
     }
 
-pub returns : goal.returns
-returns c =
+pub returns-clause-listing : goal.returns-clause-listing
+returns-clause-listing c =
     let w = c.args.window in
     let event = c.args.event.now in
     let clocks = clocks_in c.args.zones in
@@ -116,3 +117,15 @@ returns c =
     subst (λ t. IsListing entry_cmp (IsSeriesMet (clocks_in c.args.zones) c.args.event.now c.args.window c.args.since c.args.overridden.items)
     (given_of (clocks_in c.args.zones) c.args.window c.args.event.now t c.args.overridden.items (left c.starts_by_rule-rule_starts.result c.in_ok-new.field-0))) (sym since)
     (series-listing clocks w event c.args.since c.args.overridden.items (left c.starts_by_rule-rule_starts.result c.in_ok-new.field-0) starts)
+
+pub returns-then-begins_after-clause-sources : goal.returns-then-begins_after-clause-sources
+returns-then-begins_after-clause-sources c =
+    let fits : SFits w64 c.args.since = c.ranges.since in
+    let since : to_z w64 (of_z w64 c.args.since) ≡ c.args.since = omega (arith, ints) in
+    ap (source_of (clocks_in c.args.zones) c.args.event.now c.args.window) since
+
+pub returns-clause-sources : goal.returns-clause-sources
+returns-clause-sources c =
+    let fits : SFits w64 c.args.since = c.ranges.since in
+    let since : to_z w64 (of_z w64 c.args.since) ≡ c.args.since = omega (arith, ints) in
+    ap (source_of (clocks_in c.args.zones) c.args.event.now c.args.window) since

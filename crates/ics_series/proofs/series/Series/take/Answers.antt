@@ -4,13 +4,14 @@ use Rattle.ics_series.specs.Entry.{entry_cmp}
 use Rattle.ics_series.specs.Found.{moment_cmp}
 use Rattle.ics_series.specs.Merged.{union}
 use Rattle.ics_series.specs.Rising.{Rises}
-use Rattle.ics_series.specs.SeriesStarts.{earlier_of, first_of, given_of, left, listed_left, rule_left, AreKnown, IsTaken}
+use Rattle.ics_series.specs.SeriesFeed.{series_left, series_of}
+use Rattle.ics_series.specs.SeriesStarts.{earlier_of, first_of, given_of, left, listed_left, rule_left, AreKnown, IsAskedNear, IsTaken}
 use Rattle.ics_series.specs.Zones.{clocks_in}
 use Rattle.ics_series.specs.MergedLaws.{rises-union}
 use Rattle.ics_series.proofs.FirstLemmas.{moment_total}
 use Rattle.ics_series.proofs.LeftLemmas.{first-taken, none-taken}
 use Rattle.ics_series.proofs.OwnRuleLemmas.{own-rule-same}
-use Rattle.ics_series.proofs.SeriesLemmas.{both-passed, known-rest, rises-listed, rises-rest, rises-rule, ruled-rest, ruled-same}
+use Rattle.ics_series.proofs.SeriesLemmas.{asked-near, both-passed, given-own, known-rest, rises-listed, rises-rest, rises-rule, ruled-rest, ruled-same}
 use Rattle.ics_series.proofs.series.Series.take.Goals as goal
 
 pub invariant_of-self : goal.invariant_of-self
@@ -87,3 +88,22 @@ returns-in_default-clause-taken c =
     let empty : left c.peek_rule.new.rule s.listed ≡ [] = none-taken (rule_left c.peek_rule.new.rule) (listed_left s.listed) none in
     let before : left s.rule_starts s.listed ≡ [] = sym (ap (λ xs. union moment_cmp xs (listed_left s.listed)) c.peek_rule.ensures.same) ∙ empty in
     subst (λ o. IsTaken (left s.rule_starts s.listed) o (left c.peek_rule.new.rule s.listed)) (sym c.in_default.is) (before, empty)
+
+pub returns-in_err-ruled-clause-near : goal.returns-in_err-ruled-clause-near
+returns-in_err-ruled-clause-near c = λ o m.
+    let s = c.args.self.now in
+    (given-own (clocks_in s.zones) s.window s.event.now s.since s.overridden.items (series_left s) o m,
+    asked-near (clocks_in s.zones) s.event.now s.rule_starts c.peek_rule.new.rule c.peek_rule.ensures.rule c.peek_rule.ensures.same (series_of s (series_left s)) s.ruled o m)
+
+pub returns-in-Some-clause-near : goal.returns-in-Some-clause-near
+returns-in-Some-clause-near c = λ o m.
+    let s = c.args.self.now in
+    (given-own (clocks_in s.zones) s.window s.event.now s.since s.overridden.items (series_left s) o m,
+    subst (λ day. IsAskedNear (clocks_in s.zones) s.event.now day o.start) (sym c.pass_rule.ensures.asked)
+    (asked-near (clocks_in s.zones) s.event.now s.rule_starts c.peek_rule.new.rule c.peek_rule.ensures.rule c.peek_rule.ensures.same (series_of s (series_left s)) s.ruled o m))
+
+pub returns-in_default-clause-near : goal.returns-in_default-clause-near
+returns-in_default-clause-near c = λ o m.
+    let s = c.args.self.now in
+    (given-own (clocks_in s.zones) s.window s.event.now s.since s.overridden.items (series_left s) o m,
+    asked-near (clocks_in s.zones) s.event.now s.rule_starts c.peek_rule.new.rule c.peek_rule.ensures.rule c.peek_rule.ensures.same (series_of s (series_left s)) s.ruled o m)

@@ -1,10 +1,13 @@
 use Rattle.std.proofs.Common.{◌≡◌, length}
-use Rattle.ics_series.specs.SeriesFeed.{series_left, series_of}
+use Rattle.ics_series.specs.SeriesFeed.{series_left, series_of, series_sources}
 use Rattle.ics_series.proofs.series.SeriesFeed.next.Given as goal
 
 -- what is wanted of the starts that were taken was given
 abbrev pub invariant-loop-start : goal.invariant-loop-start
-invariant-loop-start l = series_of l.self (series_left l.self) ≡ series_of l.initial.self (series_left l.initial.self)
+invariant-loop-start l = record {
+  coming : series_of l.self (series_left l.self) ≡ series_of l.initial.self (series_left l.initial.self);
+  sources : series_sources l.self ≡ series_sources l.initial.self;
+}
 
 abbrev pub decreases-loop-start : goal.decreases-loop-start
 decreases-loop-start l = length (series_left l.self)

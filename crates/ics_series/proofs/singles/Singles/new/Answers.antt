@@ -6,9 +6,9 @@ use Rattle.ics_series.specs.Clocks.{display_clock}
 use Rattle.ics_series.specs.Entry.{entry_cmp, key_rank}
 use Rattle.ics_series.specs.Listing.{IsListing}
 use Rattle.ics_series.specs.Rising.{Rises}
-use Rattle.ics_series.specs.Singles.{single_entry, IsSingleToCome}
+use Rattle.ics_series.specs.Singles.{single_entry, AreSingle, IsSingleToCome}
 use Rattle.ics_series.proofs.OverrideLemmas.{overrides-sorted}
-use Rattle.ics_series.proofs.SinglesLemmas.{singles-listing}
+use Rattle.ics_series.proofs.SinglesLemmas.{are-single, singles-listing}
 use Rattle.ics_series.proofs.singles.Singles.new.Goals as goal
 
 pub to_come-requires-clause-overrides : goal.to_come-requires-clause-overrides
@@ -20,7 +20,10 @@ invariant_of-result c =
     let listing = singles-listing (map said_by c.args.files.now) (display_clock c.args.display.now) c.args.window.now (option_map (λ key. key_rank key.now) c.args.after)
     c.args.chosen.now c.args.overrides.now c.in_ok-singles.singles.items c.sort_unstable_by.new.self.items
     c.requires.chosen c.requires.overrides c.in_ok-singles.ensures c.sort_unstable_by.ensures.permutation c.sort_unstable_by.ensures.sorted (λ f a r f' k. search rules) in
-    record { rising = subst (λ (xs : List Single). Rises entry_cmp (map single_entry xs)) (sym c.into_iter.ensures.rest) listing.rises }
+    record {
+      single = subst (λ (xs : List Single). AreSingle (map single_entry xs)) (sym c.into_iter.ensures.rest) (are-single (map single_entry c.sort_unstable_by.new.self.items) (λ o m. ((listing.exact o).0 m).1));
+      rising = subst (λ (xs : List Single). Rises entry_cmp (map single_entry xs)) (sym c.into_iter.ensures.rest) listing.rises;
+    }
 
 pub returns : goal.returns
 returns c =

@@ -1,0 +1,10 @@
+use Rattle.std.proofs.Common.{sym, ap, subst, ◌∙◌}
+use Rattle.ics_series.specs.Listing.{IsIn}
+use Rattle.ics_series.specs.Parts.{part_coming}
+use Rattle.ics_series.specs.SeriesFeed.{series_left, series_of}
+use Rattle.ics_series.proofs.part.PartFeed.next.Goals as goal
+
+pub returns-in-Series-clause-near : goal.returns-in-Series-clause-near
+returns-in-Series-clause-near c = λ o m.
+    c.next-in-Series.ensures.near o
+    (subst (λ s. IsIn o (series_of s (series_left s))) (sym c.deref_mut.ensures.value) (subst (λ p. IsIn o (part_coming p)) c.in-Series.is m))

@@ -1,0 +1,8 @@
+use Rattle.std.proofs.Common.{map}
+use Rattle.std.specs.Vec.Iter.{into_iter_items}
+use Rattle.ics_series.specs.Singles.{single_entry}
+use Rattle.ics_series.proofs.SinglesLemmas.{single-in}
+use Rattle.ics_series.proofs.singles.SinglesFeed.next.Goals as goal
+
+pub returns-in-Some-clause-near : goal.returns-in-Some-clause-near
+returns-in-Some-clause-near c = single-in (map single_entry (into_iter_items c.args.self.now.rest)) c.args.self.now.single

@@ -1,0 +1,87 @@
+-- What the occurrences of a feed are of.
+use Rattle.std.specs.Prelude.{◌≡◌, ◌≤◌, ◌≤ℤ◌, ℤ, Bool, true, false, List, [], ◌∷◌, map, count_by, Option, Some, None}
+use Rattle.std.specs.Coded.{×_prop, Unit-prop, le_prop}
+use Rattle.std.specs.List.{AllByRecursion, AllByRecursion-prop}
+use Rattle.std.proofs.Props.{props}
+use Rattle.std.specs.Cmp.Lexicographic.{slice_cmp}
+use Rattle.std.specs.Ordering.{nat_cmp, on, Ordering-set}
+use Rattle.std.specs.declared.cmp.Ordering.{Ordering}
+use Rattle.std.specs.declared.cmp.Ordering.TheVariants.{Less}
+use Rattle.ics_calendar.specs.Event.{FileSaid}
+use Rattle.ics_calendar.specs.declared.event.Event.{Event}
+use Rattle.ics_series.specs.declared.window.Window.{Window}
+use Rattle.ics_series.specs.Chosen.{IsMaster}
+use Rattle.ics_series.specs.Clocks.{Clock, Clocks}
+use Rattle.ics_series.specs.Entry.{Rank}
+use Rattle.ics_series.specs.HeldMost.{Master}
+use Rattle.ics_series.specs.Placed.{Placed, clocks_at}
+use Rattle.ics_series.specs.Rising.{IsBefore, Rises}
+use Rattle.ics_series.specs.Singles.{is_single}
+
+-- a master that recurs, with the clocks by which its times are read, in a window and from an instant on
+pub record Recurring : Type 0 where
+  pub clocks : Clocks
+  pub event : Event
+  pub window : Window
+  pub since : ℤ
+
+-- the events of a folder that start once, or such a master
+pub data Source : Type 0 where
+  Once : Source
+  Of : Recurring → Source
+
+abbrev pub is_once : Source → Bool
+is_once Once = true
+is_once (Of m) = false
+
+-- the masters among some sources
+abbrev pub recurring : List Source → List Recurring
+recurring [] = []
+recurring (Once ∷ sources) = recurring sources
+recurring (Of m ∷ sources) = m ∷ recurring sources
+
+abbrev pub master_of : Recurring → Master
+master_of m = record { clocks = m.clocks; event = m.event }
+
+-- by the bytes of the UID
+abbrev pub uid_cmp : Recurring → Recurring → Ordering
+uid_cmp = on (λ m. m.event.uid) (slice_cmp nat_cmp)
+
+-- One source at most is that of the events that start once, and each master recurs and has a UID of its own.
+abbrev pub AreApart : List Source → Type 0
+AreApart sources =
+    (count_by is_once sources ≤ 1) × (AllByRecursion (λ m. is_single m.event ≡ false) (recurring sources) × Rises uid_cmp (recurring sources))
+
+before-prop : (m : Recurring) (ms : List Recurring) → IsProp (IsBefore uid_cmp m ms)
+before-prop m [] = Unit-prop
+before-prop m (n ∷ ms) = ×_prop (Ordering-set (uid_cmp m n) Less) (before-prop m ms)
+
+uids-prop : (ms : List Recurring) → IsProp (Rises uid_cmp ms)
+uids-prop [] = Unit-prop
+uids-prop (m ∷ ms) = ×_prop (before-prop m ms) (uids-prop ms)
+
+recurs-prop : (m : Recurring) → IsProp (is_single m.event ≡ false)
+recurs-prop m = hlevel props
+
+pub AreApart-prop : (sources : List Source) → IsProp (AreApart sources)
+AreApart-prop sources =
+    ×_prop le_prop (×_prop (AllByRecursion-prop (λ m. is_single m.event ≡ false) recurs-prop (recurring sources)) (uids-prop (recurring sources)))
+
+-- where a listing goes on after a key, not before the start of what has the key
+abbrev pub IsFrom : Option Rank → ℤ → Type 0
+IsFrom None since = Unit {0}
+IsFrom (Some key) since = key.start ≤ℤ since
+
+-- the master of its UID, read by the clocks of its file
+pub record IsMasterOf (files : List FileSaid) (display : Clock) (w : Window) (after : Option Rank) (m : Recurring) : Type 0 where
+  pub by : Placed
+  pub is : IsMaster files display by
+  pub event : m.event ≡ by.event
+  pub clocks : m.clocks ≡ clocks_at files display by.file
+  pub window : m.window ≡ w
+  pub since : IsFrom after m.since
+
+-- what the listing of a window is of: the events that start once, and masters that recur, each of a UID of its own
+pub record AreSources (files : List FileSaid) (display : Clock) (w : Window) (after : Option Rank) (sources : List Source) : Type 0 where
+  pub apart : AreApart sources
+  pub each : AllByRecursion (IsMasterOf files display w after) (recurring sources)
