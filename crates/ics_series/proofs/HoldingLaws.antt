@@ -1,7 +1,7 @@
 -- What the feeds of some masters hold together is at most what these masters may hold.
-use Rattle.std.specs.Prelude.{count_by, sum_by}
+use Rattle.std.specs.Prelude.{sum_by}
 use Rattle.std.specs.List.{flat_map}
-use Rattle.std.proofs.Common.{ℕ, ◌+◌, ◌≤◌, ℤ, List, [], ◌∷◌, cond, length, Option, Some, None, subst, arith}
+use Rattle.std.proofs.Common.{◌≡◌, ℕ, ◌+◌, ◌≤◌, ℤ, List, [], ◌∷◌, ◌++◌, cond, length, map, Option, Some, None, refl, ◌∙◌, ap, subst, arith}
 use Rattle.std.proofs.lemmas.List.{length-append, length-map}
 use Rattle.std.proofs.lemmas.List.Sums.{sum_by-append, sum_by-cons}
 use Rattle.ics_calendar.specs.declared.event.Event.{Event}
@@ -14,10 +14,13 @@ use Rattle.ics_series.specs.declared.window.Window.{Window}
 use Rattle.ics_series.specs.declared.zones.FileZones.{FileZones}
 use Rattle.ics_series.specs.Entry.{Entry}
 use Rattle.ics_series.specs.HeldMost.{held_most, most_in_days, Master}
-use Rattle.ics_series.specs.Holding.{is_singles, masters_of, part_holds, rule_held, series_holds}
+use Rattle.ics_series.specs.Holding.{part_holds, rule_held, series_holds}
 use Rattle.ics_series.specs.Leads.{listed}
 use Rattle.ics_series.specs.Meeting.{entry_from}
+use Rattle.ics_series.specs.Parts.{part_sources}
 use Rattle.ics_series.specs.SeriesStarts.{first_of, HasOwnRule}
+use Rattle.ics_series.specs.Sources.{is_once, master_of, recurring, AreApart, Recurring, Source}
+use Rattle.ics_series.specs.Sources.Source.{Of, Once}
 use Rattle.ics_series.specs.Zones.{clocks_in}
 use Rattle.ics_series.proofs.RuleStepLemmas.{few-held}
 
@@ -40,38 +43,55 @@ one-drawn : (head : Option Occurrence) (es : List Entry) → length (listed head
 one-drawn None es = omega arith
 one-drawn (Some o) es = omega arith
 
-abbrev most_of : Master → ℕ
+-- What masters may hold and do adds up over the sources of parts.
+pub recurring-append : (xs ys : List Source) → recurring (xs ++ ys) ≡ recurring xs ++ recurring ys
+recurring-append [] ys = refl
+recurring-append (Once ∷ xs) ys = recurring-append xs ys
+recurring-append (Of m ∷ xs) ys = ap (λ ms. m ∷ ms) (recurring-append xs ys)
+
+pub sum-recurring : (f : Recurring → ℕ) (xs ys : List Source) → sum_by f (recurring (xs ++ ys)) ≡ sum_by f (recurring xs) + sum_by f (recurring ys)
+sum-recurring f xs ys = ap (sum_by f) (recurring-append xs ys) ∙ sum_by-append f (recurring xs) (recurring ys)
+
+abbrev most_of : Recurring → ℕ
 most_of m = 2 + most_in_days m.clocks m.event
 
-lead-few : (head : Option Occurrence) (p : Part) → length (listed head (part_holds p)) ≤ cond (is_singles p) 1 0 + sum_by most_of (masters_of p)
-lead-few head (Singles s) = omega (arith, one-drawn head [])
+abbrev once : Source → ℕ
+once s = cond (is_once s) 1 0
+
+lead-few : (head : Option Occurrence) (p : Part) → length (listed head (part_holds p)) ≤ sum_by once (part_sources p) + sum_by most_of (recurring (part_sources p))
+lead-few head (Singles s) = omega (arith, one-drawn head [], sum_by-cons once Once [])
 lead-few head (Series s) =
-    let m : Master = record { clocks = clocks_in s.value.zones; event = s.value.event.now } in
+    let m : Recurring = record { clocks = clocks_in s.value.zones; event = s.value.event.now; window = s.value.window; since = s.value.since } in
     omega (arith, one-drawn head (series_holds s.value), series-few s.value, sum_by-cons most_of m [])
+
+most-masters : (ms : List Recurring) → sum_by (λ x. 2 + most_in_days x.clocks x.event) (map master_of ms) ≡ sum_by most_of ms
+most-masters [] = refl
+most-masters (m ∷ ms) = omega (arith, sum_by-cons (λ (x : Master). 2 + most_in_days x.clocks x.event) (master_of m) (map master_of ms), sum_by-cons most_of m ms, most-masters ms)
 
 -- Leads, each with what is drawn of its part and the part.
 module _ {X : Type 0} (head : X → Option Occurrence) (part : X → Part) where
   leads-few : (xs : List X) → length (flat_map (λ x. listed (head x) (part_holds (part x))) xs)
-      ≤ count_by (λ x. is_singles (part x)) xs + sum_by most_of (flat_map (λ x. masters_of (part x)) xs)
+      ≤ sum_by once (flat_map (λ x. part_sources (part x)) xs) + sum_by most_of (recurring (flat_map (λ x. part_sources (part x)) xs))
   leads-few [] = omega arith
   leads-few (x ∷ xs) =
       omega (
         arith,
         length-append (listed (head x) (part_holds (part x))) (flat_map (λ y. listed (head y) (part_holds (part y))) xs),
-        sum_by-append most_of (masters_of (part x)) (flat_map (λ y. masters_of (part y)) xs),
-        sum_by-cons (λ y. cond (is_singles (part y)) 1 0) x xs,
+        sum-recurring most_of (part_sources (part x)) (flat_map (λ y. part_sources (part y)) xs),
+        sum_by-append once (part_sources (part x)) (flat_map (λ y. part_sources (part y)) xs),
         lead-few (head x) (part x),
         leads-few xs,
       )
 
-  -- of which one at most is of the events that start once
-  pub held-by-leads : (xs : List X) → count_by (λ x. is_singles (part x)) xs ≤ 1
-      → length (flat_map (λ x. listed (head x) (part_holds (part x))) xs) ≤ held_most (flat_map (λ x. masters_of (part x)) xs)
+  -- of which one at most is of the events that start once, and one more that was given last
+  pub held-with-last : (last : Option Occurrence) (xs : List X) → AreApart (flat_map (λ x. part_sources (part x)) xs)
+      → length (listed last (flat_map (λ x. listed (head x) (part_holds (part x))) xs)) ≤ held_most (map master_of (recurring (flat_map (λ x. part_sources (part x)) xs)))
   unfolding held_most
-  held-by-leads xs one = omega (arith, leads-few xs, one)
-
-  -- and one more that was given last
-  pub held-with-last : (last : Option Occurrence) (xs : List X) → count_by (λ x. is_singles (part x)) xs ≤ 1
-      → length (listed last (flat_map (λ x. listed (head x) (part_holds (part x))) xs)) ≤ held_most (flat_map (λ x. masters_of (part x)) xs)
-  unfolding held_most
-  held-with-last last xs one = omega (arith, one-drawn last (flat_map (λ x. listed (head x) (part_holds (part x))) xs), leads-few xs, one)
+  held-with-last last xs apart =
+      omega (
+        arith,
+        one-drawn last (flat_map (λ x. listed (head x) (part_holds (part x))) xs),
+        leads-few xs,
+        apart.0,
+        most-masters (recurring (flat_map (λ x. part_sources (part x)) xs)),
+      )

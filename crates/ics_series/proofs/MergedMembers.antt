@@ -15,7 +15,7 @@ module _ {A : Type 0} (R : A → A → Ordering) (o : IsTotalOrder R) where
   IsInOne e [] = ⊥
   IsInOne e (xs ∷ xss) = IsIn e xs ⊎ IsInOne e xss
 
-  from-one : (e : A) (xss : List (List A)) → IsFromFirst R e xss → IsInOne e xss
+  pub from-one : (e : A) (xss : List (List A)) → IsFromFirst R e xss → IsInOne e xss
   from-one e [] m = m
   from-one e (xs ∷ xss) m = ⊎_elim inl (λ k. inr (from-one e xss k.1)) m
 

@@ -34,7 +34,7 @@ use Rattle.ics_series.specs.Meets.{IsEventMet}
 use Rattle.ics_series.specs.Rising.{IsBefore, Rises}
 use Rattle.ics_series.specs.RuleFeed.{starts_left}
 use Rattle.ics_series.specs.RuleStarts.{gives, lets_until, midnight_number, moment_numbered}
-use Rattle.ics_series.specs.SeriesStarts.{given_of, is_among, has_moment, is_wanted, listed_left, rule_asked, rule_left, wanted_by, AreKnown, HasRuled, HasSameRule, HaveRuled, IsAskedNear, IsGivenAt, IsGivenBy, IsKnown, IsSeriesMet, IsStepCount}
+use Rattle.ics_series.specs.SeriesStarts.{given_of, is_among, has_moment, is_wanted, listed_left, rule_asked, rule_left, wanted_by, AreKnown, HasRuled, HasSameRule, HaveRuled, IsAskedNear, IsGivenAt, IsGivenBy, IsKnown, IsSeriesMet}
 use Rattle.ics_series.specs.Starts.{given_by, local_of, recurrence_of, time_at, GivesStart, IsRuleStart}
 use Rattle.ics_series.specs.Zones.{clocks_in}
 use Rattle.ics_series.proofs.FirstLemmas.{int-less, moment_total, tied-moment}
@@ -273,27 +273,6 @@ asked-near clocks event a b same left coming ruled =
 -- and each that the starts of an event give is of it
 pub given-own : (clocks : Clocks) (w : Window) (event : Event) (since : ℤ) (overridden : List ℤ) (starts : List Start) (e : Entry) → IsIn e (given_of clocks w event since overridden starts) → e.event ≡ event
 given-own clocks w event since overridden starts e m = ap (λ (o : Entry). o.event) (in-picked clocks event (is_wanted clocks w event since overridden) starts e m).is
-
--- what the steps of a rule say is near an occurrence that the rule gives
-pub step-count : (clocks : Clocks) (event : Event) (coming : List Entry) (steps : ℕ) (o : Option RuleStarts) (s : RuleStarts) → o ≡ Some s → HasRuled clocks event o coming
-    → steps ≤ period_count s.rule (looks_from s.rule.parts.count (number s.rule.start) (number s.from)) (midnight_number s.asked)
-    → ((x : Start) → IsIn x (starts_left s) → (midnight s.asked -ℤ pos 259_200) ≤ℤ x.moment) → midnight s.asked ≤ℤ (s.window.to +ℤ pos 345_600)
-    → MatchOption o (steps ≡ 0) (λ x. IsStepCount clocks event x coming steps)
-step-count clocks event coming steps None s e h most near end = let f : None ≡ Some s = e in absurd cc
-step-count clocks event coming steps (Some x) s e h most near end =
-    let same : x ≡ s = some-same x s e in
-    subst (λ y. HaveRuled clocks event (starts_left y) coming → IsStepCount clocks event y coming steps) (sym same)
-    (λ ruled. record {
-      most = most;
-      near = λ o m local k.
-          let there = moment-in (starts_left s) o.start (ruled o m local k) in
-          subst (λ t. (midnight s.asked -ℤ pos 259_200) ≤ℤ t) there.2 (near there.0 there.1);
-      end = end;
-    })
-    h
-  where
-    some-same : (x y : RuleStarts) → Some x ≡ Some y → x ≡ y
-    some-same x y h = cc
 
 -- No starts give nothing.
 module _ (clocks : Clocks) (w : Window) (event : Event) (since : ℤ) (overridden : List ℤ) where

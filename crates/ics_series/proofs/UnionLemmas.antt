@@ -71,7 +71,7 @@ module _ {A : Type 0} (R : A → A → Ordering) (o : IsTotalOrder R) where
       (λ k. inr (in-union e xs ys h.1 (inr (k.0.1, k.1)), not-tied-back e x k.0.0))
       m)
 
-  merged-in : (e : A) (xss : List (List A)) → IsIn e (merged R xss) → IsFromFirst R e xss
+  pub merged-in : (e : A) (xss : List (List A)) → IsIn e (merged R xss) → IsFromFirst R e xss
   merged-in e [] m = m
   merged-in e (xs ∷ xss) m = ⊎_elim inl (λ k. inr (k.0, merged-in e xss k.1)) (union-in e xs (merged R xss) (rises-merged R o xss) m)
 

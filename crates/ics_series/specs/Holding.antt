@@ -1,5 +1,5 @@
 -- The built occurrences that feeds hold, and how many periods of their rules they have looked at.
-use Rattle.std.specs.Prelude.{ℕ, Bool, true, false, List, [], ◌∷◌, map, Option, Some, None}
+use Rattle.std.specs.Prelude.{ℕ, List, [], map, Option, Some, None}
 use Rattle.ics_rule.specs.Cursors.{steps_of}
 use Rattle.ics_series.specs.declared.part.Part.{Part}
 use Rattle.ics_series.specs.declared.part.Part.TheVariants.{Singles, Series}
@@ -7,10 +7,7 @@ use Rattle.ics_series.specs.declared.rule_starts.RuleStarts.{RuleStarts}
 use Rattle.ics_series.specs.declared.series.Series.{Series as SeriesFeed}
 use Rattle.ics_series.specs.declared.start.Start.{Start}
 use Rattle.ics_series.specs.Entry.{Entry}
-use Rattle.ics_series.specs.HeldMost.{Master}
 use Rattle.ics_series.specs.Meeting.{entry_from}
-use Rattle.ics_series.specs.SeriesFeed.{series_left, series_of}
-use Rattle.ics_series.specs.Steps.{HasStepBound}
 use Rattle.ics_series.specs.Zones.{clocks_in}
 
 -- the starts of a rule that are held
@@ -32,20 +29,6 @@ abbrev pub part_holds : Part → List Entry
 part_holds (Singles s) = []
 part_holds (Series s) = series_holds s.value
 
--- the master whose occurrences a part gives
-abbrev pub masters_of : Part → List Master
-masters_of (Singles s) = []
-masters_of (Series s) = record { clocks = clocks_in s.value.zones; event = s.value.event.now } ∷ []
-
-abbrev pub is_singles : Part → Bool
-is_singles (Singles s) = true
-is_singles (Series s) = false
-
 abbrev pub part_looked : Part → ℕ
 part_looked (Singles s) = 0
 part_looked (Series s) = rule_looked s.value.rule_starts
-
--- at most so many periods of the rule of its master has a part looked at: none, where there is no rule
-abbrev pub LooksAtMost : Part → ℕ → Type 0
-LooksAtMost (Singles s) most = Unit {0}
-LooksAtMost (Series s) most = HasStepBound (clocks_in s.value.zones) s.value.window s.value.event.now s.value.since (series_of s.value (series_left s.value)) most

@@ -63,13 +63,6 @@ HasSameRule None None = Unit {0}
 HasSameRule (Some old) (Some new) = HasSameSource old new
 HasSameRule _ _ = ⊥
 
--- So many starts of a rule are held: they rise, and lie in the five UTC days of which the fourth begins at the midnight up to which the
--- cursor was asked.
-pub record IsHeldCount (s : RuleStarts) (held : ℕ) : Type 0 where
-  pub count : held ≡ length s.held.items
-  pub rise : Rises moment_cmp s.held.items
-  pub days : AreHeld (clocks_in s.zones) s.event.now s.rule s.window s.asked s.held.items
-
 -- the starts that are known from the first: those by RDATEs and, where there is no rule, that at DTSTART
 abbrev pub listed_apart : Clocks → Window → Event → Option RuleParts → List Start
 listed_apart clocks w event None = start_at clocks event (local_of event.start.stamp) ∷ listed_from clocks w event.start 0 event.rdates
@@ -150,14 +143,6 @@ HaveRuled clocks event starts coming =
 abbrev pub HasRuled : Clocks → Event → Option RuleStarts → List Entry → Type 0
 HasRuled clocks event None coming = Unit {0}
 HasRuled clocks event (Some s) coming = HaveRuled clocks event (starts_left s) coming
-
--- So many periods were looked at: at most those that hold a local from the first on, under COUNT from DTSTART on, and before that midnight,
--- which lies no more than three days past each occurrence still to come that begins at the instant of a local that DTSTART has or the rule
--- keeps, and no more than four past the window's end.
-pub record IsStepCount (clocks : Clocks) (event : Event) (s : RuleStarts) (coming : List Entry) (steps : ℕ) : Type 0 where
-  pub most : steps ≤ period_count s.rule (looks_from s.rule.parts.count (number s.rule.start) (number s.from)) (midnight_number s.asked)
-  pub near : (o : Entry) → IsIn o coming → (local : Local) → IsKeptAt clocks event local o.start → (midnight s.asked -ℤ pos 259_200) ≤ℤ o.start
-  pub end : midnight s.asked ≤ℤ (s.window.to +ℤ pos 345_600)
 
 -- a local gives an event a start: under no rule that of DTSTART
 abbrev pub IsGivenAt : Clocks → Event → Window → Local → Option Recurrence → Type 0

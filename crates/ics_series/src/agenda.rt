@@ -1,5 +1,5 @@
 //! The listing of a window.
-ghost use Rattle.std.specs.Prelude.{◌≡◌, List, map, IfOk};
+ghost use Rattle.std.specs.Prelude.{◌≡◌, ◌≤◌, ◌-◌, ◌^◌, ℕ, List, length, map, min, sum_by, IfOk};
 ghost use Rattle.std.specs.List.{flat_map};
 ghost use Rattle.std.specs.List.Sorted.{IsSorted};
 ghost use Rattle.std.specs.Option.{option_map};
@@ -9,14 +9,17 @@ ghost use Rattle.ics_series.specs.After.{after_key, is_after};
 ghost use Rattle.ics_series.specs.Clocks.{display_clock};
 ghost use Rattle.ics_series.specs.Entry.{Entry, entry_cmp, entry_of, key_rank};
 ghost use Rattle.ics_series.specs.EntryLaws.{entry_total};
+ghost use Rattle.ics_series.specs.HeldMost.{held_most};
+ghost use Rattle.ics_series.specs.Holding.{part_holds};
 ghost use Rattle.ics_series.specs.Leads.{listed, past};
-ghost use Rattle.ics_series.specs.Listing.{IsListing};
+ghost use Rattle.ics_series.specs.Listing.{IsIn, IsListing};
 ghost use Rattle.ics_series.specs.Meets.{IsListed, IsToCome};
 ghost use Rattle.ics_series.specs.Merged.{merged};
 ghost use Rattle.ics_series.specs.MergedLaws.{rises-merged};
 ghost use Rattle.ics_series.specs.Overridden.{is_kept};
 ghost use Rattle.ics_series.specs.Parts.{part_coming, part_sources};
-ghost use Rattle.ics_series.specs.Sources.{AreApart, AreApart-prop, AreSources};
+ghost use Rattle.ics_series.specs.Sources.{master_of, recurring, AreApart, AreApart-prop, AreSources, Recurring};
+ghost use Rattle.ics_series.specs.Steps.{HasStepBound};
 ghost use Rattle.ics_series.specs.Versions.{seen, subject_cmp, subject_seen, AreChosen};
 ghost use Rattle.ics_series.specs.Zones.{IsReached};
 
@@ -66,6 +69,29 @@ impl<'a> Agenda<'a> {
         let parts = parts(alloc, files, display, &chosen, window, after)?;
         let merge = Merge::new(alloc, parts)?;
         Ok(Agenda { merge })
+    }
+
+    /// How many built occurrences are held, or the greatest number where that is less: the one that
+    /// was given last, of each feed the one that is drawn, and those at the starts that were read of
+    /// rules. They are at most two and, for each master, two and the greatest number of starts that it
+    /// has in any five days.
+    pub fn held(&self) -> usize
+        ensures count { result ≡ min (length (listed self.now.merge.last (flat_map (λ l. listed l.head (part_holds l.feed)) self.now.merge.leads.items))) (2 ^ 64 - 1) }
+        ensures most { result ≤ held_most (map master_of (recurring (⟦<Agenda<'a> as Coming>⟧.sources self.now))) }
+    {
+        self.merge.held()
+    }
+
+    /// How many periods of rules were looked at, or the greatest number where that is less: at most
+    /// the sum over the masters with a rule of those that hold a local from seven days before what
+    /// can meet the window to seven days past the master's first start by its rule still to come,
+    /// and two for each.
+    pub fn steps(&self) -> u64
+        ensures { (most : Recurring → ℕ) → ((m : Recurring) → IsIn m (recurring (⟦<Agenda<'a> as Coming>⟧.sources self.now))
+            → HasStepBound m (⟦<Agenda<'a> as Coming>⟧.coming self.now) (most m))
+            → result ≤ sum_by most (recurring (⟦<Agenda<'a> as Coming>⟧.sources self.now)) }
+    {
+        self.merge.steps()
     }
 }
 

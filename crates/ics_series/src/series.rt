@@ -160,7 +160,7 @@ impl<'a> Series<'a> {
     ghost use Rattle.ics_series.specs.Holding.{rule_held, rule_looked};
     ghost use Rattle.ics_series.specs.Listing.{IsIn, IsListing};
     ghost use Rattle.ics_series.specs.SeriesFeed.{series_left, series_near, series_of, series_sources, source_of, IsSameSeries};
-    ghost use Rattle.ics_series.specs.SeriesStarts.{wanted_by, IsHeldCount, IsKnown, IsSeriesMet, IsStepCount, IsTaken};
+    ghost use Rattle.ics_series.specs.SeriesStarts.{wanted_by, IsKnown, IsSeriesMet, IsTaken};
 
     /// The occurrences of an event from an instant on, but for those at the instants that overrides
     /// name, which are in order.
@@ -242,8 +242,7 @@ impl<'a> Series<'a> {
 
     /// How many starts of its rule are held.
     pub(crate) fn held(&self) -> usize
-        ensures count { result ≡ length (rule_held self.now.rule_starts) }
-        ensures held { MatchOption self.now.rule_starts (result ≡ 0) (λ starts. IsHeldCount starts result) }
+        ensures { result ≡ length (rule_held self.now.rule_starts) }
     {
         match &self.rule_starts {
             None => 0,
@@ -253,8 +252,7 @@ impl<'a> Series<'a> {
 
     /// How many periods of its rule were looked at.
     pub(crate) fn steps(&self) -> u64
-        ensures count { result ≡ rule_looked self.now.rule_starts }
-        ensures steps { MatchOption self.now.rule_starts (result ≡ 0) (λ starts. IsStepCount (clocks_in self.now.zones) self.now.event.now starts (series_of self.now (series_left self.now)) result) }
+        ensures { result ≡ rule_looked self.now.rule_starts }
     {
         match &self.rule_starts {
             None => 0,
