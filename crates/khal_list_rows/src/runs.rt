@@ -1,88 +1,109 @@
-//! A run over files in memory.
+//! Runs of the program's words over files.
 
-use khal_list::{MemoryFile, MemorySink, MemorySource, Request, Source, Status, run};
-use std::alloc::{AllocError, Global};
-use std::test::Fail;
-
-/// 2024-01-05T00:00:00 UTC, the instant that the clock shows in these examples.
-pub const NOW: i64 = 1_704_412_800;
+use crate::words::words_of;
+use khal_list::{
+    FolderSource, MemoryFile, MemorySink, MemorySource, Request, RequestFault, RunFault, Source,
+    Status, run,
+};
+use std::alloc::Global;
+use std::io;
 
 /// What a run wrote, and its status.
 #[derive(Drop)]
 pub struct Written {
-    out: MemorySink,
-    err: MemorySink,
+    pub out: String,
+    pub err: String,
     pub status: Status,
 }
 
-impl Written {
-    /// The listing.
-    pub fn out(&self) -> &[u8] {
-        self.out.bytes.as_slice()
-    }
-
-    /// The fault lines.
-    pub fn err(&self) -> &[u8] {
-        self.err.bytes.as_slice()
-    }
+/// The request of these words.
+pub fn request(alloc: Global, words: &str, now: i64) -> Result<Request, RequestFault> {
+    let words = words_of(alloc, words)?;
+    Request::of(alloc, words.as_slice(), now)
 }
 
-/// The bytes of a file with these lines, each ended by CRLF.
-pub fn lines(alloc: Global, lines: &[&str]) -> Result<Vec<u8>, AllocError> {
-    let mut bytes = Vec::new(alloc);
-    for line in lines {
-        bytes.extend_from_slice(line.as_bytes())?;
-        bytes.extend_from_slice(b"\r\n")?;
-    }
-    Ok(bytes)
-}
-
-/// These lines, each ended by LF.
-pub fn text(alloc: Global, lines: &[&str]) -> Result<Vec<u8>, AllocError> {
-    let mut bytes = Vec::new(alloc);
-    for line in lines {
-        bytes.extend_from_slice(line.as_bytes())?;
-        bytes.push(b'\n')?;
-    }
-    Ok(bytes)
-}
-
-/// The bytes of a calendar of one event with these lines.
-pub fn event(alloc: Global, inside: &[&str]) -> Result<Vec<u8>, AllocError> {
-    let mut bytes = lines(alloc, &["BEGIN:VCALENDAR", "BEGIN:VEVENT"])?;
-    bytes.extend_from_slice(&lines(alloc, inside)?)?;
-    bytes.extend_from_slice(b"END:VEVENT\r\nEND:VCALENDAR\r\n")?;
-    Ok(bytes)
-}
-
-/// A folder's files.
-pub fn folder(alloc: Global) -> MemorySource {
-    MemorySource {
-        files: Vec::new(alloc),
-    }
-}
-
-/// Adds a file.
-pub fn add(
-    alloc: Global,
-    source: &mut MemorySource,
-    name: &str,
-    bytes: Vec<u8>,
-) -> Result<(), AllocError> {
-    let name = String::from_str(alloc, name)?;
-    source.files.push(MemoryFile { name, bytes })?;
-    Ok(())
-}
-
-/// Runs the program's words over the files.
-pub fn run_words<S: Source>(
+/// Runs a request over files.
+pub fn outcome<S: Source>(
     alloc: Global,
     source: &mut S,
-    words: &[&str],
-) -> Result<Written, Fail> {
-    let request = Request::of(alloc, words, NOW)?;
+    request: &Request,
+) -> Result<Written, RunFault> {
     let mut out = MemorySink::new(alloc);
     let mut err = MemorySink::new(alloc);
-    let status = run(alloc, source, &request, &mut out, &mut err)?;
+    let status = run(alloc, source, request, &mut out, &mut err)?;
+    let out = String::from_str(alloc, text_of(out.bytes.as_slice()))?;
+    let err = String::from_str(alloc, text_of(err.bytes.as_slice()))?;
     Ok(Written { out, err, status })
+}
+
+fn text_of(bytes: &[u8]) -> &str {
+    str::from_utf8(bytes).unwrap_or("not UTF-8\n")
+}
+
+/// Runs words over files, and prints what the run wrote, each line of standard error behind `! `, and
+/// its status in brackets; or there the fault.
+pub fn run_over<S: Source>(
+    rt: HostRuntime,
+    source: &mut S,
+    words: &str,
+    now: i64,
+) -> io::Result<()> {
+    match request(rt.alloc(), words, now) {
+        Ok(request) => match outcome(rt.alloc(), source, &request) {
+            Ok(written) => print_written(rt, &written),
+            Err(fault) => println!(rt; "[{}]", fault.name()),
+        },
+        Err(fault) => println!(rt; "[{}]", fault.name()),
+    }
+}
+
+fn print_written(rt: HostRuntime, written: &Written) -> io::Result<()> {
+    rt.print(written.out.as_str())?;
+    for line in written.err.as_str().lines() {
+        println!(rt; "! {line}")?;
+    }
+    println!(rt; "[{}]", written.status.code())
+}
+
+/// Runs words over the folder on disk that they name.
+pub fn run_disk(rt: HostRuntime, words: &str, now: i64) -> io::Result<()> {
+    match request(rt.alloc(), words, now) {
+        Ok(request) => {
+            let path = String::from_str(rt.alloc(), request.folder())?;
+            let mut source = FolderSource::open(rt, path)?;
+            run_over(rt, &mut source, words, now)
+        }
+        Err(fault) => println!(rt; "[{}]", fault.name()),
+    }
+}
+
+/// Prints how the last file is refused, or that it is not, where it is cut after each of its bytes: one
+/// line for each size from which on that is the same.
+pub fn cuts(rt: HostRuntime, source: &mut MemorySource, words: &str, now: i64) -> io::Result<()> {
+    let alloc = rt.alloc();
+    let Some(file) = source.files.pop() else {
+        return Ok(());
+    };
+    let Ok(request) = request(alloc, words, now) else {
+        return Ok(());
+    };
+    let mut before = String::new(alloc);
+    for size in 0..=file.bytes.len() {
+        let name = file.name.clone()?;
+        let bytes = Vec::from_slice(alloc, &file.bytes[..size])?;
+        source.files.push(MemoryFile { name, bytes })?;
+        let Ok(written) = outcome(alloc, source, &request) else {
+            return Ok(());
+        };
+        source.files.clear();
+        if written.err != before {
+            let answer = match written.err.as_str() {
+                "" => "accepted",
+                line => line.trim_end(),
+            };
+            println!(rt; "from {size}: {answer}")?;
+            before = written.err;
+        }
+    }
+    Ok(())
 }

@@ -1,126 +1,79 @@
-//! Events in time zones: gaps, folds, and rules across them.
+//! The clocks of zones.
 
-use crate::runs::{Written, add, folder, lines, run_words, text};
-use std::alloc::Global;
-use std::test::Fail;
+use crate::shown::{local_of, local_text, moment_of, moment_text};
+use ics_calendar::read_file;
+use ics_values::Local;
+use ics_zone::{Display, Place, Zone};
+use khal_list::MOST_BYTES;
+use std::alloc::{AllocError, Global};
 
-/// New York's clock from 2007 on.
-const NEW_YORK: [&str; 16] = [
-    "BEGIN:VTIMEZONE",
-    "TZID:NY",
-    "BEGIN:STANDARD",
-    "DTSTART:20071104T020000",
-    "TZOFFSETFROM:-0400",
-    "TZOFFSETTO:-0500",
-    "RRULE:FREQ=YEARLY;BYMONTH=11;BYDAY=1SU",
-    "END:STANDARD",
-    "BEGIN:DAYLIGHT",
-    "DTSTART:20070311T020000",
-    "TZOFFSETFROM:-0500",
-    "TZOFFSETTO:-0400",
-    "RRULE:FREQ=YEARLY;BYMONTH=3;BYDAY=2SU",
-    "END:DAYLIGHT",
-    "END:VTIMEZONE",
-    "BEGIN:VEVENT",
-];
+/// 2200-01-01T00:00:00Z, as far as zones of files are asked.
+const REACHED: i64 = 7_258_118_400;
 
-/// A clock whose offset is set again four times a day.
-const OFTEN: [&str; 10] = [
-    "BEGIN:VTIMEZONE",
-    "TZID:Q",
-    "BEGIN:STANDARD",
-    "DTSTART:19900101T000000",
-    "TZOFFSETFROM:+0100",
-    "TZOFFSETTO:+0200",
-    "RRULE:FREQ=DAILY;BYHOUR=0,6,12,18",
-    "END:STANDARD",
-    "END:VTIMEZONE",
-    "BEGIN:VEVENT",
-];
-
-/// What is written of one event of these lines behind a time zone, from a day on.
-fn listed(alloc: Global, zone: &[&str], inside: &[&str], day: &str) -> Result<Written, Fail> {
-    let mut bytes = lines(alloc, &["BEGIN:VCALENDAR"])?;
-    bytes.extend_from_slice(&lines(alloc, zone)?)?;
-    bytes.extend_from_slice(&lines(alloc, inside)?)?;
-    bytes.extend_from_slice(b"END:VEVENT\r\nEND:VCALENDAR\r\n")?;
-    let mut source = folder(alloc);
-    add(alloc, &mut source, "a.ics", bytes)?;
-    run_words(alloc, &mut source, &["list", ".", day, "1d"])
+/// What a display zone answers, or why it is none.
+pub fn in_display(
+    alloc: Global,
+    zone: &str,
+    call: &str,
+    value: &str,
+) -> Result<String, AllocError> {
+    match Display::parse(alloc, zone) {
+        Ok(display) => answer(alloc, &display, call, value),
+        Err(fault) => String::from_str(alloc, fault.name()),
+    }
 }
 
-#[test]
-fn fold_and_gap(rt: HostRuntime) -> Result<(), Fail> {
-    let inside = ["UID:u", "DTSTART;TZID=NY:20071104T013000", "SUMMARY:Fold"];
-    let ran = listed(rt.alloc(), &NEW_YORK, &inside, "2007-11-04")?;
-    let starts = ["Sunday, 2007-11-04", "05:30-05:30 Fold"];
-    assert_eq!(rt; ran.out(), text(rt.alloc(), &starts)?.as_slice());
-    assert_eq!(rt; ran.err(), b"".as_slice());
-    let inside = ["UID:u", "DTSTART;TZID=NY:20070311T023000", "SUMMARY:Gap"];
-    let ran = listed(rt.alloc(), &NEW_YORK, &inside, "2007-03-11")?;
-    let starts = ["Sunday, 2007-03-11", "07:30-07:30 Gap"];
-    assert_eq!(rt; ran.out(), text(rt.alloc(), &starts)?.as_slice());
-    assert_eq!(rt; ran.err(), b"".as_slice());
-    Ok(())
+/// What the first zone of a file answers.
+pub fn in_file(alloc: Global, file: &[u8], call: &str, value: &str) -> Result<String, AllocError> {
+    match first_zone(alloc, file) {
+        Some(mut zone) => {
+            zone.reach(REACHED)?;
+            answer(alloc, &zone, call, value)
+        }
+        None => String::from_str(alloc, "no zone"),
+    }
 }
 
-#[test]
-fn minutely_across_a_gap(rt: HostRuntime) -> Result<(), Fail> {
-    let inside = [
-        "UID:u",
-        "DTSTART;TZID=NY:20070311T013000",
-        "RRULE:FREQ=MINUTELY;INTERVAL=45;COUNT=4",
-        "SUMMARY:M",
-    ];
-    let ran = listed(rt.alloc(), &NEW_YORK, &inside, "2007-03-11")?;
-    let starts = [
-        "Sunday, 2007-03-11",
-        "06:30-06:30 M",
-        "07:00-07:00 M",
-        "07:15-07:15 M",
-        "07:45-07:45 M",
-    ];
-    assert_eq!(rt; ran.out(), text(rt.alloc(), &starts)?.as_slice());
-    assert_eq!(rt; ran.err(), b"".as_slice());
-    let inside = [
-        "UID:u",
-        "DTSTART;TZID=NY:20070311T013000",
-        "RRULE:FREQ=MINUTELY;INTERVAL=45;UNTIL=20070311T070500Z",
-        "SUMMARY:M",
-    ];
-    let ran = listed(rt.alloc(), &NEW_YORK, &inside, "2007-03-11")?;
-    let starts = ["Sunday, 2007-03-11", "06:30-06:30 M", "07:00-07:00 M"];
-    assert_eq!(rt; ran.out(), text(rt.alloc(), &starts)?.as_slice());
-    assert_eq!(rt; ran.err(), b"".as_slice());
-    Ok(())
+fn first_zone(alloc: Global, file: &[u8]) -> Option<Zone> {
+    if file.len() > MOST_BYTES {
+        return None;
+    }
+    let events = read_file(alloc, file).ok()?;
+    events.zones.into_iter().next()
 }
 
-#[test]
-fn hourly_across_a_gap(rt: HostRuntime) -> Result<(), Fail> {
-    let inside = [
-        "UID:u",
-        "DTSTART;TZID=NY:20070311T003000",
-        "RRULE:FREQ=HOURLY;COUNT=5",
-    ];
-    let ran = listed(rt.alloc(), &NEW_YORK, &inside, "2007-03-11")?;
-    let starts = [
-        "Sunday, 2007-03-11",
-        "05:30-05:30 ",
-        "06:30-06:30 ",
-        "07:30-07:30 ",
-        "08:30-08:30 ",
-    ];
-    assert_eq!(rt; ran.out(), text(rt.alloc(), &starts)?.as_slice());
-    assert_eq!(rt; ran.err(), b"".as_slice());
-    Ok(())
+/// The offset at an instant, what the clock shows then, or the instant of a local.
+fn answer<P: Place>(
+    alloc: Global,
+    place: &P,
+    call: &str,
+    value: &str,
+) -> Result<String, AllocError> {
+    match call {
+        "instant" => instant(alloc, place, value),
+        _ => clock(alloc, place, value),
+    }
 }
 
-#[test]
-fn zone_set_four_times_a_day(rt: HostRuntime) -> Result<(), Fail> {
-    let inside = ["UID:u", "DTSTART;TZID=Q:20240105T100000", "SUMMARY:Q"];
-    let ran = listed(rt.alloc(), &OFTEN, &inside, "2024-01-05")?;
-    let starts = ["Friday, 2024-01-05", "08:00-08:00 Q"];
-    assert_eq!(rt; ran.out(), text(rt.alloc(), &starts)?.as_slice());
-    assert_eq!(rt; ran.err(), b"".as_slice());
-    Ok(())
+/// The offset of a place at an instant, and what its clock shows.
+fn clock<P: Place>(alloc: Global, place: &P, value: &str) -> Result<String, AllocError> {
+    let moment = moment_of(value);
+    if moment < -62_167_392_000 || moment > 251_856_172_799 || moment > place.reached() {
+        return String::from_str(alloc, "not reached");
+    }
+    let offset = place.offset(moment);
+    format!(in alloc; "{} at {offset}", local_text(alloc, place.local(moment))?)
+}
+
+/// The instant of a local.
+fn instant<P: Place>(alloc: Global, place: &P, value: &str) -> Result<String, AllocError> {
+    let local = local_of(value).unwrap_or(Local::at(0, 0));
+    if local.day < -719_528 || local.day > 2_914_999 {
+        return String::from_str(alloc, "no day");
+    }
+    let seconds = i64::from(local.day) * 86_400 + i64::from(local.second);
+    if place.reached() < seconds + 172_800 {
+        return String::from_str(alloc, "not reached");
+    }
+    moment_text(alloc, place.moment(local))
 }

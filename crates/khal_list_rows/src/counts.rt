@@ -1,0 +1,100 @@
+//! How much a listing gives, and its pages.
+
+use crate::requests::yes_no;
+use crate::runs::{outcome, request};
+use ics_calendar::read_file;
+use ics_series::{Feed, Folder};
+use khal_list::{MOST_BYTES, MemorySource, Request};
+use std::alloc::{AllocError, Global};
+use std::io;
+
+/// Prints how many occurrences the agenda of some words gives, up to their limit.
+pub fn entries(rt: HostRuntime, source: &MemorySource, words: &str, now: i64) -> io::Result<()> {
+    match request(rt.alloc(), words, now) {
+        Ok(request) => {
+            let mut folder = folder_of(rt.alloc(), source, &request)?;
+            folder.reach(&request.window)?;
+            let mut agenda = folder.agenda(request.window, request.after.as_ref())?;
+            let count = drawn(&mut agenda, request.limit.unwrap_or(u32::MAX))?;
+            println!(rt; "{count} entries")
+        }
+        Err(fault) => println!(rt; "[{}]", fault.name()),
+    }
+}
+
+/// The events of the files that are accepted.
+fn folder_of(
+    alloc: Global,
+    source: &MemorySource,
+    request: &Request,
+) -> Result<Folder, AllocError> {
+    let mut files = Vec::new(alloc);
+    for file in &source.files {
+        if file.bytes.len() <= MOST_BYTES {
+            if let Ok(events) = read_file(alloc, file.bytes.as_slice()) {
+                files.push(events)?;
+            }
+        }
+    }
+    Folder::new(alloc, files, request.zone)
+}
+
+/// How many occurrences a feed gives, up to a limit.
+fn drawn<'a, F: Feed<'a>>(feed: &mut F, limit: u32) -> Result<u32, AllocError> {
+    for count in 0..limit {
+        if feed.next()?.is_none() {
+            return Ok(count);
+        }
+    }
+    Ok(limit)
+}
+
+/// Prints how many entries words list, in how many pages of a limit, each from the token of the one
+/// before, and whether these join to the whole: `pages LIMIT WORDS`. A heading is a line `#`, by the
+/// words' own day format, and is left out.
+pub fn pages(rt: HostRuntime, source: &mut MemorySource, line: &str, now: i64) -> io::Result<()> {
+    let (limit, words) = line.split_once(' ').unwrap_or((line, ""));
+    let alloc = rt.alloc();
+    let mut whole = String::new(alloc);
+    page(alloc, source, words, now, &mut whole)?;
+    let mut joined = String::new(alloc);
+    let mut after = String::new(alloc);
+    for count in 1..10_000u32 {
+        let words = format!(in alloc; "{words} --limit {limit}{after}")?;
+        match page(alloc, source, words.as_str(), now, &mut joined)? {
+            Some(token) => after = format!(in alloc; " --after {token}")?,
+            None => {
+                let entries = whole.as_str().lines().count();
+                let same = yes_no(joined == whole);
+                return println!(rt; "{entries} entries, {count} pages, joined: {same}");
+            }
+        }
+    }
+    println!(rt; "no end")
+}
+
+/// Adds the entries that words list, and answers the token from which the listing goes on.
+fn page(
+    alloc: Global,
+    source: &mut MemorySource,
+    words: &str,
+    now: i64,
+    entries: &mut String,
+) -> Result<Option<String>, AllocError> {
+    let Ok(request) = request(alloc, words, now) else {
+        return Ok(None);
+    };
+    let Ok(written) = outcome(alloc, source, &request) else {
+        return Ok(None);
+    };
+    for line in written.out.as_str().lines() {
+        if line != "#" {
+            entries.push_str(line)?;
+            entries.push('\n')?;
+        }
+    }
+    match written.err.as_str().strip_prefix("more: ") {
+        Some(token) => Ok(Some(String::from_str(alloc, token.trim_end())?)),
+        None => Ok(None),
+    }
+}
