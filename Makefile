@@ -1,4 +1,4 @@
-# khal list. The two commands are `make run` and `make test`; the README says more.
+# khal list. The commands are `make try`, `make run` and `make test`; the README says more.
 
 RT ?= rt
 PREFIX ?= /usr/local
@@ -7,23 +7,28 @@ ARGS ?= list examples/calendars 2024-01-01 7d --zone=CET-1CEST,M3.5.0,M10.5.0/3
 
 PROGRAM := bin/khal-list
 BUILT := crates/khal_list_cli/out/khal_list_cli
-SOURCES := crates.txt $(shell find crates -name out -prune -o -type f -name '*.rt' -print -o -type f -name '*.antt' -print)
+# What the program is made of: every crate but the one of worked examples.
+SOURCES := crates.txt $(shell find crates \( -name out -o -name khal_list_rows \) -prune -o -type f \( -name '*.rt' -o -name '*.antt' \) -print)
 
-.PHONY: run build test bench install clean kit
+.PHONY: run try build test bench install clean kit
 
 # Lists the sample calendars for a fixed week, or whatever ARGS says.
 run: $(PROGRAM)
 	@$(PROGRAM) $(ARGS)
 
+# The same by a program that is built with no proof.
+try: kit
+	@RT=$(RT) sh scripts/try $(ARGS)
+
 build: $(PROGRAM)
 
 # Every proof from nothing, the edits that must fail, the tests, and the program as two compilers build it.
 test: kit
-	@$(RT) ci
+	@RT_JOBS=$$(sh scripts/lanes) $(RT) ci
 
-# Proves the program and builds it; its help is printed to see that it runs.
+# Proves the program and builds it.
 $(PROGRAM): $(SOURCES) | kit
-	@cd crates/khal_list_cli && $(RT) run -- --help >/dev/null
+	@RT=$(RT) sh scripts/prove
 	@mkdir -p bin && cp $(BUILT) $@
 
 # Seconds and peak memory over folders that a generator writes.
