@@ -21,7 +21,7 @@ use Rattle.ics_series.specs.Rising.{IsBefore, Rises}
 use Rattle.ics_series.specs.Starts.{IsNotAfter}
 use Rattle.ics_series.proofs.SortLemmas.{IsUpTo, Climbs, climbs-sorted, in-permutation, up-to-in}
 
-giver_total : IsTotalOrder giver_cmp
+pub giver_total : IsTotalOrder giver_cmp
 giver_total = then_total (on_total part_of nat_cmp_total) (then_total (on_total day_in int_cmp_total) (on_total place_in nat_cmp_total))
 
 start_total : IsTotalOrder start_cmp
@@ -59,7 +59,7 @@ nat-up-to a b Equal e g = let r = subst (λ o. MatchOrdering o (a < b) (a ≡ b)
 nat-up-to a b Greater e g = let f : is_gt Greater ≡ false = g in absurd cc
 
 -- what is not after another by its parts stands no later in the order of what gives starts
-giver-order : (g k : Giver) → is_gt (giver_cmp g k) ≡ false → IsNotAfter g k
+pub giver-order : (g k : Giver) → is_gt (giver_cmp g k) ≡ false → IsNotAfter g k
 giver-order (Kept a) (Kept b) h =
     ⊎_elim
     (λ same. let later = nat-up-to a.second b.second (nat_cmp a.second b.second) refl

@@ -24,6 +24,7 @@ pub mod LeftLemmas
 pub mod ListedLemmas
 pub mod ListingLemmas
 pub mod MasterLemmas
+pub mod MasterSumLemmas
 pub mod MeetingLemmas
 pub mod MergedMembers
 pub mod MetLemmas
@@ -40,6 +41,7 @@ pub mod PickLemmas
 pub mod PlacedLemmas
 pub mod PushLemmas
 pub mod PutLemmas
+pub mod RawLemmas
 pub mod ReachLemmas
 pub mod RecurringLemmas
 pub mod RuleDayLemmas

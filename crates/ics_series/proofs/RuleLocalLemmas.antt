@@ -1,24 +1,28 @@
 -- A local and its number.
-use Rattle.std.specs.Prelude.{◌≤ℤ◌, ◌==◌, int_lt}
-use Rattle.std.proofs.Common.{◌≡◌, ℕ, ◌<◌, ℤ, pos, ◌+ℤ◌, Bool, true, false, ◌&&◌, List, Some, refl, sym, ◌∙◌, ap, arith}
+use Rattle.std.specs.Prelude.{◌≤ℤ◌, ◌==◌, ◌||◌, int_lt, IfSome}
+use Rattle.std.proofs.Common.{◌≡◌, ℕ, ◌<◌, ℤ, pos, ◌+ℤ◌, Bool, true, false, ◌&&◌, List, Some, ◌⊎◌, inl, inr, ⊎_elim, refl, sym, ◌∙◌, ap, subst, arith}
 use Rattle.std.proofs.lemmas.Bool.Decides.{nat_tests}
 use Rattle.std.proofs.lemmas.Int.{ints}
 use Rattle.std.specs.Ordering.{int_eq}
 use Rattle.ics_values.specs.Days.{IsDayNumber}
 use Rattle.ics_values.specs.declared.local.Local.{Local}
-use Rattle.ics_rule.specs.Kept.{is_kept}
+use Rattle.ics_rule.specs.Kept.{is_kept, until_moment}
 use Rattle.ics_rule.specs.Locals.{number}
 use Rattle.ics_rule.specs.Recurrence.{Recurrence}
-use Rattle.ics_rule.proofs.KeptLemmas.{and_true, eqb_true}
+use Rattle.ics_rule.proofs.KeptLemmas.{and_true, eqb_true, or_true}
+use Rattle.ics_rule.proofs.NextLemmas.{kept_start}
+use Rattle.ics_calendar.specs.Event.{IsTime}
 use Rattle.ics_calendar.specs.declared.event.Event.{Event}
 use Rattle.ics_zone.specs.Tables.{Timeline}
 use Rattle.ics_series.specs.declared.window.Window.{Window}
 use Rattle.ics_series.specs.Clocks.{Clocks, instant, midnight}
+use Rattle.ics_series.specs.Found.{is_until}
 use Rattle.ics_series.specs.RuleStarts.{gives, lets_until, local_numbered, midnight_number, moment_numbered, AreReadable}
-use Rattle.ics_series.specs.Starts.{local_of, recurrence_of, time_at}
+use Rattle.ics_series.specs.Starts.{local_of, recurrence_of, time_at, IsRuleStart}
 use Rattle.ics_series.specs.Zones.{asked, AreReached, IsReadable}
 use Rattle.ics_series.proofs.FirstLemmas.{eq-true, true-eq}
-use Rattle.ics_series.proofs.GiverLemmas.{kept-time, rule-is, same-number}
+use Rattle.ics_series.proofs.GiverLemmas.{calendar-day, kept-time, own-day, rule-is, same-number}
+use Rattle.ics_series.proofs.KeptLemmas.{true-until, until-true}
 use Rattle.ics_series.proofs.RuleDayLemmas.{number-day, seconds-numbered}
 use Rattle.ics_series.proofs.ZoneLemmas.{local-readable}
 
@@ -80,3 +84,46 @@ kept-readable zones w event rule end has reached start h soon n kept early =
 
 pub rule-first : (event : Event) (rule : Recurrence) → recurrence_of event ≡ Some rule → rule.start ≡ local_of event.start.stamp
 rule-first event rule has = let by = rule-is event.start.stamp event.rule rule has in sym (ap (λ (r : Recurrence). r.start) (sym by.1))
+
+-- The locals that DTSTART has or a rule keeps are those that the rule keeps and whose instants it lets through.
+module _ (clocks : Clocks) (event : Event) (rule : Recurrence) (has : recurrence_of event ≡ Some rule) (local : Local) where
+  pub kept-ruled : IsTime event.start → IsDayNumber local.day → is_kept rule (number local) ≡ true → lets_until rule (number local) (moment_numbered clocks event (number local)) ≡ true
+      → (local ≡ local_of event.start.stamp) ⊎ IsRuleStart clocks event local
+  kept-ruled time day kept through =
+      ⊎_elim
+      (λ e. inl (same-number local (local_of event.start.stamp) day (calendar-day (local_of event.start.stamp).day (own-day event.start time))
+      (eqb_true (number local) (number rule.start) e ∙ ap (λ (l : Local). number l) (rule-first event rule has))))
+      (λ u. inr (record {
+        rule = rule;
+        has = has;
+        calendar = day;
+        kept = kept;
+        until = subst (λ l. IfSome (until_moment rule) (λ last. instant clocks (time_at event.start l) ≤ℤ last)) (numbered-number local day)
+            (true-until (until_moment rule) (moment_numbered clocks event (number local)) u);
+      }))
+      (or_true {a = number local == number rule.start} through)
+
+  either-left : (a b : Bool) → a ≡ true → (a || b) ≡ true
+  either-left true b e = refl
+  either-left false b e = let f : false ≡ true = e in absurd cc
+
+  either-right : (a b : Bool) → b ≡ true → (a || b) ≡ true
+  either-right true b e = refl
+  either-right false b e = e
+
+  pub ruled-kept : (local ≡ local_of event.start.stamp) ⊎ IsRuleStart clocks event local
+      → (is_kept rule (number local) ≡ true) × (lets_until rule (number local) (instant clocks (time_at event.start local)) ≡ true)
+  ruled-kept k =
+      ⊎_elim
+      (λ e.
+      let first : number local ≡ number rule.start = ap (λ (l : Local). number l) (e ∙ sym (rule-first event rule has)) in
+      (ap (is_kept rule) first ∙ kept_start rule, either-left (number local == number rule.start) (is_until (until_moment rule) (instant clocks (time_at event.start local))) (true-eqb (number local) (number rule.start) first)))
+      (λ r.
+      let same : r.rule ≡ rule = some-same r.rule rule (sym r.has ∙ has) in
+      let until : is_until (until_moment rule) (instant clocks (time_at event.start local)) ≡ true =
+      ap (λ (q : Recurrence). is_until (until_moment q) (instant clocks (time_at event.start local))) (sym same) ∙ until-true (until_moment r.rule) (instant clocks (time_at event.start local)) r.until in
+      (ap (λ (q : Recurrence). is_kept q (number local)) (sym same) ∙ r.kept, either-right (number local == number rule.start) (is_until (until_moment rule) (instant clocks (time_at event.start local))) until))
+      k
+    where
+      some-same : (x y : Recurrence) → Some x ≡ Some y → x ≡ y
+      some-same x y h = cc

@@ -44,7 +44,7 @@ use Rattle.ics_series.proofs.LeftLemmas.{member-cut}
 use Rattle.ics_series.proofs.ListingLemmas.{before-in}
 use Rattle.ics_series.proofs.MeetingLemmas.{both-back, equal-true, le-true, met-shown, true-equal, true-le}
 use Rattle.ics_series.proofs.MetLemmas.{found-is, in-picked, is-found, listing-picked}
-use Rattle.ics_series.proofs.RuleLocalLemmas.{numbered-number, rule-first}
+use Rattle.ics_series.proofs.RuleLocalLemmas.{kept-ruled}
 use Rattle.ics_series.proofs.RuleStartLemmas.{rises-to_come}
 use Rattle.ics_series.proofs.GivenLemmas.{entry_start_cmp}
 use Rattle.ics_series.proofs.RuleStepLemmas.{left-near}
@@ -92,20 +92,8 @@ module _ (zones : FileZones) (w : Window) (event : Event) where
   unfolding gives
   same-or-ruled local rule has time day g =
       let kept = and_true {a = is_kept rule (number local)} g in
-      let let-through = and_true {a = lets_until rule (number local) (moment_numbered (clocks_in zones) event (number local))} kept.1 in
-      let first = rule-first event rule has in
-      ⊎_elim
-      (λ e. inl (same-number local (local_of event.start.stamp) day (calendar-day (local_of event.start.stamp).day (own-day event.start time))
-      (eqb_true (number local) (number rule.start) e ∙ ap (λ (l : Local). number l) first)))
-      (λ u. inr (record {
-        rule = rule;
-        has = has;
-        calendar = day;
-        kept = kept.0;
-        until = subst (λ l. IfSome (until_moment rule) (λ last. instant (clocks_in zones) (time_at event.start l) ≤ℤ last)) (numbered-number local day)
-            (true-until (until_moment rule) (moment_numbered (clocks_in zones) event (number local)) u);
-      }))
-      (or_true {a = number local == number rule.start} let-through.0)
+      let through = and_true {a = lets_until rule (number local) (moment_numbered (clocks_in zones) event (number local))} kept.1 in
+      kept-ruled (clocks_in zones) event rule has local time day kept.0 through.0
 
   given-local : (local : Local) (o : Option Recurrence) → recurrence_of event ≡ o → IsTime event.start → IsGivenAt (clocks_in zones) event w local o
       → (local ≡ local_of event.start.stamp) ⊎ IsRuleStart (clocks_in zones) event local

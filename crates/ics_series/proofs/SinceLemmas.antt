@@ -43,7 +43,7 @@ use Rattle.ics_series.proofs.ListedLemmas.{listed-in}
 use Rattle.ics_series.proofs.MasterLemmas.{same-entry}
 use Rattle.ics_series.proofs.MeetingLemmas.{both-back, true-less}
 use Rattle.ics_series.proofs.RuleDayLemmas.{found-is, given-early, seconds-numbered}
-use Rattle.ics_series.proofs.RuleLocalLemmas.{gives-kept, number-numbered, numbered-number, rule-first}
+use Rattle.ics_series.proofs.RuleLocalLemmas.{gives-kept, number-numbered, numbered-number, rule-first, ruled-kept}
 use Rattle.ics_series.proofs.SeriesLemmas.{in-moment, known-start, rises-rule}
 use Rattle.ics_series.proofs.SoughtLemmas.{listed-there, none-else, sought-early, sought-late}
 use Rattle.ics_series.proofs.StartLaws.{kept-first}
@@ -126,31 +126,7 @@ module _ (zones : FileZones) (w : Window) (event : Event) where
     -- a local that DTSTART has or the rule keeps gives one before the window's end
     let-through : (local : Local) → recurrence_of event ≡ Some rule → (local ≡ local_of event.start.stamp) ⊎ IsRuleStart (clocks_in zones) event local
         → (is_kept rule (number local) ≡ true) × (lets_until rule (number local) (instant (clocks_in zones) (time_at event.start local)) ≡ true)
-    let-through local has k =
-        ⊎_elim
-        (λ e.
-        let first : number local ≡ number rule.start = ap (λ (l : Local). number l) (e ∙ sym (rule-first event rule has)) in
-        (ap (is_kept rule) first ∙ kept_start rule, either-left (number local == number rule.start) (is_until (until_moment rule) (instant (clocks_in zones) (time_at event.start local))) (true-eqb (number local) (number rule.start) first)))
-        (λ r.
-        let same : r.rule ≡ rule = some-same r.rule rule (sym r.has ∙ has) in
-        let until : is_until (until_moment rule) (instant (clocks_in zones) (time_at event.start local)) ≡ true =
-        ap (λ (q : Recurrence). is_until (until_moment q) (instant (clocks_in zones) (time_at event.start local))) (sym same) ∙ until-true (until_moment r.rule) (instant (clocks_in zones) (time_at event.start local)) r.until in
-        (ap (λ (q : Recurrence). is_kept q (number local)) (sym same) ∙ r.kept, either-right (number local == number rule.start) (is_until (until_moment rule) (instant (clocks_in zones) (time_at event.start local))) until))
-        k
-      where
-        some-same : (x y : Recurrence) → Some x ≡ Some y → x ≡ y
-        some-same x y h = cc
-
-        true-eqb : (a b : ℕ) → a ≡ b → (a == b) ≡ true
-        true-eqb a b e = grind (arith, nat_tests)
-
-        either-left : (a b : Bool) → a ≡ true → (a || b) ≡ true
-        either-left true b e = refl
-        either-left false b e = let f : false ≡ true = e in absurd cc
-
-        either-right : (a b : Bool) → b ≡ true → (a || b) ≡ true
-        either-right true b e = refl
-        either-right false b e = e
+    let-through local has k = ruled-kept (clocks_in zones) event rule has local k
 
     gives-own : (local : Local) → recurrence_of event ≡ Some rule → IsDayNumber local.day → (local ≡ local_of event.start.stamp) ⊎ IsRuleStart (clocks_in zones) event local
         → instant (clocks_in zones) (time_at event.start local) <ℤ w.to → gives (clocks_in zones) event rule w (number local) ≡ true

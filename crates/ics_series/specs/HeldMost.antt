@@ -1,12 +1,14 @@
 -- How many occurrences a listing holds at most: in five UTC days in a row an event has no more than so many starts.
-use Rattle.std.specs.Prelude.{ℕ, zero, suc, ◌+◌, max, ℤ, pos, ◌+ℤ◌, ◌-ℤ◌, Bool, ◌&&◌, int_le, int_lt, if◌then◌else◌, List, sum_by, count_by, Option, None, Some}
+use Rattle.std.specs.Prelude.{◌≡◌, true, ℕ, zero, suc, ◌+◌, max, ℤ, pos, ◌+ℤ◌, ◌-ℤ◌, Bool, ◌&&◌, int_le, int_lt, if◌then◌else◌, List, sum_by, count_by, Option, None, Some}
 use Rattle.ics_rule.specs.Kept.{count, is_kept}
 use Rattle.ics_rule.specs.Locals.{calendar_end}
 use Rattle.ics_rule.specs.Recurrence.{Recurrence}
 use Rattle.ics_calendar.specs.declared.event.Event.{Event}
+use Rattle.ics_calendar.specs.declared.time.Rdate.{Rdate}
+use Rattle.ics_series.specs.declared.start.Giver.{Giver}
 use Rattle.ics_series.specs.Clocks.{Clocks, instant, midnight}
 use Rattle.ics_series.specs.RuleStarts.{lets_until, moment_numbered}
-use Rattle.ics_series.specs.Starts.{given_by, recurrence_of, time_of}
+use Rattle.ics_series.specs.Starts.{given_by, recurrence_of, time_of, GivesStart}
 
 -- an instant lies in the five UTC days that begin with this one
 abbrev pub is_within_days : ℤ → ℤ → Bool
@@ -33,6 +35,11 @@ raw_listed clocks event day = count_by (λ rdate. is_within_days day (instant cl
 -- how many there are of both, where what is given twice counts twice, and EXDATE takes nothing out
 unfoldable pub raw_in : Clocks → Event → ℤ → ℕ
 raw_in clocks event day = raw_by clocks event (recurrence_of event) day + raw_listed clocks event day
+
+-- These numbers count, each once, what gives the event a start in these days: a local that DTSTART has or the rule keeps, and an RDATE at a
+-- place among them.
+abbrev pub IsRaw : Clocks → Event → ℤ → Giver → Type 0
+IsRaw clocks event day giver = (given : Rdate) × GivesStart clocks event giver given × (is_within_days day (instant clocks (time_of given)) ≡ true)
 
 -- the greatest of the first n numbers that a function gives
 unfoldable pub greatest : ℕ → (ℕ → ℕ) → ℕ

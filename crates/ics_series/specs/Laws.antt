@@ -1,5 +1,5 @@
 -- Laws of the occurrences of events and of folders, and of listings.
-use Rattle.std.specs.Prelude.{◌≡◌, ℤ, true, false, List, [], ◌∷◌, ◌++◌, Some, None, All, Contains, filter}
+use Rattle.std.specs.Prelude.{◌≡◌, ◌≤◌, ℤ, true, false, List, [], ◌∷◌, ◌++◌, Option, Some, None, All, Contains, filter, length, map}
 use Rattle.std.specs.Ordering.{is_lt}
 use Rattle.ics_calendar.specs.Event.{FileSaid, IsTime}
 use Rattle.ics_calendar.specs.declared.event.Event.{Event}
@@ -7,16 +7,22 @@ use Rattle.ics_calendar.specs.declared.time.Rdate.{Rdate}
 use Rattle.ics_calendar.specs.declared.time.Rdate.TheVariants.{At}
 use Rattle.ics_calendar.specs.declared.time.Time.{Time}
 use Rattle.ics_series.specs.declared.window.Window.{Window}
+use Rattle.ics_series.specs.Chosen.{IsMaster}
 use Rattle.ics_series.specs.Clocks.{Clock, Clocks, instant}
 use Rattle.ics_series.specs.Entry.{Entry, Rank, entry_cmp, rank_cmp, rank_of}
 use Rattle.ics_series.specs.Exclusions.{excludes, is_excluded}
 use Rattle.ics_series.specs.Finish.{finish}
+use Rattle.ics_series.specs.Found.{giver_cmp}
+use Rattle.ics_series.specs.HeldMost.{held_most, raw_in, IsRaw}
 use Rattle.ics_series.specs.Listing.{IsListing}
 use Rattle.ics_series.specs.Meets.{IsListed, IsToCome}
 use Rattle.ics_series.specs.Merged.{merged, IsFromFirst}
 use Rattle.ics_series.specs.Occurs.{IsInstance, Occurs}
+use Rattle.ics_series.specs.Placed.{Placed}
 use Rattle.ics_series.specs.Rising.{Rises}
+use Rattle.ics_series.specs.Sources.{master_at, master_of, recurring, AreSources, Source}
 use Rattle.ics_series.specs.Starts.{time_of, GivesStart}
+use Rattle.ics_series.specs.Versions.{by_subject}
 use Rattle.ics_series.specs.declared.start.Giver.{Giver}
 
 -- a window has one listing at most
@@ -67,3 +73,16 @@ abbrev pub NoneExcluded : Type 0
 NoneExcluded =
     (clocks : Clocks) (event : Event) (exdate : Time) (start end : ℤ) → Contains event.exdates exdate
     → excludes clocks event.start exdate start ≡ true → ¬ IsInstance clocks event start end
+
+-- the number of the starts that an event has in five UTC days is the length of the one list of what gives it one there
+abbrev pub RawCounted : Type 0
+RawCounted =
+    (clocks : Clocks) (event : Event) (day : ℤ) → IsTime event.start
+    → (givers : List Giver) × IsListing giver_cmp (IsRaw clocks event day) givers × (length givers ≡ raw_in clocks event day)
+
+-- the masters of a listing may hold no more than all masters of the folder that count
+abbrev pub MostOfMasters : Type 0
+MostOfMasters =
+    (files : List FileSaid) (display : Clock) (w : Window) (after : Option Rank) (sources : List Source) (masters : List Placed)
+    → AreSources files display w after sources → IsListing (by_subject files display) (IsMaster files display) masters
+    → held_most (map master_of (recurring sources)) ≤ held_most (map (master_at files display) masters)

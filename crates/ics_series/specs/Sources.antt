@@ -43,6 +43,10 @@ recurring (Of m ∷ sources) = m ∷ recurring sources
 abbrev pub master_of : Recurring → Master
 master_of m = record { clocks = m.clocks; event = m.event }
 
+-- an event as a master, read by the clocks of its file
+abbrev pub master_at : List FileSaid → Clock → Placed → Master
+master_at files display p = record { clocks = clocks_at files display p.file; event = p.event }
+
 -- by the bytes of the UID
 abbrev pub uid_cmp : Recurring → Recurring → Ordering
 uid_cmp = on (λ m. m.event.uid) (slice_cmp nat_cmp)

@@ -1,7 +1,7 @@
 //! Laws of the definitions, each the contract of a function that does nothing.
 ghost use Rattle.std.specs.Prelude.{◌≡◌};
 ghost use Rattle.ics_series.specs.Entry.{key_rank, rank_cmp};
-ghost use Rattle.ics_series.specs.Laws.{EachStart, ListingAfter, ListingBehind, ListingMerged, NoneExcluded, OneListing, OneRecurrence, OneStart};
+ghost use Rattle.ics_series.specs.Laws.{EachStart, ListingAfter, ListingBehind, ListingMerged, MostOfMasters, NoneExcluded, OneListing, OneRecurrence, OneStart, RawCounted};
 ghost use Rattle.ics_series.specs.Tokens.{OneSpelling};
 ghost use Rattle.ics_series.specs.declared.key.Key.{Key};
 
@@ -38,6 +38,18 @@ pub fn one_recurrence()
 /// starts.
 pub fn each_start()
     ensures { EachStart }
+{}
+
+/// The starts of an event in five UTC days are counted as `held_most` does: each local and each place
+/// of an RDATE that gives one counts once.
+pub fn raw_counted()
+    ensures { RawCounted }
+{}
+
+/// The masters that a listing is of may hold no more occurrences than all masters of the folder that
+/// count.
+pub fn most_of_masters()
+    ensures { MostOfMasters }
 {}
 
 /// An event without a rule and without RDATEs occurs at its DTSTART alone.
