@@ -1,6 +1,6 @@
 -- The greatest number of starts that an event has in five days is that of five days, and no five have more.
 use Rattle.std.specs.Prelude.{◌<ℤ◌, ◌≤ℤ◌, int_le, count_by, All}
-use Rattle.std.proofs.Common.{◌≡◌, ℕ, zero, suc, ◌+◌, ◌<◌, ◌≤◌, max, ℤ, pos, neg_ℤ, ◌+ℤ◌, ◌-ℤ◌, Bool, true, false, cond, List, [], ◌∷◌, Option, None, Some, ◌⊎◌, inl, inr, ⊎_elim, refl, sym, ◌∙◌, ap, arith}
+use Rattle.std.proofs.Common.{◌≡◌, ℕ, zero, suc, ◌<◌, ◌≤◌, max, ℤ, pos, neg_ℤ, ◌+ℤ◌, ◌-ℤ◌, Bool, true, false, cond, List, [], ◌∷◌, Option, None, Some, ◌⊎◌, inl, inr, ⊎_elim, refl, sym, ◌∙◌, ap, arith}
 use Rattle.std.proofs.lemmas.Int.{ints}
 use Rattle.std.proofs.lemmas.List.Elements.{All-head, All-tail}
 use Rattle.std.proofs.lemmas.List.Sums.{sum_by-cons}
@@ -16,7 +16,7 @@ use Rattle.ics_calendar.specs.declared.time.Rdate.{Rdate}
 use Rattle.ics_calendar.specs.declared.time.Time.{Time}
 use Rattle.ics_series.specs.declared.zones.FileZones.{FileZones}
 use Rattle.ics_series.specs.Clocks.{Clocks, instant, midnight}
-use Rattle.ics_series.specs.HeldMost.{greatest, held_most, is_raw, is_within_days, most_in_days, raw_by, raw_by_rule, raw_in, raw_listed, Master}
+use Rattle.ics_series.specs.HeldMost.{greatest, is_raw, is_within_days, most_in_days, raw_by, raw_by_rule, raw_in, raw_listed}
 use Rattle.ics_series.specs.RuleStarts.{lets_until, local_numbered, moment_numbered}
 use Rattle.ics_series.specs.Starts.{given_by, recurrence_of, time_at, time_of}
 use Rattle.ics_series.specs.Zones.{clocks_in}
@@ -52,11 +52,11 @@ greatest-given (suc n) f =
     (either-greatest (suc n) f)
 
 -- five days that have as many as any
-pub record IsOfDays (clocks : Clocks) (event : Event) : Type 0 where
-  pub day : ℤ
-  pub is : most_in_days clocks event ≡ raw_in clocks event day
+record IsOfDays (clocks : Clocks) (event : Event) : Type 0 where
+  day : ℤ
+  is : most_in_days clocks event ≡ raw_in clocks event day
 
-pub most-of-days : (clocks : Clocks) (event : Event) → IsOfDays clocks event
+most-of-days : (clocks : Clocks) (event : Event) → IsOfDays clocks event
 unfolding most_in_days
 most-of-days clocks event =
     let given = greatest-given 3_652_432 (λ k. raw_in clocks event (pos k -ℤ pos 719_534)) in
@@ -134,18 +134,14 @@ near-or-far day = ⊎_elim (λ low. ⊎_elim (λ high. inl (low, high)) (λ high
     order a b = grind (arith, ints)
 
 -- no five days have more than the greatest number
-pub most-in-any : (zones : FileZones) (event : Event) → IsTime event.start → All IsRdate event.rdates → (day : ℤ) → raw_in (clocks_in zones) event day ≤ most_in_days (clocks_in zones) event
+most-in-any : (zones : FileZones) (event : Event) → IsTime event.start → All IsRdate event.rdates → (day : ℤ) → raw_in (clocks_in zones) event day ≤ most_in_days (clocks_in zones) event
 most-in-any zones event first all day =
     ⊎_elim
     (λ near. days-most (clocks_in zones) event day near.0 near.1)
     (λ far. omega (arith, far-in zones day far event first all))
     (near-or-far day)
 
--- What masters may hold adds up.
-pub held-by-none : held_most [] ≡ 2
-unfolding held_most
-held-by-none = refl
-
-pub held-by-more : (m : Master) (masters : List Master) → held_most (m ∷ masters) ≡ held_most masters + (2 + most_in_days m.clocks m.event)
-unfolding held_most
-held-by-more m masters = omega (arith, sum_by-cons (λ x. 2 + most_in_days x.clocks x.event) m masters)
+-- so that it is the greatest
+pub most-in-days : (zones : FileZones) (event : Event) → IsTime event.start → All IsRdate event.rdates
+    → ((day : ℤ) → raw_in (clocks_in zones) event day ≤ most_in_days (clocks_in zones) event) × (day : ℤ) × (most_in_days (clocks_in zones) event ≡ raw_in (clocks_in zones) event day)
+most-in-days zones event first all = let some = most-of-days (clocks_in zones) event in (most-in-any zones event first all, some.day, some.is)

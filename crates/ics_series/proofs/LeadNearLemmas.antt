@@ -1,8 +1,7 @@
 -- How far the rules of leads' feeds have been read, and of what events they are.
 use Rattle.std.specs.List.{flat_map, AllByRecursion}
-use Rattle.std.proofs.Common.{◌≡◌, ℕ, zero, suc, true, List, [], ◌∷◌, ◌++◌, get_or, set, map, inl, inr, ⊎_elim, Option, Some, None, refl, sym, ◌∙◌, ap, subst}
+use Rattle.std.proofs.Common.{◌≡◌, ℕ, zero, suc, true, List, [], ◌∷◌, ◌++◌, get_or, set, map, inr, Option, Some, None, refl, sym, ◌∙◌, ap, subst}
 use Rattle.std.specs.Option.{option_map}
-use Rattle.std.specs.Cmp.{IsTotalOrder}
 use Rattle.std.specs.declared.cmp.Ordering.{Ordering}
 use Rattle.std.specs.declared.cmp.Ordering.TheVariants.{Less, Equal, Greater}
 use Rattle.ics_series.specs.declared.occurrence.Occurrence.{Occurrence}
@@ -10,7 +9,7 @@ use Rattle.ics_series.specs.Entry.{Entry, entry_cmp, entry_of}
 use Rattle.ics_series.specs.EntryLaws.{entry_total}
 use Rattle.ics_series.specs.Leads.{is_given, listed, past, AreNear, ComeAfter, HasNear, IsAhead}
 use Rattle.ics_series.specs.Listing.{IsIn}
-use Rattle.ics_series.specs.Merged.{by_order, cut, merged, union}
+use Rattle.ics_series.specs.Merged.{by_order, cut, merged}
 use Rattle.ics_series.specs.Rising.{IsBefore}
 use Rattle.ics_series.proofs.BeginsLemmas.{before-union}
 use Rattle.ics_series.proofs.LeadLemmas.{past-drawn}

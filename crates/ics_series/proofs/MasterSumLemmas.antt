@@ -11,7 +11,7 @@ use Rattle.ics_calendar.specs.Event.{FileSaid}
 use Rattle.ics_calendar.specs.declared.event.Event.{Event}
 use Rattle.ics_series.specs.declared.window.Window.{Window}
 use Rattle.ics_series.specs.Chosen.{IsMaster}
-use Rattle.ics_series.specs.Clocks.{Clock, Clocks}
+use Rattle.ics_series.specs.Clocks.{Clock}
 use Rattle.ics_series.specs.Entry.{Rank}
 use Rattle.ics_series.specs.HeldMost.{held_most, most_in_days, Master}
 use Rattle.ics_series.specs.Listing.{IsIn, IsListing}
@@ -71,11 +71,11 @@ module _ (files : List FileSaid) (display : Clock) where
       still a w [] b k = tt
       still a w (n ∷ ns) b k = (
         record {
-            by = k.0.by;
-            stands = ⊎_elim (λ s. absurd (behind m n a.by a.event (k.0.event ∙ ap (λ (p : Placed). p.event) s) b.0)) (λ i. i) (w.others k.0.by k.0.stands);
-            event = k.0.event;
-            clocks = k.0.clocks;
-          },
+          by = k.0.by;
+          stands = ⊎_elim (λ s. absurd (behind m n a.by a.event (k.0.event ∙ ap (λ (p : Placed). p.event) s) b.0)) (λ i. i) (w.others k.0.by k.0.stands);
+          event = k.0.event;
+          clocks = k.0.clocks;
+        },
         still a w ns b.1 k.1,
       )
 

@@ -1,38 +1,34 @@
 -- What gives an event a start in five days stands in one list, which has as many members as are counted.
-use Rattle.std.specs.Prelude.{◌≤ℤ◌, ◌<ℤ◌, ◌==◌, ◌||◌, count_by, slice_get, if◌then◌else◌, IfSome}
+use Rattle.std.specs.Prelude.{count_by, slice_get, if◌then◌else◌}
 use Rattle.std.specs.List.{AllByRecursion}
 use Rattle.std.specs.Ordering.{is_gt, ordering_reverse}
 use Rattle.std.specs.declared.cmp.Ordering.{Ordering}
 use Rattle.std.specs.declared.cmp.Ordering.TheVariants.{Less, Equal, Greater}
-use Rattle.std.proofs.Common.{◌≡◌, ℕ, zero, suc, ◌+◌, ◌<◌, ◌≤◌, ℤ, Bool, true, false, ◌&&◌, cond, List, [], ◌∷◌, ◌++◌, length, Option, Some, None, ◌⊎◌, inl, inr, ⊎_elim, refl, sym, ◌∙◌, ap, subst, length-append, arith}
-use Rattle.std.proofs.lemmas.Bool.Decides.{nat_tests}
+use Rattle.std.proofs.Common.{◌≡◌, ℕ, zero, suc, ◌+◌, ◌<◌, ℤ, Bool, true, false, ◌&&◌, cond, List, [], ◌∷◌, ◌++◌, length, Option, Some, None, ◌⊎◌, inl, inr, ⊎_elim, refl, sym, ◌∙◌, ap, subst, length-append, arith}
 use Rattle.std.proofs.lemmas.Int.{ints}
 use Rattle.std.proofs.lemmas.List.Sums.{sum_by-cons}
 use Rattle.ics_values.specs.Days.{IsDayNumber}
 use Rattle.ics_values.specs.declared.local.Local.{Local}
-use Rattle.ics_rule.specs.Kept.{count, is_kept, until_moment}
+use Rattle.ics_rule.specs.Kept.{count, is_kept}
 use Rattle.ics_rule.specs.Locals.{calendar_end, number}
 use Rattle.ics_rule.specs.Recurrence.{Recurrence}
 use Rattle.ics_rule.proofs.Counts.{count-suc}
-use Rattle.ics_rule.proofs.KeptLemmas.{and_true, eqb_true, or_true}
-use Rattle.ics_rule.proofs.NextLemmas.{kept_start}
+use Rattle.ics_rule.proofs.KeptLemmas.{and_true}
 use Rattle.ics_calendar.specs.Event.{IsTime}
 use Rattle.ics_calendar.specs.declared.event.Event.{Event}
 use Rattle.ics_calendar.specs.declared.time.Rdate.{Rdate}
 use Rattle.ics_calendar.specs.declared.time.Rdate.TheVariants.{At}
-use Rattle.ics_calendar.specs.declared.time.Time.{Time}
 use Rattle.ics_series.specs.declared.start.Giver.{Giver}
 use Rattle.ics_series.specs.declared.start.Giver.TheVariants.{Kept, Listed}
 use Rattle.ics_series.specs.Clocks.{Clocks, instant}
-use Rattle.ics_series.specs.Found.{giver_cmp, is_until}
+use Rattle.ics_series.specs.Found.{giver_cmp}
 use Rattle.ics_series.specs.HeldMost.{is_raw, is_within_days, raw_by, raw_by_rule, raw_in, raw_listed, IsRaw}
 use Rattle.ics_series.specs.Listing.{IsIn, IsListing}
 use Rattle.ics_series.specs.Rising.{IsBefore, Rises}
 use Rattle.ics_series.specs.RuleStarts.{lets_until, local_numbered, moment_numbered}
-use Rattle.ics_series.specs.Starts.{given_by, local_of, recurrence_of, time_at, time_of, GivesStart, IsNotAfter, IsRuleStart}
+use Rattle.ics_series.specs.Starts.{given_by, local_of, recurrence_of, time_at, time_of, IsNotAfter, IsRuleStart}
 use Rattle.ics_series.proofs.FirstLemmas.{giver-order, giver_total}
-use Rattle.ics_series.proofs.GiverLemmas.{calendar-day, own-day, own-time, same-number}
-use Rattle.ics_series.proofs.KeptLemmas.{true-until, until-true}
+use Rattle.ics_series.proofs.GiverLemmas.{calendar-day, own-day, own-time}
 use Rattle.ics_series.proofs.PlacedLemmas.{in-append, in-append_left, in-append_right}
 use Rattle.ics_series.proofs.RuleLocalLemmas.{both, kept-ruled, number-numbered, numbered-number, ruled-kept}
 use Rattle.ics_series.proofs.SourceLemmas.{rises-more}
@@ -223,9 +219,11 @@ module _ (clocks : Clocks) (event : Event) (day : ℤ) (time : IsTime event.star
         let kept = and_true {a = is_kept rule p.at} p.passes in
         let within = and_true {a = lets_until rule p.at (moment_numbered clocks event p.at)} kept.1 in
         let same = number-numbered p.at in
-        subst IsRawKept (sym p.is)
-        (kept-ruled clocks event rule has (local_numbered p.at) time (in-calendar p.at p.below) (ap (is_kept rule) same ∙ kept.0)
-        (ap (λ k. lets_until rule k (moment_numbered clocks event k)) same ∙ within.0), within.1)
+        subst IsRawKept (sym p.is) (
+          kept-ruled clocks event rule has (local_numbered p.at) time (in-calendar p.at p.below) (ap (is_kept rule) same ∙ kept.0)
+              (ap (λ k. lets_until rule k (moment_numbered clocks event k)) same ∙ within.0),
+          within.1,
+        )
 
     local-day : (local : Local) → (local ≡ local_of event.start.stamp) ⊎ IsRuleStart clocks event local → IsDayNumber local.day
     local-day local k =
@@ -307,8 +305,7 @@ module _ (clocks : Clocks) (event : Event) (day : ℤ) (time : IsTime event.star
   unfolding raw_in raw_listed
   raw-list =
       let kept = kept-counts (recurrence_of event) refl in
-      let rest = listed is_there 0 event.rdates in
-      (
+      let rest = listed is_there 0 event.rdates in (
         kept.givers ++ rest.givers,
         record {
           rises = locals-first kept.givers rest.givers (λ g m. (kept.listing.exact g).0 m) (λ g m. (rest.listing.exact g).0 m) kept.listing.rises rest.listing.rises;

@@ -50,13 +50,6 @@ module _ (s : RuleStarts) where
   pub left-near : (t : Start) → IsIn t (starts_left s) → (midnight s.asked -ℤ pos 259_200) ≤ℤ t.moment
   left-near = near-left s.zones s.event.now s.rule s.window s.day s.asked s.held.items (place_of s.cursor) day-days s.asked_soon s.read s.are
 
-  -- three days past a start still to come lie past all that is asked for, and so do four past the window's end
-  pub asked-by-start : (t : Start) (b : ℕ) → IsIn t (starts_left s) → ((t.moment +ℤ pos 259_200) +ℤ pos 62_167_219_200) ≤ℤ pos b → midnight_number s.asked ≤ b
-  asked-by-start t b m l = omega (arith, ints, asked-number, left-near t m, l)
-
-  pub asked-by-window : (b : ℕ) → ((s.window.to +ℤ pos 345_600) +ℤ pos 62_167_219_200) ≤ℤ pos b → midnight_number s.asked ≤ b
-  asked-by-window b l = omega (arith, ints, asked-number, s.asked_end, s.soon, l)
-
   module _ (behind : is_behind s.day s.end s.held.items ≡ true) (bound : ℤ) (bound-is : bound ≡ bound_of s.day s.end s.held.items) where
     pub within : (s.day <ℤ bound) × (bound ≤ℤ s.end)
     within = subst (λ b. (s.day <ℤ b) × (b ≤ℤ s.end)) (sym bound-is) (bound-later s.day s.end s.held.items (behind-early s.day s.end s.held.items behind))

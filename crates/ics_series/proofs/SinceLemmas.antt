@@ -1,16 +1,14 @@
 -- The starts of a series: all that are sought from an instant on are among them.
-use Rattle.std.specs.Prelude.{◌≤ℤ◌, ◌<ℤ◌, ◌==◌, ◌||◌, int_lt, slice_get, MatchOption}
+use Rattle.std.specs.Prelude.{◌≤ℤ◌, ◌<ℤ◌, int_lt, slice_get, MatchOption}
 use Rattle.std.proofs.Common.{◌≡◌, ℕ, zero, suc, ◌+◌, ◌-◌, ◌<◌, ◌≤◌, ℤ, pos, ◌+ℤ◌, ◌-ℤ◌, List, Bool, true, false, Option, Some, None, option_map, ◌⊎◌, ⊎_elim, refl, sym, ◌∙◌, ap, subst, arith}
 use Rattle.std.specs.Int.{int_max, int_min}
-use Rattle.std.proofs.lemmas.Bool.Decides.{nat_tests}
 use Rattle.std.proofs.lemmas.Int.{int_max_is, int_min_is, ints}
 use Rattle.ics_values.specs.Days.{IsDayNumber}
 use Rattle.ics_values.specs.RuleParts.{RuleParts}
 use Rattle.ics_values.specs.declared.local.Local.{Local}
-use Rattle.ics_rule.specs.Kept.{is_kept, until_moment}
+use Rattle.ics_rule.specs.Kept.{is_kept}
 use Rattle.ics_rule.specs.Locals.{number, rules_end}
 use Rattle.ics_rule.specs.Recurrence.{Recurrence}
-use Rattle.ics_rule.proofs.NextLemmas.{kept_start}
 use Rattle.ics_calendar.specs.declared.event.Event.{Event}
 use Rattle.ics_calendar.specs.declared.time.Rdate.{Rdate}
 use Rattle.ics_calendar.specs.declared.time.Rdate.TheVariants.{At}
@@ -22,7 +20,7 @@ use Rattle.ics_series.specs.declared.window.Window.{Window}
 use Rattle.ics_series.specs.declared.zones.FileZones.{FileZones}
 use Rattle.ics_series.specs.Clocks.{Clocks, instant, seconds_of}
 use Rattle.ics_series.specs.Entry.{Entry, entry_cmp}
-use Rattle.ics_series.specs.Found.{earliest, is_until, listed_from, moment_cmp, start_at, start_by, AreFirsts, AreStartsSince, HasStart, IsSought}
+use Rattle.ics_series.specs.Found.{earliest, listed_from, moment_cmp, start_at, start_by, AreFirsts, AreStartsSince, HasStart, IsSought}
 use Rattle.ics_series.specs.Listing.{IsIn, IsListing}
 use Rattle.ics_series.specs.Meeting.{entry_from}
 use Rattle.ics_series.specs.Meets.{Meets, IsEventMet}
@@ -37,13 +35,12 @@ use Rattle.ics_series.specs.Zones.{clocks_in, IsReadableEvent}
 use Rattle.ics_series.proofs.FirstLemmas.{moment_total}
 use Rattle.ics_series.proofs.GiverLemmas.{calendar-day, number-seconds, own-day, written-at}
 use Rattle.ics_series.proofs.InstantLemmas.{instant-near}
-use Rattle.ics_series.proofs.KeptLemmas.{until-true}
 use Rattle.ics_series.proofs.LeftLemmas.{has-union, put-has, union-has}
 use Rattle.ics_series.proofs.ListedLemmas.{listed-in}
 use Rattle.ics_series.proofs.MasterLemmas.{same-entry}
 use Rattle.ics_series.proofs.MeetingLemmas.{both-back, true-less}
 use Rattle.ics_series.proofs.RuleDayLemmas.{found-is, given-early, seconds-numbered}
-use Rattle.ics_series.proofs.RuleLocalLemmas.{gives-kept, number-numbered, numbered-number, rule-first, ruled-kept}
+use Rattle.ics_series.proofs.RuleLocalLemmas.{gives-kept, number-numbered, numbered-number, ruled-kept}
 use Rattle.ics_series.proofs.SeriesLemmas.{in-moment, known-start, rises-rule}
 use Rattle.ics_series.proofs.SoughtLemmas.{listed-there, none-else, sought-early, sought-late}
 use Rattle.ics_series.proofs.StartLaws.{kept-first}

@@ -1,11 +1,10 @@
 -- The masters that recur among the versions that count, one after the other.
-use Rattle.std.specs.Prelude.{◌≤ℤ◌, MatchOption, count_by, slice_get}
-use Rattle.std.specs.List.{flat_map, AllByRecursion}
+use Rattle.std.specs.Prelude.{◌≤ℤ◌, count_by}
+use Rattle.std.specs.List.{AllByRecursion}
 use Rattle.std.specs.Cmp.{IsTotalOrder}
 use Rattle.std.specs.Cmp.Lexicographic.{slice_cmp}
 use Rattle.std.specs.Int.{saturate_signed, w64}
-use Rattle.std.specs.Option.{option_cmp, option_map}
-use Rattle.std.specs.Ordering.{int_cmp, nat_cmp, on, ordering_then}
+use Rattle.std.specs.Ordering.{nat_cmp, on, ordering_then}
 use Rattle.std.specs.declared.cmp.Ordering.{Ordering}
 use Rattle.std.specs.declared.cmp.Ordering.TheVariants.{Less, Equal, Greater}
 use Rattle.std.proofs.Common.{◌≡◌, ℕ, zero, suc, ◌<◌, ◌≤◌, ℤ, pos, negsuc, ◌+ℤ◌, false, cond, List, [], ◌∷◌, ◌++◌, map, length, get_or, take, inl, inr, ⊎_elim, Option, Some, None, refl, sym, ◌∙◌, ap, subst, arith}
@@ -18,19 +17,16 @@ use Rattle.ics_calendar.specs.Event.{FileSaid}
 use Rattle.ics_calendar.specs.declared.event.Event.{Event}
 use Rattle.ics_series.specs.declared.version.Version.{Version}
 use Rattle.ics_series.specs.declared.window.Window.{Window}
-use Rattle.ics_series.specs.Chosen.{SubjectSeen, IsMaster}
+use Rattle.ics_series.specs.Chosen.{SubjectSeen}
 use Rattle.ics_series.specs.Clocks.{Clock}
 use Rattle.ics_series.specs.Entry.{Rank}
 use Rattle.ics_series.specs.Listing.{IsIn}
 use Rattle.ics_series.specs.Masters.{HasSources, IsSource, IsSourceOf}
-use Rattle.ics_series.specs.Placed.{clocks_at}
 use Rattle.ics_series.specs.Rising.{IsBefore, Rises}
 use Rattle.ics_series.specs.Singles.{is_single}
-use Rattle.ics_series.specs.Sources.{is_once, recurring, uid_cmp, AreApart, AreSources, IsFrom, IsMasterOf, Recurring, Source}
+use Rattle.ics_series.specs.Sources.{is_once, recurring, uid_cmp, AreSources, IsFrom, IsMasterOf, Recurring, Source}
 use Rattle.ics_series.specs.Sources.Source.{Of, Once}
-use Rattle.ics_series.specs.Spots.{event_at}
-use Rattle.ics_series.specs.Versions.{label_of, seen, subject_cmp, AreChosen, Label}
-use Rattle.ics_series.proofs.GivenLemmas.{in-map}
+use Rattle.ics_series.specs.Versions.{seen, subject_cmp, AreChosen, Label}
 use Rattle.ics_series.proofs.LeadNearLemmas.{all-pushed}
 use Rattle.ics_series.proofs.ListingLemmas.{before-in}
 use Rattle.ics_series.proofs.OverrideLemmas.{chosen-rises}
@@ -175,7 +171,7 @@ module _ (files : List FileSaid) (display : Clock) (w : Window) (after : Option 
           apart = (
             omega (arith, sum_by-cons (λ s. cond (is_once s) 1 0) Once (map Of h.more), none-once h.more),
             subst (λ ms. AllByRecursion (λ m. is_single m.event ≡ false) ms × Rises uid_cmp ms) (sym (recurring-of h.more))
-            (all-as (IsSource files display w after (map seen vs)) (λ m. is_single m.event ≡ false) h.more (λ m s. s.is.recurs) h.each, h.rises),
+                (all-as (IsSource files display w after (map seen vs)) (λ m. is_single m.event ≡ false) h.more (λ m s. s.is.recurs) h.each, h.rises),
           );
           each = subst (AllByRecursion (IsMasterOf files display w after)) (sym (recurring-of h.more)) (all-as (IsSource files display w after (map seen vs)) (IsMasterOf files display w after) h.more master-of h.each);
         })

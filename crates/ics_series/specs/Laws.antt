@@ -1,19 +1,20 @@
 -- Laws of the occurrences of events and of folders, and of listings.
 use Rattle.std.specs.Prelude.{◌≡◌, ◌≤◌, ℤ, true, false, List, [], ◌∷◌, ◌++◌, Option, Some, None, All, Contains, filter, length, map}
 use Rattle.std.specs.Ordering.{is_lt}
-use Rattle.ics_calendar.specs.Event.{FileSaid, IsTime}
+use Rattle.ics_calendar.specs.Event.{FileSaid, IsRdate, IsTime}
 use Rattle.ics_calendar.specs.declared.event.Event.{Event}
 use Rattle.ics_calendar.specs.declared.time.Rdate.{Rdate}
 use Rattle.ics_calendar.specs.declared.time.Rdate.TheVariants.{At}
 use Rattle.ics_calendar.specs.declared.time.Time.{Time}
 use Rattle.ics_series.specs.declared.window.Window.{Window}
+use Rattle.ics_series.specs.declared.zones.FileZones.{FileZones}
 use Rattle.ics_series.specs.Chosen.{IsMaster}
 use Rattle.ics_series.specs.Clocks.{Clock, Clocks, instant}
 use Rattle.ics_series.specs.Entry.{Entry, Rank, entry_cmp, rank_cmp, rank_of}
 use Rattle.ics_series.specs.Exclusions.{excludes, is_excluded}
 use Rattle.ics_series.specs.Finish.{finish}
 use Rattle.ics_series.specs.Found.{giver_cmp}
-use Rattle.ics_series.specs.HeldMost.{held_most, raw_in, IsRaw}
+use Rattle.ics_series.specs.HeldMost.{held_most, most_in_days, raw_in, IsRaw}
 use Rattle.ics_series.specs.Listing.{IsListing}
 use Rattle.ics_series.specs.Meets.{IsListed, IsToCome}
 use Rattle.ics_series.specs.Merged.{merged, IsFromFirst}
@@ -24,6 +25,7 @@ use Rattle.ics_series.specs.Sources.{master_at, master_of, recurring, AreSources
 use Rattle.ics_series.specs.Starts.{time_of, GivesStart}
 use Rattle.ics_series.specs.Versions.{by_subject}
 use Rattle.ics_series.specs.declared.start.Giver.{Giver}
+use Rattle.ics_series.specs.Zones.{clocks_in}
 
 -- a window has one listing at most
 abbrev pub OneListing : Type 0
@@ -79,6 +81,13 @@ abbrev pub RawCounted : Type 0
 RawCounted =
     (clocks : Clocks) (event : Event) (day : ℤ) → IsTime event.start
     → (givers : List Giver) × IsListing giver_cmp (IsRaw clocks event day) givers × (length givers ≡ raw_in clocks event day)
+
+-- no five UTC days in a row have more of them than the greatest number, and some have as many
+abbrev pub MostInDays : Type 0
+MostInDays =
+    (zones : FileZones) (event : Event) → IsTime event.start → All IsRdate event.rdates
+    → ((day : ℤ) → raw_in (clocks_in zones) event day ≤ most_in_days (clocks_in zones) event)
+    × (day : ℤ) × (most_in_days (clocks_in zones) event ≡ raw_in (clocks_in zones) event day)
 
 -- the masters of a listing may hold no more than all masters of the folder that count
 abbrev pub MostOfMasters : Type 0

@@ -1,5 +1,5 @@
 -- The starts that a series holds still to come, and the occurrences that they give.
-use Rattle.std.specs.Prelude.{◌≡◌, ◌≤◌, ◌≤ℤ◌, ℕ, ℤ, pos, ◌+ℤ◌, ◌-ℤ◌, Bool, true, false, ◌&&◌, ◌==◌, not, int_le, int_lt, List, [], ◌∷◌, length, drop, slice_get, Option, None, Some, ◌⊎◌, if◌then◌else◌}
+use Rattle.std.specs.Prelude.{◌≡◌, ◌≤ℤ◌, ℤ, pos, ◌+ℤ◌, ◌-ℤ◌, Bool, true, false, ◌&&◌, ◌==◌, not, int_le, int_lt, List, [], ◌∷◌, length, drop, slice_get, Option, None, Some, ◌⊎◌, if◌then◌else◌}
 use Rattle.std.specs.Int.{int_max, int_min}
 use Rattle.std.specs.List.{filter_map, list_any}
 use Rattle.std.specs.Option.{option_map}
@@ -7,7 +7,6 @@ use Rattle.std.specs.Ordering.{int_eq}
 use Rattle.ics_values.specs.Days.{IsDayNumber}
 use Rattle.ics_values.specs.RuleParts.{RuleParts}
 use Rattle.ics_values.specs.declared.local.Local.{Local}
-use Rattle.ics_rule.specs.Cursors.{looks_from, period_count}
 use Rattle.ics_rule.specs.Locals.{number}
 use Rattle.ics_rule.specs.Recurrence.{Recurrence}
 use Rattle.ics_calendar.specs.declared.event.Event.{Event}
@@ -28,11 +27,10 @@ use Rattle.ics_series.specs.Listing.{IsIn}
 use Rattle.ics_series.specs.Meeting.{entry_from}
 use Rattle.ics_series.specs.Merged.{union}
 use Rattle.ics_series.specs.Meets.{IsEventMet}
-use Rattle.ics_series.specs.Rising.{Rises}
 use Rattle.ics_series.specs.RuleFeed.{starts_left, HasSameSource}
-use Rattle.ics_series.specs.RuleStarts.{found, gives, is_behind, midnight_number, AreHeld}
+use Rattle.ics_series.specs.RuleStarts.{found, gives, is_behind}
 use Rattle.ics_series.specs.Starts.{given_by, local_of, recurrence_of, time_at, time_of, IsRuleStart}
-use Rattle.ics_series.specs.Zones.{clocks_in, is_past}
+use Rattle.ics_series.specs.Zones.{is_past}
 
 -- an occurrence of the event that meets the window, begins at this instant or later, and whose start is none of these
 abbrev pub IsSeriesMet : Clocks → Event → Window → ℤ → List ℤ → Entry → Type 0

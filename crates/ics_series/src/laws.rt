@@ -1,7 +1,7 @@
 //! Laws of the definitions, each the contract of a function that does nothing.
 ghost use Rattle.std.specs.Prelude.{◌≡◌};
 ghost use Rattle.ics_series.specs.Entry.{key_rank, rank_cmp};
-ghost use Rattle.ics_series.specs.Laws.{EachStart, ListingAfter, ListingBehind, ListingMerged, MostOfMasters, NoneExcluded, OneListing, OneRecurrence, OneStart, RawCounted};
+ghost use Rattle.ics_series.specs.Laws.{EachStart, ListingAfter, ListingBehind, ListingMerged, MostInDays, MostOfMasters, NoneExcluded, OneListing, OneRecurrence, OneStart, RawCounted};
 ghost use Rattle.ics_series.specs.Tokens.{OneSpelling};
 ghost use Rattle.ics_series.specs.declared.key.Key.{Key};
 
@@ -44,6 +44,12 @@ pub fn each_start()
 /// of an RDATE that gives one counts once.
 pub fn raw_counted()
     ensures { RawCounted }
+{}
+
+/// No five UTC days in a row have more starts of an event than `held_most` counts for it, and some
+/// have as many.
+pub fn most_in_days()
+    ensures { MostInDays }
 {}
 
 /// The masters that a listing is of may hold no more occurrences than all masters of the folder that

@@ -101,7 +101,10 @@ returns-clause-sources c = λ version there.
       clocks = c.zones-zones.ensures.clocks;
       window = refl;
       since = subst (IsFrom (option_map (λ key. key_rank key.now) c.args.after)) (sym fits) c.since_of-since.ensures.from;
-    } in
-    (m, subst (λ (v : Version). IsSourceOf (map said_by c.args.files.now) (display_clock c.args.display.now) c.args.window (option_map (λ key. key_rank key.now) c.args.after) (seen v)
-    (record { clocks = clocks_in c.zones-zones.result; event = c.event-event.result.now; window = c.args.window; since = to_z w64 (of_z w64 c.since_of-since.result) }))
-    (version-there c.args.chosen.now c.args.place none version c.requires.within there) is, c.in_ok-series.ensures.sources)
+    } in (
+      m,
+      subst (λ (v : Version). IsSourceOf (map said_by c.args.files.now) (display_clock c.args.display.now) c.args.window (option_map (λ key. key_rank key.now) c.args.after) (seen v)
+          (record { clocks = clocks_in c.zones-zones.result; event = c.event-event.result.now; window = c.args.window; since = to_z w64 (of_z w64 c.since_of-since.result) }))
+          (version-there c.args.chosen.now c.args.place none version c.requires.within there) is,
+      c.in_ok-series.ensures.sources,
+    )

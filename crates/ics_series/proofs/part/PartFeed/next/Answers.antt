@@ -1,4 +1,4 @@
-use Rattle.std.proofs.Common.{sym, ap, subst, ◌∙◌}
+use Rattle.std.proofs.Common.{sym, subst}
 use Rattle.ics_series.specs.Listing.{IsIn}
 use Rattle.ics_series.specs.Parts.{part_coming}
 use Rattle.ics_series.specs.SeriesFeed.{series_left, series_of}

@@ -91,19 +91,22 @@ returns-in_default-clause-taken c =
 
 pub returns-in_err-ruled-clause-near : goal.returns-in_err-ruled-clause-near
 returns-in_err-ruled-clause-near c = λ o m.
-    let s = c.args.self.now in
-    (given-own (clocks_in s.zones) s.window s.event.now s.since s.overridden.items (series_left s) o m,
-    asked-near (clocks_in s.zones) s.event.now s.rule_starts c.peek_rule.new.rule c.peek_rule.ensures.rule c.peek_rule.ensures.same (series_of s (series_left s)) s.ruled o m)
+    let s = c.args.self.now in (
+      given-own (clocks_in s.zones) s.window s.event.now s.since s.overridden.items (series_left s) o m,
+      asked-near (clocks_in s.zones) s.event.now s.rule_starts c.peek_rule.new.rule c.peek_rule.ensures.rule c.peek_rule.ensures.same (series_of s (series_left s)) s.ruled o m,
+    )
 
 pub returns-in-Some-clause-near : goal.returns-in-Some-clause-near
 returns-in-Some-clause-near c = λ o m.
-    let s = c.args.self.now in
-    (given-own (clocks_in s.zones) s.window s.event.now s.since s.overridden.items (series_left s) o m,
-    subst (λ day. IsAskedNear (clocks_in s.zones) s.event.now day o.start) (sym c.pass_rule.ensures.asked)
-    (asked-near (clocks_in s.zones) s.event.now s.rule_starts c.peek_rule.new.rule c.peek_rule.ensures.rule c.peek_rule.ensures.same (series_of s (series_left s)) s.ruled o m))
+    let s = c.args.self.now in (
+      given-own (clocks_in s.zones) s.window s.event.now s.since s.overridden.items (series_left s) o m,
+      subst (λ day. IsAskedNear (clocks_in s.zones) s.event.now day o.start) (sym c.pass_rule.ensures.asked)
+          (asked-near (clocks_in s.zones) s.event.now s.rule_starts c.peek_rule.new.rule c.peek_rule.ensures.rule c.peek_rule.ensures.same (series_of s (series_left s)) s.ruled o m),
+    )
 
 pub returns-in_default-clause-near : goal.returns-in_default-clause-near
 returns-in_default-clause-near c = λ o m.
-    let s = c.args.self.now in
-    (given-own (clocks_in s.zones) s.window s.event.now s.since s.overridden.items (series_left s) o m,
-    asked-near (clocks_in s.zones) s.event.now s.rule_starts c.peek_rule.new.rule c.peek_rule.ensures.rule c.peek_rule.ensures.same (series_of s (series_left s)) s.ruled o m)
+    let s = c.args.self.now in (
+      given-own (clocks_in s.zones) s.window s.event.now s.since s.overridden.items (series_left s) o m,
+      asked-near (clocks_in s.zones) s.event.now s.rule_starts c.peek_rule.new.rule c.peek_rule.ensures.rule c.peek_rule.ensures.same (series_of s (series_left s)) s.ruled o m,
+    )
