@@ -1,12 +1,23 @@
-//! Worked examples as data. Standard input has the rows, and standard output what came of each.
+//! Worked examples as data. Standard input has the rows, and what came of each is printed.
 //!
 //! - `= NAME` begins a row, without files.
-//! - `> NAME` begins a file, whose lines follow; each is ended by CRLF. `>> TEXT` adds bytes without a
-//!   line end. In names of files and in these bytes, `%0a` stands for the byte 10.
+//! - `> NAME` begins a file, whose lines follow, each ended by CRLF. `>> TEXT` adds bytes without a line
+//!   end. In both `%0a` stands for the byte 10.
 //! - `$ WORDS` runs the program's words over the files, and `@ WORDS` over the folder on disk that they
-//!   name. `? WORDS` shows the request of the words. The words are parted by a space, or by `|` where
-//!   one stands before the first.
-//! - `: CALL` asks a call of the libraries below, by its name and its values.
+//!   name. Lines of standard error are printed behind `! `, and last the status in brackets.
+//! - `? WORDS` shows the request of the words.
+//! - `: CALL VALUES` asks a call by its name.
+//!
+//! Words are parted by spaces, or by `|` where one stands before the first. The calls are:
+//!
+//! - `now TIME` sets the row's clock; `usage PART of WORDS` asks whether clap's text has a part.
+//! - `cuts WORDS` runs the words over the last file, cut after each of its bytes, `pages LIMIT WORDS` page
+//!   by page, and `entries WORDS` counts what their agenda gives.
+//! - `lines` are those of the last file; `content LINE` and `param NAME LINE` are parts of a line.
+//! - `rule DTSTART RRULE FROM BEFORE [LEAST MOST]` lists a rule's locals, and bounds the periods that were
+//!   looked at; `admits DTSTART RRULE LOCAL` asks one, and `until DTSTART RRULE` for its last instant.
+//! - `clock TIME [ZONE]` and `instant LOCAL [ZONE]` ask a display zone, or else the last file's first zone.
+//! - `date`, `stamp`, `zoned`, `duration`, `offset`, `period`, `integer` and `text` read a value.
 #![tactic(auto)]
 
 mod counts;

@@ -113,7 +113,7 @@ impl Row {
         match name {
             "content" => parts(alloc, rest),
             "param" => param(alloc, rest),
-            "admits" | "until" => rule_value(alloc, name, rest),
+            "admits" | "until" => rule_value(alloc, rest),
             "clock" | "instant" => {
                 let (value, zone) = rest.split_once(' ').unwrap_or((rest, ""));
                 if zone.is_empty() {
@@ -136,5 +136,5 @@ impl Row {
 
 /// Bytes as text.
 pub fn shown_bytes(bytes: &[u8]) -> &str {
-    str::from_utf8(bytes).unwrap_or("not UTF-8")
+    str::from_utf8(bytes).unwrap_or("not UTF-8\n")
 }

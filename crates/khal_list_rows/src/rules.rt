@@ -3,7 +3,7 @@ ghost use Rattle.std.specs.Prelude.{◌≤ℤ◌, pos, IfSome};
 ghost use Rattle.ics_values.specs.Days.{IsDayNumber};
 
 use crate::requests::yes_no;
-use crate::shown::{local_of, local_text};
+use crate::shown::{local_of, local_text, moment_text};
 use crate::words::words_of;
 use ics_rule::{Cursor, Kind, Rule};
 use ics_values::{Local, read_rule};
@@ -76,17 +76,28 @@ fn print_bounds(rt: HostRuntime, steps: u64, bounds: &[&str]) -> io::Result<()> 
     Ok(())
 }
 
-/// Whether a rule's parts admit a local, `admits DTSTART RRULE LOCAL`, or the instant of its UNTIL.
-pub fn rule_value(alloc: Global, call: &str, line: &str) -> Result<String, AllocError> {
+/// Whether a rule's parts admit a local, `admits DTSTART RRULE LOCAL`, or the instant that bounds it,
+/// `until DTSTART RRULE`.
+pub fn rule_value(alloc: Global, line: &str) -> Result<String, AllocError> {
     let words = words_of(alloc, line)?;
-    let [start, rule, local] = words.as_slice() else {
-        return String::from_str(alloc, "three words");
+    let [start, rule, rest @ ..] = words.as_slice() else {
+        return String::from_str(alloc, "too few words");
     };
-    let (Some(rule), Some(local)) = (rule_of(start, rule), day_local(local)) else {
+    let Some(rule) = rule_of(start, rule) else {
         return String::from_str(alloc, "BadRule");
     };
-    match call {
-        "admits" => String::from_str(alloc, yes_no(rule.admits(local))),
-        _ => format!(in alloc; "{:?}", rule.until_moment()),
+    match rest {
+        [local] => String::from_str(alloc, admits(&rule, local)),
+        _ => match rule.until_moment() {
+            Some(moment) => moment_text(alloc, moment),
+            None => String::from_str(alloc, "none"),
+        },
+    }
+}
+
+fn admits(rule: &Rule, local: &str) -> &'static str {
+    match day_local(local) {
+        Some(local) => yes_no(rule.admits(local)),
+        None => "no local",
     }
 }

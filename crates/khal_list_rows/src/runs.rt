@@ -1,9 +1,9 @@
 //! Runs of the program's words over files.
 
+use crate::row::shown_bytes;
 use crate::words::words_of;
 use khal_list::{
-    FolderSource, MemoryFile, MemorySink, MemorySource, Request, RequestFault, RunFault, Source,
-    Status, run,
+    FolderSource, MemorySink, MemorySource, Request, RequestFault, RunFault, Source, Status, run,
 };
 use std::alloc::Global;
 use std::io;
@@ -31,13 +31,9 @@ pub fn outcome<S: Source>(
     let mut out = MemorySink::new(alloc);
     let mut err = MemorySink::new(alloc);
     let status = run(alloc, source, request, &mut out, &mut err)?;
-    let out = String::from_str(alloc, text_of(out.bytes.as_slice()))?;
-    let err = String::from_str(alloc, text_of(err.bytes.as_slice()))?;
+    let out = String::from_str(alloc, shown_bytes(out.bytes.as_slice()))?;
+    let err = String::from_str(alloc, shown_bytes(err.bytes.as_slice()))?;
     Ok(Written { out, err, status })
-}
-
-fn text_of(bytes: &[u8]) -> &str {
-    str::from_utf8(bytes).unwrap_or("not UTF-8\n")
 }
 
 /// Runs words over files, and prints what the run wrote, each line of standard error behind `! `, and
@@ -70,40 +66,43 @@ pub fn run_disk(rt: HostRuntime, words: &str, now: i64) -> io::Result<()> {
     match request(rt.alloc(), words, now) {
         Ok(request) => {
             let path = String::from_str(rt.alloc(), request.folder())?;
-            let mut source = FolderSource::open(rt, path)?;
-            run_over(rt, &mut source, words, now)
+            match FolderSource::open(rt, path) {
+                Ok(mut source) => run_over(rt, &mut source, words, now),
+                Err(_) => println!(rt; "[not listed]"),
+            }
         }
         Err(fault) => println!(rt; "[{}]", fault.name()),
     }
 }
 
-/// Prints how the last file is refused, or that it is not, where it is cut after each of its bytes: one
-/// line for each size from which on that is the same.
+/// Prints how the last file is refused, or that it is not, where it is cut after each of its bytes, from
+/// the last on: a line for each size down from which that is the same.
 pub fn cuts(rt: HostRuntime, source: &mut MemorySource, words: &str, now: i64) -> io::Result<()> {
-    let alloc = rt.alloc();
-    let Some(file) = source.files.pop() else {
+    let Ok(request) = request(rt.alloc(), words, now) else {
         return Ok(());
     };
-    let Ok(request) = request(alloc, words, now) else {
-        return Ok(());
-    };
-    let mut before = String::new(alloc);
-    for size in 0..=file.bytes.len() {
-        let name = file.name.clone()?;
-        let bytes = Vec::from_slice(alloc, &file.bytes[..size])?;
-        source.files.push(MemoryFile { name, bytes })?;
-        let Ok(written) = outcome(alloc, source, &request) else {
-            return Ok(());
+    let mut before = String::from_str(rt.alloc(), "not run")?;
+    for _ in 0..1_000 {
+        let Ok(written) = outcome(rt.alloc(), source, &request) else {
+            break;
         };
-        source.files.clear();
+        let Some(file) = source.files.last_mut() else {
+            break;
+        };
         if written.err != before {
-            let answer = match written.err.as_str() {
-                "" => "accepted",
-                line => line.trim_end(),
-            };
-            println!(rt; "from {size}: {answer}")?;
+            println!(rt; "{} and fewer: {}", file.bytes.len(), fault_of(&written))?;
             before = written.err;
+        }
+        if file.bytes.pop().is_none() {
+            break;
         }
     }
     Ok(())
+}
+
+fn fault_of(written: &Written) -> &str {
+    if written.err.is_empty() {
+        return "accepted";
+    }
+    written.err.as_str().trim_end()
 }
