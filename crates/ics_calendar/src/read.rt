@@ -6,7 +6,7 @@ ghost use Rattle.ics_calendar.specs.Gathered.{settled_of};
 ghost use Rattle.ics_calendar.specs.Gathering.{nothing_gathered};
 ghost use Rattle.ics_calendar.specs.Reading.{read_on};
 ghost use Rattle.ics_calendar.specs.LineFaults.{fault_on};
-ghost use Rattle.ics_calendar.specs.Pass.{pass, bottom, at_end};
+ghost use Rattle.ics_calendar.specs.Pass.{pass, bottom, at_end, unless};
 ghost use Rattle.ics_calendar.specs.Progresses.{IsBehind};
 ghost use Rattle.ics_calendar.specs.Seen.{seen_fault, seen_gathered, seen_answer, NumbersFit, LastFits, SaysFile};
 
@@ -63,30 +63,58 @@ fn go_behind(
     Ok(None)
 }
 
-/// What is gathered of the lines, or the first fault of the first round.
-fn pass_lines(alloc: Global, mut lines: Lines<'_>) -> Result<Result<Gathered, Found>, AllocError>
+impl Progress {
+    /// No line has been read.
+    fn new(alloc: Global) -> Progress
+        ensures stack { result.stack ≡ bottom ∷ [] }
+        ensures gathered { result.gathered ≡ nothing_gathered }
+    {
+        Progress {
+            stack: Stack::new(alloc),
+            gathered: Gathered::new(alloc),
+        }
+    }
+
+    fn into_gathered(self) -> Gathered
+        ensures { result ≡ self.gathered }
+    {
+        self.gathered
+    }
+}
+
+/// Goes behind the lines, or gives the first fault of the first round.
+fn go_behind_lines(
+    alloc: Global,
+    progress: &mut Progress,
+    mut lines: Lines<'_>,
+) -> Result<Option<Found>, AllocError>
     requires { NumbersFit lines }
-    ensures { IfOk result (λ answer. seen_gathered answer ≡ pass (bottom ∷ []) None nothing_gathered lines.entry) }
+    ensures { IfOk result (λ fault. unless (option_map seen_fault fault) progress.new.gathered ≡ pass progress.old.stack None progress.old.gathered lines.entry) }
 {
     let mut last = None;
-    let mut progress = Progress {
-        stack: Stack::new(alloc),
-        gathered: Gathered::new(alloc),
-    };
     'lines: while let Some(line) = lines.next(alloc)? {
         let number = line.number();
         let Ok(parts) = content(line.bytes()) else {
-            return Ok(Err((number, FaultKind::BadLine)));
+            return Ok(Some((number, FaultKind::BadLine)));
         };
-        let fault = go_behind(alloc, &mut progress, number, &parts)?;
+        let fault = go_behind(alloc, progress, number, &parts)?;
         if let Some(kind) = fault {
-            return Ok(Err((number, kind)));
+            return Ok(Some((number, kind)));
         }
         last = Some(number);
     }
-    match at_end(&progress.stack, last) {
+    Ok(at_end(&progress.stack, last))
+}
+
+/// What is gathered of the lines, or the first fault of the first round.
+fn pass_lines(alloc: Global, lines: Lines<'_>) -> Result<Result<Gathered, Found>, AllocError>
+    requires { NumbersFit lines }
+    ensures { IfOk result (λ answer. seen_gathered answer ≡ pass (bottom ∷ []) None nothing_gathered lines.entry) }
+{
+    let mut progress = Progress::new(alloc);
+    match go_behind_lines(alloc, &mut progress, lines)? {
         Some(fault) => Ok(Err(fault)),
-        None => Ok(Ok(progress.gathered)),
+        None => Ok(Ok(progress.into_gathered())),
     }
 }
 

@@ -1,7 +1,7 @@
 use Rattle.std.proofs.Common.{rules, ◌≡◌, sym, ap, ◌∙◌, None}
 use Rattle.ics_text.specs.Contents.{content_of}
 use Rattle.ics_calendar.proofs.Steps.{took}
-use Rattle.ics_calendar.proofs.read.pass_lines.Goals as goal
+use Rattle.ics_calendar.proofs.read.go_behind_lines.Goals as goal
 
 pub lines-preserved-in_default-fault : goal.lines-preserved-in_default-fault
 lines-preserved-in_default-fault c =
