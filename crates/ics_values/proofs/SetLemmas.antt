@@ -123,33 +123,6 @@ has-front s k m h = ap (λ x. x == 1) (sym (bit_at_cat_low (s / 2 ^ k) k (s % 2 
 pub has-below : (k m : ℕ) → m < k → has (2 ^ k - 1) m ≡ true
 has-below k m h = ap (λ x. x == 1) (bit_at_ones k m h)
 
--- a member by its word and its place there
-has_wide-parts : (ws : List ℕ) (w m : ℕ) → w * 64 ≤ m → m < w * 64 + 64 → w < 6 → has_wide ws m ≡ has (get_or ws w 0) (m - w * 64)
-has_wide-parts ws w m l h top =
-    let word : m / 64 ≡ w = omega arith in
-    let place : m % 64 ≡ m - w * 64 = omega arith in
-    wide_member ws m (omega arith) ∙ ap (λ x. has (get_or ws x 0) (m % 64)) word ∙ ap (λ x. has (get_or ws w 0) x) place
-
 -- no member from n on lies below a bound
 abbrev pub NoneBelow : List ℕ → ℕ → ℕ → Type 0
 NoneBelow ws n bound = (m : ℕ) → n ≤ m → m < bound → has_wide ws m ≡ false
-
-by_order : (m k : ℕ) → (m < k) ⊎ (k ≤ m)
-by_order m k = grind arith
-
--- the walk from word to word, p being where the search in word w starts
-pub none_in_word : (ws : List ℕ) (n w p : ℕ) → w < 6 → NoneBelow ws n (w * 64 + p) → ((m : ℕ) → p ≤ m → has (get_or ws w 0) m ≡ false) → NoneBelow ws n ((w + 1) * 64)
-none_in_word ws n w p top before here m l h = elim (by_order m (w * 64 + p)) [
-  | inl less ↦ before m l less
-  | inr more ↦ has_wide-parts ws w m (omega arith) (omega arith) top ∙ here (m - w * 64) (omega arith)
-]
-
-pub next_in_word : (ws : List ℕ) (n w p b : ℕ) → w < 6 → n ≤ w * 64 + p → NoneBelow ws n (w * 64 + p) → IsLeastFrom (has (get_or ws w 0)) p b → b < 64 → IsLeastFrom (has_wide ws) n (w * 64 + b)
-next_in_word ws n w p b top l before next small = record {
-  passes = has_wide-parts ws w (w * 64 + b) (omega arith) (omega arith) top ∙ ap (has (get_or ws w 0)) (let e : w * 64 + b - w * 64 ≡ b = omega arith in e) ∙ next.passes;
-  low = omega (arith, next.low);
-  least = λ m low high. elim (by_order m (w * 64 + p)) [
-    | inl less ↦ before m low less
-    | inr more ↦ has_wide-parts ws w m (omega arith) (omega arith) top ∙ next.least (m - w * 64) (omega arith) (omega arith)
-  ];
-}

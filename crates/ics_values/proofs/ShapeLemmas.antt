@@ -61,14 +61,6 @@ digit_count-some text h = by_test (begins is_digit text) refl
     by_test true k = k
     by_test false k = absurd (h (digit_count-none text k))
 
-pub digits_end : (text : List ℕ) → begins is_digit (drop (digit_count text) text) ≡ false
-digits_end [] = refl
-digits_end (b ∷ bs) = by_test (digits_end bs) (is_digit b) refl
-  where
-    by_test : begins is_digit (drop (digit_count bs) bs) ≡ false → (t : Bool) → is_digit b ≡ t → begins is_digit (drop (digit_count (b ∷ bs)) (b ∷ bs)) ≡ false
-    by_test later true h = rw (digit_count-yes b bs h) later
-    by_test later false h = rw (digit_count-no b bs h) h
-
 -- they are one `0` of its shape
 pub shape-digits : (text : List ℕ) → begins is_digit text ≡ true → shape text ≡ 48 ∷ shape (drop (digit_count text) text)
 shape-digits [] h = cc
@@ -104,19 +96,6 @@ lacks-letter letter b bs low other = by_test (is_digit b) refl
 
 pub neq-false : (a b : ℕ) → b ≢ a → (a == b) ≡ false
 neq-false a b h = grind (arith, nat_tests)
-
-pub is_letter : (letter b : ℕ) (bs : List ℕ) → 57 < letter → (upper b == letter) ≡ true → IsLetter letter (b ∷ bs) bs
-is_letter letter b bs low same = by_test (is_digit b) refl
-  where
-    by_test : (t : Bool) → is_digit b ≡ t → IsLetter letter (b ∷ bs) bs
-    by_test true h = let e = upper-unit b letter h low in cc
-    by_test false h =
-        let u : upper b ≡ letter = eqb-true (upper b) letter same in
-        record {
-          shape = shape-no b bs h ∙ ap (λ x. x ∷ shape bs) u;
-          own = λ n. rw same refl;
-          others = λ other n ne. (let e : (upper b == other) ≡ false = rw u (neq-false letter other ne) in rw (e, h) refl);
-        }
 
 eqb-same : (n : ℕ) → (n == n) ≡ true
 eqb-same n = grind (arith, nat_tests)
