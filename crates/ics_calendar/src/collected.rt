@@ -130,12 +130,10 @@ fn length_of(
 ) -> Length
     ensures { result ≡ length_of (index_in table.now) calendar end duration }
 {
-    if end.is_some() {
-        return Length::Until(time_of(alloc, table, calendar, end));
-    }
-    match duration {
-        Some(Ok(duration)) => Length::Lasting(duration),
-        _ => Length::Open,
+    match (end, duration) {
+        (Some(end), _) => Length::Until(time_on(alloc, table, calendar, end)),
+        (None, Some(Ok(duration))) => Length::Lasting(duration),
+        (None, _) => Length::Open,
     }
 }
 

@@ -2,81 +2,60 @@
 ghost use Rattle.std.specs.Prelude.{◌≡◌};
 ghost use Rattle.ics_calendar.specs.FaultNames.{kind_name, fault_name};
 
-use thiserror::Error;
+use std::error::Error;
+use std::fmt;
 
 /// What is wrong on a line. Of two faults on one line the earlier variant counts.
-#[derive(Clone, Copy, Debug, PartialEq, Eq, Error)]
+#[derive(Clone, Copy, Debug, PartialEq, Eq)]
 pub enum FaultKind {
     /// A line that is no content line.
-    #[error("BadLine")]
     BadLine,
     /// The file begins with a space or a tab.
-    #[error("BadFold")]
     BadFold,
     /// A stamp of none of its forms, or of no date or time that there is.
-    #[error("BadStamp")]
     BadStamp,
     /// A text that is no duration, or a negative duration, or one past 36,525 days.
-    #[error("BadDuration")]
     BadDuration,
     /// A text that is no offset from UTC.
-    #[error("BadOffset")]
     BadOffset,
     /// A text that is no recurrence rule, or a part of it out of its range.
-    #[error("BadRule")]
     BadRule,
     /// A stamp outside the years 0001 to 9899.
-    #[error("YearRange")]
     YearRange,
     /// A number past 4,294,967,295 in a value that is otherwise in order.
-    #[error("NumberTooLarge")]
     NumberTooLarge,
     /// A time zone without observances.
-    #[error("NoObservance")]
     NoObservance,
     /// A property of a time zone or of an observance that is missing, there twice, or of another form.
-    #[error("ObservanceField")]
     ObservanceField,
     /// An observance with two recurrence rules, or with one finer than daily.
-    #[error("ZoneRule")]
     ZoneRule,
     /// A line outside a calendar, or a file without lines.
-    #[error("NotCalendar")]
     NotCalendar,
     /// An END that does not match the innermost BEGIN, or a file that ends inside a component.
-    #[error("BadNesting")]
     BadNesting,
     /// A component at depth 33.
-    #[error("TooDeep")]
     TooDeep,
     /// An event without a UID, or with an empty one.
-    #[error("MissingUid")]
     MissingUid,
     /// An event without a DTSTART.
-    #[error("MissingStart")]
     MissingStart,
     /// A property that an event may have once, for the second time.
-    #[error("Repeated")]
     Repeated,
     /// A DTEND beside a DURATION, of another kind than the DTSTART, before it, or more than 36,525 days after it.
-    #[error("BadEnd")]
     BadEnd,
     /// A TZID that no time zone of the calendar defines.
-    #[error("UnknownZone")]
     UnknownZone,
     /// A RECURRENCE-ID with a RANGE.
-    #[error("ThisAndFuture")]
     ThisAndFuture,
     /// An EXRULE in an event.
-    #[error("Exrule")]
     Exrule,
     /// A calendar of version 1.0.
-    #[error("OldVersion")]
     OldVersion,
 }
 
 /// Why a file is refused: memory, or its first fault.
-#[derive(Clone, Copy, Debug, PartialEq, Eq, Error)]
+#[derive(Clone, Copy, Debug, PartialEq, Eq, thiserror::Error)]
 pub enum FileFault {
     #[error("Memory")]
     Memory,
@@ -119,6 +98,14 @@ impl FaultKind {
         }
     }
 }
+
+impl fmt::Display for FaultKind {
+    fn fmt<W: fmt::Write>(&self, f: &mut fmt::Formatter<W>) -> fmt::Result {
+        f.write_str(self.name())
+    }
+}
+
+impl Error for FaultKind {}
 
 impl FileFault {
     /// The variant's name, and of a fault on a line that of its kind.

@@ -38,6 +38,14 @@ fn first_judged(
     Ok(None)
 }
 
+/// The event of what is collected of it.
+fn event_of(alloc: Global, table: &ZoneTable, ended: EndedEvent) -> Result<Event, AllocError>
+    requires { (zones : List (List Phase)) × IsReady (record { index = index_in table.now; zones = zones }) ended.calendar ended.had }
+    ensures { IfOk result (λ event. event ≡ event_of (index_in table.now) ended) }
+{
+    ended.had.into_event(alloc, table, ended.calendar)
+}
+
 /// The events of what is collected of them.
 fn events_of(
     alloc: Global,
@@ -49,7 +57,7 @@ fn events_of(
 {
     let mut events = Vec::new(alloc);
     for event in ended {
-        events.push(event.had.into_event(alloc, table, event.calendar)?)?;
+        events.push(event_of(alloc, table, event)?)?;
     }
     Ok(events)
 }
