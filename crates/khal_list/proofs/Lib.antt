@@ -17,5 +17,4 @@ pub mod TakenLemmas
 pub mod TextExamples
 pub mod WindowLemmas
 pub mod WindowTextLemmas
-pub mod WordLemmas
 pub mod Written

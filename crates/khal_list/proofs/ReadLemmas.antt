@@ -6,7 +6,7 @@ use Rattle.ics_calendar.specs.Event.{FileSaid}
 use Rattle.khal_list.specs.Answers.{Answer}
 use Rattle.khal_list.specs.Errors.{Refusal, file_by, events_first, accepted, error_line, error_lines}
 use Rattle.khal_list.specs.Outcomes.{IsReading}
-use Rattle.khal_list.specs.Reads.{ReadsFrom, ReadsSome, ReadsAll}
+use Rattle.khal_list.specs.Reads.{ReadsFrom, ReadsSome}
 use Rattle.khal_list.specs.declared.fault.SourceFault.TheVariants.{Memory}
 
 events_first-append : (file : Result FileSaid Refusal) (xs ys : List FileSaid) → events_first file (xs ++ ys) ≡ events_first file xs ++ ys
@@ -59,14 +59,6 @@ module _ {S : Type 0} (reads : S → ℕ → Answer → S → Type 0) where
     ample = All-nil (λ answer. answer ≢ Err Memory);
     kept = record { files_are = f; errors_are = e ∙ sym (error_lines-none names) };
   }
-
-  pub done-some : (names : List (List ℕ)) (before : S) (i : ℕ) (after : S) (files : List FileSaid) (errors : List ℕ) → Done names before i after files errors → i ≤ length names
-      → (answers : List Answer) × ReadsSome reads names before answers after
-  done-some names before i after files errors d h = (d.answers, record { from_first = d.from_first; within = omega (arith, d.long) })
-
-  pub done-all : (names : List (List ℕ)) (before : S) (i : ℕ) (after : S) (files : List FileSaid) (errors : List ℕ) → Done names before i after files errors → i ≡ length names
-      → (answers : List Answer) × ReadsAll reads names before answers after × IsReading names answers files errors
-  done-all names before i after files errors d h = (d.answers, record { from_first = d.from_first; each = d.long ∙ h; ample = d.ample }, d.kept)
 
   -- the next read, whatever it gives
   pub read-some : (names : List (List ℕ)) (before : S) (i : ℕ) (after : S) (files : List FileSaid) (errors : List ℕ) → Done names before i after files errors

@@ -1,6 +1,6 @@
 //! The program's command line, as clap takes it.
 ghost use Rattle.std.specs.Prelude.{◌≡◌, IfOk, false};
-ghost use Rattle.clap.specs.Words.{app_of, rule_of};
+ghost use Rattle.clap.specs.Words.{app_of, rule_of, with_rule};
 ghost use Rattle.clap.specs.declared.builder.command.Command.TheViews.{out-Command};
 ghost use Rattle.khal_list.specs.Commands as spec;
 
@@ -27,46 +27,52 @@ fn bare_command<'a>(alloc: Global) -> Command<'a>
         .subcommand_required(true)
 }
 
+/// The command with one argument more.
+fn with<'a>(command: Command<'a>, arg: Arg<'a>) -> Result<Command<'a>, AllocError>
+    requires here { arg.global ≡ false }
+    requires local { (out-Command command).has_globals ≡ false }
+    ensures shape { IfOk result (λ c. app_of c ≡ with_rule (app_of command.entry) (rule_of arg.entry)) }
+    ensures local { IfOk result (λ c. (out-Command c).has_globals ≡ false) }
+{
+    command.arg(arg)
+}
+
 fn list_command<'a>(alloc: Global) -> Result<Command<'a>, AllocError>
     ensures shape { IfOk result (λ c. app_of c ≡ spec.list_app) }
     ensures local { IfOk result (λ c. (out-Command c).has_globals ≡ false) }
 {
-    list_choices(alloc)?
-        .arg(format_arg(alloc))?
-        .arg(day_format_arg(alloc))
+    let command = with(list_choices(alloc)?, format_arg(alloc))?;
+    with(command, day_format_arg(alloc))
 }
 
 fn list_choices<'a>(alloc: Global) -> Result<Command<'a>, AllocError>
     ensures shape { IfOk result (λ c. app_of c ≡ spec.list_choices_app) }
     ensures local { IfOk result (λ c. (out-Command c).has_globals ≡ false) }
 {
-    list_places(alloc)?
-        .arg(zone_arg(alloc))?
-        .arg(limit_arg(alloc))?
-        .arg(after_arg(alloc))?
-        .arg(notstarted_arg(alloc))
+    let command = with(list_places(alloc)?, zone_arg(alloc))?;
+    let command = with(command, limit_arg(alloc))?;
+    let command = with(command, after_arg(alloc))?;
+    with(command, notstarted_arg(alloc))
 }
 
 fn list_places<'a>(alloc: Global) -> Result<Command<'a>, AllocError>
     ensures shape { IfOk result (λ c. app_of c ≡ spec.list_places_app) }
     ensures local { IfOk result (λ c. (out-Command c).has_globals ≡ false) }
 {
-    Command::new(alloc, "list")
-        .about("Lists what meets a window of time")
-        .arg(folder_arg(alloc))?
-        .arg(start_arg(alloc))?
-        .arg(end_arg(alloc))
+    let command = Command::new(alloc, "list").about("Lists what meets a window of time");
+    let command = with(command, folder_arg(alloc))?;
+    let command = with(command, start_arg(alloc))?;
+    with(command, end_arg(alloc))
 }
 
 fn at_command<'a>(alloc: Global) -> Result<Command<'a>, AllocError>
     ensures shape { IfOk result (λ c. app_of c ≡ spec.at_app) }
     ensures local { IfOk result (λ c. (out-Command c).has_globals ≡ false) }
 {
-    Command::new(alloc, "at")
-        .about("Lists what goes on at a moment")
-        .arg(folder_arg(alloc))?
-        .arg(moment_arg(alloc))?
-        .arg(zone_arg(alloc))
+    let command = Command::new(alloc, "at").about("Lists what goes on at a moment");
+    let command = with(command, folder_arg(alloc))?;
+    let command = with(command, moment_arg(alloc))?;
+    with(command, zone_arg(alloc))
 }
 
 fn folder_arg<'a>(alloc: Global) -> Arg<'a>

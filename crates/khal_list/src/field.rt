@@ -53,19 +53,29 @@ impl Placeholder for EntryField {
     ghost name = { entry_name };
 
     fn named(text: &[u8]) -> Option<EntryField> {
-        Some(match text {
-            b"cell" => EntryField::Cell,
-            b"title" => EntryField::Title,
-            b"start-time" => EntryField::StartTime,
-            b"end-time" => EntryField::EndTime,
-            b"start-date" => EntryField::StartDate,
-            b"end-date" => EntryField::EndDate,
-            b"location" => EntryField::Location,
-            b"description" => EntryField::Description,
-            b"uid" => EntryField::Uid,
-            b"cancelled" => EntryField::Cancelled,
-            _ => return None,
-        })
+        if text == b"cell".as_slice() {
+            Some(EntryField::Cell)
+        } else if text == b"title".as_slice() {
+            Some(EntryField::Title)
+        } else if text == b"start-time".as_slice() {
+            Some(EntryField::StartTime)
+        } else if text == b"end-time".as_slice() {
+            Some(EntryField::EndTime)
+        } else if text == b"start-date".as_slice() {
+            Some(EntryField::StartDate)
+        } else if text == b"end-date".as_slice() {
+            Some(EntryField::EndDate)
+        } else if text == b"location".as_slice() {
+            Some(EntryField::Location)
+        } else if text == b"description".as_slice() {
+            Some(EntryField::Description)
+        } else if text == b"uid".as_slice() {
+            Some(EntryField::Uid)
+        } else if text == b"cancelled".as_slice() {
+            Some(EntryField::Cancelled)
+        } else {
+            None
+        }
     }
 
     ghost plain = { entry_names_plain };
