@@ -33,6 +33,20 @@ and_false false = refl
 pub no_step : (q : Filled) (start n : ℕ) → is_stepped (period_in q start) q.interval (period_in q n) ≡ false → is_chosen q start n ≡ false
 no_step q start n e = ap (λ x. x && lets_date q (day_of n) && lets_clock q n && is_placed q start (lists_none_wide q.positions) n) e
 
+-- nor is what a rule leaves out in a step
+pub not_let_in : (q : Filled) (start n : ℕ) → (is_stepped (period_in q start) q.interval (period_in q n) ≡ true → (lets_date q (day_of n) && lets_clock q n) ≡ false) → is_chosen q start n ≡ false
+not_let_in q start n none = by_step (is_stepped (period_in q start) q.interval (period_in q n)) refl
+  where
+    all_out : (a b c d : Bool) → (b && c) ≡ false → (a && b && c && d) ≡ false
+    all_out false b c d h = refl
+    all_out true false c d h = refl
+    all_out true true false d h = refl
+    all_out true true true d h = absurd (cc)
+
+    by_step : (b : Bool) → is_stepped (period_in q start) q.interval (period_in q n) ≡ b → is_chosen q start n ≡ false
+    by_step true e = all_out (is_stepped (period_in q start) q.interval (period_in q n)) (lets_date q (day_of n)) (lets_clock q n) (is_placed q start (lists_none_wide q.positions) n) (none e)
+    by_step false e = no_step q start n e
+
 -- the candidates of a period that lies a multiple of the interval from the start's are what the rule lets in there
 let_in : (q : Filled) (start number n : ℕ) → is_stepped (period_in q start) q.interval number ≡ true → period_in q n ≡ number → is_candidate_in q start n ≡ is_let_in q number n
 let_in q start number n step e =

@@ -10,11 +10,11 @@ use Rattle.ics_rule.specs.Candidates.{is_stepped, period_in}
 use Rattle.ics_rule.specs.Kept.{count, is_chosen}
 use Rattle.ics_rule.specs.Periods.{first_local, IsPeriodOf, is_taken}
 use Rattle.ics_rule.specs.Cursors.{IsCounted}
-use Rattle.ics_rule.specs.Searches.{is_few, AllCounted, IsTurned, after_look}
+use Rattle.ics_rule.specs.Searches.{is_few, IsPassed, AllCounted, IsTurned, after_look}
 use Rattle.ics_rule.proofs.PeriodLemmas.{begun, begins, first_in, period_mono, week_small}
 use Rattle.ics_rule.proofs.Counts.{count-same, count-add, count-none, count_mono, count_most}
 use Rattle.ics_rule.proofs.RankLemmas.{count_flat}
-use Rattle.ics_rule.proofs.StepLemmas.{stepped_parts, step_on, none_between, not_true}
+use Rattle.ics_rule.proofs.StepLemmas.{stepped_parts, none_between, not_true}
 use Rattle.ics_rule.proofs.ChosenLemmas.{no_step, taken_is}
 use Rattle.ics_rule.proofs.CursorLemmas.{within_here}
 
@@ -94,6 +94,22 @@ module _ (q : Filled) (start : ℕ) (p : Period) (own : IsPeriodOf q p) (step : 
       let flat = count_flat next end taken h (λ m l u. out m (λ e. let late = begins q.frequency (monday_zero q.week_start) (p.number + q.interval) m l in omega (arith, late, e, some))) in
       omega (arith, own, flat)
 
+-- and the periods passed over after it
+chosen_passed : (q : Filled) (start number end : ℕ) (o : Period) → IsPeriodOf q o → is_stepped (period_in q start) q.interval o.number ≡ true → 1 ≤ q.interval → IsPassed q start (o.number + q.interval) number
+    → first_local q.frequency (monday_zero q.week_start) number ≤ end
+    → count (first_local q.frequency (monday_zero q.week_start) number) (is_chosen q start)
+    ≡ count (first_local q.frequency (monday_zero q.week_start) o.number) (is_chosen q start) + count end (is_taken q.positions (lists_none_wide q.positions) o)
+chosen_passed q start number end o own step some passed h =
+    let low = step_low q start o.number step in
+    let up = first_mono q (o.number + q.interval) number (omega (arith, low, passed.up)) passed.up in
+    let all = chosen_all q start o own step some end (omega (arith, up, h)) in
+    let flat = count_flat (first_local q.frequency (monday_zero q.week_start) (o.number + q.interval)) (first_local q.frequency (monday_zero q.week_start) number) (is_chosen q start) up
+    (λ m l u. passed.none m (begins q.frequency (monday_zero q.week_start) (o.number + q.interval) m l) (elim (by_order (period_in q m) number) [
+      | inl less ↦ less
+      | inr more ↦ absurd (let late = begun q.frequency (monday_zero q.week_start) number m more in omega (arith, late, u))
+    ])) in
+    omega (arith, all, flat)
+
 -- a count past the limit keeps nothing more
 pub not_few : (q : Filled) (start c limit n m : ℕ) → limit + 1 ≡ c + count (suc start) (is_chosen q start) → limit ≤ count n (is_chosen q start) → n ≤ m → is_few q start c m ≡ false
 not_few q start c limit n m most h l =
@@ -139,27 +155,26 @@ turned_first q start c number limit before cursor p some positive e step own sam
     here = ap (is_stepped (period_in q start) q.interval) same ∙ step
 
 -- each further look
-pub turned_on : (q : Filled) (start c number total before end : ℕ) (was cursor : Cursor) (o p : Period) → 1 ≤ q.interval → IsPeriodOf q o → IsCounted q start c was.counted was.limit o → o.number + q.interval ≡ number
+pub turned_on : (q : Filled) (start c number total before end : ℕ) (was cursor : Cursor) (o p : Period) → 1 ≤ q.interval → IsPeriodOf q o → IsCounted q start c was.counted was.limit o → IsPassed q start (o.number + q.interval) number
     → first_local q.frequency (monday_zero q.week_start) number ≤ end → total ≡ was.counted + before → before ≡ count end (is_taken q.positions (lists_none_wide q.positions) o)
-    → IsPeriodOf q p → p.number ≡ number → cursor ≡ after_look was p total → IsTurned q start c number cursor p
-turned_on q start c number total before end was cursor o p some own counted e h et eb product same look = subst (λ (x : Cursor). IsTurned q start c number x p) (sym look) (record {
+    → is_stepped (period_in q start) q.interval number ≡ true → IsPeriodOf q p → p.number ≡ number → cursor ≡ after_look was p total → IsTurned q start c number cursor p
+turned_on q start c number total before end was cursor o p some own counted e h et eb here product same look = subst (λ (x : Cursor). IsTurned q start c number x p) (sym look) (record {
   held = refl;
   product = product;
   number = same;
   counted = record {
-    step = ap (is_stepped (period_in q start) q.interval) (same ∙ sym e) ∙ step_on q.interval some (period_in q start) o.number counted.step;
-    total = et ∙ (let all = chosen_all q start o own counted.step some end (subst (λ x. first_local q.frequency (monday_zero q.week_start) x ≤ end) (sym e) h) in
-        let back = ap (λ x. count (first_local q.frequency (monday_zero q.week_start) x) (is_chosen q start)) (e ∙ sym same) in omega (arith, all, back, eb, counted.total));
+    step = ap (is_stepped (period_in q start) q.interval) same ∙ here;
+    total = et ∙ (let all = chosen_passed q start number end o own counted.step some e h in
+        let back = ap (λ x. count (first_local q.frequency (monday_zero q.week_start) x) (is_chosen q start)) same in omega (arith, all, back, eb, counted.total));
     most = counted.most;
   };
 })
 
-pub counted_out : (q : Filled) (start c number before end counted limit : ℕ) (o : Period) → 1 ≤ q.interval → IsPeriodOf q o → IsCounted q start c counted limit o → o.number + q.interval ≡ number
+pub counted_out : (q : Filled) (start c number before end counted limit : ℕ) (o : Period) → 1 ≤ q.interval → IsPeriodOf q o → IsCounted q start c counted limit o → IsPassed q start (o.number + q.interval) number
     → first_local q.frequency (monday_zero q.week_start) number ≤ end → before ≡ count end (is_taken q.positions (lists_none_wide q.positions) o) → limit ≤ counted + before → AllCounted q start c number
 counted_out q start c number before end counted limit o some own known e h eb out n l =
     not_few q start c limit (first_local q.frequency (monday_zero q.week_start) number) n known.most
-    (let all = chosen_all q start o own known.step some end (subst (λ x. first_local q.frequency (monday_zero q.week_start) x ≤ end) (sym e) h) in
-    let back = ap (λ x. count (first_local q.frequency (monday_zero q.week_start) x) (is_chosen q start)) e in omega (arith, all, back, eb, known.total, out)) l
+    (let all = chosen_passed q start number end o own known.step some e h in omega (arith, all, eb, known.total, out)) l
 
 -- counts stay small
 pub counted_small : (q : Filled) (start c number counted limit : ℕ) (o : Period) → IsCounted q start c counted limit o → o.number ≤ number → is_stepped (period_in q start) q.interval number ≡ true

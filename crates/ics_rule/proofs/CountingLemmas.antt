@@ -11,10 +11,10 @@ use Rattle.ics_rule.specs.Candidates.{is_stepped, period_in}
 use Rattle.ics_rule.specs.Kept.{count, is_chosen}
 use Rattle.ics_rule.specs.Periods.{first_local, IsPeriodOf, is_taken}
 use Rattle.ics_rule.specs.Cursors.{is_met, fresh, HasBegun, HeldBy, CountedBy, IsCounted, IsCursorIn, HasLookedIn}
-use Rattle.ics_rule.specs.Searches.{is_few, is_wanted, NoneWanted, IsWalked, HoldsPeriodOf, LooksOrStays, LooksOnce, IsTurnOf, AllCounted, IsTurned}
+use Rattle.ics_rule.specs.Searches.{is_few, is_wanted, NoneWanted, IsWalked, HoldsPeriodOf, LooksOrStays, LooksOnce, IsTurnOf, IsPassed, IsNextOpen, AllCounted, IsTurned}
 use Rattle.ics_rule.proofs.PeriodLemmas.{begun, begins, period_mono}
-use Rattle.ics_rule.proofs.StepLemmas.{stepped_parts, stepped_shown, step_on, none_between}
-use Rattle.ics_rule.proofs.ChosenLemmas.{no_step, taken_within}
+use Rattle.ics_rule.proofs.StepLemmas.{stepped_parts, stepped_shown, none_between}
+use Rattle.ics_rule.proofs.ChosenLemmas.{no_step, not_let_in, taken_within}
 use Rattle.ics_rule.proofs.CursorLemmas.{meets, then_moves, within_here, within_facts, bounded}
 use Rattle.ics_rule.proofs.CountLemmas.{chosen_before, not_few, are_few}
 
@@ -52,7 +52,7 @@ pub counting_begins : (q : Filled) (start c stop number : ℕ) (cursor : Cursor)
 counting_begins q start c stop number cursor None some e h late early own = record {
   step = ap (is_stepped (period_in q start) q.interval) h ∙ step_first (period_in q start) q.interval some;
   none = λ n l u. absurd (let up = period_mono q.frequency (monday_zero q.week_start) start n (omega arith) in omega (arith, up, u, h));
-  turn = subst (λ x. MatchOption x (number ≡ period_in q start) (λ p. IsPeriodOf q p × (IsCounted q start c cursor.counted cursor.limit p × ((p.number ≡ number) ⊎ (p.number + q.interval ≡ number))))) (sym e) h;
+  turn = subst (λ x. MatchOption x (number ≡ period_in q start) (λ p. IsPeriodOf q p × (IsCounted q start c cursor.counted cursor.limit p × ((p.number ≡ number) ⊎ IsPassed q start (p.number + q.interval) number)))) (sym e) h;
   high = subst (λ (x : Option Period). MatchOption x (Unit {0}) (λ p. p.number ≤ period_in q stop)) (sym e) tt;
   place = refl;
   begun = own.begun;
@@ -66,7 +66,7 @@ counting_begins q start c stop number cursor (Some p) some e h late early own =
     record {
       step = ap (is_stepped (period_in q start) q.interval) h ∙ counted.step;
       none = λ n l u. absurd (let up = period_mono q.frequency (monday_zero q.week_start) cursor.place n l in omega (arith, up, u, h, held.1));
-      turn = subst (λ x. MatchOption x (number ≡ period_in q start) (λ p. IsPeriodOf q p × (IsCounted q start c cursor.counted cursor.limit p × ((p.number ≡ number) ⊎ (p.number + q.interval ≡ number))))) (sym e)
+      turn = subst (λ x. MatchOption x (number ≡ period_in q start) (λ p. IsPeriodOf q p × (IsCounted q start c cursor.counted cursor.limit p × ((p.number ≡ number) ⊎ IsPassed q start (p.number + q.interval) number)))) (sym e)
           (held.0, (counted, inl (sym h)));
       high = subst (λ (x : Option Period). MatchOption x (Unit {0}) (λ p. p.number ≤ period_in q stop)) (sym e) (let up = period_mono q.frequency (monday_zero q.week_start) cursor.place stop (omega arith) in omega (arith, up, held.1));
       place = refl;
@@ -167,18 +167,21 @@ module _ (q : Filled) (start c stop number : ℕ) (before now : Cursor) (walk : 
     counting_stopped = record { held = held_at stop top_stop; found = tt; moved = then_moves before now after walk.moved moved; begun = looks walk.begun; steps = bounded now after number steps walk.steps; counted = counted_after; looked = looked }
 
     -- or the walk goes on
-    pub counting_goes_on : ((m : ℕ) → after.place ≤ m → taken m ≡ false) → IsCounting q start c stop (number + q.interval) before after
-    counting_goes_on none = record {
-      step = step_on q.interval some (period_in q start) number walk.step;
+    pub counting_goes_on : (next : ℕ) → ((m : ℕ) → after.place ≤ m → taken m ≡ false) → IsNextOpen q (period_in q start) (number + q.interval) next → IsCounting q start c stop next before after
+    counting_goes_on next none is_next = record {
+      step = is_next.step;
       none = λ n l u. elim (by_order (period_in q n) number) [
         | inl less ↦ walk.none n l less
         | inr more ↦ and_first (is_chosen q start n) (is_few q start c n) (elim (by_order number (period_in q n)) [
-          | inl later ↦ no_step q start n (none_between q.interval some (period_in q start) number (period_in q n) walk.step later u)
+          | inl later ↦ elim (by_order (period_in q n) (number + q.interval)) [
+            | inl between ↦ no_step q start n (none_between q.interval some (period_in q start) number (period_in q n) walk.step later between)
+            | inr past ↦ not_let_in q start n (is_next.none n past u)
+          ]
           | inr same ↦ sym (chosen_here n (omega arith)) ∙ none n (omega (arith, l, walk.place, place))
         ])
       ];
-      turn = subst (λ x. MatchOption x (number + q.interval ≡ period_in q start) (λ p. IsPeriodOf q p × (IsCounted q start c after.counted after.limit p × ((p.number ≡ number + q.interval) ⊎ (p.number + q.interval ≡ number + q.interval))))) (sym turned.held)
-          (turned.product, (turned.counted, inr (ap (λ x. x + q.interval) turned.number)));
+      turn = subst (λ x. MatchOption x (next ≡ period_in q start) (λ p. IsPeriodOf q p × (IsCounted q start c after.counted after.limit p × ((p.number ≡ next) ⊎ IsPassed q start (p.number + q.interval) next)))) (sym turned.held)
+          (turned.product, (turned.counted, inr (record { up = omega (arith, turned.number, is_next.low); none = λ n l u. not_let_in q start n (is_next.none n (omega (arith, turned.number, l)) u) })));
       high = subst (λ (x : Option Period). MatchOption x (Unit {0}) (λ p. p.number ≤ period_in q stop)) (sym turned.held) (let t = top_stop in omega (arith, t, turned.number));
       place = place ∙ walk.place;
       begun = looks walk.begun;

@@ -10,11 +10,11 @@ use Rattle.ics_rule.specs.Candidates.{is_stepped, period_in}
 use Rattle.ics_rule.specs.Kept.{count, is_chosen}
 use Rattle.ics_rule.specs.Periods.{first_local, IsPeriodOf}
 use Rattle.ics_rule.specs.Cursors.{is_met, fresh, HasBegun, HeldBy, CountedBy, IsCursorIn, HasLookedIn, looks_from}
-use Rattle.ics_rule.specs.Searches.{is_chosen_within, is_wanted, IsNextWanted, IsWalked, HoldsPeriodOf, LooksOrStays, LooksOnce, after_look}
+use Rattle.ics_rule.specs.Searches.{IsNextOpen, is_chosen_within, is_wanted, IsNextWanted, IsWalked, HoldsPeriodOf, LooksOrStays, LooksOnce, after_look}
 use Rattle.ics_rule.proofs.PeriodLemmas.{begun, begins, first_in, period_mono, period_small, week_small}
 use Rattle.ics_rule.proofs.Counts.{count-suc, count_some, count_mono, count_most, count_one_more, count_every}
-use Rattle.ics_rule.proofs.StepLemmas.{step_on, none_between}
-use Rattle.ics_rule.proofs.ChosenLemmas.{no_step}
+use Rattle.ics_rule.proofs.StepLemmas.{none_between}
+use Rattle.ics_rule.proofs.ChosenLemmas.{no_step, not_let_in}
 
 by_order : (a b : ℕ) → (a < b) ⊎ (b ≤ a)
 by_order a b = grind arith
@@ -347,14 +347,18 @@ module _ (q : Filled) (start stop number : ℕ) (before now : Cursor) (walk : Is
         here (Some p) h some = let own = within_facts q start number n next.passes in ((h.0, omega (arith, h.1, own.0)), (some, h.1 ∙ sym own.0))
 
     -- and where it finds none the walk goes on
-    pub walk_goes_on : 1 ≤ q.interval → ((n : ℕ) → now.place ≤ n → is_chosen_within q start number n ≡ false) → IsWalk q start stop (number + q.interval) before after
-    walk_goes_on some none = record {
-      step = step_on q.interval some (period_in q start) number walk.step;
-      low = omega (arith, walk.low);
+    pub walk_goes_on : (next : ℕ) → 1 ≤ q.interval → ((n : ℕ) → now.place ≤ n → is_chosen_within q start number n ≡ false) → IsNextOpen q (period_in q start) (number + q.interval) next
+        → IsWalk q start stop next before after
+    walk_goes_on next some none is_next = record {
+      step = is_next.step;
+      low = omega (arith, walk.low, is_next.low);
       none = λ n l u. elim (by_order (period_in q n) number) [
         | inl less ↦ walk.none n l less
         | inr more ↦ elim (by_order number (period_in q n)) [
-          | inl later ↦ no_step q start n (none_between q.interval some (period_in q start) number (period_in q n) walk.step later u)
+          | inl later ↦ elim (by_order (period_in q n) (number + q.interval)) [
+            | inl between ↦ no_step q start n (none_between q.interval some (period_in q start) number (period_in q n) walk.step later between)
+            | inr past ↦ not_let_in q start n (is_next.none n past u)
+          ]
           | inr same ↦ sym (within_here q start number n (omega arith)) ∙ none n (omega (arith, l, walk.place))
         ]
       ];
@@ -366,9 +370,9 @@ module _ (q : Filled) (start stop number : ℕ) (before now : Cursor) (walk : Is
       looked = looked;
     }
       where
-        past : (o : Option Period) → MatchOption o ⊥ (λ p. IsPeriodOf q p × (p.number ≡ number)) → MatchOption o (Unit {0}) (λ p. IsPeriodOf q p × ((p.number ≤ number + q.interval) × (p.number ≤ period_in q stop)))
+        past : (o : Option Period) → MatchOption o ⊥ (λ p. IsPeriodOf q p × (p.number ≡ number)) → MatchOption o (Unit {0}) (λ p. IsPeriodOf q p × ((p.number ≤ next) × (p.number ≤ period_in q stop)))
         past None h = absurd h
-        past (Some p) h = (h.0, (omega (arith, h.1), (let m = period_mono q.frequency (monday_zero q.week_start) (stop - 1) stop (omega arith) in omega (arith, h.1, m, top))))
+        past (Some p) h = (h.0, (omega (arith, h.1, is_next.low), (let m = period_mono q.frequency (monday_zero q.week_start) (stop - 1) stop (omega arith) in omega (arith, h.1, m, top))))
 
 pub walk_reach : (q : Filled) (number stop : ℕ) → number ≤ period_in q (stop - 1) → first_local q.frequency (monday_zero q.week_start) number ≤ stop
 walk_reach q number stop h = let b = begun q.frequency (monday_zero q.week_start) number (stop - 1) h in omega (arith, b)

@@ -20,3 +20,4 @@ pub mod KeptLemmas
 pub mod DayWalkLemmas
 pub mod LawLemmas
 pub mod IsoWeeks
+mod PassLemmas

@@ -9,7 +9,7 @@ use Rattle.jiff_core.specs.Calendar.{days_of_months, days_in_month}
 use Rattle.jiff_core.proofs.CalendarLemmas.{days_of_months_more}
 use Rattle.ics_values.proofs.SetLemmas.{member_below}
 use Rattle.ics_rule.specs.declared.period.Period.{Period}
-use Rattle.ics_rule.specs.Periods.{has_minute, has_second, has_day}
+use Rattle.ics_rule.specs.Periods.{has_minute, has_time, has_day}
 use Rattle.ics_values.specs.Sets.{has, has_wide, none_wide, only, IsLeastFrom}
 
 and_first : (a b : Bool) → a ≡ false → (a && b) ≡ false
@@ -190,8 +190,8 @@ and_parts false b h = absurd (cc)
 pub minute_below : (hours minutes m : ℕ) → hours < 2 ^ 24 → has_minute hours minutes m ≡ true → m < 1440
 minute_below hours minutes m h e = let l = member_below hours 24 (m / 60) h (and_parts (has hours (m / 60)) (has minutes (m % 60)) e).0 in omega (arith, l)
 
-pub second_below : (p : Period) (t : ℕ) → p.hours < 2 ^ 24 → has_second p t ≡ true → t < 86_400
-second_below p t h e = let l = minute_below p.hours p.minutes (t / 60) h (and_parts (has_minute p.hours p.minutes (t / 60)) (has p.seconds (t % 60)) e).0 in omega (arith, l)
+pub second_below : (hours minutes seconds t : ℕ) → hours < 2 ^ 24 → has_time hours minutes seconds t ≡ true → t < 86_400
+second_below hours minutes seconds t h e = let l = minute_below hours minutes (t / 60) h (and_parts (has_minute hours minutes (t / 60)) (has seconds (t % 60)) e).0 in omega (arith, l)
 
 -- one month more
 pub months_more : (y n : ℕ) → days_of_months (pos y) n + days_in_month (pos y) (n + 1) ≡ days_of_months (pos y) (n + 1)

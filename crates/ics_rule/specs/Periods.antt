@@ -31,8 +31,11 @@ abbrev pub has_minute : ℕ → ℕ → ℕ → Bool
 has_minute hours minutes m = has hours (m / 60) && has minutes (m % 60)
 
 -- a second of a day in a product of three
+abbrev pub has_time : ℕ → ℕ → ℕ → ℕ → Bool
+has_time hours minutes seconds t = has_minute hours minutes (t / 60) && has seconds (t % 60)
+
 abbrev pub has_second : Period → ℕ → Bool
-has_second p t = has_minute p.hours p.minutes (t / 60) && has p.seconds (t % 60)
+has_second p t = has_time p.hours p.minutes p.seconds t
 
 -- a day in the set of days, which counts from the period's first
 abbrev pub has_day : Period → ℕ → Bool

@@ -5,10 +5,22 @@ use Rattle.ics_values.specs.Sets.{IsLeastFrom}
 use Rattle.ics_rule.specs.declared.filled.Filled.{Filled}
 use Rattle.ics_rule.specs.declared.period.Period.{Period}
 use Rattle.ics_rule.specs.declared.cursor.Cursor.{Cursor}
-use Rattle.ics_rule.specs.Candidates.{period_in}
+use Rattle.ics_rule.specs.Locals.{day_of}
+use Rattle.ics_rule.specs.Candidates.{is_stepped, lets_date, lets_clock, period_in}
 use Rattle.ics_rule.specs.Kept.{count, is_chosen}
 use Rattle.ics_rule.specs.Periods.{first_local, IsPeriodOf}
 use Rattle.ics_rule.specs.Cursors.{is_met, fresh, HasBegun, HeldBy, CountedBy, HasLookedIn, IsCounted}
+
+-- the rule lets in no local from one on and before another
+abbrev pub NoneLetIn : Filled → ℕ → ℕ → Type 0
+NoneLetIn q from before = (n : ℕ) → from ≤ n → n < before → (lets_date q (day_of n) && lets_clock q n) ≡ false
+
+-- a period lies a multiple of the interval from the first, and those from a number on that lie so and come before it hold nothing that the
+-- rule lets in
+pub record IsNextOpen (q : Filled) (first number next : ℕ) : Type 0 where
+  pub step : is_stepped first q.interval next ≡ true
+  pub low : number ≤ next
+  pub none : (n : ℕ) → number ≤ period_in q n → period_in q n < next → is_stepped first q.interval (period_in q n) ≡ true → (lets_date q (day_of n) && lets_clock q n) ≡ false
 
 -- a local of the period with a number that is a candidate and that BYSETPOS lets in
 abbrev pub is_chosen_within : Filled → ℕ → ℕ → ℕ → Bool
@@ -60,11 +72,17 @@ abbrev pub LooksOnce : ℕ → ℕ → Option Period → ℕ → Option Period �
 LooksOnce number steps held after now =
     (met : ℕ → Bool) → met number ≡ true → steps ≤ count (fresh held) met → after ≤ count (fresh now) met
 
--- under COUNT the period held is the one with a number or, a step before it, the last one; or none is, and it is the start's turn
+-- in the periods from one number on and before another nothing is chosen
+pub record IsPassed (q : Filled) (start from before : ℕ) : Type 0 where
+  pub up : from ≤ before
+  pub none : (n : ℕ) → from ≤ period_in q n → period_in q n < before → is_chosen q start n ≡ false
+
+-- under COUNT the period held is the one with a number or an earlier one, after whose next step nothing is chosen before it; or none is, and
+-- it is the start's turn
 abbrev pub IsTurnOf : Filled → ℕ → ℕ → ℕ → Cursor → Type 0
 IsTurnOf q start c number cursor =
     MatchOption cursor.held (number ≡ period_in q start)
-    (λ p. IsPeriodOf q p × (IsCounted q start c cursor.counted cursor.limit p × ((p.number ≡ number) ⊎ (p.number + q.interval ≡ number))))
+    (λ p. IsPeriodOf q p × (IsCounted q start c cursor.counted cursor.limit p × ((p.number ≡ number) ⊎ IsPassed q start (p.number + q.interval) number)))
 
 -- from the period with a number on COUNT keeps no local
 abbrev pub AllCounted : Filled → ℕ → ℕ → ℕ → Type 0

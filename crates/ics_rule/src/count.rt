@@ -8,6 +8,7 @@ ghost use Rattle.ics_rule.specs.Searches.{IsNextWanted, IsWalked, LooksOrStays, 
 
 use crate::cursor::Cursor;
 use crate::filled::Filled;
+use crate::pass::next_open_step;
 use crate::period::Period;
 use crate::step::period_of;
 
@@ -71,10 +72,11 @@ impl Cursor {
         ensures place { self.new.place ≡ self.old.place }
         ensures walked { IsWalked parts.now start (Some count) stop result self.old self.new }
     {
+        let first = period_of(parts, start);
         let last = period_of(parts, stop - 1);
         let mut number = match &self.held {
             Some(period) => period.number,
-            None => period_of(parts, start),
+            None => first,
         };
         while number <= last {
             match self.turn_to(parts, start, count, number) {
@@ -86,7 +88,8 @@ impl Cursor {
                     }
                 }
             }
-            number += parts.interval as u64;
+            let next = number + parts.interval as u64;
+            number = next_open_step(parts, first, next, last, stop);
         }
         None
     }

@@ -39,7 +39,7 @@ fn later_day(fields: &Civil, index: u32, more: u16) -> Civil
 }
 
 /// How many days of its month are left with a day, that day with them.
-fn days_left(fields: &Civil) -> u16
+pub(crate) fn days_left(fields: &Civil) -> u16
     requires year { fields.now.year ≤ 9999 }
     requires day { fields.now.day ≤ days_in_month (pos fields.now.year) fields.now.month }
     ensures value { result ≡ days_in_month (pos fields.now.year) fields.now.month + 1 - fields.now.day }

@@ -5,7 +5,7 @@ ghost use Rattle.ics_values.specs.Days.{days_before_year};
 ghost use Rattle.ics_values.specs.Sets.{has, has_wide, IsNextIn};
 ghost use Rattle.ics_rule.specs.Candidates.{lets, lets_date, period_in};
 ghost use Rattle.jiff_core.specs.Weekday.{monday_zero};
-ghost use Rattle.ics_rule.specs.Periods.{first_local, has_minute, has_second, has_day, holds, IsPeriodOf};
+ghost use Rattle.ics_rule.specs.Periods.{first_local, has_minute, has_time, has_day, holds, IsPeriodOf};
 
 use crate::days::days_let_in;
 use crate::fill::{skips_hours, skips_minutes, skips_seconds};
@@ -79,7 +79,7 @@ pub(crate) fn first_local(frequency: Frequency, week_start: Weekday, number: u64
 }
 
 /// The readings of one unit of the clock: those that a part lets in, and of them the period's own if it has one.
-fn clock_set(free: bool, part: Numbers, own: u8, size: u8) -> Numbers
+pub(crate) fn clock_set(free: bool, part: Numbers, own: u8, size: u8) -> Numbers
     requires own { own < size }
     requires size { size < 64 }
     ensures members { (m : ℕ) → m < size → has result m ≡ ((free || (m == own)) && lets part m) }
@@ -127,26 +127,6 @@ impl Period {
         }
     }
 
-    /// The first second of a day from a second on that lies in the product's clock.
-    fn next_second(&self, at: u32) -> Option<u32>
-        requires hours { self.now.hours < 2 ^ 24 }
-        requires minutes { self.now.minutes < 2 ^ 60 }
-        requires seconds { self.now.seconds < 2 ^ 60 }
-        requires at { at < 86400 }
-        ensures next { IsNextIn (has_second self.now) at result }
-        ensures small { IfSome result (λ t. t < 86400) }
-    {
-        let minute = at / 60;
-        if self.hours.has((minute / 60) as u8) & self.minutes.has((minute % 60) as u8) {
-            if let Some(second) = self.seconds.next_from((at % 60) as u8) {
-                return Some(minute * 60 + second as u32);
-            }
-        }
-        let minute = next_minute(self.hours, self.minutes, minute + 1)?;
-        let second = self.seconds.next_from(0)?;
-        Some(minute * 60 + second as u32)
-    }
-
     /// The first day of the product from a day on.
     fn next_day(&self, day: u32) -> Option<u32>
         requires day { day ≤ 4000000 }
@@ -183,12 +163,17 @@ impl Period {
     {
         let day = (n / 86_400) as u32;
         if self.has_day(day) {
-            if let Some(second) = self.next_second((n % 86_400) as u32) {
+            if let Some(second) = next_second(
+                self.hours,
+                self.minutes,
+                self.seconds,
+                (n % 86_400) as u32,
+            ) {
                 return Some(day as u64 * 86_400 + second as u64);
             }
         }
         let day = self.next_day(day + 1)?;
-        let second = self.next_second(0)?;
+        let second = next_second(self.hours, self.minutes, self.seconds, 0)?;
         Some(day as u64 * 86_400 + second as u64)
     }
 }
@@ -210,4 +195,29 @@ fn next_minute(hours: Numbers, minutes: Numbers, at: u32) -> Option<u32>
     let hour = hours.next_from(hour + 1)?;
     let minute = minutes.next_from(0)?;
     Some(hour as u32 * 60 + minute as u32)
+}
+
+/// The first second of a day from a second on that lies in a set of hours times sets of minutes and seconds.
+pub(crate) fn next_second(
+    hours: Numbers,
+    minutes: Numbers,
+    seconds: Numbers,
+    at: u32,
+) -> Option<u32>
+    requires hours { hours < 2 ^ 24 }
+    requires minutes { minutes < 2 ^ 60 }
+    requires seconds { seconds < 2 ^ 60 }
+    requires at { at < 86400 }
+    ensures next { IsNextIn (has_time hours minutes seconds) at result }
+    ensures small { IfSome result (λ t. t < 86400) }
+{
+    let minute = at / 60;
+    if hours.has((minute / 60) as u8) & minutes.has((minute % 60) as u8) {
+        if let Some(second) = seconds.next_from((at % 60) as u8) {
+            return Some(minute * 60 + second as u32);
+        }
+    }
+    let minute = next_minute(hours, minutes, minute + 1)?;
+    let second = seconds.next_from(0)?;
+    Some(minute * 60 + second as u32)
 }

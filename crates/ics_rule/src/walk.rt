@@ -9,10 +9,11 @@ ghost use Rattle.ics_rule.specs.Searches.{is_chosen_within, IsNextWanted, IsWalk
 
 use crate::cursor::Cursor;
 use crate::filled::Filled;
+use crate::pass::next_open_step;
 use crate::step::period_of;
 
 /// The least number from `own` on that is `first` or later by a multiple of the interval.
-fn next_step(first: u64, interval: u32, own: u64) -> u64
+pub(crate) fn next_step(first: u64, interval: u32, own: u64) -> u64
     requires interval { 1 ≤ interval }
     requires first { first < 2 ^ 40 }
     requires own { own < 2 ^ 40 }
@@ -72,7 +73,8 @@ impl Cursor {
             if let Some(n) = self.find(parts, start, number) {
                 return Some(n);
             }
-            number += parts.interval as u64;
+            let next = number + parts.interval as u64;
+            number = next_open_step(parts, first, next, last, stop);
         }
         None
     }

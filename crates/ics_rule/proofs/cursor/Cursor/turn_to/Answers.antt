@@ -1,14 +1,16 @@
 use Rattle.std.proofs.Common.{◌≡◌, ◌+◌, ℕ, ◌⊎◌, inl, inr, ap, refl, arith}
+use Rattle.ics_rule.specs.declared.filled.Filled.{Filled}
 use Rattle.ics_rule.specs.declared.cursor.Cursor.{Cursor}
+use Rattle.ics_rule.specs.Searches.{IsPassed}
 use Rattle.ics_rule.proofs.CursorLemmas.{begins_look, looks_more, looks_once, fresh_some, fresh_none}
 use Rattle.ics_rule.proofs.CountLemmas.{step_low, turned_first, turned_on, counted_out, counted_small}
 use Rattle.ics_rule.proofs.cursor.Cursor.turn_to.Goals as goal
 use Rattle.ics_rule.proofs.cursor.Cursor.turn_to.Goals.{After-taken_before-before}
 
 -- the period held is the one before
-step_before : (a b i : ℕ) → (a ≡ b) ⊎ (a + i ≡ b) → (a ≡ b → ⊥) → a + i ≡ b
-step_before a b i (inl same) other = absurd (other same)
-step_before a b i (inr on) other = on
+step_before : (q : Filled) (start a b : ℕ) → (a ≡ b) ⊎ IsPassed q start (a + q.interval) b → (a ≡ b → ⊥) → IsPassed q start (a + q.interval) b
+step_before q start a b (inl same) other = absurd (other same)
+step_before q start a b (inr on) other = on
 
 pub look_at-period-requires-clause-low : goal.look_at-period-requires-clause-low
 look_at-period-requires-clause-low c = step_low c.args.parts.now c.args.start c.args.number c.requires.step
@@ -19,14 +21,14 @@ look_at-requires-clause-low c = step_low c.args.parts.now c.args.start c.args.nu
 pub overflow_add-self-in-Some : goal.overflow_add-self-in-Some
 overflow_add-self-in-Some c =
     let turn = rw c.in-Some.is at c.requires.turn in
-    let on = step_before c.in-Some.period.number c.args.number c.args.parts.now.interval turn.1.1 c.if-period-number.false in
-    let small = counted_small c.args.parts.now c.args.start c.args.count c.args.number c.args.self.now.counted c.args.self.now.limit c.in-Some.period turn.1.0 (omega (arith, on)) c.requires.step c.requires.reach in
+    let on = step_before c.args.parts.now c.args.start c.in-Some.period.number c.args.number turn.1.1 c.if-period-number.false in
+    let small = counted_small c.args.parts.now c.args.start c.args.count c.args.number c.args.self.now.counted c.args.self.now.limit c.in-Some.period turn.1.0 (omega (arith, on.up)) c.requires.step c.requires.reach in
     omega (arith, small, c.taken_before-before.ensures.bound)
 
 pub returns-then-self-before-clause-turned : goal.returns-then-self-before-clause-turned
 returns-then-self-before-clause-turned c =
     let turn = rw c.in-Some.is at c.requires.turn in
-    let on = step_before c.in-Some.period.number c.args.number c.args.parts.now.interval turn.1.1 c.if-period-number.false in (
+    let on = step_before c.args.parts.now c.args.start c.in-Some.period.number c.args.number turn.1.1 c.if-period-number.false in (
       counted_out c.args.parts.now c.args.start c.args.count c.args.number c.taken_before-before.result 315_569_519_999 c.args.self.now.counted c.args.self.now.limit c.in-Some.period c.requires.interval turn.0 turn.1.0 on
           (omega (arith, c.requires.reach)) c.taken_before-before.ensures.value c.if-self-before.true,
       refl,
@@ -46,16 +48,16 @@ returns-in-None-clause-steps c = looks_once c.args.number 0 c.args.self.now c.lo
 pub returns-else-self-before-clause-turned : goal.returns-else-self-before-clause-turned
 returns-else-self-before-clause-turned c =
     let turn = rw c.in-Some.is at c.requires.turn in
-    let on = step_before c.in-Some.period.number c.args.number c.args.parts.now.interval turn.1.1 c.if-period-number.false in
+    let on = step_before c.args.parts.now c.args.start c.in-Some.period.number c.args.number turn.1.1 c.if-period-number.false in
     turned_on c.args.parts.now c.args.start c.args.count c.args.number _ c.taken_before-before.result 315_569_519_999 c.args.self.now c.look_at.new.self c.in-Some.period c.look_at.result c.requires.interval turn.0 turn.1.0 on
-    (omega (arith, c.requires.reach)) refl c.taken_before-before.ensures.value c.look_at.ensures.product c.look_at.ensures.number c.look_at.ensures.cursor
+    (omega (arith, c.requires.reach)) refl c.taken_before-before.ensures.value c.requires.step c.look_at.ensures.product c.look_at.ensures.number c.look_at.ensures.cursor
 
 pub returns-else-self-before-clause-steps : goal.returns-else-self-before-clause-steps
 returns-else-self-before-clause-steps c =
     let turn = rw c.in-Some.is at c.requires.turn in
-    let on = step_before c.in-Some.period.number c.args.number c.args.parts.now.interval turn.1.1 c.if-period-number.false in
+    let on = step_before c.args.parts.now c.args.start c.in-Some.period.number c.args.number turn.1.1 c.if-period-number.false in
     looks_once c.args.number (c.args.self.now.counted + c.taken_before-before.result) c.args.self.now c.look_at.new.self c.look_at.result
-    (fresh_some c.args.number c.args.self.now.held c.in-Some.period c.in-Some.is (omega (arith, on)) c.if-period-number.false) c.look_at.ensures.cursor c.look_at.ensures.number
+    (fresh_some c.args.number c.args.self.now.held c.in-Some.period c.in-Some.is (omega (arith, on.up)) c.if-period-number.false) c.look_at.ensures.cursor c.look_at.ensures.number
 
 pub returns-in-None-clause-begun : goal.returns-in-None-clause-begun
 returns-in-None-clause-begun c = λ before. begins_look 0 c.args.self.now c.look_at-period.new.self c.look_at-period.result c.look_at-period.ensures.cursor

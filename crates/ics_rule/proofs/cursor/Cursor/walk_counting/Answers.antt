@@ -1,5 +1,7 @@
-use Rattle.std.proofs.Common.{◌∙◌, ◌-◌, ◌≤◌, ◌<◌, Some, None, sym, subst, arith}
-use Rattle.ics_rule.specs.Candidates.{period_in}
+use Rattle.std.proofs.Common.{◌≡◌, ◌∙◌, ◌+◌, ◌-◌, ◌≤◌, ◌<◌, Some, None, true, sym, subst, arith}
+use Rattle.ics_rule.specs.Candidates.{is_stepped, period_in}
+use Rattle.ics_rule.specs.Searches.{IsNextOpen}
+use Rattle.ics_rule.proofs.StepLemmas.{step_on}
 use Rattle.ics_rule.proofs.CursorLemmas.{walk_reach}
 use Rattle.ics_rule.proofs.CountLemmas.{counted_small}
 use Rattle.ics_rule.proofs.CountingLemmas.{IsCounting, counting_begins, counting_ends, counting_out, counting_finds, counting_found, counting_stops, counting_stopped, counting_goes_on}
@@ -11,7 +13,7 @@ loop-number-init c = elim c.match-self.branch [
   | in-Some w ↦ subst (λ s. IsCounting c.args.parts.now c.args.start c.args.count c.args.stop c.match-self.number c.args.self.now s) (sym w.self-is)
       (counting_begins c.args.parts.now c.args.start c.args.count c.args.stop c.match-self.number c.args.self.now (Some w.in-Some.period) c.requires.interval w.in-Some.is w.number-is c.requires.after c.requires.place c.requires.own)
   | in-None w ↦ subst (λ s. IsCounting c.args.parts.now c.args.start c.args.count c.args.stop c.match-self.number c.args.self.now s) (sym w.self-is)
-      (counting_begins c.args.parts.now c.args.start c.args.count c.args.stop c.match-self.number c.args.self.now None c.requires.interval w.in-None.is (w.number-is ∙ w.period_of-number.ensures.value) c.requires.after c.requires.place c.requires.own)
+      (counting_begins c.args.parts.now c.args.start c.args.count c.args.stop c.match-self.number c.args.self.now None c.requires.interval w.in-None.is (w.number-is ∙ c.period_of-first.ensures.value) c.requires.after c.requires.place c.requires.own)
 ]
 
 -- a period that is turned to is not past the bound's
@@ -51,10 +53,14 @@ returns-else-earlier-self-clause-walked c =
     counting_stopped c.args.parts.now c.args.start c.args.count c.args.stop c.loop-number.number c.args.self.now c.loop-number.self c.loop-number.invariant
     c.turn_to.new.self c.in-Some-turn_to.period c.requires.interval c.requires.after c.requires.place (top (goal.at.returns-else-earlier-self-clause-walked c).After-turn_to) c.in-Some-turn_to.ensures.turned c.turn_to.ensures.place c.turn_to.ensures.steps c.turn_to.ensures.begun c.turn_to.ensures.moved
 
+pub next_open_step-number-requires-clause-step : goal.next_open_step-number-requires-clause-step
+next_open_step-number-requires-clause-step c = subst (λ x. is_stepped x c.args.parts.now.interval (c.loop-number.number + c.args.parts.now.interval) ≡ true) (sym c.period_of-first.ensures.value)
+    (step_on c.args.parts.now.interval c.requires.interval (period_in c.args.parts.now c.args.start) c.loop-number.number c.loop-number.invariant.step)
+
 pub loop-number-preserved : goal.loop-number-preserved
 loop-number-preserved c =
     counting_goes_on c.args.parts.now c.args.start c.args.count c.args.stop c.loop-number.number c.args.self.now c.loop-number.self c.loop-number.invariant
-    c.turn_to.new.self c.in-Some-turn_to.period c.requires.interval c.requires.after c.requires.place (top (goal.at.loop-number-preserved c).After-turn_to) c.in-Some-turn_to.ensures.turned c.turn_to.ensures.place c.turn_to.ensures.steps c.turn_to.ensures.begun c.turn_to.ensures.moved c.in_default.ensures.next
+    c.turn_to.new.self c.in-Some-turn_to.period c.requires.interval c.requires.after c.requires.place (top (goal.at.loop-number-preserved c).After-turn_to) c.in-Some-turn_to.ensures.turned c.turn_to.ensures.place c.turn_to.ensures.steps c.turn_to.ensures.begun c.turn_to.ensures.moved c.next_open_step-number.result c.in_default.ensures.next (subst (λ x. IsNextOpen c.args.parts.now x (c.loop-number.number + c.args.parts.now.interval) c.next_open_step-number.result) c.period_of-first.ensures.value c.next_open_step-number.ensures)
 
 pub returns-clause-next : goal.returns-clause-next
 returns-clause-next c = counting_ends c.args.parts.now c.args.start c.args.count c.args.stop c.loop-number.number c.args.self.now c.loop-number.self c.loop-number.invariant

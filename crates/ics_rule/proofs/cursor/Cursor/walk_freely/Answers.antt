@@ -1,6 +1,8 @@
-use Rattle.std.proofs.Common.{◌<◌, ◌≤◌, subst, arith}
+use Rattle.std.proofs.Common.{◌≡◌, ◌+◌, ◌<◌, ◌≤◌, true, sym, subst, arith}
 use Rattle.ics_values.specs.Sets.{IsLeastFrom}
 use Rattle.ics_rule.specs.Candidates.{is_stepped, period_in}
+use Rattle.ics_rule.specs.Searches.{IsNextOpen}
+use Rattle.ics_rule.proofs.StepLemmas.{step_on}
 use Rattle.ics_rule.proofs.CursorLemmas.{walk_begins, walk_goes_on, walk_ends, walk_ended, walk_finds, walk_found, walk_low, walk_reach}
 use Rattle.ics_rule.proofs.cursor.Cursor.walk_freely.Goals as goal
 
@@ -24,9 +26,13 @@ pub returns-in-Some-clause-walked : goal.returns-in-Some-clause-walked
 returns-in-Some-clause-walked c = walk_found c.args.parts.now c.args.start c.args.stop c.loop-number.number c.args.self.now c.loop-number.self c.loop-number.invariant c.find.new.self c.requires.place
     (subst (λ x. c.loop-number.number ≤ x) c.period_of-last.ensures.value c.loop-number-test.true) c.find.ensures.held c.find.ensures.place c.find.ensures.steps c.find.ensures.begun c.find.ensures.moved c.in-Some.n c.in-Some.ensures.next
 
+pub next_open_step-number-requires-clause-step : goal.next_open_step-number-requires-clause-step
+next_open_step-number-requires-clause-step c = subst (λ x. is_stepped x c.args.parts.now.interval (c.loop-number.number + c.args.parts.now.interval) ≡ true) (sym c.period_of-first.ensures.value)
+    (step_on c.args.parts.now.interval c.requires.interval (period_in c.args.parts.now c.args.start) c.loop-number.number c.loop-number.invariant.step)
+
 pub loop-number-preserved : goal.loop-number-preserved
 loop-number-preserved c = walk_goes_on c.args.parts.now c.args.start c.args.stop c.loop-number.number c.args.self.now c.loop-number.self c.loop-number.invariant c.find.new.self c.requires.place
-    (subst (λ x. c.loop-number.number ≤ x) c.period_of-last.ensures.value c.loop-number-test.true) c.find.ensures.held c.find.ensures.place c.find.ensures.steps c.find.ensures.begun c.find.ensures.moved c.requires.interval c.in_default.ensures.next
+    (subst (λ x. c.loop-number.number ≤ x) c.period_of-last.ensures.value c.loop-number-test.true) c.find.ensures.held c.find.ensures.place c.find.ensures.steps c.find.ensures.begun c.find.ensures.moved c.next_open_step-number.result c.requires.interval c.in_default.ensures.next (subst (λ x. IsNextOpen c.args.parts.now x (c.loop-number.number + c.args.parts.now.interval) c.next_open_step-number.result) c.period_of-first.ensures.value c.next_open_step-number.ensures)
 
 pub returns-clause-next : goal.returns-clause-next
 returns-clause-next c = walk_ends c.args.parts.now c.args.start c.args.stop c.loop-number.number c.args.self.now c.loop-number.self c.loop-number.invariant

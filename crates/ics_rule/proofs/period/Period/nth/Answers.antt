@@ -27,4 +27,4 @@ nth_second-requires-clause-index c = let i = index (goal.at.nth_second-requires-
 
 pub returns-clause-nth : goal.returns-clause-nth
 returns-clause-nth c = nth-product 86_400 c.seconds_below-size.result c.args.k (c.args.self.now.first_day + c.nth_day.result) c.nth_second.result (has_day c.args.self.now) (has_second c.args.self.now) c.seconds_below-size.ensures.value
-    (second_below c.args.self.now c.nth_second.result c.requires.own.1.hours (IsNth.passes c.nth_second.ensures.nth)) (nth_of_days c.args.self.now _ c.nth_day.result c.nth_day.ensures.nth) c.nth_second.ensures.nth
+    (second_below c.args.self.now.hours c.args.self.now.minutes c.args.self.now.seconds c.nth_second.result c.requires.own.1.hours (IsNth.passes c.nth_second.ensures.nth)) (nth_of_days c.args.self.now _ c.nth_day.result c.nth_day.ensures.nth) c.nth_second.ensures.nth

@@ -1,0 +1,80 @@
+-- Steps over periods that hold nothing.
+use Rattle.std.proofs.Common.{◌≡◌, ℕ, ◌+◌, ◌-◌, ◌*◌, ◌/◌, ◌%◌, ◌<◌, ◌≤◌, ◌⊎◌, inl, inr, Bool, true, false, ◌||◌, ◌&&◌, ◌==◌, max, refl, sym, subst, ap, ◌∙◌, arith}
+use Rattle.jiff_core.specs.Weekday.{monday_zero}
+use Rattle.ics_values.specs.Sets.{has, IsLeastFrom}
+use Rattle.ics_rule.specs.declared.filled.Filled.{Filled}
+use Rattle.ics_rule.specs.Candidates.{lets, lets_date, lets_clock, is_stepped, period_in}
+use Rattle.ics_rule.specs.Periods.{first_local, has_time}
+use Rattle.ics_rule.specs.Searches.{NoneLetIn, IsNextOpen}
+use Rattle.ics_rule.proofs.PeriodLemmas.{begun, begins, period_mono}
+
+by_order : (a b : ℕ) → (a < b) ⊎ (b ≤ a)
+by_order a b = grind arith
+
+-- the step of a local before which the rule lets nothing in
+pub step_open : (q : Filled) (first number begin place next : ℕ) → begin ≡ first_local q.frequency (monday_zero q.week_start) number → begin ≤ place → NoneLetIn q begin place
+    → IsLeastFrom (is_stepped first q.interval) (period_in q place) next → IsNextOpen q first number next
+step_open q first number begin place next e up none least = record {
+  step = least.passes;
+  low = let l = begins q.frequency (monday_zero q.week_start) number place (omega (arith, e, up)) in omega (arith, l, least.low);
+  none = λ n l u stepped. elim (by_order n place) [
+    | inl less ↦ none n (let b = begun q.frequency (monday_zero q.week_start) number n l in omega (arith, b, e)) less
+    | inr more ↦ absurd (let m = period_mono q.frequency (monday_zero q.week_start) place n more in let out = sym stepped ∙ least.least (period_in q n) m u in cc)
+  ];
+}
+
+-- one more number is left out
+pub one_out : (f : ℕ → Bool) (e k : ℕ) → f e ≡ false → ((j : ℕ) → j < k → f (e + j) ≡ false) → (j : ℕ) → j < max k 1 → f (e + j) ≡ false
+one_out f e k here none j h = elim (by_order j k) [
+  | inl less ↦ none j less
+  | inr more ↦ ap f (let same : e + j ≡ e = omega (arith, h, more) in same) ∙ here
+]
+
+-- and a walk over them goes on
+pub out_on : (f : ℕ → Bool) (from e k : ℕ) → ((m : ℕ) → from ≤ m → m < e → f m ≡ false) → ((j : ℕ) → j < k → f (e + j) ≡ false) → (m : ℕ) → from ≤ m → m < e + k → f m ≡ false
+out_on f from e k before none m l h = elim (by_order m e) [
+  | inl less ↦ before m l less
+  | inr more ↦ subst (λ x. f x ≡ false) (let same : e + (m - e) ≡ m = omega (arith, more) in same) (none (m - e) (omega (arith, h, more)))
+]
+
+-- the readings of a whole day that the parts let in
+module _ (q : Filled) (hours minutes seconds : ℕ)
+    (h : (m : ℕ) → m < 24 → has hours m ≡ ((true || (m == 0)) && lets q.hours m))
+    (i : (m : ℕ) → m < 60 → has minutes m ≡ ((true || (m == 0)) && lets q.minutes m))
+    (s : (m : ℕ) → m < 60 → has seconds m ≡ ((true || (m == 0)) && lets q.seconds m)) where
+  clock_is : (n : ℕ) → has_time hours minutes seconds (n % 86_400) ≡ lets_clock q n
+  clock_is n =
+      let hour : n % 86_400 / 60 / 60 ≡ n / 3_600 % 24 = omega arith in
+      let minute : n % 86_400 / 60 % 60 ≡ n / 60 % 60 = omega arith in
+      let second : n % 86_400 % 60 ≡ n % 60 = omega arith in
+      ap (λ x. (has hours x && has minutes (n % 86_400 / 60 % 60)) && has seconds (n % 86_400 % 60)) hour
+      ∙ ap (λ x. (has hours (n / 3_600 % 24) && has minutes x) && has seconds (n % 86_400 % 60)) minute
+      ∙ ap (λ x. (has hours (n / 3_600 % 24) && has minutes (n / 60 % 60)) && has seconds x) second
+      ∙ ap (λ x. (x && has minutes (n / 60 % 60)) && has seconds (n % 60)) (h (n / 3_600 % 24) (omega arith))
+      ∙ ap (λ x. (lets q.hours (n / 3_600 % 24) && x) && has seconds (n % 60)) (i (n / 60 % 60) (omega arith))
+      ∙ ap (λ x. (lets q.hours (n / 3_600 % 24) && lets q.minutes (n / 60 % 60)) && x) (s (n % 60) (omega arith))
+      ∙ grouped (lets q.hours (n / 3_600 % 24)) (lets q.minutes (n / 60 % 60)) (lets q.seconds (n % 60))
+    where
+      grouped : (a b c : Bool) → ((a && b) && c) ≡ (a && b && c)
+      grouped true b c = refl
+      grouped false b c = refl
+
+  pub second_next : (n t : ℕ) → t < 86_400 → IsLeastFrom (has_time hours minutes seconds) (n % 86_400) t → (m : ℕ) → n ≤ m → m < n / 86_400 * 86_400 + t → lets_clock q m ≡ false
+  second_next n t small next m l u = sym (clock_is m) ∙ next.least (m % 86_400) (omega (arith, l, u, small)) (omega (arith, l, u, small))
+
+  pub second_none : (n : ℕ) → ((t : ℕ) → n % 86_400 ≤ t → has_time hours minutes seconds t ≡ false) → (m : ℕ) → n ≤ m → m < (n / 86_400 + 1) * 86_400 → lets_clock q m ≡ false
+  second_none n none m l u = sym (clock_is m) ∙ none (m % 86_400) (omega (arith, l, u))
+
+-- no local is let in on a day that is not, nor at a time that is not
+pub none_on_days : (q : Filled) (n day : ℕ) → ((e : ℕ) → n / 86_400 ≤ e → e < day → lets_date q e ≡ false) → NoneLetIn q n (max n (day * 86_400))
+none_on_days q n day none m l u = ap (λ x. x && lets_clock q m) (none (m / 86_400) (omega (arith, l)) (omega (arith, l, u)))
+
+pub none_on_clock : (q : Filled) (n from before : ℕ) → NoneLetIn q n from → ((m : ℕ) → from ≤ m → m < before → lets_clock q m ≡ false) → NoneLetIn q n before
+none_on_clock q n from before days none m l u = elim (by_order m from) [
+  | inl less ↦ days m l less
+  | inr more ↦ and_second (lets_date q (m / 86_400)) (lets_clock q m) (none m more u)
+]
+  where
+    and_second : (a b : Bool) → b ≡ false → (a && b) ≡ false
+    and_second true b h = h
+    and_second false b h = refl

@@ -1,0 +1,11 @@
+use Rattle.std.proofs.Common.{arith}
+use Rattle.ics_rule.specs.Candidates.{lets_date}
+use Rattle.ics_rule.proofs.PassLemmas.{out_on}
+use Rattle.ics_rule.proofs.pass.next_open_day.Goals as goal
+
+pub loop-day-preserved : goal.loop-day-preserved
+loop-day-preserved c = record {
+  low = omega (arith, c.loop-day.invariant.low);
+  high = omega (arith, c.loop-day-test.true, c.days_out-out.ensures.most);
+  none = out_on (lets_date c.args.parts.now) c.args.day c.loop-day.day c.days_out-out.result c.loop-day.invariant.none c.days_out-out.ensures.none;
+}

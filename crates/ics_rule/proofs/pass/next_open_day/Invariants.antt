@@ -1,0 +1,13 @@
+use Rattle.std.proofs.Common.{◌-◌, ◌≡◌, ℕ, ◌<◌, ◌≤◌, ◌+◌, false}
+use Rattle.ics_rule.specs.Candidates.{lets_date}
+use Rattle.ics_rule.proofs.pass.next_open_day.Given as goal
+
+abbrev pub invariant-loop-day : goal.invariant-loop-day
+invariant-loop-day l = record {
+  low : l.fn.day ≤ l.day;
+  high : l.day ≤ l.end + 32;
+  none : (e : ℕ) → l.fn.day ≤ e → e < l.day → lets_date l.parts e ≡ false;
+}
+
+abbrev pub decreases-loop-day : goal.decreases-loop-day
+decreases-loop-day l = l.end - l.day

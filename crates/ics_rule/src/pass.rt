@@ -1,0 +1,122 @@
+//! How the periods are passed over in which a rule lets nothing in.
+ghost use Rattle.std.specs.Prelude.{◌≡◌, ℕ, ◌<◌, ◌≤◌, ◌+◌, ◌-◌, ◌*◌, ◌/◌, ◌^◌, false, true};
+ghost use Rattle.ics_rule.specs.Candidates.{is_stepped, lets_date, lets_clock, period_in};
+ghost use Rattle.ics_rule.specs.Searches.{NoneLetIn, IsNextOpen};
+
+use crate::date::{civil_at, lets_date};
+use crate::days::days_left;
+use crate::fill::skips_hours;
+use crate::filled::Filled;
+use crate::period::{clock_set, first_local, next_second};
+use crate::step::period_of;
+use crate::time::lets;
+use crate::walk::next_step;
+use ics_values::Frequency;
+
+/// How many days from one on lie in a month that BYMONTH leaves out.
+fn days_of_closed_month(parts: &Filled, day: u32) -> u32
+    requires { day ≤ 3652059 }
+    ensures none { (j : ℕ) → j < result → lets_date parts.now (day + j) ≡ false }
+    ensures most { result ≤ 32 }
+{
+    if parts.months.is_none() {
+        return 0;
+    }
+    let fields = civil_at(day);
+    if lets(parts.months, fields.month) {
+        0
+    } else {
+        days_left(&fields) as u32
+    }
+}
+
+/// How many days from one on a rule leaves out, as far as one look at the date tells: a period of months is not looked into.
+fn days_out(parts: &Filled, day: u32) -> u32
+    requires { day ≤ 3652059 }
+    ensures none { (j : ℕ) → j < result → lets_date parts.now (day + j) ≡ false }
+    ensures most { result ≤ 32 }
+{
+    match parts.frequency {
+        Frequency::Yearly => 0,
+        Frequency::Monthly => days_of_closed_month(parts, day),
+        _ => {
+            if lets_date(parts, day) {
+                0
+            } else {
+                days_of_closed_month(parts, day).max(1)
+            }
+        }
+    }
+}
+
+/// The first day from one on that a rule may let in, if it is earlier than `end`.
+fn next_open_day(parts: &Filled, day: u32, end: u32) -> u32
+    requires day { day ≤ end }
+    requires end { end ≤ 3652059 }
+    ensures low { day ≤ result }
+    ensures high { result ≤ end + 32 }
+    ensures none { (e : ℕ) → day ≤ e → e < result → lets_date parts.now e ≡ false }
+{
+    let mut day = day;
+    while day < end {
+        let out = days_out(parts, day);
+        if out == 0 {
+            return day;
+        }
+        day += out;
+    }
+    day
+}
+
+/// The first local from one on whose clock a rule lets in, or the end of its day.
+fn next_open_second(parts: &Filled, n: u64) -> u64
+    requires { n < 315569520000 }
+    ensures low { n ≤ result }
+    ensures high { result ≤ n + 86400 }
+    ensures none { (m : ℕ) → n ≤ m → m < result → lets_clock parts.now m ≡ false }
+{
+    let day = n / 86_400;
+    let hours = clock_set(true, parts.hours, 0, 24);
+    let minutes = clock_set(true, parts.minutes, 0, 60);
+    let seconds = clock_set(true, parts.seconds, 0, 60);
+    match next_second(hours, minutes, seconds, (n % 86_400) as u32) {
+        Some(second) => day * 86_400 + second as u64,
+        None => (day + 1) * 86_400,
+    }
+}
+
+/// The first local from one on that a rule may let in, if it is earlier than `end`.
+fn next_open(parts: &Filled, n: u64, end: u64) -> u64
+    requires local { n < end }
+    requires end { end ≤ 309289708800 }
+    ensures low { n ≤ result }
+    ensures high { result < 315569520000 }
+    ensures none { NoneLetIn parts.now n result }
+{
+    let day = next_open_day(parts, (n / 86_400) as u32, (end / 86_400) as u32);
+    let n = n.max(day as u64 * 86_400);
+    if skips_hours(parts.frequency) {
+        n
+    } else {
+        next_open_second(parts, n)
+    }
+}
+
+/// The first step from one on in whose period a rule may let a local in, if that period is not later than `last`, that of the last local
+/// before `stop`.
+pub(crate) fn next_open_step(parts: &Filled, first: u64, number: u64, last: u64, stop: u64) -> u64
+    requires interval { 1 ≤ parts.now.interval }
+    requires first { first < 2 ^ 40 }
+    requires step { is_stepped first parts.now.interval number ≡ true }
+    requires last { last ≡ period_in parts.now (stop - 1) }
+    requires some { 0 < stop }
+    requires stop { stop ≤ 309289708800 }
+    ensures { IsNextOpen parts.now first number result }
+{
+    if number > last {
+        return number;
+    }
+    let begin = first_local(parts.frequency, parts.week_start, number);
+    let place = next_open(parts, begin, stop);
+    next_step(first, parts.interval, period_of(parts, place))
+}
