@@ -74,7 +74,7 @@ module _ (zones : FileZones) (event : Event) where
     given-early n g = less-true (moment_numbered (clocks_in zones) event n) w.to (and_true {a = lets_until rule n (moment_numbered (clocks_in zones) event n)} (and_true {a = is_kept rule n} g).1).1
 
     -- no local from a day on does that begins two days after the window's end
-    pub none-past : (end : ℤ) (n : ℕ) → IsDayNumber end → (w.to +ℤ pos 172_800) <ℤ midnight end → midnight_number end ≤ n → gives (clocks_in zones) event rule w n ≡ false
+    pub none-past : (end : ℤ) (n : ℕ) → IsDayNumber end → (w.to +ℤ pos 172_800) ≤ℤ midnight end → midnight_number end ≤ n → gives (clocks_in zones) event rule w n ≡ false
     none-past end n h after l = by (gives (clocks_in zones) event rule w n) refl
       where
         by : (b : Bool) → gives (clocks_in zones) event rule w n ≡ b → b ≡ false
@@ -120,7 +120,7 @@ module _ (zones : FileZones) (event : Event) where
         less-start s t (omega (arith, ints, late, is, l)))
 
     -- Where no day more has to be read the first that is held is the first still to come.
-    pub past-end : (day end : ℤ) (place : ℕ) → IsDayNumber day → IsDayNumber end → (w.to +ℤ pos 172_800) <ℤ midnight end → end ≤ℤ day → midnight_number day ≤ place
+    pub past-end : (day end : ℤ) (place : ℕ) → IsDayNumber day → IsDayNumber end → (w.to +ℤ pos 172_800) ≤ℤ midnight end → end ≤ℤ day → midnight_number day ≤ place
         → found (clocks_in zones) event rule w place ≡ []
     past-end day end place d e after l read =
         found-none (clocks_in zones) event rule w place (λ n low. none-past end n e after (omega (arith, ints, number-day day d, number-day end e, read, low, l)))
@@ -132,7 +132,7 @@ module _ (zones : FileZones) (event : Event) where
     not-less : (a b : ℤ) → int_lt a b ≡ false → b ≤ℤ a
     not-less a b e = grind (arith, ints)
 
-    settled : (day end : ℤ) (held : List Start) (place : ℕ) → IsDayNumber day → IsDayNumber end → (w.to +ℤ pos 172_800) <ℤ midnight end → midnight_number day ≤ place
+    settled : (day end : ℤ) (held : List Start) (place : ℕ) → IsDayNumber day → IsDayNumber end → (w.to +ℤ pos 172_800) ≤ℤ midnight end → midnight_number day ≤ place
         → is_behind day end held ≡ false → Settled held place
     settled day end held place d e after read b = by (int_lt day end) refl held b
       where
@@ -157,7 +157,7 @@ module _ (zones : FileZones) (event : Event) where
     unfolding to_come
     come-nothing place e = e
 
-    module _ (day end : ℤ) (place : ℕ) (d : IsDayNumber day) (e : IsDayNumber end) (after : (w.to +ℤ pos 172_800) <ℤ midnight end) (read : midnight_number day ≤ place) where
+    module _ (day end : ℤ) (place : ℕ) (d : IsDayNumber day) (e : IsDayNumber end) (after : (w.to +ℤ pos 172_800) ≤ℤ midnight end) (read : midnight_number day ≤ place) where
       pub first-held : (held : List Start) → Rises moment_cmp held → is_behind day end held ≡ false
           → slice_get held 0 ≡ slice_get (to_come (clocks_in zones) event rule w held place) 0
       first-held [] r b = sym (ap (λ (xs : List Start). slice_get xs 0) (come-nothing place (settled day end [] place d e after read b)))

@@ -54,8 +54,8 @@ pub(crate) struct RuleStarts<'a> {
     ghost asked_soon: { asked ≤ℤ (day +ℤ pos 1) },
     ghost asked_end: { asked ≤ℤ end },
     ghost early: { midnight_number end ≤ 309_289_708_800 },
-    ghost after: { (window.to +ℤ pos 172_800) <ℤ midnight end },
-    ghost soon: { midnight end ≤ℤ (window.to +ℤ pos 345_600) },
+    ghost after: { (window.to +ℤ pos 172_800) ≤ℤ midnight end },
+    ghost soon: { midnight end <ℤ (window.to +ℤ pos 259_200) },
 }
 
 // Whether a rule lets an instant through that a local means, and it lies before the window's end.
@@ -142,7 +142,7 @@ impl<'a> RuleStarts<'a> {
         ensures rule { result.rule ≡ rule }
         ensures from { result.from ≡ from }
     {
-        let end = end_nearby(&window).day;
+        let end = end_nearby(&window);
         let day = from.day.min(end);
         RuleStarts {
             zones,
@@ -250,12 +250,12 @@ impl<'a> RuleStarts<'a> {
 
     /// How many periods of the rule were looked at: at most those that hold a local from the first
     /// on, under COUNT from DTSTART on, and before the midnight of `asked`. That lies no more than
-    /// three days past each start still to come, and no more than four past the window's end.
+    /// three days past each start still to come, and less than three past the window's end.
     pub(crate) fn steps(&self) -> u64
         ensures count { result ≡ steps_of self.now.cursor }
         ensures most { result ≤ period_count self.now.rule (looks_from self.now.rule.parts.count (number self.now.rule.start) (number self.now.from)) (midnight_number self.now.asked) }
         ensures near { (s : Start) → IsIn s (starts_left self.now) → (midnight self.now.asked -ℤ pos 259_200) ≤ℤ s.moment }
-        ensures end { midnight self.now.asked ≤ℤ (self.now.window.to +ℤ pos 345_600) }
+        ensures end { midnight self.now.asked <ℤ (self.now.window.to +ℤ pos 259_200) }
     {
         self.cursor.steps()
     }

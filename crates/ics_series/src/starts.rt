@@ -3,7 +3,7 @@ ghost use Rattle.std.specs.Prelude.{◌≡◌, ◌≤◌, ◌<ℤ◌, ◌≤ℤ�
 ghost use Rattle.std.specs.Int.{int_max};
 ghost use Rattle.ics_values.specs.Days.{IsDayNumber};
 ghost use Rattle.ics_rule.specs.Locals.{number};
-ghost use Rattle.ics_series.specs.Clocks.{seconds_of};
+ghost use Rattle.ics_series.specs.Clocks.{midnight, seconds_of};
 ghost use Rattle.ics_series.specs.Found.{earliest, firsts_after, is_at, is_span_met, is_until, start_at, IsStart};
 ghost use Rattle.ics_series.specs.Starts.{time_at};
 ghost use Rattle.ics_series.specs.Zones.{asked, clocks_in, AreReached, IsReadable, IsReadableEvent};
@@ -100,15 +100,16 @@ pub(crate) fn first_nearby(first: Local, earliest: Moment) -> Local
     }
 }
 
-// A midnight past all locals by which an event can meet the window, three to four days after it.
-pub(crate) fn end_nearby(window: &Window) -> Local
-    ensures day { IsDayNumber result.day }
-    ensures early { number result ≤ 309_289_708_800 }
-    ensures after { (window.now.to +ℤ pos 259_200) ≤ℤ seconds_of result }
-    ensures soon { seconds_of result ≤ℤ (window.now.to +ℤ pos 345_600) }
+// The third day after the window's last: no local from there on means an instant before the window's
+// end.
+pub(crate) fn end_nearby(window: &Window) -> i32
+    ensures day { IsDayNumber result }
+    ensures after { (window.now.to +ℤ pos 172_800) ≤ℤ midnight result }
+    ensures soon { midnight result <ℤ (window.now.to +ℤ pos 259_200) }
 {
-    let day = window.to.div_euclid(DAY) as i32;
-    Local::at(day + 4, 0)
+    let last = window.to - 1;
+    let day = last.div_euclid(DAY) as i32;
+    day + 3
 }
 
 // The local of the calendar with this number. A cursor tells its locals by their numbers, which

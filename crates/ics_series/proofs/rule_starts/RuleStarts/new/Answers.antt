@@ -14,8 +14,7 @@ use Rattle.ics_series.proofs.rule_starts.RuleStarts.new.Goals as goal
 pub invariant_of-result : goal.invariant_of-result
 invariant_of-result c =
     let w = c.args.window in
-    let e = c.end_nearby-end.result in
-    let end : to_z w32 (of_z w32 c.end_nearby-end.result.day) ≡ c.end_nearby-end.result.day = omega (arith, ints, c.end_nearby-end.ensures.day.0, c.end_nearby-end.ensures.day.1) in
+    let end : to_z w32 (of_z w32 c.end_nearby-end.result) ≡ c.end_nearby-end.result = omega (arith, ints, c.end_nearby-end.ensures.day.0, c.end_nearby-end.ensures.day.1) in
     let from : to_z w32 (of_z w32 c.args.from.day) ≡ c.args.from.day = omega (arith, ints, c.requires.from.0, c.requires.from.1) in
     let day : to_z w32 (of_z w32 c.min-day.result) ≡ c.min-day.result = omega (arith, ints, c.min-day.type_inv) in
     record {
@@ -25,7 +24,7 @@ invariant_of-result c =
       own = c.at.ensures.own;
       looked = λ before h. c.at.ensures.looked before;
       readable = subst (AreReadable c.args.zones.zones.now c.args.event.now c.args.rule) (sym end)
-          (kept-readable c.args.zones.zones.now w c.args.event.now c.args.rule c.end_nearby-end.result.day c.requires.rule c.requires.reached c.requires.event.start c.end_nearby-end.ensures.day
+          (kept-readable c.args.zones.zones.now w c.args.event.now c.args.rule c.end_nearby-end.result c.requires.rule c.requires.reached c.requires.event.start c.end_nearby-end.ensures.day
           (omega (arith, ints, c.end_nearby-end.ensures.soon)));
       first = ap (λ (l : Local). number l) (rule-first c.args.event.now c.args.rule c.requires.rule);
       read = omega (arith, ints, c.at.ensures.place, day, end, from, c.min-day.ensures.value, int_min_is, c.requires.from.0, c.requires.from.1, c.end_nearby-end.ensures.day.0, c.end_nearby-end.ensures.day.1);
@@ -33,8 +32,8 @@ invariant_of-result c =
       asked_on = omega (arith, ints);
       asked_soon = omega (arith, ints);
       asked_end = omega (arith, ints, day, end, from, c.min-day.ensures.value, int_min_is);
-      early = omega (arith, ints, end, c.end_nearby-end.ensures.early, c.end_nearby-end.ensures.day.0);
-      after = omega (arith, ints, end, c.end_nearby-end.ensures.after, c.end_nearby-end.result.second_in);
+      early = omega (arith, ints, end, w.not_late, c.end_nearby-end.ensures.soon, c.end_nearby-end.ensures.day.0);
+      after = omega (arith, ints, end, c.end_nearby-end.ensures.after);
       soon = omega (arith, ints, end, c.end_nearby-end.ensures.soon);
     }
 

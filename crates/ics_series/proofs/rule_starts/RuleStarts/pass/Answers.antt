@@ -14,7 +14,7 @@ returns-then-first-start-clause-left c =
     let first : c.in-Some.first.now ≡ get_or c.args.self.now.held.items 0 c.in-Some.first.now = search rules in
     let fits : SFits w64 c.in-Some.first.now.moment = search rules in
     let fits2 : SFits w64 c.args.start.now.moment = search rules in
-    let tied : c.args.start.now.moment ≡ c.in-Some.first.now.moment = grind (arith, ints) in
+    let tied : c.args.start.now.moment ≡ c.in-Some.first.now.moment = omega (arith, ints, c.if-first-start.true) in
     passed-at s.zones s.event.now s.rule s.window s.day s.end (place_of s.cursor) (day-days s) (end-days s) s.after s.read
     c.args.start.now c.in-Some.first.now s.held.items c.pop_front.new.self.items some first c.pop_front.ensures.rest s.rises c.requires
     (same-moment c.args.start.now c.in-Some.first.now tied)
