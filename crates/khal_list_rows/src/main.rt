@@ -4,7 +4,7 @@
 //! - `> NAME` begins a file, whose lines follow, each ended by CRLF. `>> TEXT` adds bytes without a line
 //!   end. In both `%0a` stands for the byte 10.
 //! - `$ WORDS` runs the program's words over the files, and `@ WORDS` over the folder on disk that they
-//!   name. Lines of standard error are printed behind `! `, and last the status in brackets.
+//!   name. What they write is printed, then the status in brackets, and then what standard error has.
 //! - `? WORDS` shows the request of the words.
 //! - `: CALL VALUES` asks a call by its name.
 //!
@@ -17,7 +17,7 @@
 //! - `rule DTSTART RRULE FROM BEFORE [LEAST MOST]` lists a rule's locals, and bounds the periods that were
 //!   looked at; `admits DTSTART RRULE LOCAL` asks one, and `until DTSTART RRULE` for its last instant.
 //! - `clock TIME [ZONE]` and `instant LOCAL [ZONE]` ask a display zone, or else the last file's first zone.
-//! - `date`, `stamp`, `zoned`, `duration`, `offset`, `period`, `integer` and `text` read a value.
+//! - `stamp`, `zoned`, `duration`, `offset`, `period`, `integer` and `text` read a value.
 #![tactic(auto)]
 
 mod counts;

@@ -1,9 +1,8 @@
 //! The requests of words.
 
-use crate::row::shown_bytes;
 use crate::runs::request;
 use crate::shown::moment_text;
-use ics_series::Key;
+use ics_series::Token;
 use khal_list::{Request, RequestFault};
 use std::alloc::{AllocError, Global};
 use std::io;
@@ -29,18 +28,9 @@ fn request_text(alloc: Global, request: &Request) -> Result<String, AllocError> 
         write!(text, ", at most {limit}")?;
     }
     if let Some(key) = &request.after {
-        text.push_str(key_text(alloc, key)?.as_str())?;
+        write!(text, ", after {}", Token::write(alloc, key)?)?;
     }
     Ok(text)
-}
-
-fn key_text(alloc: Global, key: &Key) -> Result<String, AllocError> {
-    let start = moment_text(alloc, key.start)?;
-    let recurrence = moment_text(alloc, key.recurrence)?;
-    format!(in alloc;
-        ", after {start} {recurrence} {}",
-        shown_bytes(key.uid.as_slice())
-    )
 }
 
 /// Prints whether the text that clap gives for some words has a part: `usage PART of WORDS`.

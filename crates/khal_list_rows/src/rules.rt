@@ -67,13 +67,11 @@ fn print_locals(rt: HostRuntime, rule: &Rule, from: Local, before: Local) -> io:
 }
 
 fn print_bounds(rt: HostRuntime, steps: u64, bounds: &[&str]) -> io::Result<()> {
-    if let [least, most] = bounds {
-        let least = least.parse().unwrap_or(0);
-        let most = most.parse().unwrap_or(0);
-        println!(rt; "at least {least} steps: {}", yes_no(least <= steps))?;
-        println!(rt; "at most {most} steps: {}", yes_no(steps <= most))?;
-    }
-    Ok(())
+    let [least, most] = bounds else {
+        return Ok(());
+    };
+    let is_within = least.parse().unwrap_or(0) <= steps && steps <= most.parse().unwrap_or(0);
+    println!(rt; "{least} to {most} steps: {}", yes_no(is_within))
 }
 
 /// Whether a rule's parts admit a local, `admits DTSTART RRULE LOCAL`, or the instant that bounds it,

@@ -36,8 +36,8 @@ pub fn outcome<S: Source>(
     Ok(Written { out, err, status })
 }
 
-/// Runs words over files, and prints what the run wrote, each line of standard error behind `! `, and
-/// its status in brackets; or there the fault.
+/// Runs words over files, and prints what they write, their status in brackets, and what they write to
+/// standard error; or the fault in brackets.
 pub fn run_over<S: Source>(
     rt: HostRuntime,
     source: &mut S,
@@ -55,10 +55,8 @@ pub fn run_over<S: Source>(
 
 fn print_written(rt: HostRuntime, written: &Written) -> io::Result<()> {
     rt.print(written.out.as_str())?;
-    for line in written.err.as_str().lines() {
-        println!(rt; "! {line}")?;
-    }
-    println!(rt; "[{}]", written.status.code())
+    println!(rt; "[{}]", written.status.code())?;
+    rt.print(written.err.as_str())
 }
 
 /// Runs words over the folder on disk that they name.

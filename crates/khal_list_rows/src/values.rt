@@ -2,8 +2,8 @@
 
 use crate::shown::stamp_text;
 use ics_values::{
-    Duration, Period, PeriodEnd, Stamp, civil, read_duration, read_integer, read_offset,
-    read_period, read_stamp, text_bytes,
+    Duration, Period, PeriodEnd, read_duration, read_integer, read_offset, read_period, read_stamp,
+    text_bytes,
 };
 use percent_encoding::{CONTROLS, percent_encode};
 use std::alloc::{AllocError, Global};
@@ -11,7 +11,6 @@ use std::alloc::{AllocError, Global};
 /// What the text of a value says, by the name of its kind, or the name of its fault.
 pub fn value(alloc: Global, kind: &str, text: &str) -> Result<String, AllocError> {
     match kind {
-        "date" => date(alloc, text),
         "stamp" => stamp(alloc, text, false),
         "zoned" => stamp(alloc, text, true),
         "duration" => duration(alloc, text),
@@ -21,17 +20,6 @@ pub fn value(alloc: Global, kind: &str, text: &str) -> Result<String, AllocError
         "text" => plain(alloc, text),
         _ => format!(in alloc; "no kind {kind}"),
     }
-}
-
-/// The number of a date, and what the calendar says of it.
-fn date(alloc: Global, text: &str) -> Result<String, AllocError> {
-    let Ok(Stamp::Date(day)) = read_stamp(text.as_bytes(), false) else {
-        return String::from_str(alloc, "no date");
-    };
-    let date = civil(day);
-    let past = date.weekday.index();
-    let place = date.year_day;
-    format!(in alloc; "day {day}, day {place} of its year, {past} past Monday")
 }
 
 fn stamp(alloc: Global, text: &str, zoned: bool) -> Result<String, AllocError> {
