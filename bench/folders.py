@@ -128,6 +128,8 @@ ROWS = [
      ['2024-01-05', '1d']),
     ('a minutely rule, a window in 2500', lambda: [('a.ics', recurring(1, '200001%02dT%02d%02d00Z', 'FREQ=MINUTELY'))],
      ['2500-01-05', '1d']),
+    ('two lines of a minutely rule to 9799', lambda: [('a.ics', recurring(1, '200001%02dT%02d%02d00Z', 'FREQ=MINUTELY'))],
+     ['2024-01-05', '9799-12-31', '--limit', '2']),
     ('5,000 further dates and exceptions', lambda: [('a.ics', dates(5_000))], ['2014-01-05', '1d']),
     ('10,000 overrides of one event', lambda: [('a.ics', moved(10_000))], ['2014-01-05', '7d']),
     ('1,000 rules that never match', lambda: [('a.ics', recurring(1_000, '200001%02dT%02d%02d00Z',
