@@ -1,25 +1,31 @@
 //! How much a listing gives, and its pages.
 
 use crate::requests::yes_no;
+use crate::rules::print_bounds;
 use crate::runs::{outcome, request};
 use ics_calendar::read_file;
-use ics_series::{Feed, Folder};
+use ics_series::{Agenda, Feed, Folder};
 use khal_list::{MOST_BYTES, MemorySource, Request};
 use std::alloc::{AllocError, Global};
 use std::io;
 
-/// Prints how many occurrences the agenda of some words gives, up to their limit.
-pub fn entries(rt: HostRuntime, source: &MemorySource, words: &str, now: i64) -> io::Result<()> {
-    match request(rt.alloc(), words, now) {
-        Ok(request) => {
-            let mut folder = folder_of(rt.alloc(), source, &request)?;
-            folder.reach(&request.window)?;
-            let mut agenda = folder.agenda(request.window, request.after.as_ref())?;
-            let count = drawn(&mut agenda, request.limit.unwrap_or(u32::MAX))?;
-            println!(rt; "{count} entries")
-        }
-        Err(fault) => println!(rt; "[{}]", fault.name()),
-    }
+/// Prints how many occurrences the agenda of some words gives, up to their limit, whether no more were
+/// held after each, and whether so many periods were looked at: `entries HELD LEAST MOST WORDS`.
+pub fn entries(rt: HostRuntime, source: &MemorySource, line: &str, now: i64) -> io::Result<()> {
+    let (most_held, line) = line.split_once(' ').unwrap_or((line, ""));
+    let (least, line) = line.split_once(' ').unwrap_or((line, ""));
+    let (most, words) = line.split_once(' ').unwrap_or((line, ""));
+    let request = match request(rt.alloc(), words, now) {
+        Ok(request) => request,
+        Err(fault) => return println!(rt; "[{}]", fault.name()),
+    };
+    let mut folder = folder_of(rt.alloc(), source, &request)?;
+    folder.reach(&request.window)?;
+    let mut agenda = folder.agenda(request.window, request.after.as_ref())?;
+    let (count, held) = drawn(&mut agenda, request.limit.unwrap_or(u32::MAX))?;
+    let is_within = yes_no(held <= most_held.parse().unwrap_or(0));
+    println!(rt; "{count} entries, at most {most_held} held: {is_within}")?;
+    print_bounds(rt, agenda.steps(), &[least, most])
 }
 
 /// The events of the files that are accepted.
@@ -39,14 +45,17 @@ fn folder_of(
     Folder::new(alloc, files, request.zone)
 }
 
-/// How many occurrences a feed gives, up to a limit.
-fn drawn<'a, F: Feed<'a>>(feed: &mut F, limit: u32) -> Result<u32, AllocError> {
+/// How many occurrences an agenda gives, up to a limit, and the most that it holds on the way.
+fn drawn(agenda: &mut Agenda<'_>, limit: u32) -> Result<(u32, usize), AllocError> {
+    let mut held = agenda.held();
     for count in 0..limit {
-        if feed.next()?.is_none() {
-            return Ok(count);
+        let next = agenda.next()?;
+        held = held.max(agenda.held());
+        if next.is_none() {
+            return Ok((count, held));
         }
     }
-    Ok(limit)
+    Ok((limit, held))
 }
 
 /// Prints how many entries words list, in how many pages of a limit, each from the token of the one

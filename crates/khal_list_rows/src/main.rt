@@ -12,7 +12,7 @@
 //!
 //! - `now TIME` sets the row's clock; `usage PART of WORDS` asks whether clap's text has a part.
 //! - `cuts WORDS` runs the words over the last file, cut after each of its bytes, `pages LIMIT WORDS` page
-//!   by page, and `entries WORDS` counts what their agenda gives.
+//!   by page, and `entries HELD LEAST MOST WORDS` bounds what their agenda holds and looks at.
 //! - `lines` are those of the last file; `content LINE` and `param NAME LINE` are parts of a line.
 //! - `rule DTSTART RRULE FROM BEFORE [LEAST MOST]` lists a rule's locals, and bounds the periods that were
 //!   looked at; `admits DTSTART RRULE LOCAL` asks one, and `until DTSTART RRULE` for its last instant.

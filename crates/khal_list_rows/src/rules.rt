@@ -66,7 +66,8 @@ fn print_locals(rt: HostRuntime, rule: &Rule, from: Local, before: Local) -> io:
     Ok(cursor.steps())
 }
 
-fn print_bounds(rt: HostRuntime, steps: u64, bounds: &[&str]) -> io::Result<()> {
+/// Prints whether so many periods were looked at as two words bound.
+pub fn print_bounds(rt: HostRuntime, steps: u64, bounds: &[&str]) -> io::Result<()> {
     let [least, most] = bounds else {
         return Ok(());
     };
