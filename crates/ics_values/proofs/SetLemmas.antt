@@ -50,13 +50,7 @@ has_wide-set ws n m h low = ap (λ x. nat_lt m 384 && x) (has_digit-set ws n m h
     cases true b c h = refl
     cases false b c h = rw (h refl) refl
 
--- a member is a digit below the end
-pub wide_member : (ws : List ℕ) (m : ℕ) → m < 384 → has_wide ws m ≡ has_digit ws m
-wide_member ws m h = ap (λ x. x && has_digit ws m) (inside m h)
-  where
-    inside : (m : ℕ) → m < 384 → nat_lt m 384 ≡ true
-    inside m h = grind (arith, nat_tests)
-
+-- no member lies past the end
 pub wide_past : (ws : List ℕ) (m : ℕ) → 384 ≤ m → has_wide ws m ≡ false
 wide_past ws m h = ap (λ x. x && has_digit ws m) (outside m h)
   where

@@ -6,7 +6,6 @@ use Rattle.std.specs.Str.{bytes_eq}
 use Rattle.std.proofs.lemmas.Bool.Decides.{nat_tests}
 use Rattle.ics_values.specs.Digits.{is_digit, upper, number_of, digit_count}
 use Rattle.ics_values.specs.Texts.{begins, begins_with}
-use Rattle.std.proofs.lemmas.Bool.{eqb-true}
 use Rattle.ics_values.specs.Amounts.{IsLetter, IsAmount, capped}
 use Rattle.ics_values.specs.Durations.{shape, behind, has_shape, amount_from}
 

@@ -1,5 +1,5 @@
 -- How the table of a zone is made: gathered, sorted, and appended to.
-use Rattle.std.proofs.Common.{◌≡◌, ℕ, zero, suc, ◌+◌, ◌-◌, ◌<◌, ◌≤◌, inl, inr, Bool, true, false, cond, nat_lt, ◌==◌, refl, sym, ap, subst, ◌∙◌, arith, List, [], ◌++◌, map, length, get_or, Some, slice_get, option_map, Contains, IsPermutation, Ordering, Less, Equal, Greater, ℤ, ◌<ℤ◌, ◌≤ℤ◌}
+use Rattle.std.proofs.Common.{◌≡◌, ℕ, zero, suc, ◌+◌, ◌-◌, ◌<◌, ◌≤◌, inl, inr, Bool, true, false, cond, nat_lt, ◌==◌, refl, sym, ap, subst, ◌∙◌, arith, List, ◌++◌, map, length, get_or, Some, slice_get, option_map, Contains, IsPermutation, Ordering, Less, Equal, Greater, ℤ, ◌<ℤ◌, ◌≤ℤ◌}
 use Rattle.std.specs.Prelude.{int_lt}
 use Rattle.std.specs.Ordering.{is_lt, ordering_then, int_cmp, nat_cmp}
 use Rattle.std.proofs.lemmas.Int.{ints}
@@ -19,13 +19,6 @@ use Rattle.ics_zone.proofs.OnsetLemmas.{onset-local, start_is_onset}
 use Rattle.ics_zone.proofs.TableLemmas.{after_before_all}
 use Rattle.ics_zone.specs.ZoneBounds.{zone_facts}
 use Rattle.ics_zone.proofs.Cases.{below_or_at, less_or_not, less_or_not_z, not_both}
-
--- nothing is gathered at first
-pub gathered_none : (zone : List Phase) (after to : ℤ) → AreGathered zone after to 0 []
-gathered_none zone after to = record {
-  known = λ e h. absurd (omega (arith, h.1));
-  complete = λ i t p l h late early. absurd (omega (arith, l));
-}
 
 one_phase : (p q : Phase) → Some p ≡ Some q → p ≡ q
 one_phase p q e = cc
