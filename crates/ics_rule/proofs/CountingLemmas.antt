@@ -10,8 +10,9 @@ use Rattle.ics_rule.specs.declared.cursor.Cursor.{Cursor}
 use Rattle.ics_rule.specs.Candidates.{is_stepped, period_in}
 use Rattle.ics_rule.specs.Kept.{count, is_chosen}
 use Rattle.ics_rule.specs.Periods.{first_local, IsPeriodOf, is_taken}
-use Rattle.ics_rule.specs.Cursors.{is_met, fresh, HasBegun, HeldBy, CountedBy, IsCounted, IsCursorIn, HasLookedIn}
+use Rattle.ics_rule.specs.Cursors.{is_met, fresh, HasBegun, HeldBy, CountedBy, IsCounted, HasLookedIn}
 use Rattle.ics_rule.specs.Searches.{is_few, is_wanted, NoneWanted, IsWalked, HoldsPeriodOf, LooksOrStays, LooksOnce, IsTurnOf, IsPassed, IsNextOpen, AllCounted, IsTurned}
+use Rattle.ics_rule.specs.Rounds.{IsPassedTo}
 use Rattle.ics_rule.proofs.PeriodLemmas.{begun, begins, period_mono}
 use Rattle.ics_rule.proofs.StepLemmas.{stepped_parts, stepped_shown, none_between}
 use Rattle.ics_rule.proofs.ChosenLemmas.{no_step, not_let_in, taken_within}
@@ -43,37 +44,37 @@ pub record IsCounting (q : Filled) (start c stop number : ℕ) (before now : Cur
   pub steps : now.steps ≤ fresh now.held
   pub looked : (a b : ℕ) → stop ≤ b → HasLookedIn q start (Some c) before a b → now.steps ≤ count (fresh now.held) (is_met q start a b)
 
-step_first : (f i : ℕ) → 1 ≤ i → is_stepped f i f ≡ true
+pub step_first : (f i : ℕ) → 1 ≤ i → is_stepped f i f ≡ true
 step_first f i some = stepped_shown f i f (omega arith) (let none : f - f ≡ 0 * i + 0 = omega arith in ap (λ x. x % i) none ∙ mod-mul-add 0 i 0 some)
 
-pub counting_begins : (q : Filled) (start c stop number : ℕ) (cursor : Cursor) (o : Option Period) → 1 ≤ q.interval → cursor.held ≡ o
-    → MatchOption o (number ≡ period_in q start) (λ p. number ≡ p.number) → start < cursor.place → cursor.place < stop → IsCursorIn q start (Some c) cursor
-    → IsCounting q start c stop number cursor cursor
-counting_begins q start c stop number cursor None some e h late early own = record {
+pub counting_begins : (q : Filled) (start c stop number : ℕ) (before cursor : Cursor) (o : Option Period) → 1 ≤ q.interval → cursor.held ≡ o
+    → MatchOption o (number ≡ period_in q start) (λ p. number ≡ p.number) → start < cursor.place → cursor.place < stop → cursor.place ≡ before.place
+    → IsPassedTo q start c before cursor → IsCounting q start c stop number before cursor
+counting_begins q start c stop number before cursor None some e h late early same passed = record {
   step = ap (is_stepped (period_in q start) q.interval) h ∙ step_first (period_in q start) q.interval some;
-  none = λ n l u. absurd (let up = period_mono q.frequency (monday_zero q.week_start) start n (omega arith) in omega (arith, up, u, h));
+  none = λ n l u. absurd (let up = period_mono q.frequency (monday_zero q.week_start) start n (omega (arith, late, same, l)) in omega (arith, up, u, h));
   turn = subst (λ x. MatchOption x (number ≡ period_in q start) (λ p. IsPeriodOf q p × (IsCounted q start c cursor.counted cursor.limit p × ((p.number ≡ number) ⊎ IsPassed q start (p.number + q.interval) number)))) (sym e) h;
   high = subst (λ (x : Option Period). MatchOption x (Unit {0}) (λ p. p.number ≤ period_in q stop)) (sym e) tt;
-  place = refl;
-  begun = own.begun;
-  moved = inl (refl, refl);
-  steps = own.steps;
-  looked = λ a b s few. few.few;
+  place = same;
+  begun = passed.own.begun;
+  moved = passed.moved;
+  steps = passed.own.steps;
+  looked = λ a b s few. passed.looked a b (omega (arith, early, same, s)) few;
 }
-counting_begins q start c stop number cursor (Some p) some e h late early own =
-    let held = subst (λ x. MatchOption x (Unit {0}) (λ p. IsPeriodOf q p × (p.number ≤ period_in q cursor.place))) e own.held in
-    let counted = subst (λ x. MatchOption x (Unit {0}) (IsCounted q start c cursor.counted cursor.limit)) e own.counted in
+counting_begins q start c stop number before cursor (Some p) some e h late early same passed =
+    let held = subst (λ x. MatchOption x (Unit {0}) (λ p. IsPeriodOf q p × (p.number ≤ period_in q cursor.place))) e passed.own.held in
+    let counted = subst (λ x. MatchOption x (Unit {0}) (IsCounted q start c cursor.counted cursor.limit)) e passed.own.counted in
     record {
       step = ap (is_stepped (period_in q start) q.interval) h ∙ counted.step;
-      none = λ n l u. absurd (let up = period_mono q.frequency (monday_zero q.week_start) cursor.place n l in omega (arith, up, u, h, held.1));
+      none = λ n l u. absurd (let up = period_mono q.frequency (monday_zero q.week_start) cursor.place n (omega (arith, same, l)) in omega (arith, up, u, h, held.1));
       turn = subst (λ x. MatchOption x (number ≡ period_in q start) (λ p. IsPeriodOf q p × (IsCounted q start c cursor.counted cursor.limit p × ((p.number ≡ number) ⊎ IsPassed q start (p.number + q.interval) number)))) (sym e)
           (held.0, (counted, inl (sym h)));
       high = subst (λ (x : Option Period). MatchOption x (Unit {0}) (λ p. p.number ≤ period_in q stop)) (sym e) (let up = period_mono q.frequency (monday_zero q.week_start) cursor.place stop (omega arith) in omega (arith, up, held.1));
-      place = refl;
-      begun = own.begun;
-      moved = inl (refl, refl);
-      steps = own.steps;
-      looked = λ a b s few. few.few;
+      place = same;
+      begun = passed.own.begun;
+      moved = passed.moved;
+      steps = passed.own.steps;
+      looked = λ a b s few. passed.looked a b (omega (arith, early, same, s)) few;
     }
 
 module _ (q : Filled) (start c stop number : ℕ) (before now : Cursor) (walk : IsCounting q start c stop number before now) where

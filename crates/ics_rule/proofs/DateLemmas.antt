@@ -78,11 +78,11 @@ pub weekday_out : (q : Filled) (e : ℕ) → (lists_no_weekday q.weekdays || has
 weekday_out q e a c = out_5 (lets q.months (month_of e)) (lets_place q.month_days (month_day_of e) (days_in_month (pos (year_of e)) (month_of e))) (lets_wide_place q.year_days (year_day_of e) (days_in_year (pos (year_of e)))) (lets_week q e) (lets_weekday q e)
     (ap (λ x. x || lets_numbered q.frequency q (numbers_of q.weekdays (weekday_of e)) e) a ∙ none_numbered q.frequency q (numbers_of q.weekdays (weekday_of e)) e c)
 
--- and one that stands alone is in where no other part speaks of the date
-pub weekday_in : (q : Filled) (e : ℕ) → (lists_no_weekday q.weekdays || has q.weekdays.plain (weekday_of e)) ≡ true → names_weekdays_alone q ≡ true → lets_date q e ≡ true
-weekday_in q e day alone = let f = four (is_none q.months) (lists_none q.month_days) (lists_none_wide q.year_days) (lists_none q.weeks) alone in
+-- where no other part speaks of the date BYDAY decides
+pub weekdays_alone : (q : Filled) (e : ℕ) → names_weekdays_alone q ≡ true → lets_date q e ≡ lets_weekday q e
+weekdays_alone q e alone = let f = four (is_none q.months) (lists_none q.month_days) (lists_none_wide q.year_days) (lists_none q.weeks) alone in
     sym (all_in (lets q.months (month_of e)) (lets_place q.month_days (month_day_of e) (days_in_month (pos (year_of e)) (month_of e))) (lets_wide_place q.year_days (year_day_of e) (days_in_year (pos (year_of e)))) (lets_week q e) (lets_weekday q e)
-    (absent_in (is_none q.months) _ f.0) (absent_in (lists_none q.month_days) _ f.1.0) (absent_in (lists_none_wide q.year_days) _ f.1.1.0) (absent_in (lists_none q.weeks) _ f.1.1.1)) ∙ absent_in (lists_no_weekday q.weekdays || has q.weekdays.plain (weekday_of e)) (lets_numbered q.frequency q (numbers_of q.weekdays (weekday_of e)) e) day
+    (absent_in (is_none q.months) _ f.0) (absent_in (lists_none q.month_days) _ f.1.0) (absent_in (lists_none_wide q.year_days) _ f.1.1.0) (absent_in (lists_none q.weeks) _ f.1.1.1))
   where
     four : (a b c d : Bool) → (a && b && c && d) ≡ true → (a ≡ true) × ((b ≡ true) × ((c ≡ true) × (d ≡ true)))
     four true true true true h = (refl, (refl, (refl, refl)))
@@ -90,3 +90,7 @@ weekday_in q e day alone = let f = four (is_none q.months) (lists_none q.month_d
     four true true false d h = absurd (cc)
     four true false c d h = absurd (cc)
     four false b c d h = absurd (cc)
+
+-- and a weekday that stands alone is in there
+pub weekday_in : (q : Filled) (e : ℕ) → (lists_no_weekday q.weekdays || has q.weekdays.plain (weekday_of e)) ≡ true → names_weekdays_alone q ≡ true → lets_date q e ≡ true
+weekday_in q e day alone = weekdays_alone q e alone ∙ absent_in (lists_no_weekday q.weekdays || has q.weekdays.plain (weekday_of e)) (lets_numbered q.frequency q (numbers_of q.weekdays (weekday_of e)) e) day

@@ -21,3 +21,5 @@ pub mod DayWalkLemmas
 pub mod LawLemmas
 pub mod IsoWeeks
 mod PassLemmas
+mod RoundLemmas
+mod PassedLemmas

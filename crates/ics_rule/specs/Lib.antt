@@ -10,3 +10,4 @@ pub mod Next
 pub mod Calls
 pub mod Cursors
 pub mod Searches
+pub mod Rounds

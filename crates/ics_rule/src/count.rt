@@ -18,7 +18,13 @@ const CALENDAR_END: u64 = 315_569_520_000;
 impl Cursor {
     /// Turns to the period with a number, and looks at it unless it is the one held. None, and nothing changes, where all that COUNT keeps
     /// is earlier.
-    fn turn_to(&mut self, parts: &Filled, start: u64, count: u32, number: u64) -> Option<Period>
+    pub(crate) fn turn_to(
+        &mut self,
+        parts: &Filled,
+        start: u64,
+        count: u32,
+        number: u64,
+    ) -> Option<Period>
         requires interval { 1 ≤ parts.now.interval }
         requires count { 1 ≤ count }
         requires start { start < 309289708800 }
@@ -74,6 +80,7 @@ impl Cursor {
     {
         let first = period_of(parts, start);
         let last = period_of(parts, stop - 1);
+        self.pass_rounds(parts, start, count, first);
         let mut number = match &self.held {
             Some(period) => period.number,
             None => first,

@@ -149,7 +149,7 @@ pub(crate) fn open_weekdays(weekdays: &Weekdays) -> Numbers
 }
 
 /// Whether no part but BYDAY speaks of the date.
-fn names_weekdays_alone(parts: &Filled) -> bool
+pub(crate) fn names_weekdays_alone(parts: &Filled) -> bool
     ensures { result ≡ names_weekdays_alone parts.now }
 {
     parts.months.is_none()

@@ -12,6 +12,7 @@ mod laws;
 mod pass;
 mod period;
 mod places;
+mod rounds;
 mod rule;
 mod sizes;
 mod step;

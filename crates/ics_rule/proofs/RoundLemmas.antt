@@ -1,0 +1,206 @@
+-- What a rule chooses repeats after a round of periods.
+use Rattle.std.proofs.Common.{◌≡◌, ℕ, zero, suc, ◌+◌, ◌-◌, ◌*◌, ◌/◌, ◌%◌, ◌<◌, ◌≤◌, Bool, true, false, ◌&&◌, ◌||◌, ◌==◌, nat_le, refl, sym, subst, ap, ◌∙◌, arith}
+use Rattle.std.proofs.lemmas.Bool.Decides.{nat_tests}
+use Rattle.std.proofs.lemmas.Nat.{div-add-mod'}
+use Rattle.std.proofs.Math.Nat.{add-mul-mod_self_right, mul_assoc, mul_comm}
+use Rattle.jiff_core.specs.Weekday.{monday_zero}
+use Rattle.ics_values.specs.declared.frequency.Frequency.{Frequency}
+use Rattle.ics_values.specs.declared.frequency.Frequency.TheVariants.{Secondly, Minutely, Hourly, Daily, Weekly, Monthly, Yearly}
+use Rattle.ics_values.specs.declared.places.Places.{Places}
+use Rattle.ics_values.specs.Sets.{has, is_none}
+use Rattle.ics_values.specs.Places.{lists_none_wide, lists_no_weekday, numbers_of}
+use Rattle.ics_values.specs.Days.{weekday_of}
+use Rattle.ics_rule.specs.declared.filled.Filled.{Filled}
+use Rattle.ics_rule.specs.Locals.{period, day_of, hour_of, minute_of, second_of}
+use Rattle.ics_rule.specs.Candidates.{lets, lets_numbered, lets_date, lets_clock, is_stepped, period_in}
+use Rattle.ics_rule.specs.Dates.{names_weekdays_alone}
+use Rattle.ics_rule.specs.Kept.{count, is_placed, is_chosen}
+use Rattle.ics_rule.specs.Periods.{first_local}
+use Rattle.ics_rule.specs.Rounds.{seconds_of, IsRound}
+use Rattle.ics_rule.proofs.Counts.{count-same, count-add}
+use Rattle.ics_rule.proofs.PeriodLemmas.{begins}
+use Rattle.ics_rule.proofs.DateLemmas.{absent_in, weekdays_alone}
+
+-- under the frequencies whose periods last alike a weekday with a number stands for the weekday
+numbered_alike : (f : Frequency) (q : Filled) (p : Places) (d e : ℕ) → 0 < seconds_of f → lets_numbered f q p d ≡ lets_numbered f q p e
+numbered_alike Secondly q p d e h = refl
+numbered_alike Minutely q p d e h = refl
+numbered_alike Hourly q p d e h = refl
+numbered_alike Daily q p d e h = refl
+numbered_alike Weekly q p d e h = refl
+numbered_alike Monthly q p d e h = absurd (omega (arith, h))
+numbered_alike Yearly q p d e h = absurd (omega (arith, h))
+
+date_repeats : (q : Filled) (d e : ℕ) → names_weekdays_alone q ≡ true → 0 < seconds_of q.frequency → weekday_of d ≡ weekday_of e → lets_date q d ≡ lets_date q e
+date_repeats q d e alone fine same =
+    weekdays_alone q d alone
+    ∙ ap (λ x. lists_no_weekday q.weekdays || has q.weekdays.plain x || lets_numbered q.frequency q (numbers_of q.weekdays x) d) same
+    ∙ ap (λ x. lists_no_weekday q.weekdays || has q.weekdays.plain (weekday_of e) || x) (numbered_alike q.frequency q (numbers_of q.weekdays (weekday_of e)) d e fine)
+    ∙ sym (weekdays_alone q e alone)
+
+date_free : (q : Filled) (d e : ℕ) → names_weekdays_alone q ≡ true → lists_no_weekday q.weekdays ≡ true → lets_date q d ≡ lets_date q e
+date_free q d e alone none = all_in d ∙ sym (all_in e)
+  where
+    all_in : (x : ℕ) → lets_date q x ≡ true
+    all_in x = weekdays_alone q x alone ∙ in_1 (lists_no_weekday q.weekdays) (has q.weekdays.plain (weekday_of x)) (lets_numbered q.frequency q (numbers_of q.weekdays (weekday_of x)) x) none
+      where
+        in_1 : (a b c : Bool) → a ≡ true → (a || b || c) ≡ true
+        in_1 true b c h = refl
+        in_1 false b c h = absurd (cc)
+
+clock_alike : (q : Filled) (n m : ℕ) → lets q.hours (hour_of n) ≡ lets q.hours (hour_of m) → lets q.minutes (minute_of n) ≡ lets q.minutes (minute_of m) → lets q.seconds (second_of n) ≡ lets q.seconds (second_of m)
+    → lets_clock q n ≡ lets_clock q m
+clock_alike q n m h i s = ap (λ x. x && lets q.minutes (minute_of n) && lets q.seconds (second_of n)) h ∙ ap (λ x. lets q.hours (hour_of m) && x && lets q.seconds (second_of n)) i
+    ∙ ap (λ x. lets q.hours (hour_of m) && lets q.minutes (minute_of m) && x) s
+
+free : (s a b : ℕ) → is_none s ≡ true → lets s a ≡ lets s b
+free s a b h = absent_in (is_none s) (has s a) h ∙ sym (absent_in (is_none s) (has s b) h)
+
+let_in_alike : (q : Filled) (n m : ℕ) → lets_date q (day_of n) ≡ lets_date q (day_of m) → lets_clock q n ≡ lets_clock q m → (lets_date q (day_of n) && lets_clock q n) ≡ (lets_date q (day_of m) && lets_clock q m)
+let_in_alike q n m d c = ap (λ x. x && lets_clock q n) d ∙ ap (λ x. lets_date q (day_of m) && x) c
+
+module _ (q : Filled) (alone : names_weekdays_alone q ≡ true) where
+  pub repeats_weekly : 0 < seconds_of q.frequency → (n : ℕ) → (lets_date q (day_of (n + 604_800)) && lets_clock q (n + 604_800)) ≡ (lets_date q (day_of n) && lets_clock q n)
+  repeats_weekly fine n = let_in_alike q (n + 604_800) n (date_repeats q (day_of (n + 604_800)) (day_of n) alone fine (let same : ((n + 604_800) / 86_400 + 5) % 7 ≡ (n / 86_400 + 5) % 7 = omega arith in same))
+      (clock_alike q (n + 604_800) n
+      (let same : (n + 604_800) / 3_600 % 24 ≡ n / 3_600 % 24 = omega arith in ap (lets q.hours) same)
+      (let same : (n + 604_800) / 60 % 60 ≡ n / 60 % 60 = omega arith in ap (lets q.minutes) same)
+      (let same : (n + 604_800) % 60 ≡ n % 60 = omega arith in ap (lets q.seconds) same))
+
+  module _ (none : lists_no_weekday q.weekdays ≡ true) where
+    pub repeats_daily : (n : ℕ) → (lets_date q (day_of (n + 86_400)) && lets_clock q (n + 86_400)) ≡ (lets_date q (day_of n) && lets_clock q n)
+    repeats_daily n = let_in_alike q (n + 86_400) n (date_free q (day_of (n + 86_400)) (day_of n) alone none) (clock_alike q (n + 86_400) n
+        (let same : (n + 86_400) / 3_600 % 24 ≡ n / 3_600 % 24 = omega arith in ap (lets q.hours) same)
+        (let same : (n + 86_400) / 60 % 60 ≡ n / 60 % 60 = omega arith in ap (lets q.minutes) same)
+        (let same : (n + 86_400) % 60 ≡ n % 60 = omega arith in ap (lets q.seconds) same))
+
+    pub repeats_hourly : is_none q.hours ≡ true → (n : ℕ) → (lets_date q (day_of (n + 3_600)) && lets_clock q (n + 3_600)) ≡ (lets_date q (day_of n) && lets_clock q n)
+    repeats_hourly h n = let_in_alike q (n + 3_600) n (date_free q (day_of (n + 3_600)) (day_of n) alone none) (clock_alike q (n + 3_600) n
+        (free q.hours (hour_of (n + 3_600)) (hour_of n) h)
+        (let same : (n + 3_600) / 60 % 60 ≡ n / 60 % 60 = omega arith in ap (lets q.minutes) same)
+        (let same : (n + 3_600) % 60 ≡ n % 60 = omega arith in ap (lets q.seconds) same))
+
+    pub repeats_minutely : is_none q.hours ≡ true → is_none q.minutes ≡ true → (n : ℕ) → (lets_date q (day_of (n + 60)) && lets_clock q (n + 60)) ≡ (lets_date q (day_of n) && lets_clock q n)
+    repeats_minutely h i n = let_in_alike q (n + 60) n (date_free q (day_of (n + 60)) (day_of n) alone none) (clock_alike q (n + 60) n
+        (free q.hours (hour_of (n + 60)) (hour_of n) h) (free q.minutes (minute_of (n + 60)) (minute_of n) i)
+        (let same : (n + 60) % 60 ≡ n % 60 = omega arith in ap (lets q.seconds) same))
+
+    pub repeats_always : is_none q.hours ≡ true → is_none q.minutes ≡ true → is_none q.seconds ≡ true → (n : ℕ) → (lets_date q (day_of (n + 1)) && lets_clock q (n + 1)) ≡ (lets_date q (day_of n) && lets_clock q n)
+    repeats_always h i s n = let_in_alike q (n + 1) n (date_free q (day_of (n + 1)) (day_of n) alone none) (clock_alike q (n + 1) n
+        (free q.hours (hour_of (n + 1)) (hour_of n) h) (free q.minutes (minute_of (n + 1)) (minute_of n) i) (free q.seconds (second_of (n + 1)) (second_of n) s))
+
+-- periods that last alike
+unit_period : (f : Frequency) (w n j : ℕ) → 0 < seconds_of f → period f w (n + j * seconds_of f) ≡ period f w n + j
+unit_period Secondly w n j h = omega arith
+unit_period Minutely w n j h = omega arith
+unit_period Hourly w n j h = omega arith
+unit_period Daily w n j h = omega arith
+unit_period Weekly w n j h = omega arith
+unit_period Monthly w n j h = absurd (omega (arith, h))
+unit_period Yearly w n j h = absurd (omega (arith, h))
+
+unit_first : (f : Frequency) (w p j : ℕ) → 0 < seconds_of f → 2 ≤ p → first_local f w (p + j) ≡ first_local f w p + j * seconds_of f
+unit_first Secondly w p j h l = omega arith
+unit_first Minutely w p j h l = omega arith
+unit_first Hourly w p j h l = omega arith
+unit_first Daily w p j h l = omega arith
+unit_first Weekly w p j h l = omega arith
+unit_first Monthly w p j h l = absurd (omega (arith, h))
+unit_first Yearly w p j h l = absurd (omega (arith, h))
+
+-- a test that repeats after a repeats after each multiple
+repeats_often : (f : ℕ → Bool) (low a : ℕ) → ((n : ℕ) → low ≤ n → f (n + a) ≡ f n) → (j n : ℕ) → low ≤ n → f (n + j * a) ≡ f n
+repeats_often f low a on zero n l = ap f (let same : n + 0 * a ≡ n = omega arith in same)
+repeats_often f low a on (suc j) n l = ap f (let same : n + suc j * a ≡ n + j * a + a = omega arith in same) ∙ on (n + j * a) (omega (arith, l)) ∙ repeats_often f low a on j n l
+
+step_repeats : (i d first p : ℕ) → first ≤ p → is_stepped first i (p + i * d) ≡ is_stepped first i p
+step_repeats i d first p l =
+    let some : nat_le first (p + i * d) ≡ nat_le first p = yes first (p + i * d) (omega (arith, l)) ∙ sym (yes first p l) in
+    let rest : p + i * d - first ≡ p - first + d * i = (let swap = mul_comm i d in omega (arith, l, swap)) in
+    ap (λ x. x && ((p + i * d - first) % i == 0)) some ∙ ap (λ x. nat_le first p && (x % i == 0)) rest ∙ ap (λ x. nat_le first p && (x == 0)) (add-mul-mod_self_right (p - first) d i)
+  where
+    yes : (a b : ℕ) → a ≤ b → nat_le a b ≡ true
+    yes a b h = grind (arith, nat_tests)
+
+pub round_is : (q : Filled) (seconds unit : ℕ) → unit ≡ seconds_of q.frequency → 0 < unit → seconds % unit ≡ 0 → 1 ≤ seconds → 1 ≤ q.interval → lists_none_wide q.positions ≡ true
+    → ((n : ℕ) → (lets_date q (day_of (n + seconds)) && lets_clock q (n + seconds)) ≡ (lets_date q (day_of n) && lets_clock q n))
+    → IsRound q (q.interval * (seconds / unit)) (q.interval * (seconds / unit) * unit)
+round_is q seconds unit e fine whole some steps places on = record {
+  some = positive q.interval (seconds / unit) steps (let parts = div-add-mod' seconds unit in above (seconds / unit) unit seconds (omega (arith, parts, whole)) some);
+  step = step_repeats q.interval (seconds / unit);
+  period = λ n. ap (λ x. period_in q (n + q.interval * (seconds / unit) * x)) e ∙ unit_period q.frequency (monday_zero q.week_start) n (q.interval * (seconds / unit)) (subst (λ x. 0 < x) e fine);
+  first = λ p l. unit_first q.frequency (monday_zero q.week_start) p (q.interval * (seconds / unit)) (subst (λ x. 0 < x) e fine) l ∙ ap (λ x. first_local q.frequency (monday_zero q.week_start) p + q.interval * (seconds / unit) * x) (sym e);
+  let_in = λ n. ap (λ x. lets_date q (day_of (n + x)) && lets_clock q (n + x)) (mul_assoc q.interval (seconds / unit) unit ∙ ap (λ x. q.interval * x) (let parts = div-add-mod' seconds unit in let all : seconds / unit * unit ≡ seconds = omega (arith, parts, whole) in all))
+      ∙ repeats_often (λ n. lets_date q (day_of n) && lets_clock q n) 0 seconds (λ n l. on n) q.interval n (omega arith);
+  places = places;
+}
+  where
+    above : (d u s : ℕ) → d * u ≡ s → 1 ≤ s → 1 ≤ d
+    above zero u s h l = absurd (omega (arith, h, l))
+    above (suc d) u s h l = omega arith
+
+    positive : (a b : ℕ) → 1 ≤ a → 1 ≤ b → 1 ≤ a * b
+    positive (suc a) (suc b) h l = omega arith
+    positive zero b h l = absurd (omega (arith, h))
+    positive (suc a) zero h l = absurd (omega (arith, l))
+
+-- the members of whole rounds
+count_rounds : (f : ℕ → Bool) (a s : ℕ) → ((n : ℕ) → a ≤ n → f (n + s) ≡ f n) → (j : ℕ) → count (a + j * s) f ≡ count a f + j * count s (λ k. f (a + k))
+count_rounds f a s on zero = ap (λ x. count x f) (let same : a + 0 * s ≡ a = omega arith in same) ∙ omega arith
+count_rounds f a s on (suc j) =
+    let last = count-add (a + j * s) s f in
+    let all : a + suc j * s ≡ a + j * s + s = omega arith in
+    let whole = ap (λ x. count x f) all in
+    let same = count-same s (λ k. f (a + j * s + k)) (λ k. f (a + k)) (λ k l. ap f (let order : a + j * s + k ≡ a + k + j * s = omega arith in order) ∙ repeats_often f a s on j (a + k) (omega arith)) in
+    let before = count_rounds f a s on j in
+    let more : suc j * count s (λ k. f (a + k)) ≡ j * count s (λ k. f (a + k)) + count s (λ k. f (a + k)) = omega arith in
+    omega (arith, last, whole, same, before, more)
+
+module _ (q : Filled) (start periods seconds : ℕ) (round : IsRound q periods seconds) where
+  chosen_on : (n : ℕ) → period_in q start ≤ period_in q n → is_chosen q start (n + seconds) ≡ is_chosen q start n
+  chosen_on n l =
+      grouped (n + seconds)
+      ∙ ap (λ x. (is_stepped (period_in q start) q.interval x && (lets_date q (day_of (n + seconds)) && lets_clock q (n + seconds))) && is_placed q start (lists_none_wide q.positions) (n + seconds)) (round.period n)
+      ∙ ap (λ x. (x && (lets_date q (day_of (n + seconds)) && lets_clock q (n + seconds))) && is_placed q start (lists_none_wide q.positions) (n + seconds)) (round.step (period_in q start) (period_in q n) l)
+      ∙ ap (λ x. (is_stepped (period_in q start) q.interval (period_in q n) && x) && is_placed q start (lists_none_wide q.positions) (n + seconds)) (round.let_in n)
+      ∙ ap (λ x. (is_stepped (period_in q start) q.interval (period_in q n) && (lets_date q (day_of n) && lets_clock q n)) && x) (placed (n + seconds) ∙ sym (placed n))
+      ∙ sym (grouped n)
+    where
+      group : (a b c d : Bool) → (a && b && c && d) ≡ ((a && (b && c)) && d)
+      group true b c d = refl
+      group false b c d = refl
+
+      grouped : (m : ℕ) → is_chosen q start m ≡ ((is_stepped (period_in q start) q.interval (period_in q m) && (lets_date q (day_of m) && lets_clock q m)) && is_placed q start (lists_none_wide q.positions) m)
+      grouped m = group (is_stepped (period_in q start) q.interval (period_in q m)) (lets_date q (day_of m)) (lets_clock q m) (is_placed q start (lists_none_wide q.positions) m)
+
+      placed : (m : ℕ) → is_placed q start (lists_none_wide q.positions) m ≡ true
+      placed m = ap (λ b. is_placed q start b m) round.places
+
+  pub first_rounds : (j p : ℕ) → 2 ≤ p → first_local q.frequency (monday_zero q.week_start) (p + j * periods) ≡ first_local q.frequency (monday_zero q.week_start) p + j * seconds
+  first_rounds zero p l = ap (first_local q.frequency (monday_zero q.week_start)) (let same : p + 0 * periods ≡ p = omega arith in same) ∙ omega arith
+  first_rounds (suc j) p l =
+      let next : p + suc j * periods ≡ p + j * periods + periods = omega arith in
+      let more = ap (first_local q.frequency (monday_zero q.week_start)) next in
+      let one = round.first (p + j * periods) (omega (arith, l)) in
+      let before = first_rounds j p l in
+      let all : suc j * seconds ≡ j * seconds + seconds = omega arith in
+      omega (arith, more, one, before, all)
+
+  pub step_rounds : (first j p : ℕ) → first ≤ p → is_stepped first q.interval (p + j * periods) ≡ is_stepped first q.interval p
+  step_rounds first j p l = repeats_often (is_stepped first q.interval) first periods (λ n h. round.step first n h) j p l
+
+  -- what is chosen before the end of so many rounds, by the first
+  pub rounds_total : (begin rounds before one : ℕ) → 2 ≤ begin → period_in q start ≤ begin
+      → before ≡ count (first_local q.frequency (monday_zero q.week_start) begin) (is_chosen q start) → one ≡ count (first_local q.frequency (monday_zero q.week_start) (begin + periods)) (is_chosen q start)
+      → (before ≤ one) × (before + rounds * (one - before) ≡ count (first_local q.frequency (monday_zero q.week_start) (begin + rounds * periods)) (is_chosen q start))
+  rounds_total begin rounds before one l low eb eo =
+      let a = first_local q.frequency (monday_zero q.week_start) begin in
+      let on : (n : ℕ) → a ≤ n → is_chosen q start (n + seconds) ≡ is_chosen q start n = (λ n h. chosen_on n (let g = begins q.frequency (monday_zero q.week_start) begin n h in omega (arith, g, low))) in
+      let first = count_rounds (is_chosen q start) a seconds on 1 in
+      let all = count_rounds (is_chosen q start) a seconds on rounds in
+      let once : 1 * seconds ≡ seconds = omega arith in
+      let first' = ap (λ x. count x (is_chosen q start)) (round.first begin l ∙ ap (λ x. a + x) (sym once)) in
+      let all' = ap (λ x. count x (is_chosen q start)) (first_rounds rounds begin l) in
+      let b = count seconds (λ k. is_chosen q start (a + k)) in
+      let size : one - before ≡ b = omega (arith, first, first', eb, eo) in
+      (omega (arith, first, first', eb, eo), (let same = ap (λ x. rounds * x) size in omega (arith, same, all, all', eb)))

@@ -1,0 +1,115 @@
+//! Whole rounds of periods, after which what a rule chooses repeats, are counted at once.
+ghost use Rattle.std.specs.Prelude.{◌≡◌, ℕ, ◌<◌, ◌≤◌, ◌+◌, ◌*◌, ◌%◌, ◌^◌, ◌&&◌, MatchOption, Some, true};
+ghost use Rattle.ics_values.specs.Places.{lists_none_wide};
+ghost use Rattle.ics_rule.specs.Locals.{day_of};
+ghost use Rattle.ics_rule.specs.Candidates.{lets_date, lets_clock, period_in};
+ghost use Rattle.ics_rule.specs.Cursors.{IsCursorIn};
+ghost use Rattle.ics_rule.specs.Dates.{names_weekdays_alone};
+ghost use Rattle.ics_rule.specs.Rounds.{seconds_of, IsRound, IsPassedTo};
+
+use crate::cursor::Cursor;
+use crate::date::names_weekdays_alone;
+use crate::filled::Filled;
+use crate::pass::next_open_step;
+use crate::step::period_of;
+use ics_values::Frequency;
+
+/// How many seconds each period of a frequency has, or 0 where they differ.
+fn seconds_of(frequency: Frequency) -> u64
+    ensures value { result ≡ seconds_of frequency }
+    ensures bound { result ≤ 604800 }
+{
+    match frequency {
+        Frequency::Secondly => 1,
+        Frequency::Minutely => 60,
+        Frequency::Hourly => 3_600,
+        Frequency::Daily => 86_400,
+        Frequency::Weekly => 604_800,
+        Frequency::Monthly | Frequency::Yearly => 0,
+    }
+}
+
+/// After how many seconds the times and weekdays repeat that a rule lets in.
+fn repeat_seconds(parts: &Filled) -> u64
+    requires alone { names_weekdays_alone parts.now ≡ true }
+    requires fine { 0 < seconds_of parts.now.frequency }
+    ensures some { 1 ≤ result }
+    ensures bound { result ≤ 604800 }
+    ensures repeat { (n : ℕ) → (lets_date parts.now (day_of (n + result)) && lets_clock parts.now (n + result)) ≡ (lets_date parts.now (day_of n) && lets_clock parts.now n) }
+{
+    if !parts.weekdays.is_none() {
+        604_800
+    } else if !parts.hours.is_none() {
+        86_400
+    } else if !parts.minutes.is_none() {
+        3_600
+    } else if !parts.seconds.is_none() {
+        60
+    } else {
+        1
+    }
+}
+
+/// How many periods a round has, where a rule's parts speak of times and weekdays alone.
+fn round_of(parts: &Filled) -> Option<u64>
+    requires interval { 1 ≤ parts.now.interval }
+    ensures { MatchOption result (Unit {0}) (λ k. (s : ℕ) × IsRound parts.now k s) }
+{
+    let unit = seconds_of(parts.frequency);
+    if unit == 0 || !parts.positions.is_none() || !names_weekdays_alone(parts) {
+        return None;
+    }
+    let seconds = repeat_seconds(parts);
+    if seconds % unit == 0 {
+        Some(parts.interval as u64 * (seconds / unit))
+    } else {
+        None
+    }
+}
+
+impl Cursor {
+    /// Counts the first round from the period held, or from the start's, on, and looks at the last period up to the place that lies whole
+    /// rounds after it. Nothing changes, or the first round is looked at, where fewer than two are left.
+    pub(crate) fn pass_rounds(&mut self, parts: &Filled, start: u64, count: u32, first: u64)
+        requires interval { 1 ≤ parts.now.interval }
+        requires count { 1 ≤ count }
+        requires first { first ≡ period_in parts.now start }
+        requires after { start < self.old.place }
+        requires place { self.old.place < 309289708800 }
+        requires own { IsCursorIn parts.now start (Some count) self.old }
+        ensures place { self.new.place ≡ self.old.place }
+        ensures passed { IsPassedTo parts.now start count self.old self.new }
+    {
+        let place = self.place;
+        let own = period_of(parts, place);
+        let (begin, before) = match &self.held {
+            Some(period) => (period.number, self.counted),
+            None => (first, 0),
+        };
+        let ahead = own.saturating_sub(begin);
+        if begin < 2 || ahead < 2 {
+            return;
+        }
+        let Some(round) = round_of(parts) else {
+            return;
+        };
+        let rounds = ahead / round;
+        if rounds < 2 {
+            return;
+        }
+        let end = begin + round;
+        let mut number = begin;
+        while number < end {
+            let Some(_period) = self.turn_to(parts, start, count, number) else {
+                return;
+            };
+            let next = number + parts.interval as u64;
+            number = end.min(next_open_step(parts, first, next, own, place + 1));
+        }
+        let Some(_period) = self.turn_to(parts, start, count, end) else {
+            return;
+        };
+        let total = before + rounds * (self.counted - before);
+        self.look_at(parts, begin + rounds * round, total);
+    }
+}
