@@ -10,7 +10,7 @@ ghost use Rattle.ics_series.specs.Clocks.{display_clock};
 ghost use Rattle.ics_series.specs.Entry.{Entry, entry_cmp, entry_of, key_rank};
 ghost use Rattle.ics_series.specs.EntryLaws.{entry_total};
 ghost use Rattle.ics_series.specs.HeldMost.{held_most};
-ghost use Rattle.ics_series.specs.Holding.{part_holds};
+ghost use Rattle.ics_series.specs.Holding.{part_holds, part_looked};
 ghost use Rattle.ics_series.specs.Leads.{listed, past};
 ghost use Rattle.ics_series.specs.Listing.{IsIn, IsListing};
 ghost use Rattle.ics_series.specs.Meets.{IsListed, IsToCome};
@@ -87,7 +87,8 @@ impl<'a> Agenda<'a> {
     /// can meet the window to seven days past the master's first start by its rule still to come,
     /// and two for each.
     pub fn steps(&self) -> u64
-        ensures { (most : Recurring → ℕ) → ((m : Recurring) → IsIn m (recurring (⟦<Agenda<'a> as Coming>⟧.sources self.now))
+        ensures count { result ≡ min (sum_by (λ l. part_looked l.feed) self.now.merge.leads.items) (2 ^ 64 - 1) }
+        ensures most { (most : Recurring → ℕ) → ((m : Recurring) → IsIn m (recurring (⟦<Agenda<'a> as Coming>⟧.sources self.now))
             → HasStepBound m (⟦<Agenda<'a> as Coming>⟧.coming self.now) (most m))
             → result ≤ sum_by most (recurring (⟦<Agenda<'a> as Coming>⟧.sources self.now)) }
     {
