@@ -13,6 +13,7 @@
 //! - `now TIME` sets the row's clock; `usage PART of WORDS` asks whether clap's text has a part.
 //! - `cuts WORDS` runs the words over the last file, cut after each of its bytes, `pages LIMIT WORDS` page
 //!   by page, and `entries HELD LEAST MOST WORDS` bounds what their agenda holds and looks at.
+//! - `out-takes ROOM WORDS` and `err-takes ROOM WORDS` run them where that output has room for few bytes.
 //! - `lines` are those of the last file; `content LINE` and `param NAME LINE` are parts of a line.
 //! - `rule DTSTART RRULE FROM BEFORE [LEAST MOST]` lists a rule's locals, and bounds the periods that were
 //!   looked at; `admits DTSTART RRULE LOCAL` asks one, and `until DTSTART RRULE` for its last instant.
@@ -22,6 +23,7 @@
 
 mod counts;
 mod lines;
+mod narrow;
 mod requests;
 mod row;
 mod rules;

@@ -2,6 +2,7 @@
 
 use crate::counts::{entries, pages};
 use crate::lines::{lines, param, parts};
+use crate::narrow::run_narrow;
 use crate::requests::{show_request, usage_has};
 use crate::rules::{rule, rule_value};
 use crate::runs::{cuts, run_disk, run_over};
@@ -102,6 +103,8 @@ impl Row {
             "entries" => entries(rt, &self.source, rest, self.now),
             "cuts" => cuts(rt, &mut self.source, rest, self.now),
             "pages" => pages(rt, &mut self.source, rest, self.now),
+            "out-takes" => run_narrow(rt, &mut self.source, rest, self.now, false),
+            "err-takes" => run_narrow(rt, &mut self.source, rest, self.now, true),
             "lines" => lines(rt, self.last_bytes()),
             "rule" => rule(rt, rest),
             _ => rt.println(self.answer(rt.alloc(), name, rest)?),

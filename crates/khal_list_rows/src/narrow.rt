@@ -1,0 +1,68 @@
+//! Runs whose outputs take few bytes.
+
+use crate::row::shown_bytes;
+use crate::runs::request;
+use khal_list::{MemorySource, Sink, SinkFault, run};
+use std::alloc::Global;
+use std::io;
+
+/// Bytes in memory. It takes those that there is room for, and then none.
+#[derive(Drop)]
+struct Narrow {
+    bytes: Vec<u8>,
+    room: usize,
+}
+
+impl Sink for Narrow {
+    ghost use Rattle.std.specs.Prelude.{None};
+
+    ghost taken = { λ _. None };
+
+    ghost puts = { λ before bytes answer after. Unit {0} };
+
+    ghost failed = { λ _. 0 };
+
+    fn put(&mut self, bytes: &[u8]) -> Result<usize, SinkFault> {
+        let count = bytes.len().min(self.room);
+        match self.bytes.extend_from_slice(&bytes[..count]) {
+            Ok(()) => {
+                self.room -= count;
+                Ok(count)
+            }
+            Err(_) => Err(SinkFault::Memory),
+        }
+    }
+
+    fn failures(&self) -> u64 {
+        0
+    }
+}
+
+fn with_room(alloc: Global, room: usize) -> Narrow {
+    let bytes = Vec::new(alloc);
+    Narrow { bytes, room }
+}
+
+/// Runs words where standard output takes at most so many bytes, or standard error where `is_err`, and
+/// prints the status or the fault, and what each took.
+pub fn run_narrow(
+    rt: HostRuntime,
+    source: &mut MemorySource,
+    line: &str,
+    now: i64,
+    is_err: bool,
+) -> io::Result<()> {
+    let (room, words) = line.split_once(' ').unwrap_or((line, ""));
+    let Ok(request) = request(rt.alloc(), words, now) else {
+        return Ok(());
+    };
+    let room = room.parse().unwrap_or(0);
+    let mut out = with_room(rt.alloc(), if is_err { 1_000 } else { room });
+    let mut err = with_room(rt.alloc(), if is_err { room } else { 1_000 });
+    match run(rt.alloc(), source, &request, &mut out, &mut err) {
+        Ok(status) => println!(rt; "[{}]", status.code())?,
+        Err(fault) => println!(rt; "[{}]", fault.name())?,
+    }
+    println!(rt; "out: {}", shown_bytes(out.bytes.as_slice()))?;
+    println!(rt; "err: {}", shown_bytes(err.bytes.as_slice()))
+}
