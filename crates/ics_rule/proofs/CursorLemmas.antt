@@ -150,7 +150,7 @@ counted_one (suc n) test h = by_last (test n) refl (counted_one n test)
         (one.0, (omega (arith, one.1.0), one.1.1))
 
 -- where one test implies another, no more pass it
-count_within : (n : ℕ) (f g : ℕ → Bool) → ((m : ℕ) → m < n → f m ≡ true → g m ≡ true) → count n f ≤ count n g
+pub count_within : (n : ℕ) (f g : ℕ → Bool) → ((m : ℕ) → m < n → f m ≡ true → g m ≡ true) → count n f ≤ count n g
 count_within zero f g h = let e = count_most 0 f in omega (arith, e)
 count_within (suc n) f g h =
     let less = count_within n f g (λ m l. h m (omega arith)) in

@@ -23,3 +23,4 @@ pub mod IsoWeeks
 mod PassLemmas
 mod RoundLemmas
 mod PassedLemmas
+mod NeverLemmas

@@ -8,6 +8,7 @@ ghost use Rattle.ics_rule.specs.Searches.{IsNextWanted, IsWalked, LooksOrStays, 
 
 use crate::cursor::Cursor;
 use crate::filled::Filled;
+use crate::never::chooses_none;
 use crate::pass::next_open_step;
 use crate::period::Period;
 use crate::step::period_of;
@@ -78,6 +79,9 @@ impl Cursor {
         ensures place { self.new.place ≡ self.old.place }
         ensures walked { IsWalked parts.now start (Some count) stop result self.old self.new }
     {
+        if chooses_none(parts) {
+            return None;
+        }
         let first = period_of(parts, start);
         let last = period_of(parts, stop - 1);
         self.pass_rounds(parts, start, count, first);

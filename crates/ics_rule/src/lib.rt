@@ -9,6 +9,7 @@ mod fill;
 mod filled;
 mod kind;
 mod laws;
+mod never;
 mod pass;
 mod period;
 mod places;

@@ -9,6 +9,7 @@ ghost use Rattle.ics_rule.specs.Searches.{is_chosen_within, IsNextWanted, IsWalk
 
 use crate::cursor::Cursor;
 use crate::filled::Filled;
+use crate::never::chooses_none;
 use crate::pass::next_open_step;
 use crate::step::period_of;
 
@@ -65,6 +66,9 @@ impl Cursor {
         ensures place { self.new.place ≡ self.old.place }
         ensures walked { IsWalked parts.now start None stop result self.old self.new }
     {
+        if chooses_none(parts) {
+            return None;
+        }
         let first = period_of(parts, start);
         let own = period_of(parts, self.place);
         let last = period_of(parts, stop - 1);

@@ -5,6 +5,7 @@ use Rattle.ics_rule.proofs.StepLemmas.{step_on}
 use Rattle.ics_rule.proofs.CursorLemmas.{walk_reach}
 use Rattle.ics_rule.proofs.CountLemmas.{counted_small}
 use Rattle.ics_rule.proofs.CountingLemmas.{IsCounting, counting_begins, counting_ends, counting_out, counting_finds, counting_found, counting_stops, counting_stopped, counting_goes_on}
+use Rattle.ics_rule.proofs.NeverLemmas.{none_wanted, none_walked}
 use Rattle.ics_rule.proofs.cursor.Cursor.walk_counting.Goals as goal
 use Rattle.ics_rule.proofs.cursor.Cursor.walk_counting.Goals.{in-Some, in-None, After-turn_to}
 
@@ -67,3 +68,9 @@ loop-number-preserved c =
 pub returns-clause-next : goal.returns-clause-next
 returns-clause-next c = counting_ends c.args.parts.now c.args.start c.args.count c.args.stop c.loop-number.number c.args.self.now c.loop-number.self c.loop-number.invariant
     (subst (λ x. x < c.loop-number.number) c.period_of-last.ensures.value c.loop-number-test.false)
+
+pub returns-then-chooses_none-clause-next : goal.returns-then-chooses_none-clause-next
+returns-then-chooses_none-clause-next c = none_wanted c.args.parts.now c.args.start (Some c.args.count) c.args.self.now.place c.args.stop c.requires.stop (c.chooses_none.ensures c.if-chooses_none.true c.args.start)
+
+pub returns-then-chooses_none-clause-walked : goal.returns-then-chooses_none-clause-walked
+returns-then-chooses_none-clause-walked c = none_walked c.args.parts.now c.args.start (Some c.args.count) c.args.stop c.args.self.now c.requires.place c.requires.own

@@ -1,9 +1,10 @@
-use Rattle.std.proofs.Common.{◌≡◌, ◌+◌, ◌<◌, ◌≤◌, true, sym, subst, arith}
+use Rattle.std.proofs.Common.{◌≡◌, ◌+◌, ◌<◌, ◌≤◌, None, true, sym, subst, arith}
 use Rattle.ics_values.specs.Sets.{IsLeastFrom}
 use Rattle.ics_rule.specs.Candidates.{is_stepped, period_in}
 use Rattle.ics_rule.specs.Searches.{IsNextOpen}
 use Rattle.ics_rule.proofs.StepLemmas.{step_on}
 use Rattle.ics_rule.proofs.CursorLemmas.{walk_begins, walk_goes_on, walk_ends, walk_ended, walk_finds, walk_found, walk_low, walk_reach}
+use Rattle.ics_rule.proofs.NeverLemmas.{none_wanted, none_walked}
 use Rattle.ics_rule.proofs.cursor.Cursor.walk_freely.Goals as goal
 
 pub loop-number-init : goal.loop-number-init
@@ -40,3 +41,9 @@ returns-clause-next c = walk_ends c.args.parts.now c.args.start c.args.stop c.lo
 
 pub returns-clause-walked : goal.returns-clause-walked
 returns-clause-walked c = walk_ended c.args.parts.now c.args.start c.args.stop c.loop-number.number c.args.self.now c.loop-number.self c.loop-number.invariant
+
+pub returns-then-chooses_none-clause-next : goal.returns-then-chooses_none-clause-next
+returns-then-chooses_none-clause-next c = none_wanted c.args.parts.now c.args.start None c.args.self.now.place c.args.stop c.requires.stop (c.chooses_none.ensures c.if-chooses_none.true c.args.start)
+
+pub returns-then-chooses_none-clause-walked : goal.returns-then-chooses_none-clause-walked
+returns-then-chooses_none-clause-walked c = none_walked c.args.parts.now c.args.start None c.args.stop c.args.self.now c.requires.place c.requires.own
