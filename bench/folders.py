@@ -138,6 +138,18 @@ ROWS = [
     ('1,000 daily rules with COUNT', lambda: [('a.ics', recurring(1_000, '200001%02dT%02d%02d00Z',
                                                                   'FREQ=DAILY;COUNT=100000'))],
      ['2024-01-05', '1d']),
+    ('1,000 weekly rules with COUNT', lambda: [('a.ics', recurring(1_000, '200001%02dT%02d%02d00Z',
+                                                                   'FREQ=WEEKLY;BYDAY=MO,WE,FR;COUNT=100000'))],
+     ['2024-01-05', '7d']),
+    ('a secondly rule at noon', lambda: [('a.ics', recurring(1, '200001%02dT%02d%02d00Z',
+                                                             'FREQ=SECONDLY;BYHOUR=12;BYMINUTE=0;BYSECOND=0'))],
+     ['2024-01-05', '7d']),
+    ('a secondly rule that never matches', lambda: [('a.ics', recurring(1, '197001%02dT%02d%02d00Z',
+                                                                        'FREQ=SECONDLY;BYMONTH=2;BYMONTHDAY=30;COUNT=2'))],
+     ['2024-01-05', '1d']),
+    ('places that no period has', lambda: [('a.ics', recurring(1, '192801%02dT%02d%02d00Z',
+                                                               'FREQ=HOURLY;BYSETPOS=2;COUNT=2'))],
+     ['2024-01-05', '1d']),
 ]
 
 
