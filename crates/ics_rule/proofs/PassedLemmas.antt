@@ -145,10 +145,10 @@ pub record IsRoundsEnd (q : Filled) (start begin round rounds before one : ℕ) 
   pub later : begin + round < begin + rounds * round
 
 pub rounds_end : (q : Filled) (start begin round seconds rounds before one : ℕ) → IsRound q round seconds → IsRoundsBegin q start begin before → 2 ≤ begin → 2 ≤ rounds
-    → one ≡ count (first_local q.frequency (monday_zero q.week_start) (begin + round)) (is_chosen q start) → IsRoundsEnd q start begin round rounds before one
-rounds_end q start begin round seconds rounds before one is from low some e =
+    → first_local q.frequency (monday_zero q.week_start) (begin + rounds * round) ≤ 309_289_708_800 → one ≡ count (first_local q.frequency (monday_zero q.week_start) (begin + round)) (is_chosen q start) → IsRoundsEnd q start begin round rounds before one
+rounds_end q start begin round seconds rounds before one is from low some high e =
     let first = (stepped_parts (period_in q start) q.interval begin from.step).0 in
-    let counts = rounds_total q start round seconds is begin rounds before one low first from.total e in
+    let counts = rounds_total q start round seconds is begin rounds before one low first (omega (arith, some)) high from.total e in
     record {
       first = is.step (period_in q start) begin first ∙ from.step;
       step = step_rounds q start round seconds is (period_in q start) rounds begin first ∙ from.step;

@@ -2,7 +2,7 @@
 use Rattle.std.proofs.Common.{◌≡◌, ℕ, zero, suc, ◌+◌, ◌-◌, ◌*◌, ◌/◌, ◌%◌, ◌<◌, ◌≤◌, Bool, true, false, ◌&&◌, ◌||◌, ◌==◌, nat_le, refl, sym, subst, ap, ◌∙◌, arith}
 use Rattle.std.proofs.lemmas.Bool.Decides.{nat_tests}
 use Rattle.std.proofs.lemmas.Nat.{div-add-mod'}
-use Rattle.std.proofs.Math.Nat.{add-mul-mod_self_right, mul_assoc, mul_comm}
+use Rattle.std.proofs.Math.Nat.{add-mul-mod_self_right, mul_assoc, mul_comm, mul-le-mul_right}
 use Rattle.jiff_core.specs.Weekday.{monday_zero}
 use Rattle.ics_values.specs.declared.frequency.Frequency.{Frequency}
 use Rattle.ics_values.specs.declared.frequency.Frequency.TheVariants.{Secondly, Minutely, Hourly, Daily, Weekly, Monthly, Yearly}
@@ -11,14 +11,15 @@ use Rattle.ics_values.specs.Sets.{has, is_none}
 use Rattle.ics_values.specs.Places.{lists_none_wide, lists_no_weekday, numbers_of}
 use Rattle.ics_values.specs.Days.{weekday_of}
 use Rattle.ics_rule.specs.declared.filled.Filled.{Filled}
-use Rattle.ics_rule.specs.Locals.{period, day_of, hour_of, minute_of, second_of}
-use Rattle.ics_rule.specs.Candidates.{lets, lets_numbered, lets_date, lets_clock, is_stepped, period_in}
+use Rattle.ics_rule.specs.Locals.{period, calendar_end, day_of, hour_of, minute_of, second_of}
+use Rattle.ics_rule.specs.Candidates.{lets, lets_numbered, lets_date, lets_clock, lists_wide, is_stepped, is_candidate_in, period_in}
 use Rattle.ics_rule.specs.Dates.{names_weekdays_alone}
-use Rattle.ics_rule.specs.Kept.{count, is_placed, is_chosen}
+use Rattle.ics_rule.specs.Kept.{count, is_beside, rank, size, is_placed, is_chosen}
 use Rattle.ics_rule.specs.Periods.{first_local}
 use Rattle.ics_rule.specs.Rounds.{seconds_of, IsRound}
-use Rattle.ics_rule.proofs.Counts.{count-same, count-add}
-use Rattle.ics_rule.proofs.PeriodLemmas.{begins}
+use Rattle.ics_rule.proofs.Counts.{count-same, count-add, count-from}
+use Rattle.ics_rule.proofs.RankLemmas.{count_flat}
+use Rattle.ics_rule.proofs.PeriodLemmas.{begun, begins, is_short}
 use Rattle.ics_rule.proofs.DateLemmas.{absent_in, weekdays_alone}
 
 -- under the frequencies whose periods last alike a weekday with a number stands for the weekday
@@ -122,17 +123,16 @@ step_repeats i d first p l =
     yes : (a b : ℕ) → a ≤ b → nat_le a b ≡ true
     yes a b h = grind (arith, nat_tests)
 
-pub round_is : (q : Filled) (seconds unit : ℕ) → unit ≡ seconds_of q.frequency → 0 < unit → seconds % unit ≡ 0 → 1 ≤ seconds → 1 ≤ q.interval → lists_none_wide q.positions ≡ true
+pub round_is : (q : Filled) (seconds unit : ℕ) → unit ≡ seconds_of q.frequency → 0 < unit → seconds % unit ≡ 0 → 1 ≤ seconds → 1 ≤ q.interval
     → ((n : ℕ) → (lets_date q (day_of (n + seconds)) && lets_clock q (n + seconds)) ≡ (lets_date q (day_of n) && lets_clock q n))
     → IsRound q (q.interval * (seconds / unit)) (q.interval * (seconds / unit) * unit)
-round_is q seconds unit e fine whole some steps places on = record {
+round_is q seconds unit e fine whole some steps on = record {
   some = positive q.interval (seconds / unit) steps (let parts = div-add-mod' seconds unit in above (seconds / unit) unit seconds (omega (arith, parts, whole)) some);
   step = step_repeats q.interval (seconds / unit);
   period = λ n. ap (λ x. period_in q (n + q.interval * (seconds / unit) * x)) e ∙ unit_period q.frequency (monday_zero q.week_start) n (q.interval * (seconds / unit)) (subst (λ x. 0 < x) e fine);
   first = λ p l. unit_first q.frequency (monday_zero q.week_start) p (q.interval * (seconds / unit)) (subst (λ x. 0 < x) e fine) l ∙ ap (λ x. first_local q.frequency (monday_zero q.week_start) p + q.interval * (seconds / unit) * x) (sym e);
   let_in = λ n. ap (λ x. lets_date q (day_of (n + x)) && lets_clock q (n + x)) (mul_assoc q.interval (seconds / unit) unit ∙ ap (λ x. q.interval * x) (let parts = div-add-mod' seconds unit in let all : seconds / unit * unit ≡ seconds = omega (arith, parts, whole) in all))
       ∙ repeats_often (λ n. lets_date q (day_of n) && lets_clock q n) 0 seconds (λ n l. on n) q.interval n (omega arith);
-  places = places;
 }
   where
     above : (d u s : ℕ) → d * u ≡ s → 1 ≤ s → 1 ≤ d
@@ -144,37 +144,117 @@ round_is q seconds unit e fine whole some steps places on = record {
     positive zero b h l = absurd (omega (arith, h))
     positive (suc a) zero h l = absurd (omega (arith, l))
 
+-- the same below a bound
+repeats_below : (f : ℕ → Bool) (low a top : ℕ) → ((n : ℕ) → low ≤ n → n + a < top → f (n + a) ≡ f n) → (j n : ℕ) → low ≤ n → n + j * a < top → f (n + j * a) ≡ f n
+repeats_below f low a top on zero n l h = ap f (let same : n + 0 * a ≡ n = omega arith in same)
+repeats_below f low a top on (suc j) n l h =
+    let next : n + suc j * a ≡ n + j * a + a = omega arith in
+    ap f next ∙ on (n + j * a) (omega (arith, l)) (omega (arith, h, next)) ∙ repeats_below f low a top on j n l (omega (arith, h, next))
+
 -- the members of whole rounds
-count_rounds : (f : ℕ → Bool) (a s : ℕ) → ((n : ℕ) → a ≤ n → f (n + s) ≡ f n) → (j : ℕ) → count (a + j * s) f ≡ count a f + j * count s (λ k. f (a + k))
-count_rounds f a s on zero = ap (λ x. count x f) (let same : a + 0 * s ≡ a = omega arith in same) ∙ omega arith
-count_rounds f a s on (suc j) =
+count_rounds : (f : ℕ → Bool) (a s top : ℕ) → ((n : ℕ) → a ≤ n → n + s < top → f (n + s) ≡ f n) → (j : ℕ) → a + j * s ≤ top → count (a + j * s) f ≡ count a f + j * count s (λ k. f (a + k))
+count_rounds f a s top on zero h = ap (λ x. count x f) (let same : a + 0 * s ≡ a = omega arith in same) ∙ omega arith
+count_rounds f a s top on (suc j) h =
     let last = count-add (a + j * s) s f in
     let all : a + suc j * s ≡ a + j * s + s = omega arith in
     let whole = ap (λ x. count x f) all in
-    let same = count-same s (λ k. f (a + j * s + k)) (λ k. f (a + k)) (λ k l. ap f (let order : a + j * s + k ≡ a + k + j * s = omega arith in order) ∙ repeats_often f a s on j (a + k) (omega arith)) in
-    let before = count_rounds f a s on j in
+    let same = count-same s (λ k. f (a + j * s + k)) (λ k. f (a + k)) (λ k l.
+    let order : a + j * s + k ≡ a + k + j * s = omega arith in ap f order ∙ repeats_below f a s top on j (a + k) (omega arith) (omega (arith, h, all, l))) in
+    let before = count_rounds f a s top on j (omega (arith, h, all)) in
     let more : suc j * count s (λ k. f (a + k)) ≡ j * count s (λ k. f (a + k)) + count s (λ k. f (a + k)) = omega arith in
     omega (arith, last, whole, same, before, more)
 
+shift_test : (a b k : ℕ) → (a + k == b + k) ≡ (a == b)
+shift_test a b k = grind (arith, nat_tests)
+
+same_fact : (a b : ℕ) → (a == b) ≡ true → a ≡ b
+same_fact a b h = grind (arith, nat_tests)
+
+and_false : (b : Bool) → (b && false) ≡ false
+and_false true = refl
+and_false false = refl
+
+not_true : (b : Bool) → (b ≡ true → ⊥) → b ≡ false
+not_true true never = absurd (never refl)
+not_true false never = refl
+
+last_part : (a b : Bool) → (a && b) ≡ true → b ≡ true
+last_part true b h = h
+last_part false b h = absurd (cc)
+
 module _ (q : Filled) (start periods seconds : ℕ) (round : IsRound q periods seconds) where
-  chosen_on : (n : ℕ) → period_in q start ≤ period_in q n → is_chosen q start (n + seconds) ≡ is_chosen q start n
-  chosen_on n l =
+  candidate_on : (n : ℕ) → period_in q start ≤ period_in q n → is_candidate_in q start (n + seconds) ≡ is_candidate_in q start n
+  candidate_on n l =
       grouped (n + seconds)
-      ∙ ap (λ x. (is_stepped (period_in q start) q.interval x && (lets_date q (day_of (n + seconds)) && lets_clock q (n + seconds))) && is_placed q start (lists_none_wide q.positions) (n + seconds)) (round.period n)
-      ∙ ap (λ x. (x && (lets_date q (day_of (n + seconds)) && lets_clock q (n + seconds))) && is_placed q start (lists_none_wide q.positions) (n + seconds)) (round.step (period_in q start) (period_in q n) l)
-      ∙ ap (λ x. (is_stepped (period_in q start) q.interval (period_in q n) && x) && is_placed q start (lists_none_wide q.positions) (n + seconds)) (round.let_in n)
-      ∙ ap (λ x. (is_stepped (period_in q start) q.interval (period_in q n) && (lets_date q (day_of n) && lets_clock q n)) && x) (placed (n + seconds) ∙ sym (placed n))
+      ∙ ap (λ x. is_stepped (period_in q start) q.interval x && (lets_date q (day_of (n + seconds)) && lets_clock q (n + seconds))) (round.period n)
+      ∙ ap (λ x. x && (lets_date q (day_of (n + seconds)) && lets_clock q (n + seconds))) (round.step (period_in q start) (period_in q n) l)
+      ∙ ap (λ x. is_stepped (period_in q start) q.interval (period_in q n) && x) (round.let_in n)
       ∙ sym (grouped n)
     where
-      group : (a b c d : Bool) → (a && b && c && d) ≡ ((a && (b && c)) && d)
-      group true b c d = refl
-      group false b c d = refl
+      group : (a b c : Bool) → (a && b && c) ≡ (a && (b && c))
+      group true b c = refl
+      group false b c = refl
 
-      grouped : (m : ℕ) → is_chosen q start m ≡ ((is_stepped (period_in q start) q.interval (period_in q m) && (lets_date q (day_of m) && lets_clock q m)) && is_placed q start (lists_none_wide q.positions) m)
-      grouped m = group (is_stepped (period_in q start) q.interval (period_in q m)) (lets_date q (day_of m)) (lets_clock q m) (is_placed q start (lists_none_wide q.positions) m)
+      grouped : (m : ℕ) → is_candidate_in q start m ≡ (is_stepped (period_in q start) q.interval (period_in q m) && (lets_date q (day_of m) && lets_clock q m))
+      grouped m = group (is_stepped (period_in q start) q.interval (period_in q m)) (lets_date q (day_of m)) (lets_clock q m)
 
-      placed : (m : ℕ) → is_placed q start (lists_none_wide q.positions) m ≡ true
-      placed m = ap (λ b. is_placed q start b m) round.places
+  -- what stands beside a local, a round later
+  beside_on : (n m : ℕ) → period_in q start ≤ period_in q n → is_beside q start (n + seconds) (m + seconds) ≡ is_beside q start n m
+  beside_on n m l =
+      ap (λ x. is_candidate_in q start (m + seconds) && x == period_in q (n + seconds)) (round.period m)
+      ∙ ap (λ x. is_candidate_in q start (m + seconds) && period_in q m + periods == x) (round.period n)
+      ∙ ap (λ x. is_candidate_in q start (m + seconds) && x) (shift_test (period_in q m) (period_in q n) periods)
+      ∙ by_period (period_in q m == period_in q n) refl
+    where
+      by_period : (b : Bool) → (period_in q m == period_in q n) ≡ b → (is_candidate_in q start (m + seconds) && period_in q m == period_in q n) ≡ (is_candidate_in q start m && period_in q m == period_in q n)
+      by_period true e = ap (λ x. x && period_in q m == period_in q n) (candidate_on m (let same = same_fact (period_in q m) (period_in q n) e in omega (arith, same, l)))
+      by_period false e = ap (λ x. is_candidate_in q start (m + seconds) && x) e ∙ and_false (is_candidate_in q start (m + seconds)) ∙ sym (ap (λ x. is_candidate_in q start m && x) e ∙ and_false (is_candidate_in q start m))
+
+  beside_later : (n k : ℕ) → period_in q start ≤ period_in q n → is_beside q start (n + seconds) (seconds + k) ≡ is_beside q start n k
+  beside_later n k l = ap (is_beside q start (n + seconds)) (let order : seconds + k ≡ k + seconds = omega arith in order) ∙ beside_on n k l
+
+  beside_period : (n m : ℕ) → is_beside q start n m ≡ true → period_in q m ≡ period_in q n
+  beside_period n m h = same_fact (period_in q m) (period_in q n) (last_part (is_candidate_in q start m) (period_in q m == period_in q n) h)
+
+  -- no local of the first round lies beside it
+  none_earlier : (n m : ℕ) → 2 ≤ period_in q n → m < seconds → is_beside q start (n + seconds) m ≡ false
+  none_earlier n m l h = not_true (is_beside q start (n + seconds) m) (λ here.
+      let same = beside_period (n + seconds) m here in
+      let later = round.period n in
+      let first = round.first (period_in q n) l in
+      let low = begun q.frequency (monday_zero q.week_start) (period_in q n + periods) m (omega (arith, same, later)) in
+      omega (arith, first, low, h))
+
+  rank_on : (n : ℕ) → period_in q start ≤ period_in q n → 2 ≤ period_in q n → rank q start (n + seconds) ≡ rank q start n
+  rank_on n l some =
+      let whole : suc (n + seconds) ≡ seconds + suc n = omega arith in
+      ap (λ x. count x (is_beside q start (n + seconds))) whole
+      ∙ count-from seconds (suc n) (is_beside q start (n + seconds)) (λ m h. none_earlier n m some h)
+      ∙ count-same (suc n) (λ k. is_beside q start (n + seconds) (seconds + k)) (is_beside q start n) (λ k h. beside_later n k l)
+
+  size_on : (n : ℕ) → period_in q start ≤ period_in q n → 2 ≤ period_in q n → n + seconds < 309_289_708_800 → size q start (n + seconds) ≡ size q start n
+  size_on n l some inside =
+      let whole : calendar_end ≡ seconds + (calendar_end - seconds) = omega (arith, inside) in
+      ap (λ x. count x (is_beside q start (n + seconds))) whole
+      ∙ count-from seconds (calendar_end - seconds) (is_beside q start (n + seconds)) (λ m h. none_earlier n m some h)
+      ∙ count-same (calendar_end - seconds) (λ k. is_beside q start (n + seconds) (seconds + k)) (is_beside q start n) (λ k h. beside_later n k l)
+      ∙ sym (count_flat (calendar_end - seconds) calendar_end (is_beside q start n) (omega arith) (λ m h u. not_true (is_beside q start n m) (λ here.
+      let same = beside_period n m here in
+      let one = round.period n in
+      let other = round.period m in
+      let low = begun q.frequency (monday_zero q.week_start) (period_in q (n + seconds)) (n + seconds) (omega arith) in
+      let short = is_short q.frequency (monday_zero q.week_start) (period_in q (n + seconds)) in
+      let far = begins q.frequency (monday_zero q.week_start) (suc (period_in q (n + seconds))) (m + seconds) (omega (arith, low, short, inside, h)) in
+      omega (arith, same, one, other, far))))
+
+  chosen_on : (n : ℕ) → period_in q start ≤ period_in q n → 2 ≤ period_in q n → n + seconds < 309_289_708_800 → is_chosen q start (n + seconds) ≡ is_chosen q start n
+  chosen_on n l some inside =
+      ap (λ x. x && is_placed q start (lists_none_wide q.positions) (n + seconds)) (candidate_on n l)
+      ∙ ap (λ x. is_candidate_in q start n && x) (placed_on (lists_none_wide q.positions))
+    where
+      placed_on : (b : Bool) → is_placed q start b (n + seconds) ≡ is_placed q start b n
+      placed_on true = refl
+      placed_on false = ap (λ x. lists_wide q.positions x (size q start (n + seconds))) (rank_on n l some) ∙ ap (λ x. lists_wide q.positions (rank q start n) x) (size_on n l some inside)
 
   pub first_rounds : (j p : ℕ) → 2 ≤ p → first_local q.frequency (monday_zero q.week_start) (p + j * periods) ≡ first_local q.frequency (monday_zero q.week_start) p + j * seconds
   first_rounds zero p l = ap (first_local q.frequency (monday_zero q.week_start)) (let same : p + 0 * periods ≡ p = omega arith in same) ∙ omega arith
@@ -190,17 +270,19 @@ module _ (q : Filled) (start periods seconds : ℕ) (round : IsRound q periods s
   step_rounds first j p l = repeats_often (is_stepped first q.interval) first periods (λ n h. round.step first n h) j p l
 
   -- what is chosen before the end of so many rounds, by the first
-  pub rounds_total : (begin rounds before one : ℕ) → 2 ≤ begin → period_in q start ≤ begin
+  pub rounds_total : (begin rounds before one : ℕ) → 2 ≤ begin → period_in q start ≤ begin → 1 ≤ rounds → first_local q.frequency (monday_zero q.week_start) (begin + rounds * periods) ≤ 309_289_708_800
       → before ≡ count (first_local q.frequency (monday_zero q.week_start) begin) (is_chosen q start) → one ≡ count (first_local q.frequency (monday_zero q.week_start) (begin + periods)) (is_chosen q start)
       → (before ≤ one) × (before + rounds * (one - before) ≡ count (first_local q.frequency (monday_zero q.week_start) (begin + rounds * periods)) (is_chosen q start))
-  rounds_total begin rounds before one l low eb eo =
+  rounds_total begin rounds before one l low some high eb eo =
       let a = first_local q.frequency (monday_zero q.week_start) begin in
-      let on : (n : ℕ) → a ≤ n → is_chosen q start (n + seconds) ≡ is_chosen q start n = (λ n h. chosen_on n (let g = begins q.frequency (monday_zero q.week_start) begin n h in omega (arith, g, low))) in
-      let first = count_rounds (is_chosen q start) a seconds on 1 in
-      let all = count_rounds (is_chosen q start) a seconds on rounds in
+      let on : (n : ℕ) → a ≤ n → n + seconds < 309_289_708_800 → is_chosen q start (n + seconds) ≡ is_chosen q start n = (λ n h u. let g = begins q.frequency (monday_zero q.week_start) begin n h in chosen_on n (omega (arith, g, low)) (omega (arith, g, l)) u) in
+      let end = first_rounds rounds begin l in
       let once : 1 * seconds ≡ seconds = omega arith in
+      let up = mul-le-mul_right {m = 1} {n = rounds} seconds some in
+      let first = count_rounds (is_chosen q start) a seconds 309_289_708_800 on 1 (omega (arith, end, up, high)) in
+      let all = count_rounds (is_chosen q start) a seconds 309_289_708_800 on rounds (omega (arith, end, high)) in
       let first' = ap (λ x. count x (is_chosen q start)) (round.first begin l ∙ ap (λ x. a + x) (sym once)) in
-      let all' = ap (λ x. count x (is_chosen q start)) (first_rounds rounds begin l) in
+      let all' = ap (λ x. count x (is_chosen q start)) end in
       let b = count seconds (λ k. is_chosen q start (a + k)) in
       let size : one - before ≡ b = omega (arith, first, first', eb, eo) in
       (omega (arith, first, first', eb, eo), (let same = ap (λ x. rounds * x) size in omega (arith, same, all, all', eb)))

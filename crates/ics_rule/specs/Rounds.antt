@@ -1,9 +1,8 @@
 -- Rounds of periods, after which what a rule chooses repeats.
-use Rattle.std.specs.Prelude.{◌≡◌, ℕ, ◌+◌, ◌<◌, ◌≤◌, ◌&&◌, Some, true}
+use Rattle.std.specs.Prelude.{◌≡◌, ℕ, ◌+◌, ◌<◌, ◌≤◌, ◌&&◌, Some}
 use Rattle.jiff_core.specs.Weekday.{monday_zero}
 use Rattle.ics_values.specs.declared.frequency.Frequency.{Frequency}
 use Rattle.ics_values.specs.declared.frequency.Frequency.TheVariants.{Secondly, Minutely, Hourly, Daily, Weekly, Monthly, Yearly}
-use Rattle.ics_values.specs.Places.{lists_none_wide}
 use Rattle.ics_rule.specs.declared.filled.Filled.{Filled}
 use Rattle.ics_rule.specs.declared.cursor.Cursor.{Cursor}
 use Rattle.ics_rule.specs.Locals.{day_of}
@@ -23,14 +22,13 @@ seconds_of Weekly = 604_800
 seconds_of Monthly = 0
 seconds_of Yearly = 0
 
--- so many periods last so many seconds, and what the rule lets in repeats after them; each place will do
+-- so many periods last so many seconds, and what the rule lets in repeats after them
 pub record IsRound (q : Filled) (periods seconds : ℕ) : Type 0 where
   pub some : 1 ≤ periods
   pub step : (first p : ℕ) → first ≤ p → is_stepped first q.interval (p + periods) ≡ is_stepped first q.interval p
   pub period : (n : ℕ) → period_in q (n + seconds) ≡ period_in q n + periods
   pub first : (p : ℕ) → 2 ≤ p → first_local q.frequency (monday_zero q.week_start) (p + periods) ≡ first_local q.frequency (monday_zero q.week_start) p + seconds
   pub let_in : (n : ℕ) → (lets_date q (day_of (n + seconds)) && lets_clock q (n + seconds)) ≡ (lets_date q (day_of n) && lets_clock q n)
-  pub places : lists_none_wide q.positions ≡ true
 
 -- what looks up to its place leave of a cursor under COUNT c
 pub record IsPassedTo (q : Filled) (start c : ℕ) (before now : Cursor) : Type 0 where

@@ -1,6 +1,5 @@
 //! Whole rounds of periods, after which what a rule chooses repeats, are counted at once.
 ghost use Rattle.std.specs.Prelude.{◌≡◌, ℕ, ◌<◌, ◌≤◌, ◌+◌, ◌*◌, ◌%◌, ◌^◌, ◌&&◌, MatchOption, Some, true};
-ghost use Rattle.ics_values.specs.Places.{lists_none_wide};
 ghost use Rattle.ics_rule.specs.Locals.{day_of};
 ghost use Rattle.ics_rule.specs.Candidates.{lets_date, lets_clock, period_in};
 ghost use Rattle.ics_rule.specs.Cursors.{IsCursorIn};
@@ -56,7 +55,7 @@ fn round_of(parts: &Filled) -> Option<u64>
     ensures { MatchOption result (Unit {0}) (λ k. (s : ℕ) × IsRound parts.now k s) }
 {
     let unit = seconds_of(parts.frequency);
-    if unit == 0 || !parts.positions.is_none() || !names_weekdays_alone(parts) {
+    if unit == 0 || !names_weekdays_alone(parts) {
         return None;
     }
     let seconds = repeat_seconds(parts);

@@ -1,4 +1,4 @@
-use Rattle.std.proofs.Common.{◌∙◌, ◌*◌, ◌/◌, sym, arith}
+use Rattle.std.proofs.Common.{◌*◌, ◌/◌, arith}
 use Rattle.ics_rule.proofs.RoundLemmas.{round_is}
 use Rattle.ics_rule.proofs.rounds.round_of.Goals as goal
 
@@ -6,5 +6,5 @@ pub returns-then-seconds-unit-eq0 : goal.returns-then-seconds-unit-eq0
 returns-then-seconds-unit-eq0 c = (
   c.args.parts.now.interval * (c.repeat_seconds-seconds.result / c.seconds_of-unit.result) * c.seconds_of-unit.result,
   round_is c.args.parts.now c.repeat_seconds-seconds.result c.seconds_of-unit.result c.seconds_of-unit.ensures.value (omega (arith, c.if-unit-eq0.false)) c.if-seconds-unit-eq0.true c.repeat_seconds-seconds.ensures.some c.requires.interval
-      (sym c.is_none.ensures ∙ c.if-not-is_none.false) c.repeat_seconds-seconds.ensures.repeat,
+      c.repeat_seconds-seconds.ensures.repeat,
 )

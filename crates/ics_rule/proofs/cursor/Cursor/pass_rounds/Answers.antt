@@ -76,14 +76,14 @@ pub overflow_sub-total : goal.overflow_sub-total
 overflow_sub-total c =
     let turned = c.in-Some-turn_to-2.ensures.turned in
     let ends = rounds_end c.args.parts.now c.args.start c.match-self.begin.0 c.in-Some-round_of.round c.in-Some-round_of.ensures.0 (c.saturating_sub-ahead.result / c.in-Some-round_of.round) c.match-self.begin.1 c.turn_to-2.new.self.counted c.in-Some-round_of.ensures.1 c.loop-number.invariant.from
-    c.if-begin-lt2.false c.if-rounds-lt2.false (turned.counted.total ∙ ap (λ x. count (first_local c.args.parts.now.frequency (monday_zero c.args.parts.now.week_start) x) (is_chosen c.args.parts.now c.args.start)) turned.number) in
+    c.if-begin-lt2.false c.if-rounds-lt2.false (let r = begun c.args.parts.now.frequency (monday_zero c.args.parts.now.week_start) (c.match-self.begin.0 + c.saturating_sub-ahead.result / c.in-Some-round_of.round * c.in-Some-round_of.round) c.args.self.now.place (let t = target_in c.period_of-own.result c.match-self.begin.0 c.saturating_sub-ahead.result c.in-Some-round_of.round c.saturating_sub-ahead.ensures c.if-ahead-lt2.false in omega (arith, t, c.period_of-own.ensures.value)) in omega (arith, r, c.requires.place)) (turned.counted.total ∙ ap (λ x. count (first_local c.args.parts.now.frequency (monday_zero c.args.parts.now.week_start) x) (is_chosen c.args.parts.now c.args.start)) turned.number) in
     ends.more
 
 pub overflow_mul-total : goal.overflow_mul-total
 overflow_mul-total c =
     let turned = c.in-Some-turn_to-2.ensures.turned in
     let ends = rounds_end c.args.parts.now c.args.start c.match-self.begin.0 c.in-Some-round_of.round c.in-Some-round_of.ensures.0 (c.saturating_sub-ahead.result / c.in-Some-round_of.round) c.match-self.begin.1 c.turn_to-2.new.self.counted c.in-Some-round_of.ensures.1 c.loop-number.invariant.from
-    c.if-begin-lt2.false c.if-rounds-lt2.false (turned.counted.total ∙ ap (λ x. count (first_local c.args.parts.now.frequency (monday_zero c.args.parts.now.week_start) x) (is_chosen c.args.parts.now c.args.start)) turned.number) in
+    c.if-begin-lt2.false c.if-rounds-lt2.false (let r = begun c.args.parts.now.frequency (monday_zero c.args.parts.now.week_start) (c.match-self.begin.0 + c.saturating_sub-ahead.result / c.in-Some-round_of.round * c.in-Some-round_of.round) c.args.self.now.place (let t = target_in c.period_of-own.result c.match-self.begin.0 c.saturating_sub-ahead.result c.in-Some-round_of.round c.saturating_sub-ahead.ensures c.if-ahead-lt2.false in omega (arith, t, c.period_of-own.ensures.value)) in omega (arith, r, c.requires.place)) (turned.counted.total ∙ ap (λ x. count (first_local c.args.parts.now.frequency (monday_zero c.args.parts.now.week_start) x) (is_chosen c.args.parts.now c.args.start)) turned.number) in
     let small = total_small c.args.parts.now c.args.start (c.match-self.begin.0 + c.saturating_sub-ahead.result / c.in-Some-round_of.round * c.in-Some-round_of.round) c.args.self.now.place (c.match-self.begin.1 + (c.saturating_sub-ahead.result / c.in-Some-round_of.round) * (c.turn_to-2.new.self.counted - c.match-self.begin.1)) (let t = target_in c.period_of-own.result c.match-self.begin.0 c.saturating_sub-ahead.result c.in-Some-round_of.round c.saturating_sub-ahead.ensures c.if-ahead-lt2.false in omega (arith, t, c.period_of-own.ensures.value)) ends.total in
     omega (arith, small, c.requires.place)
 
@@ -91,7 +91,7 @@ pub overflow_add-total : goal.overflow_add-total
 overflow_add-total c =
     let turned = c.in-Some-turn_to-2.ensures.turned in
     let ends = rounds_end c.args.parts.now c.args.start c.match-self.begin.0 c.in-Some-round_of.round c.in-Some-round_of.ensures.0 (c.saturating_sub-ahead.result / c.in-Some-round_of.round) c.match-self.begin.1 c.turn_to-2.new.self.counted c.in-Some-round_of.ensures.1 c.loop-number.invariant.from
-    c.if-begin-lt2.false c.if-rounds-lt2.false (turned.counted.total ∙ ap (λ x. count (first_local c.args.parts.now.frequency (monday_zero c.args.parts.now.week_start) x) (is_chosen c.args.parts.now c.args.start)) turned.number) in
+    c.if-begin-lt2.false c.if-rounds-lt2.false (let r = begun c.args.parts.now.frequency (monday_zero c.args.parts.now.week_start) (c.match-self.begin.0 + c.saturating_sub-ahead.result / c.in-Some-round_of.round * c.in-Some-round_of.round) c.args.self.now.place (let t = target_in c.period_of-own.result c.match-self.begin.0 c.saturating_sub-ahead.result c.in-Some-round_of.round c.saturating_sub-ahead.ensures c.if-ahead-lt2.false in omega (arith, t, c.period_of-own.ensures.value)) in omega (arith, r, c.requires.place)) (turned.counted.total ∙ ap (λ x. count (first_local c.args.parts.now.frequency (monday_zero c.args.parts.now.week_start) x) (is_chosen c.args.parts.now c.args.start)) turned.number) in
     let small = total_small c.args.parts.now c.args.start (c.match-self.begin.0 + c.saturating_sub-ahead.result / c.in-Some-round_of.round * c.in-Some-round_of.round) c.args.self.now.place (c.match-self.begin.1 + (c.saturating_sub-ahead.result / c.in-Some-round_of.round) * (c.turn_to-2.new.self.counted - c.match-self.begin.1)) (let t = target_in c.period_of-own.result c.match-self.begin.0 c.saturating_sub-ahead.result c.in-Some-round_of.round c.saturating_sub-ahead.ensures c.if-ahead-lt2.false in omega (arith, t, c.period_of-own.ensures.value)) ends.total in
     omega (arith, small, c.requires.place)
 
@@ -99,7 +99,7 @@ pub look_at-requires-clause-low : goal.look_at-requires-clause-low
 look_at-requires-clause-low c =
     let turned = c.in-Some-turn_to-2.ensures.turned in
     let ends = rounds_end c.args.parts.now c.args.start c.match-self.begin.0 c.in-Some-round_of.round c.in-Some-round_of.ensures.0 (c.saturating_sub-ahead.result / c.in-Some-round_of.round) c.match-self.begin.1 c.turn_to-2.new.self.counted c.in-Some-round_of.ensures.1 c.loop-number.invariant.from
-    c.if-begin-lt2.false c.if-rounds-lt2.false (turned.counted.total ∙ ap (λ x. count (first_local c.args.parts.now.frequency (monday_zero c.args.parts.now.week_start) x) (is_chosen c.args.parts.now c.args.start)) turned.number) in
+    c.if-begin-lt2.false c.if-rounds-lt2.false (let r = begun c.args.parts.now.frequency (monday_zero c.args.parts.now.week_start) (c.match-self.begin.0 + c.saturating_sub-ahead.result / c.in-Some-round_of.round * c.in-Some-round_of.round) c.args.self.now.place (let t = target_in c.period_of-own.result c.match-self.begin.0 c.saturating_sub-ahead.result c.in-Some-round_of.round c.saturating_sub-ahead.ensures c.if-ahead-lt2.false in omega (arith, t, c.period_of-own.ensures.value)) in omega (arith, r, c.requires.place)) (turned.counted.total ∙ ap (λ x. count (first_local c.args.parts.now.frequency (monday_zero c.args.parts.now.week_start) x) (is_chosen c.args.parts.now c.args.start)) turned.number) in
     step_low c.args.parts.now c.args.start (c.match-self.begin.0 + c.saturating_sub-ahead.result / c.in-Some-round_of.round * c.in-Some-round_of.round) ends.step
 
 pub look_at-requires-clause-reach : goal.look_at-requires-clause-reach
@@ -118,7 +118,7 @@ pub returns-clause-passed : goal.returns-clause-passed
 returns-clause-passed c =
     let turned = c.in-Some-turn_to-2.ensures.turned in
     let ends = rounds_end c.args.parts.now c.args.start c.match-self.begin.0 c.in-Some-round_of.round c.in-Some-round_of.ensures.0 (c.saturating_sub-ahead.result / c.in-Some-round_of.round) c.match-self.begin.1 c.turn_to-2.new.self.counted c.in-Some-round_of.ensures.1 c.loop-number.invariant.from
-    c.if-begin-lt2.false c.if-rounds-lt2.false (turned.counted.total ∙ ap (λ x. count (first_local c.args.parts.now.frequency (monday_zero c.args.parts.now.week_start) x) (is_chosen c.args.parts.now c.args.start)) turned.number) in
+    c.if-begin-lt2.false c.if-rounds-lt2.false (let r = begun c.args.parts.now.frequency (monday_zero c.args.parts.now.week_start) (c.match-self.begin.0 + c.saturating_sub-ahead.result / c.in-Some-round_of.round * c.in-Some-round_of.round) c.args.self.now.place (let t = target_in c.period_of-own.result c.match-self.begin.0 c.saturating_sub-ahead.result c.in-Some-round_of.round c.saturating_sub-ahead.ensures c.if-ahead-lt2.false in omega (arith, t, c.period_of-own.ensures.value)) in omega (arith, r, c.requires.place)) (turned.counted.total ∙ ap (λ x. count (first_local c.args.parts.now.frequency (monday_zero c.args.parts.now.week_start) x) (is_chosen c.args.parts.now c.args.start)) turned.number) in
     let walked = counting_stopped c.args.parts.now c.args.start c.args.count (c.args.self.now.place + 1) (c.match-self.begin.0 + c.in-Some-round_of.round) c.args.self.now c.loop-number.self
     (subst (λ x. IsCounting c.args.parts.now c.args.start c.args.count (c.args.self.now.place + 1) x c.args.self.now c.loop-number.self) (let same : c.loop-number.number ≡ (c.match-self.begin.0 + c.in-Some-round_of.round) = omega (arith, c.loop-number.invariant.high, c.loop-number-test.false) in same) c.loop-number.invariant.walk)
     c.turn_to-2.new.self c.in-Some-turn_to-2._period c.requires.interval c.requires.after (omega arith) (top_of c.args.parts.now c.args.self.now.place (c.match-self.begin.0 + c.in-Some-round_of.round) c.loop-number.invariant.top)
