@@ -9,17 +9,17 @@ use Rattle.ics_rule.specs.Candidates.{is_stepped, period_in}
 use Rattle.ics_rule.specs.Kept.{count, is_chosen}
 use Rattle.ics_rule.specs.Periods.{first_local, IsPeriodOf, is_taken}
 use Rattle.ics_rule.specs.Cursors.{is_met, fresh, HeldBy, IsCounted, IsCursorIn}
-use Rattle.ics_rule.specs.Searches.{IsWalked, IsTurned, IsPassed, IsNextOpen, after_look}
-use Rattle.ics_rule.specs.Rounds.{IsRound, IsPassedTo}
+use Rattle.ics_rule.specs.Searches.{IsNextWanted, IsWalked, IsTurned, IsPassed, IsNextOpen, after_look}
+use Rattle.ics_rule.specs.Rounds.{IsRound, HasRound, IsPassedTo}
 use Rattle.std.proofs.lemmas.Nat.{div-add-mod'}
 use Rattle.std.proofs.Math.Nat.{mul-le-mul_right}
-use Rattle.ics_rule.proofs.PeriodLemmas.{begun, period_mono}
+use Rattle.ics_rule.proofs.PeriodLemmas.{begun, begins, period_mono}
 use Rattle.ics_rule.proofs.Counts.{count_most}
 use Rattle.ics_rule.proofs.CountLemmas.{none_before_first}
-use Rattle.ics_rule.proofs.RoundLemmas.{step_rounds, rounds_total}
+use Rattle.ics_rule.proofs.RoundLemmas.{step_rounds, rounds_total, none_after}
 use Rattle.ics_rule.proofs.StepLemmas.{stepped_parts, none_between}
 use Rattle.ics_rule.proofs.ChosenLemmas.{taken_within}
-use Rattle.ics_rule.proofs.CursorLemmas.{meets, then_moves, looks_once, looks_more, bounded, within_facts}
+use Rattle.ics_rule.proofs.CursorLemmas.{IsWalk, walk_ends, meets, then_moves, looks_once, looks_more, bounded, within_facts}
 use Rattle.ics_rule.proofs.CountingLemmas.{IsCounting, counting_begins, step_first}
 
 by_order : (a b : ℕ) → (a < b) ⊎ (b ≤ a)
@@ -184,3 +184,27 @@ top_of q place number h = subst (λ x. number ≤ period_in q x) (let back : pla
 
 pub turned_room : (q : Filled) (start c stop number : ℕ) (before after : Cursor) (o : Period) → IsWalked q start (Some c) stop None before after → IsTurned q start c number after o → after.steps ≤ number + 1
 turned_room q start c stop number before after o walked turned = let few = subst (λ x. after.steps ≤ fresh x) turned.held walked.steps in omega (arith, few, turned.number)
+
+-- a walk that finds nothing in a round finds nothing later
+pub walk_rounds_end : (q : Filled) (start stop number begin end : ℕ) (before now : Cursor) → IsWalk q start stop number before now → stop ≤ 309_289_708_800 → end < number → period_in q start ≤ begin → period_in q before.place ≤ begin
+    → (end < period_in q (stop - 1) → HasRound q begin end) → IsNextWanted q start None before.place stop None
+walk_rounds_end q start stop number begin end before now walk h past low here round = elim (by_order end (period_in q (stop - 1))) [
+  | inl less ↦ by_round (round less)
+  | inr more ↦ walk_ends q start stop number before now walk (omega (arith, more, past))
+]
+  where
+    by_round : HasRound q begin end → IsNextWanted q start None before.place stop None
+    by_round is = λ n l u. elim (by_order (period_in q n) number) [
+      | inl less ↦ walk.none n l less
+      | inr more ↦ let far = is.far in let some = is.some in none_after q start is.periods is.seconds is.round (begin + 1) (omega (arith, some)) (omega (arith, low))
+          (λ m lm um. walk.none m
+          (elim (by_order m before.place) [
+            | inl early ↦ absurd (let up = period_mono q.frequency (monday_zero q.week_start) m before.place (omega (arith, early)) in let b = begins q.frequency (monday_zero q.week_start) (begin + 1) m lm in omega (arith, up, b, here))
+            | inr late ↦ late
+          ])
+          (elim (by_order (period_in q m) number) [
+            | inl less ↦ less
+            | inr over ↦ absurd (let b = begun q.frequency (monday_zero q.week_start) (begin + 1 + is.periods) m (omega (arith, over, past, far)) in omega (arith, b, um))
+          ]))
+          n (begun q.frequency (monday_zero q.week_start) (begin + 1) n (omega (arith, more, past, far))) (omega (arith, u, h))
+    ]

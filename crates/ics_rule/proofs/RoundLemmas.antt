@@ -2,7 +2,7 @@
 use Rattle.std.proofs.Common.{◌≡◌, ℕ, zero, suc, ◌+◌, ◌-◌, ◌*◌, ◌/◌, ◌%◌, ◌<◌, ◌≤◌, Bool, true, false, ◌&&◌, ◌||◌, ◌==◌, nat_le, refl, sym, subst, ap, ◌∙◌, arith}
 use Rattle.std.proofs.lemmas.Bool.Decides.{nat_tests}
 use Rattle.std.proofs.lemmas.Nat.{div-add-mod'}
-use Rattle.std.proofs.Math.Nat.{add-mul-mod_self_right, mul_assoc, mul_comm, mul-le-mul_right}
+use Rattle.std.proofs.Math.Nat.{add-mul-mod_self_right, mul_assoc, mul_comm, mul-le-mul_right, mod-lt}
 use Rattle.jiff_core.specs.Weekday.{monday_zero}
 use Rattle.ics_values.specs.declared.frequency.Frequency.{Frequency}
 use Rattle.ics_values.specs.declared.frequency.Frequency.TheVariants.{Secondly, Minutely, Hourly, Daily, Weekly, Monthly, Yearly}
@@ -255,6 +255,27 @@ module _ (q : Filled) (start periods seconds : ℕ) (round : IsRound q periods s
       placed_on : (b : Bool) → is_placed q start b (n + seconds) ≡ is_placed q start b n
       placed_on true = refl
       placed_on false = ap (λ x. lists_wide q.positions x (size q start (n + seconds))) (rank_on n l some) ∙ ap (λ x. lists_wide q.positions (rank q start n) x) (size_on n l some inside)
+
+  -- where nothing is chosen in a round, nothing is later
+  pub none_after : (begin : ℕ) → 2 ≤ begin → period_in q start ≤ begin
+      → ((n : ℕ) → first_local q.frequency (monday_zero q.week_start) begin ≤ n → n < first_local q.frequency (monday_zero q.week_start) (begin + periods) → is_chosen q start n ≡ false)
+      → (n : ℕ) → first_local q.frequency (monday_zero q.week_start) begin ≤ n → n < 309_289_708_800 → is_chosen q start n ≡ false
+  none_after begin l low none n h u =
+      let a = first_local q.frequency (monday_zero q.week_start) begin in
+      let on : (m : ℕ) → a ≤ m → m + seconds < 309_289_708_800 → is_chosen q start (m + seconds) ≡ is_chosen q start m = (λ m h u. let g = begins q.frequency (monday_zero q.week_start) begin m h in chosen_on m (omega (arith, g, low)) (omega (arith, g, l)) u) in
+      let whole = div-add-mod' (n - a) seconds in
+      let same : n ≡ a + (n - a) % seconds + (n - a) / seconds * seconds = omega (arith, whole, h) in
+      let small : (n - a) % seconds < seconds = mod-lt (n - a) positive in
+      let end = round.first begin l in
+      ap (is_chosen q start) same ∙ repeats_below (is_chosen q start) a seconds 309_289_708_800 on ((n - a) / seconds) (a + (n - a) % seconds) (omega arith) (omega (arith, same, u))
+      ∙ none (a + (n - a) % seconds) (omega arith) (omega (arith, small, end))
+    where
+      positive : 0 < seconds
+      positive = by_zero seconds refl
+        where
+          by_zero : (s : ℕ) → s ≡ seconds → 0 < seconds
+          by_zero zero e = absurd (let later = round.period 0 in let some = round.some in let same = ap (λ x. period_in q (0 + x)) (sym e) in omega (arith, later, some, same))
+          by_zero (suc s) e = omega (arith, e)
 
   pub first_rounds : (j p : ℕ) → 2 ≤ p → first_local q.frequency (monday_zero q.week_start) (p + j * periods) ≡ first_local q.frequency (monday_zero q.week_start) p + j * seconds
   first_rounds zero p l = ap (first_local q.frequency (monday_zero q.week_start)) (let same : p + 0 * periods ≡ p = omega arith in same) ∙ omega arith

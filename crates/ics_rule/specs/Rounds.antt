@@ -30,6 +30,14 @@ pub record IsRound (q : Filled) (periods seconds : ℕ) : Type 0 where
   pub first : (p : ℕ) → 2 ≤ p → first_local q.frequency (monday_zero q.week_start) (p + periods) ≡ first_local q.frequency (monday_zero q.week_start) p + seconds
   pub let_in : (n : ℕ) → (lets_date q (day_of (n + seconds)) && lets_clock q (n + seconds)) ≡ (lets_date q (day_of n) && lets_clock q n)
 
+-- a round lies between two periods, the first of which is not the first of all
+pub record HasRound (q : Filled) (begin end : ℕ) : Type 0 where
+  pub periods : ℕ
+  pub seconds : ℕ
+  pub round : IsRound q periods seconds
+  pub some : 1 ≤ begin
+  pub far : begin + periods ≤ end
+
 -- what looks up to its place leave of a cursor under COUNT c
 pub record IsPassedTo (q : Filled) (start c : ℕ) (before now : Cursor) : Type 0 where
   pub own : IsCursorIn q start (Some c) now

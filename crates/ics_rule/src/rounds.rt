@@ -4,10 +4,11 @@ ghost use Rattle.ics_rule.specs.Locals.{day_of};
 ghost use Rattle.ics_rule.specs.Candidates.{lets_date, lets_clock, period_in};
 ghost use Rattle.ics_rule.specs.Cursors.{IsCursorIn};
 ghost use Rattle.ics_rule.specs.Dates.{names_weekdays_alone};
-ghost use Rattle.ics_rule.specs.Rounds.{seconds_of, IsRound, IsPassedTo};
+ghost use Rattle.ics_rule.specs.Rounds.{seconds_of, IsRound, HasRound, IsPassedTo};
 
 use crate::cursor::Cursor;
 use crate::date::names_weekdays_alone;
+use crate::fill::skips_hours;
 use crate::filled::Filled;
 use crate::pass::next_open_step;
 use crate::step::period_of;
@@ -63,6 +64,26 @@ fn round_of(parts: &Filled) -> Option<u64>
         Some(parts.interval as u64 * (seconds / unit))
     } else {
         None
+    }
+}
+
+/// Up to which period a search from one on looks: a round later where a rule repeats, since nothing comes later that is not found there, and
+/// else up to the last.
+pub(crate) fn last_to_look_at(parts: &Filled, begin: u64, last: u64) -> u64
+    requires interval { 1 ≤ parts.now.interval }
+    ensures high { result ≤ last }
+    ensures round { result < last → HasRound parts.now begin result }
+{
+    if skips_hours(parts.frequency) || begin == 0 {
+        return last;
+    }
+    let Some(round) = round_of(parts) else {
+        return last;
+    };
+    if round < last.saturating_sub(begin) {
+        begin + round
+    } else {
+        last
     }
 }
 

@@ -11,6 +11,7 @@ use crate::cursor::Cursor;
 use crate::filled::Filled;
 use crate::never::chooses_none;
 use crate::pass::next_open_step;
+use crate::rounds::last_to_look_at;
 use crate::step::period_of;
 
 /// The least number from `own` on that is `first` or later by a multiple of the interval.
@@ -72,8 +73,9 @@ impl Cursor {
         let first = period_of(parts, start);
         let own = period_of(parts, self.place);
         let last = period_of(parts, stop - 1);
+        let end = last_to_look_at(parts, first.max(own), last);
         let mut number = next_step(first, parts.interval, own);
-        while number <= last {
+        while number <= end {
             if let Some(n) = self.find(parts, start, number) {
                 return Some(n);
             }

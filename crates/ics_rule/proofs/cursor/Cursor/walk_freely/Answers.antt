@@ -1,9 +1,10 @@
-use Rattle.std.proofs.Common.{◌≡◌, ◌+◌, ◌<◌, ◌≤◌, None, true, sym, subst, arith}
+use Rattle.std.proofs.Common.{◌≡◌, ◌+◌, None, true, sym, subst, arith}
 use Rattle.ics_values.specs.Sets.{IsLeastFrom}
 use Rattle.ics_rule.specs.Candidates.{is_stepped, period_in}
 use Rattle.ics_rule.specs.Searches.{IsNextOpen}
 use Rattle.ics_rule.proofs.StepLemmas.{step_on}
-use Rattle.ics_rule.proofs.CursorLemmas.{walk_begins, walk_goes_on, walk_ends, walk_ended, walk_finds, walk_found, walk_low, walk_reach}
+use Rattle.ics_rule.proofs.CursorLemmas.{walk_begins, walk_goes_on, walk_ended, walk_finds, walk_found, walk_low, walk_reach}
+use Rattle.ics_rule.proofs.PassedLemmas.{walk_rounds_end}
 use Rattle.ics_rule.proofs.NeverLemmas.{none_wanted, none_walked}
 use Rattle.ics_rule.proofs.cursor.Cursor.walk_freely.Goals as goal
 
@@ -17,15 +18,15 @@ pub find-requires-clause-low : goal.find-requires-clause-low
 find-requires-clause-low c = walk_low c.args.parts.now c.args.start c.args.stop c.loop-number.number c.args.self.now c.loop-number.self c.loop-number.invariant
 
 pub find-requires-clause-reach : goal.find-requires-clause-reach
-find-requires-clause-reach c = let r = walk_reach c.args.parts.now c.loop-number.number c.args.stop (subst (λ x. c.loop-number.number ≤ x) c.period_of-last.ensures.value c.loop-number-test.true) in omega (arith, r, c.requires.stop)
+find-requires-clause-reach c = let r = walk_reach c.args.parts.now c.loop-number.number c.args.stop (omega (arith, c.loop-number-test.true, c.last_to_look_at-end.ensures.high, c.period_of-last.ensures.value)) in omega (arith, r, c.requires.stop)
 
 pub returns-in-Some-clause-next : goal.returns-in-Some-clause-next
 returns-in-Some-clause-next c = walk_finds c.args.parts.now c.args.start c.args.stop c.loop-number.number c.args.self.now c.loop-number.self c.loop-number.invariant c.find.new.self c.requires.place
-    (subst (λ x. c.loop-number.number ≤ x) c.period_of-last.ensures.value c.loop-number-test.true) c.find.ensures.held c.find.ensures.place c.find.ensures.steps c.find.ensures.begun c.find.ensures.moved c.in-Some.n c.in-Some.ensures.next
+    (omega (arith, c.loop-number-test.true, c.last_to_look_at-end.ensures.high, c.period_of-last.ensures.value)) c.find.ensures.held c.find.ensures.place c.find.ensures.steps c.find.ensures.begun c.find.ensures.moved c.in-Some.n c.in-Some.ensures.next
 
 pub returns-in-Some-clause-walked : goal.returns-in-Some-clause-walked
 returns-in-Some-clause-walked c = walk_found c.args.parts.now c.args.start c.args.stop c.loop-number.number c.args.self.now c.loop-number.self c.loop-number.invariant c.find.new.self c.requires.place
-    (subst (λ x. c.loop-number.number ≤ x) c.period_of-last.ensures.value c.loop-number-test.true) c.find.ensures.held c.find.ensures.place c.find.ensures.steps c.find.ensures.begun c.find.ensures.moved c.in-Some.n c.in-Some.ensures.next
+    (omega (arith, c.loop-number-test.true, c.last_to_look_at-end.ensures.high, c.period_of-last.ensures.value)) c.find.ensures.held c.find.ensures.place c.find.ensures.steps c.find.ensures.begun c.find.ensures.moved c.in-Some.n c.in-Some.ensures.next
 
 pub next_open_step-number-requires-clause-step : goal.next_open_step-number-requires-clause-step
 next_open_step-number-requires-clause-step c = subst (λ x. is_stepped x c.args.parts.now.interval (c.loop-number.number + c.args.parts.now.interval) ≡ true) (sym c.period_of-first.ensures.value)
@@ -33,11 +34,12 @@ next_open_step-number-requires-clause-step c = subst (λ x. is_stepped x c.args.
 
 pub loop-number-preserved : goal.loop-number-preserved
 loop-number-preserved c = walk_goes_on c.args.parts.now c.args.start c.args.stop c.loop-number.number c.args.self.now c.loop-number.self c.loop-number.invariant c.find.new.self c.requires.place
-    (subst (λ x. c.loop-number.number ≤ x) c.period_of-last.ensures.value c.loop-number-test.true) c.find.ensures.held c.find.ensures.place c.find.ensures.steps c.find.ensures.begun c.find.ensures.moved c.next_open_step-number.result c.requires.interval c.in_default.ensures.next (subst (λ x. IsNextOpen c.args.parts.now x (c.loop-number.number + c.args.parts.now.interval) c.next_open_step-number.result) c.period_of-first.ensures.value c.next_open_step-number.ensures)
+    (omega (arith, c.loop-number-test.true, c.last_to_look_at-end.ensures.high, c.period_of-last.ensures.value)) c.find.ensures.held c.find.ensures.place c.find.ensures.steps c.find.ensures.begun c.find.ensures.moved c.next_open_step-number.result c.requires.interval c.in_default.ensures.next (subst (λ x. IsNextOpen c.args.parts.now x (c.loop-number.number + c.args.parts.now.interval) c.next_open_step-number.result) c.period_of-first.ensures.value c.next_open_step-number.ensures)
 
 pub returns-clause-next : goal.returns-clause-next
-returns-clause-next c = walk_ends c.args.parts.now c.args.start c.args.stop c.loop-number.number c.args.self.now c.loop-number.self c.loop-number.invariant
-    (subst (λ x. x < c.loop-number.number) c.period_of-last.ensures.value c.loop-number-test.false)
+returns-clause-next c = walk_rounds_end c.args.parts.now c.args.start c.args.stop c.loop-number.number c.max.result c.last_to_look_at-end.result c.args.self.now c.loop-number.self c.loop-number.invariant c.requires.stop c.loop-number-test.false
+    (omega (arith, c.max.ensures, c.period_of-first.ensures.value)) (omega (arith, c.max.ensures, c.period_of-own.ensures.value))
+    (λ less. c.last_to_look_at-end.ensures.round (omega (arith, less, c.period_of-last.ensures.value)))
 
 pub returns-clause-walked : goal.returns-clause-walked
 returns-clause-walked c = walk_ended c.args.parts.now c.args.start c.args.stop c.loop-number.number c.args.self.now c.loop-number.self c.loop-number.invariant

@@ -6,4 +6,4 @@ abbrev pub invariant-loop-number : goal.invariant-loop-number
 invariant-loop-number l = IsWalk l.parts l.start l.stop l.number l.fn.self l.self
 
 abbrev pub decreases-loop-number : goal.decreases-loop-number
-decreases-loop-number l = l.last + 1 - l.number
+decreases-loop-number l = l.end + 1 - l.number
