@@ -14,6 +14,9 @@ use crate::pass::next_open_step;
 use crate::step::period_of;
 use ics_values::Frequency;
 
+/// Up to so many periods a search is too short to ask first whether its rule repeats.
+const A_SHORT_SEARCH: u64 = 86_400;
+
 /// How many seconds each period of a frequency has, or 0 where they differ.
 fn seconds_of(frequency: Frequency) -> u64
     ensures value { result ≡ seconds_of frequency }
@@ -74,17 +77,14 @@ pub(crate) fn last_to_look_at(parts: &Filled, begin: u64, last: u64) -> u64
     ensures high { result ≤ last }
     ensures round { result < last → HasRound parts.now begin result }
 {
-    if skips_hours(parts.frequency) || begin == 0 {
+    let left = last.saturating_sub(begin);
+    if left < A_SHORT_SEARCH || begin == 0 || skips_hours(parts.frequency) {
         return last;
     }
     let Some(round) = round_of(parts) else {
         return last;
     };
-    if round < last.saturating_sub(begin) {
-        begin + round
-    } else {
-        last
-    }
+    if round < left { begin + round } else { last }
 }
 
 impl Cursor {
