@@ -49,7 +49,7 @@ fn join_folds<'a>(alloc: Global, first: &[u8], after: &'a [u8]) -> Result<Found<
     ensures shorter { IfOk result (λ f. length f.rest.now ≤ length after.now) }
     ensures err { OnErr result ((n : ℕ) → BeginsFolded (filter is_line (attach (line_of n first.now false) (all_from (n + 1) after.now)))) }
 {
-    let mut bytes = Vec::new(alloc);
+    let mut bytes = Vec::with_capacity(alloc, 2 * first.len())?;
     bytes.extend_from_slice(first)?;
     let mut rest = after;
     let mut breaks = 1;

@@ -1,5 +1,5 @@
--- The order of locals, the dates of the calendar, times of a day, and escapes.
-use Rattle.std.proofs.Common.{◌≡◌, ℕ, ◌+◌, ◌*◌, ◌<◌, ◌≤◌, Bool, true, false, ◌==◌, ◌&&◌, ◌||◌, nat_le, List, [], ◌∷◌, min, refl, ap, arith, ℤ, pos, ◌+ℤ◌, ◌*ℤ◌, ◌<ℤ◌}
+-- The order of locals, the dates of the calendar, and times of a day.
+use Rattle.std.proofs.Common.{◌≡◌, ℕ, ◌+◌, ◌*◌, ◌<◌, ◌≤◌, true, ◌&&◌, nat_le, List, min, refl, arith, ℤ, pos, ◌+ℤ◌, ◌*ℤ◌, ◌<ℤ◌}
 use Rattle.std.specs.Ordering.{MatchOrdering, ordering_then, int_cmp, nat_cmp}
 use Rattle.std.specs.Cmp.{int_cmp_is, int_ranks, ranks}
 use Rattle.std.specs.declared.cmp.Ordering.{Ordering}
@@ -7,12 +7,10 @@ use Rattle.std.specs.declared.cmp.Ordering.TheVariants.{Less, Equal, Greater}
 use Rattle.std.proofs.Math.Nat.{mod-eq_of_lt}
 use Rattle.std.proofs.lemmas.Int.{ints}
 use Rattle.std.proofs.lemmas.Bool.Decides.{nat_tests}
-use Rattle.std.proofs.lemmas.Bool.{eqb-true}
 use Rattle.jiff_core.specs.Calendar.{IsDate}
 use Rattle.ics_values.specs.Digits.{number_at}
 use Rattle.ics_values.specs.Dates.{IsJiffsDate}
 use Rattle.ics_values.specs.Locals.{local_seconds}
-use Rattle.ics_values.specs.Plain.{stands_for_itself, plain_text, escaped}
 use Rattle.ics_values.specs.Stamps.{time_exists, second_of, local_of}
 use Rattle.ics_values.specs.declared.local.Local.{Local}
 use Rattle.ics_values.proofs.DateLemmas.{parts, is_date-parts, day_number-days_from_civil}
@@ -47,26 +45,3 @@ second_fits text h = by_numbers (number_at text 9 11) (number_at text 11 13) (nu
 
 pub second_kept : (text : List ℕ) → time_exists text ≡ true → (local_of text).second ≡ second_of text
 second_kept text h = mod-eq_of_lt (second_fits text h)
-
-never : (t : Bool) → (t && false) ≡ false
-never true = refl
-never false = refl
-
-plain : (b : ℕ) → stands_for_itself b ≡ false → (b == 92) ≡ false
-plain b h = by_tests (b == 92) (b == 59) (b == 44) h
-  where
-    by_tests : (x y z : Bool) → (x || y || z) ≡ false → x ≡ false
-    by_tests true true true h = h
-    by_tests true true false h = h
-    by_tests true false true h = h
-    by_tests true false false h = h
-    by_tests false y z h = refl
-
-pub plain_text-escaped : (text : List ℕ) → plain_text (escaped text) false ≡ text
-plain_text-escaped [] = refl
-plain_text-escaped (b ∷ bs) = by_tests (plain_text-escaped bs) (stands_for_itself b) (b == 10) refl refl
-  where
-    by_tests : plain_text (escaped bs) false ≡ bs → (itself lf : Bool) → stands_for_itself b ≡ itself → (b == 10) ≡ lf → plain_text (escaped (b ∷ bs)) false ≡ b ∷ bs
-    by_tests later true lf h k = rw (h, never (b == 92), h) (ap (λ t. b ∷ t) later)
-    by_tests later false true h k = rw (h, k) (let e : b ≡ 10 = eqb-true b 10 k in rw e (ap (λ t. 10 ∷ t) later))
-    by_tests later false false h k = rw (h, k) (rw (plain b h) (ap (λ t. b ∷ t) later))

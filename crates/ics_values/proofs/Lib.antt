@@ -12,5 +12,7 @@ pub mod ListedLemmas
 pub mod RuleSays
 pub mod RuleExamples
 pub mod StampLemmas
+pub mod LocalLemmas
+pub mod TextLemmas
 pub mod LawLemmas
 pub mod Examples

@@ -9,7 +9,6 @@ pub mod Stamps
 pub mod Forms
 pub mod Integers
 pub mod Plain
-pub mod Escapes
 pub mod Durations
 pub mod Amounts
 pub mod Offsets

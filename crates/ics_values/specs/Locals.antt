@@ -1,13 +1,34 @@
--- A date and a time of day in no zone (RFC 5545, section 3.3.5).
-use Rattle.std.specs.Prelude.{ℕ, ◌%◌, ℤ, pos, ◌+ℤ◌, ◌*ℤ◌}
+-- A date and a time of day in no zone (RFC 5545, section 3.3.5), and the two numbers that it is counted by.
+use Rattle.std.specs.Prelude.{ℕ, ◌+◌, ◌*◌, ◌%◌, ℤ, pos, ◌+ℤ◌, ◌*ℤ◌}
 use Rattle.std.proofs.Math.Nat.{mod-lt}
 use Rattle.std.proofs.Math.Dec.{lit<}
+use Rattle.ics_values.specs.Days.{days_before_year, day_index}
 use Rattle.ics_values.specs.declared.local.Local.{Local}
 
 -- the local at second n of a day, where the seconds of a day are counted round
 abbrev pub local_at : ℤ → ℕ → Local
 local_at day n = record { day = day; second = n % 86_400; second_in = mod-lt n (lit< tt) }
 
--- the seconds from 1970-01-01T00:00:00 to a local
+-- the seconds from 1970-01-01T00:00:00 to a second of a day, on a clock without zones
+abbrev pub seconds_at : ℤ → ℕ → ℤ
+seconds_at day second = day *ℤ pos 86_400 +ℤ pos second
+
+-- the same to the midnight that begins a day
+abbrev pub midnight : ℤ → ℤ
+midnight day = seconds_at day 0
+
+-- the same to a local
 abbrev pub local_seconds : Local → ℤ
-local_seconds local = local.day *ℤ pos 86_400 +ℤ pos local.second
+local_seconds local = seconds_at local.day local.second
+
+-- the seconds from 0000-01-01T00:00:00 to a local of the year 0000 or later
+abbrev pub number : Local → ℕ
+number local = day_index local.day * 86_400 + local.second
+
+-- the seconds from 0000-01-01T00:00:00 to the beginning of a year
+abbrev pub year_number : ℕ → ℕ
+year_number year = days_before_year year * 86_400
+
+-- the same to the first local behind the calendar, whose years are 0000 to 9999
+abbrev pub calendar_end : ℕ
+calendar_end = year_number 10_000

@@ -1,5 +1,13 @@
 //! A date and a time of day in no zone.
 ghost use Rattle.std.specs.Prelude.{◌≡◌, ◌<◌};
+ghost use Rattle.jiff_core.specs.Calendar.{IsWithin};
+ghost use Rattle.ics_values.specs.Days.{IsDayNumber};
+
+/// The seconds of a day.
+const DAY: i64 = 86_400;
+
+/// The days from 0000-01-01 to 1970-01-01.
+const EPOCH_DAY: i32 = 719_528;
 
 /// A day, counted from 1970-01-01, and a second of it, below 86,400.
 #[derive(Clone, Copy, Debug, PartialEq, Eq, PartialOrd, Ord)]
@@ -13,7 +21,7 @@ pub struct Local {
 pub type Moment = i64;
 
 impl Local {
-    ghost use Rattle.ics_values.specs.Locals.{local_at};
+    ghost use Rattle.ics_values.specs.Locals.{local_at, local_seconds, number, calendar_end};
 
     /// The local at a second of a day.
     pub fn at(day: i32, second: u32) -> Self
@@ -21,5 +29,44 @@ impl Local {
         ensures { result ≡ local_at day second }
     {
         Local { day, second }
+    }
+
+    /// The seconds from 1970-01-01T00:00:00 to it, on a clock without zones.
+    pub fn seconds(self) -> i64
+        ensures { result ≡ local_seconds self }
+    {
+        i64::from(self.day) * DAY + i64::from(self.second)
+    }
+
+    /// The local so many seconds from 1970-01-01T00:00:00, on a clock without zones: three million years either way at most.
+    pub fn of_seconds(seconds: i64) -> Self
+        requires { IsWithin 100_000_000_000_000 seconds }
+        ensures { local_seconds result ≡ seconds }
+    {
+        Local {
+            day: seconds.div_euclid(DAY) as i32,
+            second: seconds.rem_euclid(DAY) as u32,
+        }
+    }
+
+    /// The seconds from 0000-01-01T00:00:00 to it, in the years 0000 to 9999.
+    pub fn number(self) -> u64
+        requires { IsDayNumber self.day }
+        ensures value { result ≡ number self }
+        ensures bound { result < calendar_end }
+    {
+        (self.day + EPOCH_DAY) as u64 * 86_400 + u64::from(self.second)
+    }
+
+    /// The local so many seconds from 0000-01-01T00:00:00, in the years 0000 to 9999.
+    pub fn numbered(n: u64) -> Self
+        requires { n < calendar_end }
+        ensures value { number result ≡ n }
+        ensures day { IsDayNumber result.day }
+    {
+        Local {
+            day: (n / 86_400) as i32 - EPOCH_DAY,
+            second: (n % 86_400) as u32,
+        }
     }
 }

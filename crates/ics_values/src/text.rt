@@ -1,46 +1,43 @@
 //! TEXT values without their escapes.
-ghost use Rattle.std.specs.Prelude.{◌≡◌, ◌++◌, IfOk};
-ghost use Rattle.ics_values.specs.Plain.{stands_for_itself, stands_for_lf, text_of};
-ghost use Rattle.ics_values.specs.Escapes.{written, opens};
+ghost use Rattle.std.specs.Prelude.{◌≡◌, ◌<◌, ◌++◌, ◌∷◌, [], length, IfOk, IfSome, MatchOption};
+ghost use Rattle.ics_values.specs.Plain.{text_of};
 
+use memchr::memchr;
 use std::alloc::{AllocError, Global};
 
 const BACKSLASH: u8 = b'\\';
 
-fn stands_for_itself(b: u8) -> bool
-    ensures { result ≡ stands_for_itself b }
-{
-    b == BACKSLASH || b == b';' || b == b','
+/// A backslash that another byte follows, between what stands before and behind the two.
+#[derive(Clone, Copy)]
+struct Escape<'a> {
+    before: &'a [u8],
+    byte: u8,
+    behind: &'a [u8],
 }
 
-fn stands_for_lf(b: u8) -> bool
-    ensures { result ≡ stands_for_lf b }
+/// The first backslash of a text that a byte follows.
+fn first_escape(text: &[u8]) -> Option<Escape<'_>>
+    ensures parts { MatchOption result (text_of text.now ≡ text.now) (λ escape.
+        text_of text.now ≡ escape.before.now ++ (text_of (92 ∷ escape.byte ∷ []) ++ text_of escape.behind.now)) }
+    ensures shorter { IfSome result (λ escape. length escape.behind.now < length text.now) }
 {
-    b == b'n' || b == b'N'
+    let at = memchr(BACKSLASH, text)?;
+    let (byte, behind) = text[at + 1..].split_first()?;
+    Some(Escape {
+        before: &text[..at],
+        byte: *byte,
+        behind,
+    })
 }
 
-fn opens(behind: bool, b: u8) -> bool
-    ensures { result ≡ opens behind b }
+/// Appends what a backslash and the byte behind it stand for.
+fn push_escaped(out: &mut Vec<u8>, b: u8) -> Result<(), AllocError>
+    ensures { IfOk result (λ _. out.new.items ≡ out.old.items ++ text_of (92 ∷ b ∷ [])) }
 {
-    b == BACKSLASH && !behind
-}
-
-/// Writes what a byte stands for. `behind` says that a backslash stands before it which is not itself
-/// the second byte of an escape.
-fn write_byte(out: &mut Vec<u8>, behind: bool, b: u8) -> Result<(), AllocError>
-    ensures { IfOk result (λ _. out.new.items ≡ out.old.items ++ written behind b) }
-{
-    if !behind {
-        if b != BACKSLASH {
-            out.push(b)?;
-        }
-    } else if stands_for_itself(b) {
-        out.push(b)?;
-    } else if stands_for_lf(b) {
-        out.push(b'\n')?;
-    } else {
-        out.push(BACKSLASH)?;
-        out.push(b)?;
+    match b {
+        BACKSLASH | b';' | b',' => out.push(b)?,
+        b'n' | b'N' => out.push(b'\n')?,
+        _ => out.extend_from_slice(&[BACKSLASH, b])?,
     }
     Ok(())
 }
@@ -51,13 +48,12 @@ pub fn text_bytes(alloc: Global, value: &[u8]) -> Result<Vec<u8>, AllocError>
     ensures { IfOk result (λ r. r.items ≡ text_of value.now) }
 {
     let mut out = Vec::with_capacity(alloc, value.len())?;
-    let mut behind = false;
-    for b in value {
-        write_byte(&mut out, behind, *b)?;
-        behind = opens(behind, *b);
+    let mut rest = value;
+    'escapes: while let Some(escape) = first_escape(rest) {
+        out.extend_from_slice(escape.before)?;
+        push_escaped(&mut out, escape.byte)?;
+        rest = escape.behind;
     }
-    if behind {
-        out.push(BACKSLASH)?;
-    }
+    out.extend_from_slice(rest)?;
     Ok(out)
 }

@@ -1,4 +1,4 @@
-use Rattle.std.proofs.Common.{◌≡◌, ℕ, ◌+◌, ◌<◌, ◌++◌, true, length, drop, arith, sym, ap, ◌∙◌, add_assoc, length-drop, subst}
+use Rattle.std.proofs.Common.{◌≡◌, ℕ, ◌+◌, ◌*◌, ◌<◌, ◌++◌, true, length, drop, arith, sym, ap, ◌∙◌, add_assoc, length-drop, subst}
 use Rattle.std.specs.Prelude.{filter}
 use Rattle.std.specs.Option.{option_copied}
 use Rattle.ics_text.specs.Bytes.{begins, is_blank}
@@ -27,13 +27,17 @@ loop-line-preserved c =
       some = omega arith;
     }
 
-pub returns-in_err-extend_from_slice-clause-err : goal.returns-in_err-extend_from_slice-clause-err
-returns-in_err-extend_from_slice-clause-err c =
-    let full = c.in_err-extend_from_slice.ensures.full in
-    let some : 0 < length c.args.first.now = omega (arith, full, c.new-bytes.ensures.len) in
+pub returns-in_err-bytes-clause-err : goal.returns-in_err-bytes-clause-err
+returns-in_err-bytes-clause-err c =
+    let refused : 2 * length c.args.first.now ≡ 0 → ⊥ = λ none. let never = rw c.in_err-bytes.was at (c.with_capacity.ensures.succeeds none) in cc in
+    let some : 0 < length c.args.first.now = omega (arith, refused) in
     let folded : (n : ℕ) → BeginsFolded (filter is_line (attach (line_of n c.args.first.now true) (all_from (n + 1) c.args.after.now))) =
     λ n. folded-some n c.args.first.now (all_from (n + 1) c.args.after.now) some in
     on_err _ folded
+
+pub returns-in_err-extend_from_slice-clause-err : goal.returns-in_err-extend_from_slice-clause-err
+returns-in_err-extend_from_slice-clause-err c =
+    absurd (omega (arith, c.in_err-extend_from_slice.ensures.full, c.in_ok-bytes.ensures.exact, c.in_ok-bytes.ensures.len))
 
 pub returns-in_err-extend_from_slice-2-clause-err : goal.returns-in_err-extend_from_slice-2-clause-err
 returns-in_err-extend_from_slice-2-clause-err c =

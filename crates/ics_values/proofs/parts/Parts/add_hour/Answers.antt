@@ -1,0 +1,21 @@
+use Rattle.std.proofs.Common.{arith}
+use Rattle.ics_values.specs.Sets.{has}
+use Rattle.ics_values.proofs.SetLemmas.{within_more}
+use Rattle.ics_values.proofs.parts.Parts.add_hour.Goals as goal
+
+pub invariant_of-self : goal.invariant_of-self
+invariant_of-self c = record {
+  interval = c.self.invariant.interval;
+  count = c.self.invariant.count;
+  until = c.self.invariant.until;
+  seconds = c.self.invariant.seconds;
+  minutes = c.self.invariant.minutes;
+  hours = within_more 0 23 c.args.hour (has c.self.inside.hours) (has c.add.new.self) c.add.ensures.members c.self.invariant.hours (omega arith) c.requires;
+  weekdays = c.self.invariant.weekdays;
+  numbered = c.self.invariant.numbered;
+  month_days = c.self.invariant.month_days;
+  year_days = c.self.invariant.year_days;
+  weeks = c.self.invariant.weeks;
+  months = c.self.invariant.months;
+  positions = c.self.invariant.positions;
+}

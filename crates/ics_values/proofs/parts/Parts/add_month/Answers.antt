@@ -1,0 +1,20 @@
+use Rattle.ics_values.specs.Sets.{has}
+use Rattle.ics_values.proofs.SetLemmas.{within_more}
+use Rattle.ics_values.proofs.parts.Parts.add_month.Goals as goal
+
+pub invariant_of-self : goal.invariant_of-self
+invariant_of-self c = record {
+  interval = c.self.invariant.interval;
+  count = c.self.invariant.count;
+  until = c.self.invariant.until;
+  seconds = c.self.invariant.seconds;
+  minutes = c.self.invariant.minutes;
+  hours = c.self.invariant.hours;
+  weekdays = c.self.invariant.weekdays;
+  numbered = c.self.invariant.numbered;
+  month_days = c.self.invariant.month_days;
+  year_days = c.self.invariant.year_days;
+  weeks = c.self.invariant.weeks;
+  months = within_more 1 12 c.args.month (has c.self.inside.months) (has c.add.new.self) c.add.ensures.members c.self.invariant.months c.requires.first c.requires.last;
+  positions = c.self.invariant.positions;
+}
