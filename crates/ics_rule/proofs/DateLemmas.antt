@@ -45,7 +45,7 @@ absent_in true b h = refl
 absent_in false b h = absurd (cc)
 
 -- a weekday that stands neither alone nor with a number is out
-none_nth : (p : Places) (n size : ℕ) → lists_none p ≡ true → lists_nth p n size ≡ false
+pub none_nth : (p : Places) (n size : ℕ) → lists_none p ≡ true → lists_nth p n size ≡ false
 none_nth p n size h =
     let parts = and_parts (is_none p.front) (is_none p.back) h in
     ap (λ x. has x ((n - 1) / 7 + 1) || has p.back ((size - n) / 7 + 1)) (zero_of p.front parts.0)

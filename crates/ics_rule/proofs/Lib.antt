@@ -23,4 +23,14 @@ pub mod IsoWeeks
 mod PassLemmas
 mod RoundLemmas
 mod PassedLemmas
+mod EachLemmas
 mod NeverLemmas
+mod OpenLemmas
+mod TableSteps
+mod TableLemmas
+mod TableMembers
+mod TableExamples
+mod RunLemmas
+mod MonthDays
+mod WeekDays
+mod PlainLemmas

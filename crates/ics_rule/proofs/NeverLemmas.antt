@@ -1,18 +1,20 @@
 -- What BYSETPOS can't list.
-use Rattle.std.proofs.Common.{◌≡◌, ℕ, suc, ◌+◌, ◌-◌, ◌*◌, ◌/◌, ◌%◌, ◌<◌, ◌≤◌, ◌⊎◌, inl, inr, Bool, true, false, ◌&&◌, ◌||◌, ◌==◌, Option, Some, None, refl, sym, subst, ap, ◌∙◌, arith}
+use Rattle.std.proofs.Common.{◌≡◌, ℕ, suc, ◌+◌, ◌-◌, ◌*◌, ◌<◌, ◌≤◌, ◌⊎◌, inl, inr, Bool, true, false, ◌&&◌, ◌||◌, ◌==◌, Option, Some, None, refl, sym, ap, ◌∙◌, arith}
 use Rattle.std.proofs.lemmas.Bool.Decides.{nat_tests}
 use Rattle.jiff_core.specs.Weekday.{monday_zero}
 use Rattle.ics_values.specs.Sets.{has_wide}
 use Rattle.ics_values.specs.Places.{lists_none_wide}
-use Rattle.ics_values.specs.declared.frequency.Frequency.TheVariants.{Secondly, Minutely, Hourly}
 use Rattle.ics_rule.specs.declared.filled.Filled.{Filled}
 use Rattle.ics_rule.specs.declared.cursor.Cursor.{Cursor}
-use Rattle.ics_rule.specs.Locals.{period, day_of, hour_of, minute_of, second_of, calendar_end}
-use Rattle.ics_rule.specs.Candidates.{lets, lets_date, lets_clock, is_stepped, is_candidate_in, period_in}
+use Rattle.ics_rule.specs.Locals.{day_of, calendar_end}
+use Rattle.ics_rule.specs.Candidates.{lets_date, lets_clock, is_stepped, is_candidate_in, period_in}
 use Rattle.ics_rule.specs.Kept.{count, is_beside, rank, size, is_placed, is_chosen}
 use Rattle.ics_rule.specs.Cursors.{IsCursorIn}
 use Rattle.ics_rule.specs.Searches.{is_few, NoneWanted, IsWalked}
-use Rattle.ics_rule.proofs.Counts.{count-product, count-from, count_mono, count_some, count_every}
+use Rattle.ics_rule.proofs.Counts.{count-from, count_mono, count_some}
+use Rattle.ics_rule.specs.Rounds.{seconds_of}
+use Rattle.ics_rule.specs.OpenPeriods.{lets_own, lets_within, size_of_open}
+use Rattle.ics_rule.proofs.EachLemmas.{clock_split, in_period, within_at}
 use Rattle.ics_rule.proofs.RankLemmas.{count_flat}
 use Rattle.ics_rule.proofs.CursorLemmas.{count_within, held_mono}
 
@@ -60,45 +62,13 @@ size_within q start n a u test span clock =
     up_to (inl less) = let flat = count_flat (a + u) calendar_end (is_beside q start n) (omega (arith, less)) (λ m l h. not_true (is_beside q start n m) (λ here. let s = (span m (beside_period q start n m here)).1 in omega (arith, s, l))) in omega (arith, flat)
     up_to (inr more) = count_mono calendar_end (a + u) (is_beside q start n) more
 
-seconds_in : (a b c : Bool) → (a && b && c) ≡ true → c ≡ true
-seconds_in true true c h = h
-seconds_in true false c h = absurd (cc)
-seconds_in false b c h = absurd (cc)
-
-minutes_in : (a b c : Bool) → (a && b && c) ≡ true → (b && c) ≡ true
-minutes_in true b c h = h
-minutes_in false b c h = absurd (cc)
-
-pub most_secondly : (q : Filled) → q.frequency ≡ Secondly → (start n : ℕ) → size q start n ≤ 1
-most_secondly q e start n =
-    let one = size_within q start n n 1 (λ k. true) (λ m here. let same = sym (is_second m) ∙ here ∙ is_second n in (omega (arith, same), omega (arith, same))) (λ k l h. refl) in
-    let every = count_every 1 in omega (arith, one, every)
-  where
-    is_second : (m : ℕ) → period_in q m ≡ m
-    is_second m = ap (λ f. period f (monday_zero q.week_start) m) e
-
-pub most_minutely : (q : Filled) → q.frequency ≡ Minutely → (most : ℕ) → most ≡ count 60 (lets q.seconds) → (start n : ℕ) → size q start n ≤ most
-most_minutely q e most em start n =
-    let all = size_within q start n (n / 60 * 60) 60 (lets q.seconds) (λ m here. let same = sym (is_minute m) ∙ here ∙ is_minute n in (omega (arith, same), omega (arith, same)))
-    (λ k l h. subst (λ x. lets q.seconds x ≡ true) (let same : (n / 60 * 60 + k) % 60 ≡ k = omega (arith, l) in same)
-    (seconds_in (lets q.hours (hour_of (n / 60 * 60 + k))) (lets q.minutes (minute_of (n / 60 * 60 + k))) (lets q.seconds (second_of (n / 60 * 60 + k))) h)) in
-    omega (arith, all, em)
-  where
-    is_minute : (m : ℕ) → period_in q m ≡ m / 60
-    is_minute m = ap (λ f. period f (monday_zero q.week_start) m) e
-
-pub most_hourly : (q : Filled) → q.frequency ≡ Hourly → (minutes seconds : ℕ) → minutes ≡ count 60 (lets q.minutes) → seconds ≡ count 60 (lets q.seconds) → (start n : ℕ) → size q start n ≤ minutes * seconds
-most_hourly q e minutes seconds em es start n =
-    let all = size_within q start n (n / 3_600 * 3_600) 3_600 (λ k. lets q.minutes (k / 60) && lets q.seconds (k % 60)) (λ m here. let same = sym (is_hour m) ∙ here ∙ is_hour n in (omega (arith, same), omega (arith, same)))
-    (λ k l h. ap (λ x. lets q.minutes x && lets q.seconds (k % 60)) (let same : k / 60 ≡ (n / 3_600 * 3_600 + k) / 60 % 60 = omega (arith, l) in same)
-    ∙ ap (λ x. lets q.minutes ((n / 3_600 * 3_600 + k) / 60 % 60) && lets q.seconds x) (let same : k % 60 ≡ (n / 3_600 * 3_600 + k) % 60 = omega (arith, l) in same)
-    ∙ minutes_in (lets q.hours (hour_of (n / 3_600 * 3_600 + k))) (lets q.minutes (minute_of (n / 3_600 * 3_600 + k))) (lets q.seconds (second_of (n / 3_600 * 3_600 + k))) h) in
-    let both : count 3_600 (λ k. lets q.minutes (k / 60) && lets q.seconds (k % 60)) ≡ count 60 (lets q.minutes) * count 60 (lets q.seconds) = count-product 60 60 (lets q.minutes) (lets q.seconds) in
-    let product = ap (λ x. x * seconds) em ∙ ap (λ x. count 60 (lets q.minutes) * x) es in
-    omega (arith, all, both, product)
-  where
-    is_hour : (m : ℕ) → period_in q m ≡ m / 3_600
-    is_hour m = ap (λ f. period f (monday_zero q.week_start) m) e
+-- nor than each period that the rule lets in, where a period is a day or less
+pub most_in_period : (q : Filled) → 0 < seconds_of q.frequency → seconds_of q.frequency ≤ 86_400 → (start n : ℕ) → size q start n ≤ size_of_open q
+most_in_period q fine unit start n =
+    size_within q start n (period_in q n * seconds_of q.frequency) (seconds_of q.frequency) (lets_within q.frequency q)
+    (λ m here. let place = in_period q.frequency (monday_zero q.week_start) m fine unit in let begin = ap (λ x. x * seconds_of q.frequency) here in (omega (arith, place.0, begin), omega (arith, place.1, begin)))
+    (λ k l clock. sym (within_at q (period_in q n) k q.frequency fine unit l) ∙ last (lets_own q.frequency q (period_in q n * seconds_of q.frequency + k)) (lets_within q.frequency q (period_in q n * seconds_of q.frequency + k))
+    (sym (clock_split q.frequency q (period_in q n * seconds_of q.frequency + k)) ∙ clock))
 
 -- no place up to the size is listed
 pub never_chosen : (q : Filled) (most : ℕ) → lists_none_wide q.positions ≡ false → ((start n : ℕ) → size q start n ≤ most)

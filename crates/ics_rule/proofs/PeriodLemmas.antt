@@ -52,7 +52,7 @@ month_begun (suc p) e h =
       | inr more ↦ more
     ])
 
-month_positive : (e : ℕ) → 0 < month_of e
+pub month_positive : (e : ℕ) → 0 < month_of e
 month_positive e = month_of_high e 0 (let none = days_of_months-zero (pos (year_of e)) in let u = year_under_way e in omega (arith, none, u.0)) (omega arith)
 
 month_begins : (p e : ℕ) → month_start p ≤ e → p ≤ month_number e
@@ -70,17 +70,16 @@ month_begins (suc p) e h = elim (by_order 0 (p % 12)) [
 month_at : (y k : ℕ) → k < 12 → (days_before_year y + days_of_months (pos y) (k + 1) ≡ days_before_year y + days_of_months (pos y) k + days_in_month (pos y) (k + 1))
 month_at y k h = let more = days_of_months_more (pos y) (k + 1) (omega arith) in let back : k + 1 - 1 ≡ k = omega arith in let more' = rw back at more in omega (arith, more')
 
-month_length : (p : ℕ) → (month_start (suc p) < month_start (suc (suc p))) × (month_start (suc (suc p)) ≤ month_start (suc p) + 31)
-month_length p =
+pub month_size : (p : ℕ) → month_start (suc (suc p)) ≡ month_start (suc p) + days_in_month (pos (p / 12)) (p % 12 + 1)
+month_size p =
     let one : suc p - 1 ≡ p = omega arith in
     let two : suc (suc p) - 1 ≡ suc p = omega arith in
     let more = month_at (p / 12) (p % 12) (omega arith) in
-    let bounds = days_in_month_bounds (pos (p / 12)) (p % 12 + 1) in
     rw one (rw two (elim (by_order (p % 12) 11) [
       | inl inside ↦
           let year : suc p / 12 ≡ p / 12 = omega arith in
           let month : suc p % 12 ≡ p % 12 + 1 = omega arith in
-          rw year (rw month (omega (arith, more, bounds.1), omega (arith, more, bounds.0)))
+          rw year (rw month more)
       | inr last ↦
           let year : suc p / 12 ≡ suc (p / 12) = omega arith in
           let month : suc p % 12 ≡ 0 = omega arith in
@@ -89,8 +88,11 @@ month_length p =
           let all = days_of_months_all (pos (p / 12)) in
           let none = days_of_months-zero (pos (suc (p / 12))) in
           let more' = ap (days_of_months (pos (p / 12))) december in
-          rw year (rw month (omega (arith, more, bounds.1, next, all, none, more'), omega (arith, more, bounds.0, next, all, none, more')))
+          rw year (rw month (omega (arith, more, next, all, none, more')))
     ]))
+
+month_length : (p : ℕ) → (month_start (suc p) < month_start (suc (suc p))) × (month_start (suc (suc p)) ≤ month_start (suc p) + 31)
+month_length p = let size = month_size p in let bounds = days_in_month_bounds (pos (p / 12)) (p % 12 + 1) in (omega (arith, size, bounds.1), omega (arith, size, bounds.0))
 
 -- a local is no earlier than the first of its period and of those before
 pub begun : (f : Frequency) (w p n : ℕ) → p ≤ period f w n → first_local f w p ≤ n

@@ -114,7 +114,7 @@ repeats_often : (f : ℕ → Bool) (low a : ℕ) → ((n : ℕ) → low ≤ n �
 repeats_often f low a on zero n l = ap f (let same : n + 0 * a ≡ n = omega arith in same)
 repeats_often f low a on (suc j) n l = ap f (let same : n + suc j * a ≡ n + j * a + a = omega arith in same) ∙ on (n + j * a) (omega (arith, l)) ∙ repeats_often f low a on j n l
 
-step_repeats : (i d first p : ℕ) → first ≤ p → is_stepped first i (p + i * d) ≡ is_stepped first i p
+pub step_repeats : (i d first p : ℕ) → first ≤ p → is_stepped first i (p + i * d) ≡ is_stepped first i p
 step_repeats i d first p l =
     let some : nat_le first (p + i * d) ≡ nat_le first p = yes first (p + i * d) (omega (arith, l)) ∙ sym (yes first p l) in
     let rest : p + i * d - first ≡ p - first + d * i = (let swap = mul_comm i d in omega (arith, l, swap)) in

@@ -11,3 +11,8 @@ pub mod Calls
 pub mod Cursors
 pub mod Searches
 pub mod Rounds
+pub mod OpenPeriods
+pub mod Table
+pub mod ByTable
+pub mod Runs
+pub mod PlainReading

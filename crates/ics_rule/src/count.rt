@@ -84,7 +84,7 @@ impl Cursor {
         }
         let first = period_of(parts, start);
         let last = period_of(parts, stop - 1);
-        self.pass_rounds(parts, start, count, first);
+        self.pass_periods(parts, start, count, first);
         let mut number = match &self.held {
             Some(period) => period.number,
             None => first,

@@ -1,13 +1,14 @@
 //! The parts that speak of the date.
-ghost use Rattle.std.specs.Prelude.{◌≡◌, ℕ, ◌<◌, ◌≤◌, ◌+◌, ◌*◌, ◌||◌, pos};
+ghost use Rattle.std.specs.Prelude.{◌≡◌, ℕ, ◌<◌, ◌≤◌, ◌+◌, ◌*◌, ◌^◌, ◌&&◌, ◌||◌, pos};
 ghost use Rattle.jiff_core.specs.Calendar.{days_in_year, days_in_month};
 ghost use Rattle.jiff_core.specs.Weekday.{monday_zero};
-ghost use Rattle.ics_values.specs.Sets.{has};
+ghost use Rattle.ics_values.specs.Sets.{has, is_none};
 ghost use Rattle.ics_values.specs.Places.{lists_none, lists_no_weekday, numbers_of};
 ghost use Rattle.ics_values.specs.Days.{weekday_of};
 ghost use Rattle.ics_values.specs.Fields.{IsCivilOf};
-ghost use Rattle.ics_rule.specs.Candidates.{fourth_day, lets_numbered, lets_weekday, lets_week, lets_date};
-ghost use Rattle.ics_rule.specs.Dates.{is_open, names_weekdays_alone};
+ghost use Rattle.ics_rule.specs.Runs.{goes_by_months};
+ghost use Rattle.ics_rule.specs.Candidates.{fourth_day, lets, lets_numbered, lets_weekday, lets_week, lets_date};
+ghost use Rattle.ics_rule.specs.Dates.{names_weekdays_alone};
 
 use crate::filled::Filled;
 use crate::time::{lets, lets_place, lets_wide_place, lists_nth};
@@ -125,27 +126,54 @@ fn has_weekday(weekdays: &Weekdays, index: u32) -> bool
 }
 
 /// Whether BYDAY lists a weekday with no number.
-fn has_no_number(weekdays: &Weekdays, weekday: u8) -> bool
+pub(crate) fn has_no_number(weekdays: &Weekdays, weekday: u8) -> bool
     requires { weekday < 7 }
     ensures { result ≡ lists_none (numbers_of weekdays.now weekday) }
 {
-    weekdays.numbered[weekday as usize].is_none()
+    numbers(weekdays, weekday).is_none()
 }
 
-/// The weekdays on which BYDAY may let a day in.
-pub(crate) fn open_weekdays(weekdays: &Weekdays) -> Numbers
-    ensures { (d : ℕ) → d < 7 → has result d ≡ is_open weekdays.now d }
+/// The numbers that BYDAY gives a weekday.
+pub(crate) fn numbers(weekdays: &Weekdays, weekday: u8) -> &Places
+    requires { weekday < 7 }
+    ensures { result.now ≡ numbers_of weekdays.now weekday }
 {
-    if weekdays.is_none() {
-        return Numbers::below(7);
+    &weekdays.numbered[weekday as usize]
+}
+
+/// The months that BYMONTH lets in.
+pub(crate) fn open_months(months: Numbers) -> Numbers
+    ensures members { (m : ℕ) → m < 13 → has result m ≡ lets months m }
+    ensures bound { result < 2 ^ 13 }
+{
+    if months.is_none() {
+        Numbers::below(13)
+    } else {
+        months.front(13)
     }
-    let mut open = weekdays.plain;
-    for d in 0..7 {
-        if !has_no_number(weekdays, d) {
-            open.add(d);
-        }
-    }
-    open
+}
+
+/// Whether BYMONTHDAY or BYDAY is there, and neither BYYEARDAY nor BYWEEKNO.
+pub(crate) fn goes_by_months(parts: &Filled) -> bool
+    ensures { result ≡ goes_by_months parts.now }
+{
+    parts.weeks.is_none()
+        && parts.year_days.is_none()
+        && !(parts.month_days.is_none() && parts.weekdays.is_none())
+}
+
+/// Whether BYMONTHDAY or BYDAY is absent.
+pub(crate) fn lacks_one(parts: &Filled) -> bool
+    ensures { result ≡ (lists_none parts.now.month_days || lists_no_weekday parts.now.weekdays) }
+{
+    parts.month_days.is_none() || parts.weekdays.is_none()
+}
+
+/// Whether BYMONTH and BYMONTHDAY are absent.
+pub(crate) fn names_no_month(parts: &Filled) -> bool
+    ensures { result ≡ (is_none parts.now.months && lists_none parts.now.month_days) }
+{
+    parts.months.is_none() && parts.month_days.is_none()
 }
 
 /// Whether no part but BYDAY speaks of the date.

@@ -1,42 +1,22 @@
 //! The days of a period that a rule lets in.
-ghost use Rattle.std.specs.Prelude.{◌≡◌, ℕ, ◌<◌, ◌≤◌, ◌+◌, ◌-◌, ◌&&◌, nat_lt, pos};
-ghost use Rattle.jiff_core.specs.Calendar.{days_in_month};
-ghost use Rattle.jiff_core.specs.Weekday.{monday_zero};
-ghost use Rattle.ics_values.specs.Sets.{has, has_wide};
-ghost use Rattle.ics_values.specs.Days.{weekday_of};
-ghost use Rattle.ics_values.specs.Fields.{IsCivilOf};
-ghost use Rattle.ics_rule.specs.Candidates.{lets_date};
-ghost use Rattle.ics_rule.specs.Dates.{is_open};
+ghost use Rattle.std.specs.Prelude.{◌≡◌, ℕ, ◌<◌, ◌≤◌, ◌+◌, ◌-◌, ◌&&◌, ◌||◌, nat_le, nat_lt, pos, true, false};
+ghost use Rattle.jiff_core.specs.Calendar.{days_in_month, days_in_year};
+ghost use Rattle.ics_values.specs.declared.frequency.Frequency.TheVariants.{Monthly, Yearly};
+ghost use Rattle.ics_values.specs.Sets.{has_wide};
+ghost use Rattle.ics_values.specs.Days.{days_before_year, weekday_of};
+ghost use Rattle.ics_values.specs.Places.{lists_none, lists_none_wide};
+ghost use Rattle.ics_rule.specs.Candidates.{lets_date, lets_wide_place};
+ghost use Rattle.ics_rule.specs.Runs.{IsMonth, IsSpan, is_in_month, goes_by_months, counts_in_month};
 
-use crate::date::{civil_at, lets_date, lets_fields, month_length, open_weekdays};
+use crate::date::{
+    goes_by_months, lacks_one, lets_date, month_length, names_no_month, open_months,
+};
 use crate::filled::Filled;
-use crate::time::lets;
-use ics_values::{Civil, Numbers, WideNumbers};
-use jiff_core::civil::Weekday;
-
-/// The weekday of a day that is counted from 0000-01-01.
-fn weekday_at(index: u32) -> Weekday
-    requires { index ≤ 3652424 }
-    ensures { monday_zero result ≡ weekday_of index }
-{
-    Weekday::from_index(((index + 5) % 7) as u8)
-}
-
-/// A later day of the same month.
-fn later_day(fields: &Civil, index: u32, more: u16) -> Civil
-    requires day { index + more ≤ 3652060 }
-    requires fields { IsCivilOf fields.now index }
-    requires month { fields.now.day + more ≤ days_in_month (pos fields.now.year) fields.now.month }
-    ensures { IsCivilOf result (index + more) }
-{
-    Civil {
-        year: fields.year,
-        month: fields.month,
-        day: fields.day + more as u8,
-        weekday: weekday_at(index + more as u32),
-        year_day: fields.year_day + more,
-    }
-}
+use crate::period::{days_in, days_of_months};
+use crate::runs::Run;
+use crate::time::{lets, lets_wide_place};
+use crate::weeks::days_near_weeks;
+use ics_values::{Civil, Frequency, WideNumbers};
 
 /// How many days of its month are left with a day, that day with them.
 pub(crate) fn days_left(fields: &Civil) -> u16
@@ -48,31 +28,13 @@ pub(crate) fn days_left(fields: &Civil) -> u16
     month_length(fields) as u16 + 1 - fields.day as u16
 }
 
-/// The first of the next month.
-fn next_month(fields: &Civil, index: u32, left: u16) -> Civil
-    requires day { index < 3652060 }
-    requires fields { IsCivilOf fields.now index }
-    requires left { left ≡ days_in_month (pos fields.now.year) fields.now.month + 1 - fields.now.day }
-    ensures { IsCivilOf result (index + left) }
+/// The weekday of a day that is counted from 0000-01-01, from 0 for Monday.
+pub(crate) fn weekday_at(index: u32) -> u8
+    requires { index ≤ 3652424 }
+    ensures value { result ≡ weekday_of index }
+    ensures small { result < 7 }
 {
-    let weekday = weekday_at(index + left as u32);
-    if fields.month < 12 {
-        Civil {
-            year: fields.year,
-            month: fields.month + 1,
-            day: 1,
-            weekday,
-            year_day: fields.year_day + left,
-        }
-    } else {
-        Civil {
-            year: fields.year + 1,
-            month: 1,
-            day: 1,
-            weekday,
-            year_day: 1,
-        }
-    }
+    ((index + 5) % 7) as u8
 }
 
 /// The days that a rule lets in, of so many from a first: each is asked.
@@ -90,67 +52,144 @@ fn days_by_day(parts: &Filled, first: u32, len: u16) -> WideNumbers
     days
 }
 
-/// Adds the days of a month that a rule lets in, up to an end in that month: weekdays that BYDAY leaves out are passed over.
-fn add_days(
-    parts: &Filled,
-    days: &mut WideNumbers,
-    weekdays: Numbers,
-    month: &Civil,
-    first: u32,
-    k: u16,
-    end: u16,
-)
-    requires size { end ≤ 384 }
-    requires days { first + end ≤ 3652059 }
-    requires weekdays { (d : ℕ) → d < 7 → has weekdays d ≡ is_open parts.now.weekdays d }
-    requires month { IsCivilOf month.now (first + k) }
-    requires within { month.now.day + end ≤ days_in_month (pos month.now.year) month.now.month + 1 + k }
-    requires low { k ≤ end }
-    requires found { (m : ℕ) → has_wide days.old m ≡ (nat_lt m k && lets_date parts.now (first + m)) }
-    ensures { (m : ℕ) → has_wide days.new m ≡ (nat_lt m end && lets_date parts.now (first + m)) }
+/// Those of some days from a first that a rule lets in.
+fn those_let_in(parts: &Filled, first: u32, some: &WideNumbers) -> WideNumbers
+    requires { first + 384 ≤ 3652059 }
+    ensures { (k : ℕ) → has_wide result k ≡ (has_wide some.now k && lets_date parts.now (first + k)) }
 {
-    for j in k..end {
-        let index = first + j as u32;
-        if weekdays.has(((index + 5) % 7) as u8) {
-            let fields = later_day(month, first + k as u32, j - k);
-            if lets_fields(parts, &fields, index) {
-                days.add(j);
-            }
-        }
-    }
-}
-
-/// The same of many days: the days of months that BYMONTH leaves out are passed over.
-fn days_by_month(parts: &Filled, first: u32, len: u16) -> WideNumbers
-    requires size { len ≤ 384 }
-    requires days { first + len ≤ 3652059 }
-    ensures { (k : ℕ) → has_wide result k ≡ (nat_lt k len && lets_date parts.now (first + k)) }
-{
-    let weekdays = open_weekdays(&parts.weekdays);
     let mut days = WideNumbers::new();
-    let mut month = civil_at(first);
-    let mut k = 0;
-    while k < len {
-        let left = days_left(&month);
-        if lets(parts.months, month.month) {
-            let end = len.min(k + left);
-            add_days(parts, &mut days, weekdays, &month, first, k, end);
+    let mut from = 0;
+    while let Some(k) = some.next_from(from) {
+        if lets_date(parts, first + k as u32) {
+            days.add(k);
         }
-        month = next_month(&month, first + k as u32, left);
-        k += left;
+        from = k + 1;
     }
     days
 }
 
-/// The days that a rule lets in, of so many from a first.
-pub(crate) fn days_let_in(parts: &Filled, first: u32, len: u16) -> WideNumbers
-    requires size { len ≤ 384 }
-    requires days { first + len ≤ 3652059 }
+/// The days that BYYEARDAY lets in, of a year of so many.
+fn days_by_number(parts: &Filled, len: u16) -> WideNumbers
+    requires { len ≤ 366 }
+    ensures { (k : ℕ) → has_wide result k ≡ (nat_lt k len && lets_wide_place parts.now.year_days (k + 1) len) }
+{
+    let mut days = WideNumbers::new();
+    for k in 0..len {
+        if lets_wide_place(&parts.year_days, k + 1, len) {
+            days.add(k);
+        }
+    }
+    days
+}
+
+/// A month of a year, whose first day is counted from 0000-01-01.
+fn month_run(year: u64, month: u8, first: u32) -> Run
+    requires year { year ≤ 9999 }
+    requires low { 1 ≤ month }
+    requires high { month ≤ 12 }
+    requires first { first ≡ days_before_year year }
+    requires early { first ≤ 3652059 }
+    ensures month { IsMonth result first year month }
+    ensures within { result.start + result.len ≤ days_in_year (pos year) }
+{
+    let start = days_of_months(year, month as u64 - 1) as u16;
+    Run {
+        start,
+        len: days_in(year, month as u64) as u16,
+        weekday: weekday_at(first + start as u32),
+    }
+}
+
+/// The days of a year that its months list.
+fn days_in_months(parts: &Filled, year: u64, first: u32) -> WideNumbers
+    requires year { year ≤ 9999 }
+    requires first { first ≡ days_before_year year }
+    requires early { first ≤ 3652059 }
+    ensures { (k : ℕ) → has_wide result k ≡ (nat_lt k (days_in_year (pos year)) && is_in_month parts.now (first + k)) }
+{
+    let months = open_months(parts.months);
+    let mut days = WideNumbers::new();
+    let mut from = 1;
+    while let Some(month) = months.next_from(from) {
+        month_run(year, month, first).add_month(parts, &mut days);
+        from = month + 1;
+    }
+    days
+}
+
+/// The days that a rule lets in, of those that their months list.
+fn days_of_those(parts: &Filled, first: u32, len: u16, listed: &WideNumbers) -> WideNumbers
+    requires days { first + 384 ≤ 3652059 }
+    requires months { goes_by_months parts.now ≡ true }
+    requires numbers { counts_in_month parts.now parts.now.frequency ≡ true }
+    requires listed { (k : ℕ) → has_wide listed.now k ≡ (nat_lt k len && is_in_month parts.now (first + k)) }
     ensures { (k : ℕ) → has_wide result k ≡ (nat_lt k len && lets_date parts.now (first + k)) }
 {
-    if len <= 7 {
-        days_by_day(parts, first, len)
+    if lacks_one(parts) {
+        *listed
     } else {
-        days_by_month(parts, first, len)
+        those_let_in(parts, first, listed)
+    }
+}
+
+/// The days of a month that a rule lets in.
+fn days_of_month(parts: &Filled, number: u64, first: u32, len: u16) -> WideNumbers
+    requires frequency { parts.now.frequency ≡ Monthly }
+    requires span { IsSpan Monthly number first len }
+    requires days { first + 384 ≤ 3652059 }
+    ensures { (k : ℕ) → has_wide result k ≡ (nat_lt k len && lets_date parts.now (first + k)) }
+{
+    if !goes_by_months(parts) {
+        return days_by_day(parts, first, len);
+    }
+    let mut listed = WideNumbers::new();
+    if lets(parts.months, ((number - 1) % 12 + 1) as u8) {
+        let run = Run {
+            start: 0,
+            len,
+            weekday: weekday_at(first),
+        };
+        run.add_month(parts, &mut listed);
+    }
+    days_of_those(parts, first, len, &listed)
+}
+
+/// The days of a year that a rule lets in.
+fn days_of_year(parts: &Filled, year: u64, first: u32, len: u16) -> WideNumbers
+    requires frequency { parts.now.frequency ≡ Yearly }
+    requires span { IsSpan Yearly year first len }
+    requires days { first + 384 ≤ 3652059 }
+    ensures { (k : ℕ) → has_wide result k ≡ (nat_lt k len && lets_date parts.now (first + k)) }
+{
+    if !parts.weeks.is_none() {
+        return those_let_in(parts, first, &days_near_weeks(parts, first, len));
+    }
+    if !goes_by_months(parts) {
+        return those_let_in(parts, first, &days_by_number(parts, len));
+    }
+    if names_no_month(parts) {
+        let run = Run {
+            start: 0,
+            len,
+            weekday: weekday_at(first),
+        };
+        let mut days = WideNumbers::new();
+        run.add_weekdays(&parts.weekdays, &mut days);
+        return days;
+    }
+    days_of_those(parts, first, len, &days_in_months(parts, year, first))
+}
+
+/// The days that a rule lets in of the period with a number, which has so many from a first.
+pub(crate) fn days_let_in(parts: &Filled, number: u64, first: u32, len: u16) -> WideNumbers
+    requires size { len ≤ 384 }
+    requires days { first + 384 ≤ 3652059 }
+    requires span { IsSpan parts.now.frequency number first len }
+    ensures { (k : ℕ) → has_wide result k ≡ (nat_lt k len && lets_date parts.now (first + k)) }
+{
+    match parts.frequency {
+        Frequency::Yearly => days_of_year(parts, number, first, len),
+        Frequency::Monthly => days_of_month(parts, number, first, len),
+        _ => days_by_day(parts, first, len),
     }
 }

@@ -1,32 +1,42 @@
 //! Rules that choose nothing.
-ghost use Rattle.std.specs.Prelude.{◌≡◌, ℕ, ◌<◌, ◌≤◌, MatchOption, true, false};
+ghost use Rattle.std.specs.Prelude.{◌≡◌, ℕ, ◌<◌, ◌≤◌, true, false};
 ghost use Rattle.ics_values.specs.Sets.{has_wide};
 ghost use Rattle.ics_values.specs.Places.{lists_none_wide};
-ghost use Rattle.ics_rule.specs.Kept.{count, size, is_chosen};
+ghost use Rattle.ics_rule.specs.Kept.{count, is_chosen};
 ghost use Rattle.ics_rule.specs.Candidates.{lets};
+ghost use Rattle.ics_rule.specs.Rounds.{seconds_of};
+ghost use Rattle.ics_rule.specs.OpenPeriods.{size_of_open};
 
 use crate::filled::Filled;
 use crate::period::clock_set;
+use crate::rounds::seconds_of;
 use crate::sizes::members_below;
 use ics_values::{Frequency, Numbers, WideNumbers};
 
-/// How many minutes of an hour, or seconds of a minute, a part lets in.
-fn readings(part: Numbers) -> u64
-    ensures value { result ≡ count 60 (lets part) }
+/// How many readings of one unit of the clock a part lets in.
+fn readings(part: Numbers, size: u8) -> u64
+    requires some { 0 < size }
+    requires most { size ≤ 60 }
+    ensures value { result ≡ count size (lets part) }
     ensures bound { result ≤ 60 }
 {
-    members_below(clock_set(true, part, 0, 60), 60)
+    members_below(clock_set(true, part, 0, size), size)
 }
 
-/// How many locals a rule lets into one period at most, where that is at most an hour.
-fn most_in_period(parts: &Filled) -> Option<u64>
-    ensures { MatchOption result (Unit {0}) (λ most. (start n : ℕ) → size parts.now start n ≤ most) }
+/// How many locals each period has that a rule lets in, where a period is a day or less.
+pub(crate) fn size_of_open(parts: &Filled) -> u64
+    requires fine { 0 < seconds_of parts.now.frequency }
+    requires unit { seconds_of parts.now.frequency ≤ 86400 }
+    ensures value { result ≡ size_of_open parts.now }
+    ensures bound { result ≤ 216000 }
 {
     match parts.frequency {
-        Frequency::Secondly => Some(1),
-        Frequency::Minutely => Some(readings(parts.seconds)),
-        Frequency::Hourly => Some(readings(parts.minutes) * readings(parts.seconds)),
-        _ => None,
+        Frequency::Secondly => 1,
+        Frequency::Minutely => readings(parts.seconds, 60),
+        Frequency::Hourly => readings(parts.minutes, 60) * readings(parts.seconds, 60),
+        _ => {
+            readings(parts.hours, 24) * readings(parts.minutes, 60) * readings(parts.seconds, 60)
+        }
     }
 }
 
@@ -47,8 +57,10 @@ pub(crate) fn chooses_none(parts: &Filled) -> bool
     if parts.positions.is_none() {
         return false;
     }
-    match most_in_period(parts) {
-        Some(most) => is_past(&parts.positions.front, most) && is_past(&parts.positions.back, most),
-        None => false,
+    let unit = seconds_of(parts.frequency);
+    if unit == 0 || unit > 86_400 {
+        return false;
     }
+    let most = size_of_open(parts);
+    is_past(&parts.positions.front, most) && is_past(&parts.positions.back, most)
 }

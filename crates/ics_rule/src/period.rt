@@ -1,6 +1,6 @@
 //! A period of a rule, as a product of sets.
 ghost use Rattle.std.specs.Prelude.{◌≡◌, ℕ, suc, ◌<◌, ◌≤◌, ◌+◌, ◌*◌, ◌/◌, ◌%◌, ◌^◌, ◌&&◌, ◌||◌, ◌==◌, nat_lt, pos, IfSome};
-ghost use Rattle.jiff_core.specs.Calendar.{days_of_months, days_in_month};
+ghost use Rattle.jiff_core.specs.Calendar.{days_of_months, days_in_month, days_in_year};
 ghost use Rattle.ics_values.specs.Days.{days_before_year};
 ghost use Rattle.ics_values.specs.Sets.{has, has_wide, IsNextIn};
 ghost use Rattle.ics_rule.specs.Candidates.{lets, lets_date, period_in};
@@ -12,7 +12,7 @@ use crate::fill::{skips_hours, skips_minutes, skips_seconds};
 use crate::filled::Filled;
 use crate::time::lets;
 use ics_values::{Frequency, Numbers, WideNumbers};
-use jiff_core::civil::{Weekday, days_in_month};
+use jiff_core::civil::{Weekday, days_in_month, days_in_year};
 
 /// The locals of a period that its rule lets in: a set of days times sets of hours, minutes and seconds.
 #[derive(Clone, Copy)]
@@ -37,7 +37,7 @@ fn days_before_year(year: u64) -> u64
 }
 
 /// How many days a month has.
-fn days_in(year: u64, month: u64) -> u64
+pub(crate) fn days_in(year: u64, month: u64) -> u64
     requires year { year ≤ 10000 }
     requires month { month ≤ 12 }
     ensures value { result ≡ days_in_month (pos year) month }
@@ -46,17 +46,28 @@ fn days_in(year: u64, month: u64) -> u64
     days_in_month(year as i16, month as u8) as u64
 }
 
-/// How many days the first months of a year have.
-fn days_of_months(year: u64, months: u64) -> u64
+/// How many days a year has.
+fn length_of_year(year: u64) -> u64
+    requires { year ≤ 10000 }
+    ensures value { result ≡ days_in_year (pos year) }
+    ensures low { 365 ≤ result }
+    ensures high { result ≤ 366 }
+{
+    days_in_year(year as i16) as u64
+}
+
+/// How many days the first months of a year have. From March on five months have 153 days, and again.
+pub(crate) fn days_of_months(year: u64, months: u64) -> u64
     requires year { year ≤ 10000 }
     requires months { months ≤ 12 }
-    ensures { result ≡ days_of_months (pos year) months }
+    ensures value { result ≡ days_of_months (pos year) months }
+    ensures bound { result ≤ 366 }
 {
-    let mut days = 0;
-    for month in 0..months {
-        days += days_in(year, month + 1);
+    if months < 2 {
+        31 * months
+    } else {
+        (153 * months - 304) / 5 + length_of_year(year) - 306
     }
-    days
 }
 
 /// The first local of the period with a number.
@@ -120,7 +131,7 @@ impl Period {
         Period {
             number,
             first_day,
-            days: days_let_in(parts, first_day, len),
+            days: days_let_in(parts, number, first_day, len),
             hours: clock_set(skips_hours(frequency), parts.hours, hour, 24),
             minutes: clock_set(skips_minutes(frequency), parts.minutes, minute, 60),
             seconds: clock_set(skips_seconds(frequency), parts.seconds, second, 60),

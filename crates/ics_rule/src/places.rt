@@ -84,7 +84,7 @@ fn next_listed(positions: &WidePlaces, from: u64, size: u64) -> Option<u64>
 }
 
 /// How many of the first `k` places of `size` BYSETPOS lists.
-fn listed_below(positions: &WidePlaces, k: u64, size: u64) -> u64
+pub(crate) fn listed_below(positions: &WidePlaces, k: u64, size: u64) -> u64
     requires some { k ≤ size }
     requires small { size < 2 ^ 63 }
     ensures value { result ≡ count k (is_listed positions.now size) }

@@ -17,8 +17,11 @@ use ics_values::Frequency;
 /// Up to so many periods a search is too short to ask first whether its rule repeats.
 const A_SHORT_SEARCH: u64 = 86_400;
 
+/// A round of up to so many periods is looked at whole.
+const A_SHORT_ROUND: u64 = 200;
+
 /// How many seconds each period of a frequency has, or 0 where they differ.
-fn seconds_of(frequency: Frequency) -> u64
+pub(crate) fn seconds_of(frequency: Frequency) -> u64
     ensures value { result ≡ seconds_of frequency }
     ensures bound { result ≤ 604800 }
 {
@@ -87,10 +90,39 @@ pub(crate) fn last_to_look_at(parts: &Filled, begin: u64, last: u64) -> u64
     if round < left { begin + round } else { last }
 }
 
+/// Whether what a rule lets in repeats after so few periods that they are looked at one by one.
+fn repeats_soon(parts: &Filled) -> bool
+    requires interval { 1 ≤ parts.now.interval }
+{
+    match round_of(parts) {
+        Some(round) => round / parts.interval as u64 <= A_SHORT_ROUND,
+        None => false,
+    }
+}
+
 impl Cursor {
+    /// Counts what is chosen in the periods up to that of the place, and looks at one of the last of them: by whole rounds where these are
+    /// short, and else by whole days. Nothing changes where neither serves.
+    pub(crate) fn pass_periods(&mut self, parts: &Filled, start: u64, count: u32, first: u64)
+        requires interval { 1 ≤ parts.now.interval }
+        requires count { 1 ≤ count }
+        requires first { first ≡ period_in parts.now start }
+        requires after { start < self.old.place }
+        requires place { self.old.place < 309289708800 }
+        requires own { IsCursorIn parts.now start (Some count) self.old }
+        ensures place { self.new.place ≡ self.old.place }
+        ensures passed { IsPassedTo parts.now start count self.old self.new }
+    {
+        if repeats_soon(parts) {
+            self.pass_rounds(parts, start, count, first);
+        } else {
+            self.pass_open(parts, start, count, first);
+        }
+    }
+
     /// Counts the first round from the period held, or from the start's, on, and looks at the last period up to the place that lies whole
     /// rounds after it. Nothing changes, or the first round is looked at, where fewer than two are left.
-    pub(crate) fn pass_rounds(&mut self, parts: &Filled, start: u64, count: u32, first: u64)
+    fn pass_rounds(&mut self, parts: &Filled, start: u64, count: u32, first: u64)
         requires interval { 1 ≤ parts.now.interval }
         requires count { 1 ≤ count }
         requires first { first ≡ period_in parts.now start }

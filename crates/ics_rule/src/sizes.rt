@@ -15,11 +15,14 @@ pub(crate) fn members_below(set: Numbers, n: u8) -> u64
     ensures value { result ≡ count n (has set) }
     ensures bound { result ≤ n }
 {
+    let mut place = 0;
     let mut total = 0;
-    for k in 0..n {
-        if set.has(k) {
-            total += 1;
+    while let Some(member) = set.next_from(place) {
+        if member >= n {
+            return total;
         }
+        total += 1;
+        place = member + 1;
     }
     total
 }
@@ -30,11 +33,14 @@ fn days_below(set: &WideNumbers, n: u16) -> u64
     ensures value { result ≡ count n (has_wide set.now) }
     ensures bound { result ≤ n }
 {
+    let mut place = 0;
     let mut total = 0;
-    for k in 0..n {
-        if set.has(k) {
-            total += 1;
+    while let Some(member) = set.next_from(place) {
+        if member >= n {
+            return total;
         }
+        total += 1;
+        place = member + 1;
     }
     total
 }

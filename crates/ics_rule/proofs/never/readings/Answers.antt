@@ -5,4 +5,4 @@ use Rattle.ics_rule.proofs.Counts.{count-same}
 use Rattle.ics_rule.proofs.never.readings.Goals as goal
 
 pub returns-clause-value : goal.returns-clause-value
-returns-clause-value c = c.members_below.ensures.value ∙ count-same 60 (has c.clock_set.result) (lets c.args.part) c.clock_set.ensures.members
+returns-clause-value c = c.members_below.ensures.value ∙ count-same c.args.size (has c.clock_set.result) (lets c.args.part) c.clock_set.ensures.members

@@ -12,11 +12,11 @@ use Rattle.ics_rule.proofs.cursor.Cursor.walk_counting.Goals.{in-Some, in-None, 
 pub loop-number-init : goal.loop-number-init
 loop-number-init c = elim c.match-self.branch [
   | in-Some w ↦ subst (λ s. IsCounting c.args.parts.now c.args.start c.args.count c.args.stop c.match-self.number c.args.self.now s) (sym w.self-is)
-      (counting_begins c.args.parts.now c.args.start c.args.count c.args.stop c.match-self.number c.args.self.now c.pass_rounds.new.self (Some w.in-Some.period) c.requires.interval w.in-Some.is w.number-is
-      (omega (arith, c.requires.after, c.pass_rounds.ensures.place)) (omega (arith, c.requires.place, c.pass_rounds.ensures.place)) c.pass_rounds.ensures.place c.pass_rounds.ensures.passed)
+      (counting_begins c.args.parts.now c.args.start c.args.count c.args.stop c.match-self.number c.args.self.now c.pass_periods.new.self (Some w.in-Some.period) c.requires.interval w.in-Some.is w.number-is
+      (omega (arith, c.requires.after, c.pass_periods.ensures.place)) (omega (arith, c.requires.place, c.pass_periods.ensures.place)) c.pass_periods.ensures.place c.pass_periods.ensures.passed)
   | in-None w ↦ subst (λ s. IsCounting c.args.parts.now c.args.start c.args.count c.args.stop c.match-self.number c.args.self.now s) (sym w.self-is)
-      (counting_begins c.args.parts.now c.args.start c.args.count c.args.stop c.match-self.number c.args.self.now c.pass_rounds.new.self None c.requires.interval w.in-None.is (w.number-is ∙ c.period_of-first.ensures.value)
-      (omega (arith, c.requires.after, c.pass_rounds.ensures.place)) (omega (arith, c.requires.place, c.pass_rounds.ensures.place)) c.pass_rounds.ensures.place c.pass_rounds.ensures.passed)
+      (counting_begins c.args.parts.now c.args.start c.args.count c.args.stop c.match-self.number c.args.self.now c.pass_periods.new.self None c.requires.interval w.in-None.is (w.number-is ∙ c.period_of-first.ensures.value)
+      (omega (arith, c.requires.after, c.pass_periods.ensures.place)) (omega (arith, c.requires.place, c.pass_periods.ensures.place)) c.pass_periods.ensures.place c.pass_periods.ensures.passed)
 ]
 
 -- a period that is turned to is not past the bound's

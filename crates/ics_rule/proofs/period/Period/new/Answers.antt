@@ -3,6 +3,7 @@ use Rattle.std.proofs.Common.{◌∙◌, ◌+◌, ◌*◌, ◌/◌, ◌%◌, ◌
 use Rattle.ics_rule.specs.Candidates.{lets}
 use Rattle.ics_rule.proofs.PeriodLemmas.{next_first, week_small}
 use Rattle.ics_rule.proofs.ProductLemmas.{product_is}
+use Rattle.ics_rule.proofs.MonthDays.{period_span}
 use Rattle.ics_rule.proofs.period.Period.new.Goals as goal
 use Rattle.ics_rule.proofs.period.Period.new.Goals.{After-first_local-end}
 
@@ -28,6 +29,10 @@ days_let_in-requires-clause-size c = let s = span c in omega (arith, s.0, s.1)
 
 pub days_let_in-requires-clause-days : goal.days_let_in-requires-clause-days
 days_let_in-requires-clause-days c = let s = span c in omega (arith, s.0, s.1, c.requires.reach, c.first_local-begin.ensures)
+
+pub days_let_in-requires-clause-span : goal.days_let_in-requires-clause-span
+days_let_in-requires-clause-span c = period_span c.args.parts.now.frequency (monday_zero c.args.parts.now.week_start) c.args.number c.first_local-begin.result c.first_local-end.result c.requires.low c.first_local-begin.ensures c.first_local-end.ensures
+    (omega (arith, c.requires.reach, c.first_local-begin.ensures))
 
 pub returns-clause-product : goal.returns-clause-product
 returns-clause-product c = record {

@@ -1,0 +1,347 @@
+-- What each period of a day or less has that a rule lets in.
+use Rattle.std.proofs.Common.{◌≡◌, ℕ, zero, suc, ◌+◌, ◌-◌, ◌*◌, ◌/◌, ◌%◌, ◌<◌, ◌≤◌, Bool, true, false, cond, not, ◌&&◌, ◌||◌, ◌==◌, refl, sym, subst, ap, ◌∙◌, arith}
+use Rattle.std.proofs.lemmas.Bool.Decides.{nat_tests}
+use Rattle.std.proofs.lemmas.Nat.{div-add-mod'}
+use Rattle.std.proofs.Math.Nat.{mul-le-mul_right, mul_comm}
+use Rattle.jiff_core.specs.Weekday.{monday_zero}
+use Rattle.ics_values.specs.declared.frequency.Frequency.{Frequency}
+use Rattle.ics_values.specs.declared.frequency.Frequency.TheVariants.{Secondly, Minutely, Hourly, Daily, Weekly, Monthly, Yearly}
+use Rattle.ics_values.specs.Places.{lists_none_wide}
+use Rattle.ics_rule.specs.declared.filled.Filled.{Filled}
+use Rattle.ics_rule.specs.Locals.{period, calendar_end, day_of, hour_of, minute_of, second_of}
+use Rattle.ics_rule.specs.Filled.{skips_hours, skips_minutes, skips_seconds}
+use Rattle.ics_rule.specs.Candidates.{lets, lets_date, lets_clock, lists_wide, is_stepped, is_candidate_in, period_in}
+use Rattle.ics_rule.specs.Kept.{count, is_beside, rank, size, is_placed, is_chosen}
+use Rattle.ics_rule.specs.Periods.{first_local, is_listed}
+use Rattle.ics_rule.specs.Rounds.{seconds_of}
+use Rattle.ics_rule.specs.OpenPeriods.{per_day, lets_own, lets_within, is_open_period, size_of_open, chosen_of_size, chosen_in_open}
+use Rattle.ics_rule.proofs.Counts.{count-same, count-suc, count-add, count-from, count-none, count-product, count_every}
+use Rattle.ics_rule.proofs.ProductCounts.{count_zero}
+use Rattle.ics_rule.proofs.RankLemmas.{count_flat, count-ranked}
+use Rattle.ics_rule.proofs.StepLemmas.{stepped_parts}
+use Rattle.ics_rule.proofs.RoundLemmas.{step_repeats}
+
+if_true : (b : Bool) → b ≡ true → ◌≡◌ {A = ℕ} (cond b 1 0) 1
+if_true b e = let f : Bool → ℕ = λ z. cond z 1 0 in ap f e
+
+if_false : (b : Bool) → b ≡ false → ◌≡◌ {A = ℕ} (cond b 1 0) 0
+if_false b e = let f : Bool → ℕ = λ z. cond z 1 0 in ap f e
+
+same_fact : (a b : ℕ) → (a == b) ≡ true → a ≡ b
+same_fact a b h = grind (arith, nat_tests)
+
+self_test : (a b : ℕ) → a ≡ b → (a == b) ≡ true
+self_test a b h = grind (arith, nat_tests)
+
+last : (a b : Bool) → (a && b) ≡ true → b ≡ true
+last true b h = h
+last false b h = absurd (cc)
+
+not_true : (b : Bool) → (b ≡ true → ⊥) → b ≡ false
+not_true true never = absurd (never refl)
+not_true false never = refl
+
+-- the clock is a period's own and what is within it
+pub clock_split : (f : Frequency) (q : Filled) (n : ℕ) → lets_clock q n ≡ (lets_own f q n && lets_within f q n)
+clock_split f q n =
+    sym (ap (λ x. x && part (skips_minutes f) (lets q.minutes (minute_of n)) && part (skips_seconds f) (lets q.seconds (second_of n)))
+    (whole (skips_hours f) (lets q.hours (hour_of n)))
+    ∙ ap (λ x. lets q.hours (hour_of n) && x && part (skips_seconds f) (lets q.seconds (second_of n))) (whole (skips_minutes f) (lets q.minutes (minute_of n)))
+    ∙ ap (λ x. lets q.hours (hour_of n) && lets q.minutes (minute_of n) && x) (whole (skips_seconds f) (lets q.seconds (second_of n))))
+    ∙ shuffle (skips_hours f || lets q.hours (hour_of n)) (skips_minutes f || lets q.minutes (minute_of n)) (skips_seconds f || lets q.seconds (second_of n))
+    (not (skips_hours f) || lets q.hours (hour_of n)) (not (skips_minutes f) || lets q.minutes (minute_of n))
+    (not (skips_seconds f) || lets q.seconds (second_of n))
+  where
+    part : Bool → Bool → Bool
+    part x a = (x || a) && (not x || a)
+
+    whole : (x a : Bool) → part x a ≡ a
+    whole true true = refl
+    whole true false = refl
+    whole false true = refl
+    whole false false = refl
+
+    shuffle : (a b c d e f : Bool) → (((a && d) && (b && e)) && (c && f)) ≡ ((a && b && c) && (d && e && f))
+    shuffle false b c d e f = refl
+    shuffle true false c true e f = refl
+    shuffle true false c false e f = refl
+    shuffle true true false true true f = refl
+    shuffle true true false true false f = refl
+    shuffle true true false false e f = refl
+    shuffle true true true d e f = refl
+
+-- a period's locals, by their place in it
+module _ (q : Filled) (p k : ℕ) where
+  pub period_at : (f : Frequency) (w : ℕ) → 0 < seconds_of f → seconds_of f ≤ 86_400 → k < seconds_of f → period f w (p * seconds_of f + k) ≡ p
+  period_at Secondly w h u l = omega (arith, l)
+  period_at Minutely w h u l = omega (arith, l)
+  period_at Hourly w h u l = omega (arith, l)
+  period_at Daily w h u l = omega (arith, l)
+  period_at Weekly w h u l = absurd (omega (arith, u))
+  period_at Monthly w h u l = absurd (omega (arith, h))
+  period_at Yearly w h u l = absurd (omega (arith, h))
+
+  day_at : (f : Frequency) → 0 < seconds_of f → seconds_of f ≤ 86_400 → k < seconds_of f → (p * seconds_of f + k) / 86_400 ≡ p / per_day f
+  day_at Secondly h u l = omega (arith, l)
+  day_at Minutely h u l = omega (arith, l)
+  day_at Hourly h u l = omega (arith, l)
+  day_at Daily h u l = omega (arith, l)
+  day_at Weekly h u l = absurd (omega (arith, u))
+  day_at Monthly h u l = absurd (omega (arith, h))
+  day_at Yearly h u l = absurd (omega (arith, h))
+
+  own_at : (f : Frequency) → 0 < seconds_of f → seconds_of f ≤ 86_400 → k < seconds_of f → lets_own f q (p * seconds_of f + k) ≡ lets_own f q (p * seconds_of f)
+  own_at Secondly h u l = ap (lets_own Secondly q) (let same : p * 1 + k ≡ p * 1 = omega (arith, l) in same)
+  own_at Minutely h u l =
+      let hour : (p * 60 + k) / 3_600 % 24 ≡ p * 60 / 3_600 % 24 = omega (arith, l) in
+      let minute : (p * 60 + k) / 60 % 60 ≡ p * 60 / 60 % 60 = omega (arith, l) in
+      ap (λ x. lets q.hours x && lets q.minutes (minute_of (p * 60 + k)) && true) hour
+      ∙ ap (λ x. lets q.hours (hour_of (p * 60)) && lets q.minutes x && true) minute
+  own_at Hourly h u l = let hour : (p * 3_600 + k) / 3_600 % 24 ≡ p * 3_600 / 3_600 % 24 = omega (arith, l) in ap (λ x. lets q.hours x && true && true) hour
+  own_at Daily h u l = refl
+  own_at Weekly h u l = absurd (omega (arith, u))
+  own_at Monthly h u l = absurd (omega (arith, h))
+  own_at Yearly h u l = absurd (omega (arith, h))
+
+  pub within_at : (f : Frequency) → 0 < seconds_of f → seconds_of f ≤ 86_400 → k < seconds_of f → lets_within f q (p * seconds_of f + k) ≡ lets_within f q k
+  within_at Secondly h u l = refl
+  within_at Minutely h u l = let second : (p * 60 + k) % 60 ≡ k % 60 = omega arith in ap (lets q.seconds) second
+  within_at Hourly h u l =
+      let minute : (p * 3_600 + k) / 60 % 60 ≡ k / 60 % 60 = omega arith in
+      let second : (p * 3_600 + k) % 60 ≡ k % 60 = omega arith in
+      ap (λ x. lets q.minutes x && lets q.seconds (second_of (p * 3_600 + k))) minute ∙ ap (λ x. lets q.minutes (minute_of k) && lets q.seconds x) second
+  within_at Daily h u l =
+      let hour : (p * 86_400 + k) / 3_600 % 24 ≡ k / 3_600 % 24 = omega arith in
+      let minute : (p * 86_400 + k) / 60 % 60 ≡ k / 60 % 60 = omega arith in
+      let second : (p * 86_400 + k) % 60 ≡ k % 60 = omega arith in
+      ap (λ x. lets q.hours x && lets q.minutes (minute_of (p * 86_400 + k)) && lets q.seconds (second_of (p * 86_400 + k))) hour
+      ∙ ap (λ x. lets q.hours (hour_of k) && lets q.minutes x && lets q.seconds (second_of (p * 86_400 + k))) minute
+      ∙ ap (λ x. lets q.hours (hour_of k) && lets q.minutes (minute_of k) && lets q.seconds x) second
+  within_at Weekly h u l = absurd (omega (arith, u))
+  within_at Monthly h u l = absurd (omega (arith, h))
+  within_at Yearly h u l = absurd (omega (arith, h))
+
+pub in_period : (f : Frequency) (w n : ℕ) → 0 < seconds_of f → seconds_of f ≤ 86_400 → (period f w n * seconds_of f ≤ n)
+    × (n < period f w n * seconds_of f + seconds_of f)
+in_period Secondly w n h u = (omega arith, omega arith)
+in_period Minutely w n h u = (omega arith, omega arith)
+in_period Hourly w n h u = (omega arith, omega arith)
+in_period Daily w n h u = (omega arith, omega arith)
+in_period Weekly w n h u = absurd (omega (arith, u))
+in_period Monthly w n h u = absurd (omega (arith, h))
+in_period Yearly w n h u = absurd (omega (arith, h))
+
+first_at : (f : Frequency) (w p : ℕ) → 0 < seconds_of f → seconds_of f ≤ 86_400 → first_local f w p ≡ p * seconds_of f
+first_at Secondly w p h u = omega arith
+first_at Minutely w p h u = refl
+first_at Hourly w p h u = refl
+first_at Daily w p h u = refl
+first_at Weekly w p h u = absurd (omega (arith, u))
+first_at Monthly w p h u = absurd (omega (arith, h))
+first_at Yearly w p h u = absurd (omega (arith, h))
+
+-- how many locals that is
+module _ (q : Filled) where
+  pub size_secondly : 1 ≡ count 1 (lets_within Secondly q)
+  size_secondly = sym (count-same 1 (lets_within Secondly q) (λ k. true) (λ k l. refl) ∙ count_every 1)
+
+  pub size_minutely : count 60 (lets_within Minutely q) ≡ count 60 (lets q.seconds)
+  size_minutely = count-same 60 (lets_within Minutely q) (lets q.seconds) (λ k l. ap (lets q.seconds) (let same : k % 60 ≡ k = omega (arith, l) in same))
+
+  pub size_hourly : count 3_600 (lets_within Hourly q) ≡ count 60 (lets q.minutes) * count 60 (lets q.seconds)
+  size_hourly =
+      count-same 3_600 (lets_within Hourly q) (λ k. lets q.minutes (k / 60) && lets q.seconds (k % 60))
+      (λ k l. ap (λ x. lets q.minutes x && lets q.seconds (k % 60)) (let same : k / 60 % 60 ≡ k / 60 = omega (arith, l) in same))
+      ∙ count-product 60 60 (lets q.minutes) (lets q.seconds)
+
+  pub size_daily : count 86_400 (lets_within Daily q) ≡ count 24 (lets q.hours) * count 60 (lets q.minutes) * count 60 (lets q.seconds)
+  size_daily =
+      count-same 86_400 (lets_within Daily q) (λ k. (lets q.hours (k / 60 / 60) && lets q.minutes (k / 60 % 60)) && lets q.seconds (k % 60))
+      (λ k l. ap (λ x. (lets q.hours x && lets q.minutes (k / 60 % 60)) && lets q.seconds (k % 60))
+      (let same : k / 3_600 % 24 ≡ k / 60 / 60 = omega (arith, l) in same))
+      ∙ count-product 1_440 60 (λ m. lets q.hours (m / 60) && lets q.minutes (m % 60)) (lets q.seconds)
+      ∙ ap (λ x. x * count 60 (lets q.seconds)) (count-product 24 60 (lets q.hours) (lets q.minutes))
+
+-- a period later than another, up to which what is chosen is counted
+pub record IsOpenEnd (q : Filled) (start begin last place sum : ℕ) : Type 0 where
+  pub step : is_stepped (period_in q start) q.interval last ≡ true
+  pub later : begin < last
+  pub top : last ≤ period_in q place
+  pub total : sum ≡ count (first_local q.frequency (monday_zero q.week_start) last) (is_chosen q start)
+
+module _ (q : Filled) (start : ℕ) (fine : 0 < seconds_of q.frequency) (unit : seconds_of q.frequency ≤ 86_400) where
+  abbrev u : ℕ
+  u = seconds_of q.frequency
+
+  abbrev within : ℕ → Bool
+  within = lets_within q.frequency q
+
+  abbrev is_open : ℕ → Bool
+  is_open = is_open_period q (period_in q start)
+
+  -- whether BYSETPOS lets the place of a local in, of those that are let in
+  abbrev chosen_by : Bool → ℕ → Bool
+  chosen_by true k = within k
+  chosen_by false k = within k && is_listed q.positions (count u within) (count k within)
+
+  period_of : (p k : ℕ) → k < u → period_in q (p * u + k) ≡ p
+  period_of p k l = period_at q p k q.frequency (monday_zero q.week_start) fine unit l
+
+  candidate_at : (p k : ℕ) → k < u → is_candidate_in q start (p * u + k) ≡ (is_open p && within k)
+  candidate_at p k l =
+      ap (λ x. is_stepped (period_in q start) q.interval x && lets_date q (day_of (p * u + k)) && lets_clock q (p * u + k)) (period_of p k l)
+      ∙ ap (λ x. is_stepped (period_in q start) q.interval p && lets_date q x && lets_clock q (p * u + k)) (day_at q p k q.frequency fine unit l)
+      ∙ ap (λ x. is_stepped (period_in q start) q.interval p && lets_date q (p / per_day q.frequency) && x)
+      (clock_split q.frequency q (p * u + k) ∙ ap (λ x. x && lets_within q.frequency q (p * u + k)) (own_at q p k q.frequency fine unit l)
+      ∙ ap (λ x. lets_own q.frequency q (p * u) && x) (within_at q p k q.frequency fine unit l))
+      ∙ turn (is_stepped (period_in q start) q.interval p) (lets_date q (p / per_day q.frequency)) (lets_own q.frequency q (p * u)) (within k)
+    where
+      turn : (a b c d : Bool) → ((a && b) && (c && d)) ≡ ((a && (b && c)) && d)
+      turn false b c d = refl
+      turn true false c d = refl
+      turn true true c d = refl
+
+  -- what stands beside a local of an is_open period
+  module _ (p k : ℕ) (l : k < u) (is : is_open p ≡ true) where
+    beside_at : (j : ℕ) → j < u → is_beside q start (p * u + k) (p * u + j) ≡ within j
+    beside_at j h =
+        ap (λ x. x && period_in q (p * u + j) == period_in q (p * u + k)) (candidate_at p j h)
+        ∙ ap (λ x. (is_open p && within j) && x) (self_test (period_in q (p * u + j)) (period_in q (p * u + k)) (period_of p j h ∙ sym (period_of p k l)))
+        ∙ ap (λ x. (x && within j) && true) is ∙ and_true (within j)
+      where
+        and_true : (b : Bool) → (b && true) ≡ b
+        and_true true = refl
+        and_true false = refl
+
+    beside_in : (m : ℕ) → is_beside q start (p * u + k) m ≡ true → (p * u ≤ m) × (m < p * u + u)
+    beside_in m here =
+        let same = same_fact (period_in q m) (period_in q (p * u + k))
+        (last (is_candidate_in q start m) (period_in q m == period_in q (p * u + k)) here) ∙ period_of p k l in
+        let place = in_period q.frequency (monday_zero q.week_start) m fine unit in
+        let begin = ap (λ x. x * u) same in
+        (omega (arith, begin, place.0), omega (arith, begin, place.1))
+
+    rank_at : rank q start (p * u + k) ≡ count (suc k) within
+    rank_at =
+        ap (λ x. count x (is_beside q start (p * u + k))) (let whole : suc (p * u + k) ≡ p * u + suc k = omega arith in whole)
+        ∙ count-from (p * u) (suc k) (is_beside q start (p * u + k))
+        (λ m h. not_true (is_beside q start (p * u + k) m) (λ here. let low = (beside_in m here).0 in omega (arith, low, h)))
+        ∙ count-same (suc k) (λ j. is_beside q start (p * u + k) (p * u + j)) within (λ j h. beside_at j (omega (arith, h, l)))
+
+    size_at : p * u + u ≤ calendar_end → size q start (p * u + k) ≡ count u within
+    size_at top =
+        count_flat (p * u + u) calendar_end (is_beside q start (p * u + k)) top
+        (λ m h t. not_true (is_beside q start (p * u + k) m) (λ here. let high = (beside_in m here).1 in omega (arith, high, h)))
+        ∙ count-from (p * u) u (is_beside q start (p * u + k))
+        (λ m h. not_true (is_beside q start (p * u + k) m) (λ here. let low = (beside_in m here).0 in omega (arith, low, h)))
+        ∙ count-same u (λ j. is_beside q start (p * u + k) (p * u + j)) within (λ j h. beside_at j h)
+
+    chosen_at : p * u + u ≤ calendar_end → (b : Bool) → (is_candidate_in q start (p * u + k) && is_placed q start b (p * u + k)) ≡ chosen_by b k
+    chosen_at top true = ap (λ x. x && true) (candidate_at p k l ∙ ap (λ x. x && within k) is) ∙ and_true (within k)
+      where
+        and_true : (b : Bool) → (b && true) ≡ b
+        and_true true = refl
+        and_true false = refl
+    chosen_at top false =
+        ap (λ x. x && lists_wide q.positions (rank q start (p * u + k)) (size q start (p * u + k))) (candidate_at p k l ∙ ap (λ x. x && within k) is)
+        ∙ ap (λ x. within k && lists_wide q.positions (rank q start (p * u + k)) x) (size_at top)
+        ∙ ap (λ x. within k && lists_wide q.positions x (count u within)) rank_at
+        ∙ by_within (within k) refl
+      where
+        by_within : (b : Bool) → within k ≡ b → (within k && lists_wide q.positions (count (suc k) within) (count u within))
+            ≡ (within k && is_listed q.positions (count u within) (count k within))
+        by_within false e = ap (λ x. x && lists_wide q.positions (count (suc k) within) (count u within)) e
+            ∙ sym (ap (λ x. x && is_listed q.positions (count u within) (count k within)) e)
+        by_within true e = ap (λ x. within k && lists_wide q.positions x (count u within))
+            (let one = if_true (within k) e in let more = count-suc k within in let next : count (suc k) within
+            ≡ count k within + 1 = omega (arith, one, more) in next)
+
+  chosen_open : (p : ℕ) → p * u + u ≤ calendar_end → is_open p ≡ true → count u (λ k. is_chosen q start (p * u + k)) ≡ chosen_in_open q
+  chosen_open p top is =
+      count-same u (λ k. is_chosen q start (p * u + k)) (chosen_by (lists_none_wide q.positions)) (λ k l. chosen_at p k l is top (lists_none_wide q.positions))
+      ∙ by_places (lists_none_wide q.positions)
+    where
+      by_places : (b : Bool) → count u (chosen_by b) ≡ chosen_of_size q b (size_of_open q)
+      by_places true = refl
+      by_places false = count-ranked u within (is_listed q.positions (count u within))
+
+  chosen_closed : (p : ℕ) → is_open p ≡ false → count u (λ k. is_chosen q start (p * u + k)) ≡ 0
+  chosen_closed p out = count-none u (λ k. is_chosen q start (p * u + k))
+      (λ k l. ap (λ x. x && is_placed q start (lists_none_wide q.positions) (p * u + k)) (candidate_at p k l ∙ ap (λ x. x && within k) out))
+
+  -- what is chosen in whole periods
+  total_open : (p : ℕ) → p * u ≤ calendar_end → count (p * u) (is_chosen q start) ≡ count p is_open * chosen_in_open q
+  total_open zero top = let none : 0 * u ≡ 0 = omega arith in ap (λ x. count x (is_chosen q start)) none ∙ sym (count_zero (is_chosen q start))
+      ∙ (let product : 0 ≡ 0 * chosen_in_open q = omega arith in product) ∙ ap (λ x. x * chosen_in_open q) (count_zero is_open)
+  total_open (suc p) top =
+      let wide : suc p * u ≡ p * u + u = omega arith in
+      let all = ap (λ x. count x (is_chosen q start)) wide in
+      let parts = count-add (p * u) u (is_chosen q start) in
+      let before = total_open p (omega (arith, wide, top)) in
+      let more = count-suc p is_open in
+      by_open (is_open p) refl (count (suc p * u) (is_chosen q start)) (count (suc p) is_open) (count p is_open) (count u (λ k. is_chosen q start (p * u + k)))
+      (omega (arith, all, parts, before)) more (λ e. chosen_open p (omega (arith, wide, top)) e) (λ e. chosen_closed p e)
+    where
+      by_open : (b : Bool) → is_open p ≡ b → (t n m x : ℕ) → t ≡ m * chosen_in_open q + x → n ≡ m + cond (is_open p) 1 0
+          → (is_open p ≡ true → x ≡ chosen_in_open q) → (is_open p ≡ false → x ≡ 0) → t ≡ n * chosen_in_open q
+      by_open true e t n m x et en some none =
+          let one = if_true (is_open p) e in
+          let next : n ≡ m + 1 = omega (arith, en, one) in
+          let product = ap (λ y. y * chosen_in_open q) next in
+          let spread : (m + 1) * chosen_in_open q ≡ m * chosen_in_open q + chosen_in_open q = omega arith in
+          omega (arith, et, some e, product, spread)
+      by_open false e t n m x et en some none =
+          let zero = if_false (is_open p) e in
+          let same : n ≡ m = omega (arith, en, zero) in
+          let product = ap (λ y. y * chosen_in_open q) same in
+          omega (arith, et, none e, product)
+
+  -- from one period to another
+  pub total_between : (begin target counted each number : ℕ) → each ≡ chosen_in_open q → number + count begin is_open ≡ count target is_open
+      → target * u ≤ calendar_end → begin ≤ target
+      → counted ≡ count (first_local q.frequency (monday_zero q.week_start) begin) (is_chosen q start) → counted + each * number
+      ≡ count (first_local q.frequency (monday_zero q.week_start) target) (is_chosen q start)
+  total_between begin target counted each number ee en top up ec =
+      let low = total_open begin (let up' = mul-le-mul_right u up in omega (arith, up', top)) in
+      let high = total_open target top in
+      let a = ap (λ x. count x (is_chosen q start)) (first_at q.frequency (monday_zero q.week_start) begin fine unit) in
+      let b = ap (λ x. count x (is_chosen q start)) (first_at q.frequency (monday_zero q.week_start) target fine unit) in
+      let product = ap (λ x. x * chosen_in_open q) en in
+      let spread : (number + count begin is_open) * chosen_in_open q ≡ number * chosen_in_open q + count begin is_open * chosen_in_open q = omega arith in
+      let turned : each * number ≡ number * chosen_in_open q = ap (λ x. x * number) ee ∙ mul_comm (chosen_in_open q) number in
+      omega (arith, low, high, a, b, product, spread, turned, ec)
+
+  -- a walk ahead by whole intervals, up to the period of a place
+  pub open_end : (first begin ahead counted each number place : ℕ) → 1 ≤ q.interval → first ≡ period_in q start → ahead ≡ period_in q place - begin
+      → 64 ≤ ahead / q.interval → place < 315_569_520_000
+      → is_stepped (period_in q start) q.interval begin ≡ true → counted
+      ≡ count (first_local q.frequency (monday_zero q.week_start) begin) (is_chosen q start) → each ≡ chosen_in_open q
+      → number + count begin (is_open_period q first) ≡ count (begin + ahead / q.interval * q.interval) (is_open_period q first)
+      → IsOpenEnd q start begin (begin + ahead / q.interval * q.interval) place (counted + each * number)
+  open_end first begin ahead counted each number place some ef ea far inside step ec ee en =
+      let parts = stepped_parts (period_in q start) q.interval begin step in
+      let whole = div-add-mod' ahead q.interval in
+      let up = mul-le-mul_right {m = 64} {n = ahead / q.interval} q.interval far in
+      let order = mul_comm q.interval (ahead / q.interval) in
+      let own = in_period q.frequency (monday_zero q.week_start) place fine unit in
+      let top : begin + ahead / q.interval * q.interval ≤ period_in q place = omega (arith, whole, ea, up, some) in
+      let high = mul-le-mul_right u top in
+      record {
+        step = ap (λ x. is_stepped (period_in q start) q.interval (begin + x)) (sym order)
+            ∙ step_repeats q.interval (ahead / q.interval) (period_in q start) begin parts.0 ∙ step;
+        later = omega (arith, up, some);
+        top = top;
+        total = total_between begin (begin + ahead / q.interval * q.interval) counted each number ee
+            (subst (λ x. number + count begin (is_open_period q x) ≡ count (begin + ahead / q.interval * q.interval) (is_open_period q x)) ef en)
+            (omega (arith, high, own.0, inside)) (omega arith) ec;
+      }
+
+-- of the frequencies whose periods are a day or less the day is the one that is no part of a day
+pub daily : (f : Frequency) → 0 < seconds_of f → seconds_of f ≤ 86_400 → (f ≡ Secondly → ⊥) → (f ≡ Minutely → ⊥) → (f ≡ Hourly → ⊥) → f ≡ Daily
+daily Secondly h u s m o = absurd (s refl)
+daily Minutely h u s m o = absurd (m refl)
+daily Hourly h u s m o = absurd (o refl)
+daily Daily h u s m o = refl
+daily Weekly h u s m o = absurd (omega (arith, u))
+daily Monthly h u s m o = absurd (omega (arith, h))
+daily Yearly h u s m o = absurd (omega (arith, h))

@@ -1,0 +1,411 @@
+-- The days that months list, by their dates, and what is left to ask of them.
+use Rattle.std.proofs.Common.{◌≡◌, ℕ, zero, suc, ◌+◌, ◌-◌, ◌*◌, ◌/◌, ◌%◌, ◌<◌, ◌≤◌, ◌⊎◌, inl, inr, Bool, true, false, not, ◌==◌, ◌||◌, ◌&&◌, nat_lt, nat_le, if◌then◌else◌, pos, refl, sym, ap, ◌∙◌, arith}
+use Rattle.std.proofs.lemmas.Bool.Decides.{nat_tests}
+use Rattle.jiff_core.specs.Calendar.{days_in_month, days_in_year, days_of_months}
+use Rattle.jiff_core.proofs.SignedLemmas.{signed_arith}
+use Rattle.jiff_core.proofs.CalendarLemmas.{days_of_months_more, days_of_months_all, days_in_year_bounds}
+use Rattle.ics_values.specs.declared.frequency.Frequency.{Frequency}
+use Rattle.ics_values.specs.declared.frequency.Frequency.TheVariants.{Secondly, Minutely, Hourly, Daily, Weekly, Monthly, Yearly}
+use Rattle.ics_values.specs.declared.places.Places.{Places}
+use Rattle.ics_values.specs.Sets.{has, is_none, IsLeastFrom}
+use Rattle.ics_values.specs.Places.{lists_none, lists_none_wide, lists_no_weekday, numbers_of}
+use Rattle.ics_values.specs.Days.{days_before_year, year_of, year_day_of, month_of, month_day_of, weekday_of}
+use Rattle.ics_values.proofs.DayLemmas.{Fields, days_before_year-next, days_before_year_low, year_of_is, year_under_way}
+use Rattle.ics_rule.specs.declared.filled.Filled.{Filled}
+use Rattle.ics_rule.specs.declared.runs.Run.{Run}
+use Rattle.ics_rule.specs.Locals.{period}
+use Rattle.ics_rule.specs.Periods.{first_local, month_start}
+use Rattle.ics_rule.specs.Candidates.{lets, lets_place, lets_wide_place, lets_week, lets_weekday, lets_numbered, lets_date, lists, lists_nth}
+use Rattle.ics_rule.specs.Runs.{has_run, weekday_in, lists_weekday, lists_in_month, is_in_month, goes_by_months, counts_in_month, IsMonth, IsSpan}
+use Rattle.ics_rule.proofs.Months.{earlier_month, later_month, month_of_low}
+use Rattle.ics_rule.proofs.PeriodLemmas.{month_positive, month_size}
+use Rattle.ics_rule.proofs.DayWalkLemmas.{fields_at}
+use Rattle.ics_rule.proofs.DateLemmas.{absent_in}
+use Rattle.ics_rule.proofs.RunLemmas.{next_found, all_found, guard, run_facts, run_shown}
+
+by_order : (a b : ℕ) → (a < b) ⊎ (b ≤ a)
+by_order a b = grind arith
+
+less : (a b : ℕ) → a < b → nat_lt a b ≡ true
+less a b h = grind (arith, nat_tests)
+
+not_less : (a b : ℕ) → b ≤ a → nat_lt a b ≡ false
+not_less a b h = grind (arith, nat_tests)
+
+same : (a b : ℕ) → a ≡ b → (a == b) ≡ true
+same a b h = grind (arith, nat_tests)
+
+above : (a b : ℕ) → b < a → (a == b) ≡ false
+above a b h = grind (arith, nat_tests)
+
+below : (a b : ℕ) → a < b → (a == b) ≡ false
+below a b h = grind (arith, nat_tests)
+
+and_no : (a b : Bool) → b ≡ false → (a && b) ≡ false
+and_no true b h = h
+and_no false b h = refl
+
+-- the month that a day of its year lies in
+module _ (r : Run) (first y m k : ℕ) (own : IsMonth r first y m) where
+  day_of_run : r.start ≤ k → k - r.start < r.len → Fields (first + k) y m (k - r.start + 1)
+  day_of_run low high = fields_at (first + k) y m (k - r.start + 1)
+      ((omega (arith, signed_arith, own.year), omega (arith, signed_arith, own.year)), (own.low, own.high), (omega arith, omega (arith, high, own.size)))
+      (omega (arith, own.place, low))
+
+  run_is_month : first ≡ days_before_year y → k < days_in_year (pos y) → has_run r k ≡ (month_of (first + k) == m)
+  run_is_month start inside =
+      let year : year_of (first + k) ≡ y = year_of_is (first + k) y (omega (arith, start)) (let next = days_before_year-next y in omega (arith, next, start, inside)) in
+      let more = days_of_months_more (pos y) m own.low in
+      elim (by_order k r.start) [
+        | inl before ↦
+            let early = earlier_month y m own.low own.high (first + k) (omega (arith, own.place, before, start)) in
+            let out : nat_le r.start k ≡ false = grind (arith, nat_tests) in
+            ap (λ x. x && nat_lt (k - r.start) r.len) out ∙ sym (below (month_of (first + k)) m (omega (arith, early, year)))
+        | inr begun ↦ elim (by_order (k - r.start) r.len) [
+          | inl there ↦ let f = day_of_run begun there in run_shown r k begun there ∙ sym (same (month_of (first + k)) m f.month)
+          | inr past ↦
+              let late = later_month y m own.low own.high (first + k) (omega (arith, own.place, own.size, more, past, start, begun)) in
+              and_no (nat_le r.start k) (nat_lt (k - r.start) r.len) (not_less (k - r.start) r.len past) ∙ sym (above (month_of (first + k)) m (omega (arith, late, year)))
+        ]
+      ]
+
+  pub run_lists : (q : Filled) → has_run r k ≡ true → lists_in_month q (weekday_in r (k - r.start)) (k - r.start + 1) r.len
+      ≡ lists_in_month q (weekday_of (first + k)) (month_day_of (first + k)) (days_in_month (pos (year_of (first + k))) (month_of (first + k)))
+  run_lists q h =
+      let inside = run_facts r k h in
+      let f = day_of_run inside.0 inside.1 in
+      let weekday : weekday_in r (k - r.start) ≡ weekday_of (first + k) = omega (arith, own.weekday, inside.0) in
+      let size : r.len ≡ days_in_month (pos (year_of (first + k))) (month_of (first + k)) =
+      own.size ∙ sym (ap (λ x. days_in_month (pos x) (month_of (first + k))) f.year ∙ ap (days_in_month (pos y)) f.month) in
+      ap (λ d. lists_in_month q d (k - r.start + 1) r.len) weekday
+      ∙ ap (λ n. lists_in_month q (weekday_of (first + k)) n r.len) (sym f.month_day)
+      ∙ ap (λ n. lists_in_month q (weekday_of (first + k)) (month_day_of (first + k)) n) size
+
+-- how far a walk over the months has come
+abbrev pub seen_months : Filled → (ℕ → Bool) → ℕ → ℕ → Bool
+seen_months q months from e =
+    nat_lt (month_of e) from && (months (month_of e) && lists_in_month q (weekday_of e) (month_day_of e) (days_in_month (pos (year_of e)) (month_of e)))
+
+pub month_step : (q : Filled) (r : Run) (months : ℕ → Bool) (first y m from k : ℕ) (b new : Bool) → IsMonth r first y m → first ≡ days_before_year y → r.start + r.len ≤ days_in_year (pos y) → IsLeastFrom months from m
+    → b ≡ (nat_lt k (days_in_year (pos y)) && seen_months q months from (first + k))
+    → new ≡ (b || (has_run r k && lists_in_month q (weekday_in r (k - r.start)) (k - r.start + 1) r.len))
+    → new ≡ (nat_lt k (days_in_year (pos y)) && seen_months q months (m + 1) (first + k))
+month_step q r months first y m from k b new own start most next e more = elim (by_order k (days_in_year (pos y))) [
+  | inl inside ↦
+      let M = month_of (first + k) in
+      let L = lists_in_month q (weekday_of (first + k)) (month_day_of (first + k)) (days_in_month (pos (year_of (first + k))) (month_of (first + k))) in
+      let old : b ≡ (nat_lt M from && (months M && L)) = e ∙ ap (λ x. x && (nat_lt M from && (months M && L))) (less k (days_in_year (pos y)) inside) in
+      let added : (has_run r k && lists_in_month q (weekday_in r (k - r.start)) (k - r.start + 1) r.len) ≡ ((M == m) && L) =
+      guard (has_run r k) _ L (run_lists r first y m k own q) ∙ ap (λ x. x && L) (run_is_month r first y m k own start inside) in
+      more ∙ ap (λ x. x || (has_run r k && lists_in_month q (weekday_in r (k - r.start)) (k - r.start + 1) r.len)) old ∙ ap (λ x. (nat_lt M from && (months M && L)) || x) added
+      ∙ gather (nat_lt M from) (months M) (M == m) L ∙ ap (λ x. x && L) (next_found months from m M next) ∙ spread (nat_lt M (m + 1)) (months M) L
+      ∙ ap (λ x. x && (nat_lt M (m + 1) && (months M && L))) (sym (less k (days_in_year (pos y)) inside))
+  | inr past ↦
+      let out : has_run r k ≡ false = and_no (nat_le r.start k) (nat_lt (k - r.start) r.len) (not_less (k - r.start) r.len (omega (arith, past, most))) in
+      let none = not_less k (days_in_year (pos y)) past in
+      more ∙ ap (λ x. x || (has_run r k && lists_in_month q (weekday_in r (k - r.start)) (k - r.start + 1) r.len)) (e ∙ ap (λ x. x && seen_months q months from (first + k)) none)
+      ∙ ap (λ x. x && lists_in_month q (weekday_in r (k - r.start)) (k - r.start + 1) r.len) out
+      ∙ sym (ap (λ x. x && seen_months q months (m + 1) (first + k)) none)
+]
+  where
+    gather : (a b s t : Bool) → ((a && (b && t)) || (s && t)) ≡ ((s || (a && b)) && t)
+    gather true true true true = refl
+    gather true true true false = refl
+    gather true true false true = refl
+    gather true true false false = refl
+    gather true false true t = refl
+    gather true false false t = refl
+    gather false b true t = refl
+    gather false b false t = refl
+
+    spread : (a b t : Bool) → ((a && b) && t) ≡ (a && (b && t))
+    spread true b t = refl
+    spread false b t = refl
+
+pub months_none : (q : Filled) (months : ℕ → Bool) (e : ℕ) (a : Bool) → false ≡ (a && seen_months q months 1 e)
+months_none q months e a =
+    let none : nat_lt (month_of e) 1 ≡ false = not_less (month_of e) 1 (month_positive e) in
+    sym (and_no a (seen_months q months 1 e) (ap (λ x. x && (months (month_of e) && lists_in_month q (weekday_of e) (month_day_of e) (days_in_month (pos (year_of e)) (month_of e)))) none))
+
+month_small : (e : ℕ) → month_of e < 13
+month_small e = let top = month_of_low e 12 (let all = days_of_months_all (pos (year_of e)) in let next = days_before_year-next (year_of e) in let u = year_under_way e in omega (arith, all, next, u.1)) (omega arith) in omega (arith, top)
+
+pub months_done : (q : Filled) (months : ℕ → Bool) (from e : ℕ) (a : Bool) → ((n : ℕ) → from ≤ n → months n ≡ false) → ((n : ℕ) → n < 13 → months n ≡ lets q.months n)
+    → (a && seen_months q months from e) ≡ (a && is_in_month q e)
+months_done q months from e a none is =
+    let L = lists_in_month q (weekday_of e) (month_day_of e) (days_in_month (pos (year_of e)) (month_of e)) in
+    ap (λ x. a && x) (sym (spread (nat_lt (month_of e) from) (months (month_of e)) L) ∙ ap (λ x. x && L) (all_found months from (month_of e) (none (month_of e)) ∙ is (month_of e) (month_small e)))
+  where
+    spread : (a b t : Bool) → ((a && b) && t) ≡ (a && (b && t))
+    spread true b t = refl
+    spread false b t = refl
+
+-- one month alone
+pub one_month : (q : Filled) (first len y m w k : ℕ) (a b : Bool) → IsMonth (record { start = 0; len = len; weekday = w }) first y m → lets q.months m ≡ true → a ≡ false
+    → b ≡ (a || (has_run (record { start = 0; len = len; weekday = w }) k && lists_in_month q (weekday_in (record { start = 0; len = len; weekday = w }) (k - 0)) (k - 0 + 1) len))
+    → b ≡ (nat_lt k len && is_in_month q (first + k))
+one_month q first len y m w k a b own among none e =
+    let r : Run = record { start = 0; len = len; weekday = w } in
+    let test : has_run r k ≡ nat_lt k len = run_start k len in
+    e ∙ ap (λ x. x || (has_run r k && lists_in_month q (weekday_in r (k - 0)) (k - 0 + 1) len)) none ∙ guard (has_run r k) _ (is_in_month q (first + k)) (λ h.
+    let inside = run_facts r k h in
+    let f = day_of_run r first y m k own inside.0 inside.1 in
+    run_lists r first y m k own q h
+    ∙ ap (λ x. x && lists_in_month q (weekday_of (first + k)) (month_day_of (first + k)) (days_in_month (pos (year_of (first + k))) (month_of (first + k)))) (sym (ap (lets q.months) f.month ∙ among)))
+    ∙ ap (λ x. x && is_in_month q (first + k)) test
+  where
+    run_start : (k len : ℕ) → (nat_le 0 k && nat_lt (k - 0) len) ≡ nat_lt k len
+    run_start k len = let low : nat_le 0 k ≡ true = grind (arith, nat_tests) in let back : k - 0 ≡ k = omega arith in rw (low, back) refl
+
+pub closed_month : (q : Filled) (first len y m w k : ℕ) → IsMonth (record { start = 0; len = len; weekday = w }) first y m → lets q.months m ≡ false
+    → false ≡ (nat_lt k len && is_in_month q (first + k))
+closed_month q first len y m w k own closed = elim (by_order k len) [
+  | inl inside ↦
+      let r : Run = record { start = 0; len = len; weekday = w } in
+      let f = day_of_run r first y m k own (let low : 0 ≤ k = omega arith in low) (let low : k - 0 < len = omega (arith, inside) in low) in
+      sym (and_no (nat_lt k len) (is_in_month q (first + k)) (ap (λ x. x && lists_in_month q (weekday_of (first + k)) (month_day_of (first + k)) (days_in_month (pos (year_of (first + k))) (month_of (first + k)))) (ap (lets q.months) f.month ∙ closed)))
+  | inr past ↦ sym (ap (λ x. x && is_in_month q (first + k)) (not_less k len past))
+]
+
+-- what the rule goes by
+goes : (q : Filled) → goes_by_months q ≡ true → (lists_none q.weeks ≡ true) × ((lists_none_wide q.year_days ≡ true) × ((lists_none q.month_days && lists_no_weekday q.weekdays) ≡ false))
+goes q h = parts (lists_none q.weeks) (lists_none_wide q.year_days) (lists_none q.month_days && lists_no_weekday q.weekdays) h
+  where
+    parts : (a b c : Bool) → (a && b && not c) ≡ true → (a ≡ true) × ((b ≡ true) × (c ≡ false))
+    parts true true false h = (refl, (refl, refl))
+    parts true true true h = absurd (cc)
+    parts true false c h = absurd (cc)
+    parts false b c h = absurd (cc)
+
+-- there BYMONTH, BYMONTHDAY and BYDAY decide
+three_parts : (q : Filled) (e : ℕ) → goes_by_months q ≡ true
+    → lets_date q e ≡ (lets q.months (month_of e) && (lets_place q.month_days (month_day_of e) (days_in_month (pos (year_of e)) (month_of e)) && lets_weekday q e))
+three_parts q e h =
+    let g = goes q h in
+    drop (lets q.months (month_of e)) (lets_place q.month_days (month_day_of e) (days_in_month (pos (year_of e)) (month_of e))) (lets_wide_place q.year_days (year_day_of e) (days_in_year (pos (year_of e)))) (lets_week q e) (lets_weekday q e)
+    (absent_in (lists_none_wide q.year_days) _ g.1.0) (absent_in (lists_none q.weeks) _ g.0)
+  where
+    drop : (a b c d e : Bool) → c ≡ true → d ≡ true → (a && b && c && d && e) ≡ (a && (b && e))
+    drop true true true true e h l = refl
+    drop true false true true e h l = refl
+    drop false b true true e h l = refl
+    drop a b false d e h l = absurd (cc)
+    drop a b true false e h l = absurd (cc)
+
+numbers_in_month : (f : Frequency) (q : Filled) (p : Places) (e : ℕ) → counts_in_month q f ≡ true → lists_none q.weeks ≡ true → lists_none q.month_days ≡ true
+    → lets_numbered f q p e ≡ lists_nth p (month_day_of e) (days_in_month (pos (year_of e)) (month_of e))
+numbers_in_month Monthly q p e h weeks days = refl
+numbers_in_month Yearly q p e h weeks days = rw (weeks, months (is_none q.months) (lists_none q.month_days) h days) refl
+  where
+    months : (a b : Bool) → not (a && b) ≡ true → b ≡ true → a ≡ false
+    months true true h l = absurd (cc)
+    months true false h l = absurd (cc)
+    months false b h l = refl
+numbers_in_month Weekly q p e h weeks days = absurd (cc)
+numbers_in_month Daily q p e h weeks days = absurd (cc)
+numbers_in_month Hourly q p e h weeks days = absurd (cc)
+numbers_in_month Minutely q p e h weeks days = absurd (cc)
+numbers_in_month Secondly q p e h weeks days = absurd (cc)
+
+-- by BYMONTHDAY alone, or by BYDAY alone, they list what the rule lets in
+pub month_exact : (q : Filled) (e : ℕ) → goes_by_months q ≡ true → counts_in_month q q.frequency ≡ true → (lists_none q.month_days || lists_no_weekday q.weekdays) ≡ true
+    → is_in_month q e ≡ lets_date q e
+month_exact q e h counts one =
+    let g = goes q h in
+    ap (λ x. lets q.months (month_of e) && x)
+    (cases (lists_none q.month_days) (lists_no_weekday q.weekdays) (has q.weekdays.plain (weekday_of e)) _ _ (lists q.month_days (month_day_of e) (days_in_month (pos (year_of e)) (month_of e)))
+    g.1.1 one (λ days. sym (numbers_in_month q.frequency q (numbers_of q.weekdays (weekday_of e)) e counts g.0 days)))
+    ∙ sym (three_parts q e h)
+  where
+    cases : (a b p n n' l : Bool) → (a && b) ≡ false → (a || b) ≡ true → (a ≡ true → n ≡ n') → (if a then (p || n) else l) ≡ ((a || l) && (b || p || n'))
+    cases true true p n n' l h o e = absurd (cc)
+    cases true false p n n' l h o e = ap (λ x. p || x) (e refl)
+    cases false true true n n' true h o e = refl
+    cases false true true n n' false h o e = refl
+    cases false true false n n' true h o e = refl
+    cases false true false n n' false h o e = refl
+    cases false false p n n' l h o e = absurd (cc)
+
+-- else they list what it may let in
+pub month_candidate : (q : Filled) (e : ℕ) → goes_by_months q ≡ true → lists_none q.month_days ≡ false → lets_date q e ≡ true → is_in_month q e ≡ true
+month_candidate q e h some d =
+    cases (lets q.months (month_of e)) (lists_none q.month_days) (lists q.month_days (month_day_of e) (days_in_month (pos (year_of e)) (month_of e))) (lets_weekday q e) _ some (sym (three_parts q e h) ∙ d)
+  where
+    cases : (a n l w x : Bool) → n ≡ false → (a && ((n || l) && w)) ≡ true → (a && (if n then x else l)) ≡ true
+    cases a true l w x s h = absurd (cc)
+    cases true false true w x s h = refl
+    cases true false false w x s h = absurd (cc)
+    cases false false l w x s h = absurd (cc)
+
+-- and a year without BYMONTH goes by BYDAY, which counts in the year
+pub year_exact : (q : Filled) (e n size : ℕ) → goes_by_months q ≡ true → q.frequency ≡ Yearly → (is_none q.months && lists_none q.month_days) ≡ true → year_day_of e ≡ n → days_in_year (pos (year_of e)) ≡ size
+    → lists_weekday q.weekdays (weekday_of e) n size ≡ lets_date q e
+year_exact q e n size h yearly none day len =
+    let g = goes q h in
+    let parts = both (is_none q.months) (lists_none q.month_days) none in
+    let numbered : lets_numbered q.frequency q (numbers_of q.weekdays (weekday_of e)) e ≡ lists_nth (numbers_of q.weekdays (weekday_of e)) n size =
+    ap (λ f. lets_numbered f q (numbers_of q.weekdays (weekday_of e)) e) yearly ∙ rw (g.0, parts.0) (rw (day, len) refl) in
+    cases (is_none q.months) (lists_none q.month_days) (lists_no_weekday q.weekdays) (has q.weekdays.plain (weekday_of e)) _ _ (has q.months (month_of e)) (lists q.month_days (month_day_of e) (days_in_month (pos (year_of e)) (month_of e)))
+    parts.0 parts.1 g.1.1 (sym numbered) ∙ sym (three_parts q e h)
+  where
+    both : (a b : Bool) → (a && b) ≡ true → (a ≡ true) × (b ≡ true)
+    both true true h = (refl, refl)
+    both true false h = absurd (cc)
+    both false b h = absurd (cc)
+
+    cases : (a d b p n n' m l : Bool) → a ≡ true → d ≡ true → (d && b) ≡ false → n ≡ n' → (p || n) ≡ ((a || m) && ((d || l) && (b || p || n')))
+    cases true true false p n n' m l h g o e = ap (λ x. p || x) e
+    cases true true true p n n' m l h g o e = absurd (cc)
+    cases true false b p n n' m l h g o e = absurd (cc)
+    cases false d b p n n' m l h g o e = absurd (cc)
+
+-- what is asked of each candidate
+three : (a b : ℕ) → (a < b) ⊎ ((a ≡ b) ⊎ (b < a))
+three a b = grind arith
+
+module _ (some f : ℕ → Bool) (from n k : ℕ) (b : Bool) where
+  abbrev asked : ℕ → Bool
+  asked p = some k && (nat_lt k p && f k)
+
+  others : IsLeastFrom some from n → (k < n) ⊎ (n < k) → asked from ≡ asked (n + 1)
+  others next (inl low) = elim (by_order k from) [
+    | inl seen ↦ rw (less k from seen, less k (n + 1) (omega (arith, low))) refl
+    | inr new ↦ ap (λ x. x && (nat_lt k from && f k)) (next.least k new low) ∙ sym (ap (λ x. x && (nat_lt k (n + 1) && f k)) (next.least k new low))
+  ]
+  others next (inr high) = rw (not_less k from (omega (arith, high, next.low)), not_less k (n + 1) (omega (arith, high))) refl
+
+  pub let_in : IsLeastFrom some from n → f n ≡ true → b ≡ asked from → ((k == n) || b) ≡ asked (n + 1)
+  let_in next h e = elim (three k n) [
+    | inl low ↦ ap (λ x. x || b) (below k n low) ∙ e ∙ others next (inl low)
+    | inr (inl here) ↦ rw (same k n here, less k (n + 1) (omega (arith, here)), ap some here ∙ next.passes, ap f here ∙ h) refl
+    | inr (inr high) ↦ ap (λ x. x || b) (above k n high) ∙ e ∙ others next (inr high)
+  ]
+
+  pub left_out : IsLeastFrom some from n → f n ≡ false → b ≡ asked from → b ≡ asked (n + 1)
+  left_out next h e = elim (three k n) [
+    | inl low ↦ e ∙ others next (inl low)
+    | inr (inl here) ↦ e ∙ ap (λ x. some k && x) (and_no (nat_lt k from) (f k) (ap f here ∙ h) ∙ sym (and_no (nat_lt k (n + 1)) (f k) (ap f here ∙ h)))
+    | inr (inr high) ↦ e ∙ others next (inr high)
+  ]
+
+pub asked_none : (some f : ℕ → Bool) (k : ℕ) → false ≡ (some k && (nat_lt k 0 && f k))
+asked_none some f k = sym (and_no (some k) (nat_lt k 0 && f k) (ap (λ x. x && f k) (not_less k 0 (omega arith))))
+
+pub asked_all : (some f : ℕ → Bool) (from k : ℕ) (b : Bool) → ((m : ℕ) → from ≤ m → some m ≡ false) → b ≡ (some k && (nat_lt k from && f k)) → b ≡ (some k && f k)
+asked_all some f from k b none e = e ∙ elim (by_order k from) [
+  | inl seen ↦ ap (λ x. some k && (x && f k)) (less k from seen)
+  | inr past ↦ ap (λ x. x && (nat_lt k from && f k)) (none k past) ∙ sym (ap (λ x. x && f k) (none k past))
+]
+
+-- candidates of which all that passes is one
+pub candidates : (some test inside : Bool) → (some ≡ true → inside ≡ true) → (inside ≡ true → test ≡ true → some ≡ true) → (some && test) ≡ (inside && test)
+candidates true test true w a = refl
+candidates true test false w a = absurd (let no = w refl in cc)
+candidates false true true w a = absurd (let no = a refl refl in cc)
+candidates false false true w a = refl
+candidates false test false w a = refl
+
+pub narrowed : (inside some test : Bool) → (inside ≡ true → test ≡ true → some ≡ true) → ((inside && some) && test) ≡ (inside && test)
+narrowed true true test a = refl
+narrowed true false true a = absurd (let no = a refl refl in cc)
+narrowed true false false a = refl
+narrowed false some test a = refl
+
+-- BYMONTHDAY is there, where neither it nor BYDAY is absent
+pub not_either : (a b : Bool) → (a || b) ≡ false → a ≡ false
+not_either true b h = h
+not_either false b h = refl
+
+-- what the parts of the date say apart
+pub number_let_in : (q : Filled) (e : ℕ) → lets_date q e ≡ true → lets_wide_place q.year_days (year_day_of e) (days_in_year (pos (year_of e))) ≡ true
+number_let_in q e h = third (lets q.months (month_of e)) (lets_place q.month_days (month_day_of e) (days_in_month (pos (year_of e)) (month_of e))) (lets_wide_place q.year_days (year_day_of e) (days_in_year (pos (year_of e)))) (lets_week q e) (lets_weekday q e) h
+  where
+    third : (a b c d e : Bool) → (a && b && c && d && e) ≡ true → c ≡ true
+    third true true true d e h = refl
+    third true true false d e h = absurd (cc)
+    third true false c d e h = absurd (cc)
+    third false b c d e h = absurd (cc)
+
+pub week_let_in : (q : Filled) (e : ℕ) → lets_date q e ≡ true → lets_week q e ≡ true
+week_let_in q e h = fourth (lets q.months (month_of e)) (lets_place q.month_days (month_day_of e) (days_in_month (pos (year_of e)) (month_of e))) (lets_wide_place q.year_days (year_day_of e) (days_in_year (pos (year_of e)))) (lets_week q e) (lets_weekday q e) h
+  where
+    fourth : (a b c d e : Bool) → (a && b && c && d && e) ≡ true → d ≡ true
+    fourth true true true true e h = refl
+    fourth true true true false e h = absurd (cc)
+    fourth true true false d e h = absurd (cc)
+    fourth true false c d e h = absurd (cc)
+    fourth false b c d e h = absurd (cc)
+
+-- the days of a year by their numbers
+year_day_is : (e y : ℕ) → year_of e ≡ y → year_day_of e ≡ e - days_before_year y + 1
+unfolding year_day_of
+year_day_is e y h = rw h refl
+
+pub year_place : (first y k : ℕ) → first ≡ days_before_year y → k < days_in_year (pos y) → (year_of (first + k) ≡ y) × (year_day_of (first + k) ≡ k + 1)
+year_place first y k start inside =
+    let year : year_of (first + k) ≡ y = year_of_is (first + k) y (omega (arith, start)) (let next = days_before_year-next y in omega (arith, next, start, inside)) in
+    (year, (let day = year_day_is (first + k) y year in omega (arith, day, start)))
+
+pub year_starts : (first y : ℕ) → first ≡ days_before_year y → year_of first ≡ y
+year_starts first y start = year_of_is first y (omega (arith, start)) (let next = days_before_year-next y in let some = days_in_year_bounds (pos y) in omega (arith, next, start, some.1))
+
+pub number_listed : (q : Filled) (first y len k : ℕ) → first ≡ days_before_year y → len ≡ days_in_year (pos y) → nat_lt k len ≡ true → lets_date q (first + k) ≡ true → lets_wide_place q.year_days (k + 1) len ≡ true
+number_listed q first y len k start size inside h =
+    let within : k < len = grind (arith, nat_tests) in
+    let place = year_place first y k start (omega (arith, within, size)) in
+    ap (lets_wide_place q.year_days (k + 1)) (size ∙ sym (ap (λ x. days_in_year (pos x)) place.0))
+    ∙ ap (λ n. lets_wide_place q.year_days n (days_in_year (pos (year_of (first + k))))) (sym place.1)
+    ∙ number_let_in q (first + k) h
+
+pub whole_year : (q : Filled) (first len y w k : ℕ) (a b : Bool) → goes_by_months q ≡ true → q.frequency ≡ Yearly → (is_none q.months && lists_none q.month_days) ≡ true
+    → first ≡ days_before_year y → len ≡ days_in_year (pos y) → w ≡ weekday_of first → a ≡ false
+    → b ≡ (a || (has_run (record { start = 0; len = len; weekday = w }) k && lists_weekday q.weekdays (weekday_in (record { start = 0; len = len; weekday = w }) (k - 0)) (k - 0 + 1) len))
+    → b ≡ (nat_lt k len && lets_date q (first + k))
+whole_year q first len y w k a b goes yearly none start size weekday new e =
+    let r : Run = record { start = 0; len = len; weekday = w } in
+    e ∙ ap (λ x. x || (has_run r k && lists_weekday q.weekdays (weekday_in r (k - 0)) (k - 0 + 1) len)) new ∙ guard (has_run r k) _ (lets_date q (first + k)) (λ h.
+    let inside = run_facts r k h in
+    let place = year_place first y k start (omega (arith, inside.1, size)) in
+    let own : weekday_in r (k - 0) ≡ weekday_of (first + k) = omega (arith, weekday) in
+    let number : k - 0 + 1 ≡ k + 1 = omega arith in
+    ap (λ d. lists_weekday q.weekdays d (k - 0 + 1) len) own
+    ∙ ap (λ n. lists_weekday q.weekdays (weekday_of (first + k)) n len) number
+    ∙ year_exact q (first + k) (k + 1) len goes yearly none place.1 (ap (λ x. days_in_year (pos x)) place.0 ∙ sym size))
+    ∙ ap (λ x. x && lets_date q (first + k)) (run_start k len)
+  where
+    run_start : (k len : ℕ) → (nat_le 0 k && nat_lt (k - 0) len) ≡ nat_lt k len
+    run_start k len = let low : nat_le 0 k ≡ true = grind (arith, nat_tests) in let back : k - 0 ≡ k = omega arith in rw (low, back) refl
+
+-- a month as a period
+pub span_month : (p first len w : ℕ) → IsSpan Monthly p first len → w ≡ weekday_of first → IsMonth (record { start = 0; len = len; weekday = w }) first ((p - 1) / 12) ((p - 1) % 12 + 1)
+span_month p first len w span weekday = record {
+  year = span.1.0;
+  low = omega arith;
+  high = omega arith;
+  place = (let back : (p - 1) % 12 + 1 - 1 ≡ (p - 1) % 12 = omega arith in let same = ap (days_of_months (pos ((p - 1) / 12))) back in omega (arith, span.1.1.0, same));
+  size = span.1.1.1;
+  weekday = weekday ∙ ap weekday_of (let more : first ≡ first + 0 = omega arith in more);
+}
+
+-- and the period that a rule's code looks at
+pub period_span : (f : Frequency) (w p b e : ℕ) → period f w 0 ≤ p → b ≡ first_local f w p → e ≡ first_local f w (p + 1) → b ≤ 309_289_708_800 → IsSpan f p (b / 86_400) ((e + 86_399) / 86_400 - b / 86_400)
+period_span Yearly w p b e low eb ee reach =
+    let next = days_before_year-next p in
+    let one = ap days_before_year (let same : p + 1 ≡ suc p = omega arith in same) in
+    let long = days_before_year_low p in
+    (omega (arith, eb, reach, long), (omega (arith, eb), omega (arith, eb, ee, next, one)))
+period_span Monthly w zero b e low eb ee reach = absurd (let some = month_positive (0 / 86_400) in omega (arith, some, low))
+period_span Monthly w (suc p) b e low eb ee reach =
+    let back : suc p - 1 ≡ p = omega arith in
+    let size = month_size p in
+    let one = ap month_start (let same : suc p + 1 ≡ suc (suc p) = omega arith in same) in
+    let long = days_before_year_low (p / 12) in
+    let begun : b ≡ month_start (suc p) * 86_400 = eb in
+    let ended : e ≡ month_start (suc (suc p)) * 86_400 = ee ∙ ap (λ x. x * 86_400) one in
+    let year : p / 12 ≤ 9_999 = omega (arith, rw back at begun, reach, long) in
+    (omega arith, (rw back year, (omega (arith, begun), rw back (omega (arith, begun, ended, size)))))
+period_span Weekly w p b e low eb ee reach = tt
+period_span Daily w p b e low eb ee reach = tt
+period_span Hourly w p b e low eb ee reach = tt
+period_span Minutely w p b e low eb ee reach = tt
+period_span Secondly w p b e low eb ee reach = tt

@@ -1,0 +1,389 @@
+-- The periods that a rule lets in, counted step by step and by whole days.
+use Rattle.std.proofs.Common.{◌≡◌, ℕ, zero, suc, ◌+◌, ◌-◌, ◌*◌, ◌/◌, ◌%◌, ◌<◌, ◌≤◌, ◌⊎◌, inl, inr, Bool, true, false, cond, ◌&&◌, ◌||◌, nat_le, nat_lt, min, refl, sym, ap, ◌∙◌, arith}
+use Rattle.std.proofs.lemmas.Bool.Decides.{nat_tests}
+use Rattle.std.proofs.lemmas.Nat.{div-add-mod', mod-mul-add, le-div, div_below}
+use Rattle.std.proofs.Math.Nat.{mod-lt, mul_comm, mul_assoc}
+use Rattle.ics_values.specs.declared.frequency.Frequency.{Frequency}
+use Rattle.ics_values.specs.declared.frequency.Frequency.TheVariants.{Secondly, Minutely, Hourly, Daily, Weekly, Monthly, Yearly}
+use Rattle.ics_values.specs.Sets.{IsLeastFrom}
+use Rattle.ics_rule.specs.declared.filled.Filled.{Filled}
+use Rattle.ics_rule.specs.Locals.{hour_of, minute_of, second_of}
+use Rattle.ics_rule.specs.Filled.{skips_hours, skips_minutes, skips_seconds}
+use Rattle.ics_rule.specs.Candidates.{lets, lets_date, is_stepped}
+use Rattle.ics_rule.specs.Kept.{count}
+use Rattle.ics_rule.specs.Rounds.{seconds_of}
+use Rattle.ics_rule.specs.OpenPeriods.{per_day, lets_own, is_open_period}
+use Rattle.ics_rule.proofs.Counts.{count-same, count-suc, count-add, count-none, count-product, count_most}
+use Rattle.ics_rule.proofs.RankLemmas.{count_flat}
+use Rattle.ics_rule.proofs.StepLemmas.{stepped_parts, stepped_shown, step_on, none_between, not_true}
+use Rattle.ics_rule.proofs.RoundLemmas.{step_repeats}
+
+by_order : (a b : ℕ) → (a < b) ⊎ (b ≤ a)
+by_order a b = grind arith
+
+and_first : (a b : Bool) → a ≡ false → (a && b) ≡ false
+and_first a b h = ap (λ x. x && b) h
+
+and_true : (a b : Bool) → a ≡ true → (a && b) ≡ b
+and_true a b h = ap (λ x. x && b) h
+
+if_true : (b : Bool) → b ≡ true → ◌≡◌ {A = ℕ} (cond b 1 0) 1
+if_true b e = let f : Bool → ℕ = λ z. cond z 1 0 in ap f e
+
+if_false : (b : Bool) → b ≡ false → ◌≡◌ {A = ℕ} (cond b 1 0) 0
+if_false b e = let f : Bool → ℕ = λ z. cond z 1 0 in ap f e
+
+-- counts of tests of which each number passes as many
+count-sum : (n : ℕ) (f g h : ℕ → Bool) → ((m : ℕ) → cond (h m) 1 0 ≡ cond (f m) 1 0 + cond (g m) 1 0) → count n h ≡ count n f + count n g
+unfolding count
+count-sum zero f g h same = refl
+count-sum (suc n) f g h same = let before = count-sum n f g h same in let one = same n in omega (arith, before, one)
+
+-- what agrees from one number on counts alike from there
+pub count_between : (from before total : ℕ) (f g : ℕ → Bool) → from ≤ before → ((m : ℕ) → from ≤ m → m < before → f m ≡ g m) → total + count from f
+    ≡ count before f → total + count from g ≡ count before g
+count_between from before total f g h same e =
+    let whole : from + (before - from) ≡ before = omega (arith, h) in
+    let one = count-add from (before - from) f in
+    let other = count-add from (before - from) g in
+    let rest = count-same (before - from) (λ k. f (from + k)) (λ k. g (from + k)) (λ k l. same (from + k) (omega arith) (omega (arith, l, h))) in
+    let a = ap (λ x. count x f) whole in
+    let b = ap (λ x. count x g) whole in
+    omega (arith, one, other, rest, a, b, e)
+
+-- a walk from step to step that counts those that pass a test
+pub record IsStepWalk (a i : ℕ) (g : ℕ → Bool) (from before number total : ℕ) : Type 0 where
+  pub step : is_stepped a i number ≡ true
+  pub passed : total + count from (λ p. is_stepped a i p && g p) ≡ count number (λ p. is_stepped a i p && g p)
+  pub none : (m : ℕ) → before ≤ m → m < number → is_stepped a i m ≡ false
+
+module _ (a i : ℕ) (some : 1 ≤ i) (g : ℕ → Bool) (from before : ℕ) where
+  abbrev stepped : ℕ → Bool
+  stepped p = is_stepped a i p && g p
+
+  pub walk_first : (number : ℕ) → from ≤ before → IsLeastFrom (is_stepped a i) from number → IsStepWalk a i g from before number 0
+  walk_first number h least = record {
+    step = least.passes;
+    passed = (let flat = count_flat from number stepped least.low (λ m l u. and_first (is_stepped a i m) (g m) (least.least m l u)) in omega (arith, flat));
+    none = λ m l u. least.least m (omega (arith, h, l)) u;
+  }
+
+  module _ (number total : ℕ) (walk : IsStepWalk a i g from before number total) where
+    pub walk_small : total ≤ number
+    walk_small = let most = count_most number stepped in let t = walk.passed in omega (arith, most, t)
+
+    step_next : count (number + i) stepped ≡ count number stepped + cond (g number) 1 0
+    step_next =
+        let more : suc number ≤ number + i = omega (arith, some) in
+        count_flat (suc number) (number + i) stepped more (λ m l u. and_first (is_stepped a i m) (g m) (none_between i some a number m walk.step l u))
+        ∙ count-suc number stepped ∙ ap (λ x. count number stepped + cond x 1 0) (and_true (is_stepped a i number) (g number) walk.step)
+
+    none_next : number < before → (m : ℕ) → before ≤ m → m < number + i → is_stepped a i m ≡ false
+    none_next h m l u = none_between i some a number m walk.step (omega (arith, h, l)) u
+
+    pub walk_in : number < before → g number ≡ true → IsStepWalk a i g from before (number + i) (total + 1)
+    walk_in h e = record {
+      step = step_on i some a number walk.step;
+      passed = let next = step_next in let one = if_true (g number) e in let t = walk.passed in omega (arith, next, one, t);
+      none = none_next h;
+    }
+
+    pub walk_out : number < before → g number ≡ false → IsStepWalk a i g from before (number + i) total
+    walk_out h e = record {
+      step = step_on i some a number walk.step;
+      passed = let next = step_next in let none = if_false (g number) e in let t = walk.passed in omega (arith, next, none, t);
+      none = none_next h;
+    }
+
+    pub walk_done : before ≤ number → total + count from stepped ≡ count before stepped
+    walk_done h = walk.passed ∙ count_flat before number stepped h (λ m l u. and_first (is_stepped a i m) (g m) (walk.none m l u))
+
+-- before the first nothing is a step
+pub none_stepped : (a i : ℕ) (g : ℕ → Bool) → count a (λ p. is_stepped a i p && g p) ≡ 0
+none_stepped a i g = count-none a (λ p. is_stepped a i p && g p)
+    (λ m l. and_first (is_stepped a i m) (g m) (not_true (is_stepped a i m) (λ yes. let parts = stepped_parts a i m yes in omega (arith, parts.0, l))))
+
+pub step_begins : (a i : ℕ) → 1 ≤ i → IsLeastFrom (is_stepped a i) a a
+step_begins a i some = record {
+  passes = stepped_shown a i a (omega arith) (let none : a - a ≡ 0 * i + 0 = omega arith in ap (λ x. x % i) none ∙ mod-mul-add 0 i 0 some);
+  low = omega arith;
+  least = λ m l u. absurd (omega (arith, l, u));
+}
+
+-- A period of a day or less, in its day.
+module _ (f : Frequency) (q : Filled) (fine : 0 < seconds_of f) (unit : seconds_of f ≤ 86_400) where
+  pub own_day : (n d : ℕ) → lets_own f q (n + d * 86_400) ≡ lets_own f q n
+  own_day n d =
+      let hour : (n + d * 86_400) / 3_600 % 24 ≡ n / 3_600 % 24 = omega arith in
+      let minute : (n + d * 86_400) / 60 % 60 ≡ n / 60 % 60 = omega arith in
+      let second : (n + d * 86_400) % 60 ≡ n % 60 = omega arith in
+      ap (λ x. (skips_hours f || lets q.hours x) && (skips_minutes f || lets q.minutes (minute_of (n + d * 86_400))) &&
+      (skips_seconds f || lets q.seconds (second_of (n + d * 86_400)))) hour
+      ∙ ap (λ x. (skips_hours f || lets q.hours (hour_of n)) && (skips_minutes f || lets q.minutes x) &&
+      (skips_seconds f || lets q.seconds (second_of (n + d * 86_400)))) minute
+      ∙ ap (λ x. (skips_hours f || lets q.hours (hour_of n)) && (skips_minutes f || lets q.minutes (minute_of n)) &&
+      (skips_seconds f || lets q.seconds x)) second
+
+pub day_seconds : (f : Frequency) → 0 < seconds_of f → seconds_of f ≤ 86_400 → (per_day f * seconds_of f ≡ 86_400) × (86_400 / seconds_of f ≡ per_day f)
+day_seconds Secondly h u = (omega arith, omega arith)
+day_seconds Minutely h u = (omega arith, omega arith)
+day_seconds Hourly h u = (omega arith, omega arith)
+day_seconds Daily h u = (omega arith, omega arith)
+day_seconds Weekly h u = absurd (omega (arith, u))
+day_seconds Monthly h u = absurd (omega (arith, h))
+day_seconds Yearly h u = absurd (omega (arith, h))
+
+pub day_some : (f : Frequency) → (1 ≤ per_day f) × (per_day f ≤ 86_400)
+day_some Secondly = (omega arith, omega arith)
+day_some Minutely = (omega arith, omega arith)
+day_some Hourly = (omega arith, omega arith)
+day_some Daily = (omega arith, omega arith)
+day_some Weekly = (omega arith, omega arith)
+day_some Monthly = (omega arith, omega arith)
+day_some Yearly = (omega arith, omega arith)
+
+-- Days counted by their place in a run of as many as the interval has.
+module _ (i : ℕ) (some : 1 ≤ i) (from j : ℕ) (less : j < i) where
+  stepped_place : (e : ℕ) → is_stepped (from + j) i e ≡ true → (from ≤ e) × ((e - from) % i ≡ j)
+  stepped_place e h =
+      let parts = stepped_parts (from + j) i e h in
+      let whole = div-add-mod' (e - (from + j)) i in
+      let place : e - from ≡ (e - (from + j)) / i * i + j = omega (arith, whole, parts.0, parts.1) in
+      (omega (arith, parts.0), ap (λ x. x % i) place ∙ mod-mul-add ((e - (from + j)) / i) i j less)
+
+  place_stepped : (e : ℕ) → from ≤ e → (e - from) % i ≡ j → is_stepped (from + j) i e ≡ true
+  place_stepped e l h =
+      let whole = div-add-mod' (e - from) i in
+      stepped_shown (from + j) i e (omega (arith, whole, l, h))
+      (let back : e - (from + j) ≡ (e - from) / i * i + 0 = omega (arith, whole, l, h) in ap (λ x. x % i) back ∙ mod-mul-add ((e - from) / i) i 0 some)
+
+  -- one place more
+  place_more : (e : ℕ) (b : Bool) → cond ((nat_le from e && nat_lt ((e - from) % i) (j + 1)) && b) 1 0
+      ≡ cond ((nat_le from e && nat_lt ((e - from) % i) j) && b) 1 0 + cond (is_stepped (from + j) i e && b) 1 0
+  place_more e b = elim (by_order e from) [
+    | inl early ↦ ends false false false (early_test early) (early_test_2 early)
+        (not_true (is_stepped (from + j) i e) (λ yes. let p = stepped_place e yes in omega (arith, p.0, early))) (omega arith)
+    | inr late ↦ elim (by_order ((e - from) % i) j) [
+      | inl below ↦ ends true true false (late_test (j + 1) late (omega (arith, below))) (late_test j late below)
+          (not_true (is_stepped (from + j) i e) (λ yes. let p = stepped_place e yes in omega (arith, p.1, below))) (by_bool_1 b)
+      | inr above ↦ elim (by_order j ((e - from) % i)) [
+        | inl past ↦ ends false false false (past_test (j + 1) (omega (arith, past))) (past_test j (omega (arith, past)))
+            (not_true (is_stepped (from + j) i e) (λ yes. let p = stepped_place e yes in omega (arith, p.1, past))) (omega arith)
+        | inr same ↦ ends true false true (late_test (j + 1) late (omega (arith, above, same))) (past_test j (omega (arith, above)))
+            (place_stepped e late (omega (arith, above, same))) (by_bool_2 b)
+      ]
+    ]
+  ]
+    where
+      ends : (x y z : Bool) → (nat_le from e && nat_lt ((e - from) % i) (j + 1)) ≡ x → (nat_le from e && nat_lt ((e - from) % i) j) ≡ y
+          → is_stepped (from + j) i e ≡ z
+          → cond (x && b) 1 0 ≡ cond (y && b) 1 0 + cond (z && b) 1 0
+          → cond ((nat_le from e && nat_lt ((e - from) % i) (j + 1)) && b) 1 0
+          ≡ cond ((nat_le from e && nat_lt ((e - from) % i) j) && b) 1 0 + cond (is_stepped (from + j) i e && b) 1 0
+      ends x y z ex ey ez same = rw (ex, ey, ez) same
+
+      early_test : e < from → (nat_le from e && nat_lt ((e - from) % i) (j + 1)) ≡ false
+      early_test l = and_first (nat_le from e) (nat_lt ((e - from) % i) (j + 1)) (grind (arith, nat_tests))
+
+      early_test_2 : e < from → (nat_le from e && nat_lt ((e - from) % i) j) ≡ false
+      early_test_2 l = and_first (nat_le from e) (nat_lt ((e - from) % i) j) (grind (arith, nat_tests))
+
+      late_test : (k : ℕ) → from ≤ e → (e - from) % i < k → (nat_le from e && nat_lt ((e - from) % i) k) ≡ true
+      late_test k l h = both (nat_le from e) (nat_lt ((e - from) % i) k) (grind (arith, nat_tests)) (grind (arith, nat_tests))
+        where
+          both : (x y : Bool) → x ≡ true → y ≡ true → (x && y) ≡ true
+          both x y p r = ap (λ z. z && y) p ∙ r
+
+      past_test : (k : ℕ) → k ≤ (e - from) % i → (nat_le from e && nat_lt ((e - from) % i) k) ≡ false
+      past_test k h = second (nat_le from e) (nat_lt ((e - from) % i) k) (grind (arith, nat_tests))
+        where
+          second : (x y : Bool) → y ≡ false → (x && y) ≡ false
+          second true y p = p
+          second false y p = refl
+
+      by_bool_1 : (b : Bool) → cond (true && b) 1 0 ≡ cond (true && b) 1 0 + cond (false && b) 1 0
+      by_bool_1 true = refl
+      by_bool_1 false = refl
+
+      by_bool_2 : (b : Bool) → cond (true && b) 1 0 ≡ cond (false && b) 1 0 + cond (true && b) 1 0
+      by_bool_2 true = refl
+      by_bool_2 false = refl
+
+module _ (q : Filled) (first : ℕ) (fine : 0 < seconds_of q.frequency) (unit : seconds_of q.frequency ≤ 86_400) where
+  abbrev u : ℕ
+  u = seconds_of q.frequency
+
+  abbrev d : ℕ
+  d = per_day q.frequency
+
+  abbrev own : ℕ → Bool
+  own p = lets_own q.frequency q (p * u)
+
+  -- a step some runs of days later has the same clock
+  step_later : (x t : ℕ) → first ≤ x → (is_stepped first q.interval (x + q.interval * t * d) && own (x + q.interval * t * d))
+      ≡ (is_stepped first q.interval x && own x)
+  step_later x t low =
+      let order : q.interval * t * d ≡ q.interval * (t * d) = mul_assoc q.interval t d in
+      let step = ap (λ y. is_stepped first q.interval (x + y)) order ∙ step_repeats q.interval (t * d) first x low in
+      let far : (x + q.interval * t * d) * u ≡ x * u + q.interval * t * 86_400 = (
+      let day = (day_seconds q.frequency fine unit).0 in
+      let spread : (x + q.interval * t * d) * u ≡ x * u + q.interval * t * d * u = add_mul x (q.interval * t * d) u in
+      spread ∙ ap (λ y. x * u + y) (mul_assoc (q.interval * t) d u ∙ ap (λ y. q.interval * t * y) day)) in
+      let clock : own (x + q.interval * t * d) ≡ own x = ap (lets_own q.frequency q) far ∙ own_day q.frequency q fine unit (x * u) (q.interval * t) in
+      ap (λ y. y && own (x + q.interval * t * d)) step ∙ ap (λ y. is_stepped first q.interval x && y) clock
+    where
+      add_mul : (a b c : ℕ) → (a + b) * c ≡ a * c + b * c
+      add_mul a b c = omega arith
+
+  module _ (some : 1 ≤ q.interval) (from before : ℕ) (later : first < from * d) (order : from ≤ before) where
+    -- the periods let in on the days with places before one
+    abbrev placed : ℕ → ℕ → Bool
+    placed j p = (nat_le from (p / d) && nat_lt ((p / d - from) % q.interval) j) && is_open_period q first p
+
+    pub placed_none : 0 ≡ count (before * d) (placed 0)
+    placed_none = sym (count-none (before * d) (placed 0) (λ p l. none (nat_le from (p / d)) (nat_lt ((p / d - from) % q.interval) 0)
+        (is_open_period q first p) (grind (arith, nat_tests))))
+      where
+        none : (a b c : Bool) → b ≡ false → ((a && b) && c) ≡ false
+        none true b c e = ap (λ x. x && c) e
+        none false b c e = refl
+
+    -- of the days with one place each has as many
+    module _ (j : ℕ) (less : j < q.interval) where
+      one_place : (p : ℕ) → (is_stepped (from + j) q.interval (p / d) && is_open_period q first p)
+          ≡ ((is_stepped (from + j) q.interval (p / d) && lets_date q (p / d)) &&
+          (is_stepped first q.interval ((from + j) * d + p % d) && own ((from + j) * d + p % d)))
+      one_place p = by_step (is_stepped (from + j) q.interval (p / d)) refl
+        where
+          turn : (a b c : Bool) → (a && (b && c)) ≡ (b && (a && c))
+          turn true true c = refl
+          turn true false c = refl
+          turn false true c = refl
+          turn false false c = refl
+
+          by_step : (b : Bool) → is_stepped (from + j) q.interval (p / d) ≡ b → (is_stepped (from + j) q.interval (p / d) && is_open_period q first p)
+              ≡ ((is_stepped (from + j) q.interval (p / d) && lets_date q (p / d)) &&
+              (is_stepped first q.interval ((from + j) * d + p % d) && own ((from + j) * d + p % d)))
+          by_step false e = and_first (is_stepped (from + j) q.interval (p / d)) (is_open_period q first p) e
+              ∙ sym (ap (λ x. (x && lets_date q (p / d)) && (is_stepped first q.interval ((from + j) * d + p % d) && own ((from + j) * d + p % d))) e)
+          by_step true e =
+              let parts = stepped_parts (from + j) q.interval (p / d) e in
+              let days = div-add-mod' (p / d - (from + j)) q.interval in
+              let whole = div-add-mod' p d in
+              let t = (p / d - (from + j)) / q.interval in
+              let day : p / d ≡ (from + j) + q.interval * t = (let swap = mul_comm q.interval t in omega (arith, parts.0, parts.1, days, swap)) in
+              let same : p ≡ (from + j) * d + p % d + q.interval * t * d = (
+              let wide = ap (λ x. x * d) day in
+              let spread : ((from + j) + q.interval * t) * d ≡ (from + j) * d + q.interval * t * d = add_mul (from + j) (q.interval * t) d in
+              omega (arith, whole, wide, spread)) in
+              let low : first ≤ (from + j) * d + p % d = (let spread : (from + j) * d ≡ from * d + j * d = add_mul from j d in omega (arith, later, spread)) in
+              and_true (is_stepped (from + j) q.interval (p / d)) (is_open_period q first p) e
+              ∙ turn (is_stepped first q.interval p) (lets_date q (p / d)) (own p)
+              ∙ ap (λ x. lets_date q (p / d) && (is_stepped first q.interval x && own x)) same
+              ∙ ap (λ x. lets_date q (p / d) && x) (step_later ((from + j) * d + p % d) t low)
+              ∙ sym (ap (λ x. (x && lets_date q (p / d)) && (is_stepped first q.interval ((from + j) * d + p % d) && own ((from + j) * d + p % d))) e)
+            where
+              add_mul : (a b c : ℕ) → (a + b) * c ≡ a * c + b * c
+              add_mul a b c = omega arith
+
+      place_count : count (before * d) (λ p. is_stepped (from + j) q.interval (p / d) && is_open_period q first p)
+          ≡ count before (λ e. is_stepped (from + j) q.interval e && lets_date q e) * count d
+          (λ k. is_stepped first q.interval ((from + j) * d + k) && own ((from + j) * d + k))
+      place_count = count-same (before * d) (λ p. is_stepped (from + j) q.interval (p / d) && is_open_period q first p)
+          (λ p. (is_stepped (from + j) q.interval (p / d) && lets_date q (p / d)) &&
+          (is_stepped first q.interval ((from + j) * d + p % d) && own ((from + j) * d + p % d))) (λ p l. one_place p)
+          ∙ count-product before d (λ e. is_stepped (from + j) q.interval e && lets_date q e)
+          (λ k. is_stepped first q.interval ((from + j) * d + k) && own ((from + j) * d + k))
+
+      pub placed_more : (total days steps : ℕ) → total ≡ count (before * d) (placed j) → days
+          ≡ count before (λ e. is_stepped (from + j) q.interval e && lets_date q e)
+          → steps + count ((from + j) * d) (λ p. is_stepped first q.interval p && own p)
+          ≡ count ((from + j + 1) * d) (λ p. is_stepped first q.interval p && own p)
+          → total + days * steps ≡ count (before * d) (placed (j + 1))
+      placed_more total days steps et ed es =
+          let sum = count-sum (before * d) (placed j) (λ p. is_stepped (from + j) q.interval (p / d) && is_open_period q first p) (placed (j + 1))
+          (λ p. place_more q.interval some from j less (p / d) (is_open_period q first p)) in
+          let day = count-add ((from + j) * d) d (λ p. is_stepped first q.interval p && own p) in
+          let end = ap (λ x. count x (λ p. is_stepped first q.interval p && own p))
+          (let same : (from + j + 1) * d ≡ (from + j) * d + d = omega arith in same) in
+          let one : steps ≡ count d (λ k. is_stepped first q.interval ((from + j) * d + k) && own ((from + j) * d + k)) = omega (arith, day, end, es) in
+          let product : days * steps ≡ count before (λ e. is_stepped (from + j) q.interval e && lets_date q e) * count d
+          (λ k. is_stepped first q.interval ((from + j) * d + k) && own ((from + j) * d + k))
+          = ap (λ x. x * steps) ed ∙ ap (λ x. count before (λ e. is_stepped (from + j) q.interval e && lets_date q e) * x) one in
+          omega (arith, sum, product, place_count, et)
+
+      -- a place whose days are all out
+      pub placed_out : (total : ℕ) → total ≡ count (before * d) (placed j) → 0 ≡ count before (λ e. is_stepped (from + j) q.interval e && lets_date q e)
+          → total ≡ count (before * d) (placed (j + 1))
+      placed_out total et ed =
+          let sum = count-sum (before * d) (placed j) (λ p. is_stepped (from + j) q.interval (p / d) && is_open_period q first p) (placed (j + 1))
+          (λ p. place_more q.interval some from j less (p / d) (is_open_period q first p)) in
+          let product = place_count ∙ ap (λ x. x * count d (λ k. is_stepped first q.interval ((from + j) * d + k) && own ((from + j) * d + k))) (sym ed) in
+          omega (arith, sum, product, et)
+
+    pub placed_all : (total j : ℕ) → j ≡ min q.interval (before - from) → total ≡ count (before * d) (placed j)
+        → total + count (from * d) (is_open_period q first) ≡ count (before * d) (is_open_period q first)
+    placed_all total j ej et =
+        let wide : from * d + (before - from) * d ≡ before * d =
+        (let spread : (from + (before - from)) * d ≡ from * d + (before - from) * d = add_mul from (before - from) d
+        in let back = ap (λ x. x * d) (let all : from + (before - from) ≡ before = omega (arith, order) in all) in omega (arith, spread, back)) in
+        let mine = count-add (from * d) ((before - from) * d) (placed j) in
+        let all = count-add (from * d) ((before - from) * d) (is_open_period q first) in
+        let none = count-none (from * d) (placed j) (λ p l. early p l) in
+        let same = count-same ((before - from) * d) (λ k. placed j (from * d + k)) (λ k. is_open_period q first (from * d + k))
+        (λ k l. inside (from * d + k) (omega arith) (omega (arith, l, wide))) in
+        let a = ap (λ x. count x (placed j)) wide in
+        let b = ap (λ x. count x (is_open_period q first)) wide in
+        omega (arith, mine, all, none, same, a, b, et)
+      where
+        add_mul : (a b c : ℕ) → (a + b) * c ≡ a * c + b * c
+        add_mul a b c = omega arith
+
+        positive : 1 ≤ d
+        positive = (day_some q.frequency).0
+
+        early : (p : ℕ) → p < from * d → placed j p ≡ false
+        early p l =
+            let before_day : p / d < from = div_below p d from positive l in
+            let no : nat_le from (p / d) ≡ false = grind (arith, nat_tests) in
+            ap (λ x. (x && nat_lt ((p / d - from) % q.interval) j) && is_open_period q first p) no
+
+        inside : (p : ℕ) → from * d ≤ p → p < before * d → placed j p ≡ is_open_period q first p
+        inside p l h =
+            let low : from ≤ p / d = le-div from p d positive l in
+            let high : p / d < before = div_below p d before positive h in
+            let rest : (p / d - from) % q.interval < q.interval = mod-lt (p / d - from) some in
+            let few : (p / d - from) % q.interval ≤ p / d - from = mod_le (p / d - from) q.interval in
+            let small : (p / d - from) % q.interval < j = omega (arith, rest, few, low, high, ej) in
+            let yes : nat_le from (p / d) ≡ true = grind (arith, nat_tests) in
+            let is : nat_lt ((p / d - from) % q.interval) j ≡ true = grind (arith, nat_tests) in
+            ap (λ x. (x && nat_lt ((p / d - from) % q.interval) j) && is_open_period q first p) yes ∙ ap (λ x. x && is_open_period q first p) is
+          where
+            mod_le : (a b : ℕ) → a % b ≤ a
+            mod_le a b = let whole = div-add-mod' a b in omega (arith, whole)
+
+  -- within one day
+  module _ (from before total : ℕ) (order : from ≤ before) (day : before ≤ (from / d + 1) * d) where
+    same_day : (m : ℕ) → from ≤ m → m < before → m / d ≡ from / d
+    same_day m l h =
+        let whole = div-add-mod' from d in
+        let low : from / d ≤ m / d = le-div (from / d) m d (day_some q.frequency).0 (omega (arith, whole, l)) in
+        let high : m / d < from / d + 1 = div_below m d (from / d + 1) (day_some q.frequency).0 (omega (arith, h, day)) in
+        omega (arith, low, high)
+
+    pub day_in : lets_date q (from / d) ≡ true → total + count from (λ p. is_stepped first q.interval p && own p)
+        ≡ count before (λ p. is_stepped first q.interval p && own p)
+        → total + count from (is_open_period q first) ≡ count before (is_open_period q first)
+    day_in is = count_between from before total (λ p. is_stepped first q.interval p && own p) (is_open_period q first) order
+        (λ m l h. ap (λ x. is_stepped first q.interval m && x) (sym (and_true (lets_date q (m / d)) (own m) (ap (lets_date q) (same_day m l h) ∙ is))))
+
+    pub day_out : lets_date q (from / d) ≡ false → 0 + count from (is_open_period q first) ≡ count before (is_open_period q first)
+    day_out out =
+        let flat = count_flat from before (is_open_period q first) order
+        (λ m l h. second (is_stepped first q.interval m) (lets_date q (m / d) && own m)
+        (and_first (lets_date q (m / d)) (own m) (ap (lets_date q) (same_day m l h) ∙ out))) in
+        omega (arith, flat)
+      where
+        second : (a b : Bool) → b ≡ false → (a && b) ≡ false
+        second true b h = h
+        second false b h = refl

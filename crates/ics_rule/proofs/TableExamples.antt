@@ -1,0 +1,105 @@
+-- The table on examples of RFC 5545, 3.8.5.3: the list that stands there, over the days of a span.
+use Rattle.std.proofs.Common.{◌≡◌, refl, ℕ, zero, suc, true, ◌+◌, ◌-◌, ◌*◌, ◌^◌, List, [], ◌∷◌, map}
+use Rattle.std.specs.Prelude.{filter}
+use Rattle.ics_values.specs.Days.{days_on_literals}
+use Rattle.ics_values.specs.declared.frequency.Frequency.TheVariants.{Daily, Weekly, Monthly, Yearly}
+use Rattle.jiff_core.specs.declared.civil.weekday.Weekday.TheVariants.{Sunday}
+use Rattle.ics_values.specs.RuleParts.{RuleParts, every}
+use Rattle.ics_values.specs.Places.{no_places, no_wide_places, with_wide_place}
+use Rattle.ics_values.specs.declared.places.Side.TheVariants.{Front}
+use Rattle.ics_values.specs.Sets.{only}
+use Rattle.ics_rule.specs.declared.kind.Kind.TheVariants.{DateTime}
+use Rattle.ics_rule.specs.Table.{Part, ByMonth, ByWeekNo, ByYearDay, ByMonthDay, ByDay, ByHour, ByMinute, BySecond, BySetPos, Nothing, cell}
+use Rattle.ics_rule.specs.ByTable.{is_absent, is_member, IsAllowed}
+use Rattle.ics_rule.proofs.Samples.{on_weekdays, nth_weekday, date, local, rule, mo, tu, fr}
+
+-- so many days from one on
+abbrev days_from : ℕ → ℕ → List ℕ
+days_from e zero = []
+days_from e (suc n) = e ∷ days_from (e + 1) n
+
+-- the days of a span that a rule has at 9:00, which starts on a day at 9:00
+abbrev listed : RuleParts → ℕ → ℕ → ℕ → ℕ → ℕ → List ℕ
+listed p year month day first span = filter (λ e. is_member (rule p (local year month day 9 0) DateTime) (e * 86_400 + 32_400)) (days_from first span)
+
+-- every other day
+every_other_day : listed (record (every Daily) { interval = 2 }) 1997 9 2 (date 1997 9 2) 9 ≡ map (date 1997 9) (2 ∷ 4 ∷ 6 ∷ 8 ∷ 10 ∷ [])
+unfolding days_on_literals
+every_other_day = refl
+
+-- every other week on Monday, Wednesday and Friday, weeks from Sunday
+every_other_week : listed
+    (record (every Weekly) { interval = 2; week_start = Sunday; weekdays = on_weekdays (only mo + only 2 + only fr) }) 1997 9 1 (date 1997 9 1) 30
+    ≡ map (date 1997 9) (1 ∷ 3 ∷ 5 ∷ 15 ∷ 17 ∷ 19 ∷ 29 ∷ [])
+unfolding days_on_literals
+every_other_week = refl
+
+-- the first Friday of the month
+first_friday : listed (record (every Monthly) { weekdays = nth_weekday 1 fr }) 1997 9 5 (date 1997 10 1) 31 ≡ map (date 1997 10) (3 ∷ [])
+unfolding days_on_literals
+first_friday = refl
+
+-- which the table allows
+first_friday_allowed : IsAllowed (rule (record (every Monthly) { weekdays = nth_weekday 1 fr }) (local 1997 9 5 9 0) DateTime)
+first_friday_allowed = record { parts = parts; numbers = λ e. absurd (cc); dates = λ e. absurd (cc) }
+  where
+    parts : (part : Part) → cell part Monthly ≡ Nothing
+        → is_absent (rule (record (every Monthly) { weekdays = nth_weekday 1 fr }) (local 1997 9 5 9 0) DateTime) part ≡ true
+    parts ByWeekNo e = refl
+    parts ByYearDay e = refl
+    parts ByMonth e = refl
+    parts ByMonthDay e = refl
+    parts ByDay e = absurd (cc)
+    parts ByHour e = refl
+    parts ByMinute e = refl
+    parts BySecond e = refl
+    parts BySetPos e = refl
+
+-- the third-to-the-last day of the month
+third_last : listed (record (every Monthly) { month_days = record no_places { back = only 3 } }) 1997 9 28 (date 1998 2 1) 28 ≡ map (date 1998 2) (26 ∷ [])
+unfolding days_on_literals
+third_last = refl
+
+-- the first and last day of the month
+first_and_last : listed (record (every Monthly) { month_days = record { front = only 1; back = only 1 } }) 1997 9 30 (date 1997 10 1) 31
+    ≡ map (date 1997 10) (1 ∷ 31 ∷ [])
+unfolding days_on_literals
+first_and_last = refl
+
+-- every June and July
+june_and_july : listed (record (every Yearly) { months = only 6 + only 7 }) 1997 6 10 (date 1998 7 1) 31 ≡ map (date 1998 7) (10 ∷ [])
+unfolding days_on_literals
+june_and_july = refl
+
+-- every third year on the 1st, 100th and 200th day
+third_years : listed
+    (record (every Yearly) { interval = 3; year_days = with_wide_place Front 1 (with_wide_place Front 100 (with_wide_place Front 200 no_wide_places)) })
+    1997 1 1 (date 2000 4 1) 30
+    ≡ map (date 2000 4) (9 ∷ [])
+unfolding days_on_literals
+third_years = refl
+
+-- every 20th Monday of the year
+twentieth_monday : listed (record (every Yearly) { weekdays = nth_weekday 20 mo }) 1997 5 19 (date 1998 5 1) 31 ≡ map (date 1998 5) (18 ∷ [])
+unfolding days_on_literals
+twentieth_monday = refl
+
+-- Monday of week number 20
+week_20 : listed (record (every Yearly) { weeks = record no_places { front = only 20 }; weekdays = on_weekdays (only mo) }) 1997 5 12 (date 1999 5 1) 31
+    ≡ map (date 1999 5) (17 ∷ [])
+unfolding days_on_literals
+week_20 = refl
+
+-- every Thursday in March
+march_thursdays : listed (record (every Yearly) { months = only 3; weekdays = on_weekdays (only 3) }) 1997 3 13 (date 1998 3 1) 31
+    ≡ map (date 1998 3) (5 ∷ 12 ∷ 19 ∷ 26 ∷ [])
+unfolding days_on_literals
+march_thursdays = refl
+
+-- the first Tuesday after a Monday in November, every four years
+election_day : listed
+    (record (every Yearly) { interval = 4; months = only 11; weekdays = on_weekdays (only tu); month_days = record no_places { front = 2 ^ 9 - 2 ^ 2 } })
+    1996 11 5 (date 2000 11 1) 30
+    ≡ map (date 2000 11) (7 ∷ [])
+unfolding days_on_literals
+election_day = refl

@@ -1,0 +1,663 @@
+-- The table of expansion and limits gives what the parts of a filled rule let in.
+use Rattle.std.proofs.Common.{◌≡◌, ℕ, ◌+◌, ◌*◌, ◌/◌, ◌%◌, Bool, true, false, not, ◌&&◌, ◌||◌, ◌==◌, if◌then◌else◌, pos, refl, sym, subst, ap, ◌∙◌, arith}
+use Rattle.jiff_core.specs.Calendar.{days_in_month, days_in_year}
+use Rattle.ics_values.specs.declared.frequency.Frequency.{Frequency}
+use Rattle.ics_values.specs.declared.frequency.Frequency.TheVariants.{Secondly, Minutely, Hourly, Daily, Weekly, Monthly, Yearly}
+use Rattle.ics_values.specs.declared.places.Places.{Places}
+use Rattle.ics_values.specs.Days.{day_index}
+use Rattle.ics_values.specs.Sets.{is_none, has, only}
+use Rattle.ics_values.specs.Places.{no_places, lists_none, lists_no_weekday, numbers_of}
+use Rattle.ics_rule.specs.declared.kind.Kind.{Kind}
+use Rattle.ics_rule.specs.declared.kind.Kind.TheVariants.{Date, DateTime}
+use Rattle.ics_rule.specs.Recurrence.{Recurrence}
+use Rattle.ics_rule.specs.Filled.{filled, clock_part, only_place, only_weekday}
+use Rattle.ics_rule.specs.Candidates.{lists, lists_nth, lets, lets_place}
+use Rattle.ics_rule.specs.Periods.{is_let_in}
+use Rattle.ics_rule.specs.Table.{Part, ByMonth, ByWeekNo, ByYearDay, ByMonthDay, ByDay, ByHour, ByMinute, BySecond, Cell, Limit, Expand}
+use Rattle.ics_rule.specs.ByTable.{Instance, Instances, instance_of, start_of, is_absent, is_listed, is_clockless, lists_nth_in, has_clock, own_instance, apply_cell, apply, is_instance, IsAllowed}
+use Rattle.ics_rule.proofs.TableSteps.{self_test, keep_true, never, or_assoc, limited, passed, expanded, week_expanded, noted, given, only_number, only_day, only_this_weekday, in_order, by_subject}
+
+-- the rule under a frequency
+abbrev at : Frequency → Recurrence → Recurrence
+at f r = record r { parts = record r.parts { frequency = f } }
+
+-- a part that is absent, or what it lists
+abbrev lets_part : Recurrence → Part → Instance → Bool
+lets_part r part i = is_absent r part || is_listed r part i
+
+-- a part of the date is absent
+abbrev no_month : Recurrence → Bool
+no_month r = is_absent r ByMonth
+
+abbrev no_week : Recurrence → Bool
+no_week r = is_absent r ByWeekNo
+
+abbrev no_year_day : Recurrence → Bool
+no_year_day r = is_absent r ByYearDay
+
+abbrev no_month_day : Recurrence → Bool
+no_month_day r = is_absent r ByMonthDay
+
+abbrev no_weekday : Recurrence → Bool
+no_weekday r = is_absent r ByDay
+
+-- the sets, part by part
+abbrev set0 : Recurrence → ℕ → Instances
+set0 r p i = i.period == p && own_instance r.parts.frequency (start_of r) i
+
+abbrev set1 : Recurrence → ℕ → Instances
+set1 r p = apply r (set0 r p) ByMonth
+
+abbrev set2 : Recurrence → ℕ → Instances
+set2 r p = apply r (set1 r p) ByWeekNo
+
+abbrev set3 : Recurrence → ℕ → Instances
+set3 r p = apply r (set2 r p) ByYearDay
+
+abbrev set4 : Recurrence → ℕ → Instances
+set4 r p = apply r (set3 r p) ByMonthDay
+
+abbrev set5 : Recurrence → ℕ → Instances
+set5 r p = apply r (set4 r p) ByDay
+
+-- a field as it is, or as DTSTART gives it
+abbrev keep : Bool → ℕ → ℕ → ℕ
+keep kept own n = if kept then n else own
+
+put_back : (a : Bool) (own n : ℕ) → (keep a own n == own) ≡ (if a then (n == own) else true)
+put_back true own n = refl
+put_back false own n = self_test own
+
+absent : (a b : Bool) → a ≡ true → true ≡ (a || b)
+absent a b h = sym (ap (λ x. x || b) h)
+
+first_true : (a b c d : Bool) → (a && b && c && d) ≡ true → a ≡ true
+first_true true b c d h = refl
+first_true false b c d h = absurd (cc)
+
+third_true : (a b c d : Bool) → (a && b && c && d) ≡ true → c ≡ true
+third_true true true true d h = refl
+third_true true true false d h = absurd (cc)
+third_true true false c d h = absurd (cc)
+third_true false b c d h = absurd (cc)
+
+fore_true : (a b : Bool) → (a && b) ≡ true → a ≡ true
+fore_true true b h = refl
+fore_true false b h = absurd (cc)
+
+last_true : (a b : Bool) → (a && b) ≡ true → b ≡ true
+last_true true b h = h
+last_true false b h = absurd (cc)
+
+-- ---- the clock
+
+-- a part that expands leaves the rest to DTSTART, at midnight where that is a date
+clock_given : (kind : Kind) (set own n : ℕ) → (kind ≡ Date → own ≡ 0)
+    → (((is_clockless kind || is_none set) || has set n) && (keep (is_clockless kind || is_none set) own n == own)) ≡ lets (clock_part kind true set own) n
+clock_given Date set own n zero = subst (λ z. (n == own) ≡ lets (only z) n) (zero refl) (sym (only_number true 0 own n))
+clock_given DateTime set own n zero =
+    ap (λ x. lets set n && x) (put_back (is_none set) own n)
+    ∙ given (is_none set) (lets set n) (n == own) (λ e. ap (λ b. b || has set n) e)
+    ∙ sym (only_number (is_none set) set own n)
+
+-- a part that limits has no say of DTSTART
+clock_limited : (kind : Kind) (set own n : ℕ) → (kind ≡ Date → ⊥) → (((is_clockless kind || is_none set) || has set n) && true)
+    ≡ lets (clock_part kind false set own) n
+clock_limited Date set own n apart = absurd (apart refl)
+clock_limited DateTime set own n apart = keep_true (lets set n)
+
+-- midnight
+hour_zero : (d s : ℕ) → s ≡ 0 → (d * 86_400 + s) / 3_600 % 24 ≡ 0
+hour_zero d s h = omega (arith, h)
+
+minute_zero : (d s : ℕ) → s ≡ 0 → (d * 86_400 + s) / 60 % 60 ≡ 0
+minute_zero d s h = omega (arith, h)
+
+second_zero : (d s : ℕ) → s ≡ 0 → (d * 86_400 + s) % 60 ≡ 0
+second_zero d s h = omega (arith, h)
+
+module _ (r : Recurrence) where
+  -- an instance as a part of the clock that expands leaves it to the parts before
+  abbrev hour_from : Bool → Instance → Instance
+  hour_from kept i = record i { hour = keep kept (start_of r).hour i.hour }
+
+  abbrev minute_from : Bool → Instance → Instance
+  minute_from kept i = record i { minute = keep kept (start_of r).minute i.minute }
+
+  abbrev second_from : Bool → Instance → Instance
+  second_from kept i = record i { second = keep kept (start_of r).second i.second }
+
+  abbrev second_kept : Instance → Instance
+  second_kept i = second_from (is_absent r BySecond) i
+
+  abbrev minute_kept : Instance → Instance
+  minute_kept i = minute_from (is_absent r ByMinute) (second_kept i)
+
+  abbrev hour_kept : Instance → Instance
+  hour_kept i = hour_from (is_absent r ByHour) (minute_kept i)
+
+  -- a part under a cell of the table
+  abbrev step : Cell → Part → Instances → Instances
+  step c part set i = if is_absent r part then set i else apply_cell c r part set i
+
+  abbrev lets_clock_in : Instance → Bool → Bool
+  lets_clock_in i x = lets_part r BySecond i && (lets_part r ByMinute i && (lets_part r ByHour i && x))
+
+  -- the clock under DAILY and coarser, HOURLY, MINUTELY and SECONDLY
+  module _ (set : Instances) (i : Instance) where
+    clock_daily : step Expand BySecond (step Expand ByMinute (step Expand ByHour set)) i ≡ lets_clock_in i (set (hour_kept i))
+    clock_daily =
+        expanded (is_absent r BySecond) (is_listed r BySecond i) (step Expand ByMinute (step Expand ByHour set)) (λ kept. second_from kept i)
+        ∙ ap (λ x. lets_part r BySecond i && x)
+        (expanded (is_absent r ByMinute) (is_listed r ByMinute i) (step Expand ByHour set) (λ kept. minute_from kept (second_kept i))
+        ∙ ap (λ x. lets_part r ByMinute i && x) (expanded (is_absent r ByHour) (is_listed r ByHour i) set (λ kept. hour_from kept (minute_kept i))))
+
+    clock_hourly : step Expand BySecond (step Expand ByMinute (step Limit ByHour set)) i ≡ lets_clock_in i (set (minute_kept i))
+    clock_hourly =
+        expanded (is_absent r BySecond) (is_listed r BySecond i) (step Expand ByMinute (step Limit ByHour set)) (λ kept. second_from kept i)
+        ∙ ap (λ x. lets_part r BySecond i && x)
+        (expanded (is_absent r ByMinute) (is_listed r ByMinute i) (step Limit ByHour set) (λ kept. minute_from kept (second_kept i))
+        ∙ ap (λ x. lets_part r ByMinute i && x) (limited (is_absent r ByHour) (is_listed r ByHour i) (set (minute_kept i))))
+
+    clock_minutely : step Expand BySecond (step Limit ByMinute (step Limit ByHour set)) i ≡ lets_clock_in i (set (second_kept i))
+    clock_minutely =
+        expanded (is_absent r BySecond) (is_listed r BySecond i) (step Limit ByMinute (step Limit ByHour set)) (λ kept. second_from kept i)
+        ∙ ap (λ x. lets_part r BySecond i && x) (limited (is_absent r ByMinute) (is_listed r ByMinute i) (step Limit ByHour set (second_kept i))
+        ∙ ap (λ x. lets_part r ByMinute i && x) (limited (is_absent r ByHour) (is_listed r ByHour i) (set (second_kept i))))
+
+    clock_secondly : step Limit BySecond (step Limit ByMinute (step Limit ByHour set)) i ≡ lets_clock_in i (set i)
+    clock_secondly =
+        limited (is_absent r BySecond) (is_listed r BySecond i) (step Limit ByMinute (step Limit ByHour set) i)
+        ∙ ap (λ x. lets_part r BySecond i && x) (limited (is_absent r ByMinute) (is_listed r ByMinute i) (step Limit ByHour set i)
+        ∙ ap (λ x. lets_part r ByMinute i && x) (limited (is_absent r ByHour) (is_listed r ByHour i) (set i)))
+
+  -- what each part of the clock lets in, where it expands and where it limits
+  module _ (dates : r.kind ≡ Date → r.start.second ≡ 0) (i : Instance) where
+    hours_given : (lets_part r ByHour i && ((hour_kept i).hour == (start_of r).hour)) ≡ lets (clock_part r.kind true r.parts.hours (start_of r).hour) i.hour
+    hours_given = clock_given r.kind r.parts.hours (start_of r).hour i.hour (λ date. hour_zero (day_index r.start.day) r.start.second (dates date))
+
+    minutes_given : (lets_part r ByMinute i && ((minute_kept i).minute == (start_of r).minute))
+        ≡ lets (clock_part r.kind true r.parts.minutes (start_of r).minute) i.minute
+    minutes_given = clock_given r.kind r.parts.minutes (start_of r).minute i.minute (λ date. minute_zero (day_index r.start.day) r.start.second (dates date))
+
+    seconds_given : (lets_part r BySecond i && ((second_kept i).second == (start_of r).second))
+        ≡ lets (clock_part r.kind true r.parts.seconds (start_of r).second) i.second
+    seconds_given = clock_given r.kind r.parts.seconds (start_of r).second i.second (λ date. second_zero (day_index r.start.day) r.start.second (dates date))
+
+  module _ (apart : r.kind ≡ Date → ⊥) (i : Instance) where
+    hours_limited : (lets_part r ByHour i && true) ≡ lets (clock_part r.kind false r.parts.hours (start_of r).hour) i.hour
+    hours_limited = clock_limited r.kind r.parts.hours (start_of r).hour i.hour apart
+
+    minutes_limited : (lets_part r ByMinute i && true) ≡ lets (clock_part r.kind false r.parts.minutes (start_of r).minute) i.minute
+    minutes_limited = clock_limited r.kind r.parts.minutes (start_of r).minute i.minute apart
+
+    seconds_limited : (lets_part r BySecond i && true) ≡ lets (clock_part r.kind false r.parts.seconds (start_of r).second) i.second
+    seconds_limited = clock_limited r.kind r.parts.seconds (start_of r).second i.second apart
+
+  -- Under DAILY and coarser: what the parts of the date let in, b to m in the order of the steps with what DTSTART gives, ow to od, and the clock.
+  whole : (dates : r.kind ≡ Date → r.start.second ≡ 0) (set : Instances) (i : Instance) (b d y ow w m per oe om od : Bool) {m' d' y' w' b' : Bool}
+      → set (hour_kept i) ≡ (b && (d && (y && (ow && (w && (m && (per && (oe && (om && (od && has_clock (start_of r) (hour_kept i)))))))))))
+      → (m && om) ≡ m' → (d && od) ≡ d' → y ≡ y' → w ≡ w' → (b && (ow && oe)) ≡ b'
+      → step Expand BySecond (step Expand ByMinute (step Expand ByHour set)) i
+      ≡ (per && ((((m' && d') && y') && w') && b' && (lets (clock_part r.kind true r.parts.hours (start_of r).hour) i.hour
+      && lets (clock_part r.kind true r.parts.minutes (start_of r).minute) i.minute
+      && lets (clock_part r.kind true r.parts.seconds (start_of r).second) i.second)))
+  whole dates set i b d y ow w m per oe om od steps month day year week weekday =
+      clock_daily set i ∙ ap (lets_clock_in i) steps
+      ∙ in_order (lets_part r BySecond i) (lets_part r ByMinute i) (lets_part r ByHour i) b d y ow w m per oe om od
+      ((hour_kept i).hour == (start_of r).hour) ((minute_kept i).minute == (start_of r).minute) ((second_kept i).second == (start_of r).second)
+      ∙ by_subject per month day year week weekday (hours_given dates i) (minutes_given dates i) (seconds_given dates i)
+
+-- ---- the date
+
+-- a weekday that no number goes with
+plain_weekday : (a b x : Bool) → x ≡ true → (a || (b || false)) ≡ (a || b || not x)
+plain_weekday a b x h = or_assoc a b false ∙ ap (λ z. a || b || z) (sym (ap not h))
+
+-- where the table limits BYDAY it has no number
+limited_weekday : (r : Recurrence) (i : Instance) → lists_none (numbers_of r.parts.weekdays i.weekday) ≡ true
+    → (no_weekday r || (has r.parts.weekdays.plain i.weekday || false))
+    ≡ (no_weekday r || has r.parts.weekdays.plain i.weekday || not (lists_none (numbers_of r.parts.weekdays i.weekday)))
+limited_weekday r i h = plain_weekday (no_weekday r) (has r.parts.weekdays.plain i.weekday) (lists_none (numbers_of r.parts.weekdays i.weekday)) h
+
+-- DAILY and finer: all parts of the date limit
+limited_dates : (r : Recurrence) (i : Instance) (x : Bool) → (set : Instances) → set i ≡ x
+    → step r Limit ByDay (step r Limit ByMonthDay (step r Limit ByYearDay (λ j. if no_week r then step r Limit ByMonth set j else step r Limit ByMonth set j)))
+    i
+    ≡ (lets_part r ByDay i && (lets_part r ByMonthDay i && (lets_part r ByYearDay i && (lets_part r ByMonth i && x))))
+limited_dates r i x set e =
+    limited (no_weekday r) (is_listed r ByDay i)
+    (step r Limit ByMonthDay (step r Limit ByYearDay (λ j. if no_week r then step r Limit ByMonth set j else step r Limit ByMonth set j)) i)
+    ∙ ap (λ z. lets_part r ByDay i && z)
+    (limited (no_month_day r) (is_listed r ByMonthDay i)
+    (step r Limit ByYearDay (λ j. if no_week r then step r Limit ByMonth set j else step r Limit ByMonth set j) i)
+    ∙ ap (λ z. lets_part r ByMonthDay i && z)
+    (limited (no_year_day r) (is_listed r ByYearDay i) (if no_week r then step r Limit ByMonth set i else step r Limit ByMonth set i)
+    ∙ ap (λ z. lets_part r ByYearDay i && z) (passed (no_week r) (step r Limit ByMonth set i) ∙ limited (no_month r) (is_listed r ByMonth i) (set i)
+    ∙ ap (λ z. lets_part r ByMonth i && z) e)))
+
+module _ (rule : Recurrence) (allowed : IsAllowed (at Hourly rule)) (p n : ℕ) where
+  hourly : is_instance (at Hourly rule) p n ≡ is_let_in (filled (at Hourly rule)) p n
+  unfolding filled
+  hourly =
+      let r = at Hourly rule in
+      let i = instance_of r.parts n in
+      clock_hourly r (set5 r p) i ∙ ap (lets_clock_in r i) (limited_dates r (minute_kept r i) (set0 r p (minute_kept r i)) (set0 r p) refl)
+      ∙ in_order (lets_part r BySecond i) (lets_part r ByMinute i) (lets_part r ByHour i) (lets_part r ByDay i) (lets_part r ByMonthDay i)
+      (lets_part r ByYearDay i) true true (lets_part r ByMonth i)
+      (i.period == p) true true true true ((minute_kept r i).minute == (start_of r).minute) ((second_kept r i).second == (start_of r).second)
+      ∙ by_subject (i.period == p) (keep_true (lets_part r ByMonth i)) (keep_true (lets_part r ByMonthDay i)) refl
+      (absent (no_week r) (is_listed r ByWeekNo i) (allowed.parts ByWeekNo refl))
+      (keep_true (lets_part r ByDay i) ∙ limited_weekday r i (allowed.numbers refl i.weekday)) (hours_limited r no_date i)
+      (minutes_given r (λ date. (allowed.dates date).1) i) (seconds_given r (λ date. (allowed.dates date).1) i)
+    where
+      no_date : rule.kind ≡ Date → ⊥
+      no_date date = let fine = (allowed.dates date).0 in cc
+
+module _ (rule : Recurrence) (allowed : IsAllowed (at Minutely rule)) (p n : ℕ) where
+  minutely : is_instance (at Minutely rule) p n ≡ is_let_in (filled (at Minutely rule)) p n
+  unfolding filled
+  minutely =
+      let r = at Minutely rule in
+      let i = instance_of r.parts n in
+      clock_minutely r (set5 r p) i ∙ ap (lets_clock_in r i) (limited_dates r (second_kept r i) (set0 r p (second_kept r i)) (set0 r p) refl)
+      ∙ in_order (lets_part r BySecond i) (lets_part r ByMinute i) (lets_part r ByHour i) (lets_part r ByDay i) (lets_part r ByMonthDay i)
+      (lets_part r ByYearDay i) true true (lets_part r ByMonth i)
+      (i.period == p) true true true true true ((second_kept r i).second == (start_of r).second)
+      ∙ by_subject (i.period == p) (keep_true (lets_part r ByMonth i)) (keep_true (lets_part r ByMonthDay i)) refl
+      (absent (no_week r) (is_listed r ByWeekNo i) (allowed.parts ByWeekNo refl))
+      (keep_true (lets_part r ByDay i) ∙ limited_weekday r i (allowed.numbers refl i.weekday)) (hours_limited r no_date i) (minutes_limited r no_date i)
+      (seconds_given r (λ date. (allowed.dates date).1) i)
+    where
+      no_date : rule.kind ≡ Date → ⊥
+      no_date date = let fine = (allowed.dates date).0 in cc
+
+module _ (rule : Recurrence) (allowed : IsAllowed (at Secondly rule)) (p n : ℕ) where
+  secondly : is_instance (at Secondly rule) p n ≡ is_let_in (filled (at Secondly rule)) p n
+  unfolding filled
+  secondly =
+      let r = at Secondly rule in
+      let i = instance_of r.parts n in
+      clock_secondly r (set5 r p) i ∙ ap (lets_clock_in r i) (limited_dates r i (set0 r p i) (set0 r p) refl)
+      ∙ in_order (lets_part r BySecond i) (lets_part r ByMinute i) (lets_part r ByHour i) (lets_part r ByDay i) (lets_part r ByMonthDay i)
+      (lets_part r ByYearDay i) true true (lets_part r ByMonth i)
+      (i.period == p) true true true true true true
+      ∙ by_subject (i.period == p) (keep_true (lets_part r ByMonth i)) (keep_true (lets_part r ByMonthDay i)) refl
+      (absent (no_week r) (is_listed r ByWeekNo i) (allowed.parts ByWeekNo refl))
+      (keep_true (lets_part r ByDay i) ∙ limited_weekday r i (allowed.numbers refl i.weekday)) (hours_limited r no_date i) (minutes_limited r no_date i)
+      (seconds_limited r no_date i)
+    where
+      no_date : rule.kind ≡ Date → ⊥
+      no_date date = let fine = (allowed.dates date).0 in cc
+
+-- DAILY: the table has neither BYYEARDAY nor BYWEEKNO
+module _ (rule : Recurrence) (allowed : IsAllowed (at Daily rule)) (p n : ℕ) where
+  daily_dates : (i : Instance) → set5 (at Daily rule) p i
+      ≡ (lets_part (at Daily rule) ByDay i && (lets_part (at Daily rule) ByMonthDay i && (lets_part (at Daily rule) ByMonth i && set0 (at Daily rule) p i)))
+  daily_dates i =
+      let r = at Daily rule in
+      limited (no_weekday r) (is_listed r ByDay i) (set4 r p i)
+      ∙ ap (λ x. lets_part r ByDay i && x) (limited (no_month_day r) (is_listed r ByMonthDay i) (set3 r p i)
+      ∙ ap (λ x. lets_part r ByMonthDay i && x) (passed (no_year_day r) (set2 r p i) ∙ passed (no_week r) (set1 r p i)
+      ∙ limited (no_month r) (is_listed r ByMonth i) (set0 r p i)))
+
+  daily : is_instance (at Daily rule) p n ≡ is_let_in (filled (at Daily rule)) p n
+  unfolding filled
+  daily =
+      let r = at Daily rule in
+      let i = instance_of r.parts n in
+      whole r (λ date. (allowed.dates date).1) (set5 r p) i (lets_part r ByDay i) (lets_part r ByMonthDay i) true true true (lets_part r ByMonth i)
+      (i.period == p) true true true
+      (daily_dates (hour_kept r i))
+      (keep_true (lets_part r ByMonth i)) (keep_true (lets_part r ByMonthDay i))
+      (absent (no_year_day r) (is_listed r ByYearDay i) (allowed.parts ByYearDay refl))
+      (absent (no_week r) (is_listed r ByWeekNo i) (allowed.parts ByWeekNo refl))
+      (keep_true (lets_part r ByDay i) ∙ limited_weekday r i (allowed.numbers refl i.weekday))
+
+-- An instance as a part of the date that expands leaves it to the parts before: as it is, or on DTSTART's day.
+abbrev back : Bool → Bool → ℕ → ℕ → ℕ
+back m kept own n = if kept then n else (if m then own else n)
+
+abbrev day_from : Recurrence → Bool → Instance → Instance
+day_from r kept i = record i {
+  month = back (no_month r) kept (start_of r).month i.month;
+  month_day = keep kept (start_of r).month_day i.month_day;
+  weekday = keep kept (start_of r).weekday i.weekday;
+}
+
+-- beside BYMONTH the month is kept
+month_kept : (m a : Bool) (test : ℕ → Bool) (own n : ℕ) → (m || test (back m a own n)) ≡ (m || test n)
+month_kept true a test own n = refl
+month_kept false true test own n = refl
+month_kept false false test own n = refl
+
+-- WEEKLY: BYDAY expands
+module _ (rule : Recurrence) (allowed : IsAllowed (at Weekly rule)) (p n : ℕ) where
+  weekly_dates : (i : Instance) → set5 (at Weekly rule) p i
+      ≡ (lets_part (at Weekly rule) ByDay i
+      && (lets_part rule ByMonth (day_from rule (no_weekday rule) i) && set0 (at Weekly rule) p (day_from rule (no_weekday rule) i)))
+  weekly_dates i =
+      let r = at Weekly rule in
+      let j = day_from r (no_weekday r) i in
+      expanded (no_weekday r) (is_listed r ByDay i) (set4 r p) (λ kept. day_from r kept i)
+      ∙ ap (λ x. lets_part r ByDay i && x) (passed (no_month_day r) (set3 r p j) ∙ passed (no_year_day r) (set2 r p j) ∙ passed (no_week r) (set1 r p j)
+      ∙ limited (no_month r) (is_listed r ByMonth j) (set0 r p j))
+
+  abbrev weekly_plain : Places → Bool
+  weekly_plain numbers = not (lists_none numbers)
+
+  weekly_weekday : (i : Instance)
+      → (lets_part (at Weekly rule) ByDay i && (keep (no_weekday rule) (start_of rule).weekday i.weekday == (start_of rule).weekday))
+      ≡ (if no_weekday rule then (i.weekday == (start_of rule).weekday)
+      else (no_weekday rule || has rule.parts.weekdays.plain i.weekday || weekly_plain (numbers_of rule.parts.weekdays i.weekday)))
+  weekly_weekday i =
+      ap (λ x. lets_part (at Weekly rule) ByDay i && x) (put_back (no_weekday rule) (start_of rule).weekday i.weekday)
+      ∙ given (no_weekday rule) (lets_part (at Weekly rule) ByDay i) (i.weekday == (start_of rule).weekday)
+      (λ e. ap (λ b. b || is_listed (at Weekly rule) ByDay i) e)
+      ∙ ap (λ x. if no_weekday rule then (i.weekday == (start_of rule).weekday) else x) (limited_weekday rule i (allowed.numbers refl i.weekday))
+
+  weekly : is_instance (at Weekly rule) p n ≡ is_let_in (filled (at Weekly rule)) p n
+  unfolding filled
+  weekly =
+      let r = at Weekly rule in
+      let i = instance_of r.parts n in
+      let j = day_from r (no_weekday r) i in
+      whole r (λ date. (allowed.dates date).1) (set5 r p) i (lets_part r ByDay i) true true true true (lets_part r ByMonth j) (i.period == p)
+      (j.weekday == (start_of r).weekday) true true
+      (weekly_dates (hour_kept r i))
+      (keep_true (lets_part r ByMonth j) ∙ month_kept (no_month r) (no_weekday r) (has r.parts.months) (start_of r).month i.month)
+      (absent (no_month_day r) (is_listed r ByMonthDay i) (allowed.parts ByMonthDay refl))
+      (absent (no_year_day r) (is_listed r ByYearDay i) (allowed.parts ByYearDay refl))
+      (absent (no_week r) (is_listed r ByWeekNo i) (allowed.parts ByWeekNo refl))
+      (weekly_weekday i ∙ sym (only_this_weekday (no_weekday r) r.parts.weekdays (start_of r).weekday i.weekday weekly_plain (λ e. refl)))
+
+-- MONTHLY: BYDAY keeps the day where it is absent or BYMONTHDAY is there
+monthly_day : (d y b w : Bool) (own n : ℕ) → y ≡ true → w ≡ true → (keep d own (keep (b || not d) own n) == own)
+    ≡ (if (d && y && b && w) then (n == own) else true)
+monthly_day true true true true own n p q = refl
+monthly_day true true false true own n p q = self_test own
+monthly_day false true b true own n p q = self_test own
+monthly_day d true b false own n p q = absurd (cc)
+monthly_day d false b w own n p q = absurd (cc)
+
+monthly_month : (m d b : Bool) (test : ℕ → Bool) (own n : ℕ) → (m || test (back m d own (back m (b || not d) own n))) ≡ (m || test n)
+monthly_month true d b test own n = refl
+monthly_month false true true test own n = refl
+monthly_month false true false test own n = refl
+monthly_month false false true test own n = refl
+monthly_month false false false test own n = refl
+
+-- where BYMONTHDAY is there, it is asked of the day as it is
+monthly_listed : (m d b : Bool) (test : ℕ → ℕ → Bool) (own_month own_day month day : ℕ)
+    → (d || test (back m (b || not d) own_month month) (keep (b || not d) own_day day)) ≡ (d || test month day)
+monthly_listed m true b test own_month own_day month day = refl
+monthly_listed m false true test own_month own_day month day = refl
+monthly_listed m false false test own_month own_day month day = refl
+
+module _ (rule : Recurrence) (allowed : IsAllowed (at Monthly rule)) (p n : ℕ) where
+  abbrev after_weekday : Instance → Instance
+  after_weekday i = day_from rule (no_weekday rule || not (no_month_day rule)) i
+
+  abbrev after_month_day : Instance → Instance
+  after_month_day i = day_from rule (no_month_day rule) (after_weekday i)
+
+  monthly_dates : (i : Instance) → set5 (at Monthly rule) p i
+      ≡ (lets_part (at Monthly rule) ByDay i
+      && (lets_part rule ByMonthDay (after_weekday i) && (lets_part rule ByMonth (after_month_day i) && set0 (at Monthly rule) p (after_month_day i))))
+  monthly_dates i =
+      let r = at Monthly rule in
+      let j = after_month_day i in
+      noted (no_weekday r) (no_month_day r) (is_listed r ByDay i) (set4 r p) (λ kept. day_from r kept i)
+      ∙ ap (λ x. lets_part r ByDay i && x)
+      (expanded (no_month_day r) (is_listed r ByMonthDay (after_weekday i)) (set3 r p) (λ kept. day_from r kept (after_weekday i))
+      ∙ ap (λ x. lets_part r ByMonthDay (after_weekday i) && x) (passed (no_year_day r) (set2 r p j) ∙ passed (no_week r) (set1 r p j)
+      ∙ limited (no_month r) (is_listed r ByMonth j) (set0 r p j)))
+
+  -- whether DTSTART gives the day of the month
+  abbrev takes_day : Bool
+  takes_day = no_month_day rule && no_year_day rule && no_weekday rule && no_week rule
+
+  monthly_month_day : (i : Instance) → (lets_part rule ByMonthDay (after_weekday i) && ((after_month_day i).month_day == (start_of rule).month_day))
+      ≡ lets_place (if takes_day then only_place (start_of rule).month_day else rule.parts.month_days) i.month_day (days_in_month (pos i.year) i.month)
+  monthly_month_day i =
+      let own = start_of rule in
+      ap (λ x. x && ((after_month_day i).month_day == own.month_day)) (monthly_listed (no_month rule) (no_month_day rule) (no_weekday rule)
+      (λ month day. lists rule.parts.month_days day (days_in_month (pos i.year) month)) own.month own.month_day i.month i.month_day)
+      ∙ ap (λ x. lets_part rule ByMonthDay i && x)
+      (monthly_day (no_month_day rule) (no_year_day rule) (no_weekday rule) (no_week rule) own.month_day i.month_day
+      (allowed.parts ByYearDay refl) (allowed.parts ByWeekNo refl))
+      ∙ given takes_day (lets_part rule ByMonthDay i) (i.month_day == own.month_day)
+      (λ e. ap (λ b. b || is_listed rule ByMonthDay i) (first_true (no_month_day rule) (no_year_day rule) (no_weekday rule) (no_week rule) e))
+      ∙ sym (only_day takes_day rule.parts.month_days own.month_day i.month_day (days_in_month (pos i.year) i.month))
+
+  monthly : is_instance (at Monthly rule) p n ≡ is_let_in (filled (at Monthly rule)) p n
+  unfolding filled
+  monthly =
+      let r = at Monthly rule in
+      let i = instance_of r.parts n in
+      let j = after_month_day i in
+      whole r (λ date. (allowed.dates date).1) (set5 r p) i (lets_part r ByDay i) (lets_part r ByMonthDay (after_weekday i)) true true true
+      (lets_part r ByMonth j) (i.period == p)
+      true true (j.month_day == (start_of r).month_day)
+      (monthly_dates (hour_kept r i))
+      (keep_true (lets_part r ByMonth j) ∙ monthly_month (no_month r) (no_month_day r) (no_weekday r) (has r.parts.months) (start_of r).month i.month)
+      (monthly_month_day i)
+      (absent (no_year_day r) (is_listed r ByYearDay i) (allowed.parts ByYearDay refl))
+      (absent (no_week r) (is_listed r ByWeekNo i) (allowed.parts ByWeekNo refl))
+      (keep_true (lets_part r ByDay i)
+      ∙ or_assoc (no_weekday r) (has r.parts.weekdays.plain i.weekday)
+      (lists_nth (numbers_of r.parts.weekdays i.weekday) i.month_day (days_in_month (pos i.year) i.month)))
+
+-- YEARLY: BYDAY keeps the day where it is absent, or beside BYYEARDAY or BYMONTHDAY
+abbrev yearly_kept : Bool → Bool → Bool → Bool
+yearly_kept d y b = b || not (y && d)
+
+abbrev yearly_back : Bool → Bool → Bool → Bool → Bool → ℕ → ℕ → ℕ
+yearly_back m d y b w own n = back m w own (back m y own (back m d own (back m (yearly_kept d y b) own n)))
+
+abbrev yearly_keep : Bool → Bool → Bool → ℕ → ℕ → ℕ
+yearly_keep d y b own n = keep y own (keep d own (keep (yearly_kept d y b) own n))
+
+-- beside BYMONTH the month is kept; else DTSTART gives it, and no more where a part speaks of the day
+yearly_beside : (d y b w : Bool) (own n : ℕ) → yearly_back false d y b w own n ≡ n
+yearly_beside d y b w own n =
+    same w (yearly_back false d y b true own n) ∙ same y (back false d own (back false (yearly_kept d y b) own n))
+    ∙ same d (back false (yearly_kept d y b) own n) ∙ same (yearly_kept d y b) n
+  where
+    same : (a : Bool) (x : ℕ) → back false a own x ≡ x
+    same true x = refl
+    same false x = refl
+
+yearly_open : (d y b : Bool) (own n : ℕ) → (yearly_keep d y b own n == own) ≡ (if (d && y && b) then (n == own) else true)
+yearly_open true true true own n = refl
+yearly_open true true false own n = self_test own
+yearly_open true false true own n = self_test own
+yearly_open true false false own n = self_test own
+yearly_open false true true own n = self_test own
+yearly_open false true false own n = self_test own
+yearly_open false false true own n = self_test own
+yearly_open false false false own n = self_test own
+
+-- DTSTART's day of the month, where no part speaks of a day or week
+yearly_day : (d y b w : Bool) (own n : ℕ) → (keep w own (yearly_keep d y b own n) == own) ≡ (if (d && y && b && w) then (n == own) else true)
+yearly_day d y b true own n = yearly_open d y b own n ∙ ap (λ t. if t then (n == own) else true) (sym (keep_true (d && y && b)))
+yearly_day d y b false own n = self_test own ∙ ap (λ t. if t then (n == own) else true) (sym (never (d && y && b)))
+
+-- DTSTART's weekday in the weeks of BYWEEKNO, where no part speaks of a day
+yearly_own_weekday : (d y b w : Bool) (own n : ℕ) → (w || (yearly_keep d y b own n == own)) ≡ (if (d && y && b && not w) then (n == own) else true)
+yearly_own_weekday d y b true own n = ap (λ t. if t then (n == own) else true) (sym (never (d && y && b)))
+yearly_own_weekday d y b false own n = yearly_open d y b own n ∙ ap (λ t. if t then (n == own) else true) (sym (keep_true (d && y && b)))
+
+-- BYMONTH, and DTSTART's month where no other part speaks of the date
+yearly_month : (d y b w m : Bool) (test : ℕ → Bool) (own n : ℕ)
+    → ((m || test (yearly_back m d y b w own n)) && (keep m own (yearly_back m d y b w own n) == own))
+    ≡ ((m || test n) && (if (d && y && b && w && m) then (n == own) else true))
+yearly_month d y b w true test own n = yearly_day d y b w own n ∙ ap (λ t. if t then (n == own) else true) (sym (keep_true (d && y && b && w)))
+yearly_month d y b w false test own n =
+    ap (λ x. test (yearly_back false d y b w own n) && x) (self_test own) ∙ ap (λ x. test x && true) (yearly_beside d y b w own n)
+    ∙ ap (λ t. test n && (if t then (n == own) else true)) (sym (never (d && y && b && w)))
+
+-- where BYMONTHDAY is there, it is asked of the day as it is
+yearly_listed : (m d y b : Bool) (test : ℕ → ℕ → Bool) (own_month own_day month day : ℕ)
+    → (d || test (back m (yearly_kept d y b) own_month month) (keep (yearly_kept d y b) own_day day)) ≡ (d || test month day)
+yearly_listed m true y b test own_month own_day month day = refl
+yearly_listed m false true true test own_month own_day month day = refl
+yearly_listed m false true false test own_month own_day month day = refl
+yearly_listed m false false true test own_month own_day month day = refl
+yearly_listed m false false false test own_month own_day month day = refl
+
+-- BYDAY counts in the unit of note 2
+yearly_numbers : (b w m months taken : Bool) (plain : Bool) (numbers : Places) (i : Instance)
+    → (taken ≡ true → b ≡ true) → (taken ≡ false → months ≡ m) → (w ≡ false → lists_none numbers ≡ true)
+    → (b || (plain || lists_nth_in (if not w then Weekly else (if not m then Monthly else Yearly)) numbers i))
+    ≡ (b || plain || (if not w then not (lists_none numbers)
+    else (if not months then lists_nth numbers i.month_day (days_in_month (pos i.year) i.month) else lists_nth numbers i.year_day (days_in_year (pos i.year)))))
+yearly_numbers true w m months taken plain numbers i h k none = refl
+yearly_numbers false w m months true plain numbers i h k none = absurd (let e = h refl in cc)
+yearly_numbers false false m months false plain numbers i h k none = or_assoc false plain false ∙ ap (λ z. plain || z) (sym (ap not (none refl)))
+yearly_numbers false true m months false plain numbers i h k none =
+    ap (λ z. plain || lists_nth_in (if not z then Monthly else Yearly) numbers i) (sym (k refl)) ∙ counted months
+  where
+    counted : (a : Bool) → (plain || lists_nth_in (if not a then Monthly else Yearly) numbers i)
+        ≡ (plain || (if not a then lists_nth numbers i.month_day (days_in_month (pos i.year) i.month) else lists_nth numbers i.year_day
+        (days_in_year (pos i.year))))
+    counted true = refl
+    counted false = refl
+
+week_unit : (w m : Bool) → w ≡ false → ◌≡◌ {A = Frequency} (if not w then Weekly else (if not m then Monthly else Yearly)) Weekly
+week_unit true m h = absurd (cc)
+week_unit false m h = refl
+
+months_taken : (t : Bool) (own months : ℕ) → t ≡ false → is_none (if t then only own else months) ≡ is_none months
+months_taken true own months h = absurd (cc)
+months_taken false own months h = refl
+
+module _ (rule : Recurrence) (allowed : IsAllowed (at Yearly rule)) (p n : ℕ) where
+  -- an instance as BYDAY, BYMONTHDAY, BYYEARDAY, BYWEEKNO and BYMONTH leave it to the part before
+  abbrev after_day : Instance → Instance
+  after_day i = day_from rule (yearly_kept (no_month_day rule) (no_year_day rule) (no_weekday rule)) i
+
+  abbrev after_month_days : Instance → Instance
+  after_month_days i = day_from rule (no_month_day rule) (after_day i)
+
+  abbrev after_year_day : Instance → Instance
+  after_year_day i = day_from rule (no_year_day rule) (after_month_days i)
+
+  abbrev after_week : Instance → Instance
+  after_week i = day_from rule (no_week rule) (after_year_day i)
+
+  abbrev month_from : Bool → Instance → Instance
+  month_from kept i = record i { month = keep kept (start_of rule).month i.month }
+
+  abbrev after_month : Instance → Instance
+  after_month i = month_from (no_month rule) (after_week i)
+
+  -- DTSTART gives the weekday in a week
+  abbrev own_weekday : Instance → Bool
+  own_weekday i = (after_year_day i).weekday == (start_of rule).weekday
+
+  yearly_dates : (i : Instance) → set5 (at Yearly rule) p i
+      ≡ (lets_part (at Yearly rule) ByDay i && (lets_part rule ByMonthDay (after_day i) && (lets_part rule ByYearDay i && ((no_week rule || own_weekday i)
+      && (lets_part rule ByWeekNo i && (lets_part rule ByMonth (after_week i) && set0 (at Yearly rule) p (after_month i)))))))
+  yearly_dates i =
+      let r = at Yearly rule in
+      noted (no_weekday r) (no_year_day r && no_month_day r) (is_listed r ByDay i) (set4 r p) (λ kept. day_from r kept i)
+      ∙ ap (λ x. lets_part r ByDay i && x) (expanded (no_month_day r) (is_listed r ByMonthDay (after_day i)) (set3 r p) (λ kept. day_from r kept (after_day i))
+      ∙ ap (λ x. lets_part r ByMonthDay (after_day i) && x)
+      (expanded (no_year_day r) (is_listed r ByYearDay i) (set2 r p) (λ kept. day_from r kept (after_month_days i))
+      ∙ ap (λ x. lets_part r ByYearDay i && x)
+      (week_expanded (no_week r) (own_weekday i) (is_listed r ByWeekNo i) (set1 r p) (λ kept. day_from r kept (after_year_day i))
+      ∙ ap (λ x. (no_week r || own_weekday i) && (lets_part r ByWeekNo i && x))
+      (expanded (no_month r) (is_listed r ByMonth (after_week i)) (set0 r p) (λ kept. month_from kept (after_week i))))))
+
+  -- whether DTSTART gives the day of the month, the month and the weekday
+  abbrev takes_this_day : Bool
+  takes_this_day = no_month_day rule && no_year_day rule && no_weekday rule && no_week rule
+
+  abbrev takes_this_month : Bool
+  takes_this_month = takes_this_day && no_month rule
+
+  abbrev takes_this_weekday : Bool
+  takes_this_weekday = no_month_day rule && no_year_day rule && no_weekday rule && not (no_week rule)
+
+  yearly_months : (i : Instance) → (lets_part rule ByMonth (after_week i) && ((after_month i).month == (start_of rule).month))
+      ≡ lets (if takes_this_month then only (start_of rule).month else rule.parts.months) i.month
+  yearly_months i =
+      yearly_month (no_month_day rule) (no_year_day rule) (no_weekday rule) (no_week rule) (no_month rule) (has rule.parts.months) (start_of rule).month i.month
+      ∙ given takes_this_month (lets_part rule ByMonth i) (i.month == (start_of rule).month)
+      (λ e. ap (λ b. b || is_listed rule ByMonth i) (last_true takes_this_day (no_month rule) e))
+      ∙ sym (only_number takes_this_month rule.parts.months (start_of rule).month i.month)
+
+  yearly_month_days : (i : Instance) → (lets_part rule ByMonthDay (after_day i) && ((after_month i).month_day == (start_of rule).month_day))
+      ≡ lets_place (if takes_this_day then only_place (start_of rule).month_day else rule.parts.month_days) i.month_day (days_in_month (pos i.year) i.month)
+  yearly_month_days i =
+      ap (λ x. x && ((after_month i).month_day == (start_of rule).month_day))
+      (yearly_listed (no_month rule) (no_month_day rule) (no_year_day rule) (no_weekday rule)
+      (λ month day. lists rule.parts.month_days day (days_in_month (pos i.year) month)) (start_of rule).month (start_of rule).month_day i.month i.month_day)
+      ∙ ap (λ x. lets_part rule ByMonthDay i && x)
+      (yearly_day (no_month_day rule) (no_year_day rule) (no_weekday rule) (no_week rule) (start_of rule).month_day i.month_day)
+      ∙ given takes_this_day (lets_part rule ByMonthDay i) (i.month_day == (start_of rule).month_day)
+      (λ e. ap (λ b. b || is_listed rule ByMonthDay i) (first_true (no_month_day rule) (no_year_day rule) (no_weekday rule) (no_week rule) e))
+      ∙ sym (only_day takes_this_day rule.parts.month_days (start_of rule).month_day i.month_day (days_in_month (pos i.year) i.month))
+
+  -- what the numbers of a weekday let in
+  abbrev yearly_nth : Instance → Places → Bool
+  yearly_nth i numbers =
+      if not (no_week rule) then not (lists_none numbers)
+      else (if not (is_none (if takes_this_month then only (start_of rule).month else rule.parts.months)) then lists_nth numbers i.month_day
+      (days_in_month (pos i.year) i.month)
+      else lists_nth numbers i.year_day (days_in_year (pos i.year)))
+
+  yearly_days : (i : Instance)
+      → lets_part (at Yearly rule) ByDay i
+      ≡ (no_weekday rule || has rule.parts.weekdays.plain i.weekday || yearly_nth i (numbers_of rule.parts.weekdays i.weekday))
+  yearly_days i =
+      yearly_numbers (no_weekday rule) (no_week rule) (no_month rule) (is_none (if takes_this_month then only (start_of rule).month else rule.parts.months))
+      takes_this_month
+      (has rule.parts.weekdays.plain i.weekday) (numbers_of rule.parts.weekdays i.weekday) i
+      (λ e. third_true (no_month_day rule) (no_year_day rule) (no_weekday rule) (no_week rule) (fore_true takes_this_day (no_month rule) e))
+      (months_taken takes_this_month (start_of rule).month rule.parts.months)
+      (λ e. allowed.numbers (week_unit (no_week rule) (no_month rule) e) i.weekday)
+
+  yearly_weekdays : (i : Instance) → (lets_part (at Yearly rule) ByDay i && ((no_week rule || own_weekday i) && true))
+      ≡ (lists_no_weekday (if takes_this_weekday then only_weekday (start_of rule).weekday else rule.parts.weekdays)
+      || has (if takes_this_weekday then only_weekday (start_of rule).weekday else rule.parts.weekdays).plain i.weekday
+      || yearly_nth i (numbers_of (if takes_this_weekday then only_weekday (start_of rule).weekday else rule.parts.weekdays) i.weekday))
+  yearly_weekdays i =
+      ap (λ x. lets_part (at Yearly rule) ByDay i && x) (keep_true (no_week rule || own_weekday i)
+      ∙ yearly_own_weekday (no_month_day rule) (no_year_day rule) (no_weekday rule) (no_week rule) (start_of rule).weekday i.weekday)
+      ∙ given takes_this_weekday (lets_part (at Yearly rule) ByDay i) (i.weekday == (start_of rule).weekday)
+      (λ e. ap (λ b. b || is_listed (at Yearly rule) ByDay i) (third_true (no_month_day rule) (no_year_day rule) (no_weekday rule) (not (no_week rule)) e))
+      ∙ ap (λ x. if takes_this_weekday then (i.weekday == (start_of rule).weekday) else x) (yearly_days i)
+      ∙ sym (only_this_weekday takes_this_weekday rule.parts.weekdays (start_of rule).weekday i.weekday (yearly_nth i)
+      (λ e. ap (λ b. if b then not (lists_none no_places) else nth_of_none i)
+      (last_true (no_month_day rule && no_year_day rule && no_weekday rule) (not (no_week rule)) e)))
+    where
+      nth_of_none : Instance → Bool
+      nth_of_none i = if not (is_none (if takes_this_month then only (start_of rule).month else rule.parts.months)) then lists_nth no_places i.month_day
+          (days_in_month (pos i.year) i.month) else lists_nth no_places i.year_day (days_in_year (pos i.year))
+
+  yearly : is_instance (at Yearly rule) p n ≡ is_let_in (filled (at Yearly rule)) p n
+  unfolding filled
+  yearly =
+      let r = at Yearly rule in
+      let i = instance_of r.parts n in
+      let k = hour_kept r i in
+      whole r (λ date. (allowed.dates date).1) (set5 r p) i (lets_part r ByDay k) (lets_part r ByMonthDay (after_day i)) (lets_part r ByYearDay i)
+      (no_week r || own_weekday i) (lets_part r ByWeekNo i) (lets_part r ByMonth (after_week i)) (i.period == p)
+      true ((after_month i).month == (start_of r).month) ((after_month i).month_day == (start_of r).month_day)
+      (yearly_dates k) (yearly_months i) (yearly_month_days i) refl refl (yearly_weekdays k)
+
+-- by the frequency of the rule
+by_frequency : (f : Frequency) (r : Recurrence) → IsAllowed (at f r) → (p n : ℕ) → is_instance (at f r) p n ≡ is_let_in (filled (at f r)) p n
+by_frequency Secondly r allowed p n = secondly r allowed p n
+by_frequency Minutely r allowed p n = minutely r allowed p n
+by_frequency Hourly r allowed p n = hourly r allowed p n
+by_frequency Daily r allowed p n = daily r allowed p n
+by_frequency Weekly r allowed p n = weekly r allowed p n
+by_frequency Monthly r allowed p n = monthly r allowed p n
+by_frequency Yearly r allowed p n = yearly r allowed p n
+
+-- the instances that the table gives in a period are what the rule lets in there
+pub instances_by_table : (r : Recurrence) → IsAllowed r → (p n : ℕ) → is_instance r p n ≡ is_let_in (filled r) p n
+instances_by_table r allowed p n = by_frequency r.parts.frequency r allowed p n

@@ -1,0 +1,125 @@
+-- The table's parts, one by one: what each lets in, and what DTSTART still gives.
+use Rattle.std.proofs.Common.{◌≡◌, ℕ, zero, suc, ◌+◌, ◌-◌, ◌<◌, Bool, true, false, not, ◌&&◌, ◌||◌, ◌==◌, if◌then◌else◌, refl, ap, ◌∙◌, arith}
+use Rattle.std.proofs.lemmas.Bool.Decides.{nat_tests}
+use Rattle.std.proofs.lemmas.Nat.{pow_pos}
+use Rattle.std.proofs.lemmas.Nat.Bits.{bit_at-zero}
+use Rattle.ics_values.specs.declared.places.Places.{Places}
+use Rattle.ics_values.specs.declared.places.Weekdays.{Weekdays}
+use Rattle.ics_values.specs.Sets.{is_none, has, only}
+use Rattle.ics_values.specs.Places.{no_places, no_weekdays, numbers_of, lists_no_weekday}
+use Rattle.ics_rule.specs.Filled.{only_place, only_weekday}
+use Rattle.ics_rule.specs.Candidates.{lets, lets_place}
+use Rattle.ics_rule.specs.ByTable.{Instance, Instances}
+use Rattle.ics_rule.proofs.ScanLemmas.{has-only}
+
+pub self_test : (a : ℕ) → (a == a) ≡ true
+self_test a = grind (arith, nat_tests)
+
+pub keep_true : (b : Bool) → (b && true) ≡ b
+keep_true true = refl
+keep_true false = refl
+
+pub never : (b : Bool) → (b && false) ≡ false
+never true = refl
+never false = refl
+
+pub or_false : (b : Bool) → (b || false) ≡ b
+or_false true = refl
+or_false false = refl
+
+pub or_assoc : (a b c : Bool) → (a || (b || c)) ≡ (a || b || c)
+or_assoc true b c = refl
+or_assoc false b c = refl
+
+-- a part that is absent, or limits; and one that the table has not
+pub limited : (a l x : Bool) → (if a then x else (l && x)) ≡ ((a || l) && x)
+limited true l x = refl
+limited false l x = refl
+
+pub passed : (a x : Bool) → (if a then x else x) ≡ x
+passed true x = refl
+passed false x = refl
+
+-- a part that is absent, or expands: an instance is kept, or has from DTSTART what the part gives
+pub expanded : (a l : Bool) (set : Instances) (from : Bool → Instance) → (if a then set (from true) else (l && set (from false))) ≡ ((a || l) && set (from a))
+expanded true l set from = refl
+expanded false l set from = refl
+
+-- BYWEEKNO gives the weekday w too
+pub week_expanded : (a w l : Bool) (set : Instances) (from : Bool → Instance)
+    → (if a then set (from true) else ((w && l) && set (from false))) ≡ ((a || w) && ((a || l) && set (from a)))
+week_expanded true w l set from = refl
+week_expanded false true l set from = refl
+week_expanded false false l set from = refl
+
+-- BYDAY expands where b holds, else it limits
+pub noted : (a b l : Bool) (set : Instances) (from : Bool → Instance)
+    → (if a then set (from true) else (if b then (l && set (from false)) else (l && set (from true)))) ≡ ((a || l) && set (from (a || not b)))
+noted true b l set from = refl
+noted false true l set from = refl
+noted false false l set from = refl
+
+-- What lets a field in, where t tells that DTSTART gives it.
+pub given : (t let_in own : Bool) → (t ≡ true → let_in ≡ true) → (let_in && (if t then own else true)) ≡ (if t then own else let_in)
+given true let_in own h = ap (λ x. x && own) (h refl)
+given false let_in own h = keep_true let_in
+
+none_only : (s : ℕ) → is_none (only s) ≡ false
+none_only s = apart (only s) (pow_pos s)
+  where
+    apart : (n : ℕ) → 0 < n → (n == 0) ≡ false
+    apart n h = grind (arith, nat_tests)
+
+has_none : (n : ℕ) → has 0 n ≡ false
+has_none n = ap (λ x. x == 1) (bit_at-zero n)
+
+-- a set, places and weekdays, or DTSTART's own alone
+pub only_number : (t : Bool) (s own n : ℕ) → lets (if t then only own else s) n ≡ (if t then (n == own) else lets s n)
+only_number true s own n = ap (λ x. x || has (only own) n) (none_only own) ∙ has-only own n
+only_number false s own n = refl
+
+pub only_day : (t : Bool) (p : Places) (own n size : ℕ) → lets_place (if t then only_place own else p) n size ≡ (if t then (n == own) else lets_place p n size)
+only_day true p own n size = rw (none_only own, has_none (size + 1 - n), has-only own n) (or_false (n == own))
+only_day false p own n size = refl
+
+no_number : (n : ℕ) → numbers_of no_weekdays n ≡ no_places
+no_number zero = refl
+no_number (suc zero) = refl
+no_number (suc (suc zero)) = refl
+no_number (suc (suc (suc zero))) = refl
+no_number (suc (suc (suc (suc zero)))) = refl
+no_number (suc (suc (suc (suc (suc zero))))) = refl
+no_number (suc (suc (suc (suc (suc (suc zero)))))) = refl
+no_number (suc (suc (suc (suc (suc (suc (suc n))))))) = refl
+
+pub only_this_weekday : (t : Bool) (ws : Weekdays) (own n : ℕ) (test : Places → Bool) → (t ≡ true → test no_places ≡ false)
+    → (lists_no_weekday (if t then only_weekday own else ws) || has (if t then only_weekday own else ws).plain n
+    || test (numbers_of (if t then only_weekday own else ws) n))
+    ≡ (if t then (n == own) else (lists_no_weekday ws || has ws.plain n || test (numbers_of ws n)))
+only_this_weekday true ws own n test h = rw (none_only own, no_number n, h refl, has-only own n) (or_false (n == own))
+only_this_weekday false ws own n test h = refl
+
+-- the tests in the order of the steps, and by subject
+pub in_order : (s mi h b d y ow w m per oe om od ch cmi cs : Bool)
+    → (s && (mi && (h && (b && (d && (y && (ow && (w && (m && (per && (oe && (om && (od && (ch && (cmi && cs)))))))))))))))
+    ≡ (per && (((((m && om) && (d && od)) && y) && w) && (b && (ow && oe)) && (((h && ch) && (mi && cmi)) && (s && cs))))
+in_order false mi h b d y ow w m per oe om od ch cmi cs = simp never refl
+in_order true false h b d y ow w m per oe om od ch cmi cs = simp never refl
+in_order true true false b d y ow w m per oe om od ch cmi cs = simp never refl
+in_order true true true false d y ow w m per oe om od ch cmi cs = simp never refl
+in_order true true true true false y ow w m per oe om od ch cmi cs = simp never refl
+in_order true true true true true false ow w m per oe om od ch cmi cs = simp never refl
+in_order true true true true true true false w m per oe om od ch cmi cs = simp never refl
+in_order true true true true true true true false m per oe om od ch cmi cs = simp never refl
+in_order true true true true true true true true false per oe om od ch cmi cs = simp never refl
+in_order true true true true true true true true true false oe om od ch cmi cs = refl
+in_order true true true true true true true true true true false om od ch cmi cs = simp never refl
+in_order true true true true true true true true true true true false od ch cmi cs = refl
+in_order true true true true true true true true true true true true false ch cmi cs = refl
+in_order true true true true true true true true true true true true true false cmi cs = refl
+in_order true true true true true true true true true true true true true true false cs = refl
+in_order true true true true true true true true true true true true true true true cs = refl
+
+pub by_subject : (per : Bool) {m m' d d' y y' w w' b b' h h' i i' s s' : Bool} → m ≡ m' → d ≡ d' → y ≡ y' → w ≡ w' → b ≡ b' → h ≡ h' → i ≡ i' → s ≡ s'
+    → (per && ((((m && d) && y) && w) && b && ((h && i) && s))) ≡ (per && ((((m' && d') && y') && w') && b' && ((h' && i') && s')))
+by_subject per m d y w b h i s = rw (m, d, y, w, b, h, i, s) refl

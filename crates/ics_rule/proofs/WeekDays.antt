@@ -1,0 +1,204 @@
+-- The days of a year that may lie in a listed week.
+use Rattle.std.proofs.Common.{◌≡◌, ℕ, ◌+◌, ◌-◌, ◌*◌, ◌/◌, ◌%◌, ◌<◌, ◌≤◌, ◌⊎◌, inl, inr, Bool, true, false, ◌==◌, ◌||◌, ◌&&◌, nat_lt, nat_le, max, min, List, pos, refl, sym, subst, ap, ◌∙◌, arith}
+use Rattle.std.proofs.lemmas.Bool.Decides.{nat_tests}
+use Rattle.jiff_core.specs.Calendar.{days_in_year}
+use Rattle.jiff_core.specs.Weekday.{monday_zero}
+use Rattle.jiff_core.proofs.CalendarLemmas.{days_in_year_bounds}
+use Rattle.ics_values.specs.declared.places.Places.{Places}
+use Rattle.ics_values.specs.Sets.{has, has_wide}
+use Rattle.ics_values.specs.Places.{lists_none}
+use Rattle.ics_values.specs.Days.{days_before_year, year_of, year_day_of, weekday_of}
+use Rattle.ics_values.proofs.DayLemmas.{days_before_year-next, year_of_is}
+use Rattle.ics_rule.specs.declared.filled.Filled.{Filled}
+use Rattle.ics_rule.specs.Locals.{week_of}
+use Rattle.ics_rule.specs.Candidates.{fourth_day, week_number, weeks_of_year, lets_place, lets_week}
+use Rattle.ics_rule.specs.Runs.{may_list_week}
+use Rattle.ics_rule.proofs.PeriodLemmas.{week_small}
+
+by_order : (a b : ℕ) → (a < b) ⊎ (b ≤ a)
+by_order a b = grind arith
+
+three : (a b : ℕ) → (a < b) ⊎ ((a ≡ b) ⊎ (b < a))
+three a b = grind arith
+
+-- the days between two
+pub between_none : (low m : ℕ) (a : Bool) → a ≡ (a || (nat_le low m && nat_lt m low))
+between_none low m a = nothing a (nat_le low m && nat_lt m low) (let none : (nat_le low m && nat_lt m low) ≡ false = grind (arith, nat_tests) in none)
+  where
+    nothing : (a x : Bool) → x ≡ false → a ≡ (a || x)
+    nothing true x h = refl
+    nothing false x h = sym h
+
+pub between_more : (low k m : ℕ) (a b : Bool) → low ≤ k → b ≡ (a || (nat_le low m && nat_lt m k)) → ((m == k) || b) ≡ (a || (nat_le low m && nat_lt m (k + 1)))
+between_more low k m a b l e = ap (λ x. (m == k) || x) e ∙ or_swap a (m == k) (nat_le low m && nat_lt m k) ∙ ap (λ x. a || x) (let one : ((m == k) || (nat_le low m && nat_lt m k)) ≡ (nat_le low m && nat_lt m (k + 1)) = grind (arith, nat_tests) in one)
+  where
+    or_swap : (a b c : Bool) → (b || (a || c)) ≡ (a || (b || c))
+    or_swap true true c = refl
+    or_swap true false c = refl
+    or_swap false b c = refl
+
+pub between_done : (low end k m : ℕ) (a b : Bool) → low ≤ k → end ≤ k → k ≤ max low end → b ≡ (a || (nat_le low m && nat_lt m k)) → b ≡ (a || (nat_le low m && nat_lt m end))
+between_done low end k m a b l h most e = e ∙ ap (λ x. a || x) (elim (by_order end low) [
+  | inl none ↦ let all : k ≡ low = omega (arith, none, most, l) in rw all (let out : (nat_le low m && nat_lt m low) ≡ (nat_le low m && nat_lt m end) = grind (arith, nat_tests) in out)
+  | inr some ↦ let all : k ≡ end = omega (arith, some, most, h) in rw all refl
+])
+
+pub kept : (old new b : Bool) → new ≡ (old || b) → old ≡ true → new ≡ true
+kept true new b e h = e
+kept false new b e h = absurd (cc)
+
+pub gained : (old new b : Bool) → new ≡ (old || b) → b ≡ true → new ≡ true
+gained true new b e h = e
+gained false new b e h = e ∙ h
+
+pub either : (old new b : Bool) → new ≡ (old || b) → new ≡ true → (old ≡ true) ⊎ (b ≡ true)
+either true new b e h = inl refl
+either false new b e h = inr (sym e ∙ h)
+
+pub between_shown : (low end m : ℕ) → low ≤ m → m < end → (nat_le low m && nat_lt m end) ≡ true
+between_shown low end m l h = grind (arith, nat_tests)
+
+pub between_facts : (low end m : ℕ) → (nat_le low m && nat_lt m end) ≡ true → (low ≤ m) × (m < end)
+between_facts low end m h = grind (arith, nat_tests)
+
+-- day k of a year is near its end, or lies in week n, of which the fourth day comes `fourth` days after the year's first and n - 1 weeks later
+pub record IsNear (weeks : Places) (fourth k n : ℕ) : Type 0 where
+  pub low : 1 ≤ n
+  pub high : n < 54
+  pub listed : may_list_week weeks n ≡ true
+  pub from : 7 * n + fourth ≤ k + 10
+  pub before : k + 3 < 7 * n + fourth
+
+abbrev pub IsFound : Places → ℕ → ℕ → ℕ → Type 0
+IsFound weeks fourth len k = (k < 3) ⊎ ((len ≤ k + 3) ⊎ ((n : ℕ) × IsNear weeks fourth k n))
+
+fourth_late : (w e : ℕ) → 9 ≤ 7 * week_of w e + w → fourth_day w e ≡ 7 * week_of w e + w - 9
+fourth_late w e h = let late : nat_lt (7 * week_of w e + w) 9 ≡ false = grind (arith, nat_tests) in rw late refl
+
+year_day_is : (f y : ℕ) → year_of f ≡ y → year_day_of f ≡ f - days_before_year y + 1
+unfolding year_day_of
+year_day_is f y h = rw h refl
+
+-- a week of the year that is listed, by the place of its fourth day in the year
+listed_week : (q : Filled) (f y j : ℕ) → year_of f ≡ y → f ≡ days_before_year y + j → j < days_in_year (pos y) → lists_none q.weeks ≡ false
+    → lets_place q.weeks (week_number f) (weeks_of_year f) ≡ true → may_list_week q.weeks (j / 7 + 1) ≡ true
+listed_week q f y j year place inside some h =
+    let day : year_day_of f - 1 ≡ j = (let d = year_day_is f y year in omega (arith, d, place)) in
+    let bounds = days_in_year_bounds (pos y) in
+    let number : week_number f ≡ j / 7 + 1 = ap (λ x. x / 7 + 1) day in
+    let weeks : weeks_of_year f ≡ (days_in_year (pos y) - 1 - j % 7) / 7 + 1 = ap (λ x. (days_in_year (pos x) - 1 - (year_day_of f - 1) % 7) / 7 + 1) year ∙ ap (λ x. (days_in_year (pos y) - 1 - x % 7) / 7 + 1) day in
+    let own : lets_place q.weeks (j / 7 + 1) ((days_in_year (pos y) - 1 - j % 7) / 7 + 1) ≡ true =
+    ap (λ n. lets_place q.weeks n ((days_in_year (pos y) - 1 - j % 7) / 7 + 1)) (sym number) ∙ ap (lets_place q.weeks (week_number f)) (sym weeks) ∙ h in
+    elim (by_order ((days_in_year (pos y) - 1 - j % 7) / 7 + 1) 53) [
+      | inl fewer ↦ let back : (days_in_year (pos y) - 1 - j % 7) / 7 + 1 + 1 - (j / 7 + 1) ≡ 53 - (j / 7 + 1) = omega (arith, fewer, bounds.0, bounds.1) in
+          first (lists_none q.weeks) (has q.weeks.front (j / 7 + 1)) (has q.weeks.back (53 - (j / 7 + 1))) (has q.weeks.back (54 - (j / 7 + 1))) some
+          (ap (λ x. lists_none q.weeks || (has q.weeks.front (j / 7 + 1) || has q.weeks.back x)) (sym back) ∙ own)
+      | inr more ↦ let back : (days_in_year (pos y) - 1 - j % 7) / 7 + 1 + 1 - (j / 7 + 1) ≡ 54 - (j / 7 + 1) = omega (arith, more, bounds.0, bounds.1) in
+          second (lists_none q.weeks) (has q.weeks.front (j / 7 + 1)) (has q.weeks.back (53 - (j / 7 + 1))) (has q.weeks.back (54 - (j / 7 + 1))) some
+          (ap (λ x. lists_none q.weeks || (has q.weeks.front (j / 7 + 1) || has q.weeks.back x)) (sym back) ∙ own)
+    ]
+  where
+    first : (n a b c : Bool) → n ≡ false → (n || (a || b)) ≡ true → (a || b || c) ≡ true
+    first true a b c h l = absurd (cc)
+    first false true b c h l = refl
+    first false false true c h l = refl
+    first false false false c h l = absurd (cc)
+
+    second : (n a b c : Bool) → n ≡ false → (n || (a || c)) ≡ true → (a || b || c) ≡ true
+    second true a b c h l = absurd (cc)
+    second false true b c h l = refl
+    second false false true true h l = refl
+    second false false true false h l = refl
+    second false false false true h l = refl
+    second false false false false h l = absurd (cc)
+
+pub week_near : (q : Filled) (first len k fourth : ℕ) → first ≡ days_before_year (year_of first) → len ≡ days_in_year (pos (year_of first)) → k < len → lists_none q.weeks ≡ false
+    → fourth ≡ (monday_zero q.week_start + 10 - weekday_of first) % 7 → lets_week q (first + k) ≡ true → IsFound q.weeks fourth len k
+week_near q first len k fourth start size inside some place h =
+    let w = monday_zero q.week_start in
+    let small : w < 7 = week_small q.week_start in
+    elim (by_order (7 * week_of w (first + k) + w) 9) [
+      | inl early ↦ inl (omega (arith, early, small))
+      | inr late ↦
+          let f = 7 * week_of w (first + k) + w - 9 in
+          elim (by_order f first) [
+            | inl before ↦ inl (omega (arith, before, late, small))
+            | inr begun ↦ elim (by_order f (first + len)) [
+              | inr past ↦ inr (inl (omega (arith, past, late, small)))
+              | inl there ↦
+                  let next = days_before_year-next (year_of first) in
+                  let year : year_of f ≡ year_of first = year_of_is f (year_of first) (omega (arith, begun, start)) (omega (arith, there, next, start, size)) in
+                  let h' = subst (λ x. lets_place q.weeks (week_number x) (weeks_of_year x) ≡ true) (fourth_late w (first + k) late) h in
+                  let listed = listed_week q f (year_of first) (f - first) year (omega (arith, begun, start)) (omega (arith, there, begun, size)) some h' in
+                  let bounds = days_in_year_bounds (pos (year_of first)) in
+                  let aligned : (f - first) % 7 ≡ fourth = omega (arith, begun, place, late, small) in
+                  inr (inr (
+                    (f - first) / 7 + 1,
+                    record {
+                      low = omega arith;
+                      high = omega (arith, there, begun, size, bounds.0);
+                      listed = listed;
+                      from = omega (arith, aligned, begun, late, small);
+                      before = omega (arith, aligned, begun, late, small);
+                    },
+                  ))
+            ]
+          ]
+    ]
+
+-- how far a walk over the weeks has come
+pub record IsCover (weeks : Places) (fourth len n : ℕ) (days : List ℕ) : Type 0 where
+  pub within : (m : ℕ) → has_wide days m ≡ true → m < len
+  pub first : (m : ℕ) → m < 3 → has_wide days m ≡ true
+  pub last : (m : ℕ) → len ≤ m + 3 → m < len → has_wide days m ≡ true
+  pub near : (k j : ℕ) → j < n → IsNear weeks fourth k j → k < len → has_wide days k ≡ true
+
+pub cover_starts : (weeks : Places) (fourth len : ℕ) (none front both : List ℕ) → 3 ≤ len → ((m : ℕ) → has_wide none m ≡ false)
+    → ((m : ℕ) → has_wide front m ≡ (has_wide none m || (nat_le 0 m && nat_lt m 3)))
+    → ((m : ℕ) → has_wide both m ≡ (has_wide front m || (nat_le (len - 3) m && nat_lt m len))) → IsCover weeks fourth len 1 both
+cover_starts weeks fourth len none front both long empty f b = record {
+  within = λ m h. elim (either (has_wide front m) (has_wide both m) _ (b m) h) [
+    | inl low ↦ elim (either (has_wide none m) (has_wide front m) _ (f m) low) [
+      | inl never ↦ absurd (let out = empty m in cc)
+      | inr early ↦ let facts = between_facts 0 3 m early in omega (arith, facts.1, long)
+    ]
+    | inr late ↦ (between_facts (len - 3) len m late).1
+  ];
+  first = λ m h. kept (has_wide front m) (has_wide both m) _ (b m) (gained (has_wide none m) (has_wide front m) _ (f m) (between_shown 0 3 m (omega arith) h));
+  last = λ m l h. gained (has_wide front m) (has_wide both m) _ (b m) (between_shown (len - 3) len m (omega (arith, l)) h);
+  near = λ k j l here h. absurd (omega (arith, l, here.low));
+}
+
+pub cover_adds : (weeks : Places) (fourth len n low end : ℕ) (days more : List ℕ) → low ≡ 7 * n + fourth - 3 - 7 → end ≡ min (7 * n + fourth - 3) len
+    → ((m : ℕ) → has_wide more m ≡ (has_wide days m || (nat_le low m && nat_lt m end))) → IsCover weeks fourth len n days → IsCover weeks fourth len (n + 1) more
+cover_adds weeks fourth len n low end days more el ee added cover = record {
+  within = λ m h. elim (either (has_wide days m) (has_wide more m) _ (added m) h) [
+    | inl old ↦ cover.within m old
+    | inr new ↦ let facts = between_facts low end m new in omega (arith, facts.1, ee)
+  ];
+  first = λ m h. kept (has_wide days m) (has_wide more m) _ (added m) (cover.first m h);
+  last = λ m l h. kept (has_wide days m) (has_wide more m) _ (added m) (cover.last m l h);
+  near = λ k j l here h. elim (by_order j n) [
+    | inl old ↦ kept (has_wide days k) (has_wide more k) _ (added k) (cover.near k j old here h)
+    | inr new ↦ let same : j ≡ n = omega (arith, new, l) in
+        gained (has_wide days k) (has_wide more k) _ (added k) (between_shown low end k (omega (arith, el, same, here.from)) (omega (arith, ee, same, here.before, h)))
+  ];
+}
+
+pub cover_skips : (weeks : Places) (fourth len n : ℕ) (days : List ℕ) → may_list_week weeks n ≡ false → IsCover weeks fourth len n days → IsCover weeks fourth len (n + 1) days
+cover_skips weeks fourth len n days out cover = record {
+  within = cover.within;
+  first = cover.first;
+  last = cover.last;
+  near = λ k j l here h. elim (by_order j n) [
+    | inl old ↦ cover.near k j old here h
+    | inr new ↦ let same : j ≡ n = omega (arith, new, l) in absurd (let listed = subst (λ x. may_list_week weeks x ≡ true) same here.listed in cc)
+  ];
+}
+
+pub covered : (weeks : Places) (fourth len n k : ℕ) (days : List ℕ) → 54 ≤ n → k < len → IsCover weeks fourth len n days → IsFound weeks fourth len k → has_wide days k ≡ true
+covered weeks fourth len n k days all inside cover found = elim found [
+  | inl early ↦ cover.first k early
+  | inr (inl late) ↦ cover.last k late inside
+  | inr (inr week) ↦ cover.near k week.0 (omega (arith, week.1.high, all)) week.1 inside
+]

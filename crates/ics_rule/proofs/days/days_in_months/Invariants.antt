@@ -1,0 +1,11 @@
+use Rattle.std.proofs.Common.{◌≡◌, ℕ, ◌+◌, ◌-◌, ◌≤◌, ◌&&◌, nat_lt, pos}
+use Rattle.jiff_core.specs.Calendar.{days_in_year}
+use Rattle.ics_values.specs.Sets.{has, has_wide}
+use Rattle.ics_rule.proofs.MonthDays.{seen_months}
+use Rattle.ics_rule.proofs.days.days_in_months.Given as goal
+
+abbrev pub invariant-loop-month : goal.invariant-loop-month
+invariant-loop-month l = ((k : ℕ) → has_wide l.days k ≡ (nat_lt k (days_in_year (pos l.year)) && seen_months l.parts (has l.months) l.from (l.first + k))) × ((1 ≤ l.from) × (l.from ≤ 64))
+
+abbrev pub decreases-loop-month : goal.decreases-loop-month
+decreases-loop-month l = 64 - l.from

@@ -1,0 +1,45 @@
+use Rattle.std.proofs.Common.{◌∙◌, ◌+◌, ◌&&◌, sym, subst, arith}
+use Rattle.ics_rule.specs.Candidates.{lets_date, is_stepped}
+use Rattle.ics_rule.proofs.Counts.{count_most}
+use Rattle.ics_rule.proofs.OpenLemmas.{IsStepWalk, walk_first, walk_small, walk_in, walk_out, walk_done, none_stepped, step_begins}
+use Rattle.ics_rule.proofs.open_periods.days_let_in.Goals as goal
+use Rattle.ics_rule.proofs.open_periods.days_let_in.Goals.{then-lets_date, else-lets_date}
+
+pub loop-day-init : goal.loop-day-init
+loop-day-init c = walk_first c.args.from c.args.parts.now.interval c.requires.interval
+    (lets_date c.args.parts.now) c.args.from c.args.before c.args.from c.requires.order
+    (step_begins c.args.from c.args.parts.now.interval c.requires.interval)
+
+pub overflow_add-total : goal.overflow_add-total
+overflow_add-total c =
+    let small = walk_small c.args.from c.args.parts.now.interval c.requires.interval
+    (lets_date c.args.parts.now) c.args.from c.args.before c.loop-day.day c.loop-day.total c.loop-day.invariant in
+    omega (arith, small, c.loop-day-test.true, c.requires.before)
+
+pub loop-day-preserved : goal.loop-day-preserved
+loop-day-preserved c = elim c.if-lets_date.branch [
+  | then-lets_date w ↦ subst (IsStepWalk c.args.from c.args.parts.now.interval (lets_date c.args.parts.now) c.args.from c.args.before
+      (c.loop-day.day + c.args.parts.now.interval)) (sym w.total-is)
+      (walk_in c.args.from c.args.parts.now.interval c.requires.interval
+      (lets_date c.args.parts.now) c.args.from c.args.before c.loop-day.day c.loop-day.total c.loop-day.invariant c.loop-day-test.true
+      (sym c.lets_date.ensures ∙ w.if-lets_date.true))
+  | else-lets_date w ↦ subst (IsStepWalk c.args.from c.args.parts.now.interval (lets_date c.args.parts.now) c.args.from c.args.before
+      (c.loop-day.day + c.args.parts.now.interval)) (sym w.total-is)
+      (walk_out c.args.from c.args.parts.now.interval c.requires.interval
+      (lets_date c.args.parts.now) c.args.from c.args.before c.loop-day.day c.loop-day.total c.loop-day.invariant c.loop-day-test.true
+      (sym c.lets_date.ensures ∙ w.if-lets_date.false))
+]
+
+pub returns-clause-value : goal.returns-clause-value
+returns-clause-value c =
+    let none = none_stepped c.args.from c.args.parts.now.interval (lets_date c.args.parts.now) in
+    let all = walk_done c.args.from c.args.parts.now.interval c.requires.interval
+    (lets_date c.args.parts.now) c.args.from c.args.before c.loop-day.day c.loop-day.total c.loop-day.invariant c.loop-day-test.false in
+    omega (arith, none, all)
+
+pub returns-clause-bound : goal.returns-clause-bound
+returns-clause-bound c =
+    let all = walk_done c.args.from c.args.parts.now.interval c.requires.interval
+    (lets_date c.args.parts.now) c.args.from c.args.before c.loop-day.day c.loop-day.total c.loop-day.invariant c.loop-day-test.false in
+    let most = count_most c.args.before (λ e. is_stepped c.args.from c.args.parts.now.interval e && lets_date c.args.parts.now e) in
+    omega (arith, all, most)

@@ -1,0 +1,10 @@
+use Rattle.std.proofs.Common.{◌-◌}
+use Rattle.ics_rule.specs.Candidates.{lets_date}
+use Rattle.ics_rule.proofs.OpenLemmas.{IsStepWalk}
+use Rattle.ics_rule.proofs.open_periods.days_let_in.Given as goal
+
+abbrev pub invariant-loop-day : goal.invariant-loop-day
+invariant-loop-day l = IsStepWalk l.from l.parts.interval (lets_date l.parts) l.from l.before l.day l.total
+
+abbrev pub decreases-loop-day : goal.decreases-loop-day
+decreases-loop-day l = l.before - l.day

@@ -1,0 +1,12 @@
+use Rattle.std.proofs.Common.{◌-◌, ◌*◌}
+use Rattle.ics_rule.specs.Rounds.{seconds_of}
+use Rattle.ics_rule.specs.OpenPeriods.{lets_own}
+use Rattle.ics_rule.proofs.OpenLemmas.{IsStepWalk}
+use Rattle.ics_rule.proofs.open_periods.steps_let_in.Given as goal
+
+abbrev pub invariant-loop-number : goal.invariant-loop-number
+invariant-loop-number l = IsStepWalk l.first l.parts.interval
+    (λ p. lets_own l.parts.frequency l.parts (p * seconds_of l.parts.frequency)) l.from l.before l.number l.total
+
+abbrev pub decreases-loop-number : goal.decreases-loop-number
+decreases-loop-number l = l.before - l.number

@@ -1,0 +1,51 @@
+-- Periods of a day or less: each that a rule lets in has as many locals as the others.
+use Rattle.std.specs.Prelude.{ℕ, ◌*◌, ◌/◌, Bool, not, true, false, ◌&&◌, ◌||◌}
+use Rattle.ics_values.specs.declared.frequency.Frequency.{Frequency}
+use Rattle.ics_values.specs.declared.frequency.Frequency.TheVariants.{Secondly, Minutely, Hourly, Daily, Weekly, Monthly, Yearly}
+use Rattle.ics_values.specs.Places.{lists_none_wide}
+use Rattle.ics_rule.specs.declared.filled.Filled.{Filled}
+use Rattle.ics_rule.specs.Locals.{hour_of, minute_of, second_of}
+use Rattle.ics_rule.specs.Filled.{skips_hours, skips_minutes, skips_seconds}
+use Rattle.ics_rule.specs.Candidates.{lets, lets_date, is_stepped}
+use Rattle.ics_rule.specs.Kept.{count}
+use Rattle.ics_rule.specs.Periods.{is_listed}
+use Rattle.ics_rule.specs.Rounds.{seconds_of}
+
+-- how many periods a day has
+abbrev pub per_day : Frequency → ℕ
+per_day Secondly = 86_400
+per_day Minutely = 1_440
+per_day Hourly = 24
+per_day Daily = 1
+per_day Weekly = 1
+per_day Monthly = 1
+per_day Yearly = 1
+
+-- the hour, the minute and the second that a period has, each as far as it has one, are let in; n is a local of the period
+abbrev pub lets_own : Frequency → Filled → ℕ → Bool
+lets_own f q n =
+    (skips_hours f || lets q.hours (hour_of n)) && (skips_minutes f || lets q.minutes (minute_of n))
+    && (skips_seconds f || lets q.seconds (second_of n))
+
+-- and so are those of local n within its period
+abbrev pub lets_within : Frequency → Filled → ℕ → Bool
+lets_within f q n =
+    (not (skips_hours f) || lets q.hours (hour_of n)) && (not (skips_minutes f) || lets q.minutes (minute_of n))
+    && (not (skips_seconds f) || lets q.seconds (second_of n))
+
+-- a period lies a multiple of the interval from the first and holds what the rule lets in
+abbrev pub is_open_period : Filled → ℕ → ℕ → Bool
+is_open_period q first p =
+    is_stepped first q.interval p && (lets_date q (p / per_day q.frequency) && lets_own q.frequency q (p * seconds_of q.frequency))
+
+-- how many locals each of them has
+abbrev pub size_of_open : Filled → ℕ
+size_of_open q = count (seconds_of q.frequency) (lets_within q.frequency q)
+
+-- of which BYSETPOS lets so many in; without it all
+abbrev pub chosen_of_size : Filled → Bool → ℕ → ℕ
+chosen_of_size q true size = size
+chosen_of_size q false size = count size (is_listed q.positions size)
+
+abbrev pub chosen_in_open : Filled → ℕ
+chosen_in_open q = chosen_of_size q (lists_none_wide q.positions) (size_of_open q)

@@ -1,0 +1,185 @@
+//! How many periods of a day or less a rule lets in, counted by whole days.
+ghost use Rattle.std.specs.Prelude.{◌≡◌, ℕ, ◌<◌, ◌≤◌, ◌+◌, ◌-◌, ◌*◌, ◌/◌, ◌^◌, ◌&&◌, Some};
+ghost use Rattle.ics_values.specs.Places.{lists_none_wide};
+ghost use Rattle.ics_rule.specs.Candidates.{is_stepped, lets_date, period_in};
+ghost use Rattle.ics_rule.specs.Kept.{count};
+ghost use Rattle.ics_rule.specs.Cursors.{IsCursorIn};
+ghost use Rattle.ics_rule.specs.Rounds.{seconds_of, IsPassedTo};
+ghost use Rattle.ics_rule.specs.OpenPeriods.{per_day, lets_own, is_open_period, chosen_in_open};
+
+use crate::cursor::Cursor;
+use crate::date::lets_date;
+use crate::fill::{skips_hours, skips_minutes, skips_seconds};
+use crate::filled::Filled;
+use crate::never::size_of_open;
+use crate::places::listed_below;
+use crate::rounds::seconds_of;
+use crate::step::period_of;
+use crate::time::lets;
+use crate::walk::next_step;
+
+/// Whether the parts let the hour, minute and second of a period in, each as far as the period has one; `n` is its first local.
+fn lets_own(parts: &Filled, n: u64) -> bool
+    ensures { result ≡ lets_own parts.now.frequency parts.now n }
+{
+    let frequency = parts.frequency;
+    (skips_hours(frequency) || lets(parts.hours, (n / 3_600 % 24) as u8))
+        && (skips_minutes(frequency) || lets(parts.minutes, (n / 60 % 60) as u8))
+        && (skips_seconds(frequency) || lets(parts.seconds, (n % 60) as u8))
+}
+
+/// How many steps from one period on and before another have an hour, minute and second that are let in, whatever their days are.
+fn steps_let_in(parts: &Filled, first: u64, from: u64, before: u64) -> u64
+    requires interval { 1 ≤ parts.now.interval }
+    requires first { first < 2 ^ 40 }
+    requires order { from ≤ before }
+    requires before { before < 2 ^ 40 }
+    requires unit { seconds_of parts.now.frequency ≤ 86400 }
+    ensures { result + count from (λ p. is_stepped first parts.now.interval p && lets_own parts.now.frequency parts.now (p * seconds_of parts.now.frequency))
+        ≡ count before (λ p. is_stepped first parts.now.interval p && lets_own parts.now.frequency parts.now (p * seconds_of parts.now.frequency)) }
+{
+    let unit = seconds_of(parts.frequency);
+    let mut total = 0;
+    let mut number = next_step(first, parts.interval, from);
+    while number < before {
+        if lets_own(parts, number * unit) {
+            total += 1;
+        }
+        number += parts.interval as u64;
+    }
+    total
+}
+
+/// How many days are let in of every so many from one on and before another.
+fn days_let_in(parts: &Filled, from: u64, before: u64) -> u64
+    requires interval { 1 ≤ parts.now.interval }
+    requires order { from ≤ before }
+    requires before { before ≤ 3652059 }
+    ensures value { result ≡ count before (λ e. is_stepped from parts.now.interval e && lets_date parts.now e) }
+    ensures bound { result ≤ before }
+{
+    let mut total = 0;
+    let mut day = from;
+    while day < before {
+        if lets_date(parts, day as u32) {
+            total += 1;
+        }
+        day += parts.interval as u64;
+    }
+    total
+}
+
+/// How many periods of whole days are let in: where as many days as the interval has lie between two, their steps have the same times.
+fn open_of_days(parts: &Filled, first: u64, from: u64, before: u64) -> u64
+    requires interval { 1 ≤ parts.now.interval }
+    requires fine { 0 < seconds_of parts.now.frequency }
+    requires unit { seconds_of parts.now.frequency ≤ 86400 }
+    requires first { first < from * per_day parts.now.frequency }
+    requires order { from ≤ before }
+    requires before { before ≤ 3579743 }
+    ensures { result + count (from * per_day parts.now.frequency) (is_open_period parts.now first) ≡ count (before * per_day parts.now.frequency) (is_open_period parts.now first) }
+{
+    let per_day = 86_400 / seconds_of(parts.frequency);
+    let mut total = 0;
+    for j in 0..(parts.interval as u64).min(before - from) {
+        let day = from + j;
+        let days = days_let_in(parts, day, before);
+        if days > 0 {
+            total += days * steps_let_in(parts, first, day * per_day, (day + 1) * per_day);
+        }
+    }
+    total
+}
+
+/// How many periods of one day are let in, from one on and before another.
+fn open_in_day(parts: &Filled, first: u64, from: u64, before: u64) -> u64
+    requires interval { 1 ≤ parts.now.interval }
+    requires fine { 0 < seconds_of parts.now.frequency }
+    requires unit { seconds_of parts.now.frequency ≤ 86400 }
+    requires first { first < 2 ^ 40 }
+    requires order { from ≤ before }
+    requires day { before ≤ (from / per_day parts.now.frequency + 1) * per_day parts.now.frequency }
+    requires before { from / per_day parts.now.frequency ≤ 3579743 }
+    ensures { result + count from (is_open_period parts.now first) ≡ count before (is_open_period parts.now first) }
+{
+    let per_day = 86_400 / seconds_of(parts.frequency);
+    if lets_date(parts, (from / per_day) as u32) {
+        steps_let_in(parts, first, from, before)
+    } else {
+        0
+    }
+}
+
+/// How many periods are let in from one on and before another.
+pub(crate) fn open_between(parts: &Filled, first: u64, from: u64, before: u64) -> u64
+    requires interval { 1 ≤ parts.now.interval }
+    requires fine { 0 < seconds_of parts.now.frequency }
+    requires unit { seconds_of parts.now.frequency ≤ 86400 }
+    requires first { first ≤ from }
+    requires order { from ≤ before }
+    requires before { before / per_day parts.now.frequency ≤ 3579743 }
+    ensures { result + count from (is_open_period parts.now first) ≡ count before (is_open_period parts.now first) }
+{
+    let per_day = 86_400 / seconds_of(parts.frequency);
+    let day = from / per_day;
+    let last = before / per_day;
+    if day == last {
+        return open_in_day(parts, first, from, before);
+    }
+    open_in_day(parts, first, from, (day + 1) * per_day)
+        + open_of_days(parts, first, day + 1, last)
+        + open_in_day(parts, first, last * per_day, before)
+}
+
+/// How many locals are chosen in each period that is let in.
+pub(crate) fn chosen_in_open(parts: &Filled) -> u64
+    requires fine { 0 < seconds_of parts.now.frequency }
+    requires unit { seconds_of parts.now.frequency ≤ 86400 }
+    ensures { result ≡ chosen_in_open parts.now }
+{
+    let size = size_of_open(parts);
+    if parts.positions.is_none() {
+        size
+    } else {
+        listed_below(&parts.positions, size, size)
+    }
+}
+
+/// Up to so many steps are looked at one by one.
+const A_SHORT_WALK: u64 = 64;
+
+impl Cursor {
+    /// Counts the periods from the one held, or from the start's, up to that of the place, where a period is a day or less, and looks at the
+    /// last of them. Nothing changes where they are few.
+    pub(crate) fn pass_open(&mut self, parts: &Filled, start: u64, count: u32, first: u64)
+        requires interval { 1 ≤ parts.now.interval }
+        requires count { 1 ≤ count }
+        requires first { first ≡ period_in parts.now start }
+        requires after { start < self.old.place }
+        requires place { self.old.place < 309289708800 }
+        requires own { IsCursorIn parts.now start (Some count) self.old }
+        ensures place { self.new.place ≡ self.old.place }
+        ensures passed { IsPassedTo parts.now start count self.old self.new }
+    {
+        let unit = seconds_of(parts.frequency);
+        if unit == 0 || unit > 86_400 {
+            return;
+        }
+        let begin = match &self.held {
+            Some(period) => period.number,
+            None => first,
+        };
+        let interval = parts.interval as u64;
+        let steps = period_of(parts, self.place).saturating_sub(begin) / interval;
+        if steps < A_SHORT_WALK {
+            return;
+        }
+        let Some(_period) = self.turn_to(parts, start, count, begin) else {
+            return;
+        };
+        let last = begin + steps * interval;
+        let number = open_between(parts, first, begin, last);
+        let total = self.counted + chosen_in_open(parts) * number;
+        self.look_at(parts, last, total);
+    }
+}

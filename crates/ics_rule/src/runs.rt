@@ -1,0 +1,156 @@
+//! Runs of days, a month or a year, in which days and weekdays have numbers.
+ghost use Rattle.std.specs.Prelude.{◌≡◌, ℕ, ◌<◌, ◌≤◌, ◌+◌, ◌-◌, ◌&&◌, ◌||◌, ◌==◌, not, nat_le, nat_lt};
+ghost use Rattle.ics_values.specs.Places.{lists_none, numbers_of};
+ghost use Rattle.ics_values.specs.Sets.{has, has_wide};
+ghost use Rattle.ics_rule.specs.Candidates.{lists, lists_nth};
+ghost use Rattle.ics_rule.specs.Runs.{has_run, weekday_in, lists_weekday, lists_in_month};
+
+use crate::date::{has_no_number, numbers};
+use crate::filled::Filled;
+use ics_values::{Numbers, Places, Weekdays, WideNumbers};
+
+/// A month or a year, as days of a period.
+#[derive(Clone, Copy)]
+pub struct Run {
+    /// Its first day, counted from the period's first.
+    pub(crate) start: u16,
+    /// How many days it has.
+    pub(crate) len: u16,
+    /// The weekday of its first day, from 0 for Monday.
+    pub(crate) weekday: u8,
+}
+
+/// The numbers from 1 to `size` that a part lists, from the front or from the end.
+fn listed(places: &Places, size: u8) -> Numbers
+    requires { size < 60 }
+    ensures { (n : ℕ) → 1 ≤ n → has result n ≡ (nat_le n size && lists places.now n size) }
+{
+    let mut listed = places.front.front(size + 1);
+    let mut from = 1;
+    while let Some(n) = places.back.next_from(from) {
+        if n > size {
+            return listed;
+        }
+        listed.add(size + 1 - n);
+        from = n + 1;
+    }
+    listed
+}
+
+/// Whether BYDAY lists a weekday, with a number or without.
+fn names_weekday(weekdays: &Weekdays, weekday: u8) -> bool
+    requires { weekday < 7 }
+    ensures { result ≡ (has weekdays.now.plain weekday || not (lists_none (numbers_of weekdays.now weekday))) }
+{
+    weekdays.plain.has(weekday) || !has_no_number(weekdays, weekday)
+}
+
+impl Run {
+    /// The first day of the run on a weekday.
+    fn first_on(self, weekday: u8) -> u16
+        requires weekday { weekday < 7 }
+        requires own { self.weekday < 7 }
+        ensures place { weekday_in self result ≡ weekday }
+        ensures early { result < 7 }
+    {
+        ((weekday + 7 - self.weekday) % 7) as u16
+    }
+
+    /// Adds each day of the run on a weekday.
+    fn add_each(self, weekday: u8, days: &mut WideNumbers)
+        requires weekday { weekday < 7 }
+        requires own { self.weekday < 7 }
+        requires some { 28 ≤ self.len }
+        requires most { self.len ≤ 366 }
+        requires within { self.start + self.len ≤ 384 }
+        ensures { (m : ℕ) → has_wide days.new m ≡ (has_wide days.old m || (has_run self m && (weekday_in self (m - self.start) == weekday))) }
+    {
+        let mut place = self.first_on(weekday);
+        while place < self.len {
+            days.add(self.start + place);
+            place += 7;
+        }
+    }
+
+    /// Adds the days of the run that stand on a weekday with a number of theirs.
+    fn add_numbered(self, weekday: u8, numbers: &Places, days: &mut WideNumbers)
+        requires weekday { weekday < 7 }
+        requires own { self.weekday < 7 }
+        requires some { 28 ≤ self.len }
+        requires most { self.len ≤ 366 }
+        requires within { self.start + self.len ≤ 384 }
+        ensures { (m : ℕ) → has_wide days.new m ≡ (has_wide days.old m
+            || (has_run self m && ((weekday_in self (m - self.start) == weekday) && lists_nth numbers.now (m - self.start + 1) self.len))) }
+    {
+        let first = self.first_on(weekday);
+        let listed = listed(numbers, ((self.len - 1 - first) / 7 + 1) as u8);
+        let mut from = 1;
+        while let Some(n) = listed.next_from(from) {
+            days.add(self.start + (first + 7 * (n as u16 - 1)));
+            from = n + 1;
+        }
+    }
+
+    /// Adds the days of the run on a weekday, with the numbers that BYDAY lists or with any.
+    fn add_weekday(self, weekdays: &Weekdays, weekday: u8, days: &mut WideNumbers)
+        requires weekday { weekday < 7 }
+        requires own { self.weekday < 7 }
+        requires some { 28 ≤ self.len }
+        requires most { self.len ≤ 366 }
+        requires within { self.start + self.len ≤ 384 }
+        ensures { (m : ℕ) → has_wide days.new m ≡ (has_wide days.old m
+            || (has_run self m && ((weekday_in self (m - self.start) == weekday) && lists_weekday weekdays.now weekday (m - self.start + 1) self.len))) }
+    {
+        if weekdays.plain.has(weekday) {
+            self.add_each(weekday, days);
+        } else {
+            self.add_numbered(weekday, numbers(weekdays, weekday), days);
+        }
+    }
+
+    /// Adds the days of the run that BYDAY lists.
+    pub(crate) fn add_weekdays(self, weekdays: &Weekdays, days: &mut WideNumbers)
+        requires own { self.weekday < 7 }
+        requires some { 28 ≤ self.len }
+        requires most { self.len ≤ 366 }
+        requires within { self.start + self.len ≤ 384 }
+        ensures { (m : ℕ) → has_wide days.new m ≡ (has_wide days.old m
+            || (has_run self m && lists_weekday weekdays.now (weekday_in self (m - self.start)) (m - self.start + 1) self.len)) }
+    {
+        for weekday in 0..7 {
+            if names_weekday(weekdays, weekday) {
+                self.add_weekday(weekdays, weekday, days);
+            }
+        }
+    }
+
+    /// Adds the days of the run, a month, that BYMONTHDAY lists.
+    fn add_month_days(self, month_days: &Places, days: &mut WideNumbers)
+        requires most { self.len ≤ 31 }
+        requires within { self.start + self.len ≤ 384 }
+        ensures { (m : ℕ) → has_wide days.new m ≡ (has_wide days.old m || (has_run self m && lists month_days.now (m - self.start + 1) self.len)) }
+    {
+        let listed = listed(month_days, self.len as u8);
+        let mut from = 1;
+        while let Some(n) = listed.next_from(from) {
+            days.add(self.start + n as u16 - 1);
+            from = n + 1;
+        }
+    }
+
+    /// Adds the days of the run, a month, that BYMONTHDAY lists, or BYDAY where that is absent.
+    pub(crate) fn add_month(self, parts: &Filled, days: &mut WideNumbers)
+        requires own { self.weekday < 7 }
+        requires some { 28 ≤ self.len }
+        requires most { self.len ≤ 31 }
+        requires within { self.start + self.len ≤ 384 }
+        ensures { (m : ℕ) → has_wide days.new m ≡ (has_wide days.old m
+            || (has_run self m && lists_in_month parts.now (weekday_in self (m - self.start)) (m - self.start + 1) self.len)) }
+    {
+        if parts.month_days.is_none() {
+            self.add_weekdays(&parts.weekdays, days);
+        } else {
+            self.add_month_days(&parts.month_days, days);
+        }
+    }
+}

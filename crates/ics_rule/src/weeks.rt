@@ -1,0 +1,56 @@
+//! The days of a year that lie in its weeks.
+ghost use Rattle.std.specs.Prelude.{◌≡◌, ℕ, ◌<◌, ◌≤◌, ◌+◌, ◌&&◌, ◌||◌, nat_le, nat_lt, pos, true, false};
+ghost use Rattle.jiff_core.specs.Calendar.{days_in_year};
+ghost use Rattle.ics_values.specs.Sets.{has_wide};
+ghost use Rattle.ics_values.specs.Days.{days_before_year, year_of};
+ghost use Rattle.ics_values.specs.Places.{lists_none};
+ghost use Rattle.ics_rule.specs.Candidates.{lets_week};
+ghost use Rattle.ics_rule.specs.Runs.{may_list_week};
+
+use crate::days::weekday_at;
+use crate::filled::Filled;
+use ics_values::{Places, WideNumbers};
+
+/// Adds the days from one on and before an end.
+fn add_between(days: &mut WideNumbers, low: u16, end: u16)
+    requires { end ≤ 384 }
+    ensures { (m : ℕ) → has_wide days.new m ≡ (has_wide days.old m || (nat_le low m && nat_lt m end)) }
+{
+    for k in low..end {
+        days.add(k);
+    }
+}
+
+/// Whether BYWEEKNO lists week `n` of a year of 52 or of 53 weeks.
+fn may_list_week(weeks: &Places, n: u8) -> bool
+    requires low { 1 ≤ n }
+    requires high { n ≤ 53 }
+    ensures { result ≡ may_list_week weeks.now n }
+{
+    weeks.front.has(n) || weeks.back.has(53 - n) || weeks.back.has(54 - n)
+}
+
+/// Days of a year, with all those among them that lie in a listed week. The first three and the last three may lie in a week of another
+/// year.
+pub(crate) fn days_near_weeks(parts: &Filled, first: u32, len: u16) -> WideNumbers
+    requires first { first ≡ days_before_year (year_of first) }
+    requires size { len ≡ days_in_year (pos (year_of first)) }
+    requires early { first ≤ 3652059 }
+    requires some { lists_none parts.now.weeks ≡ false }
+    ensures within { (k : ℕ) → has_wide result k ≡ true → k < len }
+    ensures all { (k : ℕ) → k < len → lets_week parts.now (first + k) ≡ true → has_wide result k ≡ true }
+{
+    let fourth = (parts.week_start.index() + 10 - weekday_at(first)) % 7;
+    let mut days = WideNumbers::new();
+    add_between(&mut days, 0, 3);
+    add_between(&mut days, len - 3, len);
+    for n in 1..54 {
+        if may_list_week(&parts.weeks, n) {
+            let end = 7 * n as u16 + fourth as u16 - 3;
+            let low = end.saturating_sub(7);
+            let high = end.min(len);
+            add_between(&mut days, low, high);
+        }
+    }
+    days
+}
