@@ -7,9 +7,12 @@ pub mod OffsetLaws
 pub mod OnsetLemmas
 pub mod MomentLemmas
 pub mod ZoneExamples
-pub mod TableLemmas
-pub mod MomentSteps
-pub mod ZoneLemmas
-pub mod GatherLemmas
-pub mod TableMade
+pub mod LatestLemmas
+pub mod KeptLemmas
+pub mod ListingLemmas
+pub mod OnsetsMade
+pub mod ZoneSteps
+pub mod JumpLemmas
+pub mod CandidateLemmas
+pub mod ReadLemmas
 pub mod NewYork

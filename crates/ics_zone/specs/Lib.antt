@@ -10,5 +10,6 @@ pub mod Offsets
 pub mod Moments
 pub mod ZoneFaults
 pub mod ZoneBounds
-pub mod Tables
-pub mod Gathered
+pub mod Latest
+pub mod OnsetSets
+pub mod ZoneOnsets

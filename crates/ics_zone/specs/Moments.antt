@@ -55,7 +55,3 @@ moment_by offset local = moment_from offset local (first_time offset local) (fir
 
 abbrev pub zone_moment : List Phase → ℤ → ℤ
 zone_moment zone local = moment_by (zone_offset zone) local
-
--- the offset is the same from one instant on and until another
-abbrev pub IsSteady : (ℤ → ℤ) → ℤ → ℤ → Type 0
-IsSteady offset from to = (t : ℤ) → from ≤ℤ t → t <ℤ to → offset t ≡ offset from

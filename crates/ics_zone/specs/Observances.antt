@@ -1,5 +1,5 @@
 -- When the observances of a VTIMEZONE begin (RFC 5545, section 3.6.5).
-use Rattle.std.specs.Prelude.{◌≡◌, ℕ, Bool, true, false, ◌&&◌, ◌||◌, ◌==◌, List, Option, Some, None, slice_get, int_le, ℤ, pos, negsuc, ◌+ℤ◌, ◌-ℤ◌}
+use Rattle.std.specs.Prelude.{◌≡◌, ℕ, Bool, true, false, ◌&&◌, ◌||◌, ◌==◌, List, map, Option, Some, None, slice_get, int_le, ℤ, pos, negsuc, ◌+ℤ◌, ◌-ℤ◌}
 use Rattle.std.specs.List.{list_any}
 use Rattle.jiff_core.specs.Calendar.{IsWithin}
 use Rattle.ics_values.specs.declared.local.Local.{Local}
@@ -29,6 +29,10 @@ phase_of o = record {
   rule = o.rule;
   rdates = o.rdates.items;
 }
+
+-- what those of a zone say
+abbrev pub phases_of : List Observance → List Phase
+phases_of observances = map phase_of observances
 
 -- it begins in the years 0001 to 9899, and its offsets are less than a day
 pub record IsPhase (p : Phase) : Type 0 where

@@ -1,14 +1,13 @@
 -- A zone of observances moves an instant or a local by a day or less.
-use Rattle.std.proofs.Common.{◌≡◌, ℕ, zero, suc, ◌<◌, Bool, true, false, Option, Some, None, slice_get, List, [], ◌∷◌, map, length, ℤ, pos, ◌-ℤ◌, arith, refl, ◌∙◌}
+use Rattle.std.proofs.Common.{◌≡◌, ℕ, zero, suc, ◌<◌, Bool, true, false, Option, Some, None, slice_get, List, [], ◌∷◌, length, ℤ, pos, ◌-ℤ◌, arith, refl, ◌∙◌}
 use Rattle.std.specs.Ordering.{int_eq}
 use Rattle.std.proofs.lemmas.Int.{ints}
 use Rattle.jiff_core.specs.Calendar.{IsWithin}
 use Rattle.ics_zone.specs.declared.observance.Observance.{Observance}
-use Rattle.ics_zone.specs.Observances.{Phase, phase_of, IsPhase, IsZone, is_onset}
+use Rattle.ics_zone.specs.Observances.{Phase, phase_of, phases_of, IsPhase, IsZone, is_onset}
 use Rattle.ics_zone.specs.Offsets.{last_below, first_below, instant, instants_to, if_onset, last_at, first_at, in_force, earliest, offset_by, zone_offset}
 use Rattle.ics_zone.specs.Moments.{shown, near, if_so, first_time, first_later, moment_from, moment_by, zone_moment}
 use Rattle.ics_zone.specs.Places.{IsNear}
-use Rattle.ics_zone.specs.Tables.{Timeline, phases_of}
 
 -- what holds of all that a function gives holds of what a search finds
 module _ {A : Type 0} (P : A → Type 0) (f : ℕ → Option A) where
@@ -65,16 +64,16 @@ module _ (zone : List Phase) (facts : IsZone zone) where
       by None None is least = (omega (arith, ints), omega (arith, ints))
 
 -- the observances of the program are such
-pub zone_facts : (observances : List Observance) → IsZone (map phase_of observances)
+pub zone_facts : (observances : List Observance) → IsZone (phases_of observances)
 zone_facts [] i p e = absurd (cc)
 zone_facts (o ∷ observances) zero p e = let same : phase_of o ≡ p = cc in rw (← same) (record { start_in = o.start_in; from_in = o.from_in; to_in = o.to_in })
 zone_facts (o ∷ observances) (suc i) p e = zone_facts observances i p e
 
-pub timeline_short : (zone : Timeline) (t : ℤ) → IsWithin 86_399 (zone_offset (phases_of zone) t)
-timeline_short zone = zone_offset_short (phases_of zone) (zone_facts zone.observances)
+pub zone_short : (zone : List Observance) (t : ℤ) → IsWithin 86_399 (zone_offset (phases_of zone) t)
+zone_short zone = zone_offset_short (phases_of zone) (zone_facts zone)
 
-pub timeline_offset_near : (zone : Timeline) (t : ℤ) → IsNear (zone_offset (phases_of zone) t)
-timeline_offset_near zone t = let bound = timeline_short zone t in (omega (arith, ints, bound.0), omega (arith, ints, bound.1))
+pub zone_offset_near : (zone : List Observance) (t : ℤ) → IsNear (zone_offset (phases_of zone) t)
+zone_offset_near zone t = let bound = zone_short zone t in (omega (arith, ints, bound.0), omega (arith, ints, bound.1))
 
 -- a number of the search is near the local
 near_local : (offset : ℤ → ℤ) (local : ℤ) (b : Bool) (k : ℕ) (t : ℤ) → k < 172_801 → if_so b (near local k) ≡ Some t → IsWithin 86_400 (t -ℤ local)
@@ -92,8 +91,8 @@ moment_from_near offset short local None (Some past) e =
     (omega (arith, ints, bound.0, bound.1), omega (arith, ints, bound.0, bound.1))
 moment_from_near offset short local None None e = (omega (arith, ints), omega (arith, ints))
 
-pub timeline_moment_near : (zone : Timeline) (local : ℤ) → IsNear (zone_moment (phases_of zone) local -ℤ local)
+pub zone_moment_near : (zone : List Observance) (local : ℤ) → IsNear (zone_moment (phases_of zone) local -ℤ local)
 unfolding moment_by
-timeline_moment_near zone local =
-    moment_from_near (zone_offset (phases_of zone)) (timeline_short zone) local
+zone_moment_near zone local =
+    moment_from_near (zone_offset (phases_of zone)) (zone_short zone) local
     (first_time (zone_offset (phases_of zone)) local) (first_later (zone_offset (phases_of zone)) local) refl

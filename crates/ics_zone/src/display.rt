@@ -77,7 +77,6 @@ fn fixed(seconds: i32) -> Display
 }
 
 impl Place for Display {
-    ghost use Rattle.std.specs.Prelude.{pos};
     ghost use Rattle.ics_zone.specs.Displays.{offset_of, moment_of};
     ghost use Rattle.ics_zone.specs.Near.{offset_near, moment_near};
     ghost use Rattle.ics_zone.specs.Zones.{zone_of};
@@ -85,12 +84,6 @@ impl Place for Display {
     ghost offset_at = { λ display moment. offset_of (zone_of display) moment };
 
     ghost moment_at = { λ display local. moment_of (zone_of display) local };
-
-    ghost reach = { λ display. pos 9_223_372_036_854_775_807 };
-
-    fn reached(&self) -> Moment {
-        Moment::MAX
-    }
 
     /// jiff's offset at the instant.
     fn offset(&self, moment: Moment) -> i32 {

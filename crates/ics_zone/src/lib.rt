@@ -1,15 +1,16 @@
 //! Zones: an offset at each instant, and an instant for each local.
 #![tactic(auto)]
 
+mod clock;
 mod display;
 mod display_fault;
 mod display_text;
-mod gather;
+mod kept;
+mod latest;
 mod laws;
 mod observance;
-mod onset;
+mod onsets;
 mod place;
-mod table;
 mod zone;
 mod zone_fault;
 mod zone_laws;

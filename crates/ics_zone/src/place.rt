@@ -1,5 +1,5 @@
 //! What a clock at a place shows.
-ghost use Rattle.std.specs.Prelude.{◌≡◌, ◌≤ℤ◌, ◌+ℤ◌, ◌-ℤ◌, ℤ, pos, neg_ℤ};
+ghost use Rattle.std.specs.Prelude.{◌≡◌, ◌+ℤ◌, ◌-ℤ◌, ℤ, pos, neg_ℤ};
 ghost use Rattle.jiff_core.specs.Calendar.{IsBetween};
 ghost use Rattle.ics_zone.specs.Places.{local_seconds, IsMoment, IsDay};
 
@@ -20,29 +20,26 @@ pub trait Place {
     /// The instant that a local means.
     ghost moment_at: { Self → ℤ → ℤ };
 
-    /// The last instant that may be asked for.
-    ghost reach: { Self → ℤ };
-
-    /// The last instant that may be asked for.
+    /// The last instant that may be asked for: the greatest there is.
     fn reached(&self) -> Moment
-        ensures { result ≡ reach self.now };
+        ensures { result ≡ pos 9_223_372_036_854_775_807 }
+    {
+        Moment::MAX
+    }
 
     /// How many seconds the place's clock is ahead of UTC at an instant.
     fn offset(&self, moment: Moment) -> i32
-        requires moment { IsMoment moment }
-        requires reached { moment ≤ℤ reach self.now }
+        requires { IsMoment moment }
         ensures { result ≡ offset_at self.now moment };
 
     /// The instant that a local means.
     fn moment(&self, local: Local) -> Moment
-        requires day { IsDay local.day }
-        requires reached { (local_seconds local.day local.second +ℤ pos 172_800) ≤ℤ reach self.now }
+        requires { IsDay local.day }
         ensures { result ≡ moment_at self.now (local_seconds local.day local.second) };
 
     /// What the place's clock shows at an instant: the instant moved by its offset.
     fn local(&self, moment: Moment) -> Local
-        requires moment { IsMoment moment }
-        requires reached { moment ≤ℤ reach self.now }
+        requires { IsMoment moment }
         ensures { local_seconds result.day result.second ≡ moment +ℤ offset_at self.now moment }
     {
         local_of(moment + i64::from(self.offset(moment)))

@@ -1,14 +1,14 @@
 //! The zone of a VTIMEZONE.
-ghost use Rattle.std.specs.Prelude.{◌<◌, length, ◌≡◌, ◌≢◌, ◌↔◌, ◌≤ℤ◌, ◌<ℤ◌, ◌+ℤ◌, ℤ, pos, [], map, Err, IsTrue, IfOk, OnOk, OnErr, MatchOption};
-ghost use Rattle.std.specs.List.{list_any, Contains};
-ghost use Rattle.ics_rule.specs.Locals.{number};
-ghost use Rattle.ics_zone.specs.declared.observance.Observance.{Observance};
-ghost use Rattle.ics_zone.specs.Observances.{phase_of, has_finer_rule, instant_by};
+ghost use Rattle.std.specs.Prelude.{◌≡◌, ◌≢◌, ◌↔◌, ◌<◌, length, ◌≤ℤ◌, ◌+ℤ◌, ◌-ℤ◌, ℤ, pos, [], map, Err, IsTrue, IfSome, Ok, IfOk, MatchBool, MatchOption};
+ghost use Rattle.std.specs.Int.{int_min};
+ghost use Rattle.std.specs.List.{list_any};
+ghost use Rattle.jiff_core.specs.Calendar.{IsWithin};
+ghost use Rattle.ics_zone.specs.Observances.{phase_of, phases_of, has_finer_rule};
 ghost use Rattle.ics_zone.specs.Places.{local_seconds, IsDay, IsMoment};
+ghost use Rattle.ics_zone.specs.ZoneOnsets.{AreOnsetsOfAll, HaveOffsets};
 
-use crate::gather::onsets_in;
-use crate::onset::{Onset, Span};
-use crate::table::passed;
+use crate::latest::{Steady, first_offset, latest_of, next_onset, next_past, overrides};
+use crate::onsets::Onsets;
 use crate::{Observance, Place, ZoneFault};
 use ics_values::{Frequency, Local, Moment};
 use std::alloc::{AllocError, Global};
@@ -16,45 +16,48 @@ use std::marker::Model;
 
 const DAY: i64 = 86_400;
 
-/// An instant before all onsets.
-const BEFORE_ALL: Moment = -62_167_305_601;
+/// How far ahead of an instant the end of a span is looked for.
+const AHEAD: i64 = 400 * DAY;
 
-/// The zone of a VTIMEZONE (RFC 5545, section 3.6.5): its observances, and a table of their onsets as
-/// far as it has been reached. Contracts see the observances and how far, and not the table: what a
-/// zone answers goes by its observances alone.
+/// How many spans a zone holds.
+const HELD: usize = 256;
+
+/// The zone of a VTIMEZONE (RFC 5545, section 3.6.5): its observances, with what is asked of each near an instant. There is no table of
+/// their onsets. Contracts see the observances alone.
 #[derive(Drop)]
 pub struct Zone {
-    alloc: Global,
     observances: Vec<Observance>,
-    onsets: Vec<Onset>,
-    reached: Moment,
+    onsets: Vec<Onsets>,
+    /// Each offset that the zone has at some instant.
+    offsets: Vec<i32>,
+    /// Spans near what was asked, in order.
+    held: Vec<Steady>,
 }
 
 impl Model for Zone {
-    ghost use Rattle.std.specs.Prelude.{map};
-    ghost use Rattle.ics_zone.specs.Tables.{Timeline};
+    ghost use Rattle.std.specs.Prelude.{List};
+    ghost use Rattle.ics_zone.specs.declared.observance.Observance.{Observance};
 
-    ghost Value = { Timeline };
+    ghost Value = { List Observance };
 
-    ghost use Rattle.ics_zone.specs.Observances.{phase_of};
-    ghost use Rattle.ics_zone.specs.Tables.{IsZoneTable};
+    ghost use Rattle.ics_zone.specs.Observances.{phases_of};
+    ghost use Rattle.ics_zone.specs.ZoneOnsets.{IsKnown};
 
-    ghost view = { λ z. record { observances = z.observances.items; reached = z.reached } };
+    ghost view = { λ z. z.observances.items };
 
-    ghost invariant = { λ z. IsZoneTable (map phase_of z.observances.items) z.reached z.onsets.items };
+    ghost invariant = { λ z. IsKnown (phases_of z.observances.items) z.onsets.items z.offsets.items z.held.items };
 }
 
 impl Zone {
     ghost use Rattle.ics_zone.specs.Offsets.{IsOffset, zone_offset};
-    ghost use Rattle.ics_zone.specs.Moments.{shown, IsFirstTime, IsInGap, IsSteady};
-    ghost use Rattle.ics_zone.specs.Tables.{phases_of};
+    ghost use Rattle.ics_zone.specs.Moments.{shown, IsFirstTime, IsInGap};
+    ghost use Rattle.ics_zone.specs.ZoneOnsets.{IsJump, IsSteady};
 
-    /// The zone of these observances, reached up to an onset. NoObservance where there is none,
-    /// ZoneRule where one repeats more often than daily.
+    /// The zone of these observances. NoObservance where there is none, ZoneRule where one repeats more often than daily.
     pub fn read(alloc: Global, observances: Vec<Observance>) -> Result<Zone, ZoneFault>
-        ensures observances { IfOk result (λ zone. zone.observances ≡ observances.items) }
+        ensures observances { IfOk result (λ zone. zone ≡ observances.items) }
         ensures none { (result ≡ Err ZoneFault.NoObservance) ↔ (observances.items ≡ []) }
-        ensures fine { (result ≡ Err ZoneFault.ZoneRule) ↔ IsTrue (list_any has_finer_rule (map phase_of observances.items)) }
+        ensures fine { (result ≡ Err ZoneFault.ZoneRule) ↔ IsTrue (list_any has_finer_rule (phases_of observances.items)) }
     {
         if observances.is_empty() {
             return Err(ZoneFault::NoObservance);
@@ -62,113 +65,248 @@ impl Zone {
         if any_is_finer(&observances) {
             return Err(ZoneFault::ZoneRule);
         }
-        // up to an onset, so that the least onset is known from the beginning on
-        let reached = least_start(&observances);
-        let span = Span {
-            after: BEFORE_ALL,
-            to: reached,
+        let Ok(onsets) = onsets_of(alloc, &observances) else {
+            return Err(ZoneFault::Memory);
         };
-        let Ok(onsets) = onsets_in(alloc, &observances, span) else {
+        let Ok(offsets) = offsets_of(alloc, &observances) else {
             return Err(ZoneFault::Memory);
         };
         Ok(Zone {
-            alloc,
             observances,
             onsets,
-            reached,
+            offsets,
+            held: Vec::new(alloc),
         })
     }
 
-    /// Lets the zone be asked up to an instant. The observances stay, and with them every answer; after
-    /// want of memory nothing has changed.
+    /// Changes no answer: a zone may be asked at every instant, before this call and after it. It holds the span about this one, where
+    /// memory for it is granted, so that it is soon asked near it.
     pub fn reach(&mut self, to: Moment) -> Result<(), AllocError>
-        ensures same { self.new.observances ≡ self.old.observances }
-        ensures reached { OnOk result (to ≤ℤ self.new.reached) }
-        ensures further { self.old.reached ≤ℤ self.new.reached }
-        ensures err { OnErr result (self.new ≡ self.old) }
+        ensures same { self.new ≡ self.old }
+        ensures always { result ≡ Ok tt }
     {
-        if to <= self.reached {
-            return Ok(());
-        }
-        let span = Span {
-            after: self.reached,
-            to,
-        };
-        let mut more = onsets_in(self.alloc, &self.observances, span)?;
-        self.onsets.append(&mut more)?;
-        self.reached = to;
+        let near = to.clamp(-62_167_392_000, 251_856_172_799);
+        self.hold(near - DAY);
+        self.hold(near + DAY);
         Ok(())
+    }
+
+    // Holds the span about an instant, if there is one and room and memory for it.
+    fn hold(&mut self, near: Moment)
+        requires { IsWithin 300_000_000_000 near }
+        ensures { self.new ≡ self.old }
+    {
+        if self.held.len() >= HELD || self.held_over(near, near).is_some() {
+            return;
+        }
+        let Some(steady) = self.steady_about(near) else {
+            return;
+        };
+        if self.held.push(steady).is_ok() {
+            self.held.sort_unstable_by_key(|span| span.from);
+        }
+    }
+
+    // A span that is held and goes from one instant to another, or further.
+    fn held_over(&self, from: Moment, to: Moment) -> Option<Steady>
+        ensures some { 0 < length (phases_of self.now) }
+        ensures over { IfSome result (λ s. (s.from ≤ℤ from) × (to ≤ℤ s.to)) }
+        ensures steady { IfSome result (λ s. IsSteady (zone_offset (phases_of self.now)) s.from s.to s.offset) }
+    {
+        let begun = self.held.partition_point(|span| span.from <= from);
+        if begun == 0 {
+            return None;
+        }
+        let steady = self.held[begun - 1];
+        if steady.from <= from && to <= steady.to {
+            Some(steady)
+        } else {
+            None
+        }
+    }
+
+    // The span about an instant from one onset to the next. None where no onset is before it.
+    fn steady_about(&self, near: Moment) -> Option<Steady>
+        requires { IsWithin 300_000_000_000 near }
+        ensures { IfSome result (λ s. IsSteady (zone_offset (phases_of self.now)) s.from s.to s.offset) }
+    {
+        let latest = latest_of(&self.onsets, near)?;
+        let next = next_onset(&self.onsets, near, near + AHEAD);
+        Some(Steady {
+            from: latest.at,
+            to: next - 1,
+            offset: latest.offset,
+        })
     }
 
     // The offset at an instant.
     fn in_force(&self, moment: Moment) -> i32
-        requires { moment ≤ℤ self.now.reached }
         ensures means { IsOffset (phases_of self.now) moment result }
         ensures value { result ≡ zone_offset (phases_of self.now) moment }
     {
-        let passed = passed(&self.onsets, moment);
-        if passed == 0 {
-            self.observances[self.onsets[0].place].offset_from
-        } else {
-            self.onsets[passed - 1].offset
+        let mut place = 0;
+        match self.held_over(moment, moment) {
+            Some(held) => held.offset,
+            None => self.offset_of_latest(moment, &mut place),
         }
     }
 
-    // The first onset after an instant, if it is before the limit, and else the limit.
-    fn steady_until(&self, from: Moment, limit: Moment) -> Moment
-        requires limit { from <ℤ limit }
-        requires reached { limit ≤ℤ self.now.reached }
-        ensures after { from <ℤ result }
-        ensures bound { result ≤ℤ limit }
-        ensures steady { IsSteady (zone_offset (phases_of self.now)) from result }
+    // The offset at an instant, by the observances. The place becomes that of the one in force.
+    fn offset_of_latest(&self, moment: Moment, place: &mut usize) -> i32
+        ensures means { IsOffset (phases_of self.now) moment result }
+        ensures value { result ≡ zone_offset (phases_of self.now) moment }
     {
-        let passed = passed(&self.onsets, from);
-        match self.onsets.get(passed) {
-            Some(onset) if onset.at < limit => onset.at,
-            _ => limit,
+        match latest_of(&self.onsets, moment) {
+            Some(latest) => {
+                *place = latest.place;
+                latest.offset
+            }
+            None => first_offset(&self.onsets),
         }
     }
 
-    // The first instant at which the clock shows a local, given by its seconds.
-    fn first_time(&self, seconds: i64) -> Option<Moment>
+    // Whether the zone has an offset at an instant. Where an observance was in force at another, its place is a hint.
+    fn has_offset(&self, moment: Moment, offset: i32, hint: &mut usize) -> bool
+        ensures { MatchBool result (zone_offset (phases_of self.now) moment ≡ offset) (zone_offset (phases_of self.now) moment ≢ offset) }
+    {
+        if let Some(held) = self.held_over(moment, moment) {
+            return held.offset == offset;
+        }
+        if overrides(&self.onsets, *hint, offset, moment) {
+            return false;
+        }
+        self.offset_of_latest(moment, hint) == offset
+    }
+
+    // The span up to an instant from the greatest onset before it on. None where no onset is before it.
+    fn steady_to(&self, to: Moment) -> Option<Steady>
+        ensures to { IfSome result (λ s. s.to ≡ to) }
+        ensures steady { IfSome result (λ s. IsSteady (zone_offset (phases_of self.now)) s.from s.to s.offset) }
+    {
+        let latest = latest_of(&self.onsets, to)?;
+        Some(Steady {
+            from: latest.at,
+            to,
+            offset: latest.offset,
+        })
+    }
+
+    // The instant of a local, if the offset does not change within a day of it.
+    fn steady_time(&self, seconds: i64) -> Option<Moment>
         requires bound { IsMoment seconds }
-        requires reached { (seconds +ℤ pos 172_800) ≤ℤ self.now.reached }
+        ensures { IfSome result (IsFirstTime (zone_offset (phases_of self.now)) seconds) }
+    {
+        if let Some(held) = self.held_over(seconds - DAY, seconds + DAY) {
+            return Some(seconds - i64::from(held.offset));
+        }
+        let steady = self.steady_to(seconds + DAY)?;
+        if steady.from <= seconds - DAY {
+            Some(seconds - i64::from(steady.offset))
+        } else {
+            None
+        }
+    }
+
+    // The instant of a local on a clock with this offset, if the offset is the zone's then.
+    fn shown_with(&self, seconds: i64, offset: i32, hint: &mut usize) -> Option<Moment>
+        requires bound { IsMoment seconds }
+        ensures { MatchOption result
+            (zone_offset (phases_of self.now) (seconds -ℤ offset) ≢ offset)
+            (λ t. (t ≡ seconds -ℤ offset) × (zone_offset (phases_of self.now) t ≡ offset)) }
+    {
+        let moment = seconds - i64::from(offset);
+        if self.has_offset(moment, offset, hint) {
+            Some(moment)
+        } else {
+            None
+        }
+    }
+
+    // The first instant at which the clock shows a local, given by its seconds. Only the local less an offset of the zone can be one.
+    fn first_time(&self, seconds: i64) -> Option<Moment>
+        requires { IsMoment seconds }
         ensures { MatchOption result
             ((t : ℤ) → shown (zone_offset (phases_of self.now)) t ≢ seconds)
             (IsFirstTime (zone_offset (phases_of self.now)) seconds) }
     {
-        let end = seconds + DAY + 1;
-        let mut start = seconds - DAY;
-        while start < end {
-            let moment = seconds - i64::from(self.in_force(start));
-            let stop = self.steady_until(start, end);
-            if start <= moment && moment < stop {
-                return Some(moment);
-            }
-            start = stop;
+        if let Some(moment) = self.steady_time(seconds) {
+            return Some(moment);
         }
-        None
+        let offsets = self.offsets.as_slice();
+        let mut first: Option<Moment> = None;
+        let mut hint = usize::MAX;
+        for offset in offsets {
+            let Some(moment) = self.shown_with(seconds, *offset, &mut hint) else {
+                continue;
+            };
+            first = Some(earlier(first, moment));
+        }
+        first
+    }
+
+    // The instant at which the clock jumps over a local that it never shows: the first onset that shows a later one.
+    fn jump(&self, seconds: i64) -> Moment
+        requires bound { IsMoment seconds }
+        requires skipped { (t : ℤ) → shown (zone_offset (phases_of self.now)) t ≢ seconds }
+        ensures low { (seconds -ℤ pos 86_400) ≤ℤ result }
+        ensures high { result ≤ℤ (seconds +ℤ pos 86_401) }
+        ensures jump { IsJump (zone_offset (phases_of self.now)) seconds result }
+    {
+        let mut after = seconds - DAY;
+        while after <= seconds + DAY {
+            after = next_past(&self.onsets, seconds, after);
+            if after + i64::from(self.in_force(after)) > seconds {
+                return after;
+            }
+        }
+        // not reached: a day after the local the clock shows a later one
+        after
     }
 
     // The instant of a local that the clock skips: it is read with the offset before the gap.
     fn across_gap(&self, seconds: i64) -> Moment
         requires bound { IsMoment seconds }
-        requires reached { (seconds +ℤ pos 172_800) ≤ℤ self.now.reached }
         requires skipped { (t : ℤ) → shown (zone_offset (phases_of self.now)) t ≢ seconds }
         ensures { IsInGap (zone_offset (phases_of self.now)) seconds result }
     {
-        let end = seconds + DAY + 1;
-        let mut start = seconds - DAY;
-        while start < end {
-            let stop = self.steady_until(start, end);
-            if stop + i64::from(self.in_force(stop)) > seconds {
-                return seconds - i64::from(self.in_force(start));
-            }
-            start = stop;
-        }
-        // not reached: a day after the local the clock shows a later one
-        seconds
+        seconds - i64::from(self.in_force(self.jump(seconds) - 1))
     }
+}
+
+// The earlier of two instants, of which the first may be none.
+fn earlier(first: Option<Moment>, second: Moment) -> Moment
+    ensures { MatchOption first (result ≡ second) (λ f. result ≡ int_min f second) }
+{
+    match first {
+        Some(first) => first.min(second),
+        None => second,
+    }
+}
+
+// What is asked of each observance.
+fn onsets_of(alloc: Global, observances: &[Observance]) -> Result<Vec<Onsets>, AllocError>
+    ensures { IfOk result (λ onsets. AreOnsetsOfAll (phases_of observances.now) onsets.items) }
+{
+    let mut all = Vec::new(alloc);
+    for observance in observances {
+        all.push(Onsets::of(alloc, observance)?)?;
+    }
+    Ok(all)
+}
+
+// The offsets before and after the onsets, each once, the greatest first.
+fn offsets_of(alloc: Global, observances: &[Observance]) -> Result<Vec<i32>, AllocError>
+    ensures { IfOk result (λ offsets. HaveOffsets offsets.items (phases_of observances.now)) }
+{
+    let mut offsets = Vec::new(alloc);
+    for observance in observances {
+        offsets.push(observance.offset_to)?;
+        offsets.push(observance.offset_from)?;
+    }
+    offsets.sort_unstable();
+    offsets.dedup();
+    offsets.reverse();
+    Ok(offsets)
 }
 
 // The seconds of a local since 1970-01-01T00:00:00, as a clock without zones counts them.
@@ -178,21 +316,9 @@ fn seconds_of(local: Local) -> i64
     i64::from(local.day) * DAY + i64::from(local.second)
 }
 
-// The least instant of a DTSTART.
-fn least_start(observances: &[Observance]) -> Moment
-    requires { 0 < length observances.now }
-    ensures { (o : Observance) × (Contains observances.now o × (result ≡ instant_by o.offset_from (number o.start))) }
-{
-    let mut least = observances[0].first_instant();
-    for observance in observances {
-        least = least.min(observance.first_instant());
-    }
-    least
-}
-
 // Whether one of the observances repeats more often than daily.
 fn any_is_finer(observances: &[Observance]) -> bool
-    ensures { result ≡ list_any has_finer_rule (map phase_of observances.now) }
+    ensures { result ≡ list_any has_finer_rule (phases_of observances.now) }
 {
     observances
         .iter()
@@ -215,23 +341,16 @@ fn is_finer_than_daily(observance: &Observance) -> bool
 impl Place for Zone {
     ghost use Rattle.ics_zone.specs.Offsets.{IsOffset, zone_offset};
     ghost use Rattle.ics_zone.specs.Moments.{IsMomentOf, zone_moment};
-    ghost use Rattle.ics_zone.specs.Tables.{phases_of};
-    ghost use Rattle.ics_zone.specs.ZoneBounds.{timeline_offset_near, timeline_moment_near};
+    ghost use Rattle.ics_zone.specs.Observances.{phases_of};
+    ghost use Rattle.ics_zone.specs.ZoneBounds.{zone_offset_near, zone_moment_near};
 
     ghost offset_at = { λ zone moment. zone_offset (phases_of zone) moment };
 
     ghost moment_at = { λ zone local. zone_moment (phases_of zone) local };
 
-    ghost reach = { λ zone. zone.reached };
-
-    fn reached(&self) -> Moment {
-        self.reached
-    }
-
     /// TZOFFSETTO of the greatest onset that is not after the instant; before all onsets,
     /// TZOFFSETFROM of the least.
     fn offset(&self, moment: Moment) -> i32
-        requires { moment ≤ℤ self.now.reached }
         ensures means { IsOffset (phases_of self.now) moment result }
         ensures value { result ≡ zone_offset (phases_of self.now) moment }
     {
@@ -241,8 +360,7 @@ impl Place for Zone {
     /// The first instant at which the clock shows the local; where there is none, the local read with
     /// the offset before the gap (RFC 5545, section 3.3.5).
     fn moment(&self, local: Local) -> Moment
-        requires day { IsDay local.day }
-        requires reached { (local_seconds local.day local.second +ℤ pos 172_800) ≤ℤ self.now.reached }
+        requires { IsDay local.day }
         ensures means { IsMomentOf (phases_of self.now) (local_seconds local.day local.second) result }
         ensures value { result ≡ zone_moment (phases_of self.now) (local_seconds local.day local.second) }
     {
@@ -253,7 +371,7 @@ impl Place for Zone {
         }
     }
 
-    ghost near = { λ zone moment. timeline_offset_near zone moment };
+    ghost near = { λ zone moment. zone_offset_near zone moment };
 
-    ghost moment_near = { λ zone local. timeline_moment_near zone local };
+    ghost moment_near = { λ zone local. zone_moment_near zone local };
 }

@@ -1,28 +1,19 @@
-use Rattle.std.proofs.Common.{rules, ◌≡◌, ◌∙◌, SFits, w32, w64, to_z, of_z}
+use Rattle.std.proofs.Common.{rules, SFits, w32, w64}
 use Rattle.std.proofs.lemmas.Int.{to_z-of_z}
-use Rattle.ics_zone.specs.Offsets.{zone_offset}
-use Rattle.ics_zone.specs.Tables.{phases_of}
-use Rattle.ics_zone.proofs.ZoneLemmas.{first_offset, passed_offset, offset_is}
+use Rattle.ics_zone.specs.Observances.{phases_of}
+use Rattle.ics_zone.specs.ZoneBounds.{zone_facts}
+use Rattle.ics_zone.proofs.JumpLemmas.{is_offset}
 use Rattle.ics_zone.proofs.zone.Zone.in_force.Goals as goal
 
-before_all : (c : goal.After-result-1) → to_z w32 (of_z w32 c.index-then-passed-eq0.result.now.offset_from) ≡ zone_offset (phases_of c.args.self.now) c.args.moment
-before_all c =
+pub returns-in-Some-clause-means : goal.returns-in-Some-clause-means
+returns-in-Some-clause-means c =
     let fits : SFits w64 c.args.moment = c.ranges.moment in
-    let small : SFits w32 c.index-then-passed-eq0.result.now.offset_from = search rules in
-    let passed = rw c.deref.ensures.value at (simp to_z-of_z at c.passed-passed.ensures) in
-    to_z-of_z w32 _ small
-    ∙ first_offset _ _ _ c.self.invariant _ c.self.view_is c.args.moment _ c.requires c.if-passed-eq0.true passed _ c.index.ensures _ c.index-then-passed-eq0.ensures
+    let small : SFits w32 c.in-Some.held.offset = search rules in
+    rw (to_z-of_z w32 c.in-Some.held.offset small, c.in-Some.ensures.steady c.args.moment (search rules) (search rules))
+    (is_offset (phases_of c.args.self.now) (zone_facts c.args.self.now) c.held_over.ensures.some c.args.moment)
 
-after_one : (c : goal.After-result-else-passed-eq0-1) → to_z w32 (of_z w32 c.index-else-passed-eq0.result.now.offset) ≡ zone_offset (phases_of c.args.self.now) c.args.moment
-after_one c =
+pub returns-in-None-clause-means : goal.returns-in-None-clause-means
+returns-in-None-clause-means c =
     let fits : SFits w64 c.args.moment = c.ranges.moment in
-    let small : SFits w32 c.index-else-passed-eq0.result.now.offset = search rules in
-    let passed = rw c.deref.ensures.value at (simp to_z-of_z at c.passed-passed.ensures) in
-    to_z-of_z w32 _ small
-    ∙ passed_offset _ _ _ c.self.invariant _ c.self.view_is c.args.moment _ c.requires c.if-passed-eq0.false passed _ c.index-else-passed-eq0.ensures
-
-pub returns-then-passed-eq0 : goal.returns-then-passed-eq0
-returns-then-passed-eq0 c = record { means = offset_is _ _ _ c.self.invariant _ c.self.view_is _ _ (before_all c); value = before_all c }
-
-pub returns-else-passed-eq0 : goal.returns-else-passed-eq0
-returns-else-passed-eq0 c = record { means = offset_is _ _ _ c.self.invariant _ c.self.view_is _ _ (after_one c); value = after_one c }
+    let small : SFits w32 c.offset_of_latest.result = search rules in
+    rw (to_z-of_z w32 c.offset_of_latest.result small) (simp to_z-of_z at c.offset_of_latest.ensures.means)

@@ -1,0 +1,84 @@
+-- The first instant that shows a local, of the local less each offset.
+use Rattle.std.proofs.Common.{◌≡◌, ◌≢◌, ℕ, ◌+◌, ◌<◌, ◌≤◌, inl, inr, sym, ap, ◌∙◌, arith, List, length, get_or, Option, Some, None, Contains, ℤ, ◌-ℤ◌, ◌≤ℤ◌}
+use Rattle.std.specs.Prelude.{MatchOption}
+use Rattle.std.specs.Int.{int_min}
+use Rattle.std.proofs.lemmas.Int.{ints, clamps}
+use Rattle.std.proofs.lemmas.List.{get_or_default}
+use Rattle.ics_zone.specs.Moments.{shown, IsFirstTime}
+use Rattle.ics_zone.proofs.Cases.{below_or_at, less_or_not_z}
+
+-- t shows the local, and is not later than those of the local less the first offsets that show it
+pub record IsLeastOf (offset : ℤ → ℤ) (local : ℤ) (offsets : List ℤ) (count : ℕ) (t : ℤ) : Type 0 where
+  pub shows : shown offset t ≡ local
+  pub least : (j : ℕ) (d : ℤ) → j < count → shown offset (local -ℤ get_or offsets j d) ≡ local → t ≤ℤ (local -ℤ get_or offsets j d)
+
+abbrev pub IsFirstOf : (ℤ → ℤ) → ℤ → List ℤ → ℕ → Option ℤ → Type 0
+IsFirstOf offset local offsets count found =
+    MatchOption found ((j : ℕ) (d : ℤ) → j < count → shown offset (local -ℤ get_or offsets j d) ≢ local) (IsLeastOf offset local offsets count)
+
+module _ (offset : ℤ → ℤ) (local : ℤ) (offsets : List ℤ) (k : ℕ) (o : ℤ) (inside : k < length offsets) (at : o ≡ get_or offsets k o) where
+  -- the instant of this offset, or of one before
+  here : (j : ℕ) (d : ℤ) → j ≡ k → get_or offsets j d ≡ o
+  here j d same = rw same (get_or_default offsets k d o inside ∙ sym at)
+
+  pub first_stays : (found : Option ℤ) → IsFirstOf offset local offsets k found → offset (local -ℤ o) ≢ o → IsFirstOf offset local offsets (k + 1) found
+  first_stays None before other = λ j d l shows. elim (below_or_at j k (omega arith)) [
+    | inl less ↦ before j d less shows
+    | inr same ↦ (let is = here j d same in let at = rw is at shows in other (omega (arith, ints, at)))
+  ]
+  first_stays (Some t) before other = record {
+    shows = before.shows;
+    least = λ j d l shows. elim (below_or_at j k (omega arith)) [
+      | inl less ↦ before.least j d less shows
+      | inr same ↦ absurd (let is = here j d same in let at = rw is at shows in other (omega (arith, ints, at)))
+    ];
+  }
+
+  pub first_moves : (found : Option ℤ) (t m : ℤ) → IsFirstOf offset local offsets k found → t ≡ local -ℤ o → offset t ≡ o
+      → MatchOption found (m ≡ t) (λ f. m ≡ int_min f t) → IsLeastOf offset local offsets (k + 1) m
+  first_moves None t m before is same min = record {
+    shows = rw min (omega (arith, ints, is, same));
+    least = λ j d l shows. elim (below_or_at j k (omega arith)) [
+      | inl less ↦ absurd (before j d less shows)
+      | inr at_k ↦ (let there = here j d at_k in omega (arith, ints, there, min, is))
+    ];
+  }
+  first_moves (Some f) t m before is same min = elim (less_or_not_z f t) [
+    | inl less ↦ (
+        let one : m ≡ f = omega (arith, ints, clamps, min, less) in
+        record {
+          shows = rw one before.shows;
+          least = λ j d l shows. elim (below_or_at j k (omega arith)) [
+            | inl early ↦ (let low = before.least j d early shows in omega (arith, ints, low, one))
+            | inr at_k ↦ (let there = here j d at_k in omega (arith, ints, there, one, is, less))
+          ];
+        })
+    | inr more ↦ (
+        let one : m ≡ t = omega (arith, ints, clamps, min, more) in
+        record {
+          shows = rw one (omega (arith, ints, is, same));
+          least = λ j d l shows. elim (below_or_at j k (omega arith)) [
+            | inl early ↦ (let low = before.least j d early shows in omega (arith, ints, low, one, more))
+            | inr at_k ↦ (let there = here j d at_k in omega (arith, ints, there, one, is))
+          ];
+        })
+  ]
+
+-- where each offset is among them, the least is the first instant that shows the local
+module _ (offset : ℤ → ℤ) (local : ℤ) (offsets : List ℤ) (has : (t : ℤ) → Contains offsets (offset t)) (k : ℕ) (all : length offsets ≤ k) where
+  candidate : (s : ℤ) → shown offset s ≡ local → s ≡ local -ℤ get_or offsets (has s).0 (offset s)
+  candidate s shows = let at = (has s).2 in omega (arith, ints, shows, at)
+
+  pub first_found : (found : Option ℤ) → IsFirstOf offset local offsets k found
+      → MatchOption found ((t : ℤ) → shown offset t ≢ local) (IsFirstTime offset local)
+  first_found None none = λ t shows.
+      let inside = (has t).1 in
+      none (has t).0 (offset t) (omega (arith, inside, all)) (ap (shown offset) (sym (candidate t shows)) ∙ shows)
+  first_found (Some t) found = record {
+    shows = found.shows;
+    first = λ s shows.
+        let inside = (has s).1 in
+        let is = candidate s shows in
+        let low = found.least (has s).0 (offset s) (omega (arith, inside, all)) (ap (shown offset) (sym is) ∙ shows) in
+        omega (arith, ints, low, is);
+  }

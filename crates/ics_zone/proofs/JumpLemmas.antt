@@ -1,0 +1,264 @@
+-- The offset in force, and where a clock jumps over a local.
+use Rattle.std.proofs.Common.{◌≡◌, ◌≢◌, ℕ, ◌<◌, ◌⊎◌, inl, inr, Bool, true, false, cond, refl, sym, ap, ◌∙◌, subst, arith, List, [], ◌∷◌, ◌++◌, length, Option, Some, None, Contains, ℤ, pos, ◌+ℤ◌, ◌-ℤ◌, ◌<ℤ◌, ◌≤ℤ◌}
+use Rattle.std.proofs.lemmas.Int.{ints}
+use Rattle.std.specs.List.Sorted.{IsPermutation}
+use Rattle.std.proofs.lemmas.List.Sorted.{All-permutation}
+use Rattle.std.proofs.lemmas.List.Elements.{All-push}
+use Rattle.std.proofs.lemmas.Option.{slice_get_within}
+use Rattle.ics_zone.specs.declared.latest.Latest.{Latest}
+use Rattle.ics_zone.specs.declared.latest.Steady.{Steady}
+use Rattle.ics_zone.specs.declared.observance.Observance.{Observance}
+use Rattle.ics_zone.specs.declared.onsets.Onsets.{Onsets}
+use Rattle.ics_zone.specs.Observances.{Phase, IsZone, phases_of}
+use Rattle.ics_zone.specs.Offsets.{natural, IsOnset, IsInForce, IsBeforeAll, IsOffset, zone_offset}
+use Rattle.ics_zone.specs.Moments.{shown, IsFirstTime, IsInGap}
+use Rattle.ics_zone.specs.ZoneOnsets.{HaveOffsets, IsKnown, IsLatest, IsLatestOf, IsFirstOffset, IsNextPast, IsJump, IsSteady, IsOverridden}
+use Rattle.ics_zone.specs.ZoneBounds.{zone_offset_short}
+use Rattle.ics_zone.proofs.OffsetLaws.{offset_unique}
+use Rattle.ics_zone.proofs.OnsetLemmas.{natural-is, offset_found}
+use Rattle.ics_zone.proofs.Cases.{less_or_not_z}
+
+not_empty : (zone : List Phase) → 0 < length zone → zone ≢ []
+not_empty [] h e = omega arith
+not_empty (p ∷ zone) h e = cc
+
+module _ (zone : List Phase) (facts : IsZone zone) (some : 0 < length zone) where
+  pub is_offset : (t : ℤ) → IsOffset zone t (zone_offset zone t)
+  is_offset t = offset_found zone facts t (not_empty zone some)
+
+  -- the greatest onset of all observances is the one in force
+  pub in_force_is : (t : ℤ) (e : Latest) → IsLatest zone t (length zone) e → e.offset ≡ zone_offset zone t
+  in_force_is t e latest = offset_unique zone t e.offset (zone_offset zone t) (inl (
+    latest.phase,
+    record {
+      place = e.place;
+      since = e.at;
+      onset = latest.onset;
+      not_after = latest.not_after;
+      greatest = λ i s p h l. latest.greatest i s p (slice_get_within zone i p h.0) h l;
+    },
+    latest.offset,
+  )) (is_offset t)
+
+  pub before_all_is : (t offset : ℤ) → ((i : ℕ) (s : ℤ) (p : Phase) → i < length zone → IsOnset zone i s p → t <ℤ s) → IsFirstOffset zone offset → offset ≡ zone_offset zone t
+  before_all_is t offset none first = offset_unique zone t offset (zone_offset zone t) (inr (
+    first.1.phase,
+    record {
+      place = first.1.place;
+      first = first.0;
+      onset = first.1.onset;
+      before = none first.1.place first.0 first.1.phase (slice_get_within zone first.1.place first.1.phase first.1.onset.0) first.1.onset;
+      least = λ i s p h. first.1.least i s p (slice_get_within zone i p h.0) h;
+    },
+    first.1.is,
+  )) (is_offset t)
+
+  pub latest_is : (t : ℤ) (found : Option Latest) → IsLatestOf zone t (length zone) found → (e : Latest) → found ≡ Some e → e.offset ≡ zone_offset zone t
+  latest_is t None h e same = absurd (cc)
+  latest_is t (Some f) h e same = let one : f ≡ e = cc in rw (← one) (in_force_is t f h)
+
+  pub none_is : (t offset : ℤ) (found : Option Latest) → IsLatestOf zone t (length zone) found → found ≡ None → IsFirstOffset zone offset → offset ≡ zone_offset zone t
+  none_is t offset None h same first = before_all_is t offset h first
+  none_is t offset (Some f) h same first = absurd (cc)
+
+  -- each offset of the zone is one of its observances
+  pub offsets_found : (offsets : List ℤ) → HaveOffsets offsets zone → (t : ℤ) → Contains offsets (zone_offset zone t)
+  offsets_found offsets have t = by (is_offset t)
+    where
+      by : IsOffset zone t (zone_offset zone t) → Contains offsets (zone_offset zone t)
+      by (inl h) = subst (Contains offsets) (sym h.2) (have h.1.place h.0 h.1.onset.0).to
+      by (inr h) = subst (Contains offsets) (sym h.2) (have h.1.place h.0 h.1.onset.0).from
+
+  -- an offset holds from its onset on
+  holds_since : (s : ℤ) (p : Phase) (f : IsInForce zone s p) (t : ℤ) → f.since ≤ℤ t → t ≤ℤ s → p.offset_to ≡ zone_offset zone t
+  holds_since s p f t low high = offset_unique zone t p.offset_to (zone_offset zone t) (inl (
+    p,
+    record {
+      place = f.place;
+      since = f.since;
+      onset = f.onset;
+      not_after = low;
+      greatest = λ i u q h l. f.greatest i u q h (omega (arith, ints, l, high));
+    },
+    refl,
+  )) (is_offset t)
+
+  holds_before : (s : ℤ) (p : Phase) → IsBeforeAll zone s p → (t : ℤ) → t ≤ℤ s → p.offset_from ≡ zone_offset zone t
+  holds_before s p f t high = offset_unique zone t p.offset_from (zone_offset zone t) (inr (
+    p,
+    record {
+      place = f.place;
+      first = f.first;
+      onset = f.onset;
+      before = let b = f.before in omega (arith, ints, b, high);
+      least = f.least;
+    },
+    refl,
+  )) (is_offset t)
+
+  -- the greatest onset of all observances begins a span in which its offset holds, up to where the next may be
+  pub steady_since : (t to : ℤ) → ((i : ℕ) (s : ℤ) (p : Phase) → IsOnset zone i s p → t <ℤ s → to <ℤ s)
+      → (found : Option Latest) → IsLatestOf zone t (length zone) found → (e : Latest) → found ≡ Some e → IsSteady (zone_offset zone) e.at to e.offset
+  steady_since t to none None h e same u low high = absurd (cc)
+  steady_since t to none (Some f) h e same u low high =
+      let one : f ≡ e = cc in
+      rw (← one) (h.offset ∙ offset_unique zone u h.phase.offset_to (zone_offset zone u) (inl (
+        h.phase,
+        record {
+          place = f.place;
+          since = f.at;
+          onset = h.onset;
+          not_after = omega (arith, ints, low, ap (λ (e : Latest). e.at) one);
+          greatest = λ i s p g l. elim (less_or_not_z t s) [
+            | inl late ↦ absurd (let n = none i s p g late in omega (arith, ints, n, l, high))
+            | inr early ↦ h.greatest i s p (slice_get_within zone i p g.0) g early
+          ];
+        },
+        refl,
+      )) (is_offset u))
+
+  -- where a greater onset overrides all those of the observances with an offset, the zone has another
+  pub overridden_other : (t offset : ℤ) → IsOverridden zone t offset → zone_offset zone t ≢ offset
+  overridden_other t offset over e = by (is_offset t)
+    where
+      by : IsOffset zone t (zone_offset zone t) → ⊥
+      by (inl h) =
+          let f = h.1 in
+          let not_later = f.greatest over.place over.at over.phase over.onset over.not_after in
+          let less = over.greater f.place f.since h.0 f.onset (sym h.2 ∙ e) f.not_after in
+          elim less [
+            | inl l ↦ elim not_later [ inl m ↦ omega (arith, ints, l, m) | inr m ↦ (let same = m.0 in omega (arith, ints, l, same)) ]
+            | inr l ↦ elim not_later [
+              | inl m ↦ (let same = l.0 in omega (arith, ints, same, m))
+              | inr m ↦ (let a = l.1 in let b = m.1 in omega (arith, a, b))
+            ]
+          ]
+      by (inr h) =
+          let f = h.1 in
+          let late = f.before in
+          let early = over.not_after in
+          elim (f.least over.place over.at over.phase over.onset) [
+            | inl l ↦ omega (arith, ints, l, late, early)
+            | inr l ↦ (let same = l.0 in omega (arith, ints, same, late, early))
+          ]
+
+  module _ (local : ℤ) (skipped : (t : ℤ) → shown (zone_offset zone) t ≢ local) where
+    -- under one offset the clock does not pass the local, since it would show it
+    not_crossed : (offset a s : ℤ) → ((t : ℤ) → a ≤ℤ t → t ≤ℤ s → offset ≡ zone_offset zone t) → a ≤ℤ s → (a +ℤ offset) ≤ℤ local → local ≤ℤ (s +ℤ offset) → ⊥
+    not_crossed offset a s holds up low high =
+        let same = holds (local -ℤ offset) (omega (arith, ints, low)) (omega (arith, ints, high)) in
+        skipped (local -ℤ offset) (omega (arith, ints, same))
+
+    less_or_more : (t : ℤ) → (shown (zone_offset zone) t <ℤ local) ⊎ (local <ℤ shown (zone_offset zone) t)
+    less_or_more t = elim (less_or_not_z (shown (zone_offset zone) t) local) [
+      | inl less ↦ inl less
+      | inr more ↦ elim (less_or_not_z local (shown (zone_offset zone) t)) [ inl l ↦ inr l | inr l ↦ absurd (skipped t (omega (arith, ints, more, l))) ]
+    ]
+
+    module _ (after next : ℤ) (earlier : (t : ℤ) → t ≤ℤ after → shown (zone_offset zone) t <ℤ local) (none : IsNextPast zone local after next) where
+      not_past : (s : ℤ) → after <ℤ s → s <ℤ next → IsOffset zone s (zone_offset zone s) → local <ℤ shown (zone_offset zone) s → ⊥
+      not_past s late early (inl h) more = elim (less_or_not_z after h.1.since) [
+        | inr old ↦ (
+            let f = h.1 in
+            let here = h.2 in
+            let same = holds_since s h.0 f after old (omega (arith, ints, late)) in
+            let before = earlier after (omega (arith, ints)) in
+            not_crossed h.0.offset_to after s (λ t a b. holds_since s h.0 f t (omega (arith, ints, old, a)) b) (omega (arith, ints, late))
+            (omega (arith, ints, same, before)) (omega (arith, ints, here, more)))
+        | inl new ↦ (
+            let f = h.1 in
+            let here = h.2 in
+            let until = f.not_after in
+            let low = none f.place f.since h.0 f.onset new (omega (arith, ints, until, early)) in
+            not_crossed h.0.offset_to f.since s (λ t a b. holds_since s h.0 f t a b) until low (omega (arith, ints, here, more)))
+      ]
+      not_past s late early (inr h) more =
+          let here = h.2 in
+          let same = holds_before s h.0 h.1 after (omega (arith, ints, late)) in
+          let before = earlier after (omega (arith, ints)) in
+          not_crossed h.0.offset_from after s (λ t a b. holds_before s h.0 h.1 t b) (omega (arith, ints, late))
+          (omega (arith, ints, same, before)) (omega (arith, ints, here, more))
+
+      -- the clock shows earlier locals up to the next onset that may show a later one
+      pub earlier_before_next : (s : ℤ) → s <ℤ next → shown (zone_offset zone) s <ℤ local
+      earlier_before_next s early = elim (less_or_not_z after s) [
+        | inr old ↦ earlier s old
+        | inl late ↦ elim (less_or_more s) [ inl less ↦ less | inr more ↦ absurd (not_past s late early (is_offset s) more) ]
+      ]
+
+      pub jump_at_next : local <ℤ shown (zone_offset zone) next → IsJump (zone_offset zone) local next
+      jump_at_next later = record {
+        is_later = later;
+        first = λ s l. elim (less_or_not_z s next) [ inr high ↦ high | inl low ↦ absurd (let less = earlier_before_next s low in omega (arith, ints, less, l)) ];
+      }
+
+      pub earlier_at_next : shown (zone_offset zone) next ≤ℤ local → (s : ℤ) → s ≤ℤ next → shown (zone_offset zone) s <ℤ local
+      earlier_at_next not_later s l = elim (less_or_not_z s next) [
+        | inl low ↦ earlier_before_next s low
+        | inr same ↦ elim (less_or_more s) [
+          | inl less ↦ less
+          | inr more ↦ absurd (
+              let at : s ≡ next = omega (arith, ints, l, same) in
+              let is = ap (shown (zone_offset zone)) at in
+              omega (arith, ints, is, more, not_later))
+        ]
+      ]
+
+-- a day before a local the clock shows earlier ones, and a day after it later ones
+module _ (zone : List Phase) (facts : IsZone zone) (local : ℤ) where
+  pub earlier_before : (t : ℤ) → t ≤ℤ (local -ℤ pos 86_400) → shown (zone_offset zone) t <ℤ local
+  earlier_before t h = let bound = zone_offset_short zone facts t in omega (arith, ints, bound.0, bound.1)
+
+  pub later_after : (t : ℤ) → (local +ℤ pos 86_400) ≤ℤ t → local <ℤ shown (zone_offset zone) t
+  later_after t h = let bound = zone_offset_short zone facts t in omega (arith, ints, bound.0, bound.1)
+
+-- a local is shown once where the offset holds within a day of it
+pub shown_once : (zone : List Phase) → IsZone zone → (local from to value : ℤ) → IsSteady (zone_offset zone) from to value → from ≤ℤ (local -ℤ pos 86_400) → (local +ℤ pos 86_400) ≤ℤ to
+    → IsFirstTime (zone_offset zone) local (local -ℤ value)
+shown_once zone facts local from to value steady low high =
+    let here = steady local (omega (arith, ints, low)) (omega (arith, ints, high)) in
+    let bound = zone_offset_short zone facts local in
+    let is = steady (local -ℤ value) (omega (arith, ints, low, here, bound.1)) (omega (arith, ints, high, here, bound.0)) in
+    record {
+      shows = omega (arith, ints, is);
+      first = λ s shows.
+          let near = zone_offset_short zone facts s in
+          let same = steady s (omega (arith, ints, low, shows, near.1)) (omega (arith, ints, high, shows, near.0)) in
+          omega (arith, ints, same, shows);
+    }
+
+-- a local in a gap is read with the offset before the jump
+pub gap_at_jump : (offset : ℤ → ℤ) (local past t : ℤ) → ((s : ℤ) → shown offset s ≢ local) → IsJump offset local past → t ≡ local -ℤ offset (past -ℤ pos 1) → IsInGap offset local t
+gap_at_jump offset local past t skipped jump is = record { skipped = skipped; past = past; is_later = jump.is_later; first = jump.first; before = is }
+
+-- the measure of that search
+pub natural_less : (a b : ℤ) → pos 0 ≤ℤ a → a <ℤ b → natural a < natural b
+natural_less a b low less =
+    let x = natural-is a low in
+    let y = natural-is b (omega (arith, ints)) in
+    omega (arith, ints, x, y)
+
+-- what a zone knows is of the observances that contracts see
+pub known_zone : (observances : List Observance) (onsets : List Onsets) (offsets : List ℤ) (held : List Steady) → IsKnown (phases_of observances) onsets offsets held
+    → (zone : List Observance) → observances ≡ zone → IsKnown (phases_of zone) onsets offsets held
+known_zone observances onsets offsets held known zone is = subst (λ (z : List Observance). IsKnown (phases_of z) onsets offsets held) is known
+
+-- the same spans are held in another order
+pub held_moved : (zone : List Phase) (onsets : List Onsets) (offsets : List ℤ) (was now : List Steady) → IsPermutation was now → IsKnown zone onsets offsets was → IsKnown zone onsets offsets now
+held_moved zone onsets offsets was now moved known = record {
+  some = known.some;
+  asked = known.asked;
+  all_offsets = known.all_offsets;
+  spans = All-permutation (λ (s : Steady). IsSteady (zone_offset zone) s.from s.to s.offset) was now moved known.spans;
+}
+
+-- a span more is held, or none where memory is refused
+pub held_more : (zone : List Phase) (onsets : List Onsets) (offsets : List ℤ) (was now : List Steady) (s : Steady) (b : Bool) → now ≡ cond b (was ++ s ∷ []) was
+    → IsKnown zone onsets offsets was → IsSteady (zone_offset zone) s.from s.to s.offset → IsKnown zone onsets offsets now
+held_more zone onsets offsets was now s true is known steady = rw is (record {
+  some = known.some;
+  asked = known.asked;
+  all_offsets = known.all_offsets;
+  spans = All-push (λ (s : Steady). IsSteady (zone_offset zone) s.from s.to s.offset) was s known.spans steady;
+})
+held_more zone onsets offsets was now s false is known steady = rw is known

@@ -1,0 +1,82 @@
+-- The last of a set of instants, and the next.
+use Rattle.std.proofs.Common.{◌≡◌, ℕ, ◌<◌, ◌-◌, ◌⊎◌, inl, inr, sym, arith, List, length, get_or, Contains, ℤ, ◌<ℤ◌, ◌≤ℤ◌}
+use Rattle.std.proofs.lemmas.Int.{ints}
+use Rattle.std.proofs.lemmas.List.{get_or_default}
+use Rattle.ics_zone.specs.Latest.{IsInOrder, IsPassed, IsLast}
+use Rattle.ics_zone.proofs.Cases.{less_or_not}
+
+module _ (list : List ℤ) (up : IsInOrder list) (t : ℤ) (k : ℕ) (passed : IsPassed list t k) where
+  -- none of a list is passed, and its last that is
+  pub none_listed : k ≡ 0 → (u : ℤ) → Contains list u → t <ℤ u
+  none_listed none u h =
+      let late = passed.later h.0 u (omega (arith, none)) h.1 in
+      let is = h.2 in
+      omega (arith, ints, late, is)
+
+  pub last_listed : 0 < k → (s : ℤ) → s ≡ get_or list (k - 1) s → IsLast (Contains list) t s
+  last_listed some s is =
+      let bound = passed.bound in
+      let inside : k - 1 < length list = omega arith in
+      let early = passed.before (k - 1) s (omega arith) (omega arith) in
+      record {
+        is = (k - 1, inside, sym is);
+        not_after = omega (arith, ints, early, is);
+        last = λ u h l. elim (less_or_not h.0 k) [
+          | inl less ↦ (
+              let low = up h.0 (k - 1) u (omega (arith, less)) inside in
+              let same = get_or_default list (k - 1) u s inside in
+              let at = h.2 in
+              omega (arith, ints, low, same, at, is))
+          | inr more ↦ absurd (let late = passed.later h.0 u more h.1 in let at = h.2 in omega (arith, ints, late, at, l))
+        ];
+      }
+
+  -- the first that is not passed
+  pub next_listed : (s : ℤ) → k < length list → s ≡ get_or list k s → (u : ℤ) → Contains list u → t <ℤ u → s ≤ℤ u
+  next_listed s inside is u h l = elim (less_or_not h.0 k) [
+    | inl less ↦ absurd (let early = passed.before h.0 u (omega arith) less in let at = h.2 in omega (arith, ints, early, at, l))
+    | inr more ↦ (
+        let low = up k h.0 u more h.1 in
+        let same = get_or_default list k u s inside in
+        let at = h.2 in
+        omega (arith, ints, low, same, at, is))
+  ]
+
+-- the last of two sets together
+module _ (a b : ℤ → Type 0) (t : ℤ) where
+  pub last_of_both : (s u m : ℤ) → IsLast a t s → IsLast b t u → ((m ≡ s) × (u ≤ℤ m)) ⊎ ((m ≡ u) × (s ≤ℤ m)) → IsLast (λ v. a v ⊎ b v) t m
+  last_of_both s u m x y (inl w) = record {
+    is = inl (rw w.0 x.is);
+    not_after = let n = x.not_after in let e = w.0 in omega (arith, ints, n, e);
+    last = λ v h l. elim h [
+      | inl p ↦ (let n = x.last v p l in let e = w.0 in omega (arith, ints, n, e))
+      | inr p ↦ (let n = y.last v p l in let e = w.1 in omega (arith, ints, n, e))
+    ];
+  }
+  last_of_both s u m x y (inr w) = record {
+    is = inr (rw w.0 y.is);
+    not_after = let n = y.not_after in let e = w.0 in omega (arith, ints, n, e);
+    last = λ v h l. elim h [
+      | inl p ↦ (let n = x.last v p l in let e = w.1 in omega (arith, ints, n, e))
+      | inr p ↦ (let n = y.last v p l in let e = w.0 in omega (arith, ints, n, e))
+    ];
+  }
+
+  pub last_of_first : (s : ℤ) → IsLast a t s → ((u : ℤ) → b u → t <ℤ u) → IsLast (λ v. a v ⊎ b v) t s
+  last_of_first s x none = record {
+    is = inl x.is;
+    not_after = x.not_after;
+    last = λ v h l. elim h [ inl p ↦ x.last v p l | inr p ↦ absurd (let late = none v p in omega (arith, ints, late, l)) ];
+  }
+
+  pub last_of_second : (s : ℤ) → ((u : ℤ) → a u → t <ℤ u) → IsLast b t s → IsLast (λ v. a v ⊎ b v) t s
+  last_of_second s none x = record {
+    is = inr x.is;
+    not_after = x.not_after;
+    last = λ v h l. elim h [ inr p ↦ x.last v p l | inl p ↦ absurd (let late = none v p in omega (arith, ints, late, l)) ];
+  }
+
+-- the next of a list, or the limit
+module _ (list : List ℤ) (up : IsInOrder list) (t : ℤ) (k : ℕ) (passed : IsPassed list t k) where
+  pub none_left : k ≡ length list → (u : ℤ) → Contains list u → t <ℤ u → ⊥
+  none_left all u h l = let early = passed.before h.0 u (omega arith) (let in_list = h.1 in omega (arith, all, in_list)) in let at = h.2 in omega (arith, ints, early, at, l)

@@ -1,0 +1,109 @@
+-- What is kept of an observance has its onsets.
+use Rattle.std.proofs.Common.{◌≡◌, ℕ, ◌<◌, ◌≤◌, ◌⊎◌, inl, inr, true, ◌==◌, refl, sym, ap, subst, ◌∙◌, arith, get_or, Option, Some, None, option_map, Contains, IfSome, ℤ, ◌≤ℤ◌}
+use Rattle.std.specs.Prelude.{MatchOption}
+use Rattle.std.specs.List.{list_any}
+use Rattle.std.proofs.lemmas.Int.{ints}
+use Rattle.std.proofs.lemmas.Bool.Decides.{Decides-eqb}
+use Rattle.std.proofs.lemmas.List.{get_or_default}
+use Rattle.ics_values.specs.RuleParts.{RuleParts}
+use Rattle.ics_rule.specs.Recurrence.{Recurrence}
+use Rattle.ics_rule.specs.Locals.{number}
+use Rattle.ics_rule.specs.Kept.{is_in_rule, is_kept, until_moment}
+use Rattle.ics_zone.specs.declared.onsets.Onsets.{Onsets}
+use Rattle.ics_zone.specs.Observances.{Phase, IsPhase, instant_by, rule_from, is_until, is_by_rule, is_begin, is_onset}
+use Rattle.ics_zone.specs.OnsetSets.{IsKeptBy, AreOnsetsOf, IsListing, IsEnd}
+use Rattle.ics_zone.proofs.Cases.{or_cases, or_left, or_right, and_parts, and_both, lt_true, int_le_true, true_int_le}
+use Rattle.ics_zone.proofs.OnsetLemmas.{onset-local, local-onset}
+
+-- what is kept is the start, or earlier than the end of the rules and later than the start
+kept_early : (r : Recurrence) (n : ℕ) → is_kept r n ≡ true → (n ≡ number r.start) ⊎ ((n < 309_289_708_800) × (number r.start < n))
+unfolding is_kept is_in_rule
+kept_early r n e = elim (or_cases (n == number r.start) _ e) [
+  | inl first ↦ inl ((Decides-eqb n (number r.start)).0 first)
+  | inr rest ↦ (
+      let parts = and_parts _ _ (and_parts _ _ (and_parts _ _ rest).0).0 in
+      elim (or_cases (n == number r.start) _ parts.1) [
+        | inl first ↦ inl ((Decides-eqb n (number r.start)).0 first)
+        | inr later ↦ inr (lt_true n _ parts.0, lt_true (number r.start) n (and_parts _ _ later).0)
+      ])
+]
+
+module _ (p : Phase) (facts : IsPhase p) (s : Onsets) (from : s.offset_from ≡ p.offset_from) (to : s.offset_to ≡ p.offset_to) (listing : IsListing p s.listed.items) where
+  start_listed : Contains s.listed.items (instant_by p.offset_from (number p.start))
+  start_listed = listing.complete (number p.start) (or_left (number p.start == number p.start) _ ((Decides-eqb (number p.start) (number p.start)).1 refl))
+
+  onset_listed : (t : ℤ) → Contains s.listed.items t → is_onset p t ≡ true
+  onset_listed t h =
+      let k = listing.known t h in
+      local-onset p t k.0 k.1.0 ∙ elim (or_cases (k.0 == number p.start) _ k.1.1) [
+        | inl first ↦ or_left (k.0 == number p.start) _ first
+        | inr listed ↦ or_right (k.0 == number p.start) _ (or_left (list_any (λ l. number l == k.0) p.rdates) (is_by_rule p p.rule k.0) listed)
+      ]
+
+  -- a rule keeps nothing before the start
+  by_rule_begins : (n : ℕ) → is_by_rule p p.rule n ≡ true → is_begin p n ≡ true
+  by_rule_begins n h = or_right (n == number p.start) _ (or_right (list_any (λ l. number l == n) p.rdates) (is_by_rule p p.rule n) h)
+
+  onset_kept : (o : Option RuleParts) (r : Option Recurrence) → o ≡ p.rule → r ≡ option_map (rule_from p.start) o → IfSome r (IsEnd s.until)
+      → (t : ℤ) → MatchOption r ⊥ (λ r. IsKeptBy s.offset_from s.until r t) → is_onset p t ≡ true
+  onset_kept None r is made end t h = absurd (subst (λ (r : Option Recurrence). MatchOption r ⊥ (λ r. IsKeptBy s.offset_from s.until r t)) made h)
+  onset_kept (Some parts) r is made end t h =
+      let k = subst (λ (r : Option Recurrence). MatchOption r ⊥ (λ r. IsKeptBy s.offset_from s.until r t)) made h in
+      let ends = subst (λ (r : Option Recurrence). IfSome r (IsEnd s.until)) made end in
+      let at = k.is in
+      let early = k.early in
+      let shift = facts.from_in in
+      let until = ends t (omega (arith, ints, at, from, early, shift.0, shift.1)) ∙ true_int_le t s.until k.by_end in
+      local-onset p t k.local (rw (sym from) k.is)
+      ∙ by_rule_begins k.local (subst (λ o. is_by_rule p o k.local ≡ true) is
+      (and_both (is_kept (rule_from p.start parts) k.local) _ k.kept (subst (λ (t : ℤ). is_until (until_moment (rule_from p.start parts)) t ≡ true) (rw (sym from) k.is) until)))
+
+  kept_or_listed : (o : Option RuleParts) (r : Option Recurrence) → o ≡ p.rule → r ≡ option_map (rule_from p.start) o → IfSome r (IsEnd s.until)
+      → (t : ℤ) (n : ℕ) → t ≡ instant_by p.offset_from n → is_by_rule p o n ≡ true → Contains s.listed.items t ⊎ MatchOption r ⊥ (λ r. IsKeptBy s.offset_from s.until r t)
+  kept_or_listed None r is made end t n at h = absurd (cc)
+  kept_or_listed (Some parts) r is made end t n at h =
+      let both = and_parts (is_kept (rule_from p.start parts) n) _ h in
+      let ends = subst (λ (r : Option Recurrence). IfSome r (IsEnd s.until)) made end in
+      elim (kept_early (rule_from p.start parts) n both.0) [
+        | inl first ↦ inl (subst (Contains s.listed.items) (ap (instant_by p.offset_from) (sym first) ∙ sym at) start_listed)
+        | inr early ↦ inr (subst (λ (r : Option Recurrence). MatchOption r ⊥ (λ r. IsKeptBy s.offset_from s.until r t)) (sym made) (
+            let soon = early.0 in
+            let shift = facts.from_in in
+            let until = sym (ends t (omega (arith, ints, at, soon, shift.0, shift.1))) ∙ subst (λ (t : ℤ). is_until (until_moment (rule_from p.start parts)) t ≡ true) (sym at) both.1 in
+            record { local = n; early = early.0; kept = both.0; is = rw from at; by_end = int_le_true t s.until until }))
+      ]
+
+  first_is : (o : Option RuleParts) (r : Option Recurrence) → r ≡ option_map (rule_from p.start) o
+      → (t d : ℤ) → MatchOption r ⊥ (λ r. IsKeptBy s.offset_from s.until r t) → get_or s.listed.items 0 d ≤ℤ t
+  first_is None r made t d h = absurd (subst (λ (r : Option Recurrence). MatchOption r ⊥ (λ r. IsKeptBy s.offset_from s.until r t)) made h)
+  first_is (Some parts) r made t d h =
+      let k = subst (λ (r : Option Recurrence). MatchOption r ⊥ (λ r. IsKeptBy s.offset_from s.until r t)) made h in
+      let start = start_listed in
+      let low = listing.in_order 0 start.0 d (omega arith) start.1 in
+      let same = get_or_default s.listed.items start.0 d (instant_by p.offset_from (number p.start)) start.1 in
+      let there = start.2 in
+      let at = k.is in
+      let late : number p.start ≤ k.local = elim (kept_early (rule_from p.start parts) k.local k.kept) [ inl first ↦ omega (arith, first) | inr early ↦ omega (arith, early.1) ] in
+      omega (arith, ints, low, same, there, at, late, from)
+
+  pub onsets_made : s.rule ≡ option_map (rule_from p.start) p.rule → IfSome s.rule (IsEnd s.until) → AreOnsetsOf p s
+  onsets_made made end = record {
+    sound = record {
+      from_in = rw from facts.from_in;
+      some = let start = start_listed in let inside = start.1 in omega (arith, inside);
+      in_order = listing.in_order;
+      first = first_is p.rule s.rule made;
+    };
+    from = from;
+    to = to;
+    known = λ t h. elim h [ inl listed ↦ onset_listed t listed | inr kept ↦ onset_kept p.rule s.rule refl made end t kept ];
+    complete = λ t h.
+        let found = onset-local p t h in
+        elim (or_cases (found.0 == number p.start) _ found.2) [
+          | inl first ↦ inl (subst (Contains s.listed.items) (sym found.1) (listing.complete found.0 (or_left (found.0 == number p.start) _ first)))
+          | inr other ↦ elim (or_cases (list_any (λ l. number l == found.0) p.rdates) (is_by_rule p p.rule found.0) other) [
+            | inl listed ↦ inl (subst (Contains s.listed.items) (sym found.1) (listing.complete found.0 (or_right (found.0 == number p.start) _ listed)))
+            | inr kept ↦ kept_or_listed p.rule s.rule refl made end t found.0 found.1 kept
+          ]
+        ];
+  }

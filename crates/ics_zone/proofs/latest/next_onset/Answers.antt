@@ -1,0 +1,26 @@
+use Rattle.std.proofs.Common.{rules, arith, SFits, w64, to_z}
+use Rattle.std.proofs.lemmas.Int.{ints, to_z-of_z}
+use Rattle.std.proofs.lemmas.Option.{slice_get_within}
+use Rattle.ics_zone.proofs.ZoneSteps.{between_more}
+use Rattle.ics_zone.proofs.latest.next_onset.Goals as goal
+
+pub loop-one-preserved : goal.loop-one-preserved
+loop-one-preserved c =
+    let fits : SFits w64 c.args.after = c.ranges.after in
+    let next : SFits w64 c.next-next.result = search rules in
+    let after = simp to_z-of_z at c.next-next.ensures.after in
+    let bound = c.next-next.ensures.bound in
+    let first = simp to_z-of_z at c.next-next.ensures.next in
+    let none = simp to_z-of_z at c.loop-one.invariant.none in
+    rw (to_z-of_z w64 c.next-next.result next, to_z-of_z w64 c.args.after fits) (record {
+      later = after;
+      in_bound = omega (arith, ints, bound, c.loop-one.invariant.in_bound);
+      none = λ zone all. between_more zone c.args.onsets.now all c.loop-one.one-index c.one-item.result c.loop-one-test.true c.one-item.is
+          c.args.after (to_z w64 c.loop-one.next-bits) c.next-next.result bound first (none zone all);
+    })
+
+pub returns-clause-next : goal.returns-clause-next
+returns-clause-next c = λ zone all i s p h late.
+    let fits : SFits w64 c.args.after = c.ranges.after in
+    let none = simp to_z-of_z at c.loop-one.invariant.none in
+    none zone all i s p (let within = slice_get_within zone i p h.0 in let n = all.same_length in omega (arith, within, n, c.loop-one-test.false)) h late

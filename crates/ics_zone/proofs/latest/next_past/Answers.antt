@@ -1,0 +1,49 @@
+use Rattle.std.proofs.Common.{rules, arith, SFits, w32, w64, to_z, of_z, sym, subst, ◌≡◌, ◌-ℤ◌}
+use Rattle.std.specs.Int.{int_max}
+use Rattle.std.proofs.lemmas.Int.{ints, clamps, to_z-of_z}
+use Rattle.std.proofs.lemmas.Option.{slice_get_within}
+use Rattle.ics_zone.specs.OnsetSets.{IsSound}
+use Rattle.ics_zone.proofs.ZoneSteps.{past_now, past_before}
+use Rattle.ics_zone.proofs.latest.next_past.Goals as goal
+
+pub loop-place-preserved-then-next-from : goal.loop-place-preserved-then-next-from
+loop-place-preserved-then-next-from c =
+    let offset : SFits w32 c.index-onsets-place.result.offset_to = search rules in
+    let small : SFits w64 c.max-from.result = search rules in
+    let from : c.max-from.result ≡ int_max (to_z w64 (of_z w64 c.args.after)) (to_z w64 (of_z w64 c.args.seconds) -ℤ c.index-onsets-place.result.offset_to) =
+    (let max = c.max-from.ensures.value in let is = c.from.ensures in omega (arith, ints, clamps, max, is, offset, c.requires.bound.0, c.requires.bound.1)) in
+    record {
+      later = c.loop-place.invariant.later;
+      in_bound = c.loop-place.invariant.in_bound;
+      none = λ zone all. past_before zone c.args.onsets.now all c.loop-place.place c.index-onsets-place.result c.loop-place-test.true c.index-onsets-place.is
+          (to_z w64 (of_z w64 c.args.seconds)) (to_z w64 (of_z w64 c.args.after)) c.max-from.result (to_z w64 c.loop-place.next-bits) from (c.loop-place.invariant.none zone all)
+          c.loop-place.invariant.later (omega (arith, ints, c.if-next-from.true, to_z-of_z w64 c.max-from.result small));
+    }
+
+pub next-next-requires-clause-sound : goal.next-next-requires-clause-sound
+next-next-requires-clause-sound c = subst IsSound (sym c.index-onsets-place.is) (c.requires.sound c.loop-place.place c.index-onsets-place.result c.loop-place-test.true)
+
+pub loop-place-preserved : goal.loop-place-preserved
+loop-place-preserved c =
+    let offset : SFits w32 c.index-onsets-place.result.offset_to = search rules in
+    let small : SFits w64 c.max-from.result = search rules in
+    let next : SFits w64 c.next-next.result = search rules in
+    let max = c.max-from.ensures.value in
+    let from : c.max-from.result ≡ int_max (to_z w64 (of_z w64 c.args.after)) (to_z w64 (of_z w64 c.args.seconds) -ℤ c.index-onsets-place.result.offset_to) =
+    (let is = c.from.ensures in omega (arith, ints, clamps, max, is, offset, c.requires.bound.0, c.requires.bound.1)) in
+    let after = simp to_z-of_z at c.next-next.ensures.after in
+    let bound = c.next-next.ensures.bound in
+    rw (to_z-of_z w64 c.next-next.result next) (record {
+      later = omega (arith, ints, clamps, after, from);
+      in_bound = omega (arith, ints, bound, c.loop-place.invariant.in_bound);
+      none = λ zone all. past_now zone c.args.onsets.now all c.loop-place.place c.index-onsets-place.result c.loop-place-test.true c.index-onsets-place.is
+          (to_z w64 (of_z w64 c.args.seconds)) (to_z w64 (of_z w64 c.args.after)) c.max-from.result (to_z w64 c.loop-place.next-bits) from (c.loop-place.invariant.none zone all)
+          c.next-next.result bound (simp to_z-of_z at c.next-next.ensures.next);
+    })
+
+pub returns-clause-next : goal.returns-clause-next
+returns-clause-next c = λ zone all i s p h late early.
+    let fits : SFits w64 c.args.seconds = c.ranges.seconds in
+    let fits_too : SFits w64 c.args.after = c.ranges.after in
+    let none = simp to_z-of_z at c.loop-place.invariant.none in
+    none zone all i s p (let within = slice_get_within zone i p h.0 in let n = all.same_length in omega (arith, within, n, c.loop-place-test.false)) h late early

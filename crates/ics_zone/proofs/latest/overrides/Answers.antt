@@ -1,0 +1,39 @@
+use Rattle.std.proofs.Common.{rules, ◌≢◌, ◌<◌, length, SFits, w32, w64}
+use Rattle.std.proofs.lemmas.Int.{to_z-of_z}
+use Rattle.ics_zone.proofs.ZoneSteps.{less_other, less_more, overridden_by}
+use Rattle.ics_zone.proofs.latest.overrides.Goals as goal
+
+pub loop-other-preserved-then-one-offset : goal.loop-other-preserved-then-one-offset
+loop-other-preserved-then-one-offset c =
+    let offset : SFits w32 c.args.offset = c.ranges.offset in
+    let moment : SFits w64 c.args.moment = c.ranges.moment in
+    let at : SFits w64 c.in-Some.at = search rules in
+    let other : c.index-onsets-other.result.offset_to ≢ c.args.offset = search rules in
+    let before = simp to_z-of_z at c.loop-other.invariant in
+    rw (to_z-of_z w32 c.args.offset offset, to_z-of_z w64 c.args.moment moment, to_z-of_z w64 c.in-Some.at at) (λ zone all.
+    less_other zone c.args.onsets.now all c.loop-other.other c.index-onsets-other.result c.loop-other-test.true c.index-onsets-other.is
+    c.args.offset c.args.moment c.in-Some.at c.args.place (before zone all) other)
+
+pub loop-other-preserved : goal.loop-other-preserved
+loop-other-preserved c =
+    let offset : SFits w32 c.args.offset = c.ranges.offset in
+    let moment : SFits w64 c.args.moment = c.ranges.moment in
+    let at : SFits w64 c.in-Some.at = search rules in
+    let before = simp to_z-of_z at c.loop-other.invariant in
+    let last = simp to_z-of_z at c.last-in-loop-other.ensures in
+    let less = simp to_z-of_z at c.is_not_less.ensures in
+    rw (to_z-of_z w32 c.args.offset offset, to_z-of_z w64 c.args.moment moment, to_z-of_z w64 c.in-Some.at at) (λ zone all.
+    less_more zone c.args.onsets.now all c.loop-other.other c.index-onsets-other.result c.loop-other-test.true c.index-onsets-other.is
+    c.args.offset c.args.moment c.in-Some.at c.args.place (before zone all) c.last-in-loop-other.result last c.is_not_less.result less c.if-is_not_less.false)
+
+pub returns : goal.returns
+returns c =
+    let offset : SFits w32 c.args.offset = c.ranges.offset in
+    let moment : SFits w64 c.args.moment = c.ranges.moment in
+    let at : SFits w64 c.in-Some.at = search rules in
+    let inside : c.args.place < length c.args.onsets.now = search rules in
+    let before = simp to_z-of_z at c.loop-other.invariant in
+    let last = simp to_z-of_z at c.in-Some.ensures in
+    λ e zone all.
+    overridden_by zone c.args.onsets.now all c.args.place c.index-onsets-place.result inside c.index-onsets-place.is
+    c.args.moment c.args.offset c.in-Some.at c.loop-other.other c.loop-other-test.false last (before zone all)

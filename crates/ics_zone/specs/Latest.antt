@@ -1,0 +1,40 @@
+-- What is asked of kept locals and of onsets near a place.
+use Rattle.std.specs.Prelude.{◌≡◌, ℕ, ◌+◌, ◌<◌, ◌≤◌, true, List, length, Option, MatchOption, slice_index_or, ℤ, ◌<ℤ◌, ◌≤ℤ◌}
+use Rattle.std.specs.List.{AllWithin}
+use Rattle.ics_rule.specs.Recurrence.{Recurrence}
+use Rattle.ics_rule.specs.Kept.{is_kept}
+use Rattle.ics_rule.specs.Next.{NoneKept}
+use Rattle.ics_zone.specs.declared.kept.Known.{Known}
+
+-- n is the greatest that is kept of the locals before a bound
+pub record IsLastKept (r : Recurrence) (bound n : ℕ) : Type 0 where
+  pub kept : is_kept r n ≡ true
+  pub in_bound : n < bound
+  pub last : NoneKept r (n + 1) bound
+
+-- the last kept before a bound is the one known, or lies after it and before the end
+pub record IsKnownLast (r : Recurrence) (bound : ℕ) (known : Known) : Type 0 where
+  pub kept : is_kept r known.last ≡ true
+  pub before : known.last < known.end
+  pub in_bound : known.end ≤ bound
+  pub none : NoneKept r known.end bound
+
+-- no instant is later than one that follows it
+abbrev pub IsInOrder : List ℤ → Type 0
+IsInOrder list = (j k : ℕ) (d : ℤ) → j ≤ k → k < length list → slice_index_or list j d ≤ℤ slice_index_or list k d
+
+-- so many instants are not after t, and the others are
+pub record IsPassed (list : List ℤ) (t : ℤ) (passed : ℕ) : Type 0 where
+  pub bound : passed ≤ length list
+  pub before : AllWithin (λ s. s ≤ℤ t) list 0 passed
+  pub later : AllWithin (λ s. t <ℤ s) list passed (length list)
+
+-- s is the last of a set of instants that is not after t
+pub record IsLast (set : ℤ → Type 0) (t s : ℤ) : Type 0 where
+  pub is : set s
+  pub not_after : s ≤ℤ t
+  pub last : (u : ℤ) → set u → u ≤ℤ t → u ≤ℤ s
+
+-- the last, or that all are after t
+abbrev pub IsLastOf : (ℤ → Type 0) → ℤ → Option ℤ → Type 0
+IsLastOf set t o = MatchOption o ((u : ℤ) → set u → t <ℤ u) (IsLast set t)

@@ -1,0 +1,54 @@
+-- The onsets of one observance, as they are kept to be asked for.
+use Rattle.std.specs.Prelude.{◌≡◌, ℕ, ◌<◌, ◌⊎◌, Bool, true, ◌||◌, ◌==◌, List, length, MatchOption, slice_index_or, int_le, ℤ, pos, ◌≤ℤ◌}
+use Rattle.std.specs.List.{Contains, list_any}
+use Rattle.jiff_core.specs.Calendar.{IsWithin}
+use Rattle.ics_rule.specs.Recurrence.{Recurrence}
+use Rattle.ics_rule.specs.Kept.{is_kept, until_moment}
+use Rattle.ics_rule.specs.Locals.{number}
+use Rattle.ics_zone.specs.declared.onsets.Onsets.{Onsets}
+use Rattle.ics_zone.specs.Observances.{Phase, instant_by, is_until, is_onset}
+use Rattle.ics_zone.specs.Latest.{IsInOrder}
+
+-- t is the instant of a local that the rule keeps, and not past an end
+pub record IsKeptBy (from until : ℤ) (r : Recurrence) (t : ℤ) : Type 0 where
+  pub local : ℕ
+  pub early : local < 309_289_708_800
+  pub kept : is_kept r local ≡ true
+  pub is : t ≡ instant_by from local
+  pub by_end : t ≤ℤ until
+
+abbrev pub IsKeptAt : Onsets → ℤ → Type 0
+IsKeptAt onsets t = MatchOption onsets.rule ⊥ (λ r. IsKeptBy onsets.offset_from onsets.until r t)
+
+-- t is one of the onsets
+abbrev pub Has : Onsets → ℤ → Type 0
+Has onsets t = Contains onsets.listed.items t ⊎ IsKeptAt onsets t
+
+-- no onset that UNTIL lets in is after this instant
+abbrev pub IsEnd : ℤ → Recurrence → Type 0
+IsEnd end r = (t : ℤ) → t ≤ℤ pos 9_223_372_036_854_775_807 → is_until (until_moment r) t ≡ int_le t end
+
+-- they are listed in order, and none is earlier than the first that is listed
+pub record IsSound (onsets : Onsets) : Type 0 where
+  pub from_in : IsWithin 86_399 onsets.offset_from
+  pub some : 0 < length onsets.listed.items
+  pub in_order : IsInOrder onsets.listed.items
+  pub first : (t d : ℤ) → IsKeptAt onsets t → slice_index_or onsets.listed.items 0 d ≤ℤ t
+
+-- they are those of an observance
+pub record AreOnsetsOf (p : Phase) (onsets : Onsets) : Type 0 where
+  pub sound : IsSound onsets
+  pub from : onsets.offset_from ≡ p.offset_from
+  pub to : onsets.offset_to ≡ p.offset_to
+  pub known : (t : ℤ) → Has onsets t → is_onset p t ≡ true
+  pub complete : (t : ℤ) → is_onset p t ≡ true → Has onsets t
+
+-- local n is DTSTART or an RDATE
+abbrev pub is_listed : Phase → ℕ → Bool
+is_listed p n = n == number p.start || list_any (λ l. number l == n) p.rdates
+
+-- a list of the instants of DTSTART and of the RDATEs, in order
+pub record IsListing (p : Phase) (list : List ℤ) : Type 0 where
+  pub in_order : IsInOrder list
+  pub known : (t : ℤ) → Contains list t → (n : ℕ) × ((t ≡ instant_by p.offset_from n) × (is_listed p n ≡ true))
+  pub complete : (n : ℕ) → is_listed p n ≡ true → Contains list (instant_by p.offset_from n)

@@ -1,0 +1,84 @@
+-- The onsets of a zone, asked of its observances one by one.
+use Rattle.std.specs.Prelude.{◌≡◌, ℕ, ◌<◌, ◌≤◌, ◌⊎◌, List, length, Option, Some, MatchOption, slice_get, slice_index_or, ℤ, ◌+ℤ◌, ◌<ℤ◌, ◌≤ℤ◌}
+use Rattle.std.specs.List.{All, Contains}
+use Rattle.ics_zone.specs.declared.latest.Latest.{Latest}
+use Rattle.ics_zone.specs.declared.latest.Steady.{Steady}
+use Rattle.ics_zone.specs.declared.onsets.Onsets.{Onsets}
+use Rattle.ics_zone.specs.Observances.{Phase}
+use Rattle.ics_zone.specs.Offsets.{IsOnset, IsNotLater, zone_offset}
+use Rattle.ics_zone.specs.OnsetSets.{AreOnsetsOf}
+use Rattle.ics_zone.specs.Moments.{shown}
+
+-- for each observance its onsets, at its place
+pub record AreOnsetsOfAll (zone : List Phase) (onsets : List Onsets) : Type 0 where
+  pub same_length : length onsets ≡ length zone
+  pub each : (i : ℕ) (p : Phase) (d : Onsets) → slice_get zone i ≡ Some p → AreOnsetsOf p (slice_index_or onsets i d)
+
+-- a list has both offsets of an observance
+pub record HasOffsets (offsets : List ℤ) (p : Phase) : Type 0 where
+  pub from : Contains offsets p.offset_from
+  pub to : Contains offsets p.offset_to
+
+-- it has those of all observances
+abbrev pub HaveOffsets : List ℤ → List Phase → Type 0
+HaveOffsets offsets zone = (i : ℕ) (p : Phase) → slice_get zone i ≡ Some p → HasOffsets offsets p
+
+-- the offset is the same from one instant to another
+abbrev pub IsSteady : (ℤ → ℤ) → ℤ → ℤ → ℤ → Type 0
+IsSteady offset from to value = (t : ℤ) → from ≤ℤ t → t ≤ℤ to → value ≡ offset t
+
+-- what a zone knows: there is an observance, the onsets of each, each offset that the zone has, and spans with one offset
+pub record IsKnown (zone : List Phase) (onsets : List Onsets) (offsets : List ℤ) (held : List Steady) : Type 0 where
+  pub some : 0 < length zone
+  pub asked : AreOnsetsOfAll zone onsets
+  pub all_offsets : (t : ℤ) → Contains offsets (zone_offset zone t)
+  pub spans : All (λ s. IsSteady (zone_offset zone) s.from s.to s.offset) held
+
+-- of the observances before a place, the greatest onset not after t
+pub record IsLatest (zone : List Phase) (t : ℤ) (count : ℕ) (latest : Latest) : Type 0 where
+  pub phase : Phase
+  pub onset : IsOnset zone latest.place latest.at phase
+  pub offset : latest.offset ≡ phase.offset_to
+  pub before : latest.place < count
+  pub not_after : latest.at ≤ℤ t
+  pub greatest : (i : ℕ) (s : ℤ) (p : Phase) → i < count → IsOnset zone i s p → s ≤ℤ t → IsNotLater s i latest.at latest.place
+
+-- they may have none
+abbrev pub IsLatestOf : List Phase → ℤ → ℕ → Option Latest → Type 0
+IsLatestOf zone t count found =
+    MatchOption found ((i : ℕ) (s : ℤ) (p : Phase) → i < count → IsOnset zone i s p → t <ℤ s) (IsLatest zone t count)
+
+-- TZOFFSETFROM of the least onset of the observances before a place
+pub record IsFirst (zone : List Phase) (count : ℕ) (first offset : ℤ) : Type 0 where
+  pub place : ℕ
+  pub in_bound : place ≤ count
+  pub phase : Phase
+  pub onset : IsOnset zone place first phase
+  pub least : (i : ℕ) (s : ℤ) (p : Phase) → i < count → IsOnset zone i s p → IsNotLater first place s i
+  pub is : offset ≡ phase.offset_from
+
+abbrev pub IsFirstOffset : List Phase → ℤ → Type 0
+IsFirstOffset zone offset = (first : ℤ) × IsFirst zone (length zone) first offset
+
+-- no onset after one instant and before another begins an offset that shows a later local
+abbrev pub IsNextPast : List Phase → ℤ → ℤ → ℤ → Type 0
+IsNextPast zone local after next =
+    (i : ℕ) (s : ℤ) (p : Phase) → IsOnset zone i s p → after <ℤ s → s <ℤ next → (s +ℤ p.offset_to) ≤ℤ local
+
+-- no onset is after one instant and before another
+abbrev pub NoneBetween : List Phase → ℤ → ℤ → Type 0
+NoneBetween zone after next = (i : ℕ) (s : ℤ) (p : Phase) → IsOnset zone i s p → after <ℤ s → next ≤ℤ s
+
+-- an onset not after t is greater than all those of the observances with an offset
+pub record IsOverridden (zone : List Phase) (t offset : ℤ) : Type 0 where
+  pub place : ℕ
+  pub at : ℤ
+  pub phase : Phase
+  pub onset : IsOnset zone place at phase
+  pub not_after : at ≤ℤ t
+  pub greater : (i : ℕ) (s : ℤ) (p : Phase) → IsOnset zone i s p → p.offset_to ≡ offset → s ≤ℤ t → (s <ℤ at) ⊎ ((s ≡ at) × (i < place))
+
+-- the first instant at which the clock shows a later local
+pub record IsJump (offset : ℤ → ℤ) (local t : ℤ) : Type 0 where
+  pub is_later : local <ℤ shown offset t
+  pub first : (s : ℤ) → local <ℤ shown offset s → t ≤ℤ s

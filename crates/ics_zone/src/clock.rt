@@ -1,0 +1,54 @@
+//! Locals as numbers, and the instants at which a clock shows them.
+ghost use Rattle.std.specs.Prelude.{◌≡◌, ℕ, ◌≤◌, ◌<◌, ◌^◌, ◌≤ℤ◌, ◌<ℤ◌};
+ghost use Rattle.jiff_core.specs.Calendar.{IsWithin};
+ghost use Rattle.ics_values.specs.Days.{IsDayNumber};
+ghost use Rattle.ics_rule.specs.Locals.{number};
+ghost use Rattle.ics_zone.specs.Observances.{instant_by};
+
+use ics_values::{Local, Moment};
+
+/// The seconds from 0000-01-01 to 1970-01-01.
+const EPOCH: i64 = 62_167_219_200;
+
+/// 9801-01-01T00:00:00, where the rules end.
+const RULES_END: i64 = 309_289_708_800;
+
+// The seconds from 0000-01-01T00:00:00 to a local.
+pub(crate) fn number(local: Local) -> u64
+    ensures value { result ≡ number local }
+    ensures bound { result < 2 ^ 48 }
+{
+    (i64::from(local.day) + 719_528).unsigned_abs() * 86_400 + u64::from(local.second)
+}
+
+// The local with this number.
+pub(crate) fn local_of(n: u64) -> Local
+    requires { n ≤ 309289708800 }
+    ensures day { IsDayNumber result.day }
+    ensures value { number result ≡ n }
+{
+    Local {
+        day: (n / 86_400) as i32 - 719_528,
+        second: (n % 86_400) as u32,
+    }
+}
+
+// The instant at which a clock with this offset shows the local with number n.
+pub(crate) fn instant(offset: i32, n: u64) -> Moment
+    requires { n < 2 ^ 48 }
+    ensures { result ≡ instant_by offset n }
+{
+    n as i64 - EPOCH - i64::from(offset)
+}
+
+// How many locals, of those before the rules end, a clock with this offset shows up to an instant.
+pub(crate) fn shown_by(offset: i32, moment: Moment) -> u64
+    requires { IsWithin 86_399 offset }
+    ensures bound { result ≤ 309289708800 }
+    ensures shown { (n : ℕ) → n < result → instant_by offset n ≤ℤ moment }
+    ensures later { (n : ℕ) → result ≤ n → n < 309289708800 → moment <ℤ instant_by offset n }
+{
+    let moment = moment.clamp(-100_000_000_000, 400_000_000_000);
+    let shown = moment + i64::from(offset) + EPOCH + 1;
+    shown.clamp(0, RULES_END) as u64
+}

@@ -1,0 +1,112 @@
+//! The locals that a rule keeps near a place, without a walk from its start.
+ghost use Rattle.std.specs.Prelude.{◌≡◌, ℕ, ◌≤◌, ◌<◌, true, MatchOption};
+ghost use Rattle.ics_rule.specs.Kept.{is_kept};
+ghost use Rattle.ics_rule.specs.Next.{NoneKept, IsNextKept};
+ghost use Rattle.ics_zone.specs.Latest.{IsLastKept, IsKnownLast};
+
+use crate::clock::{local_of, number};
+use ics_rule::{Cursor, Rule};
+
+/// The first kept local from a place on that is earlier than a bound.
+pub(crate) fn next_kept(rule: &Rule, from: u64, bound: u64) -> Option<u64>
+    requires from { from ≤ 309289708800 }
+    requires bound { bound ≤ 309289708800 }
+    ensures { MatchOption result (NoneKept rule.now from bound) (IsNextKept rule.now from bound) }
+{
+    let mut cursor = Cursor::at(rule, local_of(from));
+    match cursor.next(rule, local_of(bound)) {
+        Some(local) => Some(number(local)),
+        None => None,
+    }
+}
+
+/// The last kept local that is earlier than a bound. It is looked for a little before the bound, and twice as far back each time that
+/// there is none.
+pub(crate) fn last_kept(rule: &Rule, ago: u64, bound: u64) -> Option<u64>
+    requires { bound ≤ 309289708800 }
+    ensures { MatchOption result (NoneKept rule.now 0 bound) (IsLastKept rule.now bound) }
+{
+    let mut end = bound;
+    let mut back = ago.max(1);
+    while end > 0 {
+        let from = end.saturating_sub(back);
+        if let Some(last) = last_between(rule, from, end) {
+            return Some(last);
+        }
+        end = from;
+        back = back.saturating_mul(2);
+    }
+    None
+}
+
+/// The last kept local from a place on that is earlier than a bound. Mostly there is one alone.
+fn last_between(rule: &Rule, from: u64, bound: u64) -> Option<u64>
+    requires from { from ≤ 309289708800 }
+    requires bound { bound ≤ 309289708800 }
+    ensures { MatchOption result (NoneKept rule.now from bound) (IsLastKept rule.now bound) }
+{
+    let end = local_of(bound);
+    let mut cursor = Cursor::at(rule, local_of(from));
+    let first = number(cursor.next(rule, end)?);
+    if first + 1 == bound {
+        return Some(first);
+    }
+    match cursor.next(rule, end) {
+        None => Some(first),
+        Some(second) => Some(last_from(rule, first, number(second), bound)),
+    }
+}
+
+/// What is known of the last kept local: one that is kept, and a place after it from which on none is.
+#[derive(Clone, Copy)]
+pub(crate) struct Known {
+    pub last: u64,
+    pub end: u64,
+}
+
+/// More is known after a look from a place on: a later kept local, or that none is kept from there on.
+fn after_look(rule: &Rule, known: Known, from: u64) -> Known
+    requires after { known.last < from }
+    requires from { from ≤ 309289708800 }
+    requires end { known.end ≤ 309289708800 }
+    ensures known { (bound : ℕ) → IsKnownLast rule.now bound known → IsKnownLast rule.now bound result }
+    ensures later { known.last ≤ result.last }
+    ensures earlier { result.end ≤ known.end }
+{
+    match next_kept(rule, from, known.end) {
+        Some(last) => Known {
+            last,
+            end: known.end,
+        },
+        None => Known {
+            last: known.last,
+            end: from.min(known.end),
+        },
+    }
+}
+
+/// The last kept local that is earlier than a bound, where two are known that follow each other. The gap between two is a guess for the gap
+/// before the bound. Where it fails, what is left is halved.
+fn last_from(rule: &Rule, first: u64, second: u64, bound: u64) -> u64
+    requires kept { is_kept rule.now second ≡ true }
+    requires order { first < second }
+    requires early { second < bound }
+    requires bound { bound ≤ 309289708800 }
+    ensures { IsLastKept rule.now bound result }
+{
+    let mut gap = second - first;
+    let mut known = Known {
+        last: second,
+        end: bound,
+    };
+    known = after_look(rule, known, (bound.saturating_sub(gap)).max(second + 1));
+    while let Some(next) = next_kept(rule, known.last + 1, known.end) {
+        gap = next - known.last;
+        known.last = next;
+        let guess = known.end.saturating_sub(gap).max(next + 1);
+        known = after_look(rule, known, guess);
+        let middle = known.last + (known.end - known.last) / 2 + 1;
+        known = after_look(rule, known, middle);
+    }
+    known.last
+}

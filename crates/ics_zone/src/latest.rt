@@ -1,0 +1,143 @@
+//! The onsets of all observances of a zone, asked for near an instant.
+ghost use Rattle.std.specs.Prelude.{◌≡◌, ℤ, pos, ◌<◌, true, false, length, List, ◌⊎◌, ◌+ℤ◌, ◌-ℤ◌, ◌<ℤ◌, ◌≤ℤ◌, MatchOption};
+ghost use Rattle.std.specs.List.{All};
+ghost use Rattle.ics_zone.specs.Observances.{Phase};
+ghost use Rattle.ics_zone.specs.OnsetSets.{IsSound};
+ghost use Rattle.ics_zone.specs.Places.{IsMoment};
+ghost use Rattle.ics_zone.specs.ZoneOnsets.{AreOnsetsOfAll, IsLatestOf, IsFirstOffset, IsNextPast, IsOverridden, NoneBetween};
+
+use crate::onsets::Onsets;
+use ics_values::Moment;
+
+const DAY: i64 = 86_400;
+
+/// An onset of the observance at a place in its component, with the offset after it.
+#[derive(Clone, Copy)]
+pub(crate) struct Latest {
+    pub at: Moment,
+    pub place: usize,
+    pub offset: i32,
+}
+
+/// A span of instants, both ends with it, in which a zone has one offset.
+#[derive(Clone, Copy)]
+pub(crate) struct Steady {
+    pub from: Moment,
+    pub to: Moment,
+    pub offset: i32,
+}
+
+// The later of two onsets, of which the first may be none; at one instant the second, whose place comes after.
+fn later(first: Option<Latest>, second: Latest) -> Latest
+    ensures { MatchOption first (result ≡ second)
+        (λ f. ((result ≡ second) × (f.at ≤ℤ second.at)) ⊎ ((result ≡ f) × (second.at <ℤ f.at))) }
+{
+    match first {
+        Some(first) if first.at > second.at => first,
+        _ => second,
+    }
+}
+
+// Whether an onset, if there is one, is not less than another, by instant and then by place.
+fn is_not_less(onset: Option<Moment>, place: usize, at: Moment, other: usize) -> bool
+    ensures { MatchOption onset (result ≡ false) (λ s. result ≡ false → (s <ℤ at) ⊎ ((s ≡ at) × (place < other))) }
+{
+    match onset {
+        None => false,
+        Some(onset) => onset > at || (onset == at && place >= other),
+    }
+}
+
+/// The greatest onset that is not after an instant, by instant and then by place.
+pub(crate) fn latest_of(onsets: &[Onsets], moment: Moment) -> Option<Latest>
+    requires { All IsSound onsets.now }
+    ensures { (zone : List Phase) → AreOnsetsOfAll zone onsets.now → IsLatestOf zone moment (length zone) result }
+{
+    let mut latest: Option<Latest> = None;
+    for (place, one) in onsets.iter().enumerate() {
+        let Some(at) = one.last(moment) else {
+            continue;
+        };
+        let offset = one.offset_to;
+        latest = Some(later(latest, Latest { at, place, offset }));
+    }
+    latest
+}
+
+/// TZOFFSETFROM of the least onset.
+pub(crate) fn first_offset(onsets: &[Onsets]) -> i32
+    requires sound { All IsSound onsets.now }
+    requires some { 0 < length onsets.now }
+    ensures { (zone : List Phase) → AreOnsetsOfAll zone onsets.now → IsFirstOffset zone result }
+{
+    let at_first = &onsets[0];
+    let mut first = at_first.first();
+    let mut offset = at_first.offset_from;
+    for (place, one) in onsets.iter().enumerate() {
+        let at = one.first();
+        if first <= at {
+            continue;
+        }
+        first = at;
+        offset = one.offset_from;
+    }
+    offset
+}
+
+/// Whether the last onset of the observance at a place, of those not after an instant, is greater than those of the observances with an
+/// offset. Then the zone has another offset at the instant.
+pub(crate) fn overrides(onsets: &[Onsets], place: usize, offset: i32, moment: Moment) -> bool
+    requires { All IsSound onsets.now }
+    ensures { result ≡ true → (zone : List Phase) → AreOnsetsOfAll zone onsets.now → IsOverridden zone moment offset }
+{
+    if place >= onsets.len() {
+        return false;
+    }
+    let Some(at) = onsets[place].last(moment) else {
+        return false;
+    };
+    for (other, one) in onsets.iter().enumerate() {
+        if one.offset_to != offset {
+            continue;
+        }
+        if is_not_less(one.last(moment), other, at, place) {
+            return false;
+        }
+    }
+    true
+}
+
+/// The first onset after an instant, if it is before a limit, and else the limit.
+pub(crate) fn next_onset(onsets: &[Onsets], after: Moment, limit: Moment) -> Moment
+    requires sound { All IsSound onsets.now }
+    requires limit { after <ℤ limit }
+    ensures after { after <ℤ result }
+    ensures bound { result ≤ℤ limit }
+    ensures next { (zone : List Phase) → AreOnsetsOfAll zone onsets.now → NoneBetween zone after result }
+{
+    let mut next = limit;
+    for one in onsets {
+        next = one.next(after, next);
+    }
+    next
+}
+
+/// An instant after another, before which no later onset begins an offset that shows a later local than this one.
+pub(crate) fn next_past(onsets: &[Onsets], seconds: i64, after: Moment) -> Moment
+    requires sound { All IsSound onsets.now }
+    requires bound { IsMoment seconds }
+    requires limit { after ≤ℤ (seconds +ℤ pos 86_400) }
+    ensures after { after <ℤ result }
+    ensures bound { result ≤ℤ (seconds +ℤ pos 86_401) }
+    ensures next { (zone : List Phase) → AreOnsetsOfAll zone onsets.now → IsNextPast zone seconds after result }
+{
+    let mut next = seconds + DAY + 1;
+    for (place, one) in onsets.iter().enumerate() {
+        let from = after.max(seconds - i64::from(one.offset_to));
+        if next <= from {
+            continue;
+        }
+        next = one.next(from, next);
+    }
+    next
+}

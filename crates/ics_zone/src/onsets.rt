@@ -1,0 +1,230 @@
+//! The onsets of one observance, asked for near an instant.
+ghost use Rattle.std.specs.Prelude.{◌≡◌, ℤ, ◌<ℤ◌, ◌≤ℤ◌, IfOk, IfSome};
+ghost use Rattle.std.specs.List.{Contains};
+ghost use Rattle.std.specs.Option.{option_map};
+ghost use Rattle.ics_zone.specs.Observances.{phase_of, rule_from};
+ghost use Rattle.ics_zone.specs.Latest.{IsInOrder, IsPassed, IsLastOf};
+ghost use Rattle.ics_zone.specs.OnsetSets.{IsKeptAt, Has, IsSound, AreOnsetsOf, IsListing, IsEnd};
+
+use crate::Observance;
+use crate::clock::{instant, number, shown_by};
+use crate::kept::{last_kept, next_kept};
+use ics_rule::{Kind, Rule};
+use ics_values::{Frequency, Moment, Numbers};
+use std::alloc::{AllocError, Global};
+
+const DAY: u64 = 86_400;
+
+/// The onsets of one observance. Those of its rule are not listed: they are looked for where they are asked for.
+#[derive(Drop)]
+pub(crate) struct Onsets {
+    pub offset_from: i32,
+    pub offset_to: i32,
+    /// The instants of DTSTART and of the RDATEs, in order.
+    pub listed: Vec<Moment>,
+    /// RRULE.
+    pub rule: Option<Rule>,
+    /// No onset of the rule is later.
+    pub until: Moment,
+    /// How far back an onset of the rule is looked for at first.
+    pub ago: u64,
+}
+
+// How many instants of a list are not after one.
+fn passed(listed: &[Moment], moment: Moment) -> usize
+    requires { IsInOrder listed.now }
+    ensures { IsPassed listed.now moment result }
+{
+    listed.partition_point(|at| *at <= moment)
+}
+
+// The rule of an observance, from its DTSTART on.
+fn rule_of(observance: &Observance) -> Option<Rule>
+    ensures { result ≡ option_map (rule_from observance.now.start) observance.now.rule }
+{
+    match observance.rule {
+        Some(parts) => Some(Rule::new(parts, observance.start, Kind::DateTime)),
+        None => None,
+    }
+}
+
+// How many numbers a part lists, one where it is absent.
+fn size_of(part: Numbers) -> u64 {
+    let mut size: u64 = 0;
+    for n in 0..64_u8 {
+        if part.has(n) {
+            size = size.saturating_add(1);
+        }
+    }
+    size.max(1)
+}
+
+// About how many seconds lie between the onsets of a rule: a period less what its times of a day make of it.
+fn spacing(observance: &Observance) -> u64 {
+    let Some(parts) = &observance.rule else {
+        return 1;
+    };
+    let days: u64 = match parts.frequency() {
+        Frequency::Yearly => 366,
+        Frequency::Monthly => 31,
+        Frequency::Weekly => 7,
+        _ => 1,
+    };
+    let times = size_of(parts.hours())
+        .saturating_mul(size_of(parts.minutes()))
+        .saturating_mul(size_of(parts.seconds()));
+    let period = days
+        .saturating_mul(DAY)
+        .saturating_mul(u64::from(parts.interval()));
+    period / times.max(1)
+}
+
+// The last instant at which a rule may have an onset: a UTC UNTIL, where there is one.
+fn end_of(rule: &Option<Rule>) -> Moment
+    ensures { IfSome rule.now (IsEnd result) }
+{
+    match rule {
+        Some(rule) => rule.until_moment().unwrap_or(Moment::MAX),
+        None => Moment::MAX,
+    }
+}
+
+// The instants of DTSTART and of the RDATEs, in order.
+fn listed(alloc: Global, observance: &Observance) -> Result<Vec<Moment>, AllocError>
+    ensures { IfOk result (λ listed. IsListing (phase_of observance.now) listed.items) }
+{
+    let mut listed = Vec::new(alloc);
+    listed.push(instant(observance.offset_from, number(observance.start)))?;
+    for rdate in &observance.rdates {
+        listed.push(instant(observance.offset_from, number(*rdate)))?;
+    }
+    listed.sort_unstable();
+    Ok(listed)
+}
+
+impl Onsets {
+    /// The onsets of an observance.
+    pub fn of(alloc: Global, observance: &Observance) -> Result<Onsets, AllocError>
+        ensures { IfOk result (AreOnsetsOf (phase_of observance.now)) }
+    {
+        let listed = listed(alloc, observance)?;
+        let rule = rule_of(observance);
+        let until = end_of(&rule);
+        let ago = spacing(observance);
+        Ok(Onsets {
+            offset_from: observance.offset_from,
+            offset_to: observance.offset_to,
+            listed,
+            rule,
+            until,
+            ago,
+        })
+    }
+
+    /// The first onset.
+    pub fn first(&self) -> Moment
+        requires { IsSound self.now }
+        ensures is { Has self.now result }
+        ensures first { (t : ℤ) → Has self.now t → result ≤ℤ t }
+    {
+        self.listed[0]
+    }
+
+    // The last that is listed and not after an instant.
+    fn last_listed(&self, moment: Moment) -> Option<Moment>
+        requires { IsSound self.now }
+        ensures { IsLastOf (Contains self.now.listed.items) moment result }
+    {
+        let passed = passed(&self.listed, moment);
+        if passed == 0 {
+            None
+        } else {
+            Some(self.listed[passed - 1])
+        }
+    }
+
+    // The last that the rule keeps and that is not after an instant.
+    fn last_by_rule(&self, moment: Moment) -> Option<Moment>
+        requires { IsSound self.now }
+        ensures { IsLastOf (IsKeptAt self.now) moment result }
+    {
+        let Some(rule) = &self.rule else {
+            return None;
+        };
+        let end = shown_by(self.offset_from, moment.min(self.until));
+        match last_kept(rule, self.ago, end) {
+            Some(kept) => Some(instant(self.offset_from, kept)),
+            None => None,
+        }
+    }
+
+    /// The last onset that is not after an instant.
+    pub fn last(&self, moment: Moment) -> Option<Moment>
+        requires { IsSound self.now }
+        ensures { IsLastOf (Has self.now) moment result }
+    {
+        if moment < self.first() {
+            None
+        } else {
+            self.last_of_both(moment)
+        }
+    }
+
+    // The same, asked of what is listed and of the rule.
+    fn last_of_both(&self, moment: Moment) -> Option<Moment>
+        requires { IsSound self.now }
+        ensures { IsLastOf (Has self.now) moment result }
+    {
+        match (self.last_listed(moment), self.last_by_rule(moment)) {
+            (Some(listed), Some(kept)) => Some(listed.max(kept)),
+            (Some(listed), None) => Some(listed),
+            (None, kept) => kept,
+        }
+    }
+
+    // The first onset of the rule after an instant, if it is before the limit, and else the limit.
+    fn next_by_rule(&self, after: Moment, limit: Moment) -> Moment
+        requires sound { IsSound self.now }
+        requires limit { after <ℤ limit }
+        ensures after { after <ℤ result }
+        ensures bound { result ≤ℤ limit }
+        ensures next { (t : ℤ) → IsKeptAt self.now t → after <ℤ t → result ≤ℤ t }
+    {
+        let Some(rule) = &self.rule else {
+            return limit;
+        };
+        let from = shown_by(self.offset_from, after);
+        let end = shown_by(self.offset_from, limit.min(self.until));
+        match next_kept(rule, from, end) {
+            Some(kept) => instant(self.offset_from, kept),
+            None => limit,
+        }
+    }
+
+    // The first that is listed after an instant, if it is before the limit, and else the limit.
+    fn next_listed(&self, after: Moment, limit: Moment) -> Moment
+        requires sound { IsSound self.now }
+        requires limit { after <ℤ limit }
+        ensures after { after <ℤ result }
+        ensures bound { result ≤ℤ limit }
+        ensures next { (t : ℤ) → Contains self.now.listed.items t → after <ℤ t → result ≤ℤ t }
+    {
+        let passed = passed(&self.listed, after);
+        if passed == self.listed.len() {
+            return limit;
+        }
+        self.listed[passed].min(limit)
+    }
+
+    /// The first onset after an instant, if it is before the limit, and else the limit.
+    pub fn next(&self, after: Moment, limit: Moment) -> Moment
+        requires sound { IsSound self.now }
+        requires limit { after <ℤ limit }
+        ensures after { after <ℤ result }
+        ensures bound { result ≤ℤ limit }
+        ensures next { (t : ℤ) → Has self.now t → after <ℤ t → result ≤ℤ t }
+    {
+        let kept = self.next_by_rule(after, limit);
+        self.next_listed(after, kept)
+    }
+}
