@@ -1,11 +1,13 @@
 -- The second round looks at the zones of each event's stamps, and at its end against its start.
-use Rattle.std.proofs.Common.{◌≡◌, ℕ, Bool, true, false, List, [], ◌∷◌, ◌++◌, map, refl, ap, subst, ◌∙◌, cond, Option, Some, None, IfSome, Result, Ok, Err}
+use Rattle.std.proofs.Common.{◌≡◌, ℕ, Bool, true, false, List, [], ◌∷◌, ◌++◌, map, refl, sym, ap, subst, ◌∙◌, cond, Option, Some, None, IfSome}
 use Rattle.std.specs.List.{All, Contains, list_any}
 use Rattle.std.proofs.lemmas.List.{map-append}
-use Rattle.std.proofs.lemmas.List.Elements.{All-nil, All-cons, All-push, Contains-append_left, Contains-push}
+use Rattle.std.proofs.lemmas.List.Elements.{All-nil, All-cons, All-push, All-weaker, Contains-append_left, Contains-push}
 use Rattle.ics_values.specs.declared.stamp.Stamp.{Stamp}
 use Rattle.ics_values.specs.declared.stamp.Stamp.TheVariants as stamp
-use Rattle.ics_values.specs.declared.stamp.StampFault.{StampFault}
+use Rattle.ics_values.specs.declared.duration.Duration.{Duration}
+use Rattle.ics_text.specs.Bytes.{upper}
+use Rattle.ics_text.specs.Contents.{Parts}
 use Rattle.ics_calendar.specs.declared.collected.Collected.{Collected}
 use Rattle.ics_calendar.specs.declared.component.Place.{Place}
 use Rattle.ics_calendar.specs.declared.component.Place.TheVariants as place
@@ -18,26 +20,28 @@ use Rattle.ics_calendar.specs.declared.later.Instant.TheVariants as instant
 use Rattle.ics_calendar.specs.declared.later.Later.{Later}
 use Rattle.ics_calendar.specs.declared.later.Later.TheVariants as later
 use Rattle.ics_calendar.specs.declared.later.ZoneName.{ZoneName}
-use Rattle.ics_calendar.specs.declared.property.Property.{Property}
-use Rattle.ics_calendar.specs.declared.property.Property.TheVariants as property
+use Rattle.ics_calendar.specs.declared.component.Component.{Component}
+use Rattle.ics_calendar.specs.declared.name.Name.{Name}
+use Rattle.ics_calendar.specs.declared.name.Name.TheVariants as name
 use Rattle.ics_calendar.specs.declared.summary.Summary.{Summary}
 use Rattle.ics_calendar.specs.declared.summary.Summary.TheVariants as summary
-use Rattle.ics_calendar.specs.Collecting.{or_first, note_event}
-use Rattle.ics_calendar.specs.Components.{place_in}
-use Rattle.ics_calendar.specs.DateLists.{zone_listed}
+use Rattle.ics_calendar.specs.Collecting.{event_ended}
+use Rattle.ics_calendar.specs.Components.{component_of, place_in}
+use Rattle.ics_calendar.specs.DateLists.{zone_listed, rdate_list, exdate_list}
 use Rattle.ics_calendar.specs.DateValues.{has_zoned}
-use Rattle.ics_calendar.specs.Event.{seconds_of}
-use Rattle.ics_calendar.specs.GatheredSound.{IsAwaited, IsSoundInstant, IsSoundLater}
+use Rattle.ics_calendar.specs.Event.{seconds_of, is_zoned}
+use Rattle.ics_calendar.specs.GatheredSound.{IsSoundInstant, IsSoundLater}
 use Rattle.ics_calendar.specs.Gathering.{waits_of, events_of_end}
 use Rattle.ics_calendar.specs.Laters.{zone_used, are_of_one_zone}
-use Rattle.ics_calendar.specs.LineFaults.{used_zone, used_in, listed_zone, instant_on, instant_in, both_compared, ends_in, later_end, later_in, later_on}
-use Rattle.ics_calendar.specs.Pass.{noted, closed, behind, ended_as, ends}
-use Rattle.ics_calendar.specs.Ready.{EachZone}
+use Rattle.ics_calendar.specs.Lines.{or_first, used_zone, used_in, listed_zone, instant_on, instant_in, both_compared, ends_in, begin_in, opened}
+use Rattle.ics_calendar.specs.Ready.{EachZone, end_of}
+use Rattle.ics_calendar.specs.Times.{dated_in, given_length}
 use Rattle.ics_calendar.specs.Sound.{IsSoundStamp}
-use Rattle.ics_calendar.specs.Summaries.{fresh, note}
-use Rattle.ics_calendar.specs.Values.{is_zoned_stamp, is_out}
-use Rattle.ics_calendar.proofs.Listed.{each-weaker}
-use Rattle.ics_calendar.proofs.Sound.{IsSoundAt, AreSound}
+use Rattle.ics_calendar.specs.Summaries.{fresh}
+use Rattle.ics_calendar.specs.Values.{dated_of, is_out}
+use Rattle.ics_calendar.proofs.Judged.{event_note, event_later, summary_note, summary_later, later_end, later_in, closed, behind, ends, ended_as, is_begin_name, is_end_name, behind-is, later-is}
+use Rattle.ics_calendar.proofs.Listed.{some-weaker}
+use Rattle.ics_calendar.proofs.Sound.{IsSoundAt}
 
 abbrev pub laters : List Waiting → List Later
 laters waits = map (λ (w : Waiting). w.later) waits
@@ -59,24 +63,43 @@ some-here waits None = tt
 some-here waits (Some l) = Contains-push waits l
 
 -- WHAT IS COLLECTED of an event so far: the second round looks at the zones of its stamps.
-abbrev IsAwaitedIn : List Later → ℕ → Summary → Type 0
-IsAwaitedIn waits calendar (summary.Event had) = EachZone (Contains waits) calendar had
+pub record AreLooked (waits : List Later) (calendar : ℕ) (had : Collected) : Type 0 where
+  pub start : IfSome (used_in calendar had.start) (Contains waits)
+  pub end : IfSome (used_in calendar had.end) (Contains waits)
+  pub rdates : All (λ list. IfSome (listed_zone calendar list) (Contains waits)) had.rdates
+  pub exdates : All (λ list. IfSome (listed_zone calendar list) (Contains waits)) had.exdates
+  pub recurrence : IfSome (used_in calendar had.recurrence) (Contains waits)
+
+abbrev pub IsAwaitedIn : List Later → ℕ → Summary → Type 0
+IsAwaitedIn waits calendar (summary.Event had) = AreLooked waits calendar had
 IsAwaitedIn waits calendar _ = Unit {0}
 
 abbrev pub AreAwaited : List Later → List Frame → Type 0
 AreAwaited waits [] = Unit {0}
 AreAwaited waits (f ∷ fs) = IsAwaitedIn waits f.calendar f.summary × AreAwaited waits fs
 
-pub zones-more : (waits more : List Later) (calendar : ℕ) (had : Collected) → EachZone (Contains waits) calendar had → EachZone (Contains (waits ++ more)) calendar had
-zones-more waits more = each-weaker (Contains waits) (Contains (waits ++ more)) (λ l. Contains-append_left waits more l)
+some-more : (waits more : List Later) (o : Option Later) → IfSome o (Contains waits) → IfSome o (Contains (waits ++ more))
+some-more waits more = some-weaker (Contains waits) (Contains (waits ++ more)) (λ l. Contains-append_left waits more l)
+
+looked-more : (waits more : List Later) (k : ℕ) (had : Collected) → AreLooked waits k had → AreLooked (waits ++ more) k had
+looked-more waits more k had z = record {
+  start = some-more waits more (used_in k had.start) z.start;
+  end = some-more waits more (used_in k had.end) z.end;
+  rdates = lists had.rdates z.rdates;
+  exdates = lists had.exdates z.exdates;
+  recurrence = some-more waits more (used_in k had.recurrence) z.recurrence;
+}
+  where
+    lists : (ls : List DateList) → All (λ list. IfSome (listed_zone k list) (Contains waits)) ls → All (λ list. IfSome (listed_zone k list) (Contains (waits ++ more))) ls
+    lists = All-weaker (λ list. IfSome (listed_zone k list) (Contains waits)) (λ list. IfSome (listed_zone k list) (Contains (waits ++ more))) (λ list h. some-more waits more (listed_zone k list) h)
 
 awaited-more : (waits more : List Later) (calendar : ℕ) (s : Summary) → IsAwaitedIn waits calendar s → IsAwaitedIn (waits ++ more) calendar s
-awaited-more waits more k (summary.Event had) h = zones-more waits more k had h
+awaited-more waits more k (summary.Event had) h = looked-more waits more k had h
 awaited-more waits more k (summary.Zone had) h = tt
 awaited-more waits more k (summary.Observance had) h = tt
 awaited-more waits more k summary.Nothing h = tt
 
-pub are-awaited-more : (waits more : List Later) (frames : List Frame) → AreAwaited waits frames → AreAwaited (waits ++ more) frames
+are-awaited-more : (waits more : List Later) (frames : List Frame) → AreAwaited waits frames → AreAwaited (waits ++ more) frames
 are-awaited-more waits more [] h = tt
 are-awaited-more waits more (f ∷ fs) h = (awaited-more waits more f.calendar f.summary h.0, are-awaited-more waits more fs h.1)
 
@@ -89,23 +112,25 @@ last-looked : (waits : List Later) (calendar : ℕ) (lists : List DateList) (lis
     All (λ l. IfSome (listed_zone calendar l) (Contains (waits ++ one (listed_zone calendar list)))) (lists ++ list ∷ [])
 last-looked waits k lists list h = All-push (λ l. IfSome (listed_zone k l) (Contains (waits ++ one (listed_zone k list)))) lists list h (some-here waits (listed_zone k list))
 
-event-noted : (waits : List Later) (p : Property) (f : Frame) (had : Collected) → EachZone (Contains waits) f.calendar had → EachZone (Contains (waits ++ one (later_in p f))) f.calendar (note_event p had)
-event-noted waits p f had h = by_kind p (zones-more waits (one (later_in p f)) f.calendar had h)
-  where
-    by_kind : (p : Property) → EachZone (Contains (waits ++ one (later_in p f))) f.calendar had → EachZone (Contains (waits ++ one (later_in p f))) f.calendar (note_event p had)
-    by_kind (property.Dtstart dated) z = record { start = first-looked waits f.calendar had.start dated z.start; end = z.end; rdates = z.rdates; exdates = z.exdates; recurrence = z.recurrence }
-    by_kind (property.Dtend dated) z = record { start = z.start; end = first-looked waits f.calendar had.end dated z.end; rdates = z.rdates; exdates = z.exdates; recurrence = z.recurrence }
-    by_kind (property.RecurrenceId dated range) z =
-        record { start = z.start; end = z.end; rdates = z.rdates; exdates = z.exdates; recurrence = first-looked waits f.calendar had.recurrence dated z.recurrence }
-    by_kind (property.Rdate list) z = record { start = z.start; end = z.end; rdates = last-looked waits f.calendar had.rdates list z.rdates; exdates = z.exdates; recurrence = z.recurrence }
-    by_kind (property.Exdate list) z = record { start = z.start; end = z.end; rdates = z.rdates; exdates = last-looked waits f.calendar had.exdates list z.exdates; recurrence = z.recurrence }
-    by_kind _ z = record { start = z.start; end = z.end; rdates = z.rdates; exdates = z.exdates; recurrence = z.recurrence }
+event-noted : (waits : List Later) (k : ℕ) (n : Name) (v : Parts) (had : Collected) → AreLooked (waits ++ one (event_later k n v)) k had → AreLooked (waits ++ one (event_later k n v)) k (event_note n v had)
+event-noted waits k name.Dtstart v had z = record { start = first-looked waits k had.start (dated_of v.params v.value) z.start; end = z.end; rdates = z.rdates; exdates = z.exdates; recurrence = z.recurrence }
+event-noted waits k name.Dtend v had z = record { start = z.start; end = first-looked waits k had.end (dated_of v.params v.value) z.end; rdates = z.rdates; exdates = z.exdates; recurrence = z.recurrence }
+event-noted waits k name.RecurrenceId v had z = record { start = z.start; end = z.end; rdates = z.rdates; exdates = z.exdates; recurrence = first-looked waits k had.recurrence (dated_of v.params v.value) z.recurrence }
+event-noted waits k name.Rdate v had z = record { start = z.start; end = z.end; rdates = last-looked waits k had.rdates (rdate_list v.params v.value) z.rdates; exdates = z.exdates; recurrence = z.recurrence }
+event-noted waits k name.Exdate v had z = record { start = z.start; end = z.end; rdates = z.rdates; exdates = last-looked waits k had.exdates (exdate_list v.params v.value) z.exdates; recurrence = z.recurrence }
+event-noted waits k _ v had z = record { start = z.start; end = z.end; rdates = z.rdates; exdates = z.exdates; recurrence = z.recurrence }
 
-noted-awaited : (waits : List Later) (p : Property) (f : Frame) (s : Summary) → IsAwaitedIn waits f.calendar s → IsAwaitedIn (waits ++ one (later_in p f)) f.calendar (note p s)
-noted-awaited waits p f (summary.Event had) h = event-noted waits p f had h
-noted-awaited waits p f (summary.Zone had) h = tt
-noted-awaited waits p f (summary.Observance had) h = tt
-noted-awaited waits p f summary.Nothing h = tt
+noted-awaited : (waits : List Later) (k : ℕ) (n : Name) (v : Parts) (s : Summary) → IsAwaitedIn waits k s → IsAwaitedIn (waits ++ one (summary_later k n v s)) k (summary_note n v s)
+noted-awaited waits k n v (summary.Event had) h = event-noted waits k n v had (looked-more waits (one (event_later k n v)) k had h)
+noted-awaited waits k n v (summary.Zone had) h = tt
+noted-awaited waits k n v (summary.Observance had) h = tt
+noted-awaited waits k n v summary.Nothing h = tt
+
+begun-awaited : (waits : List Later) (k : ℕ) (c : Component) (s : Summary) → IsAwaitedIn waits k s → IsAwaitedIn waits k (begin_in c s)
+begun-awaited waits k c (summary.Event had) h = h
+begun-awaited waits k c (summary.Zone had) h = tt
+begun-awaited waits k c (summary.Observance had) h = tt
+begun-awaited waits k c summary.Nothing h = tt
 
 fresh-awaited : (waits : List Later) (calendar : ℕ) (q : Place) → IsAwaitedIn waits calendar (fresh q)
 fresh-awaited waits k place.Event = record {
@@ -117,61 +142,72 @@ fresh-awaited waits k place.Event = record {
 }
 fresh-awaited waits k _ = tt
 
-all-noted : (waits : List Later) (p : Property) (frames : List Frame) → AreAwaited waits frames → AreAwaited (waits ++ one (later_on p frames)) (noted p frames)
-all-noted waits p [] h = tt
-all-noted waits p (f ∷ fs) h = (noted-awaited waits p f f.summary h.0, are-awaited-more waits (one (later_in p f)) fs h.1)
-
-closed-awaited : (waits : List Later) (frames : List Frame) → AreAwaited waits frames → AreAwaited waits (closed frames)
-closed-awaited waits [] h = tt
-closed-awaited waits (f ∷ []) h = h
-closed-awaited waits (f ∷ g ∷ gs) h = h.1
+closed-awaited : (waits : List Later) (f : Frame) (fs : List Frame) → AreAwaited waits (f ∷ fs) → AreAwaited waits (closed (f ∷ fs))
+closed-awaited waits f [] h = h
+closed-awaited waits f (g ∷ gs) h = h.1
 
 -- a line keeps it
-pub awaited-behind : (waits : List Later) (number : ℕ) (p : Property) (frames : List Frame) → AreAwaited waits frames → AreAwaited (waits ++ one (later_on p frames)) (behind number p frames)
-awaited-behind waits number p [] h = by_kind p
+pub awaited-behind : (waits : List Later) (number : ℕ) (n : Name) (v : Parts) (f : Frame) (fs : List Frame) → AreAwaited waits (f ∷ fs) → AreAwaited (waits ++ one (later_in n v f)) (behind number n v (f ∷ fs))
+awaited-behind waits number n v f fs h = rw (later-is n v f, behind-is number n v f fs) (by_tests (is_begin_name n) (is_end_name n))
   where
-    by_kind : (q : Property) → AreAwaited (waits ++ []) (behind number q [])
-    by_kind (property.Begin c) = tt
-    by_kind (property.End m) = tt
-    by_kind _ = tt
-awaited-behind waits number p (f ∷ fs) h = by_kind p refl
-  where
-    more : List Later
-    more = waits ++ one (later_in p f)
+    c : Component
+    c = component_of (map upper v.value)
 
-    kept : AreAwaited more (noted p (f ∷ fs))
-    kept = all-noted waits p (f ∷ fs) h
-
-    by_kind : (q : Property) → p ≡ q → AreAwaited more (behind number q (f ∷ fs))
-    by_kind (property.Begin c) e = (fresh-awaited more _ (place_in f.place c), subst (λ (r : Property). AreAwaited more (noted r (f ∷ fs))) e kept)
-    by_kind (property.End m) e = closed-awaited more (f ∷ fs) (are-awaited-more waits (one (later_in p f)) (f ∷ fs) h)
-    by_kind _ e = subst (λ (gs : List Frame). AreAwaited more gs) (ap (λ (r : Property). noted r (f ∷ fs)) e) kept
+    by_tests : (b e : Bool) → AreAwaited (waits ++ one (cond b None (cond e (later_end f.calendar f.summary) (summary_later f.calendar n v f.summary))))
+        (cond b (opened number c (f ∷ fs)) (cond e (closed (f ∷ fs)) (record f { summary = summary_note n v f.summary } ∷ fs)))
+    by_tests true e = (fresh-awaited (waits ++ []) _ (place_in f.place c), (begun-awaited (waits ++ []) f.calendar c f.summary (awaited-more waits [] f.calendar f.summary h.0), are-awaited-more waits [] fs h.1))
+    by_tests false true = closed-awaited (waits ++ one (later_end f.calendar f.summary)) f fs (are-awaited-more waits (one (later_end f.calendar f.summary)) (f ∷ fs) h)
+    by_tests false false = (noted-awaited waits f.calendar n v f.summary h.0, are-awaited-more waits (one (summary_later f.calendar n v f.summary)) fs h.1)
 
 -- AN EVENT THAT ENDS is awaited.
-pub ended-awaited : (waits : List Later) (p : Property) (frames : List Frame) → AreAwaited waits frames → All (IsAwaited (waits ++ one (later_on p frames))) (events_of_end (ends p frames))
-ended-awaited waits (property.End true) [] h = All-nil (IsAwaited (waits ++ []))
-ended-awaited waits (property.End true) (f ∷ []) h = All-nil (IsAwaited (waits ++ one (later_in (property.End true) f)))
-ended-awaited waits (property.End true) (f ∷ g ∷ gs) h = by_summary f.summary h.0
+start-looked : (waits : List Later) (k : ℕ) (o : Option Dated) → IfSome (used_in k o) (Contains waits) → IfSome (used_zone k (dated_in o)) (Contains waits)
+start-looked waits k (Some d) h = h
+start-looked waits k None h = tt
+
+end-looked : (waits : List Later) (k : ℕ) (o : Option Dated) (d : Option Duration) → IfSome (used_in k o) (Contains waits) → IfSome (used_in k (end_of (given_length o d))) (Contains waits)
+end-looked waits k (Some e) d h = h
+end-looked waits k None (Some d) h = tt
+end-looked waits k None None h = tt
+
+length-looked : (waits : List Later) (k : ℕ) (s e : Option Dated) (d : Option Duration) → IfSome (ends_in k s e) (Contains waits) → IfSome (ends_in k (Some (dated_in s)) (end_of (given_length e d))) (Contains waits)
+length-looked waits k (Some s) (Some e) d h = h
+length-looked waits k None (Some e) d h = tt
+length-looked waits k (Some s) None (Some d) h = tt
+length-looked waits k (Some s) None None h = tt
+length-looked waits k None None (Some d) h = tt
+length-looked waits k None None None h = tt
+
+pub ended-awaited : (waits : List Later) (n : Name) (v : Parts) (f : Frame) (fs : List Frame) → AreAwaited waits (f ∷ fs) → All (EachZone (Contains (waits ++ one (later_in n v f)))) (events_of_end (ends n (f ∷ fs)))
+ended-awaited waits name.End v f [] h = All-nil (EachZone (Contains (waits ++ one (later_end f.calendar f.summary))))
+ended-awaited waits name.End v f (g ∷ gs) h = by_summary f.summary h.0
   where
-    by_summary : (s : Summary) → IsAwaitedIn waits f.calendar s → All (IsAwaited (waits ++ one (later_end f.calendar s))) (events_of_end (ended_as f g.begun s))
+    by_summary : (s : Summary) → IsAwaitedIn waits f.calendar s → All (EachZone (Contains (waits ++ one (later_end f.calendar s)))) (events_of_end (ended_as f g.begun s))
     by_summary (summary.Event had) h =
-        let late : Option Later = ends_in f.calendar had.start had.end in
-        All-cons (IsAwaited (waits ++ one late)) (record { calendar = f.calendar; had = had }) []
-        (record { zones = zones-more waits (one late) f.calendar had h; length = some-here waits late })
-        (All-nil (IsAwaited (waits ++ one late)))
-    by_summary (summary.Zone had) h = All-nil (IsAwaited (waits ++ []))
-    by_summary (summary.Observance had) h = All-nil (IsAwaited (waits ++ []))
-    by_summary summary.Nothing h = All-nil (IsAwaited (waits ++ []))
-ended-awaited waits (property.End false) frames h = All-nil (IsAwaited (waits ++ one (later_on (property.End false) frames)))
-ended-awaited waits _ frames h = All-nil _
+        let k : ℕ = f.calendar in
+        let late : Option Later = ends_in k had.start had.end in
+        let more : List Later = waits ++ one late in
+        let z : AreLooked more k had = looked-more waits (one late) k had h in
+        All-cons (EachZone (Contains more)) (event_ended k had) []
+        (record {
+          start = start-looked more k had.start z.start;
+          end = end-looked more k had.end had.duration z.end;
+          rdates = z.rdates;
+          exdates = z.exdates;
+          recurrence = z.recurrence;
+          length = length-looked more k had.start had.end had.duration (some-here waits late);
+        })
+        (All-nil (EachZone (Contains more)))
+    by_summary (summary.Zone had) h = All-nil (EachZone (Contains (waits ++ [])))
+    by_summary (summary.Observance had) h = All-nil (EachZone (Contains (waits ++ [])))
+    by_summary summary.Nothing h = All-nil (EachZone (Contains (waits ++ [])))
+ended-awaited waits _ v f fs h = All-nil _
 
 -- WHAT THE SECOND ROUND LOOKS AT lies in the years of stamps.
-instant-sound : (name : ZoneName) (r : Result Stamp StampFault) → IsSoundStamp r → IfSome (instant_on name r) IsSoundInstant
-instant-sound name (Ok (stamp.Utc local)) h = tt
-instant-sound name (Ok (stamp.Zoned local)) h = h
-instant-sound name (Ok (stamp.Date day)) h = tt
-instant-sound name (Ok (stamp.Floating local)) h = tt
-instant-sound name (Err fault) h = tt
+instant-sound : (name : ZoneName) (r : Stamp) → IsSoundStamp r → IfSome (instant_on name r) IsSoundInstant
+instant-sound name (stamp.Utc local) h = tt
+instant-sound name (stamp.Zoned local) h = h
+instant-sound name (stamp.Date day) h = tt
+instant-sound name (stamp.Floating local) h = tt
 
 compared-sound : (a b : Option Instant) → IfSome a IsSoundInstant → IfSome b IsSoundInstant → IfSome (both_compared a b) IsSoundLater
 compared-sound None b h k = tt
@@ -195,7 +231,7 @@ ends-sound k (Some a) (Some b) h i = by_test (are_of_one_zone a b)
     by_test false = compared-sound (instant_in k a) (instant_in k b) (instant-sound (zone_used k a) a.stamp h) (instant-sound (zone_used k b) b.stamp i)
 
 zone-sound : (calendar : ℕ) (dated : Dated) → IfSome (used_zone calendar dated) IsSoundLater
-zone-sound k dated = by_test (is_zoned_stamp dated.stamp)
+zone-sound k dated = by_test (is_zoned dated.stamp)
   where
     by_test : (t : Bool) → IfSome (cond t (Some (later.Zone (zone_used k dated))) None) IsSoundLater
     by_test true = tt
@@ -215,19 +251,30 @@ end-sound k q (summary.Zone had) h = tt
 end-sound k q (summary.Observance had) h = tt
 end-sound k q summary.Nothing h = tt
 
-later-sound : (p : Property) (frames : List Frame) → AreSound frames → IfSome (later_on p frames) IsSoundLater
-later-sound p [] s = tt
-later-sound (property.End true) (f ∷ fs) s = end-sound f.calendar f.place f.summary s.0
-later-sound (property.End false) (f ∷ fs) s = tt
-later-sound (property.Dtstart dated) (f ∷ fs) s = zone-sound f.calendar dated
-later-sound (property.Dtend dated) (f ∷ fs) s = zone-sound f.calendar dated
-later-sound (property.RecurrenceId dated range) (f ∷ fs) s = zone-sound f.calendar dated
-later-sound (property.Rdate list) (f ∷ fs) s = listed-sound f.calendar list
-later-sound (property.Exdate list) (f ∷ fs) s = listed-sound f.calendar list
-later-sound _ (f ∷ fs) s = tt
+event-later-sound : (k : ℕ) (n : Name) (v : Parts) → IfSome (event_later k n v) IsSoundLater
+event-later-sound k name.Dtstart v = zone-sound k (dated_of v.params v.value)
+event-later-sound k name.Dtend v = zone-sound k (dated_of v.params v.value)
+event-later-sound k name.RecurrenceId v = zone-sound k (dated_of v.params v.value)
+event-later-sound k name.Rdate v = listed-sound k (rdate_list v.params v.value)
+event-later-sound k name.Exdate v = listed-sound k (exdate_list v.params v.value)
+event-later-sound k _ v = tt
 
-pub waits-sound : (number : ℕ) (p : Property) (frames : List Frame) → AreSound frames → All (λ w. IsSoundLater w.later) (waits_of number (later_on p frames))
-waits-sound number p frames s = by_option (later_on p frames) (later-sound p frames s)
+summary-later-sound : (k : ℕ) (n : Name) (v : Parts) (s : Summary) → IfSome (summary_later k n v s) IsSoundLater
+summary-later-sound k n v (summary.Event had) = event-later-sound k n v
+summary-later-sound k n v (summary.Zone had) = tt
+summary-later-sound k n v (summary.Observance had) = tt
+summary-later-sound k n v summary.Nothing = tt
+
+later-sound : (n : Name) (v : Parts) (f : Frame) → IsSoundAt f.place f.summary → IfSome (later_in n v f) IsSoundLater
+later-sound n v f h = subst (λ (o : Option Later). IfSome o IsSoundLater) (sym (later-is n v f)) (by_tests (is_begin_name n) (is_end_name n))
+  where
+    by_tests : (b e : Bool) → IfSome (cond b None (cond e (later_end f.calendar f.summary) (summary_later f.calendar n v f.summary))) IsSoundLater
+    by_tests true e = tt
+    by_tests false true = end-sound f.calendar f.place f.summary h
+    by_tests false false = summary-later-sound f.calendar n v f.summary
+
+pub waits-sound : (number : ℕ) (n : Name) (v : Parts) (f : Frame) → IsSoundAt f.place f.summary → All (λ w. IsSoundLater w.later) (waits_of number (later_in n v f))
+waits-sound number n v f s = by_option (later_in n v f) (later-sound n v f s)
   where
     by_option : (o : Option Later) → IfSome o IsSoundLater → All (λ w. IsSoundLater w.later) (waits_of number o)
     by_option None h = All-nil (λ w. IsSoundLater w.later)

@@ -14,10 +14,11 @@ use Rattle.ics_calendar.specs.declared.name.Name.TheVariants as name
 use Rattle.ics_calendar.specs.DateLists.{rdate_list, exdate_list}
 use Rattle.ics_calendar.specs.Names.{name_of}
 use Rattle.ics_calendar.specs.Placed.{Placed, property_name, value, value_of, params_of, is_named, first_named, first_of, all_named}
-use Rattle.ics_calendar.specs.Values.{dated_of, lasting_of, ok_or_zero, is_cancelled}
-use Rattle.ics_calendar.specs.Faults.{dated_on, lasting_on, rule_on, rdates_on, exdates_on}
-use Rattle.ics_calendar.specs.Reading.{event_property}
-use Rattle.ics_calendar.specs.Collecting.{collected_of, or_first, note_event}
+use Rattle.ics_calendar.specs.Values.{dated_of, lasting_of, duration_in, rule_in, ok_or_zero, is_cancelled}
+use Rattle.ics_calendar.specs.Faults.{dated_on, duration_on, parts_on, rdates_on, exdates_on}
+use Rattle.ics_calendar.specs.Collecting.{collected_of}
+use Rattle.ics_calendar.specs.Lines.{or_first}
+use Rattle.ics_calendar.proofs.Judged.{event_note}
 use Rattle.ics_calendar.proofs.NameLemmas.{Tells, tells}
 
 -- what all lines of a name say, with one line more
@@ -61,8 +62,8 @@ noted : (n : Name) (u : List ℕ) (v : Parts) (had : Collected) → Tells u n �
       uid = cond (bytes_eq u (codes "UID")) (or_first had.uid (text_of v.value)) had.uid;
       start = cond (bytes_eq u (codes "DTSTART")) (or_first had.start (dated_of v.params v.value)) had.start;
       end = cond (bytes_eq u (codes "DTEND")) (or_first had.end (dated_of v.params v.value)) had.end;
-      duration = cond (bytes_eq u (codes "DURATION")) (or_first had.duration (lasting_of v.value)) had.duration;
-      rule = cond (bytes_eq u (codes "RRULE")) (or_first had.rule (rule_of v.value)) had.rule;
+      duration = cond (bytes_eq u (codes "DURATION")) (or_first had.duration (duration_in (lasting_of v.value))) had.duration;
+      rule = cond (bytes_eq u (codes "RRULE")) (or_first had.rule (rule_in (rule_of v.value))) had.rule;
       rdates = cond (bytes_eq u (codes "RDATE")) (had.rdates ++ rdate_list v.params v.value ∷ []) had.rdates;
       exdates = cond (bytes_eq u (codes "EXDATE")) (had.exdates ++ exdate_list v.params v.value ∷ []) had.exdates;
       recurrence = cond (bytes_eq u (codes "RECURRENCE-ID")) (or_first had.recurrence (dated_of v.params v.value)) had.recurrence;
@@ -71,7 +72,7 @@ noted : (n : Name) (u : List ℕ) (v : Parts) (had : Collected) → Tells u n �
       location = cond (bytes_eq u (codes "LOCATION")) (or_first had.location (text_of v.value)) had.location;
       description = cond (bytes_eq u (codes "DESCRIPTION")) (or_first had.description (text_of v.value)) had.description;
       cancelled = cond (bytes_eq u (codes "STATUS")) (or_first had.cancelled (is_cancelled v.value)) had.cancelled;
-    } ≡ note_event (event_property n v) had
+    } ≡ event_note n v had
 noted name.Begin u v had e = rw e refl
 noted name.End u v had e = rw e refl
 noted name.Uid u v had e = rw e refl
@@ -95,14 +96,14 @@ noted name.OffsetTo u v had e = rw e refl
 noted name.Other u v had e = simp (e.no_uid, e.no_dtstart, e.no_dtend, e.no_duration, e.no_rrule, e.no_rdate, e.no_exdate, e.no_recurrence_id, e.no_sequence, e.no_summary, e.no_location, e.no_description, e.no_status) refl
 
 -- WHAT IS COLLECTED of an event, with one line more.
-pub collected_of-more : (ls : List Placed) (l : Placed) → collected_of (ls ++ l ∷ []) ≡ note_event (event_property (name_of (property_name l.content)) (parts_at l)) (collected_of ls)
+pub collected_of-more : (ls : List Placed) (l : Placed) → collected_of (ls ++ l ∷ []) ≡ event_note (name_of (property_name l.content)) (parts_at l) (collected_of ls)
 collected_of-more ls l =
     rw (
       kept-more (λ l. text_of (value l)) (codes "UID") ls l,
       kept-more dated_on (codes "DTSTART") ls l,
       kept-more dated_on (codes "DTEND") ls l,
-      kept-more lasting_on (codes "DURATION") ls l,
-      kept-more rule_on (codes "RRULE") ls l,
+      kept-more duration_on (codes "DURATION") ls l,
+      kept-more parts_on (codes "RRULE") ls l,
       named-more rdates_on (codes "RDATE") ls l,
       named-more exdates_on (codes "EXDATE") ls l,
       kept-more dated_on (codes "RECURRENCE-ID") ls l,

@@ -1,6 +1,6 @@
 -- The values of RDATE and EXDATE, as they are read.
-use Rattle.std.proofs.Common.{◌≡◌, ℕ, ◌+◌, Bool, true, false, ◌==◌, ◌&&◌, ◌||◌, not, List, [], ◌∷◌, length, take, drop, refl, sym, ap, ◌∙◌, cond, arith, inl, inr, Some, None, Result, Ok, Err}
-use Rattle.std.specs.Prelude.{nat_lt}
+use Rattle.std.proofs.Common.{◌≡◌, ℕ, ◌+◌, Bool, true, false, ◌==◌, ◌&&◌, ◌||◌, not, List, [], ◌∷◌, length, take, drop, refl, sym, ap, ◌∙◌, cond, arith, inl, inr, map, Some, None, Result, Ok, Err}
+use Rattle.std.specs.Prelude.{nat_lt, filter_map}
 use Rattle.std.specs.List.{list_any, position, position_or_len}
 use Rattle.std.proofs.lemmas.Bool.Decides.{eqb_tells, nat_tests}
 use Rattle.ics_values.specs.Digits.{are_digits}
@@ -9,8 +9,15 @@ use Rattle.ics_values.specs.Stamps.{is_date_time_form, date_exists, time_exists,
 use Rattle.ics_values.specs.declared.stamp.Stamp.{Stamp}
 use Rattle.ics_values.specs.declared.stamp.StampFault.{StampFault}
 use Rattle.ics_values.specs.declared.stamp.StampFault.TheVariants.{BadStamp, YearRange}
-use Rattle.ics_calendar.specs.declared.date_values.DateValue.TheVariants.{At}
-use Rattle.ics_calendar.specs.DateValues.{date_time_of, period_of, rdate_of}
+use Rattle.ics_calendar.specs.declared.date_values.DateValue.TheVariants.{At, Between, Lasting}
+use Rattle.ics_calendar.specs.DateValues.{date_time_of, period_of, rdate_of, listed_in, listed_said, has_bad_stamp, has_far_stamp, has_bad_duration, has_large_duration}
+use Rattle.ics_values.specs.declared.duration.Duration.{Duration}
+use Rattle.ics_values.specs.declared.duration.DurationFault.{DurationFault}
+use Rattle.ics_values.specs.declared.duration.DurationFault.TheVariants as duration_fault
+use Rattle.ics_calendar.specs.declared.date_values.DateValue.{DateValue}
+use Rattle.ics_calendar.specs.declared.fault.FaultKind.TheVariants as kind
+use Rattle.ics_calendar.specs.Lines.{dates_fault}
+use Rattle.ics_calendar.specs.Values.{stamp_in, duration_in, is_bad_stamp, is_far_stamp, is_bad_duration, is_large_duration}
 
 -- a stamp whose text has not the length of a DATE is a DATE-TIME
 pub date_time-is : (zoned : Bool) (text : List ℕ) → (length text ≡ 8 → ⊥) → stamp_of zoned text ≡ date_time_of zoned text
@@ -56,3 +63,52 @@ rdate-stamp zoned text e = by_test (nat_lt (position_or_len is_slash text) (leng
     by_test : (t : Bool) → list_any is_slash text ≡ t → cond t (Some (position_or_len is_slash text)) None ≡ None → At (stamp_of zoned text) ≡ rdate_of zoned text
     by_test true h e = cc
     by_test false h e = ap (λ t. cond t (period_of zoned (first_half text) (second_half text)) (At (stamp_of zoned text))) (sym h)
+
+-- A LIST without a fault says what each of its values says.
+abbrev IsFaultless : DateValue → Type 0
+IsFaultless v = (has_bad_stamp v ≡ false) × (has_bad_duration v ≡ false) × (has_far_stamp v ≡ false) × (has_large_duration v ≡ false)
+
+or-none : (a b : Bool) → (a || b) ≡ false → (a ≡ false) × (b ≡ false)
+or-none true b e = cc
+or-none false b e = (refl, e)
+
+faultless-stamp : (r : Result Stamp StampFault) → is_bad_stamp r ≡ false → is_far_stamp r ≡ false → Ok (stamp_in r) ≡ r
+faultless-stamp (Ok s) b f = refl
+faultless-stamp (Err BadStamp) b f = cc
+faultless-stamp (Err YearRange) b f = cc
+
+faultless-duration : (d : Result Duration DurationFault) → is_bad_duration d ≡ false → is_large_duration d ≡ false → Ok (duration_in d) ≡ d
+faultless-duration (Ok d) b f = refl
+faultless-duration (Err duration_fault.BadDuration) b f = cc
+faultless-duration (Err duration_fault.NumberTooLarge) b f = cc
+
+said-one : (v : DateValue) → IsFaultless v → listed_said v ≡ Some (listed_in v)
+said-one (At r) h = ap (λ r. listed_said (At r)) (sym (faultless-stamp r h.0 h.2))
+said-one (Between r q) h =
+    let bad = or-none (is_bad_stamp r) (is_bad_stamp q) h.0 in
+    let far = or-none (is_far_stamp r) (is_far_stamp q) h.2 in
+    ap (λ r. listed_said (Between r q)) (sym (faultless-stamp r bad.0 far.0)) ∙ ap (λ q. listed_said (Between (Ok (stamp_in r)) q)) (sym (faultless-stamp q bad.1 far.1))
+said-one (Lasting r d) h =
+    ap (λ r. listed_said (Lasting r d)) (sym (faultless-stamp r h.0 h.2)) ∙ ap (λ d. listed_said (Lasting (Ok (stamp_in r)) d)) (sym (faultless-duration d h.1 h.3))
+
+said-all : (vs : List DateValue) → list_any has_bad_stamp vs ≡ false → list_any has_bad_duration vs ≡ false → list_any has_far_stamp vs ≡ false → list_any has_large_duration vs ≡ false →
+    filter_map listed_said vs ≡ map listed_in vs
+said-all [] a b c d = refl
+said-all (v ∷ vs) a b c d =
+    let p = or-none (has_bad_stamp v) (list_any has_bad_stamp vs) a in
+    let q = or-none (has_bad_duration v) (list_any has_bad_duration vs) b in
+    let r = or-none (has_far_stamp v) (list_any has_far_stamp vs) c in
+    let t = or-none (has_large_duration v) (list_any has_large_duration vs) d in
+    rw (said-one v (p.0, q.0, r.0, t.0)) (ap (λ ls. listed_in v ∷ ls) (said-all vs p.1 q.1 r.1 t.1))
+
+-- the least fault of a list is none where none has one
+pub said-list : (vs : List DateValue) → dates_fault vs ≡ None → filter_map listed_said vs ≡ map listed_in vs
+said-list vs e = by_tests (list_any has_bad_stamp vs) (list_any has_bad_duration vs) (list_any has_far_stamp vs) (list_any has_large_duration vs) refl refl refl refl e
+  where
+    by_tests : (a b c d : Bool) → list_any has_bad_stamp vs ≡ a → list_any has_bad_duration vs ≡ b → list_any has_far_stamp vs ≡ c → list_any has_large_duration vs ≡ d →
+        cond a (Some kind.BadStamp) (cond b (Some kind.BadDuration) (cond c (Some kind.YearRange) (cond d (Some kind.NumberTooLarge) None))) ≡ None → filter_map listed_said vs ≡ map listed_in vs
+    by_tests true b c d p q r t e = cc
+    by_tests false true c d p q r t e = cc
+    by_tests false false true d p q r t e = cc
+    by_tests false false false true p q r t e = cc
+    by_tests false false false false p q r t e = said-all vs p q r t

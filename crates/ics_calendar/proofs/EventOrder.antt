@@ -1,8 +1,7 @@
 -- In a file without faults the events end in the order in which they begin.
-use Rattle.std.proofs.Common.{◌≡◌, ◌≢◌, ℕ, Bool, true, false, ◌&&◌, List, [], ◌∷◌, ◌++◌, refl, sym, ap, ◌∙◌}
+use Rattle.std.proofs.Common.{◌≡◌, ℕ, Bool, true, false, ◌&&◌, List, [], ◌∷◌, ◌++◌, refl, sym, ap, ◌∙◌}
 use Rattle.std.specs.Prelude.{codes}
 use Rattle.std.specs.Str.{bytes_eq}
-use Rattle.ics_calendar.specs.declared.collected.Collected.{Collected}
 use Rattle.ics_calendar.specs.declared.component.Component.{Component}
 use Rattle.ics_calendar.specs.declared.component.Component.TheVariants as component
 use Rattle.ics_calendar.specs.declared.component.Place.{Place}
@@ -11,27 +10,18 @@ use Rattle.ics_calendar.specs.declared.name.Name.TheVariants as name
 use Rattle.ics_calendar.specs.Components.{component_of, place_in, is_calendar_place, is_event_place}
 use Rattle.ics_calendar.specs.Names.{name_of}
 use Rattle.ics_calendar.specs.Placed.{Placed, Open, property_name, place_of, is_begin, component, calendar_of}
-use Rattle.ics_calendar.specs.Reading.{event_property}
-use Rattle.ics_calendar.specs.Collecting.{collected_of, note_event}
-use Rattle.ics_calendar.proofs.NameLemmas.{TellsComponent, tells_component}
+use Rattle.ics_calendar.specs.Collecting.{collected_of, event_ended}
+use Rattle.ics_calendar.proofs.Judged.{event_note}
+use Rattle.ics_calendar.proofs.NameLemmas.{TellsComponent, tells_component, place-in-outside}
 use Rattle.ics_calendar.proofs.Collects.{collected_of-more, parts_at}
 use Rattle.ics_calendar.proofs.Ended.{events}
 use Rattle.ics_calendar.proofs.Order.{open_as, IsSort}
 
 -- an END adds nothing to its event
 event-end : (ls : List Placed) (l : Placed) → name_of (property_name l.content) ≡ name.End → collected_of (ls ++ l ∷ []) ≡ collected_of ls
-event-end ls l e = collected_of-more ls l ∙ ap (λ n. note_event (event_property n (parts_at l)) (collected_of ls)) e
+event-end ls l e = collected_of-more ls l ∙ ap (λ n. event_note n (parts_at l) (collected_of ls)) e
 
 -- only a calendar holds events, and it stands in none
-pub place-in-outside : (q : Place) (c : Component) → place_in q c ≢ place.Outside
-place-in-outside place.Outside component.Calendar = λ e. cc
-place-in-outside place.Outside _ = λ e. cc
-place-in-outside place.Calendar component.Event = λ e. cc
-place-in-outside place.Calendar _ = λ e. cc
-place-in-outside place.Zone component.Standard = λ e. cc
-place-in-outside place.Zone _ = λ e. cc
-place-in-outside _ c = λ e. cc
-
 pub calendar-from : (q : Place) (c : Component) → is_calendar_place (place_in q c) ≡ true → q ≡ place.Outside
 calendar-from place.Outside c e = refl
 calendar-from place.Calendar component.Event e = cc
@@ -76,7 +66,7 @@ pub events-are : IsSort events
 events-are = record {
   starts = λ l. reorder (is_calendar_place (place_of l.path)) (is_begin l) (bytes_eq (component l) (codes "VEVENT")) ∙ ap (λ t. is_begin l && t) (sym (event-begins (place_of l.path) (component l)));
   alone = λ whole l e. calendar-alone whole l.path (in-calendar (place_of l.path) (component_of (component l)) e);
-  ends = λ path ls l e. ap (λ (had : Collected). record { calendar = calendar_of path; had = had }) (event-end ls l e);
+  ends = λ path ls l e. ap (event_ended (calendar_of path)) (event-end ls l e);
 }
   where
     reorder : (a b c : Bool) → (a && (b && c)) ≡ (b && (a && c))

@@ -1,42 +1,37 @@
 -- An event that no fault of either round stands on is one, of the zones of its file.
-use Rattle.std.proofs.Common.{◌≡◌, ◌≢◌, ℕ, ◌≤◌, Bool, true, false, not, ◌&&◌, ◌||◌, ◌==◌, nat_le, IsTrue, List, [], ◌∷◌, refl, arith, cond, Option, Some, None, is_some, IfSome, unwrap_or, Result, Ok, Err, int_lt, ℤ, pos, ◌+ℤ◌, ◌*ℤ◌}
+use Rattle.std.proofs.Common.{◌≡◌, ℕ, ◌≤◌, Bool, true, false, not, ◌&&◌, ◌||◌, ◌==◌, nat_le, IsTrue, List, [], ◌∷◌, refl, arith, cond, Option, Some, None, is_some, IfSome, int_lt, ℤ, pos, ◌+ℤ◌, ◌*ℤ◌}
 use Rattle.std.specs.Prelude.{flat_map, map, option_map, get_or}
 use Rattle.std.specs.List.{All, list_any}
-use Rattle.std.specs.Result.{result_ok}
 use Rattle.std.proofs.lemmas.Bool.Decides.{nat_tests}
 use Rattle.std.proofs.lemmas.Int.{ints}
 use Rattle.std.proofs.lemmas.List.Elements.{All-nil, All-cons, All-head, All-tail}
-use Rattle.ics_values.specs.Stamps.{IsStampDay}
 use Rattle.ics_values.specs.declared.duration.Duration.{Duration}
-use Rattle.ics_values.specs.declared.duration.DurationFault.{DurationFault}
 use Rattle.ics_values.specs.declared.stamp.Stamp.{Stamp}
 use Rattle.ics_values.specs.declared.stamp.Stamp.TheVariants.{Date, Floating, Utc, Zoned}
-use Rattle.ics_values.specs.declared.stamp.StampFault.{StampFault}
-use Rattle.ics_calendar.specs.declared.collected.Collected.{Collected}
+use Rattle.ics_calendar.specs.declared.gathered.EndedEvent.{EndedEvent}
+use Rattle.ics_calendar.specs.declared.gathered.GivenLength.{GivenLength}
+use Rattle.ics_calendar.specs.declared.gathered.GivenLength.TheVariants as given
 use Rattle.ics_calendar.specs.declared.date_list.DateList.{DateList}
-use Rattle.ics_calendar.specs.declared.date_values.DateValue.{DateValue}
-use Rattle.ics_calendar.specs.declared.date_values.DateValue.TheVariants as value
+use Rattle.ics_calendar.specs.declared.date_list.ListedDate.{ListedDate}
+use Rattle.ics_calendar.specs.declared.date_list.ListedDate.TheVariants as value
 use Rattle.ics_calendar.specs.declared.dated.Dated.{Dated}
-use Rattle.ics_calendar.specs.declared.fault.FaultKind.TheVariants.{BadEnd, MissingUid, MissingStart, UnknownZone}
+use Rattle.ics_calendar.specs.declared.fault.FaultKind.TheVariants.{UnknownZone}
 use Rattle.ics_calendar.specs.declared.later.Later.{Later}
 use Rattle.ics_calendar.specs.declared.later.Later.TheVariants as later
 use Rattle.ics_calendar.specs.declared.later.ZoneName.{ZoneName}
-use Rattle.ics_calendar.specs.Event.{IsTime, longest, seconds_of, IsWithin, IsEnd, IsLasting, IsLength, IsRdate, IsEvent}
-use Rattle.ics_calendar.specs.Collecting.{event_from}
+use Rattle.ics_calendar.specs.Event.{is_zoned, IsTime, longest, seconds_of, IsWithin, IsEnd, IsLasting, IsLength, IsRdate, IsEvent}
+use Rattle.ics_calendar.specs.Collecting.{event_of}
 use Rattle.ics_calendar.specs.DateLists.{zone_listed, rdate_in, exdate_in}
 use Rattle.ics_calendar.specs.DateValues.{has_zoned}
 use Rattle.ics_calendar.specs.Laters.{KnownZones, zone_used, judged}
-use Rattle.ics_calendar.specs.LineFaults.{used_in, listed_zone, instant_on, both_compared, ends_in}
-use Rattle.ics_calendar.specs.Ready.{IsReady}
-use Rattle.ics_calendar.specs.Sound.{IsSoundStamp, IsSoundDuration, IsSoundValue, IsSoundList, IsWhole}
-use Rattle.ics_calendar.specs.Times.{time_on, time_of, length_of}
-use Rattle.ics_calendar.specs.Values.{is_zoned_stamp, length_in_seconds, is_lasting, is_filled, same_zone, is_out, is_bad_end, both, ends_badly}
+use Rattle.ics_calendar.specs.Lines.{used_zone, used_in, listed_zone, instant_on, both_compared, ends_in}
+use Rattle.ics_calendar.specs.Ready.{IsReady, end_of}
+use Rattle.ics_calendar.specs.Sound.{IsSoundStamp, IsSoundLength, IsSoundValue, IsSoundList}
+use Rattle.ics_calendar.specs.Times.{time_in, time_on, length_of}
+use Rattle.ics_calendar.specs.Values.{length_in_seconds, is_lasting, same_zone, is_out, is_bad_end}
 use Rattle.ics_calendar.proofs.Listed.{All-flat_map}
 
--- WHAT IS COLLECTED of an event that is ready.
-day-zero : IsStampDay (pos 0)
-day-zero = (omega (arith, ints), omega (arith, ints))
-
+-- A STAMP, in the zone that it names.
 -- what the second round looks at is no fault
 abbrev pub IsFine : KnownZones → Option Later → Type 0
 IsFine known o = IfSome o (λ l. judged known l ≡ None)
@@ -45,17 +40,14 @@ pub known-zone : (t : Bool) → cond t None (Some UnknownZone) ≡ None → t �
 known-zone true e = refl
 known-zone false e = cc
 
-stamp-time : (known : KnownZones) (name : ZoneName) (r : Result Stamp StampFault) → IsSoundStamp r → IsFine known (cond (is_zoned_stamp r) (Some (later.Zone name)) None) →
-    IsTime (record { stamp = unwrap_or (result_ok r) (Date (pos 0)); zone = cond (is_zoned_stamp r) (known.index name) None })
-stamp-time known name (Ok (Date d)) h k = record { years = h; zone = refl }
-stamp-time known name (Ok (Floating l)) h k = record { years = h; zone = refl }
-stamp-time known name (Ok (Utc l)) h k = record { years = h; zone = refl }
-stamp-time known name (Ok (Zoned l)) h k = record { years = h; zone = known-zone (is_some (known.index name)) k }
-stamp-time known name (Err f) h k = absurd h
+stamp-time : (known : KnownZones) (name : ZoneName) (r : Stamp) → IsSoundStamp r → IsFine known (cond (is_zoned r) (Some (later.Zone name)) None) → IsTime (time_in (known.index name) r)
+stamp-time known name (Date d) h k = record { years = h; zone = refl }
+stamp-time known name (Floating l) h k = record { years = h; zone = refl }
+stamp-time known name (Utc l) h k = record { years = h; zone = refl }
+stamp-time known name (Zoned l) h k = record { years = h; zone = known-zone (is_some (known.index name)) k }
 
-time-sound : (known : KnownZones) (calendar : ℕ) (o : Option Dated) → IfSome o (λ d. IsSoundStamp d.stamp) → IsFine known (used_in calendar o) → IsTime (time_of known.index calendar o)
-time-sound known calendar None h k = record { years = day-zero; zone = refl }
-time-sound known calendar (Some d) h k = stamp-time known (zone_used calendar d) d.stamp h k
+time-sound : (known : KnownZones) (calendar : ℕ) (d : Dated) → IsSoundStamp d.stamp → IsFine known (used_zone calendar d) → IsTime (time_on known.index calendar d)
+time-sound known calendar d h k = stamp-time known (zone_used calendar d) d.stamp h k
 
 pub out-within : (start end : ℤ) → is_out start end ≡ false → IsWithin start end
 out-within start end h = by_tests (int_lt end start) (int_lt (start +ℤ pos longest) end) refl refl h
@@ -66,14 +58,14 @@ out-within start end h = by_tests (int_lt end start) (int_lt (start +ℤ pos lon
     by_tests true b p q h = cc
 
 -- what waits of a start and its end
-abbrev pub waits_of : ZoneName → ZoneName → Bool → Result Stamp StampFault → Result Stamp StampFault → Option Later
-waits_of m n z r q = cond (is_zoned_stamp r && (is_zoned_stamp q && z)) None (both_compared (instant_on m r) (instant_on n q))
+abbrev pub waits_of : ZoneName → ZoneName → Bool → Stamp → Stamp → Option Later
+waits_of m n z r q = cond (is_zoned r && (is_zoned q && z)) None (both_compared (instant_on m r) (instant_on n q))
 
 not-end : (known : KnownZones) (t : Bool) → IsFine known (cond t (Some later.End) None) → t ≡ false
 not-end known true h = cc
 not-end known false h = refl
 
-end-is : (known : KnownZones) (m n : ZoneName) (z : Bool) (a b : Stamp) → is_bad_end z a b ≡ false → IsFine known (waits_of m n z (Ok a) (Ok b)) → IsEnd a b
+end-is : (known : KnownZones) (m n : ZoneName) (z : Bool) (a b : Stamp) → is_bad_end z a b ≡ false → IsFine known (waits_of m n z a b) → IsEnd a b
 end-is known m n z (Date a) (Date b) e l = out-within (a *ℤ pos 86_400) (b *ℤ pos 86_400) e
 end-is known m n z (Floating a) (Floating b) e l = out-within (seconds_of a) (seconds_of b) e
 end-is known m n z (Utc a) (Utc b) e l = out-within (seconds_of a) (seconds_of b) (not-end known (is_out (seconds_of a) (seconds_of b)) l)
@@ -91,12 +83,6 @@ end-is known m n z (Utc a) (Floating b) e l = cc
 end-is known m n z (Zoned a) (Date b) e l = cc
 end-is known m n z (Zoned a) (Floating b) e l = cc
 
-ends-sound : (known : KnownZones) (m n : ZoneName) (z : Bool) (r q : Result Stamp StampFault) → IsSoundStamp r → IsSoundStamp q → both (result_ok r) (result_ok q) (is_bad_end z) ≡ false → IsFine known (waits_of m n z r q) →
-    IsEnd (unwrap_or (result_ok r) (Date (pos 0))) (unwrap_or (result_ok q) (Date (pos 0)))
-ends-sound known m n z (Ok a) (Ok b) h k e l = end-is known m n z a b e l
-ends-sound known m n z (Err f) q h k e l = absurd h
-ends-sound known m n z (Ok a) (Err f) h k e l = absurd k
-
 lasting-is : (d : Duration) → is_lasting d ≡ true → IsLasting d
 lasting-is d h = let t = by_tests d.negative (length_in_seconds d) h in record { forward = t.0; short = t.1 }
   where
@@ -104,16 +90,11 @@ lasting-is d h = let t = by_tests d.negative (length_in_seconds d) h in record {
     by_tests true k h = grind (arith, nat_tests)
     by_tests false k h = grind (arith, nat_tests)
 
-length-sound : (known : KnownZones) (calendar : ℕ) (start end : Option Dated) (duration : Option (Result Duration DurationFault)) → is_some start ≡ true →
-    IfSome start (λ d. IsSoundStamp d.stamp) → IfSome end (λ d. IsSoundStamp d.stamp) → IfSome duration IsSoundDuration →
-    ends_badly start end ≡ false → IsFine known (used_in calendar end) → IsFine known (ends_in calendar start end) →
-    IsLength (time_of known.index calendar start).stamp (length_of known.index calendar end duration)
-length-sound known k None end duration t a b c e u l = cc
-length-sound known k (Some s) (Some d) duration t a b c e u l =
-    (time-sound known k (Some d) b u, ends-sound known (zone_used k s) (zone_used k d) (same_zone s d) s.stamp d.stamp a b e l)
-length-sound known k (Some s) None None t a b c e u l = tt
-length-sound known k (Some s) None (Some (Err f)) t a b c e u l = absurd c
-length-sound known k (Some s) None (Some (Ok d)) t a b c e u l = lasting-is d c
+length-sound : (known : KnownZones) (calendar : ℕ) (start : Dated) (length : GivenLength) → IsSoundLength start length → IsFine known (used_in calendar (end_of length)) → IsFine known (ends_in calendar (Some start) (end_of length)) →
+    IsLength (time_on known.index calendar start).stamp (length_of known.index calendar length)
+length-sound known k s (given.Until d) h u l = (time-sound known k d h.0 u, end-is known (zone_used k s) (zone_used k d) (same_zone s d) s.stamp d.stamp h.1 l)
+length-sound known k s (given.Lasting d) h u l = lasting-is d h
+length-sound known k s given.Open h u l = tt
 
 -- WHAT A LINE LISTS, in the zone that it names.
 abbrev fault_by : Bool → ZoneName → Option Later
@@ -128,28 +109,27 @@ fine-rest known name true true h = h
 fine-rest known name true false h = tt
 fine-rest known name false b h = h
 
-rdate-is : (known : KnownZones) (name : ZoneName) (v : DateValue) → IsSoundValue v → IsFine known (fault_by (has_zoned v) name) → IsRdate (rdate_in (known.index name) v)
+rdate-is : (known : KnownZones) (name : ZoneName) (v : ListedDate) → IsSoundValue v → IsFine known (fault_by (has_zoned v) name) → IsRdate (rdate_in (known.index name) v)
 rdate-is known name (value.At r) h k = stamp-time known name r h k
 rdate-is known name (value.Between r q) h k =
-    (stamp-time known name r h.0 (fine-first known name (is_zoned_stamp r) (is_zoned_stamp q) k), stamp-time known name q h.1 (fine-rest known name (is_zoned_stamp r) (is_zoned_stamp q) k))
-rdate-is known name (value.Lasting r (Ok d)) h k = (stamp-time known name r h.0 k, lasting-is d h.1)
-rdate-is known name (value.Lasting r (Err f)) h k = absurd h.1
+    (stamp-time known name r h.0 (fine-first known name (is_zoned r) (is_zoned q) k), stamp-time known name q h.1 (fine-rest known name (is_zoned r) (is_zoned q) k))
+rdate-is known name (value.Lasting r d) h k = (stamp-time known name r h.0 k, lasting-is d h.1)
 
-exdate-is : (known : KnownZones) (name : ZoneName) (v : DateValue) → IsSoundValue v → IsFine known (fault_by (has_zoned v) name) → IsTime (exdate_in (known.index name) v)
+exdate-is : (known : KnownZones) (name : ZoneName) (v : ListedDate) → IsSoundValue v → IsFine known (fault_by (has_zoned v) name) → IsTime (exdate_in (known.index name) v)
 exdate-is known name (value.At r) h k = stamp-time known name r h k
-exdate-is known name (value.Between r q) h k = stamp-time known name r h.0 (fine-first known name (is_zoned_stamp r) (is_zoned_stamp q) k)
+exdate-is known name (value.Between r q) h k = stamp-time known name r h.0 (fine-first known name (is_zoned r) (is_zoned q) k)
 exdate-is known name (value.Lasting r d) h k = stamp-time known name r h.0 k
 
 -- each value of a list, and each list
-values-are : {A : Type 0} (P : A → Type 0) (f : DateValue → A) (known : KnownZones) (name : ZoneName) → ((v : DateValue) → IsSoundValue v → IsFine known (fault_by (has_zoned v) name) → P (f v)) →
-    (values : List DateValue) → All IsSoundValue values → IsFine known (fault_by (list_any has_zoned values) name) → All P (map f values)
+values-are : {A : Type 0} (P : A → Type 0) (f : ListedDate → A) (known : KnownZones) (name : ZoneName) → ((v : ListedDate) → IsSoundValue v → IsFine known (fault_by (has_zoned v) name) → P (f v)) →
+    (values : List ListedDate) → All IsSoundValue values → IsFine known (fault_by (list_any has_zoned values) name) → All P (map f values)
 values-are P f known name each [] h k = All-nil P
 values-are P f known name each (v ∷ vs) h k =
     All-cons P (f v) (map f vs) (each v (All-head IsSoundValue v vs h) (fine-first known name (has_zoned v) (list_any has_zoned vs) k))
     (values-are P f known name each vs (All-tail IsSoundValue v vs h) (fine-rest known name (has_zoned v) (list_any has_zoned vs) k))
 
-lists-are : {A : Type 0} (P : A → Type 0) (f : Option ℕ → DateValue → A) (known : KnownZones) (calendar : ℕ) →
-    ((name : ZoneName) (v : DateValue) → IsSoundValue v → IsFine known (fault_by (has_zoned v) name) → P (f (known.index name) v)) →
+lists-are : {A : Type 0} (P : A → Type 0) (f : Option ℕ → ListedDate → A) (known : KnownZones) (calendar : ℕ) →
+    ((name : ZoneName) (v : ListedDate) → IsSoundValue v → IsFine known (fault_by (has_zoned v) name) → P (f (known.index name) v)) →
     (lists : List DateList) → All IsSoundList lists → All (λ list. IsFine known (listed_zone calendar list)) lists →
     All P (flat_map (λ list. map (f (known.index (zone_listed calendar list))) list.values) lists)
 lists-are P f known calendar each lists h k =
@@ -158,36 +138,14 @@ lists-are P f known calendar each lists h k =
 
 recurrence-is : (known : KnownZones) (calendar : ℕ) (o : Option Dated) → IfSome o (λ d. IsSoundStamp d.stamp) → IsFine known (used_in calendar o) → IfSome (option_map (time_on known.index calendar) o) IsTime
 recurrence-is known calendar None h k = tt
-recurrence-is known calendar (Some d) h k = time-sound known calendar (Some d) h k
+recurrence-is known calendar (Some d) h k = time-sound known calendar d h k
 
-filled-not-empty : (o : Option (List ℕ)) → is_filled o ≡ true → unwrap_or o [] ≢ []
-filled-not-empty (Some (b ∷ bs)) e = λ h. cc
-filled-not-empty (Some []) e = cc
-filled-not-empty None e = cc
-
--- what no fault at the END says
-at-end : (f s b e : Bool) → cond (not f) (Some MissingUid) (cond (not s) (Some MissingStart) (cond (b || e) (Some BadEnd) None)) ≡ None → (f ≡ true) × (s ≡ true) × (e ≡ false)
-at-end false s b e h = cc
-at-end true false b e h = cc
-at-end true true true e h = cc
-at-end true true false true h = cc
-at-end true true false false h = (refl, refl, refl)
-
--- its DTSTART is there, and its DTEND in order as far as locals say
-pub at-end-of : (had : Collected) → IsWhole had → (is_some had.start ≡ true) × (ends_badly had.start had.end ≡ false)
-at-end-of had w =
-    let tests = at-end (is_filled had.uid) (is_some had.start) (is_some had.end && is_some had.duration) (ends_badly had.start had.end) w.no_fault in
-    (tests.1, tests.2)
-
-pub event-is : (known : KnownZones) (calendar : ℕ) (had : Collected) → IsReady known calendar had → IsEvent (event_from known.index calendar had)
-event-is known calendar had r =
-    let w = r.whole in
-    let tests = at-end-of had w in
-    record {
-      named = filled-not-empty had.uid (at-end (is_filled had.uid) (is_some had.start) (is_some had.end && is_some had.duration) (ends_badly had.start had.end) w.no_fault).0;
-      start = time-sound known calendar had.start w.sound.start r.zones.start;
-      length = length-sound known calendar had.start had.end had.duration tests.0 w.sound.start w.sound.end w.sound.duration tests.1 r.zones.end r.length;
-      rdates = lists-are IsRdate rdate_in known calendar (rdate-is known) had.rdates w.sound.rdates r.zones.rdates;
-      exdates = lists-are IsTime exdate_in known calendar (exdate-is known) had.exdates w.sound.exdates r.zones.exdates;
-      recurrence = recurrence-is known calendar had.recurrence w.sound.recurrence r.zones.recurrence;
-    }
+pub event-is : (known : KnownZones) (event : EndedEvent) → IsReady known event → IsEvent (event_of known.index event)
+event-is known e r = record {
+  named = r.whole.named;
+  start = time-sound known e.calendar e.start r.whole.start r.zones.start;
+  length = length-sound known e.calendar e.start e.length r.whole.length r.zones.end r.zones.length;
+  rdates = lists-are IsRdate rdate_in known e.calendar (rdate-is known) e.rdates r.whole.rdates r.zones.rdates;
+  exdates = lists-are IsTime exdate_in known e.calendar (exdate-is known) e.exdates r.whole.exdates r.zones.exdates;
+  recurrence = recurrence-is known e.calendar e.recurrence r.whole.recurrence r.zones.recurrence;
+}

@@ -1,9 +1,11 @@
 -- Each time zone that ends has an observance.
-use Rattle.std.proofs.Common.{◌≡◌, ℕ, Bool, true, false, not, ◌||◌, ◌==◌, IsTrue, List, [], ◌∷◌, ◌++◌, refl, sym, ap, ◌∙◌, subst, cond, length, unwrap_or, None, Some, is_some, inl, inr}
+use Rattle.std.proofs.Common.{◌≡◌, ℕ, Bool, true, false, not, ◌&&◌, ◌||◌, ◌==◌, map, IsTrue, List, [], ◌∷◌, ◌++◌, refl, sym, ap, ◌∙◌, subst, cond, None, Some, is_some, inl, inr}
 use Rattle.std.specs.List.{All, list_any}
 use Rattle.std.proofs.lemmas.Bool.Decides.{eqb_tells}
 use Rattle.std.proofs.lemmas.List.Elements.{All-nil, All-cons}
 use Rattle.std.proofs.lemmas.List.Folds.{list_any-append}
+use Rattle.ics_text.specs.Bytes.{upper}
+use Rattle.ics_text.specs.Contents.{Parts}
 use Rattle.ics_calendar.specs.declared.component.Component.{Component}
 use Rattle.ics_calendar.specs.declared.component.Component.TheVariants as component
 use Rattle.ics_calendar.specs.declared.component.Place.{Place}
@@ -11,18 +13,20 @@ use Rattle.ics_calendar.specs.declared.component.Place.TheVariants as place
 use Rattle.ics_calendar.specs.declared.fault.FaultKind.TheVariants.{NoObservance, ObservanceField}
 use Rattle.ics_calendar.specs.declared.frame.Frame.{Frame}
 use Rattle.ics_calendar.specs.declared.gathered.EndedObservance.{EndedObservance}
-use Rattle.ics_calendar.specs.declared.property.Property.{Property}
-use Rattle.ics_calendar.specs.declared.property.Property.TheVariants as property
+use Rattle.ics_calendar.specs.declared.gathered.Ended.TheVariants as ended
+use Rattle.ics_calendar.specs.declared.name.Name.{Name}
+use Rattle.ics_calendar.specs.declared.name.Name.TheVariants as name
 use Rattle.ics_calendar.specs.declared.summary.Summary.{Summary}
 use Rattle.ics_calendar.specs.declared.summary.Summary.TheVariants as summary
 use Rattle.ics_calendar.specs.declared.summary.ZoneSummary.{ZoneSummary}
-use Rattle.ics_calendar.specs.Components.{place_in, is_observance}
+use Rattle.ics_calendar.specs.Components.{component_of, place_in, is_observance}
 use Rattle.ics_calendar.specs.Gathering.{zones_of_end, observances_of_end}
-use Rattle.ics_calendar.specs.LineFaults.{end_of, end_of_zone, fault_on}
-use Rattle.ics_calendar.specs.Pass.{noted, behind, ended_as, ends}
-use Rattle.ics_calendar.specs.Summaries.{fresh, note_zone, note}
+use Rattle.ics_calendar.specs.Lines.{end_of_zone, begin_in, opened}
+use Rattle.ics_calendar.specs.Summaries.{fresh, zone_ended, observance_ended}
+use Rattle.ics_calendar.proofs.Judged.{zone_note, summary_note, end_of, ended_as, fault_on, closed, behind, ends, is_begin_name, is_end_name, behind-is}
+use Rattle.ics_calendar.proofs.Phases.{end-none}
 use Rattle.ics_calendar.specs.ZonesSound.{has_observance}
-use Rattle.ics_calendar.proofs.Sound.{IsPlain, IsSoundAt, AreSound, end-none, end-matches}
+use Rattle.ics_calendar.proofs.Sound.{IsSoundAt}
 
 -- an observance of the zone has ended
 abbrev has_part : ℕ → List EndedObservance → Bool
@@ -104,36 +108,41 @@ begun-zone component.Event h l e = begun-none h l e
 begun-zone component.Zone h l e = begun-none h l e
 begun-zone (component.Other n) h l e = begun-none h l e
 
-begun-filled : (os : List EndedObservance) (begun : ℕ) (c : Component) (q : Place) (s : Summary) → IsSoundAt q s → IsFilled false os begun s → IsFilled (is_part (fresh (place_in q c))) os begun (note (property.Begin c) s)
+begun-filled : (os : List EndedObservance) (begun : ℕ) (c : Component) (q : Place) (s : Summary) → IsSoundAt q s → IsFilled false os begun s → IsFilled (is_part (fresh (place_in q c))) os begun (begin_in c s)
 begun-filled os begun c place.Zone (summary.Zone had) i h = begun-zone c had.has_observance (has_part begun os) h
 begun-filled os begun c _ (summary.Zone had) i h = absurd i
 begun-filled os begun c q (summary.Event had) i h = tt
 begun-filled os begun c q (summary.Observance had) i h = tt
 begun-filled os begun c q summary.Nothing i h = tt
 
-part-noted : (p : Property) (s : Summary) → is_part (note p s) ≡ is_part s
-part-noted p (summary.Event had) = refl
-part-noted p (summary.Zone had) = refl
-part-noted p (summary.Observance had) = refl
-part-noted p summary.Nothing = refl
+part-begun : (c : Component) (s : Summary) → is_part (begin_in c s) ≡ is_part s
+part-begun c (summary.Event had) = refl
+part-begun c (summary.Zone had) = refl
+part-begun c (summary.Observance had) = refl
+part-begun c summary.Nothing = refl
 
-opened-filled : (os : List EndedObservance) (c : Component) (number : ℕ) (f : Frame) (fs : List Frame) → IsSoundAt f.place f.summary → AreFilled false os (f ∷ fs) → AreFilled false os (behind number (property.Begin c) (f ∷ fs))
+part-noted : (n : Name) (v : Parts) (s : Summary) → is_part (summary_note n v s) ≡ is_part s
+part-noted n v (summary.Event had) = refl
+part-noted n v (summary.Zone had) = refl
+part-noted n v (summary.Observance had) = refl
+part-noted n v summary.Nothing = refl
+
+opened-filled : (os : List EndedObservance) (c : Component) (number : ℕ) (f : Frame) (fs : List Frame) → IsSoundAt f.place f.summary → AreFilled false os (f ∷ fs) → AreFilled false os (opened number c (f ∷ fs))
 opened-filled os c number f fs i h = (
   fresh-filled os number (place_in f.place c),
-  (begun-filled os f.begun c f.place f.summary i h.0, subst (λ (t : Bool). AreFilled t os fs) (sym (part-noted (property.Begin c) f.summary)) h.1),
+  (begun-filled os f.begun c f.place f.summary i h.0, subst (λ (t : Bool). AreFilled t os fs) (sym (part-begun c f.summary)) h.1),
 )
 
 -- A LINE THAT BEGINS AND ENDS NOTHING.
-plain-keeps : (p : Property) → IsPlain p → (had : ZoneSummary) → (note_zone p had).has_observance ≡ had.has_observance
-plain-keeps (property.Begin c) i had = absurd i
-plain-keeps (property.ZoneName name) i had = refl
-plain-keeps _ i had = refl
+plain-keeps : (n : Name) (v : Parts) (had : ZoneSummary) → (zone_note n v had).has_observance ≡ had.has_observance
+plain-keeps name.Tzid v had = refl
+plain-keeps _ v had = refl
 
-noted-filled : (os : List EndedObservance) (p : Property) (f : Frame) (fs : List Frame) → IsPlain p → AreFilled false os (f ∷ fs) → AreFilled false os (noted p (f ∷ fs))
-noted-filled os p f fs plain h = (by_summary f.summary h.0, subst (λ (t : Bool). AreFilled t os fs) (sym (part-noted p f.summary)) h.1)
+noted-filled : (os : List EndedObservance) (n : Name) (v : Parts) (f : Frame) (fs : List Frame) → AreFilled false os (f ∷ fs) → AreFilled false os (record f { summary = summary_note n v f.summary } ∷ fs)
+noted-filled os n v f fs h = (by_summary f.summary h.0, subst (λ (t : Bool). AreFilled t os fs) (sym (part-noted n v f.summary)) h.1)
   where
-    by_summary : (s : Summary) → IsFilled false os f.begun s → IsFilled false os f.begun (note p s)
-    by_summary (summary.Zone had) h = ap (λ t. not t || (false || has_part f.begun os)) (plain-keeps p plain had) ∙ h
+    by_summary : (s : Summary) → IsFilled false os f.begun s → IsFilled false os f.begun (summary_note n v s)
+    by_summary (summary.Zone had) h = ap (λ t. not t || (false || has_part f.begun os)) (plain-keeps n v had) ∙ h
     by_summary (summary.Event had) h = tt
     by_summary (summary.Observance had) h = tt
     by_summary summary.Nothing h = tt
@@ -144,35 +153,39 @@ closed-filled os f g gs h = by_summary f.summary h.1
   where
     by_summary : (s : Summary) → AreFilled (is_part s) os (g ∷ gs) → AreFilled false (os ++ observances_of_end (ended_as f g.begun s)) (g ∷ gs)
     by_summary (summary.Observance had) h =
-        let o : EndedObservance = record { zone = g.begun; had = had } in
+        let o : EndedObservance = observance_ended g.begun had in
         (filled-last false os o g.summary, are-filled-more (is_part g.summary) os (o ∷ []) gs h.1)
     by_summary (summary.Event had) h = are-filled-more false os [] (g ∷ gs) h
     by_summary (summary.Zone had) h = are-filled-more false os [] (g ∷ gs) h
     by_summary summary.Nothing h = are-filled-more false os [] (g ∷ gs) h
 
-pub filled-behind : (os : List EndedObservance) (number : ℕ) (p : Property) (frames : List Frame) → fault_on p frames ≡ None → AreSound frames → AreFilled false os frames →
-    AreFilled false (os ++ observances_of_end (ends p frames)) (behind number p frames)
-filled-behind os number p [] e s h = by_kind p
-  where
-    by_kind : (q : Property) → AreFilled false (os ++ observances_of_end (ends q [])) (behind number q [])
-    by_kind (property.Begin c) = tt
-    by_kind (property.End true) = tt
-    by_kind (property.End false) = tt
-    by_kind _ = tt
-filled-behind os number p (f ∷ fs) e s h = by_kind p refl
-  where
-    kept : IsPlain p → AreFilled false (os ++ []) (noted p (f ∷ fs))
-    kept plain = are-filled-more false os [] (noted p (f ∷ fs)) (noted-filled os p f fs plain h)
+closing : (n : Name) (f : Frame) (fs : List Frame) → ends n (f ∷ fs) ≡ cond (is_end_name n) (ends name.End (f ∷ fs)) ended.Nothing
+closing name.End f fs = refl
+closing _ f fs = refl
 
-    closed_ones : (gs : List Frame) → fs ≡ gs → AreFilled false (os ++ observances_of_end (ends (property.End true) (f ∷ gs))) (behind number (property.End true) (f ∷ gs))
-    closed_ones [] same = are-filled-more false os [] (f ∷ []) (h.0, tt)
-    closed_ones (g ∷ gs) same = closed-filled os f g gs (h.0, subst (λ (fs : List Frame). AreFilled (is_part f.summary) os fs) same h.1)
+not-both : (n : Name) → (is_begin_name n && is_end_name n) ≡ false
+not-both name.Begin = refl
+not-both _ = refl
 
-    by_kind : (q : Property) → p ≡ q → AreFilled false (os ++ observances_of_end (ends q (f ∷ fs))) (behind number q (f ∷ fs))
-    by_kind (property.Begin c) e = are-filled-more false os [] (behind number (property.Begin c) (f ∷ fs)) (opened-filled os c number f fs s.0 h)
-    by_kind (property.End true) same = closed_ones fs refl
-    by_kind (property.End false) same = absurd (end-matches f (length fs) (subst (λ (q : Property). fault_on q (f ∷ fs) ≡ None) same e))
-    by_kind _ same = subst (λ (gs : List Frame). AreFilled false (os ++ []) gs) (ap (λ (r : Property). noted r (f ∷ fs)) same) (kept (subst (λ (r : Property). IsPlain r) (sym same) tt))
+pub filled-behind : (os : List EndedObservance) (number : ℕ) (n : Name) (v : Parts) (f : Frame) (fs : List Frame) → IsSoundAt f.place f.summary → AreFilled false os (f ∷ fs) →
+    AreFilled false (os ++ observances_of_end (ends n (f ∷ fs))) (behind number n v (f ∷ fs))
+filled-behind os number n v f fs i h = rw (closing n f fs, behind-is number n v f fs) (by_tests (is_begin_name n) (is_end_name n) (not-both n))
+  where
+    c : Component
+    c = component_of (map upper v.value)
+
+    same : AreFilled false (os ++ []) (record f { summary = summary_note n v f.summary } ∷ fs)
+    same = are-filled-more false os [] (record f { summary = summary_note n v f.summary } ∷ fs) (noted-filled os n v f fs h)
+
+    closed_ones : (gs : List Frame) → AreFilled (is_part f.summary) os gs → AreFilled false (os ++ observances_of_end (ends name.End (f ∷ gs))) (closed (f ∷ gs))
+    closed_ones [] k = are-filled-more false os [] (f ∷ []) (h.0, tt)
+    closed_ones (g ∷ gs) k = closed-filled os f g gs (h.0, k)
+
+    by_tests : (b e : Bool) → (b && e) ≡ false → AreFilled false (os ++ observances_of_end (cond e (ends name.End (f ∷ fs)) ended.Nothing)) (cond b (opened number c (f ∷ fs)) (cond e (closed (f ∷ fs)) (record f { summary = summary_note n v f.summary } ∷ fs)))
+    by_tests true true k = cc
+    by_tests true false k = are-filled-more false os [] (opened number c (f ∷ fs)) (opened-filled os c number f fs i h)
+    by_tests false true k = closed_ones fs h.1
+    by_tests false false k = same
 
 -- a zone that ends has one
 zone-filled : (had : ZoneSummary) (l : Bool) → end_of_zone had ≡ None → (not had.has_observance || (false || l)) ≡ true → l ≡ true
@@ -182,17 +195,15 @@ zone-filled had l = by_test had.has_observance
     by_test true e h = h
     by_test false e h = cc
 
-pub zone-ends-filled : (os : List EndedObservance) (p : Property) (frames : List Frame) → fault_on p frames ≡ None → AreFilled false os frames → All (λ z. IsTrue (has_observance os z)) (zones_of_end (ends p frames))
-zone-ends-filled os (property.End true) [] e h = All-nil (λ z. IsTrue (has_observance os z))
-zone-ends-filled os (property.End true) (f ∷ []) e h = All-nil (λ z. IsTrue (has_observance os z))
-zone-ends-filled os (property.End true) (f ∷ g ∷ gs) e h = by_summary f.summary (end-none f (length (g ∷ gs)) e) h.0
+pub zone-ends-filled : (os : List EndedObservance) (n : Name) (v : Parts) (frames : List Frame) → fault_on n v frames ≡ None → AreFilled false os frames → All (λ z. IsTrue (has_observance os z)) (zones_of_end (ends n frames))
+zone-ends-filled os name.End v [] e h = All-nil (λ z. IsTrue (has_observance os z))
+zone-ends-filled os name.End v (f ∷ []) e h = All-nil (λ z. IsTrue (has_observance os z))
+zone-ends-filled os name.End v (f ∷ g ∷ gs) e h = by_summary f.summary (end-none f.place _ f.summary e) h.0
   where
     by_summary : (s : Summary) → end_of s ≡ None → IsFilled false os f.begun s → All (λ z. IsTrue (has_observance os z)) (zones_of_end (ended_as f g.begun s))
     by_summary (summary.Zone had) e h =
-        All-cons (λ z. IsTrue (has_observance os z)) (record { begun = f.begun; name = record { calendar = f.calendar; name = unwrap_or had.name [] } }) []
-        (zone-filled had (has_part f.begun os) e h) (All-nil (λ z. IsTrue (has_observance os z)))
+        All-cons (λ z. IsTrue (has_observance os z)) (zone_ended f.begun f.calendar had) [] (zone-filled had (has_part f.begun os) e h) (All-nil (λ z. IsTrue (has_observance os z)))
     by_summary (summary.Event had) e h = All-nil (λ z. IsTrue (has_observance os z))
     by_summary (summary.Observance had) e h = All-nil (λ z. IsTrue (has_observance os z))
     by_summary summary.Nothing e h = All-nil (λ z. IsTrue (has_observance os z))
-zone-ends-filled os (property.End false) frames e h = All-nil (λ z. IsTrue (has_observance os z))
-zone-ends-filled os _ frames e h = All-nil (λ z. IsTrue (has_observance os z))
+zone-ends-filled os _ v frames e h = All-nil (λ z. IsTrue (has_observance os z))

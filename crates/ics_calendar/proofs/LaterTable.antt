@@ -1,5 +1,5 @@
 -- The table of the second round and the pass find one fault on a line.
-use Rattle.std.proofs.Common.{◌≡◌, ℕ, Bool, true, false, ◌&&◌, ◌||◌, List, [], ◌∷◌, map, refl, sym, ap, ◌∙◌, cond, Option, Some, None, is_some, Result, Ok, Err, ℤ}
+use Rattle.std.proofs.Common.{◌≡◌, ℕ, Bool, true, false, ◌&&◌, ◌||◌, List, [], ◌∷◌, map, refl, sym, ap, subst, ◌∙◌, cond, Option, Some, None, is_some, ℤ}
 use Rattle.std.specs.Prelude.{find, codes, not}
 use Rattle.std.specs.List.{list_any}
 use Rattle.std.specs.Option.{option_and_then}
@@ -9,9 +9,7 @@ use Rattle.ics_text.specs.Unfolded.{Line}
 use Rattle.ics_text.specs.Contents.{Parts}
 use Rattle.ics_values.specs.declared.stamp.Stamp.{Stamp}
 use Rattle.ics_values.specs.declared.stamp.Stamp.TheVariants as stamp
-use Rattle.ics_values.specs.declared.stamp.StampFault.{StampFault}
 use Rattle.ics_calendar.specs.declared.component.Component.{Component}
-use Rattle.ics_calendar.specs.declared.component.Component.TheVariants as component
 use Rattle.ics_calendar.specs.declared.component.Place.{Place}
 use Rattle.ics_calendar.specs.declared.component.Place.TheVariants as place
 use Rattle.ics_calendar.specs.declared.dated.Dated.{Dated}
@@ -24,29 +22,29 @@ use Rattle.ics_calendar.specs.declared.later.Later.TheVariants as later
 use Rattle.ics_calendar.specs.declared.later.ZoneName.{ZoneName}
 use Rattle.ics_calendar.specs.declared.name.Name.{Name}
 use Rattle.ics_calendar.specs.declared.name.Name.TheVariants as name
-use Rattle.ics_calendar.specs.Components.{component_of, component_name, is_event_place}
+use Rattle.ics_calendar.specs.Components.{component_of, is_event_place}
 use Rattle.ics_calendar.specs.DateLists.{rdate_list, exdate_list}
-use Rattle.ics_calendar.specs.DateValues.{has_zoned}
-use Rattle.ics_calendar.specs.Event.{seconds_of}
+use Rattle.ics_calendar.specs.DateValues.{has_zoned, listed_in}
+use Rattle.ics_calendar.specs.Event.{seconds_of, is_zoned}
 use Rattle.ics_calendar.specs.Names.{name_of}
 use Rattle.ics_calendar.specs.Placed.{Placed, Open, place_of, closes}
-use Rattle.ics_calendar.specs.Values.{dated_of, is_zoned_stamp, is_out}
+use Rattle.ics_calendar.specs.Values.{dated_of, is_out}
 use Rattle.ics_calendar.specs.Faults.{stamp_names, stands_later, kinds}
-use Rattle.ics_calendar.specs.Reading.{read_as, read_in}
-use Rattle.ics_calendar.specs.LineFaults.{instant_on, instant_in, both_compared, ends_in, later_in}
+use Rattle.ics_calendar.specs.Lines.{instant_on, instant_in, both_compared, ends_in}
+use Rattle.ics_calendar.proofs.Judged.{later_in}
+use Rattle.ics_calendar.proofs.Ended.{IsMatched}
 use Rattle.ics_calendar.specs.Laters.{KnownZones, are_out, zone_used, moment_on, moment_in, are_of_one_zone, ends_badly_later, moment_of, judged}
-use Rattle.ics_calendar.proofs.NameLemmas.{Tells, tells, component_name-of}
+use Rattle.ics_calendar.proofs.NameLemmas.{Tells, tells}
 use Rattle.ics_calendar.proofs.Rows.{Gathered, dates_at, frame_at, or-false}
 use Rattle.ics_calendar.proofs.Table.{gathered, frame_of}
 use Rattle.ics_calendar.proofs.Frames.{with}
 
 -- AN END against its start, as the table finds it and as it is judged.
-moment-is : (known : KnownZones) (name : ZoneName) (r : Result Stamp StampFault) → moment_on known name r ≡ option_and_then (moment_of known) (instant_on name r)
-moment-is known name (Ok (stamp.Utc local)) = refl
-moment-is known name (Ok (stamp.Zoned local)) = refl
-moment-is known name (Ok (stamp.Date day)) = refl
-moment-is known name (Ok (stamp.Floating local)) = refl
-moment-is known name (Err fault) = refl
+moment-is : (known : KnownZones) (name : ZoneName) (s : Stamp) → moment_on known name s ≡ option_and_then (moment_of known) (instant_on name s)
+moment-is known name (stamp.Utc local) = refl
+moment-is known name (stamp.Zoned local) = refl
+moment-is known name (stamp.Date day) = refl
+moment-is known name (stamp.Floating local) = refl
 
 out-none : (o : Option ℤ) → are_out o None ≡ false
 out-none None = refl
@@ -82,10 +80,10 @@ ends-judged known k (Some a) (Some b) =
 abbrev later_flat : (u : List ℕ) (v : Parts) (q : Place) (cl be has : Bool) → Option FaultKind
 later_flat u v q cl be has =
     cond (bytes_eq u (codes "END") && cl && is_event_place q && be) (Some BadEnd)
-    (cond (((is_event_place q && list_any has_zoned (dates_at u v)) || (is_event_place q && list_any (bytes_eq u) stamp_names && is_zoned_stamp (dated_of v.params v.value).stamp)) && not has) (Some UnknownZone) None)
+    (cond (((is_event_place q && list_any has_zoned (map listed_in (dates_at u v))) || (is_event_place q && list_any (bytes_eq u) stamp_names && is_zoned (dated_of v.params v.value).stamp)) && not has) (Some UnknownZone) None)
 
 abbrev later_of : Name → Parts → Component → Place → Gathered → Option Later
-later_of n v c q g = later_in (read_as n (frame_at c q g) v) (frame_at c q g)
+later_of n v c q g = later_in n v (frame_at c q g)
 
 abbrev bad_later : KnownZones → Gathered → Bool
 bad_later known g = ends_badly_later known g.calendar g.event.start g.event.end
@@ -94,12 +92,9 @@ bad_later known g = ends_badly_later known g.calendar g.event.start g.event.end
 abbrev use_of : Gathered → Parts → ZoneName
 use_of g v = zone_used g.calendar (dated_of v.params v.value)
 
-later-end : (known : KnownZones) (v : Parts) (c : Component) (q : Place) (cl has : Bool) (g : Gathered) → bytes_eq (map upper v.value) (component_name c) ≡ cl →
-    later_flat (codes "END") v q cl (bad_later known g) has ≡ option_and_then (judged known) (later_of name.End v c q g)
-later-end known v c place.Event true has g e = rw e (ends-judged known g.calendar g.event.start g.event.end)
-later-end known v c _ true has g e = rw e refl
-later-end known v c place.Event false has g e = rw e refl
-later-end known v c _ false has g e = rw e refl
+later-end : (known : KnownZones) (v : Parts) (c : Component) (q : Place) (has : Bool) (g : Gathered) → later_flat (codes "END") v q true (bad_later known g) has ≡ option_and_then (judged known) (later_of name.End v c q g)
+later-end known v c place.Event has g = ends-judged known g.calendar g.event.start g.event.end
+later-end known v c _ has g = refl
 
 in-zone : (known : KnownZones) (zoned : Bool) (used : ZoneName) →
     cond (zoned && not (is_some (known.index used))) (Some UnknownZone) None ≡ option_and_then (judged known) (cond zoned (Some (later.Zone used)) None)
@@ -110,14 +105,15 @@ in-zone known true used = when (is_some (known.index used))
     when true = refl
     when false = refl
 
-later-other : (known : KnownZones) (n : Name) (u : List ℕ) (v : Parts) (c : Component) (q : Place) (cl : Bool) (g : Gathered) → Tells u n → bytes_eq (map upper v.value) (component_name c) ≡ cl →
+later-other : (known : KnownZones) (n : Name) (u : List ℕ) (v : Parts) (c : Component) (q : Place) (cl : Bool) (g : Gathered) → Tells u n → (bytes_eq u (codes "END") && not (bytes_eq u (codes "END") && cl)) ≡ false →
     later_flat u v q cl (bad_later known g) (is_some (known.index (use_of g v))) ≡ option_and_then (judged known) (later_of n v c q g)
-later-other known name.End u v c q cl g e m = rw e (later-end known v c q cl (is_some (known.index (use_of g v))) g m)
-later-other known name.Dtstart u v c place.Event cl g e m = rw e (in-zone known (is_zoned_stamp (dated_of v.params v.value).stamp) (use_of g v))
+later-other known name.End u v c q true g e m = rw e (later-end known v c q (is_some (known.index (use_of g v))) g)
+later-other known name.End u v c q false g e m = let h : true ≡ false = subst (λ (u : List ℕ). (bytes_eq u (codes "END") && not (bytes_eq u (codes "END") && false)) ≡ false) e m in cc
+later-other known name.Dtstart u v c place.Event cl g e m = rw e (in-zone known (is_zoned (dated_of v.params v.value).stamp) (use_of g v))
 later-other known name.Dtstart u v c _ cl g e m = rw e refl
-later-other known name.Dtend u v c place.Event cl g e m = rw e (in-zone known (is_zoned_stamp (dated_of v.params v.value).stamp) (use_of g v))
+later-other known name.Dtend u v c place.Event cl g e m = rw e (in-zone known (is_zoned (dated_of v.params v.value).stamp) (use_of g v))
 later-other known name.Dtend u v c _ cl g e m = rw e refl
-later-other known name.RecurrenceId u v c place.Event cl g e m = rw e (in-zone known (is_zoned_stamp (dated_of v.params v.value).stamp) (use_of g v))
+later-other known name.RecurrenceId u v c place.Event cl g e m = rw e (in-zone known (is_zoned (dated_of v.params v.value).stamp) (use_of g v))
 later-other known name.RecurrenceId u v c _ cl g e m = rw e refl
 later-other known name.Rdate u v c place.Event cl g e m = rw e (simp or-false (in-zone known (list_any has_zoned (rdate_list v.params v.value).values) (use_of g v)))
 later-other known name.Rdate u v c _ cl g e m = rw e refl
@@ -135,17 +131,18 @@ outside-later u v cl be has = by_tests (bytes_eq u (codes "END") && cl)
     by_tests true = refl
     by_tests false = refl
 
+none-outside : (n : Name) (v : Parts) (ls : List Placed) → later_in n v (frame_of [] ls) ≡ None
+none-outside name.Begin v ls = refl
+none-outside name.End v ls = refl
+none-outside _ v ls = refl
+
 -- WHAT THE SECOND ROUND FINDS on a line, of the table and of the pass.
-pub later-same : (known : KnownZones) (line : Line) (path : List Open) (parts : Parts) (ls : List Placed) →
-    find (λ kind. stands_later known kind ls (with line path parts)) kinds ≡ option_and_then (judged known) (later_in (read_in (frame_of path ls) parts) (frame_of path ls))
-later-same known line [] parts ls =
+pub later-same : (known : KnownZones) (line : Line) (path : List Open) (parts : Parts) (ls : List Placed) → IsMatched (with line path parts) →
+    find (λ kind. stands_later known kind ls (with line path parts)) kinds ≡ option_and_then (judged known) (later_in (name_of (map upper parts.name)) parts (frame_of path ls))
+later-same known line [] parts ls m =
     let u : List ℕ = map upper parts.name in
-    let cl : Bool = bytes_eq (map upper parts.value) [] in
     let g : Gathered = gathered [] ls in
-    let has : Bool = is_some (known.index (use_of g parts)) in
-    outside-later u parts false (bad_later known g) has ∙ sym (outside-later u parts cl (bad_later known g) has)
-    ∙ later-other known (name_of u) u parts (component.Other []) place.Outside cl g (tells u) refl
-later-same known line (c ∷ cs) parts ls =
+    outside-later u parts false (bad_later known g) (is_some (known.index (use_of g parts))) ∙ ap (option_and_then (judged known)) (sym (none-outside (name_of u) parts ls))
+later-same known line (c ∷ cs) parts ls m =
     let u : List ℕ = map upper parts.name in
-    later-other known (name_of u) u parts (component_of c.name) (place_of (c ∷ cs)) (closes (c ∷ cs) (map upper parts.value)) (gathered (c ∷ cs) ls) (tells u)
-    (ap (bytes_eq (map upper parts.value)) (component_name-of c.name))
+    later-other known (name_of u) u parts (component_of c.name) (place_of (c ∷ cs)) (closes (c ∷ cs) (map upper parts.value)) (gathered (c ∷ cs) ls) (tells u) m

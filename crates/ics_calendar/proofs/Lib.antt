@@ -1,5 +1,6 @@
 pub mod NameLemmas
 pub mod DateValueLemmas
+pub mod Judged
 pub mod Rows
 pub mod Table
 mod SummaryLemmas

@@ -1,14 +1,14 @@
 -- What holds of all that several lines list, and of all zones that an event names.
-use Rattle.std.proofs.Common.{◌≡◌, ℕ, List, [], ◌∷◌, ◌++◌, sym, ap, ◌∙◌, append_assoc, subst, Option, Some, None, IfSome}
+use Rattle.std.proofs.Common.{◌≡◌, List, [], ◌∷◌, ◌++◌, sym, ap, ◌∙◌, append_assoc, subst, Option, Some, None, IfSome}
 use Rattle.std.specs.Prelude.{flat_map}
 use Rattle.std.specs.List.{All}
 use Rattle.std.proofs.lemmas.List.Concat.{flat_map-cons}
 use Rattle.std.proofs.lemmas.List.Elements.{All-nil, All-append, All-head, All-tail, All-weaker}
-use Rattle.ics_calendar.specs.declared.collected.Collected.{Collected}
 use Rattle.ics_calendar.specs.declared.date_list.DateList.{DateList}
 use Rattle.ics_calendar.specs.declared.later.Later.{Later}
-use Rattle.ics_calendar.specs.LineFaults.{used_in, listed_zone}
-use Rattle.ics_calendar.specs.Ready.{EachZone}
+use Rattle.ics_calendar.specs.declared.gathered.EndedEvent.{EndedEvent}
+use Rattle.ics_calendar.specs.Lines.{used_zone, used_in, listed_zone, ends_in}
+use Rattle.ics_calendar.specs.Ready.{EachZone, end_of}
 
 pub All-flat_map : {X A : Type 0} (P : A → Type 0) (f : X → List A) (xs : List X) → All (λ x. All P (f x)) xs → All P (flat_map f xs)
 All-flat_map P f [] h = All-nil P
@@ -24,14 +24,15 @@ pub some-weaker : (P Q : Later → Type 0) → ((l : Later) → P l → Q l) →
 some-weaker P Q w None h = tt
 some-weaker P Q w (Some l) h = w l h
 
-pub each-weaker : (P Q : Later → Type 0) → ((l : Later) → P l → Q l) → (calendar : ℕ) (had : Collected) → EachZone P calendar had → EachZone Q calendar had
-each-weaker P Q w k had z = record {
-  start = some-weaker P Q w (used_in k had.start) z.start;
-  end = some-weaker P Q w (used_in k had.end) z.end;
-  rdates = lists had.rdates z.rdates;
-  exdates = lists had.exdates z.exdates;
-  recurrence = some-weaker P Q w (used_in k had.recurrence) z.recurrence;
+pub each-weaker : (P Q : Later → Type 0) → ((l : Later) → P l → Q l) → (event : EndedEvent) → EachZone P event → EachZone Q event
+each-weaker P Q w e z = record {
+  start = some-weaker P Q w (used_zone e.calendar e.start) z.start;
+  end = some-weaker P Q w (used_in e.calendar (end_of e.length)) z.end;
+  rdates = lists e.rdates z.rdates;
+  exdates = lists e.exdates z.exdates;
+  recurrence = some-weaker P Q w (used_in e.calendar e.recurrence) z.recurrence;
+  length = some-weaker P Q w (ends_in e.calendar (Some e.start) (end_of e.length)) z.length;
 }
   where
-    lists : (ls : List DateList) → All (λ list. IfSome (listed_zone k list) P) ls → All (λ list. IfSome (listed_zone k list) Q) ls
-    lists = All-weaker (λ list. IfSome (listed_zone k list) P) (λ list. IfSome (listed_zone k list) Q) (λ list h. some-weaker P Q w (listed_zone k list) h)
+    lists : (ls : List DateList) → All (λ list. IfSome (listed_zone e.calendar list) P) ls → All (λ list. IfSome (listed_zone e.calendar list) Q) ls
+    lists = All-weaker (λ list. IfSome (listed_zone e.calendar list) P) (λ list. IfSome (listed_zone e.calendar list) Q) (λ list h. some-weaker P Q w (listed_zone e.calendar list) h)

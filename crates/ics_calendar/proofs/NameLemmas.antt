@@ -1,5 +1,5 @@
 -- What a name of a property or a component stands for.
-use Rattle.std.proofs.Common.{◌≡◌, ℕ, Bool, true, false, List, refl, cond}
+use Rattle.std.proofs.Common.{◌≡◌, ◌≢◌, ℕ, Bool, true, false, List, refl, cond}
 use Rattle.std.specs.Prelude.{codes}
 use Rattle.std.specs.Str.{bytes_eq}
 use Rattle.std.proofs.lemmas.Slice.Eq.{bytes_eq-Decides}
@@ -8,7 +8,9 @@ use Rattle.ics_calendar.specs.declared.name.Name.TheVariants as name
 use Rattle.ics_calendar.specs.declared.component.Component.{Component}
 use Rattle.ics_calendar.specs.declared.component.Component.TheVariants as component
 use Rattle.ics_calendar.specs.Names.{name_of}
-use Rattle.ics_calendar.specs.Components.{component_of, component_name}
+use Rattle.ics_calendar.specs.declared.component.Place.{Place}
+use Rattle.ics_calendar.specs.declared.component.Place.TheVariants as place
+use Rattle.ics_calendar.specs.Components.{component_of, component_name, place_in}
 
 -- the name is none of those that a file is read for
 pub record IsUnknown (u : List ℕ) : Type 0 where
@@ -148,3 +150,13 @@ component_name-of u = named (component_of u) (tells_component u)
     named component.Standard e = cc
     named component.Daylight e = cc
     named (component.Other w) e = e.1
+
+-- no component stands outside all components
+pub place-in-outside : (q : Place) (c : Component) → place_in q c ≢ place.Outside
+place-in-outside place.Outside component.Calendar = λ e. cc
+place-in-outside place.Outside _ = λ e. cc
+place-in-outside place.Calendar component.Event = λ e. cc
+place-in-outside place.Calendar _ = λ e. cc
+place-in-outside place.Zone component.Standard = λ e. cc
+place-in-outside place.Zone _ = λ e. cc
+place-in-outside _ c = λ e. cc

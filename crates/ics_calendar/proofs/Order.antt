@@ -57,7 +57,7 @@ none-found : (p : FaultKind → Bool) (front rest : List FaultKind) (k : FaultKi
 none-found p [] rest k e = (skip (p k) k (find p rest) e).0
 none-found p (j ∷ js) rest k e = none-found p js rest k (skip (p j) j (find p (js ++ k ∷ rest)) e).1
 
-nested : (p : FaultKind → Bool) → find p kinds ≡ None → p BadNesting ≡ false
+pub nested : (p : FaultKind → Bool) → find p kinds ≡ None → p BadNesting ≡ false
 nested p e = none-found p (take 11 kinds) (drop 12 kinds) BadNesting e
 
 pub found-none : (number : ℕ) (kind : Option FaultKind) (later : Option Fault) → found number kind later ≡ None → (kind ≡ None) × (later ≡ None)

@@ -1,7 +1,8 @@
 -- One pass with the components that are open finds the first fault of round one, and gathers what the lines say.
-use Rattle.std.proofs.Common.{◌≡◌, ℕ, ◌+◌, ◌<◌, ◌≤◌, List, [], ◌∷◌, ◌++◌, refl, sym, ap, ◌∙◌, append_assoc, arith, cond, Option, Some, None}
+use Rattle.std.proofs.Common.{◌≡◌, ℕ, ◌+◌, ◌<◌, ◌≤◌, List, [], ◌∷◌, ◌++◌, map, refl, sym, ap, ◌∙◌, append_assoc, arith, cond, Option, Some, None, Result, Err}
 use Rattle.std.specs.Prelude.{find, length}
 use Rattle.std.proofs.lemmas.List.{append-nil}
+use Rattle.ics_text.specs.Bytes.{upper}
 use Rattle.ics_text.specs.Unfolded.{Line, Rises}
 use Rattle.ics_text.specs.Contents.{Parts, content_of}
 use Rattle.ics_calendar.specs.declared.fault.FaultKind.{FaultKind}
@@ -13,21 +14,23 @@ use Rattle.ics_calendar.specs.declared.gathered.EndedObservance.{EndedObservance
 use Rattle.ics_calendar.specs.declared.gathered.EndedZone.{EndedZone}
 use Rattle.ics_calendar.specs.declared.gathered.Waiting.{Waiting}
 use Rattle.ics_calendar.specs.declared.later.Later.{Later}
-use Rattle.ics_calendar.specs.declared.property.Property.{Property}
+use Rattle.ics_calendar.specs.declared.gathered.Passed.{Passed}
+use Rattle.ics_calendar.specs.declared.name.Name.{Name}
 use Rattle.ics_calendar.specs.Placed.{Placed, Open, path_behind, placed_from, innermost, beside}
 use Rattle.ics_calendar.specs.Faults.{stands, kinds}
 use Rattle.ics_calendar.specs.FirstFault.{Fault, found, first_from, first_fault, fault_at_end, end_fault, no_open}
 use Rattle.ics_calendar.specs.GatheredSeen.{GatheredSeen}
-use Rattle.ics_calendar.specs.Gathering.{nothing_gathered, zones_of_end, observances_of_end, events_of_end, waits_of}
-use Rattle.ics_calendar.specs.Reading.{read_in, read_on}
-use Rattle.ics_calendar.specs.LineFaults.{fault_in, fault_on, later_in, later_on}
-use Rattle.ics_calendar.specs.Pass.{bottom, behind, ends, is_lowest, at_end, refused, unless, gathered_behind, on_content, pass}
+use Rattle.ics_calendar.specs.Gathering.{nothing_gathered, zones_of_end, observances_of_end, events_of_end, waits_of, and_passed}
+use Rattle.ics_calendar.specs.Lines.{unless as fine}
+use Rattle.ics_calendar.specs.Names.{name_of}
+use Rattle.ics_calendar.specs.Pass.{bottom, is_lowest, at_end, unless, Going, on_line, on_content, pass}
+use Rattle.ics_calendar.proofs.Judged.{fault_in, fault_on, later_in, later_on, behind, ends, passing, line-is}
 use Rattle.ics_calendar.proofs.Table.{frame_of, least-same}
 use Rattle.ics_calendar.proofs.Bundles.{Bundle, Keeps, Before, top_beside, bundles_behind, keeps, Before-more, Before-later, innermost-behind}
-use Rattle.ics_calendar.proofs.Frames.{frames_of, top_of, read-top, with, frames-behind, fault-top, later-top}
+use Rattle.ics_calendar.proofs.Frames.{frames_of, top_of, with, frames-behind, fault-top, later-top, based}
 use Rattle.ics_calendar.proofs.LastLines.{last-more}
-use Rattle.ics_calendar.proofs.Order.{Sort, ended_as, ended_from}
-use Rattle.ics_calendar.proofs.Ended.{events, zones, observances, Picks, events-picked, zones-picked, observances-picked, picked-same}
+use Rattle.ics_calendar.proofs.Order.{Sort, ended_as, ended_from, nested}
+use Rattle.ics_calendar.proofs.Ended.{events, zones, observances, Picks, events-picked, zones-picked, observances-picked, picked-same, IsMatched}
 
 -- WHERE THE LINES END.
 lowest-is : (before : List Placed) (path : List Open) (bundles : List Bundle) → Keeps before path bundles → is_lowest (frames_of path bundles) ≡ no_open path
@@ -49,7 +52,7 @@ end-is-known before l bundles k =
 -- WHAT IS GATHERED of the lines, given those before.
 abbrev pub later_by : Option Parts → Frame → Option Later
 later_by None f = None
-later_by (Some parts) f = later_in (read_in f parts) f
+later_by (Some parts) f = later_in (name_of (map upper parts.name)) parts f
 
 abbrev pub waits_on : List Placed → Placed → List Waiting
 waits_on beside line = waits_of line.number (later_by line.content (frame_of line.path beside))
@@ -81,6 +84,10 @@ module _ {X : Type 0} where
   further had here more rest e = ap (λ m. (had ++ m) ++ rest) e ∙ append_assoc had here rest
 
 -- THE PASS.
+abbrev pub refused : {X : Type 0} → ℕ → Option FaultKind → Result X Fault → Result X Fault
+refused number (Some kind) later = Err (record { line = number; kind = kind })
+refused number None later = later
+
 passes : {X : Type 0} (number : ℕ) (kind : Option FaultKind) (first : Option Fault) (x : X) → refused number kind (unless first x) ≡ unless (found number kind first) x
 passes number (Some k) first x = refl
 passes number None first x = refl
@@ -94,27 +101,32 @@ abbrev pub with_content : Line → List Open → Option Parts → Placed
 with_content line path o = record { number = line.number; content = o; path = path }
 
 -- a line adds what ends there as its component says, and what waits there
-ends-same : {X : Type 0} (s : Sort X) (pick : Ended → List X) → Picks s pick → (before : List Placed) (line : Line) (path : List Open) (v : Parts) (bundles : List Bundle) → Keeps before path bundles →
-    pick (ends (read_in (frame_of path (beside before (with line path v))) v) (frames_of path bundles)) ≡ ended_as s (beside before (with line path v)) (with line path v)
-ends-same s pick picks before line path v bundles k =
-    let l : Placed = with line path v in
-    ap (λ ls. pick (ends (read_in (frame_of path ls) v) (frames_of path bundles))) (sym (top_beside before l bundles k))
-    ∙ picked-same s pick picks before line path v bundles k ∙ ap (λ ls. ended_as s ls l) (top_beside before l bundles k)
+ends-same : {X : Type 0} (s : Sort X) (pick : Ended → List X) → Picks s pick → (before : List Placed) (line : Line) (path : List Open) (v : Parts) (bundles : List Bundle) → Keeps before path bundles → IsMatched (with line path v) →
+    pick (ends (name_of (map upper v.name)) (frames_of path bundles)) ≡ ended_as s (beside before (with line path v)) (with line path v)
+ends-same s pick picks before line path v bundles k m = picked-same s pick picks before line path v bundles k m ∙ ap (λ ls. ended_as s ls (with line path v)) (top_beside before (with line path v) bundles k)
 
-gathered-step : (line : Line) (before : List Placed) (bundles : List Bundle) (path : List Open) (v : Parts) (had : GatheredSeen) (rest : List Placed) → Keeps before path bundles →
-    gathered_from (gathered_behind line.number (read_in (frame_of path (beside before (with line path v))) v) (frames_of path bundles) had) (before ++ with line path v ∷ []) rest
+gathered-step : (line : Line) (before : List Placed) (bundles : List Bundle) (path : List Open) (v : Parts) (had : GatheredSeen) (rest : List Placed) → Keeps before path bundles → IsMatched (with line path v) →
+    gathered_from (and_passed line.number (passing (name_of (map upper v.name)) v (frames_of path bundles)) had) (before ++ with line path v ∷ []) rest
     ≡ gathered_from had before (with line path v ∷ rest)
-gathered-step line before bundles path v had rest k =
+gathered-step line before bundles path v had rest k m =
     let l : Placed = with line path v in
-    let f : Frame = frame_of path (beside before l) in
-    let p : Property = read_in f v in
+    let n : Name = name_of (map upper v.name) in
     let frames : List Frame = frames_of path bundles in
-    let top : top_of path bundles ≡ f = ap (frame_of path) (top_beside before l bundles k) in
+    let top : top_of path bundles ≡ frame_of path (beside before l) = ap (frame_of path) (top_beside before l bundles k) in
     four
-    (further had.zones (ended_as zones (beside before l) l) (zones_of_end (ends p frames)) (ended_from zones (before ++ l ∷ []) rest) (ends-same zones zones_of_end zones-picked before line path v bundles k))
-    (further had.observances (ended_as observances (beside before l) l) (observances_of_end (ends p frames)) (ended_from observances (before ++ l ∷ []) rest) (ends-same observances observances_of_end observances-picked before line path v bundles k))
-    (further had.events (ended_as events (beside before l) l) (events_of_end (ends p frames)) (ended_from events (before ++ l ∷ []) rest) (ends-same events events_of_end events-picked before line path v bundles k))
-    (further had.waits (waits_on (beside before l) l) (waits_of line.number (later_on p frames)) (waits_from (before ++ l ∷ []) rest) (ap (waits_of line.number) (later-top p before path bundles k ∙ ap (λ f. later_in p f) top)))
+    (further had.zones (ended_as zones (beside before l) l) (zones_of_end (ends n frames)) (ended_from zones (before ++ l ∷ []) rest) (ends-same zones zones_of_end zones-picked before line path v bundles k m))
+    (further had.observances (ended_as observances (beside before l) l) (observances_of_end (ends n frames)) (ended_from observances (before ++ l ∷ []) rest) (ends-same observances observances_of_end observances-picked before line path v bundles k m))
+    (further had.events (ended_as events (beside before l) l) (events_of_end (ends n frames)) (ended_from events (before ++ l ∷ []) rest) (ends-same events events_of_end events-picked before line path v bundles k m))
+    (further had.waits (waits_on (beside before l) l) (waits_of line.number (later_on n v frames)) (waits_from (before ++ l ∷ []) rest) (ap (waits_of line.number) (later-top n v before path bundles k ∙ ap (later_in n v) top)))
+
+-- a line without a fault, and one with
+pub on-line-is : (number : ℕ) (o : Option FaultKind) (fs : List Frame) (p : Passed) (had : GatheredSeen) (later : Going) → on_line number (fine o (fs, p)) had later ≡ refused number o (later fs (and_passed number p had))
+on-line-is number None fs p had later = refl
+on-line-is number (Some k) fs p had later = refl
+
+where-fine : {X : Type 0} (number : ℕ) (kind : Option FaultKind) (a b : Result X Fault) → (kind ≡ None → a ≡ b) → refused number kind a ≡ refused number kind b
+where-fine number None a b e = e refl
+where-fine number (Some k) a b e = refl
 
 step : (line : Line) (lines : List Line) → Known lines → (o : Option Parts) (before : List Placed) (bundles : List Bundle) (path : List Open) (n : ℕ) (had : GatheredSeen) →
     Keeps before path bundles → Before (n + 1) before → innermost path ≤ n → n < line.number → Rises line.number lines →
@@ -123,29 +135,27 @@ step : (line : Line) (lines : List Line) → Known lines → (o : Option Parts) 
 step line lines again None before bundles path n had k h in_path less r = refl
 step line lines again (Some v) before bundles path n had k h in_path less r =
     let l : Placed = with line path v in
+    let m : Name = name_of (map upper v.name) in
     let frames : List Frame = frames_of path bundles in
-    let f : Frame = frame_of path (beside before l) in
-    let p : Property = read_in f v in
+    let go : Going = λ frames had. pass frames (Some line.number) had lines in
     let inner : innermost path < line.number = omega (arith, in_path, less) in
     let fresh_lines : Before line.number before = Before-later (n + 1) line.number before (omega (arith, less)) h in
     let more : Before (line.number + 1) (before ++ l ∷ []) = Before-more (line.number + 1) before l (Before-later line.number (line.number + 1) before (omega arith) fresh_lines) (omega (arith, inner)) in
     let kept : Keeps (before ++ l ∷ []) (path_behind l) (bundles_behind l bundles) = keeps before l bundles fresh_lines inner k in
-    let top : top_of path bundles ≡ f = ap (frame_of path) (top_beside before l bundles k) in
-    let reads : read_on frames v ≡ p = read-top before path bundles v k ∙ ap (λ f. read_in f v) top in
-    let least : fault_on p frames ≡ find (λ kind. stands kind (beside before l) l) kinds =
-    fault-top p before path bundles k ∙ ap (λ f. fault_in p f (length path)) top ∙ sym (least-same path line.number v (beside before l)) in
-    let next : behind line.number p frames ≡ frames_of (path_behind l) (bundles_behind l bundles) =
-    ap (λ f. behind line.number (read_in f v) frames) (sym top) ∙ sym (frames-behind before line path v bundles k) in
+    let top : top_of path bundles ≡ frame_of path (beside before l) = ap (frame_of path) (top_beside before l bundles k) in
     let first : Option FaultKind = find (λ kind. stands kind (beside before l) l) kinds in
+    let least : fault_on m v frames ≡ first = fault-top m v before path bundles k ∙ ap (λ f. fault_in m v f (length path)) top ∙ sym (least-same path line.number v (beside before l)) in
     let rest : List Placed = placed_from (path_behind l) lines in
     let first_behind : Option Fault = first_from stands fault_at_end (before ++ l ∷ []) rest in
-    let now : GatheredSeen = gathered_behind line.number p frames had in
-    ap (λ p. refused line.number (fault_on p frames) (pass (behind line.number p frames) (Some line.number) (gathered_behind line.number p frames had) lines)) reads
-    ∙ ap (λ k. refused line.number k (pass (behind line.number p frames) (Some line.number) now lines)) least
-    ∙ ap (λ fs. refused line.number first (pass fs (Some line.number) now lines)) next
+    let now : GatheredSeen = and_passed line.number (passing m v frames) had in
+    ap (λ r. on_line line.number r had go) (line-is line.number m v frames (based before path bundles k))
+    ∙ on-line-is line.number (fault_on m v frames) (behind line.number m v frames) (passing m v frames) had go
+    ∙ ap (λ k. refused line.number k (go (behind line.number m v frames) now)) least
+    ∙ ap (λ fs. refused line.number first (go fs now)) (sym (frames-behind before line path v bundles k))
     ∙ ap (refused line.number first)
     (again (before ++ l ∷ []) (bundles_behind l bundles) (path_behind l) line.number (Some line.number) now kept more (innermost-behind l inner bundles before k) r (end-is-known before l (bundles_behind l bundles) kept))
-    ∙ ap (λ g. refused line.number first (unless first_behind g)) (gathered-step line before bundles path v had rest k)
+    ∙ where-fine line.number first (unless first_behind (gathered_from now (before ++ l ∷ []) rest)) (unless first_behind (gathered_from had before (l ∷ rest)))
+    (λ none. ap (unless first_behind) (gathered-step line before bundles path v had rest k (nested (λ kind. stands kind (beside before l) l) none)))
     ∙ passes line.number first first_behind (gathered_from had before (l ∷ rest))
 
 -- THE PASS SAYS WHAT THE LINES ARE.

@@ -1,8 +1,9 @@
 -- What is gathered is sound, where the first round finds nothing.
-use Rattle.std.proofs.Common.{◌≡◌, ℕ, ◌+◌, ◌<◌, ◌≤◌, zero, suc, Bool, true, false, IsTrue, List, [], ◌∷◌, ◌++◌, map, filter, refl, sym, subst, ◌∙◌, arith, cond, Option, Some, None, Ok}
+use Rattle.std.proofs.Common.{◌≡◌, ℕ, ◌+◌, ◌<◌, ◌≤◌, zero, suc, Bool, true, false, IsTrue, List, [], ◌∷◌, ◌++◌, map, filter, refl, sym, ap, subst, ◌∙◌, arith, cond, Option, Some, None, Ok}
 use Rattle.std.specs.List.{All, Contains, slice_index}
 use Rattle.std.specs.List.Sorted.{IsStrictlyIncreasing}
 use Rattle.std.proofs.lemmas.List.Elements.{All-nil, All-append, All-weaker, Contains-append_left}
+use Rattle.ics_text.specs.Bytes.{upper}
 use Rattle.ics_text.specs.Unfolded.{Line, Rises}
 use Rattle.ics_text.specs.Contents.{Parts, content_of}
 use Rattle.ics_calendar.specs.declared.fault.FaultKind.{FaultKind}
@@ -10,25 +11,31 @@ use Rattle.ics_calendar.specs.declared.frame.Frame.{Frame}
 use Rattle.ics_calendar.specs.declared.gathered.EndedEvent.{EndedEvent}
 use Rattle.ics_calendar.specs.declared.gathered.EndedZone.{EndedZone}
 use Rattle.ics_calendar.specs.declared.later.Later.{Later}
-use Rattle.ics_calendar.specs.declared.property.Property.{Property}
+use Rattle.ics_calendar.specs.declared.component.Component.{Component}
+use Rattle.ics_calendar.specs.declared.name.Name.{Name}
+use Rattle.ics_calendar.specs.declared.summary.Summary.{Summary}
 use Rattle.ics_calendar.specs.Faults.{stands}
 use Rattle.ics_calendar.specs.FirstFault.{Fault, first_from, first_fault, fault_at_end}
 use Rattle.ics_calendar.specs.GatheredSeen.{GatheredSeen}
-use Rattle.ics_calendar.specs.GatheredSound.{IsAwaited, IsSoundLater, IsSoundGathered}
-use Rattle.ics_calendar.specs.Gathering.{nothing_gathered, zones_of_end, observances_of_end, events_of_end, waits_of}
-use Rattle.ics_calendar.specs.LineFaults.{fault_on, ends_in, later_on}
-use Rattle.ics_calendar.specs.Pass.{bottom, behind, ends, at_end, refused, unless, gathered_behind, on_content, pass}
+use Rattle.ics_calendar.specs.GatheredSound.{IsSoundLater, IsSoundGathered}
+use Rattle.ics_calendar.specs.Gathering.{nothing_gathered, zones_of_end, observances_of_end, events_of_end, waits_of, and_passed}
+use Rattle.ics_calendar.specs.Components.{component_of}
+use Rattle.ics_calendar.specs.Lines.{begin_in, opened}
+use Rattle.ics_calendar.specs.Names.{name_of}
+use Rattle.ics_calendar.specs.Ready.{EachZone}
+use Rattle.ics_calendar.specs.Pass.{bottom, at_end, unless, Going, on_line, on_content, pass}
+use Rattle.ics_calendar.proofs.Judged.{fault_on, later_in, summary_note, closed, behind, ends, passing, IsBased, is_begin_name, is_end_name, behind-is, line-is}
+use Rattle.ics_calendar.proofs.NameLemmas.{place-in-outside}
 use Rattle.ics_calendar.specs.Placed.{Placed, Open, path_behind, placed_from, lines_in}
-use Rattle.ics_calendar.specs.Reading.{read_on}
 use Rattle.ics_calendar.specs.Sound.{IsWhole}
 use Rattle.ics_calendar.specs.Zones.{begins_zone}
 use Rattle.ics_calendar.specs.ZonesSound.{IsSoundObservance, has_observance}
-use Rattle.ics_calendar.proofs.Awaits.{laters, one, laters-more, zones-more, AreAwaited, awaited-behind, ended-awaited, waits-sound}
+use Rattle.ics_calendar.proofs.Awaits.{laters, one, laters-more, AreAwaited, awaited-behind, ended-awaited, waits-sound}
 use Rattle.ics_calendar.proofs.Ended.{zones}
 use Rattle.ics_calendar.proofs.Filled.{AreFilled, part-more, filled-behind, zone-ends-filled}
-use Rattle.ics_calendar.proofs.Listed.{some-weaker}
+use Rattle.ics_calendar.proofs.Listed.{each-weaker}
 use Rattle.ics_calendar.proofs.Order.{inside, begun, ended_from, ordered}
-use Rattle.ics_calendar.proofs.PassLemmas.{gathered_from, pass-whole}
+use Rattle.ics_calendar.proofs.PassLemmas.{gathered_from, pass-whole, refused, on-line-is}
 use Rattle.ics_calendar.proofs.Phases.{observances-sound, events-whole}
 use Rattle.ics_calendar.proofs.Sound.{AreSound, sound-behind}
 use Rattle.ics_calendar.proofs.ZoneOrder.{zones-are}
@@ -37,52 +44,64 @@ use Rattle.ics_calendar.proofs.ZoneOrder.{zones-are}
 record IsGood (g : GatheredSeen) : Type 0 where
   pub filled : All (λ z. IsTrue (has_observance g.observances z)) g.zones
   pub parts : All IsSoundObservance g.observances
-  pub whole : All (λ e. IsWhole e.had) g.events
-  pub awaited : All (IsAwaited (laters g.waits)) g.events
+  pub whole : All IsWhole g.events
+  pub awaited : All (EachZone (Contains (laters g.waits))) g.events
   pub waits : All (λ w. IsSoundLater w.later) g.waits
 
 record Holds (frames : List Frame) (g : GatheredSeen) : Type 0 where
+  pub base : IsBased frames
   pub sound : AreSound frames
   pub awaited : AreAwaited (laters g.waits) frames
   pub filled : AreFilled false g.observances frames
   pub good : IsGood g
 
 -- an event that is awaited stays so
-still-awaited : (waits more : List Later) (es : List EndedEvent) → All (IsAwaited waits) es → All (IsAwaited (waits ++ more)) es
-still-awaited waits more es h =
-    All-weaker (IsAwaited waits) (IsAwaited (waits ++ more))
-    (λ e a. record {
-      zones = zones-more waits more e.calendar e.had a.zones;
-      length = some-weaker (Contains waits) (Contains (waits ++ more)) (λ l. Contains-append_left waits more l) (ends_in e.calendar e.had.start e.had.end) a.length;
-    }) es h
+still-awaited : (waits more : List Later) (es : List EndedEvent) → All (EachZone (Contains waits)) es → All (EachZone (Contains (waits ++ more))) es
+still-awaited waits more es h = All-weaker (EachZone (Contains waits)) (EachZone (Contains (waits ++ more))) (λ e a. each-weaker (Contains waits) (Contains (waits ++ more)) (λ l. Contains-append_left waits more l) e a) es h
 
-good-behind : (number : ℕ) (p : Property) (frames : List Frame) (g : GatheredSeen) → fault_on p frames ≡ None → Holds frames g → IsGood (gathered_behind number p frames g)
-good-behind number p frames g e h =
-    let more : laters (g.waits ++ waits_of number (later_on p frames)) ≡ laters g.waits ++ one (later_on p frames) = laters-more g.waits number (later_on p frames) in
-    let os = observances_of_end (ends p frames) in
+-- the lowest frame stays the only one outside
+based-behind : (number : ℕ) (n : Name) (v : Parts) (f : Frame) (fs : List Frame) → IsBased (f ∷ fs) → IsBased (behind number n v (f ∷ fs))
+based-behind number n v f fs b = subst (λ (gs : List Frame). IsBased gs) (sym (behind-is number n v f fs)) (by_tests (is_begin_name n) (is_end_name n) fs b)
+  where
+    c : Component
+    c = component_of (map upper v.value)
+
+    lifted : (s : Summary) (fs : List Frame) → IsBased (f ∷ fs) → IsBased (record f { summary = s } ∷ fs)
+    lifted s [] b = b
+    lifted s (g ∷ gs) b = b
+
+    by_tests : (t e : Bool) (fs : List Frame) → IsBased (f ∷ fs) → IsBased (cond t (opened number c (f ∷ fs)) (cond e (closed (f ∷ fs)) (record f { summary = summary_note n v f.summary } ∷ fs)))
+    by_tests true e fs b = (place-in-outside f.place c, lifted (begin_in c f.summary) fs b)
+    by_tests false true [] b = b
+    by_tests false true (g ∷ gs) b = b.1
+    by_tests false false fs b = lifted (summary_note n v f.summary) fs b
+
+good-behind : (number : ℕ) (n : Name) (v : Parts) (f : Frame) (fs : List Frame) (g : GatheredSeen) → fault_on n v (f ∷ fs) ≡ None → Holds (f ∷ fs) g → IsGood (and_passed number (passing n v (f ∷ fs)) g)
+good-behind number n v f fs g e h =
+    let late : Option Later = later_in n v f in
+    let more : laters (g.waits ++ waits_of number late) ≡ laters g.waits ++ one late = laters-more g.waits number late in
+    let os = observances_of_end (ends n (f ∷ fs)) in
     record {
       filled =
-          All-append (λ z. IsTrue (has_observance (g.observances ++ os) z)) g.zones (zones_of_end (ends p frames))
+          All-append (λ z. IsTrue (has_observance (g.observances ++ os) z)) g.zones (zones_of_end (ends n (f ∷ fs)))
           (All-weaker (λ z. IsTrue (has_observance g.observances z)) (λ z. IsTrue (has_observance (g.observances ++ os) z)) (λ (z : EndedZone) t. part-more z.begun g.observances os t) g.zones h.good.filled)
-          (All-weaker (λ z. IsTrue (has_observance g.observances z)) (λ z. IsTrue (has_observance (g.observances ++ os) z)) (λ (z : EndedZone) t. part-more z.begun g.observances os t) (zones_of_end (ends p frames)) (zone-ends-filled g.observances p frames e h.filled));
-      parts = All-append IsSoundObservance g.observances os h.good.parts (observances-sound p frames h.sound);
-      whole = All-append (λ e. IsWhole e.had) g.events (events_of_end (ends p frames)) h.good.whole (events-whole p frames e h.sound);
+          (All-weaker (λ z. IsTrue (has_observance g.observances z)) (λ z. IsTrue (has_observance (g.observances ++ os) z)) (λ (z : EndedZone) t. part-more z.begun g.observances os t) (zones_of_end (ends n (f ∷ fs))) (zone-ends-filled g.observances n v (f ∷ fs) e h.filled));
+      parts = All-append IsSoundObservance g.observances os h.good.parts (observances-sound n (f ∷ fs) h.sound);
+      whole = All-append IsWhole g.events (events_of_end (ends n (f ∷ fs))) h.good.whole (events-whole n v (f ∷ fs) e h.sound);
       awaited =
-          subst (λ (ls : List Later). All (IsAwaited ls) (g.events ++ events_of_end (ends p frames))) (sym more)
-          (All-append (IsAwaited (laters g.waits ++ one (later_on p frames))) g.events (events_of_end (ends p frames)) (still-awaited (laters g.waits) (one (later_on p frames)) g.events h.good.awaited) (ended-awaited (laters g.waits) p frames h.awaited));
-      waits = All-append (λ w. IsSoundLater w.later) g.waits (waits_of number (later_on p frames)) h.good.waits (waits-sound number p frames h.sound);
+          subst (λ (ls : List Later). All (EachZone (Contains ls)) (g.events ++ events_of_end (ends n (f ∷ fs)))) (sym more)
+          (All-append (EachZone (Contains (laters g.waits ++ one late))) g.events (events_of_end (ends n (f ∷ fs))) (still-awaited (laters g.waits) (one late) g.events h.good.awaited) (ended-awaited (laters g.waits) n v f fs h.awaited));
+      waits = All-append (λ w. IsSoundLater w.later) g.waits (waits_of number late) h.good.waits (waits-sound number n v f h.sound.0);
     }
 
-holds-behind : (number : ℕ) (frames : List Frame) (v : Parts) (g : GatheredSeen) → fault_on (read_on frames v) frames ≡ None → Holds frames g →
-    Holds (behind number (read_on frames v) frames) (gathered_behind number (read_on frames v) frames g)
-holds-behind number frames v g e h =
-    let p : Property = read_on frames v in
-    record {
-      sound = sound-behind number frames v e h.sound;
-      awaited = subst (λ (ls : List Later). AreAwaited ls (behind number p frames)) (sym (laters-more g.waits number (later_on p frames))) (awaited-behind (laters g.waits) number p frames h.awaited);
-      filled = filled-behind g.observances number p frames e h.sound h.filled;
-      good = good-behind number p frames g e h;
-    }
+holds-behind : (number : ℕ) (n : Name) (v : Parts) (f : Frame) (fs : List Frame) (g : GatheredSeen) → fault_on n v (f ∷ fs) ≡ None → Holds (f ∷ fs) g → Holds (behind number n v (f ∷ fs)) (and_passed number (passing n v (f ∷ fs)) g)
+holds-behind number n v f fs g e h = record {
+  base = based-behind number n v f fs h.base;
+  sound = sound-behind number n v f fs h.sound;
+  awaited = subst (λ (ls : List Later). AreAwaited ls (behind number n v (f ∷ fs))) (sym (laters-more g.waits number (later_in n v f))) (awaited-behind (laters g.waits) number n v f fs h.awaited);
+  filled = filled-behind g.observances number n v f fs h.sound.0 h.filled;
+  good = good-behind number n v f fs g e h;
+}
 
 -- THE PASS keeps it.
 pass-good : (lines : List Line) (frames : List Frame) (last : Option ℕ) (had g : GatheredSeen) → Holds frames had → pass frames last had lines ≡ Ok g → IsGood g
@@ -91,30 +110,37 @@ pass-good [] frames last had g h = by_end (at_end frames last)
     by_end : (o : Option Fault) → unless o had ≡ Ok g → IsGood g
     by_end None e = let same : had ≡ g = cc in subst (λ (g : GatheredSeen). IsGood g) same h.good
     by_end (Some f) e = cc
-pass-good (line ∷ lines) frames last had g h = by_content (λ fs had. pass-good lines fs (Some line.number) had g) (content_of line.bytes)
+pass-good (line ∷ lines) [] last had g h = absurd h.base
+pass-good (line ∷ lines) (f ∷ fs) last had g h = by_content (λ fs had. pass-good lines fs (Some line.number) had g) (content_of line.bytes)
   where
-    by_content : ((fs : List Frame) (had : GatheredSeen) → Holds fs had → pass fs (Some line.number) had lines ≡ Ok g → IsGood g) →
-        (o : Option Parts) → on_content line.number o frames had (λ frames had. pass frames (Some line.number) had lines) ≡ Ok g → IsGood g
-    by_content again None e = cc
-    by_content again (Some v) e = by_fault (fault_on p frames) refl e
-      where
-        p : Property
-        p = read_on frames v
+    go : Going
+    go frames had = pass frames (Some line.number) had lines
 
-        by_fault : (k : Option FaultKind) → fault_on p frames ≡ k → refused line.number k (pass (behind line.number p frames) (Some line.number) (gathered_behind line.number p frames had) lines) ≡ Ok g → IsGood g
+    by_content : ((fs : List Frame) (had : GatheredSeen) → Holds fs had → pass fs (Some line.number) had lines ≡ Ok g → IsGood g) →
+        (o : Option Parts) → on_content line.number o (f ∷ fs) had go ≡ Ok g → IsGood g
+    by_content again None e = cc
+    by_content again (Some v) e =
+        by_fault (fault_on n v (f ∷ fs)) refl
+        (sym (ap (λ r. on_line line.number r had go) (line-is line.number n v (f ∷ fs) h.base) ∙ on-line-is line.number (fault_on n v (f ∷ fs)) (behind line.number n v (f ∷ fs)) (passing n v (f ∷ fs)) had go) ∙ e)
+      where
+        n : Name
+        n = name_of (map upper v.name)
+
+        by_fault : (k : Option FaultKind) → fault_on n v (f ∷ fs) ≡ k → refused line.number k (go (behind line.number n v (f ∷ fs)) (and_passed line.number (passing n v (f ∷ fs)) had)) ≡ Ok g → IsGood g
         by_fault (Some k) f e = cc
-        by_fault None f e = again (behind line.number p frames) (gathered_behind line.number p frames had) (holds-behind line.number frames v had f h) e
+        by_fault None none e = again (behind line.number n v (f ∷ fs)) (and_passed line.number (passing n v (f ∷ fs)) had) (holds-behind line.number n v f fs had none h) e
 
 holds-first : Holds (bottom ∷ []) nothing_gathered
 holds-first = record {
+  base = refl;
   sound = (tt, tt);
   awaited = (tt, tt);
   filled = (tt, tt);
   good = record {
     filled = All-nil (λ z. IsTrue (has_observance [] z));
     parts = All-nil IsSoundObservance;
-    whole = All-nil (λ e. IsWhole e.had);
-    awaited = All-nil (IsAwaited []);
+    whole = All-nil IsWhole;
+    awaited = All-nil (EachZone (Contains []));
     waits = All-nil (λ w. IsSoundLater w.later);
   };
 }

@@ -1,5 +1,5 @@
 -- The table of faults and the pass, for each name that a line may have.
-use Rattle.std.proofs.Common.{◌≡◌, ℕ, Bool, true, false, List, [], ◌∷◌, map, refl, cond, Option, Some, None}
+use Rattle.std.proofs.Common.{◌≡◌, ℕ, Bool, true, false, List, [], ◌∷◌, map, refl, ap, ◌∙◌, cond, Option, Some, None, Result, Ok, Err, ℤ}
 use Rattle.std.specs.Prelude.{codes, nat_le, not, ◌&&◌, ◌||◌, is_some, if◌then◌else◌}
 use Rattle.std.specs.List.{list_any}
 use Rattle.std.specs.Str.{bytes_eq}
@@ -9,6 +9,19 @@ use Rattle.ics_values.specs.Integers.{integer_of}
 use Rattle.ics_values.specs.Offsets.{offset_of}
 use Rattle.ics_values.specs.Rules.{rule_of}
 use Rattle.ics_values.specs.Stamps.{stamp_of}
+use Rattle.ics_values.specs.RuleParts.{RuleParts}
+use Rattle.ics_values.specs.declared.duration.Duration.{Duration}
+use Rattle.ics_values.specs.declared.duration.DurationFault.{DurationFault}
+use Rattle.ics_values.specs.declared.duration.DurationFault.TheVariants as duration_fault
+use Rattle.ics_values.specs.declared.integer.IntegerFault.{IntegerFault}
+use Rattle.ics_values.specs.declared.integer.IntegerFault.TheVariants as integer_fault
+use Rattle.ics_values.specs.declared.offset.BadOffset.{BadOffset as OffsetFault}
+use Rattle.ics_values.specs.declared.rule_text.RuleFault.{RuleFault}
+use Rattle.ics_values.specs.declared.rule_text.RuleFault.TheVariants as rule_fault
+use Rattle.ics_values.specs.declared.stamp.Stamp.{Stamp}
+use Rattle.ics_values.specs.declared.stamp.Stamp.TheVariants.{Date, Floating, Utc, Zoned}
+use Rattle.ics_values.specs.declared.stamp.StampFault.{StampFault}
+use Rattle.ics_values.specs.declared.stamp.StampFault.TheVariants as stamp_fault
 use Rattle.ics_calendar.specs.declared.collected.Collected.{Collected}
 use Rattle.ics_calendar.specs.declared.component.Component.{Component}
 use Rattle.ics_calendar.specs.declared.component.Component.TheVariants as component
@@ -21,17 +34,16 @@ use Rattle.ics_calendar.specs.declared.date_values.DateValue.TheVariants.{At}
 use Rattle.ics_calendar.specs.declared.frame.Frame.{Frame}
 use Rattle.ics_calendar.specs.declared.name.Name.{Name}
 use Rattle.ics_calendar.specs.declared.name.Name.TheVariants as name
-use Rattle.ics_calendar.specs.declared.property.Property.TheVariants as property
 use Rattle.ics_calendar.specs.declared.summary.ObservanceSummary.{ObservanceSummary}
 use Rattle.ics_calendar.specs.declared.summary.Summary.{Summary}
 use Rattle.ics_calendar.specs.declared.summary.Summary.TheVariants as summary
 use Rattle.ics_calendar.specs.declared.summary.ZoneSummary.{ZoneSummary}
 use Rattle.ics_calendar.specs.Components.{component_of, component_name, is_outside_place, is_calendar_place, is_event_place, is_zone_place, is_observance_place}
 use Rattle.ics_calendar.specs.DateValues.{rdates_of, exdates_of, has_bad_stamp, has_far_stamp, has_bad_duration, has_large_duration, is_not_local}
-use Rattle.ics_calendar.specs.Values.{zone_name, dated_of, is_bad_stamp, is_far_stamp, lasting_of, is_bad_duration, is_large_duration, is_bad_offset, is_bad_rule, is_large_rule, is_fine_rule, is_large_integer, is_filled, ends_badly}
+use Rattle.ics_calendar.specs.Values.{zone_name, stamp_read, is_bad_stamp, is_far_stamp, lasting_of, is_bad_duration, is_large_duration, is_bad_offset, is_bad_rule, is_large_rule, is_fine_rule, is_large_integer, is_filled, ends_badly}
 use Rattle.ics_calendar.specs.Faults.{stamp_names, single_names, offset_names, field_names}
-use Rattle.ics_calendar.specs.Reading.{read_as}
-use Rattle.ics_calendar.specs.LineFaults.{fault_in}
+use Rattle.ics_calendar.specs.Lines.{first, fault_if, stamp_fault_of, duration_fault_of, rule_fault_of, number_fault_of, offset_fault_of, outside_fault}
+use Rattle.ics_calendar.proofs.Judged.{fault_in}
 use Rattle.ics_calendar.proofs.NameLemmas.{IsUnknown, TellsComponent, tells_component}
 
 abbrev pub dates_at : List ℕ → Parts → List DateValue
@@ -49,11 +61,11 @@ onsets_at u v =
 -- The table, of what it reads of a line: its name, its value in upper case, its parts, its place, and tests of what stands around it.
 abbrev pub flat : (u w : List ℕ) (v : Parts) (q : Place) (cl deep filled start be some fields h : Bool) → Option FaultKind
 flat u w v q cl deep filled start be some fields h =
-    if (is_observance_place q && list_any has_bad_stamp (onsets_at u v)) || (is_event_place q && list_any has_bad_stamp (dates_at u v)) || (is_event_place q && list_any (bytes_eq u) stamp_names && is_bad_stamp (dated_of v.params v.value).stamp) then Some BadStamp
+    if (is_observance_place q && list_any has_bad_stamp (onsets_at u v)) || (is_event_place q && list_any has_bad_stamp (dates_at u v)) || (is_event_place q && list_any (bytes_eq u) stamp_names && is_bad_stamp (stamp_read v.params v.value)) then Some BadStamp
     else if (is_observance_place q && list_any has_bad_duration (onsets_at u v)) || (is_event_place q && list_any has_bad_duration (dates_at u v)) || (is_event_place q && bytes_eq u (codes "DURATION") && is_bad_duration (lasting_of v.value)) then Some BadDuration
     else if is_observance_place q && list_any (bytes_eq u) offset_names && is_bad_offset (offset_of v.value) then Some BadOffset
     else if (is_event_place q || is_observance_place q) && bytes_eq u (codes "RRULE") && is_bad_rule (rule_of v.value) then Some BadRule
-    else if (is_observance_place q && list_any has_far_stamp (onsets_at u v)) || (is_event_place q && list_any has_far_stamp (dates_at u v)) || (is_event_place q && list_any (bytes_eq u) stamp_names && is_far_stamp (dated_of v.params v.value).stamp) then Some YearRange
+    else if (is_observance_place q && list_any has_far_stamp (onsets_at u v)) || (is_event_place q && list_any has_far_stamp (dates_at u v)) || (is_event_place q && list_any (bytes_eq u) stamp_names && is_far_stamp (stamp_read v.params v.value)) then Some YearRange
     else if (is_observance_place q && list_any has_large_duration (onsets_at u v))
     || (is_event_place q && list_any has_large_duration (dates_at u v))
     || (is_event_place q && bytes_eq u (codes "DURATION") && is_large_duration (lasting_of v.value))
@@ -106,7 +118,7 @@ abbrev pub flat_of : List ℕ → Parts → Place → Bool → ℕ → Gathered 
 flat_of u v q cl depth g h = flat u (map upper v.value) v q cl (nat_le 32 depth) (is_filled g.event.uid) (is_some g.event.start) (bad_end_of g.event) g.zone.has_observance (has_fields q g) h
 
 abbrev pub fault_of : Name → Parts → Component → Place → ℕ → Gathered → Option FaultKind
-fault_of n v c q depth g = fault_in (read_as n (frame_at c q g) v) (frame_at c q g) depth
+fault_of n v c q depth g = fault_in n v (frame_at c q g) depth
 
 -- the properties that both an event and an observance have
 abbrev pub start_flag : Place → Gathered → Bool
@@ -121,39 +133,105 @@ pub or-false : (b : Bool) → (b || false) ≡ b
 or-false true = refl
 or-false false = refl
 
+-- what a value meets, and then what its line meets
+stamp-row : (r : Result Stamp StampFault) (m : Option FaultKind) → cond (is_bad_stamp r) (Some BadStamp) (cond (is_far_stamp r) (Some YearRange) m) ≡ first (stamp_fault_of r) m
+stamp-row (Ok s) m = refl
+stamp-row (Err stamp_fault.BadStamp) m = refl
+stamp-row (Err stamp_fault.YearRange) m = refl
+
+recurrence-row : (r : Result Stamp StampFault) (h t : Bool) →
+    cond (is_bad_stamp r) (Some BadStamp) (cond (is_far_stamp r) (Some YearRange) (cond h (Some Repeated) (cond t (Some ThisAndFuture) None))) ≡ first (first (stamp_fault_of r) (fault_if Repeated h)) (fault_if ThisAndFuture t)
+recurrence-row (Ok s) true t = refl
+recurrence-row (Ok s) false t = refl
+recurrence-row (Err stamp_fault.BadStamp) h t = refl
+recurrence-row (Err stamp_fault.YearRange) h t = refl
+
+onset-row : (r : Result Stamp StampFault) (h : Bool) → cond (is_bad_stamp r) (Some BadStamp) (cond (is_far_stamp r) (Some YearRange) (cond (is_not_local (At r) || h) (Some ObservanceField) None))
+    ≡ first (first (stamp_fault_of r) (fault_if ObservanceField (is_not_local (At r)))) (fault_if ObservanceField h)
+onset-row (Ok (Floating local)) h = refl
+onset-row (Ok (Date day)) h = refl
+onset-row (Ok (Utc local)) h = refl
+onset-row (Ok (Zoned local)) h = refl
+onset-row (Err stamp_fault.BadStamp) h = refl
+onset-row (Err stamp_fault.YearRange) h = refl
+
+duration-row : (d : Result Duration DurationFault) (m : Option FaultKind) → cond (is_bad_duration d) (Some BadDuration) (cond (is_large_duration d) (Some NumberTooLarge) m) ≡ first (duration_fault_of d) m
+duration-row (Ok d) m = refl
+duration-row (Err duration_fault.BadDuration) m = refl
+duration-row (Err duration_fault.NumberTooLarge) m = refl
+
+rule-row : (r : Result RuleParts RuleFault) (m : Option FaultKind) → cond (is_bad_rule r) (Some BadRule) (cond (is_large_rule r) (Some NumberTooLarge) m) ≡ first (rule_fault_of r) m
+rule-row (Ok parts) m = refl
+rule-row (Err rule_fault.BadRule) m = refl
+rule-row (Err rule_fault.NumberTooLarge) m = refl
+
+daily-row : (r : Result RuleParts RuleFault) (h : Bool) → cond (is_bad_rule r) (Some BadRule) (cond (is_large_rule r) (Some NumberTooLarge) (cond (h || is_fine_rule r) (Some ZoneRule) None))
+    ≡ first (first (rule_fault_of r) (fault_if ZoneRule (is_fine_rule r))) (fault_if ZoneRule h)
+daily-row (Ok parts) h = either h (is_fine_rule (Ok parts))
+  where
+    either : (h f : Bool) → cond (h || f) (Some ZoneRule) None ≡ first (fault_if ZoneRule f) (fault_if ZoneRule h)
+    either true true = refl
+    either true false = refl
+    either false true = refl
+    either false false = refl
+daily-row (Err rule_fault.BadRule) h = refl
+daily-row (Err rule_fault.NumberTooLarge) h = refl
+
+number-row : (n : Result ℕ IntegerFault) (m : Option FaultKind) → cond (is_large_integer n) (Some NumberTooLarge) m ≡ first (number_fault_of n) m
+number-row (Ok n) m = refl
+number-row (Err integer_fault.NotDigits) m = refl
+number-row (Err integer_fault.NumberTooLarge) m = refl
+
+offset-row : (o : Result ℤ OffsetFault) (m : Option FaultKind) → cond (is_bad_offset o) (Some BadOffset) m ≡ first (offset_fault_of o) m
+offset-row (Ok o) m = refl
+offset-row (Err f) m = refl
+
+dates-row : (a b c d : Bool) (m : Option FaultKind) → cond a (Some BadStamp) (cond b (Some BadDuration) (cond c (Some YearRange) (cond d (Some NumberTooLarge) m)))
+    ≡ first (cond a (Some BadStamp) (cond b (Some BadDuration) (cond c (Some YearRange) (cond d (Some NumberTooLarge) None)))) m
+dates-row true b c d m = refl
+dates-row false true c d m = refl
+dates-row false false true d m = refl
+dates-row false false false true m = refl
+dates-row false false false false m = refl
+
 pub at-uid : (v : Parts) (c : Component) (q : Place) (cl : Bool) (depth : ℕ) (g : Gathered) → flat_of (codes "UID") v q cl depth g (is_some g.event.uid) ≡ fault_of name.Uid v c q depth g
 at-uid v c place.Event cl depth g = refl
 at-uid v c _ cl depth g = refl
 
 pub at-dtstart : (v : Parts) (c : Component) (q : Place) (cl : Bool) (depth : ℕ) (g : Gathered) → flat_of (codes "DTSTART") v q cl depth g (start_flag q g) ≡ fault_of name.Dtstart v c q depth g
-at-dtstart v c place.Observance cl depth g = simp or-false refl
-at-dtstart v c place.Event cl depth g = refl
+at-dtstart v c place.Observance cl depth g = simp or-false (onset-row (stamp_of false v.value) (is_some g.observance.start))
+at-dtstart v c place.Event cl depth g = stamp-row (stamp_read v.params v.value) (fault_if Repeated (is_some g.event.start))
 at-dtstart v c _ cl depth g = refl
 
 pub at-dtend : (v : Parts) (c : Component) (q : Place) (cl : Bool) (depth : ℕ) (g : Gathered) → flat_of (codes "DTEND") v q cl depth g (is_some g.event.end) ≡ fault_of name.Dtend v c q depth g
-at-dtend v c place.Event cl depth g = refl
+at-dtend v c place.Event cl depth g = stamp-row (stamp_read v.params v.value) (fault_if Repeated (is_some g.event.end))
 at-dtend v c _ cl depth g = refl
 
 pub at-duration : (v : Parts) (c : Component) (q : Place) (cl : Bool) (depth : ℕ) (g : Gathered) → flat_of (codes "DURATION") v q cl depth g (is_some g.event.duration) ≡ fault_of name.Duration v c q depth g
-at-duration v c place.Event cl depth g = simp or-false refl
+at-duration v c place.Event cl depth g =
+    ap (λ t. cond (is_bad_duration (lasting_of v.value)) (Some BadDuration) (cond t (Some NumberTooLarge) (fault_if Repeated (is_some g.event.duration))))
+    (or-false (is_large_duration (lasting_of v.value) || false) ∙ or-false (is_large_duration (lasting_of v.value)))
+    ∙ duration-row (lasting_of v.value) (fault_if Repeated (is_some g.event.duration))
 at-duration v c _ cl depth g = refl
 
 pub at-rrule : (v : Parts) (c : Component) (q : Place) (cl : Bool) (depth : ℕ) (g : Gathered) → flat_of (codes "RRULE") v q cl depth g (rule_flag q g) ≡ fault_of name.Rrule v c q depth g
-at-rrule v c place.Event cl depth g = simp or-false refl
-at-rrule v c place.Observance cl depth g = simp or-false refl
+at-rrule v c place.Event cl depth g = simp or-false (rule-row (rule_of v.value) (fault_if Repeated (is_some g.event.rule)))
+at-rrule v c place.Observance cl depth g = simp or-false (daily-row (rule_of v.value) (is_some g.observance.rule))
 at-rrule v c _ cl depth g = refl
 
 pub at-recurrence_id : (v : Parts) (c : Component) (q : Place) (cl : Bool) (depth : ℕ) (g : Gathered) → flat_of (codes "RECURRENCE-ID") v q cl depth g (is_some g.event.recurrence) ≡ fault_of name.RecurrenceId v c q depth g
-at-recurrence_id v c place.Event cl depth g = refl
+at-recurrence_id v c place.Event cl depth g = recurrence-row (stamp_read v.params v.value) (is_some g.event.recurrence) (is_some (param_of (codes "RANGE") v.params))
 at-recurrence_id v c _ cl depth g = refl
 
 pub at-sequence : (v : Parts) (c : Component) (q : Place) (cl : Bool) (depth : ℕ) (g : Gathered) → flat_of (codes "SEQUENCE") v q cl depth g (is_some g.event.sequence) ≡ fault_of name.Sequence v c q depth g
-at-sequence v c place.Event cl depth g = refl
+at-sequence v c place.Event cl depth g = number-row (integer_of v.value) (fault_if Repeated (is_some g.event.sequence))
 at-sequence v c _ cl depth g = refl
 
 pub at-rdate : (v : Parts) (c : Component) (q : Place) (cl : Bool) (depth : ℕ) (g : Gathered) (h : Bool) → flat_of (codes "RDATE") v q cl depth g h ≡ fault_of name.Rdate v c q depth g
 at-rdate v c place.Event cl depth g h = simp or-false refl
-at-rdate v c place.Observance cl depth g h = simp or-false refl
+at-rdate v c place.Observance cl depth g h =
+    let vs : List DateValue = rdates_of false v.value in
+    simp or-false (dates-row (list_any has_bad_stamp vs) (list_any has_bad_duration vs) (list_any has_far_stamp vs) (list_any has_large_duration vs) (fault_if ObservanceField (list_any is_not_local vs)))
 at-rdate v c _ cl depth g h = refl
 
 pub at-exdate : (v : Parts) (c : Component) (q : Place) (cl : Bool) (depth : ℕ) (g : Gathered) (h : Bool) → flat_of (codes "EXDATE") v q cl depth g h ≡ fault_of name.Exdate v c q depth g
@@ -189,10 +267,12 @@ at-tzid v c place.Event cl depth g = refl
 at-tzid v c _ cl depth g = refl
 
 pub at-offset_from : (v : Parts) (c : Component) (q : Place) (cl : Bool) (depth : ℕ) (g : Gathered) → flat_of (codes "TZOFFSETFROM") v q cl depth g (is_some g.observance.from) ≡ fault_of name.OffsetFrom v c q depth g
+at-offset_from v c place.Observance cl depth g = offset-row (offset_of v.value) (fault_if ObservanceField (is_some g.observance.from))
 at-offset_from v c place.Event cl depth g = refl
 at-offset_from v c _ cl depth g = refl
 
 pub at-offset_to : (v : Parts) (c : Component) (q : Place) (cl : Bool) (depth : ℕ) (g : Gathered) → flat_of (codes "TZOFFSETTO") v q cl depth g (is_some g.observance.to) ≡ fault_of name.OffsetTo v c q depth g
+at-offset_to v c place.Observance cl depth g = offset-row (offset_of v.value) (fault_if ObservanceField (is_some g.observance.to))
 at-offset_to v c place.Event cl depth g = refl
 at-offset_to v c _ cl depth g = refl
 
@@ -218,7 +298,7 @@ at-end v c _ true depth g h e = rw (e refl) refl
 at-end v c _ false depth g h e = rw (e refl) refl
 
 outside-begin : (b : Component) (w : List ℕ) (v : Parts) (c : Component) (cl : Bool) (depth : ℕ) (g : Gathered) (h : Bool) → TellsComponent w b →
-    flat (codes "BEGIN") w v place.Outside cl (nat_le 32 depth) (is_filled g.event.uid) (is_some g.event.start) (bad_end_of g.event) g.zone.has_observance true h ≡ fault_in (property.Begin b) (frame_at c place.Outside g) depth
+    flat (codes "BEGIN") w v place.Outside cl (nat_le 32 depth) (is_filled g.event.uid) (is_some g.event.start) (bad_end_of g.event) g.zone.has_observance true h ≡ first (outside_fault place.Outside b) (fault_if TooDeep (nat_le 32 depth))
 outside-begin component.Calendar w v c cl depth g h e = rw e refl
 outside-begin component.Event w v c cl depth g h e = rw e refl
 outside-begin component.Zone w v c cl depth g h e = rw e refl

@@ -2,6 +2,7 @@
 use Rattle.std.proofs.Common.{◌≡◌, ℕ, Bool, true, false, ◌&&◌, List, [], ◌∷◌, ◌++◌, map, filter, refl, sym, ap, ◌∙◌, arith, cond, Option, Some, None}
 use Rattle.std.specs.Prelude.{find, codes}
 use Rattle.std.specs.Option.{option_and_then}
+use Rattle.ics_text.specs.Bytes.{upper}
 use Rattle.ics_text.specs.Unfolded.{Line, Rises}
 use Rattle.ics_text.specs.Contents.{Parts, content_of}
 use Rattle.ics_calendar.specs.declared.frame.Frame.{Frame}
@@ -20,15 +21,15 @@ use Rattle.ics_calendar.specs.FirstFault.{found, least_on, first_from, first_fau
 use Rattle.ics_calendar.specs.Gathered.{first_judged, settled}
 use Rattle.ics_calendar.specs.Gathering.{nothing_gathered, waits_of}
 use Rattle.ics_calendar.specs.Laters.{KnownZones, known_zones, zone_index, judged}
-use Rattle.ics_calendar.specs.LineFaults.{later_in}
+use Rattle.ics_calendar.proofs.Judged.{later_in}
 use Rattle.ics_calendar.specs.Placed.{Placed, Open, path_behind, placed_from, place_of, begins, beside, calendar_of, lines_in}
-use Rattle.ics_calendar.specs.Reading.{read_in}
+use Rattle.ics_calendar.specs.Names.{name_of}
 use Rattle.ics_calendar.specs.Zones.{zones_of, zone_names, zones_on, zones_from}
 use Rattle.ics_calendar.proofs.Ended.{events, zones, observances}
 use Rattle.ics_calendar.proofs.EventOrder.{events-are}
 use Rattle.ics_calendar.proofs.Frames.{with}
 use Rattle.ics_calendar.proofs.LaterTable.{later-same}
-use Rattle.ics_calendar.proofs.Order.{found-none, inside, begun, ordered}
+use Rattle.ics_calendar.proofs.Order.{found-none, inside, begun, ordered, nested}
 use Rattle.ics_calendar.proofs.PassLemmas.{waits_from, gathered_from, lists, four, with_content}
 use Rattle.ics_calendar.proofs.Table.{frame_of}
 use Rattle.ics_calendar.proofs.ZoneOrder.{zones-are, observances-are, zones-begun, names-begun, calendar-inside}
@@ -54,8 +55,8 @@ judges known (line ∷ lines) before path e = by_content (judges known lines) (c
         let rest : List Placed = placed_from (path_behind l) lines in
         let behind : List Placed = before ++ l ∷ [] in
         let none = found-none line.number (least_on stands before l) (first_from stands fault_at_end behind rest) e in
-        found-waits known line.number (later_in (read_in f v) f) (waits_from behind rest)
-        ∙ ap (λ k. found line.number k (first_judged known (waits_from behind rest))) (sym (later-same known line path v (beside before l)))
+        found-waits known line.number (later_in (name_of (map upper v.name)) v f) (waits_from behind rest)
+        ∙ ap (λ k. found line.number k (first_judged known (waits_from behind rest))) (sym (later-same known line path v (beside before l) (nested (λ kind. stands kind (beside before l) l) none.0)))
         ∙ ap (found line.number (find (λ kind. stands_later known kind (beside before l) l) kinds)) (again behind (path_behind l) none.1)
 
 -- THE EVENTS, by what is gathered.

@@ -1,15 +1,14 @@
 -- What is gathered of a file, settled: its first fault of the second round, or what it says.
-use Rattle.std.proofs.Common.{◌≡◌, ℕ, ◌<◌, List, [], ◌∷◌, ◌++◌, map, length, take, drop, get_or, refl, sym, ap, ◌∙◌, subst, Option, Some, None, Ok, Err}
+use Rattle.std.proofs.Common.{◌≡◌, ℕ, ◌<◌, List, [], ◌∷◌, map, length, get_or, refl, sym, ap, ◌∙◌, subst, Option, Some, None, Ok, Err}
 use Rattle.std.specs.List.{All, AllByRecursion, Contains}
 use Rattle.std.specs.Option.{option_map}
-use Rattle.std.proofs.Math.Seq.{take-append_seam}
 use Rattle.std.proofs.lemmas.List.{length-map}
-use Rattle.std.proofs.lemmas.List.Elements.{All-map, All-contains, All-from_recursion}
 use Rattle.std.proofs.lemmas.Option.{slice_get-map, slice_get-get_or}
-use Rattle.ics_values.specs.declared.local.Local.{Local}
+use Rattle.std.proofs.lemmas.List.Elements.{All-map, All-contains, All-from_recursion}
 use Rattle.ics_zone.specs.Moments.{zone_moment}
-use Rattle.ics_zone.specs.Observances.{Phase}
-use Rattle.ics_zone.specs.Tables.{Timeline, phases_of}
+use Rattle.ics_zone.specs.Observances.{phases_of, Phase}
+use Rattle.ics_zone.specs.declared.observance.Observance.{Observance}
+use Rattle.ics_values.specs.declared.local.Local.{Local}
 use Rattle.ics_calendar.specs.declared.fault.FaultKind.{FaultKind}
 use Rattle.ics_calendar.specs.declared.gathered.Waiting.{Waiting}
 use Rattle.ics_calendar.specs.declared.later.Later.{Later}
@@ -24,18 +23,12 @@ use Rattle.ics_calendar.specs.GatheredSound.{IsSoundGathered}
 use Rattle.ics_calendar.specs.Laters.{KnownZones, zone_index, moment_at, judged}
 use Rattle.ics_calendar.specs.Ready.{IsReady}
 use Rattle.ics_calendar.proofs.EventsOf.{events-of}
-use Rattle.ics_calendar.proofs.Listed.{some-weaker, each-weaker}
+use Rattle.ics_calendar.proofs.Listed.{each-weaker}
 
 -- a local in the zone with an index
-pub moment-here : (zones : List Timeline) (local : Local) (i : ℕ) (d : Timeline) → i < length zones → moment_at (map phases_of zones) local i ≡ Some (zone_moment (phases_of (get_or zones i d)) (seconds_of local))
+pub moment-here : (zones : List (List Observance)) (local : Local) (i : ℕ) (d : List Observance) → i < length zones → moment_at (map phases_of zones) local i ≡ Some (zone_moment (phases_of (get_or zones i d)) (seconds_of local))
 moment-here zones local i d l =
     ap (option_map (λ zone. zone_moment zone (seconds_of local))) (slice_get-map phases_of zones i ∙ ap (option_map phases_of) (slice_get-get_or zones i d l))
-
--- zones that were reached further, put back
-pub refilled : (n : ℕ) (after before : List Timeline) → length before ≡ n → map phases_of after ≡ map phases_of before → map phases_of (take n (after ++ drop (length after) before)) ≡ map phases_of before
-refilled n after before l e =
-    let long : n ≡ length after = sym l ∙ (sym (length-map before phases_of) ∙ (sym (ap length e) ∙ length-map after phases_of)) in
-    ap (λ k. map phases_of (take k (after ++ drop (length after) before))) long ∙ (ap (map phases_of) (take-append_seam after (drop (length after) before)) ∙ e)
 
 -- WHAT WAITS, where none is a fault.
 none-found : (n : ℕ) (k : Option FaultKind) (f : Option Fault) → found n k f ≡ None → (k ≡ None) × (f ≡ None)
@@ -49,15 +42,13 @@ none-judged known (w ∷ ws) e = let n = none-found w.line (judged known w.later
 awaited-fine : (known : KnownZones) (laters : List Later) → All (λ l. judged known l ≡ None) laters → (l : Later) → Contains laters l → judged known l ≡ None
 awaited-fine known laters h l c = All-contains (λ l. judged known l ≡ None) laters l h c
 
-pub ready : (g : GatheredSeen) → IsSoundGathered g → first_judged (known_in g) g.waits ≡ None → All (λ e. IsReady (known_in g) e.calendar e.had) g.events
+pub ready : (g : GatheredSeen) → IsSoundGathered g → first_judged (known_in g) g.waits ≡ None → All (IsReady (known_in g)) g.events
 ready g s n =
     let fine : All (λ l. judged (known_in g) l ≡ None) (map (λ w. w.later) g.waits) = All-map (λ l. judged (known_in g) l ≡ None) (λ w. w.later) g.waits (All-from_recursion (λ w. judged (known_in g) w.later ≡ None) g.waits (none-judged (known_in g) g.waits n)) in
     λ i d l.
-    let w = s.awaited i d l in
     record {
       whole = s.whole i d l;
-      zones = each-weaker (Contains (map (λ w. w.later) g.waits)) (λ l. judged (known_in g) l ≡ None) (awaited-fine (known_in g) _ fine) _ _ w.zones;
-      length = some-weaker (Contains (map (λ w. w.later) g.waits)) (λ l. judged (known_in g) l ≡ None) (awaited-fine (known_in g) _ fine) _ w.length;
+      zones = each-weaker (Contains (map (λ w. w.later) g.waits)) (λ l. judged (known_in g) l ≡ None) (awaited-fine (known_in g) _ fine) _ (s.awaited i d l);
     }
 
 -- THE ANSWER, by a table of the names and the zones.
@@ -80,8 +71,8 @@ module _ (g : GatheredSeen) (index : ZoneName → Option ℕ) (zones : List (Lis
       ∙ (ap (λ (es : List EventSeen). Ok (record { zones = zones_in g; events = es })) (v ∙ ap (λ (i : ZoneName → Option ℕ). map (event_of i) g.events) e)
       ∙ ap (λ o. decide None o (said_in g)) (h ∙ judged-same))
 
-  pub ready-here : IsSoundGathered g → None ≡ first_judged here g.waits → All (λ e. IsReady here e.calendar e.had) g.events
-  ready-here s h = subst (λ (k : KnownZones). All (λ e. IsReady k e.calendar e.had) g.events) (sym known-same) (ready g s (sym judged-same ∙ sym h))
+  pub ready-here : IsSoundGathered g → None ≡ first_judged here g.waits → All (IsReady here) g.events
+  ready-here s h = subst (λ (k : KnownZones). All (IsReady k) g.events) (sym known-same) (ready g s (sym judged-same ∙ sym h))
 
   pub events-here : (after : List (List Phase)) (events : List EventSeen) → IsSoundGathered g → None ≡ first_judged here g.waits → after ≡ zones → events ≡ map (event_of index) g.events → AreEventsOf after events
   events-here after events s h z v =

@@ -1,6 +1,6 @@
 -- A line changes what is collected of a component as the pass notes it.
 use Rattle.std.proofs.Common.{◌≡◌, ℕ, Bool, true, false, List, [], ◌∷◌, ◌++◌, map, refl, ap, ◌∙◌, cond}
-use Rattle.std.specs.Prelude.{codes, ◌&&◌, ◌||◌, flat_map}
+use Rattle.std.specs.Prelude.{codes, ◌&&◌, ◌||◌, flat_map, filter_map}
 use Rattle.std.specs.List.{list_any}
 use Rattle.std.specs.Str.{bytes_eq}
 use Rattle.std.proofs.lemmas.List.{append-nil}
@@ -19,8 +19,6 @@ use Rattle.ics_calendar.specs.declared.component.Place.{Place}
 use Rattle.ics_calendar.specs.declared.component.Place.TheVariants as place
 use Rattle.ics_calendar.specs.declared.name.Name.{Name}
 use Rattle.ics_calendar.specs.declared.name.Name.TheVariants as name
-use Rattle.ics_calendar.specs.declared.property.Property.{Property}
-use Rattle.ics_calendar.specs.declared.property.Property.TheVariants as property
 use Rattle.ics_calendar.specs.declared.summary.ObservanceSummary.{ObservanceSummary}
 use Rattle.ics_calendar.specs.declared.summary.Summary.TheVariants as summary
 use Rattle.ics_calendar.specs.declared.summary.ZoneSummary.{ZoneSummary}
@@ -28,19 +26,19 @@ use Rattle.ics_calendar.specs.Components.{component_of, is_observance}
 use Rattle.ics_calendar.specs.DateValues.{rdates_of}
 use Rattle.ics_calendar.specs.Names.{name_of}
 use Rattle.ics_calendar.specs.Placed.{Placed, Open, property_name, value, is_named, all_named, begins_observance}
-use Rattle.ics_calendar.specs.Faults.{rule_on}
-use Rattle.ics_calendar.specs.Reading.{event_property, property_at}
-use Rattle.ics_calendar.specs.Collecting.{collected_of, or_first, note_event}
-use Rattle.ics_calendar.specs.Summaries.{onset_on, offset_on, listed_on, zone_of, observance_of, note_zone, note_observance, note}
+use Rattle.ics_calendar.specs.Collecting.{collected_of}
+use Rattle.ics_calendar.specs.Lines.{or_first}
+use Rattle.ics_calendar.specs.Summaries.{zone_of, observance_of}
+use Rattle.ics_calendar.specs.Zones.{local_in, onset_in, offset_in, daily_in, onset_on, offset_on, daily_on, onsets_by}
+use Rattle.ics_calendar.proofs.Judged.{event_note, zone_note, observance_note, note_in}
 use Rattle.ics_calendar.proofs.NameLemmas.{Tells, tells, TellsComponent, tells_component}
 use Rattle.ics_calendar.proofs.Collects.{collected_of-more, kept-more, parts_at}
 use Rattle.ics_calendar.proofs.Rows.{summary_at, or-false}
 use Rattle.ics_calendar.proofs.Table.{gathered}
 
--- a line that does not end a component, as its component notes it
-abbrev pub line_as : Name → Place → Parts → Property
-line_as name.Begin q v = property.Begin (component_of (map upper v.value))
-line_as n q v = property_at q n v
+abbrev zone_noted : Name → Parts → ZoneSummary → ZoneSummary
+zone_noted name.Begin v had = record had { has_observance = had.has_observance || is_observance (component_of (map upper v.value)) }
+zone_noted n v had = zone_note n v had
 
 any-more : (p : Placed → Bool) (ls : List Placed) (l : Placed) → list_any p (ls ++ l ∷ []) ≡ (list_any p ls || p l)
 any-more p [] l = or-false (p l)
@@ -65,13 +63,13 @@ zone-noted : (n : Name) (u : List ℕ) (v : Parts) (had : ZoneSummary) → Tells
     record {
       name = cond (bytes_eq u (codes "TZID")) (or_first had.name (text_of v.value)) had.name;
       has_observance = had.has_observance || ((bytes_eq u (codes "BEGIN") && bytes_eq (map upper v.value) (codes "STANDARD")) || (bytes_eq u (codes "BEGIN") && bytes_eq (map upper v.value) (codes "DAYLIGHT")));
-    } ≡ note_zone (line_as n place.Zone v) had
+    } ≡ zone_noted n v had
 zone-noted name.Begin u v had e = rw e (ap (λ t. record { name = had.name; has_observance = had.has_observance || t }) (observance-is (map upper v.value)))
 zone-noted name.Tzid u v had e = rw e (ap (λ t. record { name = or_first had.name (text_of v.value); has_observance = t }) (or-false had.has_observance))
 zone-noted name.Other u v had e = rw (e.no_tzid, e.no_begin) (ap (λ t. record { name = had.name; has_observance = t }) (or-false had.has_observance))
 zone-noted _ u v had e = rw e (ap (λ t. record { name = had.name; has_observance = t }) (or-false had.has_observance))
 
-zone_of-more : (ls : List Placed) (l : Placed) → zone_of (ls ++ l ∷ []) ≡ note_zone (line_as (name_of (property_name l.content)) place.Zone (parts_at l)) (zone_of ls)
+zone_of-more : (ls : List Placed) (l : Placed) → zone_of (ls ++ l ∷ []) ≡ zone_noted (name_of (property_name l.content)) (parts_at l) (zone_of ls)
 zone_of-more ls l =
     rw (kept-more (λ l. text_of (value l)) (codes "TZID") ls l, any-more begins_observance ls l)
     (zone-noted (name_of (property_name l.content)) (property_name l.content) (parts_at l) (zone_of ls) (tells (property_name l.content)))
@@ -89,28 +87,41 @@ listed-more f n ls l = ap (flat_map f) (filter-append (is_named n) ls (l ∷ [])
 
 observance-noted : (n : Name) (u : List ℕ) (v : Parts) (had : ObservanceSummary) → Tells u n →
     record {
-      start = cond (bytes_eq u (codes "DTSTART")) (or_first had.start (stamp_of false v.value)) had.start;
-      from = cond (bytes_eq u (codes "TZOFFSETFROM")) (or_first had.from (offset_of v.value)) had.from;
-      to = cond (bytes_eq u (codes "TZOFFSETTO")) (or_first had.to (offset_of v.value)) had.to;
-      rule = cond (bytes_eq u (codes "RRULE")) (or_first had.rule (rule_of v.value)) had.rule;
-      rdates = cond (bytes_eq u (codes "RDATE")) (had.rdates ++ rdates_of false v.value) had.rdates;
-    } ≡ note_observance (line_as n place.Observance v) had
+      start = cond (bytes_eq u (codes "DTSTART")) (or_first had.start (onset_in (stamp_of false v.value))) had.start;
+      from = cond (bytes_eq u (codes "TZOFFSETFROM")) (or_first had.from (offset_in (offset_of v.value))) had.from;
+      to = cond (bytes_eq u (codes "TZOFFSETTO")) (or_first had.to (offset_in (offset_of v.value))) had.to;
+      rule = cond (bytes_eq u (codes "RRULE")) (or_first had.rule (daily_in (rule_of v.value))) had.rule;
+      rdates = cond (bytes_eq u (codes "RDATE")) (had.rdates ++ filter_map local_in (rdates_of false v.value)) had.rdates;
+    } ≡ observance_note n v had
 observance-noted name.Other u v had e = simp (e.no_dtstart, e.no_offset_from, e.no_offset_to, e.no_rrule, e.no_rdate) refl
 observance-noted name.Begin u v had e = rw e refl
 observance-noted _ u v had e = rw e refl
 
-observance_of-more : (ls : List Placed) (l : Placed) → observance_of (ls ++ l ∷ []) ≡ note_observance (line_as (name_of (property_name l.content)) place.Observance (parts_at l)) (observance_of ls)
+observance_of-more : (ls : List Placed) (l : Placed) → observance_of (ls ++ l ∷ []) ≡ observance_note (name_of (property_name l.content)) (parts_at l) (observance_of ls)
 observance_of-more ls l =
-    rw (kept-more onset_on (codes "DTSTART") ls l, kept-more offset_on (codes "TZOFFSETFROM") ls l, kept-more offset_on (codes "TZOFFSETTO") ls l, kept-more rule_on (codes "RRULE") ls l, listed-more listed_on (codes "RDATE") ls l)
+    rw (kept-more onset_on (codes "DTSTART") ls l, kept-more offset_on (codes "TZOFFSETFROM") ls l, kept-more offset_on (codes "TZOFFSETTO") ls l, kept-more daily_on (codes "RRULE") ls l, listed-more onsets_by (codes "RDATE") ls l)
     (observance-noted (name_of (property_name l.content)) (property_name l.content) (parts_at l) (observance_of ls) (tells (property_name l.content)))
 
-event-line : (n : Name) (v : Parts) (had : Collected) → note_event (event_property n v) had ≡ note_event (line_as n place.Event v) had
-event-line name.Begin v had = refl
-event-line _ v had = refl
+-- a line that does not end a component, as it is noted there
+event-in : (n : Name) (v : Parts) (had : Collected) → summary.Event (event_note n v had) ≡ note_in n v (summary.Event had)
+event-in name.Begin v had = refl
+event-in _ v had = refl
+
+zone-in : (n : Name) (v : Parts) (had : ZoneSummary) → summary.Zone (zone_noted n v had) ≡ note_in n v (summary.Zone had)
+zone-in name.Begin v had = refl
+zone-in _ v had = refl
+
+observance-in : (n : Name) (v : Parts) (had : ObservanceSummary) → summary.Observance (observance_note n v had) ≡ note_in n v (summary.Observance had)
+observance-in name.Begin v had = refl
+observance-in _ v had = refl
+
+pub nothing-in : (n : Name) (v : Parts) → summary.Nothing ≡ note_in n v summary.Nothing
+nothing-in name.Begin v = refl
+nothing-in _ v = refl
 
 -- WHAT IS COLLECTED of a component, with one line more.
-pub summary-more : (q : Place) (k : List Open) (ls : List Placed) (l : Placed) → summary_at q (gathered k (ls ++ l ∷ [])) ≡ note (line_as (name_of (property_name l.content)) q (parts_at l)) (summary_at q (gathered k ls))
-summary-more place.Event k ls l = ap summary.Event (collected_of-more ls l ∙ event-line (name_of (property_name l.content)) (parts_at l) (collected_of ls))
-summary-more place.Zone k ls l = ap summary.Zone (zone_of-more ls l)
-summary-more place.Observance k ls l = ap summary.Observance (observance_of-more ls l)
-summary-more _ k ls l = refl
+pub summary-more : (q : Place) (k : List Open) (ls : List Placed) (l : Placed) → summary_at q (gathered k (ls ++ l ∷ [])) ≡ note_in (name_of (property_name l.content)) (parts_at l) (summary_at q (gathered k ls))
+summary-more place.Event k ls l = ap summary.Event (collected_of-more ls l) ∙ event-in (name_of (property_name l.content)) (parts_at l) (collected_of ls)
+summary-more place.Zone k ls l = ap summary.Zone (zone_of-more ls l) ∙ zone-in (name_of (property_name l.content)) (parts_at l) (zone_of ls)
+summary-more place.Observance k ls l = ap summary.Observance (observance_of-more ls l) ∙ observance-in (name_of (property_name l.content)) (parts_at l) (observance_of ls)
+summary-more _ k ls l = nothing-in (name_of (property_name l.content)) (parts_at l)

@@ -18,11 +18,11 @@ use Rattle.ics_calendar.specs.Components.{component_of, component_name, is_outsi
 use Rattle.ics_calendar.specs.Names.{name_of}
 use Rattle.ics_calendar.specs.Placed.{Placed, Open, place_of, value, closes, begins_observance, innermost, calendar_of, has, has_all, is_named, first_named, first_of, all_named}
 use Rattle.ics_calendar.specs.Values.{ok_or_zero, is_filled, ends_badly}
-use Rattle.ics_calendar.specs.Faults.{dated_on, lasting_on, rule_on, first_text, first_dated, field_names, stands, kinds}
-use Rattle.ics_calendar.specs.Reading.{read_in}
+use Rattle.ics_calendar.specs.Faults.{dated_on, duration_on, parts_on, first_text, first_dated, field_names, stands, kinds}
 use Rattle.ics_calendar.specs.Collecting.{collected_of}
-use Rattle.ics_calendar.specs.Summaries.{onset_on, offset_on, zone_of, observance_of}
-use Rattle.ics_calendar.specs.LineFaults.{fault_in}
+use Rattle.ics_calendar.specs.Summaries.{zone_of, observance_of}
+use Rattle.ics_calendar.specs.Zones.{onset_on, offset_on, daily_on}
+use Rattle.ics_calendar.proofs.Judged.{fault_in}
 use Rattle.ics_calendar.proofs.NameLemmas.{Tells, tells, component_name-of}
 use Rattle.ics_calendar.proofs.Rows.{Gathered, flat, bad_end_of, has_fields, frame_at, flat_of, fault_of, start_flag, rule_flag, at-uid, at-dtstart, at-dtend, at-duration, at-rrule, at-recurrence_id, at-sequence, at-rdate, at-exdate, at-exrule, at-version, at-summary, at-location, at-description, at-status, at-tzid, at-offset_from, at-offset_to, at-end, at-begin, at-other}
 
@@ -82,14 +82,14 @@ start-flag-is place.Observance k ls = has-first onset_on (codes "DTSTART") ls
 start-flag-is _ k ls = has-first dated_on (codes "DTSTART") ls
 
 rule-flag-is : (q : Place) (k : List Open) (ls : List Placed) → rule_flag q (gathered k ls) ≡ has (codes "RRULE") ls
-rule-flag-is place.Observance k ls = has-first rule_on (codes "RRULE") ls
-rule-flag-is _ k ls = has-first rule_on (codes "RRULE") ls
+rule-flag-is place.Observance k ls = has-first daily_on (codes "RRULE") ls
+rule-flag-is _ k ls = has-first parts_on (codes "RRULE") ls
 
 flag-gathered : (n : Name) (q : Place) (k : List Open) (u : List ℕ) (ls : List Placed) → Tells u n → flag n q (gathered k ls) (has u ls) ≡ has u ls
 flag-gathered name.Uid q k u ls e = rw e (has-first (λ line. text_of (value line)) (codes "UID") ls)
 flag-gathered name.Dtstart q k u ls e = rw e (start-flag-is q k ls)
 flag-gathered name.Dtend q k u ls e = rw e (has-first dated_on (codes "DTEND") ls)
-flag-gathered name.Duration q k u ls e = rw e (has-first lasting_on (codes "DURATION") ls)
+flag-gathered name.Duration q k u ls e = rw e (has-first duration_on (codes "DURATION") ls)
 flag-gathered name.Rrule q k u ls e = rw e (rule-flag-is q k ls)
 flag-gathered name.RecurrenceId q k u ls e = rw e (has-first dated_on (codes "RECURRENCE-ID") ls)
 flag-gathered name.Sequence q k u ls e = rw e (has-first (λ line. ok_or_zero (integer_of (value line))) (codes "SEQUENCE") ls)
@@ -128,12 +128,12 @@ tests-same u v q k cl deep h ls =
     let all : Bool = has_all (field_names q) ls in
     ap (λ s. flat u (map upper v.value) v q cl deep filled s ((has (codes "DTEND") ls && has (codes "DURATION") ls) || bad) some all h) (sym (has-first dated_on (codes "DTSTART") ls))
     ∙ ap (λ a. flat u (map upper v.value) v q cl deep filled (is_some (collected_of ls).start) ((a && has (codes "DURATION") ls) || bad) some all h) (sym (has-first dated_on (codes "DTEND") ls))
-    ∙ ap (λ a. flat u (map upper v.value) v q cl deep filled (is_some (collected_of ls).start) ((is_some (collected_of ls).end && a) || bad) some all h) (sym (has-first lasting_on (codes "DURATION") ls))
+    ∙ ap (λ a. flat u (map upper v.value) v q cl deep filled (is_some (collected_of ls).start) ((is_some (collected_of ls).end && a) || bad) some all h) (sym (has-first duration_on (codes "DURATION") ls))
     ∙ ap (λ a. flat u (map upper v.value) v q cl deep filled (is_some (collected_of ls).start) (bad_end_of (collected_of ls)) some a h) (fields-are q k ls)
 
 -- THE LEAST FAULT ON A LINE, of the table and of the pass.
 pub least-same : (path : List Open) (number : ℕ) (parts : Parts) (ls : List Placed) →
-    find (λ k. stands k ls (record { number = number; content = Some parts; path = path })) kinds ≡ fault_in (read_in (frame_of path ls) parts) (frame_of path ls) (length path)
+    find (λ k. stands k ls (record { number = number; content = Some parts; path = path })) kinds ≡ fault_in (name_of (map upper parts.name)) parts (frame_of path ls) (length path)
 least-same [] number parts ls =
     let u : List ℕ = map upper parts.name in
     tests-same u parts place.Outside [] false (nat_le 32 0) (has u ls) ls

@@ -17,12 +17,13 @@ use Rattle.ics_calendar.specs.declared.summary.ZoneSummary.{ZoneSummary}
 use Rattle.ics_calendar.specs.Components.{component_of, place_in, is_calendar_place, is_zone_place, is_observance_place}
 use Rattle.ics_calendar.specs.Names.{name_of}
 use Rattle.ics_calendar.specs.Placed.{Placed, Open, property_name, place_of, is_begin, begins, component, innermost, calendar_of, lines_in}
-use Rattle.ics_calendar.specs.Summaries.{zone_of, observance_of, nothing_zone, nothing_observance, note}
+use Rattle.ics_calendar.specs.Summaries.{zone_of, observance_of, nothing_zone, nothing_observance, zone_ended, observance_ended}
 use Rattle.ics_calendar.specs.Zones.{phase_by, phase_of, begins_zone, begins_phase, zone_by, name_by, zones_from}
-use Rattle.ics_calendar.proofs.NameLemmas.{TellsComponent, tells_component}
+use Rattle.ics_calendar.proofs.NameLemmas.{TellsComponent, tells_component, place-in-outside}
 use Rattle.ics_calendar.proofs.Collects.{parts_at}
-use Rattle.ics_calendar.proofs.SummaryLemmas.{line_as, summary-more}
-use Rattle.ics_calendar.proofs.EventOrder.{place-in-outside, calendar-from}
+use Rattle.ics_calendar.proofs.SummaryLemmas.{summary-more}
+use Rattle.ics_calendar.proofs.Judged.{note_in}
+use Rattle.ics_calendar.proofs.EventOrder.{calendar-from}
 use Rattle.ics_calendar.proofs.Ended.{zones, observances}
 use Rattle.ics_calendar.proofs.Order.{Sort, open_as, inside, begun, IsSort}
 
@@ -36,10 +37,10 @@ observance_in (summary.Observance had) = had
 observance_in _ = nothing_observance
 
 zone-end : (ls : List Placed) (l : Placed) → name_of (property_name l.content) ≡ name.End → zone_of (ls ++ l ∷ []) ≡ zone_of ls
-zone-end ls l e = ap zone_in (summary-more place.Zone [] ls l ∙ ap (λ n. note (line_as n place.Zone (parts_at l)) (summary.Zone (zone_of ls))) e)
+zone-end ls l e = ap zone_in (summary-more place.Zone [] ls l ∙ ap (λ n. note_in n (parts_at l) (summary.Zone (zone_of ls))) e)
 
 observance-end : (ls : List Placed) (l : Placed) → name_of (property_name l.content) ≡ name.End → observance_of (ls ++ l ∷ []) ≡ observance_of ls
-observance-end ls l e = ap observance_in (summary-more place.Observance [] ls l ∙ ap (λ n. note (line_as n place.Observance (parts_at l)) (summary.Observance (observance_of ls))) e)
+observance-end ls l e = ap observance_in (summary-more place.Observance [] ls l ∙ ap (λ n. note_in n (parts_at l) (summary.Observance (observance_of ls))) e)
 
 -- a time zone begins exactly on a VTIMEZONE in a calendar, and an observance on a STANDARD or DAYLIGHT in a time zone
 zone-begins : (q : Place) (w : List ℕ) → is_zone_place (place_in q (component_of w)) ≡ (is_calendar_place q && bytes_eq w (codes "VTIMEZONE"))
@@ -115,7 +116,7 @@ pub zones-are : IsSort zones
 zones-are = record {
   starts = λ l. reorder (is_calendar_place (place_of l.path)) (is_begin l) (bytes_eq (component l) (codes "VTIMEZONE")) ∙ ap (λ t. is_begin l && t) (sym (zone-begins (place_of l.path) (component l)));
   alone = λ whole l e. calendar-holds zones calendar-no-zone whole l.path (zone-from (place_of l.path) (component_of (component l)) e);
-  ends = λ path ls l e. ap (λ (z : ZoneSummary). record { begun = innermost path; name = record { calendar = calendar_of path; name = unwrap_or z.name [] } }) (zone-end ls l e);
+  ends = λ path ls l e. ap (zone_ended (innermost path) (calendar_of path)) (zone-end ls l e);
 }
   where
     reorder : (a b c : Bool) → (a && (b && c)) ≡ (b && (a && c))
@@ -130,7 +131,7 @@ observances-are = record {
       reorder (is_zone_place (place_of l.path)) (is_begin l) (bytes_eq (component l) (codes "STANDARD")) (bytes_eq (component l) (codes "DAYLIGHT"))
       ∙ ap (λ t. is_begin l && t) (sym (phase-begins (place_of l.path) (component l)));
   alone = λ whole l e. zone-holds whole l.path (phase-from (place_of l.path) (component_of (component l)) e);
-  ends = λ path ls l e. ap (λ (o : ObservanceSummary). record { zone = innermost (drop 1 path); had = o }) (observance-end ls l e);
+  ends = λ path ls l e. ap (observance_ended (innermost (drop 1 path))) (observance-end ls l e);
 }
   where
     reorder : (a b c d : Bool) → (a && ((b && c) || (b && d))) ≡ (b && (a && (c || d)))
@@ -141,7 +142,7 @@ observances-are = record {
 
 -- an observance beside the number of its zone
 abbrev numbered : EndedObservance → ℕ × Phase
-numbered o = (o.zone, phase_of o.had)
+numbered o = (o.zone, phase_of o)
 
 picked : (whole : List Placed) (n : ℕ) (ls : List Placed) →
     map (λ p. p.1) (filter (λ p. p.0 == n) (map numbered (begun observances whole ls))) ≡ map (λ l. phase_by (lines_in l.number whole)) (filter begins_phase (lines_in n ls))

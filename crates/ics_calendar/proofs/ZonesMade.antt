@@ -59,7 +59,7 @@ module _ (zs : List EndedZone) (up : IsStrictlyIncreasing (map (λ z. z.begun) z
 
 -- WHAT A ZONE HAS with an observance more.
 abbrev numbered : EndedObservance → ℕ × Phase
-numbered o = (o.zone, phase_of o.had)
+numbered o = (o.zone, phase_of o)
 
 abbrev borne : EndedZone → List EndedObservance → List (ℕ × Phase)
 borne z os = filter (λ p. p.0 == z.begun) (map numbered os)
@@ -70,18 +70,18 @@ said os z = map (λ p. p.1) (borne z os)
 zones-said : (zs : List EndedZone) (os : List EndedObservance) → zones_from zs os ≡ map (said os) zs
 zones-said zs os = map-map (λ z. map (λ p. p.1) (filter (λ p. p.0 == z.0) (map numbered os))) (λ z. (z.begun, z.name)) zs
 
-said-more : (os : List EndedObservance) (o : EndedObservance) (z : EndedZone) → said (os ++ o ∷ []) z ≡ said os z ++ cond (o.zone == z.begun) (phase_of o.had ∷ []) []
+said-more : (os : List EndedObservance) (o : EndedObservance) (z : EndedZone) → said (os ++ o ∷ []) z ≡ said os z ++ cond (o.zone == z.begun) (phase_of o ∷ []) []
 said-more [] o z = by_test (o.zone == z.begun)
   where
-    by_test : (t : Bool) → map (λ (p : ℕ × Phase). p.1) (cond t (numbered o ∷ []) []) ≡ cond t (phase_of o.had ∷ []) []
+    by_test : (t : Bool) → map (λ (p : ℕ × Phase). p.1) (cond t (numbered o ∷ []) []) ≡ cond t (phase_of o ∷ []) []
     by_test true = refl
     by_test false = refl
 said-more (b ∷ bs) o z = by_test (b.zone == z.begun) (said-more bs o z)
   where
-    by_test : (t : Bool) → said (bs ++ o ∷ []) z ≡ said bs z ++ cond (o.zone == z.begun) (phase_of o.had ∷ []) []
+    by_test : (t : Bool) → said (bs ++ o ∷ []) z ≡ said bs z ++ cond (o.zone == z.begun) (phase_of o ∷ []) []
         → map (λ p. p.1) (cond t (numbered b ∷ borne z (bs ++ o ∷ [])) (borne z (bs ++ o ∷ [])))
-        ≡ map (λ p. p.1) (cond t (numbered b ∷ borne z bs) (borne z bs)) ++ cond (o.zone == z.begun) (phase_of o.had ∷ []) []
-    by_test true e = ap (λ ps. phase_of b.had ∷ ps) e
+        ≡ map (λ p. p.1) (cond t (numbered b ∷ borne z bs) (borne z bs)) ++ cond (o.zone == z.begun) (phase_of o ∷ []) []
+    by_test true e = ap (λ ps. phase_of b ∷ ps) e
     by_test false e = e
 
 nothing_passes : {X : Type 0} (p : X → Bool) (xs : List X) → position p xs ≡ None → length xs ≤ position_or_len p xs
@@ -108,7 +108,7 @@ module _ {Y : Type 0} (f g : EndedZone → Y) (zs : List EndedZone) where
 module _ (zs : List EndedZone) (os : List EndedObservance) (o : EndedObservance) where
   said_same : (k : ℕ) → bears o.zone (get_or zs k no_zone) ≡ false → said (os ++ o ∷ []) (get_or zs k no_zone) ≡ said os (get_or zs k no_zone)
   said_same k e =
-      said-more os o (get_or zs k no_zone) ∙ ap (λ t. said os (get_or zs k no_zone) ++ cond t (phase_of o.had ∷ []) []) e ∙ append-nil (said os (get_or zs k no_zone))
+      said-more os o (get_or zs k no_zone) ∙ ap (λ t. said os (get_or zs k no_zone) ++ cond t (phase_of o ∷ []) []) e ∙ append-nil (said os (get_or zs k no_zone))
 
   pub zones-same : position (bears o.zone) zs ≡ None → zones_from zs (os ++ o ∷ []) ≡ zones_from zs os
   zones-same e =
@@ -117,17 +117,17 @@ module _ (zs : List EndedZone) (os : List EndedObservance) (o : EndedObservance)
       ∙ sym (zones-said zs os)
 
   pub zones-more : IsStrictlyIncreasing (map (λ z. z.begun) zs) → (i : ℕ) → position (bears o.zone) zs ≡ Some i → (d : List Phase)
-      → zones_from zs (os ++ o ∷ []) ≡ set (zones_from zs os) i (get_or (zones_from zs os) i d ++ phase_of o.had ∷ [])
+      → zones_from zs (os ++ o ∷ []) ≡ set (zones_from zs os) i (get_or (zones_from zs os) i d ++ phase_of o ∷ [])
   zones-more up i e d =
       let found = position-Some (bears o.zone) zs i no_zone e in
-      let grown : List Phase = said os (get_or zs i no_zone) ++ phase_of o.had ∷ [] in
+      let grown : List Phase = said os (get_or zs i no_zone) ++ phase_of o ∷ [] in
       let read : get_or (zones_from zs os) i d ≡ said os (get_or zs i no_zone) = ap (λ xs. get_or xs i d) (zones-said zs os) ∙ get_or-map (said os) zs i no_zone d found.0 in
       zones-said zs (os ++ o ∷ [])
       ∙ maps_differ (said os) (said (os ++ o ∷ [])) zs i grown found.0
-      (said-more os o (get_or zs i no_zone) ∙ ap (λ t. said os (get_or zs i no_zone) ++ cond t (phase_of o.had ∷ []) []) found.1)
+      (said-more os o (get_or zs i no_zone) ∙ ap (λ t. said os (get_or zs i no_zone) ++ cond t (phase_of o ∷ []) []) found.1)
       (λ k lt other. said_same k (differs k lt other found.0 found.1))
       ∙ ap (λ xs. set xs i grown) (sym (zones-said zs os))
-      ∙ ap (λ xs. set (zones_from zs os) i (xs ++ phase_of o.had ∷ [])) (sym read)
+      ∙ ap (λ xs. set (zones_from zs os) i (xs ++ phase_of o ∷ [])) (sym read)
     where
       differs : (k : ℕ) → k < length zs → k ≢ i → i < length zs → bears o.zone (get_or zs i no_zone) ≡ true → bears o.zone (get_or zs k no_zone) ≡ false
       differs k lt other in_range here = grind (arith, nat_tests, rising zs up k i, rising zs up i k)
@@ -138,11 +138,11 @@ phases part = map made_phase part.items
 -- an observance is put to those of its zone
 pub added : (zs : List EndedZone) (os : List EndedObservance) (o : EndedObservance) (parts : List (Vec Observance Global)) (i : ℕ) (part grown : Vec Observance Global) (made : Observance)
     → IsStrictlyIncreasing (map (λ z. z.begun) zs) → position (bears o.zone) zs ≡ Some i → length parts ≡ length zs → part ≡ get_or parts i part → grown.items ≡ part.items ++ made ∷ []
-    → made_phase made ≡ phase_of o.had → phases_in parts ≡ zones_from zs os → phases_in (set parts i grown) ≡ zones_from zs (os ++ o ∷ [])
+    → made_phase made ≡ phase_of o → phases_in parts ≡ zones_from zs os → phases_in (set parts i grown) ≡ zones_from zs (os ++ o ∷ [])
 added zs os o parts i part grown made up e long here more same before =
     let in_range : i < length parts = omega (arith, (position-Some (bears o.zone) zs i no_zone e).0) in
     let old : phases part ≡ get_or (zones_from zs os) i [] = ap phases here ∙ sym (get_or-map phases parts i part [] in_range) ∙ ap (λ xs. get_or xs i []) before in
-    let new : phases grown ≡ get_or (zones_from zs os) i [] ++ phase_of o.had ∷ [] =
+    let new : phases grown ≡ get_or (zones_from zs os) i [] ++ phase_of o ∷ [] =
     ap (map made_phase) more ∙ map-append made_phase part.items (made ∷ []) ∙ ap (λ xs. xs ++ made_phase made ∷ []) old ∙ ap (λ p. get_or (zones_from zs os) i [] ++ p ∷ []) same in
     map-set phases parts i grown ∙ ap (λ xs. set xs i (phases grown)) before ∙ ap (set (zones_from zs os) i) new ∙ sym (zones-more zs os o up i e [])
 

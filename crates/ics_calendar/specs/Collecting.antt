@@ -1,17 +1,15 @@
--- What is collected of an event, line by line.
-use Rattle.std.specs.Prelude.{ℕ, false, List, [], ◌∷◌, ◌++◌, map, codes, Option, Some, None, option_map, unwrap_or}
+-- What is collected of an event.
+use Rattle.std.specs.Prelude.{ℕ, false, List, [], map, codes, Option, None, option_map, unwrap_or}
 use Rattle.ics_values.specs.Integers.{integer_of}
 use Rattle.ics_calendar.specs.declared.collected.Collected.{Collected}
 use Rattle.ics_calendar.specs.declared.gathered.EndedEvent.{EndedEvent}
 use Rattle.ics_calendar.specs.declared.later.ZoneName.{ZoneName}
-use Rattle.ics_calendar.specs.declared.property.Property.{Property}
-use Rattle.ics_calendar.specs.declared.property.Property.TheVariants as property
 use Rattle.ics_calendar.specs.DateLists.{rdates_by, exdates_by}
 use Rattle.ics_calendar.specs.Event.{EventSeen}
 use Rattle.ics_calendar.specs.Placed.{Placed, value, first_named, all_named}
-use Rattle.ics_calendar.specs.Values.{rule_in, ok_or_zero, is_cancelled}
-use Rattle.ics_calendar.specs.Faults.{first_text, first_dated, lasting_on, rule_on, rdates_on, exdates_on}
-use Rattle.ics_calendar.specs.Times.{time_on, time_of, length_of}
+use Rattle.ics_calendar.specs.Values.{ok_or_zero, is_cancelled}
+use Rattle.ics_calendar.specs.Faults.{first_text, first_dated, duration_on, parts_on, rdates_on, exdates_on}
+use Rattle.ics_calendar.specs.Times.{time_on, dated_in, given_length, length_of}
 
 -- WHAT IS COLLECTED, as read of the lines that stand directly in the event.
 abbrev pub collected_of : List Placed → Collected
@@ -19,8 +17,8 @@ collected_of lines = record {
   uid = first_text (codes "UID") lines;
   start = first_dated (codes "DTSTART") lines;
   end = first_dated (codes "DTEND") lines;
-  duration = option_map lasting_on (first_named (codes "DURATION") lines);
-  rule = option_map rule_on (first_named (codes "RRULE") lines);
+  duration = option_map duration_on (first_named (codes "DURATION") lines);
+  rule = option_map parts_on (first_named (codes "RRULE") lines);
   rdates = map rdates_on (all_named (codes "RDATE") lines);
   exdates = map exdates_on (all_named (codes "EXDATE") lines);
   recurrence = first_dated (codes "RECURRENCE-ID") lines;
@@ -34,46 +32,37 @@ collected_of lines = record {
 abbrev pub nothing : Collected
 nothing = record { uid = None; start = None; end = None; duration = None; rule = None; rdates = []; exdates = []; recurrence = None; sequence = None; title = None; location = None; description = None; cancelled = None }
 
--- the event of what is collected in a calendar, given the index of the zone that a name stands for
-abbrev pub event_from : (ZoneName → Option ℕ) → ℕ → Collected → EventSeen
-event_from index calendar had = record {
+-- the event of a calendar that ends with what is collected; an accepted file has the fields that are asked for
+abbrev pub event_ended : ℕ → Collected → EndedEvent
+event_ended calendar had = record {
+  calendar = calendar;
   uid = unwrap_or had.uid [];
+  start = dated_in had.start;
+  length = given_length had.end had.duration;
+  rule = had.rule;
+  rdates = had.rdates;
+  exdates = had.exdates;
+  recurrence = had.recurrence;
   sequence = unwrap_or had.sequence 0;
-  start = time_of index calendar had.start;
-  length = length_of index calendar had.end had.duration;
-  rule = rule_in had.rule;
-  rdates = rdates_by index calendar had.rdates;
-  exdates = exdates_by index calendar had.exdates;
-  recurrence = option_map (time_on index calendar) had.recurrence;
   title = unwrap_or had.title [];
   location = unwrap_or had.location [];
   description = unwrap_or had.description [];
   cancelled = unwrap_or had.cancelled false;
 }
 
+-- the event, given the index of the zone that a name stands for
 abbrev pub event_of : (ZoneName → Option ℕ) → EndedEvent → EventSeen
-event_of index event = event_from index event.calendar event.had
-
--- WHAT IS COLLECTED with a line more. The first value of a property counts, and all that an RDATE or an EXDATE lists.
-abbrev pub or_first : {X : Type 0} → Option X → X → Option X
-or_first (Some x) y = Some x
-or_first None y = Some y
-
-abbrev pub note_first : Property → Collected → Collected
-note_first (property.Uid text) had = record had { uid = or_first had.uid text }
-note_first (property.Dtstart dated) had = record had { start = or_first had.start dated }
-note_first (property.Dtend dated) had = record had { end = or_first had.end dated }
-note_first (property.Duration duration) had = record had { duration = or_first had.duration duration }
-note_first (property.Rrule rule) had = record had { rule = or_first had.rule rule }
-note_first (property.RecurrenceId dated range) had = record had { recurrence = or_first had.recurrence dated }
-note_first (property.Sequence number) had = record had { sequence = or_first had.sequence (ok_or_zero number) }
-note_first (property.Summary text) had = record had { title = or_first had.title text }
-note_first (property.Location text) had = record had { location = or_first had.location text }
-note_first (property.Description text) had = record had { description = or_first had.description text }
-note_first (property.Status cancelled) had = record had { cancelled = or_first had.cancelled cancelled }
-note_first _ had = had
-
-abbrev pub note_event : Property → Collected → Collected
-note_event (property.Rdate list) had = record had { rdates = had.rdates ++ list ∷ [] }
-note_event (property.Exdate list) had = record had { exdates = had.exdates ++ list ∷ [] }
-note_event p had = note_first p had
+event_of index event = record {
+  uid = event.uid;
+  sequence = event.sequence;
+  start = time_on index event.calendar event.start;
+  length = length_of index event.calendar event.length;
+  rule = event.rule;
+  rdates = rdates_by index event.calendar event.rdates;
+  exdates = exdates_by index event.calendar event.exdates;
+  recurrence = option_map (time_on index event.calendar) event.recurrence;
+  title = event.title;
+  location = event.location;
+  description = event.description;
+  cancelled = event.cancelled;
+}

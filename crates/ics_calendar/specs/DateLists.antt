@@ -1,52 +1,44 @@
 -- What the lines of RDATE and EXDATE list, each value in the zone that its line names (RFC 5545, sections 3.8.5.1 and 3.8.5.2).
-use Rattle.std.specs.Prelude.{ℕ, List, map, flat_map, Option, is_some, Result, Ok, Err}
-use Rattle.ics_values.specs.declared.duration.Duration.{Duration}
-use Rattle.ics_values.specs.declared.duration.DurationFault.{DurationFault}
+use Rattle.std.specs.Prelude.{ℕ, List, map, flat_map, Option, is_some}
 use Rattle.ics_values.specs.declared.stamp.Stamp.{Stamp}
-use Rattle.ics_values.specs.declared.stamp.StampFault.{StampFault}
 use Rattle.ics_calendar.specs.declared.date_list.DateList.{DateList}
-use Rattle.ics_calendar.specs.declared.date_values.DateValue.{DateValue}
-use Rattle.ics_calendar.specs.declared.date_values.DateValue.TheVariants as value
+use Rattle.ics_calendar.specs.declared.date_list.ListedDate.{ListedDate}
+use Rattle.ics_calendar.specs.declared.date_list.ListedDate.TheVariants as listed
 use Rattle.ics_calendar.specs.declared.later.ZoneName.{ZoneName}
-use Rattle.ics_calendar.specs.declared.time.Length.{Length}
-use Rattle.ics_calendar.specs.declared.time.Length.TheVariants.{Open, Until, Lasting}
+use Rattle.ics_calendar.specs.declared.time.Length.TheVariants.{Until, Lasting}
 use Rattle.ics_calendar.specs.declared.time.Rdate.{Rdate}
 use Rattle.ics_calendar.specs.declared.time.Rdate.TheVariants.{At, Span}
 use Rattle.ics_calendar.specs.declared.time.Time.{Time}
-use Rattle.ics_calendar.specs.DateValues.{rdates_of, exdates_of}
+use Rattle.ics_calendar.specs.DateValues.{rdates_of, exdates_of, listed_in}
 use Rattle.ics_calendar.specs.Laters.{zone_named}
 use Rattle.ics_calendar.specs.Times.{time_in}
 use Rattle.ics_calendar.specs.Values.{zone_name}
 
 -- the values of a line with these parameters and this value, and the name in its TZID
 abbrev pub rdate_list : List ℕ → List ℕ → DateList
-rdate_list params value = record { values = rdates_of (is_some (zone_name params)) value; zone = zone_name params }
+rdate_list params value = record { values = map listed_in (rdates_of (is_some (zone_name params)) value); zone = zone_name params }
 
 abbrev pub exdate_list : List ℕ → List ℕ → DateList
-exdate_list params value = record { values = exdates_of (is_some (zone_name params)) value; zone = zone_name params }
+exdate_list params value = record { values = map listed_in (exdates_of (is_some (zone_name params)) value); zone = zone_name params }
 
 -- the zone that its TZID names in a calendar
 abbrev pub zone_listed : ℕ → DateList → ZoneName
 zone_listed calendar list = zone_named calendar list.zone
 
--- A VALUE, given the index of the zone that its line names. An accepted file has each duration in order.
-abbrev pub length_in : Result Duration DurationFault → Length
-length_in (Ok duration) = Lasting duration
-length_in (Err fault) = Open
-
-abbrev pub rdate_in : Option ℕ → DateValue → Rdate
-rdate_in zone (value.At stamp) = At (time_in zone stamp)
-rdate_in zone (value.Between start end) = Span (time_in zone start) (Until (time_in zone end))
-rdate_in zone (value.Lasting start duration) = Span (time_in zone start) (length_in duration)
+-- A VALUE, given the index of the zone that its line names.
+abbrev pub rdate_in : Option ℕ → ListedDate → Rdate
+rdate_in zone (listed.At stamp) = At (time_in zone stamp)
+rdate_in zone (listed.Between start end) = Span (time_in zone start) (Until (time_in zone end))
+rdate_in zone (listed.Lasting start duration) = Span (time_in zone start) (Lasting duration)
 
 -- its stamp, or its first
-abbrev pub stamp_in : DateValue → Result Stamp StampFault
-stamp_in (value.At stamp) = stamp
-stamp_in (value.Between start end) = start
-stamp_in (value.Lasting start duration) = start
+abbrev pub first_stamp : ListedDate → Stamp
+first_stamp (listed.At stamp) = stamp
+first_stamp (listed.Between start end) = start
+first_stamp (listed.Lasting start duration) = start
 
-abbrev pub exdate_in : Option ℕ → DateValue → Time
-exdate_in zone v = time_in zone (stamp_in v)
+abbrev pub exdate_in : Option ℕ → ListedDate → Time
+exdate_in zone v = time_in zone (first_stamp v)
 
 -- THE VALUES of some lines of a calendar, in their order, given the index of the zone that a name stands for.
 abbrev pub rdates_by : (ZoneName → Option ℕ) → ℕ → List DateList → List Rdate

@@ -1,5 +1,5 @@
 -- What the values of an RDATE or an EXDATE say (RFC 5545, sections 3.8.5.1 and 3.8.5.2).
-use Rattle.std.specs.Prelude.{ℕ, Bool, true, false, ◌||◌, not, ◌==◌, List, map, Result, Ok, Err, if◌then◌else◌}
+use Rattle.std.specs.Prelude.{ℕ, Bool, true, false, ◌||◌, not, ◌==◌, List, map, Option, Some, None, Result, Ok, Err, if◌then◌else◌}
 use Rattle.std.specs.List.{list_any}
 use Rattle.ics_values.specs.Periods.{first_half, second_half, lasts}
 use Rattle.ics_values.specs.RuleTexts.{pieces}
@@ -10,7 +10,10 @@ use Rattle.ics_values.specs.declared.stamp.StampFault.{StampFault}
 use Rattle.ics_values.specs.declared.stamp.StampFault.TheVariants as stamp
 use Rattle.ics_calendar.specs.declared.date_values.DateValue.{DateValue}
 use Rattle.ics_calendar.specs.declared.date_values.DateValue.TheVariants.{At, Between, Lasting}
-use Rattle.ics_calendar.specs.Values.{is_bad_stamp, is_far_stamp, is_zoned_stamp, lasting_of, is_bad_duration, is_large_duration}
+use Rattle.ics_calendar.specs.declared.date_list.ListedDate.{ListedDate}
+use Rattle.ics_calendar.specs.declared.date_list.ListedDate.TheVariants as listed
+use Rattle.ics_calendar.specs.Event.{is_zoned}
+use Rattle.ics_calendar.specs.Values.{stamp_in, duration_in, is_bad_stamp, is_far_stamp, lasting_of, is_bad_duration, is_large_duration}
 
 -- a half of a PERIOD that is a stamp: no DATE
 abbrev pub date_time_of : Bool → List ℕ → Result Stamp StampFault
@@ -58,11 +61,23 @@ abbrev pub has_large_duration : DateValue → Bool
 has_large_duration (Lasting start duration) = is_large_duration duration
 has_large_duration _ = false
 
+-- what a value says that has no fault
+abbrev pub listed_in : DateValue → ListedDate
+listed_in (At stamp) = listed.At (stamp_in stamp)
+listed_in (Between start end) = listed.Between (stamp_in start) (stamp_in end)
+listed_in (Lasting start duration) = listed.Lasting (stamp_in start) (duration_in duration)
+
+abbrev pub listed_said : DateValue → Option ListedDate
+listed_said (At (Ok stamp)) = Some (listed.At stamp)
+listed_said (Between (Ok start) (Ok end)) = Some (listed.Between start end)
+listed_said (Lasting (Ok start) (Ok duration)) = Some (listed.Lasting start duration)
+listed_said _ = None
+
 -- a local stamp beside a TZID
-abbrev pub has_zoned : DateValue → Bool
-has_zoned (At stamp) = is_zoned_stamp stamp
-has_zoned (Between start end) = is_zoned_stamp start || is_zoned_stamp end
-has_zoned (Lasting start duration) = is_zoned_stamp start
+abbrev pub has_zoned : ListedDate → Bool
+has_zoned (listed.At stamp) = is_zoned stamp
+has_zoned (listed.Between start end) = is_zoned start || is_zoned end
+has_zoned (listed.Lasting start duration) = is_zoned start
 
 -- a local stamp, read without a TZID
 abbrev pub is_local : DateValue → Bool

@@ -7,8 +7,8 @@ use Rattle.ics_values.specs.declared.duration.Duration.{Duration}
 use Rattle.ics_values.specs.declared.stamp.Stamp.{Stamp}
 use Rattle.ics_values.specs.declared.stamp.Stamp.TheVariants.{Date, Floating, Utc, Zoned}
 use Rattle.ics_zone.specs.Moments.{zone_moment}
-use Rattle.ics_zone.specs.Observances.{Phase}
-use Rattle.ics_zone.specs.Tables.{Timeline, phases_of}
+use Rattle.ics_zone.specs.Observances.{Phase, phases_of}
+use Rattle.ics_zone.specs.declared.observance.Observance.{Observance}
 use Rattle.ics_calendar.specs.declared.time.Time.{Time}
 use Rattle.ics_calendar.specs.declared.time.Length.{Length}
 use Rattle.ics_calendar.specs.declared.time.Length.TheVariants.{Open, Until, Lasting}
@@ -35,9 +35,9 @@ pub record FileSaid : Type 0 where
   pub zones : List (List Phase)
   pub events : List EventSeen
 
--- A file that has been read. Its zones have been reached up to some instant, which changes nothing of what it says.
+-- A file that has been read, with the observances of each zone as they are held.
 pub record FileSeen : Type 0 where
-  pub zones : List Timeline
+  pub zones : List (List Observance)
   pub events : List EventSeen
 
 abbrev pub said_by : FileSeen → FileSaid

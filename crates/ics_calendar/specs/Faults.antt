@@ -1,5 +1,5 @@
 -- WHICH FAULT STANDS ON WHICH LINE: one case for each kind (RFC 5545, sections 3.1, 3.4, 3.6.1, 3.6.5 and 3.8).
-use Rattle.std.specs.Prelude.{ℕ, Bool, false, ◌&&◌, ◌||◌, not, nat_le, List, [], ◌∷◌, length, codes, Option, is_some, is_none, option_map, Result, if◌then◌else◌}
+use Rattle.std.specs.Prelude.{ℕ, Bool, false, ◌&&◌, ◌||◌, not, nat_le, List, [], ◌∷◌, map, length, codes, Option, is_some, is_none, option_map, Result, if◌then◌else◌}
 use Rattle.std.specs.List.{list_any}
 use Rattle.std.specs.Str.{bytes_eq}
 use Rattle.ics_values.specs.Integers.{integer_of}
@@ -11,6 +11,8 @@ use Rattle.ics_values.specs.Stamps.{stamp_of}
 use Rattle.ics_values.specs.declared.duration.Duration.{Duration}
 use Rattle.ics_values.specs.declared.duration.DurationFault.{DurationFault}
 use Rattle.ics_values.specs.declared.rule_text.RuleFault.{RuleFault}
+use Rattle.ics_values.specs.declared.stamp.Stamp.{Stamp}
+use Rattle.ics_values.specs.declared.stamp.StampFault.{StampFault}
 use Rattle.ics_calendar.specs.declared.component.Place.{Place}
 use Rattle.ics_calendar.specs.declared.component.Place.TheVariants as place
 use Rattle.ics_calendar.specs.declared.date_list.DateList.{DateList}
@@ -22,8 +24,9 @@ use Rattle.ics_calendar.specs.declared.fault.FaultKind.TheVariants.{BadLine, Bad
 use Rattle.ics_calendar.specs.Placed.{Placed, place_of, property_name, value, params_of, is_named, is_one_of, param, is_begin, is_end, is_outside, in_calendar, in_event, in_observance, calendar_of, begins, is_closing, ends_event, ends_zone, begins_observance, has, has_all, first_named}
 use Rattle.ics_calendar.specs.Laters.{KnownZones, zone_named, ends_badly_later}
 use Rattle.ics_calendar.specs.DateLists.{rdate_list, exdate_list}
-use Rattle.ics_calendar.specs.DateValues.{rdates_of, has_bad_stamp, has_far_stamp, has_bad_duration, has_large_duration, has_zoned, is_not_local}
-use Rattle.ics_calendar.specs.Values.{zone_name, dated_of, is_bad_stamp, is_far_stamp, is_zoned_stamp, lasting_of, is_bad_duration, is_large_duration, is_bad_offset, is_bad_rule, is_large_rule, is_fine_rule, is_large_integer, is_filled, ends_badly}
+use Rattle.ics_calendar.specs.Event.{is_zoned}
+use Rattle.ics_calendar.specs.DateValues.{rdates_of, exdates_of, listed_in, has_bad_stamp, has_far_stamp, has_bad_duration, has_large_duration, has_zoned, is_not_local}
+use Rattle.ics_calendar.specs.Values.{zone_name, stamp_read, duration_in, rule_in, dated_of, is_bad_stamp, is_far_stamp, lasting_of, is_bad_duration, is_large_duration, is_bad_offset, is_bad_rule, is_large_rule, is_fine_rule, is_large_integer, is_filled, ends_badly}
 
 -- the properties of an event that hold one stamp, and those that it has at most once
 abbrev pub stamp_names : List (List ℕ)
@@ -55,7 +58,10 @@ is_property name line = in_event line && is_named name line
 abbrev pub is_rule : Placed → Bool
 is_rule line = (in_event line || in_observance line) && is_named (codes "RRULE") line
 
--- what a line says, read as a stamp, as a duration or as a rule
+-- what the value of a line is, read as a stamp, as a duration or as a rule, and what it says
+abbrev pub stamp_on : Placed → Result Stamp StampFault
+stamp_on line = stamp_read (params_of line.content) (value line)
+
 abbrev pub dated_on : Placed → Dated
 dated_on line = dated_of (params_of line.content) (value line)
 
@@ -64,6 +70,12 @@ lasting_on line = lasting_of (value line)
 
 abbrev pub rule_on : Placed → Result RuleParts RuleFault
 rule_on line = rule_of (value line)
+
+abbrev pub duration_on : Placed → Duration
+duration_on line = duration_in (lasting_on line)
+
+abbrev pub parts_on : Placed → RuleParts
+parts_on line = rule_in (rule_on line)
 
 -- what a line lists, read as an RDATE and as an EXDATE, and its values, if it is one of them
 abbrev pub rdates_on : Placed → DateList
@@ -74,8 +86,8 @@ exdates_on line = exdate_list (params_of line.content) (value line)
 
 abbrev pub dates_on : Placed → List DateValue
 dates_on line =
-    if is_named (codes "RDATE") line then (rdates_on line).values
-    else if is_named (codes "EXDATE") line then (exdates_on line).values
+    if is_named (codes "RDATE") line then rdates_of (is_some (zone_name (params_of line.content))) (value line)
+    else if is_named (codes "EXDATE") line then exdates_of (is_some (zone_name (params_of line.content))) (value line)
     else []
 
 -- a property of an event with a value that passes
@@ -103,11 +115,11 @@ first_dated name lines = option_map dated_on (first_named name lines)
 -- THE FIRST ROUND. Does this fault stand on the line? The lines beside it are those before it that stand directly in the same component.
 abbrev pub stands : FaultKind → List Placed → Placed → Bool
 stands BadLine beside line = is_none line.content
-stands BadStamp beside line = has_onset has_bad_stamp line || has_date has_bad_stamp line || (is_event_property stamp_names line && is_bad_stamp (dated_on line).stamp)
+stands BadStamp beside line = has_onset has_bad_stamp line || has_date has_bad_stamp line || (is_event_property stamp_names line && is_bad_stamp (stamp_on line))
 stands BadDuration beside line = has_onset has_bad_duration line || has_date has_bad_duration line || (is_property (codes "DURATION") line && is_bad_duration (lasting_on line))
 stands BadOffset beside line = in_observance line && is_one_of offset_names line && is_bad_offset (offset_of (value line))
 stands BadRule beside line = is_rule line && is_bad_rule (rule_on line)
-stands YearRange beside line = has_onset has_far_stamp line || has_date has_far_stamp line || (is_event_property stamp_names line && is_far_stamp (dated_on line).stamp)
+stands YearRange beside line = has_onset has_far_stamp line || has_date has_far_stamp line || (is_event_property stamp_names line && is_far_stamp (stamp_on line))
 stands NumberTooLarge beside line =
     has_onset has_large_duration line
     || has_date has_large_duration line
@@ -137,7 +149,7 @@ stands _ beside line = false
 
 -- a property of an event with a stamp in a time zone, and whether its calendar has one of the name in its TZID
 abbrev pub is_in_zone : Placed → Bool
-is_in_zone line = has_date has_zoned line || (is_event_property stamp_names line && is_zoned_stamp (dated_on line).stamp)
+is_in_zone line = (in_event line && list_any has_zoned (map listed_in (dates_on line))) || (is_event_property stamp_names line && is_zoned (dated_on line).stamp)
 
 abbrev pub has_zone : KnownZones → Placed → Bool
 has_zone known line = is_some (known.index (zone_named (calendar_of line.path) (zone_name (params_of line.content))))

@@ -8,10 +8,10 @@ use Rattle.ics_calendar.specs.DateLists.{rdates_by, exdates_by}
 use Rattle.ics_calendar.specs.Event.{EventSeen, FileSaid}
 use Rattle.ics_calendar.specs.Laters.{zone_index}
 use Rattle.ics_calendar.specs.Placed.{Placed, placed, value, in_calendar, begins, calendar_of, lines_in, first_named, all_named}
-use Rattle.ics_calendar.specs.Times.{time_on, time_of, length_of}
+use Rattle.ics_calendar.specs.Times.{time_on, dated_in, given_length, length_of}
 use Rattle.ics_calendar.specs.Zones.{zones_of, zone_names, zones_on}
-use Rattle.ics_calendar.specs.Values.{rule_in, ok_or_zero, is_cancelled}
-use Rattle.ics_calendar.specs.Faults.{first_text, first_dated, lasting_on, rule_on, rdates_on, exdates_on, stands, stands_later}
+use Rattle.ics_calendar.specs.Values.{ok_or_zero, is_cancelled}
+use Rattle.ics_calendar.specs.Faults.{first_text, first_dated, duration_on, parts_on, rdates_on, exdates_on, stands, stands_later}
 use Rattle.ics_calendar.specs.FirstFault.{Fault, IsFirst, IsFirstOrLast, NoneStand, fault_at_end, first_fault, later_fault}
 
 -- An event of a calendar, by the lines that stand directly in it, given the index of the zone that a name stands for.
@@ -19,9 +19,9 @@ abbrev pub event_by : (ZoneName → Option ℕ) → ℕ → List Placed → Even
 event_by index calendar own = record {
   uid = unwrap_or (first_text (codes "UID") own) [];
   sequence = unwrap_or (option_map (λ line. ok_or_zero (integer_of (value line))) (first_named (codes "SEQUENCE") own)) 0;
-  start = time_of index calendar (first_dated (codes "DTSTART") own);
-  length = length_of index calendar (first_dated (codes "DTEND") own) (option_map lasting_on (first_named (codes "DURATION") own));
-  rule = rule_in (option_map rule_on (first_named (codes "RRULE") own));
+  start = time_on index calendar (dated_in (first_dated (codes "DTSTART") own));
+  length = length_of index calendar (given_length (first_dated (codes "DTEND") own) (option_map duration_on (first_named (codes "DURATION") own)));
+  rule = option_map parts_on (first_named (codes "RRULE") own);
   rdates = rdates_by index calendar (map rdates_on (all_named (codes "RDATE") own));
   exdates = exdates_by index calendar (map exdates_on (all_named (codes "EXDATE") own));
   recurrence = option_map (time_on index calendar) (first_dated (codes "RECURRENCE-ID") own);

@@ -1,15 +1,11 @@
 -- The first fault of a file: the least kind on the least line where one stands.
 use Rattle.std.specs.Prelude.{◌≡◌, ◌⊎◌, ℕ, ◌+◌, Bool, true, false, List, [], ◌∷◌, ◌++◌, find, Option, Some, None, if◌then◌else◌}
+pub use Rattle.ics_calendar.specs.declared.fault.Fault.{Fault}
 use Rattle.ics_calendar.specs.declared.fault.FaultKind.{FaultKind}
 use Rattle.ics_calendar.specs.declared.fault.FaultKind.TheVariants.{NotCalendar, BadNesting}
 use Rattle.ics_calendar.specs.Placed.{Placed, Open, path_behind, beside}
 use Rattle.ics_calendar.specs.Faults.{stands, stands_later, kinds}
 use Rattle.ics_calendar.specs.Zones.{zones_on}
-
--- A fault on a line.
-pub record Fault : Type 0 where
-  pub line : ℕ
-  pub kind : FaultKind
 
 -- Which faults stand on a line, given the lines beside it.
 abbrev pub Round : Type 0

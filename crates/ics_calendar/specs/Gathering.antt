@@ -5,6 +5,7 @@ use Rattle.ics_calendar.specs.declared.gathered.Ended.TheVariants as ended
 use Rattle.ics_calendar.specs.declared.gathered.EndedEvent.{EndedEvent}
 use Rattle.ics_calendar.specs.declared.gathered.EndedObservance.{EndedObservance}
 use Rattle.ics_calendar.specs.declared.gathered.EndedZone.{EndedZone}
+use Rattle.ics_calendar.specs.declared.gathered.Passed.{Passed}
 use Rattle.ics_calendar.specs.declared.gathered.Waiting.{Waiting}
 use Rattle.ics_calendar.specs.declared.later.Later.{Later}
 use Rattle.ics_calendar.specs.GatheredSeen.{GatheredSeen}
@@ -30,14 +31,11 @@ abbrev pub waits_of : ℕ → Option Later → List Waiting
 waits_of number None = []
 waits_of number (Some later) = record { line = number; later = later } ∷ []
 
--- WHAT IS GATHERED with what the second round looks at on a line more, and with what ends there.
-abbrev pub and_waits : ℕ → Option Later → GatheredSeen → GatheredSeen
-and_waits number later had = record { zones = had.zones; observances = had.observances; events = had.events; waits = had.waits ++ waits_of number later }
-
-abbrev pub and_ended : Ended → GatheredSeen → GatheredSeen
-and_ended end had = record {
-  zones = had.zones ++ zones_of_end end;
-  observances = had.observances ++ observances_of_end end;
-  events = had.events ++ events_of_end end;
-  waits = had.waits;
+-- WHAT IS GATHERED with what ends on a line more, and what the second round looks at there.
+abbrev pub and_passed : ℕ → Passed → GatheredSeen → GatheredSeen
+and_passed number p had = record {
+  zones = had.zones ++ zones_of_end p.ended;
+  observances = had.observances ++ observances_of_end p.ended;
+  events = had.events ++ events_of_end p.ended;
+  waits = had.waits ++ waits_of number p.waits;
 }

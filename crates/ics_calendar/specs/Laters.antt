@@ -1,12 +1,11 @@
 -- What the second round looks at, and what becomes of it when all time zones of the file are known (RFC 5545, section 3.8.2.4).
-use Rattle.std.specs.Prelude.{ℕ, Bool, false, ◌&&◌, not, ◌==◌, List, [], slice_get, unwrap_or, Option, Some, None, is_some, option_map, Result, Ok, ℤ, if◌then◌else◌}
+use Rattle.std.specs.Prelude.{ℕ, Bool, false, ◌&&◌, not, ◌==◌, List, [], slice_get, unwrap_or, Option, Some, None, is_some, option_map, ℤ, if◌then◌else◌}
 use Rattle.std.specs.List.{position}
 use Rattle.std.specs.Option.{option_and_then}
 use Rattle.std.specs.Str.{bytes_eq}
 use Rattle.ics_values.specs.declared.local.Local.{Local}
 use Rattle.ics_values.specs.declared.stamp.Stamp.{Stamp}
 use Rattle.ics_values.specs.declared.stamp.Stamp.TheVariants as stamp
-use Rattle.ics_values.specs.declared.stamp.StampFault.{StampFault}
 use Rattle.ics_zone.specs.Moments.{zone_moment}
 use Rattle.ics_zone.specs.Observances.{Phase}
 use Rattle.ics_calendar.specs.declared.dated.Dated.{Dated}
@@ -17,8 +16,8 @@ use Rattle.ics_calendar.specs.declared.later.Instant.TheVariants as instant
 use Rattle.ics_calendar.specs.declared.later.Later.{Later}
 use Rattle.ics_calendar.specs.declared.later.Later.TheVariants as later
 use Rattle.ics_calendar.specs.declared.later.ZoneName.{ZoneName}
-use Rattle.ics_calendar.specs.Event.{seconds_of}
-use Rattle.ics_calendar.specs.Values.{is_zoned_stamp, same_zone, is_out}
+use Rattle.ics_calendar.specs.Event.{seconds_of, is_zoned}
+use Rattle.ics_calendar.specs.Values.{same_zone, is_out}
 
 -- the same name in the same calendar
 abbrev pub is_same : ZoneName → ZoneName → Bool
@@ -55,9 +54,9 @@ zone_named calendar zone = record { calendar = calendar; name = unwrap_or zone [
 abbrev pub zone_used : ℕ → Dated → ZoneName
 zone_used calendar dated = zone_named calendar dated.zone
 
-abbrev pub moment_on : KnownZones → ZoneName → Result Stamp StampFault → Option ℤ
-moment_on known name (Ok (stamp.Utc local)) = Some (seconds_of local)
-moment_on known name (Ok (stamp.Zoned local)) = moment_there known name local
+abbrev pub moment_on : KnownZones → ZoneName → Stamp → Option ℤ
+moment_on known name (stamp.Utc local) = Some (seconds_of local)
+moment_on known name (stamp.Zoned local) = moment_there known name local
 moment_on known name _ = None
 
 abbrev pub moment_in : KnownZones → ℕ → Dated → Option ℤ
@@ -65,7 +64,7 @@ moment_in known calendar dated = moment_on known (zone_used calendar dated) date
 
 -- two stamps beside one TZID, which the first round compares as locals
 abbrev pub are_of_one_zone : Dated → Dated → Bool
-are_of_one_zone a b = is_zoned_stamp a.stamp && (is_zoned_stamp b.stamp && same_zone a b)
+are_of_one_zone a b = is_zoned a.stamp && (is_zoned b.stamp && same_zone a b)
 
 -- Which ends are out of reach of their starts as instants.
 abbrev pub ends_badly_later : KnownZones → ℕ → Option Dated → Option Dated → Bool

@@ -3,10 +3,8 @@ use Rattle.std.specs.Prelude.{◌≡◌, ℕ, ◌+◌, ◌<◌, ◌^◌, List, [
 use Rattle.ics_text.specs.Unfolded.{Line}
 use Rattle.ics_calendar.specs.declared.fault.FileFault.{FileFault}
 use Rattle.ics_calendar.specs.declared.fault.FileFault.TheVariants.{Memory, At}
-use Rattle.ics_calendar.specs.declared.fault.FaultKind.{FaultKind}
 use Rattle.ics_calendar.specs.Event.{FileSeen, FileSaid, said_by}
 use Rattle.ics_calendar.specs.FirstFault.{Fault}
-use Rattle.ics_calendar.specs.GatheredSeen.{GatheredSeen}
 
 -- The answer is what the file says, or its first fault, or that memory is refused.
 abbrev pub SaysFile : Result FileSeen FileFault → Result FileSaid Fault → Type 0
@@ -14,16 +12,9 @@ SaysFile (Ok seen) file = file ≡ Ok (said_by seen)
 SaysFile (Err Memory) file = Unit {0}
 SaysFile (Err (At line kind)) file = file ≡ Err (record { line = line; kind = kind })
 
-abbrev pub seen_fault : ℕ × FaultKind → Fault
-seen_fault f = record { line = f.0; kind = f.1 }
-
-abbrev pub seen_answer : Result FileSeen (ℕ × FaultKind) → Result FileSaid Fault
-seen_answer (Ok seen) = Ok (said_by seen)
-seen_answer (Err fault) = Err (seen_fault fault)
-
-abbrev pub seen_gathered : Result GatheredSeen (ℕ × FaultKind) → Result GatheredSeen Fault
-seen_gathered (Ok gathered) = Ok gathered
-seen_gathered (Err fault) = Err (seen_fault fault)
+abbrev pub said_answer : Result FileSeen Fault → Result FileSaid Fault
+said_answer (Ok seen) = Ok (said_by seen)
+said_answer (Err fault) = Err fault
 
 -- there is a number after that of each line
 abbrev pub NumbersFit : List Line → Type 0

@@ -1,44 +1,39 @@
--- What holds of what is collected of an event, where no fault stands on its lines.
-use Rattle.std.specs.Prelude.{◌≡◌, true, None, IfSome, Result, Ok, Err}
+-- What holds of an event that has ended, where no fault stands on its lines.
+use Rattle.std.specs.Prelude.{◌≡◌, ◌≢◌, true, false, [], IfSome}
 use Rattle.std.specs.List.{All}
 use Rattle.ics_values.specs.Stamps.{stamp_day, IsStampDay}
-use Rattle.ics_values.specs.declared.duration.Duration.{Duration}
 use Rattle.ics_values.specs.declared.stamp.Stamp.{Stamp}
-use Rattle.ics_values.specs.declared.duration.DurationFault.{DurationFault}
-use Rattle.ics_values.specs.declared.stamp.StampFault.{StampFault}
-use Rattle.ics_calendar.specs.declared.collected.Collected.{Collected}
 use Rattle.ics_calendar.specs.declared.date_list.DateList.{DateList}
-use Rattle.ics_calendar.specs.declared.date_values.DateValue.{DateValue}
-use Rattle.ics_calendar.specs.declared.date_values.DateValue.TheVariants.{At, Between, Lasting}
-use Rattle.ics_calendar.specs.Values.{is_lasting}
-use Rattle.ics_calendar.specs.LineFaults.{end_of_event}
+use Rattle.ics_calendar.specs.declared.date_list.ListedDate.{ListedDate}
+use Rattle.ics_calendar.specs.declared.date_list.ListedDate.TheVariants.{At, Between, Lasting}
+use Rattle.ics_calendar.specs.declared.dated.Dated.{Dated}
+use Rattle.ics_calendar.specs.declared.gathered.EndedEvent.{EndedEvent}
+use Rattle.ics_calendar.specs.declared.gathered.GivenLength.{GivenLength}
+use Rattle.ics_calendar.specs.declared.gathered.GivenLength.TheVariants as given
+use Rattle.ics_calendar.specs.Values.{is_lasting, is_bad_end, same_zone}
 
--- Its stamps are in order, and its duration and those of its PERIODs are ones that an event may have.
-abbrev pub IsSoundStamp : Result Stamp StampFault → Type 0
-IsSoundStamp (Ok stamp) = IsStampDay (stamp_day stamp)
-IsSoundStamp (Err fault) = ⊥
+-- Its stamps lie in the years of stamps, and its duration and those of its PERIODs are ones that an event may have.
+abbrev pub IsSoundStamp : Stamp → Type 0
+IsSoundStamp stamp = IsStampDay (stamp_day stamp)
 
-abbrev pub IsSoundDuration : Result Duration DurationFault → Type 0
-IsSoundDuration (Ok duration) = is_lasting duration ≡ true
-IsSoundDuration (Err fault) = ⊥
-
-abbrev pub IsSoundValue : DateValue → Type 0
+abbrev pub IsSoundValue : ListedDate → Type 0
 IsSoundValue (At stamp) = IsSoundStamp stamp
 IsSoundValue (Between start end) = IsSoundStamp start × IsSoundStamp end
-IsSoundValue (Lasting start duration) = IsSoundStamp start × IsSoundDuration duration
+IsSoundValue (Lasting start duration) = IsSoundStamp start × (is_lasting duration ≡ true)
 
 abbrev pub IsSoundList : DateList → Type 0
 IsSoundList list = All IsSoundValue list.values
 
-pub record IsSound (had : Collected) : Type 0 where
-  pub start : IfSome had.start (λ dated. IsSoundStamp dated.stamp)
-  pub end : IfSome had.end (λ dated. IsSoundStamp dated.stamp)
-  pub duration : IfSome had.duration IsSoundDuration
-  pub rdates : All IsSoundList had.rdates
-  pub exdates : All IsSoundList had.exdates
-  pub recurrence : IfSome had.recurrence (λ dated. IsSoundStamp dated.stamp)
+-- Its end is not bad, as far as locals say.
+abbrev pub IsSoundLength : Dated → GivenLength → Type 0
+IsSoundLength start (given.Until end) = IsSoundStamp end.stamp × (is_bad_end (same_zone start end) start.stamp end.stamp ≡ false)
+IsSoundLength start (given.Lasting duration) = is_lasting duration ≡ true
+IsSoundLength start given.Open = Unit {0}
 
--- sound, and without a fault at its END
-pub record IsWhole (had : Collected) : Type 0 where
-  pub sound : IsSound had
-  pub no_fault : end_of_event had ≡ None
+pub record IsWhole (event : EndedEvent) : Type 0 where
+  pub named : event.uid ≢ []
+  pub start : IsSoundStamp event.start.stamp
+  pub length : IsSoundLength event.start event.length
+  pub rdates : All IsSoundList event.rdates
+  pub exdates : All IsSoundList event.exdates
+  pub recurrence : IfSome event.recurrence (λ dated. IsSoundStamp dated.stamp)

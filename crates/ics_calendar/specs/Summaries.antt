@@ -1,37 +1,21 @@
--- What is collected of a component, line by line.
-use Rattle.std.specs.Prelude.{false, ◌||◌, List, [], ◌++◌, codes, None, option_map, flat_map, Result, ℤ}
+-- What is collected of a time zone and of an observance.
+use Rattle.std.specs.Prelude.{ℕ, false, List, [], codes, None, option_map, unwrap_or, flat_map, pos}
 use Rattle.std.specs.List.{list_any}
-use Rattle.ics_values.specs.Offsets.{offset_of}
-use Rattle.ics_values.specs.Stamps.{stamp_of}
-use Rattle.ics_values.specs.declared.offset.BadOffset.{BadOffset}
-use Rattle.ics_values.specs.declared.stamp.Stamp.{Stamp}
-use Rattle.ics_values.specs.declared.stamp.StampFault.{StampFault}
-use Rattle.ics_calendar.specs.declared.component.Component.{Component}
+use Rattle.ics_values.specs.Locals.{local_at}
 use Rattle.ics_calendar.specs.declared.component.Place.{Place}
 use Rattle.ics_calendar.specs.declared.component.Place.TheVariants as place
-use Rattle.ics_calendar.specs.declared.property.Property.{Property}
-use Rattle.ics_calendar.specs.declared.property.Property.TheVariants as property
+use Rattle.ics_calendar.specs.declared.gathered.EndedObservance.{EndedObservance}
+use Rattle.ics_calendar.specs.declared.gathered.EndedZone.{EndedZone}
 use Rattle.ics_calendar.specs.declared.summary.ObservanceSummary.{ObservanceSummary}
 use Rattle.ics_calendar.specs.declared.summary.Summary.{Summary}
 use Rattle.ics_calendar.specs.declared.summary.Summary.TheVariants as summary
 use Rattle.ics_calendar.specs.declared.summary.ZoneSummary.{ZoneSummary}
-use Rattle.ics_calendar.specs.declared.date_values.DateValue.{DateValue}
-use Rattle.ics_calendar.specs.Components.{is_observance}
-use Rattle.ics_calendar.specs.DateValues.{rdates_of}
-use Rattle.ics_calendar.specs.Placed.{Placed, value, begins_observance, first_named, all_named}
-use Rattle.ics_calendar.specs.Faults.{first_text, rule_on}
-use Rattle.ics_calendar.specs.Collecting.{nothing, or_first, note_event}
+use Rattle.ics_calendar.specs.Placed.{Placed, begins_observance, first_named, all_named}
+use Rattle.ics_calendar.specs.Faults.{first_text}
+use Rattle.ics_calendar.specs.Collecting.{nothing}
+use Rattle.ics_calendar.specs.Zones.{onset_on, offset_on, daily_on, onsets_by}
 
 -- WHAT IS COLLECTED, as read of the lines that stand directly in the component.
-abbrev pub onset_on : Placed → Result Stamp StampFault
-onset_on line = stamp_of false (value line)
-
-abbrev pub offset_on : Placed → Result ℤ BadOffset
-offset_on line = offset_of (value line)
-
-abbrev pub listed_on : Placed → List DateValue
-listed_on line = rdates_of false (value line)
-
 abbrev pub zone_of : List Placed → ZoneSummary
 zone_of lines = record { name = first_text (codes "TZID") lines; has_observance = list_any begins_observance lines }
 
@@ -40,8 +24,8 @@ observance_of lines = record {
   start = option_map onset_on (first_named (codes "DTSTART") lines);
   from = option_map offset_on (first_named (codes "TZOFFSETFROM") lines);
   to = option_map offset_on (first_named (codes "TZOFFSETTO") lines);
-  rule = option_map rule_on (first_named (codes "RRULE") lines);
-  rdates = flat_map listed_on (all_named (codes "RDATE") lines);
+  rule = option_map daily_on (first_named (codes "RRULE") lines);
+  rdates = flat_map onsets_by (all_named (codes "RDATE") lines);
 }
 
 abbrev pub nothing_zone : ZoneSummary
@@ -56,28 +40,16 @@ fresh place.Zone = summary.Zone nothing_zone
 fresh place.Observance = summary.Observance nothing_observance
 fresh _ = summary.Nothing
 
--- WHAT IS COLLECTED with a line more. The first value of a property counts, and every value of an RDATE.
-abbrev pub begin_zone : Component → ZoneSummary → ZoneSummary
-begin_zone c had = record had { has_observance = had.has_observance || is_observance c }
+-- WHAT HAS ENDED, with what is collected of it. An accepted file has the fields that are asked for.
+abbrev pub zone_ended : ℕ → ℕ → ZoneSummary → EndedZone
+zone_ended begun calendar had = record { begun = begun; name = record { calendar = calendar; name = unwrap_or had.name [] } }
 
-abbrev pub note_zone : Property → ZoneSummary → ZoneSummary
-note_zone (property.Begin c) had = begin_zone c had
-note_zone (property.ZoneName name) had = record had { name = or_first had.name name }
-note_zone _ had = had
-
-abbrev pub note_once : Property → ObservanceSummary → ObservanceSummary
-note_once (property.Onset stamp) had = record had { start = or_first had.start stamp }
-note_once (property.OffsetFrom offset) had = record had { from = or_first had.from offset }
-note_once (property.OffsetTo offset) had = record had { to = or_first had.to offset }
-note_once (property.Rrule rule) had = record had { rule = or_first had.rule rule }
-note_once _ had = had
-
-abbrev pub note_observance : Property → ObservanceSummary → ObservanceSummary
-note_observance (property.Dates values) had = record had { rdates = had.rdates ++ values }
-note_observance p had = note_once p had
-
-abbrev pub note : Property → Summary → Summary
-note p (summary.Event had) = summary.Event (note_event p had)
-note p (summary.Zone had) = summary.Zone (note_zone p had)
-note p (summary.Observance had) = summary.Observance (note_observance p had)
-note p summary.Nothing = summary.Nothing
+abbrev pub observance_ended : ℕ → ObservanceSummary → EndedObservance
+observance_ended zone had = record {
+  zone = zone;
+  start = unwrap_or had.start (local_at (pos 0) 0);
+  offset_from = unwrap_or had.from (pos 0);
+  offset_to = unwrap_or had.to (pos 0);
+  rule = had.rule;
+  rdates = had.rdates;
+}

@@ -1,11 +1,11 @@
 -- What the properties of an event or of an observance say (RFC 5545, sections 3.3 and 3.8).
-use Rattle.std.specs.Prelude.{ℕ, ◌+◌, ◌*◌, Bool, true, false, ◌&&◌, ◌||◌, not, ◌==◌, nat_le, List, [], ◌∷◌, map, unwrap_or, codes, Option, Some, None, is_some, Result, Ok, Err, ℤ, pos, ◌+ℤ◌, ◌*ℤ◌, int_lt, if◌then◌else◌}
+use Rattle.std.specs.Prelude.{ℕ, ◌+◌, ◌*◌, Bool, true, false, ◌&&◌, ◌||◌, not, ◌==◌, nat_le, List, [], ◌∷◌, map, unwrap_or, codes, Option, Some, is_some, Result, Ok, Err, ℤ, pos, ◌+ℤ◌, ◌*ℤ◌, int_lt, if◌then◌else◌}
 use Rattle.std.specs.Result.{result_ok}
 use Rattle.std.specs.Str.{bytes_eq}
 use Rattle.ics_text.specs.Bytes.{upper}
 use Rattle.ics_text.specs.Contents.{param_of}
 use Rattle.ics_values.specs.Durations.{duration_of}
-use Rattle.ics_values.specs.RuleParts.{RuleParts}
+use Rattle.ics_values.specs.RuleParts.{RuleParts, every}
 use Rattle.ics_values.specs.Texts.{begins, is_minus}
 use Rattle.ics_values.specs.Stamps.{stamp_of}
 use Rattle.ics_values.specs.declared.duration.Duration.{Duration}
@@ -18,20 +18,33 @@ use Rattle.ics_values.specs.declared.duration.DurationFault.TheVariants as durat
 use Rattle.ics_values.specs.declared.integer.IntegerFault.{IntegerFault}
 use Rattle.ics_values.specs.declared.integer.IntegerFault.TheVariants as integer
 use Rattle.ics_values.specs.declared.frequency.Frequency.{Frequency}
-use Rattle.ics_values.specs.declared.frequency.Frequency.TheVariants.{Secondly, Minutely, Hourly}
+use Rattle.ics_values.specs.declared.frequency.Frequency.TheVariants.{Secondly, Minutely, Hourly, Daily}
 use Rattle.ics_values.specs.declared.offset.BadOffset.{BadOffset}
 use Rattle.ics_values.specs.declared.rule_text.RuleFault.{RuleFault}
 use Rattle.ics_values.specs.declared.rule_text.RuleFault.TheVariants as rule
 use Rattle.ics_calendar.specs.declared.dated.Dated.{Dated}
-use Rattle.ics_calendar.specs.Event.{longest, seconds_of, is_zoned}
+use Rattle.ics_calendar.specs.Event.{longest, seconds_of}
 
 -- the name of the zone that the parameters of a line give
 abbrev pub zone_name : List ℕ → Option (List ℕ)
 zone_name params = param_of (codes "TZID") params
 
--- the stamp of a line with these parameters and this value, a zoned one only beside a TZID
+-- the stamp on a line with these parameters and this value, a zoned one only beside a TZID
+abbrev pub stamp_read : List ℕ → List ℕ → Result Stamp StampFault
+stamp_read params value = stamp_of (is_some (zone_name params)) value
+
+-- WHAT A LINE SAYS that no fault stands on. Where one does, the file is refused for it, and what stands here in its place says nothing.
+abbrev pub stamp_in : Result Stamp StampFault → Stamp
+stamp_in stamp = unwrap_or (result_ok stamp) (Date (pos 0))
+
+abbrev pub duration_in : Result Duration DurationFault → Duration
+duration_in duration = unwrap_or (result_ok duration) (record { negative = false; days = 0; seconds = 0 })
+
+abbrev pub rule_in : Result RuleParts RuleFault → RuleParts
+rule_in rule = unwrap_or (result_ok rule) (every Daily)
+
 abbrev pub dated_of : List ℕ → List ℕ → Dated
-dated_of params value = record { stamp = stamp_of (is_some (zone_name params)) value; zone = zone_name params }
+dated_of params value = record { stamp = stamp_in (stamp_read params value); zone = zone_name params }
 
 abbrev pub is_bad_stamp : Result Stamp StampFault → Bool
 is_bad_stamp (Err stamp.BadStamp) = true
@@ -40,11 +53,6 @@ is_bad_stamp _ = false
 abbrev pub is_far_stamp : Result Stamp StampFault → Bool
 is_far_stamp (Err stamp.YearRange) = true
 is_far_stamp _ = false
-
--- a local stamp beside a TZID
-abbrev pub is_zoned_stamp : Result Stamp StampFault → Bool
-is_zoned_stamp (Ok s) = is_zoned s
-is_zoned_stamp (Err fault) = false
 
 abbrev pub length_in_seconds : Duration → ℕ
 length_in_seconds d = 86_400 * d.days + d.seconds
@@ -98,11 +106,6 @@ abbrev pub is_bad_offset : Result ℤ BadOffset → Bool
 is_bad_offset (Ok offset) = false
 is_bad_offset (Err fault) = true
 
--- the rule of an RRULE that is there and in order
-abbrev pub rule_in : Option (Result RuleParts RuleFault) → Option RuleParts
-rule_in None = None
-rule_in (Some rule) = result_ok rule
-
 -- a SEQUENCE that is no number counts as 0
 abbrev pub ok_or_zero : Result ℕ IntegerFault → ℕ
 ok_or_zero (Ok n) = n
@@ -137,10 +140,6 @@ is_bad_end one_zone (Utc a) (Zoned b) = false
 is_bad_end one_zone (Utc a) (Utc b) = false
 is_bad_end one_zone _ _ = true
 
-abbrev pub both : Option Stamp → Option Stamp → (Stamp → Stamp → Bool) → Bool
-both (Some a) (Some b) test = test a b
-both _ _ test = false
-
 abbrev pub ends_badly : Option Dated → Option Dated → Bool
-ends_badly (Some start) (Some end) = both (result_ok start.stamp) (result_ok end.stamp) (is_bad_end (same_zone start end))
+ends_badly (Some start) (Some end) = is_bad_end (same_zone start end) start.stamp end.stamp
 ends_badly _ _ = false

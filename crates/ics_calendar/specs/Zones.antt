@@ -1,8 +1,13 @@
 -- The time zones of a file, and the one that a name stands for (RFC 5545, section 3.6.5).
-use Rattle.std.specs.Prelude.{ℕ, Bool, ◌&&◌, ◌==◌, List, [], map, filter, filter_map, flat_map, codes, unwrap_or, Option, Some, None, option_map, Result, Ok, ℤ, pos}
+use Rattle.std.specs.Prelude.{ℕ, Bool, ◌&&◌, ◌==◌, List, [], map, filter, filter_map, flat_map, codes, unwrap_or, Option, Some, None, option_map, Result, Ok, Err, ℤ, pos, false, if◌then◌else◌}
 use Rattle.ics_values.specs.Locals.{local_at}
 use Rattle.ics_values.specs.declared.local.Local.{Local}
+use Rattle.ics_values.specs.declared.frequency.Frequency.TheVariants.{Daily}
 use Rattle.ics_values.specs.declared.offset.BadOffset.{BadOffset}
+use Rattle.ics_values.specs.declared.rule_text.RuleFault.{RuleFault}
+use Rattle.ics_values.specs.Offsets.{offset_of}
+use Rattle.ics_values.specs.RuleParts.{RuleParts, every}
+use Rattle.ics_values.specs.Stamps.{stamp_of}
 use Rattle.ics_values.specs.declared.stamp.Stamp.{Stamp}
 use Rattle.ics_values.specs.declared.stamp.Stamp.TheVariants.{Floating}
 use Rattle.ics_values.specs.declared.stamp.StampFault.{StampFault}
@@ -12,46 +17,54 @@ use Rattle.ics_calendar.specs.declared.date_values.DateValue.TheVariants.{At}
 use Rattle.ics_calendar.specs.declared.gathered.EndedObservance.{EndedObservance}
 use Rattle.ics_calendar.specs.declared.gathered.EndedZone.{EndedZone}
 use Rattle.ics_calendar.specs.declared.later.ZoneName.{ZoneName}
-use Rattle.ics_calendar.specs.declared.summary.ObservanceSummary.{ObservanceSummary}
 use Rattle.ics_calendar.specs.Faults.{first_text, rule_on}
 use Rattle.ics_calendar.specs.Laters.{KnownZones, known_zones}
-use Rattle.ics_calendar.specs.Placed.{Placed, in_calendar, in_zone, begins, begins_observance, calendar_of, lines_in, first_named, all_named}
-use Rattle.ics_calendar.specs.Summaries.{onset_on, offset_on, listed_on}
-use Rattle.ics_calendar.specs.Values.{rule_in}
+use Rattle.ics_calendar.specs.Placed.{Placed, value, in_calendar, in_zone, begins, begins_observance, calendar_of, lines_in, first_named, all_named}
+use Rattle.ics_calendar.specs.DateValues.{rdates_of}
+use Rattle.ics_calendar.specs.Values.{is_fine_rule, rule_in}
 
 -- the local of a value that is one
 abbrev pub local_in : DateValue → Option Local
 local_in (At (Ok (Floating local))) = Some local
 local_in _ = None
 
--- The local of a DTSTART and the offset of a TZOFFSETFROM or TZOFFSETTO. An accepted file has them where they are asked for.
-abbrev pub onset_in : Option (Result Stamp StampFault) → Local
-onset_in (Some (Ok (Floating local))) = local
+-- What its lines say of an observance that no fault stands on: a local read without a TZID, an offset, a rule no finer than daily, and locals.
+abbrev pub onset_in : Result Stamp StampFault → Local
+onset_in (Ok (Floating local)) = local
 onset_in _ = local_at (pos 0) 0
 
-abbrev pub offset_in : Option (Result ℤ BadOffset) → ℤ
-offset_in (Some (Ok offset)) = offset
-offset_in _ = pos 0
+abbrev pub offset_in : Result ℤ BadOffset → ℤ
+offset_in (Ok offset) = offset
+offset_in (Err fault) = pos 0
 
--- An observance, by the lines that stand directly in it.
+abbrev pub daily_in : Result RuleParts RuleFault → RuleParts
+daily_in rule = if is_fine_rule rule then every Daily else rule_in rule
+
+abbrev pub onset_on : Placed → Local
+onset_on line = onset_in (stamp_of false (value line))
+
+abbrev pub offset_on : Placed → ℤ
+offset_on line = offset_in (offset_of (value line))
+
+abbrev pub daily_on : Placed → RuleParts
+daily_on line = daily_in (rule_on line)
+
+abbrev pub onsets_by : Placed → List Local
+onsets_by line = filter_map local_in (rdates_of false (value line))
+
+-- An observance, by the lines that stand directly in it. An accepted file has its fields.
 abbrev pub phase_by : List Placed → Phase
 phase_by own = record {
-  start = onset_in (option_map onset_on (first_named (codes "DTSTART") own));
-  offset_from = offset_in (option_map offset_on (first_named (codes "TZOFFSETFROM") own));
-  offset_to = offset_in (option_map offset_on (first_named (codes "TZOFFSETTO") own));
-  rule = rule_in (option_map rule_on (first_named (codes "RRULE") own));
-  rdates = filter_map local_in (flat_map listed_on (all_named (codes "RDATE") own));
+  start = unwrap_or (option_map onset_on (first_named (codes "DTSTART") own)) (local_at (pos 0) 0);
+  offset_from = unwrap_or (option_map offset_on (first_named (codes "TZOFFSETFROM") own)) (pos 0);
+  offset_to = unwrap_or (option_map offset_on (first_named (codes "TZOFFSETTO") own)) (pos 0);
+  rule = option_map daily_on (first_named (codes "RRULE") own);
+  rdates = flat_map onsets_by (all_named (codes "RDATE") own);
 }
 
--- the observance of what is collected
-abbrev pub phase_of : ObservanceSummary → Phase
-phase_of had = record {
-  start = onset_in had.start;
-  offset_from = offset_in had.from;
-  offset_to = offset_in had.to;
-  rule = rule_in had.rule;
-  rdates = filter_map local_in had.rdates;
-}
+-- what is said of an observance that has ended
+abbrev pub phase_of : EndedObservance → Phase
+phase_of o = record { start = o.start; offset_from = o.offset_from; offset_to = o.offset_to; rule = o.rule; rdates = o.rdates }
 
 -- a time zone begins directly in a calendar, and an observance directly in such a zone
 abbrev pub begins_zone : Placed → Bool
@@ -83,4 +96,4 @@ abbrev pub joined : List (ℕ × Phase) → List (ℕ × ZoneName) → List (Lis
 joined phases names = map (λ z. map (λ p. p.1) (filter (λ p. p.0 == z.0) phases)) names
 
 abbrev pub zones_from : List EndedZone → List EndedObservance → List (List Phase)
-zones_from zones observances = joined (map (λ o. (o.zone, phase_of o.had)) observances) (map (λ z. (z.begun, z.name)) zones)
+zones_from zones observances = joined (map (λ o. (o.zone, phase_of o)) observances) (map (λ z. (z.begun, z.name)) zones)

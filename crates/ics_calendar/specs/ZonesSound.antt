@@ -17,7 +17,7 @@ pub record IsSoundPhase (phase : Phase) : Type 0 where
   pub daily : has_finer_rule phase ≡ false
 
 abbrev pub IsSoundObservance : EndedObservance → Type 0
-IsSoundObservance observance = IsSoundPhase (said_phase observance.had)
+IsSoundObservance observance = IsSoundPhase (said_phase observance)
 
 -- an observance has ended in the zone
 abbrev pub has_observance : List EndedObservance → EndedZone → Bool

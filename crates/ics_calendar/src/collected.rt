@@ -1,35 +1,33 @@
 //! What has been read of an event so far.
-ghost use Rattle.std.specs.Prelude.{◌≡◌, List, option_map, IfOk};
-ghost use Rattle.ics_zone.specs.Observances.{Phase};
-ghost use Rattle.ics_calendar.specs.Values.{ends_badly, is_filled, rule_in};
-ghost use Rattle.ics_calendar.specs.Laters.{zone_used};
-ghost use Rattle.ics_calendar.specs.Times.{zone_in, time_on, time_of, length_of};
-ghost use Rattle.ics_calendar.specs.Collecting.{nothing, note_first, note_event, or_first, event_from};
-ghost use Rattle.ics_calendar.specs.LineFaults.{end_of_event};
-ghost use Rattle.ics_calendar.specs.ZoneTables.{index_in};
-ghost use Rattle.ics_calendar.specs.Ready.{IsReady};
+ghost use Rattle.std.specs.Prelude.{◌≡◌, Option, None, Some, is_some, true, false, IfOk, IfErr};
+ghost use Rattle.ics_calendar.specs.Collecting.{nothing};
+ghost use Rattle.ics_calendar.specs.Lines.{Gives, Makes, or_first, number_said, event_line, event_end, ends_in};
+ghost use Rattle.ics_calendar.specs.Times.{given_length};
+ghost use Rattle.ics_calendar.specs.Values.{is_filled, is_cancelled, lasting_of};
 
-use crate::date_list::DateLists;
+use crate::date_list::{DateList, DateLists};
 use crate::dated::Dated;
-use crate::ends::ends_badly;
-use crate::event::Event;
+use crate::ends::{ends_badly, ends_in};
 use crate::fault::FaultKind;
-use crate::later::ZoneName;
-use crate::property::Property;
+use crate::gathered::{EndedEvent, GivenLength};
+use crate::lasting::lasting;
+use crate::later::Later;
+use crate::name::Name;
+use crate::refused::Refused;
 use crate::rule_value::RuleValue;
 use crate::text::{Text, text_or_empty};
-use crate::time::{Length, Time};
-use crate::zone_table::ZoneTable;
-use ics_values::{Duration, DurationFault, Parts, Stamp};
+use crate::words::is_word;
+use ics_text::Content;
+use ics_values::{Duration, IntegerFault, read_integer};
 use std::alloc::{AllocError, Global};
 
-/// The first value of each property that an event may have once, and what all its RDATEs and EXDATEs list.
+/// The value of each property that an event may have once, and what all its RDATEs and EXDATEs list.
 #[derive(Drop)]
 pub struct Collected {
     pub uid: Option<Text>,
     pub start: Option<Dated>,
     pub end: Option<Dated>,
-    pub duration: Option<Result<Duration, DurationFault>>,
+    pub duration: Option<Duration>,
     pub rule: Option<RuleValue>,
     pub rdates: DateLists,
     pub exdates: DateLists,
@@ -41,8 +39,20 @@ pub struct Collected {
     pub cancelled: Option<bool>,
 }
 
+/// Keeps the value of a property that stands only once.
+pub fn once<T: Drop>(kept: &mut Option<T>, value: T, twice: FaultKind) -> Result<(), FaultKind>
+    ensures kept { IfOk result (λ _. (kept.old ≡ None) × (kept.new ≡ Some value)) }
+    ensures twice { IfErr result (λ kind. (kind ≡ twice) × (is_some kept.old ≡ true)) }
+{
+    if kept.is_some() {
+        return Err(twice);
+    }
+    *kept = Some(value);
+    Ok(())
+}
+
 /// Keeps the first text of several.
-pub fn keep_text(kept: &mut Option<Text>, text: Text)
+fn keep_first(kept: &mut Option<Text>, text: Text)
     ensures { kept.new ≡ or_first kept.old text }
 {
     if kept.is_none() {
@@ -50,20 +60,20 @@ pub fn keep_text(kept: &mut Option<Text>, text: Text)
     }
 }
 
-fn keep_dated(kept: &mut Option<Dated>, dated: Dated)
-    ensures { kept.new ≡ or_first kept.old dated }
+fn is_cancelled(text: &[u8]) -> bool
+    ensures { result ≡ is_cancelled text.now }
 {
-    if kept.is_none() {
-        *kept = Some(dated);
-    }
+    is_word(text, b"CANCELLED")
 }
 
-/// Keeps the first rule of several.
-pub fn keep_rule(kept: &mut Option<RuleValue>, rule: RuleValue)
-    ensures { kept.new ≡ or_first kept.old rule }
+/// What a SEQUENCE says. One that is no number counts as 0.
+fn sequence(text: &[u8]) -> Result<u32, Refused>
+    ensures { Gives result (number_said text.now) }
 {
-    if kept.is_none() {
-        *kept = Some(rule);
+    match read_integer(text) {
+        Ok(number) => Ok(number),
+        Err(IntegerFault::NotDigits) => Ok(0),
+        Err(IntegerFault::NumberTooLarge) => Err(Refused::Fault(FaultKind::NumberTooLarge)),
     }
 }
 
@@ -76,74 +86,14 @@ fn is_filled(text: &Option<Text>) -> bool
     }
 }
 
-fn zone_of(alloc: Global, table: &ZoneTable, calendar: u64, dated: Dated) -> Option<u32>
-    ensures { result ≡ zone_in (index_in table.now (zone_used calendar dated)) dated.stamp }
-{
-    if !dated.is_zoned() {
-        return None;
-    }
-    table.index(&ZoneName::of(alloc, calendar, dated.zone))
-}
-
-fn time_on(alloc: Global, table: &ZoneTable, calendar: u64, dated: Dated) -> Time
-    ensures { result ≡ time_on (index_in table.now) calendar dated }
-{
-    Time {
-        stamp: dated.stamp.unwrap_or(Stamp::Date(0)),
-        zone: zone_of(alloc, table, calendar, dated),
-    }
-}
-
-fn time_of(alloc: Global, table: &ZoneTable, calendar: u64, dated: Option<Dated>) -> Time
-    ensures { result ≡ time_of (index_in table.now) calendar dated }
-{
-    match dated {
-        Some(dated) => time_on(alloc, table, calendar, dated),
-        None => Time {
-            stamp: Stamp::Date(0),
-            zone: None,
-        },
-    }
-}
-
-/// The time of a RECURRENCE-ID, if there is one.
-fn recurrence_of(
-    alloc: Global,
-    table: &ZoneTable,
-    calendar: u64,
-    recurrence: Option<Dated>,
-) -> Option<Time>
-    ensures { result ≡ option_map (time_on (index_in table.now) calendar) recurrence }
-{
-    match recurrence {
-        Some(dated) => Some(time_on(alloc, table, calendar, dated)),
-        None => None,
-    }
-}
-
-fn length_of(
-    alloc: Global,
-    table: &ZoneTable,
-    calendar: u64,
-    end: Option<Dated>,
-    duration: Option<Result<Duration, DurationFault>>,
-) -> Length
-    ensures { result ≡ length_of (index_in table.now) calendar end duration }
+/// What gives the length of an event.
+fn given_length(end: Option<Dated>, duration: Option<Duration>) -> GivenLength
+    ensures { result ≡ given_length end duration }
 {
     match (end, duration) {
-        (Some(end), _) => Length::Until(time_on(alloc, table, calendar, end)),
-        (None, Some(Ok(duration))) => Length::Lasting(duration),
-        (None, _) => Length::Open,
-    }
-}
-
-/// The rule of an RRULE that is there and in order.
-pub fn rule_in(rule: &Option<RuleValue>) -> Option<Parts>
-    ensures { result ≡ rule_in rule.now }
-{
-    match rule {
-        Some(rule) => (*rule.get()).ok(),
-        None => None,
+        (Some(end), _) => GivenLength::Until(end),
+        (None, Some(duration)) => GivenLength::Lasting(duration),
+        (None, None) => GivenLength::Open,
     }
 }
 
@@ -169,82 +119,123 @@ impl Collected {
         }
     }
 
-    /// A line more that is no RDATE and no EXDATE. What stands in no event changes nothing.
-    fn note_first(&mut self, property: Property)
-        ensures { self.new ≡ note_first property self.old }
+    /// One line more of an event in that calendar, with what the second round looks at there.
+    pub fn line(
+        &mut self,
+        alloc: Global,
+        calendar: u64,
+        name: Name,
+        content: &Content<'_>,
+    ) -> Result<Option<Later>, Refused>
+        ensures { Makes result self.new (event_line calendar name content.now self.old) }
     {
-        match property {
-            Property::Uid(text) => keep_text(&mut self.uid, text),
-            Property::Dtstart(dated) => keep_dated(&mut self.start, dated),
-            Property::Dtend(dated) => keep_dated(&mut self.end, dated),
-            Property::Duration(duration) => self.duration = self.duration.or(Some(duration)),
-            Property::Rrule(rule) => keep_rule(&mut self.rule, rule),
-            Property::RecurrenceId(dated, _) => keep_dated(&mut self.recurrence, dated),
-            Property::Sequence(number) => {
-                self.sequence = self.sequence.or(Some(number.unwrap_or(0)));
+        let value = content.value();
+        match name {
+            Name::Uid => {
+                let uid = Text::of_value(alloc, value)?;
+                once(&mut self.uid, uid, FaultKind::Repeated)?;
             }
-            Property::Summary(text) => keep_text(&mut self.title, text),
-            Property::Location(text) => keep_text(&mut self.location, text),
-            Property::Description(text) => keep_text(&mut self.description, text),
-            Property::Status(cancelled) => self.cancelled = self.cancelled.or(Some(cancelled)),
+            Name::Dtstart => {
+                let dated = Dated::read(alloc, content)?;
+                let later = dated.used_zone(alloc, calendar)?;
+                once(&mut self.start, dated, FaultKind::Repeated)?;
+                return Ok(later);
+            }
+            Name::Dtend => {
+                let dated = Dated::read(alloc, content)?;
+                let later = dated.used_zone(alloc, calendar)?;
+                once(&mut self.end, dated, FaultKind::Repeated)?;
+                return Ok(later);
+            }
+            Name::RecurrenceId => {
+                let dated = Dated::read(alloc, content)?;
+                let later = dated.used_zone(alloc, calendar)?;
+                once(&mut self.recurrence, dated, FaultKind::Repeated)?;
+                if content.param(b"RANGE").is_some() {
+                    return Err(Refused::Fault(FaultKind::ThisAndFuture));
+                }
+                return Ok(later);
+            }
+            Name::Rdate => {
+                let list = DateList::read_rdates(alloc, content)?;
+                let later = list.used_zone(alloc, calendar)?;
+                self.rdates.add(list)?;
+                return Ok(later);
+            }
+            Name::Exdate => {
+                let list = DateList::read_exdates(alloc, content)?;
+                let later = list.used_zone(alloc, calendar)?;
+                self.exdates.add(list)?;
+                return Ok(later);
+            }
+            Name::Duration => once(&mut self.duration, lasting(value)?, FaultKind::Repeated)?,
+            Name::Rrule => {
+                let rule = RuleValue::read(alloc, value)?;
+                once(&mut self.rule, rule, FaultKind::Repeated)?;
+            }
+            Name::Sequence => once(&mut self.sequence, sequence(value)?, FaultKind::Repeated)?,
+            Name::Exrule => return Err(Refused::Fault(FaultKind::Exrule)),
+            Name::Summary => keep_first(&mut self.title, Text::of_value(alloc, value)?),
+            Name::Location => keep_first(&mut self.location, Text::of_value(alloc, value)?),
+            Name::Description => keep_first(&mut self.description, Text::of_value(alloc, value)?),
+            Name::Status => self.cancelled = self.cancelled.or(Some(is_cancelled(value))),
             _ => {}
         }
+        Ok(None)
     }
 
-    /// One line more.
-    pub fn note(&mut self, property: Property) -> Result<(), AllocError>
-        ensures { IfOk result (λ _. self.new ≡ note_event property self.old) }
+    /// What the second round looks at where the event ends.
+    pub fn ends_in(&self, alloc: Global, calendar: u64) -> Result<Option<Later>, AllocError>
+        ensures { IfOk result (λ later. later ≡ ends_in calendar self.now.start self.now.end) }
     {
-        match property {
-            Property::Rdate(list) => self.rdates.add(list),
-            Property::Exdate(list) => self.exdates.add(list),
-            property => {
-                self.note_first(property);
-                Ok(())
-            }
-        }
+        ends_in(alloc, calendar, &self.start, &self.end)
     }
 
-    /// What the END of the event meets.
-    pub fn end_of_event(&self) -> Option<FaultKind>
-        ensures { result ≡ end_of_event self.now }
+    /// The event of that calendar, at its END.
+    pub fn end(self, alloc: Global, calendar: u64) -> Result<EndedEvent, FaultKind>
+        ensures { result ≡ event_end calendar self }
     {
         if !is_filled(&self.uid) {
-            Some(FaultKind::MissingUid)
-        } else if self.start.is_none() {
-            Some(FaultKind::MissingStart)
-        } else if self.end.is_some() && self.duration.is_some() {
-            Some(FaultKind::BadEnd)
-        } else if ends_badly(&self.start, &self.end) {
-            Some(FaultKind::BadEnd)
-        } else {
-            None
+            return Err(FaultKind::MissingUid);
         }
-    }
-
-    /// The event of that calendar, where no fault stands on its lines.
-    pub fn into_event(
-        self,
-        alloc: Global,
-        table: &ZoneTable,
-        calendar: u64,
-    ) -> Result<Event, AllocError>
-        requires { (zones : List (List Phase)) × IsReady (record { index = index_in table.now; zones = zones }) calendar self }
-        ensures { IfOk result (λ event. event ≡ event_from (index_in table.now) calendar self) }
-    {
-        Ok(Event {
-            start: time_of(alloc, table, calendar, self.start),
-            length: length_of(alloc, table, calendar, self.end, self.duration),
-            rule: rule_in(&self.rule),
-            rdates: self.rdates.into_rdates(alloc, table, calendar)?,
-            exdates: self.exdates.into_exdates(alloc, table, calendar)?,
-            recurrence: recurrence_of(alloc, table, calendar, self.recurrence),
-            uid: text_or_empty(alloc, self.uid),
-            sequence: self.sequence.unwrap_or(0),
-            title: text_or_empty(alloc, self.title),
-            location: text_or_empty(alloc, self.location),
-            description: text_or_empty(alloc, self.description),
-            cancelled: self.cancelled.unwrap_or(false),
+        if self.start.is_none() {
+            return Err(FaultKind::MissingStart);
+        }
+        if (self.end.is_some() && self.duration.is_some()) || ends_badly(&self.start, &self.end) {
+            return Err(FaultKind::BadEnd);
+        }
+        let Collected {
+            uid,
+            start,
+            end,
+            duration,
+            rule,
+            rdates,
+            exdates,
+            recurrence,
+            sequence,
+            title,
+            location,
+            description,
+            cancelled,
+        } = self;
+        let Some(start) = start else {
+            return Err(FaultKind::MissingStart);
+        };
+        Ok(EndedEvent {
+            calendar,
+            uid: text_or_empty(alloc, uid),
+            start,
+            length: given_length(end, duration),
+            rule,
+            rdates,
+            exdates,
+            recurrence,
+            sequence: sequence.unwrap_or(0),
+            title: text_or_empty(alloc, title),
+            location: text_or_empty(alloc, location),
+            description: text_or_empty(alloc, description),
+            cancelled: cancelled.unwrap_or(false),
         })
     }
 }

@@ -1,21 +1,50 @@
 //! The values of RDATE and EXDATE with the zones that their lines name (RFC 5545, sections 3.8.5.1 and 3.8.5.2).
 ghost use Rattle.std.specs.Prelude.{◌≡◌, ◌++◌, ◌∷◌, [], map, IfOk};
-ghost use Rattle.ics_calendar.specs.DateLists.{length_in, rdate_in, exdate_in, rdates_by, exdates_by};
+ghost use Rattle.std.specs.List.{list_any};
+ghost use Rattle.ics_calendar.specs.DateLists.{rdate_in, exdate_in, rdates_by, exdates_by};
+ghost use Rattle.ics_calendar.specs.DateValues.{has_zoned};
+ghost use Rattle.ics_calendar.specs.Lines.{Gives, rdates_said, exdates_said, listed_zone};
 ghost use Rattle.ics_calendar.specs.ZoneTables.{index_in};
 
-use crate::date_values::{DateValue, DateValues};
-use crate::later::ZoneName;
+use crate::date_values::DateValues;
+use crate::dated::zone_name;
+use crate::later::{Later, ZoneName};
+use crate::refused::Refused;
 use crate::text::Text;
-use crate::time::{Length, Rdate, Time};
+use crate::time::{Length, Rdate, Time, is_zoned};
 use crate::zone_table::ZoneTable;
-use ics_values::{Duration, DurationFault};
+use ics_text::Content;
+use ics_values::{Duration, Stamp};
 use std::alloc::{AllocError, Global};
 use std::marker::Model;
+
+/// A value of an RDATE or an EXDATE: a stamp, or a PERIOD with its end or its duration.
+#[derive(Clone, Copy)]
+pub enum ListedDate {
+    At(Stamp),
+    Between(Stamp, Stamp),
+    Lasting(Stamp, Duration),
+}
+
+/// The values of a line, in its order.
+#[derive(Drop)]
+pub struct Dates {
+    pub values: Vec<ListedDate>,
+}
+
+impl Model for Dates {
+    ghost use Rattle.std.specs.Prelude.{List};
+    ghost use Rattle.ics_calendar.specs.declared.date_list.ListedDate.{ListedDate};
+
+    ghost Value = { List ListedDate };
+
+    ghost view = { λ a. a.values.items };
+}
 
 /// The values of a line, and the name of the zone in its TZID.
 #[derive(Drop)]
 pub struct DateList {
-    pub values: DateValues,
+    pub values: Dates,
     pub zone: Option<Text>,
 }
 
@@ -34,66 +63,107 @@ impl Model for DateLists {
     ghost view = { λ a. a.lists.items };
 }
 
-// An accepted file has each duration in order.
-fn length_in(duration: Result<Duration, DurationFault>) -> Length
-    ensures { result ≡ length_in duration }
-{
-    match duration {
-        Ok(duration) => Length::Lasting(duration),
-        Err(_) => Length::Open,
+impl ListedDate {
+    /// What it says in an RDATE, where its TZID names the zone with that index.
+    fn rdate_in(self, zone: Option<u32>) -> Rdate
+        ensures { result ≡ rdate_in zone self }
+    {
+        match self {
+            ListedDate::At(stamp) => Rdate::At(Time::of_stamp(stamp, zone)),
+            ListedDate::Between(start, end) => {
+                let end = Length::Until(Time::of_stamp(end, zone));
+                Rdate::Span(Time::of_stamp(start, zone), end)
+            }
+            ListedDate::Lasting(start, duration) => {
+                Rdate::Span(Time::of_stamp(start, zone), Length::Lasting(duration))
+            }
+        }
+    }
+
+    /// The same in an EXDATE, where it is a stamp.
+    fn exdate_in(self, zone: Option<u32>) -> Time
+        ensures { result ≡ exdate_in zone self }
+    {
+        match self {
+            ListedDate::At(stamp) | ListedDate::Between(stamp, _) | ListedDate::Lasting(stamp, _) =>
+                Time::of_stamp(stamp, zone),
+        }
+    }
+
+    /// Whether one of its stamps is a local one beside a TZID.
+    fn has_zoned(self) -> bool
+        ensures { result ≡ has_zoned self }
+    {
+        match self {
+            ListedDate::At(stamp) => is_zoned(stamp),
+            ListedDate::Between(start, end) => is_zoned(start) || is_zoned(end),
+            ListedDate::Lasting(start, _) => is_zoned(start),
+        }
     }
 }
 
-/// What a value of an RDATE says, where its TZID names the zone with that index.
-fn rdate_in(value: DateValue, zone: Option<u32>) -> Rdate
-    ensures { result ≡ rdate_in zone value }
-{
-    match value {
-        DateValue::At(stamp) => Rdate::At(Time::of_stamp(stamp, zone)),
-        DateValue::Between(start, end) => {
-            let end = Length::Until(Time::of_stamp(end, zone));
-            Rdate::Span(Time::of_stamp(start, zone), end)
-        }
-        DateValue::Lasting(start, duration) => {
-            Rdate::Span(Time::of_stamp(start, zone), length_in(duration))
-        }
+impl Dates {
+    /// Whether a stamp among them is a local one beside a TZID.
+    fn have_zoned(&self) -> bool
+        ensures { result ≡ list_any has_zoned self.now }
+    {
+        self.values.iter().any(|value| value.has_zoned())
     }
 }
 
-/// The same of a value of an EXDATE, which is a stamp.
-fn exdate_in(value: DateValue, zone: Option<u32>) -> Time
-    ensures { result ≡ exdate_in zone value }
-{
-    match value {
-        DateValue::At(stamp) | DateValue::Between(stamp, _) | DateValue::Lasting(stamp, _) =>
-            Time::of_stamp(stamp, zone),
+impl DateList {
+    /// What an RDATE lists.
+    pub fn read_rdates(alloc: Global, content: &Content<'_>) -> Result<DateList, Refused>
+        ensures { Gives result (rdates_said content.now) }
+    {
+        let zone = zone_name(alloc, content)?;
+        let values = DateValues::of_rdate(alloc, content.value(), zone.is_some())?;
+        let values = values.listed(alloc)?;
+        Ok(DateList { values, zone })
+    }
+
+    /// What an EXDATE lists.
+    pub fn read_exdates(alloc: Global, content: &Content<'_>) -> Result<DateList, Refused>
+        ensures { Gives result (exdates_said content.now) }
+    {
+        let zone = zone_name(alloc, content)?;
+        let values = DateValues::of_exdate(alloc, content.value(), zone.is_some())?;
+        let values = values.listed(alloc)?;
+        Ok(DateList { values, zone })
+    }
+
+    /// The time zone of the stamps, which is to be known.
+    pub fn used_zone(&self, alloc: Global, calendar: u64) -> Result<Option<Later>, AllocError>
+        ensures { IfOk result (λ later. later ≡ listed_zone calendar self.now) }
+    {
+        if !self.values.have_zoned() {
+            return Ok(None);
+        }
+        let name = ZoneName::copied(alloc, calendar, &self.zone)?;
+        Ok(Some(Later::Zone(name)))
     }
 }
 
 /// Adds the values of an RDATE to those before them.
-fn push_rdates(
-    values: &DateValues,
-    zone: Option<u32>,
-    rdates: &mut Vec<Rdate>,
-) -> Result<(), AllocError>
+fn push_rdates(values: &Dates, zone: Option<u32>, rdates: &mut Vec<Rdate>) -> Result<(), AllocError>
     ensures { IfOk result (λ _. rdates.new.items ≡ rdates.old.items ++ map (rdate_in zone) values.now) }
 {
-    for value in values.as_slice() {
-        rdates.push(rdate_in(*value, zone))?;
+    for value in values.values.as_slice() {
+        rdates.push(value.rdate_in(zone))?;
     }
     Ok(())
 }
 
 /// Adds the values of an EXDATE to those before them.
 fn push_exdates(
-    values: &DateValues,
+    values: &Dates,
     zone: Option<u32>,
     exdates: &mut Vec<Time>,
 ) -> Result<(), AllocError>
     ensures { IfOk result (λ _. exdates.new.items ≡ exdates.old.items ++ map (exdate_in zone) values.now) }
 {
-    for value in values.as_slice() {
-        exdates.push(exdate_in(*value, zone))?;
+    for value in values.values.as_slice() {
+        exdates.push(value.exdate_in(zone))?;
     }
     Ok(())
 }

@@ -1,14 +1,19 @@
 //! The values of RDATE and EXDATE (RFC 5545, sections 3.8.5.1 and 3.8.5.2).
-ghost use Rattle.std.specs.Prelude.{◌≡◌, ◌==◌, ◌++◌, [], map, filter_map, IfOk};
+ghost use Rattle.std.specs.Prelude.{◌≡◌, ◌==◌, map, filter_map, IfOk};
 ghost use Rattle.std.specs.List.{list_any, position};
 ghost use Rattle.ics_values.specs.Periods.{lasts};
 ghost use Rattle.ics_values.specs.RuleTexts.{pieces};
 ghost use Rattle.ics_calendar.specs.Values.{is_bad_stamp, is_far_stamp};
 ghost use Rattle.ics_calendar.specs.Zones.{local_in};
-ghost use Rattle.ics_calendar.specs.DateValues.{date_time_of, period_of, rdate_of, exdate_of, rdates_of, exdates_of, has_bad_stamp, has_far_stamp, has_bad_duration, has_large_duration, has_zoned, is_local, is_not_local};
+ghost use Rattle.ics_calendar.specs.declared.fault.FaultKind.TheVariants.{ObservanceField};
+ghost use Rattle.ics_calendar.specs.DateValues.{date_time_of, period_of, rdate_of, exdate_of, rdates_of, exdates_of, listed_in, listed_said, has_bad_stamp, has_far_stamp, has_bad_duration, has_large_duration, is_local, is_not_local};
+ghost use Rattle.ics_calendar.specs.Lines.{Gives, unless, first, fault_if, dates_fault};
 
+use crate::date_list::{Dates, ListedDate};
+use crate::fault::FaultKind;
 use crate::lasting::lasting;
-use crate::time::is_zoned_stamp;
+use crate::locals::Locals;
+use crate::refused::Refused;
 use ics_values::{Duration, DurationFault, Local, Stamp, StampFault, read_stamp};
 use std::alloc::{AllocError, Global};
 use std::marker::Model;
@@ -126,14 +131,17 @@ impl DateValue {
         !self.is_local()
     }
 
-    /// Whether one of its stamps is a local one beside a TZID.
-    fn has_zoned(self) -> bool
-        ensures { result ≡ has_zoned self }
+    /// What it says, if it has no fault.
+    fn listed(self) -> Option<ListedDate>
+        ensures { result ≡ listed_said self }
     {
         match self {
-            DateValue::At(stamp) => is_zoned_stamp(stamp),
-            DateValue::Between(start, end) => is_zoned_stamp(start) || is_zoned_stamp(end),
-            DateValue::Lasting(start, _) => is_zoned_stamp(start),
+            DateValue::At(Ok(stamp)) => Some(ListedDate::At(stamp)),
+            DateValue::Between(Ok(start), Ok(end)) => Some(ListedDate::Between(start, end)),
+            DateValue::Lasting(Ok(start), Ok(duration)) => Some(ListedDate::Lasting(
+                start, duration,
+            )),
+            _ => None,
         }
     }
 
@@ -174,22 +182,6 @@ impl DateValue {
 }
 
 impl DateValues {
-    /// No values.
-    pub fn new(alloc: Global) -> DateValues
-        ensures { result ≡ [] }
-    {
-        DateValues {
-            values: Vec::new(alloc),
-        }
-    }
-
-    /// Adds the values of a line more.
-    pub fn append(&mut self, mut more: DateValues) -> Result<(), AllocError>
-        ensures { IfOk result (λ _. self.new ≡ self.old ++ more) }
-    {
-        self.values.append(&mut more.values)
-    }
-
     /// The values of an RDATE; `zoned` says that a TZID stands beside them.
     pub fn of_rdate(alloc: Global, text: &[u8], zoned: bool) -> Result<DateValues, AllocError>
         ensures { IfOk result (λ values. values ≡ rdates_of zoned text.now) }
@@ -212,60 +204,86 @@ impl DateValues {
         Ok(DateValues { values })
     }
 
-    /// The values themselves.
-    pub fn as_slice(&self) -> &[DateValue]
-        ensures { result.now ≡ self.now }
+    /// The least fault among them.
+    fn fault(&self) -> Option<FaultKind>
+        ensures { result ≡ dates_fault self.now }
     {
-        self.values.as_slice()
+        if self.have_bad_stamp() {
+            Some(FaultKind::BadStamp)
+        } else if self.have_bad_duration() {
+            Some(FaultKind::BadDuration)
+        } else if self.have_far_stamp() {
+            Some(FaultKind::YearRange)
+        } else if self.have_large_duration() {
+            Some(FaultKind::NumberTooLarge)
+        } else {
+            None
+        }
     }
 
-    /// The locals among them.
-    pub fn into_locals(self, alloc: Global) -> Result<Vec<Local>, AllocError>
-        ensures { IfOk result (λ locals. locals.items ≡ filter_map local_in self) }
+    /// What they say, or the least fault among them.
+    pub fn listed(&self, alloc: Global) -> Result<Dates, Refused>
+        ensures { Gives result (unless (dates_fault self.now) (map listed_in self.now)) }
     {
-        self.values
+        if let Some(kind) = self.fault() {
+            return Err(Refused::Fault(kind));
+        }
+        let values = self
+            .values
+            .iter()
+            .filter_map(|value| value.listed())
+            .collect(alloc)?;
+        Ok(Dates { values })
+    }
+
+    /// The locals that they are, or the least fault among them: of an observance each is one.
+    pub fn locals(&self, alloc: Global) -> Result<Locals, Refused>
+        ensures { Gives result (unless (first (dates_fault self.now) (fault_if ObservanceField (list_any is_not_local self.now))) (filter_map local_in self.now)) }
+    {
+        if let Some(kind) = self.fault() {
+            return Err(Refused::Fault(kind));
+        }
+        if self.have_not_local() {
+            return Err(Refused::Fault(FaultKind::ObservanceField));
+        }
+        let locals = self
+            .values
             .iter()
             .filter_map(|value| value.local())
-            .collect(alloc)
-    }
-
-    /// Whether a stamp among them is a local one beside a TZID.
-    pub fn have_zoned(&self) -> bool
-        ensures { result ≡ list_any has_zoned self.now }
-    {
-        self.values.iter().any(|value| value.has_zoned())
+            .collect(alloc)?;
+        Ok(Locals { locals })
     }
 
     /// Whether a stamp among them is of no form, or of no date or time that there is.
-    pub fn have_bad_stamp(&self) -> bool
+    fn have_bad_stamp(&self) -> bool
         ensures { result ≡ list_any has_bad_stamp self.now }
     {
         self.values.iter().any(|value| value.has_bad_stamp())
     }
 
     /// Whether a stamp among them lies outside the years 0001 to 9899.
-    pub fn have_far_stamp(&self) -> bool
+    fn have_far_stamp(&self) -> bool
         ensures { result ≡ list_any has_far_stamp self.now }
     {
         self.values.iter().any(|value| value.has_far_stamp())
     }
 
     /// Whether one of them is no local stamp, read without a TZID.
-    pub fn have_not_local(&self) -> bool
+    fn have_not_local(&self) -> bool
         ensures { result ≡ list_any is_not_local self.now }
     {
         self.values.iter().any(|value| value.is_not_local())
     }
 
     /// Whether a duration among them is none, or none that an event may have.
-    pub fn have_bad_duration(&self) -> bool
+    fn have_bad_duration(&self) -> bool
         ensures { result ≡ list_any has_bad_duration self.now }
     {
         self.values.iter().any(|value| value.has_bad_duration())
     }
 
     /// Whether a duration among them has a number past 4,294,967,295.
-    pub fn have_large_duration(&self) -> bool
+    fn have_large_duration(&self) -> bool
         ensures { result ≡ list_any has_large_duration self.now }
     {
         self.values.iter().any(|value| value.has_large_duration())

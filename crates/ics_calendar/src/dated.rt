@@ -1,26 +1,48 @@
 ghost use Rattle.std.specs.Prelude.{◌≡◌, IfOk};
-ghost use Rattle.ics_calendar.specs.LineFaults.{instant_in};
-ghost use Rattle.ics_calendar.specs.Values.{is_zoned_stamp, tzid};
+ghost use Rattle.ics_calendar.specs.Event.{is_zoned};
+ghost use Rattle.ics_calendar.specs.Lines.{Gives, dated_said, used_zone, instant_in};
+ghost use Rattle.ics_calendar.specs.Values.{tzid, zone_name};
 
-use crate::later::{Instant, ZoneName};
+use crate::later::{Instant, Later, ZoneName};
+use crate::refused::Refused;
 use crate::text::Text;
-use crate::time::is_zoned_stamp;
-use ics_values::{Stamp, StampFault};
+use crate::time::is_zoned;
+use ics_text::Content;
+use ics_values::{Stamp, read_stamp};
 use std::alloc::{AllocError, Global};
 
-/// A stamp as its line gives it: what its value says, and the name of the zone in its TZID.
+/// A stamp and the name of the zone in its TZID.
 #[derive(Drop)]
 pub struct Dated {
-    pub stamp: Result<Stamp, StampFault>,
+    pub stamp: Stamp,
     pub zone: Option<Text>,
 }
 
+/// The name of the zone that a line's TZID gives.
+pub fn zone_name(alloc: Global, content: &Content<'_>) -> Result<Option<Text>, AllocError>
+    ensures { IfOk result (λ zone. zone ≡ zone_name content.now.params) }
+{
+    match content.param(b"TZID") {
+        Some(name) => Ok(Some(Text::copied(alloc, name)?)),
+        None => Ok(None),
+    }
+}
+
 impl Dated {
+    /// The stamp of a line and the zone that its TZID names.
+    pub fn read(alloc: Global, content: &Content<'_>) -> Result<Dated, Refused>
+        ensures { Gives result (dated_said content.now) }
+    {
+        let zone = zone_name(alloc, content)?;
+        let stamp = read_stamp(content.value(), zone.is_some())?;
+        Ok(Dated { stamp, zone })
+    }
+
     /// Whether it is a local stamp beside a TZID.
     pub fn is_zoned(&self) -> bool
-        ensures { result ≡ is_zoned_stamp self.now.stamp }
+        ensures { result ≡ is_zoned self.now.stamp }
     {
-        is_zoned_stamp(self.stamp)
+        is_zoned(self.stamp)
     }
 
     /// The name that its TZID gives.
@@ -33,13 +55,24 @@ impl Dated {
         }
     }
 
+    /// The time zone of the stamp, which is to be known.
+    pub fn used_zone(&self, alloc: Global, calendar: u64) -> Result<Option<Later>, AllocError>
+        ensures { IfOk result (λ later. later ≡ used_zone calendar self.now) }
+    {
+        if !self.is_zoned() {
+            return Ok(None);
+        }
+        let name = ZoneName::copied(alloc, calendar, &self.zone)?;
+        Ok(Some(Later::Zone(name)))
+    }
+
     /// The stamp, if it is an instant.
     pub fn instant(&self, alloc: Global, calendar: u64) -> Result<Option<Instant>, AllocError>
         ensures { IfOk result (λ instant. instant ≡ instant_in calendar self.now) }
     {
         match self.stamp {
-            Ok(Stamp::Utc(local)) => Ok(Some(Instant::Utc(local))),
-            Ok(Stamp::Zoned(local)) => {
+            Stamp::Utc(local) => Ok(Some(Instant::Utc(local))),
+            Stamp::Zoned(local) => {
                 let name = ZoneName::copied(alloc, calendar, &self.zone)?;
                 Ok(Some(Instant::Zoned(local, name)))
             }

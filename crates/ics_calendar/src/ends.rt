@@ -2,7 +2,7 @@
 ghost use Rattle.std.specs.Prelude.{◌≡◌, pos, ◌*ℤ◌, IfOk};
 ghost use Rattle.ics_calendar.specs.Event.{seconds_of};
 ghost use Rattle.ics_calendar.specs.Laters.{are_of_one_zone};
-ghost use Rattle.ics_calendar.specs.LineFaults.{compared, ends_in};
+ghost use Rattle.ics_calendar.specs.Lines.{compared, ends_in};
 ghost use Rattle.ics_calendar.specs.Values.{is_out, is_bad_end, same_zone, ends_badly};
 
 use crate::dated::Dated;
@@ -61,10 +61,7 @@ pub fn ends_badly(start: &Option<Dated>, end: &Option<Dated>) -> bool
     let (Some(start), Some(end)) = (start, end) else {
         return false;
     };
-    match (start.stamp, end.stamp) {
-        (Ok(a), Ok(b)) => is_bad_end(same_zone(start, end), a, b),
-        _ => false,
-    }
+    is_bad_end(same_zone(start, end), start.stamp, end.stamp)
 }
 
 /// Whether two stamps compare as locals.

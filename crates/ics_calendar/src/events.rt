@@ -14,7 +14,7 @@ pub struct FileEvents {
 
 impl Model for FileEvents {
     ghost use Rattle.std.specs.Prelude.{map};
-    ghost use Rattle.ics_zone.specs.Tables.{phases_of};
+    ghost use Rattle.ics_zone.specs.Observances.{phases_of};
     ghost use Rattle.ics_calendar.specs.Event.{FileSeen, AreEventsOf};
 
     ghost Value = { FileSeen };

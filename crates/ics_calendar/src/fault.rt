@@ -65,7 +65,11 @@ pub enum FileFault {
 }
 
 /// A fault and the number of its line.
-pub(crate) type Found = (u64, FaultKind);
+#[derive(Clone, Copy)]
+pub struct Fault {
+    pub line: u64,
+    pub kind: FaultKind,
+}
 
 impl FaultKind {
     /// The variant's name.

@@ -1,10 +1,25 @@
 //! What is gathered of a file, before its time zones and its events are made of it.
-ghost use Rattle.std.specs.Prelude.{◌≡◌, IfOk};
-ghost use Rattle.ics_calendar.specs.Gathering.{nothing_gathered, and_waits, and_ended};
+ghost use Rattle.std.specs.Prelude.{◌≡◌, List, option_map, IfOk};
+ghost use Rattle.ics_zone.specs.Observances.{Phase, phase_of as made_phase};
+ghost use Rattle.ics_calendar.specs.Collecting.{event_of};
+ghost use Rattle.ics_calendar.specs.Gathering.{nothing_gathered, and_passed};
+ghost use Rattle.ics_calendar.specs.Ready.{IsReady};
+ghost use Rattle.ics_calendar.specs.Times.{time_on, length_of};
+ghost use Rattle.ics_calendar.specs.Zones.{phase_of};
+ghost use Rattle.ics_calendar.specs.ZonesSound.{IsSoundPhase};
+ghost use Rattle.ics_calendar.specs.ZoneTables.{index_in};
 
-use crate::collected::Collected;
+use crate::date_list::DateLists;
+use crate::dated::Dated;
+use crate::event::Event;
 use crate::later::{Later, ZoneName};
-use crate::summary::ObservanceSummary;
+use crate::locals::Locals;
+use crate::rule_value::RuleValue;
+use crate::text::Text;
+use crate::time::{Length, Time};
+use crate::zone_table::ZoneTable;
+use ics_values::{Duration, Local, Parts};
+use ics_zone::Observance;
 use std::alloc::{AllocError, Global};
 use std::marker::Model;
 
@@ -21,15 +36,38 @@ pub struct EndedZone {
 pub struct EndedObservance {
     /// The number of the BEGIN line of its time zone.
     pub zone: u64,
-    pub had: ObservanceSummary,
+    pub start: Local,
+    pub offset_from: i32,
+    pub offset_to: i32,
+    pub rule: Option<RuleValue>,
+    pub rdates: Locals,
 }
 
-/// An event that has ended.
+/// What gives the length of an event: its DTEND, or its DURATION, or nothing.
+#[derive(Drop)]
+pub enum GivenLength {
+    Open,
+    Until(Dated),
+    Lasting(Duration),
+}
+
+/// An event that has ended. Its times name their zones.
 #[derive(Drop)]
 pub struct EndedEvent {
     /// The number of the BEGIN line of its calendar.
     pub calendar: u64,
-    pub had: Collected,
+    pub uid: Text,
+    pub start: Dated,
+    pub length: GivenLength,
+    pub rule: Option<RuleValue>,
+    pub rdates: DateLists,
+    pub exdates: DateLists,
+    pub recurrence: Option<Dated>,
+    pub sequence: u32,
+    pub title: Text,
+    pub location: Text,
+    pub description: Text,
+    pub cancelled: bool,
 }
 
 /// What ends on a line, if it is a component that is read.
@@ -39,6 +77,13 @@ pub enum Ended {
     Observance(EndedObservance),
     Event(EndedEvent),
     Nothing,
+}
+
+/// What is gathered on a line: what ends there, and what the second round looks at.
+#[derive(Drop)]
+pub struct Passed {
+    pub ended: Ended,
+    pub waits: Option<Later>,
 }
 
 /// What the second round looks at on the line with that number.
@@ -65,6 +110,93 @@ impl Model for Gathered {
     ghost view = { λ a. record { zones = a.zones.items; observances = a.observances.items; events = a.events.items; waits = a.waits.items } };
 }
 
+/// The rule, if there is one.
+fn parts_of(rule: Option<RuleValue>) -> Option<Parts>
+    ensures { result ≡ rule }
+{
+    match rule {
+        Some(rule) => Some(rule.parts()),
+        None => None,
+    }
+}
+
+impl EndedObservance {
+    /// The observance, where no fault stands on its lines.
+    pub fn into_observance(self) -> Observance
+        requires { IsSoundPhase (phase_of self) }
+        ensures { made_phase result ≡ phase_of self }
+    {
+        Observance {
+            start: self.start,
+            offset_from: self.offset_from,
+            offset_to: self.offset_to,
+            rule: parts_of(self.rule),
+            rdates: self.rdates.into_vec(),
+        }
+    }
+}
+
+/// The time of a stamp in that calendar.
+fn time_on(alloc: Global, table: &ZoneTable, calendar: u64, dated: Dated) -> Time
+    ensures { result ≡ time_on (index_in table.now) calendar dated }
+{
+    let stamp = dated.stamp;
+    if !dated.is_zoned() {
+        return Time { stamp, zone: None };
+    }
+    let zone = table.index(&ZoneName::of(alloc, calendar, dated.zone));
+    Time { stamp, zone }
+}
+
+/// The time of a RECURRENCE-ID, if there is one.
+fn recurrence_of(
+    alloc: Global,
+    table: &ZoneTable,
+    calendar: u64,
+    recurrence: Option<Dated>,
+) -> Option<Time>
+    ensures { result ≡ option_map (time_on (index_in table.now) calendar) recurrence }
+{
+    match recurrence {
+        Some(dated) => Some(time_on(alloc, table, calendar, dated)),
+        None => None,
+    }
+}
+
+fn length_of(alloc: Global, table: &ZoneTable, calendar: u64, length: GivenLength) -> Length
+    ensures { result ≡ length_of (index_in table.now) calendar length }
+{
+    match length {
+        GivenLength::Until(end) => Length::Until(time_on(alloc, table, calendar, end)),
+        GivenLength::Lasting(duration) => Length::Lasting(duration),
+        GivenLength::Open => Length::Open,
+    }
+}
+
+impl EndedEvent {
+    /// The event, where no fault stands on its lines.
+    pub fn into_event(self, alloc: Global, table: &ZoneTable) -> Result<Event, AllocError>
+        requires { (zones : List (List Phase)) × IsReady (record { index = index_in table.now; zones = zones }) self }
+        ensures { IfOk result (λ event. event ≡ event_of (index_in table.now) self) }
+    {
+        let calendar = self.calendar;
+        Ok(Event {
+            start: time_on(alloc, table, calendar, self.start),
+            length: length_of(alloc, table, calendar, self.length),
+            rule: parts_of(self.rule),
+            rdates: self.rdates.into_rdates(alloc, table, calendar)?,
+            exdates: self.exdates.into_exdates(alloc, table, calendar)?,
+            recurrence: recurrence_of(alloc, table, calendar, self.recurrence),
+            uid: self.uid,
+            sequence: self.sequence,
+            title: self.title,
+            location: self.location,
+            description: self.description,
+            cancelled: self.cancelled,
+        })
+    }
+}
+
 impl Gathered {
     /// Nothing is gathered yet.
     pub fn new(alloc: Global) -> Gathered
@@ -78,23 +210,17 @@ impl Gathered {
         }
     }
 
-    /// Adds what the second round looks at on the line with that number.
-    pub fn wait(&mut self, number: u64, later: Option<Later>) -> Result<(), AllocError>
-        ensures { IfOk result (λ _. self.new ≡ and_waits number later self.old) }
+    /// Adds what is gathered on the line with that number.
+    pub fn pass(&mut self, number: u64, passed: Passed) -> Result<(), AllocError>
+        ensures { IfOk result (λ _. self.new ≡ and_passed number passed self.old) }
     {
-        if let Some(later) = later {
+        let Passed { ended, waits } = passed;
+        if let Some(later) = waits {
             self.waits.push(Waiting {
                 line: number,
                 later,
             })?;
         }
-        Ok(())
-    }
-
-    /// Adds what ends on a line.
-    pub fn end(&mut self, ended: Ended) -> Result<(), AllocError>
-        ensures { IfOk result (λ _. self.new ≡ and_ended ended self.old) }
-    {
         match ended {
             Ended::Zone(zone) => self.zones.push(zone)?,
             Ended::Observance(observance) => self.observances.push(observance)?,

@@ -1,18 +1,18 @@
 //! Reading a file.
-ghost use Rattle.std.specs.Prelude.{◌≡◌, ◌∷◌, [], ◌≤◌, length, IfOk, option_map, None};
+ghost use Rattle.std.specs.Prelude.{◌≡◌, ◌∷◌, [], ◌≤◌, length, IfOk, None};
 ghost use Rattle.ics_text.specs.Unfolded.{Rises};
 ghost use Rattle.ics_calendar.specs.Files.{file_of};
 ghost use Rattle.ics_calendar.specs.Gathered.{settled_of};
 ghost use Rattle.ics_calendar.specs.Gathering.{nothing_gathered};
-ghost use Rattle.ics_calendar.specs.Reading.{read_on};
-ghost use Rattle.ics_calendar.specs.LineFaults.{fault_on};
+ghost use Rattle.ics_calendar.specs.Lines.{line_in};
 ghost use Rattle.ics_calendar.specs.Pass.{pass, bottom, at_end, unless};
-ghost use Rattle.ics_calendar.specs.Progresses.{IsBehind};
-ghost use Rattle.ics_calendar.specs.Seen.{seen_fault, seen_gathered, seen_answer, NumbersFit, LastFits, SaysFile};
+ghost use Rattle.ics_calendar.specs.Progresses.{Goes};
+ghost use Rattle.ics_calendar.specs.Seen.{said_answer, NumbersFit, LastFits, SaysFile};
 
 use crate::events::FileEvents;
-use crate::fault::{FaultKind, FileFault, Found};
+use crate::fault::{Fault, FaultKind, FileFault};
 use crate::gathered::Gathered;
+use crate::refused::Refused;
 use crate::settle::settle;
 use crate::stack::Stack;
 use ics_text::{Content, Lines, content, numbers_rise, numbers_within};
@@ -26,41 +26,26 @@ pub struct Progress {
 }
 
 /// What stands where the lines end.
-fn at_end(stack: &Stack, last: Option<u64>) -> Option<Found>
+fn at_end(stack: &Stack, last: Option<u64>) -> Option<Fault>
     requires { LastFits last }
-    ensures { option_map seen_fault result ≡ at_end stack.now last }
+    ensures { result ≡ at_end stack.now last }
 {
     match last {
-        None => Some((1, FaultKind::NotCalendar)),
+        None => Some(Fault {
+            line: 1,
+            kind: FaultKind::NotCalendar,
+        }),
         Some(number) => {
             if stack.is_lowest() {
                 None
             } else {
-                Some((number + 1, FaultKind::BadNesting))
+                Some(Fault {
+                    line: number + 1,
+                    kind: FaultKind::BadNesting,
+                })
             }
         }
     }
-}
-
-/// Goes behind a line, or gives the least fault of the first round that stands on it.
-fn go_behind(
-    alloc: Global,
-    progress: &mut Progress,
-    number: u64,
-    parts: &Content<'_>,
-) -> Result<Option<FaultKind>, AllocError>
-    ensures fault { IfOk result (λ fault. fault ≡ fault_on (read_on progress.old.stack parts.now) progress.old.stack) }
-    ensures behind { IfOk result (λ fault. fault ≡ None → IsBehind number (read_on progress.old.stack parts.now) progress.old progress.new) }
-{
-    let property = progress.stack.read(alloc, parts)?;
-    if let Some(kind) = progress.stack.fault(&property) {
-        return Ok(Some(kind));
-    }
-    let later = progress.stack.later(alloc, &property)?;
-    progress.gathered.wait(number, later)?;
-    let ended = progress.stack.pass(alloc, number, property)?;
-    progress.gathered.end(ended)?;
-    Ok(None)
 }
 
 impl Progress {
@@ -82,34 +67,51 @@ impl Progress {
     }
 }
 
+/// Goes behind a line, and gathers what is to be gathered there.
+fn go_behind(
+    alloc: Global,
+    progress: &mut Progress,
+    number: u64,
+    parts: &Content<'_>,
+) -> Result<(), Refused>
+    ensures { Goes result progress.new progress.old.gathered number (line_in number parts.now progress.old.stack) }
+{
+    let passed = progress.stack.line(alloc, number, parts)?;
+    progress.gathered.pass(number, passed)?;
+    Ok(())
+}
+
 /// Goes behind the lines, or gives the first fault of the first round.
 fn go_behind_lines(
     alloc: Global,
     progress: &mut Progress,
     mut lines: Lines<'_>,
-) -> Result<Option<Found>, AllocError>
+) -> Result<Option<Fault>, AllocError>
     requires { NumbersFit lines }
-    ensures { IfOk result (λ fault. unless (option_map seen_fault fault) progress.new.gathered ≡ pass progress.old.stack None progress.old.gathered lines.entry) }
+    ensures { IfOk result (λ fault. unless fault progress.new.gathered ≡ pass progress.old.stack None progress.old.gathered lines.entry) }
 {
     let mut last = None;
     'lines: while let Some(line) = lines.next(alloc)? {
         let number = line.number();
         let Ok(parts) = content(line.bytes()) else {
-            return Ok(Some((number, FaultKind::BadLine)));
+            return Ok(Some(Fault {
+                line: number,
+                kind: FaultKind::BadLine,
+            }));
         };
-        let fault = go_behind(alloc, progress, number, &parts)?;
-        if let Some(kind) = fault {
-            return Ok(Some((number, kind)));
+        match go_behind(alloc, progress, number, &parts) {
+            Ok(()) => last = Some(number),
+            Err(Refused::Memory) => return Err(AllocError),
+            Err(Refused::Fault(kind)) => return Ok(Some(Fault { line: number, kind })),
         }
-        last = Some(number);
     }
     Ok(at_end(&progress.stack, last))
 }
 
 /// What is gathered of the lines, or the first fault of the first round.
-fn pass_lines(alloc: Global, lines: Lines<'_>) -> Result<Result<Gathered, Found>, AllocError>
+fn pass_lines(alloc: Global, lines: Lines<'_>) -> Result<Result<Gathered, Fault>, AllocError>
     requires { NumbersFit lines }
-    ensures { IfOk result (λ answer. seen_gathered answer ≡ pass (bottom ∷ []) None nothing_gathered lines.entry) }
+    ensures { IfOk result (λ answer. answer ≡ pass (bottom ∷ []) None nothing_gathered lines.entry) }
 {
     let mut progress = Progress::new(alloc);
     match go_behind_lines(alloc, &mut progress, lines)? {
@@ -119,10 +121,10 @@ fn pass_lines(alloc: Global, lines: Lines<'_>) -> Result<Result<Gathered, Found>
 }
 
 /// What the lines say, or their first fault.
-fn read_lines(alloc: Global, lines: Lines<'_>) -> Result<Result<FileEvents, Found>, AllocError>
+fn read_lines(alloc: Global, lines: Lines<'_>) -> Result<Result<FileEvents, Fault>, AllocError>
     requires fit { NumbersFit lines }
     requires rise { Rises 0 lines }
-    ensures { IfOk result (λ answer. seen_answer answer ≡ settled_of (pass (bottom ∷ []) None nothing_gathered lines.entry)) }
+    ensures { IfOk result (λ answer. said_answer answer ≡ settled_of (pass (bottom ∷ []) None nothing_gathered lines.entry)) }
 {
     match pass_lines(alloc, lines)? {
         Ok(gathered) => settle(alloc, gathered),
@@ -149,6 +151,6 @@ pub fn read_file(alloc: Global, bytes: &[u8]) -> Result<FileEvents, FileFault>
     match read_lines(alloc, lines) {
         Err(_) => Err(FileFault::Memory),
         Ok(Ok(events)) => Ok(events),
-        Ok(Err((line, kind))) => Err(FileFault::At { line, kind }),
+        Ok(Err(Fault { line, kind })) => Err(FileFault::At { line, kind }),
     }
 }

@@ -1,41 +1,65 @@
 //! What an RRULE says.
-ghost use Rattle.std.specs.Prelude.{◌≡◌, IfOk};
-ghost use Rattle.ics_values.specs.Rules.{rule_of};
+ghost use Rattle.std.specs.Prelude.{◌≡◌};
+ghost use Rattle.ics_calendar.specs.Lines.{Gives, rule_said, daily_said};
+ghost use Rattle.ics_calendar.specs.Values.{is_fine};
 
-use ics_values::{Parts, RuleFault, read_rule};
-use std::alloc::{AllocError, Global};
+use crate::fault::FaultKind;
+use crate::refused::Refused;
+use ics_values::{Frequency, Parts, read_rule};
+use std::alloc::Global;
 use std::marker::Model;
 
-/// The rule of an RRULE, or why it is none. It has a place of its own in memory: a rule takes ten times
-/// the room of any other value, and few lines have one.
+/// The rule of an RRULE. It has a place of its own in memory: a rule takes ten times the room of any other value, and
+/// few lines have one.
 #[derive(Drop)]
 pub struct RuleValue {
-    read: Box<Result<Parts, RuleFault>>,
+    parts: Box<Parts>,
 }
 
 impl Model for RuleValue {
-    ghost use Rattle.std.specs.Prelude.{Result};
     ghost use Rattle.ics_values.specs.RuleParts.{RuleParts};
-    ghost use Rattle.ics_values.specs.declared.rule_text.RuleFault.{RuleFault};
 
-    ghost Value = { Result RuleParts RuleFault };
+    ghost Value = { RuleParts };
 
-    ghost view = { λ a. a.read.value };
+    ghost view = { λ a. a.parts.value };
+}
+
+/// Whether a rule repeats more often than daily.
+fn is_fine(frequency: Frequency) -> bool
+    ensures { result ≡ is_fine frequency }
+{
+    matches!(
+        frequency,
+        Frequency::Secondly | Frequency::Minutely | Frequency::Hourly
+    )
 }
 
 impl RuleValue {
-    /// What the value of an RRULE says.
-    pub fn of(alloc: Global, value: &[u8]) -> Result<RuleValue, AllocError>
-        ensures { IfOk result (λ rule. rule ≡ rule_of value.now) }
+    /// The rule that the value of an RRULE says.
+    pub fn read(alloc: Global, value: &[u8]) -> Result<RuleValue, Refused>
+        ensures { Gives result (rule_said value.now) }
     {
-        let read = Box::new(alloc, read_rule(value))?;
-        Ok(RuleValue { read })
+        let parts = read_rule(value)?;
+        let parts = Box::new(alloc, parts)?;
+        Ok(RuleValue { parts })
     }
 
-    /// The rule, or why there is none.
-    pub fn get(&self) -> &Result<Parts, RuleFault>
-        ensures { result.now ≡ self.now }
+    /// The same of an observance, which begins at most daily.
+    pub fn read_daily(alloc: Global, value: &[u8]) -> Result<RuleValue, Refused>
+        ensures { Gives result (daily_said value.now) }
     {
-        &self.read
+        let parts = read_rule(value)?;
+        if is_fine(parts.frequency()) {
+            return Err(Refused::Fault(FaultKind::ZoneRule));
+        }
+        let parts = Box::new(alloc, parts)?;
+        Ok(RuleValue { parts })
+    }
+
+    /// The rule.
+    pub fn parts(&self) -> Parts
+        ensures { result ≡ self.now }
+    {
+        *self.parts
     }
 }

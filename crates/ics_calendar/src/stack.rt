@@ -1,21 +1,24 @@
 //! The components that are open.
-ghost use Rattle.std.specs.Prelude.{◌≡◌, ◌∷◌, [], IfOk};
-ghost use Rattle.ics_calendar.specs.Reading.{read_on};
-ghost use Rattle.ics_calendar.specs.LineFaults.{fault_on, later_on};
-ghost use Rattle.ics_calendar.specs.Pass.{bottom, calendar_in, opened, closed, closing, behind, ends, is_lowest};
+ghost use Rattle.std.specs.Prelude.{◌≡◌, ◌∷◌, [], map};
+ghost use Rattle.ics_text.specs.Bytes.{upper};
+ghost use Rattle.ics_calendar.specs.Lines.{Makes, Keeps, calendar_in, begin_fault, begin_line, end_line, line_in};
+ghost use Rattle.ics_calendar.specs.Pass.{bottom, is_lowest};
 
 use crate::component::{Component, Place};
 use crate::fault::FaultKind;
 use crate::frame::Frame;
-use crate::gathered::Ended;
-use crate::later::Later;
-use crate::property::Property;
+use crate::gathered::{Ended, Passed};
+use crate::name::{Name, name_of};
+use crate::refused::Refused;
 use crate::summary::Summary;
 use crate::text::Text;
 use ics_text::Content;
-use std::alloc::{AllocError, Global};
+use std::alloc::Global;
 use std::marker::Model;
 use std::mem;
+
+/// How many components may be open.
+const MAX_DEPTH: usize = 32;
 
 /// The components that are open, seen as a list of them with the innermost first, and a frame below them all.
 #[derive(Drop)]
@@ -57,27 +60,6 @@ impl Stack {
         self.outer.is_empty()
     }
 
-    /// The line, with its value read.
-    pub fn read(&self, alloc: Global, content: &Content<'_>) -> Result<Property, AllocError>
-        ensures { IfOk result (λ property. property ≡ read_on self.now content.now) }
-    {
-        self.top.read(alloc, content)
-    }
-
-    /// The least fault of the first round on the line.
-    pub fn fault(&self, property: &Property) -> Option<FaultKind>
-        ensures { result ≡ fault_on property.now self.now }
-    {
-        self.top.fault(property, self.outer.len())
-    }
-
-    /// What the second round finds on the line.
-    pub fn later(&self, alloc: Global, property: &Property) -> Result<Option<Later>, AllocError>
-        ensures { IfOk result (λ later. later ≡ later_on property.now self.now) }
-    {
-        self.top.later(alloc, property)
-    }
-
     /// The calendar of a component that begins on the line with that number.
     fn calendar_in(&self, number: u64) -> u64
         ensures { result ≡ calendar_in number self.now }
@@ -89,9 +71,28 @@ impl Stack {
         }
     }
 
-    fn open(&mut self, alloc: Global, number: u64, component: Component) -> Result<(), AllocError>
-        ensures { IfOk result (λ _. self.new ≡ opened number component self.old) }
+    /// Why a component does not begin here: it stands outside a calendar, or too deep.
+    fn begin_fault(&self, component: &Component) -> Option<FaultKind>
+        ensures { result ≡ begin_fault component.now self.now }
     {
+        match (self.top.place, component) {
+            (Place::Outside, Component::Calendar) => {}
+            (Place::Outside, _) => return Some(FaultKind::NotCalendar),
+            _ => {}
+        }
+        if self.outer.len() >= MAX_DEPTH {
+            return Some(FaultKind::TooDeep);
+        }
+        None
+    }
+
+    /// Opens a component on the line with that number.
+    fn begin(&mut self, alloc: Global, number: u64, component: Component) -> Result<(), Refused>
+        ensures { Keeps result self.new (begin_line number component self.old) }
+    {
+        if let Some(kind) = self.begin_fault(&component) {
+            return Err(Refused::Fault(kind));
+        }
         let calendar = self.calendar_in(number);
         self.top.summary.begin(&component);
         let place = component.place_in(self.top.place);
@@ -107,42 +108,43 @@ impl Stack {
         Ok(())
     }
 
-    /// Closes the innermost component, and gives what it is.
-    fn close(&mut self, alloc: Global) -> Ended
-        ensures frames { self.new ≡ closed self.old }
-        ensures ended { result ≡ closing self.old }
+    /// Closes the innermost component by an END with that name, and gives what it is.
+    fn end(&mut self, alloc: Global, name: &[u8]) -> Result<Passed, Refused>
+        ensures { Makes result self.new (end_line (map upper name.now) self.old) }
     {
         let Some(outer) = self.outer.pop() else {
-            return Ended::Nothing;
+            return Err(Refused::Fault(FaultKind::NotCalendar));
         };
         let zone = outer.begun;
         let inner = mem::replace(&mut self.top, outer);
-        inner.into_ended(alloc, zone)
+        inner.end(alloc, zone, name)
     }
 
-    /// Goes behind the line with that number, and gives what ends there.
-    pub fn pass(
+    /// Goes behind the line with that number, and gives what is gathered there.
+    pub fn line(
         &mut self,
         alloc: Global,
         number: u64,
-        property: Property,
-    ) -> Result<Ended, AllocError>
-        ensures frames { IfOk result (λ _. self.new ≡ behind number property self.old) }
-        ensures ended { IfOk result (λ ended. ended ≡ ends property self.old) }
+        content: &Content<'_>,
+    ) -> Result<Passed, Refused>
+        ensures { Makes result self.new (line_in number content.now self.old) }
     {
-        match property {
-            Property::Begin(component) => {
-                self.open(alloc, number, component)?;
-                Ok(Ended::Nothing)
+        let waits = match name_of(content.name()) {
+            Name::Begin => {
+                let component = Component::named(alloc, content.value())?;
+                self.begin(alloc, number, component)?;
+                None
             }
-            Property::End(matches) => {
-                let ended = self.close(alloc);
-                Ok(if matches { ended } else { Ended::Nothing })
+            Name::End => return self.end(alloc, content.value()),
+            name => {
+                let top = &mut self.top;
+                top.summary
+                    .line(alloc, top.calendar, top.place, name, content)?
             }
-            property => {
-                self.top.summary.note(property)?;
-                Ok(Ended::Nothing)
-            }
-        }
+        };
+        Ok(Passed {
+            ended: Ended::Nothing,
+            waits,
+        })
     }
 }

@@ -1,23 +1,22 @@
 //! What has been read of a component so far.
 ghost use Rattle.std.specs.Prelude.{◌≡◌, IfOk};
-ghost use Rattle.ics_calendar.specs.Collecting.{or_first};
-ghost use Rattle.ics_calendar.specs.Summaries.{nothing_zone, nothing_observance, begin_zone, note_zone, note_once, note_observance, fresh, note};
-ghost use Rattle.ics_calendar.specs.LineFaults.{end_of_zone, end_of_observance, end_of};
-ghost use Rattle.ics_zone.specs.Observances.{phase_of as made_phase};
-ghost use Rattle.ics_calendar.specs.Zones.{phase_of, onset_in, offset_in};
-ghost use Rattle.ics_calendar.specs.ZonesSound.{IsSoundPhase};
-ghost use Rattle.ics_calendar.specs.declared.property.Property.TheVariants.{Begin};
+ghost use Rattle.ics_calendar.specs.Lines.{Gives, Makes, Keeps, onset_said, offset_said, zone_line, observance_line, summary_line, plain_fault, begin_in, zone_end, observance_end};
+ghost use Rattle.ics_calendar.specs.Summaries.{nothing_zone, nothing_observance, fresh};
 
-use crate::collected::{Collected, keep_rule, keep_text, rule_in};
+use crate::collected::{Collected, once};
 use crate::component::{Component, Place};
 use crate::date_values::DateValues;
 use crate::fault::FaultKind;
-use crate::property::Property;
+use crate::gathered::{EndedObservance, EndedZone};
+use crate::later::{Later, ZoneName};
+use crate::locals::Locals;
+use crate::name::Name;
+use crate::refused::Refused;
 use crate::rule_value::RuleValue;
 use crate::text::Text;
-use ics_values::{BadOffset, Local, Stamp, StampFault};
-use ics_zone::Observance;
-use std::alloc::{AllocError, Global};
+use ics_text::Content;
+use ics_values::{Local, Stamp, read_offset, read_stamp};
+use std::alloc::Global;
 
 /// What has been read of a component so far, if it is one that is read.
 #[derive(Drop)]
@@ -35,14 +34,30 @@ pub struct ZoneSummary {
     pub has_observance: bool,
 }
 
-/// The first value of each property that an observance has once, and the values of all its RDATEs.
+/// The value of each property that an observance has once, and the values of all its RDATEs.
 #[derive(Drop)]
 pub struct ObservanceSummary {
-    pub start: Option<Result<Stamp, StampFault>>,
-    pub from: Option<Result<i32, BadOffset>>,
-    pub to: Option<Result<i32, BadOffset>>,
+    pub start: Option<Local>,
+    pub from: Option<i32>,
+    pub to: Option<i32>,
     pub rule: Option<RuleValue>,
-    pub rdates: DateValues,
+    pub rdates: Locals,
+}
+
+/// What a DTSTART of an observance says. It is on the clock before it, whatever TZID stands beside it.
+fn onset(value: &[u8]) -> Result<Local, Refused>
+    ensures { Gives result (onset_said value.now) }
+{
+    match read_stamp(value, false)? {
+        Stamp::Floating(local) => Ok(local),
+        _ => Err(Refused::Fault(FaultKind::ObservanceField)),
+    }
+}
+
+fn offset(value: &[u8]) -> Result<i32, Refused>
+    ensures { Gives result (offset_said value.now) }
+{
+    Ok(read_offset(value)?)
 }
 
 impl ZoneSummary {
@@ -55,31 +70,29 @@ impl ZoneSummary {
         }
     }
 
-    fn begin(&mut self, component: &Component)
-        ensures { self.new ≡ begin_zone component.now self.old }
+    fn line(&mut self, alloc: Global, name: Name, content: &Content<'_>) -> Result<(), Refused>
+        ensures { Keeps result self.new (zone_line name content.now self.old) }
     {
-        self.has_observance = self.has_observance || component.is_observance();
-    }
-
-    fn note(&mut self, property: Property)
-        ensures { self.new ≡ note_zone property self.old }
-    {
-        match property {
-            Property::Begin(component) => self.begin(&component),
-            Property::ZoneName(name) => keep_text(&mut self.name, name),
-            _ => {}
+        if let Name::Tzid = name {
+            let text = Text::of_value(alloc, content.value())?;
+            once(&mut self.name, text, FaultKind::ObservanceField)?;
         }
+        Ok(())
     }
 
-    fn end(&self) -> Option<FaultKind>
-        ensures { result ≡ end_of_zone self.now }
+    /// The time zone of that calendar, at its END.
+    pub fn end(self, begun: u64, calendar: u64) -> Result<EndedZone, FaultKind>
+        ensures { result ≡ zone_end begun calendar self }
     {
         if !self.has_observance {
-            Some(FaultKind::NoObservance)
-        } else if self.name.is_none() {
-            Some(FaultKind::ObservanceField)
-        } else {
-            None
+            return Err(FaultKind::NoObservance);
+        }
+        match self.name {
+            Some(name) => Ok(EndedZone {
+                begun,
+                name: ZoneName { calendar, name },
+            }),
+            None => Err(FaultKind::ObservanceField),
         }
     }
 }
@@ -93,77 +106,61 @@ impl ObservanceSummary {
             from: None,
             to: None,
             rule: None,
-            rdates: DateValues::new(alloc),
+            rdates: Locals::new(alloc),
         }
     }
 
-    /// A line more that is no RDATE.
-    fn note_once(&mut self, property: Property)
-        ensures { self.new ≡ note_once property self.old }
+    fn line(&mut self, alloc: Global, name: Name, content: &Content<'_>) -> Result<(), Refused>
+        ensures { Keeps result self.new (observance_line name content.now self.old) }
     {
-        match property {
-            Property::Onset(stamp) => self.start = self.start.or(Some(stamp)),
-            Property::OffsetFrom(offset) => self.from = self.from.or(Some(offset)),
-            Property::OffsetTo(offset) => self.to = self.to.or(Some(offset)),
-            Property::Rrule(rule) => keep_rule(&mut self.rule, rule),
+        let value = content.value();
+        let field = FaultKind::ObservanceField;
+        match name {
+            Name::Dtstart => once(&mut self.start, onset(value)?, field)?,
+            Name::OffsetFrom => once(&mut self.from, offset(value)?, field)?,
+            Name::OffsetTo => once(&mut self.to, offset(value)?, field)?,
+            Name::Rrule => {
+                let rule = RuleValue::read_daily(alloc, value)?;
+                once(&mut self.rule, rule, FaultKind::ZoneRule)?;
+            }
+            Name::Rdate => {
+                let values = DateValues::of_rdate(alloc, value, false)?;
+                self.rdates.append(values.locals(alloc)?)?;
+            }
             _ => {}
         }
+        Ok(())
     }
 
-    fn note(&mut self, property: Property) -> Result<(), AllocError>
-        ensures { IfOk result (λ _. self.new ≡ note_observance property self.old) }
+    /// The observance, at its END, with the number of the BEGIN line of its time zone.
+    pub fn end(self, zone: u64) -> Result<EndedObservance, FaultKind>
+        ensures { result ≡ observance_end zone self }
     {
-        match property {
-            Property::Dates(values) => self.rdates.append(values),
-            property => {
-                self.note_once(property);
-                Ok(())
-            }
-        }
-    }
-
-    fn end(&self) -> Option<FaultKind>
-        ensures { result ≡ end_of_observance self.now }
-    {
-        if self.start.is_some() && self.from.is_some() && self.to.is_some() {
-            None
-        } else {
-            Some(FaultKind::ObservanceField)
-        }
-    }
-
-    /// The observance, where no fault stands on its lines.
-    pub fn into_observance(self, alloc: Global) -> Result<Observance, AllocError>
-        requires { IsSoundPhase (phase_of self) }
-        ensures { IfOk result (λ observance. made_phase observance ≡ phase_of self) }
-    {
-        Ok(Observance {
-            start: onset_in(self.start),
-            offset_from: offset_in(self.from),
-            offset_to: offset_in(self.to),
-            rule: rule_in(&self.rule),
-            rdates: self.rdates.into_locals(alloc)?,
+        let (Some(start), Some(offset_from), Some(offset_to)) = (self.start, self.from, self.to)
+        else {
+            return Err(FaultKind::ObservanceField);
+        };
+        Ok(EndedObservance {
+            zone,
+            start,
+            offset_from,
+            offset_to,
+            rule: self.rule,
+            rdates: self.rdates,
         })
     }
 }
 
-// An accepted file has a DTSTART where one is asked for.
-fn onset_in(start: Option<Result<Stamp, StampFault>>) -> Local
-    ensures { result ≡ onset_in start }
+/// A line of a component of which nothing is collected, by where it stands.
+fn plain_fault(place: Place, name: Name, content: &Content<'_>) -> Option<FaultKind>
+    ensures { result ≡ plain_fault place name content.now }
 {
-    match start {
-        Some(Ok(Stamp::Floating(local))) => local,
-        _ => Local::at(0, 0),
-    }
-}
-
-// An accepted file has the offsets where they are asked for.
-fn offset_in(offset: Option<Result<i32, BadOffset>>) -> i32
-    ensures { result ≡ offset_in offset }
-{
-    match offset {
-        Some(Ok(offset)) => offset,
-        _ => 0,
+    match (place, name) {
+        (Place::Outside, _) => Some(FaultKind::NotCalendar),
+        (Place::Calendar, Name::Version) if content.value() == b"1.0".as_slice() => {
+            Some(FaultKind::OldVersion)
+        }
+        _ => None,
     }
 }
 
@@ -180,37 +177,40 @@ impl Summary {
         }
     }
 
-    /// One line more that begins no component.
-    pub fn note(&mut self, property: Property) -> Result<(), AllocError>
-        ensures { IfOk result (λ _. self.new ≡ note property self.old) }
+    /// One line more that begins and ends no component, with what the second round looks at there.
+    pub fn line(
+        &mut self,
+        alloc: Global,
+        calendar: u64,
+        place: Place,
+        name: Name,
+        content: &Content<'_>,
+    ) -> Result<Option<Later>, Refused>
+        ensures { Makes result self.new (summary_line calendar place name content.now self.old) }
     {
         match self {
-            Summary::Event(had) => had.note(property)?,
-            Summary::Zone(had) => had.note(property),
-            Summary::Observance(had) => had.note(property)?,
-            Summary::Nothing => {}
+            Summary::Event(had) => had.line(alloc, calendar, name, content),
+            Summary::Zone(had) => {
+                had.line(alloc, name, content)?;
+                Ok(None)
+            }
+            Summary::Observance(had) => {
+                had.line(alloc, name, content)?;
+                Ok(None)
+            }
+            Summary::Nothing => match plain_fault(place, name, content) {
+                Some(kind) => Err(Refused::Fault(kind)),
+                None => Ok(None),
+            },
         }
-        Ok(())
     }
 
     /// A component more that begins directly in this one.
     pub fn begin(&mut self, component: &Component)
-        ensures { self.new ≡ note (Begin component.now) self.old }
+        ensures { self.new ≡ begin_in component.now self.old }
     {
         if let Summary::Zone(had) = self {
-            had.begin(component);
-        }
-    }
-
-    /// What the END of the component meets.
-    pub fn end(&self) -> Option<FaultKind>
-        ensures { result ≡ end_of self.now }
-    {
-        match self {
-            Summary::Event(had) => had.end_of_event(),
-            Summary::Zone(had) => had.end(),
-            Summary::Observance(had) => had.end(),
-            Summary::Nothing => None,
+            had.has_observance = had.has_observance || component.is_observance();
         }
     }
 }

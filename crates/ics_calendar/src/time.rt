@@ -1,8 +1,8 @@
 ghost use Rattle.std.specs.Prelude.{◌≡◌};
 ghost use Rattle.ics_calendar.specs.Times.{time_in};
-ghost use Rattle.ics_calendar.specs.Values.{is_zoned_stamp};
+ghost use Rattle.ics_calendar.specs.Event.{is_zoned};
 
-use ics_values::{Duration, Stamp, StampFault};
+use ics_values::{Duration, Stamp};
 
 /// A stamp, and for a local one with a TZID the index of its zone among those of the file.
 #[derive(Clone, Copy, Debug, PartialEq, Eq)]
@@ -28,20 +28,20 @@ pub enum Rdate {
 }
 
 /// Whether it is a local stamp beside a TZID.
-pub(crate) fn is_zoned_stamp(stamp: Result<Stamp, StampFault>) -> bool
-    ensures { result ≡ is_zoned_stamp stamp }
+pub(crate) fn is_zoned(stamp: Stamp) -> bool
+    ensures { result ≡ is_zoned stamp }
 {
-    matches!(stamp, Ok(Stamp::Zoned(_)))
+    matches!(stamp, Stamp::Zoned(_))
 }
 
 impl Time {
-    /// The time of a stamp, where its TZID names the zone with that index. An accepted file has each stamp in order.
-    pub(crate) fn of_stamp(stamp: Result<Stamp, StampFault>, zone: Option<u32>) -> Time
+    /// The time of a stamp, where its TZID names the zone with that index.
+    pub(crate) fn of_stamp(stamp: Stamp, zone: Option<u32>) -> Time
         ensures { result ≡ time_in zone stamp }
     {
         Time {
-            stamp: stamp.unwrap_or(Stamp::Date(0)),
-            zone: if is_zoned_stamp(stamp) { zone } else { None },
+            stamp,
+            zone: if is_zoned(stamp) { zone } else { None },
         }
     }
 }

@@ -2,8 +2,7 @@
 ghost use Rattle.std.specs.Prelude.{◌≡◌, ◌==◌, [], ◌≢◌, ◌∷◌, ◌++◌, ◌<◌, List, false, true, map, filter_map, replicate, length, slice_index_or, slice_set, Some, IsTrue, IfOk};
 ghost use Rattle.std.specs.List.{All, position, list_all, list_any};
 ghost use Rattle.std.specs.List.Sorted.{IsStrictlyIncreasing};
-ghost use Rattle.ics_zone.specs.Observances.{phase_of, has_finer_rule};
-ghost use Rattle.ics_zone.specs.Tables.{phases_of};
+ghost use Rattle.ics_zone.specs.Observances.{phase_of, phases_of, has_finer_rule};
 ghost use Rattle.ics_calendar.specs.declared.gathered.EndedObservance.{EndedObservance};
 ghost use Rattle.ics_calendar.specs.Zones.{zones_from};
 ghost use Rattle.ics_calendar.specs.ZonesSound.{phases_in, IsSoundPhase, IsSoundObservance, AreSoundZones};
@@ -33,7 +32,6 @@ fn none_yet(alloc: Global, zones: &[EndedZone]) -> Result<Vec<Vec<Observance>>, 
 
 /// Adds an observance to those of its zone.
 fn add(
-    alloc: Global,
     zones: &[EndedZone],
     parts: &mut Vec<Vec<Observance>>,
     ended: EndedObservance,
@@ -44,9 +42,8 @@ fn add(
     ensures { IfOk result (λ _. (before : List EndedObservance) → phases_in parts.old.items ≡ zones_from zones.now before → phases_in parts.new.items ≡ zones_from zones.now (before ++ ended ∷ [])) }
 {
     let place = place_of(zones, ended.zone);
-    let observance = ended.had.into_observance(alloc)?;
     if let Some(place) = place {
-        parts[place].push(observance)?;
+        parts[place].push(ended.into_observance())?;
     }
     Ok(())
 }
@@ -63,7 +60,7 @@ fn parts_of(
 {
     let mut parts = none_yet(alloc, zones)?;
     'observances: for ended in observances {
-        add(alloc, zones, &mut parts, ended)?;
+        add(zones, &mut parts, ended)?;
     }
     Ok(parts)
 }
@@ -72,7 +69,7 @@ fn parts_of(
 fn zone_of(alloc: Global, observances: Vec<Observance>) -> Result<Zone, AllocError>
     requires filled { observances.items ≢ [] }
     requires daily { list_any has_finer_rule (map phase_of observances.items) ≡ false }
-    ensures { IfOk result (λ zone. zone.observances ≡ observances.items) }
+    ensures { IfOk result (λ zone. zone ≡ observances.items) }
 {
     match Zone::read(alloc, observances) {
         Ok(zone) => Ok(zone),

@@ -1,5 +1,5 @@
 use Rattle.std.proofs.Common.{◌≡◌, map}
-use Rattle.ics_zone.specs.Tables.{phases_of}
+use Rattle.ics_zone.specs.Observances.{phases_of}
 use Rattle.ics_calendar.specs.ZonesSound.{phases_in}
 use Rattle.ics_calendar.proofs.zones.zones_from.Given as goal
 

@@ -1,0 +1,335 @@
+-- What a line makes of the components that are open, told apart: the fault on it, and what stands behind it where there is none.
+use Rattle.std.proofs.Common.{◌≡◌, ◌≢◌, ℕ, Bool, true, false, List, [], ◌∷◌, ◌++◌, map, refl, sym, ap, ◌∙◌, cond, Option, Some, None, Ok, Err}
+use Rattle.std.specs.Prelude.{codes, length, filter_map, nat_le, is_some}
+use Rattle.std.specs.List.{list_any}
+use Rattle.std.specs.Str.{bytes_eq}
+use Rattle.ics_text.specs.Bytes.{upper}
+use Rattle.ics_text.specs.Contents.{Parts, param_of}
+use Rattle.ics_values.specs.Integers.{integer_of}
+use Rattle.ics_values.specs.Offsets.{offset_of}
+use Rattle.ics_values.specs.Plain.{text_of}
+use Rattle.ics_values.specs.Rules.{rule_of}
+use Rattle.ics_values.specs.Stamps.{stamp_of}
+use Rattle.ics_calendar.specs.declared.collected.Collected.{Collected}
+use Rattle.ics_calendar.specs.declared.component.Place.{Place}
+use Rattle.ics_calendar.specs.declared.component.Place.TheVariants as place
+use Rattle.ics_calendar.specs.declared.date_values.DateValue.TheVariants.{At}
+use Rattle.ics_calendar.specs.declared.fault.FaultKind.{FaultKind}
+use Rattle.ics_calendar.specs.declared.fault.FaultKind.TheVariants as kind
+use Rattle.ics_calendar.specs.declared.frame.Frame.{Frame}
+use Rattle.ics_calendar.specs.declared.gathered.Ended.{Ended}
+use Rattle.ics_calendar.specs.declared.gathered.Ended.TheVariants as ended
+use Rattle.ics_calendar.specs.declared.gathered.Passed.{Passed}
+use Rattle.ics_calendar.specs.declared.later.Later.{Later}
+use Rattle.ics_calendar.specs.declared.name.Name.{Name}
+use Rattle.ics_calendar.specs.declared.name.Name.TheVariants as name
+use Rattle.ics_calendar.specs.declared.summary.ObservanceSummary.{ObservanceSummary}
+use Rattle.ics_calendar.specs.declared.summary.Summary.{Summary}
+use Rattle.ics_calendar.specs.declared.summary.Summary.TheVariants as summary
+use Rattle.ics_calendar.specs.declared.summary.ZoneSummary.{ZoneSummary}
+use Rattle.ics_calendar.specs.Collecting.{event_ended}
+use Rattle.ics_calendar.specs.Components.{component_of, component_name}
+use Rattle.ics_calendar.specs.DateLists.{rdate_list, exdate_list}
+use Rattle.ics_calendar.specs.DateValues.{rdates_of, exdates_of, is_not_local}
+use Rattle.ics_calendar.specs.Lines.{unless, and_then, once, or_first, first, fault_if, stamp_fault_of, duration_fault_of, rule_fault_of, offset_fault_of, number_fault_of, dates_fault, used_zone, listed_zone, ends_in, event_line, zone_line, observance_line, plain_fault, summary_line, end_of_event, end_of_zone, end_of_observance, passed, summary_end, frame_end, begin_in, opened, outside_fault, named_line}
+use Rattle.ics_calendar.specs.Summaries.{zone_ended, observance_ended}
+use Rattle.ics_calendar.specs.Values.{zone_name, stamp_read, dated_of, lasting_of, duration_in, rule_in, ok_or_zero, is_cancelled, is_fine_rule}
+use Rattle.ics_calendar.specs.Zones.{local_in, onset_in, offset_in, daily_in}
+
+-- A LINE OF AN EVENT: its fault, what is collected behind it, and what the second round looks at.
+abbrev pub event_fault : Name → Parts → Collected → Option FaultKind
+event_fault name.Uid c had = fault_if kind.Repeated (is_some had.uid)
+event_fault name.Dtstart c had = first (stamp_fault_of (stamp_read c.params c.value)) (fault_if kind.Repeated (is_some had.start))
+event_fault name.Dtend c had = first (stamp_fault_of (stamp_read c.params c.value)) (fault_if kind.Repeated (is_some had.end))
+event_fault name.Duration c had = first (duration_fault_of (lasting_of c.value)) (fault_if kind.Repeated (is_some had.duration))
+event_fault name.Rrule c had = first (rule_fault_of (rule_of c.value)) (fault_if kind.Repeated (is_some had.rule))
+event_fault name.RecurrenceId c had =
+    first (first (stamp_fault_of (stamp_read c.params c.value)) (fault_if kind.Repeated (is_some had.recurrence))) (fault_if kind.ThisAndFuture (is_some (param_of (codes "RANGE") c.params)))
+event_fault name.Sequence c had = first (number_fault_of (integer_of c.value)) (fault_if kind.Repeated (is_some had.sequence))
+event_fault name.Rdate c had = dates_fault (rdates_of (is_some (zone_name c.params)) c.value)
+event_fault name.Exdate c had = dates_fault (exdates_of (is_some (zone_name c.params)) c.value)
+event_fault name.Exrule c had = Some kind.Exrule
+event_fault _ c had = None
+
+abbrev pub event_note : Name → Parts → Collected → Collected
+event_note name.Uid c had = record had { uid = or_first had.uid (text_of c.value) }
+event_note name.Dtstart c had = record had { start = or_first had.start (dated_of c.params c.value) }
+event_note name.Dtend c had = record had { end = or_first had.end (dated_of c.params c.value) }
+event_note name.Duration c had = record had { duration = or_first had.duration (duration_in (lasting_of c.value)) }
+event_note name.Rrule c had = record had { rule = or_first had.rule (rule_in (rule_of c.value)) }
+event_note name.RecurrenceId c had = record had { recurrence = or_first had.recurrence (dated_of c.params c.value) }
+event_note name.Sequence c had = record had { sequence = or_first had.sequence (ok_or_zero (integer_of c.value)) }
+event_note name.Rdate c had = record had { rdates = had.rdates ++ rdate_list c.params c.value ∷ [] }
+event_note name.Exdate c had = record had { exdates = had.exdates ++ exdate_list c.params c.value ∷ [] }
+event_note name.Summary c had = record had { title = or_first had.title (text_of c.value) }
+event_note name.Location c had = record had { location = or_first had.location (text_of c.value) }
+event_note name.Description c had = record had { description = or_first had.description (text_of c.value) }
+event_note name.Status c had = record had { cancelled = or_first had.cancelled (is_cancelled c.value) }
+event_note _ c had = had
+
+abbrev pub event_later : ℕ → Name → Parts → Option Later
+event_later k name.Dtstart c = used_zone k (dated_of c.params c.value)
+event_later k name.Dtend c = used_zone k (dated_of c.params c.value)
+event_later k name.RecurrenceId c = used_zone k (dated_of c.params c.value)
+event_later k name.Rdate c = listed_zone k (rdate_list c.params c.value)
+event_later k name.Exdate c = listed_zone k (exdate_list c.params c.value)
+event_later k _ c = None
+
+-- A LINE OF A TIME ZONE and of an observance.
+abbrev pub zone_fault : Name → Parts → ZoneSummary → Option FaultKind
+zone_fault name.Tzid c had = fault_if kind.ObservanceField (is_some had.name)
+zone_fault _ c had = None
+
+abbrev pub zone_note : Name → Parts → ZoneSummary → ZoneSummary
+zone_note name.Tzid c had = record had { name = or_first had.name (text_of c.value) }
+zone_note _ c had = had
+
+abbrev pub observance_fault : Name → Parts → ObservanceSummary → Option FaultKind
+observance_fault name.Dtstart c had =
+    first (first (stamp_fault_of (stamp_of false c.value)) (fault_if kind.ObservanceField (is_not_local (At (stamp_of false c.value))))) (fault_if kind.ObservanceField (is_some had.start))
+observance_fault name.OffsetFrom c had = first (offset_fault_of (offset_of c.value)) (fault_if kind.ObservanceField (is_some had.from))
+observance_fault name.OffsetTo c had = first (offset_fault_of (offset_of c.value)) (fault_if kind.ObservanceField (is_some had.to))
+observance_fault name.Rrule c had = first (first (rule_fault_of (rule_of c.value)) (fault_if kind.ZoneRule (is_fine_rule (rule_of c.value)))) (fault_if kind.ZoneRule (is_some had.rule))
+observance_fault name.Rdate c had = first (dates_fault (rdates_of false c.value)) (fault_if kind.ObservanceField (list_any is_not_local (rdates_of false c.value)))
+observance_fault _ c had = None
+
+abbrev pub observance_note : Name → Parts → ObservanceSummary → ObservanceSummary
+observance_note name.Dtstart c had = record had { start = or_first had.start (onset_in (stamp_of false c.value)) }
+observance_note name.OffsetFrom c had = record had { from = or_first had.from (offset_in (offset_of c.value)) }
+observance_note name.OffsetTo c had = record had { to = or_first had.to (offset_in (offset_of c.value)) }
+observance_note name.Rrule c had = record had { rule = or_first had.rule (daily_in (rule_of c.value)) }
+observance_note name.Rdate c had = record had { rdates = had.rdates ++ filter_map local_in (rdates_of false c.value) }
+observance_note _ c had = had
+
+-- A LINE OF ANY COMPONENT, which begins and ends none.
+abbrev pub summary_fault : Place → Name → Parts → Summary → Option FaultKind
+summary_fault q n c (summary.Event had) = event_fault n c had
+summary_fault q n c (summary.Zone had) = zone_fault n c had
+summary_fault q n c (summary.Observance had) = observance_fault n c had
+summary_fault q n c summary.Nothing = plain_fault q n c
+
+abbrev pub summary_note : Name → Parts → Summary → Summary
+summary_note n c (summary.Event had) = summary.Event (event_note n c had)
+summary_note n c (summary.Zone had) = summary.Zone (zone_note n c had)
+summary_note n c (summary.Observance had) = summary.Observance (observance_note n c had)
+summary_note n c summary.Nothing = summary.Nothing
+
+abbrev pub summary_later : ℕ → Name → Parts → Summary → Option Later
+summary_later k n c (summary.Event had) = event_later k n c
+summary_later k n c _ = None
+
+-- AN END.
+abbrev pub end_of : Summary → Option FaultKind
+end_of (summary.Event had) = end_of_event had
+end_of (summary.Zone had) = end_of_zone had
+end_of (summary.Observance had) = end_of_observance had
+end_of summary.Nothing = None
+
+abbrev pub ended_as : Frame → ℕ → Summary → Ended
+ended_as f outer (summary.Event had) = ended.Event (event_ended f.calendar had)
+ended_as f outer (summary.Zone had) = ended.Zone (zone_ended f.begun f.calendar had)
+ended_as f outer (summary.Observance had) = ended.Observance (observance_ended outer had)
+ended_as f outer summary.Nothing = ended.Nothing
+
+abbrev pub ended_in : ℕ → Frame → Ended
+ended_in outer f = ended_as f outer f.summary
+
+abbrev pub later_end : ℕ → Summary → Option Later
+later_end k (summary.Event had) = ends_in k had.start had.end
+later_end k _ = None
+
+abbrev pub end_fault_at : Place → Bool → Summary → Option FaultKind
+end_fault_at place.Outside matches s = Some kind.NotCalendar
+end_fault_at _ matches s = cond matches (end_of s) (Some kind.BadNesting)
+
+-- A LINE, where so many components are open.
+abbrev pub fault_in : Name → Parts → Frame → ℕ → Option FaultKind
+fault_in name.Begin c f depth = first (outside_fault f.place (component_of (map upper c.value))) (fault_if kind.TooDeep (nat_le 32 depth))
+fault_in name.End c f depth = end_fault_at f.place (bytes_eq (map upper c.value) (component_name f.component)) f.summary
+fault_in n c f depth = summary_fault f.place n c f.summary
+
+abbrev pub later_in : Name → Parts → Frame → Option Later
+later_in name.Begin c f = None
+later_in name.End c f = later_end f.calendar f.summary
+later_in n c f = summary_later f.calendar n c f.summary
+
+abbrev pub note_in : Name → Parts → Summary → Summary
+note_in name.Begin c s = begin_in (component_of (map upper c.value)) s
+note_in n c s = summary_note n c s
+
+abbrev pub fault_on : Name → Parts → List Frame → Option FaultKind
+fault_on n c [] = None
+fault_on n c (f ∷ fs) = fault_in n c f (length fs)
+
+abbrev pub later_on : Name → Parts → List Frame → Option Later
+later_on n c [] = None
+later_on n c (f ∷ fs) = later_in n c f
+
+abbrev pub noted : Name → Parts → List Frame → List Frame
+noted n c [] = []
+noted n c (f ∷ fs) = record f { summary = note_in n c f.summary } ∷ fs
+
+abbrev pub closed : List Frame → List Frame
+closed [] = []
+closed (f ∷ []) = f ∷ []
+closed (f ∷ g ∷ gs) = g ∷ gs
+
+abbrev pub behind : ℕ → Name → Parts → List Frame → List Frame
+behind number name.Begin c frames = opened number (component_of (map upper c.value)) frames
+behind number name.End c frames = closed frames
+behind number n c frames = noted n c frames
+
+abbrev pub ends : Name → List Frame → Ended
+ends name.End (f ∷ g ∷ gs) = ended_as f g.begun f.summary
+ends _ _ = ended.Nothing
+
+abbrev pub passing : Name → Parts → List Frame → Passed
+passing n c frames = passed (ends n frames) (later_on n c frames)
+
+-- WHAT IS ANSWERED is that, unless a fault stands there.
+kept : {X R : Type 0} (kind : FaultKind) (fault : Option FaultKind) (x : X) (o : Option X) (f : Option X → X → R) →
+    and_then (unless fault x) (λ d. once kind o (f (Some d) d)) ≡ unless (first fault (fault_if kind (is_some o))) (f (or_first o x) x)
+kept kind None x None f = refl
+kept kind None x (Some y) f = refl
+kept kind (Some k) x o f = refl
+
+then-unless : {X : Type 0} (fault more : Option FaultKind) (x : X) → and_then (unless fault x) (λ r. unless more r) ≡ unless (first fault more) x
+then-unless None more x = refl
+then-unless (Some k) more x = refl
+
+then-ok : {X Y : Type 0} (fault : Option FaultKind) (x : X) (f : X → Y) → and_then (unless fault x) (λ y. Ok (f y)) ≡ unless fault (f x)
+then-ok None x f = refl
+then-ok (Some k) x f = refl
+
+event-line-is : (k : ℕ) (n : Name) (c : Parts) (had : Collected) → event_line k n c had ≡ unless (event_fault n c had) (event_note n c had, event_later k n c)
+event-line-is k name.Uid c had = kept kind.Repeated None (text_of c.value) had.uid (λ o d. (record had { uid = o }, None))
+event-line-is k name.Dtstart c had = kept kind.Repeated (stamp_fault_of (stamp_read c.params c.value)) (dated_of c.params c.value) had.start (λ o d. (record had { start = o }, used_zone k d))
+event-line-is k name.Dtend c had = kept kind.Repeated (stamp_fault_of (stamp_read c.params c.value)) (dated_of c.params c.value) had.end (λ o d. (record had { end = o }, used_zone k d))
+event-line-is k name.Duration c had = kept kind.Repeated (duration_fault_of (lasting_of c.value)) (duration_in (lasting_of c.value)) had.duration (λ o d. (record had { duration = o }, None))
+event-line-is k name.Rrule c had = kept kind.Repeated (rule_fault_of (rule_of c.value)) (rule_in (rule_of c.value)) had.rule (λ o d. (record had { rule = o }, None))
+event-line-is k name.RecurrenceId c had =
+    ap (λ r. and_then r (λ r. unless (fault_if kind.ThisAndFuture (is_some (param_of (codes "RANGE") c.params))) r))
+    (kept kind.Repeated (stamp_fault_of (stamp_read c.params c.value)) (dated_of c.params c.value) had.recurrence (λ o d. (record had { recurrence = o }, used_zone k d)))
+    ∙ then-unless (first (stamp_fault_of (stamp_read c.params c.value)) (fault_if kind.Repeated (is_some had.recurrence))) (fault_if kind.ThisAndFuture (is_some (param_of (codes "RANGE") c.params)))
+    (record had { recurrence = or_first had.recurrence (dated_of c.params c.value) }, used_zone k (dated_of c.params c.value))
+event-line-is k name.Sequence c had = kept kind.Repeated (number_fault_of (integer_of c.value)) (ok_or_zero (integer_of c.value)) had.sequence (λ o d. (record had { sequence = o }, None))
+event-line-is k name.Rdate c had =
+    then-ok (dates_fault (rdates_of (is_some (zone_name c.params)) c.value)) (rdate_list c.params c.value) (λ l. (record had { rdates = had.rdates ++ l ∷ [] }, listed_zone k l))
+event-line-is k name.Exdate c had =
+    then-ok (dates_fault (exdates_of (is_some (zone_name c.params)) c.value)) (exdate_list c.params c.value) (λ l. (record had { exdates = had.exdates ++ l ∷ [] }, listed_zone k l))
+event-line-is k _ c had = refl
+
+zone-line-is : (n : Name) (c : Parts) (had : ZoneSummary) → zone_line n c had ≡ unless (zone_fault n c had) (zone_note n c had)
+zone-line-is name.Tzid c had = kept kind.ObservanceField None (text_of c.value) had.name (λ o d. record had { name = o })
+zone-line-is _ c had = refl
+
+observance-line-is : (n : Name) (c : Parts) (had : ObservanceSummary) → observance_line n c had ≡ unless (observance_fault n c had) (observance_note n c had)
+observance-line-is name.Dtstart c had =
+    kept kind.ObservanceField (first (stamp_fault_of (stamp_of false c.value)) (fault_if kind.ObservanceField (is_not_local (At (stamp_of false c.value))))) (onset_in (stamp_of false c.value)) had.start
+    (λ o d. record had { start = o })
+observance-line-is name.OffsetFrom c had = kept kind.ObservanceField (offset_fault_of (offset_of c.value)) (offset_in (offset_of c.value)) had.from (λ o d. record had { from = o })
+observance-line-is name.OffsetTo c had = kept kind.ObservanceField (offset_fault_of (offset_of c.value)) (offset_in (offset_of c.value)) had.to (λ o d. record had { to = o })
+observance-line-is name.Rrule c had =
+    kept kind.ZoneRule (first (rule_fault_of (rule_of c.value)) (fault_if kind.ZoneRule (is_fine_rule (rule_of c.value)))) (daily_in (rule_of c.value)) had.rule (λ o d. record had { rule = o })
+observance-line-is name.Rdate c had =
+    then-ok (first (dates_fault (rdates_of false c.value)) (fault_if kind.ObservanceField (list_any is_not_local (rdates_of false c.value)))) (filter_map local_in (rdates_of false c.value))
+    (λ ls. record had { rdates = had.rdates ++ ls })
+observance-line-is _ c had = refl
+
+summary-line-is : (k : ℕ) (q : Place) (n : Name) (c : Parts) (s : Summary) → summary_line k q n c s ≡ unless (summary_fault q n c s) (summary_note n c s, summary_later k n c s)
+summary-line-is k q n c (summary.Event had) =
+    ap (λ r. and_then r (λ r. Ok (summary.Event r.0, r.1))) (event-line-is k n c had) ∙ then-ok (event_fault n c had) (event_note n c had, event_later k n c) (λ r. (summary.Event r.0, r.1))
+summary-line-is k q n c (summary.Zone had) =
+    ap (λ r. and_then r (λ h. Ok (summary.Zone h, None))) (zone-line-is n c had) ∙ then-ok (zone_fault n c had) (zone_note n c had) (λ h. (summary.Zone h, None))
+summary-line-is k q n c (summary.Observance had) =
+    ap (λ r. and_then r (λ h. Ok (summary.Observance h, None))) (observance-line-is n c had) ∙ then-ok (observance_fault n c had) (observance_note n c had) (λ h. (summary.Observance h, None))
+summary-line-is k q n c summary.Nothing = refl
+
+summary-end-is : (outer : ℕ) (f : Frame) (s : Summary) → summary_end outer f s ≡ unless (end_of s) (passed (ended_as f outer s) (later_end f.calendar s))
+summary-end-is outer f (summary.Event had) = then-ok (end_of_event had) (event_ended f.calendar had) (λ e. passed (ended.Event e) (ends_in f.calendar had.start had.end))
+summary-end-is outer f (summary.Zone had) = then-ok (end_of_zone had) (zone_ended f.begun f.calendar had) (λ z. passed (ended.Zone z) None)
+summary-end-is outer f (summary.Observance had) = then-ok (end_of_observance had) (observance_ended outer had) (λ o. passed (ended.Observance o) None)
+summary-end-is outer f summary.Nothing = refl
+
+-- Outside all components stands the lowest frame alone.
+abbrev pub IsBased : List Frame → Type 0
+IsBased [] = ⊥
+IsBased (f ∷ []) = f.place ≡ place.Outside
+IsBased (f ∷ g ∷ gs) = (f.place ≢ place.Outside) × IsBased (g ∷ gs)
+
+end-inside : (q : Place) (matches : Bool) (s : Summary) → q ≢ place.Outside → end_fault_at q matches s ≡ cond matches (end_of s) (Some kind.BadNesting)
+end-inside place.Outside matches s n = absurd (n refl)
+end-inside _ matches s n = refl
+
+end-line-is : (f g : Frame) (gs : List Frame) (w : List ℕ) → and_then {Y = List Frame × Passed} (frame_end g.begun w f) (λ p. Ok (g ∷ gs, p))
+    ≡ unless (cond (bytes_eq w (component_name f.component)) (end_of f.summary) (Some kind.BadNesting)) (g ∷ gs, passed (ended_as f g.begun f.summary) (later_end f.calendar f.summary))
+end-line-is f g gs w = by_test (bytes_eq w (component_name f.component))
+  where
+    by_test : (t : Bool) → and_then {Y = List Frame × Passed} (cond t (summary_end g.begun f f.summary) (Err kind.BadNesting)) (λ p. Ok (g ∷ gs, p))
+        ≡ unless (cond t (end_of f.summary) (Some kind.BadNesting)) (g ∷ gs, passed (ended_as f g.begun f.summary) (later_end f.calendar f.summary))
+    by_test true =
+        ap (λ r. and_then {Y = List Frame × Passed} r (λ p. Ok (g ∷ gs, p))) (summary-end-is g.begun f f.summary)
+        ∙ then-ok (end_of f.summary) (passed (ended_as f g.begun f.summary) (later_end f.calendar f.summary)) (λ p. (g ∷ gs, p))
+    by_test false = refl
+
+inner-line-is : (n : Name) (c : Parts) (f : Frame) (fs : List Frame) → and_then {Y = List Frame × Passed} (summary_line f.calendar f.place n c f.summary) (λ r. Ok (record f { summary = r.0 } ∷ fs, passed ended.Nothing r.1))
+    ≡ unless (summary_fault f.place n c f.summary) (record f { summary = summary_note n c f.summary } ∷ fs, passed ended.Nothing (summary_later f.calendar n c f.summary))
+inner-line-is n c f fs =
+    ap (λ r. and_then {Y = List Frame × Passed} r (λ r. Ok (record f { summary = r.0 } ∷ fs, passed ended.Nothing r.1))) (summary-line-is f.calendar f.place n c f.summary)
+    ∙ then-ok (summary_fault f.place n c f.summary) (summary_note n c f.summary, summary_later f.calendar n c f.summary) (λ r. (record f { summary = r.0 } ∷ fs, passed ended.Nothing r.1))
+
+pub line-is : (number : ℕ) (n : Name) (c : Parts) (frames : List Frame) → IsBased frames → named_line number n c frames ≡ unless (fault_on n c frames) (behind number n c frames, passing n c frames)
+line-is number n c [] b = absurd b
+line-is number name.Begin c (f ∷ fs) b =
+    then-ok (first (outside_fault f.place (component_of (map upper c.value))) (fault_if kind.TooDeep (nat_le 32 (length fs)))) (opened number (component_of (map upper c.value)) (f ∷ fs)) (λ fs. (fs, passed ended.Nothing None))
+line-is number name.End c (f ∷ []) b = ap (λ q. unless (end_fault_at q (bytes_eq (map upper c.value) (component_name f.component)) f.summary) (f ∷ [], passed ended.Nothing (later_end f.calendar f.summary))) (sym b)
+line-is number name.End c (f ∷ g ∷ gs) b =
+    end-line-is f g gs (map upper c.value)
+    ∙ ap (λ o. unless o (g ∷ gs, passed (ended_as f g.begun f.summary) (later_end f.calendar f.summary))) (sym (end-inside f.place (bytes_eq (map upper c.value) (component_name f.component)) f.summary b.0))
+line-is number name.Uid c (f ∷ fs) b = inner-line-is name.Uid c f fs
+line-is number name.Dtstart c (f ∷ fs) b = inner-line-is name.Dtstart c f fs
+line-is number name.Dtend c (f ∷ fs) b = inner-line-is name.Dtend c f fs
+line-is number name.Duration c (f ∷ fs) b = inner-line-is name.Duration c f fs
+line-is number name.Rrule c (f ∷ fs) b = inner-line-is name.Rrule c f fs
+line-is number name.RecurrenceId c (f ∷ fs) b = inner-line-is name.RecurrenceId c f fs
+line-is number name.Sequence c (f ∷ fs) b = inner-line-is name.Sequence c f fs
+line-is number name.Rdate c (f ∷ fs) b = inner-line-is name.Rdate c f fs
+line-is number name.Exdate c (f ∷ fs) b = inner-line-is name.Exdate c f fs
+line-is number name.Exrule c (f ∷ fs) b = inner-line-is name.Exrule c f fs
+line-is number name.Version c (f ∷ fs) b = inner-line-is name.Version c f fs
+line-is number name.Summary c (f ∷ fs) b = inner-line-is name.Summary c f fs
+line-is number name.Location c (f ∷ fs) b = inner-line-is name.Location c f fs
+line-is number name.Description c (f ∷ fs) b = inner-line-is name.Description c f fs
+line-is number name.Status c (f ∷ fs) b = inner-line-is name.Status c f fs
+line-is number name.Tzid c (f ∷ fs) b = inner-line-is name.Tzid c f fs
+line-is number name.OffsetFrom c (f ∷ fs) b = inner-line-is name.OffsetFrom c f fs
+line-is number name.OffsetTo c (f ∷ fs) b = inner-line-is name.OffsetTo c f fs
+line-is number name.Other c (f ∷ fs) b = inner-line-is name.Other c f fs
+
+-- the same by whether a component begins or ends there
+abbrev pub is_begin_name : Name → Bool
+is_begin_name name.Begin = true
+is_begin_name _ = false
+
+abbrev pub is_end_name : Name → Bool
+is_end_name name.End = true
+is_end_name _ = false
+
+pub behind-is : (number : ℕ) (n : Name) (c : Parts) (f : Frame) (fs : List Frame) → behind number n c (f ∷ fs)
+    ≡ cond (is_begin_name n) (opened number (component_of (map upper c.value)) (f ∷ fs)) (cond (is_end_name n) (closed (f ∷ fs)) (record f { summary = summary_note n c f.summary } ∷ fs))
+behind-is number name.Begin c f fs = refl
+behind-is number name.End c f fs = refl
+behind-is number _ c f fs = refl
+
+pub later-is : (n : Name) (c : Parts) (f : Frame) → later_in n c f ≡ cond (is_begin_name n) None (cond (is_end_name n) (later_end f.calendar f.summary) (summary_later f.calendar n c f.summary))
+later-is name.Begin c f = refl
+later-is name.End c f = refl
+later-is _ c f = refl
+
+pub ends-is : (n : Name) (f g : Frame) (gs : List Frame) → ends n (f ∷ g ∷ gs) ≡ cond (is_end_name n) (ended_in g.begun f) ended.Nothing
+ends-is name.End f g gs = refl
+ends-is _ f g gs = refl
+
+pub ends-lowest : (n : Name) (f : Frame) → ends n (f ∷ []) ≡ ended.Nothing
+ends-lowest name.End f = refl
+ends-lowest _ f = refl
