@@ -66,13 +66,6 @@ written-at (Floating local) a = (omega (arith, ints), omega (arith, ints))
 written-at (Utc local) a = (omega (arith, ints), omega (arith, ints))
 written-at (Zoned local) a = (omega (arith, ints), omega (arith, ints))
 
--- of two locals the earlier one is written as no later a stamp
-pub written-order : (s : Stamp) (a b : Local) → seconds_of a ≤ℤ seconds_of b → written (stamp_at s a) ≤ℤ written (stamp_at s b)
-written-order (Date day) a b h = omega (arith, ints, a.second_in, b.second_in)
-written-order (Floating local) a b h = h
-written-order (Utc local) a b h = h
-written-order (Zoned local) a b h = h
-
 stamp_day-at : (s : Stamp) (a : Local) → stamp_day (stamp_at s a) ≡ a.day
 stamp_day-at (Date day) a = refl
 stamp_day-at (Floating local) a = refl

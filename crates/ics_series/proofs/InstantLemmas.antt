@@ -14,10 +14,10 @@ use Rattle.ics_calendar.specs.declared.time.Length.TheVariants.{Open, Lasting, U
 use Rattle.ics_calendar.specs.Event.{compared, is_one_zone, stamp_seconds, EndsWithin, IsEnd, IsLength, IsTime, IsWithin, is_zoned, moment_by}
 use Rattle.ics_zone.specs.Displays.{moment_of}
 use Rattle.ics_zone.specs.Near.{moment_near, offset_near}
-use Rattle.ics_zone.specs.Observances.{Phase}
+use Rattle.ics_zone.specs.Observances.{phases_of, Phase}
 use Rattle.ics_zone.specs.Places.{IsNear}
-use Rattle.ics_zone.specs.Tables.{Timeline, phases_of}
-use Rattle.ics_zone.specs.ZoneBounds.{timeline_moment_near, timeline_offset_near}
+use Rattle.ics_zone.specs.declared.observance.Observance.{Observance}
+use Rattle.ics_zone.specs.ZoneBounds.{zone_moment_near, zone_offset_near}
 use Rattle.ics_zone.specs.Zones.{zone_of}
 use Rattle.ics_zone.specs.declared.display.Display.{Display}
 use Rattle.ics_series.specs.declared.zones.FileZones.{FileZones}
@@ -33,19 +33,19 @@ pub record IsNearClock (clock : Clock) : Type 0 where
 near-utc : IsNearClock utc_clock
 near-utc = record { moment = λ x. (omega (arith, ints), omega (arith, ints)); offset = λ t. (omega (arith, ints), omega (arith, ints)) }
 
-near-zone : (zone : Timeline) → IsNearClock (zone_clock (phases_of zone))
-near-zone zone = record { moment = timeline_moment_near zone; offset = timeline_offset_near zone }
+near-zone : (zone : List Observance) → IsNearClock (zone_clock (phases_of zone))
+near-zone zone = record { moment = zone_moment_near zone; offset = zone_offset_near zone }
 
 near-display : (display : Display) → IsNearClock (display_clock display)
 near-display display = record { moment = moment_near (zone_of display); offset = offset_near (zone_of display) }
 
-near-at : (zones : List Timeline) (zone : Option ℕ) → IsNearClock (clock_at (map zone_clock (map phases_of zones)) zone)
+near-at : (zones : List (List Observance)) (zone : Option ℕ) → IsNearClock (clock_at (map zone_clock (map phases_of zones)) zone)
 near-at zones None = near-utc
 near-at [] (Some zone) = near-utc
 near-at (z ∷ zones) (Some zero) = near-zone z
 near-at (z ∷ zones) (Some (suc zone)) = near-at zones (Some zone)
 
-near-by : (display : Display) (zones : List Timeline) (index : Option ℕ) (s : Stamp) → IsNearClock (clock_by (clocks_of (display_clock display) (map phases_of zones)) index s)
+near-by : (display : Display) (zones : List (List Observance)) (index : Option ℕ) (s : Stamp) → IsNearClock (clock_by (clocks_of (display_clock display) (map phases_of zones)) index s)
 near-by display zones index (Date day) = near-display display
 near-by display zones index (Floating local) = near-display display
 near-by display zones index (Utc local) = near-utc
@@ -55,7 +55,7 @@ pub near-clock : (zones : FileZones) (index : Option ℕ) (s : Stamp) → IsNear
 near-clock zones = near-by zones.display.now zones.zones.now
 
 -- an instant lies less than two days from what its stamp writes
-near-written : (display : Display) (zones : List Timeline) (time : Time) → IsNear (instant (clocks_of (display_clock display) (map phases_of zones)) time -ℤ written time.stamp)
+near-written : (display : Display) (zones : List (List Observance)) (time : Time) → IsNear (instant (clocks_of (display_clock display) (map phases_of zones)) time -ℤ written time.stamp)
 near-written display zones time = (near-by display zones time.zone time.stamp).moment (written time.stamp)
 
 pub instant-near : (zones : FileZones) (time : Time) → IsNear (instant (clocks_in zones) time -ℤ written time.stamp)

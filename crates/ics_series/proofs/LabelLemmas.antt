@@ -7,7 +7,7 @@ use Rattle.std.proofs.lemmas.Option.{get_or_from_slice_get, slice_get-map, slice
 use Rattle.ics_calendar.specs.Event.{said_by, FileSaid}
 use Rattle.ics_calendar.specs.declared.event.Event.{Event}
 use Rattle.ics_calendar.specs.declared.events.FileEvents.{FileEvents}
-use Rattle.ics_zone.specs.Tables.{phases_of}
+use Rattle.ics_zone.specs.Observances.{phases_of}
 use Rattle.ics_series.specs.Clocks.{Clock, Clocks, clocks_of}
 use Rattle.ics_series.specs.Placed.{clocks_at, zones_of}
 use Rattle.ics_series.specs.Versions.{label_by, label_of, placed_from, placed_in, Label}

@@ -28,7 +28,6 @@ pub mod MasterSumLemmas
 pub mod MeetingLemmas
 pub mod MergedMembers
 pub mod MetLemmas
-pub mod NameLemmas
 pub mod NearLemmas
 pub mod OccursLemmas
 pub mod OverriddenLemmas
@@ -42,7 +41,6 @@ pub mod PlacedLemmas
 pub mod PushLemmas
 pub mod PutLemmas
 pub mod RawLemmas
-pub mod ReachLemmas
 pub mod RecurringLemmas
 pub mod RuleDayLemmas
 pub mod RuleLawLemmas

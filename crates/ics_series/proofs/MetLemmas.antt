@@ -1,18 +1,15 @@
 -- The occurrences of one event that meet a window.
-use Rattle.std.specs.Prelude.{◌≤ℤ◌, ◌&&◌, not, if◌then◌else◌}
-use Rattle.std.proofs.Common.{◌≡◌, ℤ, pos, ◌+ℤ◌, List, [], ◌∷◌, Some, None, inl, inr, ⊎_elim, Bool, true, false, refl, sym, ◌∙◌, ap, subst, arith}
+use Rattle.std.specs.Prelude.{◌&&◌, not, if◌then◌else◌}
+use Rattle.std.proofs.Common.{◌≡◌, ℤ, List, [], ◌∷◌, Some, None, inl, inr, ⊎_elim, Bool, true, false, refl, sym, ◌∙◌, ap, subst}
 use Rattle.std.specs.List.{cons_option, filter_map}
 use Rattle.std.specs.declared.cmp.Ordering.TheVariants.{Less}
-use Rattle.std.proofs.lemmas.Int.{ints}
 use Rattle.std.specs.Ordering.{int_cmp}
-use Rattle.ics_series.specs.declared.zones.FileZones.{FileZones}
-use Rattle.ics_calendar.specs.Event.{IsTime}
 use Rattle.ics_calendar.specs.declared.event.Event.{Event}
 use Rattle.ics_calendar.specs.declared.time.Rdate.{Rdate}
 use Rattle.ics_series.specs.declared.start.Giver.{Giver}
 use Rattle.ics_series.specs.declared.start.Start.{Start}
 use Rattle.ics_series.specs.declared.window.Window.{Window}
-use Rattle.ics_series.specs.Clocks.{Clocks, instant, written}
+use Rattle.ics_series.specs.Clocks.{Clocks, instant}
 use Rattle.ics_series.specs.Entry.{Entry}
 use Rattle.ics_series.specs.Exclusions.{is_excluded}
 use Rattle.ics_series.specs.Found.{is_shown, met_by, moment_cmp, shown_by, HasStart, IsSought, IsStart}
@@ -21,14 +18,11 @@ use Rattle.ics_series.specs.Rising.{IsBefore, Rises}
 use Rattle.ics_series.specs.Meeting.{entry_from, is_met}
 use Rattle.ics_series.specs.Meets.{Meets, IsEventMet}
 use Rattle.ics_series.specs.Starts.{time_of, GivesStart, IsNotAfter}
-use Rattle.ics_series.specs.Zones.{clocks_in}
 use Rattle.ics_series.proofs.FirstLemmas.{moment_total, same-moment}
 use Rattle.ics_series.proofs.GiverLemmas.{same-first}
-use Rattle.ics_series.proofs.InstantLemmas.{instant-near}
 use Rattle.ics_series.proofs.ListingLemmas.{before-in}
 use Rattle.ics_series.proofs.MasterLemmas.{same-entry}
 use Rattle.ics_series.proofs.MeetingLemmas.{shown-met}
-use Rattle.ics_series.proofs.StartLaws.{giver-late}
 use Rattle.ics_series.proofs.GivenLemmas.{entry_start_cmp}
 
 -- Whether the occurrence with a start is shown.
@@ -215,11 +209,3 @@ module _ (clocks : Clocks) (w : Window) (event : Event) (starts : List Start) (C
       let start = are found.start found.stands in
       let above = of.earliest found.start.giver found.start.given start.gives (sym start.moment ∙ (found.same ∙ sym of.starts)) in
       (found.start, found.stands, by ∙ ap (entry_from clocks event) (same-first clocks event of.giver found.start.giver of.given found.start.given of.gives start.gives above found.earlier))
-
--- An event without RDATEs whose DTSTART is written two days or more past the window's end.
-pub begins-later : (zones : FileZones) (w : Window) (event : Event) → IsTime event.start → event.rdates ≡ [] → (w.to +ℤ pos 172_800) ≤ℤ written event.start.stamp
-    → (e : Entry) → IsEventMet (clocks_in zones) event w e → ⊥
-begins-later zones w event time none late e o =
-    let given = o.0.lasts.given in
-    let not-before = giver-late (clocks_in zones) event time o.0.lasts.giver given none o.0.lasts.gives in
-    omega (arith, ints, o.0.lasts.starts, o.1.begun, instant-near zones (time_of given), not-before, late)

@@ -6,10 +6,9 @@ use Rattle.std.specs.Option.{option_map}
 use Rattle.std.specs.Ordering.{int_eq}
 use Rattle.std.proofs.lemmas.Int.{ints}
 use Rattle.std.proofs.lemmas.Option.{slice_get-get_or}
-use Rattle.ics_calendar.specs.Event.{FileSaid, IsEvent, IsEventOf}
+use Rattle.ics_calendar.specs.Event.{FileSaid, IsEvent}
 use Rattle.ics_calendar.specs.declared.event.Event.{Event}
 use Rattle.ics_calendar.specs.declared.time.Time.{Time}
-use Rattle.ics_zone.specs.Tables.{phases_of}
 use Rattle.ics_series.specs.declared.version.Version.{Version}
 use Rattle.ics_series.specs.declared.window.Window.{Window}
 use Rattle.ics_series.specs.declared.zones.FileZones.{FileZones}
@@ -27,7 +26,7 @@ use Rattle.ics_series.specs.Singles.{is_single}
 use Rattle.ics_series.specs.Spots.{event_at}
 use Rattle.ics_series.specs.Starts.{time_of}
 use Rattle.ics_series.specs.Versions.{is_named, label_of, seen, AreChosen, Label}
-use Rattle.ics_series.specs.Zones.{asked, clocks_in, AreReached}
+use Rattle.ics_series.specs.Zones.{clocks_in}
 use Rattle.ics_series.proofs.AfterKeyLemmas.{since-none}
 use Rattle.ics_series.proofs.FilterLemmas.{listing-filter}
 use Rattle.ics_series.proofs.GivenLemmas.{in-map, placed-event, IsGiven, IsGivenBy}
@@ -193,10 +192,10 @@ least = neg_ℤ (pos 9_223_372_036_854_775_808)
 -- a version whose event recurs has a list of all its occurrences that meet the window
 pub whole-version : (files : List FileSaid) (display : Clock) (w : Window) (vs : List Version) (chosen : AreChosen files display vs) (label : Label) (there : IsIn label (map seen vs))
     (event : Event) (stands : event_at files label.spot ≡ Some event) (recurs : is_single event ≡ false) (zones : FileZones) (read : clocks_in zones ≡ clocks_at files display label.spot.file) (is_event : IsEvent event)
-    → AreReached zones.zones.now (asked w event) → IsEventOf (map phases_of zones.zones.now) event → (instants : List ℤ) → AreOverridden event.uid (map seen vs) instants
+    → (instants : List ℤ) → AreOverridden event.uid (map seen vs) instants
     → (list : List Entry) × IsListing entry_cmp (IsOfVersion files display w None label) list
-whole-version files display w vs chosen label there event stands recurs zones read is_event reached own instants are =
-    let whole = whole-listing zones w event reached is_event own in
+whole-version files display w vs chosen label there event stands recurs zones read is_event instants are =
+    let whole = whole-listing zones w event is_event in
     let kept = listing-filter (λ o. not (list_any (λ x. int_eq x o.start) instants)) entry_cmp (IsEventMet (clocks_in zones) event w) (IsSeriesMet (clocks_in zones) event w least instants) whole.0 whole.1 to from in (
       filter (λ o. not (list_any (λ x. int_eq x o.start) instants)) whole.0,
       series-listing files display w None vs chosen label there event stands recurs zones read is_event least (since-none None event.uid refl) instants are

@@ -1,6 +1,6 @@
 -- A local and its number.
 use Rattle.std.specs.Prelude.{◌≤ℤ◌, ◌==◌, ◌||◌, int_lt, IfSome}
-use Rattle.std.proofs.Common.{◌≡◌, ℕ, ◌<◌, ℤ, pos, ◌+ℤ◌, Bool, true, false, ◌&&◌, List, Some, ◌⊎◌, inl, inr, ⊎_elim, refl, sym, ◌∙◌, ap, subst, arith}
+use Rattle.std.proofs.Common.{◌≡◌, ℕ, ◌<◌, ℤ, Bool, true, false, ◌&&◌, Some, ◌⊎◌, inl, inr, ⊎_elim, refl, sym, ◌∙◌, ap, subst, arith}
 use Rattle.std.proofs.lemmas.Bool.Decides.{nat_tests}
 use Rattle.std.proofs.lemmas.Int.{ints}
 use Rattle.std.specs.Ordering.{int_eq}
@@ -13,18 +13,14 @@ use Rattle.ics_rule.proofs.KeptLemmas.{and_true, eqb_true, or_true}
 use Rattle.ics_rule.proofs.NextLemmas.{kept_start}
 use Rattle.ics_calendar.specs.Event.{IsTime}
 use Rattle.ics_calendar.specs.declared.event.Event.{Event}
-use Rattle.ics_zone.specs.Tables.{Timeline}
 use Rattle.ics_series.specs.declared.window.Window.{Window}
-use Rattle.ics_series.specs.Clocks.{Clocks, instant, midnight}
+use Rattle.ics_series.specs.Clocks.{Clocks, instant}
 use Rattle.ics_series.specs.Found.{is_until}
-use Rattle.ics_series.specs.RuleStarts.{gives, lets_until, local_numbered, midnight_number, moment_numbered, AreReadable}
+use Rattle.ics_series.specs.RuleStarts.{gives, lets_until, local_numbered, midnight_number, moment_numbered}
 use Rattle.ics_series.specs.Starts.{local_of, recurrence_of, time_at, IsRuleStart}
-use Rattle.ics_series.specs.Zones.{asked, AreReached, IsReadable}
 use Rattle.ics_series.proofs.FirstLemmas.{eq-true, true-eq}
-use Rattle.ics_series.proofs.GiverLemmas.{calendar-day, kept-time, own-day, rule-is, same-number}
+use Rattle.ics_series.proofs.GiverLemmas.{calendar-day, own-day, rule-is, same-number}
 use Rattle.ics_series.proofs.KeptLemmas.{true-until, until-true}
-use Rattle.ics_series.proofs.RuleDayLemmas.{number-day, seconds-numbered}
-use Rattle.ics_series.proofs.ZoneLemmas.{local-readable}
 
 same-test : (p q : Bool) → (p ≡ true → q ≡ true) → (q ≡ true → p ≡ true) → p ≡ q
 same-test true q f h = sym (f refl)
@@ -73,14 +69,6 @@ pub gives-by : (clocks : Clocks) (event : Event) (rule : Recurrence) (w : Window
     → t ≡ instant clocks (time_at event.start a) → b ≡ (lets_until rule (number a) t && int_lt t w.to) → b ≡ gives clocks event rule w (number a)
 gives-by clocks event rule w a t b h k e test =
     test ∙ (ap (λ x. lets_until rule (number a) x && int_lt x w.to) e ∙ sym (gives-kept clocks event rule w a h k))
-
--- the kept locals before a day that is near enough can be read
-pub kept-readable : (zones : List Timeline) (w : Window) (event : Event) (rule : Recurrence) (end : ℤ) → recurrence_of event ≡ Some rule → AreReached zones (asked w event) → IsReadable zones event.start
-    → IsDayNumber end → midnight end ≤ℤ (w.to +ℤ pos 345_600) → AreReadable zones event rule end
-kept-readable zones w event rule end has reached start h soon n kept early =
-    let day = day-numbered n end h early in
-    let time = kept-time event rule (local_numbered n) start.is_time has day (ap (is_kept rule) (number-numbered n) ∙ kept) in
-    local-readable zones w event rule (local_numbered n) has reached start time (omega (arith, ints, seconds-numbered n, number-day end h, early, soon))
 
 pub rule-first : (event : Event) (rule : Recurrence) → recurrence_of event ≡ Some rule → rule.start ≡ local_of event.start.stamp
 rule-first event rule has = let by = rule-is event.start.stamp event.rule rule has in sym (ap (λ (r : Recurrence). r.start) (sym by.1))

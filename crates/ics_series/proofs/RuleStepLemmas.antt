@@ -17,7 +17,8 @@ use Rattle.ics_series.specs.Rising.{Rises}
 use Rattle.ics_series.specs.RuleFeed.{starts_left}
 use Rattle.ics_series.specs.RuleStarts.{bound_of, gives, is_behind, local_numbered, midnight_number, steps_left, to_come, with_held, AreHeld, IsHeld}
 use Rattle.ics_series.specs.Starts.{time_at}
-use Rattle.ics_series.specs.Zones.{clocks_in, IsReadable}
+use Rattle.ics_series.specs.Zones.{clocks_in, IsTimeOf}
+use Rattle.ics_series.proofs.GiverLemmas.{kept-time}
 use Rattle.ics_series.proofs.HeldMostLemmas.{held-in-days}
 use Rattle.ics_series.proofs.RuleDayLemmas.{first-held, near-left, number-day}
 use Rattle.ics_series.proofs.RuleLocalLemmas.{numbered-number}
@@ -85,10 +86,8 @@ module _ (s : RuleStarts) where
       pub one-on : (s.day ≤ℤ a.day) × ((a.day +ℤ pos 1) ≤ℤ bound)
       one-on = (omega (arith, ints, next-kept.from_place, s.read, s.low, h.0, a.second_in), omega (arith, ints, next-kept.in_bound, h.0, bound-days.0, a.second_in))
 
-      pub one-readable : IsReadable s.zones.zones.now (time_at s.event.now.start a)
-      one-readable =
-          subst (λ l. IsReadable s.zones.zones.now (time_at s.event.now.start l)) (numbered-number a h)
-          (s.readable (number a) next-kept.kept (omega (arith, ints, next-kept.in_bound, within.1, bound-days.0, end-days.0)))
+      pub one-time : IsTimeOf s.zones.zones.now (time_at s.event.now.start a)
+      one-time = record { is_time = kept-time s.event.now s.rule a s.time.is_time s.of h next-kept.kept; within = s.time.within }
 
       module _ (held new : List Start) (e : held ≡ s.held.items) (is : new ≡ with_held (gives (clocks_in s.zones) s.event.now s.rule s.window (number a)) (start_at (clocks_in s.zones) s.event.now a) held) where
         pub one-rises : Rises moment_cmp new

@@ -30,7 +30,6 @@ use Rattle.ics_series.specs.Found.{is_shown, moment_cmp, AreStartsSince, IsStart
 use Rattle.ics_series.specs.Listing.{IsIn, IsListing}
 use Rattle.ics_series.specs.Meeting.{entry_from}
 use Rattle.ics_series.specs.Merged.{cut, union}
-use Rattle.ics_series.specs.Meets.{IsEventMet}
 use Rattle.ics_series.specs.Rising.{IsBefore, Rises}
 use Rattle.ics_series.specs.RuleFeed.{starts_left}
 use Rattle.ics_series.specs.RuleStarts.{gives, lets_until, moment_numbered}
@@ -260,16 +259,3 @@ asked-near clocks event a b same left coming ruled =
 -- and each that the starts of an event give is of it
 pub given-own : (clocks : Clocks) (w : Window) (event : Event) (since : ℤ) (overridden : List ℤ) (starts : List Start) (e : Entry) → IsIn e (given_of clocks w event since overridden starts) → e.event ≡ event
 given-own clocks w event since overridden starts e m = ap (λ (o : Entry). o.event) (in-picked clocks event (is_wanted clocks w event since overridden) starts e m).is
-
--- No starts give nothing.
-module _ (clocks : Clocks) (w : Window) (event : Event) (since : ℤ) (overridden : List ℤ) where
-  pub rises-none : (starts : List Start) → starts ≡ [] → Rises entry_cmp (given_of clocks w event since overridden starts)
-  rises-none starts e = subst (λ xs. Rises entry_cmp (given_of clocks w event since overridden xs)) (sym e) tt
-
-  pub known-none : (starts : List Start) → starts ≡ [] → AreKnown clocks event w starts
-  known-none starts e s m = absurd (subst (IsIn s) e m)
-
-  pub listing-none : (starts : List Start) → starts ≡ [] → ((e : Entry) → IsEventMet clocks event w e → ⊥) → IsListing entry_cmp (IsSeriesMet clocks event w since overridden) (given_of clocks w event since overridden starts)
-  listing-none starts e none =
-      subst (λ xs. IsListing entry_cmp (IsSeriesMet clocks event w since overridden) (given_of clocks w event since overridden xs)) (sym e)
-      (record { rises = tt; exact = λ o. (λ m. absurd m, λ p. none o p.0) })

@@ -9,6 +9,7 @@ use Rattle.ics_values.specs.declared.local.Local.{Local}
 use Rattle.ics_rule.specs.Kept.{is_kept}
 use Rattle.ics_rule.specs.Locals.{number, rules_end}
 use Rattle.ics_rule.specs.Recurrence.{Recurrence}
+use Rattle.ics_calendar.specs.Event.{IsEvent}
 use Rattle.ics_calendar.specs.declared.event.Event.{Event}
 use Rattle.ics_calendar.specs.declared.time.Rdate.{Rdate}
 use Rattle.ics_calendar.specs.declared.time.Rdate.TheVariants.{At}
@@ -29,9 +30,9 @@ use Rattle.ics_series.specs.MergedLaws.{rises-union}
 use Rattle.ics_series.specs.Rising.{Rises}
 use Rattle.ics_series.specs.RuleFeed.{starts_left}
 use Rattle.ics_series.specs.RuleStarts.{found, found_in, gives, lets_until, local_numbered, moment_numbered, with_put}
-use Rattle.ics_series.specs.SeriesStarts.{first_asked, listed_apart, rule_left, AreKnown, HasRuled, HaveRuled, IsBegun, IsGivenAt, IsGivenBy, IsKnown, IsRuleFrom, IsSeriesMet}
+use Rattle.ics_series.specs.SeriesStarts.{first_asked, listed_apart, rule_left, AreKnown, HasRuled, HaveRuled, IsGivenAt, IsGivenBy, IsKnown, IsRuleFrom, IsSeriesMet}
 use Rattle.ics_series.specs.Starts.{given_by, local_of, recurrence_by, recurrence_of, time_at, time_of, GivesStart, IsNotAfter, IsRuleStart}
-use Rattle.ics_series.specs.Zones.{clocks_in, IsReadableEvent}
+use Rattle.ics_series.specs.Zones.{clocks_in}
 use Rattle.ics_series.proofs.FirstLemmas.{moment_total}
 use Rattle.ics_series.proofs.GiverLemmas.{calendar-day, number-seconds, own-day, written-at}
 use Rattle.ics_series.proofs.InstantLemmas.{instant-near}
@@ -47,24 +48,24 @@ use Rattle.ics_series.proofs.StartLaws.{kept-first}
 use Rattle.ics_series.proofs.UnionLemmas.{itself-put, union-in}
 
 module _ (zones : FileZones) (w : Window) (event : Event) where
-  known-is : (s : Start) (giver : Giver) (given : Rdate) → IsBegun w event → IsGivenBy (clocks_in zones) event w giver given → s ≡ start_by (clocks_in zones) giver given → IsKnown (clocks_in zones) event w s
-  known-is s giver given begun g e = subst (IsKnown (clocks_in zones) event w) (sym e) (record { begun = begun; gives = g; moment = refl })
+  known-is : (s : Start) (giver : Giver) (given : Rdate) → IsGivenBy (clocks_in zones) event w giver given → s ≡ start_by (clocks_in zones) giver given → IsKnown (clocks_in zones) event w s
+  known-is s giver given g e = subst (IsKnown (clocks_in zones) event w) (sym e) (record { gives = g; moment = refl })
 
   -- What is known from the first.
-  known-listed : (s : Start) → IsBegun w event → IsIn s (listed_from (clocks_in zones) w event.start 0 event.rdates) → IsKnown (clocks_in zones) event w s
-  known-listed s begun m =
+  known-listed : (s : Start) → IsIn s (listed_from (clocks_in zones) w event.start 0 event.rdates) → IsKnown (clocks_in zones) event w s
+  known-listed s m =
       let k = listed-in (clocks_in zones) w event.start 0 event.rdates s m in
-      known-is s (Listed (0 + k.index)) (given_by event.start k.rdate) begun
+      known-is s (Listed (0 + k.index)) (given_by event.start k.rdate)
       (ap (option_map (given_by event.start)) (subst (λ i. slice_get event.rdates i ≡ Some k.rdate) (omega arith) k.stands)) k.is
 
-  known-first : (s : Start) → IsBegun w event → event.rule ≡ None → s ≡ start_at (clocks_in zones) event (local_of event.start.stamp) → IsKnown (clocks_in zones) event w s
-  known-first s begun none e =
-      known-is s (Kept (local_of event.start.stamp)) (At (time_at event.start (local_of event.start.stamp))) begun
+  known-first : (s : Start) → event.rule ≡ None → s ≡ start_at (clocks_in zones) event (local_of event.start.stamp) → IsKnown (clocks_in zones) event w s
+  known-first s none e =
+      known-is s (Kept (local_of event.start.stamp)) (At (time_at event.start (local_of event.start.stamp)))
       (subst (IsGivenAt (clocks_in zones) event w (local_of event.start.stamp)) (sym (ap (option_map (recurrence_by event.start.stamp)) none)) refl, refl) e
 
-  pub known-apart : (o : Option RuleParts) (s : Start) → IsBegun w event → event.rule ≡ o → IsIn s (listed_apart (clocks_in zones) w event o) → IsKnown (clocks_in zones) event w s
-  known-apart None s begun e m = ⊎_elim (known-first s begun e) (known-listed s begun) m
-  known-apart (Some parts) s begun e m = known-listed s begun m
+  pub known-apart : (o : Option RuleParts) (s : Start) → event.rule ≡ o → IsIn s (listed_apart (clocks_in zones) w event o) → IsKnown (clocks_in zones) event w s
+  known-apart None s e m = ⊎_elim (known-first s e) (known-listed s) m
+  known-apart (Some parts) s e m = known-listed s m
 
   -- What the rule gives.
   day-given : (rule : Recurrence) (n : ℕ) → gives (clocks_in zones) event rule w n ≡ true → IsDayNumber (local_numbered n).day
@@ -75,11 +76,11 @@ module _ (zones : FileZones) (w : Window) (event : Event) where
       let bound : n < 309_289_708_800 = omega (arith, ints, early, near.0, wrote.1, seconds-numbered n, w.not_late) in
       (omega (arith, ints), omega (arith, ints, bound))
 
-  pub known-ruled : (since : ℤ) (listed starts : List Start) (s : Start) → IsBegun w event → IsRuleFrom (clocks_in zones) event w since listed starts → IsIn s starts → IsKnown (clocks_in zones) event w s
-  known-ruled since listed starts s begun r m =
+  pub known-ruled : (since : ℤ) (listed starts : List Start) (s : Start) → IsRuleFrom (clocks_in zones) event w since listed starts → IsIn s starts → IsKnown (clocks_in zones) event w s
+  known-ruled since listed starts s r m =
       let f = found-is zones event r.rule w (number r.from) s (subst (IsIn s) r.gives m) in
       let given : gives (clocks_in zones) event r.rule w (number (local_numbered f.by)) ≡ true = ap (gives (clocks_in zones) event r.rule w) (number-numbered f.by) ∙ f.given in
-      known-is s (Kept (local_numbered f.by)) (At (time_at event.start (local_numbered f.by))) begun
+      known-is s (Kept (local_numbered f.by)) (At (time_at event.start (local_numbered f.by)))
       (subst (IsGivenAt (clocks_in zones) event w (local_numbered f.by)) (sym r.has) (day-given r.rule f.by f.given, given), refl) f.is
 
   -- The list has a start for each local that gives one.
@@ -137,7 +138,7 @@ low-by : (from first earliest since to t local : ℤ) → from ≤ℤ int_max fi
 low-by from first earliest since to t local low late own above near =
     omega (arith, ints, int_max_is first (int_max earliest (int_min since to) -ℤ pos 518_400), int_max_is earliest (int_min since to), int_min_is since to, low, late, own, above, near)
 
-module _ (zones : FileZones) (w : Window) (event : Event) (readable : IsReadableEvent zones event) (since : ℤ) where
+module _ (zones : FileZones) (w : Window) (event : Event) (sound : IsEvent event) (since : ℤ) where
   -- what gives a start that is sought from the instant on is asked for
   asked-for : (from local : Local) (given : Rdate) → seconds_of from ≤ℤ int_max (seconds_of (local_of event.start.stamp)) (first_asked (clocks_in zones) w event since (listed_from (clocks_in zones) w event.start 0 event.rdates) -ℤ pos 518_400)
       → GivesStart (clocks_in zones) event (Kept local) given → IsSought (clocks_in zones) event w (instant (clocks_in zones) (time_of given)) → since ≤ℤ instant (clocks_in zones) (time_of given) → seconds_of from ≤ℤ seconds_of local
@@ -145,15 +146,15 @@ module _ (zones : FileZones) (w : Window) (event : Event) (readable : IsReadable
       let time = time_at event.start local in
       let same = ap (λ x. instant (clocks_in zones) (time_of x)) g.1 in
       let sought : (earliest (clocks_in zones) w event (listed_from (clocks_in zones) w event.start 0 event.rdates) -ℤ pos 345_600) ≤ℤ instant (clocks_in zones) (time_of given) =
-      sought-late zones w event readable (instant (clocks_in zones) (time_of given)) s in
+      sought-late zones w event (instant (clocks_in zones) (time_of given)) s in
       let near = instant-near zones time in
       let at = written-at event.start.stamp local in
       low-by (seconds_of from) (seconds_of (local_of event.start.stamp)) (earliest (clocks_in zones) w event (listed_from (clocks_in zones) w event.start 0 event.rdates)) since (w.to +ℤ pos 1_209_600)
-      (instant (clocks_in zones) (time_of given)) (seconds_of local) low sought late (kept-first (clocks_in zones) event readable.is_event.start local g.0) (omega (arith, ints, same, near.1, at.0))
+      (instant (clocks_in zones) (time_of given)) (seconds_of local) low sought late (kept-first (clocks_in zones) event sound.start local g.0) (omega (arith, ints, same, near.1, at.0))
 
   own-day-of : (local : Local) → (local ≡ local_of event.start.stamp) ⊎ IsRuleStart (clocks_in zones) event local → IsDayNumber local.day
   own-day-of local k =
-      ⊎_elim (λ e. subst (λ (l : Local). IsDayNumber l.day) (sym e) (calendar-day (local_of event.start.stamp).day (own-day event.start readable.is_event.start))) (λ r. r.calendar) k
+      ⊎_elim (λ e. subst (λ (l : Local). IsDayNumber l.day) (sym e) (calendar-day (local_of event.start.stamp).day (own-day event.start sound.start))) (λ r. r.calendar) k
 
   -- The rule gives a start for each that is sought.
   module _ (starts : List Start) (r : IsRuleFrom (clocks_in zones) event w since (listed_from (clocks_in zones) w event.start 0 event.rdates) starts) where
@@ -162,7 +163,7 @@ module _ (zones : FileZones) (w : Window) (event : Event) (readable : IsReadable
     ruled local given g s late =
         let time = time_at event.start local in
         let same : instant (clocks_in zones) (time_of given) ≡ instant (clocks_in zones) (time_at event.start local) = ap (λ x. instant (clocks_in zones) (time_of x)) g.1 in
-        let early = sought-early zones w event readable (instant (clocks_in zones) (time_of given)) s in
+        let early = sought-early zones w event (instant (clocks_in zones) (time_of given)) s in
         let day = own-day-of local g.0 in
         let asked = asked-for r.from local given r.low g s late in
         let from : number r.from ≤ number local = omega (arith, ints, asked, number-seconds r.from r.day, number-seconds local day) in
@@ -192,23 +193,23 @@ module _ (zones : FileZones) (w : Window) (event : Event) (readable : IsReadable
         (⊎_elim
         (λ e. let f : Listed place ≡ Kept (local_of event.start.stamp) = ap (λ (x : Start). x.giver) e in absurd cc)
         (λ m. m)
-        (listed-there zones w event readable place given g (sought-early zones w event readable (instant (clocks_in zones) (time_of given)) s))))
+        (listed-there zones w event place given g (sought-early zones w event (instant (clocks_in zones) (time_of given)) s))))
 
   -- Both kinds together.
-  pub known-left : (o : Option RuleStarts) (listed : List Start) → IsBegun w event → AreFirsts (listed_apart (clocks_in zones) w event event.rule) listed
+  pub known-left : (o : Option RuleStarts) (listed : List Start) → AreFirsts (listed_apart (clocks_in zones) w event event.rule) listed
       → MatchOption o (event.rule ≡ None) (λ s. IsRuleFrom (clocks_in zones) event w since (listed_apart (clocks_in zones) w event event.rule) (starts_left s))
       → AreKnown (clocks_in zones) event w (union moment_cmp (rule_left o) listed)
-  known-left None listed begun firsts r s m = known-apart zones w event event.rule s begun refl (firsts.are s m)
-  known-left (Some starts) listed begun firsts r s m =
-      ⊎_elim (known-ruled zones w event since (listed_apart (clocks_in zones) w event event.rule) (starts_left starts) s begun r)
-      (λ n. known-apart zones w event event.rule s begun refl (firsts.are s n.1))
+  known-left None listed firsts r s m = known-apart zones w event event.rule s refl (firsts.are s m)
+  known-left (Some starts) listed firsts r s m =
+      ⊎_elim (known-ruled zones w event since (listed_apart (clocks_in zones) w event event.rule) (starts_left starts) s r)
+      (λ n. known-apart zones w event event.rule s refl (firsts.are s n.1))
       (union-in moment_cmp moment_total s (starts_left starts) listed firsts.rises m)
 
   all-by : (o : Option RuleStarts) (parts : Option RuleParts) (listed : List Start) → event.rule ≡ parts → AreFirsts (listed_apart (clocks_in zones) w event parts) listed
       → MatchOption o (event.rule ≡ None) (λ s. IsRuleFrom (clocks_in zones) event w since (listed_apart (clocks_in zones) w event parts) (starts_left s))
       → (giver : Giver) (given : Rdate) → GivesStart (clocks_in zones) event giver given → IsSought (clocks_in zones) event w (instant (clocks_in zones) (time_of given)) → since ≤ℤ instant (clocks_in zones) (time_of given)
       → HasStart (union moment_cmp (rule_left o) listed) giver (instant (clocks_in zones) (time_of given))
-  all-by None None listed e firsts r giver given g s late = firsts.all (start_by (clocks_in zones) giver given) (none-else zones w event readable e giver given g s)
+  all-by None None listed e firsts r giver given g s late = firsts.all (start_by (clocks_in zones) giver given) (none-else zones w event e giver given g s)
   all-by None (Some parts) listed e firsts r giver given g s late = let f : None ≡ Some parts = sym r ∙ e in absurd cc
   all-by (Some starts) None listed e firsts r giver given g s late = let f : None ≡ Some r.rule = ap (option_map (recurrence_by event.start.stamp)) (sym e) ∙ r.has in absurd cc
   all-by (Some starts) (Some parts) listed e firsts r giver given g s late = with-ruled (starts_left starts) r listed (rises-rule (Some starts)) firsts giver given g s late
@@ -239,12 +240,12 @@ module _ (zones : FileZones) (w : Window) (event : Event) (readable : IsReadable
       → IsListing entry_cmp (IsSeriesMet (clocks_in zones) event w since overridden) coming → HasRuled (clocks_in zones) event o coming
   has-ruled o overridden coming r l = has-ruled-by o event.rule overridden coming refl r (λ e m. (l.exact e).0 m)
 
-  pub starts-since : (o : Option RuleStarts) (listed : List Start) → IsBegun w event → AreFirsts (listed_apart (clocks_in zones) w event event.rule) listed
+  pub starts-since : (o : Option RuleStarts) (listed : List Start) → AreFirsts (listed_apart (clocks_in zones) w event event.rule) listed
       → MatchOption o (event.rule ≡ None) (λ s. IsRuleFrom (clocks_in zones) event w since (listed_apart (clocks_in zones) w event event.rule) (starts_left s))
       → AreStartsSince (clocks_in zones) event w since (union moment_cmp (rule_left o) listed)
-  starts-since o listed begun firsts r = record {
+  starts-since o listed firsts r = record {
     rises = rises-union moment_cmp moment_total (rule_left o) listed firsts.rises;
-    are = λ s m. known-start zones w event s readable.is_event (known-left o listed begun firsts r s m);
+    are = λ s m. known-start zones w event s sound (known-left o listed firsts r s m);
     all = all-by o event.rule listed refl firsts r;
   }
 

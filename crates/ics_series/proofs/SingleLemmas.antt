@@ -1,6 +1,6 @@
 -- What an event gives at its DTSTART.
 use Rattle.std.specs.Prelude.{int_lt, if◌then◌else◌}
-use Rattle.std.proofs.Common.{◌≡◌, ◌<ℤ◌, ◌≤ℤ◌, ◌+ℤ◌, ◌&&◌, ℤ, pos, Bool, true, false, List, Option, Some, None, inl, refl, sym, ◌∙◌, ap, arith}
+use Rattle.std.proofs.Common.{◌≡◌, ◌<ℤ◌, ◌≤ℤ◌, ◌&&◌, ℤ, Bool, true, false, List, Option, Some, None, inl, refl, sym, ◌∙◌, ap, arith}
 use Rattle.std.proofs.lemmas.Int.{ints}
 use Rattle.std.specs.Option.{option_and_then}
 use Rattle.ics_calendar.specs.Event.{FileSaid}
@@ -8,20 +8,14 @@ use Rattle.ics_calendar.specs.declared.event.Event.{Event}
 use Rattle.ics_calendar.specs.declared.time.Rdate.TheVariants.{At}
 use Rattle.ics_series.specs.declared.start.Giver.TheVariants.{Kept}
 use Rattle.ics_series.specs.declared.window.Window.{Window}
-use Rattle.ics_series.specs.declared.zones.FileZones.{FileZones}
-use Rattle.ics_series.specs.Clocks.{Clock, Clocks, instant, written}
+use Rattle.ics_series.specs.Clocks.{Clock, Clocks, instant}
 use Rattle.ics_series.specs.Entry.{Entry, Rank}
 use Rattle.ics_series.specs.Placed.{clocks_at}
 use Rattle.ics_series.specs.Singles.{begun_first, entry_first, is_single, is_to_come, single_at, single_of}
 use Rattle.ics_series.specs.Spots.{event_at}
 use Rattle.ics_series.specs.Starts.{local_of, GivesStart}
 use Rattle.ics_series.specs.Versions.{Label}
-use Rattle.ics_series.specs.Zones.{asked, asked_at, clocks_in, is_past, AreReached}
 use Rattle.ics_series.proofs.GiverLemmas.{own-time}
-use Rattle.ics_series.proofs.InstantLemmas.{instant-near}
-use Rattle.ics_series.proofs.MeetingLemmas.{le-true}
-use Rattle.ics_series.proofs.ToComeLemmas.{and-true}
-use Rattle.ics_series.proofs.ZoneLemmas.{asked-finish, reached-less}
 
 -- one that begins at the window's end or later is left out
 pub none-begun : (clocks : Clocks) (w : Window) (event : Event) (recurrence : Option ℤ) → w.to ≤ℤ instant clocks event.start → None ≡ begun_first clocks w event recurrence
@@ -31,22 +25,9 @@ none-begun clocks w event recurrence late = by (int_lt (instant clocks event.sta
     by true e = let less : instant clocks event.start <ℤ w.to = grind (arith, ints) in absurd (omega (arith, ints, less, late))
     by false e = refl
 
--- and so one that is written two days or more past it
-pub none-past : (zones : FileZones) (w : Window) (event : Event) (recurrence : Option ℤ) (without_rdates : Bool) → (is_past w event.start && without_rdates) ≡ true → None ≡ begun_first (clocks_in zones) w event recurrence
-none-past zones w event recurrence without_rdates past =
-    let late = le-true (w.to +ℤ pos 172_800) (written event.start.stamp) (and-true (is_past w event.start) without_rdates past).0 in
-    none-begun (clocks_in zones) w event recurrence (omega (arith, ints, late, instant-near zones event.start))
-
 -- DTSTART gives a start
 pub first-gives : (clocks : Clocks) (event : Event) → GivesStart clocks event (Kept (local_of event.start.stamp)) (At event.start)
 first-gives clocks event = (inl refl, sym (ap At (own-time event.start)))
-
--- how far the finish asks zones
-pub first-reached : (zones : FileZones) (w : Window) (event : Event) → AreReached zones.zones.now (asked w event) → instant (clocks_in zones) event.start <ℤ w.to
-    → AreReached zones.zones.now (asked_at event (instant (clocks_in zones) event.start) (At event.start))
-first-reached zones w event reached early =
-    reached-less zones.zones.now (asked_at event (instant (clocks_in zones) event.start) (At event.start)) (asked w event)
-    (asked-finish zones w event (Kept (local_of event.start.stamp)) (At event.start) (first-gives (clocks_in zones) event) early) reached
 
 -- What a version gives of that.
 module _ (files : List FileSaid) (display : Clock) (w : Window) (overrides : List Label) (after : Option Rank) (label : Label) (event : Event) (stands : event_at files label.spot ≡ Some event) where

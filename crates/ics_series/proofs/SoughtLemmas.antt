@@ -17,7 +17,7 @@ use Rattle.ics_series.specs.Listing.{IsIn}
 use Rattle.ics_series.specs.Meeting.{entry_from}
 use Rattle.ics_series.specs.Meets.{Meets}
 use Rattle.ics_series.specs.Starts.{given_by, local_of, recurrence_by, time_at, time_of, GivesStart}
-use Rattle.ics_series.specs.Zones.{clocks_in, is_past, IsReadableEvent}
+use Rattle.ics_series.specs.Zones.{clocks_in, is_past}
 use Rattle.ics_series.proofs.InstantLemmas.{instant-near}
 use Rattle.ics_series.proofs.ListedLemmas.{in-listed}
 use Rattle.ics_series.proofs.MeetingLemmas.{less-le, meets-is_met}
@@ -62,7 +62,7 @@ module _ (clocks : Clocks) (w : Window) (event : Event) where
 abbrev pub front : Clocks → Window → Event → List Start
 front clocks w event = start_at clocks event (local_of event.start.stamp) ∷ listed_from clocks w event.start 0 event.rdates
 
-module _ (zones : FileZones) (w : Window) (event : Event) (readable : IsReadableEvent zones event) where
+module _ (zones : FileZones) (w : Window) (event : Event) where
   pub listed-there : (place : ℕ) (given : Rdate) → GivesStart (clocks_in zones) event (Listed place) given → instant (clocks_in zones) (time_of given) <ℤ w.to → IsIn (start_by (clocks_in zones) (Listed place) given) (front (clocks_in zones) w event)
   listed-there place given g early =
       let time = time_of (given_by event.start g.0) in

@@ -7,9 +7,7 @@ use Rattle.ics_calendar.specs.Event.{said_by, FileSaid}
 use Rattle.ics_calendar.specs.declared.event.Event.{Event}
 use Rattle.ics_calendar.specs.declared.events.FileEvents.{FileEvents}
 use Rattle.ics_series.specs.declared.spot.Spot.{Spot}
-use Rattle.ics_series.specs.declared.window.Window.{Window}
 use Rattle.ics_series.specs.Spots.{event_at}
-use Rattle.ics_series.specs.Zones.{asked, AreReached, IsFileReached, IsReached}
 
 module _ (files : List FileEvents) (spot : Spot) (is_there : IsSome (event_at (map said_by files) spot)) where
   abbrev event_in : Option FileSaid → Option Event
@@ -29,16 +27,6 @@ module _ (files : List FileEvents) (spot : Spot) (is_there : IsSome (event_at (m
     -- what the file says, among what they say
     pub said-there : slice_get (map said_by files) spot.file ≡ Some (said_by file)
     said-there = slice_get-map said_by files spot.file ∙ (ap (option_map said_by) file-some.1 ∙ ap (λ f. Some (said_by f)) (sym same-file))
-
-    -- the event that stands there is asked for among those of the file
-    pub reached-there : (w : Window) (event : Event) → event_at (map said_by files) spot ≡ Some event → IsReached files w → AreReached file.zones (asked w event)
-    reached-there w event at reached =
-        let own : slice_get file.events spot.place ≡ Some event = sym (ap event_in said-there) ∙ at in
-        let there : slice_get files spot.file ≡ Some file = file-some.1 ∙ ap Some (sym same-file) in
-        let of_file : IsFileReached file w = subst (λ (f : FileEvents). IsFileReached f w) (get_or_from_slice_get files spot.file file file there)
-        (reached spot.file file (slice_get_within files spot.file file there)) in
-        subst (λ (e : Event). AreReached file.zones (asked w e)) (get_or_from_slice_get file.events spot.place event event own)
-        (of_file spot.place event (slice_get_within file.events spot.place event own))
 
     -- the event is one of the file's
     pub event-within : spot.place < length file.events

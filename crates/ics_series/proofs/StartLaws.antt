@@ -18,13 +18,13 @@ use Rattle.ics_calendar.specs.declared.time.Rdate.TheVariants.{At}
 use Rattle.ics_calendar.specs.declared.time.Time.{Time}
 use Rattle.ics_series.specs.declared.start.Giver.{Giver}
 use Rattle.ics_series.specs.declared.start.Giver.TheVariants.{Kept, Listed}
-use Rattle.ics_series.specs.Clocks.{Clocks, instant, seconds_of, written}
+use Rattle.ics_series.specs.Clocks.{Clocks, instant, seconds_of}
 use Rattle.ics_series.specs.Exclusions.{excludes, is_excluded}
 use Rattle.ics_series.specs.Finish.{finish}
 use Rattle.ics_series.specs.Found.{is_until}
 use Rattle.ics_series.specs.Occurs.{IsInstance}
 use Rattle.ics_series.specs.Starts.{given_by, local_of, time_at, time_of, recurrence_by, recurrence_of, GivesStart, IsNotAfter, IsRuleStart}
-use Rattle.ics_series.proofs.GiverLemmas.{calendar-day, index-is, kept-late, number-seconds, own-day, own-stamp, own-time, rule-is, same-number, written-order}
+use Rattle.ics_series.proofs.GiverLemmas.{calendar-day, index-is, kept-late, number-seconds, own-day, own-time, rule-is, same-number}
 use Rattle.ics_series.proofs.KeptLemmas.{true-until, until-true}
 
 -- an event without a rule and without RDATEs has the start at DTSTART alone
@@ -110,15 +110,6 @@ module _ (clocks : Clocks) (event : Event) (time : IsTime event.start) where
       let late : number (local_of event.start.stamp) ≤ number local = subst (λ (q : Recurrence). number q.start ≤ number local) rule.1 (kept-late r.rule (number local) r.kept) in
       omega (arith, ints, late, number-seconds (local_of event.start.stamp) first-day, number-seconds local r.calendar))
       k
-
-  -- so without RDATEs nothing gives a start that is written before it
-  pub giver-late : (giver : Giver) (given : Rdate) → event.rdates ≡ [] → GivesStart clocks event giver given → written event.start.stamp ≤ℤ written (time_of given).stamp
-  giver-late (Kept local) given none g =
-      let order = written-order event.start.stamp (local_of event.start.stamp) local (kept-first local g.0) in
-      let own = ap written (own-stamp event.start.stamp) in
-      let is = ap (λ x. written (time_of x).stamp) g.1 in
-      omega (arith, ints, order, own, is)
-  giver-late (Listed place) given none g = let f : None ≡ Some g.0 = ap (λ (xs : List Rdate). slice_get xs place) (sym none) ∙ g.1 in absurd cc
 
 module _ (clocks : Clocks) (event : Event) (time : IsTime event.start) (t : ℤ) (stays : is_excluded clocks event t ≡ false) where
   instant_of : Local → ℤ

@@ -1,21 +1,19 @@
 -- An event has a list of all its occurrences that meet a window.
-use Rattle.std.specs.Prelude.{◌≤ℤ◌, ◌==◌, ◌&&◌, not}
-use Rattle.std.proofs.Common.{◌≡◌, ℕ, ◌+◌, ℤ, pos, neg_ℤ, ◌+ℤ◌, ◌-ℤ◌, List, [], ◌∷◌, length, Bool, true, false, Option, Some, None, option_map, ⊎_elim, refl, sym, ap, subst, map, arith}
+use Rattle.std.specs.Prelude.{◌≤ℤ◌, not}
+use Rattle.std.proofs.Common.{◌≡◌, ℕ, ◌+◌, ℤ, pos, neg_ℤ, ◌-ℤ◌, List, [], ◌∷◌, Bool, true, false, Option, Some, None, option_map, ⊎_elim, refl, sym, ap, subst, arith}
 use Rattle.std.proofs.lemmas.Int.{int_max_is, ints}
 use Rattle.ics_values.specs.RuleParts.{RuleParts}
 use Rattle.ics_rule.specs.Locals.{number}
-use Rattle.ics_rule.proofs.KeptLemmas.{and_true}
-use Rattle.ics_calendar.specs.Event.{IsEvent, IsEventOf}
+use Rattle.ics_calendar.specs.Event.{IsEvent}
 use Rattle.ics_calendar.specs.declared.event.Event.{Event}
 use Rattle.ics_calendar.specs.declared.time.Rdate.{Rdate}
 use Rattle.ics_calendar.specs.declared.time.Time.{Time}
-use Rattle.ics_zone.specs.Tables.{phases_of}
 use Rattle.ics_series.specs.declared.start.Giver.{Giver}
 use Rattle.ics_series.specs.declared.start.Giver.TheVariants.{Kept, Listed}
 use Rattle.ics_series.specs.declared.start.Start.{Start}
 use Rattle.ics_series.specs.declared.window.Window.{Window}
 use Rattle.ics_series.specs.declared.zones.FileZones.{FileZones}
-use Rattle.ics_series.specs.Clocks.{Clocks, seconds_of, written}
+use Rattle.ics_series.specs.Clocks.{Clocks, seconds_of}
 use Rattle.ics_series.specs.Entry.{Entry, entry_cmp}
 use Rattle.ics_series.specs.Found.{listed_from, moment_cmp, start_by, with_front, AreFirsts, AreStartsSince, HasStart}
 use Rattle.ics_series.specs.Listing.{IsIn, IsListing}
@@ -23,21 +21,18 @@ use Rattle.ics_series.specs.Merged.{union}
 use Rattle.ics_series.specs.MergedLaws.{rises-union}
 use Rattle.ics_series.specs.Meets.{IsEventMet}
 use Rattle.ics_series.specs.RuleStarts.{found}
-use Rattle.ics_series.specs.SeriesStarts.{first_asked, given_of, listed_apart, IsBegun, IsRuleFrom, IsSeriesMet}
+use Rattle.ics_series.specs.SeriesStarts.{first_asked, given_of, listed_apart, IsRuleFrom, IsSeriesMet}
 use Rattle.ics_series.specs.Starts.{given_by, local_of, recurrence_by, time_of, IsNotAfter}
-use Rattle.ics_series.specs.Zones.{asked, clocks_in, is_past, AreReached, IsReadableEvent}
+use Rattle.ics_series.specs.Zones.{clocks_in, is_past}
 use Rattle.ics_series.proofs.FirstLemmas.{moment_total}
 use Rattle.ics_series.proofs.GiverLemmas.{calendar-day, gives-value, own-day, rdate-time}
 use Rattle.ics_series.proofs.InstantLemmas.{late}
 use Rattle.ics_series.proofs.LeftLemmas.{put-has}
 use Rattle.ics_series.proofs.ListedLemmas.{listed-in}
-use Rattle.ics_series.proofs.MeetingLemmas.{le-true}
-use Rattle.ics_series.proofs.MetLemmas.{begins-later}
 use Rattle.ics_series.proofs.RuleStartLemmas.{rises-found}
 use Rattle.ics_series.proofs.SeriesLemmas.{known-start, series-listing}
 use Rattle.ics_series.proofs.SinceLemmas.{known-apart, known-ruled, starts-since, with-ruled}
 use Rattle.ics_series.proofs.UnionLemmas.{itself-put, union-in}
-use Rattle.ics_series.proofs.ZoneLemmas.{event-readable, none-of}
 
 -- of each two the giver of the first is not after that of the second
 abbrev GiversClimb : List Start → Type 0
@@ -85,7 +80,7 @@ apart-climb clocks w event None = (
 )
 apart-climb clocks w event (Some parts) = listed-climb clocks w event.start 0 event.rdates
 
-module _ (zones : FileZones) (w : Window) (event : Event) (readable : IsReadableEvent zones event) (begun : IsBegun w event) (since : ℤ) where
+module _ (zones : FileZones) (w : Window) (event : Event) (sound : IsEvent event) (since : ℤ) where
   from-first : (parts : RuleParts) → event.rule ≡ Some parts
       → IsRuleFrom (clocks_in zones) event w since (listed_from (clocks_in zones) w event.start 0 event.rdates)
       (found (clocks_in zones) event (recurrence_by event.start.stamp parts) w (number (local_of event.start.stamp)))
@@ -93,7 +88,7 @@ module _ (zones : FileZones) (w : Window) (event : Event) (readable : IsReadable
     rule = recurrence_by event.start.stamp parts;
     has = ap (option_map (recurrence_by event.start.stamp)) e;
     from = local_of event.start.stamp;
-    day = calendar-day (local_of event.start.stamp).day (own-day event.start readable.is_event.start);
+    day = calendar-day (local_of event.start.stamp).day (own-day event.start sound.start);
     low = omega (arith, ints, int_max_is (seconds_of (local_of event.start.stamp)) (first_asked (clocks_in zones) w event since (listed_from (clocks_in zones) w event.start 0 event.rdates) -ℤ pos 518_400));
     gives = refl;
   }
@@ -102,7 +97,7 @@ module _ (zones : FileZones) (w : Window) (event : Event) (readable : IsReadable
   whole-starts None e =
       let firsts = firsts-by-union (listed_apart (clocks_in zones) w event None) (apart-climb (clocks_in zones) w event None) in
       let listed = union moment_cmp (listed_apart (clocks_in zones) w event None) [] in
-      (listed, starts-since zones w event readable since None listed begun (subst (λ o. AreFirsts (listed_apart (clocks_in zones) w event o) listed) (sym e) firsts) e)
+      (listed, starts-since zones w event sound since None listed (subst (λ o. AreFirsts (listed_apart (clocks_in zones) w event o) listed) (sym e) firsts) e)
   whole-starts (Some parts) e =
       let listed = union moment_cmp (listed_apart (clocks_in zones) w event (Some parts)) [] in
       let firsts : AreFirsts (listed_apart (clocks_in zones) w event (Some parts)) (union moment_cmp (listed_apart (clocks_in zones) w event (Some parts)) []) =
@@ -115,19 +110,19 @@ module _ (zones : FileZones) (w : Window) (event : Event) (readable : IsReadable
         record {
           rises = rises-union moment_cmp moment_total ruled listed firsts.rises;
           are = λ s m.
-              known-start zones w event s readable.is_event
-              (⊎_elim (known-ruled zones w event since (listed_from (clocks_in zones) w event.start 0 event.rdates) ruled s begun from)
-              (λ n. known-apart zones w event (Some parts) s begun e (firsts.are s n.1))
+              known-start zones w event s sound
+              (⊎_elim (known-ruled zones w event since (listed_from (clocks_in zones) w event.start 0 event.rdates) ruled s from)
+              (λ n. known-apart zones w event (Some parts) s e (firsts.are s n.1))
               (union-in moment_cmp moment_total s ruled listed firsts.rises m));
-          all = with-ruled zones w event readable since ruled from listed rises firsts;
+          all = with-ruled zones w event sound since ruled from listed rises firsts;
         },
       )
 
--- an event that can be read, and has begun by the window's end or has RDATEs
-begun-listing : (zones : FileZones) (w : Window) (event : Event) → IsReadableEvent zones event → IsBegun w event → (list : List Entry) × IsListing entry_cmp (IsEventMet (clocks_in zones) event w) list
-begun-listing zones w event readable begun =
+-- any event
+pub whole-listing : (zones : FileZones) (w : Window) (event : Event) → IsEvent event → (list : List Entry) × IsListing entry_cmp (IsEventMet (clocks_in zones) event w) list
+whole-listing zones w event sound =
     let since = neg_ℤ (pos 62_135_769_600) in
-    let found = whole-starts zones w event readable begun since event.rule refl in
+    let found = whole-starts zones w event sound since event.rule refl in
     let listing : IsListing entry_cmp (IsSeriesMet (clocks_in zones) event w (neg_ℤ (pos 62_135_769_600)) []) (given_of (clocks_in zones) w event (neg_ℤ (pos 62_135_769_600)) [] found.0) =
     series-listing (clocks_in zones) w event since [] found.0 found.1 in (
       given_of (clocks_in zones) w event since [] found.0,
@@ -143,26 +138,7 @@ begun-listing zones w event readable begun =
     not-early : (e : Entry) → IsEventMet (clocks_in zones) event w e → neg_ℤ (pos 62_135_769_600) ≤ℤ e.start
     not-early e o =
         let of = o.0.lasts in
-        let value = gives-value (clocks_in zones) event of.giver of.given readable.is_event.start readable.is_event.rdates of.gives in
+        let value = gives-value (clocks_in zones) event of.giver of.given sound.start sound.rdates of.gives in
         let low = late zones (time_of of.given) (rdate-time of.given value) in
         let same = of.starts in
         omega (arith, ints, low, same)
-
--- any event of the file
-pub whole-listing : (zones : FileZones) (w : Window) (event : Event) → AreReached zones.zones.now (asked w event) → IsEvent event → IsEventOf (map phases_of zones.zones.now) event
-    → (list : List Entry) × IsListing entry_cmp (IsEventMet (clocks_in zones) event w) list
-whole-listing zones w event reached sound own = by (is_past w event.start && length event.rdates == 0) refl
-  where
-    by : (b : Bool) → (is_past w event.start && length event.rdates == 0) ≡ b → (list : List Entry) × IsListing entry_cmp (IsEventMet (clocks_in zones) event w) list
-    by false begun = begun-listing zones w event (event-readable zones w event reached sound own begun) begun
-    by true past =
-        let parts = and_true {a = is_past w event.start} past in (
-          [],
-          record {
-            rises = tt;
-            exact = λ e. (
-              λ m. absurd m,
-              λ o. absurd (begins-later zones w event sound.start (none-of event.rdates parts.1) (le-true (w.to +ℤ pos 172_800) (written event.start.stamp) parts.0) e o),
-            );
-          },
-        )

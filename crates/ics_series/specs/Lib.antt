@@ -4,6 +4,7 @@ pub mod Clocks
 pub mod Contents
 pub mod Entry
 pub mod EntryLaws
+pub mod EventLaws
 pub mod Exclusions
 pub mod Finish
 pub mod Found
@@ -21,7 +22,6 @@ pub mod Occurs
 pub mod Overridden
 pub mod Parts
 pub mod Placed
-pub mod ReadingLaws
 pub mod Rising
 pub mod RuleFeed
 pub mod RuleStartLaws

@@ -11,16 +11,13 @@ use Rattle.ics_rule.specs.Recurrence.{Recurrence}
 use Rattle.ics_rule.specs.declared.cursor.Cursor.{Cursor}
 use Rattle.ics_rule.specs.declared.filled.Filled.{Filled}
 use Rattle.ics_calendar.specs.declared.event.Event.{Event}
-use Rattle.ics_calendar.specs.declared.time.Time.{Time}
 use Rattle.ics_values.specs.declared.local.Local.{Local}
-use Rattle.ics_zone.specs.Tables.{Timeline}
 use Rattle.ics_series.specs.declared.start.Start.{Start}
 use Rattle.ics_series.specs.declared.window.Window.{Window}
 use Rattle.ics_series.specs.Clocks.{Clocks}
 use Rattle.ics_series.specs.Found.{moment_cmp}
 use Rattle.ics_series.specs.Rising.{IsBefore, Rises}
-use Rattle.ics_series.specs.RuleStarts.{AreHeld, AreReadable, HasLookedTo, IsHeld}
-use Rattle.ics_series.specs.Zones.{IsReadable}
+use Rattle.ics_series.specs.RuleStarts.{AreHeld, HasLookedTo, IsHeld}
 
 before-prop : (x : Start) (xs : List Start) → IsProp (IsBefore moment_cmp x xs)
 before-prop x [] = Unit-prop
@@ -48,12 +45,6 @@ looked-at-prop rule cursor a b = hlevel props
 
 pub looked-prop : (rule : Recurrence) (from : Local) (day : ℤ) (cursor : Cursor) → IsProp (HasLookedTo rule from day cursor)
 looked-prop rule from day cursor = Π_prop λ before. Π_prop λ h. looked-at-prop rule cursor _ before
-
-readable-at-prop : (zones : List Timeline) (time : Time) → IsProp (IsReadable zones time)
-readable-at-prop zones time = hlevel props
-
-pub readable-prop : (zones : List Timeline) (event : Event) (rule : Recurrence) (day : ℤ) → IsProp (AreReadable zones event rule day)
-readable-prop zones event rule day = Π_prop λ n. Π_prop λ k. Π_prop λ h. readable-at-prop zones _
 
 counted-prop : (q : Filled) (start : ℕ) (o : Option ℕ) (cursor : Cursor) → IsProp (CountedBy q start o cursor)
 counted-prop q start None cursor = Unit-prop

@@ -1,5 +1,5 @@
 -- The starts that the rule of an event gives before the end of a window, as one rising list.
-use Rattle.std.specs.Prelude.{◌≡◌, ◌≤ℤ◌, ◌<ℤ◌, ℕ, zero, suc, ◌+◌, ◌-◌, ◌/◌, ◌<◌, ◌≤◌, ℤ, pos, ◌-ℤ◌, ◌+ℤ◌, Bool, true, false, ◌&&◌, ◌||◌, ◌==◌, not, int_le, int_lt, List, [], ◌∷◌}
+use Rattle.std.specs.Prelude.{◌≡◌, ◌≤ℤ◌, ◌<ℤ◌, ℕ, zero, suc, ◌+◌, ◌-◌, ◌/◌, ◌≤◌, ℤ, pos, ◌-ℤ◌, ◌+ℤ◌, Bool, true, false, ◌&&◌, ◌||◌, ◌==◌, not, int_le, int_lt, List, [], ◌∷◌}
 use Rattle.ics_values.specs.Days.{day_index}
 use Rattle.ics_values.specs.Locals.{local_at}
 use Rattle.ics_values.specs.declared.local.Local.{Local}
@@ -9,7 +9,6 @@ use Rattle.ics_rule.specs.Locals.{number, rules_end}
 use Rattle.ics_rule.specs.Recurrence.{Recurrence}
 use Rattle.ics_rule.specs.declared.cursor.Cursor.{Cursor}
 use Rattle.ics_calendar.specs.declared.event.Event.{Event}
-use Rattle.ics_zone.specs.Tables.{Timeline}
 use Rattle.ics_series.specs.declared.start.Giver.{Giver}
 use Rattle.ics_series.specs.declared.start.Giver.TheVariants.{Kept, Listed}
 use Rattle.ics_series.specs.declared.start.Start.{Start}
@@ -19,7 +18,6 @@ use Rattle.ics_series.specs.Found.{is_until, moment_cmp, start_at}
 use Rattle.ics_series.specs.Listing.{IsIn}
 use Rattle.ics_series.specs.Merged.{put, union}
 use Rattle.ics_series.specs.Starts.{time_at}
-use Rattle.ics_series.specs.Zones.{IsReadable}
 
 -- the local with a number
 abbrev pub local_numbered : ℕ → Local
@@ -101,11 +99,6 @@ abbrev pub HasLookedTo : Recurrence → Local → ℤ → Cursor → Type 0
 HasLookedTo rule from day cursor =
     (before : ℕ) → midnight_number day ≤ before
     → HasLooked rule cursor (looks_from rule.parts.count (number rule.start) (number from)) before
-
--- the times at the locals that the rule keeps before a day's midnight can be read
-abbrev pub AreReadable : List Timeline → Event → Recurrence → ℤ → Type 0
-AreReadable zones event rule day =
-    (n : ℕ) → is_kept rule n ≡ true → n < midnight_number day → IsReadable zones (time_at event.start (local_numbered n))
 
 -- how many seconds and days there are at most to be read
 abbrev pub steps_left : ℤ → ℤ → ℕ → ℕ

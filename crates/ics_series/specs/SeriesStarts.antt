@@ -1,5 +1,5 @@
 -- The starts that a series holds still to come, and the occurrences that they give.
-use Rattle.std.specs.Prelude.{◌≡◌, ◌≤ℤ◌, ℤ, pos, ◌+ℤ◌, ◌-ℤ◌, Bool, true, false, ◌&&◌, ◌==◌, not, int_le, int_lt, List, [], ◌∷◌, length, drop, slice_get, Option, None, Some, ◌⊎◌, if◌then◌else◌}
+use Rattle.std.specs.Prelude.{◌≡◌, ◌≤ℤ◌, ℤ, pos, ◌+ℤ◌, ◌-ℤ◌, Bool, true, false, ◌&&◌, not, int_le, int_lt, List, [], ◌∷◌, drop, slice_get, Option, None, Some, ◌⊎◌, if◌then◌else◌}
 use Rattle.std.specs.Int.{int_max, int_min}
 use Rattle.std.specs.List.{filter_map, list_any}
 use Rattle.std.specs.Option.{option_map}
@@ -21,7 +21,6 @@ use Rattle.ics_series.specs.declared.window.Window.{Window}
 use Rattle.ics_series.specs.declared.zones.FileZones.{FileZones}
 use Rattle.ics_series.specs.Clocks.{Clocks, instant, midnight, seconds_of}
 use Rattle.ics_series.specs.Entry.{Entry}
-use Rattle.ics_series.specs.Exclusions.{AreExclusions}
 use Rattle.ics_series.specs.Found.{earliest, is_shown, listed_from, moment_cmp, start_at}
 use Rattle.ics_series.specs.Listing.{IsIn}
 use Rattle.ics_series.specs.Meeting.{entry_from}
@@ -30,7 +29,6 @@ use Rattle.ics_series.specs.Meets.{IsEventMet}
 use Rattle.ics_series.specs.RuleFeed.{starts_left, HasSameSource}
 use Rattle.ics_series.specs.RuleStarts.{found, gives, is_behind}
 use Rattle.ics_series.specs.Starts.{given_by, local_of, recurrence_of, time_at, time_of, IsRuleStart}
-use Rattle.ics_series.specs.Zones.{is_past}
 
 -- an occurrence of the event that meets the window, begins at this instant or later, and whose start is none of these
 abbrev pub IsSeriesMet : Clocks → Event → Window → ℤ → List ℤ → Entry → Type 0
@@ -152,22 +150,13 @@ abbrev pub IsGivenBy : Clocks → Event → Window → Giver → Rdate → Type 
 IsGivenBy clocks event w (Kept local) given = IsGivenAt clocks event w local (recurrence_of event) × (given ≡ At (time_at event.start local))
 IsGivenBy clocks event w (Listed place) given = option_map (given_by event.start) (slice_get event.rdates place) ≡ Some given
 
--- DTSTART is written less than two days past the window's end, or there are RDATEs
-abbrev pub IsBegun : Window → Event → Type 0
-IsBegun w event = (is_past w event.start && length event.rdates == 0) ≡ false
-
 -- a start of the event
 pub record IsKnown (clocks : Clocks) (event : Event) (w : Window) (s : Start) : Type 0 where
-  pub begun : IsBegun w event
   pub gives : IsGivenBy clocks event w s.giver s.given
   pub moment : s.moment ≡ instant clocks (time_of s.given)
 
 abbrev pub AreKnown : Clocks → Event → Window → List Start → Type 0
 AreKnown clocks event w starts = (s : Start) → IsIn s starts → IsKnown clocks event w s
-
--- where the event has begun, these take out what its EXDATEs do
-abbrev pub AreTakenOut : Clocks → Event → Window → List ℤ → List ℤ → Type 0
-AreTakenOut clocks event w instants days = IsBegun w event → AreExclusions clocks event w instants days
 
 -- Which of two starts goes first: at one instant that by the rule.
 abbrev pub earlier_of : Option Start → Option Start → Option Start

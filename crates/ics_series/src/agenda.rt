@@ -21,7 +21,6 @@ ghost use Rattle.ics_series.specs.Parts.{part_coming, part_sources};
 ghost use Rattle.ics_series.specs.Sources.{master_of, recurring, AreApart, AreApart-prop, AreSources, Recurring};
 ghost use Rattle.ics_series.specs.Steps.{HasStepBound};
 ghost use Rattle.ics_series.specs.Versions.{seen, subject_cmp, subject_seen, AreChosen};
-ghost use Rattle.ics_series.specs.Zones.{IsReached};
 
 use crate::chosen::{chosen, is_named, overrides};
 use crate::feed::{Coming, Feed};
@@ -54,7 +53,6 @@ impl<'a> Agenda<'a> {
         window: Window,
         after: Option<&Key>,
     ) -> Result<Agenda<'a>, AllocError>
-        requires reached { IsReached files.now window }
         ensures listing { IfOk result (λ agenda. IsListing entry_cmp
             (IsToCome (map said_by files.entry.now) (display_clock display.entry.now) window
             (option_map (λ key. key_rank key.now) after.entry))
@@ -106,7 +104,6 @@ fn parts<'a>(
     window: Window,
     after: Option<&Key>,
 ) -> Result<Vec<Part<'a>>, AllocError>
-    requires reached { IsReached files.now window }
     requires chosen { AreChosen (map said_by files.now) (display_clock display.now) chosen.now }
     ensures listing { IfOk result (λ parts. IsListing entry_cmp
         (IsToCome (map said_by files.entry.now) (display_clock display.entry.now) window

@@ -5,7 +5,6 @@ ghost use Rattle.std.specs.Ordering.{on};
 ghost use Rattle.ics_calendar.specs.Event.{said_by};
 ghost use Rattle.ics_series.specs.Clocks.{display_clock};
 ghost use Rattle.ics_series.specs.Versions.{is_followed, is_named, is_override, is_same, lasts, seen, subject_cmp, subject_seen, AreChosen};
-ghost use Rattle.ics_series.specs.Zones.{AreNamesReached};
 
 use crate::version::{Subject, Version, versions};
 use ics_calendar::FileEvents;
@@ -19,7 +18,6 @@ pub(crate) fn chosen<'a>(
     files: &'a [FileEvents],
     display: &Display,
 ) -> Result<Vec<Version<'a>>, AllocError>
-    requires { AreNamesReached files.now }
     ensures { IfOk result (λ chosen. AreChosen (map said_by files.entry.now) (display_clock display.now) chosen.items) }
 {
     let mut versions = versions(alloc, files, display)?;

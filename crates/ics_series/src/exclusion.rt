@@ -3,10 +3,9 @@ ghost use Rattle.std.specs.Prelude.{◌≡◌, ◌<ℤ◌, ◌≤ℤ◌, ◌+ℤ
 ghost use Rattle.std.specs.Int.{int_div_euclid};
 ghost use Rattle.std.specs.List.Sorted.{IsSorted};
 ghost use Rattle.std.specs.Ordering.{int_cmp};
-ghost use Rattle.ics_calendar.specs.Event.{IsTime};
 ghost use Rattle.ics_series.specs.Clocks.{clock_of, instant};
 ghost use Rattle.ics_series.specs.Exclusions.{excludes, is_day_in, shown_day, takes_out, with_instant};
-ghost use Rattle.ics_series.specs.Zones.{clocks_in, is_past, AreReached, HasZoneIn, IsReadable};
+ghost use Rattle.ics_series.specs.Zones.{clocks_in, is_past, IsTimeOf};
 
 use crate::instant::{instant, is_past};
 use crate::start::date_of;
@@ -31,7 +30,7 @@ pub(crate) struct Exclusions {
 
 impl Exclusions {
     ghost use Rattle.ics_series.specs.Exclusions.{AreExclusions};
-    ghost use Rattle.ics_series.specs.Zones.{asked, IsReadableEvent};
+    ghost use Rattle.ics_series.specs.Zones.{IsOwnEvent};
 
     // What they take out of the starts before the window's end.
     pub(crate) fn new(
@@ -40,8 +39,7 @@ impl Exclusions {
         event: &Event,
         window: &Window,
     ) -> Result<Exclusions, AllocError>
-        requires event { IsReadableEvent zones event.now }
-        requires reached { AreReached zones.zones.now (asked window.now event.now) }
+        requires { IsOwnEvent zones event.now }
         ensures { IfOk result (λ exclusions. AreExclusions (clocks_in zones.entry) event.now window.now
             exclusions.instants.items exclusions.days.items) }
     {
@@ -62,20 +60,11 @@ impl Exclusions {
         Ok(Exclusions { instants, days })
     }
 
-    // Nothing.
-    pub(crate) fn none(alloc: Global) -> Exclusions {
-        Exclusions {
-            instants: Vec::new(alloc),
-            days: Vec::new(alloc),
-        }
-    }
-
     // Whether they take out a start at an instant.
     pub(crate) fn has(&self, zones: FileZones<'_>, first: Time, moment: Moment) -> bool
-        requires first { IsReadable zones.zones.now first }
+        requires first { IsTimeOf zones.zones.now first }
         requires late { neg_ℤ (pos 62_135_769_600) ≤ℤ moment }
         requires early { moment <ℤ pos 247_091_126_400 }
-        requires reached { AreReached zones.zones.now moment }
         ensures { result ≡ takes_out (clock_of (clocks_in zones.entry) first)
             self.now.instants.items self.now.days.items moment }
     {
@@ -84,10 +73,9 @@ impl Exclusions {
 
     // Whether they take out the day that a time's clock shows at an instant.
     fn has_day(&self, zones: FileZones<'_>, first: Time, moment: Moment) -> bool
-        requires first { IsReadable zones.zones.now first }
+        requires first { IsTimeOf zones.zones.now first }
         requires late { neg_ℤ (pos 62_135_769_600) ≤ℤ moment }
         requires early { moment <ℤ pos 247_091_126_400 }
-        requires reached { AreReached zones.zones.now moment }
         ensures { result ≡ is_day_in (clock_of (clocks_in zones.entry) first) self.now.days.items moment }
     {
         if self.days.is_empty() {
@@ -108,9 +96,7 @@ fn push_exdate(
     exdate: Time,
     window: &Window,
 ) -> Result<(), AllocError>
-    requires time { IsTime exdate }
-    requires within { HasZoneIn zones.zones.now exdate }
-    requires reached { AreReached zones.zones.now (window.now.to +ℤ pos 345_600) }
+    requires { IsTimeOf zones.zones.now exdate }
     ensures { IfOk result (λ _. (t : ℤ) → t <ℤ window.now.to → let clocks = clocks_in zones.entry in
         takes_out (clock_of clocks first) instants.new.items days.new.items t
         ≡ (takes_out (clock_of clocks first) instants.old.items days.old.items t || excludes clocks first exdate t)) }
@@ -130,9 +116,7 @@ fn push_instant(
     time: Time,
     window: &Window,
 ) -> Result<(), AllocError>
-    requires time { IsTime time }
-    requires within { HasZoneIn zones.zones.now time }
-    requires reached { AreReached zones.zones.now (window.now.to +ℤ pos 345_600) }
+    requires { IsTimeOf zones.zones.now time }
     ensures { IfOk result (λ _. instants.new.items
         ≡ with_instant (not (is_past window.now time)) instants.old.items (instant (clocks_in zones.entry) time)) }
 {
@@ -144,10 +128,9 @@ fn push_instant(
 
 // The day that a time's clock shows at an instant.
 fn shown_day(zones: FileZones<'_>, time: Time, moment: Moment) -> i32
-    requires time { IsReadable zones.zones.now time }
+    requires time { IsTimeOf zones.zones.now time }
     requires late { neg_ℤ (pos 62_135_769_600) ≤ℤ moment }
     requires early { moment <ℤ pos 247_091_126_400 }
-    requires reached { AreReached zones.zones.now moment }
     ensures { result ≡ shown_day (clock_of (clocks_in zones.entry) time) moment }
 {
     match time.stamp {
@@ -161,7 +144,6 @@ fn shown_day(zones: FileZones<'_>, time: Time, moment: Moment) -> i32
 fn day_at<P: Place>(place: &P, moment: Moment) -> i32
     requires late { neg_ℤ (pos 62_135_769_600) ≤ℤ moment }
     requires early { moment <ℤ pos 247_091_126_400 }
-    requires reached { moment ≤ℤ P.reach place.now }
     ensures { result ≡ int_div_euclid (moment +ℤ P.offset_at place.now moment) (pos 86_400) }
 {
     place.local(moment).day

@@ -1,10 +1,10 @@
 //! Where an event's occurrence ends.
-ghost use Rattle.std.specs.Prelude.{◌≡◌, ◌+◌, ◌*◌, ◌<◌, ◌≤◌, ◌<ℤ◌, ◌≤ℤ◌, ◌+ℤ◌, ◌*ℤ◌, pos, neg_ℤ, is_some};
-ghost use Rattle.ics_calendar.specs.Event.{is_zoned, IsLasting, IsLength, IsSpan, IsTime};
+ghost use Rattle.std.specs.Prelude.{◌≡◌, ◌+◌, ◌*◌, ◌<◌, ◌≤◌, ◌<ℤ◌, ◌≤ℤ◌, ◌+ℤ◌, ◌*ℤ◌, pos, neg_ℤ};
+ghost use Rattle.ics_calendar.specs.Event.{IsLasting, IsLength, IsSpan};
 ghost use Rattle.ics_series.specs.Clocks.{clock_of, display_clock, instant, local_at, midnight};
 ghost use Rattle.ics_series.specs.Finish.{end_by, finish, later_by, span_end};
 ghost use Rattle.ics_series.specs.Found.{IsStart};
-ghost use Rattle.ics_series.specs.Zones.{asked_at, asked_by_span, clocks_in, span_by, AreReached, EndIsReadable, EndsNear, HasEndIn, HasZoneIn, IsReadable, IsReadableEvent};
+ghost use Rattle.ics_series.specs.Zones.{clocks_in, EndsNear, HasEndIn, IsEndOf, IsOwnEvent, IsTimeOf};
 
 use crate::instant::instant;
 use crate::lasting::{day_of, days_lasting};
@@ -19,10 +19,9 @@ const DAY: i64 = 86_400;
 /// Where the occurrence of an event ends that has a start (RFC 5545, section 3.6.1), for one that
 /// starts before the latest end of a window.
 pub(crate) fn finish(zones: FileZones<'_>, event: &Event, start: Start) -> Moment
-    requires event { IsReadableEvent zones event.now }
+    requires event { IsOwnEvent zones event.now }
     requires start { IsStart (clocks_in zones) event.now start }
     requires early { start.moment <ℤ pos 247_091_126_400 }
-    requires reached { AreReached zones.zones.now (asked_at event.now start.moment start.given) }
     ensures value { result ≡ finish (clocks_in zones.entry) event.now start.given }
     ensures forward { start.moment ≤ℤ result }
     ensures early { result <ℤ pos 250_247_232_000 }
@@ -36,15 +35,13 @@ pub(crate) fn finish(zones: FileZones<'_>, event: &Event, start: Start) -> Momen
 
 // Where a length leads from a start of an event with this DTSTART.
 fn end_by(zones: FileZones<'_>, first: Time, length: Length, given: Time, start: Moment) -> Moment
-    requires first { IsReadable zones.zones.now first }
+    requires first { IsTimeOf zones.zones.now first }
     requires length { IsLength first.stamp length }
-    requires end { EndIsReadable zones.zones.now length }
+    requires end { IsEndOf zones.zones.now length }
     requires near { EndsNear (clocks_in zones) first length }
-    requires given { IsTime given }
-    requires within { HasZoneIn zones.zones.now given }
+    requires given { IsTimeOf zones.zones.now given }
     requires start { start ≡ instant (clocks_in zones) given }
     requires early { start <ℤ pos 247_091_126_400 }
-    requires reached { AreReached zones.zones.now ((start +ℤ span_by first.stamp length) +ℤ pos 345_600) }
     ensures value { result ≡ end_by (clocks_in zones.entry) first given first.stamp length }
     ensures early { result <ℤ pos 250_247_232_000 }
 {
@@ -61,13 +58,11 @@ fn end_by(zones: FileZones<'_>, first: Time, length: Length, given: Time, start:
 
 // Where a PERIOD ends that begins at a time.
 fn span_end(zones: FileZones<'_>, given: Time, length: Length, start: Moment) -> Moment
-    requires given { IsTime given }
-    requires within { HasZoneIn zones.zones.now given }
+    requires given { IsTimeOf zones.zones.now given }
     requires span { IsSpan length }
     requires end { HasEndIn zones.zones.now length }
     requires start { start ≡ instant (clocks_in zones) given }
     requires early { start <ℤ pos 247_091_126_400 }
-    requires reached { AreReached zones.zones.now (asked_by_span start length) }
     ensures value { result ≡ span_end (clocks_in zones.entry) given length }
     ensures early { result <ℤ pos 250_247_232_000 }
 {
@@ -95,12 +90,10 @@ fn midnight_after(display: &Display, day: i32, days: i32) -> Moment
 
 // The instant that is a duration later: its days go by the clock of a time's zone.
 fn later_by(zones: FileZones<'_>, time: Time, duration: Duration, start: Moment) -> Moment
-    requires zone { HasZoneIn zones.zones.now time }
-    requires own { is_some time.zone ≡ is_zoned time.stamp }
+    requires time { IsTimeOf zones.zones.now time }
     requires late { neg_ℤ (pos 62_135_769_600) ≤ℤ start }
     requires early { start <ℤ pos 247_091_126_400 }
     requires short { IsLasting duration }
-    requires reached { AreReached zones.zones.now ((start +ℤ pos (duration.days * 86_400 + duration.seconds)) +ℤ pos 345_600) }
     ensures value { result ≡ later_by (clock_of (clocks_in zones.entry) time) duration start }
     ensures early { result <ℤ pos 250_247_232_000 }
 {
@@ -109,13 +102,11 @@ fn later_by(zones: FileZones<'_>, time: Time, duration: Duration, start: Moment)
 
 // The instant that is so many days later by the clock of a time's zone.
 fn days_after(zones: FileZones<'_>, time: Time, start: Moment, days: i64) -> Moment
-    requires zone { HasZoneIn zones.zones.now time }
-    requires own { is_some time.zone ≡ is_zoned time.stamp }
+    requires time { IsTimeOf zones.zones.now time }
     requires late { neg_ℤ (pos 62_135_769_600) ≤ℤ start }
     requires early { start <ℤ pos 247_091_126_400 }
     requires forward { pos 0 ≤ℤ days }
     requires short { days ≤ℤ pos 36_525 }
-    requires reached { AreReached zones.zones.now ((start +ℤ days *ℤ pos 86_400) +ℤ pos 345_600) }
     ensures value { result ≡ (clock_of (clocks_in zones.entry) time).moment
         (local_at (clock_of (clocks_in zones.entry) time) start +ℤ days *ℤ pos 86_400) }
     ensures late { neg_ℤ (pos 62_136_115_200) ≤ℤ result }
@@ -134,7 +125,6 @@ fn days_after_at<P: Place>(place: &P, start: Moment, days: i64) -> Moment
     requires early { start <ℤ pos 247_091_126_400 }
     requires forward { pos 0 ≤ℤ days }
     requires short { days ≤ℤ pos 36_525 }
-    requires reached { ((start +ℤ days *ℤ pos 86_400) +ℤ pos 345_600) ≤ℤ P.reach place.now }
     ensures value { result ≡ P.moment_at place.now
         ((start +ℤ P.offset_at place.now start) +ℤ days *ℤ pos 86_400) }
     ensures late { neg_ℤ (pos 62_136_115_200) ≤ℤ result }

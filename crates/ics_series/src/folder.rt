@@ -1,5 +1,5 @@
 //! The events of a folder.
-ghost use Rattle.std.specs.Prelude.{◌≡◌, List, map, IfOk, OnOk};
+ghost use Rattle.std.specs.Prelude.{◌≡◌, List, map, IfOk};
 ghost use Rattle.std.specs.Option.{option_map};
 ghost use Rattle.ics_calendar.specs.Event.{said_by};
 ghost use Rattle.ics_series.specs.After.{after_key};
@@ -8,12 +8,11 @@ ghost use Rattle.ics_series.specs.Entry.{Entry, entry_cmp, key_rank};
 ghost use Rattle.ics_series.specs.Listing.{IsListing};
 ghost use Rattle.ics_series.specs.Meets.{IsListed, IsToCome};
 ghost use Rattle.ics_series.specs.Sources.{AreSources};
-ghost use Rattle.ics_series.specs.Zones.{IsReached};
 
 use crate::agenda::Agenda;
 use crate::feed::Coming;
 use crate::key::Key;
-use crate::reach::reach_each;
+use crate::prepare::prepare_each;
 use crate::window::Window;
 use ics_calendar::FileEvents;
 use ics_zone::Display;
@@ -53,24 +52,21 @@ impl Folder {
         })
     }
 
-    /// Lets the zones of the files be asked as far as the listing of this window asks them. What the
-    /// files say stays, and with it every listing, also where memory is refused.
-    pub fn reach(&mut self, window: &Window) -> Result<(), AllocError>
-        ensures said { map said_by self.new.files ≡ map said_by self.old.files }
-        ensures display { self.new.display ≡ self.old.display }
-        ensures reached { OnOk result (IsReached self.new.files window.now) }
+    /// Has the zones of the files keep their offsets near a window, so that a listing of it is read faster. No listing needs it, and no answer
+    /// changes.
+    pub fn prepare(&mut self, window: &Window)
+        ensures { self.new ≡ self.old }
     {
-        reach_each(&mut self.files, window)
+        prepare_each(&mut self.files, window);
     }
 
     /// The occurrences that meet the window, in the order of their keys; after a key only those of
-    /// this listing that come after it. The folder has been reached for that window.
+    /// this listing that come after it.
     pub fn agenda<'a>(
         &'a self,
         window: Window,
         after: Option<&Key>,
     ) -> Result<Agenda<'a>, AllocError>
-        requires reached { IsReached self.now.files window }
         ensures listing { IfOk result (λ agenda. IsListing entry_cmp
             (IsToCome (map said_by self.entry.now.files) (display_clock self.entry.now.display) window
             (option_map (λ key. key_rank key.now) after.entry))

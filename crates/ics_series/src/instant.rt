@@ -1,7 +1,7 @@
 //! Times read as instants.
 ghost use Rattle.std.specs.Prelude.{◌≡◌};
 ghost use Rattle.ics_series.specs.Clocks.{instant, seconds_of, written};
-ghost use Rattle.ics_series.specs.Zones.{clocks_in, is_past, IsReadable};
+ghost use Rattle.ics_series.specs.Zones.{clocks_in, is_past, IsTimeOf};
 
 use crate::start::local_of;
 use crate::window::Window;
@@ -13,7 +13,7 @@ use ics_zone::Place;
 /// The instant that a time stands for: a date, by its midnight, and a floating local are read in the
 /// display zone, a zoned local in its own (RFC 5545, section 3.3.5).
 pub(crate) fn instant(zones: FileZones<'_>, time: Time) -> Moment
-    requires { IsReadable zones.zones.now time }
+    requires { IsTimeOf zones.zones.now time }
     ensures { result ≡ instant (clocks_in zones.entry) time }
 {
     match time.stamp {
@@ -25,7 +25,7 @@ pub(crate) fn instant(zones: FileZones<'_>, time: Time) -> Moment
 }
 
 /// Whether a time is written two days or more past the window's end: then it lies after it in each
-/// zone, and no zone has to be asked.
+/// zone.
 pub(crate) fn is_past(time: Time, window: &Window) -> bool
     ensures { result ≡ is_past window.now time }
 {

@@ -1,12 +1,11 @@
 //! How long an event lasts.
 ghost use Rattle.std.specs.Prelude.{◌≡◌, ◌≤ℤ◌, pos};
-ghost use Rattle.ics_values.specs.Stamps.{stamp_day, IsStampDay};
 ghost use Rattle.ics_calendar.specs.Event.{IsLength};
 ghost use Rattle.ics_series.specs.Clocks.{day_of};
 ghost use Rattle.ics_series.specs.Finish.{days_lasting, seconds_by, seconds_lasting};
-ghost use Rattle.ics_series.specs.Zones.{clocks_in, span, span_by, EndIsReadable, IsReadable, IsReadableEvent};
+ghost use Rattle.ics_series.specs.Zones.{clocks_in, IsEndOf, IsOwnEvent, IsTimeOf};
 
-use crate::instant::{instant, written};
+use crate::instant::instant;
 use crate::zones::FileZones;
 use ics_calendar::{Event, Length, Time};
 use ics_values::Stamp;
@@ -39,7 +38,7 @@ pub(crate) fn day_of(stamp: Stamp) -> i32
 
 /// How many seconds an event lasts, where each day counts 86,400 of them.
 pub(crate) fn seconds_lasting(zones: FileZones<'_>, event: &Event) -> i64
-    requires { IsReadableEvent zones event.now }
+    requires { IsOwnEvent zones event.now }
     ensures value { result ≡ seconds_lasting (clocks_in zones.entry) event.now }
     ensures least { pos 0 ≤ℤ result }
     ensures most { result ≤ℤ pos 400_000_000_000 }
@@ -48,9 +47,9 @@ pub(crate) fn seconds_lasting(zones: FileZones<'_>, event: &Event) -> i64
 }
 
 fn seconds_by(zones: FileZones<'_>, first: Time, length: Length) -> i64
-    requires first { IsReadable zones.zones.now first }
+    requires first { IsTimeOf zones.zones.now first }
     requires length { IsLength first.stamp length }
-    requires end { EndIsReadable zones.zones.now length }
+    requires end { IsEndOf zones.zones.now length }
     ensures value { result ≡ seconds_by (clocks_in zones.entry) first first.stamp length }
     ensures least { pos 0 ≤ℤ result }
     ensures most { result ≤ℤ pos 400_000_000_000 }
@@ -60,28 +59,5 @@ fn seconds_by(zones: FileZones<'_>, first: Time, length: Length) -> i64
         (_, Length::Open) => 0,
         (_, Length::Until(end)) => (instant(zones, end) - instant(zones, first)).max(0),
         (_, Length::Lasting(duration)) => duration.days as i64 * DAY + duration.seconds as i64,
-    }
-}
-
-/// How many seconds past its DTSTART the length of an event leads, as both are written.
-pub(crate) fn span(event: &Event) -> i64
-    ensures value { result ≡ span event.now }
-    ensures least { pos 0 ≤ℤ result }
-    ensures most { result ≤ℤ pos 400_000_000_000 }
-{
-    span_by(event.start.stamp, event.length)
-}
-
-fn span_by(first: Stamp, length: Length) -> i64
-    requires years { IsStampDay (stamp_day first) }
-    requires length { IsLength first length }
-    ensures value { result ≡ span_by first length }
-    ensures least { pos 0 ≤ℤ result }
-    ensures most { result ≤ℤ pos 400_000_000_000 }
-{
-    match length {
-        Length::Open => 0,
-        Length::Until(end) => (written(end.stamp) - written(first)).max(0),
-        Length::Lasting(duration) => duration.days as i64 * DAY + duration.seconds as i64,
     }
 }

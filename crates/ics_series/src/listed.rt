@@ -2,7 +2,7 @@
 ghost use Rattle.std.specs.Prelude.{◌≡◌, ◌++◌, IfOk};
 ghost use Rattle.ics_series.specs.Found.{listed_from};
 ghost use Rattle.ics_series.specs.Starts.{given_by, time_by};
-ghost use Rattle.ics_series.specs.Zones.{asked, clocks_in, AreReached, IsReadableEvent};
+ghost use Rattle.ics_series.specs.Zones.{clocks_in, IsOwnEvent};
 
 use crate::instant::{instant, is_past};
 use crate::start::{Giver, Start, date_of, local_of, time_at, time_of};
@@ -20,8 +20,7 @@ pub(crate) fn push_listed(
     event: &Event,
     window: &Window,
 ) -> Result<(), AllocError>
-    requires event { IsReadableEvent zones event.now }
-    requires reached { AreReached zones.zones.now (asked window.now event.now) }
+    requires { IsOwnEvent zones event.now }
     ensures { IfOk result (λ _. starts.new.items
         ≡ starts.old.items ++ listed_from (clocks_in zones.entry) window.now event.now.start 0 event.now.rdates) }
 {

@@ -17,7 +17,7 @@ pub(crate) struct ListedStarts {
 }
 
 impl ListedStarts {
-    ghost use Rattle.std.specs.Prelude.{◌≡◌, [], slice_get, IfOk};
+    ghost use Rattle.std.specs.Prelude.{◌≡◌, slice_get, IfOk};
     ghost use Rattle.ics_series.specs.Found.{AreFirsts};
     ghost use Rattle.ics_series.specs.Merged.{cut};
     ghost use Rattle.ics_series.specs.SeriesStarts.{listed_left};
@@ -29,16 +29,6 @@ impl ListedStarts {
         starts.sort_unstable_by(Start::compare);
         let starts = firsts(alloc, &starts)?;
         Ok(ListedStarts { starts, gone: 0 })
-    }
-
-    /// No starts.
-    pub(crate) fn none(alloc: Global) -> ListedStarts
-        ensures { listed_left result ≡ [] }
-    {
-        ListedStarts {
-            starts: Vec::new(alloc),
-            gone: 0,
-        }
     }
 
     /// The first of the starts still to come, None where there is none.

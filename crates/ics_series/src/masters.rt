@@ -13,7 +13,6 @@ ghost use Rattle.ics_series.specs.Singles.{is_single};
 ghost use Rattle.ics_series.specs.Sources.{Recurring, IsFrom};
 ghost use Rattle.ics_series.specs.Sources.Source.{Of};
 ghost use Rattle.ics_series.specs.Versions.{seen, AreChosen};
-ghost use Rattle.ics_series.specs.Zones.{IsReached};
 
 use crate::feed::Coming;
 use crate::key::Key;
@@ -40,7 +39,6 @@ pub(crate) fn push_series<'a>(
     window: Window,
     after: Option<&Key>,
 ) -> Result<(), AllocError>
-    requires reached { IsReached files.now window }
     requires chosen { AreChosen (map said_by files.now) (display_clock display.now) chosen.now }
     ensures lists { IfOk result (λ _. HasLists (map said_by files.entry.now) (display_clock display.entry.now) window
         (option_map (λ key. key_rank key.now) after.entry) (map seen chosen.entry.now)
@@ -69,7 +67,6 @@ fn series_at<'a>(
     window: Window,
     after: Option<&Key>,
 ) -> Result<Option<Series<'a>>, AllocError>
-    requires reached { IsReached files.now window }
     requires chosen { AreChosen (map said_by files.now) (display_clock display.now) chosen.now }
     requires within { place < length chosen.now }
     ensures series { (version : Version) → slice_get chosen.entry.now place ≡ Some version → IfOk result (λ given. MatchOption given

@@ -29,7 +29,7 @@ impl<'a> Occurrence<'a> {
     ghost use Rattle.std.specs.Option.{option_map};
     ghost use Rattle.ics_series.specs.Entry.{entry_cmp, entry_of};
     ghost use Rattle.ics_series.specs.Found.{met_by, IsStart};
-    ghost use Rattle.ics_series.specs.Zones.{asked, clocks_in, AreReached, IsReadableEvent};
+    ghost use Rattle.ics_series.specs.Zones.{clocks_in, IsOwnEvent};
 
     // The occurrence of an event that has a start, if it meets the window.
     pub(crate) fn within(
@@ -38,9 +38,8 @@ impl<'a> Occurrence<'a> {
         start: Start,
         window: &Window,
     ) -> Option<Occurrence<'a>>
-        requires event { IsReadableEvent zones event.now }
+        requires event { IsOwnEvent zones event.now }
         requires start { IsStart (clocks_in zones) event.now start }
-        requires reached { AreReached zones.zones.now (asked window.now event.now) }
         ensures { option_map entry_of result ≡ met_by (clocks_in zones.entry) window.now event.entry.now start }
     {
         if start.moment >= window.to {

@@ -6,12 +6,13 @@ ghost use Rattle.ics_rule.specs.Cursors.{place_of, IsCursorOf};
 ghost use Rattle.ics_rule.specs.Kept.{is_kept};
 ghost use Rattle.ics_rule.specs.Locals.{number};
 ghost use Rattle.ics_series.specs.Clocks.{instant, midnight};
+ghost use Rattle.ics_series.specs.EventLaws.{time-prop};
 ghost use Rattle.ics_series.specs.Found.{moment_cmp, start_at};
 ghost use Rattle.ics_series.specs.Rising.{Rises};
-ghost use Rattle.ics_series.specs.RuleStarts.{gives, is_behind, is_ready, lets_until, midnight_number, with_held, AreHeld, AreReadable, HasLookedTo};
-ghost use Rattle.ics_series.specs.RuleStartLaws.{cursor-prop, held-prop, looked-prop, readable-prop, rule-prop, starts-prop};
+ghost use Rattle.ics_series.specs.RuleStarts.{gives, is_behind, is_ready, lets_until, midnight_number, with_held, AreHeld, HasLookedTo};
+ghost use Rattle.ics_series.specs.RuleStartLaws.{cursor-prop, held-prop, looked-prop, rule-prop, starts-prop};
 ghost use Rattle.ics_series.specs.Starts.{local_of, recurrence_of, time_at};
-ghost use Rattle.ics_series.specs.Zones.{clocks_in, IsReadable};
+ghost use Rattle.ics_series.specs.Zones.{clocks_in, IsTimeOf};
 
 use crate::queue::put_in;
 use crate::start::{Start, local_of};
@@ -46,7 +47,7 @@ pub(crate) struct RuleStarts<'a> {
     ghost are: { AreHeld (clocks_in zones) event.now rule window asked held.items } by { held-prop (clocks_in zones) event.now rule window asked held.items },
     ghost own: { IsCursorOf rule cursor } by { cursor-prop rule cursor },
     ghost looked: { HasLookedTo rule from asked cursor } by { looked-prop rule from asked cursor },
-    ghost readable: { AreReadable zones.zones.now event.now rule end } by { readable-prop zones.zones.now event.now rule end },
+    ghost time: { IsTimeOf zones.zones.now event.now.start } by { time-prop zones.zones.now event.now.start },
     ghost first: { number rule.start ≡ number (local_of event.now.start.stamp) },
     ghost read: { midnight_number day ≤ place_of cursor },
     ghost low: { neg_ℤ (pos 719_528) ≤ℤ day },
@@ -82,7 +83,7 @@ fn hold(
 )
     requires room { deque_len held.old < deque_capacity held.old }
     requires rises { Rises moment_cmp held.old.items }
-    requires readable { IsReadable zones.zones.now (time_at event.now.start local) }
+    requires time { IsTimeOf zones.zones.now (time_at event.now.start local) }
     requires kept { is_kept rule.now (number local) ≡ true }
     requires day { IsDayNumber local.day }
     requires first { number rule.now.start ≡ number (local_of event.now.start.stamp) }
@@ -120,7 +121,7 @@ impl<'a> RuleStarts<'a> {
     ghost use Rattle.ics_series.specs.Merged.{cut};
     ghost use Rattle.ics_series.specs.RuleFeed.{starts_left, HasSameSource};
     ghost use Rattle.ics_series.specs.RuleStarts.{bound_of, found, steps_left};
-    ghost use Rattle.ics_series.specs.Zones.{asked, AreReached, IsReadableEvent};
+    ghost use Rattle.ics_series.specs.Zones.{IsOwnEvent};
 
     /// The starts by the locals from one on.
     pub(crate) fn new(
@@ -131,8 +132,7 @@ impl<'a> RuleStarts<'a> {
         rule: Rule,
         from: Local,
     ) -> Self
-        requires event { IsReadableEvent zones event.now }
-        requires reached { AreReached zones.zones.now (asked window event.now) }
+        requires event { IsOwnEvent zones event.now }
         requires rule { recurrence_of event.now ≡ Some rule }
         requires from { IsDayNumber from.day }
         ensures left { starts_left result ≡ found (clocks_in zones.entry) event.entry.now rule window (number from) }

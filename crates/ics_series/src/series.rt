@@ -1,25 +1,25 @@
 //! The occurrences of one event that meet a window, found as they are asked for.
-ghost use Rattle.std.specs.Prelude.{◌≡◌, map, slice_get, All, IfOk, MatchOption, None, OnOk};
+ghost use Rattle.std.specs.Prelude.{◌≡◌, slice_get, All, IfOk, MatchOption, None, OnOk};
 ghost use Rattle.std.specs.List.Sorted.{IsSorted};
 ghost use Rattle.std.specs.Ordering.{int_cmp};
-ghost use Rattle.ics_calendar.specs.Event.{IsEvent, IsEventOf};
 ghost use Rattle.ics_series.specs.Entry.{entry_cmp};
 ghost use Rattle.ics_series.specs.EntryLaws.{Rises-prop};
+ghost use Rattle.ics_series.specs.EventLaws.{own-event-prop};
+ghost use Rattle.ics_series.specs.Exclusions.{AreExclusions};
 ghost use Rattle.ics_series.specs.Found.{moment_cmp, IsStart};
 ghost use Rattle.ics_series.specs.Merged.{cut};
 ghost use Rattle.ics_series.specs.Rising.{Rises};
 ghost use Rattle.ics_series.specs.RuleFeed.{starts_left};
-ghost use Rattle.ics_series.specs.SeriesLaws.{event-prop, known-prop, own-rule-prop, reached-prop, ruled-prop, sound-prop, taken-out-prop};
-ghost use Rattle.ics_series.specs.SeriesStarts.{earlier_of, first_asked, first_of, given_of, is_among, left, listed_apart, rule_asked, rule_left, AreKnown, AreTakenOut, HasOwnRule, HasRuled, HasSameRule, IsReady, IsRuleFrom};
-ghost use Rattle.ics_series.specs.Zones.{asked, clocks_in, AreReached, IsReadableEvent};
-ghost use Rattle.ics_zone.specs.Tables.{phases_of};
+ghost use Rattle.ics_series.specs.SeriesLaws.{known-prop, own-rule-prop, ruled-prop, taken-out-prop};
+ghost use Rattle.ics_series.specs.SeriesStarts.{earlier_of, first_asked, first_of, given_of, is_among, left, listed_apart, rule_asked, rule_left, AreKnown, HasOwnRule, HasRuled, HasSameRule, IsReady, IsRuleFrom};
+ghost use Rattle.ics_series.specs.Zones.{clocks_in, IsOwnEvent};
 
 use crate::exclusion::Exclusions;
 use crate::feed::{Coming, Feed};
 use crate::holding::Holding;
 use crate::listed::push_listed;
 use crate::listed_starts::ListedStarts;
-use crate::met::{begins_after, shown};
+use crate::met::shown;
 use crate::occurrence::Occurrence;
 use crate::rule_starts::RuleStarts;
 use crate::start::{Start, kind_of, local_of};
@@ -46,10 +46,8 @@ pub(crate) struct Series<'a> {
     // The starts by RDATEs and, where there is no rule, that at DTSTART.
     listed: ListedStarts,
     ghost in_order: { IsSorted int_cmp overridden.items },
-    ghost sound: { IsEvent event.now } by { sound-prop event.now },
-    ghost own: { IsEventOf (map phases_of zones.zones.now) event.now } by { event-prop (map phases_of zones.zones.now) event.now },
-    ghost reached: { AreReached zones.zones.now (asked window event.now) } by { reached-prop zones.zones.now (asked window event.now) },
-    ghost taken_out: { AreTakenOut (clocks_in zones) event.now window exclusions.instants.items exclusions.days.items } by { taken-out-prop (clocks_in zones) event.now window exclusions.instants.items exclusions.days.items },
+    ghost own: { IsOwnEvent zones event.now } by { own-event-prop zones event.now },
+    ghost taken_out: { AreExclusions (clocks_in zones) event.now window exclusions.instants.items exclusions.days.items } by { taken-out-prop (clocks_in zones) event.now window exclusions.instants.items exclusions.days.items },
     ghost known: { AreKnown (clocks_in zones) event.now window (left rule_starts listed) } by { known-prop (clocks_in zones) event.now window (left rule_starts listed) },
     ghost ruled: { HasRuled (clocks_in zones) event.now rule_starts (given_of (clocks_in zones) window event.now since overridden.items (left rule_starts listed)) } by { ruled-prop (clocks_in zones) event.now rule_starts (given_of (clocks_in zones) window event.now since overridden.items (left rule_starts listed)) },
     ghost own_rule: { HasOwnRule zones event.now window (first_of (clocks_in zones) window event.now since) rule_starts } by { own-rule-prop zones event.now window (first_of (clocks_in zones) window event.now since) rule_starts },
@@ -64,8 +62,7 @@ fn listed_apart(
     event: &Event,
     window: &Window,
 ) -> Result<Vec<Start>, AllocError>
-    requires event { IsReadableEvent zones event.now }
-    requires reached { AreReached zones.zones.now (asked window.now event.now) }
+    requires { IsOwnEvent zones event.now }
     ensures { IfOk result (λ starts. starts.items ≡ listed_apart (clocks_in zones.entry) window.now event.now event.now.rule) }
 {
     let mut starts = Vec::new(alloc);
@@ -86,8 +83,7 @@ fn starts_by_rule<'a>(
     since: Moment,
     listed: &[Start],
 ) -> Option<RuleStarts<'a>>
-    requires event { IsReadableEvent zones event.now }
-    requires reached { AreReached zones.zones.now (asked window event.now) }
+    requires event { IsOwnEvent zones event.now }
     requires listed { All (IsStart (clocks_in zones) event.now) listed.now }
     ensures own { HasOwnRule zones.entry event.entry.now window (first_asked (clocks_in zones.entry) window event.entry.now since listed.entry.now) result }
     ensures from { MatchOption result (event.entry.now.rule ≡ None)
@@ -172,26 +168,13 @@ impl<'a> Series<'a> {
         since: Moment,
         overridden: Vec<Moment>,
     ) -> Result<Series<'a>, AllocError>
-        requires own { IsEventOf (map phases_of zones.zones.now) event.now }
-        requires reached { AreReached zones.zones.now (asked window event.now) }
+        requires own { IsOwnEvent zones event.now }
         requires order { IsSorted int_cmp overridden.items }
         ensures listing { IfOk result (λ series. IsListing entry_cmp
             (IsSeriesMet (clocks_in zones.entry) event.entry.now window since overridden.items)
             (⟦<Series<'a> as Coming>⟧.coming series)) }
         ensures sources { IfOk result (λ series. series_sources series ≡ source_of (clocks_in zones.entry) event.entry.now window since) }
     {
-        if begins_after(event, &window) {
-            return Ok(Series {
-                zones,
-                event,
-                window,
-                since,
-                exclusions: Exclusions::none(alloc),
-                overridden,
-                rule_starts: None,
-                listed: ListedStarts::none(alloc),
-            });
-        }
         let exclusions = Exclusions::new(alloc, zones, event, &window)?;
         let listed = listed_apart(alloc, zones, event, &window)?;
         let rule_starts = starts_by_rule(alloc, zones, event, window, since, &listed);

@@ -1,14 +1,11 @@
 //! The occurrence of an event that starts once.
 ghost use Rattle.std.specs.Prelude.{◌≡◌, ◌<ℤ◌, pos};
-ghost use Rattle.std.proofs.Props.{props};
-ghost use Rattle.ics_calendar.specs.declared.time.Rdate.TheVariants.{At};
 ghost use Rattle.ics_series.specs.Clocks.{instant};
-ghost use Rattle.ics_series.specs.ReadingLaws.{readable-prop};
-ghost use Rattle.ics_series.specs.Zones.{asked_at, clocks_in, AreReached, IsReadableEvent};
+ghost use Rattle.ics_series.specs.EventLaws.{own-event-prop};
+ghost use Rattle.ics_series.specs.Zones.{clocks_in, IsOwnEvent};
 
 use crate::finish::finish;
 use crate::instant::instant;
-use crate::met::begins_after;
 use crate::occurrence::Occurrence;
 use crate::start::{Giver, Start, local_of};
 use crate::window::Window;
@@ -25,21 +22,19 @@ pub(crate) struct Single<'a> {
     recurrence: Moment,
     zones: FileZones<'a>,
     event: &'a Event,
-    ghost readable: { IsReadableEvent zones event.now } by { readable-prop zones event.now },
+    ghost own: { IsOwnEvent zones event.now } by { own-event-prop zones event.now },
     ghost first: { start ≡ instant (clocks_in zones) event.now.start },
     ghost early: { start <ℤ pos 247_091_126_400 },
-    ghost reached: { AreReached zones.zones.now (asked_at event.now start (At event.now.start)) } by { Prim.hlevel props },
 }
 
 impl<'a> Single<'a> {
     ghost use Rattle.std.specs.Prelude.{map};
     ghost use Rattle.std.specs.Option.{option_map};
     ghost use Rattle.ics_calendar.specs.Event.{IsEventOf};
+    ghost use Rattle.ics_zone.specs.Observances.{phases_of};
     ghost use Rattle.ics_series.specs.Entry.{entry_cmp, entry_of};
     ghost use Rattle.ics_series.specs.Found.{IsStart};
     ghost use Rattle.ics_series.specs.Singles.{begun_first, single_entry};
-    ghost use Rattle.ics_series.specs.Zones.{asked};
-    ghost use Rattle.ics_zone.specs.Tables.{phases_of};
 
     // What an event gives at its DTSTART, if that is before the window's end. It stands for the
     // instance at `recurrence`, or for its own start.
@@ -49,13 +44,9 @@ impl<'a> Single<'a> {
         recurrence: Option<Moment>,
         window: &Window,
     ) -> Option<Single<'a>>
-        requires own { IsEventOf (map phases_of zones.zones.now) event.now }
-        requires reached { AreReached zones.zones.now (asked window.now event.now) }
+        requires { IsEventOf (map phases_of zones.zones.now) event.now }
         ensures { option_map single_entry result ≡ begun_first (clocks_in zones.entry) window.now event.entry.now recurrence }
     {
-        if begins_after(event, window) {
-            return None;
-        }
         let start = instant(zones, event.start);
         if start >= window.to {
             return None;

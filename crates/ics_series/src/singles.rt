@@ -14,7 +14,6 @@ ghost use Rattle.ics_series.specs.Rising.{Rises};
 ghost use Rattle.ics_series.specs.Singles.{is_single, is_to_come, single_at, single_entry, AreSingle, AreSingle-prop, IsSingleToCome};
 ghost use Rattle.ics_series.specs.Spots.{event_at};
 ghost use Rattle.ics_series.specs.Versions.{is_override, seen, subject_cmp, subject_seen, AreChosen};
-ghost use Rattle.ics_series.specs.Zones.{IsReached};
 
 use crate::agenda::{is_after, is_kept};
 use crate::feed::{Coming, Feed};
@@ -49,7 +48,6 @@ impl<'a> Singles<'a> {
         window: &Window,
         after: Option<&Key>,
     ) -> Result<Singles<'a>, AllocError>
-        requires reached { IsReached files.now window.now }
         requires chosen { AreChosen (map said_by files.now) (display_clock display.now) chosen.now }
         requires overrides { map seen overrides.now ≡ filter is_override (map seen chosen.now) }
         ensures { IfOk result (λ singles. IsListing entry_cmp
@@ -117,7 +115,6 @@ fn to_come<'a>(
     window: &Window,
     after: Option<&Key>,
 ) -> Result<Vec<Single<'a>>, AllocError>
-    requires reached { IsReached files.now window.now }
     requires chosen { AreChosen (map said_by files.now) (display_clock display.now) chosen.now }
     requires overrides { IsSorted (on (λ v. subject_seen v.subject) subject_cmp) overrides.now }
     ensures { IfOk result (λ singles. map single_entry singles.items
@@ -143,7 +140,6 @@ fn given<'a>(
     after: Option<&Key>,
 ) -> Option<Single<'a>>
     requires there { IsSome (event_at (map said_by files.now) version.now.spot) }
-    requires reached { IsReached files.now window.now }
     requires overrides { IsSorted (on (λ v. subject_seen v.subject) subject_cmp) overrides.now }
     ensures { option_map single_entry result
         ≡ single_at (map said_by files.entry.now) (display_clock display.entry.now) window.now

@@ -1,6 +1,6 @@
 //! Where an event of a folder stands.
 ghost use Rattle.std.specs.Prelude.{◌≡◌, Some, IsSome, map};
-ghost use Rattle.ics_calendar.specs.Event.{said_by, EventSeen, IsEventOf};
+ghost use Rattle.ics_calendar.specs.Event.{said_by, IsEventOf};
 
 use crate::zones::FileZones;
 use ics_calendar::{Event, FileEvents};
@@ -17,9 +17,8 @@ impl Spot {
     ghost use Rattle.ics_series.specs.Clocks.{display_clock};
     ghost use Rattle.ics_series.specs.Placed.{clocks_at, zones_in};
     ghost use Rattle.ics_series.specs.Spots.{event_at};
-    ghost use Rattle.ics_series.specs.Zones.{asked, clocks_in, AreReached, IsReached};
-    ghost use Rattle.ics_series.specs.declared.window.Window.{Window};
-    ghost use Rattle.ics_zone.specs.Tables.{phases_of};
+    ghost use Rattle.ics_series.specs.Zones.{clocks_in};
+    ghost use Rattle.ics_zone.specs.Observances.{phases_of};
 
     // The event that stands there.
     pub(crate) fn event<'a>(self, files: &'a [FileEvents]) -> &'a Event
@@ -37,8 +36,6 @@ impl Spot {
         ensures zones { map phases_of result.zones.now ≡ zones_in (map said_by files.entry.now) self.file }
         ensures clocks { clocks_in result
             ≡ clocks_at (map said_by files.entry.now) (display_clock display.entry.now) self.file }
-        ensures reached { (window : Window) (event : EventSeen) → event_at (map said_by files.entry.now) self ≡ Some event
-            → IsReached files.entry.now window → AreReached result.zones.now (asked window event) }
     {
         let file = &files[self.file];
         FileZones {

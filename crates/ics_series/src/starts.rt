@@ -6,7 +6,7 @@ ghost use Rattle.ics_rule.specs.Locals.{number};
 ghost use Rattle.ics_series.specs.Clocks.{midnight, seconds_of};
 ghost use Rattle.ics_series.specs.Found.{earliest, firsts_after, is_at, is_span_met, is_until, start_at, IsStart};
 ghost use Rattle.ics_series.specs.Starts.{time_at};
-ghost use Rattle.ics_series.specs.Zones.{asked, clocks_in, AreReached, IsReadable, IsReadableEvent};
+ghost use Rattle.ics_series.specs.Zones.{clocks_in, IsOwnEvent, IsTimeOf};
 
 use crate::instant::instant;
 use crate::lasting::seconds_lasting;
@@ -22,7 +22,7 @@ const DAY: i64 = 86_400;
 
 // The start by a local that DTSTART has or the rule keeps.
 pub(crate) fn start_at(zones: FileZones<'_>, event: &Event, local: Local) -> Start
-    requires { IsReadable zones.zones.now (time_at event.now.start local) }
+    requires { IsTimeOf zones.zones.now (time_at event.now.start local) }
     ensures { result ≡ start_at (clocks_in zones.entry) event.now local }
 {
     let time = time_at(event.start, local);
@@ -42,8 +42,7 @@ pub(crate) fn earliest(
     window: &Window,
     starts: &[Start],
 ) -> Moment
-    requires event { IsReadableEvent zones event.now }
-    requires reached { AreReached zones.zones.now (asked window.now event.now) }
+    requires event { IsOwnEvent zones event.now }
     requires starts { All (IsStart (clocks_in zones) event.now) starts.now }
     ensures value { result ≡ earliest (clocks_in zones.entry) window.now event.now starts.now }
     ensures late { neg_ℤ (pos 500_000_000_000) ≤ℤ result }
@@ -60,8 +59,7 @@ pub(crate) fn earliest(
 
 // Whether a start by a PERIOD meets the window by its own length.
 fn is_span_met(zones: FileZones<'_>, event: &Event, start: Start, window: &Window) -> bool
-    requires event { IsReadableEvent zones event.now }
-    requires reached { AreReached zones.zones.now (asked window.now event.now) }
+    requires event { IsOwnEvent zones event.now }
     requires start { IsStart (clocks_in zones) event.now start }
     ensures { result ≡ is_span_met (clocks_in zones.entry) window.now event.now start start.given }
 {

@@ -1,11 +1,11 @@
 //! The versions of the events of a folder.
-ghost use Rattle.std.specs.Prelude.{◌≡◌, ◌++◌, map, All, IfOk};
+ghost use Rattle.std.specs.Prelude.{◌≡◌, ◌++◌, map, IfOk};
 ghost use Rattle.ics_calendar.specs.Event.{said_by, AreEventsOf, IsEventOf};
 ghost use Rattle.ics_series.specs.Chosen.{overridden};
 ghost use Rattle.ics_series.specs.Clocks.{display_clock};
 ghost use Rattle.ics_series.specs.Versions.{label_by, label_of, placed_from, placed_in, seen};
-ghost use Rattle.ics_series.specs.Zones.{clocks_in, AreNamesReached, IsNameReached};
-ghost use Rattle.ics_zone.specs.Tables.{phases_of};
+ghost use Rattle.ics_series.specs.Zones.{clocks_in};
+ghost use Rattle.ics_zone.specs.Observances.{phases_of};
 
 use crate::instant::instant;
 use crate::spot::Spot;
@@ -37,7 +37,6 @@ pub(crate) fn versions<'a>(
     files: &'a [FileEvents],
     display: &Display,
 ) -> Result<Vec<Version<'a>>, AllocError>
-    requires { AreNamesReached files.now }
     ensures { IfOk result (λ versions. map seen versions.items
         ≡ map (label_of (map said_by files.entry.now) (display_clock display.now)) (placed_in 0 (map said_by files.entry.now))) }
 {
@@ -60,7 +59,6 @@ fn push_versions<'a>(
     events: &'a [Event],
 ) -> Result<(), AllocError>
     requires own { AreEventsOf (map phases_of zones.zones.now) events.now }
-    requires reached { All (IsNameReached zones.zones.now) events.now }
     ensures { IfOk result (λ _. map seen versions.new.items
         ≡ map seen versions.old.items ++ map (label_by (clocks_in zones.entry)) (placed_from file 0 events.entry.now)) }
 {
@@ -81,7 +79,6 @@ fn push_versions<'a>(
 // The instance of its UID that an event overrides.
 fn overridden(zones: FileZones<'_>, event: &Event) -> Option<Moment>
     requires own { IsEventOf (map phases_of zones.zones.now) event.now }
-    requires reached { IsNameReached zones.zones.now event.now }
     ensures { result ≡ overridden (clocks_in zones.entry) event.now }
 {
     match event.recurrence {

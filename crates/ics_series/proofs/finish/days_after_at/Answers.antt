@@ -12,19 +12,12 @@ overflow_add-local g c =
     let near : IsNear (g.P.Place.offset_at c.args.place.now c.args.start) = g.met.P.Place.near c.args.place.now c.args.start in
     omega (arith, ints, shown, near)
 
-pub moment-requires-clause-day : goal.moment-requires-clause-day
-moment-requires-clause-day g c =
+pub moment-requires : goal.moment-requires
+moment-requires g c =
     let fits : SFits w64 c.args.start = c.ranges.start in
     let shown = simp to_z-of_z at c.local-local.ensures in
     let near : IsNear (g.P.Place.offset_at c.args.place.now c.args.start) = g.met.P.Place.near c.args.place.now c.args.start in
     (omega (arith, ints, shown, near), omega (arith, ints, shown, near))
-
-pub moment-requires-clause-reached : goal.moment-requires-clause-reached
-moment-requires-clause-reached g c =
-    let fits : SFits w64 c.args.start = c.ranges.start in
-    let shown = simp to_z-of_z at c.local-local.ensures in
-    let near : IsNear (g.P.Place.offset_at c.args.place.now c.args.start) = g.met.P.Place.near c.args.place.now c.args.start in
-    omega (arith, ints, shown, near, c.requires.reached)
 
 pub returns-clause-value : goal.returns-clause-value
 returns-clause-value g c =

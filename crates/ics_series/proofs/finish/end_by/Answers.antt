@@ -1,28 +1,27 @@
 use Rattle.std.proofs.Common.{◌≡◌, pos, neg_ℤ, ◌+ℤ◌, ◌-ℤ◌, ◌≤ℤ◌, ◌∙◌, ap, sym, subst, w64, to_z, of_z, arith}
 use Rattle.std.proofs.lemmas.Int.{ints}
-use Rattle.ics_calendar.specs.declared.time.Length.TheVariants.{Lasting, Until}
+use Rattle.ics_calendar.specs.declared.time.Length.TheVariants.{Until}
 use Rattle.ics_calendar.specs.Event.{IsLength}
 use Rattle.ics_series.specs.Clocks.{instant}
 use Rattle.ics_series.specs.Finish.{end_by}
-use Rattle.ics_series.specs.Zones.{clocks_in, span_by, AreReached, EndIsReadable, EndsNear}
+use Rattle.ics_series.specs.Zones.{clocks_in, EndsNear, IsEndOf}
 use Rattle.ics_series.proofs.GiverLemmas.{day-years}
 use Rattle.ics_series.proofs.InstantLemmas.{early, instant-near, late, until}
 use Rattle.ics_series.proofs.NearLemmas.{day-written}
-use Rattle.ics_series.proofs.ZoneLemmas.{reached-less}
 use Rattle.ics_series.proofs.finish.end_by.Goals as goal
 
 pub midnight_after-requires-clause-early : goal.midnight_after-requires-clause-early
 midnight_after-requires-clause-early c =
-    let years = day-years c.args.given c.requires.given in
+    let years = day-years c.args.given c.requires.given.is_time in
     omega (arith, ints, c.day_of.ensures, c.requires.start, c.requires.early, instant-near c.args.zones c.args.given, day-written c.args.given.stamp, years.0, years.1)
 
 pub midnight_after-requires-clause-late : goal.midnight_after-requires-clause-late
 midnight_after-requires-clause-late c =
-    let years = day-years c.args.given c.requires.given in
+    let years = day-years c.args.given c.requires.given.is_time in
     omega (arith, ints, c.day_of.ensures, years.0, years.1)
 
 pub instant-requires : goal.instant-requires
-instant-requires c = subst (EndIsReadable c.args.zones.zones.now) c.in_default-Until.is-1 c.requires.end
+instant-requires c = subst (IsEndOf c.args.zones.zones.now) c.in_default-Until.is-1 c.requires.end
 
 pub overflow_sub-result : goal.overflow_sub-result
 overflow_sub-result c =
@@ -40,21 +39,17 @@ overflow_add-result c =
     let b = late c.args.zones c.in_default-Until.end length.0 in
     let d = early c.args.zones c.args.first c.requires.first.is_time in
     let e = late c.args.zones c.args.first c.requires.first.is_time in
-    let from = late c.args.zones c.args.given c.requires.given in
+    let from = late c.args.zones c.args.given c.requires.given.is_time in
     omega (arith, ints, c.instant.ensures, c.instant-in_default-Until.ensures, a, b, d, e, from, c.requires.start, c.requires.early)
 
 pub later_by-requires : goal.later_by-requires
 later_by-requires c =
-    let from : neg_ℤ (pos 62_135_769_600) ≤ℤ instant (clocks_in c.args.zones) c.args.given = late c.args.zones c.args.given c.requires.given in
-    let reached : AreReached c.args.zones.zones.now ((c.args.start +ℤ span_by c.args.first.stamp (Lasting c.in_default-Lasting.duration)) +ℤ pos 345_600) =
-    subst (λ length. AreReached c.args.zones.zones.now ((c.args.start +ℤ span_by c.args.first.stamp length) +ℤ pos 345_600)) c.in_default-Lasting.is-1 c.requires.reached in
+    let from : neg_ℤ (pos 62_135_769_600) ≤ℤ instant (clocks_in c.args.zones) c.args.given = late c.args.zones c.args.given c.requires.given.is_time in
     record {
-      zone = c.requires.within;
-      own = c.requires.given.zone;
+      time = c.requires.given;
       late = omega (arith, ints, c.requires.start, from);
       early = omega (arith, ints, c.requires.early);
       short = subst (IsLength c.args.first.stamp) c.in_default-Lasting.is-1 c.requires.length;
-      reached = reached-less c.args.zones.zones.now _ _ (omega (arith, ints)) reached;
     }
 
 pub returns-in_default-Until : goal.returns-in_default-Until
@@ -68,7 +63,7 @@ returns-in_default-Until c =
     let b = late c.args.zones c.in_default-Until.end length.0 in
     let d = early c.args.zones c.args.first c.requires.first.is_time in
     let e = late c.args.zones c.args.first c.requires.first.is_time in
-    let from = late c.args.zones c.args.given c.requires.given in
+    let from = late c.args.zones c.args.given c.requires.given.is_time in
     let near : EndsNear (clocks_in c.args.zones) c.args.first (Until c.in_default-Until.end) = subst (EndsNear (clocks_in c.args.zones) c.args.first) c.in_default-Until.is-1 c.requires.near in
     let back : to_z w64 (of_z w64 (to_z w64 (of_z w64 c.args.start) +ℤ to_z w64 (of_z w64 (to_z w64 (of_z w64 c.instant.result) -ℤ to_z w64 (of_z w64 c.instant-in_default-Until.result)))))
     ≡ instant clocks given +ℤ (instant clocks end -ℤ instant clocks first) =

@@ -6,7 +6,7 @@ use Rattle.ics_series.proofs.finish.span_end.Goals as goal
 
 pub later_by-requires-clause-late : goal.later_by-requires-clause-late
 later_by-requires-clause-late c =
-    let from = late c.args.zones c.args.given c.requires.given in
+    let from = late c.args.zones c.args.given c.requires.given.is_time in
     omega (arith, ints, c.requires.start, from)
 
 pub returns-in-Until-clause-early : goal.returns-in-Until-clause-early

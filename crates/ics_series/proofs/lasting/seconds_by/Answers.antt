@@ -5,12 +5,12 @@ use Rattle.ics_calendar.specs.declared.time.Length.TheVariants.{Until}
 use Rattle.ics_calendar.specs.Event.{IsLasting, IsLength}
 use Rattle.ics_series.specs.Clocks.{instant}
 use Rattle.ics_series.specs.Finish.{seconds_by}
-use Rattle.ics_series.specs.Zones.{clocks_in, EndIsReadable}
+use Rattle.ics_series.specs.Zones.{clocks_in, IsEndOf}
 use Rattle.ics_series.proofs.InstantLemmas.{early, late, lasting-seconds, until-seconds}
 use Rattle.ics_series.proofs.lasting.seconds_by.Goals as goal
 
 pub instant-requires : goal.instant-requires
-instant-requires c = subst (EndIsReadable c.args.zones.zones.now) c.in_default-Until.is-1 c.requires.end
+instant-requires c = subst (IsEndOf c.args.zones.zones.now) c.in_default-Until.is-1 c.requires.end
 
 pub overflow_sub-instant : goal.overflow_sub-instant
 overflow_sub-instant c =

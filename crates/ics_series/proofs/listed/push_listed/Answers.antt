@@ -1,11 +1,12 @@
 use Rattle.std.specs.Prelude.{slice_get}
-use Rattle.std.proofs.Common.{◌≡◌, Some, false, List, length, refl, sym, ◌∙◌, ap, subst}
+use Rattle.std.proofs.Common.{◌≡◌, Some, List, length, refl, sym, ◌∙◌, ap, subst}
 use Rattle.std.proofs.lemmas.Option.{slice_get_read}
 use Rattle.ics_calendar.specs.declared.event.Event.{Event}
 use Rattle.ics_calendar.specs.declared.time.Rdate.{Rdate}
+use Rattle.ics_series.specs.declared.start.Giver.TheVariants.{Listed}
 use Rattle.ics_series.specs.Starts.{given_by, time_of}
-use Rattle.ics_series.specs.Zones.{is_past, IsReadable}
-use Rattle.ics_series.proofs.ZoneLemmas.{listed-readable}
+use Rattle.ics_series.specs.Zones.{IsTimeOf}
+use Rattle.ics_series.proofs.ZoneLemmas.{given-time}
 use Rattle.ics_series.proofs.listed.push_listed.Goals as goal
 
 pub instant-requires : goal.instant-requires
@@ -17,7 +18,5 @@ instant-requires c =
     subst (λ (xs : List Rdate). slice_get xs c.loop-place.place ≡ Some r) items
     (slice_get_read c.deref-rdate-items.result.now (length c.deref-rdate-items.result.now) c.loop-place.place r refl c.loop-place-test.true c.rdate-item.is) in
     let given : c.given_by-given.result ≡ given_by event.start r = c.given_by-given.ensures ∙ ap (λ (v : Event). given_by v.start r) c.event.view_is in
-    let early : is_past c.args.window.now (time_of (given_by event.start r)) ≡ false =
-    ap (is_past c.args.window.now) (sym (c.time_of.ensures ∙ ap time_of given)) ∙ (sym c.is_past.ensures ∙ c.if-not-is_past.true) in
-    subst (IsReadable c.args.zones.zones.now) (sym (c.time_of-then-not-is_past.ensures ∙ ap time_of given))
-    (listed-readable c.args.zones c.args.window.now event c.loop-place.place r c.requires.reached c.requires.event there early)
+    subst (IsTimeOf c.args.zones.zones.now) (sym (c.time_of-then-not-is_past.ensures ∙ ap time_of given))
+    (given-time c.args.zones event (Listed c.loop-place.place) (given_by event.start r) c.requires (r, there, refl))

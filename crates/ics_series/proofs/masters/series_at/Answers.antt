@@ -17,6 +17,7 @@ use Rattle.ics_series.specs.Zones.{clocks_in}
 use Rattle.ics_series.proofs.GivenLemmas.{stands}
 use Rattle.ics_series.proofs.OverriddenLemmas.{chosen-order}
 use Rattle.ics_series.proofs.RecurringLemmas.{not-single, own-subject, series-listing, single-none, there-in, version-there, whole-version}
+use Rattle.ics_series.proofs.ZoneLemmas.{own-event}
 use Rattle.ics_series.proofs.masters.series_at.Goals as goal
 
 abbrev none : Version
@@ -50,6 +51,10 @@ overridden_instants-requires-clause-master c =
     ∙ ap Some (own-subject files display c.args.window (option_map (λ key. key_rank key.now) c.args.after) c.args.chosen.now c.requires.chosen (seen v) (there-in seen c.args.chosen.now c.args.place v there) c.event-event.result.now c.event-event.ensures.event recurs
     ∙ ap (λ u. record { uid = u; recurrence = None }) (sym uid))
 
+pub new-requires-clause-own : goal.new-requires-clause-own
+new-requires-clause-own c =
+    own-event c.zones-zones.result c.event-event.result.now (search rules) (subst (λ zs. IsEventOf zs c.event-event.result.now) (sym c.zones-zones.ensures.zones) c.event-event.ensures.own)
+
 pub returns-clause-series : goal.returns-clause-series
 returns-clause-series c = λ version there.
     let files = map said_by c.args.files.now in
@@ -82,12 +87,10 @@ returns-clause-whole c = λ version there.
     let uid : c.as_slice-2.result.now ≡ c.event-event.result.now.uid = c.as_slice-2.ensures ∙ ap (λ (e : Event). e.uid) c.event.view_is in
     let is_event : IsEvent c.event-event.result.now = search rules in
     let are = subst (λ u. AreOverridden u (map seen c.args.chosen.now) c.in_ok-overridden.overridden.items) uid c.in_ok-overridden.ensures.overridden in
-    let own = subst (λ zs. IsEventOf zs c.event-event.result.now) (sym c.zones-zones.ensures.zones) c.event-event.ensures.own in
-    let reached = c.zones-zones.ensures.reached c.args.window c.event-event.result.now c.event-event.ensures.event c.requires.reached in
     subst (λ (v : Version). HasWhole (map said_by c.args.files.now) (display_clock c.args.display.now) c.args.window (seen v))
     (version-there c.args.chosen.now c.args.place none version c.requires.within there)
     (whole-version files display c.args.window c.args.chosen.now c.requires.chosen (seen v) (there-in seen c.args.chosen.now c.args.place v stands) c.event-event.result.now c.event-event.ensures.event recurs
-    c.zones-zones.result c.zones-zones.ensures.clocks is_event reached own c.in_ok-overridden.overridden.items are)
+    c.zones-zones.result c.zones-zones.ensures.clocks is_event c.in_ok-overridden.overridden.items are)
 
 pub returns-clause-sources : goal.returns-clause-sources
 returns-clause-sources c = λ version there.

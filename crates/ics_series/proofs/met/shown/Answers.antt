@@ -1,4 +1,4 @@
-use Rattle.std.proofs.Common.{◌≡◌, ◌<ℤ◌, w64, to_z, of_z, Some, option_map, sym, ◌∙◌, ap, subst, arith}
+use Rattle.std.proofs.Common.{◌≡◌, ◌<ℤ◌, w64, to_z, of_z, Some, option_map, sym, ◌∙◌, ap, arith}
 use Rattle.std.proofs.lemmas.Int.{ints}
 use Rattle.ics_calendar.specs.declared.event.Event.{Event}
 use Rattle.ics_series.specs.Clocks.{clock_of, instant}
@@ -6,10 +6,9 @@ use Rattle.ics_series.specs.Entry.{Entry, entry_of}
 use Rattle.ics_series.specs.Exclusions.{is_excluded, takes_out}
 use Rattle.ics_series.specs.Meeting.{entry_from}
 use Rattle.ics_series.specs.Starts.{time_of}
-use Rattle.ics_series.specs.Zones.{asked, clocks_in, AreReached}
+use Rattle.ics_series.specs.Zones.{clocks_in}
 use Rattle.ics_series.proofs.MeetingLemmas.{is_met-meets}
 use Rattle.ics_series.proofs.MetLemmas.{met-some, shown-none, shown-some, unmet}
-use Rattle.ics_series.proofs.ZoneLemmas.{asked-start, reached-less}
 use Rattle.ics_series.proofs.met.shown.Goals as goal
 
 pub returns-in_err-occurrence : goal.returns-in_err-occurrence
@@ -27,20 +26,6 @@ has-requires-clause-early c =
     let start : c.in_ok-occurrence.occurrence.start ≡ instant (clocks_in c.args.zones) (time_of c.args.start.given) = ap (λ (e : Entry). e.start) met.1 in
     let begun : instant (clocks_in c.args.zones) (time_of c.args.start.given) <ℤ c.args.window.now.to = (is_met-meets w (entry_from clocks event s.given) met.0).begun in
     omega (arith, ints, c.type_inv.occurrence, start, begun, w.not_late)
-
-pub has-requires-clause-reached : goal.has-requires-clause-reached
-has-requires-clause-reached c =
-    let clocks = clocks_in c.args.zones in
-    let event = c.args.event.now in
-    let w = c.args.window.now in
-    let s = c.args.start in
-    let o = c.in_ok-occurrence.occurrence in
-    let met = met-some clocks w event s (entry_of o) (sym c.in_ok-occurrence.ensures) in
-    let start : c.in_ok-occurrence.occurrence.start ≡ instant (clocks_in c.args.zones) (time_of c.args.start.given) = ap (λ (e : Entry). e.start) met.1 in
-    let begun : instant (clocks_in c.args.zones) (time_of c.args.start.given) <ℤ c.args.window.now.to = (is_met-meets w (entry_from clocks event s.given) met.0).begun in
-    let fits : to_z w64 (of_z w64 c.in_ok-occurrence.occurrence.start) ≡ c.in_ok-occurrence.occurrence.start = omega (arith, ints, o.not_early, o.forward, o.not_late) in
-    subst (AreReached c.args.zones.zones.now) (sym (fits ∙ start))
-    (reached-less c.args.zones.zones.now (instant clocks (time_of s.given)) (asked w event) (asked-start c.args.zones w event s.giver s.given c.requires.start.gives begun) c.requires.reached)
 
 pub returns-then-has : goal.returns-then-has
 returns-then-has c =

@@ -6,12 +6,8 @@ use Rattle.ics_series.specs.Entry.{entry_cmp, key_rank}
 use Rattle.ics_series.specs.Listing.{IsListing}
 use Rattle.ics_series.specs.Meets.{IsToCome}
 use Rattle.ics_series.specs.Sources.{AreApart, AreSources}
-use Rattle.ics_series.proofs.NameLemmas.{names-reached}
 use Rattle.ics_series.proofs.PartLemmas.{behind-key}
 use Rattle.ics_series.proofs.agenda.Agenda.new.Goals as goal
-
-pub chosen-requires : goal.chosen-requires
-chosen-requires c = names-reached c.args.files.now c.args.window c.requires.reached
 
 pub returns : goal.returns
 returns c =

@@ -6,16 +6,9 @@ use Rattle.ics_calendar.specs.declared.event.Event.{Event}
 use Rattle.ics_calendar.specs.declared.time.Time.{Time}
 use Rattle.ics_series.specs.Clocks.{clock_of}
 use Rattle.ics_series.specs.Exclusions.{excludes, takes_out}
-use Rattle.ics_series.specs.Zones.{asked, clocks_in}
+use Rattle.ics_series.specs.Zones.{clocks_in}
 use Rattle.ics_series.proofs.ExclusionLemmas.{sorted-takes_out}
-use Rattle.ics_series.proofs.ZoneLemmas.{asked-excluded, reached-less}
 use Rattle.ics_series.proofs.exclusion.Exclusions.new.Goals as goal
-
-pub push_exdate-requires-clause-reached : goal.push_exdate-requires-clause-reached
-push_exdate-requires-clause-reached c =
-    let items : c.deref-exdate-items.result.now ≡ c.args.event.now.exdates = c.deref-exdate-items.ensures.value ∙ ap (λ (v : Event). v.exdates) c.event.view_is in
-    let there : c.loop-exdate.exdate-index < length c.args.event.now.exdates = subst (λ (xs : List Time). c.loop-exdate.exdate-index < length xs) items c.loop-exdate-test.true in
-    reached-less c.args.zones.zones.now _ (asked c.args.window.now c.args.event.now) (asked-excluded c.args.window.now c.args.event.now c.loop-exdate.exdate-index there) c.requires.reached
 
 pub loop-exdate-preserved : goal.loop-exdate-preserved
 loop-exdate-preserved c = λ t early.

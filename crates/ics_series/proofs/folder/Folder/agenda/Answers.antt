@@ -1,4 +1,4 @@
-use Rattle.std.proofs.Common.{◌≡◌, ◌∙◌, List, map, ap, sym, subst}
+use Rattle.std.proofs.Common.{◌≡◌, List, map, subst}
 use Rattle.std.specs.Prelude.{IfOk}
 use Rattle.std.specs.List.{flat_map}
 use Rattle.std.specs.Option.{option_map}
@@ -15,13 +15,7 @@ use Rattle.ics_series.specs.Meets.{IsListed, IsToCome}
 use Rattle.ics_series.specs.Merged.{merged}
 use Rattle.ics_series.specs.Parts.{part_coming, part_sources}
 use Rattle.ics_series.specs.Sources.{AreSources, Source}
-use Rattle.ics_series.specs.Zones.{IsReached}
 use Rattle.ics_series.proofs.folder.Folder.agenda.Goals as goal
-
-pub new-requires : goal.new-requires
-new-requires c =
-    let read : c.args.self.now.files ≡ c.deref.result.now = sym (c.deref.ensures.value ∙ ap (λ (v : Contents). v.files) c.self.view_is) in
-    record { reached = subst (λ (files : List FileEvents). IsReached files c.args.window) read c.requires.reached }
 
 abbrev coming : Agenda → List Entry
 coming agenda = merged entry_cmp (map (λ l. past agenda.merge.last (listed l.head (part_coming l.feed))) agenda.merge.leads.items)

@@ -6,9 +6,8 @@ use Rattle.ics_rule.specs.Locals.{number}
 use Rattle.ics_series.specs.Found.{moment_cmp}
 use Rattle.ics_series.specs.Listing.{IsIn}
 use Rattle.ics_series.specs.Rising.{Rises}
-use Rattle.ics_series.specs.RuleStarts.{AreReadable}
 use Rattle.ics_series.proofs.RuleDayLemmas.{come-empty}
-use Rattle.ics_series.proofs.RuleLocalLemmas.{kept-readable, rule-first}
+use Rattle.ics_series.proofs.RuleLocalLemmas.{rule-first}
 use Rattle.ics_series.proofs.rule_starts.RuleStarts.new.Goals as goal
 
 pub invariant_of-result : goal.invariant_of-result
@@ -23,9 +22,7 @@ invariant_of-result c =
       are = λ s m. absurd (subst (IsIn s) c.new.ensures.items m);
       own = c.at.ensures.own;
       looked = λ before h. c.at.ensures.looked before;
-      readable = subst (AreReadable c.args.zones.zones.now c.args.event.now c.args.rule) (sym end)
-          (kept-readable c.args.zones.zones.now w c.args.event.now c.args.rule c.end_nearby-end.result c.requires.rule c.requires.reached c.requires.event.start c.end_nearby-end.ensures.day
-          (omega (arith, ints, c.end_nearby-end.ensures.soon)));
+      time = c.requires.event.start;
       first = ap (λ (l : Local). number l) (rule-first c.args.event.now c.args.rule c.requires.rule);
       read = omega (arith, ints, c.at.ensures.place, day, end, from, c.min-day.ensures.value, int_min_is, c.requires.from.0, c.requires.from.1, c.end_nearby-end.ensures.day.0, c.end_nearby-end.ensures.day.1);
       low = omega (arith, ints, day, end, from, c.min-day.ensures.value, int_min_is, c.requires.from.0, c.end_nearby-end.ensures.day.0);

@@ -10,7 +10,7 @@ use Rattle.ics_series.specs.Rising.{Rises}
 use Rattle.ics_series.specs.RuleStarts.{bound_of, midnight_number, AreHeld}
 use Rattle.ics_series.specs.Zones.{clocks_in}
 use Rattle.ics_series.proofs.RuleReadLemmas.{behind-early}
-use Rattle.ics_series.proofs.RuleStepLemmas.{bound-days, bound-early, none-asked, none-held, none-less, none-same, one-asked, one-held, one-less, one-on, one-readable, one-rises, one-same, within}
+use Rattle.ics_series.proofs.RuleStepLemmas.{bound-days, bound-early, none-asked, none-held, none-less, none-same, one-asked, one-held, one-less, one-on, one-time, one-rises, one-same, within}
 use Rattle.ics_series.proofs.rule_starts.RuleStarts.read_on.Goals as goal
 
 pub bound-bound-requires : goal.bound-bound-requires
@@ -26,7 +26,7 @@ invariant_of-self c =
       are = subst (AreHeld (clocks_in s.zones) s.event.now s.rule s.window s.asked) (sym held) s.are;
       own = s.own;
       looked = s.looked;
-      readable = s.readable;
+      time = s.time;
       first = s.first;
       read = s.read;
       low = s.low;
@@ -66,7 +66,7 @@ invariant_of-self-in-None c =
       are = subst (AreHeld (clocks_in s.zones) s.event.now s.rule s.window bound) (sym held) (none-held s c.requires bound is);
       own = c.in-None.ensures.own;
       looked = λ before m. c.in-None.ensures.looked _ before (omega (arith, at, m)) (s.looked before (omega (arith, asked, m)));
-      readable = s.readable;
+      time = s.time;
       first = s.first;
       read = omega (arith, c.in-None.ensures.next.1, at);
       low = range.0;
@@ -86,8 +86,8 @@ of_calendar-local-requires c =
     let early = bound-early c.args.self.now c.requires bound is in
     omega (arith, c.in-Some.ensures.next.0.in_bound, at, early)
 
-pub hold-requires-clause-readable : goal.hold-requires-clause-readable
-hold-requires-clause-readable c =
+pub hold-requires-clause-time : goal.hold-requires-clause-time
+hold-requires-clause-time c =
     let s = c.args.self.now in
     let bound = to_z w32 (of_z w32 c.bound-bound.result) in
     let is : to_z w32 (of_z w32 c.bound-bound.result) ≡ bound_of c.args.self.now.day c.args.self.now.end c.args.self.now.held.items = omega (arith, ints, c.bound-bound.type_inv, c.bound-bound.ensures) in
@@ -96,7 +96,7 @@ hold-requires-clause-readable c =
     let next : IsNextKept c.args.self.now.rule (place_of c.args.self.now.cursor) (midnight_number (to_z w32 (of_z w32 c.bound-bound.result))) (number c.of_calendar-local.result) =
     subst (IsNextKept s.rule (place_of s.cursor) (midnight_number bound)) (sym c.of_calendar-local.ensures.same)
     (subst (λ n. IsNextKept s.rule (place_of s.cursor) n (number c.in-Some.local)) at c.in-Some.ensures.next.0) in
-    one-readable s c.requires bound is a c.of_calendar-local.ensures.day next
+    one-time s c.requires bound is a c.of_calendar-local.ensures.day next
 
 pub invariant_of-self-in-Some : goal.invariant_of-self-in-Some
 invariant_of-self-in-Some c =
@@ -122,7 +122,7 @@ invariant_of-self-in-Some c =
       are = one-held s c.requires bound is a h next c.reserve.new.self.items c.hold.new.held.items held c.hold.ensures new asked;
       own = c.in-Some.ensures.own;
       looked = λ before m. c.in-Some.ensures.looked _ before (omega (arith, past.1, m, c.of_calendar-local.ensures.same)) (s.looked before (omega (arith, past.0, m)));
-      readable = s.readable;
+      time = s.time;
       first = s.first;
       read = omega (arith, ints, c.in-Some.ensures.next.1, c.of_calendar-local.ensures.same, day, h.0);
       low = omega (arith, ints, day, h.0);

@@ -20,9 +20,7 @@ invariant_of-self c =
     let same : left c.peek_rule.new.rule s.listed ≡ left s.rule_starts s.listed = ap (λ xs. union moment_cmp xs (listed_left s.listed)) c.peek_rule.ensures.same in
     record {
       in_order = s.in_order;
-      sound = s.sound;
       own = s.own;
-      reached = s.reached;
       taken_out = s.taken_out;
       known = subst (AreKnown (clocks_in s.zones) s.event.now s.window) (sym same) s.known;
       ruled = ruled-same (clocks_in s.zones) s.window s.event.now s.since s.overridden.items s.rule_starts c.peek_rule.new.rule (given_of (clocks_in s.zones) s.window s.event.now s.since s.overridden.items (left s.rule_starts s.listed)) (given_of (clocks_in s.zones) s.window s.event.now s.since s.overridden.items (left c.peek_rule.new.rule s.listed)) c.peek_rule.ensures.rule c.peek_rule.ensures.same
@@ -42,9 +40,7 @@ invariant_of-self-in-Some c =
     (first-taken (rule_left c.peek_rule.new.rule) (listed_left s.listed) c.in-Some.start (rises-rule c.peek_rule.new.rule) (rises-listed s.listed) first) in
     record {
       in_order = s.in_order;
-      sound = s.sound;
       own = s.own;
-      reached = s.reached;
       taken_out = s.taken_out;
       known = known-rest (clocks_in s.zones) s.window s.event.now c.in-Some.start (left s.rule_starts s.listed) (left c.pass_rule.new.rule c.pass.new.self) taken s.known;
       ruled = ruled-rest (clocks_in s.zones) s.window s.event.now s.since s.overridden.items c.peek_rule.new.rule c.pass_rule.new.rule c.in-Some.start (left s.rule_starts s.listed) (left c.pass_rule.new.rule c.pass.new.self) c.pass_rule.ensures.rule c.pass_rule.ensures.left taken
@@ -60,9 +56,7 @@ invariant_of-self-in_default c =
     let same : left c.peek_rule.new.rule s.listed ≡ left s.rule_starts s.listed = ap (λ xs. union moment_cmp xs (listed_left s.listed)) c.peek_rule.ensures.same in
     record {
       in_order = s.in_order;
-      sound = s.sound;
       own = s.own;
-      reached = s.reached;
       taken_out = s.taken_out;
       known = subst (AreKnown (clocks_in s.zones) s.event.now s.window) (sym same) s.known;
       ruled = ruled-same (clocks_in s.zones) s.window s.event.now s.since s.overridden.items s.rule_starts c.peek_rule.new.rule (given_of (clocks_in s.zones) s.window s.event.now s.since s.overridden.items (left s.rule_starts s.listed)) (given_of (clocks_in s.zones) s.window s.event.now s.since s.overridden.items (left c.peek_rule.new.rule s.listed)) c.peek_rule.ensures.rule c.peek_rule.ensures.same

@@ -1,33 +1,23 @@
-use Rattle.std.proofs.Common.{◌≡◌, ◌==◌, ◌∙◌, length, w64, to_z, of_z, ap, sym, subst, arith}
+use Rattle.std.proofs.Common.{◌≡◌, ◌∙◌, rules, w64, to_z, of_z, ap, sym, subst, arith}
 use Rattle.std.proofs.lemmas.Int.{ints}
+use Rattle.ics_calendar.specs.Event.{IsEvent}
 use Rattle.ics_calendar.specs.declared.event.Event.{Event}
-use Rattle.ics_calendar.specs.declared.time.Rdate.TheVariants.{At}
 use Rattle.ics_series.specs.Clocks.{instant}
-use Rattle.ics_series.specs.Zones.{asked_at, clocks_in, AreReached, IsReadable}
-use Rattle.ics_series.proofs.SingleLemmas.{first-reached, none-past}
-use Rattle.ics_series.proofs.ZoneLemmas.{event-readable}
+use Rattle.ics_series.specs.Zones.{clocks_in, IsTimeOf}
+use Rattle.ics_series.proofs.ZoneLemmas.{own-event}
 use Rattle.ics_series.proofs.single.Single.begun.Goals as goal
-
-pub returns-then-begins_after : goal.returns-then-begins_after
-returns-then-begins_after c =
-    none-past c.args.zones c.args.window.now c.args.event.now c.args.recurrence (length c.args.event.now.rdates == 0)
-    (sym c.begins_after.ensures.value ∙ c.if-begins_after.true)
 
 pub instant-start-requires : goal.instant-start-requires
 instant-start-requires c =
-    subst (λ (v : Event). IsReadable c.args.zones.zones.now v.start) (sym c.event.view_is)
-    (event-readable c.args.zones c.args.window.now c.args.event.now c.requires.reached c.begins_after.ensures.sound c.requires.own (sym c.begins_after.ensures.value ∙ c.if-begins_after.false)).start
+    let sound : IsEvent c.args.event.now = search rules in
+    subst (λ (v : Event). IsTimeOf c.args.zones.zones.now v.start) (sym c.event.view_is) (own-event c.args.zones c.args.event.now sound c.requires).start
 
 pub invariant_of-result : goal.invariant_of-result
 invariant_of-result c =
-    let event = c.args.event.now in
+    let sound : IsEvent c.args.event.now = search rules in
     let fits : to_z w64 (of_z w64 c.instant-start.result) ≡ c.instant-start.result = omega (arith, ints, c.instant-start.type_inv) in
-    let first : to_z w64 (of_z w64 c.instant-start.result) ≡ instant (clocks_in c.args.zones) c.args.event.now.start =
-    fits ∙ (c.instant-start.ensures ∙ ap (λ (v : Event). instant (clocks_in c.args.zones) v.start) c.event.view_is) in
     record {
-      readable = event-readable c.args.zones c.args.window.now event c.requires.reached c.begins_after.ensures.sound c.requires.own (sym c.begins_after.ensures.value ∙ c.if-begins_after.false);
-      first = first;
+      own = own-event c.args.zones c.args.event.now sound c.requires;
+      first = fits ∙ (c.instant-start.ensures ∙ ap (λ (v : Event). instant (clocks_in c.args.zones) v.start) c.event.view_is);
       early = omega (arith, ints, c.if-start-window.false, c.args.window.now.not_late);
-      reached = subst (λ t. AreReached c.args.zones.zones.now (asked_at event t (At event.start))) (sym first)
-          (first-reached c.args.zones c.args.window.now event c.requires.reached (omega (arith, ints, first, c.if-start-window.false, c.args.window.now.not_early, c.args.window.now.ordered, c.args.window.now.not_late)));
     }

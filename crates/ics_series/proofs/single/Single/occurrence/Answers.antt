@@ -6,7 +6,7 @@ use Rattle.ics_series.proofs.single.Single.occurrence.Goals as goal
 pub invariant_of-result : goal.invariant_of-result
 invariant_of-result c =
     let single = c.args.self.now in
-    let from = late single.zones single.event.now.start single.readable.start.is_time in
+    let from = late single.zones single.event.now.start single.own.start.is_time in
     record {
       not_early = omega (arith, ints, single.first, single.early, from);
       forward = omega (arith, ints, c.finish.ensures.forward, c.finish.type_inv, c.first.ensures.moment, single.first, single.early, from);

@@ -1,5 +1,5 @@
 use Rattle.std.proofs.Common.{◌≡◌, ◌<◌, length, map, sym, subst, ap, ◌∙◌}
-use Rattle.ics_zone.specs.Tables.{phases_of}
+use Rattle.ics_zone.specs.Observances.{phases_of}
 use Rattle.ics_calendar.specs.Event.{said_by, FileSeen, IsEventOf}
 use Rattle.ics_series.specs.Placed.{zones_in, zones_of}
 use Rattle.ics_series.proofs.SpotLemmas.{event-within, said-there}

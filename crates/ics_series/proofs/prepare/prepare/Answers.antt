@@ -1,0 +1,13 @@
+use Rattle.std.proofs.Common.{◌≡◌, refl, ◌∙◌}
+use Rattle.ics_series.proofs.prepare.prepare.Goals as goal
+use Rattle.ics_series.proofs.prepare.prepare.Goals.{then-near-window, else-near-window}
+
+pub loop-init : goal.loop-init
+loop-init c = refl
+
+pub loop-preserved : goal.loop-preserved
+loop-preserved c =
+    elim c.if-near-window.branch [ then-near-window w ↦ w.zone-is ∙ (w.reach.ensures.same ∙ c.loop.invariant) | else-near-window w ↦ w.zone-is ∙ c.loop.invariant ]
+
+pub returns : goal.returns
+returns c = c.reach-2.ensures.same ∙ c.loop.invariant

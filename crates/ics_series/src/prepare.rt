@@ -1,0 +1,48 @@
+//! Zones that keep what a listing will ask them.
+ghost use Rattle.std.specs.Prelude.{◌≡◌};
+
+use crate::window::Window;
+use ics_calendar::FileEvents;
+use ics_zone::Zone;
+
+/// How far apart the instants are near which a zone is prepared. Most zones keep an offset for longer.
+const STEP: i64 = 120 * 86_400;
+
+/// Near how many of them it is prepared: they span somewhat more than two years and a half.
+const STEPS: usize = 8;
+
+/// Prepares the zones that the events of these files name for a window. For speed alone: no answer changes.
+pub(crate) fn prepare_each(files: &mut [FileEvents], window: &Window)
+    ensures { files.new ≡ files.old }
+{
+    for k in 0..files.len() {
+        prepare_named(&mut files[k], window);
+    }
+}
+
+// Prepares the zones that the events of a file name.
+fn prepare_named(file: &mut FileEvents, window: &Window)
+    ensures { file.new ≡ file.old }
+{
+    for k in 0..file.events.len() {
+        if let Some(index) = file.events[k].start.zone {
+            if let Some(zone) = file.zones.get_mut(index as usize) {
+                prepare(zone, window);
+            }
+        }
+    }
+}
+
+// Prepares a zone near the window's beginning, on from there, and near its end.
+fn prepare(zone: &mut Zone, window: &Window)
+    ensures { zone.new ≡ zone.old }
+{
+    let mut near = window.from;
+    for _ in 0..STEPS {
+        if near < window.to {
+            zone.reach(near).ok();
+            near += STEP;
+        }
+    }
+    zone.reach(window.to).ok();
+}
