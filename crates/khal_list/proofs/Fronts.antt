@@ -1,18 +1,13 @@
 -- A front of a text that grows.
-use Rattle.std.proofs.Common.{◌≡◌, ◌+◌, ◌++◌, ℕ, List, [], Option, Some, None, take, drop, refl, ap, ◌∙◌, arith, append_assoc}
+use Rattle.std.proofs.Common.{◌≡◌, ◌+◌, ◌++◌, ℕ, List, [], take, drop, ap, ◌∙◌, arith, append_assoc}
 use Rattle.std.proofs.lemmas.List.{take-append-drop, drop-take}
 use Rattle.std.proofs.lemmas.Grind.{common_steps}
-use Rattle.khal_list.specs.Growth.{grown}
 
 -- the next n bytes after the first d
 pub take-more : (d n : ℕ) (xs : List ℕ) → take d xs ++ take n (drop d xs) ≡ take (d + n) xs
 take-more d n xs =
     let same : take d (take (d + n) xs) ≡ take d xs = grind (arith, common_steps) in
     rw (← drop-take d n xs, ← same) (take-append-drop d (take (d + n) xs))
-
-pub grown-more : (told : Option (List ℕ)) (d n : ℕ) (xs : List ℕ) → grown (grown told (take d xs)) (take n (drop d xs)) ≡ grown told (take (d + n) xs)
-grown-more None d n xs = refl
-grown-more (Some t) d n xs = ap Some (append_assoc t (take d xs) (take n (drop d xs)) ∙ ap (λ r. t ++ r) (take-more d n xs))
 
 -- two pieces after one another are one
 pub two-pieces : (old middle new first second : List ℕ) → middle ≡ old ++ first → new ≡ middle ++ second → new ≡ old ++ (first ++ second)

@@ -1,14 +1,15 @@
 -- What of a feed is listed so far: its first entries.
 use Rattle.std.specs.Prelude.{ℤ, ◌≢◌}
 use Rattle.std.proofs.Common.{◌≡◌, ℕ, zero, suc, ◌+◌, List, [], ◌∷◌, ◌++◌, Option, Some, None, length, take, refl, sym, ap, ◌∙◌, arith, append_assoc, append-nil, length-append}
+use Rattle.std.specs.Io.KnownBytes.{Appends}
 use Rattle.std.specs.Option.{option_map}
 use Rattle.std.proofs.Math.Seq.{take-append-add}
 use Rattle.ics_series.specs.Entry.{Entry, Rank, rank_of}
 use Rattle.khal_list.specs.Drawn.{DrewAhead}
-use Rattle.khal_list.specs.Growth.{grown, TookFront}
+use Rattle.khal_list.specs.Growth.{TookFront}
 use Rattle.khal_list.specs.Listed.{first_of, last_key}
 use Rattle.khal_list.specs.Text.{Style, day_under, entry_text, text, text_after}
-use Rattle.khal_list.proofs.Written.{Written, grown-grown, grown-nil, written-front, written-part}
+use Rattle.khal_list.proofs.Written.{Written, appends-both, appends-none, appends-same, written-front, written-part}
 
 -- the day that the last of some entries stands under, or the day before them
 abbrev pub last_day : Style → Option ℤ → List Entry → Option ℤ
@@ -47,7 +48,7 @@ fewer (Some (suc n)) h = (Some n, ap Some (omega arith))
 pub record Printed (style : Style) (limit : Option ℕ) (all coming : List Entry) (told taken : Option (List ℕ)) (before : Option ℤ) (left : Option ℕ) (last : Option Rank) : Type 0 where
   pub done : List Entry
   pub parted : done ++ coming ≡ all
-  pub taken_is : taken ≡ grown told (text style done)
+  pub taken_is : Appends told taken (text style done)
   pub day_is : before ≡ last_day style None done
   pub left_is : limit ≡ option_map (λ n. length done + n) left
   pub last_is : last ≡ last_key done
@@ -74,22 +75,22 @@ module _ {style : Style} {limit : Option ℕ} {all : List Entry} {told : Option 
       part = [];
       given = p.parted;
       few = omega arith;
-      taken = p.taken_is ∙ ap (grown told) (sym (append-nil (text style p.done)));
+      taken = appends-same told taken (sym (append-nil (text style p.done))) p.taken_is;
     }
 
     module _ (e : Entry) (es : List Entry) (gives : coming ≡ e ∷ es) where
-      pub drew-part : (new : Option (List ℕ)) (part : List ℕ) → new ≡ grown taken part → DrewAhead style all es told new
+      pub drew-part : (new : Option (List ℕ)) (part : List ℕ) → Appends taken new part → DrewAhead style all es told new
       drew-part new part h = record {
         shown = p.done;
         ahead = e ∷ [];
         part = part;
         given = ap (λ l. p.done ++ l) (sym gives) ∙ p.parted;
         few = omega arith;
-        taken = h ∙ (ap (λ t. grown t part) p.taken_is ∙ grown-grown told (text style p.done) part);
+        taken = appends-both told taken new (text style p.done) part p.taken_is h;
       }
 
       pub drew-one : DrewAhead style all es told taken
-      drew-one = drew-part taken [] (sym (grown-nil taken))
+      drew-one = drew-part taken [] (appends-none taken)
 
       module _ (day : ℤ) (bytes : List ℕ) (lower : Option ℕ) (day-is : day ≡ day_under style e) (bytes-is : bytes ≡ entry_text style before day e) (lower-is : left ≡ option_map (λ n. n + 1) lower) where
         piece-is : bytes ≡ entry_text style before (day_under style e) e
@@ -115,11 +116,11 @@ module _ {style : Style} {limit : Option ℕ} {all : List Entry} {told : Option 
         left-lower None = refl
         left-lower (Some n) = ap Some (omega (arith, length-append p.done (e ∷ [])))
 
-        pub printed-more : (new : Option (List ℕ)) → new ≡ grown taken bytes → Printed style limit all es told new (Some day) lower (Some (rank_of e))
+        pub printed-more : (new : Option (List ℕ)) → Appends taken new bytes → Printed style limit all es told new (Some day) lower (Some (rank_of e))
         printed-more new h = record {
           done = p.done ++ e ∷ [];
           parted = append_assoc p.done (e ∷ []) es ∙ (ap (λ l. p.done ++ l) (sym gives) ∙ p.parted);
-          taken_is = h ∙ (ap (λ t. grown t bytes) p.taken_is ∙ (grown-grown told (text style p.done) bytes ∙ ap (grown told) text-is));
+          taken_is = appends-same told new text-is (appends-both told taken new (text style p.done) bytes p.taken_is h);
           day_is = ap Some day-is ∙ sym (day-more style None p.done e);
           left_is = p.left_is ∙ (ap (option_map (λ n. length p.done + n)) lower-is ∙ left-lower lower);
           last_is = sym (key-more p.done e);

@@ -1,6 +1,7 @@
 -- What a run has done once every file is read and the lines of those that are not listed are written.
-use Rattle.std.proofs.Common.{◌≡◌, ◌≢◌, ◌⊎◌, inl, inr, ℕ, List, [], ◌++◌, Option, Some, None, Result, Ok, Err, length, take, sym, ap, ◌∙◌, subst, arith}
+use Rattle.std.proofs.Common.{◌≡◌, ◌≢◌, ◌⊎◌, inl, inr, ℕ, List, [], ◌++◌, Option, Some, None, Result, Ok, Err, length, take, refl, sym, ap, ◌∙◌, subst, arith}
 use Rattle.std.specs.Prelude.{◌↔◌, IfOk, OnErr, OnOk}
+use Rattle.std.specs.Io.KnownBytes.{Appends}
 use Rattle.std.specs.Option.{option_copied, option_map}
 use Rattle.std.proofs.lemmas.Grind.{common_steps}
 use denote.Ref.{Bor}
@@ -15,22 +16,22 @@ use Rattle.ics_series.specs.Meets.{IsListed}
 use Rattle.khal_list.specs.declared.request.Request.{Request}
 use Rattle.khal_list.specs.declared.status.Status.{Status}
 use Rattle.khal_list.specs.declared.status.Status.TheVariants.{Faulty}
-use Rattle.khal_list.specs.Answers.{Answer}
+use Rattle.khal_list.specs.Answers.{Answer, Contents}
 use Rattle.khal_list.specs.Errors.{accepted, error_lines}
-use Rattle.khal_list.specs.Growth.{grown, TookFront}
+use Rattle.khal_list.specs.Growth.{TookFront}
 use Rattle.khal_list.specs.Headline.{more_line, IsListingOf, Lists, Stops}
 use Rattle.khal_list.specs.Listed.{asked_after, key_on, text_of}
 use Rattle.khal_list.specs.Outcomes.{IsReading}
 use Rattle.khal_list.specs.Reads.{ReadsAll}
 use Rattle.khal_list.proofs.RefusedLemmas.{lines-refused}
-use Rattle.khal_list.proofs.Written.{grown-grown}
+use Rattle.khal_list.proofs.Written.{appends-both, appends-same}
 
 take-length : (xs : List ℕ) → take (length xs) xs ≡ xs
 take-length xs = grind (arith, common_steps)
 
 -- the whole of a text is a front of it
-whole-front : (told new : Option (List ℕ)) (text : List ℕ) → new ≡ grown told text → TookFront told new text
-whole-front told new text h = record { count = length text; within = omega arith; taken = h ∙ ap (grown told) (sym (take-length text)) }
+whole-front : (told new : Option (List ℕ)) (text : List ℕ) → Appends told new text → TookFront told new text
+whole-front told new text h = record { count = length text; within = omega arith; taken = appends-same told new (sym (take-length text)) h }
 
 -- the key that is lent to the agenda
 pub copied-key : (lent : Option (Bor Key)) (key : Option Key) → option_copied lent ≡ key → option_map (λ k. key_rank k.now) lent ≡ option_map key_rank key
@@ -47,10 +48,10 @@ asked files made display request coming after said zone key whole = (
 )
 
 module _ {E : Type 0} (files : List FileSaid) (request : Request) (out out' : Option (List ℕ)) (coming : List Entry) (whole : (list : List Entry) × IsListingOf files request list × (coming ≡ asked_after request list)) where
-  pub listed : (result : Result (Option Key) E) → OnOk result (out' ≡ grown out (text_of request coming)) → IfOk result (λ key. option_map key_rank key ≡ key_on request.limit coming)
-      → IfOk result (λ key. (list : List Entry) × IsListingOf files request list × (out' ≡ grown out (text_of request (asked_after request list))) × (option_map key_rank key ≡ key_on request.limit (asked_after request list)))
+  pub listed : (result : Result (Option Key) E) → OnOk result (Appends out out' (text_of request coming)) → IfOk result (λ key. option_map key_rank key ≡ key_on request.limit coming)
+      → IfOk result (λ key. (list : List Entry) × IsListingOf files request list × Appends out out' (text_of request (asked_after request list)) × (option_map key_rank key ≡ key_on request.limit (asked_after request list)))
   listed (Ok key) text named =
-      (whole.0, whole.1, text ∙ ap (λ l. grown out (text_of request l)) whole.2, named ∙ ap (key_on request.limit) whole.2)
+      (whole.0, whole.1, appends-same out out' (ap (text_of request) whole.2) text, named ∙ ap (key_on request.limit) whole.2)
   listed (Err fault) text named = tt
 
   pub not-listed : (result : Result (Option Key) E) → OnErr result (TookFront out out' (text_of request coming))
@@ -59,44 +60,44 @@ module _ {E : Type 0} (files : List FileSaid) (request : Request) (out out' : Op
   not-listed (Err fault) front = inr (whole.0, whole.1, subst (λ l. TookFront out out' (text_of request l)) whole.2 front)
 
 module _ {S : Type 0} (reads : S → ℕ → Answer → S → Type 0) (names : List (List ℕ)) (before after : S) (request : Request) (out out' err told : Option (List ℕ))
-    (answers : List Answer) (files : List FileSaid) (errors : List ℕ)
-    (read : ReadsAll reads names before answers after) (kept : IsReading names answers files errors) (wrote : told ≡ grown err errors) where
-  lines : told ≡ grown err (error_lines names answers)
-  lines = wrote ∙ ap (grown err) kept.errors_are
+    (contents : List Contents) (files : List FileSaid) (errors : List ℕ)
+    (read : ReadsAll reads names before contents after) (kept : IsReading names contents files errors) (wrote : Appends err told errors) where
+  lines : Appends err told (error_lines names contents)
+  lines = appends-same err told kept.errors_are wrote
 
   -- the listing failed
   pub stops : (out' ≡ out) ⊎ ((list : List Entry) × IsListingOf files request list × TookFront out out' (text_of request (asked_after request list)))
       → Stops reads names before after request out out' err told
-  stops (inl none) = inl (answers, record { from_first = read.from_first; within = omega (arith, read.each) }, none, whole-front err told (error_lines names answers) lines)
+  stops (inl none) = inl (contents, record { last = after; from_first = read.from_first; ended = inl (refl, omega (arith, read.each)) }, none, whole-front err told (error_lines names contents) lines)
   stops (inr some) = inr (
-    answers,
+    contents,
     read,
-    record { list = some.0; listing = subst (λ these. IsListingOf these request some.0) kept.files_are some.1; taken = inl (lines, some.2) },
+    told,
+    lines,
+    record { list = some.0; listing = subst (λ these. IsListingOf these request some.0) kept.files_are some.1; taken = inl (refl, some.2) },
   )
 
   -- the listing is written
-  module _ (list : List Entry) (listing : IsListingOf files request list) (text : out' ≡ grown out (text_of request (asked_after request list))) (key : Option Rank) (key-is : key ≡ key_on request.limit (asked_after request list)) where
-    is-listing : IsListingOf (accepted answers) request list
+  module _ (list : List Entry) (listing : IsListingOf files request list) (text : Appends out out' (text_of request (asked_after request list))) (key : Option Rank) (key-is : key ≡ key_on request.limit (asked_after request list)) where
+    is-listing : IsListingOf (accepted contents) request list
     is-listing = subst (λ these. IsListingOf these request list) kept.files_are listing
 
     pub stops-more : (err' : Option (List ℕ)) → TookFront told err' (more_line key) → Stops reads names before after request out out' err err'
     stops-more err' f = inr (
-      answers,
+      contents,
       read,
-      record {
-        list = list;
-        listing = is-listing;
-        taken = inr (text, subst (λ k. TookFront (grown err (error_lines names answers)) err' (more_line k)) key-is (subst (λ t. TookFront t err' (more_line key)) lines f));
-      },
+      told,
+      lines,
+      record { list = list; listing = is-listing; taken = inr (text, subst (λ k. TookFront told err' (more_line k)) key-is f) },
     )
 
-    pub lists : (err' : Option (List ℕ)) → err' ≡ grown told (more_line key) → (status : Status) → (status ≡ Faulty) ↔ (errors ≢ []) → Lists reads names before after request out out' err err' status
+    pub lists : (err' : Option (List ℕ)) → Appends told err' (more_line key) → (status : Status) → (status ≡ Faulty) ↔ (errors ≢ []) → Lists reads names before after request out out' err err' status
     lists err' more status faulty = record {
-      answers = answers;
+      contents = contents;
       read = read;
       list = list;
       listing = is-listing;
       text = text;
-      errors = more ∙ (ap (λ t. grown t (more_line key)) lines ∙ (grown-grown err (error_lines names answers) (more_line key) ∙ ap (λ k. grown err (error_lines names answers ++ more_line k)) key-is));
-      faulty = lines-refused names answers (status ≡ Faulty) read.each (subst (λ these. (status ≡ Faulty) ↔ (these ≢ [])) kept.errors_are faulty);
+      errors = appends-same err err' (ap (λ k. error_lines names contents ++ more_line k) key-is) (appends-both err told err' (error_lines names contents) (more_line key) lines more);
+      faulty = lines-refused names contents (status ≡ Faulty) read.each (subst (λ these. (status ≡ Faulty) ↔ (these ≢ [])) kept.errors_are faulty);
     }

@@ -1,9 +1,10 @@
 -- A text of which a sink has taken the first part.
-use Rattle.std.proofs.Common.{◌≡◌, ◌≤◌, ℕ, List, [], ◌++◌, Option, Some, None, Result, Ok, Err, length, take, drop, refl, sym, ap, ◌∙◌, arith, append_assoc, append-nil, length-append}
+use Rattle.std.proofs.Common.{◌≡◌, ◌≤◌, ℕ, List, [], ◌++◌, Option, Some, None, Result, Ok, Err, length, take, drop, sym, ap, ◌∙◌, subst, arith, append_assoc, append-nil, length-append}
 use Rattle.std.specs.Prelude.{OnErr}
+use Rattle.std.specs.Io.KnownBytes.{Appends}
 use Rattle.std.proofs.lemmas.List.{take-append-drop}
 use Rattle.std.proofs.lemmas.Grind.{common_steps}
-use Rattle.khal_list.specs.Growth.{grown, TookFront}
+use Rattle.khal_list.specs.Growth.{TookFront}
 
 pub on_err : {T E : Type 0} {P : Type 0} (result : Result T E) → P → OnErr result P
 on_err (Ok x) p = tt
@@ -12,21 +13,28 @@ on_err (Err e) p = p
 -- the sink has taken what stands before the rest
 pub record Written (told new : Option (List ℕ)) (rest whole : List ℕ) : Type 0 where
   pub done : List ℕ
-  pub taken : new ≡ grown told done
+  pub taken : Appends told new done
   pub whole_is : done ++ rest ≡ whole
 
-pub grown-nil : (told : Option (List ℕ)) → grown told [] ≡ told
-grown-nil None = refl
-grown-nil (Some bytes) = ap Some (append-nil bytes)
+-- nothing is added
+pub appends-none : (told : Option (List ℕ)) → Appends told told []
+appends-none None = tt
+appends-none (Some bytes) = sym (append-nil bytes)
 
-pub grown-grown : (told : Option (List ℕ)) (first second : List ℕ) → grown (grown told first) second ≡ grown told (first ++ second)
-grown-grown None first second = refl
-grown-grown (Some bytes) first second = ap Some (append_assoc bytes first second)
+-- two texts after one another are one
+pub appends-both : (told middle new : Option (List ℕ)) (first second : List ℕ) → Appends told middle first → Appends middle new second → Appends told new (first ++ second)
+appends-both None middle new first second h k = tt
+appends-both (Some bytes) None new first second h k = absurd h
+appends-both (Some bytes) (Some more) None first second h k = absurd k
+appends-both (Some bytes) (Some more) (Some all) first second h k = k ∙ (ap (λ t. t ++ second) h ∙ append_assoc bytes first second)
 
-written-more : (told middle new : Option (List ℕ)) (piece rest whole : List ℕ) → Written told middle (piece ++ rest) whole → new ≡ grown middle piece → Written told new rest whole
+pub appends-same : (told new : Option (List ℕ)) {first second : List ℕ} → first ≡ second → Appends told new first → Appends told new second
+appends-same told new same h = subst (Appends told new) same h
+
+written-more : (told middle new : Option (List ℕ)) (piece rest whole : List ℕ) → Written told middle (piece ++ rest) whole → Appends middle new piece → Written told new rest whole
 written-more told middle new piece rest whole w h = record {
   done = w.done ++ piece;
-  taken = h ∙ (ap (λ t. grown t piece) w.taken ∙ grown-grown told w.done piece);
+  taken = appends-both told middle new w.done piece w.taken h;
   whole_is = append_assoc w.done piece rest ∙ w.whole_is;
 }
 
@@ -40,7 +48,7 @@ pub written-front : (told new : Option (List ℕ)) (rest whole : List ℕ) → W
 written-front told new rest whole w = record {
   count = length w.done;
   within = length-front w.done rest whole w.whole_is;
-  taken = w.taken ∙ ap (grown told) (sym (take-front w.done rest whole w.whole_is));
+  taken = appends-same told new (sym (take-front w.done rest whole w.whole_is)) w.taken;
 }
 
 -- a front of the next piece

@@ -1,5 +1,5 @@
 -- What a read of a file answers.
-use Rattle.std.specs.Prelude.{◌≡◌, ◌≤◌, ◌<◌, ⊤, ℕ, List, length, slice_get, Result, Ok, Err, Some}
+use Rattle.std.specs.Prelude.{◌≡◌, ◌≤◌, ◌<◌, ⊤, ℕ, List, length, slice_get, Option, Some, None, Result, Ok, Err}
 use Rattle.std.specs.declared.vec.Vec.{Vec}
 use Rattle.khal_list.specs.declared.fault.SourceFault.{SourceFault}
 use Rattle.khal_list.specs.declared.fault.SourceFault.TheVariants.{Device, TooLarge, Memory}
@@ -11,6 +11,17 @@ Answer = Result (List ℕ) SourceFault
 abbrev pub answer_of : {V : Type 0} → Result (Vec ℕ V) SourceFault → Answer
 answer_of (Ok bytes) = Ok bytes.items
 answer_of (Err fault) = Err fault
+
+-- what a read gave of a file: its bytes, or none where it was not read
+abbrev pub Contents : Type 0
+Contents = Option (List ℕ)
+
+-- what a read gave that memory did not end
+abbrev pub contents_of : Answer → Option Contents
+contents_of (Ok bytes) = Some (Some bytes)
+contents_of (Err Device) = Some None
+contents_of (Err TooLarge) = Some None
+contents_of (Err Memory) = None
 
 -- the most bytes that a file may have
 abbrev pub most_bytes : ℕ

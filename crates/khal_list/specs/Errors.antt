@@ -5,8 +5,8 @@ use Rattle.std.specs.Fmt.{decimal}
 use Rattle.ics_calendar.specs.Event.{FileSaid}
 use Rattle.ics_calendar.specs.FaultNames.{kind_name}
 use Rattle.ics_calendar.specs.Files.{file_of}
-use Rattle.ics_calendar.specs.FirstFault.{Fault}
-use Rattle.khal_list.specs.Answers.{Answer}
+use Rattle.ics_calendar.specs.declared.fault.Fault.{Fault}
+use Rattle.khal_list.specs.Answers.{Contents}
 use Rattle.khal_list.specs.Shown.{shown}
 
 -- Why a file is not listed: its first fault, or none where it was not read.
@@ -18,18 +18,18 @@ file_or_refusal (Ok file) = Ok file
 file_or_refusal (Err fault) = Err (Some fault)
 
 -- what a read comes to: the events of the file, or why it is not listed
-abbrev pub file_by : Answer → Result FileSaid Refusal
-file_by (Ok bytes) = file_or_refusal (file_of bytes)
-file_by (Err fault) = Err None
+abbrev pub file_by : Contents → Result FileSaid Refusal
+file_by (Some bytes) = file_or_refusal (file_of bytes)
+file_by None = Err None
 
 abbrev pub events_first : Result FileSaid Refusal → List FileSaid → List FileSaid
 events_first (Ok file) files = file ∷ files
 events_first (Err refusal) files = files
 
 -- the accepted files, in the order of the reads
-abbrev pub accepted : List Answer → List FileSaid
+abbrev pub accepted : List Contents → List FileSaid
 accepted [] = []
-accepted (answer ∷ answers) = events_first (file_by answer) (accepted answers)
+accepted (given ∷ contents) = events_first (file_by given) (accepted contents)
 
 abbrev pub refusal_text : Refusal → List ℕ
 refusal_text (Some fault) = codes "line " ++ (decimal fault.line ++ (codes ": " ++ kind_name fault.kind))
@@ -45,7 +45,7 @@ error_line name (Ok file) = []
 error_line name (Err refusal) = refusal_line name refusal
 
 -- the lines of the files that are not listed, in the order of the reads
-abbrev pub error_lines : List (List ℕ) → List Answer → List ℕ
-error_lines [] answers = []
+abbrev pub error_lines : List (List ℕ) → List Contents → List ℕ
+error_lines [] contents = []
 error_lines (name ∷ names) [] = []
-error_lines (name ∷ names) (answer ∷ answers) = error_line name (file_by answer) ++ error_lines names answers
+error_lines (name ∷ names) (given ∷ contents) = error_line name (file_by given) ++ error_lines names contents

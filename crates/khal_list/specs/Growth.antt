@@ -1,5 +1,6 @@
 -- What a sink has taken, and counts that stop at their greatest value.
-use Rattle.std.specs.Prelude.{◌≡◌, ◌≤◌, ◌<◌, ◌⊎◌, ◌+◌, ◌-◌, ◌^◌, ◌++◌, min, ℕ, List, Option, Result, Ok, Err, length, take, option_map}
+use Rattle.std.specs.Prelude.{◌≤◌, ◌<◌, ◌⊎◌, ◌+◌, ◌-◌, ◌^◌, min, ℕ, List, Option, Result, Ok, Err, length, take}
+use Rattle.std.specs.Io.KnownBytes.{Appends}
 use Rattle.khal_list.specs.declared.fault.SinkFault.{SinkFault}
 use Rattle.khal_list.specs.declared.fault.SinkFault.TheVariants.{Device}
 
@@ -7,15 +8,11 @@ use Rattle.khal_list.specs.declared.fault.SinkFault.TheVariants.{Device}
 abbrev pub risen : ℕ → ℕ
 risen count = min (count + 1) (2 ^ 64 - 1)
 
--- the bytes so far and then these, where the sink tells its bytes
-abbrev pub grown : Option (List ℕ) → List ℕ → Option (List ℕ)
-grown told bytes = option_map (λ taken. taken ++ bytes) told
-
 -- the sink has taken a front of the text
 pub record TookFront (old new : Option (List ℕ)) (text : List ℕ) : Type 0 where
   pub count : ℕ
   pub within : count ≤ length text
-  pub taken : new ≡ grown old (take count text)
+  pub taken : Appends old new (take count text)
 
 -- the sink was left by a call that failed, or that was given bytes and took none
 pub record LeftByFault {O : Type 0} (puts : O → List ℕ → Result ℕ SinkFault → O → Type 0) (left : O) : Type 0 where

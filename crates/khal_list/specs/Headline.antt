@@ -1,5 +1,6 @@
 -- THE HEADLINE: what a run reads, lists and writes.
 use Rattle.std.specs.Prelude.{◌≡◌, ◌↔◌, ◌⊎◌, ℕ, List, [], ◌∷◌, ◌++◌, Option, Some, None, Any, IsErr, codes}
+use Rattle.std.specs.Io.KnownBytes.{Appends}
 use Rattle.ics_calendar.specs.Event.{FileSaid}
 use Rattle.ics_series.specs.Clocks.{display_clock}
 use Rattle.ics_series.specs.Entry.{Entry, Rank, entry_cmp}
@@ -9,9 +10,9 @@ use Rattle.ics_series.specs.Tokens.{spelling}
 use Rattle.khal_list.specs.declared.request.Request.{Request}
 use Rattle.khal_list.specs.declared.status.Status.{Status}
 use Rattle.khal_list.specs.declared.status.Status.TheVariants.{Faulty}
-use Rattle.khal_list.specs.Answers.{Answer}
+use Rattle.khal_list.specs.Answers.{Answer, Contents}
 use Rattle.khal_list.specs.Errors.{accepted, error_lines, file_by}
-use Rattle.khal_list.specs.Growth.{grown, TookFront}
+use Rattle.khal_list.specs.Growth.{TookFront}
 use Rattle.khal_list.specs.Listed.{asked_after, key_on, text_of}
 use Rattle.khal_list.specs.Reads.{ReadsAll, ReadsSome}
 
@@ -33,26 +34,26 @@ more_of request list = more_line (key_on request.limit list)
 -- goes on. The status is Faulty exactly where there is a line of a file.
 pub record Lists {S : Type 0} (reads : S → ℕ → Answer → S → Type 0) (names : List (List ℕ)) (before after : S) (request : Request)
     (out out' err err' : Option (List ℕ)) (status : Status) : Type 0 where
-  pub answers : List Answer
-  pub read : ReadsAll reads names before answers after
+  pub contents : List Contents
+  pub read : ReadsAll reads names before contents after
   pub list : List Entry
-  pub listing : IsListingOf (accepted answers) request list
-  pub text : out' ≡ grown out (text_of request (asked_after request list))
-  pub errors : err' ≡ grown err (error_lines names answers ++ more_of request (asked_after request list))
-  pub faulty : (status ≡ Faulty) ↔ Any (λ answer. IsErr (file_by answer)) answers
+  pub listing : IsListingOf (accepted contents) request list
+  pub text : Appends out out' (text_of request (asked_after request list))
+  pub errors : Appends err err' (error_lines names contents ++ more_of request (asked_after request list))
+  pub faulty : (status ≡ Faulty) ↔ Any (λ given. IsErr (file_by given)) contents
 
 -- What stands where a run ends by a fault once every file is read and all their lines are in `err`: a front of the listing's text in `out`, or
 -- that whole text and a front of the last line in `err`.
-pub record StopsListing (answers : List Answer) (request : Request) (out out' err err' : Option (List ℕ)) : Type 0 where
+pub record StopsListing (contents : List Contents) (request : Request) (out out' err err' : Option (List ℕ)) : Type 0 where
   pub list : List Entry
-  pub listing : IsListingOf (accepted answers) request list
+  pub listing : IsListingOf (accepted contents) request list
   pub taken : ((err' ≡ err) × TookFront out out' (text_of request (asked_after request list)))
-      ⊎ ((out' ≡ grown out (text_of request (asked_after request list))) × TookFront err err' (more_of request (asked_after request list)))
+      ⊎ (Appends out out' (text_of request (asked_after request list)) × TookFront err err' (more_of request (asked_after request list)))
 
 -- What stands where a run ends by a fault: nothing in `out` and a front of the lines of the files that were read in `err`; or it ends in the listing
 -- or in the last line.
 abbrev pub Stops : {S : Type 0} → (S → ℕ → Answer → S → Type 0) → List (List ℕ) → S → S → Request → Option (List ℕ) → Option (List ℕ) → Option (List ℕ) → Option (List ℕ) → Type 0
 Stops reads names before after request out out' err err' =
-    ((answers : List Answer) × ReadsSome reads names before answers after × (out' ≡ out) × TookFront err err' (error_lines names answers))
-    ⊎ ((answers : List Answer) × ReadsAll reads names before answers after
-    × StopsListing answers request out out' (grown err (error_lines names answers)) err')
+    ((contents : List Contents) × ReadsSome reads names before contents after × (out' ≡ out) × TookFront err err' (error_lines names contents))
+    ⊎ ((contents : List Contents) × ReadsAll reads names before contents after
+    × (told : Option (List ℕ)) × Appends err told (error_lines names contents) × StopsListing contents request out out' told err')

@@ -12,8 +12,8 @@ use std::rt::Files;
 /// then a `?` for each name that is not UTF-8, which is never read. Folders below are not looked
 /// into.
 ///
-/// A read answers Device for every fault of the system, and TooLarge once it has read one byte more
-/// than a file may have.
+/// A read answers Device for every fault of the system and, without waiting for it, for all that is
+/// no regular file, as a pipe; and TooLarge once it has read one byte more than a file may have.
 #[derive(Drop)]
 pub struct FolderSource<R> {
     rt: R,
@@ -80,6 +80,11 @@ fn read_some<R: Files>(
     name: &str,
 ) -> Result<Vec<u8>, SourceFault> {
     let path = format!(in alloc; "{folder}/{name}").map_err(|_| SourceFault::Memory)?;
+    // a pipe or a terminal would have to be waited for
+    let kind = fs::metadata(rt, path.as_str()).map_err(fault_of)?;
+    if !kind.is_file() {
+        return Err(SourceFault::Device);
+    }
     let file = File::open(rt, path.as_str()).map_err(fault_of)?;
     let mut bytes = Vec::new(alloc);
     let mut front = file.take(MOST_BYTES as u64 + 1);

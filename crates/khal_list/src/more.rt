@@ -1,9 +1,10 @@
 //! The line that says where a listing goes on.
 ghost use Rattle.std.specs.Prelude.{◌≡◌, Some, IfOk, OnOk, OnErr, IsErrOf};
+ghost use Rattle.std.specs.Io.KnownBytes.{Appends};
 ghost use Rattle.std.specs.Option.{option_map};
 ghost use Rattle.std.specs.String.{string_bytes};
 ghost use Rattle.ics_series.specs.Entry.{key_rank};
-ghost use Rattle.khal_list.specs.Growth.{grown, TookFront, LeftByFault};
+ghost use Rattle.khal_list.specs.Growth.{TookFront, LeftByFault};
 ghost use Rattle.khal_list.specs.Headline.{more_line};
 
 use crate::fault::RunFault;
@@ -27,8 +28,8 @@ pub(crate) fn put_more<E: Sink>(
     err: &mut E,
     key: &Option<Key>,
 ) -> Result<(), RunFault>
-    ensures ok { OnOk result (E.taken err.new
-        ≡ grown (E.taken err.old) (more_line (option_map key_rank key.now))) }
+    ensures ok { OnOk result (Appends (E.taken err.old) (E.taken err.new)
+        (more_line (option_map key_rank key.now))) }
     ensures err { OnErr result (TookFront (E.taken err.old) (E.taken err.new)
         (more_line (option_map key_rank key.now))) }
     ensures cause { IsErrOf result RunFault.WriteFault → LeftByFault E.puts err.new }

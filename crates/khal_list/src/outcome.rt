@@ -1,10 +1,10 @@
 //! What becomes of a file that is read.
-ghost use Rattle.std.specs.Prelude.{◌≡◌, ◌≢◌, ◌<◌, ◌≤◌, Err, IfOk, IfErr, length};
+ghost use Rattle.std.specs.Prelude.{◌≡◌, ◌<◌, ◌≤◌, Some, None, IfOk, IfErr, IsOk, length};
+ghost use Rattle.std.specs.Option.{option_map};
 ghost use Rattle.ics_calendar.specs.Files.{file_of};
-ghost use Rattle.khal_list.specs.Answers.{Answer};
+ghost use Rattle.khal_list.specs.Answers.{Answer, contents_of};
 ghost use Rattle.khal_list.specs.Errors.{file_by, file_or_refusal};
 ghost use Rattle.khal_list.specs.Outcomes.{seen_outcome};
-ghost use Rattle.khal_list.specs.declared.fault.SourceFault.TheVariants.{Memory};
 
 use crate::fault::{RunFault, SourceFault};
 use crate::refusal::Refusal;
@@ -32,7 +32,7 @@ fn outcome_of(alloc: Global, bytes: &[u8]) -> Result<Outcome, RunFault>
     }
 }
 
-/// Reads a file. Only want of memory is a fault here.
+/// Reads a file. Only want of memory is a fault here, and none where the file is not read.
 pub(crate) fn read_outcome<S: Source>(
     alloc: Global,
     source: &mut S,
@@ -41,7 +41,8 @@ pub(crate) fn read_outcome<S: Source>(
     requires { index < length (S.names source.old) }
     ensures names { S.names source.new ≡ S.names source.old }
     ensures read { (answer : Answer) × S.reads source.old index answer source.new
-        × IfOk result (λ outcome. (answer ≢ Err Memory) × (seen_outcome outcome ≡ file_by answer)) }
+        × IfOk result (λ outcome. option_map file_by (contents_of answer) ≡ Some (seen_outcome outcome))
+        × (contents_of answer ≡ Some None → IsOk result) }
     ensures err { IfErr result (λ fault. fault ≡ RunFault.Memory) }
 {
     match source.read(alloc, index) {

@@ -1,9 +1,10 @@
 //! The text of a feed, entry by entry.
 ghost use Rattle.std.specs.Prelude.{◌≡◌, ◌≢◌, ◌+◌, Some, IfOk, IfErr, OnOk, OnErr, IsErrOf};
+ghost use Rattle.std.specs.Io.KnownBytes.{Appends};
 ghost use Rattle.std.specs.Option.{option_map};
 ghost use Rattle.ics_series.specs.Entry.{Entry, entry_of, key_rank, rank_of};
 ghost use Rattle.khal_list.specs.Drawn.{DrewAhead};
-ghost use Rattle.khal_list.specs.Growth.{grown, TookFront, LeftByFault};
+ghost use Rattle.khal_list.specs.Growth.{TookFront, LeftByFault};
 ghost use Rattle.khal_list.specs.Listed.{key_on, style_of, text_of};
 
 use crate::entry::{add_entry, day_under};
@@ -25,8 +26,8 @@ pub fn print<'a, F: Feed<'a>, O: Sink>(
     request: &Request,
     out: &mut O,
 ) -> Result<Option<Key>, RunFault>
-    ensures text { OnOk result (O.taken out.new
-        ≡ grown (O.taken out.old) (text_of request.now (F.coming feed.old))) }
+    ensures text { OnOk result (Appends (O.taken out.old) (O.taken out.new)
+        (text_of request.now (F.coming feed.old))) }
     ensures key { IfOk result (λ key. option_map key_rank key
         ≡ key_on request.now.limit (F.coming feed.old)) }
     ensures front { OnErr result (TookFront (O.taken out.old) (O.taken out.new)

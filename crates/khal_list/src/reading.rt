@@ -1,7 +1,7 @@
 //! The files of a source, read one by one.
 ghost use Rattle.std.specs.Prelude.{◌≡◌, ◌≢◌, ◌↔◌, ◌++◌, List, [], IfOk, IfErr, OnOk, map};
 ghost use Rattle.ics_calendar.specs.Event.{said_by};
-ghost use Rattle.khal_list.specs.Answers.{Answer};
+ghost use Rattle.khal_list.specs.Answers.{Contents};
 ghost use Rattle.khal_list.specs.Errors.{events_first, error_line};
 ghost use Rattle.khal_list.specs.Outcomes.{seen_outcome, IsReading};
 ghost use Rattle.khal_list.specs.Reads.{ReadsAll, ReadsSome};
@@ -64,11 +64,11 @@ impl Reading {
 
 /// Reads each file once, in order. Only want of memory ends it early.
 pub(crate) fn read_all<S: Source>(alloc: Global, source: &mut S) -> Result<Reading, RunFault>
-    ensures some { (answers : List Answer)
-        × ReadsSome S.reads (S.names source.old) source.old answers source.new }
-    ensures all { IfOk result (λ reading. (answers : List Answer)
-        × ReadsAll S.reads (S.names source.old) source.old answers source.new
-        × IsReading (S.names source.old) answers (map said_by reading.files.items) reading.errors.items) }
+    ensures some { (contents : List Contents)
+        × ReadsSome S.reads (S.names source.old) source.old contents source.new }
+    ensures all { IfOk result (λ reading. (contents : List Contents)
+        × ReadsAll S.reads (S.names source.old) source.old contents source.new
+        × IsReading (S.names source.old) contents (map said_by reading.files.items) reading.errors.items) }
     ensures err { IfErr result (λ fault. fault ≡ RunFault.Memory) }
 {
     let mut reading = Reading::new(alloc);

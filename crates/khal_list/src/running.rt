@@ -1,9 +1,10 @@
 //! A whole run: files, errors and the listing.
 ghost use Rattle.std.specs.Prelude.{◌≡◌, ◌⊎◌, List, IfOk, OnOk, OnErr, IsErrOf, map};
+ghost use Rattle.std.specs.Io.KnownBytes.{Appends};
 ghost use Rattle.std.specs.Option.{option_map};
 ghost use Rattle.ics_calendar.specs.Event.{said_by};
 ghost use Rattle.ics_series.specs.Entry.{Entry, key_rank};
-ghost use Rattle.khal_list.specs.Growth.{grown, TookFront, LeftByFault};
+ghost use Rattle.khal_list.specs.Growth.{TookFront, LeftByFault};
 ghost use Rattle.khal_list.specs.Headline.{IsListingOf, Lists, Stops};
 ghost use Rattle.khal_list.specs.Listed.{asked_after, key_on, text_of};
 
@@ -27,7 +28,7 @@ fn list<O: Sink>(
     out: &mut O,
 ) -> Result<Option<Key>, RunFault>
     ensures ok { IfOk result (λ key. (list : List Entry) × IsListingOf (map said_by files.items) request.now list
-        × (O.taken out.new ≡ grown (O.taken out.old) (text_of request.now (asked_after request.now list)))
+        × Appends (O.taken out.old) (O.taken out.new) (text_of request.now (asked_after request.now list))
         × (option_map key_rank key ≡ key_on request.now.limit (asked_after request.now list))) }
     ensures err { OnErr result ((O.taken out.new ≡ O.taken out.old)
         ⊎ ((list : List Entry) × IsListingOf (map said_by files.items) request.now list
@@ -35,7 +36,7 @@ fn list<O: Sink>(
     ensures cause { IsErrOf result RunFault.WriteFault → LeftByFault O.puts out.new }
 {
     let mut folder = Folder::new(alloc, files, request.zone)?;
-    folder.reach(&request.window)?;
+    folder.prepare(&request.window);
     let mut agenda = folder.agenda(request.window, request.after.as_ref())?;
     print(alloc, &mut agenda, request, out)
 }

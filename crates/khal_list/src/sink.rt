@@ -1,6 +1,7 @@
 //! Where text goes.
-ghost use Rattle.std.specs.Prelude.{◌≡◌, ◌<◌, ◌≤◌, ◌⊎◌, ℕ, List, Result, Ok, Err, IfOk, OnOk, OnErr, IsErrOf, length, take};
-ghost use Rattle.khal_list.specs.Growth.{grown, risen, TookFront, LeftByFault};
+ghost use Rattle.std.specs.Prelude.{◌≡◌, ◌≤◌, IfOk, OnOk, OnErr, IsErrOf, length};
+ghost use Rattle.std.specs.Io.KnownBytes.{Appends, WriteAppends};
+ghost use Rattle.khal_list.specs.Growth.{risen, TookFront, LeftByFault};
 
 use crate::fault::{RunFault, SinkFault};
 
@@ -23,8 +24,7 @@ pub trait Sink {
     fn put(&mut self, bytes: &[u8]) -> Result<usize, SinkFault>
         ensures puts { puts self.old bytes.now result self.new }
         ensures bound { IfOk result (λ count. count ≤ length bytes.now) }
-        ensures took { IfOk result (λ count. taken self.new ≡ grown (taken self.old) (take count bytes.now)) }
-        ensures none { OnErr result (taken self.new ≡ taken self.old) }
+        ensures took { WriteAppends (taken self.old) (taken self.new) result bytes.now }
         ensures device { IsErrOf result SinkFault.Device → failed self.new ≡ risen (failed self.old) };
 
     /// How many calls the device has failed; the count stops at its greatest value.
@@ -34,7 +34,7 @@ pub trait Sink {
 
 /// Hands the whole text to the sink, or fails with a front of it taken.
 pub(crate) fn put_all<O: Sink>(sink: &mut O, text: &[u8]) -> Result<(), RunFault>
-    ensures ok { OnOk result (O.taken sink.new ≡ grown (O.taken sink.old) text.now) }
+    ensures ok { OnOk result (Appends (O.taken sink.old) (O.taken sink.new) text.now) }
     ensures err { OnErr result (TookFront (O.taken sink.old) (O.taken sink.new) text.now) }
     ensures cause { IsErrOf result RunFault.WriteFault → LeftByFault O.puts sink.new }
 {

@@ -1,12 +1,13 @@
 //! A stream of the program as a sink.
 ghost use Rattle.std.specs.Prelude.{◌≡◌, IfErr, OnOk, OnErr};
+ghost use Rattle.std.specs.Io.KnownBytes.{Keeps};
 ghost use Rattle.khal_list.specs.Growth.{risen};
 
 use crate::fault::{RunFault, SinkFault};
 use crate::sink::Sink;
 use std::io::Write;
 
-/// A writer as a sink. It tells nothing of its bytes.
+/// A writer as a sink. It tells the bytes that the writer holds, where that tells them.
 #[derive(Drop)]
 pub struct Stream<W> {
     writer: W,
@@ -16,7 +17,8 @@ pub struct Stream<W> {
 impl<W: Write + Drop> Stream<W> {
     /// The sink of a writer, which has not failed so far.
     pub fn new(writer: W) -> Stream<W>
-        ensures { ⟦<Stream<W> as Sink>⟧.failed result ≡ 0 }
+        ensures taken { ⟦<Stream<W> as Sink>⟧.taken result ≡ W.contents writer }
+        ensures failed { ⟦<Stream<W> as Sink>⟧.failed result ≡ 0 }
     {
         Stream {
             writer,
@@ -24,15 +26,24 @@ impl<W: Write + Drop> Stream<W> {
         }
     }
 
+    /// The writer.
+    pub fn into_writer(self) -> W
+        ensures { W.contents result ≡ ⟦<Stream<W> as Sink>⟧.taken self }
+    {
+        self.writer
+    }
+
     // Counts a failure of the writer.
     fn fail(&mut self)
-        ensures { ⟦<Stream<W> as Sink>⟧.failed self.new ≡ risen (⟦<Stream<W> as Sink>⟧.failed self.old) }
+        ensures taken { ⟦<Stream<W> as Sink>⟧.taken self.new ≡ ⟦<Stream<W> as Sink>⟧.taken self.old }
+        ensures risen { ⟦<Stream<W> as Sink>⟧.failed self.new ≡ risen (⟦<Stream<W> as Sink>⟧.failed self.old) }
     {
         self.failures = self.failures.saturating_add(1);
     }
 
     /// Writes out what the writer still holds. Where that fails it is WriteFault, and counts as a failure.
     pub fn finish(&mut self) -> Result<(), RunFault>
+        ensures taken { Keeps (⟦<Stream<W> as Sink>⟧.taken self.old) (⟦<Stream<W> as Sink>⟧.taken self.new) }
         ensures ok { OnOk result (⟦<Stream<W> as Sink>⟧.failed self.new ≡ ⟦<Stream<W> as Sink>⟧.failed self.old) }
         ensures fault { IfErr result (λ fault. fault ≡ RunFault.WriteFault) }
         ensures counted { OnErr result (⟦<Stream<W> as Sink>⟧.failed self.new ≡ risen (⟦<Stream<W> as Sink>⟧.failed self.old)) }
@@ -48,11 +59,11 @@ impl<W: Write + Drop> Stream<W> {
 }
 
 impl<W: Write + Drop> Sink for Stream<W> {
-    ghost use Rattle.std.specs.Prelude.{None};
+    ghost use Rattle.std.specs.Io.KnownBytes.{WriteAppends};
 
-    ghost taken = { λ _. None };
+    ghost taken = { λ stream. W.contents stream.writer };
 
-    ghost puts = { λ before bytes answer after. Unit {0} };
+    ghost puts = { λ before bytes answer after. WriteAppends (W.contents before.writer) (W.contents after.writer) answer bytes };
 
     ghost failed = { λ stream. stream.failures };
 

@@ -1,11 +1,12 @@
 //! How much a listing gives, and its pages.
 
+use crate::narrow::Narrow;
 use crate::requests::yes_no;
 use crate::rules::print_bounds;
 use crate::runs::{outcome, request};
 use ics_calendar::read_file;
 use ics_series::{Agenda, Feed, Folder};
-use khal_list::{MOST_BYTES, MemorySource, Request};
+use khal_list::{MOST_BYTES, MemorySource, Request, print};
 use std::alloc::{AllocError, Global};
 use std::io;
 
@@ -19,12 +20,29 @@ pub fn entries(rt: HostRuntime, source: &MemorySource, line: &str, now: i64) -> 
         Ok(request) => request,
         Err(fault) => return println!(rt; "[{}]", fault.name()),
     };
-    let mut folder = folder_of(rt.alloc(), source, &request)?;
-    folder.reach(&request.window)?;
+    let folder = folder_of(rt.alloc(), source, &request)?;
     let mut agenda = folder.agenda(request.window, request.after.as_ref())?;
     let (count, held) = drawn(&mut agenda, request.limit.unwrap_or(u32::MAX))?;
     let is_within = yes_no(held <= most_held.parse().unwrap_or(0));
     println!(rt; "{count} entries, at most {most_held} held: {is_within}")?;
+    print_bounds(rt, agenda.steps(), &[least, most])
+}
+
+/// Prints an agenda of some words to an output that takes no byte, and whether so many periods were
+/// looked at: `prints-none LEAST MOST WORDS`.
+pub fn print_none(rt: HostRuntime, source: &MemorySource, line: &str, now: i64) -> io::Result<()> {
+    let (least, line) = line.split_once(' ').unwrap_or((line, ""));
+    let (most, words) = line.split_once(' ').unwrap_or((line, ""));
+    let Ok(request) = request(rt.alloc(), words, now) else {
+        return println!(rt; "no request");
+    };
+    let folder = folder_of(rt.alloc(), source, &request)?;
+    let mut agenda = folder.agenda(request.window, request.after.as_ref())?;
+    let mut out = Narrow::new(rt.alloc(), 0, false);
+    match print(rt.alloc(), &mut agenda, &request, &mut out) {
+        Ok(_) => println!(rt; "[0]")?,
+        Err(fault) => println!(rt; "[{}]", fault.name())?,
+    }
     print_bounds(rt, agenda.steps(), &[least, most])
 }
 

@@ -14,6 +14,8 @@
 //! - `cuts WORDS` runs the words over the last file, cut after each of its bytes, `pages LIMIT WORDS` page
 //!   by page, and `entries HELD LEAST MOST WORDS` bounds what their agenda holds and looks at.
 //! - `out-takes ROOM WORDS` and `err-takes ROOM WORDS` run them where that output has room for few bytes.
+//! - `faults WORDS` runs them with each read failing in turn, and with each output ending after each of its
+//!   bytes; `prints-none LEAST MOST WORDS` where the output takes none, and bounds what is looked at.
 //! - `lines` are those of the last file; `content LINE` and `param NAME LINE` are parts of a line.
 //! - `rule DTSTART RRULE FROM BEFORE [LEAST MOST]` lists a rule's locals, and bounds the periods that were
 //!   looked at; `admits DTSTART RRULE LOCAL` asks one, and `until DTSTART RRULE` for its last instant.
@@ -22,6 +24,7 @@
 #![tactic(auto)]
 
 mod counts;
+mod faults;
 mod lines;
 mod narrow;
 mod requests;
@@ -29,6 +32,7 @@ mod row;
 mod rules;
 mod runs;
 mod shown;
+mod unread;
 mod values;
 mod words;
 mod zones;

@@ -6,11 +6,25 @@ use khal_list::{MemorySource, Sink, SinkFault, run};
 use std::alloc::Global;
 use std::io;
 
-/// Bytes in memory. It takes those that there is room for, and then none.
+/// Bytes in memory. It takes those that there is room for, and then fails or takes none.
 #[derive(Drop)]
-struct Narrow {
-    bytes: Vec<u8>,
+pub struct Narrow {
+    pub bytes: Vec<u8>,
     room: usize,
+    fails: bool,
+    failures: u64,
+}
+
+impl Narrow {
+    /// Room for so many bytes, behind which it fails where `fails`.
+    pub fn new(alloc: Global, room: usize, fails: bool) -> Narrow {
+        Narrow {
+            bytes: Vec::new(alloc),
+            room,
+            fails,
+            failures: 0,
+        }
+    }
 }
 
 impl Sink for Narrow {
@@ -20,9 +34,13 @@ impl Sink for Narrow {
 
     ghost puts = { λ before bytes answer after. Unit {0} };
 
-    ghost failed = { λ _. 0 };
+    ghost failed = { λ sink. sink.failures };
 
     fn put(&mut self, bytes: &[u8]) -> Result<usize, SinkFault> {
+        if self.fails && self.room == 0 {
+            self.failures = self.failures.saturating_add(1);
+            return Err(SinkFault::Device);
+        }
         let count = bytes.len().min(self.room);
         match self.bytes.extend_from_slice(&bytes[..count]) {
             Ok(()) => {
@@ -34,13 +52,8 @@ impl Sink for Narrow {
     }
 
     fn failures(&self) -> u64 {
-        0
+        self.failures
     }
-}
-
-fn with_room(alloc: Global, room: usize) -> Narrow {
-    let bytes = Vec::new(alloc);
-    Narrow { bytes, room }
 }
 
 /// Runs words where standard output takes at most so many bytes, or standard error where `is_err`, and
@@ -57,8 +70,8 @@ pub fn run_narrow(
         return Ok(());
     };
     let room = room.parse().unwrap_or(0);
-    let mut out = with_room(rt.alloc(), if is_err { 1_000 } else { room });
-    let mut err = with_room(rt.alloc(), if is_err { room } else { 1_000 });
+    let mut out = Narrow::new(rt.alloc(), if is_err { 1_000 } else { room }, false);
+    let mut err = Narrow::new(rt.alloc(), if is_err { room } else { 1_000 }, false);
     match run(rt.alloc(), source, &request, &mut out, &mut err) {
         Ok(status) => println!(rt; "[{}]", status.code())?,
         Err(fault) => println!(rt; "[{}]", fault.name())?,

@@ -1,6 +1,7 @@
 //! A row: its files, its clock, and what its lines ask.
 
-use crate::counts::{entries, pages};
+use crate::counts::{entries, pages, print_none};
+use crate::faults::faults;
 use crate::lines::{lines, param, parts};
 use crate::narrow::run_narrow;
 use crate::requests::{show_request, usage_has};
@@ -102,6 +103,8 @@ impl Row {
             "usage" => usage_has(rt, rest, self.now),
             "entries" => entries(rt, &self.source, rest, self.now),
             "cuts" => cuts(rt, &mut self.source, rest, self.now),
+            "faults" => faults(rt, &mut self.source, rest, self.now),
+            "prints-none" => print_none(rt, &self.source, rest, self.now),
             "pages" => pages(rt, &mut self.source, rest, self.now),
             "out-takes" => run_narrow(rt, &mut self.source, rest, self.now, false),
             "err-takes" => run_narrow(rt, &mut self.source, rest, self.now, true),

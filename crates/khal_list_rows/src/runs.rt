@@ -3,7 +3,8 @@
 use crate::row::shown_bytes;
 use crate::words::words_of;
 use khal_list::{
-    FolderSource, MemorySink, MemorySource, Request, RequestFault, RunFault, Source, Status, run,
+    FolderSource, MemorySink, MemorySource, Request, RequestFault, RunFault, Source, Status,
+    Stream, run,
 };
 use std::alloc::Global;
 use std::io;
@@ -28,10 +29,11 @@ pub fn outcome<S: Source>(
     source: &mut S,
     request: &Request,
 ) -> Result<Written, RunFault> {
-    let mut out = MemorySink::new(alloc);
+    let mut out = Stream::new(Vec::new(alloc));
     let mut err = MemorySink::new(alloc);
     let status = run(alloc, source, request, &mut out, &mut err)?;
-    let out = String::from_str(alloc, shown_bytes(out.bytes.as_slice()))?;
+    let written = out.into_writer();
+    let out = String::from_str(alloc, shown_bytes(written.as_slice()))?;
     let err = String::from_str(alloc, shown_bytes(err.bytes.as_slice()))?;
     Ok(Written { out, err, status })
 }

@@ -7,9 +7,6 @@ use ics_zone::{Display, Place, Zone};
 use khal_list::MOST_BYTES;
 use std::alloc::{AllocError, Global};
 
-/// 2200-01-01T00:00:00Z, as far as zones of files are asked.
-const REACHED: i64 = 7_258_118_400;
-
 /// What a display zone answers, or why it is none.
 pub fn in_display(
     alloc: Global,
@@ -26,10 +23,7 @@ pub fn in_display(
 /// What the first zone of a file answers.
 pub fn in_file(alloc: Global, file: &[u8], call: &str, value: &str) -> Result<String, AllocError> {
     match first_zone(alloc, file) {
-        Some(mut zone) => {
-            zone.reach(REACHED)?;
-            answer(alloc, &zone, call, value)
-        }
+        Some(zone) => answer(alloc, &zone, call, value),
         None => String::from_str(alloc, "no zone"),
     }
 }
@@ -58,8 +52,8 @@ fn answer<P: Place>(
 /// The offset of a place at an instant, and what its clock shows.
 fn clock<P: Place>(alloc: Global, place: &P, value: &str) -> Result<String, AllocError> {
     let moment = moment_of(value);
-    if moment < -62_167_392_000 || moment > 251_856_172_799 || moment > place.reached() {
-        return String::from_str(alloc, "not reached");
+    if moment < -62_167_392_000 || moment > 251_856_172_799 {
+        return String::from_str(alloc, "no instant");
     }
     let offset = place.offset(moment);
     format!(in alloc; "{} at {offset}", local_text(alloc, place.local(moment))?)
@@ -70,10 +64,6 @@ fn instant<P: Place>(alloc: Global, place: &P, value: &str) -> Result<String, Al
     let local = local_of(value).unwrap_or(Local::at(0, 0));
     if local.day < -719_528 || local.day > 2_914_999 {
         return String::from_str(alloc, "no day");
-    }
-    let seconds = i64::from(local.day) * 86_400 + i64::from(local.second);
-    if place.reached() < seconds + 172_800 {
-        return String::from_str(alloc, "not reached");
     }
     moment_text(alloc, place.moment(local))
 }

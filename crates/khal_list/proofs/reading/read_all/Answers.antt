@@ -33,7 +33,7 @@ loop-index-preserved g c =
     let kept : g.S.Source.names c.read_outcome.new.source ≡ names = c.in_ok-outcome.ensures.names ∙ c.loop-index.invariant.names in
     record {
       names = kept;
-      done = done-more g.S.Source.reads names c.args.source.now c.loop-index.index c.loop-index.source _ _ c.loop-index.invariant.done read.0 c.read_outcome.new.source read.1 read.2.0
-          c.name.result.now (ap (λ list. slice_get list c.loop-index.index) (sym kept) ∙ c.name.ensures) (seen_outcome c.in_ok-outcome.outcome) read.2.1
+      done = done-more g.S.Source.reads names c.args.source.now c.loop-index.index c.loop-index.source _ _ c.loop-index.invariant.done read.0 c.read_outcome.new.source read.1
+          c.name.result.now (ap (λ list. slice_get list c.loop-index.index) (sym kept) ∙ c.name.ensures) (seen_outcome c.in_ok-outcome.outcome) read.2
           (map said_by c.keep.new.self.files.items) c.keep.new.self.errors.items c.in_ok-keep.ensures.files c.in_ok-keep.ensures.errors;
     }

@@ -1,18 +1,17 @@
-use Rattle.std.proofs.Common.{map, ap, ◌∙◌}
+use Rattle.std.proofs.Common.{map}
 use Rattle.std.specs.Option.{option_map}
 use Rattle.ics_calendar.specs.Event.{said_by}
 use Rattle.ics_series.specs.Entry.{key_rank}
-use Rattle.khal_list.specs.Growth.{grown}
 use Rattle.khal_list.specs.Headline.{Stops}
 use Rattle.khal_list.proofs.RunLemmas.{lists, stops, stops-more}
-use Rattle.khal_list.proofs.Written.{on_err}
+use Rattle.khal_list.proofs.Written.{appends-same, on_err}
 use Rattle.khal_list.proofs.running.run.Goals as goal
 
 pub returns-in_err-key-clause-stops : goal.returns-in_err-key-clause-stops
 returns-in_err-key-clause-stops g c =
     let all = c.in_ok-reading.ensures.all in
     let told = g.E.Sink.taken c.args.err.now in
-    let wrote = c.in_ok-put_all.ensures.ok ∙ ap (grown told) c.deref.ensures.value in
+    let wrote = appends-same told (g.E.Sink.taken c.put_all.new.sink) c.deref.ensures.value c.in_ok-put_all.ensures.ok in
     on_err {P = Stops g.S.Source.reads (g.S.Source.names c.args.source.now) c.args.source.now c.read_all.new.source c.args.request.now
     (g.O.Sink.taken c.args.out.now) (g.O.Sink.taken c.list.new.out) (g.E.Sink.taken c.args.err.now) (g.E.Sink.taken c.put_all.new.sink)}
     c.from_residual-in_err-key.result (
@@ -24,7 +23,7 @@ pub returns-in_err-put_more-clause-stops : goal.returns-in_err-put_more-clause-s
 returns-in_err-put_more-clause-stops g c =
     let all = c.in_ok-reading.ensures.all in
     let told = g.E.Sink.taken c.args.err.now in
-    let wrote = c.in_ok-put_all.ensures.ok ∙ ap (grown told) c.deref.ensures.value in
+    let wrote = appends-same told (g.E.Sink.taken c.put_all.new.sink) c.deref.ensures.value c.in_ok-put_all.ensures.ok in
     let listed = c.in_ok-key.ensures.ok in
     on_err {P = Stops g.S.Source.reads (g.S.Source.names c.args.source.now) c.args.source.now c.read_all.new.source c.args.request.now
     (g.O.Sink.taken c.args.out.now) (g.O.Sink.taken c.list.new.out) (g.E.Sink.taken c.args.err.now) (g.E.Sink.taken c.put_more.new.err)}
@@ -38,7 +37,7 @@ pub returns-clause-lists : goal.returns-clause-lists
 returns-clause-lists g c =
     let all = c.in_ok-reading.ensures.all in
     let told = g.E.Sink.taken c.args.err.now in
-    let wrote = c.in_ok-put_all.ensures.ok ∙ ap (grown told) c.deref.ensures.value in
+    let wrote = appends-same told (g.E.Sink.taken c.put_all.new.sink) c.deref.ensures.value c.in_ok-put_all.ensures.ok in
     let listed = c.in_ok-key.ensures.ok in
     lists g.S.Source.reads (g.S.Source.names c.args.source.now) c.args.source.now c.read_all.new.source c.args.request.now
     (g.O.Sink.taken c.args.out.now) (g.O.Sink.taken c.list.new.out) told (g.E.Sink.taken c.put_all.new.sink)
