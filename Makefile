@@ -5,12 +5,19 @@ PREFIX ?= /usr/local
 DESTDIR ?=
 ARGS ?= list examples/calendars 2024-01-01 7d --zone=CET-1CEST,M3.5.0,M10.5.0/3
 
+SHARE := $(DESTDIR)$(PREFIX)/share
+INSTALLED_PROGRAM := $(DESTDIR)$(PREFIX)/bin/khal-list
+INSTALLED_PAGE := $(SHARE)/man/man1/khal-list.1
+INSTALLED_BASH := $(SHARE)/bash-completion/completions/khal-list
+INSTALLED_ZSH := $(SHARE)/zsh/site-functions/_khal-list
+INSTALLED_FISH := $(SHARE)/fish/vendor_completions.d/khal-list.fish
+
 PROGRAM := bin/khal-list
 BUILT := crates/khal_list_cli/out/khal_list_cli
 # What the program is made of: every crate but the one of worked examples.
 SOURCES := crates.txt $(shell find crates \( -name out -o -name khal_list_rows \) -prune -o -type f \( -name '*.rt' -o -name '*.antt' \) -print)
 
-.PHONY: run try build test bench install clean kit
+.PHONY: run try build test check-docs check-faults bench install uninstall clean kit
 
 # Lists the sample calendars for a fixed week, or whatever ARGS says.
 run: $(PROGRAM)
@@ -26,6 +33,10 @@ build: $(PROGRAM)
 test: kit
 	@RT_JOBS=$$(sh scripts/lanes) $(RT) ci
 
+# The program where outputs, files and memory fail.
+check-faults: $(PROGRAM)
+	@python3 scripts/check-faults $(PROGRAM)
+
 # Proves the program and builds it.
 $(PROGRAM): $(SOURCES) | kit
 	@RT=$(RT) sh scripts/prove
@@ -35,8 +46,20 @@ $(PROGRAM): $(SOURCES) | kit
 bench: $(PROGRAM)
 	@python3 bench/bench.py $(PROGRAM)
 
+# README, page, completions and examples against the program.
+check-docs: $(PROGRAM)
+	@sh scripts/check-docs $(PROGRAM)
+
+# The program, its manual page, and its completions where the shells look for them.
 install: $(PROGRAM)
-	@mkdir -p $(DESTDIR)$(PREFIX)/bin && cp $(PROGRAM) $(DESTDIR)$(PREFIX)/bin/khal-list
+	@install -D -m 755 $(PROGRAM) $(INSTALLED_PROGRAM)
+	@install -D -m 644 docs/khal-list.1 $(INSTALLED_PAGE)
+	@install -D -m 644 completions/khal-list.bash $(INSTALLED_BASH)
+	@install -D -m 644 completions/_khal-list $(INSTALLED_ZSH)
+	@install -D -m 644 completions/khal-list.fish $(INSTALLED_FISH)
+
+uninstall:
+	@rm -f $(INSTALLED_PROGRAM) $(INSTALLED_PAGE) $(INSTALLED_BASH) $(INSTALLED_ZSH) $(INSTALLED_FISH)
 
 clean:
 	@rm -rf bin bench/data crates/*/out

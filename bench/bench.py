@@ -8,6 +8,7 @@ import sys
 import time
 
 from folders import ROWS, write
+from zones import ROWS as ZONES
 
 HERE = os.path.dirname(os.path.abspath(__file__))
 
@@ -32,7 +33,7 @@ def main():
     program = os.path.abspath(sys.argv[1])
     runs = int(sys.argv[2]) if len(sys.argv) > 2 else 5
     print('%-40s %9s %9s %7s %8s' % ('folder', 'seconds', 'MiB', 'status', 'lines'))
-    for name, files, words in ROWS:
+    for name, files, words in [*ROWS, *ZONES]:
         folder = os.path.join(HERE, 'data', name.replace(',', '').replace(' ', '-'))
         write(folder, files())
         taken = [measure([program, 'list', folder, *words]) for _ in range(runs)]

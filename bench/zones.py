@@ -1,0 +1,88 @@
+"""The folders that measure what time zones cost, those of hostile files among them."""
+from datetime import datetime, timedelta
+
+from folders import NEW_YORK, calendar, event, zoned
+
+EACH = ','.join(str(number) for number in range(60))
+EACH_SECOND = 'FREQ=DAILY;BYHOUR=%s;BYMINUTE=%s;BYSECOND=%s' % (','.join(str(hour) for hour in range(24)), EACH, EACH)
+
+
+def part(name, start, before, after, *more):
+    """An observance: when it begins, and the offsets before and after."""
+    return ['BEGIN:' + name, 'DTSTART:' + start, 'TZOFFSETFROM:' + before, 'TZOFFSETTO:' + after, *more, 'END:' + name]
+
+
+def zone(name, *parts):
+    return ['BEGIN:VTIMEZONE', 'TZID:' + name, *(line for lines in parts for line in lines), 'END:VTIMEZONE']
+
+
+def stamps(count, step):
+    """Local times of 2024 in their order, so many seconds apart."""
+    return [(datetime(2024, 1, 1) + timedelta(seconds=step * number)).strftime('%Y%m%dT%H%M%S') for number in range(count)]
+
+
+def dense(start):
+    """A time zone that changes its offset at every second."""
+    return zone('dense', part('STANDARD', start, '+0000', '+0100', 'RRULE:' + EACH_SECOND))
+
+
+def daily(count):
+    """So many time zones that change daily since the year 0001."""
+    return [line for number in range(count)
+            for line in zone('Z%d' % number, part('STANDARD', '00010101T000000', '+0000', '+0100', 'RRULE:FREQ=DAILY'))]
+
+
+# New York as Exchange writes it
+EXCHANGE = zone('NY', part('STANDARD', '16010101T020000', '-0400', '-0500', 'RRULE:FREQ=YEARLY;INTERVAL=1;BYDAY=1SU;BYMONTH=11'),
+                part('DAYLIGHT', '16010101T020000', '-0500', '-0400', 'RRULE:FREQ=YEARLY;INTERVAL=1;BYDAY=2SU;BYMONTH=3'))
+
+
+def many(count, own):
+    """Files of one event, each with a time zone of its own."""
+    rest = '\r\n'.join(NEW_YORK).encode()
+    for number in range(count):
+        yield '%05d.ics' % number, zoned([number]).replace(rest, '\r\n'.join(own).encode())
+
+
+def locals_in(name, times):
+    """An event that begins at each of these local times of a time zone."""
+    lines = ['BEGIN:VEVENT', 'UID:locals@example.org', 'DTSTART;TZID=%s:%s' % (name, times[0]), 'SUMMARY:Locals']
+    lines += ['RDATE;TZID=%s:%s' % (name, ','.join(times[at:at + 100])) for at in range(0, len(times), 100)]
+    return [*lines, 'END:VEVENT']
+
+
+def listed(count):
+    """So many onsets by RDATE within two days, every other one of daylight time, and as many local times among them."""
+    onsets = stamps(count, 172_800 // count)
+    parts = [part(name, '20231231T%02d0000' % hour, before, after, 'RDATE:' + ','.join(onsets[first::2]))
+             for name, hour, before, after, first in (('STANDARD', 0, '+0100', '+0000', 0), ('DAYLIGHT', 1, '+0000', '+0100', 1))]
+    return calendar([*zone('listed', *parts), *locals_in('listed', onsets)])
+
+
+def dense_locals(count):
+    return calendar([*dense('20230101T000000'), *locals_in('dense', stamps(count, 61))])
+
+
+def apart(count):
+    """Events ten years apart, in a time zone that changes daily since the year 0001 so many times as COUNT says."""
+    own = zone('counted', part('STANDARD', '00010101T000000', '+0000', '+0100', 'RRULE:FREQ=DAILY;COUNT=3000000'))
+    lines = []
+    for number in range(count):
+        lines += ['BEGIN:VEVENT', 'UID:%d@example.org' % number, 'DTSTART;TZID=counted:%04d0105T120000' % (7 + 10 * number),
+                  'SUMMARY:Event %d' % number, 'END:VEVENT']
+    return calendar([*own, *lines])
+
+
+# what is measured: a name, the files, and the words after the folder
+ROWS = [
+    ('a dense zone that nothing names', lambda: [('a.ics', calendar([*dense('20220823T000000'), *event(0)]))],
+     ['2024-01-05', '1d']),
+    ('200 daily zones since 0001', lambda: [('a.ics', calendar([*daily(200), *event(0)]))], ['2024-01-05', '1d']),
+    ('10,000 files with a zone since 1997', lambda: many(10_000, NEW_YORK), ['2024-01-05', '1d']),
+    ('10,000 files as Exchange writes them', lambda: many(10_000, EXCHANGE), ['2024-01-05', '1d']),
+    ('100 files of New York, a window in 9700', lambda: many(100, NEW_YORK), ['9700-01-05', '1d']),
+    ('20,000 onsets by RDATE, as many locals', lambda: [('a.ics', listed(20_000))], ['2024-01-01', '3d']),
+    ('1,000 locals of a dense zone', lambda: [('a.ics', dense_locals(1_000))], ['2024-01-01', '3d']),
+    ('10,000 locals of a dense zone', lambda: [('a.ics', dense_locals(10_000))], ['2024-01-01', '9d']),
+    ('245 events ten years apart, COUNT', lambda: [('a.ics', apart(245))], ['2024-01-05', '1d']),
+]

@@ -1,0 +1,36 @@
+# bash completion for khal-list
+
+_khal_list() {
+    local word=${COMP_WORDS[COMP_CWORD]} before=${COMP_WORDS[COMP_CWORD - 1]}
+    local command='' at words='' placeholders
+    COMPREPLY=()
+    for ((at = 1; at < COMP_CWORD; at++)); do
+        case ${COMP_WORDS[at]} in
+        list | at | help) command=${COMP_WORDS[at]} && break ;;
+        esac
+    done
+    placeholders='{cell} {title} {start-time} {end-time} {start-date} {end-date} {location} {description} {uid} {cancelled}'
+    case $before in
+    --zone) words='UTC' ;;
+    --limit | --after) return ;;
+    --format) words=$placeholders ;;
+    --day-format) words='{name} {date}' ;;
+    *)
+        case $command:$word in
+        list:-*) words='--zone --limit --after --notstarted --format --day-format --help' ;;
+        at:-*) words='--zone --help' ;;
+        :-*) words='--help' ;;
+        :*) words='list at help' ;;
+        help:*) words='list at' ;;
+        *)
+            compopt -o filenames 2>/dev/null
+            mapfile -t COMPREPLY < <(compgen -d -- "$word")
+            return
+            ;;
+        esac
+        ;;
+    esac
+    mapfile -t COMPREPLY < <(compgen -W "$words" -- "$word")
+}
+
+complete -F _khal_list khal-list
