@@ -11,3 +11,5 @@ pub mod BytesLemmas
 pub mod Parameters
 pub mod OneReading
 pub mod Standing
+pub mod Foldings
+pub mod ReadingLemmas

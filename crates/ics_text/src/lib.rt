@@ -15,7 +15,10 @@ mod place;
 
 pub use content_line::content;
 pub use fault::{BadFold, BadLine};
-pub use laws::{numbers_rise, numbers_within, params_read_once};
+pub use laws::{
+    content_by_grammar, numbers_rise, numbers_within, param_by_grammar, params_read_once,
+    unfolding_undoes_folding,
+};
 pub use lines::Lines;
 pub use logical::Logical;
 pub use parts::Content;
