@@ -34,3 +34,6 @@ mod RunLemmas
 mod MonthDays
 mod WeekDays
 mod PlainLemmas
+mod NthLemmas
+mod TableCounts
+mod PlaceLemmas

@@ -1,41 +1,209 @@
 -- A rule whose DTSTART fits is its plain reading.
-use Rattle.std.proofs.Common.{◌≡◌, ℕ, ◌<◌, ◌≤◌, ◌⊎◌, inl, inr, Bool, true, false, not, ◌&&◌, ◌||◌, ◌==◌, nat_lt, nat_le, if◌then◌else◌, Option, Some, None, MatchOption, refl, sym, ap, ◌∙◌, arith}
+use Rattle.std.proofs.Common.{◌≡◌, ◌≢◌, ℕ, suc, ◌+◌, ◌-◌, ◌*◌, ◌/◌, ◌%◌, ◌<◌, ◌≤◌, ◌⊎◌, inl, inr, Bool, true, false, not, ◌&&◌, ◌||◌, ◌==◌, nat_lt, nat_le, if◌then◌else◌, Option, Some, None, MatchOption, pos, refl, sym, ap, ◌∙◌, arith}
 use Rattle.std.proofs.lemmas.Bool.Decides.{nat_tests}
+use Rattle.std.proofs.lemmas.Nat.Bits.{bit_at-zero}
+use Rattle.jiff_core.specs.Calendar.{days_in_month, days_in_year}
+use Rattle.jiff_core.specs.Weekday.{monday_zero}
 use Rattle.ics_values.specs.declared.frequency.Frequency.{Frequency}
 use Rattle.ics_values.specs.declared.frequency.Frequency.TheVariants.{Secondly, Minutely, Hourly, Daily, Weekly, Monthly, Yearly}
-use Rattle.ics_values.specs.Places.{lists_none, lists_none_wide, lists_no_weekday}
-use Rattle.ics_values.specs.Days.{weekday_of}
+use Rattle.ics_values.specs.declared.places.Places.{Places}
+use Rattle.ics_values.specs.Sets.{has, has_wide, is_none, only}
+use Rattle.ics_values.specs.Places.{no_places, lists_none, lists_none_wide, numbers_of}
+use Rattle.ics_values.specs.Days.{day_index, year_of, year_day_of, month_of, month_day_of, weekday_of}
+use Rattle.ics_rule.specs.declared.kind.Kind.{Kind}
+use Rattle.ics_rule.specs.declared.kind.Kind.TheVariants.{Date, DateTime}
+use Rattle.ics_rule.specs.declared.filled.Filled.{Filled}
 use Rattle.ics_rule.specs.Recurrence.{Recurrence}
-use Rattle.ics_rule.specs.Locals.{number, day_of, rules_end}
-use Rattle.ics_rule.specs.Filled.{names_no_day, takes_weekday, filled_at, only_weekday, filled}
-use Rattle.ics_rule.specs.Kept.{count, is_chosen, is_in_rule, is_until, is_counted, is_kept}
-use Rattle.ics_rule.specs.Table.{ByWeekNo, ByYearDay, ByMonthDay}
-use Rattle.ics_rule.specs.PlainReading.{is_weekly, with_missing, is_plain_member, is_few_members, is_plainly_kept, HasPlainReading}
-use Rattle.ics_rule.proofs.Counts.{count-same, count-none}
-use Rattle.ics_rule.proofs.TableSteps.{self_test, keep_true}
+use Rattle.ics_rule.specs.Locals.{number, day_of, hour_of, minute_of, second_of, calendar_end, rules_end}
+use Rattle.ics_rule.specs.Filled.{takes_month_day, takes_month, takes_weekday, skips_hours, skips_minutes, skips_seconds, clock_part, filled}
+use Rattle.ics_rule.specs.Candidates.{lets, lets_place, lets_wide_place, lists, lists_wide, lets_week, lets_numbered, lets_weekday, lets_date, lets_clock, period_in, is_stepped, is_candidate_in, fourth_day, week_number, weeks_of_year}
+use Rattle.ics_rule.specs.Kept.{count, is_beside, rank, size, is_placed, is_chosen, is_in_rule, is_until, is_counted, is_kept}
+use Rattle.ics_rule.specs.Table.{ByMonth, ByWeekNo, ByYearDay, ByMonthDay, ByDay, ByHour, ByMinute, BySecond}
+use Rattle.ics_rule.specs.ByTable.{is_absent, is_clockless, weekday_unit}
+use Rattle.ics_rule.specs.PlainReading.{is_place, is_wide_place, is_dayless, is_extracted, month_applies, in_year, in_month, month_day_applies, year_day_applies, with_weekday, weekday_period, is_weekday, weekday_applies, fourth_of_week, is_week, week_applies, hour_applies, minute_applies, second_applies, all_apply, period_at, frequency_applies, occurs_in, position_applies, is_plain_member, is_few_members, is_plainly_kept, HasPlainReading}
+use Rattle.ics_rule.proofs.Counts.{count-same, count-suc, count-none}
+use Rattle.ics_rule.proofs.DateLemmas.{none_nth}
+use Rattle.ics_rule.proofs.PeriodLemmas.{week_small, period_mono}
+use Rattle.ics_rule.proofs.TableSteps.{self_test, keep_true, never, or_assoc, only_number, only_day, only_this_weekday, same_or_not, same_test, apart_test, and_assoc, both_true, chosen_where, count_one}
+use Rattle.ics_rule.proofs.NthLemmas.{month_days_listed, year_days_listed, month_weekday_listed, year_weekday_listed, weeks_listed}
 
--- what is taken of DTSTART's weekday
-yearly : (a w : Bool) → (a ≡ true → w ≡ true) → (a && not w) ≡ false
-yearly true w h = ap not (h refl)
-yearly false w h = refl
+-- ---- what is extracted of DTSTART
 
-weekly : (m y b w : Bool) → m ≡ true → y ≡ true → w ≡ true → b ≡ (m && y && b && w)
-weekly true true b true p q s = sym (keep_true b)
-weekly true true b false p q s = absurd (cc)
-weekly true false b w p q s = absurd (cc)
-weekly false y b w p q s = absurd (cc)
+-- a part that is absent takes DTSTART's own, or all
+by_absence : (absent from t x y own : Bool) → t ≡ (from && absent) → (absent ≡ false → x ≡ y)
+    → (if t then own else (absent || x)) ≡ (if absent then (if from then own else true) else y)
+by_absence true true t x y own taken same = ap (λ b. if b then own else true) taken
+by_absence true false t x y own taken same = ap (λ b. if b then own else true) taken
+by_absence false true t x y own taken same = ap (λ b. if b then own else x) taken ∙ same refl
+by_absence false false t x y own taken same = ap (λ b. if b then own else x) taken ∙ same refl
 
-taken : (f : Frequency) (r : Recurrence) → HasPlainReading (record r { parts = record r.parts { frequency = f } })
-    → takes_weekday f r.parts ≡ (is_weekly f && (names_no_day r.parts && lists_none r.parts.weeks))
-taken Yearly r plain = yearly (names_no_day r.parts) (lists_none r.parts.weeks) (plain.weeks refl)
-taken Weekly r plain =
-    weekly (lists_none r.parts.month_days) (lists_none_wide r.parts.year_days) (lists_no_weekday r.parts.weekdays) (lists_none r.parts.weeks)
-    (plain.allowed.parts ByMonthDay refl) (plain.allowed.parts ByYearDay refl) (plain.allowed.parts ByWeekNo refl)
-taken Monthly r plain = refl
-taken Daily r plain = refl
-taken Hourly r plain = refl
-taken Minutely r plain = refl
-taken Secondly r plain = refl
+-- and a part that nothing stands in for, all
+left_open : (absent from x y : Bool) → x ≡ y → (absent || x) ≡ (if absent then (if from then true else true) else y)
+left_open true true x y same = refl
+left_open true false x y same = refl
+left_open false from x y same = same
+
+month_taken : (f : Frequency) (r : Recurrence) → takes_month f r.parts ≡ (is_extracted r f ByMonth && is_absent r ByMonth)
+month_taken Yearly r = refl
+month_taken Monthly r = refl
+month_taken Weekly r = refl
+month_taken Daily r = refl
+month_taken Hourly r = refl
+month_taken Minutely r = refl
+month_taken Secondly r = refl
+
+day_taken : (f : Frequency) (r : Recurrence) → takes_month_day f r.parts ≡ (is_extracted r f ByMonthDay && is_absent r ByMonthDay)
+day_taken Yearly r = kept_first (is_absent r ByMonthDay) (is_absent r ByYearDay) (is_absent r ByDay) (is_absent r ByWeekNo)
+  where
+    kept_first : (m y b w : Bool) → (m && y && b && w) ≡ ((m && y && b && w) && m)
+    kept_first true y b w = sym (keep_true (y && b && w))
+    kept_first false y b w = refl
+day_taken Monthly r = kept_first (is_absent r ByMonthDay) (is_absent r ByYearDay) (is_absent r ByDay) (is_absent r ByWeekNo)
+  where
+    kept_first : (m y b w : Bool) → (m && y && b && w) ≡ ((m && y && b && w) && m)
+    kept_first true y b w = sym (keep_true (y && b && w))
+    kept_first false y b w = refl
+day_taken Weekly r = refl
+day_taken Daily r = refl
+day_taken Hourly r = refl
+day_taken Minutely r = refl
+day_taken Secondly r = refl
+
+weekday_taken : (f : Frequency) (r : Recurrence) → (f ≡ Weekly → is_absent r ByDay ≡ true → is_dayless r ≡ true)
+    → (f ≡ Yearly → (is_absent r ByMonthDay && is_absent r ByYearDay && is_absent r ByDay) ≡ true → is_dayless r ≡ true)
+    → takes_weekday f r.parts ≡ (is_extracted r f ByDay && is_absent r ByDay)
+weekday_taken Yearly r weekly yearly = none_left (is_absent r ByMonthDay && is_absent r ByYearDay && is_absent r ByDay) (is_absent r ByWeekNo) (yearly refl)
+  where
+    none_left : (a w : Bool) → (a ≡ true → (a && w) ≡ true) → (a && not w) ≡ false
+    none_left true w h = ap not (h refl)
+    none_left false w h = refl
+weekday_taken Weekly r weekly yearly = whole (is_absent r ByDay) (is_dayless r) (weekly refl)
+  where
+    whole : (b d : Bool) → (b ≡ true → d ≡ true) → b ≡ (d && b)
+    whole true d h = sym (ap (λ x. x && true) (h refl))
+    whole false d h = sym (never d)
+weekday_taken Monthly r weekly yearly = refl
+weekday_taken Daily r weekly yearly = refl
+weekday_taken Hourly r weekly yearly = refl
+weekday_taken Minutely r weekly yearly = refl
+weekday_taken Secondly r weekly yearly = refl
+
+-- beside BYDAY no month is taken
+no_month_taken : (f : Frequency) (r : Recurrence) → is_absent r ByDay ≡ false → takes_month f r.parts ≡ false
+no_month_taken Yearly r h = third_false (is_absent r ByMonthDay) (is_absent r ByYearDay) (is_absent r ByDay) (is_absent r ByWeekNo) (is_absent r ByMonth) h
+  where
+    third_false : (m y b w o : Bool) → b ≡ false → (m && y && b && w && o) ≡ false
+    third_false m y true w o h = absurd (cc)
+    third_false true true false w o h = refl
+    third_false true false false w o h = refl
+    third_false false y false w o h = refl
+no_month_taken Monthly r h = refl
+no_month_taken Weekly r h = refl
+no_month_taken Daily r h = refl
+no_month_taken Hourly r h = refl
+no_month_taken Minutely r h = refl
+no_month_taken Secondly r h = refl
+
+-- ---- the numbers of a weekday
+
+place_none : (p : Places) (test : ℕ → Bool) (e : ℕ) → lists_none p ≡ true → is_place p test e ≡ false
+place_none p test e h =
+    let parts = and_parts (is_none p.front) (is_none p.back) h in
+    ap (λ x. has x (count (suc e) test) || has p.back (count calendar_end test - count e test)) (zero_of p.front parts.0)
+    ∙ ap (λ x. has 0 (count (suc e) test) || has x (count calendar_end test - count e test)) (zero_of p.back parts.1)
+    ∙ ap (λ x. (x == 1) || has 0 (count calendar_end test - count e test)) (bit_at-zero (count (suc e) test))
+    ∙ ap (λ x. x == 1) (bit_at-zero (count calendar_end test - count e test))
+  where
+    and_parts : (a b : Bool) → (a && b) ≡ true → (a ≡ true) × (b ≡ true)
+    and_parts true b h = (refl, h)
+    and_parts false b h = absurd (cc)
+
+    zero_of : (s : ℕ) → (s == 0) ≡ true → s ≡ 0
+    zero_of s h = grind (arith, nat_tests)
+
+module _ (r : Recurrence) (q : Filled) (p : Places) (e : ℕ) (small : e < 4_000_000) (weeks : lists_none q.weeks ≡ is_absent r ByWeekNo) (months : is_none q.months ≡ is_absent r ByMonth) where
+  -- under YEARLY
+  by_unit : (w m : Bool) → ((if not w then Weekly else (if not m then Monthly else Yearly)) ≡ Weekly → lists_none p ≡ true)
+      → (if not w then not (lists_none p) else (if not m then lets_numbered Monthly q p e else lets_numbered Yearly (record q { weeks = no_places; months = 0 }) p e))
+      ≡ is_place p (with_weekday (if m then in_year else in_month) e) e
+  by_unit false m none = ap not (none refl) ∙ sym (place_none p (with_weekday (if m then in_year else in_month) e) e (none refl))
+  by_unit true true none = sym (year_weekday_listed p e small)
+  by_unit true false none = sym (month_weekday_listed p e small)
+
+  numbered : (f : Frequency) → (weekday_unit r f ≡ Weekly → lists_none p ≡ true) → lets_numbered f q p e ≡ is_place p (with_weekday (weekday_period r f) e) e
+  numbered Monthly none = sym (month_weekday_listed p e small)
+  numbered Yearly none =
+      ap (λ w. if not w then not (lists_none p) else (if not (is_none q.months) then lets_numbered Monthly q p e else lets_numbered Yearly (record q { weeks = no_places; months = 0 }) p e)) weeks
+      ∙ ap (λ m. if not (is_absent r ByWeekNo) then not (lists_none p) else (if not m then lets_numbered Monthly q p e else lets_numbered Yearly (record q { weeks = no_places; months = 0 }) p e)) months
+      ∙ by_unit (is_absent r ByWeekNo) (is_absent r ByMonth) none
+  numbered Weekly none = ap not (none refl) ∙ sym (place_none p (with_weekday (weekday_period r Weekly) e) e (none refl))
+  numbered Daily none = ap not (none refl) ∙ sym (place_none p (with_weekday (weekday_period r Daily) e) e (none refl))
+  numbered Hourly none = ap not (none refl) ∙ sym (place_none p (with_weekday (weekday_period r Hourly) e) e (none refl))
+  numbered Minutely none = ap not (none refl) ∙ sym (place_none p (with_weekday (weekday_period r Minutely) e) e (none refl))
+  numbered Secondly none = ap not (none refl) ∙ sym (place_none p (with_weekday (weekday_period r Secondly) e) e (none refl))
+
+-- no number lets nothing in
+none_numbered : (f : Frequency) (q : Filled) (e : ℕ) → lets_numbered f q no_places e ≡ false
+none_numbered Monthly q e = none_nth no_places (month_day_of e) (days_in_month (pos (year_of e)) (month_of e)) refl
+none_numbered Yearly q e = either_false (lists_none q.weeks) (is_none q.months)
+  where
+    either_false : (w m : Bool) → (if not w then false else (if not m then lets_numbered Monthly q no_places e else lets_numbered Yearly (record q { weeks = no_places; months = 0 }) no_places e)) ≡ false
+    either_false false m = refl
+    either_false true false = none_nth no_places (month_day_of e) (days_in_month (pos (year_of e)) (month_of e)) refl
+    either_false true true = none_nth no_places (year_day_of e) (days_in_year (pos (year_of e))) refl
+none_numbered Weekly q e = refl
+none_numbered Daily q e = refl
+none_numbered Hourly q e = refl
+none_numbered Minutely q e = refl
+none_numbered Secondly q e = refl
+
+-- ---- the clock
+
+clock : (kind : Kind) (takes from : Bool) (set own n : ℕ) → takes ≡ from → (kind ≡ Date → (takes ≡ true) × (own ≡ 0))
+    → lets (clock_part kind takes set own) n ≡ (if (is_clockless kind || is_none set) then (if from then (n == own) else true) else has set n)
+clock Date takes from set own n same date =
+    let midnight = date refl in
+    ap (λ z. lets (only z) n) (sym midnight.1) ∙ only_number true 0 own n ∙ ap (λ b. if b then (n == own) else true) (sym midnight.0 ∙ same)
+clock DateTime takes from set own n same date =
+    only_number (takes && is_none set) set own n
+    ∙ by_absence (is_none set) from (takes && is_none set) (has set n) (has set n) (n == own) (ap (λ x. x && is_none set) same) (λ e. refl)
+
+hour_taken : (f : Frequency) (r : Recurrence) → skips_hours f ≡ is_extracted r f ByHour
+hour_taken Yearly r = refl
+hour_taken Monthly r = refl
+hour_taken Weekly r = refl
+hour_taken Daily r = refl
+hour_taken Hourly r = refl
+hour_taken Minutely r = refl
+hour_taken Secondly r = refl
+
+minute_taken : (f : Frequency) (r : Recurrence) → (skips_minutes f ≡ is_extracted r f ByMinute) × (skips_hours f ≡ true → skips_minutes f ≡ true)
+minute_taken Yearly r = (refl, λ h. refl)
+minute_taken Monthly r = (refl, λ h. refl)
+minute_taken Weekly r = (refl, λ h. refl)
+minute_taken Daily r = (refl, λ h. refl)
+minute_taken Hourly r = (refl, λ h. refl)
+minute_taken Minutely r = (refl, λ h. h)
+minute_taken Secondly r = (refl, λ h. h)
+
+second_taken : (f : Frequency) (r : Recurrence) → (skips_seconds f ≡ is_extracted r f BySecond) × (skips_hours f ≡ true → skips_seconds f ≡ true)
+second_taken Yearly r = (refl, λ h. refl)
+second_taken Monthly r = (refl, λ h. refl)
+second_taken Weekly r = (refl, λ h. refl)
+second_taken Daily r = (refl, λ h. refl)
+second_taken Hourly r = (refl, λ h. refl)
+second_taken Minutely r = (refl, λ h. refl)
+second_taken Secondly r = (refl, λ h. h)
+
+-- midnight
+midnight : (d s : ℕ) → s ≡ 0 → ((d * 86_400 + s) / 3_600 % 24 ≡ 0) × (((d * 86_400 + s) / 60 % 60 ≡ 0) × ((d * 86_400 + s) % 60 ≡ 0))
+midnight d s h = (omega (arith, h), (omega (arith, h), omega (arith, h)))
+
+-- ---- all parts
+
+by_part : {m m' d d' y y' w w' b b' h h' i i' s s' : Bool} → m ≡ m' → d ≡ d' → y ≡ y' → w ≡ w' → b ≡ b' → h ≡ h' → i ≡ i' → s ≡ s'
+    → ((m && d && y && w && b) && (h && i && s)) ≡ ((m' && d' && y' && w' && b') && (h' && i' && s'))
+by_part m d y w b h i s = rw (m, d, y, w, b, h, i, s) refl
 
 unequal : (a b : ℕ) → (a < b) ⊎ (b < a) → (a == b) ≡ false
 unequal a b h = grind (arith, nat_tests)
@@ -56,72 +224,203 @@ by_order : (a b : ℕ) → ((a < b) ⊎ (b < a)) ⊎ (a ≡ b)
 by_order a b = grind arith
 
 module _ (r : Recurrence) (plain : HasPlainReading r) where
-  same_filled : with_missing r.parts r.kind (number r.start) ≡ filled r
-  unfolding filled
-  same_filled =
-      ap (λ t. record (filled_at r.parts r.kind (number r.start)) {
-        weekdays = if t then only_weekday (weekday_of (day_of (number r.start)))
-            else r.parts.weekdays;
-      })
-      (sym (taken r.parts.frequency r plain))
+  abbrev start : ℕ
+  start = number r.start
 
-  -- the start is chosen
-  start_fits : is_chosen (filled r) (number r.start) (number r.start) ≡ true
-  start_fits = ap (λ q. is_chosen q (number r.start) (number r.start)) (sym same_filled) ∙ plain.fits
+  month : (n : ℕ) → lets (filled r).months (month_of (day_of n)) ≡ month_applies r n
+  unfolding filled
+  month n =
+      only_number (takes_month r.parts.frequency r.parts) r.parts.months (month_of (day_of start)) (month_of (day_of n))
+      ∙ by_absence (is_absent r ByMonth) (is_extracted r r.parts.frequency ByMonth) (takes_month r.parts.frequency r.parts)
+      (has r.parts.months (month_of (day_of n))) (has r.parts.months (month_of (day_of n))) (month_of (day_of n) == month_of (day_of start))
+      (month_taken r.parts.frequency r) (λ e. refl)
+
+  month_day : (n : ℕ) → day_of n < 4_000_000
+      → lets_place (filled r).month_days (month_day_of (day_of n)) (days_in_month (pos (year_of (day_of n))) (month_of (day_of n))) ≡ month_day_applies r n
+  unfolding filled
+  month_day n small =
+      only_day (takes_month_day r.parts.frequency r.parts) r.parts.month_days (month_day_of (day_of start)) (month_day_of (day_of n))
+      (days_in_month (pos (year_of (day_of n))) (month_of (day_of n)))
+      ∙ by_absence (is_absent r ByMonthDay) (is_extracted r r.parts.frequency ByMonthDay) (takes_month_day r.parts.frequency r.parts)
+      (lists r.parts.month_days (month_day_of (day_of n)) (days_in_month (pos (year_of (day_of n))) (month_of (day_of n))))
+      (is_place r.parts.month_days (in_month (day_of n)) (day_of n)) (month_day_of (day_of n) == month_day_of (day_of start))
+      (day_taken r.parts.frequency r) (λ e. sym (month_days_listed r.parts.month_days (day_of n) small))
+
+  year_day : (n : ℕ) → day_of n < 4_000_000
+      → lets_wide_place (filled r).year_days (year_day_of (day_of n)) (days_in_year (pos (year_of (day_of n)))) ≡ year_day_applies r n
+  unfolding filled
+  year_day n small =
+      left_open (is_absent r ByYearDay) (is_extracted r r.parts.frequency ByYearDay)
+      (lists_wide r.parts.year_days (year_day_of (day_of n)) (days_in_year (pos (year_of (day_of n)))))
+      (is_wide_place r.parts.year_days (in_year (day_of n)) (day_of n)) (sym (year_days_listed r.parts.year_days (day_of n) small))
+
+  week : (n : ℕ) → day_of n < 3_800_000 → lets_week (filled r) (day_of n) ≡ week_applies r n
+  unfolding filled
+  week n small =
+      let w = monday_zero r.parts.week_start in
+      left_open (is_absent r ByWeekNo) (is_extracted r r.parts.frequency ByWeekNo)
+      (lists r.parts.weeks (week_number (fourth_day w (day_of n))) (weeks_of_year (fourth_day w (day_of n))))
+      (is_week r.parts.weeks (fourth_of_week w (day_of n))) (sym (weeks_listed r.parts.weeks w (day_of n) (week_small r.parts.week_start) small))
+
+  months_kept : is_absent r ByDay ≡ false → is_none (filled r).months ≡ is_absent r ByMonth
+  unfolding filled
+  months_kept e = ap (λ t. is_none (if t then only (month_of (day_of start)) else r.parts.months)) (no_month_taken r.parts.frequency r e)
+
+  weekday : (n : ℕ) → day_of n < 4_000_000 → lets_weekday (filled r) (day_of n) ≡ weekday_applies r n
+  unfolding filled
+  weekday n small =
+      let f = r.parts.frequency in
+      let w = weekday_of (day_of n) in
+      only_this_weekday (takes_weekday f r.parts) r.parts.weekdays (weekday_of (day_of start)) w
+      (λ p. lets_numbered f (filled r) p (day_of n)) (λ e. none_numbered f (filled r) (day_of n))
+      ∙ ap (λ x. if takes_weekday f r.parts then (w == weekday_of (day_of start)) else x)
+      (sym (or_assoc (is_absent r ByDay) (has r.parts.weekdays.plain w) (lets_numbered f (filled r) (numbers_of r.parts.weekdays w) (day_of n))))
+      ∙ by_absence (is_absent r ByDay) (is_extracted r f ByDay) (takes_weekday f r.parts)
+      (has r.parts.weekdays.plain w || lets_numbered f (filled r) (numbers_of r.parts.weekdays w) (day_of n))
+      (is_weekday r (day_of n)) (w == weekday_of (day_of start))
+      (weekday_taken f r plain.weekly plain.yearly)
+      (λ e. ap (λ x. has r.parts.weekdays.plain w || x) (numbered r (filled r) (numbers_of r.parts.weekdays w) (day_of n) small refl (months_kept e) f
+      (λ unit. plain.numbers unit w)))
+
+  hour : (n : ℕ) → lets (filled r).hours (hour_of n) ≡ hour_applies r n
+  unfolding filled
+  hour n =
+      clock r.kind (skips_hours r.parts.frequency) (is_extracted r r.parts.frequency ByHour) r.parts.hours (hour_of start) (hour_of n)
+      (hour_taken r.parts.frequency r) (λ date. ((plain.dates date).0, (midnight (day_index r.start.day) r.start.second (plain.dates date).1).0))
+
+  minute : (n : ℕ) → lets (filled r).minutes (minute_of n) ≡ minute_applies r n
+  unfolding filled
+  minute n =
+      let taken = minute_taken r.parts.frequency r in
+      clock r.kind (skips_minutes r.parts.frequency) (is_extracted r r.parts.frequency ByMinute) r.parts.minutes (minute_of start) (minute_of n)
+      taken.0 (λ date. (taken.1 (plain.dates date).0, (midnight (day_index r.start.day) r.start.second (plain.dates date).1).1.0))
+
+  second : (n : ℕ) → lets (filled r).seconds (second_of n) ≡ second_applies r n
+  unfolding filled
+  second n =
+      let taken = second_taken r.parts.frequency r in
+      clock r.kind (skips_seconds r.parts.frequency) (is_extracted r r.parts.frequency BySecond) r.parts.seconds (second_of start) (second_of n)
+      taken.0 (λ date. (taken.1 (plain.dates date).0, (midnight (day_index r.start.day) r.start.second (plain.dates date).1).1.1))
+
+  parts_apply : (n : ℕ) → n < calendar_end → (lets_date (filled r) (day_of n) && lets_clock (filled r) n) ≡ all_apply r n
+  parts_apply n small =
+      by_part (month n) (month_day n (omega arith)) (year_day n (omega arith)) (week n (omega arith)) (weekday n (omega arith)) (hour n) (minute n) (second n)
+
+  -- the periods
+  abbrev in_turn : ℕ → Bool
+  in_turn n = is_stepped (period_in (filled r) start) (filled r).interval (period_in (filled r) n)
+
+  turns : (n : ℕ) → start ≤ n → in_turn n ≡ frequency_applies r n
+  unfolding filled
+  turns n low =
+      ap (λ b. b && frequency_applies r n)
+      (at_most (period_at r start) (period_at r n) (period_mono r.parts.frequency (monday_zero r.parts.week_start) start n low))
+
+  candidate : (n : ℕ) → n < calendar_end → is_candidate_in (filled r) start n ≡ (in_turn n && all_apply r n)
+  candidate n small =
+      and_assoc (in_turn n) (lets_date (filled r) (day_of n)) (lets_clock (filled r) n) ∙ ap (λ x. in_turn n && x) (parts_apply n small)
+
+  -- BYSETPOS
+  beside : (n m : ℕ) → m < calendar_end → in_turn n ≡ true → is_beside (filled r) start n m ≡ occurs_in r (period_at r n) m
+  unfolding filled
+  beside n m small step = cases (same_or_not (period_at r m) (period_at r n))
+    where
+      cases : (period_at r m ≡ period_at r n) ⊎ (period_at r m ≢ period_at r n)
+          → (is_candidate_in (filled r) start m && period_at r m == period_at r n) ≡ occurs_in r (period_at r n) m
+      cases (inl same) =
+          ap (λ x. is_candidate_in (filled r) start m && x) (same_test (period_at r m) (period_at r n) same)
+          ∙ keep_true (is_candidate_in (filled r) start m) ∙ candidate m small
+          ∙ ap (λ p. is_stepped (period_in (filled r) start) (filled r).interval p && all_apply r m) same ∙ ap (λ x. x && all_apply r m) step
+          ∙ sym (ap (λ x. x && all_apply r m) (same_test (period_at r m) (period_at r n) same))
+      cases (inr other) =
+          ap (λ x. is_candidate_in (filled r) start m && x) (apart_test (period_at r m) (period_at r n) other)
+          ∙ never (is_candidate_in (filled r) start m)
+          ∙ sym (ap (λ x. x && all_apply r m) (apart_test (period_at r m) (period_at r n) other))
+
+  placed : (n : ℕ) → n < calendar_end → is_candidate_in (filled r) start n ≡ true
+      → is_placed (filled r) start (lists_none_wide r.parts.positions) n ≡ position_applies r n
+  unfolding filled
+  placed n small e = by_positions (lists_none_wide r.parts.positions)
+    where
+      here : (in_turn n ≡ true) × (all_apply r n ≡ true)
+      here = both_true (in_turn n) (all_apply r n) (is_candidate_in (filled r) start n) (candidate n small) e
+
+      ranked : rank (filled r) start n ≡ count (suc n) (occurs_in r (period_at r n))
+      ranked = count-same (suc n) (is_beside (filled r) start n) (occurs_in r (period_at r n)) (λ m l. beside n m (omega (arith, l, small)) here.0)
+
+      sized : size (filled r) start n ≡ count calendar_end (occurs_in r (period_at r n))
+      sized = count-same calendar_end (is_beside (filled r) start n) (occurs_in r (period_at r n)) (λ m l. beside n m l here.0)
+
+      from_end : size (filled r) start n + 1 - rank (filled r) start n
+          ≡ count calendar_end (occurs_in r (period_at r n)) - count n (occurs_in r (period_at r n))
+      from_end =
+          let last = count-suc n (occurs_in r (period_at r n)) in
+          let one = count_one (occurs_in r (period_at r n) n) (ap (λ x. x && all_apply r n) (self_test (period_at r n)) ∙ here.1) in
+          omega (arith, ranked, sized, last, one)
+
+      by_positions : (b : Bool) → is_placed (filled r) start b n ≡ (b || is_wide_place r.parts.positions (occurs_in r (period_at r n)) n)
+      by_positions true = refl
+      by_positions false =
+          ap (λ x. has_wide r.parts.positions.front x || has_wide r.parts.positions.back (size (filled r) start n + 1 - rank (filled r) start n)) ranked
+          ∙ ap (λ x. has_wide r.parts.positions.front (count (suc n) (occurs_in r (period_at r n))) || has_wide r.parts.positions.back x) from_end
+
+  chosen : (n : ℕ) → start ≤ n → n < calendar_end → is_chosen (filled r) start n ≡ (frequency_applies r n && (all_apply r n && position_applies r n))
+  unfolding filled
+  chosen n low small =
+      chosen_where (is_candidate_in (filled r) start n) (in_turn n) (all_apply r n) (is_placed (filled r) start (lists_none_wide r.parts.positions) n)
+      (position_applies r n) (candidate n small) (placed n small)
+      ∙ ap (λ x. x && (all_apply r n && position_applies r n)) (turns n low)
 
   -- DTSTART and what is later
-  from_start : (n : ℕ) → ((n < number r.start) ⊎ (number r.start < n)) ⊎ (n ≡ number r.start)
-      → (n == number r.start || (nat_lt (number r.start) n && is_chosen (filled r) (number r.start) n))
-      ≡ (nat_le (number r.start) n && is_chosen (filled r) (number r.start) n)
-  from_start n (inl (inl earlier)) =
-      ap (λ b. b || (nat_lt (number r.start) n && is_chosen (filled r) (number r.start) n)) (unequal n (number r.start) (inl earlier))
-      ∙ ap (λ b. b && is_chosen (filled r) (number r.start) n) (not_less (number r.start) n (omega (arith, earlier)) ∙ sym (above (number r.start) n earlier))
-  from_start n (inl (inr later)) =
-      ap (λ b. b || (nat_lt (number r.start) n && is_chosen (filled r) (number r.start) n)) (unequal n (number r.start) (inr later))
-      ∙ ap (λ b. b && is_chosen (filled r) (number r.start) n) (less (number r.start) n later ∙ sym (at_most (number r.start) n (omega (arith, later))))
-  from_start n (inr same) =
-      ap (λ b. b || (nat_lt (number r.start) n && is_chosen (filled r) (number r.start) n)) (ap (λ x. x == number r.start) same ∙ self_test (number r.start))
-      ∙ sym (ap (λ x. nat_le (number r.start) x && is_chosen (filled r) (number r.start) x) same
-      ∙ ap (λ b. b && is_chosen (filled r) (number r.start) (number r.start)) (at_most (number r.start) (number r.start) (omega arith)) ∙ start_fits)
-
-  member : (n : ℕ) → is_in_rule r n ≡ is_plain_member r n
+  member : (n : ℕ) → n < rules_end → is_in_rule r n ≡ is_plain_member r n
   unfolding is_in_rule
-  member n = from_start n (by_order n (number r.start)) ∙ ap (λ q. nat_le (number r.start) n && is_chosen q (number r.start) n) (sym same_filled)
+  member n small = from_start (by_order n start)
+    where
+      from_start : (((n < start) ⊎ (start < n)) ⊎ (n ≡ start)) → (n == start || (nat_lt start n && is_chosen (filled r) start n)) ≡ is_plain_member r n
+      from_start (inl (inl earlier)) =
+          ap (λ b. b || (nat_lt start n && is_chosen (filled r) start n)) (unequal n start (inl earlier))
+          ∙ ap (λ b. b && is_chosen (filled r) start n) (not_less start n (omega (arith, earlier)))
+          ∙ sym (ap (λ b. b && (frequency_applies r n && (all_apply r n && position_applies r n))) (above start n earlier))
+      from_start (inl (inr later)) =
+          ap (λ b. b || (nat_lt start n && is_chosen (filled r) start n)) (unequal n start (inr later))
+          ∙ ap (λ b. b && is_chosen (filled r) start n) (less start n later)
+          ∙ chosen n (omega (arith, later)) (omega (arith, small))
+          ∙ sym (ap (λ b. b && (frequency_applies r n && (all_apply r n && position_applies r n))) (at_most start n (omega (arith, later))))
+      from_start (inr same) =
+          ap (λ b. b || (nat_lt start n && is_chosen (filled r) start n)) (ap (λ x. x == start) same ∙ self_test start)
+          ∙ sym (ap (is_plain_member r) same ∙ plain.fits)
 
-  counted : (o : Option ℕ) (n : ℕ) → is_counted r o n ≡ is_few_members r o n
-  counted None n = refl
-  counted (Some c) n = ap (λ x. nat_lt x c) (count-same n (is_in_rule r) (is_plain_member r) (λ m l. member m))
+  counted : (o : Option ℕ) (n : ℕ) → n < rules_end → is_counted r o n ≡ is_few_members r o n
+  counted None n small = refl
+  counted (Some c) n small = ap (λ x. nat_lt x c) (count-same n (is_in_rule r) (is_plain_member r) (λ m l. member m (omega (arith, l, small))))
 
   -- the start is the first of them
-  first_counts : (o : Option ℕ) → MatchOption o (Unit {0}) (λ c. 1 ≤ c) → is_few_members r o (number r.start) ≡ true
+  first_counts : (o : Option ℕ) → MatchOption o (Unit {0}) (λ c. 1 ≤ c) → is_few_members r o start ≡ true
   first_counts None h = refl
   first_counts (Some c) h =
-      let none = count-none (number r.start) (is_plain_member r)
-      (λ m l. ap (λ b. b && is_chosen (with_missing r.parts r.kind (number r.start)) (number r.start) m) (above (number r.start) m l)) in
-      less (count (number r.start) (is_plain_member r)) c (omega (arith, none, h))
+      let none = count-none start (is_plain_member r)
+      (λ m l. ap (λ b. b && (frequency_applies r m && (all_apply r m && position_applies r m))) (above start m l)) in
+      less (count start (is_plain_member r)) c (omega (arith, none, h))
 
-  start_kept : is_plainly_kept r (number r.start) ≡ true
+  start_kept : is_plainly_kept r start ≡ true
   start_kept =
-      ap (λ b. b && is_until r.kind r.parts.until (number r.start) && is_few_members r r.parts.count (number r.start))
-      (ap (λ b. b && is_chosen (with_missing r.parts r.kind (number r.start)) (number r.start) (number r.start))
-      (at_most (number r.start) (number r.start) (omega arith)) ∙ plain.fits)
-      ∙ ap (λ b. b && is_few_members r r.parts.count (number r.start)) plain.in_until ∙ first_counts r.parts.count plain.counted
+      ap (λ b. b && is_until r.kind r.parts.until start && is_few_members r r.parts.count start) plain.fits
+      ∙ ap (λ b. b && is_few_members r r.parts.count start) plain.in_until ∙ first_counts r.parts.count plain.counted
 
   pub plainly_kept : (n : ℕ) → n < rules_end → is_kept r n ≡ is_plainly_kept r n
   unfolding is_kept
-  plainly_kept n h = cases (by_order n (number r.start))
+  plainly_kept n h = cases (by_order n start)
     where
-      apart : ((n < number r.start) ⊎ (number r.start < n)) → is_kept r n ≡ is_plainly_kept r n
+      apart : ((n < start) ⊎ (start < n)) → is_kept r n ≡ is_plainly_kept r n
       apart other =
-          ap (λ b. b || (nat_lt n rules_end && is_in_rule r n && is_until r.kind r.parts.until n && is_counted r r.parts.count n))
-          (unequal n (number r.start) other)
+          ap (λ b. b || (nat_lt n rules_end && is_in_rule r n && is_until r.kind r.parts.until n && is_counted r r.parts.count n)) (unequal n start other)
           ∙ ap (λ b. b && is_in_rule r n && is_until r.kind r.parts.until n && is_counted r r.parts.count n) (less n rules_end h)
-          ∙ ap (λ b. b && is_until r.kind r.parts.until n && is_counted r r.parts.count n) (member n)
-          ∙ ap (λ b. is_plain_member r n && is_until r.kind r.parts.until n && b) (counted r.parts.count n)
+          ∙ ap (λ b. b && is_until r.kind r.parts.until n && is_counted r r.parts.count n) (member n h)
+          ∙ ap (λ b. is_plain_member r n && is_until r.kind r.parts.until n && b) (counted r.parts.count n h)
 
-      cases : (((n < number r.start) ⊎ (number r.start < n)) ⊎ (n ≡ number r.start)) → is_kept r n ≡ is_plainly_kept r n
+      cases : (((n < start) ⊎ (start < n)) ⊎ (n ≡ start)) → is_kept r n ≡ is_plainly_kept r n
       cases (inl other) = apart other
       cases (inr same) =
           ap (λ b. b || (nat_lt n rules_end && is_in_rule r n && is_until r.kind r.parts.until n && is_counted r r.parts.count n))
-          (ap (λ x. x == number r.start) same ∙ self_test (number r.start))
+          (ap (λ x. x == start) same ∙ self_test start)
           ∙ sym (ap (is_plainly_kept r) same ∙ start_kept)

@@ -1,22 +1,22 @@
 -- The table on examples of RFC 5545, 3.8.5.3: the list that stands there, over the days of a span.
-use Rattle.std.proofs.Common.{◌≡◌, refl, ℕ, zero, suc, true, ◌+◌, ◌-◌, ◌*◌, ◌^◌, List, [], ◌∷◌, map}
+use Rattle.std.proofs.Common.{◌≡◌, refl, ◌∙◌, ℕ, Bool, true, ◌&&◌, ◌==◌, ◌+◌, ◌-◌, ◌*◌, ◌%◌, ◌^◌, List, [], ◌∷◌, map, arith}
 use Rattle.std.specs.Prelude.{filter}
 use Rattle.ics_values.specs.Days.{days_on_literals}
 use Rattle.ics_values.specs.declared.frequency.Frequency.TheVariants.{Daily, Weekly, Monthly, Yearly}
 use Rattle.jiff_core.specs.declared.civil.weekday.Weekday.TheVariants.{Sunday}
 use Rattle.ics_values.specs.RuleParts.{RuleParts, every}
 use Rattle.ics_values.specs.Places.{no_places, no_wide_places, with_wide_place}
-use Rattle.ics_values.specs.declared.places.Side.TheVariants.{Front}
+use Rattle.ics_values.specs.declared.places.Side.TheVariants.{Front, Back}
 use Rattle.ics_values.specs.Sets.{only}
 use Rattle.ics_rule.specs.declared.kind.Kind.TheVariants.{DateTime}
+use Rattle.ics_rule.specs.Recurrence.{Recurrence}
+use Rattle.ics_rule.specs.Locals.{day_of, hour_of, minute_of, second_of, month_number}
+use Rattle.ics_rule.specs.Kept.{count}
 use Rattle.ics_rule.specs.Table.{Part, ByMonth, ByWeekNo, ByYearDay, ByMonthDay, ByDay, ByHour, ByMinute, BySecond, BySetPos, Nothing, cell}
-use Rattle.ics_rule.specs.ByTable.{is_absent, is_member, IsAllowed}
+use Rattle.ics_rule.specs.ByTable.{is_absent, instance_of, is_listed, is_instance, is_member, IsAllowed}
+use Rattle.ics_rule.proofs.KeptLemmas.{and_true, eqb_true}
+use Rattle.ics_rule.proofs.TableCounts.{days_from, members_by_days}
 use Rattle.ics_rule.proofs.Samples.{on_weekdays, nth_weekday, date, local, rule, mo, tu, fr}
-
--- so many days from one on
-abbrev days_from : ℕ → ℕ → List ℕ
-days_from e zero = []
-days_from e (suc n) = e ∷ days_from (e + 1) n
 
 -- the days of a span that a rule has at 9:00, which starts on a day at 9:00
 abbrev listed : RuleParts → ℕ → ℕ → ℕ → ℕ → ℕ → List ℕ
@@ -103,3 +103,55 @@ election_day : listed
     ≡ map (date 2000 11) (7 ∷ [])
 unfolding days_on_literals
 election_day = refl
+
+-- ---- BYSETPOS, counted by days: each instance is at 9:00 in the month
+
+at_nine : (listed : Bool) (month p m : ℕ) → (listed && (month == p && (hour_of m == 9 && (minute_of m == 0 && second_of m == 0)))) ≡ true
+    → (month ≡ p) × (m % 86_400 ≡ 32_400)
+at_nine listed month p m e =
+    let own = (and_true e).1 in
+    let clock = (and_true own).1 in
+    let hour = eqb_true (hour_of m) 9 (and_true clock).0 in
+    let minute = eqb_true (minute_of m) 0 (and_true (and_true clock).1).0 in
+    let second = eqb_true (second_of m) 0 (and_true (and_true clock).1).1 in
+    (eqb_true month p (and_true own).0, omega (arith, hour, minute, second))
+
+-- the third instance into the month of one of Tuesday, Wednesday or Thursday
+abbrev third_instance : Recurrence
+third_instance =
+    rule (record (every Monthly) { weekdays = on_weekdays (only tu + only 2 + only 3); positions = with_wide_place Front 3 no_wide_places }) (local 1997 9 4 9 0)
+    DateTime
+
+instances_at_nine : (p m : ℕ) → is_instance third_instance p m ≡ true → (month_number (day_of m) ≡ p) × (m % 86_400 ≡ 32_400)
+unfolding days_on_literals
+instances_at_nine p m e = at_nine (is_listed third_instance ByDay (instance_of third_instance.parts m)) (month_number (day_of m)) p m e
+
+third_in_october : listed third_instance.parts 1997 9 4 (date 1997 10 1) 31 ≡ map (date 1997 10) (7 ∷ [])
+unfolding count days_on_literals
+third_in_october =
+    members_by_days third_instance (1997 * 12 + 10) (date 1997 10 1) (date 1997 11 1)
+    (record { period = λ m. refl; shown = instances_at_nine (1997 * 12 + 10) }) refl refl refl refl
+    ∙ refl
+
+-- the second-to-last weekday of the month
+abbrev second_last_weekday : Recurrence
+second_last_weekday =
+    rule (record (every Monthly) { weekdays = on_weekdays (2 ^ 5 - 1); positions = with_wide_place Back 2 no_wide_places }) (local 1997 9 29 9 0) DateTime
+
+weekdays_at_nine : (p m : ℕ) → is_instance second_last_weekday p m ≡ true → (month_number (day_of m) ≡ p) × (m % 86_400 ≡ 32_400)
+unfolding days_on_literals
+weekdays_at_nine p m e = at_nine (is_listed second_last_weekday ByDay (instance_of second_last_weekday.parts m)) (month_number (day_of m)) p m e
+
+second_last_in_october : listed second_last_weekday.parts 1997 9 29 (date 1997 10 1) 31 ≡ map (date 1997 10) (30 ∷ [])
+unfolding count days_on_literals
+second_last_in_october =
+    members_by_days second_last_weekday (1997 * 12 + 10) (date 1997 10 1) (date 1997 11 1)
+    (record { period = λ m. refl; shown = weekdays_at_nine (1997 * 12 + 10) }) refl refl refl refl
+    ∙ refl
+
+second_last_in_february : listed second_last_weekday.parts 1997 9 29 (date 1998 2 1) 28 ≡ map (date 1998 2) (26 ∷ [])
+unfolding count days_on_literals
+second_last_in_february =
+    members_by_days second_last_weekday (1998 * 12 + 2) (date 1998 2 1) (date 1998 3 1)
+    (record { period = λ m. refl; shown = weekdays_at_nine (1998 * 12 + 2) }) refl refl refl refl
+    ∙ refl

@@ -1,6 +1,5 @@
 -- What the table gives of a whole rule, with BYSETPOS, UNTIL and COUNT.
-use Rattle.std.proofs.Common.{◌≡◌, ℕ, suc, ◌+◌, ◌-◌, ◌⊎◌, inl, inr, ◌≢◌, Bool, true, false, cond, ◌&&◌, ◌||◌, ◌==◌, nat_lt, Option, Some, None, refl, sym, ap, ◌∙◌, arith}
-use Rattle.std.proofs.lemmas.Bool.Decides.{nat_tests}
+use Rattle.std.proofs.Common.{◌≡◌, ℕ, suc, ◌+◌, ◌-◌, ◌⊎◌, inl, inr, ◌≢◌, Bool, true, false, ◌&&◌, ◌||◌, ◌==◌, nat_lt, Option, Some, None, refl, sym, ap, ◌∙◌, arith}
 use Rattle.ics_values.specs.Sets.{has_wide}
 use Rattle.ics_values.specs.Places.{lists_none_wide}
 use Rattle.ics_rule.specs.Recurrence.{Recurrence}
@@ -11,37 +10,8 @@ use Rattle.ics_rule.specs.Kept.{count, is_beside, rank, size, is_placed, is_chos
 use Rattle.ics_rule.specs.Table.{BySetPos}
 use Rattle.ics_rule.specs.ByTable.{is_absent, is_instance, is_nth, is_limited, is_period, period_of, is_member, is_within_count, is_kept_by_table, IsAllowed}
 use Rattle.ics_rule.proofs.Counts.{count-same, count-suc}
-use Rattle.ics_rule.proofs.TableSteps.{self_test, keep_true, never}
+use Rattle.ics_rule.proofs.TableSteps.{self_test, keep_true, never, same_or_not, same_test, apart_test, and_assoc, both_true, chosen_where, count_one}
 use Rattle.ics_rule.proofs.TableLemmas.{instances_by_table}
-
-same_or_not : (a b : ℕ) → (a ≡ b) ⊎ (a ≢ b)
-same_or_not a b = grind (arith, nat_tests)
-
-same_test : (a b : ℕ) → a ≡ b → (a == b) ≡ true
-same_test a b h = grind (arith, nat_tests)
-
-apart_test : (a b : ℕ) → a ≢ b → (a == b) ≡ false
-apart_test a b h = grind (arith, nat_tests)
-
-and_assoc : (a b c : Bool) → (a && b && c) ≡ (a && (b && c))
-and_assoc true b c = refl
-and_assoc false b c = refl
-
-both_true : (a b c : Bool) → c ≡ (a && b) → c ≡ true → (a ≡ true) × (b ≡ true)
-both_true true b c e h = (refl, sym e ∙ h)
-both_true false b c e h = absurd (cc)
-
--- a test that counts only where another passes
-chosen_where : (c step i placed nth : Bool) → c ≡ (step && i) → (c ≡ true → placed ≡ nth) → (c && placed) ≡ (step && (i && nth))
-chosen_where true true true placed nth e h = h refl
-chosen_where false true false placed nth e h = refl
-chosen_where false false i placed nth e h = refl
-chosen_where true true false placed nth e h = absurd (cc)
-chosen_where true false i placed nth e h = absurd (cc)
-chosen_where false true true placed nth e h = absurd (cc)
-
-count_one : (b : Bool) → b ≡ true → ◌≡◌ {A = ℕ} (cond b 1 0) 1
-count_one b e = let f : Bool → ℕ = λ z. cond z 1 0 in ap f e
 
 module _ (r : Recurrence) (allowed : IsAllowed r) where
   -- a candidate is an instance of a period that FREQ and INTERVAL give

@@ -1,5 +1,5 @@
 -- The table's parts, one by one: what each lets in, and what DTSTART still gives.
-use Rattle.std.proofs.Common.{◌≡◌, ℕ, zero, suc, ◌+◌, ◌-◌, ◌<◌, Bool, true, false, not, ◌&&◌, ◌||◌, ◌==◌, if◌then◌else◌, refl, ap, ◌∙◌, arith}
+use Rattle.std.proofs.Common.{◌≡◌, ℕ, zero, suc, ◌+◌, ◌-◌, ◌<◌, ◌⊎◌, ◌≢◌, Bool, true, false, not, ◌&&◌, ◌||◌, ◌==◌, if◌then◌else◌, cond, refl, sym, ap, ◌∙◌, arith}
 use Rattle.std.proofs.lemmas.Bool.Decides.{nat_tests}
 use Rattle.std.proofs.lemmas.Nat.{pow_pos}
 use Rattle.std.proofs.lemmas.Nat.Bits.{bit_at-zero}
@@ -123,3 +123,36 @@ in_order true true true true true true true true true true true true true true t
 pub by_subject : (per : Bool) {m m' d d' y y' w w' b b' h h' i i' s s' : Bool} → m ≡ m' → d ≡ d' → y ≡ y' → w ≡ w' → b ≡ b' → h ≡ h' → i ≡ i' → s ≡ s'
     → (per && ((((m && d) && y) && w) && b && ((h && i) && s))) ≡ (per && ((((m' && d') && y') && w') && b' && ((h' && i') && s')))
 by_subject per m d y w b h i s = rw (m, d, y, w, b, h, i, s) refl
+
+-- two numbers
+pub same_or_not : (a b : ℕ) → (a ≡ b) ⊎ (a ≢ b)
+same_or_not a b = grind (arith, nat_tests)
+
+pub same_test : (a b : ℕ) → a ≡ b → (a == b) ≡ true
+same_test a b h = grind (arith, nat_tests)
+
+pub apart_test : (a b : ℕ) → a ≢ b → (a == b) ≡ false
+apart_test a b h = grind (arith, nat_tests)
+
+pub and_assoc : (a b c : Bool) → (a && b && c) ≡ (a && (b && c))
+and_assoc true b c = refl
+and_assoc false b c = refl
+
+pub both_true : (a b c : Bool) → c ≡ (a && b) → c ≡ true → (a ≡ true) × (b ≡ true)
+both_true true b c e h = (refl, sym e ∙ h)
+both_true false b c e h = absurd (cc)
+
+-- a test that counts only where another passes
+pub chosen_where : (c step i placed nth : Bool) → c ≡ (step && i) → (c ≡ true → placed ≡ nth) → (c && placed) ≡ (step && (i && nth))
+chosen_where true true true placed nth e h = h refl
+chosen_where false true false placed nth e h = refl
+chosen_where false false i placed nth e h = refl
+chosen_where true true false placed nth e h = absurd (cc)
+chosen_where true false i placed nth e h = absurd (cc)
+chosen_where false true true placed nth e h = absurd (cc)
+
+pub count_one : (b : Bool) → b ≡ true → ◌≡◌ {A = ℕ} (cond b 1 0) 1
+count_one b e = let f : Bool → ℕ = λ z. cond z 1 0 in ap f e
+
+pub count_no : (b : Bool) → b ≡ false → ◌≡◌ {A = ℕ} (cond b 1 0) 0
+count_no b e = let f : Bool → ℕ = λ z. cond z 1 0 in ap f e

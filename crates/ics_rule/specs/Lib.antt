@@ -16,3 +16,4 @@ pub mod Table
 pub mod ByTable
 pub mod Runs
 pub mod PlainReading
+pub mod Places

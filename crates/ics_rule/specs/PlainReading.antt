@@ -1,45 +1,146 @@
--- The plain reading of a rule, as the documentation of python-dateutil has it: a filter on the locals from DTSTART on.
-use Rattle.std.specs.Prelude.{◌≡◌, ℕ, ◌≤◌, Bool, true, false, ◌&&◌, nat_le, nat_lt, if◌then◌else◌, Option, Some, None, MatchOption}
+-- The plain reading of a rule, as the documentation of python-dateutil has it: a filter by each part on the locals from DTSTART on.
+use Rattle.std.specs.Prelude.{◌≡◌, ℕ, suc, ◌+◌, ◌-◌, ◌%◌, ◌≤◌, Bool, true, false, ◌&&◌, ◌||◌, ◌==◌, nat_le, nat_lt, if◌then◌else◌, Option, Some, None, MatchOption}
+use Rattle.jiff_core.specs.Weekday.{monday_zero}
 use Rattle.ics_values.specs.declared.frequency.Frequency.{Frequency}
-use Rattle.ics_values.specs.declared.frequency.Frequency.TheVariants.{Weekly, Yearly}
-use Rattle.ics_values.specs.Places.{lists_none}
-use Rattle.ics_values.specs.RuleParts.{RuleParts}
-use Rattle.ics_values.specs.Days.{weekday_of}
-use Rattle.ics_rule.specs.declared.kind.Kind.{Kind}
-use Rattle.ics_rule.specs.declared.filled.Filled.{Filled}
+use Rattle.ics_values.specs.declared.frequency.Frequency.TheVariants.{Weekly, Monthly, Yearly}
+use Rattle.ics_values.specs.declared.places.Places.{Places}
+use Rattle.ics_values.specs.declared.places.WidePlaces.{WidePlaces}
+use Rattle.ics_values.specs.Sets.{has, has_wide}
+use Rattle.ics_values.specs.Places.{lists_none, numbers_of}
+use Rattle.ics_values.specs.Days.{year_of, month_of, month_day_of, weekday_of}
+use Rattle.ics_rule.specs.declared.kind.Kind.TheVariants.{Date}
 use Rattle.ics_rule.specs.Recurrence.{Recurrence}
-use Rattle.ics_rule.specs.Locals.{number, day_of}
-use Rattle.ics_rule.specs.Filled.{names_no_day, filled_at, only_weekday}
-use Rattle.ics_rule.specs.Kept.{count, is_chosen, is_until}
-use Rattle.ics_rule.specs.ByTable.{IsAllowed}
+use Rattle.ics_rule.specs.Locals.{number, day_of, hour_of, minute_of, second_of, period, calendar_end}
+use Rattle.ics_rule.specs.Filled.{skips_hours, skips_minutes, skips_seconds}
+use Rattle.ics_rule.specs.Kept.{count, is_until}
+use Rattle.ics_rule.specs.Table.{Part, ByMonth, ByWeekNo, ByYearDay, ByMonthDay, ByDay, ByHour, ByMinute, BySecond, BySetPos}
+use Rattle.ics_rule.specs.ByTable.{is_absent, weekday_unit}
 
-abbrev pub is_weekly : Frequency → Bool
-is_weekly Weekly = true
-is_weekly other = false
+-- n is the k-th of those that pass, counted from the first, or from the last where the number has a minus
+abbrev pub is_nth : (ℕ → Bool) → (ℕ → Bool) → (ℕ → Bool) → ℕ → Bool
+is_nth plus minus test n = plus (count (suc n) test) || minus (count calendar_end test - count n test)
 
--- The rule with what is missing taken from DTSTART, at local n: of the date only where no part speaks of a week or a day
-abbrev pub with_missing : RuleParts → Kind → ℕ → Filled
-with_missing p kind n = record (filled_at p kind n) {
-  weekdays = if is_weekly p.frequency && (names_no_day p && lists_none p.weeks) then only_weekday (weekday_of (day_of n)) else p.weekdays;
-}
+abbrev pub is_place : Places → (ℕ → Bool) → ℕ → Bool
+is_place p = is_nth (has p.front) (has p.back)
 
--- a local from DTSTART on that each part lets in, BYSETPOS among them
+abbrev pub is_wide_place : WidePlaces → (ℕ → Bool) → ℕ → Bool
+is_wide_place p = is_nth (has_wide p.front) (has_wide p.back)
+
+-- What is missing is extracted from DTSTART, if it is finer than the frequency; of the date only where no part names a week or a day.
+abbrev pub is_dayless : Recurrence → Bool
+is_dayless r = is_absent r ByMonthDay && is_absent r ByYearDay && is_absent r ByDay && is_absent r ByWeekNo
+
+abbrev pub is_extracted : Recurrence → Frequency → Part → Bool
+is_extracted r Yearly ByMonth = is_dayless r
+is_extracted r Yearly ByMonthDay = is_dayless r
+is_extracted r Monthly ByMonthDay = is_dayless r
+is_extracted r Weekly ByDay = is_dayless r
+is_extracted r frequency ByHour = skips_hours frequency
+is_extracted r frequency ByMinute = skips_minutes frequency
+is_extracted r frequency BySecond = skips_seconds frequency
+is_extracted r frequency part = false
+
+-- A part lets in what it lists. Where it is absent, it lets in what is as in DTSTART, or all.
+abbrev pub applies : Recurrence → Part → Bool → Bool → Bool
+applies r part listed own = if is_absent r part then (if is_extracted r r.parts.frequency part then own else true) else listed
+
+-- BYMONTH: the months to apply the recurrence to
+abbrev pub month_applies : Recurrence → ℕ → Bool
+month_applies r n = applies r ByMonth (has r.parts.months (month_of (day_of n))) (month_of (day_of n) == month_of (day_of (number r.start)))
+
+-- BYMONTHDAY: the days of the month
+abbrev pub in_year : ℕ → ℕ → Bool
+in_year e f = year_of f == year_of e
+
+abbrev pub in_month : ℕ → ℕ → Bool
+in_month e f = in_year e f && month_of f == month_of e
+
+abbrev pub month_day_applies : Recurrence → ℕ → Bool
+month_day_applies r n =
+    applies r ByMonthDay (is_place r.parts.month_days (in_month (day_of n)) (day_of n)) (month_day_of (day_of n) == month_day_of (day_of (number r.start)))
+
+-- BYYEARDAY: the days of the year
+abbrev pub year_day_applies : Recurrence → ℕ → Bool
+year_day_applies r n = applies r ByYearDay (is_wide_place r.parts.year_days (in_year (day_of n)) (day_of n)) true
+
+-- BYDAY: the weekdays, or the nth occurrence of a weekday in the month under MONTHLY and beside BYMONTH, and else in the year
+abbrev pub with_weekday : (ℕ → ℕ → Bool) → ℕ → ℕ → Bool
+with_weekday unit e f = weekday_of f == weekday_of e && unit e f
+
+abbrev pub weekday_period : Recurrence → Frequency → ℕ → ℕ → Bool
+weekday_period r Monthly = in_month
+weekday_period r other = if is_absent r ByMonth then in_year else in_month
+
+abbrev pub is_weekday : Recurrence → ℕ → Bool
+is_weekday r e =
+    has r.parts.weekdays.plain (weekday_of e)
+    || is_place (numbers_of r.parts.weekdays (weekday_of e)) (with_weekday (weekday_period r r.parts.frequency) e) e
+
+abbrev pub weekday_applies : Recurrence → ℕ → Bool
+weekday_applies r n = applies r ByDay (is_weekday r (day_of n)) (weekday_of (day_of n) == weekday_of (day_of (number r.start)))
+
+-- BYWEEKNO: the weeks of the year, of which the first has at least four days in it. So a week goes by its fourth day; it is read one cycle of
+-- the calendar later, 400 years or 146,097 days, since the first day of 0000 lies in a week of the year before
+abbrev pub fourth_of_week : ℕ → ℕ → ℕ
+fourth_of_week start e = e + 146_100 - (weekday_of e + (7 - start)) % 7
+
+abbrev pub is_week : Places → ℕ → Bool
+is_week weeks f = is_place weeks (with_weekday in_year f) f
+
+abbrev pub week_applies : Recurrence → ℕ → Bool
+week_applies r n = applies r ByWeekNo (is_week r.parts.weeks (fourth_of_week (monday_zero r.parts.week_start) (day_of n))) true
+
+-- BYHOUR, BYMINUTE and BYSECOND: the hours, minutes and seconds
+abbrev pub hour_applies : Recurrence → ℕ → Bool
+hour_applies r n = applies r ByHour (has r.parts.hours (hour_of n)) (hour_of n == hour_of (number r.start))
+
+abbrev pub minute_applies : Recurrence → ℕ → Bool
+minute_applies r n = applies r ByMinute (has r.parts.minutes (minute_of n)) (minute_of n == minute_of (number r.start))
+
+abbrev pub second_applies : Recurrence → ℕ → Bool
+second_applies r n = applies r BySecond (has r.parts.seconds (second_of n)) (second_of n == second_of (number r.start))
+
+abbrev pub all_apply : Recurrence → ℕ → Bool
+all_apply r n =
+    (month_applies r n && month_day_applies r n && year_day_applies r n && week_applies r n && weekday_applies r n)
+    && (hour_applies r n && minute_applies r n && second_applies r n)
+
+-- FREQ and INTERVAL: each INTERVAL-th period from that of DTSTART on
+abbrev pub period_at : Recurrence → ℕ → ℕ
+period_at r n = period r.parts.frequency (monday_zero r.parts.week_start) n
+
+abbrev pub frequency_applies : Recurrence → ℕ → Bool
+frequency_applies r n = (period_at r n - period_at r (number r.start)) % r.parts.interval == 0
+
+-- BYSETPOS: the nth occurrence of the rule inside the frequency period
+abbrev pub occurs_in : Recurrence → ℕ → ℕ → Bool
+occurs_in r p n = period_at r n == p && all_apply r n
+
+abbrev pub position_applies : Recurrence → ℕ → Bool
+position_applies r n = is_absent r BySetPos || is_wide_place r.parts.positions (occurs_in r (period_at r n)) n
+
+-- a local from DTSTART on that each part lets in
 abbrev pub is_plain_member : Recurrence → ℕ → Bool
-is_plain_member r n = nat_le (number r.start) n && is_chosen (with_missing r.parts r.kind (number r.start)) (number r.start) n
+is_plain_member r n = nat_le (number r.start) n && (frequency_applies r n && (all_apply r n && position_applies r n))
 
+-- COUNT: so many of them
 abbrev pub is_few_members : Recurrence → Option ℕ → ℕ → Bool
 is_few_members r None n = true
 is_few_members r (Some c) n = nat_lt (count n (is_plain_member r)) c
 
--- of these so many as COUNT says, and none after UNTIL
+-- and none after UNTIL
 abbrev pub is_plainly_kept : Recurrence → ℕ → Bool
 is_plainly_kept r n = is_plain_member r n && is_until r.kind r.parts.until n && is_few_members r r.parts.count n
 
--- The plain reading is ours where DTSTART fits the rule and its UNTIL, and where under YEARLY BYWEEKNO does not stand without a day: there
--- dateutil takes each day of the week. What the table forbids is read otherwise too, such as a number at a weekday beside BYWEEKNO.
+-- Where the plain reading is ours. DTSTART fits the rule, since dateutil leaves it out where it does not, and it lies within UNTIL and COUNT.
+-- No number stands at a weekday but where the period is a month or a year: beside BYWEEKNO it is none. Where the rule names a week or a day,
+-- DTSTART gives no weekday: to us it does under WEEKLY without BYDAY, and under YEARLY with BYWEEKNO alone. An event of dates, which dateutil
+-- has not, has a frequency not finer than DAILY and starts at midnight.
 pub record HasPlainReading (r : Recurrence) : Type 0 where
-  pub allowed : IsAllowed r
-  pub fits : is_chosen (with_missing r.parts r.kind (number r.start)) (number r.start) (number r.start) ≡ true
+  pub fits : is_plain_member r (number r.start) ≡ true
   pub in_until : is_until r.kind r.parts.until (number r.start) ≡ true
   pub counted : MatchOption r.parts.count (Unit {0}) (λ c. 1 ≤ c)
-  pub weeks : r.parts.frequency ≡ Yearly → names_no_day r.parts ≡ true → lists_none r.parts.weeks ≡ true
+  pub numbers : weekday_unit r r.parts.frequency ≡ Weekly → (w : ℕ) → lists_none (numbers_of r.parts.weekdays w) ≡ true
+  pub weekly : r.parts.frequency ≡ Weekly → is_absent r ByDay ≡ true → is_dayless r ≡ true
+  pub yearly : r.parts.frequency ≡ Yearly → (is_absent r ByMonthDay && is_absent r ByYearDay && is_absent r ByDay) ≡ true → is_dayless r ≡ true
+  pub dates : r.kind ≡ Date → (skips_hours r.parts.frequency ≡ true) × (r.start.second ≡ 0)

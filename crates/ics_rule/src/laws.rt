@@ -1,15 +1,19 @@
 //! What the definitions mean, in other words.
-ghost use Rattle.std.specs.Prelude.{◌≡◌, ◌≢◌, ℕ, ◌+◌, ◌-◌, ◌*◌, ◌%◌, ◌<◌, ◌≤◌, Some, true, false, pos, ◌+ℤ◌};
+ghost use Rattle.std.specs.Prelude.{◌≡◌, ◌≢◌, ℕ, suc, ◌+◌, ◌-◌, ◌*◌, ◌/◌, ◌%◌, ◌<◌, ◌≤◌, ◌&&◌, nat_lt, min, Some, None, true, false, pos, ◌+ℤ◌};
+ghost use Rattle.jiff_core.specs.Calendar.{days_in_month, days_in_year};
 ghost use Rattle.jiff_core.specs.Weekday.{monday_zero};
 ghost use Rattle.jiff_core.specs.IsoWeek.{weeks_in_year};
 ghost use Rattle.jiff_core.specs.declared.civil.iso_week_date.ISOWeekDate.{ISOWeekDate};
-ghost use Rattle.ics_values.specs.Days.{year_of, weekday_of};
+ghost use Rattle.ics_values.specs.Days.{year_of, year_day_of, month_of, month_day_of, weekday_of};
+ghost use Rattle.ics_rule.specs.declared.filled.Filled.{Filled};
 ghost use Rattle.ics_rule.specs.Recurrence.{Recurrence};
 ghost use Rattle.ics_rule.specs.Calls.{FewSteps};
-ghost use Rattle.ics_rule.specs.Locals.{number, week_of};
+ghost use Rattle.ics_rule.specs.Locals.{number, week_of, calendar_end, rules_end};
 ghost use Rattle.ics_rule.specs.Candidates.{fourth_day, week_number, weeks_of_year};
 ghost use Rattle.ics_rule.specs.IsoWeeks.{IsDay};
-ghost use Rattle.ics_rule.specs.Kept.{count, is_in_rule, is_kept};
+ghost use Rattle.ics_rule.specs.Kept.{count, size, is_in_rule, is_kept};
+ghost use Rattle.ics_rule.specs.Places.{HasRank};
+ghost use Rattle.ics_rule.specs.PlainReading.{in_year, in_month, with_weekday};
 
 /// The start is kept and is the least; what is kept is in the rule; under COUNT at most so many are kept (RFC 5545, 3.3.10 and 3.8.5.3).
 pub fn kept_locals()
@@ -19,10 +23,38 @@ pub fn kept_locals()
     ensures count { (r : Recurrence) (c n : ℕ) → r.parts.count ≡ Some c → 1 ≤ c → count n (is_kept r) ≤ c }
 {}
 
+/// The ranks of a period are its places (RFC 5545, 3.3.10): for each k from 1 to its size exactly one candidate of the period of local n, in the
+/// calendar's years, has rank k, and each has such a rank.
+pub fn ranks_are_places()
+    ensures there { (q : Filled) (start n k : ℕ) → 1 ≤ k → k ≤ size q start n → (m : ℕ) × HasRank q start n k m }
+    ensures alone { (q : Filled) (start n k m o : ℕ) → HasRank q start n k m → HasRank q start n k o → m ≡ o }
+    ensures within { (q : Filled) (start n k m : ℕ) → m < calendar_end → HasRank q start n k m → (1 ≤ k) × (k ≤ size q start n) }
+{}
+
+/// COUNT c alone, below the end of the rules, keeps the first c of the rule, not only at most c (RFC 5545, 3.3.10): a local is kept exactly where
+/// it is in the rule and fewer than c of it are earlier, and of each number of members as many are kept, up to c.
+pub fn first_of_count()
+    ensures kept { (r : Recurrence) (c : ℕ) → r.parts.count ≡ Some c → 1 ≤ c → r.parts.until ≡ None
+        → (n : ℕ) → n < rules_end → is_kept r n ≡ (is_in_rule r n && nat_lt (count n (is_in_rule r)) c) }
+    ensures number { (r : Recurrence) (c : ℕ) → r.parts.count ≡ Some c → 1 ≤ c → r.parts.until ≡ None
+        → (n : ℕ) → n ≤ rules_end → count n (is_kept r) ≡ min (count n (is_in_rule r)) c }
+{}
+
 /// After any calls of `next` with bounds up to one a cursor has looked at no more periods of its rule than hold a local from its first place
 /// on, under COUNT from the start on, and earlier than that bound.
 pub fn few_steps()
     ensures { FewSteps }
+{}
+
+/// The number of a weekday in BYDAY is its place by counting (RFC 5545, 3.3.10): how many days of its month, or year, up to it have its weekday;
+/// and from the end, how many from it on. Days past the month or year are counted too, and do not pass.
+pub fn numbered_weekdays()
+    ensures month { (e : ℕ) → count (suc e) (with_weekday in_month e) ≡ (month_day_of e - 1) / 7 + 1 }
+    ensures month_end { (e end : ℕ) → e + 31 ≤ end → count end (with_weekday in_month e) - count e (with_weekday in_month e)
+        ≡ (days_in_month (pos (year_of e)) (month_of e) - month_day_of e) / 7 + 1 }
+    ensures year { (e : ℕ) → count (suc e) (with_weekday in_year e) ≡ (year_day_of e - 1) / 7 + 1 }
+    ensures year_end { (e end : ℕ) → e + 366 ≤ end → count end (with_weekday in_year e) - count e (with_weekday in_year e)
+        ≡ (days_in_year (pos (year_of e)) - year_day_of e) / 7 + 1 }
 {}
 
 /// A week belongs to the year of its fourth day. The weeks of a year are numbered one after the other, and week 1 is the first with four

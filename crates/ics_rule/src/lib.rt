@@ -27,7 +27,10 @@ mod weeks;
 
 pub use cursor::Cursor;
 pub use kind::Kind;
-pub use laws::{few_steps, kept_locals, numbered_weeks, weeks_from_monday, weeks_of_a_year};
+pub use laws::{
+    few_steps, first_of_count, kept_locals, numbered_weekdays, numbered_weeks, ranks_are_places,
+    weeks_from_monday, weeks_of_a_year,
+};
 pub use plain::plain_reading;
 pub use rule::Rule;
 pub use table::rules_by_table;

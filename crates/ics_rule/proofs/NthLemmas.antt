@@ -1,0 +1,326 @@
+-- The n-th day of a month or year, and the n-th of its weekday there, by counting.
+use Rattle.std.proofs.Common.{◌≡◌, ◌≢◌, ℕ, zero, suc, ◌+◌, ◌-◌, ◌*◌, ◌/◌, ◌%◌, ◌<◌, ◌≤◌, ◌⊎◌, inl, inr, Bool, true, false, cond, ◌&&◌, ◌||◌, ◌==◌, nat_lt, pos, refl, sym, ap, ◌∙◌, arith}
+use Rattle.std.proofs.lemmas.Bool.Decides.{nat_tests}
+use Rattle.jiff_core.specs.Calendar.{days_in_month, days_in_year, days_of_months}
+use Rattle.jiff_core.proofs.CalendarLemmas.{days_in_month_bounds, days_in_year_bounds, days_of_months_all}
+use Rattle.ics_values.specs.declared.frequency.Frequency.TheVariants.{Monthly}
+use Rattle.ics_values.specs.declared.places.Places.{Places}
+use Rattle.ics_values.specs.declared.places.WidePlaces.{WidePlaces}
+use Rattle.ics_values.specs.Sets.{has, has_wide}
+use Rattle.ics_values.specs.Days.{days_before_year, year_of, year_day_of, month_of, month_day_of, weekday_of}
+use Rattle.ics_values.proofs.DayLemmas.{days_before_year-next, year_of_is, year_under_way}
+use Rattle.ics_rule.specs.Locals.{month_number, week_of, calendar_end}
+use Rattle.ics_rule.specs.Candidates.{lists, lists_wide, lists_nth, fourth_day, week_number, weeks_of_year}
+use Rattle.ics_rule.specs.Kept.{count}
+use Rattle.ics_rule.specs.Periods.{month_start}
+use Rattle.ics_rule.specs.PlainReading.{is_nth, is_place, is_wide_place, in_year, in_month, with_weekday, fourth_of_week, is_week}
+use Rattle.ics_rule.proofs.Counts.{count-same, count-suc, count-none, count-from, count_every}
+use Rattle.ics_rule.proofs.Months.{month_of_low}
+use Rattle.ics_rule.proofs.PeriodLemmas.{begun, begins, month_size, month_positive}
+use Rattle.ics_rule.proofs.RankLemmas.{count_flat}
+use Rattle.ics_rule.proofs.LawLemmas.{year_day_is}
+use Rattle.ics_rule.proofs.TableSteps.{same_or_not, same_test, apart_test, count_one, count_no}
+
+by_order : (a b : ℕ) → (a < b) ⊎ (b ≤ a)
+by_order a b = grind arith
+
+and_no : (a b : Bool) → b ≡ false → (a && b) ≡ false
+and_no true b h = h
+and_no false b h = refl
+
+-- the days that pass are those from a on and before b
+pub record IsStretch (test : ℕ → Bool) (a b : ℕ) : Type 0 where
+  pub before : (f : ℕ) → f < a → test f ≡ false
+  pub inside : (f : ℕ) → a ≤ f → f < b → test f ≡ true
+  pub after : (f : ℕ) → b ≤ f → test f ≡ false
+
+module _ (unit : ℕ → Bool) (a b : ℕ) (stretch : IsStretch unit a b) where
+  -- all of them, up to one and from one on
+  counted : (n : ℕ) → a ≤ n → n ≤ b → count n unit ≡ n - a
+  counted n low high =
+      let whole : a + (n - a) ≡ n = omega arith in
+      sym (ap (λ x. count x unit) whole) ∙ count-from a (n - a) unit stretch.before
+      ∙ count-same (n - a) (λ k. unit (a + k)) (λ k. true) (λ k l. stretch.inside (a + k) (omega arith) (omega arith)) ∙ count_every (n - a)
+
+  pub nth_of_all : (e : ℕ) → a ≤ e → e < b → count (suc e) unit ≡ suc e - a
+  nth_of_all e low high = counted (suc e) (omega arith) (omega arith)
+
+  pub last_of_all : (e end : ℕ) → a ≤ e → e < b → b ≤ end → count end unit - count e unit ≡ b - e
+  last_of_all e end low high past =
+      let all = counted b (omega arith) (omega arith) in
+      let flat = count_flat b end unit past (λ m l h. stretch.after m l) in
+      let earlier = counted e low (omega arith) in
+      omega (arith, all, flat, earlier)
+
+  -- those of a weekday
+  on_weekday : (w k : ℕ) → w < 7 → a + k ≤ b → count (a + k) (λ f. weekday_of f == w && unit f) ≡ (k + 6 - (w + 7 - weekday_of a) % 7) / 7
+  on_weekday w zero small h =
+      let start : a + 0 ≡ a = omega arith in
+      ap (λ x. count x (λ f. weekday_of f == w && unit f)) start
+      ∙ count-none a (λ f. weekday_of f == w && unit f) (λ m l. and_no (weekday_of m == w) (unit m) (stretch.before m l)) ∙ omega arith
+  on_weekday w (suc k) small h =
+      let more : a + suc k ≡ suc (a + k) = omega arith in
+      let earlier = on_weekday w k small (omega arith) in
+      let last = count-suc (a + k) (λ f. weekday_of f == w && unit f) in
+      ap (λ x. count x (λ f. weekday_of f == w && unit f)) more ∙ (elim (same_or_not (weekday_of (a + k)) w) [
+        | inl own ↦
+            let one = count_one (weekday_of (a + k) == w && unit (a + k))
+            (ap (λ x. x && unit (a + k)) (same_test (weekday_of (a + k)) w own) ∙ stretch.inside (a + k) (omega arith) (omega arith)) in
+            omega (arith, earlier, last, one, own)
+        | inr other ↦
+            let none = count_no (weekday_of (a + k) == w && unit (a + k)) (ap (λ x. x && unit (a + k)) (apart_test (weekday_of (a + k)) w other)) in
+            omega (arith, earlier, last, none, other)
+      ])
+
+  pub nth_of_weekday : (e : ℕ) → a ≤ e → e < b → count (suc e) (λ f. weekday_of f == weekday_of e && unit f) ≡ (e - a) / 7 + 1
+  nth_of_weekday e low high =
+      let all : a + suc (e - a) ≡ suc e = omega arith in
+      let here = on_weekday (weekday_of e) (suc (e - a)) (omega arith) (omega arith) in
+      sym (ap (λ x. count x (λ f. weekday_of f == weekday_of e && unit f)) all) ∙ here ∙ omega arith
+
+  pub last_of_weekday : (e end : ℕ) → a ≤ e → e < b → b ≤ end
+      → count end (λ f. weekday_of f == weekday_of e && unit f) - count e (λ f. weekday_of f == weekday_of e && unit f) ≡ (b - 1 - e) / 7 + 1
+  last_of_weekday e end low high past =
+      let whole : a + (b - a) ≡ b = omega arith in
+      let front : a + (e - a) ≡ e = omega arith in
+      let all = on_weekday (weekday_of e) (b - a) (omega arith) (omega arith) in
+      let earlier = on_weekday (weekday_of e) (e - a) (omega arith) (omega arith) in
+      let flat = count_flat b end (λ f. weekday_of f == weekday_of e && unit f) past (λ m l h. and_no (weekday_of m == weekday_of e) (unit m) (stretch.after m l)) in
+      let whole' = ap (λ x. count x (λ f. weekday_of f == weekday_of e && unit f)) whole in
+      let front' = ap (λ x. count x (λ f. weekday_of f == weekday_of e && unit f)) front in
+      omega (arith, all, earlier, flat, whole', front')
+
+-- ---- the year of a day
+
+year_stretch : (e : ℕ) → IsStretch (in_year e) (days_before_year (year_of e)) (days_before_year (suc (year_of e)))
+year_stretch e = record {
+  before = λ f l. apart_test (year_of f) (year_of e) (λ same. let u = year_under_way f in let m = ap days_before_year same in omega (arith, u.0, m, l));
+  inside = λ f l h. same_test (year_of f) (year_of e) (year_of_is f (year_of e) l h);
+  after = λ f l. apart_test (year_of f) (year_of e) (λ same. let u = year_under_way f in let m = ap (λ y. days_before_year (suc y)) same in omega (arith, u.1, m, l));
+}
+
+-- how many days it has, and which of them e is
+record IsYearDay (e : ℕ) : Type 0 where
+  pub low : days_before_year (year_of e) ≤ e
+  pub high : e < days_before_year (suc (year_of e))
+  pub place : year_day_of e ≡ suc e - days_before_year (year_of e)
+  pub size : days_in_year (pos (year_of e)) ≡ days_before_year (suc (year_of e)) - days_before_year (year_of e)
+  pub end : days_before_year (suc (year_of e)) ≤ e + 366
+
+year_day : (e : ℕ) → IsYearDay e
+year_day e =
+    let u = year_under_way e in
+    let own = year_day_is e in
+    let next = days_before_year-next (year_of e) in
+    let bounds = days_in_year_bounds (pos (year_of e)) in
+    record { low = u.0; high = u.1; place = omega (arith, own, u.0); size = omega (arith, next); end = omega (arith, next, bounds.0, u.0) }
+
+-- ---- the month of a day
+
+month_high : (e : ℕ) → month_of e ≤ 12
+month_high e =
+    let all = days_of_months_all (pos (year_of e)) in
+    let next = days_before_year-next (year_of e) in
+    let u = year_under_way e in
+    month_of_low e 12 (omega (arith, all, next, u.1)) (omega arith)
+
+in_month_same : (y m z k : ℕ) → 0 < m → 0 < k → m ≤ 12 → k ≤ 12 → y * 12 + m ≡ z * 12 + k → (y == z && m == k) ≡ true
+in_month_same y m z k a b c d h =
+    let year : y ≡ z = omega arith in
+    let month : m ≡ k = omega arith in
+    ap (λ x. x && m == k) (same_test y z year) ∙ same_test m k month
+
+in_month_apart : (y m z k : ℕ) → y * 12 + m ≢ z * 12 + k → (y == z && m == k) ≡ false
+in_month_apart y m z k h = grind (arith, nat_tests)
+
+pub month_begun : (p e : ℕ) → p ≤ month_number e → month_start p ≤ e
+month_begun p e h =
+    let back : e * 86_400 / 86_400 ≡ e = omega arith in
+    let local = begun Monthly 0 p (e * 86_400) (let same = ap month_number back in omega (arith, same, h)) in
+    omega (arith, local)
+
+pub month_begins : (p e : ℕ) → month_start p ≤ e → p ≤ month_number e
+month_begins p e h =
+    let back : e * 86_400 / 86_400 ≡ e = omega arith in
+    let local = begins Monthly 0 p (e * 86_400) (omega (arith, h)) in
+    let same = ap month_number back in
+    omega (arith, local, same)
+
+month_stretch : (e : ℕ) → IsStretch (in_month e) (month_start (month_number e)) (month_start (suc (month_number e)))
+month_stretch e = record {
+  before = λ f l. in_month_apart (year_of f) (month_of f) (year_of e) (month_of e) (λ same. let b = month_begun (month_number e) f (omega (arith, same)) in omega (arith, b, l));
+  inside = λ f l h. in_month_same (year_of f) (month_of f) (year_of e) (month_of e) (month_positive f) (month_positive e) (month_high f) (month_high e)
+      (let low = month_begins (month_number e) f l in elim (by_order (month_number e) (month_number f)) [
+        | inl past ↦ absurd (let b = month_begun (suc (month_number e)) f past in omega (arith, b, h))
+        | inr same ↦ omega (arith, low, same)
+      ]);
+  after = λ f l. in_month_apart (year_of f) (month_of f) (year_of e) (month_of e) (λ same. let b = month_begins (suc (month_number e)) f l in omega (arith, b, same));
+}
+
+record IsMonthDay (e : ℕ) : Type 0 where
+  pub low : month_start (month_number e) ≤ e
+  pub high : e < month_start (suc (month_number e))
+  pub place : month_day_of e ≡ suc e - month_start (month_number e)
+  pub size : days_in_month (pos (year_of e)) (month_of e) ≡ month_start (suc (month_number e)) - month_start (month_number e)
+  pub end : month_start (suc (month_number e)) ≤ e + 31
+
+month_day : (e : ℕ) → IsMonthDay e
+unfolding month_day_of
+month_day e =
+    let some = month_positive e in
+    let most = month_high e in
+    let year : (month_number e - 1) / 12 ≡ year_of e = omega (arith, some, most) in
+    let month : (month_number e - 1) % 12 ≡ month_of e - 1 = omega (arith, some, most) in
+    let start : month_start (month_number e) ≡ days_before_year (year_of e) + days_of_months (pos (year_of e)) (month_of e - 1) =
+    ap (λ y. days_before_year y + days_of_months (pos y) ((month_number e - 1) % 12)) year ∙ ap (λ m. days_before_year (year_of e) + days_of_months (pos (year_of e)) m) month in
+    let one : suc (month_number e - 1) ≡ month_number e = omega (arith, some) in
+    let next = month_size (month_number e - 1) in
+    let starts = ap month_start one in
+    let ends = ap (λ p. month_start (suc p)) one in
+    let length : days_in_month (pos ((month_number e - 1) / 12)) ((month_number e - 1) % 12 + 1) ≡ days_in_month (pos (year_of e)) (month_of e) =
+    (let own : (month_number e - 1) % 12 + 1 ≡ month_of e = omega (arith, month, some) in
+    ap (λ y. days_in_month (pos y) ((month_number e - 1) % 12 + 1)) year ∙ ap (days_in_month (pos (year_of e))) own) in
+    let bounds = days_in_month_bounds (pos (year_of e)) (month_of e) in
+    let low = month_begun (month_number e) e (omega arith) in
+    let own = year_day_is e in
+    record {
+      low = low;
+      high = elim (by_order e (month_start (suc (month_number e)))) [ inl less ↦ less | inr past ↦ absurd (let b = month_begins (suc (month_number e)) e past in omega (arith, b)) ];
+      place = omega (arith, own, start, low);
+      size = omega (arith, next, starts, ends, length);
+      end = omega (arith, next, starts, ends, length, bounds.0, low);
+    }
+
+-- ---- the places of a day
+
+-- the n-th day of the month, and the n-th of its weekday there
+pub month_nth : (e : ℕ) → count (suc e) (in_month e) ≡ month_day_of e
+month_nth e = let d = month_day e in nth_of_all (in_month e) _ _ (month_stretch e) e d.low d.high ∙ sym d.place
+
+pub month_last : (e end : ℕ) → e + 31 ≤ end → count end (in_month e) - count e (in_month e) ≡ days_in_month (pos (year_of e)) (month_of e) + 1 - month_day_of e
+month_last e end past =
+    let d = month_day e in
+    let last = last_of_all (in_month e) _ _ (month_stretch e) e end d.low d.high (omega (arith, d.end, past)) in
+    omega (arith, last, d.place, d.size, d.low, d.high)
+
+pub month_weekday_nth : (e : ℕ) → count (suc e) (with_weekday in_month e) ≡ (month_day_of e - 1) / 7 + 1
+month_weekday_nth e =
+    let d = month_day e in
+    let nth = nth_of_weekday (in_month e) _ _ (month_stretch e) e d.low d.high in
+    omega (arith, nth, d.place, d.low)
+
+pub month_weekday_last : (e end : ℕ) → e + 31 ≤ end
+    → count end (with_weekday in_month e) - count e (with_weekday in_month e) ≡ (days_in_month (pos (year_of e)) (month_of e) - month_day_of e) / 7 + 1
+month_weekday_last e end past =
+    let d = month_day e in
+    let last = last_of_weekday (in_month e) _ _ (month_stretch e) e end d.low d.high (omega (arith, d.end, past)) in
+    omega (arith, last, d.place, d.size, d.low, d.high)
+
+-- of the year
+pub year_nth : (e : ℕ) → count (suc e) (in_year e) ≡ year_day_of e
+year_nth e = let d = year_day e in nth_of_all (in_year e) _ _ (year_stretch e) e d.low d.high ∙ sym d.place
+
+pub year_last : (e end : ℕ) → e + 366 ≤ end → count end (in_year e) - count e (in_year e) ≡ days_in_year (pos (year_of e)) + 1 - year_day_of e
+year_last e end past =
+    let d = year_day e in
+    let last = last_of_all (in_year e) _ _ (year_stretch e) e end d.low d.high (omega (arith, d.end, past)) in
+    omega (arith, last, d.place, d.size, d.low, d.high)
+
+pub year_weekday_nth : (e : ℕ) → count (suc e) (with_weekday in_year e) ≡ (year_day_of e - 1) / 7 + 1
+year_weekday_nth e =
+    let d = year_day e in
+    let nth = nth_of_weekday (in_year e) _ _ (year_stretch e) e d.low d.high in
+    omega (arith, nth, d.place, d.low)
+
+pub year_weekday_last : (e end : ℕ) → e + 366 ≤ end
+    → count end (with_weekday in_year e) - count e (with_weekday in_year e) ≡ (days_in_year (pos (year_of e)) - year_day_of e) / 7 + 1
+year_weekday_last e end past =
+    let d = year_day e in
+    let last = last_of_weekday (in_year e) _ _ (year_stretch e) e end d.low d.high (omega (arith, d.end, past)) in
+    omega (arith, last, d.place, d.size, d.low, d.high)
+
+-- ---- what the parts list
+
+nth_is : (plus minus test : ℕ → Bool) (e x y : ℕ) → count (suc e) test ≡ x → count calendar_end test - count e test ≡ y → is_nth plus minus test e ≡ (plus x || minus y)
+nth_is plus minus test e x y front back = ap (λ z. plus z || minus (count calendar_end test - count e test)) front ∙ ap (λ z. plus x || minus z) back
+
+pub month_days_listed : (p : Places) (e : ℕ) → e < 4_000_000 → is_place p (in_month e) e ≡ lists p (month_day_of e) (days_in_month (pos (year_of e)) (month_of e))
+month_days_listed p e small = nth_is (has p.front) (has p.back) (in_month e) e _ _ (month_nth e) (month_last e calendar_end (omega arith))
+
+pub year_days_listed : (p : WidePlaces) (e : ℕ) → e < 4_000_000 → is_wide_place p (in_year e) e ≡ lists_wide p (year_day_of e) (days_in_year (pos (year_of e)))
+year_days_listed p e small = nth_is (has_wide p.front) (has_wide p.back) (in_year e) e _ _ (year_nth e) (year_last e calendar_end (omega arith))
+
+pub month_weekday_listed : (p : Places) (e : ℕ) → e < 4_000_000
+    → is_place p (with_weekday in_month e) e ≡ lists_nth p (month_day_of e) (days_in_month (pos (year_of e)) (month_of e))
+month_weekday_listed p e small =
+    nth_is (has p.front) (has p.back) (with_weekday in_month e) e _ _ (month_weekday_nth e) (month_weekday_last e calendar_end (omega arith))
+
+pub year_weekday_listed : (p : Places) (e : ℕ) → e < 4_000_000 → is_place p (with_weekday in_year e) e ≡ lists_nth p (year_day_of e) (days_in_year (pos (year_of e)))
+year_weekday_listed p e small =
+    nth_is (has p.front) (has p.back) (with_weekday in_year e) e _ _ (year_weekday_nth e) (year_weekday_last e calendar_end (omega arith))
+
+-- ---- weeks
+
+-- the calendar repeats after 400 years
+later_cycle : (f : ℕ) → year_of (f + 146_097) ≡ year_of f + 400
+later_cycle f = let u = year_under_way f in year_of_is (f + 146_097) (year_of f + 400) (omega (arith, u.0)) (omega (arith, u.1))
+
+later_year_day : (f : ℕ) → year_day_of (f + 146_097) ≡ year_day_of f
+later_year_day f =
+    let own = year_day_is f in
+    let later = year_day_is (f + 146_097) in
+    let year = ap days_before_year (later_cycle f) in
+    omega (arith, own, later, year)
+
+later_length : (f : ℕ) → days_in_year (pos (year_of (f + 146_097))) ≡ days_in_year (pos (year_of f))
+later_length f =
+    let own = days_before_year-next (year_of f) in
+    let later = days_before_year-next (year_of (f + 146_097)) in
+    let year = ap days_before_year (later_cycle f) in
+    let next = ap (λ y. days_before_year (suc y)) (later_cycle f) in
+    omega (arith, own, later, year, next)
+
+record IsSameWeek (f g : ℕ) : Type 0 where
+  pub day : year_day_of f ≡ year_day_of g
+  pub length : days_in_year (pos (year_of f)) ≡ days_in_year (pos (year_of g))
+
+fourth_early : (w e : ℕ) → 7 * week_of w e + w < 9 → fourth_day w e ≡ 7 * week_of w e + w + 146_088
+fourth_early w e early = ap (λ b. cond b (7 * week_of w e + w + 146_088) (7 * week_of w e + w - 9)) (less (7 * week_of w e + w) 9 early)
+  where
+    less : (a b : ℕ) → a < b → nat_lt a b ≡ true
+    less a b h = grind (arith, nat_tests)
+
+fourth_late : (w e : ℕ) → 9 ≤ 7 * week_of w e + w → fourth_day w e ≡ 7 * week_of w e + w - 9
+fourth_late w e late = ap (λ b. cond b (7 * week_of w e + w + 146_088) (7 * week_of w e + w - 9)) (not_less (7 * week_of w e + w) 9 late)
+  where
+    not_less : (a b : ℕ) → b ≤ a → nat_lt a b ≡ false
+    not_less a b h = grind (arith, nat_tests)
+
+same_week : (w e : ℕ) → w < 7 → IsSameWeek (fourth_of_week w e) (fourth_day w e)
+same_week w e small = elim (by_order (7 * week_of w e + w) 9) [
+  | inl early ↦
+      let same : fourth_of_week w e ≡ fourth_day w e = let own = fourth_early w e early in omega (arith, own) in
+      record { day = ap year_day_of same; length = ap (λ f. days_in_year (pos (year_of f))) same }
+  | inr late ↦
+      let own = fourth_late w e late in
+      let same : fourth_of_week w e ≡ fourth_day w e + 146_097 = omega (arith, own, late) in
+      record {
+        day = ap year_day_of same ∙ later_year_day (fourth_day w e);
+        length = ap (λ f. days_in_year (pos (year_of f))) same ∙ later_length (fourth_day w e);
+      }
+]
+
+week_places : (d len : ℕ) → 1 ≤ d → d ≤ len → (len - d) / 7 + 1 ≡ (len - 1 - (d - 1) % 7) / 7 + 1 + 1 - ((d - 1) / 7 + 1)
+week_places d len low high = omega arith
+
+pub weeks_listed : (weeks : Places) (w e : ℕ) → w < 7 → e < 3_800_000
+    → is_week weeks (fourth_of_week w e) ≡ lists weeks (week_number (fourth_day w e)) (weeks_of_year (fourth_day w e))
+weeks_listed weeks w e small range =
+    let f = fourth_of_week w e in
+    let same = same_week w e small in
+    let d = year_day f in
+    year_weekday_listed weeks f (omega arith)
+    ∙ ap (λ x. has weeks.front ((year_day_of f - 1) / 7 + 1) || has weeks.back x)
+    (week_places (year_day_of f) (days_in_year (pos (year_of f))) (omega (arith, d.place, d.low)) (omega (arith, d.place, d.size, d.low, d.high)))
+    ∙ ap (λ x. lists weeks ((x - 1) / 7 + 1) ((days_in_year (pos (year_of f)) - 1 - (x - 1) % 7) / 7 + 1)) same.day
+    ∙ ap (λ x. lists weeks (week_number (fourth_day w e)) ((x - 1 - (year_day_of (fourth_day w e) - 1) % 7) / 7 + 1)) same.length
