@@ -2,11 +2,19 @@
 
 _khal_list() {
     local word=${COMP_WORDS[COMP_CWORD]} before=${COMP_WORDS[COMP_CWORD - 1]}
-    local command='' at words='' placeholders
+    local command='' folder='' at words='' placeholders
     COMPREPLY=()
+    # Bash takes `--zone=UTC` for three words.
+    if [[ $word == '=' ]]; then
+        word=''
+    elif [[ $before == '=' ]]; then
+        before=${COMP_WORDS[COMP_CWORD - 2]}
+    fi
     for ((at = 1; at < COMP_CWORD; at++)); do
-        case ${COMP_WORDS[at]} in
-        list | at | help) command=${COMP_WORDS[at]} && break ;;
+        case $command:${COMP_WORDS[at - 1]}:${COMP_WORDS[at]} in
+        :*:list | :*:at | :*:help) command=${COMP_WORDS[at]} ;;
+        *:=:* | *:*:= | *:*:-* | *:--zone:* | *:--limit:* | *:--after:* | *:--*format:*) ;;
+        list:* | at:*) folder=${COMP_WORDS[at]} ;;
         esac
     done
     placeholders='{cell} {title} {start-time} {end-time} {start-date} {end-date} {location} {description} {uid} {cancelled}'
@@ -23,6 +31,7 @@ _khal_list() {
         :*) words='list at help' ;;
         help:*) words='list at' ;;
         *)
+            [[ -z $folder ]] || return
             compopt -o filenames 2>/dev/null
             mapfile -t COMPREPLY < <(compgen -d -- "$word")
             return

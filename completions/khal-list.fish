@@ -1,14 +1,14 @@
 # fish completion for khal-list
 
 set -l commands list at help
-complete -c khal-list -n "not __fish_seen_subcommand_from $commands" -f -a list -d 'List what meets a window'
-complete -c khal-list -n "not __fish_seen_subcommand_from $commands" -f -a at -d 'List what goes on at a moment'
+complete -c khal-list -n "not __fish_seen_subcommand_from $commands" -f -a list -d 'List the events of a window of time'
+complete -c khal-list -n "not __fish_seen_subcommand_from $commands" -f -a at -d 'List what is on at a moment'
 complete -c khal-list -n "not __fish_seen_subcommand_from $commands" -f -a help -d 'Print help'
 complete -c khal-list -n '__fish_seen_subcommand_from list at' -f -a '(__fish_complete_directories)'
 complete -c khal-list -n '__fish_seen_subcommand_from help' -f -a 'list at'
-complete -c khal-list -n '__fish_seen_subcommand_from list at' -l zone -x -a UTC -d 'The zone shown'
-complete -c khal-list -n '__fish_seen_subcommand_from list' -l limit -x -d 'List the first N entries'
-complete -c khal-list -n '__fish_seen_subcommand_from list' -l after -x -d 'List what follows the entry of a token'
+complete -c khal-list -n '__fish_seen_subcommand_from list at' -l zone -x -a UTC -d 'The time zone'
+complete -c khal-list -n '__fish_seen_subcommand_from list' -l limit -x -d 'List at most N entries'
+complete -c khal-list -n '__fish_seen_subcommand_from list' -l after -x -d 'List the entries after the one with a token'
 complete -c khal-list -n '__fish_seen_subcommand_from list' -l notstarted -d 'Leave out what began before the window'
 complete -c khal-list -n '__fish_seen_subcommand_from list' -l format -x -a '{cell} {title} {start-time} {end-time} {start-date} {end-date} {location} {description} {uid} {cancelled}' -d 'How an entry is written'
 complete -c khal-list -n '__fish_seen_subcommand_from list' -l day-format -x -a '{name} {date}' -d 'How a heading is written'
