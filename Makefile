@@ -38,7 +38,8 @@ check-faults: $(PROGRAM)
 	@python3 scripts/check-faults $(PROGRAM)
 
 # Proves the program and builds it.
-$(PROGRAM): $(SOURCES) | kit
+$(PROGRAM): $(SOURCES)
+	@$(MAKE) --no-print-directory kit
 	@RT=$(RT) sh scripts/prove
 	@mkdir -p bin && cp $(BUILT) $@
 
