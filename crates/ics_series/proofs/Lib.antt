@@ -65,4 +65,5 @@ pub mod TournamentLemmas
 pub mod UnionLemmas
 pub mod VersionLemmas
 pub mod WholeLemmas
+pub mod WindowLemmas
 pub mod ZoneLemmas

@@ -38,3 +38,4 @@ pub mod Tokens
 pub mod Tournament
 pub mod Versions
 pub mod Zones
+pub mod WindowLaws

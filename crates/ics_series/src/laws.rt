@@ -3,6 +3,7 @@ ghost use Rattle.std.specs.Prelude.{◌≡◌};
 ghost use Rattle.ics_series.specs.Entry.{key_rank, rank_cmp};
 ghost use Rattle.ics_series.specs.Laws.{EachStart, ListingAfter, ListingBehind, ListingMerged, MostInDays, MostOfMasters, NoneExcluded, OneListing, OneRecurrence, OneStart, RawCounted};
 ghost use Rattle.ics_series.specs.Tokens.{OneSpelling};
+ghost use Rattle.ics_series.specs.WindowLaws.{ListingWithin, ListingsJoin, ListsStarts, ListsUnderWay};
 ghost use Rattle.ics_series.specs.declared.key.Key.{Key};
 
 use crate::key::Key;
@@ -76,4 +77,24 @@ pub fn keys_as_listed()
 /// A key has one token, and no two keys have the same.
 pub fn one_spelling()
     ensures { OneSpelling }
+{}
+
+/// Where what began before a window is left out, exactly what starts in the window is listed.
+pub fn lists_starts()
+    ensures { ListsStarts }
+{}
+
+/// In the window of one second, an occurrence of some length is listed exactly if it has begun by then and is not over.
+pub fn lists_under_way()
+    ensures { ListsUnderWay }
+{}
+
+/// The listing of a window within a window is what of the other's listing meets it.
+pub fn listing_within()
+    ensures { ListingWithin }
+{}
+
+/// Where what began before is left out, the listings of two windows that adjoin join to that of both.
+pub fn listings_join()
+    ensures { ListingsJoin }
 {}

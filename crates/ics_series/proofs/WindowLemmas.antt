@@ -1,0 +1,125 @@
+-- What a window lists, said plainly.
+use Rattle.std.specs.Prelude.{◌↔◌, ◌≤ℤ◌, ◌<ℤ◌}
+use Rattle.std.proofs.Common.{◌≡◌, ℤ, pos, ◌+ℤ◌, true, false, ◌⊎◌, inl, inr, ⊎_elim, List, [], ◌∷◌, ◌++◌, refl, sym, ◌∙◌, arith}
+use Rattle.std.specs.Cmp.{int_cmp_is}
+use Rattle.std.specs.Int.{int_max}
+use Rattle.std.proofs.lemmas.Int.{int_max_is, ints}
+use Rattle.std.specs.declared.cmp.Ordering.TheVariants.{Less}
+use Rattle.ics_calendar.specs.Event.{FileSaid}
+use Rattle.ics_zone.proofs.Cases.{less_or_not_z}
+use Rattle.ics_series.specs.declared.window.Window.{Window}
+use Rattle.ics_series.specs.Clocks.{Clock}
+use Rattle.ics_series.specs.Entry.{Entry, entry_cmp}
+use Rattle.ics_series.specs.Listing.{IsIn, IsListing}
+use Rattle.ics_series.specs.Meets.{IsListed, Meets}
+use Rattle.ics_series.specs.Occurs.{Occurs}
+use Rattle.ics_series.specs.Rising.{IsBefore, Rises}
+use Rattle.ics_series.specs.WindowLaws.{IsJoined, IsWithin}
+use Rattle.ics_series.proofs.PlacedLemmas.{in-append, in-append_left, in-append_right}
+
+not-under : (a b : ℤ) → a ≤ℤ int_max a b
+not-under a b = omega (arith, ints, int_max_is a b)
+
+-- an occurrence does not end before it starts
+lasts : (files : List FileSaid) (display : Clock) (o : Entry) → Occurs files display o → o.start ≤ℤ o.finish
+lasts files display o (inl m) = rw (m.of.lasts.starts, m.of.lasts.ends) (not-under _ _)
+lasts files display o (inr m) = rw (m.of.starts, m.of.ends) (not-under _ _)
+
+-- what starts in a window lasts into it
+lasting : (from start finish : ℤ) → from ≤ℤ start → start ≤ℤ finish → (from <ℤ finish) ⊎ ((finish ≡ start) × (from ≤ℤ start))
+lasting from start finish h k = ⊎_elim
+    (λ later. let into : from <ℤ finish = omega (arith, ints, h, later) in inl into)
+    (λ not_later. let at_once : finish ≡ start = omega (arith, ints, k, not_later) in inr (at_once, h))
+    (less_or_not_z start finish)
+
+module _ (files : List FileSaid) (display : Clock) where
+  starting : (w : Window) (o : Entry) → Occurs files display o → w.from ≤ℤ o.start → o.start <ℤ w.to → IsListed files display w o
+  starting w o h from to = (h, record { begun = to; lasting = lasting w.from o.start o.finish from (lasts files display o h); started = λ _. from })
+
+  pub lists-starts : (w : Window) (o : Entry) → w.notstarted ≡ true
+      → IsListed files display w o ↔ (Occurs files display o × (w.from ≤ℤ o.start) × (o.start <ℤ w.to))
+  lists-starts w o e = ((λ h. (h.0, h.1.started e, h.1.begun)), (λ h. starting w o h.0 h.1 h.2))
+
+  pub lists-under_way : (w : Window) (t : ℤ) (o : Entry) → w.from ≡ t → w.to ≡ t +ℤ pos 1 → w.notstarted ≡ false → o.start <ℤ o.finish
+      → IsListed files display w o ↔ (Occurs files display o × (o.start ≤ℤ t) × (t <ℤ o.finish))
+  lists-under_way w t o from to all long = (
+    (λ h.
+        let begun : o.start ≤ℤ t = omega (arith, ints, h.1.begun, to) in
+        let into : t <ℤ o.finish = ⊎_elim (λ l. omega (arith, ints, l, from)) (λ l. omega (arith, ints, l.0, long)) h.1.lasting in
+        (h.0, begun, into)),
+    (λ h. (
+      h.0,
+      record {
+        begun = omega (arith, ints, h.1, to);
+        lasting = inl (omega (arith, ints, h.2, from));
+        started = λ s. let no : false ≡ true = sym all ∙ s in absurd cc;
+      },
+    )),
+  )
+
+  -- what meets the inner window meets the outer
+  wider : (inner outer : Window) (o : Entry) → IsWithin inner outer → Meets inner o → Meets outer o
+  wider inner outer o within h = record {
+    begun = omega (arith, ints, h.begun, within.to);
+    lasting = ⊎_elim (λ l. let l : outer.from <ℤ o.finish = omega (arith, ints, l, within.from) in inl l)
+        (λ l. let s : outer.from ≤ℤ o.start = omega (arith, ints, l.1, within.from) in inr (l.0, s)) h.lasting;
+    started = λ s. let i = h.started (within.starts s) in omega (arith, ints, i, within.from);
+  }
+
+  pub listing-within : (inner outer : Window) (xs ys : List Entry) → IsWithin inner outer → IsListing entry_cmp (IsListed files display inner) xs
+      → IsListing entry_cmp (IsListed files display outer) ys → (o : Entry) → IsIn o xs ↔ (IsIn o ys × Meets inner o)
+  listing-within inner outer xs ys within h k o = (
+    (λ m. let l = (h.exact o).0 m in ((k.exact o).1 (l.0, wider inner outer o within l.1), l.1)),
+    (λ m. (h.exact o).1 (((k.exact o).0 m.0).0, m.1)),
+  )
+
+earlier : (o q : Entry) → o.start <ℤ q.start → entry_cmp o q ≡ Less
+earlier o q l = rw (sym (int_cmp_is o.start q.start Less l)) refl
+
+before-all : (o : Entry) (ys : List Entry) → ((q : Entry) → IsIn q ys → entry_cmp o q ≡ Less) → IsBefore entry_cmp o ys
+before-all o [] h = tt
+before-all o (q ∷ ys) h = (h q (inl refl), before-all o ys (λ r m. h r (inr m)))
+
+before-both : (o : Entry) (xs ys : List Entry) → IsBefore entry_cmp o xs → IsBefore entry_cmp o ys → IsBefore entry_cmp o (xs ++ ys)
+before-both o [] ys h k = k
+before-both o (x ∷ xs) ys h k = (h.0, before-both o xs ys h.1 k)
+
+rises-both : (xs ys : List Entry) → Rises entry_cmp xs → Rises entry_cmp ys
+    → ((o q : Entry) → IsIn o xs → IsIn q ys → entry_cmp o q ≡ Less) → Rises entry_cmp (xs ++ ys)
+rises-both [] ys h k less = k
+rises-both (x ∷ xs) ys h k less = (
+  before-both x xs ys h.0 (before-all x ys (λ q m. less x q (inl refl) m)),
+  rises-both xs ys h.1 k (λ o q m n. less o q (inr m) n),
+)
+
+module _ (files : List FileSaid) (display : Clock) (first next whole : Window) (joined : IsJoined first next whole) where
+  in_first : (o : Entry) → IsListed files display first o → IsListed files display whole o
+  in_first o h =
+      let s = (lists-starts files display first o joined.starts.0).0 h in
+      starting files display whole o s.0 (omega (arith, ints, s.1, joined.from)) (omega (arith, ints, s.2, joined.adjoin, joined.to, next.ordered))
+
+  in_next : (o : Entry) → IsListed files display next o → IsListed files display whole o
+  in_next o h =
+      let s = (lists-starts files display next o joined.starts.1).0 h in
+      starting files display whole o s.0 (omega (arith, ints, s.1, joined.from, joined.adjoin, first.ordered)) (omega (arith, ints, s.2, joined.to))
+
+  in_either : (o : Entry) → IsListed files display whole o → IsListed files display first o ⊎ IsListed files display next o
+  in_either o h =
+      let s = (lists-starts files display whole o joined.starts.2).0 h in
+      ⊎_elim
+      (λ l. inl (starting files display first o s.0 (omega (arith, ints, s.1, joined.from)) l))
+      (λ l. inr (starting files display next o s.0 (omega (arith, ints, l, joined.adjoin)) (omega (arith, ints, s.2, joined.to))))
+      (less_or_not_z o.start first.to)
+
+  pub listings-join : (xs ys : List Entry) → IsListing entry_cmp (IsListed files display first) xs → IsListing entry_cmp (IsListed files display next) ys
+      → IsListing entry_cmp (IsListed files display whole) (xs ++ ys)
+  listings-join xs ys h k = record {
+    rises = rises-both xs ys h.rises k.rises (λ o q m n.
+        let a = (h.exact o).0 m in
+        let b = (lists-starts files display next q joined.starts.1).0 ((k.exact q).0 n) in
+        earlier o q (omega (arith, ints, a.1.begun, b.1, joined.adjoin)));
+    exact = λ o. (
+      (λ m. ⊎_elim (λ l. in_first o ((h.exact o).0 l)) (λ l. in_next o ((k.exact o).0 l)) (in-append o xs ys m)),
+      (λ l. ⊎_elim (λ a. in-append_left o xs ys ((h.exact o).1 a)) (λ b. in-append_right o xs ys ((k.exact o).1 b)) (in_either o l)),
+    );
+  }
