@@ -168,6 +168,21 @@ ROWS = [
     ('last Fridays, COUNT', lambda: [('a.ics', recurring(1, '197001%02dT%02d%02d00Z',
         'FREQ=MONTHLY;BYDAY=-1FR;COUNT=100000'))],
      ['2024-01-05', '1d']),
+    ('one that never matches, of 360 days', lambda: [('a.ics', recurring(1, '197001%02dT%02d%02d00Z',
+        'FREQ=SECONDLY;BYMONTH=2;BYMONTHDAY=30').replace(b'PT1H', b'P360D'))],
+     ['2024-01-05', '1d']),
+    ('1,000 rules of a Sunday in March', lambda: [('a.ics', recurring(1_000, '197001%02dT%02d%02d00Z',
+        'FREQ=YEARLY;BYMONTH=3;BYDAY=2SU;COUNT=100000'))],
+     ['2024-01-05', '1d']),
+    ('1,000 rules of a last Friday', lambda: [('a.ics', recurring(1_000, '197001%02dT%02d%02d00Z',
+        'FREQ=YEARLY;BYDAY=-1FR;COUNT=100000'))],
+     ['2024-01-05', '1d']),
+    ('1,000 rules of a numbered week', lambda: [('a.ics', recurring(1_000, '197001%02dT%02d%02d00Z',
+        'FREQ=YEARLY;BYWEEKNO=20;COUNT=100000'))],
+     ['2024-01-05', '1d']),
+    ('1,000 rules of a Tuesday a month', lambda: [('a.ics', recurring(1_000, '197001%02dT%02d%02d00Z',
+        'FREQ=MONTHLY;BYDAY=2TU;COUNT=100000'))],
+     ['2024-01-05', '1d']),
 ]
 
 
