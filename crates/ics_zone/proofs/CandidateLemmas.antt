@@ -1,11 +1,11 @@
 -- The first instant that shows a local, of the local less each offset.
-use Rattle.std.proofs.Common.{◌≡◌, ◌≢◌, ℕ, ◌+◌, ◌<◌, ◌≤◌, inl, inr, sym, ap, ◌∙◌, arith, List, length, get_or, Option, Some, None, Contains, ℤ, ◌-ℤ◌, ◌≤ℤ◌}
+use Rattle.std.proofs.Common.{◌≡◌, ◌≢◌, ℕ, ◌+◌, ◌<◌, ◌≤◌, inl, inr, Bool, true, false, sym, ap, ◌∙◌, arith, List, length, get_or, Option, Some, None, Contains, ℤ, ◌-ℤ◌, ◌≤ℤ◌}
 use Rattle.std.specs.Prelude.{MatchOption}
 use Rattle.std.specs.Int.{int_min}
 use Rattle.std.proofs.lemmas.Int.{ints, clamps}
 use Rattle.std.proofs.lemmas.List.{get_or_default}
 use Rattle.ics_zone.specs.Moments.{shown, IsFirstTime}
-use Rattle.ics_zone.proofs.Cases.{below_or_at, less_or_not_z}
+use Rattle.ics_zone.proofs.Cases.{below_or_at, less_or_not_z, not_both}
 
 -- t shows the local, and is not later than those of the local less the first offsets that show it
 pub record IsLeastOf (offset : ℤ → ℤ) (local : ℤ) (offsets : List ℤ) (count : ℕ) (t : ℤ) : Type 0 where
@@ -31,6 +31,18 @@ module _ (offset : ℤ → ℤ) (local : ℤ) (offsets : List ℤ) (k : ℕ) (o 
     least = λ j d l shows. elim (below_or_at j k (omega arith)) [
       | inl less ↦ before.least j d less shows
       | inr same ↦ absurd (let is = here j d same in let at = rw is at shows in other (omega (arith, ints, at)))
+    ];
+  }
+
+  -- the instant of this offset need not be asked for where it is not earlier
+  pub first_early : (found : Option ℤ) → IsFirstOf offset local offsets k found → (m : ℤ) → m ≡ local -ℤ o
+      → (r : Bool) → MatchOption found (r ≡ false) (λ f. r ≡ true → f ≤ℤ m) → r ≡ true → IsFirstOf offset local offsets (k + 1) found
+  first_early None before m at r none is = absurd (not_both r is none)
+  first_early (Some t) before m at r early is = record {
+    shows = before.shows;
+    least = λ j d l shows. elim (below_or_at j k (omega arith)) [
+      | inl less ↦ before.least j d less shows
+      | inr same ↦ (let there = here j d same in let low = early is in omega (arith, ints, there, low, at))
     ];
   }
 

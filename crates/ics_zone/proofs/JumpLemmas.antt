@@ -40,7 +40,8 @@ module _ (zone : List Phase) (facts : IsZone zone) (some : 0 < length zone) wher
     latest.offset,
   )) (is_offset t)
 
-  pub before_all_is : (t offset : ℤ) → ((i : ℕ) (s : ℤ) (p : Phase) → i < length zone → IsOnset zone i s p → t <ℤ s) → IsFirstOffset zone offset → offset ≡ zone_offset zone t
+  pub before_all_is : (t offset : ℤ) → ((i : ℕ) (s : ℤ) (p : Phase) → i < length zone → IsOnset zone i s p → t <ℤ s) → IsFirstOffset zone offset
+      → offset ≡ zone_offset zone t
   before_all_is t offset none first = offset_unique zone t offset (zone_offset zone t) (inr (
     first.1.phase,
     record {
@@ -57,7 +58,8 @@ module _ (zone : List Phase) (facts : IsZone zone) (some : 0 < length zone) wher
   latest_is t None h e same = absurd (cc)
   latest_is t (Some f) h e same = let one : f ≡ e = cc in rw (← one) (in_force_is t f h)
 
-  pub none_is : (t offset : ℤ) (found : Option Latest) → IsLatestOf zone t (length zone) found → found ≡ None → IsFirstOffset zone offset → offset ≡ zone_offset zone t
+  pub none_is : (t offset : ℤ) (found : Option Latest) → IsLatestOf zone t (length zone) found → found ≡ None → IsFirstOffset zone offset
+      → offset ≡ zone_offset zone t
   none_is t offset None h same first = before_all_is t offset h first
   none_is t offset (Some f) h same first = absurd (cc)
 
@@ -97,10 +99,10 @@ module _ (zone : List Phase) (facts : IsZone zone) (some : 0 < length zone) wher
   )) (is_offset t)
 
   -- the greatest onset of all observances begins a span in which its offset holds, up to where the next may be
-  pub steady_since : (t to : ℤ) → ((i : ℕ) (s : ℤ) (p : Phase) → IsOnset zone i s p → t <ℤ s → to <ℤ s)
-      → (found : Option Latest) → IsLatestOf zone t (length zone) found → (e : Latest) → found ≡ Some e → IsSteady (zone_offset zone) e.at to e.offset
-  steady_since t to none None h e same u low high = absurd (cc)
-  steady_since t to none (Some f) h e same u low high =
+  pub steady_since : (t next : ℤ) → ((i : ℕ) (s : ℤ) (p : Phase) → IsOnset zone i s p → t <ℤ s → next ≤ℤ s)
+      → (found : Option Latest) → IsLatestOf zone t (length zone) found → (e : Latest) → found ≡ Some e → IsSteady (zone_offset zone) e.at next e.offset
+  steady_since t next none None h e same u low high = absurd (cc)
+  steady_since t next none (Some f) h e same u low high =
       let one : f ≡ e = cc in
       rw (← one) (h.offset ∙ offset_unique zone u h.phase.offset_to (zone_offset zone u) (inl (
         h.phase,
@@ -189,7 +191,8 @@ module _ (zone : List Phase) (facts : IsZone zone) (some : 0 < length zone) wher
       pub jump_at_next : local <ℤ shown (zone_offset zone) next → IsJump (zone_offset zone) local next
       jump_at_next later = record {
         is_later = later;
-        first = λ s l. elim (less_or_not_z s next) [ inr high ↦ high | inl low ↦ absurd (let less = earlier_before_next s low in omega (arith, ints, less, l)) ];
+        first = λ s l. elim (less_or_not_z s next) [ inr high ↦ high | inl low ↦ absurd
+            (let less = earlier_before_next s low in omega (arith, ints, less, l)) ];
       }
 
       pub earlier_at_next : shown (zone_offset zone) next ≤ℤ local → (s : ℤ) → s ≤ℤ next → shown (zone_offset zone) s <ℤ local
@@ -213,9 +216,10 @@ module _ (zone : List Phase) (facts : IsZone zone) (local : ℤ) where
   later_after t h = let bound = zone_offset_short zone facts t in omega (arith, ints, bound.0, bound.1)
 
 -- a local is shown once where the offset holds within a day of it
-pub shown_once : (zone : List Phase) → IsZone zone → (local from to value : ℤ) → IsSteady (zone_offset zone) from to value → from ≤ℤ (local -ℤ pos 86_400) → (local +ℤ pos 86_400) ≤ℤ to
+pub shown_once : (zone : List Phase) → IsZone zone → (local from next value : ℤ) → IsSteady (zone_offset zone) from next value
+    → from ≤ℤ (local -ℤ pos 86_400) → (local +ℤ pos 86_400) <ℤ next
     → IsFirstTime (zone_offset zone) local (local -ℤ value)
-shown_once zone facts local from to value steady low high =
+shown_once zone facts local from next value steady low high =
     let here = steady local (omega (arith, ints, low)) (omega (arith, ints, high)) in
     let bound = zone_offset_short zone facts local in
     let is = steady (local -ℤ value) (omega (arith, ints, low, here, bound.1)) (omega (arith, ints, high, here, bound.0)) in
@@ -228,7 +232,8 @@ shown_once zone facts local from to value steady low high =
     }
 
 -- a local in a gap is read with the offset before the jump
-pub gap_at_jump : (offset : ℤ → ℤ) (local past t : ℤ) → ((s : ℤ) → shown offset s ≢ local) → IsJump offset local past → t ≡ local -ℤ offset (past -ℤ pos 1) → IsInGap offset local t
+pub gap_at_jump : (offset : ℤ → ℤ) (local past t : ℤ) → ((s : ℤ) → shown offset s ≢ local) → IsJump offset local past → t ≡ local -ℤ offset (past -ℤ pos 1)
+    → IsInGap offset local t
 gap_at_jump offset local past t skipped jump is = record { skipped = skipped; past = past; is_later = jump.is_later; first = jump.first; before = is }
 
 -- the measure of that search
@@ -239,26 +244,28 @@ natural_less a b low less =
     omega (arith, ints, x, y)
 
 -- what a zone knows is of the observances that contracts see
-pub known_zone : (observances : List Observance) (onsets : List Onsets) (offsets : List ℤ) (held : List Steady) → IsKnown (phases_of observances) onsets offsets held
+pub known_zone : (observances : List Observance) (onsets : List Onsets) (offsets : List ℤ) (held : List Steady)
+    → IsKnown (phases_of observances) onsets offsets held
     → (zone : List Observance) → observances ≡ zone → IsKnown (phases_of zone) onsets offsets held
 known_zone observances onsets offsets held known zone is = subst (λ (z : List Observance). IsKnown (phases_of z) onsets offsets held) is known
 
 -- the same spans are held in another order
-pub held_moved : (zone : List Phase) (onsets : List Onsets) (offsets : List ℤ) (was now : List Steady) → IsPermutation was now → IsKnown zone onsets offsets was → IsKnown zone onsets offsets now
+pub held_moved : (zone : List Phase) (onsets : List Onsets) (offsets : List ℤ) (was now : List Steady) → IsPermutation was now
+    → IsKnown zone onsets offsets was → IsKnown zone onsets offsets now
 held_moved zone onsets offsets was now moved known = record {
   some = known.some;
   asked = known.asked;
   all_offsets = known.all_offsets;
-  spans = All-permutation (λ (s : Steady). IsSteady (zone_offset zone) s.from s.to s.offset) was now moved known.spans;
+  spans = All-permutation (λ (s : Steady). IsSteady (zone_offset zone) s.from s.next s.offset) was now moved known.spans;
 }
 
 -- a span more is held, or none where memory is refused
 pub held_more : (zone : List Phase) (onsets : List Onsets) (offsets : List ℤ) (was now : List Steady) (s : Steady) (b : Bool) → now ≡ cond b (was ++ s ∷ []) was
-    → IsKnown zone onsets offsets was → IsSteady (zone_offset zone) s.from s.to s.offset → IsKnown zone onsets offsets now
+    → IsKnown zone onsets offsets was → IsSteady (zone_offset zone) s.from s.next s.offset → IsKnown zone onsets offsets now
 held_more zone onsets offsets was now s true is known steady = rw is (record {
   some = known.some;
   asked = known.asked;
   all_offsets = known.all_offsets;
-  spans = All-push (λ (s : Steady). IsSteady (zone_offset zone) s.from s.to s.offset) was s known.spans steady;
+  spans = All-push (λ (s : Steady). IsSteady (zone_offset zone) s.from s.next s.offset) was s known.spans steady;
 })
 held_more zone onsets offsets was now s false is known steady = rw is known

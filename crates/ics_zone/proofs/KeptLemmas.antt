@@ -1,8 +1,7 @@
 -- The last and the next onset of a rule.
 use Rattle.std.proofs.Common.{◌≡◌, ℕ, ◌<◌, ◌≤◌, inl, inr, sym, subst, arith, Option, Some, ℤ, ◌<ℤ◌, ◌≤ℤ◌}
 use Rattle.std.specs.Prelude.{MatchOption}
-use Rattle.std.specs.Int.{int_min}
-use Rattle.std.proofs.lemmas.Int.{ints, clamps}
+use Rattle.std.proofs.lemmas.Int.{ints}
 use Rattle.ics_rule.specs.Recurrence.{Recurrence}
 use Rattle.ics_rule.specs.Kept.{is_kept}
 use Rattle.ics_rule.specs.Next.{NoneKept, IsNextKept}
@@ -11,6 +10,13 @@ use Rattle.ics_zone.specs.Observances.{instant_by}
 use Rattle.ics_zone.specs.Latest.{IsLastKept, IsLast}
 use Rattle.ics_zone.specs.OnsetSets.{IsKeptBy, IsKeptAt}
 use Rattle.ics_zone.proofs.Cases.{less_or_not, not_both}
+
+-- how many locals are shown up to an instant and up to an end
+pub record IsShownTo (from until t : ℤ) (count : ℕ) : Type 0 where
+  pub bound : count ≤ 309_289_708_800
+  pub shown : (n : ℕ) → n < count → instant_by from n ≤ℤ t
+  pub by_until : (n : ℕ) → n < count → instant_by from n ≤ℤ until
+  pub later : (n : ℕ) → count ≤ n → n < 309_289_708_800 → instant_by from n ≤ℤ until → t <ℤ instant_by from n
 
 -- how many locals are shown up to an instant
 pub record IsShownBy (from m : ℤ) (count : ℕ) : Type 0 where
@@ -25,26 +31,27 @@ module _ (s : Onsets) (r : Recurrence) (has : s.rule ≡ Some r) where
   pub from_kept : (t : ℤ) → IsKeptAt s t → IsKeptBy s.offset_from s.until r t
   from_kept t h = subst (λ (o : Option Recurrence). MatchOption o ⊥ (λ r. IsKeptBy s.offset_from s.until r t)) has h
 
-  module _ (t m : ℤ) (least : m ≡ int_min t s.until) (end : ℕ) (shown : IsShownBy s.offset_from m end) where
+  module _ (t : ℤ) (end : ℕ) (shown : IsShownTo s.offset_from s.until t end) where
     -- an onset that is not after t is of a local before the end
     before_end : (u : ℤ) (k : IsKeptBy s.offset_from s.until r u) → u ≤ℤ t → k.local < end
     before_end u k l = elim (less_or_not k.local end) [
       | inl h ↦ h
-      | inr h ↦ absurd (let a = shown.later k.local h k.early in let b = k.is in let e = k.by_end in omega (arith, ints, clamps, a, b, e, l, least))
+      | inr h ↦ absurd (let b = k.is in let e = k.by_end in let a = shown.later k.local h k.early (omega (arith, ints, b, e)) in omega (arith, ints, a, b, l))
     ]
 
     pub last_of_rule : (n : ℕ) → IsLastKept r end n → (u : ℤ) → u ≡ instant_by s.offset_from n → IsLast (IsKeptAt s) t u
     last_of_rule n found u is =
         let early = shown.shown n found.in_bound in
+        let by_until = shown.by_until n found.in_bound in
         record {
           is = to_kept u (record {
             local = n;
             early = (let a = found.in_bound in let b = shown.bound in omega (arith, a, b));
             kept = found.kept;
             is = is;
-            by_end = omega (arith, ints, clamps, early, is, least);
+            by_end = omega (arith, ints, by_until, is);
           });
-          not_after = omega (arith, ints, clamps, early, is, least);
+          not_after = omega (arith, ints, early, is);
           last = λ v h l.
               let k = from_kept v h in
               let inside = before_end v k l in
@@ -60,7 +67,7 @@ module _ (s : Onsets) (r : Recurrence) (has : s.rule ≡ Some r) where
         let k = from_kept u h in
         elim (less_or_not k.local end) [
           | inl less ↦ absurd (not_both (is_kept r k.local) k.kept (none k.local (omega arith) less))
-          | inr more ↦ (let a = shown.later k.local more k.early in let b = k.is in let e = k.by_end in omega (arith, ints, clamps, a, b, e, least))
+          | inr more ↦ (let b = k.is in let e = k.by_end in let a = shown.later k.local more k.early (omega (arith, ints, b, e)) in omega (arith, ints, a, b))
         ]
 
     -- the first after another instant
@@ -85,14 +92,14 @@ module _ (s : Onsets) (r : Recurrence) (has : s.rule ≡ Some r) where
           omega (arith, ints, c, is)
 
       pub bound_of_rule : (n : ℕ) → IsNextKept r from end n → (u : ℤ) → u ≡ instant_by s.offset_from n → u ≤ℤ t
-      bound_of_rule n found u is = let a = shown.shown n found.in_bound in omega (arith, ints, clamps, a, is, least)
+      bound_of_rule n found u is = let a = shown.shown n found.in_bound in omega (arith, ints, a, is)
 
       pub no_next_of_rule : NoneKept r from end → (v : ℤ) → IsKeptAt s v → after <ℤ v → t ≤ℤ v
       no_next_of_rule none v h l =
           let k = from_kept v h in
           let at = k.is in
           elim (less_or_not k.local end) [
-            | inr more ↦ (let a = shown.later k.local more k.early in let e = k.by_end in omega (arith, ints, clamps, a, at, e, least))
+            | inr more ↦ (let e = k.by_end in let a = shown.later k.local more k.early (omega (arith, ints, at, e)) in omega (arith, ints, a, at))
             | inl less ↦ elim (less_or_not k.local from) [
               | inl low ↦ absurd (let a = past.shown k.local low in omega (arith, ints, a, at, l))
               | inr high ↦ absurd (not_both (is_kept r k.local) k.kept (none k.local high less))

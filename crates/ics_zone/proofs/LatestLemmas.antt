@@ -79,4 +79,5 @@ module _ (a b : ℤ → Type 0) (t : ℤ) where
 -- the next of a list, or the limit
 module _ (list : List ℤ) (up : IsInOrder list) (t : ℤ) (k : ℕ) (passed : IsPassed list t k) where
   pub none_left : k ≡ length list → (u : ℤ) → Contains list u → t <ℤ u → ⊥
-  none_left all u h l = let early = passed.before h.0 u (omega arith) (let in_list = h.1 in omega (arith, all, in_list)) in let at = h.2 in omega (arith, ints, early, at, l)
+  none_left all u h l = let early = passed.before h.0 u (omega arith) (let in_list = h.1 in omega (arith, all, in_list)) in let at = h.2 in omega
+      (arith, ints, early, at, l)

@@ -28,7 +28,8 @@ pub record IsListedTo (p : Phase) (rdates : List Local) (list : List ℤ) : Type
 module _ (p : Phase) where
   pub listed_first : (t : ℤ) → t ≡ instant_by p.offset_from (number p.start) → IsListedTo p [] (t ∷ [])
   listed_first t is = record {
-    known = λ s h. (number p.start, (sym (alone s h) ∙ is, or_left (number p.start == number p.start) false ((Decides-eqb (number p.start) (number p.start)).1 refl)));
+    known = λ s h. (number p.start, (sym (alone s h) ∙ is, or_left (number p.start == number p.start) false
+        ((Decides-eqb (number p.start) (number p.start)).1 refl)));
     complete = λ n e. elim (or_cases (n == number p.start) false e) [
       | inl first ↦ (0, omega arith, (is ∙ ap (instant_by p.offset_from) (sym ((Decides-eqb n (number p.start)).0 first))))
       | inr none ↦ absurd (not_both false none refl)
@@ -39,7 +40,8 @@ module _ (p : Phase) where
       alone s (zero, h, e) = e
       alone s (suc k, h, e) = absurd (omega arith)
 
-  pub listed_more : (xs : List Local) (i : ℕ) (x : Local) (old new : List ℤ) (t : ℤ) → i < length xs → x ≡ get_or xs i x → t ≡ instant_by p.offset_from (number x)
+  pub listed_more : (xs : List Local) (i : ℕ) (x : Local) (old new : List ℤ) (t : ℤ) → i < length xs → x ≡ get_or xs i x
+      → t ≡ instant_by p.offset_from (number x)
       → new ≡ old ++ t ∷ [] → IsListedTo p (take i xs) old → IsListedTo p (take (i + 1) xs) new
   listed_more xs i x old new t inside at is then before = subst (λ (list : List ℤ). IsListedTo p (take (i + 1) xs) list) (sym then) (record {
     known = λ s h. elim (Contains-push_cases old t s h) [
@@ -57,7 +59,8 @@ module _ (p : Phase) where
       | inl first ↦ Contains-append_left old (t ∷ []) _ (before.complete n (or_left (n == number p.start) _ first))
       | inr listed ↦ elim (or_cases (list_any (λ d. number d == n) (take i xs)) _ (sym (list_any_more (λ d. number d == n) xs i x inside) ∙ listed)) [
         | inl early ↦ Contains-append_left old (t ∷ []) _ (before.complete n (or_right (n == number p.start) _ early))
-        | inr now ↦ subst (Contains (old ++ t ∷ [])) (is ∙ ap (λ (d : Local). instant_by p.offset_from (number d)) at ∙ ap (instant_by p.offset_from) ((Decides-eqb (number (get_or xs i x)) n).0 now)) (Contains-push old t)
+        | inr now ↦ subst (Contains (old ++ t ∷ [])) (is ∙ ap (λ (d : Local). instant_by p.offset_from (number d)) at ∙ ap (instant_by p.offset_from)
+            ((Decides-eqb (number (get_or xs i x)) n).0 now)) (Contains-push old t)
       ]
     ];
   })

@@ -60,7 +60,8 @@ module _ (offset : ℤ → ℤ) (short : (t : ℤ) → IsWithin 86_399 (offset t
       let n = k.1 in
       if_so-none (int_eq (shown offset (near local k.0)) local) (near local k.0)
       ((Decides-int_eq (shown offset (near local k.0)) local).1 (ap (shown offset) (sym n) ∙ is))
-      (first_below-none (λ k. if_so (int_eq (shown offset (near local k)) local) (near local k)) 172_801 none k.0 (omega (arith, ints, n, is, bound.0, bound.1)))
+      (first_below-none (λ k. if_so (int_eq (shown offset (near local k)) local) (near local k)) 172_801 none k.0
+          (omega (arith, ints, n, is, bound.0, bound.1)))
 
   first_later-some : (local u : ℤ) → first_later offset local ≡ Some u → (local <ℤ shown offset u) × ((s : ℤ) → local <ℤ shown offset s → u ≤ℤ s)
   first_later-some local u e =
@@ -91,7 +92,8 @@ module _ (offset : ℤ → ℤ) (short : (t : ℤ) → IsWithin 86_399 (offset t
   unfolding moment_by
   moment_found local = by (first_time offset local) (first_later offset local) refl refl
     where
-      by : (time later : Option ℤ) → first_time offset local ≡ time → first_later offset local ≡ later → IsMomentBy offset local (moment_from offset local time later)
+      by : (time later : Option ℤ) → first_time offset local ≡ time → first_later offset local ≡ later
+          → IsMomentBy offset local (moment_from offset local time later)
       by (Some t) later is past = inl (first_time-some local t is)
       by None (Some u) is past =
           let found = first_later-some local u past in

@@ -105,10 +105,12 @@ module _ (zone : List Phase) (facts : IsZone zone) where
       )
 
   last_at-none : (t : ℤ) (i : ℕ) (p : Phase) → last_at zone t ≡ None → IsOnset zone i t p → ⊥
-  last_at-none t i p none h = if_onset-none (slice_get zone i) t p h.0 h.1 (last_below-none (λ i. if_onset (slice_get zone i) t) (length zone) none i (slice_get_within zone i p h.0))
+  last_at-none t i p none h = if_onset-none (slice_get zone i) t p h.0 h.1
+      (last_below-none (λ i. if_onset (slice_get zone i) t) (length zone) none i (slice_get_within zone i p h.0))
 
   first_at-none : (t : ℤ) (i : ℕ) (p : Phase) → first_at zone t ≡ None → IsOnset zone i t p → ⊥
-  first_at-none t i p none h = if_onset-none (slice_get zone i) t p h.0 h.1 (first_below-none (λ i. if_onset (slice_get zone i) t) (length zone) none i (slice_get_within zone i p h.0))
+  first_at-none t i p none h = if_onset-none (slice_get zone i) t p h.0 h.1
+      (first_below-none (λ i. if_onset (slice_get zone i) t) (length zone) none i (slice_get_within zone i p h.0))
 
   in_force-some : (t : ℤ) (p : Phase) → in_force zone t ≡ Some p → IsInForce zone t p
   unfolding in_force

@@ -28,7 +28,8 @@ kept_early r n e = elim (or_cases (n == number r.start) _ e) [
       ])
 ]
 
-module _ (p : Phase) (facts : IsPhase p) (s : Onsets) (from : s.offset_from ≡ p.offset_from) (to : s.offset_to ≡ p.offset_to) (listing : IsListing p s.listed.items) where
+module _ (p : Phase) (facts : IsPhase p) (s : Onsets) (from : s.offset_from ≡ p.offset_from) (to : s.offset_to ≡ p.offset_to)
+    (listing : IsListing p s.listed.items) where
   start_listed : Contains s.listed.items (instant_by p.offset_from (number p.start))
   start_listed = listing.complete (number p.start) (or_left (number p.start == number p.start) _ ((Decides-eqb (number p.start) (number p.start)).1 refl))
 
@@ -56,10 +57,12 @@ module _ (p : Phase) (facts : IsPhase p) (s : Onsets) (from : s.offset_from ≡ 
       let until = ends t (omega (arith, ints, at, from, early, shift.0, shift.1)) ∙ true_int_le t s.until k.by_end in
       local-onset p t k.local (rw (sym from) k.is)
       ∙ by_rule_begins k.local (subst (λ o. is_by_rule p o k.local ≡ true) is
-      (and_both (is_kept (rule_from p.start parts) k.local) _ k.kept (subst (λ (t : ℤ). is_until (until_moment (rule_from p.start parts)) t ≡ true) (rw (sym from) k.is) until)))
+      (and_both (is_kept (rule_from p.start parts) k.local) _ k.kept (subst (λ (t : ℤ). is_until (until_moment (rule_from p.start parts)) t ≡ true)
+          (rw (sym from) k.is) until)))
 
   kept_or_listed : (o : Option RuleParts) (r : Option Recurrence) → o ≡ p.rule → r ≡ option_map (rule_from p.start) o → IfSome r (IsEnd s.until)
-      → (t : ℤ) (n : ℕ) → t ≡ instant_by p.offset_from n → is_by_rule p o n ≡ true → Contains s.listed.items t ⊎ MatchOption r ⊥ (λ r. IsKeptBy s.offset_from s.until r t)
+      → (t : ℤ) (n : ℕ) → t ≡ instant_by p.offset_from n → is_by_rule p o n ≡ true
+      → Contains s.listed.items t ⊎ MatchOption r ⊥ (λ r. IsKeptBy s.offset_from s.until r t)
   kept_or_listed None r is made end t n at h = absurd (cc)
   kept_or_listed (Some parts) r is made end t n at h =
       let both = and_parts (is_kept (rule_from p.start parts) n) _ h in
@@ -69,7 +72,8 @@ module _ (p : Phase) (facts : IsPhase p) (s : Onsets) (from : s.offset_from ≡ 
         | inr early ↦ inr (subst (λ (r : Option Recurrence). MatchOption r ⊥ (λ r. IsKeptBy s.offset_from s.until r t)) (sym made) (
             let soon = early.0 in
             let shift = facts.from_in in
-            let until = sym (ends t (omega (arith, ints, at, soon, shift.0, shift.1))) ∙ subst (λ (t : ℤ). is_until (until_moment (rule_from p.start parts)) t ≡ true) (sym at) both.1 in
+            let until = sym (ends t (omega (arith, ints, at, soon, shift.0, shift.1))) ∙ subst
+                (λ (t : ℤ). is_until (until_moment (rule_from p.start parts)) t ≡ true) (sym at) both.1 in
             record { local = n; early = early.0; kept = both.0; is = rw from at; by_end = int_le_true t s.until until }))
       ]
 
@@ -83,7 +87,8 @@ module _ (p : Phase) (facts : IsPhase p) (s : Onsets) (from : s.offset_from ≡ 
       let same = get_or_default s.listed.items start.0 d (instant_by p.offset_from (number p.start)) start.1 in
       let there = start.2 in
       let at = k.is in
-      let late : number p.start ≤ k.local = elim (kept_early (rule_from p.start parts) k.local k.kept) [ inl first ↦ omega (arith, first) | inr early ↦ omega (arith, early.1) ] in
+      let late : number p.start ≤ k.local = elim (kept_early (rule_from p.start parts) k.local k.kept)
+          [ inl first ↦ omega (arith, first) | inr early ↦ omega (arith, early.1) ] in
       omega (arith, ints, low, same, there, at, late, from)
 
   pub onsets_made : s.rule ≡ option_map (rule_from p.start) p.rule → IfSome s.rule (IsEnd s.until) → AreOnsetsOf p s

@@ -32,11 +32,13 @@ module _ (observances : List Observance) (k : ℕ) (o : Observance) (inside : k 
       let both : Some (phase_of o) ≡ Some p = sym here ∙ (ap (slice_get (map phase_of observances)) (sym same) ∙ there) in
       cc
 
-  pub onsets_more : (old new : List Onsets) (x : Onsets) → new ≡ old ++ x ∷ [] → AreOnsetsOf (phase_of o) x → AreOnsetsTo observances k old → AreOnsetsTo observances (k + 1) new
+  pub onsets_more : (old new : List Onsets) (x : Onsets) → new ≡ old ++ x ∷ [] → AreOnsetsOf (phase_of o) x → AreOnsetsTo observances k old
+      → AreOnsetsTo observances (k + 1) new
   onsets_more old new x then of before = subst (λ (list : List Onsets). AreOnsetsTo observances (k + 1) list) (sym then) (record {
     same_length = let n = before.same_length in omega (arith, n, length-append old (x ∷ []));
     each = λ i p d l there. elim (below_or_at i k (omega arith)) [
-      | inl less ↦ (let left = get_or_append_left old (x ∷ []) d i (let n = before.same_length in omega (arith, n, less)) in rw left (before.each i p d less there))
+      | inl less ↦ (let left = get_or_append_left old (x ∷ []) d i (let n = before.same_length in omega (arith, n, less)) in rw left
+          (before.each i p d less there))
       | inr same ↦ (
           let n = before.same_length in
           let zero : i - length old ≡ 0 = omega (arith, n, same) in
@@ -67,7 +69,8 @@ pub onsets_end : (observances : List Observance) (k : ℕ) (list : List Onsets) 
     → AreOnsetsOfAll (map phase_of observances) list
 onsets_end observances k list past low all = record {
   same_length = let n = all.same_length in omega (arith, n, past, low, length-map observances phase_of);
-  each = λ i p d there. all.each i p d (let h = slice_get_within (map phase_of observances) i p there in omega (arith, h, past, length-map observances phase_of)) there;
+  each = λ i p d there. all.each i p d (let h = slice_get_within (map phase_of observances) i p there in omega
+      (arith, h, past, length-map observances phase_of)) there;
 }
 
 -- without those that stand twice they are the same offsets
@@ -85,5 +88,7 @@ offsets_moved zone old new moved have i p there =
     let h = have i p there in
     record { from = Contains-permutation old new p.offset_from moved h.from; to = Contains-permutation old new p.offset_to moved h.to }
 
-pub offsets_end : (observances : List Observance) (k : ℕ) (offsets : List ℤ) → length observances ≤ k → HaveOffsetsTo observances k offsets → HaveOffsets offsets (map phase_of observances)
-offsets_end observances k offsets past all i p there = all i p (let h = slice_get_within (map phase_of observances) i p there in omega (arith, h, past, length-map observances phase_of)) there
+pub offsets_end : (observances : List Observance) (k : ℕ) (offsets : List ℤ) → length observances ≤ k → HaveOffsetsTo observances k offsets
+    → HaveOffsets offsets (map phase_of observances)
+offsets_end observances k offsets past all i p there = all i p (let h = slice_get_within (map phase_of observances) i p there in omega
+    (arith, h, past, length-map observances phase_of)) there

@@ -11,13 +11,16 @@ use Rattle.jiff_tz.specs.declared.timezone.TimeZone.TheVariants.{UTC, Unknown, F
 use Rattle.ics_zone.specs.DisplayTexts.{said_by}
 use Rattle.ics_zone.specs.Displays.{offsets_of, rule_offsets}
 
-rule_offsets_are : (standard : Offset) (dst : Option Dst) (dt : DateTime) (local : ℤ) → civil_nanos dt ≡ nanos_of_seconds local → rule_offsets standard dst local ≡ PosixRule.ambiguous_at_by standard dst dt
+rule_offsets_are : (standard : Offset) (dst : Option Dst) (dt : DateTime) (local : ℤ) → civil_nanos dt ≡ nanos_of_seconds local
+    → rule_offsets standard dst local ≡ PosixRule.ambiguous_at_by standard dst dt
 rule_offsets_are standard None dt local e = refl
 rule_offsets_are standard (Some d) dt local e =
-    ap₂ (λ (year : ℤ) (n : ℤ). PosixRule.ambiguous_by standard d.offset (PosixRule.rule_nanos year d.rule.start (pos 0), PosixRule.rule_nanos year d.rule.end (pos 0)) n)
+    ap₂ (λ (year : ℤ) (n : ℤ). PosixRule.ambiguous_by standard d.offset
+        (PosixRule.rule_nanos year d.rule.start (pos 0), PosixRule.rule_nanos year d.rule.end (pos 0)) n)
     (sym (year_of_nanos-civil dt (nanos_of_seconds local) e)) (sym e)
 
-pub offsets_are : (zone : TimeZone) (dt : DateTime) (local : ℤ) → IsSome (said_by zone) → civil_nanos dt ≡ nanos_of_seconds local → offsets_of zone local ≡ ambiguous_at zone dt
+pub offsets_are : (zone : TimeZone) (dt : DateTime) (local : ℤ) → IsSome (said_by zone) → civil_nanos dt ≡ nanos_of_seconds local
+    → offsets_of zone local ≡ ambiguous_at zone dt
 unfolding ambiguous_at
 offsets_are UTC dt local own e = refl
 offsets_are Unknown dt local own e = refl

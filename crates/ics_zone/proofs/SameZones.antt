@@ -53,7 +53,8 @@ same_window : (d e : Dst) (y : ℤ) (std : Offset) → Alike d e → utc_window 
 unfolding utc_window
 same_window d e y std h = rw (h.offset, h.start, h.end) refl
 
-chosen : (inside : Bool) (d e : Dst) (std : Offset) → d.offset ≡ e.offset → match_some (if inside then Some d else None) std (λ x. x.offset) ≡ match_some (if inside then Some e else None) std (λ x. x.offset)
+chosen : (inside : Bool) (d e : Dst) (std : Offset) → d.offset ≡ e.offset
+    → match_some (if inside then Some d else None) std (λ x. x.offset) ≡ match_some (if inside then Some e else None) std (λ x. x.offset)
 chosen true d e std same = same
 chosen false d e std same = refl
 
@@ -67,7 +68,8 @@ same_rule_offset std (Some d) (Some e) n same =
     let h = alike d e view in
     rw (same_window d e (year_of_nanos n) std h) (chosen (in_window (utc_window e (year_of_nanos n) std) n) d e std h.offset)
 
-same_rule_offsets : (std : Offset) (d e : Option Dst) (local : ℤ) → option_map dst_view d ≡ option_map dst_view e → rule_offsets std d local ≡ rule_offsets std e local
+same_rule_offsets : (std : Offset) (d e : Option Dst) (local : ℤ) → option_map dst_view d ≡ option_map dst_view e
+    → rule_offsets std d local ≡ rule_offsets std e local
 same_rule_offsets std None None local same = refl
 same_rule_offsets std None (Some e) local same = cc
 same_rule_offsets std (Some d) None local same = cc

@@ -46,13 +46,15 @@ not_later_is : (s t : ℤ) (i j : ℕ) → IsNotLater s i t j → s ≤ℤ t
 not_later_is s t i j (inl l) = omega (arith, ints)
 not_later_is s t i j (inr l) = omega (arith, ints, l.0)
 
-module _ (zone : List Phase) (list : List Onsets) (all : AreOnsetsOfAll zone list) (k : ℕ) (o : Onsets) (inside : k < length list) (at_place : o ≡ get_or list k o) where
+module _ (zone : List Phase) (list : List Onsets) (all : AreOnsetsOfAll zone list) (k : ℕ) (o : Onsets) (inside : k < length list)
+    (at_place : o ≡ get_or list k o) where
   -- what is there is kept of the observance there
   onsets_at : (p : Phase) → slice_get zone k ≡ Some p → AreOnsetsOf p o
   onsets_at p there = rw at_place (all.each k p o there)
 
   -- an onset of the observances up to here is of one before, or of this one
-  module _ {A : Type 0} (i : ℕ) (s : ℤ) (p : Phase) (h : IsOnset zone i s p) (early : i < k + 1) (before : i < k → A) (now : AreOnsetsOf p o → Has o s → i ≡ k → A) where
+  module _ {A : Type 0} (i : ℕ) (s : ℤ) (p : Phase) (h : IsOnset zone i s p) (early : i < k + 1) (before : i < k → A) (now : AreOnsetsOf p o → Has o s
+      → i ≡ k → A) where
     split : A
     split = elim (below_or_at i k (omega arith)) [
       | inl less ↦ before less
@@ -84,7 +86,8 @@ module _ (zone : List Phase) (list : List Onsets) (all : AreOnsetsOfAll zone lis
       offset = before.offset;
       before = let n = before.before in omega (arith, n);
       not_after = before.not_after;
-      greatest = λ i s p l h early. split i s p h l (λ less. before.greatest i s p less h early) (λ of has same. absurd (let late = none s has in omega (arith, ints, late, early)));
+      greatest = λ i s p l h early. split i s p h l (λ less. before.greatest i s p less h early)
+          (λ of has same. absurd (let late = none s has in omega (arith, ints, late, early)));
     }
 
     pub latest_some : (old : Option Latest) (e new : Latest) → IsLatestOf zone t k old → e.place ≡ k → e.offset ≡ o.offset_to → IsLast (Has o) t e.at
@@ -107,7 +110,8 @@ module _ (zone : List Phase) (list : List Onsets) (all : AreOnsetsOfAll zone lis
               (λ of has same. inl (let low = last.last s has early in omega (arith, ints, low, later)));
         })
 
-  pub between_more : (after next new : ℤ) → new ≤ℤ next → ((t : ℤ) → Has o t → after <ℤ t → new ≤ℤ t) → NoneBetweenTo zone k after next → NoneBetweenTo zone (k + 1) after new
+  pub between_more : (after next new : ℤ) → new ≤ℤ next → ((t : ℤ) → Has o t → after <ℤ t → new ≤ℤ t) → NoneBetweenTo zone k after next
+      → NoneBetweenTo zone (k + 1) after new
   between_more after next new less first before i s p l h late = split i s p h l
       (λ low. let none = before i s p low h late in omega (arith, ints, none, less))
       (λ of has same. first s has late)
@@ -119,7 +123,8 @@ module _ (zone : List Phase) (list : List Onsets) (all : AreOnsetsOfAll zone lis
         (λ low. before i s p low h is early)
         (λ of has same. absurd (other (of.to ∙ is)))
 
-    pub less_more : (last : Option ℤ) → IsLastOf (Has o) t last → (r : Bool) → MatchOption last (r ≡ false) (λ s. r ≡ false → (s <ℤ at) ⊎ ((s ≡ at) × (k < place)))
+    pub less_more : (last : Option ℤ) → IsLastOf (Has o) t last → (r : Bool)
+        → MatchOption last (r ≡ false) (λ s. r ≡ false → (s <ℤ at) ⊎ ((s ≡ at) × (k < place)))
         → r ≡ false → AreLessTo zone (k + 1) offset t at place
     less_more None none r less lower i s p l h is early = split i s p h l
         (λ low. before i s p low h is early)
@@ -135,7 +140,8 @@ module _ (zone : List Phase) (list : List Onsets) (all : AreOnsetsOfAll zone lis
         ])
 
   -- where its last onset is greater than all those of the observances with an offset, it overrides them
-  pub overridden_by : (t offset at : ℤ) (count : ℕ) → length list ≤ count → IsLast (Has o) t at → AreLessTo zone count offset t at k → IsOverridden zone t offset
+  pub overridden_by : (t offset at : ℤ) (count : ℕ) → length list ≤ count → IsLast (Has o) t at → AreLessTo zone count offset t at k
+      → IsOverridden zone t offset
   overridden_by t offset at count past last less =
       let here = phase_there zone k (let n = all.same_length in omega (arith, n, inside)) in
       record {
@@ -144,7 +150,8 @@ module _ (zone : List Phase) (list : List Onsets) (all : AreOnsetsOfAll zone lis
         phase = here.0;
         onset = (here.1, (onsets_at here.0 here.1).known at last.is);
         not_after = last.not_after;
-        greater = λ i s p h is early. less i s p (let within = slice_get_within zone i p h.0 in let n = all.same_length in omega (arith, within, n, past)) h is early;
+        greater = λ i s p h is early. less i s p (let within = slice_get_within zone i p h.0 in let n = all.same_length in omega (arith, within, n, past)) h
+            is early;
       }
 
   -- the first onset of this observance is the least of all, or it is not
@@ -171,7 +178,8 @@ module _ (zone : List Phase) (list : List Onsets) (all : AreOnsetsOfAll zone lis
       phase = before.phase;
       onset = before.onset;
       least = λ i s p l h. split i s p h l (λ early. before.least i s p early h)
-          (λ of has same. not_later_by first s before.place i (let low = least s has in omega (arith, ints, low, more)) (let n = before.in_bound in omega (arith, n, same)));
+          (λ of has same. not_later_by first s before.place i (let low = least s has in omega (arith, ints, low, more))
+              (let n = before.in_bound in omega (arith, n, same)));
       is = before.is;
     }
 
@@ -191,7 +199,8 @@ module _ (zone : List Phase) (list : List Onsets) (all : AreOnsetsOfAll zone lis
         (λ of has same. let to = of.to in omega (arith, ints, clamps, past, none, early, more, to))
 
 -- no observance is before the first
-pub first_of : (zone : List Phase) (list : List Onsets) → AreOnsetsOfAll zone list → (o : Onsets) → 0 < length list → o ≡ get_or list 0 o → (at offset : ℤ) → Has o at
+pub first_of : (zone : List Phase) (list : List Onsets) → AreOnsetsOfAll zone list → (o : Onsets) → 0 < length list → o ≡ get_or list 0 o → (at offset : ℤ)
+    → Has o at
     → offset ≡ o.offset_from → IsFirst zone 0 at offset
 first_of zone list all o inside at_place at offset is from =
     let here = phase_there zone 0 (let n = all.same_length in omega (arith, n, inside)) in

@@ -58,7 +58,8 @@ module _ (zone : List Phase) (facts : IsZone zone) where
   unfolding zone_offset
   zone_offset_short t = by (in_force zone t) (earliest zone) (in_force-is t) earliest-is
     where
-      by : (now first : Option Phase) → ((p : Phase) → now ≡ Some p → IsPhase p) → ((p : Phase) → first ≡ Some p → IsPhase p) → IsWithin 86_399 (offset_by now first)
+      by : (now first : Option Phase) → ((p : Phase) → now ≡ Some p → IsPhase p) → ((p : Phase) → first ≡ Some p → IsPhase p)
+          → IsWithin 86_399 (offset_by now first)
       by (Some p) first is least = (is p refl).to_in
       by None (Some p) is least = (least p refl).from_in
       by None None is least = (omega (arith, ints), omega (arith, ints))

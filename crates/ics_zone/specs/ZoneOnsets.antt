@@ -23,16 +23,16 @@ pub record HasOffsets (offsets : List ℤ) (p : Phase) : Type 0 where
 abbrev pub HaveOffsets : List ℤ → List Phase → Type 0
 HaveOffsets offsets zone = (i : ℕ) (p : Phase) → slice_get zone i ≡ Some p → HasOffsets offsets p
 
--- the offset is the same from one instant to another
+-- the offset is the same from one instant on, before another
 abbrev pub IsSteady : (ℤ → ℤ) → ℤ → ℤ → ℤ → Type 0
-IsSteady offset from to value = (t : ℤ) → from ≤ℤ t → t ≤ℤ to → value ≡ offset t
+IsSteady offset from next value = (t : ℤ) → from ≤ℤ t → t <ℤ next → value ≡ offset t
 
 -- what a zone knows: there is an observance, the onsets of each, each offset that the zone has, and spans with one offset
 pub record IsKnown (zone : List Phase) (onsets : List Onsets) (offsets : List ℤ) (held : List Steady) : Type 0 where
   pub some : 0 < length zone
   pub asked : AreOnsetsOfAll zone onsets
   pub all_offsets : (t : ℤ) → Contains offsets (zone_offset zone t)
-  pub spans : All (λ s. IsSteady (zone_offset zone) s.from s.to s.offset) held
+  pub spans : All (λ s. IsSteady (zone_offset zone) s.from s.next s.offset) held
 
 -- of the observances before a place, the greatest onset not after t
 pub record IsLatest (zone : List Phase) (t : ℤ) (count : ℕ) (latest : Latest) : Type 0 where

@@ -1,8 +1,9 @@
 //! The onsets of all observances of a zone, asked for near an instant.
-ghost use Rattle.std.specs.Prelude.{◌≡◌, ℤ, pos, ◌<◌, true, false, length, List, ◌⊎◌, ◌+ℤ◌, ◌-ℤ◌, ◌<ℤ◌, ◌≤ℤ◌, MatchOption};
+ghost use Rattle.std.specs.Prelude.{◌≡◌, ℤ, pos, ◌<◌, true, false, length, List, ◌⊎◌, ◌+ℤ◌, ◌-ℤ◌, ◌<ℤ◌, ◌≤ℤ◌, IfSome, MatchOption};
 ghost use Rattle.std.specs.List.{All};
 ghost use Rattle.ics_zone.specs.Observances.{Phase};
-ghost use Rattle.ics_zone.specs.OnsetSets.{IsSound};
+ghost use Rattle.ics_zone.specs.Latest.{IsLast};
+ghost use Rattle.ics_zone.specs.OnsetSets.{Has, IsSound};
 ghost use Rattle.ics_zone.specs.Places.{IsMoment};
 ghost use Rattle.ics_zone.specs.ZoneOnsets.{AreOnsetsOfAll, IsLatestOf, IsFirstOffset, IsNextPast, IsOverridden, NoneBetween};
 
@@ -19,11 +20,11 @@ pub(crate) struct Latest {
     pub offset: i32,
 }
 
-/// A span of instants, both ends with it, in which a zone has one offset.
+/// A span of instants in which a zone has one offset: from one on, and before another.
 #[derive(Clone, Copy)]
 pub(crate) struct Steady {
     pub from: Moment,
-    pub to: Moment,
+    pub next: Moment,
     pub offset: i32,
 }
 
@@ -48,6 +49,18 @@ fn is_not_less(onset: Option<Moment>, place: usize, at: Moment, other: usize) ->
     }
 }
 
+// The last onset of an observance that is not after an instant, with its place and the offset that it begins.
+fn last_of(one: &Onsets, place: usize, moment: Moment) -> Option<Latest>
+    requires { IsSound one.now }
+    ensures last { MatchOption result ((t : ℤ) → Has one.now t → moment <ℤ t) (λ l. IsLast (Has one.now) moment l.at) }
+    ensures place { IfSome result (λ l. l.place ≡ place) }
+    ensures offset { IfSome result (λ l. l.offset ≡ one.now.offset_to) }
+{
+    let at = one.last(moment)?;
+    let offset = one.offset_to;
+    Some(Latest { at, place, offset })
+}
+
 /// The greatest onset that is not after an instant, by instant and then by place.
 pub(crate) fn latest_of(onsets: &[Onsets], moment: Moment) -> Option<Latest>
     requires { All IsSound onsets.now }
@@ -55,11 +68,10 @@ pub(crate) fn latest_of(onsets: &[Onsets], moment: Moment) -> Option<Latest>
 {
     let mut latest: Option<Latest> = None;
     for (place, one) in onsets.iter().enumerate() {
-        let Some(at) = one.last(moment) else {
+        let Some(last) = last_of(one, place, moment) else {
             continue;
         };
-        let offset = one.offset_to;
-        latest = Some(later(latest, Latest { at, place, offset }));
+        latest = Some(later(latest, last));
     }
     latest
 }

@@ -1,8 +1,8 @@
 //! The onsets of one observance, asked for near an instant.
-ghost use Rattle.std.specs.Prelude.{◌≡◌, ℤ, ◌<ℤ◌, ◌≤ℤ◌, IfOk, IfSome};
+ghost use Rattle.std.specs.Prelude.{◌≡◌, ℕ, ℤ, ◌<◌, ◌≤◌, ◌<ℤ◌, ◌≤ℤ◌, IfOk, IfSome};
 ghost use Rattle.std.specs.List.{Contains};
 ghost use Rattle.std.specs.Option.{option_map};
-ghost use Rattle.ics_zone.specs.Observances.{phase_of, rule_from};
+ghost use Rattle.ics_zone.specs.Observances.{instant_by, phase_of, rule_from};
 ghost use Rattle.ics_zone.specs.Latest.{IsInOrder, IsPassed, IsLastOf};
 ghost use Rattle.ics_zone.specs.OnsetSets.{IsKeptAt, Has, IsSound, AreOnsetsOf, IsListing, IsEnd};
 
@@ -143,6 +143,18 @@ impl Onsets {
         }
     }
 
+    // How many locals, of those before the rules end, the clock before the onsets shows up to an instant and up to a UTC UNTIL.
+    fn shown_to(&self, moment: Moment) -> u64
+        requires { IsSound self.now }
+        ensures bound { result ≤ 309289708800 }
+        ensures shown { (n : ℕ) → n < result → instant_by self.now.offset_from n ≤ℤ moment }
+        ensures by_until { (n : ℕ) → n < result → instant_by self.now.offset_from n ≤ℤ self.now.until }
+        ensures later { (n : ℕ) → result ≤ n → n < 309289708800 → instant_by self.now.offset_from n ≤ℤ self.now.until
+            → moment <ℤ instant_by self.now.offset_from n }
+    {
+        shown_by(self.offset_from, moment.min(self.until))
+    }
+
     // The last that the rule keeps and that is not after an instant.
     fn last_by_rule(&self, moment: Moment) -> Option<Moment>
         requires { IsSound self.now }
@@ -151,7 +163,7 @@ impl Onsets {
         let Some(rule) = &self.rule else {
             return None;
         };
-        let end = shown_by(self.offset_from, moment.min(self.until));
+        let end = self.shown_to(moment);
         match last_kept(rule, self.ago, end) {
             Some(kept) => Some(instant(self.offset_from, kept)),
             None => None,
@@ -194,7 +206,7 @@ impl Onsets {
             return limit;
         };
         let from = shown_by(self.offset_from, after);
-        let end = shown_by(self.offset_from, limit.min(self.until));
+        let end = self.shown_to(limit);
         match next_kept(rule, from, end) {
             Some(kept) => instant(self.offset_from, kept),
             None => limit,

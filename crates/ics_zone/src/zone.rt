@@ -1,5 +1,5 @@
 //! The zone of a VTIMEZONE.
-ghost use Rattle.std.specs.Prelude.{◌≡◌, ◌≢◌, ◌↔◌, ◌<◌, length, ◌≤ℤ◌, ◌+ℤ◌, ◌-ℤ◌, ℤ, pos, [], map, Err, IsTrue, IfSome, Ok, IfOk, MatchBool, MatchOption};
+ghost use Rattle.std.specs.Prelude.{◌≡◌, ◌≢◌, ◌↔◌, ◌<◌, length, ◌<ℤ◌, ◌≤ℤ◌, ◌+ℤ◌, ◌-ℤ◌, ℤ, pos, [], map, Err, IsTrue, IfSome, Ok, IfOk, MatchBool, MatchOption, true, false};
 ghost use Rattle.std.specs.Int.{int_min};
 ghost use Rattle.std.specs.List.{list_any};
 ghost use Rattle.jiff_core.specs.Calendar.{IsWithin};
@@ -110,15 +110,15 @@ impl Zone {
     // A span that is held and goes from one instant to another, or further.
     fn held_over(&self, from: Moment, to: Moment) -> Option<Steady>
         ensures some { 0 < length (phases_of self.now) }
-        ensures over { IfSome result (λ s. (s.from ≤ℤ from) × (to ≤ℤ s.to)) }
-        ensures steady { IfSome result (λ s. IsSteady (zone_offset (phases_of self.now)) s.from s.to s.offset) }
+        ensures over { IfSome result (λ s. (s.from ≤ℤ from) × (to <ℤ s.next)) }
+        ensures steady { IfSome result (λ s. IsSteady (zone_offset (phases_of self.now)) s.from s.next s.offset) }
     {
         let begun = self.held.partition_point(|span| span.from <= from);
         if begun == 0 {
             return None;
         }
         let steady = self.held[begun - 1];
-        if steady.from <= from && to <= steady.to {
+        if steady.from <= from && to < steady.next {
             Some(steady)
         } else {
             None
@@ -128,13 +128,13 @@ impl Zone {
     // The span about an instant from one onset to the next. None where no onset is before it.
     fn steady_about(&self, near: Moment) -> Option<Steady>
         requires { IsWithin 300_000_000_000 near }
-        ensures { IfSome result (λ s. IsSteady (zone_offset (phases_of self.now)) s.from s.to s.offset) }
+        ensures { IfSome result (λ s. IsSteady (zone_offset (phases_of self.now)) s.from s.next s.offset) }
     {
         let latest = latest_of(&self.onsets, near)?;
         let next = next_onset(&self.onsets, near, near + AHEAD);
         Some(Steady {
             from: latest.at,
-            to: next - 1,
+            next,
             offset: latest.offset,
         })
     }
@@ -178,17 +178,35 @@ impl Zone {
         self.offset_of_latest(moment, hint) == offset
     }
 
-    // The span up to an instant from the greatest onset before it on. None where no onset is before it.
+    // The span from the greatest onset that is not after an instant on, up to that instant. None where no onset is before it.
     fn steady_to(&self, to: Moment) -> Option<Steady>
-        ensures to { IfSome result (λ s. s.to ≡ to) }
-        ensures steady { IfSome result (λ s. IsSteady (zone_offset (phases_of self.now)) s.from s.to s.offset) }
+        requires { IsWithin 300_000_000_000 to }
+        ensures to { IfSome result (λ s. to <ℤ s.next) }
+        ensures steady { IfSome result (λ s. IsSteady (zone_offset (phases_of self.now)) s.from s.next s.offset) }
     {
         let latest = latest_of(&self.onsets, to)?;
         Some(Steady {
             from: latest.at,
-            to,
+            next: to + 1,
             offset: latest.offset,
         })
+    }
+
+    // A span that goes from one instant to another, or further. None where an onset is after the one and not after the other.
+    fn steady_over(&self, from: Moment, to: Moment) -> Option<Steady>
+        requires { IsWithin 300_000_000_000 to }
+        ensures over { IfSome result (λ s. (s.from ≤ℤ from) × (to <ℤ s.next)) }
+        ensures steady { IfSome result (λ s. IsSteady (zone_offset (phases_of self.now)) s.from s.next s.offset) }
+    {
+        if let Some(held) = self.held_over(from, to) {
+            return Some(held);
+        }
+        let steady = self.steady_to(to)?;
+        if steady.from <= from {
+            Some(steady)
+        } else {
+            None
+        }
     }
 
     // The instant of a local, if the offset does not change within a day of it.
@@ -196,15 +214,8 @@ impl Zone {
         requires bound { IsMoment seconds }
         ensures { IfSome result (IsFirstTime (zone_offset (phases_of self.now)) seconds) }
     {
-        if let Some(held) = self.held_over(seconds - DAY, seconds + DAY) {
-            return Some(seconds - i64::from(held.offset));
-        }
-        let steady = self.steady_to(seconds + DAY)?;
-        if steady.from <= seconds - DAY {
-            Some(seconds - i64::from(steady.offset))
-        } else {
-            None
-        }
+        let steady = self.steady_over(seconds - DAY, seconds + DAY)?;
+        Some(seconds - i64::from(steady.offset))
     }
 
     // The instant of a local on a clock with this offset, if the offset is the zone's then.
@@ -236,12 +247,25 @@ impl Zone {
         let mut first: Option<Moment> = None;
         let mut hint = usize::MAX;
         for offset in offsets {
+            if is_by(first, seconds - i64::from(*offset)) {
+                continue;
+            }
             let Some(moment) = self.shown_with(seconds, *offset, &mut hint) else {
                 continue;
             };
             first = Some(earlier(first, moment));
         }
         first
+    }
+
+    // Whether the clock shows a later local than one, given by its seconds, at an instant.
+    fn is_past(&self, seconds: i64, moment: Moment) -> bool
+        requires { IsWithin 300_000_000_000 moment }
+        ensures { MatchBool result
+            (seconds <ℤ shown (zone_offset (phases_of self.now)) moment)
+            (shown (zone_offset (phases_of self.now)) moment ≤ℤ seconds) }
+    {
+        moment + i64::from(self.in_force(moment)) > seconds
     }
 
     // The instant at which the clock jumps over a local that it never shows: the first onset that shows a later one.
@@ -255,12 +279,21 @@ impl Zone {
         let mut after = seconds - DAY;
         while after <= seconds + DAY {
             after = next_past(&self.onsets, seconds, after);
-            if after + i64::from(self.in_force(after)) > seconds {
+            if self.is_past(seconds, after) {
                 return after;
             }
         }
         // not reached: a day after the local the clock shows a later one
         after
+    }
+
+    // A local, given by its seconds, read with the offset before an instant.
+    fn read_before(&self, seconds: i64, past: Moment) -> Moment
+        requires local { IsWithin 300_000_000_000 seconds }
+        requires past { IsWithin 300_000_000_000 past }
+        ensures { result ≡ seconds -ℤ zone_offset (phases_of self.now) (past -ℤ pos 1) }
+    {
+        seconds - i64::from(self.in_force(past - 1))
     }
 
     // The instant of a local that the clock skips: it is read with the offset before the gap.
@@ -269,7 +302,17 @@ impl Zone {
         requires skipped { (t : ℤ) → shown (zone_offset (phases_of self.now)) t ≢ seconds }
         ensures { IsInGap (zone_offset (phases_of self.now)) seconds result }
     {
-        seconds - i64::from(self.in_force(self.jump(seconds) - 1))
+        self.read_before(seconds, self.jump(seconds))
+    }
+}
+
+// Whether there is a first instant, and it is not after a second.
+fn is_by(first: Option<Moment>, second: Moment) -> bool
+    ensures { MatchOption first (result ≡ false) (λ f. result ≡ true → f ≤ℤ second) }
+{
+    match first {
+        Some(first) => first <= second,
+        None => false,
     }
 }
 

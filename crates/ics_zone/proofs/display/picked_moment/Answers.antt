@@ -23,7 +23,8 @@ returns c =
     let nanos : c.unwrap-instant.result.nanosecond ≡ picked_instant zone dt = IfOk-at_ok _ c.unwrap-instant.ensures c.to_timestamp.ensures.value in
     let parts = picked_seconds zone dt local c.datetime.ensures in
     let second : c.as_second.result ≡ local -ℤ offset = rw (c.as_second.ensures, nanos, parts) (omega (arith, signed_arith)) in
-    let same : moment_of zone local ≡ local -ℤ offset = ap (λ offsets. local -ℤ (compatible_offset offsets).seconds) (offsets_are zone dt local c.requires.own c.datetime.ensures) in
+    let same : moment_of zone local ≡ local -ℤ offset = ap (λ offsets. local -ℤ (compatible_offset offsets).seconds)
+        (offsets_are zone dt local c.requires.own c.datetime.ensures) in
     record {
       picked = record {
         shown = dt;

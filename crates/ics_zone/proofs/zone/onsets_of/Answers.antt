@@ -7,4 +7,5 @@ loop-observance-preserved c =
     c.loop-observance.all.items c.push.new.self.items c.in_ok-of.field-0 c.in_ok-push.ensures.items c.in_ok-of.ensures c.loop-observance.invariant
 
 pub returns : goal.returns
-returns c = onsets_end c.args.observances.now c.loop-observance.observance-index _ c.loop-observance-test.false c.loop-observance.auto.observance-index-end c.loop-observance.invariant
+returns c = onsets_end c.args.observances.now c.loop-observance.observance-index _ c.loop-observance-test.false c.loop-observance.auto.observance-index-end
+    c.loop-observance.invariant

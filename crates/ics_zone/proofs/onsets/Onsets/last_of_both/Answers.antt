@@ -14,7 +14,8 @@ later_of a b m e = elim (less_or_not_z a b) [
   | inr l ↦ inl (omega (arith, ints, clamps, e, l), omega (arith, ints, clamps, e, l))
 ]
 
-none_and : (s : Onsets) (t : ℤ) (first second : Option ℤ) → first ≡ None → IsLastOf (Contains s.listed.items) t first → IsLastOf (IsKeptAt s) t second → IsLastOf (Has s) t second
+none_and : (s : Onsets) (t : ℤ) (first second : Option ℤ) → first ≡ None → IsLastOf (Contains s.listed.items) t first → IsLastOf (IsKeptAt s) t second
+    → IsLastOf (Has s) t second
 none_and s t (Some a) second e x y = absurd (cc)
 none_and s t None (Some b) e x y = last_of_second (Contains s.listed.items) (IsKeptAt s) t b x y
 none_and s t None None e x y = λ u h. elim h [ inl p ↦ x u p | inr p ↦ y u p ]
@@ -28,16 +29,19 @@ returns-in-Some-Some c =
     let fits : SFits w64 c.args.moment = c.ranges.moment in
     rw (to_z-of_z w64 c.max.result small)
     (last_of_both (Contains c.args.self.now.listed.items) (IsKeptAt c.args.self.now) c.args.moment c.in-Some-Some.listed c.in-Some-Some.kept c.max.result
-    (simp to_z-of_z at c.in-Some-Some.ensures) (simp to_z-of_z at c.in-Some-Some.ensures') (later_of c.in-Some-Some.listed c.in-Some-Some.kept c.max.result max))
+    (simp to_z-of_z at c.in-Some-Some.ensures) (simp to_z-of_z at c.in-Some-Some.ensures')
+        (later_of c.in-Some-Some.listed c.in-Some-Some.kept c.max.result max))
 
 pub returns-in-Some-None : goal.returns-in-Some-None
 returns-in-Some-None c =
     let fits : SFits w64 c.args.moment = c.ranges.moment in
     let small : SFits w64 c.in-Some-None.listed = search rules in
     rw (to_z-of_z w64 c.in-Some-None.listed small)
-    (last_of_first (Contains c.args.self.now.listed.items) (IsKeptAt c.args.self.now) c.args.moment c.in-Some-None.listed (simp to_z-of_z at c.in-Some-None.ensures) (simp to_z-of_z at c.in-Some-None.ensures'))
+    (last_of_first (Contains c.args.self.now.listed.items) (IsKeptAt c.args.self.now) c.args.moment c.in-Some-None.listed
+        (simp to_z-of_z at c.in-Some-None.ensures) (simp to_z-of_z at c.in-Some-None.ensures'))
 
 pub returns-in-None-default : goal.returns-in-None-default
 returns-in-None-default c =
     let fits : SFits w64 c.args.moment = c.ranges.moment in
-    none_and c.args.self.now c.args.moment c.last_listed.result c.last_by_rule.result c.in-None-default.is-0 (simp to_z-of_z at c.last_listed.ensures) (simp to_z-of_z at c.last_by_rule.ensures)
+    none_and c.args.self.now c.args.moment c.last_listed.result c.last_by_rule.result c.in-None-default.is-0 (simp to_z-of_z at c.last_listed.ensures)
+        (simp to_z-of_z at c.last_by_rule.ensures)

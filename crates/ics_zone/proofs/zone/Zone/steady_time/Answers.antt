@@ -7,28 +7,15 @@ use Rattle.ics_zone.specs.Moments.{IsFirstTime}
 use Rattle.ics_zone.proofs.JumpLemmas.{shown_once}
 use Rattle.ics_zone.proofs.zone.Zone.steady_time.Goals as goal
 
-pub returns-then-steady-seconds : goal.returns-then-steady-seconds
-returns-then-steady-seconds c =
+pub returns : goal.returns
+returns c =
     let fits : SFits w64 c.args.seconds = c.ranges.seconds in
-    let from : SFits w64 c.in_ok-steady.steady.from = search rules in
     let offset : SFits w32 c.in_ok-steady.steady.offset = search rules in
-    let steady = c.in_ok-steady.ensures.steady in
-    let to = simp to_z-of_z at c.in_ok-steady.ensures.to in
-    let is : to_z w64 (of_z w64 (to_z w64 (of_z w64 c.args.seconds) -ℤ to_z w64 (of_z w64 c.from-then-steady-seconds.result))) ≡ c.args.seconds -ℤ c.in_ok-steady.steady.offset =
-    omega (arith, ints, c.from-then-steady-seconds.ensures, c.requires.bound.0, c.requires.bound.1, offset) in
-    subst (IsFirstTime (zone_offset (phases_of c.args.self.now)) c.args.seconds) (sym is)
-    (shown_once (phases_of c.args.self.now) (zone_facts c.args.self.now) c.args.seconds c.in_ok-steady.steady.from c.in_ok-steady.steady.to c.in_ok-steady.steady.offset steady
-    (omega (arith, ints, from, c.if-steady-seconds.true, c.requires.bound.0, c.requires.bound.1))
-    (omega (arith, ints, to, c.requires.bound.0, c.requires.bound.1)))
-
-pub returns-in-Some : goal.returns-in-Some
-returns-in-Some c =
-    let fits : SFits w64 c.args.seconds = c.ranges.seconds in
-    let offset : SFits w32 c.in-Some.held.offset = search rules in
-    let about = simp to_z-of_z at c.in-Some.ensures.over in
-    let is : to_z w64 (of_z w64 (to_z w64 (of_z w64 c.args.seconds) -ℤ to_z w64 (of_z w64 c.from.result))) ≡ c.args.seconds -ℤ c.in-Some.held.offset =
+    let about = simp to_z-of_z at c.in_ok-steady.ensures.over in
+    let is : to_z w64 (of_z w64 (to_z w64 (of_z w64 c.args.seconds) -ℤ to_z w64 (of_z w64 c.from.result))) ≡ c.args.seconds -ℤ c.in_ok-steady.steady.offset =
     omega (arith, ints, c.from.ensures, c.requires.bound.0, c.requires.bound.1, offset) in
     subst (IsFirstTime (zone_offset (phases_of c.args.self.now)) c.args.seconds) (sym is)
-    (shown_once (phases_of c.args.self.now) (zone_facts c.args.self.now) c.args.seconds c.in-Some.held.from c.in-Some.held.to c.in-Some.held.offset c.in-Some.ensures.steady
+    (shown_once (phases_of c.args.self.now) (zone_facts c.args.self.now) c.args.seconds
+    c.in_ok-steady.steady.from c.in_ok-steady.steady.next c.in_ok-steady.steady.offset c.in_ok-steady.ensures.steady
     (omega (arith, ints, about.0, c.requires.bound.0, c.requires.bound.1))
     (omega (arith, ints, about.1, c.requires.bound.0, c.requires.bound.1)))

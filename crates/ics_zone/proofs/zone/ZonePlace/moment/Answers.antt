@@ -11,15 +11,18 @@ use Rattle.ics_zone.proofs.zone.ZonePlace.moment.Goals as goal
 
 -- what a moment is, it is as found
 is_found : (zone : List Observance) (local t : ℤ) → IsMomentOf (phases_of zone) local t → t ≡ zone_moment (phases_of zone) local
-is_found zone local t h = moment_unique (zone_offset (phases_of zone)) local t (zone_moment (phases_of zone) local) h (moment_found (zone_offset (phases_of zone)) (zone_short zone) local)
+is_found zone local t h = moment_unique (zone_offset (phases_of zone)) local t (zone_moment (phases_of zone) local) h
+    (moment_found (zone_offset (phases_of zone)) (zone_short zone) local)
 
-shown_first : (c : goal.In-Some) → IsMomentOf (phases_of c.args.self.now) (local_seconds c.args.local.day c.args.local.second) (to_z w64 (of_z w64 c.in-Some.moment))
+shown_first : (c : goal.In-Some)
+    → IsMomentOf (phases_of c.args.self.now) (local_seconds c.args.local.day c.args.local.second) (to_z w64 (of_z w64 c.in-Some.moment))
 shown_first c =
     let fits : SFits w64 c.seconds_of-seconds.result = search rules in
     let small : SFits w64 c.in-Some.moment = search rules in
     rw (to_z-of_z w64 c.in-Some.moment small, sym c.seconds_of-seconds.ensures) (inl (simp to_z-of_z at c.in-Some.ensures))
 
-skipped : (c : goal.After-across_gap) → IsMomentOf (phases_of c.args.self.now) (local_seconds c.args.local.day c.args.local.second) (to_z w64 (of_z w64 c.across_gap.result))
+skipped : (c : goal.After-across_gap)
+    → IsMomentOf (phases_of c.args.self.now) (local_seconds c.args.local.day c.args.local.second) (to_z w64 (of_z w64 c.across_gap.result))
 skipped c =
     let fits : SFits w64 c.seconds_of-seconds.result = search rules in
     let small : SFits w64 c.across_gap.result = search rules in
