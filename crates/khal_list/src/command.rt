@@ -7,6 +7,39 @@ ghost use Rattle.khal_list.specs.Commands as spec;
 use clap::{Arg, ArgAction, Command};
 use std::alloc::{AllocError, Global};
 
+/// What stands below the help of the program.
+const EXAMPLES: &str = "Examples:
+  khal-list list ~/calendars --zone=\"$(tail -n1 /etc/localtime)\"
+      today and tomorrow, by the clock of this machine
+  khal-list list ~/calendars 2024-01-01 7d
+      a week
+  khal-list at ~/calendars 2024-01-03T14:00
+      what is on at a moment
+
+`khal-list list --help` lists the options, and `man khal-list` says more.";
+
+/// What stands below the help of `list`.
+const LIST_EXAMPLES: &str = "Placeholders of --format:
+  {cell} {title} {start-time} {end-time} {start-date} {end-date} {location}
+  {description} {uid} {cancelled}
+
+Examples:
+  khal-list list ~/calendars --zone=\"$(tail -n1 /etc/localtime)\"
+  khal-list list ~/calendars 2024-01-01 7d --zone=EST5EDT,M3.2.0,M11.1.0
+  khal-list list ~/calendars 2024-01-01 2024-01-31 --limit 10
+  khal-list list ~/calendars --format '{start-time} {title}' --day-format ''";
+
+/// What stands below the help of `at`.
+const AT_EXAMPLES: &str = "Examples:
+  khal-list at ~/calendars 2024-01-03T14:00
+  khal-list at ~/calendars 2024-01-03T14:00 --zone=-05:00";
+
+/// The heading of the options that choose entries.
+const WHICH_ENTRIES: &str = "Which entries";
+
+/// The heading of the options for what an entry looks like.
+const HOW_WRITTEN: &str = "How they are written";
+
 /// The program's command: `list FOLDER [START [END]] [--zone Z] [--limit N] [--after TOKEN]
 /// [--notstarted] [--format F] [--day-format F]` and `at FOLDER MOMENT [--zone Z]`.
 pub(crate) fn command<'a>(alloc: Global) -> Result<Command<'a>, AllocError>
@@ -24,6 +57,7 @@ fn bare_command<'a>(alloc: Global) -> Command<'a>
 {
     Command::new(alloc, "khal-list")
         .about("Lists the events of a folder of iCalendar files (RFC 5545)")
+        .after_help(EXAMPLES)
         .subcommand_required(true)
 }
 
@@ -59,7 +93,9 @@ fn list_places<'a>(alloc: Global) -> Result<Command<'a>, AllocError>
     ensures shape { IfOk result (λ c. app_of c ≡ spec.list_places_app) }
     ensures local { IfOk result (λ c. (out-Command c).has_globals ≡ false) }
 {
-    let command = Command::new(alloc, "list").about("Lists what meets a window of time");
+    let command = Command::new(alloc, "list")
+        .about("Lists the events of a window of time")
+        .after_help(LIST_EXAMPLES);
     let command = with(command, folder_arg(alloc))?;
     let command = with(command, start_arg(alloc))?;
     with(command, end_arg(alloc))
@@ -69,7 +105,9 @@ fn at_command<'a>(alloc: Global) -> Result<Command<'a>, AllocError>
     ensures shape { IfOk result (λ c. app_of c ≡ spec.at_app) }
     ensures local { IfOk result (λ c. (out-Command c).has_globals ≡ false) }
 {
-    let command = Command::new(alloc, "at").about("Lists what goes on at a moment");
+    let command = Command::new(alloc, "at")
+        .about("Lists what is on at a moment")
+        .after_help(AT_EXAMPLES);
     let command = with(command, folder_arg(alloc))?;
     let command = with(command, moment_arg(alloc))?;
     with(command, zone_arg(alloc))
@@ -89,9 +127,9 @@ fn start_arg<'a>(alloc: Global) -> Arg<'a>
     ensures rule { rule_of result ≡ spec.start }
     ensures local { result.global ≡ false }
 {
-    Arg::new(alloc, "start").value_name("START").help(
-        "YYYY-MM-DD or YYYY-MM-DDTHH:MM; today where it is left out",
-    )
+    Arg::new(alloc, "start")
+        .value_name("START")
+        .help("YYYY-MM-DD or YYYY-MM-DDTHH:MM [default: today]")
 }
 
 fn end_arg<'a>(alloc: Global) -> Arg<'a>
@@ -100,7 +138,9 @@ fn end_arg<'a>(alloc: Global) -> Arg<'a>
 {
     Arg::new(alloc, "end")
         .value_name("END")
-        .help("A date (its day is listed too), a date-time, or Nd: so many days from START")
+        .help(
+            "A date (that day is listed too), a date-time (up to it),{n}or Nd (N days from START)",
+        )
         .default_value("2d")
 }
 
@@ -110,7 +150,7 @@ fn moment_arg<'a>(alloc: Global) -> Arg<'a>
 {
     Arg::new(alloc, "moment")
         .value_name("MOMENT")
-        .help("YYYY-MM-DDTHH:MM, in the zone shown")
+        .help("YYYY-MM-DDTHH:MM, by the clock of --zone")
         .required(true)
 }
 
@@ -121,8 +161,9 @@ fn zone_arg<'a>(alloc: Global) -> Arg<'a>
     Arg::new(alloc, "zone")
         .long("zone")
         .value_name("Z")
+        .help_heading(WHICH_ENTRIES)
         .help(
-            "The zone shown: UTC, an offset as --zone=-05:00, or a POSIX rule as EST5EDT,M3.2.0,M11.1.0",
+            "The time zone: UTC, an offset (--zone=-05:00), or a{n}POSIX TZ rule (EST5EDT,M3.2.0,M11.1.0)",
         )
         .default_value("UTC")
 }
@@ -134,7 +175,10 @@ fn limit_arg<'a>(alloc: Global) -> Arg<'a>
     Arg::new(alloc, "limit")
         .long("limit")
         .value_name("N")
-        .help("Lists the first N entries, and says where to go on where there are more")
+        .help_heading(WHICH_ENTRIES)
+        .help(
+            "At most N entries. If more follow, the last line of{n}standard error is `more: TOKEN`",
+        )
         .value_parser(clap::value_parser!(u32).range(1..))
 }
 
@@ -145,7 +189,8 @@ fn after_arg<'a>(alloc: Global) -> Arg<'a>
     Arg::new(alloc, "after")
         .long("after")
         .value_name("TOKEN")
-        .help("Goes on behind the entry of a token, as the line `more: TOKEN` gives it")
+        .help_heading(WHICH_ENTRIES)
+        .help("Only the entries after the one with this token")
 }
 
 fn notstarted_arg<'a>(alloc: Global) -> Arg<'a>
@@ -154,7 +199,8 @@ fn notstarted_arg<'a>(alloc: Global) -> Arg<'a>
 {
     Arg::new(alloc, "notstarted")
         .long("notstarted")
-        .help("Leaves out what began before the window")
+        .help_heading(WHICH_ENTRIES)
+        .help("Leave out what began before START")
         .action(ArgAction::SetTrue)
 }
 
@@ -165,9 +211,8 @@ fn format_arg<'a>(alloc: Global) -> Arg<'a>
     Arg::new(alloc, "format")
         .long("format")
         .value_name("F")
-        .help(
-            "How an entry is written; by default {cell} {title}. Also: {start-time} {end-time} {start-date} {end-date} {location} {description} {uid} {cancelled}",
-        )
+        .help_heading(HOW_WRITTEN)
+        .help("An entry's line [default: {cell} {title}]")
 }
 
 fn day_format_arg<'a>(alloc: Global) -> Arg<'a>
@@ -177,5 +222,6 @@ fn day_format_arg<'a>(alloc: Global) -> Arg<'a>
     Arg::new(alloc, "day-format")
         .long("day-format")
         .value_name("F")
-        .help("How a day is written; by default {name}, {date}")
+        .help_heading(HOW_WRITTEN)
+        .help("A day's heading [default: {name}, {date}]")
 }
