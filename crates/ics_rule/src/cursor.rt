@@ -67,7 +67,7 @@ impl Cursor {
     ghost use Rattle.ics_rule.specs.Cursors.{known_to, period_count, place_of, steps_of, looks_from, IsCursorOf, HasCounted, HasLooked, IsCursorIn, HasLookedIn};
     ghost use Rattle.ics_rule.specs.Searches.{NoneWanted, IsNextWanted, IsNextBefore, IsWalked, after_look};
 
-    /// At a local of the years 0000 to 9999, whether or not the rule keeps it. No period is looked at.
+    /// A cursor at a local of the years 0000 to 9999, whether or not the rule keeps it. It has looked at no period.
     pub fn at(_rule: &Rule, from: Local) -> Cursor
         requires { IsDayNumber from.day }
         ensures place { place_of result ≡ number from }
@@ -180,10 +180,10 @@ impl Cursor {
         self.search(rule, start, stop, end)
     }
 
-    /// The next kept local from the place on that is earlier than `before`, a bound up to 9801-01-01 (RFC 5545, 3.3.10). The place is then
-    /// just after it. Where there is none the place is the bound, or stays if the bound is earlier, and a call with a later bound goes on from
-    /// there. Each answer past the start comes from a period that was looked at, and one in a later period than the place from a new look.
-    /// Without COUNT the cursor goes straight to the first period at or after its place; under COUNT it begins at the start's.
+    /// The next local that the rule keeps, from the cursor's place on and earlier than `before`, a bound up to 9801-01-01 (RFC 5545, 3.3.10).
+    /// The place is then just after it. If there is none, the place is the bound, or stays if the bound is earlier, and a call with a later bound
+    /// continues from there. An answer after the start comes from a period that was looked at, and one in a later period than the place from
+    /// a new look. Without COUNT the cursor goes straight to the first period at or after its place; under COUNT it begins at the start's.
     pub fn next(&mut self, rule: &Rule, before: Local) -> Option<Local>
         requires bound { IsDayNumber before.day }
         requires early { number before ≤ 309289708800 }
@@ -197,8 +197,8 @@ impl Cursor {
         Some(local_of(n))
     }
 
-    /// How many periods of the rule were looked at: at most those that hold a local from the first place on, under COUNT from the start on, and
-    /// earlier than the greatest bound so far.
+    /// How many periods of the rule were looked at. They are at most those that hold a local earlier than the greatest bound so far, from the
+    /// first place on, or under COUNT from the start on.
     pub fn steps(&self) -> u64
         ensures value { result ≡ steps_of self.now }
         ensures most { (r : Recurrence) (a b : ℕ) → IsCursorOf r self.now → HasLooked r self.now a b → result ≤ period_count r a b }

@@ -3,7 +3,7 @@
 /// Whether the event's stamps are dates or date-times (RFC 5545, 3.8.2.4).
 #[derive(Clone, Copy, Debug, PartialEq, Eq)]
 pub enum Kind {
-    /// Days (RFC 5545, 3.3.4). The clock of each local is at zero, whatever the rule says of it.
+    /// Days (RFC 5545, 3.3.4). Each local is at midnight, whatever the rule says of the time.
     Date,
     /// Days with a time (RFC 5545, 3.3.5).
     DateTime,

@@ -15,7 +15,7 @@ ghost use Rattle.ics_rule.specs.Kept.{count, size, is_in_rule, is_kept};
 ghost use Rattle.ics_rule.specs.Places.{HasRank};
 ghost use Rattle.ics_rule.specs.PlainReading.{in_year, in_month, with_weekday};
 
-/// The start is kept and is the least; what is kept is in the rule; under COUNT at most so many are kept (RFC 5545, 3.3.10 and 3.8.5.3).
+/// The start is kept and is the least; what is kept is in the rule; under COUNT at most that many are kept (RFC 5545, 3.3.10 and 3.8.5.3).
 pub fn kept_locals()
     ensures start { (r : Recurrence) → is_kept r (number r.start) ≡ true }
     ensures least { (r : Recurrence) (n : ℕ) → n < number r.start → is_kept r n ≡ false }
@@ -40,8 +40,8 @@ pub fn first_of_count()
         → (n : ℕ) → n ≤ rules_end → count n (is_kept r) ≡ min (count n (is_in_rule r)) c }
 {}
 
-/// After any calls of `next` with bounds up to one a cursor has looked at no more periods of its rule than hold a local from its first place
-/// on, under COUNT from the start on, and earlier than that bound.
+/// After any calls of `next` a cursor has looked at no more periods of its rule than hold a local earlier than the greatest bound, from its
+/// first place on, or under COUNT from the start on.
 pub fn few_steps()
     ensures { FewSteps }
 {}

@@ -12,7 +12,7 @@ use crate::time::lets_clock;
 use ics_values::{Local, Moment, Parts, Until};
 use std::marker::Model;
 
-/// A recurrence rule, with the start and the kind of its event (RFC 5545, 3.3.10). What the rule leaves out is kept beside it.
+/// A recurrence rule, with the start and the kind of its event (RFC 5545, 3.3.10). What the rule leaves out is taken from the start.
 #[derive(Clone, Copy)]
 pub struct Rule {
     pub(crate) parts: Parts,
@@ -67,8 +67,8 @@ impl Rule {
         }
     }
 
-    /// Whether each part of the rule lets a local of the years 0000 to 9998 in, BYSETPOS, COUNT and UNTIL apart (RFC 5545, 3.3.10). The start
-    /// is kept also where this is false of it.
+    /// Whether each part of the rule but BYSETPOS, COUNT and UNTIL allows a local of the years 0000 to 9998 (RFC 5545, 3.3.10). The start is
+    /// kept even if this is false.
     pub fn admits(&self, local: Local) -> bool
         requires day { IsDayNumber local.day }
         requires before_9999 { local.day ≤ℤ pos 2_932_531 }
@@ -82,8 +82,8 @@ impl Rule {
     }
 
     #[tactic(auto, unfolding(crate::specs::Kept::until_moment))]
-    /// An UNTIL in UTC, where the event has date-times, in seconds since 1970-01-01T00:00:00 UTC (RFC 5545, 3.3.10): it bounds instants, both
-    /// ends included, and no local.
+    /// UNTIL in seconds since 1970-01-01T00:00:00 UTC, if it is in UTC and the event has date-times (RFC 5545, 3.3.10). It bounds instants,
+    /// itself included, and not locals.
     pub fn until_moment(&self) -> Option<Moment>
         ensures { result ≡ until_moment self.now }
     {

@@ -69,10 +69,10 @@ impl<'a> Agenda<'a> {
         Ok(Agenda { merge })
     }
 
-    /// How many built occurrences are held, or the greatest number where that is less: the one that
-    /// was given last, of each feed the one that is drawn, and those at the starts that were read of
-    /// rules. They are at most two and, for each master, two and the greatest number of starts that it
-    /// has in any five days.
+    /// How many built occurrences are held: the one that was given last, the next one of each feed,
+    /// and those at the starts that were read of rules. They are at most two and, for each master, two
+    /// and the greatest number of starts that it has in any five days. The count stops at the greatest
+    /// `usize`.
     pub fn held(&self) -> usize
         ensures count { result ≡ min (length (listed self.now.merge.last (flat_map (λ l. listed l.head (part_holds l.feed)) self.now.merge.leads.items))) (2 ^ 64 - 1) }
         ensures most { result ≤ held_most (map master_of (recurring (⟦<Agenda<'a> as Coming>⟧.sources self.now))) }
@@ -80,10 +80,9 @@ impl<'a> Agenda<'a> {
         self.merge.held()
     }
 
-    /// How many periods of rules were looked at, or the greatest number where that is less: at most
-    /// the sum over the masters with a rule of those that hold a local from seven days before what
-    /// can meet the window to seven days past the master's first start by its rule still to come,
-    /// and two for each.
+    /// How many periods of rules were looked at. For each master with a rule they are at most two more
+    /// than those that hold a local from seven days before what can meet the window to seven days past
+    /// the master's first start by its rule still to come. The count stops at the greatest `u64`.
     pub fn steps(&self) -> u64
         ensures count { result ≡ min (sum_by (λ l. part_looked l.feed) self.now.merge.leads.items) (2 ^ 64 - 1) }
         ensures most { (most : Recurring → ℕ) → ((m : Recurring) → IsIn m (recurring (⟦<Agenda<'a> as Coming>⟧.sources self.now))

@@ -28,12 +28,12 @@ pub trait Coming {
     ghost near_prop: { (feed : Self) → (o : Entry) → IsProp (Self.near feed o) };
 }
 
-/// Hands out occurrences one by one, in the order of their keys: by start, then by the bytes of the
-/// UID, then by recurrence.
+/// Gives occurrences one by one, in the order of their keys: by start, then by the bytes of the UID,
+/// then by recurrence.
 pub trait Feed<'a>: Coming {
-    /// The first of the list still to come, which then has the rest to come; None where there is
-    /// none. After an `AllocError` the list is unchanged. What its occurrences are of stays, and no
-    /// rule is read further than the first that was to come asks.
+    /// The first of the list still to come, which is then removed; None if there is none. After an
+    /// `AllocError` the list is unchanged. The sources stay the same, and no rule is read further than
+    /// the first that was to come asks.
     fn next(&mut self) -> Result<Option<Occurrence<'a>>, AllocError>
         ensures ok { IfOk result (λ given. Gives (Self.coming self.old) given (Self.coming self.new)) }
         ensures err { OnErr result (Self.coming self.new ≡ Self.coming self.old) }

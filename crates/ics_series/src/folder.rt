@@ -52,16 +52,15 @@ impl Folder {
         })
     }
 
-    /// Has the zones of the files keep their offsets near a window, so that a listing of it is read faster. No listing needs it, and no answer
-    /// changes.
+    /// Prepares the zones of the files for a window, so that listing it is faster. No listing needs this call, and it changes no answer.
     pub fn prepare(&mut self, window: &Window)
         ensures { self.new ≡ self.old }
     {
         prepare_each(&mut self.files, window);
     }
 
-    /// The occurrences that meet the window, in the order of their keys; after a key only those of
-    /// this listing that come after it.
+    /// The occurrences that meet the window, in the order of their keys. With a key, only those of
+    /// them that come after it.
     pub fn agenda<'a>(
         &'a self,
         window: Window,

@@ -13,18 +13,18 @@ pub fn one_listing()
     ensures { OneListing }
 {}
 
-/// A listing that goes on after a key is those entries of the whole listing whose keys are greater.
+/// A listing after a key has those entries of the whole listing whose keys are greater.
 pub fn listing_after()
     ensures { ListingAfter }
 {}
 
-/// After the key of one of its entries a listing goes on with those that stand behind it.
+/// After the key of one of its entries a listing has exactly the entries that follow that one.
 pub fn listing_behind()
     ensures { ListingBehind }
 {}
 
-/// The merge of rising lists is the listing of their entries, where of each key that of the first list
-/// which has it counts.
+/// The merge of rising lists is the listing of their entries. If several lists have a key, the entry of
+/// the first of them counts.
 pub fn listing_merged()
     ensures { ListingMerged }
 {}
@@ -34,8 +34,8 @@ pub fn one_recurrence()
     ensures { OneRecurrence }
 {}
 
-/// Each DTSTART, each local that a rule keeps and each RDATE starts an occurrence, where several mean
-/// one instant the first of them; a UTC UNTIL leaves out the kept locals past it, and EXDATEs leave out
+/// Each DTSTART, each local that a rule keeps and each RDATE starts an occurrence. If several sources
+/// give one instant, the first wins. A UTC UNTIL removes the kept locals past it, and EXDATEs remove
 /// starts.
 pub fn each_start()
     ensures { EachStart }
@@ -53,8 +53,8 @@ pub fn most_in_days()
     ensures { MostInDays }
 {}
 
-/// The masters that a listing is of may hold no more occurrences than all masters of the folder that
-/// count.
+/// The bound of what a listing holds is no greater for its own masters than for all masters of the
+/// folder that count.
 pub fn most_of_masters()
     ensures { MostOfMasters }
 {}
@@ -64,7 +64,7 @@ pub fn one_start()
     ensures { OneStart }
 {}
 
-/// A start that an EXDATE takes out is that of no occurrence.
+/// No occurrence starts where an EXDATE removes a start.
 pub fn none_excluded()
     ensures { NoneExcluded }
 {}

@@ -16,8 +16,8 @@ use crate::occurrence::Occurrence;
 use crate::tournament::{replay, winner, winners};
 use std::alloc::{AllocError, Global};
 
-/// Feeds as one feed: it gives each of their keys once, and where several feeds hold a key, the entry of
-/// the first of them.
+/// Feeds as one feed. It gives each of their keys once; if several feeds have a key, it gives the entry
+/// of the first of them.
 #[derive(Drop)]
 pub struct Merge<'a, F: Coming> {
     leads: Vec<Lead<'a, F>>,

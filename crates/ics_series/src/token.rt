@@ -61,8 +61,8 @@ impl Token {
         format!(in alloc; "K1.{start}.{recurrence}.{uid}")
     }
 
-    /// The key of a token. BadToken where the text is the token of no key: a spare zero, `-0` or an
-    /// upper-case digit makes it none.
+    /// The key of a token. BadToken if the text is the token of no key: a leading zero, `-0` or an
+    /// upper-case digit is not allowed.
     pub fn read(alloc: Global, text: &str) -> Result<Key, TokenFault>
         ensures ok { IfOk result (λ key. text.now ≡ spelling (key_rank key)) }
         ensures key { IfOk result (λ key. IsKey (key_rank key)) }

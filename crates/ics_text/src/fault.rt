@@ -1,6 +1,6 @@
 ghost use Rattle.std.specs.Prelude.{◌≡◌, codes};
 
-/// The file begins with SPACE or HTAB, so that its first line goes on with no line (RFC 5545, section 3.1).
+/// The file begins with SPACE or HTAB, so its first line continues no line (RFC 5545, section 3.1).
 #[derive(Clone, Copy, Debug, PartialEq, Eq)]
 pub struct BadFold;
 

@@ -17,7 +17,7 @@ pub struct Found<'a> {
     pub breaks: u64,
 }
 
-/// The first line of bytes. Memory is asked for only where it is folded.
+/// The first line of bytes. Only a folded line is allocated.
 pub fn first_line<'a>(alloc: Global, bytes: &'a [u8]) -> Result<Found<'a>, AllocError>
     ensures found { IfOk result (λ f. (n : ℕ) → lines_from n bytes.now ≡ kept (held_line n f.held) (lines_from (n + f.breaks) f.rest.now)) }
     ensures fewer { IfOk result (λ f. f.breaks + length f.rest.now ≤ length bytes.now) }

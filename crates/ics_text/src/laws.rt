@@ -10,7 +10,7 @@ pub fn numbers_rise()
     ensures { (file : List ℕ) → Rises 0 (unfolded file) }
 {}
 
-/// A file has no more lines than it has bytes, and one.
+/// A file has at most one line more than it has bytes.
 pub fn numbers_within()
     ensures { (file : List ℕ) → Within (length file + 1) (unfolded file) }
 {}

@@ -28,7 +28,7 @@ impl<'a> Model for Lines<'a> {
 }
 
 impl<'a> Lines<'a> {
-    /// The lines of a file. A fold at its beginning has no line to go on with.
+    /// The lines of a file. A fold at its beginning continues no line.
     pub fn new(bytes: &'a [u8]) -> Result<Lines<'a>, BadFold>
         ensures lines { IfOk result (λ lines. lines ≡ unfolded bytes.now) }
         ensures places { IfOk result (λ lines. All (λ line. line.folded ≡ false → StandsIn bytes.now line) lines) }
@@ -41,8 +41,8 @@ impl<'a> Lines<'a> {
         Ok(Lines { rest, breaks: 0 })
     }
 
-    /// The next line; after the last there is none each time.
-    /// Memory is refused only where the line is folded, and then nothing changes.
+    /// The next line; None after the last, each time. Only a folded line is allocated, and after an
+    /// `AllocError` nothing has changed.
     pub fn next(&mut self, alloc: Global) -> Result<Option<Logical<'a>>, AllocError>
         ensures ok { IfOk result (λ line. Takes self.old line self.new) }
         ensures unchanged { OnErr result (self.new ≡ self.old) }

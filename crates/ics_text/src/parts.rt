@@ -36,7 +36,7 @@ impl<'a> Content<'a> {
         self.params
     }
 
-    /// All that stands behind the colon.
+    /// Everything after the colon.
     pub fn value(&self) -> &'a [u8]
         ensures { result.now ≡ self.now.value }
     {

@@ -160,8 +160,8 @@ fn is_stamp_year(year: u32) -> bool
 }
 
 /// The stamp of a text: a DATE, or a DATE-TIME whose second 60 is read as 59 (RFC 5545, sections
-/// 3.3.4 and 3.3.5). `zoned` says that a TZID stands beside it. Any other text is `BadStamp`, also one
-/// of a date that the calendar has not; a stamp outside the years 0001 to 9899 is `YearRange`.
+/// 3.3.4 and 3.3.5). `zoned` says that a TZID stands beside it. Any other text is `BadStamp`,
+/// also a date that does not exist; a stamp outside the years 0001 to 9899 is `YearRange`.
 pub fn read_stamp(text: &[u8], zoned: bool) -> Result<Stamp, StampFault>
     ensures value { result ≡ stamp_of zoned text.now }
     ensures date { IfOk result (λ stamp. IsDayOf text.now (stamp_day stamp)) }

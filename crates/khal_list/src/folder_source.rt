@@ -9,11 +9,10 @@ use std::io::{self, ErrorKind, Read};
 use std::rt::Files;
 
 /// The files of a folder whose names end in `.ics` and do not begin with `.`, sorted by bytes, and
-/// then a `?` for each name that is not UTF-8, which is never read. Folders below are not looked
-/// into.
+/// then a `?` for each name that is not UTF-8, which is never read. Folders below it are not read.
 ///
-/// A read answers Device for every fault of the system and, without waiting for it, for all that is
-/// no regular file, as a pipe; and TooLarge once it has read one byte more than a file may have.
+/// A read fails as Device for every fault of the system and, at once, for anything that is no regular
+/// file, such as a pipe; as TooLarge once it has read one byte more than a file may have.
 #[derive(Drop)]
 pub struct FolderSource<R> {
     rt: R,
@@ -53,7 +52,7 @@ fn list<R: Files + AllocGlobal + Clone>(rt: &R, path: &str) -> io::Result<(Vec<S
 }
 
 impl<R: Files + AllocGlobal + Clone + Drop> FolderSource<R> {
-    /// Lists a folder, of which no read has failed so far.
+    /// Lists a folder. No read of it has failed so far.
     pub fn open(rt: R, path: String) -> io::Result<FolderSource<R>>
         ensures { IfOk result (λ source. ⟦<FolderSource<R> as Source>⟧.failed source ≡ 0) }
     {

@@ -48,8 +48,8 @@ pub struct Format<F: Placeholder> {
 
 impl<F: Placeholder> Format<F> {
     /// The format of a text: `{NAME}` is a placeholder, `{{` and `}}` stand for one brace, and any other
-    /// byte for itself. BadFormat where another brace stands in it, or a name of no placeholder; Memory
-    /// where memory was refused.
+    /// byte for itself. BadFormat if there is another brace or an unknown name; Memory if an allocation
+    /// failed.
     pub fn parse(alloc: Global, text: &str) -> Result<Format<F>, FormatFault>
         ensures ok { IfOk result (λ format. text.now ≡ written F.name format.pieces.items) }
         ensures bad { IsErrOf result FormatFault.BadFormat → ¬ IsFormat F.name text.now }

@@ -10,7 +10,7 @@ use crate::format_laws::one_format;
 use ics_series::one_spelling;
 use ics_zone::one_display;
 
-/// Words and a clock have one answer, want of memory apart: one request, or one fault.
+/// Words and a clock have one answer, one request or one fault, unless an allocation fails.
 pub fn one_answer()
     ensures { (words : List Text) (now : ℤ) (a b : Result Request RequestFault)
         → RequestOf words now a → RequestOf words now b → Agree a b }

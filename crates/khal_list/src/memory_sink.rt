@@ -5,7 +5,7 @@ use crate::fault::SinkFault;
 use crate::sink::Sink;
 use std::alloc::Global;
 
-/// Bytes in memory. It takes all that it is given, and fails only for want of memory.
+/// Bytes in memory. It takes all that it is given, unless an allocation fails.
 #[derive(Drop)]
 pub struct MemorySink {
     pub bytes: Vec<u8>,

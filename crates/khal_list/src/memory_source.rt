@@ -12,7 +12,7 @@ pub struct MemoryFile {
     pub bytes: Vec<u8>,
 }
 
-/// Files in memory. A read gives the bytes that the file has, or TooLarge where they are too many.
+/// Files in memory. A read gives the bytes that the file has, or TooLarge if they are too many.
 #[derive(Drop)]
 pub struct MemorySource {
     pub files: Vec<MemoryFile>,

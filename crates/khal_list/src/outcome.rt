@@ -32,7 +32,7 @@ fn outcome_of(alloc: Global, bytes: &[u8]) -> Result<Outcome, RunFault>
     }
 }
 
-/// Reads a file. Only want of memory is a fault here, and none where the file is not read.
+/// Reads a file. Only a failed allocation is a fault here; a file that cannot be read is an outcome.
 pub(crate) fn read_outcome<S: Source>(
     alloc: Global,
     source: &mut S,

@@ -15,11 +15,11 @@ use ics_series::{Feed, Key, Occurrence};
 use std::alloc::Global;
 
 /// Writes the text of a feed's first entries, up to the request's limit: each entry's line, and a
-/// heading where the day changes. It draws one occurrence at a time and writes it before it draws the
-/// next, and one more to see whether the limit cuts the list: then it answers the key of the last
-/// entry that it wrote, from which a listing goes on.
+/// heading if the day changes. It draws one occurrence at a time and writes it before it draws the
+/// next, and one more to see whether the limit cuts the list: if so, it returns the key of the last
+/// entry that it wrote, after which a listing continues.
 ///
-/// WriteFault comes only where the sink failed, or was given bytes and took none.
+/// WriteFault comes only if the sink failed, or was given bytes and took none.
 pub fn print<'a, F: Feed<'a>, O: Sink>(
     alloc: Global,
     feed: &mut F,

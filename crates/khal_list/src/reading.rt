@@ -62,7 +62,7 @@ impl Reading {
     }
 }
 
-/// Reads each file once, in order. Only want of memory ends it early.
+/// Reads each file once, in order. Only a failed allocation ends it early.
 pub(crate) fn read_all<S: Source>(alloc: Global, source: &mut S) -> Result<Reading, RunFault>
     ensures some { (contents : List Contents)
         × ReadsSome S.reads (S.names source.old) source.old contents source.new }

@@ -27,7 +27,7 @@ pub struct Request {
     pub window: Window,
     /// The most entries that are listed.
     pub limit: Option<u32>,
-    /// The key from which a listing goes on: those entries are listed whose keys are greater.
+    /// The key after which the listing continues: only entries with greater keys are listed.
     pub after: Option<Key>,
     /// How an entry's line is written.
     pub format: Format<EntryField>,
@@ -38,7 +38,7 @@ pub struct Request {
 impl Request {
     ghost use Rattle.khal_list.specs.RequestOf.{RequestOf, EntriesAnswer};
 
-    /// The request of the words behind the program's name, at a clock: `list FOLDER [START [END]]
+    /// The request of the words after the program's name, at a clock: `list FOLDER [START [END]]
     /// [--zone Z] [--limit N] [--after TOKEN] [--notstarted] [--format F] [--day-format F]` or
     /// `at FOLDER MOMENT [--zone Z]`.
     ///
@@ -48,14 +48,14 @@ impl Request {
     /// display zone, from 0001-01-02 to 9800-01-01.
     ///
     /// `--limit` takes a number from 1 to 4,294,967,295, the most entries that are listed, and
-    /// `--after` the token of the key behind which the listing goes on. `--format` says how an entry
-    /// is written, by default `{cell} {title}`, and `--day-format` how a day is, by default
+    /// `--after` the token of the key after which the listing continues. `--format` says how an entry
+    /// is written, by default `{cell} {title}`, and `--day-format` how a day's heading is, by default
     /// `{name}, {date}`.
     ///
-    /// Faults are looked for in this order: Usage where clap refuses the words, BadZone where `--zone`
-    /// is no text of a display zone, BadWindow where a window text is of another form, out of its
-    /// bounds, or the end's instant is not after the start's, BadToken where `--after` is no token,
-    /// BadFormat where `--format` or `--day-format` is no format.
+    /// Faults are looked for in this order: Usage if clap refuses the words, BadZone if `--zone` names
+    /// no display zone, BadWindow if a text of the window is of another form or out of its bounds, or
+    /// the end's instant is not after the start's, BadToken if `--after` is no token, BadFormat if
+    /// `--format` or `--day-format` is no format.
     pub fn of(alloc: Global, words: &[&str], now: Moment) -> Result<Request, RequestFault>
         ensures { RequestOf (map (λ word. word.now) words.now) now result }
     {

@@ -16,19 +16,19 @@ pub enum RequestFault {
     /// clap refuses the words, and says why by `text`; `help` is set where they ask for help.
     #[error("{text}")]
     Usage { text: String, help: bool },
-    /// `--zone` has no display zone.
+    /// `--zone` names no display zone.
     #[error("BadZone")]
     BadZone,
-    /// The words name no window, or one that may not be asked for.
+    /// The words name no window, or one that is empty or out of bounds.
     #[error("BadWindow")]
     BadWindow,
-    /// `--after` has no token.
+    /// `--after` is no token.
     #[error("BadToken")]
     BadToken,
-    /// `--format` or `--day-format` has no format.
+    /// `--format` or `--day-format` is no format.
     #[error("BadFormat")]
     BadFormat,
-    /// Memory was refused.
+    /// An allocation failed.
     #[error("Memory")]
     Memory,
 }

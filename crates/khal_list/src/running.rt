@@ -41,13 +41,13 @@ fn list<O: Sink>(
     print(alloc, &mut agenda, request, out)
 }
 
-/// Reads each file of the source once, in order. Writes to `err` a line for each that is not read
-/// or is refused, and then to `out` the listing of the others: each of their occurrences that
-/// meets the request's window once, in the order of start, UID and recurrence; of these those after
-/// the request's key, up to its limit. Where the limit cuts them, it ends with a line on `err` that
-/// says where the listing goes on.
+/// Reads each file of the source once, in order. Writes to `err` a line for each file that is not read
+/// or is refused, and then to `out` the listing of the others: each of their occurrences that meets
+/// the request's window once, in the order of start, UID and recurrence; of these those after the
+/// request's key, up to its limit. If the limit cuts them, the last line on `err` says where the
+/// listing continues.
 ///
-/// WriteFault comes only where an output failed, or was given bytes and took none.
+/// WriteFault comes only if an output failed, or was given bytes and took none.
 pub fn run<S: Source, O: Sink, E: Sink>(
     alloc: Global,
     source: &mut S,

@@ -19,8 +19,8 @@ pub trait Sink {
     /// How many calls the device has failed.
     ghost failed: { Self → ℕ };
 
-    /// Takes the first bytes and says how many, or fails and takes none. Device comes only where
-    /// the count of failures rose by one.
+    /// Takes the first bytes and says how many, or fails and takes none. Device comes only if the
+    /// count of failures rose by one.
     fn put(&mut self, bytes: &[u8]) -> Result<usize, SinkFault>
         ensures puts { puts self.old bytes.now result self.new }
         ensures bound { IfOk result (λ count. count ≤ length bytes.now) }
@@ -32,7 +32,7 @@ pub trait Sink {
         ensures { result ≡ failed self.now };
 }
 
-/// Hands the whole text to the sink, or fails with a front of it taken.
+/// Hands the whole text to the sink, or fails after the sink took a prefix of it.
 pub(crate) fn put_all<O: Sink>(sink: &mut O, text: &[u8]) -> Result<(), RunFault>
     ensures ok { OnOk result (Appends (O.taken sink.old) (O.taken sink.new) text.now) }
     ensures err { OnErr result (TookFront (O.taken sink.old) (O.taken sink.new) text.now) }

@@ -33,8 +33,8 @@ pub trait Source {
         requires { index < length (names self.now) }
         ensures { slice_get (names self.now) index ≡ Some result.now };
 
-    /// The bytes of a file, which are at most 16,777,216. Device comes only where the count of
-    /// failures rose by one.
+    /// The bytes of a file, at most 16,777,216. Device comes only if the count of failures rose by
+    /// one.
     fn read(&mut self, alloc: Global, index: usize) -> Result<Vec<u8>, SourceFault>
         requires { index < length (names self.old) }
         ensures reads { reads self.old index (answer_of result) self.new }

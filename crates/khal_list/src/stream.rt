@@ -7,7 +7,7 @@ use crate::fault::{RunFault, SinkFault};
 use crate::sink::Sink;
 use std::io::Write;
 
-/// A writer as a sink. It tells the bytes that the writer holds, where that tells them.
+/// A writer as a sink. It reports the bytes that the writer holds, if the writer reports them.
 #[derive(Drop)]
 pub struct Stream<W> {
     writer: W,
@@ -15,7 +15,7 @@ pub struct Stream<W> {
 }
 
 impl<W: Write + Drop> Stream<W> {
-    /// The sink of a writer, which has not failed so far.
+    /// The sink of a writer. It has counted no failure.
     pub fn new(writer: W) -> Stream<W>
         ensures taken { ⟦<Stream<W> as Sink>⟧.taken result ≡ W.contents writer }
         ensures failed { ⟦<Stream<W> as Sink>⟧.failed result ≡ 0 }
@@ -41,7 +41,7 @@ impl<W: Write + Drop> Stream<W> {
         self.failures = self.failures.saturating_add(1);
     }
 
-    /// Writes out what the writer still holds. Where that fails it is WriteFault, and counts as a failure.
+    /// Flushes the writer. If that fails, it is WriteFault and counts as a failure.
     pub fn finish(&mut self) -> Result<(), RunFault>
         ensures taken { Keeps (⟦<Stream<W> as Sink>⟧.taken self.old) (⟦<Stream<W> as Sink>⟧.taken self.new) }
         ensures ok { OnOk result (⟦<Stream<W> as Sink>⟧.failed self.new ≡ ⟦<Stream<W> as Sink>⟧.failed self.old) }
