@@ -1,5 +1,5 @@
 -- The tests of a date by the fields that `civil` gives.
-use Rattle.std.proofs.Common.{◌≡◌, ℕ, ◌+◌, ◌-◌, ◌/◌, ◌%◌, Bool, true, false, not, ◌&&◌, ◌||◌, ◌==◌, if◌then◌else◌, pos, refl, sym, ap, ◌∙◌, arith}
+use Rattle.std.proofs.Common.{◌≡◌, ℕ, ◌<◌, nat_lt, ◌+◌, ◌-◌, ◌/◌, ◌%◌, Bool, true, false, not, ◌&&◌, ◌||◌, ◌==◌, if◌then◌else◌, pos, refl, sym, ap, ◌∙◌, arith}
 use Rattle.std.proofs.lemmas.Bool.Decides.{nat_tests}
 use Rattle.std.proofs.lemmas.Nat.Bits.{bit_at-zero}
 use Rattle.ics_values.specs.declared.frequency.Frequency.{Frequency}
@@ -15,6 +15,8 @@ use Rattle.ics_values.specs.Days.{year_of, year_day_of, month_of, month_day_of, 
 use Rattle.ics_values.specs.Fields.{IsCivilOf}
 use Rattle.ics_rule.specs.Candidates.{lets, lets_place, lets_wide_place, lets_week, lists_nth, lets_numbered, lets_weekday, lets_date, fourth_day}
 use Rattle.ics_rule.specs.Dates.{names_weekdays_alone}
+use Rattle.ics_rule.specs.Parts.{names_weekday}
+use Rattle.ics_rule.proofs.ScanLemmas.{in_word}
 
 -- the week of a day, by the fields of its fourth day
 pub lets_week-fields : (q : Filled) (e : ℕ) (c : Civil) → IsCivilOf c (fourth_day (monday_zero q.week_start) e) →
@@ -94,3 +96,18 @@ weekdays_alone q e alone = let f = four (is_none q.months) (lists_none q.month_d
 -- and a weekday that stands alone is in there
 pub weekday_in : (q : Filled) (e : ℕ) → (lists_no_weekday q.weekdays || has q.weekdays.plain (weekday_of e)) ≡ true → names_weekdays_alone q ≡ true → lets_date q e ≡ true
 weekday_in q e day alone = weekdays_alone q e alone ∙ absent_in (lists_no_weekday q.weekdays || has q.weekdays.plain (weekday_of e)) (lets_numbered q.frequency q (numbers_of q.weekdays (weekday_of e)) e) day
+
+-- under WEEKLY with BYDAY alone, the weekdays that it names
+pub in_week : (d : ℕ) (b : Bool) → d < 7 → (nat_lt d 7 && b) ≡ b
+in_week d b h = let less : nat_lt d 7 ≡ true = grind (arith, nat_tests) in rw less refl
+
+named_in : (q : Filled) (e : ℕ) → q.frequency ≡ Weekly → names_weekdays_alone q ≡ true → lists_no_weekday q.weekdays ≡ false → names_weekday q.weekdays (weekday_of e) ≡ lets_date q e
+named_in q e weekly alone some =
+    sym (weekdays_alone q e alone ∙ ap (λ x. x || has q.weekdays.plain (weekday_of e) || lets_numbered q.frequency q (numbers_of q.weekdays (weekday_of e)) e) some
+    ∙ ap (λ f. has q.weekdays.plain (weekday_of e) || lets_numbered f q (numbers_of q.weekdays (weekday_of e)) e) weekly)
+
+pub day_of_week : (q : Filled) (e d set : ℕ) (found : Bool) → q.frequency ≡ Weekly → names_weekdays_alone q ≡ true → lists_no_weekday q.weekdays ≡ false
+    → d ≡ weekday_of e → d < 7 → ((n : ℕ) → has set n ≡ (nat_lt n 7 && names_weekday q.weekdays n)) → found ≡ (nat_lt d 64 && has set d) → found ≡ lets_date q e
+day_of_week q e d set found weekly alone some day small named h =
+    h ∙ in_word d (has set d) (omega (arith, small)) ∙ named d ∙ in_week d (names_weekday q.weekdays d) small
+    ∙ ap (names_weekday q.weekdays) day ∙ named_in q e weekly alone some

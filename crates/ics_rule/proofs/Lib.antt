@@ -31,6 +31,7 @@ mod TableLemmas
 mod TableMembers
 mod TableExamples
 mod RunLemmas
+mod PartLemmas
 mod MonthDays
 mod WeekDays
 mod PlainLemmas

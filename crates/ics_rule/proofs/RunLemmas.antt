@@ -200,14 +200,14 @@ module _ (r : Run) (listed : ℕ → Bool) (d p from m : ℕ) (a b : Bool) (own 
   number_place : (n : ℕ) → 1 ≤ n → p + 7 * (n - 1) < r.len → (m == r.start + (p + 7 * (n - 1))) ≡ (has_run r m && ((weekday_in r (m - r.start) == d) && ((m - r.start) / 7 + 1 == n)))
   number_place n some inside = iff (m == r.start + (p + 7 * (n - 1))) _
       (λ h. let here = same_fact m (r.start + (p + 7 * (n - 1))) h in
-        rw (run_shown r m (omega (arith, here)) (omega (arith, here, inside)), same (weekday_in r (m - r.start)) d (omega (arith, here, own)), same ((m - r.start) / 7 + 1) n (omega (arith, here, early, some))) refl)
+      rw (run_shown r m (omega (arith, here)) (omega (arith, here, inside)), same (weekday_in r (m - r.start)) d (omega (arith, here, own)), same ((m - r.start) / 7 + 1) n (omega (arith, here, early, some))) refl)
       (λ h.
-        let run = guard_parts (has_run r m) _ h in
-        let day = guard_parts (weekday_in r (m - r.start) == d) _ run.1 in
-        let there = run_facts r m run.0 in
-        let weekday = same_fact (weekday_in r (m - r.start)) d day.0 in
-        let number = same_fact ((m - r.start) / 7 + 1) n day.1 in
-        same m (r.start + (p + 7 * (n - 1))) (omega (arith, there.0, weekday, number, own, early)))
+      let run = guard_parts (has_run r m) _ h in
+      let day = guard_parts (weekday_in r (m - r.start) == d) _ run.1 in
+      let there = run_facts r m run.0 in
+      let weekday = same_fact (weekday_in r (m - r.start)) d day.0 in
+      let number = same_fact ((m - r.start) / 7 + 1) n day.1 in
+      same m (r.start + (p + 7 * (n - 1))) (omega (arith, there.0, weekday, number, own, early)))
 
   pub number_added : (n : ℕ) → 1 ≤ n → p + 7 * (n - 1) < r.len → IsLeastFrom listed from n → b ≡ number_found from → ((m == r.start + (p + 7 * (n - 1))) || b) ≡ number_found (n + 1)
   number_added n some inside next e =
@@ -276,14 +276,15 @@ weekdays_more listed w d a x b new e h = elim (three w d) [
     never false true = refl
     never false false = refl
 
-pub weekdays_left : (listed : ℕ → Bool) (w d : ℕ) (a x b : Bool) → listed d ≡ false
-    → b ≡ (a || (x && (nat_lt w d && listed w))) → b ≡ (a || (x && (nat_lt w (d + 1) && listed w)))
-weekdays_left listed w d a x b none h = weekdays_more listed w d a x b b (rw none (sym (ap (λ y. b || y) (nothing x (w == d)) ∙ or_false b))) h
-  where
-    nothing : (x y : Bool) → (x && (y && false)) ≡ false
-    nothing true true = refl
-    nothing true false = refl
-    nothing false y = refl
+pub weekdays_jump : (listed : ℕ → Bool) (w from d : ℕ) (a x b : Bool) → from ≤ d → (from ≤ w → w < d → listed w ≡ false)
+    → b ≡ (a || (x && (nat_lt w from && listed w))) → b ≡ (a || (x && (nat_lt w d && listed w)))
+weekdays_jump listed w from d a x b up none e = e ∙ ap (λ y. a || (x && y)) (elim (by_order w from) [
+  | inl low ↦ rw (less w from low, less w d (omega (arith, low, up))) refl
+  | inr high ↦ elim (by_order w d) [
+    | inl inside ↦ rw (not_less w from high, less w d inside, none high inside) refl
+    | inr past ↦ rw (not_less w from high, not_less w d past) refl
+  ]
+])
 
 pub weekdays_none : (listed : ℕ → Bool) (w : ℕ) (a x : Bool) → a ≡ (a || (x && (nat_lt w 0 && listed w)))
 weekdays_none listed w a x = rw (not_less w 0 (omega arith)) (nothing a x)
@@ -292,9 +293,6 @@ weekdays_none listed w a x = rw (not_less w 0 (omega arith)) (nothing a x)
     nothing true x = refl
     nothing false true = refl
     nothing false false = refl
-
-pub weekdays_done : (listed : ℕ → Bool) (w d : ℕ) (a x b : Bool) → w < 7 → d ≡ 7 → b ≡ (a || (x && (nat_lt w d && listed w))) → b ≡ (a || (x && listed w))
-weekdays_done listed w d a x b h all e = e ∙ rw (less w d (omega (arith, h, all))) refl
 
 -- a weekday that BYDAY does not list has no day
 pub unnamed : (w : Weekdays) (d n size : ℕ) → (has w.plain d || not (lists_none (numbers_of w d))) ≡ false → lists_weekday w d n size ≡ false

@@ -5,7 +5,7 @@ use Rattle.jiff_core.specs.Calendar.{days_in_year}
 use Rattle.jiff_core.specs.Weekday.{monday_zero}
 use Rattle.jiff_core.proofs.CalendarLemmas.{days_in_year_bounds}
 use Rattle.ics_values.specs.declared.places.Places.{Places}
-use Rattle.ics_values.specs.Sets.{has, has_wide}
+use Rattle.ics_values.specs.Sets.{has, has_wide, IsLeastFrom}
 use Rattle.ics_values.specs.Places.{lists_none}
 use Rattle.ics_values.specs.Days.{days_before_year, year_of, year_day_of, weekday_of}
 use Rattle.ics_values.proofs.DayLemmas.{days_before_year-next, year_of_is}
@@ -14,6 +14,7 @@ use Rattle.ics_rule.specs.Locals.{week_of}
 use Rattle.ics_rule.specs.Candidates.{fourth_day, week_number, weeks_of_year, lets_place, lets_week}
 use Rattle.ics_rule.specs.Runs.{may_list_week}
 use Rattle.ics_rule.proofs.PeriodLemmas.{week_small}
+use Rattle.ics_rule.proofs.RunLemmas.{next_found, all_found}
 
 by_order : (a b : ℕ) → (a < b) ⊎ (b ≤ a)
 by_order a b = grind arith
@@ -185,14 +186,15 @@ cover_adds weeks fourth len n low end days more el ee added cover = record {
   ];
 }
 
-pub cover_skips : (weeks : Places) (fourth len n : ℕ) (days : List ℕ) → may_list_week weeks n ≡ false → IsCover weeks fourth len n days → IsCover weeks fourth len (n + 1) days
-cover_skips weeks fourth len n days out cover = record {
+pub cover_jumps : (weeks : Places) (fourth len from n : ℕ) (days : List ℕ) → ((j : ℕ) → from ≤ j → j < n → may_list_week weeks j ≡ false)
+    → IsCover weeks fourth len from days → IsCover weeks fourth len n days
+cover_jumps weeks fourth len from n days none cover = record {
   within = cover.within;
   first = cover.first;
   last = cover.last;
-  near = λ k j l here h. elim (by_order j n) [
+  near = λ k j l here h. elim (by_order j from) [
     | inl old ↦ cover.near k j old here h
-    | inr new ↦ let same : j ≡ n = omega (arith, new, l) in absurd (let listed = subst (λ x. may_list_week weeks x ≡ true) same here.listed in cc)
+    | inr new ↦ absurd (let out = none j new l in let listed = here.listed in cc)
   ];
 }
 
@@ -202,3 +204,44 @@ covered weeks fourth len n k days all inside cover found = elim found [
   | inr (inl late) ↦ cover.last k late inside
   | inr (inr week) ↦ cover.near k week.0 (omega (arith, week.1.high, all)) week.1 inside
 ]
+
+-- the weeks that are listed from the front, and those from the end that were seen
+abbrev pub seen_weeks : (ℕ → Bool) → (ℕ → Bool) → ℕ → ℕ → Bool
+seen_weeks front back from n = front n || (nat_lt (53 - n) from && back (53 - n)) || (nat_lt (54 - n) from && back (54 - n))
+
+pub weeks_first : (front back : ℕ → Bool) (n : ℕ) → front n ≡ seen_weeks front back 0 n
+weeks_first front back n = rw (none (53 - n), none (54 - n)) (nothing (front n))
+  where
+    none : (a : ℕ) → nat_lt a 0 ≡ false
+    none a = grind (arith, nat_tests)
+
+    nothing : (a : Bool) → a ≡ (a || (false && back (53 - n)) || (false && back (54 - n)))
+    nothing true = refl
+    nothing false = refl
+
+pub weeks_more : (front back : ℕ → Bool) (from k n : ℕ) (b : Bool) → 1 ≤ n → n ≤ 53 → k ≤ 53 → IsLeastFrom back from k
+    → b ≡ seen_weeks front back from n → ((n == 54 - k) || ((n == 53 - k) || b)) ≡ seen_weeks front back (k + 1) n
+weeks_more front back from k n b one most some next e =
+    let s : (n == 53 - k) ≡ (53 - n == k) = grind (arith, nat_tests) in
+    let t : (n == 54 - k) ≡ (54 - n == k) = grind (arith, nat_tests) in
+    rw (e, s, t) (swap (front n) (53 - n == k) (nat_lt (53 - n) from && back (53 - n)) (54 - n == k) (nat_lt (54 - n) from && back (54 - n))
+    ∙ ap (λ x. front n || x || ((54 - n == k) || (nat_lt (54 - n) from && back (54 - n)))) (next_found back from k (53 - n) next)
+    ∙ ap (λ x. front n || (nat_lt (53 - n) (k + 1) && back (53 - n)) || x) (next_found back from k (54 - n) next))
+  where
+    swap : (f p a q b : Bool) → (q || (p || (f || a || b))) ≡ (f || (p || a) || (q || b))
+    swap true true a true b = refl
+    swap true true a false b = refl
+    swap true false a true b = refl
+    swap true false a false b = refl
+    swap false true a true b = refl
+    swap false true a false b = refl
+    swap false false true true b = refl
+    swap false false true false b = refl
+    swap false false false true b = refl
+    swap false false false false b = refl
+
+pub weeks_done : (front back : ℕ → Bool) (from n : ℕ) (b : Bool) → 1 ≤ n → n ≤ 53 → ((x : ℕ) → from ≤ x → x ≤ 53 → back x ≡ false)
+    → b ≡ seen_weeks front back from n → b ≡ (front n || back (53 - n) || back (54 - n))
+weeks_done front back from n b one most none e =
+    e ∙ ap (λ x. front n || x || (nat_lt (54 - n) from && back (54 - n))) (all_found back from (53 - n) (λ h. none (53 - n) h (omega arith)))
+    ∙ ap (λ x. front n || back (53 - n) || x) (all_found back from (54 - n) (λ h. none (54 - n) h (omega (arith, one))))

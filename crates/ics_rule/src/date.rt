@@ -11,8 +11,9 @@ ghost use Rattle.ics_rule.specs.Candidates.{fourth_day, lets, lets_numbered, let
 ghost use Rattle.ics_rule.specs.Dates.{names_weekdays_alone};
 
 use crate::filled::Filled;
+use crate::part::{WeekdaysPart, has_no_number};
 use crate::time::{lets, lets_place, lets_wide_place, lists_nth};
-use ics_values::{Civil, Frequency, Numbers, Places, Weekdays, civil};
+use ics_values::{Civil, Frequency, Numbers, Places, civil};
 use jiff_core::civil::{days_in_month, days_in_year};
 
 /// The fields of a day that is counted from 0000-01-01.
@@ -65,9 +66,9 @@ fn lets_weekday(parts: &Filled, fields: &Civil) -> bool
     ensures { (e : ℕ) → IsCivilOf fields.now e → result ≡ lets_weekday parts.now e }
 {
     let weekday = fields.weekday.index();
-    let numbers = &parts.weekdays.numbered[weekday as usize];
+    let numbers = &parts.weekdays.list.numbered[weekday as usize];
     parts.weekdays.is_none()
-        || parts.weekdays.plain.has(weekday)
+        || parts.weekdays.list.plain.has(weekday)
         || lets_numbered(parts, numbers, fields)
 }
 
@@ -118,27 +119,11 @@ pub(crate) fn lets_fields(parts: &Filled, fields: &Civil, index: u32) -> bool
 }
 
 /// Whether BYDAY is absent, or lists the weekday of a day without a number.
-fn has_weekday(weekdays: &Weekdays, index: u32) -> bool
+fn has_weekday(weekdays: &WeekdaysPart, index: u32) -> bool
     requires { index ≤ 3652059 }
     ensures { result ≡ (lists_no_weekday weekdays.now || has weekdays.now.plain (weekday_of index)) }
 {
-    weekdays.is_none() || weekdays.plain.has(((index + 5) % 7) as u8)
-}
-
-/// Whether BYDAY lists a weekday with no number.
-pub(crate) fn has_no_number(weekdays: &Weekdays, weekday: u8) -> bool
-    requires { weekday < 7 }
-    ensures { result ≡ lists_none (numbers_of weekdays.now weekday) }
-{
-    numbers(weekdays, weekday).is_none()
-}
-
-/// The numbers that BYDAY gives a weekday.
-pub(crate) fn numbers(weekdays: &Weekdays, weekday: u8) -> &Places
-    requires { weekday < 7 }
-    ensures { result.now ≡ numbers_of weekdays.now weekday }
-{
-    &weekdays.numbered[weekday as usize]
+    weekdays.is_none() || weekdays.list.plain.has(((index + 5) % 7) as u8)
 }
 
 /// The months that BYMONTH lets in.
@@ -195,7 +180,7 @@ pub(crate) fn lets_date(parts: &Filled, index: u32) -> bool
         if names_weekdays_alone(parts) {
             return true;
         }
-    } else if has_no_number(&parts.weekdays, ((index + 5) % 7) as u8) {
+    } else if has_no_number(&parts.weekdays.list, ((index + 5) % 7) as u8) {
         return false;
     }
     lets_fields(parts, &civil_at(index), index)

@@ -1,7 +1,7 @@
 //! The days of a period that a rule lets in.
 ghost use Rattle.std.specs.Prelude.{◌≡◌, ℕ, ◌<◌, ◌≤◌, ◌+◌, ◌-◌, ◌&&◌, ◌||◌, nat_le, nat_lt, pos, true, false};
 ghost use Rattle.jiff_core.specs.Calendar.{days_in_month, days_in_year};
-ghost use Rattle.ics_values.specs.declared.frequency.Frequency.TheVariants.{Monthly, Yearly};
+ghost use Rattle.ics_values.specs.declared.frequency.Frequency.TheVariants.{Weekly, Monthly, Yearly};
 ghost use Rattle.ics_values.specs.Sets.{has_wide};
 ghost use Rattle.ics_values.specs.Days.{days_before_year, weekday_of};
 ghost use Rattle.ics_values.specs.Places.{lists_none, lists_none_wide};
@@ -9,7 +9,8 @@ ghost use Rattle.ics_rule.specs.Candidates.{lets_date, lets_wide_place};
 ghost use Rattle.ics_rule.specs.Runs.{IsMonth, IsSpan, is_in_month, goes_by_months, counts_in_month};
 
 use crate::date::{
-    goes_by_months, lacks_one, lets_date, month_length, names_no_month, open_months,
+    goes_by_months, lacks_one, lets_date, month_length, names_no_month, names_weekdays_alone,
+    open_months,
 };
 use crate::filled::Filled;
 use crate::period::{days_in, days_of_months};
@@ -46,6 +47,29 @@ fn days_by_day(parts: &Filled, first: u32, len: u16) -> WideNumbers
     let mut days = WideNumbers::new();
     for k in 0..len {
         if lets_date(parts, first + k as u32) {
+            days.add(k);
+        }
+    }
+    days
+}
+
+/// The days that a rule lets in of a week, of so many from a first.
+fn days_of_week(parts: &Filled, first: u32, len: u16) -> WideNumbers
+    requires frequency { parts.now.frequency ≡ Weekly }
+    requires size { len ≤ 384 }
+    requires days { first + 384 ≤ 3652059 }
+    ensures { (k : ℕ) → has_wide result k ≡ (nat_lt k len && lets_date parts.now (first + k)) }
+{
+    if parts.weekdays.is_none() {
+        return days_by_day(parts, first, len);
+    }
+    if !names_weekdays_alone(parts) {
+        return days_by_day(parts, first, len);
+    }
+    let named = parts.weekdays.named();
+    let mut days = WideNumbers::new();
+    for k in 0..len {
+        if named.has(weekday_at(first + k as u32)) {
             days.add(k);
         }
     }
@@ -190,6 +214,7 @@ pub(crate) fn days_let_in(parts: &Filled, number: u64, first: u32, len: u16) -> 
     match parts.frequency {
         Frequency::Yearly => days_of_year(parts, number, first, len),
         Frequency::Monthly => days_of_month(parts, number, first, len),
+        Frequency::Weekly => days_of_week(parts, first, len),
         _ => days_by_day(parts, first, len),
     }
 }

@@ -7,6 +7,7 @@ ghost use Rattle.ics_rule.specs.Filled.{names_no_day, takes_month_day, takes_mon
 use crate::date::civil_at;
 use crate::filled::Filled;
 use crate::kind::Kind;
+use crate::part::{PlacesPart, WeekdaysPart};
 use ics_values::{Frequency, Numbers, Parts, Places, Weekdays};
 
 /// Whether BYYEARDAY, BYMONTHDAY and BYDAY are absent.
@@ -153,9 +154,9 @@ pub(crate) fn fill(parts: &Parts, kind: Kind, start: u64) -> Filled
         week_start: parts.week_start(),
         months: months(parts, fields.month),
         month_days: month_days(parts, fields.day),
-        year_days: parts.year_days(),
+        year_days: PlacesPart::new(parts.year_days()),
         weeks: parts.weeks(),
-        weekdays: weekdays(parts, fields.weekday.index()),
+        weekdays: WeekdaysPart::new(weekdays(parts, fields.weekday.index())),
         hours: clock_part(
             kind,
             skips_hours(frequency),
@@ -174,6 +175,6 @@ pub(crate) fn fill(parts: &Parts, kind: Kind, start: u64) -> Filled
             parts.seconds(),
             (start % 60) as u8,
         ),
-        positions: parts.positions(),
+        positions: PlacesPart::new(parts.positions()),
     }
 }

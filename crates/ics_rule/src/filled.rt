@@ -1,6 +1,7 @@
 //! A rule with what it leaves out.
 
-use ics_values::{Frequency, Numbers, Places, Weekdays, WidePlaces};
+use crate::part::{PlacesPart, WeekdaysPart};
+use ics_values::{Frequency, Numbers, Places};
 use jiff_core::civil::Weekday;
 
 /// The parts that say which locals a rule lets in, with what the rule takes from the start of its event.
@@ -11,11 +12,11 @@ pub struct Filled {
     pub(crate) week_start: Weekday,
     pub(crate) months: Numbers,
     pub(crate) month_days: Places,
-    pub(crate) year_days: WidePlaces,
+    pub(crate) year_days: PlacesPart,
     pub(crate) weeks: Places,
-    pub(crate) weekdays: Weekdays,
+    pub(crate) weekdays: WeekdaysPart,
     pub(crate) hours: Numbers,
     pub(crate) minutes: Numbers,
     pub(crate) seconds: Numbers,
-    pub(crate) positions: WidePlaces,
+    pub(crate) positions: PlacesPart,
 }

@@ -11,6 +11,7 @@ mod kind;
 mod laws;
 mod never;
 mod open_periods;
+mod part;
 mod pass;
 mod period;
 mod places;

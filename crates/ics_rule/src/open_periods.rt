@@ -141,7 +141,7 @@ pub(crate) fn chosen_in_open(parts: &Filled) -> u64
     if parts.positions.is_none() {
         size
     } else {
-        listed_below(&parts.positions, size, size)
+        listed_below(&parts.positions.list, size, size)
     }
 }
 

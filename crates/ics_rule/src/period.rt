@@ -1,8 +1,10 @@
 //! A period of a rule, as a product of sets.
-ghost use Rattle.std.specs.Prelude.{◌≡◌, ℕ, suc, ◌<◌, ◌≤◌, ◌+◌, ◌*◌, ◌/◌, ◌%◌, ◌^◌, ◌&&◌, ◌||◌, ◌==◌, nat_lt, pos, IfSome};
+ghost use Rattle.std.specs.Prelude.{◌≡◌, ℕ, suc, ◌<◌, ◌≤◌, ◌+◌, ◌-◌, ◌*◌, ◌/◌, ◌%◌, ◌^◌, ◌&&◌, ◌||◌, ◌==◌, nat_lt, pos, IfSome};
 ghost use Rattle.jiff_core.specs.Calendar.{days_of_months, days_in_month, days_in_year};
 ghost use Rattle.ics_values.specs.Days.{days_before_year};
 ghost use Rattle.ics_values.specs.Sets.{has, has_wide, IsNextIn};
+ghost use Rattle.ics_rule.specs.Locals.{period};
+ghost use Rattle.ics_rule.specs.Filled.{skips_hours, skips_minutes, skips_seconds};
 ghost use Rattle.ics_rule.specs.Candidates.{lets, lets_date, period_in};
 ghost use Rattle.jiff_core.specs.Weekday.{monday_zero};
 ghost use Rattle.ics_rule.specs.Periods.{first_local, has_minute, has_time, has_day, holds, IsPeriodOf};
@@ -26,6 +28,23 @@ pub struct Period {
     pub(crate) hours: Numbers,
     pub(crate) minutes: Numbers,
     pub(crate) seconds: Numbers,
+}
+
+/// The days that a period touches.
+#[derive(Clone, Copy)]
+pub struct Span {
+    /// The first, counted from 0000-01-01.
+    first: u32,
+    /// How many there are.
+    len: u16,
+}
+
+/// The times of the locals of a period, as sets of hours, minutes and seconds.
+#[derive(Clone, Copy)]
+pub struct Clock {
+    hours: Numbers,
+    minutes: Numbers,
+    seconds: Numbers,
 }
 
 /// How many days come before a year.
@@ -109,6 +128,87 @@ pub(crate) fn clock_set(free: bool, part: Numbers, own: u8, size: u8) -> Numbers
     }
 }
 
+/// The days of the period with a number.
+fn span_of(frequency: Frequency, week_start: Weekday, number: u64) -> Span
+    requires low { period frequency (monday_zero week_start) 0 ≤ number }
+    requires reach { first_local frequency (monday_zero week_start) number ≤ 309289708800 }
+    ensures first { result.first ≡ first_local frequency (monday_zero week_start) number / 86400 }
+    ensures len { result.len ≡ (first_local frequency (monday_zero week_start) (number + 1) + 86399) / 86400 - first_local frequency (monday_zero week_start) number / 86400 }
+{
+    match frequency {
+        Frequency::Secondly => Span {
+            first: (number / 86_400) as u32,
+            len: 1,
+        },
+        Frequency::Minutely => Span {
+            first: (number / 1_440) as u32,
+            len: 1,
+        },
+        Frequency::Hourly => Span {
+            first: (number / 24) as u32,
+            len: 1,
+        },
+        Frequency::Daily => Span {
+            first: number as u32,
+            len: 1,
+        },
+        Frequency::Weekly => {
+            let lead = 12 - week_start.index() as u64;
+            let first = (7 * number).saturating_sub(lead);
+            let end = (7 * number + 7).saturating_sub(lead);
+            Span {
+                first: first as u32,
+                len: (end - first) as u16,
+            }
+        }
+        Frequency::Monthly => {
+            let before = number.saturating_sub(1);
+            let year = before / 12;
+            let month = before % 12;
+            Span {
+                first: (days_before_year(year) + days_of_months(year, month)) as u32,
+                len: days_in(year, month + 1) as u16,
+            }
+        }
+        Frequency::Yearly => Span {
+            first: days_before_year(number) as u32,
+            len: length_of_year(number) as u16,
+        },
+    }
+}
+
+/// The times of the period with a number: those that the parts let in, and of them its own where it is shorter than a day.
+fn clock_of(parts: &Filled, number: u64) -> Clock
+    requires reach { first_local parts.now.frequency (monday_zero parts.now.week_start) number ≤ 309289708800 }
+    ensures hours { (m : ℕ) → m < 24 → has result.hours m
+        ≡ ((skips_hours parts.now.frequency || (m == first_local parts.now.frequency (monday_zero parts.now.week_start) number / 3600 % 24)) && lets parts.now.hours m) }
+    ensures minutes { (m : ℕ) → m < 60 → has result.minutes m
+        ≡ ((skips_minutes parts.now.frequency || (m == first_local parts.now.frequency (monday_zero parts.now.week_start) number / 60 % 60)) && lets parts.now.minutes m) }
+    ensures seconds { (m : ℕ) → m < 60 → has result.seconds m
+        ≡ ((skips_seconds parts.now.frequency || (m == first_local parts.now.frequency (monday_zero parts.now.week_start) number % 60)) && lets parts.now.seconds m) }
+    ensures hours_bound { result.hours < 2 ^ 24 }
+    ensures minutes_bound { result.minutes < 2 ^ 60 }
+    ensures seconds_bound { result.seconds < 2 ^ 60 }
+{
+    let frequency = parts.frequency;
+    if skips_hours(frequency) {
+        return Clock {
+            hours: clock_set(true, parts.hours, 0, 24),
+            minutes: clock_set(true, parts.minutes, 0, 60),
+            seconds: clock_set(true, parts.seconds, 0, 60),
+        };
+    }
+    let begin = first_local(frequency, parts.week_start, number);
+    let hour = (begin / 3_600 % 24) as u8;
+    let minute = (begin / 60 % 60) as u8;
+    let second = (begin % 60) as u8;
+    Clock {
+        hours: clock_set(skips_hours(frequency), parts.hours, hour, 24),
+        minutes: clock_set(skips_minutes(frequency), parts.minutes, minute, 60),
+        seconds: clock_set(skips_seconds(frequency), parts.seconds, second, 60),
+    }
+}
+
 impl Period {
     /// Looks at the period of a rule that has this number.
     pub(crate) fn new(parts: &Filled, number: u64, steps: &mut u64) -> Period
@@ -120,21 +220,15 @@ impl Period {
         ensures product { IsPeriodOf parts.now result }
     {
         *steps += 1;
-        let frequency = parts.frequency;
-        let begin = first_local(frequency, parts.week_start, number);
-        let end = first_local(frequency, parts.week_start, number + 1);
-        let first_day = (begin / 86_400) as u32;
-        let len = ((end + 86_399) / 86_400 - begin / 86_400) as u16;
-        let hour = (begin / 3_600 % 24) as u8;
-        let minute = (begin / 60 % 60) as u8;
-        let second = (begin % 60) as u8;
+        let span = span_of(parts.frequency, parts.week_start, number);
+        let clock = clock_of(parts, number);
         Period {
             number,
-            first_day,
-            days: days_let_in(parts, number, first_day, len),
-            hours: clock_set(skips_hours(frequency), parts.hours, hour, 24),
-            minutes: clock_set(skips_minutes(frequency), parts.minutes, minute, 60),
-            seconds: clock_set(skips_seconds(frequency), parts.seconds, second, 60),
+            first_day: span.first,
+            days: days_let_in(parts, number, span.first, span.len),
+            hours: clock.hours,
+            minutes: clock.minutes,
+            seconds: clock.seconds,
         }
     }
 

@@ -7,6 +7,7 @@ ghost use Rattle.ics_rule.specs.Locals.{calendar_end};
 ghost use Rattle.ics_rule.specs.Kept.{count};
 ghost use Rattle.ics_rule.specs.Periods.{has_minute, has_second, holds, is_listed, is_taken, IsPeriodOf, IsNth, IsNextBelow, IsFirstListed};
 
+use crate::part::PlacesPart;
 use crate::period::Period;
 use crate::sizes::members_below;
 use ics_values::{Numbers, WideNumbers, WidePlaces};
@@ -129,7 +130,7 @@ impl Period {
     }
 
     /// The first local of the product from a local on that BYSETPOS lets in.
-    pub(crate) fn next_taken(&self, positions: &WidePlaces, n: u64) -> Option<u64>
+    pub(crate) fn next_taken(&self, positions: &PlacesPart, n: u64) -> Option<u64>
         requires n { n < 315569520000 }
         requires own { (q : Filled) × IsPeriodOf q self.now }
         ensures next { IsNextIn (is_taken positions.now (lists_none_wide positions.now) self.now) n result }
@@ -138,14 +139,14 @@ impl Period {
         if positions.is_none() {
             return self.next_from(n);
         }
-        match next_listed(positions, self.rank_before(n), self.size()) {
+        match next_listed(&positions.list, self.rank_before(n), self.size()) {
             Some(place) => Some(self.nth(place)),
             None => None,
         }
     }
 
     /// How many of those are earlier than a local.
-    pub(crate) fn taken_before(&self, positions: &WidePlaces, n: u64) -> u64
+    pub(crate) fn taken_before(&self, positions: &PlacesPart, n: u64) -> u64
         requires n { n < 315569520000 }
         requires own { (q : Filled) × IsPeriodOf q self.now }
         ensures value { result ≡ count n (is_taken positions.now (lists_none_wide positions.now) self.now) }
@@ -155,7 +156,7 @@ impl Period {
         if positions.is_none() {
             rank
         } else {
-            listed_below(positions, rank, self.size())
+            listed_below(&positions.list, rank, self.size())
         }
     }
 }

@@ -1,12 +1,11 @@
 //! Runs of days, a month or a year, in which days and weekdays have numbers.
-ghost use Rattle.std.specs.Prelude.{◌≡◌, ℕ, ◌<◌, ◌≤◌, ◌+◌, ◌-◌, ◌&&◌, ◌||◌, ◌==◌, not, nat_le, nat_lt};
-ghost use Rattle.ics_values.specs.Places.{lists_none, numbers_of};
+ghost use Rattle.std.specs.Prelude.{◌≡◌, ℕ, ◌<◌, ◌≤◌, ◌+◌, ◌-◌, ◌&&◌, ◌||◌, ◌==◌, nat_le, nat_lt};
 ghost use Rattle.ics_values.specs.Sets.{has, has_wide};
 ghost use Rattle.ics_rule.specs.Candidates.{lists, lists_nth};
 ghost use Rattle.ics_rule.specs.Runs.{has_run, weekday_in, lists_weekday, lists_in_month};
 
-use crate::date::{has_no_number, numbers};
 use crate::filled::Filled;
+use crate::part::{WeekdaysPart, numbers};
 use ics_values::{Numbers, Places, Weekdays, WideNumbers};
 
 /// A month or a year, as days of a period.
@@ -35,14 +34,6 @@ fn listed(places: &Places, size: u8) -> Numbers
         from = n + 1;
     }
     listed
-}
-
-/// Whether BYDAY lists a weekday, with a number or without.
-fn names_weekday(weekdays: &Weekdays, weekday: u8) -> bool
-    requires { weekday < 7 }
-    ensures { result ≡ (has weekdays.now.plain weekday || not (lists_none (numbers_of weekdays.now weekday))) }
-{
-    weekdays.plain.has(weekday) || !has_no_number(weekdays, weekday)
 }
 
 impl Run {
@@ -109,7 +100,7 @@ impl Run {
     }
 
     /// Adds the days of the run that BYDAY lists.
-    pub(crate) fn add_weekdays(self, weekdays: &Weekdays, days: &mut WideNumbers)
+    pub(crate) fn add_weekdays(self, weekdays: &WeekdaysPart, days: &mut WideNumbers)
         requires own { self.weekday < 7 }
         requires some { 28 ≤ self.len }
         requires most { self.len ≤ 366 }
@@ -117,10 +108,11 @@ impl Run {
         ensures { (m : ℕ) → has_wide days.new m ≡ (has_wide days.old m
             || (has_run self m && lists_weekday weekdays.now (weekday_in self (m - self.start)) (m - self.start + 1) self.len)) }
     {
-        for weekday in 0..7 {
-            if names_weekday(weekdays, weekday) {
-                self.add_weekday(weekdays, weekday, days);
-            }
+        let named = weekdays.named();
+        let mut from = 0;
+        while let Some(weekday) = named.next_from(from) {
+            self.add_weekday(&weekdays.list, weekday, days);
+            from = weekday + 1;
         }
     }
 

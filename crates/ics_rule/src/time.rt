@@ -3,7 +3,8 @@ ghost use Rattle.std.specs.Prelude.{◌≡◌, ℕ, ◌<◌, ◌≤◌, ◌+◌,
 ghost use Rattle.ics_rule.specs.Candidates.{lets, lets_place, lets_wide_place, lists_nth, lets_clock};
 
 use crate::filled::Filled;
-use ics_values::{Numbers, Places, WidePlaces};
+use crate::part::PlacesPart;
+use ics_values::{Numbers, Places};
 
 /// Whether a part lets `n` in: it is absent or lists it.
 pub(crate) fn lets(set: Numbers, n: u8) -> bool
@@ -23,12 +24,12 @@ pub(crate) fn lets_place(places: &Places, n: u8, size: u8) -> bool
 }
 
 /// The same of a year's days.
-pub(crate) fn lets_wide_place(places: &WidePlaces, n: u16, size: u16) -> bool
+pub(crate) fn lets_wide_place(places: &PlacesPart, n: u16, size: u16) -> bool
     requires place { n ≤ size }
     requires small { size < 383 }
     ensures { result ≡ lets_wide_place places.now n size }
 {
-    places.is_none() || places.front.has(n) || places.back.has(size + 1 - n)
+    places.is_none() || places.list.front.has(n) || places.list.back.has(size + 1 - n)
 }
 
 /// Whether the numbers list day `n` of `size`, counted by its weekday.

@@ -1,7 +1,7 @@
 //! The days of a year that lie in its weeks.
 ghost use Rattle.std.specs.Prelude.{◌≡◌, ℕ, ◌<◌, ◌≤◌, ◌+◌, ◌&&◌, ◌||◌, nat_le, nat_lt, pos, true, false};
 ghost use Rattle.jiff_core.specs.Calendar.{days_in_year};
-ghost use Rattle.ics_values.specs.Sets.{has_wide};
+ghost use Rattle.ics_values.specs.Sets.{has, has_wide};
 ghost use Rattle.ics_values.specs.Days.{days_before_year, year_of};
 ghost use Rattle.ics_values.specs.Places.{lists_none};
 ghost use Rattle.ics_rule.specs.Candidates.{lets_week};
@@ -9,7 +9,7 @@ ghost use Rattle.ics_rule.specs.Runs.{may_list_week};
 
 use crate::days::weekday_at;
 use crate::filled::Filled;
-use ics_values::{Places, WideNumbers};
+use ics_values::{Numbers, Places, WideNumbers};
 
 /// Adds the days from one on and before an end.
 fn add_between(days: &mut WideNumbers, low: u16, end: u16)
@@ -21,13 +21,21 @@ fn add_between(days: &mut WideNumbers, low: u16, end: u16)
     }
 }
 
-/// Whether BYWEEKNO lists week `n` of a year of 52 or of 53 weeks.
-fn may_list_week(weeks: &Places, n: u8) -> bool
-    requires low { 1 ≤ n }
-    requires high { n ≤ 53 }
-    ensures { result ≡ may_list_week weeks.now n }
+/// The weeks of a year of 52 or of 53 weeks that BYWEEKNO lists.
+fn listed_weeks(weeks: &Places) -> Numbers
+    ensures { (n : ℕ) → 1 ≤ n → n ≤ 53 → has result n ≡ may_list_week weeks.now n }
 {
-    weeks.front.has(n) || weeks.back.has(53 - n) || weeks.back.has(54 - n)
+    let mut listed = weeks.front;
+    let mut from = 0;
+    while let Some(n) = weeks.back.next_from(from) {
+        if n > 53 {
+            return listed;
+        }
+        listed.add(53 - n);
+        listed.add(54 - n);
+        from = n + 1;
+    }
+    listed
 }
 
 /// Days of a year, with all those among them that lie in a listed week. The first three and the last three may lie in a week of another
@@ -44,13 +52,17 @@ pub(crate) fn days_near_weeks(parts: &Filled, first: u32, len: u16) -> WideNumbe
     let mut days = WideNumbers::new();
     add_between(&mut days, 0, 3);
     add_between(&mut days, len - 3, len);
-    for n in 1..54 {
-        if may_list_week(&parts.weeks, n) {
-            let end = 7 * n as u16 + fourth as u16 - 3;
-            let low = end.saturating_sub(7);
-            let high = end.min(len);
-            add_between(&mut days, low, high);
+    let listed = listed_weeks(&parts.weeks);
+    let mut from = 1;
+    while let Some(n) = listed.next_from(from) {
+        if n > 53 {
+            return days;
         }
+        let end = 7 * n as u16 + fourth as u16 - 3;
+        let low = end.saturating_sub(7);
+        let high = end.min(len);
+        add_between(&mut days, low, high);
+        from = n + 1;
     }
     days
 }

@@ -1,29 +1,42 @@
-use Rattle.std.proofs.Common.{◌∙◌, ◌+◌, ◌-◌, ◌%◌, ap, pos, sym, arith}
+use Rattle.std.proofs.Common.{◌≡◌, ℕ, ◌<◌, ◌≤◌, ◌∙◌, ◌+◌, ◌-◌, ◌%◌, false, ap, pos, sym, arith}
 use Rattle.jiff_core.specs.Weekday.{monday_zero}
 use Rattle.jiff_core.proofs.CalendarLemmas.{days_in_year_bounds}
-use Rattle.ics_values.specs.Sets.{has_wide}
+use Rattle.ics_values.specs.Sets.{has, has_wide}
 use Rattle.ics_values.specs.Days.{year_of}
+use Rattle.ics_rule.specs.Runs.{may_list_week}
 use Rattle.ics_rule.proofs.ScanLemmas.{none_has}
-use Rattle.ics_rule.proofs.WeekDays.{cover_starts, cover_adds, cover_skips, covered, week_near}
+use Rattle.ics_rule.proofs.WeekDays.{cover_starts, cover_adds, cover_jumps, covered, week_near}
 use Rattle.ics_rule.proofs.weeks.days_near_weeks.Goals as goal
-use Rattle.ics_rule.proofs.weeks.days_near_weeks.Goals.{then-may_list_week, else-may_list_week}
 
 pub loop-n-init : goal.loop-n-init
-loop-n-init c = let b = days_in_year_bounds (pos (year_of c.args.first)) in
-    cover_starts c.args.parts.now.weeks _ c.args.len c.new-days.result c.add_between.new.days c.add_between-2.new.days (omega (arith, b.1, c.requires.size)) (λ m. ap (λ ws. has_wide ws m) c.new-days.ensures ∙ none_has m)
-    c.add_between.ensures c.add_between-2.ensures
+loop-n-init c = let b = days_in_year_bounds (pos (year_of c.args.first)) in (
+  cover_starts c.args.parts.now.weeks _ c.args.len c.new-days.result c.add_between.new.days c.add_between-2.new.days (omega (arith, b.1, c.requires.size)) (λ m. ap (λ ws. has_wide ws m) c.new-days.ensures ∙ none_has m)
+      c.add_between.ensures c.add_between-2.ensures,
+  (omega arith, omega arith),
+)
 
 pub loop-n-preserved : goal.loop-n-preserved
-loop-n-preserved c = elim c.if-may_list_week.branch [
-  | then-may_list_week w ↦ rw w.days-is
-      (cover_adds c.args.parts.now.weeks _ c.args.len c.loop-n.n w.saturating_sub-low.result w.min-high.result c.loop-n.days w.add_between-then-may_list_week.new.days w.saturating_sub-low.ensures w.min-high.ensures w.add_between-then-may_list_week.ensures c.loop-n.invariant)
-  | else-may_list_week w ↦ rw w.days-is
-      (cover_skips c.args.parts.now.weeks _ c.args.len c.loop-n.n c.loop-n.days (sym c.may_list_week.ensures ∙ w.if-may_list_week.false) c.loop-n.invariant)
-]
+loop-n-preserved c = (
+  cover_adds c.args.parts.now.weeks _ c.args.len c.in-Some.n c.saturating_sub-low.result c.min-high.result c.loop-n.days _ c.saturating_sub-low.ensures c.min-high.ensures c.add_between-in-Some.ensures
+      (cover_jumps c.args.parts.now.weeks _ c.args.len c.loop-n.from c.in-Some.n c.loop-n.days
+      (λ j low less. sym (c.listed_weeks-listed.ensures j (omega (arith, low, c.loop-n.invariant.1.0)) (omega (arith, less, c.if-n-gt53.false))) ∙ c.in-Some.ensures.next.least j low less) c.loop-n.invariant.0),
+  (omega arith, omega (arith, c.in-Some.ensures.small)),
+)
+
+pub returns-then-n-gt53-clause-within : goal.returns-then-n-gt53-clause-within
+returns-then-n-gt53-clause-within c = c.loop-n.invariant.0.within
+
+pub returns-then-n-gt53-clause-all : goal.returns-then-n-gt53-clause-all
+returns-then-n-gt53-clause-all c = λ k h l. covered c.args.parts.now.weeks _ c.args.len 54 k c.loop-n.days (omega arith) h
+    (cover_jumps c.args.parts.now.weeks _ c.args.len c.loop-n.from 54 c.loop-n.days
+    (λ j low less. sym (c.listed_weeks-listed.ensures j (omega (arith, low, c.loop-n.invariant.1.0)) (omega (arith, less))) ∙ c.in-Some.ensures.next.least j low (omega (arith, less, c.if-n-gt53.true))) c.loop-n.invariant.0)
+    (week_near c.args.parts.now c.args.first c.args.len k _ c.requires.first c.requires.size h c.requires.some (ap (λ x. (x + 10 - c.weekday_at.result) % 7) c.index.ensures.value ∙ ap (λ x. (monday_zero c.args.parts.now.week_start + 10 - x) % 7) c.weekday_at.ensures.value) l)
 
 pub returns-clause-within : goal.returns-clause-within
-returns-clause-within c = c.loop-n.invariant.within
+returns-clause-within c = c.loop-n.invariant.0.within
 
 pub returns-clause-all : goal.returns-clause-all
-returns-clause-all c = λ k h l. covered c.args.parts.now.weeks _ c.args.len c.loop-n.n k c.loop-n.days (omega arith) h c.loop-n.invariant
+returns-clause-all c = λ k h l. covered c.args.parts.now.weeks _ c.args.len 54 k c.loop-n.days (omega arith) h
+    (cover_jumps c.args.parts.now.weeks _ c.args.len c.loop-n.from 54 c.loop-n.days
+    (λ j low less. sym (c.listed_weeks-listed.ensures j (omega (arith, low, c.loop-n.invariant.1.0)) (omega (arith, less))) ∙ c.in_default.ensures.next j low) c.loop-n.invariant.0)
     (week_near c.args.parts.now c.args.first c.args.len k _ c.requires.first c.requires.size h c.requires.some (ap (λ x. (x + 10 - c.weekday_at.result) % 7) c.index.ensures.value ∙ ap (λ x. (monday_zero c.args.parts.now.week_start + 10 - x) % 7) c.weekday_at.ensures.value) l)

@@ -14,6 +14,7 @@ pub returns-else-is_none-clause-value : goal.returns-else-is_none-clause-value
 returns-else-is_none-clause-value c =
     let some : lists_none_wide c.args.positions.now ≡ false = sym c.is_none.ensures ∙ c.if-is_none.false in
     c.listed_below.ensures.value
+    ∙ ap (λ positions. count c.rank_before-rank.result (is_listed positions c.size.result)) c.positions.view_is
     ∙ ap (λ x. count x (is_listed c.args.positions.now c.size.result)) c.rank_before-rank.ensures.value
     ∙ ap (λ x. count (count c.args.n (holds c.args.self.now)) (is_listed c.args.positions.now x)) c.size.ensures.value
     ∙ sym (count-ranked c.args.n (holds c.args.self.now) (is_listed c.args.positions.now (count calendar_end (holds c.args.self.now))))

@@ -23,7 +23,7 @@ add-requires c = let i = inside (goal.at.add-requires c).In-Some in omega (arith
 pub loop-n-preserved : goal.loop-n-preserved
 loop-n-preserved c = let i = inside (goal.at.loop-n-preserved c).In-Some in (
   λ m. c.add.ensures.members m
-    ∙ number_added c.args.self (has c.listed-listed.result) c.args.weekday c.first_on-first.result c.loop-n.from m (has_wide c.args.days.now m) (has_wide c.loop-n.days m) c.first_on-first.ensures.place c.first_on-first.ensures.early
+      ∙ number_added c.args.self (has c.listed-listed.result) c.args.weekday c.first_on-first.result c.loop-n.from m (has_wide c.args.days.now m) (has_wide c.loop-n.days m) c.first_on-first.ensures.place c.first_on-first.ensures.early
       c.in-Some.n i.0 i.1 c.in-Some.ensures.next (c.loop-n.invariant.0 m),
   (omega arith, omega (arith, c.in-Some.ensures.small)),
 )

@@ -1,0 +1,54 @@
+-- Which weekdays BYDAY names, as a set.
+use Rattle.std.proofs.Common.{◌≡◌, ℕ, zero, suc, ◌+◌, ◌<◌, ◌≤◌, ◌⊎◌, inl, inr, Bool, true, false, ◌==◌, ◌||◌, ◌&&◌, nat_lt, if◌then◌else◌, refl, sym, ap, ◌∙◌, arith}
+use Rattle.std.proofs.lemmas.Bool.Decides.{nat_tests}
+use Rattle.std.proofs.lemmas.Nat.Bits.{bit_at-zero}
+use Rattle.ics_values.specs.declared.places.Weekdays.{Weekdays}
+use Rattle.ics_values.specs.Sets.{has, with_number}
+use Rattle.ics_values.proofs.SetLemmas.{has-with_number}
+use Rattle.ics_rule.specs.Parts.{names_weekday, named_below}
+use Rattle.ics_rule.proofs.ScanLemmas.{one_more, no_more}
+
+pub named_none : (w : Weekdays) → 0 ≡ named_below w 0
+unfolding named_below
+named_none w = refl
+
+pub named_more : (w : Weekdays) (d s new : ℕ) → s ≡ named_below w d → names_weekday w d ≡ true → new ≡ with_number d s → new ≡ named_below w (d + 1)
+unfolding named_below
+named_more w d s new h there e =
+    e ∙ ap (with_number d) h ∙ ap (λ b. if b then with_number d (named_below w d) else named_below w d) (sym there) ∙ ap (named_below w) (next d)
+  where
+    next : (d : ℕ) → suc d ≡ d + 1
+    next d = omega arith
+
+pub named_less : (w : Weekdays) (d s : ℕ) → s ≡ named_below w d → names_weekday w d ≡ false → s ≡ named_below w (d + 1)
+unfolding named_below
+named_less w d s h not_there =
+    h ∙ ap (λ b. if b then with_number d (named_below w d) else named_below w d) (sym not_there) ∙ ap (named_below w) (next d)
+  where
+    next : (d : ℕ) → suc d ≡ d + 1
+    next d = omega arith
+
+either : (b : Bool) → (b ≡ true) ⊎ (b ≡ false)
+either true = inl refl
+either false = inr refl
+
+pub is_named : (w : Weekdays) (n d : ℕ) → n ≤ 64 → has (named_below w n) d ≡ (nat_lt d n && names_weekday w d)
+unfolding named_below
+is_named w zero d h =
+    let none : nat_lt d 0 ≡ false = grind (arith, nat_tests) in
+    ap (λ x. x == 1) (bit_at-zero d) ∙ ap (λ x. x && names_weekday w d) (sym none)
+is_named w (suc n) d h =
+    let old = is_named w n d (omega (arith, h)) in
+    let next : n + 1 ≡ suc n = omega arith in
+    elim (either (names_weekday w n)) [
+      | inl there ↦ ap (λ b. has (if b then with_number n (named_below w n) else named_below w n) d) there ∙ has-with_number (named_below w n) n d (omega (arith, h))
+          ∙ one_more (names_weekday w) n d _ there old ∙ ap (λ x. nat_lt d x && names_weekday w d) next
+      | inr not_there ↦ ap (λ b. has (if b then with_number n (named_below w n) else named_below w n) d) not_there
+          ∙ no_more (names_weekday w) n d _ not_there old ∙ ap (λ x. nat_lt d x && names_weekday w d) next
+    ]
+
+pub named_small : (d : ℕ) (b h : Bool) → h ≡ true → h ≡ (nat_lt d 7 && b) → d < 7
+named_small d b h there e = by_test d b (sym e ∙ there)
+  where
+    by_test : (d : ℕ) (b : Bool) → (nat_lt d 7 && b) ≡ true → d < 7
+    by_test d b h = grind (arith, nat_tests)

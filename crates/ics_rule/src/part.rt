@@ -1,0 +1,141 @@
+//! Parts of a rule, with what is asked of them at each look.
+ghost use Rattle.std.specs.Prelude.{◌≡◌, ◌<◌, ◌&&◌, ℕ, nat_lt};
+ghost use Rattle.ics_values.specs.Sets.{has};
+ghost use Rattle.ics_values.specs.Places.{lists_none, lists_none_wide, lists_no_weekday, numbers_of};
+ghost use Rattle.ics_rule.specs.Parts.{names_weekday, named_below};
+
+use ics_values::{Numbers, Places, Weekdays, WidePlaces};
+use std::marker::Model;
+
+/// BYYEARDAY or BYSETPOS, and whether it is absent. A contract sees the places.
+#[derive(Clone, Copy)]
+pub struct PlacesPart {
+    pub(crate) list: WidePlaces,
+    absent: bool,
+}
+
+impl Model for PlacesPart {
+    ghost use Rattle.ics_values.specs.declared.places.WidePlaces.{WidePlaces};
+
+    ghost Value = { WidePlaces };
+
+    ghost use Rattle.std.specs.Prelude.{◌≡◌};
+    ghost use Rattle.ics_values.specs.Places.{lists_none_wide};
+
+    ghost view = { λ p. p.list };
+
+    ghost invariant = { λ p. p.absent ≡ lists_none_wide p.list };
+
+    ghost inverse = { λ v. record { list = v; absent = lists_none_wide v } };
+
+    ghost inverse_ok = { λ p h. Prim.rw h };
+}
+
+impl PlacesPart {
+    /// The part of these places.
+    pub(crate) fn new(list: WidePlaces) -> PlacesPart
+        ensures { result ≡ list }
+    {
+        let absent = list.is_none();
+        PlacesPart { list, absent }
+    }
+
+    /// Whether there is no place.
+    pub(crate) fn is_none(&self) -> bool
+        ensures { result ≡ lists_none_wide self.now }
+    {
+        self.absent
+    }
+}
+
+/// BYDAY, whether it is absent, and which weekdays it names. A contract sees the weekdays and their numbers.
+#[derive(Clone, Copy)]
+pub struct WeekdaysPart {
+    pub(crate) list: Weekdays,
+    absent: bool,
+    named: Numbers,
+}
+
+impl Model for WeekdaysPart {
+    ghost use Rattle.ics_values.specs.declared.places.Weekdays.{Weekdays};
+
+    ghost Value = { Weekdays };
+
+    ghost use Rattle.std.specs.Prelude.{◌≡◌};
+    ghost use Rattle.ics_values.specs.Places.{lists_no_weekday};
+    ghost use Rattle.ics_rule.specs.Parts.{named_below};
+
+    ghost view = { λ p. p.list };
+
+    ghost invariant = { λ p. (p.absent ≡ lists_no_weekday p.list) × (p.named ≡ named_below p.list 7) };
+
+    ghost inverse = { λ v. record { list = v; absent = lists_no_weekday v; named = named_below v 7 } };
+
+    ghost inverse_ok = { λ p h. Prim.rw (h.0, h.1) };
+}
+
+impl WeekdaysPart {
+    /// The part of these weekdays.
+    pub(crate) fn new(list: Weekdays) -> WeekdaysPart
+        ensures { result ≡ list }
+    {
+        let absent = list.is_none();
+        let named = named_weekdays(&list);
+        WeekdaysPart {
+            list,
+            absent,
+            named,
+        }
+    }
+
+    /// Whether there is no weekday.
+    pub(crate) fn is_none(&self) -> bool
+        ensures { result ≡ lists_no_weekday self.now }
+    {
+        self.absent
+    }
+
+    /// The weekdays that it names, with a number or without.
+    pub(crate) fn named(&self) -> Numbers
+        ensures { (d : ℕ) → has result d ≡ (nat_lt d 7 && names_weekday self.now d) }
+    {
+        self.named
+    }
+}
+
+/// The numbers that BYDAY gives a weekday.
+pub(crate) fn numbers(weekdays: &Weekdays, weekday: u8) -> &Places
+    requires { weekday < 7 }
+    ensures { result.now ≡ numbers_of weekdays.now weekday }
+{
+    &weekdays.numbered[weekday as usize]
+}
+
+/// Whether BYDAY lists a weekday with no number.
+pub(crate) fn has_no_number(weekdays: &Weekdays, weekday: u8) -> bool
+    requires { weekday < 7 }
+    ensures { result ≡ lists_none (numbers_of weekdays.now weekday) }
+{
+    numbers(weekdays, weekday).is_none()
+}
+
+/// Whether BYDAY names a weekday, with a number or without.
+fn names_weekday(weekdays: &Weekdays, weekday: u8) -> bool
+    requires { weekday < 7 }
+    ensures { result ≡ names_weekday weekdays.now weekday }
+{
+    weekdays.plain.has(weekday) || !has_no_number(weekdays, weekday)
+}
+
+/// The weekdays that BYDAY names.
+fn named_weekdays(weekdays: &Weekdays) -> Numbers
+    ensures { result ≡ named_below weekdays.now 7 }
+{
+    let mut named = Numbers::new();
+    for weekday in 0..7 {
+        if names_weekday(weekdays, weekday) {
+            named.add(weekday);
+        }
+    }
+    named
+}
