@@ -85,7 +85,9 @@ module _ (unit : ℕ → Bool) (a b : ℕ) (stretch : IsStretch unit a b) where
       let front : a + (e - a) ≡ e = omega arith in
       let all = on_weekday (weekday_of e) (b - a) (omega arith) (omega arith) in
       let earlier = on_weekday (weekday_of e) (e - a) (omega arith) (omega arith) in
-      let flat = count_flat b end (λ f. weekday_of f == weekday_of e && unit f) past (λ m l h. and_no (weekday_of m == weekday_of e) (unit m) (stretch.after m l)) in
+      let flat =
+      count_flat b end (λ f. weekday_of f == weekday_of e && unit f) past
+      (λ m l h. and_no (weekday_of m == weekday_of e) (unit m) (stretch.after m l)) in
       let whole' = ap (λ x. count x (λ f. weekday_of f == weekday_of e && unit f)) whole in
       let front' = ap (λ x. count x (λ f. weekday_of f == weekday_of e && unit f)) front in
       omega (arith, all, earlier, flat, whole', front')
@@ -96,7 +98,8 @@ year_stretch : (e : ℕ) → IsStretch (in_year e) (days_before_year (year_of e)
 year_stretch e = record {
   before = λ f l. apart_test (year_of f) (year_of e) (λ same. let u = year_under_way f in let m = ap days_before_year same in omega (arith, u.0, m, l));
   inside = λ f l h. same_test (year_of f) (year_of e) (year_of_is f (year_of e) l h);
-  after = λ f l. apart_test (year_of f) (year_of e) (λ same. let u = year_under_way f in let m = ap (λ y. days_before_year (suc y)) same in omega (arith, u.1, m, l));
+  after = λ f l. apart_test (year_of f) (year_of e)
+      (λ same. let u = year_under_way f in let m = ap (λ y. days_before_year (suc y)) same in omega (arith, u.1, m, l));
 }
 
 -- how many days it has, and which of them e is
@@ -148,13 +151,15 @@ month_begins p e h =
 
 month_stretch : (e : ℕ) → IsStretch (in_month e) (month_start (month_number e)) (month_start (suc (month_number e)))
 month_stretch e = record {
-  before = λ f l. in_month_apart (year_of f) (month_of f) (year_of e) (month_of e) (λ same. let b = month_begun (month_number e) f (omega (arith, same)) in omega (arith, b, l));
+  before = λ f l. in_month_apart (year_of f) (month_of f) (year_of e) (month_of e)
+      (λ same. let b = month_begun (month_number e) f (omega (arith, same)) in omega (arith, b, l));
   inside = λ f l h. in_month_same (year_of f) (month_of f) (year_of e) (month_of e) (month_positive f) (month_positive e) (month_high f) (month_high e)
       (let low = month_begins (month_number e) f l in elim (by_order (month_number e) (month_number f)) [
         | inl past ↦ absurd (let b = month_begun (suc (month_number e)) f past in omega (arith, b, h))
         | inr same ↦ omega (arith, low, same)
       ]);
-  after = λ f l. in_month_apart (year_of f) (month_of f) (year_of e) (month_of e) (λ same. let b = month_begins (suc (month_number e)) f l in omega (arith, b, same));
+  after = λ f l. in_month_apart (year_of f) (month_of f) (year_of e) (month_of e)
+      (λ same. let b = month_begins (suc (month_number e)) f l in omega (arith, b, same));
 }
 
 record IsMonthDay (e : ℕ) : Type 0 where
@@ -172,7 +177,8 @@ month_day e =
     let year : (month_number e - 1) / 12 ≡ year_of e = omega (arith, some, most) in
     let month : (month_number e - 1) % 12 ≡ month_of e - 1 = omega (arith, some, most) in
     let start : month_start (month_number e) ≡ days_before_year (year_of e) + days_of_months (pos (year_of e)) (month_of e - 1) =
-    ap (λ y. days_before_year y + days_of_months (pos y) ((month_number e - 1) % 12)) year ∙ ap (λ m. days_before_year (year_of e) + days_of_months (pos (year_of e)) m) month in
+    ap (λ y. days_before_year y + days_of_months (pos y) ((month_number e - 1) % 12)) year
+    ∙ ap (λ m. days_before_year (year_of e) + days_of_months (pos (year_of e)) m) month in
     let one : suc (month_number e - 1) ≡ month_number e = omega (arith, some) in
     let next = month_size (month_number e - 1) in
     let starts = ap month_start one in
@@ -185,7 +191,10 @@ month_day e =
     let own = year_day_is e in
     record {
       low = low;
-      high = elim (by_order e (month_start (suc (month_number e)))) [ inl less ↦ less | inr past ↦ absurd (let b = month_begins (suc (month_number e)) e past in omega (arith, b)) ];
+      high = elim (by_order e (month_start (suc (month_number e)))) [
+        | inl less ↦ less
+        | inr past ↦ absurd (let b = month_begins (suc (month_number e)) e past in omega (arith, b))
+      ];
       place = omega (arith, own, start, low);
       size = omega (arith, next, starts, ends, length);
       end = omega (arith, next, starts, ends, length, bounds.0, low);
@@ -241,10 +250,12 @@ year_weekday_last e end past =
 
 -- ---- what the parts list
 
-nth_is : (plus minus test : ℕ → Bool) (e x y : ℕ) → count (suc e) test ≡ x → count calendar_end test - count e test ≡ y → is_nth plus minus test e ≡ (plus x || minus y)
+nth_is : (plus minus test : ℕ → Bool) (e x y : ℕ) → count (suc e) test ≡ x → count calendar_end test - count e test ≡ y
+    → is_nth plus minus test e ≡ (plus x || minus y)
 nth_is plus minus test e x y front back = ap (λ z. plus z || minus (count calendar_end test - count e test)) front ∙ ap (λ z. plus x || minus z) back
 
-pub month_days_listed : (p : Places) (e : ℕ) → e < 4_000_000 → is_place p (in_month e) e ≡ lists p (month_day_of e) (days_in_month (pos (year_of e)) (month_of e))
+pub month_days_listed : (p : Places) (e : ℕ) → e < 4_000_000
+    → is_place p (in_month e) e ≡ lists p (month_day_of e) (days_in_month (pos (year_of e)) (month_of e))
 month_days_listed p e small = nth_is (has p.front) (has p.back) (in_month e) e _ _ (month_nth e) (month_last e calendar_end (omega arith))
 
 pub year_days_listed : (p : WidePlaces) (e : ℕ) → e < 4_000_000 → is_wide_place p (in_year e) e ≡ lists_wide p (year_day_of e) (days_in_year (pos (year_of e)))
@@ -255,7 +266,8 @@ pub month_weekday_listed : (p : Places) (e : ℕ) → e < 4_000_000
 month_weekday_listed p e small =
     nth_is (has p.front) (has p.back) (with_weekday in_month e) e _ _ (month_weekday_nth e) (month_weekday_last e calendar_end (omega arith))
 
-pub year_weekday_listed : (p : Places) (e : ℕ) → e < 4_000_000 → is_place p (with_weekday in_year e) e ≡ lists_nth p (year_day_of e) (days_in_year (pos (year_of e)))
+pub year_weekday_listed : (p : Places) (e : ℕ) → e < 4_000_000
+    → is_place p (with_weekday in_year e) e ≡ lists_nth p (year_day_of e) (days_in_year (pos (year_of e)))
 year_weekday_listed p e small =
     nth_is (has p.front) (has p.back) (with_weekday in_year e) e _ _ (year_weekday_nth e) (year_weekday_last e calendar_end (omega arith))
 

@@ -83,7 +83,8 @@ module _ (r : Recurrence) (c : ℕ) (counted : r.parts.count ≡ Some c) (some :
         | inl same ↦
             ap (λ b. b || (is_in_rule r n && true && nat_lt (count n (is_in_rule r)) c)) same.0
             ∙ sym (ap (λ b. b && nat_lt (count n (is_in_rule r)) c) (ap (is_in_rule r) same.1 ∙ in_rule_start r)
-            ∙ less (count n (is_in_rule r)) c (let none = count-none n (is_in_rule r) (λ m l. in_rule_earlier r m (omega (arith, l, same.1))) in omega (arith, none, some)))
+            ∙ less (count n (is_in_rule r)) c
+            (let none = count-none n (is_in_rule r) (λ m l. in_rule_earlier r m (omega (arith, l, same.1))) in omega (arith, none, some)))
         | inr other ↦
             ap (λ b. b || (is_in_rule r n && true && nat_lt (count n (is_in_rule r)) c)) other ∙ dropped (is_in_rule r n) (nat_lt (count n (is_in_rule r)) c)
       ])

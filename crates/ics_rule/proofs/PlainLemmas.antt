@@ -16,7 +16,7 @@ use Rattle.ics_rule.specs.declared.filled.Filled.{Filled}
 use Rattle.ics_rule.specs.Recurrence.{Recurrence}
 use Rattle.ics_rule.specs.Locals.{number, day_of, hour_of, minute_of, second_of, calendar_end, rules_end}
 use Rattle.ics_rule.specs.Filled.{takes_month_day, takes_month, takes_weekday, skips_hours, skips_minutes, skips_seconds, clock_part, filled}
-use Rattle.ics_rule.specs.Candidates.{lets, lets_place, lets_wide_place, lists, lists_wide, lets_week, lets_numbered, lets_weekday, lets_date, lets_clock, period_in, is_stepped, is_candidate_in, fourth_day, week_number, weeks_of_year}
+use Rattle.ics_rule.specs.Candidates.{lets, lets_place, lets_wide_place, lists, lists_wide, lists_nth, lets_week, lets_numbered, lets_weekday, lets_date, lets_clock, period_in, is_stepped, is_candidate_in, fourth_day, week_number, weeks_of_year}
 use Rattle.ics_rule.specs.Kept.{count, is_beside, rank, size, is_placed, is_chosen, is_in_rule, is_until, is_counted, is_kept}
 use Rattle.ics_rule.specs.Table.{ByMonth, ByWeekNo, ByYearDay, ByMonthDay, ByDay, ByHour, ByMinute, BySecond}
 use Rattle.ics_rule.specs.ByTable.{is_absent, is_clockless, weekday_unit}
@@ -121,11 +121,17 @@ place_none p test e h =
     zero_of : (s : ℕ) → (s == 0) ≡ true → s ≡ 0
     zero_of s h = grind (arith, nat_tests)
 
-module _ (r : Recurrence) (q : Filled) (p : Places) (e : ℕ) (small : e < 4_000_000) (weeks : lists_none q.weeks ≡ is_absent r ByWeekNo) (months : is_none q.months ≡ is_absent r ByMonth) where
-  -- under YEARLY
+-- under YEARLY, beside BYWEEKNO or not, and BYMONTH or not
+abbrev yearly_numbered : Places → ℕ → Bool → Bool → Bool
+yearly_numbered p e w m =
+    if not w then not (lists_none p)
+    else (if not m then lists_nth p (month_day_of e) (days_in_month (pos (year_of e)) (month_of e))
+    else lists_nth p (year_day_of e) (days_in_year (pos (year_of e))))
+
+module _ (r : Recurrence) (q : Filled) (p : Places) (e : ℕ) (small : e < 4_000_000) (weeks : lists_none q.weeks ≡ is_absent r ByWeekNo)
+    (months : is_none q.months ≡ is_absent r ByMonth) where
   by_unit : (w m : Bool) → ((if not w then Weekly else (if not m then Monthly else Yearly)) ≡ Weekly → lists_none p ≡ true)
-      → (if not w then not (lists_none p) else (if not m then lets_numbered Monthly q p e else lets_numbered Yearly (record q { weeks = no_places; months = 0 }) p e))
-      ≡ is_place p (with_weekday (if m then in_year else in_month) e) e
+      → yearly_numbered p e w m ≡ is_place p (with_weekday (if m then in_year else in_month) e) e
   by_unit false m none = ap not (none refl) ∙ sym (place_none p (with_weekday (if m then in_year else in_month) e) e (none refl))
   by_unit true true none = sym (year_weekday_listed p e small)
   by_unit true false none = sym (month_weekday_listed p e small)
@@ -133,8 +139,7 @@ module _ (r : Recurrence) (q : Filled) (p : Places) (e : ℕ) (small : e < 4_000
   numbered : (f : Frequency) → (weekday_unit r f ≡ Weekly → lists_none p ≡ true) → lets_numbered f q p e ≡ is_place p (with_weekday (weekday_period r f) e) e
   numbered Monthly none = sym (month_weekday_listed p e small)
   numbered Yearly none =
-      ap (λ w. if not w then not (lists_none p) else (if not (is_none q.months) then lets_numbered Monthly q p e else lets_numbered Yearly (record q { weeks = no_places; months = 0 }) p e)) weeks
-      ∙ ap (λ m. if not (is_absent r ByWeekNo) then not (lists_none p) else (if not m then lets_numbered Monthly q p e else lets_numbered Yearly (record q { weeks = no_places; months = 0 }) p e)) months
+      ap (λ w. yearly_numbered p e w (is_none q.months)) weeks ∙ ap (yearly_numbered p e (is_absent r ByWeekNo)) months
       ∙ by_unit (is_absent r ByWeekNo) (is_absent r ByMonth) none
   numbered Weekly none = ap not (none refl) ∙ sym (place_none p (with_weekday (weekday_period r Weekly) e) e (none refl))
   numbered Daily none = ap not (none refl) ∙ sym (place_none p (with_weekday (weekday_period r Daily) e) e (none refl))
@@ -147,7 +152,7 @@ none_numbered : (f : Frequency) (q : Filled) (e : ℕ) → lets_numbered f q no_
 none_numbered Monthly q e = none_nth no_places (month_day_of e) (days_in_month (pos (year_of e)) (month_of e)) refl
 none_numbered Yearly q e = either_false (lists_none q.weeks) (is_none q.months)
   where
-    either_false : (w m : Bool) → (if not w then false else (if not m then lets_numbered Monthly q no_places e else lets_numbered Yearly (record q { weeks = no_places; months = 0 }) no_places e)) ≡ false
+    either_false : (w m : Bool) → yearly_numbered no_places e w m ≡ false
     either_false false m = refl
     either_false true false = none_nth no_places (month_day_of e) (days_in_month (pos (year_of e)) (month_of e)) refl
     either_false true true = none_nth no_places (year_day_of e) (days_in_year (pos (year_of e))) refl

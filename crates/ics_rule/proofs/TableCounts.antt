@@ -48,7 +48,9 @@ module _ (set : ℕ → Bool) (a b t : ℕ) (clock : t < 86_400) (shown : (m : �
   on_day k = set ((a + k) * 86_400 + t)
 
   to_local : (d : ℕ) → count (d * 86_400 + t) set ≡ count (d * 86_400) set
-  to_local d = count_flat (d * 86_400) (d * 86_400 + t) set (omega arith) (λ m l h. not_true (set m) (λ e. let s = shown m e in omega (arith, s.1, l, h, clock)))
+  to_local d =
+      count_flat (d * 86_400) (d * 86_400 + t) set (omega arith)
+      (λ m l h. not_true (set m) (λ e. let s = shown m e in omega (arith, s.1, l, h, clock)))
 
   past_local : (d : ℕ) → count (d * 86_400 + 86_400) set ≡ count (suc (d * 86_400 + t)) set
   past_local d =
@@ -74,7 +76,8 @@ module _ (set : ℕ → Bool) (a b t : ℕ) (clock : t < 86_400) (shown : (m : �
       count_flat (b * 86_400) calendar_end set high (λ m l h. not_true (set m) (λ e. let s = shown m e in omega (arith, s.0.1, l)))
       ∙ ap (λ x. count (x * 86_400) set) (let whole : b ≡ a + (b - a) = omega (arith, low) in whole) ∙ days_before (b - a)
 
-  nth_by_days : (positions : WidePlaces) (k : ℕ) → a ≤ b → b * 86_400 ≤ calendar_end → is_nth positions set ((a + k) * 86_400 + t) ≡ nth_day set a b t positions k
+  nth_by_days : (positions : WidePlaces) (k : ℕ) → a ≤ b → b * 86_400 ≤ calendar_end
+      → is_nth positions set ((a + k) * 86_400 + t) ≡ nth_day set a b t positions k
   nth_by_days positions k low high =
       ap (λ x. has_wide positions.front x || has_wide positions.back (count calendar_end set - count ((a + k) * 86_400 + t) set)) (through_day k)
       ∙ ap (λ x. has_wide positions.front (count (suc k) on_day) || has_wide positions.back (x - count ((a + k) * 86_400 + t) set)) (all_days low high)

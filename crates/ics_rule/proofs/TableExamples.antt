@@ -119,8 +119,8 @@ at_nine listed month p m e =
 -- the third instance into the month of one of Tuesday, Wednesday or Thursday
 abbrev third_instance : Recurrence
 third_instance =
-    rule (record (every Monthly) { weekdays = on_weekdays (only tu + only 2 + only 3); positions = with_wide_place Front 3 no_wide_places }) (local 1997 9 4 9 0)
-    DateTime
+    rule (record (every Monthly) { weekdays = on_weekdays (only tu + only 2 + only 3); positions = with_wide_place Front 3 no_wide_places })
+    (local 1997 9 4 9 0) DateTime
 
 instances_at_nine : (p m : ℕ) → is_instance third_instance p m ≡ true → (month_number (day_of m) ≡ p) × (m % 86_400 ≡ 32_400)
 unfolding days_on_literals
