@@ -3,7 +3,7 @@ ghost use Rattle.std.specs.Prelude.{◌≡◌, ℕ, ◌<◌, ◌≤◌, ◌+◌,
 ghost use Rattle.jiff_core.specs.Calendar.{days_in_year, days_in_month};
 ghost use Rattle.jiff_core.specs.Weekday.{monday_zero};
 ghost use Rattle.ics_values.specs.Sets.{has, is_none};
-ghost use Rattle.ics_values.specs.Places.{lists_none, lists_no_weekday, numbers_of};
+ghost use Rattle.ics_values.specs.Places.{lists_none, lists_no_weekday};
 ghost use Rattle.ics_values.specs.Days.{weekday_of};
 ghost use Rattle.ics_values.specs.Fields.{IsCivilOf};
 ghost use Rattle.ics_rule.specs.Runs.{goes_by_months};

@@ -133,7 +133,8 @@ fn span_of(frequency: Frequency, week_start: Weekday, number: u64) -> Span
     requires low { period frequency (monday_zero week_start) 0 ≤ number }
     requires reach { first_local frequency (monday_zero week_start) number ≤ 309289708800 }
     ensures first { result.first ≡ first_local frequency (monday_zero week_start) number / 86400 }
-    ensures len { result.len ≡ (first_local frequency (monday_zero week_start) (number + 1) + 86399) / 86400 - first_local frequency (monday_zero week_start) number / 86400 }
+    ensures len { result.len
+        ≡ (first_local frequency (monday_zero week_start) (number + 1) + 86399) / 86400 - first_local frequency (monday_zero week_start) number / 86400 }
 {
     match frequency {
         Frequency::Secondly => Span {
@@ -181,11 +182,14 @@ fn span_of(frequency: Frequency, week_start: Weekday, number: u64) -> Span
 fn clock_of(parts: &Filled, number: u64) -> Clock
     requires reach { first_local parts.now.frequency (monday_zero parts.now.week_start) number ≤ 309289708800 }
     ensures hours { (m : ℕ) → m < 24 → has result.hours m
-        ≡ ((skips_hours parts.now.frequency || (m == first_local parts.now.frequency (monday_zero parts.now.week_start) number / 3600 % 24)) && lets parts.now.hours m) }
+        ≡ ((skips_hours parts.now.frequency || (m == first_local parts.now.frequency (monday_zero parts.now.week_start) number / 3600 % 24))
+        && lets parts.now.hours m) }
     ensures minutes { (m : ℕ) → m < 60 → has result.minutes m
-        ≡ ((skips_minutes parts.now.frequency || (m == first_local parts.now.frequency (monday_zero parts.now.week_start) number / 60 % 60)) && lets parts.now.minutes m) }
+        ≡ ((skips_minutes parts.now.frequency || (m == first_local parts.now.frequency (monday_zero parts.now.week_start) number / 60 % 60))
+        && lets parts.now.minutes m) }
     ensures seconds { (m : ℕ) → m < 60 → has result.seconds m
-        ≡ ((skips_seconds parts.now.frequency || (m == first_local parts.now.frequency (monday_zero parts.now.week_start) number % 60)) && lets parts.now.seconds m) }
+        ≡ ((skips_seconds parts.now.frequency || (m == first_local parts.now.frequency (monday_zero parts.now.week_start) number % 60))
+        && lets parts.now.seconds m) }
     ensures hours_bound { result.hours < 2 ^ 24 }
     ensures minutes_bound { result.minutes < 2 ^ 60 }
     ensures seconds_bound { result.seconds < 2 ^ 60 }
