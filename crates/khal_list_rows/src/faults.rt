@@ -10,25 +10,61 @@ use std::{io, mem};
 /// More than any output of a row.
 const AMPLE: usize = 1_000_000;
 
-/// Runs words with each read failing in turn, and with each output ending after each of its bytes, once
-/// by a fault and once by taking none. Prints how many reads and bytes these are, and the first run that
-/// is not as it must be, if any is.
-pub fn faults(rt: HostRuntime, source: &mut MemorySource, words: &str, now: i64) -> io::Result<()> {
-    let Ok(request) = request(rt.alloc(), words, now) else {
-        return println!(rt; "no request");
-    };
-    let Ok(whole) = outcome(rt.alloc(), source, &request) else {
-        return println!(rt; "no listing");
-    };
-    let count = source.files.len();
-    for index in 0..count {
-        if !lists_without(rt.alloc(), source, &request, index)? {
-            println!(rt; "read {index} departs")?;
+/// How many reads failed, and after how many bytes an output ended.
+#[derive(Clone, Copy, Debug)]
+pub struct Tried {
+    runs: usize,
+    reads: usize,
+    out: usize,
+    err: usize,
+}
+
+impl Tried {
+    /// Nothing so far.
+    pub const fn none() -> Tried {
+        Tried {
+            runs: 0,
+            reads: 0,
+            out: 0,
+            err: 0,
         }
     }
-    ends_early(rt, source, &request, &whole)?;
-    let (out, err) = (whole.out.len(), whole.err.len());
-    println!(rt; "{count} reads, {out} bytes of output, {err} of standard error")
+
+    /// Runs words with each read failing in turn, and with each output ending after each of its bytes,
+    /// once by a fault and once by taking none. Prints the runs that are not as they must be.
+    pub fn run(
+        &mut self,
+        rt: HostRuntime,
+        source: &mut MemorySource,
+        words: &str,
+        now: i64,
+    ) -> io::Result<()> {
+        let Ok(request) = request(rt.alloc(), words, now) else {
+            return Ok(());
+        };
+        let Ok(whole) = outcome(rt.alloc(), source, &request) else {
+            return Ok(());
+        };
+        for index in 0..source.files.len() {
+            if !lists_without(rt.alloc(), source, &request, index)? {
+                println!(rt; "read {index} departs")?;
+            }
+        }
+        ends_early(rt, source, &request, &whole)?;
+        self.runs = self.runs.saturating_add(1);
+        self.reads = self.reads.saturating_add(source.files.len());
+        self.out = self.out.saturating_add(whole.out.len());
+        self.err = self.err.saturating_add(whole.err.len());
+        Ok(())
+    }
+
+    /// Prints how many these were.
+    pub fn print(&self, rt: HostRuntime) -> io::Result<()> {
+        println!(rt;
+            "{} runs: {} reads, {} bytes of output, {} of standard error",
+            self.runs, self.reads, self.out, self.err
+        )
+    }
 }
 
 /// Whether a run that does not read one of the files lists as one in which that file is refused, and

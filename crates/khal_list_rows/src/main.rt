@@ -4,7 +4,9 @@
 //! - `> NAME` begins a file, whose lines follow, each ended by CRLF. `>> TEXT` adds bytes without a line
 //!   end. In both `%0a` stands for the byte 10.
 //! - `$ WORDS` runs the program's words over the files, and `@ WORDS` over the folder on disk that they
-//!   name. What they write is printed, then the status in brackets, and then what standard error has.
+//!   name. What they write is printed, then the status in brackets, and then what standard error has. The
+//!   words of `$` are then run with each read failing in turn, and with each output ending after each of
+//!   its bytes: a run that is not as it must be is printed.
 //! - `? WORDS` shows the request of the words.
 //! - `: CALL VALUES` asks a call by its name.
 //!
@@ -14,8 +16,8 @@
 //! - `cuts WORDS` runs the words over the last file, cut after each of its bytes, `pages LIMIT WORDS` page
 //!   by page, and `entries HELD LEAST MOST WORDS` bounds what their agenda holds and looks at.
 //! - `out-takes ROOM WORDS` and `err-takes ROOM WORDS` run them where that output has room for few bytes.
-//! - `faults WORDS` runs them with each read failing in turn, and with each output ending after each of its
-//!   bytes; `prints-none LEAST MOST WORDS` where the output takes none, and bounds what is looked at.
+//! - `unread INDEX WORDS` runs them where one file is not read, and `prints-none LEAST MOST WORDS` where the
+//!   output takes no byte, and bounds what is looked at. `tried` counts the reads and bytes of all `$` so far.
 //! - `lines` are those of the last file; `content LINE` and `param NAME LINE` are parts of a line.
 //! - `rule DTSTART RRULE FROM BEFORE [LEAST MOST]` lists a rule's locals, and bounds the periods that were
 //!   looked at; `admits DTSTART RRULE LOCAL` asks one, and `until DTSTART RRULE` for its last instant.

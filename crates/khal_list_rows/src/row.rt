@@ -1,13 +1,14 @@
 //! A row: its files, its clock, and what its lines ask.
 
 use crate::counts::{entries, pages, print_none};
-use crate::faults::faults;
+use crate::faults::Tried;
 use crate::lines::{lines, param, parts};
 use crate::narrow::run_narrow;
 use crate::requests::{show_request, usage_has};
 use crate::rules::{rule, rule_value};
 use crate::runs::{cuts, run_disk, run_over};
 use crate::shown::moment_of;
+use crate::unread::run_unread;
 use crate::values::value;
 use crate::zones::{in_display, in_file};
 use khal_list::{MemoryFile, MemorySource};
@@ -18,11 +19,12 @@ use std::io;
 /// 2024-01-05T00:00:00 UTC, the instant that a row's clock shows where it is not set.
 const NOW: i64 = 1_704_412_800;
 
-/// The files of a row, and the instant that its clock shows.
+/// The files of a row, the instant that its clock shows, and what was tried of this row and those before it.
 #[derive(Drop)]
 pub struct Row {
     source: MemorySource,
     now: i64,
+    tried: Tried,
 }
 
 impl Row {
@@ -31,7 +33,11 @@ impl Row {
         let source = MemorySource {
             files: Vec::new(alloc),
         };
-        Row { source, now: NOW }
+        Row {
+            source,
+            now: NOW,
+            tried: Tried::none(),
+        }
     }
 
     /// Takes a line of a row. A line that asks for something is printed, and then what came.
@@ -53,7 +59,10 @@ impl Row {
     /// Does what a line asks for by its mark.
     fn ask(&mut self, rt: HostRuntime, mark: &str, rest: &str) -> io::Result<()> {
         match mark {
-            "$" => run_over(rt, &mut self.source, rest, self.now),
+            "$" => {
+                run_over(rt, &mut self.source, rest, self.now)?;
+                self.tried.run(rt, &mut self.source, rest, self.now)
+            }
             "@" => run_disk(rt, rest, self.now),
             "?" => show_request(rt, rest, self.now),
             ":" => self.call(rt, rest),
@@ -103,7 +112,8 @@ impl Row {
             "usage" => usage_has(rt, rest, self.now),
             "entries" => entries(rt, &self.source, rest, self.now),
             "cuts" => cuts(rt, &mut self.source, rest, self.now),
-            "faults" => faults(rt, &mut self.source, rest, self.now),
+            "tried" => self.tried.print(rt),
+            "unread" => run_unread(rt, &self.source, rest, self.now),
             "prints-none" => print_none(rt, &self.source, rest, self.now),
             "pages" => pages(rt, &mut self.source, rest, self.now),
             "out-takes" => run_narrow(rt, &mut self.source, rest, self.now, false),

@@ -1,7 +1,9 @@
 //! Files in memory, of which one is not read.
 
-use khal_list::{MOST_BYTES, MemoryFile, Source, SourceFault};
+use crate::runs::run_over;
+use khal_list::{MOST_BYTES, MemoryFile, MemorySource, Source, SourceFault};
 use std::alloc::Global;
+use std::io;
 
 /// Files in memory, of which the device fails one.
 #[derive(Drop)]
@@ -54,4 +56,11 @@ impl Source for Unread<'_> {
     fn failures(&self) -> u64 {
         self.failures
     }
+}
+
+/// Runs words over files of which the one with an index is not read: `unread INDEX WORDS`.
+pub fn run_unread(rt: HostRuntime, source: &MemorySource, line: &str, now: i64) -> io::Result<()> {
+    let (index, words) = line.split_once(' ').unwrap_or((line, ""));
+    let mut unread = Unread::new(source.files.as_slice(), index.parse().unwrap_or(0));
+    run_over(rt, &mut unread, words, now)
 }
