@@ -191,8 +191,11 @@ module _ (zone : List Phase) (facts : IsZone zone) (some : 0 < length zone) wher
       pub jump_at_next : local <ℤ shown (zone_offset zone) next → IsJump (zone_offset zone) local next
       jump_at_next later = record {
         is_later = later;
-        first = λ s l. elim (less_or_not_z s next) [ inr high ↦ high | inl low ↦ absurd
-            (let less = earlier_before_next s low in omega (arith, ints, less, l)) ];
+        first = λ s l. elim (less_or_not_z s next) [
+          | inr high ↦ high
+          | inl low ↦ absurd
+              (let less = earlier_before_next s low in omega (arith, ints, less, l))
+        ];
       }
 
       pub earlier_at_next : shown (zone_offset zone) next ≤ℤ local → (s : ℤ) → s ≤ℤ next → shown (zone_offset zone) s <ℤ local

@@ -28,8 +28,14 @@ pub record IsListedTo (p : Phase) (rdates : List Local) (list : List ℤ) : Type
 module _ (p : Phase) where
   pub listed_first : (t : ℤ) → t ≡ instant_by p.offset_from (number p.start) → IsListedTo p [] (t ∷ [])
   listed_first t is = record {
-    known = λ s h. (number p.start, (sym (alone s h) ∙ is, or_left (number p.start == number p.start) false
-        ((Decides-eqb (number p.start) (number p.start)).1 refl)));
+    known = λ s h. (
+      number p.start,
+      (
+        sym (alone s h) ∙ is,
+        or_left (number p.start == number p.start) false
+            ((Decides-eqb (number p.start) (number p.start)).1 refl),
+      ),
+    );
     complete = λ n e. elim (or_cases (n == number p.start) false e) [
       | inl first ↦ (0, omega arith, (is ∙ ap (instant_by p.offset_from) (sym ((Decides-eqb n (number p.start)).0 first))))
       | inr none ↦ absurd (not_both false none refl)

@@ -61,7 +61,7 @@ module _ (offset : ℤ → ℤ) (short : (t : ℤ) → IsWithin 86_399 (offset t
       if_so-none (int_eq (shown offset (near local k.0)) local) (near local k.0)
       ((Decides-int_eq (shown offset (near local k.0)) local).1 (ap (shown offset) (sym n) ∙ is))
       (first_below-none (λ k. if_so (int_eq (shown offset (near local k)) local) (near local k)) 172_801 none k.0
-          (omega (arith, ints, n, is, bound.0, bound.1)))
+      (omega (arith, ints, n, is, bound.0, bound.1)))
 
   first_later-some : (local u : ℤ) → first_later offset local ≡ Some u → (local <ℤ shown offset u) × ((s : ℤ) → local <ℤ shown offset s → u ≤ℤ s)
   first_later-some local u e =

@@ -137,10 +137,16 @@ from_autumn t low = inl (
 )
 
 facts : IsZone new_york
-facts zero p e = rw (sym (got standard p e)) (record { start_in = (omega (arith, ints), omega (arith, ints));
-    from_in = (omega (arith, ints), omega (arith, ints)); to_in = (omega (arith, ints), omega (arith, ints)) })
-facts (suc zero) p e = rw (sym (got daylight p e)) (record { start_in = (omega (arith, ints), omega (arith, ints));
-    from_in = (omega (arith, ints), omega (arith, ints)); to_in = (omega (arith, ints), omega (arith, ints)) })
+facts zero p e = rw (sym (got standard p e)) (record {
+  start_in = (omega (arith, ints), omega (arith, ints));
+  from_in = (omega (arith, ints), omega (arith, ints));
+  to_in = (omega (arith, ints), omega (arith, ints));
+})
+facts (suc zero) p e = rw (sym (got daylight p e)) (record {
+  start_in = (omega (arith, ints), omega (arith, ints));
+  from_in = (omega (arith, ints), omega (arith, ints));
+  to_in = (omega (arith, ints), omega (arith, ints));
+})
 facts (suc (suc i)) p e = absurd (no_more p e)
 
 not_empty : new_york ≢ []

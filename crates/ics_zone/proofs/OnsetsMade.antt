@@ -58,7 +58,7 @@ module _ (p : Phase) (facts : IsPhase p) (s : Onsets) (from : s.offset_from ≡ 
       local-onset p t k.local (rw (sym from) k.is)
       ∙ by_rule_begins k.local (subst (λ o. is_by_rule p o k.local ≡ true) is
       (and_both (is_kept (rule_from p.start parts) k.local) _ k.kept (subst (λ (t : ℤ). is_until (until_moment (rule_from p.start parts)) t ≡ true)
-          (rw (sym from) k.is) until)))
+      (rw (sym from) k.is) until)))
 
   kept_or_listed : (o : Option RuleParts) (r : Option Recurrence) → o ≡ p.rule → r ≡ option_map (rule_from p.start) o → IfSome r (IsEnd s.until)
       → (t : ℤ) (n : ℕ) → t ≡ instant_by p.offset_from n → is_by_rule p o n ≡ true
@@ -73,7 +73,7 @@ module _ (p : Phase) (facts : IsPhase p) (s : Onsets) (from : s.offset_from ≡ 
             let soon = early.0 in
             let shift = facts.from_in in
             let until = sym (ends t (omega (arith, ints, at, soon, shift.0, shift.1))) ∙ subst
-                (λ (t : ℤ). is_until (until_moment (rule_from p.start parts)) t ≡ true) (sym at) both.1 in
+            (λ (t : ℤ). is_until (until_moment (rule_from p.start parts)) t ≡ true) (sym at) both.1 in
             record { local = n; early = early.0; kept = both.0; is = rw from at; by_end = int_le_true t s.until until }))
       ]
 
@@ -88,7 +88,7 @@ module _ (p : Phase) (facts : IsPhase p) (s : Onsets) (from : s.offset_from ≡ 
       let there = start.2 in
       let at = k.is in
       let late : number p.start ≤ k.local = elim (kept_early (rule_from p.start parts) k.local k.kept)
-          [ inl first ↦ omega (arith, first) | inr early ↦ omega (arith, early.1) ] in
+      [ inl first ↦ omega (arith, first) | inr early ↦ omega (arith, early.1) ] in
       omega (arith, ints, low, same, there, at, late, from)
 
   pub onsets_made : s.rule ≡ option_map (rule_from p.start) p.rule → IfSome s.rule (IsEnd s.until) → AreOnsetsOf p s

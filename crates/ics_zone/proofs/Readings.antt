@@ -16,7 +16,7 @@ rule_offsets_are : (standard : Offset) (dst : Option Dst) (dt : DateTime) (local
 rule_offsets_are standard None dt local e = refl
 rule_offsets_are standard (Some d) dt local e =
     ap₂ (λ (year : ℤ) (n : ℤ). PosixRule.ambiguous_by standard d.offset
-        (PosixRule.rule_nanos year d.rule.start (pos 0), PosixRule.rule_nanos year d.rule.end (pos 0)) n)
+    (PosixRule.rule_nanos year d.rule.start (pos 0), PosixRule.rule_nanos year d.rule.end (pos 0)) n)
     (sym (year_of_nanos-civil dt (nanos_of_seconds local) e)) (sym e)
 
 pub offsets_are : (zone : TimeZone) (dt : DateTime) (local : ℤ) → IsSome (said_by zone) → civil_nanos dt ≡ nanos_of_seconds local

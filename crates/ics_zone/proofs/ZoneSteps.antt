@@ -179,7 +179,7 @@ module _ (zone : List Phase) (list : List Onsets) (all : AreOnsetsOfAll zone lis
       onset = before.onset;
       least = λ i s p l h. split i s p h l (λ early. before.least i s p early h)
           (λ of has same. not_later_by first s before.place i (let low = least s has in omega (arith, ints, low, more))
-              (let n = before.in_bound in omega (arith, n, same)));
+          (let n = before.in_bound in omega (arith, n, same)));
       is = before.is;
     }
 

@@ -24,7 +24,7 @@ returns c =
     let parts = picked_seconds zone dt local c.datetime.ensures in
     let second : c.as_second.result ≡ local -ℤ offset = rw (c.as_second.ensures, nanos, parts) (omega (arith, signed_arith)) in
     let same : moment_of zone local ≡ local -ℤ offset = ap (λ offsets. local -ℤ (compatible_offset offsets).seconds)
-        (offsets_are zone dt local c.requires.own c.datetime.ensures) in
+    (offsets_are zone dt local c.requires.own c.datetime.ensures) in
     record {
       picked = record {
         shown = dt;

@@ -17,7 +17,7 @@ loop-place-preserved-then-next-from c =
       in_bound = c.loop-place.invariant.in_bound;
       none = λ zone all. past_before zone c.args.onsets.now all c.loop-place.place c.index-onsets-place.result c.loop-place-test.true c.index-onsets-place.is
           (to_z w64 (of_z w64 c.args.seconds)) (to_z w64 (of_z w64 c.args.after)) c.max-from.result (to_z w64 c.loop-place.next-bits) from
-              (c.loop-place.invariant.none zone all)
+          (c.loop-place.invariant.none zone all)
           c.loop-place.invariant.later (omega (arith, ints, c.if-next-from.true, to_z-of_z w64 c.max-from.result small));
     }
 
@@ -40,7 +40,7 @@ loop-place-preserved c =
       in_bound = omega (arith, ints, bound, c.loop-place.invariant.in_bound);
       none = λ zone all. past_now zone c.args.onsets.now all c.loop-place.place c.index-onsets-place.result c.loop-place-test.true c.index-onsets-place.is
           (to_z w64 (of_z w64 c.args.seconds)) (to_z w64 (of_z w64 c.args.after)) c.max-from.result (to_z w64 c.loop-place.next-bits) from
-              (c.loop-place.invariant.none zone all)
+          (c.loop-place.invariant.none zone all)
           c.next-next.result bound (simp to_z-of_z at c.next-next.ensures.next);
     })
 
@@ -50,4 +50,4 @@ returns-clause-next c = λ zone all i s p h late early.
     let fits_too : SFits w64 c.args.after = c.ranges.after in
     let none = simp to_z-of_z at c.loop-place.invariant.none in
     none zone all i s p (let within = slice_get_within zone i p h.0 in let n = all.same_length in omega (arith, within, n, c.loop-place-test.false)) h late
-        early
+    early

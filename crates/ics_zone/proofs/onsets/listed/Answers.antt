@@ -11,8 +11,8 @@ loop-rdate-init c =
     let items = simp to_z-of_z at c.in_ok-push.ensures.items in
     let at = simp (to_z-of_z, c.number.ensures.value) at c.instant.ensures in
     subst (λ (list : List ℤ). IsListedTo (phase_of c.args.observance.now) [] list)
-        (sym (items ∙ ap (λ (old : List ℤ). old ++ c.instant.result ∷ []) c.new-listed.ensures.items))
-        (listed_first (phase_of c.args.observance.now) c.instant.result at)
+    (sym (items ∙ ap (λ (old : List ℤ). old ++ c.instant.result ∷ []) c.new-listed.ensures.items))
+    (listed_first (phase_of c.args.observance.now) c.instant.result at)
 
 pub loop-rdate-preserved : goal.loop-rdate-preserved
 loop-rdate-preserved c =
@@ -23,7 +23,7 @@ loop-rdate-preserved c =
     let items = simp to_z-of_z at c.in_ok-push-2.ensures.items in
     let at = simp (to_z-of_z, c.number-in-loop-rdate.ensures.value) at c.instant-in-loop-rdate.ensures in
     listed_more (phase_of c.args.observance.now) c.args.observance.now.rdates.items c.loop-rdate.rdate-index c.rdate-item.result _ _
-        c.instant-in-loop-rdate.result
+    c.instant-in-loop-rdate.result
     inside is at items c.loop-rdate.invariant
 
 pub returns : goal.returns

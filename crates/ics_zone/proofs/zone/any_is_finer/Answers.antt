@@ -13,5 +13,5 @@ any_phase (o ∷ observances) = ap (λ b. has_finer_rule (phase_of o) || b) (any
 pub returns : goal.returns
 returns c =
     any_from_yields_List (λ (o : Observance). has_finer_rule (phase_of o)) _ _ _ c.any.ensures.ran (YieldsList-from_slice c.args.observances.now cc)
-        (λ x b q k. search rules)
+    (λ x b q k. search rules)
     ∙ sym (any_phase c.args.observances.now)

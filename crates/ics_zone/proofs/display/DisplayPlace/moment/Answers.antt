@@ -10,4 +10,4 @@ returns-clause-picked c =
     let fits : FitsSigned w64 c.picked_moment.result = search rules in
     rw (to_z-of_z w64 c.picked_moment.result fits)
     (subst (λ zone. IsCompatible zone (local_seconds c.args.local.day c.args.local.second) c.picked_moment.result) c.zone.ensures.zone
-        c.picked_moment.ensures.picked)
+    c.picked_moment.ensures.picked)

@@ -16,4 +16,4 @@ returns-else-passed-eq0 c =
     let passed = rw c.deref.ensures.value at (simp to_z-of_z at c.passed-passed.ensures) in
     rw (to_z-of_z w64 c.index.result.now small)
     (last_listed c.args.self.now.listed.items c.requires.in_order c.args.moment _ passed (omega (arith, c.if-passed-eq0.false)) c.index.result.now
-        c.index.ensures)
+    c.index.ensures)

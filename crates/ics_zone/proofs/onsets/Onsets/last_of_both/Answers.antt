@@ -30,7 +30,7 @@ returns-in-Some-Some c =
     rw (to_z-of_z w64 c.max.result small)
     (last_of_both (Contains c.args.self.now.listed.items) (IsKeptAt c.args.self.now) c.args.moment c.in-Some-Some.listed c.in-Some-Some.kept c.max.result
     (simp to_z-of_z at c.in-Some-Some.ensures) (simp to_z-of_z at c.in-Some-Some.ensures')
-        (later_of c.in-Some-Some.listed c.in-Some-Some.kept c.max.result max))
+    (later_of c.in-Some-Some.listed c.in-Some-Some.kept c.max.result max))
 
 pub returns-in-Some-None : goal.returns-in-Some-None
 returns-in-Some-None c =
@@ -38,10 +38,10 @@ returns-in-Some-None c =
     let small : SFits w64 c.in-Some-None.listed = search rules in
     rw (to_z-of_z w64 c.in-Some-None.listed small)
     (last_of_first (Contains c.args.self.now.listed.items) (IsKeptAt c.args.self.now) c.args.moment c.in-Some-None.listed
-        (simp to_z-of_z at c.in-Some-None.ensures) (simp to_z-of_z at c.in-Some-None.ensures'))
+    (simp to_z-of_z at c.in-Some-None.ensures) (simp to_z-of_z at c.in-Some-None.ensures'))
 
 pub returns-in-None-default : goal.returns-in-None-default
 returns-in-None-default c =
     let fits : SFits w64 c.args.moment = c.ranges.moment in
     none_and c.args.self.now c.args.moment c.last_listed.result c.last_by_rule.result c.in-None-default.is-0 (simp to_z-of_z at c.last_listed.ensures)
-        (simp to_z-of_z at c.last_by_rule.ensures)
+    (simp to_z-of_z at c.last_by_rule.ensures)

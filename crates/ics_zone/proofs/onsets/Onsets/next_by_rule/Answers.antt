@@ -69,4 +69,4 @@ returns-in-None-clause-next c =
     } in
     rw (to_z-of_z w64 c.args.limit fits)
     (no_next_of_rule c.args.self.now c.in-Some.rule c.in-Some.is c.args.limit c.shown_to-end.result shown c.args.after c.shown_by-from.result past
-        c.in-None.ensures)
+    c.in-None.ensures)

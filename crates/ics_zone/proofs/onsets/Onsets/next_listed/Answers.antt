@@ -28,5 +28,5 @@ returns-clause-next c =
     let least = simp to_z-of_z at c.min.ensures.value in
     rw (to_z-of_z w64 c.min.result small) (λ t h l.
     let low = next_listed c.args.self.now.listed.items c.requires.sound.in_order c.args.after c.passed-passed.result passed c.index.result.now inside
-        c.index.ensures t h l in
+    c.index.ensures t h l in
     omega (arith, ints, clamps, least, low))

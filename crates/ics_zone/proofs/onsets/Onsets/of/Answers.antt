@@ -12,4 +12,4 @@ returns c =
     let o = c.args.observance.now in
     rw (to_z-of_z w32 c.args.observance.now.offset_from from, to_z-of_z w32 c.args.observance.now.offset_to to, to_z-of_z w64 c.end_of-until.result until)
     (onsets_made (phase_of o) (record { start_in = o.start_in; from_in = o.from_in; to_in = o.to_in }) _ refl refl c.in_ok-listed.ensures
-        c.rule_of-rule.ensures c.end_of-until.ensures)
+    c.rule_of-rule.ensures c.end_of-until.ensures)

@@ -11,5 +11,10 @@ invariant_of-result c =
     let some : 0 < length (phases_of c.args.observances.items) = omega (arith, there, length-map c.args.observances.items phase_of) in
     let asked = rw c.deref-2.ensures.value at c.in-Ok.ensures in
     let have = rw c.deref-3.ensures.value at c.in-Ok-offsets_of.ensures in
-    record { some = some; asked = asked; all_offsets = offsets_found (phases_of c.args.observances.items) (zone_facts c.args.observances.items) some
-        c.in-Ok-offsets_of.offsets.items have; spans = λ k d h. absurd (omega (arith, h)) }
+    record {
+      some = some;
+      asked = asked;
+      all_offsets = offsets_found (phases_of c.args.observances.items) (zone_facts c.args.observances.items) some
+          c.in-Ok-offsets_of.offsets.items have;
+      spans = λ k d h. absurd (omega (arith, h));
+    }

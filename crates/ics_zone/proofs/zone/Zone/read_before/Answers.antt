@@ -8,7 +8,7 @@ use Rattle.ics_zone.proofs.zone.Zone.read_before.Goals as goal
 pub returns : goal.returns
 returns c =
     let at : to_z w64 (of_z w64 (to_z w64 (of_z w64 c.args.past) -ℤ pos 1)) ≡ c.args.past -ℤ pos 1 = omega
-        (arith, ints, c.requires.past.0, c.requires.past.1) in
+    (arith, ints, c.requires.past.0, c.requires.past.1) in
     let short = zone_short c.args.self.now (c.args.past -ℤ pos 1) in
     let before : c.in_force.result ≡ zone_offset (phases_of c.args.self.now) (c.args.past -ℤ pos 1) = search (rules, at, c.in_force.ensures.value) in
     omega (arith, ints, c.from.ensures, before, short.0, short.1, c.requires.local.0, c.requires.local.1)
