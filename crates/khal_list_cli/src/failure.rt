@@ -35,8 +35,8 @@ impl Failure {
         }
     }
 
-    /// Says it on standard error, where that takes it, and answers the exit status. Help goes to
-    /// standard output, with status 0.
+    /// Reports it on standard error and returns the exit status. Help goes to standard output, with
+    /// status 0.
     pub fn report(&self, rt: &(impl Print + Eprint)) -> u8 {
         match self {
             Failure::Request(RequestFault::Usage { text, help }) => usage(rt, text.as_str(), *help),

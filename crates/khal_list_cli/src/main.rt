@@ -24,7 +24,7 @@ fn own_words<R: Env + AllocGlobal>(rt: &R) -> Result<Vec<String>, Failure> {
     words.collect(rt.alloc()).map_err(|_| Failure::Memory)
 }
 
-/// The request of the words behind the program's name.
+/// The request of the words after the program's name.
 fn request<R: Env + AllocGlobal>(rt: &R, now: i64) -> Result<Request, Failure> {
     let words = own_words(rt)?;
     let mut texts = Vec::new(rt.alloc());
@@ -34,8 +34,8 @@ fn request<R: Env + AllocGlobal>(rt: &R, now: i64) -> Result<Request, Failure> {
     Request::of(rt.alloc(), texts.as_slice(), now).map_err(Failure::Request)
 }
 
-/// Lists a folder to the standard streams. The listing is written in large pieces; where it may end
-/// with the line that says where it goes on, entry by entry, so that the line stands behind it.
+/// Lists a folder to the standard streams. The listing is written in large pieces, but with a limit
+/// entry by entry, so that the line that says where it continues comes after it.
 fn list(rt: HostRuntime) -> Result<Status, Failure> {
     let now = clock_now(&rt)?;
     let request = request(&rt, now)?;
