@@ -1,11 +1,13 @@
 //! A stream of the program as a sink.
-ghost use Rattle.std.specs.Prelude.{◌≡◌, IfErr, OnOk, OnErr};
+ghost use Rattle.std.specs.Prelude.{◌≡◌, [], IfErr, OnOk, OnErr};
+ghost use Rattle.std.specs.Io.Buffered.{writer_buffer};
 ghost use Rattle.std.specs.Io.KnownBytes.{Keeps};
 ghost use Rattle.khal_list.specs.Growth.{risen};
 
 use crate::fault::{RunFault, SinkFault};
 use crate::sink::Sink;
-use std::io::Write;
+use std::alloc::Global;
+use std::io::{BufWriter, Write};
 
 /// A writer as a sink. It reports the bytes that the writer holds, if the writer reports them.
 #[derive(Drop)]
@@ -40,13 +42,17 @@ impl<W: Write + Drop> Stream<W> {
     {
         self.failures = self.failures.saturating_add(1);
     }
+}
 
-    /// Flushes the writer. If that fails, it is WriteFault and counts as a failure.
+impl<W: Write + Drop> Stream<BufWriter<W, Global>> {
+    /// Writes out what waits in the buffer. If that fails, it is WriteFault and counts as a failure.
     pub fn finish(&mut self) -> Result<(), RunFault>
-        ensures taken { Keeps (⟦<Stream<W> as Sink>⟧.taken self.old) (⟦<Stream<W> as Sink>⟧.taken self.new) }
-        ensures ok { OnOk result (⟦<Stream<W> as Sink>⟧.failed self.new ≡ ⟦<Stream<W> as Sink>⟧.failed self.old) }
+        ensures written { OnOk result (writer_buffer self.new.writer ≡ []) }
+        ensures taken { Keeps (⟦<Stream<BufWriter<W, Global>> as Sink>⟧.taken self.old) (⟦<Stream<BufWriter<W, Global>> as Sink>⟧.taken self.new) }
+        ensures ok { OnOk result (⟦<Stream<BufWriter<W, Global>> as Sink>⟧.failed self.new ≡ ⟦<Stream<BufWriter<W, Global>> as Sink>⟧.failed self.old) }
         ensures fault { IfErr result (λ fault. fault ≡ RunFault.WriteFault) }
-        ensures counted { OnErr result (⟦<Stream<W> as Sink>⟧.failed self.new ≡ risen (⟦<Stream<W> as Sink>⟧.failed self.old)) }
+        ensures counted { OnErr result (⟦<Stream<BufWriter<W, Global>> as Sink>⟧.failed self.new
+            ≡ risen (⟦<Stream<BufWriter<W, Global>> as Sink>⟧.failed self.old)) }
     {
         match self.writer.flush() {
             Ok(()) => Ok(()),

@@ -5,10 +5,14 @@ mod failure;
 
 use failure::Failure;
 use khal_list::{FolderSource, Request, Status, Stream, run};
+use std::alloc::Global;
 use std::env;
-use std::io::{BufWriter, Write};
+use std::io::{BufWriter, Stdout};
 use std::process::ExitCode;
 use std::rt::{Clock, Env};
+
+/// How many bytes of a listing are written at a time.
+const PIECE: usize = 8_192;
 
 /// The instant that the clock shows.
 fn clock_now(clock: &impl Clock) -> Result<i64, Failure> {
@@ -34,30 +38,22 @@ fn request<R: Env + AllocGlobal>(rt: &R, now: i64) -> Result<Request, Failure> {
     Request::of(rt.alloc(), texts.as_slice(), now).map_err(Failure::Request)
 }
 
-/// Lists a folder to the standard streams. The listing is written in large pieces, but with a limit
-/// entry by entry, so that the line that says where it continues comes after it.
+/// Standard output. A listing is written in large pieces, but with a limit entry by entry, so that
+/// the line that says where it continues comes after it.
+fn output(rt: HostRuntime, request: &Request) -> Result<BufWriter<Stdout, Global>, Failure> {
+    let piece = if request.limit.is_some() { 0 } else { PIECE };
+    BufWriter::with_capacity(rt.alloc(), piece, rt.stdout()).map_err(|_| Failure::Memory)
+}
+
+/// Lists a folder to the standard streams.
 fn list(rt: HostRuntime) -> Result<Status, Failure> {
     let now = clock_now(&rt)?;
     let request = request(&rt, now)?;
     let folder = String::from_str(rt.alloc(), request.folder())?;
-    let source = FolderSource::open(rt, folder).map_err(Failure::of_folder)?;
-    if request.limit.is_some() {
-        return list_to(rt, source, &request, rt.stdout());
-    }
-    let buffered = BufWriter::new(rt.alloc(), rt.stdout()).map_err(|_| Failure::Memory)?;
-    list_to(rt, source, &request, buffered)
-}
-
-/// Lists a folder to a writer, and says on standard error what is to be said.
-fn list_to<W: Write + Drop>(
-    rt: HostRuntime,
-    mut source: FolderSource<HostRuntime>,
-    request: &Request,
-    writer: W,
-) -> Result<Status, Failure> {
-    let mut out = Stream::new(writer);
+    let mut source = FolderSource::open(rt, folder).map_err(Failure::of_folder)?;
+    let mut out = Stream::new(output(rt, &request)?);
     let mut err = Stream::new(rt.stderr());
-    let ran = run(rt.alloc(), &mut source, request, &mut out, &mut err);
+    let ran = run(rt.alloc(), &mut source, &request, &mut out, &mut err);
     let finished = out.finish();
     let status = ran?;
     finished?;
