@@ -3,6 +3,7 @@ pub mod AfterLemmas
 pub mod AgendaLemmas
 pub mod BeginsLemmas
 pub mod DayLemmas
+pub mod DayTokenLemmas
 mod Examples
 pub mod ExclusionLemmas
 pub mod FilterLemmas

@@ -20,7 +20,7 @@ no-point-in : (ds : List ℕ) → AllDigits 10 ds → AllByRecursion (λ c. c �
 no-point-in [] h = tt
 no-point-in (c ∷ cs) h = (not-point c h.0, no-point-in cs h.1)
 
-no-point-list : (z : ℤ) → FitsSigned w64 z → AllByRecursion (λ c. c ≢ 46) (signed_decimal z)
+pub no-point-list : (z : ℤ) → FitsSigned w64 z → AllByRecursion (λ c. c ≢ 46) (signed_decimal z)
 no-point-list (pos n) f = no-point-in (decimal n) (decimal_is_IsNumeral n (omega (arith, f.sfits))).0.1
 no-point-list (negsuc n) f = (λ e. omega arith, no-point-in (decimal (suc n)) (decimal_is_IsNumeral (suc n) (omega (arith, f.sfits))).0.1)
 
@@ -28,7 +28,7 @@ pub no-point : (z : ℤ) → FitsSigned w64 z → (i : ℕ) → i < length (sign
 no-point z f i l = All-from_recursion (λ c. c ≢ 46) (signed_decimal z) (no-point-list z f) i 0 l
 
 -- the first point parts a text in one way
-one-cut : (xs ys as' bs : List ℕ) → AllByRecursion (λ c. c ≢ 46) xs → AllByRecursion (λ c. c ≢ 46) ys → xs ++ (46 ∷ as') ≡ ys ++ (46 ∷ bs) → (xs ≡ ys) × (as' ≡ bs)
+pub one-cut : (xs ys as' bs : List ℕ) → AllByRecursion (λ c. c ≢ 46) xs → AllByRecursion (λ c. c ≢ 46) ys → xs ++ (46 ∷ as') ≡ ys ++ (46 ∷ bs) → (xs ≡ ys) × (as' ≡ bs)
 one-cut [] [] as' bs h k e = (refl, cc)
 one-cut [] (y ∷ ys) as' bs h k e = let same : y ≡ 46 = cc in absurd (k.0 same)
 one-cut (x ∷ xs) [] as' bs h k e = let same : x ≡ 46 = cc in absurd (h.0 same)

@@ -2,6 +2,8 @@ pub mod After
 pub mod Chosen
 pub mod Clocks
 pub mod Contents
+pub mod DayKeys
+pub mod DayTokens
 pub mod Entry
 pub mod EntryLaws
 pub mod EventLaws

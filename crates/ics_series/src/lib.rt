@@ -3,6 +3,9 @@
 
 mod agenda;
 mod chosen;
+mod day_key;
+mod day_laws;
+mod day_token;
 mod exclusion;
 mod feed;
 mod finish;
@@ -37,6 +40,9 @@ mod window;
 mod zones;
 
 pub use agenda::Agenda;
+pub use day_key::DayKey;
+pub use day_laws::{day_keys_as_listed, one_day_spelling};
+pub use day_token::DayToken;
 pub use feed::{Coming, Feed};
 pub use folder::Folder;
 pub use key::Key;

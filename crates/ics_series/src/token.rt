@@ -109,7 +109,7 @@ fn body(text: &str) -> Option<&str>
 }
 
 // The number before the first point, and what stands behind that point.
-fn field(text: &str) -> Option<(Moment, &str)>
+pub(crate) fn field(text: &str) -> Option<(Moment, &str)>
     ensures { (number : ℤ) (rest : List ℕ) → FitsSigned w64 number → text.now ≡ signed_decimal number ++ (46 ∷ rest)
         → IsSomeAnd result (λ parts. (parts.0 ≡ number) × (parts.1.now ≡ rest)) }
 {

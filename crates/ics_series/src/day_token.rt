@@ -1,0 +1,69 @@
+//! Keys under days as texts, from which a listing under each day goes on.
+ghost use Rattle.std.specs.Prelude.{◌≡◌, ◌++◌, ◌∷◌, ℕ, ℤ, List, FitsSigned, IfOk, IsErrOf, IsSomeAnd, codes};
+ghost use Rattle.std.specs.Fmt.{signed_decimal};
+ghost use Rattle.std.specs.Int.{w32};
+ghost use Rattle.std.specs.String.{string_bytes};
+ghost use Rattle.ics_series.specs.DayTokens.{day_spelling, IsDayKey, IsDayToken};
+ghost use Rattle.ics_series.specs.DayKeys.{day_key_rank};
+
+use crate::day_key::DayKey;
+use crate::token::{Token, TokenFault, field};
+use std::alloc::{AllocError, Global};
+
+/// The text of a key under a day: `K2.day.start.recurrence.uid`, the day and the two moments in decimal
+/// and the bytes of the UID in lower-case hexadecimal.
+pub struct DayToken;
+
+impl DayToken {
+    /// The token of a key under a day.
+    pub fn write(alloc: Global, key: &DayKey) -> Result<String, AllocError>
+        ensures { IfOk result (λ text. string_bytes text ≡ day_spelling (day_key_rank key.now)) }
+    {
+        let uid = hex::encode(alloc, key.key.uid.as_slice())?;
+        let day = key.day;
+        let start = key.key.start;
+        let recurrence = key.key.recurrence;
+        format!(in alloc; "K2.{day}.{start}.{recurrence}.{uid}")
+    }
+
+    /// The key of a token. BadToken where the text is the token of no key under a day: a spare zero,
+    /// `-0` or an upper-case digit makes it none.
+    pub fn read(alloc: Global, text: &str) -> Result<DayKey, TokenFault>
+        ensures ok { IfOk result (λ key. text.now ≡ day_spelling (day_key_rank key)) }
+        ensures key { IfOk result (λ key. IsDayKey (day_key_rank key)) }
+        ensures bad { IsErrOf result TokenFault.BadToken → ¬ IsDayToken text.now }
+    {
+        let Some((day, rest)) = split(text) else {
+            return Err(TokenFault::BadToken);
+        };
+        // the rest is that of the key's own token
+        let token = format!(in alloc; "K1.{rest}")?;
+        let key = Token::read(alloc, token.as_str())?;
+        let key = DayKey { day, key };
+        // what was read may be spelled in other ways, of which the key's own alone is a token
+        let spelled = DayToken::write(alloc, &key)?;
+        if spelled.as_str() == text {
+            Ok(key)
+        } else {
+            Err(TokenFault::BadToken)
+        }
+    }
+}
+
+// The day of a token's text, and what stands behind it.
+fn split(text: &str) -> Option<(i32, &str)>
+    ensures { (day : ℤ) (rest : List ℕ) → FitsSigned w32 day → text.now ≡ codes "K2." ++ (signed_decimal day ++ (46 ∷ rest))
+        → IsSomeAnd result (λ parts. (parts.0 ≡ day) × (parts.1.now ≡ rest)) }
+{
+    let (day, rest) = field(body(text)?)?;
+    let day = i32::try_from(day).ok()?;
+    Some((day, rest))
+}
+
+// What stands behind the mark of the form.
+fn body(text: &str) -> Option<&str>
+    ensures { (rest : List ℕ) → text.now ≡ codes "K2." ++ rest → IsSomeAnd result (λ part. part.now ≡ rest) }
+{
+    let (form, rest) = text.split_once('.')?;
+    if form == "K2" { Some(rest) } else { None }
+}
