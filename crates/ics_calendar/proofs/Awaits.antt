@@ -33,13 +33,13 @@ use Rattle.ics_calendar.specs.Event.{seconds_of, is_zoned}
 use Rattle.ics_calendar.specs.GatheredSound.{IsSoundInstant, IsSoundLater}
 use Rattle.ics_calendar.specs.Gathering.{waits_of, events_of_end}
 use Rattle.ics_calendar.specs.Laters.{zone_used, are_of_one_zone}
-use Rattle.ics_calendar.specs.Lines.{or_first, used_zone, used_in, listed_zone, instant_on, instant_in, both_compared, ends_in, begin_in, opened}
+use Rattle.ics_calendar.specs.Lines.{or_first, used_zone, used_in, listed_zone, instant_on, instant_in, both_compared, ends_in, opened}
 use Rattle.ics_calendar.specs.Ready.{EachZone, end_of}
 use Rattle.ics_calendar.specs.Times.{dated_in, given_length}
 use Rattle.ics_calendar.specs.Sound.{IsSoundStamp}
 use Rattle.ics_calendar.specs.Summaries.{fresh}
 use Rattle.ics_calendar.specs.Values.{dated_of, is_out}
-use Rattle.ics_calendar.proofs.Judged.{event_note, event_later, summary_note, summary_later, later_end, later_in, closed, behind, ends, ended_as, is_begin_name, is_end_name, behind-is, later-is}
+use Rattle.ics_calendar.proofs.Judged.{event_note, event_later, summary_note, summary_later, later_end, later_in, joined, closed, behind, ends, ended_as, is_begin_name, is_end_name, behind-is, later-is}
 use Rattle.ics_calendar.proofs.Listed.{some-weaker}
 use Rattle.ics_calendar.proofs.Sound.{IsSoundAt}
 
@@ -126,12 +126,6 @@ noted-awaited waits k n v (summary.Zone had) h = tt
 noted-awaited waits k n v (summary.Observance had) h = tt
 noted-awaited waits k n v summary.Nothing h = tt
 
-begun-awaited : (waits : List Later) (k : ℕ) (c : Component) (s : Summary) → IsAwaitedIn waits k s → IsAwaitedIn waits k (begin_in c s)
-begun-awaited waits k c (summary.Event had) h = h
-begun-awaited waits k c (summary.Zone had) h = tt
-begun-awaited waits k c (summary.Observance had) h = tt
-begun-awaited waits k c summary.Nothing h = tt
-
 fresh-awaited : (waits : List Later) (calendar : ℕ) (q : Place) → IsAwaitedIn waits calendar (fresh q)
 fresh-awaited waits k place.Event = record {
   start = tt;
@@ -142,9 +136,16 @@ fresh-awaited waits k place.Event = record {
 }
 fresh-awaited waits k _ = tt
 
+joined-awaited : (waits : List Later) (calendar : ℕ) (s t : Summary) → IsAwaitedIn waits calendar t → IsAwaitedIn waits calendar (joined s t)
+joined-awaited waits k (summary.Observance had) (summary.Event e) h = h
+joined-awaited waits k (summary.Observance had) (summary.Zone e) h = tt
+joined-awaited waits k (summary.Observance had) (summary.Observance e) h = tt
+joined-awaited waits k (summary.Observance had) summary.Nothing h = tt
+joined-awaited waits k _ t h = h
+
 closed-awaited : (waits : List Later) (f : Frame) (fs : List Frame) → AreAwaited waits (f ∷ fs) → AreAwaited waits (closed (f ∷ fs))
 closed-awaited waits f [] h = h
-closed-awaited waits f (g ∷ gs) h = h.1
+closed-awaited waits f (g ∷ gs) h = (joined-awaited waits g.calendar f.summary g.summary h.1.0, h.1.1)
 
 -- a line keeps it
 pub awaited-behind : (waits : List Later) (number : ℕ) (n : Name) (v : Parts) (f : Frame) (fs : List Frame) → AreAwaited waits (f ∷ fs) → AreAwaited (waits ++ one (later_in n v f)) (behind number n v (f ∷ fs))
@@ -155,7 +156,7 @@ awaited-behind waits number n v f fs h = rw (later-is n v f, behind-is number n 
 
     by_tests : (b e : Bool) → AreAwaited (waits ++ one (cond b None (cond e (later_end f.calendar f.summary) (summary_later f.calendar n v f.summary))))
         (cond b (opened number c (f ∷ fs)) (cond e (closed (f ∷ fs)) (record f { summary = summary_note n v f.summary } ∷ fs)))
-    by_tests true e = (fresh-awaited (waits ++ []) _ (place_in f.place c), (begun-awaited (waits ++ []) f.calendar c f.summary (awaited-more waits [] f.calendar f.summary h.0), are-awaited-more waits [] fs h.1))
+    by_tests true e = (fresh-awaited (waits ++ []) _ (place_in f.place c), are-awaited-more waits [] (f ∷ fs) h)
     by_tests false true = closed-awaited (waits ++ one (later_end f.calendar f.summary)) f fs (are-awaited-more waits (one (later_end f.calendar f.summary)) (f ∷ fs) h)
     by_tests false false = (noted-awaited waits f.calendar n v f.summary h.0, are-awaited-more waits (one (summary_later f.calendar n v f.summary)) fs h.1)
 
@@ -181,7 +182,7 @@ pub ended-awaited : (waits : List Later) (n : Name) (v : Parts) (f : Frame) (fs 
 ended-awaited waits name.End v f [] h = All-nil (EachZone (Contains (waits ++ one (later_end f.calendar f.summary))))
 ended-awaited waits name.End v f (g ∷ gs) h = by_summary f.summary h.0
   where
-    by_summary : (s : Summary) → IsAwaitedIn waits f.calendar s → All (EachZone (Contains (waits ++ one (later_end f.calendar s)))) (events_of_end (ended_as f g.begun s))
+    by_summary : (s : Summary) → IsAwaitedIn waits f.calendar s → All (EachZone (Contains (waits ++ one (later_end f.calendar s)))) (events_of_end (ended_as f.calendar s))
     by_summary (summary.Event had) h =
         let k : ℕ = f.calendar in
         let late : Option Later = ends_in k had.start had.end in

@@ -1,5 +1,5 @@
 -- What ends on the lines, in the order of the lines.
-use Rattle.std.proofs.Common.{◌≡◌, ℕ, Bool, true, false, ◌&&◌, List, [], ◌∷◌, drop, map, refl, sym, ap, ◌∙◌, cond}
+use Rattle.std.proofs.Common.{◌≡◌, ℕ, Bool, true, false, ◌&&◌, List, [], ◌∷◌, map, refl, sym, ap, ◌∙◌, cond}
 use Rattle.std.specs.Prelude.{codes, not}
 use Rattle.std.specs.Str.{bytes_eq}
 use Rattle.ics_text.specs.Bytes.{upper}
@@ -12,75 +12,54 @@ use Rattle.ics_calendar.specs.declared.frame.Frame.{Frame}
 use Rattle.ics_calendar.specs.declared.gathered.Ended.{Ended}
 use Rattle.ics_calendar.specs.declared.gathered.Ended.TheVariants as ended
 use Rattle.ics_calendar.specs.declared.gathered.EndedEvent.{EndedEvent}
-use Rattle.ics_calendar.specs.declared.gathered.EndedObservance.{EndedObservance}
 use Rattle.ics_calendar.specs.declared.gathered.EndedZone.{EndedZone}
-use Rattle.ics_calendar.specs.Components.{component_of, is_event_place, is_zone_place, is_observance_place}
+use Rattle.ics_calendar.specs.Components.{component_of, is_event_place, is_zone_place}
 use Rattle.ics_calendar.specs.Names.{name_of}
-use Rattle.ics_calendar.specs.Placed.{Placed, Open, place_of, innermost, calendar_of, is_end, is_closing}
+use Rattle.ics_calendar.specs.Placed.{Placed, Open, place_of, calendar_of, is_end, is_closing}
 use Rattle.ics_calendar.specs.Files.{begins_event}
-use Rattle.ics_calendar.specs.Zones.{begins_zone, begins_phase}
+use Rattle.ics_calendar.specs.Zones.{begins_zone}
 use Rattle.ics_calendar.specs.Collecting.{collected_of, event_ended}
-use Rattle.ics_calendar.specs.Summaries.{zone_of, observance_of, zone_ended, observance_ended}
-use Rattle.ics_calendar.specs.Gathering.{zones_of_end, observances_of_end, events_of_end}
+use Rattle.ics_calendar.specs.Summaries.{zone_of, zone_ended}
+use Rattle.ics_calendar.specs.Gathering.{zones_of_end, events_of_end}
 use Rattle.ics_calendar.specs.Pass.{bottom}
 use Rattle.ics_calendar.proofs.Judged.{ended_in, ends, ends-is, ends-lowest}
 use Rattle.ics_calendar.proofs.NameLemmas.{tells}
 use Rattle.ics_calendar.proofs.Rows.{Gathered, frame_at}
-use Rattle.ics_calendar.proofs.Table.{gathered, frame_of}
+use Rattle.ics_calendar.proofs.Table.{parts, gathered, frame_of}
 use Rattle.ics_calendar.proofs.Bundles.{Bundle, Keeps, top_lines}
 use Rattle.ics_calendar.proofs.Order.{Sort, ended_as}
 use Rattle.ics_calendar.proofs.Frames.{frames_of, end-is, with}
 
--- THE COMPONENTS that are gathered: events, time zones, and observances of time zones.
+-- THE COMPONENTS that are gathered: events and time zones, in a file of all these lines.
 abbrev pub events : Sort EndedEvent
 events = record { stands_at = is_event_place; begins = begins_event; by = λ path own. event_ended (calendar_of path) (collected_of own) }
 
-abbrev pub zones : Sort EndedZone
-zones = record {
-  stands_at = is_zone_place;
-  begins = begins_zone;
-  by = λ path own. zone_ended (innermost path) (calendar_of path) (zone_of own);
-}
-
-abbrev pub observances : Sort EndedObservance
-observances = record { stands_at = is_observance_place; begins = begins_phase; by = λ path own. observance_ended (innermost (drop 1 path)) (observance_of own) }
+abbrev pub zones : List Placed → Sort EndedZone
+zones whole = record { stands_at = is_zone_place; begins = begins_zone; by = λ path own. zone_ended (calendar_of path) (zone_of (parts whole own) own) }
 
 -- What ends is picked as its sort says: `t` is whether the innermost component ends.
-pub record Picks {X : Type 0} (s : Sort X) (pick : Ended → List X) : Type 0 where
+pub record Picks {X : Type 0} (whole : List Placed) (s : Sort X) (pick : Ended → List X) : Type 0 where
   pub nothing : pick ended.Nothing ≡ []
   pub inside : (t : Bool) (c : Open) (cs : List Open) (ls : List Placed) →
-      pick (cond t (ended_in (innermost cs) (frame_of (c ∷ cs) ls)) ended.Nothing) ≡ cond (t && s.stands_at (place_of (c ∷ cs))) (s.by (c ∷ cs) ls ∷ []) []
+      pick (cond t (ended_in (frame_of whole (c ∷ cs) ls)) ended.Nothing) ≡ cond (t && s.stands_at (place_of (c ∷ cs))) (s.by (c ∷ cs) ls ∷ []) []
 
-pub events-picked : Picks events events_of_end
-events-picked = record { nothing = refl; inside = λ t c cs ls. at t (component_of c.name) (place_of (c ∷ cs)) (innermost cs) (gathered (c ∷ cs) ls) }
+pub events-picked : (whole : List Placed) → Picks whole events events_of_end
+events-picked whole = record { nothing = refl; inside = λ t c cs ls. at t (component_of c.name) (place_of (c ∷ cs)) (gathered whole (c ∷ cs) ls) }
   where
-    at : (t : Bool) (k : Component) (q : Place) (outer : ℕ) (g : Gathered) →
-        events_of_end (cond t (ended_in outer (frame_at k q g)) ended.Nothing) ≡ cond (t && is_event_place q) (event_ended g.calendar g.event ∷ []) []
-    at true k place.Event outer g = refl
-    at true k _ outer g = refl
-    at false k place.Event outer g = refl
-    at false k _ outer g = refl
+    at : (t : Bool) (k : Component) (q : Place) (g : Gathered) → events_of_end (cond t (ended_in (frame_at k q g)) ended.Nothing) ≡ cond (t && is_event_place q) (event_ended g.calendar g.event ∷ []) []
+    at true k place.Event g = refl
+    at true k _ g = refl
+    at false k place.Event g = refl
+    at false k _ g = refl
 
-pub zones-picked : Picks zones zones_of_end
-zones-picked = record { nothing = refl; inside = λ t c cs ls. at t (component_of c.name) (place_of (c ∷ cs)) (innermost cs) (gathered (c ∷ cs) ls) }
+pub zones-picked : (whole : List Placed) → Picks whole (zones whole) zones_of_end
+zones-picked whole = record { nothing = refl; inside = λ t c cs ls. at t (component_of c.name) (place_of (c ∷ cs)) (gathered whole (c ∷ cs) ls) }
   where
-    at : (t : Bool) (k : Component) (q : Place) (outer : ℕ) (g : Gathered) →
-        zones_of_end (cond t (ended_in outer (frame_at k q g)) ended.Nothing)
-        ≡ cond (t && is_zone_place q) (zone_ended g.begun g.calendar g.zone ∷ []) []
-    at true k place.Zone outer g = refl
-    at true k _ outer g = refl
-    at false k place.Zone outer g = refl
-    at false k _ outer g = refl
-
-pub observances-picked : Picks observances observances_of_end
-observances-picked = record { nothing = refl; inside = λ t c cs ls. at t (component_of c.name) (place_of (c ∷ cs)) (innermost cs) (gathered (c ∷ cs) ls) }
-  where
-    at : (t : Bool) (k : Component) (q : Place) (outer : ℕ) (g : Gathered) →
-        observances_of_end (cond t (ended_in outer (frame_at k q g)) ended.Nothing) ≡ cond (t && is_observance_place q) (observance_ended outer g.observance ∷ []) []
-    at true k place.Observance outer g = refl
-    at true k _ outer g = refl
-    at false k place.Observance outer g = refl
-    at false k _ outer g = refl
+    at : (t : Bool) (k : Component) (q : Place) (g : Gathered) → zones_of_end (cond t (ended_in (frame_at k q g)) ended.Nothing) ≡ cond (t && is_zone_place q) (zone_ended g.calendar g.zone ∷ []) []
+    at true k place.Zone g = refl
+    at true k _ g = refl
+    at false k place.Zone g = refl
+    at false k _ g = refl
 
 -- WHAT ENDS on a line.
 and-false : (b : Bool) → (b && false) ≡ false
@@ -96,25 +75,23 @@ is-closing false c h = refl
 abbrev pub IsMatched : Placed → Type 0
 IsMatched l = (is_end l && not (is_closing l)) ≡ false
 
-module _ {X : Type 0} (s : Sort X) (pick : Ended → List X) (picks : Picks s pick) where
-  picked-inside : (line : Line) (c : Open) (cs : List Open) (v : Parts) (ls : List Placed) (g : Frame) (gs : List Frame) → g.begun ≡ innermost cs → IsMatched (with line (c ∷ cs) v) →
-      pick (ends (name_of (map upper v.name)) (frame_of (c ∷ cs) ls ∷ g ∷ gs)) ≡ ended_as s ls (with line (c ∷ cs) v)
-  picked-inside line c cs v ls g gs e m =
+module _ {X : Type 0} (whole : List Placed) (s : Sort X) (pick : Ended → List X) (picks : Picks whole s pick) where
+  picked-inside : (line : Line) (c : Open) (cs : List Open) (v : Parts) (ls : List Placed) (g : Frame) (gs : List Frame) → IsMatched (with line (c ∷ cs) v) →
+      pick (ends (name_of (map upper v.name)) (frame_of whole (c ∷ cs) ls ∷ g ∷ gs)) ≡ ended_as s ls (with line (c ∷ cs) v)
+  picked-inside line c cs v ls g gs m =
       let u : List ℕ = map upper v.name in
-      let f : Frame = frame_of (c ∷ cs) ls in
+      let f : Frame = frame_of whole (c ∷ cs) ls in
       let w : List ℕ = map upper v.value in
       ap pick (ends-is (name_of u) f g gs)
-      ∙ ap (λ t. pick (cond t (ended_in g.begun f) ended.Nothing)) (sym (end-is u (name_of u) (tells u)) ∙ is-closing (bytes_eq u (codes "END")) (bytes_eq w c.name) m)
-      ∙ ap (λ o. pick (cond (bytes_eq u (codes "END") && bytes_eq w c.name) (ended_in o f) ended.Nothing)) e
+      ∙ ap (λ t. pick (cond t (ended_in f) ended.Nothing)) (sym (end-is u (name_of u) (tells u)) ∙ is-closing (bytes_eq u (codes "END")) (bytes_eq w c.name) m)
       ∙ picks.inside (bytes_eq u (codes "END") && bytes_eq w c.name) c cs ls
 
-  pub picked-same : (before : List Placed) (line : Line) (path : List Open) (v : Parts) (bundles : List Bundle) → Keeps before path bundles → IsMatched (with line path v) →
-      pick (ends (name_of (map upper v.name)) (frames_of path bundles)) ≡ ended_as s (top_lines bundles) (with line path v)
+  pub picked-same : (before : List Placed) (line : Line) (path : List Open) (v : Parts) (bundles : List Bundle) → Keeps before [] path bundles → IsMatched (with line path v) →
+      pick (ends (name_of (map upper v.name)) (frames_of whole path bundles)) ≡ ended_as s (top_lines bundles) (with line path v)
   picked-same before line [] v bundles k m =
       ap pick (ends-lowest (name_of (map upper v.name)) bottom) ∙ picks.nothing
       ∙ sym (ap (λ t. cond (t && s.stands_at place.Outside) (s.by [] (top_lines bundles) ∷ []) []) (and-false (bytes_eq (map upper v.name) (codes "END"))))
   picked-same before line (c ∷ cs) v [] k m = absurd k
-  picked-same before line (c ∷ []) v (b ∷ []) k m = absurd k.3
-  picked-same before line (c ∷ []) v (b ∷ d ∷ ds) k m = picked-inside line c [] v b.lines bottom [] refl m
-  picked-same before line (c ∷ e ∷ es) v (b ∷ []) k m = absurd k.3
-  picked-same before line (c ∷ e ∷ es) v (b ∷ d ∷ ds) k m = picked-inside line c (e ∷ es) v b.lines (frame_of (e ∷ es) d.lines) (frames_of es ds) refl m
+  picked-same before line (c ∷ []) v (b ∷ bs) k m = picked-inside line c [] v b.lines bottom [] m
+  picked-same before line (c ∷ e ∷ es) v (b ∷ []) k m = absurd k.1
+  picked-same before line (c ∷ e ∷ es) v (b ∷ d ∷ ds) k m = picked-inside line c (e ∷ es) v b.lines (frame_of whole (e ∷ es) d.lines) (frames_of whole es ds) m

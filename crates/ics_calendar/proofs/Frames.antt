@@ -1,7 +1,8 @@
 -- The components that are open, as the pass holds them, stand for the path before a line and the lines beside it.
-use Rattle.std.proofs.Common.{◌≡◌, ℕ, ◌+◌, Bool, true, false, List, [], ◌∷◌, drop, map, refl, sym, ap, ◌∙◌, arith, cond, Some}
+use Rattle.std.proofs.Common.{◌≡◌, ℕ, ◌+◌, Bool, true, false, List, [], ◌∷◌, ◌++◌, drop, map, refl, sym, ap, subst, ◌∙◌, arith, cond, Some}
 use Rattle.std.specs.Prelude.{length, codes}
 use Rattle.std.specs.Str.{bytes_eq}
+use Rattle.std.proofs.lemmas.List.{append-nil}
 use Rattle.ics_text.specs.Bytes.{upper}
 use Rattle.ics_text.specs.Unfolded.{Line}
 use Rattle.ics_text.specs.Contents.{Parts}
@@ -13,34 +14,25 @@ use Rattle.ics_calendar.specs.declared.name.Name.{Name}
 use Rattle.ics_calendar.specs.declared.name.Name.TheVariants as name
 use Rattle.ics_calendar.specs.Components.{component_of, place_in}
 use Rattle.ics_calendar.specs.Names.{name_of}
-use Rattle.ics_calendar.specs.Placed.{Placed, Open, place_of, property_name, is_begin, is_end, component, path_behind, innermost, calendar_of}
-use Rattle.ics_calendar.specs.Summaries.{fresh}
+use Rattle.ics_calendar.specs.Placed.{Placed, Open, place_of, property_name, is_begin, is_end, component, path_behind, innermost, calendar_of, lines_in}
+use Rattle.ics_calendar.specs.Summaries.{fresh, observance_of, observance_ended}
 use Rattle.ics_calendar.specs.Pass.{bottom}
 use Rattle.ics_calendar.specs.Lines.{calendar_in, opened}
-use Rattle.ics_calendar.proofs.Judged.{fault_in, fault_on, later_in, later_on, noted, closed, behind, IsBased, is_begin_name, is_end_name}
+use Rattle.ics_calendar.proofs.Judged.{fault_in, fault_on, later_in, later_on, observance_note, joined, noted, closed, behind, IsBased, is_begin_name, is_end_name}
 use Rattle.ics_calendar.proofs.NameLemmas.{Tells, tells, place-in-outside}
 use Rattle.ics_calendar.proofs.Collects.{parts_at}
-use Rattle.ics_calendar.proofs.Rows.{frame_at}
-use Rattle.ics_calendar.proofs.Table.{gathered, frame_of}
-use Rattle.ics_calendar.proofs.SummaryLemmas.{summary-more, nothing-in}
-use Rattle.ics_calendar.proofs.Bundles.{Bundle, Keeps, top_lines, add_line, close, bundles_behind}
+use Rattle.ics_calendar.proofs.Rows.{Gathered, summary_at, frame_at}
+use Rattle.ics_calendar.proofs.Table.{own, gathered, frame_of}
+use Rattle.ics_calendar.proofs.SummaryLemmas.{observance_of-more, summary-more, summary-begun, nothing-still}
+use Rattle.ics_calendar.proofs.Bundles.{Bundle, IsKept, Keeps, top_lines, add_line, close, bundles_behind, path-of}
 
--- the frames that a path and the bundles of lines stand for
-abbrev pub frames_of : List Open → List Bundle → List Frame
-frames_of [] bundles = bottom ∷ []
-frames_of (c ∷ cs) [] = bottom ∷ []
-frames_of (c ∷ cs) (b ∷ bs) = frame_of (c ∷ cs) b.lines ∷ frames_of cs bs
+-- the frames that a path and the bundles of lines stand for, in a file of all these lines
+abbrev pub frames_of : List Placed → List Open → List Bundle → List Frame
+frames_of whole [] bundles = bottom ∷ []
+frames_of whole (c ∷ cs) [] = bottom ∷ []
+frames_of whole (c ∷ cs) (b ∷ bs) = frame_of whole (c ∷ cs) b.lines ∷ frames_of whole cs bs
 
--- a line joins the innermost component
-added : (before : List Placed) (l : Placed) (path : List Open) (bundles : List Bundle) → Keeps before path bundles →
-    frames_of path (add_line l bundles) ≡ noted (name_of (property_name l.content)) (parts_at l) (frames_of path bundles)
-added before l [] bundles k = ap (λ s. record bottom { summary = s } ∷ []) (nothing-in (name_of (property_name l.content)) (parts_at l))
-added before l (c ∷ cs) [] k = absurd k
-added before l (c ∷ cs) (b ∷ bs) k =
-    let q : Place = place_of (c ∷ cs) in
-    ap (λ s. record { component = component_of c.name; place = q; calendar = calendar_of (c ∷ cs); begun = c.begun; summary = s } ∷ frames_of cs bs) (summary-more q (c ∷ cs) b.lines l)
-
-begin-is : (u : List ℕ) (n : Name) → Tells u n → bytes_eq u (codes "BEGIN") ≡ is_begin_name n
+pub begin-is : (u : List ℕ) (n : Name) → Tells u n → bytes_eq u (codes "BEGIN") ≡ is_begin_name n
 begin-is u name.Other e = e.no_begin
 begin-is u name.Begin e = rw e refl
 begin-is u _ e = rw e refl
@@ -50,114 +42,144 @@ end-is u name.Other e = e.no_end
 end-is u name.End e = rw e refl
 end-is u _ e = rw e refl
 
-behind-by : (number : ℕ) (n : Name) (v : Parts) (frames : List Frame) →
-    behind number n v frames ≡ cond (is_begin_name n) (opened number (component_of (map upper v.value)) frames) (cond (is_end_name n) (closed frames) (noted n v frames))
-behind-by number name.Begin v frames = refl
-behind-by number name.End v frames = refl
-behind-by number _ v frames = refl
-
-fresh-at : (c : Component) (q : Place) (path : List Open) → frame_at c q (gathered path []) ≡ record { component = c; place = q; calendar = calendar_of path; begun = innermost path; summary = fresh q }
-fresh-at c place.Event path = refl
-fresh-at c _ path = refl
-
-calendar-is : (name : List ℕ) (number : ℕ) (before : List Placed) (path : List Open) (bundles : List Bundle) → Keeps before path bundles →
-    calendar_of (record { name = name; begun = number } ∷ path) ≡ calendar_in number (frames_of path bundles)
-calendar-is name number before [] bundles k = refl
-calendar-is name number before (c ∷ cs) [] k = absurd k
-calendar-is name number before (c ∷ []) (b ∷ bs) k = refl
-calendar-is name number before (c ∷ d ∷ ds) (b ∷ []) k = absurd k.3
-calendar-is name number before (c ∷ d ∷ ds) (b ∷ e ∷ es) k = refl
-
-opened-over : (number : ℕ) (v : Parts) (before : List Placed) (path : List Open) (bundles : List Bundle) → Keeps before path bundles →
-    let c : Component = component_of (map upper v.value) in
-    record { component = c; place = place_in (place_of path) c; calendar = calendar_in number (frames_of path bundles); begun = number; summary = fresh (place_in (place_of path) c) } ∷ noted name.Begin v (frames_of path bundles)
-    ≡ opened number c (frames_of path bundles)
-opened-over number v before [] bundles k = refl
-opened-over number v before (d ∷ ds) [] k = absurd k
-opened-over number v before (d ∷ ds) (b ∷ bs) k = refl
-
-begun : (before : List Placed) (l : Placed) (path : List Open) (bundles : List Bundle) → Keeps before path bundles → name_of (property_name l.content) ≡ name.Begin →
-    frames_of (record { name = component l; begun = l.number } ∷ path) (record { begun = l.number; lines = [] } ∷ add_line l bundles) ≡ opened l.number (component_of (component l)) (frames_of path bundles)
-begun before l path bundles k e =
-    let c : Component = component_of (component l) in
-    let q : Place = place_in (place_of path) c in
-    let new : Open = record { name = component l; begun = l.number } in
-    let joined : frames_of path (add_line l bundles) ≡ noted name.Begin (parts_at l) (frames_of path bundles) =
-    added before l path bundles k ∙ ap (λ n. noted n (parts_at l) (frames_of path bundles)) e in
-    ap (λ (f : Frame). f ∷ frames_of path (add_line l bundles)) (fresh-at c q (new ∷ path))
-    ∙ ap (λ (m : ℕ). record { component = c; place = q; calendar = m; begun = l.number; summary = fresh q } ∷ frames_of path (add_line l bundles)) (calendar-is (component l) l.number before path bundles k)
-    ∙ ap (λ (fs : List Frame). record { component = c; place = q; calendar = calendar_in l.number (frames_of path bundles); begun = l.number; summary = fresh q } ∷ fs) joined
-    ∙ opened-over l.number (parts_at l) before path bundles k
-
-closed-over : (before : List Placed) (l : Placed) (path : List Open) (bundles : List Bundle) → Keeps before path bundles → frames_of (drop 1 path) (close l bundles) ≡ closed (frames_of path bundles)
-closed-over before l [] [] k = refl
-closed-over before l [] (f ∷ []) k = refl
-closed-over before l [] (f ∷ g ∷ gs) k = refl
-closed-over before l (c ∷ cs) [] k = absurd k
-closed-over before l (c ∷ []) (f ∷ []) k = absurd k.3
-closed-over before l (c ∷ d ∷ ds) (f ∷ []) k = absurd k.3
-closed-over before l (c ∷ []) (f ∷ g ∷ gs) k = refl
-closed-over before l (c ∷ d ∷ ds) (f ∷ g ∷ gs) k = refl
-
 begin-only : (n : Name) → is_begin_name n ≡ true → n ≡ name.Begin
 begin-only name.Begin e = refl
 begin-only _ e = cc
 
-abbrev pub top_of : List Open → List Bundle → Frame
-top_of path bundles = frame_of path (top_lines bundles)
+pub begin-named : (l : Placed) → is_begin l ≡ true → name_of (property_name l.content) ≡ name.Begin
+begin-named l e = begin-only (name_of (property_name l.content)) (sym (begin-is (property_name l.content) (name_of (property_name l.content)) (tells (property_name l.content))) ∙ e)
+
+abbrev pub top_of : List Placed → List Open → List Bundle → Frame
+top_of whole path bundles = frame_of whole path (top_lines bundles)
 
 abbrev pub with : Line → List Open → Parts → Placed
-with line path parts = record { number = line.number; content = Some parts; path = path }
+with line path v = record { number = line.number; content = Some v; path = path }
 
--- a line keeps the frames
-pub frames-behind : (before : List Placed) (line : Line) (path : List Open) (v : Parts) (bundles : List Bundle) → Keeps before path bundles →
-    frames_of (path_behind (with line path v)) (bundles_behind (with line path v) bundles) ≡ behind line.number (name_of (map upper v.name)) v (frames_of path bundles)
-frames-behind before line path v bundles k =
-    let u : List ℕ = map upper v.name in
-    by_kind (is_begin l) (is_end l) (begin-is u (name_of u) (tells u)) (end-is u (name_of u) (tells u))
-    ∙ sym (behind-by line.number (name_of u) v (frames_of path bundles))
-  where
-    l : Placed
-    l = with line path v
+-- an END adds nothing to what is collected of an observance
+observance-end : (ls : List Placed) (l : Placed) → name_of (property_name l.content) ≡ name.End → observance_of (ls ++ l ∷ []) ≡ observance_of ls
+observance-end ls l e = observance_of-more ls l ∙ ap (λ n. observance_note n (parts_at l) (observance_of ls)) e
 
-    by_kind : (b e : Bool) → b ≡ is_begin_name (name_of (map upper v.name)) → e ≡ is_end_name (name_of (map upper v.name)) →
-        frames_of (cond b (record { name = component l; begun = l.number } ∷ path) (cond e (drop 1 path) path))
-        (cond b (record { begun = l.number; lines = [] } ∷ add_line l bundles) (cond e (close l bundles) (add_line l bundles)))
-        ≡ cond (is_begin_name (name_of (map upper v.name))) (opened line.number (component_of (component l)) (frames_of path bundles))
-        (cond (is_end_name (name_of (map upper v.name))) (closed (frames_of path bundles)) (noted (name_of (map upper v.name)) v (frames_of path bundles)))
-    by_kind true e h g =
-        begun before l path bundles k (begin-only (name_of (map upper v.name)) (sym h))
-        ∙ ap (λ t. cond t (opened line.number (component_of (component l)) (frames_of path bundles)) (cond (is_end_name (name_of (map upper v.name))) (closed (frames_of path bundles)) (noted (name_of (map upper v.name)) v (frames_of path bundles)))) h
-    by_kind false true h g =
-        closed-over before l path bundles k
-        ∙ ap (λ t. cond t (closed (frames_of path bundles)) (noted (name_of (map upper v.name)) v (frames_of path bundles))) g
-        ∙ ap (λ t. cond t (opened line.number (component_of (component l)) (frames_of path bundles)) (cond (is_end_name (name_of (map upper v.name))) (closed (frames_of path bundles)) (noted (name_of (map upper v.name)) v (frames_of path bundles)))) h
-    by_kind false false h g =
-        added before l path bundles k
-        ∙ ap (λ t. cond t (closed (frames_of path bundles)) (noted (name_of (map upper v.name)) v (frames_of path bundles))) g
-        ∙ ap (λ t. cond t (opened line.number (component_of (component l)) (frames_of path bundles)) (cond (is_end_name (name_of (map upper v.name))) (closed (frames_of path bundles)) (noted (name_of (map upper v.name)) v (frames_of path bundles)))) h
+-- all lines stand before the line, which ends the innermost component, or in another
+abbrev pub Closes : List Placed → List Placed → Placed → Type 0
+Closes whole before l = (c : Open) (cs : List Open) → l.path ≡ c ∷ cs → path_behind l ≡ cs → lines_in c.begun whole ≡ lines_in c.begun before ++ l ∷ []
 
-length-frames : (before : List Placed) (path : List Open) (bundles : List Bundle) → Keeps before path bundles → length (frames_of path bundles) ≡ length path + 1
-length-frames before [] bundles k = refl
-length-frames before (c ∷ cs) [] k = absurd k
-length-frames before (c ∷ cs) (b ∷ bs) k = let again = length-frames before cs bs k.3 in omega (arith, again)
+module _ (whole before : List Placed) where
+  -- a line joins the innermost component
+  added : (l : Placed) (path : List Open) (bundles : List Bundle) → Keeps before [] path bundles → is_begin l ≡ false →
+      frames_of whole path (add_line l bundles) ≡ noted (name_of (property_name l.content)) (parts_at l) (frames_of whole path bundles)
+  added l [] bundles k e = refl
+  added l (c ∷ cs) [] k e = absurd k
+  added l (c ∷ cs) (b ∷ bs) k e =
+      let q : Place = place_of (c ∷ cs) in
+      ap (λ s. record { component = component_of c.name; place = q; calendar = calendar_of (c ∷ cs); summary = s } ∷ frames_of whole cs bs) (summary-more whole q (c ∷ cs) b.lines l e)
 
--- the faults of a line read the innermost frame alone
-pub fault-top : (n : Name) (v : Parts) (before : List Placed) (path : List Open) (bundles : List Bundle) → Keeps before path bundles → fault_on n v (frames_of path bundles) ≡ fault_in n v (top_of path bundles) (length path)
-fault-top n v before [] bundles k = refl
-fault-top n v before (c ∷ cs) [] k = absurd k
-fault-top n v before (c ∷ cs) (b ∷ bs) k =
-    let long : length (frames_of cs bs) ≡ length (c ∷ cs) = let n = length-frames before cs bs k.3 in omega (arith, n) in
-    ap (λ m. fault_in n v (frame_of (c ∷ cs) b.lines) m) long
+  fresh-at : (c : Component) (q : Place) (path : List Open) → frame_at c q (gathered whole path []) ≡ record { component = c; place = q; calendar = calendar_of path; summary = fresh q }
+  fresh-at c place.Event path = refl
+  fresh-at c _ path = refl
 
-pub later-top : (n : Name) (v : Parts) (before : List Placed) (path : List Open) (bundles : List Bundle) → Keeps before path bundles → later_on n v (frames_of path bundles) ≡ later_in n v (top_of path bundles)
-later-top n v before [] bundles k = refl
-later-top n v before (c ∷ cs) [] k = absurd k
-later-top n v before (c ∷ cs) (b ∷ bs) k = refl
+  calendar-is : (name : List ℕ) (number : ℕ) (path : List Open) (bundles : List Bundle) → Keeps before [] path bundles →
+      calendar_of (record { name = name; begun = number } ∷ path) ≡ calendar_in number (frames_of whole path bundles)
+  calendar-is name number [] bundles k = refl
+  calendar-is name number (c ∷ cs) [] k = absurd k
+  calendar-is name number (c ∷ []) (b ∷ bs) k = refl
+  calendar-is name number (c ∷ d ∷ ds) (b ∷ []) k = absurd k.1
+  calendar-is name number (c ∷ d ∷ ds) (b ∷ e ∷ es) k = refl
 
-pub based : (before : List Placed) (path : List Open) (bundles : List Bundle) → Keeps before path bundles → IsBased (frames_of path bundles)
-based before [] bundles k = refl
-based before (c ∷ cs) [] k = absurd k
-based before (c ∷ []) (b ∷ bs) k = (place-in-outside place.Outside (component_of c.name), based before [] bs k.3)
-based before (c ∷ d ∷ ds) (b ∷ []) k = absurd k.3
-based before (c ∷ d ∷ ds) (b ∷ e ∷ es) k = (place-in-outside (place_of (d ∷ ds)) (component_of c.name), based before (d ∷ ds) (e ∷ es) k.3)
+  opened-over : (number : ℕ) (c : Component) (path : List Open) (bundles : List Bundle) → Keeps before [] path bundles →
+      record { component = c; place = place_in (place_of path) c; calendar = calendar_in number (frames_of whole path bundles); summary = fresh (place_in (place_of path) c) } ∷ frames_of whole path bundles
+      ≡ opened number c (frames_of whole path bundles)
+  opened-over number c [] bundles k = refl
+  opened-over number c (d ∷ ds) [] k = absurd k
+  opened-over number c (d ∷ ds) (b ∷ bs) k = refl
+
+  begun : (l : Placed) (path : List Open) (bundles : List Bundle) → Keeps before [] path bundles →
+      frames_of whole (record { name = component l; begun = l.number } ∷ path) (record { begin = l; lines = [] } ∷ bundles) ≡ opened l.number (component_of (component l)) (frames_of whole path bundles)
+  begun l path bundles k =
+      let c : Component = component_of (component l) in
+      let q : Place = place_in (place_of path) c in
+      ap (λ (f : Frame). f ∷ frames_of whole path bundles) (fresh-at c q (record { name = component l; begun = l.number } ∷ path))
+      ∙ ap (λ (m : ℕ). record { component = c; place = q; calendar = m; summary = fresh q } ∷ frames_of whole path bundles) (calendar-is (component l) l.number path bundles k)
+      ∙ opened-over l.number c path bundles k
+
+  -- what is collected of a component that ends, and of the one that it stands in
+  closed-in : (l : Placed) (c : Open) (cs : List Open) (f g : Bundle) → name_of (property_name l.content) ≡ name.End → lines_in c.begun whole ≡ lines_in c.begun before ++ l ∷ [] → IsKept before [] c cs f →
+      summary_at (place_of cs) (gathered whole cs (g.lines ++ f.begin ∷ [])) ≡ joined (summary_at (place_of (c ∷ cs)) (gathered whole (c ∷ cs) f.lines)) (summary_at (place_of cs) (gathered whole cs g.lines))
+  closed-in l c cs f g n w kept =
+      let inner : Gathered = gathered whole (c ∷ cs) f.lines in
+      let number : f.begin.number ≡ c.begun = ap innermost kept.opened in
+      let all : lines_in f.begin.number whole ≡ f.lines ++ l ∷ [] = ap (λ m. lines_in m whole) number ∙ w ∙ ap (λ ls. ls ++ l ∷ []) (kept.lines ∙ append-nil f.lines) in
+      let same : own whole f.begin ≡ observance_ended inner.observance = ap (λ ls. observance_ended (observance_of ls)) all ∙ ap observance_ended (observance-end f.lines l n) in
+      ap (λ q. summary_at q (gathered whole cs (g.lines ++ f.begin ∷ []))) (sym (ap place_of (path-of f.begin c cs kept.opened)))
+      ∙ summary-begun whole (place_of f.begin.path) cs g.lines f.begin inner (begin-named f.begin kept.begins) kept.begins same
+      ∙ ap (λ (path : List Open). joined (summary_at (place_of path) inner) (summary_at (place_of (drop 1 path)) (gathered whole cs g.lines))) kept.opened
+
+  closed-over : (l : Placed) (path : List Open) (bundles : List Bundle) → Keeps before [] path bundles → name_of (property_name l.content) ≡ name.End →
+      ((c : Open) (cs : List Open) → path ≡ c ∷ cs → lines_in c.begun whole ≡ lines_in c.begun before ++ l ∷ []) → frames_of whole (drop 1 path) (close l bundles) ≡ closed (frames_of whole path bundles)
+  closed-over l [] [] k n w = refl
+  closed-over l [] (f ∷ []) k n w = refl
+  closed-over l [] (f ∷ g ∷ gs) k n w = refl
+  closed-over l (c ∷ cs) [] k n w = absurd k
+  closed-over l (c ∷ []) (f ∷ []) k n w = absurd k.1
+  closed-over l (c ∷ d ∷ ds) (f ∷ []) k n w = absurd k.1
+  closed-over l (c ∷ []) (f ∷ g ∷ gs) k n w = ap (λ s. record bottom { summary = s } ∷ []) (sym (nothing-still (summary_at (place_of (c ∷ [])) (gathered whole (c ∷ []) f.lines))))
+  closed-over l (c ∷ d ∷ ds) (f ∷ g ∷ gs) k n w =
+      ap (λ s. record { component = component_of d.name; place = place_of (d ∷ ds); calendar = calendar_of (d ∷ ds); summary = s } ∷ frames_of whole ds gs)
+      (closed-in l c (d ∷ ds) f g n (w c (d ∷ ds) refl) k.0)
+
+  -- a line keeps the frames
+  pub frames-behind : (line : Line) (path : List Open) (v : Parts) (bundles : List Bundle) → Keeps before [] path bundles → Closes whole before (with line path v) →
+      frames_of whole (path_behind (with line path v)) (bundles_behind (with line path v) bundles) ≡ behind line.number (name_of (map upper v.name)) v (frames_of whole path bundles)
+  frames-behind line path v bundles k w = by_name (name_of (map upper v.name)) refl
+    where
+      l : Placed
+      l = with line path v
+
+      u : List ℕ
+      u = map upper v.name
+
+      Shown : Name → Bool → Bool → Type 0
+      Shown n b e =
+          frames_of whole (cond b (record { name = component l; begun = l.number } ∷ path) (cond e (drop 1 path) path)) (cond b (record { begin = l; lines = [] } ∷ bundles) (cond e (close l bundles) (add_line l bundles)))
+          ≡ behind line.number n v (frames_of whole path bundles)
+
+      shown : (n : Name) → name_of u ≡ n → (b e : Bool) → is_begin_name n ≡ b → is_end_name n ≡ e → Shown n b e → Shown n (is_begin l) (is_end l)
+      shown n m b e p q s =
+          let at_begin : is_begin l ≡ b = begin-is u (name_of u) (tells u) ∙ ap is_begin_name m ∙ p in
+          let at_end : is_end l ≡ e = end-is u (name_of u) (tells u) ∙ ap is_end_name m ∙ q in
+          subst (λ (t : Bool). Shown n t (is_end l)) (sym at_begin) (subst (λ (t : Bool). Shown n b t) (sym at_end) s)
+
+      by_name : (n : Name) → name_of u ≡ n → frames_of whole (path_behind l) (bundles_behind l bundles) ≡ behind line.number n v (frames_of whole path bundles)
+      by_name name.Begin m = shown name.Begin m true false refl refl (begun l path bundles k)
+      by_name name.End m =
+          let not_begin : is_begin l ≡ false = begin-is u (name_of u) (tells u) ∙ ap is_begin_name m in
+          let at_end : is_end l ≡ true = end-is u (name_of u) (tells u) ∙ ap is_end_name m in
+          let out : path_behind l ≡ drop 1 path = ap (λ t. cond t (record { name = component l; begun = l.number } ∷ path) (cond (is_end l) (drop 1 path) path)) not_begin ∙ ap (λ t. cond t (drop 1 path) path) at_end in
+          shown name.End m false true refl refl (closed-over l path bundles k m (λ c cs p. w c cs p (out ∙ ap (drop 1) p)))
+      by_name _ m =
+          let not_begin : is_begin l ≡ false = begin-is u (name_of u) (tells u) ∙ ap is_begin_name m in
+          shown _ m false false refl refl (added l path bundles k not_begin ∙ ap (λ n. noted n v (frames_of whole path bundles)) m)
+
+  length-frames : (path : List Open) (bundles : List Bundle) (up : List Placed) → Keeps before up path bundles → length (frames_of whole path bundles) ≡ length path + 1
+  length-frames [] bundles up k = refl
+  length-frames (c ∷ cs) [] up k = absurd k
+  length-frames (c ∷ cs) (b ∷ bs) up k = let again = length-frames cs bs (b.begin ∷ []) k.1 in omega (arith, again)
+
+  -- the faults of a line read the innermost frame alone
+  pub fault-top : (n : Name) (v : Parts) (path : List Open) (bundles : List Bundle) → Keeps before [] path bundles → fault_on n v (frames_of whole path bundles) ≡ fault_in n v (top_of whole path bundles) (length path)
+  fault-top n v [] bundles k = refl
+  fault-top n v (c ∷ cs) [] k = absurd k
+  fault-top n v (c ∷ cs) (b ∷ bs) k =
+      let long : length (frames_of whole cs bs) ≡ length (c ∷ cs) = let n = length-frames cs bs (b.begin ∷ []) k.1 in omega (arith, n) in
+      ap (λ m. fault_in n v (frame_of whole (c ∷ cs) b.lines) m) long
+
+  pub later-top : (n : Name) (v : Parts) (path : List Open) (bundles : List Bundle) → Keeps before [] path bundles → later_on n v (frames_of whole path bundles) ≡ later_in n v (top_of whole path bundles)
+  later-top n v [] bundles k = refl
+  later-top n v (c ∷ cs) [] k = absurd k
+  later-top n v (c ∷ cs) (b ∷ bs) k = refl
+
+  pub based : (path : List Open) (bundles : List Bundle) (up : List Placed) → Keeps before up path bundles → IsBased (frames_of whole path bundles)
+  based [] bundles up k = refl
+  based (c ∷ cs) [] up k = absurd k
+  based (c ∷ []) (b ∷ bs) up k = (place-in-outside place.Outside (component_of c.name), based [] bs (b.begin ∷ []) k.1)
+  based (c ∷ d ∷ ds) (b ∷ []) up k = absurd k.1
+  based (c ∷ d ∷ ds) (b ∷ e ∷ es) up k = (place-in-outside (place_of (d ∷ ds)) (component_of c.name), based (d ∷ ds) (e ∷ es) (b.begin ∷ []) k.1)

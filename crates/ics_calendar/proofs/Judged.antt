@@ -31,7 +31,7 @@ use Rattle.ics_calendar.specs.Collecting.{event_ended}
 use Rattle.ics_calendar.specs.Components.{component_of, component_name}
 use Rattle.ics_calendar.specs.DateLists.{rdate_list, exdate_list}
 use Rattle.ics_calendar.specs.DateValues.{rdates_of, exdates_of, is_not_local}
-use Rattle.ics_calendar.specs.Lines.{unless, and_then, once, or_first, first, fault_if, stamp_fault_of, duration_fault_of, rule_fault_of, offset_fault_of, number_fault_of, dates_fault, used_zone, listed_zone, ends_in, event_line, zone_line, observance_line, plain_fault, summary_line, end_of_event, end_of_zone, end_of_observance, passed, summary_end, frame_end, begin_in, opened, outside_fault, named_line}
+use Rattle.ics_calendar.specs.Lines.{unless, and_then, once, or_first, first, fault_if, stamp_fault_of, duration_fault_of, rule_fault_of, offset_fault_of, number_fault_of, dates_fault, used_zone, listed_zone, ends_in, event_line, zone_line, observance_line, plain_fault, summary_line, end_of_event, end_of_zone, end_of_observance, passed, summary_end, frame_end, with_observance, opened, outside_fault, named_line}
 use Rattle.ics_calendar.specs.Summaries.{zone_ended, observance_ended}
 use Rattle.ics_calendar.specs.Values.{zone_name, stamp_read, dated_of, lasting_of, duration_in, rule_in, ok_or_zero, is_cancelled, is_fine_rule}
 use Rattle.ics_calendar.specs.Zones.{local_in, onset_in, offset_in, daily_in}
@@ -125,14 +125,18 @@ end_of (summary.Zone had) = end_of_zone had
 end_of (summary.Observance had) = end_of_observance had
 end_of summary.Nothing = None
 
-abbrev pub ended_as : Frame → ℕ → Summary → Ended
-ended_as f outer (summary.Event had) = ended.Event (event_ended f.calendar had)
-ended_as f outer (summary.Zone had) = ended.Zone (zone_ended f.begun f.calendar had)
-ended_as f outer (summary.Observance had) = ended.Observance (observance_ended outer had)
-ended_as f outer summary.Nothing = ended.Nothing
+abbrev pub ended_as : ℕ → Summary → Ended
+ended_as k (summary.Event had) = ended.Event (event_ended k had)
+ended_as k (summary.Zone had) = ended.Zone (zone_ended k had)
+ended_as k _ = ended.Nothing
 
-abbrev pub ended_in : ℕ → Frame → Ended
-ended_in outer f = ended_as f outer f.summary
+abbrev pub ended_in : Frame → Ended
+ended_in f = ended_as f.calendar f.summary
+
+-- what becomes of the component in which it ends
+abbrev pub joined : Summary → Summary → Summary
+joined (summary.Observance had) outer = with_observance (observance_ended had) outer
+joined _ outer = outer
 
 abbrev pub later_end : ℕ → Summary → Option Later
 later_end k (summary.Event had) = ends_in k had.start had.end
@@ -153,10 +157,6 @@ later_in name.Begin c f = None
 later_in name.End c f = later_end f.calendar f.summary
 later_in n c f = summary_later f.calendar n c f.summary
 
-abbrev pub note_in : Name → Parts → Summary → Summary
-note_in name.Begin c s = begin_in (component_of (map upper c.value)) s
-note_in n c s = summary_note n c s
-
 abbrev pub fault_on : Name → Parts → List Frame → Option FaultKind
 fault_on n c [] = None
 fault_on n c (f ∷ fs) = fault_in n c f (length fs)
@@ -167,12 +167,12 @@ later_on n c (f ∷ fs) = later_in n c f
 
 abbrev pub noted : Name → Parts → List Frame → List Frame
 noted n c [] = []
-noted n c (f ∷ fs) = record f { summary = note_in n c f.summary } ∷ fs
+noted n c (f ∷ fs) = record f { summary = summary_note n c f.summary } ∷ fs
 
 abbrev pub closed : List Frame → List Frame
 closed [] = []
 closed (f ∷ []) = f ∷ []
-closed (f ∷ g ∷ gs) = g ∷ gs
+closed (f ∷ g ∷ gs) = record g { summary = joined f.summary g.summary } ∷ gs
 
 abbrev pub behind : ℕ → Name → Parts → List Frame → List Frame
 behind number name.Begin c frames = opened number (component_of (map upper c.value)) frames
@@ -180,7 +180,7 @@ behind number name.End c frames = closed frames
 behind number n c frames = noted n c frames
 
 abbrev pub ends : Name → List Frame → Ended
-ends name.End (f ∷ g ∷ gs) = ended_as f g.begun f.summary
+ends name.End (f ∷ g ∷ gs) = ended_in f
 ends _ _ = ended.Nothing
 
 abbrev pub passing : Name → Parts → List Frame → Passed
@@ -245,11 +245,11 @@ summary-line-is k q n c (summary.Observance had) =
     ap (λ r. and_then r (λ h. Ok (summary.Observance h, None))) (observance-line-is n c had) ∙ then-ok (observance_fault n c had) (observance_note n c had) (λ h. (summary.Observance h, None))
 summary-line-is k q n c summary.Nothing = refl
 
-summary-end-is : (outer : ℕ) (f : Frame) (s : Summary) → summary_end outer f s ≡ unless (end_of s) (passed (ended_as f outer s) (later_end f.calendar s))
-summary-end-is outer f (summary.Event had) = then-ok (end_of_event had) (event_ended f.calendar had) (λ e. passed (ended.Event e) (ends_in f.calendar had.start had.end))
-summary-end-is outer f (summary.Zone had) = then-ok (end_of_zone had) (zone_ended f.begun f.calendar had) (λ z. passed (ended.Zone z) None)
-summary-end-is outer f (summary.Observance had) = then-ok (end_of_observance had) (observance_ended outer had) (λ o. passed (ended.Observance o) None)
-summary-end-is outer f summary.Nothing = refl
+summary-end-is : (k : ℕ) (s outer : Summary) → summary_end k s outer ≡ unless (end_of s) (joined s outer, passed (ended_as k s) (later_end k s))
+summary-end-is k (summary.Event had) outer = then-ok (end_of_event had) (event_ended k had) (λ e. (outer, passed (ended.Event e) (ends_in k had.start had.end)))
+summary-end-is k (summary.Zone had) outer = then-ok (end_of_zone had) (zone_ended k had) (λ z. (outer, passed (ended.Zone z) None))
+summary-end-is k (summary.Observance had) outer = then-ok (end_of_observance had) (observance_ended had) (λ o. (with_observance o outer, passed ended.Nothing None))
+summary-end-is k summary.Nothing outer = refl
 
 -- Outside all components stands the lowest frame alone.
 abbrev pub IsBased : List Frame → Type 0
@@ -261,15 +261,15 @@ end-inside : (q : Place) (matches : Bool) (s : Summary) → q ≢ place.Outside 
 end-inside place.Outside matches s n = absurd (n refl)
 end-inside _ matches s n = refl
 
-end-line-is : (f g : Frame) (gs : List Frame) (w : List ℕ) → and_then {Y = List Frame × Passed} (frame_end g.begun w f) (λ p. Ok (g ∷ gs, p))
-    ≡ unless (cond (bytes_eq w (component_name f.component)) (end_of f.summary) (Some kind.BadNesting)) (g ∷ gs, passed (ended_as f g.begun f.summary) (later_end f.calendar f.summary))
+end-line-is : (f g : Frame) (gs : List Frame) (w : List ℕ) → and_then {Y = List Frame × Passed} (frame_end w f g.summary) (λ r. Ok (record g { summary = r.0 } ∷ gs, r.1))
+    ≡ unless (cond (bytes_eq w (component_name f.component)) (end_of f.summary) (Some kind.BadNesting)) (closed (f ∷ g ∷ gs), passed (ended_in f) (later_end f.calendar f.summary))
 end-line-is f g gs w = by_test (bytes_eq w (component_name f.component))
   where
-    by_test : (t : Bool) → and_then {Y = List Frame × Passed} (cond t (summary_end g.begun f f.summary) (Err kind.BadNesting)) (λ p. Ok (g ∷ gs, p))
-        ≡ unless (cond t (end_of f.summary) (Some kind.BadNesting)) (g ∷ gs, passed (ended_as f g.begun f.summary) (later_end f.calendar f.summary))
+    by_test : (t : Bool) → and_then {Y = List Frame × Passed} (cond t (summary_end f.calendar f.summary g.summary) (Err kind.BadNesting)) (λ r. Ok (record g { summary = r.0 } ∷ gs, r.1))
+        ≡ unless (cond t (end_of f.summary) (Some kind.BadNesting)) (closed (f ∷ g ∷ gs), passed (ended_in f) (later_end f.calendar f.summary))
     by_test true =
-        ap (λ r. and_then {Y = List Frame × Passed} r (λ p. Ok (g ∷ gs, p))) (summary-end-is g.begun f f.summary)
-        ∙ then-ok (end_of f.summary) (passed (ended_as f g.begun f.summary) (later_end f.calendar f.summary)) (λ p. (g ∷ gs, p))
+        ap (λ r. and_then {Y = List Frame × Passed} r (λ r. Ok (record g { summary = r.0 } ∷ gs, r.1))) (summary-end-is f.calendar f.summary g.summary)
+        ∙ then-ok (end_of f.summary) (joined f.summary g.summary, passed (ended_in f) (later_end f.calendar f.summary)) (λ r. (record g { summary = r.0 } ∷ gs, r.1))
     by_test false = refl
 
 inner-line-is : (n : Name) (c : Parts) (f : Frame) (fs : List Frame) → and_then {Y = List Frame × Passed} (summary_line f.calendar f.place n c f.summary) (λ r. Ok (record f { summary = r.0 } ∷ fs, passed ended.Nothing r.1))
@@ -285,7 +285,7 @@ line-is number name.Begin c (f ∷ fs) b =
 line-is number name.End c (f ∷ []) b = ap (λ q. unless (end_fault_at q (bytes_eq (map upper c.value) (component_name f.component)) f.summary) (f ∷ [], passed ended.Nothing (later_end f.calendar f.summary))) (sym b)
 line-is number name.End c (f ∷ g ∷ gs) b =
     end-line-is f g gs (map upper c.value)
-    ∙ ap (λ o. unless o (g ∷ gs, passed (ended_as f g.begun f.summary) (later_end f.calendar f.summary))) (sym (end-inside f.place (bytes_eq (map upper c.value) (component_name f.component)) f.summary b.0))
+    ∙ ap (λ o. unless o (closed (f ∷ g ∷ gs), passed (ended_in f) (later_end f.calendar f.summary))) (sym (end-inside f.place (bytes_eq (map upper c.value) (component_name f.component)) f.summary b.0))
 line-is number name.Uid c (f ∷ fs) b = inner-line-is name.Uid c f fs
 line-is number name.Dtstart c (f ∷ fs) b = inner-line-is name.Dtstart c f fs
 line-is number name.Dtend c (f ∷ fs) b = inner-line-is name.Dtend c f fs
@@ -326,7 +326,7 @@ later-is name.Begin c f = refl
 later-is name.End c f = refl
 later-is _ c f = refl
 
-pub ends-is : (n : Name) (f g : Frame) (gs : List Frame) → ends n (f ∷ g ∷ gs) ≡ cond (is_end_name n) (ended_in g.begun f) ended.Nothing
+pub ends-is : (n : Name) (f g : Frame) (gs : List Frame) → ends n (f ∷ g ∷ gs) ≡ cond (is_end_name n) (ended_in f) ended.Nothing
 ends-is name.End f g gs = refl
 ends-is _ f g gs = refl
 

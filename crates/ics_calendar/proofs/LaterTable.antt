@@ -131,18 +131,18 @@ outside-later u v cl be has = by_tests (bytes_eq u (codes "END") && cl)
     by_tests true = refl
     by_tests false = refl
 
-none-outside : (n : Name) (v : Parts) (ls : List Placed) → later_in n v (frame_of [] ls) ≡ None
-none-outside name.Begin v ls = refl
-none-outside name.End v ls = refl
-none-outside _ v ls = refl
+none-outside : (whole : List Placed) (n : Name) (v : Parts) (ls : List Placed) → later_in n v (frame_of whole [] ls) ≡ None
+none-outside whole name.Begin v ls = refl
+none-outside whole name.End v ls = refl
+none-outside whole _ v ls = refl
 
 -- WHAT THE SECOND ROUND FINDS on a line, of the table and of the pass.
-pub later-same : (known : KnownZones) (line : Line) (path : List Open) (parts : Parts) (ls : List Placed) → IsMatched (with line path parts) →
-    find (λ kind. stands_later known kind ls (with line path parts)) kinds ≡ option_and_then (judged known) (later_in (name_of (map upper parts.name)) parts (frame_of path ls))
-later-same known line [] parts ls m =
+pub later-same : (whole : List Placed) (known : KnownZones) (line : Line) (path : List Open) (parts : Parts) (ls : List Placed) → IsMatched (with line path parts) →
+    find (λ kind. stands_later known kind ls (with line path parts)) kinds ≡ option_and_then (judged known) (later_in (name_of (map upper parts.name)) parts (frame_of whole path ls))
+later-same whole known line [] parts ls m =
     let u : List ℕ = map upper parts.name in
-    let g : Gathered = gathered [] ls in
-    outside-later u parts false (bad_later known g) (is_some (known.index (use_of g parts))) ∙ ap (option_and_then (judged known)) (sym (none-outside (name_of u) parts ls))
-later-same known line (c ∷ cs) parts ls m =
+    let g : Gathered = gathered whole [] ls in
+    outside-later u parts false (bad_later known g) (is_some (known.index (use_of g parts))) ∙ ap (option_and_then (judged known)) (sym (none-outside whole (name_of u) parts ls))
+later-same whole known line (c ∷ cs) parts ls m =
     let u : List ℕ = map upper parts.name in
-    later-other known (name_of u) u parts (component_of c.name) (place_of (c ∷ cs)) (closes (c ∷ cs) (map upper parts.value)) (gathered (c ∷ cs) ls) (tells u) m
+    later-other known (name_of u) u parts (component_of c.name) (place_of (c ∷ cs)) (closes (c ∷ cs) (map upper parts.value)) (gathered whole (c ∷ cs) ls) (tells u) m

@@ -22,15 +22,12 @@ pub mod SoundValues
 pub mod Sound
 pub mod Listed
 pub mod Awaits
-pub mod Filled
-pub mod Phases
 pub mod PassSound
 pub mod EventSound
 pub mod EventsOf
 pub mod ZoneTables
 pub mod Settling
 pub mod Steps
-pub mod ZonesMade
 mod ExampleFiles
 mod PropertyExamples
 mod ZoneExamples

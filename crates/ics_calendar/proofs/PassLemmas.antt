@@ -1,6 +1,7 @@
 -- One pass with the components that are open finds the first fault of round one, and gathers what the lines say.
-use Rattle.std.proofs.Common.{◌≡◌, ℕ, ◌+◌, ◌<◌, ◌≤◌, List, [], ◌∷◌, ◌++◌, map, refl, sym, ap, ◌∙◌, append_assoc, arith, cond, Option, Some, None, Result, Err}
-use Rattle.std.specs.Prelude.{find, length}
+use Rattle.std.proofs.Common.{◌≡◌, ℕ, ◌+◌, ◌<◌, ◌≤◌, List, [], ◌∷◌, ◌++◌, map, refl, sym, ap, subst, ◌∙◌, append_assoc, arith, cond, Option, Some, None, Result, Err}
+use Rattle.std.specs.Prelude.{find, length, not, ◌==◌}
+use Rattle.std.specs.List.{list_any}
 use Rattle.std.proofs.lemmas.List.{append-nil}
 use Rattle.ics_text.specs.Bytes.{upper}
 use Rattle.ics_text.specs.Unfolded.{Line, Rises}
@@ -10,43 +11,43 @@ use Rattle.ics_calendar.specs.declared.fault.FaultKind.TheVariants.{BadNesting}
 use Rattle.ics_calendar.specs.declared.frame.Frame.{Frame}
 use Rattle.ics_calendar.specs.declared.gathered.Ended.{Ended}
 use Rattle.ics_calendar.specs.declared.gathered.EndedEvent.{EndedEvent}
-use Rattle.ics_calendar.specs.declared.gathered.EndedObservance.{EndedObservance}
 use Rattle.ics_calendar.specs.declared.gathered.EndedZone.{EndedZone}
 use Rattle.ics_calendar.specs.declared.gathered.Waiting.{Waiting}
 use Rattle.ics_calendar.specs.declared.later.Later.{Later}
 use Rattle.ics_calendar.specs.declared.gathered.Passed.{Passed}
 use Rattle.ics_calendar.specs.declared.name.Name.{Name}
-use Rattle.ics_calendar.specs.Placed.{Placed, Open, path_behind, placed_from, innermost, beside}
+use Rattle.ics_calendar.specs.Placed.{Placed, Open, path_behind, placed_from, innermost, begins_observance, lines_in, beside}
 use Rattle.ics_calendar.specs.Faults.{stands, kinds}
 use Rattle.ics_calendar.specs.FirstFault.{Fault, found, first_from, first_fault, fault_at_end, end_fault, no_open}
 use Rattle.ics_calendar.specs.GatheredSeen.{GatheredSeen}
-use Rattle.ics_calendar.specs.Gathering.{nothing_gathered, zones_of_end, observances_of_end, events_of_end, waits_of, and_passed}
+use Rattle.ics_calendar.specs.Gathering.{nothing_gathered, zones_of_end, events_of_end, waits_of, and_passed}
 use Rattle.ics_calendar.specs.Lines.{unless as fine}
 use Rattle.ics_calendar.specs.Names.{name_of}
 use Rattle.ics_calendar.specs.Pass.{bottom, is_lowest, at_end, unless, Going, on_line, on_content, pass}
 use Rattle.ics_calendar.proofs.Judged.{fault_in, fault_on, later_in, later_on, behind, ends, passing, line-is}
-use Rattle.ics_calendar.proofs.Table.{frame_of, least-same}
-use Rattle.ics_calendar.proofs.Bundles.{Bundle, Keeps, Before, top_beside, bundles_behind, keeps, Before-more, Before-later, innermost-behind}
-use Rattle.ics_calendar.proofs.Frames.{frames_of, top_of, with, frames-behind, fault-top, later-top, based}
+use Rattle.ics_calendar.proofs.Table.{parts, any-part, frame_of, IsAsked, least-same}
+use Rattle.ics_calendar.proofs.Bundles.{Bundle, Keeps, Before, falls, top_lines, top_beside, top_phases, bundles_behind, keeps, Before-more, Before-later, innermost-behind}
+use Rattle.ics_calendar.proofs.Frames.{frames_of, top_of, with, Closes, frames-behind, fault-top, later-top, based}
 use Rattle.ics_calendar.proofs.LastLines.{last-more}
+use Rattle.ics_calendar.proofs.Paths.{Falls, Absent, below, gone, lines_in-whole}
 use Rattle.ics_calendar.proofs.Order.{Sort, ended_as, ended_from, nested}
-use Rattle.ics_calendar.proofs.Ended.{events, zones, observances, Picks, events-picked, zones-picked, observances-picked, picked-same, IsMatched}
+use Rattle.ics_calendar.proofs.Ended.{events, zones, Picks, events-picked, zones-picked, picked-same, IsMatched}
 
 -- WHERE THE LINES END.
-lowest-is : (before : List Placed) (path : List Open) (bundles : List Bundle) → Keeps before path bundles → is_lowest (frames_of path bundles) ≡ no_open path
-lowest-is before [] bundles k = refl
-lowest-is before (c ∷ cs) [] k = absurd k
-lowest-is before (c ∷ []) (b ∷ bs) k = refl
-lowest-is before (c ∷ d ∷ ds) (b ∷ []) k = absurd k.3
-lowest-is before (c ∷ d ∷ ds) (b ∷ e ∷ es) k = refl
+lowest-is : (whole before up : List Placed) (path : List Open) (bundles : List Bundle) → Keeps before up path bundles → is_lowest (frames_of whole path bundles) ≡ no_open path
+lowest-is whole before up [] bundles k = refl
+lowest-is whole before up (c ∷ cs) [] k = absurd k
+lowest-is whole before up (c ∷ []) (b ∷ bs) k = refl
+lowest-is whole before up (c ∷ d ∷ ds) (b ∷ []) k = absurd k.1
+lowest-is whole before up (c ∷ d ∷ ds) (b ∷ e ∷ es) k = refl
 
 fault_at_end-more : (before : List Placed) (l : Placed) → fault_at_end (before ++ l ∷ []) ≡ end_fault (Some l)
 fault_at_end-more before l = ap end_fault (last-more before l)
 
-end-is-known : (before : List Placed) (l : Placed) (bundles : List Bundle) → Keeps (before ++ l ∷ []) (path_behind l) bundles →
-    at_end (frames_of (path_behind l) bundles) (Some l.number) ≡ fault_at_end (before ++ l ∷ [])
-end-is-known before l bundles k =
-    ap (λ t. cond t None (Some (record { line = l.number + 1; kind = BadNesting }))) (lowest-is (before ++ l ∷ []) (path_behind l) bundles k)
+end-is-known : (whole before : List Placed) (l : Placed) (bundles : List Bundle) → Keeps (before ++ l ∷ []) [] (path_behind l) bundles →
+    at_end (frames_of whole (path_behind l) bundles) (Some l.number) ≡ fault_at_end (before ++ l ∷ [])
+end-is-known whole before l bundles k =
+    ap (λ t. cond t None (Some (record { line = l.number + 1; kind = BadNesting }))) (lowest-is whole (before ++ l ∷ []) [] (path_behind l) bundles k)
     ∙ sym (fault_at_end-more before l)
 
 -- WHAT IS GATHERED of the lines, given those before.
@@ -54,29 +55,24 @@ abbrev pub later_by : Option Parts → Frame → Option Later
 later_by None f = None
 later_by (Some parts) f = later_in (name_of (map upper parts.name)) parts f
 
-abbrev pub waits_on : List Placed → Placed → List Waiting
-waits_on beside line = waits_of line.number (later_by line.content (frame_of line.path beside))
+abbrev pub waits_on : List Placed → List Placed → Placed → List Waiting
+waits_on whole beside line = waits_of line.number (later_by line.content (frame_of whole line.path beside))
 
-abbrev pub waits_from : List Placed → List Placed → List Waiting
-waits_from before [] = []
-waits_from before (line ∷ lines) = waits_on (beside before line) line ++ waits_from (before ++ line ∷ []) lines
+abbrev pub waits_from : List Placed → List Placed → List Placed → List Waiting
+waits_from whole before [] = []
+waits_from whole before (line ∷ lines) = waits_on whole (beside before line) line ++ waits_from whole (before ++ line ∷ []) lines
 
-abbrev pub gathered_from : GatheredSeen → List Placed → List Placed → GatheredSeen
-gathered_from had before lines = record {
-  zones = had.zones ++ ended_from zones before lines;
-  observances = had.observances ++ ended_from observances before lines;
-  events = had.events ++ ended_from events before lines;
-  waits = had.waits ++ waits_from before lines;
-}
+abbrev pub lists : List EndedZone → List EndedEvent → List Waiting → GatheredSeen
+lists zs es ws = record { zones = zs; events = es; waits = ws }
 
-abbrev pub lists : List EndedZone → List EndedObservance → List EndedEvent → List Waiting → GatheredSeen
-lists zs os es ws = record { zones = zs; observances = os; events = es; waits = ws }
+abbrev pub gathered_from : List Placed → GatheredSeen → List Placed → List Placed → GatheredSeen
+gathered_from whole had before lines = lists (had.zones ++ ended_from (zones whole) before lines) (had.events ++ ended_from events before lines) (had.waits ++ waits_from whole before lines)
 
-pub four : {zs ys : List EndedZone} {os ps : List EndedObservance} {es fs : List EndedEvent} {ws vs : List Waiting} → zs ≡ ys → os ≡ ps → es ≡ fs → ws ≡ vs → lists zs os es ws ≡ lists ys ps fs vs
-four z o e w = rw (z, o, e, w) refl
+pub three : {zs ys : List EndedZone} {es fs : List EndedEvent} {ws vs : List Waiting} → zs ≡ ys → es ≡ fs → ws ≡ vs → lists zs es ws ≡ lists ys fs vs
+three z e w = rw (z, e, w) refl
 
-gathered-none : (had : GatheredSeen) (before : List Placed) → had ≡ gathered_from had before []
-gathered-none had before = four (sym (append-nil had.zones)) (sym (append-nil had.observances)) (sym (append-nil had.events)) (sym (append-nil had.waits))
+gathered-none : (whole : List Placed) (had : GatheredSeen) (before : List Placed) → had ≡ gathered_from whole had before []
+gathered-none whole had before = three (sym (append-nil had.zones)) (sym (append-nil had.events)) (sym (append-nil had.waits))
 
 -- what is added by a line, and then by those behind it
 module _ {X : Type 0} where
@@ -93,31 +89,45 @@ passes number (Some k) first x = refl
 passes number None first x = refl
 
 abbrev Known : List Line → Type 0
-Known lines = (before : List Placed) (bundles : List Bundle) (path : List Open) (n : ℕ) (last : Option ℕ) (had : GatheredSeen) →
-    Keeps before path bundles → Before (n + 1) before → innermost path ≤ n → Rises n lines → at_end (frames_of path bundles) last ≡ fault_at_end before →
-    pass (frames_of path bundles) last had lines ≡ unless (first_from stands fault_at_end before (placed_from path lines)) (gathered_from had before (placed_from path lines))
+Known lines = (whole before : List Placed) (bundles : List Bundle) (path : List Open) (n : ℕ) (last : Option ℕ) (had : GatheredSeen) → whole ≡ before ++ placed_from path lines →
+    Keeps before [] path bundles → Before (n + 1) before → innermost path ≤ n → Rises n lines → at_end (frames_of whole path bundles) last ≡ fault_at_end before →
+    pass (frames_of whole path bundles) last had lines ≡ unless (first_from stands fault_at_end before (placed_from path lines)) (gathered_from whole had before (placed_from path lines))
 
 abbrev pub with_content : Line → List Open → Option Parts → Placed
 with_content line path o = record { number = line.number; content = o; path = path }
 
 -- a line adds what ends there as its component says, and what waits there
-ends-same : {X : Type 0} (s : Sort X) (pick : Ended → List X) → Picks s pick → (before : List Placed) (line : Line) (path : List Open) (v : Parts) (bundles : List Bundle) → Keeps before path bundles → IsMatched (with line path v) →
-    pick (ends (name_of (map upper v.name)) (frames_of path bundles)) ≡ ended_as s (beside before (with line path v)) (with line path v)
-ends-same s pick picks before line path v bundles k m = picked-same s pick picks before line path v bundles k m ∙ ap (λ ls. ended_as s ls (with line path v)) (top_beside before (with line path v) bundles k)
+ends-same : {X : Type 0} (whole : List Placed) (s : Sort X) (pick : Ended → List X) → Picks whole s pick → (before : List Placed) (line : Line) (path : List Open) (v : Parts) (bundles : List Bundle) → Keeps before [] path bundles → IsMatched (with line path v) →
+    pick (ends (name_of (map upper v.name)) (frames_of whole path bundles)) ≡ ended_as s (beside before (with line path v)) (with line path v)
+ends-same whole s pick picks before line path v bundles k m =
+    picked-same whole s pick picks before line path v bundles k m ∙ ap (λ ls. ended_as s ls (with line path v)) (top_beside before (with line path v) bundles k)
 
-gathered-step : (line : Line) (before : List Placed) (bundles : List Bundle) (path : List Open) (v : Parts) (had : GatheredSeen) (rest : List Placed) → Keeps before path bundles → IsMatched (with line path v) →
-    gathered_from (and_passed line.number (passing (name_of (map upper v.name)) v (frames_of path bundles)) had) (before ++ with line path v ∷ []) rest
-    ≡ gathered_from had before (with line path v ∷ rest)
-gathered-step line before bundles path v had rest k m =
+gathered-step : (whole : List Placed) (line : Line) (before : List Placed) (bundles : List Bundle) (path : List Open) (v : Parts) (had : GatheredSeen) (rest : List Placed) → Keeps before [] path bundles → IsMatched (with line path v) →
+    gathered_from whole (and_passed line.number (passing (name_of (map upper v.name)) v (frames_of whole path bundles)) had) (before ++ with line path v ∷ []) rest
+    ≡ gathered_from whole had before (with line path v ∷ rest)
+gathered-step whole line before bundles path v had rest k m =
     let l : Placed = with line path v in
     let n : Name = name_of (map upper v.name) in
-    let frames : List Frame = frames_of path bundles in
-    let top : top_of path bundles ≡ frame_of path (beside before l) = ap (frame_of path) (top_beside before l bundles k) in
-    four
-    (further had.zones (ended_as zones (beside before l) l) (zones_of_end (ends n frames)) (ended_from zones (before ++ l ∷ []) rest) (ends-same zones zones_of_end zones-picked before line path v bundles k m))
-    (further had.observances (ended_as observances (beside before l) l) (observances_of_end (ends n frames)) (ended_from observances (before ++ l ∷ []) rest) (ends-same observances observances_of_end observances-picked before line path v bundles k m))
-    (further had.events (ended_as events (beside before l) l) (events_of_end (ends n frames)) (ended_from events (before ++ l ∷ []) rest) (ends-same events events_of_end events-picked before line path v bundles k m))
-    (further had.waits (waits_on (beside before l) l) (waits_of line.number (later_on n v frames)) (waits_from (before ++ l ∷ []) rest) (ap (waits_of line.number) (later-top n v before path bundles k ∙ ap (later_in n v) top)))
+    let frames : List Frame = frames_of whole path bundles in
+    let top : top_of whole path bundles ≡ frame_of whole path (beside before l) = ap (frame_of whole path) (top_beside before l bundles k) in
+    three
+    (further had.zones (ended_as (zones whole) (beside before l) l) (zones_of_end (ends n frames)) (ended_from (zones whole) (before ++ l ∷ []) rest)
+    (ends-same whole (zones whole) zones_of_end (zones-picked whole) before line path v bundles k m))
+    (further had.events (ended_as events (beside before l) l) (events_of_end (ends n frames)) (ended_from events (before ++ l ∷ []) rest) (ends-same whole events events_of_end (events-picked whole) before line path v bundles k m))
+    (further had.waits (waits_on whole (beside before l) l) (waits_of line.number (later_on n v frames)) (waits_from whole (before ++ l ∷ []) rest)
+    (ap (waits_of line.number) (later-top whole before n v path bundles k ∙ ap (later_in n v) top)))
+
+-- the lines of a component all stand before its END
+closes-here : (whole before : List Placed) (line : Line) (lines : List Line) (path : List Open) (v : Parts) (bundles : List Bundle) →
+    whole ≡ before ++ with line path v ∷ placed_from (path_behind (with line path v)) lines → Keeps before [] path bundles → innermost path < line.number → Rises line.number lines → Closes whole before (with line path v)
+closes-here whole before line lines path v bundles w k less r c cs p e =
+    let l : Placed = with line path v in
+    let rest : List Placed = placed_from (path_behind l) lines in
+    let f : Falls (c ∷ cs) = subst (λ (q : List Open). Falls q) p (falls before [] path bundles k) in
+    let at : innermost path ≡ c.begun = ap innermost p in
+    let absent : Absent c.begun (path_behind l) = subst (λ (q : List Open). Absent c.begun q) (sym e) (below c.begun cs f.1 f.0) in
+    let none : lines_in c.begun rest ≡ [] = gone c.begun line.number (path_behind l) lines (omega (arith, f.0)) (omega (arith, at, less)) absent r in
+    ap (lines_in c.begun) w ∙ ap (λ b. lines_in b (before ++ l ∷ rest)) (sym at) ∙ lines_in-whole before l rest (ap (λ b. lines_in b rest) at ∙ none) ∙ ap (λ b. lines_in b before ++ l ∷ []) at
 
 -- a line without a fault, and one with
 pub on-line-is : (number : ℕ) (o : Option FaultKind) (fs : List Frame) (p : Passed) (had : GatheredSeen) (later : Going) → on_line number (fine o (fs, p)) had later ≡ refused number o (later fs (and_passed number p had))
@@ -128,41 +138,48 @@ where-fine : {X : Type 0} (number : ℕ) (kind : Option FaultKind) (a b : Result
 where-fine number None a b e = e refl
 where-fine number (Some k) a b e = refl
 
-step : (line : Line) (lines : List Line) → Known lines → (o : Option Parts) (before : List Placed) (bundles : List Bundle) (path : List Open) (n : ℕ) (had : GatheredSeen) →
-    Keeps before path bundles → Before (n + 1) before → innermost path ≤ n → n < line.number → Rises line.number lines →
-    on_content line.number o (frames_of path bundles) had (λ frames had. pass frames (Some line.number) had lines)
-    ≡ unless (first_from stands fault_at_end before (with_content line path o ∷ placed_from (path_behind (with_content line path o)) lines)) (gathered_from had before (with_content line path o ∷ placed_from (path_behind (with_content line path o)) lines))
-step line lines again None before bundles path n had k h in_path less r = refl
-step line lines again (Some v) before bundles path n had k h in_path less r =
+step : (line : Line) (lines : List Line) → Known lines → (o : Option Parts) (whole before : List Placed) (bundles : List Bundle) (path : List Open) (n : ℕ) (had : GatheredSeen) →
+    whole ≡ before ++ with_content line path o ∷ placed_from (path_behind (with_content line path o)) lines → Keeps before [] path bundles → Before (n + 1) before → innermost path ≤ n → n < line.number → Rises line.number lines →
+    on_content line.number o (frames_of whole path bundles) had (λ frames had. pass frames (Some line.number) had lines)
+    ≡ unless (first_from stands fault_at_end before (with_content line path o ∷ placed_from (path_behind (with_content line path o)) lines))
+    (gathered_from whole had before (with_content line path o ∷ placed_from (path_behind (with_content line path o)) lines))
+step line lines again None whole before bundles path n had w k h in_path less r = refl
+step line lines again (Some v) whole before bundles path n had w k h in_path less r =
     let l : Placed = with line path v in
     let m : Name = name_of (map upper v.name) in
-    let frames : List Frame = frames_of path bundles in
+    let frames : List Frame = frames_of whole path bundles in
     let go : Going = λ frames had. pass frames (Some line.number) had lines in
     let inner : innermost path < line.number = omega (arith, in_path, less) in
     let fresh_lines : Before line.number before = Before-later (n + 1) line.number before (omega (arith, less)) h in
     let more : Before (line.number + 1) (before ++ l ∷ []) = Before-more (line.number + 1) before l (Before-later line.number (line.number + 1) before (omega arith) fresh_lines) (omega (arith, inner)) in
-    let kept : Keeps (before ++ l ∷ []) (path_behind l) (bundles_behind l bundles) = keeps before l bundles fresh_lines inner k in
-    let top : top_of path bundles ≡ frame_of path (beside before l) = ap (frame_of path) (top_beside before l bundles k) in
+    let kept : Keeps (before ++ l ∷ []) [] (path_behind l) (bundles_behind l bundles) = keeps before l bundles fresh_lines inner k in
+    let top : top_of whole path bundles ≡ frame_of whole path (beside before l) = ap (frame_of whole path) (top_beside before l bundles k) in
+    let asked : IsAsked whole path (beside before l) = λ z. subst (λ (ls : List Placed). list_any begins_observance ls ≡ not (length (parts whole ls) == 0)) (top_beside before l bundles k) (top_phases before path bundles k z ∙ any-part whole (top_lines bundles)) in
     let first : Option FaultKind = find (λ kind. stands kind (beside before l) l) kinds in
-    let least : fault_on m v frames ≡ first = fault-top m v before path bundles k ∙ ap (λ f. fault_in m v f (length path)) top ∙ sym (least-same path line.number v (beside before l)) in
+    let least : fault_on m v frames ≡ first = fault-top whole before m v path bundles k ∙ ap (λ f. fault_in m v f (length path)) top ∙ sym (least-same whole path line.number v (beside before l) asked) in
     let rest : List Placed = placed_from (path_behind l) lines in
     let first_behind : Option Fault = first_from stands fault_at_end (before ++ l ∷ []) rest in
     let now : GatheredSeen = and_passed line.number (passing m v frames) had in
-    ap (λ r. on_line line.number r had go) (line-is line.number m v frames (based before path bundles k))
+    ap (λ r. on_line line.number r had go) (line-is line.number m v frames (based whole before path bundles [] k))
     ∙ on-line-is line.number (fault_on m v frames) (behind line.number m v frames) (passing m v frames) had go
     ∙ ap (λ k. refused line.number k (go (behind line.number m v frames) now)) least
-    ∙ ap (λ fs. refused line.number first (go fs now)) (sym (frames-behind before line path v bundles k))
+    ∙ ap (λ fs. refused line.number first (go fs now)) (sym (frames-behind whole before line path v bundles k (closes-here whole before line lines path v bundles w k inner r)))
     ∙ ap (refused line.number first)
-    (again (before ++ l ∷ []) (bundles_behind l bundles) (path_behind l) line.number (Some line.number) now kept more (innermost-behind l inner bundles before k) r (end-is-known before l (bundles_behind l bundles) kept))
-    ∙ where-fine line.number first (unless first_behind (gathered_from now (before ++ l ∷ []) rest)) (unless first_behind (gathered_from had before (l ∷ rest)))
-    (λ none. ap (unless first_behind) (gathered-step line before bundles path v had rest k (nested (λ kind. stands kind (beside before l) l) none)))
-    ∙ passes line.number first first_behind (gathered_from had before (l ∷ rest))
+    (again whole (before ++ l ∷ []) (bundles_behind l bundles) (path_behind l) line.number (Some line.number) now (w ∙ sym (append_assoc before (l ∷ []) rest)) kept more (innermost-behind l inner bundles before k) r
+    (end-is-known whole before l (bundles_behind l bundles) kept))
+    ∙ where-fine line.number first (unless first_behind (gathered_from whole now (before ++ l ∷ []) rest)) (unless first_behind (gathered_from whole had before (l ∷ rest)))
+    (λ none. ap (unless first_behind) (gathered-step whole line before bundles path v had rest k (nested (λ kind. stands kind (beside before l) l) none)))
+    ∙ passes line.number first first_behind (gathered_from whole had before (l ∷ rest))
 
 -- THE PASS SAYS WHAT THE LINES ARE.
 pass-lines : (lines : List Line) → Known lines
-pass-lines [] before bundles path n last had k h in_path r e = ap (λ f. unless f had) e ∙ ap (unless (fault_at_end before)) (gathered-none had before)
-pass-lines (line ∷ lines) before bundles path n last had k h in_path r e = step line lines (pass-lines lines) (content_of line.bytes) before bundles path n had k h in_path r.0 r.1
+pass-lines [] whole before bundles path n last had w k h in_path r e = ap (λ f. unless f had) e ∙ ap (unless (fault_at_end before)) (gathered-none whole had before)
+pass-lines (line ∷ lines) whole before bundles path n last had w k h in_path r e = step line lines (pass-lines lines) (content_of line.bytes) whole before bundles path n had w k h in_path r.0 r.1
+
+-- below all components
+nowhere : Placed
+nowhere = record { number = 0; content = None; path = [] }
 
 pub pass-whole : (lines : List Line) → Rises 0 lines →
-    pass (bottom ∷ []) None nothing_gathered lines ≡ unless (first_fault (placed_from [] lines)) (gathered_from nothing_gathered [] (placed_from [] lines))
-pass-whole lines r = pass-lines lines [] (record { begun = 0; lines = [] } ∷ []) [] 0 None nothing_gathered (refl, refl) tt (omega arith) r refl
+    pass (bottom ∷ []) None nothing_gathered lines ≡ unless (first_fault (placed_from [] lines)) (gathered_from (placed_from [] lines) nothing_gathered [] (placed_from [] lines))
+pass-whole lines r = pass-lines lines (placed_from [] lines) [] (record { begin = nowhere; lines = [] } ∷ []) [] 0 None nothing_gathered refl refl tt (omega arith) r refl

@@ -1,6 +1,6 @@
 -- The table of faults and the pass, for each name that a line may have.
 use Rattle.std.proofs.Common.{◌≡◌, ℕ, Bool, true, false, List, [], ◌∷◌, map, refl, ap, ◌∙◌, cond, Option, Some, None, Result, Ok, Err, ℤ}
-use Rattle.std.specs.Prelude.{codes, nat_le, not, ◌&&◌, ◌||◌, is_some, if◌then◌else◌}
+use Rattle.std.specs.Prelude.{codes, length, ◌==◌, nat_le, not, ◌&&◌, ◌||◌, is_some, if◌then◌else◌}
 use Rattle.std.specs.List.{list_any}
 use Rattle.std.specs.Str.{bytes_eq}
 use Rattle.ics_text.specs.Bytes.{upper}
@@ -59,8 +59,8 @@ onsets_at u v =
     else []
 
 -- The table, of what it reads of a line: its name, its value in upper case, its parts, its place, and tests of what stands around it.
-abbrev pub flat : (u w : List ℕ) (v : Parts) (q : Place) (cl deep filled start be some fields h : Bool) → Option FaultKind
-flat u w v q cl deep filled start be some fields h =
+abbrev pub flat : (u w : List ℕ) (v : Parts) (q : Place) (cl deep filled start be bare fields h : Bool) → Option FaultKind
+flat u w v q cl deep filled start be bare fields h =
     if (is_observance_place q && list_any has_bad_stamp (onsets_at u v)) || (is_event_place q && list_any has_bad_stamp (dates_at u v)) || (is_event_place q && list_any (bytes_eq u) stamp_names && is_bad_stamp (stamp_read v.params v.value)) then Some BadStamp
     else if (is_observance_place q && list_any has_bad_duration (onsets_at u v)) || (is_event_place q && list_any has_bad_duration (dates_at u v)) || (is_event_place q && bytes_eq u (codes "DURATION") && is_bad_duration (lasting_of v.value)) then Some BadDuration
     else if is_observance_place q && list_any (bytes_eq u) offset_names && is_bad_offset (offset_of v.value) then Some BadOffset
@@ -71,7 +71,7 @@ flat u w v q cl deep filled start be some fields h =
     || (is_event_place q && bytes_eq u (codes "DURATION") && is_large_duration (lasting_of v.value))
     || ((is_event_place q || is_observance_place q) && bytes_eq u (codes "RRULE") && is_large_rule (rule_of v.value))
     || (is_event_place q && bytes_eq u (codes "SEQUENCE") && is_large_integer (integer_of v.value)) then Some NumberTooLarge
-    else if bytes_eq u (codes "END") && cl && is_zone_place q && not some then Some NoObservance
+    else if bare then Some NoObservance
     else if (is_observance_place q && list_any is_not_local (onsets_at u v))
     || (bytes_eq u (codes "END") && cl && not fields)
     || (list_any (bytes_eq u) (field_names q) && h) then Some ObservanceField
@@ -88,10 +88,21 @@ flat u w v q cl deep filled start be some fields h =
     else if is_calendar_place q && bytes_eq u (codes "VERSION") && bytes_eq v.value (codes "1.0") then Some OldVersion
     else None
 
+-- only the END of a time zone asks for an observance
+abbrev pub is_bare : List ℕ → Place → Bool → Bool → Bool
+is_bare u q cl some = bytes_eq u (codes "END") && cl && is_zone_place q && not some
+
+pub asked-same : (u : List ℕ) (q : Place) (cl some other : Bool) → (is_zone_place q ≡ true → some ≡ other) → is_bare u q cl some ≡ is_bare u q cl other
+asked-same u q cl some other = by_tests (bytes_eq u (codes "END") && cl) (is_zone_place q)
+  where
+    by_tests : (b z : Bool) → (z ≡ true → some ≡ other) → (b && z && not some) ≡ (b && z && not other)
+    by_tests true true e = ap not (e refl)
+    by_tests true false e = refl
+    by_tests false z e = refl
+
 -- what is collected of some lines of a calendar, read as those of an event, of a time zone and of an observance
 pub record Gathered : Type 0 where
   pub calendar : ℕ
-  pub begun : ℕ
   pub event : Collected
   pub zone : ZoneSummary
   pub observance : ObservanceSummary
@@ -105,6 +116,10 @@ summary_at _ g = summary.Nothing
 abbrev pub bad_end_of : Collected → Bool
 bad_end_of had = (is_some had.end && is_some had.duration) || ends_badly had.start had.end
 
+-- an observance has ended in the time zone
+abbrev pub has_observance : Gathered → Bool
+has_observance g = not (length g.zone.observances == 0)
+
 abbrev pub has_fields : Place → Gathered → Bool
 has_fields place.Zone g = is_some g.zone.name && true
 has_fields place.Observance g = is_some g.observance.start && (is_some g.observance.from && (is_some g.observance.to && true))
@@ -112,10 +127,10 @@ has_fields _ g = true
 
 -- the frame of a component, with what is collected of it
 abbrev pub frame_at : Component → Place → Gathered → Frame
-frame_at c q g = record { component = c; place = q; calendar = g.calendar; begun = g.begun; summary = summary_at q g }
+frame_at c q g = record { component = c; place = q; calendar = g.calendar; summary = summary_at q g }
 
 abbrev pub flat_of : List ℕ → Parts → Place → Bool → ℕ → Gathered → Bool → Option FaultKind
-flat_of u v q cl depth g h = flat u (map upper v.value) v q cl (nat_le 32 depth) (is_filled g.event.uid) (is_some g.event.start) (bad_end_of g.event) g.zone.has_observance (has_fields q g) h
+flat_of u v q cl depth g h = flat u (map upper v.value) v q cl (nat_le 32 depth) (is_filled g.event.uid) (is_some g.event.start) (bad_end_of g.event) (is_bare u q cl (has_observance g)) (has_fields q g) h
 
 abbrev pub fault_of : Name → Parts → Component → Place → ℕ → Gathered → Option FaultKind
 fault_of n v c q depth g = fault_in n v (frame_at c q g) depth
@@ -277,10 +292,11 @@ at-offset_to v c place.Event cl depth g = refl
 at-offset_to v c _ cl depth g = refl
 
 -- what the END of a time zone, and that of an observance, meets
-zone-end : (some name : Bool) →
-    cond (not some) (Some NoObservance) (cond (not (name && true) || false) (Some ObservanceField) None) ≡ cond (not some) (Some NoObservance) (cond (not name) (Some ObservanceField) None)
-zone-end some true = refl
-zone-end some false = refl
+zone-end : (none name : Bool) →
+    cond (not (not none)) (Some NoObservance) (cond (not (name && true) || false) (Some ObservanceField) None) ≡ cond none (Some NoObservance) (cond (not name) (Some ObservanceField) None)
+zone-end true name = refl
+zone-end false true = refl
+zone-end false false = refl
 
 observance-end : (a b c : Bool) → cond (not (a && (b && (c && true))) || false) (Some ObservanceField) None ≡ cond (a && b && c) None (Some ObservanceField)
 observance-end true true true = refl
@@ -292,13 +308,13 @@ pub at-end : (v : Parts) (c : Component) (q : Place) (cl : Bool) (depth : ℕ) (
     flat_of (codes "END") v q cl depth g h ≡ fault_of name.End v c q depth g
 at-end v c place.Outside true depth g h e = refl
 at-end v c place.Outside false depth g h e = refl
-at-end v c place.Zone true depth g h e = rw (e refl) (zone-end g.zone.has_observance (is_some g.zone.name))
+at-end v c place.Zone true depth g h e = rw (e refl) (zone-end (length g.zone.observances == 0) (is_some g.zone.name))
 at-end v c place.Observance true depth g h e = rw (e refl) (observance-end (is_some g.observance.start) (is_some g.observance.from) (is_some g.observance.to))
 at-end v c _ true depth g h e = rw (e refl) refl
 at-end v c _ false depth g h e = rw (e refl) refl
 
 outside-begin : (b : Component) (w : List ℕ) (v : Parts) (c : Component) (cl : Bool) (depth : ℕ) (g : Gathered) (h : Bool) → TellsComponent w b →
-    flat (codes "BEGIN") w v place.Outside cl (nat_le 32 depth) (is_filled g.event.uid) (is_some g.event.start) (bad_end_of g.event) g.zone.has_observance true h ≡ first (outside_fault place.Outside b) (fault_if TooDeep (nat_le 32 depth))
+    flat (codes "BEGIN") w v place.Outside cl (nat_le 32 depth) (is_filled g.event.uid) (is_some g.event.start) (bad_end_of g.event) false true h ≡ first (outside_fault place.Outside b) (fault_if TooDeep (nat_le 32 depth))
 outside-begin component.Calendar w v c cl depth g h e = rw e refl
 outside-begin component.Event w v c cl depth g h e = rw e refl
 outside-begin component.Zone w v c cl depth g h e = rw e refl

@@ -7,7 +7,6 @@ use Rattle.ics_text.specs.Unfolded.{Line, Rises}
 use Rattle.ics_text.specs.Contents.{Parts, content_of}
 use Rattle.ics_calendar.specs.declared.frame.Frame.{Frame}
 use Rattle.ics_calendar.specs.declared.gathered.EndedEvent.{EndedEvent}
-use Rattle.ics_calendar.specs.declared.gathered.EndedObservance.{EndedObservance}
 use Rattle.ics_calendar.specs.declared.gathered.EndedZone.{EndedZone}
 use Rattle.ics_calendar.specs.declared.gathered.Waiting.{Waiting}
 use Rattle.ics_calendar.specs.declared.later.Later.{Later}
@@ -18,45 +17,45 @@ use Rattle.ics_calendar.specs.Event.{EventSeen}
 use Rattle.ics_calendar.specs.Faults.{stands, stands_later, kinds}
 use Rattle.ics_calendar.specs.Files.{event_by, begins_event, said_of, decide}
 use Rattle.ics_calendar.specs.FirstFault.{found, least_on, first_from, first_fault, later_fault, fault_at_end}
-use Rattle.ics_calendar.specs.Gathered.{first_judged, settled}
+use Rattle.ics_calendar.specs.Gathered.{first_judged, settled_by, settled}
 use Rattle.ics_calendar.specs.Gathering.{nothing_gathered, waits_of}
-use Rattle.ics_calendar.specs.Laters.{KnownZones, known_zones, zone_index, judged}
+use Rattle.ics_calendar.specs.Laters.{KnownZones, known_zones, judged}
 use Rattle.ics_calendar.proofs.Judged.{later_in}
 use Rattle.ics_calendar.specs.Placed.{Placed, Open, path_behind, placed_from, place_of, begins, beside, calendar_of, lines_in}
 use Rattle.ics_calendar.specs.Names.{name_of}
-use Rattle.ics_calendar.specs.Zones.{zones_of, zone_names, zones_on, zones_from}
-use Rattle.ics_calendar.proofs.Ended.{events, zones, observances}
+use Rattle.ics_calendar.specs.Zones.{zones_of, zone_names, zones_on}
+use Rattle.ics_calendar.proofs.Ended.{events, zones}
 use Rattle.ics_calendar.proofs.EventOrder.{events-are}
 use Rattle.ics_calendar.proofs.Frames.{with}
 use Rattle.ics_calendar.proofs.LaterTable.{later-same}
 use Rattle.ics_calendar.proofs.Order.{found-none, inside, begun, ordered, nested}
-use Rattle.ics_calendar.proofs.PassLemmas.{waits_from, gathered_from, lists, four, with_content}
+use Rattle.ics_calendar.proofs.PassLemmas.{waits_from, gathered_from, lists, three, with_content}
 use Rattle.ics_calendar.proofs.Table.{frame_of}
-use Rattle.ics_calendar.proofs.ZoneOrder.{zones-are, observances-are, zones-begun, names-begun, calendar-inside}
+use Rattle.ics_calendar.proofs.ZoneOrder.{zones-are, zones-begun, names-begun, calendar-inside}
 
 -- WHAT WAITS, judged in order, has the first fault of the second round.
 found-waits : (known : KnownZones) (number : ℕ) (o : Option Later) (ws : List Waiting) → first_judged known (waits_of number o ++ ws) ≡ found number (option_and_then (judged known) o) (first_judged known ws)
 found-waits known number None ws = refl
 found-waits known number (Some l) ws = refl
 
-abbrev Judges : KnownZones → List Placed → List Placed → Type 0
-Judges known before lines = first_from stands fault_at_end before lines ≡ None → first_judged known (waits_from before lines) ≡ first_from (stands_later known) (λ b. None) before lines
+abbrev Judges : List Placed → KnownZones → List Placed → List Placed → Type 0
+Judges whole known before lines = first_from stands fault_at_end before lines ≡ None → first_judged known (waits_from whole before lines) ≡ first_from (stands_later known) (λ b. None) before lines
 
-judges : (known : KnownZones) (lines : List Line) (before : List Placed) (path : List Open) → Judges known before (placed_from path lines)
-judges known [] before path e = refl
-judges known (line ∷ lines) before path e = by_content (judges known lines) (content_of line.bytes) e
+judges : (whole : List Placed) (known : KnownZones) (lines : List Line) (before : List Placed) (path : List Open) → Judges whole known before (placed_from path lines)
+judges whole known [] before path e = refl
+judges whole known (line ∷ lines) before path e = by_content (judges whole known lines) (content_of line.bytes) e
   where
-    by_content : ((before : List Placed) (path : List Open) → Judges known before (placed_from path lines)) →
-        (o : Option Parts) → Judges known before (with_content line path o ∷ placed_from (path_behind (with_content line path o)) lines)
+    by_content : ((before : List Placed) (path : List Open) → Judges whole known before (placed_from path lines)) →
+        (o : Option Parts) → Judges whole known before (with_content line path o ∷ placed_from (path_behind (with_content line path o)) lines)
     by_content again None e = cc
     by_content again (Some v) e =
         let l : Placed = with line path v in
-        let f : Frame = frame_of path (beside before l) in
+        let f : Frame = frame_of whole path (beside before l) in
         let rest : List Placed = placed_from (path_behind l) lines in
         let behind : List Placed = before ++ l ∷ [] in
         let none = found-none line.number (least_on stands before l) (first_from stands fault_at_end behind rest) e in
-        found-waits known line.number (later_in (name_of (map upper v.name)) v f) (waits_from behind rest)
-        ∙ ap (λ k. found line.number k (first_judged known (waits_from behind rest))) (sym (later-same known line path v (beside before l) (nested (λ kind. stands kind (beside before l) l) none.0)))
+        found-waits known line.number (later_in (name_of (map upper v.name)) v f) (waits_from whole behind rest)
+        ∙ ap (λ k. found line.number k (first_judged known (waits_from whole behind rest))) (sym (later-same whole known line path v (beside before l) (nested (λ kind. stands kind (beside before l) l) none.0)))
         ∙ ap (found line.number (find (λ kind. stands_later known kind (beside before l) l) kinds)) (again behind (path_behind l) none.1)
 
 -- THE EVENTS, by what is gathered.
@@ -77,21 +76,17 @@ events-begun index whole (l ∷ ls) = by_test (events-begun index whole ls) (is_
 
 -- WHAT IS SETTLED.
 pub settled-is : (lines : List Line) → Rises 0 lines → first_fault (placed_from [] lines) ≡ None →
-    settled (gathered_from nothing_gathered [] (placed_from [] lines)) ≡ decide None (later_fault (placed_from [] lines)) (said_of (placed_from [] lines))
+    settled (gathered_from (placed_from [] lines) nothing_gathered [] (placed_from [] lines)) ≡ decide None (later_fault (placed_from [] lines)) (said_of (placed_from [] lines))
 settled-is lines r first =
     let whole : List Placed = placed_from [] lines in
-    let zs : List EndedZone = begun zones whole whole in
-    let os : List EndedObservance = begun observances whole whole in
+    let zs : List EndedZone = begun (zones whole) whole whole in
     let es : List EndedEvent = begun events whole whole in
-    let ws : List Waiting = waits_from [] whole in
-    let names : List ZoneName = zone_names whole in
-    let index : ZoneName → Option ℕ = zone_index names in
-    let gathered_is : gathered_from nothing_gathered [] whole ≡ lists zs os es ws =
-    four (ordered zones zones-are lines whole [] [] 0 refl tt (omega arith) r (λ e. refl) first)
-    (ordered observances observances-are lines whole [] [] 0 refl tt (omega arith) r (λ e. refl) first)
-    (ordered events events-are lines whole [] [] 0 refl tt (omega arith) r (λ e. refl) first) refl in
+    let ws : List Waiting = waits_from whole [] whole in
+    let known : KnownZones = zones_on whole in
+    let gathered_is : gathered_from whole nothing_gathered [] whole ≡ lists zs es ws =
+    three (ordered (zones whole) (zones-are whole) lines whole [] [] 0 refl tt (omega arith) r (λ e. refl) first) (ordered events events-are lines whole [] [] 0 refl tt (omega arith) r (λ e. refl) first) refl in
     ap settled gathered_is
-    ∙ ap (λ ns. decide None (first_judged (known_zones ns (zones_from zs os)) ws) (record { zones = zones_from zs os; events = map (event_of (zone_index ns)) es })) (sym (names-begun whole whole))
-    ∙ ap (λ ps. decide None (first_judged (known_zones names ps) ws) (record { zones = ps; events = map (event_of index) es })) (sym (zones-begun whole whole))
-    ∙ ap (λ f. decide None f (record { zones = zones_of whole; events = map (event_of index) es })) (judges (zones_on whole) lines [] [] first)
-    ∙ ap (λ es. decide None (later_fault whole) (record { zones = zones_of whole; events = es })) (events-begun index whole whole)
+    ∙ ap (λ ns. settled_by (known_zones ns (map (λ z. z.observances) zs)) (lists zs es ws)) (sym (names-begun whole whole))
+    ∙ ap (λ ps. settled_by (known_zones (zone_names whole) ps) (lists zs es ws)) (zones-begun whole whole)
+    ∙ ap (λ f. decide None f (record { zones = zones_of whole; events = map (event_of known.index) es })) (judges whole known lines [] [] first)
+    ∙ ap (λ es. decide None (later_fault whole) (record { zones = zones_of whole; events = es })) (events-begun known.index whole whole)

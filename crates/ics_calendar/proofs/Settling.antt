@@ -1,5 +1,5 @@
 -- What is gathered of a file, settled: its first fault of the second round, or what it says.
-use Rattle.std.proofs.Common.{◌≡◌, ℕ, ◌<◌, List, [], ◌∷◌, map, length, get_or, refl, sym, ap, ◌∙◌, subst, Option, Some, None, Ok, Err}
+use Rattle.std.proofs.Common.{◌≡◌, ℕ, ◌<◌, List, [], ◌∷◌, map, length, get_or, refl, sym, ap, ◌∙◌, subst, Option, Some, None}
 use Rattle.std.specs.List.{All, AllByRecursion, Contains}
 use Rattle.std.specs.Option.{option_map}
 use Rattle.std.proofs.lemmas.List.{length-map}
@@ -14,10 +14,9 @@ use Rattle.ics_calendar.specs.declared.gathered.Waiting.{Waiting}
 use Rattle.ics_calendar.specs.declared.later.Later.{Later}
 use Rattle.ics_calendar.specs.declared.later.ZoneName.{ZoneName}
 use Rattle.ics_calendar.specs.Collecting.{event_of}
-use Rattle.ics_calendar.specs.Event.{EventSeen, AreEventsOf, seconds_of}
-use Rattle.ics_calendar.specs.Files.{decide}
+use Rattle.ics_calendar.specs.Event.{AreEventsOf, seconds_of}
 use Rattle.ics_calendar.specs.FirstFault.{Fault, found}
-use Rattle.ics_calendar.specs.Gathered.{names_in, zones_in, known_in, first_judged, said_in, settled}
+use Rattle.ics_calendar.specs.Gathered.{known_in, first_judged}
 use Rattle.ics_calendar.specs.GatheredSeen.{GatheredSeen}
 use Rattle.ics_calendar.specs.GatheredSound.{IsSoundGathered}
 use Rattle.ics_calendar.specs.Laters.{KnownZones, zone_index, moment_at, judged}
@@ -51,32 +50,21 @@ ready g s n =
       zones = each-weaker (Contains (map (λ w. w.later) g.waits)) (λ l. judged (known_in g) l ≡ None) (awaited-fine (known_in g) _ fine) _ (s.awaited i d l);
     }
 
--- THE ANSWER, by a table of the names and the zones.
-module _ (g : GatheredSeen) (index : ZoneName → Option ℕ) (zones : List (List Phase)) (e : index ≡ zone_index (names_in g)) (f : zones ≡ zones_in g) where
-  abbrev here : KnownZones
-  here = record { index = index; zones = zones }
+-- THE ANSWER.
+pub known-is : (g : GatheredSeen) (known : KnownZones) → known.index ≡ zone_index (map (λ z. z.name) g.zones) → known.zones ≡ map (λ z. z.observances) g.zones → known ≡ known_in g
+known-is g known e f =
+    ap (λ (i : ZoneName → Option ℕ). record { index = i; zones = known.zones }) e
+    ∙ ap (λ (zs : List (List Phase)). record { index = zone_index (map (λ z. z.name) g.zones); zones = zs }) f
 
-  known-same : here ≡ known_in g
-  known-same = ap (λ (i : ZoneName → Option ℕ). record { index = i; zones = zones }) e ∙ ap (λ (z : List (List Phase)). record { index = zone_index (names_in g); zones = z }) f
+abbrev pub IsSettled : KnownZones → GatheredSeen → Type 0
+IsSettled known g = (known ≡ known_in g) × (first_judged known g.waits ≡ None)
 
-  judged-same : first_judged here g.waits ≡ first_judged (known_in g) g.waits
-  judged-same = ap (λ (k : KnownZones). first_judged k g.waits) known-same
+pub ready-here : (g : GatheredSeen) (known : KnownZones) → IsSoundGathered g → IsSettled known g → All (IsReady known) g.events
+ready-here g known s h = subst (λ (k : KnownZones). All (IsReady k) g.events) (sym h.0) (ready g s (ap (λ (k : KnownZones). first_judged k g.waits) (sym h.0) ∙ h.1))
 
-  pub settled-fault : (fault : Fault) → Some fault ≡ first_judged here g.waits → Err fault ≡ settled g
-  settled-fault fault h = ap (λ o. decide None o (said_in g)) (h ∙ judged-same)
-
-  pub settled-said : (after : List (List Phase)) (events : List EventSeen) → None ≡ first_judged here g.waits → after ≡ zones → events ≡ map (event_of index) g.events → Ok (record { zones = after; events = events }) ≡ settled g
-  settled-said after events h z v =
-      ap (λ (zs : List (List Phase)). Ok (record { zones = zs; events = events })) (z ∙ f)
-      ∙ (ap (λ (es : List EventSeen). Ok (record { zones = zones_in g; events = es })) (v ∙ ap (λ (i : ZoneName → Option ℕ). map (event_of i) g.events) e)
-      ∙ ap (λ o. decide None o (said_in g)) (h ∙ judged-same))
-
-  pub ready-here : IsSoundGathered g → None ≡ first_judged here g.waits → All (IsReady here) g.events
-  ready-here s h = subst (λ (k : KnownZones). All (IsReady k) g.events) (sym known-same) (ready g s (sym judged-same ∙ sym h))
-
-  pub events-here : (after : List (List Phase)) (events : List EventSeen) → IsSoundGathered g → None ≡ first_judged here g.waits → after ≡ zones → events ≡ map (event_of index) g.events → AreEventsOf after events
-  events-here after events s h z v =
-      let long : length (names_in g) ≡ length (zones_in g) = length-map g.zones (λ z. z.name) ∙ sym (length-map (map (λ z. (z.begun, z.name)) g.zones) _ ∙ length-map g.zones (λ z. (z.begun, z.name))) in
-      subst (λ (zs : List (List Phase)). AreEventsOf zs events) (sym (z ∙ f))
-      (subst (λ (es : List EventSeen). AreEventsOf (zones_in g) es) (sym (v ∙ ap (λ (i : ZoneName → Option ℕ). map (event_of i) g.events) e))
-      (events-of (names_in g) (zones_in g) long g.events (ready g s (sym judged-same ∙ sym h))))
+pub events-here : (g : GatheredSeen) (known : KnownZones) → IsSoundGathered g → IsSettled known g → AreEventsOf known.zones (map (event_of known.index) g.events)
+events-here g known s h =
+    let names : List ZoneName = map (λ z. z.name) g.zones in
+    let zones : List (List Phase) = map (λ z. z.observances) g.zones in
+    let long : length names ≡ length zones = length-map g.zones (λ z. z.name) ∙ sym (length-map g.zones (λ z. z.observances)) in
+    subst (λ (k : KnownZones). AreEventsOf k.zones (map (event_of k.index) g.events)) (sym h.0) (events-of names zones long g.events (subst (λ (k : KnownZones). All (IsReady k) g.events) h.0 (ready-here g known s h)))

@@ -1,10 +1,10 @@
 -- What is collected of an event or of an observance is in order.
-use Rattle.std.proofs.Common.{◌≡◌, ◌≤◌, ◌+◌, ◌*◌, ℕ, Bool, true, false, ◌&&◌, nat_le, List, [], ◌∷◌, refl, sym, subst, arith, cond, Option, Some, None, IfSome, Result, Ok, Err, map, ℤ, pos}
-use Rattle.std.specs.Prelude.{filter_map}
-use Rattle.std.specs.List.{All}
+use Rattle.std.proofs.Common.{◌≡◌, ◌≤◌, ◌+◌, ◌*◌, ℕ, Bool, true, false, ◌&&◌, nat_le, ◌==◌, List, [], ◌∷◌, length, refl, sym, ap, ◌∙◌, subst, arith, cond, Option, Some, None, IfSome, Result, Ok, Err, map, ℤ, pos, ◌≢◌, ◌||◌, not, IsTrue, neg_ℤ}
+use Rattle.std.specs.Prelude.{filter_map, is_some, int_le, unwrap_or}
+use Rattle.std.specs.List.{All, list_all}
 use Rattle.std.proofs.lemmas.Bool.Decides.{nat_tests}
 use Rattle.std.proofs.lemmas.Int.{ints}
-use Rattle.std.proofs.lemmas.List.Elements.{All-nil, All-cons, All-push, All-append}
+use Rattle.std.proofs.lemmas.List.Elements.{All-nil, All-cons, All-push, All-append, All-head, All-tail}
 use Rattle.jiff_core.specs.Calendar.{IsWithin}
 use Rattle.ics_text.specs.Bytes.{upper}
 use Rattle.ics_text.specs.Contents.{Parts}
@@ -35,14 +35,26 @@ use Rattle.ics_calendar.specs.declared.summary.Summary.{Summary}
 use Rattle.ics_calendar.specs.declared.summary.Summary.TheVariants as summary
 use Rattle.ics_calendar.specs.Components.{component_of, place_in}
 use Rattle.ics_calendar.specs.DateValues.{date_time_of, has_slash, rdate_of, rdates_of}
-use Rattle.ics_calendar.specs.Lines.{or_first, begin_in, opened}
-use Rattle.ics_calendar.specs.Sound.{IsSoundStamp, IsSoundList}
-use Rattle.ics_calendar.specs.Summaries.{fresh}
-use Rattle.ics_calendar.specs.Values.{zone_name, dated_of, duration_in, lasting_of, is_lasting, is_fine}
+use Rattle.ics_calendar.specs.Lines.{or_first, opened, end_of_event, end_of_zone}
+use Rattle.ics_calendar.specs.Sound.{IsSoundStamp, IsSoundList, IsSoundLength, IsWhole}
+use Rattle.ics_calendar.specs.Summaries.{fresh, zone_ended, observance_ended}
+use Rattle.ics_calendar.specs.Values.{zone_name, dated_of, duration_in, lasting_of, is_lasting, is_fine, is_filled, ends_badly}
 use Rattle.ics_calendar.specs.Zones.{local_in, onset_in, offset_in, daily_in}
-use Rattle.ics_calendar.proofs.Judged.{event_note, observance_note, summary_note, closed, behind, behind-is, is_begin_name, is_end_name}
+use Rattle.ics_calendar.proofs.Judged.{event_note, zone_note, observance_note, summary_note, joined, closed, behind, behind-is, is_begin_name, is_end_name, end_of, end_fault_at, ended_as, ends, fault_on}
 use Rattle.ics_calendar.proofs.SoundValues.{stamp-range, sound-stamp, sound-lasting, sound-rdates, sound-exdates}
-use Rattle.std.specs.Prelude.{is_some}
+use Rattle.ics_values.specs.Locals.{local_at}
+use Rattle.ics_values.specs.declared.duration.Duration.{Duration}
+use Rattle.ics_values.specs.declared.frequency.Frequency.{Frequency}
+use Rattle.ics_values.specs.declared.frequency.Frequency.TheVariants as frequency
+use Rattle.ics_zone.specs.Observances.{is_finer_than_daily, is_finer_rule, Phase}
+use Rattle.ics_zone.specs.Years.{is_stamp_local}
+use Rattle.ics_calendar.specs.declared.fault.FaultKind.TheVariants.{NoObservance, ObservanceField, MissingUid, MissingStart, BadEnd}
+use Rattle.ics_calendar.specs.Collecting.{event_ended}
+use Rattle.ics_calendar.specs.Gathering.{zones_of_end, events_of_end}
+use Rattle.ics_calendar.specs.Times.{dated_in, given_length}
+use Rattle.ics_calendar.specs.ZonesSound.{IsSoundPhase, IsSoundZone}
+use Rattle.ics_calendar.specs.declared.summary.ZoneSummary.{ZoneSummary}
+use Rattle.ics_calendar.specs.declared.gathered.EndedZone.{EndedZone}
 
 -- WHAT IS COLLECTED of an event: stamps in the years of stamps, and durations that an event may have.
 pub record IsSound (had : Collected) : Type 0 where
@@ -67,7 +79,7 @@ pub record IsSoundPart (had : ObservanceSummary) : Type 0 where
 -- what is collected is of the kind that stands there, and in order
 abbrev pub IsSoundAt : Place → Summary → Type 0
 IsSoundAt place.Event (summary.Event had) = IsSound had
-IsSoundAt place.Zone (summary.Zone had) = Unit {0}
+IsSoundAt place.Zone (summary.Zone had) = All IsSoundPhase had.observances
 IsSoundAt place.Observance (summary.Observance had) = IsSoundPart had
 IsSoundAt place.Outside summary.Nothing = Unit {0}
 IsSoundAt place.Calendar summary.Nothing = Unit {0}
@@ -196,32 +208,77 @@ noted-part name.Rrule v had s = record { start = s.start; from = s.from; to = s.
 noted-part name.Rdate v had s = record { start = s.start; from = s.from; to = s.to; rule = s.rule; rdates = All-append IsSoundLocal had.rdates (filter_map local_in (rdates_of false v.value)) s.rdates (locals-sound (pieces 44 v.value)) }
 noted-part _ v had s = record { start = s.start; from = s.from; to = s.to; rule = s.rule; rdates = s.rdates }
 
+kept-zone : (n : Name) (v : Parts) (had : ZoneSummary) → All IsSoundPhase had.observances → All IsSoundPhase (zone_note n v had).observances
+kept-zone name.Tzid v had h = h
+kept-zone _ v had h = h
+
 kept-at : (q : Place) (n : Name) (v : Parts) (s : Summary) → IsSoundAt q s → IsSoundAt q (summary_note n v s)
 kept-at place.Event n v (summary.Event had) h = noted-sound n v had h
 kept-at place.Observance n v (summary.Observance had) h = noted-part n v had h
-kept-at place.Zone n v (summary.Zone had) h = tt
+kept-at place.Zone n v (summary.Zone had) h = kept-zone n v had h
 kept-at place.Outside n v summary.Nothing h = tt
 kept-at place.Calendar n v summary.Nothing h = tt
 kept-at place.Elsewhere n v summary.Nothing h = tt
 kept-at _ n v _ h = absurd h
 
-kept-begin : (c : Component) (q : Place) (s : Summary) → IsSoundAt q s → IsSoundAt q (begin_in c s)
-kept-begin c place.Event (summary.Event had) h = h
-kept-begin c place.Observance (summary.Observance had) h = h
-kept-begin c place.Zone (summary.Zone had) h = tt
-kept-begin c place.Outside summary.Nothing h = tt
-kept-begin c place.Calendar summary.Nothing h = tt
-kept-begin c place.Elsewhere summary.Nothing h = tt
-kept-begin c _ _ h = absurd h
-
 fresh-sound : (q : Place) → IsSoundAt q (fresh q)
 fresh-sound place.Event = record { start = tt; end = tt; duration = tt; rdates = All-nil IsSoundList; exdates = All-nil IsSoundList; recurrence = tt }
 fresh-sound place.Observance = record { start = tt; from = tt; to = tt; rule = tt; rdates = All-nil IsSoundLocal }
+fresh-sound place.Zone = All-nil IsSoundPhase
 fresh-sound _ = tt
+
+-- AN OBSERVANCE is one that a time zone may have.
+onset-day : (o : Option Local) → IfSome o IsSoundLocal → IsStampDay (unwrap_or o (local_at (pos 0) 0)).day
+onset-day None h = (omega (arith, ints), omega (arith, ints))
+onset-day (Some local) h = h
+
+offset-there : (o : Option ℤ) → IfSome o (IsWithin 86_399) → IsWithin 86_399 (unwrap_or o (pos 0))
+offset-there None h = (omega (arith, ints), omega (arith, ints))
+offset-there (Some offset) h = h
+
+local-tests : (local : Local) → IsStampDay local.day → is_stamp_local local ≡ true
+local-tests local h = by_tests (int_le (neg_ℤ (pos 719_162)) local.day) (int_le local.day (pos 2_896_372)) refl refl
+  where
+    by_tests : (a b : Bool) → int_le (neg_ℤ (pos 719_162)) local.day ≡ a → int_le local.day (pos 2_896_372) ≡ b → (a && b) ≡ true
+    by_tests true true p q = refl
+    by_tests true false p q = absurd (omega (arith, ints, q, h.1))
+    by_tests false b p q = absurd (omega (arith, ints, p, h.0))
+
+locals-tests : (locals : List Local) → All IsSoundLocal locals → IsTrue (list_all is_stamp_local locals)
+locals-tests [] h = refl
+locals-tests (l ∷ ls) h = rw (local-tests l (All-head IsSoundLocal l ls h)) (locals-tests ls (All-tail IsSoundLocal l ls h))
+
+daily : (f : Frequency) → is_fine f ≡ false → is_finer_than_daily f ≡ false
+daily frequency.Secondly e = cc
+daily frequency.Minutely e = cc
+daily frequency.Hourly e = cc
+daily _ e = refl
+
+rule-daily : (o : Option RuleParts) → IfSome o (λ rule. is_fine rule.frequency ≡ false) → is_finer_rule o ≡ false
+rule-daily None h = refl
+rule-daily (Some parts) h = daily parts.frequency h
+
+part-sound : (had : ObservanceSummary) → IsSoundPart had → IsSoundPhase (observance_ended had)
+part-sound had s = record {
+  bounds = record { start_in = onset-day had.start s.start; from_in = offset-there had.from s.from; to_in = offset-there had.to s.to };
+  rdates = locals-tests had.rdates s.rdates;
+  daily = rule-daily had.rule s.rule;
+}
+
+joined-sound : (p : Place) (s : Summary) (q : Place) (t : Summary) → IsSoundAt p s → IsSoundAt q t → IsSoundAt q (joined s t)
+joined-sound p (summary.Event had) q t h k = k
+joined-sound p (summary.Zone had) q t h k = k
+joined-sound p summary.Nothing q t h k = k
+joined-sound p (summary.Observance had) q (summary.Event e) h k = k
+joined-sound p (summary.Observance had) q (summary.Observance e) h k = k
+joined-sound p (summary.Observance had) q summary.Nothing h k = k
+joined-sound place.Observance (summary.Observance had) place.Zone (summary.Zone zone) h k = All-push IsSoundPhase zone.observances (observance_ended had) k (part-sound had h)
+joined-sound place.Observance (summary.Observance had) _ (summary.Zone zone) h k = absurd k
+joined-sound _ (summary.Observance had) q (summary.Zone zone) h k = absurd h
 
 closed-sound : (f : Frame) (fs : List Frame) → AreSound (f ∷ fs) → AreSound (closed (f ∷ fs))
 closed-sound f [] s = s
-closed-sound f (g ∷ gs) s = s.1
+closed-sound f (g ∷ gs) s = (joined-sound f.place f.summary g.place g.summary s.0 s.1.0, s.1.1)
 
 pub sound-behind : (number : ℕ) (n : Name) (v : Parts) (f : Frame) (fs : List Frame) → AreSound (f ∷ fs) → AreSound (behind number n v (f ∷ fs))
 sound-behind number n v f fs s = subst (λ (gs : List Frame). AreSound gs) (sym (behind-is number n v f fs)) (by_tests (is_begin_name n) (is_end_name n))
@@ -230,6 +287,80 @@ sound-behind number n v f fs s = subst (λ (gs : List Frame). AreSound gs) (sym 
     c = component_of (map upper v.value)
 
     by_tests : (b e : Bool) → AreSound (cond b (opened number c (f ∷ fs)) (cond e (closed (f ∷ fs)) (record f { summary = summary_note n v f.summary } ∷ fs)))
-    by_tests true e = (fresh-sound (place_in f.place c), (kept-begin c f.place f.summary s.0, s.1))
+    by_tests true e = (fresh-sound (place_in f.place c), s)
     by_tests false true = closed-sound f fs s
     by_tests false false = (kept-at f.place n v f.summary s.0, s.1)
+
+-- AN EVENT is in order as far as locals say.
+filled-not-empty : (o : Option (List ℕ)) → is_filled o ≡ true → unwrap_or o [] ≢ []
+filled-not-empty (Some (b ∷ bs)) e = λ h. cc
+filled-not-empty (Some []) e = cc
+filled-not-empty None e = cc
+
+at-end : (f s b e : Bool) → cond (not f) (Some MissingUid) (cond (not s) (Some MissingStart) (cond (b || e) (Some BadEnd) None)) ≡ None → (f ≡ true) × (s ≡ true) × (e ≡ false)
+at-end false s b e h = cc
+at-end true false b e h = cc
+at-end true true true e h = cc
+at-end true true false true h = cc
+at-end true true false false h = (refl, refl, refl)
+
+whole-event : (k : ℕ) (had : Collected) → IsSound had → end_of_event had ≡ None → IsWhole (event_ended k had)
+whole-event k had s e =
+    let tests = at-end (is_filled had.uid) (is_some had.start) (is_some had.end && is_some had.duration) (ends_badly had.start had.end) e in
+    let times = by_times had.start had.end had.duration s.start s.end s.duration tests.1 tests.2 in
+    record { named = filled-not-empty had.uid tests.0; start = times.0; length = times.1; rdates = s.rdates; exdates = s.exdates; recurrence = s.recurrence }
+  where
+    by_times : (start end : Option Dated) (duration : Option Duration) → IfSome start (λ d. IsSoundStamp d.stamp) → IfSome end (λ d. IsSoundStamp d.stamp) → IfSome duration (λ d. is_lasting d ≡ true) →
+        is_some start ≡ true → ends_badly start end ≡ false → IsSoundStamp (dated_in start).stamp × IsSoundLength (dated_in start) (given_length end duration)
+    by_times None end duration a b c t f = cc
+    by_times (Some d) (Some e) duration a b c t f = (a, (b, f))
+    by_times (Some d) None (Some e) a b c t f = (a, c)
+    by_times (Some d) None None a b c t f = (a, tt)
+
+pub end-none : (q : Place) (matches : Bool) (s : Summary) → end_fault_at q matches s ≡ None → end_of s ≡ None
+end-none place.Outside matches s e = cc
+end-none place.Calendar true s e = e
+end-none place.Calendar false s e = cc
+end-none place.Event true s e = e
+end-none place.Event false s e = cc
+end-none place.Zone true s e = e
+end-none place.Zone false s e = cc
+end-none place.Observance true s e = e
+end-none place.Observance false s e = cc
+end-none place.Elsewhere true s e = e
+end-none place.Elsewhere false s e = cc
+
+pub events-whole : (n : Name) (v : Parts) (frames : List Frame) → fault_on n v frames ≡ None → AreSound frames → All IsWhole (events_of_end (ends n frames))
+events-whole name.End v [] e s = All-nil IsWhole
+events-whole name.End v (f ∷ []) e s = All-nil IsWhole
+events-whole name.End v (f ∷ g ∷ gs) e s = by_summary f.place f.summary (end-none f.place _ f.summary e) s.0
+  where
+    by_summary : (q : Place) (s : Summary) → end_of s ≡ None → IsSoundAt q s → All IsWhole (events_of_end (ended_as f.calendar s))
+    by_summary place.Event (summary.Event had) e h = All-cons IsWhole (event_ended f.calendar had) [] (whole-event f.calendar had h e) (All-nil IsWhole)
+    by_summary _ (summary.Event had) e h = absurd h
+    by_summary q (summary.Observance had) e h = All-nil IsWhole
+    by_summary q (summary.Zone had) e h = All-nil IsWhole
+    by_summary q summary.Nothing e h = All-nil IsWhole
+events-whole _ v frames e s = All-nil IsWhole
+
+-- A TIME ZONE THAT ENDS has an observance.
+abbrev IsSoundEnded : EndedZone → Type 0
+IsSoundEnded zone = IsSoundZone zone.observances
+
+zone-filled : (had : ZoneSummary) → end_of_zone had ≡ None → had.observances ≢ []
+zone-filled had e none =
+    let bad : Some NoObservance ≡ None = ap (λ (os : List Phase). cond (length os == 0) (Some NoObservance) (cond (not (is_some had.name)) (Some ObservanceField) None)) (sym none) ∙ e in
+    cc
+
+pub zones-sound : (n : Name) (v : Parts) (frames : List Frame) → fault_on n v frames ≡ None → AreSound frames → All (λ z. IsSoundZone z.observances) (zones_of_end (ends n frames))
+zones-sound name.End v [] e s = All-nil IsSoundEnded
+zones-sound name.End v (f ∷ []) e s = All-nil IsSoundEnded
+zones-sound name.End v (f ∷ g ∷ gs) e s = by_summary f.place f.summary (end-none f.place _ f.summary e) s.0
+  where
+    by_summary : (q : Place) (s : Summary) → end_of s ≡ None → IsSoundAt q s → All IsSoundEnded (zones_of_end (ended_as f.calendar s))
+    by_summary place.Zone (summary.Zone had) e h = All-cons IsSoundEnded (zone_ended f.calendar had) [] (record { filled = zone-filled had e; sound = h }) (All-nil IsSoundEnded)
+    by_summary _ (summary.Zone had) e h = absurd h
+    by_summary q (summary.Observance had) e h = All-nil IsSoundEnded
+    by_summary q (summary.Event had) e h = All-nil IsSoundEnded
+    by_summary q summary.Nothing e h = All-nil IsSoundEnded
+zones-sound _ v frames e s = All-nil IsSoundEnded

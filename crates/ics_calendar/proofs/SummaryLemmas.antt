@@ -1,17 +1,16 @@
 -- A line changes what is collected of a component as the pass notes it.
-use Rattle.std.proofs.Common.{◌≡◌, ℕ, Bool, true, false, List, [], ◌∷◌, ◌++◌, map, refl, ap, ◌∙◌, cond}
+use Rattle.std.proofs.Common.{◌≡◌, ℕ, Bool, true, false, List, [], ◌∷◌, ◌++◌, map, filter, refl, sym, ap, ◌∙◌, cond}
 use Rattle.std.specs.Prelude.{codes, ◌&&◌, ◌||◌, flat_map, filter_map}
-use Rattle.std.specs.List.{list_any}
 use Rattle.std.specs.Str.{bytes_eq}
-use Rattle.std.proofs.lemmas.List.{append-nil}
+use Rattle.std.proofs.lemmas.List.{append-nil, map-append}
 use Rattle.std.proofs.lemmas.List.Concat.{flat_map-append, flat_map-cons}
 use Rattle.std.proofs.lemmas.List.Elements.{filter-append}
-use Rattle.ics_text.specs.Bytes.{upper}
 use Rattle.ics_text.specs.Contents.{Parts}
 use Rattle.ics_values.specs.Offsets.{offset_of}
 use Rattle.ics_values.specs.Plain.{text_of}
 use Rattle.ics_values.specs.Rules.{rule_of}
 use Rattle.ics_values.specs.Stamps.{stamp_of}
+use Rattle.ics_zone.specs.Observances.{Phase}
 use Rattle.ics_calendar.specs.declared.collected.Collected.{Collected}
 use Rattle.ics_calendar.specs.declared.component.Component.{Component}
 use Rattle.ics_calendar.specs.declared.component.Component.TheVariants as component
@@ -20,59 +19,33 @@ use Rattle.ics_calendar.specs.declared.component.Place.TheVariants as place
 use Rattle.ics_calendar.specs.declared.name.Name.{Name}
 use Rattle.ics_calendar.specs.declared.name.Name.TheVariants as name
 use Rattle.ics_calendar.specs.declared.summary.ObservanceSummary.{ObservanceSummary}
+use Rattle.ics_calendar.specs.declared.summary.Summary.{Summary}
 use Rattle.ics_calendar.specs.declared.summary.Summary.TheVariants as summary
 use Rattle.ics_calendar.specs.declared.summary.ZoneSummary.{ZoneSummary}
-use Rattle.ics_calendar.specs.Components.{component_of, is_observance}
+use Rattle.ics_calendar.specs.Components.{component_of, place_in, is_zone_place, is_observance_place}
 use Rattle.ics_calendar.specs.DateValues.{rdates_of}
 use Rattle.ics_calendar.specs.Names.{name_of}
-use Rattle.ics_calendar.specs.Placed.{Placed, Open, property_name, value, is_named, all_named, begins_observance}
+use Rattle.ics_calendar.specs.Placed.{Placed, Open, property_name, value, place_of, in_zone, is_begin, component, is_named, all_named}
 use Rattle.ics_calendar.specs.Collecting.{collected_of}
 use Rattle.ics_calendar.specs.Lines.{or_first}
-use Rattle.ics_calendar.specs.Summaries.{zone_of, observance_of}
-use Rattle.ics_calendar.specs.Zones.{local_in, onset_in, offset_in, daily_in, onset_on, offset_on, daily_on, onsets_by}
-use Rattle.ics_calendar.proofs.Judged.{event_note, zone_note, observance_note, note_in}
+use Rattle.ics_calendar.specs.Summaries.{zone_of, observance_of, observance_ended}
+use Rattle.ics_calendar.specs.Zones.{local_in, onset_in, offset_in, daily_in, onset_on, offset_on, daily_on, onsets_by, begins_phase}
+use Rattle.ics_calendar.proofs.Judged.{event_note, zone_note, observance_note, summary_note, joined}
 use Rattle.ics_calendar.proofs.NameLemmas.{Tells, tells, TellsComponent, tells_component}
 use Rattle.ics_calendar.proofs.Collects.{collected_of-more, kept-more, parts_at}
-use Rattle.ics_calendar.proofs.Rows.{summary_at, or-false}
-use Rattle.ics_calendar.proofs.Table.{gathered}
+use Rattle.ics_calendar.proofs.Rows.{Gathered, summary_at}
+use Rattle.ics_calendar.proofs.Table.{gathered, own, parts}
+use Rattle.ics_calendar.proofs.Order.{inside}
 
-abbrev zone_noted : Name → Parts → ZoneSummary → ZoneSummary
-zone_noted name.Begin v had = record had { has_observance = had.has_observance || is_observance (component_of (map upper v.value)) }
-zone_noted n v had = zone_note n v had
+zone-noted : (n : Name) (u : List ℕ) (v : Parts) (had : ZoneSummary) → Tells u n → record had { name = cond (bytes_eq u (codes "TZID")) (or_first had.name (text_of v.value)) had.name } ≡ zone_note n v had
+zone-noted name.Other u v had e = rw e.no_tzid refl
+zone-noted name.Tzid u v had e = rw e refl
+zone-noted _ u v had e = rw e refl
 
-any-more : (p : Placed → Bool) (ls : List Placed) (l : Placed) → list_any p (ls ++ l ∷ []) ≡ (list_any p ls || p l)
-any-more p [] l = or-false (p l)
-any-more p (k ∷ ks) l = ap (λ t. p k || t) (any-more p ks l) ∙ apart (p k)
-  where
-    apart : (t : Bool) → (t || (list_any p ks || p l)) ≡ ((t || list_any p ks) || p l)
-    apart true = refl
-    apart false = refl
-
-observance-is : (w : List ℕ) → (bytes_eq w (codes "STANDARD") || bytes_eq w (codes "DAYLIGHT")) ≡ is_observance (component_of w)
-observance-is w = by_component (component_of w) (tells_component w)
-  where
-    by_component : (c : Component) → TellsComponent w c → (bytes_eq w (codes "STANDARD") || bytes_eq w (codes "DAYLIGHT")) ≡ is_observance c
-    by_component component.Calendar e = rw e refl
-    by_component component.Event e = rw e refl
-    by_component component.Zone e = rw e refl
-    by_component component.Standard e = rw e refl
-    by_component component.Daylight e = rw e refl
-    by_component (component.Other n) e = rw (e.0.no_standard, e.0.no_daylight) refl
-
-zone-noted : (n : Name) (u : List ℕ) (v : Parts) (had : ZoneSummary) → Tells u n →
-    record {
-      name = cond (bytes_eq u (codes "TZID")) (or_first had.name (text_of v.value)) had.name;
-      has_observance = had.has_observance || ((bytes_eq u (codes "BEGIN") && bytes_eq (map upper v.value) (codes "STANDARD")) || (bytes_eq u (codes "BEGIN") && bytes_eq (map upper v.value) (codes "DAYLIGHT")));
-    } ≡ zone_noted n v had
-zone-noted name.Begin u v had e = rw e (ap (λ t. record { name = had.name; has_observance = had.has_observance || t }) (observance-is (map upper v.value)))
-zone-noted name.Tzid u v had e = rw e (ap (λ t. record { name = or_first had.name (text_of v.value); has_observance = t }) (or-false had.has_observance))
-zone-noted name.Other u v had e = rw (e.no_tzid, e.no_begin) (ap (λ t. record { name = had.name; has_observance = t }) (or-false had.has_observance))
-zone-noted _ u v had e = rw e (ap (λ t. record { name = had.name; has_observance = t }) (or-false had.has_observance))
-
-zone_of-more : (ls : List Placed) (l : Placed) → zone_of (ls ++ l ∷ []) ≡ zone_noted (name_of (property_name l.content)) (parts_at l) (zone_of ls)
-zone_of-more ls l =
-    rw (kept-more (λ l. text_of (value l)) (codes "TZID") ls l, any-more begins_observance ls l)
-    (zone-noted (name_of (property_name l.content)) (property_name l.content) (parts_at l) (zone_of ls) (tells (property_name l.content)))
+pub zone_of-more : (os : List Phase) (ls : List Placed) (l : Placed) → zone_of os (ls ++ l ∷ []) ≡ zone_note (name_of (property_name l.content)) (parts_at l) (zone_of os ls)
+zone_of-more os ls l =
+    rw (kept-more (λ l. text_of (value l)) (codes "TZID") ls l)
+    (zone-noted (name_of (property_name l.content)) (property_name l.content) (parts_at l) (zone_of os ls) (tells (property_name l.content)))
 
 -- what all lines of a name list, with one line more
 listed-more : {X : Type 0} (f : Placed → List X) (n : List ℕ) (ls : List Placed) (l : Placed) →
@@ -97,31 +70,88 @@ observance-noted name.Other u v had e = simp (e.no_dtstart, e.no_offset_from, e.
 observance-noted name.Begin u v had e = rw e refl
 observance-noted _ u v had e = rw e refl
 
-observance_of-more : (ls : List Placed) (l : Placed) → observance_of (ls ++ l ∷ []) ≡ observance_note (name_of (property_name l.content)) (parts_at l) (observance_of ls)
+pub observance_of-more : (ls : List Placed) (l : Placed) → observance_of (ls ++ l ∷ []) ≡ observance_note (name_of (property_name l.content)) (parts_at l) (observance_of ls)
 observance_of-more ls l =
     rw (kept-more onset_on (codes "DTSTART") ls l, kept-more offset_on (codes "TZOFFSETFROM") ls l, kept-more offset_on (codes "TZOFFSETTO") ls l, kept-more daily_on (codes "RRULE") ls l, listed-more onsets_by (codes "RDATE") ls l)
     (observance-noted (name_of (property_name l.content)) (property_name l.content) (parts_at l) (observance_of ls) (tells (property_name l.content)))
 
--- a line that does not end a component, as it is noted there
-event-in : (n : Name) (v : Parts) (had : Collected) → summary.Event (event_note n v had) ≡ note_in n v (summary.Event had)
-event-in name.Begin v had = refl
-event-in _ v had = refl
+-- THE OBSERVANCES of a time zone, with one line more.
+and-false : (b : Bool) → (b && false) ≡ false
+and-false true = refl
+and-false false = refl
 
-zone-in : (n : Name) (v : Parts) (had : ZoneSummary) → summary.Zone (zone_noted n v had) ≡ note_in n v (summary.Zone had)
-zone-in name.Begin v had = refl
-zone-in _ v had = refl
+parts-more : (whole ls : List Placed) (l : Placed) → parts whole (ls ++ l ∷ []) ≡ parts whole ls ++ cond (begins_phase l) (own whole l ∷ []) []
+parts-more whole ls l =
+    ap (map (own whole)) (filter-append begins_phase ls (l ∷ [])) ∙ map-append (own whole) (filter begins_phase ls) (cond (begins_phase l) (l ∷ []) [])
+    ∙ ap (λ os. parts whole ls ++ os) (by_test (begins_phase l))
+  where
+    by_test : (t : Bool) → map (own whole) (cond t (l ∷ []) []) ≡ cond t (own whole l ∷ []) []
+    by_test true = refl
+    by_test false = refl
 
-observance-in : (n : Name) (v : Parts) (had : ObservanceSummary) → summary.Observance (observance_note n v had) ≡ note_in n v (summary.Observance had)
-observance-in name.Begin v had = refl
-observance-in _ v had = refl
+pub parts-same : (whole ls : List Placed) (l : Placed) → is_begin l ≡ false → parts whole (ls ++ l ∷ []) ≡ parts whole ls
+parts-same whole ls l e =
+    parts-more whole ls l
+    ∙ ap (λ t. parts whole ls ++ cond (in_zone l && ((t && bytes_eq (component l) (codes "STANDARD")) || (t && bytes_eq (component l) (codes "DAYLIGHT")))) (own whole l ∷ []) []) e
+    ∙ ap (λ t. parts whole ls ++ cond t (own whole l ∷ []) []) (and-false (in_zone l)) ∙ append-nil (parts whole ls)
 
-pub nothing-in : (n : Name) (v : Parts) → summary.Nothing ≡ note_in n v summary.Nothing
-nothing-in name.Begin v = refl
-nothing-in _ v = refl
+-- an observance begins exactly on a STANDARD or DAYLIGHT in a time zone
+phase-begins : (q : Place) (w : List ℕ) → is_observance_place (place_in q (component_of w)) ≡ (is_zone_place q && (bytes_eq w (codes "STANDARD") || bytes_eq w (codes "DAYLIGHT")))
+phase-begins q w = by_place q (component_of w) (tells_component w)
+  where
+    by_place : (q : Place) (c : Component) → TellsComponent w c → is_observance_place (place_in q c) ≡ (is_zone_place q && (bytes_eq w (codes "STANDARD") || bytes_eq w (codes "DAYLIGHT")))
+    by_place place.Outside component.Calendar e = refl
+    by_place place.Outside _ e = refl
+    by_place place.Calendar component.Event e = refl
+    by_place place.Calendar _ e = refl
+    by_place place.Zone (component.Other n) e = rw (e.0.no_standard, e.0.no_daylight) refl
+    by_place place.Zone component.Standard e = rw e refl
+    by_place place.Zone component.Daylight e = rw e refl
+    by_place place.Zone _ e = rw e refl
+    by_place _ c e = refl
 
--- WHAT IS COLLECTED of a component, with one line more.
-pub summary-more : (q : Place) (k : List Open) (ls : List Placed) (l : Placed) → summary_at q (gathered k (ls ++ l ∷ [])) ≡ note_in (name_of (property_name l.content)) (parts_at l) (summary_at q (gathered k ls))
-summary-more place.Event k ls l = ap summary.Event (collected_of-more ls l) ∙ event-in (name_of (property_name l.content)) (parts_at l) (collected_of ls)
-summary-more place.Zone k ls l = ap summary.Zone (zone_of-more ls l) ∙ zone-in (name_of (property_name l.content)) (parts_at l) (zone_of ls)
-summary-more place.Observance k ls l = ap summary.Observance (observance_of-more ls l) ∙ observance-in (name_of (property_name l.content)) (parts_at l) (observance_of ls)
-summary-more _ k ls l = nothing-in (name_of (property_name l.content)) (parts_at l)
+phase-is : (l : Placed) → is_begin l ≡ true → begins_phase l ≡ is_observance_place (place_of (inside l))
+phase-is l e =
+    ap (λ t. in_zone l && ((t && bytes_eq (component l) (codes "STANDARD")) || (t && bytes_eq (component l) (codes "DAYLIGHT")))) e
+    ∙ sym (phase-begins (place_of l.path) (component l))
+
+-- WHAT IS COLLECTED of a component, with one line more that begins none.
+pub summary-more : (whole : List Placed) (q : Place) (k : List Open) (ls : List Placed) (l : Placed) → is_begin l ≡ false →
+    summary_at q (gathered whole k (ls ++ l ∷ [])) ≡ summary_note (name_of (property_name l.content)) (parts_at l) (summary_at q (gathered whole k ls))
+summary-more whole place.Event k ls l e = ap summary.Event (collected_of-more ls l)
+summary-more whole place.Zone k ls l e = ap (λ os. summary.Zone (zone_of os (ls ++ l ∷ []))) (parts-same whole ls l e) ∙ ap summary.Zone (zone_of-more (parts whole ls) ls l)
+summary-more whole place.Observance k ls l e = ap summary.Observance (observance_of-more ls l)
+summary-more whole _ k ls l e = refl
+
+-- The same with the BEGIN line of a component that has ended in it, and is one of its observances or changes nothing.
+event-still : (s : Summary) (had : Collected) → joined s (summary.Event had) ≡ summary.Event had
+event-still (summary.Observance o) had = refl
+event-still _ had = refl
+
+observance-still : (s : Summary) (had : ObservanceSummary) → joined s (summary.Observance had) ≡ summary.Observance had
+observance-still (summary.Observance o) had = refl
+observance-still _ had = refl
+
+pub nothing-still : (s : Summary) → joined s summary.Nothing ≡ summary.Nothing
+nothing-still (summary.Observance o) = refl
+nothing-still _ = refl
+
+pub summary-begun : (whole : List Placed) (q : Place) (k : List Open) (ls : List Placed) (b : Placed) (g : Gathered) →
+    name_of (property_name b.content) ≡ name.Begin → is_begin b ≡ true → own whole b ≡ observance_ended g.observance →
+    summary_at q (gathered whole k (ls ++ b ∷ [])) ≡ joined (summary_at (place_of (inside b)) g) (summary_at q (gathered whole k ls))
+summary-begun whole place.Event k ls b g n e o =
+    ap summary.Event (collected_of-more ls b ∙ ap (λ n. event_note n (parts_at b) (collected_of ls)) n) ∙ sym (event-still (summary_at (place_of (inside b)) g) (collected_of ls))
+summary-begun whole place.Observance k ls b g n e o =
+    ap summary.Observance (observance_of-more ls b ∙ ap (λ n. observance_note n (parts_at b) (observance_of ls)) n)
+    ∙ sym (observance-still (summary_at (place_of (inside b)) g) (observance_of ls))
+summary-begun whole place.Zone k ls b g n e o =
+    ap summary.Zone (zone_of-more (parts whole (ls ++ b ∷ [])) ls b ∙ ap (λ n. zone_note n (parts_at b) (zone_of (parts whole (ls ++ b ∷ [])) ls)) n)
+    ∙ ap (λ os. summary.Zone (zone_of os ls)) (parts-more whole ls b ∙ ap (λ t. parts whole ls ++ cond t (own whole b ∷ []) []) (phase-is b e))
+    ∙ by_place (place_of (inside b))
+  where
+    by_place : (p : Place) → summary.Zone (zone_of (parts whole ls ++ cond (is_observance_place p) (own whole b ∷ []) []) ls) ≡ joined (summary_at p g) (summary.Zone (zone_of (parts whole ls) ls))
+    by_place place.Observance = ap (λ p. summary.Zone (zone_of (parts whole ls ++ p ∷ []) ls)) o
+    by_place place.Event = ap (λ os. summary.Zone (zone_of os ls)) (append-nil (parts whole ls))
+    by_place place.Zone = ap (λ os. summary.Zone (zone_of os ls)) (append-nil (parts whole ls))
+    by_place _ = ap (λ os. summary.Zone (zone_of os ls)) (append-nil (parts whole ls))
+summary-begun whole _ k ls b g n e o = sym (nothing-still (summary_at (place_of (inside b)) g))

@@ -1,12 +1,14 @@
 -- The table of faults and the pass find one fault on a line.
-use Rattle.std.proofs.Common.{◌≡◌, ℕ, Bool, true, false, List, [], ◌∷◌, map, refl, sym, ap, ◌∙◌, cond, Some}
-use Rattle.std.specs.Prelude.{codes, length, find, nat_le, ◌&&◌, ◌||◌, is_some, option_map}
+use Rattle.std.proofs.Common.{◌≡◌, ℕ, Bool, true, false, List, [], ◌∷◌, map, refl, sym, ap, ◌∙◌, arith, cond, suc, Some, inl, inr}
+use Rattle.std.specs.Prelude.{codes, length, find, filter, not, ◌==◌, nat_le, ◌&&◌, ◌||◌, is_some, option_map}
 use Rattle.std.specs.List.{list_any}
 use Rattle.std.specs.Str.{bytes_eq}
+use Rattle.std.proofs.lemmas.Bool.Decides.{eqb_tells}
 use Rattle.ics_text.specs.Bytes.{upper}
 use Rattle.ics_text.specs.Contents.{Parts}
 use Rattle.ics_values.specs.Integers.{integer_of}
 use Rattle.ics_values.specs.Plain.{text_of}
+use Rattle.ics_zone.specs.Observances.{Phase}
 use Rattle.ics_calendar.specs.declared.component.Component.{Component}
 use Rattle.ics_calendar.specs.declared.component.Component.TheVariants as component
 use Rattle.ics_calendar.specs.declared.component.Place.{Place}
@@ -14,17 +16,17 @@ use Rattle.ics_calendar.specs.declared.component.Place.TheVariants as place
 use Rattle.ics_calendar.specs.declared.frame.Frame.{Frame}
 use Rattle.ics_calendar.specs.declared.name.Name.{Name}
 use Rattle.ics_calendar.specs.declared.name.Name.TheVariants as name
-use Rattle.ics_calendar.specs.Components.{component_of, component_name, is_outside_place}
+use Rattle.ics_calendar.specs.Components.{component_of, component_name, is_outside_place, is_zone_place}
 use Rattle.ics_calendar.specs.Names.{name_of}
-use Rattle.ics_calendar.specs.Placed.{Placed, Open, place_of, value, closes, begins_observance, innermost, calendar_of, has, has_all, is_named, first_named, first_of, all_named}
+use Rattle.ics_calendar.specs.Placed.{Placed, Open, place_of, value, closes, begins_observance, calendar_of, lines_in, has, has_all, is_named, first_named, first_of, all_named}
 use Rattle.ics_calendar.specs.Values.{ok_or_zero, is_filled, ends_badly}
 use Rattle.ics_calendar.specs.Faults.{dated_on, duration_on, parts_on, first_text, first_dated, field_names, stands, kinds}
 use Rattle.ics_calendar.specs.Collecting.{collected_of}
 use Rattle.ics_calendar.specs.Summaries.{zone_of, observance_of}
-use Rattle.ics_calendar.specs.Zones.{onset_on, offset_on, daily_on}
+use Rattle.ics_calendar.specs.Zones.{onset_on, offset_on, daily_on, phase_by, begins_phase}
 use Rattle.ics_calendar.proofs.Judged.{fault_in}
 use Rattle.ics_calendar.proofs.NameLemmas.{Tells, tells, component_name-of}
-use Rattle.ics_calendar.proofs.Rows.{Gathered, flat, bad_end_of, has_fields, frame_at, flat_of, fault_of, start_flag, rule_flag, at-uid, at-dtstart, at-dtend, at-duration, at-rrule, at-recurrence_id, at-sequence, at-rdate, at-exdate, at-exrule, at-version, at-summary, at-location, at-description, at-status, at-tzid, at-offset_from, at-offset_to, at-end, at-begin, at-other}
+use Rattle.ics_calendar.proofs.Rows.{Gathered, flat, bad_end_of, has_observance, has_fields, is_bare, asked-same, frame_at, flat_of, fault_of, start_flag, rule_flag, at-uid, at-dtstart, at-dtend, at-duration, at-rrule, at-recurrence_id, at-sequence, at-rdate, at-exdate, at-exrule, at-version, at-summary, at-location, at-description, at-status, at-tzid, at-offset_from, at-offset_to, at-end, at-begin, at-other}
 
 -- what the pass keeps of a name, where it keeps anything
 abbrev flag : Name → Place → Gathered → Bool → Bool
@@ -73,39 +75,57 @@ has-first f n (k ∷ ks) = by_test (is_named n k) (has-first f n ks)
     by_test true ih = refl
     by_test false ih = ih
 
+-- the observances that begin on the lines, in a file of all these lines
+abbrev pub own : List Placed → Placed → Phase
+own whole l = phase_by (lines_in l.number whole)
+
+abbrev pub parts : List Placed → List Placed → List Phase
+parts whole ls = map (own whole) (filter begins_phase ls)
+
+some-more : (n : ℕ) → not (suc n == 0) ≡ true
+some-more n = elim (eqb_tells (suc n) 0) [ inl e ↦ absurd (omega (arith, e.1)) | inr e ↦ ap not e.0 ]
+
+pub any-part : (whole ls : List Placed) → list_any begins_phase ls ≡ not (length (parts whole ls) == 0)
+any-part whole [] = refl
+any-part whole (l ∷ ls) = by_test (begins_phase l) (any-part whole ls)
+  where
+    by_test : (t : Bool) → list_any begins_phase ls ≡ not (length (parts whole ls) == 0) → (t || list_any begins_phase ls) ≡ not (length (map (own whole) (cond t (l ∷ filter begins_phase ls) (filter begins_phase ls))) == 0)
+    by_test true e = sym (some-more (length (map (own whole) (filter begins_phase ls))))
+    by_test false e = e
+
 -- what is collected of some lines, where these components are open
-abbrev pub gathered : List Open → List Placed → Gathered
-gathered path ls = record { calendar = calendar_of path; begun = innermost path; event = collected_of ls; zone = zone_of ls; observance = observance_of ls }
+abbrev pub gathered : List Placed → List Open → List Placed → Gathered
+gathered whole path ls = record { calendar = calendar_of path; event = collected_of ls; zone = zone_of (parts whole ls) ls; observance = observance_of ls }
 
-start-flag-is : (q : Place) (k : List Open) (ls : List Placed) → start_flag q (gathered k ls) ≡ has (codes "DTSTART") ls
-start-flag-is place.Observance k ls = has-first onset_on (codes "DTSTART") ls
-start-flag-is _ k ls = has-first dated_on (codes "DTSTART") ls
+start-flag-is : (whole : List Placed) (q : Place) (k : List Open) (ls : List Placed) → start_flag q (gathered whole k ls) ≡ has (codes "DTSTART") ls
+start-flag-is whole place.Observance k ls = has-first onset_on (codes "DTSTART") ls
+start-flag-is whole _ k ls = has-first dated_on (codes "DTSTART") ls
 
-rule-flag-is : (q : Place) (k : List Open) (ls : List Placed) → rule_flag q (gathered k ls) ≡ has (codes "RRULE") ls
-rule-flag-is place.Observance k ls = has-first daily_on (codes "RRULE") ls
-rule-flag-is _ k ls = has-first parts_on (codes "RRULE") ls
+rule-flag-is : (whole : List Placed) (q : Place) (k : List Open) (ls : List Placed) → rule_flag q (gathered whole k ls) ≡ has (codes "RRULE") ls
+rule-flag-is whole place.Observance k ls = has-first daily_on (codes "RRULE") ls
+rule-flag-is whole _ k ls = has-first parts_on (codes "RRULE") ls
 
-flag-gathered : (n : Name) (q : Place) (k : List Open) (u : List ℕ) (ls : List Placed) → Tells u n → flag n q (gathered k ls) (has u ls) ≡ has u ls
-flag-gathered name.Uid q k u ls e = rw e (has-first (λ line. text_of (value line)) (codes "UID") ls)
-flag-gathered name.Dtstart q k u ls e = rw e (start-flag-is q k ls)
-flag-gathered name.Dtend q k u ls e = rw e (has-first dated_on (codes "DTEND") ls)
-flag-gathered name.Duration q k u ls e = rw e (has-first duration_on (codes "DURATION") ls)
-flag-gathered name.Rrule q k u ls e = rw e (rule-flag-is q k ls)
-flag-gathered name.RecurrenceId q k u ls e = rw e (has-first dated_on (codes "RECURRENCE-ID") ls)
-flag-gathered name.Sequence q k u ls e = rw e (has-first (λ line. ok_or_zero (integer_of (value line))) (codes "SEQUENCE") ls)
-flag-gathered name.Tzid q k u ls e = rw e (has-first (λ line. text_of (value line)) (codes "TZID") ls)
-flag-gathered name.OffsetFrom q k u ls e = rw e (has-first offset_on (codes "TZOFFSETFROM") ls)
-flag-gathered name.OffsetTo q k u ls e = rw e (has-first offset_on (codes "TZOFFSETTO") ls)
-flag-gathered _ q k u ls e = refl
+flag-gathered : (whole : List Placed) (n : Name) (q : Place) (k : List Open) (u : List ℕ) (ls : List Placed) → Tells u n → flag n q (gathered whole k ls) (has u ls) ≡ has u ls
+flag-gathered whole name.Uid q k u ls e = rw e (has-first (λ line. text_of (value line)) (codes "UID") ls)
+flag-gathered whole name.Dtstart q k u ls e = rw e (start-flag-is whole q k ls)
+flag-gathered whole name.Dtend q k u ls e = rw e (has-first dated_on (codes "DTEND") ls)
+flag-gathered whole name.Duration q k u ls e = rw e (has-first duration_on (codes "DURATION") ls)
+flag-gathered whole name.Rrule q k u ls e = rw e (rule-flag-is whole q k ls)
+flag-gathered whole name.RecurrenceId q k u ls e = rw e (has-first dated_on (codes "RECURRENCE-ID") ls)
+flag-gathered whole name.Sequence q k u ls e = rw e (has-first (λ line. ok_or_zero (integer_of (value line))) (codes "SEQUENCE") ls)
+flag-gathered whole name.Tzid q k u ls e = rw e (has-first (λ line. text_of (value line)) (codes "TZID") ls)
+flag-gathered whole name.OffsetFrom q k u ls e = rw e (has-first offset_on (codes "TZOFFSETFROM") ls)
+flag-gathered whole name.OffsetTo q k u ls e = rw e (has-first offset_on (codes "TZOFFSETTO") ls)
+flag-gathered whole _ q k u ls e = refl
 
 -- the fields of a component of a time zone are all there
-fields-are : (q : Place) (k : List Open) (ls : List Placed) → has_all (field_names q) ls ≡ has_fields q (gathered k ls)
-fields-are place.Zone k ls = ap (λ t. t && true) (sym (has-first (λ line. text_of (value line)) (codes "TZID") ls))
-fields-are place.Observance k ls =
+fields-are : (whole : List Placed) (q : Place) (k : List Open) (ls : List Placed) → has_all (field_names q) ls ≡ has_fields q (gathered whole k ls)
+fields-are whole place.Zone k ls = ap (λ t. t && true) (sym (has-first (λ line. text_of (value line)) (codes "TZID") ls))
+fields-are whole place.Observance k ls =
     ap (λ t. t && (has (codes "TZOFFSETFROM") ls && (has (codes "TZOFFSETTO") ls && true))) (sym (has-first onset_on (codes "DTSTART") ls))
     ∙ ap (λ t. is_some (observance_of ls).start && (t && (has (codes "TZOFFSETTO") ls && true))) (sym (has-first offset_on (codes "TZOFFSETFROM") ls))
     ∙ ap (λ t. is_some (observance_of ls).start && (is_some (observance_of ls).from && (t && true))) (sym (has-first offset_on (codes "TZOFFSETTO") ls))
-fields-are _ k ls = refl
+fields-are whole _ k ls = refl
 
 -- the innermost component of a path; below all there is none
 abbrev pub top_component : List Open → Component
@@ -113,34 +133,40 @@ top_component [] = component.Other []
 top_component (c ∷ cs) = component_of c.name
 
 -- the frame that a path and the lines directly in its innermost component stand for
-abbrev pub frame_of : List Open → List Placed → Frame
-frame_of path ls = frame_at (top_component path) (place_of path) (gathered path ls)
+abbrev pub frame_of : List Placed → List Open → List Placed → Frame
+frame_of whole path ls = frame_at (top_component path) (place_of path) (gathered whole path ls)
 
 -- what the table reads of the lines beside, as the pass keeps it
-tests-same : (u : List ℕ) (v : Parts) (q : Place) (k : List Open) (cl deep h : Bool) (ls : List Placed) →
+tests-same : (whole : List Placed) (u : List ℕ) (v : Parts) (q : Place) (k : List Open) (cl deep h : Bool) (ls : List Placed) → (is_zone_place q ≡ true → list_any begins_observance ls ≡ has_observance (gathered whole k ls)) →
     flat u (map upper v.value) v q cl deep (is_filled (first_text (codes "UID") ls)) (has (codes "DTSTART") ls)
-    ((has (codes "DTEND") ls && has (codes "DURATION") ls) || ends_badly (first_dated (codes "DTSTART") ls) (first_dated (codes "DTEND") ls)) (list_any begins_observance ls) (has_all (field_names q) ls) h
-    ≡ flat u (map upper v.value) v q cl deep (is_filled (collected_of ls).uid) (is_some (collected_of ls).start) (bad_end_of (collected_of ls)) (zone_of ls).has_observance (has_fields q (gathered k ls)) h
-tests-same u v q k cl deep h ls =
+    ((has (codes "DTEND") ls && has (codes "DURATION") ls) || ends_badly (first_dated (codes "DTSTART") ls) (first_dated (codes "DTEND") ls)) (is_bare u q cl (list_any begins_observance ls)) (has_all (field_names q) ls) h
+    ≡ flat u (map upper v.value) v q cl deep (is_filled (collected_of ls).uid) (is_some (collected_of ls).start) (bad_end_of (collected_of ls)) (is_bare u q cl (has_observance (gathered whole k ls))) (has_fields q (gathered whole k ls)) h
+tests-same whole u v q k cl deep h ls asked =
     let bad : Bool = ends_badly (first_dated (codes "DTSTART") ls) (first_dated (codes "DTEND") ls) in
     let filled : Bool = is_filled (first_text (codes "UID") ls) in
-    let some : Bool = list_any begins_observance ls in
+    let bare : Bool = is_bare u q cl (list_any begins_observance ls) in
     let all : Bool = has_all (field_names q) ls in
-    ap (λ s. flat u (map upper v.value) v q cl deep filled s ((has (codes "DTEND") ls && has (codes "DURATION") ls) || bad) some all h) (sym (has-first dated_on (codes "DTSTART") ls))
-    ∙ ap (λ a. flat u (map upper v.value) v q cl deep filled (is_some (collected_of ls).start) ((a && has (codes "DURATION") ls) || bad) some all h) (sym (has-first dated_on (codes "DTEND") ls))
-    ∙ ap (λ a. flat u (map upper v.value) v q cl deep filled (is_some (collected_of ls).start) ((is_some (collected_of ls).end && a) || bad) some all h) (sym (has-first duration_on (codes "DURATION") ls))
-    ∙ ap (λ a. flat u (map upper v.value) v q cl deep filled (is_some (collected_of ls).start) (bad_end_of (collected_of ls)) some a h) (fields-are q k ls)
+    ap (λ s. flat u (map upper v.value) v q cl deep filled s ((has (codes "DTEND") ls && has (codes "DURATION") ls) || bad) bare all h) (sym (has-first dated_on (codes "DTSTART") ls))
+    ∙ ap (λ a. flat u (map upper v.value) v q cl deep filled (is_some (collected_of ls).start) ((a && has (codes "DURATION") ls) || bad) bare all h) (sym (has-first dated_on (codes "DTEND") ls))
+    ∙ ap (λ a. flat u (map upper v.value) v q cl deep filled (is_some (collected_of ls).start) ((is_some (collected_of ls).end && a) || bad) bare all h) (sym (has-first duration_on (codes "DURATION") ls))
+    ∙ ap (λ a. flat u (map upper v.value) v q cl deep filled (is_some (collected_of ls).start) (bad_end_of (collected_of ls)) bare a h) (fields-are whole q k ls)
+    ∙ ap (λ b. flat u (map upper v.value) v q cl deep filled (is_some (collected_of ls).start) (bad_end_of (collected_of ls)) b (has_fields q (gathered whole k ls)) h)
+    (asked-same u q cl (list_any begins_observance ls) (has_observance (gathered whole k ls)) asked)
+
+-- the time zone on whose lines an END stands has an observance exactly where one has begun there
+abbrev pub IsAsked : List Placed → List Open → List Placed → Type 0
+IsAsked whole path ls = is_zone_place (place_of path) ≡ true → list_any begins_observance ls ≡ not (length (parts whole ls) == 0)
 
 -- THE LEAST FAULT ON A LINE, of the table and of the pass.
-pub least-same : (path : List Open) (number : ℕ) (parts : Parts) (ls : List Placed) →
-    find (λ k. stands k ls (record { number = number; content = Some parts; path = path })) kinds ≡ fault_in (name_of (map upper parts.name)) parts (frame_of path ls) (length path)
-least-same [] number parts ls =
-    let u : List ℕ = map upper parts.name in
-    tests-same u parts place.Outside [] false (nat_le 32 0) (has u ls) ls
-    ∙ same (name_of u) u parts (component.Other []) place.Outside false 0 (gathered [] ls) (has u ls) (tells u) (flag-gathered (name_of u) place.Outside [] u ls (tells u)) (λ e. cc)
-least-same (c ∷ cs) number parts ls =
-    let u : List ℕ = map upper parts.name in
-    let cl : Bool = closes (c ∷ cs) (map upper parts.value) in
-    tests-same u parts (place_of (c ∷ cs)) (c ∷ cs) cl (nat_le 32 (length (c ∷ cs))) (has u ls) ls
-    ∙ same (name_of u) u parts (component_of c.name) (place_of (c ∷ cs)) cl (length (c ∷ cs)) (gathered (c ∷ cs) ls) (has u ls) (tells u) (flag-gathered (name_of u) (place_of (c ∷ cs)) (c ∷ cs) u ls (tells u))
-    (λ e. ap (bytes_eq (map upper parts.value)) (component_name-of c.name))
+pub least-same : (whole : List Placed) (path : List Open) (number : ℕ) (v : Parts) (ls : List Placed) → IsAsked whole path ls →
+    find (λ k. stands k ls (record { number = number; content = Some v; path = path })) kinds ≡ fault_in (name_of (map upper v.name)) v (frame_of whole path ls) (length path)
+least-same whole [] number v ls asked =
+    let u : List ℕ = map upper v.name in
+    tests-same whole u v place.Outside [] false (nat_le 32 0) (has u ls) ls asked
+    ∙ same (name_of u) u v (component.Other []) place.Outside false 0 (gathered whole [] ls) (has u ls) (tells u) (flag-gathered whole (name_of u) place.Outside [] u ls (tells u)) (λ e. cc)
+least-same whole (c ∷ cs) number v ls asked =
+    let u : List ℕ = map upper v.name in
+    let cl : Bool = closes (c ∷ cs) (map upper v.value) in
+    tests-same whole u v (place_of (c ∷ cs)) (c ∷ cs) cl (nat_le 32 (length (c ∷ cs))) (has u ls) ls asked
+    ∙ same (name_of u) u v (component_of c.name) (place_of (c ∷ cs)) cl (length (c ∷ cs)) (gathered whole (c ∷ cs) ls) (has u ls) (tells u) (flag-gathered whole (name_of u) (place_of (c ∷ cs)) (c ∷ cs) u ls (tells u))
+    (λ e. ap (bytes_eq (map upper v.value)) (component_name-of c.name))

@@ -26,7 +26,7 @@ file_of-pass file f r =
     ∙ by_first (first_fault (placed file)) refl
     ∙ ap settled_of (sym (pass-whole (unfolded file) r))
   where
-    by_first : (o : Option Fault) → first_fault (placed file) ≡ o → decide o (later_fault (placed file)) (said_of (placed file)) ≡ settled_of (unless o (gathered_from nothing_gathered [] (placed file)))
+    by_first : (o : Option Fault) → first_fault (placed file) ≡ o → decide o (later_fault (placed file)) (said_of (placed file)) ≡ settled_of (unless o (gathered_from (placed file) nothing_gathered [] (placed file)))
     by_first (Some fault) e = refl
     by_first None e = sym (settled-is (unfolded file) r e)
 

@@ -1,5 +1,5 @@
 -- A table of the names of time zones gives the index of the first zone of each.
-use Rattle.std.proofs.Common.{◌≡◌, ℕ, Bool, true, false, ◌&&◌, ◌==◌, List, [], ◌∷◌, map, length, arith, refl, sym, ap, ◌∙◌, cond, Option, Some, None, is_some}
+use Rattle.std.proofs.Common.{◌≡◌, ℕ, Bool, true, false, ◌&&◌, ◌==◌, List, [], ◌∷◌, length, arith, refl, sym, ap, ◌∙◌, cond, Option, Some, None, is_some}
 use Rattle.std.specs.Cmp.{nat_eq_equiv, unsigned_ties}
 use Rattle.std.specs.Cmp.Lexicographic.{slice_cmp, nat_list_eq_equiv, texts_ties}
 use Rattle.std.specs.List.{position_from}
@@ -7,7 +7,6 @@ use Rattle.std.specs.Option.{option_or}
 use Rattle.std.specs.Ordering.{is_eq, nat_cmp, ordering_then}
 use Rattle.std.specs.declared.cmp.Ordering.{Ordering}
 use Rattle.std.specs.declared.cmp.Ordering.TheVariants.{Less, Equal, Greater}
-use Rattle.ics_calendar.specs.declared.gathered.EndedZone.{EndedZone}
 use Rattle.ics_calendar.specs.declared.later.ZoneName.{ZoneName}
 use Rattle.ics_calendar.specs.Laters.{is_same}
 use Rattle.ics_calendar.specs.ZoneTables.{name_cmp, put_first}
@@ -25,7 +24,7 @@ ties name used =
     ∙ ap (λ t. (used.calendar == name.calendar) && t) (sym (texts_ties name.name used.name) ∙ nat_list_eq_equiv.symm name.name used.name))
 
 -- no zone is to come
-pub or-none : (o : Option ℕ) (p : ZoneName → Bool) (n : ℕ) (zs : List EndedZone) → length zs ≡ 0 → o ≡ option_or o (position_from p n (map (λ z. z.name) zs))
+pub or-none : (o : Option ℕ) (p : ZoneName → Bool) (n : ℕ) (zs : List ZoneName) → length zs ≡ 0 → o ≡ option_or o (position_from p n zs)
 or-none (Some i) p n zs e = refl
 or-none None p n [] e = refl
 or-none None p n (z ∷ zs) e = absurd (omega (arith, e))

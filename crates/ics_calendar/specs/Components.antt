@@ -52,9 +52,3 @@ is_zone_place _ = false
 abbrev pub is_observance_place : Place → Bool
 is_observance_place place.Observance = true
 is_observance_place _ = false
-
--- the parts of a time zone
-abbrev pub is_observance : Component → Bool
-is_observance component.Standard = true
-is_observance component.Daylight = true
-is_observance _ = false

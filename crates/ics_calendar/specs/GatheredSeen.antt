@@ -1,13 +1,11 @@
 -- What is gathered of a file, as contracts see it.
 use Rattle.std.specs.Prelude.{List}
 use Rattle.ics_calendar.specs.declared.gathered.EndedEvent.{EndedEvent}
-use Rattle.ics_calendar.specs.declared.gathered.EndedObservance.{EndedObservance}
 use Rattle.ics_calendar.specs.declared.gathered.EndedZone.{EndedZone}
 use Rattle.ics_calendar.specs.declared.gathered.Waiting.{Waiting}
 
--- The time zones, observances and events that have ended, and what the second round looks at, each in the order of the lines.
+-- The time zones and events that have ended, and what the second round looks at, each in the order of the lines.
 pub record GatheredSeen : Type 0 where
   pub zones : List EndedZone
-  pub observances : List EndedObservance
   pub events : List EndedEvent
   pub waits : List Waiting

@@ -9,7 +9,7 @@ use Rattle.ics_calendar.specs.declared.later.Later.TheVariants.{Ends}
 use Rattle.ics_calendar.specs.GatheredSeen.{GatheredSeen}
 use Rattle.ics_calendar.specs.Ready.{EachZone}
 use Rattle.ics_calendar.specs.Sound.{IsWhole}
-use Rattle.ics_calendar.specs.ZonesSound.{AreSoundZones}
+use Rattle.ics_calendar.specs.ZonesSound.{IsSoundZone}
 
 -- What is to be read in a time zone lies in the years of stamps.
 abbrev pub IsSoundInstant : Instant → Type 0
@@ -22,7 +22,7 @@ IsSoundLater _ = Unit {0}
 
 -- The second round looks at the zones of each event's stamps, and at its end against its start.
 pub record IsSoundGathered (g : GatheredSeen) : Type 0 where
-  pub zones : AreSoundZones g.zones g.observances
+  pub zones : All (λ z. IsSoundZone z.observances) g.zones
   pub whole : All IsWhole g.events
   pub awaited : All (EachZone (Contains (map (λ w. w.later) g.waits))) g.events
   pub sound : All (λ w. IsSoundLater w.later) g.waits

@@ -3,7 +3,6 @@ use Rattle.std.specs.Prelude.{ℕ, List, [], ◌∷◌, ◌++◌, Option, Some, 
 use Rattle.ics_calendar.specs.declared.gathered.Ended.{Ended}
 use Rattle.ics_calendar.specs.declared.gathered.Ended.TheVariants as ended
 use Rattle.ics_calendar.specs.declared.gathered.EndedEvent.{EndedEvent}
-use Rattle.ics_calendar.specs.declared.gathered.EndedObservance.{EndedObservance}
 use Rattle.ics_calendar.specs.declared.gathered.EndedZone.{EndedZone}
 use Rattle.ics_calendar.specs.declared.gathered.Passed.{Passed}
 use Rattle.ics_calendar.specs.declared.gathered.Waiting.{Waiting}
@@ -11,16 +10,12 @@ use Rattle.ics_calendar.specs.declared.later.Later.{Later}
 use Rattle.ics_calendar.specs.GatheredSeen.{GatheredSeen}
 
 abbrev pub nothing_gathered : GatheredSeen
-nothing_gathered = record { zones = []; observances = []; events = []; waits = [] }
+nothing_gathered = record { zones = []; events = []; waits = [] }
 
 -- what ends on a line, if it is of the kind
 abbrev pub zones_of_end : Ended → List EndedZone
 zones_of_end (ended.Zone zone) = zone ∷ []
 zones_of_end _ = []
-
-abbrev pub observances_of_end : Ended → List EndedObservance
-observances_of_end (ended.Observance observance) = observance ∷ []
-observances_of_end _ = []
 
 abbrev pub events_of_end : Ended → List EndedEvent
 events_of_end (ended.Event event) = event ∷ []
@@ -35,7 +30,6 @@ waits_of number (Some later) = record { line = number; later = later } ∷ []
 abbrev pub and_passed : ℕ → Passed → GatheredSeen → GatheredSeen
 and_passed number p had = record {
   zones = had.zones ++ zones_of_end p.ended;
-  observances = had.observances ++ observances_of_end p.ended;
   events = had.events ++ events_of_end p.ended;
   waits = had.waits ++ waits_of number p.waits;
 }

@@ -1,5 +1,5 @@
 -- What a line makes of the components that are open, or the fault on it, which is the least that stands there.
-use Rattle.std.specs.Prelude.{ℕ, Bool, false, ◌&&◌, ◌||◌, not, nat_le, List, [], ◌∷◌, ◌++◌, length, map, filter_map, codes, Option, Some, None, is_some, Result, Ok, Err, ℤ, ◌≡◌, if◌then◌else◌}
+use Rattle.std.specs.Prelude.{ℕ, Bool, false, ◌&&◌, ◌||◌, not, ◌==◌, nat_le, List, [], ◌∷◌, ◌++◌, length, map, filter_map, codes, Option, Some, None, is_some, Result, Ok, Err, ℤ, ◌≡◌, if◌then◌else◌}
 use Rattle.std.specs.List.{list_any}
 use Rattle.std.specs.Str.{bytes_eq}
 use Rattle.ics_text.specs.Bytes.{upper}
@@ -23,6 +23,7 @@ use Rattle.ics_values.specs.declared.stamp.Stamp.{Stamp}
 use Rattle.ics_values.specs.declared.stamp.Stamp.TheVariants as stamp
 use Rattle.ics_values.specs.declared.stamp.StampFault.{StampFault}
 use Rattle.ics_values.specs.declared.stamp.StampFault.TheVariants as stamp_fault
+use Rattle.ics_zone.specs.Observances.{Phase}
 use Rattle.ics_calendar.specs.declared.collected.Collected.{Collected}
 use Rattle.ics_calendar.specs.declared.component.Component.{Component}
 use Rattle.ics_calendar.specs.declared.component.Component.TheVariants as component
@@ -38,7 +39,6 @@ use Rattle.ics_calendar.specs.declared.frame.Frame.{Frame}
 use Rattle.ics_calendar.specs.declared.gathered.Ended.{Ended}
 use Rattle.ics_calendar.specs.declared.gathered.Ended.TheVariants as ended
 use Rattle.ics_calendar.specs.declared.gathered.EndedEvent.{EndedEvent}
-use Rattle.ics_calendar.specs.declared.gathered.EndedObservance.{EndedObservance}
 use Rattle.ics_calendar.specs.declared.gathered.EndedZone.{EndedZone}
 use Rattle.ics_calendar.specs.declared.gathered.Passed.{Passed}
 use Rattle.ics_calendar.specs.declared.later.Instant.{Instant}
@@ -55,7 +55,7 @@ use Rattle.ics_calendar.specs.declared.summary.Summary.{Summary}
 use Rattle.ics_calendar.specs.declared.summary.Summary.TheVariants as summary
 use Rattle.ics_calendar.specs.declared.summary.ZoneSummary.{ZoneSummary}
 use Rattle.ics_calendar.specs.Collecting.{event_ended}
-use Rattle.ics_calendar.specs.Components.{component_of, component_name, place_in, is_observance}
+use Rattle.ics_calendar.specs.Components.{component_of, component_name, place_in}
 use Rattle.ics_calendar.specs.DateLists.{zone_listed, rdate_list, exdate_list}
 use Rattle.ics_calendar.specs.DateValues.{rdates_of, exdates_of, has_bad_stamp, has_far_stamp, has_bad_duration, has_large_duration, has_zoned, is_not_local}
 use Rattle.ics_calendar.specs.Event.{seconds_of, is_zoned}
@@ -269,7 +269,7 @@ summary_line k q n c (summary.Zone had) = and_then (zone_line n c had) (λ h. Ok
 summary_line k q n c (summary.Observance had) = and_then (observance_line n c had) (λ h. Ok (summary.Observance h, None))
 summary_line k q n c summary.Nothing = unless (plain_fault q n c) (summary.Nothing, None)
 
--- WHAT A COMPONENT IS at its END, by the number of the BEGIN line of the one that it stands in, and what the second round looks at.
+-- WHAT A COMPONENT IS at its END, and what the second round looks at.
 abbrev pub end_of_event : Collected → Option FaultKind
 end_of_event had =
     if not (is_filled had.uid) then Some kind.MissingUid
@@ -282,36 +282,37 @@ event_end calendar had = unless (end_of_event had) (event_ended calendar had)
 
 abbrev pub end_of_zone : ZoneSummary → Option FaultKind
 end_of_zone had =
-    if not had.has_observance then Some kind.NoObservance
+    if length had.observances == 0 then Some kind.NoObservance
     else if not (is_some had.name) then Some kind.ObservanceField
     else None
 
-abbrev pub zone_end : ℕ → ℕ → ZoneSummary → Result EndedZone FaultKind
-zone_end begun calendar had = unless (end_of_zone had) (zone_ended begun calendar had)
+abbrev pub zone_end : ℕ → ZoneSummary → Result EndedZone FaultKind
+zone_end calendar had = unless (end_of_zone had) (zone_ended calendar had)
 
 abbrev pub end_of_observance : ObservanceSummary → Option FaultKind
 end_of_observance had = if is_some had.start && is_some had.from && is_some had.to then None else Some kind.ObservanceField
 
-abbrev pub observance_end : ℕ → ObservanceSummary → Result EndedObservance FaultKind
-observance_end zone had = unless (end_of_observance had) (observance_ended zone had)
+abbrev pub observance_end : ObservanceSummary → Result Phase FaultKind
+observance_end had = unless (end_of_observance had) (observance_ended had)
+
+-- a time zone keeps an observance that ends directly in it
+abbrev pub with_observance : Phase → Summary → Summary
+with_observance observance (summary.Zone had) = summary.Zone (record had { observances = had.observances ++ observance ∷ [] })
+with_observance observance s = s
 
 abbrev pub passed : Ended → Option Later → Passed
 passed end waits = record { ended = end; waits = waits }
 
-abbrev pub summary_end : ℕ → Frame → Summary → Result Passed FaultKind
-summary_end outer f (summary.Event had) = and_then (event_end f.calendar had) (λ e. Ok (passed (ended.Event e) (ends_in f.calendar had.start had.end)))
-summary_end outer f (summary.Zone had) = and_then (zone_end f.begun f.calendar had) (λ z. Ok (passed (ended.Zone z) None))
-summary_end outer f (summary.Observance had) = and_then (observance_end outer had) (λ o. Ok (passed (ended.Observance o) None))
-summary_end outer f summary.Nothing = Ok (passed ended.Nothing None)
+abbrev pub summary_end : ℕ → Summary → Summary → Result (Summary × Passed) FaultKind
+summary_end calendar (summary.Event had) outer = and_then (event_end calendar had) (λ e. Ok (outer, passed (ended.Event e) (ends_in calendar had.start had.end)))
+summary_end calendar (summary.Zone had) outer = and_then (zone_end calendar had) (λ z. Ok (outer, passed (ended.Zone z) None))
+summary_end calendar (summary.Observance had) outer = and_then (observance_end had) (λ o. Ok (with_observance o outer, passed ended.Nothing None))
+summary_end calendar summary.Nothing outer = Ok (outer, passed ended.Nothing None)
 
-abbrev pub frame_end : ℕ → List ℕ → Frame → Result Passed FaultKind
-frame_end outer w f = if bytes_eq w (component_name f.component) then summary_end outer f f.summary else Err kind.BadNesting
+abbrev pub frame_end : List ℕ → Frame → Summary → Result (Summary × Passed) FaultKind
+frame_end w f outer = if bytes_eq w (component_name f.component) then summary_end f.calendar f.summary outer else Err kind.BadNesting
 
 -- WHAT A LINE MAKES of the components that are open, the innermost first.
-abbrev pub begin_in : Component → Summary → Summary
-begin_in c (summary.Zone had) = summary.Zone (record had { has_observance = had.has_observance || is_observance c })
-begin_in c s = s
-
 -- the calendar of a component that begins on that line: the outermost component, or that itself
 abbrev pub calendar_in : ℕ → List Frame → ℕ
 calendar_in number [] = number
@@ -322,7 +323,7 @@ abbrev pub opened : ℕ → Component → List Frame → List Frame
 opened number c [] = []
 opened number c (f ∷ fs) =
     let q : Place = place_in f.place c in
-    record { component = c; place = q; calendar = calendar_in number (f ∷ fs); begun = number; summary = fresh q } ∷ record f { summary = begin_in c f.summary } ∷ fs
+    record { component = c; place = q; calendar = calendar_in number (f ∷ fs); summary = fresh q } ∷ f ∷ fs
 
 abbrev pub outside_fault : Place → Component → Option FaultKind
 outside_fault place.Outside component.Calendar = None
@@ -337,7 +338,7 @@ abbrev pub begin_line : ℕ → Component → List Frame → Result (List Frame)
 begin_line number c frames = unless (begin_fault c frames) (opened number c frames)
 
 abbrev pub end_line : List ℕ → List Frame → Result (List Frame × Passed) FaultKind
-end_line w (f ∷ g ∷ gs) = and_then (frame_end g.begun w f) (λ p. Ok (g ∷ gs, p))
+end_line w (f ∷ g ∷ gs) = and_then (frame_end w f g.summary) (λ r. Ok (record g { summary = r.0 } ∷ gs, r.1))
 end_line w _ = Err kind.NotCalendar
 
 abbrev pub inner_line : Name → Parts → List Frame → Result (List Frame × Passed) FaultKind

@@ -16,7 +16,7 @@ use Rattle.ics_calendar.specs.Lines.{line_in}
 
 -- below all components
 abbrev pub bottom : Frame
-bottom = record { component = component.Other []; place = place.Outside; calendar = 0; begun = 0; summary = summary.Nothing }
+bottom = record { component = component.Other []; place = place.Outside; calendar = 0; summary = summary.Nothing }
 
 -- WHERE THE LINES END, given the number of the last one.
 abbrev pub is_lowest : List Frame → Bool

@@ -1,5 +1,5 @@
 -- The time zones of a file, and the one that a name stands for (RFC 5545, section 3.6.5).
-use Rattle.std.specs.Prelude.{ℕ, Bool, ◌&&◌, ◌==◌, List, [], map, filter, filter_map, flat_map, codes, unwrap_or, Option, Some, None, option_map, Result, Ok, Err, ℤ, pos, false, if◌then◌else◌}
+use Rattle.std.specs.Prelude.{ℕ, Bool, ◌&&◌, List, [], map, filter, filter_map, flat_map, codes, unwrap_or, Option, Some, None, option_map, Result, Ok, Err, ℤ, pos, false, if◌then◌else◌}
 use Rattle.ics_values.specs.Locals.{local_at}
 use Rattle.ics_values.specs.declared.local.Local.{Local}
 use Rattle.ics_values.specs.declared.frequency.Frequency.TheVariants.{Daily}
@@ -14,8 +14,6 @@ use Rattle.ics_values.specs.declared.stamp.StampFault.{StampFault}
 use Rattle.ics_zone.specs.Observances.{Phase}
 use Rattle.ics_calendar.specs.declared.date_values.DateValue.{DateValue}
 use Rattle.ics_calendar.specs.declared.date_values.DateValue.TheVariants.{At}
-use Rattle.ics_calendar.specs.declared.gathered.EndedObservance.{EndedObservance}
-use Rattle.ics_calendar.specs.declared.gathered.EndedZone.{EndedZone}
 use Rattle.ics_calendar.specs.declared.later.ZoneName.{ZoneName}
 use Rattle.ics_calendar.specs.Faults.{first_text, rule_on}
 use Rattle.ics_calendar.specs.Laters.{KnownZones, known_zones}
@@ -62,10 +60,6 @@ phase_by own = record {
   rdates = flat_map onsets_by (all_named (codes "RDATE") own);
 }
 
--- what is said of an observance that has ended
-abbrev pub phase_of : EndedObservance → Phase
-phase_of o = record { start = o.start; offset_from = o.offset_from; offset_to = o.offset_to; rule = o.rule; rdates = o.rdates }
-
 -- a time zone begins directly in a calendar, and an observance directly in such a zone
 abbrev pub begins_zone : Placed → Bool
 begins_zone line = in_calendar line && begins (codes "VTIMEZONE") line
@@ -90,10 +84,3 @@ zone_names lines = map (name_by lines) (filter begins_zone lines)
 
 abbrev pub zones_on : List Placed → KnownZones
 zones_on lines = known_zones (zone_names lines) (zones_of lines)
-
--- THE TIME ZONES, by what is gathered of them: each with the observances that bear the number of its BEGIN line.
-abbrev pub joined : List (ℕ × Phase) → List (ℕ × ZoneName) → List (List Phase)
-joined phases names = map (λ z. map (λ p. p.1) (filter (λ p. p.0 == z.0) phases)) names
-
-abbrev pub zones_from : List EndedZone → List EndedObservance → List (List Phase)
-zones_from zones observances = joined (map (λ o. (o.zone, phase_of o)) observances) (map (λ z. (z.begun, z.name)) zones)

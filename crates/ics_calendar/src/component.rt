@@ -2,7 +2,7 @@
 ghost use Rattle.std.specs.Prelude.{◌≡◌, map, IfOk};
 ghost use Rattle.std.specs.Str.{bytes_eq};
 ghost use Rattle.ics_text.specs.Bytes.{upper};
-ghost use Rattle.ics_calendar.specs.Components.{component_of, component_name, place_in, is_observance};
+ghost use Rattle.ics_calendar.specs.Components.{component_of, component_name, place_in};
 
 use crate::text::Text;
 use crate::words::is_word;
@@ -63,13 +63,6 @@ impl Component {
             Component::Daylight => is_word(name, b"DAYLIGHT"),
             Component::Other(word) => is_word(name, word.as_slice()),
         }
-    }
-
-    /// Whether this is a part of a time zone.
-    pub fn is_observance(&self) -> bool
-        ensures { result ≡ is_observance self.now }
-    {
-        matches!(self, Component::Standard | Component::Daylight)
     }
 
     /// Where the lines of the component stand, if it begins on a line that stands there.

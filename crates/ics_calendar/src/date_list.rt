@@ -4,7 +4,7 @@ ghost use Rattle.std.specs.List.{list_any};
 ghost use Rattle.ics_calendar.specs.DateLists.{rdate_in, exdate_in, rdates_by, exdates_by};
 ghost use Rattle.ics_calendar.specs.DateValues.{has_zoned};
 ghost use Rattle.ics_calendar.specs.Lines.{Gives, rdates_said, exdates_said, listed_zone};
-ghost use Rattle.ics_calendar.specs.ZoneTables.{index_in};
+ghost use Rattle.ics_calendar.specs.ZoneTables.{known_by};
 
 use crate::date_values::DateValues;
 use crate::dated::zone_name;
@@ -193,7 +193,7 @@ impl DateLists {
         table: &ZoneTable,
         calendar: u64,
     ) -> Result<Vec<Rdate>, AllocError>
-        ensures { IfOk result (λ rdates. rdates.items ≡ rdates_by (index_in table.now) calendar self) }
+        ensures { IfOk result (λ rdates. rdates.items ≡ rdates_by (known_by table.now).index calendar self) }
     {
         let mut rdates = Vec::new(alloc);
         for list in self.lists {
@@ -210,7 +210,7 @@ impl DateLists {
         table: &ZoneTable,
         calendar: u64,
     ) -> Result<Vec<Time>, AllocError>
-        ensures { IfOk result (λ exdates. exdates.items ≡ exdates_by (index_in table.now) calendar self) }
+        ensures { IfOk result (λ exdates. exdates.items ≡ exdates_by (known_by table.now).index calendar self) }
     {
         let mut exdates = Vec::new(alloc);
         for list in self.lists {

@@ -1,5 +1,5 @@
 //! A component that is open.
-ghost use Rattle.ics_calendar.specs.Lines.{Gives, frame_end};
+ghost use Rattle.ics_calendar.specs.Lines.{Makes, frame_end};
 ghost use Rattle.ics_text.specs.Bytes.{upper};
 ghost use Rattle.std.specs.Prelude.{map};
 
@@ -17,20 +17,17 @@ pub struct Frame {
     pub place: Place,
     /// The number of the BEGIN line of the calendar that it belongs to.
     pub calendar: u64,
-    /// The number of its own BEGIN line.
-    pub begun: u64,
     pub summary: Summary,
 }
 
 impl Frame {
-    /// What the component is where an END has that name, by the number of the BEGIN line of the one that it stands in.
-    pub fn end(self, alloc: Global, outer: u64, name: &[u8]) -> Result<Passed, Refused>
-        ensures { Gives result (frame_end outer (map upper name.now) self) }
+    /// What the component is where an END has that name. An observance goes to what it stands in.
+    pub fn end(self, alloc: Global, outer: &mut Summary, name: &[u8]) -> Result<Passed, Refused>
+        ensures { Makes result outer.new (frame_end (map upper name.now) self outer.old) }
     {
         let Frame {
             component,
             calendar,
-            begun,
             summary,
             ..
         } = self;
@@ -44,17 +41,14 @@ impl Frame {
                 Ok(Passed { ended, waits })
             }
             Summary::Zone(had) => {
-                let ended = Ended::Zone(had.end(begun, calendar)?);
+                let ended = Ended::Zone(had.end(calendar)?);
                 Ok(Passed { ended, waits: None })
             }
             Summary::Observance(had) => {
-                let ended = Ended::Observance(had.end(outer)?);
-                Ok(Passed { ended, waits: None })
+                outer.add(had.end()?)?;
+                Ok(Passed::nothing())
             }
-            Summary::Nothing => Ok(Passed {
-                ended: Ended::Nothing,
-                waits: None,
-            }),
+            Summary::Nothing => Ok(Passed::nothing()),
         }
     }
 }

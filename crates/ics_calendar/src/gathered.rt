@@ -1,46 +1,30 @@
 //! What is gathered of a file, before its time zones and its events are made of it.
-ghost use Rattle.std.specs.Prelude.{◌≡◌, List, option_map, IfOk};
-ghost use Rattle.ics_zone.specs.Observances.{Phase, phase_of as made_phase};
+ghost use Rattle.std.specs.Prelude.{◌≡◌, None, option_map, IfOk};
 ghost use Rattle.ics_calendar.specs.Collecting.{event_of};
 ghost use Rattle.ics_calendar.specs.Gathering.{nothing_gathered, and_passed};
+ghost use Rattle.ics_calendar.specs.Lines.{passed};
 ghost use Rattle.ics_calendar.specs.Ready.{IsReady};
 ghost use Rattle.ics_calendar.specs.Times.{time_on, length_of};
-ghost use Rattle.ics_calendar.specs.Zones.{phase_of};
-ghost use Rattle.ics_calendar.specs.ZonesSound.{IsSoundPhase};
-ghost use Rattle.ics_calendar.specs.ZoneTables.{index_in};
+ghost use Rattle.ics_calendar.specs.ZoneTables.{known_by};
 
 use crate::date_list::DateLists;
 use crate::dated::Dated;
 use crate::event::Event;
 use crate::later::{Later, ZoneName};
-use crate::locals::Locals;
-use crate::rule_value::RuleValue;
+use crate::observances::Observances;
+use crate::rule_value::{RuleValue, parts_of};
 use crate::text::Text;
 use crate::time::{Length, Time};
 use crate::zone_table::ZoneTable;
-use ics_values::{Duration, Local, Parts};
-use ics_zone::Observance;
+use ics_values::Duration;
 use std::alloc::{AllocError, Global};
 use std::marker::Model;
 
 /// A time zone that has ended.
 #[derive(Drop)]
 pub struct EndedZone {
-    /// The number of its BEGIN line.
-    pub begun: u64,
     pub name: ZoneName,
-}
-
-/// An observance that has ended.
-#[derive(Drop)]
-pub struct EndedObservance {
-    /// The number of the BEGIN line of its time zone.
-    pub zone: u64,
-    pub start: Local,
-    pub offset_from: i32,
-    pub offset_to: i32,
-    pub rule: Option<RuleValue>,
-    pub rdates: Locals,
+    pub observances: Observances,
 }
 
 /// What gives the length of an event: its DTEND, or its DURATION, or nothing.
@@ -74,7 +58,6 @@ pub struct EndedEvent {
 #[derive(Drop)]
 pub enum Ended {
     Zone(EndedZone),
-    Observance(EndedObservance),
     Event(EndedEvent),
     Nothing,
 }
@@ -84,6 +67,18 @@ pub enum Ended {
 pub struct Passed {
     pub ended: Ended,
     pub waits: Option<Later>,
+}
+
+impl Passed {
+    /// Nothing is gathered.
+    pub fn nothing() -> Passed
+        ensures { result ≡ passed Ended.Nothing None }
+    {
+        Passed {
+            ended: Ended::Nothing,
+            waits: None,
+        }
+    }
 }
 
 /// What the second round looks at on the line with that number.
@@ -97,7 +92,6 @@ pub struct Waiting {
 #[derive(Drop)]
 pub struct Gathered {
     pub zones: Vec<EndedZone>,
-    pub observances: Vec<EndedObservance>,
     pub events: Vec<EndedEvent>,
     pub waits: Vec<Waiting>,
 }
@@ -107,38 +101,12 @@ impl Model for Gathered {
 
     ghost Value = { GatheredSeen };
 
-    ghost view = { λ a. record { zones = a.zones.items; observances = a.observances.items; events = a.events.items; waits = a.waits.items } };
-}
-
-/// The rule, if there is one.
-fn parts_of(rule: Option<RuleValue>) -> Option<Parts>
-    ensures { result ≡ rule }
-{
-    match rule {
-        Some(rule) => Some(rule.parts()),
-        None => None,
-    }
-}
-
-impl EndedObservance {
-    /// The observance, where no fault stands on its lines.
-    pub fn into_observance(self) -> Observance
-        requires { IsSoundPhase (phase_of self) }
-        ensures { made_phase result ≡ phase_of self }
-    {
-        Observance {
-            start: self.start,
-            offset_from: self.offset_from,
-            offset_to: self.offset_to,
-            rule: parts_of(self.rule),
-            rdates: self.rdates.into_vec(),
-        }
-    }
+    ghost view = { λ a. record { zones = a.zones.items; events = a.events.items; waits = a.waits.items } };
 }
 
 /// The time of a stamp in that calendar.
 fn time_on(alloc: Global, table: &ZoneTable, calendar: u64, dated: Dated) -> Time
-    ensures { result ≡ time_on (index_in table.now) calendar dated }
+    ensures { result ≡ time_on (known_by table.now).index calendar dated }
 {
     let stamp = dated.stamp;
     if !dated.is_zoned() {
@@ -155,7 +123,7 @@ fn recurrence_of(
     calendar: u64,
     recurrence: Option<Dated>,
 ) -> Option<Time>
-    ensures { result ≡ option_map (time_on (index_in table.now) calendar) recurrence }
+    ensures { result ≡ option_map (time_on (known_by table.now).index calendar) recurrence }
 {
     match recurrence {
         Some(dated) => Some(time_on(alloc, table, calendar, dated)),
@@ -164,7 +132,7 @@ fn recurrence_of(
 }
 
 fn length_of(alloc: Global, table: &ZoneTable, calendar: u64, length: GivenLength) -> Length
-    ensures { result ≡ length_of (index_in table.now) calendar length }
+    ensures { result ≡ length_of (known_by table.now).index calendar length }
 {
     match length {
         GivenLength::Until(end) => Length::Until(time_on(alloc, table, calendar, end)),
@@ -176,8 +144,8 @@ fn length_of(alloc: Global, table: &ZoneTable, calendar: u64, length: GivenLengt
 impl EndedEvent {
     /// The event, where no fault stands on its lines.
     pub fn into_event(self, alloc: Global, table: &ZoneTable) -> Result<Event, AllocError>
-        requires { (zones : List (List Phase)) × IsReady (record { index = index_in table.now; zones = zones }) self }
-        ensures { IfOk result (λ event. event ≡ event_of (index_in table.now) self) }
+        requires { IsReady (known_by table.now) self }
+        ensures { IfOk result (λ event. event ≡ event_of (known_by table.now).index self) }
     {
         let calendar = self.calendar;
         Ok(Event {
@@ -204,7 +172,6 @@ impl Gathered {
     {
         Gathered {
             zones: Vec::new(alloc),
-            observances: Vec::new(alloc),
             events: Vec::new(alloc),
             waits: Vec::new(alloc),
         }
@@ -223,7 +190,6 @@ impl Gathered {
         }
         match ended {
             Ended::Zone(zone) => self.zones.push(zone)?,
-            Ended::Observance(observance) => self.observances.push(observance)?,
             Ended::Event(event) => self.events.push(event)?,
             Ended::Nothing => {}
         }

@@ -18,6 +18,7 @@ mod later;
 mod laws;
 mod locals;
 mod name;
+mod observances;
 mod read;
 mod refused;
 mod rule_value;
@@ -28,7 +29,6 @@ mod text;
 mod time;
 mod words;
 mod zone_table;
-mod zones;
 
 pub use event::Event;
 pub use events::FileEvents;

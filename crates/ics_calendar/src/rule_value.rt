@@ -63,3 +63,13 @@ impl RuleValue {
         *self.parts
     }
 }
+
+/// The rule, if there is one.
+pub fn parts_of(rule: Option<RuleValue>) -> Option<Parts>
+    ensures { result ≡ rule }
+{
+    match rule {
+        Some(rule) => Some(rule.parts()),
+        None => None,
+    }
+}

@@ -1,30 +1,27 @@
 //! What a file is by what is gathered of it: the second round, and then the zones and the events.
-ghost use Rattle.std.specs.Prelude.{◌≡◌, List, map, IfOk};
+ghost use Rattle.std.specs.Prelude.{◌≡◌, map, IfOk};
 ghost use Rattle.std.specs.List.{All};
-ghost use Rattle.ics_zone.specs.Observances.{phases_of, Phase};
 ghost use Rattle.ics_calendar.specs.Collecting.{event_of};
 ghost use Rattle.ics_calendar.specs.Gathered.{first_judged, settled};
 ghost use Rattle.ics_calendar.specs.GatheredSound.{IsSoundLater, IsSoundGathered};
 ghost use Rattle.ics_calendar.specs.Ready.{IsReady};
-ghost use Rattle.ics_calendar.specs.ZoneTables.{index_in};
 ghost use Rattle.ics_calendar.specs.Seen.{said_answer};
+ghost use Rattle.ics_calendar.specs.ZoneTables.{known_by};
 
 use crate::event::Event;
 use crate::events::FileEvents;
 use crate::fault::Fault;
 use crate::gathered::{EndedEvent, Gathered, Waiting};
 use crate::zone_table::ZoneTable;
-use crate::zones::zones_from;
-use ics_zone::Zone;
 use std::alloc::{AllocError, Global};
 
 /// The first of what waits that is a fault.
-fn first_judged(table: &ZoneTable, zones: &[Zone], waits: &[Waiting]) -> Option<Fault>
+fn first_judged(table: &ZoneTable, waits: &[Waiting]) -> Option<Fault>
     requires { All (λ w. IsSoundLater w.later) waits.now }
-    ensures { result ≡ first_judged (record { index = index_in table.now; zones = map phases_of zones.now }) waits.now }
+    ensures { result ≡ first_judged (known_by table.now) waits.now }
 {
     for waiting in waits {
-        if let Some(kind) = waiting.later.judged(table, zones) {
+        if let Some(kind) = waiting.later.judged(table) {
             return Some(Fault {
                 line: waiting.line,
                 kind,
@@ -40,8 +37,8 @@ fn events_of(
     table: &ZoneTable,
     ended: Vec<EndedEvent>,
 ) -> Result<Vec<Event>, AllocError>
-    requires { (zones : List (List Phase)) × All (IsReady (record { index = index_in table.now; zones = zones })) ended.items }
-    ensures { IfOk result (λ events. events.items ≡ map (event_of (index_in table.now)) ended.items) }
+    requires { All (IsReady (known_by table.now)) ended.items }
+    ensures { IfOk result (λ events. events.items ≡ map (event_of (known_by table.now).index) ended.items) }
 {
     let mut events = Vec::with_capacity(alloc, ended.len())?;
     for event in ended {
@@ -56,16 +53,17 @@ pub fn settle(alloc: Global, gathered: Gathered) -> Result<Result<FileEvents, Fa
     ensures { IfOk result (λ answer. said_answer answer ≡ settled gathered) }
 {
     let Gathered {
-        zones: named,
-        observances,
+        zones,
         events,
         waits,
     } = gathered;
-    let zones = zones_from(alloc, &named, observances)?;
-    let table = ZoneTable::new(alloc, named)?;
-    if let Some(found) = first_judged(&table, &zones, &waits) {
+    let table = ZoneTable::new(alloc, zones)?;
+    if let Some(found) = first_judged(&table, &waits) {
         return Ok(Err(found));
     }
     let events = events_of(alloc, &table, events)?;
-    Ok(Ok(FileEvents { zones, events }))
+    Ok(Ok(FileEvents {
+        zones: table.into_zones(),
+        events,
+    }))
 }

@@ -46,7 +46,6 @@ impl Stack {
                 component: Component::Other(Text::new(alloc)),
                 place: Place::Outside,
                 calendar: 0,
-                begun: 0,
                 summary: Summary::Nothing,
             },
             outer: Vec::new(alloc),
@@ -94,13 +93,11 @@ impl Stack {
             return Err(Refused::Fault(kind));
         }
         let calendar = self.calendar_in(number);
-        self.top.summary.begin(&component);
         let place = component.place_in(self.top.place);
         let inner = Frame {
             component,
             place,
             calendar,
-            begun: number,
             summary: Summary::fresh(alloc, place),
         };
         let outer = mem::replace(&mut self.top, inner);
@@ -115,9 +112,8 @@ impl Stack {
         let Some(outer) = self.outer.pop() else {
             return Err(Refused::Fault(FaultKind::NotCalendar));
         };
-        let zone = outer.begun;
         let inner = mem::replace(&mut self.top, outer);
-        inner.end(alloc, zone, name)
+        inner.end(alloc, &mut self.top.summary, name)
     }
 
     /// Goes behind the line with that number, and gives what is gathered there.

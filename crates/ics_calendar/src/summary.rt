@@ -1,22 +1,23 @@
 //! What has been read of a component so far.
 ghost use Rattle.std.specs.Prelude.{◌≡◌, IfOk};
-ghost use Rattle.ics_calendar.specs.Lines.{Gives, Makes, Keeps, onset_said, offset_said, zone_line, observance_line, summary_line, plain_fault, begin_in, zone_end, observance_end};
+ghost use Rattle.ics_calendar.specs.Lines.{Gives, Makes, Keeps, onset_said, offset_said, zone_line, observance_line, summary_line, plain_fault, with_observance, zone_end, observance_end};
 ghost use Rattle.ics_calendar.specs.Summaries.{nothing_zone, nothing_observance, fresh};
 
 use crate::collected::{Collected, once};
-use crate::component::{Component, Place};
+use crate::component::Place;
 use crate::date_values::DateValues;
 use crate::fault::FaultKind;
-use crate::gathered::{EndedObservance, EndedZone};
+use crate::gathered::EndedZone;
 use crate::later::{Later, ZoneName};
 use crate::locals::Locals;
 use crate::name::Name;
+use crate::observances::{EndedObservance, Observances};
 use crate::refused::Refused;
 use crate::rule_value::RuleValue;
 use crate::text::Text;
 use ics_text::Content;
 use ics_values::{Local, Stamp, read_offset, read_stamp};
-use std::alloc::Global;
+use std::alloc::{AllocError, Global};
 
 /// What has been read of a component so far, if it is one that is read.
 #[derive(Drop)]
@@ -27,11 +28,11 @@ pub enum Summary {
     Nothing,
 }
 
-/// The TZID of a time zone, and whether an observance has begun in it.
+/// The TZID of a time zone, and its observances that have ended.
 #[derive(Drop)]
 pub struct ZoneSummary {
     pub name: Option<Text>,
-    pub has_observance: bool,
+    pub observances: Observances,
 }
 
 /// The value of each property that an observance has once, and the values of all its RDATEs.
@@ -61,12 +62,12 @@ fn offset(value: &[u8]) -> Result<i32, Refused>
 }
 
 impl ZoneSummary {
-    fn nothing() -> ZoneSummary
+    fn nothing(alloc: Global) -> ZoneSummary
         ensures { result ≡ nothing_zone }
     {
         ZoneSummary {
             name: None,
-            has_observance: false,
+            observances: Observances::new(alloc),
         }
     }
 
@@ -81,16 +82,17 @@ impl ZoneSummary {
     }
 
     /// The time zone of that calendar, at its END.
-    pub fn end(self, begun: u64, calendar: u64) -> Result<EndedZone, FaultKind>
-        ensures { result ≡ zone_end begun calendar self }
+    pub fn end(self, calendar: u64) -> Result<EndedZone, FaultKind>
+        ensures { result ≡ zone_end calendar self }
     {
-        if !self.has_observance {
+        let ZoneSummary { name, observances } = self;
+        if observances.is_empty() {
             return Err(FaultKind::NoObservance);
         }
-        match self.name {
+        match name {
             Some(name) => Ok(EndedZone {
-                begun,
                 name: ZoneName { calendar, name },
+                observances,
             }),
             None => Err(FaultKind::ObservanceField),
         }
@@ -132,16 +134,15 @@ impl ObservanceSummary {
         Ok(())
     }
 
-    /// The observance, at its END, with the number of the BEGIN line of its time zone.
-    pub fn end(self, zone: u64) -> Result<EndedObservance, FaultKind>
-        ensures { result ≡ observance_end zone self }
+    /// The observance, at its END.
+    pub fn end(self) -> Result<EndedObservance, FaultKind>
+        ensures { result ≡ observance_end self }
     {
         let (Some(start), Some(offset_from), Some(offset_to)) = (self.start, self.from, self.to)
         else {
             return Err(FaultKind::ObservanceField);
         };
         Ok(EndedObservance {
-            zone,
             start,
             offset_from,
             offset_to,
@@ -171,7 +172,7 @@ impl Summary {
     {
         match place {
             Place::Event => Summary::Event(Collected::nothing(alloc)),
-            Place::Zone => Summary::Zone(ZoneSummary::nothing()),
+            Place::Zone => Summary::Zone(ZoneSummary::nothing(alloc)),
             Place::Observance => Summary::Observance(ObservanceSummary::nothing(alloc)),
             _ => Summary::Nothing,
         }
@@ -205,12 +206,13 @@ impl Summary {
         }
     }
 
-    /// A component more that begins directly in this one.
-    pub fn begin(&mut self, component: &Component)
-        ensures { self.new ≡ begin_in component.now self.old }
+    /// An observance has ended directly in this component. A time zone keeps it.
+    pub fn add(&mut self, observance: EndedObservance) -> Result<(), AllocError>
+        ensures { IfOk result (λ _. self.new ≡ with_observance observance self.old) }
     {
         if let Summary::Zone(had) = self {
-            had.has_observance = had.has_observance || component.is_observance();
+            had.observances.push(observance)?;
         }
+        Ok(())
     }
 }

@@ -1,50 +1,46 @@
-use Rattle.std.proofs.Common.{◌≡◌, map, refl, sym, ap, ◌∙◌, subst, None}
-use Rattle.ics_zone.specs.Observances.{phases_of}
-use Rattle.ics_calendar.specs.Gathered.{settled, zones_in, first_judged}
+use Rattle.std.proofs.Common.{◌≡◌, List, sym, ap, ◌∙◌, subst, Option, None, Ok}
+use Rattle.ics_zone.specs.Observances.{Phase}
+use Rattle.ics_calendar.specs.Event.{EventSeen, AreEventsOf}
+use Rattle.ics_calendar.specs.Files.{decide}
+use Rattle.ics_calendar.specs.FirstFault.{Fault}
+use Rattle.ics_calendar.specs.Gathered.{first_judged, said_by, settled, settled_by}
 use Rattle.ics_calendar.specs.GatheredSeen.{GatheredSeen}
 use Rattle.ics_calendar.specs.GatheredSound.{IsSoundGathered}
-use Rattle.ics_calendar.specs.ZoneTables.{index_in}
-use Rattle.ics_calendar.specs.Zones.{zones_from}
-use Rattle.ics_calendar.proofs.Settling.{settled-fault, settled-said, ready-here, events-here}
+use Rattle.ics_calendar.specs.Laters.{KnownZones}
+use Rattle.ics_calendar.specs.ZoneTables.{known_by}
+use Rattle.ics_calendar.proofs.Settling.{known-is, ready-here, events-here}
 use Rattle.ics_calendar.proofs.settle.settle.Goals as goal
 
 pub returns-in-Some : goal.returns-in-Some
 returns-in-Some c =
-    let g : GatheredSeen = record { zones = c.gathered.inside.zones.items; observances = c.gathered.inside.observances.items; events = c.gathered.inside.events.items; waits = c.gathered.inside.waits.items } in
-    let made : map phases_of c.in_ok-zones.zones.items ≡ zones_in g = c.in_ok-zones.ensures ∙ ap (λ zs. zones_from zs c.gathered.inside.observances.items) c.deref.ensures.value in
-    let judged : c.first_judged.result ≡ first_judged (record { index = index_in c.in_ok-table.table; zones = map phases_of c.in_ok-zones.zones.items }) g.waits =
-    c.first_judged.ensures ∙ ap (λ ws. first_judged (record { index = index_in c.in_ok-table.table; zones = map phases_of c.deref-2.result.now }) ws) c.deref-3.ensures.value
-    ∙ ap (λ zs. first_judged (record { index = index_in c.in_ok-table.table; zones = map phases_of zs }) g.waits) c.deref-2.ensures.value in
-    settled-fault g (index_in c.in_ok-table.table) (map phases_of c.in_ok-zones.zones.items) c.in_ok-table.ensures made c.in-Some.found (sym c.in-Some.is ∙ judged) ∙ ap settled c.gathered.view_is
+    let g : GatheredSeen = record { zones = c.gathered.inside.zones.items; events = c.gathered.inside.events.items; waits = c.gathered.inside.waits.items } in
+    let known : KnownZones = known_by c.in_ok-table.table in
+    let judged : c.first_judged.result ≡ first_judged known g.waits = c.first_judged.ensures ∙ ap (first_judged known) c.deref.ensures.value in
+    ap (λ (o : Option Fault). decide None o (said_by known g)) (sym c.in-Some.is ∙ judged) ∙ ap (λ (k : KnownZones). settled_by k g) (known-is g known c.in_ok-table.ensures.index c.in_ok-table.ensures.zones) ∙ ap settled c.gathered.view_is
 
 pub events_of-requires : goal.events_of-requires
 events_of-requires c =
-    let g : GatheredSeen = record { zones = c.gathered.inside.zones.items; observances = c.gathered.inside.observances.items; events = c.gathered.inside.events.items; waits = c.gathered.inside.waits.items } in
-    let made : map phases_of c.in_ok-zones.zones.items ≡ zones_in g = c.in_ok-zones.ensures ∙ ap (λ zs. zones_from zs c.gathered.inside.observances.items) c.deref.ensures.value in
-    let judged : c.first_judged.result ≡ first_judged (record { index = index_in c.in_ok-table.table; zones = map phases_of c.in_ok-zones.zones.items }) g.waits =
-    c.first_judged.ensures ∙ ap (λ ws. first_judged (record { index = index_in c.in_ok-table.table; zones = map phases_of c.deref-2.result.now }) ws) c.deref-3.ensures.value
-    ∙ ap (λ zs. first_judged (record { index = index_in c.in_ok-table.table; zones = map phases_of zs }) g.waits) c.deref-2.ensures.value in
-    let none : None ≡ first_judged (record { index = index_in c.in_ok-table.table; zones = map phases_of c.in_ok-zones.zones.items }) g.waits = sym c.in_default.is ∙ judged in
-    (map phases_of c.in_ok-zones.zones.items, ready-here g (index_in c.in_ok-table.table) (map phases_of c.in_ok-zones.zones.items) c.in_ok-table.ensures made (subst IsSoundGathered (sym c.gathered.view_is) c.requires) none)
+    let g : GatheredSeen = record { zones = c.gathered.inside.zones.items; events = c.gathered.inside.events.items; waits = c.gathered.inside.waits.items } in
+    let known : KnownZones = known_by c.in_ok-table.table in
+    let judged : c.first_judged.result ≡ first_judged known g.waits = c.first_judged.ensures ∙ ap (first_judged known) c.deref.ensures.value in
+    ready-here g known (subst IsSoundGathered (sym c.gathered.view_is) c.requires) (known-is g known c.in_ok-table.ensures.index c.in_ok-table.ensures.zones, sym judged ∙ c.in_default.is)
 
 pub invariant_of-result : goal.invariant_of-result
 invariant_of-result c =
-    let g : GatheredSeen = record { zones = c.gathered.inside.zones.items; observances = c.gathered.inside.observances.items; events = c.gathered.inside.events.items; waits = c.gathered.inside.waits.items } in
-    let made : map phases_of c.in_ok-zones.zones.items ≡ zones_in g = c.in_ok-zones.ensures ∙ ap (λ zs. zones_from zs c.gathered.inside.observances.items) c.deref.ensures.value in
-    let judged : c.first_judged.result ≡ first_judged (record { index = index_in c.in_ok-table.table; zones = map phases_of c.in_ok-zones.zones.items }) g.waits =
-    c.first_judged.ensures ∙ ap (λ ws. first_judged (record { index = index_in c.in_ok-table.table; zones = map phases_of c.deref-2.result.now }) ws) c.deref-3.ensures.value
-    ∙ ap (λ zs. first_judged (record { index = index_in c.in_ok-table.table; zones = map phases_of zs }) g.waits) c.deref-2.ensures.value in
-    let none : None ≡ first_judged (record { index = index_in c.in_ok-table.table; zones = map phases_of c.in_ok-zones.zones.items }) g.waits = sym c.in_default.is ∙ judged in
-    events-here g (index_in c.in_ok-table.table) (map phases_of c.in_ok-zones.zones.items) c.in_ok-table.ensures made _ c.in_ok-events.events.items (subst IsSoundGathered (sym c.gathered.view_is) c.requires) none
-    refl c.in_ok-events.ensures
+    let g : GatheredSeen = record { zones = c.gathered.inside.zones.items; events = c.gathered.inside.events.items; waits = c.gathered.inside.waits.items } in
+    let known : KnownZones = known_by c.in_ok-table.table in
+    let judged : c.first_judged.result ≡ first_judged known g.waits = c.first_judged.ensures ∙ ap (first_judged known) c.deref.ensures.value in
+    subst (λ (zs : List (List Phase)). AreEventsOf zs c.in_ok-events.events.items) (sym c.into_zones.ensures)
+    (subst (λ (es : List EventSeen). AreEventsOf known.zones es) (sym c.in_ok-events.ensures)
+    (events-here g known (subst IsSoundGathered (sym c.gathered.view_is) c.requires) (known-is g known c.in_ok-table.ensures.index c.in_ok-table.ensures.zones, sym judged ∙ c.in_default.is)))
 
 pub returns : goal.returns
 returns c =
-    let g : GatheredSeen = record { zones = c.gathered.inside.zones.items; observances = c.gathered.inside.observances.items; events = c.gathered.inside.events.items; waits = c.gathered.inside.waits.items } in
-    let made : map phases_of c.in_ok-zones.zones.items ≡ zones_in g = c.in_ok-zones.ensures ∙ ap (λ zs. zones_from zs c.gathered.inside.observances.items) c.deref.ensures.value in
-    let judged : c.first_judged.result ≡ first_judged (record { index = index_in c.in_ok-table.table; zones = map phases_of c.in_ok-zones.zones.items }) g.waits =
-    c.first_judged.ensures ∙ ap (λ ws. first_judged (record { index = index_in c.in_ok-table.table; zones = map phases_of c.deref-2.result.now }) ws) c.deref-3.ensures.value
-    ∙ ap (λ zs. first_judged (record { index = index_in c.in_ok-table.table; zones = map phases_of zs }) g.waits) c.deref-2.ensures.value in
-    let none : None ≡ first_judged (record { index = index_in c.in_ok-table.table; zones = map phases_of c.in_ok-zones.zones.items }) g.waits = sym c.in_default.is ∙ judged in
-    settled-said g (index_in c.in_ok-table.table) (map phases_of c.in_ok-zones.zones.items) c.in_ok-table.ensures made _ c.in_ok-events.events.items none
-    refl c.in_ok-events.ensures ∙ ap settled c.gathered.view_is
+    let g : GatheredSeen = record { zones = c.gathered.inside.zones.items; events = c.gathered.inside.events.items; waits = c.gathered.inside.waits.items } in
+    let known : KnownZones = known_by c.in_ok-table.table in
+    let judged : c.first_judged.result ≡ first_judged known g.waits = c.first_judged.ensures ∙ ap (first_judged known) c.deref.ensures.value in
+    ap (λ (zs : List (List Phase)). Ok (record { zones = zs; events = c.in_ok-events.events.items })) c.into_zones.ensures
+    ∙ ap (λ (es : List EventSeen). Ok (record { zones = known.zones; events = es })) c.in_ok-events.ensures
+    ∙ ap (λ (o : Option Fault). decide None o (said_by known g)) (sym c.in_default.is ∙ judged)
+    ∙ ap (λ (k : KnownZones). settled_by k g) (known-is g known c.in_ok-table.ensures.index c.in_ok-table.ensures.zones)
+    ∙ ap settled c.gathered.view_is

@@ -2,16 +2,16 @@ use Rattle.std.proofs.Common.{rules, ◌≡◌, ◌++◌, ◌∷◌, ◌∙◌, 
 use Rattle.ics_calendar.specs.declared.date_list.DateList.{DateList}
 use Rattle.ics_calendar.specs.declared.time.Rdate.{Rdate}
 use Rattle.ics_calendar.specs.DateLists.{zone_listed, rdate_in, rdates_by}
-use Rattle.ics_calendar.specs.ZoneTables.{index_in}
+use Rattle.ics_calendar.specs.ZoneTables.{known_by}
 use Rattle.ics_calendar.proofs.Listed.{flat_map-next}
 use Rattle.ics_calendar.proofs.date_list.DateLists.into_rdates.Goals as goal
 
 pub loop-list-preserved : goal.loop-list-preserved
 loop-list-preserved c =
-    let f : DateList → List Rdate = λ list. map (rdate_in (index_in c.args.table.now (zone_listed c.args.calendar list))) list.values in
+    let f : DateList → List Rdate = λ list. map (rdate_in ((known_by c.args.table.now).index (zone_listed c.args.calendar list))) list.values in
     let added : c.push_rdates.new.rdates.items ≡ c.loop-list.rdates.items ++ f c.in-Some.list =
-    c.in_ok-push_rdates.ensures ∙ ap (λ z. c.loop-list.rdates.items ++ map (rdate_in z) c.in-Some.list.values) (c.index-zone.ensures ∙ ap (index_in c.args.table.now) c.of.ensures) in
+    c.in_ok-push_rdates.ensures ∙ ap (λ z. c.loop-list.rdates.items ++ map (rdate_in z) c.in-Some.list.values) (c.index-zone.ensures ∙ ap ((known_by c.args.table.now).index) c.of.ensures) in
     let rest : c.loop-list.list-iterator.rest.items ≡ c.in-Some.list ∷ c.next.new.self.rest.items = search rules in
-    ap (λ rdates. rdates ++ rdates_by (index_in c.args.table.now) c.args.calendar c.next.new.self.rest.items) added
+    ap (λ rdates. rdates ++ rdates_by ((known_by c.args.table.now).index) c.args.calendar c.next.new.self.rest.items) added
     ∙ flat_map-next f c.loop-list.rdates.items c.in-Some.list c.next.new.self.rest.items
-    ∙ ap (λ lists. c.loop-list.rdates.items ++ rdates_by (index_in c.args.table.now) c.args.calendar lists) (sym rest) ∙ c.loop-list.invariant
+    ∙ ap (λ lists. c.loop-list.rdates.items ++ rdates_by ((known_by c.args.table.now).index) c.args.calendar lists) (sym rest) ∙ c.loop-list.invariant

@@ -1,13 +1,6 @@
 use Rattle.std.proofs.Common.{◌≡◌, map}
-use Rattle.std.specs.BTreeMap.{get}
-use Rattle.std.specs.List.{position_from}
-use Rattle.std.specs.Option.{option_or}
-use Rattle.ics_calendar.specs.declared.later.ZoneName.{ZoneName}
-use Rattle.ics_calendar.specs.Laters.{is_same, zone_index}
-use Rattle.ics_calendar.specs.ZoneTables.{name_cmp}
+use Rattle.ics_zone.specs.Observances.{phases_of}
 use Rattle.ics_calendar.proofs.zone_table.ZoneTable.new.Given as goal
 
--- a zone is in the table, or is still to come
-abbrev pub invariant-loop-place : goal.invariant-loop-place
-invariant-loop-place l =
-    (used : ZoneName) → option_or (get name_cmp l.places used) (position_from (is_same used) l.place-iterator.count (map (λ z. z.name) l.place-iterator.iter.rest.items)) ≡ zone_index (map (λ z. z.name) l.fn.zones.items) used
+abbrev pub invariant-loop-zone : goal.invariant-loop-zone
+invariant-loop-zone l = record { names : l.names.items ≡ map (λ z. z.name) l.yielded; zones : map phases_of l.made.items ≡ map (λ z. z.observances) l.yielded }

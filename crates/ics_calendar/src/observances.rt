@@ -1,0 +1,120 @@
+//! The observances of a time zone (RFC 5545, section 3.6.5).
+ghost use Rattle.std.specs.Prelude.{◌≡◌, ◌≢◌, ◌==◌, ◌++◌, ◌∷◌, [], length, false, IfOk};
+ghost use Rattle.std.specs.List.{All, list_any};
+ghost use Rattle.ics_zone.specs.Observances.{phase_of, phases_of, has_finer_rule};
+ghost use Rattle.ics_calendar.specs.ZonesSound.{IsSoundPhase, IsSoundZone};
+
+use crate::locals::Locals;
+use crate::rule_value::{RuleValue, parts_of};
+use ics_values::Local;
+use ics_zone::{Observance, Zone, ZoneFault};
+use std::alloc::{AllocError, Global};
+use std::marker::Model;
+
+/// An observance that has ended.
+#[derive(Drop)]
+pub struct EndedObservance {
+    pub start: Local,
+    pub offset_from: i32,
+    pub offset_to: i32,
+    pub rule: Option<RuleValue>,
+    pub rdates: Locals,
+}
+
+impl Model for EndedObservance {
+    ghost use Rattle.ics_zone.specs.Observances.{Phase};
+
+    ghost Value = { Phase };
+
+    ghost view = { λ a. record { start = a.start; offset_from = a.offset_from; offset_to = a.offset_to; rule = a.rule; rdates = a.rdates } };
+}
+
+/// The observances of a time zone that have ended, in their order.
+#[derive(Drop)]
+pub struct Observances {
+    list: Vec<EndedObservance>,
+}
+
+impl Model for Observances {
+    ghost use Rattle.std.specs.Prelude.{List};
+    ghost use Rattle.ics_zone.specs.Observances.{Phase};
+
+    ghost Value = { List Phase };
+
+    ghost view = { λ a. a.list.items };
+}
+
+impl EndedObservance {
+    /// The observance, where no fault stands on its lines.
+    fn into_observance(self) -> Observance
+        requires { IsSoundPhase self }
+        ensures { phase_of result ≡ self }
+    {
+        Observance {
+            start: self.start,
+            offset_from: self.offset_from,
+            offset_to: self.offset_to,
+            rule: parts_of(self.rule),
+            rdates: self.rdates.into_vec(),
+        }
+    }
+}
+
+/// The time zone of these observances.
+fn zone_of(alloc: Global, observances: Vec<Observance>) -> Result<Zone, AllocError>
+    requires filled { observances.items ≢ [] }
+    requires daily { list_any has_finer_rule (phases_of observances.items) ≡ false }
+    ensures { IfOk result (λ zone. zone ≡ observances.items) }
+{
+    match Zone::read(alloc, observances) {
+        Ok(zone) => Ok(zone),
+        Err(ZoneFault::Memory) => Err(AllocError),
+        Err(ZoneFault::NoObservance | ZoneFault::ZoneRule) => unreachable!(),
+    }
+}
+
+impl Observances {
+    /// No observance has ended.
+    pub fn new(alloc: Global) -> Observances
+        ensures { result ≡ [] }
+    {
+        Observances {
+            list: Vec::new(alloc),
+        }
+    }
+
+    /// Whether none has ended.
+    pub fn is_empty(&self) -> bool
+        ensures { result ≡ (length self.now == 0) }
+    {
+        self.list.is_empty()
+    }
+
+    /// One more has ended.
+    pub fn push(&mut self, observance: EndedObservance) -> Result<(), AllocError>
+        ensures { IfOk result (λ _. self.new ≡ self.old ++ observance ∷ []) }
+    {
+        self.list.push(observance)?;
+        Ok(())
+    }
+
+    /// The observances, where no fault stands on their lines.
+    fn into_observances(self, alloc: Global) -> Result<Vec<Observance>, AllocError>
+        requires { All IsSoundPhase self }
+        ensures { IfOk result (λ made. phases_of made.items ≡ self) }
+    {
+        let mut made = Vec::new(alloc);
+        for observance in self.list {
+            made.push(observance.into_observance())?;
+        }
+        Ok(made)
+    }
+
+    /// The time zone with these observances, where no fault stands on its lines.
+    pub fn into_zone(self, alloc: Global) -> Result<Zone, AllocError>
+        requires { IsSoundZone self }
+        ensures { IfOk result (λ zone. phases_of zone ≡ self) }
+    {
+        zone_of(alloc, self.into_observances(alloc)?)
+    }
+}
