@@ -8,186 +8,184 @@ use Rattle.ics_values.specs.declared.stamp.Stamp.TheVariants as stamp
 use Rattle.ics_values.specs.declared.duration.Duration.{Duration}
 use Rattle.ics_text.specs.Bytes.{upper}
 use Rattle.ics_text.specs.Contents.{Parts}
-use Rattle.ics_calendar.specs.declared.collected.Collected.{Collected}
-use Rattle.ics_calendar.specs.declared.component.Place.{Place}
-use Rattle.ics_calendar.specs.declared.component.Place.TheVariants as place
+use Rattle.ics_calendar.specs.declared.event_builder.EventBuilder.{EventBuilder}
+use Rattle.ics_calendar.specs.declared.component.Context.{Context}
+use Rattle.ics_calendar.specs.declared.component.Context.TheVariants as context
 use Rattle.ics_calendar.specs.declared.date_list.DateList.{DateList}
 use Rattle.ics_calendar.specs.declared.dated.Dated.{Dated}
 use Rattle.ics_calendar.specs.declared.frame.Frame.{Frame}
-use Rattle.ics_calendar.specs.declared.gathered.Waiting.{Waiting}
-use Rattle.ics_calendar.specs.declared.later.Instant.{Instant}
-use Rattle.ics_calendar.specs.declared.later.Instant.TheVariants as instant
-use Rattle.ics_calendar.specs.declared.later.Later.{Later}
-use Rattle.ics_calendar.specs.declared.later.Later.TheVariants as later
-use Rattle.ics_calendar.specs.declared.later.ZoneName.{ZoneName}
+use Rattle.ics_calendar.specs.declared.gathered.LineCheck.{LineCheck}
+use Rattle.ics_calendar.specs.declared.deferred_check.Instant.{Instant}
+use Rattle.ics_calendar.specs.declared.deferred_check.Instant.TheVariants as instant
+use Rattle.ics_calendar.specs.declared.deferred_check.DeferredCheck.{DeferredCheck}
+use Rattle.ics_calendar.specs.declared.deferred_check.DeferredCheck.TheVariants as check
+use Rattle.ics_calendar.specs.declared.deferred_check.ZoneName.{ZoneName}
 use Rattle.ics_calendar.specs.declared.component.Component.{Component}
 use Rattle.ics_calendar.specs.declared.name.Name.{Name}
 use Rattle.ics_calendar.specs.declared.name.Name.TheVariants as name
-use Rattle.ics_calendar.specs.declared.summary.Summary.{Summary}
-use Rattle.ics_calendar.specs.declared.summary.Summary.TheVariants as summary
-use Rattle.ics_calendar.specs.Collecting.{event_ended}
-use Rattle.ics_calendar.specs.Components.{component_of, place_in}
+use Rattle.ics_calendar.specs.declared.builder.Builder.{Builder}
+use Rattle.ics_calendar.specs.declared.builder.Builder.TheVariants as builder
+use Rattle.ics_calendar.specs.Builders.{event_ended, fresh}
+use Rattle.ics_calendar.specs.Components.{component_of, context_in}
 use Rattle.ics_calendar.specs.DateLists.{zone_listed, rdate_list, exdate_list}
 use Rattle.ics_calendar.specs.DateValues.{has_zoned}
 use Rattle.ics_calendar.specs.Event.{seconds_of, is_zoned}
-use Rattle.ics_calendar.specs.GatheredSound.{IsSoundInstant, IsSoundLater}
-use Rattle.ics_calendar.specs.Gathering.{waits_of, events_of_end}
-use Rattle.ics_calendar.specs.Laters.{zone_used, are_of_one_zone}
+use Rattle.ics_calendar.specs.Gathered.{IsSoundInstant, IsSoundCheck, checks_of, events_of_end}
+use Rattle.ics_calendar.specs.DeferredChecks.{zone_used, are_of_one_zone}
 use Rattle.ics_calendar.specs.Lines.{or_first, used_zone, used_in, listed_zone, instant_on, instant_in, both_compared, ends_in, opened}
 use Rattle.ics_calendar.specs.Ready.{EachZone, end_of}
 use Rattle.ics_calendar.specs.Times.{dated_in, given_length}
 use Rattle.ics_calendar.specs.Sound.{IsSoundStamp}
-use Rattle.ics_calendar.specs.Summaries.{fresh}
 use Rattle.ics_calendar.specs.Values.{dated_of, is_out}
-use Rattle.ics_calendar.proofs.Judged.{event_note, event_later, summary_note, summary_later, later_end, later_in, joined, closed, behind, ends, ended_as, is_begin_name, is_end_name, behind-is, later-is}
+use Rattle.ics_calendar.proofs.Judged.{event_note, event_check, builder_note, builder_check, end_check, check_in, joined, closed, behind, ends, ended_as, is_begin_name, is_end_name, behind-is, check-is}
 use Rattle.ics_calendar.proofs.Listed.{some-weaker}
 use Rattle.ics_calendar.proofs.Sound.{IsSoundAt}
 
-abbrev pub laters : List Waiting → List Later
-laters waits = map (λ (w : Waiting). w.later) waits
+abbrev pub bare_checks : List LineCheck → List DeferredCheck
+bare_checks checks = map (λ (w : LineCheck). w.check) checks
 
 -- what is found on a line
-abbrev pub one : Option Later → List Later
+abbrev pub one : Option DeferredCheck → List DeferredCheck
 one None = []
 one (Some l) = l ∷ []
 
-pub laters-more : (waits : List Waiting) (number : ℕ) (o : Option Later) → laters (waits ++ waits_of number o) ≡ laters waits ++ one o
-laters-more waits number o = map-append (λ (w : Waiting). w.later) waits (waits_of number o) ∙ ap (λ ls. laters waits ++ ls) (by_option o)
+pub bare_checks-more : (checks : List LineCheck) (number : ℕ) (o : Option DeferredCheck) → bare_checks (checks ++ checks_of number o) ≡ bare_checks checks ++ one o
+bare_checks-more checks number o = map-append (λ (w : LineCheck). w.check) checks (checks_of number o) ∙ ap (λ ls. bare_checks checks ++ ls) (by_option o)
   where
-    by_option : (o : Option Later) → laters (waits_of number o) ≡ one o
+    by_option : (o : Option DeferredCheck) → bare_checks (checks_of number o) ≡ one o
     by_option None = refl
     by_option (Some l) = refl
 
-some-here : (waits : List Later) (o : Option Later) → IfSome o (Contains (waits ++ one o))
-some-here waits None = tt
-some-here waits (Some l) = Contains-push waits l
+some-here : (checks : List DeferredCheck) (o : Option DeferredCheck) → IfSome o (Contains (checks ++ one o))
+some-here checks None = tt
+some-here checks (Some l) = Contains-push checks l
 
 -- WHAT IS COLLECTED of an event so far: the second round looks at the zones of its stamps.
-pub record AreLooked (waits : List Later) (calendar : ℕ) (had : Collected) : Type 0 where
-  pub start : IfSome (used_in calendar had.start) (Contains waits)
-  pub end : IfSome (used_in calendar had.end) (Contains waits)
-  pub rdates : All (λ list. IfSome (listed_zone calendar list) (Contains waits)) had.rdates
-  pub exdates : All (λ list. IfSome (listed_zone calendar list) (Contains waits)) had.exdates
-  pub recurrence : IfSome (used_in calendar had.recurrence) (Contains waits)
+pub record AreLooked (checks : List DeferredCheck) (calendar : ℕ) (had : EventBuilder) : Type 0 where
+  pub start : IfSome (used_in calendar had.start) (Contains checks)
+  pub end : IfSome (used_in calendar had.end) (Contains checks)
+  pub rdates : All (λ list. IfSome (listed_zone calendar list) (Contains checks)) had.rdates
+  pub exdates : All (λ list. IfSome (listed_zone calendar list) (Contains checks)) had.exdates
+  pub recurrence : IfSome (used_in calendar had.recurrence) (Contains checks)
 
-abbrev pub IsAwaitedIn : List Later → ℕ → Summary → Type 0
-IsAwaitedIn waits calendar (summary.Event had) = AreLooked waits calendar had
-IsAwaitedIn waits calendar _ = Unit {0}
+abbrev pub IsAwaitedIn : List DeferredCheck → ℕ → Builder → Type 0
+IsAwaitedIn checks calendar (builder.Event had) = AreLooked checks calendar had
+IsAwaitedIn checks calendar _ = Unit {0}
 
-abbrev pub AreAwaited : List Later → List Frame → Type 0
-AreAwaited waits [] = Unit {0}
-AreAwaited waits (f ∷ fs) = IsAwaitedIn waits f.calendar f.summary × AreAwaited waits fs
+abbrev pub AreAwaited : List DeferredCheck → List Frame → Type 0
+AreAwaited checks [] = Unit {0}
+AreAwaited checks (f ∷ fs) = IsAwaitedIn checks f.calendar f.builder × AreAwaited checks fs
 
-some-more : (waits more : List Later) (o : Option Later) → IfSome o (Contains waits) → IfSome o (Contains (waits ++ more))
-some-more waits more = some-weaker (Contains waits) (Contains (waits ++ more)) (λ l. Contains-append_left waits more l)
+some-more : (checks more : List DeferredCheck) (o : Option DeferredCheck) → IfSome o (Contains checks) → IfSome o (Contains (checks ++ more))
+some-more checks more = some-weaker (Contains checks) (Contains (checks ++ more)) (λ l. Contains-append_left checks more l)
 
-looked-more : (waits more : List Later) (k : ℕ) (had : Collected) → AreLooked waits k had → AreLooked (waits ++ more) k had
-looked-more waits more k had z = record {
-  start = some-more waits more (used_in k had.start) z.start;
-  end = some-more waits more (used_in k had.end) z.end;
+looked-more : (checks more : List DeferredCheck) (k : ℕ) (had : EventBuilder) → AreLooked checks k had → AreLooked (checks ++ more) k had
+looked-more checks more k had z = record {
+  start = some-more checks more (used_in k had.start) z.start;
+  end = some-more checks more (used_in k had.end) z.end;
   rdates = lists had.rdates z.rdates;
   exdates = lists had.exdates z.exdates;
-  recurrence = some-more waits more (used_in k had.recurrence) z.recurrence;
+  recurrence = some-more checks more (used_in k had.recurrence) z.recurrence;
 }
   where
-    lists : (ls : List DateList) → All (λ list. IfSome (listed_zone k list) (Contains waits)) ls → All (λ list. IfSome (listed_zone k list) (Contains (waits ++ more))) ls
-    lists = All-weaker (λ list. IfSome (listed_zone k list) (Contains waits)) (λ list. IfSome (listed_zone k list) (Contains (waits ++ more))) (λ list h. some-more waits more (listed_zone k list) h)
+    lists : (ls : List DateList) → All (λ list. IfSome (listed_zone k list) (Contains checks)) ls → All (λ list. IfSome (listed_zone k list) (Contains (checks ++ more))) ls
+    lists = All-weaker (λ list. IfSome (listed_zone k list) (Contains checks)) (λ list. IfSome (listed_zone k list) (Contains (checks ++ more))) (λ list h. some-more checks more (listed_zone k list) h)
 
-awaited-more : (waits more : List Later) (calendar : ℕ) (s : Summary) → IsAwaitedIn waits calendar s → IsAwaitedIn (waits ++ more) calendar s
-awaited-more waits more k (summary.Event had) h = looked-more waits more k had h
-awaited-more waits more k (summary.Zone had) h = tt
-awaited-more waits more k (summary.Observance had) h = tt
-awaited-more waits more k summary.Nothing h = tt
+awaited-more : (checks more : List DeferredCheck) (calendar : ℕ) (s : Builder) → IsAwaitedIn checks calendar s → IsAwaitedIn (checks ++ more) calendar s
+awaited-more checks more k (builder.Event had) h = looked-more checks more k had h
+awaited-more checks more k (builder.Zone had) h = tt
+awaited-more checks more k (builder.Observance had) h = tt
+awaited-more checks more k builder.Nothing h = tt
 
-are-awaited-more : (waits more : List Later) (frames : List Frame) → AreAwaited waits frames → AreAwaited (waits ++ more) frames
-are-awaited-more waits more [] h = tt
-are-awaited-more waits more (f ∷ fs) h = (awaited-more waits more f.calendar f.summary h.0, are-awaited-more waits more fs h.1)
+are-awaited-more : (checks more : List DeferredCheck) (frames : List Frame) → AreAwaited checks frames → AreAwaited (checks ++ more) frames
+are-awaited-more checks more [] h = tt
+are-awaited-more checks more (f ∷ fs) h = (awaited-more checks more f.calendar f.builder h.0, are-awaited-more checks more fs h.1)
 
-first-looked : (waits : List Later) (calendar : ℕ) (o : Option Dated) (dated : Dated) → IfSome (used_in calendar o) (Contains (waits ++ one (used_zone calendar dated))) →
-    IfSome (used_in calendar (or_first o dated)) (Contains (waits ++ one (used_zone calendar dated)))
-first-looked waits k (Some d) dated h = h
-first-looked waits k None dated h = some-here waits (used_zone k dated)
+first-looked : (checks : List DeferredCheck) (calendar : ℕ) (o : Option Dated) (dated : Dated) → IfSome (used_in calendar o) (Contains (checks ++ one (used_zone calendar dated))) →
+    IfSome (used_in calendar (or_first o dated)) (Contains (checks ++ one (used_zone calendar dated)))
+first-looked checks k (Some d) dated h = h
+first-looked checks k None dated h = some-here checks (used_zone k dated)
 
-last-looked : (waits : List Later) (calendar : ℕ) (lists : List DateList) (list : DateList) → All (λ l. IfSome (listed_zone calendar l) (Contains (waits ++ one (listed_zone calendar list)))) lists →
-    All (λ l. IfSome (listed_zone calendar l) (Contains (waits ++ one (listed_zone calendar list)))) (lists ++ list ∷ [])
-last-looked waits k lists list h = All-push (λ l. IfSome (listed_zone k l) (Contains (waits ++ one (listed_zone k list)))) lists list h (some-here waits (listed_zone k list))
+last-looked : (checks : List DeferredCheck) (calendar : ℕ) (lists : List DateList) (list : DateList) → All (λ l. IfSome (listed_zone calendar l) (Contains (checks ++ one (listed_zone calendar list)))) lists →
+    All (λ l. IfSome (listed_zone calendar l) (Contains (checks ++ one (listed_zone calendar list)))) (lists ++ list ∷ [])
+last-looked checks k lists list h = All-push (λ l. IfSome (listed_zone k l) (Contains (checks ++ one (listed_zone k list)))) lists list h (some-here checks (listed_zone k list))
 
-event-noted : (waits : List Later) (k : ℕ) (n : Name) (v : Parts) (had : Collected) → AreLooked (waits ++ one (event_later k n v)) k had → AreLooked (waits ++ one (event_later k n v)) k (event_note n v had)
-event-noted waits k name.Dtstart v had z = record { start = first-looked waits k had.start (dated_of v.params v.value) z.start; end = z.end; rdates = z.rdates; exdates = z.exdates; recurrence = z.recurrence }
-event-noted waits k name.Dtend v had z = record { start = z.start; end = first-looked waits k had.end (dated_of v.params v.value) z.end; rdates = z.rdates; exdates = z.exdates; recurrence = z.recurrence }
-event-noted waits k name.RecurrenceId v had z = record { start = z.start; end = z.end; rdates = z.rdates; exdates = z.exdates; recurrence = first-looked waits k had.recurrence (dated_of v.params v.value) z.recurrence }
-event-noted waits k name.Rdate v had z = record { start = z.start; end = z.end; rdates = last-looked waits k had.rdates (rdate_list v.params v.value) z.rdates; exdates = z.exdates; recurrence = z.recurrence }
-event-noted waits k name.Exdate v had z = record { start = z.start; end = z.end; rdates = z.rdates; exdates = last-looked waits k had.exdates (exdate_list v.params v.value) z.exdates; recurrence = z.recurrence }
-event-noted waits k _ v had z = record { start = z.start; end = z.end; rdates = z.rdates; exdates = z.exdates; recurrence = z.recurrence }
+event-noted : (checks : List DeferredCheck) (k : ℕ) (n : Name) (v : Parts) (had : EventBuilder) → AreLooked (checks ++ one (event_check k n v)) k had → AreLooked (checks ++ one (event_check k n v)) k (event_note n v had)
+event-noted checks k name.Dtstart v had z = record { start = first-looked checks k had.start (dated_of v.params v.value) z.start; end = z.end; rdates = z.rdates; exdates = z.exdates; recurrence = z.recurrence }
+event-noted checks k name.Dtend v had z = record { start = z.start; end = first-looked checks k had.end (dated_of v.params v.value) z.end; rdates = z.rdates; exdates = z.exdates; recurrence = z.recurrence }
+event-noted checks k name.RecurrenceId v had z = record { start = z.start; end = z.end; rdates = z.rdates; exdates = z.exdates; recurrence = first-looked checks k had.recurrence (dated_of v.params v.value) z.recurrence }
+event-noted checks k name.Rdate v had z = record { start = z.start; end = z.end; rdates = last-looked checks k had.rdates (rdate_list v.params v.value) z.rdates; exdates = z.exdates; recurrence = z.recurrence }
+event-noted checks k name.Exdate v had z = record { start = z.start; end = z.end; rdates = z.rdates; exdates = last-looked checks k had.exdates (exdate_list v.params v.value) z.exdates; recurrence = z.recurrence }
+event-noted checks k _ v had z = record { start = z.start; end = z.end; rdates = z.rdates; exdates = z.exdates; recurrence = z.recurrence }
 
-noted-awaited : (waits : List Later) (k : ℕ) (n : Name) (v : Parts) (s : Summary) → IsAwaitedIn waits k s → IsAwaitedIn (waits ++ one (summary_later k n v s)) k (summary_note n v s)
-noted-awaited waits k n v (summary.Event had) h = event-noted waits k n v had (looked-more waits (one (event_later k n v)) k had h)
-noted-awaited waits k n v (summary.Zone had) h = tt
-noted-awaited waits k n v (summary.Observance had) h = tt
-noted-awaited waits k n v summary.Nothing h = tt
+noted-awaited : (checks : List DeferredCheck) (k : ℕ) (n : Name) (v : Parts) (s : Builder) → IsAwaitedIn checks k s → IsAwaitedIn (checks ++ one (builder_check k n v s)) k (builder_note n v s)
+noted-awaited checks k n v (builder.Event had) h = event-noted checks k n v had (looked-more checks (one (event_check k n v)) k had h)
+noted-awaited checks k n v (builder.Zone had) h = tt
+noted-awaited checks k n v (builder.Observance had) h = tt
+noted-awaited checks k n v builder.Nothing h = tt
 
-fresh-awaited : (waits : List Later) (calendar : ℕ) (q : Place) → IsAwaitedIn waits calendar (fresh q)
-fresh-awaited waits k place.Event = record {
+fresh-awaited : (checks : List DeferredCheck) (calendar : ℕ) (q : Context) → IsAwaitedIn checks calendar (fresh q)
+fresh-awaited checks k context.Event = record {
   start = tt;
   end = tt;
-  rdates = All-nil (λ list. IfSome (listed_zone k list) (Contains waits));
-  exdates = All-nil (λ list. IfSome (listed_zone k list) (Contains waits));
+  rdates = All-nil (λ list. IfSome (listed_zone k list) (Contains checks));
+  exdates = All-nil (λ list. IfSome (listed_zone k list) (Contains checks));
   recurrence = tt;
 }
-fresh-awaited waits k _ = tt
+fresh-awaited checks k _ = tt
 
-joined-awaited : (waits : List Later) (calendar : ℕ) (s t : Summary) → IsAwaitedIn waits calendar t → IsAwaitedIn waits calendar (joined s t)
-joined-awaited waits k (summary.Observance had) (summary.Event e) h = h
-joined-awaited waits k (summary.Observance had) (summary.Zone e) h = tt
-joined-awaited waits k (summary.Observance had) (summary.Observance e) h = tt
-joined-awaited waits k (summary.Observance had) summary.Nothing h = tt
-joined-awaited waits k _ t h = h
+joined-awaited : (checks : List DeferredCheck) (calendar : ℕ) (s t : Builder) → IsAwaitedIn checks calendar t → IsAwaitedIn checks calendar (joined s t)
+joined-awaited checks k (builder.Observance had) (builder.Event e) h = h
+joined-awaited checks k (builder.Observance had) (builder.Zone e) h = tt
+joined-awaited checks k (builder.Observance had) (builder.Observance e) h = tt
+joined-awaited checks k (builder.Observance had) builder.Nothing h = tt
+joined-awaited checks k _ t h = h
 
-closed-awaited : (waits : List Later) (f : Frame) (fs : List Frame) → AreAwaited waits (f ∷ fs) → AreAwaited waits (closed (f ∷ fs))
-closed-awaited waits f [] h = h
-closed-awaited waits f (g ∷ gs) h = (joined-awaited waits g.calendar f.summary g.summary h.1.0, h.1.1)
+closed-awaited : (checks : List DeferredCheck) (f : Frame) (fs : List Frame) → AreAwaited checks (f ∷ fs) → AreAwaited checks (closed (f ∷ fs))
+closed-awaited checks f [] h = h
+closed-awaited checks f (g ∷ gs) h = (joined-awaited checks g.calendar f.builder g.builder h.1.0, h.1.1)
 
 -- a line keeps it
-pub awaited-behind : (waits : List Later) (number : ℕ) (n : Name) (v : Parts) (f : Frame) (fs : List Frame) → AreAwaited waits (f ∷ fs) → AreAwaited (waits ++ one (later_in n v f)) (behind number n v (f ∷ fs))
-awaited-behind waits number n v f fs h = rw (later-is n v f, behind-is number n v f fs) (by_tests (is_begin_name n) (is_end_name n))
+pub awaited-behind : (checks : List DeferredCheck) (number : ℕ) (n : Name) (v : Parts) (f : Frame) (fs : List Frame) → AreAwaited checks (f ∷ fs) → AreAwaited (checks ++ one (check_in n v f)) (behind number n v (f ∷ fs))
+awaited-behind checks number n v f fs h = rw (check-is n v f, behind-is number n v f fs) (by_tests (is_begin_name n) (is_end_name n))
   where
     c : Component
     c = component_of (map upper v.value)
 
-    by_tests : (b e : Bool) → AreAwaited (waits ++ one (cond b None (cond e (later_end f.calendar f.summary) (summary_later f.calendar n v f.summary))))
-        (cond b (opened number c (f ∷ fs)) (cond e (closed (f ∷ fs)) (record f { summary = summary_note n v f.summary } ∷ fs)))
-    by_tests true e = (fresh-awaited (waits ++ []) _ (place_in f.place c), are-awaited-more waits [] (f ∷ fs) h)
-    by_tests false true = closed-awaited (waits ++ one (later_end f.calendar f.summary)) f fs (are-awaited-more waits (one (later_end f.calendar f.summary)) (f ∷ fs) h)
-    by_tests false false = (noted-awaited waits f.calendar n v f.summary h.0, are-awaited-more waits (one (summary_later f.calendar n v f.summary)) fs h.1)
+    by_tests : (b e : Bool) → AreAwaited (checks ++ one (cond b None (cond e (end_check f.calendar f.builder) (builder_check f.calendar n v f.builder))))
+        (cond b (opened number c (f ∷ fs)) (cond e (closed (f ∷ fs)) (record f { builder = builder_note n v f.builder } ∷ fs)))
+    by_tests true e = (fresh-awaited (checks ++ []) _ (context_in f.context c), are-awaited-more checks [] (f ∷ fs) h)
+    by_tests false true = closed-awaited (checks ++ one (end_check f.calendar f.builder)) f fs (are-awaited-more checks (one (end_check f.calendar f.builder)) (f ∷ fs) h)
+    by_tests false false = (noted-awaited checks f.calendar n v f.builder h.0, are-awaited-more checks (one (builder_check f.calendar n v f.builder)) fs h.1)
 
 -- AN EVENT THAT ENDS is awaited.
-start-looked : (waits : List Later) (k : ℕ) (o : Option Dated) → IfSome (used_in k o) (Contains waits) → IfSome (used_zone k (dated_in o)) (Contains waits)
-start-looked waits k (Some d) h = h
-start-looked waits k None h = tt
+start-looked : (checks : List DeferredCheck) (k : ℕ) (o : Option Dated) → IfSome (used_in k o) (Contains checks) → IfSome (used_zone k (dated_in o)) (Contains checks)
+start-looked checks k (Some d) h = h
+start-looked checks k None h = tt
 
-end-looked : (waits : List Later) (k : ℕ) (o : Option Dated) (d : Option Duration) → IfSome (used_in k o) (Contains waits) → IfSome (used_in k (end_of (given_length o d))) (Contains waits)
-end-looked waits k (Some e) d h = h
-end-looked waits k None (Some d) h = tt
-end-looked waits k None None h = tt
+end-looked : (checks : List DeferredCheck) (k : ℕ) (o : Option Dated) (d : Option Duration) → IfSome (used_in k o) (Contains checks) → IfSome (used_in k (end_of (given_length o d))) (Contains checks)
+end-looked checks k (Some e) d h = h
+end-looked checks k None (Some d) h = tt
+end-looked checks k None None h = tt
 
-length-looked : (waits : List Later) (k : ℕ) (s e : Option Dated) (d : Option Duration) → IfSome (ends_in k s e) (Contains waits) → IfSome (ends_in k (Some (dated_in s)) (end_of (given_length e d))) (Contains waits)
-length-looked waits k (Some s) (Some e) d h = h
-length-looked waits k None (Some e) d h = tt
-length-looked waits k (Some s) None (Some d) h = tt
-length-looked waits k (Some s) None None h = tt
-length-looked waits k None None (Some d) h = tt
-length-looked waits k None None None h = tt
+length-looked : (checks : List DeferredCheck) (k : ℕ) (s e : Option Dated) (d : Option Duration) → IfSome (ends_in k s e) (Contains checks) → IfSome (ends_in k (Some (dated_in s)) (end_of (given_length e d))) (Contains checks)
+length-looked checks k (Some s) (Some e) d h = h
+length-looked checks k None (Some e) d h = tt
+length-looked checks k (Some s) None (Some d) h = tt
+length-looked checks k (Some s) None None h = tt
+length-looked checks k None None (Some d) h = tt
+length-looked checks k None None None h = tt
 
-pub ended-awaited : (waits : List Later) (n : Name) (v : Parts) (f : Frame) (fs : List Frame) → AreAwaited waits (f ∷ fs) → All (EachZone (Contains (waits ++ one (later_in n v f)))) (events_of_end (ends n (f ∷ fs)))
-ended-awaited waits name.End v f [] h = All-nil (EachZone (Contains (waits ++ one (later_end f.calendar f.summary))))
-ended-awaited waits name.End v f (g ∷ gs) h = by_summary f.summary h.0
+pub ended-awaited : (checks : List DeferredCheck) (n : Name) (v : Parts) (f : Frame) (fs : List Frame) → AreAwaited checks (f ∷ fs) → All (EachZone (Contains (checks ++ one (check_in n v f)))) (events_of_end (ends n (f ∷ fs)))
+ended-awaited checks name.End v f [] h = All-nil (EachZone (Contains (checks ++ one (end_check f.calendar f.builder))))
+ended-awaited checks name.End v f (g ∷ gs) h = by_builder f.builder h.0
   where
-    by_summary : (s : Summary) → IsAwaitedIn waits f.calendar s → All (EachZone (Contains (waits ++ one (later_end f.calendar s)))) (events_of_end (ended_as f.calendar s))
-    by_summary (summary.Event had) h =
+    by_builder : (s : Builder) → IsAwaitedIn checks f.calendar s → All (EachZone (Contains (checks ++ one (end_check f.calendar s)))) (events_of_end (ended_as f.calendar s))
+    by_builder (builder.Event had) h =
         let k : ℕ = f.calendar in
-        let late : Option Later = ends_in k had.start had.end in
-        let more : List Later = waits ++ one late in
-        let z : AreLooked more k had = looked-more waits (one late) k had h in
+        let late : Option DeferredCheck = ends_in k had.start had.end in
+        let more : List DeferredCheck = checks ++ one late in
+        let z : AreLooked more k had = looked-more checks (one late) k had h in
         All-cons (EachZone (Contains more)) (event_ended k had) []
         (record {
           start = start-looked more k had.start z.start;
@@ -195,13 +193,13 @@ ended-awaited waits name.End v f (g ∷ gs) h = by_summary f.summary h.0
           rdates = z.rdates;
           exdates = z.exdates;
           recurrence = z.recurrence;
-          length = length-looked more k had.start had.end had.duration (some-here waits late);
+          length = length-looked more k had.start had.end had.duration (some-here checks late);
         })
         (All-nil (EachZone (Contains more)))
-    by_summary (summary.Zone had) h = All-nil (EachZone (Contains (waits ++ [])))
-    by_summary (summary.Observance had) h = All-nil (EachZone (Contains (waits ++ [])))
-    by_summary summary.Nothing h = All-nil (EachZone (Contains (waits ++ [])))
-ended-awaited waits _ v f fs h = All-nil _
+    by_builder (builder.Zone had) h = All-nil (EachZone (Contains (checks ++ [])))
+    by_builder (builder.Observance had) h = All-nil (EachZone (Contains (checks ++ [])))
+    by_builder builder.Nothing h = All-nil (EachZone (Contains (checks ++ [])))
+ended-awaited checks _ v f fs h = All-nil _
 
 -- WHAT THE SECOND ROUND LOOKS AT lies in the years of stamps.
 instant-sound : (name : ZoneName) (r : Stamp) → IsSoundStamp r → IfSome (instant_on name r) IsSoundInstant
@@ -210,73 +208,73 @@ instant-sound name (stamp.Zoned local) h = h
 instant-sound name (stamp.Date day) h = tt
 instant-sound name (stamp.Floating local) h = tt
 
-compared-sound : (a b : Option Instant) → IfSome a IsSoundInstant → IfSome b IsSoundInstant → IfSome (both_compared a b) IsSoundLater
+compared-sound : (a b : Option Instant) → IfSome a IsSoundInstant → IfSome b IsSoundInstant → IfSome (both_compared a b) IsSoundCheck
 compared-sound None b h k = tt
 compared-sound (Some a) None h k = tt
 compared-sound (Some (instant.Utc a)) (Some (instant.Utc b)) h k = by_test (is_out (seconds_of a) (seconds_of b))
   where
-    by_test : (t : Bool) → IfSome (cond t (Some later.End) None) IsSoundLater
+    by_test : (t : Bool) → IfSome (cond t (Some check.End) None) IsSoundCheck
     by_test true = tt
     by_test false = tt
 compared-sound (Some (instant.Utc a)) (Some (instant.Zoned b name)) h k = (h, k)
 compared-sound (Some (instant.Zoned a name)) (Some (instant.Utc b)) h k = (h, k)
 compared-sound (Some (instant.Zoned a name)) (Some (instant.Zoned b other)) h k = (h, k)
 
-ends-sound : (calendar : ℕ) (start end : Option Dated) → IfSome start (λ d. IsSoundStamp d.stamp) → IfSome end (λ d. IsSoundStamp d.stamp) → IfSome (ends_in calendar start end) IsSoundLater
+ends-sound : (calendar : ℕ) (start end : Option Dated) → IfSome start (λ d. IsSoundStamp d.stamp) → IfSome end (λ d. IsSoundStamp d.stamp) → IfSome (ends_in calendar start end) IsSoundCheck
 ends-sound k None end h i = tt
 ends-sound k (Some a) None h i = tt
 ends-sound k (Some a) (Some b) h i = by_test (are_of_one_zone a b)
   where
-    by_test : (t : Bool) → IfSome (cond t None (both_compared (instant_in k a) (instant_in k b))) IsSoundLater
+    by_test : (t : Bool) → IfSome (cond t None (both_compared (instant_in k a) (instant_in k b))) IsSoundCheck
     by_test true = tt
     by_test false = compared-sound (instant_in k a) (instant_in k b) (instant-sound (zone_used k a) a.stamp h) (instant-sound (zone_used k b) b.stamp i)
 
-zone-sound : (calendar : ℕ) (dated : Dated) → IfSome (used_zone calendar dated) IsSoundLater
+zone-sound : (calendar : ℕ) (dated : Dated) → IfSome (used_zone calendar dated) IsSoundCheck
 zone-sound k dated = by_test (is_zoned dated.stamp)
   where
-    by_test : (t : Bool) → IfSome (cond t (Some (later.Zone (zone_used k dated))) None) IsSoundLater
+    by_test : (t : Bool) → IfSome (cond t (Some (check.Zone (zone_used k dated))) None) IsSoundCheck
     by_test true = tt
     by_test false = tt
 
-listed-sound : (calendar : ℕ) (list : DateList) → IfSome (listed_zone calendar list) IsSoundLater
+listed-sound : (calendar : ℕ) (list : DateList) → IfSome (listed_zone calendar list) IsSoundCheck
 listed-sound k list = by_test (list_any has_zoned list.values)
   where
-    by_test : (t : Bool) → IfSome (cond t (Some (later.Zone (zone_listed k list))) None) IsSoundLater
+    by_test : (t : Bool) → IfSome (cond t (Some (check.Zone (zone_listed k list))) None) IsSoundCheck
     by_test true = tt
     by_test false = tt
 
-end-sound : (calendar : ℕ) (q : Place) (s : Summary) → IsSoundAt q s → IfSome (later_end calendar s) IsSoundLater
-end-sound k place.Event (summary.Event had) h = ends-sound k had.start had.end h.start h.end
-end-sound k _ (summary.Event had) h = absurd h
-end-sound k q (summary.Zone had) h = tt
-end-sound k q (summary.Observance had) h = tt
-end-sound k q summary.Nothing h = tt
+end-sound : (calendar : ℕ) (q : Context) (s : Builder) → IsSoundAt q s → IfSome (end_check calendar s) IsSoundCheck
+end-sound k context.Event (builder.Event had) h = ends-sound k had.start had.end h.start h.end
+end-sound k _ (builder.Event had) h = absurd h
+end-sound k q (builder.Zone had) h = tt
+end-sound k q (builder.Observance had) h = tt
+end-sound k q builder.Nothing h = tt
 
-event-later-sound : (k : ℕ) (n : Name) (v : Parts) → IfSome (event_later k n v) IsSoundLater
-event-later-sound k name.Dtstart v = zone-sound k (dated_of v.params v.value)
-event-later-sound k name.Dtend v = zone-sound k (dated_of v.params v.value)
-event-later-sound k name.RecurrenceId v = zone-sound k (dated_of v.params v.value)
-event-later-sound k name.Rdate v = listed-sound k (rdate_list v.params v.value)
-event-later-sound k name.Exdate v = listed-sound k (exdate_list v.params v.value)
-event-later-sound k _ v = tt
+event-check-sound : (k : ℕ) (n : Name) (v : Parts) → IfSome (event_check k n v) IsSoundCheck
+event-check-sound k name.Dtstart v = zone-sound k (dated_of v.params v.value)
+event-check-sound k name.Dtend v = zone-sound k (dated_of v.params v.value)
+event-check-sound k name.RecurrenceId v = zone-sound k (dated_of v.params v.value)
+event-check-sound k name.Rdate v = listed-sound k (rdate_list v.params v.value)
+event-check-sound k name.Exdate v = listed-sound k (exdate_list v.params v.value)
+event-check-sound k _ v = tt
 
-summary-later-sound : (k : ℕ) (n : Name) (v : Parts) (s : Summary) → IfSome (summary_later k n v s) IsSoundLater
-summary-later-sound k n v (summary.Event had) = event-later-sound k n v
-summary-later-sound k n v (summary.Zone had) = tt
-summary-later-sound k n v (summary.Observance had) = tt
-summary-later-sound k n v summary.Nothing = tt
+builder-check-sound : (k : ℕ) (n : Name) (v : Parts) (s : Builder) → IfSome (builder_check k n v s) IsSoundCheck
+builder-check-sound k n v (builder.Event had) = event-check-sound k n v
+builder-check-sound k n v (builder.Zone had) = tt
+builder-check-sound k n v (builder.Observance had) = tt
+builder-check-sound k n v builder.Nothing = tt
 
-later-sound : (n : Name) (v : Parts) (f : Frame) → IsSoundAt f.place f.summary → IfSome (later_in n v f) IsSoundLater
-later-sound n v f h = subst (λ (o : Option Later). IfSome o IsSoundLater) (sym (later-is n v f)) (by_tests (is_begin_name n) (is_end_name n))
+check-sound : (n : Name) (v : Parts) (f : Frame) → IsSoundAt f.context f.builder → IfSome (check_in n v f) IsSoundCheck
+check-sound n v f h = subst (λ (o : Option DeferredCheck). IfSome o IsSoundCheck) (sym (check-is n v f)) (by_tests (is_begin_name n) (is_end_name n))
   where
-    by_tests : (b e : Bool) → IfSome (cond b None (cond e (later_end f.calendar f.summary) (summary_later f.calendar n v f.summary))) IsSoundLater
+    by_tests : (b e : Bool) → IfSome (cond b None (cond e (end_check f.calendar f.builder) (builder_check f.calendar n v f.builder))) IsSoundCheck
     by_tests true e = tt
-    by_tests false true = end-sound f.calendar f.place f.summary h
-    by_tests false false = summary-later-sound f.calendar n v f.summary
+    by_tests false true = end-sound f.calendar f.context f.builder h
+    by_tests false false = builder-check-sound f.calendar n v f.builder
 
-pub waits-sound : (number : ℕ) (n : Name) (v : Parts) (f : Frame) → IsSoundAt f.place f.summary → All (λ w. IsSoundLater w.later) (waits_of number (later_in n v f))
-waits-sound number n v f s = by_option (later_in n v f) (later-sound n v f s)
+pub checks-sound : (number : ℕ) (n : Name) (v : Parts) (f : Frame) → IsSoundAt f.context f.builder → All (λ w. IsSoundCheck w.check) (checks_of number (check_in n v f))
+checks-sound number n v f s = by_option (check_in n v f) (check-sound n v f s)
   where
-    by_option : (o : Option Later) → IfSome o IsSoundLater → All (λ w. IsSoundLater w.later) (waits_of number o)
-    by_option None h = All-nil (λ w. IsSoundLater w.later)
-    by_option (Some l) h = All-cons (λ w. IsSoundLater w.later) (record { line = number; later = l }) [] h (All-nil (λ w. IsSoundLater w.later))
+    by_option : (o : Option DeferredCheck) → IfSome o IsSoundCheck → All (λ w. IsSoundCheck w.check) (checks_of number o)
+    by_option None h = All-nil (λ w. IsSoundCheck w.check)
+    by_option (Some l) h = All-cons (λ w. IsSoundCheck w.check) (record { line = number; check = l }) [] h (All-nil (λ w. IsSoundCheck w.check))

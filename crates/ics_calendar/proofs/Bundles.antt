@@ -5,8 +5,8 @@ use Rattle.std.specs.List.{list_any}
 use Rattle.std.proofs.lemmas.Bool.Decides.{eqb_tells}
 use Rattle.std.proofs.lemmas.List.{append-nil}
 use Rattle.std.proofs.lemmas.List.Folds.{list_any-append}
-use Rattle.ics_calendar.specs.Components.{is_zone_place}
-use Rattle.ics_calendar.specs.Placed.{Placed, Open, place_of, is_begin, is_end, begins_observance, component, path_behind, innermost, lines_in, beside}
+use Rattle.ics_calendar.specs.Components.{is_zone_context}
+use Rattle.ics_calendar.specs.Placed.{Placed, Open, context_of, is_begin, is_end, begins_observance, component, path_behind, innermost, lines_in, beside}
 use Rattle.ics_calendar.specs.Zones.{begins_phase}
 use Rattle.ics_calendar.proofs.Order.{inside}
 use Rattle.ics_calendar.proofs.Paths.{Falls}
@@ -54,7 +54,7 @@ pub record IsKept (before up : List Placed) (c : Open) (cs : List Open) (f : Bun
   pub less : innermost cs < c.begun
   pub opened : inside f.begin ≡ c ∷ cs
   pub begins : is_begin f.begin ≡ true
-  pub phases : is_zone_place (place_of (c ∷ cs)) ≡ true → list_any begins_observance f.lines ≡ list_any begins_phase f.lines
+  pub phases : is_zone_context (context_of (c ∷ cs)) ≡ true → list_any begins_observance f.lines ≡ list_any begins_phase f.lines
 
 -- There is a bundle for each open component, and one below them all.
 abbrev pub Keeps : List Placed → List Placed → List Open → List Bundle → Type 0
@@ -79,7 +79,7 @@ top_beside before l bundles k = at l.path bundles k
     at (c ∷ cs) [] k = absurd k
     at (c ∷ cs) (f ∷ fs) k = sym (k.0.lines ∙ append-nil f.lines)
 
-pub top_phases : (before : List Placed) (path : List Open) (bundles : List Bundle) → Keeps before [] path bundles → is_zone_place (place_of path) ≡ true →
+pub top_phases : (before : List Placed) (path : List Open) (bundles : List Bundle) → Keeps before [] path bundles → is_zone_context (context_of path) ≡ true →
     list_any begins_observance (top_lines bundles) ≡ list_any begins_phase (top_lines bundles)
 top_phases before [] bundles k z = cc
 top_phases before (c ∷ cs) [] k z = absurd k
@@ -139,10 +139,10 @@ here before l (c ∷ cs) (f ∷ fs) e k =
     )
 
 -- it is added
-phases-more : (l : Placed) (path : List Open) (ls : List Placed) → path ≡ l.path → is_zone_place (place_of path) ≡ true → list_any begins_observance ls ≡ list_any begins_phase ls →
+phases-more : (l : Placed) (path : List Open) (ls : List Placed) → path ≡ l.path → is_zone_context (context_of path) ≡ true → list_any begins_observance ls ≡ list_any begins_phase ls →
     list_any begins_observance (ls ++ l ∷ []) ≡ list_any begins_phase (ls ++ l ∷ [])
 phases-more l path ls e z h =
-    let same : begins_phase l ≡ begins_observance l = ap (λ (p : List Open). is_zone_place (place_of p) && begins_observance l) (sym e) ∙ ap (λ t. t && begins_observance l) z in
+    let same : begins_phase l ≡ begins_observance l = ap (λ (p : List Open). is_zone_context (context_of p) && begins_observance l) (sym e) ∙ ap (λ t. t && begins_observance l) z in
     list_any-append begins_observance ls (l ∷ []) ∙ ap (λ t. t || (begins_observance l || false)) h ∙ ap (λ t. list_any begins_phase ls || (t || false)) (sym same)
     ∙ sym (list_any-append begins_phase ls (l ∷ []))
 

@@ -6,21 +6,21 @@ use Rattle.ics_text.specs.Bytes.{upper}
 use Rattle.ics_text.specs.Unfolded.{Line}
 use Rattle.ics_text.specs.Contents.{Parts}
 use Rattle.ics_calendar.specs.declared.component.Component.{Component}
-use Rattle.ics_calendar.specs.declared.component.Place.{Place}
-use Rattle.ics_calendar.specs.declared.component.Place.TheVariants as place
+use Rattle.ics_calendar.specs.declared.component.Context.{Context}
+use Rattle.ics_calendar.specs.declared.component.Context.TheVariants as context
 use Rattle.ics_calendar.specs.declared.frame.Frame.{Frame}
 use Rattle.ics_calendar.specs.declared.gathered.Ended.{Ended}
 use Rattle.ics_calendar.specs.declared.gathered.Ended.TheVariants as ended
 use Rattle.ics_calendar.specs.declared.gathered.EndedEvent.{EndedEvent}
 use Rattle.ics_calendar.specs.declared.gathered.EndedZone.{EndedZone}
-use Rattle.ics_calendar.specs.Components.{component_of, is_event_place, is_zone_place}
+use Rattle.ics_calendar.specs.Components.{component_of, is_event_context, is_zone_context}
 use Rattle.ics_calendar.specs.Names.{name_of}
-use Rattle.ics_calendar.specs.Placed.{Placed, Open, place_of, calendar_of, is_end, is_closing}
+use Rattle.ics_calendar.specs.Placed.{Placed, Open, context_of, calendar_of, is_end, is_closing}
 use Rattle.ics_calendar.specs.Files.{begins_event}
 use Rattle.ics_calendar.specs.Zones.{begins_zone}
-use Rattle.ics_calendar.specs.Collecting.{collected_of, event_ended}
-use Rattle.ics_calendar.specs.Summaries.{zone_of, zone_ended}
-use Rattle.ics_calendar.specs.Gathering.{zones_of_end, events_of_end}
+use Rattle.ics_calendar.proofs.Built.{collected_of, zone_of}
+use Rattle.ics_calendar.specs.Builders.{event_ended, zone_ended}
+use Rattle.ics_calendar.specs.Gathered.{zones_of_end, events_of_end}
 use Rattle.ics_calendar.specs.Pass.{bottom}
 use Rattle.ics_calendar.proofs.Judged.{ended_in, ends, ends-is, ends-lowest}
 use Rattle.ics_calendar.proofs.NameLemmas.{tells}
@@ -32,33 +32,33 @@ use Rattle.ics_calendar.proofs.Frames.{frames_of, end-is, with}
 
 -- THE COMPONENTS that are gathered: events and time zones, in a file of all these lines.
 abbrev pub events : Sort EndedEvent
-events = record { stands_at = is_event_place; begins = begins_event; by = λ path own. event_ended (calendar_of path) (collected_of own) }
+events = record { stands_at = is_event_context; begins = begins_event; by = λ path own. event_ended (calendar_of path) (collected_of own) }
 
 abbrev pub zones : List Placed → Sort EndedZone
-zones whole = record { stands_at = is_zone_place; begins = begins_zone; by = λ path own. zone_ended (calendar_of path) (zone_of (parts whole own) own) }
+zones whole = record { stands_at = is_zone_context; begins = begins_zone; by = λ path own. zone_ended (calendar_of path) (zone_of (parts whole own) own) }
 
 -- What ends is picked as its sort says: `t` is whether the innermost component ends.
 pub record Picks {X : Type 0} (whole : List Placed) (s : Sort X) (pick : Ended → List X) : Type 0 where
   pub nothing : pick ended.Nothing ≡ []
   pub inside : (t : Bool) (c : Open) (cs : List Open) (ls : List Placed) →
-      pick (cond t (ended_in (frame_of whole (c ∷ cs) ls)) ended.Nothing) ≡ cond (t && s.stands_at (place_of (c ∷ cs))) (s.by (c ∷ cs) ls ∷ []) []
+      pick (cond t (ended_in (frame_of whole (c ∷ cs) ls)) ended.Nothing) ≡ cond (t && s.stands_at (context_of (c ∷ cs))) (s.by (c ∷ cs) ls ∷ []) []
 
 pub events-picked : (whole : List Placed) → Picks whole events events_of_end
-events-picked whole = record { nothing = refl; inside = λ t c cs ls. at t (component_of c.name) (place_of (c ∷ cs)) (gathered whole (c ∷ cs) ls) }
+events-picked whole = record { nothing = refl; inside = λ t c cs ls. at t (component_of c.name) (context_of (c ∷ cs)) (gathered whole (c ∷ cs) ls) }
   where
-    at : (t : Bool) (k : Component) (q : Place) (g : Gathered) → events_of_end (cond t (ended_in (frame_at k q g)) ended.Nothing) ≡ cond (t && is_event_place q) (event_ended g.calendar g.event ∷ []) []
-    at true k place.Event g = refl
+    at : (t : Bool) (k : Component) (q : Context) (g : Gathered) → events_of_end (cond t (ended_in (frame_at k q g)) ended.Nothing) ≡ cond (t && is_event_context q) (event_ended g.calendar g.event ∷ []) []
+    at true k context.Event g = refl
     at true k _ g = refl
-    at false k place.Event g = refl
+    at false k context.Event g = refl
     at false k _ g = refl
 
 pub zones-picked : (whole : List Placed) → Picks whole (zones whole) zones_of_end
-zones-picked whole = record { nothing = refl; inside = λ t c cs ls. at t (component_of c.name) (place_of (c ∷ cs)) (gathered whole (c ∷ cs) ls) }
+zones-picked whole = record { nothing = refl; inside = λ t c cs ls. at t (component_of c.name) (context_of (c ∷ cs)) (gathered whole (c ∷ cs) ls) }
   where
-    at : (t : Bool) (k : Component) (q : Place) (g : Gathered) → zones_of_end (cond t (ended_in (frame_at k q g)) ended.Nothing) ≡ cond (t && is_zone_place q) (zone_ended g.calendar g.zone ∷ []) []
-    at true k place.Zone g = refl
+    at : (t : Bool) (k : Component) (q : Context) (g : Gathered) → zones_of_end (cond t (ended_in (frame_at k q g)) ended.Nothing) ≡ cond (t && is_zone_context q) (zone_ended g.calendar g.zone ∷ []) []
+    at true k context.Zone g = refl
     at true k _ g = refl
-    at false k place.Zone g = refl
+    at false k context.Zone g = refl
     at false k _ g = refl
 
 -- WHAT ENDS on a line.
@@ -90,7 +90,7 @@ module _ {X : Type 0} (whole : List Placed) (s : Sort X) (pick : Ended → List 
       pick (ends (name_of (map upper v.name)) (frames_of whole path bundles)) ≡ ended_as s (top_lines bundles) (with line path v)
   picked-same before line [] v bundles k m =
       ap pick (ends-lowest (name_of (map upper v.name)) bottom) ∙ picks.nothing
-      ∙ sym (ap (λ t. cond (t && s.stands_at place.Outside) (s.by [] (top_lines bundles) ∷ []) []) (and-false (bytes_eq (map upper v.name) (codes "END"))))
+      ∙ sym (ap (λ t. cond (t && s.stands_at context.Outside) (s.by [] (top_lines bundles) ∷ []) []) (and-false (bytes_eq (map upper v.name) (codes "END"))))
   picked-same before line (c ∷ cs) v [] k m = absurd k
   picked-same before line (c ∷ []) v (b ∷ bs) k m = picked-inside line c [] v b.lines bottom [] m
   picked-same before line (c ∷ e ∷ es) v (b ∷ []) k m = absurd k.1

@@ -16,14 +16,14 @@ use Rattle.ics_calendar.specs.declared.date_list.ListedDate.{ListedDate}
 use Rattle.ics_calendar.specs.declared.date_list.ListedDate.TheVariants as value
 use Rattle.ics_calendar.specs.declared.dated.Dated.{Dated}
 use Rattle.ics_calendar.specs.declared.fault.FaultKind.TheVariants.{UnknownZone}
-use Rattle.ics_calendar.specs.declared.later.Later.{Later}
-use Rattle.ics_calendar.specs.declared.later.Later.TheVariants as later
-use Rattle.ics_calendar.specs.declared.later.ZoneName.{ZoneName}
+use Rattle.ics_calendar.specs.declared.deferred_check.DeferredCheck.{DeferredCheck}
+use Rattle.ics_calendar.specs.declared.deferred_check.DeferredCheck.TheVariants as check
+use Rattle.ics_calendar.specs.declared.deferred_check.ZoneName.{ZoneName}
 use Rattle.ics_calendar.specs.Event.{is_zoned, IsTime, longest, seconds_of, IsWithin, IsEnd, IsLasting, IsLength, IsRdate, IsEvent}
-use Rattle.ics_calendar.specs.Collecting.{event_of}
+use Rattle.ics_calendar.specs.Builders.{event_of}
 use Rattle.ics_calendar.specs.DateLists.{zone_listed, rdate_in, exdate_in}
 use Rattle.ics_calendar.specs.DateValues.{has_zoned}
-use Rattle.ics_calendar.specs.Laters.{KnownZones, zone_used, judged}
+use Rattle.ics_calendar.specs.DeferredChecks.{KnownZones, zone_used, judged}
 use Rattle.ics_calendar.specs.Lines.{used_zone, used_in, listed_zone, instant_on, both_compared, ends_in}
 use Rattle.ics_calendar.specs.Ready.{IsReady, end_of}
 use Rattle.ics_calendar.specs.Sound.{IsSoundStamp, IsSoundLength, IsSoundValue, IsSoundList}
@@ -33,14 +33,14 @@ use Rattle.ics_calendar.proofs.Listed.{All-flat_map}
 
 -- A STAMP, in the zone that it names.
 -- what the second round looks at is no fault
-abbrev pub IsFine : KnownZones → Option Later → Type 0
+abbrev pub IsFine : KnownZones → Option DeferredCheck → Type 0
 IsFine known o = IfSome o (λ l. judged known l ≡ None)
 
 pub known-zone : (t : Bool) → cond t None (Some UnknownZone) ≡ None → t ≡ true
 known-zone true e = refl
 known-zone false e = cc
 
-stamp-time : (known : KnownZones) (name : ZoneName) (r : Stamp) → IsSoundStamp r → IsFine known (cond (is_zoned r) (Some (later.Zone name)) None) → IsTime (time_in (known.index name) r)
+stamp-time : (known : KnownZones) (name : ZoneName) (r : Stamp) → IsSoundStamp r → IsFine known (cond (is_zoned r) (Some (check.Zone name)) None) → IsTime (time_in (known.index name) r)
 stamp-time known name (Date d) h k = record { years = h; zone = refl }
 stamp-time known name (Floating l) h k = record { years = h; zone = refl }
 stamp-time known name (Utc l) h k = record { years = h; zone = refl }
@@ -57,15 +57,15 @@ out-within start end h = by_tests (int_lt end start) (int_lt (start +ℤ pos lon
     by_tests false true p q h = cc
     by_tests true b p q h = cc
 
--- what waits of a start and its end
-abbrev pub waits_of : ZoneName → ZoneName → Bool → Stamp → Stamp → Option Later
-waits_of m n z r q = cond (is_zoned r && (is_zoned q && z)) None (both_compared (instant_on m r) (instant_on n q))
+-- what is checked of a start and its end
+abbrev pub checks_of : ZoneName → ZoneName → Bool → Stamp → Stamp → Option DeferredCheck
+checks_of m n z r q = cond (is_zoned r && (is_zoned q && z)) None (both_compared (instant_on m r) (instant_on n q))
 
-not-end : (known : KnownZones) (t : Bool) → IsFine known (cond t (Some later.End) None) → t ≡ false
+not-end : (known : KnownZones) (t : Bool) → IsFine known (cond t (Some check.End) None) → t ≡ false
 not-end known true h = cc
 not-end known false h = refl
 
-end-is : (known : KnownZones) (m n : ZoneName) (z : Bool) (a b : Stamp) → is_bad_end z a b ≡ false → IsFine known (waits_of m n z a b) → IsEnd a b
+end-is : (known : KnownZones) (m n : ZoneName) (z : Bool) (a b : Stamp) → is_bad_end z a b ≡ false → IsFine known (checks_of m n z a b) → IsEnd a b
 end-is known m n z (Date a) (Date b) e l = out-within (a *ℤ pos 86_400) (b *ℤ pos 86_400) e
 end-is known m n z (Floating a) (Floating b) e l = out-within (seconds_of a) (seconds_of b) e
 end-is known m n z (Utc a) (Utc b) e l = out-within (seconds_of a) (seconds_of b) (not-end known (is_out (seconds_of a) (seconds_of b)) l)
@@ -97,8 +97,8 @@ length-sound known k s (given.Lasting d) h u l = lasting-is d h
 length-sound known k s given.Open h u l = tt
 
 -- WHAT A LINE LISTS, in the zone that it names.
-abbrev fault_by : Bool → ZoneName → Option Later
-fault_by zoned name = cond zoned (Some (later.Zone name)) None
+abbrev fault_by : Bool → ZoneName → Option DeferredCheck
+fault_by zoned name = cond zoned (Some (check.Zone name)) None
 
 fine-first : (known : KnownZones) (name : ZoneName) (a b : Bool) → IsFine known (fault_by (a || b) name) → IsFine known (fault_by a name)
 fine-first known name true b h = h

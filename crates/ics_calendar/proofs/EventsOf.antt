@@ -21,20 +21,20 @@ use Rattle.ics_calendar.specs.declared.gathered.GivenLength.TheVariants as given
 use Rattle.ics_calendar.specs.declared.dated.Dated.{Dated}
 use Rattle.ics_calendar.specs.declared.fault.FaultKind.TheVariants.{BadEnd}
 use Rattle.ics_calendar.specs.declared.gathered.EndedEvent.{EndedEvent}
-use Rattle.ics_calendar.specs.declared.later.Instant.TheVariants as instant
-use Rattle.ics_calendar.specs.declared.later.Later.TheVariants as later
-use Rattle.ics_calendar.specs.declared.later.ZoneName.{ZoneName}
+use Rattle.ics_calendar.specs.declared.deferred_check.Instant.TheVariants as instant
+use Rattle.ics_calendar.specs.declared.deferred_check.DeferredCheck.TheVariants as check
+use Rattle.ics_calendar.specs.declared.deferred_check.ZoneName.{ZoneName}
 use Rattle.ics_calendar.specs.declared.time.Time.{Time}
 use Rattle.ics_calendar.specs.Event.{seconds_of, is_zoned, IsWithin, EndsBelow, RdateBelow, TimeBelow, EndsWithin, IsEventOf, AreEventsOf, compared, is_one_zone, moment_in}
-use Rattle.ics_calendar.specs.Collecting.{event_of}
+use Rattle.ics_calendar.specs.Builders.{event_of}
 use Rattle.ics_calendar.specs.DateLists.{zone_listed, rdate_in, first_stamp, exdate_in}
-use Rattle.ics_calendar.specs.Laters.{KnownZones, known_zones, is_same, zone_index, zone_used, moment_at, moment_there, are_out}
+use Rattle.ics_calendar.specs.DeferredChecks.{KnownZones, known_zones, is_same, zone_index, zone_used, moment_at, moment_there, are_out}
 use Rattle.ics_calendar.specs.Lines.{used_zone, used_in, ends_in}
 use Rattle.ics_calendar.specs.Ready.{IsReady, end_of}
 use Rattle.ics_calendar.specs.Sound.{IsSoundLength}
 use Rattle.ics_calendar.specs.Times.{time_on, length_of}
 use Rattle.ics_calendar.specs.Values.{tzid, is_out, is_bad_end}
-use Rattle.ics_calendar.proofs.EventSound.{IsFine, known-zone, out-within, waits_of}
+use Rattle.ics_calendar.proofs.EventSound.{IsFine, known-zone, out-within, checks_of}
 use Rattle.ics_calendar.proofs.Listed.{All-flat_map}
 
 some-same : {X : Type 0} (x y : X) → Some x ≡ Some y → x ≡ y
@@ -96,10 +96,10 @@ module _ (names : List ZoneName) (zones : List (List Phase)) (long : length name
   Within s o t p = IsWithin (compared (is_one_zone o p) zones (time s o)) (compared (is_one_zone o p) zones (time t p))
 
   both-zoned : (k : ℕ) (x y : List ℕ) (a b : Local) (i j : ℕ) → zone_index names (named k x) ≡ Some i → zone_index names (named k y) ≡ Some j →
-      is_bad_end (bytes_eq x y) (Zoned a) (Zoned b) ≡ false → IsFine known (waits_of (named k x) (named k y) (bytes_eq x y) (Zoned a) (Zoned b)) → Within (Zoned a) (Some i) (Zoned b) (Some j)
+      is_bad_end (bytes_eq x y) (Zoned a) (Zoned b) ≡ false → IsFine known (checks_of (named k x) (named k y) (bytes_eq x y) (Zoned a) (Zoned b)) → Within (Zoned a) (Some i) (Zoned b) (Some j)
   both-zoned k x y a b i j e f l h = by_tests (i == j) (bytes_eq x y) refl refl l h
     where
-      by_tests : (t z : Bool) → (i == j) ≡ t → bytes_eq x y ≡ z → is_bad_end z (Zoned a) (Zoned b) ≡ false → IsFine known (waits_of (named k x) (named k y) z (Zoned a) (Zoned b)) →
+      by_tests : (t z : Bool) → (i == j) ≡ t → bytes_eq x y ≡ z → is_bad_end z (Zoned a) (Zoned b) ≡ false → IsFine known (checks_of (named k x) (named k y) z (Zoned a) (Zoned b)) →
           IsWithin (compared t zones (time (Zoned a) (Some i))) (compared t zones (time (Zoned b) (Some j)))
       by_tests true true t z l h = out-within (seconds_of a) (seconds_of b) l
       by_tests true false t z l h =
@@ -116,19 +116,19 @@ module _ (names : List ZoneName) (zones : List (List Phase)) (long : length name
           (not-out (moment_there known (named k x) a) (moment_there known (named k y) b) _ _ (local-there (named k x) a i e) (local-there (named k y) b j f) h)
 
   first-zoned : (k : ℕ) (x : List ℕ) (a b : Local) (i : ℕ) → zone_index names (named k x) ≡ Some i →
-      IsFine known (Some (later.Ends (instant.Zoned a (named k x)) (instant.Utc b))) → Within (Zoned a) (Some i) (Utc b) None
+      IsFine known (Some (check.Ends (instant.Zoned a (named k x)) (instant.Utc b))) → Within (Zoned a) (Some i) (Utc b) None
   first-zoned k x a b i e h =
       out-within (moment_in zones (Some i) (Zoned a)) (seconds_of b)
       (not-out (moment_there known (named k x) a) (Some (seconds_of b)) _ _ (local-there (named k x) a i e) refl h)
 
   second-zoned : (k : ℕ) (y : List ℕ) (a b : Local) (j : ℕ) → zone_index names (named k y) ≡ Some j →
-      IsFine known (Some (later.Ends (instant.Utc a) (instant.Zoned b (named k y)))) → Within (Utc a) None (Zoned b) (Some j)
+      IsFine known (Some (check.Ends (instant.Utc a) (instant.Zoned b (named k y)))) → Within (Utc a) None (Zoned b) (Some j)
   second-zoned k y a b j f h =
       out-within (seconds_of a) (moment_in zones (Some j) (Zoned b))
       (not-out (Some (seconds_of a)) (moment_there known (named k y) b) _ _ refl (local-there (named k y) b j f) h)
 
   -- the name of a zoned stamp is known
-  index-is : (used : ZoneName) → IsFine known (Some (later.Zone used)) → (i : ℕ) × (zone_index names used ≡ Some i)
+  index-is : (used : ZoneName) → IsFine known (Some (check.Zone used)) → (i : ℕ) × (zone_index names used ≡ Some i)
   index-is used h = by_index (zone_index names used) refl (known-zone (is_some (zone_index names used)) h)
     where
       by_index : (o : Option ℕ) → zone_index names used ≡ o → is_some o ≡ true → (i : ℕ) × (zone_index names used ≡ Some i)
@@ -139,7 +139,7 @@ module _ (names : List ZoneName) (zones : List (List Phase)) (long : length name
   used_on name r = cond (is_zoned r) (zone_index names name) None
 
   within : (k : ℕ) (x y : List ℕ) (r q : Stamp) → is_bad_end (bytes_eq x y) r q ≡ false →
-      IsFine known (cond (is_zoned r) (Some (later.Zone (named k x))) None) → IsFine known (cond (is_zoned q) (Some (later.Zone (named k y))) None) → IsFine known (waits_of (named k x) (named k y) (bytes_eq x y) r q) →
+      IsFine known (cond (is_zoned r) (Some (check.Zone (named k x))) None) → IsFine known (cond (is_zoned q) (Some (check.Zone (named k y))) None) → IsFine known (checks_of (named k x) (named k y) (bytes_eq x y) r q) →
       (is_some (used_on (named k x) r) || is_some (used_on (named k y) q)) ≡ true → Within r (used_on (named k x) r) q (used_on (named k y) q)
   within k x y (Zoned a) (Zoned b) l u v h g =
       let i = index-is (named k x) u in

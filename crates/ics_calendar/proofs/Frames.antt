@@ -7,23 +7,24 @@ use Rattle.ics_text.specs.Bytes.{upper}
 use Rattle.ics_text.specs.Unfolded.{Line}
 use Rattle.ics_text.specs.Contents.{Parts}
 use Rattle.ics_calendar.specs.declared.component.Component.{Component}
-use Rattle.ics_calendar.specs.declared.component.Place.{Place}
-use Rattle.ics_calendar.specs.declared.component.Place.TheVariants as place
+use Rattle.ics_calendar.specs.declared.component.Context.{Context}
+use Rattle.ics_calendar.specs.declared.component.Context.TheVariants as context
 use Rattle.ics_calendar.specs.declared.frame.Frame.{Frame}
 use Rattle.ics_calendar.specs.declared.name.Name.{Name}
 use Rattle.ics_calendar.specs.declared.name.Name.TheVariants as name
-use Rattle.ics_calendar.specs.Components.{component_of, place_in}
+use Rattle.ics_calendar.specs.Components.{component_of, context_in}
 use Rattle.ics_calendar.specs.Names.{name_of}
-use Rattle.ics_calendar.specs.Placed.{Placed, Open, place_of, property_name, is_begin, is_end, component, path_behind, innermost, calendar_of, lines_in}
-use Rattle.ics_calendar.specs.Summaries.{fresh, observance_of, observance_ended}
+use Rattle.ics_calendar.specs.Placed.{Placed, Open, context_of, property_name, is_begin, is_end, component, path_behind, innermost, calendar_of, lines_in}
+use Rattle.ics_calendar.specs.Builders.{fresh, observance_ended}
+use Rattle.ics_calendar.proofs.Built.{observance_of}
 use Rattle.ics_calendar.specs.Pass.{bottom}
 use Rattle.ics_calendar.specs.Lines.{calendar_in, opened}
-use Rattle.ics_calendar.proofs.Judged.{fault_in, fault_on, later_in, later_on, observance_note, joined, noted, closed, behind, IsBased, is_begin_name, is_end_name}
-use Rattle.ics_calendar.proofs.NameLemmas.{Tells, tells, place-in-outside}
-use Rattle.ics_calendar.proofs.Collects.{parts_at}
-use Rattle.ics_calendar.proofs.Rows.{Gathered, summary_at, frame_at}
+use Rattle.ics_calendar.proofs.Judged.{fault_in, fault_on, check_in, check_on, observance_note, joined, noted, closed, behind, IsBased, is_begin_name, is_end_name}
+use Rattle.ics_calendar.proofs.NameLemmas.{Tells, tells, context-in-outside}
+use Rattle.ics_calendar.proofs.EventBuilderLemmas.{parts_at}
+use Rattle.ics_calendar.proofs.Rows.{Gathered, builder_at, frame_at}
 use Rattle.ics_calendar.proofs.Table.{own, gathered, frame_of}
-use Rattle.ics_calendar.proofs.SummaryLemmas.{observance_of-more, summary-more, summary-begun, nothing-still}
+use Rattle.ics_calendar.proofs.BuilderLemmas.{observance_of-more, builder-more, builder-begun, nothing-still}
 use Rattle.ics_calendar.proofs.Bundles.{Bundle, IsKept, Keeps, top_lines, add_line, close, bundles_behind, path-of}
 
 -- the frames that a path and the bundles of lines stand for, in a file of all these lines
@@ -70,11 +71,11 @@ module _ (whole before : List Placed) where
   added l [] bundles k e = refl
   added l (c ∷ cs) [] k e = absurd k
   added l (c ∷ cs) (b ∷ bs) k e =
-      let q : Place = place_of (c ∷ cs) in
-      ap (λ s. record { component = component_of c.name; place = q; calendar = calendar_of (c ∷ cs); summary = s } ∷ frames_of whole cs bs) (summary-more whole q (c ∷ cs) b.lines l e)
+      let q : Context = context_of (c ∷ cs) in
+      ap (λ s. record { component = component_of c.name; context = q; calendar = calendar_of (c ∷ cs); builder = s } ∷ frames_of whole cs bs) (builder-more whole q (c ∷ cs) b.lines l e)
 
-  fresh-at : (c : Component) (q : Place) (path : List Open) → frame_at c q (gathered whole path []) ≡ record { component = c; place = q; calendar = calendar_of path; summary = fresh q }
-  fresh-at c place.Event path = refl
+  fresh-at : (c : Component) (q : Context) (path : List Open) → frame_at c q (gathered whole path []) ≡ record { component = c; context = q; calendar = calendar_of path; builder = fresh q }
+  fresh-at c context.Event path = refl
   fresh-at c _ path = refl
 
   calendar-is : (name : List ℕ) (number : ℕ) (path : List Open) (bundles : List Bundle) → Keeps before [] path bundles →
@@ -86,7 +87,7 @@ module _ (whole before : List Placed) where
   calendar-is name number (c ∷ d ∷ ds) (b ∷ e ∷ es) k = refl
 
   opened-over : (number : ℕ) (c : Component) (path : List Open) (bundles : List Bundle) → Keeps before [] path bundles →
-      record { component = c; place = place_in (place_of path) c; calendar = calendar_in number (frames_of whole path bundles); summary = fresh (place_in (place_of path) c) } ∷ frames_of whole path bundles
+      record { component = c; context = context_in (context_of path) c; calendar = calendar_in number (frames_of whole path bundles); builder = fresh (context_in (context_of path) c) } ∷ frames_of whole path bundles
       ≡ opened number c (frames_of whole path bundles)
   opened-over number c [] bundles k = refl
   opened-over number c (d ∷ ds) [] k = absurd k
@@ -96,22 +97,22 @@ module _ (whole before : List Placed) where
       frames_of whole (record { name = component l; begun = l.number } ∷ path) (record { begin = l; lines = [] } ∷ bundles) ≡ opened l.number (component_of (component l)) (frames_of whole path bundles)
   begun l path bundles k =
       let c : Component = component_of (component l) in
-      let q : Place = place_in (place_of path) c in
+      let q : Context = context_in (context_of path) c in
       ap (λ (f : Frame). f ∷ frames_of whole path bundles) (fresh-at c q (record { name = component l; begun = l.number } ∷ path))
-      ∙ ap (λ (m : ℕ). record { component = c; place = q; calendar = m; summary = fresh q } ∷ frames_of whole path bundles) (calendar-is (component l) l.number path bundles k)
+      ∙ ap (λ (m : ℕ). record { component = c; context = q; calendar = m; builder = fresh q } ∷ frames_of whole path bundles) (calendar-is (component l) l.number path bundles k)
       ∙ opened-over l.number c path bundles k
 
   -- what is collected of a component that ends, and of the one that it stands in
   closed-in : (l : Placed) (c : Open) (cs : List Open) (f g : Bundle) → name_of (property_name l.content) ≡ name.End → lines_in c.begun whole ≡ lines_in c.begun before ++ l ∷ [] → IsKept before [] c cs f →
-      summary_at (place_of cs) (gathered whole cs (g.lines ++ f.begin ∷ [])) ≡ joined (summary_at (place_of (c ∷ cs)) (gathered whole (c ∷ cs) f.lines)) (summary_at (place_of cs) (gathered whole cs g.lines))
+      builder_at (context_of cs) (gathered whole cs (g.lines ++ f.begin ∷ [])) ≡ joined (builder_at (context_of (c ∷ cs)) (gathered whole (c ∷ cs) f.lines)) (builder_at (context_of cs) (gathered whole cs g.lines))
   closed-in l c cs f g n w kept =
       let inner : Gathered = gathered whole (c ∷ cs) f.lines in
       let number : f.begin.number ≡ c.begun = ap innermost kept.opened in
       let all : lines_in f.begin.number whole ≡ f.lines ++ l ∷ [] = ap (λ m. lines_in m whole) number ∙ w ∙ ap (λ ls. ls ++ l ∷ []) (kept.lines ∙ append-nil f.lines) in
       let same : own whole f.begin ≡ observance_ended inner.observance = ap (λ ls. observance_ended (observance_of ls)) all ∙ ap observance_ended (observance-end f.lines l n) in
-      ap (λ q. summary_at q (gathered whole cs (g.lines ++ f.begin ∷ []))) (sym (ap place_of (path-of f.begin c cs kept.opened)))
-      ∙ summary-begun whole (place_of f.begin.path) cs g.lines f.begin inner (begin-named f.begin kept.begins) kept.begins same
-      ∙ ap (λ (path : List Open). joined (summary_at (place_of path) inner) (summary_at (place_of (drop 1 path)) (gathered whole cs g.lines))) kept.opened
+      ap (λ q. builder_at q (gathered whole cs (g.lines ++ f.begin ∷ []))) (sym (ap context_of (path-of f.begin c cs kept.opened)))
+      ∙ builder-begun whole (context_of f.begin.path) cs g.lines f.begin inner (begin-named f.begin kept.begins) kept.begins same
+      ∙ ap (λ (path : List Open). joined (builder_at (context_of path) inner) (builder_at (context_of (drop 1 path)) (gathered whole cs g.lines))) kept.opened
 
   closed-over : (l : Placed) (path : List Open) (bundles : List Bundle) → Keeps before [] path bundles → name_of (property_name l.content) ≡ name.End →
       ((c : Open) (cs : List Open) → path ≡ c ∷ cs → lines_in c.begun whole ≡ lines_in c.begun before ++ l ∷ []) → frames_of whole (drop 1 path) (close l bundles) ≡ closed (frames_of whole path bundles)
@@ -121,9 +122,9 @@ module _ (whole before : List Placed) where
   closed-over l (c ∷ cs) [] k n w = absurd k
   closed-over l (c ∷ []) (f ∷ []) k n w = absurd k.1
   closed-over l (c ∷ d ∷ ds) (f ∷ []) k n w = absurd k.1
-  closed-over l (c ∷ []) (f ∷ g ∷ gs) k n w = ap (λ s. record bottom { summary = s } ∷ []) (sym (nothing-still (summary_at (place_of (c ∷ [])) (gathered whole (c ∷ []) f.lines))))
+  closed-over l (c ∷ []) (f ∷ g ∷ gs) k n w = ap (λ s. record bottom { builder = s } ∷ []) (sym (nothing-still (builder_at (context_of (c ∷ [])) (gathered whole (c ∷ []) f.lines))))
   closed-over l (c ∷ d ∷ ds) (f ∷ g ∷ gs) k n w =
-      ap (λ s. record { component = component_of d.name; place = place_of (d ∷ ds); calendar = calendar_of (d ∷ ds); summary = s } ∷ frames_of whole ds gs)
+      ap (λ s. record { component = component_of d.name; context = context_of (d ∷ ds); calendar = calendar_of (d ∷ ds); builder = s } ∷ frames_of whole ds gs)
       (closed-in l c (d ∷ ds) f g n (w c (d ∷ ds) refl) k.0)
 
   -- a line keeps the frames
@@ -172,14 +173,14 @@ module _ (whole before : List Placed) where
       let long : length (frames_of whole cs bs) ≡ length (c ∷ cs) = let n = length-frames cs bs (b.begin ∷ []) k.1 in omega (arith, n) in
       ap (λ m. fault_in n v (frame_of whole (c ∷ cs) b.lines) m) long
 
-  pub later-top : (n : Name) (v : Parts) (path : List Open) (bundles : List Bundle) → Keeps before [] path bundles → later_on n v (frames_of whole path bundles) ≡ later_in n v (top_of whole path bundles)
-  later-top n v [] bundles k = refl
-  later-top n v (c ∷ cs) [] k = absurd k
-  later-top n v (c ∷ cs) (b ∷ bs) k = refl
+  pub check-top : (n : Name) (v : Parts) (path : List Open) (bundles : List Bundle) → Keeps before [] path bundles → check_on n v (frames_of whole path bundles) ≡ check_in n v (top_of whole path bundles)
+  check-top n v [] bundles k = refl
+  check-top n v (c ∷ cs) [] k = absurd k
+  check-top n v (c ∷ cs) (b ∷ bs) k = refl
 
   pub based : (path : List Open) (bundles : List Bundle) (up : List Placed) → Keeps before up path bundles → IsBased (frames_of whole path bundles)
   based [] bundles up k = refl
   based (c ∷ cs) [] up k = absurd k
-  based (c ∷ []) (b ∷ bs) up k = (place-in-outside place.Outside (component_of c.name), based [] bs (b.begin ∷ []) k.1)
+  based (c ∷ []) (b ∷ bs) up k = (context-in-outside context.Outside (component_of c.name), based [] bs (b.begin ∷ []) k.1)
   based (c ∷ d ∷ ds) (b ∷ []) up k = absurd k.1
-  based (c ∷ d ∷ ds) (b ∷ e ∷ es) up k = (place-in-outside (place_of (d ∷ ds)) (component_of c.name), based (d ∷ ds) (e ∷ es) (b.begin ∷ []) k.1)
+  based (c ∷ d ∷ ds) (b ∷ e ∷ es) up k = (context-in-outside (context_of (d ∷ ds)) (component_of c.name), based (d ∷ ds) (e ∷ es) (b.begin ∷ []) k.1)

@@ -11,10 +11,10 @@ use Rattle.ics_zone.specs.ZoneBounds.{zone_offset_short}
 use Rattle.ics_zone.proofs.MomentLemmas.{moment_unique, moment_found}
 use Rattle.ics_zone.proofs.OnsetLemmas.{offset_found}
 use Rattle.ics_calendar.specs.declared.fault.FaultKind.TheVariants.{BadEnd}
-use Rattle.ics_calendar.specs.declared.later.Instant.TheVariants.{Utc, Zoned}
-use Rattle.ics_calendar.specs.declared.later.Later.TheVariants.{Ends}
-use Rattle.ics_calendar.specs.declared.later.ZoneName.{ZoneName}
-use Rattle.ics_calendar.specs.Laters.{KnownZones, known_zones, judged}
+use Rattle.ics_calendar.specs.declared.deferred_check.Instant.TheVariants.{Utc, Zoned}
+use Rattle.ics_calendar.specs.declared.deferred_check.DeferredCheck.TheVariants.{Ends}
+use Rattle.ics_calendar.specs.declared.deferred_check.ZoneName.{ZoneName}
+use Rattle.ics_calendar.specs.DeferredChecks.{KnownZones, known_zones, judged}
 
 some-same : {X : Type 0} (x y : X) → Some x ≡ Some y → x ≡ y
 some-same x y h = cc

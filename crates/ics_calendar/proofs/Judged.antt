@@ -10,9 +10,9 @@ use Rattle.ics_values.specs.Offsets.{offset_of}
 use Rattle.ics_values.specs.Plain.{text_of}
 use Rattle.ics_values.specs.Rules.{rule_of}
 use Rattle.ics_values.specs.Stamps.{stamp_of}
-use Rattle.ics_calendar.specs.declared.collected.Collected.{Collected}
-use Rattle.ics_calendar.specs.declared.component.Place.{Place}
-use Rattle.ics_calendar.specs.declared.component.Place.TheVariants as place
+use Rattle.ics_calendar.specs.declared.event_builder.EventBuilder.{EventBuilder}
+use Rattle.ics_calendar.specs.declared.component.Context.{Context}
+use Rattle.ics_calendar.specs.declared.component.Context.TheVariants as context
 use Rattle.ics_calendar.specs.declared.date_values.DateValue.TheVariants.{At}
 use Rattle.ics_calendar.specs.declared.fault.FaultKind.{FaultKind}
 use Rattle.ics_calendar.specs.declared.fault.FaultKind.TheVariants as kind
@@ -20,24 +20,23 @@ use Rattle.ics_calendar.specs.declared.frame.Frame.{Frame}
 use Rattle.ics_calendar.specs.declared.gathered.Ended.{Ended}
 use Rattle.ics_calendar.specs.declared.gathered.Ended.TheVariants as ended
 use Rattle.ics_calendar.specs.declared.gathered.Passed.{Passed}
-use Rattle.ics_calendar.specs.declared.later.Later.{Later}
+use Rattle.ics_calendar.specs.declared.deferred_check.DeferredCheck.{DeferredCheck}
 use Rattle.ics_calendar.specs.declared.name.Name.{Name}
 use Rattle.ics_calendar.specs.declared.name.Name.TheVariants as name
-use Rattle.ics_calendar.specs.declared.summary.ObservanceSummary.{ObservanceSummary}
-use Rattle.ics_calendar.specs.declared.summary.Summary.{Summary}
-use Rattle.ics_calendar.specs.declared.summary.Summary.TheVariants as summary
-use Rattle.ics_calendar.specs.declared.summary.ZoneSummary.{ZoneSummary}
-use Rattle.ics_calendar.specs.Collecting.{event_ended}
+use Rattle.ics_calendar.specs.declared.builder.ObservanceBuilder.{ObservanceBuilder}
+use Rattle.ics_calendar.specs.declared.builder.Builder.{Builder}
+use Rattle.ics_calendar.specs.declared.builder.Builder.TheVariants as builder
+use Rattle.ics_calendar.specs.declared.builder.ZoneBuilder.{ZoneBuilder}
+use Rattle.ics_calendar.specs.Builders.{event_ended, zone_ended, observance_ended}
 use Rattle.ics_calendar.specs.Components.{component_of, component_name}
 use Rattle.ics_calendar.specs.DateLists.{rdate_list, exdate_list}
 use Rattle.ics_calendar.specs.DateValues.{rdates_of, exdates_of, is_not_local}
-use Rattle.ics_calendar.specs.Lines.{unless, and_then, once, or_first, first, fault_if, stamp_fault_of, duration_fault_of, rule_fault_of, offset_fault_of, number_fault_of, dates_fault, used_zone, listed_zone, ends_in, event_line, zone_line, observance_line, plain_fault, summary_line, end_of_event, end_of_zone, end_of_observance, passed, summary_end, frame_end, with_observance, opened, outside_fault, named_line}
-use Rattle.ics_calendar.specs.Summaries.{zone_ended, observance_ended}
+use Rattle.ics_calendar.specs.Lines.{unless, and_then, once, or_first, first, fault_if, stamp_fault_of, duration_fault_of, rule_fault_of, offset_fault_of, number_fault_of, dates_fault, used_zone, listed_zone, ends_in, event_line, zone_line, observance_line, plain_fault, builder_line, end_of_event, end_of_zone, end_of_observance, passed, builder_end, frame_end, with_observance, opened, outside_fault, named_line}
 use Rattle.ics_calendar.specs.Values.{zone_name, stamp_read, dated_of, lasting_of, duration_in, rule_in, ok_or_zero, is_cancelled, is_fine_rule}
 use Rattle.ics_calendar.specs.Zones.{local_in, onset_in, offset_in, daily_in}
 
 -- A LINE OF AN EVENT: its fault, what is collected behind it, and what the second round looks at.
-abbrev pub event_fault : Name → Parts → Collected → Option FaultKind
+abbrev pub event_fault : Name → Parts → EventBuilder → Option FaultKind
 event_fault name.Uid c had = fault_if kind.Repeated (is_some had.uid)
 event_fault name.Dtstart c had = first (stamp_fault_of (stamp_read c.params c.value)) (fault_if kind.Repeated (is_some had.start))
 event_fault name.Dtend c had = first (stamp_fault_of (stamp_read c.params c.value)) (fault_if kind.Repeated (is_some had.end))
@@ -51,7 +50,7 @@ event_fault name.Exdate c had = dates_fault (exdates_of (is_some (zone_name c.pa
 event_fault name.Exrule c had = Some kind.Exrule
 event_fault _ c had = None
 
-abbrev pub event_note : Name → Parts → Collected → Collected
+abbrev pub event_note : Name → Parts → EventBuilder → EventBuilder
 event_note name.Uid c had = record had { uid = or_first had.uid (text_of c.value) }
 event_note name.Dtstart c had = record had { start = or_first had.start (dated_of c.params c.value) }
 event_note name.Dtend c had = record had { end = or_first had.end (dated_of c.params c.value) }
@@ -67,24 +66,24 @@ event_note name.Description c had = record had { description = or_first had.desc
 event_note name.Status c had = record had { cancelled = or_first had.cancelled (is_cancelled c.value) }
 event_note _ c had = had
 
-abbrev pub event_later : ℕ → Name → Parts → Option Later
-event_later k name.Dtstart c = used_zone k (dated_of c.params c.value)
-event_later k name.Dtend c = used_zone k (dated_of c.params c.value)
-event_later k name.RecurrenceId c = used_zone k (dated_of c.params c.value)
-event_later k name.Rdate c = listed_zone k (rdate_list c.params c.value)
-event_later k name.Exdate c = listed_zone k (exdate_list c.params c.value)
-event_later k _ c = None
+abbrev pub event_check : ℕ → Name → Parts → Option DeferredCheck
+event_check k name.Dtstart c = used_zone k (dated_of c.params c.value)
+event_check k name.Dtend c = used_zone k (dated_of c.params c.value)
+event_check k name.RecurrenceId c = used_zone k (dated_of c.params c.value)
+event_check k name.Rdate c = listed_zone k (rdate_list c.params c.value)
+event_check k name.Exdate c = listed_zone k (exdate_list c.params c.value)
+event_check k _ c = None
 
 -- A LINE OF A TIME ZONE and of an observance.
-abbrev pub zone_fault : Name → Parts → ZoneSummary → Option FaultKind
+abbrev pub zone_fault : Name → Parts → ZoneBuilder → Option FaultKind
 zone_fault name.Tzid c had = fault_if kind.ObservanceField (is_some had.name)
 zone_fault _ c had = None
 
-abbrev pub zone_note : Name → Parts → ZoneSummary → ZoneSummary
+abbrev pub zone_note : Name → Parts → ZoneBuilder → ZoneBuilder
 zone_note name.Tzid c had = record had { name = or_first had.name (text_of c.value) }
 zone_note _ c had = had
 
-abbrev pub observance_fault : Name → Parts → ObservanceSummary → Option FaultKind
+abbrev pub observance_fault : Name → Parts → ObservanceBuilder → Option FaultKind
 observance_fault name.Dtstart c had =
     first (first (stamp_fault_of (stamp_of false c.value)) (fault_if kind.ObservanceField (is_not_local (At (stamp_of false c.value))))) (fault_if kind.ObservanceField (is_some had.start))
 observance_fault name.OffsetFrom c had = first (offset_fault_of (offset_of c.value)) (fault_if kind.ObservanceField (is_some had.from))
@@ -93,7 +92,7 @@ observance_fault name.Rrule c had = first (first (rule_fault_of (rule_of c.value
 observance_fault name.Rdate c had = first (dates_fault (rdates_of false c.value)) (fault_if kind.ObservanceField (list_any is_not_local (rdates_of false c.value)))
 observance_fault _ c had = None
 
-abbrev pub observance_note : Name → Parts → ObservanceSummary → ObservanceSummary
+abbrev pub observance_note : Name → Parts → ObservanceBuilder → ObservanceBuilder
 observance_note name.Dtstart c had = record had { start = or_first had.start (onset_in (stamp_of false c.value)) }
 observance_note name.OffsetFrom c had = record had { from = or_first had.from (offset_in (offset_of c.value)) }
 observance_note name.OffsetTo c had = record had { to = or_first had.to (offset_in (offset_of c.value)) }
@@ -102,77 +101,77 @@ observance_note name.Rdate c had = record had { rdates = had.rdates ++ filter_ma
 observance_note _ c had = had
 
 -- A LINE OF ANY COMPONENT, which begins and ends none.
-abbrev pub summary_fault : Place → Name → Parts → Summary → Option FaultKind
-summary_fault q n c (summary.Event had) = event_fault n c had
-summary_fault q n c (summary.Zone had) = zone_fault n c had
-summary_fault q n c (summary.Observance had) = observance_fault n c had
-summary_fault q n c summary.Nothing = plain_fault q n c
+abbrev pub builder_fault : Context → Name → Parts → Builder → Option FaultKind
+builder_fault q n c (builder.Event had) = event_fault n c had
+builder_fault q n c (builder.Zone had) = zone_fault n c had
+builder_fault q n c (builder.Observance had) = observance_fault n c had
+builder_fault q n c builder.Nothing = plain_fault q n c
 
-abbrev pub summary_note : Name → Parts → Summary → Summary
-summary_note n c (summary.Event had) = summary.Event (event_note n c had)
-summary_note n c (summary.Zone had) = summary.Zone (zone_note n c had)
-summary_note n c (summary.Observance had) = summary.Observance (observance_note n c had)
-summary_note n c summary.Nothing = summary.Nothing
+abbrev pub builder_note : Name → Parts → Builder → Builder
+builder_note n c (builder.Event had) = builder.Event (event_note n c had)
+builder_note n c (builder.Zone had) = builder.Zone (zone_note n c had)
+builder_note n c (builder.Observance had) = builder.Observance (observance_note n c had)
+builder_note n c builder.Nothing = builder.Nothing
 
-abbrev pub summary_later : ℕ → Name → Parts → Summary → Option Later
-summary_later k n c (summary.Event had) = event_later k n c
-summary_later k n c _ = None
+abbrev pub builder_check : ℕ → Name → Parts → Builder → Option DeferredCheck
+builder_check k n c (builder.Event had) = event_check k n c
+builder_check k n c _ = None
 
 -- AN END.
-abbrev pub end_of : Summary → Option FaultKind
-end_of (summary.Event had) = end_of_event had
-end_of (summary.Zone had) = end_of_zone had
-end_of (summary.Observance had) = end_of_observance had
-end_of summary.Nothing = None
+abbrev pub end_of : Builder → Option FaultKind
+end_of (builder.Event had) = end_of_event had
+end_of (builder.Zone had) = end_of_zone had
+end_of (builder.Observance had) = end_of_observance had
+end_of builder.Nothing = None
 
-abbrev pub ended_as : ℕ → Summary → Ended
-ended_as k (summary.Event had) = ended.Event (event_ended k had)
-ended_as k (summary.Zone had) = ended.Zone (zone_ended k had)
+abbrev pub ended_as : ℕ → Builder → Ended
+ended_as k (builder.Event had) = ended.Event (event_ended k had)
+ended_as k (builder.Zone had) = ended.Zone (zone_ended k had)
 ended_as k _ = ended.Nothing
 
 abbrev pub ended_in : Frame → Ended
-ended_in f = ended_as f.calendar f.summary
+ended_in f = ended_as f.calendar f.builder
 
 -- what becomes of the component in which it ends
-abbrev pub joined : Summary → Summary → Summary
-joined (summary.Observance had) outer = with_observance (observance_ended had) outer
+abbrev pub joined : Builder → Builder → Builder
+joined (builder.Observance had) outer = with_observance (observance_ended had) outer
 joined _ outer = outer
 
-abbrev pub later_end : ℕ → Summary → Option Later
-later_end k (summary.Event had) = ends_in k had.start had.end
-later_end k _ = None
+abbrev pub end_check : ℕ → Builder → Option DeferredCheck
+end_check k (builder.Event had) = ends_in k had.start had.end
+end_check k _ = None
 
-abbrev pub end_fault_at : Place → Bool → Summary → Option FaultKind
-end_fault_at place.Outside matches s = Some kind.NotCalendar
+abbrev pub end_fault_at : Context → Bool → Builder → Option FaultKind
+end_fault_at context.Outside matches s = Some kind.NotCalendar
 end_fault_at _ matches s = cond matches (end_of s) (Some kind.BadNesting)
 
 -- A LINE, where so many components are open.
 abbrev pub fault_in : Name → Parts → Frame → ℕ → Option FaultKind
-fault_in name.Begin c f depth = first (outside_fault f.place (component_of (map upper c.value))) (fault_if kind.TooDeep (nat_le 32 depth))
-fault_in name.End c f depth = end_fault_at f.place (bytes_eq (map upper c.value) (component_name f.component)) f.summary
-fault_in n c f depth = summary_fault f.place n c f.summary
+fault_in name.Begin c f depth = first (outside_fault f.context (component_of (map upper c.value))) (fault_if kind.TooDeep (nat_le 32 depth))
+fault_in name.End c f depth = end_fault_at f.context (bytes_eq (map upper c.value) (component_name f.component)) f.builder
+fault_in n c f depth = builder_fault f.context n c f.builder
 
-abbrev pub later_in : Name → Parts → Frame → Option Later
-later_in name.Begin c f = None
-later_in name.End c f = later_end f.calendar f.summary
-later_in n c f = summary_later f.calendar n c f.summary
+abbrev pub check_in : Name → Parts → Frame → Option DeferredCheck
+check_in name.Begin c f = None
+check_in name.End c f = end_check f.calendar f.builder
+check_in n c f = builder_check f.calendar n c f.builder
 
 abbrev pub fault_on : Name → Parts → List Frame → Option FaultKind
 fault_on n c [] = None
 fault_on n c (f ∷ fs) = fault_in n c f (length fs)
 
-abbrev pub later_on : Name → Parts → List Frame → Option Later
-later_on n c [] = None
-later_on n c (f ∷ fs) = later_in n c f
+abbrev pub check_on : Name → Parts → List Frame → Option DeferredCheck
+check_on n c [] = None
+check_on n c (f ∷ fs) = check_in n c f
 
 abbrev pub noted : Name → Parts → List Frame → List Frame
 noted n c [] = []
-noted n c (f ∷ fs) = record f { summary = summary_note n c f.summary } ∷ fs
+noted n c (f ∷ fs) = record f { builder = builder_note n c f.builder } ∷ fs
 
 abbrev pub closed : List Frame → List Frame
 closed [] = []
 closed (f ∷ []) = f ∷ []
-closed (f ∷ g ∷ gs) = record g { summary = joined f.summary g.summary } ∷ gs
+closed (f ∷ g ∷ gs) = record g { builder = joined f.builder g.builder } ∷ gs
 
 abbrev pub behind : ℕ → Name → Parts → List Frame → List Frame
 behind number name.Begin c frames = opened number (component_of (map upper c.value)) frames
@@ -184,7 +183,7 @@ ends name.End (f ∷ g ∷ gs) = ended_in f
 ends _ _ = ended.Nothing
 
 abbrev pub passing : Name → Parts → List Frame → Passed
-passing n c frames = passed (ends n frames) (later_on n c frames)
+passing n c frames = passed (ends n frames) (check_on n c frames)
 
 -- WHAT IS ANSWERED is that, unless a fault stands there.
 kept : {X R : Type 0} (kind : FaultKind) (fault : Option FaultKind) (x : X) (o : Option X) (f : Option X → X → R) →
@@ -201,7 +200,7 @@ then-ok : {X Y : Type 0} (fault : Option FaultKind) (x : X) (f : X → Y) → an
 then-ok None x f = refl
 then-ok (Some k) x f = refl
 
-event-line-is : (k : ℕ) (n : Name) (c : Parts) (had : Collected) → event_line k n c had ≡ unless (event_fault n c had) (event_note n c had, event_later k n c)
+event-line-is : (k : ℕ) (n : Name) (c : Parts) (had : EventBuilder) → event_line k n c had ≡ unless (event_fault n c had) (event_note n c had, event_check k n c)
 event-line-is k name.Uid c had = kept kind.Repeated None (text_of c.value) had.uid (λ o d. (record had { uid = o }, None))
 event-line-is k name.Dtstart c had = kept kind.Repeated (stamp_fault_of (stamp_read c.params c.value)) (dated_of c.params c.value) had.start (λ o d. (record had { start = o }, used_zone k d))
 event-line-is k name.Dtend c had = kept kind.Repeated (stamp_fault_of (stamp_read c.params c.value)) (dated_of c.params c.value) had.end (λ o d. (record had { end = o }, used_zone k d))
@@ -219,11 +218,11 @@ event-line-is k name.Exdate c had =
     then-ok (dates_fault (exdates_of (is_some (zone_name c.params)) c.value)) (exdate_list c.params c.value) (λ l. (record had { exdates = had.exdates ++ l ∷ [] }, listed_zone k l))
 event-line-is k _ c had = refl
 
-zone-line-is : (n : Name) (c : Parts) (had : ZoneSummary) → zone_line n c had ≡ unless (zone_fault n c had) (zone_note n c had)
+zone-line-is : (n : Name) (c : Parts) (had : ZoneBuilder) → zone_line n c had ≡ unless (zone_fault n c had) (zone_note n c had)
 zone-line-is name.Tzid c had = kept kind.ObservanceField None (text_of c.value) had.name (λ o d. record had { name = o })
 zone-line-is _ c had = refl
 
-observance-line-is : (n : Name) (c : Parts) (had : ObservanceSummary) → observance_line n c had ≡ unless (observance_fault n c had) (observance_note n c had)
+observance-line-is : (n : Name) (c : Parts) (had : ObservanceBuilder) → observance_line n c had ≡ unless (observance_fault n c had) (observance_note n c had)
 observance-line-is name.Dtstart c had =
     kept kind.ObservanceField (first (stamp_fault_of (stamp_of false c.value)) (fault_if kind.ObservanceField (is_not_local (At (stamp_of false c.value))))) (onset_in (stamp_of false c.value)) had.start
     (λ o d. record had { start = o })
@@ -236,56 +235,56 @@ observance-line-is name.Rdate c had =
     (λ ls. record had { rdates = had.rdates ++ ls })
 observance-line-is _ c had = refl
 
-summary-line-is : (k : ℕ) (q : Place) (n : Name) (c : Parts) (s : Summary) → summary_line k q n c s ≡ unless (summary_fault q n c s) (summary_note n c s, summary_later k n c s)
-summary-line-is k q n c (summary.Event had) =
-    ap (λ r. and_then r (λ r. Ok (summary.Event r.0, r.1))) (event-line-is k n c had) ∙ then-ok (event_fault n c had) (event_note n c had, event_later k n c) (λ r. (summary.Event r.0, r.1))
-summary-line-is k q n c (summary.Zone had) =
-    ap (λ r. and_then r (λ h. Ok (summary.Zone h, None))) (zone-line-is n c had) ∙ then-ok (zone_fault n c had) (zone_note n c had) (λ h. (summary.Zone h, None))
-summary-line-is k q n c (summary.Observance had) =
-    ap (λ r. and_then r (λ h. Ok (summary.Observance h, None))) (observance-line-is n c had) ∙ then-ok (observance_fault n c had) (observance_note n c had) (λ h. (summary.Observance h, None))
-summary-line-is k q n c summary.Nothing = refl
+builder-line-is : (k : ℕ) (q : Context) (n : Name) (c : Parts) (s : Builder) → builder_line k q n c s ≡ unless (builder_fault q n c s) (builder_note n c s, builder_check k n c s)
+builder-line-is k q n c (builder.Event had) =
+    ap (λ r. and_then r (λ r. Ok (builder.Event r.0, r.1))) (event-line-is k n c had) ∙ then-ok (event_fault n c had) (event_note n c had, event_check k n c) (λ r. (builder.Event r.0, r.1))
+builder-line-is k q n c (builder.Zone had) =
+    ap (λ r. and_then r (λ h. Ok (builder.Zone h, None))) (zone-line-is n c had) ∙ then-ok (zone_fault n c had) (zone_note n c had) (λ h. (builder.Zone h, None))
+builder-line-is k q n c (builder.Observance had) =
+    ap (λ r. and_then r (λ h. Ok (builder.Observance h, None))) (observance-line-is n c had) ∙ then-ok (observance_fault n c had) (observance_note n c had) (λ h. (builder.Observance h, None))
+builder-line-is k q n c builder.Nothing = refl
 
-summary-end-is : (k : ℕ) (s outer : Summary) → summary_end k s outer ≡ unless (end_of s) (joined s outer, passed (ended_as k s) (later_end k s))
-summary-end-is k (summary.Event had) outer = then-ok (end_of_event had) (event_ended k had) (λ e. (outer, passed (ended.Event e) (ends_in k had.start had.end)))
-summary-end-is k (summary.Zone had) outer = then-ok (end_of_zone had) (zone_ended k had) (λ z. (outer, passed (ended.Zone z) None))
-summary-end-is k (summary.Observance had) outer = then-ok (end_of_observance had) (observance_ended had) (λ o. (with_observance o outer, passed ended.Nothing None))
-summary-end-is k summary.Nothing outer = refl
+builder-end-is : (k : ℕ) (s outer : Builder) → builder_end k s outer ≡ unless (end_of s) (joined s outer, passed (ended_as k s) (end_check k s))
+builder-end-is k (builder.Event had) outer = then-ok (end_of_event had) (event_ended k had) (λ e. (outer, passed (ended.Event e) (ends_in k had.start had.end)))
+builder-end-is k (builder.Zone had) outer = then-ok (end_of_zone had) (zone_ended k had) (λ z. (outer, passed (ended.Zone z) None))
+builder-end-is k (builder.Observance had) outer = then-ok (end_of_observance had) (observance_ended had) (λ o. (with_observance o outer, passed ended.Nothing None))
+builder-end-is k builder.Nothing outer = refl
 
 -- Outside all components stands the lowest frame alone.
 abbrev pub IsBased : List Frame → Type 0
 IsBased [] = ⊥
-IsBased (f ∷ []) = f.place ≡ place.Outside
-IsBased (f ∷ g ∷ gs) = (f.place ≢ place.Outside) × IsBased (g ∷ gs)
+IsBased (f ∷ []) = f.context ≡ context.Outside
+IsBased (f ∷ g ∷ gs) = (f.context ≢ context.Outside) × IsBased (g ∷ gs)
 
-end-inside : (q : Place) (matches : Bool) (s : Summary) → q ≢ place.Outside → end_fault_at q matches s ≡ cond matches (end_of s) (Some kind.BadNesting)
-end-inside place.Outside matches s n = absurd (n refl)
+end-inside : (q : Context) (matches : Bool) (s : Builder) → q ≢ context.Outside → end_fault_at q matches s ≡ cond matches (end_of s) (Some kind.BadNesting)
+end-inside context.Outside matches s n = absurd (n refl)
 end-inside _ matches s n = refl
 
-end-line-is : (f g : Frame) (gs : List Frame) (w : List ℕ) → and_then {Y = List Frame × Passed} (frame_end w f g.summary) (λ r. Ok (record g { summary = r.0 } ∷ gs, r.1))
-    ≡ unless (cond (bytes_eq w (component_name f.component)) (end_of f.summary) (Some kind.BadNesting)) (closed (f ∷ g ∷ gs), passed (ended_in f) (later_end f.calendar f.summary))
+end-line-is : (f g : Frame) (gs : List Frame) (w : List ℕ) → and_then {Y = List Frame × Passed} (frame_end w f g.builder) (λ r. Ok (record g { builder = r.0 } ∷ gs, r.1))
+    ≡ unless (cond (bytes_eq w (component_name f.component)) (end_of f.builder) (Some kind.BadNesting)) (closed (f ∷ g ∷ gs), passed (ended_in f) (end_check f.calendar f.builder))
 end-line-is f g gs w = by_test (bytes_eq w (component_name f.component))
   where
-    by_test : (t : Bool) → and_then {Y = List Frame × Passed} (cond t (summary_end f.calendar f.summary g.summary) (Err kind.BadNesting)) (λ r. Ok (record g { summary = r.0 } ∷ gs, r.1))
-        ≡ unless (cond t (end_of f.summary) (Some kind.BadNesting)) (closed (f ∷ g ∷ gs), passed (ended_in f) (later_end f.calendar f.summary))
+    by_test : (t : Bool) → and_then {Y = List Frame × Passed} (cond t (builder_end f.calendar f.builder g.builder) (Err kind.BadNesting)) (λ r. Ok (record g { builder = r.0 } ∷ gs, r.1))
+        ≡ unless (cond t (end_of f.builder) (Some kind.BadNesting)) (closed (f ∷ g ∷ gs), passed (ended_in f) (end_check f.calendar f.builder))
     by_test true =
-        ap (λ r. and_then {Y = List Frame × Passed} r (λ r. Ok (record g { summary = r.0 } ∷ gs, r.1))) (summary-end-is f.calendar f.summary g.summary)
-        ∙ then-ok (end_of f.summary) (joined f.summary g.summary, passed (ended_in f) (later_end f.calendar f.summary)) (λ r. (record g { summary = r.0 } ∷ gs, r.1))
+        ap (λ r. and_then {Y = List Frame × Passed} r (λ r. Ok (record g { builder = r.0 } ∷ gs, r.1))) (builder-end-is f.calendar f.builder g.builder)
+        ∙ then-ok (end_of f.builder) (joined f.builder g.builder, passed (ended_in f) (end_check f.calendar f.builder)) (λ r. (record g { builder = r.0 } ∷ gs, r.1))
     by_test false = refl
 
-inner-line-is : (n : Name) (c : Parts) (f : Frame) (fs : List Frame) → and_then {Y = List Frame × Passed} (summary_line f.calendar f.place n c f.summary) (λ r. Ok (record f { summary = r.0 } ∷ fs, passed ended.Nothing r.1))
-    ≡ unless (summary_fault f.place n c f.summary) (record f { summary = summary_note n c f.summary } ∷ fs, passed ended.Nothing (summary_later f.calendar n c f.summary))
+inner-line-is : (n : Name) (c : Parts) (f : Frame) (fs : List Frame) → and_then {Y = List Frame × Passed} (builder_line f.calendar f.context n c f.builder) (λ r. Ok (record f { builder = r.0 } ∷ fs, passed ended.Nothing r.1))
+    ≡ unless (builder_fault f.context n c f.builder) (record f { builder = builder_note n c f.builder } ∷ fs, passed ended.Nothing (builder_check f.calendar n c f.builder))
 inner-line-is n c f fs =
-    ap (λ r. and_then {Y = List Frame × Passed} r (λ r. Ok (record f { summary = r.0 } ∷ fs, passed ended.Nothing r.1))) (summary-line-is f.calendar f.place n c f.summary)
-    ∙ then-ok (summary_fault f.place n c f.summary) (summary_note n c f.summary, summary_later f.calendar n c f.summary) (λ r. (record f { summary = r.0 } ∷ fs, passed ended.Nothing r.1))
+    ap (λ r. and_then {Y = List Frame × Passed} r (λ r. Ok (record f { builder = r.0 } ∷ fs, passed ended.Nothing r.1))) (builder-line-is f.calendar f.context n c f.builder)
+    ∙ then-ok (builder_fault f.context n c f.builder) (builder_note n c f.builder, builder_check f.calendar n c f.builder) (λ r. (record f { builder = r.0 } ∷ fs, passed ended.Nothing r.1))
 
 pub line-is : (number : ℕ) (n : Name) (c : Parts) (frames : List Frame) → IsBased frames → named_line number n c frames ≡ unless (fault_on n c frames) (behind number n c frames, passing n c frames)
 line-is number n c [] b = absurd b
 line-is number name.Begin c (f ∷ fs) b =
-    then-ok (first (outside_fault f.place (component_of (map upper c.value))) (fault_if kind.TooDeep (nat_le 32 (length fs)))) (opened number (component_of (map upper c.value)) (f ∷ fs)) (λ fs. (fs, passed ended.Nothing None))
-line-is number name.End c (f ∷ []) b = ap (λ q. unless (end_fault_at q (bytes_eq (map upper c.value) (component_name f.component)) f.summary) (f ∷ [], passed ended.Nothing (later_end f.calendar f.summary))) (sym b)
+    then-ok (first (outside_fault f.context (component_of (map upper c.value))) (fault_if kind.TooDeep (nat_le 32 (length fs)))) (opened number (component_of (map upper c.value)) (f ∷ fs)) (λ fs. (fs, passed ended.Nothing None))
+line-is number name.End c (f ∷ []) b = ap (λ q. unless (end_fault_at q (bytes_eq (map upper c.value) (component_name f.component)) f.builder) (f ∷ [], passed ended.Nothing (end_check f.calendar f.builder))) (sym b)
 line-is number name.End c (f ∷ g ∷ gs) b =
     end-line-is f g gs (map upper c.value)
-    ∙ ap (λ o. unless o (closed (f ∷ g ∷ gs), passed (ended_in f) (later_end f.calendar f.summary))) (sym (end-inside f.place (bytes_eq (map upper c.value) (component_name f.component)) f.summary b.0))
+    ∙ ap (λ o. unless o (closed (f ∷ g ∷ gs), passed (ended_in f) (end_check f.calendar f.builder))) (sym (end-inside f.context (bytes_eq (map upper c.value) (component_name f.component)) f.builder b.0))
 line-is number name.Uid c (f ∷ fs) b = inner-line-is name.Uid c f fs
 line-is number name.Dtstart c (f ∷ fs) b = inner-line-is name.Dtstart c f fs
 line-is number name.Dtend c (f ∷ fs) b = inner-line-is name.Dtend c f fs
@@ -316,15 +315,15 @@ is_end_name name.End = true
 is_end_name _ = false
 
 pub behind-is : (number : ℕ) (n : Name) (c : Parts) (f : Frame) (fs : List Frame) → behind number n c (f ∷ fs)
-    ≡ cond (is_begin_name n) (opened number (component_of (map upper c.value)) (f ∷ fs)) (cond (is_end_name n) (closed (f ∷ fs)) (record f { summary = summary_note n c f.summary } ∷ fs))
+    ≡ cond (is_begin_name n) (opened number (component_of (map upper c.value)) (f ∷ fs)) (cond (is_end_name n) (closed (f ∷ fs)) (record f { builder = builder_note n c f.builder } ∷ fs))
 behind-is number name.Begin c f fs = refl
 behind-is number name.End c f fs = refl
 behind-is number _ c f fs = refl
 
-pub later-is : (n : Name) (c : Parts) (f : Frame) → later_in n c f ≡ cond (is_begin_name n) None (cond (is_end_name n) (later_end f.calendar f.summary) (summary_later f.calendar n c f.summary))
-later-is name.Begin c f = refl
-later-is name.End c f = refl
-later-is _ c f = refl
+pub check-is : (n : Name) (c : Parts) (f : Frame) → check_in n c f ≡ cond (is_begin_name n) None (cond (is_end_name n) (end_check f.calendar f.builder) (builder_check f.calendar n c f.builder))
+check-is name.Begin c f = refl
+check-is name.End c f = refl
+check-is _ c f = refl
 
 pub ends-is : (n : Name) (f g : Frame) (gs : List Frame) → ends n (f ∷ g ∷ gs) ≡ cond (is_end_name n) (ended_in f) ended.Nothing
 ends-is name.End f g gs = refl

@@ -3,11 +3,12 @@ pub mod DateValueLemmas
 pub mod Judged
 pub mod Rows
 pub mod Table
-mod SummaryLemmas
-pub mod Collects
+pub mod Built
+mod BuilderLemmas
+pub mod EventBuilderLemmas
 pub mod Bundles
 pub mod Frames
-pub mod LaterTable
+pub mod DeferredTable
 pub mod Paths
 pub mod LastLines
 pub mod Order
@@ -32,7 +33,7 @@ mod ExampleFiles
 mod PropertyExamples
 mod ZoneExamples
 mod ZoneRows
-mod LaterRows
+mod DeferredRows
 mod DateRows
 mod InstantRows
 mod Examples

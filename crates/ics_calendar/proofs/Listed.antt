@@ -5,7 +5,7 @@ use Rattle.std.specs.List.{All}
 use Rattle.std.proofs.lemmas.List.Concat.{flat_map-cons}
 use Rattle.std.proofs.lemmas.List.Elements.{All-nil, All-append, All-head, All-tail, All-weaker}
 use Rattle.ics_calendar.specs.declared.date_list.DateList.{DateList}
-use Rattle.ics_calendar.specs.declared.later.Later.{Later}
+use Rattle.ics_calendar.specs.declared.deferred_check.DeferredCheck.{DeferredCheck}
 use Rattle.ics_calendar.specs.declared.gathered.EndedEvent.{EndedEvent}
 use Rattle.ics_calendar.specs.Lines.{used_zone, used_in, listed_zone, ends_in}
 use Rattle.ics_calendar.specs.Ready.{EachZone, end_of}
@@ -20,11 +20,11 @@ All-flat_map P f (x ∷ xs) h =
 pub flat_map-next : {X A : Type 0} (f : X → List A) (had : List A) (x : X) (xs : List X) → (had ++ f x) ++ flat_map f xs ≡ had ++ flat_map f (x ∷ xs)
 flat_map-next f had x xs = append_assoc had (f x) (flat_map f xs) ∙ ap (λ ys. had ++ ys) (sym (flat_map-cons f x xs))
 
-pub some-weaker : (P Q : Later → Type 0) → ((l : Later) → P l → Q l) → (o : Option Later) → IfSome o P → IfSome o Q
+pub some-weaker : (P Q : DeferredCheck → Type 0) → ((l : DeferredCheck) → P l → Q l) → (o : Option DeferredCheck) → IfSome o P → IfSome o Q
 some-weaker P Q w None h = tt
 some-weaker P Q w (Some l) h = w l h
 
-pub each-weaker : (P Q : Later → Type 0) → ((l : Later) → P l → Q l) → (event : EndedEvent) → EachZone P event → EachZone Q event
+pub each-weaker : (P Q : DeferredCheck → Type 0) → ((l : DeferredCheck) → P l → Q l) → (event : EndedEvent) → EachZone P event → EachZone Q event
 each-weaker P Q w e z = record {
   start = some-weaker P Q w (used_zone e.calendar e.start) z.start;
   end = some-weaker P Q w (used_in e.calendar (end_of e.length)) z.end;

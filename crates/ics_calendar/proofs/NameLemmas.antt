@@ -8,9 +8,9 @@ use Rattle.ics_calendar.specs.declared.name.Name.TheVariants as name
 use Rattle.ics_calendar.specs.declared.component.Component.{Component}
 use Rattle.ics_calendar.specs.declared.component.Component.TheVariants as component
 use Rattle.ics_calendar.specs.Names.{name_of}
-use Rattle.ics_calendar.specs.declared.component.Place.{Place}
-use Rattle.ics_calendar.specs.declared.component.Place.TheVariants as place
-use Rattle.ics_calendar.specs.Components.{component_of, component_name, place_in}
+use Rattle.ics_calendar.specs.declared.component.Context.{Context}
+use Rattle.ics_calendar.specs.declared.component.Context.TheVariants as context
+use Rattle.ics_calendar.specs.Components.{component_of, component_name, context_in}
 
 -- the name is none of those that a file is read for
 pub record IsUnknown (u : List ℕ) : Type 0 where
@@ -152,11 +152,11 @@ component_name-of u = named (component_of u) (tells_component u)
     named (component.Other w) e = e.1
 
 -- no component stands outside all components
-pub place-in-outside : (q : Place) (c : Component) → place_in q c ≢ place.Outside
-place-in-outside place.Outside component.Calendar = λ e. cc
-place-in-outside place.Outside _ = λ e. cc
-place-in-outside place.Calendar component.Event = λ e. cc
-place-in-outside place.Calendar _ = λ e. cc
-place-in-outside place.Zone component.Standard = λ e. cc
-place-in-outside place.Zone _ = λ e. cc
-place-in-outside _ c = λ e. cc
+pub context-in-outside : (q : Context) (c : Component) → context_in q c ≢ context.Outside
+context-in-outside context.Outside component.Calendar = λ e. cc
+context-in-outside context.Outside _ = λ e. cc
+context-in-outside context.Calendar component.Event = λ e. cc
+context-in-outside context.Calendar _ = λ e. cc
+context-in-outside context.Zone component.Standard = λ e. cc
+context-in-outside context.Zone _ = λ e. cc
+context-in-outside _ c = λ e. cc

@@ -3,12 +3,12 @@ use Rattle.std.proofs.Common.{◌≡◌, ℕ, ◌+◌, ◌<◌, ◌≤◌, Bool,
 use Rattle.std.specs.Prelude.{find, codes, not}
 use Rattle.std.specs.Str.{bytes_eq}
 use Rattle.ics_text.specs.Unfolded.{Line, Rises}
-use Rattle.ics_calendar.specs.declared.component.Place.{Place}
+use Rattle.ics_calendar.specs.declared.component.Context.{Context}
 use Rattle.ics_calendar.specs.declared.fault.FaultKind.{FaultKind}
 use Rattle.ics_calendar.specs.declared.fault.FaultKind.TheVariants.{BadNesting}
 use Rattle.ics_calendar.specs.declared.name.Name.TheVariants as name
 use Rattle.ics_calendar.specs.Names.{name_of}
-use Rattle.ics_calendar.specs.Placed.{Placed, Open, property_name, place_of, is_begin, is_end, is_closing, component, path_behind, placed_from, innermost, lines_in, beside, closes}
+use Rattle.ics_calendar.specs.Placed.{Placed, Open, property_name, context_of, is_begin, is_end, is_closing, component, path_behind, placed_from, innermost, lines_in, beside, closes}
 use Rattle.ics_calendar.specs.Faults.{stands, kinds}
 use Rattle.ics_calendar.specs.FirstFault.{Fault, found, least_on, first_from, fault_at_end, end_fault, no_open}
 use Rattle.ics_calendar.proofs.NameLemmas.{equal}
@@ -17,13 +17,13 @@ use Rattle.ics_calendar.proofs.Paths.{Falls, Absent, below, here, gone, lines_in
 
 -- A kind of components, by where their lines stand, with the lines on which one begins, and what is read of one.
 pub record Sort (X : Type 0) : Type 0 where
-  pub stands_at : Place → Bool
+  pub stands_at : Context → Bool
   pub begins : Placed → Bool
   pub by : List Open → List Placed → X
 
 -- what is read of the component that ends on a line, given the lines beside it
 abbrev pub ended_as : {X : Type 0} → Sort X → List Placed → Placed → List X
-ended_as s beside line = cond (is_closing line && s.stands_at (place_of line.path)) (s.by line.path beside ∷ []) []
+ended_as s beside line = cond (is_closing line && s.stands_at (context_of line.path)) (s.by line.path beside ∷ []) []
 
 abbrev pub ended_from : {X : Type 0} → Sort X → List Placed → List Placed → List X
 ended_from s before [] = []
@@ -32,7 +32,7 @@ ended_from s before (line ∷ lines) = ended_as s (beside before line) line ++ e
 -- the components that are open, the innermost first
 abbrev pub open_as : {X : Type 0} → Sort X → List Placed → List Open → List X
 open_as s whole [] = []
-open_as s whole (c ∷ cs) = cond (s.stands_at (place_of (c ∷ cs))) (s.by (c ∷ cs) (lines_in c.begun whole) ∷ open_as s whole cs) (open_as s whole cs)
+open_as s whole (c ∷ cs) = cond (s.stands_at (context_of (c ∷ cs))) (s.by (c ∷ cs) (lines_in c.begun whole) ∷ open_as s whole cs) (open_as s whole cs)
 
 -- the path behind a line on which a component begins
 abbrev pub inside : Placed → List Open
@@ -44,8 +44,8 @@ begun s whole lines = map (λ l. s.by (inside l) (lines_in l.number whole)) (fil
 
 -- One begins exactly where its lines stand behind the line, and in none of its sort; and its END adds nothing to it.
 pub record IsSort {X : Type 0} (s : Sort X) : Type 0 where
-  pub starts : (l : Placed) → s.begins l ≡ (is_begin l && s.stands_at (place_of (inside l)))
-  pub alone : (whole : List Placed) (l : Placed) → s.stands_at (place_of (inside l)) ≡ true → open_as s whole l.path ≡ []
+  pub starts : (l : Placed) → s.begins l ≡ (is_begin l && s.stands_at (context_of (inside l)))
+  pub alone : (whole : List Placed) (l : Placed) → s.stands_at (context_of (inside l)) ≡ true → open_as s whole l.path ≡ []
   pub ends : (path : List Open) (ls : List Placed) (l : Placed) → name_of (property_name l.content) ≡ name.End → s.by path (ls ++ l ∷ []) ≡ s.by path ls
 
 -- no fault on a line, and thus no bad nesting
@@ -92,9 +92,9 @@ Ordered s lines = (whole before : List Placed) (path : List Open) (n : ℕ) → 
 begin-step : {X : Type 0} (s : Sort X) → IsSort s → (whole : List Placed) (l : Placed) (rest : List Placed) (later : List X) → is_begin l ≡ true →
     later ≡ open_as s whole (inside l) ++ begun s whole rest → later ≡ open_as s whole l.path ++ begun s whole (l ∷ rest)
 begin-step s i whole l rest later b e =
-    e ∙ by_test (s.stands_at (place_of (inside l))) (i.alone whole l)
+    e ∙ by_test (s.stands_at (context_of (inside l))) (i.alone whole l)
     ∙ ap (λ t. open_as s whole l.path ++ map (λ l. s.by (inside l) (lines_in l.number whole)) (cond t (l ∷ filter s.begins rest) (filter s.begins rest)))
-    (sym (i.starts l ∙ ap (λ t. t && s.stands_at (place_of (inside l))) b))
+    (sym (i.starts l ∙ ap (λ t. t && s.stands_at (context_of (inside l))) b))
   where
     by_test : (t : Bool) → (t ≡ true → open_as s whole l.path ≡ []) →
         cond t (s.by (inside l) (lines_in l.number whole) ∷ open_as s whole l.path) (open_as s whole l.path) ++ begun s whole rest
@@ -105,7 +105,7 @@ begin-step s i whole l rest later b e =
 no-begin : {X : Type 0} (s : Sort X) → IsSort s → (whole : List Placed) (l : Placed) (rest : List Placed) → is_begin l ≡ false → begun s whole (l ∷ rest) ≡ begun s whole rest
 no-begin s i whole l rest b =
     ap (λ t. map (λ l. s.by (inside l) (lines_in l.number whole)) (cond t (l ∷ filter s.begins rest) (filter s.begins rest)))
-    (i.starts l ∙ ap (λ t. t && s.stands_at (place_of (inside l))) b)
+    (i.starts l ∙ ap (λ t. t && s.stands_at (context_of (inside l))) b)
 
 end-step : {X : Type 0} (s : Sort X) → IsSort s → (whole before : List Placed) (l : Placed) (c : Open) (cs : List Open) (rest : List Placed) (later : List X) → l.path ≡ c ∷ cs → whole ≡ before ++ l ∷ rest →
     lines_in c.begun rest ≡ [] → is_begin l ≡ false → is_end l ≡ true → closes l.path (component l) ≡ true → later ≡ open_as s whole cs ++ begun s whole rest →
@@ -116,12 +116,12 @@ end-step s i whole before l c cs rest later here w none b e m again =
     ∙ ap (λ p. lines_in (innermost p) (before ++ l ∷ rest)) (sym here)
     ∙ lines_in-whole before l rest (ap (λ p. lines_in (innermost p) rest) here ∙ none) in
     let same : s.by (c ∷ cs) (lines_in c.begun whole) ≡ s.by (c ∷ cs) (beside before l) = ap (s.by (c ∷ cs)) own ∙ i.ends (c ∷ cs) (beside before l) l (end-name (property_name l.content) e) in
-    ap (λ t. cond ((t && closes l.path (component l)) && s.stands_at (place_of l.path)) (s.by l.path (beside before l) ∷ []) [] ++ later) e
-    ∙ ap (λ t. cond (t && s.stands_at (place_of l.path)) (s.by l.path (beside before l) ∷ []) [] ++ later) m
-    ∙ ap (λ p. cond (s.stands_at (place_of p)) (s.by p (beside before l) ∷ []) [] ++ later) here
-    ∙ ap (λ es. cond (s.stands_at (place_of (c ∷ cs))) (s.by (c ∷ cs) (beside before l) ∷ []) [] ++ es) again
-    ∙ ap (λ x. cond (s.stands_at (place_of (c ∷ cs))) (x ∷ []) [] ++ (open_as s whole cs ++ begun s whole rest)) (sym same)
-    ∙ by_test (s.stands_at (place_of (c ∷ cs)))
+    ap (λ t. cond ((t && closes l.path (component l)) && s.stands_at (context_of l.path)) (s.by l.path (beside before l) ∷ []) [] ++ later) e
+    ∙ ap (λ t. cond (t && s.stands_at (context_of l.path)) (s.by l.path (beside before l) ∷ []) [] ++ later) m
+    ∙ ap (λ p. cond (s.stands_at (context_of p)) (s.by p (beside before l) ∷ []) [] ++ later) here
+    ∙ ap (λ es. cond (s.stands_at (context_of (c ∷ cs))) (s.by (c ∷ cs) (beside before l) ∷ []) [] ++ es) again
+    ∙ ap (λ x. cond (s.stands_at (context_of (c ∷ cs))) (x ∷ []) [] ++ (open_as s whole cs ++ begun s whole rest)) (sym same)
+    ∙ by_test (s.stands_at (context_of (c ∷ cs)))
     ∙ ap (λ es. open_as s whole (c ∷ cs) ++ es) (sym (no-begin s i whole l rest b))
   where
     by_test : (t : Bool) → cond t (s.by (c ∷ cs) (lines_in c.begun whole) ∷ []) [] ++ (open_as s whole cs ++ begun s whole rest)
@@ -132,12 +132,12 @@ end-step s i whole before l c cs rest later here w none b e m again =
 other-step : {X : Type 0} (s : Sort X) → IsSort s → (whole before : List Placed) (l : Placed) (rest : List Placed) (later : List X) → is_begin l ≡ false → is_end l ≡ false →
     later ≡ open_as s whole l.path ++ begun s whole rest → ended_as s (beside before l) l ++ later ≡ open_as s whole l.path ++ begun s whole (l ∷ rest)
 other-step s i whole before l rest later b e again =
-    ap (λ t. cond ((t && closes l.path (component l)) && s.stands_at (place_of l.path)) (s.by l.path (beside before l) ∷ []) [] ++ later) e
+    ap (λ t. cond ((t && closes l.path (component l)) && s.stands_at (context_of l.path)) (s.by l.path (beside before l) ∷ []) [] ++ later) e
     ∙ again ∙ ap (λ es. open_as s whole l.path ++ es) (sym (no-begin s i whole l rest b))
 
 begin-ends-none : {X : Type 0} (s : Sort X) (before : List Placed) (l : Placed) (later : List X) → is_begin l ≡ true → ended_as s (beside before l) l ++ later ≡ later
 begin-ends-none s before l later b =
-    ap (λ t. cond ((t && closes l.path (component l)) && s.stands_at (place_of l.path)) (s.by l.path (beside before l) ∷ []) [] ++ later) (begin-no-end (property_name l.content) b)
+    ap (λ t. cond ((t && closes l.path (component l)) && s.stands_at (context_of l.path)) (s.by l.path (beside before l) ∷ []) [] ++ later) (begin-no-end (property_name l.content) b)
 
 whole-more : (whole before : List Placed) (l : Placed) (rest : List Placed) → whole ≡ before ++ l ∷ rest → whole ≡ (before ++ l ∷ []) ++ rest
 whole-more whole before l rest w = w ∙ sym (append_assoc before (l ∷ []) rest)

@@ -12,22 +12,22 @@ use Rattle.ics_calendar.specs.declared.frame.Frame.{Frame}
 use Rattle.ics_calendar.specs.declared.gathered.Ended.{Ended}
 use Rattle.ics_calendar.specs.declared.gathered.EndedEvent.{EndedEvent}
 use Rattle.ics_calendar.specs.declared.gathered.EndedZone.{EndedZone}
-use Rattle.ics_calendar.specs.declared.gathered.Waiting.{Waiting}
-use Rattle.ics_calendar.specs.declared.later.Later.{Later}
+use Rattle.ics_calendar.specs.declared.gathered.LineCheck.{LineCheck}
+use Rattle.ics_calendar.specs.declared.deferred_check.DeferredCheck.{DeferredCheck}
 use Rattle.ics_calendar.specs.declared.gathered.Passed.{Passed}
 use Rattle.ics_calendar.specs.declared.name.Name.{Name}
 use Rattle.ics_calendar.specs.Placed.{Placed, Open, path_behind, placed_from, innermost, begins_observance, lines_in, beside}
 use Rattle.ics_calendar.specs.Faults.{stands, kinds}
 use Rattle.ics_calendar.specs.FirstFault.{Fault, found, first_from, first_fault, fault_at_end, end_fault, no_open}
 use Rattle.ics_calendar.specs.GatheredSeen.{GatheredSeen}
-use Rattle.ics_calendar.specs.Gathering.{nothing_gathered, zones_of_end, events_of_end, waits_of, and_passed}
+use Rattle.ics_calendar.specs.Gathered.{nothing_gathered, zones_of_end, events_of_end, checks_of, and_passed}
 use Rattle.ics_calendar.specs.Lines.{unless as fine}
 use Rattle.ics_calendar.specs.Names.{name_of}
 use Rattle.ics_calendar.specs.Pass.{bottom, is_lowest, at_end, unless, Going, on_line, on_content, pass}
-use Rattle.ics_calendar.proofs.Judged.{fault_in, fault_on, later_in, later_on, behind, ends, passing, line-is}
+use Rattle.ics_calendar.proofs.Judged.{fault_in, fault_on, check_in, check_on, behind, ends, passing, line-is}
 use Rattle.ics_calendar.proofs.Table.{parts, any-part, frame_of, IsAsked, least-same}
 use Rattle.ics_calendar.proofs.Bundles.{Bundle, Keeps, Before, falls, top_lines, top_beside, top_phases, bundles_behind, keeps, Before-more, Before-later, innermost-behind}
-use Rattle.ics_calendar.proofs.Frames.{frames_of, top_of, with, Closes, frames-behind, fault-top, later-top, based}
+use Rattle.ics_calendar.proofs.Frames.{frames_of, top_of, with, Closes, frames-behind, fault-top, check-top, based}
 use Rattle.ics_calendar.proofs.LastLines.{last-more}
 use Rattle.ics_calendar.proofs.Paths.{Falls, Absent, below, gone, lines_in-whole}
 use Rattle.ics_calendar.proofs.Order.{Sort, ended_as, ended_from, nested}
@@ -51,28 +51,28 @@ end-is-known whole before l bundles k =
     ∙ sym (fault_at_end-more before l)
 
 -- WHAT IS GATHERED of the lines, given those before.
-abbrev pub later_by : Option Parts → Frame → Option Later
+abbrev pub later_by : Option Parts → Frame → Option DeferredCheck
 later_by None f = None
-later_by (Some parts) f = later_in (name_of (map upper parts.name)) parts f
+later_by (Some parts) f = check_in (name_of (map upper parts.name)) parts f
 
-abbrev pub waits_on : List Placed → List Placed → Placed → List Waiting
-waits_on whole beside line = waits_of line.number (later_by line.content (frame_of whole line.path beside))
+abbrev pub checks_on : List Placed → List Placed → Placed → List LineCheck
+checks_on whole beside line = checks_of line.number (later_by line.content (frame_of whole line.path beside))
 
-abbrev pub waits_from : List Placed → List Placed → List Placed → List Waiting
-waits_from whole before [] = []
-waits_from whole before (line ∷ lines) = waits_on whole (beside before line) line ++ waits_from whole (before ++ line ∷ []) lines
+abbrev pub checks_from : List Placed → List Placed → List Placed → List LineCheck
+checks_from whole before [] = []
+checks_from whole before (line ∷ lines) = checks_on whole (beside before line) line ++ checks_from whole (before ++ line ∷ []) lines
 
-abbrev pub lists : List EndedZone → List EndedEvent → List Waiting → GatheredSeen
-lists zs es ws = record { zones = zs; events = es; waits = ws }
+abbrev pub lists : List EndedZone → List EndedEvent → List LineCheck → GatheredSeen
+lists zs es ws = record { zones = zs; events = es; checks = ws }
 
 abbrev pub gathered_from : List Placed → GatheredSeen → List Placed → List Placed → GatheredSeen
-gathered_from whole had before lines = lists (had.zones ++ ended_from (zones whole) before lines) (had.events ++ ended_from events before lines) (had.waits ++ waits_from whole before lines)
+gathered_from whole had before lines = lists (had.zones ++ ended_from (zones whole) before lines) (had.events ++ ended_from events before lines) (had.checks ++ checks_from whole before lines)
 
-pub three : {zs ys : List EndedZone} {es fs : List EndedEvent} {ws vs : List Waiting} → zs ≡ ys → es ≡ fs → ws ≡ vs → lists zs es ws ≡ lists ys fs vs
+pub three : {zs ys : List EndedZone} {es fs : List EndedEvent} {ws vs : List LineCheck} → zs ≡ ys → es ≡ fs → ws ≡ vs → lists zs es ws ≡ lists ys fs vs
 three z e w = rw (z, e, w) refl
 
 gathered-none : (whole : List Placed) (had : GatheredSeen) (before : List Placed) → had ≡ gathered_from whole had before []
-gathered-none whole had before = three (sym (append-nil had.zones)) (sym (append-nil had.events)) (sym (append-nil had.waits))
+gathered-none whole had before = three (sym (append-nil had.zones)) (sym (append-nil had.events)) (sym (append-nil had.checks))
 
 -- what is added by a line, and then by those behind it
 module _ {X : Type 0} where
@@ -96,7 +96,7 @@ Known lines = (whole before : List Placed) (bundles : List Bundle) (path : List 
 abbrev pub with_content : Line → List Open → Option Parts → Placed
 with_content line path o = record { number = line.number; content = o; path = path }
 
--- a line adds what ends there as its component says, and what waits there
+-- a line adds what ends there as its component says, and what is checked there in the second round
 ends-same : {X : Type 0} (whole : List Placed) (s : Sort X) (pick : Ended → List X) → Picks whole s pick → (before : List Placed) (line : Line) (path : List Open) (v : Parts) (bundles : List Bundle) → Keeps before [] path bundles → IsMatched (with line path v) →
     pick (ends (name_of (map upper v.name)) (frames_of whole path bundles)) ≡ ended_as s (beside before (with line path v)) (with line path v)
 ends-same whole s pick picks before line path v bundles k m =
@@ -114,8 +114,8 @@ gathered-step whole line before bundles path v had rest k m =
     (further had.zones (ended_as (zones whole) (beside before l) l) (zones_of_end (ends n frames)) (ended_from (zones whole) (before ++ l ∷ []) rest)
     (ends-same whole (zones whole) zones_of_end (zones-picked whole) before line path v bundles k m))
     (further had.events (ended_as events (beside before l) l) (events_of_end (ends n frames)) (ended_from events (before ++ l ∷ []) rest) (ends-same whole events events_of_end (events-picked whole) before line path v bundles k m))
-    (further had.waits (waits_on whole (beside before l) l) (waits_of line.number (later_on n v frames)) (waits_from whole (before ++ l ∷ []) rest)
-    (ap (waits_of line.number) (later-top whole before n v path bundles k ∙ ap (later_in n v) top)))
+    (further had.checks (checks_on whole (beside before l) l) (checks_of line.number (check_on n v frames)) (checks_from whole (before ++ l ∷ []) rest)
+    (ap (checks_of line.number) (check-top whole before n v path bundles k ∙ ap (check_in n v) top)))
 
 -- the lines of a component all stand before its END
 closes-here : (whole before : List Placed) (line : Line) (lines : List Line) (path : List Open) (v : Parts) (bundles : List Bundle) →

@@ -8,24 +8,23 @@ use Rattle.ics_text.specs.Contents.{Parts, content_of}
 use Rattle.ics_calendar.specs.declared.fault.FaultKind.{FaultKind}
 use Rattle.ics_calendar.specs.declared.frame.Frame.{Frame}
 use Rattle.ics_calendar.specs.declared.gathered.EndedEvent.{EndedEvent}
-use Rattle.ics_calendar.specs.declared.later.Later.{Later}
+use Rattle.ics_calendar.specs.declared.deferred_check.DeferredCheck.{DeferredCheck}
 use Rattle.ics_calendar.specs.declared.component.Component.{Component}
 use Rattle.ics_calendar.specs.declared.name.Name.{Name}
-use Rattle.ics_calendar.specs.declared.summary.Summary.{Summary}
+use Rattle.ics_calendar.specs.declared.builder.Builder.{Builder}
 use Rattle.ics_calendar.specs.FirstFault.{Fault}
 use Rattle.ics_calendar.specs.GatheredSeen.{GatheredSeen}
-use Rattle.ics_calendar.specs.GatheredSound.{IsSoundLater, IsSoundGathered}
-use Rattle.ics_calendar.specs.Gathering.{nothing_gathered, zones_of_end, events_of_end, waits_of, and_passed}
+use Rattle.ics_calendar.specs.Gathered.{IsSoundCheck, IsSoundGathered, nothing_gathered, zones_of_end, events_of_end, checks_of, and_passed}
 use Rattle.ics_calendar.specs.Components.{component_of}
 use Rattle.ics_calendar.specs.Lines.{opened}
 use Rattle.ics_calendar.specs.Names.{name_of}
 use Rattle.ics_calendar.specs.Ready.{EachZone}
 use Rattle.ics_calendar.specs.Pass.{bottom, at_end, unless, Going, on_line, on_content, pass}
-use Rattle.ics_calendar.proofs.Judged.{fault_on, later_in, summary_note, closed, behind, ends, passing, IsBased, is_begin_name, is_end_name, behind-is, line-is}
-use Rattle.ics_calendar.proofs.NameLemmas.{place-in-outside}
+use Rattle.ics_calendar.proofs.Judged.{fault_on, check_in, builder_note, closed, behind, ends, passing, IsBased, is_begin_name, is_end_name, behind-is, line-is}
+use Rattle.ics_calendar.proofs.NameLemmas.{context-in-outside}
 use Rattle.ics_calendar.specs.Sound.{IsWhole}
 use Rattle.ics_calendar.specs.ZonesSound.{IsSoundZone}
-use Rattle.ics_calendar.proofs.Awaits.{laters, one, laters-more, AreAwaited, awaited-behind, ended-awaited, waits-sound}
+use Rattle.ics_calendar.proofs.Awaits.{bare_checks, one, bare_checks-more, AreAwaited, awaited-behind, ended-awaited, checks-sound}
 use Rattle.ics_calendar.proofs.Listed.{each-weaker}
 use Rattle.ics_calendar.proofs.PassLemmas.{refused, on-line-is}
 use Rattle.ics_calendar.proofs.Sound.{AreSound, sound-behind, zones-sound, events-whole}
@@ -34,18 +33,18 @@ use Rattle.ics_calendar.proofs.Sound.{AreSound, sound-behind, zones-sound, event
 record IsGood (g : GatheredSeen) : Type 0 where
   pub zones : All (λ z. IsSoundZone z.observances) g.zones
   pub whole : All IsWhole g.events
-  pub awaited : All (EachZone (Contains (laters g.waits))) g.events
-  pub waits : All (λ w. IsSoundLater w.later) g.waits
+  pub awaited : All (EachZone (Contains (bare_checks g.checks))) g.events
+  pub checks : All (λ w. IsSoundCheck w.check) g.checks
 
 record Holds (frames : List Frame) (g : GatheredSeen) : Type 0 where
   pub base : IsBased frames
   pub sound : AreSound frames
-  pub awaited : AreAwaited (laters g.waits) frames
+  pub awaited : AreAwaited (bare_checks g.checks) frames
   pub good : IsGood g
 
 -- an event that is awaited stays so
-still-awaited : (waits more : List Later) (es : List EndedEvent) → All (EachZone (Contains waits)) es → All (EachZone (Contains (waits ++ more))) es
-still-awaited waits more es h = All-weaker (EachZone (Contains waits)) (EachZone (Contains (waits ++ more))) (λ e a. each-weaker (Contains waits) (Contains (waits ++ more)) (λ l. Contains-append_left waits more l) e a) es h
+still-awaited : (checks more : List DeferredCheck) (es : List EndedEvent) → All (EachZone (Contains checks)) es → All (EachZone (Contains (checks ++ more))) es
+still-awaited checks more es h = All-weaker (EachZone (Contains checks)) (EachZone (Contains (checks ++ more))) (λ e a. each-weaker (Contains checks) (Contains (checks ++ more)) (λ l. Contains-append_left checks more l) e a) es h
 
 -- the lowest frame stays the only one outside
 based-behind : (number : ℕ) (n : Name) (v : Parts) (f : Frame) (fs : List Frame) → IsBased (f ∷ fs) → IsBased (behind number n v (f ∷ fs))
@@ -54,35 +53,35 @@ based-behind number n v f fs b = subst (λ (gs : List Frame). IsBased gs) (sym (
     c : Component
     c = component_of (map upper v.value)
 
-    lifted : (s : Summary) (fs : List Frame) → IsBased (f ∷ fs) → IsBased (record f { summary = s } ∷ fs)
+    lifted : (s : Builder) (fs : List Frame) → IsBased (f ∷ fs) → IsBased (record f { builder = s } ∷ fs)
     lifted s [] b = b
     lifted s (g ∷ gs) b = b
 
-    by_tests : (t e : Bool) (fs : List Frame) → IsBased (f ∷ fs) → IsBased (cond t (opened number c (f ∷ fs)) (cond e (closed (f ∷ fs)) (record f { summary = summary_note n v f.summary } ∷ fs)))
-    by_tests true e fs b = (place-in-outside f.place c, b)
+    by_tests : (t e : Bool) (fs : List Frame) → IsBased (f ∷ fs) → IsBased (cond t (opened number c (f ∷ fs)) (cond e (closed (f ∷ fs)) (record f { builder = builder_note n v f.builder } ∷ fs)))
+    by_tests true e fs b = (context-in-outside f.context c, b)
     by_tests false true [] b = b
     by_tests false true (g ∷ []) b = b.1
     by_tests false true (g ∷ h ∷ hs) b = b.1
-    by_tests false false fs b = lifted (summary_note n v f.summary) fs b
+    by_tests false false fs b = lifted (builder_note n v f.builder) fs b
 
 good-behind : (number : ℕ) (n : Name) (v : Parts) (f : Frame) (fs : List Frame) (g : GatheredSeen) → fault_on n v (f ∷ fs) ≡ None → Holds (f ∷ fs) g → IsGood (and_passed number (passing n v (f ∷ fs)) g)
 good-behind number n v f fs g e h =
-    let late : Option Later = later_in n v f in
-    let more : laters (g.waits ++ waits_of number late) ≡ laters g.waits ++ one late = laters-more g.waits number late in
+    let late : Option DeferredCheck = check_in n v f in
+    let more : bare_checks (g.checks ++ checks_of number late) ≡ bare_checks g.checks ++ one late = bare_checks-more g.checks number late in
     record {
       zones = All-append (λ z. IsSoundZone z.observances) g.zones (zones_of_end (ends n (f ∷ fs))) h.good.zones (zones-sound n v (f ∷ fs) e h.sound);
       whole = All-append IsWhole g.events (events_of_end (ends n (f ∷ fs))) h.good.whole (events-whole n v (f ∷ fs) e h.sound);
       awaited =
-          subst (λ (ls : List Later). All (EachZone (Contains ls)) (g.events ++ events_of_end (ends n (f ∷ fs)))) (sym more)
-          (All-append (EachZone (Contains (laters g.waits ++ one late))) g.events (events_of_end (ends n (f ∷ fs))) (still-awaited (laters g.waits) (one late) g.events h.good.awaited) (ended-awaited (laters g.waits) n v f fs h.awaited));
-      waits = All-append (λ w. IsSoundLater w.later) g.waits (waits_of number late) h.good.waits (waits-sound number n v f h.sound.0);
+          subst (λ (ls : List DeferredCheck). All (EachZone (Contains ls)) (g.events ++ events_of_end (ends n (f ∷ fs)))) (sym more)
+          (All-append (EachZone (Contains (bare_checks g.checks ++ one late))) g.events (events_of_end (ends n (f ∷ fs))) (still-awaited (bare_checks g.checks) (one late) g.events h.good.awaited) (ended-awaited (bare_checks g.checks) n v f fs h.awaited));
+      checks = All-append (λ w. IsSoundCheck w.check) g.checks (checks_of number late) h.good.checks (checks-sound number n v f h.sound.0);
     }
 
 holds-behind : (number : ℕ) (n : Name) (v : Parts) (f : Frame) (fs : List Frame) (g : GatheredSeen) → fault_on n v (f ∷ fs) ≡ None → Holds (f ∷ fs) g → Holds (behind number n v (f ∷ fs)) (and_passed number (passing n v (f ∷ fs)) g)
 holds-behind number n v f fs g e h = record {
   base = based-behind number n v f fs h.base;
   sound = sound-behind number n v f fs h.sound;
-  awaited = subst (λ (ls : List Later). AreAwaited ls (behind number n v (f ∷ fs))) (sym (laters-more g.waits number (later_in n v f))) (awaited-behind (laters g.waits) number n v f fs h.awaited);
+  awaited = subst (λ (ls : List DeferredCheck). AreAwaited ls (behind number n v (f ∷ fs))) (sym (bare_checks-more g.checks number (check_in n v f))) (awaited-behind (bare_checks g.checks) number n v f fs h.awaited);
   good = good-behind number n v f fs g e h;
 }
 
@@ -122,7 +121,7 @@ holds-first = record {
     zones = All-nil (λ z. IsSoundZone z.observances);
     whole = All-nil IsWhole;
     awaited = All-nil (EachZone (Contains []));
-    waits = All-nil (λ w. IsSoundLater w.later);
+    checks = All-nil (λ w. IsSoundCheck w.check);
   };
 }
 
@@ -130,4 +129,4 @@ holds-first = record {
 pub sound-pass : (lines : List Line) (g : GatheredSeen) → pass (bottom ∷ []) None nothing_gathered lines ≡ Ok g → IsSoundGathered g
 sound-pass lines g e =
     let good : IsGood g = pass-good lines (bottom ∷ []) None nothing_gathered g holds-first e in
-    record { zones = good.zones; whole = good.whole; awaited = good.awaited; sound = good.waits }
+    record { zones = good.zones; whole = good.whole; awaited = good.awaited; sound = good.checks }

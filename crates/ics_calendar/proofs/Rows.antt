@@ -22,11 +22,11 @@ use Rattle.ics_values.specs.declared.stamp.Stamp.{Stamp}
 use Rattle.ics_values.specs.declared.stamp.Stamp.TheVariants.{Date, Floating, Utc, Zoned}
 use Rattle.ics_values.specs.declared.stamp.StampFault.{StampFault}
 use Rattle.ics_values.specs.declared.stamp.StampFault.TheVariants as stamp_fault
-use Rattle.ics_calendar.specs.declared.collected.Collected.{Collected}
+use Rattle.ics_calendar.specs.declared.event_builder.EventBuilder.{EventBuilder}
 use Rattle.ics_calendar.specs.declared.component.Component.{Component}
 use Rattle.ics_calendar.specs.declared.component.Component.TheVariants as component
-use Rattle.ics_calendar.specs.declared.component.Place.{Place}
-use Rattle.ics_calendar.specs.declared.component.Place.TheVariants as place
+use Rattle.ics_calendar.specs.declared.component.Context.{Context}
+use Rattle.ics_calendar.specs.declared.component.Context.TheVariants as context
 use Rattle.ics_calendar.specs.declared.fault.FaultKind.{FaultKind}
 use Rattle.ics_calendar.specs.declared.fault.FaultKind.TheVariants.{BadStamp, BadDuration, BadOffset, BadRule, YearRange, NumberTooLarge, NoObservance, ObservanceField, ZoneRule, NotCalendar, BadNesting, TooDeep, MissingUid, MissingStart, Repeated, BadEnd, ThisAndFuture, Exrule, OldVersion}
 use Rattle.ics_calendar.specs.declared.date_values.DateValue.{DateValue}
@@ -34,11 +34,11 @@ use Rattle.ics_calendar.specs.declared.date_values.DateValue.TheVariants.{At}
 use Rattle.ics_calendar.specs.declared.frame.Frame.{Frame}
 use Rattle.ics_calendar.specs.declared.name.Name.{Name}
 use Rattle.ics_calendar.specs.declared.name.Name.TheVariants as name
-use Rattle.ics_calendar.specs.declared.summary.ObservanceSummary.{ObservanceSummary}
-use Rattle.ics_calendar.specs.declared.summary.Summary.{Summary}
-use Rattle.ics_calendar.specs.declared.summary.Summary.TheVariants as summary
-use Rattle.ics_calendar.specs.declared.summary.ZoneSummary.{ZoneSummary}
-use Rattle.ics_calendar.specs.Components.{component_of, component_name, is_outside_place, is_calendar_place, is_event_place, is_zone_place, is_observance_place}
+use Rattle.ics_calendar.specs.declared.builder.ObservanceBuilder.{ObservanceBuilder}
+use Rattle.ics_calendar.specs.declared.builder.Builder.{Builder}
+use Rattle.ics_calendar.specs.declared.builder.Builder.TheVariants as builder
+use Rattle.ics_calendar.specs.declared.builder.ZoneBuilder.{ZoneBuilder}
+use Rattle.ics_calendar.specs.Components.{component_of, component_name, is_outside_context, is_calendar_context, is_event_context, is_zone_context, is_observance_context}
 use Rattle.ics_calendar.specs.DateValues.{rdates_of, exdates_of, has_bad_stamp, has_far_stamp, has_bad_duration, has_large_duration, is_not_local}
 use Rattle.ics_calendar.specs.Values.{zone_name, stamp_read, is_bad_stamp, is_far_stamp, lasting_of, is_bad_duration, is_large_duration, is_bad_offset, is_bad_rule, is_large_rule, is_fine_rule, is_large_integer, is_filled, ends_badly}
 use Rattle.ics_calendar.specs.Faults.{stamp_names, single_names, offset_names, field_names}
@@ -58,42 +58,42 @@ onsets_at u v =
     else if bytes_eq u (codes "RDATE") then rdates_of false v.value
     else []
 
--- The table, of what it reads of a line: its name, its value in upper case, its parts, its place, and tests of what stands around it.
-abbrev pub flat : (u w : List ℕ) (v : Parts) (q : Place) (cl deep filled start be bare fields h : Bool) → Option FaultKind
+-- The table, of what it reads of a line: its name, its value in upper case, its parts, its context, and tests of what stands around it.
+abbrev pub flat : (u w : List ℕ) (v : Parts) (q : Context) (cl deep filled start be bare fields h : Bool) → Option FaultKind
 flat u w v q cl deep filled start be bare fields h =
-    if (is_observance_place q && list_any has_bad_stamp (onsets_at u v)) || (is_event_place q && list_any has_bad_stamp (dates_at u v)) || (is_event_place q && list_any (bytes_eq u) stamp_names && is_bad_stamp (stamp_read v.params v.value)) then Some BadStamp
-    else if (is_observance_place q && list_any has_bad_duration (onsets_at u v)) || (is_event_place q && list_any has_bad_duration (dates_at u v)) || (is_event_place q && bytes_eq u (codes "DURATION") && is_bad_duration (lasting_of v.value)) then Some BadDuration
-    else if is_observance_place q && list_any (bytes_eq u) offset_names && is_bad_offset (offset_of v.value) then Some BadOffset
-    else if (is_event_place q || is_observance_place q) && bytes_eq u (codes "RRULE") && is_bad_rule (rule_of v.value) then Some BadRule
-    else if (is_observance_place q && list_any has_far_stamp (onsets_at u v)) || (is_event_place q && list_any has_far_stamp (dates_at u v)) || (is_event_place q && list_any (bytes_eq u) stamp_names && is_far_stamp (stamp_read v.params v.value)) then Some YearRange
-    else if (is_observance_place q && list_any has_large_duration (onsets_at u v))
-    || (is_event_place q && list_any has_large_duration (dates_at u v))
-    || (is_event_place q && bytes_eq u (codes "DURATION") && is_large_duration (lasting_of v.value))
-    || ((is_event_place q || is_observance_place q) && bytes_eq u (codes "RRULE") && is_large_rule (rule_of v.value))
-    || (is_event_place q && bytes_eq u (codes "SEQUENCE") && is_large_integer (integer_of v.value)) then Some NumberTooLarge
+    if (is_observance_context q && list_any has_bad_stamp (onsets_at u v)) || (is_event_context q && list_any has_bad_stamp (dates_at u v)) || (is_event_context q && list_any (bytes_eq u) stamp_names && is_bad_stamp (stamp_read v.params v.value)) then Some BadStamp
+    else if (is_observance_context q && list_any has_bad_duration (onsets_at u v)) || (is_event_context q && list_any has_bad_duration (dates_at u v)) || (is_event_context q && bytes_eq u (codes "DURATION") && is_bad_duration (lasting_of v.value)) then Some BadDuration
+    else if is_observance_context q && list_any (bytes_eq u) offset_names && is_bad_offset (offset_of v.value) then Some BadOffset
+    else if (is_event_context q || is_observance_context q) && bytes_eq u (codes "RRULE") && is_bad_rule (rule_of v.value) then Some BadRule
+    else if (is_observance_context q && list_any has_far_stamp (onsets_at u v)) || (is_event_context q && list_any has_far_stamp (dates_at u v)) || (is_event_context q && list_any (bytes_eq u) stamp_names && is_far_stamp (stamp_read v.params v.value)) then Some YearRange
+    else if (is_observance_context q && list_any has_large_duration (onsets_at u v))
+    || (is_event_context q && list_any has_large_duration (dates_at u v))
+    || (is_event_context q && bytes_eq u (codes "DURATION") && is_large_duration (lasting_of v.value))
+    || ((is_event_context q || is_observance_context q) && bytes_eq u (codes "RRULE") && is_large_rule (rule_of v.value))
+    || (is_event_context q && bytes_eq u (codes "SEQUENCE") && is_large_integer (integer_of v.value)) then Some NumberTooLarge
     else if bare then Some NoObservance
-    else if (is_observance_place q && list_any is_not_local (onsets_at u v))
+    else if (is_observance_context q && list_any is_not_local (onsets_at u v))
     || (bytes_eq u (codes "END") && cl && not fields)
     || (list_any (bytes_eq u) (field_names q) && h) then Some ObservanceField
-    else if is_observance_place q && bytes_eq u (codes "RRULE") && (h || is_fine_rule (rule_of v.value)) then Some ZoneRule
-    else if is_outside_place q && not (bytes_eq u (codes "BEGIN") && bytes_eq w (codes "VCALENDAR")) then Some NotCalendar
+    else if is_observance_context q && bytes_eq u (codes "RRULE") && (h || is_fine_rule (rule_of v.value)) then Some ZoneRule
+    else if is_outside_context q && not (bytes_eq u (codes "BEGIN") && bytes_eq w (codes "VCALENDAR")) then Some NotCalendar
     else if bytes_eq u (codes "END") && not (bytes_eq u (codes "END") && cl) then Some BadNesting
     else if bytes_eq u (codes "BEGIN") && deep then Some TooDeep
-    else if bytes_eq u (codes "END") && cl && is_event_place q && not filled then Some MissingUid
-    else if bytes_eq u (codes "END") && cl && is_event_place q && not start then Some MissingStart
-    else if is_event_place q && list_any (bytes_eq u) single_names && h then Some Repeated
-    else if bytes_eq u (codes "END") && cl && is_event_place q && be then Some BadEnd
-    else if is_event_place q && bytes_eq u (codes "RECURRENCE-ID") && is_some (param_of (codes "RANGE") v.params) then Some ThisAndFuture
-    else if is_event_place q && bytes_eq u (codes "EXRULE") then Some Exrule
-    else if is_calendar_place q && bytes_eq u (codes "VERSION") && bytes_eq v.value (codes "1.0") then Some OldVersion
+    else if bytes_eq u (codes "END") && cl && is_event_context q && not filled then Some MissingUid
+    else if bytes_eq u (codes "END") && cl && is_event_context q && not start then Some MissingStart
+    else if is_event_context q && list_any (bytes_eq u) single_names && h then Some Repeated
+    else if bytes_eq u (codes "END") && cl && is_event_context q && be then Some BadEnd
+    else if is_event_context q && bytes_eq u (codes "RECURRENCE-ID") && is_some (param_of (codes "RANGE") v.params) then Some ThisAndFuture
+    else if is_event_context q && bytes_eq u (codes "EXRULE") then Some Exrule
+    else if is_calendar_context q && bytes_eq u (codes "VERSION") && bytes_eq v.value (codes "1.0") then Some OldVersion
     else None
 
 -- only the END of a time zone asks for an observance
-abbrev pub is_bare : List ℕ → Place → Bool → Bool → Bool
-is_bare u q cl some = bytes_eq u (codes "END") && cl && is_zone_place q && not some
+abbrev pub is_bare : List ℕ → Context → Bool → Bool → Bool
+is_bare u q cl some = bytes_eq u (codes "END") && cl && is_zone_context q && not some
 
-pub asked-same : (u : List ℕ) (q : Place) (cl some other : Bool) → (is_zone_place q ≡ true → some ≡ other) → is_bare u q cl some ≡ is_bare u q cl other
-asked-same u q cl some other = by_tests (bytes_eq u (codes "END") && cl) (is_zone_place q)
+pub asked-same : (u : List ℕ) (q : Context) (cl some other : Bool) → (is_zone_context q ≡ true → some ≡ other) → is_bare u q cl some ≡ is_bare u q cl other
+asked-same u q cl some other = by_tests (bytes_eq u (codes "END") && cl) (is_zone_context q)
   where
     by_tests : (b z : Bool) → (z ≡ true → some ≡ other) → (b && z && not some) ≡ (b && z && not other)
     by_tests true true e = ap not (e refl)
@@ -103,45 +103,45 @@ asked-same u q cl some other = by_tests (bytes_eq u (codes "END") && cl) (is_zon
 -- what is collected of some lines of a calendar, read as those of an event, of a time zone and of an observance
 pub record Gathered : Type 0 where
   pub calendar : ℕ
-  pub event : Collected
-  pub zone : ZoneSummary
-  pub observance : ObservanceSummary
+  pub event : EventBuilder
+  pub zone : ZoneBuilder
+  pub observance : ObservanceBuilder
 
-abbrev pub summary_at : Place → Gathered → Summary
-summary_at place.Event g = summary.Event g.event
-summary_at place.Zone g = summary.Zone g.zone
-summary_at place.Observance g = summary.Observance g.observance
-summary_at _ g = summary.Nothing
+abbrev pub builder_at : Context → Gathered → Builder
+builder_at context.Event g = builder.Event g.event
+builder_at context.Zone g = builder.Zone g.zone
+builder_at context.Observance g = builder.Observance g.observance
+builder_at _ g = builder.Nothing
 
-abbrev pub bad_end_of : Collected → Bool
+abbrev pub bad_end_of : EventBuilder → Bool
 bad_end_of had = (is_some had.end && is_some had.duration) || ends_badly had.start had.end
 
 -- an observance has ended in the time zone
 abbrev pub has_observance : Gathered → Bool
 has_observance g = not (length g.zone.observances == 0)
 
-abbrev pub has_fields : Place → Gathered → Bool
-has_fields place.Zone g = is_some g.zone.name && true
-has_fields place.Observance g = is_some g.observance.start && (is_some g.observance.from && (is_some g.observance.to && true))
+abbrev pub has_fields : Context → Gathered → Bool
+has_fields context.Zone g = is_some g.zone.name && true
+has_fields context.Observance g = is_some g.observance.start && (is_some g.observance.from && (is_some g.observance.to && true))
 has_fields _ g = true
 
 -- the frame of a component, with what is collected of it
-abbrev pub frame_at : Component → Place → Gathered → Frame
-frame_at c q g = record { component = c; place = q; calendar = g.calendar; summary = summary_at q g }
+abbrev pub frame_at : Component → Context → Gathered → Frame
+frame_at c q g = record { component = c; context = q; calendar = g.calendar; builder = builder_at q g }
 
-abbrev pub flat_of : List ℕ → Parts → Place → Bool → ℕ → Gathered → Bool → Option FaultKind
+abbrev pub flat_of : List ℕ → Parts → Context → Bool → ℕ → Gathered → Bool → Option FaultKind
 flat_of u v q cl depth g h = flat u (map upper v.value) v q cl (nat_le 32 depth) (is_filled g.event.uid) (is_some g.event.start) (bad_end_of g.event) (is_bare u q cl (has_observance g)) (has_fields q g) h
 
-abbrev pub fault_of : Name → Parts → Component → Place → ℕ → Gathered → Option FaultKind
+abbrev pub fault_of : Name → Parts → Component → Context → ℕ → Gathered → Option FaultKind
 fault_of n v c q depth g = fault_in n v (frame_at c q g) depth
 
 -- the properties that both an event and an observance have
-abbrev pub start_flag : Place → Gathered → Bool
-start_flag place.Observance g = is_some g.observance.start
+abbrev pub start_flag : Context → Gathered → Bool
+start_flag context.Observance g = is_some g.observance.start
 start_flag _ g = is_some g.event.start
 
-abbrev pub rule_flag : Place → Gathered → Bool
-rule_flag place.Observance g = is_some g.observance.rule
+abbrev pub rule_flag : Context → Gathered → Bool
+rule_flag context.Observance g = is_some g.observance.rule
 rule_flag _ g = is_some g.event.rule
 
 pub or-false : (b : Bool) → (b || false) ≡ b
@@ -209,86 +209,86 @@ dates-row false false true d m = refl
 dates-row false false false true m = refl
 dates-row false false false false m = refl
 
-pub at-uid : (v : Parts) (c : Component) (q : Place) (cl : Bool) (depth : ℕ) (g : Gathered) → flat_of (codes "UID") v q cl depth g (is_some g.event.uid) ≡ fault_of name.Uid v c q depth g
-at-uid v c place.Event cl depth g = refl
+pub at-uid : (v : Parts) (c : Component) (q : Context) (cl : Bool) (depth : ℕ) (g : Gathered) → flat_of (codes "UID") v q cl depth g (is_some g.event.uid) ≡ fault_of name.Uid v c q depth g
+at-uid v c context.Event cl depth g = refl
 at-uid v c _ cl depth g = refl
 
-pub at-dtstart : (v : Parts) (c : Component) (q : Place) (cl : Bool) (depth : ℕ) (g : Gathered) → flat_of (codes "DTSTART") v q cl depth g (start_flag q g) ≡ fault_of name.Dtstart v c q depth g
-at-dtstart v c place.Observance cl depth g = simp or-false (onset-row (stamp_of false v.value) (is_some g.observance.start))
-at-dtstart v c place.Event cl depth g = stamp-row (stamp_read v.params v.value) (fault_if Repeated (is_some g.event.start))
+pub at-dtstart : (v : Parts) (c : Component) (q : Context) (cl : Bool) (depth : ℕ) (g : Gathered) → flat_of (codes "DTSTART") v q cl depth g (start_flag q g) ≡ fault_of name.Dtstart v c q depth g
+at-dtstart v c context.Observance cl depth g = simp or-false (onset-row (stamp_of false v.value) (is_some g.observance.start))
+at-dtstart v c context.Event cl depth g = stamp-row (stamp_read v.params v.value) (fault_if Repeated (is_some g.event.start))
 at-dtstart v c _ cl depth g = refl
 
-pub at-dtend : (v : Parts) (c : Component) (q : Place) (cl : Bool) (depth : ℕ) (g : Gathered) → flat_of (codes "DTEND") v q cl depth g (is_some g.event.end) ≡ fault_of name.Dtend v c q depth g
-at-dtend v c place.Event cl depth g = stamp-row (stamp_read v.params v.value) (fault_if Repeated (is_some g.event.end))
+pub at-dtend : (v : Parts) (c : Component) (q : Context) (cl : Bool) (depth : ℕ) (g : Gathered) → flat_of (codes "DTEND") v q cl depth g (is_some g.event.end) ≡ fault_of name.Dtend v c q depth g
+at-dtend v c context.Event cl depth g = stamp-row (stamp_read v.params v.value) (fault_if Repeated (is_some g.event.end))
 at-dtend v c _ cl depth g = refl
 
-pub at-duration : (v : Parts) (c : Component) (q : Place) (cl : Bool) (depth : ℕ) (g : Gathered) → flat_of (codes "DURATION") v q cl depth g (is_some g.event.duration) ≡ fault_of name.Duration v c q depth g
-at-duration v c place.Event cl depth g =
+pub at-duration : (v : Parts) (c : Component) (q : Context) (cl : Bool) (depth : ℕ) (g : Gathered) → flat_of (codes "DURATION") v q cl depth g (is_some g.event.duration) ≡ fault_of name.Duration v c q depth g
+at-duration v c context.Event cl depth g =
     ap (λ t. cond (is_bad_duration (lasting_of v.value)) (Some BadDuration) (cond t (Some NumberTooLarge) (fault_if Repeated (is_some g.event.duration))))
     (or-false (is_large_duration (lasting_of v.value) || false) ∙ or-false (is_large_duration (lasting_of v.value)))
     ∙ duration-row (lasting_of v.value) (fault_if Repeated (is_some g.event.duration))
 at-duration v c _ cl depth g = refl
 
-pub at-rrule : (v : Parts) (c : Component) (q : Place) (cl : Bool) (depth : ℕ) (g : Gathered) → flat_of (codes "RRULE") v q cl depth g (rule_flag q g) ≡ fault_of name.Rrule v c q depth g
-at-rrule v c place.Event cl depth g = simp or-false (rule-row (rule_of v.value) (fault_if Repeated (is_some g.event.rule)))
-at-rrule v c place.Observance cl depth g = simp or-false (daily-row (rule_of v.value) (is_some g.observance.rule))
+pub at-rrule : (v : Parts) (c : Component) (q : Context) (cl : Bool) (depth : ℕ) (g : Gathered) → flat_of (codes "RRULE") v q cl depth g (rule_flag q g) ≡ fault_of name.Rrule v c q depth g
+at-rrule v c context.Event cl depth g = simp or-false (rule-row (rule_of v.value) (fault_if Repeated (is_some g.event.rule)))
+at-rrule v c context.Observance cl depth g = simp or-false (daily-row (rule_of v.value) (is_some g.observance.rule))
 at-rrule v c _ cl depth g = refl
 
-pub at-recurrence_id : (v : Parts) (c : Component) (q : Place) (cl : Bool) (depth : ℕ) (g : Gathered) → flat_of (codes "RECURRENCE-ID") v q cl depth g (is_some g.event.recurrence) ≡ fault_of name.RecurrenceId v c q depth g
-at-recurrence_id v c place.Event cl depth g = recurrence-row (stamp_read v.params v.value) (is_some g.event.recurrence) (is_some (param_of (codes "RANGE") v.params))
+pub at-recurrence_id : (v : Parts) (c : Component) (q : Context) (cl : Bool) (depth : ℕ) (g : Gathered) → flat_of (codes "RECURRENCE-ID") v q cl depth g (is_some g.event.recurrence) ≡ fault_of name.RecurrenceId v c q depth g
+at-recurrence_id v c context.Event cl depth g = recurrence-row (stamp_read v.params v.value) (is_some g.event.recurrence) (is_some (param_of (codes "RANGE") v.params))
 at-recurrence_id v c _ cl depth g = refl
 
-pub at-sequence : (v : Parts) (c : Component) (q : Place) (cl : Bool) (depth : ℕ) (g : Gathered) → flat_of (codes "SEQUENCE") v q cl depth g (is_some g.event.sequence) ≡ fault_of name.Sequence v c q depth g
-at-sequence v c place.Event cl depth g = number-row (integer_of v.value) (fault_if Repeated (is_some g.event.sequence))
+pub at-sequence : (v : Parts) (c : Component) (q : Context) (cl : Bool) (depth : ℕ) (g : Gathered) → flat_of (codes "SEQUENCE") v q cl depth g (is_some g.event.sequence) ≡ fault_of name.Sequence v c q depth g
+at-sequence v c context.Event cl depth g = number-row (integer_of v.value) (fault_if Repeated (is_some g.event.sequence))
 at-sequence v c _ cl depth g = refl
 
-pub at-rdate : (v : Parts) (c : Component) (q : Place) (cl : Bool) (depth : ℕ) (g : Gathered) (h : Bool) → flat_of (codes "RDATE") v q cl depth g h ≡ fault_of name.Rdate v c q depth g
-at-rdate v c place.Event cl depth g h = simp or-false refl
-at-rdate v c place.Observance cl depth g h =
+pub at-rdate : (v : Parts) (c : Component) (q : Context) (cl : Bool) (depth : ℕ) (g : Gathered) (h : Bool) → flat_of (codes "RDATE") v q cl depth g h ≡ fault_of name.Rdate v c q depth g
+at-rdate v c context.Event cl depth g h = simp or-false refl
+at-rdate v c context.Observance cl depth g h =
     let vs : List DateValue = rdates_of false v.value in
     simp or-false (dates-row (list_any has_bad_stamp vs) (list_any has_bad_duration vs) (list_any has_far_stamp vs) (list_any has_large_duration vs) (fault_if ObservanceField (list_any is_not_local vs)))
 at-rdate v c _ cl depth g h = refl
 
-pub at-exdate : (v : Parts) (c : Component) (q : Place) (cl : Bool) (depth : ℕ) (g : Gathered) (h : Bool) → flat_of (codes "EXDATE") v q cl depth g h ≡ fault_of name.Exdate v c q depth g
-at-exdate v c place.Event cl depth g h = simp or-false refl
+pub at-exdate : (v : Parts) (c : Component) (q : Context) (cl : Bool) (depth : ℕ) (g : Gathered) (h : Bool) → flat_of (codes "EXDATE") v q cl depth g h ≡ fault_of name.Exdate v c q depth g
+at-exdate v c context.Event cl depth g h = simp or-false refl
 at-exdate v c _ cl depth g h = refl
 
-pub at-exrule : (v : Parts) (c : Component) (q : Place) (cl : Bool) (depth : ℕ) (g : Gathered) (h : Bool) → flat_of (codes "EXRULE") v q cl depth g h ≡ fault_of name.Exrule v c q depth g
-at-exrule v c place.Event cl depth g h = refl
+pub at-exrule : (v : Parts) (c : Component) (q : Context) (cl : Bool) (depth : ℕ) (g : Gathered) (h : Bool) → flat_of (codes "EXRULE") v q cl depth g h ≡ fault_of name.Exrule v c q depth g
+at-exrule v c context.Event cl depth g h = refl
 at-exrule v c _ cl depth g h = refl
 
-pub at-version : (v : Parts) (c : Component) (q : Place) (cl : Bool) (depth : ℕ) (g : Gathered) (h : Bool) → flat_of (codes "VERSION") v q cl depth g h ≡ fault_of name.Version v c q depth g
-at-version v c place.Event cl depth g h = refl
+pub at-version : (v : Parts) (c : Component) (q : Context) (cl : Bool) (depth : ℕ) (g : Gathered) (h : Bool) → flat_of (codes "VERSION") v q cl depth g h ≡ fault_of name.Version v c q depth g
+at-version v c context.Event cl depth g h = refl
 at-version v c _ cl depth g h = refl
 
-pub at-summary : (v : Parts) (c : Component) (q : Place) (cl : Bool) (depth : ℕ) (g : Gathered) (h : Bool) → flat_of (codes "SUMMARY") v q cl depth g h ≡ fault_of name.Summary v c q depth g
-at-summary v c place.Event cl depth g h = refl
+pub at-summary : (v : Parts) (c : Component) (q : Context) (cl : Bool) (depth : ℕ) (g : Gathered) (h : Bool) → flat_of (codes "SUMMARY") v q cl depth g h ≡ fault_of name.Summary v c q depth g
+at-summary v c context.Event cl depth g h = refl
 at-summary v c _ cl depth g h = refl
 
-pub at-location : (v : Parts) (c : Component) (q : Place) (cl : Bool) (depth : ℕ) (g : Gathered) (h : Bool) → flat_of (codes "LOCATION") v q cl depth g h ≡ fault_of name.Location v c q depth g
-at-location v c place.Event cl depth g h = refl
+pub at-location : (v : Parts) (c : Component) (q : Context) (cl : Bool) (depth : ℕ) (g : Gathered) (h : Bool) → flat_of (codes "LOCATION") v q cl depth g h ≡ fault_of name.Location v c q depth g
+at-location v c context.Event cl depth g h = refl
 at-location v c _ cl depth g h = refl
 
-pub at-description : (v : Parts) (c : Component) (q : Place) (cl : Bool) (depth : ℕ) (g : Gathered) (h : Bool) → flat_of (codes "DESCRIPTION") v q cl depth g h ≡ fault_of name.Description v c q depth g
-at-description v c place.Event cl depth g h = refl
+pub at-description : (v : Parts) (c : Component) (q : Context) (cl : Bool) (depth : ℕ) (g : Gathered) (h : Bool) → flat_of (codes "DESCRIPTION") v q cl depth g h ≡ fault_of name.Description v c q depth g
+at-description v c context.Event cl depth g h = refl
 at-description v c _ cl depth g h = refl
 
-pub at-status : (v : Parts) (c : Component) (q : Place) (cl : Bool) (depth : ℕ) (g : Gathered) (h : Bool) → flat_of (codes "STATUS") v q cl depth g h ≡ fault_of name.Status v c q depth g
-at-status v c place.Event cl depth g h = refl
+pub at-status : (v : Parts) (c : Component) (q : Context) (cl : Bool) (depth : ℕ) (g : Gathered) (h : Bool) → flat_of (codes "STATUS") v q cl depth g h ≡ fault_of name.Status v c q depth g
+at-status v c context.Event cl depth g h = refl
 at-status v c _ cl depth g h = refl
 
-pub at-tzid : (v : Parts) (c : Component) (q : Place) (cl : Bool) (depth : ℕ) (g : Gathered) → flat_of (codes "TZID") v q cl depth g (is_some g.zone.name) ≡ fault_of name.Tzid v c q depth g
-at-tzid v c place.Event cl depth g = refl
+pub at-tzid : (v : Parts) (c : Component) (q : Context) (cl : Bool) (depth : ℕ) (g : Gathered) → flat_of (codes "TZID") v q cl depth g (is_some g.zone.name) ≡ fault_of name.Tzid v c q depth g
+at-tzid v c context.Event cl depth g = refl
 at-tzid v c _ cl depth g = refl
 
-pub at-offset_from : (v : Parts) (c : Component) (q : Place) (cl : Bool) (depth : ℕ) (g : Gathered) → flat_of (codes "TZOFFSETFROM") v q cl depth g (is_some g.observance.from) ≡ fault_of name.OffsetFrom v c q depth g
-at-offset_from v c place.Observance cl depth g = offset-row (offset_of v.value) (fault_if ObservanceField (is_some g.observance.from))
-at-offset_from v c place.Event cl depth g = refl
+pub at-offset_from : (v : Parts) (c : Component) (q : Context) (cl : Bool) (depth : ℕ) (g : Gathered) → flat_of (codes "TZOFFSETFROM") v q cl depth g (is_some g.observance.from) ≡ fault_of name.OffsetFrom v c q depth g
+at-offset_from v c context.Observance cl depth g = offset-row (offset_of v.value) (fault_if ObservanceField (is_some g.observance.from))
+at-offset_from v c context.Event cl depth g = refl
 at-offset_from v c _ cl depth g = refl
 
-pub at-offset_to : (v : Parts) (c : Component) (q : Place) (cl : Bool) (depth : ℕ) (g : Gathered) → flat_of (codes "TZOFFSETTO") v q cl depth g (is_some g.observance.to) ≡ fault_of name.OffsetTo v c q depth g
-at-offset_to v c place.Observance cl depth g = offset-row (offset_of v.value) (fault_if ObservanceField (is_some g.observance.to))
-at-offset_to v c place.Event cl depth g = refl
+pub at-offset_to : (v : Parts) (c : Component) (q : Context) (cl : Bool) (depth : ℕ) (g : Gathered) → flat_of (codes "TZOFFSETTO") v q cl depth g (is_some g.observance.to) ≡ fault_of name.OffsetTo v c q depth g
+at-offset_to v c context.Observance cl depth g = offset-row (offset_of v.value) (fault_if ObservanceField (is_some g.observance.to))
+at-offset_to v c context.Event cl depth g = refl
 at-offset_to v c _ cl depth g = refl
 
 -- what the END of a time zone, and that of an observance, meets
@@ -304,17 +304,17 @@ observance-end true true false = refl
 observance-end true false c = refl
 observance-end false b c = refl
 
-pub at-end : (v : Parts) (c : Component) (q : Place) (cl : Bool) (depth : ℕ) (g : Gathered) (h : Bool) → (is_outside_place q ≡ false → bytes_eq (map upper v.value) (component_name c) ≡ cl) →
+pub at-end : (v : Parts) (c : Component) (q : Context) (cl : Bool) (depth : ℕ) (g : Gathered) (h : Bool) → (is_outside_context q ≡ false → bytes_eq (map upper v.value) (component_name c) ≡ cl) →
     flat_of (codes "END") v q cl depth g h ≡ fault_of name.End v c q depth g
-at-end v c place.Outside true depth g h e = refl
-at-end v c place.Outside false depth g h e = refl
-at-end v c place.Zone true depth g h e = rw (e refl) (zone-end (length g.zone.observances == 0) (is_some g.zone.name))
-at-end v c place.Observance true depth g h e = rw (e refl) (observance-end (is_some g.observance.start) (is_some g.observance.from) (is_some g.observance.to))
+at-end v c context.Outside true depth g h e = refl
+at-end v c context.Outside false depth g h e = refl
+at-end v c context.Zone true depth g h e = rw (e refl) (zone-end (length g.zone.observances == 0) (is_some g.zone.name))
+at-end v c context.Observance true depth g h e = rw (e refl) (observance-end (is_some g.observance.start) (is_some g.observance.from) (is_some g.observance.to))
 at-end v c _ true depth g h e = rw (e refl) refl
 at-end v c _ false depth g h e = rw (e refl) refl
 
 outside-begin : (b : Component) (w : List ℕ) (v : Parts) (c : Component) (cl : Bool) (depth : ℕ) (g : Gathered) (h : Bool) → TellsComponent w b →
-    flat (codes "BEGIN") w v place.Outside cl (nat_le 32 depth) (is_filled g.event.uid) (is_some g.event.start) (bad_end_of g.event) false true h ≡ first (outside_fault place.Outside b) (fault_if TooDeep (nat_le 32 depth))
+    flat (codes "BEGIN") w v context.Outside cl (nat_le 32 depth) (is_filled g.event.uid) (is_some g.event.start) (bad_end_of g.event) false true h ≡ first (outside_fault context.Outside b) (fault_if TooDeep (nat_le 32 depth))
 outside-begin component.Calendar w v c cl depth g h e = rw e refl
 outside-begin component.Event w v c cl depth g h e = rw e refl
 outside-begin component.Zone w v c cl depth g h e = rw e refl
@@ -322,10 +322,10 @@ outside-begin component.Standard w v c cl depth g h e = rw e refl
 outside-begin component.Daylight w v c cl depth g h e = rw e refl
 outside-begin (component.Other n) w v c cl depth g h e = simp e.0.no_calendar refl
 
-pub at-begin : (v : Parts) (c : Component) (q : Place) (cl : Bool) (depth : ℕ) (g : Gathered) (h : Bool) → flat_of (codes "BEGIN") v q cl depth g h ≡ fault_of name.Begin v c q depth g
-at-begin v c place.Outside cl depth g h = outside-begin (component_of (map upper v.value)) (map upper v.value) v c cl depth g h (tells_component (map upper v.value))
+pub at-begin : (v : Parts) (c : Component) (q : Context) (cl : Bool) (depth : ℕ) (g : Gathered) (h : Bool) → flat_of (codes "BEGIN") v q cl depth g h ≡ fault_of name.Begin v c q depth g
+at-begin v c context.Outside cl depth g h = outside-begin (component_of (map upper v.value)) (map upper v.value) v c cl depth g h (tells_component (map upper v.value))
 at-begin v c _ cl depth g h = refl
 
-pub at-other : (u : List ℕ) (v : Parts) (c : Component) (q : Place) (cl : Bool) (depth : ℕ) (g : Gathered) (h : Bool) → IsUnknown u → flat_of u v q cl depth g h ≡ fault_of name.Other v c q depth g
-at-other u v c place.Outside cl depth g h n = simp (n.no_begin, n.no_end, n.no_uid, n.no_dtstart, n.no_dtend, n.no_duration, n.no_rrule, n.no_recurrence_id, n.no_sequence, n.no_rdate, n.no_exdate, n.no_exrule, n.no_version, n.no_tzid, n.no_offset_from, n.no_offset_to) refl
+pub at-other : (u : List ℕ) (v : Parts) (c : Component) (q : Context) (cl : Bool) (depth : ℕ) (g : Gathered) (h : Bool) → IsUnknown u → flat_of u v q cl depth g h ≡ fault_of name.Other v c q depth g
+at-other u v c context.Outside cl depth g h n = simp (n.no_begin, n.no_end, n.no_uid, n.no_dtstart, n.no_dtend, n.no_duration, n.no_rrule, n.no_recurrence_id, n.no_sequence, n.no_rdate, n.no_exdate, n.no_exrule, n.no_version, n.no_tzid, n.no_offset_from, n.no_offset_to) refl
 at-other u v c _ cl depth g h n = simp (n.no_begin, n.no_end, n.no_uid, n.no_dtstart, n.no_dtend, n.no_duration, n.no_rrule, n.no_recurrence_id, n.no_sequence, n.no_rdate, n.no_exdate, n.no_exrule, n.no_version, n.no_tzid, n.no_offset_from, n.no_offset_to) refl

@@ -8,38 +8,37 @@ use Rattle.ics_text.specs.Contents.{Parts, content_of}
 use Rattle.ics_calendar.specs.declared.frame.Frame.{Frame}
 use Rattle.ics_calendar.specs.declared.gathered.EndedEvent.{EndedEvent}
 use Rattle.ics_calendar.specs.declared.gathered.EndedZone.{EndedZone}
-use Rattle.ics_calendar.specs.declared.gathered.Waiting.{Waiting}
-use Rattle.ics_calendar.specs.declared.later.Later.{Later}
-use Rattle.ics_calendar.specs.declared.later.ZoneName.{ZoneName}
-use Rattle.ics_calendar.specs.Collecting.{event_of}
-use Rattle.ics_calendar.specs.Components.{is_calendar_place}
+use Rattle.ics_calendar.specs.declared.gathered.LineCheck.{LineCheck}
+use Rattle.ics_calendar.specs.declared.deferred_check.DeferredCheck.{DeferredCheck}
+use Rattle.ics_calendar.specs.declared.deferred_check.ZoneName.{ZoneName}
+use Rattle.ics_calendar.specs.Builders.{event_of}
+use Rattle.ics_calendar.specs.Components.{is_calendar_context}
 use Rattle.ics_calendar.specs.Event.{EventSeen}
 use Rattle.ics_calendar.specs.Faults.{stands, stands_later, kinds}
 use Rattle.ics_calendar.specs.Files.{event_by, begins_event, said_of, decide}
 use Rattle.ics_calendar.specs.FirstFault.{found, least_on, first_from, first_fault, later_fault, fault_at_end}
-use Rattle.ics_calendar.specs.Gathered.{first_judged, settled_by, settled}
-use Rattle.ics_calendar.specs.Gathering.{nothing_gathered, waits_of}
-use Rattle.ics_calendar.specs.Laters.{KnownZones, known_zones, judged}
-use Rattle.ics_calendar.proofs.Judged.{later_in}
-use Rattle.ics_calendar.specs.Placed.{Placed, Open, path_behind, placed_from, place_of, begins, beside, calendar_of, lines_in}
+use Rattle.ics_calendar.specs.Gathered.{first_judged, settled_by, settled, nothing_gathered, checks_of}
+use Rattle.ics_calendar.specs.DeferredChecks.{KnownZones, known_zones, judged}
+use Rattle.ics_calendar.proofs.Judged.{check_in}
+use Rattle.ics_calendar.specs.Placed.{Placed, Open, path_behind, placed_from, context_of, begins, beside, calendar_of, lines_in}
 use Rattle.ics_calendar.specs.Names.{name_of}
 use Rattle.ics_calendar.specs.Zones.{zones_of, zone_names, zones_on}
 use Rattle.ics_calendar.proofs.Ended.{events, zones}
 use Rattle.ics_calendar.proofs.EventOrder.{events-are}
 use Rattle.ics_calendar.proofs.Frames.{with}
-use Rattle.ics_calendar.proofs.LaterTable.{later-same}
+use Rattle.ics_calendar.proofs.DeferredTable.{later-same}
 use Rattle.ics_calendar.proofs.Order.{found-none, inside, begun, ordered, nested}
-use Rattle.ics_calendar.proofs.PassLemmas.{waits_from, gathered_from, lists, three, with_content}
+use Rattle.ics_calendar.proofs.PassLemmas.{checks_from, gathered_from, lists, three, with_content}
 use Rattle.ics_calendar.proofs.Table.{frame_of}
 use Rattle.ics_calendar.proofs.ZoneOrder.{zones-are, zones-begun, names-begun, calendar-inside}
 
--- WHAT WAITS, judged in order, has the first fault of the second round.
-found-waits : (known : KnownZones) (number : ℕ) (o : Option Later) (ws : List Waiting) → first_judged known (waits_of number o ++ ws) ≡ found number (option_and_then (judged known) o) (first_judged known ws)
-found-waits known number None ws = refl
-found-waits known number (Some l) ws = refl
+-- THE DEFERRED CHECKS, judged in order, give the first fault of the second round.
+found-checks : (known : KnownZones) (number : ℕ) (o : Option DeferredCheck) (ws : List LineCheck) → first_judged known (checks_of number o ++ ws) ≡ found number (option_and_then (judged known) o) (first_judged known ws)
+found-checks known number None ws = refl
+found-checks known number (Some l) ws = refl
 
 abbrev Judges : List Placed → KnownZones → List Placed → List Placed → Type 0
-Judges whole known before lines = first_from stands fault_at_end before lines ≡ None → first_judged known (waits_from whole before lines) ≡ first_from (stands_later known) (λ b. None) before lines
+Judges whole known before lines = first_from stands fault_at_end before lines ≡ None → first_judged known (checks_from whole before lines) ≡ first_from (stands_later known) (λ b. None) before lines
 
 judges : (whole : List Placed) (known : KnownZones) (lines : List Line) (before : List Placed) (path : List Open) → Judges whole known before (placed_from path lines)
 judges whole known [] before path e = refl
@@ -54,20 +53,20 @@ judges whole known (line ∷ lines) before path e = by_content (judges whole kno
         let rest : List Placed = placed_from (path_behind l) lines in
         let behind : List Placed = before ++ l ∷ [] in
         let none = found-none line.number (least_on stands before l) (first_from stands fault_at_end behind rest) e in
-        found-waits known line.number (later_in (name_of (map upper v.name)) v f) (waits_from whole behind rest)
-        ∙ ap (λ k. found line.number k (first_judged known (waits_from whole behind rest))) (sym (later-same whole known line path v (beside before l) (nested (λ kind. stands kind (beside before l) l) none.0)))
+        found-checks known line.number (check_in (name_of (map upper v.name)) v f) (checks_from whole behind rest)
+        ∙ ap (λ k. found line.number k (first_judged known (checks_from whole behind rest))) (sym (later-same whole known line path v (beside before l) (nested (λ kind. stands kind (beside before l) l) none.0)))
         ∙ ap (found line.number (find (λ kind. stands_later known kind (beside before l) l) kinds)) (again behind (path_behind l) none.1)
 
 -- THE EVENTS, by what is gathered.
 events-begun : (index : ZoneName → Option ℕ) (whole ls : List Placed) →
     map (event_of index) (begun events whole ls) ≡ map (λ line. event_by index (calendar_of line.path) (lines_in line.number whole)) (filter begins_event ls)
 events-begun index whole [] = refl
-events-begun index whole (l ∷ ls) = by_test (events-begun index whole ls) (is_calendar_place (place_of l.path)) refl (begins (codes "VEVENT") l)
+events-begun index whole (l ∷ ls) = by_test (events-begun index whole ls) (is_calendar_context (context_of l.path)) refl (begins (codes "VEVENT") l)
   where
     own : Placed → EventSeen
     own line = event_by index (calendar_of line.path) (lines_in line.number whole)
 
-    by_test : map (event_of index) (begun events whole ls) ≡ map own (filter begins_event ls) → (q : Bool) → is_calendar_place (place_of l.path) ≡ q → (t : Bool) →
+    by_test : map (event_of index) (begun events whole ls) ≡ map own (filter begins_event ls) → (q : Bool) → is_calendar_context (context_of l.path) ≡ q → (t : Bool) →
         map (event_of index) (map (λ l. events.by (inside l) (lines_in l.number whole)) (cond (q && t) (l ∷ filter begins_event ls) (filter begins_event ls))) ≡ map own (cond (q && t) (l ∷ filter begins_event ls) (filter begins_event ls))
     by_test rest true e true =
         ap (λ k. event_by index k (lines_in l.number whole) ∷ map (event_of index) (begun events whole ls)) (calendar-inside l e) ∙ ap (λ xs. own l ∷ xs) rest
@@ -81,7 +80,7 @@ settled-is lines r first =
     let whole : List Placed = placed_from [] lines in
     let zs : List EndedZone = begun (zones whole) whole whole in
     let es : List EndedEvent = begun events whole whole in
-    let ws : List Waiting = waits_from whole [] whole in
+    let ws : List LineCheck = checks_from whole [] whole in
     let known : KnownZones = zones_on whole in
     let gathered_is : gathered_from whole nothing_gathered [] whole ≡ lists zs es ws =
     three (ordered (zones whole) (zones-are whole) lines whole [] [] 0 refl tt (omega arith) r (λ e. refl) first) (ordered events events-are lines whole [] [] 0 refl tt (omega arith) r (λ e. refl) first) refl in

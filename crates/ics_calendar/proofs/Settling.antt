@@ -10,16 +10,15 @@ use Rattle.ics_zone.specs.Observances.{phases_of, Phase}
 use Rattle.ics_zone.specs.declared.observance.Observance.{Observance}
 use Rattle.ics_values.specs.declared.local.Local.{Local}
 use Rattle.ics_calendar.specs.declared.fault.FaultKind.{FaultKind}
-use Rattle.ics_calendar.specs.declared.gathered.Waiting.{Waiting}
-use Rattle.ics_calendar.specs.declared.later.Later.{Later}
-use Rattle.ics_calendar.specs.declared.later.ZoneName.{ZoneName}
-use Rattle.ics_calendar.specs.Collecting.{event_of}
+use Rattle.ics_calendar.specs.declared.gathered.LineCheck.{LineCheck}
+use Rattle.ics_calendar.specs.declared.deferred_check.DeferredCheck.{DeferredCheck}
+use Rattle.ics_calendar.specs.declared.deferred_check.ZoneName.{ZoneName}
+use Rattle.ics_calendar.specs.Builders.{event_of}
 use Rattle.ics_calendar.specs.Event.{AreEventsOf, seconds_of}
 use Rattle.ics_calendar.specs.FirstFault.{Fault, found}
-use Rattle.ics_calendar.specs.Gathered.{known_in, first_judged}
+use Rattle.ics_calendar.specs.Gathered.{known_in, first_judged, IsSoundGathered}
 use Rattle.ics_calendar.specs.GatheredSeen.{GatheredSeen}
-use Rattle.ics_calendar.specs.GatheredSound.{IsSoundGathered}
-use Rattle.ics_calendar.specs.Laters.{KnownZones, zone_index, moment_at, judged}
+use Rattle.ics_calendar.specs.DeferredChecks.{KnownZones, zone_index, moment_at, judged}
 use Rattle.ics_calendar.specs.Ready.{IsReady}
 use Rattle.ics_calendar.proofs.EventsOf.{events-of}
 use Rattle.ics_calendar.proofs.Listed.{each-weaker}
@@ -29,25 +28,25 @@ pub moment-here : (zones : List (List Observance)) (local : Local) (i : ℕ) (d 
 moment-here zones local i d l =
     ap (option_map (λ zone. zone_moment zone (seconds_of local))) (slice_get-map phases_of zones i ∙ ap (option_map phases_of) (slice_get-get_or zones i d l))
 
--- WHAT WAITS, where none is a fault.
+-- THE DEFERRED CHECKS, where none finds a fault.
 none-found : (n : ℕ) (k : Option FaultKind) (f : Option Fault) → found n k f ≡ None → (k ≡ None) × (f ≡ None)
 none-found n (Some k) f e = cc
 none-found n None f e = (refl, e)
 
-none-judged : (known : KnownZones) (ws : List Waiting) → first_judged known ws ≡ None → AllByRecursion (λ w. judged known w.later ≡ None) ws
+none-judged : (known : KnownZones) (ws : List LineCheck) → first_judged known ws ≡ None → AllByRecursion (λ w. judged known w.check ≡ None) ws
 none-judged known [] e = tt
-none-judged known (w ∷ ws) e = let n = none-found w.line (judged known w.later) (first_judged known ws) e in (n.0, none-judged known ws n.1)
+none-judged known (w ∷ ws) e = let n = none-found w.line (judged known w.check) (first_judged known ws) e in (n.0, none-judged known ws n.1)
 
-awaited-fine : (known : KnownZones) (laters : List Later) → All (λ l. judged known l ≡ None) laters → (l : Later) → Contains laters l → judged known l ≡ None
-awaited-fine known laters h l c = All-contains (λ l. judged known l ≡ None) laters l h c
+awaited-fine : (known : KnownZones) (bare_checks : List DeferredCheck) → All (λ l. judged known l ≡ None) bare_checks → (l : DeferredCheck) → Contains bare_checks l → judged known l ≡ None
+awaited-fine known bare_checks h l c = All-contains (λ l. judged known l ≡ None) bare_checks l h c
 
-pub ready : (g : GatheredSeen) → IsSoundGathered g → first_judged (known_in g) g.waits ≡ None → All (IsReady (known_in g)) g.events
+pub ready : (g : GatheredSeen) → IsSoundGathered g → first_judged (known_in g) g.checks ≡ None → All (IsReady (known_in g)) g.events
 ready g s n =
-    let fine : All (λ l. judged (known_in g) l ≡ None) (map (λ w. w.later) g.waits) = All-map (λ l. judged (known_in g) l ≡ None) (λ w. w.later) g.waits (All-from_recursion (λ w. judged (known_in g) w.later ≡ None) g.waits (none-judged (known_in g) g.waits n)) in
+    let fine : All (λ l. judged (known_in g) l ≡ None) (map (λ w. w.check) g.checks) = All-map (λ l. judged (known_in g) l ≡ None) (λ w. w.check) g.checks (All-from_recursion (λ w. judged (known_in g) w.check ≡ None) g.checks (none-judged (known_in g) g.checks n)) in
     λ i d l.
     record {
       whole = s.whole i d l;
-      zones = each-weaker (Contains (map (λ w. w.later) g.waits)) (λ l. judged (known_in g) l ≡ None) (awaited-fine (known_in g) _ fine) _ (s.awaited i d l);
+      zones = each-weaker (Contains (map (λ w. w.check) g.checks)) (λ l. judged (known_in g) l ≡ None) (awaited-fine (known_in g) _ fine) _ (s.awaited i d l);
     }
 
 -- THE ANSWER.
@@ -57,10 +56,10 @@ known-is g known e f =
     ∙ ap (λ (zs : List (List Phase)). record { index = zone_index (map (λ z. z.name) g.zones); zones = zs }) f
 
 abbrev pub IsSettled : KnownZones → GatheredSeen → Type 0
-IsSettled known g = (known ≡ known_in g) × (first_judged known g.waits ≡ None)
+IsSettled known g = (known ≡ known_in g) × (first_judged known g.checks ≡ None)
 
 pub ready-here : (g : GatheredSeen) (known : KnownZones) → IsSoundGathered g → IsSettled known g → All (IsReady known) g.events
-ready-here g known s h = subst (λ (k : KnownZones). All (IsReady k) g.events) (sym h.0) (ready g s (ap (λ (k : KnownZones). first_judged k g.waits) (sym h.0) ∙ h.1))
+ready-here g known s h = subst (λ (k : KnownZones). All (IsReady k) g.events) (sym h.0) (ready g s (ap (λ (k : KnownZones). first_judged k g.checks) (sym h.0) ∙ h.1))
 
 pub events-here : (g : GatheredSeen) (known : KnownZones) → IsSoundGathered g → IsSettled known g → AreEventsOf known.zones (map (event_of known.index) g.events)
 events-here g known s h =

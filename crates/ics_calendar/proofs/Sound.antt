@@ -21,26 +21,26 @@ use Rattle.ics_values.specs.declared.rule_text.RuleFault.{RuleFault}
 use Rattle.ics_values.specs.declared.stamp.Stamp.{Stamp}
 use Rattle.ics_values.specs.declared.stamp.Stamp.TheVariants.{Date, Floating, Utc, Zoned}
 use Rattle.ics_values.specs.declared.stamp.StampFault.{StampFault}
-use Rattle.ics_calendar.specs.declared.collected.Collected.{Collected}
+use Rattle.ics_calendar.specs.declared.event_builder.EventBuilder.{EventBuilder}
 use Rattle.ics_calendar.specs.declared.component.Component.{Component}
-use Rattle.ics_calendar.specs.declared.component.Place.{Place}
-use Rattle.ics_calendar.specs.declared.component.Place.TheVariants as place
+use Rattle.ics_calendar.specs.declared.component.Context.{Context}
+use Rattle.ics_calendar.specs.declared.component.Context.TheVariants as context
 use Rattle.ics_calendar.specs.declared.date_values.DateValue.TheVariants.{At, Between, Lasting}
 use Rattle.ics_calendar.specs.declared.dated.Dated.{Dated}
 use Rattle.ics_calendar.specs.declared.frame.Frame.{Frame}
 use Rattle.ics_calendar.specs.declared.name.Name.{Name}
 use Rattle.ics_calendar.specs.declared.name.Name.TheVariants as name
-use Rattle.ics_calendar.specs.declared.summary.ObservanceSummary.{ObservanceSummary}
-use Rattle.ics_calendar.specs.declared.summary.Summary.{Summary}
-use Rattle.ics_calendar.specs.declared.summary.Summary.TheVariants as summary
-use Rattle.ics_calendar.specs.Components.{component_of, place_in}
+use Rattle.ics_calendar.specs.declared.builder.ObservanceBuilder.{ObservanceBuilder}
+use Rattle.ics_calendar.specs.declared.builder.Builder.{Builder}
+use Rattle.ics_calendar.specs.declared.builder.Builder.TheVariants as builder
+use Rattle.ics_calendar.specs.Components.{component_of, context_in}
 use Rattle.ics_calendar.specs.DateValues.{date_time_of, has_slash, rdate_of, rdates_of}
 use Rattle.ics_calendar.specs.Lines.{or_first, opened, end_of_event, end_of_zone}
 use Rattle.ics_calendar.specs.Sound.{IsSoundStamp, IsSoundList, IsSoundLength, IsWhole}
-use Rattle.ics_calendar.specs.Summaries.{fresh, zone_ended, observance_ended}
+use Rattle.ics_calendar.specs.Builders.{fresh, zone_ended, observance_ended, event_ended}
 use Rattle.ics_calendar.specs.Values.{zone_name, dated_of, duration_in, lasting_of, is_lasting, is_fine, is_filled, ends_badly}
 use Rattle.ics_calendar.specs.Zones.{local_in, onset_in, offset_in, daily_in}
-use Rattle.ics_calendar.proofs.Judged.{event_note, zone_note, observance_note, summary_note, joined, closed, behind, behind-is, is_begin_name, is_end_name, end_of, end_fault_at, ended_as, ends, fault_on}
+use Rattle.ics_calendar.proofs.Judged.{event_note, zone_note, observance_note, builder_note, joined, closed, behind, behind-is, is_begin_name, is_end_name, end_of, end_fault_at, ended_as, ends, fault_on}
 use Rattle.ics_calendar.proofs.SoundValues.{stamp-range, sound-stamp, sound-lasting, sound-rdates, sound-exdates}
 use Rattle.ics_values.specs.Locals.{local_at}
 use Rattle.ics_values.specs.declared.duration.Duration.{Duration}
@@ -49,15 +49,14 @@ use Rattle.ics_values.specs.declared.frequency.Frequency.TheVariants as frequenc
 use Rattle.ics_zone.specs.Observances.{is_finer_than_daily, is_finer_rule, Phase}
 use Rattle.ics_zone.specs.Years.{is_stamp_local}
 use Rattle.ics_calendar.specs.declared.fault.FaultKind.TheVariants.{NoObservance, ObservanceField, MissingUid, MissingStart, BadEnd}
-use Rattle.ics_calendar.specs.Collecting.{event_ended}
-use Rattle.ics_calendar.specs.Gathering.{zones_of_end, events_of_end}
+use Rattle.ics_calendar.specs.Gathered.{zones_of_end, events_of_end}
 use Rattle.ics_calendar.specs.Times.{dated_in, given_length}
 use Rattle.ics_calendar.specs.ZonesSound.{IsSoundPhase, IsSoundZone}
-use Rattle.ics_calendar.specs.declared.summary.ZoneSummary.{ZoneSummary}
+use Rattle.ics_calendar.specs.declared.builder.ZoneBuilder.{ZoneBuilder}
 use Rattle.ics_calendar.specs.declared.gathered.EndedZone.{EndedZone}
 
 -- WHAT IS COLLECTED of an event: stamps in the years of stamps, and durations that an event may have.
-pub record IsSound (had : Collected) : Type 0 where
+pub record IsSound (had : EventBuilder) : Type 0 where
   pub start : IfSome had.start (λ dated. IsSoundStamp dated.stamp)
   pub end : IfSome had.end (λ dated. IsSoundStamp dated.stamp)
   pub duration : IfSome had.duration (λ duration. is_lasting duration ≡ true)
@@ -69,7 +68,7 @@ pub record IsSound (had : Collected) : Type 0 where
 abbrev pub IsSoundLocal : Local → Type 0
 IsSoundLocal local = IsStampDay local.day
 
-pub record IsSoundPart (had : ObservanceSummary) : Type 0 where
+pub record IsSoundPart (had : ObservanceBuilder) : Type 0 where
   pub start : IfSome had.start IsSoundLocal
   pub from : IfSome had.from (IsWithin 86_399)
   pub to : IfSome had.to (IsWithin 86_399)
@@ -77,18 +76,18 @@ pub record IsSoundPart (had : ObservanceSummary) : Type 0 where
   pub rdates : All IsSoundLocal had.rdates
 
 -- what is collected is of the kind that stands there, and in order
-abbrev pub IsSoundAt : Place → Summary → Type 0
-IsSoundAt place.Event (summary.Event had) = IsSound had
-IsSoundAt place.Zone (summary.Zone had) = All IsSoundPhase had.observances
-IsSoundAt place.Observance (summary.Observance had) = IsSoundPart had
-IsSoundAt place.Outside summary.Nothing = Unit {0}
-IsSoundAt place.Calendar summary.Nothing = Unit {0}
-IsSoundAt place.Elsewhere summary.Nothing = Unit {0}
+abbrev pub IsSoundAt : Context → Builder → Type 0
+IsSoundAt context.Event (builder.Event had) = IsSound had
+IsSoundAt context.Zone (builder.Zone had) = All IsSoundPhase had.observances
+IsSoundAt context.Observance (builder.Observance had) = IsSoundPart had
+IsSoundAt context.Outside builder.Nothing = Unit {0}
+IsSoundAt context.Calendar builder.Nothing = Unit {0}
+IsSoundAt context.Elsewhere builder.Nothing = Unit {0}
 IsSoundAt _ _ = ⊥
 
 abbrev pub AreSound : List Frame → Type 0
 AreSound [] = Unit {0}
-AreSound (f ∷ fs) = IsSoundAt f.place f.summary × AreSound fs
+AreSound (f ∷ fs) = IsSoundAt f.context f.builder × AreSound fs
 
 -- An offset is less than a day.
 offset-small : (text : List ℕ) → is_offset_text text ≡ true → offset_size text ≤ 86_399
@@ -184,7 +183,7 @@ IsSoundDated d = IsSoundStamp d.stamp
 dated-sound : (v : Parts) → IsSoundDated (dated_of v.params v.value)
 dated-sound v = sound-stamp (is_some (zone_name v.params)) v.value
 
-noted-sound : (n : Name) (v : Parts) (had : Collected) → IsSound had → IsSound (event_note n v had)
+noted-sound : (n : Name) (v : Parts) (had : EventBuilder) → IsSound had → IsSound (event_note n v had)
 noted-sound name.Dtstart v had s = record { start = first-kept IsSoundDated had.start (dated_of v.params v.value) s.start (dated-sound v); end = s.end; duration = s.duration; rdates = s.rdates; exdates = s.exdates; recurrence = s.recurrence }
 noted-sound name.Dtend v had s = record { start = s.start; end = first-kept IsSoundDated had.end (dated_of v.params v.value) s.end (dated-sound v); duration = s.duration; rdates = s.rdates; exdates = s.exdates; recurrence = s.recurrence }
 noted-sound name.Duration v had s = record {
@@ -200,7 +199,7 @@ noted-sound name.Exdate v had s = record { start = s.start; end = s.end; duratio
 noted-sound name.RecurrenceId v had s = record { start = s.start; end = s.end; duration = s.duration; rdates = s.rdates; exdates = s.exdates; recurrence = first-kept IsSoundDated had.recurrence (dated_of v.params v.value) s.recurrence (dated-sound v) }
 noted-sound _ v had s = record { start = s.start; end = s.end; duration = s.duration; rdates = s.rdates; exdates = s.exdates; recurrence = s.recurrence }
 
-noted-part : (n : Name) (v : Parts) (had : ObservanceSummary) → IsSoundPart had → IsSoundPart (observance_note n v had)
+noted-part : (n : Name) (v : Parts) (had : ObservanceBuilder) → IsSoundPart had → IsSoundPart (observance_note n v had)
 noted-part name.Dtstart v had s = record { start = first-kept IsSoundLocal had.start (onset_in (stamp_of false v.value)) s.start (onset-sound v.value); from = s.from; to = s.to; rule = s.rule; rdates = s.rdates }
 noted-part name.OffsetFrom v had s = record { start = s.start; from = first-kept (IsWithin 86_399) had.from (offset_in (offset_of v.value)) s.from (offset-sound v.value); to = s.to; rule = s.rule; rdates = s.rdates }
 noted-part name.OffsetTo v had s = record { start = s.start; from = s.from; to = first-kept (IsWithin 86_399) had.to (offset_in (offset_of v.value)) s.to (offset-sound v.value); rule = s.rule; rdates = s.rdates }
@@ -208,23 +207,23 @@ noted-part name.Rrule v had s = record { start = s.start; from = s.from; to = s.
 noted-part name.Rdate v had s = record { start = s.start; from = s.from; to = s.to; rule = s.rule; rdates = All-append IsSoundLocal had.rdates (filter_map local_in (rdates_of false v.value)) s.rdates (locals-sound (pieces 44 v.value)) }
 noted-part _ v had s = record { start = s.start; from = s.from; to = s.to; rule = s.rule; rdates = s.rdates }
 
-kept-zone : (n : Name) (v : Parts) (had : ZoneSummary) → All IsSoundPhase had.observances → All IsSoundPhase (zone_note n v had).observances
+kept-zone : (n : Name) (v : Parts) (had : ZoneBuilder) → All IsSoundPhase had.observances → All IsSoundPhase (zone_note n v had).observances
 kept-zone name.Tzid v had h = h
 kept-zone _ v had h = h
 
-kept-at : (q : Place) (n : Name) (v : Parts) (s : Summary) → IsSoundAt q s → IsSoundAt q (summary_note n v s)
-kept-at place.Event n v (summary.Event had) h = noted-sound n v had h
-kept-at place.Observance n v (summary.Observance had) h = noted-part n v had h
-kept-at place.Zone n v (summary.Zone had) h = kept-zone n v had h
-kept-at place.Outside n v summary.Nothing h = tt
-kept-at place.Calendar n v summary.Nothing h = tt
-kept-at place.Elsewhere n v summary.Nothing h = tt
+kept-at : (q : Context) (n : Name) (v : Parts) (s : Builder) → IsSoundAt q s → IsSoundAt q (builder_note n v s)
+kept-at context.Event n v (builder.Event had) h = noted-sound n v had h
+kept-at context.Observance n v (builder.Observance had) h = noted-part n v had h
+kept-at context.Zone n v (builder.Zone had) h = kept-zone n v had h
+kept-at context.Outside n v builder.Nothing h = tt
+kept-at context.Calendar n v builder.Nothing h = tt
+kept-at context.Elsewhere n v builder.Nothing h = tt
 kept-at _ n v _ h = absurd h
 
-fresh-sound : (q : Place) → IsSoundAt q (fresh q)
-fresh-sound place.Event = record { start = tt; end = tt; duration = tt; rdates = All-nil IsSoundList; exdates = All-nil IsSoundList; recurrence = tt }
-fresh-sound place.Observance = record { start = tt; from = tt; to = tt; rule = tt; rdates = All-nil IsSoundLocal }
-fresh-sound place.Zone = All-nil IsSoundPhase
+fresh-sound : (q : Context) → IsSoundAt q (fresh q)
+fresh-sound context.Event = record { start = tt; end = tt; duration = tt; rdates = All-nil IsSoundList; exdates = All-nil IsSoundList; recurrence = tt }
+fresh-sound context.Observance = record { start = tt; from = tt; to = tt; rule = tt; rdates = All-nil IsSoundLocal }
+fresh-sound context.Zone = All-nil IsSoundPhase
 fresh-sound _ = tt
 
 -- AN OBSERVANCE is one that a time zone may have.
@@ -258,27 +257,27 @@ rule-daily : (o : Option RuleParts) → IfSome o (λ rule. is_fine rule.frequenc
 rule-daily None h = refl
 rule-daily (Some parts) h = daily parts.frequency h
 
-part-sound : (had : ObservanceSummary) → IsSoundPart had → IsSoundPhase (observance_ended had)
+part-sound : (had : ObservanceBuilder) → IsSoundPart had → IsSoundPhase (observance_ended had)
 part-sound had s = record {
   bounds = record { start_in = onset-day had.start s.start; from_in = offset-there had.from s.from; to_in = offset-there had.to s.to };
   rdates = locals-tests had.rdates s.rdates;
   daily = rule-daily had.rule s.rule;
 }
 
-joined-sound : (p : Place) (s : Summary) (q : Place) (t : Summary) → IsSoundAt p s → IsSoundAt q t → IsSoundAt q (joined s t)
-joined-sound p (summary.Event had) q t h k = k
-joined-sound p (summary.Zone had) q t h k = k
-joined-sound p summary.Nothing q t h k = k
-joined-sound p (summary.Observance had) q (summary.Event e) h k = k
-joined-sound p (summary.Observance had) q (summary.Observance e) h k = k
-joined-sound p (summary.Observance had) q summary.Nothing h k = k
-joined-sound place.Observance (summary.Observance had) place.Zone (summary.Zone zone) h k = All-push IsSoundPhase zone.observances (observance_ended had) k (part-sound had h)
-joined-sound place.Observance (summary.Observance had) _ (summary.Zone zone) h k = absurd k
-joined-sound _ (summary.Observance had) q (summary.Zone zone) h k = absurd h
+joined-sound : (p : Context) (s : Builder) (q : Context) (t : Builder) → IsSoundAt p s → IsSoundAt q t → IsSoundAt q (joined s t)
+joined-sound p (builder.Event had) q t h k = k
+joined-sound p (builder.Zone had) q t h k = k
+joined-sound p builder.Nothing q t h k = k
+joined-sound p (builder.Observance had) q (builder.Event e) h k = k
+joined-sound p (builder.Observance had) q (builder.Observance e) h k = k
+joined-sound p (builder.Observance had) q builder.Nothing h k = k
+joined-sound context.Observance (builder.Observance had) context.Zone (builder.Zone zone) h k = All-push IsSoundPhase zone.observances (observance_ended had) k (part-sound had h)
+joined-sound context.Observance (builder.Observance had) _ (builder.Zone zone) h k = absurd k
+joined-sound _ (builder.Observance had) q (builder.Zone zone) h k = absurd h
 
 closed-sound : (f : Frame) (fs : List Frame) → AreSound (f ∷ fs) → AreSound (closed (f ∷ fs))
 closed-sound f [] s = s
-closed-sound f (g ∷ gs) s = (joined-sound f.place f.summary g.place g.summary s.0 s.1.0, s.1.1)
+closed-sound f (g ∷ gs) s = (joined-sound f.context f.builder g.context g.builder s.0 s.1.0, s.1.1)
 
 pub sound-behind : (number : ℕ) (n : Name) (v : Parts) (f : Frame) (fs : List Frame) → AreSound (f ∷ fs) → AreSound (behind number n v (f ∷ fs))
 sound-behind number n v f fs s = subst (λ (gs : List Frame). AreSound gs) (sym (behind-is number n v f fs)) (by_tests (is_begin_name n) (is_end_name n))
@@ -286,10 +285,10 @@ sound-behind number n v f fs s = subst (λ (gs : List Frame). AreSound gs) (sym 
     c : Component
     c = component_of (map upper v.value)
 
-    by_tests : (b e : Bool) → AreSound (cond b (opened number c (f ∷ fs)) (cond e (closed (f ∷ fs)) (record f { summary = summary_note n v f.summary } ∷ fs)))
-    by_tests true e = (fresh-sound (place_in f.place c), s)
+    by_tests : (b e : Bool) → AreSound (cond b (opened number c (f ∷ fs)) (cond e (closed (f ∷ fs)) (record f { builder = builder_note n v f.builder } ∷ fs)))
+    by_tests true e = (fresh-sound (context_in f.context c), s)
     by_tests false true = closed-sound f fs s
-    by_tests false false = (kept-at f.place n v f.summary s.0, s.1)
+    by_tests false false = (kept-at f.context n v f.builder s.0, s.1)
 
 -- AN EVENT is in order as far as locals say.
 filled-not-empty : (o : Option (List ℕ)) → is_filled o ≡ true → unwrap_or o [] ≢ []
@@ -304,7 +303,7 @@ at-end true true true e h = cc
 at-end true true false true h = cc
 at-end true true false false h = (refl, refl, refl)
 
-whole-event : (k : ℕ) (had : Collected) → IsSound had → end_of_event had ≡ None → IsWhole (event_ended k had)
+whole-event : (k : ℕ) (had : EventBuilder) → IsSound had → end_of_event had ≡ None → IsWhole (event_ended k had)
 whole-event k had s e =
     let tests = at-end (is_filled had.uid) (is_some had.start) (is_some had.end && is_some had.duration) (ends_badly had.start had.end) e in
     let times = by_times had.start had.end had.duration s.start s.end s.duration tests.1 tests.2 in
@@ -317,37 +316,37 @@ whole-event k had s e =
     by_times (Some d) None (Some e) a b c t f = (a, c)
     by_times (Some d) None None a b c t f = (a, tt)
 
-pub end-none : (q : Place) (matches : Bool) (s : Summary) → end_fault_at q matches s ≡ None → end_of s ≡ None
-end-none place.Outside matches s e = cc
-end-none place.Calendar true s e = e
-end-none place.Calendar false s e = cc
-end-none place.Event true s e = e
-end-none place.Event false s e = cc
-end-none place.Zone true s e = e
-end-none place.Zone false s e = cc
-end-none place.Observance true s e = e
-end-none place.Observance false s e = cc
-end-none place.Elsewhere true s e = e
-end-none place.Elsewhere false s e = cc
+pub end-none : (q : Context) (matches : Bool) (s : Builder) → end_fault_at q matches s ≡ None → end_of s ≡ None
+end-none context.Outside matches s e = cc
+end-none context.Calendar true s e = e
+end-none context.Calendar false s e = cc
+end-none context.Event true s e = e
+end-none context.Event false s e = cc
+end-none context.Zone true s e = e
+end-none context.Zone false s e = cc
+end-none context.Observance true s e = e
+end-none context.Observance false s e = cc
+end-none context.Elsewhere true s e = e
+end-none context.Elsewhere false s e = cc
 
 pub events-whole : (n : Name) (v : Parts) (frames : List Frame) → fault_on n v frames ≡ None → AreSound frames → All IsWhole (events_of_end (ends n frames))
 events-whole name.End v [] e s = All-nil IsWhole
 events-whole name.End v (f ∷ []) e s = All-nil IsWhole
-events-whole name.End v (f ∷ g ∷ gs) e s = by_summary f.place f.summary (end-none f.place _ f.summary e) s.0
+events-whole name.End v (f ∷ g ∷ gs) e s = by_builder f.context f.builder (end-none f.context _ f.builder e) s.0
   where
-    by_summary : (q : Place) (s : Summary) → end_of s ≡ None → IsSoundAt q s → All IsWhole (events_of_end (ended_as f.calendar s))
-    by_summary place.Event (summary.Event had) e h = All-cons IsWhole (event_ended f.calendar had) [] (whole-event f.calendar had h e) (All-nil IsWhole)
-    by_summary _ (summary.Event had) e h = absurd h
-    by_summary q (summary.Observance had) e h = All-nil IsWhole
-    by_summary q (summary.Zone had) e h = All-nil IsWhole
-    by_summary q summary.Nothing e h = All-nil IsWhole
+    by_builder : (q : Context) (s : Builder) → end_of s ≡ None → IsSoundAt q s → All IsWhole (events_of_end (ended_as f.calendar s))
+    by_builder context.Event (builder.Event had) e h = All-cons IsWhole (event_ended f.calendar had) [] (whole-event f.calendar had h e) (All-nil IsWhole)
+    by_builder _ (builder.Event had) e h = absurd h
+    by_builder q (builder.Observance had) e h = All-nil IsWhole
+    by_builder q (builder.Zone had) e h = All-nil IsWhole
+    by_builder q builder.Nothing e h = All-nil IsWhole
 events-whole _ v frames e s = All-nil IsWhole
 
 -- A TIME ZONE THAT ENDS has an observance.
 abbrev IsSoundEnded : EndedZone → Type 0
 IsSoundEnded zone = IsSoundZone zone.observances
 
-zone-filled : (had : ZoneSummary) → end_of_zone had ≡ None → had.observances ≢ []
+zone-filled : (had : ZoneBuilder) → end_of_zone had ≡ None → had.observances ≢ []
 zone-filled had e none =
     let bad : Some NoObservance ≡ None = ap (λ (os : List Phase). cond (length os == 0) (Some NoObservance) (cond (not (is_some had.name)) (Some ObservanceField) None)) (sym none) ∙ e in
     cc
@@ -355,12 +354,12 @@ zone-filled had e none =
 pub zones-sound : (n : Name) (v : Parts) (frames : List Frame) → fault_on n v frames ≡ None → AreSound frames → All (λ z. IsSoundZone z.observances) (zones_of_end (ends n frames))
 zones-sound name.End v [] e s = All-nil IsSoundEnded
 zones-sound name.End v (f ∷ []) e s = All-nil IsSoundEnded
-zones-sound name.End v (f ∷ g ∷ gs) e s = by_summary f.place f.summary (end-none f.place _ f.summary e) s.0
+zones-sound name.End v (f ∷ g ∷ gs) e s = by_builder f.context f.builder (end-none f.context _ f.builder e) s.0
   where
-    by_summary : (q : Place) (s : Summary) → end_of s ≡ None → IsSoundAt q s → All IsSoundEnded (zones_of_end (ended_as f.calendar s))
-    by_summary place.Zone (summary.Zone had) e h = All-cons IsSoundEnded (zone_ended f.calendar had) [] (record { filled = zone-filled had e; sound = h }) (All-nil IsSoundEnded)
-    by_summary _ (summary.Zone had) e h = absurd h
-    by_summary q (summary.Observance had) e h = All-nil IsSoundEnded
-    by_summary q (summary.Event had) e h = All-nil IsSoundEnded
-    by_summary q summary.Nothing e h = All-nil IsSoundEnded
+    by_builder : (q : Context) (s : Builder) → end_of s ≡ None → IsSoundAt q s → All IsSoundEnded (zones_of_end (ended_as f.calendar s))
+    by_builder context.Zone (builder.Zone had) e h = All-cons IsSoundEnded (zone_ended f.calendar had) [] (record { filled = zone-filled had e; sound = h }) (All-nil IsSoundEnded)
+    by_builder _ (builder.Zone had) e h = absurd h
+    by_builder q (builder.Observance had) e h = All-nil IsSoundEnded
+    by_builder q (builder.Event had) e h = All-nil IsSoundEnded
+    by_builder q builder.Nothing e h = All-nil IsSoundEnded
 zones-sound _ v frames e s = All-nil IsSoundEnded

@@ -6,8 +6,7 @@ use Rattle.ics_calendar.specs.Event.{FileSaid}
 use Rattle.ics_calendar.specs.Faults.{stands, stands_later}
 use Rattle.ics_calendar.specs.FirstFault.{Fault, IsFirst, IsFirstOrLast, NoneStand, first_fault, later_fault, fault_at_end}
 use Rattle.ics_calendar.specs.Files.{IsFile, bad_fold, file_of, decide, said_of}
-use Rattle.ics_calendar.specs.Gathered.{settled_of}
-use Rattle.ics_calendar.specs.Gathering.{nothing_gathered}
+use Rattle.ics_calendar.specs.Gathered.{settled_of, nothing_gathered}
 use Rattle.ics_calendar.specs.Pass.{pass, bottom, unless}
 use Rattle.ics_calendar.specs.Placed.{Placed, placed}
 use Rattle.ics_calendar.specs.Seen.{NumbersFit}

@@ -5,20 +5,21 @@ use Rattle.std.specs.Str.{bytes_eq}
 use Rattle.std.proofs.lemmas.Simd.{map-map}
 use Rattle.ics_calendar.specs.declared.component.Component.{Component}
 use Rattle.ics_calendar.specs.declared.component.Component.TheVariants as component
-use Rattle.ics_calendar.specs.declared.component.Place.{Place}
-use Rattle.ics_calendar.specs.declared.component.Place.TheVariants as place
+use Rattle.ics_calendar.specs.declared.component.Context.{Context}
+use Rattle.ics_calendar.specs.declared.component.Context.TheVariants as context
 use Rattle.ics_calendar.specs.declared.gathered.EndedZone.{EndedZone}
-use Rattle.ics_calendar.specs.declared.later.ZoneName.{ZoneName}
+use Rattle.ics_calendar.specs.declared.deferred_check.ZoneName.{ZoneName}
 use Rattle.ics_calendar.specs.declared.name.Name.TheVariants as name
-use Rattle.ics_calendar.specs.Components.{component_of, place_in, is_calendar_place, is_zone_place}
+use Rattle.ics_calendar.specs.Components.{component_of, context_in, is_calendar_context, is_zone_context}
 use Rattle.ics_calendar.specs.Names.{name_of}
-use Rattle.ics_calendar.specs.Placed.{Placed, Open, property_name, place_of, is_begin, begins, component, calendar_of, lines_in}
+use Rattle.ics_calendar.specs.Placed.{Placed, Open, property_name, context_of, is_begin, begins, component, calendar_of, lines_in}
 use Rattle.ics_calendar.specs.Faults.{first_text}
-use Rattle.ics_calendar.specs.Summaries.{zone_of, zone_ended}
+use Rattle.ics_calendar.proofs.Built.{zone_of}
+use Rattle.ics_calendar.specs.Builders.{zone_ended}
 use Rattle.ics_calendar.specs.Zones.{begins_zone, zone_by, name_by}
-use Rattle.ics_calendar.proofs.NameLemmas.{TellsComponent, tells, tells_component, place-in-outside}
-use Rattle.ics_calendar.proofs.Collects.{parts_at}
-use Rattle.ics_calendar.proofs.SummaryLemmas.{zone_of-more, parts-same}
+use Rattle.ics_calendar.proofs.NameLemmas.{TellsComponent, tells, tells_component, context-in-outside}
+use Rattle.ics_calendar.proofs.EventBuilderLemmas.{parts_at}
+use Rattle.ics_calendar.proofs.BuilderLemmas.{zone_of-more, parts-same}
 use Rattle.ics_calendar.proofs.Judged.{zone_note, is_begin_name}
 use Rattle.ics_calendar.proofs.EventOrder.{calendar-from}
 use Rattle.ics_calendar.proofs.Frames.{begin-is}
@@ -33,43 +34,43 @@ zone-end whole ls l e =
     ap (λ os. zone_of os (ls ++ l ∷ [])) (parts-same whole ls l not_begin) ∙ zone_of-more (parts whole ls) ls l ∙ ap (λ n. zone_note n (parts_at l) (zone_of (parts whole ls) ls)) e
 
 -- a time zone begins exactly on a VTIMEZONE in a calendar
-zone-begins : (q : Place) (w : List ℕ) → is_zone_place (place_in q (component_of w)) ≡ (is_calendar_place q && bytes_eq w (codes "VTIMEZONE"))
-zone-begins q w = by_place q (component_of w) (tells_component w)
+zone-begins : (q : Context) (w : List ℕ) → is_zone_context (context_in q (component_of w)) ≡ (is_calendar_context q && bytes_eq w (codes "VTIMEZONE"))
+zone-begins q w = by_context q (component_of w) (tells_component w)
   where
-    by_place : (q : Place) (c : Component) → TellsComponent w c → is_zone_place (place_in q c) ≡ (is_calendar_place q && bytes_eq w (codes "VTIMEZONE"))
-    by_place place.Outside component.Calendar e = refl
-    by_place place.Outside _ e = refl
-    by_place place.Calendar (component.Other n) e = sym e.0.no_zone
-    by_place place.Calendar component.Zone e = rw e refl
-    by_place place.Calendar _ e = rw e refl
-    by_place place.Zone component.Standard e = refl
-    by_place place.Zone _ e = refl
-    by_place _ c e = refl
+    by_context : (q : Context) (c : Component) → TellsComponent w c → is_zone_context (context_in q c) ≡ (is_calendar_context q && bytes_eq w (codes "VTIMEZONE"))
+    by_context context.Outside component.Calendar e = refl
+    by_context context.Outside _ e = refl
+    by_context context.Calendar (component.Other n) e = sym e.0.no_zone
+    by_context context.Calendar component.Zone e = rw e refl
+    by_context context.Calendar _ e = rw e refl
+    by_context context.Zone component.Standard e = refl
+    by_context context.Zone _ e = refl
+    by_context _ c e = refl
 
 -- a calendar stands in nothing
-zone-from : (q : Place) (c : Component) → is_zone_place (place_in q c) ≡ true → is_calendar_place q ≡ true
-zone-from place.Outside component.Calendar e = cc
-zone-from place.Outside _ e = cc
-zone-from place.Calendar c e = refl
-zone-from place.Zone component.Standard e = cc
-zone-from place.Zone _ e = cc
+zone-from : (q : Context) (c : Component) → is_zone_context (context_in q c) ≡ true → is_calendar_context q ≡ true
+zone-from context.Outside component.Calendar e = cc
+zone-from context.Outside _ e = cc
+zone-from context.Calendar c e = refl
+zone-from context.Zone component.Standard e = cc
+zone-from context.Zone _ e = cc
 zone-from _ c e = cc
 
-module _ {X : Type 0} (s : Sort X) (out : (q : Place) → is_calendar_place q ≡ true → s.stands_at q ≡ false) where
-  calendar-holds : (whole : List Placed) (path : List Open) → is_calendar_place (place_of path) ≡ true → open_as s whole path ≡ []
+module _ {X : Type 0} (s : Sort X) (out : (q : Context) → is_calendar_context q ≡ true → s.stands_at q ≡ false) where
+  calendar-holds : (whole : List Placed) (path : List Open) → is_calendar_context (context_of path) ≡ true → open_as s whole path ≡ []
   calendar-holds whole [] e = refl
-  calendar-holds whole (c ∷ []) e = rw (out (place_of (c ∷ [])) e) refl
-  calendar-holds whole (c ∷ d ∷ ds) e = absurd (place-in-outside (place_of ds) (component_of d.name) (calendar-from (place_of (d ∷ ds)) (component_of c.name) e))
+  calendar-holds whole (c ∷ []) e = rw (out (context_of (c ∷ [])) e) refl
+  calendar-holds whole (c ∷ d ∷ ds) e = absurd (context-in-outside (context_of ds) (component_of d.name) (calendar-from (context_of (d ∷ ds)) (component_of c.name) e))
 
-calendar-no-zone : (q : Place) → is_calendar_place q ≡ true → is_zone_place q ≡ false
-calendar-no-zone place.Calendar e = refl
-calendar-no-zone place.Zone e = cc
+calendar-no-zone : (q : Context) → is_calendar_context q ≡ true → is_zone_context q ≡ false
+calendar-no-zone context.Calendar e = refl
+calendar-no-zone context.Zone e = cc
 calendar-no-zone _ e = refl
 
 pub zones-are : (whole : List Placed) → IsSort (zones whole)
 zones-are whole = record {
-  starts = λ l. reorder (is_calendar_place (place_of l.path)) (is_begin l) (bytes_eq (component l) (codes "VTIMEZONE")) ∙ ap (λ t. is_begin l && t) (sym (zone-begins (place_of l.path) (component l)));
-  alone = λ all l e. calendar-holds (zones whole) calendar-no-zone all l.path (zone-from (place_of l.path) (component_of (component l)) e);
+  starts = λ l. reorder (is_calendar_context (context_of l.path)) (is_begin l) (bytes_eq (component l) (codes "VTIMEZONE")) ∙ ap (λ t. is_begin l && t) (sym (zone-begins (context_of l.path) (component l)));
+  alone = λ all l e. calendar-holds (zones whole) calendar-no-zone all l.path (zone-from (context_of l.path) (component_of (component l)) e);
   ends = λ path ls l e. ap (zone_ended (calendar_of path)) (zone-end whole ls l e);
 }
   where
@@ -84,19 +85,19 @@ pub zones-begun : (whole ls : List Placed) → map (λ z. z.observances) (begun 
 zones-begun whole ls = map-map (λ (z : EndedZone). z.observances) (λ (l : Placed). (zones whole).by (inside l) (lines_in l.number whole)) (filter begins_zone ls)
 
 -- what begins directly in a calendar belongs to that
-pub calendar-inside : (l : Placed) → is_calendar_place (place_of l.path) ≡ true → calendar_of (inside l) ≡ calendar_of l.path
+pub calendar-inside : (l : Placed) → is_calendar_context (context_of l.path) ≡ true → calendar_of (inside l) ≡ calendar_of l.path
 calendar-inside l = by_path l.path
   where
-    by_path : (path : List Open) → is_calendar_place (place_of path) ≡ true → calendar_of (record { name = component l; begun = l.number } ∷ path) ≡ calendar_of path
+    by_path : (path : List Open) → is_calendar_context (context_of path) ≡ true → calendar_of (record { name = component l; begun = l.number } ∷ path) ≡ calendar_of path
     by_path [] e = cc
     by_path (c ∷ cs) e = refl
 
 -- the names of the zones
 pub names-begun : (whole ls : List Placed) → map (name_by whole) (filter begins_zone ls) ≡ map (λ z. z.name) (begun (zones whole) whole ls)
 names-begun whole [] = refl
-names-begun whole (l ∷ ls) = by_test (names-begun whole ls) (is_calendar_place (place_of l.path)) refl (begins (codes "VTIMEZONE") l)
+names-begun whole (l ∷ ls) = by_test (names-begun whole ls) (is_calendar_context (context_of l.path)) refl (begins (codes "VTIMEZONE") l)
   where
-    by_test : map (name_by whole) (filter begins_zone ls) ≡ map (λ z. z.name) (begun (zones whole) whole ls) → (q : Bool) → is_calendar_place (place_of l.path) ≡ q → (t : Bool) →
+    by_test : map (name_by whole) (filter begins_zone ls) ≡ map (λ z. z.name) (begun (zones whole) whole ls) → (q : Bool) → is_calendar_context (context_of l.path) ≡ q → (t : Bool) →
         map (name_by whole) (cond (q && t) (l ∷ filter begins_zone ls) (filter begins_zone ls))
         ≡ map (λ z. z.name) (map (λ l. (zones whole).by (inside l) (lines_in l.number whole)) (cond (q && t) (l ∷ filter begins_zone ls) (filter begins_zone ls)))
     by_test rest true e true =

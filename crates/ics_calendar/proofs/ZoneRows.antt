@@ -3,7 +3,7 @@ use Rattle.std.proofs.Common.{◌≡◌, ℕ, List, [], ◌∷◌, ◌++◌, map
 use Rattle.std.specs.Prelude.{codes, length}
 use Rattle.ics_zone.specs.Observances.{Phase}
 use Rattle.ics_calendar.specs.Placed.{placed}
-use Rattle.ics_calendar.specs.Laters.{zone_index}
+use Rattle.ics_calendar.specs.DeferredChecks.{zone_index}
 use Rattle.ics_calendar.specs.Zones.{zones_of, zone_names}
 use Rattle.ics_calendar.proofs.ExampleFiles.{calendar}
 

@@ -3,8 +3,8 @@ use Rattle.std.specs.Prelude.{ℕ, Bool, true, false, List, codes, if◌then◌e
 use Rattle.std.specs.Str.{bytes_eq}
 use Rattle.ics_calendar.specs.declared.component.Component.{Component}
 use Rattle.ics_calendar.specs.declared.component.Component.TheVariants as component
-use Rattle.ics_calendar.specs.declared.component.Place.{Place}
-use Rattle.ics_calendar.specs.declared.component.Place.TheVariants as place
+use Rattle.ics_calendar.specs.declared.component.Context.{Context}
+use Rattle.ics_calendar.specs.declared.component.Context.TheVariants as context
 
 -- the component that a name in upper case stands for
 abbrev pub component_of : List ℕ → Component
@@ -25,30 +25,30 @@ component_name component.Daylight = codes "DAYLIGHT"
 component_name (component.Other name) = name
 
 -- Where the lines of a component stand, by where its BEGIN line stands. A calendar stands outside all components, an event or a time zone in a calendar, and an observance in a time zone. No line of any other component is read.
-abbrev pub place_in : Place → Component → Place
-place_in place.Outside component.Calendar = place.Calendar
-place_in place.Calendar component.Event = place.Event
-place_in place.Calendar component.Zone = place.Zone
-place_in place.Zone component.Standard = place.Observance
-place_in place.Zone component.Daylight = place.Observance
-place_in _ _ = place.Elsewhere
+abbrev pub context_in : Context → Component → Context
+context_in context.Outside component.Calendar = context.Calendar
+context_in context.Calendar component.Event = context.Event
+context_in context.Calendar component.Zone = context.Zone
+context_in context.Zone component.Standard = context.Observance
+context_in context.Zone component.Daylight = context.Observance
+context_in _ _ = context.Elsewhere
 
-abbrev pub is_outside_place : Place → Bool
-is_outside_place place.Outside = true
-is_outside_place _ = false
+abbrev pub is_outside_context : Context → Bool
+is_outside_context context.Outside = true
+is_outside_context _ = false
 
-abbrev pub is_calendar_place : Place → Bool
-is_calendar_place place.Calendar = true
-is_calendar_place _ = false
+abbrev pub is_calendar_context : Context → Bool
+is_calendar_context context.Calendar = true
+is_calendar_context _ = false
 
-abbrev pub is_event_place : Place → Bool
-is_event_place place.Event = true
-is_event_place _ = false
+abbrev pub is_event_context : Context → Bool
+is_event_context context.Event = true
+is_event_context _ = false
 
-abbrev pub is_zone_place : Place → Bool
-is_zone_place place.Zone = true
-is_zone_place _ = false
+abbrev pub is_zone_context : Context → Bool
+is_zone_context context.Zone = true
+is_zone_context _ = false
 
-abbrev pub is_observance_place : Place → Bool
-is_observance_place place.Observance = true
-is_observance_place _ = false
+abbrev pub is_observance_context : Context → Bool
+is_observance_context context.Observance = true
+is_observance_context _ = false

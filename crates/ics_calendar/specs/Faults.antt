@@ -13,16 +13,16 @@ use Rattle.ics_values.specs.declared.duration.DurationFault.{DurationFault}
 use Rattle.ics_values.specs.declared.rule_text.RuleFault.{RuleFault}
 use Rattle.ics_values.specs.declared.stamp.Stamp.{Stamp}
 use Rattle.ics_values.specs.declared.stamp.StampFault.{StampFault}
-use Rattle.ics_calendar.specs.declared.component.Place.{Place}
-use Rattle.ics_calendar.specs.declared.component.Place.TheVariants as place
+use Rattle.ics_calendar.specs.declared.component.Context.{Context}
+use Rattle.ics_calendar.specs.declared.component.Context.TheVariants as context
 use Rattle.ics_calendar.specs.declared.date_list.DateList.{DateList}
 use Rattle.ics_calendar.specs.declared.date_values.DateValue.{DateValue}
 use Rattle.ics_calendar.specs.declared.date_values.DateValue.TheVariants.{At}
 use Rattle.ics_calendar.specs.declared.dated.Dated.{Dated}
 use Rattle.ics_calendar.specs.declared.fault.FaultKind.{FaultKind}
 use Rattle.ics_calendar.specs.declared.fault.FaultKind.TheVariants.{BadLine, BadStamp, BadDuration, BadOffset, BadRule, YearRange, NumberTooLarge, NoObservance, ObservanceField, ZoneRule, NotCalendar, BadNesting, TooDeep, MissingUid, MissingStart, Repeated, BadEnd, UnknownZone, ThisAndFuture, Exrule, OldVersion}
-use Rattle.ics_calendar.specs.Placed.{Placed, place_of, property_name, value, params_of, is_named, is_one_of, param, is_begin, is_end, is_outside, in_calendar, in_event, in_observance, calendar_of, begins, is_closing, ends_event, ends_zone, begins_observance, has, has_all, first_named}
-use Rattle.ics_calendar.specs.Laters.{KnownZones, zone_named, ends_badly_later}
+use Rattle.ics_calendar.specs.Placed.{Placed, context_of, property_name, value, params_of, is_named, is_one_of, param, is_begin, is_end, is_outside, in_calendar, in_event, in_observance, calendar_of, begins, is_closing, ends_event, ends_zone, begins_observance, has, has_all, first_named}
+use Rattle.ics_calendar.specs.DeferredChecks.{KnownZones, zone_named, ends_badly_later}
 use Rattle.ics_calendar.specs.DateLists.{rdate_list, exdate_list}
 use Rattle.ics_calendar.specs.Event.{is_zoned}
 use Rattle.ics_calendar.specs.DateValues.{rdates_of, exdates_of, listed_in, has_bad_stamp, has_far_stamp, has_bad_duration, has_large_duration, has_zoned, is_not_local}
@@ -36,13 +36,13 @@ abbrev pub single_names : List (List ℕ)
 single_names = codes "UID" ∷ codes "DTSTART" ∷ codes "DTEND" ∷ codes "DURATION" ∷ codes "RRULE" ∷ codes "RECURRENCE-ID" ∷ codes "SEQUENCE" ∷ []
 
 -- the properties that a time zone or an observance has exactly once
-abbrev pub field_names : Place → List (List ℕ)
-field_names place.Zone = codes "TZID" ∷ []
-field_names place.Observance = codes "DTSTART" ∷ codes "TZOFFSETFROM" ∷ codes "TZOFFSETTO" ∷ []
+abbrev pub field_names : Context → List (List ℕ)
+field_names context.Zone = codes "TZID" ∷ []
+field_names context.Observance = codes "DTSTART" ∷ codes "TZOFFSETFROM" ∷ codes "TZOFFSETTO" ∷ []
 field_names _ = []
 
 abbrev pub fields : Placed → List (List ℕ)
-fields line = field_names (place_of line.path)
+fields line = field_names (context_of line.path)
 
 abbrev pub offset_names : List (List ℕ)
 offset_names = codes "TZOFFSETFROM" ∷ codes "TZOFFSETTO" ∷ []

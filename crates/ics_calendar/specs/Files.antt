@@ -3,10 +3,10 @@ use Rattle.std.specs.Prelude.{◌≡◌, ◌⊎◌, ℕ, Bool, false, IsTrue, Li
 use Rattle.ics_text.specs.Unfolded.{begins_with_fold}
 use Rattle.ics_values.specs.Integers.{integer_of}
 use Rattle.ics_calendar.specs.declared.fault.FaultKind.TheVariants.{BadFold}
-use Rattle.ics_calendar.specs.declared.later.ZoneName.{ZoneName}
+use Rattle.ics_calendar.specs.declared.deferred_check.ZoneName.{ZoneName}
 use Rattle.ics_calendar.specs.DateLists.{rdates_by, exdates_by}
 use Rattle.ics_calendar.specs.Event.{EventSeen, FileSaid}
-use Rattle.ics_calendar.specs.Laters.{zone_index}
+use Rattle.ics_calendar.specs.DeferredChecks.{zone_index}
 use Rattle.ics_calendar.specs.Placed.{Placed, placed, value, in_calendar, begins, calendar_of, lines_in, first_named, all_named}
 use Rattle.ics_calendar.specs.Times.{time_on, dated_in, given_length, length_of}
 use Rattle.ics_calendar.specs.Zones.{zones_of, zone_names, zones_on}

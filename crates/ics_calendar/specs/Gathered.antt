@@ -1,27 +1,66 @@
--- What is gathered of a file, and what the file is by it.
-use Rattle.std.specs.Prelude.{List, [], ◌∷◌, map, Option, None, Result, Ok, Err}
-use Rattle.ics_calendar.specs.declared.gathered.Waiting.{Waiting}
-use Rattle.ics_calendar.specs.Collecting.{event_of}
+-- What is gathered of a file, line by line, what the file is by it, and what holds of it where the first round finds nothing.
+use Rattle.std.specs.Prelude.{ℕ, List, [], ◌∷◌, ◌++◌, Option, Some, None, map, Result, Ok, Err}
+use Rattle.std.specs.List.{All, Contains}
+use Rattle.ics_values.specs.Stamps.{IsStampDay}
+use Rattle.ics_calendar.specs.declared.deferred_check.DeferredCheck.{DeferredCheck}
+use Rattle.ics_calendar.specs.declared.deferred_check.DeferredCheck.TheVariants.{Ends}
+use Rattle.ics_calendar.specs.declared.deferred_check.Instant.{Instant}
+use Rattle.ics_calendar.specs.declared.deferred_check.Instant.TheVariants.{Utc, Zoned}
+use Rattle.ics_calendar.specs.declared.gathered.Ended.{Ended}
+use Rattle.ics_calendar.specs.declared.gathered.Ended.TheVariants as ended
+use Rattle.ics_calendar.specs.declared.gathered.EndedEvent.{EndedEvent}
+use Rattle.ics_calendar.specs.declared.gathered.EndedZone.{EndedZone}
+use Rattle.ics_calendar.specs.declared.gathered.LineCheck.{LineCheck}
+use Rattle.ics_calendar.specs.declared.gathered.Passed.{Passed}
+use Rattle.ics_calendar.specs.GatheredSeen.{GatheredSeen}
+use Rattle.ics_calendar.specs.Builders.{event_of}
 use Rattle.ics_calendar.specs.Event.{FileSaid}
 use Rattle.ics_calendar.specs.Files.{decide}
 use Rattle.ics_calendar.specs.FirstFault.{Fault, found}
-use Rattle.ics_calendar.specs.GatheredSeen.{GatheredSeen}
-use Rattle.ics_calendar.specs.Laters.{KnownZones, known_zones, judged}
+use Rattle.ics_calendar.specs.DeferredChecks.{KnownZones, known_zones, judged}
+use Rattle.ics_calendar.specs.Ready.{EachZone}
+use Rattle.ics_calendar.specs.Sound.{IsWhole}
+use Rattle.ics_calendar.specs.ZonesSound.{IsSoundZone}
+
+abbrev pub nothing_gathered : GatheredSeen
+nothing_gathered = record { zones = []; events = []; checks = [] }
+
+-- what ends on a line, if it is of the kind
+abbrev pub zones_of_end : Ended → List EndedZone
+zones_of_end (ended.Zone zone) = zone ∷ []
+zones_of_end _ = []
+
+abbrev pub events_of_end : Ended → List EndedEvent
+events_of_end (ended.Event event) = event ∷ []
+events_of_end _ = []
+
+-- a deferred check, with the number of its line
+abbrev pub checks_of : ℕ → Option DeferredCheck → List LineCheck
+checks_of number None = []
+checks_of number (Some check) = record { line = number; check = check } ∷ []
+
+-- WHAT IS GATHERED with what ends on a line more, and what the second round looks at there.
+abbrev pub and_passed : ℕ → Passed → GatheredSeen → GatheredSeen
+and_passed number p had = record {
+  zones = had.zones ++ zones_of_end p.ended;
+  events = had.events ++ events_of_end p.ended;
+  checks = had.checks ++ checks_of number p.check;
+}
 
 abbrev pub known_in : GatheredSeen → KnownZones
 known_in g = known_zones (map (λ z. z.name) g.zones) (map (λ z. z.observances) g.zones)
 
--- the first of what waits that is a fault
-abbrev pub first_judged : KnownZones → List Waiting → Option Fault
+-- the first of the deferred checks that finds a fault
+abbrev pub first_judged : KnownZones → List LineCheck → Option Fault
 first_judged known [] = None
-first_judged known (w ∷ ws) = found w.line (judged known w.later) (first_judged known ws)
+first_judged known (w ∷ ws) = found w.line (judged known w.check) (first_judged known ws)
 
 -- WHAT THE FILE IS, where the first round finds nothing.
 abbrev pub said_by : KnownZones → GatheredSeen → FileSaid
 said_by known g = record { zones = known.zones; events = map (event_of known.index) g.events }
 
 abbrev pub settled_by : KnownZones → GatheredSeen → Result FileSaid Fault
-settled_by known g = decide None (first_judged known g.waits) (said_by known g)
+settled_by known g = decide None (first_judged known g.checks) (said_by known g)
 
 abbrev pub settled : GatheredSeen → Result FileSaid Fault
 settled g = settled_by (known_in g) g
@@ -30,3 +69,19 @@ settled g = settled_by (known_in g) g
 abbrev pub settled_of : Result GatheredSeen Fault → Result FileSaid Fault
 settled_of (Ok g) = settled g
 settled_of (Err fault) = Err fault
+
+-- What is to be read in a time zone lies in the years of stamps.
+abbrev pub IsSoundInstant : Instant → Type 0
+IsSoundInstant (Utc local) = Unit {0}
+IsSoundInstant (Zoned local name) = IsStampDay local.day
+
+abbrev pub IsSoundCheck : DeferredCheck → Type 0
+IsSoundCheck (Ends start end) = IsSoundInstant start × IsSoundInstant end
+IsSoundCheck _ = Unit {0}
+
+-- The second round looks at the zones of each event's stamps, and at its end against its start.
+pub record IsSoundGathered (g : GatheredSeen) : Type 0 where
+  pub zones : All (λ z. IsSoundZone z.observances) g.zones
+  pub whole : All IsWhole g.events
+  pub awaited : All (EachZone (Contains (map (λ w. w.check) g.checks))) g.events
+  pub sound : All (λ w. IsSoundCheck w.check) g.checks

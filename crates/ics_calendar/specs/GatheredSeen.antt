@@ -2,10 +2,10 @@
 use Rattle.std.specs.Prelude.{List}
 use Rattle.ics_calendar.specs.declared.gathered.EndedEvent.{EndedEvent}
 use Rattle.ics_calendar.specs.declared.gathered.EndedZone.{EndedZone}
-use Rattle.ics_calendar.specs.declared.gathered.Waiting.{Waiting}
+use Rattle.ics_calendar.specs.declared.gathered.LineCheck.{LineCheck}
 
 -- The time zones and events that have ended, and what the second round looks at, each in the order of the lines.
 pub record GatheredSeen : Type 0 where
   pub zones : List EndedZone
   pub events : List EndedEvent
-  pub waits : List Waiting
+  pub checks : List LineCheck

@@ -9,10 +9,9 @@ pub mod DateLists
 pub mod Faults
 pub mod FirstFault
 pub mod Files
-pub mod Collecting
-pub mod Summaries
+pub mod Builders
 pub mod Times
-pub mod Laters
+pub mod DeferredChecks
 pub mod Zones
 pub mod ZonesSound
 pub mod Lines
@@ -24,5 +23,3 @@ pub mod ZoneTables
 pub mod Ready
 pub mod GatheredSeen
 pub mod Gathered
-pub mod GatheredSound
-pub mod Gathering

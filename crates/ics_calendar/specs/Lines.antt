@@ -24,11 +24,11 @@ use Rattle.ics_values.specs.declared.stamp.Stamp.TheVariants as stamp
 use Rattle.ics_values.specs.declared.stamp.StampFault.{StampFault}
 use Rattle.ics_values.specs.declared.stamp.StampFault.TheVariants as stamp_fault
 use Rattle.ics_zone.specs.Observances.{Phase}
-use Rattle.ics_calendar.specs.declared.collected.Collected.{Collected}
+use Rattle.ics_calendar.specs.declared.event_builder.EventBuilder.{EventBuilder}
 use Rattle.ics_calendar.specs.declared.component.Component.{Component}
 use Rattle.ics_calendar.specs.declared.component.Component.TheVariants as component
-use Rattle.ics_calendar.specs.declared.component.Place.{Place}
-use Rattle.ics_calendar.specs.declared.component.Place.TheVariants as place
+use Rattle.ics_calendar.specs.declared.component.Context.{Context}
+use Rattle.ics_calendar.specs.declared.component.Context.TheVariants as context
 use Rattle.ics_calendar.specs.declared.date_list.DateList.{DateList}
 use Rattle.ics_calendar.specs.declared.date_values.DateValue.{DateValue}
 use Rattle.ics_calendar.specs.declared.date_values.DateValue.TheVariants.{At}
@@ -41,27 +41,26 @@ use Rattle.ics_calendar.specs.declared.gathered.Ended.TheVariants as ended
 use Rattle.ics_calendar.specs.declared.gathered.EndedEvent.{EndedEvent}
 use Rattle.ics_calendar.specs.declared.gathered.EndedZone.{EndedZone}
 use Rattle.ics_calendar.specs.declared.gathered.Passed.{Passed}
-use Rattle.ics_calendar.specs.declared.later.Instant.{Instant}
-use Rattle.ics_calendar.specs.declared.later.Instant.TheVariants as instant
-use Rattle.ics_calendar.specs.declared.later.Later.{Later}
-use Rattle.ics_calendar.specs.declared.later.Later.TheVariants as later
-use Rattle.ics_calendar.specs.declared.later.ZoneName.{ZoneName}
+use Rattle.ics_calendar.specs.declared.deferred_check.Instant.{Instant}
+use Rattle.ics_calendar.specs.declared.deferred_check.Instant.TheVariants as instant
+use Rattle.ics_calendar.specs.declared.deferred_check.DeferredCheck.{DeferredCheck}
+use Rattle.ics_calendar.specs.declared.deferred_check.DeferredCheck.TheVariants as check
+use Rattle.ics_calendar.specs.declared.deferred_check.ZoneName.{ZoneName}
 use Rattle.ics_calendar.specs.declared.name.Name.{Name}
 use Rattle.ics_calendar.specs.declared.name.Name.TheVariants as name
 use Rattle.ics_calendar.specs.declared.refused.Refused.{Refused}
 use Rattle.ics_calendar.specs.declared.refused.Refused.TheVariants.{Memory, Fault}
-use Rattle.ics_calendar.specs.declared.summary.ObservanceSummary.{ObservanceSummary}
-use Rattle.ics_calendar.specs.declared.summary.Summary.{Summary}
-use Rattle.ics_calendar.specs.declared.summary.Summary.TheVariants as summary
-use Rattle.ics_calendar.specs.declared.summary.ZoneSummary.{ZoneSummary}
-use Rattle.ics_calendar.specs.Collecting.{event_ended}
-use Rattle.ics_calendar.specs.Components.{component_of, component_name, place_in}
+use Rattle.ics_calendar.specs.declared.builder.ObservanceBuilder.{ObservanceBuilder}
+use Rattle.ics_calendar.specs.declared.builder.Builder.{Builder}
+use Rattle.ics_calendar.specs.declared.builder.Builder.TheVariants as builder
+use Rattle.ics_calendar.specs.declared.builder.ZoneBuilder.{ZoneBuilder}
+use Rattle.ics_calendar.specs.Builders.{event_ended, fresh, zone_ended, observance_ended}
+use Rattle.ics_calendar.specs.Components.{component_of, component_name, context_in}
 use Rattle.ics_calendar.specs.DateLists.{zone_listed, rdate_list, exdate_list}
 use Rattle.ics_calendar.specs.DateValues.{rdates_of, exdates_of, has_bad_stamp, has_far_stamp, has_bad_duration, has_large_duration, has_zoned, is_not_local}
 use Rattle.ics_calendar.specs.Event.{seconds_of, is_zoned}
-use Rattle.ics_calendar.specs.Laters.{zone_used, are_of_one_zone}
+use Rattle.ics_calendar.specs.DeferredChecks.{zone_used, are_of_one_zone}
 use Rattle.ics_calendar.specs.Names.{name_of}
-use Rattle.ics_calendar.specs.Summaries.{fresh, zone_ended, observance_ended}
 use Rattle.ics_calendar.specs.Values.{zone_name, stamp_read, dated_of, lasting_of, duration_in, rule_in, ok_or_zero, is_cancelled, is_fine_rule, is_filled, is_out, ends_badly}
 use Rattle.ics_calendar.specs.Zones.{local_in, onset_in, offset_in, daily_in}
 
@@ -185,13 +184,13 @@ onsets_said text =
     (filter_map local_in (rdates_of false text))
 
 -- WHAT THE SECOND ROUND LOOKS AT: the time zones of stamps, and an end against its start.
-abbrev pub used_zone : ℕ → Dated → Option Later
-used_zone calendar dated = if is_zoned dated.stamp then Some (later.Zone (zone_used calendar dated)) else None
+abbrev pub used_zone : ℕ → Dated → Option DeferredCheck
+used_zone calendar dated = if is_zoned dated.stamp then Some (check.Zone (zone_used calendar dated)) else None
 
-abbrev pub listed_zone : ℕ → DateList → Option Later
-listed_zone calendar list = if list_any has_zoned list.values then Some (later.Zone (zone_listed calendar list)) else None
+abbrev pub listed_zone : ℕ → DateList → Option DeferredCheck
+listed_zone calendar list = if list_any has_zoned list.values then Some (check.Zone (zone_listed calendar list)) else None
 
-abbrev pub used_in : ℕ → Option Dated → Option Later
+abbrev pub used_in : ℕ → Option Dated → Option DeferredCheck
 used_in calendar None = None
 used_in calendar (Some dated) = used_zone calendar dated
 
@@ -205,23 +204,23 @@ abbrev pub instant_in : ℕ → Dated → Option Instant
 instant_in calendar dated = instant_on (zone_used calendar dated) dated.stamp
 
 -- Times of UTC compare at once, and other instants when the zones are known.
-abbrev pub compared : Instant → Instant → Option Later
-compared (instant.Utc a) (instant.Utc b) = if is_out (seconds_of a) (seconds_of b) then Some later.End else None
-compared a b = Some (later.Ends a b)
+abbrev pub compared : Instant → Instant → Option DeferredCheck
+compared (instant.Utc a) (instant.Utc b) = if is_out (seconds_of a) (seconds_of b) then Some check.End else None
+compared a b = Some (check.Ends a b)
 
-abbrev pub both_compared : Option Instant → Option Instant → Option Later
+abbrev pub both_compared : Option Instant → Option Instant → Option DeferredCheck
 both_compared (Some a) (Some b) = compared a b
 both_compared _ _ = None
 
-abbrev pub ends_in : ℕ → Option Dated → Option Dated → Option Later
+abbrev pub ends_in : ℕ → Option Dated → Option Dated → Option DeferredCheck
 ends_in calendar (Some start) (Some end) = if are_of_one_zone start end then None else both_compared (instant_in calendar start) (instant_in calendar end)
 ends_in calendar _ _ = None
 
 -- A LINE OF AN EVENT in a calendar: what is collected with it, and what the second round looks at.
-abbrev pub with_dated : ℕ → Parts → Option Dated → (Dated → Collected) → Result (Collected × Option Later) FaultKind
+abbrev pub with_dated : ℕ → Parts → Option Dated → (Dated → EventBuilder) → Result (EventBuilder × Option DeferredCheck) FaultKind
 with_dated calendar c had put = and_then (dated_said c) (λ d. once kind.Repeated had (put d, used_zone calendar d))
 
-abbrev pub event_line : ℕ → Name → Parts → Collected → Result (Collected × Option Later) FaultKind
+abbrev pub event_line : ℕ → Name → Parts → EventBuilder → Result (EventBuilder × Option DeferredCheck) FaultKind
 event_line k name.Uid c had = once kind.Repeated had.uid (record had { uid = Some (text_of c.value) }, None)
 event_line k name.Dtstart c had = with_dated k c had.start (λ d. record had { start = Some d })
 event_line k name.Dtend c had = with_dated k c had.end (λ d. record had { end = Some d })
@@ -241,11 +240,11 @@ event_line k name.Status c had = Ok (record had { cancelled = or_first had.cance
 event_line k _ c had = Ok (had, None)
 
 -- A LINE OF A TIME ZONE, of an observance, and of a calendar.
-abbrev pub zone_line : Name → Parts → ZoneSummary → Result ZoneSummary FaultKind
+abbrev pub zone_line : Name → Parts → ZoneBuilder → Result ZoneBuilder FaultKind
 zone_line name.Tzid c had = once kind.ObservanceField had.name (record had { name = Some (text_of c.value) })
 zone_line _ c had = Ok had
 
-abbrev pub observance_line : Name → Parts → ObservanceSummary → Result ObservanceSummary FaultKind
+abbrev pub observance_line : Name → Parts → ObservanceBuilder → Result ObservanceBuilder FaultKind
 observance_line name.Dtstart c had = and_then (onset_said c.value) (λ l. once kind.ObservanceField had.start (record had { start = Some l }))
 observance_line name.OffsetFrom c had = and_then (offset_said c.value) (λ o. once kind.ObservanceField had.from (record had { from = Some o }))
 observance_line name.OffsetTo c had = and_then (offset_said c.value) (λ o. once kind.ObservanceField had.to (record had { to = Some o }))
@@ -258,59 +257,59 @@ calendar_fault name.Version c = fault_if kind.OldVersion (bytes_eq c.value (code
 calendar_fault _ c = None
 
 -- a line of a component of which nothing is collected
-abbrev pub plain_fault : Place → Name → Parts → Option FaultKind
-plain_fault place.Outside n c = Some kind.NotCalendar
-plain_fault place.Calendar n c = calendar_fault n c
+abbrev pub plain_fault : Context → Name → Parts → Option FaultKind
+plain_fault context.Outside n c = Some kind.NotCalendar
+plain_fault context.Calendar n c = calendar_fault n c
 plain_fault _ n c = None
 
-abbrev pub summary_line : ℕ → Place → Name → Parts → Summary → Result (Summary × Option Later) FaultKind
-summary_line k q n c (summary.Event had) = and_then (event_line k n c had) (λ r. Ok (summary.Event r.0, r.1))
-summary_line k q n c (summary.Zone had) = and_then (zone_line n c had) (λ h. Ok (summary.Zone h, None))
-summary_line k q n c (summary.Observance had) = and_then (observance_line n c had) (λ h. Ok (summary.Observance h, None))
-summary_line k q n c summary.Nothing = unless (plain_fault q n c) (summary.Nothing, None)
+abbrev pub builder_line : ℕ → Context → Name → Parts → Builder → Result (Builder × Option DeferredCheck) FaultKind
+builder_line k q n c (builder.Event had) = and_then (event_line k n c had) (λ r. Ok (builder.Event r.0, r.1))
+builder_line k q n c (builder.Zone had) = and_then (zone_line n c had) (λ h. Ok (builder.Zone h, None))
+builder_line k q n c (builder.Observance had) = and_then (observance_line n c had) (λ h. Ok (builder.Observance h, None))
+builder_line k q n c builder.Nothing = unless (plain_fault q n c) (builder.Nothing, None)
 
 -- WHAT A COMPONENT IS at its END, and what the second round looks at.
-abbrev pub end_of_event : Collected → Option FaultKind
+abbrev pub end_of_event : EventBuilder → Option FaultKind
 end_of_event had =
     if not (is_filled had.uid) then Some kind.MissingUid
     else if not (is_some had.start) then Some kind.MissingStart
     else if (is_some had.end && is_some had.duration) || ends_badly had.start had.end then Some kind.BadEnd
     else None
 
-abbrev pub event_end : ℕ → Collected → Result EndedEvent FaultKind
+abbrev pub event_end : ℕ → EventBuilder → Result EndedEvent FaultKind
 event_end calendar had = unless (end_of_event had) (event_ended calendar had)
 
-abbrev pub end_of_zone : ZoneSummary → Option FaultKind
+abbrev pub end_of_zone : ZoneBuilder → Option FaultKind
 end_of_zone had =
     if length had.observances == 0 then Some kind.NoObservance
     else if not (is_some had.name) then Some kind.ObservanceField
     else None
 
-abbrev pub zone_end : ℕ → ZoneSummary → Result EndedZone FaultKind
+abbrev pub zone_end : ℕ → ZoneBuilder → Result EndedZone FaultKind
 zone_end calendar had = unless (end_of_zone had) (zone_ended calendar had)
 
-abbrev pub end_of_observance : ObservanceSummary → Option FaultKind
+abbrev pub end_of_observance : ObservanceBuilder → Option FaultKind
 end_of_observance had = if is_some had.start && is_some had.from && is_some had.to then None else Some kind.ObservanceField
 
-abbrev pub observance_end : ObservanceSummary → Result Phase FaultKind
+abbrev pub observance_end : ObservanceBuilder → Result Phase FaultKind
 observance_end had = unless (end_of_observance had) (observance_ended had)
 
 -- a time zone keeps an observance that ends directly in it
-abbrev pub with_observance : Phase → Summary → Summary
-with_observance observance (summary.Zone had) = summary.Zone (record had { observances = had.observances ++ observance ∷ [] })
+abbrev pub with_observance : Phase → Builder → Builder
+with_observance observance (builder.Zone had) = builder.Zone (record had { observances = had.observances ++ observance ∷ [] })
 with_observance observance s = s
 
-abbrev pub passed : Ended → Option Later → Passed
-passed end waits = record { ended = end; waits = waits }
+abbrev pub passed : Ended → Option DeferredCheck → Passed
+passed end check = record { ended = end; check = check }
 
-abbrev pub summary_end : ℕ → Summary → Summary → Result (Summary × Passed) FaultKind
-summary_end calendar (summary.Event had) outer = and_then (event_end calendar had) (λ e. Ok (outer, passed (ended.Event e) (ends_in calendar had.start had.end)))
-summary_end calendar (summary.Zone had) outer = and_then (zone_end calendar had) (λ z. Ok (outer, passed (ended.Zone z) None))
-summary_end calendar (summary.Observance had) outer = and_then (observance_end had) (λ o. Ok (with_observance o outer, passed ended.Nothing None))
-summary_end calendar summary.Nothing outer = Ok (outer, passed ended.Nothing None)
+abbrev pub builder_end : ℕ → Builder → Builder → Result (Builder × Passed) FaultKind
+builder_end calendar (builder.Event had) outer = and_then (event_end calendar had) (λ e. Ok (outer, passed (ended.Event e) (ends_in calendar had.start had.end)))
+builder_end calendar (builder.Zone had) outer = and_then (zone_end calendar had) (λ z. Ok (outer, passed (ended.Zone z) None))
+builder_end calendar (builder.Observance had) outer = and_then (observance_end had) (λ o. Ok (with_observance o outer, passed ended.Nothing None))
+builder_end calendar builder.Nothing outer = Ok (outer, passed ended.Nothing None)
 
-abbrev pub frame_end : List ℕ → Frame → Summary → Result (Summary × Passed) FaultKind
-frame_end w f outer = if bytes_eq w (component_name f.component) then summary_end f.calendar f.summary outer else Err kind.BadNesting
+abbrev pub frame_end : List ℕ → Frame → Builder → Result (Builder × Passed) FaultKind
+frame_end w f outer = if bytes_eq w (component_name f.component) then builder_end f.calendar f.builder outer else Err kind.BadNesting
 
 -- WHAT A LINE MAKES of the components that are open, the innermost first.
 -- the calendar of a component that begins on that line: the outermost component, or that itself
@@ -322,28 +321,28 @@ calendar_in number (f ∷ g ∷ gs) = f.calendar
 abbrev pub opened : ℕ → Component → List Frame → List Frame
 opened number c [] = []
 opened number c (f ∷ fs) =
-    let q : Place = place_in f.place c in
-    record { component = c; place = q; calendar = calendar_in number (f ∷ fs); summary = fresh q } ∷ f ∷ fs
+    let q : Context = context_in f.context c in
+    record { component = c; context = q; calendar = calendar_in number (f ∷ fs); builder = fresh q } ∷ f ∷ fs
 
-abbrev pub outside_fault : Place → Component → Option FaultKind
-outside_fault place.Outside component.Calendar = None
-outside_fault place.Outside _ = Some kind.NotCalendar
+abbrev pub outside_fault : Context → Component → Option FaultKind
+outside_fault context.Outside component.Calendar = None
+outside_fault context.Outside _ = Some kind.NotCalendar
 outside_fault _ c = None
 
 abbrev pub begin_fault : Component → List Frame → Option FaultKind
 begin_fault c [] = None
-begin_fault c (f ∷ fs) = first (outside_fault f.place c) (fault_if kind.TooDeep (nat_le 32 (length fs)))
+begin_fault c (f ∷ fs) = first (outside_fault f.context c) (fault_if kind.TooDeep (nat_le 32 (length fs)))
 
 abbrev pub begin_line : ℕ → Component → List Frame → Result (List Frame) FaultKind
 begin_line number c frames = unless (begin_fault c frames) (opened number c frames)
 
 abbrev pub end_line : List ℕ → List Frame → Result (List Frame × Passed) FaultKind
-end_line w (f ∷ g ∷ gs) = and_then (frame_end w f g.summary) (λ r. Ok (record g { summary = r.0 } ∷ gs, r.1))
+end_line w (f ∷ g ∷ gs) = and_then (frame_end w f g.builder) (λ r. Ok (record g { builder = r.0 } ∷ gs, r.1))
 end_line w _ = Err kind.NotCalendar
 
 abbrev pub inner_line : Name → Parts → List Frame → Result (List Frame × Passed) FaultKind
 inner_line n c [] = Err kind.NotCalendar
-inner_line n c (f ∷ fs) = and_then (summary_line f.calendar f.place n c f.summary) (λ r. Ok (record f { summary = r.0 } ∷ fs, passed ended.Nothing r.1))
+inner_line n c (f ∷ fs) = and_then (builder_line f.calendar f.context n c f.builder) (λ r. Ok (record f { builder = r.0 } ∷ fs, passed ended.Nothing r.1))
 
 abbrev pub named_line : ℕ → Name → Parts → List Frame → Result (List Frame × Passed) FaultKind
 named_line number name.Begin c frames = and_then (begin_line number (component_of (map upper c.value)) frames) (λ fs. Ok (fs, passed ended.Nothing None))

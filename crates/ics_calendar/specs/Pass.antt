@@ -3,20 +3,20 @@ use Rattle.std.specs.Prelude.{ℕ, ◌+◌, Bool, true, false, List, [], ◌∷�
 use Rattle.ics_text.specs.Unfolded.{Line}
 use Rattle.ics_text.specs.Contents.{Parts, content_of}
 use Rattle.ics_calendar.specs.declared.component.Component.TheVariants as component
-use Rattle.ics_calendar.specs.declared.component.Place.TheVariants as place
+use Rattle.ics_calendar.specs.declared.component.Context.TheVariants as context
 use Rattle.ics_calendar.specs.declared.fault.Fault.{Fault}
 use Rattle.ics_calendar.specs.declared.fault.FaultKind.{FaultKind}
 use Rattle.ics_calendar.specs.declared.fault.FaultKind.TheVariants as kind
 use Rattle.ics_calendar.specs.declared.frame.Frame.{Frame}
 use Rattle.ics_calendar.specs.declared.gathered.Passed.{Passed}
-use Rattle.ics_calendar.specs.declared.summary.Summary.TheVariants as summary
+use Rattle.ics_calendar.specs.declared.builder.Builder.TheVariants as builder
 use Rattle.ics_calendar.specs.GatheredSeen.{GatheredSeen}
-use Rattle.ics_calendar.specs.Gathering.{and_passed}
+use Rattle.ics_calendar.specs.Gathered.{and_passed}
 use Rattle.ics_calendar.specs.Lines.{line_in}
 
 -- below all components
 abbrev pub bottom : Frame
-bottom = record { component = component.Other []; place = place.Outside; calendar = 0; summary = summary.Nothing }
+bottom = record { component = component.Other []; context = context.Outside; calendar = 0; builder = builder.Nothing }
 
 -- WHERE THE LINES END, given the number of the last one.
 abbrev pub is_lowest : List Frame → Bool

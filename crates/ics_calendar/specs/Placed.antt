@@ -5,9 +5,9 @@ use Rattle.std.specs.Str.{bytes_eq}
 use Rattle.ics_text.specs.Bytes.{upper}
 use Rattle.ics_text.specs.Unfolded.{Line, unfolded}
 use Rattle.ics_text.specs.Contents.{Parts, content_of, param_of}
-use Rattle.ics_calendar.specs.declared.component.Place.{Place}
-use Rattle.ics_calendar.specs.declared.component.Place.TheVariants as place
-use Rattle.ics_calendar.specs.Components.{component_of, place_in, is_outside_place, is_calendar_place, is_event_place, is_zone_place, is_observance_place}
+use Rattle.ics_calendar.specs.declared.component.Context.{Context}
+use Rattle.ics_calendar.specs.declared.component.Context.TheVariants as context
+use Rattle.ics_calendar.specs.Components.{component_of, context_in, is_outside_context, is_calendar_context, is_event_context, is_zone_context, is_observance_context}
 
 -- A component that is open: its name in upper case, and the number of its BEGIN line.
 pub record Open : Type 0 where
@@ -74,25 +74,25 @@ abbrev pub placed : List ℕ → List Placed
 placed file = placed_from [] (unfolded file)
 
 -- where the lines stand before which these components are open
-abbrev pub place_of : List Open → Place
-place_of [] = place.Outside
-place_of (c ∷ cs) = place_in (place_of cs) (component_of c.name)
+abbrev pub context_of : List Open → Context
+context_of [] = context.Outside
+context_of (c ∷ cs) = context_in (context_of cs) (component_of c.name)
 
 -- outside all components, directly in a calendar, directly in an event or a time zone of one, or directly in an observance of a time zone
 abbrev pub is_outside : Placed → Bool
-is_outside line = is_outside_place (place_of line.path)
+is_outside line = is_outside_context (context_of line.path)
 
 abbrev pub in_calendar : Placed → Bool
-in_calendar line = is_calendar_place (place_of line.path)
+in_calendar line = is_calendar_context (context_of line.path)
 
 abbrev pub in_event : Placed → Bool
-in_event line = is_event_place (place_of line.path)
+in_event line = is_event_context (context_of line.path)
 
 abbrev pub in_zone : Placed → Bool
-in_zone line = is_zone_place (place_of line.path)
+in_zone line = is_zone_context (context_of line.path)
 
 abbrev pub in_observance : Placed → Bool
-in_observance line = is_observance_place (place_of line.path)
+in_observance line = is_observance_context (context_of line.path)
 
 -- the BEGIN line of such a component
 abbrev pub begins : List ℕ → Placed → Bool

@@ -7,7 +7,7 @@ use Rattle.ics_calendar.specs.declared.read.Progress.{Progress}
 use Rattle.ics_calendar.specs.declared.refused.Refused.{Refused}
 use Rattle.ics_calendar.specs.declared.refused.Refused.TheVariants.{Memory, Fault}
 use Rattle.ics_calendar.specs.GatheredSeen.{GatheredSeen}
-use Rattle.ics_calendar.specs.Gathering.{and_passed}
+use Rattle.ics_calendar.specs.Gathered.{and_passed}
 
 -- it holds the components that are open behind the line, and has gathered what is gathered there
 pub record IsBehind (now : Progress) (had : GatheredSeen) (number : ℕ) (line : Result (List Frame × Passed) FaultKind) : Type 0 where

@@ -5,8 +5,8 @@ use Rattle.ics_calendar.specs.declared.dated.Dated.{Dated}
 use Rattle.ics_calendar.specs.declared.gathered.EndedEvent.{EndedEvent}
 use Rattle.ics_calendar.specs.declared.gathered.GivenLength.{GivenLength}
 use Rattle.ics_calendar.specs.declared.gathered.GivenLength.TheVariants as given
-use Rattle.ics_calendar.specs.declared.later.Later.{Later}
-use Rattle.ics_calendar.specs.Laters.{KnownZones, judged}
+use Rattle.ics_calendar.specs.declared.deferred_check.DeferredCheck.{DeferredCheck}
+use Rattle.ics_calendar.specs.DeferredChecks.{KnownZones, judged}
 use Rattle.ics_calendar.specs.Lines.{used_zone, used_in, listed_zone, ends_in}
 use Rattle.ics_calendar.specs.Sound.{IsWhole}
 
@@ -16,7 +16,7 @@ end_of (given.Until end) = Some end
 end_of _ = None
 
 -- P holds of all zones that the event's stamps name, as the second round looks at them, and of its end against its start.
-pub record EachZone (P : Later → Type 0) (event : EndedEvent) : Type 0 where
+pub record EachZone (P : DeferredCheck → Type 0) (event : EndedEvent) : Type 0 where
   pub start : IfSome (used_zone event.calendar event.start) P
   pub end : IfSome (used_in event.calendar (end_of event.length)) P
   pub rdates : All (λ list. IfSome (listed_zone event.calendar list) P) event.rdates

@@ -6,12 +6,12 @@ use Rattle.ics_values.specs.declared.stamp.Stamp.TheVariants.{Date}
 use Rattle.ics_calendar.specs.declared.dated.Dated.{Dated}
 use Rattle.ics_calendar.specs.declared.gathered.GivenLength.{GivenLength}
 use Rattle.ics_calendar.specs.declared.gathered.GivenLength.TheVariants as given
-use Rattle.ics_calendar.specs.declared.later.ZoneName.{ZoneName}
+use Rattle.ics_calendar.specs.declared.deferred_check.ZoneName.{ZoneName}
 use Rattle.ics_calendar.specs.declared.time.Time.{Time}
 use Rattle.ics_calendar.specs.declared.time.Length.{Length}
 use Rattle.ics_calendar.specs.declared.time.Length.TheVariants.{Open, Until, Lasting}
 use Rattle.ics_calendar.specs.Event.{is_zoned}
-use Rattle.ics_calendar.specs.Laters.{zone_used}
+use Rattle.ics_calendar.specs.DeferredChecks.{zone_used}
 
 -- The time of a stamp, given the index of the zone that its TZID names.
 abbrev pub time_in : Option ℕ → Stamp → Time

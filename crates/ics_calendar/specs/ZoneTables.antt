@@ -5,9 +5,9 @@ use Rattle.std.specs.Cmp.Lexicographic.{slice_cmp}
 use Rattle.std.specs.Ordering.{nat_cmp, on, then_cmp}
 use Rattle.std.specs.declared.cmp.Ordering.{Ordering}
 use Rattle.ics_zone.specs.Observances.{phases_of}
-use Rattle.ics_calendar.specs.declared.later.ZoneName.{ZoneName}
+use Rattle.ics_calendar.specs.declared.deferred_check.ZoneName.{ZoneName}
 use Rattle.ics_calendar.specs.declared.zone_table.ZoneTable.{ZoneTable}
-use Rattle.ics_calendar.specs.Laters.{KnownZones, is_same}
+use Rattle.ics_calendar.specs.DeferredChecks.{KnownZones, is_same}
 
 -- by the calendar, then by the bytes of the name
 abbrev pub name_cmp : ZoneName → ZoneName → Ordering

@@ -14,9 +14,9 @@ use Rattle.ics_values.specs.declared.stamp.StampFault.{StampFault}
 use Rattle.ics_zone.specs.Observances.{Phase}
 use Rattle.ics_calendar.specs.declared.date_values.DateValue.{DateValue}
 use Rattle.ics_calendar.specs.declared.date_values.DateValue.TheVariants.{At}
-use Rattle.ics_calendar.specs.declared.later.ZoneName.{ZoneName}
+use Rattle.ics_calendar.specs.declared.deferred_check.ZoneName.{ZoneName}
 use Rattle.ics_calendar.specs.Faults.{first_text, rule_on}
-use Rattle.ics_calendar.specs.Laters.{KnownZones, known_zones}
+use Rattle.ics_calendar.specs.DeferredChecks.{KnownZones, known_zones}
 use Rattle.ics_calendar.specs.Placed.{Placed, value, in_calendar, in_zone, begins, begins_observance, calendar_of, lines_in, first_named, all_named}
 use Rattle.ics_calendar.specs.DateValues.{rdates_of}
 use Rattle.ics_calendar.specs.Values.{is_fine_rule, rule_in}

@@ -2,7 +2,7 @@
 ghost use Rattle.std.specs.Prelude.{◌≡◌, map, IfOk};
 ghost use Rattle.std.specs.Str.{bytes_eq};
 ghost use Rattle.ics_text.specs.Bytes.{upper};
-ghost use Rattle.ics_calendar.specs.Components.{component_of, component_name, place_in};
+ghost use Rattle.ics_calendar.specs.Components.{component_of, component_name, context_in};
 
 use crate::text::Text;
 use crate::words::is_word;
@@ -22,7 +22,7 @@ pub enum Component {
 /// Where a line stands: outside all components, directly in a calendar, directly in an event or a time zone of one,
 /// directly in an observance of a time zone, or anywhere else.
 #[derive(Clone, Copy, PartialEq, Eq)]
-pub enum Place {
+pub enum Context {
     Outside,
     Calendar,
     Event,
@@ -66,15 +66,15 @@ impl Component {
     }
 
     /// Where the lines of the component stand, if it begins on a line that stands there.
-    pub fn place_in(&self, place: Place) -> Place
-        ensures { result ≡ place_in place self.now }
+    pub fn context_in(&self, context: Context) -> Context
+        ensures { result ≡ context_in context self.now }
     {
-        match (place, self) {
-            (Place::Outside, Component::Calendar) => Place::Calendar,
-            (Place::Calendar, Component::Event) => Place::Event,
-            (Place::Calendar, Component::Zone) => Place::Zone,
-            (Place::Zone, Component::Standard | Component::Daylight) => Place::Observance,
-            _ => Place::Elsewhere,
+        match (context, self) {
+            (Context::Outside, Component::Calendar) => Context::Calendar,
+            (Context::Calendar, Component::Event) => Context::Event,
+            (Context::Calendar, Component::Zone) => Context::Zone,
+            (Context::Zone, Component::Standard | Component::Daylight) => Context::Observance,
+            _ => Context::Elsewhere,
         }
     }
 }

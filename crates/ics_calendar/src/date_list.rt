@@ -8,7 +8,7 @@ ghost use Rattle.ics_calendar.specs.ZoneTables.{known_by};
 
 use crate::date_values::DateValues;
 use crate::dated::zone_name;
-use crate::later::{Later, ZoneName};
+use crate::deferred_check::{DeferredCheck, ZoneName};
 use crate::refused::Refused;
 use crate::text::Text;
 use crate::time::{Length, Rdate, Time, is_zoned};
@@ -133,14 +133,18 @@ impl DateList {
     }
 
     /// The time zone of the stamps, which is to be known.
-    pub fn used_zone(&self, alloc: Global, calendar: u64) -> Result<Option<Later>, AllocError>
-        ensures { IfOk result (λ later. later ≡ listed_zone calendar self.now) }
+    pub fn used_zone(
+        &self,
+        alloc: Global,
+        calendar: u64,
+    ) -> Result<Option<DeferredCheck>, AllocError>
+        ensures { IfOk result (λ check. check ≡ listed_zone calendar self.now) }
     {
         if !self.values.have_zoned() {
             return Ok(None);
         }
         let name = ZoneName::copied(alloc, calendar, &self.zone)?;
-        Ok(Some(Later::Zone(name)))
+        Ok(Some(DeferredCheck::Zone(name)))
     }
 }
 

@@ -3,7 +3,7 @@ ghost use Rattle.ics_calendar.specs.Event.{is_zoned};
 ghost use Rattle.ics_calendar.specs.Lines.{Gives, dated_said, used_zone, instant_in};
 ghost use Rattle.ics_calendar.specs.Values.{tzid, zone_name};
 
-use crate::later::{Instant, Later, ZoneName};
+use crate::deferred_check::{DeferredCheck, Instant, ZoneName};
 use crate::refused::Refused;
 use crate::text::Text;
 use crate::time::is_zoned;
@@ -56,14 +56,18 @@ impl Dated {
     }
 
     /// The time zone of the stamp, which is to be known.
-    pub fn used_zone(&self, alloc: Global, calendar: u64) -> Result<Option<Later>, AllocError>
-        ensures { IfOk result (λ later. later ≡ used_zone calendar self.now) }
+    pub fn used_zone(
+        &self,
+        alloc: Global,
+        calendar: u64,
+    ) -> Result<Option<DeferredCheck>, AllocError>
+        ensures { IfOk result (λ check. check ≡ used_zone calendar self.now) }
     {
         if !self.is_zoned() {
             return Ok(None);
         }
         let name = ZoneName::copied(alloc, calendar, &self.zone)?;
-        Ok(Some(Later::Zone(name)))
+        Ok(Some(DeferredCheck::Zone(name)))
     }
 
     /// The stamp, if it is an instant.

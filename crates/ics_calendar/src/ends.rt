@@ -1,12 +1,12 @@
 //! The end of an event against its start (RFC 5545, section 3.8.2.2).
 ghost use Rattle.std.specs.Prelude.{◌≡◌, pos, ◌*ℤ◌, IfOk};
 ghost use Rattle.ics_calendar.specs.Event.{seconds_of};
-ghost use Rattle.ics_calendar.specs.Laters.{are_of_one_zone};
+ghost use Rattle.ics_calendar.specs.DeferredChecks.{are_of_one_zone};
 ghost use Rattle.ics_calendar.specs.Lines.{compared, ends_in};
 ghost use Rattle.ics_calendar.specs.Values.{is_out, is_bad_end, same_zone, ends_badly};
 
 use crate::dated::Dated;
-use crate::later::{Instant, Later};
+use crate::deferred_check::{DeferredCheck, Instant};
 use ics_values::{Local, Stamp};
 use std::alloc::{AllocError, Global};
 
@@ -72,16 +72,16 @@ fn are_of_one_zone(start: &Dated, end: &Dated) -> bool
 }
 
 /// What the second round looks at where these are a start and its end.
-fn compared(start: Instant, end: Instant) -> Option<Later>
+fn compared(start: Instant, end: Instant) -> Option<DeferredCheck>
     ensures { result ≡ compared start end }
 {
     if let (Instant::Utc(a), Instant::Utc(b)) = (&start, &end) {
         if is_out(seconds_of(*a), seconds_of(*b)) {
-            return Some(Later::End);
+            return Some(DeferredCheck::End);
         }
         return None;
     }
-    Some(Later::Ends(start, end))
+    Some(DeferredCheck::Ends(start, end))
 }
 
 /// What the second round looks at on the END of an event of that calendar.
@@ -90,8 +90,8 @@ pub fn ends_in(
     calendar: u64,
     start: &Option<Dated>,
     end: &Option<Dated>,
-) -> Result<Option<Later>, AllocError>
-    ensures { IfOk result (λ later. later ≡ ends_in calendar start.now end.now) }
+) -> Result<Option<DeferredCheck>, AllocError>
+    ensures { IfOk result (λ check. check ≡ ends_in calendar start.now end.now) }
 {
     let (Some(start), Some(end)) = (start, end) else {
         return Ok(None);

@@ -3,52 +3,52 @@ ghost use Rattle.ics_calendar.specs.Lines.{Makes, frame_end};
 ghost use Rattle.ics_text.specs.Bytes.{upper};
 ghost use Rattle.std.specs.Prelude.{map};
 
-use crate::component::{Component, Place};
+use crate::builder::Builder;
+use crate::component::{Component, Context};
 use crate::fault::FaultKind;
 use crate::gathered::{Ended, Passed};
 use crate::refused::Refused;
-use crate::summary::Summary;
 use std::alloc::Global;
 
 /// A component that is open: which one, where its lines stand, and what has been read of it.
 #[derive(Drop)]
 pub struct Frame {
     pub component: Component,
-    pub place: Place,
+    pub context: Context,
     /// The number of the BEGIN line of the calendar that it belongs to.
     pub calendar: u64,
-    pub summary: Summary,
+    pub builder: Builder,
 }
 
 impl Frame {
     /// What the component is where an END has that name. An observance goes to what it stands in.
-    pub fn end(self, alloc: Global, outer: &mut Summary, name: &[u8]) -> Result<Passed, Refused>
+    pub fn end(self, alloc: Global, outer: &mut Builder, name: &[u8]) -> Result<Passed, Refused>
         ensures { Makes result outer.new (frame_end (map upper name.now) self outer.old) }
     {
         let Frame {
             component,
             calendar,
-            summary,
+            builder,
             ..
         } = self;
         if !component.is_named(name) {
             return Err(Refused::Fault(FaultKind::BadNesting));
         }
-        match summary {
-            Summary::Event(had) => {
-                let waits = had.ends_in(alloc, calendar)?;
+        match builder {
+            Builder::Event(had) => {
+                let check = had.ends_in(alloc, calendar)?;
                 let ended = Ended::Event(had.end(alloc, calendar)?);
-                Ok(Passed { ended, waits })
+                Ok(Passed { ended, check })
             }
-            Summary::Zone(had) => {
+            Builder::Zone(had) => {
                 let ended = Ended::Zone(had.end(calendar)?);
-                Ok(Passed { ended, waits: None })
+                Ok(Passed { ended, check: None })
             }
-            Summary::Observance(had) => {
+            Builder::Observance(had) => {
                 outer.add(had.end()?)?;
                 Ok(Passed::nothing())
             }
-            Summary::Nothing => Ok(Passed::nothing()),
+            Builder::Nothing => Ok(Passed::nothing()),
         }
     }
 }

@@ -1,7 +1,7 @@
 //! What is gathered of a file, before its time zones and its events are made of it.
 ghost use Rattle.std.specs.Prelude.{◌≡◌, None, option_map, IfOk};
-ghost use Rattle.ics_calendar.specs.Collecting.{event_of};
-ghost use Rattle.ics_calendar.specs.Gathering.{nothing_gathered, and_passed};
+ghost use Rattle.ics_calendar.specs.Builders.{event_of};
+ghost use Rattle.ics_calendar.specs.Gathered.{nothing_gathered, and_passed};
 ghost use Rattle.ics_calendar.specs.Lines.{passed};
 ghost use Rattle.ics_calendar.specs.Ready.{IsReady};
 ghost use Rattle.ics_calendar.specs.Times.{time_on, length_of};
@@ -9,8 +9,8 @@ ghost use Rattle.ics_calendar.specs.ZoneTables.{known_by};
 
 use crate::date_list::DateLists;
 use crate::dated::Dated;
+use crate::deferred_check::{DeferredCheck, ZoneName};
 use crate::event::Event;
-use crate::later::{Later, ZoneName};
 use crate::observances::Observances;
 use crate::rule_value::{RuleValue, parts_of};
 use crate::text::Text;
@@ -66,7 +66,7 @@ pub enum Ended {
 #[derive(Drop)]
 pub struct Passed {
     pub ended: Ended,
-    pub waits: Option<Later>,
+    pub check: Option<DeferredCheck>,
 }
 
 impl Passed {
@@ -76,16 +76,16 @@ impl Passed {
     {
         Passed {
             ended: Ended::Nothing,
-            waits: None,
+            check: None,
         }
     }
 }
 
-/// What the second round looks at on the line with that number.
+/// A deferred check and the number of its line.
 #[derive(Drop)]
-pub struct Waiting {
+pub struct LineCheck {
     pub line: u64,
-    pub later: Later,
+    pub check: DeferredCheck,
 }
 
 /// What is gathered of a file, each list in the order of the lines.
@@ -93,7 +93,7 @@ pub struct Waiting {
 pub struct Gathered {
     pub zones: Vec<EndedZone>,
     pub events: Vec<EndedEvent>,
-    pub waits: Vec<Waiting>,
+    pub checks: Vec<LineCheck>,
 }
 
 impl Model for Gathered {
@@ -101,7 +101,7 @@ impl Model for Gathered {
 
     ghost Value = { GatheredSeen };
 
-    ghost view = { λ a. record { zones = a.zones.items; events = a.events.items; waits = a.waits.items } };
+    ghost view = { λ a. record { zones = a.zones.items; events = a.events.items; checks = a.checks.items } };
 }
 
 /// The time of a stamp in that calendar.
@@ -173,7 +173,7 @@ impl Gathered {
         Gathered {
             zones: Vec::new(alloc),
             events: Vec::new(alloc),
-            waits: Vec::new(alloc),
+            checks: Vec::new(alloc),
         }
     }
 
@@ -181,11 +181,11 @@ impl Gathered {
     pub fn pass(&mut self, number: u64, passed: Passed) -> Result<(), AllocError>
         ensures { IfOk result (λ _. self.new ≡ and_passed number passed self.old) }
     {
-        let Passed { ended, waits } = passed;
-        if let Some(later) = waits {
-            self.waits.push(Waiting {
+        let Passed { ended, check } = passed;
+        if let Some(check) = check {
+            self.checks.push(LineCheck {
                 line: number,
-                later,
+                check,
             })?;
         }
         match ended {

@@ -1,12 +1,12 @@
 //! What becomes of what the second round looks at, when all time zones of the file are known.
 ghost use Rattle.std.specs.Prelude.{◌≡◌};
-ghost use Rattle.ics_calendar.specs.GatheredSound.{IsSoundInstant, IsSoundLater};
-ghost use Rattle.ics_calendar.specs.Laters.{are_out, moment_of, ends_out, judged};
+ghost use Rattle.ics_calendar.specs.Gathered.{IsSoundInstant, IsSoundCheck};
+ghost use Rattle.ics_calendar.specs.DeferredChecks.{are_out, moment_of, ends_out, judged};
 ghost use Rattle.ics_calendar.specs.ZoneTables.{known_by};
 
+use crate::deferred_check::{DeferredCheck, Instant};
 use crate::ends::{is_out, seconds_of};
 use crate::fault::FaultKind;
-use crate::later::{Instant, Later};
 use crate::zone_table::ZoneTable;
 use ics_values::Moment;
 
@@ -43,18 +43,20 @@ fn ends_out(table: &ZoneTable, start: &Instant, end: &Instant) -> bool
     are_out(moment_of(table, start), moment_of(table, end))
 }
 
-impl Later {
+impl DeferredCheck {
     /// The fault that it is, if it is one.
     pub fn judged(&self, table: &ZoneTable) -> Option<FaultKind>
-        requires { IsSoundLater self.now }
+        requires { IsSoundCheck self.now }
         ensures { result ≡ judged (known_by table.now) self.now }
     {
         match self {
-            Later::End => Some(FaultKind::BadEnd),
-            Later::Zone(name) if table.index(name).is_some() => None,
-            Later::Zone(_) => Some(FaultKind::UnknownZone),
-            Later::Ends(start, end) if ends_out(table, start, end) => { Some(FaultKind::BadEnd) }
-            Later::Ends(_, _) => None,
+            DeferredCheck::End => Some(FaultKind::BadEnd),
+            DeferredCheck::Zone(name) if table.index(name).is_some() => None,
+            DeferredCheck::Zone(_) => Some(FaultKind::UnknownZone),
+            DeferredCheck::Ends(start, end) if ends_out(table, start, end) => {
+                Some(FaultKind::BadEnd)
+            }
+            DeferredCheck::Ends(_, _) => None,
         }
     }
 }

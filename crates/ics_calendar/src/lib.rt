@@ -1,20 +1,21 @@
 //! The components of an iCalendar file, and its events or its first fault.
 #![tactic(auto)]
 
-mod collected;
+mod builder;
 mod component;
 mod date_list;
 mod date_values;
 mod dated;
+mod deferred_check;
 mod ends;
 mod event;
+mod event_builder;
 mod events;
 mod fault;
 mod frame;
 mod gathered;
 mod judge;
 mod lasting;
-mod later;
 mod laws;
 mod locals;
 mod name;
@@ -24,7 +25,6 @@ mod refused;
 mod rule_value;
 mod settle;
 mod stack;
-mod summary;
 mod text;
 mod time;
 mod words;

@@ -2,8 +2,7 @@
 ghost use Rattle.std.specs.Prelude.{◌≡◌, ◌∷◌, [], ◌≤◌, length, IfOk, None};
 ghost use Rattle.ics_text.specs.Unfolded.{Rises};
 ghost use Rattle.ics_calendar.specs.Files.{file_of};
-ghost use Rattle.ics_calendar.specs.Gathered.{settled_of};
-ghost use Rattle.ics_calendar.specs.Gathering.{nothing_gathered};
+ghost use Rattle.ics_calendar.specs.Gathered.{settled_of, nothing_gathered};
 ghost use Rattle.ics_calendar.specs.Lines.{line_in};
 ghost use Rattle.ics_calendar.specs.Pass.{pass, bottom, at_end, unless};
 ghost use Rattle.ics_calendar.specs.Progresses.{Goes};

@@ -1,9 +1,8 @@
 //! What a file is by what is gathered of it: the second round, and then the zones and the events.
 ghost use Rattle.std.specs.Prelude.{◌≡◌, map, IfOk};
 ghost use Rattle.std.specs.List.{All};
-ghost use Rattle.ics_calendar.specs.Collecting.{event_of};
-ghost use Rattle.ics_calendar.specs.Gathered.{first_judged, settled};
-ghost use Rattle.ics_calendar.specs.GatheredSound.{IsSoundLater, IsSoundGathered};
+ghost use Rattle.ics_calendar.specs.Builders.{event_of};
+ghost use Rattle.ics_calendar.specs.Gathered.{first_judged, settled, IsSoundCheck, IsSoundGathered};
 ghost use Rattle.ics_calendar.specs.Ready.{IsReady};
 ghost use Rattle.ics_calendar.specs.Seen.{said_answer};
 ghost use Rattle.ics_calendar.specs.ZoneTables.{known_by};
@@ -11,19 +10,19 @@ ghost use Rattle.ics_calendar.specs.ZoneTables.{known_by};
 use crate::event::Event;
 use crate::events::FileEvents;
 use crate::fault::Fault;
-use crate::gathered::{EndedEvent, Gathered, Waiting};
+use crate::gathered::{EndedEvent, Gathered, LineCheck};
 use crate::zone_table::ZoneTable;
 use std::alloc::{AllocError, Global};
 
-/// The first of what waits that is a fault.
-fn first_judged(table: &ZoneTable, waits: &[Waiting]) -> Option<Fault>
-    requires { All (λ w. IsSoundLater w.later) waits.now }
-    ensures { result ≡ first_judged (known_by table.now) waits.now }
+/// The first of the deferred checks that finds a fault.
+fn first_judged(table: &ZoneTable, checks: &[LineCheck]) -> Option<Fault>
+    requires { All (λ w. IsSoundCheck w.check) checks.now }
+    ensures { result ≡ first_judged (known_by table.now) checks.now }
 {
-    for waiting in waits {
-        if let Some(kind) = waiting.later.judged(table) {
+    for deferred in checks {
+        if let Some(kind) = deferred.check.judged(table) {
             return Some(Fault {
-                line: waiting.line,
+                line: deferred.line,
                 kind,
             });
         }
@@ -55,10 +54,10 @@ pub fn settle(alloc: Global, gathered: Gathered) -> Result<Result<FileEvents, Fa
     let Gathered {
         zones,
         events,
-        waits,
+        checks,
     } = gathered;
     let table = ZoneTable::new(alloc, zones)?;
-    if let Some(found) = first_judged(&table, &waits) {
+    if let Some(found) = first_judged(&table, &checks) {
         return Ok(Err(found));
     }
     let events = events_of(alloc, &table, events)?;

@@ -4,13 +4,13 @@ ghost use Rattle.ics_text.specs.Bytes.{upper};
 ghost use Rattle.ics_calendar.specs.Lines.{Makes, Keeps, calendar_in, begin_fault, begin_line, end_line, line_in};
 ghost use Rattle.ics_calendar.specs.Pass.{bottom, is_lowest};
 
-use crate::component::{Component, Place};
+use crate::builder::Builder;
+use crate::component::{Component, Context};
 use crate::fault::FaultKind;
 use crate::frame::Frame;
 use crate::gathered::{Ended, Passed};
 use crate::name::{Name, name_of};
 use crate::refused::Refused;
-use crate::summary::Summary;
 use crate::text::Text;
 use ics_text::Content;
 use std::alloc::Global;
@@ -44,9 +44,9 @@ impl Stack {
         Stack {
             top: Frame {
                 component: Component::Other(Text::new(alloc)),
-                place: Place::Outside,
+                context: Context::Outside,
                 calendar: 0,
-                summary: Summary::Nothing,
+                builder: Builder::Nothing,
             },
             outer: Vec::new(alloc),
         }
@@ -74,9 +74,9 @@ impl Stack {
     fn begin_fault(&self, component: &Component) -> Option<FaultKind>
         ensures { result ≡ begin_fault component.now self.now }
     {
-        match (self.top.place, component) {
-            (Place::Outside, Component::Calendar) => {}
-            (Place::Outside, _) => return Some(FaultKind::NotCalendar),
+        match (self.top.context, component) {
+            (Context::Outside, Component::Calendar) => {}
+            (Context::Outside, _) => return Some(FaultKind::NotCalendar),
             _ => {}
         }
         if self.outer.len() >= MAX_DEPTH {
@@ -93,12 +93,12 @@ impl Stack {
             return Err(Refused::Fault(kind));
         }
         let calendar = self.calendar_in(number);
-        let place = component.place_in(self.top.place);
+        let context = component.context_in(self.top.context);
         let inner = Frame {
             component,
-            place,
+            context,
             calendar,
-            summary: Summary::fresh(alloc, place),
+            builder: Builder::fresh(alloc, context),
         };
         let outer = mem::replace(&mut self.top, inner);
         self.outer.push(outer)?;
@@ -113,7 +113,7 @@ impl Stack {
             return Err(Refused::Fault(FaultKind::NotCalendar));
         };
         let inner = mem::replace(&mut self.top, outer);
-        inner.end(alloc, &mut self.top.summary, name)
+        inner.end(alloc, &mut self.top.builder, name)
     }
 
     /// Goes behind the line with that number, and gives what is gathered there.
@@ -125,7 +125,7 @@ impl Stack {
     ) -> Result<Passed, Refused>
         ensures { Makes result self.new (line_in number content.now self.old) }
     {
-        let waits = match name_of(content.name()) {
+        let check = match name_of(content.name()) {
             Name::Begin => {
                 let component = Component::named(alloc, content.value())?;
                 self.begin(alloc, number, component)?;
@@ -134,13 +134,13 @@ impl Stack {
             Name::End => return self.end(alloc, content.value()),
             name => {
                 let top = &mut self.top;
-                top.summary
-                    .line(alloc, top.calendar, top.place, name, content)?
+                top.builder
+                    .line(alloc, top.calendar, top.context, name, content)?
             }
         };
         Ok(Passed {
             ended: Ended::Nothing,
-            waits,
+            check,
         })
     }
 }

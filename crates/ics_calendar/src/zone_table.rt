@@ -4,13 +4,13 @@ ghost use Rattle.std.specs.BTreeMap.{get};
 ghost use Rattle.std.specs.List.{All};
 ghost use Rattle.ics_values.specs.Stamps.{IsStampDay};
 ghost use Rattle.ics_zone.specs.Observances.{phases_of};
-ghost use Rattle.ics_calendar.specs.declared.later.ZoneName.{ZoneName};
-ghost use Rattle.ics_calendar.specs.Laters.{zone_index, moment_at};
+ghost use Rattle.ics_calendar.specs.declared.deferred_check.ZoneName.{ZoneName};
+ghost use Rattle.ics_calendar.specs.DeferredChecks.{zone_index, moment_at};
 ghost use Rattle.ics_calendar.specs.ZonesSound.{IsSoundZone};
 ghost use Rattle.ics_calendar.specs.ZoneTables.{name_cmp, known_by, put_first};
 
+use crate::deferred_check::ZoneName;
 use crate::gathered::EndedZone;
-use crate::later::ZoneName;
 use ics_values::{Local, Moment};
 use ics_zone::{Place, Zone};
 use std::alloc::{AllocError, Global};

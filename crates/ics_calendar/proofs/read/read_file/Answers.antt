@@ -1,7 +1,6 @@
 use Rattle.std.proofs.Common.{◌≡◌, ◌∷◌, [], ◌+◌, length, None, false, true, sym, ◌∙◌, ap, arith}
 use Rattle.ics_text.specs.Unfolded.{unfolded, begins_with_fold}
-use Rattle.ics_calendar.specs.Gathered.{settled_of}
-use Rattle.ics_calendar.specs.Gathering.{nothing_gathered}
+use Rattle.ics_calendar.specs.Gathered.{settled_of, nothing_gathered}
 use Rattle.ics_calendar.specs.Pass.{pass, bottom}
 use Rattle.ics_calendar.proofs.Whole.{fits-from_within, file_of-pass, not_true}
 use Rattle.ics_calendar.proofs.read.read_file.Goals as goal

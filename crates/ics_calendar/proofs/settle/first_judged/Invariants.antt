@@ -3,5 +3,5 @@ use Rattle.ics_calendar.specs.Gathered.{first_judged}
 use Rattle.ics_calendar.specs.ZoneTables.{known_by}
 use Rattle.ics_calendar.proofs.settle.first_judged.Given as goal
 
-abbrev pub invariant-loop-waiting : goal.invariant-loop-waiting
-invariant-loop-waiting l = first_judged (known_by l.table) (drop l.waiting-index l.waits) ≡ first_judged (known_by l.table) l.waits
+abbrev pub invariant-loop-deferred : goal.invariant-loop-deferred
+invariant-loop-deferred l = first_judged (known_by l.table) (drop l.deferred-index l.checks) ≡ first_judged (known_by l.table) l.checks

@@ -2,7 +2,7 @@ use Rattle.std.proofs.Common.{rules, sym, ◌∙◌}
 use Rattle.std.proofs.Math.Path.{fun_ext}
 use Rattle.std.proofs.lemmas.Iterator.Adapters.{position_from-zero}
 use Rattle.std.specs.BTreeMap.{get}
-use Rattle.ics_calendar.specs.Laters.{is_same}
+use Rattle.ics_calendar.specs.DeferredChecks.{is_same}
 use Rattle.ics_calendar.specs.ZoneTables.{name_cmp}
 use Rattle.ics_calendar.proofs.ZoneTables.{or-none}
 use Rattle.ics_calendar.proofs.zone_table.places_of.Goals as goal

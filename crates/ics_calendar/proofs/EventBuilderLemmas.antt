@@ -8,7 +8,7 @@ use Rattle.ics_text.specs.Contents.{Parts}
 use Rattle.ics_values.specs.Integers.{integer_of}
 use Rattle.ics_values.specs.Plain.{text_of}
 use Rattle.ics_values.specs.Rules.{rule_of}
-use Rattle.ics_calendar.specs.declared.collected.Collected.{Collected}
+use Rattle.ics_calendar.specs.declared.event_builder.EventBuilder.{EventBuilder}
 use Rattle.ics_calendar.specs.declared.name.Name.{Name}
 use Rattle.ics_calendar.specs.declared.name.Name.TheVariants as name
 use Rattle.ics_calendar.specs.DateLists.{rdate_list, exdate_list}
@@ -16,7 +16,7 @@ use Rattle.ics_calendar.specs.Names.{name_of}
 use Rattle.ics_calendar.specs.Placed.{Placed, property_name, value, value_of, params_of, is_named, first_named, first_of, all_named}
 use Rattle.ics_calendar.specs.Values.{dated_of, lasting_of, duration_in, rule_in, ok_or_zero, is_cancelled}
 use Rattle.ics_calendar.specs.Faults.{dated_on, duration_on, parts_on, rdates_on, exdates_on}
-use Rattle.ics_calendar.specs.Collecting.{collected_of}
+use Rattle.ics_calendar.proofs.Built.{collected_of}
 use Rattle.ics_calendar.specs.Lines.{or_first}
 use Rattle.ics_calendar.proofs.Judged.{event_note}
 use Rattle.ics_calendar.proofs.NameLemmas.{Tells, tells}
@@ -57,7 +57,7 @@ raw_name (Some parts) = parts.name
 abbrev pub parts_at : Placed → Parts
 parts_at l = record { name = raw_name l.content; params = params_of l.content; value = value_of l.content }
 
-noted : (n : Name) (u : List ℕ) (v : Parts) (had : Collected) → Tells u n →
+noted : (n : Name) (u : List ℕ) (v : Parts) (had : EventBuilder) → Tells u n →
     record {
       uid = cond (bytes_eq u (codes "UID")) (or_first had.uid (text_of v.value)) had.uid;
       start = cond (bytes_eq u (codes "DTSTART")) (or_first had.start (dated_of v.params v.value)) had.start;

@@ -1,14 +1,14 @@
 //! What has been read of a component so far.
 ghost use Rattle.std.specs.Prelude.{◌≡◌, IfOk};
-ghost use Rattle.ics_calendar.specs.Lines.{Gives, Makes, Keeps, onset_said, offset_said, zone_line, observance_line, summary_line, plain_fault, with_observance, zone_end, observance_end};
-ghost use Rattle.ics_calendar.specs.Summaries.{nothing_zone, nothing_observance, fresh};
+ghost use Rattle.ics_calendar.specs.Lines.{Gives, Makes, Keeps, onset_said, offset_said, zone_line, observance_line, builder_line, plain_fault, with_observance, zone_end, observance_end};
+ghost use Rattle.ics_calendar.specs.Builders.{nothing_zone, nothing_observance, fresh};
 
-use crate::collected::{Collected, once};
-use crate::component::Place;
+use crate::component::Context;
 use crate::date_values::DateValues;
+use crate::deferred_check::{DeferredCheck, ZoneName};
+use crate::event_builder::{EventBuilder, once};
 use crate::fault::FaultKind;
 use crate::gathered::EndedZone;
-use crate::later::{Later, ZoneName};
 use crate::locals::Locals;
 use crate::name::Name;
 use crate::observances::{EndedObservance, Observances};
@@ -21,23 +21,23 @@ use std::alloc::{AllocError, Global};
 
 /// What has been read of a component so far, if it is one that is read.
 #[derive(Drop)]
-pub enum Summary {
-    Event(Collected),
-    Zone(ZoneSummary),
-    Observance(ObservanceSummary),
+pub enum Builder {
+    Event(EventBuilder),
+    Zone(ZoneBuilder),
+    Observance(ObservanceBuilder),
     Nothing,
 }
 
 /// The TZID of a time zone, and its observances that have ended.
 #[derive(Drop)]
-pub struct ZoneSummary {
+pub struct ZoneBuilder {
     pub name: Option<Text>,
     pub observances: Observances,
 }
 
 /// The value of each property that an observance has once, and the values of all its RDATEs.
 #[derive(Drop)]
-pub struct ObservanceSummary {
+pub struct ObservanceBuilder {
     pub start: Option<Local>,
     pub from: Option<i32>,
     pub to: Option<i32>,
@@ -61,11 +61,11 @@ fn offset(value: &[u8]) -> Result<i32, Refused>
     Ok(read_offset(value)?)
 }
 
-impl ZoneSummary {
-    fn nothing(alloc: Global) -> ZoneSummary
+impl ZoneBuilder {
+    fn nothing(alloc: Global) -> ZoneBuilder
         ensures { result ≡ nothing_zone }
     {
-        ZoneSummary {
+        ZoneBuilder {
             name: None,
             observances: Observances::new(alloc),
         }
@@ -85,7 +85,7 @@ impl ZoneSummary {
     pub fn end(self, calendar: u64) -> Result<EndedZone, FaultKind>
         ensures { result ≡ zone_end calendar self }
     {
-        let ZoneSummary { name, observances } = self;
+        let ZoneBuilder { name, observances } = self;
         if observances.is_empty() {
             return Err(FaultKind::NoObservance);
         }
@@ -99,11 +99,11 @@ impl ZoneSummary {
     }
 }
 
-impl ObservanceSummary {
-    fn nothing(alloc: Global) -> ObservanceSummary
+impl ObservanceBuilder {
+    fn nothing(alloc: Global) -> ObservanceBuilder
         ensures { result ≡ nothing_observance }
     {
-        ObservanceSummary {
+        ObservanceBuilder {
             start: None,
             from: None,
             to: None,
@@ -153,28 +153,28 @@ impl ObservanceSummary {
 }
 
 /// A line of a component of which nothing is collected, by where it stands.
-fn plain_fault(place: Place, name: Name, content: &Content<'_>) -> Option<FaultKind>
-    ensures { result ≡ plain_fault place name content.now }
+fn plain_fault(context: Context, name: Name, content: &Content<'_>) -> Option<FaultKind>
+    ensures { result ≡ plain_fault context name content.now }
 {
-    match (place, name) {
-        (Place::Outside, _) => Some(FaultKind::NotCalendar),
-        (Place::Calendar, Name::Version) if content.value() == b"1.0".as_slice() => {
+    match (context, name) {
+        (Context::Outside, _) => Some(FaultKind::NotCalendar),
+        (Context::Calendar, Name::Version) if content.value() == b"1.0".as_slice() => {
             Some(FaultKind::OldVersion)
         }
         _ => None,
     }
 }
 
-impl Summary {
+impl Builder {
     /// What a component has that has only begun, by where its lines stand.
-    pub fn fresh(alloc: Global, place: Place) -> Summary
-        ensures { result ≡ fresh place }
+    pub fn fresh(alloc: Global, context: Context) -> Builder
+        ensures { result ≡ fresh context }
     {
-        match place {
-            Place::Event => Summary::Event(Collected::nothing(alloc)),
-            Place::Zone => Summary::Zone(ZoneSummary::nothing(alloc)),
-            Place::Observance => Summary::Observance(ObservanceSummary::nothing(alloc)),
-            _ => Summary::Nothing,
+        match context {
+            Context::Event => Builder::Event(EventBuilder::nothing(alloc)),
+            Context::Zone => Builder::Zone(ZoneBuilder::nothing(alloc)),
+            Context::Observance => Builder::Observance(ObservanceBuilder::nothing(alloc)),
+            _ => Builder::Nothing,
         }
     }
 
@@ -183,23 +183,23 @@ impl Summary {
         &mut self,
         alloc: Global,
         calendar: u64,
-        place: Place,
+        context: Context,
         name: Name,
         content: &Content<'_>,
-    ) -> Result<Option<Later>, Refused>
-        ensures { Makes result self.new (summary_line calendar place name content.now self.old) }
+    ) -> Result<Option<DeferredCheck>, Refused>
+        ensures { Makes result self.new (builder_line calendar context name content.now self.old) }
     {
         match self {
-            Summary::Event(had) => had.line(alloc, calendar, name, content),
-            Summary::Zone(had) => {
+            Builder::Event(had) => had.line(alloc, calendar, name, content),
+            Builder::Zone(had) => {
                 had.line(alloc, name, content)?;
                 Ok(None)
             }
-            Summary::Observance(had) => {
+            Builder::Observance(had) => {
                 had.line(alloc, name, content)?;
                 Ok(None)
             }
-            Summary::Nothing => match plain_fault(place, name, content) {
+            Builder::Nothing => match plain_fault(context, name, content) {
                 Some(kind) => Err(Refused::Fault(kind)),
                 None => Ok(None),
             },
@@ -210,7 +210,7 @@ impl Summary {
     pub fn add(&mut self, observance: EndedObservance) -> Result<(), AllocError>
         ensures { IfOk result (λ _. self.new ≡ with_observance observance self.old) }
     {
-        if let Summary::Zone(had) = self {
+        if let Builder::Zone(had) = self {
             had.observances.push(observance)?;
         }
         Ok(())

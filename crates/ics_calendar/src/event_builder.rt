@@ -1,17 +1,17 @@
 //! What has been read of an event so far.
 ghost use Rattle.std.specs.Prelude.{◌≡◌, Option, None, Some, is_some, true, false, IfOk, IfErr};
-ghost use Rattle.ics_calendar.specs.Collecting.{nothing};
+ghost use Rattle.ics_calendar.specs.Builders.{nothing};
 ghost use Rattle.ics_calendar.specs.Lines.{Gives, Makes, or_first, number_said, event_line, event_end, ends_in};
 ghost use Rattle.ics_calendar.specs.Times.{given_length};
 ghost use Rattle.ics_calendar.specs.Values.{is_filled, is_cancelled, lasting_of};
 
 use crate::date_list::{DateList, DateLists};
 use crate::dated::Dated;
+use crate::deferred_check::DeferredCheck;
 use crate::ends::{ends_badly, ends_in};
 use crate::fault::FaultKind;
 use crate::gathered::{EndedEvent, GivenLength};
 use crate::lasting::lasting;
-use crate::later::Later;
 use crate::name::Name;
 use crate::refused::Refused;
 use crate::rule_value::RuleValue;
@@ -23,7 +23,7 @@ use std::alloc::{AllocError, Global};
 
 /// The value of each property that an event may have once, and what all its RDATEs and EXDATEs list.
 #[derive(Drop)]
-pub struct Collected {
+pub struct EventBuilder {
     pub uid: Option<Text>,
     pub start: Option<Dated>,
     pub end: Option<Dated>,
@@ -97,12 +97,12 @@ fn given_length(end: Option<Dated>, duration: Option<Duration>) -> GivenLength
     }
 }
 
-impl Collected {
+impl EventBuilder {
     /// What an event has that has only begun.
-    pub fn nothing(alloc: Global) -> Collected
+    pub fn nothing(alloc: Global) -> EventBuilder
         ensures { result ≡ nothing }
     {
-        Collected {
+        EventBuilder {
             uid: None,
             start: None,
             end: None,
@@ -126,7 +126,7 @@ impl Collected {
         calendar: u64,
         name: Name,
         content: &Content<'_>,
-    ) -> Result<Option<Later>, Refused>
+    ) -> Result<Option<DeferredCheck>, Refused>
         ensures { Makes result self.new (event_line calendar name content.now self.old) }
     {
         let value = content.value();
@@ -137,36 +137,36 @@ impl Collected {
             }
             Name::Dtstart => {
                 let dated = Dated::read(alloc, content)?;
-                let later = dated.used_zone(alloc, calendar)?;
+                let check = dated.used_zone(alloc, calendar)?;
                 once(&mut self.start, dated, FaultKind::Repeated)?;
-                return Ok(later);
+                return Ok(check);
             }
             Name::Dtend => {
                 let dated = Dated::read(alloc, content)?;
-                let later = dated.used_zone(alloc, calendar)?;
+                let check = dated.used_zone(alloc, calendar)?;
                 once(&mut self.end, dated, FaultKind::Repeated)?;
-                return Ok(later);
+                return Ok(check);
             }
             Name::RecurrenceId => {
                 let dated = Dated::read(alloc, content)?;
-                let later = dated.used_zone(alloc, calendar)?;
+                let check = dated.used_zone(alloc, calendar)?;
                 once(&mut self.recurrence, dated, FaultKind::Repeated)?;
                 if content.param(b"RANGE").is_some() {
                     return Err(Refused::Fault(FaultKind::ThisAndFuture));
                 }
-                return Ok(later);
+                return Ok(check);
             }
             Name::Rdate => {
                 let list = DateList::read_rdates(alloc, content)?;
-                let later = list.used_zone(alloc, calendar)?;
+                let check = list.used_zone(alloc, calendar)?;
                 self.rdates.add(list)?;
-                return Ok(later);
+                return Ok(check);
             }
             Name::Exdate => {
                 let list = DateList::read_exdates(alloc, content)?;
-                let later = list.used_zone(alloc, calendar)?;
+                let check = list.used_zone(alloc, calendar)?;
                 self.exdates.add(list)?;
-                return Ok(later);
+                return Ok(check);
             }
             Name::Duration => once(&mut self.duration, lasting(value)?, FaultKind::Repeated)?,
             Name::Rrule => {
@@ -185,8 +185,8 @@ impl Collected {
     }
 
     /// What the second round looks at where the event ends.
-    pub fn ends_in(&self, alloc: Global, calendar: u64) -> Result<Option<Later>, AllocError>
-        ensures { IfOk result (λ later. later ≡ ends_in calendar self.now.start self.now.end) }
+    pub fn ends_in(&self, alloc: Global, calendar: u64) -> Result<Option<DeferredCheck>, AllocError>
+        ensures { IfOk result (λ check. check ≡ ends_in calendar self.now.start self.now.end) }
     {
         ends_in(alloc, calendar, &self.start, &self.end)
     }
@@ -204,7 +204,7 @@ impl Collected {
         if (self.end.is_some() && self.duration.is_some()) || ends_badly(&self.start, &self.end) {
             return Err(FaultKind::BadEnd);
         }
-        let Collected {
+        let EventBuilder {
             uid,
             start,
             end,

@@ -11,11 +11,11 @@ use Rattle.ics_zone.specs.Observances.{Phase}
 use Rattle.ics_calendar.specs.declared.dated.Dated.{Dated}
 use Rattle.ics_calendar.specs.declared.fault.FaultKind.{FaultKind}
 use Rattle.ics_calendar.specs.declared.fault.FaultKind.TheVariants.{BadEnd, UnknownZone}
-use Rattle.ics_calendar.specs.declared.later.Instant.{Instant}
-use Rattle.ics_calendar.specs.declared.later.Instant.TheVariants as instant
-use Rattle.ics_calendar.specs.declared.later.Later.{Later}
-use Rattle.ics_calendar.specs.declared.later.Later.TheVariants as later
-use Rattle.ics_calendar.specs.declared.later.ZoneName.{ZoneName}
+use Rattle.ics_calendar.specs.declared.deferred_check.Instant.{Instant}
+use Rattle.ics_calendar.specs.declared.deferred_check.Instant.TheVariants as instant
+use Rattle.ics_calendar.specs.declared.deferred_check.DeferredCheck.{DeferredCheck}
+use Rattle.ics_calendar.specs.declared.deferred_check.DeferredCheck.TheVariants as check
+use Rattle.ics_calendar.specs.declared.deferred_check.ZoneName.{ZoneName}
 use Rattle.ics_calendar.specs.Event.{seconds_of, is_zoned}
 use Rattle.ics_calendar.specs.Values.{same_zone, is_out}
 
@@ -79,7 +79,7 @@ moment_of known (instant.Zoned local name) = moment_there known name local
 abbrev pub ends_out : KnownZones → Instant → Instant → Bool
 ends_out known start end = are_out (moment_of known start) (moment_of known end)
 
-abbrev pub judged : KnownZones → Later → Option FaultKind
-judged known later.End = Some BadEnd
-judged known (later.Zone name) = if is_some (known.index name) then None else Some UnknownZone
-judged known (later.Ends start end) = if ends_out known start end then Some BadEnd else None
+abbrev pub judged : KnownZones → DeferredCheck → Option FaultKind
+judged known check.End = Some BadEnd
+judged known (check.Zone name) = if is_some (known.index name) then None else Some UnknownZone
+judged known (check.Ends start end) = if ends_out known start end then Some BadEnd else None

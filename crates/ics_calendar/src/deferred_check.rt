@@ -1,6 +1,6 @@
 //! What the second round looks at: time zones by their names, which may stand after their use.
 ghost use Rattle.std.specs.Prelude.{◌≡◌, IfOk};
-ghost use Rattle.ics_calendar.specs.Laters.{zone_named};
+ghost use Rattle.ics_calendar.specs.DeferredChecks.{zone_named};
 
 use crate::text::{Text, text_or_empty};
 use ics_values::Local;
@@ -23,7 +23,7 @@ pub enum Instant {
 /// What the second round looks at on a line: an end out of reach of its start in UTC, a stamp in a time zone, or a start
 /// and an end that compare as instants.
 #[derive(Drop)]
-pub enum Later {
+pub enum DeferredCheck {
     End,
     Zone(ZoneName),
     Ends(Instant, Instant),

@@ -11,33 +11,33 @@ use Rattle.ics_values.specs.Plain.{text_of}
 use Rattle.ics_values.specs.Rules.{rule_of}
 use Rattle.ics_values.specs.Stamps.{stamp_of}
 use Rattle.ics_zone.specs.Observances.{Phase}
-use Rattle.ics_calendar.specs.declared.collected.Collected.{Collected}
+use Rattle.ics_calendar.specs.declared.event_builder.EventBuilder.{EventBuilder}
 use Rattle.ics_calendar.specs.declared.component.Component.{Component}
 use Rattle.ics_calendar.specs.declared.component.Component.TheVariants as component
-use Rattle.ics_calendar.specs.declared.component.Place.{Place}
-use Rattle.ics_calendar.specs.declared.component.Place.TheVariants as place
+use Rattle.ics_calendar.specs.declared.component.Context.{Context}
+use Rattle.ics_calendar.specs.declared.component.Context.TheVariants as context
 use Rattle.ics_calendar.specs.declared.name.Name.{Name}
 use Rattle.ics_calendar.specs.declared.name.Name.TheVariants as name
-use Rattle.ics_calendar.specs.declared.summary.ObservanceSummary.{ObservanceSummary}
-use Rattle.ics_calendar.specs.declared.summary.Summary.{Summary}
-use Rattle.ics_calendar.specs.declared.summary.Summary.TheVariants as summary
-use Rattle.ics_calendar.specs.declared.summary.ZoneSummary.{ZoneSummary}
-use Rattle.ics_calendar.specs.Components.{component_of, place_in, is_zone_place, is_observance_place}
+use Rattle.ics_calendar.specs.declared.builder.ObservanceBuilder.{ObservanceBuilder}
+use Rattle.ics_calendar.specs.declared.builder.Builder.{Builder}
+use Rattle.ics_calendar.specs.declared.builder.Builder.TheVariants as builder
+use Rattle.ics_calendar.specs.declared.builder.ZoneBuilder.{ZoneBuilder}
+use Rattle.ics_calendar.specs.Components.{component_of, context_in, is_zone_context, is_observance_context}
 use Rattle.ics_calendar.specs.DateValues.{rdates_of}
 use Rattle.ics_calendar.specs.Names.{name_of}
-use Rattle.ics_calendar.specs.Placed.{Placed, Open, property_name, value, place_of, in_zone, is_begin, component, is_named, all_named}
-use Rattle.ics_calendar.specs.Collecting.{collected_of}
+use Rattle.ics_calendar.specs.Placed.{Placed, Open, property_name, value, context_of, in_zone, is_begin, component, is_named, all_named}
+use Rattle.ics_calendar.proofs.Built.{collected_of, zone_of, observance_of}
 use Rattle.ics_calendar.specs.Lines.{or_first}
-use Rattle.ics_calendar.specs.Summaries.{zone_of, observance_of, observance_ended}
+use Rattle.ics_calendar.specs.Builders.{observance_ended}
 use Rattle.ics_calendar.specs.Zones.{local_in, onset_in, offset_in, daily_in, onset_on, offset_on, daily_on, onsets_by, begins_phase}
-use Rattle.ics_calendar.proofs.Judged.{event_note, zone_note, observance_note, summary_note, joined}
+use Rattle.ics_calendar.proofs.Judged.{event_note, zone_note, observance_note, builder_note, joined}
 use Rattle.ics_calendar.proofs.NameLemmas.{Tells, tells, TellsComponent, tells_component}
-use Rattle.ics_calendar.proofs.Collects.{collected_of-more, kept-more, parts_at}
-use Rattle.ics_calendar.proofs.Rows.{Gathered, summary_at}
+use Rattle.ics_calendar.proofs.EventBuilderLemmas.{collected_of-more, kept-more, parts_at}
+use Rattle.ics_calendar.proofs.Rows.{Gathered, builder_at}
 use Rattle.ics_calendar.proofs.Table.{gathered, own, parts}
 use Rattle.ics_calendar.proofs.Order.{inside}
 
-zone-noted : (n : Name) (u : List ℕ) (v : Parts) (had : ZoneSummary) → Tells u n → record had { name = cond (bytes_eq u (codes "TZID")) (or_first had.name (text_of v.value)) had.name } ≡ zone_note n v had
+zone-noted : (n : Name) (u : List ℕ) (v : Parts) (had : ZoneBuilder) → Tells u n → record had { name = cond (bytes_eq u (codes "TZID")) (or_first had.name (text_of v.value)) had.name } ≡ zone_note n v had
 zone-noted name.Other u v had e = rw e.no_tzid refl
 zone-noted name.Tzid u v had e = rw e refl
 zone-noted _ u v had e = rw e refl
@@ -58,7 +58,7 @@ listed-more f n ls l = ap (flat_map f) (filter-append (is_named n) ls (l ∷ [])
         ∙ ap (λ xs. flat_map f (all_named n ls) ++ xs) (flat_map-cons f l [] ∙ append-nil (f l))
     by_test false = ap (flat_map f) (append-nil (all_named n ls))
 
-observance-noted : (n : Name) (u : List ℕ) (v : Parts) (had : ObservanceSummary) → Tells u n →
+observance-noted : (n : Name) (u : List ℕ) (v : Parts) (had : ObservanceBuilder) → Tells u n →
     record {
       start = cond (bytes_eq u (codes "DTSTART")) (or_first had.start (onset_in (stamp_of false v.value))) had.start;
       from = cond (bytes_eq u (codes "TZOFFSETFROM")) (or_first had.from (offset_in (offset_of v.value))) had.from;
@@ -96,62 +96,62 @@ parts-same whole ls l e =
     ∙ ap (λ t. parts whole ls ++ cond t (own whole l ∷ []) []) (and-false (in_zone l)) ∙ append-nil (parts whole ls)
 
 -- an observance begins exactly on a STANDARD or DAYLIGHT in a time zone
-phase-begins : (q : Place) (w : List ℕ) → is_observance_place (place_in q (component_of w)) ≡ (is_zone_place q && (bytes_eq w (codes "STANDARD") || bytes_eq w (codes "DAYLIGHT")))
-phase-begins q w = by_place q (component_of w) (tells_component w)
+phase-begins : (q : Context) (w : List ℕ) → is_observance_context (context_in q (component_of w)) ≡ (is_zone_context q && (bytes_eq w (codes "STANDARD") || bytes_eq w (codes "DAYLIGHT")))
+phase-begins q w = by_context q (component_of w) (tells_component w)
   where
-    by_place : (q : Place) (c : Component) → TellsComponent w c → is_observance_place (place_in q c) ≡ (is_zone_place q && (bytes_eq w (codes "STANDARD") || bytes_eq w (codes "DAYLIGHT")))
-    by_place place.Outside component.Calendar e = refl
-    by_place place.Outside _ e = refl
-    by_place place.Calendar component.Event e = refl
-    by_place place.Calendar _ e = refl
-    by_place place.Zone (component.Other n) e = rw (e.0.no_standard, e.0.no_daylight) refl
-    by_place place.Zone component.Standard e = rw e refl
-    by_place place.Zone component.Daylight e = rw e refl
-    by_place place.Zone _ e = rw e refl
-    by_place _ c e = refl
+    by_context : (q : Context) (c : Component) → TellsComponent w c → is_observance_context (context_in q c) ≡ (is_zone_context q && (bytes_eq w (codes "STANDARD") || bytes_eq w (codes "DAYLIGHT")))
+    by_context context.Outside component.Calendar e = refl
+    by_context context.Outside _ e = refl
+    by_context context.Calendar component.Event e = refl
+    by_context context.Calendar _ e = refl
+    by_context context.Zone (component.Other n) e = rw (e.0.no_standard, e.0.no_daylight) refl
+    by_context context.Zone component.Standard e = rw e refl
+    by_context context.Zone component.Daylight e = rw e refl
+    by_context context.Zone _ e = rw e refl
+    by_context _ c e = refl
 
-phase-is : (l : Placed) → is_begin l ≡ true → begins_phase l ≡ is_observance_place (place_of (inside l))
+phase-is : (l : Placed) → is_begin l ≡ true → begins_phase l ≡ is_observance_context (context_of (inside l))
 phase-is l e =
     ap (λ t. in_zone l && ((t && bytes_eq (component l) (codes "STANDARD")) || (t && bytes_eq (component l) (codes "DAYLIGHT")))) e
-    ∙ sym (phase-begins (place_of l.path) (component l))
+    ∙ sym (phase-begins (context_of l.path) (component l))
 
 -- WHAT IS COLLECTED of a component, with one line more that begins none.
-pub summary-more : (whole : List Placed) (q : Place) (k : List Open) (ls : List Placed) (l : Placed) → is_begin l ≡ false →
-    summary_at q (gathered whole k (ls ++ l ∷ [])) ≡ summary_note (name_of (property_name l.content)) (parts_at l) (summary_at q (gathered whole k ls))
-summary-more whole place.Event k ls l e = ap summary.Event (collected_of-more ls l)
-summary-more whole place.Zone k ls l e = ap (λ os. summary.Zone (zone_of os (ls ++ l ∷ []))) (parts-same whole ls l e) ∙ ap summary.Zone (zone_of-more (parts whole ls) ls l)
-summary-more whole place.Observance k ls l e = ap summary.Observance (observance_of-more ls l)
-summary-more whole _ k ls l e = refl
+pub builder-more : (whole : List Placed) (q : Context) (k : List Open) (ls : List Placed) (l : Placed) → is_begin l ≡ false →
+    builder_at q (gathered whole k (ls ++ l ∷ [])) ≡ builder_note (name_of (property_name l.content)) (parts_at l) (builder_at q (gathered whole k ls))
+builder-more whole context.Event k ls l e = ap builder.Event (collected_of-more ls l)
+builder-more whole context.Zone k ls l e = ap (λ os. builder.Zone (zone_of os (ls ++ l ∷ []))) (parts-same whole ls l e) ∙ ap builder.Zone (zone_of-more (parts whole ls) ls l)
+builder-more whole context.Observance k ls l e = ap builder.Observance (observance_of-more ls l)
+builder-more whole _ k ls l e = refl
 
 -- The same with the BEGIN line of a component that has ended in it, and is one of its observances or changes nothing.
-event-still : (s : Summary) (had : Collected) → joined s (summary.Event had) ≡ summary.Event had
-event-still (summary.Observance o) had = refl
+event-still : (s : Builder) (had : EventBuilder) → joined s (builder.Event had) ≡ builder.Event had
+event-still (builder.Observance o) had = refl
 event-still _ had = refl
 
-observance-still : (s : Summary) (had : ObservanceSummary) → joined s (summary.Observance had) ≡ summary.Observance had
-observance-still (summary.Observance o) had = refl
+observance-still : (s : Builder) (had : ObservanceBuilder) → joined s (builder.Observance had) ≡ builder.Observance had
+observance-still (builder.Observance o) had = refl
 observance-still _ had = refl
 
-pub nothing-still : (s : Summary) → joined s summary.Nothing ≡ summary.Nothing
-nothing-still (summary.Observance o) = refl
+pub nothing-still : (s : Builder) → joined s builder.Nothing ≡ builder.Nothing
+nothing-still (builder.Observance o) = refl
 nothing-still _ = refl
 
-pub summary-begun : (whole : List Placed) (q : Place) (k : List Open) (ls : List Placed) (b : Placed) (g : Gathered) →
+pub builder-begun : (whole : List Placed) (q : Context) (k : List Open) (ls : List Placed) (b : Placed) (g : Gathered) →
     name_of (property_name b.content) ≡ name.Begin → is_begin b ≡ true → own whole b ≡ observance_ended g.observance →
-    summary_at q (gathered whole k (ls ++ b ∷ [])) ≡ joined (summary_at (place_of (inside b)) g) (summary_at q (gathered whole k ls))
-summary-begun whole place.Event k ls b g n e o =
-    ap summary.Event (collected_of-more ls b ∙ ap (λ n. event_note n (parts_at b) (collected_of ls)) n) ∙ sym (event-still (summary_at (place_of (inside b)) g) (collected_of ls))
-summary-begun whole place.Observance k ls b g n e o =
-    ap summary.Observance (observance_of-more ls b ∙ ap (λ n. observance_note n (parts_at b) (observance_of ls)) n)
-    ∙ sym (observance-still (summary_at (place_of (inside b)) g) (observance_of ls))
-summary-begun whole place.Zone k ls b g n e o =
-    ap summary.Zone (zone_of-more (parts whole (ls ++ b ∷ [])) ls b ∙ ap (λ n. zone_note n (parts_at b) (zone_of (parts whole (ls ++ b ∷ [])) ls)) n)
-    ∙ ap (λ os. summary.Zone (zone_of os ls)) (parts-more whole ls b ∙ ap (λ t. parts whole ls ++ cond t (own whole b ∷ []) []) (phase-is b e))
-    ∙ by_place (place_of (inside b))
+    builder_at q (gathered whole k (ls ++ b ∷ [])) ≡ joined (builder_at (context_of (inside b)) g) (builder_at q (gathered whole k ls))
+builder-begun whole context.Event k ls b g n e o =
+    ap builder.Event (collected_of-more ls b ∙ ap (λ n. event_note n (parts_at b) (collected_of ls)) n) ∙ sym (event-still (builder_at (context_of (inside b)) g) (collected_of ls))
+builder-begun whole context.Observance k ls b g n e o =
+    ap builder.Observance (observance_of-more ls b ∙ ap (λ n. observance_note n (parts_at b) (observance_of ls)) n)
+    ∙ sym (observance-still (builder_at (context_of (inside b)) g) (observance_of ls))
+builder-begun whole context.Zone k ls b g n e o =
+    ap builder.Zone (zone_of-more (parts whole (ls ++ b ∷ [])) ls b ∙ ap (λ n. zone_note n (parts_at b) (zone_of (parts whole (ls ++ b ∷ [])) ls)) n)
+    ∙ ap (λ os. builder.Zone (zone_of os ls)) (parts-more whole ls b ∙ ap (λ t. parts whole ls ++ cond t (own whole b ∷ []) []) (phase-is b e))
+    ∙ by_context (context_of (inside b))
   where
-    by_place : (p : Place) → summary.Zone (zone_of (parts whole ls ++ cond (is_observance_place p) (own whole b ∷ []) []) ls) ≡ joined (summary_at p g) (summary.Zone (zone_of (parts whole ls) ls))
-    by_place place.Observance = ap (λ p. summary.Zone (zone_of (parts whole ls ++ p ∷ []) ls)) o
-    by_place place.Event = ap (λ os. summary.Zone (zone_of os ls)) (append-nil (parts whole ls))
-    by_place place.Zone = ap (λ os. summary.Zone (zone_of os ls)) (append-nil (parts whole ls))
-    by_place _ = ap (λ os. summary.Zone (zone_of os ls)) (append-nil (parts whole ls))
-summary-begun whole _ k ls b g n e o = sym (nothing-still (summary_at (place_of (inside b)) g))
+    by_context : (p : Context) → builder.Zone (zone_of (parts whole ls ++ cond (is_observance_context p) (own whole b ∷ []) []) ls) ≡ joined (builder_at p g) (builder.Zone (zone_of (parts whole ls) ls))
+    by_context context.Observance = ap (λ p. builder.Zone (zone_of (parts whole ls ++ p ∷ []) ls)) o
+    by_context context.Event = ap (λ os. builder.Zone (zone_of os ls)) (append-nil (parts whole ls))
+    by_context context.Zone = ap (λ os. builder.Zone (zone_of os ls)) (append-nil (parts whole ls))
+    by_context _ = ap (λ os. builder.Zone (zone_of os ls)) (append-nil (parts whole ls))
+builder-begun whole _ k ls b g n e o = sym (nothing-still (builder_at (context_of (inside b)) g))

@@ -10,30 +10,30 @@ use Rattle.ics_text.specs.Contents.{Parts}
 use Rattle.ics_values.specs.declared.stamp.Stamp.{Stamp}
 use Rattle.ics_values.specs.declared.stamp.Stamp.TheVariants as stamp
 use Rattle.ics_calendar.specs.declared.component.Component.{Component}
-use Rattle.ics_calendar.specs.declared.component.Place.{Place}
-use Rattle.ics_calendar.specs.declared.component.Place.TheVariants as place
+use Rattle.ics_calendar.specs.declared.component.Context.{Context}
+use Rattle.ics_calendar.specs.declared.component.Context.TheVariants as context
 use Rattle.ics_calendar.specs.declared.dated.Dated.{Dated}
 use Rattle.ics_calendar.specs.declared.fault.FaultKind.{FaultKind}
 use Rattle.ics_calendar.specs.declared.fault.FaultKind.TheVariants.{BadEnd, UnknownZone}
-use Rattle.ics_calendar.specs.declared.later.Instant.{Instant}
-use Rattle.ics_calendar.specs.declared.later.Instant.TheVariants as instant
-use Rattle.ics_calendar.specs.declared.later.Later.{Later}
-use Rattle.ics_calendar.specs.declared.later.Later.TheVariants as later
-use Rattle.ics_calendar.specs.declared.later.ZoneName.{ZoneName}
+use Rattle.ics_calendar.specs.declared.deferred_check.Instant.{Instant}
+use Rattle.ics_calendar.specs.declared.deferred_check.Instant.TheVariants as instant
+use Rattle.ics_calendar.specs.declared.deferred_check.DeferredCheck.{DeferredCheck}
+use Rattle.ics_calendar.specs.declared.deferred_check.DeferredCheck.TheVariants as check
+use Rattle.ics_calendar.specs.declared.deferred_check.ZoneName.{ZoneName}
 use Rattle.ics_calendar.specs.declared.name.Name.{Name}
 use Rattle.ics_calendar.specs.declared.name.Name.TheVariants as name
-use Rattle.ics_calendar.specs.Components.{component_of, is_event_place}
+use Rattle.ics_calendar.specs.Components.{component_of, is_event_context}
 use Rattle.ics_calendar.specs.DateLists.{rdate_list, exdate_list}
 use Rattle.ics_calendar.specs.DateValues.{has_zoned, listed_in}
 use Rattle.ics_calendar.specs.Event.{seconds_of, is_zoned}
 use Rattle.ics_calendar.specs.Names.{name_of}
-use Rattle.ics_calendar.specs.Placed.{Placed, Open, place_of, closes}
+use Rattle.ics_calendar.specs.Placed.{Placed, Open, context_of, closes}
 use Rattle.ics_calendar.specs.Values.{dated_of, is_out}
 use Rattle.ics_calendar.specs.Faults.{stamp_names, stands_later, kinds}
 use Rattle.ics_calendar.specs.Lines.{instant_on, instant_in, both_compared, ends_in}
-use Rattle.ics_calendar.proofs.Judged.{later_in}
+use Rattle.ics_calendar.proofs.Judged.{check_in}
 use Rattle.ics_calendar.proofs.Ended.{IsMatched}
-use Rattle.ics_calendar.specs.Laters.{KnownZones, are_out, zone_used, moment_on, moment_in, are_of_one_zone, ends_badly_later, moment_of, judged}
+use Rattle.ics_calendar.specs.DeferredChecks.{KnownZones, are_out, zone_used, moment_on, moment_in, are_of_one_zone, ends_badly_later, moment_of, judged}
 use Rattle.ics_calendar.proofs.NameLemmas.{Tells, tells}
 use Rattle.ics_calendar.proofs.Rows.{Gathered, dates_at, frame_at, or-false}
 use Rattle.ics_calendar.proofs.Table.{gathered, frame_of}
@@ -56,7 +56,7 @@ compared-judged known None b = refl
 compared-judged known (Some a) None = rw (out-none (moment_of known a)) refl
 compared-judged known (Some (instant.Utc a)) (Some (instant.Utc b)) = when (is_out (seconds_of a) (seconds_of b))
   where
-    when : (t : Bool) → cond t (Some BadEnd) None ≡ option_and_then (judged known) (cond t (Some later.End) None)
+    when : (t : Bool) → cond t (Some BadEnd) None ≡ option_and_then (judged known) (cond t (Some check.End) None)
     when true = refl
     when false = refl
 compared-judged known (Some (instant.Utc a)) (Some (instant.Zoned b name)) = refl
@@ -77,27 +77,27 @@ ends-judged known k (Some a) (Some b) =
     by_test false = compared-judged known (instant_in k a) (instant_in k b)
 
 -- THE SECOND ROUND. The table, of what it reads of a line.
-abbrev later_flat : (u : List ℕ) (v : Parts) (q : Place) (cl be has : Bool) → Option FaultKind
+abbrev later_flat : (u : List ℕ) (v : Parts) (q : Context) (cl be has : Bool) → Option FaultKind
 later_flat u v q cl be has =
-    cond (bytes_eq u (codes "END") && cl && is_event_place q && be) (Some BadEnd)
-    (cond (((is_event_place q && list_any has_zoned (map listed_in (dates_at u v))) || (is_event_place q && list_any (bytes_eq u) stamp_names && is_zoned (dated_of v.params v.value).stamp)) && not has) (Some UnknownZone) None)
+    cond (bytes_eq u (codes "END") && cl && is_event_context q && be) (Some BadEnd)
+    (cond (((is_event_context q && list_any has_zoned (map listed_in (dates_at u v))) || (is_event_context q && list_any (bytes_eq u) stamp_names && is_zoned (dated_of v.params v.value).stamp)) && not has) (Some UnknownZone) None)
 
-abbrev later_of : Name → Parts → Component → Place → Gathered → Option Later
-later_of n v c q g = later_in n v (frame_at c q g)
+abbrev check_of : Name → Parts → Component → Context → Gathered → Option DeferredCheck
+check_of n v c q g = check_in n v (frame_at c q g)
 
-abbrev bad_later : KnownZones → Gathered → Bool
-bad_later known g = ends_badly_later known g.calendar g.event.start g.event.end
+abbrev bad_check : KnownZones → Gathered → Bool
+bad_check known g = ends_badly_later known g.calendar g.event.start g.event.end
 
 -- the zone that a line names, if it has a stamp in one
 abbrev use_of : Gathered → Parts → ZoneName
 use_of g v = zone_used g.calendar (dated_of v.params v.value)
 
-later-end : (known : KnownZones) (v : Parts) (c : Component) (q : Place) (has : Bool) (g : Gathered) → later_flat (codes "END") v q true (bad_later known g) has ≡ option_and_then (judged known) (later_of name.End v c q g)
-later-end known v c place.Event has g = ends-judged known g.calendar g.event.start g.event.end
+later-end : (known : KnownZones) (v : Parts) (c : Component) (q : Context) (has : Bool) (g : Gathered) → later_flat (codes "END") v q true (bad_check known g) has ≡ option_and_then (judged known) (check_of name.End v c q g)
+later-end known v c context.Event has g = ends-judged known g.calendar g.event.start g.event.end
 later-end known v c _ has g = refl
 
 in-zone : (known : KnownZones) (zoned : Bool) (used : ZoneName) →
-    cond (zoned && not (is_some (known.index used))) (Some UnknownZone) None ≡ option_and_then (judged known) (cond zoned (Some (later.Zone used)) None)
+    cond (zoned && not (is_some (known.index used))) (Some UnknownZone) None ≡ option_and_then (judged known) (cond zoned (Some (check.Zone used)) None)
 in-zone known false used = refl
 in-zone known true used = when (is_some (known.index used))
   where
@@ -105,44 +105,44 @@ in-zone known true used = when (is_some (known.index used))
     when true = refl
     when false = refl
 
-later-other : (known : KnownZones) (n : Name) (u : List ℕ) (v : Parts) (c : Component) (q : Place) (cl : Bool) (g : Gathered) → Tells u n → (bytes_eq u (codes "END") && not (bytes_eq u (codes "END") && cl)) ≡ false →
-    later_flat u v q cl (bad_later known g) (is_some (known.index (use_of g v))) ≡ option_and_then (judged known) (later_of n v c q g)
+later-other : (known : KnownZones) (n : Name) (u : List ℕ) (v : Parts) (c : Component) (q : Context) (cl : Bool) (g : Gathered) → Tells u n → (bytes_eq u (codes "END") && not (bytes_eq u (codes "END") && cl)) ≡ false →
+    later_flat u v q cl (bad_check known g) (is_some (known.index (use_of g v))) ≡ option_and_then (judged known) (check_of n v c q g)
 later-other known name.End u v c q true g e m = rw e (later-end known v c q (is_some (known.index (use_of g v))) g)
 later-other known name.End u v c q false g e m = let h : true ≡ false = subst (λ (u : List ℕ). (bytes_eq u (codes "END") && not (bytes_eq u (codes "END") && false)) ≡ false) e m in cc
-later-other known name.Dtstart u v c place.Event cl g e m = rw e (in-zone known (is_zoned (dated_of v.params v.value).stamp) (use_of g v))
+later-other known name.Dtstart u v c context.Event cl g e m = rw e (in-zone known (is_zoned (dated_of v.params v.value).stamp) (use_of g v))
 later-other known name.Dtstart u v c _ cl g e m = rw e refl
-later-other known name.Dtend u v c place.Event cl g e m = rw e (in-zone known (is_zoned (dated_of v.params v.value).stamp) (use_of g v))
+later-other known name.Dtend u v c context.Event cl g e m = rw e (in-zone known (is_zoned (dated_of v.params v.value).stamp) (use_of g v))
 later-other known name.Dtend u v c _ cl g e m = rw e refl
-later-other known name.RecurrenceId u v c place.Event cl g e m = rw e (in-zone known (is_zoned (dated_of v.params v.value).stamp) (use_of g v))
+later-other known name.RecurrenceId u v c context.Event cl g e m = rw e (in-zone known (is_zoned (dated_of v.params v.value).stamp) (use_of g v))
 later-other known name.RecurrenceId u v c _ cl g e m = rw e refl
-later-other known name.Rdate u v c place.Event cl g e m = rw e (simp or-false (in-zone known (list_any has_zoned (rdate_list v.params v.value).values) (use_of g v)))
+later-other known name.Rdate u v c context.Event cl g e m = rw e (simp or-false (in-zone known (list_any has_zoned (rdate_list v.params v.value).values) (use_of g v)))
 later-other known name.Rdate u v c _ cl g e m = rw e refl
-later-other known name.Exdate u v c place.Event cl g e m = rw e (simp or-false (in-zone known (list_any has_zoned (exdate_list v.params v.value).values) (use_of g v)))
+later-other known name.Exdate u v c context.Event cl g e m = rw e (simp or-false (in-zone known (list_any has_zoned (exdate_list v.params v.value).values) (use_of g v)))
 later-other known name.Exdate u v c _ cl g e m = rw e refl
-later-other known name.Other u v c place.Event cl g e m = simp (e.no_end, e.no_rdate, e.no_exdate, e.no_dtstart, e.no_dtend, e.no_recurrence_id) refl
+later-other known name.Other u v c context.Event cl g e m = simp (e.no_end, e.no_rdate, e.no_exdate, e.no_dtstart, e.no_dtend, e.no_recurrence_id) refl
 later-other known name.Other u v c _ cl g e m = simp (e.no_end, e.no_rdate, e.no_exdate, e.no_dtstart, e.no_dtend, e.no_recurrence_id) refl
-later-other known _ u v c place.Event cl g e m = rw e refl
+later-other known _ u v c context.Event cl g e m = rw e refl
 later-other known _ u v c _ cl g e m = rw e refl
 
-outside-later : (u : List ℕ) (v : Parts) (cl be has : Bool) → later_flat u v place.Outside cl be has ≡ None
+outside-later : (u : List ℕ) (v : Parts) (cl be has : Bool) → later_flat u v context.Outside cl be has ≡ None
 outside-later u v cl be has = by_tests (bytes_eq u (codes "END") && cl)
   where
     by_tests : (t : Bool) → cond (t && false && be) (Some BadEnd) None ≡ None
     by_tests true = refl
     by_tests false = refl
 
-none-outside : (whole : List Placed) (n : Name) (v : Parts) (ls : List Placed) → later_in n v (frame_of whole [] ls) ≡ None
+none-outside : (whole : List Placed) (n : Name) (v : Parts) (ls : List Placed) → check_in n v (frame_of whole [] ls) ≡ None
 none-outside whole name.Begin v ls = refl
 none-outside whole name.End v ls = refl
 none-outside whole _ v ls = refl
 
 -- WHAT THE SECOND ROUND FINDS on a line, of the table and of the pass.
 pub later-same : (whole : List Placed) (known : KnownZones) (line : Line) (path : List Open) (parts : Parts) (ls : List Placed) → IsMatched (with line path parts) →
-    find (λ kind. stands_later known kind ls (with line path parts)) kinds ≡ option_and_then (judged known) (later_in (name_of (map upper parts.name)) parts (frame_of whole path ls))
+    find (λ kind. stands_later known kind ls (with line path parts)) kinds ≡ option_and_then (judged known) (check_in (name_of (map upper parts.name)) parts (frame_of whole path ls))
 later-same whole known line [] parts ls m =
     let u : List ℕ = map upper parts.name in
     let g : Gathered = gathered whole [] ls in
-    outside-later u parts false (bad_later known g) (is_some (known.index (use_of g parts))) ∙ ap (option_and_then (judged known)) (sym (none-outside whole (name_of u) parts ls))
+    outside-later u parts false (bad_check known g) (is_some (known.index (use_of g parts))) ∙ ap (option_and_then (judged known)) (sym (none-outside whole (name_of u) parts ls))
 later-same whole known line (c ∷ cs) parts ls m =
     let u : List ℕ = map upper parts.name in
-    later-other known (name_of u) u parts (component_of c.name) (place_of (c ∷ cs)) (closes (c ∷ cs) (map upper parts.value)) (gathered whole (c ∷ cs) ls) (tells u) m
+    later-other known (name_of u) u parts (component_of c.name) (context_of (c ∷ cs)) (closes (c ∷ cs) (map upper parts.value)) (gathered whole (c ∷ cs) ls) (tells u) m

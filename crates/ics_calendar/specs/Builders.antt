@@ -1,0 +1,80 @@
+-- What has been read of an event, of a time zone and of an observance, and what each is at its END.
+use Rattle.std.specs.Prelude.{ℕ, false, [], Option, None, option_map, unwrap_or, pos}
+use Rattle.ics_values.specs.Locals.{local_at}
+use Rattle.ics_zone.specs.Observances.{Phase}
+use Rattle.ics_calendar.specs.declared.builder.Builder.{Builder}
+use Rattle.ics_calendar.specs.declared.builder.Builder.TheVariants as builder
+use Rattle.ics_calendar.specs.declared.builder.ObservanceBuilder.{ObservanceBuilder}
+use Rattle.ics_calendar.specs.declared.builder.ZoneBuilder.{ZoneBuilder}
+use Rattle.ics_calendar.specs.declared.component.Context.{Context}
+use Rattle.ics_calendar.specs.declared.component.Context.TheVariants as context
+use Rattle.ics_calendar.specs.declared.deferred_check.ZoneName.{ZoneName}
+use Rattle.ics_calendar.specs.declared.event_builder.EventBuilder.{EventBuilder}
+use Rattle.ics_calendar.specs.declared.gathered.EndedEvent.{EndedEvent}
+use Rattle.ics_calendar.specs.declared.gathered.EndedZone.{EndedZone}
+use Rattle.ics_calendar.specs.DateLists.{rdates_by, exdates_by}
+use Rattle.ics_calendar.specs.Event.{EventSeen}
+use Rattle.ics_calendar.specs.Times.{time_on, dated_in, given_length, length_of}
+
+abbrev pub nothing : EventBuilder
+nothing = record { uid = None; start = None; end = None; duration = None; rule = None; rdates = []; exdates = []; recurrence = None; sequence = None; title = None; location = None; description = None; cancelled = None }
+
+-- the event of a calendar that ends with what is collected; an accepted file has the fields that are asked for
+abbrev pub event_ended : ℕ → EventBuilder → EndedEvent
+event_ended calendar had = record {
+  calendar = calendar;
+  uid = unwrap_or had.uid [];
+  start = dated_in had.start;
+  length = given_length had.end had.duration;
+  rule = had.rule;
+  rdates = had.rdates;
+  exdates = had.exdates;
+  recurrence = had.recurrence;
+  sequence = unwrap_or had.sequence 0;
+  title = unwrap_or had.title [];
+  location = unwrap_or had.location [];
+  description = unwrap_or had.description [];
+  cancelled = unwrap_or had.cancelled false;
+}
+
+-- the event, given the index of the zone that a name stands for
+abbrev pub event_of : (ZoneName → Option ℕ) → EndedEvent → EventSeen
+event_of index event = record {
+  uid = event.uid;
+  sequence = event.sequence;
+  start = time_on index event.calendar event.start;
+  length = length_of index event.calendar event.length;
+  rule = event.rule;
+  rdates = rdates_by index event.calendar event.rdates;
+  exdates = exdates_by index event.calendar event.exdates;
+  recurrence = option_map (time_on index event.calendar) event.recurrence;
+  title = event.title;
+  location = event.location;
+  description = event.description;
+  cancelled = event.cancelled;
+}
+
+abbrev pub nothing_zone : ZoneBuilder
+nothing_zone = record { name = None; observances = [] }
+
+abbrev pub nothing_observance : ObservanceBuilder
+nothing_observance = record { start = None; from = None; to = None; rule = None; rdates = [] }
+
+abbrev pub fresh : Context → Builder
+fresh context.Event = builder.Event nothing
+fresh context.Zone = builder.Zone nothing_zone
+fresh context.Observance = builder.Observance nothing_observance
+fresh _ = builder.Nothing
+
+-- WHAT HAS ENDED, with what is collected of it. An accepted file has the fields that are asked for.
+abbrev pub zone_ended : ℕ → ZoneBuilder → EndedZone
+zone_ended calendar had = record { name = record { calendar = calendar; name = unwrap_or had.name [] }; observances = had.observances }
+
+abbrev pub observance_ended : ObservanceBuilder → Phase
+observance_ended had = record {
+  start = unwrap_or had.start (local_at (pos 0) 0);
+  offset_from = unwrap_or had.from (pos 0);
+  offset_to = unwrap_or had.to (pos 0);
+  rule = had.rule;
+  rdates = had.rdates;
+}
