@@ -37,7 +37,8 @@ use Rattle.ics_calendar.specs.Ready.{EachZone, end_of}
 use Rattle.ics_calendar.specs.Times.{dated_in, given_length}
 use Rattle.ics_calendar.specs.Sound.{IsSoundStamp}
 use Rattle.ics_calendar.specs.Values.{dated_of, is_out}
-use Rattle.ics_calendar.proofs.Judged.{event_note, event_check, builder_note, builder_check, end_check, check_in, joined, closed, behind, ends, ended_as, is_begin_name, is_end_name, behind-is, check-is}
+use Rattle.ics_calendar.proofs.Judged.{event_note, event_check, builder_note, builder_check, end_check, check_in, joined, closed, behind, ends, ended_as}
+use Rattle.ics_calendar.proofs.Judged.{is_begin_name, is_end_name, behind-is, check-is}
 use Rattle.ics_calendar.proofs.Listed.{some-weaker}
 use Rattle.ics_calendar.proofs.Sound.{IsSoundAt}
 
@@ -49,7 +50,8 @@ abbrev pub one : Option DeferredCheck → List DeferredCheck
 one None = []
 one (Some l) = l ∷ []
 
-pub bare_checks-more : (checks : List LineCheck) (number : ℕ) (o : Option DeferredCheck) → bare_checks (checks ++ checks_of number o) ≡ bare_checks checks ++ one o
+pub bare_checks-more : (checks : List LineCheck) (number : ℕ) (o : Option DeferredCheck) →
+    bare_checks (checks ++ checks_of number o) ≡ bare_checks checks ++ one o
 bare_checks-more checks number o = map-append (λ (w : LineCheck). w.check) checks (checks_of number o) ∙ ap (λ ls. bare_checks checks ++ ls) (by_option o)
   where
     by_option : (o : Option DeferredCheck) → bare_checks (checks_of number o) ≡ one o
@@ -88,8 +90,11 @@ looked-more checks more k had z = record {
   recurrence = some-more checks more (used_in k had.recurrence) z.recurrence;
 }
   where
-    lists : (ls : List DateList) → All (λ list. IfSome (listed_zone k list) (Contains checks)) ls → All (λ list. IfSome (listed_zone k list) (Contains (checks ++ more))) ls
-    lists = All-weaker (λ list. IfSome (listed_zone k list) (Contains checks)) (λ list. IfSome (listed_zone k list) (Contains (checks ++ more))) (λ list h. some-more checks more (listed_zone k list) h)
+    lists : (ls : List DateList) → All (λ list. IfSome (listed_zone k list) (Contains checks)) ls →
+        All (λ list. IfSome (listed_zone k list) (Contains (checks ++ more))) ls
+    lists =
+        All-weaker (λ list. IfSome (listed_zone k list) (Contains checks)) (λ list. IfSome (listed_zone k list) (Contains (checks ++ more)))
+        (λ list h. some-more checks more (listed_zone k list) h)
 
 awaited-more : (checks more : List DeferredCheck) (calendar : ℕ) (s : Builder) → IsAwaitedIn checks calendar s → IsAwaitedIn (checks ++ more) calendar s
 awaited-more checks more k (builder.Event had) h = looked-more checks more k had h
@@ -101,24 +106,64 @@ are-awaited-more : (checks more : List DeferredCheck) (frames : List Frame) → 
 are-awaited-more checks more [] h = tt
 are-awaited-more checks more (f ∷ fs) h = (awaited-more checks more f.calendar f.builder h.0, are-awaited-more checks more fs h.1)
 
-first-looked : (checks : List DeferredCheck) (calendar : ℕ) (o : Option Dated) (dated : Dated) → IfSome (used_in calendar o) (Contains (checks ++ one (used_zone calendar dated))) →
+first-looked : (checks : List DeferredCheck) (calendar : ℕ) (o : Option Dated) (dated : Dated) →
+    IfSome (used_in calendar o) (Contains (checks ++ one (used_zone calendar dated))) →
     IfSome (used_in calendar (or_first o dated)) (Contains (checks ++ one (used_zone calendar dated)))
 first-looked checks k (Some d) dated h = h
 first-looked checks k None dated h = some-here checks (used_zone k dated)
 
-last-looked : (checks : List DeferredCheck) (calendar : ℕ) (lists : List DateList) (list : DateList) → All (λ l. IfSome (listed_zone calendar l) (Contains (checks ++ one (listed_zone calendar list)))) lists →
+last-looked : (checks : List DeferredCheck) (calendar : ℕ) (lists : List DateList) (list : DateList) →
+    All (λ l. IfSome (listed_zone calendar l) (Contains (checks ++ one (listed_zone calendar list)))) lists →
     All (λ l. IfSome (listed_zone calendar l) (Contains (checks ++ one (listed_zone calendar list)))) (lists ++ list ∷ [])
-last-looked checks k lists list h = All-push (λ l. IfSome (listed_zone k l) (Contains (checks ++ one (listed_zone k list)))) lists list h (some-here checks (listed_zone k list))
+last-looked checks k lists list h =
+    All-push (λ l. IfSome (listed_zone k l) (Contains (checks ++ one (listed_zone k list)))) lists list h (some-here checks (listed_zone k list))
 
-event-noted : (checks : List DeferredCheck) (k : ℕ) (n : Name) (v : Parts) (had : EventBuilder) → AreLooked (checks ++ one (event_check k n v)) k had → AreLooked (checks ++ one (event_check k n v)) k (event_note n v had)
-event-noted checks k name.Dtstart v had z = record { start = first-looked checks k had.start (dated_of v.params v.value) z.start; end = z.end; rdates = z.rdates; exdates = z.exdates; recurrence = z.recurrence }
-event-noted checks k name.Dtend v had z = record { start = z.start; end = first-looked checks k had.end (dated_of v.params v.value) z.end; rdates = z.rdates; exdates = z.exdates; recurrence = z.recurrence }
-event-noted checks k name.RecurrenceId v had z = record { start = z.start; end = z.end; rdates = z.rdates; exdates = z.exdates; recurrence = first-looked checks k had.recurrence (dated_of v.params v.value) z.recurrence }
-event-noted checks k name.Rdate v had z = record { start = z.start; end = z.end; rdates = last-looked checks k had.rdates (rdate_list v.params v.value) z.rdates; exdates = z.exdates; recurrence = z.recurrence }
-event-noted checks k name.Exdate v had z = record { start = z.start; end = z.end; rdates = z.rdates; exdates = last-looked checks k had.exdates (exdate_list v.params v.value) z.exdates; recurrence = z.recurrence }
+event-noted : (checks : List DeferredCheck) (k : ℕ) (n : Name) (v : Parts) (had : EventBuilder) → AreLooked (checks ++ one (event_check k n v)) k had →
+    AreLooked (checks ++ one (event_check k n v)) k (event_note n v had)
+event-noted checks k name.Dtstart v had z =
+    record {
+      start = first-looked checks k had.start (dated_of v.params v.value) z.start;
+      end = z.end;
+      rdates = z.rdates;
+      exdates = z.exdates;
+      recurrence = z.recurrence;
+    }
+event-noted checks k name.Dtend v had z =
+    record {
+      start = z.start;
+      end = first-looked checks k had.end (dated_of v.params v.value) z.end;
+      rdates = z.rdates;
+      exdates = z.exdates;
+      recurrence = z.recurrence;
+    }
+event-noted checks k name.RecurrenceId v had z =
+    record {
+      start = z.start;
+      end = z.end;
+      rdates = z.rdates;
+      exdates = z.exdates;
+      recurrence = first-looked checks k had.recurrence (dated_of v.params v.value) z.recurrence;
+    }
+event-noted checks k name.Rdate v had z =
+    record {
+      start = z.start;
+      end = z.end;
+      rdates = last-looked checks k had.rdates (rdate_list v.params v.value) z.rdates;
+      exdates = z.exdates;
+      recurrence = z.recurrence;
+    }
+event-noted checks k name.Exdate v had z =
+    record {
+      start = z.start;
+      end = z.end;
+      rdates = z.rdates;
+      exdates = last-looked checks k had.exdates (exdate_list v.params v.value) z.exdates;
+      recurrence = z.recurrence;
+    }
 event-noted checks k _ v had z = record { start = z.start; end = z.end; rdates = z.rdates; exdates = z.exdates; recurrence = z.recurrence }
 
-noted-awaited : (checks : List DeferredCheck) (k : ℕ) (n : Name) (v : Parts) (s : Builder) → IsAwaitedIn checks k s → IsAwaitedIn (checks ++ one (builder_check k n v s)) k (builder_note n v s)
+noted-awaited : (checks : List DeferredCheck) (k : ℕ) (n : Name) (v : Parts) (s : Builder) → IsAwaitedIn checks k s →
+    IsAwaitedIn (checks ++ one (builder_check k n v s)) k (builder_note n v s)
 noted-awaited checks k n v (builder.Event had) h = event-noted checks k n v had (looked-more checks (one (event_check k n v)) k had h)
 noted-awaited checks k n v (builder.Zone had) h = tt
 noted-awaited checks k n v (builder.Observance had) h = tt
@@ -146,7 +191,8 @@ closed-awaited checks f [] h = h
 closed-awaited checks f (g ∷ gs) h = (joined-awaited checks g.calendar f.builder g.builder h.1.0, h.1.1)
 
 -- a line keeps it
-pub awaited-behind : (checks : List DeferredCheck) (number : ℕ) (n : Name) (v : Parts) (f : Frame) (fs : List Frame) → AreAwaited checks (f ∷ fs) → AreAwaited (checks ++ one (check_in n v f)) (behind number n v (f ∷ fs))
+pub awaited-behind : (checks : List DeferredCheck) (number : ℕ) (n : Name) (v : Parts) (f : Frame) (fs : List Frame) → AreAwaited checks (f ∷ fs) →
+    AreAwaited (checks ++ one (check_in n v f)) (behind number n v (f ∷ fs))
 awaited-behind checks number n v f fs h = rw (check-is n v f, behind-is number n v f fs) (by_tests (is_begin_name n) (is_end_name n))
   where
     c : Component
@@ -155,20 +201,24 @@ awaited-behind checks number n v f fs h = rw (check-is n v f, behind-is number n
     by_tests : (b e : Bool) → AreAwaited (checks ++ one (cond b None (cond e (end_check f.calendar f.builder) (builder_check f.calendar n v f.builder))))
         (cond b (opened number c (f ∷ fs)) (cond e (closed (f ∷ fs)) (record f { builder = builder_note n v f.builder } ∷ fs)))
     by_tests true e = (fresh-awaited (checks ++ []) _ (context_in f.context c), are-awaited-more checks [] (f ∷ fs) h)
-    by_tests false true = closed-awaited (checks ++ one (end_check f.calendar f.builder)) f fs (are-awaited-more checks (one (end_check f.calendar f.builder)) (f ∷ fs) h)
+    by_tests false true =
+        closed-awaited (checks ++ one (end_check f.calendar f.builder)) f fs (are-awaited-more checks (one (end_check f.calendar f.builder)) (f ∷ fs) h)
     by_tests false false = (noted-awaited checks f.calendar n v f.builder h.0, are-awaited-more checks (one (builder_check f.calendar n v f.builder)) fs h.1)
 
 -- AN EVENT THAT ENDS is awaited.
-start-looked : (checks : List DeferredCheck) (k : ℕ) (o : Option Dated) → IfSome (used_in k o) (Contains checks) → IfSome (used_zone k (dated_in o)) (Contains checks)
+start-looked : (checks : List DeferredCheck) (k : ℕ) (o : Option Dated) → IfSome (used_in k o) (Contains checks) →
+    IfSome (used_zone k (dated_in o)) (Contains checks)
 start-looked checks k (Some d) h = h
 start-looked checks k None h = tt
 
-end-looked : (checks : List DeferredCheck) (k : ℕ) (o : Option Dated) (d : Option Duration) → IfSome (used_in k o) (Contains checks) → IfSome (used_in k (end_of (given_length o d))) (Contains checks)
+end-looked : (checks : List DeferredCheck) (k : ℕ) (o : Option Dated) (d : Option Duration) → IfSome (used_in k o) (Contains checks) →
+    IfSome (used_in k (end_of (given_length o d))) (Contains checks)
 end-looked checks k (Some e) d h = h
 end-looked checks k None (Some d) h = tt
 end-looked checks k None None h = tt
 
-length-looked : (checks : List DeferredCheck) (k : ℕ) (s e : Option Dated) (d : Option Duration) → IfSome (ends_in k s e) (Contains checks) → IfSome (ends_in k (Some (dated_in s)) (end_of (given_length e d))) (Contains checks)
+length-looked : (checks : List DeferredCheck) (k : ℕ) (s e : Option Dated) (d : Option Duration) → IfSome (ends_in k s e) (Contains checks) →
+    IfSome (ends_in k (Some (dated_in s)) (end_of (given_length e d))) (Contains checks)
 length-looked checks k (Some s) (Some e) d h = h
 length-looked checks k None (Some e) d h = tt
 length-looked checks k (Some s) None (Some d) h = tt
@@ -176,11 +226,13 @@ length-looked checks k (Some s) None None h = tt
 length-looked checks k None None (Some d) h = tt
 length-looked checks k None None None h = tt
 
-pub ended-awaited : (checks : List DeferredCheck) (n : Name) (v : Parts) (f : Frame) (fs : List Frame) → AreAwaited checks (f ∷ fs) → All (EachZone (Contains (checks ++ one (check_in n v f)))) (events_of_end (ends n (f ∷ fs)))
+pub ended-awaited : (checks : List DeferredCheck) (n : Name) (v : Parts) (f : Frame) (fs : List Frame) → AreAwaited checks (f ∷ fs) →
+    All (EachZone (Contains (checks ++ one (check_in n v f)))) (events_of_end (ends n (f ∷ fs)))
 ended-awaited checks name.End v f [] h = All-nil (EachZone (Contains (checks ++ one (end_check f.calendar f.builder))))
 ended-awaited checks name.End v f (g ∷ gs) h = by_builder f.builder h.0
   where
-    by_builder : (s : Builder) → IsAwaitedIn checks f.calendar s → All (EachZone (Contains (checks ++ one (end_check f.calendar s)))) (events_of_end (ended_as f.calendar s))
+    by_builder : (s : Builder) → IsAwaitedIn checks f.calendar s →
+        All (EachZone (Contains (checks ++ one (end_check f.calendar s)))) (events_of_end (ended_as f.calendar s))
     by_builder (builder.Event had) h =
         let k : ℕ = f.calendar in
         let late : Option DeferredCheck = ends_in k had.start had.end in
@@ -220,7 +272,8 @@ compared-sound (Some (instant.Utc a)) (Some (instant.Zoned b name)) h k = (h, k)
 compared-sound (Some (instant.Zoned a name)) (Some (instant.Utc b)) h k = (h, k)
 compared-sound (Some (instant.Zoned a name)) (Some (instant.Zoned b other)) h k = (h, k)
 
-ends-sound : (calendar : ℕ) (start end : Option Dated) → IfSome start (λ d. IsSoundStamp d.stamp) → IfSome end (λ d. IsSoundStamp d.stamp) → IfSome (ends_in calendar start end) IsSoundCheck
+ends-sound : (calendar : ℕ) (start end : Option Dated) → IfSome start (λ d. IsSoundStamp d.stamp) → IfSome end (λ d. IsSoundStamp d.stamp) →
+    IfSome (ends_in calendar start end) IsSoundCheck
 ends-sound k None end h i = tt
 ends-sound k (Some a) None h i = tt
 ends-sound k (Some a) (Some b) h i = by_test (are_of_one_zone a b)
@@ -272,7 +325,8 @@ check-sound n v f h = subst (λ (o : Option DeferredCheck). IfSome o IsSoundChec
     by_tests false true = end-sound f.calendar f.context f.builder h
     by_tests false false = builder-check-sound f.calendar n v f.builder
 
-pub checks-sound : (number : ℕ) (n : Name) (v : Parts) (f : Frame) → IsSoundAt f.context f.builder → All (λ w. IsSoundCheck w.check) (checks_of number (check_in n v f))
+pub checks-sound : (number : ℕ) (n : Name) (v : Parts) (f : Frame) → IsSoundAt f.context f.builder →
+    All (λ w. IsSoundCheck w.check) (checks_of number (check_in n v f))
 checks-sound number n v f s = by_option (check_in n v f) (check-sound n v f s)
   where
     by_option : (o : Option DeferredCheck) → IfSome o IsSoundCheck → All (λ w. IsSoundCheck w.check) (checks_of number o)

@@ -5,6 +5,7 @@ use Rattle.std.specs.Str.{bytes_eq}
 use Rattle.std.proofs.lemmas.List.{append-nil, map-append}
 use Rattle.std.proofs.lemmas.List.Concat.{flat_map-append, flat_map-cons}
 use Rattle.std.proofs.lemmas.List.Elements.{filter-append}
+use Rattle.std.proofs.Math.Bool.{and-false}
 use Rattle.ics_text.specs.Contents.{Parts}
 use Rattle.ics_values.specs.Offsets.{offset_of}
 use Rattle.ics_values.specs.Plain.{text_of}
@@ -37,12 +38,14 @@ use Rattle.ics_calendar.proofs.Rows.{Gathered, builder_at}
 use Rattle.ics_calendar.proofs.Table.{gathered, own, parts}
 use Rattle.ics_calendar.proofs.Order.{inside}
 
-zone-noted : (n : Name) (u : List ℕ) (v : Parts) (had : ZoneBuilder) → Tells u n → record had { name = cond (bytes_eq u (codes "TZID")) (or_first had.name (text_of v.value)) had.name } ≡ zone_note n v had
+zone-noted : (n : Name) (u : List ℕ) (v : Parts) (had : ZoneBuilder) → Tells u n →
+    record had { name = cond (bytes_eq u (codes "TZID")) (or_first had.name (text_of v.value)) had.name } ≡ zone_note n v had
 zone-noted name.Other u v had e = rw e.no_tzid refl
 zone-noted name.Tzid u v had e = rw e refl
 zone-noted _ u v had e = rw e refl
 
-pub zone_of-more : (os : List Phase) (ls : List Placed) (l : Placed) → zone_of os (ls ++ l ∷ []) ≡ zone_note (name_of (property_name l.content)) (parts_at l) (zone_of os ls)
+pub zone_of-more : (os : List Phase) (ls : List Placed) (l : Placed) →
+    zone_of os (ls ++ l ∷ []) ≡ zone_note (name_of (property_name l.content)) (parts_at l) (zone_of os ls)
 zone_of-more os ls l =
     rw (kept-more (λ l. text_of (value l)) (codes "TZID") ls l)
     (zone-noted (name_of (property_name l.content)) (property_name l.content) (parts_at l) (zone_of os ls) (tells (property_name l.content)))
@@ -70,16 +73,19 @@ observance-noted name.Other u v had e = simp (e.no_dtstart, e.no_offset_from, e.
 observance-noted name.Begin u v had e = rw e refl
 observance-noted _ u v had e = rw e refl
 
-pub observance_of-more : (ls : List Placed) (l : Placed) → observance_of (ls ++ l ∷ []) ≡ observance_note (name_of (property_name l.content)) (parts_at l) (observance_of ls)
+pub observance_of-more : (ls : List Placed) (l : Placed) →
+    observance_of (ls ++ l ∷ []) ≡ observance_note (name_of (property_name l.content)) (parts_at l) (observance_of ls)
 observance_of-more ls l =
-    rw (kept-more onset_on (codes "DTSTART") ls l, kept-more offset_on (codes "TZOFFSETFROM") ls l, kept-more offset_on (codes "TZOFFSETTO") ls l, kept-more daily_on (codes "RRULE") ls l, listed-more onsets_by (codes "RDATE") ls l)
+    rw (
+      kept-more onset_on (codes "DTSTART") ls l,
+      kept-more offset_on (codes "TZOFFSETFROM") ls l,
+      kept-more offset_on (codes "TZOFFSETTO") ls l,
+      kept-more daily_on (codes "RRULE") ls l,
+      listed-more onsets_by (codes "RDATE") ls l,
+    )
     (observance-noted (name_of (property_name l.content)) (property_name l.content) (parts_at l) (observance_of ls) (tells (property_name l.content)))
 
 -- THE OBSERVANCES of a time zone, with one line more.
-and-false : (b : Bool) → (b && false) ≡ false
-and-false true = refl
-and-false false = refl
-
 parts-more : (whole ls : List Placed) (l : Placed) → parts whole (ls ++ l ∷ []) ≡ parts whole ls ++ cond (begins_phase l) (own whole l ∷ []) []
 parts-more whole ls l =
     ap (map (own whole)) (filter-append begins_phase ls (l ∷ [])) ∙ map-append (own whole) (filter begins_phase ls) (cond (begins_phase l) (l ∷ []) [])
@@ -92,14 +98,17 @@ parts-more whole ls l =
 pub parts-same : (whole ls : List Placed) (l : Placed) → is_begin l ≡ false → parts whole (ls ++ l ∷ []) ≡ parts whole ls
 parts-same whole ls l e =
     parts-more whole ls l
-    ∙ ap (λ t. parts whole ls ++ cond (in_zone l && ((t && bytes_eq (component l) (codes "STANDARD")) || (t && bytes_eq (component l) (codes "DAYLIGHT")))) (own whole l ∷ []) []) e
+    ∙ ap (λ t. parts whole ls ++ cond (in_zone l && ((t && bytes_eq (component l) (codes "STANDARD")) || (t && bytes_eq (component l) (codes "DAYLIGHT"))))
+    (own whole l ∷ []) []) e
     ∙ ap (λ t. parts whole ls ++ cond t (own whole l ∷ []) []) (and-false (in_zone l)) ∙ append-nil (parts whole ls)
 
 -- an observance begins exactly on a STANDARD or DAYLIGHT in a time zone
-phase-begins : (q : Context) (w : List ℕ) → is_observance_context (context_in q (component_of w)) ≡ (is_zone_context q && (bytes_eq w (codes "STANDARD") || bytes_eq w (codes "DAYLIGHT")))
+phase-begins : (q : Context) (w : List ℕ) →
+    is_observance_context (context_in q (component_of w)) ≡ (is_zone_context q && (bytes_eq w (codes "STANDARD") || bytes_eq w (codes "DAYLIGHT")))
 phase-begins q w = by_context q (component_of w) (tells_component w)
   where
-    by_context : (q : Context) (c : Component) → TellsComponent w c → is_observance_context (context_in q c) ≡ (is_zone_context q && (bytes_eq w (codes "STANDARD") || bytes_eq w (codes "DAYLIGHT")))
+    by_context : (q : Context) (c : Component) → TellsComponent w c →
+        is_observance_context (context_in q c) ≡ (is_zone_context q && (bytes_eq w (codes "STANDARD") || bytes_eq w (codes "DAYLIGHT")))
     by_context context.Outside component.Calendar e = refl
     by_context context.Outside _ e = refl
     by_context context.Calendar component.Event e = refl
@@ -119,7 +128,8 @@ phase-is l e =
 pub builder-more : (whole : List Placed) (q : Context) (k : List Open) (ls : List Placed) (l : Placed) → is_begin l ≡ false →
     builder_at q (gathered whole k (ls ++ l ∷ [])) ≡ builder_note (name_of (property_name l.content)) (parts_at l) (builder_at q (gathered whole k ls))
 builder-more whole context.Event k ls l e = ap builder.Event (collected_of-more ls l)
-builder-more whole context.Zone k ls l e = ap (λ os. builder.Zone (zone_of os (ls ++ l ∷ []))) (parts-same whole ls l e) ∙ ap builder.Zone (zone_of-more (parts whole ls) ls l)
+builder-more whole context.Zone k ls l e =
+    ap (λ os. builder.Zone (zone_of os (ls ++ l ∷ []))) (parts-same whole ls l e) ∙ ap builder.Zone (zone_of-more (parts whole ls) ls l)
 builder-more whole context.Observance k ls l e = ap builder.Observance (observance_of-more ls l)
 builder-more whole _ k ls l e = refl
 
@@ -140,7 +150,8 @@ pub builder-begun : (whole : List Placed) (q : Context) (k : List Open) (ls : Li
     name_of (property_name b.content) ≡ name.Begin → is_begin b ≡ true → own whole b ≡ observance_ended g.observance →
     builder_at q (gathered whole k (ls ++ b ∷ [])) ≡ joined (builder_at (context_of (inside b)) g) (builder_at q (gathered whole k ls))
 builder-begun whole context.Event k ls b g n e o =
-    ap builder.Event (collected_of-more ls b ∙ ap (λ n. event_note n (parts_at b) (collected_of ls)) n) ∙ sym (event-still (builder_at (context_of (inside b)) g) (collected_of ls))
+    ap builder.Event (collected_of-more ls b ∙ ap (λ n. event_note n (parts_at b) (collected_of ls)) n)
+    ∙ sym (event-still (builder_at (context_of (inside b)) g) (collected_of ls))
 builder-begun whole context.Observance k ls b g n e o =
     ap builder.Observance (observance_of-more ls b ∙ ap (λ n. observance_note n (parts_at b) (observance_of ls)) n)
     ∙ sym (observance-still (builder_at (context_of (inside b)) g) (observance_of ls))
@@ -149,7 +160,8 @@ builder-begun whole context.Zone k ls b g n e o =
     ∙ ap (λ os. builder.Zone (zone_of os ls)) (parts-more whole ls b ∙ ap (λ t. parts whole ls ++ cond t (own whole b ∷ []) []) (phase-is b e))
     ∙ by_context (context_of (inside b))
   where
-    by_context : (p : Context) → builder.Zone (zone_of (parts whole ls ++ cond (is_observance_context p) (own whole b ∷ []) []) ls) ≡ joined (builder_at p g) (builder.Zone (zone_of (parts whole ls) ls))
+    by_context : (p : Context) → builder.Zone (zone_of (parts whole ls ++ cond (is_observance_context p) (own whole b ∷ []) []) ls)
+        ≡ joined (builder_at p g) (builder.Zone (zone_of (parts whole ls) ls))
     by_context context.Observance = ap (λ p. builder.Zone (zone_of (parts whole ls ++ p ∷ []) ls)) o
     by_context context.Event = ap (λ os. builder.Zone (zone_of os ls)) (append-nil (parts whole ls))
     by_context context.Zone = ap (λ os. builder.Zone (zone_of os ls)) (append-nil (parts whole ls))

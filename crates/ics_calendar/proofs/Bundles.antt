@@ -11,14 +11,16 @@ use Rattle.ics_calendar.specs.Zones.{begins_phase}
 use Rattle.ics_calendar.proofs.Order.{inside}
 use Rattle.ics_calendar.proofs.Paths.{Falls}
 
--- An open component, by its BEGIN line and the lines that stand directly in it so far, but for the BEGIN line of the component that is open in it; the outermost bundle is no component.
+-- An open component, by its BEGIN line and the lines that stand directly in it so far, but for the BEGIN line of the
+-- component that is open in it; the outermost bundle is no component.
 pub record Bundle : Type 0 where
   pub begin : Placed
   pub lines : List Placed
 
 pub lines_in-more : (b : ℕ) (before : List Placed) (l : Placed) → lines_in b (before ++ l ∷ []) ≡ lines_in b before ++ lines_in b (l ∷ [])
 lines_in-more b [] l = refl
-lines_in-more b (k ∷ ks) l = ap (λ r. cond (innermost k.path == b) (k ∷ r) r) (lines_in-more b ks l) ∙ choose (innermost k.path == b) k (lines_in b ks) (lines_in b (l ∷ []))
+lines_in-more b (k ∷ ks) l =
+    ap (λ r. cond (innermost k.path == b) (k ∷ r) r) (lines_in-more b ks l) ∙ choose (innermost k.path == b) k (lines_in b ks) (lines_in b (l ∷ []))
   where
     choose : (t : Bool) (k : Placed) (xs ys : List Placed) → cond t (k ∷ (xs ++ ys)) (xs ++ ys) ≡ cond t (k ∷ xs) xs ++ ys
     choose true k xs ys = refl
@@ -31,7 +33,8 @@ lines_in-here b before l e = lines_in-more b before l ∙ ap (λ t. lines_in b b
     same i b l e = elim (eqb_tells i b) [ inl h ↦ rw h.0 refl | inr h ↦ absurd (h.1 e) ]
 
 pub lines_in-elsewhere : (b : ℕ) (before : List Placed) (l : Placed) → innermost l.path ≢ b → lines_in b (before ++ l ∷ []) ≡ lines_in b before
-lines_in-elsewhere b before l ne = lines_in-more b before l ∙ ap (λ t. lines_in b before ++ t) (other (innermost l.path) b l ne) ∙ append-nil (lines_in b before)
+lines_in-elsewhere b before l ne =
+    lines_in-more b before l ∙ ap (λ t. lines_in b before ++ t) (other (innermost l.path) b l ne) ∙ append-nil (lines_in b before)
   where
     other : (i b : ℕ) (l : Placed) → i ≢ b → cond (i == b) (l ∷ []) [] ≡ []
     other i b l ne = elim (eqb_tells i b) [ inl h ↦ absurd (ne h.1) | inr h ↦ rw h.0 refl ]
@@ -107,7 +110,8 @@ bundles_behind l bundles =
     else add_line l bundles
 
 -- a line deeper in leaves the bundles below alone
-below : (before up : List Placed) (l : Placed) (path : List Open) (bundles : List Bundle) → innermost path < innermost l.path → Keeps before up path bundles → Keeps (before ++ l ∷ []) up path bundles
+below : (before up : List Placed) (l : Placed) (path : List Open) (bundles : List Bundle) → innermost path < innermost l.path → Keeps before up path bundles →
+    Keeps (before ++ l ∷ []) up path bundles
 below before up l [] [] less k = k
 below before up l [] (f ∷ []) less k = let ne : innermost l.path ≢ 0 = λ e. omega (arith, e, less) in lines_in-elsewhere 0 before l ne ∙ k
 below before up l [] (f ∷ g ∷ gs) less k = k
@@ -115,12 +119,19 @@ below before up l (c ∷ cs) [] less k = k
 below before up l (c ∷ cs) (f ∷ fs) less k =
     let ne : innermost l.path ≢ c.begun = λ e. omega (arith, e, less) in
     let kept : IsKept before up c cs f = k.0 in (
-      record { lines = lines_in-elsewhere c.begun before l ne ∙ kept.lines; less = kept.less; opened = kept.opened; begins = kept.begins; phases = kept.phases },
+      record {
+        lines = lines_in-elsewhere c.begun before l ne ∙ kept.lines;
+        less = kept.less;
+        opened = kept.opened;
+        begins = kept.begins;
+        phases = kept.phases;
+      },
       below before (f.begin ∷ []) l cs fs (omega (arith, kept.less, less)) k.1,
     )
 
 -- a line is still to be added to the innermost bundle
-here : (before : List Placed) (l : Placed) (path : List Open) (bundles : List Bundle) → path ≡ l.path → Keeps before [] path bundles → Keeps (before ++ l ∷ []) (l ∷ []) path bundles
+here : (before : List Placed) (l : Placed) (path : List Open) (bundles : List Bundle) → path ≡ l.path → Keeps before [] path bundles →
+    Keeps (before ++ l ∷ []) (l ∷ []) path bundles
 here before l [] [] e k = k
 here before l [] (f ∷ []) e k = lines_in-here 0 before l (ap innermost (sym e)) ∙ ap (λ ls. ls ++ l ∷ []) (k ∙ append-nil f.lines)
 here before l [] (f ∷ g ∷ gs) e k = k
@@ -139,14 +150,18 @@ here before l (c ∷ cs) (f ∷ fs) e k =
     )
 
 -- it is added
-phases-more : (l : Placed) (path : List Open) (ls : List Placed) → path ≡ l.path → is_zone_context (context_of path) ≡ true → list_any begins_observance ls ≡ list_any begins_phase ls →
+phases-more : (l : Placed) (path : List Open) (ls : List Placed) → path ≡ l.path → is_zone_context (context_of path) ≡ true →
+    list_any begins_observance ls ≡ list_any begins_phase ls →
     list_any begins_observance (ls ++ l ∷ []) ≡ list_any begins_phase (ls ++ l ∷ [])
 phases-more l path ls e z h =
-    let same : begins_phase l ≡ begins_observance l = ap (λ (p : List Open). is_zone_context (context_of p) && begins_observance l) (sym e) ∙ ap (λ t. t && begins_observance l) z in
-    list_any-append begins_observance ls (l ∷ []) ∙ ap (λ t. t || (begins_observance l || false)) h ∙ ap (λ t. list_any begins_phase ls || (t || false)) (sym same)
+    let same : begins_phase l ≡ begins_observance l =
+    ap (λ (p : List Open). is_zone_context (context_of p) && begins_observance l) (sym e) ∙ ap (λ t. t && begins_observance l) z in
+    list_any-append begins_observance ls (l ∷ []) ∙ ap (λ t. t || (begins_observance l || false)) h
+    ∙ ap (λ t. list_any begins_phase ls || (t || false)) (sym same)
     ∙ sym (list_any-append begins_phase ls (l ∷ []))
 
-joined : (before : List Placed) (l : Placed) (path : List Open) (bundles : List Bundle) → path ≡ l.path → Keeps before (l ∷ []) path bundles → Keeps before [] path (add_line l bundles)
+joined : (before : List Placed) (l : Placed) (path : List Open) (bundles : List Bundle) → path ≡ l.path → Keeps before (l ∷ []) path bundles →
+    Keeps before [] path (add_line l bundles)
 joined before l [] [] e k = k
 joined before l [] (f ∷ []) e k = k ∙ sym (append-nil (f.lines ++ l ∷ []))
 joined before l [] (f ∷ g ∷ gs) e k = k
@@ -163,14 +178,16 @@ joined before l (c ∷ cs) (f ∷ fs) e k =
       k.1,
     )
 
-added : (before : List Placed) (l : Placed) (path : List Open) (bundles : List Bundle) → path ≡ l.path → Keeps before [] path bundles → Keeps (before ++ l ∷ []) [] path (add_line l bundles)
+added : (before : List Placed) (l : Placed) (path : List Open) (bundles : List Bundle) → path ≡ l.path → Keeps before [] path bundles →
+    Keeps (before ++ l ∷ []) [] path (add_line l bundles)
 added before l path bundles e k = joined (before ++ l ∷ []) l path bundles e (here before l path bundles e k)
 
 -- the path in which a component begins
 pub path-of : (b : Placed) (c : Open) (cs : List Open) → inside b ≡ c ∷ cs → b.path ≡ cs
 path-of b c cs e = ap (drop 1) e
 
-closed : (before : List Placed) (l : Placed) (path : List Open) (bundles : List Bundle) → path ≡ l.path → Keeps before [] path bundles → Keeps (before ++ l ∷ []) [] (drop 1 path) (close l bundles)
+closed : (before : List Placed) (l : Placed) (path : List Open) (bundles : List Bundle) → path ≡ l.path → Keeps before [] path bundles →
+    Keeps (before ++ l ∷ []) [] (drop 1 path) (close l bundles)
 closed before l [] [] e k = k
 closed before l [] (f ∷ []) e k = added before l [] (f ∷ []) e k
 closed before l [] (f ∷ g ∷ gs) e k = absurd k
@@ -180,7 +197,8 @@ closed before l (c ∷ d ∷ ds) (f ∷ []) e k = absurd k.1
 closed before l (c ∷ cs) (f ∷ g ∷ gs) e k =
     let at : innermost l.path ≡ c.begun = ap innermost (sym e) in
     let kept : IsKept before [] c cs f = k.0 in
-    joined (before ++ l ∷ []) f.begin cs (g ∷ gs) (sym (path-of f.begin c cs kept.opened)) (below before (f.begin ∷ []) l cs (g ∷ gs) (omega (arith, at, kept.less)) k.1)
+    joined (before ++ l ∷ []) f.begin cs (g ∷ gs) (sym (path-of f.begin c cs kept.opened))
+    (below before (f.begin ∷ []) l cs (g ∷ gs) (omega (arith, at, kept.less)) k.1)
 
 pub Before-more : (n : ℕ) (before : List Placed) (l : Placed) → Before n before → innermost l.path < n → Before n (before ++ l ∷ [])
 Before-more n [] l h less = (less, tt)
@@ -191,20 +209,29 @@ Before-later m n [] le h = tt
 Before-later m n (k ∷ ks) le h = (omega (arith, h.0), Before-later m n ks le h.1)
 
 -- a line keeps the bundles
-pub keeps : (before : List Placed) (l : Placed) (bundles : List Bundle) → Before l.number before → innermost l.path < l.number → Keeps before [] l.path bundles →
+pub keeps : (before : List Placed) (l : Placed) (bundles : List Bundle) → Before l.number before → innermost l.path < l.number →
+    Keeps before [] l.path bundles →
     Keeps (before ++ l ∷ []) [] (path_behind l) (bundles_behind l bundles)
 keeps before l bundles h less k = by_kind (is_begin l) (is_end l) refl
   where
-    by_kind : (b e : Bool) → is_begin l ≡ b → Keeps (before ++ l ∷ []) [] (cond b (record { name = component l; begun = l.number } ∷ l.path) (cond e (drop 1 l.path) l.path))
+    by_kind : (b e : Bool) → is_begin l ≡ b →
+        Keeps (before ++ l ∷ []) [] (cond b (record { name = component l; begun = l.number } ∷ l.path) (cond e (drop 1 l.path) l.path))
         (cond b (record { begin = l; lines = [] } ∷ bundles) (cond e (close l bundles) (add_line l bundles)))
     by_kind true e b = (
-      record { lines = lines_in-new l.number (before ++ l ∷ []) (Before-more l.number before l h less); less = less; opened = refl; begins = b; phases = λ z. refl },
+      record {
+        lines = lines_in-new l.number (before ++ l ∷ []) (Before-more l.number before l h less);
+        less = less;
+        opened = refl;
+        begins = b;
+        phases = λ z. refl;
+      },
       here before l l.path bundles refl k,
     )
     by_kind false true b = closed before l l.path bundles refl k
     by_kind false false b = added before l l.path bundles refl k
 
-pub innermost-behind : (l : Placed) → innermost l.path < l.number → (bundles : List Bundle) (before : List Placed) → Keeps before [] l.path bundles → innermost (path_behind l) ≤ l.number
+pub innermost-behind : (l : Placed) → innermost l.path < l.number → (bundles : List Bundle) (before : List Placed) → Keeps before [] l.path bundles →
+    innermost (path_behind l) ≤ l.number
 innermost-behind l less bundles before k = by_kind (is_begin l) (is_end l)
   where
     up : (path : List Open) (bundles : List Bundle) → Keeps before [] path bundles → innermost (drop 1 path) ≤ innermost path

@@ -40,7 +40,8 @@ three_stamps : rdates (zoned (codes "RDATE;TZID=B:20240106T100000,20240107,20240
 three_stamps = refl
 
 -- periods by an end, also before the start, and by a duration
-three_periods : rdates (zoned (codes "RDATE;TZID=A;VALUE=PERIOD:20240109T100000/20240109T090000,20240110T100000/PT1H,20240111T100000Z/20240111T110000" ∷ [])) ≡ (
+three_periods : rdates (zoned (codes "RDATE;TZID=A;VALUE=PERIOD:20240109T100000/20240109T090000,20240110T100000/PT1H,20240111T100000Z/20240111T110000" ∷ []))
+    ≡ (
     Span (time (Zoned (local_at (pos 19_731) 36_000)) (Some 0)) (Until (time (Zoned (local_at (pos 19_731) 32_400)) (Some 0)))
     ∷ Span (time (Zoned (local_at (pos 19_732) 36_000)) (Some 0)) (Lasting (record { negative = false; days = 0; seconds = 3_600 }))
     ∷ Span (time (Utc (local_at (pos 19_733) 36_000)) None) (Until (time (Zoned (local_at (pos 19_733) 39_600)) (Some 0))) ∷ []
@@ -49,7 +50,9 @@ three_periods = refl
 
 -- several lines, each with its own zone or none, in the order of the file
 abbrev three_lines : List ℕ
-three_lines = zoned (codes "EXDATE;TZID=B:20240106T100000,20240107" ∷ codes "rdate:20240112T100000" ∷ codes "EXDATE;TZID=A:20240106T100000" ∷ codes "EXDATE:20240108T100000" ∷ [])
+three_lines =
+    zoned (codes "EXDATE;TZID=B:20240106T100000,20240107" ∷ codes "rdate:20240112T100000" ∷ codes "EXDATE;TZID=A:20240106T100000"
+    ∷ codes "EXDATE:20240108T100000" ∷ [])
 
 four_exceptions : exdates three_lines ≡ (
     time (Zoned (local_at (pos 19_728) 36_000)) (Some 1) ∷ time (Date (pos 19_729)) None ∷ time (Zoned (local_at (pos 19_728) 36_000)) (Some 0)
@@ -70,7 +73,8 @@ master : recurrences (zoned []) ≡ None ∷ []
 master = refl
 
 -- the second calendar has a zone of its own of that name, and a zone may stand behind its use
-of_two_calendars : exdates (calendar (zone (codes "A")) ++ calendar (event (codes "EXDATE;TZID=A:20240106T100000" ∷ []) ++ zone (codes "A"))) ≡ (time (Zoned (local_at (pos 19_728) 36_000)) (Some 1) ∷ []) ∷ []
+of_two_calendars : exdates (calendar (zone (codes "A")) ++ calendar (event (codes "EXDATE;TZID=A:20240106T100000" ∷ []) ++ zone (codes "A")))
+    ≡ (time (Zoned (local_at (pos 19_728) 36_000)) (Some 1) ∷ []) ∷ []
 of_two_calendars = refl
 
 -- zones that the calendar has not
@@ -89,7 +93,8 @@ unknown_identifier = refl
 empty_name : fault (calendar (event (codes "EXDATE;TZID=:20240106T100000" ∷ []))) ≡ at 5 UnknownZone
 empty_name = refl
 
-none_needed : fault (calendar (event (codes "RDATE;TZID=A:20240106,20240107T100000Z,20240108T100000Z/PT1H" ∷ codes "EXDATE;TZID=A:20240106" ∷ codes "RECURRENCE-ID;TZID=A:20240106" ∷ []))) ≡ None
+none_needed : fault (calendar (event (codes "RDATE;TZID=A:20240106,20240107T100000Z,20240108T100000Z/PT1H" ∷ codes "EXDATE;TZID=A:20240106"
+    ∷ codes "RECURRENCE-ID;TZID=A:20240106" ∷ []))) ≡ None
 none_needed = refl
 
 -- any other fault comes first, and of those of the second round the first line

@@ -1,5 +1,6 @@
 -- The values of RDATE and EXDATE, as they are read.
-use Rattle.std.proofs.Common.{◌≡◌, ℕ, ◌+◌, Bool, true, false, ◌==◌, ◌&&◌, ◌||◌, not, List, [], ◌∷◌, length, take, drop, refl, sym, ap, ◌∙◌, cond, arith, inl, inr, map, Some, None, Result, Ok, Err}
+use Rattle.std.proofs.Common.{◌≡◌, ℕ, ◌+◌, Bool, true, false, ◌==◌, ◌&&◌, ◌||◌, not, List, [], ◌∷◌, length, take, drop, refl, sym, ap, ◌∙◌, cond, arith, inl}
+use Rattle.std.proofs.Common.{inr, map, Some, None, Result, Ok, Err}
 use Rattle.std.specs.Prelude.{nat_lt, filter_map}
 use Rattle.std.specs.List.{list_any, position, position_or_len}
 use Rattle.std.proofs.lemmas.Bool.Decides.{eqb_tells, nat_tests}
@@ -10,7 +11,8 @@ use Rattle.ics_values.specs.declared.stamp.Stamp.{Stamp}
 use Rattle.ics_values.specs.declared.stamp.StampFault.{StampFault}
 use Rattle.ics_values.specs.declared.stamp.StampFault.TheVariants.{BadStamp, YearRange}
 use Rattle.ics_calendar.specs.declared.date_values.DateValue.TheVariants.{At, Between, Lasting}
-use Rattle.ics_calendar.specs.DateValues.{date_time_of, period_of, rdate_of, listed_in, listed_said, has_bad_stamp, has_far_stamp, has_bad_duration, has_large_duration}
+use Rattle.ics_calendar.specs.DateValues.{date_time_of, period_of, rdate_of, listed_in, listed_said, has_bad_stamp, has_far_stamp, has_bad_duration}
+use Rattle.ics_calendar.specs.DateValues.{has_large_duration}
 use Rattle.ics_values.specs.declared.duration.Duration.{Duration}
 use Rattle.ics_values.specs.declared.duration.DurationFault.{DurationFault}
 use Rattle.ics_values.specs.declared.duration.DurationFault.TheVariants as duration_fault
@@ -39,7 +41,8 @@ any-first : (p : ℕ → Bool) (xs : List ℕ) → list_any p xs ≡ nat_lt (pos
 any-first p [] = refl
 any-first p (x ∷ xs) = by_test (p x) (any-first p xs)
   where
-    by_test : (t : Bool) → list_any p xs ≡ nat_lt (position_or_len p xs) (length xs) → (t || list_any p xs) ≡ nat_lt (cond (not t) (1 + position_or_len p xs) 0) (length (x ∷ xs))
+    by_test : (t : Bool) → list_any p xs ≡ nat_lt (position_or_len p xs) (length xs) →
+        (t || list_any p xs) ≡ nat_lt (cond (not t) (1 + position_or_len p xs) 0) (length (x ∷ xs))
     by_test true h = grind (arith, nat_tests)
     by_test false h = grind (arith, nat_tests)
 
@@ -47,10 +50,12 @@ abbrev is_slash : ℕ → Bool
 is_slash b = b == 47
 
 -- a value with a `/`, and one without
-pub rdate-period : (zoned : Bool) (text : List ℕ) (i : ℕ) → position (λ b. b == 47) text ≡ Some i → period_of zoned (take i text) (drop (i + 1) text) ≡ rdate_of zoned text
+pub rdate-period : (zoned : Bool) (text : List ℕ) (i : ℕ) → position (λ b. b == 47) text ≡ Some i →
+    period_of zoned (take i text) (drop (i + 1) text) ≡ rdate_of zoned text
 rdate-period zoned text i e = by_test (nat_lt (position_or_len is_slash text) (length text)) (any-first is_slash text) e
   where
-    by_test : (t : Bool) → list_any is_slash text ≡ t → cond t (Some (position_or_len is_slash text)) None ≡ Some i → period_of zoned (take i text) (drop (i + 1) text) ≡ rdate_of zoned text
+    by_test : (t : Bool) → list_any is_slash text ≡ t → cond t (Some (position_or_len is_slash text)) None ≡ Some i →
+        period_of zoned (take i text) (drop (i + 1) text) ≡ rdate_of zoned text
     by_test true h e =
         let first : position_or_len is_slash text ≡ i = cc in
         ap (λ n. period_of zoned (take n text) (drop (n + 1) text)) (sym first)
@@ -60,7 +65,8 @@ rdate-period zoned text i e = by_test (nat_lt (position_or_len is_slash text) (l
 pub rdate-stamp : (zoned : Bool) (text : List ℕ) → position (λ b. b == 47) text ≡ None → At (stamp_of zoned text) ≡ rdate_of zoned text
 rdate-stamp zoned text e = by_test (nat_lt (position_or_len is_slash text) (length text)) (any-first is_slash text) e
   where
-    by_test : (t : Bool) → list_any is_slash text ≡ t → cond t (Some (position_or_len is_slash text)) None ≡ None → At (stamp_of zoned text) ≡ rdate_of zoned text
+    by_test : (t : Bool) → list_any is_slash text ≡ t → cond t (Some (position_or_len is_slash text)) None ≡ None →
+        At (stamp_of zoned text) ≡ rdate_of zoned text
     by_test true h e = cc
     by_test false h e = ap (λ t. cond t (period_of zoned (first_half text) (second_half text)) (At (stamp_of zoned text))) (sym h)
 
@@ -87,11 +93,14 @@ said-one (At r) h = ap (λ r. listed_said (At r)) (sym (faultless-stamp r h.0 h.
 said-one (Between r q) h =
     let bad = or-none (is_bad_stamp r) (is_bad_stamp q) h.0 in
     let far = or-none (is_far_stamp r) (is_far_stamp q) h.2 in
-    ap (λ r. listed_said (Between r q)) (sym (faultless-stamp r bad.0 far.0)) ∙ ap (λ q. listed_said (Between (Ok (stamp_in r)) q)) (sym (faultless-stamp q bad.1 far.1))
+    ap (λ r. listed_said (Between r q)) (sym (faultless-stamp r bad.0 far.0))
+    ∙ ap (λ q. listed_said (Between (Ok (stamp_in r)) q)) (sym (faultless-stamp q bad.1 far.1))
 said-one (Lasting r d) h =
-    ap (λ r. listed_said (Lasting r d)) (sym (faultless-stamp r h.0 h.2)) ∙ ap (λ d. listed_said (Lasting (Ok (stamp_in r)) d)) (sym (faultless-duration d h.1 h.3))
+    ap (λ r. listed_said (Lasting r d)) (sym (faultless-stamp r h.0 h.2))
+    ∙ ap (λ d. listed_said (Lasting (Ok (stamp_in r)) d)) (sym (faultless-duration d h.1 h.3))
 
-said-all : (vs : List DateValue) → list_any has_bad_stamp vs ≡ false → list_any has_bad_duration vs ≡ false → list_any has_far_stamp vs ≡ false → list_any has_large_duration vs ≡ false →
+said-all : (vs : List DateValue) → list_any has_bad_stamp vs ≡ false → list_any has_bad_duration vs ≡ false → list_any has_far_stamp vs ≡ false →
+    list_any has_large_duration vs ≡ false →
     filter_map listed_said vs ≡ map listed_in vs
 said-all [] a b c d = refl
 said-all (v ∷ vs) a b c d =
@@ -103,10 +112,13 @@ said-all (v ∷ vs) a b c d =
 
 -- the least fault of a list is none where none has one
 pub said-list : (vs : List DateValue) → dates_fault vs ≡ None → filter_map listed_said vs ≡ map listed_in vs
-said-list vs e = by_tests (list_any has_bad_stamp vs) (list_any has_bad_duration vs) (list_any has_far_stamp vs) (list_any has_large_duration vs) refl refl refl refl e
+said-list vs e =
+    by_tests (list_any has_bad_stamp vs) (list_any has_bad_duration vs) (list_any has_far_stamp vs) (list_any has_large_duration vs) refl refl refl refl e
   where
-    by_tests : (a b c d : Bool) → list_any has_bad_stamp vs ≡ a → list_any has_bad_duration vs ≡ b → list_any has_far_stamp vs ≡ c → list_any has_large_duration vs ≡ d →
-        cond a (Some kind.BadStamp) (cond b (Some kind.BadDuration) (cond c (Some kind.YearRange) (cond d (Some kind.NumberTooLarge) None))) ≡ None → filter_map listed_said vs ≡ map listed_in vs
+    by_tests : (a b c d : Bool) → list_any has_bad_stamp vs ≡ a → list_any has_bad_duration vs ≡ b → list_any has_far_stamp vs ≡ c →
+        list_any has_large_duration vs ≡ d →
+        cond a (Some kind.BadStamp) (cond b (Some kind.BadDuration) (cond c (Some kind.YearRange) (cond d (Some kind.NumberTooLarge) None))) ≡ None →
+        filter_map listed_said vs ≡ map listed_in vs
     by_tests true b c d p q r t e = cc
     by_tests false true c d p q r t e = cc
     by_tests false false true d p q r t e = cc

@@ -25,8 +25,10 @@ ends file = map (λ (e : EventSeen). end_zone e.length) (events_of (placed file)
 -- zones A, B and again A, an event behind them and one before
 abbrev file : List ℕ
 file =
-    calendar (event (codes "DTSTART;TZID=B:20240105T100000" ∷ codes "DTEND;TZID=B:20240105T110000" ∷ []) ++ zone (codes "A") ++ zone (codes "B") ++ zone (codes "A")
-    ++ event (codes "DTSTART;TZID=A:20240105T100000" ∷ []) ++ event (codes "DTSTART;TZID=A:20240105" ∷ []) ++ event (codes "DTSTART;TZID=B:20240105T100000Z" ∷ []))
+    calendar (event (codes "DTSTART;TZID=B:20240105T100000" ∷ codes "DTEND;TZID=B:20240105T110000" ∷ []) ++ zone (codes "A") ++ zone (codes "B")
+    ++ zone (codes "A")
+    ++ event (codes "DTSTART;TZID=A:20240105T100000" ∷ []) ++ event (codes "DTSTART;TZID=A:20240105" ∷ [])
+    ++ event (codes "DTSTART;TZID=B:20240105T100000Z" ∷ []))
 
 -- of two zones of one name the first counts, and a date or a time in UTC has none
 starts_in : starts file ≡ Some 1 ∷ Some 0 ∷ None ∷ None ∷ []
@@ -43,10 +45,12 @@ of_two_calendars : starts (calendar (zone (codes "A")) ++ calendar (event (codes
 of_two_calendars = refl
 
 -- a zone of another calendar is unknown, on the line of the stamp that comes first
-other_calendar : fault (calendar (zone (codes "A")) ++ calendar (event (codes "DTEND;TZID=A:20240105T100000" ∷ codes "DTSTART;TZID=A:20240105T100000" ∷ []))) ≡ at 14 UnknownZone
+other_calendar : fault (calendar (zone (codes "A")) ++ calendar (event (codes "DTEND;TZID=A:20240105T100000" ∷ codes "DTSTART;TZID=A:20240105T100000" ∷ [])))
+    ≡ at 14 UnknownZone
 other_calendar = refl
 
-unknown_end : fault (calendar (event (codes "DTSTART;TZID=A:20240105T100000" ∷ codes "DTEND;TZID=a:20240105T110000" ∷ []) ++ zone (codes "A"))) ≡ at 5 UnknownZone
+unknown_end : fault (calendar (event (codes "DTSTART;TZID=A:20240105T100000" ∷ codes "DTEND;TZID=a:20240105T110000" ∷ []) ++ zone (codes "A")))
+    ≡ at 5 UnknownZone
 unknown_end = refl
 
 -- stamps of one TZID compare as locals, whatever the clock does between them, and before any zone is known

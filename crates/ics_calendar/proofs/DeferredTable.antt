@@ -51,7 +51,8 @@ out-none None = refl
 out-none (Some t) = refl
 
 compared-judged : (known : KnownZones) (a b : Option Instant) →
-    cond (are_out (option_and_then (moment_of known) a) (option_and_then (moment_of known) b)) (Some BadEnd) None ≡ option_and_then (judged known) (both_compared a b)
+    cond (are_out (option_and_then (moment_of known) a) (option_and_then (moment_of known) b)) (Some BadEnd) None
+    ≡ option_and_then (judged known) (both_compared a b)
 compared-judged known None b = refl
 compared-judged known (Some a) None = rw (out-none (moment_of known a)) refl
 compared-judged known (Some (instant.Utc a)) (Some (instant.Utc b)) = when (is_out (seconds_of a) (seconds_of b))
@@ -63,15 +64,18 @@ compared-judged known (Some (instant.Utc a)) (Some (instant.Zoned b name)) = ref
 compared-judged known (Some (instant.Zoned a name)) (Some (instant.Utc b)) = refl
 compared-judged known (Some (instant.Zoned a name)) (Some (instant.Zoned b other)) = refl
 
-ends-judged : (known : KnownZones) (calendar : ℕ) (start end : Option Dated) → cond (ends_badly_later known calendar start end) (Some BadEnd) None ≡ option_and_then (judged known) (ends_in calendar start end)
+ends-judged : (known : KnownZones) (calendar : ℕ) (start end : Option Dated) →
+    cond (ends_badly_later known calendar start end) (Some BadEnd) None ≡ option_and_then (judged known) (ends_in calendar start end)
 ends-judged known k None end = refl
 ends-judged known k (Some a) None = refl
 ends-judged known k (Some a) (Some b) =
     ap (λ o. cond (not (are_of_one_zone a b) && are_out o (moment_in known k b)) (Some BadEnd) None) (moment-is known (zone_used k a) a.stamp)
-    ∙ ap (λ o. cond (not (are_of_one_zone a b) && are_out (option_and_then (moment_of known) (instant_in k a)) o) (Some BadEnd) None) (moment-is known (zone_used k b) b.stamp)
+    ∙ ap (λ o. cond (not (are_of_one_zone a b) && are_out (option_and_then (moment_of known) (instant_in k a)) o) (Some BadEnd) None)
+    (moment-is known (zone_used k b) b.stamp)
     ∙ by_test (are_of_one_zone a b)
   where
-    by_test : (t : Bool) → cond (not t && are_out (option_and_then (moment_of known) (instant_in k a)) (option_and_then (moment_of known) (instant_in k b))) (Some BadEnd) None
+    by_test : (t : Bool) → cond (not t && are_out (option_and_then (moment_of known) (instant_in k a)) (option_and_then (moment_of known) (instant_in k b)))
+        (Some BadEnd) None
         ≡ option_and_then (judged known) (cond t None (both_compared (instant_in k a) (instant_in k b)))
     by_test true = refl
     by_test false = compared-judged known (instant_in k a) (instant_in k b)
@@ -80,7 +84,8 @@ ends-judged known k (Some a) (Some b) =
 abbrev later_flat : (u : List ℕ) (v : Parts) (q : Context) (cl be has : Bool) → Option FaultKind
 later_flat u v q cl be has =
     cond (bytes_eq u (codes "END") && cl && is_event_context q && be) (Some BadEnd)
-    (cond (((is_event_context q && list_any has_zoned (map listed_in (dates_at u v))) || (is_event_context q && list_any (bytes_eq u) stamp_names && is_zoned (dated_of v.params v.value).stamp)) && not has) (Some UnknownZone) None)
+    (cond (((is_event_context q && list_any has_zoned (map listed_in (dates_at u v)))
+    || (is_event_context q && list_any (bytes_eq u) stamp_names && is_zoned (dated_of v.params v.value).stamp)) && not has) (Some UnknownZone) None)
 
 abbrev check_of : Name → Parts → Component → Context → Gathered → Option DeferredCheck
 check_of n v c q g = check_in n v (frame_at c q g)
@@ -92,7 +97,8 @@ bad_check known g = ends_badly_later known g.calendar g.event.start g.event.end
 abbrev use_of : Gathered → Parts → ZoneName
 use_of g v = zone_used g.calendar (dated_of v.params v.value)
 
-later-end : (known : KnownZones) (v : Parts) (c : Component) (q : Context) (has : Bool) (g : Gathered) → later_flat (codes "END") v q true (bad_check known g) has ≡ option_and_then (judged known) (check_of name.End v c q g)
+later-end : (known : KnownZones) (v : Parts) (c : Component) (q : Context) (has : Bool) (g : Gathered) →
+    later_flat (codes "END") v q true (bad_check known g) has ≡ option_and_then (judged known) (check_of name.End v c q g)
 later-end known v c context.Event has g = ends-judged known g.calendar g.event.start g.event.end
 later-end known v c _ has g = refl
 
@@ -105,19 +111,23 @@ in-zone known true used = when (is_some (known.index used))
     when true = refl
     when false = refl
 
-later-other : (known : KnownZones) (n : Name) (u : List ℕ) (v : Parts) (c : Component) (q : Context) (cl : Bool) (g : Gathered) → Tells u n → (bytes_eq u (codes "END") && not (bytes_eq u (codes "END") && cl)) ≡ false →
+later-other : (known : KnownZones) (n : Name) (u : List ℕ) (v : Parts) (c : Component) (q : Context) (cl : Bool) (g : Gathered) → Tells u n →
+    (bytes_eq u (codes "END") && not (bytes_eq u (codes "END") && cl)) ≡ false →
     later_flat u v q cl (bad_check known g) (is_some (known.index (use_of g v))) ≡ option_and_then (judged known) (check_of n v c q g)
 later-other known name.End u v c q true g e m = rw e (later-end known v c q (is_some (known.index (use_of g v))) g)
-later-other known name.End u v c q false g e m = let h : true ≡ false = subst (λ (u : List ℕ). (bytes_eq u (codes "END") && not (bytes_eq u (codes "END") && false)) ≡ false) e m in cc
+later-other known name.End u v c q false g e m = let h : true ≡ false =
+    subst (λ (u : List ℕ). (bytes_eq u (codes "END") && not (bytes_eq u (codes "END") && false)) ≡ false) e m in cc
 later-other known name.Dtstart u v c context.Event cl g e m = rw e (in-zone known (is_zoned (dated_of v.params v.value).stamp) (use_of g v))
 later-other known name.Dtstart u v c _ cl g e m = rw e refl
 later-other known name.Dtend u v c context.Event cl g e m = rw e (in-zone known (is_zoned (dated_of v.params v.value).stamp) (use_of g v))
 later-other known name.Dtend u v c _ cl g e m = rw e refl
 later-other known name.RecurrenceId u v c context.Event cl g e m = rw e (in-zone known (is_zoned (dated_of v.params v.value).stamp) (use_of g v))
 later-other known name.RecurrenceId u v c _ cl g e m = rw e refl
-later-other known name.Rdate u v c context.Event cl g e m = rw e (simp or-false (in-zone known (list_any has_zoned (rdate_list v.params v.value).values) (use_of g v)))
+later-other known name.Rdate u v c context.Event cl g e m =
+    rw e (simp or-false (in-zone known (list_any has_zoned (rdate_list v.params v.value).values) (use_of g v)))
 later-other known name.Rdate u v c _ cl g e m = rw e refl
-later-other known name.Exdate u v c context.Event cl g e m = rw e (simp or-false (in-zone known (list_any has_zoned (exdate_list v.params v.value).values) (use_of g v)))
+later-other known name.Exdate u v c context.Event cl g e m =
+    rw e (simp or-false (in-zone known (list_any has_zoned (exdate_list v.params v.value).values) (use_of g v)))
 later-other known name.Exdate u v c _ cl g e m = rw e refl
 later-other known name.Other u v c context.Event cl g e m = simp (e.no_end, e.no_rdate, e.no_exdate, e.no_dtstart, e.no_dtend, e.no_recurrence_id) refl
 later-other known name.Other u v c _ cl g e m = simp (e.no_end, e.no_rdate, e.no_exdate, e.no_dtstart, e.no_dtend, e.no_recurrence_id) refl
@@ -137,12 +147,16 @@ none-outside whole name.End v ls = refl
 none-outside whole _ v ls = refl
 
 -- WHAT THE SECOND ROUND FINDS on a line, of the table and of the pass.
-pub later-same : (whole : List Placed) (known : KnownZones) (line : Line) (path : List Open) (parts : Parts) (ls : List Placed) → IsMatched (with line path parts) →
-    find (λ kind. stands_later known kind ls (with line path parts)) kinds ≡ option_and_then (judged known) (check_in (name_of (map upper parts.name)) parts (frame_of whole path ls))
+pub later-same : (whole : List Placed) (known : KnownZones) (line : Line) (path : List Open) (parts : Parts) (ls : List Placed) →
+    IsMatched (with line path parts) →
+    find (λ kind. stands_later known kind ls (with line path parts)) kinds
+    ≡ option_and_then (judged known) (check_in (name_of (map upper parts.name)) parts (frame_of whole path ls))
 later-same whole known line [] parts ls m =
     let u : List ℕ = map upper parts.name in
     let g : Gathered = gathered whole [] ls in
-    outside-later u parts false (bad_check known g) (is_some (known.index (use_of g parts))) ∙ ap (option_and_then (judged known)) (sym (none-outside whole (name_of u) parts ls))
+    outside-later u parts false (bad_check known g) (is_some (known.index (use_of g parts)))
+    ∙ ap (option_and_then (judged known)) (sym (none-outside whole (name_of u) parts ls))
 later-same whole known line (c ∷ cs) parts ls m =
     let u : List ℕ = map upper parts.name in
-    later-other known (name_of u) u parts (component_of c.name) (context_of (c ∷ cs)) (closes (c ∷ cs) (map upper parts.value)) (gathered whole (c ∷ cs) ls) (tells u) m
+    later-other known (name_of u) u parts (component_of c.name) (context_of (c ∷ cs)) (closes (c ∷ cs) (map upper parts.value)) (gathered whole (c ∷ cs) ls)
+    (tells u) m

@@ -2,6 +2,7 @@
 use Rattle.std.proofs.Common.{◌≡◌, ℕ, Bool, true, false, ◌&&◌, List, [], ◌∷◌, map, refl, sym, ap, ◌∙◌, cond}
 use Rattle.std.specs.Prelude.{codes, not}
 use Rattle.std.specs.Str.{bytes_eq}
+use Rattle.std.proofs.Math.Bool.{and-false}
 use Rattle.ics_text.specs.Bytes.{upper}
 use Rattle.ics_text.specs.Unfolded.{Line}
 use Rattle.ics_text.specs.Contents.{Parts}
@@ -46,7 +47,8 @@ pub record Picks {X : Type 0} (whole : List Placed) (s : Sort X) (pick : Ended �
 pub events-picked : (whole : List Placed) → Picks whole events events_of_end
 events-picked whole = record { nothing = refl; inside = λ t c cs ls. at t (component_of c.name) (context_of (c ∷ cs)) (gathered whole (c ∷ cs) ls) }
   where
-    at : (t : Bool) (k : Component) (q : Context) (g : Gathered) → events_of_end (cond t (ended_in (frame_at k q g)) ended.Nothing) ≡ cond (t && is_event_context q) (event_ended g.calendar g.event ∷ []) []
+    at : (t : Bool) (k : Component) (q : Context) (g : Gathered) →
+        events_of_end (cond t (ended_in (frame_at k q g)) ended.Nothing) ≡ cond (t && is_event_context q) (event_ended g.calendar g.event ∷ []) []
     at true k context.Event g = refl
     at true k _ g = refl
     at false k context.Event g = refl
@@ -55,17 +57,14 @@ events-picked whole = record { nothing = refl; inside = λ t c cs ls. at t (comp
 pub zones-picked : (whole : List Placed) → Picks whole (zones whole) zones_of_end
 zones-picked whole = record { nothing = refl; inside = λ t c cs ls. at t (component_of c.name) (context_of (c ∷ cs)) (gathered whole (c ∷ cs) ls) }
   where
-    at : (t : Bool) (k : Component) (q : Context) (g : Gathered) → zones_of_end (cond t (ended_in (frame_at k q g)) ended.Nothing) ≡ cond (t && is_zone_context q) (zone_ended g.calendar g.zone ∷ []) []
+    at : (t : Bool) (k : Component) (q : Context) (g : Gathered) →
+        zones_of_end (cond t (ended_in (frame_at k q g)) ended.Nothing) ≡ cond (t && is_zone_context q) (zone_ended g.calendar g.zone ∷ []) []
     at true k context.Zone g = refl
     at true k _ g = refl
     at false k context.Zone g = refl
     at false k _ g = refl
 
 -- WHAT ENDS on a line.
-and-false : (b : Bool) → (b && false) ≡ false
-and-false true = refl
-and-false false = refl
-
 -- an END without a fault matches
 pub is-closing : (e c : Bool) → (e && not (e && c)) ≡ false → e ≡ (e && c)
 is-closing true true h = refl
@@ -86,7 +85,8 @@ module _ {X : Type 0} (whole : List Placed) (s : Sort X) (pick : Ended → List 
       ∙ ap (λ t. pick (cond t (ended_in f) ended.Nothing)) (sym (end-is u (name_of u) (tells u)) ∙ is-closing (bytes_eq u (codes "END")) (bytes_eq w c.name) m)
       ∙ picks.inside (bytes_eq u (codes "END") && bytes_eq w c.name) c cs ls
 
-  pub picked-same : (before : List Placed) (line : Line) (path : List Open) (v : Parts) (bundles : List Bundle) → Keeps before [] path bundles → IsMatched (with line path v) →
+  pub picked-same : (before : List Placed) (line : Line) (path : List Open) (v : Parts) (bundles : List Bundle) → Keeps before [] path bundles →
+      IsMatched (with line path v) →
       pick (ends (name_of (map upper v.name)) (frames_of whole path bundles)) ≡ ended_as s (top_lines bundles) (with line path v)
   picked-same before line [] v bundles k m =
       ap pick (ends-lowest (name_of (map upper v.name)) bottom) ∙ picks.nothing

@@ -22,7 +22,8 @@ use Rattle.ics_calendar.proofs.Judged.{event_note}
 use Rattle.ics_calendar.proofs.NameLemmas.{Tells, tells}
 
 -- what all lines of a name say, with one line more
-named-more : {X : Type 0} (f : Placed → X) (n : List ℕ) (ls : List Placed) (l : Placed) → map f (all_named n (ls ++ l ∷ [])) ≡ cond (is_named n l) (map f (all_named n ls) ++ f l ∷ []) (map f (all_named n ls))
+named-more : {X : Type 0} (f : Placed → X) (n : List ℕ) (ls : List Placed) (l : Placed) →
+    map f (all_named n (ls ++ l ∷ [])) ≡ cond (is_named n l) (map f (all_named n ls) ++ f l ∷ []) (map f (all_named n ls))
 named-more f n ls l = ap (map f) (filter-append (is_named n) ls (l ∷ [])) ∙ by_test (is_named n l)
   where
     by_test : (t : Bool) → map f (all_named n ls ++ cond t (l ∷ []) []) ≡ cond t (map f (all_named n ls) ++ f l ∷ []) (map f (all_named n ls))
@@ -39,9 +40,11 @@ kept-more f n [] l = last (is_named n l)
     last false = refl
 kept-more f n (k ∷ ks) l = by_test (is_named n k) (kept-more f n ks l)
   where
-    by_test : (t : Bool) → option_map f (first_named n (ks ++ l ∷ [])) ≡ cond (is_named n l) (or_first (option_map f (first_named n ks)) (f l)) (option_map f (first_named n ks)) →
+    by_test : (t : Bool) → option_map f (first_named n (ks ++ l ∷ []))
+        ≡ cond (is_named n l) (or_first (option_map f (first_named n ks)) (f l)) (option_map f (first_named n ks)) →
         option_map f (first_of (cond t (k ∷ all_named n (ks ++ l ∷ [])) (all_named n (ks ++ l ∷ []))))
-        ≡ cond (is_named n l) (or_first (option_map f (first_of (cond t (k ∷ all_named n ks) (all_named n ks)))) (f l)) (option_map f (first_of (cond t (k ∷ all_named n ks) (all_named n ks))))
+        ≡ cond (is_named n l) (or_first (option_map f (first_of (cond t (k ∷ all_named n ks) (all_named n ks)))) (f l))
+        (option_map f (first_of (cond t (k ∷ all_named n ks) (all_named n ks))))
     by_test true ih = either (is_named n l)
       where
         either : (t : Bool) → Some (f k) ≡ cond t (Some (f k)) (Some (f k))
@@ -93,10 +96,26 @@ noted name.Status u v had e = rw e refl
 noted name.Tzid u v had e = rw e refl
 noted name.OffsetFrom u v had e = rw e refl
 noted name.OffsetTo u v had e = rw e refl
-noted name.Other u v had e = simp (e.no_uid, e.no_dtstart, e.no_dtend, e.no_duration, e.no_rrule, e.no_rdate, e.no_exdate, e.no_recurrence_id, e.no_sequence, e.no_summary, e.no_location, e.no_description, e.no_status) refl
+noted name.Other u v had e =
+    simp (
+      e.no_uid,
+      e.no_dtstart,
+      e.no_dtend,
+      e.no_duration,
+      e.no_rrule,
+      e.no_rdate,
+      e.no_exdate,
+      e.no_recurrence_id,
+      e.no_sequence,
+      e.no_summary,
+      e.no_location,
+      e.no_description,
+      e.no_status,
+    ) refl
 
 -- WHAT IS COLLECTED of an event, with one line more.
-pub collected_of-more : (ls : List Placed) (l : Placed) → collected_of (ls ++ l ∷ []) ≡ event_note (name_of (property_name l.content)) (parts_at l) (collected_of ls)
+pub collected_of-more : (ls : List Placed) (l : Placed) →
+    collected_of (ls ++ l ∷ []) ≡ event_note (name_of (property_name l.content)) (parts_at l) (collected_of ls)
 collected_of-more ls l =
     rw (
       kept-more (λ l. text_of (value l)) (codes "UID") ls l,

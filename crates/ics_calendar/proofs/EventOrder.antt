@@ -38,7 +38,8 @@ calendar-no-event _ e = refl
 calendar-alone : (whole : List Placed) (path : List Open) → is_calendar_context (context_of path) ≡ true → open_as events whole path ≡ []
 calendar-alone whole [] e = refl
 calendar-alone whole (c ∷ []) e = rw (calendar-no-event (context_of (c ∷ [])) e) refl
-calendar-alone whole (c ∷ d ∷ ds) e = absurd (context-in-outside (context_of ds) (component_of d.name) (calendar-from (context_of (d ∷ ds)) (component_of c.name) e))
+calendar-alone whole (c ∷ d ∷ ds) e =
+    absurd (context-in-outside (context_of ds) (component_of d.name) (calendar-from (context_of (d ∷ ds)) (component_of c.name) e))
 
 -- an event begins exactly on a VEVENT in a calendar
 event-begins : (q : Context) (w : List ℕ) → is_event_context (context_in q (component_of w)) ≡ (is_calendar_context q && bytes_eq w (codes "VEVENT"))
@@ -65,7 +66,9 @@ in-calendar _ c e = cc
 
 pub events-are : IsSort events
 events-are = record {
-  starts = λ l. reorder (is_calendar_context (context_of l.path)) (is_begin l) (bytes_eq (component l) (codes "VEVENT")) ∙ ap (λ t. is_begin l && t) (sym (event-begins (context_of l.path) (component l)));
+  starts =
+      λ l. reorder (is_calendar_context (context_of l.path)) (is_begin l) (bytes_eq (component l) (codes "VEVENT"))
+      ∙ ap (λ t. is_begin l && t) (sym (event-begins (context_of l.path) (component l)));
   alone = λ whole l e. calendar-alone whole l.path (in-calendar (context_of l.path) (component_of (component l)) e);
   ends = λ path ls l e. ap (event_ended (calendar_of path)) (event-end ls l e);
 }

@@ -1,5 +1,6 @@
 -- An event that no fault of either round stands on is one, of the zones of its file.
-use Rattle.std.proofs.Common.{◌≡◌, ℕ, ◌≤◌, Bool, true, false, not, ◌&&◌, ◌||◌, ◌==◌, nat_le, IsTrue, List, [], ◌∷◌, refl, arith, cond, Option, Some, None, is_some, IfSome, int_lt, ℤ, pos, ◌+ℤ◌, ◌*ℤ◌}
+use Rattle.std.proofs.Common.{◌≡◌, ℕ, ◌≤◌, Bool, true, false, not, ◌&&◌, ◌||◌, ◌==◌, nat_le, IsTrue, List, [], ◌∷◌, refl, arith, cond, Option, Some, None}
+use Rattle.std.proofs.Common.{is_some, IfSome, int_lt, ℤ, pos, ◌+ℤ◌, ◌*ℤ◌}
 use Rattle.std.specs.Prelude.{flat_map, map, option_map, get_or}
 use Rattle.std.specs.List.{All, list_any}
 use Rattle.std.proofs.lemmas.Bool.Decides.{nat_tests}
@@ -40,13 +41,15 @@ pub known-zone : (t : Bool) → cond t None (Some UnknownZone) ≡ None → t �
 known-zone true e = refl
 known-zone false e = cc
 
-stamp-time : (known : KnownZones) (name : ZoneName) (r : Stamp) → IsSoundStamp r → IsFine known (cond (is_zoned r) (Some (check.Zone name)) None) → IsTime (time_in (known.index name) r)
+stamp-time : (known : KnownZones) (name : ZoneName) (r : Stamp) → IsSoundStamp r → IsFine known (cond (is_zoned r) (Some (check.Zone name)) None) →
+    IsTime (time_in (known.index name) r)
 stamp-time known name (Date d) h k = record { years = h; zone = refl }
 stamp-time known name (Floating l) h k = record { years = h; zone = refl }
 stamp-time known name (Utc l) h k = record { years = h; zone = refl }
 stamp-time known name (Zoned l) h k = record { years = h; zone = known-zone (is_some (known.index name)) k }
 
-time-sound : (known : KnownZones) (calendar : ℕ) (d : Dated) → IsSoundStamp d.stamp → IsFine known (used_zone calendar d) → IsTime (time_on known.index calendar d)
+time-sound : (known : KnownZones) (calendar : ℕ) (d : Dated) → IsSoundStamp d.stamp → IsFine known (used_zone calendar d) →
+    IsTime (time_on known.index calendar d)
 time-sound known calendar d h k = stamp-time known (zone_used calendar d) d.stamp h k
 
 pub out-within : (start end : ℤ) → is_out start end ≡ false → IsWithin start end
@@ -90,7 +93,8 @@ lasting-is d h = let t = by_tests d.negative (length_in_seconds d) h in record {
     by_tests true k h = grind (arith, nat_tests)
     by_tests false k h = grind (arith, nat_tests)
 
-length-sound : (known : KnownZones) (calendar : ℕ) (start : Dated) (length : GivenLength) → IsSoundLength start length → IsFine known (used_in calendar (end_of length)) → IsFine known (ends_in calendar (Some start) (end_of length)) →
+length-sound : (known : KnownZones) (calendar : ℕ) (start : Dated) (length : GivenLength) → IsSoundLength start length →
+    IsFine known (used_in calendar (end_of length)) → IsFine known (ends_in calendar (Some start) (end_of length)) →
     IsLength (time_on known.index calendar start).stamp (length_of known.index calendar length)
 length-sound known k s (given.Until d) h u l = (time-sound known k d h.0 u, end-is known (zone_used k s) (zone_used k d) (same_zone s d) s.stamp d.stamp h.1 l)
 length-sound known k s (given.Lasting d) h u l = lasting-is d h
@@ -109,19 +113,24 @@ fine-rest known name true true h = h
 fine-rest known name true false h = tt
 fine-rest known name false b h = h
 
-rdate-is : (known : KnownZones) (name : ZoneName) (v : ListedDate) → IsSoundValue v → IsFine known (fault_by (has_zoned v) name) → IsRdate (rdate_in (known.index name) v)
+rdate-is : (known : KnownZones) (name : ZoneName) (v : ListedDate) → IsSoundValue v → IsFine known (fault_by (has_zoned v) name) →
+    IsRdate (rdate_in (known.index name) v)
 rdate-is known name (value.At r) h k = stamp-time known name r h k
-rdate-is known name (value.Between r q) h k =
-    (stamp-time known name r h.0 (fine-first known name (is_zoned r) (is_zoned q) k), stamp-time known name q h.1 (fine-rest known name (is_zoned r) (is_zoned q) k))
+rdate-is known name (value.Between r q) h k = (
+  stamp-time known name r h.0 (fine-first known name (is_zoned r) (is_zoned q) k),
+  stamp-time known name q h.1 (fine-rest known name (is_zoned r) (is_zoned q) k),
+)
 rdate-is known name (value.Lasting r d) h k = (stamp-time known name r h.0 k, lasting-is d h.1)
 
-exdate-is : (known : KnownZones) (name : ZoneName) (v : ListedDate) → IsSoundValue v → IsFine known (fault_by (has_zoned v) name) → IsTime (exdate_in (known.index name) v)
+exdate-is : (known : KnownZones) (name : ZoneName) (v : ListedDate) → IsSoundValue v → IsFine known (fault_by (has_zoned v) name) →
+    IsTime (exdate_in (known.index name) v)
 exdate-is known name (value.At r) h k = stamp-time known name r h k
 exdate-is known name (value.Between r q) h k = stamp-time known name r h.0 (fine-first known name (is_zoned r) (is_zoned q) k)
 exdate-is known name (value.Lasting r d) h k = stamp-time known name r h.0 k
 
 -- each value of a list, and each list
-values-are : {A : Type 0} (P : A → Type 0) (f : ListedDate → A) (known : KnownZones) (name : ZoneName) → ((v : ListedDate) → IsSoundValue v → IsFine known (fault_by (has_zoned v) name) → P (f v)) →
+values-are : {A : Type 0} (P : A → Type 0) (f : ListedDate → A) (known : KnownZones) (name : ZoneName) →
+    ((v : ListedDate) → IsSoundValue v → IsFine known (fault_by (has_zoned v) name) → P (f v)) →
     (values : List ListedDate) → All IsSoundValue values → IsFine known (fault_by (list_any has_zoned values) name) → All P (map f values)
 values-are P f known name each [] h k = All-nil P
 values-are P f known name each (v ∷ vs) h k =
@@ -134,9 +143,11 @@ lists-are : {A : Type 0} (P : A → Type 0) (f : Option ℕ → ListedDate → A
     All P (flat_map (λ list. map (f (known.index (zone_listed calendar list))) list.values) lists)
 lists-are P f known calendar each lists h k =
     All-flat_map P (λ list. map (f (known.index (zone_listed calendar list))) list.values) lists
-    (λ i d l. values-are P (f (known.index (zone_listed calendar (get_or lists i d)))) known (zone_listed calendar (get_or lists i d)) (each (zone_listed calendar (get_or lists i d))) (get_or lists i d).values (h i d l) (k i d l))
+    (λ i d l. values-are P (f (known.index (zone_listed calendar (get_or lists i d)))) known (zone_listed calendar (get_or lists i d))
+    (each (zone_listed calendar (get_or lists i d))) (get_or lists i d).values (h i d l) (k i d l))
 
-recurrence-is : (known : KnownZones) (calendar : ℕ) (o : Option Dated) → IfSome o (λ d. IsSoundStamp d.stamp) → IsFine known (used_in calendar o) → IfSome (option_map (time_on known.index calendar) o) IsTime
+recurrence-is : (known : KnownZones) (calendar : ℕ) (o : Option Dated) → IfSome o (λ d. IsSoundStamp d.stamp) → IsFine known (used_in calendar o) →
+    IfSome (option_map (time_on known.index calendar) o) IsTime
 recurrence-is known calendar None h k = tt
 recurrence-is known calendar (Some d) h k = time-sound known calendar d h k
 

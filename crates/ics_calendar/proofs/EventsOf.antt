@@ -1,5 +1,6 @@
 -- An event that no fault of either round stands on is one of the zones of its file.
-use Rattle.std.proofs.Common.{◌≡◌, ℕ, ◌<◌, Bool, true, false, ◌&&◌, ◌||◌, ◌==◌, List, [], length, get_or, refl, sym, ap, ◌∙◌, subst, arith, cond, Option, Some, None, is_some, IfSome, ℤ}
+use Rattle.std.proofs.Common.{◌≡◌, ℕ, ◌<◌, Bool, true, false, ◌&&◌, ◌||◌, ◌==◌, List, [], length, get_or, refl, sym, ap, ◌∙◌, subst, arith, cond, Option, Some}
+use Rattle.std.proofs.Common.{None, is_some, IfSome, ℤ}
 use Rattle.std.specs.Prelude.{slice_get, map, flat_map, option_map}
 use Rattle.std.specs.List.{All}
 use Rattle.std.specs.Option.{option_and_then}
@@ -25,7 +26,8 @@ use Rattle.ics_calendar.specs.declared.deferred_check.Instant.TheVariants as ins
 use Rattle.ics_calendar.specs.declared.deferred_check.DeferredCheck.TheVariants as check
 use Rattle.ics_calendar.specs.declared.deferred_check.ZoneName.{ZoneName}
 use Rattle.ics_calendar.specs.declared.time.Time.{Time}
-use Rattle.ics_calendar.specs.Event.{seconds_of, is_zoned, IsWithin, EndsBelow, RdateBelow, TimeBelow, EndsWithin, IsEventOf, AreEventsOf, compared, is_one_zone, moment_in}
+use Rattle.ics_calendar.specs.Event.{seconds_of, is_zoned, IsWithin, EndsBelow, RdateBelow, TimeBelow, EndsWithin, IsEventOf, AreEventsOf, compared}
+use Rattle.ics_calendar.specs.Event.{is_one_zone, moment_in}
 use Rattle.ics_calendar.specs.Builders.{event_of}
 use Rattle.ics_calendar.specs.DateLists.{zone_listed, rdate_in, first_stamp, exdate_in}
 use Rattle.ics_calendar.specs.DeferredChecks.{KnownZones, known_zones, is_same, zone_index, zone_used, moment_at, moment_there, are_out}
@@ -37,7 +39,7 @@ use Rattle.ics_calendar.specs.Values.{tzid, is_out, is_bad_end}
 use Rattle.ics_calendar.proofs.EventSound.{IsFine, known-zone, out-within, checks_of}
 use Rattle.ics_calendar.proofs.Listed.{All-flat_map}
 
-some-same : {X : Type 0} (x y : X) → Some x ≡ Some y → x ≡ y
+pub some-same : {X : Type 0} (x y : X) → Some x ≡ Some y → x ≡ y
 some-same x y h = cc
 
 fine-end : (t : Bool) → cond t (Some BadEnd) None ≡ None → t ≡ false
@@ -75,7 +77,8 @@ module _ (names : List ZoneName) (zones : List (List Phase)) (long : length name
   known = known_zones names zones
 
   -- a zoned local where its zone is known
-  local-there : (used : ZoneName) (local : Local) (i : ℕ) → zone_index names used ≡ Some i → moment_there known used local ≡ Some (moment_in zones (Some i) (Zoned local))
+  local-there : (used : ZoneName) (local : Local) (i : ℕ) → zone_index names used ≡ Some i →
+      moment_there known used local ≡ Some (moment_in zones (Some i) (Zoned local))
   local-there used local i e =
       ap (option_and_then (moment_at zones local)) e ∙ by_zone (slice_get zones i) refl
     where
@@ -87,7 +90,8 @@ module _ (names : List ZoneName) (zones : List (List Phase)) (long : length name
       by_zone None f = let g = slice_get-get_or zones i [] below in cc
 
   not-out : (a b : Option ℤ) (x y : ℤ) → a ≡ Some x → b ≡ Some y → cond (are_out a b) (Some BadEnd) None ≡ None → is_out x y ≡ false
-  not-out a b x y e f h = fine-end (is_out x y) (ap (λ o. cond (are_out (Some x) o) (Some BadEnd) None) (sym f) ∙ ap (λ o. cond (are_out o b) (Some BadEnd) None) (sym e) ∙ h)
+  not-out a b x y e f h =
+      fine-end (is_out x y) (ap (λ o. cond (are_out (Some x) o) (Some BadEnd) None) (sym f) ∙ ap (λ o. cond (are_out o b) (Some BadEnd) None) (sym e) ∙ h)
 
   abbrev time : Stamp → Option ℕ → Time
   time s o = record { stamp = s; zone = o }
@@ -96,10 +100,12 @@ module _ (names : List ZoneName) (zones : List (List Phase)) (long : length name
   Within s o t p = IsWithin (compared (is_one_zone o p) zones (time s o)) (compared (is_one_zone o p) zones (time t p))
 
   both-zoned : (k : ℕ) (x y : List ℕ) (a b : Local) (i j : ℕ) → zone_index names (named k x) ≡ Some i → zone_index names (named k y) ≡ Some j →
-      is_bad_end (bytes_eq x y) (Zoned a) (Zoned b) ≡ false → IsFine known (checks_of (named k x) (named k y) (bytes_eq x y) (Zoned a) (Zoned b)) → Within (Zoned a) (Some i) (Zoned b) (Some j)
+      is_bad_end (bytes_eq x y) (Zoned a) (Zoned b) ≡ false → IsFine known (checks_of (named k x) (named k y) (bytes_eq x y) (Zoned a) (Zoned b)) →
+      Within (Zoned a) (Some i) (Zoned b) (Some j)
   both-zoned k x y a b i j e f l h = by_tests (i == j) (bytes_eq x y) refl refl l h
     where
-      by_tests : (t z : Bool) → (i == j) ≡ t → bytes_eq x y ≡ z → is_bad_end z (Zoned a) (Zoned b) ≡ false → IsFine known (checks_of (named k x) (named k y) z (Zoned a) (Zoned b)) →
+      by_tests : (t z : Bool) → (i == j) ≡ t → bytes_eq x y ≡ z → is_bad_end z (Zoned a) (Zoned b) ≡ false →
+          IsFine known (checks_of (named k x) (named k y) z (Zoned a) (Zoned b)) →
           IsWithin (compared t zones (time (Zoned a) (Some i))) (compared t zones (time (Zoned b) (Some j)))
       by_tests true true t z l h = out-within (seconds_of a) (seconds_of b) l
       by_tests true false t z l h =
@@ -139,7 +145,8 @@ module _ (names : List ZoneName) (zones : List (List Phase)) (long : length name
   used_on name r = cond (is_zoned r) (zone_index names name) None
 
   within : (k : ℕ) (x y : List ℕ) (r q : Stamp) → is_bad_end (bytes_eq x y) r q ≡ false →
-      IsFine known (cond (is_zoned r) (Some (check.Zone (named k x))) None) → IsFine known (cond (is_zoned q) (Some (check.Zone (named k y))) None) → IsFine known (checks_of (named k x) (named k y) (bytes_eq x y) r q) →
+      IsFine known (cond (is_zoned r) (Some (check.Zone (named k x))) None) → IsFine known (cond (is_zoned q) (Some (check.Zone (named k y))) None) →
+      IsFine known (checks_of (named k x) (named k y) (bytes_eq x y) r q) →
       (is_some (used_on (named k x) r) || is_some (used_on (named k y) q)) ≡ true → Within r (used_on (named k x) r) q (used_on (named k y) q)
   within k x y (Zoned a) (Zoned b) l u v h g =
       let i = index-is (named k x) u in
@@ -162,7 +169,8 @@ module _ (names : List ZoneName) (zones : List (List Phase)) (long : length name
   within k x y (Utc a) (Utc b) l u v h g = cc
 
   ends-within : (k : ℕ) (start : Dated) (length : GivenLength) → IsSoundLength start length →
-      IsFine known (used_zone k start) → IsFine known (used_in k (end_of length)) → IsFine known (ends_in k (Some start) (end_of length)) → EndsWithin zones (time_on (zone_index names) k start) (length_of (zone_index names) k length)
+      IsFine known (used_zone k start) → IsFine known (used_in k (end_of length)) → IsFine known (ends_in k (Some start) (end_of length)) →
+      EndsWithin zones (time_on (zone_index names) k start) (length_of (zone_index names) k length)
   ends-within k s (given.Until e) h u v w = within k (tzid s) (tzid e) s.stamp e.stamp h.1 u v w
   ends-within k s (given.Lasting d) h u v w = tt
   ends-within k s given.Open h u v w = tt
@@ -188,11 +196,13 @@ module _ (names : List ZoneName) (zones : List (List Phase)) (long : length name
   exdate-below : (used : ZoneName) (v : ListedDate) → TimeBelow (length zones) (exdate_in (zone_index names used) v)
   exdate-below used v = stamp-below used (first_stamp v)
 
-  lists-below : {A : Type 0} (P : A → Type 0) (f : Option ℕ → ListedDate → A) → ((used : ZoneName) (v : ListedDate) → P (f (zone_index names used) v)) → (k : ℕ) (lists : List DateList) →
+  lists-below : {A : Type 0} (P : A → Type 0) (f : Option ℕ → ListedDate → A) → ((used : ZoneName) (v : ListedDate) → P (f (zone_index names used) v)) →
+      (k : ℕ) (lists : List DateList) →
       All P (flat_map (λ list. map (f (zone_index names (zone_listed k list))) list.values) lists)
   lists-below P f each k lists =
       All-flat_map P (λ list. map (f (zone_index names (zone_listed k list))) list.values) lists
-      (λ i d l. All-map P (f (zone_index names (zone_listed k (get_or lists i d)))) (get_or lists i d).values (λ j e m. each (zone_listed k (get_or lists i d)) (get_or (get_or lists i d).values j e)))
+      (λ i d l. All-map P (f (zone_index names (zone_listed k (get_or lists i d)))) (get_or lists i d).values
+      (λ j e m. each (zone_listed k (get_or lists i d)) (get_or (get_or lists i d).values j e)))
 
   recurrence-below : (k : ℕ) (o : Option Dated) → IfSome (option_map (time_on (zone_index names) k) o) (TimeBelow (length zones))
   recurrence-below k None = tt

@@ -20,7 +20,8 @@ event lines = calendar (codes "BEGIN:VEVENT" ∷ lines ++ codes "END:VEVENT" ∷
 -- a time zone of that name, as lines of a calendar
 abbrev pub zone : List ℕ → List (List ℕ)
 zone name =
-    codes "BEGIN:VTIMEZONE" ∷ (codes "TZID:" ++ name) ∷ codes "BEGIN:STANDARD" ∷ codes "DTSTART:20240105T100000" ∷ codes "TZOFFSETFROM:-0400" ∷ codes "TZOFFSETTO:-0500" ∷ codes "END:STANDARD"
+    codes "BEGIN:VTIMEZONE" ∷ (codes "TZID:" ++ name) ∷ codes "BEGIN:STANDARD" ∷ codes "DTSTART:20240105T100000" ∷ codes "TZOFFSETFROM:-0400"
+    ∷ codes "TZOFFSETTO:-0500" ∷ codes "END:STANDARD"
     ∷ codes "END:VTIMEZONE" ∷ []
 
 abbrev fault_in : Result FileSaid Fault → Option Fault

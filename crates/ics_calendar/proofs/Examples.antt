@@ -6,7 +6,8 @@ use Rattle.ics_values.specs.RuleParts.{RuleParts, every}
 use Rattle.ics_values.specs.Rules.{rule_of}
 use Rattle.ics_values.specs.declared.frequency.Frequency.TheVariants.{Daily}
 use Rattle.ics_values.specs.declared.stamp.Stamp.TheVariants.{Utc}
-use Rattle.ics_calendar.specs.declared.fault.FaultKind.TheVariants.{BadFold, BadLine, BadNesting, BadStamp, NotCalendar, OldVersion, Repeated, TooDeep, UnknownZone}
+use Rattle.ics_calendar.specs.declared.fault.FaultKind.TheVariants.{BadFold, BadLine, BadNesting, BadStamp, NotCalendar, OldVersion, Repeated, TooDeep}
+use Rattle.ics_calendar.specs.declared.fault.FaultKind.TheVariants.{UnknownZone}
 use Rattle.ics_calendar.specs.declared.time.Length.TheVariants.{Until}
 use Rattle.ics_calendar.specs.Files.{file_of, events_of}
 use Rattle.ics_calendar.specs.Placed.{placed}
@@ -108,7 +109,9 @@ standup_event = refl
 
 -- two bytes of a title, parted by a fold
 abbrev cafe : List ℕ
-cafe = text (codes "BEGIN:VCALENDAR" ∷ codes "BEGIN:VEVENT" ∷ codes "UID:a" ∷ codes "DTSTART:20240105T100000Z" ∷ []) ++ codes "SUMMARY:Caf" ++ 195 ∷ 13 ∷ 10 ∷ 32 ∷ 169 ∷ 13 ∷ 10 ∷ text (codes "END:VEVENT" ∷ codes "END:VCALENDAR" ∷ [])
+cafe =
+    text (codes "BEGIN:VCALENDAR" ∷ codes "BEGIN:VEVENT" ∷ codes "UID:a" ∷ codes "DTSTART:20240105T100000Z" ∷ []) ++ codes "SUMMARY:Caf" ++ 195 ∷ 13 ∷ 10 ∷ 32
+    ∷ 169 ∷ 13 ∷ 10 ∷ text (codes "END:VEVENT" ∷ codes "END:VCALENDAR" ∷ [])
 
 abbrev titles : List ℕ → List (List ℕ)
 titles file = map (λ e. e.title) (events_of (placed file))
@@ -117,14 +120,16 @@ folded_title : titles cafe ≡ (codes "Caf" ++ 195 ∷ 169 ∷ []) ∷ []
 folded_title = refl
 
 -- two calendars, and the first title of two
-two_calendars : titles (standup ++ event (codes "uid:b" ∷ codes "DTSTART:20240105" ∷ codes "summary:x\\, y" ∷ codes "SUMMARY:z" ∷ [])) ≡ codes "Standup" ∷ codes "x, y" ∷ []
+two_calendars : titles (standup ++ event (codes "uid:b" ∷ codes "DTSTART:20240105" ∷ codes "summary:x\\, y" ∷ codes "SUMMARY:z" ∷ []))
+    ≡ codes "Standup" ∷ codes "x, y" ∷ []
 two_calendars = refl
 
 -- a rule, and none
 abbrev pub rules : List ℕ → List (Option RuleParts)
 rules file = map (λ e. e.rule) (events_of (placed file))
 
-four_days : rules (event (codes "UID:a" ∷ codes "DTSTART:20240105" ∷ codes "RRULE:FREQ=DAILY;COUNT=4" ∷ [])) ≡ Some (record (every Daily) { count = Some 4 }) ∷ []
+four_days : rules (event (codes "UID:a" ∷ codes "DTSTART:20240105" ∷ codes "RRULE:FREQ=DAILY;COUNT=4" ∷ []))
+    ≡ Some (record (every Daily) { count = Some 4 }) ∷ []
 unfolding rule_of
 four_days = refl
 
@@ -133,7 +138,12 @@ one_day = refl
 
 -- the file, cut after each of its bytes
 abbrev every_context : List ℕ
-every_context = 0 ∷ 1 ∷ 2 ∷ 3 ∷ 4 ∷ 5 ∷ 6 ∷ 7 ∷ 8 ∷ 9 ∷ 10 ∷ 11 ∷ 12 ∷ 13 ∷ 14 ∷ 15 ∷ 16 ∷ 17 ∷ 18 ∷ 19 ∷ 20 ∷ 21 ∷ 22 ∷ 23 ∷ 24 ∷ 25 ∷ 26 ∷ 27 ∷ 28 ∷ 29 ∷ 30 ∷ 31 ∷ 32 ∷ 33 ∷ 34 ∷ 35 ∷ 36 ∷ 37 ∷ 38 ∷ 39 ∷ 40 ∷ 41 ∷ 42 ∷ 43 ∷ 44 ∷ 45 ∷ 46 ∷ 47 ∷ 48 ∷ 49 ∷ 50 ∷ 51 ∷ 52 ∷ 53 ∷ 54 ∷ 55 ∷ 56 ∷ 57 ∷ 58 ∷ 59 ∷ 60 ∷ 61 ∷ 62 ∷ 63 ∷ 64 ∷ 65 ∷ 66 ∷ 67 ∷ 68 ∷ 69 ∷ 70 ∷ 71 ∷ 72 ∷ 73 ∷ 74 ∷ 75 ∷ 76 ∷ 77 ∷ 78 ∷ 79 ∷ 80 ∷ 81 ∷ 82 ∷ 83 ∷ 84 ∷ 85 ∷ 86 ∷ 87 ∷ 88 ∷ 89 ∷ 90 ∷ 91 ∷ 92 ∷ 93 ∷ 94 ∷ 95 ∷ 96 ∷ 97 ∷ 98 ∷ 99 ∷ 100 ∷ 101 ∷ 102 ∷ 103 ∷ 104 ∷ 105 ∷ 106 ∷ 107 ∷ 108 ∷ 109 ∷ 110 ∷ 111 ∷ 112 ∷ 113 ∷ 114 ∷ 115 ∷ 116 ∷ 117 ∷ 118 ∷ 119 ∷ 120 ∷ 121 ∷ 122 ∷ 123 ∷ 124 ∷ 125 ∷ 126 ∷ 127 ∷ 128 ∷ 129 ∷ 130 ∷ 131 ∷ 132 ∷ []
+every_context =
+    0 ∷ 1 ∷ 2 ∷ 3 ∷ 4 ∷ 5 ∷ 6 ∷ 7 ∷ 8 ∷ 9 ∷ 10 ∷ 11 ∷ 12 ∷ 13 ∷ 14 ∷ 15 ∷ 16 ∷ 17 ∷ 18 ∷ 19 ∷ 20 ∷ 21 ∷ 22 ∷ 23 ∷ 24 ∷ 25 ∷ 26 ∷ 27 ∷ 28 ∷ 29 ∷ 30 ∷ 31 ∷ 32
+    ∷ 33 ∷ 34 ∷ 35 ∷ 36 ∷ 37 ∷ 38 ∷ 39 ∷ 40 ∷ 41 ∷ 42 ∷ 43 ∷ 44 ∷ 45 ∷ 46 ∷ 47 ∷ 48 ∷ 49 ∷ 50 ∷ 51 ∷ 52 ∷ 53 ∷ 54 ∷ 55 ∷ 56 ∷ 57 ∷ 58 ∷ 59 ∷ 60 ∷ 61 ∷ 62 ∷ 63
+    ∷ 64 ∷ 65 ∷ 66 ∷ 67 ∷ 68 ∷ 69 ∷ 70 ∷ 71 ∷ 72 ∷ 73 ∷ 74 ∷ 75 ∷ 76 ∷ 77 ∷ 78 ∷ 79 ∷ 80 ∷ 81 ∷ 82 ∷ 83 ∷ 84 ∷ 85 ∷ 86 ∷ 87 ∷ 88 ∷ 89 ∷ 90 ∷ 91 ∷ 92 ∷ 93 ∷ 94
+    ∷ 95 ∷ 96 ∷ 97 ∷ 98 ∷ 99 ∷ 100 ∷ 101 ∷ 102 ∷ 103 ∷ 104 ∷ 105 ∷ 106 ∷ 107 ∷ 108 ∷ 109 ∷ 110 ∷ 111 ∷ 112 ∷ 113 ∷ 114 ∷ 115 ∷ 116 ∷ 117 ∷ 118 ∷ 119 ∷ 120 ∷ 121
+    ∷ 122 ∷ 123 ∷ 124 ∷ 125 ∷ 126 ∷ 127 ∷ 128 ∷ 129 ∷ 130 ∷ 131 ∷ 132 ∷ []
 
 cuts : map (λ k. fault (take k standup)) every_context ≡
     at 1 NotCalendar ∷ at 1 BadLine ∷ at 1 BadLine ∷ at 1 BadLine ∷ at 1 BadLine ∷ at 1 BadLine ∷ at 1 NotCalendar ∷ at 1 NotCalendar

@@ -19,7 +19,8 @@ use Rattle.ics_calendar.specs.Builders.{fresh, observance_ended}
 use Rattle.ics_calendar.proofs.Built.{observance_of}
 use Rattle.ics_calendar.specs.Pass.{bottom}
 use Rattle.ics_calendar.specs.Lines.{calendar_in, opened}
-use Rattle.ics_calendar.proofs.Judged.{fault_in, fault_on, check_in, check_on, observance_note, joined, noted, closed, behind, IsBased, is_begin_name, is_end_name}
+use Rattle.ics_calendar.proofs.Judged.{fault_in, fault_on, check_in, check_on, observance_note, joined, noted, closed, behind, IsBased, is_begin_name}
+use Rattle.ics_calendar.proofs.Judged.{is_end_name}
 use Rattle.ics_calendar.proofs.NameLemmas.{Tells, tells, context-in-outside}
 use Rattle.ics_calendar.proofs.EventBuilderLemmas.{parts_at}
 use Rattle.ics_calendar.proofs.Rows.{Gathered, builder_at, frame_at}
@@ -48,7 +49,9 @@ begin-only name.Begin e = refl
 begin-only _ e = cc
 
 pub begin-named : (l : Placed) → is_begin l ≡ true → name_of (property_name l.content) ≡ name.Begin
-begin-named l e = begin-only (name_of (property_name l.content)) (sym (begin-is (property_name l.content) (name_of (property_name l.content)) (tells (property_name l.content))) ∙ e)
+begin-named l e =
+    begin-only (name_of (property_name l.content))
+    (sym (begin-is (property_name l.content) (name_of (property_name l.content)) (tells (property_name l.content))) ∙ e)
 
 abbrev pub top_of : List Placed → List Open → List Bundle → Frame
 top_of whole path bundles = frame_of whole path (top_lines bundles)
@@ -72,9 +75,11 @@ module _ (whole before : List Placed) where
   added l (c ∷ cs) [] k e = absurd k
   added l (c ∷ cs) (b ∷ bs) k e =
       let q : Context = context_of (c ∷ cs) in
-      ap (λ s. record { component = component_of c.name; context = q; calendar = calendar_of (c ∷ cs); builder = s } ∷ frames_of whole cs bs) (builder-more whole q (c ∷ cs) b.lines l e)
+      ap (λ s. record { component = component_of c.name; context = q; calendar = calendar_of (c ∷ cs); builder = s } ∷ frames_of whole cs bs)
+      (builder-more whole q (c ∷ cs) b.lines l e)
 
-  fresh-at : (c : Component) (q : Context) (path : List Open) → frame_at c q (gathered whole path []) ≡ record { component = c; context = q; calendar = calendar_of path; builder = fresh q }
+  fresh-at : (c : Component) (q : Context) (path : List Open) →
+      frame_at c q (gathered whole path []) ≡ record { component = c; context = q; calendar = calendar_of path; builder = fresh q }
   fresh-at c context.Event path = refl
   fresh-at c _ path = refl
 
@@ -87,49 +92,64 @@ module _ (whole before : List Placed) where
   calendar-is name number (c ∷ d ∷ ds) (b ∷ e ∷ es) k = refl
 
   opened-over : (number : ℕ) (c : Component) (path : List Open) (bundles : List Bundle) → Keeps before [] path bundles →
-      record { component = c; context = context_in (context_of path) c; calendar = calendar_in number (frames_of whole path bundles); builder = fresh (context_in (context_of path) c) } ∷ frames_of whole path bundles
+      record {
+        component = c;
+        context = context_in (context_of path) c;
+        calendar = calendar_in number (frames_of whole path bundles);
+        builder = fresh (context_in (context_of path) c);
+      } ∷ frames_of whole path bundles
       ≡ opened number c (frames_of whole path bundles)
   opened-over number c [] bundles k = refl
   opened-over number c (d ∷ ds) [] k = absurd k
   opened-over number c (d ∷ ds) (b ∷ bs) k = refl
 
   begun : (l : Placed) (path : List Open) (bundles : List Bundle) → Keeps before [] path bundles →
-      frames_of whole (record { name = component l; begun = l.number } ∷ path) (record { begin = l; lines = [] } ∷ bundles) ≡ opened l.number (component_of (component l)) (frames_of whole path bundles)
+      frames_of whole (record { name = component l; begun = l.number } ∷ path) (record { begin = l; lines = [] } ∷ bundles)
+      ≡ opened l.number (component_of (component l)) (frames_of whole path bundles)
   begun l path bundles k =
       let c : Component = component_of (component l) in
       let q : Context = context_in (context_of path) c in
       ap (λ (f : Frame). f ∷ frames_of whole path bundles) (fresh-at c q (record { name = component l; begun = l.number } ∷ path))
-      ∙ ap (λ (m : ℕ). record { component = c; context = q; calendar = m; builder = fresh q } ∷ frames_of whole path bundles) (calendar-is (component l) l.number path bundles k)
+      ∙ ap (λ (m : ℕ). record { component = c; context = q; calendar = m; builder = fresh q } ∷ frames_of whole path bundles)
+      (calendar-is (component l) l.number path bundles k)
       ∙ opened-over l.number c path bundles k
 
   -- what is collected of a component that ends, and of the one that it stands in
-  closed-in : (l : Placed) (c : Open) (cs : List Open) (f g : Bundle) → name_of (property_name l.content) ≡ name.End → lines_in c.begun whole ≡ lines_in c.begun before ++ l ∷ [] → IsKept before [] c cs f →
-      builder_at (context_of cs) (gathered whole cs (g.lines ++ f.begin ∷ [])) ≡ joined (builder_at (context_of (c ∷ cs)) (gathered whole (c ∷ cs) f.lines)) (builder_at (context_of cs) (gathered whole cs g.lines))
+  closed-in : (l : Placed) (c : Open) (cs : List Open) (f g : Bundle) → name_of (property_name l.content) ≡ name.End →
+      lines_in c.begun whole ≡ lines_in c.begun before ++ l ∷ [] → IsKept before [] c cs f →
+      builder_at (context_of cs) (gathered whole cs (g.lines ++ f.begin ∷ []))
+      ≡ joined (builder_at (context_of (c ∷ cs)) (gathered whole (c ∷ cs) f.lines)) (builder_at (context_of cs) (gathered whole cs g.lines))
   closed-in l c cs f g n w kept =
       let inner : Gathered = gathered whole (c ∷ cs) f.lines in
       let number : f.begin.number ≡ c.begun = ap innermost kept.opened in
-      let all : lines_in f.begin.number whole ≡ f.lines ++ l ∷ [] = ap (λ m. lines_in m whole) number ∙ w ∙ ap (λ ls. ls ++ l ∷ []) (kept.lines ∙ append-nil f.lines) in
-      let same : own whole f.begin ≡ observance_ended inner.observance = ap (λ ls. observance_ended (observance_of ls)) all ∙ ap observance_ended (observance-end f.lines l n) in
+      let all : lines_in f.begin.number whole ≡ f.lines ++ l ∷ [] =
+      ap (λ m. lines_in m whole) number ∙ w ∙ ap (λ ls. ls ++ l ∷ []) (kept.lines ∙ append-nil f.lines) in
+      let same : own whole f.begin ≡ observance_ended inner.observance =
+      ap (λ ls. observance_ended (observance_of ls)) all ∙ ap observance_ended (observance-end f.lines l n) in
       ap (λ q. builder_at q (gathered whole cs (g.lines ++ f.begin ∷ []))) (sym (ap context_of (path-of f.begin c cs kept.opened)))
       ∙ builder-begun whole (context_of f.begin.path) cs g.lines f.begin inner (begin-named f.begin kept.begins) kept.begins same
       ∙ ap (λ (path : List Open). joined (builder_at (context_of path) inner) (builder_at (context_of (drop 1 path)) (gathered whole cs g.lines))) kept.opened
 
   closed-over : (l : Placed) (path : List Open) (bundles : List Bundle) → Keeps before [] path bundles → name_of (property_name l.content) ≡ name.End →
-      ((c : Open) (cs : List Open) → path ≡ c ∷ cs → lines_in c.begun whole ≡ lines_in c.begun before ++ l ∷ []) → frames_of whole (drop 1 path) (close l bundles) ≡ closed (frames_of whole path bundles)
+      ((c : Open) (cs : List Open) → path ≡ c ∷ cs → lines_in c.begun whole ≡ lines_in c.begun before ++ l ∷ []) →
+      frames_of whole (drop 1 path) (close l bundles) ≡ closed (frames_of whole path bundles)
   closed-over l [] [] k n w = refl
   closed-over l [] (f ∷ []) k n w = refl
   closed-over l [] (f ∷ g ∷ gs) k n w = refl
   closed-over l (c ∷ cs) [] k n w = absurd k
   closed-over l (c ∷ []) (f ∷ []) k n w = absurd k.1
   closed-over l (c ∷ d ∷ ds) (f ∷ []) k n w = absurd k.1
-  closed-over l (c ∷ []) (f ∷ g ∷ gs) k n w = ap (λ s. record bottom { builder = s } ∷ []) (sym (nothing-still (builder_at (context_of (c ∷ [])) (gathered whole (c ∷ []) f.lines))))
+  closed-over l (c ∷ []) (f ∷ g ∷ gs) k n w =
+      ap (λ s. record bottom { builder = s } ∷ []) (sym (nothing-still (builder_at (context_of (c ∷ [])) (gathered whole (c ∷ []) f.lines))))
   closed-over l (c ∷ d ∷ ds) (f ∷ g ∷ gs) k n w =
       ap (λ s. record { component = component_of d.name; context = context_of (d ∷ ds); calendar = calendar_of (d ∷ ds); builder = s } ∷ frames_of whole ds gs)
       (closed-in l c (d ∷ ds) f g n (w c (d ∷ ds) refl) k.0)
 
   -- a line keeps the frames
-  pub frames-behind : (line : Line) (path : List Open) (v : Parts) (bundles : List Bundle) → Keeps before [] path bundles → Closes whole before (with line path v) →
-      frames_of whole (path_behind (with line path v)) (bundles_behind (with line path v) bundles) ≡ behind line.number (name_of (map upper v.name)) v (frames_of whole path bundles)
+  pub frames-behind : (line : Line) (path : List Open) (v : Parts) (bundles : List Bundle) → Keeps before [] path bundles →
+      Closes whole before (with line path v) →
+      frames_of whole (path_behind (with line path v)) (bundles_behind (with line path v) bundles)
+      ≡ behind line.number (name_of (map upper v.name)) v (frames_of whole path bundles)
   frames-behind line path v bundles k w = by_name (name_of (map upper v.name)) refl
     where
       l : Placed
@@ -140,7 +160,8 @@ module _ (whole before : List Placed) where
 
       Shown : Name → Bool → Bool → Type 0
       Shown n b e =
-          frames_of whole (cond b (record { name = component l; begun = l.number } ∷ path) (cond e (drop 1 path) path)) (cond b (record { begin = l; lines = [] } ∷ bundles) (cond e (close l bundles) (add_line l bundles)))
+          frames_of whole (cond b (record { name = component l; begun = l.number } ∷ path) (cond e (drop 1 path) path))
+          (cond b (record { begin = l; lines = [] } ∷ bundles) (cond e (close l bundles) (add_line l bundles)))
           ≡ behind line.number n v (frames_of whole path bundles)
 
       shown : (n : Name) → name_of u ≡ n → (b e : Bool) → is_begin_name n ≡ b → is_end_name n ≡ e → Shown n b e → Shown n (is_begin l) (is_end l)
@@ -154,26 +175,31 @@ module _ (whole before : List Placed) where
       by_name name.End m =
           let not_begin : is_begin l ≡ false = begin-is u (name_of u) (tells u) ∙ ap is_begin_name m in
           let at_end : is_end l ≡ true = end-is u (name_of u) (tells u) ∙ ap is_end_name m in
-          let out : path_behind l ≡ drop 1 path = ap (λ t. cond t (record { name = component l; begun = l.number } ∷ path) (cond (is_end l) (drop 1 path) path)) not_begin ∙ ap (λ t. cond t (drop 1 path) path) at_end in
+          let out : path_behind l ≡ drop 1 path =
+          ap (λ t. cond t (record { name = component l; begun = l.number } ∷ path) (cond (is_end l) (drop 1 path) path)) not_begin
+          ∙ ap (λ t. cond t (drop 1 path) path) at_end in
           shown name.End m false true refl refl (closed-over l path bundles k m (λ c cs p. w c cs p (out ∙ ap (drop 1) p)))
       by_name _ m =
           let not_begin : is_begin l ≡ false = begin-is u (name_of u) (tells u) ∙ ap is_begin_name m in
           shown _ m false false refl refl (added l path bundles k not_begin ∙ ap (λ n. noted n v (frames_of whole path bundles)) m)
 
-  length-frames : (path : List Open) (bundles : List Bundle) (up : List Placed) → Keeps before up path bundles → length (frames_of whole path bundles) ≡ length path + 1
+  length-frames : (path : List Open) (bundles : List Bundle) (up : List Placed) → Keeps before up path bundles →
+      length (frames_of whole path bundles) ≡ length path + 1
   length-frames [] bundles up k = refl
   length-frames (c ∷ cs) [] up k = absurd k
   length-frames (c ∷ cs) (b ∷ bs) up k = let again = length-frames cs bs (b.begin ∷ []) k.1 in omega (arith, again)
 
   -- the faults of a line read the innermost frame alone
-  pub fault-top : (n : Name) (v : Parts) (path : List Open) (bundles : List Bundle) → Keeps before [] path bundles → fault_on n v (frames_of whole path bundles) ≡ fault_in n v (top_of whole path bundles) (length path)
+  pub fault-top : (n : Name) (v : Parts) (path : List Open) (bundles : List Bundle) → Keeps before [] path bundles →
+      fault_on n v (frames_of whole path bundles) ≡ fault_in n v (top_of whole path bundles) (length path)
   fault-top n v [] bundles k = refl
   fault-top n v (c ∷ cs) [] k = absurd k
   fault-top n v (c ∷ cs) (b ∷ bs) k =
       let long : length (frames_of whole cs bs) ≡ length (c ∷ cs) = let n = length-frames cs bs (b.begin ∷ []) k.1 in omega (arith, n) in
       ap (λ m. fault_in n v (frame_of whole (c ∷ cs) b.lines) m) long
 
-  pub check-top : (n : Name) (v : Parts) (path : List Open) (bundles : List Bundle) → Keeps before [] path bundles → check_on n v (frames_of whole path bundles) ≡ check_in n v (top_of whole path bundles)
+  pub check-top : (n : Name) (v : Parts) (path : List Open) (bundles : List Bundle) → Keeps before [] path bundles →
+      check_on n v (frames_of whole path bundles) ≡ check_in n v (top_of whole path bundles)
   check-top n v [] bundles k = refl
   check-top n v (c ∷ cs) [] k = absurd k
   check-top n v (c ∷ cs) (b ∷ bs) k = refl

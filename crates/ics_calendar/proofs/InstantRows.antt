@@ -15,9 +15,7 @@ use Rattle.ics_calendar.specs.declared.deferred_check.Instant.TheVariants.{Utc, 
 use Rattle.ics_calendar.specs.declared.deferred_check.DeferredCheck.TheVariants.{Ends}
 use Rattle.ics_calendar.specs.declared.deferred_check.ZoneName.{ZoneName}
 use Rattle.ics_calendar.specs.DeferredChecks.{KnownZones, known_zones, judged}
-
-some-same : {X : Type 0} (x y : X) → Some x ≡ Some y → x ≡ y
-some-same x y h = cc
+use Rattle.ics_calendar.proofs.EventsOf.{some-same}
 
 only : (p q : Phase) (i : ℕ) → slice_get (p ∷ []) i ≡ Some q → p ≡ q
 only p q i h =

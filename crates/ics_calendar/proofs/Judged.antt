@@ -31,7 +31,10 @@ use Rattle.ics_calendar.specs.Builders.{event_ended, zone_ended, observance_ende
 use Rattle.ics_calendar.specs.Components.{component_of, component_name}
 use Rattle.ics_calendar.specs.DateLists.{rdate_list, exdate_list}
 use Rattle.ics_calendar.specs.DateValues.{rdates_of, exdates_of, is_not_local}
-use Rattle.ics_calendar.specs.Lines.{unless, and_then, once, or_first, first, fault_if, stamp_fault_of, duration_fault_of, rule_fault_of, offset_fault_of, number_fault_of, dates_fault, used_zone, listed_zone, ends_in, event_line, zone_line, observance_line, plain_fault, builder_line, end_of_event, end_of_zone, end_of_observance, passed, builder_end, frame_end, with_observance, opened, outside_fault, named_line}
+use Rattle.ics_calendar.specs.Lines.{unless, and_then, once, or_first, first, fault_if, stamp_fault_of, duration_fault_of, rule_fault_of, offset_fault_of}
+use Rattle.ics_calendar.specs.Lines.{number_fault_of, dates_fault, used_zone, listed_zone, ends_in, event_line, zone_line, observance_line, plain_fault}
+use Rattle.ics_calendar.specs.Lines.{builder_line, end_of_event, end_of_zone, end_of_observance, passed, builder_end, frame_end, with_observance, opened}
+use Rattle.ics_calendar.specs.Lines.{outside_fault, named_line}
 use Rattle.ics_calendar.specs.Values.{zone_name, stamp_read, dated_of, lasting_of, duration_in, rule_in, ok_or_zero, is_cancelled, is_fine_rule}
 use Rattle.ics_calendar.specs.Zones.{local_in, onset_in, offset_in, daily_in}
 
@@ -43,7 +46,8 @@ event_fault name.Dtend c had = first (stamp_fault_of (stamp_read c.params c.valu
 event_fault name.Duration c had = first (duration_fault_of (lasting_of c.value)) (fault_if kind.Repeated (is_some had.duration))
 event_fault name.Rrule c had = first (rule_fault_of (rule_of c.value)) (fault_if kind.Repeated (is_some had.rule))
 event_fault name.RecurrenceId c had =
-    first (first (stamp_fault_of (stamp_read c.params c.value)) (fault_if kind.Repeated (is_some had.recurrence))) (fault_if kind.ThisAndFuture (is_some (param_of (codes "RANGE") c.params)))
+    first (first (stamp_fault_of (stamp_read c.params c.value)) (fault_if kind.Repeated (is_some had.recurrence)))
+    (fault_if kind.ThisAndFuture (is_some (param_of (codes "RANGE") c.params)))
 event_fault name.Sequence c had = first (number_fault_of (integer_of c.value)) (fault_if kind.Repeated (is_some had.sequence))
 event_fault name.Rdate c had = dates_fault (rdates_of (is_some (zone_name c.params)) c.value)
 event_fault name.Exdate c had = dates_fault (exdates_of (is_some (zone_name c.params)) c.value)
@@ -85,11 +89,14 @@ zone_note _ c had = had
 
 abbrev pub observance_fault : Name → Parts → ObservanceBuilder → Option FaultKind
 observance_fault name.Dtstart c had =
-    first (first (stamp_fault_of (stamp_of false c.value)) (fault_if kind.ObservanceField (is_not_local (At (stamp_of false c.value))))) (fault_if kind.ObservanceField (is_some had.start))
+    first (first (stamp_fault_of (stamp_of false c.value)) (fault_if kind.ObservanceField (is_not_local (At (stamp_of false c.value)))))
+    (fault_if kind.ObservanceField (is_some had.start))
 observance_fault name.OffsetFrom c had = first (offset_fault_of (offset_of c.value)) (fault_if kind.ObservanceField (is_some had.from))
 observance_fault name.OffsetTo c had = first (offset_fault_of (offset_of c.value)) (fault_if kind.ObservanceField (is_some had.to))
-observance_fault name.Rrule c had = first (first (rule_fault_of (rule_of c.value)) (fault_if kind.ZoneRule (is_fine_rule (rule_of c.value)))) (fault_if kind.ZoneRule (is_some had.rule))
-observance_fault name.Rdate c had = first (dates_fault (rdates_of false c.value)) (fault_if kind.ObservanceField (list_any is_not_local (rdates_of false c.value)))
+observance_fault name.Rrule c had =
+    first (first (rule_fault_of (rule_of c.value)) (fault_if kind.ZoneRule (is_fine_rule (rule_of c.value)))) (fault_if kind.ZoneRule (is_some had.rule))
+observance_fault name.Rdate c had =
+    first (dates_fault (rdates_of false c.value)) (fault_if kind.ObservanceField (list_any is_not_local (rdates_of false c.value)))
 observance_fault _ c had = None
 
 abbrev pub observance_note : Name → Parts → ObservanceBuilder → ObservanceBuilder
@@ -200,22 +207,32 @@ then-ok : {X Y : Type 0} (fault : Option FaultKind) (x : X) (f : X → Y) → an
 then-ok None x f = refl
 then-ok (Some k) x f = refl
 
-event-line-is : (k : ℕ) (n : Name) (c : Parts) (had : EventBuilder) → event_line k n c had ≡ unless (event_fault n c had) (event_note n c had, event_check k n c)
+event-line-is : (k : ℕ) (n : Name) (c : Parts) (had : EventBuilder) →
+    event_line k n c had ≡ unless (event_fault n c had) (event_note n c had, event_check k n c)
 event-line-is k name.Uid c had = kept kind.Repeated None (text_of c.value) had.uid (λ o d. (record had { uid = o }, None))
-event-line-is k name.Dtstart c had = kept kind.Repeated (stamp_fault_of (stamp_read c.params c.value)) (dated_of c.params c.value) had.start (λ o d. (record had { start = o }, used_zone k d))
-event-line-is k name.Dtend c had = kept kind.Repeated (stamp_fault_of (stamp_read c.params c.value)) (dated_of c.params c.value) had.end (λ o d. (record had { end = o }, used_zone k d))
-event-line-is k name.Duration c had = kept kind.Repeated (duration_fault_of (lasting_of c.value)) (duration_in (lasting_of c.value)) had.duration (λ o d. (record had { duration = o }, None))
-event-line-is k name.Rrule c had = kept kind.Repeated (rule_fault_of (rule_of c.value)) (rule_in (rule_of c.value)) had.rule (λ o d. (record had { rule = o }, None))
+event-line-is k name.Dtstart c had =
+    kept kind.Repeated (stamp_fault_of (stamp_read c.params c.value)) (dated_of c.params c.value) had.start (λ o d. (record had { start = o }, used_zone k d))
+event-line-is k name.Dtend c had =
+    kept kind.Repeated (stamp_fault_of (stamp_read c.params c.value)) (dated_of c.params c.value) had.end (λ o d. (record had { end = o }, used_zone k d))
+event-line-is k name.Duration c had =
+    kept kind.Repeated (duration_fault_of (lasting_of c.value)) (duration_in (lasting_of c.value)) had.duration (λ o d. (record had { duration = o }, None))
+event-line-is k name.Rrule c had =
+    kept kind.Repeated (rule_fault_of (rule_of c.value)) (rule_in (rule_of c.value)) had.rule (λ o d. (record had { rule = o }, None))
 event-line-is k name.RecurrenceId c had =
     ap (λ r. and_then r (λ r. unless (fault_if kind.ThisAndFuture (is_some (param_of (codes "RANGE") c.params))) r))
-    (kept kind.Repeated (stamp_fault_of (stamp_read c.params c.value)) (dated_of c.params c.value) had.recurrence (λ o d. (record had { recurrence = o }, used_zone k d)))
-    ∙ then-unless (first (stamp_fault_of (stamp_read c.params c.value)) (fault_if kind.Repeated (is_some had.recurrence))) (fault_if kind.ThisAndFuture (is_some (param_of (codes "RANGE") c.params)))
+    (kept kind.Repeated (stamp_fault_of (stamp_read c.params c.value)) (dated_of c.params c.value) had.recurrence
+    (λ o d. (record had { recurrence = o }, used_zone k d)))
+    ∙ then-unless (first (stamp_fault_of (stamp_read c.params c.value)) (fault_if kind.Repeated (is_some had.recurrence)))
+    (fault_if kind.ThisAndFuture (is_some (param_of (codes "RANGE") c.params)))
     (record had { recurrence = or_first had.recurrence (dated_of c.params c.value) }, used_zone k (dated_of c.params c.value))
-event-line-is k name.Sequence c had = kept kind.Repeated (number_fault_of (integer_of c.value)) (ok_or_zero (integer_of c.value)) had.sequence (λ o d. (record had { sequence = o }, None))
+event-line-is k name.Sequence c had =
+    kept kind.Repeated (number_fault_of (integer_of c.value)) (ok_or_zero (integer_of c.value)) had.sequence (λ o d. (record had { sequence = o }, None))
 event-line-is k name.Rdate c had =
-    then-ok (dates_fault (rdates_of (is_some (zone_name c.params)) c.value)) (rdate_list c.params c.value) (λ l. (record had { rdates = had.rdates ++ l ∷ [] }, listed_zone k l))
+    then-ok (dates_fault (rdates_of (is_some (zone_name c.params)) c.value)) (rdate_list c.params c.value)
+    (λ l. (record had { rdates = had.rdates ++ l ∷ [] }, listed_zone k l))
 event-line-is k name.Exdate c had =
-    then-ok (dates_fault (exdates_of (is_some (zone_name c.params)) c.value)) (exdate_list c.params c.value) (λ l. (record had { exdates = had.exdates ++ l ∷ [] }, listed_zone k l))
+    then-ok (dates_fault (exdates_of (is_some (zone_name c.params)) c.value)) (exdate_list c.params c.value)
+    (λ l. (record had { exdates = had.exdates ++ l ∷ [] }, listed_zone k l))
 event-line-is k _ c had = refl
 
 zone-line-is : (n : Name) (c : Parts) (had : ZoneBuilder) → zone_line n c had ≡ unless (zone_fault n c had) (zone_note n c had)
@@ -224,30 +241,40 @@ zone-line-is _ c had = refl
 
 observance-line-is : (n : Name) (c : Parts) (had : ObservanceBuilder) → observance_line n c had ≡ unless (observance_fault n c had) (observance_note n c had)
 observance-line-is name.Dtstart c had =
-    kept kind.ObservanceField (first (stamp_fault_of (stamp_of false c.value)) (fault_if kind.ObservanceField (is_not_local (At (stamp_of false c.value))))) (onset_in (stamp_of false c.value)) had.start
+    kept kind.ObservanceField (first (stamp_fault_of (stamp_of false c.value)) (fault_if kind.ObservanceField (is_not_local (At (stamp_of false c.value)))))
+    (onset_in (stamp_of false c.value)) had.start
     (λ o d. record had { start = o })
-observance-line-is name.OffsetFrom c had = kept kind.ObservanceField (offset_fault_of (offset_of c.value)) (offset_in (offset_of c.value)) had.from (λ o d. record had { from = o })
-observance-line-is name.OffsetTo c had = kept kind.ObservanceField (offset_fault_of (offset_of c.value)) (offset_in (offset_of c.value)) had.to (λ o d. record had { to = o })
+observance-line-is name.OffsetFrom c had =
+    kept kind.ObservanceField (offset_fault_of (offset_of c.value)) (offset_in (offset_of c.value)) had.from (λ o d. record had { from = o })
+observance-line-is name.OffsetTo c had =
+    kept kind.ObservanceField (offset_fault_of (offset_of c.value)) (offset_in (offset_of c.value)) had.to (λ o d. record had { to = o })
 observance-line-is name.Rrule c had =
-    kept kind.ZoneRule (first (rule_fault_of (rule_of c.value)) (fault_if kind.ZoneRule (is_fine_rule (rule_of c.value)))) (daily_in (rule_of c.value)) had.rule (λ o d. record had { rule = o })
+    kept kind.ZoneRule (first (rule_fault_of (rule_of c.value)) (fault_if kind.ZoneRule (is_fine_rule (rule_of c.value)))) (daily_in (rule_of c.value)) had.rule
+    (λ o d. record had { rule = o })
 observance-line-is name.Rdate c had =
-    then-ok (first (dates_fault (rdates_of false c.value)) (fault_if kind.ObservanceField (list_any is_not_local (rdates_of false c.value)))) (filter_map local_in (rdates_of false c.value))
+    then-ok (first (dates_fault (rdates_of false c.value)) (fault_if kind.ObservanceField (list_any is_not_local (rdates_of false c.value))))
+    (filter_map local_in (rdates_of false c.value))
     (λ ls. record had { rdates = had.rdates ++ ls })
 observance-line-is _ c had = refl
 
-builder-line-is : (k : ℕ) (q : Context) (n : Name) (c : Parts) (s : Builder) → builder_line k q n c s ≡ unless (builder_fault q n c s) (builder_note n c s, builder_check k n c s)
+builder-line-is : (k : ℕ) (q : Context) (n : Name) (c : Parts) (s : Builder) →
+    builder_line k q n c s ≡ unless (builder_fault q n c s) (builder_note n c s, builder_check k n c s)
 builder-line-is k q n c (builder.Event had) =
-    ap (λ r. and_then r (λ r. Ok (builder.Event r.0, r.1))) (event-line-is k n c had) ∙ then-ok (event_fault n c had) (event_note n c had, event_check k n c) (λ r. (builder.Event r.0, r.1))
+    ap (λ r. and_then r (λ r. Ok (builder.Event r.0, r.1))) (event-line-is k n c had)
+    ∙ then-ok (event_fault n c had) (event_note n c had, event_check k n c) (λ r. (builder.Event r.0, r.1))
 builder-line-is k q n c (builder.Zone had) =
-    ap (λ r. and_then r (λ h. Ok (builder.Zone h, None))) (zone-line-is n c had) ∙ then-ok (zone_fault n c had) (zone_note n c had) (λ h. (builder.Zone h, None))
+    ap (λ r. and_then r (λ h. Ok (builder.Zone h, None))) (zone-line-is n c had)
+    ∙ then-ok (zone_fault n c had) (zone_note n c had) (λ h. (builder.Zone h, None))
 builder-line-is k q n c (builder.Observance had) =
-    ap (λ r. and_then r (λ h. Ok (builder.Observance h, None))) (observance-line-is n c had) ∙ then-ok (observance_fault n c had) (observance_note n c had) (λ h. (builder.Observance h, None))
+    ap (λ r. and_then r (λ h. Ok (builder.Observance h, None))) (observance-line-is n c had)
+    ∙ then-ok (observance_fault n c had) (observance_note n c had) (λ h. (builder.Observance h, None))
 builder-line-is k q n c builder.Nothing = refl
 
 builder-end-is : (k : ℕ) (s outer : Builder) → builder_end k s outer ≡ unless (end_of s) (joined s outer, passed (ended_as k s) (end_check k s))
 builder-end-is k (builder.Event had) outer = then-ok (end_of_event had) (event_ended k had) (λ e. (outer, passed (ended.Event e) (ends_in k had.start had.end)))
 builder-end-is k (builder.Zone had) outer = then-ok (end_of_zone had) (zone_ended k had) (λ z. (outer, passed (ended.Zone z) None))
-builder-end-is k (builder.Observance had) outer = then-ok (end_of_observance had) (observance_ended had) (λ o. (with_observance o outer, passed ended.Nothing None))
+builder-end-is k (builder.Observance had) outer =
+    then-ok (end_of_observance had) (observance_ended had) (λ o. (with_observance o outer, passed ended.Nothing None))
 builder-end-is k builder.Nothing outer = refl
 
 -- Outside all components stands the lowest frame alone.
@@ -260,31 +287,44 @@ end-inside : (q : Context) (matches : Bool) (s : Builder) → q ≢ context.Outs
 end-inside context.Outside matches s n = absurd (n refl)
 end-inside _ matches s n = refl
 
-end-line-is : (f g : Frame) (gs : List Frame) (w : List ℕ) → and_then {Y = List Frame × Passed} (frame_end w f g.builder) (λ r. Ok (record g { builder = r.0 } ∷ gs, r.1))
-    ≡ unless (cond (bytes_eq w (component_name f.component)) (end_of f.builder) (Some kind.BadNesting)) (closed (f ∷ g ∷ gs), passed (ended_in f) (end_check f.calendar f.builder))
+end-line-is : (f g : Frame) (gs : List Frame) (w : List ℕ) →
+    and_then {Y = List Frame × Passed} (frame_end w f g.builder) (λ r. Ok (record g { builder = r.0 } ∷ gs, r.1))
+    ≡ unless (cond (bytes_eq w (component_name f.component)) (end_of f.builder) (Some kind.BadNesting))
+    (closed (f ∷ g ∷ gs), passed (ended_in f) (end_check f.calendar f.builder))
 end-line-is f g gs w = by_test (bytes_eq w (component_name f.component))
   where
-    by_test : (t : Bool) → and_then {Y = List Frame × Passed} (cond t (builder_end f.calendar f.builder g.builder) (Err kind.BadNesting)) (λ r. Ok (record g { builder = r.0 } ∷ gs, r.1))
+    by_test : (t : Bool) → and_then {Y = List Frame × Passed} (cond t (builder_end f.calendar f.builder g.builder) (Err kind.BadNesting))
+        (λ r. Ok (record g { builder = r.0 } ∷ gs, r.1))
         ≡ unless (cond t (end_of f.builder) (Some kind.BadNesting)) (closed (f ∷ g ∷ gs), passed (ended_in f) (end_check f.calendar f.builder))
     by_test true =
         ap (λ r. and_then {Y = List Frame × Passed} r (λ r. Ok (record g { builder = r.0 } ∷ gs, r.1))) (builder-end-is f.calendar f.builder g.builder)
-        ∙ then-ok (end_of f.builder) (joined f.builder g.builder, passed (ended_in f) (end_check f.calendar f.builder)) (λ r. (record g { builder = r.0 } ∷ gs, r.1))
+        ∙ then-ok (end_of f.builder) (joined f.builder g.builder, passed (ended_in f) (end_check f.calendar f.builder))
+        (λ r. (record g { builder = r.0 } ∷ gs, r.1))
     by_test false = refl
 
-inner-line-is : (n : Name) (c : Parts) (f : Frame) (fs : List Frame) → and_then {Y = List Frame × Passed} (builder_line f.calendar f.context n c f.builder) (λ r. Ok (record f { builder = r.0 } ∷ fs, passed ended.Nothing r.1))
-    ≡ unless (builder_fault f.context n c f.builder) (record f { builder = builder_note n c f.builder } ∷ fs, passed ended.Nothing (builder_check f.calendar n c f.builder))
+inner-line-is : (n : Name) (c : Parts) (f : Frame) (fs : List Frame) →
+    and_then {Y = List Frame × Passed} (builder_line f.calendar f.context n c f.builder) (λ r. Ok (record f { builder = r.0 } ∷ fs, passed ended.Nothing r.1))
+    ≡ unless (builder_fault f.context n c f.builder)
+    (record f { builder = builder_note n c f.builder } ∷ fs, passed ended.Nothing (builder_check f.calendar n c f.builder))
 inner-line-is n c f fs =
-    ap (λ r. and_then {Y = List Frame × Passed} r (λ r. Ok (record f { builder = r.0 } ∷ fs, passed ended.Nothing r.1))) (builder-line-is f.calendar f.context n c f.builder)
-    ∙ then-ok (builder_fault f.context n c f.builder) (builder_note n c f.builder, builder_check f.calendar n c f.builder) (λ r. (record f { builder = r.0 } ∷ fs, passed ended.Nothing r.1))
+    ap (λ r. and_then {Y = List Frame × Passed} r (λ r. Ok (record f { builder = r.0 } ∷ fs, passed ended.Nothing r.1)))
+    (builder-line-is f.calendar f.context n c f.builder)
+    ∙ then-ok (builder_fault f.context n c f.builder) (builder_note n c f.builder, builder_check f.calendar n c f.builder)
+    (λ r. (record f { builder = r.0 } ∷ fs, passed ended.Nothing r.1))
 
-pub line-is : (number : ℕ) (n : Name) (c : Parts) (frames : List Frame) → IsBased frames → named_line number n c frames ≡ unless (fault_on n c frames) (behind number n c frames, passing n c frames)
+pub line-is : (number : ℕ) (n : Name) (c : Parts) (frames : List Frame) → IsBased frames →
+    named_line number n c frames ≡ unless (fault_on n c frames) (behind number n c frames, passing n c frames)
 line-is number n c [] b = absurd b
 line-is number name.Begin c (f ∷ fs) b =
-    then-ok (first (outside_fault f.context (component_of (map upper c.value))) (fault_if kind.TooDeep (nat_le 32 (length fs)))) (opened number (component_of (map upper c.value)) (f ∷ fs)) (λ fs. (fs, passed ended.Nothing None))
-line-is number name.End c (f ∷ []) b = ap (λ q. unless (end_fault_at q (bytes_eq (map upper c.value) (component_name f.component)) f.builder) (f ∷ [], passed ended.Nothing (end_check f.calendar f.builder))) (sym b)
+    then-ok (first (outside_fault f.context (component_of (map upper c.value))) (fault_if kind.TooDeep (nat_le 32 (length fs))))
+    (opened number (component_of (map upper c.value)) (f ∷ fs)) (λ fs. (fs, passed ended.Nothing None))
+line-is number name.End c (f ∷ []) b =
+    ap (λ q. unless (end_fault_at q (bytes_eq (map upper c.value) (component_name f.component)) f.builder)
+    (f ∷ [], passed ended.Nothing (end_check f.calendar f.builder))) (sym b)
 line-is number name.End c (f ∷ g ∷ gs) b =
     end-line-is f g gs (map upper c.value)
-    ∙ ap (λ o. unless o (closed (f ∷ g ∷ gs), passed (ended_in f) (end_check f.calendar f.builder))) (sym (end-inside f.context (bytes_eq (map upper c.value) (component_name f.component)) f.builder b.0))
+    ∙ ap (λ o. unless o (closed (f ∷ g ∷ gs), passed (ended_in f) (end_check f.calendar f.builder)))
+    (sym (end-inside f.context (bytes_eq (map upper c.value) (component_name f.component)) f.builder b.0))
 line-is number name.Uid c (f ∷ fs) b = inner-line-is name.Uid c f fs
 line-is number name.Dtstart c (f ∷ fs) b = inner-line-is name.Dtstart c f fs
 line-is number name.Dtend c (f ∷ fs) b = inner-line-is name.Dtend c f fs
@@ -315,12 +355,14 @@ is_end_name name.End = true
 is_end_name _ = false
 
 pub behind-is : (number : ℕ) (n : Name) (c : Parts) (f : Frame) (fs : List Frame) → behind number n c (f ∷ fs)
-    ≡ cond (is_begin_name n) (opened number (component_of (map upper c.value)) (f ∷ fs)) (cond (is_end_name n) (closed (f ∷ fs)) (record f { builder = builder_note n c f.builder } ∷ fs))
+    ≡ cond (is_begin_name n) (opened number (component_of (map upper c.value)) (f ∷ fs))
+    (cond (is_end_name n) (closed (f ∷ fs)) (record f { builder = builder_note n c f.builder } ∷ fs))
 behind-is number name.Begin c f fs = refl
 behind-is number name.End c f fs = refl
 behind-is number _ c f fs = refl
 
-pub check-is : (n : Name) (c : Parts) (f : Frame) → check_in n c f ≡ cond (is_begin_name n) None (cond (is_end_name n) (end_check f.calendar f.builder) (builder_check f.calendar n c f.builder))
+pub check-is : (n : Name) (c : Parts) (f : Frame) →
+    check_in n c f ≡ cond (is_begin_name n) None (cond (is_end_name n) (end_check f.calendar f.builder) (builder_check f.calendar n c f.builder))
 check-is name.Begin c f = refl
 check-is name.End c f = refl
 check-is _ c f = refl

@@ -35,4 +35,6 @@ each-weaker P Q w e z = record {
 }
   where
     lists : (ls : List DateList) → All (λ list. IfSome (listed_zone e.calendar list) P) ls → All (λ list. IfSome (listed_zone e.calendar list) Q) ls
-    lists = All-weaker (λ list. IfSome (listed_zone e.calendar list) P) (λ list. IfSome (listed_zone e.calendar list) Q) (λ list h. some-weaker P Q w (listed_zone e.calendar list) h)
+    lists =
+        All-weaker (λ list. IfSome (listed_zone e.calendar list) P) (λ list. IfSome (listed_zone e.calendar list) Q)
+        (λ list h. some-weaker P Q w (listed_zone e.calendar list) h)

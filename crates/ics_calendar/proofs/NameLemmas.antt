@@ -127,7 +127,8 @@ TellsComponent u component.Standard = u ≡ codes "STANDARD"
 TellsComponent u component.Daylight = u ≡ codes "DAYLIGHT"
 TellsComponent u (component.Other w) = IsUnknownComponent u × (w ≡ u)
 
-choose_component : (u : List ℕ) (p q : Component) (b : Bool) → (b ≡ true → TellsComponent u p) → (b ≡ false → TellsComponent u q) → TellsComponent u (cond b p q)
+choose_component : (u : List ℕ) (p q : Component) (b : Bool) → (b ≡ true → TellsComponent u p) → (b ≡ false → TellsComponent u q) →
+    TellsComponent u (cond b p q)
 choose_component u p q true f g = f refl
 choose_component u p q false f g = g refl
 

@@ -1,5 +1,6 @@
 -- One pass with the components that are open finds the first fault of round one, and gathers what the lines say.
-use Rattle.std.proofs.Common.{◌≡◌, ℕ, ◌+◌, ◌<◌, ◌≤◌, List, [], ◌∷◌, ◌++◌, map, refl, sym, ap, subst, ◌∙◌, append_assoc, arith, cond, Option, Some, None, Result, Err}
+use Rattle.std.proofs.Common.{◌≡◌, ℕ, ◌+◌, ◌<◌, ◌≤◌, List, [], ◌∷◌, ◌++◌, map, refl, sym, ap, subst, ◌∙◌, append_assoc, arith, cond, Option, Some, None, Result}
+use Rattle.std.proofs.Common.{Err}
 use Rattle.std.specs.Prelude.{find, length, not, ◌==◌}
 use Rattle.std.specs.List.{list_any}
 use Rattle.std.proofs.lemmas.List.{append-nil}
@@ -26,7 +27,8 @@ use Rattle.ics_calendar.specs.Names.{name_of}
 use Rattle.ics_calendar.specs.Pass.{bottom, is_lowest, at_end, unless, Going, on_line, on_content, pass}
 use Rattle.ics_calendar.proofs.Judged.{fault_in, fault_on, check_in, check_on, behind, ends, passing, line-is}
 use Rattle.ics_calendar.proofs.Table.{parts, any-part, frame_of, IsAsked, least-same}
-use Rattle.ics_calendar.proofs.Bundles.{Bundle, Keeps, Before, falls, top_lines, top_beside, top_phases, bundles_behind, keeps, Before-more, Before-later, innermost-behind}
+use Rattle.ics_calendar.proofs.Bundles.{Bundle, Keeps, Before, falls, top_lines, top_beside, top_phases, bundles_behind, keeps, Before-more, Before-later}
+use Rattle.ics_calendar.proofs.Bundles.{innermost-behind}
 use Rattle.ics_calendar.proofs.Frames.{frames_of, top_of, with, Closes, frames-behind, fault-top, check-top, based}
 use Rattle.ics_calendar.proofs.LastLines.{last-more}
 use Rattle.ics_calendar.proofs.Paths.{Falls, Absent, below, gone, lines_in-whole}
@@ -34,7 +36,8 @@ use Rattle.ics_calendar.proofs.Order.{Sort, ended_as, ended_from, nested}
 use Rattle.ics_calendar.proofs.Ended.{events, zones, Picks, events-picked, zones-picked, picked-same, IsMatched}
 
 -- WHERE THE LINES END.
-lowest-is : (whole before up : List Placed) (path : List Open) (bundles : List Bundle) → Keeps before up path bundles → is_lowest (frames_of whole path bundles) ≡ no_open path
+lowest-is : (whole before up : List Placed) (path : List Open) (bundles : List Bundle) → Keeps before up path bundles →
+    is_lowest (frames_of whole path bundles) ≡ no_open path
 lowest-is whole before up [] bundles k = refl
 lowest-is whole before up (c ∷ cs) [] k = absurd k
 lowest-is whole before up (c ∷ []) (b ∷ bs) k = refl
@@ -66,7 +69,8 @@ abbrev pub lists : List EndedZone → List EndedEvent → List LineCheck → Gat
 lists zs es ws = record { zones = zs; events = es; checks = ws }
 
 abbrev pub gathered_from : List Placed → GatheredSeen → List Placed → List Placed → GatheredSeen
-gathered_from whole had before lines = lists (had.zones ++ ended_from (zones whole) before lines) (had.events ++ ended_from events before lines) (had.checks ++ checks_from whole before lines)
+gathered_from whole had before lines =
+    lists (had.zones ++ ended_from (zones whole) before lines) (had.events ++ ended_from events before lines) (had.checks ++ checks_from whole before lines)
 
 pub three : {zs ys : List EndedZone} {es fs : List EndedEvent} {ws vs : List LineCheck} → zs ≡ ys → es ≡ fs → ws ≡ vs → lists zs es ws ≡ lists ys fs vs
 three z e w = rw (z, e, w) refl
@@ -84,26 +88,34 @@ abbrev pub refused : {X : Type 0} → ℕ → Option FaultKind → Result X Faul
 refused number (Some kind) later = Err (record { line = number; kind = kind })
 refused number None later = later
 
-passes : {X : Type 0} (number : ℕ) (kind : Option FaultKind) (first : Option Fault) (x : X) → refused number kind (unless first x) ≡ unless (found number kind first) x
+passes : {X : Type 0} (number : ℕ) (kind : Option FaultKind) (first : Option Fault) (x : X) →
+    refused number kind (unless first x) ≡ unless (found number kind first) x
 passes number (Some k) first x = refl
 passes number None first x = refl
 
 abbrev Known : List Line → Type 0
-Known lines = (whole before : List Placed) (bundles : List Bundle) (path : List Open) (n : ℕ) (last : Option ℕ) (had : GatheredSeen) → whole ≡ before ++ placed_from path lines →
-    Keeps before [] path bundles → Before (n + 1) before → innermost path ≤ n → Rises n lines → at_end (frames_of whole path bundles) last ≡ fault_at_end before →
-    pass (frames_of whole path bundles) last had lines ≡ unless (first_from stands fault_at_end before (placed_from path lines)) (gathered_from whole had before (placed_from path lines))
+Known lines =
+    (whole before : List Placed) (bundles : List Bundle) (path : List Open) (n : ℕ) (last : Option ℕ) (had : GatheredSeen) →
+    whole ≡ before ++ placed_from path lines →
+    Keeps before [] path bundles → Before (n + 1) before → innermost path ≤ n → Rises n lines →
+    at_end (frames_of whole path bundles) last ≡ fault_at_end before →
+    pass (frames_of whole path bundles) last had lines
+    ≡ unless (first_from stands fault_at_end before (placed_from path lines)) (gathered_from whole had before (placed_from path lines))
 
 abbrev pub with_content : Line → List Open → Option Parts → Placed
 with_content line path o = record { number = line.number; content = o; path = path }
 
 -- a line adds what ends there as its component says, and what is checked there in the second round
-ends-same : {X : Type 0} (whole : List Placed) (s : Sort X) (pick : Ended → List X) → Picks whole s pick → (before : List Placed) (line : Line) (path : List Open) (v : Parts) (bundles : List Bundle) → Keeps before [] path bundles → IsMatched (with line path v) →
+ends-same : {X : Type 0} (whole : List Placed) (s : Sort X) (pick : Ended → List X) → Picks whole s pick →
+    (before : List Placed) (line : Line) (path : List Open) (v : Parts) (bundles : List Bundle) → Keeps before [] path bundles → IsMatched (with line path v) →
     pick (ends (name_of (map upper v.name)) (frames_of whole path bundles)) ≡ ended_as s (beside before (with line path v)) (with line path v)
 ends-same whole s pick picks before line path v bundles k m =
     picked-same whole s pick picks before line path v bundles k m ∙ ap (λ ls. ended_as s ls (with line path v)) (top_beside before (with line path v) bundles k)
 
-gathered-step : (whole : List Placed) (line : Line) (before : List Placed) (bundles : List Bundle) (path : List Open) (v : Parts) (had : GatheredSeen) (rest : List Placed) → Keeps before [] path bundles → IsMatched (with line path v) →
-    gathered_from whole (and_passed line.number (passing (name_of (map upper v.name)) v (frames_of whole path bundles)) had) (before ++ with line path v ∷ []) rest
+gathered-step : (whole : List Placed) (line : Line) (before : List Placed) (bundles : List Bundle) (path : List Open) (v : Parts) (had : GatheredSeen)
+    (rest : List Placed) → Keeps before [] path bundles → IsMatched (with line path v) →
+    gathered_from whole (and_passed line.number (passing (name_of (map upper v.name)) v (frames_of whole path bundles)) had) (before ++ with line path v ∷ [])
+    rest
     ≡ gathered_from whole had before (with line path v ∷ rest)
 gathered-step whole line before bundles path v had rest k m =
     let l : Placed = with line path v in
@@ -113,13 +125,15 @@ gathered-step whole line before bundles path v had rest k m =
     three
     (further had.zones (ended_as (zones whole) (beside before l) l) (zones_of_end (ends n frames)) (ended_from (zones whole) (before ++ l ∷ []) rest)
     (ends-same whole (zones whole) zones_of_end (zones-picked whole) before line path v bundles k m))
-    (further had.events (ended_as events (beside before l) l) (events_of_end (ends n frames)) (ended_from events (before ++ l ∷ []) rest) (ends-same whole events events_of_end (events-picked whole) before line path v bundles k m))
+    (further had.events (ended_as events (beside before l) l) (events_of_end (ends n frames)) (ended_from events (before ++ l ∷ []) rest)
+    (ends-same whole events events_of_end (events-picked whole) before line path v bundles k m))
     (further had.checks (checks_on whole (beside before l) l) (checks_of line.number (check_on n v frames)) (checks_from whole (before ++ l ∷ []) rest)
     (ap (checks_of line.number) (check-top whole before n v path bundles k ∙ ap (check_in n v) top)))
 
 -- the lines of a component all stand before its END
 closes-here : (whole before : List Placed) (line : Line) (lines : List Line) (path : List Open) (v : Parts) (bundles : List Bundle) →
-    whole ≡ before ++ with line path v ∷ placed_from (path_behind (with line path v)) lines → Keeps before [] path bundles → innermost path < line.number → Rises line.number lines → Closes whole before (with line path v)
+    whole ≡ before ++ with line path v ∷ placed_from (path_behind (with line path v)) lines → Keeps before [] path bundles → innermost path < line.number →
+    Rises line.number lines → Closes whole before (with line path v)
 closes-here whole before line lines path v bundles w k less r c cs p e =
     let l : Placed = with line path v in
     let rest : List Placed = placed_from (path_behind l) lines in
@@ -127,10 +141,12 @@ closes-here whole before line lines path v bundles w k less r c cs p e =
     let at : innermost path ≡ c.begun = ap innermost p in
     let absent : Absent c.begun (path_behind l) = subst (λ (q : List Open). Absent c.begun q) (sym e) (below c.begun cs f.1 f.0) in
     let none : lines_in c.begun rest ≡ [] = gone c.begun line.number (path_behind l) lines (omega (arith, f.0)) (omega (arith, at, less)) absent r in
-    ap (lines_in c.begun) w ∙ ap (λ b. lines_in b (before ++ l ∷ rest)) (sym at) ∙ lines_in-whole before l rest (ap (λ b. lines_in b rest) at ∙ none) ∙ ap (λ b. lines_in b before ++ l ∷ []) at
+    ap (lines_in c.begun) w ∙ ap (λ b. lines_in b (before ++ l ∷ rest)) (sym at) ∙ lines_in-whole before l rest (ap (λ b. lines_in b rest) at ∙ none)
+    ∙ ap (λ b. lines_in b before ++ l ∷ []) at
 
 -- a line without a fault, and one with
-pub on-line-is : (number : ℕ) (o : Option FaultKind) (fs : List Frame) (p : Passed) (had : GatheredSeen) (later : Going) → on_line number (fine o (fs, p)) had later ≡ refused number o (later fs (and_passed number p had))
+pub on-line-is : (number : ℕ) (o : Option FaultKind) (fs : List Frame) (p : Passed) (had : GatheredSeen) (later : Going) →
+    on_line number (fine o (fs, p)) had later ≡ refused number o (later fs (and_passed number p had))
 on-line-is number None fs p had later = refl
 on-line-is number (Some k) fs p had later = refl
 
@@ -138,8 +154,10 @@ where-fine : {X : Type 0} (number : ℕ) (kind : Option FaultKind) (a b : Result
 where-fine number None a b e = e refl
 where-fine number (Some k) a b e = refl
 
-step : (line : Line) (lines : List Line) → Known lines → (o : Option Parts) (whole before : List Placed) (bundles : List Bundle) (path : List Open) (n : ℕ) (had : GatheredSeen) →
-    whole ≡ before ++ with_content line path o ∷ placed_from (path_behind (with_content line path o)) lines → Keeps before [] path bundles → Before (n + 1) before → innermost path ≤ n → n < line.number → Rises line.number lines →
+step : (line : Line) (lines : List Line) → Known lines →
+    (o : Option Parts) (whole before : List Placed) (bundles : List Bundle) (path : List Open) (n : ℕ) (had : GatheredSeen) →
+    whole ≡ before ++ with_content line path o ∷ placed_from (path_behind (with_content line path o)) lines → Keeps before [] path bundles →
+    Before (n + 1) before → innermost path ≤ n → n < line.number → Rises line.number lines →
     on_content line.number o (frames_of whole path bundles) had (λ frames had. pass frames (Some line.number) had lines)
     ≡ unless (first_from stands fault_at_end before (with_content line path o ∷ placed_from (path_behind (with_content line path o)) lines))
     (gathered_from whole had before (with_content line path o ∷ placed_from (path_behind (with_content line path o)) lines))
@@ -151,35 +169,47 @@ step line lines again (Some v) whole before bundles path n had w k h in_path les
     let go : Going = λ frames had. pass frames (Some line.number) had lines in
     let inner : innermost path < line.number = omega (arith, in_path, less) in
     let fresh_lines : Before line.number before = Before-later (n + 1) line.number before (omega (arith, less)) h in
-    let more : Before (line.number + 1) (before ++ l ∷ []) = Before-more (line.number + 1) before l (Before-later line.number (line.number + 1) before (omega arith) fresh_lines) (omega (arith, inner)) in
+    let more : Before (line.number + 1) (before ++ l ∷ []) =
+    Before-more (line.number + 1) before l (Before-later line.number (line.number + 1) before (omega arith) fresh_lines) (omega (arith, inner)) in
     let kept : Keeps (before ++ l ∷ []) [] (path_behind l) (bundles_behind l bundles) = keeps before l bundles fresh_lines inner k in
     let top : top_of whole path bundles ≡ frame_of whole path (beside before l) = ap (frame_of whole path) (top_beside before l bundles k) in
-    let asked : IsAsked whole path (beside before l) = λ z. subst (λ (ls : List Placed). list_any begins_observance ls ≡ not (length (parts whole ls) == 0)) (top_beside before l bundles k) (top_phases before path bundles k z ∙ any-part whole (top_lines bundles)) in
+    let asked : IsAsked whole path (beside before l) =
+    λ z. subst (λ (ls : List Placed). list_any begins_observance ls ≡ not (length (parts whole ls) == 0)) (top_beside before l bundles k)
+    (top_phases before path bundles k z ∙ any-part whole (top_lines bundles)) in
     let first : Option FaultKind = find (λ kind. stands kind (beside before l) l) kinds in
-    let least : fault_on m v frames ≡ first = fault-top whole before m v path bundles k ∙ ap (λ f. fault_in m v f (length path)) top ∙ sym (least-same whole path line.number v (beside before l) asked) in
+    let least : fault_on m v frames ≡ first =
+    fault-top whole before m v path bundles k ∙ ap (λ f. fault_in m v f (length path)) top
+    ∙ sym (least-same whole path line.number v (beside before l) asked) in
     let rest : List Placed = placed_from (path_behind l) lines in
     let first_behind : Option Fault = first_from stands fault_at_end (before ++ l ∷ []) rest in
     let now : GatheredSeen = and_passed line.number (passing m v frames) had in
     ap (λ r. on_line line.number r had go) (line-is line.number m v frames (based whole before path bundles [] k))
     ∙ on-line-is line.number (fault_on m v frames) (behind line.number m v frames) (passing m v frames) had go
     ∙ ap (λ k. refused line.number k (go (behind line.number m v frames) now)) least
-    ∙ ap (λ fs. refused line.number first (go fs now)) (sym (frames-behind whole before line path v bundles k (closes-here whole before line lines path v bundles w k inner r)))
+    ∙ ap (λ fs. refused line.number first (go fs now))
+    (sym (frames-behind whole before line path v bundles k (closes-here whole before line lines path v bundles w k inner r)))
     ∙ ap (refused line.number first)
-    (again whole (before ++ l ∷ []) (bundles_behind l bundles) (path_behind l) line.number (Some line.number) now (w ∙ sym (append_assoc before (l ∷ []) rest)) kept more (innermost-behind l inner bundles before k) r
+    (again whole (before ++ l ∷ []) (bundles_behind l bundles) (path_behind l) line.number (Some line.number) now (w ∙ sym (append_assoc before (l ∷ []) rest))
+    kept more (innermost-behind l inner bundles before k) r
     (end-is-known whole before l (bundles_behind l bundles) kept))
-    ∙ where-fine line.number first (unless first_behind (gathered_from whole now (before ++ l ∷ []) rest)) (unless first_behind (gathered_from whole had before (l ∷ rest)))
+    ∙ where-fine line.number first (unless first_behind (gathered_from whole now (before ++ l ∷ []) rest))
+    (unless first_behind (gathered_from whole had before (l ∷ rest)))
     (λ none. ap (unless first_behind) (gathered-step whole line before bundles path v had rest k (nested (λ kind. stands kind (beside before l) l) none)))
     ∙ passes line.number first first_behind (gathered_from whole had before (l ∷ rest))
 
 -- THE PASS SAYS WHAT THE LINES ARE.
 pass-lines : (lines : List Line) → Known lines
-pass-lines [] whole before bundles path n last had w k h in_path r e = ap (λ f. unless f had) e ∙ ap (unless (fault_at_end before)) (gathered-none whole had before)
-pass-lines (line ∷ lines) whole before bundles path n last had w k h in_path r e = step line lines (pass-lines lines) (content_of line.bytes) whole before bundles path n had w k h in_path r.0 r.1
+pass-lines [] whole before bundles path n last had w k h in_path r e =
+    ap (λ f. unless f had) e ∙ ap (unless (fault_at_end before)) (gathered-none whole had before)
+pass-lines (line ∷ lines) whole before bundles path n last had w k h in_path r e =
+    step line lines (pass-lines lines) (content_of line.bytes) whole before bundles path n had w k h in_path r.0 r.1
 
 -- below all components
 nowhere : Placed
 nowhere = record { number = 0; content = None; path = [] }
 
 pub pass-whole : (lines : List Line) → Rises 0 lines →
-    pass (bottom ∷ []) None nothing_gathered lines ≡ unless (first_fault (placed_from [] lines)) (gathered_from (placed_from [] lines) nothing_gathered [] (placed_from [] lines))
-pass-whole lines r = pass-lines lines (placed_from [] lines) [] (record { begin = nowhere; lines = [] } ∷ []) [] 0 None nothing_gathered refl refl tt (omega arith) r refl
+    pass (bottom ∷ []) None nothing_gathered lines
+    ≡ unless (first_fault (placed_from [] lines)) (gathered_from (placed_from [] lines) nothing_gathered [] (placed_from [] lines))
+pass-whole lines r =
+    pass-lines lines (placed_from [] lines) [] (record { begin = nowhere; lines = [] } ∷ []) [] 0 None nothing_gathered refl refl tt (omega arith) r refl

@@ -44,7 +44,9 @@ record Holds (frames : List Frame) (g : GatheredSeen) : Type 0 where
 
 -- an event that is awaited stays so
 still-awaited : (checks more : List DeferredCheck) (es : List EndedEvent) → All (EachZone (Contains checks)) es → All (EachZone (Contains (checks ++ more))) es
-still-awaited checks more es h = All-weaker (EachZone (Contains checks)) (EachZone (Contains (checks ++ more))) (λ e a. each-weaker (Contains checks) (Contains (checks ++ more)) (λ l. Contains-append_left checks more l) e a) es h
+still-awaited checks more es h =
+    All-weaker (EachZone (Contains checks)) (EachZone (Contains (checks ++ more)))
+    (λ e a. each-weaker (Contains checks) (Contains (checks ++ more)) (λ l. Contains-append_left checks more l) e a) es h
 
 -- the lowest frame stays the only one outside
 based-behind : (number : ℕ) (n : Name) (v : Parts) (f : Frame) (fs : List Frame) → IsBased (f ∷ fs) → IsBased (behind number n v (f ∷ fs))
@@ -57,14 +59,16 @@ based-behind number n v f fs b = subst (λ (gs : List Frame). IsBased gs) (sym (
     lifted s [] b = b
     lifted s (g ∷ gs) b = b
 
-    by_tests : (t e : Bool) (fs : List Frame) → IsBased (f ∷ fs) → IsBased (cond t (opened number c (f ∷ fs)) (cond e (closed (f ∷ fs)) (record f { builder = builder_note n v f.builder } ∷ fs)))
+    by_tests : (t e : Bool) (fs : List Frame) → IsBased (f ∷ fs) →
+        IsBased (cond t (opened number c (f ∷ fs)) (cond e (closed (f ∷ fs)) (record f { builder = builder_note n v f.builder } ∷ fs)))
     by_tests true e fs b = (context-in-outside f.context c, b)
     by_tests false true [] b = b
     by_tests false true (g ∷ []) b = b.1
     by_tests false true (g ∷ h ∷ hs) b = b.1
     by_tests false false fs b = lifted (builder_note n v f.builder) fs b
 
-good-behind : (number : ℕ) (n : Name) (v : Parts) (f : Frame) (fs : List Frame) (g : GatheredSeen) → fault_on n v (f ∷ fs) ≡ None → Holds (f ∷ fs) g → IsGood (and_passed number (passing n v (f ∷ fs)) g)
+good-behind : (number : ℕ) (n : Name) (v : Parts) (f : Frame) (fs : List Frame) (g : GatheredSeen) → fault_on n v (f ∷ fs) ≡ None → Holds (f ∷ fs) g →
+    IsGood (and_passed number (passing n v (f ∷ fs)) g)
 good-behind number n v f fs g e h =
     let late : Option DeferredCheck = check_in n v f in
     let more : bare_checks (g.checks ++ checks_of number late) ≡ bare_checks g.checks ++ one late = bare_checks-more g.checks number late in
@@ -73,15 +77,19 @@ good-behind number n v f fs g e h =
       whole = All-append IsWhole g.events (events_of_end (ends n (f ∷ fs))) h.good.whole (events-whole n v (f ∷ fs) e h.sound);
       awaited =
           subst (λ (ls : List DeferredCheck). All (EachZone (Contains ls)) (g.events ++ events_of_end (ends n (f ∷ fs)))) (sym more)
-          (All-append (EachZone (Contains (bare_checks g.checks ++ one late))) g.events (events_of_end (ends n (f ∷ fs))) (still-awaited (bare_checks g.checks) (one late) g.events h.good.awaited) (ended-awaited (bare_checks g.checks) n v f fs h.awaited));
+          (All-append (EachZone (Contains (bare_checks g.checks ++ one late))) g.events (events_of_end (ends n (f ∷ fs)))
+          (still-awaited (bare_checks g.checks) (one late) g.events h.good.awaited) (ended-awaited (bare_checks g.checks) n v f fs h.awaited));
       checks = All-append (λ w. IsSoundCheck w.check) g.checks (checks_of number late) h.good.checks (checks-sound number n v f h.sound.0);
     }
 
-holds-behind : (number : ℕ) (n : Name) (v : Parts) (f : Frame) (fs : List Frame) (g : GatheredSeen) → fault_on n v (f ∷ fs) ≡ None → Holds (f ∷ fs) g → Holds (behind number n v (f ∷ fs)) (and_passed number (passing n v (f ∷ fs)) g)
+holds-behind : (number : ℕ) (n : Name) (v : Parts) (f : Frame) (fs : List Frame) (g : GatheredSeen) → fault_on n v (f ∷ fs) ≡ None → Holds (f ∷ fs) g →
+    Holds (behind number n v (f ∷ fs)) (and_passed number (passing n v (f ∷ fs)) g)
 holds-behind number n v f fs g e h = record {
   base = based-behind number n v f fs h.base;
   sound = sound-behind number n v f fs h.sound;
-  awaited = subst (λ (ls : List DeferredCheck). AreAwaited ls (behind number n v (f ∷ fs))) (sym (bare_checks-more g.checks number (check_in n v f))) (awaited-behind (bare_checks g.checks) number n v f fs h.awaited);
+  awaited =
+      subst (λ (ls : List DeferredCheck). AreAwaited ls (behind number n v (f ∷ fs))) (sym (bare_checks-more g.checks number (check_in n v f)))
+      (awaited-behind (bare_checks g.checks) number n v f fs h.awaited);
   good = good-behind number n v f fs g e h;
 }
 
@@ -103,14 +111,17 @@ pass-good (line ∷ lines) (f ∷ fs) last had g h = by_content (λ fs had. pass
     by_content again None e = cc
     by_content again (Some v) e =
         by_fault (fault_on n v (f ∷ fs)) refl
-        (sym (ap (λ r. on_line line.number r had go) (line-is line.number n v (f ∷ fs) h.base) ∙ on-line-is line.number (fault_on n v (f ∷ fs)) (behind line.number n v (f ∷ fs)) (passing n v (f ∷ fs)) had go) ∙ e)
+        (sym (ap (λ r. on_line line.number r had go) (line-is line.number n v (f ∷ fs) h.base)
+        ∙ on-line-is line.number (fault_on n v (f ∷ fs)) (behind line.number n v (f ∷ fs)) (passing n v (f ∷ fs)) had go) ∙ e)
       where
         n : Name
         n = name_of (map upper v.name)
 
-        by_fault : (k : Option FaultKind) → fault_on n v (f ∷ fs) ≡ k → refused line.number k (go (behind line.number n v (f ∷ fs)) (and_passed line.number (passing n v (f ∷ fs)) had)) ≡ Ok g → IsGood g
+        by_fault : (k : Option FaultKind) → fault_on n v (f ∷ fs) ≡ k →
+            refused line.number k (go (behind line.number n v (f ∷ fs)) (and_passed line.number (passing n v (f ∷ fs)) had)) ≡ Ok g → IsGood g
         by_fault (Some k) f e = cc
-        by_fault None none e = again (behind line.number n v (f ∷ fs)) (and_passed line.number (passing n v (f ∷ fs)) had) (holds-behind line.number n v f fs had none h) e
+        by_fault None none e =
+            again (behind line.number n v (f ∷ fs)) (and_passed line.number (passing n v (f ∷ fs)) had) (holds-behind line.number n v f fs had none h) e
 
 holds-first : Holds (bottom ∷ []) nothing_gathered
 holds-first = record {

@@ -51,7 +51,8 @@ gone b n path (line ∷ lines) p h a r =
 
 lines_in-append : (b : ℕ) (xs ys : List Placed) → lines_in b (xs ++ ys) ≡ lines_in b xs ++ lines_in b ys
 lines_in-append b [] ys = refl
-lines_in-append b (x ∷ xs) ys = ap (λ r. cond (innermost x.path == b) (x ∷ r) r) (lines_in-append b xs ys) ∙ choose (innermost x.path == b) (lines_in b xs) (lines_in b ys)
+lines_in-append b (x ∷ xs) ys =
+    ap (λ r. cond (innermost x.path == b) (x ∷ r) r) (lines_in-append b xs ys) ∙ choose (innermost x.path == b) (lines_in b xs) (lines_in b ys)
   where
     choose : (t : Bool) (ys zs : List Placed) → cond t (x ∷ (ys ++ zs)) (ys ++ zs) ≡ cond t (x ∷ ys) ys ++ zs
     choose true ys zs = refl
@@ -64,6 +65,7 @@ lines_in-here l ls = same (innermost l.path)
     same i = elim (eqb_tells i i) [ inl e ↦ rw e.0 refl | inr e ↦ absurd (e.1 refl) ]
 
 -- what stands directly in a component stands there before its END
-pub lines_in-whole : (before : List Placed) (l : Placed) (lines : List Placed) → lines_in (innermost l.path) lines ≡ [] → lines_in (innermost l.path) (before ++ l ∷ lines) ≡ lines_in (innermost l.path) before ++ l ∷ []
+pub lines_in-whole : (before : List Placed) (l : Placed) (lines : List Placed) → lines_in (innermost l.path) lines ≡ [] →
+    lines_in (innermost l.path) (before ++ l ∷ lines) ≡ lines_in (innermost l.path) before ++ l ∷ []
 lines_in-whole before l lines e =
     lines_in-append (innermost l.path) before (l ∷ lines) ∙ ap (λ ls. lines_in (innermost l.path) before ++ ls) (lines_in-here l lines ∙ ap (λ ls. l ∷ ls) e)

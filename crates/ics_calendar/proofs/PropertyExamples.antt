@@ -2,7 +2,8 @@
 use Rattle.std.proofs.Common.{◌≡◌, [], ◌∷◌, ◌++◌, refl, None}
 use Rattle.std.specs.Prelude.{codes}
 use Rattle.ics_values.specs.Rules.{rule_of}
-use Rattle.ics_calendar.specs.declared.fault.FaultKind.TheVariants.{BadDuration, BadEnd, BadLine, BadRule, BadStamp, Exrule, MissingStart, MissingUid, NumberTooLarge, Repeated, ThisAndFuture, UnknownZone, YearRange}
+use Rattle.ics_calendar.specs.declared.fault.FaultKind.TheVariants.{BadDuration, BadEnd, BadLine, BadRule, BadStamp, Exrule, MissingStart, MissingUid}
+use Rattle.ics_calendar.specs.declared.fault.FaultKind.TheVariants.{NumberTooLarge, Repeated, ThisAndFuture, UnknownZone, YearRange}
 use Rattle.ics_calendar.proofs.ExampleFiles.{event, fault, at}
 
 -- stamps, and a bad one before a repeated one
@@ -55,7 +56,8 @@ large_duration = refl
 negative_large_duration : fault (event (codes "UID:a" ∷ codes "DTSTART:20240105" ∷ codes "DURATION:-P4294967296D" ∷ [])) ≡ at 5 BadDuration
 negative_large_duration = refl
 
-large_second_duration : fault (event (codes "UID:a" ∷ codes "DTSTART:20240105" ∷ codes "DURATION:P1D" ∷ codes "DURATION:P4294967296D" ∷ [])) ≡ at 6 NumberTooLarge
+large_second_duration : fault (event (codes "UID:a" ∷ codes "DTSTART:20240105" ∷ codes "DURATION:P1D" ∷ codes "DURATION:P4294967296D" ∷ []))
+    ≡ at 6 NumberTooLarge
 large_second_duration = refl
 
 two_durations : fault (event (codes "UID:a" ∷ codes "DTSTART:20240105" ∷ codes "DURATION:P1D" ∷ codes "DURATION:P1D" ∷ [])) ≡ at 6 Repeated
@@ -124,7 +126,8 @@ no_start = refl
 exrule : fault (event (codes "exrule:FREQ=DAILY" ∷ [])) ≡ at 3 Exrule
 exrule = refl
 
-this_and_future : fault (event (codes "UID:b" ∷ codes "RECURRENCE-ID;RANGE=THISANDFUTURE:20240105T100000Z" ∷ codes "DTSTART:20240105T120000Z" ∷ [])) ≡ at 4 ThisAndFuture
+this_and_future : fault (event (codes "UID:b" ∷ codes "RECURRENCE-ID;RANGE=THISANDFUTURE:20240105T100000Z" ∷ codes "DTSTART:20240105T120000Z" ∷ []))
+    ≡ at 4 ThisAndFuture
 this_and_future = refl
 
 bad_identifier : fault (event (codes "UID:a" ∷ codes "RECURRENCE-ID;RANGE=X:x" ∷ [])) ≡ at 4 BadStamp
@@ -151,7 +154,8 @@ bad_second_rule : fault (event (codes "UID:a" ∷ codes "DTSTART:20240105" ∷ c
 unfolding rule_of
 bad_second_rule = refl
 
-large_second_rule : fault (event (codes "UID:a" ∷ codes "DTSTART:20240105" ∷ codes "RRULE:FREQ=DAILY" ∷ codes "RRULE:FREQ=DAILY;INTERVAL=4294967296" ∷ [])) ≡ at 6 NumberTooLarge
+large_second_rule : fault (event (codes "UID:a" ∷ codes "DTSTART:20240105" ∷ codes "RRULE:FREQ=DAILY" ∷ codes "RRULE:FREQ=DAILY;INTERVAL=4294967296" ∷ []))
+    ≡ at 6 NumberTooLarge
 unfolding rule_of
 large_second_rule = refl
 

@@ -28,7 +28,9 @@ use Rattle.ics_calendar.specs.declared.component.Component.TheVariants as compon
 use Rattle.ics_calendar.specs.declared.component.Context.{Context}
 use Rattle.ics_calendar.specs.declared.component.Context.TheVariants as context
 use Rattle.ics_calendar.specs.declared.fault.FaultKind.{FaultKind}
-use Rattle.ics_calendar.specs.declared.fault.FaultKind.TheVariants.{BadStamp, BadDuration, BadOffset, BadRule, YearRange, NumberTooLarge, NoObservance, ObservanceField, ZoneRule, NotCalendar, BadNesting, TooDeep, MissingUid, MissingStart, Repeated, BadEnd, ThisAndFuture, Exrule, OldVersion}
+use Rattle.ics_calendar.specs.declared.fault.FaultKind.TheVariants.{BadStamp, BadDuration, BadOffset, BadRule, YearRange, NumberTooLarge, NoObservance}
+use Rattle.ics_calendar.specs.declared.fault.FaultKind.TheVariants.{ObservanceField, ZoneRule, NotCalendar, BadNesting, TooDeep, MissingUid, MissingStart}
+use Rattle.ics_calendar.specs.declared.fault.FaultKind.TheVariants.{Repeated, BadEnd, ThisAndFuture, Exrule, OldVersion}
 use Rattle.ics_calendar.specs.declared.date_values.DateValue.{DateValue}
 use Rattle.ics_calendar.specs.declared.date_values.DateValue.TheVariants.{At}
 use Rattle.ics_calendar.specs.declared.frame.Frame.{Frame}
@@ -38,9 +40,11 @@ use Rattle.ics_calendar.specs.declared.builder.ObservanceBuilder.{ObservanceBuil
 use Rattle.ics_calendar.specs.declared.builder.Builder.{Builder}
 use Rattle.ics_calendar.specs.declared.builder.Builder.TheVariants as builder
 use Rattle.ics_calendar.specs.declared.builder.ZoneBuilder.{ZoneBuilder}
-use Rattle.ics_calendar.specs.Components.{component_of, component_name, is_outside_context, is_calendar_context, is_event_context, is_zone_context, is_observance_context}
+use Rattle.ics_calendar.specs.Components.{component_of, component_name, is_outside_context, is_calendar_context, is_event_context, is_zone_context}
+use Rattle.ics_calendar.specs.Components.{is_observance_context}
 use Rattle.ics_calendar.specs.DateValues.{rdates_of, exdates_of, has_bad_stamp, has_far_stamp, has_bad_duration, has_large_duration, is_not_local}
-use Rattle.ics_calendar.specs.Values.{zone_name, stamp_read, is_bad_stamp, is_far_stamp, lasting_of, is_bad_duration, is_large_duration, is_bad_offset, is_bad_rule, is_large_rule, is_fine_rule, is_large_integer, is_filled, ends_badly}
+use Rattle.ics_calendar.specs.Values.{zone_name, stamp_read, is_bad_stamp, is_far_stamp, lasting_of, is_bad_duration, is_large_duration, is_bad_offset}
+use Rattle.ics_calendar.specs.Values.{is_bad_rule, is_large_rule, is_fine_rule, is_large_integer, is_filled, ends_badly}
 use Rattle.ics_calendar.specs.Faults.{stamp_names, single_names, offset_names, field_names}
 use Rattle.ics_calendar.specs.Lines.{first, fault_if, stamp_fault_of, duration_fault_of, rule_fault_of, number_fault_of, offset_fault_of, outside_fault}
 use Rattle.ics_calendar.proofs.Judged.{fault_in}
@@ -61,11 +65,14 @@ onsets_at u v =
 -- The table, of what it reads of a line: its name, its value in upper case, its parts, its context, and tests of what stands around it.
 abbrev pub flat : (u w : List ℕ) (v : Parts) (q : Context) (cl deep filled start be bare fields h : Bool) → Option FaultKind
 flat u w v q cl deep filled start be bare fields h =
-    if (is_observance_context q && list_any has_bad_stamp (onsets_at u v)) || (is_event_context q && list_any has_bad_stamp (dates_at u v)) || (is_event_context q && list_any (bytes_eq u) stamp_names && is_bad_stamp (stamp_read v.params v.value)) then Some BadStamp
-    else if (is_observance_context q && list_any has_bad_duration (onsets_at u v)) || (is_event_context q && list_any has_bad_duration (dates_at u v)) || (is_event_context q && bytes_eq u (codes "DURATION") && is_bad_duration (lasting_of v.value)) then Some BadDuration
+    if (is_observance_context q && list_any has_bad_stamp (onsets_at u v)) || (is_event_context q && list_any has_bad_stamp (dates_at u v))
+    || (is_event_context q && list_any (bytes_eq u) stamp_names && is_bad_stamp (stamp_read v.params v.value)) then Some BadStamp
+    else if (is_observance_context q && list_any has_bad_duration (onsets_at u v)) || (is_event_context q && list_any has_bad_duration (dates_at u v))
+    || (is_event_context q && bytes_eq u (codes "DURATION") && is_bad_duration (lasting_of v.value)) then Some BadDuration
     else if is_observance_context q && list_any (bytes_eq u) offset_names && is_bad_offset (offset_of v.value) then Some BadOffset
     else if (is_event_context q || is_observance_context q) && bytes_eq u (codes "RRULE") && is_bad_rule (rule_of v.value) then Some BadRule
-    else if (is_observance_context q && list_any has_far_stamp (onsets_at u v)) || (is_event_context q && list_any has_far_stamp (dates_at u v)) || (is_event_context q && list_any (bytes_eq u) stamp_names && is_far_stamp (stamp_read v.params v.value)) then Some YearRange
+    else if (is_observance_context q && list_any has_far_stamp (onsets_at u v)) || (is_event_context q && list_any has_far_stamp (dates_at u v))
+    || (is_event_context q && list_any (bytes_eq u) stamp_names && is_far_stamp (stamp_read v.params v.value)) then Some YearRange
     else if (is_observance_context q && list_any has_large_duration (onsets_at u v))
     || (is_event_context q && list_any has_large_duration (dates_at u v))
     || (is_event_context q && bytes_eq u (codes "DURATION") && is_large_duration (lasting_of v.value))
@@ -130,7 +137,9 @@ abbrev pub frame_at : Component → Context → Gathered → Frame
 frame_at c q g = record { component = c; context = q; calendar = g.calendar; builder = builder_at q g }
 
 abbrev pub flat_of : List ℕ → Parts → Context → Bool → ℕ → Gathered → Bool → Option FaultKind
-flat_of u v q cl depth g h = flat u (map upper v.value) v q cl (nat_le 32 depth) (is_filled g.event.uid) (is_some g.event.start) (bad_end_of g.event) (is_bare u q cl (has_observance g)) (has_fields q g) h
+flat_of u v q cl depth g h =
+    flat u (map upper v.value) v q cl (nat_le 32 depth) (is_filled g.event.uid) (is_some g.event.start) (bad_end_of g.event) (is_bare u q cl (has_observance g))
+    (has_fields q g) h
 
 abbrev pub fault_of : Name → Parts → Component → Context → ℕ → Gathered → Option FaultKind
 fault_of n v c q depth g = fault_in n v (frame_at c q g) depth
@@ -149,19 +158,22 @@ or-false true = refl
 or-false false = refl
 
 -- what a value meets, and then what its line meets
-stamp-row : (r : Result Stamp StampFault) (m : Option FaultKind) → cond (is_bad_stamp r) (Some BadStamp) (cond (is_far_stamp r) (Some YearRange) m) ≡ first (stamp_fault_of r) m
+stamp-row : (r : Result Stamp StampFault) (m : Option FaultKind) →
+    cond (is_bad_stamp r) (Some BadStamp) (cond (is_far_stamp r) (Some YearRange) m) ≡ first (stamp_fault_of r) m
 stamp-row (Ok s) m = refl
 stamp-row (Err stamp_fault.BadStamp) m = refl
 stamp-row (Err stamp_fault.YearRange) m = refl
 
 recurrence-row : (r : Result Stamp StampFault) (h t : Bool) →
-    cond (is_bad_stamp r) (Some BadStamp) (cond (is_far_stamp r) (Some YearRange) (cond h (Some Repeated) (cond t (Some ThisAndFuture) None))) ≡ first (first (stamp_fault_of r) (fault_if Repeated h)) (fault_if ThisAndFuture t)
+    cond (is_bad_stamp r) (Some BadStamp) (cond (is_far_stamp r) (Some YearRange) (cond h (Some Repeated) (cond t (Some ThisAndFuture) None)))
+    ≡ first (first (stamp_fault_of r) (fault_if Repeated h)) (fault_if ThisAndFuture t)
 recurrence-row (Ok s) true t = refl
 recurrence-row (Ok s) false t = refl
 recurrence-row (Err stamp_fault.BadStamp) h t = refl
 recurrence-row (Err stamp_fault.YearRange) h t = refl
 
-onset-row : (r : Result Stamp StampFault) (h : Bool) → cond (is_bad_stamp r) (Some BadStamp) (cond (is_far_stamp r) (Some YearRange) (cond (is_not_local (At r) || h) (Some ObservanceField) None))
+onset-row : (r : Result Stamp StampFault) (h : Bool) →
+    cond (is_bad_stamp r) (Some BadStamp) (cond (is_far_stamp r) (Some YearRange) (cond (is_not_local (At r) || h) (Some ObservanceField) None))
     ≡ first (first (stamp_fault_of r) (fault_if ObservanceField (is_not_local (At r)))) (fault_if ObservanceField h)
 onset-row (Ok (Floating local)) h = refl
 onset-row (Ok (Date day)) h = refl
@@ -170,17 +182,20 @@ onset-row (Ok (Zoned local)) h = refl
 onset-row (Err stamp_fault.BadStamp) h = refl
 onset-row (Err stamp_fault.YearRange) h = refl
 
-duration-row : (d : Result Duration DurationFault) (m : Option FaultKind) → cond (is_bad_duration d) (Some BadDuration) (cond (is_large_duration d) (Some NumberTooLarge) m) ≡ first (duration_fault_of d) m
+duration-row : (d : Result Duration DurationFault) (m : Option FaultKind) →
+    cond (is_bad_duration d) (Some BadDuration) (cond (is_large_duration d) (Some NumberTooLarge) m) ≡ first (duration_fault_of d) m
 duration-row (Ok d) m = refl
 duration-row (Err duration_fault.BadDuration) m = refl
 duration-row (Err duration_fault.NumberTooLarge) m = refl
 
-rule-row : (r : Result RuleParts RuleFault) (m : Option FaultKind) → cond (is_bad_rule r) (Some BadRule) (cond (is_large_rule r) (Some NumberTooLarge) m) ≡ first (rule_fault_of r) m
+rule-row : (r : Result RuleParts RuleFault) (m : Option FaultKind) →
+    cond (is_bad_rule r) (Some BadRule) (cond (is_large_rule r) (Some NumberTooLarge) m) ≡ first (rule_fault_of r) m
 rule-row (Ok parts) m = refl
 rule-row (Err rule_fault.BadRule) m = refl
 rule-row (Err rule_fault.NumberTooLarge) m = refl
 
-daily-row : (r : Result RuleParts RuleFault) (h : Bool) → cond (is_bad_rule r) (Some BadRule) (cond (is_large_rule r) (Some NumberTooLarge) (cond (h || is_fine_rule r) (Some ZoneRule) None))
+daily-row : (r : Result RuleParts RuleFault) (h : Bool) →
+    cond (is_bad_rule r) (Some BadRule) (cond (is_large_rule r) (Some NumberTooLarge) (cond (h || is_fine_rule r) (Some ZoneRule) None))
     ≡ first (first (rule_fault_of r) (fault_if ZoneRule (is_fine_rule r))) (fault_if ZoneRule h)
 daily-row (Ok parts) h = either h (is_fine_rule (Ok parts))
   where
@@ -201,7 +216,8 @@ offset-row : (o : Result ℤ OffsetFault) (m : Option FaultKind) → cond (is_ba
 offset-row (Ok o) m = refl
 offset-row (Err f) m = refl
 
-dates-row : (a b c d : Bool) (m : Option FaultKind) → cond a (Some BadStamp) (cond b (Some BadDuration) (cond c (Some YearRange) (cond d (Some NumberTooLarge) m)))
+dates-row : (a b c d : Bool) (m : Option FaultKind) →
+    cond a (Some BadStamp) (cond b (Some BadDuration) (cond c (Some YearRange) (cond d (Some NumberTooLarge) m)))
     ≡ first (cond a (Some BadStamp) (cond b (Some BadDuration) (cond c (Some YearRange) (cond d (Some NumberTooLarge) None)))) m
 dates-row true b c d m = refl
 dates-row false true c d m = refl
@@ -209,91 +225,112 @@ dates-row false false true d m = refl
 dates-row false false false true m = refl
 dates-row false false false false m = refl
 
-pub at-uid : (v : Parts) (c : Component) (q : Context) (cl : Bool) (depth : ℕ) (g : Gathered) → flat_of (codes "UID") v q cl depth g (is_some g.event.uid) ≡ fault_of name.Uid v c q depth g
+pub at-uid : (v : Parts) (c : Component) (q : Context) (cl : Bool) (depth : ℕ) (g : Gathered) →
+    flat_of (codes "UID") v q cl depth g (is_some g.event.uid) ≡ fault_of name.Uid v c q depth g
 at-uid v c context.Event cl depth g = refl
 at-uid v c _ cl depth g = refl
 
-pub at-dtstart : (v : Parts) (c : Component) (q : Context) (cl : Bool) (depth : ℕ) (g : Gathered) → flat_of (codes "DTSTART") v q cl depth g (start_flag q g) ≡ fault_of name.Dtstart v c q depth g
+pub at-dtstart : (v : Parts) (c : Component) (q : Context) (cl : Bool) (depth : ℕ) (g : Gathered) →
+    flat_of (codes "DTSTART") v q cl depth g (start_flag q g) ≡ fault_of name.Dtstart v c q depth g
 at-dtstart v c context.Observance cl depth g = simp or-false (onset-row (stamp_of false v.value) (is_some g.observance.start))
 at-dtstart v c context.Event cl depth g = stamp-row (stamp_read v.params v.value) (fault_if Repeated (is_some g.event.start))
 at-dtstart v c _ cl depth g = refl
 
-pub at-dtend : (v : Parts) (c : Component) (q : Context) (cl : Bool) (depth : ℕ) (g : Gathered) → flat_of (codes "DTEND") v q cl depth g (is_some g.event.end) ≡ fault_of name.Dtend v c q depth g
+pub at-dtend : (v : Parts) (c : Component) (q : Context) (cl : Bool) (depth : ℕ) (g : Gathered) →
+    flat_of (codes "DTEND") v q cl depth g (is_some g.event.end) ≡ fault_of name.Dtend v c q depth g
 at-dtend v c context.Event cl depth g = stamp-row (stamp_read v.params v.value) (fault_if Repeated (is_some g.event.end))
 at-dtend v c _ cl depth g = refl
 
-pub at-duration : (v : Parts) (c : Component) (q : Context) (cl : Bool) (depth : ℕ) (g : Gathered) → flat_of (codes "DURATION") v q cl depth g (is_some g.event.duration) ≡ fault_of name.Duration v c q depth g
+pub at-duration : (v : Parts) (c : Component) (q : Context) (cl : Bool) (depth : ℕ) (g : Gathered) →
+    flat_of (codes "DURATION") v q cl depth g (is_some g.event.duration) ≡ fault_of name.Duration v c q depth g
 at-duration v c context.Event cl depth g =
     ap (λ t. cond (is_bad_duration (lasting_of v.value)) (Some BadDuration) (cond t (Some NumberTooLarge) (fault_if Repeated (is_some g.event.duration))))
     (or-false (is_large_duration (lasting_of v.value) || false) ∙ or-false (is_large_duration (lasting_of v.value)))
     ∙ duration-row (lasting_of v.value) (fault_if Repeated (is_some g.event.duration))
 at-duration v c _ cl depth g = refl
 
-pub at-rrule : (v : Parts) (c : Component) (q : Context) (cl : Bool) (depth : ℕ) (g : Gathered) → flat_of (codes "RRULE") v q cl depth g (rule_flag q g) ≡ fault_of name.Rrule v c q depth g
+pub at-rrule : (v : Parts) (c : Component) (q : Context) (cl : Bool) (depth : ℕ) (g : Gathered) →
+    flat_of (codes "RRULE") v q cl depth g (rule_flag q g) ≡ fault_of name.Rrule v c q depth g
 at-rrule v c context.Event cl depth g = simp or-false (rule-row (rule_of v.value) (fault_if Repeated (is_some g.event.rule)))
 at-rrule v c context.Observance cl depth g = simp or-false (daily-row (rule_of v.value) (is_some g.observance.rule))
 at-rrule v c _ cl depth g = refl
 
-pub at-recurrence_id : (v : Parts) (c : Component) (q : Context) (cl : Bool) (depth : ℕ) (g : Gathered) → flat_of (codes "RECURRENCE-ID") v q cl depth g (is_some g.event.recurrence) ≡ fault_of name.RecurrenceId v c q depth g
-at-recurrence_id v c context.Event cl depth g = recurrence-row (stamp_read v.params v.value) (is_some g.event.recurrence) (is_some (param_of (codes "RANGE") v.params))
+pub at-recurrence_id : (v : Parts) (c : Component) (q : Context) (cl : Bool) (depth : ℕ) (g : Gathered) →
+    flat_of (codes "RECURRENCE-ID") v q cl depth g (is_some g.event.recurrence) ≡ fault_of name.RecurrenceId v c q depth g
+at-recurrence_id v c context.Event cl depth g =
+    recurrence-row (stamp_read v.params v.value) (is_some g.event.recurrence) (is_some (param_of (codes "RANGE") v.params))
 at-recurrence_id v c _ cl depth g = refl
 
-pub at-sequence : (v : Parts) (c : Component) (q : Context) (cl : Bool) (depth : ℕ) (g : Gathered) → flat_of (codes "SEQUENCE") v q cl depth g (is_some g.event.sequence) ≡ fault_of name.Sequence v c q depth g
+pub at-sequence : (v : Parts) (c : Component) (q : Context) (cl : Bool) (depth : ℕ) (g : Gathered) →
+    flat_of (codes "SEQUENCE") v q cl depth g (is_some g.event.sequence) ≡ fault_of name.Sequence v c q depth g
 at-sequence v c context.Event cl depth g = number-row (integer_of v.value) (fault_if Repeated (is_some g.event.sequence))
 at-sequence v c _ cl depth g = refl
 
-pub at-rdate : (v : Parts) (c : Component) (q : Context) (cl : Bool) (depth : ℕ) (g : Gathered) (h : Bool) → flat_of (codes "RDATE") v q cl depth g h ≡ fault_of name.Rdate v c q depth g
+pub at-rdate : (v : Parts) (c : Component) (q : Context) (cl : Bool) (depth : ℕ) (g : Gathered) (h : Bool) →
+    flat_of (codes "RDATE") v q cl depth g h ≡ fault_of name.Rdate v c q depth g
 at-rdate v c context.Event cl depth g h = simp or-false refl
 at-rdate v c context.Observance cl depth g h =
     let vs : List DateValue = rdates_of false v.value in
-    simp or-false (dates-row (list_any has_bad_stamp vs) (list_any has_bad_duration vs) (list_any has_far_stamp vs) (list_any has_large_duration vs) (fault_if ObservanceField (list_any is_not_local vs)))
+    simp or-false (dates-row (list_any has_bad_stamp vs) (list_any has_bad_duration vs) (list_any has_far_stamp vs) (list_any has_large_duration vs)
+    (fault_if ObservanceField (list_any is_not_local vs)))
 at-rdate v c _ cl depth g h = refl
 
-pub at-exdate : (v : Parts) (c : Component) (q : Context) (cl : Bool) (depth : ℕ) (g : Gathered) (h : Bool) → flat_of (codes "EXDATE") v q cl depth g h ≡ fault_of name.Exdate v c q depth g
+pub at-exdate : (v : Parts) (c : Component) (q : Context) (cl : Bool) (depth : ℕ) (g : Gathered) (h : Bool) →
+    flat_of (codes "EXDATE") v q cl depth g h ≡ fault_of name.Exdate v c q depth g
 at-exdate v c context.Event cl depth g h = simp or-false refl
 at-exdate v c _ cl depth g h = refl
 
-pub at-exrule : (v : Parts) (c : Component) (q : Context) (cl : Bool) (depth : ℕ) (g : Gathered) (h : Bool) → flat_of (codes "EXRULE") v q cl depth g h ≡ fault_of name.Exrule v c q depth g
+pub at-exrule : (v : Parts) (c : Component) (q : Context) (cl : Bool) (depth : ℕ) (g : Gathered) (h : Bool) →
+    flat_of (codes "EXRULE") v q cl depth g h ≡ fault_of name.Exrule v c q depth g
 at-exrule v c context.Event cl depth g h = refl
 at-exrule v c _ cl depth g h = refl
 
-pub at-version : (v : Parts) (c : Component) (q : Context) (cl : Bool) (depth : ℕ) (g : Gathered) (h : Bool) → flat_of (codes "VERSION") v q cl depth g h ≡ fault_of name.Version v c q depth g
+pub at-version : (v : Parts) (c : Component) (q : Context) (cl : Bool) (depth : ℕ) (g : Gathered) (h : Bool) →
+    flat_of (codes "VERSION") v q cl depth g h ≡ fault_of name.Version v c q depth g
 at-version v c context.Event cl depth g h = refl
 at-version v c _ cl depth g h = refl
 
-pub at-summary : (v : Parts) (c : Component) (q : Context) (cl : Bool) (depth : ℕ) (g : Gathered) (h : Bool) → flat_of (codes "SUMMARY") v q cl depth g h ≡ fault_of name.Summary v c q depth g
+pub at-summary : (v : Parts) (c : Component) (q : Context) (cl : Bool) (depth : ℕ) (g : Gathered) (h : Bool) →
+    flat_of (codes "SUMMARY") v q cl depth g h ≡ fault_of name.Summary v c q depth g
 at-summary v c context.Event cl depth g h = refl
 at-summary v c _ cl depth g h = refl
 
-pub at-location : (v : Parts) (c : Component) (q : Context) (cl : Bool) (depth : ℕ) (g : Gathered) (h : Bool) → flat_of (codes "LOCATION") v q cl depth g h ≡ fault_of name.Location v c q depth g
+pub at-location : (v : Parts) (c : Component) (q : Context) (cl : Bool) (depth : ℕ) (g : Gathered) (h : Bool) →
+    flat_of (codes "LOCATION") v q cl depth g h ≡ fault_of name.Location v c q depth g
 at-location v c context.Event cl depth g h = refl
 at-location v c _ cl depth g h = refl
 
-pub at-description : (v : Parts) (c : Component) (q : Context) (cl : Bool) (depth : ℕ) (g : Gathered) (h : Bool) → flat_of (codes "DESCRIPTION") v q cl depth g h ≡ fault_of name.Description v c q depth g
+pub at-description : (v : Parts) (c : Component) (q : Context) (cl : Bool) (depth : ℕ) (g : Gathered) (h : Bool) →
+    flat_of (codes "DESCRIPTION") v q cl depth g h ≡ fault_of name.Description v c q depth g
 at-description v c context.Event cl depth g h = refl
 at-description v c _ cl depth g h = refl
 
-pub at-status : (v : Parts) (c : Component) (q : Context) (cl : Bool) (depth : ℕ) (g : Gathered) (h : Bool) → flat_of (codes "STATUS") v q cl depth g h ≡ fault_of name.Status v c q depth g
+pub at-status : (v : Parts) (c : Component) (q : Context) (cl : Bool) (depth : ℕ) (g : Gathered) (h : Bool) →
+    flat_of (codes "STATUS") v q cl depth g h ≡ fault_of name.Status v c q depth g
 at-status v c context.Event cl depth g h = refl
 at-status v c _ cl depth g h = refl
 
-pub at-tzid : (v : Parts) (c : Component) (q : Context) (cl : Bool) (depth : ℕ) (g : Gathered) → flat_of (codes "TZID") v q cl depth g (is_some g.zone.name) ≡ fault_of name.Tzid v c q depth g
+pub at-tzid : (v : Parts) (c : Component) (q : Context) (cl : Bool) (depth : ℕ) (g : Gathered) →
+    flat_of (codes "TZID") v q cl depth g (is_some g.zone.name) ≡ fault_of name.Tzid v c q depth g
 at-tzid v c context.Event cl depth g = refl
 at-tzid v c _ cl depth g = refl
 
-pub at-offset_from : (v : Parts) (c : Component) (q : Context) (cl : Bool) (depth : ℕ) (g : Gathered) → flat_of (codes "TZOFFSETFROM") v q cl depth g (is_some g.observance.from) ≡ fault_of name.OffsetFrom v c q depth g
+pub at-offset_from : (v : Parts) (c : Component) (q : Context) (cl : Bool) (depth : ℕ) (g : Gathered) →
+    flat_of (codes "TZOFFSETFROM") v q cl depth g (is_some g.observance.from) ≡ fault_of name.OffsetFrom v c q depth g
 at-offset_from v c context.Observance cl depth g = offset-row (offset_of v.value) (fault_if ObservanceField (is_some g.observance.from))
 at-offset_from v c context.Event cl depth g = refl
 at-offset_from v c _ cl depth g = refl
 
-pub at-offset_to : (v : Parts) (c : Component) (q : Context) (cl : Bool) (depth : ℕ) (g : Gathered) → flat_of (codes "TZOFFSETTO") v q cl depth g (is_some g.observance.to) ≡ fault_of name.OffsetTo v c q depth g
+pub at-offset_to : (v : Parts) (c : Component) (q : Context) (cl : Bool) (depth : ℕ) (g : Gathered) →
+    flat_of (codes "TZOFFSETTO") v q cl depth g (is_some g.observance.to) ≡ fault_of name.OffsetTo v c q depth g
 at-offset_to v c context.Observance cl depth g = offset-row (offset_of v.value) (fault_if ObservanceField (is_some g.observance.to))
 at-offset_to v c context.Event cl depth g = refl
 at-offset_to v c _ cl depth g = refl
 
 -- what the END of a time zone, and that of an observance, meets
 zone-end : (none name : Bool) →
-    cond (not (not none)) (Some NoObservance) (cond (not (name && true) || false) (Some ObservanceField) None) ≡ cond none (Some NoObservance) (cond (not name) (Some ObservanceField) None)
+    cond (not (not none)) (Some NoObservance) (cond (not (name && true) || false) (Some ObservanceField) None)
+    ≡ cond none (Some NoObservance) (cond (not name) (Some ObservanceField) None)
 zone-end true name = refl
 zone-end false true = refl
 zone-end false false = refl
@@ -304,7 +341,8 @@ observance-end true true false = refl
 observance-end true false c = refl
 observance-end false b c = refl
 
-pub at-end : (v : Parts) (c : Component) (q : Context) (cl : Bool) (depth : ℕ) (g : Gathered) (h : Bool) → (is_outside_context q ≡ false → bytes_eq (map upper v.value) (component_name c) ≡ cl) →
+pub at-end : (v : Parts) (c : Component) (q : Context) (cl : Bool) (depth : ℕ) (g : Gathered) (h : Bool) →
+    (is_outside_context q ≡ false → bytes_eq (map upper v.value) (component_name c) ≡ cl) →
     flat_of (codes "END") v q cl depth g h ≡ fault_of name.End v c q depth g
 at-end v c context.Outside true depth g h e = refl
 at-end v c context.Outside false depth g h e = refl
@@ -314,7 +352,8 @@ at-end v c _ true depth g h e = rw (e refl) refl
 at-end v c _ false depth g h e = rw (e refl) refl
 
 outside-begin : (b : Component) (w : List ℕ) (v : Parts) (c : Component) (cl : Bool) (depth : ℕ) (g : Gathered) (h : Bool) → TellsComponent w b →
-    flat (codes "BEGIN") w v context.Outside cl (nat_le 32 depth) (is_filled g.event.uid) (is_some g.event.start) (bad_end_of g.event) false true h ≡ first (outside_fault context.Outside b) (fault_if TooDeep (nat_le 32 depth))
+    flat (codes "BEGIN") w v context.Outside cl (nat_le 32 depth) (is_filled g.event.uid) (is_some g.event.start) (bad_end_of g.event) false true h
+    ≡ first (outside_fault context.Outside b) (fault_if TooDeep (nat_le 32 depth))
 outside-begin component.Calendar w v c cl depth g h e = rw e refl
 outside-begin component.Event w v c cl depth g h e = rw e refl
 outside-begin component.Zone w v c cl depth g h e = rw e refl
@@ -322,10 +361,49 @@ outside-begin component.Standard w v c cl depth g h e = rw e refl
 outside-begin component.Daylight w v c cl depth g h e = rw e refl
 outside-begin (component.Other n) w v c cl depth g h e = simp e.0.no_calendar refl
 
-pub at-begin : (v : Parts) (c : Component) (q : Context) (cl : Bool) (depth : ℕ) (g : Gathered) (h : Bool) → flat_of (codes "BEGIN") v q cl depth g h ≡ fault_of name.Begin v c q depth g
-at-begin v c context.Outside cl depth g h = outside-begin (component_of (map upper v.value)) (map upper v.value) v c cl depth g h (tells_component (map upper v.value))
+pub at-begin : (v : Parts) (c : Component) (q : Context) (cl : Bool) (depth : ℕ) (g : Gathered) (h : Bool) →
+    flat_of (codes "BEGIN") v q cl depth g h ≡ fault_of name.Begin v c q depth g
+at-begin v c context.Outside cl depth g h =
+    outside-begin (component_of (map upper v.value)) (map upper v.value) v c cl depth g h (tells_component (map upper v.value))
 at-begin v c _ cl depth g h = refl
 
-pub at-other : (u : List ℕ) (v : Parts) (c : Component) (q : Context) (cl : Bool) (depth : ℕ) (g : Gathered) (h : Bool) → IsUnknown u → flat_of u v q cl depth g h ≡ fault_of name.Other v c q depth g
-at-other u v c context.Outside cl depth g h n = simp (n.no_begin, n.no_end, n.no_uid, n.no_dtstart, n.no_dtend, n.no_duration, n.no_rrule, n.no_recurrence_id, n.no_sequence, n.no_rdate, n.no_exdate, n.no_exrule, n.no_version, n.no_tzid, n.no_offset_from, n.no_offset_to) refl
-at-other u v c _ cl depth g h n = simp (n.no_begin, n.no_end, n.no_uid, n.no_dtstart, n.no_dtend, n.no_duration, n.no_rrule, n.no_recurrence_id, n.no_sequence, n.no_rdate, n.no_exdate, n.no_exrule, n.no_version, n.no_tzid, n.no_offset_from, n.no_offset_to) refl
+pub at-other : (u : List ℕ) (v : Parts) (c : Component) (q : Context) (cl : Bool) (depth : ℕ) (g : Gathered) (h : Bool) → IsUnknown u →
+    flat_of u v q cl depth g h ≡ fault_of name.Other v c q depth g
+at-other u v c context.Outside cl depth g h n =
+    simp (
+      n.no_begin,
+      n.no_end,
+      n.no_uid,
+      n.no_dtstart,
+      n.no_dtend,
+      n.no_duration,
+      n.no_rrule,
+      n.no_recurrence_id,
+      n.no_sequence,
+      n.no_rdate,
+      n.no_exdate,
+      n.no_exrule,
+      n.no_version,
+      n.no_tzid,
+      n.no_offset_from,
+      n.no_offset_to,
+    ) refl
+at-other u v c _ cl depth g h n =
+    simp (
+      n.no_begin,
+      n.no_end,
+      n.no_uid,
+      n.no_dtstart,
+      n.no_dtend,
+      n.no_duration,
+      n.no_rrule,
+      n.no_recurrence_id,
+      n.no_sequence,
+      n.no_rdate,
+      n.no_exdate,
+      n.no_exrule,
+      n.no_version,
+      n.no_tzid,
+      n.no_offset_from,
+      n.no_offset_to,
+    ) refl

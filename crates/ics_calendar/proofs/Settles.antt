@@ -33,14 +33,18 @@ use Rattle.ics_calendar.proofs.Table.{frame_of}
 use Rattle.ics_calendar.proofs.ZoneOrder.{zones-are, zones-begun, names-begun, calendar-inside}
 
 -- THE DEFERRED CHECKS, judged in order, give the first fault of the second round.
-found-checks : (known : KnownZones) (number : ℕ) (o : Option DeferredCheck) (ws : List LineCheck) → first_judged known (checks_of number o ++ ws) ≡ found number (option_and_then (judged known) o) (first_judged known ws)
+found-checks : (known : KnownZones) (number : ℕ) (o : Option DeferredCheck) (ws : List LineCheck) →
+    first_judged known (checks_of number o ++ ws) ≡ found number (option_and_then (judged known) o) (first_judged known ws)
 found-checks known number None ws = refl
 found-checks known number (Some l) ws = refl
 
 abbrev Judges : List Placed → KnownZones → List Placed → List Placed → Type 0
-Judges whole known before lines = first_from stands fault_at_end before lines ≡ None → first_judged known (checks_from whole before lines) ≡ first_from (stands_later known) (λ b. None) before lines
+Judges whole known before lines =
+    first_from stands fault_at_end before lines ≡ None →
+    first_judged known (checks_from whole before lines) ≡ first_from (stands_later known) (λ b. None) before lines
 
-judges : (whole : List Placed) (known : KnownZones) (lines : List Line) (before : List Placed) (path : List Open) → Judges whole known before (placed_from path lines)
+judges : (whole : List Placed) (known : KnownZones) (lines : List Line) (before : List Placed) (path : List Open) →
+    Judges whole known before (placed_from path lines)
 judges whole known [] before path e = refl
 judges whole known (line ∷ lines) before path e = by_content (judges whole known lines) (content_of line.bytes) e
   where
@@ -54,7 +58,8 @@ judges whole known (line ∷ lines) before path e = by_content (judges whole kno
         let behind : List Placed = before ++ l ∷ [] in
         let none = found-none line.number (least_on stands before l) (first_from stands fault_at_end behind rest) e in
         found-checks known line.number (check_in (name_of (map upper v.name)) v f) (checks_from whole behind rest)
-        ∙ ap (λ k. found line.number k (first_judged known (checks_from whole behind rest))) (sym (later-same whole known line path v (beside before l) (nested (λ kind. stands kind (beside before l) l) none.0)))
+        ∙ ap (λ k. found line.number k (first_judged known (checks_from whole behind rest)))
+        (sym (later-same whole known line path v (beside before l) (nested (λ kind. stands kind (beside before l) l) none.0)))
         ∙ ap (found line.number (find (λ kind. stands_later known kind (beside before l) l) kinds)) (again behind (path_behind l) none.1)
 
 -- THE EVENTS, by what is gathered.
@@ -66,8 +71,10 @@ events-begun index whole (l ∷ ls) = by_test (events-begun index whole ls) (is_
     own : Placed → EventSeen
     own line = event_by index (calendar_of line.path) (lines_in line.number whole)
 
-    by_test : map (event_of index) (begun events whole ls) ≡ map own (filter begins_event ls) → (q : Bool) → is_calendar_context (context_of l.path) ≡ q → (t : Bool) →
-        map (event_of index) (map (λ l. events.by (inside l) (lines_in l.number whole)) (cond (q && t) (l ∷ filter begins_event ls) (filter begins_event ls))) ≡ map own (cond (q && t) (l ∷ filter begins_event ls) (filter begins_event ls))
+    by_test : map (event_of index) (begun events whole ls) ≡ map own (filter begins_event ls) → (q : Bool) → is_calendar_context (context_of l.path) ≡ q →
+        (t : Bool) →
+        map (event_of index) (map (λ l. events.by (inside l) (lines_in l.number whole)) (cond (q && t) (l ∷ filter begins_event ls) (filter begins_event ls)))
+        ≡ map own (cond (q && t) (l ∷ filter begins_event ls) (filter begins_event ls))
     by_test rest true e true =
         ap (λ k. event_by index k (lines_in l.number whole) ∷ map (event_of index) (begun events whole ls)) (calendar-inside l e) ∙ ap (λ xs. own l ∷ xs) rest
     by_test rest true e false = rest
@@ -75,7 +82,8 @@ events-begun index whole (l ∷ ls) = by_test (events-begun index whole ls) (is_
 
 -- WHAT IS SETTLED.
 pub settled-is : (lines : List Line) → Rises 0 lines → first_fault (placed_from [] lines) ≡ None →
-    settled (gathered_from (placed_from [] lines) nothing_gathered [] (placed_from [] lines)) ≡ decide None (later_fault (placed_from [] lines)) (said_of (placed_from [] lines))
+    settled (gathered_from (placed_from [] lines) nothing_gathered [] (placed_from [] lines))
+    ≡ decide None (later_fault (placed_from [] lines)) (said_of (placed_from [] lines))
 settled-is lines r first =
     let whole : List Placed = placed_from [] lines in
     let zs : List EndedZone = begun (zones whole) whole whole in
@@ -83,7 +91,8 @@ settled-is lines r first =
     let ws : List LineCheck = checks_from whole [] whole in
     let known : KnownZones = zones_on whole in
     let gathered_is : gathered_from whole nothing_gathered [] whole ≡ lists zs es ws =
-    three (ordered (zones whole) (zones-are whole) lines whole [] [] 0 refl tt (omega arith) r (λ e. refl) first) (ordered events events-are lines whole [] [] 0 refl tt (omega arith) r (λ e. refl) first) refl in
+    three (ordered (zones whole) (zones-are whole) lines whole [] [] 0 refl tt (omega arith) r (λ e. refl) first)
+    (ordered events events-are lines whole [] [] 0 refl tt (omega arith) r (λ e. refl) first) refl in
     ap settled gathered_is
     ∙ ap (λ ns. settled_by (known_zones ns (map (λ z. z.observances) zs)) (lists zs es ws)) (sym (names-begun whole whole))
     ∙ ap (λ ps. settled_by (known_zones (zone_names whole) ps) (lists zs es ws)) (zones-begun whole whole)

@@ -22,27 +22,28 @@ use Rattle.ics_calendar.specs.DeferredChecks.{KnownZones, zone_index, moment_at,
 use Rattle.ics_calendar.specs.Ready.{IsReady}
 use Rattle.ics_calendar.proofs.EventsOf.{events-of}
 use Rattle.ics_calendar.proofs.Listed.{each-weaker}
+use Rattle.ics_calendar.proofs.Order.{found-none}
 
 -- a local in the zone with an index
-pub moment-here : (zones : List (List Observance)) (local : Local) (i : ℕ) (d : List Observance) → i < length zones → moment_at (map phases_of zones) local i ≡ Some (zone_moment (phases_of (get_or zones i d)) (seconds_of local))
+pub moment-here : (zones : List (List Observance)) (local : Local) (i : ℕ) (d : List Observance) → i < length zones →
+    moment_at (map phases_of zones) local i ≡ Some (zone_moment (phases_of (get_or zones i d)) (seconds_of local))
 moment-here zones local i d l =
     ap (option_map (λ zone. zone_moment zone (seconds_of local))) (slice_get-map phases_of zones i ∙ ap (option_map phases_of) (slice_get-get_or zones i d l))
 
 -- THE DEFERRED CHECKS, where none finds a fault.
-none-found : (n : ℕ) (k : Option FaultKind) (f : Option Fault) → found n k f ≡ None → (k ≡ None) × (f ≡ None)
-none-found n (Some k) f e = cc
-none-found n None f e = (refl, e)
-
 none-judged : (known : KnownZones) (ws : List LineCheck) → first_judged known ws ≡ None → AllByRecursion (λ w. judged known w.check ≡ None) ws
 none-judged known [] e = tt
-none-judged known (w ∷ ws) e = let n = none-found w.line (judged known w.check) (first_judged known ws) e in (n.0, none-judged known ws n.1)
+none-judged known (w ∷ ws) e = let n = found-none w.line (judged known w.check) (first_judged known ws) e in (n.0, none-judged known ws n.1)
 
-awaited-fine : (known : KnownZones) (bare_checks : List DeferredCheck) → All (λ l. judged known l ≡ None) bare_checks → (l : DeferredCheck) → Contains bare_checks l → judged known l ≡ None
+awaited-fine : (known : KnownZones) (bare_checks : List DeferredCheck) → All (λ l. judged known l ≡ None) bare_checks → (l : DeferredCheck) →
+    Contains bare_checks l → judged known l ≡ None
 awaited-fine known bare_checks h l c = All-contains (λ l. judged known l ≡ None) bare_checks l h c
 
 pub ready : (g : GatheredSeen) → IsSoundGathered g → first_judged (known_in g) g.checks ≡ None → All (IsReady (known_in g)) g.events
 ready g s n =
-    let fine : All (λ l. judged (known_in g) l ≡ None) (map (λ w. w.check) g.checks) = All-map (λ l. judged (known_in g) l ≡ None) (λ w. w.check) g.checks (All-from_recursion (λ w. judged (known_in g) w.check ≡ None) g.checks (none-judged (known_in g) g.checks n)) in
+    let fine : All (λ l. judged (known_in g) l ≡ None) (map (λ w. w.check) g.checks) =
+    All-map (λ l. judged (known_in g) l ≡ None) (λ w. w.check) g.checks
+    (All-from_recursion (λ w. judged (known_in g) w.check ≡ None) g.checks (none-judged (known_in g) g.checks n)) in
     λ i d l.
     record {
       whole = s.whole i d l;
@@ -50,7 +51,8 @@ ready g s n =
     }
 
 -- THE ANSWER.
-pub known-is : (g : GatheredSeen) (known : KnownZones) → known.index ≡ zone_index (map (λ z. z.name) g.zones) → known.zones ≡ map (λ z. z.observances) g.zones → known ≡ known_in g
+pub known-is : (g : GatheredSeen) (known : KnownZones) → known.index ≡ zone_index (map (λ z. z.name) g.zones) → known.zones ≡ map (λ z. z.observances) g.zones →
+    known ≡ known_in g
 known-is g known e f =
     ap (λ (i : ZoneName → Option ℕ). record { index = i; zones = known.zones }) e
     ∙ ap (λ (zs : List (List Phase)). record { index = zone_index (map (λ z. z.name) g.zones); zones = zs }) f
@@ -59,11 +61,14 @@ abbrev pub IsSettled : KnownZones → GatheredSeen → Type 0
 IsSettled known g = (known ≡ known_in g) × (first_judged known g.checks ≡ None)
 
 pub ready-here : (g : GatheredSeen) (known : KnownZones) → IsSoundGathered g → IsSettled known g → All (IsReady known) g.events
-ready-here g known s h = subst (λ (k : KnownZones). All (IsReady k) g.events) (sym h.0) (ready g s (ap (λ (k : KnownZones). first_judged k g.checks) (sym h.0) ∙ h.1))
+ready-here g known s h =
+    subst (λ (k : KnownZones). All (IsReady k) g.events) (sym h.0) (ready g s (ap (λ (k : KnownZones). first_judged k g.checks) (sym h.0) ∙ h.1))
 
-pub events-here : (g : GatheredSeen) (known : KnownZones) → IsSoundGathered g → IsSettled known g → AreEventsOf known.zones (map (event_of known.index) g.events)
+pub events-here : (g : GatheredSeen) (known : KnownZones) → IsSoundGathered g → IsSettled known g →
+    AreEventsOf known.zones (map (event_of known.index) g.events)
 events-here g known s h =
     let names : List ZoneName = map (λ z. z.name) g.zones in
     let zones : List (List Phase) = map (λ z. z.observances) g.zones in
     let long : length names ≡ length zones = length-map g.zones (λ z. z.name) ∙ sym (length-map g.zones (λ z. z.observances)) in
-    subst (λ (k : KnownZones). AreEventsOf k.zones (map (event_of k.index) g.events)) (sym h.0) (events-of names zones long g.events (subst (λ (k : KnownZones). All (IsReady k) g.events) h.0 (ready-here g known s h)))
+    subst (λ (k : KnownZones). AreEventsOf k.zones (map (event_of k.index) g.events)) (sym h.0)
+    (events-of names zones long g.events (subst (λ (k : KnownZones). All (IsReady k) g.events) h.0 (ready-here g known s h)))

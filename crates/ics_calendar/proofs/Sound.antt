@@ -1,5 +1,6 @@
 -- What is collected of an event or of an observance is in order.
-use Rattle.std.proofs.Common.{◌≡◌, ◌≤◌, ◌+◌, ◌*◌, ℕ, Bool, true, false, ◌&&◌, nat_le, ◌==◌, List, [], ◌∷◌, length, refl, sym, ap, ◌∙◌, subst, arith, cond, Option, Some, None, IfSome, Result, Ok, Err, map, ℤ, pos, ◌≢◌, ◌||◌, not, IsTrue, neg_ℤ}
+use Rattle.std.proofs.Common.{◌≡◌, ◌≤◌, ◌+◌, ◌*◌, ℕ, Bool, true, false, ◌&&◌, nat_le, ◌==◌, List, [], ◌∷◌, length, refl, sym, ap, ◌∙◌, subst, arith, cond}
+use Rattle.std.proofs.Common.{Option, Some, None, IfSome, Result, Ok, Err, map, ℤ, pos, ◌≢◌, ◌||◌, not, IsTrue, neg_ℤ}
 use Rattle.std.specs.Prelude.{filter_map, is_some, int_le, unwrap_or}
 use Rattle.std.specs.List.{All, list_all}
 use Rattle.std.proofs.lemmas.Bool.Decides.{nat_tests}
@@ -40,8 +41,9 @@ use Rattle.ics_calendar.specs.Sound.{IsSoundStamp, IsSoundList, IsSoundLength, I
 use Rattle.ics_calendar.specs.Builders.{fresh, zone_ended, observance_ended, event_ended}
 use Rattle.ics_calendar.specs.Values.{zone_name, dated_of, duration_in, lasting_of, is_lasting, is_fine, is_filled, ends_badly}
 use Rattle.ics_calendar.specs.Zones.{local_in, onset_in, offset_in, daily_in}
-use Rattle.ics_calendar.proofs.Judged.{event_note, zone_note, observance_note, builder_note, joined, closed, behind, behind-is, is_begin_name, is_end_name, end_of, end_fault_at, ended_as, ends, fault_on}
-use Rattle.ics_calendar.proofs.SoundValues.{stamp-range, sound-stamp, sound-lasting, sound-rdates, sound-exdates}
+use Rattle.ics_calendar.proofs.Judged.{event_note, zone_note, observance_note, builder_note, joined, closed, behind, behind-is, is_begin_name, is_end_name}
+use Rattle.ics_calendar.proofs.Judged.{end_of, end_fault_at, ended_as, ends, fault_on}
+use Rattle.ics_calendar.proofs.SoundValues.{day-zero, stamp-range, sound-stamp, sound-lasting, sound-rdates, sound-exdates}
 use Rattle.ics_values.specs.Locals.{local_at}
 use Rattle.ics_values.specs.declared.duration.Duration.{Duration}
 use Rattle.ics_values.specs.declared.frequency.Frequency.{Frequency}
@@ -111,9 +113,6 @@ offset-within text o e = by_test (is_offset_text text) refl e
     by_test false t e = cc
 
 -- WHAT AN OBSERVANCE'S VALUES SAY.
-day-zero : IsStampDay (pos 0)
-day-zero = (omega (arith, ints), omega (arith, ints))
-
 onset-sound : (text : List ℕ) → IsSoundLocal (onset_in (stamp_of false text))
 onset-sound text = by_result (stamp_of false text) refl
   where
@@ -156,7 +155,8 @@ local-sound text = by_tests (has_slash text) (lasts (second_half text))
     by_stamp (Err fault) e = tt
 
     by_tests : (t l : Bool) → AreIn (local_in (cond t
-        (cond l (Lasting (date_time_of false (first_half text)) (lasting_of (second_half text))) (Between (date_time_of false (first_half text)) (date_time_of false (second_half text)))) (At (stamp_of false text))))
+        (cond l (Lasting (date_time_of false (first_half text)) (lasting_of (second_half text)))
+        (Between (date_time_of false (first_half text)) (date_time_of false (second_half text)))) (At (stamp_of false text))))
     by_tests true true = tt
     by_tests true false = tt
     by_tests false l = by_stamp (stamp_of false text) refl
@@ -168,7 +168,8 @@ locals-sound (t ∷ ts) = by_local (locals-sound ts) (local_in (rdate_of false t
     rest : List Local
     rest = filter_map local_in (map (rdate_of false) ts)
 
-    by_local : All IsSoundLocal (filter_map local_in (map (rdate_of false) ts)) → (o : Option Local) → local_in (rdate_of false t) ≡ o → AreIn o → All IsSoundLocal (filter_map local_in (map (rdate_of false) (t ∷ ts)))
+    by_local : All IsSoundLocal (filter_map local_in (map (rdate_of false) ts)) → (o : Option Local) → local_in (rdate_of false t) ≡ o → AreIn o →
+        All IsSoundLocal (filter_map local_in (map (rdate_of false) (t ∷ ts)))
     by_local again None e h = rw e again
     by_local again (Some l) e h = rw e (All-cons IsSoundLocal l rest h again)
 
@@ -184,8 +185,24 @@ dated-sound : (v : Parts) → IsSoundDated (dated_of v.params v.value)
 dated-sound v = sound-stamp (is_some (zone_name v.params)) v.value
 
 noted-sound : (n : Name) (v : Parts) (had : EventBuilder) → IsSound had → IsSound (event_note n v had)
-noted-sound name.Dtstart v had s = record { start = first-kept IsSoundDated had.start (dated_of v.params v.value) s.start (dated-sound v); end = s.end; duration = s.duration; rdates = s.rdates; exdates = s.exdates; recurrence = s.recurrence }
-noted-sound name.Dtend v had s = record { start = s.start; end = first-kept IsSoundDated had.end (dated_of v.params v.value) s.end (dated-sound v); duration = s.duration; rdates = s.rdates; exdates = s.exdates; recurrence = s.recurrence }
+noted-sound name.Dtstart v had s =
+    record {
+      start = first-kept IsSoundDated had.start (dated_of v.params v.value) s.start (dated-sound v);
+      end = s.end;
+      duration = s.duration;
+      rdates = s.rdates;
+      exdates = s.exdates;
+      recurrence = s.recurrence;
+    }
+noted-sound name.Dtend v had s =
+    record {
+      start = s.start;
+      end = first-kept IsSoundDated had.end (dated_of v.params v.value) s.end (dated-sound v);
+      duration = s.duration;
+      rdates = s.rdates;
+      exdates = s.exdates;
+      recurrence = s.recurrence;
+    }
 noted-sound name.Duration v had s = record {
   start = s.start;
   end = s.end;
@@ -194,17 +211,76 @@ noted-sound name.Duration v had s = record {
   exdates = s.exdates;
   recurrence = s.recurrence;
 }
-noted-sound name.Rdate v had s = record { start = s.start; end = s.end; duration = s.duration; rdates = All-push IsSoundList had.rdates _ s.rdates (sound-rdates (is_some (zone_name v.params)) v.value); exdates = s.exdates; recurrence = s.recurrence }
-noted-sound name.Exdate v had s = record { start = s.start; end = s.end; duration = s.duration; rdates = s.rdates; exdates = All-push IsSoundList had.exdates _ s.exdates (sound-exdates (is_some (zone_name v.params)) v.value); recurrence = s.recurrence }
-noted-sound name.RecurrenceId v had s = record { start = s.start; end = s.end; duration = s.duration; rdates = s.rdates; exdates = s.exdates; recurrence = first-kept IsSoundDated had.recurrence (dated_of v.params v.value) s.recurrence (dated-sound v) }
+noted-sound name.Rdate v had s =
+    record {
+      start = s.start;
+      end = s.end;
+      duration = s.duration;
+      rdates = All-push IsSoundList had.rdates _ s.rdates (sound-rdates (is_some (zone_name v.params)) v.value);
+      exdates = s.exdates;
+      recurrence = s.recurrence;
+    }
+noted-sound name.Exdate v had s =
+    record {
+      start = s.start;
+      end = s.end;
+      duration = s.duration;
+      rdates = s.rdates;
+      exdates = All-push IsSoundList had.exdates _ s.exdates (sound-exdates (is_some (zone_name v.params)) v.value);
+      recurrence = s.recurrence;
+    }
+noted-sound name.RecurrenceId v had s =
+    record {
+      start = s.start;
+      end = s.end;
+      duration = s.duration;
+      rdates = s.rdates;
+      exdates = s.exdates;
+      recurrence = first-kept IsSoundDated had.recurrence (dated_of v.params v.value) s.recurrence (dated-sound v);
+    }
 noted-sound _ v had s = record { start = s.start; end = s.end; duration = s.duration; rdates = s.rdates; exdates = s.exdates; recurrence = s.recurrence }
 
 noted-part : (n : Name) (v : Parts) (had : ObservanceBuilder) → IsSoundPart had → IsSoundPart (observance_note n v had)
-noted-part name.Dtstart v had s = record { start = first-kept IsSoundLocal had.start (onset_in (stamp_of false v.value)) s.start (onset-sound v.value); from = s.from; to = s.to; rule = s.rule; rdates = s.rdates }
-noted-part name.OffsetFrom v had s = record { start = s.start; from = first-kept (IsWithin 86_399) had.from (offset_in (offset_of v.value)) s.from (offset-sound v.value); to = s.to; rule = s.rule; rdates = s.rdates }
-noted-part name.OffsetTo v had s = record { start = s.start; from = s.from; to = first-kept (IsWithin 86_399) had.to (offset_in (offset_of v.value)) s.to (offset-sound v.value); rule = s.rule; rdates = s.rdates }
-noted-part name.Rrule v had s = record { start = s.start; from = s.from; to = s.to; rule = first-kept (λ rule. is_fine rule.frequency ≡ false) had.rule (daily_in (rule_of v.value)) s.rule (daily-sound (rule_of v.value)); rdates = s.rdates }
-noted-part name.Rdate v had s = record { start = s.start; from = s.from; to = s.to; rule = s.rule; rdates = All-append IsSoundLocal had.rdates (filter_map local_in (rdates_of false v.value)) s.rdates (locals-sound (pieces 44 v.value)) }
+noted-part name.Dtstart v had s =
+    record {
+      start = first-kept IsSoundLocal had.start (onset_in (stamp_of false v.value)) s.start (onset-sound v.value);
+      from = s.from;
+      to = s.to;
+      rule = s.rule;
+      rdates = s.rdates;
+    }
+noted-part name.OffsetFrom v had s =
+    record {
+      start = s.start;
+      from = first-kept (IsWithin 86_399) had.from (offset_in (offset_of v.value)) s.from (offset-sound v.value);
+      to = s.to;
+      rule = s.rule;
+      rdates = s.rdates;
+    }
+noted-part name.OffsetTo v had s =
+    record {
+      start = s.start;
+      from = s.from;
+      to = first-kept (IsWithin 86_399) had.to (offset_in (offset_of v.value)) s.to (offset-sound v.value);
+      rule = s.rule;
+      rdates = s.rdates;
+    }
+noted-part name.Rrule v had s =
+    record {
+      start = s.start;
+      from = s.from;
+      to = s.to;
+      rule = first-kept (λ rule. is_fine rule.frequency ≡ false) had.rule (daily_in (rule_of v.value)) s.rule (daily-sound (rule_of v.value));
+      rdates = s.rdates;
+    }
+noted-part name.Rdate v had s =
+    record {
+      start = s.start;
+      from = s.from;
+      to = s.to;
+      rule = s.rule;
+      rdates = All-append IsSoundLocal had.rdates (filter_map local_in (rdates_of false v.value)) s.rdates (locals-sound (pieces 44 v.value));
+    }
 noted-part _ v had s = record { start = s.start; from = s.from; to = s.to; rule = s.rule; rdates = s.rdates }
 
 kept-zone : (n : Name) (v : Parts) (had : ZoneBuilder) → All IsSoundPhase had.observances → All IsSoundPhase (zone_note n v had).observances
@@ -271,7 +347,8 @@ joined-sound p builder.Nothing q t h k = k
 joined-sound p (builder.Observance had) q (builder.Event e) h k = k
 joined-sound p (builder.Observance had) q (builder.Observance e) h k = k
 joined-sound p (builder.Observance had) q builder.Nothing h k = k
-joined-sound context.Observance (builder.Observance had) context.Zone (builder.Zone zone) h k = All-push IsSoundPhase zone.observances (observance_ended had) k (part-sound had h)
+joined-sound context.Observance (builder.Observance had) context.Zone (builder.Zone zone) h k =
+    All-push IsSoundPhase zone.observances (observance_ended had) k (part-sound had h)
 joined-sound context.Observance (builder.Observance had) _ (builder.Zone zone) h k = absurd k
 joined-sound _ (builder.Observance had) q (builder.Zone zone) h k = absurd h
 
@@ -296,7 +373,8 @@ filled-not-empty (Some (b ∷ bs)) e = λ h. cc
 filled-not-empty (Some []) e = cc
 filled-not-empty None e = cc
 
-at-end : (f s b e : Bool) → cond (not f) (Some MissingUid) (cond (not s) (Some MissingStart) (cond (b || e) (Some BadEnd) None)) ≡ None → (f ≡ true) × (s ≡ true) × (e ≡ false)
+at-end : (f s b e : Bool) → cond (not f) (Some MissingUid) (cond (not s) (Some MissingStart) (cond (b || e) (Some BadEnd) None)) ≡ None →
+    (f ≡ true) × (s ≡ true) × (e ≡ false)
 at-end false s b e h = cc
 at-end true false b e h = cc
 at-end true true true e h = cc
@@ -309,7 +387,8 @@ whole-event k had s e =
     let times = by_times had.start had.end had.duration s.start s.end s.duration tests.1 tests.2 in
     record { named = filled-not-empty had.uid tests.0; start = times.0; length = times.1; rdates = s.rdates; exdates = s.exdates; recurrence = s.recurrence }
   where
-    by_times : (start end : Option Dated) (duration : Option Duration) → IfSome start (λ d. IsSoundStamp d.stamp) → IfSome end (λ d. IsSoundStamp d.stamp) → IfSome duration (λ d. is_lasting d ≡ true) →
+    by_times : (start end : Option Dated) (duration : Option Duration) → IfSome start (λ d. IsSoundStamp d.stamp) → IfSome end (λ d. IsSoundStamp d.stamp) →
+        IfSome duration (λ d. is_lasting d ≡ true) →
         is_some start ≡ true → ends_badly start end ≡ false → IsSoundStamp (dated_in start).stamp × IsSoundLength (dated_in start) (given_length end duration)
     by_times None end duration a b c t f = cc
     by_times (Some d) (Some e) duration a b c t f = (a, (b, f))
@@ -348,16 +427,19 @@ IsSoundEnded zone = IsSoundZone zone.observances
 
 zone-filled : (had : ZoneBuilder) → end_of_zone had ≡ None → had.observances ≢ []
 zone-filled had e none =
-    let bad : Some NoObservance ≡ None = ap (λ (os : List Phase). cond (length os == 0) (Some NoObservance) (cond (not (is_some had.name)) (Some ObservanceField) None)) (sym none) ∙ e in
+    let bad : Some NoObservance ≡ None =
+    ap (λ (os : List Phase). cond (length os == 0) (Some NoObservance) (cond (not (is_some had.name)) (Some ObservanceField) None)) (sym none) ∙ e in
     cc
 
-pub zones-sound : (n : Name) (v : Parts) (frames : List Frame) → fault_on n v frames ≡ None → AreSound frames → All (λ z. IsSoundZone z.observances) (zones_of_end (ends n frames))
+pub zones-sound : (n : Name) (v : Parts) (frames : List Frame) → fault_on n v frames ≡ None → AreSound frames →
+    All (λ z. IsSoundZone z.observances) (zones_of_end (ends n frames))
 zones-sound name.End v [] e s = All-nil IsSoundEnded
 zones-sound name.End v (f ∷ []) e s = All-nil IsSoundEnded
 zones-sound name.End v (f ∷ g ∷ gs) e s = by_builder f.context f.builder (end-none f.context _ f.builder e) s.0
   where
     by_builder : (q : Context) (s : Builder) → end_of s ≡ None → IsSoundAt q s → All IsSoundEnded (zones_of_end (ended_as f.calendar s))
-    by_builder context.Zone (builder.Zone had) e h = All-cons IsSoundEnded (zone_ended f.calendar had) [] (record { filled = zone-filled had e; sound = h }) (All-nil IsSoundEnded)
+    by_builder context.Zone (builder.Zone had) e h =
+        All-cons IsSoundEnded (zone_ended f.calendar had) [] (record { filled = zone-filled had e; sound = h }) (All-nil IsSoundEnded)
     by_builder _ (builder.Zone had) e h = absurd h
     by_builder q (builder.Observance had) e h = All-nil IsSoundEnded
     by_builder q (builder.Event had) e h = All-nil IsSoundEnded

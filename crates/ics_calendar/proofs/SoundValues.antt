@@ -26,7 +26,8 @@ use Rattle.ics_calendar.specs.Values.{stamp_in, duration_in, lasting_of, is_last
 pub stamp-range : (zoned : Bool) (text : List ℕ) (s : Stamp) → stamp_of zoned text ≡ Ok s → IsStampDay (stamp_day s)
 stamp-range zoned text s e = by_tests (is_stamp_text text) (is_stamp_year (year_of text)) refl refl e
   where
-    by_tests : (t y : Bool) → is_stamp_text text ≡ t → is_stamp_year (year_of text) ≡ y → cond (not t) (Err stamp.BadStamp) (cond (not y) (Err stamp.YearRange) (Ok (stamp_said zoned text))) ≡ Ok s → IsStampDay (stamp_day s)
+    by_tests : (t y : Bool) → is_stamp_text text ≡ t → is_stamp_year (year_of text) ≡ y →
+        cond (not t) (Err stamp.BadStamp) (cond (not y) (Err stamp.YearRange) (Ok (stamp_said zoned text))) ≡ Ok s → IsStampDay (stamp_day s)
     by_tests true true t y e =
         let years = stamp_years (year_of text) y in
         let said : stamp_said zoned text ≡ s = cc in
@@ -36,7 +37,7 @@ stamp-range zoned text s e = by_tests (is_stamp_text text) (is_stamp_year (year_
     by_tests false y t h e = cc
 
 -- WHAT A VALUE SAYS.
-day-zero : IsStampDay (pos 0)
+pub day-zero : IsStampDay (pos 0)
 day-zero = (omega (arith, ints), omega (arith, ints))
 
 pub sound-stamp : (zoned : Bool) (text : List ℕ) → IsSoundStamp (stamp_in (stamp_of zoned text))
@@ -69,7 +70,8 @@ sound-lasting text = allowed-sound (begins is_minus text) (duration_of text)
 sound-period : (zoned : Bool) (start end : List ℕ) → IsSoundValue (listed_in (period_of zoned start end))
 sound-period zoned start end = by_test (lasts end)
   where
-    by_test : (t : Bool) → IsSoundValue (listed_in (cond t (Lasting (date_time_of zoned start) (lasting_of end)) (Between (date_time_of zoned start) (date_time_of zoned end))))
+    by_test : (t : Bool) → IsSoundValue (listed_in
+        (cond t (Lasting (date_time_of zoned start) (lasting_of end)) (Between (date_time_of zoned start) (date_time_of zoned end))))
     by_test true = (sound-date_time zoned start, sound-lasting end)
     by_test false = (sound-date_time zoned start, sound-date_time zoned end)
 
@@ -80,7 +82,8 @@ sound-rdate zoned text = by_test (has_slash text)
     by_test true = sound-period zoned (first_half text) (second_half text)
     by_test false = sound-stamp zoned text
 
-sound-values : (of : List ℕ → DateValue) → ((text : List ℕ) → IsSoundValue (listed_in (of text))) → (texts : List (List ℕ)) → All IsSoundValue (map listed_in (map of texts))
+sound-values : (of : List ℕ → DateValue) → ((text : List ℕ) → IsSoundValue (listed_in (of text))) → (texts : List (List ℕ)) →
+    All IsSoundValue (map listed_in (map of texts))
 sound-values of each [] = All-nil IsSoundValue
 sound-values of each (t ∷ ts) = All-cons IsSoundValue (listed_in (of t)) (map listed_in (map of ts)) (each t) (sound-values of each ts)
 

@@ -16,7 +16,8 @@ pass-line : (line : Line) (rest : List Line) (parts : Parts) (frames : List Fram
 pass-line line rest parts frames last had c = ap (λ o. on_content line.number o frames had (λ frames had. pass frames (Some line.number) had rest)) c
 
 -- WHAT THE LOOP KEEPS, one line further.
-pub took : (line : Line) (rest lines : List Line) (parts : Parts) (old new : Progress) (last : Option ℕ) (number : ℕ) → lines ≡ line ∷ rest → number ≡ line.number → content_of line.bytes ≡ Some parts →
+pub took : (line : Line) (rest lines : List Line) (parts : Parts) (old new : Progress) (last : Option ℕ) (number : ℕ) → lines ≡ line ∷ rest →
+    number ≡ line.number → content_of line.bytes ≡ Some parts →
     IsBehind new old.gathered number (line_in number parts old.stack) → NumbersFit lines →
     (pass new.stack (Some number) new.gathered rest ≡ pass old.stack last old.gathered lines) × NumbersFit rest × (number + 1 < 2 ^ 64)
 took line rest lines parts old new last number taken same reads b fits =
@@ -31,7 +32,8 @@ took line rest lines parts old new last number taken same reads b fits =
     )
 
 -- where a fault stands, the pass ends with it
-pub refused : (line : Line) (rest lines : List Line) (parts : Parts) (frames : List Frame) (last : Option ℕ) (had : GatheredSeen) (number : ℕ) (kind : FaultKind) → lines ≡ line ∷ rest → number ≡ line.number →
+pub refused : (line : Line) (rest lines : List Line) (parts : Parts) (frames : List Frame) (last : Option ℕ) (had : GatheredSeen) (number : ℕ)
+    (kind : FaultKind) → lines ≡ line ∷ rest → number ≡ line.number →
     content_of line.bytes ≡ Some parts → line_in number parts frames ≡ Err kind → pass frames last had lines ≡ Err (record { line = number; kind = kind })
 refused line rest lines parts frames last had number kind taken same reads e =
     ap (pass frames last had) taken ∙ pass-line line rest parts frames last had reads

@@ -18,14 +18,18 @@ use Rattle.ics_calendar.specs.declared.name.Name.{Name}
 use Rattle.ics_calendar.specs.declared.name.Name.TheVariants as name
 use Rattle.ics_calendar.specs.Components.{component_of, component_name, is_outside_context, is_zone_context}
 use Rattle.ics_calendar.specs.Names.{name_of}
-use Rattle.ics_calendar.specs.Placed.{Placed, Open, context_of, value, closes, begins_observance, calendar_of, lines_in, has, has_all, is_named, first_named, first_of, all_named}
+use Rattle.ics_calendar.specs.Placed.{Placed, Open, context_of, value, closes, begins_observance, calendar_of, lines_in, has, has_all, is_named, first_named}
+use Rattle.ics_calendar.specs.Placed.{first_of, all_named}
 use Rattle.ics_calendar.specs.Values.{ok_or_zero, is_filled, ends_badly}
 use Rattle.ics_calendar.specs.Faults.{dated_on, duration_on, parts_on, first_text, first_dated, field_names, stands, kinds}
 use Rattle.ics_calendar.proofs.Built.{collected_of, zone_of, observance_of}
 use Rattle.ics_calendar.specs.Zones.{onset_on, offset_on, daily_on, phase_by, begins_phase}
 use Rattle.ics_calendar.proofs.Judged.{fault_in}
 use Rattle.ics_calendar.proofs.NameLemmas.{Tells, tells, component_name-of}
-use Rattle.ics_calendar.proofs.Rows.{Gathered, flat, bad_end_of, has_observance, has_fields, is_bare, asked-same, frame_at, flat_of, fault_of, start_flag, rule_flag, at-uid, at-dtstart, at-dtend, at-duration, at-rrule, at-recurrence_id, at-sequence, at-rdate, at-exdate, at-exrule, at-version, at-summary, at-location, at-description, at-status, at-tzid, at-offset_from, at-offset_to, at-end, at-begin, at-other}
+use Rattle.ics_calendar.proofs.Rows.{Gathered, flat, bad_end_of, has_observance, has_fields, is_bare, asked-same, frame_at, flat_of, fault_of, start_flag}
+use Rattle.ics_calendar.proofs.Rows.{rule_flag, at-uid, at-dtstart, at-dtend, at-duration, at-rrule, at-recurrence_id, at-sequence, at-rdate, at-exdate}
+use Rattle.ics_calendar.proofs.Rows.{at-exrule, at-version, at-summary, at-location, at-description, at-status, at-tzid, at-offset_from, at-offset_to, at-end}
+use Rattle.ics_calendar.proofs.Rows.{at-begin, at-other}
 
 -- what the pass keeps of a name, where it keeps anything
 abbrev flag : Name → Context → Gathered → Bool → Bool
@@ -70,7 +74,8 @@ pub has-first : {X : Type 0} (f : Placed → X) (n : List ℕ) (ls : List Placed
 has-first f n [] = refl
 has-first f n (k ∷ ks) = by_test (is_named n k) (has-first f n ks)
   where
-    by_test : (t : Bool) → is_some (option_map f (first_named n ks)) ≡ has n ks → is_some (option_map f (first_of (cond t (k ∷ all_named n ks) (all_named n ks)))) ≡ (t || has n ks)
+    by_test : (t : Bool) → is_some (option_map f (first_named n ks)) ≡ has n ks →
+        is_some (option_map f (first_of (cond t (k ∷ all_named n ks) (all_named n ks)))) ≡ (t || has n ks)
     by_test true ih = refl
     by_test false ih = ih
 
@@ -88,7 +93,8 @@ pub any-part : (whole ls : List Placed) → list_any begins_phase ls ≡ not (le
 any-part whole [] = refl
 any-part whole (l ∷ ls) = by_test (begins_phase l) (any-part whole ls)
   where
-    by_test : (t : Bool) → list_any begins_phase ls ≡ not (length (parts whole ls) == 0) → (t || list_any begins_phase ls) ≡ not (length (map (own whole) (cond t (l ∷ filter begins_phase ls) (filter begins_phase ls))) == 0)
+    by_test : (t : Bool) → list_any begins_phase ls ≡ not (length (parts whole ls) == 0) →
+        (t || list_any begins_phase ls) ≡ not (length (map (own whole) (cond t (l ∷ filter begins_phase ls) (filter begins_phase ls))) == 0)
     by_test true e = sym (some-more (length (map (own whole) (filter begins_phase ls))))
     by_test false e = e
 
@@ -104,7 +110,8 @@ rule-flag-is : (whole : List Placed) (q : Context) (k : List Open) (ls : List Pl
 rule-flag-is whole context.Observance k ls = has-first daily_on (codes "RRULE") ls
 rule-flag-is whole _ k ls = has-first parts_on (codes "RRULE") ls
 
-flag-gathered : (whole : List Placed) (n : Name) (q : Context) (k : List Open) (u : List ℕ) (ls : List Placed) → Tells u n → flag n q (gathered whole k ls) (has u ls) ≡ has u ls
+flag-gathered : (whole : List Placed) (n : Name) (q : Context) (k : List Open) (u : List ℕ) (ls : List Placed) → Tells u n →
+    flag n q (gathered whole k ls) (has u ls) ≡ has u ls
 flag-gathered whole name.Uid q k u ls e = rw e (has-first (λ line. text_of (value line)) (codes "UID") ls)
 flag-gathered whole name.Dtstart q k u ls e = rw e (start-flag-is whole q k ls)
 flag-gathered whole name.Dtend q k u ls e = rw e (has-first dated_on (codes "DTEND") ls)
@@ -136,20 +143,28 @@ abbrev pub frame_of : List Placed → List Open → List Placed → Frame
 frame_of whole path ls = frame_at (top_component path) (context_of path) (gathered whole path ls)
 
 -- what the table reads of the lines beside, as the pass keeps it
-tests-same : (whole : List Placed) (u : List ℕ) (v : Parts) (q : Context) (k : List Open) (cl deep h : Bool) (ls : List Placed) → (is_zone_context q ≡ true → list_any begins_observance ls ≡ has_observance (gathered whole k ls)) →
+tests-same : (whole : List Placed) (u : List ℕ) (v : Parts) (q : Context) (k : List Open) (cl deep h : Bool) (ls : List Placed) →
+    (is_zone_context q ≡ true → list_any begins_observance ls ≡ has_observance (gathered whole k ls)) →
     flat u (map upper v.value) v q cl deep (is_filled (first_text (codes "UID") ls)) (has (codes "DTSTART") ls)
-    ((has (codes "DTEND") ls && has (codes "DURATION") ls) || ends_badly (first_dated (codes "DTSTART") ls) (first_dated (codes "DTEND") ls)) (is_bare u q cl (list_any begins_observance ls)) (has_all (field_names q) ls) h
-    ≡ flat u (map upper v.value) v q cl deep (is_filled (collected_of ls).uid) (is_some (collected_of ls).start) (bad_end_of (collected_of ls)) (is_bare u q cl (has_observance (gathered whole k ls))) (has_fields q (gathered whole k ls)) h
+    ((has (codes "DTEND") ls && has (codes "DURATION") ls) || ends_badly (first_dated (codes "DTSTART") ls) (first_dated (codes "DTEND") ls))
+    (is_bare u q cl (list_any begins_observance ls)) (has_all (field_names q) ls) h
+    ≡ flat u (map upper v.value) v q cl deep (is_filled (collected_of ls).uid) (is_some (collected_of ls).start) (bad_end_of (collected_of ls))
+    (is_bare u q cl (has_observance (gathered whole k ls))) (has_fields q (gathered whole k ls)) h
 tests-same whole u v q k cl deep h ls asked =
     let bad : Bool = ends_badly (first_dated (codes "DTSTART") ls) (first_dated (codes "DTEND") ls) in
     let filled : Bool = is_filled (first_text (codes "UID") ls) in
     let bare : Bool = is_bare u q cl (list_any begins_observance ls) in
     let all : Bool = has_all (field_names q) ls in
-    ap (λ s. flat u (map upper v.value) v q cl deep filled s ((has (codes "DTEND") ls && has (codes "DURATION") ls) || bad) bare all h) (sym (has-first dated_on (codes "DTSTART") ls))
-    ∙ ap (λ a. flat u (map upper v.value) v q cl deep filled (is_some (collected_of ls).start) ((a && has (codes "DURATION") ls) || bad) bare all h) (sym (has-first dated_on (codes "DTEND") ls))
-    ∙ ap (λ a. flat u (map upper v.value) v q cl deep filled (is_some (collected_of ls).start) ((is_some (collected_of ls).end && a) || bad) bare all h) (sym (has-first duration_on (codes "DURATION") ls))
-    ∙ ap (λ a. flat u (map upper v.value) v q cl deep filled (is_some (collected_of ls).start) (bad_end_of (collected_of ls)) bare a h) (fields-are whole q k ls)
-    ∙ ap (λ b. flat u (map upper v.value) v q cl deep filled (is_some (collected_of ls).start) (bad_end_of (collected_of ls)) b (has_fields q (gathered whole k ls)) h)
+    ap (λ s. flat u (map upper v.value) v q cl deep filled s ((has (codes "DTEND") ls && has (codes "DURATION") ls) || bad) bare all h)
+    (sym (has-first dated_on (codes "DTSTART") ls))
+    ∙ ap (λ a. flat u (map upper v.value) v q cl deep filled (is_some (collected_of ls).start) ((a && has (codes "DURATION") ls) || bad) bare all h)
+    (sym (has-first dated_on (codes "DTEND") ls))
+    ∙ ap (λ a. flat u (map upper v.value) v q cl deep filled (is_some (collected_of ls).start) ((is_some (collected_of ls).end && a) || bad) bare all h)
+    (sym (has-first duration_on (codes "DURATION") ls))
+    ∙ ap (λ a. flat u (map upper v.value) v q cl deep filled (is_some (collected_of ls).start) (bad_end_of (collected_of ls)) bare a h)
+    (fields-are whole q k ls)
+    ∙ ap (λ b. flat u (map upper v.value) v q cl deep filled (is_some (collected_of ls).start) (bad_end_of (collected_of ls)) b
+    (has_fields q (gathered whole k ls)) h)
     (asked-same u q cl (list_any begins_observance ls) (has_observance (gathered whole k ls)) asked)
 
 -- the time zone on whose lines an END stands has an observance exactly where one has begun there
@@ -158,14 +173,17 @@ IsAsked whole path ls = is_zone_context (context_of path) ≡ true → list_any 
 
 -- THE LEAST FAULT ON A LINE, of the table and of the pass.
 pub least-same : (whole : List Placed) (path : List Open) (number : ℕ) (v : Parts) (ls : List Placed) → IsAsked whole path ls →
-    find (λ k. stands k ls (record { number = number; content = Some v; path = path })) kinds ≡ fault_in (name_of (map upper v.name)) v (frame_of whole path ls) (length path)
+    find (λ k. stands k ls (record { number = number; content = Some v; path = path })) kinds
+    ≡ fault_in (name_of (map upper v.name)) v (frame_of whole path ls) (length path)
 least-same whole [] number v ls asked =
     let u : List ℕ = map upper v.name in
     tests-same whole u v context.Outside [] false (nat_le 32 0) (has u ls) ls asked
-    ∙ same (name_of u) u v (component.Other []) context.Outside false 0 (gathered whole [] ls) (has u ls) (tells u) (flag-gathered whole (name_of u) context.Outside [] u ls (tells u)) (λ e. cc)
+    ∙ same (name_of u) u v (component.Other []) context.Outside false 0 (gathered whole [] ls) (has u ls) (tells u)
+    (flag-gathered whole (name_of u) context.Outside [] u ls (tells u)) (λ e. cc)
 least-same whole (c ∷ cs) number v ls asked =
     let u : List ℕ = map upper v.name in
     let cl : Bool = closes (c ∷ cs) (map upper v.value) in
     tests-same whole u v (context_of (c ∷ cs)) (c ∷ cs) cl (nat_le 32 (length (c ∷ cs))) (has u ls) ls asked
-    ∙ same (name_of u) u v (component_of c.name) (context_of (c ∷ cs)) cl (length (c ∷ cs)) (gathered whole (c ∷ cs) ls) (has u ls) (tells u) (flag-gathered whole (name_of u) (context_of (c ∷ cs)) (c ∷ cs) u ls (tells u))
+    ∙ same (name_of u) u v (component_of c.name) (context_of (c ∷ cs)) cl (length (c ∷ cs)) (gathered whole (c ∷ cs) ls) (has u ls) (tells u)
+    (flag-gathered whole (name_of u) (context_of (c ∷ cs)) (c ∷ cs) u ls (tells u))
     (λ e. ap (bytes_eq (map upper v.value)) (component_name-of c.name))

@@ -1,5 +1,6 @@
 -- What the pass over a file's lines says is what the file is.
-use Rattle.std.proofs.Common.{◌≡◌, ◌⊎◌, ℕ, ◌+◌, ◌<◌, ◌^◌, Bool, true, false, List, [], ◌∷◌, refl, sym, ap, ◌∙◌, arith, cond, Option, Some, None, Result, Ok, Err, inl, inr}
+use Rattle.std.proofs.Common.{◌≡◌, ◌⊎◌, ℕ, ◌+◌, ◌<◌, ◌^◌, Bool, true, false, List, [], ◌∷◌, refl, sym, ap, ◌∙◌, arith, cond, Option, Some, None, Result, Ok}
+use Rattle.std.proofs.Common.{Err, inl, inr}
 use Rattle.std.specs.Prelude.{IsTrue}
 use Rattle.ics_text.specs.Unfolded.{Line, Rises, Within, unfolded, begins_with_fold}
 use Rattle.ics_calendar.specs.Event.{FileSaid}
@@ -19,13 +20,15 @@ pub fits-from_within : (n : ℕ) (lines : List Line) → n + 1 < 2 ^ 64 → With
 fits-from_within n [] l h = tt
 fits-from_within n (line ∷ lines) l h = (omega (arith, l, h.0), fits-from_within n lines l h.1)
 
-pub file_of-pass : (file : List ℕ) → begins_with_fold file ≡ false → Rises 0 (unfolded file) → file_of file ≡ settled_of (pass (bottom ∷ []) None nothing_gathered (unfolded file))
+pub file_of-pass : (file : List ℕ) → begins_with_fold file ≡ false → Rises 0 (unfolded file) →
+    file_of file ≡ settled_of (pass (bottom ∷ []) None nothing_gathered (unfolded file))
 file_of-pass file f r =
     ap (λ t. cond t (Err bad_fold) (decide (first_fault (placed file)) (later_fault (placed file)) (said_of (placed file)))) f
     ∙ by_first (first_fault (placed file)) refl
     ∙ ap settled_of (sym (pass-whole (unfolded file) r))
   where
-    by_first : (o : Option Fault) → first_fault (placed file) ≡ o → decide o (later_fault (placed file)) (said_of (placed file)) ≡ settled_of (unless o (gathered_from (placed file) nothing_gathered [] (placed file)))
+    by_first : (o : Option Fault) → first_fault (placed file) ≡ o →
+        decide o (later_fault (placed file)) (said_of (placed file)) ≡ settled_of (unless o (gathered_from (placed file) nothing_gathered [] (placed file)))
     by_first (Some fault) e = refl
     by_first None e = sym (settled-is (unfolded file) r e)
 
@@ -37,7 +40,8 @@ abbrev none_later : List Placed → Option Fault
 none_later before = None
 
 -- WHAT A FILE IS, by its first faults.
-decided : (file : List ℕ) → begins_with_fold file ≡ false → (first later : Option Fault) → first_fault (placed file) ≡ first → later_fault (placed file) ≡ later →
+decided : (file : List ℕ) → begins_with_fold file ≡ false → (first later : Option Fault) → first_fault (placed file) ≡ first →
+    later_fault (placed file) ≡ later →
     IsFile file (decide first later (said_of (placed file)))
 decided file b (Some f) later e g = inr (b, inl (finds stands fault_at_end [] (placed file) f e))
 decided file b None (Some f) e g =
@@ -54,7 +58,8 @@ decided file b None None e g =
 pub is-file : (file : List ℕ) → IsFile file (file_of file)
 is-file file = by_fold (begins_with_fold file) refl
   where
-    by_fold : (t : Bool) → begins_with_fold file ≡ t → IsFile file (cond t (Err bad_fold) (decide (first_fault (placed file)) (later_fault (placed file)) (said_of (placed file))))
+    by_fold : (t : Bool) → begins_with_fold file ≡ t →
+        IsFile file (cond t (Err bad_fold) (decide (first_fault (placed file)) (later_fault (placed file)) (said_of (placed file))))
     by_fold true e = inl (e, refl)
     by_fold false e = decided file e (first_fault (placed file)) (later_fault (placed file)) refl refl
 
@@ -62,7 +67,8 @@ first-is : (file : List ℕ) (f : Fault) → IsFirstOrLast (placed file) f → f
 first-is file f (inl r) = found-on-line stands fault_at_end [] (placed file) f r
 first-is file f (inr r) = found-at-end stands fault_at_end [] (placed file) (Some f) r.0 r.1
 
-whole-is : (file : List ℕ) (first later : Option Fault) → begins_with_fold file ≡ false → first_fault (placed file) ≡ first → later_fault (placed file) ≡ later → file_of file ≡ decide first later (said_of (placed file))
+whole-is : (file : List ℕ) (first later : Option Fault) → begins_with_fold file ≡ false → first_fault (placed file) ≡ first →
+    later_fault (placed file) ≡ later → file_of file ≡ decide first later (said_of (placed file))
 whole-is file first later b e g =
     ap (λ t. cond t (Err bad_fold) (decide (first_fault (placed file)) (later_fault (placed file)) (said_of (placed file)))) b
     ∙ ap (λ f. decide f (later_fault (placed file)) (said_of (placed file))) e
@@ -70,12 +76,19 @@ whole-is file first later b e g =
 
 -- and it is nothing else
 pub file-is : (file : List ℕ) (answer : Result FileSaid Fault) → IsFile file answer → file_of file ≡ answer
-file-is file (Err f) (inl h) = ap (λ t. cond t (Err bad_fold) (decide (first_fault (placed file)) (later_fault (placed file)) (said_of (placed file)))) h.0 ∙ ap (λ (g : Fault). Err g) (sym h.1)
+file-is file (Err f) (inl h) =
+    ap (λ t. cond t (Err bad_fold) (decide (first_fault (placed file)) (later_fault (placed file)) (said_of (placed file)))) h.0
+    ∙ ap (λ (g : Fault). Err g) (sym h.1)
 file-is file (Err f) (inr h) = by_round h.1
   where
-    by_round : IsFirstOrLast (placed file) f ⊎ (NoneStand stands [] (placed file) × (fault_at_end (placed file) ≡ None) × IsFirst (stands_later (zones_on (placed file))) [] (placed file) f) → file_of file ≡ Err f
+    by_round : IsFirstOrLast (placed file) f
+        ⊎ (NoneStand stands [] (placed file) × (fault_at_end (placed file) ≡ None) × IsFirst (stands_later (zones_on (placed file))) [] (placed file) f) →
+        file_of file ≡ Err f
     by_round (inl r) = whole-is file (Some f) (later_fault (placed file)) h.0 (first-is file f r) refl
-    by_round (inr r) = whole-is file None (Some f) h.0 (found-at-end stands fault_at_end [] (placed file) None r.0 r.1) (found-on-line (stands_later (zones_on (placed file))) none_later [] (placed file) f r.2)
+    by_round (inr r) =
+        whole-is file None (Some f) h.0 (found-at-end stands fault_at_end [] (placed file) None r.0 r.1)
+        (found-on-line (stands_later (zones_on (placed file))) none_later [] (placed file) f r.2)
 file-is file (Ok seen) h =
-    whole-is file None None h.0 (found-at-end stands fault_at_end [] (placed file) None h.1 h.2) (found-at-end (stands_later (zones_on (placed file))) none_later [] (placed file) None h.3 refl)
+    whole-is file None None h.0 (found-at-end stands fault_at_end [] (placed file) None h.1 h.2)
+    (found-at-end (stands_later (zones_on (placed file))) none_later [] (placed file) None h.3 refl)
     ∙ ap (λ (s : FileSaid). Ok s) (sym h.4)

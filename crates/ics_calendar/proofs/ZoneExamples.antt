@@ -2,7 +2,8 @@
 use Rattle.std.proofs.Common.{◌≡◌, ℕ, List, [], ◌∷◌, ◌++◌, refl, None}
 use Rattle.std.specs.Prelude.{codes}
 use Rattle.ics_values.specs.Rules.{rule_of}
-use Rattle.ics_calendar.specs.declared.fault.FaultKind.TheVariants.{BadDuration, BadNesting, BadOffset, BadRule, BadStamp, NoObservance, NumberTooLarge, ObservanceField, UnknownZone, YearRange, ZoneRule}
+use Rattle.ics_calendar.specs.declared.fault.FaultKind.TheVariants.{BadDuration, BadNesting, BadOffset, BadRule, BadStamp, NoObservance, NumberTooLarge}
+use Rattle.ics_calendar.specs.declared.fault.FaultKind.TheVariants.{ObservanceField, UnknownZone, YearRange, ZoneRule}
 use Rattle.ics_calendar.proofs.ExampleFiles.{calendar, fault, at}
 
 abbrev zone : List (List ℕ) → List ℕ
@@ -97,8 +98,10 @@ bad_rule = refl
 abbrev new_york : List (List ℕ)
 new_york =
     codes "BEGIN:VTIMEZONE" ∷ codes "TZID:NY"
-    ∷ codes "BEGIN:STANDARD" ∷ codes "DTSTART:20071104T020000" ∷ codes "TZOFFSETFROM:-0400" ∷ codes "TZOFFSETTO:-0500" ∷ codes "RRULE:FREQ=YEARLY;BYMONTH=11;BYDAY=1SU" ∷ codes "END:STANDARD"
-    ∷ codes "BEGIN:DAYLIGHT" ∷ codes "DTSTART:20070311T020000" ∷ codes "TZOFFSETFROM:-0500" ∷ codes "TZOFFSETTO:-0400" ∷ codes "RRULE:FREQ=YEARLY;BYMONTH=3;BYDAY=2SU" ∷ codes "END:DAYLIGHT"
+    ∷ codes "BEGIN:STANDARD" ∷ codes "DTSTART:20071104T020000" ∷ codes "TZOFFSETFROM:-0400" ∷ codes "TZOFFSETTO:-0500"
+    ∷ codes "RRULE:FREQ=YEARLY;BYMONTH=11;BYDAY=1SU" ∷ codes "END:STANDARD"
+    ∷ codes "BEGIN:DAYLIGHT" ∷ codes "DTSTART:20070311T020000" ∷ codes "TZOFFSETFROM:-0500" ∷ codes "TZOFFSETTO:-0400"
+    ∷ codes "RRULE:FREQ=YEARLY;BYMONTH=3;BYDAY=2SU" ∷ codes "END:DAYLIGHT"
     ∷ codes "END:VTIMEZONE" ∷ []
 
 accepted : fault (calendar new_york) ≡ None

@@ -28,16 +28,20 @@ use Rattle.ics_calendar.proofs.Order.{Sort, open_as, inside, begun, IsSort}
 use Rattle.ics_calendar.proofs.Table.{parts}
 
 -- an END adds nothing to its zone
-zone-end : (whole ls : List Placed) (l : Placed) → name_of (property_name l.content) ≡ name.End → zone_of (parts whole (ls ++ l ∷ [])) (ls ++ l ∷ []) ≡ zone_of (parts whole ls) ls
+zone-end : (whole ls : List Placed) (l : Placed) → name_of (property_name l.content) ≡ name.End →
+    zone_of (parts whole (ls ++ l ∷ [])) (ls ++ l ∷ []) ≡ zone_of (parts whole ls) ls
 zone-end whole ls l e =
-    let not_begin : is_begin l ≡ false = begin-is (property_name l.content) (name_of (property_name l.content)) (tells (property_name l.content)) ∙ ap is_begin_name e in
-    ap (λ os. zone_of os (ls ++ l ∷ [])) (parts-same whole ls l not_begin) ∙ zone_of-more (parts whole ls) ls l ∙ ap (λ n. zone_note n (parts_at l) (zone_of (parts whole ls) ls)) e
+    let not_begin : is_begin l ≡ false =
+    begin-is (property_name l.content) (name_of (property_name l.content)) (tells (property_name l.content)) ∙ ap is_begin_name e in
+    ap (λ os. zone_of os (ls ++ l ∷ [])) (parts-same whole ls l not_begin) ∙ zone_of-more (parts whole ls) ls l
+    ∙ ap (λ n. zone_note n (parts_at l) (zone_of (parts whole ls) ls)) e
 
 -- a time zone begins exactly on a VTIMEZONE in a calendar
 zone-begins : (q : Context) (w : List ℕ) → is_zone_context (context_in q (component_of w)) ≡ (is_calendar_context q && bytes_eq w (codes "VTIMEZONE"))
 zone-begins q w = by_context q (component_of w) (tells_component w)
   where
-    by_context : (q : Context) (c : Component) → TellsComponent w c → is_zone_context (context_in q c) ≡ (is_calendar_context q && bytes_eq w (codes "VTIMEZONE"))
+    by_context : (q : Context) (c : Component) → TellsComponent w c →
+        is_zone_context (context_in q c) ≡ (is_calendar_context q && bytes_eq w (codes "VTIMEZONE"))
     by_context context.Outside component.Calendar e = refl
     by_context context.Outside _ e = refl
     by_context context.Calendar (component.Other n) e = sym e.0.no_zone
@@ -60,7 +64,8 @@ module _ {X : Type 0} (s : Sort X) (out : (q : Context) → is_calendar_context 
   calendar-holds : (whole : List Placed) (path : List Open) → is_calendar_context (context_of path) ≡ true → open_as s whole path ≡ []
   calendar-holds whole [] e = refl
   calendar-holds whole (c ∷ []) e = rw (out (context_of (c ∷ [])) e) refl
-  calendar-holds whole (c ∷ d ∷ ds) e = absurd (context-in-outside (context_of ds) (component_of d.name) (calendar-from (context_of (d ∷ ds)) (component_of c.name) e))
+  calendar-holds whole (c ∷ d ∷ ds) e =
+      absurd (context-in-outside (context_of ds) (component_of d.name) (calendar-from (context_of (d ∷ ds)) (component_of c.name) e))
 
 calendar-no-zone : (q : Context) → is_calendar_context q ≡ true → is_zone_context q ≡ false
 calendar-no-zone context.Calendar e = refl
@@ -69,7 +74,9 @@ calendar-no-zone _ e = refl
 
 pub zones-are : (whole : List Placed) → IsSort (zones whole)
 zones-are whole = record {
-  starts = λ l. reorder (is_calendar_context (context_of l.path)) (is_begin l) (bytes_eq (component l) (codes "VTIMEZONE")) ∙ ap (λ t. is_begin l && t) (sym (zone-begins (context_of l.path) (component l)));
+  starts =
+      λ l. reorder (is_calendar_context (context_of l.path)) (is_begin l) (bytes_eq (component l) (codes "VTIMEZONE"))
+      ∙ ap (λ t. is_begin l && t) (sym (zone-begins (context_of l.path) (component l)));
   alone = λ all l e. calendar-holds (zones whole) calendar-no-zone all l.path (zone-from (context_of l.path) (component_of (component l)) e);
   ends = λ path ls l e. ap (zone_ended (calendar_of path)) (zone-end whole ls l e);
 }
@@ -82,13 +89,15 @@ zones-are whole = record {
 
 -- THE TIME ZONES, by what is gathered.
 pub zones-begun : (whole ls : List Placed) → map (λ z. z.observances) (begun (zones whole) whole ls) ≡ map (λ l. zone_by whole l.number) (filter begins_zone ls)
-zones-begun whole ls = map-map (λ (z : EndedZone). z.observances) (λ (l : Placed). (zones whole).by (inside l) (lines_in l.number whole)) (filter begins_zone ls)
+zones-begun whole ls =
+    map-map (λ (z : EndedZone). z.observances) (λ (l : Placed). (zones whole).by (inside l) (lines_in l.number whole)) (filter begins_zone ls)
 
 -- what begins directly in a calendar belongs to that
 pub calendar-inside : (l : Placed) → is_calendar_context (context_of l.path) ≡ true → calendar_of (inside l) ≡ calendar_of l.path
 calendar-inside l = by_path l.path
   where
-    by_path : (path : List Open) → is_calendar_context (context_of path) ≡ true → calendar_of (record { name = component l; begun = l.number } ∷ path) ≡ calendar_of path
+    by_path : (path : List Open) → is_calendar_context (context_of path) ≡ true →
+        calendar_of (record { name = component l; begun = l.number } ∷ path) ≡ calendar_of path
     by_path [] e = cc
     by_path (c ∷ cs) e = refl
 
@@ -97,9 +106,11 @@ pub names-begun : (whole ls : List Placed) → map (name_by whole) (filter begin
 names-begun whole [] = refl
 names-begun whole (l ∷ ls) = by_test (names-begun whole ls) (is_calendar_context (context_of l.path)) refl (begins (codes "VTIMEZONE") l)
   where
-    by_test : map (name_by whole) (filter begins_zone ls) ≡ map (λ z. z.name) (begun (zones whole) whole ls) → (q : Bool) → is_calendar_context (context_of l.path) ≡ q → (t : Bool) →
+    by_test : map (name_by whole) (filter begins_zone ls) ≡ map (λ z. z.name) (begun (zones whole) whole ls) → (q : Bool) →
+        is_calendar_context (context_of l.path) ≡ q → (t : Bool) →
         map (name_by whole) (cond (q && t) (l ∷ filter begins_zone ls) (filter begins_zone ls))
-        ≡ map (λ z. z.name) (map (λ l. (zones whole).by (inside l) (lines_in l.number whole)) (cond (q && t) (l ∷ filter begins_zone ls) (filter begins_zone ls)))
+        ≡ map (λ z. z.name) (map (λ l. (zones whole).by (inside l) (lines_in l.number whole))
+        (cond (q && t) (l ∷ filter begins_zone ls) (filter begins_zone ls)))
     by_test rest true e true =
         let name : ℕ → ZoneName = λ k. record { calendar = k; name = unwrap_or (first_text (codes "TZID") (lines_in l.number whole)) [] } in
         ap (λ xs. name (calendar_of l.path) ∷ xs) rest ∙ ap (λ k. name k ∷ map (λ z. z.name) (begun (zones whole) whole ls)) (sym (calendar-inside l e))

@@ -8,7 +8,8 @@ use Rattle.ics_calendar.specs.Zones.{zones_of, zone_names}
 use Rattle.ics_calendar.proofs.ExampleFiles.{calendar}
 
 abbrev part : List ℕ → List (List ℕ) → List (List ℕ)
-part from more = codes "BEGIN:STANDARD" ∷ codes "DTSTART:20240105T100000" ∷ (codes "TZOFFSETFROM:" ++ from) ∷ codes "TZOFFSETTO:-0500" ∷ more ++ codes "END:STANDARD" ∷ []
+part from more =
+    codes "BEGIN:STANDARD" ∷ codes "DTSTART:20240105T100000" ∷ (codes "TZOFFSETFROM:" ++ from) ∷ codes "TZOFFSETTO:-0500" ∷ more ++ codes "END:STANDARD" ∷ []
 
 abbrev zone : List ℕ → List (List ℕ) → List (List ℕ)
 zone name parts = codes "BEGIN:VTIMEZONE" ∷ (codes "TZID:" ++ name) ∷ parts ++ codes "END:VTIMEZONE" ∷ []
@@ -16,7 +17,8 @@ zone name parts = codes "BEGIN:VTIMEZONE" ∷ (codes "TZID:" ++ name) ∷ parts 
 -- two calendars: zones A and B and again A in the first, A in the second
 abbrev file : List ℕ
 file =
-    calendar (zone (codes "A") (part (codes "-0400") (codes "RDATE:20240106T100000,20240107T100000" ∷ codes "RDATE:20240108T100000" ∷ []) ++ part (codes "-0300") [])
+    calendar (zone (codes "A") (part (codes "-0400") (codes "RDATE:20240106T100000,20240107T100000" ∷ codes "RDATE:20240108T100000" ∷ [])
+    ++ part (codes "-0300") [])
     ++ zone (codes "B") (part (codes "+0100") []) ++ zone (codes "A") (part (codes "+0200") []))
     ++ calendar (zone (codes "A") (part (codes "+0300") []))
 

@@ -20,7 +20,8 @@ both-equal Greater b = refl
 ties : (name used : ZoneName) → is_eq (name_cmp name used) ≡ is_same used name
 ties name used =
     both-equal (nat_cmp name.calendar used.calendar) (slice_cmp nat_cmp name.name used.name)
-    ∙ (ap (λ t. t && is_eq (slice_cmp nat_cmp name.name used.name)) (sym (unsigned_ties name.calendar used.calendar) ∙ nat_eq_equiv.symm name.calendar used.calendar)
+    ∙ (ap (λ t. t && is_eq (slice_cmp nat_cmp name.name used.name))
+    (sym (unsigned_ties name.calendar used.calendar) ∙ nat_eq_equiv.symm name.calendar used.calendar)
     ∙ ap (λ t. (used.calendar == name.calendar) && t) (sym (texts_ties name.name used.name) ∙ nat_list_eq_equiv.symm name.name used.name))
 
 -- no zone is to come

@@ -17,7 +17,22 @@ use Rattle.ics_calendar.specs.Event.{EventSeen}
 use Rattle.ics_calendar.specs.Times.{time_on, dated_in, given_length, length_of}
 
 abbrev pub nothing : EventBuilder
-nothing = record { uid = None; start = None; end = None; duration = None; rule = None; rdates = []; exdates = []; recurrence = None; sequence = None; title = None; location = None; description = None; cancelled = None }
+nothing =
+    record {
+      uid = None;
+      start = None;
+      end = None;
+      duration = None;
+      rule = None;
+      rdates = [];
+      exdates = [];
+      recurrence = None;
+      sequence = None;
+      title = None;
+      location = None;
+      description = None;
+      cancelled = None;
+    }
 
 -- the event of a calendar that ends with what is collected; an accepted file has the fields that are asked for
 abbrev pub event_ended : ℕ → EventBuilder → EndedEvent

@@ -24,7 +24,8 @@ component_name component.Standard = codes "STANDARD"
 component_name component.Daylight = codes "DAYLIGHT"
 component_name (component.Other name) = name
 
--- Where the lines of a component stand, by where its BEGIN line stands. A calendar stands outside all components, an event or a time zone in a calendar, and an observance in a time zone. No line of any other component is read.
+-- Where the lines of a component stand, by where its BEGIN line stands. A calendar stands outside all components, an
+-- event or a time zone in a calendar, and an observance in a time zone. No line of any other component is read.
 abbrev pub context_in : Context → Component → Context
 context_in context.Outside component.Calendar = context.Calendar
 context_in context.Calendar component.Event = context.Event

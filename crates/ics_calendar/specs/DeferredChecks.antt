@@ -68,7 +68,8 @@ are_of_one_zone a b = is_zoned a.stamp && (is_zoned b.stamp && same_zone a b)
 
 -- Which ends are out of reach of their starts as instants.
 abbrev pub ends_badly_later : KnownZones → ℕ → Option Dated → Option Dated → Bool
-ends_badly_later known calendar (Some start) (Some end) = not (are_of_one_zone start end) && are_out (moment_in known calendar start) (moment_in known calendar end)
+ends_badly_later known calendar (Some start) (Some end) =
+    not (are_of_one_zone start end) && are_out (moment_in known calendar start) (moment_in known calendar end)
 ends_badly_later known calendar _ _ = false
 
 -- WHAT BECOMES of what the second round looks at.

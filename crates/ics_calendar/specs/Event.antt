@@ -1,5 +1,6 @@
 -- An event of a file, as contracts see it, and what holds of each (RFC 5545, section 3.6.1).
-use Rattle.std.specs.Prelude.{◌≡◌, ◌≢◌, ℕ, ◌+◌, ◌*◌, ◌<◌, ◌≤◌, ◌==◌, Bool, true, false, IsTrue, List, [], map, Option, Some, None, is_some, ◌||◌, length, slice_get, IfSome, All, ℤ, pos, ◌≤ℤ◌, ◌+ℤ◌, ◌*ℤ◌}
+use Rattle.std.specs.Prelude.{◌≡◌, ◌≢◌, ℕ, ◌+◌, ◌*◌, ◌<◌, ◌≤◌, ◌==◌, Bool, true, false, IsTrue, List, [], map, Option, Some, None, is_some, ◌||◌, length}
+use Rattle.std.specs.Prelude.{slice_get, IfSome, All, ℤ, pos, ◌≤ℤ◌, ◌+ℤ◌, ◌*ℤ◌}
 use Rattle.ics_values.specs.RuleParts.{RuleParts}
 use Rattle.ics_values.specs.Stamps.{stamp_day, IsStampDay}
 use Rattle.ics_values.specs.declared.local.Local.{Local}

@@ -1,5 +1,6 @@
 -- WHICH FAULT STANDS ON WHICH LINE: one case for each kind (RFC 5545, sections 3.1, 3.4, 3.6.1, 3.6.5 and 3.8).
-use Rattle.std.specs.Prelude.{ℕ, Bool, false, ◌&&◌, ◌||◌, not, nat_le, List, [], ◌∷◌, map, length, codes, Option, is_some, is_none, option_map, Result, if◌then◌else◌}
+use Rattle.std.specs.Prelude.{ℕ, Bool, false, ◌&&◌, ◌||◌, not, nat_le, List, [], ◌∷◌, map, length, codes, Option, is_some, is_none, option_map, Result}
+use Rattle.std.specs.Prelude.{if◌then◌else◌}
 use Rattle.std.specs.List.{list_any}
 use Rattle.std.specs.Str.{bytes_eq}
 use Rattle.ics_values.specs.Integers.{integer_of}
@@ -20,13 +21,19 @@ use Rattle.ics_calendar.specs.declared.date_values.DateValue.{DateValue}
 use Rattle.ics_calendar.specs.declared.date_values.DateValue.TheVariants.{At}
 use Rattle.ics_calendar.specs.declared.dated.Dated.{Dated}
 use Rattle.ics_calendar.specs.declared.fault.FaultKind.{FaultKind}
-use Rattle.ics_calendar.specs.declared.fault.FaultKind.TheVariants.{BadLine, BadStamp, BadDuration, BadOffset, BadRule, YearRange, NumberTooLarge, NoObservance, ObservanceField, ZoneRule, NotCalendar, BadNesting, TooDeep, MissingUid, MissingStart, Repeated, BadEnd, UnknownZone, ThisAndFuture, Exrule, OldVersion}
-use Rattle.ics_calendar.specs.Placed.{Placed, context_of, property_name, value, params_of, is_named, is_one_of, param, is_begin, is_end, is_outside, in_calendar, in_event, in_observance, calendar_of, begins, is_closing, ends_event, ends_zone, begins_observance, has, has_all, first_named}
+use Rattle.ics_calendar.specs.declared.fault.FaultKind.TheVariants.{BadLine, BadStamp, BadDuration, BadOffset, BadRule, YearRange, NumberTooLarge, NoObservance}
+use Rattle.ics_calendar.specs.declared.fault.FaultKind.TheVariants.{ObservanceField, ZoneRule, NotCalendar, BadNesting, TooDeep, MissingUid, MissingStart}
+use Rattle.ics_calendar.specs.declared.fault.FaultKind.TheVariants.{Repeated, BadEnd, UnknownZone, ThisAndFuture, Exrule, OldVersion}
+use Rattle.ics_calendar.specs.Placed.{Placed, context_of, property_name, value, params_of, is_named, is_one_of, param, is_begin, is_end, is_outside}
+use Rattle.ics_calendar.specs.Placed.{in_calendar, in_event, in_observance, calendar_of, begins, is_closing, ends_event, ends_zone, begins_observance, has}
+use Rattle.ics_calendar.specs.Placed.{has_all, first_named}
 use Rattle.ics_calendar.specs.DeferredChecks.{KnownZones, zone_named, ends_badly_later}
 use Rattle.ics_calendar.specs.DateLists.{rdate_list, exdate_list}
 use Rattle.ics_calendar.specs.Event.{is_zoned}
-use Rattle.ics_calendar.specs.DateValues.{rdates_of, exdates_of, listed_in, has_bad_stamp, has_far_stamp, has_bad_duration, has_large_duration, has_zoned, is_not_local}
-use Rattle.ics_calendar.specs.Values.{zone_name, stamp_read, duration_in, rule_in, dated_of, is_bad_stamp, is_far_stamp, lasting_of, is_bad_duration, is_large_duration, is_bad_offset, is_bad_rule, is_large_rule, is_fine_rule, is_large_integer, is_filled, ends_badly}
+use Rattle.ics_calendar.specs.DateValues.{rdates_of, exdates_of, listed_in, has_bad_stamp, has_far_stamp, has_bad_duration, has_large_duration, has_zoned}
+use Rattle.ics_calendar.specs.DateValues.{is_not_local}
+use Rattle.ics_calendar.specs.Values.{zone_name, stamp_read, duration_in, rule_in, dated_of, is_bad_stamp, is_far_stamp, lasting_of, is_bad_duration}
+use Rattle.ics_calendar.specs.Values.{is_large_duration, is_bad_offset, is_bad_rule, is_large_rule, is_fine_rule, is_large_integer, is_filled, ends_badly}
 
 -- the properties of an event that hold one stamp, and those that it has at most once
 abbrev pub stamp_names : List (List ℕ)
@@ -115,11 +122,14 @@ first_dated name lines = option_map dated_on (first_named name lines)
 -- THE FIRST ROUND. Does this fault stand on the line? The lines beside it are those before it that stand directly in the same component.
 abbrev pub stands : FaultKind → List Placed → Placed → Bool
 stands BadLine beside line = is_none line.content
-stands BadStamp beside line = has_onset has_bad_stamp line || has_date has_bad_stamp line || (is_event_property stamp_names line && is_bad_stamp (stamp_on line))
-stands BadDuration beside line = has_onset has_bad_duration line || has_date has_bad_duration line || (is_property (codes "DURATION") line && is_bad_duration (lasting_on line))
+stands BadStamp beside line =
+    has_onset has_bad_stamp line || has_date has_bad_stamp line || (is_event_property stamp_names line && is_bad_stamp (stamp_on line))
+stands BadDuration beside line =
+    has_onset has_bad_duration line || has_date has_bad_duration line || (is_property (codes "DURATION") line && is_bad_duration (lasting_on line))
 stands BadOffset beside line = in_observance line && is_one_of offset_names line && is_bad_offset (offset_of (value line))
 stands BadRule beside line = is_rule line && is_bad_rule (rule_on line)
-stands YearRange beside line = has_onset has_far_stamp line || has_date has_far_stamp line || (is_event_property stamp_names line && is_far_stamp (stamp_on line))
+stands YearRange beside line =
+    has_onset has_far_stamp line || has_date has_far_stamp line || (is_event_property stamp_names line && is_far_stamp (stamp_on line))
 stands NumberTooLarge beside line =
     has_onset has_large_duration line
     || has_date has_large_duration line
@@ -149,18 +159,21 @@ stands _ beside line = false
 
 -- a property of an event with a stamp in a time zone, and whether its calendar has one of the name in its TZID
 abbrev pub is_in_zone : Placed → Bool
-is_in_zone line = (in_event line && list_any has_zoned (map listed_in (dates_on line))) || (is_event_property stamp_names line && is_zoned (dated_on line).stamp)
+is_in_zone line =
+    (in_event line && list_any has_zoned (map listed_in (dates_on line))) || (is_event_property stamp_names line && is_zoned (dated_on line).stamp)
 
 abbrev pub has_zone : KnownZones → Placed → Bool
 has_zone known line = is_some (known.index (zone_named (calendar_of line.path) (zone_name (params_of line.content))))
 
 -- THE SECOND ROUND, of zones and instants, given the time zones of the file.
 abbrev pub stands_later : KnownZones → FaultKind → List Placed → Placed → Bool
-stands_later known BadEnd beside line = ends_event line && ends_badly_later known (calendar_of line.path) (first_dated (codes "DTSTART") beside) (first_dated (codes "DTEND") beside)
+stands_later known BadEnd beside line =
+    ends_event line && ends_badly_later known (calendar_of line.path) (first_dated (codes "DTSTART") beside) (first_dated (codes "DTEND") beside)
 stands_later known UnknownZone beside line = is_in_zone line && not (has_zone known line)
 stands_later known _ beside line = false
 
 -- the kinds of faults on lines, the least first
 abbrev pub kinds : List FaultKind
 kinds =
-    BadLine ∷ BadStamp ∷ BadDuration ∷ BadOffset ∷ BadRule ∷ YearRange ∷ NumberTooLarge ∷ NoObservance ∷ ObservanceField ∷ ZoneRule ∷ NotCalendar ∷ BadNesting ∷ TooDeep ∷ MissingUid ∷ MissingStart ∷ Repeated ∷ BadEnd ∷ UnknownZone ∷ ThisAndFuture ∷ Exrule ∷ OldVersion ∷ []
+    BadLine ∷ BadStamp ∷ BadDuration ∷ BadOffset ∷ BadRule ∷ YearRange ∷ NumberTooLarge ∷ NoObservance ∷ ObservanceField ∷ ZoneRule ∷ NotCalendar ∷ BadNesting
+    ∷ TooDeep ∷ MissingUid ∷ MissingStart ∷ Repeated ∷ BadEnd ∷ UnknownZone ∷ ThisAndFuture ∷ Exrule ∷ OldVersion ∷ []

@@ -1,5 +1,6 @@
 -- WHAT A FILE IS: its time zones and its events, or its first fault.
-use Rattle.std.specs.Prelude.{◌≡◌, ◌⊎◌, ℕ, Bool, false, IsTrue, List, [], filter, map, codes, unwrap_or, Option, Some, None, option_map, Result, Ok, Err, ◌&&◌, if◌then◌else◌}
+use Rattle.std.specs.Prelude.{◌≡◌, ◌⊎◌, ℕ, Bool, false, IsTrue, List, [], filter, map, codes, unwrap_or, Option, Some, None, option_map, Result, Ok, Err, ◌&&◌}
+use Rattle.std.specs.Prelude.{if◌then◌else◌}
 use Rattle.ics_text.specs.Unfolded.{begins_with_fold}
 use Rattle.ics_values.specs.Integers.{integer_of}
 use Rattle.ics_calendar.specs.declared.fault.FaultKind.TheVariants.{BadFold}
@@ -53,7 +54,8 @@ IsFile file (Err fault) =
     ⊎ ((begins_with_fold file ≡ false) × (IsFirstOrLast (placed file) fault
     ⊎ (NoneStand stands [] (placed file) × (fault_at_end (placed file) ≡ None) × IsFirst (stands_later (zones_on (placed file))) [] (placed file) fault)))
 IsFile file (Ok seen) =
-    (begins_with_fold file ≡ false) × NoneStand stands [] (placed file) × (fault_at_end (placed file) ≡ None) × NoneStand (stands_later (zones_on (placed file))) [] (placed file)
+    (begins_with_fold file ≡ false) × NoneStand stands [] (placed file) × (fault_at_end (placed file) ≡ None)
+    × NoneStand (stands_later (zones_on (placed file))) [] (placed file)
     × (seen ≡ said_of (placed file))
 
 -- the first fault of round one, or else that of round two, or else what the file says

@@ -1,5 +1,6 @@
 -- What a line makes of the components that are open, or the fault on it, which is the least that stands there.
-use Rattle.std.specs.Prelude.{ℕ, Bool, false, ◌&&◌, ◌||◌, not, ◌==◌, nat_le, List, [], ◌∷◌, ◌++◌, length, map, filter_map, codes, Option, Some, None, is_some, Result, Ok, Err, ℤ, ◌≡◌, if◌then◌else◌}
+use Rattle.std.specs.Prelude.{ℕ, Bool, false, ◌&&◌, ◌||◌, not, ◌==◌, nat_le, List, [], ◌∷◌, ◌++◌, length, map, filter_map, codes, Option, Some, None, is_some}
+use Rattle.std.specs.Prelude.{Result, Ok, Err, ℤ, ◌≡◌, if◌then◌else◌}
 use Rattle.std.specs.List.{list_any}
 use Rattle.std.specs.Str.{bytes_eq}
 use Rattle.ics_text.specs.Bytes.{upper}
@@ -61,7 +62,8 @@ use Rattle.ics_calendar.specs.DateValues.{rdates_of, exdates_of, has_bad_stamp, 
 use Rattle.ics_calendar.specs.Event.{seconds_of, is_zoned}
 use Rattle.ics_calendar.specs.DeferredChecks.{zone_used, are_of_one_zone}
 use Rattle.ics_calendar.specs.Names.{name_of}
-use Rattle.ics_calendar.specs.Values.{zone_name, stamp_read, dated_of, lasting_of, duration_in, rule_in, ok_or_zero, is_cancelled, is_fine_rule, is_filled, is_out, ends_badly}
+use Rattle.ics_calendar.specs.Values.{zone_name, stamp_read, dated_of, lasting_of, duration_in, rule_in, ok_or_zero, is_cancelled, is_fine_rule, is_filled}
+use Rattle.ics_calendar.specs.Values.{is_out, ends_badly}
 use Rattle.ics_calendar.specs.Zones.{local_in, onset_in, offset_in, daily_in}
 
 -- WHAT A FUNCTION ANSWERS: what is said, or its fault; nothing is said where memory is refused.
@@ -170,7 +172,9 @@ abbrev pub exdates_said : Parts → Result DateList FaultKind
 exdates_said c = unless (dates_fault (exdates_of (is_some (zone_name c.params)) c.value)) (exdate_list c.params c.value)
 
 abbrev pub onset_said : List ℕ → Result Local FaultKind
-onset_said text = unless (first (stamp_fault_of (stamp_of false text)) (fault_if kind.ObservanceField (is_not_local (At (stamp_of false text))))) (onset_in (stamp_of false text))
+onset_said text =
+    unless (first (stamp_fault_of (stamp_of false text)) (fault_if kind.ObservanceField (is_not_local (At (stamp_of false text)))))
+    (onset_in (stamp_of false text))
 
 abbrev pub offset_said : List ℕ → Result ℤ FaultKind
 offset_said text = unless (offset_fault_of (offset_of text)) (offset_in (offset_of text))
@@ -303,7 +307,8 @@ abbrev pub passed : Ended → Option DeferredCheck → Passed
 passed end check = record { ended = end; check = check }
 
 abbrev pub builder_end : ℕ → Builder → Builder → Result (Builder × Passed) FaultKind
-builder_end calendar (builder.Event had) outer = and_then (event_end calendar had) (λ e. Ok (outer, passed (ended.Event e) (ends_in calendar had.start had.end)))
+builder_end calendar (builder.Event had) outer =
+    and_then (event_end calendar had) (λ e. Ok (outer, passed (ended.Event e) (ends_in calendar had.start had.end)))
 builder_end calendar (builder.Zone had) outer = and_then (zone_end calendar had) (λ z. Ok (outer, passed (ended.Zone z) None))
 builder_end calendar (builder.Observance had) outer = and_then (observance_end had) (λ o. Ok (with_observance o outer, passed ended.Nothing None))
 builder_end calendar builder.Nothing outer = Ok (outer, passed ended.Nothing None)

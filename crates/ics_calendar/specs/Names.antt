@@ -4,6 +4,20 @@ use Rattle.std.specs.Str.{bytes_eq}
 use Rattle.ics_calendar.specs.declared.name.Name.{Name}
 use Rattle.ics_calendar.specs.declared.name.Name.TheVariants as name
 
+-- what a name in upper case stands for, if it is none of the first ones
+abbrev pub other_name_of : List ℕ → Name
+other_name_of u =
+    if bytes_eq u (codes "EXRULE") then name.Exrule
+    else if bytes_eq u (codes "VERSION") then name.Version
+    else if bytes_eq u (codes "SUMMARY") then name.Summary
+    else if bytes_eq u (codes "LOCATION") then name.Location
+    else if bytes_eq u (codes "DESCRIPTION") then name.Description
+    else if bytes_eq u (codes "STATUS") then name.Status
+    else if bytes_eq u (codes "TZID") then name.Tzid
+    else if bytes_eq u (codes "TZOFFSETFROM") then name.OffsetFrom
+    else if bytes_eq u (codes "TZOFFSETTO") then name.OffsetTo
+    else name.Other
+
 -- what a name in upper case stands for
 abbrev pub name_of : List ℕ → Name
 name_of u =
@@ -18,13 +32,4 @@ name_of u =
     else if bytes_eq u (codes "SEQUENCE") then name.Sequence
     else if bytes_eq u (codes "RDATE") then name.Rdate
     else if bytes_eq u (codes "EXDATE") then name.Exdate
-    else if bytes_eq u (codes "EXRULE") then name.Exrule
-    else if bytes_eq u (codes "VERSION") then name.Version
-    else if bytes_eq u (codes "SUMMARY") then name.Summary
-    else if bytes_eq u (codes "LOCATION") then name.Location
-    else if bytes_eq u (codes "DESCRIPTION") then name.Description
-    else if bytes_eq u (codes "STATUS") then name.Status
-    else if bytes_eq u (codes "TZID") then name.Tzid
-    else if bytes_eq u (codes "TZOFFSETFROM") then name.OffsetFrom
-    else if bytes_eq u (codes "TZOFFSETTO") then name.OffsetTo
-    else name.Other
+    else other_name_of u

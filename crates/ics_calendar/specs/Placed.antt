@@ -7,7 +7,8 @@ use Rattle.ics_text.specs.Unfolded.{Line, unfolded}
 use Rattle.ics_text.specs.Contents.{Parts, content_of, param_of}
 use Rattle.ics_calendar.specs.declared.component.Context.{Context}
 use Rattle.ics_calendar.specs.declared.component.Context.TheVariants as context
-use Rattle.ics_calendar.specs.Components.{component_of, context_in, is_outside_context, is_calendar_context, is_event_context, is_zone_context, is_observance_context}
+use Rattle.ics_calendar.specs.Components.{component_of, context_in, is_outside_context, is_calendar_context, is_event_context, is_zone_context}
+use Rattle.ics_calendar.specs.Components.{is_observance_context}
 
 -- A component that is open: its name in upper case, and the number of its BEGIN line.
 pub record Open : Type 0 where

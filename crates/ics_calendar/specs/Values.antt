@@ -1,5 +1,6 @@
 -- What the properties of an event or of an observance say (RFC 5545, sections 3.3 and 3.8).
-use Rattle.std.specs.Prelude.{ℕ, ◌+◌, ◌*◌, Bool, true, false, ◌&&◌, ◌||◌, not, ◌==◌, nat_le, List, [], ◌∷◌, map, unwrap_or, codes, Option, Some, is_some, Result, Ok, Err, ℤ, pos, ◌+ℤ◌, ◌*ℤ◌, int_lt, if◌then◌else◌}
+use Rattle.std.specs.Prelude.{ℕ, ◌+◌, ◌*◌, Bool, true, false, ◌&&◌, ◌||◌, not, ◌==◌, nat_le, List, [], ◌∷◌, map, unwrap_or, codes, Option, Some, is_some}
+use Rattle.std.specs.Prelude.{Result, Ok, Err, ℤ, pos, ◌+ℤ◌, ◌*ℤ◌, int_lt, if◌then◌else◌}
 use Rattle.std.specs.Result.{result_ok}
 use Rattle.std.specs.Str.{bytes_eq}
 use Rattle.ics_text.specs.Bytes.{upper}

@@ -1,5 +1,6 @@
 -- The time zones of a file, and the one that a name stands for (RFC 5545, section 3.6.5).
-use Rattle.std.specs.Prelude.{ℕ, Bool, ◌&&◌, List, [], map, filter, filter_map, flat_map, codes, unwrap_or, Option, Some, None, option_map, Result, Ok, Err, ℤ, pos, false, if◌then◌else◌}
+use Rattle.std.specs.Prelude.{ℕ, Bool, ◌&&◌, List, [], map, filter, filter_map, flat_map, codes, unwrap_or, Option, Some, None, option_map, Result, Ok, Err, ℤ}
+use Rattle.std.specs.Prelude.{pos, false, if◌then◌else◌}
 use Rattle.ics_values.specs.Locals.{local_at}
 use Rattle.ics_values.specs.declared.local.Local.{Local}
 use Rattle.ics_values.specs.declared.frequency.Frequency.TheVariants.{Daily}

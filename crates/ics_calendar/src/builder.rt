@@ -1,6 +1,7 @@
 //! What has been read of a component so far.
 ghost use Rattle.std.specs.Prelude.{◌≡◌, IfOk};
-ghost use Rattle.ics_calendar.specs.Lines.{Gives, Makes, Keeps, onset_said, offset_said, zone_line, observance_line, builder_line, plain_fault, with_observance, zone_end, observance_end};
+ghost use Rattle.ics_calendar.specs.Lines.{Gives, Makes, Keeps, onset_said, offset_said, zone_line, observance_line, builder_line, plain_fault};
+ghost use Rattle.ics_calendar.specs.Lines.{with_observance, zone_end, observance_end};
 ghost use Rattle.ics_calendar.specs.Builders.{nothing_zone, nothing_observance, fresh};
 
 use crate::component::Context;

@@ -6,7 +6,8 @@ ghost use Rattle.ics_values.specs.RuleTexts.{pieces};
 ghost use Rattle.ics_calendar.specs.Values.{is_bad_stamp, is_far_stamp};
 ghost use Rattle.ics_calendar.specs.Zones.{local_in};
 ghost use Rattle.ics_calendar.specs.declared.fault.FaultKind.TheVariants.{ObservanceField};
-ghost use Rattle.ics_calendar.specs.DateValues.{date_time_of, period_of, rdate_of, exdate_of, rdates_of, exdates_of, listed_in, listed_said, has_bad_stamp, has_far_stamp, has_bad_duration, has_large_duration, is_local, is_not_local};
+ghost use Rattle.ics_calendar.specs.DateValues.{date_time_of, period_of, rdate_of, exdate_of, rdates_of, exdates_of, listed_in, listed_said, has_bad_stamp};
+ghost use Rattle.ics_calendar.specs.DateValues.{has_far_stamp, has_bad_duration, has_large_duration, is_local, is_not_local};
 ghost use Rattle.ics_calendar.specs.Lines.{Gives, unless, first, fault_if, dates_fault};
 
 use crate::date_list::{Dates, ListedDate};
@@ -238,7 +239,8 @@ impl DateValues {
 
     /// The locals that they are, or the least fault among them: of an observance each is one.
     pub fn locals(&self, alloc: Global) -> Result<Locals, Refused>
-        ensures { Gives result (unless (first (dates_fault self.now) (fault_if ObservanceField (list_any is_not_local self.now))) (filter_map local_in self.now)) }
+        ensures { Gives result (unless (first (dates_fault self.now) (fault_if ObservanceField (list_any is_not_local self.now)))
+            (filter_map local_in self.now)) }
     {
         if let Some(kind) = self.fault() {
             return Err(Refused::Fault(kind));

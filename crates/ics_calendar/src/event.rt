@@ -35,7 +35,33 @@ impl Model for Event {
 
     ghost Value = { EventSeen };
 
-    ghost view = { λ a. record { uid = a.uid; sequence = a.sequence; start = a.start; length = a.length; rule = a.rule; rdates = a.rdates.items; exdates = a.exdates.items; recurrence = a.recurrence; title = a.title; location = a.location; description = a.description; cancelled = a.cancelled } };
+    ghost view = { λ a. record {
+      uid = a.uid;
+      sequence = a.sequence;
+      start = a.start;
+      length = a.length;
+      rule = a.rule;
+      rdates = a.rdates.items;
+      exdates = a.exdates.items;
+      recurrence = a.recurrence;
+      title = a.title;
+      location = a.location;
+      description = a.description;
+      cancelled = a.cancelled;
+    } };
 
-    ghost invariant = { λ a. IsEvent (record { uid = a.uid; sequence = a.sequence; start = a.start; length = a.length; rule = a.rule; rdates = a.rdates.items; exdates = a.exdates.items; recurrence = a.recurrence; title = a.title; location = a.location; description = a.description; cancelled = a.cancelled }) };
+    ghost invariant = { λ a. IsEvent (record {
+      uid = a.uid;
+      sequence = a.sequence;
+      start = a.start;
+      length = a.length;
+      rule = a.rule;
+      rdates = a.rdates.items;
+      exdates = a.exdates.items;
+      recurrence = a.recurrence;
+      title = a.title;
+      location = a.location;
+      description = a.description;
+      cancelled = a.cancelled;
+    }) };
 }

@@ -1,7 +1,8 @@
 //! What has been read of an event so far.
 ghost use Rattle.std.specs.Prelude.{◌≡◌, Option, None, Some, is_some, true, false, IfOk, IfErr};
+ghost use Rattle.ics_calendar.specs.declared.name.Name.TheVariants as name;
 ghost use Rattle.ics_calendar.specs.Builders.{nothing};
-ghost use Rattle.ics_calendar.specs.Lines.{Gives, Makes, or_first, number_said, event_line, event_end, ends_in};
+ghost use Rattle.ics_calendar.specs.Lines.{Gives, Makes, or_first, number_said, event_line, end_of_event, event_end, ends_in};
 ghost use Rattle.ics_calendar.specs.Times.{given_length};
 ghost use Rattle.ics_calendar.specs.Values.{is_filled, is_cancelled, lasting_of};
 
@@ -119,6 +120,84 @@ impl EventBuilder {
         }
     }
 
+    /// A DTSTART.
+    fn start_line(
+        &mut self,
+        alloc: Global,
+        calendar: u64,
+        content: &Content<'_>,
+    ) -> Result<Option<DeferredCheck>, Refused>
+        ensures { Makes result self.new (event_line calendar name.Dtstart content.now self.old) }
+    {
+        let dated = Dated::read(alloc, content)?;
+        let check = dated.used_zone(alloc, calendar)?;
+        once(&mut self.start, dated, FaultKind::Repeated)?;
+        Ok(check)
+    }
+
+    /// A DTEND.
+    fn end_line(
+        &mut self,
+        alloc: Global,
+        calendar: u64,
+        content: &Content<'_>,
+    ) -> Result<Option<DeferredCheck>, Refused>
+        ensures { Makes result self.new (event_line calendar name.Dtend content.now self.old) }
+    {
+        let dated = Dated::read(alloc, content)?;
+        let check = dated.used_zone(alloc, calendar)?;
+        once(&mut self.end, dated, FaultKind::Repeated)?;
+        Ok(check)
+    }
+
+    /// A RECURRENCE-ID, which has no RANGE.
+    fn recurrence_line(
+        &mut self,
+        alloc: Global,
+        calendar: u64,
+        content: &Content<'_>,
+    ) -> Result<Option<DeferredCheck>, Refused>
+        ensures { Makes result self.new (event_line calendar name.RecurrenceId content.now self.old) }
+    {
+        let dated = Dated::read(alloc, content)?;
+        let check = dated.used_zone(alloc, calendar)?;
+        once(&mut self.recurrence, dated, FaultKind::Repeated)?;
+        if content.param(b"RANGE").is_some() {
+            return Err(Refused::Fault(FaultKind::ThisAndFuture));
+        }
+        Ok(check)
+    }
+
+    /// One more RDATE.
+    fn rdate_line(
+        &mut self,
+        alloc: Global,
+        calendar: u64,
+        content: &Content<'_>,
+    ) -> Result<Option<DeferredCheck>, Refused>
+        ensures { Makes result self.new (event_line calendar name.Rdate content.now self.old) }
+    {
+        let list = DateList::read_rdates(alloc, content)?;
+        let check = list.used_zone(alloc, calendar)?;
+        self.rdates.add(list)?;
+        Ok(check)
+    }
+
+    /// One more EXDATE.
+    fn exdate_line(
+        &mut self,
+        alloc: Global,
+        calendar: u64,
+        content: &Content<'_>,
+    ) -> Result<Option<DeferredCheck>, Refused>
+        ensures { Makes result self.new (event_line calendar name.Exdate content.now self.old) }
+    {
+        let list = DateList::read_exdates(alloc, content)?;
+        let check = list.used_zone(alloc, calendar)?;
+        self.exdates.add(list)?;
+        Ok(check)
+    }
+
     /// One line more of an event in that calendar, with what the second round looks at there.
     pub fn line(
         &mut self,
@@ -131,42 +210,14 @@ impl EventBuilder {
     {
         let value = content.value();
         match name {
+            Name::Dtstart => return self.start_line(alloc, calendar, content),
+            Name::Dtend => return self.end_line(alloc, calendar, content),
+            Name::RecurrenceId => return self.recurrence_line(alloc, calendar, content),
+            Name::Rdate => return self.rdate_line(alloc, calendar, content),
+            Name::Exdate => return self.exdate_line(alloc, calendar, content),
             Name::Uid => {
                 let uid = Text::of_value(alloc, value)?;
                 once(&mut self.uid, uid, FaultKind::Repeated)?;
-            }
-            Name::Dtstart => {
-                let dated = Dated::read(alloc, content)?;
-                let check = dated.used_zone(alloc, calendar)?;
-                once(&mut self.start, dated, FaultKind::Repeated)?;
-                return Ok(check);
-            }
-            Name::Dtend => {
-                let dated = Dated::read(alloc, content)?;
-                let check = dated.used_zone(alloc, calendar)?;
-                once(&mut self.end, dated, FaultKind::Repeated)?;
-                return Ok(check);
-            }
-            Name::RecurrenceId => {
-                let dated = Dated::read(alloc, content)?;
-                let check = dated.used_zone(alloc, calendar)?;
-                once(&mut self.recurrence, dated, FaultKind::Repeated)?;
-                if content.param(b"RANGE").is_some() {
-                    return Err(Refused::Fault(FaultKind::ThisAndFuture));
-                }
-                return Ok(check);
-            }
-            Name::Rdate => {
-                let list = DateList::read_rdates(alloc, content)?;
-                let check = list.used_zone(alloc, calendar)?;
-                self.rdates.add(list)?;
-                return Ok(check);
-            }
-            Name::Exdate => {
-                let list = DateList::read_exdates(alloc, content)?;
-                let check = list.used_zone(alloc, calendar)?;
-                self.exdates.add(list)?;
-                return Ok(check);
             }
             Name::Duration => once(&mut self.duration, lasting(value)?, FaultKind::Repeated)?,
             Name::Rrule => {
@@ -191,18 +242,28 @@ impl EventBuilder {
         ends_in(alloc, calendar, &self.start, &self.end)
     }
 
+    /// The fault on the END of the event, if one stands there.
+    fn fault_at_end(&self) -> Option<FaultKind>
+        ensures { result ≡ end_of_event self.now }
+    {
+        if !is_filled(&self.uid) {
+            return Some(FaultKind::MissingUid);
+        }
+        if self.start.is_none() {
+            return Some(FaultKind::MissingStart);
+        }
+        if (self.end.is_some() && self.duration.is_some()) || ends_badly(&self.start, &self.end) {
+            return Some(FaultKind::BadEnd);
+        }
+        None
+    }
+
     /// The event of that calendar, at its END.
     pub fn end(self, alloc: Global, calendar: u64) -> Result<EndedEvent, FaultKind>
         ensures { result ≡ event_end calendar self }
     {
-        if !is_filled(&self.uid) {
-            return Err(FaultKind::MissingUid);
-        }
-        if self.start.is_none() {
-            return Err(FaultKind::MissingStart);
-        }
-        if (self.end.is_some() && self.duration.is_some()) || ends_badly(&self.start, &self.end) {
-            return Err(FaultKind::BadEnd);
+        if let Some(kind) = self.fault_at_end() {
+            return Err(kind);
         }
         let EventBuilder {
             uid,

@@ -1,7 +1,7 @@
 //! The names of properties and components, which compare without case (RFC 5545, section 3.1).
 ghost use Rattle.std.specs.Prelude.{◌≡◌, map};
 ghost use Rattle.ics_text.specs.Bytes.{upper};
-ghost use Rattle.ics_calendar.specs.Names.{name_of};
+ghost use Rattle.ics_calendar.specs.Names.{name_of, other_name_of};
 
 use crate::words::is_word;
 
@@ -57,7 +57,16 @@ pub fn name_of(name: &[u8]) -> Name
         Name::Rdate
     } else if is_word(name, b"EXDATE") {
         Name::Exdate
-    } else if is_word(name, b"EXRULE") {
+    } else {
+        other_name_of(name)
+    }
+}
+
+/// What a property is called that is none of these.
+fn other_name_of(name: &[u8]) -> Name
+    ensures { result ≡ other_name_of (map upper name.now) }
+{
+    if is_word(name, b"EXRULE") {
         Name::Exrule
     } else if is_word(name, b"VERSION") {
         Name::Version

@@ -4,4 +4,5 @@ use Rattle.ics_calendar.specs.ZoneTables.{known_by}
 use Rattle.ics_calendar.proofs.settle.events_of.Given as goal
 
 abbrev pub invariant-loop-event : goal.invariant-loop-event
-invariant-loop-event l = l.events.items ++ map (event_of (known_by l.table).index) l.event-iterator.rest.items ≡ map (event_of (known_by l.table).index) l.fn.ended.items
+invariant-loop-event l =
+    l.events.items ++ map (event_of (known_by l.table).index) l.event-iterator.rest.items ≡ map (event_of (known_by l.table).index) l.fn.ended.items

@@ -15,14 +15,16 @@ returns-in-Some c =
     let g : GatheredSeen = record { zones = c.gathered.inside.zones.items; events = c.gathered.inside.events.items; checks = c.gathered.inside.checks.items } in
     let known : KnownZones = known_by c.in_ok-table.table in
     let judged : c.first_judged.result ≡ first_judged known g.checks = c.first_judged.ensures ∙ ap (first_judged known) c.deref.ensures.value in
-    ap (λ (o : Option Fault). decide None o (said_by known g)) (sym c.in-Some.is ∙ judged) ∙ ap (λ (k : KnownZones). settled_by k g) (known-is g known c.in_ok-table.ensures.index c.in_ok-table.ensures.zones) ∙ ap settled c.gathered.view_is
+    ap (λ (o : Option Fault). decide None o (said_by known g)) (sym c.in-Some.is ∙ judged)
+    ∙ ap (λ (k : KnownZones). settled_by k g) (known-is g known c.in_ok-table.ensures.index c.in_ok-table.ensures.zones) ∙ ap settled c.gathered.view_is
 
 pub events_of-requires : goal.events_of-requires
 events_of-requires c =
     let g : GatheredSeen = record { zones = c.gathered.inside.zones.items; events = c.gathered.inside.events.items; checks = c.gathered.inside.checks.items } in
     let known : KnownZones = known_by c.in_ok-table.table in
     let judged : c.first_judged.result ≡ first_judged known g.checks = c.first_judged.ensures ∙ ap (first_judged known) c.deref.ensures.value in
-    ready-here g known (subst IsSoundGathered (sym c.gathered.view_is) c.requires) (known-is g known c.in_ok-table.ensures.index c.in_ok-table.ensures.zones, sym judged ∙ c.in_default.is)
+    ready-here g known (subst IsSoundGathered (sym c.gathered.view_is) c.requires)
+    (known-is g known c.in_ok-table.ensures.index c.in_ok-table.ensures.zones, sym judged ∙ c.in_default.is)
 
 pub invariant_of-result : goal.invariant_of-result
 invariant_of-result c =
@@ -31,7 +33,8 @@ invariant_of-result c =
     let judged : c.first_judged.result ≡ first_judged known g.checks = c.first_judged.ensures ∙ ap (first_judged known) c.deref.ensures.value in
     subst (λ (zs : List (List Phase)). AreEventsOf zs c.in_ok-events.events.items) (sym c.into_zones.ensures)
     (subst (λ (es : List EventSeen). AreEventsOf known.zones es) (sym c.in_ok-events.ensures)
-    (events-here g known (subst IsSoundGathered (sym c.gathered.view_is) c.requires) (known-is g known c.in_ok-table.ensures.index c.in_ok-table.ensures.zones, sym judged ∙ c.in_default.is)))
+    (events-here g known (subst IsSoundGathered (sym c.gathered.view_is) c.requires)
+    (known-is g known c.in_ok-table.ensures.index c.in_ok-table.ensures.zones, sym judged ∙ c.in_default.is)))
 
 pub returns : goal.returns
 returns c =

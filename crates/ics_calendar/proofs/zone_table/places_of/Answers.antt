@@ -9,8 +9,16 @@ use Rattle.ics_calendar.proofs.zone_table.places_of.Goals as goal
 
 pub loop-place-init : goal.loop-place-init
 loop-place-init c = λ used.
-    rw (c.new-places.ensures.empty, c.into_iter-place-iterator.ensures.into_iter_gives, c.enumerate-place-items.ensures.count, c.enumerate-place-items.ensures.source, c.into_iter.ensures.rest)
+    rw (
+      c.new-places.ensures.empty,
+      c.into_iter-place-iterator.ensures.into_iter_gives,
+      c.enumerate-place-items.ensures.count,
+      c.enumerate-place-items.ensures.source,
+      c.into_iter.ensures.rest,
+    )
     (sym (position_from-zero (is_same used) c.args.names.items))
 
 pub returns : goal.returns
-returns c = fun_ext (λ used. or-none (get name_cmp c.loop-place.places used) (is_same used) c.loop-place.place-iterator.count c.loop-place.place-iterator.iter.rest.items (search rules) ∙ c.loop-place.invariant used)
+returns c =
+    fun_ext (λ used. or-none (get name_cmp c.loop-place.places used) (is_same used) c.loop-place.place-iterator.count
+    c.loop-place.place-iterator.iter.rest.items (search rules) ∙ c.loop-place.invariant used)

@@ -9,4 +9,6 @@ use Rattle.ics_calendar.proofs.zone_table.places_of.Given as goal
 
 -- a zone is in the table, or is still to come
 abbrev pub invariant-loop-place : goal.invariant-loop-place
-invariant-loop-place l = (used : ZoneName) → option_or (get name_cmp l.places used) (position_from (is_same used) l.place-iterator.count l.place-iterator.iter.rest.items) ≡ zone_index l.fn.names.items used
+invariant-loop-place l =
+    (used : ZoneName) → option_or (get name_cmp l.places used) (position_from (is_same used) l.place-iterator.count l.place-iterator.iter.rest.items)
+    ≡ zone_index l.fn.names.items used

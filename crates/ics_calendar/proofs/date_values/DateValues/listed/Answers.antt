@@ -12,6 +12,7 @@ use Rattle.ics_calendar.proofs.date_values.DateValues.listed.Goals as goal
 pub returns : goal.returns
 returns c =
     let items : c.in_ok-values.values.items ≡ filter_map listed_said c.args.self.now =
-    items_from_collect {E = AllocError} (Ok c.in_ok-values.values) c.in_ok-values.ensures.ran (YieldsList-from_filter_map _ _ (YieldsList-from_slice c.args.self.now cc) c.filter_map.ensures.closure (λ x r q k. search (rules, tests))) in
+    items_from_collect {E = AllocError} (Ok c.in_ok-values.values) c.in_ok-values.ensures.ran
+    (YieldsList-from_filter_map _ _ (YieldsList-from_slice c.args.self.now cc) c.filter_map.ensures.closure (λ x r q k. search (rules, tests))) in
     let none : dates_fault c.args.self.now ≡ None = sym c.fault.ensures ∙ c.in_default.is in
     ap (λ o. unless o (map listed_in c.args.self.now)) none ∙ ap (λ (xs : List ListedDate). Ok xs) (sym (items ∙ said-list c.args.self.now none))

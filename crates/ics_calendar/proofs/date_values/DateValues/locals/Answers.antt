@@ -14,7 +14,8 @@ use Rattle.ics_calendar.proofs.date_values.DateValues.locals.Goals as goal
 pub returns : goal.returns
 returns c =
     let items : c.in_ok-locals.locals.items ≡ filter_map local_in c.args.self.now =
-    items_from_collect {E = AllocError} (Ok c.in_ok-locals.locals) c.in_ok-locals.ensures.ran (YieldsList-from_filter_map _ _ (YieldsList-from_slice c.args.self.now cc) c.filter_map.ensures.closure (λ x r q k. search (rules, tests))) in
+    items_from_collect {E = AllocError} (Ok c.in_ok-locals.locals) c.in_ok-locals.ensures.ran
+    (YieldsList-from_filter_map _ _ (YieldsList-from_slice c.args.self.now cc) c.filter_map.ensures.closure (λ x r q k. search (rules, tests))) in
     let none : dates_fault c.args.self.now ≡ None = sym c.fault.ensures ∙ c.in_default.is in
     let local : list_any is_not_local c.args.self.now ≡ false = sym c.have_not_local.ensures ∙ c.if-have_not_local.false in
     ap (λ o. unless (first o (fault_if ObservanceField (list_any is_not_local c.args.self.now))) (filter_map local_in c.args.self.now)) none
