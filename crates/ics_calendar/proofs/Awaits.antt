@@ -1,4 +1,4 @@
--- The second round looks at the zones of each event's stamps, and at its end against its start.
+-- The second round checks the zones of each event's stamps, and its end against its start.
 use Rattle.std.proofs.Common.{◌≡◌, ℕ, Bool, true, false, List, [], ◌∷◌, ◌++◌, map, refl, sym, ap, subst, ◌∙◌, cond, Option, Some, None, IfSome}
 use Rattle.std.specs.List.{All, Contains, list_any}
 use Rattle.std.proofs.lemmas.List.{map-append}
@@ -62,7 +62,7 @@ some-here : (checks : List DeferredCheck) (o : Option DeferredCheck) → IfSome 
 some-here checks None = tt
 some-here checks (Some l) = Contains-push checks l
 
--- WHAT IS COLLECTED of an event so far: the second round looks at the zones of its stamps.
+-- WHAT IS COLLECTED of an event so far: the second round checks the zones of its stamps.
 pub record AreLooked (checks : List DeferredCheck) (calendar : ℕ) (had : EventBuilder) : Type 0 where
   pub start : IfSome (used_in calendar had.start) (Contains checks)
   pub end : IfSome (used_in calendar had.end) (Contains checks)

@@ -34,8 +34,8 @@ use Rattle.ics_calendar.specs.Zones.{local_in, onset_in, offset_in, daily_in, on
 use Rattle.ics_calendar.proofs.Judged.{event_note, zone_note, observance_note, builder_note, joined}
 use Rattle.ics_calendar.proofs.NameLemmas.{Tells, tells, TellsComponent, tells_component}
 use Rattle.ics_calendar.proofs.EventBuilderLemmas.{collected_of-more, kept-more, parts_at}
-use Rattle.ics_calendar.proofs.Rows.{Gathered, builder_at}
-use Rattle.ics_calendar.proofs.Table.{gathered, own, parts}
+use Rattle.ics_calendar.proofs.Rows.{Readings, builder_at}
+use Rattle.ics_calendar.proofs.Table.{readings, own, parts}
 use Rattle.ics_calendar.proofs.Order.{inside}
 
 zone-noted : (n : Name) (u : List ℕ) (v : Parts) (had : ZoneBuilder) → Tells u n →
@@ -126,7 +126,7 @@ phase-is l e =
 
 -- WHAT IS COLLECTED of a component, with one line more that begins none.
 pub builder-more : (whole : List Placed) (q : Context) (k : List Open) (ls : List Placed) (l : Placed) → is_begin l ≡ false →
-    builder_at q (gathered whole k (ls ++ l ∷ [])) ≡ builder_note (name_of (property_name l.content)) (parts_at l) (builder_at q (gathered whole k ls))
+    builder_at q (readings whole k (ls ++ l ∷ [])) ≡ builder_note (name_of (property_name l.content)) (parts_at l) (builder_at q (readings whole k ls))
 builder-more whole context.Event k ls l e = ap builder.Event (collected_of-more ls l)
 builder-more whole context.Zone k ls l e =
     ap (λ os. builder.Zone (zone_of os (ls ++ l ∷ []))) (parts-same whole ls l e) ∙ ap builder.Zone (zone_of-more (parts whole ls) ls l)
@@ -146,9 +146,9 @@ pub nothing-still : (s : Builder) → joined s builder.Nothing ≡ builder.Nothi
 nothing-still (builder.Observance o) = refl
 nothing-still _ = refl
 
-pub builder-begun : (whole : List Placed) (q : Context) (k : List Open) (ls : List Placed) (b : Placed) (g : Gathered) →
+pub builder-begun : (whole : List Placed) (q : Context) (k : List Open) (ls : List Placed) (b : Placed) (g : Readings) →
     name_of (property_name b.content) ≡ name.Begin → is_begin b ≡ true → own whole b ≡ observance_ended g.observance →
-    builder_at q (gathered whole k (ls ++ b ∷ [])) ≡ joined (builder_at (context_of (inside b)) g) (builder_at q (gathered whole k ls))
+    builder_at q (readings whole k (ls ++ b ∷ [])) ≡ joined (builder_at (context_of (inside b)) g) (builder_at q (readings whole k ls))
 builder-begun whole context.Event k ls b g n e o =
     ap builder.Event (collected_of-more ls b ∙ ap (λ n. event_note n (parts_at b) (collected_of ls)) n)
     ∙ sym (event-still (builder_at (context_of (inside b)) g) (collected_of ls))

@@ -35,8 +35,8 @@ use Rattle.ics_calendar.proofs.Judged.{check_in}
 use Rattle.ics_calendar.proofs.Ended.{IsMatched}
 use Rattle.ics_calendar.specs.DeferredChecks.{KnownZones, are_out, zone_used, moment_on, moment_in, are_of_one_zone, ends_badly_later, moment_of, judged}
 use Rattle.ics_calendar.proofs.NameLemmas.{Tells, tells}
-use Rattle.ics_calendar.proofs.Rows.{Gathered, dates_at, frame_at, or-false}
-use Rattle.ics_calendar.proofs.Table.{gathered, frame_of}
+use Rattle.ics_calendar.proofs.Rows.{Readings, dates_at, frame_at, or-false}
+use Rattle.ics_calendar.proofs.Table.{readings, frame_of}
 use Rattle.ics_calendar.proofs.Frames.{with}
 
 -- AN END against its start, as the table finds it and as it is judged.
@@ -87,17 +87,17 @@ later_flat u v q cl be has =
     (cond (((is_event_context q && list_any has_zoned (map listed_in (dates_at u v)))
     || (is_event_context q && list_any (bytes_eq u) stamp_names && is_zoned (dated_of v.params v.value).stamp)) && not has) (Some UnknownZone) None)
 
-abbrev check_of : Name → Parts → Component → Context → Gathered → Option DeferredCheck
+abbrev check_of : Name → Parts → Component → Context → Readings → Option DeferredCheck
 check_of n v c q g = check_in n v (frame_at c q g)
 
-abbrev bad_check : KnownZones → Gathered → Bool
+abbrev bad_check : KnownZones → Readings → Bool
 bad_check known g = ends_badly_later known g.calendar g.event.start g.event.end
 
 -- the zone that a line names, if it has a stamp in one
-abbrev use_of : Gathered → Parts → ZoneName
+abbrev use_of : Readings → Parts → ZoneName
 use_of g v = zone_used g.calendar (dated_of v.params v.value)
 
-later-end : (known : KnownZones) (v : Parts) (c : Component) (q : Context) (has : Bool) (g : Gathered) →
+later-end : (known : KnownZones) (v : Parts) (c : Component) (q : Context) (has : Bool) (g : Readings) →
     later_flat (codes "END") v q true (bad_check known g) has ≡ option_and_then (judged known) (check_of name.End v c q g)
 later-end known v c context.Event has g = ends-judged known g.calendar g.event.start g.event.end
 later-end known v c _ has g = refl
@@ -111,7 +111,7 @@ in-zone known true used = when (is_some (known.index used))
     when true = refl
     when false = refl
 
-later-other : (known : KnownZones) (n : Name) (u : List ℕ) (v : Parts) (c : Component) (q : Context) (cl : Bool) (g : Gathered) → Tells u n →
+later-other : (known : KnownZones) (n : Name) (u : List ℕ) (v : Parts) (c : Component) (q : Context) (cl : Bool) (g : Readings) → Tells u n →
     (bytes_eq u (codes "END") && not (bytes_eq u (codes "END") && cl)) ≡ false →
     later_flat u v q cl (bad_check known g) (is_some (known.index (use_of g v))) ≡ option_and_then (judged known) (check_of n v c q g)
 later-other known name.End u v c q true g e m = rw e (later-end known v c q (is_some (known.index (use_of g v))) g)
@@ -153,10 +153,10 @@ pub later-same : (whole : List Placed) (known : KnownZones) (line : Line) (path 
     ≡ option_and_then (judged known) (check_in (name_of (map upper parts.name)) parts (frame_of whole path ls))
 later-same whole known line [] parts ls m =
     let u : List ℕ = map upper parts.name in
-    let g : Gathered = gathered whole [] ls in
+    let g : Readings = readings whole [] ls in
     outside-later u parts false (bad_check known g) (is_some (known.index (use_of g parts)))
     ∙ ap (option_and_then (judged known)) (sym (none-outside whole (name_of u) parts ls))
 later-same whole known line (c ∷ cs) parts ls m =
     let u : List ℕ = map upper parts.name in
-    later-other known (name_of u) u parts (component_of c.name) (context_of (c ∷ cs)) (closes (c ∷ cs) (map upper parts.value)) (gathered whole (c ∷ cs) ls)
+    later-other known (name_of u) u parts (component_of c.name) (context_of (c ∷ cs)) (closes (c ∷ cs) (map upper parts.value)) (readings whole (c ∷ cs) ls)
     (tells u) m

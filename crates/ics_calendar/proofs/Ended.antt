@@ -25,8 +25,8 @@ use Rattle.ics_calendar.specs.Gathered.{zones_of_end, events_of_end}
 use Rattle.ics_calendar.specs.Pass.{bottom}
 use Rattle.ics_calendar.proofs.Judged.{ended_in, ends, ends-is, ends-lowest}
 use Rattle.ics_calendar.proofs.NameLemmas.{tells}
-use Rattle.ics_calendar.proofs.Rows.{Gathered, frame_at}
-use Rattle.ics_calendar.proofs.Table.{parts, gathered, frame_of}
+use Rattle.ics_calendar.proofs.Rows.{Readings, frame_at}
+use Rattle.ics_calendar.proofs.Table.{parts, readings, frame_of}
 use Rattle.ics_calendar.proofs.Bundles.{Bundle, Keeps, top_lines}
 use Rattle.ics_calendar.proofs.Order.{Sort, ended_as}
 use Rattle.ics_calendar.proofs.Frames.{frames_of, end-is, with}
@@ -45,9 +45,9 @@ pub record Picks {X : Type 0} (whole : List Placed) (s : Sort X) (pick : Ended �
       pick (cond t (ended_in (frame_of whole (c ∷ cs) ls)) ended.Nothing) ≡ cond (t && s.stands_at (context_of (c ∷ cs))) (s.by (c ∷ cs) ls ∷ []) []
 
 pub events-picked : (whole : List Placed) → Picks whole events events_of_end
-events-picked whole = record { nothing = refl; inside = λ t c cs ls. at t (component_of c.name) (context_of (c ∷ cs)) (gathered whole (c ∷ cs) ls) }
+events-picked whole = record { nothing = refl; inside = λ t c cs ls. at t (component_of c.name) (context_of (c ∷ cs)) (readings whole (c ∷ cs) ls) }
   where
-    at : (t : Bool) (k : Component) (q : Context) (g : Gathered) →
+    at : (t : Bool) (k : Component) (q : Context) (g : Readings) →
         events_of_end (cond t (ended_in (frame_at k q g)) ended.Nothing) ≡ cond (t && is_event_context q) (event_ended g.calendar g.event ∷ []) []
     at true k context.Event g = refl
     at true k _ g = refl
@@ -55,9 +55,9 @@ events-picked whole = record { nothing = refl; inside = λ t c cs ls. at t (comp
     at false k _ g = refl
 
 pub zones-picked : (whole : List Placed) → Picks whole (zones whole) zones_of_end
-zones-picked whole = record { nothing = refl; inside = λ t c cs ls. at t (component_of c.name) (context_of (c ∷ cs)) (gathered whole (c ∷ cs) ls) }
+zones-picked whole = record { nothing = refl; inside = λ t c cs ls. at t (component_of c.name) (context_of (c ∷ cs)) (readings whole (c ∷ cs) ls) }
   where
-    at : (t : Bool) (k : Component) (q : Context) (g : Gathered) →
+    at : (t : Bool) (k : Component) (q : Context) (g : Readings) →
         zones_of_end (cond t (ended_in (frame_at k q g)) ended.Nothing) ≡ cond (t && is_zone_context q) (zone_ended g.calendar g.zone ∷ []) []
     at true k context.Zone g = refl
     at true k _ g = refl

@@ -33,7 +33,7 @@ use Rattle.ics_calendar.specs.Values.{length_in_seconds, is_lasting, same_zone, 
 use Rattle.ics_calendar.proofs.Listed.{All-flat_map}
 
 -- A STAMP, in the zone that it names.
--- what the second round looks at is no fault
+-- a check of the second round finds no fault
 abbrev pub IsFine : KnownZones → Option DeferredCheck → Type 0
 IsFine known o = IfSome o (λ l. judged known l ≡ None)
 
@@ -61,14 +61,14 @@ out-within start end h = by_tests (int_lt end start) (int_lt (start +ℤ pos lon
     by_tests true b p q h = cc
 
 -- what is checked of a start and its end
-abbrev pub checks_of : ZoneName → ZoneName → Bool → Stamp → Stamp → Option DeferredCheck
-checks_of m n z r q = cond (is_zoned r && (is_zoned q && z)) None (both_compared (instant_on m r) (instant_on n q))
+abbrev pub check_between : ZoneName → ZoneName → Bool → Stamp → Stamp → Option DeferredCheck
+check_between m n z r q = cond (is_zoned r && (is_zoned q && z)) None (both_compared (instant_on m r) (instant_on n q))
 
 not-end : (known : KnownZones) (t : Bool) → IsFine known (cond t (Some check.End) None) → t ≡ false
 not-end known true h = cc
 not-end known false h = refl
 
-end-is : (known : KnownZones) (m n : ZoneName) (z : Bool) (a b : Stamp) → is_bad_end z a b ≡ false → IsFine known (checks_of m n z a b) → IsEnd a b
+end-is : (known : KnownZones) (m n : ZoneName) (z : Bool) (a b : Stamp) → is_bad_end z a b ≡ false → IsFine known (check_between m n z a b) → IsEnd a b
 end-is known m n z (Date a) (Date b) e l = out-within (a *ℤ pos 86_400) (b *ℤ pos 86_400) e
 end-is known m n z (Floating a) (Floating b) e l = out-within (seconds_of a) (seconds_of b) e
 end-is known m n z (Utc a) (Utc b) e l = out-within (seconds_of a) (seconds_of b) (not-end known (is_out (seconds_of a) (seconds_of b)) l)

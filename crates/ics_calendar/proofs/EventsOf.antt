@@ -36,7 +36,7 @@ use Rattle.ics_calendar.specs.Ready.{IsReady, end_of}
 use Rattle.ics_calendar.specs.Sound.{IsSoundLength}
 use Rattle.ics_calendar.specs.Times.{time_on, length_of}
 use Rattle.ics_calendar.specs.Values.{tzid, is_out, is_bad_end}
-use Rattle.ics_calendar.proofs.EventSound.{IsFine, known-zone, out-within, checks_of}
+use Rattle.ics_calendar.proofs.EventSound.{IsFine, known-zone, out-within, check_between}
 use Rattle.ics_calendar.proofs.Listed.{All-flat_map}
 
 pub some-same : {X : Type 0} (x y : X) → Some x ≡ Some y → x ≡ y
@@ -100,12 +100,12 @@ module _ (names : List ZoneName) (zones : List (List Phase)) (long : length name
   Within s o t p = IsWithin (compared (is_one_zone o p) zones (time s o)) (compared (is_one_zone o p) zones (time t p))
 
   both-zoned : (k : ℕ) (x y : List ℕ) (a b : Local) (i j : ℕ) → zone_index names (named k x) ≡ Some i → zone_index names (named k y) ≡ Some j →
-      is_bad_end (bytes_eq x y) (Zoned a) (Zoned b) ≡ false → IsFine known (checks_of (named k x) (named k y) (bytes_eq x y) (Zoned a) (Zoned b)) →
+      is_bad_end (bytes_eq x y) (Zoned a) (Zoned b) ≡ false → IsFine known (check_between (named k x) (named k y) (bytes_eq x y) (Zoned a) (Zoned b)) →
       Within (Zoned a) (Some i) (Zoned b) (Some j)
   both-zoned k x y a b i j e f l h = by_tests (i == j) (bytes_eq x y) refl refl l h
     where
       by_tests : (t z : Bool) → (i == j) ≡ t → bytes_eq x y ≡ z → is_bad_end z (Zoned a) (Zoned b) ≡ false →
-          IsFine known (checks_of (named k x) (named k y) z (Zoned a) (Zoned b)) →
+          IsFine known (check_between (named k x) (named k y) z (Zoned a) (Zoned b)) →
           IsWithin (compared t zones (time (Zoned a) (Some i))) (compared t zones (time (Zoned b) (Some j)))
       by_tests true true t z l h = out-within (seconds_of a) (seconds_of b) l
       by_tests true false t z l h =
@@ -146,7 +146,7 @@ module _ (names : List ZoneName) (zones : List (List Phase)) (long : length name
 
   within : (k : ℕ) (x y : List ℕ) (r q : Stamp) → is_bad_end (bytes_eq x y) r q ≡ false →
       IsFine known (cond (is_zoned r) (Some (check.Zone (named k x))) None) → IsFine known (cond (is_zoned q) (Some (check.Zone (named k y))) None) →
-      IsFine known (checks_of (named k x) (named k y) (bytes_eq x y) r q) →
+      IsFine known (check_between (named k x) (named k y) (bytes_eq x y) r q) →
       (is_some (used_on (named k x) r) || is_some (used_on (named k y) q)) ≡ true → Within r (used_on (named k x) r) q (used_on (named k y) q)
   within k x y (Zoned a) (Zoned b) l u v h g =
       let i = index-is (named k x) u in

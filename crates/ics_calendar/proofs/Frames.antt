@@ -23,8 +23,8 @@ use Rattle.ics_calendar.proofs.Judged.{fault_in, fault_on, check_in, check_on, o
 use Rattle.ics_calendar.proofs.Judged.{is_end_name}
 use Rattle.ics_calendar.proofs.NameLemmas.{Tells, tells, context-in-outside}
 use Rattle.ics_calendar.proofs.EventBuilderLemmas.{parts_at}
-use Rattle.ics_calendar.proofs.Rows.{Gathered, builder_at, frame_at}
-use Rattle.ics_calendar.proofs.Table.{own, gathered, frame_of}
+use Rattle.ics_calendar.proofs.Rows.{Readings, builder_at, frame_at}
+use Rattle.ics_calendar.proofs.Table.{own, readings, frame_of}
 use Rattle.ics_calendar.proofs.BuilderLemmas.{observance_of-more, builder-more, builder-begun, nothing-still}
 use Rattle.ics_calendar.proofs.Bundles.{Bundle, IsKept, Keeps, top_lines, add_line, close, bundles_behind, path-of}
 
@@ -79,7 +79,7 @@ module _ (whole before : List Placed) where
       (builder-more whole q (c ∷ cs) b.lines l e)
 
   fresh-at : (c : Component) (q : Context) (path : List Open) →
-      frame_at c q (gathered whole path []) ≡ record { component = c; context = q; calendar = calendar_of path; builder = fresh q }
+      frame_at c q (readings whole path []) ≡ record { component = c; context = q; calendar = calendar_of path; builder = fresh q }
   fresh-at c context.Event path = refl
   fresh-at c _ path = refl
 
@@ -117,18 +117,18 @@ module _ (whole before : List Placed) where
   -- what is collected of a component that ends, and of the one that it stands in
   closed-in : (l : Placed) (c : Open) (cs : List Open) (f g : Bundle) → name_of (property_name l.content) ≡ name.End →
       lines_in c.begun whole ≡ lines_in c.begun before ++ l ∷ [] → IsKept before [] c cs f →
-      builder_at (context_of cs) (gathered whole cs (g.lines ++ f.begin ∷ []))
-      ≡ joined (builder_at (context_of (c ∷ cs)) (gathered whole (c ∷ cs) f.lines)) (builder_at (context_of cs) (gathered whole cs g.lines))
+      builder_at (context_of cs) (readings whole cs (g.lines ++ f.begin ∷ []))
+      ≡ joined (builder_at (context_of (c ∷ cs)) (readings whole (c ∷ cs) f.lines)) (builder_at (context_of cs) (readings whole cs g.lines))
   closed-in l c cs f g n w kept =
-      let inner : Gathered = gathered whole (c ∷ cs) f.lines in
+      let inner : Readings = readings whole (c ∷ cs) f.lines in
       let number : f.begin.number ≡ c.begun = ap innermost kept.opened in
       let all : lines_in f.begin.number whole ≡ f.lines ++ l ∷ [] =
       ap (λ m. lines_in m whole) number ∙ w ∙ ap (λ ls. ls ++ l ∷ []) (kept.lines ∙ append-nil f.lines) in
       let same : own whole f.begin ≡ observance_ended inner.observance =
       ap (λ ls. observance_ended (observance_of ls)) all ∙ ap observance_ended (observance-end f.lines l n) in
-      ap (λ q. builder_at q (gathered whole cs (g.lines ++ f.begin ∷ []))) (sym (ap context_of (path-of f.begin c cs kept.opened)))
+      ap (λ q. builder_at q (readings whole cs (g.lines ++ f.begin ∷ []))) (sym (ap context_of (path-of f.begin c cs kept.opened)))
       ∙ builder-begun whole (context_of f.begin.path) cs g.lines f.begin inner (begin-named f.begin kept.begins) kept.begins same
-      ∙ ap (λ (path : List Open). joined (builder_at (context_of path) inner) (builder_at (context_of (drop 1 path)) (gathered whole cs g.lines))) kept.opened
+      ∙ ap (λ (path : List Open). joined (builder_at (context_of path) inner) (builder_at (context_of (drop 1 path)) (readings whole cs g.lines))) kept.opened
 
   closed-over : (l : Placed) (path : List Open) (bundles : List Bundle) → Keeps before [] path bundles → name_of (property_name l.content) ≡ name.End →
       ((c : Open) (cs : List Open) → path ≡ c ∷ cs → lines_in c.begun whole ≡ lines_in c.begun before ++ l ∷ []) →
@@ -140,7 +140,7 @@ module _ (whole before : List Placed) where
   closed-over l (c ∷ []) (f ∷ []) k n w = absurd k.1
   closed-over l (c ∷ d ∷ ds) (f ∷ []) k n w = absurd k.1
   closed-over l (c ∷ []) (f ∷ g ∷ gs) k n w =
-      ap (λ s. record bottom { builder = s } ∷ []) (sym (nothing-still (builder_at (context_of (c ∷ [])) (gathered whole (c ∷ []) f.lines))))
+      ap (λ s. record bottom { builder = s } ∷ []) (sym (nothing-still (builder_at (context_of (c ∷ [])) (readings whole (c ∷ []) f.lines))))
   closed-over l (c ∷ d ∷ ds) (f ∷ g ∷ gs) k n w =
       ap (λ s. record { component = component_of d.name; context = context_of (d ∷ ds); calendar = calendar_of (d ∷ ds); builder = s } ∷ frames_of whole ds gs)
       (closed-in l c (d ∷ ds) f g n (w c (d ∷ ds) refl) k.0)

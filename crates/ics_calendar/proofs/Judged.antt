@@ -38,7 +38,7 @@ use Rattle.ics_calendar.specs.Lines.{outside_fault, named_line}
 use Rattle.ics_calendar.specs.Values.{zone_name, stamp_read, dated_of, lasting_of, duration_in, rule_in, ok_or_zero, is_cancelled, is_fine_rule}
 use Rattle.ics_calendar.specs.Zones.{local_in, onset_in, offset_in, daily_in}
 
--- A LINE OF AN EVENT: its fault, what is collected behind it, and what the second round looks at.
+-- A LINE OF AN EVENT: its fault, what is collected behind it, and its check in the second round.
 abbrev pub event_fault : Name → Parts → EventBuilder → Option FaultKind
 event_fault name.Uid c had = fault_if kind.Repeated (is_some had.uid)
 event_fault name.Dtstart c had = first (stamp_fault_of (stamp_read c.params c.value)) (fault_if kind.Repeated (is_some had.start))
@@ -125,11 +125,11 @@ builder_check k n c (builder.Event had) = event_check k n c
 builder_check k n c _ = None
 
 -- AN END.
-abbrev pub end_of : Builder → Option FaultKind
-end_of (builder.Event had) = end_of_event had
-end_of (builder.Zone had) = end_of_zone had
-end_of (builder.Observance had) = end_of_observance had
-end_of builder.Nothing = None
+abbrev pub fault_at_end_of : Builder → Option FaultKind
+fault_at_end_of (builder.Event had) = end_of_event had
+fault_at_end_of (builder.Zone had) = end_of_zone had
+fault_at_end_of (builder.Observance had) = end_of_observance had
+fault_at_end_of builder.Nothing = None
 
 abbrev pub ended_as : ℕ → Builder → Ended
 ended_as k (builder.Event had) = ended.Event (event_ended k had)
@@ -150,7 +150,7 @@ end_check k _ = None
 
 abbrev pub end_fault_at : Context → Bool → Builder → Option FaultKind
 end_fault_at context.Outside matches s = Some kind.NotCalendar
-end_fault_at _ matches s = cond matches (end_of s) (Some kind.BadNesting)
+end_fault_at _ matches s = cond matches (fault_at_end_of s) (Some kind.BadNesting)
 
 -- A LINE, where so many components are open.
 abbrev pub fault_in : Name → Parts → Frame → ℕ → Option FaultKind
@@ -270,7 +270,7 @@ builder-line-is k q n c (builder.Observance had) =
     ∙ then-ok (observance_fault n c had) (observance_note n c had) (λ h. (builder.Observance h, None))
 builder-line-is k q n c builder.Nothing = refl
 
-builder-end-is : (k : ℕ) (s outer : Builder) → builder_end k s outer ≡ unless (end_of s) (joined s outer, passed (ended_as k s) (end_check k s))
+builder-end-is : (k : ℕ) (s outer : Builder) → builder_end k s outer ≡ unless (fault_at_end_of s) (joined s outer, passed (ended_as k s) (end_check k s))
 builder-end-is k (builder.Event had) outer = then-ok (end_of_event had) (event_ended k had) (λ e. (outer, passed (ended.Event e) (ends_in k had.start had.end)))
 builder-end-is k (builder.Zone had) outer = then-ok (end_of_zone had) (zone_ended k had) (λ z. (outer, passed (ended.Zone z) None))
 builder-end-is k (builder.Observance had) outer =
@@ -283,22 +283,23 @@ IsBased [] = ⊥
 IsBased (f ∷ []) = f.context ≡ context.Outside
 IsBased (f ∷ g ∷ gs) = (f.context ≢ context.Outside) × IsBased (g ∷ gs)
 
-end-inside : (q : Context) (matches : Bool) (s : Builder) → q ≢ context.Outside → end_fault_at q matches s ≡ cond matches (end_of s) (Some kind.BadNesting)
+end-inside : (q : Context) (matches : Bool) (s : Builder) → q ≢ context.Outside →
+    end_fault_at q matches s ≡ cond matches (fault_at_end_of s) (Some kind.BadNesting)
 end-inside context.Outside matches s n = absurd (n refl)
 end-inside _ matches s n = refl
 
 end-line-is : (f g : Frame) (gs : List Frame) (w : List ℕ) →
     and_then {Y = List Frame × Passed} (frame_end w f g.builder) (λ r. Ok (record g { builder = r.0 } ∷ gs, r.1))
-    ≡ unless (cond (bytes_eq w (component_name f.component)) (end_of f.builder) (Some kind.BadNesting))
+    ≡ unless (cond (bytes_eq w (component_name f.component)) (fault_at_end_of f.builder) (Some kind.BadNesting))
     (closed (f ∷ g ∷ gs), passed (ended_in f) (end_check f.calendar f.builder))
 end-line-is f g gs w = by_test (bytes_eq w (component_name f.component))
   where
     by_test : (t : Bool) → and_then {Y = List Frame × Passed} (cond t (builder_end f.calendar f.builder g.builder) (Err kind.BadNesting))
         (λ r. Ok (record g { builder = r.0 } ∷ gs, r.1))
-        ≡ unless (cond t (end_of f.builder) (Some kind.BadNesting)) (closed (f ∷ g ∷ gs), passed (ended_in f) (end_check f.calendar f.builder))
+        ≡ unless (cond t (fault_at_end_of f.builder) (Some kind.BadNesting)) (closed (f ∷ g ∷ gs), passed (ended_in f) (end_check f.calendar f.builder))
     by_test true =
         ap (λ r. and_then {Y = List Frame × Passed} r (λ r. Ok (record g { builder = r.0 } ∷ gs, r.1))) (builder-end-is f.calendar f.builder g.builder)
-        ∙ then-ok (end_of f.builder) (joined f.builder g.builder, passed (ended_in f) (end_check f.calendar f.builder))
+        ∙ then-ok (fault_at_end_of f.builder) (joined f.builder g.builder, passed (ended_in f) (end_check f.calendar f.builder))
         (λ r. (record g { builder = r.0 } ∷ gs, r.1))
     by_test false = refl
 

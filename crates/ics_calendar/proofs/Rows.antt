@@ -108,13 +108,13 @@ asked-same u q cl some other = by_tests (bytes_eq u (codes "END") && cl) (is_zon
     by_tests false z e = refl
 
 -- what is collected of some lines of a calendar, read as those of an event, of a time zone and of an observance
-pub record Gathered : Type 0 where
+pub record Readings : Type 0 where
   pub calendar : ℕ
   pub event : EventBuilder
   pub zone : ZoneBuilder
   pub observance : ObservanceBuilder
 
-abbrev pub builder_at : Context → Gathered → Builder
+abbrev pub builder_at : Context → Readings → Builder
 builder_at context.Event g = builder.Event g.event
 builder_at context.Zone g = builder.Zone g.zone
 builder_at context.Observance g = builder.Observance g.observance
@@ -124,32 +124,32 @@ abbrev pub bad_end_of : EventBuilder → Bool
 bad_end_of had = (is_some had.end && is_some had.duration) || ends_badly had.start had.end
 
 -- an observance has ended in the time zone
-abbrev pub has_observance : Gathered → Bool
+abbrev pub has_observance : Readings → Bool
 has_observance g = not (length g.zone.observances == 0)
 
-abbrev pub has_fields : Context → Gathered → Bool
+abbrev pub has_fields : Context → Readings → Bool
 has_fields context.Zone g = is_some g.zone.name && true
 has_fields context.Observance g = is_some g.observance.start && (is_some g.observance.from && (is_some g.observance.to && true))
 has_fields _ g = true
 
 -- the frame of a component, with what is collected of it
-abbrev pub frame_at : Component → Context → Gathered → Frame
+abbrev pub frame_at : Component → Context → Readings → Frame
 frame_at c q g = record { component = c; context = q; calendar = g.calendar; builder = builder_at q g }
 
-abbrev pub flat_of : List ℕ → Parts → Context → Bool → ℕ → Gathered → Bool → Option FaultKind
+abbrev pub flat_of : List ℕ → Parts → Context → Bool → ℕ → Readings → Bool → Option FaultKind
 flat_of u v q cl depth g h =
     flat u (map upper v.value) v q cl (nat_le 32 depth) (is_filled g.event.uid) (is_some g.event.start) (bad_end_of g.event) (is_bare u q cl (has_observance g))
     (has_fields q g) h
 
-abbrev pub fault_of : Name → Parts → Component → Context → ℕ → Gathered → Option FaultKind
+abbrev pub fault_of : Name → Parts → Component → Context → ℕ → Readings → Option FaultKind
 fault_of n v c q depth g = fault_in n v (frame_at c q g) depth
 
 -- the properties that both an event and an observance have
-abbrev pub start_flag : Context → Gathered → Bool
+abbrev pub start_flag : Context → Readings → Bool
 start_flag context.Observance g = is_some g.observance.start
 start_flag _ g = is_some g.event.start
 
-abbrev pub rule_flag : Context → Gathered → Bool
+abbrev pub rule_flag : Context → Readings → Bool
 rule_flag context.Observance g = is_some g.observance.rule
 rule_flag _ g = is_some g.event.rule
 
@@ -225,23 +225,23 @@ dates-row false false true d m = refl
 dates-row false false false true m = refl
 dates-row false false false false m = refl
 
-pub at-uid : (v : Parts) (c : Component) (q : Context) (cl : Bool) (depth : ℕ) (g : Gathered) →
+pub at-uid : (v : Parts) (c : Component) (q : Context) (cl : Bool) (depth : ℕ) (g : Readings) →
     flat_of (codes "UID") v q cl depth g (is_some g.event.uid) ≡ fault_of name.Uid v c q depth g
 at-uid v c context.Event cl depth g = refl
 at-uid v c _ cl depth g = refl
 
-pub at-dtstart : (v : Parts) (c : Component) (q : Context) (cl : Bool) (depth : ℕ) (g : Gathered) →
+pub at-dtstart : (v : Parts) (c : Component) (q : Context) (cl : Bool) (depth : ℕ) (g : Readings) →
     flat_of (codes "DTSTART") v q cl depth g (start_flag q g) ≡ fault_of name.Dtstart v c q depth g
 at-dtstart v c context.Observance cl depth g = simp or-false (onset-row (stamp_of false v.value) (is_some g.observance.start))
 at-dtstart v c context.Event cl depth g = stamp-row (stamp_read v.params v.value) (fault_if Repeated (is_some g.event.start))
 at-dtstart v c _ cl depth g = refl
 
-pub at-dtend : (v : Parts) (c : Component) (q : Context) (cl : Bool) (depth : ℕ) (g : Gathered) →
+pub at-dtend : (v : Parts) (c : Component) (q : Context) (cl : Bool) (depth : ℕ) (g : Readings) →
     flat_of (codes "DTEND") v q cl depth g (is_some g.event.end) ≡ fault_of name.Dtend v c q depth g
 at-dtend v c context.Event cl depth g = stamp-row (stamp_read v.params v.value) (fault_if Repeated (is_some g.event.end))
 at-dtend v c _ cl depth g = refl
 
-pub at-duration : (v : Parts) (c : Component) (q : Context) (cl : Bool) (depth : ℕ) (g : Gathered) →
+pub at-duration : (v : Parts) (c : Component) (q : Context) (cl : Bool) (depth : ℕ) (g : Readings) →
     flat_of (codes "DURATION") v q cl depth g (is_some g.event.duration) ≡ fault_of name.Duration v c q depth g
 at-duration v c context.Event cl depth g =
     ap (λ t. cond (is_bad_duration (lasting_of v.value)) (Some BadDuration) (cond t (Some NumberTooLarge) (fault_if Repeated (is_some g.event.duration))))
@@ -249,24 +249,24 @@ at-duration v c context.Event cl depth g =
     ∙ duration-row (lasting_of v.value) (fault_if Repeated (is_some g.event.duration))
 at-duration v c _ cl depth g = refl
 
-pub at-rrule : (v : Parts) (c : Component) (q : Context) (cl : Bool) (depth : ℕ) (g : Gathered) →
+pub at-rrule : (v : Parts) (c : Component) (q : Context) (cl : Bool) (depth : ℕ) (g : Readings) →
     flat_of (codes "RRULE") v q cl depth g (rule_flag q g) ≡ fault_of name.Rrule v c q depth g
 at-rrule v c context.Event cl depth g = simp or-false (rule-row (rule_of v.value) (fault_if Repeated (is_some g.event.rule)))
 at-rrule v c context.Observance cl depth g = simp or-false (daily-row (rule_of v.value) (is_some g.observance.rule))
 at-rrule v c _ cl depth g = refl
 
-pub at-recurrence_id : (v : Parts) (c : Component) (q : Context) (cl : Bool) (depth : ℕ) (g : Gathered) →
+pub at-recurrence_id : (v : Parts) (c : Component) (q : Context) (cl : Bool) (depth : ℕ) (g : Readings) →
     flat_of (codes "RECURRENCE-ID") v q cl depth g (is_some g.event.recurrence) ≡ fault_of name.RecurrenceId v c q depth g
 at-recurrence_id v c context.Event cl depth g =
     recurrence-row (stamp_read v.params v.value) (is_some g.event.recurrence) (is_some (param_of (codes "RANGE") v.params))
 at-recurrence_id v c _ cl depth g = refl
 
-pub at-sequence : (v : Parts) (c : Component) (q : Context) (cl : Bool) (depth : ℕ) (g : Gathered) →
+pub at-sequence : (v : Parts) (c : Component) (q : Context) (cl : Bool) (depth : ℕ) (g : Readings) →
     flat_of (codes "SEQUENCE") v q cl depth g (is_some g.event.sequence) ≡ fault_of name.Sequence v c q depth g
 at-sequence v c context.Event cl depth g = number-row (integer_of v.value) (fault_if Repeated (is_some g.event.sequence))
 at-sequence v c _ cl depth g = refl
 
-pub at-rdate : (v : Parts) (c : Component) (q : Context) (cl : Bool) (depth : ℕ) (g : Gathered) (h : Bool) →
+pub at-rdate : (v : Parts) (c : Component) (q : Context) (cl : Bool) (depth : ℕ) (g : Readings) (h : Bool) →
     flat_of (codes "RDATE") v q cl depth g h ≡ fault_of name.Rdate v c q depth g
 at-rdate v c context.Event cl depth g h = simp or-false refl
 at-rdate v c context.Observance cl depth g h =
@@ -275,53 +275,53 @@ at-rdate v c context.Observance cl depth g h =
     (fault_if ObservanceField (list_any is_not_local vs)))
 at-rdate v c _ cl depth g h = refl
 
-pub at-exdate : (v : Parts) (c : Component) (q : Context) (cl : Bool) (depth : ℕ) (g : Gathered) (h : Bool) →
+pub at-exdate : (v : Parts) (c : Component) (q : Context) (cl : Bool) (depth : ℕ) (g : Readings) (h : Bool) →
     flat_of (codes "EXDATE") v q cl depth g h ≡ fault_of name.Exdate v c q depth g
 at-exdate v c context.Event cl depth g h = simp or-false refl
 at-exdate v c _ cl depth g h = refl
 
-pub at-exrule : (v : Parts) (c : Component) (q : Context) (cl : Bool) (depth : ℕ) (g : Gathered) (h : Bool) →
+pub at-exrule : (v : Parts) (c : Component) (q : Context) (cl : Bool) (depth : ℕ) (g : Readings) (h : Bool) →
     flat_of (codes "EXRULE") v q cl depth g h ≡ fault_of name.Exrule v c q depth g
 at-exrule v c context.Event cl depth g h = refl
 at-exrule v c _ cl depth g h = refl
 
-pub at-version : (v : Parts) (c : Component) (q : Context) (cl : Bool) (depth : ℕ) (g : Gathered) (h : Bool) →
+pub at-version : (v : Parts) (c : Component) (q : Context) (cl : Bool) (depth : ℕ) (g : Readings) (h : Bool) →
     flat_of (codes "VERSION") v q cl depth g h ≡ fault_of name.Version v c q depth g
 at-version v c context.Event cl depth g h = refl
 at-version v c _ cl depth g h = refl
 
-pub at-summary : (v : Parts) (c : Component) (q : Context) (cl : Bool) (depth : ℕ) (g : Gathered) (h : Bool) →
+pub at-summary : (v : Parts) (c : Component) (q : Context) (cl : Bool) (depth : ℕ) (g : Readings) (h : Bool) →
     flat_of (codes "SUMMARY") v q cl depth g h ≡ fault_of name.Summary v c q depth g
 at-summary v c context.Event cl depth g h = refl
 at-summary v c _ cl depth g h = refl
 
-pub at-location : (v : Parts) (c : Component) (q : Context) (cl : Bool) (depth : ℕ) (g : Gathered) (h : Bool) →
+pub at-location : (v : Parts) (c : Component) (q : Context) (cl : Bool) (depth : ℕ) (g : Readings) (h : Bool) →
     flat_of (codes "LOCATION") v q cl depth g h ≡ fault_of name.Location v c q depth g
 at-location v c context.Event cl depth g h = refl
 at-location v c _ cl depth g h = refl
 
-pub at-description : (v : Parts) (c : Component) (q : Context) (cl : Bool) (depth : ℕ) (g : Gathered) (h : Bool) →
+pub at-description : (v : Parts) (c : Component) (q : Context) (cl : Bool) (depth : ℕ) (g : Readings) (h : Bool) →
     flat_of (codes "DESCRIPTION") v q cl depth g h ≡ fault_of name.Description v c q depth g
 at-description v c context.Event cl depth g h = refl
 at-description v c _ cl depth g h = refl
 
-pub at-status : (v : Parts) (c : Component) (q : Context) (cl : Bool) (depth : ℕ) (g : Gathered) (h : Bool) →
+pub at-status : (v : Parts) (c : Component) (q : Context) (cl : Bool) (depth : ℕ) (g : Readings) (h : Bool) →
     flat_of (codes "STATUS") v q cl depth g h ≡ fault_of name.Status v c q depth g
 at-status v c context.Event cl depth g h = refl
 at-status v c _ cl depth g h = refl
 
-pub at-tzid : (v : Parts) (c : Component) (q : Context) (cl : Bool) (depth : ℕ) (g : Gathered) →
+pub at-tzid : (v : Parts) (c : Component) (q : Context) (cl : Bool) (depth : ℕ) (g : Readings) →
     flat_of (codes "TZID") v q cl depth g (is_some g.zone.name) ≡ fault_of name.Tzid v c q depth g
 at-tzid v c context.Event cl depth g = refl
 at-tzid v c _ cl depth g = refl
 
-pub at-offset_from : (v : Parts) (c : Component) (q : Context) (cl : Bool) (depth : ℕ) (g : Gathered) →
+pub at-offset_from : (v : Parts) (c : Component) (q : Context) (cl : Bool) (depth : ℕ) (g : Readings) →
     flat_of (codes "TZOFFSETFROM") v q cl depth g (is_some g.observance.from) ≡ fault_of name.OffsetFrom v c q depth g
 at-offset_from v c context.Observance cl depth g = offset-row (offset_of v.value) (fault_if ObservanceField (is_some g.observance.from))
 at-offset_from v c context.Event cl depth g = refl
 at-offset_from v c _ cl depth g = refl
 
-pub at-offset_to : (v : Parts) (c : Component) (q : Context) (cl : Bool) (depth : ℕ) (g : Gathered) →
+pub at-offset_to : (v : Parts) (c : Component) (q : Context) (cl : Bool) (depth : ℕ) (g : Readings) →
     flat_of (codes "TZOFFSETTO") v q cl depth g (is_some g.observance.to) ≡ fault_of name.OffsetTo v c q depth g
 at-offset_to v c context.Observance cl depth g = offset-row (offset_of v.value) (fault_if ObservanceField (is_some g.observance.to))
 at-offset_to v c context.Event cl depth g = refl
@@ -341,7 +341,7 @@ observance-end true true false = refl
 observance-end true false c = refl
 observance-end false b c = refl
 
-pub at-end : (v : Parts) (c : Component) (q : Context) (cl : Bool) (depth : ℕ) (g : Gathered) (h : Bool) →
+pub at-end : (v : Parts) (c : Component) (q : Context) (cl : Bool) (depth : ℕ) (g : Readings) (h : Bool) →
     (is_outside_context q ≡ false → bytes_eq (map upper v.value) (component_name c) ≡ cl) →
     flat_of (codes "END") v q cl depth g h ≡ fault_of name.End v c q depth g
 at-end v c context.Outside true depth g h e = refl
@@ -351,7 +351,7 @@ at-end v c context.Observance true depth g h e = rw (e refl) (observance-end (is
 at-end v c _ true depth g h e = rw (e refl) refl
 at-end v c _ false depth g h e = rw (e refl) refl
 
-outside-begin : (b : Component) (w : List ℕ) (v : Parts) (c : Component) (cl : Bool) (depth : ℕ) (g : Gathered) (h : Bool) → TellsComponent w b →
+outside-begin : (b : Component) (w : List ℕ) (v : Parts) (c : Component) (cl : Bool) (depth : ℕ) (g : Readings) (h : Bool) → TellsComponent w b →
     flat (codes "BEGIN") w v context.Outside cl (nat_le 32 depth) (is_filled g.event.uid) (is_some g.event.start) (bad_end_of g.event) false true h
     ≡ first (outside_fault context.Outside b) (fault_if TooDeep (nat_le 32 depth))
 outside-begin component.Calendar w v c cl depth g h e = rw e refl
@@ -361,13 +361,13 @@ outside-begin component.Standard w v c cl depth g h e = rw e refl
 outside-begin component.Daylight w v c cl depth g h e = rw e refl
 outside-begin (component.Other n) w v c cl depth g h e = simp e.0.no_calendar refl
 
-pub at-begin : (v : Parts) (c : Component) (q : Context) (cl : Bool) (depth : ℕ) (g : Gathered) (h : Bool) →
+pub at-begin : (v : Parts) (c : Component) (q : Context) (cl : Bool) (depth : ℕ) (g : Readings) (h : Bool) →
     flat_of (codes "BEGIN") v q cl depth g h ≡ fault_of name.Begin v c q depth g
 at-begin v c context.Outside cl depth g h =
     outside-begin (component_of (map upper v.value)) (map upper v.value) v c cl depth g h (tells_component (map upper v.value))
 at-begin v c _ cl depth g h = refl
 
-pub at-other : (u : List ℕ) (v : Parts) (c : Component) (q : Context) (cl : Bool) (depth : ℕ) (g : Gathered) (h : Bool) → IsUnknown u →
+pub at-other : (u : List ℕ) (v : Parts) (c : Component) (q : Context) (cl : Bool) (depth : ℕ) (g : Readings) (h : Bool) → IsUnknown u →
     flat_of u v q cl depth g h ≡ fault_of name.Other v c q depth g
 at-other u v c context.Outside cl depth g h n =
     simp (

@@ -42,7 +42,7 @@ use Rattle.ics_calendar.specs.Builders.{fresh, zone_ended, observance_ended, eve
 use Rattle.ics_calendar.specs.Values.{zone_name, dated_of, duration_in, lasting_of, is_lasting, is_fine, is_filled, ends_badly}
 use Rattle.ics_calendar.specs.Zones.{local_in, onset_in, offset_in, daily_in}
 use Rattle.ics_calendar.proofs.Judged.{event_note, zone_note, observance_note, builder_note, joined, closed, behind, behind-is, is_begin_name, is_end_name}
-use Rattle.ics_calendar.proofs.Judged.{end_of, end_fault_at, ended_as, ends, fault_on}
+use Rattle.ics_calendar.proofs.Judged.{fault_at_end_of, end_fault_at, ended_as, ends, fault_on}
 use Rattle.ics_calendar.proofs.SoundValues.{day-zero, stamp-range, sound-stamp, sound-lasting, sound-rdates, sound-exdates}
 use Rattle.ics_values.specs.Locals.{local_at}
 use Rattle.ics_values.specs.declared.duration.Duration.{Duration}
@@ -395,7 +395,7 @@ whole-event k had s e =
     by_times (Some d) None (Some e) a b c t f = (a, c)
     by_times (Some d) None None a b c t f = (a, tt)
 
-pub end-none : (q : Context) (matches : Bool) (s : Builder) → end_fault_at q matches s ≡ None → end_of s ≡ None
+pub end-none : (q : Context) (matches : Bool) (s : Builder) → end_fault_at q matches s ≡ None → fault_at_end_of s ≡ None
 end-none context.Outside matches s e = cc
 end-none context.Calendar true s e = e
 end-none context.Calendar false s e = cc
@@ -413,7 +413,7 @@ events-whole name.End v [] e s = All-nil IsWhole
 events-whole name.End v (f ∷ []) e s = All-nil IsWhole
 events-whole name.End v (f ∷ g ∷ gs) e s = by_builder f.context f.builder (end-none f.context _ f.builder e) s.0
   where
-    by_builder : (q : Context) (s : Builder) → end_of s ≡ None → IsSoundAt q s → All IsWhole (events_of_end (ended_as f.calendar s))
+    by_builder : (q : Context) (s : Builder) → fault_at_end_of s ≡ None → IsSoundAt q s → All IsWhole (events_of_end (ended_as f.calendar s))
     by_builder context.Event (builder.Event had) e h = All-cons IsWhole (event_ended f.calendar had) [] (whole-event f.calendar had h e) (All-nil IsWhole)
     by_builder _ (builder.Event had) e h = absurd h
     by_builder q (builder.Observance had) e h = All-nil IsWhole
@@ -437,7 +437,7 @@ zones-sound name.End v [] e s = All-nil IsSoundEnded
 zones-sound name.End v (f ∷ []) e s = All-nil IsSoundEnded
 zones-sound name.End v (f ∷ g ∷ gs) e s = by_builder f.context f.builder (end-none f.context _ f.builder e) s.0
   where
-    by_builder : (q : Context) (s : Builder) → end_of s ≡ None → IsSoundAt q s → All IsSoundEnded (zones_of_end (ended_as f.calendar s))
+    by_builder : (q : Context) (s : Builder) → fault_at_end_of s ≡ None → IsSoundAt q s → All IsSoundEnded (zones_of_end (ended_as f.calendar s))
     by_builder context.Zone (builder.Zone had) e h =
         All-cons IsSoundEnded (zone_ended f.calendar had) [] (record { filled = zone-filled had e; sound = h }) (All-nil IsSoundEnded)
     by_builder _ (builder.Zone had) e h = absurd h

@@ -26,13 +26,13 @@ use Rattle.ics_calendar.proofs.Built.{collected_of, zone_of, observance_of}
 use Rattle.ics_calendar.specs.Zones.{onset_on, offset_on, daily_on, phase_by, begins_phase}
 use Rattle.ics_calendar.proofs.Judged.{fault_in}
 use Rattle.ics_calendar.proofs.NameLemmas.{Tells, tells, component_name-of}
-use Rattle.ics_calendar.proofs.Rows.{Gathered, flat, bad_end_of, has_observance, has_fields, is_bare, asked-same, frame_at, flat_of, fault_of, start_flag}
+use Rattle.ics_calendar.proofs.Rows.{Readings, flat, bad_end_of, has_observance, has_fields, is_bare, asked-same, frame_at, flat_of, fault_of, start_flag}
 use Rattle.ics_calendar.proofs.Rows.{rule_flag, at-uid, at-dtstart, at-dtend, at-duration, at-rrule, at-recurrence_id, at-sequence, at-rdate, at-exdate}
 use Rattle.ics_calendar.proofs.Rows.{at-exrule, at-version, at-summary, at-location, at-description, at-status, at-tzid, at-offset_from, at-offset_to, at-end}
 use Rattle.ics_calendar.proofs.Rows.{at-begin, at-other}
 
 -- what the pass keeps of a name, where it keeps anything
-abbrev flag : Name → Context → Gathered → Bool → Bool
+abbrev flag : Name → Context → Readings → Bool → Bool
 flag name.Uid q g h = is_some g.event.uid
 flag name.Dtstart q g h = start_flag q g
 flag name.Dtend q g h = is_some g.event.end
@@ -45,7 +45,7 @@ flag name.OffsetFrom q g h = is_some g.observance.from
 flag name.OffsetTo q g h = is_some g.observance.to
 flag _ q g h = h
 
-same : (n : Name) (u : List ℕ) (v : Parts) (c : Component) (q : Context) (cl : Bool) (depth : ℕ) (g : Gathered) (h : Bool) → Tells u n → flag n q g h ≡ h →
+same : (n : Name) (u : List ℕ) (v : Parts) (c : Component) (q : Context) (cl : Bool) (depth : ℕ) (g : Readings) (h : Bool) → Tells u n → flag n q g h ≡ h →
     (is_outside_context q ≡ false → bytes_eq (map upper v.value) (component_name c) ≡ cl) → flat_of u v q cl depth g h ≡ fault_of n v c q depth g
 same name.Begin u v c q cl depth g h e f m = rw e (at-begin v c q cl depth g h)
 same name.End u v c q cl depth g h e f m = rw e (at-end v c q cl depth g h m)
@@ -99,33 +99,33 @@ any-part whole (l ∷ ls) = by_test (begins_phase l) (any-part whole ls)
     by_test false e = e
 
 -- what is collected of some lines, where these components are open
-abbrev pub gathered : List Placed → List Open → List Placed → Gathered
-gathered whole path ls = record { calendar = calendar_of path; event = collected_of ls; zone = zone_of (parts whole ls) ls; observance = observance_of ls }
+abbrev pub readings : List Placed → List Open → List Placed → Readings
+readings whole path ls = record { calendar = calendar_of path; event = collected_of ls; zone = zone_of (parts whole ls) ls; observance = observance_of ls }
 
-start-flag-is : (whole : List Placed) (q : Context) (k : List Open) (ls : List Placed) → start_flag q (gathered whole k ls) ≡ has (codes "DTSTART") ls
+start-flag-is : (whole : List Placed) (q : Context) (k : List Open) (ls : List Placed) → start_flag q (readings whole k ls) ≡ has (codes "DTSTART") ls
 start-flag-is whole context.Observance k ls = has-first onset_on (codes "DTSTART") ls
 start-flag-is whole _ k ls = has-first dated_on (codes "DTSTART") ls
 
-rule-flag-is : (whole : List Placed) (q : Context) (k : List Open) (ls : List Placed) → rule_flag q (gathered whole k ls) ≡ has (codes "RRULE") ls
+rule-flag-is : (whole : List Placed) (q : Context) (k : List Open) (ls : List Placed) → rule_flag q (readings whole k ls) ≡ has (codes "RRULE") ls
 rule-flag-is whole context.Observance k ls = has-first daily_on (codes "RRULE") ls
 rule-flag-is whole _ k ls = has-first parts_on (codes "RRULE") ls
 
-flag-gathered : (whole : List Placed) (n : Name) (q : Context) (k : List Open) (u : List ℕ) (ls : List Placed) → Tells u n →
-    flag n q (gathered whole k ls) (has u ls) ≡ has u ls
-flag-gathered whole name.Uid q k u ls e = rw e (has-first (λ line. text_of (value line)) (codes "UID") ls)
-flag-gathered whole name.Dtstart q k u ls e = rw e (start-flag-is whole q k ls)
-flag-gathered whole name.Dtend q k u ls e = rw e (has-first dated_on (codes "DTEND") ls)
-flag-gathered whole name.Duration q k u ls e = rw e (has-first duration_on (codes "DURATION") ls)
-flag-gathered whole name.Rrule q k u ls e = rw e (rule-flag-is whole q k ls)
-flag-gathered whole name.RecurrenceId q k u ls e = rw e (has-first dated_on (codes "RECURRENCE-ID") ls)
-flag-gathered whole name.Sequence q k u ls e = rw e (has-first (λ line. ok_or_zero (integer_of (value line))) (codes "SEQUENCE") ls)
-flag-gathered whole name.Tzid q k u ls e = rw e (has-first (λ line. text_of (value line)) (codes "TZID") ls)
-flag-gathered whole name.OffsetFrom q k u ls e = rw e (has-first offset_on (codes "TZOFFSETFROM") ls)
-flag-gathered whole name.OffsetTo q k u ls e = rw e (has-first offset_on (codes "TZOFFSETTO") ls)
-flag-gathered whole _ q k u ls e = refl
+flag-readings : (whole : List Placed) (n : Name) (q : Context) (k : List Open) (u : List ℕ) (ls : List Placed) → Tells u n →
+    flag n q (readings whole k ls) (has u ls) ≡ has u ls
+flag-readings whole name.Uid q k u ls e = rw e (has-first (λ line. text_of (value line)) (codes "UID") ls)
+flag-readings whole name.Dtstart q k u ls e = rw e (start-flag-is whole q k ls)
+flag-readings whole name.Dtend q k u ls e = rw e (has-first dated_on (codes "DTEND") ls)
+flag-readings whole name.Duration q k u ls e = rw e (has-first duration_on (codes "DURATION") ls)
+flag-readings whole name.Rrule q k u ls e = rw e (rule-flag-is whole q k ls)
+flag-readings whole name.RecurrenceId q k u ls e = rw e (has-first dated_on (codes "RECURRENCE-ID") ls)
+flag-readings whole name.Sequence q k u ls e = rw e (has-first (λ line. ok_or_zero (integer_of (value line))) (codes "SEQUENCE") ls)
+flag-readings whole name.Tzid q k u ls e = rw e (has-first (λ line. text_of (value line)) (codes "TZID") ls)
+flag-readings whole name.OffsetFrom q k u ls e = rw e (has-first offset_on (codes "TZOFFSETFROM") ls)
+flag-readings whole name.OffsetTo q k u ls e = rw e (has-first offset_on (codes "TZOFFSETTO") ls)
+flag-readings whole _ q k u ls e = refl
 
 -- the fields of a component of a time zone are all there
-fields-are : (whole : List Placed) (q : Context) (k : List Open) (ls : List Placed) → has_all (field_names q) ls ≡ has_fields q (gathered whole k ls)
+fields-are : (whole : List Placed) (q : Context) (k : List Open) (ls : List Placed) → has_all (field_names q) ls ≡ has_fields q (readings whole k ls)
 fields-are whole context.Zone k ls = ap (λ t. t && true) (sym (has-first (λ line. text_of (value line)) (codes "TZID") ls))
 fields-are whole context.Observance k ls =
     ap (λ t. t && (has (codes "TZOFFSETFROM") ls && (has (codes "TZOFFSETTO") ls && true))) (sym (has-first onset_on (codes "DTSTART") ls))
@@ -140,16 +140,16 @@ top_component (c ∷ cs) = component_of c.name
 
 -- the frame that a path and the lines directly in its innermost component stand for
 abbrev pub frame_of : List Placed → List Open → List Placed → Frame
-frame_of whole path ls = frame_at (top_component path) (context_of path) (gathered whole path ls)
+frame_of whole path ls = frame_at (top_component path) (context_of path) (readings whole path ls)
 
 -- what the table reads of the lines beside, as the pass keeps it
 tests-same : (whole : List Placed) (u : List ℕ) (v : Parts) (q : Context) (k : List Open) (cl deep h : Bool) (ls : List Placed) →
-    (is_zone_context q ≡ true → list_any begins_observance ls ≡ has_observance (gathered whole k ls)) →
+    (is_zone_context q ≡ true → list_any begins_observance ls ≡ has_observance (readings whole k ls)) →
     flat u (map upper v.value) v q cl deep (is_filled (first_text (codes "UID") ls)) (has (codes "DTSTART") ls)
     ((has (codes "DTEND") ls && has (codes "DURATION") ls) || ends_badly (first_dated (codes "DTSTART") ls) (first_dated (codes "DTEND") ls))
     (is_bare u q cl (list_any begins_observance ls)) (has_all (field_names q) ls) h
     ≡ flat u (map upper v.value) v q cl deep (is_filled (collected_of ls).uid) (is_some (collected_of ls).start) (bad_end_of (collected_of ls))
-    (is_bare u q cl (has_observance (gathered whole k ls))) (has_fields q (gathered whole k ls)) h
+    (is_bare u q cl (has_observance (readings whole k ls))) (has_fields q (readings whole k ls)) h
 tests-same whole u v q k cl deep h ls asked =
     let bad : Bool = ends_badly (first_dated (codes "DTSTART") ls) (first_dated (codes "DTEND") ls) in
     let filled : Bool = is_filled (first_text (codes "UID") ls) in
@@ -164,8 +164,8 @@ tests-same whole u v q k cl deep h ls asked =
     ∙ ap (λ a. flat u (map upper v.value) v q cl deep filled (is_some (collected_of ls).start) (bad_end_of (collected_of ls)) bare a h)
     (fields-are whole q k ls)
     ∙ ap (λ b. flat u (map upper v.value) v q cl deep filled (is_some (collected_of ls).start) (bad_end_of (collected_of ls)) b
-    (has_fields q (gathered whole k ls)) h)
-    (asked-same u q cl (list_any begins_observance ls) (has_observance (gathered whole k ls)) asked)
+    (has_fields q (readings whole k ls)) h)
+    (asked-same u q cl (list_any begins_observance ls) (has_observance (readings whole k ls)) asked)
 
 -- the time zone on whose lines an END stands has an observance exactly where one has begun there
 abbrev pub IsAsked : List Placed → List Open → List Placed → Type 0
@@ -178,12 +178,12 @@ pub least-same : (whole : List Placed) (path : List Open) (number : ℕ) (v : Pa
 least-same whole [] number v ls asked =
     let u : List ℕ = map upper v.name in
     tests-same whole u v context.Outside [] false (nat_le 32 0) (has u ls) ls asked
-    ∙ same (name_of u) u v (component.Other []) context.Outside false 0 (gathered whole [] ls) (has u ls) (tells u)
-    (flag-gathered whole (name_of u) context.Outside [] u ls (tells u)) (λ e. cc)
+    ∙ same (name_of u) u v (component.Other []) context.Outside false 0 (readings whole [] ls) (has u ls) (tells u)
+    (flag-readings whole (name_of u) context.Outside [] u ls (tells u)) (λ e. cc)
 least-same whole (c ∷ cs) number v ls asked =
     let u : List ℕ = map upper v.name in
     let cl : Bool = closes (c ∷ cs) (map upper v.value) in
     tests-same whole u v (context_of (c ∷ cs)) (c ∷ cs) cl (nat_le 32 (length (c ∷ cs))) (has u ls) ls asked
-    ∙ same (name_of u) u v (component_of c.name) (context_of (c ∷ cs)) cl (length (c ∷ cs)) (gathered whole (c ∷ cs) ls) (has u ls) (tells u)
-    (flag-gathered whole (name_of u) (context_of (c ∷ cs)) (c ∷ cs) u ls (tells u))
+    ∙ same (name_of u) u v (component_of c.name) (context_of (c ∷ cs)) cl (length (c ∷ cs)) (readings whole (c ∷ cs) ls) (has u ls) (tells u)
+    (flag-readings whole (name_of u) (context_of (c ∷ cs)) (c ∷ cs) u ls (tells u))
     (λ e. ap (bytes_eq (map upper v.value)) (component_name-of c.name))

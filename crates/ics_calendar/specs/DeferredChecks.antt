@@ -1,4 +1,4 @@
--- What the second round looks at, and what becomes of it when all time zones of the file are known (RFC 5545, section 3.8.2.4).
+-- The checks of the second round, when all time zones of the file are known (RFC 5545, section 3.8.2.4).
 use Rattle.std.specs.Prelude.{ℕ, Bool, false, ◌&&◌, not, ◌==◌, List, [], slice_get, unwrap_or, Option, Some, None, is_some, option_map, ℤ, if◌then◌else◌}
 use Rattle.std.specs.List.{position}
 use Rattle.std.specs.Option.{option_and_then}
@@ -72,7 +72,7 @@ ends_badly_later known calendar (Some start) (Some end) =
     not (are_of_one_zone start end) && are_out (moment_in known calendar start) (moment_in known calendar end)
 ends_badly_later known calendar _ _ = false
 
--- WHAT BECOMES of what the second round looks at.
+-- WHAT A CHECK FINDS.
 abbrev pub moment_of : KnownZones → Instant → Option ℤ
 moment_of known (instant.Utc local) = Some (seconds_of local)
 moment_of known (instant.Zoned local name) = moment_there known name local

@@ -39,7 +39,7 @@ abbrev pub checks_of : ℕ → Option DeferredCheck → List LineCheck
 checks_of number None = []
 checks_of number (Some check) = record { line = number; check = check } ∷ []
 
--- WHAT IS GATHERED with what ends on a line more, and what the second round looks at there.
+-- WHAT IS GATHERED with what ends on a line more, and the check of that line.
 abbrev pub and_passed : ℕ → Passed → GatheredSeen → GatheredSeen
 and_passed number p had = record {
   zones = had.zones ++ zones_of_end p.ended;
@@ -56,11 +56,11 @@ first_judged known [] = None
 first_judged known (w ∷ ws) = found w.line (judged known w.check) (first_judged known ws)
 
 -- WHAT THE FILE IS, where the first round finds nothing.
-abbrev pub said_by : KnownZones → GatheredSeen → FileSaid
-said_by known g = record { zones = known.zones; events = map (event_of known.index) g.events }
+abbrev pub said_of_gathered : KnownZones → GatheredSeen → FileSaid
+said_of_gathered known g = record { zones = known.zones; events = map (event_of known.index) g.events }
 
 abbrev pub settled_by : KnownZones → GatheredSeen → Result FileSaid Fault
-settled_by known g = decide None (first_judged known g.checks) (said_by known g)
+settled_by known g = decide None (first_judged known g.checks) (said_of_gathered known g)
 
 abbrev pub settled : GatheredSeen → Result FileSaid Fault
 settled g = settled_by (known_in g) g
@@ -79,7 +79,7 @@ abbrev pub IsSoundCheck : DeferredCheck → Type 0
 IsSoundCheck (Ends start end) = IsSoundInstant start × IsSoundInstant end
 IsSoundCheck _ = Unit {0}
 
--- The second round looks at the zones of each event's stamps, and at its end against its start.
+-- The second round checks the zones of each event's stamps, and its end against its start.
 pub record IsSoundGathered (g : GatheredSeen) : Type 0 where
   pub zones : All (λ z. IsSoundZone z.observances) g.zones
   pub whole : All IsWhole g.events

@@ -4,7 +4,7 @@ use Rattle.ics_calendar.specs.declared.gathered.EndedEvent.{EndedEvent}
 use Rattle.ics_calendar.specs.declared.gathered.EndedZone.{EndedZone}
 use Rattle.ics_calendar.specs.declared.gathered.LineCheck.{LineCheck}
 
--- The time zones and events that have ended, and what the second round looks at, each in the order of the lines.
+-- The time zones and events that have ended, and the checks of the second round, each in the order of the lines.
 pub record GatheredSeen : Type 0 where
   pub zones : List EndedZone
   pub events : List EndedEvent

@@ -220,7 +220,7 @@ abbrev pub ends_in : ℕ → Option Dated → Option Dated → Option DeferredCh
 ends_in calendar (Some start) (Some end) = if are_of_one_zone start end then None else both_compared (instant_in calendar start) (instant_in calendar end)
 ends_in calendar _ _ = None
 
--- A LINE OF AN EVENT in a calendar: what is collected with it, and what the second round looks at.
+-- A LINE OF AN EVENT in a calendar: what is collected with it, and its check in the second round.
 abbrev pub with_dated : ℕ → Parts → Option Dated → (Dated → EventBuilder) → Result (EventBuilder × Option DeferredCheck) FaultKind
 with_dated calendar c had put = and_then (dated_said c) (λ d. once kind.Repeated had (put d, used_zone calendar d))
 
@@ -272,7 +272,7 @@ builder_line k q n c (builder.Zone had) = and_then (zone_line n c had) (λ h. Ok
 builder_line k q n c (builder.Observance had) = and_then (observance_line n c had) (λ h. Ok (builder.Observance h, None))
 builder_line k q n c builder.Nothing = unless (plain_fault q n c) (builder.Nothing, None)
 
--- WHAT A COMPONENT IS at its END, and what the second round looks at.
+-- WHAT A COMPONENT IS at its END, and its check in the second round.
 abbrev pub end_of_event : EventBuilder → Option FaultKind
 end_of_event had =
     if not (is_filled had.uid) then Some kind.MissingUid

@@ -28,7 +28,7 @@ abbrev pub at_end : List Frame → Option ℕ → Option Fault
 at_end frames None = Some (record { line = 1; kind = kind.NotCalendar })
 at_end frames (Some last) = if is_lowest frames then None else Some (record { line = last + 1; kind = kind.BadNesting })
 
--- THE PASS is the first round alone. It gathers what ends, and what the second round looks at.
+-- THE PASS is the first round alone. It gathers what ends, and the checks of the second round.
 abbrev pub unless : {X : Type 0} → Option Fault → X → Result X Fault
 unless (Some fault) answer = Err fault
 unless None answer = Ok answer

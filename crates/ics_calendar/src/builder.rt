@@ -1,4 +1,4 @@
-//! What has been read of a component so far.
+//! A component that is being built of its lines.
 ghost use Rattle.std.specs.Prelude.{◌≡◌, IfOk};
 ghost use Rattle.ics_calendar.specs.Lines.{Gives, Makes, Keeps, onset_said, offset_said, zone_line, observance_line, builder_line, plain_fault};
 ghost use Rattle.ics_calendar.specs.Lines.{with_observance, zone_end, observance_end};
@@ -179,7 +179,7 @@ impl Builder {
         }
     }
 
-    /// One line more that begins and ends no component, with what the second round looks at there.
+    /// One line more that begins and ends no component, with the check that it leaves to the second round.
     pub fn line(
         &mut self,
         alloc: Global,

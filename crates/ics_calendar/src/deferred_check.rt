@@ -1,4 +1,4 @@
-//! What the second round looks at: time zones by their names, which may stand after their use.
+//! The checks of the second round. They need all time zones of the file, which may stand after their use.
 ghost use Rattle.std.specs.Prelude.{◌≡◌, IfOk};
 ghost use Rattle.ics_calendar.specs.DeferredChecks.{zone_named};
 
@@ -20,8 +20,8 @@ pub enum Instant {
     Zoned(Local, ZoneName),
 }
 
-/// What the second round looks at on a line: an end out of reach of its start in UTC, a stamp in a time zone, or a start
-/// and an end that compare as instants.
+/// A check of the second round: an end in UTC that is out of reach of its start, a time zone that is to be known, or a
+/// start and an end that compare as instants.
 #[derive(Drop)]
 pub enum DeferredCheck {
     End,

@@ -71,7 +71,7 @@ fn are_of_one_zone(start: &Dated, end: &Dated) -> bool
     start.is_zoned() && end.is_zoned() && same_zone(start, end)
 }
 
-/// What the second round looks at where these are a start and its end.
+/// The check that the second round makes where these are a start and its end.
 fn compared(start: Instant, end: Instant) -> Option<DeferredCheck>
     ensures { result ≡ compared start end }
 {
@@ -84,7 +84,7 @@ fn compared(start: Instant, end: Instant) -> Option<DeferredCheck>
     Some(DeferredCheck::Ends(start, end))
 }
 
-/// What the second round looks at on the END of an event of that calendar.
+/// The check that the second round makes on the END of an event of that calendar.
 pub fn ends_in(
     alloc: Global,
     calendar: u64,

@@ -1,4 +1,4 @@
-//! What has been read of an event so far.
+//! An event that is being built of its lines.
 ghost use Rattle.std.specs.Prelude.{◌≡◌, Option, None, Some, is_some, true, false, IfOk, IfErr};
 ghost use Rattle.ics_calendar.specs.declared.name.Name.TheVariants as name;
 ghost use Rattle.ics_calendar.specs.Builders.{nothing};
@@ -198,7 +198,7 @@ impl EventBuilder {
         Ok(check)
     }
 
-    /// One line more of an event in that calendar, with what the second round looks at there.
+    /// One line more of an event in that calendar. A stamp in a time zone gives a check for the second round.
     pub fn line(
         &mut self,
         alloc: Global,
@@ -235,7 +235,7 @@ impl EventBuilder {
         Ok(None)
     }
 
-    /// What the second round looks at where the event ends.
+    /// The check of its end against its start, where that waits for the second round.
     pub fn ends_in(&self, alloc: Global, calendar: u64) -> Result<Option<DeferredCheck>, AllocError>
         ensures { IfOk result (λ check. check ≡ ends_in calendar self.now.start self.now.end) }
     {

@@ -62,7 +62,7 @@ pub enum Ended {
     Nothing,
 }
 
-/// What is gathered on a line: what ends there, and what the second round looks at.
+/// What is gathered on a line: what ends there, and the check that it leaves to the second round.
 #[derive(Drop)]
 pub struct Passed {
     pub ended: Ended,

@@ -1,4 +1,4 @@
-//! What becomes of what the second round looks at, when all time zones of the file are known.
+//! What the deferred checks find, when all time zones of the file are known.
 ghost use Rattle.std.specs.Prelude.{◌≡◌};
 ghost use Rattle.ics_calendar.specs.Gathered.{IsSoundInstant, IsSoundCheck};
 ghost use Rattle.ics_calendar.specs.DeferredChecks.{are_out, moment_of, ends_out, judged};

@@ -3,7 +3,7 @@ use Rattle.ics_zone.specs.Observances.{Phase}
 use Rattle.ics_calendar.specs.Event.{EventSeen, AreEventsOf}
 use Rattle.ics_calendar.specs.Files.{decide}
 use Rattle.ics_calendar.specs.FirstFault.{Fault}
-use Rattle.ics_calendar.specs.Gathered.{first_judged, said_by, settled, settled_by, IsSoundGathered}
+use Rattle.ics_calendar.specs.Gathered.{first_judged, said_of_gathered, settled, settled_by, IsSoundGathered}
 use Rattle.ics_calendar.specs.GatheredSeen.{GatheredSeen}
 use Rattle.ics_calendar.specs.DeferredChecks.{KnownZones}
 use Rattle.ics_calendar.specs.ZoneTables.{known_by}
@@ -15,7 +15,7 @@ returns-in-Some c =
     let g : GatheredSeen = record { zones = c.gathered.inside.zones.items; events = c.gathered.inside.events.items; checks = c.gathered.inside.checks.items } in
     let known : KnownZones = known_by c.in_ok-table.table in
     let judged : c.first_judged.result ≡ first_judged known g.checks = c.first_judged.ensures ∙ ap (first_judged known) c.deref.ensures.value in
-    ap (λ (o : Option Fault). decide None o (said_by known g)) (sym c.in-Some.is ∙ judged)
+    ap (λ (o : Option Fault). decide None o (said_of_gathered known g)) (sym c.in-Some.is ∙ judged)
     ∙ ap (λ (k : KnownZones). settled_by k g) (known-is g known c.in_ok-table.ensures.index c.in_ok-table.ensures.zones) ∙ ap settled c.gathered.view_is
 
 pub events_of-requires : goal.events_of-requires
@@ -43,6 +43,6 @@ returns c =
     let judged : c.first_judged.result ≡ first_judged known g.checks = c.first_judged.ensures ∙ ap (first_judged known) c.deref.ensures.value in
     ap (λ (zs : List (List Phase)). Ok (record { zones = zs; events = c.in_ok-events.events.items })) c.into_zones.ensures
     ∙ ap (λ (es : List EventSeen). Ok (record { zones = known.zones; events = es })) c.in_ok-events.ensures
-    ∙ ap (λ (o : Option Fault). decide None o (said_by known g)) (sym c.in_default.is ∙ judged)
+    ∙ ap (λ (o : Option Fault). decide None o (said_of_gathered known g)) (sym c.in_default.is ∙ judged)
     ∙ ap (λ (k : KnownZones). settled_by k g) (known-is g known c.in_ok-table.ensures.index c.in_ok-table.ensures.zones)
     ∙ ap settled c.gathered.view_is
