@@ -45,24 +45,24 @@ is_digit = is_between 48 57
 abbrev pub is_name_byte : ℕ → Bool
 is_name_byte b = is_between 65 90 b || is_between 97 122 b || is_digit b || b == 45 || b == 95
 
--- what may stand between quotes
+-- the bytes of a quoted value of a parameter
 abbrev pub is_quoted_byte : ℕ → Bool
 is_quoted_byte b = not (b == dquote) && not (is_control b)
 
--- what may stand in a parameter's value without quotes
+-- the bytes of an unquoted value of a parameter
 abbrev pub is_plain_byte : ℕ → Bool
 is_plain_byte b = is_quoted_byte b && not (b == semicolon) && not (b == colon) && not (b == comma)
 
--- whether there is a first byte, and it passes
+-- there is a first byte, and it passes the test
 abbrev pub begins : (ℕ → Bool) → List ℕ → Bool
 begins p [] = false
 begins p (b ∷ bs) = p b
 
--- a byte in upper case, where it is a letter
+-- the byte in upper case if it is a letter, and else the byte
 abbrev pub upper : ℕ → ℕ
 upper b = if is_between 97 122 b then b - 32 else b
 
--- the two texts are one but for the case of their letters
+-- the two texts are equal but for the case of letters
 abbrev pub same_name : List ℕ → List ℕ → Bool
 same_name [] [] = true
 same_name [] (c ∷ cs) = false

@@ -6,7 +6,7 @@ use Rattle.ics_text.specs.declared.place.Place.TheVariants.{Start}
 use Rattle.ics_text.specs.Unfolded.{onto_first}
 use Rattle.ics_text.specs.Bytes.{dquote, comma, colon, semicolon, equals, is_name_byte, is_quoted_byte, is_plain_byte, same_name, begins}
 
--- A value of a parameter: its bytes without the quotes, and whether it has quotes.
+-- A value of a parameter: whether it is quoted, and its bytes without the quotes.
 pub record Value : Type 0 where
   pub quoted : Bool
   pub bytes : List ℕ
@@ -21,7 +21,7 @@ pub record Param : Type 0 where
 abbrev pub value_text : Value → List ℕ
 value_text v = if v.quoted then dquote ∷ v.bytes ++ dquote ∷ [] else v.bytes
 
--- a parameter as it is written, its `;` with it
+-- a parameter as it is written, including its `;`
 abbrev pub param_text : Param → List ℕ
 param_text p = semicolon ∷ p.name ++ equals ∷ value_text p.first ++ flat_map (λ v. comma ∷ value_text v) p.others
 
@@ -33,7 +33,7 @@ pub record IsName (name : List ℕ) : Type 0 where
   pub some : name ≢ []
   pub bytes : list_all is_name_byte name ≡ true
 
--- A value with quotes holds no quote and no control, one without them no `;`, `:` and `,` either.
+-- A quoted value contains no quote and no control character. An unquoted one also contains no `;`, `:` or `,`.
 abbrev pub IsValue : Value → Type 0
 IsValue v = list_all (if v.quoted then is_quoted_byte else is_plain_byte) v.bytes ≡ true
 
@@ -42,7 +42,7 @@ pub record IsParam (p : Param) : Type 0 where
   pub first : IsValue p.first
   pub others : AllByRecursion IsValue p.others
 
--- The text is that of the parameters, and each of them is in order.
+-- The text is that of the parameters, and each of them is valid.
 pub record IsParams (text : List ℕ) (ps : List Param) : Type 0 where
   pub in_order : AllByRecursion IsParam ps
   pub spelled : text ≡ params_text ps
@@ -54,18 +54,18 @@ pub record IsContent (line name params value : List ℕ) : Type 0 where
   pub params_ok : IsParams params ps
   pub spelled : line ≡ name ++ params ++ colon ∷ value
 
--- the first value of the first parameter of that name
+-- the first value of the first parameter with that name
 abbrev pub first_value : List ℕ → List Param → Option (List ℕ)
 first_value name [] = None
 first_value name (p ∷ ps) = if same_name name p.name then Some p.first.bytes else first_value name ps
 
--- The parts of a content line, as they stand in it.
+-- The parts of a content line, as they are written in it.
 pub record Parts : Type 0 where
   pub name : List ℕ
   pub params : List ℕ
   pub value : List ℕ
 
--- the parts of a line whose name has len bytes and whose colon has n before it
+-- the parts of a line whose name has len bytes, and n bytes before the colon of its value
 abbrev pub cut_by : List ℕ → ℕ → ℕ → Parts
 cut_by line len n = record { name = take len line; params = take (n - len) (drop len line); value = drop (n + 1) line }
 
@@ -76,11 +76,11 @@ cut_at line n = cut_by line (prefix_len is_name_byte line) n
 abbrev pub content_of : List ℕ → Option Parts
 content_of line = option_map (cut_at line) (colon_from line Start)
 
--- whether what follows a byte stands between quotes
+-- whether the text after a byte is between quotes
 abbrev pub turned : Bool → ℕ → Bool
 turned quoted b = if b == dquote then not quoted else quoted
 
--- the pieces between the separators that stand outside quotes
+-- the pieces between the separators outside quotes
 abbrev pub pieces : ℕ → Bool → List ℕ → List (List ℕ)
 pieces sep quoted [] = [] ∷ []
 pieces sep quoted (b ∷ bs) =
@@ -91,7 +91,7 @@ pieces sep quoted (b ∷ bs) =
 abbrev pub without_quotes : List ℕ → List ℕ
 without_quotes text = if begins (λ b. b == dquote) text then take (length text - 2) (drop 1 text) else text
 
--- what stands behind the name at the front
+-- the text after the name that begins it
 abbrev pub after_name : List ℕ → List ℕ
 after_name text = drop (prefix_len is_name_byte text) text
 
@@ -99,16 +99,16 @@ abbrev pub first_piece : List (List ℕ) → List ℕ
 first_piece [] = []
 first_piece (piece ∷ more) = piece
 
--- the first value of a parameter's text, of which the `;` is left off
+-- the first value of a parameter, whose text is given without the `;`
 abbrev pub first_of_text : List ℕ → List ℕ
 first_of_text text = without_quotes (first_piece (pieces comma false (drop 1 (after_name text))))
 
--- the first value of the first of these parameters that has the name
+-- the first value of the first of these parameters with that name
 abbrev pub value_among : List ℕ → List (List ℕ) → Option (List ℕ)
 value_among name [] = None
 value_among name (text ∷ texts) =
     if same_name name (take_while is_name_byte text) then Some (first_of_text text) else value_among name texts
 
--- the first value of the first parameter of that name, in the text of the parameters
+-- the first value of the first parameter with that name, in the text of the parameters
 abbrev pub param_of : List ℕ → List ℕ → Option (List ℕ)
 param_of name params = value_among name (drop 1 (pieces semicolon false params))

@@ -1,4 +1,4 @@
--- A line as it is held: borrowed from the file where nothing was folded (RFC 5545, section 3.1).
+-- A line in memory: borrowed from the file unless it was folded (RFC 5545, section 3.1).
 use Rattle.std.specs.Prelude.{ℕ, Bool, true, false, List}
 use Rattle.ics_text.specs.Unfolded.{Line}
 use Rattle.ics_text.specs.Reading.{line_of}

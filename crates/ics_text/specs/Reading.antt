@@ -9,29 +9,29 @@ without_cr [] = []
 without_cr (b ∷ []) = if b == cr then [] else b ∷ []
 without_cr (b ∷ c ∷ cs) = b ∷ without_cr (c ∷ cs)
 
--- the physical lines behind a line end, if there is one
+-- the physical lines after a line end, if there is one
 abbrev pub physical_behind : Option (List ℕ) → List (List ℕ)
 physical_behind None = []
 physical_behind (Some after) = physical_lines after
 
--- a line by its parts
+-- the line with these parts
 abbrev pub line_of : ℕ → List ℕ → Bool → Line
 line_of n bytes folded = record { number = n; bytes = bytes; folded = folded }
 
--- the lines of bytes that begin at physical line n, the empty ones too
+-- the lines of bytes, the first with number n, including empty ones
 abbrev pub all_from : ℕ → List ℕ → List Line
 all_from n bytes = joined (numbered n (physical_lines bytes))
 
--- a line and those behind it, without it if it is empty
+-- a line and those after it, but without it if it is empty
 abbrev pub kept : Line → List Line → List Line
 kept line lines = if is_line line then line ∷ lines else lines
 
--- there is a line, and it is folded
+-- there is a first line, and it is folded
 abbrev pub BeginsFolded : List Line → Type 0
 BeginsFolded [] = ⊥
 BeginsFolded (line ∷ lines) = line.folded ≡ true
 
--- the lines still to come were this one, if any, and then those that come now; after the end none come
+-- a call took the first of the lines still to come, or None at the end, where none come any more
 abbrev pub Takes : List Line → Option Line → List Line → Type 0
 Takes old None new = (old ≡ []) × (new ≡ [])
 Takes old (Some line) new = old ≡ line ∷ new

@@ -1,19 +1,19 @@
--- The lines of a file with their folds taken out (RFC 5545, section 3.1).
+-- The lines of a file, unfolded (RFC 5545, section 3.1).
 use Rattle.std.specs.Prelude.{◌≡◌, ℕ, zero, suc, length, take, ◌+◌, ◌-◌, ◌<◌, ◌≤◌, Bool, true, false, ◌&&◌, not, ◌==◌, nat_eq, List, [], ◌∷◌, ◌++◌, drop, filter, if◌then◌else◌}
 use Rattle.std.specs.List.{starts_with}
 use Rattle.ics_text.specs.Bytes.{lf, cr, is_blank, begins, is_empty}
 
--- A line: the number of the first physical line that it is joined of, its bytes, and whether it is joined of several.
+-- A line: the number of its first physical line, its bytes, and whether it was joined from several physical lines.
 pub record Line : Type 0 where
   pub number : ℕ
   pub bytes : List ℕ
   pub folded : Bool
 
--- what follows the byte order mark, if there is one
+-- the bytes without the byte order mark that may begin them
 abbrev pub without_mark : List ℕ → List ℕ
 without_mark bytes = if starts_with nat_eq bytes (239 ∷ 187 ∷ 191 ∷ []) then drop 3 bytes else bytes
 
--- a byte in front of the first line
+-- the lines with a byte put before the first of them
 abbrev pub onto_first : ℕ → List (List ℕ) → List (List ℕ)
 onto_first b [] = (b ∷ []) ∷ []
 onto_first b (line ∷ lines) = (b ∷ line) ∷ lines
@@ -33,7 +33,7 @@ abbrev pub numbered : ℕ → List (List ℕ) → List Line
 numbered n [] = []
 numbered n (line ∷ lines) = record { number = n; bytes = line; folded = false } ∷ numbered (n + 1) lines
 
--- whether the next physical line goes on with the line before it
+-- whether the next physical line continues the line before it
 abbrev pub goes_on : List Line → Bool
 goes_on [] = false
 goes_on (line ∷ lines) = begins is_blank line.bytes
@@ -43,7 +43,7 @@ abbrev pub first_bytes : List Line → List ℕ
 first_bytes [] = []
 first_bytes (line ∷ lines) = line.bytes
 
--- the first line of the list, without its first byte, joined to the end of a line
+-- a line with the first line of the list appended, but for the latter's first byte
 abbrev pub attach : Line → List Line → List Line
 attach line lines = record { number = line.number; bytes = line.bytes ++ drop 1 (first_bytes lines); folded = true } ∷ drop 1 lines
 
@@ -54,11 +54,11 @@ joined (line ∷ lines) =
     let later = joined lines in
     if goes_on lines then attach line later else line ∷ later
 
--- a line that is not empty is kept
+-- the line is not empty
 abbrev pub is_line : Line → Bool
 is_line line = not (is_empty line.bytes)
 
--- the lines of bytes that begin at physical line n, the empty ones dropped
+-- the lines of bytes, the first with number n, without empty ones
 abbrev pub lines_from : ℕ → List ℕ → List Line
 lines_from n bytes = filter is_line (joined (numbered n (physical_lines bytes)))
 
@@ -66,21 +66,21 @@ lines_from n bytes = filter is_line (joined (numbered n (physical_lines bytes)))
 abbrev pub unfolded : List ℕ → List Line
 unfolded file = lines_from 1 (without_mark file)
 
--- the file begins with a fold, which has no line to go on with
+-- the file begins with a fold, which has no line to continue
 abbrev pub begins_with_fold : List ℕ → Bool
 begins_with_fold file = begins is_blank (without_mark file)
 
--- what stands behind the first LF
+-- the bytes after the first LF
 abbrev pub behind_lf : List ℕ → List ℕ
 behind_lf [] = []
 behind_lf (b ∷ bs) = if b == lf then bs else behind_lf bs
 
--- what stands behind the first n LFs
+-- the bytes after the first n LFs
 abbrev pub behind_lfs : ℕ → List ℕ → List ℕ
 behind_lfs zero bytes = bytes
 behind_lfs (suc n) bytes = behind_lfs n (behind_lf bytes)
 
--- The line stands in the file as it is, where the physical line of its number begins.
+-- The bytes of the line are in the file, where the physical line with its number begins.
 abbrev pub StandsIn : List ℕ → Line → Type 0
 StandsIn file line = take (length line.bytes) (behind_lfs (line.number - 1) (without_mark file)) ≡ line.bytes
 

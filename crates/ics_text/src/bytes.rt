@@ -2,7 +2,7 @@ ghost use Rattle.std.specs.Prelude.{◌≡◌, ◌≤◌, drop, length};
 ghost use Rattle.std.specs.List.{prefix_len};
 ghost use Rattle.ics_text.specs.Bytes.{is_blank, is_control, is_name_byte, is_quoted_byte, is_plain_byte};
 
-/// Whether a line that begins with the byte goes on with the line before it.
+/// Whether a line that begins with the byte continues the line before it: SPACE or HTAB.
 pub fn is_blank(b: u8) -> bool
     ensures { result ≡ is_blank b }
 {
@@ -15,28 +15,28 @@ fn is_control(b: u8) -> bool
     (b <= 31 && b != b'\t') || b == 127
 }
 
-/// Whether the byte may stand in the name of a property or a parameter.
+/// Whether the name of a property or a parameter may contain the byte.
 pub fn is_name_byte(b: u8) -> bool
     ensures { result ≡ is_name_byte b }
 {
     b.is_ascii_alphanumeric() || b == b'-' || b == b'_'
 }
 
-/// Whether the byte may stand in a parameter's value between quotes.
+/// Whether a quoted value of a parameter may contain the byte.
 pub fn is_quoted_byte(b: u8) -> bool
     ensures { result ≡ is_quoted_byte b }
 {
     b != b'"' && !is_control(b)
 }
 
-/// Whether the byte may stand in a parameter's value without quotes.
+/// Whether an unquoted value of a parameter may contain the byte.
 pub fn is_plain_byte(b: u8) -> bool
     ensures { result ≡ is_plain_byte b }
 {
     is_quoted_byte(b) && b != b';' && b != b':' && b != b','
 }
 
-/// How many bytes at the front may stand in a name.
+/// The length of the longest prefix whose bytes are allowed in a name.
 pub fn name_len(text: &[u8]) -> usize
     ensures value { result ≡ prefix_len is_name_byte text.now }
     ensures within { result ≤ length text.now }
@@ -49,7 +49,7 @@ pub fn name_len(text: &[u8]) -> usize
     text.len()
 }
 
-/// The bytes behind the first.
+/// The bytes after the first.
 pub fn without_first(bytes: &[u8]) -> &[u8]
     ensures { result.now ≡ drop 1 bytes.now }
 {

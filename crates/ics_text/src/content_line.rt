@@ -8,10 +8,10 @@ use crate::fault::BadLine;
 use crate::parts::Content;
 use crate::place::{Move, Place, step};
 
-/// The parts of a content line.
+/// The name, the parameters and the value of an unfolded line (RFC 5545, section 3.1). `BadLine` if it is not a content line.
 pub fn content<'a>(line: &'a [u8]) -> Result<Content<'a>, BadLine>
     ensures parts { IfOk result (λ c. IsContent line.now c.name c.params c.value) }
-    // A line has one reading at most.
+    // At most one reading fits a line.
     ensures only { IfOk result (λ c. (name params value : List ℕ) → IsContent line.now name params value →
         (name ≡ c.name) × (params ≡ c.params) × (value ≡ c.value)) }
     ensures refused { OnErr result ((name params value : List ℕ) → IsContent line.now name params value → ⊥) }
@@ -32,7 +32,7 @@ pub fn content<'a>(line: &'a [u8]) -> Result<Content<'a>, BadLine>
     })
 }
 
-/// Where the colon stands that the value follows, in what stands behind a name.
+/// The position of the colon before the value, in the text after the name.
 fn colon_of(text: &[u8]) -> Option<usize>
     ensures value { result ≡ colon_from text.now Place.InName }
     ensures within { IfSome result (λ k. k < length text.now) }

@@ -5,7 +5,7 @@ ghost use Rattle.std.specs.Prelude.{◌≡◌, codes};
 pub struct BadFold;
 
 impl BadFold {
-    /// The name that is printed.
+    /// The name of the fault, as it is printed.
     pub fn name(&self) -> &'static str
         ensures { result.now ≡ codes "BadFold" }
     {
@@ -13,12 +13,12 @@ impl BadFold {
     }
 }
 
-/// The line is no content line (RFC 5545, section 3.1).
+/// The line is not a content line (RFC 5545, section 3.1).
 #[derive(Clone, Copy, Debug, PartialEq, Eq)]
 pub struct BadLine;
 
 impl BadLine {
-    /// The name that is printed.
+    /// The name of the fault, as it is printed.
     pub fn name(&self) -> &'static str
         ensures { result.now ≡ codes "BadLine" }
     {

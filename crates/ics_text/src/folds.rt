@@ -9,7 +9,7 @@ use crate::logical::Held;
 use crate::physical::{cut_line, is_continued};
 use std::alloc::{AllocError, Global};
 
-/// A line, what follows it, and how many line ends stand before that.
+/// A line, the bytes after it, and the number of line ends before those.
 #[derive(Drop)]
 pub struct Found<'a> {
     pub held: Held<'a>,
@@ -17,7 +17,7 @@ pub struct Found<'a> {
     pub breaks: u64,
 }
 
-/// The first line of bytes. Only a folded line is allocated.
+/// The first line, unfolded. Only a folded line is allocated.
 pub fn first_line<'a>(alloc: Global, bytes: &'a [u8]) -> Result<Found<'a>, AllocError>
     ensures found { IfOk result (λ f. (n : ℕ) → lines_from n bytes.now ≡ kept (held_line n f.held) (lines_from (n + f.breaks) f.rest.now)) }
     ensures fewer { IfOk result (λ f. f.breaks + length f.rest.now ≤ length bytes.now) }
@@ -40,7 +40,7 @@ pub fn first_line<'a>(alloc: Global, bytes: &'a [u8]) -> Result<Found<'a>, Alloc
     }
 }
 
-/// Joins the physical lines at the front of `after`, which begins with a fold, to the first line.
+/// Joins the first line with the physical lines at the start of `after` that continue it. `after` begins with one.
 fn join_folds<'a>(alloc: Global, first: &[u8], after: &'a [u8]) -> Result<Found<'a>, AllocError>
     requires { begins is_blank after.now ≡ true }
     ensures found { IfOk result (λ f. (n : ℕ) → filter is_line (attach (line_of n first.now false) (all_from (n + 1) after.now))

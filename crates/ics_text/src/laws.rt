@@ -15,22 +15,22 @@ pub fn numbers_within()
     ensures { (file : List ℕ) → Within (length file + 1) (unfolded file) }
 {}
 
-/// The text of parameters is read in one way at most.
+/// The text of parameters has at most one reading.
 pub fn params_read_once()
     ensures { (text : List ℕ) (ps qs : List Param) → IsParams text ps → IsParams text qs → ps ≡ qs }
 {}
 
-/// The parts that are computed of a line are those that the grammar of a content line relates to it, and there are none exactly if it relates none.
+/// The parts that are computed of a line are those that the grammar gives it. None are computed exactly if the grammar gives none.
 pub fn content_by_grammar()
     ensures { (line : List ℕ) (parts : Parts) → content_of line ≡ Some parts ↔ IsContent line parts.name parts.params parts.value }
 {}
 
-/// The value that is computed of the text of parameters is the first value of the first parameter of that name, in their one reading.
+/// The value that is computed from the text of parameters is the first value of the first parameter with that name.
 pub fn param_by_grammar()
     ensures { (name text : List ℕ) (ps : List Param) → IsParams text ps → param_of name text ≡ first_value name ps }
 {}
 
-/// Unfolding undoes folding. Lines that are written with any folds and with either line end are read as they were.
+/// Unfolding undoes folding. Lines that are written with any folds and with either line end are read as they were before folding.
 /// Each has the number of its first physical line.
 pub fn unfolding_undoes_folding()
     ensures { (file : List ℕ) (lines : List Written) → AllByRecursion IsWritten lines → without_mark file ≡ flat_map written_text lines →

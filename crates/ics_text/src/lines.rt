@@ -9,7 +9,7 @@ use crate::physical::{is_continued, without_mark};
 use std::alloc::{AllocError, Global};
 use std::marker::Model;
 
-/// The lines of a file that are still to come.
+/// The lines of a file that were not read yet, unfolded and without the empty ones (RFC 5545, section 3.1).
 #[derive(Drop)]
 pub struct Lines<'a> {
     rest: &'a [u8],
@@ -28,7 +28,8 @@ impl<'a> Model for Lines<'a> {
 }
 
 impl<'a> Lines<'a> {
-    /// The lines of a file. A fold at its beginning continues no line.
+    /// The lines of a file; a byte order mark before them is skipped. `BadFold` if the first line begins with SPACE or HTAB, as if it
+    /// continued another.
     pub fn new(bytes: &'a [u8]) -> Result<Lines<'a>, BadFold>
         ensures lines { IfOk result (λ lines. lines ≡ unfolded bytes.now) }
         ensures places { IfOk result (λ lines. All (λ line. line.folded ≡ false → StandsIn bytes.now line) lines) }
@@ -41,8 +42,8 @@ impl<'a> Lines<'a> {
         Ok(Lines { rest, breaks: 0 })
     }
 
-    /// The next line; None after the last, each time. Only a folded line is allocated, and after an
-    /// `AllocError` nothing has changed.
+    /// The next line, or None from the end on. Only a folded line is allocated. If that fails, the answer
+    /// is an `AllocError` and the lines still to come are unchanged.
     pub fn next(&mut self, alloc: Global) -> Result<Option<Logical<'a>>, AllocError>
         ensures ok { IfOk result (λ line. Takes self.old line self.new) }
         ensures unchanged { OnErr result (self.new ≡ self.old) }

@@ -3,7 +3,7 @@ ghost use Rattle.ics_text.specs.Held.{held_bytes};
 
 use std::marker::Model;
 
-/// The bytes of a line: those of the file where nothing was folded.
+/// The bytes of a line, borrowed from the file unless the line was folded.
 #[derive(Drop)]
 pub enum Held<'a> {
     Borrowed(&'a [u8]),
@@ -21,7 +21,7 @@ impl Held<'_> {
     }
 }
 
-/// A line of a file that is not empty, with its folds taken out.
+/// An unfolded line of a file. It is not empty (RFC 5545, section 3.1).
 #[derive(Drop)]
 pub struct Logical<'a> {
     pub(crate) number: u64,
@@ -45,14 +45,14 @@ impl<'a> Logical<'a> {
         self.held.bytes()
     }
 
-    /// The number of its first physical line, from 1.
+    /// The number of its first physical line, counted from 1.
     pub fn number(&self) -> u64
         ensures { result ≡ self.now.number }
     {
         self.number
     }
 
-    /// The bytes as they stand in the file, where nothing was folded.
+    /// The bytes, borrowed from the file. None if the line was folded.
     pub fn borrowed(&self) -> Option<&'a [u8]>
         ensures same { IfSome result (λ bytes. bytes.now ≡ self.now.bytes) }
         ensures unless_folded { IsSome result ↔ (self.now.folded ≡ false) }

@@ -13,7 +13,7 @@ const COMMA: u8 = b',';
 
 const SEMICOLON: u8 = b';';
 
-/// The first value of the first parameter of that name, in the text of the parameters.
+/// The first value of the first parameter with that name, in the text of the parameters.
 pub fn param_of<'a>(params: &'a [u8], name: &[u8]) -> Option<&'a [u8]>
     ensures { option_copied result ≡ param_of name.now params.now }
 {
@@ -28,14 +28,14 @@ pub fn param_of<'a>(params: &'a [u8], name: &[u8]) -> Option<&'a [u8]>
     None
 }
 
-/// Whether that is the name in a parameter's text, of which the `;` is left off.
+/// Whether a parameter has that name. Its text is given without the `;`.
 fn is_named(text: &[u8], name: &[u8]) -> bool
     ensures { result ≡ same_name name.now (take_while is_name_byte text.now) }
 {
     name.eq_ignore_ascii_case(&text[..name_len(text)])
 }
 
-/// The first value in a parameter's text, of which the `;` is left off.
+/// The first value of a parameter. Its text is given without the `;`.
 fn first_of_text(text: &[u8]) -> &[u8]
     ensures { result.now ≡ first_of_text text.now }
 {
@@ -59,7 +59,7 @@ fn without_quotes(text: &[u8]) -> &[u8]
     }
 }
 
-/// The first piece between separators, and what follows its separator if there is one.
+/// The text before the first separator outside quotes, and the text after that separator if there is one.
 fn cut_piece<'a>(text: &'a [u8], separator: u8) -> (&'a [u8], Option<&'a [u8]>)
     requires { separator ≢ 34 }
     ensures pieces { pieces separator false text.now ≡ result.0.now ∷ pieces_behind separator (option_copied result.1) }
@@ -71,7 +71,7 @@ fn cut_piece<'a>(text: &'a [u8], separator: u8) -> (&'a [u8], Option<&'a [u8]>)
     }
 }
 
-/// Where the first separator stands that is outside quotes.
+/// The position of the first separator outside quotes.
 fn cut_of(text: &[u8], separator: u8) -> Option<usize>
     ensures value { result ≡ cut_from separator false text.now }
     ensures within { IfSome result (λ at. at < length text.now) }
@@ -86,7 +86,7 @@ fn cut_of(text: &[u8], separator: u8) -> Option<usize>
     None
 }
 
-/// Whether what follows a byte stands between quotes.
+/// Whether the text after a byte is between quotes.
 fn turned(quoted: bool, b: u8) -> bool
     ensures { result ≡ turned quoted b }
 {

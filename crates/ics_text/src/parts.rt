@@ -5,7 +5,7 @@ ghost use Rattle.ics_text.specs.Contents.{Param, IsParams, first_value, param_of
 use crate::param::param_of;
 use std::marker::Model;
 
-/// The parts of a content line, each a slice of it.
+/// The parts of a content line, each a slice of it (RFC 5545, section 3.1).
 #[derive(Drop)]
 pub struct Content<'a> {
     pub(crate) name: &'a [u8],
@@ -22,14 +22,14 @@ impl<'a> Model for Content<'a> {
 }
 
 impl<'a> Content<'a> {
-    /// The property's name, in the case of the file.
+    /// The property's name, in upper or lower case as in the file.
     pub fn name(&self) -> &'a [u8]
         ensures { result.now ≡ self.now.name }
     {
         self.name
     }
 
-    /// The text of the parameters, the `;` before each one with it.
+    /// The text of the parameters, including the `;` before each of them.
     pub fn params(&self) -> &'a [u8]
         ensures { result.now ≡ self.now.params }
     {
@@ -43,7 +43,8 @@ impl<'a> Content<'a> {
         self.value
     }
 
-    /// The first value of the first parameter of that name, without its quotes; names compare without case.
+    /// The first value of the first parameter with that name, without its quotes; None if there is no such parameter. Names are compared
+    /// without regard to the case of letters.
     pub fn param(&self, name: &[u8]) -> Option<&'a [u8]>
         ensures first { (ps : List Param) → IsParams self.now.params ps → option_copied result ≡ first_value name.now ps }
         ensures computes { option_copied result ≡ param_of name.now self.now.params }

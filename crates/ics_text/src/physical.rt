@@ -13,7 +13,7 @@ const CR: &[u8] = b"\r";
 
 const BYTE_ORDER_MARK: &[u8] = b"\xef\xbb\xbf";
 
-/// The first physical line, and what follows its end if it has one.
+/// The first physical line, and the bytes after its line end if it has one.
 pub fn cut_line<'a>(bytes: &'a [u8]) -> (&'a [u8], Option<&'a [u8]>)
     ensures lines { physical_lines bytes.now ≡ result.0.now ∷ physical_behind (option_copied result.1) }
     ensures shorter { IfSome result.1 (λ behind. length behind.now < length bytes.now) }
@@ -31,7 +31,7 @@ fn without_cr(bytes: &[u8]) -> &[u8]
     bytes.strip_suffix(CR).unwrap_or(bytes)
 }
 
-/// Whether the bytes go on with the line before them.
+/// Whether the bytes continue the line before them: they begin with SPACE or HTAB.
 pub fn is_continued(bytes: &[u8]) -> bool
     ensures { result ≡ begins is_blank bytes.now }
 {
@@ -41,7 +41,7 @@ pub fn is_continued(bytes: &[u8]) -> bool
     }
 }
 
-/// What follows the byte order mark, if there is one.
+/// The bytes without the byte order mark that may begin them.
 pub fn without_mark(bytes: &[u8]) -> &[u8]
     ensures { result.now ≡ without_mark bytes.now }
 {

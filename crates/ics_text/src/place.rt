@@ -3,7 +3,7 @@ ghost use Rattle.ics_text.specs.Places.{step, ends_value, in_value};
 
 use crate::bytes::{is_name_byte, is_plain_byte, is_quoted_byte};
 
-/// Where in a content line a byte stands.
+/// A place in a content line: what was read before the next byte.
 #[derive(Clone, Copy)]
 pub enum Place {
     Start,
@@ -16,7 +16,7 @@ pub enum Place {
     AfterQuotes,
 }
 
-/// What a byte does: it leads on to a place, or it is the colon before the value, or it may not stand there.
+/// What a byte does: it leads to the next place, it is the colon before the value, or it is not allowed.
 #[derive(Clone, Copy)]
 pub enum Move {
     On(Place),

@@ -1,11 +1,11 @@
--- What reading a duration's text part by part says of it.
+-- What is known of a duration's text when it is read part by part (RFC 5545, section 3.3.6).
 use Rattle.std.specs.Prelude.{◌≡◌, ◌≢◌, ℕ, ◌<◌, Bool, true, false, min, nat_le, ◌&&◌, List, ◌∷◌, Option, Some, None}
 use Rattle.ics_values.specs.Texts.{begins_with}
 use Rattle.ics_values.specs.Digits.{greatest_number}
 use Rattle.ics_values.specs.Durations.{shape, has_shape, amount_from, amount, weeks, days, hours, minutes, seconds}
 use Rattle.ics_values.specs.declared.amounts.Amounts.{Amounts}
 
--- a number, or the least that is too large
+-- the number, or 4,294,967,296 if it is larger
 abbrev pub capped : ℕ → ℕ
 capped n = min n 4_294_967_296
 
@@ -21,7 +21,7 @@ pub record IsAmount (unit : ℕ) (text : List ℕ) (n : ℕ) (rest : List ℕ) :
   pub number : n ≡ capped (amount unit text)
   pub others : (other : ℕ) → 57 < other → other ≢ unit → amount other text ≡ amount other rest
 
--- the text's shape does not begin so
+-- the shape of the text does not begin with this one
 abbrev pub LacksFront : List ℕ → List ℕ → Type 0
 LacksFront front text = begins_with front (shape text) ≡ false
 
@@ -33,7 +33,7 @@ pub record HasAmounts (text : List ℕ) (a : Amounts) : Type 0 where
   pub minutes : a.minutes ≡ capped (minutes text)
   pub seconds : a.seconds ≡ capped (seconds text)
 
--- the text has one of the shapes, and these numbers, or none of the shapes
+-- the text has one of the shapes and these numbers, or it has none of the shapes
 abbrev pub Reads : List (List ℕ) → List ℕ → Option Amounts → Type 0
 Reads shapes text None = has_shape shapes text ≡ false
 Reads shapes text (Some a) = (has_shape shapes text ≡ true) × HasAmounts text a

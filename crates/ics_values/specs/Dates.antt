@@ -18,11 +18,11 @@ days_before_month y m = sum (map (days_in_month (pos y)) (take (m - 1) months))
 abbrev pub day_number : ℕ → ℕ → ℕ → ℤ
 day_number y m d = pos (days_before_year y + days_before_month y m + (d - 1)) -ℤ pos 719_528
 
--- the day number of a date, where the calendar has it
+-- the day number of a date, if the calendar has it
 abbrev pub date_day : ℕ → ℕ → ℕ → Option ℤ
 date_day y m d = if is_date y m d then Some (day_number y m d) else None
 
--- the dates that there are, and the number of each, are jiff's
+-- whether the date exists, and its day number, are as jiff has them
 pub record IsJiffsDate (y m d : ℕ) : Type 0 where
   pub exists : (is_date y m d ≡ true) ↔ IsDate (pos y) (pos m) (pos d)
   pub number : is_date y m d ≡ true → day_number y m d ≡ days_from_civil (pos y) m d

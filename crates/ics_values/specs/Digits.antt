@@ -1,4 +1,4 @@
--- Digits, the numbers that they spell, and letters of either case.
+-- Digits, the numbers that they spell, and letters in upper case.
 use Rattle.std.specs.Prelude.{◌≡◌, ◌<◌, ◌≤◌, Option, Some, None, ℕ, ◌+◌, ◌-◌, ◌*◌, ◌^◌, Bool, ◌&&◌, not, ◌==◌, List, length, slice_range, slice_index, fold}
 use Rattle.std.specs.List.{list_all, position_or_len}
 use Rattle.std.specs.Char.{is_ascii_digit, to_ascii_uppercase}
@@ -6,7 +6,7 @@ use Rattle.std.specs.Char.{is_ascii_digit, to_ascii_uppercase}
 abbrev pub is_digit : ℕ → Bool
 is_digit b = is_ascii_digit b
 
--- a byte in upper case, where it is a letter
+-- the byte in upper case if it is a letter, and else the byte
 abbrev pub upper : ℕ → ℕ
 upper b = to_ascii_uppercase b
 
@@ -18,7 +18,7 @@ are_digits text = not (length text == 0) && list_all is_digit text
 abbrev pub number_of : List ℕ → ℕ
 number_of text = fold (λ n b. 10 * n + (b - 48)) 0 text
 
--- the greatest COUNT, INTERVAL, SEQUENCE and number of a duration
+-- the greatest COUNT, INTERVAL, SEQUENCE and number of a duration that is accepted
 abbrev pub greatest_number : ℕ
 greatest_number = 2 ^ 32 - 1
 

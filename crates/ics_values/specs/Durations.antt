@@ -8,7 +8,7 @@ use Rattle.ics_values.specs.declared.duration.Duration.{Duration}
 use Rattle.ics_values.specs.declared.duration.DurationFault.{DurationFault}
 use Rattle.ics_values.specs.declared.duration.DurationFault.TheVariants.{BadDuration, NumberTooLarge}
 
--- a text with each number written as one `0`, and its letters in upper case
+-- the text with one `0` for each number, and with its letters in upper case
 abbrev pub shape : List ℕ → List ℕ
 shape [] = []
 shape (b ∷ bs) =
@@ -17,7 +17,7 @@ shape (b ∷ bs) =
     else if begins is_digit bs then later
     else 48 ∷ later
 
--- each of these shapes behind a front
+-- each of these shapes after a prefix
 abbrev pub behind : List ℕ → List (List ℕ) → List (List ℕ)
 behind front shapes = map (λ s. front ++ s) shapes
 
@@ -53,7 +53,7 @@ has_shape shapes text = list_any (bytes_eq (shape text)) shapes
 abbrev pub is_duration_text : List ℕ → Bool
 is_duration_text text = has_shape duration_shapes (unsigned text)
 
--- the number before a unit's letter, given the number that ends here; 0 where the letter is not there
+-- the number before a unit's letter, given the number that ends here; 0 if the letter is not there
 abbrev pub amount_from : ℕ → List ℕ → ℕ → ℕ
 amount_from unit [] n = 0
 amount_from unit (b ∷ bs) n =
@@ -97,7 +97,7 @@ duration_of text =
     else if not (amounts_fit text) then Err NumberTooLarge
     else Ok (duration_said text)
 
--- how far the days and seconds of a duration's text go
+-- the greatest days and seconds that a duration's text may have
 pub record IsDurationRange (d : Duration) : Type 0 where
   pub days : d.days ≤ 8 * greatest_number
   pub seconds : d.seconds ≤ 3661 * greatest_number

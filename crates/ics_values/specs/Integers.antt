@@ -5,11 +5,11 @@ use Rattle.ics_values.specs.Texts.{begins}
 use Rattle.ics_values.specs.declared.integer.IntegerFault.{IntegerFault}
 use Rattle.ics_values.specs.declared.integer.IntegerFault.TheVariants.{NotDigits, NumberTooLarge}
 
--- a text without the `+` that may begin it
+-- the text without the `+` that may begin it
 abbrev pub without_plus : List ℕ → List ℕ
 without_plus text = if begins (λ b. b == 43) text then drop 1 text else text
 
--- digits, behind a `+` or not
+-- digits with or without a `+` before them
 abbrev pub integer_of : List ℕ → Result ℕ IntegerFault
 integer_of text =
     if not (are_digits (without_plus text)) then Err NotDigits

@@ -1,15 +1,15 @@
--- A date and a time of day in no zone (RFC 5545, section 3.3.5), and the two numbers that it is counted by.
+-- A date and a time of day without a zone (RFC 5545, section 3.3.5), and the two ways to count it in seconds.
 use Rattle.std.specs.Prelude.{ℕ, ◌+◌, ◌*◌, ◌%◌, ℤ, pos, ◌+ℤ◌, ◌*ℤ◌}
 use Rattle.std.proofs.Math.Nat.{mod-lt}
 use Rattle.std.proofs.Math.Dec.{lit<}
 use Rattle.ics_values.specs.Days.{days_before_year, day_index}
 use Rattle.ics_values.specs.declared.local.Local.{Local}
 
--- the local at second n of a day, where the seconds of a day are counted round
+-- the local at second n, modulo 86,400, of a day
 abbrev pub local_at : ℤ → ℕ → Local
 local_at day n = record { day = day; second = n % 86_400; second_in = mod-lt n (lit< tt) }
 
--- the seconds from 1970-01-01T00:00:00 to a second of a day, on a clock without zones
+-- the seconds from 1970-01-01T00:00:00 to a second of a day, each day having 86,400
 abbrev pub seconds_at : ℤ → ℕ → ℤ
 seconds_at day second = day *ℤ pos 86_400 +ℤ pos second
 
@@ -29,6 +29,6 @@ number local = day_index local.day * 86_400 + local.second
 abbrev pub year_number : ℕ → ℕ
 year_number year = days_before_year year * 86_400
 
--- the same to the first local behind the calendar, whose years are 0000 to 9999
+-- the same to the first local after the calendar, whose years are 0000 to 9999
 abbrev pub calendar_end : ℕ
 calendar_end = year_number 10_000

@@ -14,7 +14,7 @@ offset_hours text = number_at text 1 3
 abbrev pub offset_minutes : List ℕ → ℕ
 offset_minutes text = number_at text 3 5
 
--- the seconds, 0 where they are not written
+-- the seconds, 0 if they are not written
 abbrev pub offset_seconds : List ℕ → ℕ
 offset_seconds text = number_at text 5 7
 
@@ -23,7 +23,7 @@ abbrev pub is_offset_text : List ℕ → Bool
 is_offset_text text =
     is_offset_form text && nat_le (offset_hours text) 23 && nat_le (offset_minutes text) 59 && nat_le (offset_seconds text) 59
 
--- how many seconds the offset is from UTC
+-- the size of the offset in seconds
 abbrev pub offset_size : List ℕ → ℕ
 offset_size text = 3600 * offset_hours text + 60 * offset_minutes text + offset_seconds text
 

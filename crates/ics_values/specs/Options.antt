@@ -1,7 +1,7 @@
--- A value that is there where a test passes.
+-- A value that is there exactly if a test passes.
 use Rattle.std.specs.Prelude.{◌≡◌, Bool, true, false, Option, Some, None}
 
--- the option holds the value where the test passes, and nothing else
+-- the option has the value if the test passes, and is None if it does not
 abbrev pub IsWhere : {A : Type 0} → Option A → Bool → A → Type 0
 IsWhere None passes value = passes ≡ false
 IsWhere (Some x) passes value = (passes ≡ true) × (x ≡ value)

@@ -20,7 +20,7 @@ use Rattle.ics_values.specs.declared.period.PeriodFault.TheVariants.{BadStamp, B
 abbrev pub first_half : List ℕ → List ℕ
 first_half text = before_first (λ b. b == 47) text
 
--- what stands behind the first `/`, and nothing where there is none
+-- the text after the first `/`, or nothing if there is none
 abbrev pub second_half : List ℕ → List ℕ
 second_half text = after_first (λ b. b == 47) text
 
@@ -42,14 +42,14 @@ at_end (Err fault) = Err fault
 abbrev pub half_of : Bool → List ℕ → Result Stamp PeriodFault
 half_of zoned text = if is_date_time_form text then stamp_half (stamp_of zoned text) else Err BadStamp
 
--- a second half that begins with a sign or `P` is a duration, and any other a stamp
+-- a second half that begins with a sign or `P` is read as a duration, and any other as a stamp
 abbrev pub lasts : List ℕ → Bool
 lasts text = begins (λ b. is_sign b || b == 80 || b == 112) text
 
 abbrev pub end_of : Bool → List ℕ → Result PeriodEnd PeriodFault
 end_of zoned text = if lasts text then lasting_end (duration_of text) else at_end (half_of zoned text)
 
--- Both halves are in order, or the fault of the first that is not; then YearRange goes before NumberTooLarge.
+-- The period, or its fault: that of the first half that is malformed, else YearRange, else NumberTooLarge.
 abbrev pub both : Result Stamp PeriodFault → Result PeriodEnd PeriodFault → Result Period PeriodFault
 both (Ok start) (Ok end) = Ok (record { start = start; end = end })
 both (Ok start) (Err fault) = Err fault

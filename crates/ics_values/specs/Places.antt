@@ -1,4 +1,4 @@
--- Numbers that count from the front or from the end, and the weekdays of BYDAY (RFC 5545, 3.3.10).
+-- Numbers that count from the start or from the end, and the weekdays of BYDAY (RFC 5545, 3.3.10).
 use Rattle.std.specs.Prelude.{ℕ, Bool, true, ◌&&◌, List, [], ◌∷◌, get_or, set}
 use Rattle.jiff_core.specs.declared.civil.weekday.Weekday.{Weekday}
 use Rattle.jiff_core.specs.Weekday.{monday_zero}
@@ -19,7 +19,7 @@ no_wide_places = record { front = none_wide; back = none_wide }
 abbrev pub no_weekdays : Weekdays
 no_weekdays = record { plain = 0; numbered = no_places ∷ no_places ∷ no_places ∷ no_places ∷ no_places ∷ no_places ∷ no_places ∷ [] }
 
--- a part that is absent lists nothing
+-- an absent part lists nothing
 abbrev pub lists_none : Places → Bool
 lists_none p = is_none p.front && is_none p.back
 
@@ -33,11 +33,11 @@ all_list_none (p ∷ ps) = lists_none p && all_list_none ps
 abbrev pub lists_no_weekday : Weekdays → Bool
 lists_no_weekday w = is_none w.plain && all_list_none w.numbered
 
--- the numbers that a weekday stands with
+-- the numbers that a weekday is listed with
 abbrev pub numbers_of : Weekdays → ℕ → Places
 numbers_of ws w = get_or ws.numbered w no_places
 
--- with the n-th from a side added
+-- with the n-th from an end added
 abbrev pub with_place : Side → ℕ → Places → Places
 with_place Front n p = record p { front = with_number n p.front }
 with_place Back n p = record p { back = with_number n p.back }

@@ -1,15 +1,15 @@
--- What a TEXT value stands for (RFC 5545, section 3.3.11).
+-- What a TEXT value means (RFC 5545, section 3.3.11).
 use Rattle.std.specs.Prelude.{ℕ, Bool, false, ◌&&◌, ◌||◌, not, ◌==◌, List, [], ◌∷◌, if◌then◌else◌}
 
--- `\\`, `\;` and `\,` stand for their second byte
+-- `\\`, `\;` and `\,` mean their second byte
 abbrev pub stands_for_itself : ℕ → Bool
 stands_for_itself b = b == 92 || b == 59 || b == 44
 
--- `\n` and `\N` stand for LF
+-- `\n` and `\N` mean LF
 abbrev pub stands_for_lf : ℕ → Bool
 stands_for_lf b = b == 110 || b == 78
 
--- what a text stands for, where `behind` says that a backslash stands before it which is not itself the second byte of an escape
+-- what a text means; `behind` says whether it is preceded by a backslash that is not the second byte of an escape
 abbrev pub plain_text : List ℕ → Bool → List ℕ
 plain_text [] behind = if behind then 92 ∷ [] else []
 plain_text (b ∷ bs) behind =
@@ -23,7 +23,7 @@ plain_text (b ∷ bs) behind =
 abbrev pub text_of : List ℕ → List ℕ
 text_of value = plain_text value false
 
--- a text with the escapes that a TEXT value wants
+-- the text with the escapes that a TEXT value needs
 abbrev pub escaped : List ℕ → List ℕ
 escaped [] = []
 escaped (b ∷ bs) =

@@ -16,12 +16,12 @@ use Rattle.ics_values.specs.Texts.{unsigned}
 use Rattle.ics_values.specs.RuleTexts.{is_amount, is_signed, side_of, fits, fits_list, part_of, row, is_day_item, weekday_of, day_text, number_before}
 use Rattle.ics_values.specs.Rules.{with_item, with_value, is_large}
 
--- what reading an amount says
+-- what reading an amount gives
 abbrev pub IsAmount : List ℕ → Amount → Type 0
 IsAmount text (amount.Number n) = (is_amount text ≡ true) × (n ≡ number_of text) × (n ≤ greatest_number)
 IsAmount text amount.TooLarge = (is_amount text ≡ true) × (greatest_number < number_of text)
 
--- what reading a number with a sign says
+-- what reading a number with a sign gives
 pub record IsPlace (high : ℕ) (text : List ℕ) (place : Side × ℕ) : Type 0 where
   pub in_order : is_signed high text ≡ true
   pub side : place.0 ≡ side_of text
@@ -32,18 +32,18 @@ abbrev pub walk : {S : Type 0} → (S → List ℕ → Option S) → S → List 
 walk step s [] = Some s
 walk step s (x ∷ xs) = option_and_then (λ t. walk step t xs) (step s x)
 
--- with an item of a list, if it is in order
+-- with an item of a list, if it is valid
 abbrev pub item_taken : ListName → RuleParts → List ℕ → Option RuleParts
 item_taken list rule item = if fits_list list item then Some (with_item list rule item) else None
 
--- with a value, if it is in order
+-- with a value, if it is valid
 abbrev pub value_taken : PartName → List ℕ → Draft → Option Draft
 value_taken name value draft =
     if not (fits name value) then None
     else if is_large (Some name) value then Some (record draft { too_large = true })
     else Some (record draft { parts = with_value name value draft.parts })
 
--- with a part, if it is in order and the first of its name
+-- with a part, if it is valid and the first of its name
 abbrev pub named_taken : Option PartName → List ℕ → Draft → Option Draft
 named_taken None value draft = None
 named_taken (Some name) value draft =
@@ -58,7 +58,7 @@ abbrev pub Takes : {S : Type 0} → Option S → Option (Unit {0}) → S → Typ
 Takes taken (Some _) state = taken ≡ Some state
 Takes taken None state = taken ≡ None
 
--- what reading an item of BYDAY says
+-- what reading an item of BYDAY gives
 abbrev pub IsDayPlace : List ℕ → Option (Side × ℕ) → Type 0
 IsDayPlace item None = length item ≡ 2
 IsDayPlace item (Some place) = ((length item == 2) ≡ false) × IsPlace 53 (number_before item) place

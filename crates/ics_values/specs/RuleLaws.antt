@@ -20,15 +20,15 @@ use Rattle.ics_values.specs.declared.part_name.PartName.{PartName}
 use Rattle.ics_values.specs.declared.part_name.PartName.TheVariants as part
 use Rattle.ics_values.specs.RuleTexts.{Part, pieces, is_name, frequency_of, weekday_of, until_of, day_text, number_before}
 
--- the value of the part of that name
+-- the value of the part with that name
 abbrev pub value_of : PartName → List Part → Option (List ℕ)
 value_of name ps = option_map (λ p. p.value) (find (λ p. is_name name p.name) ps)
 
--- the items of a list, none where the part is absent
+-- the items of a list, none if the part is absent
 abbrev pub items_of : ListName → List Part → List (List ℕ)
 items_of list ps = option_map_or (pieces 44) (value_of (part.List list) ps) []
 
--- n from a side is a member
+-- the n-th from an end is a member
 abbrev pub has_place : Side → ℕ → Places → Bool
 has_place Front n p = has p.front n
 has_place Back n p = has p.back n
@@ -42,11 +42,11 @@ abbrev pub is_side : Side → Bool → Bool
 is_side Front minus = not minus
 is_side Back minus = minus
 
--- the item is n from a side
+-- the item is the n-th from an end
 abbrev pub is_place : Side → ℕ → List ℕ → Bool
 is_place side n item = is_side side (begins is_minus item) && (n == number_of (unsigned item))
 
--- the item of BYDAY is the weekday without a number, or the n-th from a side
+-- the item of BYDAY is the weekday without a number, or its n-th from an end
 abbrev pub is_day : Weekday → Option Weekday → Bool
 is_day day None = false
 is_day day (Some other) = monday_zero day == monday_zero other
@@ -57,7 +57,7 @@ is_weekday day item = is_day day (weekday_of (day_text item)) && (length item ==
 abbrev pub is_numbered : Weekday → Side → ℕ → List ℕ → Bool
 is_numbered day side n item = is_day day (weekday_of (day_text item)) && not (length item == 2) && is_place side n (number_before item)
 
--- The rule has the value of each part, and each of its lists has exactly the numbers that stand in the text.
+-- The rule has the value of each part, and each of its lists has exactly the numbers that are written in the text.
 pub record Says (ps : List Part) (rule : RuleParts) : Type 0 where
   pub frequency : option_and_then frequency_of (value_of part.Freq ps) ≡ Some rule.frequency
   pub until : rule.until ≡ option_and_then until_of (value_of part.Until ps)

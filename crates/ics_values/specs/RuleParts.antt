@@ -1,4 +1,4 @@
--- The value of a recurrence rule text (RFC 5545, 3.3.10).
+-- The parts of a recurrence rule (RFC 5545, 3.3.10).
 use Rattle.std.specs.Prelude.{ℕ, ◌≤◌, Option, None, MatchOption}
 use Rattle.jiff_core.specs.declared.civil.weekday.Weekday.{Weekday}
 use Rattle.jiff_core.specs.declared.civil.weekday.Weekday.TheVariants.{Monday}
@@ -12,7 +12,7 @@ use Rattle.ics_values.specs.Days.{IsDayNumber}
 use Rattle.ics_values.specs.Sets.{has, has_wide, IsWithin}
 use Rattle.ics_values.specs.Places.{no_places, no_wide_places, no_weekdays, numbers_of}
 
--- an empty list is a part that is absent
+-- an empty list is an absent part
 pub record RuleParts : Type 0 where
   pub frequency : Frequency
   pub interval : ℕ
@@ -29,7 +29,7 @@ pub record RuleParts : Type 0 where
   pub positions : WidePlaces
   pub week_start : Weekday
 
--- the rule that has FREQ alone
+-- the rule with FREQ alone
 abbrev pub every : Frequency → RuleParts
 every f = record {
   frequency = f;
@@ -48,13 +48,13 @@ every f = record {
   week_start = Monday;
 }
 
--- the day of an UNTIL is one of the calendar
+-- the day of UNTIL is one of the calendar, whose years are 0000 to 9999
 abbrev pub IsUntil : Until → Type 0
 IsUntil (until.Date day) = IsDayNumber day
 IsUntil (until.Local local) = IsDayNumber local.day
 IsUntil (until.Utc local) = IsDayNumber local.day
 
--- places from the first to so many
+-- numbers from 1 to high, from either end
 pub record ArePlaces (p : Places) (high : ℕ) : Type 0 where
   pub front : IsWithin 1 high (has p.front)
   pub back : IsWithin 1 high (has p.back)
@@ -63,7 +63,7 @@ pub record AreWidePlaces (p : WidePlaces) (high : ℕ) : Type 0 where
   pub front : IsWithin 1 high (has_wide p.front)
   pub back : IsWithin 1 high (has_wide p.back)
 
--- each number is one that the text of its part may have
+-- each number is one that the grammar of its part allows
 pub record IsRuleParts (p : RuleParts) : Type 0 where
   pub interval : 1 ≤ p.interval
   pub count : MatchOption p.count (Unit {0}) (λ n. 1 ≤ n)

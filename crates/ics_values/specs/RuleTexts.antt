@@ -20,15 +20,15 @@ use Rattle.ics_values.specs.declared.part_name.ListName.TheVariants.{BySecond, B
 use Rattle.ics_values.specs.declared.part_name.PartName.{PartName}
 use Rattle.ics_values.specs.declared.part_name.PartName.TheVariants as part
 
--- what stands between separators
+-- the pieces between separators
 abbrev pub pieces : ℕ → List ℕ → List (List ℕ)
 pieces separator text = slice_split (λ b. b == separator) text
 
--- whether two texts are one but for the case of letters, the second being in upper case
+-- whether the text, its letters taken in upper case, is the word
 abbrev pub is_word : List ℕ → List ℕ → Bool
 is_word text word = bytes_eq (map upper text) word
 
--- The parts by their names. RSCALE, SKIP and any other name are no part.
+-- The parts by their names. RSCALE, SKIP and any other names are refused.
 abbrev pub name_of : List ℕ → Option PartName
 name_of text =
     if is_word text (codes "FREQ") then Some part.Freq
@@ -47,7 +47,7 @@ name_of text =
     else if is_word text (codes "WKST") then Some part.Wkst
     else None
 
--- the place of a name among all of them
+-- the number of a name among all of them
 abbrev pub row : PartName → ℕ
 row part.Freq = 0
 row part.Until = 1
@@ -104,7 +104,7 @@ is_amount text = are_digits text && nat_le 1 (number_of text)
 abbrev pub is_number : ℕ → ℕ → List ℕ → Bool
 is_number low high text = are_digits text && nat_le low (number_of text) && nat_le (number_of text) high
 
--- the side from which a number with an optional sign counts
+-- the end from which a number with an optional sign counts
 abbrev pub side_of : List ℕ → Side
 side_of text = if begins is_minus text then Back else Front
 
@@ -112,14 +112,14 @@ side_of text = if begins is_minus text then Back else Front
 abbrev pub is_signed : ℕ → List ℕ → Bool
 is_signed high text = is_number 1 high (unsigned text)
 
--- an item of BYDAY: its last two letters, and what stands before them
+-- an item of BYDAY: its last two letters, and the text before them
 abbrev pub day_text : List ℕ → List ℕ
 day_text item = drop (length item - 2) item
 
 abbrev pub number_before : List ℕ → List ℕ
 number_before item = take (length item - 2) item
 
--- a weekday, with a number from 1 to 53 and an optional sign before it, or with none
+-- a weekday, with or without a number from 1 to 53 before it, which may have a sign
 abbrev pub is_day_item : List ℕ → Bool
 is_day_item item = is_some (weekday_of (day_text item)) && (length item == 2 || is_signed 53 (number_before item))
 
@@ -144,7 +144,7 @@ fits part.Interval value = is_amount value
 fits (part.List list) value = list_all (fits_list list) (pieces 44 value)
 fits part.Wkst value = is_some (weekday_of value)
 
--- A part: its name, where there is a part of that name, and the value behind its first `=`.
+-- A part: its name, if a part has that name, and its value, the text after its first `=`.
 pub record Part : Type 0 where
   pub name : Option PartName
   pub value : List ℕ
@@ -155,7 +155,7 @@ is_equals b = b == 61
 abbrev pub part_of : List ℕ → Part
 part_of text = record { name = name_of (before_first is_equals text); value = after_first is_equals text }
 
--- the text without the `;` that may stand at its end
+-- the text without the `;` that may end it
 abbrev pub without_last : List ℕ → List ℕ
 without_last text = if slice_index text (length text - 1) == 59 then take (length text - 1) text else text
 
@@ -187,7 +187,7 @@ abbrev pub none_twice : List Part → Bool
 none_twice [] = true
 none_twice (p ∷ ps) = not (list_any (λ q. same_name p.name q.name) ps) && none_twice ps
 
--- Each part is in order and none stands twice. FREQ is there, and UNTIL and COUNT do not stand together.
+-- Each part is valid and none occurs twice. FREQ is there, and not both UNTIL and COUNT.
 abbrev pub are_parts : List Part → Bool
 are_parts ps =
     list_all is_part ps && none_twice ps && has_part part.Freq ps

@@ -17,7 +17,7 @@ use Rattle.ics_values.specs.declared.part_name.PartName.TheVariants as part
 use Rattle.ics_values.specs.Texts.{unsigned}
 use Rattle.ics_values.specs.RuleTexts.{Part, pieces, frequency_of, weekday_of, until_of, side_of, day_text, number_before, parts_of, are_parts}
 
--- with a weekday of BYDAY, which stands without a number or with one
+-- with a weekday of BYDAY, which has a number or none
 abbrev pub with_day : Option Weekday → List ℕ → Weekdays → Weekdays
 with_day None item days = days
 with_day (Some day) item days =
@@ -52,7 +52,7 @@ with_named (Some name) value rule = with_value name value rule
 abbrev pub with_part : RuleParts → Part → RuleParts
 with_part rule p = with_named p.name p.value rule
 
--- What the parts say together. INTERVAL is 1 and WKST is Monday where they are absent, and FREQ never is.
+-- What the parts say together. INTERVAL is 1 and WKST is Monday if they are absent. FREQ never is.
 abbrev pub rule_said : List Part → RuleParts
 rule_said ps = fold with_part (every Yearly) ps
 
@@ -66,7 +66,7 @@ is_large None value = false
 abbrev pub has_large_number : List Part → Bool
 has_large_number ps = list_any (λ p. is_large p.name p.value) ps
 
--- The rule of a text, or its fault. A number is too large only in a text that is otherwise in order.
+-- The rule of a text, or its fault. NumberTooLarge is the fault only of a text that is otherwise valid.
 unfoldable pub rule_of : List ℕ → Result RuleParts RuleFault
 rule_of text =
     if not (are_parts (parts_of text)) then Err BadRule

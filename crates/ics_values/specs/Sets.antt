@@ -1,4 +1,4 @@
--- A set of small numbers is seen as the number whose binary digits are its members.
+-- Sets of small numbers. A set is seen as the number whose binary digits are its members.
 use Rattle.std.specs.Prelude.{◌≡◌, ℕ, ◌/◌, ◌%◌, ◌^◌, ◌<◌, ◌≤◌, Bool, ◌==◌, List, [], ◌∷◌, get_or, set, true, false, ◌&&◌, nat_lt, Option, MatchOption, bit_or}
 
 -- n is a member
@@ -17,7 +17,7 @@ only n = 2 ^ n
 abbrev pub with_number : ℕ → ℕ → ℕ
 with_number n s = bit_or s (only n)
 
--- the same of a list of six words of 64 digits each: members are below 384
+-- the same for a list of six words with 64 digits each: members are below 384
 abbrev pub has_wide : List ℕ → ℕ → Bool
 has_wide ws n = nat_lt n 384 && has (get_or ws (n / 64) 0) (n % 64)
 
@@ -35,12 +35,12 @@ with_wide_number n ws = set ws (n / 64) (with_number (n % 64) (get_or ws (n / 64
 abbrev pub IsWithin : ℕ → ℕ → (ℕ → Bool) → Type 0
 IsWithin low high test = (n : ℕ) → test n ≡ true → (low ≤ n) × (n ≤ high)
 
--- n is the least number from a place on that passes a test
+-- n is the least number, from a given one on, that passes a test
 pub record IsLeastFrom (test : ℕ → Bool) (place n : ℕ) : Type 0 where
   pub passes : test n ≡ true
   pub low : place ≤ n
   pub least : (m : ℕ) → place ≤ m → m < n → test m ≡ false
 
--- the answer is the least number from a place on that passes, or that there is none
+-- the answer is the least number, from a given one on, that passes, or None if there is none
 abbrev pub IsNextIn : (ℕ → Bool) → ℕ → Option ℕ → Type 0
 IsNextIn test place o = MatchOption o ((m : ℕ) → place ≤ m → test m ≡ false) (λ n. IsLeastFrom test place n)

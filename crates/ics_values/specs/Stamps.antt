@@ -36,24 +36,24 @@ date_exists text = is_date (year_of text) (number_at text 4 6) (number_at text 6
 abbrev pub day_of : List ℕ → ℤ
 day_of text = day_number (year_of text) (number_at text 4 6) (number_at text 6 8)
 
--- the clock has hours to 23, minutes to 59 and seconds to 60
+-- the time has hours to 23, minutes to 59 and seconds to 60
 abbrev pub time_exists : List ℕ → Bool
 time_exists text = nat_le (number_at text 9 11) 23 && nat_le (number_at text 11 13) 59 && nat_le (number_at text 13 15) 60
 
--- the second of the day, where second 60 is read as 59
+-- the second of the day; second 60 is read as 59
 abbrev pub second_of : List ℕ → ℕ
 second_of text = 3600 * number_at text 9 11 + 60 * number_at text 11 13 + min (number_at text 13 15) 59
 
 abbrev pub local_of : List ℕ → Local
 local_of text = local_at (day_of text) (second_of text)
 
--- The text is of a form, and its date and time exist.
+-- The text has one of the forms, and its date and time exist.
 abbrev pub is_stamp_text : List ℕ → Bool
 is_stamp_text text =
     (is_date_form text && date_exists text)
     || (is_date_time_form text && date_exists text && time_exists text)
 
--- What such a text says; `zoned` says that a TZID stands beside it.
+-- What such a text says. `zoned` says whether the property has a TZID.
 abbrev pub stamp_said : Bool → List ℕ → Stamp
 stamp_said zoned text =
     if is_date_form text then Date (day_of text)

@@ -1,12 +1,12 @@
--- How a text begins.
+-- Tests of how a text begins, and signs.
 use Rattle.std.specs.Prelude.{ℕ, Bool, true, false, ◌&&◌, ◌||◌, ◌==◌, List, [], ◌∷◌, drop, ℤ, pos, neg_ℤ, if◌then◌else◌}
 
--- whether there is a first byte, and it passes
+-- there is a first byte, and it passes the test
 abbrev pub begins : (ℕ → Bool) → List ℕ → Bool
 begins p [] = false
 begins p (b ∷ bs) = p b
 
--- whether the text has this front
+-- whether the text has this prefix
 abbrev pub begins_with : List ℕ → List ℕ → Bool
 begins_with [] text = true
 begins_with (f ∷ fs) [] = false
@@ -18,10 +18,10 @@ is_sign b = b == 43 || b == 45
 abbrev pub is_minus : ℕ → Bool
 is_minus b = b == 45
 
--- a text without the sign that may begin it
+-- the text without the sign that may begin it
 abbrev pub unsigned : List ℕ → List ℕ
 unsigned text = if begins is_sign text then drop 1 text else text
 
--- a number behind a minus or not
+-- the number, negated if there is a minus
 abbrev pub with_sign : Bool → ℕ → ℤ
 with_sign negative n = if negative then neg_ℤ (pos n) else pos n

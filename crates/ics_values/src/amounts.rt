@@ -1,11 +1,11 @@
-//! The numbers and units of a duration's text, rule by rule of its grammar.
+//! The numbers and units of a duration's text, by the rules of its grammar (RFC 5545, section 3.3.6).
 ghost use Rattle.std.specs.Prelude.{◌≡◌, ◌<◌, ◌∷◌, [], MatchOption};
 ghost use Rattle.ics_values.specs.Durations.{duration_shapes, week_shapes, day_shapes, time_shapes, hour_shapes, minute_shapes, second_shapes};
 ghost use Rattle.ics_values.specs.Amounts.{IsLetter, IsAmount, LacksFront, Reads, each_fits};
 
 use crate::digits::{capped_number, digit_count, upper};
 
-/// The numbers of a duration's text, each up to the first that is too large.
+/// The numbers of a duration's text. A number past 4,294,967,295 is held as 4,294,967,296.
 #[derive(Clone, Copy)]
 pub struct Amounts {
     pub weeks: u64,
@@ -23,14 +23,14 @@ const NOTHING: Amounts = Amounts {
     seconds: 0,
 };
 
-/// A number before a unit, and the text behind the unit.
+/// A number before a unit, and the text after the unit.
 #[derive(Clone, Copy)]
 struct Amount<'a> {
     number: u64,
     rest: &'a [u8],
 }
 
-/// The text behind a letter of either case.
+/// The text after a letter, in upper or lower case, that begins it.
 fn behind_letter(text: &[u8], letter: u8) -> Option<&[u8]>
     requires { 57 < letter }
     ensures { MatchOption result (LacksFront (letter ∷ []) text.now)
@@ -44,7 +44,7 @@ fn behind_letter(text: &[u8], letter: u8) -> Option<&[u8]>
     }
 }
 
-/// The number and the unit that begin the text.
+/// The number before a unit, if both begin the text.
 fn read_amount(text: &[u8], unit: u8) -> Option<Amount<'_>>
     requires { 57 < unit }
     ensures { MatchOption result (LacksFront (48 ∷ unit ∷ []) text.now)

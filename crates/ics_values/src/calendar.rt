@@ -1,4 +1,4 @@
-//! Which civil fields a day has.
+//! The civil fields of a day.
 ghost use Rattle.std.specs.Prelude.{◌≡◌, pos};
 ghost use Rattle.jiff_core.specs.Calendar.{days_from_civil, weekday_number};
 ghost use Rattle.jiff_core.specs.Weekday.{monday_zero};
@@ -8,12 +8,12 @@ ghost use Rattle.ics_values.specs.Fields.{IsCivilOf};
 use crate::fields::Civil;
 use jiff_core::civil::Date;
 
-/// The civil fields of a day of the years 0000 to 9999, counted from 1970-01-01, in the Gregorian
-/// calendar.
+/// The civil fields of a day in the Gregorian calendar. The day is counted from 1970-01-01 and lies in
+/// the years 0000 to 9999.
 pub fn civil(day: i32) -> Civil
     requires { IsDayNumber day }
 
-    // The calendar has this date, and it is the day.
+    // The date is one of the calendar, and it is that of the day.
     ensures number { days_from_civil (pos result.year) result.month result.day ≡ day }
     ensures named { monday_zero result.weekday ≡ weekday_number day }
     ensures fields { IsCivilOf result (day_index day) }

@@ -1,10 +1,10 @@
-//! Dates that the calendar has.
+//! Dates of the calendar and their day numbers.
 ghost use Rattle.std.specs.Prelude.{◌≡◌, ◌<◌, ◌≤◌};
 ghost use Rattle.ics_values.specs.Dates.{date_day};
 
 use jiff_core::civil::Date;
 
-/// The day number of a date of the years 0000 to 9999, where the calendar has it.
+/// The day number of a date of the years 0000 to 9999, counted from 1970-01-01. None if the calendar does not have the date.
 pub fn date_day(year: u32, month: u32, day: u32) -> Option<i32>
     requires year { year ≤ 9999 }
     requires month { month < 100 }

@@ -1,4 +1,4 @@
-//! Digits, the numbers that they spell, and letters of either case.
+//! Digits, the numbers that they spell, and letters in upper case.
 ghost use Rattle.std.specs.Prelude.{◌≡◌, ◌+◌, ◌*◌, ◌-◌, ◌<◌, ◌≤◌, ◌^◌, true, min, length, take, drop};
 ghost use Rattle.std.specs.List.{list_all};
 ghost use Rattle.ics_values.specs.Digits.{is_digit, are_digits, number_of, number_at, digit_count, greatest_number, upper, SaysNumber};
@@ -15,7 +15,7 @@ fn all_digits(text: &[u8]) -> bool
     text.iter().all(|b| is_digit(*b))
 }
 
-/// One digit or more, and nothing else.
+/// Whether the text is one digit or more, and nothing else.
 pub fn are_digits(text: &[u8]) -> bool
     ensures { result ≡ are_digits text.now }
 {
@@ -36,7 +36,7 @@ pub fn number(digits: &[u8]) -> u32
     n
 }
 
-/// A byte in upper case, where it is a letter.
+/// The byte in upper case if it is a letter, and else the byte.
 pub fn upper(b: u8) -> u8
     ensures { result ≡ upper b }
 {
@@ -68,7 +68,7 @@ pub fn digit_count(text: &[u8]) -> usize
     text.len()
 }
 
-/// The number that digits spell, or 4,294,967,296 where it is larger.
+/// The number that digits spell, or 4,294,967,296 if it is larger.
 pub fn capped_number(digits: &[u8]) -> u64
     requires { list_all is_digit digits.now ≡ true }
     ensures { result ≡ min (number_of digits.now) 4_294_967_296 }
@@ -80,7 +80,7 @@ pub fn capped_number(digits: &[u8]) -> u64
     n
 }
 
-/// The number that digits spell, where it is not too large.
+/// The number that digits spell. None if it is past 4,294,967,295.
 pub fn number_within(digits: &[u8]) -> Option<u32>
     requires { list_all is_digit digits.now ≡ true }
     ensures { SaysNumber result (number_of digits.now) }

@@ -1,4 +1,4 @@
-//! Durations as properties write them.
+//! Durations, as a property's value has them.
 ghost use Rattle.std.specs.Prelude.{◌≡◌, IfOk};
 ghost use Rattle.ics_values.specs.Durations.{duration_of, IsDurationRange};
 ghost use Rattle.ics_values.specs.Faults.{duration_fault_name};
@@ -7,16 +7,16 @@ use crate::amounts::duration_part;
 use crate::sign::{is_negative, unsigned};
 use thiserror::Error;
 
-/// A DURATION: nominal days, weeks counted as seven of them, and exact seconds.
+/// A DURATION (RFC 5545, section 3.3.6): nominal days, of which a week has seven, and exact seconds.
 #[derive(Clone, Copy, Debug, PartialEq, Eq)]
 pub struct Duration {
-    /// Whether a minus began the text, also where both numbers are zero.
+    /// Whether the text began with a minus, even if both numbers are zero.
     pub negative: bool,
     pub days: u64,
     pub seconds: u64,
 }
 
-/// Why a text is no duration.
+/// Why a text is not a duration.
 #[derive(Clone, Copy, Debug, PartialEq, Eq, Error)]
 pub enum DurationFault {
     #[error("BadDuration")]
@@ -26,7 +26,7 @@ pub enum DurationFault {
 }
 
 impl DurationFault {
-    /// The variant's name.
+    /// The name of the fault, as it is printed.
     pub fn name(&self) -> &'static str
         ensures { result.now ≡ duration_fault_name self.now }
     {
@@ -37,8 +37,8 @@ impl DurationFault {
     }
 }
 
-/// The duration of a text (RFC 5545, section 3.3.6). Any other text is `BadDuration`; a number past
-/// 4,294,967,295 in a text that is otherwise in order is `NumberTooLarge`.
+/// The duration that a text says (RFC 5545, section 3.3.6). `BadDuration` if the text is not of the
+/// grammar, and `NumberTooLarge` if it is but has a number past 4,294,967,295.
 pub fn read_duration(text: &[u8]) -> Result<Duration, DurationFault>
     ensures value { result ≡ duration_of text.now }
     ensures range { IfOk result IsDurationRange }

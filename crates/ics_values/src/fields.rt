@@ -1,12 +1,12 @@
 //! The civil fields of a day.
 use jiff_core::civil::Weekday;
 
-/// A day's place in the Gregorian calendar.
+/// A day in the Gregorian calendar.
 #[derive(Clone, Copy, Debug, PartialEq, Eq)]
 pub struct Civil {
     /// 0 to 9999.
     pub year: u16,
-    /// From 1 for January.
+    /// 1 for January to 12 for December.
     pub month: u8,
     /// The day of the month, from 1.
     pub day: u8,

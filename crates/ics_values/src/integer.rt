@@ -1,4 +1,4 @@
-//! Integers as properties write them.
+//! Integers, as a property's value has them.
 ghost use Rattle.std.specs.Prelude.{◌≡◌};
 ghost use Rattle.ics_values.specs.Integers.{integer_of, without_plus};
 ghost use Rattle.ics_values.specs.Faults.{integer_fault_name};
@@ -6,7 +6,7 @@ ghost use Rattle.ics_values.specs.Faults.{integer_fault_name};
 use crate::digits::{are_digits, number_within};
 use thiserror::Error;
 
-/// Why a text is no number.
+/// Why a text is not a number.
 #[derive(Clone, Copy, Debug, PartialEq, Eq, Error)]
 pub enum IntegerFault {
     #[error("NotDigits")]
@@ -16,7 +16,7 @@ pub enum IntegerFault {
 }
 
 impl IntegerFault {
-    /// The variant's name.
+    /// The name of the fault, as it is printed.
     pub fn name(&self) -> &'static str
         ensures { result.now ≡ integer_fault_name self.now }
     {
@@ -27,7 +27,7 @@ impl IntegerFault {
     }
 }
 
-/// The text behind a `+` that may begin it.
+/// The text without the `+` that may begin it.
 fn without_plus(text: &[u8]) -> &[u8]
     ensures { result.now ≡ without_plus text.now }
 {
@@ -37,8 +37,8 @@ fn without_plus(text: &[u8]) -> &[u8]
     }
 }
 
-/// The number of a text: digits, and a `+` before them or not (RFC 5545, section 3.3.8). It is
-/// `NotDigits` for any other text, and else `NumberTooLarge` past 4,294,967,295.
+/// The number that a text says: digits with or without a `+` before them (RFC 5545, section 3.3.8).
+/// `NotDigits` for any other text, and `NumberTooLarge` for a number past 4,294,967,295.
 pub fn read_integer(text: &[u8]) -> Result<u32, IntegerFault>
     ensures { result ≡ integer_of text.now }
 {

@@ -1,4 +1,4 @@
-//! Laws of values, each the contract of a function that does nothing more.
+//! Laws of values. Each is the contract of a function that has no other purpose.
 ghost use Rattle.std.specs.Prelude.{◌≡◌, ◌≤◌, ℕ, true, List};
 ghost use Rattle.std.specs.Ordering.{int_cmp, nat_cmp, ordering_then};
 ghost use Rattle.ics_values.specs.Dates.{IsJiffsDate};
@@ -22,13 +22,13 @@ pub fn dates_of_the_calendar()
     ensures { (y m d : ℕ) → y ≤ 9999 → IsJiffsDate y m d }
 {}
 
-/// A time of the clock is a second of its day.
+/// The second that a valid time says is one of its day.
 pub fn times_of_a_day()
     ensures { (text : List ℕ) → time_exists text ≡ true
         → (local_of text).second ≡ second_of text }
 {}
 
-/// A text comes back from its escapes.
+/// Removing the escapes that a text was written with gives the text.
 pub fn escapes_undone()
     ensures { (text : List ℕ) → text_of (escaped text) ≡ text }
 {}

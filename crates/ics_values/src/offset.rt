@@ -1,4 +1,4 @@
-//! Offsets from UTC as properties write them.
+//! Offsets from UTC, as a property's value has them.
 ghost use Rattle.std.specs.Prelude.{◌≡◌, ◌≤◌, ◌<◌, ◌+◌, ◌*◌, ◌&&◌, true, codes, IfOk, length, nat_le};
 ghost use Rattle.jiff_core.specs.Calendar.{IsWithin};
 ghost use Rattle.ics_values.specs.Offsets.{is_offset_form, offset_hours, offset_minutes, offset_seconds, offset_of};
@@ -7,13 +7,13 @@ use crate::digits::{are_digits, number_at};
 use crate::sign::{is_negative, is_sign, with_sign};
 use thiserror::Error;
 
-/// Why a text is no offset.
+/// The text is not an offset from UTC (RFC 5545, section 3.3.14).
 #[derive(Clone, Copy, Debug, PartialEq, Eq, Error)]
 #[error("BadOffset")]
 pub struct BadOffset;
 
 impl BadOffset {
-    /// The fault's name.
+    /// The name of the fault, as it is printed.
     pub fn name(&self) -> &'static str
         ensures { result.now ≡ codes "BadOffset" }
     {
@@ -52,8 +52,8 @@ fn offset_seconds(text: &[u8]) -> u32
     }
 }
 
-/// The offset of a text, in seconds east of UTC and below a day (RFC 5545, section 3.3.14). `-0000` is
-/// read as zero.
+/// The offset that a text says, in seconds east of UTC and less than a day either way (RFC 5545, section
+/// 3.3.14). `BadOffset` for any other text. `-0000` is read as zero.
 pub fn read_offset(text: &[u8]) -> Result<i32, BadOffset>
     ensures value { result ≡ offset_of text.now }
     ensures range { IfOk result (IsWithin 86_399) }

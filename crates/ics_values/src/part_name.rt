@@ -6,7 +6,7 @@ ghost use Rattle.ics_values.specs.RuleTexts.{name_of, row};
 
 use crate::digits::upper;
 
-/// The lists of a rule.
+/// The parts of a rule that are lists.
 #[derive(Clone, Copy)]
 pub enum ListName {
     BySecond,
@@ -32,7 +32,7 @@ pub enum PartName {
 }
 
 impl PartName {
-    /// The place of the name among all of them.
+    /// The number of the name among all of them, from 0.
     pub fn row(self) -> u8
         ensures value { result ≡ row self }
         ensures bound { result < 64 }
@@ -56,7 +56,7 @@ impl PartName {
     }
 }
 
-/// Whether a text is the word, which is in upper case, but for the case of its letters.
+/// Whether the text, its letters taken in upper case, is the word.
 pub fn is_word(text: &[u8], word: &[u8]) -> bool
     ensures { result ≡ bytes_eq (map upper_of text.now) word.now }
 {
@@ -71,7 +71,7 @@ pub fn is_word(text: &[u8], word: &[u8]) -> bool
     true
 }
 
-/// The part of that name, its letters in any case.
+/// The part with that name, which may be in upper or lower case. None if no part has it.
 pub fn part_name(name: &[u8]) -> Option<PartName>
     ensures { result ≡ name_of name.now }
 {

@@ -1,4 +1,4 @@
-//! The value of a recurrence rule text.
+//! The parts of a recurrence rule.
 ghost use Rattle.std.specs.Prelude.{◌≡◌, ℕ, ◌≤◌, Some, MatchOption};
 ghost use Rattle.ics_values.specs.Sets.{has, with_number, IsWithin};
 ghost use Rattle.ics_values.specs.Places.{numbers_of, with_place, with_wide_place, with_weekday, with_numbered_weekday};
@@ -11,8 +11,7 @@ use crate::until::Until;
 use jiff_core::civil::Weekday;
 use std::marker::Model;
 
-/// The parts of a recurrence rule (RFC 5545, 3.3.10), each with numbers that its text may have. An empty list is a part that is
-/// absent.
+/// The parts of a recurrence rule (RFC 5545, 3.3.10). Each has only numbers that its grammar allows. An empty list is an absent part.
 #[derive(Clone, Copy)]
 pub struct Parts {
     frequency: Frequency,
@@ -91,7 +90,7 @@ impl Model for Parts {
 }
 
 impl Parts {
-    /// The rule that has FREQ alone: INTERVAL is 1 and weeks start on Monday.
+    /// The rule with FREQ alone: INTERVAL is 1 and weeks start on Monday.
     pub(crate) fn new(frequency: Frequency) -> Parts
         ensures { result ≡ every frequency }
     {
@@ -120,7 +119,7 @@ impl Parts {
         self.frequency
     }
 
-    /// INTERVAL, at least 1.
+    /// INTERVAL: at least 1, and 1 if it is absent.
     pub fn interval(&self) -> u32
         ensures value { result ≡ self.now.interval }
         ensures positive { 1 ≤ self.now.interval }
@@ -128,7 +127,7 @@ impl Parts {
         self.interval
     }
 
-    /// COUNT, at least 1.
+    /// COUNT: at least 1.
     pub fn count(&self) -> Option<u32>
         ensures value { result ≡ self.now.count }
         ensures positive { MatchOption self.now.count (Unit {0}) (λ n. 1 ≤ n) }
@@ -136,7 +135,7 @@ impl Parts {
         self.count
     }
 
-    /// UNTIL, a day of the calendar.
+    /// UNTIL. Its day is one of the years 0000 to 9999.
     pub fn until(&self) -> Option<Until>
         ensures value { result ≡ self.now.until }
         ensures day { MatchOption self.now.until (Unit {0}) IsUntil }
@@ -144,7 +143,7 @@ impl Parts {
         self.until
     }
 
-    /// BYSECOND, numbers to 59.
+    /// BYSECOND: numbers from 0 to 59. Second 60 is read as 59.
     pub fn seconds(&self) -> Numbers
         ensures value { result ≡ self.now.seconds }
         ensures range { IsWithin 0 59 (has self.now.seconds) }
@@ -152,7 +151,7 @@ impl Parts {
         self.seconds
     }
 
-    /// BYMINUTE, numbers to 59.
+    /// BYMINUTE: numbers from 0 to 59.
     pub fn minutes(&self) -> Numbers
         ensures value { result ≡ self.now.minutes }
         ensures range { IsWithin 0 59 (has self.now.minutes) }
@@ -160,7 +159,7 @@ impl Parts {
         self.minutes
     }
 
-    /// BYHOUR, numbers to 23.
+    /// BYHOUR: numbers from 0 to 23.
     pub fn hours(&self) -> Numbers
         ensures value { result ≡ self.now.hours }
         ensures range { IsWithin 0 23 (has self.now.hours) }
@@ -168,7 +167,7 @@ impl Parts {
         self.hours
     }
 
-    /// BYDAY, its numbers from 1 to 53.
+    /// BYDAY: weekdays, each with numbers from 1 to 53, with none, or both.
     pub fn weekdays(&self) -> Weekdays
         ensures value { result ≡ self.now.weekdays }
         ensures range { IsWithin 0 6 (has self.now.weekdays.plain) }
@@ -177,7 +176,7 @@ impl Parts {
         self.weekdays
     }
 
-    /// BYMONTHDAY, numbers from 1 to 31.
+    /// BYMONTHDAY: numbers from 1 to 31, counted from either end.
     pub fn month_days(&self) -> Places
         ensures value { result ≡ self.now.month_days }
         ensures range { ArePlaces self.now.month_days 31 }
@@ -185,7 +184,7 @@ impl Parts {
         self.month_days
     }
 
-    /// BYYEARDAY, numbers from 1 to 366.
+    /// BYYEARDAY: numbers from 1 to 366, counted from either end.
     pub fn year_days(&self) -> WidePlaces
         ensures value { result ≡ self.now.year_days }
         ensures range { AreWidePlaces self.now.year_days 366 }
@@ -193,7 +192,7 @@ impl Parts {
         self.year_days
     }
 
-    /// BYWEEKNO, numbers from 1 to 53.
+    /// BYWEEKNO: numbers from 1 to 53, counted from either end.
     pub fn weeks(&self) -> Places
         ensures value { result ≡ self.now.weeks }
         ensures range { ArePlaces self.now.weeks 53 }
@@ -201,7 +200,7 @@ impl Parts {
         self.weeks
     }
 
-    /// BYMONTH, numbers from 1 to 12.
+    /// BYMONTH: numbers from 1 to 12.
     pub fn months(&self) -> Numbers
         ensures value { result ≡ self.now.months }
         ensures range { IsWithin 1 12 (has self.now.months) }
@@ -209,7 +208,7 @@ impl Parts {
         self.months
     }
 
-    /// BYSETPOS, numbers from 1 to 366.
+    /// BYSETPOS: numbers from 1 to 366, counted from either end.
     pub fn positions(&self) -> WidePlaces
         ensures value { result ≡ self.now.positions }
         ensures range { AreWidePlaces self.now.positions 366 }
@@ -217,7 +216,7 @@ impl Parts {
         self.positions
     }
 
-    /// WKST.
+    /// WKST, the first day of a week: Monday if it is absent.
     pub fn week_start(&self) -> Weekday
         ensures { result ≡ self.now.week_start }
     {
@@ -288,14 +287,14 @@ impl Parts {
         self.hours.add(hour);
     }
 
-    /// Adds a weekday of BYDAY that stands without a number.
+    /// Adds a weekday of BYDAY without a number.
     pub(crate) fn add_weekday(&mut self, weekday: Weekday)
         ensures { self.new ≡ record self.old { weekdays = with_weekday weekday self.old.weekdays } }
     {
         self.weekdays.add(weekday);
     }
 
-    /// Adds a weekday of BYDAY that stands with a number.
+    /// Adds a weekday of BYDAY with a number.
     pub(crate) fn add_numbered_weekday(&mut self, weekday: Weekday, side: Side, n: u8)
         requires first { 1 ≤ n }
         requires last { n ≤ 53 }

@@ -1,4 +1,4 @@
-//! Periods as properties write them.
+//! Periods, as a property's value has them.
 ghost use Rattle.std.specs.Prelude.{◌≡◌, ◌==◌, IfOk, Ok};
 ghost use Rattle.std.specs.List.{position};
 ghost use Rattle.ics_values.specs.Periods.{first_half, second_half, half_of, lasts, end_of, both, period_of, IsDateTime, IsPeriodEnd};
@@ -9,21 +9,21 @@ use crate::sign::is_sign;
 use crate::stamp::{Stamp, StampFault, is_date_time_form, read_stamp};
 use thiserror::Error;
 
-/// How a PERIOD ends: at a stamp, or after a duration.
+/// The end of a PERIOD: a stamp, or a duration from the start.
 #[derive(Clone, Copy, Debug, PartialEq, Eq)]
 pub enum PeriodEnd {
     At(Stamp),
     Lasting(Duration),
 }
 
-/// A PERIOD. Its end may lie before its start.
+/// A PERIOD (RFC 5545, section 3.3.9). Its end may be before its start.
 #[derive(Clone, Copy, Debug, PartialEq, Eq)]
 pub struct Period {
     pub start: Stamp,
     pub end: PeriodEnd,
 }
 
-/// Why a text is no period.
+/// Why a text is not a period.
 #[derive(Clone, Copy, Debug, PartialEq, Eq, Error)]
 pub enum PeriodFault {
     #[error("BadStamp")]
@@ -37,7 +37,7 @@ pub enum PeriodFault {
 }
 
 impl PeriodFault {
-    /// The variant's name.
+    /// The name of the fault, as it is printed.
     pub fn name(&self) -> &'static str
         ensures { result.now ≡ period_fault_name self.now }
     {
@@ -50,14 +50,14 @@ impl PeriodFault {
     }
 }
 
-/// Where the first `/` stands.
+/// The position of the first `/`.
 fn slash(text: &[u8]) -> Option<usize>
     ensures { result ≡ position (λ b. b == 47) text.now }
 {
     text.iter().position(|b| *b == b'/')
 }
 
-/// What stands before the first `/`, and all where there is none.
+/// The text before the first `/`, or all of it if there is none.
 fn first_half(text: &[u8]) -> &[u8]
     ensures { result.now ≡ first_half text.now }
 {
@@ -67,7 +67,7 @@ fn first_half(text: &[u8]) -> &[u8]
     }
 }
 
-/// What stands behind the first `/`, and nothing where there is none.
+/// The text after the first `/`, or nothing if there is none.
 fn second_half(text: &[u8]) -> &[u8]
     ensures { result.now ≡ second_half text.now }
 {
@@ -119,7 +119,7 @@ fn read_end(text: &[u8], zoned: bool) -> Result<PeriodEnd, PeriodFault>
     }
 }
 
-/// The period of both halves. A half that is out of order goes before one that is out of range.
+/// The period of both halves. A half that is malformed is reported before one that is out of range.
 fn both(
     start: Result<Stamp, PeriodFault>,
     end: Result<PeriodEnd, PeriodFault>,
@@ -139,10 +139,11 @@ fn both(
     }
 }
 
-/// The period of a text: a DATE-TIME, `/`, and a DATE-TIME or a DURATION (RFC 5545, section 3.3.9).
-/// `zoned` says that a TZID stands beside it. A first half that is no DATE-TIME is `BadStamp`, and then
-/// a second half that is out of order has its fault; `YearRange` and `NumberTooLarge` come only where
-/// both halves are in order, and `YearRange` first.
+/// The period that a text says: a DATE-TIME, `/`, and a DATE-TIME or a DURATION (RFC 5545, section 3.3.9).
+/// `zoned` says whether the property has a TZID. `BadStamp` if the first half is not a DATE-TIME. Else
+/// `BadDuration` if the second half begins with a sign or `P` and is not a DURATION, and `BadStamp` if it
+/// begins otherwise and is not a DATE-TIME. Else `YearRange` if a DATE-TIME is outside the years 0001 to
+/// 9899, and else `NumberTooLarge` if the DURATION has a number past 4,294,967,295.
 pub fn read_period(text: &[u8], zoned: bool) -> Result<Period, PeriodFault>
     ensures value { result ≡ period_of zoned text.now }
     ensures start { IfOk result (λ period. IsDateTime period.start) }

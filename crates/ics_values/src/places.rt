@@ -1,11 +1,11 @@
-//! Numbers that count from the front or from the end, and the weekdays of BYDAY.
+//! Numbers that count from the start or from the end, and the weekdays of BYDAY.
 ghost use Rattle.std.specs.Prelude.{◌≡◌, ◌<◌};
 ghost use Rattle.jiff_core.specs.Weekday.{monday_zero};
 
 use crate::sets::{Numbers, WideNumbers};
 use jiff_core::civil::Weekday;
 
-/// From which end a number of a recurrence rule counts (RFC 5545, 3.3.10).
+/// The end from which a number of a recurrence rule counts (RFC 5545, 3.3.10).
 #[derive(Clone, Copy, Debug, PartialEq, Eq)]
 pub(crate) enum Side {
     /// A number without a sign or with `+`: 1 is the first.
@@ -14,7 +14,7 @@ pub(crate) enum Side {
     Back,
 }
 
-/// Numbers below 64, counted from the front or from the end, as BYMONTHDAY and BYWEEKNO have them (RFC 5545, 3.3.10).
+/// Numbers below 64 that count from the start or from the end, as in BYMONTHDAY and BYWEEKNO (RFC 5545, 3.3.10).
 #[derive(Clone, Copy)]
 pub struct Places {
     pub front: Numbers,
@@ -41,7 +41,7 @@ impl Places {
         self.front.is_none() && self.back.is_none()
     }
 
-    /// Adds the `n`-th from a side.
+    /// Adds the `n`-th from an end.
     pub(crate) fn add(&mut self, side: Side, n: u8)
         requires { n < 64 }
         ensures { self.new ≡ with_place side n self.old }
@@ -53,7 +53,7 @@ impl Places {
     }
 }
 
-/// Numbers below 384, counted from the front or from the end, as BYYEARDAY and BYSETPOS have them (RFC 5545, 3.3.10).
+/// Numbers below 384 that count from the start or from the end, as in BYYEARDAY and BYSETPOS (RFC 5545, 3.3.10).
 #[derive(Clone, Copy)]
 pub struct WidePlaces {
     pub front: WideNumbers,
@@ -80,7 +80,7 @@ impl WidePlaces {
         self.front.is_none() && self.back.is_none()
     }
 
-    /// Adds the `n`-th from a side.
+    /// Adds the `n`-th from an end.
     pub(crate) fn add(&mut self, side: Side, n: u16)
         requires { n < 384 }
         ensures { self.new ≡ with_wide_place side n self.old }
@@ -92,12 +92,12 @@ impl WidePlaces {
     }
 }
 
-/// BYDAY (RFC 5545, 3.3.10). Weekdays are numbered from 0 for Monday.
+/// The weekdays of BYDAY (RFC 5545, 3.3.10), numbered from 0 for Monday.
 #[derive(Clone, Copy)]
 pub struct Weekdays {
-    /// The weekdays that stand without a number.
+    /// The weekdays that are listed without a number.
     pub plain: Numbers,
-    /// For each weekday, the numbers that it stands with.
+    /// For each weekday, the numbers that it is listed with.
     pub numbered: [Places; 7],
 }
 

@@ -16,19 +16,19 @@ use crate::rule_value::{
 use crate::sets::Numbers;
 use thiserror::Error;
 
-/// Why a text is no recurrence rule.
+/// Why a text is not a recurrence rule.
 #[derive(Clone, Copy, Debug, PartialEq, Eq, Error)]
 pub enum RuleFault {
-    /// The text is not of the grammar, or a part is out of its range.
+    /// The text is not of the grammar, a part is out of its range or occurs twice, FREQ is missing, or both UNTIL and COUNT are there.
     #[error("BadRule")]
     BadRule,
-    /// The text is otherwise in order, and COUNT or INTERVAL is past 4,294,967,295.
+    /// The text is otherwise valid, but COUNT or INTERVAL is past 4,294,967,295.
     #[error("NumberTooLarge")]
     NumberTooLarge,
 }
 
 impl RuleFault {
-    /// The variant's name.
+    /// The name of the fault, as it is printed.
     pub fn name(&self) -> &'static str
         ensures { result.now ≡ rule_fault_name self.now }
     {
@@ -43,13 +43,13 @@ impl RuleFault {
 #[derive(Clone, Copy)]
 struct Draft {
     parts: Parts,
-    /// The rows of the names that were read.
+    /// The numbers of the names that were read.
     seen: Numbers,
-    /// COUNT or INTERVAL was past the greatest number.
+    /// Whether COUNT or INTERVAL was past the greatest number.
     too_large: bool,
 }
 
-/// A part's name and its value, which stands behind the first `=`.
+/// A part's name and its value: the text before the first `=` and the text after it.
 fn cut(part: &[u8]) -> (&[u8], &[u8])
     ensures name { result.0.now ≡ before_first is_equals part.now }
     ensures value { result.1.now ≡ after_first is_equals part.now }
@@ -60,7 +60,7 @@ fn cut(part: &[u8]) -> (&[u8], &[u8])
     }
 }
 
-/// The text without the `;` that may stand at its end.
+/// The text without the `;` that may end it.
 fn without_last(text: &[u8]) -> &[u8]
     ensures { result.now ≡ without_last text.now }
 {
@@ -153,7 +153,7 @@ impl Draft {
         Some(())
     }
 
-    /// Reads a part, which has to be the first of its name.
+    /// Reads a part. None if it is invalid or not the first of its name.
     fn take(&mut self, part: &[u8]) -> Option<()>
         ensures { Takes (part_taken self.old part.now) result self.new }
     {
@@ -166,7 +166,7 @@ impl Draft {
         self.take_value(name, value)
     }
 
-    /// Whether FREQ is there, and not both UNTIL and COUNT.
+    /// Whether FREQ was read, and not both UNTIL and COUNT.
     fn is_whole(&self) -> bool
         ensures { result ≡ is_whole self.now }
     {
@@ -186,9 +186,9 @@ fn draft_of(text: &[u8]) -> Option<Draft>
     Some(draft)
 }
 
-/// The parts of a recurrence rule's text (RFC 5545, section 3.3.10).
+/// The parts of a recurrence rule's text (RFC 5545, section 3.3.10), or the fault of the text.
 ///
-/// The parts stand in any order. One `;` may stand at the end, numbers may have leading zeros, and second 60 is read as 59.
+/// The parts may be in any order. The text may end with one `;`, numbers may have leading zeros, and second 60 is read as 59.
 pub fn read_rule(text: &[u8]) -> Result<Parts, RuleFault>
     ensures { result ≡ rule_of text.now }
 {

@@ -122,7 +122,7 @@ pub fn number_between(text: &[u8], low: u16, high: u16) -> Option<u16>
     }
 }
 
-/// The side from which a number with an optional sign counts.
+/// The end from which a number with an optional sign counts.
 fn side_of(text: &[u8]) -> Side
     ensures { result ≡ side_of text.now }
 {
@@ -133,7 +133,7 @@ fn side_of(text: &[u8]) -> Side
     }
 }
 
-/// A number from 1 to `high` with an optional sign.
+/// A number from 1 to `high` with an optional sign, and the end from which it counts.
 pub fn read_place(text: &[u8], high: u16) -> Option<(Side, u16)>
     ensures value { MatchOption result (is_signed high text.now ≡ false) (IsPlace high text.now) }
     ensures first { IfSome result (λ p. 1 ≤ p.1) }
@@ -143,7 +143,7 @@ pub fn read_place(text: &[u8], high: u16) -> Option<(Side, u16)>
     Some((side_of(text), n))
 }
 
-/// An item of BYDAY: a weekday, and the place that stands before it.
+/// An item of BYDAY: a weekday, and the number before it if there is one.
 #[derive(Clone, Copy)]
 pub struct DayItem {
     pub weekday: Weekday,

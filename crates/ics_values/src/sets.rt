@@ -1,10 +1,10 @@
-//! Sets of small numbers, as fixed words of bits.
+//! Sets of small numbers, as words of bits.
 ghost use Rattle.std.specs.Prelude.{◌≡◌, ◌≢◌, ℕ, ◌<◌, ◌==◌, ◌↔◌, ◌||◌, ◌*◌, ◌&&◌, nat_lt, length, IsTrue, ◌^◌, ◌≤◌, IfSome};
 ghost use Rattle.ics_values.specs.Sets.{has, is_none, only, with_number, has_wide, is_none_wide, none_wide, with_wide_number, IsNextIn};
 
 use std::marker::Model;
 
-/// The place of the lowest one of a word from place `n` on.
+/// The number of the lowest bit of a word, from bit `n` on, that is set.
 fn next_bit(bits: u64, n: u8) -> Option<u8>
     ensures next { IsNextIn (has bits) n result }
     ensures small { IfSome result (λ m. m < 64) }
@@ -19,7 +19,7 @@ fn next_bit(bits: u64, n: u8) -> Option<u8>
     Some(n + rest.trailing_zeros() as u8)
 }
 
-/// The same of six words.
+/// The same for six words.
 fn next_bit_in(words: &[u64; 6], n: u16) -> Option<u16>
     ensures next { IsNextIn (has_wide words.now) n result }
     ensures small { IfSome result (λ m. m < 384) }
@@ -39,7 +39,7 @@ fn next_bit_in(words: &[u64; 6], n: u16) -> Option<u16>
     None
 }
 
-/// A set of numbers below 64. A contract sees the number whose binary digits are its members.
+/// A set of numbers below 64. Contracts see it as the number whose binary digits are its members.
 #[derive(Clone, Copy)]
 pub struct Numbers {
     bits: u64,
@@ -56,7 +56,7 @@ impl Model for Numbers {
 }
 
 impl Numbers {
-    /// No number.
+    /// The empty set.
     pub fn new() -> Numbers
         ensures { result ≡ 0 }
     {
@@ -125,7 +125,7 @@ impl Numbers {
     }
 }
 
-/// A set of numbers below 384. A contract sees its words.
+/// A set of numbers below 384. Contracts see it as its six words.
 #[derive(Clone, Copy)]
 pub struct WideNumbers {
     words: [u64; 6],
@@ -142,7 +142,7 @@ impl Model for WideNumbers {
 }
 
 impl WideNumbers {
-    /// No number.
+    /// The empty set.
     pub fn new() -> WideNumbers
         ensures { result ≡ none_wide }
     {

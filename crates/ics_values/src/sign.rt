@@ -25,7 +25,7 @@ pub fn is_negative(text: &[u8]) -> bool
     }
 }
 
-/// The text behind the sign that may begin it.
+/// The text without the sign that may begin it.
 pub fn unsigned(text: &[u8]) -> &[u8]
     ensures { result.now ≡ unsigned text.now }
 {
@@ -35,7 +35,7 @@ pub fn unsigned(text: &[u8]) -> &[u8]
     }
 }
 
-/// The number behind a minus or not.
+/// The number, negated if `negative`.
 pub fn with_sign(negative: bool, size: u32) -> i32
     requires { size < 2 ^ 31 }
     ensures value { result ≡ with_sign negative size }

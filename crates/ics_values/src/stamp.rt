@@ -1,4 +1,4 @@
-//! Dates and times as properties write them.
+//! Dates and times, as a property's value has them.
 ghost use Rattle.std.specs.Prelude.{◌≡◌, ◌+◌, ◌*◌, ◌<◌, ◌≤◌, true, false, length, take, drop, ◌&&◌, MatchOption, IfSome, IfOk};
 ghost use Rattle.ics_values.specs.Stamps.{is_date_form, is_local_form, is_utc_form, is_date_time_form, year_of, date_exists, day_of, time_exists, second_of, local_of, is_stamp_text, stamp_said, is_stamp_year, stamp_of, stamp_day, IsDayOf, IsStampDay, HasDate, HasTime};
 ghost use Rattle.ics_values.specs.Options.{IsWhere};
@@ -10,20 +10,20 @@ use crate::digits::{are_digits, number_at, upper};
 use crate::local::Local;
 use thiserror::Error;
 
-/// A DATE or a DATE-TIME. A day is counted from 1970-01-01.
+/// A DATE or a DATE-TIME (RFC 5545, sections 3.3.4 and 3.3.5). Days are counted from 1970-01-01.
 #[derive(Clone, Copy, Debug, PartialEq, Eq)]
 pub enum Stamp {
     /// A day without a time.
     Date(i32),
-    /// A local time beside which no TZID stands.
+    /// A local time without a TZID.
     Floating(Local),
     /// A time in UTC.
     Utc(Local),
-    /// A local time beside which a TZID stands.
+    /// A local time with a TZID.
     Zoned(Local),
 }
 
-/// Why a text is no stamp.
+/// Why a text is not a stamp.
 #[derive(Clone, Copy, Debug, PartialEq, Eq, Error)]
 pub enum StampFault {
     #[error("BadStamp")]
@@ -33,7 +33,7 @@ pub enum StampFault {
 }
 
 impl StampFault {
-    /// The variant's name.
+    /// The name of the fault, as it is printed.
     pub fn name(&self) -> &'static str
         ensures { result.now ≡ stamp_fault_name self.now }
     {
@@ -44,7 +44,7 @@ impl StampFault {
     }
 }
 
-/// The forms of stamps.
+/// The forms of a stamp's text.
 #[derive(Clone, Copy)]
 pub enum Form {
     Date,
@@ -91,7 +91,7 @@ fn form_of(text: &[u8]) -> Option<Form>
     }
 }
 
-/// The number of the text's first four digits.
+/// The number that the text's first four digits spell.
 pub fn year_of(text: &[u8]) -> u32
     requires { HasDate text.now }
     ensures value { result ≡ year_of text.now }
@@ -100,7 +100,7 @@ pub fn year_of(text: &[u8]) -> u32
     number_at(text, 0, 4)
 }
 
-/// The day of the text's first eight digits, where the calendar has it.
+/// The day of the text's first eight digits. None if the calendar does not have the date.
 fn day_of(text: &[u8]) -> Option<i32>
     requires { HasDate text.now }
     ensures { IsWhere result (date_exists text.now) (day_of text.now) }
@@ -108,7 +108,7 @@ fn day_of(text: &[u8]) -> Option<i32>
     date_day(year_of(text), number_at(text, 4, 6), number_at(text, 6, 8))
 }
 
-/// The second of the day that the text's time says, where the clock has it.
+/// The second of the day that the text's time says. None if there is no such time.
 fn second_of(text: &[u8]) -> Option<u32>
     requires { HasTime text.now }
     ensures value { IsWhere result (time_exists text.now) (second_of text.now) }
@@ -134,7 +134,7 @@ fn local_of(text: &[u8]) -> Option<Local>
     Some(Local::at(day, second))
 }
 
-/// The stamp of a text, whatever its year.
+/// The stamp that a text says, whatever its year.
 pub fn any_stamp(text: &[u8], zoned: bool) -> Option<Stamp>
     ensures value { IsWhere result (is_stamp_text text.now) (stamp_said zoned text.now) }
     ensures digits { IfSome result (λ _. HasDate text.now) }
@@ -159,9 +159,9 @@ fn is_stamp_year(year: u32) -> bool
     year >= 1 && year <= 9899
 }
 
-/// The stamp of a text: a DATE, or a DATE-TIME whose second 60 is read as 59 (RFC 5545, sections
-/// 3.3.4 and 3.3.5). `zoned` says that a TZID stands beside it. Any other text is `BadStamp`,
-/// also a date that does not exist; a stamp outside the years 0001 to 9899 is `YearRange`.
+/// The stamp that a text says: a DATE or a DATE-TIME (RFC 5545, sections 3.3.4 and 3.3.5). `zoned` says
+/// whether the property has a TZID. Second 60 is read as 59. `BadStamp` for any other text and for a
+/// date or time that does not exist; else `YearRange` for a year outside 0001 to 9899.
 pub fn read_stamp(text: &[u8], zoned: bool) -> Result<Stamp, StampFault>
     ensures value { result ≡ stamp_of zoned text.now }
     ensures date { IfOk result (λ stamp. IsDayOf text.now (stamp_day stamp)) }

@@ -7,7 +7,7 @@ use std::alloc::{AllocError, Global};
 
 const BACKSLASH: u8 = b'\\';
 
-/// A backslash that another byte follows, between what stands before and behind the two.
+/// A backslash with the byte after it, and the text before and after the two.
 #[derive(Clone, Copy)]
 struct Escape<'a> {
     before: &'a [u8],
@@ -15,7 +15,7 @@ struct Escape<'a> {
     behind: &'a [u8],
 }
 
-/// The first backslash of a text that a byte follows.
+/// The first backslash of a text with a byte after it.
 fn first_escape(text: &[u8]) -> Option<Escape<'_>>
     ensures parts { MatchOption result (text_of text.now ≡ text.now) (λ escape.
         text_of text.now ≡ escape.before.now ++ (text_of (92 ∷ escape.byte ∷ []) ++ text_of escape.behind.now)) }
@@ -30,7 +30,7 @@ fn first_escape(text: &[u8]) -> Option<Escape<'_>>
     })
 }
 
-/// Appends what a backslash and the byte behind it stand for.
+/// Appends what a backslash and the byte after it mean.
 fn push_escaped(out: &mut Vec<u8>, b: u8) -> Result<(), AllocError>
     ensures { IfOk result (λ _. out.new.items ≡ out.old.items ++ text_of (92 ∷ b ∷ [])) }
 {
@@ -42,8 +42,8 @@ fn push_escaped(out: &mut Vec<u8>, b: u8) -> Result<(), AllocError>
     Ok(())
 }
 
-/// A TEXT value without its escapes (RFC 5545, section 3.3.11): `\\`, `\;` and `\,` stand for their second
-/// byte, `\n` and `\N` for LF, and any other backslash for itself.
+/// A TEXT value without its escapes (RFC 5545, section 3.3.11): `\\`, `\;` and `\,` mean their second
+/// byte, `\n` and `\N` mean LF, and any other backslash is kept. `AllocError` if an allocation fails.
 pub fn text_bytes(alloc: Global, value: &[u8]) -> Result<Vec<u8>, AllocError>
     ensures { IfOk result (λ r. r.items ≡ text_of value.now) }
 {

@@ -1,4 +1,4 @@
-//! Where a recurrence rule ends.
+//! The end of a recurrence rule.
 
 use crate::local::Local;
 
@@ -7,8 +7,8 @@ use crate::local::Local;
 pub enum Until {
     /// A day, counted from 1970-01-01.
     Date(i32),
-    /// A date and time in no zone.
+    /// A date and time without a zone.
     Local(Local),
-    /// A date and time of UTC.
+    /// A date and time in UTC.
     Utc(Local),
 }
