@@ -19,8 +19,8 @@ use Rattle.ics_rule.specs.Candidates.{lists, lists_wide, lists_nth, fourth_day, 
 use Rattle.ics_rule.specs.Kept.{count, is_until}
 use Rattle.ics_rule.specs.Table.{Part, ByMonth, ByWeekNo, ByYearDay, ByMonthDay, ByDay, ByHour, ByMinute, BySecond, BySetPos, Cell, Nothing, Limit, Expand, Note1, Note2, cell}
 
--- An instance by its fields, which need not agree: 30 February is an instance that no local is, and so it is ignored. A week goes by its
--- fourth day.
+-- An instance by its fields, which need not agree: no local is the instance 30 February, and so it is ignored. A week belongs to the year of
+-- its fourth day.
 pub record Instance : Type 0 where
   pub period : ℕ
   pub year : ℕ
@@ -55,12 +55,12 @@ instance_of p n = record {
 abbrev pub start_of : Recurrence → Instance
 start_of r = instance_of r.parts (number r.start)
 
--- a date has no clock
+-- dates have no time of day
 abbrev pub is_clockless : Kind → Bool
 is_clockless Date = true
 is_clockless DateTime = false
 
--- the rule has no such part. The parts of the clock are ignored where DTSTART is a date
+-- the rule has no such part. The parts of the time are ignored if DTSTART is a date
 abbrev pub is_absent : Recurrence → Part → Bool
 is_absent r ByMonth = is_none r.parts.months
 is_absent r ByWeekNo = lists_none r.parts.weeks
@@ -72,8 +72,8 @@ is_absent r ByMinute = is_clockless r.kind || is_none r.parts.minutes
 is_absent r BySecond = is_clockless r.kind || is_none r.parts.seconds
 is_absent r BySetPos = lists_none_wide r.parts.positions
 
--- The unit in which BYDAY counts its weekdays: under YEARLY the week beside BYWEEKNO, the month beside BYMONTH, and else the year. A week,
--- or less, has each weekday once, so no number is allowed there.
+-- The unit in which BYDAY counts its weekdays. Under YEARLY it is the week with BYWEEKNO, else the month with BYMONTH, and else the year. A
+-- week or less has each weekday at most once, so no number is allowed there.
 abbrev pub weekday_unit : Recurrence → Frequency → Frequency
 weekday_unit r Yearly = if not (is_absent r ByWeekNo) then Weekly else (if not (is_absent r ByMonth) then Monthly else Yearly)
 weekday_unit r Monthly = Monthly
@@ -84,7 +84,7 @@ lists_nth_in Yearly numbers i = lists_nth numbers i.year_day (days_in_year (pos 
 lists_nth_in Monthly numbers i = lists_nth numbers i.month_day (days_in_month (pos i.year) i.month)
 lists_nth_in unit numbers i = false
 
--- the part lists an instance; BYSETPOS lists places in the whole set
+-- the part lists an instance. BYSETPOS is not one of these: it lists places in the whole set
 abbrev pub is_listed : Recurrence → Part → Instances
 is_listed r ByMonth i = has r.parts.months i.month
 is_listed r ByWeekNo i = lists r.parts.weeks (week_number i.week) (weeks_of_year i.week)
@@ -98,7 +98,7 @@ is_listed r ByMinute i = has r.parts.minutes i.minute
 is_listed r BySecond i = has r.parts.seconds i.second
 is_listed r BySetPos i = true
 
--- The period's own instance: DTSTART, s, gives what is finer than the period.
+-- The period's own instance: DTSTART, s, gives the fields that are finer than the period.
 abbrev pub has_clock : Instance → Instances
 has_clock s i = i.hour == s.hour && (i.minute == s.minute && i.second == s.second)
 
@@ -111,11 +111,11 @@ own_instance Hourly s i = i.minute == s.minute && i.second == s.second
 own_instance Minutely s i = i.second == s.second
 own_instance Secondly s i = true
 
--- Limit: an instance stays where the part lists it.
+-- Limit: an instance stays if the part lists it.
 abbrev pub limit : Recurrence → Part → Instances → Instances
 limit r part set i = is_listed r part i && set i
 
--- an instance on the day that DTSTART gives in its year or, beside BYMONTH, in its month
+-- an instance on the day that DTSTART gives in its year or, with BYMONTH, in its month
 abbrev pub on_own_day : Recurrence → Instance → Instance
 on_own_day r i = record i {
   month = if is_absent r ByMonth then (start_of r).month else i.month;
@@ -123,7 +123,7 @@ on_own_day r i = record i {
   weekday = (start_of r).weekday;
 }
 
--- an instance with what the part gives as DTSTART gives it
+-- an instance with the fields that the part gives as DTSTART gives them
 abbrev pub before : Recurrence → Part → Instance → Instance
 before r ByMonth i = record i { month = (start_of r).month }
 before r ByHour i = record i { hour = (start_of r).hour }
@@ -131,16 +131,16 @@ before r ByMinute i = record i { minute = (start_of r).minute }
 before r BySecond i = record i { second = (start_of r).second }
 before r part i = on_own_day r i
 
--- what an expansion gives: in the weeks of BYWEEKNO, DTSTART's weekday
+-- what an expansion gives; BYWEEKNO gives DTSTART's weekday in its weeks
 abbrev pub gives : Recurrence → Part → Instances
 gives r ByWeekNo i = i.weekday == (start_of r).weekday && is_listed r ByWeekNo i
 gives r part i = is_listed r part i
 
--- Expand: in place of what DTSTART gives, an instance has each that the part lists.
+-- Expand: an instance has each value that the part lists, in place of the one that DTSTART gives.
 abbrev pub expand : Recurrence → Part → Instances → Instances
 expand r part set i = gives r part i && set (before r part i)
 
--- Note 1: BYDAY limits beside BYMONTHDAY. Note 2: it limits beside BYYEARDAY or BYMONTHDAY.
+-- Note 1: BYDAY limits if BYMONTHDAY is there. Note 2: it limits if BYYEARDAY or BYMONTHDAY is there.
 abbrev pub apply_cell : Cell → Recurrence → Part → Instances → Instances
 apply_cell Nothing r part set i = set i
 apply_cell Limit r part set i = limit r part set i
@@ -151,7 +151,7 @@ apply_cell Note2 r part set i = if is_absent r ByYearDay && is_absent r ByMonthD
 abbrev pub apply : Recurrence → Instances → Part → Instances
 apply r set part i = if is_absent r part then set i else apply_cell (cell part r.parts.frequency) r part set i
 
--- the parts applied in their order to the own instance of the period with a number, BYSETPOS apart
+-- all parts but BYSETPOS applied, in their order, to the own instance of the period with a number
 abbrev pub expanded : Recurrence → ℕ → Instances
 expanded r p =
     fold (apply r) (λ i. i.period == p && own_instance r.parts.frequency (start_of r) i)
@@ -160,7 +160,7 @@ expanded r p =
 abbrev pub is_instance : Recurrence → ℕ → ℕ → Bool
 is_instance r p n = expanded r p (instance_of r.parts n)
 
--- BYSETPOS lists n as the nth of a set: so many are not later, or so many are not earlier
+-- BYSETPOS lists n as the nth of a set: that many members are not later or, from the end, that many are not earlier
 abbrev pub is_nth : WidePlaces → (ℕ → Bool) → ℕ → Bool
 is_nth positions set n = has_wide positions.front (count (suc n) set) || has_wide positions.back (count calendar_end set - count n set)
 
@@ -178,7 +178,7 @@ is_period r p = is_stepped (period_of r (number r.start)) r.parts.interval p
 abbrev pub is_member : Recurrence → ℕ → Bool
 is_member r n = n == number r.start || (nat_lt (number r.start) n && (is_period r (period_of r n) && is_limited r (period_of r n) n))
 
--- ... and is kept, where neither the end of the rules, nor UNTIL, nor COUNT cuts it off
+-- ... and is kept if it is not past the end of the rules, UNTIL or COUNT
 abbrev pub is_within_count : Recurrence → Option ℕ → ℕ → Bool
 is_within_count r None n = true
 is_within_count r (Some c) n = nat_lt (count n (is_member r)) c
@@ -188,8 +188,8 @@ is_kept_by_table r n =
     n == number r.start
     || (nat_lt n rules_end && is_member r n && is_until r.kind r.parts.until n && is_within_count r r.parts.count n)
 
--- A rule that the table allows: it has no part whose cell is N/A, no numbered weekday but under MONTHLY and under YEARLY without BYWEEKNO
--- and, for dates, a frequency not finer than DAILY and a start at midnight.
+-- A rule that the table allows: it has no part whose cell is N/A, and a numbered weekday only under MONTHLY and under YEARLY without
+-- BYWEEKNO. For dates its frequency is not finer than DAILY and its start is at midnight.
 pub record IsAllowed (r : Recurrence) : Type 0 where
   pub parts : (part : Part) → cell part r.parts.frequency ≡ Nothing → is_absent r part ≡ true
   pub numbers : weekday_unit r r.parts.frequency ≡ Weekly → (w : ℕ) → lists_none (numbers_of r.parts.weekdays w) ≡ true

@@ -1,4 +1,4 @@
--- Which locals a rule lets in, BYSETPOS, COUNT and UNTIL apart (RFC 5545, 3.3.10).
+-- Which locals the parts of a rule but BYSETPOS, COUNT and UNTIL allow (RFC 5545, 3.3.10).
 use Rattle.std.specs.Prelude.{ℕ, ◌+◌, ◌-◌, ◌*◌, ◌/◌, ◌%◌, Bool, not, ◌&&◌, ◌||◌, ◌==◌, nat_le, nat_lt, if◌then◌else◌, pos}
 use Rattle.jiff_core.specs.Calendar.{days_in_month, days_in_year}
 use Rattle.jiff_core.specs.Weekday.{monday_zero}
@@ -14,11 +14,11 @@ use Rattle.ics_rule.specs.Recurrence.{Recurrence}
 use Rattle.ics_rule.specs.Locals.{number, day_of, hour_of, minute_of, second_of, week_of, period}
 use Rattle.ics_rule.specs.Filled.{filled}
 
--- a part lets a number in where it is absent or lists it
+-- a part allows a number if it is absent or lists it
 abbrev pub lets : ℕ → ℕ → Bool
 lets s n = is_none s || has s n
 
--- of the numbers 1 to size, n is also the one at n - size - 1 from the end
+-- the part lists n of the numbers 1 to size, of which n is also number size + 1 - n from the end
 abbrev pub lists : Places → ℕ → ℕ → Bool
 lists p n size = has p.front n || has p.back (size + 1 - n)
 
@@ -31,25 +31,25 @@ lets_place p n size = lists_none p || lists p n size
 abbrev pub lets_wide_place : WidePlaces → ℕ → ℕ → Bool
 lets_wide_place p n size = lists_none_wide p || lists_wide p n size
 
--- the week of day e, starting on weekday w, belongs to the year of its fourth day. The fourth day of a week that begins before 0000 is
--- read one cycle of the calendar later: 400 years are 146,097 days, a whole number of weeks
+-- the week of day e, starting on weekday w, belongs to the year of its fourth day. If it begins before year 0000, that day is taken 400 years
+-- later: these are 146,097 days, a whole number of weeks, and the calendar repeats after them
 abbrev pub fourth_day : ℕ → ℕ → ℕ
 fourth_day w e = if nat_lt (7 * week_of w e + w) 9 then 7 * week_of w e + w + 146_088 else 7 * week_of w e + w - 9
 
--- its number there; f is its fourth day
+-- the number of the week in that year; f is its fourth day
 abbrev pub week_number : ℕ → ℕ
 week_number f = (year_day_of f - 1) / 7 + 1
 
--- how many weeks that year has: the number of its last week, whose fourth day is the last in steps of seven from f
+-- how many weeks that year has: the number of its last week, whose fourth day is the last of the year in steps of seven from f
 abbrev pub weeks_of_year : ℕ → ℕ
 weeks_of_year f = (days_in_year (pos (year_of f)) - 1 - (year_day_of f - 1) % 7) / 7 + 1
 
--- of the days 1 to size, day n is the first, second, .. of its weekday from the front, and so from the end
+-- the part lists the rank of day n, of the days 1 to size, among those of its weekday, counted from the start or from the end
 abbrev pub lists_nth : Places → ℕ → ℕ → Bool
 lists_nth p n size = has p.front ((n - 1) / 7 + 1) || has p.back ((size - n) / 7 + 1)
 
--- the weekday of day e, with its numbers p: they count in the month under MONTHLY and under YEARLY with BYMONTH, else in the year
--- under YEARLY without BYWEEKNO; elsewhere a weekday with a number stands for the weekday (our choice)
+-- p are the numbers of the weekday of day e. They count in the month under MONTHLY. Under YEARLY without BYWEEKNO they count in the month with
+-- BYMONTH, and else in the year. Elsewhere a weekday with a number means the weekday (our choice)
 abbrev pub lets_numbered : Frequency → Filled → Places → ℕ → Bool
 lets_numbered Monthly q p e = lists_nth p (month_day_of e) (days_in_month (pos (year_of e)) (month_of e))
 lets_numbered Yearly q p e =
@@ -72,7 +72,7 @@ abbrev pub lets_week : Filled → ℕ → Bool
 lets_week q e =
     lets_place q.weeks (week_number (fourth_day (monday_zero q.week_start) e)) (weeks_of_year (fourth_day (monday_zero q.week_start) e))
 
--- each part of a filled rule that speaks of the date lets day e in, under every frequency (where RFC 5545 has N/A this is our choice)
+-- each part of a filled rule that restricts the date allows day e, under every frequency (where RFC 5545 has N/A this is our choice)
 abbrev pub lets_date : Filled → ℕ → Bool
 lets_date q e =
     lets q.months (month_of e)
@@ -80,7 +80,7 @@ lets_date q e =
     && lets_wide_place q.year_days (year_day_of e) (days_in_year (pos (year_of e)))
     && lets_week q e && lets_weekday q e
 
--- each part that speaks of the clock lets local n in
+-- each part that restricts the time of day allows local n
 abbrev pub lets_clock : Filled → ℕ → Bool
 lets_clock q n = lets q.hours (hour_of n) && lets q.minutes (minute_of n) && lets q.seconds (second_of n)
 

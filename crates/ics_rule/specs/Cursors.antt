@@ -1,4 +1,4 @@
--- A cursor's place, and how many periods it looks at.
+-- The place of a cursor, and how many periods it looks at.
 use Rattle.std.specs.Prelude.{◌≡◌, ℕ, suc, ◌+◌, ◌<◌, ◌≤◌, Bool, ◌&&◌, ◌==◌, nat_le, nat_lt, Option, Some, None, MatchOption, true}
 use Rattle.jiff_core.specs.Weekday.{monday_zero}
 use Rattle.ics_values.specs.declared.local.Local.{Local}
@@ -12,17 +12,17 @@ use Rattle.ics_rule.specs.Candidates.{is_stepped, period_in}
 use Rattle.ics_rule.specs.Kept.{count, is_chosen}
 use Rattle.ics_rule.specs.Periods.{first_local, IsPeriodOf}
 
--- a period lies a multiple of the interval from the start's, and holds a local from a on and earlier than b
+-- a period is a multiple of the interval after the start's, and has a local from a on and earlier than b
 abbrev pub is_met : Filled → ℕ → ℕ → ℕ → ℕ → Bool
 is_met q start a b p =
     is_stepped (period_in q start) q.interval p
     && nat_lt 0 (count b (λ n. nat_le a n && period_in q n == p))
 
--- how many periods do
+-- how many periods are so
 unfoldable pub period_count : Recurrence → ℕ → ℕ → ℕ
 period_count r a b = count calendar_end (is_met (filled r) (number r.start) a b)
 
--- where a cursor stands: what it answers later is not earlier
+-- the place of a cursor: no later answer is earlier
 abbrev pub place_of : Cursor → ℕ
 place_of c = c.place
 
@@ -34,7 +34,7 @@ steps_of c = c.steps
 abbrev pub HasBegun : Option Period → ℕ → Type 0
 HasBegun held steps = MatchOption held (Unit {0}) (λ p. 1 ≤ steps)
 
--- the first number that no period looked at has reached
+-- the first number past the periods that were looked at
 abbrev pub fresh : Option Period → ℕ
 fresh None = 0
 fresh (Some p) = suc p.number
@@ -43,8 +43,8 @@ fresh (Some p) = suc p.number
 abbrev pub HeldBy : Filled → Option Period → ℕ → Type 0
 HeldBy q held n = MatchOption held (Unit {0}) (λ p. IsPeriodOf q p × (p.number ≤ period_in q n))
 
--- under COUNT c the period held is the start's or a later one, the candidates that BYSETPOS lets in before it are counted, and fewer than
--- the limit come before a kept local
+-- under COUNT c: the period held is the start's or a later one, the candidates before it that BYSETPOS allows are counted, and a kept local
+-- has fewer than limit of them before it
 pub record IsCounted (q : Filled) (start c counted limit : ℕ) (p : Period) : Type 0 where
   pub step : is_stepped (period_in q start) q.interval p.number ≡ true
   pub total : counted ≡ count (first_local q.frequency (monday_zero q.week_start) p.number) (is_chosen q start)
@@ -63,8 +63,8 @@ pub record IsCursorIn (q : Filled) (start : ℕ) (o : Option ℕ) (c : Cursor) :
   pub steps : c.steps ≤ fresh c.held
   pub counted : CountedBy q start o c
 
--- what the steps of a cursor say of an answer past the start: it comes from a period that was looked at, and one in a later period than
--- the cursor's place from a new look
+-- what the steps of a cursor say of an answer after the start: it comes from a period that was looked at, and an answer in a later period
+-- than the cursor's place comes from a new look
 pub record HasCounted (r : Recurrence) (answer : Option Local) (before now : Cursor) : Type 0 where
   pub rise : steps_of before ≤ steps_of now
   pub some : MatchOption answer (Unit {0}) (λ local. number r.start < number local → 1 ≤ steps_of now)
@@ -75,17 +75,17 @@ pub record HasCounted (r : Recurrence) (answer : Option Local) (before now : Cur
 unfoldable pub IsCursorOf : Recurrence → Cursor → Type 0
 IsCursorOf r c = IsCursorIn (filled r) (number r.start) r.parts.count c
 
--- up to where the locals are known after an answer: past the one answered or, where there is none, up to the bound
+-- the locals before this one are known after an answer: up to and with the one answered or, if there is none, up to the bound
 abbrev pub known_to : Option ℕ → ℕ → ℕ
 known_to None bound = bound
 known_to (Some n) bound = n + 1
 
--- where the periods begin that a cursor at a place looks at: there or, under COUNT, at the start
+-- the local from which on a cursor looks at periods: its place or, under COUNT, the start
 abbrev pub looks_from : Option ℕ → ℕ → ℕ → ℕ
 looks_from None start place = place
 looks_from (Some c) start place = start
 
--- a cursor has looked only at periods that hold a local from a on and earlier than b, at each once
+-- a cursor has looked only at periods that have a local from a on and earlier than b, at each of them once
 pub record HasLookedIn (q : Filled) (start : ℕ) (o : Option ℕ) (c : Cursor) (a b : ℕ) : Type 0 where
   pub low : a ≤ looks_from o start c.place
   pub few : c.steps ≤ count (fresh c.held) (is_met q start a b)

@@ -1,4 +1,4 @@
--- A rule with what it leaves out taken from the start of its event (RFC 5545, 3.3.10; in which cases is our choice).
+-- A rule that takes what it leaves out from the start of its event (RFC 5545, 3.3.10). In which cases it does is our choice.
 use Rattle.std.specs.Prelude.{ℕ, Bool, true, false, not, ◌&&◌, if◌then◌else◌}
 use Rattle.ics_values.specs.declared.frequency.Frequency.{Frequency}
 use Rattle.ics_values.specs.declared.frequency.Frequency.TheVariants.{Secondly, Minutely, Hourly, Daily, Weekly, Monthly, Yearly}
@@ -69,13 +69,13 @@ skips_seconds Minutely = true
 skips_seconds Secondly = false
 skips_seconds f = skips_minutes f
 
--- a part of the clock: the set s or, where it is absent and the frequency is coarser than the unit, n alone. The clock of a date is at
--- zero, whatever the rule says
+-- a part of the time: the set s or, if it is absent and the frequency is coarser than the unit, n alone. A date is at midnight, whatever the
+-- rule says
 abbrev pub clock_part : Kind → Bool → ℕ → ℕ → ℕ
 clock_part Date takes s n = only 0
 clock_part DateTime takes s n = if takes && is_none s then only n else s
 
--- day n of the month, and weekday w, alone
+-- day n of the month alone, and weekday w alone
 abbrev pub only_place : ℕ → Places
 only_place n = record { front = only n; back = 0 }
 

@@ -22,30 +22,30 @@ count (suc n) test = count n test + (if test n then 1 else 0)
 abbrev pub is_beside : Filled → ℕ → ℕ → ℕ → Bool
 is_beside q start n m = is_candidate_in q start m && period_in q m == period_in q n
 
--- how many candidates of the whole period of n are not later than n, and how many it has, also before the start
+-- how many candidates of the period of n are not later than n, and how many the period has; those before the start count too
 abbrev pub rank : Filled → ℕ → ℕ → ℕ
 rank q start n = count (suc n) (is_beside q start n)
 
 abbrev pub size : Filled → ℕ → ℕ → ℕ
 size q start n = count calendar_end (is_beside q start n)
 
--- n stands at one of the places that BYSETPOS lists, from the front or from the end; where it is absent any will do
+-- n is at one of the places that BYSETPOS lists, from the start or from the end of its period, or BYSETPOS is absent
 abbrev pub is_placed : Filled → ℕ → Bool → ℕ → Bool
 is_placed q start true n = true
 is_placed q start false n = lists_wide q.positions (rank q start n) (size q start n)
 
--- a candidate that BYSETPOS lets in
+-- a candidate that BYSETPOS allows
 abbrev pub is_chosen : Filled → ℕ → ℕ → Bool
 is_chosen q start n = is_candidate_in q start n && is_placed q start (lists_none_wide q.positions) n
 
--- the start is in the rule, whether or not it fits (our choice), and so is each later candidate that BYSETPOS lets in
+-- the start is in the rule, whether or not it fits (our choice), and so is each later candidate that BYSETPOS allows
 unfoldable pub is_in_rule : Recurrence → ℕ → Bool
 is_in_rule r n =
     n == number r.start
     || (nat_lt (number r.start) n && is_chosen (filled r) (number r.start) n)
 
--- not after UNTIL: a date is compared with the date, and a local with the local, or with the date where the event has dates (our
--- choice). UTC under date-times is compared with instants, and bounds no local
+-- not after UNTIL. A date is compared with the date of n, and a local with n, or with its date if the event has dates (our choice). UNTIL in
+-- UTC is compared with instants if the event has date-times, and then bounds no local
 abbrev pub is_until : Kind → Option Until → ℕ → Bool
 is_until kind None n = true
 is_until kind (Some (until.Date d)) n = nat_le (day_of n) (day_index d)
@@ -59,7 +59,7 @@ abbrev pub is_counted : Recurrence → Option ℕ → ℕ → Bool
 is_counted r None n = true
 is_counted r (Some c) n = nat_lt (count n (is_in_rule r)) c
 
--- the start is kept, and so is each member that neither the end of the rules, nor UNTIL, nor COUNT cuts off
+-- the start is kept, and so is each member that is not past the end of the rules, UNTIL or COUNT
 unfoldable pub is_kept : Recurrence → ℕ → Bool
 is_kept r n =
     n == number r.start
@@ -69,7 +69,7 @@ is_kept r n =
 abbrev pub utc_moment : Local → ℤ
 utc_moment l = l.day *ℤ pos 86_400 +ℤ pos l.second
 
--- UTC under date-times, for instants
+-- UNTIL in UTC, if the event has date-times: it bounds instants
 abbrev pub until_moment_of : Kind → Option Until → Option ℤ
 until_moment_of DateTime (Some (until.Utc l)) = Some (utc_moment l)
 until_moment_of DateTime (Some (until.Local l)) = None
@@ -80,7 +80,7 @@ until_moment_of Date u = None
 unfoldable pub until_moment : Recurrence → Option ℤ
 until_moment r = until_moment_of r.kind r.parts.until
 
--- what a proof unfolds to compute with a rule that is written out
+-- what a proof unfolds to compute with a given rule
 unfoldable pub rules_on_literals : ⊤
 unfolding filled is_candidate is_in_rule is_kept
 rules_on_literals = tt

@@ -1,4 +1,4 @@
--- A local as one number, its clock, and the periods that it lies in (RFC 5545, 3.3.10).
+-- A local as one number, its time of day, and the periods that it is in (RFC 5545, 3.3.10).
 use Rattle.std.specs.Prelude.{ℕ, ◌+◌, ◌-◌, ◌*◌, ◌/◌, ◌%◌}
 use Rattle.ics_values.specs.declared.local.Local.{Local}
 use Rattle.ics_values.specs.declared.frequency.Frequency.{Frequency}
@@ -9,7 +9,7 @@ use Rattle.ics_values.specs.Days.{year_of, month_of, day_index}
 abbrev pub number : Local → ℕ
 number l = day_index l.day * 86_400 + l.second
 
--- its day, counted from 0000-01-01, and its clock
+-- its day, counted from 0000-01-01, and its hour, minute and second
 abbrev pub day_of : ℕ → ℕ
 day_of n = n / 86_400
 
@@ -22,8 +22,8 @@ minute_of n = n / 60 % 60
 abbrev pub second_of : ℕ → ℕ
 second_of n = n % 60
 
--- the number of the week that day e lies in, where weeks start on weekday w: day 0 was a Saturday, so that e + (12 - w) counts days
--- from a day w
+-- the number of the week of day e, if weeks start on weekday w. Day 0 was a Saturday, so that e + (12 - w) counts days from a day with
+-- weekday w
 abbrev pub week_of : ℕ → ℕ → ℕ
 week_of w e = (e + (12 - w)) / 7
 
@@ -41,7 +41,7 @@ period Weekly w n = week_of w (day_of n)
 period Monthly w n = month_number (day_of n)
 period Yearly w n = year_of (day_of n)
 
--- 10000-01-01T00:00:00, where the calendar ends, and 9801-01-01T00:00:00, where the rules end
+-- 10000-01-01T00:00:00, the end of the calendar, and 9801-01-01T00:00:00, the end of the rules
 abbrev pub calendar_end : ℕ
 calendar_end = 3_652_425 * 86_400
 

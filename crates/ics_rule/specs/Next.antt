@@ -7,7 +7,7 @@ use Rattle.ics_rule.specs.Kept.{is_kept}
 abbrev pub NoneKept : Recurrence → ℕ → ℕ → Type 0
 NoneKept r from before = (n : ℕ) → from ≤ n → n < before → is_kept r n ≡ false
 
--- n is the least that is kept of the locals from a place on and before a bound
+-- n is the least kept local from a place on and before a bound
 pub record IsNextKept (r : Recurrence) (from before n : ℕ) : Type 0 where
   pub kept : is_kept r n ≡ true
   pub from_place : from ≤ n

@@ -1,4 +1,4 @@
--- Periods of a day or less: each that a rule lets in has as many locals as the others.
+-- Periods of a day or less. Those that a rule allows all have the same number of locals.
 use Rattle.std.specs.Prelude.{ℕ, ◌*◌, ◌/◌, Bool, not, true, false, ◌&&◌, ◌||◌}
 use Rattle.ics_values.specs.declared.frequency.Frequency.{Frequency}
 use Rattle.ics_values.specs.declared.frequency.Frequency.TheVariants.{Secondly, Minutely, Hourly, Daily, Weekly, Monthly, Yearly}
@@ -21,28 +21,28 @@ per_day Weekly = 1
 per_day Monthly = 1
 per_day Yearly = 1
 
--- the hour, the minute and the second that a period has, each as far as it has one, are let in; n is a local of the period
+-- the hour, minute and second of a period, as far as it has them, are allowed; n is a local of the period
 abbrev pub lets_own : Frequency → Filled → ℕ → Bool
 lets_own f q n =
     (skips_hours f || lets q.hours (hour_of n)) && (skips_minutes f || lets q.minutes (minute_of n))
     && (skips_seconds f || lets q.seconds (second_of n))
 
--- and so are those of local n within its period
+-- the minute and second that local n has within its period, and under DAILY the hour, are allowed
 abbrev pub lets_within : Frequency → Filled → ℕ → Bool
 lets_within f q n =
     (not (skips_hours f) || lets q.hours (hour_of n)) && (not (skips_minutes f) || lets q.minutes (minute_of n))
     && (not (skips_seconds f) || lets q.seconds (second_of n))
 
--- a period lies a multiple of the interval from the first and holds what the rule lets in
+-- a period is a multiple of the interval after the first, and the rule allows a local of it
 abbrev pub is_open_period : Filled → ℕ → ℕ → Bool
 is_open_period q first p =
     is_stepped first q.interval p && (lets_date q (p / per_day q.frequency) && lets_own q.frequency q (p * seconds_of q.frequency))
 
--- how many locals each of them has
+-- how many allowed locals each such period has
 abbrev pub size_of_open : Filled → ℕ
 size_of_open q = count (seconds_of q.frequency) (lets_within q.frequency q)
 
--- of which BYSETPOS lets so many in; without it all
+-- how many of them BYSETPOS allows; all of them if it is absent
 abbrev pub chosen_of_size : Filled → Bool → ℕ → ℕ
 chosen_of_size q true size = size
 chosen_of_size q false size = count size (is_listed q.positions size)

@@ -4,11 +4,11 @@ use Rattle.ics_values.specs.declared.places.Weekdays.{Weekdays}
 use Rattle.ics_values.specs.Sets.{has, with_number}
 use Rattle.ics_values.specs.Places.{lists_none, numbers_of}
 
--- with a number or without
+-- BYDAY names weekday d, with a number or without
 abbrev pub names_weekday : Weekdays → ℕ → Bool
 names_weekday w d = has w.plain d || not (lists_none (numbers_of w d))
 
--- those from 0, Monday, and before weekday d, as a set
+-- the named weekdays before weekday d, from 0 for Monday, as a set
 unfoldable pub named_below : Weekdays → ℕ → ℕ
 named_below w zero = 0
 named_below w (suc d) = if names_weekday w d then with_number d (named_below w d) else named_below w d

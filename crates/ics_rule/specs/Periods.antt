@@ -26,30 +26,30 @@ first_local Weekly w p = (7 * p - (12 - w)) * 86_400
 first_local Monthly w p = month_start p * 86_400
 first_local Yearly w p = days_before_year p * 86_400
 
--- a minute of a day lies in a set of hours times a set of minutes
+-- a minute of a day is in a set of hours times a set of minutes
 abbrev pub has_minute : ℕ → ℕ → ℕ → Bool
 has_minute hours minutes m = has hours (m / 60) && has minutes (m % 60)
 
--- a second of a day in a product of three
+-- a second of a day is in sets of hours, minutes and seconds
 abbrev pub has_time : ℕ → ℕ → ℕ → ℕ → Bool
 has_time hours minutes seconds t = has_minute hours minutes (t / 60) && has seconds (t % 60)
 
 abbrev pub has_second : Period → ℕ → Bool
 has_second p t = has_time p.hours p.minutes p.seconds t
 
--- a day in the set of days, which counts from the period's first
+-- a day is in the period's set of days, which counts them from its first
 abbrev pub has_day : Period → ℕ → Bool
 has_day p e = nat_le p.first_day e && has_wide p.days (e - p.first_day)
 
--- a local in the product
+-- a local is in the product
 abbrev pub holds : Period → ℕ → Bool
 holds p n = has_day p (n / 86_400) && has_second p (n % 86_400)
 
--- the rule lets local n in, which lies in the period with a number
+-- local n is in the period with a number, and the rule allows it
 abbrev pub is_let_in : Filled → ℕ → ℕ → Bool
 is_let_in q number n = period_in q n == number && (lets_date q (day_of n) && lets_clock q n)
 
--- the product is a period of a filled rule: it holds what the rule lets in there
+-- the product is a period of a filled rule: it has what the rule allows there
 pub record IsPeriodOf (q : Filled) (p : Period) : Type 0 where
   pub members : (n : ℕ) → holds p n ≡ is_let_in q p.number n
   pub first : p.first_day ≤ 3_600_000
@@ -57,26 +57,26 @@ pub record IsPeriodOf (q : Filled) (p : Period) : Type 0 where
   pub minutes : p.minutes < 2 ^ 60
   pub seconds : p.seconds < 2 ^ 60
 
--- n passes, and k numbers before it do
+-- n passes the test, and k numbers before it do
 pub record IsNth (test : ℕ → Bool) (k n : ℕ) : Type 0 where
   pub passes : test n ≡ true
   pub before : count n test ≡ k
 
--- the k-th of size members, from 0, stands at a place that BYSETPOS lists
+-- BYSETPOS lists the place of the k-th of size members, counted from 0
 abbrev pub is_listed : WidePlaces → ℕ → ℕ → Bool
 is_listed positions size k = lists_wide positions (k + 1) size
 
--- a local in the product, at such a place; without BYSETPOS any will do
+-- a local is in the product, at a place that BYSETPOS lists, or anywhere if BYSETPOS is absent
 abbrev pub is_taken : WidePlaces → Bool → Period → ℕ → Bool
 is_taken positions true p n = holds p n
 is_taken positions false p n = holds p n && is_listed positions (count calendar_end (holds p)) (count n (holds p))
 
--- the answer is the least number from a place on and below a size that passes, or that there is none
+-- the answer is the least number, from a given one on and below a size, that passes, or None if there is none
 abbrev pub IsNextBelow : (ℕ → Bool) → ℕ → ℕ → Option ℕ → Type 0
 IsNextBelow test from size o =
     MatchOption o ((k : ℕ) → from ≤ k → k < size → test k ≡ false) (λ k. IsLeastFrom test from k × (k < size))
 
--- the first index from a place on at which a set lists the place after it, or size
+-- the first index, from a given one on, at which a set lists the place after it, or size
 pub record IsFirstListed (front : List ℕ) (from size end : ℕ) : Type 0 where
   pub none : (k : ℕ) → from ≤ k → k < end → has_wide front (k + 1) ≡ false
   pub high : end ≤ size

@@ -1,4 +1,4 @@
--- The plain reading of a rule, as the documentation of python-dateutil has it: a filter by each part on the locals from DTSTART on.
+-- The plain reading of a rule, as in the documentation of python-dateutil: each part is a filter on the locals from DTSTART on.
 use Rattle.std.specs.Prelude.{◌≡◌, ℕ, suc, ◌+◌, ◌-◌, ◌%◌, ◌≤◌, Bool, true, false, ◌&&◌, ◌||◌, ◌==◌, nat_le, nat_lt, if◌then◌else◌, Option, Some, None, MatchOption}
 use Rattle.jiff_core.specs.Weekday.{monday_zero}
 use Rattle.ics_values.specs.declared.frequency.Frequency.{Frequency}
@@ -16,7 +16,7 @@ use Rattle.ics_rule.specs.Kept.{count, is_until}
 use Rattle.ics_rule.specs.Table.{Part, ByMonth, ByWeekNo, ByYearDay, ByMonthDay, ByDay, ByHour, ByMinute, BySecond, BySetPos}
 use Rattle.ics_rule.specs.ByTable.{is_absent, weekday_unit}
 
--- n is the k-th of those that pass, counted from the first, or from the last where the number has a minus
+-- n is the k-th of those that pass, counted from the first or, if the number has a minus, from the last
 abbrev pub is_nth : (ℕ → Bool) → (ℕ → Bool) → (ℕ → Bool) → ℕ → Bool
 is_nth plus minus test n = plus (count (suc n) test) || minus (count calendar_end test - count n test)
 
@@ -26,7 +26,8 @@ is_place p = is_nth (has p.front) (has p.back)
 abbrev pub is_wide_place : WidePlaces → (ℕ → Bool) → ℕ → Bool
 is_wide_place p = is_nth (has_wide p.front) (has_wide p.back)
 
--- What is missing is extracted from DTSTART, if it is finer than the frequency; of the date only where no part names a week or a day.
+-- What is missing is extracted from DTSTART if it is finer than the frequency. What it says of the date is extracted only if no part names a
+-- week or a day.
 abbrev pub is_dayless : Recurrence → Bool
 is_dayless r = is_absent r ByMonthDay && is_absent r ByYearDay && is_absent r ByDay && is_absent r ByWeekNo
 
@@ -40,7 +41,7 @@ is_extracted r frequency ByMinute = skips_minutes frequency
 is_extracted r frequency BySecond = skips_seconds frequency
 is_extracted r frequency part = false
 
--- A part lets in what it lists. Where it is absent, it lets in what is as in DTSTART, or all.
+-- A part allows what it lists. If it is absent, it allows the value of DTSTART or, if that is not extracted, all values.
 abbrev pub applies : Recurrence → Part → Bool → Bool → Bool
 applies r part listed own = if is_absent r part then (if is_extracted r r.parts.frequency part then own else true) else listed
 
@@ -79,8 +80,8 @@ is_weekday r e =
 abbrev pub weekday_applies : Recurrence → ℕ → Bool
 weekday_applies r n = applies r ByDay (is_weekday r (day_of n)) (weekday_of (day_of n) == weekday_of (day_of (number r.start)))
 
--- BYWEEKNO: the weeks of the year, of which the first has at least four days in it. So a week goes by its fourth day; it is read one cycle of
--- the calendar later, 400 years or 146,097 days, since the first day of 0000 lies in a week of the year before
+-- BYWEEKNO: the weeks of the year, of which the first has at least four days in it. So a week belongs to the year of its fourth day. This day is
+-- taken 400 years, or 146,097 days, later, since the first day of year 0000 is in a week of the year before
 abbrev pub fourth_of_week : ℕ → ℕ → ℕ
 fourth_of_week start e = e + 146_100 - (weekday_of e + (7 - start)) % 7
 
@@ -119,11 +120,11 @@ occurs_in r p n = period_at r n == p && all_apply r n
 abbrev pub position_applies : Recurrence → ℕ → Bool
 position_applies r n = is_absent r BySetPos || is_wide_place r.parts.positions (occurs_in r (period_at r n)) n
 
--- a local from DTSTART on that each part lets in
+-- a local from DTSTART on that each part allows
 abbrev pub is_plain_member : Recurrence → ℕ → Bool
 is_plain_member r n = nat_le (number r.start) n && (frequency_applies r n && (all_apply r n && position_applies r n))
 
--- COUNT: so many of them
+-- COUNT: at most that many of them
 abbrev pub is_few_members : Recurrence → Option ℕ → ℕ → Bool
 is_few_members r None n = true
 is_few_members r (Some c) n = nat_lt (count n (is_plain_member r)) c
@@ -132,10 +133,10 @@ is_few_members r (Some c) n = nat_lt (count n (is_plain_member r)) c
 abbrev pub is_plainly_kept : Recurrence → ℕ → Bool
 is_plainly_kept r n = is_plain_member r n && is_until r.kind r.parts.until n && is_few_members r r.parts.count n
 
--- Where the plain reading is ours. DTSTART fits the rule, since dateutil leaves it out where it does not, and it lies within UNTIL and COUNT.
--- No number stands at a weekday but where the period is a month or a year: beside BYWEEKNO it is none. Where the rule names a week or a day,
--- DTSTART gives no weekday: to us it does under WEEKLY without BYDAY, and under YEARLY with BYWEEKNO alone. An event of dates, which dateutil
--- has not, has a frequency not finer than DAILY and starts at midnight.
+-- The rules for which the plain reading is ours. DTSTART fits the rule, since dateutil leaves it out if it does not, and UNTIL and COUNT keep
+-- it. A weekday has a number only under MONTHLY and under YEARLY without BYWEEKNO. Plainly read, DTSTART gives no weekday if the rule names a
+-- week or a day. For us it does under WEEKLY without BYDAY and under YEARLY with BYWEEKNO alone, so these are excluded. An event of dates, which
+-- dateutil does not know, has a frequency not finer than DAILY and starts at midnight.
 pub record HasPlainReading (r : Recurrence) : Type 0 where
   pub fits : is_plain_member r (number r.start) ≡ true
   pub in_until : is_until r.kind r.parts.until (number r.start) ≡ true

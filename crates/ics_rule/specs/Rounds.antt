@@ -1,4 +1,4 @@
--- Rounds of periods, after which what a rule chooses repeats.
+-- Rounds of periods. After a round, what a rule chooses repeats.
 use Rattle.std.specs.Prelude.{◌≡◌, ℕ, ◌+◌, ◌<◌, ◌≤◌, ◌&&◌, Some}
 use Rattle.jiff_core.specs.Weekday.{monday_zero}
 use Rattle.ics_values.specs.declared.frequency.Frequency.{Frequency}
@@ -12,7 +12,7 @@ use Rattle.ics_rule.specs.Periods.{first_local}
 use Rattle.ics_rule.specs.Cursors.{is_met, fresh, IsCursorIn, HasLookedIn}
 use Rattle.ics_rule.specs.Searches.{LooksOrStays}
 
--- how many seconds each period of a frequency has, 0 where they differ
+-- how many seconds each period of a frequency has, or 0 if they differ
 abbrev pub seconds_of : Frequency → ℕ
 seconds_of Secondly = 1
 seconds_of Minutely = 60
@@ -22,7 +22,7 @@ seconds_of Weekly = 604_800
 seconds_of Monthly = 0
 seconds_of Yearly = 0
 
--- so many periods last so many seconds, and what the rule lets in repeats after them
+-- these periods last these seconds, and what the rule allows repeats after them
 pub record IsRound (q : Filled) (periods seconds : ℕ) : Type 0 where
   pub some : 1 ≤ periods
   pub step : (first p : ℕ) → first ≤ p → is_stepped first q.interval (p + periods) ≡ is_stepped first q.interval p
@@ -30,7 +30,7 @@ pub record IsRound (q : Filled) (periods seconds : ℕ) : Type 0 where
   pub first : (p : ℕ) → 2 ≤ p → first_local q.frequency (monday_zero q.week_start) (p + periods) ≡ first_local q.frequency (monday_zero q.week_start) p + seconds
   pub let_in : (n : ℕ) → (lets_date q (day_of (n + seconds)) && lets_clock q (n + seconds)) ≡ (lets_date q (day_of n) && lets_clock q n)
 
--- a round lies between two periods, the first of which is not the first of all
+-- the periods from begin to end are a whole round or more, and begin is not the first of all
 pub record HasRound (q : Filled) (begin end : ℕ) : Type 0 where
   pub periods : ℕ
   pub seconds : ℕ
@@ -38,7 +38,7 @@ pub record HasRound (q : Filled) (begin end : ℕ) : Type 0 where
   pub some : 1 ≤ begin
   pub far : begin + periods ≤ end
 
--- what looks up to its place leave of a cursor under COUNT c
+-- how looks up to its place change a cursor under COUNT c
 pub record IsPassedTo (q : Filled) (start c : ℕ) (before now : Cursor) : Type 0 where
   pub own : IsCursorIn q start (Some c) now
   pub moved : LooksOrStays before now

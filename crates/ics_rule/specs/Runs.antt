@@ -1,4 +1,4 @@
--- Runs of days, a month or a year, in which days and weekdays have numbers (RFC 5545, 3.3.10).
+-- Months and years as runs of days, in which days and weekdays are numbered (RFC 5545, 3.3.10).
 use Rattle.std.specs.Prelude.{◌≡◌, ℕ, ◌+◌, ◌-◌, ◌/◌, ◌%◌, ◌≤◌, Bool, true, false, not, ◌&&◌, ◌||◌, nat_le, nat_lt, if◌then◌else◌, pos}
 use Rattle.jiff_core.specs.Calendar.{days_in_month, days_in_year, days_of_months}
 use Rattle.ics_values.specs.declared.frequency.Frequency.{Frequency}
@@ -13,19 +13,19 @@ use Rattle.ics_rule.specs.declared.runs.Run.{Run}
 use Rattle.ics_rule.specs.Candidates.{lets, lists, lists_nth}
 use Rattle.ics_rule.specs.Periods.{month_start}
 
--- day m of a period lies in a run
+-- day m of a period is in a run
 abbrev pub has_run : Run → ℕ → Bool
 has_run r m = nat_le r.start m && nat_lt (m - r.start) r.len
 
--- the weekday of a run's day i, from 0
+-- the weekday of a run's day i, both counted from 0
 abbrev pub weekday_in : Run → ℕ → ℕ
 weekday_in r i = (r.weekday + i) % 7
 
--- BYDAY lists a weekday d, or the n-th of it, where it is day n of a run of so many
+-- BYDAY lists weekday d, or lists by number day n of a run of size days, which has that weekday
 abbrev pub lists_weekday : Weekdays → ℕ → ℕ → ℕ → Bool
 lists_weekday w d n size = has w.plain d || lists_nth (numbers_of w d) n size
 
--- the run is month m of year y, in a period with a first day
+-- the run is month m of year y, in a period that begins at a first day
 pub record IsMonth (r : Run) (first y m : ℕ) : Type 0 where
   pub year : y ≤ 9_999
   pub low : 1 ≤ m
@@ -34,11 +34,11 @@ pub record IsMonth (r : Run) (first y m : ℕ) : Type 0 where
   pub size : r.len ≡ days_in_month (pos y) m
   pub weekday : r.weekday ≡ weekday_of (first + r.start)
 
--- BYMONTHDAY lists day n of a month of so many days; where it is absent BYDAY lists it, with its weekday d
+-- BYMONTHDAY lists day n of a month of size days. If it is absent, BYDAY lists the day, whose weekday is d
 abbrev pub lists_in_month : Filled → ℕ → ℕ → ℕ → Bool
 lists_in_month q d n size = if lists_none q.month_days then lists_weekday q.weekdays d n size else lists q.month_days n size
 
--- a month that BYMONTH lets in lists day e
+-- day e is in a month that BYMONTH allows, and is listed there
 abbrev pub is_in_month : Filled → ℕ → Bool
 is_in_month q e =
     lets q.months (month_of e) && lists_in_month q (weekday_of e) (month_day_of e) (days_in_month (pos (year_of e)) (month_of e))
@@ -57,7 +57,7 @@ counts_in_month q Hourly = false
 counts_in_month q Minutely = false
 counts_in_month q Secondly = false
 
--- the period with a number, a year or a month, has so many days from a first
+-- the period with a number, a year or a month, has len days from a first
 abbrev pub IsSpan : Frequency → ℕ → ℕ → ℕ → Type 0
 IsSpan Yearly p first len = (p ≤ 9_999) × ((first ≡ days_before_year p) × (len ≡ days_in_year (pos p)))
 IsSpan Monthly p first len = (1 ≤ p) × (((p - 1) / 12 ≤ 9_999) × ((first ≡ month_start p) × (len ≡ days_in_month (pos ((p - 1) / 12)) ((p - 1) % 12 + 1))))

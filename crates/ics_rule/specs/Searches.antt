@@ -1,4 +1,4 @@
--- What a cursor looks for, period by period.
+-- What a cursor searches for, period by period.
 use Rattle.std.specs.Prelude.{◌≡◌, ℕ, suc, ◌+◌, ◌<◌, ◌≤◌, ◌⊎◌, Bool, ◌&&◌, ◌==◌, nat_lt, Option, Some, None, MatchOption, true, false}
 use Rattle.jiff_core.specs.Weekday.{monday_zero}
 use Rattle.ics_values.specs.Sets.{IsLeastFrom}
@@ -11,35 +11,35 @@ use Rattle.ics_rule.specs.Kept.{count, is_chosen}
 use Rattle.ics_rule.specs.Periods.{first_local, IsPeriodOf}
 use Rattle.ics_rule.specs.Cursors.{is_met, fresh, HasBegun, HeldBy, CountedBy, HasLookedIn, IsCounted}
 
--- the rule lets in no local from one on and before another
+-- the rule allows no local from one on and before another
 abbrev pub NoneLetIn : Filled → ℕ → ℕ → Type 0
 NoneLetIn q from before = (n : ℕ) → from ≤ n → n < before → (lets_date q (day_of n) && lets_clock q n) ≡ false
 
--- a period lies a multiple of the interval from the first, and those from a number on that lie so and come before it hold nothing that the
--- rule lets in
+-- a period is a multiple of the interval after the first, and the earlier ones of this kind from a number on have nothing that the rule
+-- allows
 pub record IsNextOpen (q : Filled) (first number next : ℕ) : Type 0 where
   pub step : is_stepped first q.interval next ≡ true
   pub low : number ≤ next
   pub none : (n : ℕ) → number ≤ period_in q n → period_in q n < next → is_stepped first q.interval (period_in q n) ≡ true → (lets_date q (day_of n) && lets_clock q n) ≡ false
 
--- a local of the period with a number that is a candidate and that BYSETPOS lets in
+-- a local of the period with a number is a candidate that BYSETPOS allows
 abbrev pub is_chosen_within : Filled → ℕ → ℕ → ℕ → Bool
 is_chosen_within q start number n = period_in q n == number && is_chosen q start n
 
--- under COUNT c: of what the rule chooses, so few are earlier than n and not before the start that n is kept
+-- under COUNT c: of what the rule chooses from the start on, few enough are earlier than n for n to be kept
 abbrev pub is_few : Filled → ℕ → ℕ → ℕ → Bool
 is_few q start c n = nat_lt (count n (is_chosen q start) + 1) (c + count (suc start) (is_chosen q start))
 
--- a local later than the start that the rule has, UNTIL apart
+-- a local after the start that the rule has, but for UNTIL
 abbrev pub is_wanted : Filled → ℕ → Option ℕ → ℕ → Bool
 is_wanted q start None n = is_chosen q start n
 is_wanted q start (Some c) n = is_chosen q start n && is_few q start c n
 
--- none from a place on is earlier than a bound
+-- there is none from a place on and earlier than a bound
 abbrev pub NoneWanted : Filled → ℕ → Option ℕ → ℕ → ℕ → Type 0
 NoneWanted q start o place stop = (n : ℕ) → place ≤ n → n < stop → is_wanted q start o n ≡ false
 
--- the answer is the next one from a place on, or that none is earlier than a bound
+-- the answer is the next one from a place on, or None and there is none earlier than a bound
 abbrev pub IsNextWanted : Filled → ℕ → Option ℕ → ℕ → ℕ → Option ℕ → Type 0
 IsNextWanted q start o place stop found =
     MatchOption found (NoneWanted q start o place stop) (λ n. IsLeastFrom (is_wanted q start o) place n)
@@ -57,7 +57,7 @@ HoldsPeriodOf q held n = MatchOption held ⊥ (λ p. p.number ≡ period_in q n)
 abbrev pub LooksOrStays : Cursor → Cursor → Type 0
 LooksOrStays before now = ((now.held ≡ before.held) × (now.steps ≡ before.steps)) ⊎ (before.steps < now.steps)
 
--- what a walk over the periods up to a bound leaves of a cursor
+-- how a search of the periods up to a bound changes a cursor
 pub record IsWalked (q : Filled) (start : ℕ) (o : Option ℕ) (stop : ℕ) (answer : Option ℕ) (before now : Cursor) : Type 0 where
   pub held : HeldBy q now.held stop
   pub found : MatchOption answer (Unit {0}) (λ n. HeldBy q now.held n × ((1 ≤ now.steps) × HoldsPeriodOf q now.held n))
@@ -72,19 +72,19 @@ abbrev pub LooksOnce : ℕ → ℕ → Option Period → ℕ → Option Period �
 LooksOnce number steps held after now =
     (met : ℕ → Bool) → met number ≡ true → steps ≤ count (fresh held) met → after ≤ count (fresh now) met
 
--- in the periods from one number on and before another nothing is chosen
+-- nothing is chosen in the periods from one number on and before another
 pub record IsPassed (q : Filled) (start from before : ℕ) : Type 0 where
   pub up : from ≤ before
   pub none : (n : ℕ) → from ≤ period_in q n → period_in q n < before → is_chosen q start n ≡ false
 
--- under COUNT the period held is the one with a number or an earlier one, after whose next step nothing is chosen before it; or none is, and
--- it is the start's turn
+-- under COUNT: the period held is the one with a number, or an earlier one from whose next step on nothing is chosen before that; or none is
+-- held, and the number is that of the start's period
 abbrev pub IsTurnOf : Filled → ℕ → ℕ → ℕ → Cursor → Type 0
 IsTurnOf q start c number cursor =
     MatchOption cursor.held (number ≡ period_in q start)
     (λ p. IsPeriodOf q p × (IsCounted q start c cursor.counted cursor.limit p × ((p.number ≡ number) ⊎ IsPassed q start (p.number + q.interval) number)))
 
--- from the period with a number on COUNT keeps no local
+-- COUNT keeps no local from the period with a number on
 abbrev pub AllCounted : Filled → ℕ → ℕ → ℕ → Type 0
 AllCounted q start c number = (n : ℕ) → first_local q.frequency (monday_zero q.week_start) number ≤ n → is_few q start c n ≡ false
 

@@ -1,4 +1,4 @@
--- The table of RFC 5545, 3.3.10, of the parts that expand the set of a rule's instances and those that limit it.
+-- The table of RFC 5545, 3.3.10: which parts of a rule expand the set of its instances, and which limit it.
 use Rattle.ics_values.specs.declared.frequency.Frequency.{Frequency}
 use Rattle.ics_values.specs.declared.frequency.Frequency.TheVariants.{Secondly, Minutely, Hourly, Daily, Weekly, Monthly, Yearly}
 

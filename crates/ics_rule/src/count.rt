@@ -13,11 +13,11 @@ use crate::pass::next_open_step;
 use crate::period::Period;
 use crate::step::period_of;
 
-/// 10000-01-01T00:00:00, where the calendar ends.
+/// 10000-01-01T00:00:00, the end of the calendar.
 const CALENDAR_END: u64 = 315_569_520_000;
 
 impl Cursor {
-    /// Turns to the period with a number, and looks at it unless it is the one held. None, and nothing changes, where all that COUNT keeps
+    /// Turns to the period with a number, and looks at it unless it is the one held. None, and nothing changes, if all that COUNT keeps
     /// is earlier.
     pub(crate) fn turn_to(
         &mut self,
@@ -60,8 +60,8 @@ impl Cursor {
         }
     }
 
-    /// The next local from the place on that the rule chooses and COUNT keeps, found in the periods up to that of the last local before
-    /// `stop`.
+    /// The next local from the place on that the rule chooses and COUNT keeps. It is searched for in the periods up to that of the last
+    /// local before `stop`.
     pub(crate) fn walk_counting(
         &mut self,
         parts: &Filled,

@@ -1,4 +1,4 @@
-//! The kept locals of a rule, from a place on.
+//! A search for the locals that a rule keeps, from a place on.
 ghost use Rattle.std.specs.Prelude.{◌≡◌, ℕ, ◌<◌, ◌≤◌, ◌+◌, ◌*◌, ◌^◌, max, Some, MatchOption, nat_lt};
 ghost use Rattle.jiff_core.specs.Weekday.{monday_zero};
 ghost use Rattle.ics_values.specs.Days.{IsDayNumber, day_index};
@@ -12,10 +12,10 @@ use crate::rule::Rule;
 use crate::step::{local_of, number};
 use ics_values::{Local, Until};
 
-/// 9801-01-01T00:00:00, where the rules end.
+/// 9801-01-01T00:00:00, the end of the rules.
 const RULES_END: u64 = 309_289_708_800;
 
-/// The first local past a day.
+/// The first local after a day.
 fn after_day(day: i32) -> u64
     requires { IsDayNumber day }
     ensures { result ≡ (day_index day + 1) * 86400 }
@@ -23,7 +23,7 @@ fn after_day(day: i32) -> u64
     ((day + 719_528) as u64 + 1) * 86_400
 }
 
-/// The first local past UNTIL, or past the last.
+/// The first local after UNTIL, or after the last of the rules.
 fn until_end(kind: Kind, until: Option<Until>) -> u64
     requires { MatchOption until (Unit {0}) IsUntil }
     ensures { (n : ℕ) → n < 309289708800 → is_until kind until n ≡ nat_lt n result }
@@ -42,16 +42,16 @@ fn until_end(kind: Kind, until: Option<Until>) -> u64
     }
 }
 
-/// A place among the locals of a rule, with the period that was looked at last (RFC 5545, 3.3.10). It holds at most one period, and takes no
+/// A place among the locals of a rule, and the period that was looked at last (RFC 5545, 3.3.10). It holds at most one period and allocates no
 /// memory. Each call names the rule that the cursor was made for.
 #[derive(Clone, Copy)]
 pub struct Cursor {
     pub(crate) place: u64,
     pub(crate) steps: u64,
     pub(crate) held: Option<Period>,
-    /// Under COUNT, how many candidates that BYSETPOS lets in are earlier than the period held.
+    /// Under COUNT, how many candidates that BYSETPOS allows are earlier than the period held.
     pub(crate) counted: u64,
-    /// Under COUNT, a kept local has fewer of these before it.
+    /// Under COUNT, a kept local has fewer than this many of them before it.
     pub(crate) limit: u64,
 }
 
@@ -84,7 +84,7 @@ impl Cursor {
         }
     }
 
-    /// Looks at the period with a number, which no earlier look has reached.
+    /// Looks at the period with a number that no earlier look has reached.
     pub(crate) fn look_at(&mut self, parts: &Filled, number: u64, counted: u64) -> Period
         requires low { period_in parts.now 0 ≤ number }
         requires reach { first_local parts.now.frequency (monday_zero parts.now.week_start) number ≤ 309289708800 }
@@ -101,7 +101,7 @@ impl Cursor {
         *looked
     }
 
-    /// The next local from the place on that the rule has, UNTIL apart, found in the periods up to that of the last local before `stop`.
+    /// The next local from the place on that the rule has, but for UNTIL. It is searched for in the periods up to that of the last before `stop`.
     fn walk(&mut self, rule: &Rule, start: u64, stop: u64) -> Option<u64>
         requires start { start ≡ number rule.now.start }
         requires after { start < self.old.place }
@@ -118,7 +118,7 @@ impl Cursor {
         }
     }
 
-    /// The next such local that is earlier than `stop`. Where there is none the place moves to `end`.
+    /// The next such local that is earlier than `stop`. If there is none, the place moves to `end`.
     fn search(&mut self, rule: &Rule, start: u64, stop: u64, end: u64) -> Option<u64>
         requires start { start ≡ number rule.now.start }
         requires after { start < self.old.place }
@@ -151,7 +151,7 @@ impl Cursor {
         None
     }
 
-    /// The number of the next kept local from the place on that is earlier than `end`.
+    /// The number of the next local that the rule keeps, from the place on and earlier than `end`.
     fn next_number(&mut self, rule: &Rule, start: u64, end: u64) -> Option<u64>
         requires start { start ≡ number rule.now.start }
         requires end { end ≤ 309289708800 }

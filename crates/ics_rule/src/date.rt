@@ -1,4 +1,4 @@
-//! The parts that speak of the date.
+//! The parts of a rule that restrict the date (RFC 5545, 3.3.10).
 ghost use Rattle.std.specs.Prelude.{◌≡◌, ℕ, ◌<◌, ◌≤◌, ◌+◌, ◌*◌, ◌^◌, ◌&&◌, ◌||◌, pos};
 ghost use Rattle.jiff_core.specs.Calendar.{days_in_year, days_in_month};
 ghost use Rattle.jiff_core.specs.Weekday.{monday_zero};
@@ -16,7 +16,7 @@ use crate::time::{lets, lets_place, lets_wide_place, lists_nth};
 use ics_values::{Civil, Frequency, Numbers, Places, civil};
 use jiff_core::civil::{days_in_month, days_in_year};
 
-/// The fields of a day that is counted from 0000-01-01.
+/// The fields of a day, counted from 0000-01-01.
 pub(crate) fn civil_at(index: u32) -> Civil
     requires { index ≤ 3652424 }
     ensures { IsCivilOf result index }
@@ -24,7 +24,7 @@ pub(crate) fn civil_at(index: u32) -> Civil
     civil(index as i32 - 719_528)
 }
 
-/// How many days the year of a date has.
+/// The number of days in the year of a date.
 fn year_length(fields: &Civil) -> u16
     requires { fields.now.year ≤ 9999 }
     ensures { result ≡ days_in_year (pos fields.now.year) }
@@ -32,7 +32,7 @@ fn year_length(fields: &Civil) -> u16
     days_in_year(fields.year as i16)
 }
 
-/// How many days the month of a date has.
+/// The number of days in the month of a date.
 pub(crate) fn month_length(fields: &Civil) -> u8
     requires { fields.now.year ≤ 9999 }
     ensures { result ≡ days_in_month (pos fields.now.year) fields.now.month }
@@ -40,7 +40,7 @@ pub(crate) fn month_length(fields: &Civil) -> u8
     days_in_month(fields.year as i16, fields.month)
 }
 
-/// Whether the numbers of its weekday let a day in.
+/// Whether BYDAY lists a day by a number of its weekday.
 fn lets_numbered(parts: &Filled, numbers: &Places, fields: &Civil) -> bool
     requires { (e : ℕ) × IsCivilOf fields.now e }
     ensures { (e : ℕ) → IsCivilOf fields.now e → result ≡ lets_numbered parts.now.frequency parts.now numbers.now e }
@@ -60,7 +60,7 @@ fn lets_numbered(parts: &Filled, numbers: &Places, fields: &Civil) -> bool
     }
 }
 
-/// Whether BYDAY lets a day in.
+/// Whether BYDAY allows a day.
 fn lets_weekday(parts: &Filled, fields: &Civil) -> bool
     requires { (e : ℕ) × IsCivilOf fields.now e }
     ensures { (e : ℕ) → IsCivilOf fields.now e → result ≡ lets_weekday parts.now e }
@@ -72,7 +72,7 @@ fn lets_weekday(parts: &Filled, fields: &Civil) -> bool
         || lets_numbered(parts, numbers, fields)
 }
 
-/// The fourth day of a day's week, or the same one cycle of the calendar later where the week begins before 0000.
+/// The fourth day of a day's week. If the week begins before year 0000, the same one 400 years later.
 fn fourth_day(parts: &Filled, index: u32) -> u32
     requires { index ≤ 3652059 }
     ensures value { result ≡ fourth_day (monday_zero parts.now.week_start) index }
@@ -83,7 +83,7 @@ fn fourth_day(parts: &Filled, index: u32) -> u32
     if day < 9 { day + 146_088 } else { day - 9 }
 }
 
-/// Whether BYWEEKNO lets a day in, counted from 0000-01-01.
+/// Whether BYWEEKNO allows a day, counted from 0000-01-01.
 fn lets_week(parts: &Filled, index: u32) -> bool
     requires { index ≤ 3652059 }
     ensures { result ≡ lets_week parts.now index }
@@ -97,7 +97,7 @@ fn lets_week(parts: &Filled, index: u32) -> bool
     lets_place(&parts.weeks, number as u8, weeks as u8)
 }
 
-/// Whether each part that speaks of the date lets a day in, by its fields.
+/// Whether each part that restricts the date allows a day, given with its fields.
 pub(crate) fn lets_fields(parts: &Filled, fields: &Civil, index: u32) -> bool
     requires day { index ≤ 3652059 }
     requires fields { IsCivilOf fields.now index }
@@ -126,7 +126,7 @@ fn has_weekday(weekdays: &WeekdaysPart, index: u32) -> bool
     weekdays.is_none() || weekdays.list.plain.has(((index + 5) % 7) as u8)
 }
 
-/// The months that BYMONTH lets in.
+/// The months that BYMONTH allows.
 pub(crate) fn open_months(months: Numbers) -> Numbers
     ensures members { (m : ℕ) → m < 13 → has result m ≡ lets months m }
     ensures bound { result < 2 ^ 13 }
@@ -161,7 +161,7 @@ pub(crate) fn names_no_month(parts: &Filled) -> bool
     parts.months.is_none() && parts.month_days.is_none()
 }
 
-/// Whether no part but BYDAY speaks of the date.
+/// Whether no part but BYDAY restricts the date.
 pub(crate) fn names_weekdays_alone(parts: &Filled) -> bool
     ensures { result ≡ names_weekdays_alone parts.now }
 {
@@ -171,7 +171,7 @@ pub(crate) fn names_weekdays_alone(parts: &Filled) -> bool
         && parts.weeks.is_none()
 }
 
-/// Whether each part that speaks of the date lets a day in, counted from 0000-01-01.
+/// Whether each part that restricts the date allows a day, counted from 0000-01-01.
 pub(crate) fn lets_date(parts: &Filled, index: u32) -> bool
     requires { index ≤ 3652059 }
     ensures { result ≡ lets_date parts.now index }

@@ -1,4 +1,4 @@
-//! The days of a period that a rule lets in.
+//! The days of a period that a rule allows.
 ghost use Rattle.std.specs.Prelude.{◌≡◌, ℕ, ◌<◌, ◌≤◌, ◌+◌, ◌-◌, ◌&&◌, ◌||◌, nat_le, nat_lt, pos, true, false};
 ghost use Rattle.jiff_core.specs.Calendar.{days_in_month, days_in_year};
 ghost use Rattle.ics_values.specs.declared.frequency.Frequency.TheVariants.{Weekly, Monthly, Yearly};
@@ -19,7 +19,7 @@ use crate::time::{lets, lets_wide_place};
 use crate::weeks::days_near_weeks;
 use ics_values::{Civil, Frequency, WideNumbers};
 
-/// How many days of its month are left with a day, that day with them.
+/// The number of days from a day to the end of its month, including both.
 pub(crate) fn days_left(fields: &Civil) -> u16
     requires year { fields.now.year ≤ 9999 }
     requires day { fields.now.day ≤ days_in_month (pos fields.now.year) fields.now.month }
@@ -29,7 +29,7 @@ pub(crate) fn days_left(fields: &Civil) -> u16
     month_length(fields) as u16 + 1 - fields.day as u16
 }
 
-/// The weekday of a day that is counted from 0000-01-01, from 0 for Monday.
+/// The weekday, from 0 for Monday, of a day that is counted from 0000-01-01.
 pub(crate) fn weekday_at(index: u32) -> u8
     requires { index ≤ 3652424 }
     ensures value { result ≡ weekday_of index }
@@ -38,7 +38,7 @@ pub(crate) fn weekday_at(index: u32) -> u8
     ((index + 5) % 7) as u8
 }
 
-/// The days that a rule lets in, of so many from a first: each is asked.
+/// Those of `len` days from a first that a rule allows, by a test of each.
 fn days_by_day(parts: &Filled, first: u32, len: u16) -> WideNumbers
     requires size { len ≤ 384 }
     requires days { first + len ≤ 3652059 }
@@ -53,7 +53,7 @@ fn days_by_day(parts: &Filled, first: u32, len: u16) -> WideNumbers
     days
 }
 
-/// The days that a rule lets in of a week, of so many from a first.
+/// Those of `len` days of a week from a first that a rule allows.
 fn days_of_week(parts: &Filled, first: u32, len: u16) -> WideNumbers
     requires frequency { parts.now.frequency ≡ Weekly }
     requires size { len ≤ 384 }
@@ -76,7 +76,7 @@ fn days_of_week(parts: &Filled, first: u32, len: u16) -> WideNumbers
     days
 }
 
-/// Those of some days from a first that a rule lets in.
+/// Those of a set of days, counted from a first, that a rule allows.
 fn those_let_in(parts: &Filled, first: u32, some: &WideNumbers) -> WideNumbers
     requires { first + 384 ≤ 3652059 }
     ensures { (k : ℕ) → has_wide result k ≡ (has_wide some.now k && lets_date parts.now (first + k)) }
@@ -92,7 +92,7 @@ fn those_let_in(parts: &Filled, first: u32, some: &WideNumbers) -> WideNumbers
     days
 }
 
-/// The days that BYYEARDAY lets in, of a year of so many.
+/// The days that BYYEARDAY allows in a year of `len` days.
 fn days_by_number(parts: &Filled, len: u16) -> WideNumbers
     requires { len ≤ 366 }
     ensures { (k : ℕ) → has_wide result k ≡ (nat_lt k len && lets_wide_place parts.now.year_days (k + 1) len) }
@@ -106,7 +106,7 @@ fn days_by_number(parts: &Filled, len: u16) -> WideNumbers
     days
 }
 
-/// A month of a year, whose first day is counted from 0000-01-01.
+/// A month of a year; `first` is the year's first day, counted from 0000-01-01.
 fn month_run(year: u64, month: u8, first: u32) -> Run
     requires year { year ≤ 9999 }
     requires low { 1 ≤ month }
@@ -124,7 +124,7 @@ fn month_run(year: u64, month: u8, first: u32) -> Run
     }
 }
 
-/// The days of a year that its months list.
+/// The days of a year that are listed in its months.
 fn days_in_months(parts: &Filled, year: u64, first: u32) -> WideNumbers
     requires year { year ≤ 9999 }
     requires first { first ≡ days_before_year year }
@@ -141,7 +141,7 @@ fn days_in_months(parts: &Filled, year: u64, first: u32) -> WideNumbers
     days
 }
 
-/// The days that a rule lets in, of those that their months list.
+/// Those of the days listed in their months that a rule allows.
 fn days_of_those(parts: &Filled, first: u32, len: u16, listed: &WideNumbers) -> WideNumbers
     requires days { first + 384 ≤ 3652059 }
     requires months { goes_by_months parts.now ≡ true }
@@ -156,7 +156,7 @@ fn days_of_those(parts: &Filled, first: u32, len: u16, listed: &WideNumbers) -> 
     }
 }
 
-/// The days of a month that a rule lets in.
+/// The days of a month that a rule allows.
 fn days_of_month(parts: &Filled, number: u64, first: u32, len: u16) -> WideNumbers
     requires frequency { parts.now.frequency ≡ Monthly }
     requires span { IsSpan Monthly number first len }
@@ -178,7 +178,7 @@ fn days_of_month(parts: &Filled, number: u64, first: u32, len: u16) -> WideNumbe
     days_of_those(parts, first, len, &listed)
 }
 
-/// The days of a year that a rule lets in.
+/// The days of a year that a rule allows.
 fn days_of_year(parts: &Filled, year: u64, first: u32, len: u16) -> WideNumbers
     requires frequency { parts.now.frequency ≡ Yearly }
     requires span { IsSpan Yearly year first len }
@@ -204,7 +204,7 @@ fn days_of_year(parts: &Filled, year: u64, first: u32, len: u16) -> WideNumbers
     days_of_those(parts, first, len, &days_in_months(parts, year, first))
 }
 
-/// The days that a rule lets in of the period with a number, which has so many from a first.
+/// The days that a rule allows in the period with a number, which has `len` days from a first.
 pub(crate) fn days_let_in(parts: &Filled, number: u64, first: u32, len: u16) -> WideNumbers
     requires size { len ≤ 384 }
     requires days { first + 384 ≤ 3652059 }

@@ -1,4 +1,4 @@
-//! How a rule is filled from the start of its event.
+//! Taking what a rule leaves out from the start of its event (RFC 5545, 3.3.10).
 ghost use Rattle.std.specs.Prelude.{◌≡◌, ℕ, ◌<◌, ◌≤◌, ◌/◌, if◌then◌else◌};
 ghost use Rattle.ics_values.specs.Sets.{only};
 ghost use Rattle.ics_values.specs.Fields.{IsCivilOf};
@@ -17,7 +17,7 @@ fn names_no_day(parts: &Parts) -> bool
     parts.month_days().is_none() && parts.year_days().is_none() && parts.weekdays().is_none()
 }
 
-/// Whether the rule takes the day of the month.
+/// Whether the rule takes the day of the month from the start.
 fn takes_month_day(parts: &Parts) -> bool
     ensures { result ≡ takes_month_day parts.now.frequency parts.now }
 {
@@ -27,7 +27,7 @@ fn takes_month_day(parts: &Parts) -> bool
     }
 }
 
-/// Whether the rule takes the month.
+/// Whether the rule takes the month from the start.
 fn takes_month(parts: &Parts) -> bool
     ensures { result ≡ takes_month parts.now.frequency parts.now }
 {
@@ -37,7 +37,7 @@ fn takes_month(parts: &Parts) -> bool
     }
 }
 
-/// Whether the rule takes the weekday.
+/// Whether the rule takes the weekday from the start.
 fn takes_weekday(parts: &Parts) -> bool
     ensures { result ≡ takes_weekday parts.now.frequency parts.now }
 {
@@ -72,7 +72,7 @@ pub(crate) fn skips_seconds(frequency: Frequency) -> bool
     skips_minutes(frequency) || matches!(frequency, Frequency::Minutely)
 }
 
-/// One part of the clock.
+/// The hours, minutes or seconds of a rule.
 fn clock_part(kind: Kind, takes: bool, set: Numbers, n: u8) -> Numbers
     requires { n < 60 }
     ensures { result ≡ clock_part kind takes set n }
@@ -94,7 +94,7 @@ fn only_place(n: u8) -> Places
     places
 }
 
-/// A weekday alone, counted from 0 for Monday.
+/// One weekday alone, numbered from 0 for Monday.
 fn only_weekday(weekday: u8) -> Weekdays
     requires { weekday < 7 }
     ensures { result ≡ only_weekday weekday }

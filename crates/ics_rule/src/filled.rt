@@ -1,10 +1,10 @@
-//! A rule with what it leaves out.
+//! A rule together with what it takes from the start of its event.
 
 use crate::part::{PlacesPart, WeekdaysPart};
 use ics_values::{Frequency, Numbers, Places};
 use jiff_core::civil::Weekday;
 
-/// The parts that say which locals a rule lets in, with what the rule takes from the start of its event.
+/// The parts that say which locals a rule allows, with what the rule takes from the start of its event.
 #[derive(Clone, Copy)]
 pub struct Filled {
     pub(crate) frequency: Frequency,

@@ -1,4 +1,4 @@
-//! What kind of event a rule belongs to.
+//! The kind of event that a rule belongs to.
 
 /// Whether the event's stamps are dates or date-times (RFC 5545, 3.8.2.4).
 #[derive(Clone, Copy, Debug, PartialEq, Eq)]

@@ -15,7 +15,7 @@ ghost use Rattle.ics_rule.specs.Kept.{count, size, is_in_rule, is_kept};
 ghost use Rattle.ics_rule.specs.Places.{HasRank};
 ghost use Rattle.ics_rule.specs.PlainReading.{in_year, in_month, with_weekday};
 
-/// The start is kept and is the least; what is kept is in the rule; under COUNT at most that many are kept (RFC 5545, 3.3.10 and 3.8.5.3).
+/// The start is kept, and nothing earlier is. What is kept is in the rule. Under COUNT at most that many are kept (RFC 5545, 3.3.10 and 3.8.5.3).
 pub fn kept_locals()
     ensures start { (r : Recurrence) → is_kept r (number r.start) ≡ true }
     ensures least { (r : Recurrence) (n : ℕ) → n < number r.start → is_kept r n ≡ false }

@@ -13,7 +13,7 @@ use crate::rounds::seconds_of;
 use crate::sizes::members_below;
 use ics_values::{Frequency, Numbers, WideNumbers};
 
-/// How many readings of one unit of the clock a part lets in.
+/// How many values of one unit of the clock a part allows.
 fn readings(part: Numbers, size: u8) -> u64
     requires some { 0 < size }
     requires most { size ≤ 60 }
@@ -23,7 +23,7 @@ fn readings(part: Numbers, size: u8) -> u64
     members_below(clock_set(true, part, 0, size), size)
 }
 
-/// How many locals each period has that a rule lets in, where a period is a day or less.
+/// How many locals each period has that a rule allows, if a period is a day or less.
 pub(crate) fn size_of_open(parts: &Filled) -> u64
     requires fine { 0 < seconds_of parts.now.frequency }
     requires unit { seconds_of parts.now.frequency ≤ 86400 }
@@ -40,7 +40,7 @@ pub(crate) fn size_of_open(parts: &Filled) -> u64
     }
 }
 
-/// Whether each place of a set is past a number.
+/// Whether each place of a set is greater than a number.
 fn is_past(places: &WideNumbers, most: u64) -> bool
     ensures { result ≡ true → (k : ℕ) → 1 ≤ k → k ≤ most → has_wide places.now k ≡ false }
 {
@@ -50,7 +50,7 @@ fn is_past(places: &WideNumbers, most: u64) -> bool
     }
 }
 
-/// Whether BYSETPOS lists places alone that no period has.
+/// Whether BYSETPOS lists only places that no period has.
 pub(crate) fn chooses_none(parts: &Filled) -> bool
     ensures { result ≡ true → (start n : ℕ) → n < 315569520000 → is_chosen parts.now start n ≡ false }
 {

@@ -1,4 +1,4 @@
-//! How many periods of a day or less a rule lets in, counted by whole days.
+//! How many periods of a day or less a rule allows, counted by whole days.
 ghost use Rattle.std.specs.Prelude.{◌≡◌, ℕ, ◌<◌, ◌≤◌, ◌+◌, ◌-◌, ◌*◌, ◌/◌, ◌^◌, ◌&&◌, Some};
 ghost use Rattle.ics_values.specs.Places.{lists_none_wide};
 ghost use Rattle.ics_rule.specs.Candidates.{is_stepped, lets_date, period_in};
@@ -18,7 +18,7 @@ use crate::step::period_of;
 use crate::time::lets;
 use crate::walk::next_step;
 
-/// Whether the parts let the hour, minute and second of a period in, each as far as the period has one; `n` is its first local.
+/// Whether the parts allow the hour, minute and second of a period, as far as the period has them; `n` is its first local.
 fn lets_own(parts: &Filled, n: u64) -> bool
     ensures { result ≡ lets_own parts.now.frequency parts.now n }
 {
@@ -28,7 +28,7 @@ fn lets_own(parts: &Filled, n: u64) -> bool
         && (skips_seconds(frequency) || lets(parts.seconds, (n % 60) as u8))
 }
 
-/// How many steps from one period on and before another have an hour, minute and second that are let in, whatever their days are.
+/// How many steps from one period on and before another have an hour, minute and second that are allowed, whatever their days are.
 fn steps_let_in(parts: &Filled, first: u64, from: u64, before: u64) -> u64
     requires interval { 1 ≤ parts.now.interval }
     requires first { first < 2 ^ 40 }
@@ -50,7 +50,7 @@ fn steps_let_in(parts: &Filled, first: u64, from: u64, before: u64) -> u64
     total
 }
 
-/// How many days are let in of every so many from one on and before another.
+/// How many days are allowed, of those in steps of the interval from one on and before another.
 fn days_let_in(parts: &Filled, from: u64, before: u64) -> u64
     requires interval { 1 ≤ parts.now.interval }
     requires order { from ≤ before }
@@ -69,7 +69,7 @@ fn days_let_in(parts: &Filled, from: u64, before: u64) -> u64
     total
 }
 
-/// How many periods of whole days are let in: where as many days as the interval has lie between two, their steps have the same times.
+/// How many periods of whole days are allowed. Steps have the same times on days that are a multiple of the interval apart.
 fn open_of_days(parts: &Filled, first: u64, from: u64, before: u64) -> u64
     requires interval { 1 ≤ parts.now.interval }
     requires fine { 0 < seconds_of parts.now.frequency }
@@ -91,7 +91,7 @@ fn open_of_days(parts: &Filled, first: u64, from: u64, before: u64) -> u64
     total
 }
 
-/// How many periods of one day are let in, from one on and before another.
+/// How many periods of one day are allowed, from one on and before another.
 fn open_in_day(parts: &Filled, first: u64, from: u64, before: u64) -> u64
     requires interval { 1 ≤ parts.now.interval }
     requires fine { 0 < seconds_of parts.now.frequency }
@@ -110,7 +110,7 @@ fn open_in_day(parts: &Filled, first: u64, from: u64, before: u64) -> u64
     }
 }
 
-/// How many periods are let in from one on and before another.
+/// How many periods are allowed from one on and before another.
 pub(crate) fn open_between(parts: &Filled, first: u64, from: u64, before: u64) -> u64
     requires interval { 1 ≤ parts.now.interval }
     requires fine { 0 < seconds_of parts.now.frequency }
@@ -131,7 +131,7 @@ pub(crate) fn open_between(parts: &Filled, first: u64, from: u64, before: u64) -
         + open_in_day(parts, first, last * per_day, before)
 }
 
-/// How many locals are chosen in each period that is let in.
+/// How many locals are chosen in each period that is allowed.
 pub(crate) fn chosen_in_open(parts: &Filled) -> u64
     requires fine { 0 < seconds_of parts.now.frequency }
     requires unit { seconds_of parts.now.frequency ≤ 86400 }
@@ -145,12 +145,12 @@ pub(crate) fn chosen_in_open(parts: &Filled) -> u64
     }
 }
 
-/// Up to so many steps are looked at one by one.
+/// Up to this many steps are looked at one by one.
 const A_SHORT_WALK: u64 = 64;
 
 impl Cursor {
     /// Counts the periods from the one held, or from the start's, up to that of the place, where a period is a day or less, and looks at the
-    /// last of them. Nothing changes where they are few.
+    /// last of them. Nothing changes if they are few.
     pub(crate) fn pass_open(&mut self, parts: &Filled, start: u64, count: u32, first: u64)
         requires interval { 1 ≤ parts.now.interval }
         requires count { 1 ≤ count }

@@ -1,4 +1,4 @@
-//! Parts of a rule, with what is asked of them at each look.
+//! Parts of a rule, with answers that each look needs, computed once.
 ghost use Rattle.std.specs.Prelude.{◌≡◌, ◌<◌, ◌&&◌, ℕ, nat_lt};
 ghost use Rattle.ics_values.specs.Sets.{has};
 ghost use Rattle.ics_values.specs.Places.{lists_none, lists_none_wide, lists_no_weekday, numbers_of};
@@ -7,7 +7,7 @@ ghost use Rattle.ics_rule.specs.Parts.{names_weekday, named_below};
 use ics_values::{Numbers, Places, Weekdays, WidePlaces};
 use std::marker::Model;
 
-/// BYYEARDAY or BYSETPOS, and whether it is absent. A contract sees the places.
+/// BYYEARDAY or BYSETPOS, and whether it is absent. Contracts see the places.
 #[derive(Clone, Copy)]
 pub struct PlacesPart {
     pub(crate) list: WidePlaces,
@@ -48,7 +48,7 @@ impl PlacesPart {
     }
 }
 
-/// BYDAY, whether it is absent, and which weekdays it names. A contract sees the weekdays and their numbers.
+/// BYDAY, whether it is absent, and which weekdays it names. Contracts see the weekdays and their numbers.
 #[derive(Clone, Copy)]
 pub struct WeekdaysPart {
     pub(crate) list: Weekdays,

@@ -1,4 +1,4 @@
-//! How the periods are passed over in which a rule lets nothing in.
+//! Skipping the periods in which a rule allows nothing.
 ghost use Rattle.std.specs.Prelude.{◌≡◌, ℕ, ◌<◌, ◌≤◌, ◌+◌, ◌-◌, ◌*◌, ◌/◌, ◌^◌, false, true};
 ghost use Rattle.ics_rule.specs.Candidates.{is_stepped, lets_date, lets_clock, period_in};
 ghost use Rattle.ics_rule.specs.Searches.{NoneLetIn, IsNextOpen};
@@ -13,7 +13,7 @@ use crate::time::lets;
 use crate::walk::next_step;
 use ics_values::Frequency;
 
-/// How many days from one on lie in a month that BYMONTH leaves out.
+/// How many days from one on are in a month that BYMONTH does not allow.
 fn days_of_closed_month(parts: &Filled, day: u32) -> u32
     requires { day ≤ 3652059 }
     ensures none { (j : ℕ) → j < result → lets_date parts.now (day + j) ≡ false }
@@ -30,7 +30,7 @@ fn days_of_closed_month(parts: &Filled, day: u32) -> u32
     }
 }
 
-/// How many days from one on a rule leaves out, as far as one look at the date tells: a period of months is not looked into.
+/// How many days from one on a rule does not allow, as far as one look tells. Single days are tested only if FREQ is finer than MONTHLY.
 fn days_out(parts: &Filled, day: u32) -> u32
     requires { day ≤ 3652059 }
     ensures none { (j : ℕ) → j < result → lets_date parts.now (day + j) ≡ false }
@@ -49,7 +49,7 @@ fn days_out(parts: &Filled, day: u32) -> u32
     }
 }
 
-/// The first day from one on that a rule may let in, if it is earlier than `end`.
+/// The first day from one on that a rule may allow. The search ends at `end`.
 fn next_open_day(parts: &Filled, day: u32, end: u32) -> u32
     requires day { day ≤ end }
     requires end { end ≤ 3652059 }
@@ -68,7 +68,7 @@ fn next_open_day(parts: &Filled, day: u32, end: u32) -> u32
     day
 }
 
-/// The first local from one on whose clock a rule lets in, or the end of its day.
+/// The first local from one on whose time a rule allows, or the end of its day.
 fn next_open_second(parts: &Filled, n: u64) -> u64
     requires { n < 315569520000 }
     ensures low { n ≤ result }
@@ -85,7 +85,7 @@ fn next_open_second(parts: &Filled, n: u64) -> u64
     }
 }
 
-/// The first local from one on that a rule may let in, if it is earlier than `end`.
+/// The first local from one on that a rule may allow. The search ends at `end`.
 fn next_open(parts: &Filled, n: u64, end: u64) -> u64
     requires local { n < end }
     requires end { end ≤ 309289708800 }
@@ -102,8 +102,8 @@ fn next_open(parts: &Filled, n: u64, end: u64) -> u64
     }
 }
 
-/// The first step from one on in whose period a rule may let a local in, if that period is not later than `last`, that of the last local
-/// before `stop`.
+/// The first step from one on in whose period a rule may allow a local. None if that period is later than `last`, the period of the
+/// last local before `stop`.
 pub(crate) fn next_open_step(parts: &Filled, first: u64, number: u64, last: u64, stop: u64) -> u64
     requires interval { 1 ≤ parts.now.interval }
     requires first { first < 2 ^ 40 }

@@ -16,14 +16,14 @@ use crate::time::lets;
 use ics_values::{Frequency, Numbers, WideNumbers};
 use jiff_core::civil::{Weekday, days_in_month, days_in_year};
 
-/// The locals of a period that its rule lets in: a set of days times sets of hours, minutes and seconds.
+/// The locals of a period that its rule allows: a set of days times sets of hours, minutes and seconds.
 #[derive(Clone, Copy)]
 pub struct Period {
     /// The number of the period.
     pub(crate) number: u64,
     /// The first day, counted from 0000-01-01.
     pub(crate) first_day: u32,
-    /// The days let in, counted from the first.
+    /// The days that are allowed, counted from the first.
     pub(crate) days: WideNumbers,
     pub(crate) hours: Numbers,
     pub(crate) minutes: Numbers,
@@ -33,9 +33,9 @@ pub struct Period {
 /// The days that a period touches.
 #[derive(Clone, Copy)]
 pub struct Span {
-    /// The first, counted from 0000-01-01.
+    /// The first of them, counted from 0000-01-01.
     first: u32,
-    /// How many there are.
+    /// The number of days.
     len: u16,
 }
 
@@ -47,7 +47,7 @@ pub struct Clock {
     seconds: Numbers,
 }
 
-/// How many days come before a year.
+/// The number of days before a year.
 fn days_before_year(year: u64) -> u64
     requires { year ≤ 10000 }
     ensures { result ≡ days_before_year year }
@@ -55,7 +55,7 @@ fn days_before_year(year: u64) -> u64
     365 * year + (year + 3) / 4 - (year + 99) / 100 + (year + 399) / 400
 }
 
-/// How many days a month has.
+/// The number of days in a month.
 pub(crate) fn days_in(year: u64, month: u64) -> u64
     requires year { year ≤ 10000 }
     requires month { month ≤ 12 }
@@ -65,7 +65,7 @@ pub(crate) fn days_in(year: u64, month: u64) -> u64
     days_in_month(year as i16, month as u8) as u64
 }
 
-/// How many days a year has.
+/// The number of days in a year.
 fn length_of_year(year: u64) -> u64
     requires { year ≤ 10000 }
     ensures value { result ≡ days_in_year (pos year) }
@@ -75,7 +75,7 @@ fn length_of_year(year: u64) -> u64
     days_in_year(year as i16) as u64
 }
 
-/// How many days the first months of a year have. From March on five months have 153 days, and again.
+/// The number of days in the first months of a year. From March on, each five months have 153 days.
 pub(crate) fn days_of_months(year: u64, months: u64) -> u64
     requires year { year ≤ 10000 }
     requires months { months ≤ 12 }
@@ -108,7 +108,7 @@ pub(crate) fn first_local(frequency: Frequency, week_start: Weekday, number: u64
     }
 }
 
-/// The readings of one unit of the clock: those that a part lets in, and of them the period's own if it has one.
+/// The values of one unit of the clock: those that a part allows, and of them the period's own if it has one.
 pub(crate) fn clock_set(free: bool, part: Numbers, own: u8, size: u8) -> Numbers
     requires own { own < size }
     requires size { size < 64 }
@@ -178,7 +178,7 @@ fn span_of(frequency: Frequency, week_start: Weekday, number: u64) -> Span
     }
 }
 
-/// The times of the period with a number: those that the parts let in, and of them its own where it is shorter than a day.
+/// The times of the period with a number: those that the parts allow, and of them its own if it is shorter than a day.
 fn clock_of(parts: &Filled, number: u64) -> Clock
     requires reach { first_local parts.now.frequency (monday_zero parts.now.week_start) number ≤ 309289708800 }
     ensures hours { (m : ℕ) → m < 24 → has result.hours m
@@ -214,7 +214,7 @@ fn clock_of(parts: &Filled, number: u64) -> Clock
 }
 
 impl Period {
-    /// Looks at the period of a rule that has this number.
+    /// Looks at the period of a rule with this number.
     pub(crate) fn new(parts: &Filled, number: u64, steps: &mut u64) -> Period
         requires low { period_in parts.now 0 ≤ number }
         requires reach { first_local parts.now.frequency (monday_zero parts.now.week_start) number ≤ 309289708800 }
@@ -248,7 +248,7 @@ impl Period {
         Some(self.first_day + place as u32)
     }
 
-    /// Whether the product has a day.
+    /// Whether the product contains a day.
     pub(crate) fn has_day(&self, day: u32) -> bool
         requires day { day ≤ 4000000 }
         requires first { self.now.first_day ≤ 4000000 }
@@ -287,7 +287,7 @@ impl Period {
     }
 }
 
-/// The first minute of a day from a minute on that lies in a set of hours times a set of minutes.
+/// The first minute of a day, from a minute on, in a set of hours times a set of minutes.
 fn next_minute(hours: Numbers, minutes: Numbers, at: u32) -> Option<u32>
     requires hours { hours < 2 ^ 24 }
     requires minutes { minutes < 2 ^ 60 }
@@ -306,7 +306,7 @@ fn next_minute(hours: Numbers, minutes: Numbers, at: u32) -> Option<u32>
     Some(hour as u32 * 60 + minute as u32)
 }
 
-/// The first second of a day from a second on that lies in a set of hours times sets of minutes and seconds.
+/// The first second of a day, from a second on, in a set of hours times sets of minutes and seconds.
 pub(crate) fn next_second(
     hours: Numbers,
     minutes: Numbers,

@@ -1,4 +1,4 @@
-//! The members of a set by their number, and the places that BYSETPOS lists.
+//! The members of a set by their rank, and the places that BYSETPOS lists.
 ghost use Rattle.std.specs.Prelude.{◌≡◌, ℕ, ◌<◌, ◌≤◌, ◌+◌, ◌*◌, ◌/◌, ◌%◌, ◌^◌, IfSome, MatchOption, false};
 ghost use Rattle.ics_values.specs.Sets.{has, has_wide, IsNextIn};
 ghost use Rattle.ics_values.specs.Places.{lists_none_wide};
@@ -30,7 +30,7 @@ fn nth_member(set: Numbers, k: u64) -> u8
     0
 }
 
-/// The same of days.
+/// The same for days.
 fn nth_day(set: &WideNumbers, k: u64) -> u16
     requires { k < count 384 (has_wide set.now) }
     ensures nth { IsNth (has_wide set.now) k result }
@@ -59,7 +59,7 @@ fn nth_minute(hours: Numbers, minutes: Numbers, k: u64) -> u32
     nth_member(hours, k / size) as u32 * 60 + nth_member(minutes, k % size) as u32
 }
 
-/// The first index from `from` on at which a set lists the place after it, or `size` where there is none before.
+/// The first index from `from` on at which a set lists the place after it, or `size` if there is none before that.
 fn next_front(front: &WideNumbers, from: u64, size: u64) -> u64
     requires { size < 2 ^ 63 }
     ensures { IsFirstListed front.now from size result }
@@ -104,7 +104,7 @@ pub(crate) fn listed_below(positions: &WidePlaces, k: u64, size: u64) -> u64
 }
 
 impl Period {
-    /// The `k`-th second of a day that lies in the product's clock.
+    /// The `k`-th second of a day in the product's times.
     fn nth_second(&self, k: u64) -> u32
         requires minutes { self.now.minutes < 2 ^ 60 }
         requires seconds { self.now.seconds < 2 ^ 60 }
@@ -129,7 +129,7 @@ impl Period {
         day * 86_400 + self.nth_second(k % size) as u64
     }
 
-    /// The first local of the product from a local on that BYSETPOS lets in.
+    /// The first local of the product, from a local on, that BYSETPOS allows.
     pub(crate) fn next_taken(&self, positions: &PlacesPart, n: u64) -> Option<u64>
         requires n { n < 315569520000 }
         requires own { (q : Filled) × IsPeriodOf q self.now }
@@ -145,7 +145,7 @@ impl Period {
         }
     }
 
-    /// How many of those are earlier than a local.
+    /// How many locals that BYSETPOS allows are earlier than a local.
     pub(crate) fn taken_before(&self, positions: &PlacesPart, n: u64) -> u64
         requires n { n < 315569520000 }
         requires own { (q : Filled) × IsPeriodOf q self.now }

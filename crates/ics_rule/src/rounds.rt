@@ -1,4 +1,4 @@
-//! Whole rounds of periods, after which what a rule chooses repeats, are counted at once.
+//! Counting whole rounds of periods at once. After a round, what a rule chooses repeats.
 ghost use Rattle.std.specs.Prelude.{◌≡◌, ℕ, ◌<◌, ◌≤◌, ◌+◌, ◌*◌, ◌%◌, ◌^◌, ◌&&◌, MatchOption, Some, true};
 ghost use Rattle.ics_rule.specs.Locals.{day_of};
 ghost use Rattle.ics_rule.specs.Candidates.{lets_date, lets_clock, period_in};
@@ -14,13 +14,13 @@ use crate::pass::next_open_step;
 use crate::step::period_of;
 use ics_values::Frequency;
 
-/// Up to so many periods a search is too short to ask first whether its rule repeats.
+/// Up to this many periods, a search does not ask first whether its rule repeats.
 const A_SHORT_SEARCH: u64 = 86_400;
 
-/// A round of up to so many periods is looked at whole.
+/// A round of up to this many periods is looked at whole.
 const A_SHORT_ROUND: u64 = 200;
 
-/// How many seconds each period of a frequency has, or 0 where they differ.
+/// How many seconds each period of a frequency has, or 0 if they differ.
 pub(crate) fn seconds_of(frequency: Frequency) -> u64
     ensures value { result ≡ seconds_of frequency }
     ensures bound { result ≤ 604800 }
@@ -35,7 +35,7 @@ pub(crate) fn seconds_of(frequency: Frequency) -> u64
     }
 }
 
-/// After how many seconds the times and weekdays repeat that a rule lets in.
+/// The number of seconds after which the times and weekdays that a rule allows repeat.
 fn repeat_seconds(parts: &Filled) -> u64
     requires alone { names_weekdays_alone parts.now ≡ true }
     requires fine { 0 < seconds_of parts.now.frequency }
@@ -56,7 +56,7 @@ fn repeat_seconds(parts: &Filled) -> u64
     }
 }
 
-/// How many periods a round has, where a rule's parts speak of times and weekdays alone.
+/// How many periods a round has, if a rule's parts restrict only times and weekdays.
 fn round_of(parts: &Filled) -> Option<u64>
     requires interval { 1 ≤ parts.now.interval }
     ensures { MatchOption result (Unit {0}) (λ k. (s : ℕ) × IsRound parts.now k s) }
@@ -73,8 +73,8 @@ fn round_of(parts: &Filled) -> Option<u64>
     }
 }
 
-/// Up to which period a search from one on looks: a round later where a rule repeats, since nothing comes later that is not found there, and
-/// else up to the last.
+/// The period up to which a search from one on looks: one round later if the rule repeats, since it chooses nothing after a round in which it
+/// chooses nothing, and else the last.
 pub(crate) fn last_to_look_at(parts: &Filled, begin: u64, last: u64) -> u64
     requires interval { 1 ≤ parts.now.interval }
     ensures high { result ≤ last }
@@ -90,7 +90,7 @@ pub(crate) fn last_to_look_at(parts: &Filled, begin: u64, last: u64) -> u64
     if round < left { begin + round } else { last }
 }
 
-/// Whether what a rule lets in repeats after so few periods that they are looked at one by one.
+/// Whether what a rule allows repeats after so few periods that they are looked at one by one.
 fn repeats_soon(parts: &Filled) -> bool
     requires interval { 1 ≤ parts.now.interval }
 {
@@ -101,8 +101,8 @@ fn repeats_soon(parts: &Filled) -> bool
 }
 
 impl Cursor {
-    /// Counts what is chosen in the periods up to that of the place, and looks at one of the last of them: by whole rounds where these are
-    /// short, and else by whole days. Nothing changes where neither serves.
+    /// Counts what is chosen in the periods up to that of the place, and looks at one of the last of them: by whole rounds if these are
+    /// short, and else by whole days. Nothing changes if neither can be done.
     pub(crate) fn pass_periods(&mut self, parts: &Filled, start: u64, count: u32, first: u64)
         requires interval { 1 ≤ parts.now.interval }
         requires count { 1 ≤ count }
@@ -120,8 +120,8 @@ impl Cursor {
         }
     }
 
-    /// Counts the first round from the period held, or from the start's, on, and looks at the last period up to the place that lies whole
-    /// rounds after it. Nothing changes, or the first round is looked at, where fewer than two are left.
+    /// Counts the first round, from the period held or from the start's on. Then looks at the last period up to the place that is whole
+    /// rounds after it. Nothing changes, or the first round is looked at, if fewer than two are left.
     fn pass_rounds(&mut self, parts: &Filled, start: u64, count: u32, first: u64)
         requires interval { 1 ≤ parts.now.interval }
         requires count { 1 ≤ count }

@@ -52,7 +52,7 @@ impl Rule {
     ghost use Rattle.ics_rule.specs.Candidates.{is_candidate};
     ghost use Rattle.ics_rule.specs.Kept.{until_moment};
 
-    /// The rule of an event that starts at a local of the years 0000 to 9999. What the text leaves out is taken from the start
+    /// The rule of an event that starts at a local of the years 0000 to 9999. What the rule leaves out is taken from the start
     /// (RFC 5545, 3.3.10).
     pub fn new(parts: Parts, start: Local, kind: Kind) -> Rule
         requires { IsDayNumber start.day }

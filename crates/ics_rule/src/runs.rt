@@ -1,4 +1,4 @@
-//! Runs of days, a month or a year, in which days and weekdays have numbers.
+//! Months and years as runs of days, in which days and weekdays are numbered.
 ghost use Rattle.std.specs.Prelude.{◌≡◌, ℕ, ◌<◌, ◌≤◌, ◌+◌, ◌-◌, ◌&&◌, ◌||◌, ◌==◌, nat_le, nat_lt};
 ghost use Rattle.ics_values.specs.Sets.{has, has_wide};
 ghost use Rattle.ics_rule.specs.Candidates.{lists, lists_nth};
@@ -8,18 +8,18 @@ use crate::filled::Filled;
 use crate::part::{WeekdaysPart, numbers};
 use ics_values::{Numbers, Places, Weekdays, WideNumbers};
 
-/// A month or a year, as days of a period.
+/// A month or a year, as a run of days of a period.
 #[derive(Clone, Copy)]
 pub struct Run {
     /// Its first day, counted from the period's first.
     pub(crate) start: u16,
-    /// How many days it has.
+    /// The number of its days.
     pub(crate) len: u16,
     /// The weekday of its first day, from 0 for Monday.
     pub(crate) weekday: u8,
 }
 
-/// The numbers from 1 to `size` that a part lists, from the front or from the end.
+/// The numbers from 1 to `size` that a part lists, counted from the start or from the end.
 fn listed(places: &Places, size: u8) -> Numbers
     requires { size < 60 }
     ensures { (n : ℕ) → 1 ≤ n → has result n ≡ (nat_le n size && lists places.now n size) }
@@ -63,7 +63,7 @@ impl Run {
         }
     }
 
-    /// Adds the days of the run that stand on a weekday with a number of theirs.
+    /// Adds the days of the run on a weekday that are listed by their number.
     fn add_numbered(self, weekday: u8, numbers: &Places, days: &mut WideNumbers)
         requires weekday { weekday < 7 }
         requires own { self.weekday < 7 }
@@ -130,7 +130,7 @@ impl Run {
         }
     }
 
-    /// Adds the days of the run, a month, that BYMONTHDAY lists, or BYDAY where that is absent.
+    /// Adds the days of the run, a month, that BYMONTHDAY lists or, if that is absent, BYDAY.
     pub(crate) fn add_month(self, parts: &Filled, days: &mut WideNumbers)
         requires own { self.weekday < 7 }
         requires some { 28 ≤ self.len }

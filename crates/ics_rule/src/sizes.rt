@@ -1,4 +1,4 @@
-//! How many locals of a period's product are earlier than one, by the sizes of its sets.
+//! How many locals of a period are earlier than a given one, by the sizes of its sets.
 ghost use Rattle.std.specs.Prelude.{◌≡◌, ℕ, ◌<◌, ◌≤◌, ◌+◌, ◌*◌, ◌/◌, ◌%◌, ◌^◌};
 ghost use Rattle.ics_values.specs.Sets.{has, has_wide};
 ghost use Rattle.ics_rule.specs.declared.filled.Filled.{Filled};
@@ -27,7 +27,7 @@ pub(crate) fn members_below(set: Numbers, n: u8) -> u64
     total
 }
 
-/// The same of days.
+/// The same for days.
 fn days_below(set: &WideNumbers, n: u16) -> u64
     requires { n ≤ 384 }
     ensures value { result ≡ count n (has_wide set.now) }
@@ -45,7 +45,7 @@ fn days_below(set: &WideNumbers, n: u16) -> u64
     total
 }
 
-/// How many minutes of a day before one lie in a set of hours times a set of minutes.
+/// How many minutes of a day, before a given one, are in a set of hours times a set of minutes.
 fn minutes_below(hours: Numbers, minutes: Numbers, minute: u32) -> u64
     requires { minute ≤ 1440 }
     ensures value { result ≡ count minute (has_minute hours minutes) }
@@ -60,7 +60,7 @@ fn minutes_below(hours: Numbers, minutes: Numbers, minute: u32) -> u64
 }
 
 impl Period {
-    /// How many seconds of a day before one lie in the product's clock.
+    /// How many seconds of a day, before a given one, are in the product's times.
     pub(crate) fn seconds_below(&self, second: u32) -> u64
         requires { second ≤ 86400 }
         ensures value { result ≡ count second (has_second self.now) }
@@ -76,7 +76,7 @@ impl Period {
         }
     }
 
-    /// How many locals the product holds.
+    /// The number of locals in the product.
     pub(crate) fn size(&self) -> u64
         requires { (q : Filled) × IsPeriodOf q self.now }
         ensures value { result ≡ count calendar_end (holds self.now) }

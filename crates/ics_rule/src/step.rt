@@ -1,4 +1,4 @@
-//! Locals as numbers, and the periods that they lie in.
+//! Locals as numbers, and the periods that they are in.
 ghost use Rattle.std.specs.Prelude.{◌≡◌, ℕ, ◌<◌, ◌≤◌, ◌+◌, ◌*◌, ◌/◌, ◌^◌, pos, ◌-ℤ◌};
 ghost use Rattle.jiff_core.specs.Weekday.{monday_zero};
 ghost use Rattle.ics_values.specs.Days.{IsDayNumber};
@@ -31,7 +31,7 @@ pub(crate) fn local_of(n: u64) -> Local
     }
 }
 
-/// The number of the period that a local lies in.
+/// The number of the period that a local is in.
 pub(crate) fn period_of(parts: &Filled, n: u64) -> u64
     requires { n < 315569520000 }
     ensures value { result ≡ period_in parts.now n }

@@ -1,4 +1,4 @@
-//! The parts that speak of the clock, and tests of one part.
+//! The parts of a rule that restrict the time of day, and tests of one part (RFC 5545, 3.3.10).
 ghost use Rattle.std.specs.Prelude.{◌≡◌, ℕ, ◌<◌, ◌≤◌, ◌+◌, ◌*◌};
 ghost use Rattle.ics_rule.specs.Candidates.{lets, lets_place, lets_wide_place, lists_nth, lets_clock};
 
@@ -6,7 +6,7 @@ use crate::filled::Filled;
 use crate::part::PlacesPart;
 use ics_values::{Numbers, Places};
 
-/// Whether a part lets `n` in: it is absent or lists it.
+/// Whether a part allows `n`: it is absent or lists it.
 pub(crate) fn lets(set: Numbers, n: u8) -> bool
     requires { n < 64 }
     ensures { result ≡ lets set n }
@@ -14,7 +14,7 @@ pub(crate) fn lets(set: Numbers, n: u8) -> bool
     set.is_none() || set.has(n)
 }
 
-/// Whether the part lets the `n`-th of `size` in.
+/// Whether the part allows the `n`-th of `size`.
 pub(crate) fn lets_place(places: &Places, n: u8, size: u8) -> bool
     requires place { n ≤ size }
     requires small { size < 63 }
@@ -23,7 +23,7 @@ pub(crate) fn lets_place(places: &Places, n: u8, size: u8) -> bool
     places.is_none() || places.front.has(n) || places.back.has(size + 1 - n)
 }
 
-/// The same of a year's days.
+/// The same for a year's days.
 pub(crate) fn lets_wide_place(places: &PlacesPart, n: u16, size: u16) -> bool
     requires place { n ≤ size }
     requires small { size < 383 }
@@ -42,7 +42,7 @@ pub(crate) fn lists_nth(places: &Places, n: u16, size: u16) -> bool
     places.front.has(((n - 1) / 7 + 1) as u8) || places.back.has(((size - n) / 7 + 1) as u8)
 }
 
-/// Whether the parts that speak of the clock let this second of a day in.
+/// Whether the parts that restrict the time allow this second of a day.
 pub(crate) fn lets_clock(parts: &Filled, second: u32) -> bool
     requires { second < 86400 }
     ensures { (day : ℕ) → result ≡ lets_clock parts.now (day * 86400 + second) }

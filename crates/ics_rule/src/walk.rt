@@ -1,4 +1,4 @@
-//! How a cursor walks over the periods of a rule without COUNT.
+//! Searching the periods of a rule without COUNT.
 ghost use Rattle.std.specs.Prelude.{◌≡◌, ℕ, ◌<◌, ◌≤◌, ◌+◌, ◌*◌, ◌/◌, ◌^◌, MatchOption, IfSome, None, true};
 ghost use Rattle.jiff_core.specs.Weekday.{monday_zero};
 ghost use Rattle.ics_values.specs.Sets.{IsLeastFrom, IsNextIn};
@@ -56,7 +56,7 @@ impl Cursor {
             .next_taken(&parts.positions, place)
     }
 
-    /// The next local from the place on that the rule chooses, found in the periods up to that of the last local before `stop`.
+    /// The next local from the place on that the rule chooses. It is searched for in the periods up to that of the last before `stop`.
     pub(crate) fn walk_freely(&mut self, parts: &Filled, start: u64, stop: u64) -> Option<u64>
         requires interval { 1 ≤ parts.now.interval }
         requires start { start < 315569520000 }

@@ -1,4 +1,4 @@
-//! The days of a year that lie in its weeks.
+//! The days of a year that are in listed weeks.
 ghost use Rattle.std.specs.Prelude.{◌≡◌, ℕ, ◌<◌, ◌≤◌, ◌+◌, ◌&&◌, ◌||◌, nat_le, nat_lt, pos, true, false};
 ghost use Rattle.jiff_core.specs.Calendar.{days_in_year};
 ghost use Rattle.ics_values.specs.Sets.{has, has_wide};
@@ -11,7 +11,7 @@ use crate::days::weekday_at;
 use crate::filled::Filled;
 use ics_values::{Numbers, Places, WideNumbers};
 
-/// Adds the days from one on and before an end.
+/// Adds the days from `low` on and before `end`.
 fn add_between(days: &mut WideNumbers, low: u16, end: u16)
     requires { end ≤ 384 }
     ensures { (m : ℕ) → has_wide days.new m ≡ (has_wide days.old m || (nat_le low m && nat_lt m end)) }
@@ -21,7 +21,7 @@ fn add_between(days: &mut WideNumbers, low: u16, end: u16)
     }
 }
 
-/// The weeks of a year of 52 or of 53 weeks that BYWEEKNO lists.
+/// The weeks that BYWEEKNO lists in a year of 52 weeks or in one of 53.
 fn listed_weeks(weeks: &Places) -> Numbers
     ensures { (n : ℕ) → 1 ≤ n → n ≤ 53 → has result n ≡ may_list_week weeks.now n }
 {
@@ -38,8 +38,8 @@ fn listed_weeks(weeks: &Places) -> Numbers
     listed
 }
 
-/// Days of a year, with all those among them that lie in a listed week. The first three and the last three may lie in a week of another
-/// year.
+/// Days of a year, including all that are in a listed week. The first three and the last three days of a year may be in a week of
+/// another year.
 pub(crate) fn days_near_weeks(parts: &Filled, first: u32, len: u16) -> WideNumbers
     requires first { first ≡ days_before_year (year_of first) }
     requires size { len ≡ days_in_year (pos (year_of first)) }
