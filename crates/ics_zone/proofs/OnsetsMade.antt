@@ -1,4 +1,4 @@
--- What is kept of an observance has its onsets.
+-- What a zone holds of an observance has its onsets.
 use Rattle.std.proofs.Common.{◌≡◌, ℕ, ◌<◌, ◌≤◌, ◌⊎◌, inl, inr, true, ◌==◌, refl, sym, ap, subst, ◌∙◌, arith, get_or, Option, Some, None, option_map, Contains, IfSome, ℤ, ◌≤ℤ◌}
 use Rattle.std.specs.Prelude.{MatchOption}
 use Rattle.std.specs.List.{list_any}

@@ -1,4 +1,4 @@
--- The offsets of a local by its seconds are those that jiff gives its datetime.
+-- The offsets of a local by its seconds are those that jiff gives for its `DateTime`.
 use Rattle.std.proofs.Common.{◌≡◌, ℤ, pos, Option, Some, None, IsSome, refl, sym, ap₂}
 use Rattle.jiff.specs.Words.{nanos_of_seconds, civil_nanos, ambiguous_at}
 use Rattle.jiff_core.specs.declared.offset.Offset.{Offset}

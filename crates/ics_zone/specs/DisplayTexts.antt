@@ -13,11 +13,11 @@ pub data Said : Type 0 where
   Always : ℤ → Said
   ByRule : TzText → Said
 
--- the number that two digits write
+-- the number that two digits spell
 abbrev pub pair_value : ℕ → ℕ → ℕ
 pair_value tens ones = (tens - 48) * 10 + (ones - 48)
 
--- two digits that write a number below the limit
+-- two digits that spell a number below the limit
 abbrev pub is_pair_below : ℕ → ℕ → ℕ → Bool
 is_pair_below limit tens ones =
     (is_ascii_digit tens && is_ascii_digit ones) && nat_lt (pair_value tens ones) limit
@@ -47,7 +47,7 @@ display_of text =
     then Some (Always (pos 0))
     else first_said (offset_said text) (read_whole text)
 
--- what a zone of jiff's says, if it is of a kind that a display zone has
+-- what a zone of jiff's says, if a display zone may be of its kind
 abbrev pub said_by : TimeZone → Option Said
 said_by UTC = Some (Always (pos 0))
 said_by Unknown = None

@@ -1,4 +1,4 @@
--- What a display zone gives: jiff's offset at an instant, and jiff's compatible choice for a local.
+-- What a display zone gives: jiff's offset at an instant, and the instant of a local by jiff's compatible strategy.
 use Rattle.std.specs.Prelude.{◌≡◌, ◌-ℤ◌, ℤ, pos, Option, Some, None}
 use Rattle.jiff.specs.Words.{nanos_of_seconds, civil_nanos, picked_instant}
 use Rattle.jiff_core.specs.declared.offset.Offset.{Offset}
@@ -17,7 +17,7 @@ use Rattle.jiff_tz.specs.declared.timezone.TimeZone.{TimeZone}
 abbrev pub offset_of : TimeZone → ℤ → ℤ
 offset_of zone moment = offset_at zone (nanos_of_seconds moment)
 
--- the instant that jiff calls compatible for this local
+-- the instant of this local by jiff's compatible strategy
 pub record IsCompatible (zone : TimeZone) (local moment : ℤ) : Type 0 where
   pub shown : DateTime
   pub same : civil_nanos shown ≡ nanos_of_seconds local
@@ -32,12 +32,12 @@ rule_offsets standard (Some d) local =
     (rule_nanos year d.rule.start (pos 0), rule_nanos year d.rule.end (pos 0))
     (nanos_of_seconds local)
 
--- jiff's offsets of a local, by its seconds, in a zone that is no table
+-- jiff's offsets of a local, by its seconds, in a zone that is not a table
 abbrev pub offsets_of : TimeZone → ℤ → AmbiguousOffset
 offsets_of (Fixed offset) local = Unambiguous offset
 offsets_of (Posix rule) local = rule_offsets rule.std_offset rule.dst local
 offsets_of zone local = Unambiguous utc_offset
 
--- the instant that jiff calls compatible for the local with these seconds
+-- the instant of the local with these seconds by jiff's compatible strategy
 abbrev pub moment_of : TimeZone → ℤ → ℤ
 moment_of zone local = local -ℤ (compatible_offset (offsets_of zone local)).seconds

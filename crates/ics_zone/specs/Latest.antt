@@ -1,4 +1,4 @@
--- What is asked of kept locals and of onsets near a place.
+-- The last of a set of kept locals, and of instants.
 use Rattle.std.specs.Prelude.{◌≡◌, ℕ, ◌+◌, ◌<◌, ◌≤◌, true, List, length, Option, MatchOption, slice_index_or, ℤ, ◌<ℤ◌, ◌≤ℤ◌}
 use Rattle.std.specs.List.{AllWithin}
 use Rattle.ics_rule.specs.Recurrence.{Recurrence}
@@ -6,13 +6,13 @@ use Rattle.ics_rule.specs.Kept.{is_kept}
 use Rattle.ics_rule.specs.Next.{NoneKept}
 use Rattle.ics_zone.specs.declared.kept.Known.{Known}
 
--- n is the greatest that is kept of the locals before a bound
+-- n is the greatest kept local before a bound
 pub record IsLastKept (r : Recurrence) (bound n : ℕ) : Type 0 where
   pub kept : is_kept r n ≡ true
   pub in_bound : n < bound
   pub last : NoneKept r (n + 1) bound
 
--- the last kept before a bound is the one known, or lies after it and before the end
+-- the last kept local before a bound is the known one, or is after it and before the known end
 pub record IsKnownLast (r : Recurrence) (bound : ℕ) (known : Known) : Type 0 where
   pub kept : is_kept r known.last ≡ true
   pub before : known.last < known.end
@@ -23,7 +23,7 @@ pub record IsKnownLast (r : Recurrence) (bound : ℕ) (known : Known) : Type 0 w
 abbrev pub IsInOrder : List ℤ → Type 0
 IsInOrder list = (j k : ℕ) (d : ℤ) → j ≤ k → k < length list → slice_index_or list j d ≤ℤ slice_index_or list k d
 
--- so many instants are not after t, and the others are
+-- the first `passed` instants of the list are not after t, and the others are
 pub record IsPassed (list : List ℤ) (t : ℤ) (passed : ℕ) : Type 0 where
   pub bound : passed ≤ length list
   pub before : AllWithin (λ s. s ≤ℤ t) list 0 passed
@@ -35,6 +35,6 @@ pub record IsLast (set : ℤ → Type 0) (t s : ℤ) : Type 0 where
   pub not_after : s ≤ℤ t
   pub last : (u : ℤ) → set u → u ≤ℤ t → u ≤ℤ s
 
--- the last, or that all are after t
+-- the answer is the last one, or None and all are after t
 abbrev pub IsLastOf : (ℤ → Type 0) → ℤ → Option ℤ → Type 0
 IsLastOf set t o = MatchOption o ((u : ℤ) → set u → t <ℤ u) (IsLast set t)

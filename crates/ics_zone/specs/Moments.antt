@@ -4,7 +4,7 @@ use Rattle.std.specs.Ordering.{int_eq}
 use Rattle.ics_zone.specs.Observances.{Phase}
 use Rattle.ics_zone.specs.Offsets.{first_below, zone_offset}
 
--- what a clock shows at t, whose offset at each instant is given
+-- what a clock shows at t, given its offset at each instant
 abbrev pub shown : (ℤ → ℤ) → ℤ → ℤ
 shown offset t = t +ℤ offset t
 
@@ -13,8 +13,8 @@ pub record IsFirstTime (offset : ℤ → ℤ) (local t : ℤ) : Type 0 where
   pub shows : shown offset t ≡ local
   pub first : (s : ℤ) → shown offset s ≡ local → t ≤ℤ s
 
--- the clock never shows the local; `past` is the first instant at which it shows a later one, and t is the local read with the
--- offset before
+-- the clock never shows the local; `past` is the first instant at which it shows a later one, and t is the local read with the offset
+-- just before that
 pub record IsInGap (offset : ℤ → ℤ) (local t : ℤ) : Type 0 where
   pub skipped : (s : ℤ) → shown offset s ≢ local
   pub past : ℤ

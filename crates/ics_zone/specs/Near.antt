@@ -1,4 +1,4 @@
--- A display zone moves an instant or a local by less than two days.
+-- A display zone changes an instant or a local by less than two days.
 use Rattle.std.proofs.Common.{ℤ, arith, ◌-ℤ◌}
 use Rattle.jiff.proofs.SpanFacts.{signed_arith}
 use Rattle.jiff.specs.Words.{nanos_of_seconds, offset_at, IsOffsetSeconds}

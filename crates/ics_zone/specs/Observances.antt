@@ -13,7 +13,7 @@ use Rattle.ics_rule.specs.Locals.{number}
 use Rattle.ics_rule.specs.Kept.{is_kept, until_moment}
 use Rattle.ics_zone.specs.declared.observance.Observance.{Observance}
 
--- what an observance says: when it begins, and the offsets before and after
+-- what an observance says: when it begins, and the offsets before and after that
 pub record Phase : Type 0 where
   pub start : Local
   pub offset_from : ℤ
@@ -30,11 +30,11 @@ phase_of o = record {
   rdates = o.rdates.items;
 }
 
--- what those of a zone say
+-- what the observances of a zone say
 abbrev pub phases_of : List Observance → List Phase
 phases_of observances = map phase_of observances
 
--- it begins in the years 0001 to 9899, and its offsets are less than a day
+-- an observance begins in the years 0001 to 9899, and its offsets are less than a day
 pub record IsPhase (p : Phase) : Type 0 where
   pub start_in : IsStampDay p.start.day
   pub from_in : IsWithin 86_399 p.offset_from
@@ -55,23 +55,23 @@ instant_by offset n = pos n -ℤ pos epoch -ℤ offset
 abbrev pub rule_from : Local → RuleParts → Recurrence
 rule_from start parts = record { parts = parts; start = start; kind = DateTime }
 
--- an instant is not after a UTC UNTIL, where there is one
+-- an instant is not after an UNTIL in UTC, if there is one
 abbrev pub is_until : Option ℤ → ℤ → Bool
 is_until None t = true
 is_until (Some until) t = int_le t until
 
--- the rule keeps local n, and a UTC UNTIL its onset
+-- the rule keeps local n, and the onset is not after an UNTIL in UTC
 abbrev pub is_by_rule : Phase → Option RuleParts → ℕ → Bool
 is_by_rule p None n = false
 is_by_rule p (Some parts) n =
     is_kept (rule_from p.start parts) n
     && is_until (until_moment (rule_from p.start parts)) (instant_by p.offset_from n)
 
--- the observance begins when the clock before it shows local n: that is its DTSTART, an RDATE, or kept by its RRULE
+-- the observance begins when the clock before it shows local n: n is its DTSTART, an RDATE, or kept by its RRULE
 abbrev pub is_begin : Phase → ℕ → Bool
 is_begin p n = n == number p.start || (list_any (λ l. number l == n) p.rdates || is_by_rule p p.rule n)
 
--- a test of a local that is given by the seconds since 0000-01-01; none is earlier
+-- a test of a local that is given by the seconds since 0000-01-01; no earlier local passes
 abbrev pub test_at : ℤ → (ℕ → Bool) → Bool
 test_at (pos n) test = test n
 test_at (negsuc n) test = false

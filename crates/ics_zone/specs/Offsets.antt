@@ -18,7 +18,7 @@ pub record IsInForce (zone : List Phase) (t : ℤ) (p : Phase) : Type 0 where
   pub not_after : since ≤ℤ t
   pub greatest : (i : ℕ) (s : ℤ) (other : Phase) → IsOnset zone i s other → s ≤ℤ t → IsNotLater s i since place
 
--- t is before all onsets, of which the least is one of observance p
+-- t is before all onsets, and the least of them is one of observance p
 pub record IsBeforeAll (zone : List Phase) (t : ℤ) (p : Phase) : Type 0 where
   pub place : ℕ
   pub first : ℤ
@@ -26,13 +26,13 @@ pub record IsBeforeAll (zone : List Phase) (t : ℤ) (p : Phase) : Type 0 where
   pub before : t <ℤ first
   pub least : (i : ℕ) (s : ℤ) (other : Phase) → IsOnset zone i s other → IsNotLater first place s i
 
--- the offset at t is TZOFFSETTO of the greatest onset not after t; before all, TZOFFSETFROM of the least
+-- the offset at t is TZOFFSETTO of the greatest onset not after t or, before all onsets, TZOFFSETFROM of the least
 abbrev pub IsOffset : List Phase → ℤ → ℤ → Type 0
 IsOffset zone t offset =
     ((p : Phase) × IsInForce zone t p × (offset ≡ p.offset_to))
     ⊎ ((p : Phase) × IsBeforeAll zone t p × (offset ≡ p.offset_from))
 
--- what f gives at the greatest number below n at which it gives something, and at the least
+-- what f gives at the greatest number below n at which it gives something, and what it gives at the least
 unfoldable pub last_below : {A : Type 0} → ℕ → (ℕ → Option A) → Option A
 last_below zero f = None
 last_below (suc n) f = elim (f n) [ Some x ↦ Some x | None ↦ last_below n f ]
@@ -65,7 +65,7 @@ last_at zone t = last_below (length zone) (λ i. if_onset (slice_get zone i) t)
 abbrev pub first_at : List Phase → ℤ → Option Phase
 first_at zone t = first_below (length zone) (λ i. if_onset (slice_get zone i) t)
 
--- the observance of the greatest onset not after t, and that of the least onset. DTSTART is an onset, and lies before 9999-12-31
+-- the observance of the greatest onset not after t, and that of the least onset. DTSTART is an onset before 9999-12-31
 unfoldable pub in_force : List Phase → ℤ → Option Phase
 in_force zone t = last_below (instants_to t) (λ k. last_at zone (instant k))
 

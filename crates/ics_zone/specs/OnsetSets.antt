@@ -1,4 +1,4 @@
--- The onsets of one observance, as they are kept to be asked for.
+-- The onsets of one observance, as a zone holds them.
 use Rattle.std.specs.Prelude.{◌≡◌, ℕ, ◌<◌, ◌⊎◌, Bool, true, ◌||◌, ◌==◌, List, length, MatchOption, slice_index_or, int_le, ℤ, pos, ◌≤ℤ◌}
 use Rattle.std.specs.List.{Contains, list_any}
 use Rattle.jiff_core.specs.Calendar.{IsWithin}
@@ -9,7 +9,7 @@ use Rattle.ics_zone.specs.declared.onsets.Onsets.{Onsets}
 use Rattle.ics_zone.specs.Observances.{Phase, instant_by, is_until, is_onset}
 use Rattle.ics_zone.specs.Latest.{IsInOrder}
 
--- t is the instant of a local that the rule keeps, and not past an end
+-- t is the instant of a local that the rule keeps, and is not after an end
 pub record IsKeptBy (from until : ℤ) (r : Recurrence) (t : ℤ) : Type 0 where
   pub local : ℕ
   pub early : local < 309_289_708_800
@@ -24,18 +24,18 @@ IsKeptAt onsets t = MatchOption onsets.rule ⊥ (λ r. IsKeptBy onsets.offset_fr
 abbrev pub Has : Onsets → ℤ → Type 0
 Has onsets t = Contains onsets.listed.items t ⊎ IsKeptAt onsets t
 
--- no onset that UNTIL lets in is after this instant
+-- UNTIL allows an onset exactly if it is not after this instant
 abbrev pub IsEnd : ℤ → Recurrence → Type 0
 IsEnd end r = (t : ℤ) → t ≤ℤ pos 9_223_372_036_854_775_807 → is_until (until_moment r) t ≡ int_le t end
 
--- they are listed in order, and none is earlier than the first that is listed
+-- the onsets are listed in order, and none is earlier than the first listed one
 pub record IsSound (onsets : Onsets) : Type 0 where
   pub from_in : IsWithin 86_399 onsets.offset_from
   pub some : 0 < length onsets.listed.items
   pub in_order : IsInOrder onsets.listed.items
   pub first : (t d : ℤ) → IsKeptAt onsets t → slice_index_or onsets.listed.items 0 d ≤ℤ t
 
--- they are those of an observance
+-- the onsets are those of an observance
 pub record AreOnsetsOf (p : Phase) (onsets : Onsets) : Type 0 where
   pub sound : IsSound onsets
   pub from : onsets.offset_from ≡ p.offset_from

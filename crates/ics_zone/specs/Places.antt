@@ -1,8 +1,8 @@
--- Locals and instants as numbers of seconds, and the years in which a place is asked (RFC 5545, section 3.3.5).
+-- Locals and instants as numbers of seconds, and the years for which a place has answers (RFC 5545, section 3.3.5).
 use Rattle.std.specs.Prelude.{◌+ℤ◌, ◌*ℤ◌, ℕ, ℤ, pos, neg_ℤ}
 use Rattle.jiff_core.specs.Calendar.{IsBetween}
 
--- the seconds of a local since 1970-01-01T00:00:00, as a clock without zones counts them
+-- the seconds from 1970-01-01T00:00:00 to a local, each day having 86,400
 abbrev pub local_seconds : ℤ → ℕ → ℤ
 local_seconds day second = day *ℤ pos 86_400 +ℤ pos second
 

@@ -1,4 +1,4 @@
--- A zone of observances moves an instant or a local by a day or less.
+-- A zone of observances changes an instant or a local by a day or less.
 use Rattle.std.proofs.Common.{◌≡◌, ℕ, zero, suc, ◌<◌, Bool, true, false, Option, Some, None, slice_get, List, [], ◌∷◌, length, ℤ, pos, ◌-ℤ◌, arith, refl, ◌∙◌}
 use Rattle.std.specs.Ordering.{int_eq}
 use Rattle.std.proofs.lemmas.Int.{ints}
@@ -9,7 +9,7 @@ use Rattle.ics_zone.specs.Offsets.{last_below, first_below, instant, instants_to
 use Rattle.ics_zone.specs.Moments.{shown, near, if_so, first_time, first_later, moment_from, moment_by, zone_moment}
 use Rattle.ics_zone.specs.Places.{IsNear}
 
--- what holds of all that a function gives holds of what a search finds
+-- what is true of all that a function gives is true of what a search finds
 module _ {A : Type 0} (P : A → Type 0) (f : ℕ → Option A) where
   last_below-has : (n : ℕ) → ((k : ℕ) (x : A) → f k ≡ Some x → P x) → (x : A) → last_below n f ≡ Some x → P x
   unfolding last_below
@@ -31,7 +31,7 @@ module _ {A : Type 0} (P : A → Type 0) (f : ℕ → Option A) where
       by (Some y) is below e = below x (is ∙ e)
       by None is below e = all n x (omega arith) e
 
--- what an observance with an onset at t is
+-- an observance with an onset at t
 pub if_onset-some : (o : Option Phase) (t : ℤ) (p : Phase) → if_onset o t ≡ Some p → (o ≡ Some p) × (is_onset p t ≡ true)
 if_onset-some None t p e = absurd (cc)
 if_onset-some (Some q) t p e = by (is_onset q t) refl e
@@ -64,7 +64,7 @@ module _ (zone : List Phase) (facts : IsZone zone) where
       by None (Some p) is least = (least p refl).from_in
       by None None is least = (omega (arith, ints), omega (arith, ints))
 
--- the observances of the program are such
+-- the observances of the program are so
 pub zone_facts : (observances : List Observance) → IsZone (phases_of observances)
 zone_facts [] i p e = absurd (cc)
 zone_facts (o ∷ observances) zero p e = let same : phase_of o ≡ p = cc in rw (← same) (record { start_in = o.start_in; from_in = o.from_in; to_in = o.to_in })
@@ -76,7 +76,7 @@ zone_short zone = zone_offset_short (phases_of zone) (zone_facts zone)
 pub zone_offset_near : (zone : List Observance) (t : ℤ) → IsNear (zone_offset (phases_of zone) t)
 zone_offset_near zone t = let bound = zone_short zone t in (omega (arith, ints, bound.0), omega (arith, ints, bound.1))
 
--- a number of the search is near the local
+-- an instant of the search is near the local
 near_local : (offset : ℤ → ℤ) (local : ℤ) (b : Bool) (k : ℕ) (t : ℤ) → k < 172_801 → if_so b (near local k) ≡ Some t → IsWithin 86_400 (t -ℤ local)
 near_local offset local true k t h e = let is : near local k ≡ t = cc in (omega (arith, ints, is, h), omega (arith, ints, is, h))
 near_local offset local false k t h e = absurd (cc)

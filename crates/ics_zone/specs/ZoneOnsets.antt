@@ -1,4 +1,4 @@
--- The onsets of a zone, asked of its observances one by one.
+-- The onsets of a zone, observance by observance.
 use Rattle.std.specs.Prelude.{◌≡◌, ℕ, ◌<◌, ◌≤◌, ◌⊎◌, List, length, Option, Some, MatchOption, slice_get, slice_index_or, ℤ, ◌+ℤ◌, ◌<ℤ◌, ◌≤ℤ◌}
 use Rattle.std.specs.List.{All, Contains}
 use Rattle.ics_zone.specs.declared.latest.Latest.{Latest}
@@ -9,7 +9,7 @@ use Rattle.ics_zone.specs.Offsets.{IsOnset, IsNotLater, zone_offset}
 use Rattle.ics_zone.specs.OnsetSets.{AreOnsetsOf}
 use Rattle.ics_zone.specs.Moments.{shown}
 
--- for each observance its onsets, at its place
+-- the i-th onsets are those of the i-th observance
 pub record AreOnsetsOfAll (zone : List Phase) (onsets : List Onsets) : Type 0 where
   pub same_length : length onsets ≡ length zone
   pub each : (i : ℕ) (p : Phase) (d : Onsets) → slice_get zone i ≡ Some p → AreOnsetsOf p (slice_index_or onsets i d)
@@ -19,7 +19,7 @@ pub record HasOffsets (offsets : List ℤ) (p : Phase) : Type 0 where
   pub from : Contains offsets p.offset_from
   pub to : Contains offsets p.offset_to
 
--- it has those of all observances
+-- a list has both offsets of each observance
 abbrev pub HaveOffsets : List ℤ → List Phase → Type 0
 HaveOffsets offsets zone = (i : ℕ) (p : Phase) → slice_get zone i ≡ Some p → HasOffsets offsets p
 
@@ -27,14 +27,14 @@ HaveOffsets offsets zone = (i : ℕ) (p : Phase) → slice_get zone i ≡ Some p
 abbrev pub IsSteady : (ℤ → ℤ) → ℤ → ℤ → ℤ → Type 0
 IsSteady offset from next value = (t : ℤ) → from ≤ℤ t → t <ℤ next → value ≡ offset t
 
--- what a zone knows: there is an observance, the onsets of each, each offset that the zone has, and spans with one offset
+-- what a zone holds: at least one observance, the onsets of each, every offset that the zone has, and spans with one offset
 pub record IsKnown (zone : List Phase) (onsets : List Onsets) (offsets : List ℤ) (held : List Steady) : Type 0 where
   pub some : 0 < length zone
   pub asked : AreOnsetsOfAll zone onsets
   pub all_offsets : (t : ℤ) → Contains offsets (zone_offset zone t)
   pub spans : All (λ s. IsSteady (zone_offset zone) s.from s.next s.offset) held
 
--- of the observances before a place, the greatest onset not after t
+-- the greatest onset not after t of the first `count` observances
 pub record IsLatest (zone : List Phase) (t : ℤ) (count : ℕ) (latest : Latest) : Type 0 where
   pub phase : Phase
   pub onset : IsOnset zone latest.place latest.at phase
@@ -43,12 +43,12 @@ pub record IsLatest (zone : List Phase) (t : ℤ) (count : ℕ) (latest : Latest
   pub not_after : latest.at ≤ℤ t
   pub greatest : (i : ℕ) (s : ℤ) (p : Phase) → i < count → IsOnset zone i s p → s ≤ℤ t → IsNotLater s i latest.at latest.place
 
--- they may have none
+-- the same, or None if those observances have no onset up to t
 abbrev pub IsLatestOf : List Phase → ℤ → ℕ → Option Latest → Type 0
 IsLatestOf zone t count found =
     MatchOption found ((i : ℕ) (s : ℤ) (p : Phase) → i < count → IsOnset zone i s p → t <ℤ s) (IsLatest zone t count)
 
--- TZOFFSETFROM of the least onset of the observances before a place
+-- TZOFFSETFROM of the least onset of the first `count` observances
 pub record IsFirst (zone : List Phase) (count : ℕ) (first offset : ℤ) : Type 0 where
   pub place : ℕ
   pub in_bound : place ≤ count
@@ -69,7 +69,7 @@ IsNextPast zone local after next =
 abbrev pub NoneBetween : List Phase → ℤ → ℤ → Type 0
 NoneBetween zone after next = (i : ℕ) (s : ℤ) (p : Phase) → IsOnset zone i s p → after <ℤ s → next ≤ℤ s
 
--- an onset not after t is greater than all those of the observances with an offset
+-- an onset not after t is greater than all of the observances with an offset
 pub record IsOverridden (zone : List Phase) (t offset : ℤ) : Type 0 where
   pub place : ℕ
   pub at : ℤ

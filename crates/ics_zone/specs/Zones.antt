@@ -1,4 +1,4 @@
--- What a display zone shows of itself: the zone of jiff's that it is.
+-- The zone of jiff's that a display zone is.
 use Rattle.jiff_tz.specs.declared.timezone.TimeZone.{TimeZone}
 use Rattle.jiff_tz.specs.declared.timezone.TimeZone.TheVariants as zone
 use Rattle.ics_zone.specs.declared.display.Kind.{Kind}

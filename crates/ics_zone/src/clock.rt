@@ -10,7 +10,7 @@ use ics_values::{Local, Moment};
 /// The seconds from 0000-01-01 to 1970-01-01.
 const EPOCH: i64 = 62_167_219_200;
 
-/// 9801-01-01T00:00:00, where the rules end.
+/// 9801-01-01T00:00:00, the end of the rules.
 const RULES_END: i64 = 309_289_708_800;
 
 // The seconds from 0000-01-01T00:00:00 to a local.
@@ -41,7 +41,7 @@ pub(crate) fn instant(offset: i32, n: u64) -> Moment
     n as i64 - EPOCH - i64::from(offset)
 }
 
-// How many locals, of those before the rules end, a clock with this offset shows up to an instant.
+// How many locals before the end of the rules a clock with this offset shows up to an instant.
 pub(crate) fn shown_by(offset: i32, moment: Moment) -> u64
     requires { IsWithin 86_399 offset }
     ensures bound { result ≤ 309289708800 }

@@ -23,7 +23,7 @@ pub struct Display {
     kind: Kind,
 }
 
-/// What the zone goes by. It is none of jiff's zones, which may borrow a table.
+/// What the zone follows. It does not hold one of jiff's zones, since they may borrow a table.
 #[derive(Clone, Copy)]
 pub(crate) enum Kind {
     Fixed(Offset),
@@ -31,9 +31,9 @@ pub(crate) enum Kind {
 }
 
 impl Display {
-    /// Reads `UTC`, `Z`, a sign with `HH:MM` (hours to 23, minutes to 59), or else the rule of a
-    /// POSIX TZ string as jiff reads it, such as `EST5EDT,M3.2.0,M11.1.0`. Every other text is
-    /// BadZone. Takes no memory.
+    /// The zone that a text names: `UTC`, `Z`, a sign with `HH:MM` (hours to 23, minutes to 59), or a
+    /// POSIX TZ string as jiff reads it, such as `EST5EDT,M3.2.0,M11.1.0`. `BadZone` for any other text,
+    /// and no other fault. Nothing is allocated.
     pub fn parse(_alloc: Global, text: &str) -> Result<Display, DisplayFault>
         ensures said { IfOk result (λ display. said_by (zone_of display) ≡ display_of text.now) }
         ensures refused { (result ≡ Err DisplayFault.BadZone) ↔ (display_of text.now ≡ None) }
@@ -53,7 +53,7 @@ impl Display {
         }
     }
 
-    // The zone as one of jiff's.
+    // The zone as a zone of jiff's.
     fn zone(&self) -> TimeZone<'static>
         ensures zone { plain_zone result ≡ zone_of self.now }
         ensures own { IsSome (said_by (plain_zone result)) }
@@ -65,7 +65,7 @@ impl Display {
     }
 }
 
-// The zone that always has this offset.
+// The zone with this offset, in seconds, at all times.
 fn fixed(seconds: i32) -> Display
     requires { IsWithin 86_340 seconds }
     ensures { said_by (zone_of result) ≡ Some (Said.Always seconds) }
@@ -85,13 +85,13 @@ impl Place for Display {
 
     ghost moment_at = { λ display local. moment_of (zone_of display) local };
 
-    /// jiff's offset at the instant.
+    /// The offset that jiff gives at the instant, in seconds.
     fn offset(&self, moment: Moment) -> i32 {
         let instant = Timestamp::from_second(moment).unwrap();
         self.zone().to_offset(instant).seconds()
     }
 
-    /// The instant that jiff calls compatible with the local.
+    /// The instant of the local by jiff's compatible strategy: the first of two, and in a gap the local read with the offset before the gap.
     fn moment(&self, local: Local) -> Moment
         requires { IsDay local.day }
         ensures picked { IsCompatible (zone_of self.now) (local_seconds local.day local.second) result }
@@ -105,7 +105,7 @@ impl Place for Display {
     ghost moment_near = { λ display local. moment_near (zone_of display) local };
 }
 
-// The instant that jiff calls compatible with the local in one of its zones.
+// The instant of the local, by jiff's compatible strategy, in a zone of jiff's.
 fn picked_moment(zone: TimeZone<'static>, local: Local) -> Moment
     requires day { IsDay local.day }
     requires own { IsSome (said_by (plain_zone zone)) }
@@ -116,7 +116,7 @@ fn picked_moment(zone: TimeZone<'static>, local: Local) -> Moment
     instant.as_second()
 }
 
-// The local as a datetime of jiff's.
+// The local as a `DateTime` of jiff's.
 fn datetime(local: Local) -> DateTime
     requires { IsDay local.day }
     ensures { civil_nanos result ≡ nanos_of_seconds (local_seconds local.day local.second) }

@@ -1,10 +1,10 @@
-//! Why a text is no display zone.
+//! Why a text is not a display zone.
 ghost use Rattle.std.specs.Prelude.{◌≡◌};
 ghost use Rattle.ics_zone.specs.DisplayFaults.{fault_name};
 
 use thiserror::Error;
 
-/// Why a text is no display zone.
+/// Why a text is not a display zone.
 #[derive(Clone, Copy, Debug, PartialEq, Eq, Error)]
 pub enum DisplayFault {
     #[error("no display zone")]
@@ -14,7 +14,7 @@ pub enum DisplayFault {
 }
 
 impl DisplayFault {
-    /// The fault's name.
+    /// The name of the fault, as it is printed.
     pub fn name(&self) -> &'static str
         ensures { result.now ≡ fault_name self.now }
     {

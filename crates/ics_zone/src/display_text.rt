@@ -1,4 +1,4 @@
-//! A sign with hours and minutes.
+//! Offsets as `--zone` takes them: a sign with hours and minutes.
 ghost use Rattle.std.specs.Prelude.{◌≡◌, ◌<◌, Some, None, IfSome, if◌then◌else◌};
 ghost use Rattle.jiff_core.specs.Calendar.{IsWithin};
 ghost use Rattle.jiff_core.specs.Sign.{signed};
@@ -29,7 +29,7 @@ fn with_sign(negative: bool, seconds: u32) -> i32
     if negative { -seconds } else { seconds }
 }
 
-// The number that two digits write, if it is below the limit.
+// The number that two digits spell, if it is below the limit.
 fn pair_below(limit: u8, tens: u8, ones: u8) -> Option<u8>
     ensures { result ≡ (if is_pair_below limit tens ones then Some (pair_value tens ones) else None) }
 {

@@ -1,4 +1,4 @@
-//! The locals that a rule keeps near a place, without a walk from its start.
+//! The locals that a rule keeps near a place, found without counting from its start.
 ghost use Rattle.std.specs.Prelude.{◌≡◌, ℕ, ◌≤◌, ◌<◌, true, MatchOption};
 ghost use Rattle.ics_rule.specs.Kept.{is_kept};
 ghost use Rattle.ics_rule.specs.Next.{NoneKept, IsNextKept};
@@ -20,8 +20,8 @@ pub(crate) fn next_kept(rule: &Rule, from: u64, bound: u64) -> Option<u64>
     }
 }
 
-/// The last kept local that is earlier than a bound. It is looked for a little before the bound, and twice as far back each time that
-/// there is none.
+/// The last kept local that is earlier than a bound. The search begins a little before the bound, and goes twice as far back each time
+/// that it finds none.
 pub(crate) fn last_kept(rule: &Rule, ago: u64, bound: u64) -> Option<u64>
     requires { bound ≤ 309289708800 }
     ensures { MatchOption result (NoneKept rule.now 0 bound) (IsLastKept rule.now bound) }
@@ -39,7 +39,7 @@ pub(crate) fn last_kept(rule: &Rule, ago: u64, bound: u64) -> Option<u64>
     None
 }
 
-/// The last kept local from a place on that is earlier than a bound. Mostly there is one alone.
+/// The last kept local from a place on that is earlier than a bound. Mostly there is just one.
 fn last_between(rule: &Rule, from: u64, bound: u64) -> Option<u64>
     requires from { from ≤ 309289708800 }
     requires bound { bound ≤ 309289708800 }
@@ -57,14 +57,14 @@ fn last_between(rule: &Rule, from: u64, bound: u64) -> Option<u64>
     }
 }
 
-/// What is known of the last kept local: one that is kept, and a place after it from which on none is.
+/// What is known of the last kept local: a local that is kept, and a later place from which on none is.
 #[derive(Clone, Copy)]
 pub(crate) struct Known {
     pub last: u64,
     pub end: u64,
 }
 
-/// More is known after a look from a place on: a later kept local, or that none is kept from there on.
+/// What is known after a look from a place on: a later kept local, or that none is kept from there on.
 fn after_look(rule: &Rule, known: Known, from: u64) -> Known
     requires after { known.last < from }
     requires from { from ≤ 309289708800 }
@@ -85,8 +85,8 @@ fn after_look(rule: &Rule, known: Known, from: u64) -> Known
     }
 }
 
-/// The last kept local that is earlier than a bound, where two are known that follow each other. The gap between two is a guess for the gap
-/// before the bound. Where it fails, what is left is halved.
+/// The last kept local that is earlier than a bound, given two kept locals that follow each other. The gap between two is the guess for the
+/// gap before the bound. If the guess fails, the rest is halved.
 fn last_from(rule: &Rule, first: u64, second: u64, bound: u64) -> u64
     requires kept { is_kept rule.now second ≡ true }
     requires order { first < second }

@@ -1,4 +1,4 @@
-//! The onsets of all observances of a zone, asked for near an instant.
+//! The onsets of all observances of a zone near an instant.
 ghost use Rattle.std.specs.Prelude.{◌≡◌, ℤ, pos, ◌<◌, true, false, length, List, ◌⊎◌, ◌+ℤ◌, ◌-ℤ◌, ◌<ℤ◌, ◌≤ℤ◌, IfSome, MatchOption};
 ghost use Rattle.std.specs.List.{All};
 ghost use Rattle.ics_zone.specs.Observances.{Phase};
@@ -12,7 +12,7 @@ use ics_values::Moment;
 
 const DAY: i64 = 86_400;
 
-/// An onset of the observance at a place in its component, with the offset after it.
+/// An onset of an observance, the place of the observance in its component, and the offset after the onset.
 #[derive(Clone, Copy)]
 pub(crate) struct Latest {
     pub at: Moment,
@@ -20,7 +20,7 @@ pub(crate) struct Latest {
     pub offset: i32,
 }
 
-/// A span of instants in which a zone has one offset: from one on, and before another.
+/// A span of instants in which a zone has one offset, from one instant on and before another.
 #[derive(Clone, Copy)]
 pub(crate) struct Steady {
     pub from: Moment,
@@ -28,7 +28,7 @@ pub(crate) struct Steady {
     pub offset: i32,
 }
 
-// The later of two onsets, of which the first may be none; at one instant the second, whose place comes after.
+// The later of two onsets, if there is a first. If both are at one instant, the second, whose place comes after.
 fn later(first: Option<Latest>, second: Latest) -> Latest
     ensures { MatchOption first (result ≡ second)
         (λ f. ((result ≡ second) × (f.at ≤ℤ second.at)) ⊎ ((result ≡ f) × (second.at <ℤ f.at))) }
@@ -39,7 +39,7 @@ fn later(first: Option<Latest>, second: Latest) -> Latest
     }
 }
 
-// Whether an onset, if there is one, is not less than another, by instant and then by place.
+// Whether there is an onset and it is not less than another, by instant and then by place.
 fn is_not_less(onset: Option<Moment>, place: usize, at: Moment, other: usize) -> bool
     ensures { MatchOption onset (result ≡ false) (λ s. result ≡ false → (s <ℤ at) ⊎ ((s ≡ at) × (place < other))) }
 {
@@ -49,7 +49,7 @@ fn is_not_less(onset: Option<Moment>, place: usize, at: Moment, other: usize) ->
     }
 }
 
-// The last onset of an observance that is not after an instant, with its place and the offset that it begins.
+// The last onset of an observance that is not after an instant, with the observance's place and the offset after it.
 fn last_of(one: &Onsets, place: usize, moment: Moment) -> Option<Latest>
     requires { IsSound one.now }
     ensures last { MatchOption result ((t : ℤ) → Has one.now t → moment <ℤ t) (λ l. IsLast (Has one.now) moment l.at) }
@@ -97,7 +97,7 @@ pub(crate) fn first_offset(onsets: &[Onsets]) -> i32
 }
 
 /// Whether the last onset of the observance at a place, of those not after an instant, is greater than those of the observances with an
-/// offset. Then the zone has another offset at the instant.
+/// offset. If so, the zone has another offset at the instant.
 pub(crate) fn overrides(onsets: &[Onsets], place: usize, offset: i32, moment: Moment) -> bool
     requires { All IsSound onsets.now }
     ensures { result ≡ true → (zone : List Phase) → AreOnsetsOfAll zone onsets.now → IsOverridden zone moment offset }
@@ -134,7 +134,7 @@ pub(crate) fn next_onset(onsets: &[Onsets], after: Moment, limit: Moment) -> Mom
     next
 }
 
-/// An instant after another, before which no later onset begins an offset that shows a later local than this one.
+/// An instant after the given one. No onset between the two begins an offset that shows a later local than `seconds`.
 pub(crate) fn next_past(onsets: &[Onsets], seconds: i64, after: Moment) -> Moment
     requires sound { All IsSound onsets.now }
     requires bound { IsMoment seconds }

@@ -5,8 +5,8 @@ ghost use Rattle.ics_zone.specs.Displays.{offset_of, moment_of};
 ghost use Rattle.ics_zone.specs.Zones.{zone_of};
 ghost use Rattle.ics_zone.specs.declared.display.Display.{Display};
 
-/// Two display zones that say the same have the same offset at each instant, and read each local
-/// as the same instant. So a text names one display zone.
+/// Display zones with the same offset or the same rule have the same offset at each instant, and read
+/// each local as the same instant. So a text names one display zone.
 pub fn one_display()
     ensures offset { (a b : Display) (moment : ℤ) → said_by (zone_of a) ≡ said_by (zone_of b)
         → offset_of (zone_of a) moment ≡ offset_of (zone_of b) moment }

@@ -1,4 +1,4 @@
-//! One STANDARD or DAYLIGHT part of a VTIMEZONE.
+//! A STANDARD or DAYLIGHT part of a VTIMEZONE.
 ghost use Rattle.std.specs.Prelude.{IsTrue};
 ghost use Rattle.std.specs.List.{list_all};
 ghost use Rattle.jiff_core.specs.Calendar.{IsWithin};
@@ -7,9 +7,9 @@ ghost use Rattle.ics_zone.specs.Years.{is_stamp_local};
 
 use ics_values::{Local, Parts};
 
-/// One STANDARD or DAYLIGHT part of a VTIMEZONE (RFC 5545, section 3.6.5): the offset before and
-/// after each of its onsets, in seconds, and the locals, on the clock before, at which it begins.
-/// Locals lie in the years 0001 to 9899, and an offset is less than a day either way.
+/// A STANDARD or DAYLIGHT part of a VTIMEZONE (RFC 5545, section 3.6.5): the offsets before and after
+/// each of its onsets, in seconds, and the locals at which it begins, as the clock before it shows
+/// them. Locals are in the years 0001 to 9899. An offset is less than a day either way.
 #[derive(Drop)]
 pub struct Observance {
     /// DTSTART.

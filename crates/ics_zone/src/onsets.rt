@@ -1,4 +1,4 @@
-//! The onsets of one observance, asked for near an instant.
+//! The onsets of one observance near an instant.
 ghost use Rattle.std.specs.Prelude.{◌≡◌, ℕ, ℤ, ◌<◌, ◌≤◌, ◌<ℤ◌, ◌≤ℤ◌, IfOk, IfSome};
 ghost use Rattle.std.specs.List.{Contains};
 ghost use Rattle.std.specs.Option.{option_map};
@@ -15,7 +15,7 @@ use std::alloc::{AllocError, Global};
 
 const DAY: u64 = 86_400;
 
-/// The onsets of one observance. Those of its rule are not listed: they are looked for where they are asked for.
+/// The onsets of one observance. Those of its rule are not listed: they are searched for near the instant of interest.
 #[derive(Drop)]
 pub(crate) struct Onsets {
     pub offset_from: i32,
@@ -24,13 +24,13 @@ pub(crate) struct Onsets {
     pub listed: Vec<Moment>,
     /// RRULE.
     pub rule: Option<Rule>,
-    /// No onset of the rule is later.
+    /// No onset of the rule is later than this.
     pub until: Moment,
-    /// How far back an onset of the rule is looked for at first.
+    /// How many seconds back the search for an onset of the rule goes at first.
     pub ago: u64,
 }
 
-// How many instants of a list are not after one.
+// How many instants of a list are not after a given one.
 fn passed(listed: &[Moment], moment: Moment) -> usize
     requires { IsInOrder listed.now }
     ensures { IsPassed listed.now moment result }
@@ -48,7 +48,7 @@ fn rule_of(observance: &Observance) -> Option<Rule>
     }
 }
 
-// How many numbers a part lists, one where it is absent.
+// How many numbers a part lists, or one if it is absent.
 fn size_of(part: Numbers) -> u64 {
     let mut size: u64 = 0;
     for n in 0..64_u8 {
@@ -59,7 +59,7 @@ fn size_of(part: Numbers) -> u64 {
     size.max(1)
 }
 
-// About how many seconds lie between the onsets of a rule: a period less what its times of a day make of it.
+// About how many seconds are between two onsets of a rule: a period, divided by the number of times of a day that the rule lists.
 fn spacing(observance: &Observance) -> u64 {
     let Some(parts) = &observance.rule else {
         return 1;
@@ -79,7 +79,7 @@ fn spacing(observance: &Observance) -> u64 {
     period / times.max(1)
 }
 
-// The last instant at which a rule may have an onset: a UTC UNTIL, where there is one.
+// The last instant at which a rule may have an onset: UNTIL, if it is there and in UTC.
 fn end_of(rule: &Option<Rule>) -> Moment
     ensures { IfSome rule.now (IsEnd result) }
 {
@@ -130,7 +130,7 @@ impl Onsets {
         self.listed[0]
     }
 
-    // The last that is listed and not after an instant.
+    // The last listed onset that is not after an instant.
     fn last_listed(&self, moment: Moment) -> Option<Moment>
         requires { IsSound self.now }
         ensures { IsLastOf (Contains self.now.listed.items) moment result }
@@ -143,7 +143,7 @@ impl Onsets {
         }
     }
 
-    // How many locals, of those before the rules end, the clock before the onsets shows up to an instant and up to a UTC UNTIL.
+    // How many locals before the end of the rules the clock before the onsets shows up to an instant and up to an UNTIL in UTC.
     fn shown_to(&self, moment: Moment) -> u64
         requires { IsSound self.now }
         ensures bound { result ≤ 309289708800 }
@@ -155,7 +155,7 @@ impl Onsets {
         shown_by(self.offset_from, moment.min(self.until))
     }
 
-    // The last that the rule keeps and that is not after an instant.
+    // The last onset of the rule that is not after an instant.
     fn last_by_rule(&self, moment: Moment) -> Option<Moment>
         requires { IsSound self.now }
         ensures { IsLastOf (IsKeptAt self.now) moment result }
@@ -182,7 +182,7 @@ impl Onsets {
         }
     }
 
-    // The same, asked of what is listed and of the rule.
+    // The same, from the listed onsets and those of the rule.
     fn last_of_both(&self, moment: Moment) -> Option<Moment>
         requires { IsSound self.now }
         ensures { IsLastOf (Has self.now) moment result }
@@ -194,7 +194,7 @@ impl Onsets {
         }
     }
 
-    // The first onset of the rule after an instant, if it is before the limit, and else the limit.
+    // The first onset of the rule after an instant, or the limit if there is none before it.
     fn next_by_rule(&self, after: Moment, limit: Moment) -> Moment
         requires sound { IsSound self.now }
         requires limit { after <ℤ limit }
@@ -213,7 +213,7 @@ impl Onsets {
         }
     }
 
-    // The first that is listed after an instant, if it is before the limit, and else the limit.
+    // The first listed onset after an instant, or the limit if there is none before it.
     fn next_listed(&self, after: Moment, limit: Moment) -> Moment
         requires sound { IsSound self.now }
         requires limit { after <ℤ limit }
@@ -228,7 +228,7 @@ impl Onsets {
         self.listed[passed].min(limit)
     }
 
-    /// The first onset after an instant, if it is before the limit, and else the limit.
+    /// The first onset after an instant, or the limit if there is none before it.
     pub fn next(&self, after: Moment, limit: Moment) -> Moment
         requires sound { IsSound self.now }
         requires limit { after <ℤ limit }

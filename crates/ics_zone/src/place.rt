@@ -1,4 +1,4 @@
-//! What a clock at a place shows.
+//! The clock at a place.
 ghost use Rattle.std.specs.Prelude.{◌≡◌, ◌+ℤ◌, ◌-ℤ◌, ℤ, pos, neg_ℤ};
 ghost use Rattle.jiff_core.specs.Calendar.{IsBetween};
 ghost use Rattle.ics_zone.specs.Places.{local_seconds, IsMoment, IsDay};
@@ -7,9 +7,9 @@ use ics_values::{Local, Moment};
 
 const DAY: i64 = 86_400;
 
-/// A place's clock: the offset from UTC at each instant, and the instant that each local means
-/// (RFC 5545, sections 3.3.5 and 3.6.5). Contracts see a local as one number, its seconds on a
-/// clock without zones. A caller stays in the years 0000 to 9950.
+/// The clock at a place: the offset from UTC at each instant, and the instant that each local means
+/// (RFC 5545, sections 3.3.5 and 3.6.5). Contracts see a local as one number: the seconds since
+/// 1970-01-01T00:00:00, each day having 86,400. Callers stay in the years 0000 to 9950.
 pub trait Place {
     ghost use Rattle.std.specs.Prelude.{◌≡◌, ◌-ℤ◌, ℤ};
     ghost use Rattle.ics_zone.specs.Places.{IsNear};
@@ -20,14 +20,14 @@ pub trait Place {
     /// The instant that a local means.
     ghost moment_at: { Self → ℤ → ℤ };
 
-    /// The last instant that may be asked for: the greatest there is.
+    /// The last instant for which the offset is known: the greatest there is.
     fn reached(&self) -> Moment
         ensures { result ≡ pos 9_223_372_036_854_775_807 }
     {
         Moment::MAX
     }
 
-    /// How many seconds the place's clock is ahead of UTC at an instant.
+    /// How many seconds the place's clock is ahead of UTC at an instant; negative if it is behind.
     fn offset(&self, moment: Moment) -> i32
         requires { IsMoment moment }
         ensures { result ≡ offset_at self.now moment };
@@ -37,7 +37,7 @@ pub trait Place {
         requires { IsDay local.day }
         ensures { result ≡ moment_at self.now (local_seconds local.day local.second) };
 
-    /// What the place's clock shows at an instant: the instant moved by its offset.
+    /// The local that the place's clock shows at an instant: the instant moved by its offset.
     fn local(&self, moment: Moment) -> Local
         requires { IsMoment moment }
         ensures { local_seconds result.day result.second ≡ moment +ℤ offset_at self.now moment }

@@ -16,21 +16,21 @@ use std::marker::Model;
 
 const DAY: i64 = 86_400;
 
-/// How far ahead of an instant the end of a span is looked for.
+/// How many seconds after an instant the end of a span is searched for.
 const AHEAD: i64 = 400 * DAY;
 
-/// How many spans a zone holds.
+/// The number of spans that a zone holds at most.
 const HELD: usize = 256;
 
-/// The zone of a VTIMEZONE (RFC 5545, section 3.6.5): its observances, with what is asked of each near an instant. There is no table of
-/// their onsets. Contracts see the observances alone.
+/// The zone of a VTIMEZONE (RFC 5545, section 3.6.5). It has no table of onsets: it searches the observances near each instant. Contracts see
+/// the observances alone.
 #[derive(Drop)]
 pub struct Zone {
     observances: Vec<Observance>,
     onsets: Vec<Onsets>,
-    /// Each offset that the zone has at some instant.
+    /// Every offset that the zone has at some instant.
     offsets: Vec<i32>,
-    /// Spans near what was asked, in order.
+    /// Spans about the instants that were given to `reach`, in order.
     held: Vec<Steady>,
 }
 
@@ -53,7 +53,7 @@ impl Zone {
     ghost use Rattle.ics_zone.specs.Moments.{shown, IsFirstTime, IsInGap};
     ghost use Rattle.ics_zone.specs.ZoneOnsets.{IsJump, IsSteady};
 
-    /// The zone of these observances. NoObservance where there is none, ZoneRule where one repeats more often than daily.
+    /// The zone of these observances. `NoObservance` if there is none, `ZoneRule` if one repeats more often than daily, else `Memory` if an allocation fails.
     pub fn read(alloc: Global, observances: Vec<Observance>) -> Result<Zone, ZoneFault>
         ensures observances { IfOk result (λ zone. zone ≡ observances.items) }
         ensures none { (result ≡ Err ZoneFault.NoObservance) ↔ (observances.items ≡ []) }
@@ -79,8 +79,8 @@ impl Zone {
         })
     }
 
-    /// Changes no answer: a zone may be asked at every instant, before this call and after it. It holds the span about this one, where
-    /// memory for it is granted, so that it is soon asked near it.
+    /// Makes answers near an instant faster and changes none: the zone answers at every instant, before this call and after it. It holds the
+    /// spans about the instant if there is room for them and no allocation fails. The result is always `Ok`.
     pub fn reach(&mut self, to: Moment) -> Result<(), AllocError>
         ensures same { self.new ≡ self.old }
         ensures always { result ≡ Ok tt }
@@ -91,7 +91,7 @@ impl Zone {
         Ok(())
     }
 
-    // Holds the span about an instant, if there is one and room and memory for it.
+    // Holds the span about an instant, if there is one, there is room for it, and no allocation fails.
     fn hold(&mut self, near: Moment)
         requires { IsWithin 300_000_000_000 near }
         ensures { self.new ≡ self.old }
@@ -107,7 +107,7 @@ impl Zone {
         }
     }
 
-    // A span that is held and goes from one instant to another, or further.
+    // A held span that reaches from one instant to another.
     fn held_over(&self, from: Moment, to: Moment) -> Option<Steady>
         ensures some { 0 < length (phases_of self.now) }
         ensures over { IfSome result (λ s. (s.from ≤ℤ from) × (to <ℤ s.next)) }
@@ -125,7 +125,7 @@ impl Zone {
         }
     }
 
-    // The span about an instant from one onset to the next. None where no onset is before it.
+    // The span about an instant, from one onset to the next. None if no onset is before the instant.
     fn steady_about(&self, near: Moment) -> Option<Steady>
         requires { IsWithin 300_000_000_000 near }
         ensures { IfSome result (λ s. IsSteady (zone_offset (phases_of self.now)) s.from s.next s.offset) }
@@ -151,7 +151,7 @@ impl Zone {
         }
     }
 
-    // The offset at an instant, by the observances. The place becomes that of the one in force.
+    // The offset at an instant, by the observances. The place becomes that of the observance in force.
     fn offset_of_latest(&self, moment: Moment, place: &mut usize) -> i32
         ensures means { IsOffset (phases_of self.now) moment result }
         ensures value { result ≡ zone_offset (phases_of self.now) moment }
@@ -165,7 +165,7 @@ impl Zone {
         }
     }
 
-    // Whether the zone has an offset at an instant. Where an observance was in force at another, its place is a hint.
+    // Whether the zone has an offset at an instant. The hint is the place of an observance that was in force at another instant.
     fn has_offset(&self, moment: Moment, offset: i32, hint: &mut usize) -> bool
         ensures { MatchBool result (zone_offset (phases_of self.now) moment ≡ offset) (zone_offset (phases_of self.now) moment ≢ offset) }
     {
@@ -178,7 +178,7 @@ impl Zone {
         self.offset_of_latest(moment, hint) == offset
     }
 
-    // The span from the greatest onset that is not after an instant on, up to that instant. None where no onset is before it.
+    // The span from the greatest onset that is not after an instant up to that instant. None if there is no such onset.
     fn steady_to(&self, to: Moment) -> Option<Steady>
         requires { IsWithin 300_000_000_000 to }
         ensures to { IfSome result (λ s. to <ℤ s.next) }
@@ -192,7 +192,7 @@ impl Zone {
         })
     }
 
-    // A span that goes from one instant to another, or further. None where an onset is after the one and not after the other.
+    // A span that reaches from one instant to another. None if an onset is after the first and not after the second.
     fn steady_over(&self, from: Moment, to: Moment) -> Option<Steady>
         requires { IsWithin 300_000_000_000 to }
         ensures over { IfSome result (λ s. (s.from ≤ℤ from) × (to <ℤ s.next)) }
@@ -233,7 +233,7 @@ impl Zone {
         }
     }
 
-    // The first instant at which the clock shows a local, given by its seconds. Only the local less an offset of the zone can be one.
+    // The first instant at which the clock shows a local, given by its seconds. Such an instant is the local less an offset of the zone.
     fn first_time(&self, seconds: i64) -> Option<Moment>
         requires { IsMoment seconds }
         ensures { MatchOption result
@@ -258,7 +258,7 @@ impl Zone {
         first
     }
 
-    // Whether the clock shows a later local than one, given by its seconds, at an instant.
+    // Whether the clock shows, at an instant, a later local than this one, given by its seconds.
     fn is_past(&self, seconds: i64, moment: Moment) -> bool
         requires { IsWithin 300_000_000_000 moment }
         ensures { MatchBool result
@@ -326,7 +326,7 @@ fn earlier(first: Option<Moment>, second: Moment) -> Moment
     }
 }
 
-// What is asked of each observance.
+// The onsets of each observance.
 fn onsets_of(alloc: Global, observances: &[Observance]) -> Result<Vec<Onsets>, AllocError>
     ensures { IfOk result (λ onsets. AreOnsetsOfAll (phases_of observances.now) onsets.items) }
 {
@@ -337,7 +337,7 @@ fn onsets_of(alloc: Global, observances: &[Observance]) -> Result<Vec<Onsets>, A
     Ok(all)
 }
 
-// The offsets before and after the onsets, each once, the greatest first.
+// The offsets before and after the onsets, each of them once, the greatest first.
 fn offsets_of(alloc: Global, observances: &[Observance]) -> Result<Vec<i32>, AllocError>
     ensures { IfOk result (λ offsets. HaveOffsets offsets.items (phases_of observances.now)) }
 {
@@ -352,7 +352,7 @@ fn offsets_of(alloc: Global, observances: &[Observance]) -> Result<Vec<i32>, All
     Ok(offsets)
 }
 
-// The seconds of a local since 1970-01-01T00:00:00, as a clock without zones counts them.
+// The seconds from 1970-01-01T00:00:00 to a local, each day having 86,400.
 fn seconds_of(local: Local) -> i64
     ensures { result ≡ local_seconds local.day local.second }
 {
@@ -391,8 +391,8 @@ impl Place for Zone {
 
     ghost moment_at = { λ zone local. zone_moment (phases_of zone) local };
 
-    /// TZOFFSETTO of the greatest onset that is not after the instant; before all onsets,
-    /// TZOFFSETFROM of the least.
+    /// The offset at an instant, in seconds: TZOFFSETTO of the greatest onset that is not after it or,
+    /// before all onsets, TZOFFSETFROM of the least (RFC 5545, section 3.6.5).
     fn offset(&self, moment: Moment) -> i32
         ensures means { IsOffset (phases_of self.now) moment result }
         ensures value { result ≡ zone_offset (phases_of self.now) moment }
@@ -400,8 +400,8 @@ impl Place for Zone {
         self.in_force(moment)
     }
 
-    /// The first instant at which the clock shows the local; where there is none, the local read with
-    /// the offset before the gap (RFC 5545, section 3.3.5).
+    /// The first instant at which the clock shows the local. If there is none, the local read with the
+    /// offset before the gap (RFC 5545, section 3.3.5).
     fn moment(&self, local: Local) -> Moment
         requires { IsDay local.day }
         ensures means { IsMomentOf (phases_of self.now) (local_seconds local.day local.second) result }

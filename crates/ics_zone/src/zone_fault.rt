@@ -1,10 +1,10 @@
-//! Why observances make no zone.
+//! Why observances do not make a zone.
 ghost use Rattle.std.specs.Prelude.{◌≡◌};
 ghost use Rattle.ics_zone.specs.ZoneFaults.{zone_fault_name};
 
 use thiserror::Error;
 
-/// Why observances make no zone.
+/// Why observances do not make a zone.
 #[derive(Clone, Copy, Debug, PartialEq, Eq, Error)]
 pub enum ZoneFault {
     #[error("no STANDARD or DAYLIGHT part")]
@@ -16,7 +16,7 @@ pub enum ZoneFault {
 }
 
 impl ZoneFault {
-    /// The fault's name.
+    /// The name of the fault, as it is printed.
     pub fn name(&self) -> &'static str
         ensures { result.now ≡ zone_fault_name self.now }
     {

@@ -4,7 +4,7 @@ ghost use Rattle.ics_zone.specs.Observances.{Phase, IsZone};
 ghost use Rattle.ics_zone.specs.Offsets.{IsOffset, zone_offset};
 ghost use Rattle.ics_zone.specs.Moments.{IsMomentOf, zone_moment};
 
-/// A zone with an observance has exactly one offset at each instant: the one that the search finds.
+/// A zone with at least one observance has exactly one offset at each instant: the one that the search finds.
 pub fn one_offset()
     ensures most { (zone : List Phase) (t a b : ℤ) → IsOffset zone t a → IsOffset zone t b → a ≡ b }
     ensures found { (zone : List Phase) (t : ℤ) → IsZone zone → zone ≢ [] → IsOffset zone t (zone_offset zone t) }
