@@ -10,6 +10,7 @@ pub mod RuleLemmas
 pub mod SaysLemmas
 pub mod ListedLemmas
 pub mod RuleSays
+pub mod AbsentLemmas
 pub mod RuleExamples
 pub mod StampLemmas
 pub mod LocalLemmas

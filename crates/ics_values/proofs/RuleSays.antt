@@ -47,7 +47,7 @@ value_passes name passes h (p ∷ ps) a =
     by_name (Some m) f k = by_test m (row m == row name) refl f k
 
 -- the part of a name is there, with its value
-value_there : (name : PartName) (ps : List Part) → is_some (value_of name ps) ≡ has_part name ps
+pub value_there : (name : PartName) (ps : List Part) → is_some (value_of name ps) ≡ has_part name ps
 value_there name [] = refl
 value_there name (p ∷ ps) = by_test (is_name name p.name) (value_there name ps)
   where
@@ -83,7 +83,7 @@ passes_hour (part.List ByHour) e v f = f
 passes_hour (part.List l) e v f = absurd (false≢true e)
 passes_hour _ e v f = absurd (false≢true e)
 
-passes_day : (m : PartName) → (row m == row (part.List ByDay)) ≡ true → (v : List ℕ) → fits m v ≡ true → list_all (fits_list ByDay) (pieces 44 v) ≡ true
+pub passes_day : (m : PartName) → (row m == row (part.List ByDay)) ≡ true → (v : List ℕ) → fits m v ≡ true → list_all (fits_list ByDay) (pieces 44 v) ≡ true
 passes_day (part.List ByDay) e v f = f
 passes_day (part.List l) e v f = absurd (false≢true e)
 passes_day _ e v f = absurd (false≢true e)
@@ -114,7 +114,7 @@ passes_set_pos (part.List l) e v f = absurd (false≢true e)
 passes_set_pos _ e v f = absurd (false≢true e)
 
 -- the items of a list are in order
-items_fit : (list : ListName) → ((m : PartName) → (row m == row (part.List list)) ≡ true → (v : List ℕ) → fits m v ≡ true → list_all (fits_list list) (pieces 44 v) ≡ true)
+pub items_fit : (list : ListName) → ((m : PartName) → (row m == row (part.List list)) ≡ true → (v : List ℕ) → fits m v ≡ true → list_all (fits_list list) (pieces 44 v) ≡ true)
     → (ps : List Part) → list_all is_part ps ≡ true → list_all (fits_list list) (items_of list ps) ≡ true
 items_fit list h ps a = by_value (value_of (part.List list) ps) (value_passes (part.List list) (λ v. list_all (fits_list list) (pieces 44 v)) h ps a)
   where
@@ -153,14 +153,14 @@ count_is : (o : Option (List ℕ)) → option_map_or (λ v. Some (number_of v)) 
 count_is None = refl
 count_is (Some v) = refl
 
-has_none : (n : ℕ) → has 0 n ≡ false
+pub has_none : (n : ℕ) → has 0 n ≡ false
 has_none n = ap (λ x. x == 1) (bit_at-zero n)
 
 none_here : (side : Side) (n : ℕ) → has_place side n no_places ≡ false
 none_here Front n = has_none n
 none_here Back n = has_none n
 
-none_word : (k : ℕ) → get_or none_wide k 0 ≡ 0
+pub none_word : (k : ℕ) → get_or none_wide k 0 ≡ 0
 none_word zero = refl
 none_word (suc zero) = refl
 none_word (suc (suc zero)) = refl

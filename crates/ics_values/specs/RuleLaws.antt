@@ -7,8 +7,8 @@ use Rattle.jiff_core.specs.declared.civil.weekday.Weekday.TheVariants.{Monday}
 use Rattle.jiff_core.specs.Weekday.{monday_zero}
 use Rattle.ics_values.specs.Digits.{number_of}
 use Rattle.ics_values.specs.Texts.{begins, is_minus, unsigned}
-use Rattle.ics_values.specs.Sets.{has, has_wide}
-use Rattle.ics_values.specs.Places.{numbers_of}
+use Rattle.ics_values.specs.Sets.{is_none, has, has_wide}
+use Rattle.ics_values.specs.Places.{lists_none, lists_none_wide, lists_no_weekday, numbers_of}
 use Rattle.ics_values.specs.RuleParts.{RuleParts}
 use Rattle.ics_values.specs.declared.places.Side.{Side}
 use Rattle.ics_values.specs.declared.places.Side.TheVariants.{Front, Back}
@@ -74,3 +74,15 @@ pub record Says (ps : List Part) (rule : RuleParts) : Type 0 where
   pub positions : (side : Side) (n : ℕ) → has_wide_place side n rule.positions ≡ list_any (is_place side n) (items_of BySetPos ps)
   pub weekdays : (day : Weekday) → has rule.weekdays.plain (monday_zero day) ≡ list_any (is_weekday day) (items_of ByDay ps)
   pub numbered : (day : Weekday) (side : Side) (n : ℕ) → has_place side n (numbers_of rule.weekdays (monday_zero day)) ≡ list_any (is_numbered day side n) (items_of ByDay ps)
+
+-- the rule has no number in the list
+abbrev pub lists_nothing : ListName → RuleParts → Bool
+lists_nothing BySecond rule = is_none rule.seconds
+lists_nothing ByMinute rule = is_none rule.minutes
+lists_nothing ByHour rule = is_none rule.hours
+lists_nothing ByDay rule = lists_no_weekday rule.weekdays
+lists_nothing ByMonthDay rule = lists_none rule.month_days
+lists_nothing ByYearDay rule = lists_none_wide rule.year_days
+lists_nothing ByWeekNo rule = lists_none rule.weeks
+lists_nothing ByMonth rule = is_none rule.months
+lists_nothing BySetPos rule = lists_none_wide rule.positions

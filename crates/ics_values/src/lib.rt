@@ -36,7 +36,7 @@ pub use offset::{BadOffset, read_offset};
 pub use parts::Parts;
 pub use period::{Period, PeriodEnd, PeriodFault, read_period};
 pub use places::{Places, Weekdays, WidePlaces};
-pub use rule_law::rule_says;
+pub use rule_law::{absent_is_empty, rule_says};
 pub use rule_text::{RuleFault, read_rule};
 pub use sets::{Numbers, WideNumbers};
 pub use stamp::{Stamp, StampFault, read_stamp};
