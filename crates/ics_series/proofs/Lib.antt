@@ -65,6 +65,7 @@ pub mod TokenLemmas
 pub mod TournamentLemmas
 pub mod UnionLemmas
 pub mod VersionLemmas
+pub mod VersionLaws
 pub mod WholeLemmas
 pub mod WindowLemmas
 pub mod ZoneLemmas

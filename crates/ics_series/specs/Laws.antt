@@ -8,7 +8,7 @@ use Rattle.ics_calendar.specs.declared.time.Rdate.TheVariants.{At}
 use Rattle.ics_calendar.specs.declared.time.Time.{Time}
 use Rattle.ics_series.specs.declared.window.Window.{Window}
 use Rattle.ics_series.specs.declared.zones.FileZones.{FileZones}
-use Rattle.ics_series.specs.Chosen.{IsMaster}
+use Rattle.ics_series.specs.Chosen.{subject_of, IsChosen, IsMaster}
 use Rattle.ics_series.specs.Clocks.{Clock, Clocks, instant}
 use Rattle.ics_series.specs.Entry.{Entry, Rank, entry_cmp, rank_cmp, rank_of}
 use Rattle.ics_series.specs.Exclusions.{excludes, is_excluded}
@@ -19,7 +19,7 @@ use Rattle.ics_series.specs.Listing.{IsListing}
 use Rattle.ics_series.specs.Meets.{IsListed, IsToCome}
 use Rattle.ics_series.specs.Merged.{merged, IsFromFirst}
 use Rattle.ics_series.specs.Occurs.{IsInstance, Occurs}
-use Rattle.ics_series.specs.Placed.{Placed}
+use Rattle.ics_series.specs.Placed.{Placed, IsPlaced}
 use Rattle.ics_series.specs.Rising.{Rises}
 use Rattle.ics_series.specs.Sources.{master_at, master_of, recurring, AreSources, Source}
 use Rattle.ics_series.specs.Starts.{time_of, GivesStart}
@@ -51,6 +51,17 @@ ListingBehind =
 abbrev pub ListingMerged : Type 0
 ListingMerged =
     (lists : List (List Entry)) → All (Rises entry_cmp) lists → IsListing entry_cmp (λ o. IsFromFirst entry_cmp o lists) (merged entry_cmp lists)
+
+-- the one version that counts of those that have the UID of an event and override the same instance
+pub record HasVersion (files : List FileSaid) (display : Clock) (p : Placed) : Type 0 where
+  pub version : Placed
+  pub counts : IsChosen files display version
+  pub same : subject_of files display version ≡ subject_of files display p
+  pub one : (q : Placed) → IsChosen files display q → subject_of files display q ≡ subject_of files display p → q ≡ version
+
+-- of the versions of each event of a folder exactly one counts
+abbrev pub OneVersion : Type 0
+OneVersion = (files : List FileSaid) (display : Clock) (p : Placed) → IsPlaced files p → HasVersion files display p
 
 -- no two occurrences of a folder have one UID and one recurrence, and so none have one key
 abbrev pub OneRecurrence : Type 0

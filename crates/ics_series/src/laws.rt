@@ -1,7 +1,7 @@
 //! Laws of the definitions, each the contract of a function that does nothing.
 ghost use Rattle.std.specs.Prelude.{◌≡◌};
 ghost use Rattle.ics_series.specs.Entry.{key_rank, rank_cmp};
-ghost use Rattle.ics_series.specs.Laws.{EachStart, ListingAfter, ListingBehind, ListingMerged, MostInDays, MostOfMasters, NoneExcluded, OneListing, OneRecurrence, OneStart, RawCounted};
+ghost use Rattle.ics_series.specs.Laws.{EachStart, ListingAfter, ListingBehind, ListingMerged, MostInDays, MostOfMasters, NoneExcluded, OneListing, OneRecurrence, OneStart, OneVersion, RawCounted};
 ghost use Rattle.ics_series.specs.Tokens.{OneSpelling};
 ghost use Rattle.ics_series.specs.WindowLaws.{ListingWithin, ListingsJoin, ListsStarts, ListsUnderWay};
 ghost use Rattle.ics_series.specs.declared.key.Key.{Key};
@@ -27,6 +27,12 @@ pub fn listing_behind()
 /// the first of them counts.
 pub fn listing_merged()
     ensures { ListingMerged }
+{}
+
+/// Of all versions of an event in a folder, that is the events of one UID without a RECURRENCE-ID, or
+/// with one that names the same instant, exactly one counts.
+pub fn one_version()
+    ensures { OneVersion }
 {}
 
 /// No two occurrences of a folder have one UID and one recurrence.

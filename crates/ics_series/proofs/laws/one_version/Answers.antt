@@ -1,0 +1,5 @@
+use Rattle.ics_series.proofs.VersionLaws.{one-version}
+use Rattle.ics_series.proofs.laws.one_version.Goals as goal
+
+pub returns : goal.returns
+returns c = one-version
