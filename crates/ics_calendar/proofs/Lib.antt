@@ -37,3 +37,4 @@ mod DeferredRows
 mod DateRows
 mod InstantRows
 mod Examples
+pub mod LookBackLemmas

@@ -1,7 +1,7 @@
 -- WHAT A FILE IS: its time zones and its events, or its first fault.
-use Rattle.std.specs.Prelude.{◌≡◌, ◌⊎◌, ℕ, Bool, false, IsTrue, List, [], filter, map, codes, unwrap_or, Option, Some, None, option_map, Result, Ok, Err, ◌&&◌}
-use Rattle.std.specs.Prelude.{if◌then◌else◌}
-use Rattle.ics_text.specs.Unfolded.{begins_with_fold}
+use Rattle.std.specs.Prelude.{◌≡◌, ◌⊎◌, ℕ, Bool, false, IsTrue, List, [], ◌++◌, filter, map, codes, unwrap_or, Option, Some, None, option_map}
+use Rattle.std.specs.Prelude.{Result, Ok, Err, ◌&&◌, if◌then◌else◌}
+use Rattle.ics_text.specs.Unfolded.{Line, begins_with_fold, unfolded}
 use Rattle.ics_values.specs.Integers.{integer_of}
 use Rattle.ics_calendar.specs.declared.fault.FaultKind.TheVariants.{BadFold}
 use Rattle.ics_calendar.specs.declared.deferred_check.ZoneName.{ZoneName}
@@ -69,3 +69,9 @@ abbrev pub file_of : List ℕ → Result FileSaid Fault
 file_of file =
     if begins_with_fold file then Err bad_fold
     else decide (first_fault (placed file)) (later_fault (placed file)) (said_of (placed file))
+
+-- A fault of the first round on a line looks back only: a longer file that begins with the same lines has it as its first.
+abbrev pub FaultsLookBack : Type 0
+FaultsLookBack =
+    (file longer : List ℕ) (more : List Line) (fault : Fault) → unfolded longer ≡ unfolded file ++ more → begins_with_fold longer ≡ false
+    → IsFirst stands [] (placed file) fault → IsFile longer (Err fault)
