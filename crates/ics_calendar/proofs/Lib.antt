@@ -38,3 +38,4 @@ mod DateRows
 mod InstantRows
 mod Examples
 pub mod LookBackLemmas
+pub mod PeriodLemmas

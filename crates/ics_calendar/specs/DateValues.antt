@@ -1,9 +1,13 @@
 -- What the values of an RDATE or an EXDATE say (RFC 5545, sections 3.8.5.1 and 3.8.5.2).
-use Rattle.std.specs.Prelude.{ℕ, Bool, true, false, ◌||◌, not, ◌==◌, List, map, Option, Some, None, Result, Ok, Err, if◌then◌else◌}
+use Rattle.std.specs.Prelude.{◌≡◌, ℕ, Bool, true, false, ◌||◌, not, ◌==◌, List, map, Option, Some, None, Result, Ok, Err, if◌then◌else◌}
 use Rattle.std.specs.List.{list_any}
+use Rattle.ics_values.specs.Periods as period
 use Rattle.ics_values.specs.Periods.{first_half, second_half, lasts}
 use Rattle.ics_values.specs.RuleTexts.{pieces}
 use Rattle.ics_values.specs.Stamps.{is_date_time_form, stamp_of}
+use Rattle.ics_values.specs.declared.period.Period.{Period}
+use Rattle.ics_values.specs.declared.period.PeriodEnd.{PeriodEnd}
+use Rattle.ics_values.specs.declared.period.PeriodEnd.TheVariants as end
 use Rattle.ics_values.specs.declared.stamp.Stamp.{Stamp}
 use Rattle.ics_values.specs.declared.stamp.Stamp.TheVariants.{Floating}
 use Rattle.ics_values.specs.declared.stamp.StampFault.{StampFault}
@@ -72,6 +76,20 @@ listed_said (At (Ok stamp)) = Some (listed.At stamp)
 listed_said (Between (Ok start) (Ok end)) = Some (listed.Between start end)
 listed_said (Lasting (Ok start) (Ok duration)) = Some (listed.Lasting start duration)
 listed_said _ = None
+
+-- a PERIOD as a value of an RDATE
+abbrev ended_by : Stamp → PeriodEnd → ListedDate
+ended_by start (end.At stamp) = listed.Between start stamp
+ended_by start (end.Lasting duration) = listed.Lasting start duration
+
+abbrev pub listed_by : Period → ListedDate
+listed_by p = ended_by p.start p.end
+
+-- The reader of periods, and the reader of an RDATE's values: if both accept a text, they read the same.
+abbrev pub OnePeriod : Type 0
+OnePeriod =
+    (zoned : Bool) (text : List ℕ) (p : Period) (value : ListedDate)
+    → period.period_of zoned text ≡ Ok p → listed_said (rdate_of zoned text) ≡ Some value → value ≡ listed_by p
 
 -- a local stamp beside a TZID
 abbrev pub has_zoned : ListedDate → Bool

@@ -1,5 +1,6 @@
 //! Laws of the definitions that the contract of `read_file` cites.
 ghost use Rattle.std.specs.Prelude.{◌≡◌, List, ℕ, Result};
+ghost use Rattle.ics_calendar.specs.DateValues.{OnePeriod};
 ghost use Rattle.ics_calendar.specs.Event.{FileSaid};
 ghost use Rattle.ics_calendar.specs.FirstFault.{Fault};
 ghost use Rattle.ics_calendar.specs.Files.{FaultsLookBack, IsFile, file_of};
@@ -14,4 +15,10 @@ pub fn files_are_one_thing()
 /// has it as its first fault.
 pub fn faults_look_back()
     ensures { FaultsLookBack }
+{}
+
+/// If `ics_values::read_period` and a file accept a text as the value of an RDATE, they read the same
+/// PERIOD.
+pub fn one_period()
+    ensures { OnePeriod }
 {}

@@ -33,7 +33,7 @@ mod zone_table;
 pub use event::Event;
 pub use events::FileEvents;
 pub use fault::{FaultKind, FileFault};
-pub use laws::{faults_look_back, files_are_one_thing};
+pub use laws::{faults_look_back, files_are_one_thing, one_period};
 pub use read::read_file;
 pub use text::Text;
 pub use time::{Length, Rdate, Time};
