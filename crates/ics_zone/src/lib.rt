@@ -17,7 +17,7 @@ mod zone_laws;
 
 pub use display::Display;
 pub use display_fault::DisplayFault;
-pub use laws::one_display;
+pub use laws::{compatible_moment, one_display};
 pub use observance::Observance;
 pub use place::Place;
 pub use zone::Zone;
