@@ -66,6 +66,7 @@ pub mod TournamentLemmas
 pub mod UnionLemmas
 pub mod VersionLemmas
 pub mod VersionLaws
+pub mod MoveLemmas
 pub mod WholeLemmas
 pub mod WindowLemmas
 pub mod ZoneLemmas

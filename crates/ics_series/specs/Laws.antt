@@ -1,5 +1,5 @@
 -- Laws of the occurrences of events and of folders, and of listings.
-use Rattle.std.specs.Prelude.{◌≡◌, ◌≤◌, ℤ, true, false, List, [], ◌∷◌, ◌++◌, Option, Some, None, All, Contains, filter, length, map}
+use Rattle.std.specs.Prelude.{◌≡◌, ◌≢◌, ◌⊎◌, ◌↔◌, ◌≤◌, ℕ, ℤ, true, false, List, [], ◌∷◌, ◌++◌, Option, Some, None, All, Contains, filter, length, map, slice_get}
 use Rattle.std.specs.Ordering.{is_lt}
 use Rattle.ics_calendar.specs.Event.{FileSaid, IsRdate, IsTime}
 use Rattle.ics_calendar.specs.declared.event.Event.{Event}
@@ -62,6 +62,35 @@ pub record HasVersion (files : List FileSaid) (display : Clock) (p : Placed) : T
 -- of the versions of each event of a folder exactly one counts
 abbrev pub OneVersion : Type 0
 OneVersion = (files : List FileSaid) (display : Clock) (p : Placed) → IsPlaced files p → HasVersion files display p
+
+-- no event of the one has the UID of one of the others
+abbrev pub AreApart : List FileSaid → List FileSaid → Type 0
+AreApart files more = (p q : Placed) → IsPlaced files p → IsPlaced more q → p.event.uid ≢ q.event.uid
+
+-- files that share no UID with those of a folder add exactly their own occurrences to each window
+abbrev pub AddedFiles : Type 0
+AddedFiles =
+    (files more : List FileSaid) (display : Clock) (w : Window) → AreApart files more
+    → (o : Entry) → IsListed (files ++ more) display w o ↔ (IsListed files display w o ⊎ IsListed more display w o)
+
+-- the same files in another order: the numbers of the one lead to those of the other and back
+pub record AreReordered (files others : List FileSaid) : Type 0 where
+  pub there : ℕ → ℕ
+  pub back : ℕ → ℕ
+  pub moved : (k : ℕ) → slice_get others (there k) ≡ slice_get files k
+  pub from : (k : ℕ) → there (back k) ≡ k
+  pub to : (k : ℕ) → back (there k) ≡ k
+
+-- versions of one event with equal SEQUENCE stand in one file
+abbrev pub HaveApartVersions : List FileSaid → Clock → Type 0
+HaveApartVersions files display =
+    (p q : Placed) → IsPlaced files p → IsPlaced files q → subject_of files display p ≡ subject_of files display q → p.event.sequence ≡ q.event.sequence → p.file ≡ q.file
+
+-- the order of files matters only between versions of equal SEQUENCE
+abbrev pub OrderOfFiles : Type 0
+OrderOfFiles =
+    (files others : List FileSaid) (display : Clock) (w : Window) → AreReordered files others → HaveApartVersions files display
+    → (o : Entry) → IsListed files display w o ↔ IsListed others display w o
 
 -- no two occurrences of a folder have one UID and one recurrence, and so none have one key
 abbrev pub OneRecurrence : Type 0

@@ -1,7 +1,7 @@
 //! Laws of the definitions, each the contract of a function that does nothing.
 ghost use Rattle.std.specs.Prelude.{◌≡◌};
 ghost use Rattle.ics_series.specs.Entry.{key_rank, rank_cmp};
-ghost use Rattle.ics_series.specs.Laws.{EachStart, ListingAfter, ListingBehind, ListingMerged, MostInDays, MostOfMasters, NoneExcluded, OneListing, OneRecurrence, OneStart, OneVersion, RawCounted};
+ghost use Rattle.ics_series.specs.Laws.{AddedFiles, EachStart, ListingAfter, ListingBehind, ListingMerged, MostInDays, MostOfMasters, NoneExcluded, OneListing, OneRecurrence, OneStart, OneVersion, OrderOfFiles, RawCounted};
 ghost use Rattle.ics_series.specs.Tokens.{OneSpelling};
 ghost use Rattle.ics_series.specs.WindowLaws.{ListingWithin, ListingsJoin, ListsStarts, ListsUnderWay};
 ghost use Rattle.ics_series.specs.declared.key.Key.{Key};
@@ -27,6 +27,17 @@ pub fn listing_behind()
 /// the first of them counts.
 pub fn listing_merged()
     ensures { ListingMerged }
+{}
+
+/// Files that share no UID with those of a folder add exactly their own occurrences to each window.
+pub fn added_files()
+    ensures { AddedFiles }
+{}
+
+/// The order of files matters only between versions of one event that have equal SEQUENCE: if all such
+/// versions stand in one file, the files of a folder list the same in any order.
+pub fn order_of_files()
+    ensures { OrderOfFiles }
 {}
 
 /// Of all versions of an event in a folder, that is the events of one UID without a RECURRENCE-ID, or
