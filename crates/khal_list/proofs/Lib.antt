@@ -15,6 +15,7 @@ pub mod RequestLemmas
 pub mod RunLemmas
 pub mod TakenLemmas
 pub mod TextExamples
+pub mod TokenPages
 pub mod WindowLemmas
 pub mod WindowTextLemmas
 pub mod Written

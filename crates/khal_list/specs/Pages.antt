@@ -1,18 +1,43 @@
 -- Listings that go on from a key, and the pages that limits cut.
-use Rattle.std.specs.Prelude.{◌≡◌, ◌+◌, ◌≤◌, ⊤, ℕ, List, [], ◌∷◌, ◌++◌, Option, Some, None, length, if◌then◌else◌}
+use Rattle.std.specs.Prelude.{◌≡◌, ◌+◌, ◌≤◌, ⊤, ℕ, ℤ, Ok, List, [], ◌∷◌, ◌++◌, Option, Some, None, length, if◌then◌else◌}
 use Rattle.std.specs.Option.{option_map}
+use Rattle.clap.specs.Words.{Text}
 use Rattle.ics_calendar.specs.Event.{FileSaid}
 use Rattle.ics_series.specs.After.{after_key}
 use Rattle.ics_series.specs.Entry.{Entry, Rank, key_rank, rank_of}
+use Rattle.ics_series.specs.Tokens.{spelling, IsKey}
 use Rattle.khal_list.specs.declared.request.Request.{Request}
+use Rattle.khal_list.specs.Entries.{entries_of}
 use Rattle.khal_list.specs.Headline.{IsListingOf}
 use Rattle.khal_list.specs.Listed.{asked_after, first_of, is_cut, key_on}
+use Rattle.khal_list.specs.RequestOf.{after_text, RequestOf}
+use Rattle.khal_list.specs.Text.{Style, day_under, heading_text, text, text_after}
 
 -- what comes after the key of an entry of the listing are those that stand behind it
 abbrev pub GoesOn : Type 0
 GoesOn =
     (files : List FileSaid) (request : Request) (front : List Entry) (o : Entry) (behind : List Entry) → IsListingOf files request (front ++ o ∷ behind)
     → option_map key_rank request.after ≡ Some (rank_of o) → asked_after request (front ++ o ∷ behind) ≡ behind
+
+-- words whose `--after` has the token of an entry of the listing ask for exactly the entries that stand behind it
+abbrev pub TokenGoesOn : Type 0
+TokenGoesOn =
+    (words : List Text) (now : ℤ) (files : List FileSaid) (request : Request) (front : List Entry) (o : Entry) (behind : List Entry)
+    → RequestOf words now (Ok request) → after_text (entries_of words) ≡ Some (spelling (rank_of o)) → IsKey (rank_of o)
+    → IsListingOf files request (front ++ o ∷ behind) → asked_after request (front ++ o ∷ behind) ≡ behind
+
+-- the day under which the last of some entries stands, and the day before them where there are none
+abbrev pub last_day : Style → Option ℤ → List Entry → Option ℤ
+last_day style before [] = before
+last_day style before (e ∷ es) = last_day style (Some (day_under style e)) es
+
+-- the text of a list is that of its front, and then that of the rest after the last day of the front
+abbrev pub TextSplits : Type 0
+TextSplits = (style : Style) (front rest : List Entry) → text style (front ++ rest) ≡ text style front ++ text_after style (last_day style None front) rest
+
+-- where the rest is listed alone, it begins with the heading of its first day, and its lines are the same
+abbrev pub TextGoesOn : Type 0
+TextGoesOn = (style : Style) (e : Entry) (es : List Entry) → text style (e ∷ es) ≡ heading_text style (day_under style e) ++ text_after style (Some (day_under style e)) (e ∷ es)
 
 -- what listings with these limits list together, each from the key that the one before names, up to one that names none
 abbrev pub joined : List ℕ → Option Rank → List Entry → List Entry

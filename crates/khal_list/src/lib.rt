@@ -47,7 +47,7 @@ pub use memory_source::{MemoryFile, MemorySource};
 pub use printing::print;
 pub use request::Request;
 pub use request_fault::RequestFault;
-pub use resuming::{goes_on, pages};
+pub use resuming::{goes_on, pages, text_goes_on, token_goes_on};
 pub use running::run;
 pub use sink::Sink;
 pub use source::{MOST_BYTES, Source};

@@ -1,9 +1,26 @@
 //! Laws of listings that go on from a key.
-ghost use Rattle.khal_list.specs.Pages.{GoesOn, Pages};
+ghost use Rattle.khal_list.specs.Pages.{GoesOn, Pages, TextGoesOn, TextSplits, TokenGoesOn};
+
+use ics_series::one_spelling;
 
 /// After the key of an entry exactly the entries that follow it in the listing are listed.
 pub fn goes_on()
     ensures { GoesOn }
+{}
+
+/// If the words name `--after` with the token of an entry of the listing, they ask for exactly the
+/// entries that follow it.
+pub fn token_goes_on()
+    ensures { TokenGoesOn }
+{
+    one_spelling();
+}
+
+/// The text of a listing is that of its first entries, and then that of the others after the last day
+/// of the first. If the others are listed alone, their text is one heading and the same lines.
+pub fn text_goes_on()
+    ensures splits { TextSplits }
+    ensures alone { TextGoesOn }
 {}
 
 /// Pages with any limits, each from the key that the one before names, join to the whole listing.
