@@ -11,7 +11,7 @@ use Rattle.ics_series.specs.Placed.{Placed, IsPlaced, clocks_at, placed_cmp}
 abbrev pub overridden : Clocks → Event → Option ℤ
 overridden clocks event = option_map (instant clocks) event.recurrence
 
--- what the versions of an event share: its UID, and the instance that they override
+-- what the versions of an event share: its UID, and the instant of the instance that they override
 pub record SubjectSeen : Type 0 where
   pub uid : List ℕ
   pub recurrence : Option ℤ
@@ -27,17 +27,17 @@ pub record IsChosen (files : List FileSaid) (display : Clock) (p : Placed) : Typ
   pub placed : IsPlaced files p
   pub greatest : (q : Placed) → IsPlaced files q → subject_of files display q ≡ subject_of files display p → placed_cmp p q ≢ Less
 
--- the master of its UID: of the events without a RECURRENCE-ID the one that counts
+-- the master of its UID: the one that counts of the events without a RECURRENCE-ID
 pub record IsMaster (files : List FileSaid) (display : Clock) (p : Placed) : Type 0 where
   pub chosen : IsChosen files display p
   pub single : p.event.recurrence ≡ None
 
--- the override of the instance of its UID at an instant: of the events with that RECURRENCE-ID the one that counts
+-- the override of the instance of its UID at an instant: the one that counts of the events with that RECURRENCE-ID
 pub record IsOverride (files : List FileSaid) (display : Clock) (p : Placed) (recurrence : ℤ) : Type 0 where
   pub chosen : IsChosen files display p
   pub of : overridden (clocks_at files display p.file) p.event ≡ Some recurrence
 
--- an override stands for the instance of this UID at this instant
+-- an override replaces the instance of this UID at this instant
 pub record IsOverridden (files : List FileSaid) (display : Clock) (uid : List ℕ) (recurrence : ℤ) : Type 0 where
   pub by : Placed
   pub is : IsOverride files display by recurrence

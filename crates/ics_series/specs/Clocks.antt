@@ -1,5 +1,5 @@
--- Instants and locals of times (RFC 5545, sections 3.3.4, 3.3.5 and 3.6.5). A local counts as its seconds on a clock
--- without zones.
+-- Instants and locals of times (RFC 5545, sections 3.3.4, 3.3.5 and 3.6.5). A local is counted in seconds from
+-- 1970-01-01T00:00:00, each day having 86,400.
 use Rattle.std.specs.Prelude.{ℕ, ℤ, pos, ◌+ℤ◌, List, map, slice_index_or, Option, Some, None}
 use Rattle.ics_values.specs.declared.local.Local.{Local}
 use Rattle.ics_values.specs.declared.stamp.Stamp.{Stamp}
@@ -13,7 +13,7 @@ use Rattle.ics_zone.specs.Places.{local_seconds}
 use Rattle.ics_zone.specs.Zones.{zone_of}
 use Rattle.ics_zone.specs.declared.display.Display.{Display}
 
--- what a zone tells: the instant of each local, and the offset at each instant
+-- what a zone gives: the instant of each local, and the offset at each instant
 pub record Clock : Type 0 where
   pub moment : ℤ → ℤ
   pub offset : ℤ → ℤ
@@ -46,14 +46,14 @@ midnight day = local_seconds day 0
 abbrev pub seconds_of : Local → ℤ
 seconds_of local = local_seconds local.day local.second
 
--- the local that a stamp writes: a date stands for its midnight
+-- the local of a stamp; that of a date is its midnight
 abbrev pub written : Stamp → ℤ
 written (Date day) = midnight day
 written (Floating local) = seconds_of local
 written (Utc local) = seconds_of local
 written (Zoned local) = seconds_of local
 
--- the day that a stamp writes
+-- the day of a stamp
 abbrev pub day_of : Stamp → ℤ
 day_of (Date day) = day
 day_of (Floating local) = local.day
@@ -65,8 +65,8 @@ abbrev pub clock_at : List Clock → Option ℕ → Clock
 clock_at zones (Some index) = slice_index_or zones index utc_clock
 clock_at zones None = utc_clock
 
--- The clock by which a stamp is read: that of the display zone for a date and a floating stamp, UTC's for one in UTC, and for
--- a zoned one that of its own zone, which is one of the file's.
+-- The clock by which a stamp is read: that of the display zone for a date and a floating stamp, that of UTC for a stamp in UTC,
+-- and for a zoned stamp that of its own zone, which is one of the file's.
 abbrev pub clock_by : Clocks → Option ℕ → Stamp → Clock
 clock_by clocks index (Date day) = clocks.display
 clock_by clocks index (Floating local) = clocks.display
@@ -77,6 +77,6 @@ clock_by clocks index (Zoned local) = clock_at clocks.zones index
 abbrev pub clock_of : Clocks → Time → Clock
 clock_of clocks time = clock_by clocks time.zone time.stamp
 
--- the instant that a time stands for
+-- the instant of a time
 abbrev pub instant : Clocks → Time → ℤ
 instant clocks time = (clock_of clocks time).moment (written time.stamp)

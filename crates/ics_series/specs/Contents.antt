@@ -1,4 +1,4 @@
--- What a folder holds.
+-- The contents of a folder.
 use Rattle.std.specs.Prelude.{List}
 use Rattle.ics_calendar.specs.declared.events.FileEvents.{FileEvents}
 use Rattle.ics_zone.specs.declared.display.Display.{Display}

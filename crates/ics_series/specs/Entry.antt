@@ -7,14 +7,14 @@ use Rattle.ics_calendar.specs.declared.event.Event.{Event}
 use Rattle.ics_series.specs.declared.key.Key.{Key}
 use Rattle.ics_series.specs.declared.occurrence.Occurrence.{Occurrence}
 
--- an occurrence, with its event's value
+-- an occurrence, with the value of its event
 pub record Entry : Type 0 where
   pub start : ℤ
   pub finish : ℤ
   pub recurrence : ℤ
   pub event : Event
 
--- what orders occurrences
+-- the key that orders occurrences
 pub record Rank : Type 0 where
   pub start : ℤ
   pub uid : List ℕ
@@ -36,7 +36,7 @@ rank_cmp = then_cmp (on (λ r. r.start) int_cmp) (then_cmp (on (λ r. r.uid) (sl
 abbrev pub entry_cmp : Entry → Entry → Ordering
 entry_cmp = on rank_of rank_cmp
 
--- a feed with old still to come may give this, and then has new to come
+-- a feed with the list old still to come gives its first entry, or None if there is none, and then has the list new to come
 abbrev pub Gives : List Entry → Option Occurrence → List Entry → Type 0
 Gives old None new = (old ≡ []) × (new ≡ [])
 Gives old (Some o) new = old ≡ entry_of o ∷ new

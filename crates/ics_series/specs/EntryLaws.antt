@@ -1,4 +1,4 @@
--- The order of entries is total, and that a list rises by it has one proof at most.
+-- The order of entries is total. That a list rises by it has at most one proof.
 use Rattle.std.specs.Prelude.{List, [], ◌∷◌}
 use Rattle.std.specs.Cmp.{IsTotalOrder}
 use Rattle.std.specs.Coded.{×_prop, Unit-prop}

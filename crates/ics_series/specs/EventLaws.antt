@@ -1,4 +1,4 @@
--- What holds of an event of a file has one proof at most.
+-- What is promised of an event of a file has at most one proof.
 use Rattle.std.proofs.Props.{props}
 use Rattle.std.specs.Coded.{×_prop, Unit-prop}
 use Rattle.std.specs.Prelude.{ℕ, List}

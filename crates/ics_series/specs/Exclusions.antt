@@ -1,4 +1,4 @@
--- Which starts the EXDATEs of an event take out (RFC 5545, section 3.8.5.1).
+-- Which starts the EXDATEs of an event remove (RFC 5545, section 3.8.5.1).
 use Rattle.std.specs.Prelude.{◌≡◌, ◌<ℤ◌, ℤ, pos, Bool, true, false, ◌||◌, List, [], ◌∷◌, ◌++◌}
 use Rattle.std.specs.Int.{int_div_euclid}
 use Rattle.std.specs.List.{list_any}
@@ -15,42 +15,42 @@ use Rattle.ics_series.specs.Starts.{date_of}
 abbrev pub shown_day : Clock → ℤ → ℤ
 shown_day clock t = int_div_euclid (local_at clock t) (pos 86_400)
 
--- An EXDATE under an event of date-times takes out the start at its instant, and a date each start at which DTSTART's clock shows it.
+-- If the event has date-times, an EXDATE removes the start at its instant. One that is a date removes each start at which DTSTART's clock shows it.
 abbrev pub excludes_time : Clocks → Time → Time → Stamp → ℤ → Bool
 excludes_time clocks first exdate (Date day) t = int_eq day (shown_day (clock_of clocks first) t)
 excludes_time clocks first exdate (Floating local) t = int_eq (instant clocks exdate) t
 excludes_time clocks first exdate (Utc local) t = int_eq (instant clocks exdate) t
 excludes_time clocks first exdate (Zoned local) t = int_eq (instant clocks exdate) t
 
--- Under an event of dates each form means its date.
+-- If the event has dates, an EXDATE of any form means its date.
 abbrev pub excludes_by : Clocks → Time → Stamp → Time → ℤ → Bool
 excludes_by clocks first (Date day) exdate t = int_eq (instant clocks (date_of exdate)) t
 excludes_by clocks first (Floating local) exdate t = excludes_time clocks first exdate exdate.stamp t
 excludes_by clocks first (Utc local) exdate t = excludes_time clocks first exdate exdate.stamp t
 excludes_by clocks first (Zoned local) exdate t = excludes_time clocks first exdate exdate.stamp t
 
--- an EXDATE takes a start at this instant out of an event with this DTSTART
+-- an EXDATE removes a start at this instant from an event with this DTSTART
 abbrev pub excludes : Clocks → Time → Time → ℤ → Bool
 excludes clocks first exdate t = excludes_by clocks first first.stamp exdate t
 
--- one of the event's EXDATEs takes out a start at this instant
+-- one of the event's EXDATEs removes a start at this instant
 abbrev pub is_excluded : Clocks → Event → ℤ → Bool
 is_excluded clocks event t = list_any (λ exdate. excludes clocks event.start exdate t) event.exdates
 
--- one of some days is the one that a clock shows at an instant
+-- one of these days is the one that a clock shows at an instant
 abbrev pub is_day_in : Clock → List ℤ → ℤ → Bool
 is_day_in clock days t = list_any (λ day. int_eq day (shown_day clock t)) days
 
--- some instants and days, by a clock, take out a start at this instant
+-- these instants, or these days by a clock, remove a start at this instant
 abbrev pub takes_out : Clock → List ℤ → List ℤ → ℤ → Bool
 takes_out clock instants days t = list_any (λ x. int_eq x t) instants || is_day_in clock days t
 
--- of what begins before the window's end they take out what the EXDATEs do
+-- of the starts before the window's end, they remove those that the EXDATEs remove
 abbrev pub AreExclusions : Clocks → Event → Window → List ℤ → List ℤ → Type 0
 AreExclusions clocks event w instants days =
     (t : ℤ) → t <ℤ w.to → takes_out (clock_of clocks event.start) instants days t ≡ is_excluded clocks event t
 
--- a list with an instant at its end, if it is wanted
+-- the list, with an instant added at its end if the test passes
 abbrev pub with_instant : Bool → List ℤ → ℤ → List ℤ
 with_instant true instants t = instants ++ (t ∷ [])
 with_instant false instants t = instants

@@ -1,4 +1,4 @@
--- Where an occurrence ends (RFC 5545, sections 3.6.1 and 3.8.2).
+-- The end of an occurrence (RFC 5545, sections 3.6.1 and 3.8.2).
 use Rattle.std.specs.Prelude.{ℤ, pos, ◌+◌, ◌*◌, ◌+ℤ◌, ◌-ℤ◌, ◌*ℤ◌}
 use Rattle.std.specs.Int.{int_max}
 use Rattle.ics_values.specs.declared.duration.Duration.{Duration}
@@ -13,40 +13,40 @@ use Rattle.ics_calendar.specs.declared.event.Event.{Event}
 use Rattle.ics_series.specs.Clocks.{Clock, Clocks, clock_of, instant, local_at, midnight, day_of}
 use Rattle.ics_series.specs.Starts.{time_of}
 
--- How many days an event lasts that starts on a date: to its DTEND, or the whole days of its DURATION, and one at least.
+-- How many days an event that starts on a date lasts: up to its DTEND, or the whole days of its DURATION, and at least one.
 abbrev pub days_lasting : ℤ → Length → ℤ
 days_lasting first Open = pos 1
 days_lasting first (Until end) = int_max (pos 1) (day_of end.stamp -ℤ first)
 days_lasting first (Lasting duration) = int_max (pos 1) (pos duration.days)
 
--- The instant that is a duration later: its days go by the clock, and then its hours, minutes and seconds pass.
+-- The instant that is a duration later: its days are counted by the clock, and then its hours, minutes and seconds are added.
 abbrev pub later_by : Clock → Duration → ℤ → ℤ
 later_by clock duration t = clock.moment (local_at clock t +ℤ pos (duration.days * 86_400)) +ℤ pos duration.seconds
 
--- Where the length of an event with the DTSTART `first` leads from an occurrence whose start the time `given` gives. A
--- date leads to a midnight of the display zone. Of a date-time a DTEND is as many seconds off as it is from DTSTART.
+-- The end, by the length of an event with the DTSTART `first`, of an occurrence that starts at the time `given`. From a date it is
+-- a midnight of the display zone. From a date-time, a DTEND is as many seconds later as it is after DTSTART.
 abbrev pub end_by : Clocks → Time → Time → Stamp → Length → ℤ
 end_by clocks first given (Date day) length = clocks.display.moment (midnight (day_of given.stamp +ℤ days_lasting day length))
 end_by clocks first given stamp Open = instant clocks given
 end_by clocks first given stamp (Until end) = instant clocks given +ℤ (instant clocks end -ℤ instant clocks first)
 end_by clocks first given stamp (Lasting duration) = later_by (clock_of clocks given) duration (instant clocks given)
 
--- Where a PERIOD ends that begins at a time: at its end, or its duration later.
+-- The end of a PERIOD that begins at a time: its own end, or its duration later.
 abbrev pub span_end : Clocks → Time → Length → ℤ
 span_end clocks start Open = instant clocks start
 span_end clocks start (Until end) = instant clocks end
 span_end clocks start (Lasting duration) = later_by (clock_of clocks start) duration (instant clocks start)
 
--- Where what gives an event a start leads: a PERIOD by its own length, any other by the event's.
+-- The end of an occurrence by what gives its start: for a PERIOD by its own length, and else by the event's.
 abbrev pub end_of : Clocks → Event → Rdate → ℤ
 end_of clocks event (At given) = end_by clocks event.start given event.start.stamp event.length
 end_of clocks event (Span start length) = span_end clocks start length
 
--- The finish of an event's occurrence whose start this gives. It is never before the start.
+-- The finish of the event's occurrence whose start this gives. It is never before the start.
 abbrev pub finish : Clocks → Event → Rdate → ℤ
 finish clocks event given = int_max (instant clocks (time_of given)) (end_of clocks event given)
 
--- How many seconds an event lasts, where each day counts 86,400 of them.
+-- How many seconds an event lasts, if each day has 86,400.
 abbrev pub seconds_by : Clocks → Time → Stamp → Length → ℤ
 seconds_by clocks first (Date day) length = days_lasting day length *ℤ pos 86_400
 seconds_by clocks first stamp Open = pos 0

@@ -1,4 +1,4 @@
--- The starts of an event by which it can meet a window, as they are found.
+-- The starts by which an event can meet a window, as they are found.
 use Rattle.std.specs.Prelude.{◌≡◌, ◌≤ℤ◌, ◌-ℤ◌, ℕ, ◌+◌, ℤ, pos, Bool, true, false, ◌&&◌, not, int_le, List, [], ◌∷◌, Option, Some, None, if◌then◌else◌}
 use Rattle.std.specs.Int.{int_min}
 use Rattle.std.specs.Ordering.{int_cmp, int_eq, nat_cmp, on, then_cmp}
@@ -24,21 +24,21 @@ use Rattle.ics_series.specs.Meets.{Meets}
 use Rattle.ics_series.specs.Starts.{given_by, time_at, time_of, GivesStart, IsNotAfter}
 use Rattle.ics_series.specs.Zones.{is_past}
 
--- the start that something gives by a value
+-- the start that a source gives by a value
 abbrev pub start_by : Clocks → Giver → Rdate → Start
 start_by clocks giver given = record { moment = instant clocks (time_of given); giver = giver; given = given }
 
--- the start by a local that DTSTART has or the rule keeps
+-- the start at the local of DTSTART, or at one that the rule keeps
 abbrev pub start_at : Clocks → Event → Local → Start
 start_at clocks event local = start_by clocks (Kept local) (At (time_at event.start local))
 
--- a start of the event: its instant, what gives it, and the value by which it does
+-- a start of the event: its instant, what gives it, and the value that it gives
 pub record IsStart (clocks : Clocks) (event : Event) (s : Start) : Type 0 where
   pub gives : GivesStart clocks event s.giver s.given
   pub value : IsRdate s.given
   pub moment : s.moment ≡ instant clocks (time_of s.given)
 
--- The event meets the window from this instant, by the length of something that gives it this start, be that the first to do so or not.
+-- An occurrence from this instant meets the window, by the length of one of the sources of this start, whether it is the first or not.
 pub record IsSought (clocks : Clocks) (event : Event) (w : Window) (t : ℤ) : Type 0 where
   pub giver : Giver
   pub given : Rdate
@@ -46,7 +46,7 @@ pub record IsSought (clocks : Clocks) (event : Event) (w : Window) (t : ℤ) : T
   pub starts : instant clocks (time_of given) ≡ t
   pub meets : Meets w (entry_from clocks event given)
 
--- the list has a start at this instant, by this giver or an earlier one
+-- the list has a start at this instant, from this source or an earlier one
 pub record HasStart (starts : List Start) (giver : Giver) (t : ℤ) : Type 0 where
   pub start : Start
   pub stands : IsIn start starts
@@ -57,7 +57,7 @@ pub record HasStart (starts : List Start) (giver : Giver) (t : ℤ) : Type 0 whe
 abbrev pub moment_cmp : Start → Start → Ordering
 moment_cmp = on (λ s. s.moment) int_cmp
 
--- in which part of the order something stands that gives starts: the locals come before the RDATEs
+-- the part of the order of a source: locals come before RDATEs
 abbrev pub part_of : Giver → ℕ
 part_of (Kept local) = 0
 part_of (Listed place) = 1
@@ -72,7 +72,7 @@ abbrev pub place_in : Giver → ℕ
 place_in (Kept local) = local.second
 place_in (Listed place) = place
 
--- the locals in their order, and then the RDATEs as the file has them
+-- locals come first, in their order, and then RDATEs in the order of the file
 abbrev pub giver_cmp : Giver → Giver → Ordering
 giver_cmp = then_cmp (on part_of nat_cmp) (then_cmp (on day_in int_cmp) (on place_in nat_cmp))
 
@@ -80,24 +80,24 @@ giver_cmp = then_cmp (on part_of nat_cmp) (then_cmp (on day_in int_cmp) (on plac
 abbrev pub start_cmp : Start → Start → Ordering
 start_cmp = then_cmp moment_cmp (on (λ s. s.giver) giver_cmp)
 
--- of these starts those at each instant whose giver is the first
+-- of these starts, at each instant the one from the first source
 pub record AreFirsts (starts firsts : List Start) : Type 0 where
   pub rises : Rises moment_cmp firsts
   pub are : (s : Start) → IsIn s firsts → IsIn s starts
   pub all : (s : Start) → IsIn s starts → HasStart firsts s.giver s.moment
 
--- the same, where only what is sought from an instant on counts
+-- the same, but only starts that can meet the window and are not before `since` need to be there
 pub record AreStartsSince (clocks : Clocks) (event : Event) (w : Window) (since : ℤ) (starts : List Start) : Type 0 where
   pub rises : Rises moment_cmp starts
   pub are : (s : Start) → IsIn s starts → IsStart clocks event s
   pub all : (giver : Giver) (given : Rdate) → GivesStart clocks event giver given → IsSought clocks event w (instant clocks (time_of given)) → since ≤ℤ instant clocks (time_of given) → HasStart starts giver (instant clocks (time_of given))
 
--- an instant is the last one
+-- this instant is the last one
 abbrev pub is_at : Option ℤ → ℤ → Bool
 is_at None moment = false
 is_at (Some last) moment = int_eq last moment
 
--- of each run of starts at one instant the first, where what came before ended with a start at this instant
+-- the first of each run of starts at one instant, if the list so far ended with a start at the instant `last`
 abbrev pub firsts_after : Option ℤ → List Start → List Start
 firsts_after last [] = []
 firsts_after last (s ∷ starts) =
@@ -108,33 +108,33 @@ abbrev pub met_by : Clocks → Window → Event → Start → Option Entry
 met_by clocks w event s =
     if is_met w (entry_from clocks event s.given) then Some (entry_from clocks event s.given) else None
 
--- the occurrence meets the window, and no EXDATE takes it out
+-- the occurrence meets the window, and no EXDATE removes it
 abbrev pub is_shown : Clocks → Window → Event → Entry → Bool
 is_shown clocks w event o = is_met w o && not (is_excluded clocks event o.start)
 
--- the occurrence with this start, if it is to be shown
+-- the occurrence with this start, if it is shown
 abbrev pub shown_by : Clocks → Window → Event → Start → Option Entry
 shown_by clocks w event s =
     if is_shown clocks w event (entry_from clocks event s.given) then Some (entry_from clocks event s.given) else None
 
--- no UNTIL bounds the instant, or it is not after it
+-- the instant is not after UNTIL, if there is one
 abbrev pub is_until : Option ℤ → ℤ → Bool
 is_until None moment = true
 is_until (Some last) moment = int_le moment last
 
--- a start at the front of a list, if it is wanted
+-- the list, with a start put before it if the test passes
 abbrev pub with_front : Bool → Start → List Start → List Start
 with_front true s starts = s ∷ starts
 with_front false s starts = starts
 
--- The starts by the values of RDATEs, of which these stand from a place on. What is written two days or more past the window's end is
+-- The starts by the values of RDATEs, which are those from a place on. Those whose local is two days or more past the window's end are
 -- left out.
 abbrev pub listed_from : Clocks → Window → Time → ℕ → List Rdate → List Start
 listed_from clocks w first place [] = []
 listed_from clocks w first place (rdate ∷ rdates) =
     with_front (not (is_past w (time_of (given_by first rdate)))) (start_by clocks (Listed place) (given_by first rdate)) (listed_from clocks w first (place + 1) rdates)
 
--- a start by a PERIOD that by its own length meets the window
+-- a start by a PERIOD that meets the window by its own length
 abbrev pub is_span_met : Clocks → Window → Event → Start → Rdate → Bool
 is_span_met clocks w event s (At time) = false
 is_span_met clocks w event s (Span start length) = is_met w (entry_from clocks event s.given)
@@ -143,13 +143,13 @@ abbrev pub earlier : Bool → ℤ → ℤ → ℤ
 earlier true least t = int_min least t
 earlier false least t = least
 
--- the least of an instant and of the starts by PERIODs that meet the window
+-- the earliest of an instant and of the starts by PERIODs that meet the window
 abbrev pub earliest_from : Clocks → Window → Event → ℤ → List Start → ℤ
 earliest_from clocks w event least [] = least
 earliest_from clocks w event least (s ∷ starts) =
     earliest_from clocks w event (earlier (is_span_met clocks w event s s.given) least s.moment) starts
 
--- From where on the rule is asked: from where an event of this length can still meet the window, or from the earliest start by a PERIOD that
--- does, since a local at that instant gives it the event's length.
+-- The instant from which on the rule is read: the first at which an event of this length can still meet the window or, if it is earlier, the
+-- earliest start by a PERIOD that meets it, since a local at that instant gives it the event's length.
 abbrev pub earliest : Clocks → Window → Event → List Start → ℤ
 earliest clocks w event starts = earliest_from clocks w event (w.from -ℤ seconds_lasting clocks event) starts

@@ -24,7 +24,7 @@ rule_looked (Some s) = steps_of s.cursor
 abbrev pub series_holds : SeriesFeed → List Entry
 series_holds s = map (λ start. entry_from (clocks_in s.zones) s.event.now start.given) (rule_held s.rule_starts)
 
--- a part holds what its series does: events that start once are not built before they are given
+-- a part holds what its series holds; occurrences of events that start once are not built before they are given
 abbrev pub part_holds : Part → List Entry
 part_holds (Singles s) = []
 part_holds (Series s) = series_holds s.value

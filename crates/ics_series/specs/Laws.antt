@@ -33,21 +33,21 @@ OneListing =
     (files : List FileSaid) (display : Clock) (w : Window) (xs ys : List Entry)
     → IsListing entry_cmp (IsListed files display w) xs → IsListing entry_cmp (IsListed files display w) ys → xs ≡ ys
 
--- a listing that goes on after a key is those members of the whole listing whose keys are greater
+-- a listing after a key has those entries of the whole listing whose keys are greater
 abbrev pub ListingAfter : Type 0
 ListingAfter =
     (files : List FileSaid) (display : Clock) (w : Window) (key : Rank) (xs ys : List Entry)
     → IsListing entry_cmp (IsListed files display w) xs → IsListing entry_cmp (IsToCome files display w (Some key)) ys
     → ys ≡ filter (λ o. is_lt (rank_cmp key (rank_of o))) xs
 
--- and after the key of one of its entries those that stand behind it
+-- after the key of one of its entries, a listing has exactly the entries that follow that one
 abbrev pub ListingBehind : Type 0
 ListingBehind =
     (files : List FileSaid) (display : Clock) (w : Window) (front : List Entry) (o : Entry) (behind ys : List Entry)
     → IsListing entry_cmp (IsListed files display w) (front ++ o ∷ behind)
     → IsListing entry_cmp (IsToCome files display w (Some (rank_of o))) ys → ys ≡ behind
 
--- the merge of rising lists is the listing of their entries, of each key that of the first list that has it
+-- the merge of rising lists is the listing of their entries. If several lists have a key, the entry of the first of them counts
 abbrev pub ListingMerged : Type 0
 ListingMerged =
     (lists : List (List Entry)) → All (Rises entry_cmp) lists → IsListing entry_cmp (λ o. IsFromFirst entry_cmp o lists) (merged entry_cmp lists)
@@ -98,7 +98,7 @@ OneRecurrence =
     (files : List FileSaid) (display : Clock) (o q : Entry)
     → Occurs files display o → Occurs files display q → o.event.uid ≡ q.event.uid → o.recurrence ≡ q.recurrence → o ≡ q
 
--- each start that something gives an event is that of an occurrence, where DTSTART lies in the years of stamps and no EXDATE takes it out
+-- each start that a source gives an event is that of an occurrence, if DTSTART is in the years of stamps and no EXDATE removes the start
 abbrev pub EachStart : Type 0
 EachStart =
     (clocks : Clocks) (event : Event) (giver : Giver) (given : Rdate) → IsTime event.start → GivesStart clocks event giver given
@@ -110,26 +110,26 @@ OneStart =
     (clocks : Clocks) (event : Event) (start end : ℤ) → event.rule ≡ None → event.rdates ≡ []
     → IsInstance clocks event start end → (start ≡ instant clocks event.start) × (end ≡ finish clocks event (At event.start))
 
--- a start that an EXDATE takes out is that of no occurrence
+-- no occurrence has a start that an EXDATE removes
 abbrev pub NoneExcluded : Type 0
 NoneExcluded =
     (clocks : Clocks) (event : Event) (exdate : Time) (start end : ℤ) → Contains event.exdates exdate
     → excludes clocks event.start exdate start ≡ true → ¬ IsInstance clocks event start end
 
--- the number of the starts that an event has in five UTC days is the length of the one list of what gives it one there
+-- the number of the starts that an event has in five UTC days is the length of the one list of their sources
 abbrev pub RawCounted : Type 0
 RawCounted =
     (clocks : Clocks) (event : Event) (day : ℤ) → IsTime event.start
     → (givers : List Giver) × IsListing giver_cmp (IsRaw clocks event day) givers × (length givers ≡ raw_in clocks event day)
 
--- no five UTC days in a row have more of them than the greatest number, and some have as many
+-- no five UTC days in a row have more starts than the greatest number, and some have as many
 abbrev pub MostInDays : Type 0
 MostInDays =
     (zones : FileZones) (event : Event) → IsTime event.start → All IsRdate event.rdates
     → ((day : ℤ) → raw_in (clocks_in zones) event day ≤ most_in_days (clocks_in zones) event)
     × (day : ℤ) × (most_in_days (clocks_in zones) event ≡ raw_in (clocks_in zones) event day)
 
--- the masters of a listing may hold no more than all masters of the folder that count
+-- the bound for the masters of a listing is no greater than for all masters of the folder that count
 abbrev pub MostOfMasters : Type 0
 MostOfMasters =
     (files : List FileSaid) (display : Clock) (w : Window) (after : Option Rank) (sources : List Source) (masters : List Placed)

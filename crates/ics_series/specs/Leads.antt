@@ -1,4 +1,4 @@
--- The lists of the leads of a merge: what was drawn of a feed, and what is left of it.
+-- The lists of the leads of a merge: what was drawn from a feed, and what is left of it.
 use Rattle.std.specs.Prelude.{Bool, false, List, [], ◌∷◌, ⊤, Option, Some, None}
 use Rattle.std.specs.Coded.{Unit-prop, Π_prop}
 use Rattle.std.specs.List.{AllByRecursion, AllByRecursion-prop}
@@ -10,7 +10,7 @@ use Rattle.ics_series.specs.Merged.{cut}
 use Rattle.ics_series.specs.Rising.{IsBefore}
 use Rattle.ics_series.specs.declared.occurrence.Occurrence.{Occurrence}
 
--- what was drawn, before the rest
+-- the rest, with what was drawn put before it
 abbrev pub listed : Option Occurrence → List Entry → List Entry
 listed None rest = rest
 listed (Some o) rest = entry_of o ∷ rest
@@ -19,7 +19,7 @@ abbrev pub IsEmpty : List Entry → Type 0
 IsEmpty [] = ⊤
 IsEmpty (x ∷ xs) = ⊥
 
--- the rest comes after what was drawn, and nothing is left where nothing was
+-- the rest comes after what was drawn. If nothing was drawn, nothing is left
 abbrev pub IsAhead : Option Occurrence → List Entry → Type 0
 IsAhead None rest = IsEmpty rest
 IsAhead (Some o) rest = IsBefore entry_cmp (entry_of o) rest
@@ -35,18 +35,18 @@ pub IsAhead-prop : (head : Option Occurrence) (rest : List Entry) → IsProp (Is
 IsAhead-prop None rest = empty-prop rest
 IsAhead-prop (Some o) rest = before-prop (entry_of o) rest
 
--- what of a list is still to come, where last was given last
+-- what is still to come of a list after the entry that was given last
 abbrev pub past : Option Occurrence → List Entry → List Entry
 past None list = list
 past (Some o) list = cut entry_cmp (entry_of o) list
 
--- an entry of its key was given last
+-- the entry that was given last has its key
 abbrev pub is_given : Option Occurrence → Option Entry → Bool
 is_given None first = false
 is_given (Some o) None = false
 is_given (Some o) (Some e) = is_eq (entry_cmp (entry_of o) e)
 
--- all of the lists comes after what was given last
+-- all entries of the lists come after the one that was given last
 abbrev pub ComeAfter : Option Occurrence → List (List Entry) → Type 0
 ComeAfter None lists = ⊤
 ComeAfter (Some o) lists = AllByRecursion (IsBefore entry_cmp (entry_of o)) lists
@@ -55,14 +55,14 @@ pub ComeAfter-prop : (last : Option Occurrence) (lists : List (List Entry)) → 
 ComeAfter-prop None lists = Unit-prop
 ComeAfter-prop (Some o) lists = AllByRecursion-prop (IsBefore entry_cmp (entry_of o)) (before-prop (entry_of o)) lists
 
--- it holds of each of a list
+-- P is true of each entry of a list
 abbrev pub AreNear : (Entry → Type 0) → List Entry → Type 0
 AreNear P list = (o : Entry) → IsIn o list → P o
 
 pub AreNear-prop : (P : Entry → Type 0) → ((o : Entry) → IsProp (P o)) → (list : List Entry) → IsProp (AreNear P list)
 AreNear-prop P h list = Π_prop λ o. Π_prop λ m. h o
 
--- it holds of an occurrence, where that stands in a list
+-- P is true of an occurrence, if that is in a list
 abbrev pub HasNear : (Entry → Type 0) → List Entry → Entry → Type 0
 HasNear P list o = IsIn o list → P o
 

@@ -1,4 +1,4 @@
--- What the versions that count give whose events recur, each as a list of its own.
+-- The lists of the versions that count and whose events recur, one for each.
 use Rattle.std.specs.Prelude.{◌≡◌, ◌<ℤ◌, ◌≤ℤ◌, ◌++◌, ℕ, ℤ, pos, neg_ℤ, int_le, false, List, map, Option, Some, None}
 use Rattle.std.specs.List.{AllByRecursion}
 use Rattle.ics_calendar.specs.Event.{FileSaid}
@@ -24,13 +24,13 @@ pub record Recurs (files : List FileSaid) (l : Label) : Type 0 where
   pub stands : event_at files l.spot ≡ Some event
   pub recurs : is_single event ≡ false
 
--- of the occurrences to come one of the event of this version, which recurs
+-- one of the occurrences to come, of the event of this version, which recurs
 pub record IsOfVersion (files : List FileSaid) (display : Clock) (w : Window) (after : Option Rank) (l : Label) (o : Entry) : Type 0 where
   pub by : Recurs files l
   pub of : IsOf (clocks_at files display l.spot.file) by.event o
   pub to_come : IsToCome files display w after o
 
--- Of the occurrences of a master with this UID those come after the key that begin at this instant or later. Each begins well within the
+-- Of the occurrences of a master with this UID, those that begin at this instant or later come after the key. Each begins well within the
 -- instants of an i64.
 abbrev pub IsSince : Option Rank → List ℕ → ℤ → Type 0
 IsSince after uid since =
@@ -41,13 +41,13 @@ IsSince after uid since =
 abbrev pub HasWhole : List FileSaid → Clock → Window → Label → Type 0
 HasWhole files display w label = (list : List Entry) × IsListing entry_cmp (IsOfVersion files display w None label) list
 
--- a list is that of the occurrences to come of one of these versions
+-- the list is that of the occurrences to come of one of these versions
 pub record IsOneOf (files : List FileSaid) (display : Clock) (w : Window) (after : Option Rank) (labels : List Label) (list : List Entry) : Type 0 where
   pub label : Label
   pub stands : IsIn label labels
   pub listing : IsListing entry_cmp (IsOfVersion files display w after label) list
 
--- a version has its list among these
+-- the list of a version is among these
 pub record HasList (files : List FileSaid) (display : Clock) (w : Window) (after : Option Rank) (lists : List (List Entry)) (label : Label) : Type 0 where
   pub list : List Entry
   pub stands : IsIn list lists
@@ -58,13 +58,13 @@ pub record AreLists (files : List FileSaid) (display : Clock) (w : Window) (afte
   pub each : AllByRecursion (IsOneOf files display w after labels) lists
   pub every : (l : Label) → IsIn l labels → Recurs files l → HasList files display w after lists l
 
--- and stand behind the lists that were there before
+-- these lists follow the lists that were there before
 pub record HasLists (files : List FileSaid) (display : Clock) (w : Window) (after : Option Rank) (labels : List Label) (before now : List (List Entry)) : Type 0 where
   pub more : List (List Entry)
   pub are : AreLists files display w after labels more
   pub behind : now ≡ before ++ more
 
--- a master is that of this version, which recurs, in the window and after the key
+-- the master is that of this version, which recurs, in the window and after the key
 pub record IsSourceOf (files : List FileSaid) (display : Clock) (w : Window) (after : Option Rank) (label : Label) (m : Recurring) : Type 0 where
   pub stands : event_at files label.spot ≡ Some m.event
   pub recurs : is_single m.event ≡ false
@@ -72,13 +72,13 @@ pub record IsSourceOf (files : List FileSaid) (display : Clock) (w : Window) (af
   pub window : m.window ≡ w
   pub since : IsFrom after m.since
 
--- it is that of one of these versions
+-- the master is that of one of these versions
 pub record IsSource (files : List FileSaid) (display : Clock) (w : Window) (after : Option Rank) (labels : List Label) (m : Recurring) : Type 0 where
   pub label : Label
   pub stands : IsIn label labels
   pub is : IsSourceOf files display w after label m
 
--- and such masters, each of a UID of its own, stand behind the sources that were there before
+-- such masters, each with a UID of its own, follow the sources that were there before
 pub record HasSources (files : List FileSaid) (display : Clock) (w : Window) (after : Option Rank) (labels : List Label) (before now : List Source) : Type 0 where
   pub more : List Recurring
   pub each : AllByRecursion (IsSource files display w after labels) more

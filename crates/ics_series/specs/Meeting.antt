@@ -18,12 +18,12 @@ entry_from clocks event given = record {
   event = event;
 }
 
--- what begins before the window's end is to be listed by its finish
+-- an occurrence that begins before the window's end is to be listed by its finish
 abbrev pub is_under_way : Window → ℤ → ℤ → Bool
 is_under_way w start finish =
     (int_lt w.from finish || (int_eq finish start && int_le w.from start))
     && (not w.notstarted || int_le w.from start)
 
--- it meets the window
+-- an occurrence meets the window
 abbrev pub is_met : Window → Entry → Bool
 is_met w o = int_lt o.start w.to && is_under_way w o.start o.finish

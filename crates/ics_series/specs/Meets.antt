@@ -1,4 +1,4 @@
--- Which occurrences a listing of a window shows.
+-- Which occurrences the listing of a window shows.
 use Rattle.std.specs.Prelude.{◌≡◌, ◌⊎◌, ◌<ℤ◌, ◌≤ℤ◌, IsTrue, List, Option, Some, None}
 use Rattle.std.specs.declared.cmp.Ordering.TheVariants.{Less}
 use Rattle.ics_calendar.specs.Event.{FileSaid}
@@ -22,7 +22,7 @@ IsEventMet clocks event w o = IsOf clocks event o × Meets w o
 abbrev pub IsListed : List FileSaid → Clock → Window → Entry → Type 0
 IsListed files display w o = Occurs files display o × Meets w o
 
--- of these, where a listing goes on after a key, those with a greater key
+-- the same and, for a listing after a key, its key is greater
 abbrev pub IsToCome : List FileSaid → Clock → Window → Option Rank → Entry → Type 0
 IsToCome files display w None = IsListed files display w
 IsToCome files display w (Some key) = λ o. IsListed files display w o × (rank_cmp key (rank_of o) ≡ Less)

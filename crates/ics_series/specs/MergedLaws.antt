@@ -8,7 +8,7 @@ use Rattle.ics_series.specs.Rising.{IsBefore, Rises}
 use Rattle.ics_series.specs.Merged.{by_order, put, union, merged}
 
 module _ {A : Type 0} (R : A → A → Ordering) (o : IsTotalOrder R) where
-  -- what comes before y's followers, if x comes before y
+  -- x comes before all that follow y, if it comes before y
   pub before-trans : (x y : A) (ys : List A) → R x y ≡ Less → IsBefore R y ys → IsBefore R x ys
   before-trans x y [] l h = tt
   before-trans x y (z ∷ zs) l h = (o.trans x y z l h.0, before-trans x y zs l h.1)

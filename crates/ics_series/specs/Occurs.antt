@@ -13,7 +13,7 @@ use Rattle.ics_series.specs.Placed.{Placed, clocks_at}
 use Rattle.ics_series.specs.Starts.{time_of, GivesStart, IsNotAfter}
 use Rattle.ics_series.specs.declared.start.Giver.{Giver}
 
--- an event occurs from this instant to that one; of what gives the start the first gives the finish, and no EXDATE takes the start out
+-- an event occurs from this instant to that one. If several sources give the start, the first gives the finish. No EXDATE removes the start
 pub record IsInstance (clocks : Clocks) (event : Event) (start end : ℤ) : Type 0 where
   pub giver : Giver
   pub given : Rdate
@@ -23,7 +23,7 @@ pub record IsInstance (clocks : Clocks) (event : Event) (start end : ℤ) : Type
   pub ends : end ≡ finish clocks event given
   pub stays : is_excluded clocks event start ≡ false
 
--- an occurrence of the event e, whose start tells it from the others
+-- an occurrence of the event e, identified by its start
 pub record IsOf (clocks : Clocks) (e : Event) (o : Entry) : Type 0 where
   pub event : o.event ≡ e
   pub recurrence : o.recurrence ≡ o.start
@@ -35,14 +35,14 @@ pub record IsMoved (clocks : Clocks) (e : Event) (o : Entry) : Type 0 where
   pub starts : o.start ≡ instant clocks e.start
   pub ends : o.finish ≡ finish clocks e (At e.start)
 
--- an occurrence of a master, for which no override stands
+-- an occurrence of a master that no override replaces
 pub record IsOfMaster (files : List FileSaid) (display : Clock) (o : Entry) : Type 0 where
   pub master : Placed
   pub is : IsMaster files display master
   pub of : IsOf (clocks_at files display master.file) master.event o
   pub kept : IsOverridden files display o.event.uid o.recurrence → ⊥
 
--- the occurrence of an override, told from the others by its RECURRENCE-ID
+-- the occurrence of an override, identified by its RECURRENCE-ID
 pub record IsOfOverride (files : List FileSaid) (display : Clock) (o : Entry) : Type 0 where
   pub override : Placed
   pub is : IsOverride files display override o.recurrence

@@ -1,4 +1,4 @@
--- The instances of a master that overrides stand for, as they are found among the versions that count.
+-- The instances of a master that overrides replace, as they are found among the versions that count.
 use Rattle.std.specs.Prelude.{◌≡◌, ◌||◌, ℤ, ℕ, Bool, not, List, Option, Some, None, is_some, if◌then◌else◌}
 use Rattle.std.specs.List.{list_any}
 use Rattle.std.specs.Ordering.{int_eq}
@@ -16,7 +16,7 @@ abbrev pub AreOverridden : List ℕ → List Label → List ℤ → Type 0
 AreOverridden uid labels instants =
     (t : ℤ) → list_any (λ x. int_eq x t) instants ≡ is_named (record { uid = uid; recurrence = Some t }) labels
 
--- an occurrence is an override's, or none of the versions overrides it
+-- an occurrence is that of an override, or no version overrides it
 abbrev pub is_kept : List Label → Entry → Bool
 is_kept labels o =
     is_some o.event.recurrence || not (is_named (record { uid = o.event.uid; recurrence = Some o.recurrence }) labels)

@@ -9,17 +9,17 @@ use Rattle.ics_series.specs.Singles.{is_single, single-prop, single_entry}
 use Rattle.ics_series.specs.Sources.{Source}
 use Rattle.ics_series.specs.Sources.Source.{Once}
 
--- what is still to come of it
+-- what is still to come of a part
 abbrev pub part_coming : Part → List Entry
 part_coming (Singles s) = map single_entry (into_iter_items s.rest)
 part_coming (Series s) = series_of s.value (series_left s.value)
 
--- what its occurrences are of
+-- what its occurrences belong to
 abbrev pub part_sources : Part → List Source
 part_sources (Singles s) = Once ∷ []
 part_sources (Series s) = series_sources s.value
 
--- an occurrence is of them, and no rule has been read further than it asks
+-- an occurrence belongs to that, and no rule has been read further than it needs
 abbrev pub part_near : Part → Entry → Type 0
 part_near (Singles s) o = is_single o.event ≡ true
 part_near (Series s) o = series_near s.value o

@@ -1,4 +1,4 @@
--- Where the events of a folder stand, and the clocks by which their times are read.
+-- The places of the events of a folder, and the clocks by which their times are read.
 use Rattle.std.specs.Prelude.{◌≡◌, ℕ, List, [], Option, Some, None, slice_get}
 use Rattle.std.specs.Ordering.{nat_cmp, on, then_cmp}
 use Rattle.std.specs.declared.cmp.Ordering.{Ordering}
@@ -13,7 +13,7 @@ pub record Placed : Type 0 where
   pub place : ℕ
   pub event : Event
 
--- it stands there
+-- the event is at its place
 pub record IsPlaced (files : List FileSaid) (p : Placed) : Type 0 where
   pub within : (f : FileSaid) × (slice_get files p.file ≡ Some f) × (slice_get f.events p.place ≡ Some p.event)
 

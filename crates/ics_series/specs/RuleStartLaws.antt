@@ -1,4 +1,4 @@
--- What is known of the starts of a rule while they are read has one proof at most.
+-- What is known of the starts of a rule while they are read has at most one proof.
 use Rattle.std.specs.Prelude.{◌≡◌, ℕ, ℤ, List, [], ◌∷◌, Option, None, Some}
 use Rattle.std.specs.Coded.{×_prop, Unit-prop, Π_prop, codes}
 use Rattle.std.specs.Ordering.{Ordering-set}

@@ -23,30 +23,30 @@ use Rattle.ics_series.specs.Starts.{time_at}
 abbrev pub local_numbered : ℕ → Local
 local_numbered n = local_at (pos (n / 86_400) -ℤ pos 719_528) n
 
--- the instant at which it would start the event
+-- the instant at which that local would start the event
 abbrev pub moment_numbered : Clocks → Event → ℕ → ℤ
 moment_numbered clocks event n = instant clocks (time_at event.start (local_numbered n))
 
--- a rule lets an instant through that a local with this number means: it is DTSTART, or not after an UNTIL in UTC
+-- the rule allows the instant of the local with this number: the local is DTSTART, or the instant is not after an UNTIL in UTC
 abbrev pub lets_until : Recurrence → ℕ → ℤ → Bool
 lets_until rule n t = (n == number rule.start) || is_until (until_moment rule) t
 
--- the local with this number gives the event a start before the window's end: the rule keeps it and lets its instant through
+-- the local with this number gives the event a start before the window's end: the rule keeps it and allows its instant
 unfoldable pub gives : Clocks → Event → Recurrence → Window → ℕ → Bool
 gives clocks event rule w n =
     is_kept rule n && (lets_until rule n (moment_numbered clocks event n) && int_lt (moment_numbered clocks event n) w.to)
 
--- a start in its place in a list, if it is given
+-- the list, with a start put in its place if the test passes
 abbrev pub with_put : Bool → Start → List Start → List Start
 with_put true s starts = put moment_cmp s starts
 with_put false s starts = starts
 
--- the starts that are held, with one more, if it is given and none at its instant is held
+-- the held starts, with one more if the test passes and none at its instant is held
 abbrev pub with_held : Bool → Start → List Start → List Start
 with_held true s held = union moment_cmp held (s ∷ [])
 with_held false s held = held
 
--- The starts that so many locals from one on give, in the order of their instants. Of two at one instant that by the earlier local stands.
+-- The starts that n locals from one on give, in the order of their instants. Of two at one instant, the one by the earlier local counts.
 abbrev pub found_in : Clocks → Event → Recurrence → Window → ℕ → ℕ → List Start
 found_in clocks event rule w from zero = []
 found_in clocks event rule w from (suc n) =
@@ -56,7 +56,7 @@ found_in clocks event rule w from (suc n) =
 unfoldable pub found : Clocks → Event → Recurrence → Window → ℕ → List Start
 found clocks event rule w from = found_in clocks event rule w from (rules_end - from)
 
--- the starts still to come: those that are held, and those that the locals from a place on give
+-- the starts still to come: the held ones, and those that the locals from a place on give
 unfoldable pub to_come : Clocks → Event → Recurrence → Window → List Start → ℕ → List Start
 to_come clocks event rule w held place = union moment_cmp held (found clocks event rule w place)
 
@@ -79,27 +79,27 @@ pub record IsHeld (clocks : Clocks) (event : Event) (rule : Recurrence) (w : Win
 abbrev pub AreHeld : Clocks → Event → Recurrence → Window → ℤ → List Start → Type 0
 AreHeld clocks event rule w day starts = (s : Start) → IsIn s starts → IsHeld clocks event rule w day s
 
--- the first start comes two days or more before a day's midnight: so it does before all that later locals give
+-- the first start is two days or more before a day's midnight, and so before all starts that later locals give
 abbrev pub is_ready : ℤ → List Start → Bool
 is_ready day [] = false
 is_ready day (s ∷ starts) = int_le s.moment (midnight day -ℤ pos 172_800)
 
--- a day more has to be read before the first start still to come is known
+-- another day has to be read before the first start still to come is known
 abbrev pub is_behind : ℤ → ℤ → List Start → Bool
 is_behind day end held = int_lt day end && not (is_ready day held)
 
--- up to which day's midnight the cursor is asked next: where nothing is held to the end, else a day on
+-- the day up to whose midnight the cursor searches next: the end if nothing is held, else the next day
 abbrev pub bound_of : ℤ → ℤ → List Start → ℤ
 bound_of day end [] = end
 bound_of day end (s ∷ starts) = day +ℤ pos 1
 
--- a cursor set at `from` has looked only at periods that hold a local from there on, under COUNT from DTSTART on, and before a day's
--- midnight
+-- a cursor set at `from` has looked only at periods that hold a local before a day's midnight, from there on or, under COUNT, from DTSTART
+-- on
 abbrev pub HasLookedTo : Recurrence → Local → ℤ → Cursor → Type 0
 HasLookedTo rule from day cursor =
     (before : ℕ) → midnight_number day ≤ before
     → HasLooked rule cursor (looks_from rule.parts.count (number rule.start) (number from)) before
 
--- how many seconds and days there are at most to be read
+-- how many seconds and days are left to be read at most
 abbrev pub steps_left : ℤ → ℤ → ℕ → ℕ
 steps_left day end place = (midnight_number end - place) + (day_index end - day_index day)

@@ -17,19 +17,19 @@ use Rattle.ics_series.specs.Zones.{clocks_in}
 abbrev pub series_left : Series → List Start
 series_left s = left s.rule_starts s.listed
 
--- the occurrences that some starts give it
+-- the occurrences that these starts give
 abbrev pub series_of : Series → List Start → List Entry
 series_of s starts = given_of (clocks_in s.zones) s.window s.event.now s.since s.overridden.items starts
 
--- they are of its event, in its window, from an instant on
+-- its occurrences are of its event, in its window, from an instant on
 abbrev pub source_of : Clocks → Event → Window → ℤ → List Source
 source_of clocks event w since = Of (record { clocks = clocks; event = event; window = w; since = since }) ∷ []
 
 abbrev pub series_sources : Series → List Source
 series_sources s = source_of (clocks_in s.zones) s.event.now s.window s.since
 
--- An occurrence is of its event, and its rule has been read no further than three days past it, if it begins at the instant of a local that
--- DTSTART has or the rule keeps.
+-- An occurrence is of its event. If it begins at the instant of DTSTART's local or of one that the rule keeps, the rule has been read no
+-- further than three days past it.
 abbrev pub series_near : Series → Entry → Type 0
 series_near s o = (o.event ≡ s.event.now) × IsAskedNear (clocks_in s.zones) s.event.now (rule_asked s.rule_starts) o.start
 
@@ -43,7 +43,7 @@ event-set a b = hlevel (props, codes)
 pub series_near-prop : (s : Series) (o : Entry) → IsProp (series_near s o)
 series_near-prop s o = ×_prop (event-set o.event s.event.now) (asked-prop (clocks_in s.zones) s.event.now (rule_asked s.rule_starts) o.start)
 
--- it tells the same event's occurrences
+-- the series is that of the same event
 pub record IsSameSeries (old new : Series) : Type 0 where
   pub zones : new.zones ≡ old.zones
   pub event : new.event ≡ old.event

@@ -1,4 +1,4 @@
--- What is known of a series has one proof at most.
+-- What is known of a series has at most one proof.
 use Rattle.std.specs.Prelude.{◌≡◌, ℤ, List, Option, None, Some}
 use Rattle.std.specs.Coded.{×_prop, Unit-prop, Π_prop, codes}
 use Rattle.std.proofs.Props.{props}

@@ -1,4 +1,4 @@
--- The starts that a series holds still to come, and the occurrences that they give.
+-- The starts of a series still to come, and the occurrences that they give.
 use Rattle.std.specs.Prelude.{◌≡◌, ◌≤ℤ◌, ℤ, pos, ◌+ℤ◌, ◌-ℤ◌, Bool, true, false, ◌&&◌, not, int_le, int_lt, List, [], ◌∷◌, drop, slice_get, Option, None, Some, ◌⊎◌, if◌then◌else◌}
 use Rattle.std.specs.Int.{int_max, int_min}
 use Rattle.std.specs.List.{filter_map, list_any}
@@ -30,46 +30,46 @@ use Rattle.ics_series.specs.RuleFeed.{starts_left, HasSameSource}
 use Rattle.ics_series.specs.RuleStarts.{found, gives, is_behind}
 use Rattle.ics_series.specs.Starts.{given_by, local_of, recurrence_of, time_at, time_of, IsRuleStart}
 
--- an occurrence of the event that meets the window, begins at this instant or later, and whose start is none of these
+-- an occurrence of the event that meets the window, begins at this instant or later, and does not start at one of these
 abbrev pub IsSeriesMet : Clocks → Event → Window → ℤ → List ℤ → Entry → Type 0
 IsSeriesMet clocks event w since overridden o =
     IsEventMet clocks event w o × ((since ≤ℤ o.start) × (IsIn o.start overridden → ⊥))
 
--- the known starts that have not gone
+-- the known starts that were not passed yet
 abbrev pub listed_left : ListedStarts → List Start
 listed_left s = drop s.gone s.starts.items
 
--- the starts that a rule still gives, where there is one
+-- the starts that the rule still gives, if there is one
 abbrev pub rule_left : Option RuleStarts → List Start
 rule_left None = []
 rule_left (Some s) = starts_left s
 
--- the starts of both kinds still to come: at one instant that by the rule goes before that by an RDATE
+-- the starts of both kinds still to come. At one instant, the one by the rule replaces the one by an RDATE
 abbrev pub left : Option RuleStarts → ListedStarts → List Start
 left rule listed = union moment_cmp (rule_left rule) (listed_left listed)
 
--- the first that the rule gives is known
+-- the first start that the rule gives is known
 abbrev pub IsReady : Option RuleStarts → Type 0
 IsReady None = Unit {0}
 IsReady (Some s) = is_behind s.day s.end s.held.items ≡ false
 
--- they are those of the same rule
+-- the starts are those of the same rule
 abbrev pub HasSameRule : Option RuleStarts → Option RuleStarts → Type 0
 HasSameRule None None = Unit {0}
 HasSameRule (Some old) (Some new) = HasSameSource old new
 HasSameRule _ _ = ⊥
 
--- the starts that are known from the first: those by RDATEs and, where there is no rule, that at DTSTART
+-- the starts that are known from the beginning: those by RDATEs and, if there is no rule, the one at DTSTART
 abbrev pub listed_apart : Clocks → Window → Event → Option RuleParts → List Start
 listed_apart clocks w event None = start_at clocks event (local_of event.start.stamp) ∷ listed_from clocks w event.start 0 event.rdates
 listed_apart clocks w event (Some parts) = listed_from clocks w event.start 0 event.rdates
 
--- From which instant on starts are asked for. None begins at the window's end or later, so that two weeks past it stand for all later instants.
+-- The instant from which on starts are needed. None is at the window's end or later, so that two weeks past it will do for all later instants.
 abbrev pub first_asked : Clocks → Window → Event → ℤ → List Start → ℤ
 first_asked clocks w event since starts = int_max (earliest clocks w event starts) (int_min since (w.to +ℤ pos 1_209_600))
 
--- the starts that the event's rule gives by the locals from one on, which is DTSTART or lies six days or more before the first instant that
--- is asked for
+-- the starts that the event's rule gives by the locals from one on, which is not past DTSTART, or is six days or more before the first
+-- instant that is needed
 pub record IsRuleFrom (clocks : Clocks) (event : Event) (w : Window) (since : ℤ) (listed starts : List Start) : Type 0 where
   pub rule : Recurrence
   pub has : recurrence_of event ≡ Some rule
@@ -78,8 +78,8 @@ pub record IsRuleFrom (clocks : Clocks) (event : Event) (w : Window) (since : �
   pub low : seconds_of from ≤ℤ int_max (seconds_of (local_of event.start.stamp)) (first_asked clocks w event since listed -ℤ pos 518_400)
   pub gives : starts ≡ found clocks event rule w (number from)
 
--- These starts are those of this event's rule in this window, read from a local on that lies no more than seven days before the first
--- instant that is asked for, or not before DTSTART.
+-- These starts are those of this event's rule in this window. They are read from a local on that is not before DTSTART, and no more than
+-- seven days before the first instant that is needed.
 pub record IsOwnRule (zones : FileZones) (event : Event) (w : Window) (first : ℤ) (s : RuleStarts) : Type 0 where
   pub zones_are : s.zones ≡ zones
   pub event_is : s.event.now ≡ event
@@ -91,47 +91,47 @@ abbrev pub HasOwnRule : FileZones → Event → Window → ℤ → Option RuleSt
 HasOwnRule zones event w first None = Unit {0}
 HasOwnRule zones event w first (Some s) = IsOwnRule zones event w first s
 
--- from which instant on a series asks for starts
+-- the instant from which on a series needs starts
 abbrev pub first_of : Clocks → Window → Event → ℤ → ℤ
 first_of clocks w event since = first_asked clocks w event since (listed_apart clocks w event event.rule)
 
--- some instants name this one
+-- one of these instants is this one
 abbrev pub is_among : List ℤ → ℤ → Bool
 is_among instants t = list_any (λ x. int_eq x t) instants
 
--- it is shown, begins at this instant or later, and its start is none of these
+-- the occurrence is shown, begins at this instant or later, and does not start at one of these
 abbrev pub is_wanted : Clocks → Window → Event → ℤ → List ℤ → Entry → Bool
 is_wanted clocks w event since overridden o = (int_le since o.start && not (is_among overridden o.start)) && is_shown clocks w event o
 
--- the occurrence with this start, if it is wanted
+-- the occurrence with this start, if it belongs to the series
 abbrev pub wanted_by : Clocks → Window → Event → ℤ → List ℤ → Start → Option Entry
 wanted_by clocks w event since overridden s =
     if is_wanted clocks w event since overridden (entry_from clocks event s.given) then Some (entry_from clocks event s.given) else None
 
--- the occurrences that some starts give
+-- the occurrences that these starts give
 abbrev pub given_of : Clocks → Window → Event → ℤ → List ℤ → List Start → List Entry
 given_of clocks w event since overridden starts = filter_map (wanted_by clocks w event since overridden) starts
 
--- one of some starts is at an instant
+-- one of these starts is at an instant
 abbrev pub has_moment : List Start → ℤ → Bool
 has_moment starts t = list_any (λ s. int_eq s.moment t) starts
 
--- a local that DTSTART has or the rule keeps means an instant
+-- an instant is that of DTSTART's local, or of a local that the rule keeps
 abbrev pub IsKeptAt : Clocks → Event → Local → ℤ → Type 0
 IsKeptAt clocks event local t =
     ((local ≡ local_of event.start.stamp) ⊎ IsRuleStart clocks event local) × (instant clocks (time_at event.start local) ≡ t)
 
--- up to the midnight of which day the cursor of a rule was asked
+-- the day up to whose midnight the cursor of a rule has searched
 abbrev pub rule_asked : Option RuleStarts → Option ℤ
 rule_asked None = None
 rule_asked (Some s) = Some s.asked
 
--- That lies no more than three days past this instant, if it is that of such a local.
+-- That midnight is no more than three days past this instant, if it is that of such a local.
 abbrev pub IsAskedNear : Clocks → Event → Option ℤ → ℤ → Type 0
 IsAskedNear clocks event None t = Unit {0}
 IsAskedNear clocks event (Some day) t = (local : Local) → IsKeptAt clocks event local t → (midnight day -ℤ pos 259_200) ≤ℤ t
 
--- where an occurrence still to come begins at the instant of such a local, these starts have one there
+-- if an occurrence still to come begins at the instant of such a local, these starts have one there
 abbrev pub HaveRuled : Clocks → Event → List Start → List Entry → Type 0
 HaveRuled clocks event starts coming =
     (o : Entry) → IsIn o coming → (local : Local) → IsKeptAt clocks event local o.start → has_moment starts o.start ≡ true
@@ -140,12 +140,12 @@ abbrev pub HasRuled : Clocks → Event → Option RuleStarts → List Entry → 
 HasRuled clocks event None coming = Unit {0}
 HasRuled clocks event (Some s) coming = HaveRuled clocks event (starts_left s) coming
 
--- a local gives an event a start: under no rule that of DTSTART
+-- a local gives an event a start; without a rule, only that of DTSTART does
 abbrev pub IsGivenAt : Clocks → Event → Window → Local → Option Recurrence → Type 0
 IsGivenAt clocks event w local None = local ≡ local_of event.start.stamp
 IsGivenAt clocks event w local (Some rule) = IsDayNumber local.day × (gives clocks event rule w (number local) ≡ true)
 
--- what gives an event a start before the window's end, and the value by which it does
+-- what gives an event a start before the window's end, and the value that it gives
 abbrev pub IsGivenBy : Clocks → Event → Window → Giver → Rdate → Type 0
 IsGivenBy clocks event w (Kept local) given = IsGivenAt clocks event w local (recurrence_of event) × (given ≡ At (time_at event.start local))
 IsGivenBy clocks event w (Listed place) given = option_map (given_by event.start) (slice_get event.rdates place) ≡ Some given
@@ -158,13 +158,13 @@ pub record IsKnown (clocks : Clocks) (event : Event) (w : Window) (s : Start) : 
 abbrev pub AreKnown : Clocks → Event → Window → List Start → Type 0
 AreKnown clocks event w starts = (s : Start) → IsIn s starts → IsKnown clocks event w s
 
--- Which of two starts goes first: at one instant that by the rule.
+-- The first of two starts. If both are at one instant, it is the one by the rule.
 abbrev pub earlier_of : Option Start → Option Start → Option Start
 earlier_of None listed = listed
 earlier_of (Some a) None = Some a
 earlier_of (Some a) (Some b) = if int_lt b.moment a.moment then Some b else Some a
 
--- the first of some starts is taken from them
+-- the first start was taken from the list, or None if it was empty
 abbrev pub IsTaken : List Start → Option Start → List Start → Type 0
 IsTaken old None new = (old ≡ []) × (new ≡ [])
 IsTaken old (Some s) new = old ≡ s ∷ new

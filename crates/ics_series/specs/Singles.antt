@@ -21,7 +21,7 @@ use Rattle.ics_series.specs.Spots.{event_at}
 use Rattle.ics_series.specs.Versions.{Label}
 use Rattle.ics_series.specs.Zones.{clocks_in}
 
--- an override stands at its own DTSTART, whatever its RRULE, RDATE and EXDATE say; a master that has none of them starts there alone
+-- an override starts at its own DTSTART alone, whatever its RRULE, RDATE and EXDATE say, and so does a master that has none of these
 abbrev pub is_single : Event → Bool
 is_single event =
     is_some event.recurrence || ((is_none event.rule && length event.rdates == 0) && length event.exdates == 0)
@@ -36,11 +36,11 @@ single-prop o = hlevel props
 pub AreSingle-prop : (list : List Entry) → IsProp (AreSingle list)
 AreSingle-prop list = AllByRecursion-prop (λ o. is_single o.event ≡ true) single-prop list
 
--- of the occurrences to come those whose events start once
+-- the occurrences to come whose events start once
 abbrev pub IsSingleToCome : List FileSaid → Clock → Window → Option Rank → Entry → Type 0
 IsSingleToCome files display w after o = IsToCome files display w after o × (is_single o.event ≡ true)
 
--- The occurrence of an event at its DTSTART. The instance that it overrides tells it from the others of its UID, or else its start.
+-- The occurrence of an event at its DTSTART. It is identified by the instance that it overrides, or else by its start.
 abbrev pub entry_first : Clocks → Event → Option ℤ → Entry
 entry_first clocks event recurrence = record {
   start = instant clocks event.start;
@@ -54,7 +54,7 @@ abbrev pub begun_first : Clocks → Window → Event → Option ℤ → Option E
 begun_first clocks w event recurrence =
     if int_lt (instant clocks event.start) w.to then Some (entry_first clocks event recurrence) else None
 
--- the occurrence that is kept without its finish
+-- the occurrence that is held without its finish
 abbrev pub single_entry : Single → Entry
 single_entry s = record {
   start = s.start;
@@ -63,17 +63,17 @@ single_entry s = record {
   event = s.event.now;
 }
 
--- it meets the window, comes after the key, and no override stands for it
+-- an occurrence meets the window, comes after the key, and is replaced by no override
 abbrev pub is_to_come : Window → List Label → Option Rank → Entry → Bool
 is_to_come w overrides after o = is_met w o && is_after after o && is_kept overrides o
 
--- what an event gives at its DTSTART that is to come, where it starts there alone
+-- the occurrence of an event at its DTSTART, if it is to come and the event starts there alone
 abbrev pub single_of : Clocks → Window → List Label → Option Rank → Option ℤ → Event → Option Entry
 single_of clocks w overrides after recurrence event =
     let o = entry_first clocks event recurrence in
     if is_single event && is_to_come w overrides after o then Some o else None
 
--- and so of the event of a version
+-- the same for the event of a version
 abbrev pub single_at : List FileSaid → Clock → Window → List Label → Option Rank → Label → Option Entry
 single_at files display w overrides after label =
     option_and_then (single_of (clocks_at files display label.spot.file) w overrides after label.subject.recurrence) (event_at files label.spot)

@@ -1,4 +1,4 @@
--- What the occurrences of a feed are of.
+-- What the occurrences of a feed belong to.
 use Rattle.std.specs.Prelude.{◌≡◌, ◌≤◌, ◌≤ℤ◌, ℤ, Bool, true, false, List, [], ◌∷◌, count_by, Option, Some, None}
 use Rattle.std.specs.Coded.{×_prop, Unit-prop, le_prop}
 use Rattle.std.specs.List.{AllByRecursion, AllByRecursion-prop}
@@ -34,7 +34,7 @@ abbrev pub is_once : Source → Bool
 is_once Once = true
 is_once (Of m) = false
 
--- the masters among some sources
+-- the masters among these sources
 abbrev pub recurring : List Source → List Recurring
 recurring [] = []
 recurring (Once ∷ sources) = recurring sources
@@ -51,7 +51,7 @@ master_at files display p = record { clocks = clocks_at files display p.file; ev
 abbrev pub uid_cmp : Recurring → Recurring → Ordering
 uid_cmp = on (λ m. m.event.uid) (slice_cmp nat_cmp)
 
--- One source at most is that of the events that start once, and each master recurs and has a UID of its own.
+-- At most one source is that of the events that start once. Each master recurs and has a UID of its own.
 abbrev pub AreApart : List Source → Type 0
 AreApart sources =
     (count_by is_once sources ≤ 1) × (AllByRecursion (λ m. is_single m.event ≡ false) (recurring sources) × Rises uid_cmp (recurring sources))
@@ -71,7 +71,7 @@ pub AreApart-prop : (sources : List Source) → IsProp (AreApart sources)
 AreApart-prop sources =
     ×_prop le_prop (×_prop (AllByRecursion-prop (λ m. is_single m.event ≡ false) recurs-prop (recurring sources)) (uids-prop (recurring sources)))
 
--- where a listing goes on after a key, not before the start of what has the key
+-- for a listing after a key, not before the start in the key
 abbrev pub IsFrom : Option Rank → ℤ → Type 0
 IsFrom None since = Unit {0}
 IsFrom (Some key) since = key.start ≤ℤ since
@@ -85,7 +85,7 @@ pub record IsMasterOf (files : List FileSaid) (display : Clock) (w : Window) (af
   pub window : m.window ≡ w
   pub since : IsFrom after m.since
 
--- what the listing of a window is of: the events that start once, and masters that recur, each of a UID of its own
+-- what the listing of a window belongs to: the events that start once, and masters that recur, each with a UID of its own
 pub record AreSources (files : List FileSaid) (display : Clock) (w : Window) (after : Option Rank) (sources : List Source) : Type 0 where
   pub apart : AreApart sources
   pub each : AllByRecursion (IsMasterOf files display w after) (recurring sources)

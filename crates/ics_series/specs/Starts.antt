@@ -27,14 +27,14 @@ kind_of (Floating local) = kind.DateTime
 kind_of (Utc local) = kind.DateTime
 kind_of (Zoned local) = kind.DateTime
 
--- the local that a stamp writes: a date stands for its midnight
+-- the local of a stamp; that of a date is its midnight
 abbrev pub local_of : Stamp → Local
 local_of (Date day) = local_at day 0
 local_of (Floating local) = local
 local_of (Utc local) = local
 local_of (Zoned local) = local
 
--- the stamp of the same kind that writes another local: of a date the local's day
+-- the stamp of the same kind for another local; a date has the local's day
 abbrev pub stamp_at : Stamp → Local → Stamp
 stamp_at (Date day) local = Date local.day
 stamp_at (Floating first) local = Floating local
@@ -53,8 +53,8 @@ recurrence_by first parts = record { parts = parts; start = local_of first; kind
 abbrev pub recurrence_of : Event → Option Recurrence
 recurrence_of event = option_map (recurrence_by event.start.stamp) event.rule
 
--- a local that the event's rule keeps. Where UNTIL is in UTC and the event has date-times, the instant that the local means in DTSTART's
--- zone is not after UNTIL
+-- a local that the event's rule keeps. If UNTIL is in UTC and the event has date-times, the instant of the local in DTSTART's zone is not
+-- after UNTIL
 pub record IsRuleStart (clocks : Clocks) (event : Event) (local : Local) : Type 0 where
   pub rule : Recurrence
   pub has : recurrence_of event ≡ Some rule
@@ -71,14 +71,14 @@ abbrev pub time_of : Rdate → Time
 time_of (At time) = time
 time_of (Span start length) = start
 
--- a time of an RDATE under an event of date-times: a date stands for that date at DTSTART's time of the day, in DTSTART's zone
+-- a time of an RDATE, if the event has date-times. A date means that date at DTSTART's time of day, in DTSTART's zone
 abbrev pub time_by : Time → Time → Stamp → Time
 time_by first time (Date day) = time_at first (local_at day (local_of first.stamp).second)
 time_by first time (Floating local) = time
 time_by first time (Utc local) = time
 time_by first time (Zoned local) = time
 
--- where a value of an RDATE starts an event with this DTSTART: under an event of dates each form means its date
+-- the value by which an RDATE starts an event with this DTSTART. If the event has dates, a value of any form means its date
 abbrev pub given_from : Time → Stamp → Rdate → Rdate
 given_from first (Date day) rdate = At (date_of (time_of rdate))
 given_from first stamp (At time) = At (time_by first time time.stamp)
@@ -87,15 +87,15 @@ given_from first stamp (Span start length) = Span start length
 abbrev pub given_by : Time → Rdate → Rdate
 given_by first rdate = given_from first first.stamp rdate
 
--- What gives the event a start, and the value by which it does: a local that DTSTART has or the rule keeps gives the time at that local, in
--- DTSTART's kind and zone, and the RDATE at a place among them what it means under this DTSTART.
+-- What gives the event a start, and the value that it gives. The local of DTSTART, or one that the rule keeps, gives the time at that local,
+-- of DTSTART's kind and in its zone. An RDATE, by its place among them, gives what it means with this DTSTART.
 abbrev pub GivesStart : Clocks → Event → Giver → Rdate → Type 0
 GivesStart clocks event (Kept local) given =
     ((local ≡ local_of event.start.stamp) ⊎ IsRuleStart clocks event local) × (given ≡ At (time_at event.start local))
 GivesStart clocks event (Listed place) given =
     (rdate : Rdate) × (slice_get event.rdates place ≡ Some rdate) × (given ≡ given_by event.start rdate)
 
--- Of what gives starts the one is not after the other: the locals come first, in their order, and then the RDATEs as the file has them.
+-- One source of starts is not after another. Locals come first, in their order, and then RDATEs in the order of the file.
 abbrev pub IsNotAfter : Giver → Giver → Type 0
 IsNotAfter (Kept a) (Kept b) = seconds_of a ≤ℤ seconds_of b
 IsNotAfter (Kept a) (Listed place) = ⊤

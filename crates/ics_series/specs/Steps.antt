@@ -1,4 +1,4 @@
--- Among which locals a listing looks for starts by the rule of a master. Instants stand here for the locals that they are in UTC.
+-- The locals among which a listing searches for starts by the rule of a master. Instants are taken here as their locals in UTC.
 use Rattle.std.specs.Prelude.{◌≡◌, ◌≤ℤ◌, ℕ, ◌+◌, Some, ℤ, pos, ◌+ℤ◌, ◌-ℤ◌, List, ◌⊎◌}
 use Rattle.std.specs.Int.{int_max}
 use Rattle.ics_values.specs.declared.local.Local.{Local}
@@ -12,18 +12,18 @@ use Rattle.ics_series.specs.SeriesStarts.{first_of, IsKeptAt}
 use Rattle.ics_series.specs.Sources.{Recurring}
 use Rattle.ics_series.specs.Starts.{local_of, recurrence_of}
 
--- A local with this number is not past DTSTART, or not past seven days before the first instant that is asked for: from where an event of this
--- length can still meet the window or, if that is earlier, from the earliest start by a PERIOD that does by its own length, and not before the
--- instant from which on the master's occurrences are listed, or two weeks past the window's end.
+-- The local with this number is not past DTSTART, or not past seven days before the first instant that is needed. That is the first at which an
+-- event of this length can still meet the window or, if it is earlier, the earliest start by a PERIOD that meets it by its own length; but it is
+-- not before the instant from which on the master's occurrences are listed, or two weeks past the window's end if that is earlier.
 abbrev pub IsLookedFrom : Recurring → ℕ → Type 0
 IsLookedFrom m a =
     pos a ≤ℤ (int_max (seconds_of (local_of m.event.start.stamp)) (first_of m.clocks m.window m.event m.since -ℤ pos 604_800) +ℤ pos 62_167_219_200)
 
--- a local with this number lies seven days or more past an instant
+-- the local with this number is seven days or more past an instant
 abbrev pub IsWeekPast : ℤ → ℕ → Type 0
 IsWeekPast t b = ((t +ℤ pos 604_800) +ℤ pos 62_167_219_200) ≤ℤ pos b
 
--- it does so past the start of an occurrence of the master still to come that begins at the instant of a local that DTSTART has or the rule
+-- it is so past the start of an occurrence of the master still to come that begins at the instant of DTSTART's local or of one that the rule
 -- keeps
 pub record IsPastStart (m : Recurring) (coming : List Entry) (b : ℕ) : Type 0 where
   pub occurrence : Entry
@@ -33,12 +33,12 @@ pub record IsPastStart (m : Recurring) (coming : List Entry) (b : ℕ) : Type 0 
   pub kept : IsKeptAt m.clocks m.event local occurrence.start
   pub past : IsWeekPast occurrence.start b
 
--- and so it does past the window's end or, if that is earlier, past the first such start
+-- it is so past the window's end or past such a start
 abbrev pub IsLookedTo : Recurring → List Entry → ℕ → Type 0
 IsLookedTo m coming b = IsWeekPast m.window.to b ⊎ IsPastStart m coming b
 
--- two more than so many periods of the master's rule hold a local of those among which it is looked for starts, under COUNT of those from
--- DTSTART on
+-- most is two more than the number of the periods of the master's rule that hold a local among which starts are searched for; under COUNT
+-- these are the locals from DTSTART on
 pub record HasPeriods (m : Recurring) (coming : List Entry) (rule : Recurrence) (most : ℕ) : Type 0 where
   pub a : ℕ
   pub from : IsLookedFrom m a
@@ -46,6 +46,6 @@ pub record HasPeriods (m : Recurring) (coming : List Entry) (rule : Recurrence) 
   pub to : IsLookedTo m coming b
   pub count : most ≡ period_count rule (looks_from rule.parts.count (number rule.start) a) b + 2
 
--- or the master has no rule
+-- the same, or the master has no rule
 abbrev pub HasStepBound : Recurring → List Entry → ℕ → Type 0
 HasStepBound m coming most = (rule : Recurrence) → recurrence_of m.event ≡ Some rule → HasPeriods m coming rule most

@@ -1,4 +1,4 @@
--- The versions of the events of a folder, as they are sorted, and those of them that count.
+-- The versions of the events of a folder in their order, and those of them that count.
 use Rattle.std.specs.Prelude.{◌≡◌, ◌&&◌, ℕ, ◌+◌, ◌++◌, Bool, false, List, [], ◌∷◌, map, is_some, if◌then◌else◌}
 use Rattle.std.specs.List.{list_any}
 use Rattle.std.specs.Option.{option_cmp, option_eq}
@@ -16,7 +16,7 @@ use Rattle.ics_series.specs.Clocks.{Clock, Clocks}
 use Rattle.ics_series.specs.Listing.{IsListing}
 use Rattle.ics_series.specs.Placed.{Placed, placed_cmp}
 
--- what tells a version from the others
+-- what identifies a version
 pub record Label : Type 0 where
   pub subject : SubjectSeen
   pub sequence : ℕ
@@ -37,12 +37,12 @@ label_by clocks p = record { subject = subject_by clocks p.event; sequence = p.e
 abbrev pub label_of : List FileSaid → Clock → Placed → Label
 label_of files display p = record { subject = subject_of files display p; sequence = p.event.sequence; spot = spot_of p }
 
--- the events of a file, of which these stand from a place on
+-- the events of a file, which are those from a place on
 abbrev pub placed_from : ℕ → ℕ → List Event → List Placed
 placed_from file place [] = []
 placed_from file place (e ∷ es) = record { file = file; place = place; event = e } ∷ placed_from file (place + 1) es
 
--- the events of files, numbered from here on
+-- the events of the files, which are numbered from `file` on
 abbrev pub placed_in : ℕ → List FileSaid → List Placed
 placed_in file [] = []
 placed_in file (f ∷ fs) = placed_from file 0 f.events ++ placed_in (file + 1) fs
@@ -67,12 +67,12 @@ abbrev pub is_followed : {A : Type 0} → (A → A → Bool) → A → List A �
 is_followed same x [] = false
 is_followed same x (y ∷ ys) = same x y
 
--- of each run of the same the last
+-- the last of each run of the same
 abbrev pub lasts : {A : Type 0} → (A → A → Bool) → List A → List A
 lasts same [] = []
 lasts same (x ∷ xs) = if is_followed same x xs then lasts same xs else x ∷ lasts same xs
 
--- a version of an override
+-- the version is one of an override
 abbrev pub is_override : Label → Bool
 is_override l = is_some l.subject.recurrence
 

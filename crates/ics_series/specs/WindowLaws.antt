@@ -1,4 +1,4 @@
--- What a window lists, said plainly, and how the listings of windows that adjoin or lie within one another fit together.
+-- What a window lists, and how the listings of windows that adjoin or contain each other fit together.
 use Rattle.std.specs.Prelude.{◌≡◌, ◌↔◌, ◌≤ℤ◌, ◌<ℤ◌, ◌+ℤ◌, ℤ, pos, true, false, IsTrue, List, ◌++◌}
 use Rattle.ics_calendar.specs.Event.{FileSaid}
 use Rattle.ics_series.specs.declared.window.Window.{Window}
@@ -8,39 +8,39 @@ use Rattle.ics_series.specs.Listing.{IsIn, IsListing}
 use Rattle.ics_series.specs.Meets.{IsListed, Meets}
 use Rattle.ics_series.specs.Occurs.{Occurs}
 
--- where what began before the window is left out, an occurrence is listed exactly if it starts in the window
+-- if what began before the window is left out, an occurrence is listed exactly if it starts in the window
 abbrev pub ListsStarts : Type 0
 ListsStarts =
     (files : List FileSaid) (display : Clock) (w : Window) (o : Entry) → w.notstarted ≡ true
     → IsListed files display w o ↔ (Occurs files display o × (w.from ≤ℤ o.start) × (o.start <ℤ w.to))
 
--- in the window of one second from t on, an occurrence of some length is listed exactly if it has begun by t and is not over
+-- in the window of one second from t on, an occurrence with a length is listed exactly if it has begun by t and is not over
 abbrev pub ListsUnderWay : Type 0
 ListsUnderWay =
     (files : List FileSaid) (display : Clock) (w : Window) (t : ℤ) (o : Entry) → w.from ≡ t → w.to ≡ t +ℤ pos 1 → w.notstarted ≡ false
     → o.start <ℤ o.finish → IsListed files display w o ↔ (Occurs files display o × (o.start ≤ℤ t) × (t <ℤ o.finish))
 
--- the inner window lies in the outer one, and what the outer leaves out since it has begun, it leaves out too
+-- the inner window is in the outer one, and leaves out what has begun before it if the outer one does
 pub record IsWithin (inner outer : Window) : Type 0 where
   pub from : outer.from ≤ℤ inner.from
   pub to : inner.to ≤ℤ outer.to
   pub starts : IsTrue outer.notstarted → IsTrue inner.notstarted
 
--- the listing of a window within a window is what of the other's listing meets it
+-- the listing of a window within another has the entries of the other's listing that meet the inner window
 abbrev pub ListingWithin : Type 0
 ListingWithin =
     (files : List FileSaid) (display : Clock) (inner outer : Window) (xs ys : List Entry) → IsWithin inner outer
     → IsListing entry_cmp (IsListed files display inner) xs → IsListing entry_cmp (IsListed files display outer) ys
     → (o : Entry) → IsIn o xs ↔ (IsIn o ys × Meets inner o)
 
--- The whole window is the first and the next, which begins where the first ends. What began before is left out of each.
+-- The whole window consists of the first and the next, which begins at the end of the first. What began before a window is left out of each.
 pub record IsJoined (first next whole : Window) : Type 0 where
   pub adjoin : first.to ≡ next.from
   pub from : whole.from ≡ first.from
   pub to : whole.to ≡ next.to
   pub starts : (first.notstarted ≡ true) × (next.notstarted ≡ true) × (whole.notstarted ≡ true)
 
--- then the listing of the whole is that of the first and then that of the next
+-- the listing of the whole is then that of the first followed by that of the next
 abbrev pub ListingsJoin : Type 0
 ListingsJoin =
     (files : List FileSaid) (display : Clock) (first next whole : Window) (xs ys : List Entry) → IsJoined first next whole

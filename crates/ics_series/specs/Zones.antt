@@ -14,7 +14,7 @@ use Rattle.ics_series.specs.Clocks.{Clocks, clocks_of, display_clock, instant, w
 abbrev pub clocks_in : FileZones → Clocks
 clocks_in zones = clocks_of (display_clock zones.display.now) (map phases_of zones.zones.now)
 
--- a time is written two days or more past the window's end: so it lies after it in each zone
+-- the local of a time is two days or more past the window's end; the time is then after that in every zone
 abbrev pub is_past : Window → Time → Bool
 is_past w time = int_le (w.to +ℤ pos 172_800) (written time.stamp)
 
@@ -34,7 +34,7 @@ abbrev pub IsEndOf : List (List Observance) → Length → Type 0
 IsEndOf zones (Until end) = IsTimeOf zones end
 IsEndOf zones _ = Unit {0}
 
--- a DTEND is an instant not much more than the longest event after DTSTART's
+-- the instant of a DTEND is not after that of DTSTART by much more than the longest event
 abbrev pub EndsNear : Clocks → Time → Length → Type 0
 EndsNear clocks first (Until end) = instant clocks end ≤ℤ (instant clocks first +ℤ pos 3_156_105_600)
 EndsNear clocks first _ = Unit {0}

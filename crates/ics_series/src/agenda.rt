@@ -36,8 +36,8 @@ use ics_calendar::FileEvents;
 use ics_zone::Display;
 use std::alloc::{AllocError, Global};
 
-/// The occurrences of a folder that meet a window, in the order of their keys. Each is found when it
-/// is asked for.
+/// The occurrences of a folder that meet a window, in the order of their keys. Each of them is found
+/// when `next` is called.
 #[derive(Drop)]
 pub struct Agenda<'a> {
     merge: Merge<'a, Part<'a>>,
@@ -45,7 +45,7 @@ pub struct Agenda<'a> {
 }
 
 impl<'a> Agenda<'a> {
-    // The occurrences to come of the events of these files.
+    // The occurrences of these files' events that meet the window and come after the key.
     pub(crate) fn new(
         alloc: Global,
         files: &'a [FileEvents],
@@ -93,8 +93,8 @@ impl<'a> Agenda<'a> {
     }
 }
 
-// The feeds of what the versions that count give: one of all events that start once, and one of each
-// master that recurs.
+// The feeds of the versions that count: one for all events that start once, and one for each master
+// that recurs.
 fn parts<'a>(
     alloc: Global,
     files: &'a [FileEvents],
@@ -143,7 +143,7 @@ impl<'a> Feed<'a> for Agenda<'a> {
     }
 }
 
-/// Whether no override stands for an occurrence, or it is an override's own.
+/// Whether no override replaces an occurrence, or it is that of an override.
 pub(crate) fn is_kept(occurrence: &Occurrence<'_>, overrides: &[Version<'_>]) -> bool
     requires { IsSorted (on (λ v. subject_seen v.subject) subject_cmp) overrides.now }
     ensures { result ≡ is_kept (map seen overrides.now) (entry_of occurrence.now) }

@@ -11,8 +11,8 @@ use ics_calendar::FileEvents;
 use ics_zone::Display;
 use std::alloc::{AllocError, Global};
 
-/// Of the versions of each subject the greatest by SEQUENCE, then file, then place (RFC 5545,
-/// section 3.8.7.4), in the order of their subjects.
+/// For each subject the greatest of its versions by SEQUENCE, then file, then place (RFC 5545, section
+/// 3.8.7.4), in the order of the subjects.
 pub(crate) fn chosen<'a>(
     alloc: Global,
     files: &'a [FileEvents],
@@ -25,7 +25,7 @@ pub(crate) fn chosen<'a>(
     last_of_each(alloc, &versions)
 }
 
-// Of each run of versions of one subject the last.
+// The last of each run of versions of one subject.
 fn last_of_each<'a>(alloc: Global, versions: &[Version<'a>]) -> Result<Vec<Version<'a>>, AllocError>
     ensures { IfOk result (λ last. map seen last.items ≡ lasts is_same (map seen versions.entry.now)) }
 {
@@ -48,7 +48,7 @@ fn is_followed(version: &Version<'_>, rest: &[Version<'_>]) -> bool
     }
 }
 
-/// Those of these versions that override an instance.
+/// The versions that override an instance.
 pub(crate) fn overrides<'a>(
     alloc: Global,
     chosen: &[Version<'a>],
@@ -64,7 +64,7 @@ pub(crate) fn overrides<'a>(
     Ok(overrides)
 }
 
-/// Whether one of these versions has a subject.
+/// Whether one of the versions has this subject.
 pub(crate) fn is_named(subject: Subject<'_>, versions: &[Version<'_>]) -> bool
     requires { IsSorted (on (λ v. subject_seen v.subject) subject_cmp) versions.now }
     ensures { result ≡ is_named (subject_seen subject.entry) (map seen versions.now) }

@@ -1,8 +1,8 @@
-//! What orders the occurrences under each of their days.
+//! The keys that order occurrences under each of their days.
 use crate::key::Key;
 
-/// What tells an occurrence under one of its days from the others, and where it stands among them: by
-/// the day, counted from 1970-01-01, then by the key of the occurrence.
+/// Identifies an occurrence under one of its days, and orders it among the others: by the day, counted
+/// from 1970-01-01, then by the key of the occurrence.
 #[derive(Debug, Drop, PartialEq, Eq, PartialOrd, Ord)]
 pub struct DayKey {
     pub day: i32,

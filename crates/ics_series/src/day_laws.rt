@@ -1,4 +1,4 @@
-//! Laws of keys under days, each the contract of a function that does nothing.
+//! Laws of keys under days. Each is the contract of a function that has no other purpose.
 ghost use Rattle.std.specs.Prelude.{◌≡◌};
 ghost use Rattle.ics_series.specs.DayKeys.{day_key_rank, day_rank_cmp};
 ghost use Rattle.ics_series.specs.DayTokens.{OneDaySpelling};
@@ -6,12 +6,12 @@ ghost use Rattle.ics_series.specs.declared.day_key.DayKey.{DayKey};
 
 use crate::day_key::DayKey;
 
-/// Keys under days are ordered by day, and under one day as the occurrences of a listing are.
+/// Keys under days are ordered by day, and under one day as the occurrences of a listing.
 pub fn day_keys_as_listed()
     ensures { (a b : DayKey) → ⟦<DayKey as Ord>⟧.cmp a b ≡ day_rank_cmp (day_key_rank a) (day_key_rank b) }
 {}
 
-/// A key under a day has one token, and no two have the same.
+/// A key under a day has one token, and no two keys have the same.
 pub fn one_day_spelling()
     ensures { OneDaySpelling }
 {}

@@ -1,4 +1,4 @@
-//! Keys under days as texts, from which a listing under each day goes on.
+//! Keys under days as texts, with which a listing by days is resumed.
 ghost use Rattle.std.specs.Prelude.{◌≡◌, ◌++◌, ◌∷◌, ℕ, ℤ, List, FitsSigned, IfOk, IsErrOf, IsSomeAnd, codes};
 ghost use Rattle.std.specs.Fmt.{signed_decimal};
 ghost use Rattle.std.specs.Int.{w32};
@@ -10,12 +10,12 @@ use crate::day_key::DayKey;
 use crate::token::{Token, TokenFault, field};
 use std::alloc::{AllocError, Global};
 
-/// The text of a key under a day: `K2.day.start.recurrence.uid`, the day and the two moments in decimal
-/// and the bytes of the UID in lower-case hexadecimal.
+/// The text of a key under a day: `K2.day.start.recurrence.uid`. The day and the two moments are in
+/// decimal, the bytes of the UID in lower-case hexadecimal.
 pub struct DayToken;
 
 impl DayToken {
-    /// The token of a key under a day.
+    /// The token of a key under a day. `AllocError` if an allocation fails.
     pub fn write(alloc: Global, key: &DayKey) -> Result<String, AllocError>
         ensures { IfOk result (λ text. string_bytes text ≡ day_spelling (day_key_rank key.now)) }
     {
@@ -26,8 +26,8 @@ impl DayToken {
         format!(in alloc; "K2.{day}.{start}.{recurrence}.{uid}")
     }
 
-    /// The key of a token. BadToken where the text is the token of no key under a day: a spare zero,
-    /// `-0` or an upper-case digit makes it none.
+    /// The key of a token. `BadToken` if the text is the token of no key under a day: a leading zero, `-0`
+    /// or an upper-case digit is not allowed. `Memory` if an allocation fails.
     pub fn read(alloc: Global, text: &str) -> Result<DayKey, TokenFault>
         ensures ok { IfOk result (λ key. text.now ≡ day_spelling (day_key_rank key)) }
         ensures key { IfOk result (λ key. IsDayKey (day_key_rank key)) }
@@ -36,11 +36,11 @@ impl DayToken {
         let Some((day, rest)) = split(text) else {
             return Err(TokenFault::BadToken);
         };
-        // the rest is that of the key's own token
+        // the rest has the form of a key's own token
         let token = format!(in alloc; "K1.{rest}")?;
         let key = Token::read(alloc, token.as_str())?;
         let key = DayKey { day, key };
-        // what was read may be spelled in other ways, of which the key's own alone is a token
+        // a key may be read from several spellings, but only its own is a token
         let spelled = DayToken::write(alloc, &key)?;
         if spelled.as_str() == text {
             Ok(key)
@@ -50,7 +50,7 @@ impl DayToken {
     }
 }
 
-// The day of a token's text, and what stands behind it.
+// The day of a token's text, and the text after it.
 fn split(text: &str) -> Option<(i32, &str)>
     ensures { (day : ℤ) (rest : List ℕ) → FitsSigned w32 day → text.now ≡ codes "K2." ++ (signed_decimal day ++ (46 ∷ rest))
         → IsSomeAnd result (λ parts. (parts.0 ≡ day) × (parts.1.now ≡ rest)) }
@@ -60,7 +60,7 @@ fn split(text: &str) -> Option<(i32, &str)>
     Some((day, rest))
 }
 
-// What stands behind the mark of the form.
+// The text after the prefix `K2.`.
 fn body(text: &str) -> Option<&str>
     ensures { (rest : List ℕ) → text.now ≡ codes "K2." ++ rest → IsSomeAnd result (λ part. part.now ≡ rest) }
 {

@@ -1,4 +1,4 @@
-//! What the EXDATEs of an event take out.
+//! The starts that the EXDATEs of an event remove.
 ghost use Rattle.std.specs.Prelude.{◌≡◌, ◌<ℤ◌, ◌≤ℤ◌, ◌+ℤ◌, ◌||◌, ℤ, neg_ℤ, not, pos, IfOk};
 ghost use Rattle.std.specs.Int.{int_div_euclid};
 ghost use Rattle.std.specs.List.Sorted.{IsSorted};
@@ -18,8 +18,8 @@ use std::alloc::{AllocError, Global};
 
 const DAY: i64 = 86_400;
 
-/// The instants that the EXDATEs of an event take out, and under an event of date-times the days that
-/// they do by the clock of DTSTART, each in order.
+/// The instants that the EXDATEs of an event remove and, if the event has date-times, the days that
+/// they remove by the clock of DTSTART. Both are in order.
 #[derive(Drop)]
 pub(crate) struct Exclusions {
     instants: Vec<Moment>,
@@ -32,7 +32,7 @@ impl Exclusions {
     ghost use Rattle.ics_series.specs.Exclusions.{AreExclusions};
     ghost use Rattle.ics_series.specs.Zones.{IsOwnEvent};
 
-    // What they take out of the starts before the window's end.
+    // What the EXDATEs remove from the starts before the window's end.
     pub(crate) fn new(
         alloc: Global,
         zones: FileZones<'_>,
@@ -60,7 +60,7 @@ impl Exclusions {
         Ok(Exclusions { instants, days })
     }
 
-    // Whether they take out a start at an instant.
+    // Whether a start at an instant is removed.
     pub(crate) fn has(&self, zones: FileZones<'_>, first: Time, moment: Moment) -> bool
         requires first { IsTimeOf zones.zones.now first }
         requires late { neg_ℤ (pos 62_135_769_600) ≤ℤ moment }
@@ -71,7 +71,7 @@ impl Exclusions {
         self.instants.binary_search(&moment).is_ok() || self.has_day(zones, first, moment)
     }
 
-    // Whether they take out the day that a time's clock shows at an instant.
+    // Whether the day that a time's clock shows at an instant is removed.
     fn has_day(&self, zones: FileZones<'_>, first: Time, moment: Moment) -> bool
         requires first { IsTimeOf zones.zones.now first }
         requires late { neg_ℤ (pos 62_135_769_600) ≤ℤ moment }
@@ -86,8 +86,8 @@ impl Exclusions {
     }
 }
 
-// Adds what an EXDATE takes out of an event with this DTSTART. Under an event of dates each form means
-// its date.
+// Adds what an EXDATE removes from an event with this DTSTART. If the event has dates, a value of any
+// form means its date.
 fn push_exdate(
     instants: &mut Vec<Moment>,
     days: &mut Vec<i32>,
@@ -109,7 +109,7 @@ fn push_exdate(
     Ok(())
 }
 
-// Adds the instant of a time, unless it is written two days or more past the window's end.
+// Adds the instant of a time, unless its local is two days or more past the window's end.
 fn push_instant(
     instants: &mut Vec<Moment>,
     zones: FileZones<'_>,

@@ -1,4 +1,4 @@
-//! What hands out occurrences one by one.
+//! Feeds, which give occurrences one by one.
 ghost use Rattle.std.specs.Prelude.{◌≡◌, List, IfOk, OnErr};
 ghost use Rattle.ics_series.specs.Entry.{Entry, entry_cmp, Gives};
 ghost use Rattle.ics_series.specs.Listing.{IsIn};
@@ -7,7 +7,7 @@ ghost use Rattle.ics_series.specs.Rising.{Rises};
 use crate::occurrence::Occurrence;
 use std::alloc::AllocError;
 
-/// What is still to come. It stands apart from `Feed` so that a type's ghost field can cite it: a
+/// What is still to come of a feed. It is a trait of its own so that a type's ghost field can cite it: a
 /// bound with a lifetime cannot be cited there.
 pub trait Coming {
     ghost use Rattle.std.specs.Prelude.{List};
@@ -17,23 +17,23 @@ pub trait Coming {
     /// The list still to come.
     ghost coming: { Self → List Entry };
 
-    /// What its occurrences are of.
+    /// What the occurrences belong to: events that start once, or masters that recur.
     ghost sources: { Self → List Source };
 
-    /// This occurrence is of its sources and, where it is still to come, no rule has been read
-    /// further than it asks.
+    /// This occurrence is one of its sources' and, if it is still to come, no rule has been read
+    /// further than it needs.
     ghost near: { Self → Entry → Type 0 };
 
-    /// That has one proof at most.
+    /// `near` has at most one proof.
     ghost near_prop: { (feed : Self) → (o : Entry) → IsProp (Self.near feed o) };
 }
 
 /// Gives occurrences one by one, in the order of their keys: by start, then by the bytes of the UID,
 /// then by recurrence.
 pub trait Feed<'a>: Coming {
-    /// The first of the list still to come, which is then removed; None if there is none. After an
-    /// `AllocError` the list is unchanged. The sources stay the same, and no rule is read further than
-    /// the first that was to come asks.
+    /// The first of the list still to come, which is then removed; None if the list is empty.
+    /// `AllocError` if an allocation fails; the list is then unchanged. The sources stay the same. No
+    /// rule is read further than the first that was to come needs.
     fn next(&mut self) -> Result<Option<Occurrence<'a>>, AllocError>
         ensures ok { IfOk result (λ given. Gives (Self.coming self.old) given (Self.coming self.new)) }
         ensures err { OnErr result (Self.coming self.new ≡ Self.coming self.old) }

@@ -1,4 +1,4 @@
-//! Where an event's occurrence ends.
+//! The end of an occurrence.
 ghost use Rattle.std.specs.Prelude.{◌≡◌, ◌+◌, ◌*◌, ◌<◌, ◌≤◌, ◌<ℤ◌, ◌≤ℤ◌, ◌+ℤ◌, ◌*ℤ◌, pos, neg_ℤ};
 ghost use Rattle.ics_calendar.specs.Event.{IsLasting, IsLength, IsSpan};
 ghost use Rattle.ics_series.specs.Clocks.{clock_of, display_clock, instant, local_at, midnight};
@@ -16,8 +16,8 @@ use ics_zone::{Display, Place};
 
 const DAY: i64 = 86_400;
 
-/// Where the occurrence of an event ends that has a start (RFC 5545, section 3.6.1), for one that
-/// starts before the latest end of a window.
+/// The end of the occurrence with a start, which is before the latest end of a window (RFC 5545,
+/// section 3.6.1).
 pub(crate) fn finish(zones: FileZones<'_>, event: &Event, start: Start) -> Moment
     requires event { IsOwnEvent zones event.now }
     requires start { IsStart (clocks_in zones) event.now start }
@@ -33,7 +33,7 @@ pub(crate) fn finish(zones: FileZones<'_>, event: &Event, start: Start) -> Momen
     start.moment.max(end)
 }
 
-// Where a length leads from a start of an event with this DTSTART.
+// The end by a length from a start of an event with this DTSTART.
 fn end_by(zones: FileZones<'_>, first: Time, length: Length, given: Time, start: Moment) -> Moment
     requires first { IsTimeOf zones.zones.now first }
     requires length { IsLength first.stamp length }
@@ -56,7 +56,7 @@ fn end_by(zones: FileZones<'_>, first: Time, length: Length, given: Time, start:
     }
 }
 
-// Where a PERIOD ends that begins at a time.
+// The end of a PERIOD that begins at a time.
 fn span_end(zones: FileZones<'_>, given: Time, length: Length, start: Moment) -> Moment
     requires given { IsTimeOf zones.zones.now given }
     requires span { IsSpan length }
@@ -73,7 +73,7 @@ fn span_end(zones: FileZones<'_>, given: Time, length: Length, start: Moment) ->
     }
 }
 
-// The midnight of the display zone that is so many days after a day.
+// The midnight of the display zone that begins the day `days` after a day.
 fn midnight_after(display: &Display, day: i32, days: i32) -> Moment
     requires late { neg_ℤ (pos 719_162) ≤ℤ day }
     requires early { day ≤ℤ pos 2_859_853 }
@@ -88,7 +88,7 @@ fn midnight_after(display: &Display, day: i32, days: i32) -> Moment
     })
 }
 
-// The instant that is a duration later: its days go by the clock of a time's zone.
+// The instant that is a duration later. Its days are counted by the clock of a time's zone.
 fn later_by(zones: FileZones<'_>, time: Time, duration: Duration, start: Moment) -> Moment
     requires time { IsTimeOf zones.zones.now time }
     requires late { neg_ℤ (pos 62_135_769_600) ≤ℤ start }
@@ -100,7 +100,7 @@ fn later_by(zones: FileZones<'_>, time: Time, duration: Duration, start: Moment)
     days_after(zones, time, start, duration.days as i64) + duration.seconds as i64
 }
 
-// The instant that is so many days later by the clock of a time's zone.
+// The instant that is `days` days later by the clock of a time's zone.
 fn days_after(zones: FileZones<'_>, time: Time, start: Moment, days: i64) -> Moment
     requires time { IsTimeOf zones.zones.now time }
     requires late { neg_ℤ (pos 62_135_769_600) ≤ℤ start }
@@ -119,7 +119,7 @@ fn days_after(zones: FileZones<'_>, time: Time, start: Moment, days: i64) -> Mom
     }
 }
 
-// The instant that is so many days later by the clock of a place.
+// The instant that is `days` days later by the clock of a place.
 fn days_after_at<P: Place>(place: &P, start: Moment, days: i64) -> Moment
     requires late { neg_ℤ (pos 62_135_769_600) ≤ℤ start }
     requires early { start <ℤ pos 247_091_126_400 }

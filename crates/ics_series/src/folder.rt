@@ -36,7 +36,7 @@ impl Model for Folder {
 }
 
 impl Folder {
-    /// The events of these files; the order of the list is the order of the files.
+    /// The events of these files. The order of the list is the order of the files.
     pub fn new(
         alloc: Global,
         files: Vec<FileEvents>,

@@ -1,10 +1,10 @@
-//! How many built occurrences a feed holds, and how far its rules were read.
+//! How many built occurrences a feed holds, and how many periods of rules it has looked at.
 ghost use Rattle.std.specs.Prelude.{◌≡◌, ℕ, List, length};
 ghost use Rattle.ics_series.specs.Entry.{Entry};
 
 use crate::feed::Coming;
 
-/// Tells what it holds of the list still to come, and how much it did to find it.
+/// A feed that tells what it holds of the list still to come, and how many periods it looked at.
 pub(crate) trait Holding: Coming {
     ghost use Rattle.std.specs.Prelude.{ℕ, List};
     ghost use Rattle.ics_series.specs.Entry.{Entry};

@@ -1,4 +1,4 @@
-//! Times read as instants.
+//! The instants of times.
 ghost use Rattle.std.specs.Prelude.{◌≡◌};
 ghost use Rattle.ics_series.specs.Clocks.{instant, seconds_of, written};
 ghost use Rattle.ics_series.specs.Zones.{clocks_in, is_past, IsTimeOf};
@@ -10,8 +10,8 @@ use ics_calendar::Time;
 use ics_values::{Local, Moment, Stamp};
 use ics_zone::Place;
 
-/// The instant that a time stands for: a date, by its midnight, and a floating local are read in the
-/// display zone, a zoned local in its own (RFC 5545, section 3.3.5).
+/// The instant of a time. A date, as its midnight, and a floating local are read in the display zone, a
+/// zoned local in its own zone (RFC 5545, section 3.3.5).
 pub(crate) fn instant(zones: FileZones<'_>, time: Time) -> Moment
     requires { IsTimeOf zones.zones.now time }
     ensures { result ≡ instant (clocks_in zones.entry) time }
@@ -24,22 +24,22 @@ pub(crate) fn instant(zones: FileZones<'_>, time: Time) -> Moment
     }
 }
 
-/// Whether a time is written two days or more past the window's end: then it lies after it in each
-/// zone.
+/// Whether the local of a time is two days or more past the window's end. If so, the time is after that
+/// in every zone.
 pub(crate) fn is_past(time: Time, window: &Window) -> bool
     ensures { result ≡ is_past window.now time }
 {
     window.to + 2 * 86_400 <= written(time.stamp)
 }
 
-/// The local that a stamp writes, on a clock without zones: a date stands for its midnight.
+/// The seconds from 1970-01-01T00:00:00 to the local of a stamp. That of a date is its midnight.
 pub(crate) fn written(stamp: Stamp) -> i64
     ensures { result ≡ written stamp }
 {
     seconds_of(local_of(stamp))
 }
 
-// The seconds of a local on a clock without zones.
+// The seconds from 1970-01-01T00:00:00 to a local, each day having 86,400.
 fn seconds_of(local: Local) -> i64
     ensures { result ≡ seconds_of local }
 {

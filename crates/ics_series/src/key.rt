@@ -1,4 +1,4 @@
-//! What orders the occurrences of a listing.
+//! The keys that order the occurrences of a listing.
 ghost use Rattle.std.specs.Prelude.{◌≡◌, IfOk};
 ghost use Rattle.std.specs.Ordering.{is_lt};
 ghost use Rattle.ics_series.specs.Entry.{entry_of, key_rank, rank_cmp, rank_of};
@@ -8,8 +8,8 @@ use ics_values::Moment;
 use std::alloc::{AllocError, Global};
 use std::cmp::Ordering;
 
-/// What tells an occurrence from the others of a folder, and where it stands among them: by its
-/// start, then by the bytes of its UID, then by its recurrence.
+/// Identifies an occurrence of a folder, and orders it among the others: by its start, then by the bytes
+/// of its UID, then by its recurrence.
 #[derive(Debug, Drop, PartialEq, Eq, PartialOrd, Ord)]
 pub struct Key {
     pub start: Moment,
@@ -18,7 +18,7 @@ pub struct Key {
 }
 
 impl Key {
-    /// The key of an occurrence.
+    /// The key of an occurrence. `AllocError` if an allocation fails.
     pub fn of(alloc: Global, occurrence: &Occurrence<'_>) -> Result<Key, AllocError>
         ensures { IfOk result (λ key. key_rank key ≡ rank_of (entry_of occurrence.now)) }
     {

@@ -1,4 +1,4 @@
-//! How long an event lasts.
+//! The length of an event.
 ghost use Rattle.std.specs.Prelude.{◌≡◌, ◌≤ℤ◌, pos};
 ghost use Rattle.ics_calendar.specs.Event.{IsLength};
 ghost use Rattle.ics_series.specs.Clocks.{day_of};
@@ -12,7 +12,7 @@ use ics_values::Stamp;
 
 const DAY: i64 = 86_400;
 
-/// How many days an event lasts that starts on a date.
+/// How many days an event that starts on a date lasts.
 pub(crate) fn days_lasting(first: i32, length: Length) -> i32
     requires { IsLength (Stamp.Date first) length }
     ensures value { result ≡ days_lasting first length }
@@ -26,7 +26,7 @@ pub(crate) fn days_lasting(first: i32, length: Length) -> i32
     }
 }
 
-/// The day that a stamp writes.
+/// The day of a stamp.
 pub(crate) fn day_of(stamp: Stamp) -> i32
     ensures { result ≡ day_of stamp }
 {
@@ -36,7 +36,7 @@ pub(crate) fn day_of(stamp: Stamp) -> i32
     }
 }
 
-/// How many seconds an event lasts, where each day counts 86,400 of them.
+/// How many seconds an event lasts, if each day has 86,400.
 pub(crate) fn seconds_lasting(zones: FileZones<'_>, event: &Event) -> i64
     requires { IsOwnEvent zones event.now }
     ensures value { result ≡ seconds_lasting (clocks_in zones.entry) event.now }

@@ -1,4 +1,4 @@
-//! Laws of the definitions, each the contract of a function that does nothing.
+//! Laws of the definitions. Each is the contract of a function that has no other purpose.
 ghost use Rattle.std.specs.Prelude.{◌≡◌};
 ghost use Rattle.ics_series.specs.Entry.{key_rank, rank_cmp};
 ghost use Rattle.ics_series.specs.Laws.{AddedFiles, EachStart, ListingAfter, ListingBehind, ListingMerged, MostInDays, MostOfMasters, NoneExcluded, OneListing, OneRecurrence, OneStart, OneVersion, OrderOfFiles, RawCounted};
@@ -58,8 +58,8 @@ pub fn each_start()
     ensures { EachStart }
 {}
 
-/// The starts of an event in five UTC days are counted as `held_most` does: each local and each place
-/// of an RDATE that gives one counts once.
+/// The starts of an event in five UTC days are counted as by `held_most`: each local and each RDATE, by
+/// its place, that gives a start counts once.
 pub fn raw_counted()
     ensures { RawCounted }
 {}
@@ -70,7 +70,7 @@ pub fn most_in_days()
     ensures { MostInDays }
 {}
 
-/// The bound of what a listing holds is no greater for its own masters than for all masters of the
+/// The bound on what a listing holds is no greater for its own masters than for all masters of the
 /// folder that count.
 pub fn most_of_masters()
     ensures { MostOfMasters }
@@ -86,7 +86,7 @@ pub fn none_excluded()
     ensures { NoneExcluded }
 {}
 
-/// Keys are ordered as the occurrences of a listing are.
+/// Keys have the order of the occurrences of a listing.
 pub fn keys_as_listed()
     ensures { (a b : Key) → ⟦<Key as Ord>⟧.cmp a b ≡ rank_cmp (key_rank a) (key_rank b) }
 {}
@@ -96,22 +96,22 @@ pub fn one_spelling()
     ensures { OneSpelling }
 {}
 
-/// Where what began before a window is left out, exactly what starts in the window is listed.
+/// If what began before a window is left out, exactly the occurrences that start in the window are listed.
 pub fn lists_starts()
     ensures { ListsStarts }
 {}
 
-/// In the window of one second, an occurrence of some length is listed exactly if it has begun by then and is not over.
+/// In a window of one second, an occurrence with a length is listed exactly if it has begun by then and is not over.
 pub fn lists_under_way()
     ensures { ListsUnderWay }
 {}
 
-/// The listing of a window within a window is what of the other's listing meets it.
+/// The listing of a window within another has the entries of the other's listing that meet the inner window.
 pub fn listing_within()
     ensures { ListingWithin }
 {}
 
-/// Where what began before is left out, the listings of two windows that adjoin join to that of both.
+/// If what began before is left out, the listing of two adjoining windows is that of the first followed by that of the second.
 pub fn listings_join()
     ensures { ListingsJoin }
 {}

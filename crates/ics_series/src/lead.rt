@@ -1,4 +1,4 @@
-//! A feed of which the first is known.
+//! A feed whose first occurrence is known.
 ghost use Rattle.std.specs.Prelude.{◌≡◌, ◌-◌, ◌^◌, length, min, IfOk, OnErr, OnOk};
 ghost use Rattle.ics_series.specs.Leads.{listed, AreNear, IsAhead, IsAhead-prop};
 
@@ -7,11 +7,11 @@ use crate::holding::Holding;
 use crate::occurrence::Occurrence;
 use std::alloc::AllocError;
 
-/// A feed, and the first that is still to come of it, which is drawn already.
+/// A feed and the first occurrence still to come, which was drawn from it.
 #[derive(Drop)]
 pub(crate) struct Lead<'a, F: Coming> {
     pub(crate) feed: F,
-    // None where nothing is left.
+    // None if nothing is left.
     pub(crate) head: Option<Occurrence<'a>>,
     pub(crate) ghost ahead: { IsAhead head (F.coming feed) } by { IsAhead-prop head (F.coming feed) },
 }
@@ -28,7 +28,7 @@ impl<'a, F: Feed<'a> + Drop> Lead<'a, F> {
 }
 
 impl<'a, F: Feed<'a>> Lead<'a, F> {
-    // Lets go what is drawn, and draws the next.
+    // Drops what was drawn and draws the next.
     pub(crate) fn draw(&mut self) -> Result<(), AllocError>
         ensures drawn { OnOk result (listed self.new.head (F.coming self.new.feed) ≡ F.coming self.old.feed) }
         ensures head { OnErr result (self.new.head ≡ self.old.head) }
@@ -43,7 +43,7 @@ impl<'a, F: Feed<'a>> Lead<'a, F> {
 }
 
 impl<'a, F: Holding> Lead<'a, F> {
-    // How many built occurrences it holds: what is drawn, and what its feed holds.
+    // How many built occurrences it holds: the drawn one, and those that its feed holds.
     pub(crate) fn held(&self) -> usize
         ensures { result ≡ min (length (listed self.now.head (F.holds self.now.feed))) (2 ^ 64 - 1) }
     {

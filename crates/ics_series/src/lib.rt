@@ -1,4 +1,4 @@
-//! The occurrences of a folder of calendar files, as the one list that a window shows.
+//! The occurrences of a folder of calendar files that meet a window, as one list.
 #![tactic(auto)]
 
 mod agenda;

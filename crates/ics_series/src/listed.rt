@@ -12,8 +12,8 @@ use ics_calendar::{Event, Rdate, Time};
 use ics_values::{Local, Stamp};
 use std::alloc::AllocError;
 
-/// Adds the starts that the RDATEs of an event give, but for those written two days or more past the
-/// window's end, which begin after it.
+/// Adds the starts that the RDATEs of an event give, but for those whose local is two days or more past
+/// the window's end. They begin after it.
 pub(crate) fn push_listed(
     starts: &mut Vec<Start>,
     zones: FileZones<'_>,
@@ -37,8 +37,8 @@ pub(crate) fn push_listed(
     Ok(())
 }
 
-// Where a value of an RDATE starts an event with this DTSTART: under an event of dates each form
-// means its date.
+// The time or period at which a value of an RDATE starts an event with this DTSTART. If the event has
+// dates, a value of any form means its date.
 fn given_by(first: Time, rdate: Rdate) -> Rdate
     ensures { result ≡ given_by first rdate }
 {
@@ -49,8 +49,8 @@ fn given_by(first: Time, rdate: Rdate) -> Rdate
     }
 }
 
-// A time of an RDATE under an event of date-times: a date stands for that date at DTSTART's time of
-// the day, in DTSTART's zone.
+// A time of an RDATE, if the event has date-times. A date means that date at DTSTART's time of day, in
+// DTSTART's zone.
 fn time_by(first: Time, time: Time) -> Time
     ensures { result ≡ time_by first time time.stamp }
 {

@@ -1,4 +1,4 @@
-//! The masters that recur, each as a feed of its own.
+//! The masters that recur, each of them as a feed.
 ghost use Rattle.std.specs.Prelude.{◌≡◌, ◌<◌, [], ◌∷◌, length, map, slice_get, IfOk, List, MatchOption, None, Some};
 ghost use Rattle.std.specs.List.{flat_map};
 ghost use Rattle.std.specs.Option.{option_map};
@@ -28,8 +28,8 @@ use ics_zone::Display;
 use std::alloc::{AllocError, Global};
 use std::cmp::Ordering;
 
-/// Adds, for each of the versions that count whose event recurs, the feed of its occurrences that
-/// meet the window, after a key those that come after it.
+/// Adds a feed for each version that counts and whose event recurs: its occurrences that meet the
+/// window and, with a key, come after it.
 pub(crate) fn push_series<'a>(
     alloc: Global,
     parts: &mut Vec<Part<'a>>,
@@ -57,7 +57,7 @@ pub(crate) fn push_series<'a>(
     Ok(())
 }
 
-// The occurrences to come of the version at a place, if its event recurs.
+// The feed of the version at a place, if its event recurs.
 fn series_at<'a>(
     alloc: Global,
     files: &'a [FileEvents],
@@ -91,7 +91,7 @@ fn series_at<'a>(
     Ok(Some(series))
 }
 
-// From when on the occurrences of a master with this UID come after the key.
+// The instant from which on the occurrences of a master with this UID come after the key.
 fn since_of(after: Option<&Key>, uid: &[u8]) -> Moment
     ensures since { IsSince (option_map (λ key. key_rank key.now) after.entry) uid.entry.now result }
     ensures from { IsFrom (option_map (λ key. key_rank key.now) after.entry) result }

@@ -21,9 +21,9 @@ use std::alloc::{AllocError, Global};
 #[derive(Drop)]
 pub struct Merge<'a, F: Coming> {
     leads: Vec<Lead<'a, F>>,
-    // For each node of a tournament of the leads, which of those below it goes first.
+    // For each node of a tournament of the leads, the first of those below it.
     winners: Vec<usize>,
-    // What was given last: what has its key counts as given.
+    // The occurrence that was given last. Others with its key count as given.
     last: Option<Occurrence<'a>>,
     ghost same_length: { length winners.items ≡ length leads.items },
     ghost within: { All (λ lead. lead < length leads.items) winners.items },
@@ -77,7 +77,7 @@ impl<'a, F: Feed<'a>> Feed<'a> for Merge<'a, F> {
 }
 
 impl<'a, F: Feed<'a>> Merge<'a, F> {
-    // Draws from the leads that go first while they hold what has been given.
+    // Draws from the first lead as long as it holds what has been given.
     fn skip_given(&mut self) -> Result<(), AllocError>
         ensures same { ⟦<Merge<'a, F> as Coming>⟧.coming self.new ≡ ⟦<Merge<'a, F> as Coming>⟧.coming self.old }
         ensures sources { ⟦<Merge<'a, F> as Coming>⟧.sources self.new ≡ ⟦<Merge<'a, F> as Coming>⟧.sources self.old }
@@ -89,7 +89,7 @@ impl<'a, F: Feed<'a>> Merge<'a, F> {
         Ok(())
     }
 
-    // Draws from the lead that goes first, where it holds what has been given.
+    // Draws from the first lead, which holds what has been given.
     fn draw_first(&mut self) -> Result<(), AllocError>
         requires { is_given self.old.last (first_held (map (λ l. option_map entry_of l.head) self.old.leads.items) self.old.winners.items) ≡ true }
         ensures same { ⟦<Merge<'a, F> as Coming>⟧.coming self.new ≡ ⟦<Merge<'a, F> as Coming>⟧.coming self.old }
@@ -113,7 +113,7 @@ impl<'a, F: Feed<'a>> Merge<'a, F> {
         }
     }
 
-    // What the lead that goes first holds.
+    // What the first lead holds.
     fn first(&self) -> Option<Occurrence<'a>>
         ensures { option_map entry_of result ≡ first_held (map (λ l. option_map entry_of l.head) self.now.leads.items) self.now.winners.items }
     {
@@ -122,8 +122,8 @@ impl<'a, F: Feed<'a>> Merge<'a, F> {
 }
 
 impl<'a, F: Holding> Merge<'a, F> {
-    /// How many built occurrences are held, or the greatest number where that is less: the one that
-    /// was given last, of each feed the one that is drawn, and those that the feed holds.
+    /// How many built occurrences are held: the one that was given last, the one drawn from each
+    /// feed, and those that the feeds hold. The count stops at the greatest `usize`.
     pub(crate) fn held(&self) -> usize
         ensures { result ≡ min (length (listed self.now.last (flat_map (λ l. listed l.head (F.holds l.feed)) self.now.leads.items))) (2 ^ 64 - 1) }
     {
@@ -134,7 +134,7 @@ impl<'a, F: Holding> Merge<'a, F> {
         held
     }
 
-    /// How many periods of rules the feeds have looked at, or the greatest number where that is less.
+    /// How many periods of rules the feeds have looked at. The count stops at the greatest `u64`.
     pub(crate) fn steps(&self) -> u64
         ensures { result ≡ min (sum_by (λ l. F.looked l.feed) self.now.leads.items) (2 ^ 64 - 1) }
     {

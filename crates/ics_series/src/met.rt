@@ -13,7 +13,7 @@ use crate::window::Window;
 use crate::zones::FileZones;
 use ics_calendar::Event;
 
-// The occurrence of an event that has a start, if it meets the window and no EXDATE takes it out.
+// The occurrence with a start, if it meets the window and no EXDATE removes it.
 pub(crate) fn shown<'a>(
     zones: FileZones<'_>,
     event: &'a Event,

@@ -17,7 +17,7 @@ use std::cmp::Ordering;
 pub struct Occurrence<'a> {
     pub start: Moment,
     pub finish: Moment,
-    /// The instant that tells it from the other occurrences of its UID.
+    /// The instant that identifies it among the occurrences of its UID.
     pub recurrence: Moment,
     pub event: &'a Event,
     pub ghost not_early: { neg_ℤ (pos 62_135_769_600) ≤ℤ start },
@@ -31,7 +31,7 @@ impl<'a> Occurrence<'a> {
     ghost use Rattle.ics_series.specs.Found.{met_by, IsStart};
     ghost use Rattle.ics_series.specs.Zones.{clocks_in, IsOwnEvent};
 
-    // The occurrence of an event that has a start, if it meets the window.
+    // The occurrence with a start, if it meets the window.
     pub(crate) fn within(
         zones: FileZones<'_>,
         event: &'a Event,

@@ -1,4 +1,4 @@
-//! The instances of a master that overrides stand for.
+//! The instances of a master that overrides replace.
 ghost use Rattle.std.specs.Prelude.{◌≡◌, map, slice_get, IfOk, None, Some};
 ghost use Rattle.std.specs.List.Sorted.{IsSorted};
 ghost use Rattle.std.specs.Option.{option_map};
@@ -11,8 +11,8 @@ use crate::version::{Subject, Version};
 use ics_values::Moment;
 use std::alloc::{AllocError, Global};
 
-/// The instants of the instances of this UID that the versions override, in order. Its master stands
-/// at this place among them, and its overrides follow.
+/// The instants of the instances of this UID that the versions override, in order. Its master is at
+/// this place among the versions, and its overrides follow it.
 pub(crate) fn overridden_instants(
     alloc: Global,
     uid: &[u8],

@@ -1,17 +1,17 @@
-//! Zones that keep what a listing will ask them.
+//! Preparing zones for a listing.
 ghost use Rattle.std.specs.Prelude.{◌≡◌};
 
 use crate::window::Window;
 use ics_calendar::FileEvents;
 use ics_zone::Zone;
 
-/// How far apart the instants are near which a zone is prepared. Most zones keep an offset for longer.
+/// The distance of the instants near which a zone is prepared. Most zones keep an offset for longer.
 const STEP: i64 = 120 * 86_400;
 
-/// Near how many of them it is prepared: they span somewhat more than two years and a half.
+/// The number of these instants. They span somewhat more than two and a half years.
 const STEPS: usize = 8;
 
-/// Prepares the zones that the events of these files name for a window. For speed alone: no answer changes.
+/// Prepares the zones that the events of these files name for a window. It makes a listing faster and changes no answer.
 pub(crate) fn prepare_each(files: &mut [FileEvents], window: &Window)
     ensures { files.new ≡ files.old }
 {
@@ -33,7 +33,7 @@ fn prepare_named(file: &mut FileEvents, window: &Window)
     }
 }
 
-// Prepares a zone near the window's beginning, on from there, and near its end.
+// Prepares a zone near the window's beginning, in steps after that, and near its end.
 fn prepare(zone: &mut Zone, window: &Window)
     ensures { zone.new ≡ zone.old }
 {

@@ -1,4 +1,4 @@
-//! Starts that wait, in the order of their instants.
+//! Held starts, in the order of their instants.
 ghost use Rattle.std.specs.Prelude.{◌≡◌, ◌<◌, ◌≤◌, ◌∷◌, [], MatchOption};
 ghost use Rattle.std.specs.List.{insert};
 ghost use Rattle.std.specs.VecDeque.{deque_len, deque_capacity};
@@ -9,7 +9,7 @@ ghost use Rattle.ics_series.specs.Rising.{Rises};
 use crate::start::Start;
 use std::collections::VecDeque;
 
-// Where a start belongs, or None where one at its instant is there.
+// The place of a start among those held, or None if one at its instant is there.
 fn place_for(held: &VecDeque<Start>, start: Start) -> Option<usize>
     requires { Rises moment_cmp held.now.items }
     ensures { MatchOption result

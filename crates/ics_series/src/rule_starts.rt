@@ -25,19 +25,19 @@ use ics_values::{Local, Moment};
 use std::alloc::{AllocError, Global};
 use std::collections::VecDeque;
 
-/// The starts that a rule gives before a window's end. All locals before the midnight of `day` are
-/// read; those of their starts that are not given out yet are held.
+/// The starts that a rule gives before a window's end. All locals before the midnight of `day` have
+/// been read. Those of their starts that were not given yet are held.
 #[derive(Drop)]
 pub(crate) struct RuleStarts<'a> {
     zones: FileZones<'a>,
     event: &'a Event,
     window: Window,
     rule: Rule,
-    /// Where the cursor began.
+    /// The local at which the cursor began.
     from: Local,
     cursor: Cursor,
     day: i32,
-    /// No period was looked at for a local from this day on: `day` or, while that is read, the next.
+    /// No period was looked at for a local from this day on. It is `day` or, while that is read, the next.
     asked: i32,
     /// No local from this day on has an instant before the window's end.
     end: i32,
@@ -59,7 +59,7 @@ pub(crate) struct RuleStarts<'a> {
     ghost soon: { midnight end <ℤ (window.to +ℤ pos 259_200) },
 }
 
-// Whether a rule lets an instant through that a local means, and it lies before the window's end.
+// Whether the instant of a local is before the window's end and, unless the local is the first, not after UNTIL.
 fn is_let_through(rule: &Rule, window: Window, first: Local, local: Local, moment: Moment) -> bool
     requires first { IsDayNumber first.day }
     requires local { IsDayNumber local.day }
@@ -72,7 +72,7 @@ fn is_let_through(rule: &Rule, window: Window, first: Local, local: Local, momen
     (first | until) & early
 }
 
-// Holds the start that a kept local gives, unless one at its instant is held.
+// Holds the start that a kept local gives, unless one at its instant is held already.
 fn hold(
     held: &mut VecDeque<Start>,
     zones: FileZones<'_>,
@@ -101,8 +101,8 @@ fn hold(
     }
 }
 
-// Whether the first of what is held comes two days or more before a day's midnight: so it does
-// before all that later locals give.
+// Whether the first held start is two days or more before a day's midnight. If so, it is before all
+// starts that later locals give.
 fn is_ready(day: i32, held: &VecDeque<Start>) -> bool
     ensures { result ≡ is_ready day held.now.items }
 {
@@ -123,7 +123,7 @@ impl<'a> RuleStarts<'a> {
     ghost use Rattle.ics_series.specs.RuleStarts.{bound_of, found, steps_left};
     ghost use Rattle.ics_series.specs.Zones.{IsOwnEvent};
 
-    /// The starts by the locals from one on.
+    /// The starts by the locals from a given one on.
     pub(crate) fn new(
         alloc: Global,
         zones: FileZones<'a>,
@@ -158,14 +158,14 @@ impl<'a> RuleStarts<'a> {
         }
     }
 
-    // Whether a day more has to be read before the first start still to come is known.
+    // Whether another day has to be read before the first start still to come is known.
     fn is_behind(&self) -> bool
         ensures { result ≡ is_behind self.now.day self.now.end self.now.held.items }
     {
         self.day < self.end && !is_ready(self.day, &self.held)
     }
 
-    // How far the cursor is asked next: where nothing is held to the end, else a day on.
+    // The day up to which the cursor searches next: the end if nothing is held, else the next day.
     fn bound(&self) -> i32
         requires { self.now.day <ℤ self.now.end }
         ensures { result ≡ bound_of self.now.day self.now.end self.now.held.items }
@@ -177,7 +177,7 @@ impl<'a> RuleStarts<'a> {
         }
     }
 
-    // Reads on to the next kept local or, where a start is held, to the end of the day at most.
+    // Reads up to the next kept local but, if a start is held, not past the end of the day.
     fn read_on(&mut self) -> Result<(), AllocError>
         requires { is_behind self.old.day self.old.end self.old.held.items ≡ true }
         ensures same { starts_left self.new ≡ starts_left self.old }
@@ -185,7 +185,7 @@ impl<'a> RuleStarts<'a> {
         ensures less { OnOk result (steps_left self.new.day self.new.end (place_of self.new.cursor) < steps_left self.old.day self.old.end (place_of self.old.cursor)) }
     {
         let bound = self.bound();
-        // The room is taken before the cursor goes on, so that no local is lost.
+        // Room is reserved before the cursor moves, so that no local is lost.
         self.held.reserve(1)?;
         match self.cursor.next(&self.rule, Local::at(bound, 0)) {
             None => {
@@ -209,7 +209,7 @@ impl<'a> RuleStarts<'a> {
         Ok(())
     }
 
-    /// The first of the starts still to come, None where there is none.
+    /// The first of the starts still to come; None if there is none.
     pub(crate) fn peek(&mut self) -> Result<Option<Start>, AllocError>
         ensures same { starts_left self.new ≡ starts_left self.old }
         ensures source { HasSameSource self.old self.new }
@@ -222,8 +222,8 @@ impl<'a> RuleStarts<'a> {
         Ok(self.held.front().copied())
     }
 
-    /// Lets the first of the starts still to come go, where it begins at the instant of this one.
-    /// `peek` has answered.
+    /// Drops the first of the starts still to come, if it is at the instant of this one. `peek` has
+    /// answered before.
     pub(crate) fn pass(&mut self, start: &Start)
         requires { is_behind self.old.day self.old.end self.old.held.items ≡ false }
         ensures left { starts_left self.new ≡ cut moment_cmp start.now (starts_left self.old) }
@@ -237,8 +237,8 @@ impl<'a> RuleStarts<'a> {
         }
     }
 
-    /// How many starts are held. They lie in the five UTC days of which the fourth begins at the
-    /// midnight of `asked`, and are no more than the event has in any five.
+    /// How many starts are held. They are in the five UTC days of which the fourth begins at the
+    /// midnight of `asked`, and no more than the event has in any five.
     pub(crate) fn held(&self) -> usize
         ensures count { result ≡ length self.now.held.items }
         ensures rise { Rises moment_cmp self.now.held.items }
@@ -248,9 +248,9 @@ impl<'a> RuleStarts<'a> {
         self.held.len()
     }
 
-    /// How many periods of the rule were looked at: at most those that hold a local from the first
-    /// on, under COUNT from DTSTART on, and before the midnight of `asked`. That lies no more than
-    /// three days past each start still to come, and less than three past the window's end.
+    /// How many periods of the rule were looked at: at most those that hold a local before the
+    /// midnight of `asked`, from the first on or, under COUNT, from DTSTART on. That midnight is no
+    /// more than three days past each start still to come, and less than three past the window's end.
     pub(crate) fn steps(&self) -> u64
         ensures count { result ≡ steps_of self.now.cursor }
         ensures most { result ≤ period_count self.now.rule (looks_from self.now.rule.parts.count (number self.now.rule.start) (number self.now.from)) (midnight_number self.now.asked) }

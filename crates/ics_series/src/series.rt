@@ -1,4 +1,4 @@
-//! The occurrences of one event that meet a window, found as they are asked for.
+//! The occurrences of one event that meet a window, found one by one.
 ghost use Rattle.std.specs.Prelude.{◌≡◌, slice_get, All, IfOk, MatchOption, None, OnOk};
 ghost use Rattle.std.specs.List.Sorted.{IsSorted};
 ghost use Rattle.std.specs.Ordering.{int_cmp};
@@ -31,8 +31,8 @@ use ics_rule::Rule;
 use ics_values::Moment;
 use std::alloc::{AllocError, Global};
 
-/// The occurrences of an event that meet a window and begin at an instant or later, but for those
-/// that overrides name.
+/// The occurrences of an event that meet a window and begin at an instant or later, without those that
+/// overrides name.
 #[derive(Drop)]
 pub(crate) struct Series<'a> {
     zones: FileZones<'a>,
@@ -43,7 +43,7 @@ pub(crate) struct Series<'a> {
     // The instants that overrides name, in order.
     overridden: Vec<Moment>,
     rule_starts: Option<RuleStarts<'a>>,
-    // The starts by RDATEs and, where there is no rule, that at DTSTART.
+    // The starts by RDATEs and, if there is no rule, the one at DTSTART.
     listed: ListedStarts,
     ghost in_order: { IsSorted int_cmp overridden.items },
     ghost own: { IsOwnEvent zones event.now } by { own-event-prop zones event.now },
@@ -54,7 +54,7 @@ pub(crate) struct Series<'a> {
     ghost rising: { Rises entry_cmp (given_of (clocks_in zones) window event.now since overridden.items (left rule_starts listed)) } by { Rises-prop (given_of (clocks_in zones) window event.now since overridden.items (left rule_starts listed)) },
 }
 
-// The starts that are known from the first: those by RDATEs and, where there is no rule, that at
+// The starts that are known from the beginning: those by RDATEs and, if there is no rule, the one at
 // DTSTART. A rule keeps DTSTART.
 fn listed_apart(
     alloc: Global,
@@ -73,7 +73,7 @@ fn listed_apart(
     Ok(starts)
 }
 
-// The starts that the rule of an event gives, if it has one: those from an instant on and, where the
+// The starts that the rule of an event gives, if it has one: those from an instant on and, if the
 // event is long, earlier ones that can still meet the window.
 fn starts_by_rule<'a>(
     alloc: Global,
@@ -93,7 +93,7 @@ fn starts_by_rule<'a>(
     let first = local_of(event.start.stamp);
     let rule = Rule::new(parts, first, kind_of(event.start.stamp));
     let earliest = earliest(zones, event, &window, listed);
-    // All instants so late after the window's end count as one: none of its days is read for them.
+    // All instants this late after the window's end are treated as one: no day is read for them.
     let late = window.to + 14 * 86_400;
     let from = first_nearby(first, earliest.max(since.min(late)));
     Some(RuleStarts::new(alloc, zones, event, window, rule, from))
@@ -112,7 +112,7 @@ fn peek_rule(rule: &mut Option<RuleStarts<'_>>) -> Result<Option<Start>, AllocEr
     }
 }
 
-// Lets the first of these go, where it begins at the instant of this one.
+// Drops the first of these, if it is at the instant of this one.
 fn pass_rule(rule: &mut Option<RuleStarts<'_>>, start: &Start)
     requires { IsReady rule.old }
     ensures left { rule_left rule.new ≡ cut moment_cmp start.now (rule_left rule.old) }
@@ -124,7 +124,7 @@ fn pass_rule(rule: &mut Option<RuleStarts<'_>>, start: &Start)
     }
 }
 
-// Which of two starts goes first: at one instant that by the rule.
+// The first of two starts. If both are at one instant, it is the one by the rule.
 fn earlier_of(ruled: Option<Start>, listed: Option<Start>) -> Option<Start>
     ensures { result ≡ earlier_of ruled listed }
 {
@@ -141,7 +141,7 @@ fn earlier_of(ruled: Option<Start>, listed: Option<Start>) -> Option<Start>
     }
 }
 
-// Whether an instant is one of some in order.
+// Whether an instant is one of a list in order.
 fn is_among(instants: &[Moment], moment: Moment) -> bool
     requires { IsSorted int_cmp instants.now }
     ensures { result ≡ is_among instants.now moment }
@@ -158,8 +158,8 @@ impl<'a> Series<'a> {
     ghost use Rattle.ics_series.specs.SeriesFeed.{series_left, series_near, series_of, series_sources, source_of, IsSameSeries};
     ghost use Rattle.ics_series.specs.SeriesStarts.{wanted_by, IsKnown, IsSeriesMet, IsTaken};
 
-    /// The occurrences of an event from an instant on, but for those at the instants that overrides
-    /// name, which are in order.
+    /// The occurrences of an event from an instant on, without those at the instants that overrides
+    /// name. These are in order.
     pub(crate) fn new(
         alloc: Global,
         zones: FileZones<'a>,
@@ -206,7 +206,7 @@ impl<'a> Series<'a> {
         Ok(first)
     }
 
-    // The occurrence with a start, if it is wanted.
+    // The occurrence with a start, if it belongs to the list.
     fn wanted(&self, start: Start) -> Option<Occurrence<'a>>
         requires { IsKnown (clocks_in self.now.zones) self.now.event.now self.now.window start }
         ensures { option_map entry_of result ≡ wanted_by (clocks_in self.now.zones) self.now.window self.now.event.now self.now.since self.now.overridden.items start }
@@ -223,7 +223,7 @@ impl<'a> Series<'a> {
         )
     }
 
-    /// How many starts of its rule are held.
+    /// How many starts of the rule are held.
     pub(crate) fn held(&self) -> usize
         ensures { result ≡ length (rule_held self.now.rule_starts) }
     {
@@ -233,7 +233,7 @@ impl<'a> Series<'a> {
         }
     }
 
-    /// How many periods of its rule were looked at.
+    /// How many periods of the rule were looked at.
     pub(crate) fn steps(&self) -> u64
         ensures { result ≡ rule_looked self.now.rule_starts }
     {

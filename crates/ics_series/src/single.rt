@@ -14,8 +14,8 @@ use ics_calendar::{Event, Rdate};
 use ics_values::Moment;
 use std::cmp::Ordering;
 
-/// The occurrence of an event at its DTSTART, but for its finish, which is found when the occurrence
-/// is given.
+/// The occurrence of an event at its DTSTART, without its finish, which is found when the occurrence is
+/// given.
 #[derive(Clone, Copy)]
 pub(crate) struct Single<'a> {
     start: Moment,
@@ -36,8 +36,8 @@ impl<'a> Single<'a> {
     ghost use Rattle.ics_series.specs.Found.{IsStart};
     ghost use Rattle.ics_series.specs.Singles.{begun_first, single_entry};
 
-    // What an event gives at its DTSTART, if that is before the window's end. It stands for the
-    // instance at `recurrence`, or for its own start.
+    // The occurrence of an event at its DTSTART, if that is before the window's end. Its recurrence is
+    // `recurrence` or, without that, its start.
     pub(crate) fn begun(
         zones: FileZones<'a>,
         event: &'a Event,

@@ -1,4 +1,4 @@
-//! The occurrences of a folder whose events start once.
+//! The occurrences of the events of a folder that start once.
 ghost use Rattle.std.specs.Prelude.{◌≡◌, filter, map, IfOk, IsSome};
 ghost use Rattle.std.specs.List.{filter_map};
 ghost use Rattle.std.specs.List.Sorted.{IsSorted};
@@ -28,8 +28,8 @@ use ics_zone::Display;
 use std::alloc::{AllocError, Global};
 use std::vec::IntoIter;
 
-/// The occurrences to come of the events that start once, in the order of their keys. None is built
-/// before it is given.
+/// The occurrences still to come of the events that start once, in the order of their keys. An
+/// occurrence is built when it is given.
 #[derive(Drop)]
 pub(crate) struct Singles<'a> {
     rest: IntoIter<Single<'a>, Global>,
@@ -38,7 +38,7 @@ pub(crate) struct Singles<'a> {
 }
 
 impl<'a> Singles<'a> {
-    // Those that the versions that count give in the window, after a key only those that come after it.
+    // Those of the versions that count that meet the window and, with a key, come after it.
     pub(crate) fn new(
         alloc: Global,
         files: &'a [FileEvents],
@@ -96,7 +96,7 @@ impl<'a> Holding for Singles<'a> {
 impl<'a> Feed<'a> for Singles<'a> {
     ghost rises = { λ singles. singles.rising };
 
-    /// Takes no memory.
+    /// It allocates nothing.
     fn next(&mut self) -> Result<Option<Occurrence<'a>>, AllocError> {
         match self.rest.next() {
             None => Ok(None),
@@ -105,7 +105,7 @@ impl<'a> Feed<'a> for Singles<'a> {
     }
 }
 
-// What the versions that count give of that, in the order of their subjects.
+// Those of the versions that count, in the order of their subjects.
 fn to_come<'a>(
     alloc: Global,
     files: &'a [FileEvents],
@@ -130,7 +130,7 @@ fn to_come<'a>(
     Ok(singles)
 }
 
-// What a version gives of that.
+// That of a version, if there is one.
 fn given<'a>(
     files: &'a [FileEvents],
     display: &'a Display,
@@ -158,7 +158,7 @@ fn given<'a>(
     }
 }
 
-// Whether an event starts once: an override stands at its DTSTART alone.
+// Whether an event starts once. An override starts at its DTSTART alone.
 pub(crate) fn is_single(event: &Event) -> bool
     ensures { result ≡ is_single event.now }
 {
@@ -166,7 +166,7 @@ pub(crate) fn is_single(event: &Event) -> bool
         || (event.rule.is_none() && event.rdates.is_empty() && event.exdates.is_empty())
 }
 
-// Whether an occurrence meets the window, comes after the key, and no override stands for it.
+// Whether an occurrence meets the window, comes after the key, and is replaced by no override.
 fn is_to_come(
     occurrence: &Occurrence<'_>,
     overrides: &[Version<'_>],

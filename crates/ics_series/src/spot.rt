@@ -1,4 +1,4 @@
-//! Where an event of a folder stands.
+//! The place of an event in a folder.
 ghost use Rattle.std.specs.Prelude.{◌≡◌, Some, IsSome, map};
 ghost use Rattle.ics_calendar.specs.Event.{said_by, IsEventOf};
 
@@ -20,7 +20,7 @@ impl Spot {
     ghost use Rattle.ics_series.specs.Zones.{clocks_in};
     ghost use Rattle.ics_zone.specs.Observances.{phases_of};
 
-    // The event that stands there.
+    // The event at this place.
     pub(crate) fn event<'a>(self, files: &'a [FileEvents]) -> &'a Event
         requires { IsSome (event_at (map said_by files.now) self) }
         ensures event { event_at (map said_by files.entry.now) self ≡ Some result.now }

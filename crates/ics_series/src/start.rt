@@ -1,4 +1,4 @@
-//! What gives an event its starts.
+//! The starts of an event and what gives them.
 ghost use Rattle.std.specs.Prelude.{◌≡◌};
 ghost use Rattle.ics_series.specs.Found.{giver_cmp};
 ghost use Rattle.ics_series.specs.Starts.{date_of, kind_of, local_of, time_at, time_of};
@@ -8,15 +8,15 @@ use ics_rule::Kind;
 use ics_values::{Local, Moment, Stamp};
 use std::cmp::Ordering;
 
-/// What gives an event a start: a local that DTSTART has or the rule keeps, or the value of an RDATE
-/// at this place among them.
+/// What gives an event a start: a local, which is that of DTSTART or kept by the rule, or the value of
+/// an RDATE, by its place among them.
 #[derive(Clone, Copy, Debug, PartialEq, Eq)]
 pub(crate) enum Giver {
     Kept(Local),
     Listed(usize),
 }
 
-/// A start of an event: its instant, what gives it, and the value by which it does.
+/// A start of an event: its instant, what gives it, and the value that it gives.
 #[derive(Clone, Copy, Debug, PartialEq, Eq)]
 pub(crate) struct Start {
     pub(crate) moment: Moment,
@@ -38,7 +38,7 @@ impl Start {
     }
 }
 
-// The locals in their order, and then the RDATEs as the file has them.
+// Locals come first, in their order, and then RDATEs in the order of the file.
 fn compare_givers(a: Giver, b: Giver) -> Ordering
     ensures { result ≡ giver_cmp a b }
 {
@@ -79,7 +79,7 @@ pub(crate) fn kind_of(stamp: Stamp) -> Kind
     }
 }
 
-/// The local that a stamp writes: a date stands for its midnight.
+/// The local of a stamp. That of a date is its midnight.
 pub(crate) fn local_of(stamp: Stamp) -> Local
     ensures { result ≡ local_of stamp }
 {

@@ -20,7 +20,7 @@ use std::alloc::{AllocError, Global};
 
 const DAY: i64 = 86_400;
 
-// The start by a local that DTSTART has or the rule keeps.
+// The start at the local of DTSTART, or at one that the rule keeps.
 pub(crate) fn start_at(zones: FileZones<'_>, event: &Event, local: Local) -> Start
     requires { IsTimeOf zones.zones.now (time_at event.now.start local) }
     ensures { result ≡ start_at (clocks_in zones.entry) event.now local }
@@ -33,9 +33,9 @@ pub(crate) fn start_at(zones: FileZones<'_>, event: &Event, local: Local) -> Sta
     }
 }
 
-// From where on the rule is asked: from where an event of this length can still meet the window, or
-// from the earliest start by a PERIOD that does, since a local at that instant gives it the event's
-// length.
+// The instant from which on the rule is read: the first at which an event of this length can still
+// meet the window or, if it is earlier, the earliest start by a PERIOD that meets it, since a local at
+// that instant gives it the event's length.
 pub(crate) fn earliest(
     zones: FileZones<'_>,
     event: &Event,
@@ -79,9 +79,9 @@ pub(crate) fn is_until(until: Option<Moment>, moment: Moment) -> bool
     }
 }
 
-// The local from which on a rule with this first local is asked: that or, if it is later, a midnight
-// six to seven days before the earliest instant that counts. So a rule that began long ago is not
-// asked for what is long past.
+// The local from which on a rule with this first local is read: that local or, if it is later, a
+// midnight six to seven days before the earliest instant that counts. So a rule that began long ago is
+// not read from its beginning.
 pub(crate) fn first_nearby(first: Local, earliest: Moment) -> Local
     requires first { IsDayNumber first.day }
     requires late { neg_ℤ (pos 500_000_000_000) ≤ℤ earliest }
@@ -98,7 +98,7 @@ pub(crate) fn first_nearby(first: Local, earliest: Moment) -> Local
     }
 }
 
-// The third day after the window's last: no local from there on means an instant before the window's
+// The third day after the window's last. No local from that day on has an instant before the window's
 // end.
 pub(crate) fn end_nearby(window: &Window) -> i32
     ensures day { IsDayNumber result }
@@ -110,7 +110,7 @@ pub(crate) fn end_nearby(window: &Window) -> i32
     day + 3
 }
 
-// The local of the calendar with this number. A cursor tells its locals by their numbers, which
+// The local of the calendar with this number. A cursor identifies its locals by their numbers, which
 // count a day before the calendar as if it were one within.
 pub(crate) fn of_calendar(local: Local) -> Local
     requires { number local ≤ 309_289_708_800 }
@@ -121,7 +121,7 @@ pub(crate) fn of_calendar(local: Local) -> Local
     Local::at(day, local.second)
 }
 
-// Of each run of starts at one instant the first.
+// The first of each run of starts at one instant.
 pub(crate) fn firsts(alloc: Global, starts: &[Start]) -> Result<Vec<Start>, AllocError>
     ensures { IfOk result (λ firsts. firsts.items ≡ firsts_after None starts.now) }
 {

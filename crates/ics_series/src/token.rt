@@ -1,4 +1,4 @@
-//! Keys as texts, from which a listing goes on.
+//! Keys as texts, with which a listing is resumed.
 ghost use Rattle.std.specs.Prelude.{◌≡◌, ◌≢◌, ◌++◌, ◌∷◌, ℕ, ℤ, List, FitsSigned, IfOk, IsErrOf, IsSomeAnd, codes};
 ghost use Rattle.std.specs.Fmt.{signed_decimal};
 ghost use Rattle.std.specs.Int.{w64};
@@ -13,10 +13,10 @@ use ics_values::Moment;
 use std::alloc::{AllocError, Global};
 use thiserror::Error;
 
-/// Why a text gives no key.
+/// Why a text is not read as a key.
 #[derive(Clone, Copy, Debug, PartialEq, Eq, Error)]
 pub enum TokenFault {
-    /// It is no token.
+    /// The text is not a token.
     #[error("no token")]
     BadToken,
     #[error("out of memory")]
@@ -24,7 +24,7 @@ pub enum TokenFault {
 }
 
 impl TokenFault {
-    /// The fault's name.
+    /// The name of the fault, as it is printed.
     pub fn name(&self) -> &'static str
         ensures { result.now ≡ fault_name self.now }
     {
@@ -46,12 +46,12 @@ impl From<AllocError> for TokenFault {
     }
 }
 
-/// The text of a key: `K1.start.recurrence.uid`, the two moments in decimal and the bytes of the UID
-/// in lower-case hexadecimal.
+/// The text of a key: `K1.start.recurrence.uid`. The two moments are in decimal, the bytes of the UID in
+/// lower-case hexadecimal.
 pub struct Token;
 
 impl Token {
-    /// The token of a key.
+    /// The token of a key. `AllocError` if an allocation fails.
     pub fn write(alloc: Global, key: &Key) -> Result<String, AllocError>
         ensures { IfOk result (λ text. string_bytes text ≡ spelling (key_rank key.now)) }
     {
@@ -61,8 +61,8 @@ impl Token {
         format!(in alloc; "K1.{start}.{recurrence}.{uid}")
     }
 
-    /// The key of a token. BadToken if the text is the token of no key: a leading zero, `-0` or an
-    /// upper-case digit is not allowed.
+    /// The key of a token. `BadToken` if the text is the token of no key: a leading zero, `-0` or an
+    /// upper-case digit is not allowed. `Memory` if an allocation fails.
     pub fn read(alloc: Global, text: &str) -> Result<Key, TokenFault>
         ensures ok { IfOk result (λ key. text.now ≡ spelling (key_rank key)) }
         ensures key { IfOk result (λ key. IsKey (key_rank key)) }
@@ -80,7 +80,7 @@ impl Token {
             uid,
             recurrence,
         };
-        // what was read may be spelled in other ways, of which the key's own alone is a token
+        // a key may be read from several spellings, but only its own is a token
         let spelled = Token::write(alloc, &key)?;
         if spelled.as_str() == text {
             Ok(key)
@@ -100,7 +100,7 @@ fn fault_of(fault: FromHexError) -> TokenFault
     }
 }
 
-// What stands behind the mark of the form.
+// The text after the prefix `K1.`.
 fn body(text: &str) -> Option<&str>
     ensures { (rest : List ℕ) → text.now ≡ codes "K1." ++ rest → IsSomeAnd result (λ part. part.now ≡ rest) }
 {
@@ -108,7 +108,7 @@ fn body(text: &str) -> Option<&str>
     if form == "K1" { Some(rest) } else { None }
 }
 
-// The number before the first point, and what stands behind that point.
+// The number before the first `.`, and the text after that.
 pub(crate) fn field(text: &str) -> Option<(Moment, &str)>
     ensures { (number : ℤ) (rest : List ℕ) → FitsSigned w64 number → text.now ≡ signed_decimal number ++ (46 ∷ rest)
         → IsSomeAnd result (λ parts. (parts.0 ≡ number) × (parts.1.now ≡ rest)) }
@@ -118,7 +118,7 @@ pub(crate) fn field(text: &str) -> Option<(Moment, &str)>
     Some((number, rest))
 }
 
-// The two moments of a token's text, and what stands behind them.
+// The two moments of a token's text, and the text after them.
 fn split(text: &str) -> Option<(Moment, Moment, &str)>
     ensures { (start recurrence : ℤ) (uid : List ℕ) → FitsSigned w64 start → FitsSigned w64 recurrence
         → text.now ≡ codes "K1." ++ (signed_decimal start ++ (46 ∷ (signed_decimal recurrence ++ (46 ∷ uid))))

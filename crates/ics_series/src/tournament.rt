@@ -1,4 +1,4 @@
-//! Which of several leads goes first.
+//! A tournament that finds the first of several leads.
 ghost use Rattle.std.specs.Prelude.{◌≡◌, ◌+◌, ◌<◌, All, IfOk, length, map};
 ghost use Rattle.std.specs.Option.{option_map};
 ghost use Rattle.std.specs.Ordering.{is_lt};
@@ -10,7 +10,7 @@ use crate::lead::Lead;
 use crate::occurrence::Occurrence;
 use std::alloc::{AllocError, Global};
 
-/// For each node of a tournament of the leads, which of those below it goes first.
+/// For each node of a tournament of the leads, the first of those below it.
 pub(crate) fn winners<'a, F: Coming>(
     alloc: Global,
     leads: &[Lead<'a, F>],
@@ -26,7 +26,7 @@ pub(crate) fn winners<'a, F: Coming>(
     Ok(winners)
 }
 
-/// Plays again what stands above a lead, after it has drawn.
+/// Decides the nodes above a lead again, after it has drawn.
 pub(crate) fn replay<'a, F: Coming>(leads: &[Lead<'a, F>], winners: &mut [usize], lead: usize)
     requires lead { lead < length leads.now }
     requires length { length winners.old ≡ length leads.now }
@@ -42,7 +42,7 @@ pub(crate) fn replay<'a, F: Coming>(leads: &[Lead<'a, F>], winners: &mut [usize]
     }
 }
 
-/// Which lead has won at a node.
+/// The lead that has won at a node.
 pub(crate) fn winner(winners: &[usize], node: usize) -> usize
     ensures { result ≡ winner winners.now node }
 {
@@ -53,7 +53,7 @@ pub(crate) fn winner(winners: &[usize], node: usize) -> usize
     }
 }
 
-// Of the leads that have won at the two nodes below this one the one that goes first.
+// The first of the two leads that have won at the nodes below this one.
 fn first_below<'a, F: Coming>(leads: &[Lead<'a, F>], winners: &[usize], node: usize) -> usize
     requires node { node < length winners.now }
     requires length { length winners.now ≡ length leads.now }
@@ -70,7 +70,7 @@ fn first_below<'a, F: Coming>(leads: &[Lead<'a, F>], winners: &[usize], node: us
     }
 }
 
-// By what the leads hold, and where that is alike by their places.
+// Whether a lead is before another: by what they hold and, if that has one key, by their places.
 fn goes_first<'a, F: Coming>(leads: &[Lead<'a, F>], one: usize, other: usize) -> bool
     requires one { one < length leads.now }
     requires other { other < length leads.now }

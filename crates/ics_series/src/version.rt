@@ -15,15 +15,15 @@ use ics_values::Moment;
 use ics_zone::Display;
 use std::alloc::{AllocError, Global};
 
-/// What the versions of an event share: its UID, and the instance that they override, by its
-/// instant. Those of a master override none (RFC 5545, section 3.8.4.4).
+/// What the versions of an event share: its UID, and the instant of the instance that they override.
+/// Those of a master override none (RFC 5545, section 3.8.4.4).
 #[derive(Clone, Copy, Debug, PartialEq, Eq, PartialOrd, Ord)]
 pub(crate) struct Subject<'a> {
     pub(crate) uid: &'a [u8],
     pub(crate) recurrence: Option<Moment>,
 }
 
-/// An event among those of its subject, ordered by subject, then SEQUENCE, then file, then place.
+/// An event as a version of its subject. Versions are ordered by subject, then SEQUENCE, file and place.
 #[derive(Clone, Copy, Debug, PartialEq, Eq, PartialOrd, Ord)]
 pub(crate) struct Version<'a> {
     pub(crate) subject: Subject<'a>,
@@ -31,7 +31,7 @@ pub(crate) struct Version<'a> {
     pub(crate) spot: Spot,
 }
 
-// The versions of these files' events, in their order.
+// The versions of these files' events, in the order of the files and of the events in each.
 pub(crate) fn versions<'a>(
     alloc: Global,
     files: &'a [FileEvents],

@@ -1,12 +1,12 @@
-//! The instants that a listing looks at.
+//! The window of a listing.
 ghost use Rattle.std.specs.Prelude.{◌≡◌, ◌≤ℤ◌, ◌<ℤ◌, pos, neg_ℤ};
 
 use crate::occurrence::Occurrence;
 use ics_values::Moment;
 
-/// The instants from `from` on and before `to`.
+/// The instants from `from` on and before `to`, in seconds since 1970-01-01T00:00:00 UTC.
 ///
-/// Both lie from 0000-12-31T00:00 to 9800-01-03T00:00 UTC.
+/// `from` is earlier than `to`. Both are from 0000-12-31T00:00 to 9800-01-03T00:00 UTC.
 #[derive(Clone, Copy, Debug, PartialEq, Eq)]
 pub struct Window {
     pub from: Moment,
@@ -31,7 +31,7 @@ impl Window {
         begun & lasting
     }
 
-    // Whether what begins before the window's end, at `start`, is to be listed by its finish.
+    // Whether an occurrence that begins at `start`, before the window's end, is to be listed by its finish.
     fn is_under_way(&self, start: Moment, finish: Moment) -> bool
         ensures { result ≡ is_under_way self.now start finish }
     {

@@ -15,7 +15,7 @@ pub(crate) struct FileZones<'a> {
 }
 
 impl<'a> FileZones<'a> {
-    // The zone of a time that has one of the file's.
+    // The zone of a time, if it has one of the file's.
     pub(crate) fn zone_of(self, time: Time) -> &'a Zone
         requires some { IsSome time.zone }
         requires within { HasZoneIn self.zones.now time }
