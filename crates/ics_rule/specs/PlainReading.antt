@@ -64,7 +64,7 @@ month_day_applies r n =
 abbrev pub year_day_applies : Recurrence → ℕ → Bool
 year_day_applies r n = applies r ByYearDay (is_wide_place r.parts.year_days (in_year (day_of n)) (day_of n)) true
 
--- BYDAY: the weekdays, or the nth occurrence of a weekday in the month under MONTHLY and beside BYMONTH, and else in the year
+-- BYDAY: the weekdays, or the nth occurrence of a weekday, in the month under MONTHLY and with BYMONTH, and else in the year
 abbrev pub with_weekday : (ℕ → ℕ → Bool) → ℕ → ℕ → Bool
 with_weekday unit e f = weekday_of f == weekday_of e && unit e f
 

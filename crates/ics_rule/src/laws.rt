@@ -31,8 +31,8 @@ pub fn ranks_are_places()
     ensures within { (q : Filled) (start n k m : ℕ) → m < calendar_end → HasRank q start n k m → (1 ≤ k) × (k ≤ size q start n) }
 {}
 
-/// COUNT c alone, below the end of the rules, keeps the first c of the rule, not only at most c (RFC 5545, 3.3.10): a local is kept exactly where
-/// it is in the rule and fewer than c of it are earlier, and of each number of members as many are kept, up to c.
+/// COUNT c without UNTIL keeps, below the end of the rules, the first c of the rule, not only at most c (RFC 5545, 3.3.10): a local is kept
+/// exactly if it is in the rule and fewer than c of the rule are earlier. Of the members below any bound as many are kept, up to c.
 pub fn first_of_count()
     ensures kept { (r : Recurrence) (c : ℕ) → r.parts.count ≡ Some c → 1 ≤ c → r.parts.until ≡ None
         → (n : ℕ) → n < rules_end → is_kept r n ≡ (is_in_rule r n && nat_lt (count n (is_in_rule r)) c) }
@@ -74,8 +74,8 @@ pub fn weeks_of_a_year()
 {}
 
 /// Weeks that start on Monday, weekday 0, are those of ISO 8601, which RFC 5545, 3.3.10 names: the week of a day has the same year and
-/// number there, and the year as many weeks. Days are counted from 0000-01-01. The first two lie in the last week of the year before, which
-/// is read one cycle of the calendar, 400 years, later.
+/// number there, and the year has as many weeks. Days are counted from 0000-01-01. The first two are in the last week of the year before, which
+/// is taken 400 years, one cycle of the calendar, later.
 pub fn weeks_from_monday()
     ensures year { (d : ISOWeekDate) (e : ℕ) → IsDay d e → 2 ≤ e → d.year ≡ pos (year_of (fourth_day 0 e)) }
     ensures cycle { (d : ISOWeekDate) (e : ℕ) → IsDay d e → e < 2 → d.year +ℤ pos 400 ≡ pos (year_of (fourth_day 0 e)) }

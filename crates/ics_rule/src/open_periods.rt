@@ -149,7 +149,7 @@ pub(crate) fn chosen_in_open(parts: &Filled) -> u64
 const A_SHORT_WALK: u64 = 64;
 
 impl Cursor {
-    /// Counts the periods from the one held, or from the start's, up to that of the place, where a period is a day or less, and looks at the
+    /// Counts the periods from the one held, or from the start's, up to that of the place, if a period is a day or less, and looks at the
     /// last of them. Nothing changes if they are few.
     pub(crate) fn pass_open(&mut self, parts: &Filled, start: u64, count: u32, first: u64)
         requires interval { 1 ≤ parts.now.interval }

@@ -27,7 +27,7 @@ pub record IsPlace (high : ℕ) (text : List ℕ) (place : Side × ℕ) : Type 0
   pub side : place.0 ≡ side_of text
   pub number : place.1 ≡ number_of (unsigned text)
 
--- the state after each piece, or None where one is refused
+-- the state after all pieces, or None if one of them is refused
 abbrev pub walk : {S : Type 0} → (S → List ℕ → Option S) → S → List (List ℕ) → Option S
 walk step s [] = Some s
 walk step s (x ∷ xs) = option_and_then (λ t. walk step t xs) (step s x)

@@ -31,7 +31,7 @@ none_wide = 0 ∷ 0 ∷ 0 ∷ 0 ∷ 0 ∷ 0 ∷ []
 abbrev pub with_wide_number : ℕ → List ℕ → List ℕ
 with_wide_number n ws = set ws (n / 64) (with_number (n % 64) (get_or ws (n / 64) 0))
 
--- each number that passes lies between the two
+-- each number that passes is between the two
 abbrev pub IsWithin : ℕ → ℕ → (ℕ → Bool) → Type 0
 IsWithin low high test = (n : ℕ) → test n ≡ true → (low ≤ n) × (n ≤ high)
 

@@ -8,7 +8,7 @@ ghost use Rattle.ics_values.specs.Fields.{IsCivilOf};
 use crate::fields::Civil;
 use jiff_core::civil::Date;
 
-/// The civil fields of a day in the Gregorian calendar. The day is counted from 1970-01-01 and lies in
+/// The civil fields of a day in the Gregorian calendar. The day is counted from 1970-01-01 and is in
 /// the years 0000 to 9999.
 pub fn civil(day: i32) -> Civil
     requires { IsDayNumber day }

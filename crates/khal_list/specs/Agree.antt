@@ -21,7 +21,7 @@ pub record SameRequest (a b : Request) : Type 0 where
   pub format : a.format.pieces.items ≡ b.format.pieces.items
   pub day_format : a.day_format.pieces.items ≡ b.day_format.pieces.items
 
--- both are requests, and the same, or both are one fault; nothing is said where memory was refused
+-- both are requests, and the same, or both are one fault; nothing is said if an allocation failed
 abbrev pub Agree : Result Request RequestFault → Result Request RequestFault → Type 0
 Agree (Err Memory) b = Unit {0}
 Agree a (Err Memory) = Unit {0}

@@ -1,4 +1,4 @@
--- What a read of a file answers.
+-- The answer of a read of a file.
 use Rattle.std.specs.Prelude.{◌≡◌, ◌≤◌, ◌<◌, ⊤, ℕ, List, length, slice_get, Option, Some, None, Result, Ok, Err}
 use Rattle.std.specs.declared.vec.Vec.{Vec}
 use Rattle.khal_list.specs.declared.fault.SourceFault.{SourceFault}
@@ -12,11 +12,11 @@ abbrev pub answer_of : {V : Type 0} → Result (Vec ℕ V) SourceFault → Answe
 answer_of (Ok bytes) = Ok bytes.items
 answer_of (Err fault) = Err fault
 
--- what a read gave of a file: its bytes, or none where it was not read
+-- what a read gave of a file: its bytes, or none if it was not read
 abbrev pub Contents : Type 0
 Contents = Option (List ℕ)
 
--- what a read gave that memory did not end
+-- what a read gave, if no allocation failed in it
 abbrev pub contents_of : Answer → Option Contents
 contents_of (Ok bytes) = Some (Some bytes)
 contents_of (Err Device) = Some None
@@ -27,8 +27,8 @@ contents_of (Err Memory) = None
 abbrev pub most_bytes : ℕ
 most_bytes = 16_777_216
 
--- Of files in memory a read gives the bytes of the file with this index, or says that they are too many. Memory may
--- always be refused.
+-- From files in memory a read gives the bytes of the file with this index, or says that they are too many. An
+-- allocation may always fail.
 abbrev pub IsRead : List (List ℕ) → ℕ → Answer → Type 0
 IsRead files index (Ok bytes) = (slice_get files index ≡ Some bytes) × (length bytes ≤ most_bytes)
 IsRead files index (Err TooLarge) = (bytes : List ℕ) × (slice_get files index ≡ Some bytes) × (most_bytes < length bytes)

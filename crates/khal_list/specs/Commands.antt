@@ -60,7 +60,7 @@ list_app = with_rule (with_rule list_choices_app format) day_format
 abbrev pub at_app : App
 at_app = with_rule (with_rule (with_rule (new_app (codes "at")) folder) moment) zone
 
--- the command alone, which wants a subcommand
+-- the command alone, which requires a subcommand
 abbrev pub bare_app : App
 bare_app = on_top (λ top. record top { subcommand_required = true }) (new_app (codes "khal-list"))
 

@@ -21,7 +21,7 @@ with_name words = codes "khal-list" ∷ words
 abbrev pub entries_in : List Text → Entries
 entries_in words = subcommand_of khal_app words
 
--- the same of the words behind that name
+-- the same for the words after that name
 abbrev pub entries_of : List Text → Entries
 entries_of words = entries_in (with_name words)
 
@@ -29,23 +29,23 @@ entries_of words = entries_in (with_name words)
 abbrev pub entry : Text → Entries → Option Text
 entry id entries = option_and_then (λ found. first_of id found.1) entries
 
--- its text, or another where there is no such entry
+-- its text, or another if there is no such entry
 abbrev pub text_or : Text → Text → Entries → Text
 text_or id default entries = unwrap_or (entry id entries) default
 
--- its text, empty where there is no such entry
+-- its text, or the empty text if there is no such entry
 abbrev pub text_of : Text → Entries → Text
 text_of id entries = text_or id [] entries
 
--- the text of `--limit`, where it stands
+-- the text of `--limit`, if it is given
 abbrev pub limit_text : Entries → Option Text
 limit_text entries = entry (codes "limit") entries
 
--- what stands there is a number of entries
+-- that text is a number of entries
 abbrev pub HasLimit : Entries → Type 0
 HasLimit entries = (text : Text) → limit_text entries ≡ Some text → IsLimit text
 
--- what window the entries ask for: that of a moment, or one from START, where it stands, to END
+-- the window that the entries ask for: that of a moment, or one from START, if it is given, to END
 pub data Span : Type 0 where
   At : Text → Span
   FromTo : Option Text → Text → Span
@@ -59,11 +59,11 @@ span_of entries =
     if is_at entries then At (text_of (codes "moment") entries)
     else FromTo (entry (codes "start") entries) (text_of (codes "end") entries)
 
--- clap takes the words
+-- clap accepts the words
 abbrev pub AreTaken : List Text → Type 0
 AreTaken words = fault_of khal_app (with_name words) ≡ []
 
--- clap refuses the words, for another cause than memory, and shows help or not
+-- clap refuses the words, and not because an allocation failed; it shows help or not
 pub record IsRefused (words : List Text) (help : Bool) : Type 0 where
   pub kind : ErrorKind
   pub among : IsAmong kind (fault_of khal_app (with_name words))

@@ -1,5 +1,5 @@
--- What is written of the files that are not listed: a line for each that was not read or is refused (the program's own
--- form).
+-- What is written for the files that are not listed: a line for each that was not read or is refused. The form is the
+-- program's own.
 use Rattle.std.specs.Prelude.{ℕ, List, [], ◌∷◌, ◌++◌, Option, Some, None, Result, Ok, Err, codes}
 use Rattle.std.specs.Fmt.{decimal}
 use Rattle.ics_calendar.specs.Event.{FileSaid}
@@ -9,7 +9,7 @@ use Rattle.ics_calendar.specs.declared.fault.Fault.{Fault}
 use Rattle.khal_list.specs.Answers.{Contents}
 use Rattle.khal_list.specs.Shown.{shown}
 
--- Why a file is not listed: its first fault, or none where it was not read.
+-- Why a file is not listed: its first fault, or none if it was not read.
 abbrev pub Refusal : Type 0
 Refusal = Option Fault
 
@@ -17,7 +17,7 @@ abbrev pub file_or_refusal : Result FileSaid Fault → Result FileSaid Refusal
 file_or_refusal (Ok file) = Ok file
 file_or_refusal (Err fault) = Err (Some fault)
 
--- what a read comes to: the events of the file, or why it is not listed
+-- the outcome of a read: the events of the file, or why it is not listed
 abbrev pub file_by : Contents → Result FileSaid Refusal
 file_by (Some bytes) = file_or_refusal (file_of bytes)
 file_by None = Err None
@@ -39,7 +39,7 @@ refusal_text None = codes "ReadFault"
 abbrev pub refusal_line : List ℕ → Refusal → List ℕ
 refusal_line name refusal = codes "khal-list: " ++ (shown name ++ (codes ": " ++ (refusal_text refusal ++ 10 ∷ [])))
 
--- the line of a file that is not listed, and nothing of an accepted one
+-- the line for a file that is not listed, and nothing for an accepted one
 abbrev pub error_line : List ℕ → Result FileSaid Refusal → List ℕ
 error_line name (Ok file) = []
 error_line name (Err refusal) = refusal_line name refusal

@@ -1,4 +1,4 @@
--- The names of the faults, as they print.
+-- The names of the faults, as they are printed.
 use Rattle.std.specs.Prelude.{ℕ, List, codes}
 use Rattle.khal_list.specs.declared.fault.SourceFault.{SourceFault}
 use Rattle.khal_list.specs.declared.fault.SourceFault.TheVariants as source

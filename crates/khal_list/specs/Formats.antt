@@ -1,4 +1,4 @@
--- Formats: text with placeholders in braces (the program's own form).
+-- Formats: text with placeholders in braces. The form is the program's own.
 use Rattle.std.specs.Prelude.{◌≡◌, ℕ, Bool, true, ◌==◌, ◌||◌, not, List, [], ◌∷◌, ◌++◌, codes, refl, if◌then◌else◌}
 use Rattle.std.specs.List.{list_all}
 use Rattle.khal_list.specs.declared.field.EntryField.{EntryField}
@@ -50,7 +50,7 @@ pub day_names_plain : (field : DayField) → is_plain (day_name field) ≡ true
 day_names_plain day.Name = refl
 day_names_plain day.Date = refl
 
--- a piece as a format has it: a brace twice, any other byte as it stands, and the name of a placeholder in braces
+-- a piece as it is written in a format: a brace twice, any other byte as it is, and the name of a placeholder in braces
 abbrev pub written_piece : {F : Type 0} → (F → List ℕ) → Piece F → List ℕ
 written_piece name (Byte b) = if is_brace b then b ∷ b ∷ [] else b ∷ []
 written_piece name (Field field) = 123 ∷ (name field ++ 125 ∷ [])
@@ -60,15 +60,15 @@ abbrev pub written : {F : Type 0} → (F → List ℕ) → List (Piece F) → Li
 written name [] = []
 written name (piece ∷ pieces) = written_piece name piece ++ written name pieces
 
--- a text is a format where it is that of some pieces
+-- a text is a format if it is that of some pieces
 abbrev pub IsFormat : {F : Type 0} → (F → List ℕ) → List ℕ → Type 0
 IsFormat {F} name text = (pieces : List (Piece F)) × (text ≡ written name pieces)
 
--- a text is that of one format at most
+-- a text is that of at most one format
 abbrev pub OneFormat : {F : Type 0} → (F → List ℕ) → Type 0
 OneFormat {F} name = (a b : List (Piece F)) → written name a ≡ written name b → a ≡ b
 
--- what a piece comes to: the byte, or the value of the placeholder
+-- the text of a piece: the byte, or the value of the placeholder
 abbrev pub shown_piece : {F : Type 0} → (F → List ℕ) → Piece F → List ℕ
 shown_piece value (Byte b) = b ∷ []
 shown_piece value (Field field) = value field
@@ -78,7 +78,7 @@ abbrev pub filled : {F : Type 0} → (F → List ℕ) → List (Piece F) → Lis
 filled value [] = []
 filled value (piece ∷ pieces) = shown_piece value piece ++ filled value pieces
 
--- what formats are where none is given
+-- the formats if none is given
 abbrev pub entry_default : List ℕ
 entry_default = codes "{cell} {title}"
 

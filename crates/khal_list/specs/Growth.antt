@@ -4,17 +4,17 @@ use Rattle.std.specs.Io.KnownBytes.{Appends}
 use Rattle.khal_list.specs.declared.fault.SinkFault.{SinkFault}
 use Rattle.khal_list.specs.declared.fault.SinkFault.TheVariants.{Device}
 
--- one more, up to the greatest value
+-- the count plus one, up to the greatest value
 abbrev pub risen : ℕ → ℕ
 risen count = min (count + 1) (2 ^ 64 - 1)
 
--- the sink has taken a front of the text
+-- the sink has taken a prefix of the text
 pub record TookFront (old new : Option (List ℕ)) (text : List ℕ) : Type 0 where
   pub count : ℕ
   pub within : count ≤ length text
   pub taken : Appends old new (take count text)
 
--- the sink was left by a call that failed, or that was given bytes and took none
+-- the last call of the sink failed, or was given bytes and took none
 pub record LeftByFault {O : Type 0} (puts : O → List ℕ → Result ℕ SinkFault → O → Type 0) (left : O) : Type 0 where
   pub before : O
   pub given : List ℕ

@@ -20,18 +20,18 @@ use Rattle.khal_list.specs.Reads.{ReadsAll, ReadsSome}
 abbrev pub IsListingOf : List FileSaid → Request → List Entry → Type 0
 IsListingOf files request list = IsListing entry_cmp (IsListed files (display_clock request.zone) request.window) list
 
--- the line that says where a listing goes on: `more: TOKEN` and LF
+-- the line with the token from which a listing continues: `more: TOKEN` and LF
 abbrev pub more_line : Option Rank → List ℕ
 more_line None = []
 more_line (Some key) = codes "more: " ++ (spelling key ++ 10 ∷ [])
 
--- that line where the limit cut the list
+-- that line, if the limit cut the list
 abbrev pub more_of : Request → List Entry → List ℕ
 more_of request list = more_line (key_on request.limit list)
 
 -- Every file was read once, in order. `out` has gained exactly the text of the first entries of the listing after the request's key, up to its
--- limit; `err` exactly the lines of the files that were not read or are refused and, where the limit cut the listing, the line that says where it
--- goes on. The status is Faulty exactly where there is a line of a file.
+-- limit. `err` has gained exactly the lines of the files that were not read or are refused and, if the limit cut the listing, the line with the
+-- token from which it continues. The status is Faulty exactly if there is a line of a file.
 pub record Lists {S : Type 0} (reads : S → ℕ → Answer → S → Type 0) (names : List (List ℕ)) (before after : S) (request : Request)
     (out out' err err' : Option (List ℕ)) (status : Status) : Type 0 where
   pub contents : List Contents
@@ -42,16 +42,16 @@ pub record Lists {S : Type 0} (reads : S → ℕ → Answer → S → Type 0) (n
   pub errors : Appends err err' (error_lines names contents ++ more_of request (asked_after request list))
   pub faulty : (status ≡ Faulty) ↔ Any (λ given. IsErr (file_by given)) contents
 
--- What stands where a run ends by a fault once every file is read and all their lines are in `err`: a front of the listing's text in `out`, or
--- that whole text and a front of the last line in `err`.
+-- What was written if a run ends with a fault after every file is read and all their lines are in `err`: a prefix of the listing's text in `out`,
+-- or that whole text and a prefix of the last line in `err`.
 pub record StopsListing (contents : List Contents) (request : Request) (out out' err err' : Option (List ℕ)) : Type 0 where
   pub list : List Entry
   pub listing : IsListingOf (accepted contents) request list
   pub taken : ((err' ≡ err) × TookFront out out' (text_of request (asked_after request list)))
       ⊎ (Appends out out' (text_of request (asked_after request list)) × TookFront err err' (more_of request (asked_after request list)))
 
--- What stands where a run ends by a fault: nothing in `out` and a front of the lines of the files that were read in `err`; or it ends in the listing
--- or in the last line.
+-- What was written if a run ends with a fault: nothing in `out` and, in `err`, a prefix of the lines of the files that were read; or the run ended
+-- in the listing or in the last line.
 abbrev pub Stops : {S : Type 0} → (S → ℕ → Answer → S → Type 0) → List (List ℕ) → S → S → Request → Option (List ℕ) → Option (List ℕ) → Option (List ℕ) → Option (List ℕ) → Type 0
 Stops reads names before after request out out' err err' =
     ((contents : List Contents) × ReadsSome reads names before contents after × (out' ≡ out) × TookFront err err' (error_lines names contents))

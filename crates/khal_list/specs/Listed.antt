@@ -1,4 +1,4 @@
--- What is shown of a list of entries, as a request asks for it, and how it is written.
+-- What a request shows of a list of entries, and how it is written.
 use Rattle.std.specs.Prelude.{◌∷◌, ℕ, Bool, false, List, [], Option, Some, None, length, nat_lt, take, if◌then◌else◌}
 use Rattle.std.specs.Option.{option_map}
 use Rattle.ics_series.specs.After.{after_key}
@@ -17,21 +17,21 @@ abbrev pub is_cut : Option ℕ → List Entry → Bool
 is_cut None list = false
 is_cut (Some limit) list = nat_lt limit (length list)
 
--- the key of the last entry, where there is one
+-- the key of the last entry, if there is one
 abbrev pub last_key : List Entry → Option Rank
 last_key [] = None
 last_key (e ∷ []) = Some (rank_of e)
 last_key (e ∷ f ∷ more) = last_key (f ∷ more)
 
--- the key from which a listing goes on: that of the last of the first entries, where there are more
+-- the key from which a listing continues: that of the last of the first entries, if there are more
 abbrev pub key_on : Option ℕ → List Entry → Option Rank
 key_on limit list = if is_cut limit list then last_key (first_of limit list) else None
 
--- what of the listing of the window comes after the request's key
+-- the part of the listing of the window that comes after the request's key
 abbrev pub asked_after : Request → List Entry → List Entry
 asked_after request list = after_key (option_map key_rank request.after) list
 
--- how a request has its listing written
+-- how the listing of a request is written
 abbrev pub style_of : Request → Style
 style_of request = record {
   clock = display_clock request.zone;

@@ -1,4 +1,4 @@
--- Listings that go on from a key, and the pages that limits cut.
+-- Listings that continue from a key, and the pages that limits cut.
 use Rattle.std.specs.Prelude.{◌≡◌, ◌+◌, ◌≤◌, ⊤, ℕ, ℤ, Ok, List, [], ◌∷◌, ◌++◌, Option, Some, None, length, if◌then◌else◌}
 use Rattle.std.specs.Option.{option_map}
 use Rattle.clap.specs.Words.{Text}
@@ -13,33 +13,33 @@ use Rattle.khal_list.specs.Listed.{asked_after, first_of, is_cut, key_on}
 use Rattle.khal_list.specs.RequestOf.{after_text, RequestOf}
 use Rattle.khal_list.specs.Text.{Style, day_under, heading_text, text, text_after}
 
--- what comes after the key of an entry of the listing are those that stand behind it
+-- the listing after the key of one of its entries is that of the entries after it
 abbrev pub GoesOn : Type 0
 GoesOn =
     (files : List FileSaid) (request : Request) (front : List Entry) (o : Entry) (behind : List Entry) → IsListingOf files request (front ++ o ∷ behind)
     → option_map key_rank request.after ≡ Some (rank_of o) → asked_after request (front ++ o ∷ behind) ≡ behind
 
--- words whose `--after` has the token of an entry of the listing ask for exactly the entries that stand behind it
+-- words whose `--after` has the token of an entry of the listing ask for exactly the entries after it
 abbrev pub TokenGoesOn : Type 0
 TokenGoesOn =
     (words : List Text) (now : ℤ) (files : List FileSaid) (request : Request) (front : List Entry) (o : Entry) (behind : List Entry)
     → RequestOf words now (Ok request) → after_text (entries_of words) ≡ Some (spelling (rank_of o)) → IsKey (rank_of o)
     → IsListingOf files request (front ++ o ∷ behind) → asked_after request (front ++ o ∷ behind) ≡ behind
 
--- the day under which the last of some entries stands, and the day before them where there are none
+-- the day under which the last of these entries is listed, or the day before them if there are none
 abbrev pub last_day : Style → Option ℤ → List Entry → Option ℤ
 last_day style before [] = before
 last_day style before (e ∷ es) = last_day style (Some (day_under style e)) es
 
--- the text of a list is that of its front, and then that of the rest after the last day of the front
+-- the text of a list is that of its first entries, followed by that of the rest after the last day of the first
 abbrev pub TextSplits : Type 0
 TextSplits = (style : Style) (front rest : List Entry) → text style (front ++ rest) ≡ text style front ++ text_after style (last_day style None front) rest
 
--- where the rest is listed alone, it begins with the heading of its first day, and its lines are the same
+-- if the rest is listed alone, it begins with the heading of its first day, and its lines are the same
 abbrev pub TextGoesOn : Type 0
 TextGoesOn = (style : Style) (e : Entry) (es : List Entry) → text style (e ∷ es) ≡ heading_text style (day_under style e) ++ text_after style (Some (day_under style e)) (e ∷ es)
 
--- what listings with these limits list together, each from the key that the one before names, up to one that names none
+-- what listings with these limits list together, each from the key that the one before names, until one names none
 abbrev pub joined : List ℕ → Option Rank → List Entry → List Entry
 joined [] key list = []
 joined (limit ∷ limits) key list =
@@ -56,7 +56,7 @@ abbrev pub ArePositive : List ℕ → Type 0
 ArePositive [] = ⊤
 ArePositive (limit ∷ limits) = (1 ≤ limit) × ArePositive limits
 
--- the pages of any limits that are enough for it join to the listing
+-- pages of any limits that are together enough for the listing join to it
 abbrev pub Pages : Type 0
 Pages =
     (files : List FileSaid) (request : Request) (list : List Entry) (limits : List ℕ) → IsListingOf files request list → ArePositive limits → length list ≤ total limits

@@ -1,4 +1,4 @@
--- Why words are no request: the names of the faults, and what clap's refusal becomes.
+-- Why words are not a request: the names of the faults, and the fault of a refusal by clap.
 use Rattle.std.specs.Prelude.{◌≡◌, ◌≢◌, ◌↔◌, ℕ, List, IsTrue, codes}
 use Rattle.clap.specs.declared.error.kind.ErrorKind.{ErrorKind}
 use Rattle.clap.specs.declared.error.kind.ErrorKind.TheVariants.{DisplayHelp, OutOfMemory}
@@ -19,7 +19,7 @@ fault_name BadToken = codes "BadToken"
 fault_name BadFormat = codes "BadFormat"
 fault_name Memory = codes "Memory"
 
--- the fault of a refusal of this kind: usage, with help or not, or want of memory
+-- the fault of a refusal of this kind: usage, with help or not, or memory
 abbrev pub IsFaultOf : ErrorKind → RequestFault → Type 0
 IsFaultOf kind (Usage text help) = (kind ≢ OutOfMemory) × (IsTrue help ↔ (kind ≡ DisplayHelp))
 IsFaultOf kind BadZone = ⊥
@@ -28,17 +28,17 @@ IsFaultOf kind BadToken = ⊥
 IsFaultOf kind BadFormat = ⊥
 IsFaultOf kind Memory = Unit {0}
 
--- the fault of a text that is no display zone
+-- the fault of a text that is not a display zone
 abbrev pub zone_fault : DisplayFault → RequestFault
 zone_fault zone.BadZone = BadZone
 zone_fault zone.Memory = Memory
 
--- the fault of a text that is no token
+-- the fault of a text that is not a token
 abbrev pub token_fault : TokenFault → RequestFault
 token_fault token.BadToken = BadToken
 token_fault token.Memory = Memory
 
--- the fault of a text that is no format
+-- the fault of a text that is not a format
 abbrev pub format_fault : FormatFault → RequestFault
 format_fault format.BadFormat = BadFormat
 format_fault format.Memory = Memory

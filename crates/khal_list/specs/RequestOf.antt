@@ -1,4 +1,4 @@
--- What the words of the command line and the clock ask for, or why they are no request.
+-- What the words of the command line and the clock ask for, or why they are not a request.
 use Rattle.std.specs.Prelude.{◌≡◌, ◌↔◌, ◌⊎◌, ⊤, ℤ, IsTrue, List, Option, Some, None, IsSome, Result, Ok, Err, codes}
 use Rattle.std.specs.String.{string_bytes}
 use Rattle.clap.specs.Words.{Text}
@@ -27,18 +27,18 @@ format_text entries = text_or (codes "format") entry_default entries
 abbrev pub day_format_text : Entries → Text
 day_format_text entries = text_or (codes "day-format") day_default entries
 
--- the text of `--after`, where it stands
+-- the text of `--after`, if it is given
 abbrev pub after_text : Entries → Option Text
 after_text entries = entry (codes "after") entries
 
--- the key of a token, and none where there is no token
+-- the key of a token, or none if there is no token
 abbrev pub IsKeyOf : Option Text → Option Key → Type 0
 IsKeyOf None None = ⊤
 IsKeyOf None (Some key) = ⊥
 IsKeyOf (Some text) None = ⊥
 IsKeyOf (Some text) (Some key) = IsKey (key_rank key) × (text ≡ spelling (key_rank key))
 
--- a text stands there that is no token
+-- the text is given and is not a token
 pub record IsNoToken (given : Option Text) : Type 0 where
   pub text : Text
   pub stands : given ≡ Some text
@@ -55,7 +55,7 @@ pub record IsRequest (entries : Entries) (now : ℤ) (request : Request) : Type 
   pub format : format_text entries ≡ written entry_name request.format.pieces.items
   pub day_format : day_format_text entries ≡ written day_name request.day_format.pieces.items
 
--- the words name a display zone, and no window in it
+-- the words name a display zone, but no window in it
 pub record IsBadWindow (entries : Entries) (now : ℤ) : Type 0 where
   pub display : Display
   pub zone : said_by (zone_of display) ≡ display_of (zone_text entries)
@@ -67,19 +67,19 @@ pub record HasWindow (entries : Entries) (now : ℤ) : Type 0 where
   pub zone : said_by (zone_of display) ≡ display_of (zone_text entries)
   pub some : IsSome (ends_of display now (span_of entries))
 
--- they do, and what `--after` has is no token
+-- they do so, and the value of `--after` is not a token
 pub record IsBadToken (entries : Entries) (now : ℤ) : Type 0 where
   pub window : HasWindow entries now
   pub token : IsNoToken (after_text entries)
 
--- they do, what `--after` has is a token, and one of the formats is none
+-- they do so, the value of `--after` is a token, and one of the formats is not a format
 pub record IsBadFormat (entries : Entries) (now : ℤ) : Type 0 where
   pub window : HasWindow entries now
   pub key : Option Key
   pub after : IsKeyOf (after_text entries) key
   pub none : (¬ IsFormat entry_name (format_text entries)) ⊎ (¬ IsFormat day_name (day_format_text entries))
 
--- the answer to clap's entries, which are there where it takes the words
+-- the answer to clap's entries, which are there if it accepts the words
 abbrev pub EntriesAnswer : Entries → ℤ → Result Request RequestFault → Type 0
 EntriesAnswer entries now (Ok request) = IsRequest entries now request
 EntriesAnswer entries now (Err (Usage text help)) = ⊥
@@ -89,7 +89,7 @@ EntriesAnswer entries now (Err BadToken) = IsBadToken entries now
 EntriesAnswer entries now (Err BadFormat) = IsBadFormat entries now
 EntriesAnswer entries now (Err Memory) = Unit {0}
 
--- the answer to words, in the order in which the faults are looked for
+-- the answer to words, in the order in which faults are reported
 abbrev pub RequestOf : List Text → ℤ → Result Request RequestFault → Type 0
 RequestOf words now (Err (Usage text help)) = IsRefused words help
 RequestOf words now (Err Memory) = Unit {0}

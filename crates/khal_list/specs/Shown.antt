@@ -1,4 +1,4 @@
--- What is shown of the bytes of a text or a name (the program's own form; RFC 5545, 3.1.4, says that they are UTF-8).
+-- How the bytes of a text or a name are shown. The form is the program's own; RFC 5545, 3.1.4, says that they are UTF-8.
 use Rattle.std.specs.Prelude.{ℕ, List, ◌==◌, ◌||◌, nat_lt, map, if◌then◌else◌, encode_utf8_all}
 use Rattle.bstr.specs.Utf8.{lossy_chars}
 
@@ -6,6 +6,6 @@ use Rattle.bstr.specs.Utf8.{lossy_chars}
 abbrev pub shown_byte : ℕ → ℕ
 shown_byte b = if nat_lt b 32 || b == 127 then 32 else b
 
--- bytes that are no UTF-8 are replaced by U+FFFD, one for each maximal piece of them
+-- bytes that are not UTF-8 are replaced by U+FFFD, one for each maximal piece of them
 abbrev pub shown : List ℕ → List ℕ
 shown bytes = map shown_byte (encode_utf8_all (lossy_chars bytes))

@@ -1,4 +1,4 @@
--- The text of a listing: each entry on a line, under the day that it stands under (the program's own form).
+-- The text of a listing: each entry on a line, under its day. The form is the program's own.
 use Rattle.std.specs.Prelude.{ℕ, ℤ, pos, ◌+◌, ◌/◌, ◌%◌, ◌==◌, ◌&&◌, ◌+ℤ◌, ◌-ℤ◌, Bool, true, false, List, [], ◌∷◌, ◌++◌, Option, Some, None, codes, replicate, slice_get, unwrap_or, unsigned_abs, if◌then◌else◌}
 use Rattle.std.specs.Int.{int_div_euclid, int_rem_euclid, int_max}
 use Rattle.std.specs.Option.{option_eq}
@@ -48,7 +48,7 @@ time_text second = two_digits (second / 3_600) ++ 58 ∷ two_digits (second / 60
 abbrev pub blank : List ℕ
 blank = replicate 5 32
 
--- the time of a start, blank where it lies on another day than the entry's
+-- the time of a start, or blanks if it is on another day than the entry's
 abbrev pub start_text : ℤ → ℤ → List ℕ
 start_text day start = if int_eq (date_of start) day then time_text (second_of start) else blank
 
@@ -56,7 +56,7 @@ start_text day start = if int_eq (date_of start) day then time_text (second_of s
 abbrev pub is_end_of : ℤ → ℤ → Bool
 is_end_of day local = int_eq (date_of local) (day +ℤ pos 1) && second_of local == 0
 
--- the time of a finish, blank where it lies on another day, but `24:00` at the first second of the next day
+-- the time of a finish, or blanks if it is on another day, but `24:00` for the first second of the next day
 abbrev pub finish_text : ℤ → ℤ → List ℕ
 finish_text day finish =
     if int_eq (date_of finish) day then time_text (second_of finish)
@@ -78,18 +78,18 @@ cell_text clock day e =
     if is_date e.event.start.stamp then codes "all day    "
     else times_text day (local_at clock e.start) (local_at clock e.finish)
 
--- the display dates of a start and of a finish; of an event of dates the finish's is its last day
+-- the display dates of a start and of a finish; for an event of dates, that of the finish is its last day
 abbrev pub start_date : Clock → Entry → ℤ
 start_date clock e = date_of (local_at clock e.start)
 
 abbrev pub end_date : Clock → Entry → ℤ
 end_date clock e = if is_date e.event.start.stamp then date_of (local_at clock e.finish) -ℤ pos 1 else date_of (local_at clock e.finish)
 
--- the time of a local, left out of an event of dates
+-- the time of a local, or nothing for an event of dates
 abbrev pub time_unless_date : Entry → ℤ → List ℕ
 time_unless_date e local = if is_date e.event.start.stamp then [] else time_text (second_of local)
 
--- what a placeholder stands for, of an entry under this day
+-- the value of a placeholder for an entry under this day
 abbrev pub entry_field_text : Clock → ℤ → Entry → EntryField → List ℕ
 entry_field_text clock day e Cell = cell_text clock day e
 entry_field_text clock day e Title = shown e.event.title
@@ -102,7 +102,7 @@ entry_field_text clock day e Description = shown e.event.description
 entry_field_text clock day e Uid = shown e.event.uid
 entry_field_text clock day e Cancelled = if e.event.cancelled then codes "CANCELLED " else []
 
--- and of a day
+-- the value of a placeholder for a day
 abbrev pub day_field_text : ℤ → DayField → List ℕ
 day_field_text number day.Name = weekday_name (weekday_of (day_index number))
 day_field_text number day.Date = date_text number
@@ -122,15 +122,15 @@ line_text style day e = filled (entry_field_text style.clock day e) style.entrie
 abbrev pub heading_text : Style → ℤ → List ℕ
 heading_text style day = filled (day_field_text day) style.days ++ 10 ∷ []
 
--- an entry stands under the display date of the later of its start and the window's start
+-- an entry is listed under the display date of the later of its start and the window's start
 abbrev pub day_under : Style → Entry → ℤ
 day_under style e = date_of (local_at style.clock (int_max e.start style.from))
 
--- the heading of a day, where the entry before stands under another day or there is none
+-- the heading of a day, unless the entry before is listed under the same day
 abbrev pub heading_after : Style → Option ℤ → ℤ → List ℕ
 heading_after style before day = if option_eq int_eq before (Some day) then [] else heading_text style day
 
--- an entry under its day, after the heading where one is due
+-- an entry under its day, after a heading if one is due
 abbrev pub entry_text : Style → Option ℤ → ℤ → Entry → List ℕ
 entry_text style before day e = heading_after style before day ++ line_text style day e
 

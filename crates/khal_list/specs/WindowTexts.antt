@@ -1,5 +1,5 @@
--- The texts that name the ends of a window: `YYYY-MM-DD`, `YYYY-MM-DDTHH:MM` and `Nd`. A local is the number
--- of its seconds since 1970-01-01T00:00:00 on a clock without zones.
+-- The texts that name the ends of a window: `YYYY-MM-DD`, `YYYY-MM-DDTHH:MM` and `Nd`. A local is counted in
+-- seconds from 1970-01-01T00:00:00, each day having 86,400.
 use Rattle.std.specs.Prelude.{ℕ, ℤ, pos, ◌+◌, ◌-◌, ◌*◌, ◌==◌, ◌&&◌, nat_lt, nat_le, Bool, List, [], ◌∷◌, length, take, drop, slice_index, Option, Some, None, option_map, option_and_then, if◌then◌else◌}
 use Rattle.std.specs.Char.{is_ascii_digit}
 use Rattle.std.specs.List.{list_all}
@@ -14,12 +14,12 @@ pub data Named : Type 0 where
   Local : ℤ → Named
   Days : ℕ → Named
 
--- the number that two digits write
+-- the number that two digits spell
 abbrev pub pair : ℕ → ℕ → Option ℕ
 pair tens ones =
     if is_ascii_digit tens && is_ascii_digit ones then Some ((tens - 48) * 10 + (ones - 48)) else None
 
--- the number that four digits write
+-- the number that four digits spell
 abbrev pub quad : ℕ → ℕ → ℕ → ℕ → Option ℕ
 quad a b c d =
     option_and_then (λ front. option_map (λ back. front * 100 + back) (pair c d)) (pair a b)
@@ -83,7 +83,7 @@ number_said digits =
 abbrev pub days_said : List ℕ → Option ℕ
 days_said text = option_and_then number_said (before_d text)
 
--- what a text names, if it is of a form
+-- what a text names, if it has one of the forms
 abbrev pub named : List ℕ → Option Named
 named text =
     option_or (option_map Day (day_said text))

@@ -1,5 +1,5 @@
--- The window of a listing: its first instant and the one after its last, by what the words ask, a display zone
--- and a clock. Locals and instants are numbers of seconds since 1970-01-01T00:00:00.
+-- The window of a listing: its first instant and the one after its last, by the words, a display zone and a
+-- clock. Locals and instants are counted in seconds from 1970-01-01T00:00:00.
 use Rattle.std.specs.Prelude.{ℤ, pos, neg_ℤ, ◌*◌, ◌+ℤ◌, ◌*ℤ◌, ◌&&◌, int_le, int_lt, Option, Some, None, option_and_then, if◌then◌else◌}
 use Rattle.std.specs.Int.{int_div_euclid}
 use Rattle.clap.specs.Words.{Text}
@@ -22,7 +22,7 @@ last_end = pos 247_090_953_600
 abbrev pub midnight : ℤ → ℤ
 midnight local = int_div_euclid local (pos 86_400) *ℤ pos 86_400
 
--- today's midnight in the zone, by a clock that lies within those bounds
+-- today's midnight in the zone, by a clock that is within those bounds
 abbrev pub today : Display → ℤ → Option ℤ
 today zone now =
     if int_le first_start now && int_le now last_end
@@ -35,25 +35,25 @@ start_named (Named.Day day) = Some (local_seconds day 0)
 start_named (Named.Local local) = Some local
 start_named (Named.Days n) = None
 
--- the local at which a window ends: the midnight after a day, the local that is named, or so many days after
--- the start
+-- the local at which a window ends: the midnight after a day, the local that is named, or a number of days
+-- after the start
 abbrev pub end_named : ℤ → Named → ℤ
 end_named start (Named.Day day) = local_seconds (day +ℤ pos 1) 0
 end_named start (Named.Local local) = local
 end_named start (Named.Days n) = start +ℤ pos (n * 86_400)
 
--- the local of a moment, which is no day
+-- the local of a moment, which is not a day
 abbrev pub moment_named : Named → Option ℤ
 moment_named (Named.Day day) = None
 moment_named (Named.Local local) = Some local
 moment_named (Named.Days n) = None
 
--- START's local, today's midnight where it is left out
+-- START's local, or today's midnight if it is left out
 abbrev pub start_said : Display → ℤ → Option Text → Option ℤ
 start_said zone now None = today zone now
 start_said zone now (Some text) = option_and_then start_named (named text)
 
--- the instants of two locals, where the start is not too early, the end not too late, and the instants rise
+-- the instants of two locals, if the start is not too early, the end not too late, and the instants rise
 abbrev pub between : Display → ℤ → ℤ → Option (ℤ × ℤ)
 between zone start end =
     if (int_le first_start start && int_le end last_end)
@@ -61,7 +61,7 @@ between zone start end =
     then Some (moment_of (zone_of zone) start, moment_of (zone_of zone) end)
     else None
 
--- the one second of a local that lies within those bounds
+-- the one second of a local that is within those bounds
 abbrev pub second_at : Display → ℤ → Option (ℤ × ℤ)
 second_at zone local =
     if int_le first_start local && int_le local last_end

@@ -7,7 +7,7 @@ use crate::digits::add_two_digits;
 use ics_values::Local;
 use std::alloc::AllocError;
 
-/// What stands for a time on another day.
+/// What is written for a time on another day.
 const BLANK: &[u8] = b"     ";
 
 /// Adds a second of the day as `HH:MM`, the seconds left off.
@@ -20,7 +20,7 @@ pub(crate) fn add_time(text: &mut Vec<u8>, second: u32) -> Result<(), AllocError
     add_two_digits(text, (second / 60 % 60) as u8)
 }
 
-/// Adds the time of a start, blank where it lies on another day than the entry's.
+/// Adds the time of a start, or blanks if it is on another day than the entry's.
 fn add_start(text: &mut Vec<u8>, day: i32, start: Local) -> Result<(), AllocError>
     ensures { OnOk result (text.new.items
         ≡ text.old.items ++ start_text day (local_seconds start.day start.second)) }
@@ -40,8 +40,8 @@ fn is_end_of(day: i32, local: Local) -> bool
     is_next & (local.second == 0)
 }
 
-/// Adds the time of a finish, blank where it lies on another day, but `24:00` at the first second
-/// of the next day.
+/// Adds the time of a finish, or blanks if it is on another day, but `24:00` for the first second of
+/// the next day.
 fn add_finish(text: &mut Vec<u8>, day: i32, finish: Local) -> Result<(), AllocError>
     ensures { OnOk result (text.new.items
         ≡ text.old.items ++ finish_text day (local_seconds finish.day finish.second)) }
@@ -55,7 +55,7 @@ fn add_finish(text: &mut Vec<u8>, day: i32, finish: Local) -> Result<(), AllocEr
     }
 }
 
-/// Adds the times of an entry that stands under a day.
+/// Adds the times of an entry that is listed under a day.
 pub(crate) fn add_times(
     text: &mut Vec<u8>,
     day: i32,

@@ -7,7 +7,7 @@ ghost use Rattle.khal_list.specs.Commands as spec;
 use clap::{Arg, ArgAction, Command};
 use std::alloc::{AllocError, Global};
 
-/// What stands below the help of the program.
+/// The text below the help of the program.
 const EXAMPLES: &str = "Examples:
   khal-list list ~/calendars --zone=\"$(tail -n1 /etc/localtime)\"
       today and tomorrow, by the clock of this machine
@@ -18,7 +18,7 @@ const EXAMPLES: &str = "Examples:
 
 `khal-list list --help` lists the options, and `man khal-list` says more.";
 
-/// What stands below the help of `list`.
+/// The text below the help of `list`.
 const LIST_EXAMPLES: &str = "Placeholders of --format:
   {cell} {title} {start-time} {end-time} {start-date} {end-date} {location}
   {description} {uid} {cancelled}
@@ -29,7 +29,7 @@ Examples:
   khal-list list ~/calendars 2024-01-01 2024-01-31 --limit 10
   khal-list list ~/calendars --format '{start-time} {title}' --day-format ''";
 
-/// What stands below the help of `at`.
+/// The text below the help of `at`.
 const AT_EXAMPLES: &str = "Examples:
   khal-list at ~/calendars 2024-01-03T14:00
   khal-list at ~/calendars 2024-01-03T14:00 --zone=-05:00";
@@ -61,7 +61,7 @@ fn bare_command<'a>(alloc: Global) -> Command<'a>
         .subcommand_required(true)
 }
 
-/// The command with one argument more.
+/// The command with one more argument.
 fn with<'a>(command: Command<'a>, arg: Arg<'a>) -> Result<Command<'a>, AllocError>
     requires here { arg.global ≡ false }
     requires local { (out-Command command).has_globals ≡ false }

@@ -12,7 +12,7 @@ use crate::request::Request;
 use ics_series::Occurrence;
 use std::alloc::{AllocError, Global};
 
-/// The day that an occurrence stands under: the display date of the later of its start and the
+/// The day under which an occurrence is listed: the display date of the later of its start and the
 /// window's start.
 pub(crate) fn day_under(request: &Request, occurrence: &Occurrence<'_>) -> i32
     ensures day { result ≡ day_under (style_of request.now) (entry_of occurrence.now) }
@@ -22,7 +22,7 @@ pub(crate) fn day_under(request: &Request, occurrence: &Occurrence<'_>) -> i32
     display_day(&request.zone, shown)
 }
 
-/// Adds the heading of a day, where the entry before stands under another day or there is none.
+/// Adds the heading of a day, unless the entry before is listed under the same day.
 fn add_heading_after(
     text: &mut Vec<u8>,
     request: &Request,
@@ -38,7 +38,7 @@ fn add_heading_after(
     add_heading(text, &request.day_format, day)
 }
 
-/// Adds an occurrence under its day, after the heading where one is due.
+/// Adds an occurrence under its day, after a heading if one is due.
 pub(crate) fn add_entry(
     alloc: Global,
     text: &mut Vec<u8>,

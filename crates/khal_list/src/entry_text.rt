@@ -1,4 +1,4 @@
-//! What placeholders stand for in the line of an entry.
+//! The values of placeholders in the line of an entry.
 ghost use Rattle.std.specs.Prelude.{◌≡◌, ◌++◌, OnOk, [], codes, if◌then◌else◌};
 ghost use Rattle.ics_values.specs.Days.{IsDayNumber};
 ghost use Rattle.ics_zone.specs.Places.{local_seconds};
@@ -80,7 +80,7 @@ fn add_cancelled(text: &mut Vec<u8>, event: &Event) -> Result<(), AllocError>
     Ok(())
 }
 
-/// Adds what a placeholder stands for, of an occurrence that stands under this day.
+/// Adds the value of a placeholder for an occurrence that is listed under this day.
 pub(crate) fn add_field(
     alloc: Global,
     text: &mut Vec<u8>,

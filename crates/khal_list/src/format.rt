@@ -7,10 +7,10 @@ use crate::field::Placeholder;
 use std::alloc::Global;
 use thiserror::Error;
 
-/// Why a text is no format.
+/// Why a text is not a format.
 #[derive(Clone, Copy, Debug, PartialEq, Eq, Error)]
 pub enum FormatFault {
-    /// A brace stands alone, or a placeholder is unknown.
+    /// A brace is neither doubled nor part of a placeholder, or a placeholder is unknown.
     #[error("no format")]
     BadFormat,
     #[error("out of memory")]
@@ -20,7 +20,7 @@ pub enum FormatFault {
 impl FormatFault {
     ghost use Rattle.khal_list.specs.Formats.{fault_name};
 
-    /// The fault's name.
+    /// The name of the fault, as it is printed.
     pub fn name(&self) -> &'static str
         ensures { result.now ≡ fault_name self.now }
     {
@@ -34,21 +34,21 @@ impl FormatFault {
 /// A piece of a format.
 #[derive(Clone, Copy, Debug, PartialEq, Eq)]
 pub enum Piece<F> {
-    /// A byte that stands for itself.
+    /// A byte that is written as it is.
     Byte(u8),
     /// A placeholder.
     Field(F),
 }
 
-/// How entries or days are written: bytes that stand for themselves, and placeholders.
+/// How entries or days are written: bytes that are written as they are, and placeholders.
 #[derive(Drop)]
 pub struct Format<F: Placeholder> {
     pub pieces: Vec<Piece<F>>,
 }
 
 impl<F: Placeholder> Format<F> {
-    /// The format of a text: `{NAME}` is a placeholder, `{{` and `}}` stand for one brace, and any other
-    /// byte for itself. BadFormat if there is another brace or an unknown name; Memory if an allocation
+    /// The format of a text: `{NAME}` is a placeholder, `{{` and `}}` mean one brace, and any other byte
+    /// means itself. BadFormat if there is another brace or an unknown name; Memory if an allocation
     /// failed.
     pub fn parse(alloc: Global, text: &str) -> Result<Format<F>, FormatFault>
         ensures ok { IfOk result (λ format. text.now ≡ written F.name format.pieces.items) }
@@ -80,7 +80,7 @@ fn next_piece<F: Placeholder>(text: &[u8]) -> Option<(Piece<F>, &[u8])>
     }
 }
 
-// The piece whose opening brace stands before this text, and what comes after it.
+// The piece whose opening brace comes before this text, and the text after the piece.
 fn opened_piece<F: Placeholder>(text: &[u8]) -> Option<(Piece<F>, &[u8])>
     ensures some { IfSome result (λ found. 123 ∷ text.entry.now ≡ written_piece F.name found.0 ++ found.1.now) }
     ensures none { IsNone result → (piece : Piece F) (after : List ℕ) → 123 ∷ text.entry.now ≢ written_piece F.name piece ++ after }
@@ -91,7 +91,7 @@ fn opened_piece<F: Placeholder>(text: &[u8]) -> Option<(Piece<F>, &[u8])>
     }
 }
 
-// The placeholder whose name stands before the first `}`, and what comes after that.
+// The placeholder with the name before the first `}`, and the text after that.
 fn named_piece<F: Placeholder>(text: &[u8]) -> Option<(Piece<F>, &[u8])>
     ensures some { IfSome result (λ found. 123 ∷ text.entry.now ≡ written_piece F.name found.0 ++ found.1.now) }
     ensures none { IsNone result → (field : F) (after : List ℕ) → text.entry.now ≢ F.name field ++ 125 ∷ after }
@@ -101,7 +101,7 @@ fn named_piece<F: Placeholder>(text: &[u8]) -> Option<(Piece<F>, &[u8])>
     Some((Piece::Field(field), &text[end + 1..]))
 }
 
-// Where the first `}` stands.
+// The position of the first `}`.
 fn closing(text: &[u8]) -> Option<usize>
     ensures { result ≡ position (λ byte. byte == 125) text.now }
 {

@@ -1,4 +1,4 @@
-//! Dates, and the headings that they stand in.
+//! Dates, and headings with dates.
 ghost use Rattle.std.specs.Prelude.{◌≡◌, ◌++◌, ◌∷◌, [], OnOk};
 ghost use Rattle.jiff_core.specs.Weekday.{monday_zero};
 ghost use Rattle.ics_values.specs.Days.{IsDayNumber, day_index, weekday_of};
@@ -48,7 +48,7 @@ fn add_weekday(text: &mut Vec<u8>, day: i32) -> Result<(), AllocError>
     Ok(())
 }
 
-/// Adds what a piece of a heading comes to, for a day of the years 0000 to 9999.
+/// Adds the text of a piece of a heading, for a day of the years 0000 to 9999.
 fn add_piece(text: &mut Vec<u8>, day: i32, piece: Piece<DayField>) -> Result<(), AllocError>
     requires { IsDayNumber day }
     ensures { OnOk result (text.new.items ≡ text.old.items ++ shown_piece (day_field_text day) piece) }
@@ -60,7 +60,7 @@ fn add_piece(text: &mut Vec<u8>, day: i32, piece: Piece<DayField>) -> Result<(),
     }
 }
 
-/// Adds the heading of a day of the years 0000 to 9999, as this format has it, and LF.
+/// Adds the heading of a day of the years 0000 to 9999 in this format, and LF.
 pub(crate) fn add_heading(
     text: &mut Vec<u8>,
     format: &Format<DayField>,

@@ -14,7 +14,7 @@ use ics_series::Occurrence;
 use ics_zone::Display;
 use std::alloc::{AllocError, Global};
 
-/// Adds the line of an occurrence that stands under this day, as the request has it written.
+/// Adds the line of an occurrence that is listed under this day, in the request's format.
 pub(crate) fn add_line(
     alloc: Global,
     text: &mut Vec<u8>,
@@ -32,7 +32,7 @@ pub(crate) fn add_line(
     Ok(())
 }
 
-/// Adds what a piece of the line comes to.
+/// Adds the text of a piece of the line.
 fn add_piece(
     alloc: Global,
     text: &mut Vec<u8>,

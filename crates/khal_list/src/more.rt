@@ -1,4 +1,4 @@
-//! The line that says where a listing goes on.
+//! The line with the token from which a listing continues.
 ghost use Rattle.std.specs.Prelude.{◌≡◌, Some, IfOk, OnOk, OnErr, IsErrOf};
 ghost use Rattle.std.specs.Io.KnownBytes.{Appends};
 ghost use Rattle.std.specs.Option.{option_map};
@@ -20,9 +20,9 @@ fn more_line(alloc: Global, key: &Key) -> Result<String, AllocError>
     format!(in alloc; "more: {token}\n")
 }
 
-/// Writes the line of the key from which a listing goes on, where there is one.
+/// Writes the line of the key from which a listing continues, if there is one.
 ///
-/// WriteFault comes only where the sink failed, or was given bytes and took none.
+/// WriteFault comes only if the sink failed, or was given bytes and took none.
 pub(crate) fn put_more<E: Sink>(
     alloc: Global,
     err: &mut E,

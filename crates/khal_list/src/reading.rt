@@ -14,8 +14,8 @@ use crate::status::Status;
 use ics_calendar::FileEvents;
 use std::alloc::Global;
 
-/// What is kept of the files of a source: the events of those that are accepted, and the lines of
-/// the others.
+/// What is kept from the files of a source: the events of the accepted files, and the lines of the
+/// others.
 #[derive(Drop)]
 pub(crate) struct Reading {
     pub(crate) files: Vec<FileEvents>,
@@ -50,7 +50,7 @@ impl Reading {
         Ok(())
     }
 
-    /// Faulty where some file is not listed.
+    /// Faulty if a file is not listed.
     pub(crate) fn status(&self) -> Status
         ensures { (result ≡ Status.Faulty) ↔ (self.now.errors.items ≢ []) }
     {

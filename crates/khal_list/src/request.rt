@@ -1,4 +1,4 @@
-//! What a listing is asked for.
+//! Requests for a listing.
 ghost use Rattle.std.specs.Prelude.{◌≡◌, ◌∷◌, IfOk, IsErrOf, map, codes};
 ghost use Rattle.std.specs.String.{string_bytes};
 ghost use Rattle.clap.specs.Words.{subcommand_rows_of};
@@ -18,8 +18,8 @@ use ics_values::Moment;
 use ics_zone::Display;
 use std::alloc::{AllocError, Global};
 
-/// What a listing is asked for: the folder, the zone in which it is shown, the window that an
-/// occurrence has to meet, how many entries are listed and from where on, and how they are written.
+/// A request for a listing: the folder, the zone in which it is shown, the window that an occurrence
+/// has to meet, how many entries are listed and after which key, and how they are written.
 #[derive(Drop)]
 pub struct Request {
     pub folder: String,
@@ -52,10 +52,10 @@ impl Request {
     /// is written, by default `{cell} {title}`, and `--day-format` how a day's heading is, by default
     /// `{name}, {date}`.
     ///
-    /// Faults are looked for in this order: Usage if clap refuses the words, BadZone if `--zone` names
-    /// no display zone, BadWindow if a text of the window is of another form or out of its bounds, or
-    /// the end's instant is not after the start's, BadToken if `--after` is no token, BadFormat if
-    /// `--format` or `--day-format` is no format.
+    /// The first of these faults is reported: Usage if clap refuses the words, BadZone if `--zone` does
+    /// not name a display zone, BadWindow if a text of the window has another form or is out of its
+    /// bounds, or the end's instant is not after the start's, BadToken if `--after` is not a token,
+    /// BadFormat if `--format` or `--day-format` is not a format.
     pub fn of(alloc: Global, words: &[&str], now: Moment) -> Result<Request, RequestFault>
         ensures { RequestOf (map (λ word. word.now) words.now) now result }
     {
@@ -110,7 +110,7 @@ fn named<'a>(alloc: Global, words: &[&'a str]) -> Result<Vec<&'a str>, AllocErro
     Ok(named)
 }
 
-// The number of `--limit`, where it stands.
+// The number of `--limit`, if it is given.
 fn limit_of<'a>(found: &ArgMatches<'a>) -> Option<u32>
     requires { HasLimit (subcommand_rows_of found.now) }
     ensures { IsLimitOf (limit_text (subcommand_rows_of found.now)) result }
@@ -124,7 +124,7 @@ fn number(text: &str) -> Option<u32>
     text.parse::<u32>().ok()
 }
 
-// The key of `--after`, where it stands.
+// The key of `--after`, if it is given.
 fn key_after<'a>(alloc: Global, found: &ArgMatches<'a>) -> Result<Option<Key>, TokenFault>
     ensures ok { IfOk result (spec.IsKeyOf (spec.after_text (subcommand_rows_of found.now))) }
     ensures bad { IsErrOf result TokenFault.BadToken → spec.IsNoToken (spec.after_text (subcommand_rows_of found.now)) }

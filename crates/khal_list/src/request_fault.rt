@@ -1,4 +1,4 @@
-//! Why words are no request.
+//! Why words are not a request.
 ghost use Rattle.std.specs.Prelude.{◌≡◌};
 ghost use Rattle.clap.specs.Words.{kind_of};
 
@@ -10,22 +10,22 @@ use ics_zone::DisplayFault;
 use std::alloc::{AllocError, Global};
 use thiserror::Error as ErrorText;
 
-/// Why words are no request.
+/// Why words are not a request.
 #[derive(Debug, Drop, ErrorText)]
 pub enum RequestFault {
-    /// clap refuses the words, and says why by `text`; `help` is set where they ask for help.
+    /// clap refuses the words and says why in `text`. `help` is set if they ask for help.
     #[error("{text}")]
     Usage { text: String, help: bool },
-    /// `--zone` names no display zone.
+    /// `--zone` does not name a display zone.
     #[error("BadZone")]
     BadZone,
-    /// The words name no window, or one that is empty or out of bounds.
+    /// The words do not name a window, or name one that is empty or out of bounds.
     #[error("BadWindow")]
     BadWindow,
-    /// `--after` is no token.
+    /// `--after` is not a token.
     #[error("BadToken")]
     BadToken,
-    /// `--format` or `--day-format` is no format.
+    /// `--format` or `--day-format` is not a format.
     #[error("BadFormat")]
     BadFormat,
     /// An allocation failed.
@@ -36,7 +36,7 @@ pub enum RequestFault {
 impl RequestFault {
     ghost use Rattle.khal_list.specs.RequestFaults.{fault_name, IsFaultOf};
 
-    /// The fault's name.
+    /// The name of the fault, as it is printed.
     pub fn name(&self) -> &'static str
         ensures { result.now ≡ fault_name self.now }
     {

@@ -20,7 +20,7 @@ use ics_calendar::FileEvents;
 use ics_series::{Folder, Key};
 use std::alloc::Global;
 
-/// Writes the listing of these files as it is asked for, and answers the key from which it goes on.
+/// Writes the requested listing of these files, and returns the key from which it continues.
 fn list<O: Sink>(
     alloc: Global,
     files: Vec<FileEvents>,

@@ -1,4 +1,4 @@
-//! Where text goes.
+//! Outputs.
 ghost use Rattle.std.specs.Prelude.{◌≡◌, ◌≤◌, IfOk, OnOk, OnErr, IsErrOf, length};
 ghost use Rattle.std.specs.Io.KnownBytes.{Appends, WriteAppends};
 ghost use Rattle.khal_list.specs.Growth.{risen, TookFront, LeftByFault};
@@ -10,7 +10,7 @@ pub trait Sink {
     ghost use Rattle.std.specs.Prelude.{ℕ, List, Option, Result};
     ghost use Rattle.khal_list.specs.declared.fault.SinkFault.{SinkFault};
 
-    /// The bytes taken so far, where it tells them.
+    /// The bytes taken so far, if the sink reports them.
     ghost taken: { Self → Option (List ℕ) };
 
     /// From a state, a call with these bytes may give this answer and leave this state.

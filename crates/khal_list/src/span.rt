@@ -1,4 +1,4 @@
-//! What window the words ask for.
+//! The window that the words ask for, as texts.
 ghost use Rattle.std.specs.Prelude.{◌≡◌};
 ghost use Rattle.clap.specs.Words.{subcommand_rows_of};
 ghost use Rattle.khal_list.specs.Entries.{span_of};
@@ -7,12 +7,12 @@ ghost use Rattle.khal_list.specs.SpanTexts.{span_by};
 use crate::words::{entry, is_at, text};
 use clap::ArgMatches;
 
-/// What window the words ask for, by its texts.
+/// The window that the words ask for, as texts.
 #[derive(Clone, Copy)]
 pub(crate) enum Span<'a> {
-    /// The one of a moment.
+    /// The window of a moment.
     At(&'a str),
-    /// The one from START, where it stands, to END.
+    /// The window from START, if it is given, to END.
     FromTo {
         start: Option<&'a str>,
         end: &'a str,

@@ -12,7 +12,7 @@ pub enum Status {
 }
 
 impl Status {
-    /// The exit status: 0, or 1 where it is faulty.
+    /// The exit status: 0, or 1 if it is faulty.
     pub fn code(self) -> u8
         ensures { result ≡ code_of self }
     {

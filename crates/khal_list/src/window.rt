@@ -20,7 +20,7 @@ const FIRST_START: i64 = -62_135_510_400;
 
 const LAST_END: i64 = 247_090_953_600;
 
-// The days of the years in which a zone is asked, 0000 to 9950.
+// The days of the years for which a zone has answers, 0000 to 9950.
 const FIRST_DAY: i32 = -719_528;
 
 const LAST_DAY: i32 = 2_914_999;
@@ -48,7 +48,7 @@ pub(crate) fn window_of(
     }
 }
 
-// START's local, today's midnight where it is left out.
+// START's local, or today's midnight if it is left out.
 fn start_said(zone: Display, now: Moment, text: Option<&str>) -> Option<Local>
     ensures value { option_map (λ l. local_seconds l.day l.second) result
         ≡ spec.start_said zone now (option_map (λ t. t.now) text.entry) }
@@ -124,7 +124,7 @@ fn between(zone: Display, start: Local, end: Local, notstarted: bool) -> Option<
     if seconds(start) < FIRST_START || seconds(end) > LAST_END {
         return None;
     }
-    // Days before every start, or days behind every end, the instants do not rise.
+    // Days before every start, or days after every end, the instants do not rise.
     if end.day < FIRST_DAY || start.day > LAST_DAY {
         return None;
     }
@@ -165,7 +165,7 @@ fn instant(zone: Display, local: Local) -> Moment
     zone.moment(local)
 }
 
-// The seconds of a local since 1970-01-01T00:00:00 on a clock without zones.
+// The seconds from 1970-01-01T00:00:00 to a local, each day having 86,400.
 fn seconds(local: Local) -> i64
     ensures { result ≡ local_seconds local.day local.second }
 {

@@ -28,14 +28,14 @@ pub(crate) fn entry<'a>(found: &ArgMatches<'a>, id: &str) -> Option<&'a str>
     entries.get_str(id)
 }
 
-/// The text of that entry, empty where there is none.
+/// The text of that entry, or the empty text if there is none.
 pub(crate) fn text<'a>(found: &ArgMatches<'a>, id: &str) -> &'a str
     ensures { result.now ≡ spec.text_of id.now (subcommand_rows_of found.now) }
 {
     text_or(found, id, "")
 }
 
-/// The text of that entry, or `default` where there is none.
+/// The text of that entry, or `default` if there is none.
 pub(crate) fn text_or<'a>(found: &ArgMatches<'a>, id: &str, default: &'a str) -> &'a str
     ensures { result.now ≡ spec.text_or id.now default.entry.now (subcommand_rows_of found.now) }
 {
