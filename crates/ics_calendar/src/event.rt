@@ -5,24 +5,24 @@ use std::marker::Model;
 
 /// An event of a file (RFC 5545, section 3.6.1).
 ///
-/// Its UID is not empty. Its stamps lie in the years 0001 to 9899, and have a zone exactly where they are zoned. It
-/// ends by at most 36,525 days after its start, and not before it.
+/// Its UID is not empty. Its stamps are in the years 0001 to 9899. They have a zone exactly if they are zoned. It ends
+/// at most 36,525 days after its start, and not before it.
 #[derive(Drop)]
 pub struct Event {
     pub uid: Text,
-    /// Of several versions of an event the one with the greatest number counts.
+    /// SEQUENCE, or 0. Of several versions of an event, the one with the greatest number counts (RFC 5545, section 3.8.7.4).
     pub sequence: u32,
     pub start: Time,
     pub length: Length,
-    /// The recurrence rule of its RRULE (RFC 5545, section 3.8.5.3).
+    /// The recurrence rule that RRULE gives (RFC 5545, section 3.8.5.3).
     pub rule: Option<Parts>,
-    /// The values of its RDATEs, in the order of the file.
+    /// The values of its RDATEs, in the order of the file (RFC 5545, section 3.8.5.2).
     pub rdates: Vec<Rdate>,
-    /// The values of its EXDATEs, in the order of the file: which starts are taken out.
+    /// The values of its EXDATEs, which remove starts, in the order of the file (RFC 5545, section 3.8.5.1).
     pub exdates: Vec<Time>,
-    /// Its RECURRENCE-ID. An event with one is an override: it stands for that instance of the event of its UID without one.
+    /// RECURRENCE-ID. An event with one is an override: it replaces that instance of the event with its UID and without one.
     pub recurrence: Option<Time>,
-    /// The SUMMARY, empty where there is none.
+    /// SUMMARY, or the empty text.
     pub title: Text,
     pub location: Text,
     pub description: Text,

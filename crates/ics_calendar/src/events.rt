@@ -4,8 +4,8 @@ use std::marker::Model;
 
 /// The time zones and the events of a file, each in the order of their BEGIN lines.
 ///
-/// The zone of each time is one of these. Where a start or an end has one, the event ends by at most 36,525 days after its
-/// start: as locals where both are of one zone, and else as instants.
+/// The zone of each time is one of these. If a start or an end has a zone, the event ends at most 36,525 days after its
+/// start: compared as locals if both are of one zone, and else as instants.
 #[derive(Drop)]
 pub struct FileEvents {
     pub zones: Vec<Zone>,

@@ -5,28 +5,28 @@ ghost use Rattle.ics_calendar.specs.FaultNames.{kind_name, fault_name};
 use std::error::Error;
 use std::fmt;
 
-/// What is wrong on a line. Of two faults on one line the earlier variant counts.
+/// What is wrong on a line. If a line has several faults, the first in this order counts.
 #[derive(Clone, Copy, Debug, PartialEq, Eq)]
 pub enum FaultKind {
-    /// A line that is no content line.
+    /// A line that is not a content line.
     BadLine,
-    /// The file begins with a space or a tab.
+    /// The file begins with a space or a tab. This fault comes before all others.
     BadFold,
-    /// A stamp of none of its forms, or of no date or time that there is.
+    /// A stamp in none of its forms, or a date or time that does not exist.
     BadStamp,
-    /// A text that is no duration, or a negative duration, or one past 36,525 days.
+    /// A text that is not a duration, or a duration that is negative or longer than 36,525 days.
     BadDuration,
-    /// A text that is no offset from UTC.
+    /// A text that is not an offset from UTC.
     BadOffset,
-    /// A text that is no recurrence rule, or a part of it out of its range.
+    /// A text that is not a recurrence rule, or has a part out of its range.
     BadRule,
     /// A stamp outside the years 0001 to 9899.
     YearRange,
-    /// A number past 4,294,967,295 in a value that is otherwise in order.
+    /// A number past 4,294,967,295 in a value that is otherwise valid.
     NumberTooLarge,
     /// A time zone without observances.
     NoObservance,
-    /// A property of a time zone or of an observance that is missing, there twice, or of another form.
+    /// A property of a time zone or of an observance that is missing, occurs twice, or has another form.
     ObservanceField,
     /// An observance with two recurrence rules, or with one finer than daily.
     ZoneRule,
@@ -40,9 +40,9 @@ pub enum FaultKind {
     MissingUid,
     /// An event without a DTSTART.
     MissingStart,
-    /// A property that an event may have once, for the second time.
+    /// The second of a property that an event may have once.
     Repeated,
-    /// A DTEND beside a DURATION, of another kind than the DTSTART, before it, or more than 36,525 days after it.
+    /// A DTEND in an event with a DURATION, or of another kind than DTSTART, before it, or more than 36,525 days after it.
     BadEnd,
     /// A TZID that no time zone of the calendar defines.
     UnknownZone,
@@ -54,12 +54,12 @@ pub enum FaultKind {
     OldVersion,
 }
 
-/// Why a file is refused: memory, or its first fault.
+/// Why a file is refused: its first fault, or a failed allocation.
 #[derive(Clone, Copy, Debug, PartialEq, Eq, thiserror::Error)]
 pub enum FileFault {
     #[error("Memory")]
     Memory,
-    /// Lines count from 1. A file that ends too early has its fault on the line after its last one.
+    /// The first fault and its line, counted from 1. A file that ends too early has its fault on the line after its last one.
     #[error("line {line}: {kind}")]
     At { line: u64, kind: FaultKind },
 }
@@ -72,7 +72,7 @@ pub struct Fault {
 }
 
 impl FaultKind {
-    /// The variant's name.
+    /// The name of the fault, as it is printed.
     pub fn name(&self) -> &'static str
         ensures { result.now ≡ kind_name self.now }
     {
@@ -112,7 +112,7 @@ impl fmt::Display for FaultKind {
 impl Error for FaultKind {}
 
 impl FileFault {
-    /// The variant's name, and of a fault on a line that of its kind.
+    /// The name of the fault, as it is printed; for a fault on a line, that of its kind.
     pub fn name(&self) -> &'static str
         ensures { result.now ≡ fault_name self.now }
     {

@@ -131,10 +131,10 @@ fn read_lines(alloc: Global, lines: Lines<'_>) -> Result<Result<FileEvents, Faul
     }
 }
 
-/// The events of a file, or its first fault.
+/// The time zones and the events of a file of at most 16,777,216 bytes, or its first fault (RFC 5545, sections 3.4 and 3.6).
 ///
-/// A file has its first fault: the one on the least line, and of several there the least kind. Faults of zones and of
-/// instants count only where no other stands.
+/// The first fault is the one on the least line and, if that has several, of the least kind. Faults of zones and of
+/// instants count only if there is no other. `Memory` if an allocation fails.
 pub fn read_file(alloc: Global, bytes: &[u8]) -> Result<FileEvents, FileFault>
     requires { length bytes.now ≤ 16_777_216 }
     ensures { SaysFile result (file_of bytes.now) }

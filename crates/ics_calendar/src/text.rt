@@ -11,7 +11,7 @@ use std::alloc::{AllocError, Global};
 use std::cmp::Ordering;
 use std::marker::Model;
 
-/// The bytes of a text, mostly but not always UTF-8.
+/// The bytes of a text. They need not be UTF-8.
 #[derive(Drop)]
 pub struct Text {
     bytes: Vec<u8>,
@@ -70,7 +70,7 @@ impl Text {
         Ok(Text { bytes })
     }
 
-    /// Its bytes.
+    /// The bytes of the text.
     pub fn as_slice(&self) -> &[u8]
         ensures { result.now ≡ self.now }
     {

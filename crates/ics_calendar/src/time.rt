@@ -4,14 +4,14 @@ ghost use Rattle.ics_calendar.specs.Event.{is_zoned};
 
 use ics_values::{Duration, Stamp};
 
-/// A stamp, and for a local one with a TZID the index of its zone among those of the file.
+/// A stamp and, for a local one with a TZID, the index of its zone among those of the file.
 #[derive(Clone, Copy, Debug, PartialEq, Eq)]
 pub struct Time {
     pub stamp: Stamp,
     pub zone: Option<u32>,
 }
 
-/// How long an event lasts (RFC 5545, section 3.6.1): by no property, by its DTEND or by its DURATION.
+/// The length of an event (RFC 5545, section 3.6.1): given by no property, by DTEND or by DURATION.
 #[derive(Clone, Copy, Debug, PartialEq, Eq)]
 pub enum Length {
     Open,
@@ -19,7 +19,7 @@ pub enum Length {
     Lasting(Duration),
 }
 
-/// A further start of an event, by a value of an RDATE (RFC 5545, section 3.8.5.2): a stamp, or a PERIOD with its own
+/// A further start of an event, given by a value of an RDATE (RFC 5545, section 3.8.5.2): a stamp, or a PERIOD with its own
 /// length.
 #[derive(Clone, Copy, Debug, PartialEq, Eq)]
 pub enum Rdate {
