@@ -15,7 +15,7 @@ use crate::name::Name;
 use crate::observances::{EndedObservance, Observances};
 use crate::refused::Refused;
 use crate::rule_value::RuleValue;
-use crate::text::Text;
+use crate::tzid::{LastTzid, Tzid};
 use ics_text::Content;
 use ics_values::{Local, Stamp, read_offset, read_stamp};
 use std::alloc::{AllocError, Global};
@@ -32,7 +32,7 @@ pub enum Builder {
 /// The TZID of a time zone, and its observances that have ended.
 #[derive(Drop)]
 pub struct ZoneBuilder {
-    pub name: Option<Text>,
+    pub name: Option<Tzid>,
     pub observances: Observances,
 }
 
@@ -76,8 +76,8 @@ impl ZoneBuilder {
         ensures { Keeps result self.new (zone_line name content.now self.old) }
     {
         if let Name::Tzid = name {
-            let text = Text::of_value(alloc, content.value())?;
-            once(&mut self.name, text, FaultKind::ObservanceField)?;
+            let tzid = Tzid::of_value(alloc, content.value())?;
+            once(&mut self.name, tzid, FaultKind::ObservanceField)?;
         }
         Ok(())
     }
@@ -183,6 +183,7 @@ impl Builder {
     pub fn line(
         &mut self,
         alloc: Global,
+        tzids: &mut LastTzid,
         calendar: u64,
         context: Context,
         name: Name,
@@ -191,7 +192,7 @@ impl Builder {
         ensures { Makes result self.new (builder_line calendar context name content.now self.old) }
     {
         match self {
-            Builder::Event(had) => had.line(alloc, calendar, name, content),
+            Builder::Event(had) => had.line(alloc, tzids, calendar, name, content),
             Builder::Zone(had) => {
                 had.line(alloc, name, content)?;
                 Ok(None)

@@ -10,8 +10,8 @@ use crate::date_values::DateValues;
 use crate::dated::zone_name;
 use crate::deferred_check::{DeferredCheck, ZoneName};
 use crate::refused::Refused;
-use crate::text::Text;
 use crate::time::{Length, Rdate, Time, is_zoned};
+use crate::tzid::{LastTzid, Tzid};
 use crate::zone_table::ZoneTable;
 use ics_text::Content;
 use ics_values::{Duration, Stamp};
@@ -45,7 +45,7 @@ impl Model for Dates {
 #[derive(Drop)]
 pub struct DateList {
     pub values: Dates,
-    pub zone: Option<Text>,
+    pub zone: Option<Tzid>,
 }
 
 /// What several lines list, in their order.
@@ -113,37 +113,41 @@ impl Dates {
 
 impl DateList {
     /// What an RDATE lists.
-    pub fn read_rdates(alloc: Global, content: &Content<'_>) -> Result<DateList, Refused>
+    pub fn read_rdates(
+        alloc: Global,
+        tzids: &mut LastTzid,
+        content: &Content<'_>,
+    ) -> Result<DateList, Refused>
         ensures { Gives result (rdates_said content.now) }
     {
-        let zone = zone_name(alloc, content)?;
+        let zone = zone_name(alloc, tzids, content)?;
         let values = DateValues::of_rdate(alloc, content.value(), zone.is_some())?;
         let values = values.listed(alloc)?;
         Ok(DateList { values, zone })
     }
 
     /// What an EXDATE lists.
-    pub fn read_exdates(alloc: Global, content: &Content<'_>) -> Result<DateList, Refused>
+    pub fn read_exdates(
+        alloc: Global,
+        tzids: &mut LastTzid,
+        content: &Content<'_>,
+    ) -> Result<DateList, Refused>
         ensures { Gives result (exdates_said content.now) }
     {
-        let zone = zone_name(alloc, content)?;
+        let zone = zone_name(alloc, tzids, content)?;
         let values = DateValues::of_exdate(alloc, content.value(), zone.is_some())?;
         let values = values.listed(alloc)?;
         Ok(DateList { values, zone })
     }
 
     /// The time zone of the stamps, which is to be known.
-    pub fn used_zone(
-        &self,
-        alloc: Global,
-        calendar: u64,
-    ) -> Result<Option<DeferredCheck>, AllocError>
+    pub fn used_zone(&self, calendar: u64) -> Result<Option<DeferredCheck>, AllocError>
         ensures { IfOk result (λ check. check ≡ listed_zone calendar self.now) }
     {
         if !self.values.have_zoned() {
             return Ok(None);
         }
-        let name = ZoneName::copied(alloc, calendar, &self.zone)?;
+        let name = ZoneName::shared(calendar, &self.zone)?;
         Ok(Some(DeferredCheck::Zone(name)))
     }
 }
@@ -201,7 +205,7 @@ impl DateLists {
     {
         let mut rdates = Vec::new(alloc);
         for list in self.lists {
-            let zone = table.index(&ZoneName::of(alloc, calendar, list.zone));
+            let zone = table.index(&ZoneName::of(calendar, list.zone));
             push_rdates(&list.values, zone, &mut rdates)?;
         }
         Ok(rdates)
@@ -218,7 +222,7 @@ impl DateLists {
     {
         let mut exdates = Vec::new(alloc);
         for list in self.lists {
-            let zone = table.index(&ZoneName::of(alloc, calendar, list.zone));
+            let zone = table.index(&ZoneName::of(calendar, list.zone));
             push_exdates(&list.values, zone, &mut exdates)?;
         }
         Ok(exdates)

@@ -5,8 +5,8 @@ ghost use Rattle.ics_calendar.specs.Values.{tzid, zone_name};
 
 use crate::deferred_check::{DeferredCheck, Instant, ZoneName};
 use crate::refused::Refused;
-use crate::text::Text;
 use crate::time::is_zoned;
+use crate::tzid::{LastTzid, Tzid};
 use ics_text::Content;
 use ics_values::{Stamp, read_stamp};
 use std::alloc::{AllocError, Global};
@@ -15,25 +15,33 @@ use std::alloc::{AllocError, Global};
 #[derive(Drop)]
 pub struct Dated {
     pub stamp: Stamp,
-    pub zone: Option<Text>,
+    pub zone: Option<Tzid>,
 }
 
 /// The name of the zone that a line's TZID gives.
-pub fn zone_name(alloc: Global, content: &Content<'_>) -> Result<Option<Text>, AllocError>
+pub fn zone_name(
+    alloc: Global,
+    tzids: &mut LastTzid,
+    content: &Content<'_>,
+) -> Result<Option<Tzid>, AllocError>
     ensures { IfOk result (λ zone. zone ≡ zone_name content.now.params) }
 {
     match content.param(b"TZID") {
-        Some(name) => Ok(Some(Text::copied(alloc, name)?)),
+        Some(name) => Ok(Some(tzids.name(alloc, name)?)),
         None => Ok(None),
     }
 }
 
 impl Dated {
     /// The stamp of a line and the zone that its TZID names.
-    pub fn read(alloc: Global, content: &Content<'_>) -> Result<Dated, Refused>
+    pub fn read(
+        alloc: Global,
+        tzids: &mut LastTzid,
+        content: &Content<'_>,
+    ) -> Result<Dated, Refused>
         ensures { Gives result (dated_said content.now) }
     {
-        let zone = zone_name(alloc, content)?;
+        let zone = zone_name(alloc, tzids, content)?;
         let stamp = read_stamp(content.value(), zone.is_some())?;
         Ok(Dated { stamp, zone })
     }
@@ -56,28 +64,24 @@ impl Dated {
     }
 
     /// The time zone of the stamp, which is to be known.
-    pub fn used_zone(
-        &self,
-        alloc: Global,
-        calendar: u64,
-    ) -> Result<Option<DeferredCheck>, AllocError>
+    pub fn used_zone(&self, calendar: u64) -> Result<Option<DeferredCheck>, AllocError>
         ensures { IfOk result (λ check. check ≡ used_zone calendar self.now) }
     {
         if !self.is_zoned() {
             return Ok(None);
         }
-        let name = ZoneName::copied(alloc, calendar, &self.zone)?;
+        let name = ZoneName::shared(calendar, &self.zone)?;
         Ok(Some(DeferredCheck::Zone(name)))
     }
 
     /// The stamp, if it is an instant.
-    pub fn instant(&self, alloc: Global, calendar: u64) -> Result<Option<Instant>, AllocError>
+    pub fn instant(&self, calendar: u64) -> Result<Option<Instant>, AllocError>
         ensures { IfOk result (λ instant. instant ≡ instant_in calendar self.now) }
     {
         match self.stamp {
             Stamp::Utc(local) => Ok(Some(Instant::Utc(local))),
             Stamp::Zoned(local) => {
-                let name = ZoneName::copied(alloc, calendar, &self.zone)?;
+                let name = ZoneName::shared(calendar, &self.zone)?;
                 Ok(Some(Instant::Zoned(local, name)))
             }
             _ => Ok(None),

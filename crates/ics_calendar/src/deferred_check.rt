@@ -2,15 +2,15 @@
 ghost use Rattle.std.specs.Prelude.{◌≡◌, IfOk};
 ghost use Rattle.ics_calendar.specs.DeferredChecks.{zone_named};
 
-use crate::text::{Text, text_or_empty};
+use crate::tzid::Tzid;
 use ics_values::Local;
-use std::alloc::{AllocError, Global};
+use std::alloc::AllocError;
 
 /// The name of a time zone, and the number of the BEGIN line of the calendar that it belongs to.
 #[derive(PartialEq, Eq, PartialOrd, Ord, Drop)]
 pub struct ZoneName {
     pub calendar: u64,
-    pub name: Text,
+    pub name: Tzid,
 }
 
 /// A stamp that is an instant: one in UTC, or one in the time zone of that name.
@@ -31,21 +31,24 @@ pub enum DeferredCheck {
 
 impl ZoneName {
     /// The zone of that calendar with the name that a TZID gives.
-    pub fn of(alloc: Global, calendar: u64, zone: Option<Text>) -> ZoneName
+    pub fn of(calendar: u64, zone: Option<Tzid>) -> ZoneName
         ensures { result ≡ zone_named calendar zone }
     {
-        let name = text_or_empty(alloc, zone);
+        let name = match zone {
+            Some(name) => name,
+            None => Tzid::empty(),
+        };
         ZoneName { calendar, name }
     }
 
     /// The same of a TZID that is kept.
-    pub fn copied(alloc: Global, calendar: u64, zone: &Option<Text>) -> Result<ZoneName, AllocError>
+    pub fn shared(calendar: u64, zone: &Option<Tzid>) -> Result<ZoneName, AllocError>
         ensures { IfOk result (λ name. name ≡ zone_named calendar zone.now) }
     {
         let zone = match zone {
-            Some(name) => Some(Text::copied(alloc, name.as_slice())?),
+            Some(name) => Some(name.shared()?),
             None => None,
         };
-        Ok(ZoneName::of(alloc, calendar, zone))
+        Ok(ZoneName::of(calendar, zone))
     }
 }

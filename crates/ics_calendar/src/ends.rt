@@ -8,7 +8,7 @@ ghost use Rattle.ics_calendar.specs.Values.{is_out, is_bad_end, same_zone, ends_
 use crate::dated::Dated;
 use crate::deferred_check::{DeferredCheck, Instant};
 use ics_values::{Local, Stamp};
-use std::alloc::{AllocError, Global};
+use std::alloc::AllocError;
 
 /// The longest event, in seconds.
 const LONGEST: i64 = 36_525 * 86_400;
@@ -86,7 +86,6 @@ fn compared(start: Instant, end: Instant) -> Option<DeferredCheck>
 
 /// The check that the second round makes on the END of an event of that calendar.
 pub fn ends_in(
-    alloc: Global,
     calendar: u64,
     start: &Option<Dated>,
     end: &Option<Dated>,
@@ -99,10 +98,7 @@ pub fn ends_in(
     if are_of_one_zone(start, end) {
         return Ok(None);
     }
-    match (
-        start.instant(alloc, calendar)?,
-        end.instant(alloc, calendar)?,
-    ) {
+    match (start.instant(calendar)?, end.instant(calendar)?) {
         (Some(start), Some(end)) => Ok(compared(start, end)),
         _ => Ok(None),
     }

@@ -17,6 +17,7 @@ use crate::name::Name;
 use crate::refused::Refused;
 use crate::rule_value::RuleValue;
 use crate::text::{Text, text_or_empty};
+use crate::tzid::LastTzid;
 use crate::words::is_word;
 use ics_text::Content;
 use ics_values::{Duration, IntegerFault, read_integer};
@@ -124,13 +125,14 @@ impl EventBuilder {
     fn start_line(
         &mut self,
         alloc: Global,
+        tzids: &mut LastTzid,
         calendar: u64,
         content: &Content<'_>,
     ) -> Result<Option<DeferredCheck>, Refused>
         ensures { Makes result self.new (event_line calendar name.Dtstart content.now self.old) }
     {
-        let dated = Dated::read(alloc, content)?;
-        let check = dated.used_zone(alloc, calendar)?;
+        let dated = Dated::read(alloc, tzids, content)?;
+        let check = dated.used_zone(calendar)?;
         once(&mut self.start, dated, FaultKind::Repeated)?;
         Ok(check)
     }
@@ -139,13 +141,14 @@ impl EventBuilder {
     fn end_line(
         &mut self,
         alloc: Global,
+        tzids: &mut LastTzid,
         calendar: u64,
         content: &Content<'_>,
     ) -> Result<Option<DeferredCheck>, Refused>
         ensures { Makes result self.new (event_line calendar name.Dtend content.now self.old) }
     {
-        let dated = Dated::read(alloc, content)?;
-        let check = dated.used_zone(alloc, calendar)?;
+        let dated = Dated::read(alloc, tzids, content)?;
+        let check = dated.used_zone(calendar)?;
         once(&mut self.end, dated, FaultKind::Repeated)?;
         Ok(check)
     }
@@ -154,13 +157,14 @@ impl EventBuilder {
     fn recurrence_line(
         &mut self,
         alloc: Global,
+        tzids: &mut LastTzid,
         calendar: u64,
         content: &Content<'_>,
     ) -> Result<Option<DeferredCheck>, Refused>
         ensures { Makes result self.new (event_line calendar name.RecurrenceId content.now self.old) }
     {
-        let dated = Dated::read(alloc, content)?;
-        let check = dated.used_zone(alloc, calendar)?;
+        let dated = Dated::read(alloc, tzids, content)?;
+        let check = dated.used_zone(calendar)?;
         once(&mut self.recurrence, dated, FaultKind::Repeated)?;
         if content.param(b"RANGE").is_some() {
             return Err(Refused::Fault(FaultKind::ThisAndFuture));
@@ -172,13 +176,14 @@ impl EventBuilder {
     fn rdate_line(
         &mut self,
         alloc: Global,
+        tzids: &mut LastTzid,
         calendar: u64,
         content: &Content<'_>,
     ) -> Result<Option<DeferredCheck>, Refused>
         ensures { Makes result self.new (event_line calendar name.Rdate content.now self.old) }
     {
-        let list = DateList::read_rdates(alloc, content)?;
-        let check = list.used_zone(alloc, calendar)?;
+        let list = DateList::read_rdates(alloc, tzids, content)?;
+        let check = list.used_zone(calendar)?;
         self.rdates.add(list)?;
         Ok(check)
     }
@@ -187,13 +192,14 @@ impl EventBuilder {
     fn exdate_line(
         &mut self,
         alloc: Global,
+        tzids: &mut LastTzid,
         calendar: u64,
         content: &Content<'_>,
     ) -> Result<Option<DeferredCheck>, Refused>
         ensures { Makes result self.new (event_line calendar name.Exdate content.now self.old) }
     {
-        let list = DateList::read_exdates(alloc, content)?;
-        let check = list.used_zone(alloc, calendar)?;
+        let list = DateList::read_exdates(alloc, tzids, content)?;
+        let check = list.used_zone(calendar)?;
         self.exdates.add(list)?;
         Ok(check)
     }
@@ -202,6 +208,7 @@ impl EventBuilder {
     pub fn line(
         &mut self,
         alloc: Global,
+        tzids: &mut LastTzid,
         calendar: u64,
         name: Name,
         content: &Content<'_>,
@@ -210,11 +217,11 @@ impl EventBuilder {
     {
         let value = content.value();
         match name {
-            Name::Dtstart => return self.start_line(alloc, calendar, content),
-            Name::Dtend => return self.end_line(alloc, calendar, content),
-            Name::RecurrenceId => return self.recurrence_line(alloc, calendar, content),
-            Name::Rdate => return self.rdate_line(alloc, calendar, content),
-            Name::Exdate => return self.exdate_line(alloc, calendar, content),
+            Name::Dtstart => return self.start_line(alloc, tzids, calendar, content),
+            Name::Dtend => return self.end_line(alloc, tzids, calendar, content),
+            Name::RecurrenceId => return self.recurrence_line(alloc, tzids, calendar, content),
+            Name::Rdate => return self.rdate_line(alloc, tzids, calendar, content),
+            Name::Exdate => return self.exdate_line(alloc, tzids, calendar, content),
             Name::Uid => {
                 let uid = Text::of_value(alloc, value)?;
                 once(&mut self.uid, uid, FaultKind::Repeated)?;
@@ -236,10 +243,10 @@ impl EventBuilder {
     }
 
     /// The check of its end against its start, where that waits for the second round.
-    pub fn ends_in(&self, alloc: Global, calendar: u64) -> Result<Option<DeferredCheck>, AllocError>
+    pub fn ends_in(&self, calendar: u64) -> Result<Option<DeferredCheck>, AllocError>
         ensures { IfOk result (λ check. check ≡ ends_in calendar self.now.start self.now.end) }
     {
-        ends_in(alloc, calendar, &self.start, &self.end)
+        ends_in(calendar, &self.start, &self.end)
     }
 
     /// The fault on the END of the event, if one stands there.

@@ -36,7 +36,7 @@ impl Frame {
         }
         match builder {
             Builder::Event(had) => {
-                let check = had.ends_in(alloc, calendar)?;
+                let check = had.ends_in(calendar)?;
                 let ended = Ended::Event(had.end(alloc, calendar)?);
                 Ok(Passed { ended, check })
             }

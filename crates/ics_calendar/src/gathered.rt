@@ -105,37 +105,32 @@ impl Model for Gathered {
 }
 
 /// The time of a stamp in that calendar.
-fn time_on(alloc: Global, table: &ZoneTable, calendar: u64, dated: Dated) -> Time
+fn time_on(table: &ZoneTable, calendar: u64, dated: Dated) -> Time
     ensures { result ≡ time_on (known_by table.now).index calendar dated }
 {
     let stamp = dated.stamp;
     if !dated.is_zoned() {
         return Time { stamp, zone: None };
     }
-    let zone = table.index(&ZoneName::of(alloc, calendar, dated.zone));
+    let zone = table.index(&ZoneName::of(calendar, dated.zone));
     Time { stamp, zone }
 }
 
 /// The time of a RECURRENCE-ID, if there is one.
-fn recurrence_of(
-    alloc: Global,
-    table: &ZoneTable,
-    calendar: u64,
-    recurrence: Option<Dated>,
-) -> Option<Time>
+fn recurrence_of(table: &ZoneTable, calendar: u64, recurrence: Option<Dated>) -> Option<Time>
     ensures { result ≡ option_map (time_on (known_by table.now).index calendar) recurrence }
 {
     match recurrence {
-        Some(dated) => Some(time_on(alloc, table, calendar, dated)),
+        Some(dated) => Some(time_on(table, calendar, dated)),
         None => None,
     }
 }
 
-fn length_of(alloc: Global, table: &ZoneTable, calendar: u64, length: GivenLength) -> Length
+fn length_of(table: &ZoneTable, calendar: u64, length: GivenLength) -> Length
     ensures { result ≡ length_of (known_by table.now).index calendar length }
 {
     match length {
-        GivenLength::Until(end) => Length::Until(time_on(alloc, table, calendar, end)),
+        GivenLength::Until(end) => Length::Until(time_on(table, calendar, end)),
         GivenLength::Lasting(duration) => Length::Lasting(duration),
         GivenLength::Open => Length::Open,
     }
@@ -149,12 +144,12 @@ impl EndedEvent {
     {
         let calendar = self.calendar;
         Ok(Event {
-            start: time_on(alloc, table, calendar, self.start),
-            length: length_of(alloc, table, calendar, self.length),
+            start: time_on(table, calendar, self.start),
+            length: length_of(table, calendar, self.length),
             rule: parts_of(self.rule),
             rdates: self.rdates.into_rdates(alloc, table, calendar)?,
             exdates: self.exdates.into_exdates(alloc, table, calendar)?,
-            recurrence: recurrence_of(alloc, table, calendar, self.recurrence),
+            recurrence: recurrence_of(table, calendar, self.recurrence),
             uid: self.uid,
             sequence: self.sequence,
             title: self.title,

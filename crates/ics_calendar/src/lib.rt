@@ -27,6 +27,7 @@ mod settle;
 mod stack;
 mod text;
 mod time;
+mod tzid;
 mod words;
 mod zone_table;
 

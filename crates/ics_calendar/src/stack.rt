@@ -12,6 +12,7 @@ use crate::gathered::{Ended, Passed};
 use crate::name::{Name, name_of};
 use crate::refused::Refused;
 use crate::text::Text;
+use crate::tzid::LastTzid;
 use ics_text::Content;
 use std::alloc::Global;
 use std::marker::Model;
@@ -25,6 +26,7 @@ const MAX_DEPTH: usize = 32;
 pub struct Stack {
     top: Frame,
     outer: Vec<Frame>,
+    tzids: LastTzid,
 }
 
 impl Model for Stack {
@@ -49,6 +51,7 @@ impl Stack {
                 builder: Builder::Nothing,
             },
             outer: Vec::new(alloc),
+            tzids: LastTzid::new(),
         }
     }
 
@@ -134,8 +137,14 @@ impl Stack {
             Name::End => return self.end(alloc, content.value()),
             name => {
                 let top = &mut self.top;
-                top.builder
-                    .line(alloc, top.calendar, top.context, name, content)?
+                top.builder.line(
+                    alloc,
+                    &mut self.tzids,
+                    top.calendar,
+                    top.context,
+                    name,
+                    content,
+                )?
             }
         };
         Ok(Passed {

@@ -45,15 +45,6 @@ impl Text {
         }
     }
 
-    /// A text of these bytes.
-    pub(crate) fn copied(alloc: Global, bytes: &[u8]) -> Result<Text, AllocError>
-        ensures { IfOk result (λ text. text ≡ bytes.now) }
-    {
-        let mut copy = Vec::new(alloc);
-        copy.extend_from_slice(bytes)?;
-        Ok(Text { bytes: copy })
-    }
-
     /// The text that a TEXT value stands for, without its escapes (RFC 5545, section 3.3.11).
     pub(crate) fn of_value(alloc: Global, value: &[u8]) -> Result<Text, AllocError>
         ensures { IfOk result (λ text. text ≡ text_of value.now) }
