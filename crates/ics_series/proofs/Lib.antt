@@ -36,6 +36,7 @@ mod OverrideExamples
 pub mod OverrideLemmas
 pub mod OwnRuleLemmas
 pub mod PartLemmas
+pub mod PartUidLemmas
 pub mod PeriodCountLemmas
 pub mod PickLemmas
 pub mod PlacedLemmas
@@ -63,6 +64,7 @@ pub mod StepsLaws
 pub mod ToComeLemmas
 pub mod TokenLemmas
 pub mod TournamentLemmas
+pub mod UidLemmas
 pub mod UnionLemmas
 pub mod VersionLemmas
 pub mod VersionLaws

@@ -38,6 +38,7 @@ pub mod Starts
 pub mod Steps
 pub mod Tokens
 pub mod Tournament
+pub mod Uids
 pub mod Versions
 pub mod Zones
 pub mod WindowLaws

@@ -20,6 +20,7 @@ ghost use Rattle.ics_series.specs.Overridden.{is_kept};
 ghost use Rattle.ics_series.specs.Parts.{part_coming, part_sources};
 ghost use Rattle.ics_series.specs.Sources.{master_of, recurring, AreApart, AreApart-prop, AreSources, Recurring};
 ghost use Rattle.ics_series.specs.Steps.{HasStepBound};
+ghost use Rattle.ics_series.specs.Uids.{AreSortedFrom};
 ghost use Rattle.ics_series.specs.Versions.{seen, subject_cmp, subject_seen, AreChosen};
 
 use crate::chosen::{chosen, is_named, overrides};
@@ -65,7 +66,7 @@ impl<'a> Agenda<'a> {
     {
         let chosen = chosen(alloc, files, display)?;
         let parts = parts(alloc, files, display, &chosen, window, after)?;
-        let merge = Merge::new(alloc, parts)?;
+        let merge = Merge::of_sorted(alloc, parts, 1)?;
         Ok(Agenda { merge })
     }
 
@@ -94,7 +95,7 @@ impl<'a> Agenda<'a> {
 }
 
 // The feeds of the versions that count: one for all events that start once, and one for each master
-// that recurs.
+// that recurs, in the order of their UIDs.
 fn parts<'a>(
     alloc: Global,
     files: &'a [FileEvents],
@@ -112,6 +113,7 @@ fn parts<'a>(
         (option_map (λ key. key_rank key.now) after.entry) (flat_map part_sources parts.items)) }
     ensures whole { IfOk result (λ _. (list : List Entry)
         × IsListing entry_cmp (IsListed (map said_by files.entry.now) (display_clock display.entry.now) window) list) }
+    ensures sorted { IfOk result (λ parts. AreSortedFrom 1 (map part_coming parts.items)) }
 {
     let overrides = overrides(alloc, chosen)?;
     let singles = Singles::new(alloc, files, display, chosen, &overrides, &window, after)?;

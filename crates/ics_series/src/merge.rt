@@ -8,12 +8,13 @@ ghost use Rattle.ics_series.specs.Leads.{is_given, listed, past, AreNear, AreNea
 ghost use Rattle.ics_series.specs.Merged.{merged};
 ghost use Rattle.ics_series.specs.MergedLaws.{rises-merged};
 ghost use Rattle.ics_series.specs.Tournament.{first_held, AreSettled};
+ghost use Rattle.ics_series.specs.Uids.{AreSortedFrom, AreSortedFrom-prop, IsLastSorted, IsLastSorted-prop};
 
 use crate::feed::{Coming, Feed};
 use crate::holding::Holding;
 use crate::lead::Lead;
 use crate::occurrence::Occurrence;
-use crate::tournament::{replay, winner, winners};
+use crate::tournament::{order_by_place, replay, winner, winners};
 use std::alloc::{AllocError, Global};
 
 /// Feeds as one feed. It gives each of their keys once; if several feeds have a key, it gives the entry
@@ -25,11 +26,18 @@ pub struct Merge<'a, F: Coming> {
     winners: Vec<usize>,
     // The occurrence that was given last. Others with its key count as given.
     last: Option<Occurrence<'a>>,
+    // The lead that gave it.
+    giver: usize,
+    // From this place on the leads stand in the order of their UIDs, of which each has one. So long
+    // UIDs are not read again for each occurrence.
+    sorted_from: usize,
     ghost same_length: { length winners.items ≡ length leads.items },
     ghost within: { All (λ lead. lead < length leads.items) winners.items },
     ghost settled: { AreSettled (map (λ l. option_map entry_of l.head) leads.items) winners.items },
     ghost follows: { ComeAfter last (map (λ l. past last (listed l.head (F.coming l.feed))) leads.items) } by { ComeAfter-prop last (map (λ l. past last (listed l.head (F.coming l.feed))) leads.items) },
     ghost near: { AllByRecursion (λ l. AreNear (F.near l.feed) (past last (listed l.head (F.coming l.feed)))) leads.items } by { AllByRecursion-prop (λ l. AreNear (F.near l.feed) (past last (listed l.head (F.coming l.feed)))) (λ l. AreNear-prop (F.near l.feed) (F.near_prop l.feed) (past last (listed l.head (F.coming l.feed)))) leads.items },
+    ghost sorted: { AreSortedFrom sorted_from (map (λ l. listed l.head (F.coming l.feed)) leads.items) } by { AreSortedFrom-prop sorted_from (map (λ l. listed l.head (F.coming l.feed)) leads.items) },
+    ghost last_sorted: { IsLastSorted sorted_from giver last (map (λ l. listed l.head (F.coming l.feed)) leads.items) } by { IsLastSorted-prop sorted_from giver last (map (λ l. listed l.head (F.coming l.feed)) leads.items) },
 }
 
 impl<'a, F: Feed<'a> + Drop> Merge<'a, F> {
@@ -38,15 +46,32 @@ impl<'a, F: Feed<'a> + Drop> Merge<'a, F> {
         ensures coming { IfOk result (λ merge. ⟦<Merge<'a, F> as Coming>⟧.coming merge ≡ merged entry_cmp (map F.coming feeds.items)) }
         ensures sources { IfOk result (λ merge. ⟦<Merge<'a, F> as Coming>⟧.sources merge ≡ flat_map F.sources feeds.items) }
     {
+        let none = feeds.len();
+        Merge::of_sorted(alloc, feeds, none)
+    }
+
+    // The merge of these feeds. From a place on each is of one UID, and they stand in the order of
+    // their UIDs.
+    pub(crate) fn of_sorted(
+        alloc: Global,
+        feeds: Vec<F>,
+        sorted_from: usize,
+    ) -> Result<Merge<'a, F>, AllocError>
+        requires { AreSortedFrom sorted_from (map F.coming feeds.items) }
+        ensures coming { IfOk result (λ merge. ⟦<Merge<'a, F> as Coming>⟧.coming merge ≡ merged entry_cmp (map F.coming feeds.items)) }
+        ensures sources { IfOk result (λ merge. ⟦<Merge<'a, F> as Coming>⟧.sources merge ≡ flat_map F.sources feeds.items) }
+    {
         let mut leads = Vec::with_capacity(alloc, feeds.len())?;
         for feed in feeds {
             leads.push(Lead::new(feed)?)?;
         }
-        let winners = winners(alloc, &leads)?;
+        let winners = winners(alloc, &leads, sorted_from)?;
         Ok(Merge {
             leads,
             winners,
             last: None,
+            giver: 0,
+            sorted_from,
         })
     }
 }
@@ -69,6 +94,7 @@ impl<'a, F: Feed<'a>> Feed<'a> for Merge<'a, F> {
         match self.first() {
             None => Ok(None),
             Some(first) => {
+                self.giver = winner(&self.winners, 1);
                 self.last = Some(first);
                 Ok(Some(first))
             }
@@ -99,7 +125,7 @@ impl<'a, F: Feed<'a>> Merge<'a, F> {
     {
         let lead = winner(&self.winners, 1);
         self.leads[lead].draw()?;
-        replay(&self.leads, &mut self.winners, lead);
+        replay(&self.leads, self.sorted_from, &mut self.winners, lead);
         Ok(())
     }
 
@@ -108,7 +134,11 @@ impl<'a, F: Feed<'a>> Merge<'a, F> {
         ensures { result ≡ is_given self.now.last (first_held (map (λ l. option_map entry_of l.head) self.now.leads.items) self.now.winners.items) }
     {
         match (self.last, self.first()) {
-            (Some(last), Some(first)) => Occurrence::compare(&last, &first).is_eq(),
+            (Some(last), Some(first)) => {
+                let lead = winner(&self.winners, 1);
+                let uids = order_by_place(self.sorted_from, self.giver, lead);
+                Occurrence::compare(&last, &first, uids).is_eq()
+            }
             _ => false,
         }
     }

@@ -29,6 +29,7 @@ impl<'a> Occurrence<'a> {
     ghost use Rattle.std.specs.Option.{option_map};
     ghost use Rattle.ics_series.specs.Entry.{entry_cmp, entry_of};
     ghost use Rattle.ics_series.specs.Found.{met_by, IsStart};
+    ghost use Rattle.ics_series.specs.Uids.{IsUidOrder};
     ghost use Rattle.ics_series.specs.Zones.{clocks_in, IsOwnEvent};
 
     // The occurrence with a start, if it meets the window.
@@ -58,18 +59,24 @@ impl<'a> Occurrence<'a> {
         }
     }
 
-    // By start, then by the bytes of the UID, then by recurrence.
-    pub(crate) fn compare(a: &Occurrence<'_>, b: &Occurrence<'_>) -> Ordering
+    // By start, then by the bytes of the UID, then by recurrence. The order of the UIDs may be known.
+    pub(crate) fn compare(
+        a: &Occurrence<'_>,
+        b: &Occurrence<'_>,
+        uids: Option<Ordering>,
+    ) -> Ordering
+        requires { IsUidOrder uids (entry_of a.now) (entry_of b.now) }
         ensures { result ≡ entry_cmp (entry_of a.now) (entry_of b.now) }
     {
         let (one, other) = (a.event, b.event);
-        match a.start.cmp(&b.start) {
-            Ordering::Equal => one
+        match (a.start.cmp(&b.start), uids) {
+            (Ordering::Equal, Some(order)) => order.then(a.recurrence.cmp(&b.recurrence)),
+            (Ordering::Equal, None) => one
                 .uid
                 .as_slice()
                 .cmp(other.uid.as_slice())
                 .then(a.recurrence.cmp(&b.recurrence)),
-            order => order,
+            (order, _) => order,
         }
     }
 }

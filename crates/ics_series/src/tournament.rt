@@ -4,30 +4,41 @@ ghost use Rattle.std.specs.Option.{option_map};
 ghost use Rattle.std.specs.Ordering.{is_lt};
 ghost use Rattle.ics_series.specs.Entry.{entry_of};
 ghost use Rattle.ics_series.specs.Tournament.{above, first_below, lead_cmp, winner, AreSettled, AreSettledBut};
+ghost use Rattle.ics_series.specs.Uids.{AreHeadsSorted, IsPlaceOrder};
 
 use crate::feed::Coming;
 use crate::lead::Lead;
 use crate::occurrence::Occurrence;
 use std::alloc::{AllocError, Global};
+use std::cmp::Ordering;
 
-/// For each node of a tournament of the leads, the first of those below it.
+/// For each node of a tournament of the leads, the first of those below it. From a place on the leads
+/// stand in the order of the UIDs that they hold.
 pub(crate) fn winners<'a, F: Coming>(
     alloc: Global,
     leads: &[Lead<'a, F>],
+    sorted_from: usize,
 ) -> Result<Vec<usize>, AllocError>
+    requires { AreHeadsSorted sorted_from (map (λ l. option_map entry_of l.head) leads.now) }
     ensures length { IfOk result (λ winners. length winners.items ≡ length leads.now) }
     ensures leads { IfOk result (λ winners. All (λ lead. lead < length leads.now) winners.items) }
     ensures settled { IfOk result (λ winners. AreSettled (map (λ l. option_map entry_of l.head) leads.now) winners.items) }
 {
     let mut winners = vec![in alloc; 0; leads.len()]?;
     for node in (1..leads.len()).rev() {
-        winners[node] = first_below(leads, &winners, node);
+        winners[node] = first_below(leads, sorted_from, &winners, node);
     }
     Ok(winners)
 }
 
 /// Decides the nodes above a lead again, after it has drawn.
-pub(crate) fn replay<'a, F: Coming>(leads: &[Lead<'a, F>], winners: &mut [usize], lead: usize)
+pub(crate) fn replay<'a, F: Coming>(
+    leads: &[Lead<'a, F>],
+    sorted_from: usize,
+    winners: &mut [usize],
+    lead: usize,
+)
+    requires sorted { AreHeadsSorted sorted_from (map (λ l. option_map entry_of l.head) leads.now) }
     requires lead { lead < length leads.now }
     requires length { length winners.old ≡ length leads.now }
     requires leads { All (λ lead. lead < length leads.now) winners.old }
@@ -37,7 +48,7 @@ pub(crate) fn replay<'a, F: Coming>(leads: &[Lead<'a, F>], winners: &mut [usize]
 {
     let mut node = (leads.len() + lead) / 2;
     while node > 0 {
-        winners[node] = first_below(leads, winners, node);
+        winners[node] = first_below(leads, sorted_from, winners, node);
         node /= 2;
     }
 }
@@ -53,8 +64,25 @@ pub(crate) fn winner(winners: &[usize], node: usize) -> usize
     }
 }
 
+/// The order of two leads' UIDs, if their places tell it.
+pub(crate) fn order_by_place(sorted_from: usize, one: usize, other: usize) -> Option<Ordering>
+    ensures { IsPlaceOrder sorted_from one other result }
+{
+    if one < sorted_from || other < sorted_from {
+        None
+    } else {
+        Some(one.cmp(&other))
+    }
+}
+
 // The first of the two leads that have won at the nodes below this one.
-fn first_below<'a, F: Coming>(leads: &[Lead<'a, F>], winners: &[usize], node: usize) -> usize
+fn first_below<'a, F: Coming>(
+    leads: &[Lead<'a, F>],
+    sorted_from: usize,
+    winners: &[usize],
+    node: usize,
+) -> usize
+    requires sorted { AreHeadsSorted sorted_from (map (λ l. option_map entry_of l.head) leads.now) }
     requires node { node < length winners.now }
     requires length { length winners.now ≡ length leads.now }
     requires leads { All (λ lead. lead < length leads.now) winners.now }
@@ -63,7 +91,7 @@ fn first_below<'a, F: Coming>(leads: &[Lead<'a, F>], winners: &[usize], node: us
 {
     let one = winner(winners, 2 * node);
     let other = winner(winners, 2 * node + 1);
-    if goes_first(leads, one, other) {
+    if goes_first(leads, sorted_from, one, other) {
         one
     } else {
         other
@@ -71,13 +99,24 @@ fn first_below<'a, F: Coming>(leads: &[Lead<'a, F>], winners: &[usize], node: us
 }
 
 // Whether a lead is before another: by what they hold and, if that has one key, by their places.
-fn goes_first<'a, F: Coming>(leads: &[Lead<'a, F>], one: usize, other: usize) -> bool
+fn goes_first<'a, F: Coming>(
+    leads: &[Lead<'a, F>],
+    sorted_from: usize,
+    one: usize,
+    other: usize,
+) -> bool
+    requires sorted { AreHeadsSorted sorted_from (map (λ l. option_map entry_of l.head) leads.now) }
     requires one { one < length leads.now }
     requires other { other < length leads.now }
     ensures { result ≡ is_lt (lead_cmp (map (λ l. option_map entry_of l.head) leads.now) one other) }
 {
     match (leads[one].head, leads[other].head) {
-        (Some(a), Some(b)) => Occurrence::compare(&a, &b).then(one.cmp(&other)).is_lt(),
+        (Some(a), Some(b)) => {
+            let uids = order_by_place(sorted_from, one, other);
+            Occurrence::compare(&a, &b, uids)
+                .then(one.cmp(&other))
+                .is_lt()
+        }
         (None, None) => one < other,
         (head, _) => head.is_some(),
     }

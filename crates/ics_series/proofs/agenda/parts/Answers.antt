@@ -10,6 +10,7 @@ use Rattle.ics_series.specs.Parts.{part_coming, part_sources}
 use Rattle.ics_series.specs.Sources.Source.{Once}
 use Rattle.ics_series.specs.Versions.{seen}
 use Rattle.ics_series.proofs.PartLemmas.{pushed-listing, whole-parts}
+use Rattle.ics_series.proofs.PartUidLemmas.{parts-sorted}
 use Rattle.ics_series.proofs.SourceLemmas.{sources-behind}
 use Rattle.ics_series.proofs.agenda.parts.Goals as goal
 
@@ -29,4 +30,5 @@ returns c =
       sources = sources-behind files display c.args.window after c.args.chosen.now c.requires.chosen (flat_map part_sources c.push_series.new.parts.items) sources;
       listing = pushed-listing files display c.args.window after c.args.chosen.now singles (map part_coming c.push_series.new.parts.items) c.requires.chosen c.in_ok-singles.ensures pushed;
       whole = whole-parts files display c.args.window c.args.chosen.now c.requires.chosen c.in_ok-push_series.ensures.whole;
+      sorted = parts-sorted c.push_series.new.parts.items sources.more sources.behind sources.rises;
     }

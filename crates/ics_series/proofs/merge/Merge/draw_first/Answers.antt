@@ -1,11 +1,13 @@
 use Rattle.std.proofs.Common.{◌≡◌, ◌+◌, ◌<◌, ◌++◌, All, length, map, set, take, drop, ap, sym, subst, ◌∙◌, length-set}
 use Rattle.std.specs.Option.{option_map}
 use Rattle.ics_series.specs.Entry.{entry_cmp, entry_of}
-use Rattle.ics_series.specs.Leads.{ComeAfter}
+use Rattle.ics_series.specs.Leads.{listed, ComeAfter}
 use Rattle.ics_series.specs.Merged.{merged}
 use Rattle.ics_series.specs.Tournament.{above, winner, AreSettled, AreSettledBut}
+use Rattle.ics_series.specs.Uids.{AreHeadsSorted}
 use Rattle.ics_series.proofs.LeadLemmas.{fewer-drawn, given-read, heads-kept, settled-drawn, to_come-drawn, to_come-kept, written-back}
 use Rattle.ics_series.proofs.LeadNearLemmas.{flat-set, near-drawn, near-kept}
+use Rattle.ics_series.proofs.UidLemmas.{fewer-drawn-in, fewer-kept-in, fewer-last, fewer-sorted, heads-sorted}
 use Rattle.ics_series.proofs.merge.Merge.draw_first.Goals as goal
 
 pub invariant_of-self : goal.invariant_of-self
@@ -27,6 +29,8 @@ invariant_of-self g c =
           (given-read (λ x. x.head) (λ x. g.F.Coming.coming x.feed) self.leads.items lead old new c.index_mut.ensures.value self.last (winner self.winners.items 1)
           (c.winner-lead.ensures ∙ ap (λ ws. winner ws 1) c.deref.ensures.value) c.requires).1
           c.draw.ensures.near self.near;
+      sorted = fewer-sorted self.sorted_from (map (λ x. listed x.head (g.F.Coming.coming x.feed)) self.leads.items) (map (λ x. listed x.head (g.F.Coming.coming x.feed)) (set self.leads.items lead new)) (fewer-kept-in (λ x. x.head) (λ x. g.F.Coming.coming x.feed) old new self.leads.items lead c.index_mut.ensures.value c.in_err-draw.ensures.head c.in_err-draw.ensures.rest) self.sorted;
+      last_sorted = fewer-last self.sorted_from (map (λ x. listed x.head (g.F.Coming.coming x.feed)) self.leads.items) (map (λ x. listed x.head (g.F.Coming.coming x.feed)) (set self.leads.items lead new)) (fewer-kept-in (λ x. x.head) (λ x. g.F.Coming.coming x.feed) old new self.leads.items lead c.index_mut.ensures.value c.in_err-draw.ensures.head c.in_err-draw.ensures.rest) self.giver self.last self.last_sorted;
     }
 
 pub returns-in_err-draw-clause-same : goal.returns-in_err-draw-clause-same
@@ -41,6 +45,17 @@ returns-in_err-draw-clause-sources g c =
 pub returns-clause-sources : goal.returns-clause-sources
 returns-clause-sources g c =
     flat-set (λ x. g.F.Coming.sources x.feed) c.args.self.now.leads.items c.winner-lead.result c.index_mut.result.now c.draw.new.self c.index_mut.ensures.value c.draw.ensures.sources
+
+pub replay-requires-clause-sorted : goal.replay-requires-clause-sorted
+replay-requires-clause-sorted g c =
+    let self = c.args.self.now in
+    let lead = c.winner-lead.result in
+    let new = c.draw.new.self in
+    let leads = set self.leads.items lead new in
+    subst (λ ls. AreHeadsSorted self.sorted_from (map (λ x. option_map entry_of x.head) ls)) (sym c.deref-2.ensures.value)
+    (heads-sorted (λ x. x.head) (λ x. g.F.Coming.coming x.feed) self.sorted_from leads
+    (fewer-sorted self.sorted_from (map (λ x. listed x.head (g.F.Coming.coming x.feed)) self.leads.items) (map (λ x. listed x.head (g.F.Coming.coming x.feed)) leads)
+    (fewer-drawn-in (λ x. x.head) (λ x. g.F.Coming.coming x.feed) c.index_mut.result.now new self.leads.items lead c.index_mut.ensures.value c.in_ok-draw.ensures.drawn) self.sorted))
 
 pub replay-requires-clause-settled : goal.replay-requires-clause-settled
 replay-requires-clause-settled g c =
@@ -79,6 +94,8 @@ invariant_of-self-2 g c =
           c.in_ok-draw.ensures.drawn self.last (winner self.winners.items 1)
           (c.winner-lead.ensures ∙ ap (λ ws. winner ws 1) c.deref.ensures.value) c.requires c.index_mut.result.now.ahead)) self.follows;
       near = near-drawn (λ x. x.head) (λ x. g.F.Coming.coming x.feed) (λ x. g.F.Coming.near x.feed) self.last self.leads.items lead c.index_mut.result.now new c.in_ok-draw.ensures.drawn c.draw.ensures.near self.near;
+      sorted = fewer-sorted self.sorted_from (map (λ x. listed x.head (g.F.Coming.coming x.feed)) self.leads.items) (map (λ x. listed x.head (g.F.Coming.coming x.feed)) leads) (fewer-drawn-in (λ x. x.head) (λ x. g.F.Coming.coming x.feed) c.index_mut.result.now new self.leads.items lead c.index_mut.ensures.value c.in_ok-draw.ensures.drawn) self.sorted;
+      last_sorted = fewer-last self.sorted_from (map (λ x. listed x.head (g.F.Coming.coming x.feed)) self.leads.items) (map (λ x. listed x.head (g.F.Coming.coming x.feed)) leads) (fewer-drawn-in (λ x. x.head) (λ x. g.F.Coming.coming x.feed) c.index_mut.result.now new self.leads.items lead c.index_mut.ensures.value c.in_ok-draw.ensures.drawn) self.giver self.last self.last_sorted;
     }
 
 pub returns-clause-same : goal.returns-clause-same

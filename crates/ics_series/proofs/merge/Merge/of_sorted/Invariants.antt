@@ -1,7 +1,7 @@
 use Rattle.std.proofs.Common.{◌≡◌, map}
 use Rattle.std.specs.List.{flat_map, AllByRecursion}
 use Rattle.ics_series.specs.Leads.{listed, AreNear}
-use Rattle.ics_series.proofs.merge.Merge.new.Given as goal
+use Rattle.ics_series.proofs.merge.Merge.of_sorted.Given as goal
 
 abbrev pub invariant-loop-feed : goal.invariant-loop-feed
 invariant-loop-feed g l = record {
