@@ -1,4 +1,4 @@
-use Rattle.std.proofs.Common.{◌≡◌, ◌+◌, ◌-◌, ◌*◌, ◌/◌, ◌%◌, ◌≤◌, ◌∙◌, ap, pos, sym, subst, arith}
+use Rattle.std.proofs.Common.{◌≡◌, ◌+◌, ◌-◌, ◌/◌, ◌%◌, ◌≤◌, ◌∙◌, ap, pos, sym, subst}
 use Rattle.jiff_core.specs.Calendar.{days_in_month}
 use Rattle.jiff_core.specs.Weekday.{monday_zero}
 use Rattle.ics_rule.specs.Locals.{period}

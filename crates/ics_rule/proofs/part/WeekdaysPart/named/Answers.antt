@@ -1,4 +1,4 @@
-use Rattle.std.proofs.Common.{◌≡◌, ◌∙◌, ◌&&◌, nat_lt, ap, arith}
+use Rattle.std.proofs.Common.{◌∙◌, ◌&&◌, nat_lt, ap, arith}
 use Rattle.ics_values.specs.Sets.{has}
 use Rattle.ics_rule.specs.Parts.{names_weekday}
 use Rattle.ics_rule.proofs.PartLemmas.{is_named}

@@ -1,5 +1,5 @@
 use Rattle.jiff_core.specs.Weekday.{monday_zero}
-use Rattle.std.proofs.Common.{◌≡◌, ℕ, ◌∙◌, ◌+◌, ◌-◌, ◌*◌, ◌/◌, ◌<◌, ◌≤◌, ◌&&◌, nat_lt, refl, ap, subst, sym, arith}
+use Rattle.std.proofs.Common.{◌∙◌, ◌+◌, ◌-◌, ◌/◌, ◌&&◌, nat_lt, refl, ap, subst, sym, arith}
 use Rattle.ics_rule.specs.Candidates.{lets_date}
 use Rattle.ics_rule.specs.Periods.{first_local}
 use Rattle.ics_rule.specs.Runs.{IsSpan}

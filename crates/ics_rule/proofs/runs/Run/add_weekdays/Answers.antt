@@ -1,4 +1,4 @@
-use Rattle.std.proofs.Common.{◌≡◌, ℕ, Bool, ◌∙◌, ◌+◌, ◌-◌, ◌<◌, ◌==◌, ◌&&◌, ◌||◌, ap, sym, arith}
+use Rattle.std.proofs.Common.{ℕ, Bool, ◌∙◌, ◌+◌, ◌-◌, ◌<◌, ◌==◌, ◌&&◌, ◌||◌, ap, sym, arith}
 use Rattle.std.proofs.Math.Nat.{mod-lt}
 use Rattle.ics_values.specs.declared.places.Weekdays.{Weekdays}
 use Rattle.ics_values.specs.Sets.{has, has_wide}
