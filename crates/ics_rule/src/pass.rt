@@ -102,6 +102,15 @@ fn next_open(parts: &Filled, n: u64, end: u64) -> u64
     }
 }
 
+/// Whether no period is skipped: each year is looked at, and each month if BYMONTH is absent.
+fn opens_every_period(parts: &Filled) -> bool {
+    match parts.frequency {
+        Frequency::Yearly => true,
+        Frequency::Monthly => parts.months.is_none(),
+        _ => false,
+    }
+}
+
 /// The first step from one on in whose period a rule may allow a local. None if that period is later than `last`, the period of the
 /// last local before `stop`.
 pub(crate) fn next_open_step(parts: &Filled, first: u64, number: u64, last: u64, stop: u64) -> u64
@@ -113,7 +122,7 @@ pub(crate) fn next_open_step(parts: &Filled, first: u64, number: u64, last: u64,
     requires stop { stop ≤ 309289708800 }
     ensures { IsNextOpen parts.now first number result }
 {
-    if number > last {
+    if number > last || opens_every_period(parts) {
         return number;
     }
     let begin = first_local(parts.frequency, parts.week_start, number);
