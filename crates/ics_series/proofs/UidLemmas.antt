@@ -1,15 +1,14 @@
 -- The order of the UIDs that leads give, where their places tell it.
 use Rattle.std.specs.Prelude.{slice_index_or}
-use Rattle.std.proofs.Common.{◌≡◌, ℕ, zero, suc, ◌<◌, ◌≤◌, inl, inr, List, [], ◌∷◌, length, get_or, set, map, Option, Some, None, refl, sym, ◌∙◌, ap, subst, arith}
+use Rattle.std.proofs.Common.{◌≡◌, ℕ, zero, suc, ◌<◌, ◌≤◌, inl, inr, List, [], ◌∷◌, length, get_or, set, map, Option, Some, None, sym, ◌∙◌, ap, subst, arith}
 use Rattle.std.specs.Option.{option_map}
-use Rattle.std.specs.Ordering.{nat_cmp}
 use Rattle.std.specs.declared.cmp.Ordering.{Ordering}
 use Rattle.std.proofs.lemmas.List.{get_or-map, get_or_past}
 use Rattle.ics_series.specs.declared.occurrence.Occurrence.{Occurrence}
 use Rattle.ics_series.specs.Entry.{Entry, entry_of}
 use Rattle.ics_series.specs.Leads.{listed}
 use Rattle.ics_series.specs.Listing.{IsIn}
-use Rattle.ics_series.specs.Uids.{entry_uid_cmp, AreHeadsSorted, AreSortedFrom, IsLastSorted, IsPlaceOrder, IsSortedAt, IsUidOrder}
+use Rattle.ics_series.specs.Uids.{AreHeadsSorted, AreSortedFrom, IsLastSorted, IsPlaceOrder, IsUidOrder}
 
 -- no list stands past all of them
 pub none-sorted : (from : ℕ) (lists : List (List Entry)) → length lists ≤ from → AreSortedFrom from lists

@@ -1,4 +1,4 @@
-use Rattle.std.proofs.Common.{◌≡◌, refl, ◌∙◌}
+use Rattle.std.proofs.Common.{refl, ◌∙◌}
 use Rattle.ics_series.proofs.prepare.prepare.Goals as goal
 use Rattle.ics_series.proofs.prepare.prepare.Goals.{then-near-window, else-near-window}
 

@@ -1,4 +1,4 @@
-use Rattle.std.proofs.Common.{◌≡◌, ℕ, ◌+◌, ◌-◌, ◌*◌, ◌<◌, ◌≤◌, length, ℤ, pos, ◌+ℤ◌, ◌-ℤ◌, ◌*ℤ◌, ◌≤ℤ◌, ◌<ℤ◌, FitsSigned, to_z, of_z}
+use Rattle.std.proofs.Common.{◌≡◌}
 use Rattle.ics_series.proofs.prepare.prepare.Given as goal
 
 abbrev pub invariant-loop : goal.invariant-loop

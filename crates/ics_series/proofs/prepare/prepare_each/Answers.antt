@@ -1,4 +1,4 @@
-use Rattle.std.proofs.Common.{◌≡◌, refl, ap, ◌∙◌, slice_set}
+use Rattle.std.proofs.Common.{refl, ap, ◌∙◌, slice_set}
 use Rattle.std.proofs.lemmas.List.{set-get_or}
 use Rattle.ics_series.proofs.prepare.prepare_each.Goals as goal
 

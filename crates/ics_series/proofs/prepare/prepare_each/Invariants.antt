@@ -1,4 +1,4 @@
-use Rattle.std.proofs.Common.{◌≡◌, ℕ, ◌+◌, ◌-◌, ◌*◌, ◌<◌, ◌≤◌, length}
+use Rattle.std.proofs.Common.{◌≡◌}
 use Rattle.ics_series.proofs.prepare.prepare_each.Given as goal
 
 abbrev pub invariant-loop-k : goal.invariant-loop-k

@@ -1,4 +1,4 @@
-use Rattle.std.proofs.Common.{map, get_or, Some, None, sym, ◌∙◌, ap, subst}
+use Rattle.std.proofs.Common.{map, get_or, None, sym, ◌∙◌, ap, subst}
 use Rattle.std.specs.Option.{option_map}
 use Rattle.ics_series.specs.Entry.{entry_of}
 use Rattle.ics_series.specs.Leads.{listed}

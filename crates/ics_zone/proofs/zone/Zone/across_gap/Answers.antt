@@ -1,4 +1,4 @@
-use Rattle.std.proofs.Common.{rules, SFits, w64, to_z, of_z}
+use Rattle.std.proofs.Common.{rules, SFits, w64}
 use Rattle.std.proofs.lemmas.Int.{to_z-of_z}
 use Rattle.ics_zone.specs.Offsets.{zone_offset}
 use Rattle.ics_zone.specs.Observances.{phases_of}
