@@ -60,6 +60,12 @@ def moved(count):
     return calendar([line.replace('DTSTART:2024', 'DTSTART:2000') for line in lines])
 
 
+def long_uids(size):
+    """Two events that recur each second, whose UIDs are so many bytes long and differ in the last."""
+    text = recurring(2, '200001%02dT%02d%02d00Z', 'FREQ=SECONDLY')
+    return text.replace(b'UID:', b'UID:' + b'u' * size)
+
+
 def filled(line):
     """A calendar of one event, with copies of a line in it up to the size that a file may have."""
     start, end = calendar(event(0)).split(b'END:VEVENT')
@@ -171,6 +177,8 @@ ROWS = [
     ('one that never matches, of 360 days', lambda: [('a.ics', recurring(1, '197001%02dT%02d%02d00Z',
         'FREQ=SECONDLY;BYMONTH=2;BYMONTHDAY=30').replace(b'PT1H', b'P360D'))],
      ['2024-01-05', '1d']),
+    ('two secondly rules, UIDs of 2 MB', lambda: [('a.ics', long_uids(2_000_000))],
+     ['2024-01-05T10:00', '2024-01-05T12:00']),
     ('1,000 rules of a Sunday in March', lambda: [('a.ics', recurring(1_000, '197001%02dT%02d%02d00Z',
         'FREQ=YEARLY;BYMONTH=3;BYDAY=2SU;COUNT=100000'))],
      ['2024-01-05', '1d']),
