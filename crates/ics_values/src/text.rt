@@ -1,5 +1,5 @@
 //! TEXT values without their escapes.
-ghost use Rattle.std.specs.Prelude.{◌≡◌, ◌<◌, ◌++◌, ◌∷◌, [], length, IfOk, IfSome, MatchOption};
+ghost use Rattle.std.specs.Prelude.{◌≡◌, ◌<◌, ◌++◌, ◌∷◌, [], length, IfOk, IfSome, MatchOption, OnErr};
 ghost use Rattle.ics_values.specs.Plain.{text_of};
 
 use memchr::memchr;
@@ -43,10 +43,15 @@ fn push_escaped(out: &mut Vec<u8>, b: u8) -> Result<(), AllocError>
 }
 
 /// A TEXT value without its escapes (RFC 5545, section 3.3.11): `\\`, `\;` and `\,` mean their second
-/// byte, `\n` and `\N` mean LF, and any other backslash is kept. `AllocError` if an allocation fails.
+/// byte, `\n` and `\N` mean LF, and any other backslash is kept. `AllocError` if an allocation fails;
+/// none is made for an empty value.
 pub fn text_bytes(alloc: Global, value: &[u8]) -> Result<Vec<u8>, AllocError>
-    ensures { IfOk result (λ r. r.items ≡ text_of value.now) }
+    ensures text { IfOk result (λ r. r.items ≡ text_of value.now) }
+    ensures memory { OnErr result (0 < length value.now) }
 {
+    if value.is_empty() {
+        return Ok(Vec::new(alloc));
+    }
     let mut out = Vec::with_capacity(alloc, value.len())?;
     let mut rest = value;
     'escapes: while let Some(escape) = first_escape(rest) {
