@@ -29,9 +29,10 @@ try: kit
 
 build: $(PROGRAM)
 
-# Every proof from nothing, the edits that must fail, the tests, and the program as two compilers build it.
+# Every proof from nothing, the edits that must fail, the tests, the program as two compilers build it,
+# and that program where outputs, files and memory fail, and against the documents.
 test: kit
-	@RT_JOBS=$$(sh scripts/lanes) $(RT) ci
+	@RT=$(RT) sh scripts/gate
 
 # The program where outputs, files and memory fail.
 check-faults: $(PROGRAM)
