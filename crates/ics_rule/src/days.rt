@@ -2,8 +2,8 @@
 ghost use Rattle.std.specs.Prelude.{◌≡◌, ℕ, ◌<◌, ◌≤◌, ◌+◌, ◌-◌, ◌&&◌, ◌||◌, nat_le, nat_lt, pos, true, false};
 ghost use Rattle.jiff_core.specs.Calendar.{days_in_month, days_in_year};
 ghost use Rattle.ics_values.specs.declared.frequency.Frequency.TheVariants.{Weekly, Monthly, Yearly};
-ghost use Rattle.ics_values.specs.Sets.{has_wide};
-ghost use Rattle.ics_values.specs.Days.{days_before_year, weekday_of};
+ghost use Rattle.ics_values.specs.Sets.{has_wide, none_wide};
+ghost use Rattle.ics_values.specs.Days.{weekday_of, year_of};
 ghost use Rattle.ics_values.specs.Places.{lists_none, lists_none_wide};
 ghost use Rattle.ics_rule.specs.Candidates.{lets_date, lets_wide_place};
 ghost use Rattle.ics_rule.specs.Runs.{IsMonth, IsSpan, is_in_month, goes_by_months, counts_in_month};
@@ -13,11 +13,12 @@ use crate::date::{
     open_months,
 };
 use crate::filled::Filled;
-use crate::period::{days_in, days_of_months};
+use crate::period::days_before_month;
 use crate::runs::Run;
 use crate::time::{lets, lets_wide_place};
 use crate::weeks::days_near_weeks;
 use ics_values::{Civil, Frequency, WideNumbers};
+use jiff_core::civil::days_in_month;
 
 /// The number of days from a day to the end of its month, including both.
 pub(crate) fn days_left(fields: &Civil) -> u16
@@ -38,42 +39,44 @@ pub(crate) fn weekday_at(index: u32) -> u8
     ((index + 5) % 7) as u8
 }
 
-/// Those of `len` days from a first that a rule allows, by a test of each.
-fn days_by_day(parts: &Filled, first: u32, len: u16) -> WideNumbers
+/// Fills a set with those of `len` days from a first that a rule allows, by a test of each.
+#[inline(never)]
+fn add_days_by_day(parts: &Filled, first: u32, len: u16, days: &mut WideNumbers)
     requires size { len ≤ 384 }
     requires days { first + len ≤ 3652059 }
-    ensures { (k : ℕ) → has_wide result k ≡ (nat_lt k len && lets_date parts.now (first + k)) }
+    requires empty { days.old ≡ none_wide }
+    ensures { (k : ℕ) → has_wide days.new k ≡ (nat_lt k len && lets_date parts.now (first + k)) }
 {
-    let mut days = WideNumbers::new();
     for k in 0..len {
         if lets_date(parts, first + k as u32) {
             days.add(k);
         }
     }
-    days
 }
 
-/// Those of `len` days of a week from a first that a rule allows.
-fn days_of_week(parts: &Filled, first: u32, len: u16) -> WideNumbers
+/// Fills a set with those of `len` days of a week from a first that a rule allows.
+#[inline(never)]
+fn add_days_of_week(parts: &Filled, first: u32, len: u16, days: &mut WideNumbers)
     requires frequency { parts.now.frequency ≡ Weekly }
     requires size { len ≤ 384 }
     requires days { first + 384 ≤ 3652059 }
-    ensures { (k : ℕ) → has_wide result k ≡ (nat_lt k len && lets_date parts.now (first + k)) }
+    requires empty { days.old ≡ none_wide }
+    ensures { (k : ℕ) → has_wide days.new k ≡ (nat_lt k len && lets_date parts.now (first + k)) }
 {
     if parts.weekdays.is_none() {
-        return days_by_day(parts, first, len);
+        add_days_by_day(parts, first, len, days);
+        return;
     }
     if !names_weekdays_alone(parts) {
-        return days_by_day(parts, first, len);
+        add_days_by_day(parts, first, len, days);
+        return;
     }
     let named = parts.weekdays.named();
-    let mut days = WideNumbers::new();
     for k in 0..len {
         if named.has(weekday_at(first + k as u32)) {
             days.add(k);
         }
     }
-    days
 }
 
 /// Those of a set of days, counted from a first, that a rule allows.
@@ -106,90 +109,126 @@ fn days_by_number(parts: &Filled, len: u16) -> WideNumbers
     days
 }
 
-/// A month of a year; `first` is the year's first day, counted from 0000-01-01.
-fn month_run(year: u64, month: u8, first: u32) -> Run
-    requires year { year ≤ 9999 }
+/// The number of days in a month of a year of `len` days.
+fn days_of_one(len: u16, month: u8) -> u16
+    requires month { month ≤ 12 }
+    requires low { 365 ≤ len }
+    requires high { len ≤ 366 }
+    ensures { (y : ℕ) → len ≡ days_in_year (pos y) → result ≡ days_in_month (pos y) month }
+{
+    if month == 2 {
+        len - 337
+    } else {
+        days_in_month(1, month) as u16
+    }
+}
+
+/// A month of a year of `len` days; `first` is the year's first day, counted from 0000-01-01.
+#[inline(always)]
+fn month_run(first: u32, len: u16, month: u8) -> Run
+    requires days { first + 384 ≤ 3652059 }
+    requires short { 365 ≤ len }
+    requires long { len ≤ 366 }
     requires low { 1 ≤ month }
     requires high { month ≤ 12 }
-    requires first { first ≡ days_before_year year }
-    requires early { first ≤ 3652059 }
-    ensures month { IsMonth result first year month }
-    ensures within { result.start + result.len ≤ days_in_year (pos year) }
+    ensures month { (y : ℕ) → IsSpan Yearly y first len → IsMonth result first y month }
+    ensures within { (y : ℕ) → IsSpan Yearly y first len → result.start + result.len ≤ len }
 {
-    let start = days_of_months(year, month as u64 - 1) as u16;
+    let start = days_before_month(len as u64, month as u64 - 1) as u16;
     Run {
         start,
-        len: days_in(year, month as u64) as u16,
+        len: days_of_one(len, month),
         weekday: weekday_at(first + start as u32),
     }
 }
 
-/// The days of a year that are listed in its months.
-fn days_in_months(parts: &Filled, year: u64, first: u32) -> WideNumbers
-    requires year { year ≤ 9999 }
-    requires first { first ≡ days_before_year year }
-    requires early { first ≤ 3652059 }
-    ensures { (k : ℕ) → has_wide result k ≡ (nat_lt k (days_in_year (pos year)) && is_in_month parts.now (first + k)) }
+/// Fills a set with the days of a year that are listed in its months.
+#[inline(always)]
+fn add_listed_days(parts: &Filled, first: u32, len: u16, days: &mut WideNumbers)
+    requires span { IsSpan Yearly (year_of first) first len }
+    requires days { first + 384 ≤ 3652059 }
+    requires empty { days.old ≡ none_wide }
+    ensures { (k : ℕ) → has_wide days.new k ≡ (nat_lt k len && is_in_month parts.now (first + k)) }
 {
     let months = open_months(parts.months);
-    let mut days = WideNumbers::new();
     let mut from = 1;
     while let Some(month) = months.next_from(from) {
-        month_run(year, month, first).add_month(parts, &mut days);
+        month_run(first, len, month).add_month(parts, days);
         from = month + 1;
     }
-    days
 }
 
-/// Those of the days listed in their months that a rule allows.
-fn days_of_those(parts: &Filled, first: u32, len: u16, listed: &WideNumbers) -> WideNumbers
+/// Leaves those of a set of days, counted from a first, that a rule allows.
+#[inline(never)]
+fn test_each(parts: &Filled, first: u32, days: &mut WideNumbers)
+    requires { first + 384 ≤ 3652059 }
+    ensures { (k : ℕ) → has_wide days.new k ≡ (has_wide days.old k && lets_date parts.now (first + k)) }
+{
+    *days = those_let_in(parts, first, days);
+}
+
+/// Leaves those of the days listed in their months that a rule allows.
+#[inline(always)]
+fn leave_let_in(parts: &Filled, first: u32, len: u16, days: &mut WideNumbers)
     requires days { first + 384 ≤ 3652059 }
     requires months { goes_by_months parts.now ≡ true }
     requires numbers { counts_in_month parts.now parts.now.frequency ≡ true }
-    requires listed { (k : ℕ) → has_wide listed.now k ≡ (nat_lt k len && is_in_month parts.now (first + k)) }
-    ensures { (k : ℕ) → has_wide result k ≡ (nat_lt k len && lets_date parts.now (first + k)) }
+    requires listed { (k : ℕ) → has_wide days.old k ≡ (nat_lt k len && is_in_month parts.now (first + k)) }
+    ensures { (k : ℕ) → has_wide days.new k ≡ (nat_lt k len && lets_date parts.now (first + k)) }
 {
-    if lacks_one(parts) {
-        *listed
-    } else {
-        those_let_in(parts, first, listed)
+    if !lacks_one(parts) {
+        test_each(parts, first, days);
     }
 }
 
-/// The days of a month that a rule allows.
-fn days_of_month(parts: &Filled, number: u64, first: u32, len: u16) -> WideNumbers
+/// Fills a set with the days of a month that a rule allows.
+fn add_days_of_month(parts: &Filled, number: u64, first: u32, len: u16, days: &mut WideNumbers)
     requires frequency { parts.now.frequency ≡ Monthly }
     requires span { IsSpan Monthly number first len }
     requires days { first + 384 ≤ 3652059 }
-    ensures { (k : ℕ) → has_wide result k ≡ (nat_lt k len && lets_date parts.now (first + k)) }
+    requires empty { days.old ≡ none_wide }
+    ensures { (k : ℕ) → has_wide days.new k ≡ (nat_lt k len && lets_date parts.now (first + k)) }
 {
     if !goes_by_months(parts) {
-        return days_by_day(parts, first, len);
+        add_days_by_day(parts, first, len, days);
+        return;
     }
-    let mut listed = WideNumbers::new();
     if lets(parts.months, ((number - 1) % 12 + 1) as u8) {
         let run = Run {
             start: 0,
             len,
             weekday: weekday_at(first),
         };
-        run.add_month(parts, &mut listed);
+        run.add_month(parts, days);
     }
-    days_of_those(parts, first, len, &listed)
+    leave_let_in(parts, first, len, days);
 }
 
-/// The days of a year that a rule allows.
-fn days_of_year(parts: &Filled, year: u64, first: u32, len: u16) -> WideNumbers
-    requires frequency { parts.now.frequency ≡ Yearly }
-    requires span { IsSpan Yearly year first len }
+/// Fills a set with the days of a year that a rule allows, by a test of those that BYWEEKNO or BYYEARDAY may list, or of each.
+#[inline(never)]
+fn add_tested_days(parts: &Filled, first: u32, len: u16, days: &mut WideNumbers)
+    requires span { IsSpan Yearly (year_of first) first len }
     requires days { first + 384 ≤ 3652059 }
-    ensures { (k : ℕ) → has_wide result k ≡ (nat_lt k len && lets_date parts.now (first + k)) }
+    ensures { (k : ℕ) → has_wide days.new k ≡ (nat_lt k len && lets_date parts.now (first + k)) }
 {
-    if !parts.weeks.is_none() {
-        return those_let_in(parts, first, &days_near_weeks(parts, first, len));
-    }
+    *days = if parts.weeks.is_none() {
+        those_let_in(parts, first, &days_by_number(parts, len))
+    } else {
+        those_let_in(parts, first, &days_near_weeks(parts, first, len))
+    };
+}
+
+/// Fills a set with the days of a year that a rule allows.
+fn add_days_of_year(parts: &Filled, first: u32, len: u16, days: &mut WideNumbers)
+    requires frequency { parts.now.frequency ≡ Yearly }
+    requires span { IsSpan Yearly (year_of first) first len }
+    requires days { first + 384 ≤ 3652059 }
+    requires empty { days.old ≡ none_wide }
+    ensures { (k : ℕ) → has_wide days.new k ≡ (nat_lt k len && lets_date parts.now (first + k)) }
+{
     if !goes_by_months(parts) {
-        return those_let_in(parts, first, &days_by_number(parts, len));
+        add_tested_days(parts, first, len, days);
+        return;
     }
     if names_no_month(parts) {
         let run = Run {
@@ -197,24 +236,31 @@ fn days_of_year(parts: &Filled, year: u64, first: u32, len: u16) -> WideNumbers
             len,
             weekday: weekday_at(first),
         };
-        let mut days = WideNumbers::new();
-        run.add_weekdays(&parts.weekdays, &mut days);
-        return days;
+        run.add_weekdays(&parts.weekdays, days);
+        return;
     }
-    days_of_those(parts, first, len, &days_in_months(parts, year, first))
+    add_listed_days(parts, first, len, days);
+    leave_let_in(parts, first, len, days);
 }
 
-/// The days that a rule allows in the period with a number, which has `len` days from a first.
-pub(crate) fn days_let_in(parts: &Filled, number: u64, first: u32, len: u16) -> WideNumbers
+/// Fills a set with the days that a rule allows in the period with a number, which has `len` days from a first.
+pub(crate) fn add_days_let_in(
+    parts: &Filled,
+    number: u64,
+    first: u32,
+    len: u16,
+    days: &mut WideNumbers,
+)
     requires size { len ≤ 384 }
     requires days { first + 384 ≤ 3652059 }
     requires span { IsSpan parts.now.frequency number first len }
-    ensures { (k : ℕ) → has_wide result k ≡ (nat_lt k len && lets_date parts.now (first + k)) }
+    requires empty { days.old ≡ none_wide }
+    ensures { (k : ℕ) → has_wide days.new k ≡ (nat_lt k len && lets_date parts.now (first + k)) }
 {
     match parts.frequency {
-        Frequency::Yearly => days_of_year(parts, number, first, len),
-        Frequency::Monthly => days_of_month(parts, number, first, len),
-        Frequency::Weekly => days_of_week(parts, first, len),
-        _ => days_by_day(parts, first, len),
+        Frequency::Yearly => add_days_of_year(parts, first, len, days),
+        Frequency::Monthly => add_days_of_month(parts, number, first, len, days),
+        Frequency::Weekly => add_days_of_week(parts, first, len, days),
+        _ => add_days_by_day(parts, first, len, days),
     }
 }

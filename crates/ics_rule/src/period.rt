@@ -9,7 +9,7 @@ ghost use Rattle.ics_rule.specs.Candidates.{lets, lets_date, period_in};
 ghost use Rattle.jiff_core.specs.Weekday.{monday_zero};
 ghost use Rattle.ics_rule.specs.Periods.{first_local, has_minute, has_time, has_day, holds, IsPeriodOf};
 
-use crate::days::days_let_in;
+use crate::days::add_days_let_in;
 use crate::fill::{skips_hours, skips_minutes, skips_seconds};
 use crate::filled::Filled;
 use crate::time::lets;
@@ -52,11 +52,12 @@ fn days_before_year(year: u64) -> u64
     requires { year ≤ 10000 }
     ensures { result ≡ days_before_year year }
 {
-    365 * year + (year + 3) / 4 - (year + 99) / 100 + (year + 399) / 400
+    let centuries = (year + 99) / 100;
+    365 * year + (year + 3) / 4 - centuries + (centuries + 3) / 4
 }
 
 /// The number of days in a month.
-pub(crate) fn days_in(year: u64, month: u64) -> u64
+fn days_in(year: u64, month: u64) -> u64
     requires year { year ≤ 10000 }
     requires month { month ≤ 12 }
     ensures value { result ≡ days_in_month (pos year) month }
@@ -75,18 +76,29 @@ fn length_of_year(year: u64) -> u64
     days_in_year(year as i16) as u64
 }
 
-/// The number of days in the first months of a year. From March on, each five months have 153 days.
-pub(crate) fn days_of_months(year: u64, months: u64) -> u64
-    requires year { year ≤ 10000 }
+/// The number of days in the first months of a year of `len` days. From March on, each five months have 153 days.
+pub(crate) fn days_before_month(len: u64, months: u64) -> u64
+    requires low { 365 ≤ len }
+    requires high { len ≤ 366 }
     requires months { months ≤ 12 }
-    ensures value { result ≡ days_of_months (pos year) months }
+    ensures value { (y : ℕ) → len ≡ days_in_year (pos y) → result ≡ days_of_months (pos y) months }
     ensures bound { result ≤ 366 }
 {
     if months < 2 {
         31 * months
     } else {
-        (153 * months - 304) / 5 + length_of_year(year) - 306
+        (153 * months - 304) / 5 + len - 306
     }
+}
+
+/// The number of days in the first months of a year.
+fn days_of_months(year: u64, months: u64) -> u64
+    requires year { year ≤ 10000 }
+    requires months { months ≤ 12 }
+    ensures value { result ≡ days_of_months (pos year) months }
+    ensures bound { result ≤ 366 }
+{
+    days_before_month(length_of_year(year), months)
 }
 
 /// The first local of the period with a number.
@@ -226,10 +238,12 @@ impl Period {
         *steps += 1;
         let span = span_of(parts.frequency, parts.week_start, number);
         let clock = clock_of(parts, number);
+        let mut days = WideNumbers::new();
+        add_days_let_in(parts, number, span.first, span.len, &mut days);
         Period {
             number,
             first_day: span.first,
-            days: days_let_in(parts, number, span.first, span.len),
+            days,
             hours: clock.hours,
             minutes: clock.minutes,
             seconds: clock.seconds,

@@ -1,5 +1,5 @@
 //! Months and years as runs of days, in which days and weekdays are numbered.
-ghost use Rattle.std.specs.Prelude.{◌≡◌, ℕ, ◌<◌, ◌≤◌, ◌+◌, ◌-◌, ◌&&◌, ◌||◌, ◌==◌, nat_le, nat_lt};
+ghost use Rattle.std.specs.Prelude.{◌≡◌, ℕ, ◌<◌, ◌≤◌, ◌+◌, ◌-◌, ◌/◌, ◌&&◌, ◌||◌, ◌==◌, nat_le, nat_lt};
 ghost use Rattle.ics_values.specs.Sets.{has, has_wide};
 ghost use Rattle.ics_rule.specs.Candidates.{lists, lists_nth};
 ghost use Rattle.ics_rule.specs.Runs.{has_run, weekday_in, lists_weekday, lists_in_month};
@@ -44,10 +44,28 @@ impl Run {
         ensures place { weekday_in self result ≡ weekday }
         ensures early { result < 7 }
     {
-        ((weekday + 7 - self.weekday) % 7) as u16
+        let lead = if weekday < self.weekday { 7 } else { 0 };
+        (weekday + lead - self.weekday) as u16
+    }
+
+    /// How many days of the run have the weekday of one of its first seven.
+    fn days_from(self, first: u16) -> u8
+        requires first { first < 7 }
+        requires some { 28 ≤ self.len }
+        requires most { self.len ≤ 366 }
+        ensures { result ≡ (self.len - 1 - first) / 7 + 1 }
+    {
+        if self.len > 35 {
+            ((self.len - 1 - first) / 7 + 1) as u8
+        } else if first + 28 < self.len {
+            5
+        } else {
+            4
+        }
     }
 
     /// Adds each day of the run on a weekday.
+    #[inline(always)]
     fn add_each(self, weekday: u8, days: &mut WideNumbers)
         requires weekday { weekday < 7 }
         requires own { self.weekday < 7 }
@@ -74,7 +92,7 @@ impl Run {
             || (has_run self m && ((weekday_in self (m - self.start) == weekday) && lists_nth numbers.now (m - self.start + 1) self.len))) }
     {
         let first = self.first_on(weekday);
-        let listed = listed(numbers, ((self.len - 1 - first) / 7 + 1) as u8);
+        let listed = listed(numbers, self.days_from(first));
         let mut from = 1;
         while let Some(n) = listed.next_from(from) {
             days.add(self.start + (first + 7 * (n as u16 - 1)));
@@ -100,6 +118,7 @@ impl Run {
     }
 
     /// Adds the days of the run that BYDAY lists.
+    #[inline(always)]
     pub(crate) fn add_weekdays(self, weekdays: &WeekdaysPart, days: &mut WideNumbers)
         requires own { self.weekday < 7 }
         requires some { 28 ≤ self.len }
@@ -117,6 +136,7 @@ impl Run {
     }
 
     /// Adds the days of the run, a month, that BYMONTHDAY lists.
+    #[inline(never)]
     fn add_month_days(self, month_days: &Places, days: &mut WideNumbers)
         requires most { self.len ≤ 31 }
         requires within { self.start + self.len ≤ 384 }
@@ -131,6 +151,7 @@ impl Run {
     }
 
     /// Adds the days of the run, a month, that BYMONTHDAY lists or, if that is absent, BYDAY.
+    #[inline(always)]
     pub(crate) fn add_month(self, parts: &Filled, days: &mut WideNumbers)
         requires own { self.weekday < 7 }
         requires some { 28 ≤ self.len }

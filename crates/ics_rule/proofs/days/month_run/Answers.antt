@@ -3,18 +3,23 @@ use Rattle.jiff_core.proofs.CalendarLemmas.{days_of_months_more, days_of_months_
 use Rattle.ics_rule.proofs.days.month_run.Goals as goal
 
 pub returns-clause-month : goal.returns-clause-month
-returns-clause-month c = record {
-  year = c.requires.year;
+returns-clause-month c = λ y span. record {
+  year = span.0;
   low = c.requires.low;
   high = c.requires.high;
-  place = omega (arith, c.requires.first, c.days_of_months-start.ensures.value);
-  size = c.days_in.ensures.value;
+  place = (let start = c.days_before_month-start.ensures.value y span.1.1 in omega (arith, span.1.0, start));
+  size = c.days_of_one.ensures y span.1.1;
   weekday = c.weekday_at.ensures.value;
 }
 
 pub returns-clause-within : goal.returns-clause-within
-returns-clause-within c =
-    let more = days_of_months_more (pos c.args.year) c.args.month c.requires.low in
-    let most = days_of_months_mono (pos c.args.year) c.args.month 12 c.requires.high in
-    let all = days_of_months_all (pos c.args.year) in
-    omega (arith, more, most, all, c.days_of_months-start.ensures.value, c.days_in.ensures.value)
+returns-clause-within c = λ y span.
+    let more = days_of_months_more (pos y) c.args.month c.requires.low in
+    let most = days_of_months_mono (pos y) c.args.month 12 c.requires.high in
+    let all = days_of_months_all (pos y) in
+    let start = c.days_before_month-start.ensures.value y span.1.1 in
+    let size = c.days_of_one.ensures y span.1.1 in
+    omega (arith, more, most, all, start, size, span.1.1)
+
+pub weekday_at-requires : goal.weekday_at-requires
+weekday_at-requires c = omega (arith, c.requires.days, c.days_before_month-start.ensures.bound)

@@ -1,4 +1,4 @@
-use Rattle.std.proofs.Common.{◌∙◌, ◌+◌, ◌-◌, ◌*◌, ◌/◌, ◌≤◌, ◌<◌, refl, sym, arith}
+use Rattle.std.proofs.Common.{◌∙◌, ◌+◌, ◌-◌, ◌*◌, ◌≤◌, ◌<◌, sym, arith}
 use Rattle.ics_values.specs.Sets.{has, has_wide}
 use Rattle.ics_rule.specs.Candidates.{lists}
 use Rattle.ics_rule.proofs.RunLemmas.{number_none, number_added, number_done, listed_within}
@@ -8,8 +8,8 @@ use Rattle.ics_rule.proofs.runs.Run.add_numbered.Goals.{In-Some}
 inside : (c : In-Some) → (1 ≤ c.in-Some.n) × (c.first_on-first.result + 7 * (c.in-Some.n - 1) < c.args.self.len)
 inside c =
     let some : 1 ≤ c.in-Some.n = omega (arith, c.loop-n.invariant.1.0, c.in-Some.ensures.next.low) in
-    let most = listed_within c.in-Some.n ((c.args.self.len - 1 - c.first_on-first.result) / 7 + 1) (lists c.args.numbers.now c.in-Some.n ((c.args.self.len - 1 - c.first_on-first.result) / 7 + 1)) (sym (c.listed-listed.ensures c.in-Some.n some) ∙ c.in-Some.ensures.next.passes) in
-    (some, omega (arith, some, most, c.first_on-first.ensures.early, c.requires.some))
+    let most = listed_within c.in-Some.n c.days_from.result (lists c.args.numbers.now c.in-Some.n c.days_from.result) (sym (c.listed-listed.ensures c.in-Some.n some) ∙ c.in-Some.ensures.next.passes) in
+    (some, omega (arith, some, most, c.days_from.ensures, c.first_on-first.ensures.early, c.requires.some))
 
 pub loop-n-init : goal.loop-n-init
 loop-n-init c = (
@@ -30,4 +30,4 @@ loop-n-preserved c = let i = inside (goal.at.loop-n-preserved c).In-Some in (
 
 pub returns : goal.returns
 returns c = λ m. number_done c.args.self (has c.listed-listed.result) c.args.weekday c.first_on-first.result c.loop-n.from m (has_wide c.args.days.now m) (has_wide c.loop-n.days m) c.first_on-first.ensures.place c.first_on-first.ensures.early
-    c.args.numbers.now _ refl (omega (arith, c.first_on-first.ensures.early, c.requires.some)) c.in_default.ensures.next c.listed-listed.ensures (c.loop-n.invariant.0 m)
+    c.args.numbers.now _ c.days_from.ensures (omega (arith, c.first_on-first.ensures.early, c.requires.some)) c.in_default.ensures.next c.listed-listed.ensures (c.loop-n.invariant.0 m)

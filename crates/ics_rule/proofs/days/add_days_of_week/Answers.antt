@@ -4,14 +4,14 @@ use Rattle.ics_values.specs.Sets.{has_wide}
 use Rattle.ics_rule.specs.Candidates.{lets_date}
 use Rattle.ics_rule.proofs.DateLemmas.{day_of_week}
 use Rattle.ics_rule.proofs.ScanLemmas.{none_has, one_more, no_more}
-use Rattle.ics_rule.proofs.days.days_of_week.Goals as goal
-use Rattle.ics_rule.proofs.days.days_of_week.Goals.{then-has, else-has}
+use Rattle.ics_rule.proofs.days.add_days_of_week.Goals as goal
+use Rattle.ics_rule.proofs.days.add_days_of_week.Goals.{then-has, else-has}
 
 none_yet : (m : ℕ) → nat_lt m 0 ≡ false
 none_yet m = grind (arith, nat_tests)
 
 pub loop-k-init : goal.loop-k-init
-loop-k-init c = λ m. ap (λ ws. has_wide ws m) c.new-days.ensures ∙ none_has m ∙ ap (λ x. x && lets_date c.args.parts.now (c.args.first + m)) (sym (none_yet m))
+loop-k-init c = λ m. ap (λ ws. has_wide ws m) c.requires.empty ∙ none_has m ∙ ap (λ x. x && lets_date c.args.parts.now (c.args.first + m)) (sym (none_yet m))
 
 pub loop-k-preserved : goal.loop-k-preserved
 loop-k-preserved c = λ m.

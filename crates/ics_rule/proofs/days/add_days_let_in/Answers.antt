@@ -1,0 +1,13 @@
+use Rattle.std.proofs.Common.{sym, subst}
+use Rattle.ics_values.specs.declared.frequency.Frequency.TheVariants.{Yearly}
+use Rattle.ics_rule.specs.Runs.{IsSpan}
+use Rattle.ics_rule.proofs.MonthDays.{year_starts}
+use Rattle.ics_rule.proofs.days.add_days_let_in.Goals as goal
+
+pub add_days_of_year-requires-clause-span : goal.add_days_of_year-requires-clause-span
+add_days_of_year-requires-clause-span c =
+    let own : IsSpan Yearly c.args.number c.args.first c.args.len = subst (λ f. IsSpan f c.args.number c.args.first c.args.len) c.in-Yearly.is c.requires.span in
+    subst (λ y. IsSpan Yearly y c.args.first c.args.len) (sym (year_starts c.args.first c.args.number own.1.0)) own
+
+pub add_days_of_month-requires-clause-span : goal.add_days_of_month-requires-clause-span
+add_days_of_month-requires-clause-span c = subst (λ f. IsSpan f c.args.number c.args.first c.args.len) c.in-Monthly.is c.requires.span
