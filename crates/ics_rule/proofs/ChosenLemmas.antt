@@ -12,20 +12,20 @@ use Rattle.ics_rule.specs.Periods.{holds, is_let_in, IsPeriodOf, is_listed, is_t
 use Rattle.ics_rule.specs.Searches.{is_chosen_within}
 use Rattle.ics_rule.proofs.Counts.{count-same, count-suc}
 
-same_or_not : (a b : ℕ) → (a ≡ b) ⊎ (a ≢ b)
+pub same_or_not : (a b : ℕ) → (a ≡ b) ⊎ (a ≢ b)
 same_or_not a b = grind (arith, nat_tests)
 
-self_test : (a b : ℕ) → a ≡ b → (a == b) ≡ true
+pub self_test : (a b : ℕ) → a ≡ b → (a == b) ≡ true
 self_test a b h = grind (arith, nat_tests)
 
-apart_test : (a b : ℕ) → a ≢ b → (a == b) ≡ false
+pub apart_test : (a b : ℕ) → a ≢ b → (a == b) ≡ false
 apart_test a b h = grind (arith, nat_tests)
 
-and_true : (b : Bool) → (b && true) ≡ b
+pub and_true : (b : Bool) → (b && true) ≡ b
 and_true true = refl
 and_true false = refl
 
-and_false : (b : Bool) → (b && false) ≡ false
+pub and_false : (b : Bool) → (b && false) ≡ false
 and_false true = refl
 and_false false = refl
 
@@ -48,7 +48,7 @@ not_let_in q start n none = by_step (is_stepped (period_in q start) q.interval (
     by_step false e = no_step q start n e
 
 -- the candidates of a period that lies a multiple of the interval from the start's are what the rule lets in there
-let_in : (q : Filled) (start number n : ℕ) → is_stepped (period_in q start) q.interval number ≡ true → period_in q n ≡ number → is_candidate_in q start n ≡ is_let_in q number n
+pub let_in : (q : Filled) (start number n : ℕ) → is_stepped (period_in q start) q.interval number ≡ true → period_in q n ≡ number → is_candidate_in q start n ≡ is_let_in q number n
 let_in q start number n step e =
     ap (λ x. is_stepped (period_in q start) q.interval x && lets_date q (day_of n) && lets_clock q n) e
     ∙ ap (λ x. x && lets_date q (day_of n) && lets_clock q n) step

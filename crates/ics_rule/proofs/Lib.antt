@@ -38,3 +38,6 @@ mod PlainLemmas
 mod NthLemmas
 mod TableCounts
 mod PlaceLemmas
+mod FlatLemmas
+mod SizeLemmas
+mod EvenLemmas

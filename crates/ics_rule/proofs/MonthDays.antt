@@ -47,7 +47,7 @@ and_no false b h = refl
 
 -- the month that a day of its year lies in
 module _ (r : Run) (first y m k : ℕ) (own : IsMonth r first y m) where
-  day_of_run : r.start ≤ k → k - r.start < r.len → Fields (first + k) y m (k - r.start + 1)
+  pub day_of_run : r.start ≤ k → k - r.start < r.len → Fields (first + k) y m (k - r.start + 1)
   day_of_run low high = fields_at (first + k) y m (k - r.start + 1)
       ((omega (arith, signed_arith, own.year), omega (arith, signed_arith, own.year)), (own.low, own.high), (omega arith, omega (arith, high, own.size)))
       (omega (arith, own.place, low))
@@ -168,7 +168,7 @@ closed_month q first len y m w k own closed = elim (by_order k len) [
 ]
 
 -- what the rule goes by
-goes : (q : Filled) → goes_by_months q ≡ true → (lists_none q.weeks ≡ true) × ((lists_none_wide q.year_days ≡ true) × ((lists_none q.month_days && lists_no_weekday q.weekdays) ≡ false))
+pub goes : (q : Filled) → goes_by_months q ≡ true → (lists_none q.weeks ≡ true) × ((lists_none_wide q.year_days ≡ true) × ((lists_none q.month_days && lists_no_weekday q.weekdays) ≡ false))
 goes q h = parts (lists_none q.weeks) (lists_none_wide q.year_days) (lists_none q.month_days && lists_no_weekday q.weekdays) h
   where
     parts : (a b c : Bool) → (a && b && not c) ≡ true → (a ≡ true) × ((b ≡ true) × (c ≡ false))
@@ -178,7 +178,7 @@ goes q h = parts (lists_none q.weeks) (lists_none_wide q.year_days) (lists_none 
     parts false b c h = absurd (cc)
 
 -- there BYMONTH, BYMONTHDAY and BYDAY decide
-three_parts : (q : Filled) (e : ℕ) → goes_by_months q ≡ true
+pub three_parts : (q : Filled) (e : ℕ) → goes_by_months q ≡ true
     → lets_date q e ≡ (lets q.months (month_of e) && (lets_place q.month_days (month_day_of e) (days_in_month (pos (year_of e)) (month_of e)) && lets_weekday q e))
 three_parts q e h =
     let g = goes q h in

@@ -10,13 +10,13 @@ use Rattle.ics_rule.specs.Kept.{count, is_chosen}
 use Rattle.ics_rule.specs.Periods.{first_local, IsPeriodOf, is_taken}
 use Rattle.ics_rule.specs.Cursors.{is_met, fresh, HeldBy, IsCounted, IsCursorIn}
 use Rattle.ics_rule.specs.Searches.{IsNextWanted, IsWalked, IsTurned, IsPassed, IsNextOpen, after_look}
-use Rattle.ics_rule.specs.Rounds.{IsRound, HasRound, IsPassedTo}
+use Rattle.ics_rule.specs.Rounds.{IsEvenRound, HasRound, IsPassedTo}
 use Rattle.std.proofs.lemmas.Nat.{div-add-mod'}
 use Rattle.std.proofs.Math.Nat.{mul-le-mul_right}
 use Rattle.ics_rule.proofs.PeriodLemmas.{begun, begins, period_mono}
 use Rattle.ics_rule.proofs.Counts.{count_most}
 use Rattle.ics_rule.proofs.CountLemmas.{none_before_first}
-use Rattle.ics_rule.proofs.RoundLemmas.{step_rounds, rounds_total, none_after}
+use Rattle.ics_rule.proofs.RoundLemmas.{repeats_often, none_after}
 use Rattle.ics_rule.proofs.StepLemmas.{stepped_parts, none_between}
 use Rattle.ics_rule.proofs.ChosenLemmas.{taken_within}
 use Rattle.ics_rule.proofs.CursorLemmas.{IsWalk, walk_ends, meets, then_moves, looks_once, looks_more, bounded, within_facts}
@@ -144,14 +144,14 @@ pub record IsRoundsEnd (q : Filled) (start begin round rounds before one : ℕ) 
   pub total : before + rounds * (one - before) ≡ count (first_local q.frequency (monday_zero q.week_start) (begin + rounds * round)) (is_chosen q start)
   pub later : begin + round < begin + rounds * round
 
-pub rounds_end : (q : Filled) (start begin round seconds rounds before one : ℕ) → IsRound q round seconds → IsRoundsBegin q start begin before → 2 ≤ begin → 2 ≤ rounds
+pub rounds_end : (q : Filled) (start begin round rounds before one : ℕ) → IsEvenRound q start round → IsRoundsBegin q start begin before → 2 ≤ begin → 2 ≤ rounds
     → first_local q.frequency (monday_zero q.week_start) (begin + rounds * round) ≤ 309_289_708_800 → one ≡ count (first_local q.frequency (monday_zero q.week_start) (begin + round)) (is_chosen q start) → IsRoundsEnd q start begin round rounds before one
-rounds_end q start begin round seconds rounds before one is from low some high e =
+rounds_end q start begin round rounds before one is from low some high e =
     let first = (stepped_parts (period_in q start) q.interval begin from.step).0 in
-    let counts = rounds_total q start round seconds is begin rounds before one low first (omega (arith, some)) high from.total e in
+    let counts = is.total begin rounds before one low from.step (omega (arith, some)) high from.total e in
     record {
       first = is.step (period_in q start) begin first ∙ from.step;
-      step = step_rounds q start round seconds is (period_in q start) rounds begin first ∙ from.step;
+      step = repeats_often (is_stepped (period_in q start) q.interval) (period_in q start) round (λ n h. is.step (period_in q start) n h) rounds begin first ∙ from.step;
       more = counts.0;
       total = counts.1;
       later = (let up = mul-le-mul_right {m = 2} {n = rounds} round some in let positive = is.some in omega (arith, up, positive));
@@ -175,8 +175,8 @@ end_in own begin ahead round e some h = let small = round_small ahead round h in
 pub target_in : (own begin ahead round : ℕ) → ahead ≡ own - begin → 2 ≤ ahead → begin + ahead / round * round ≤ own
 target_in own begin ahead round e some = let whole = div-add-mod' ahead round in omega (arith, whole, e, some)
 
-pub end_step : (q : Filled) (start begin before round seconds : ℕ) → IsRound q round seconds → IsRoundsBegin q start begin before → is_stepped (period_in q start) q.interval (begin + round) ≡ true
-end_step q start begin before round seconds is from = is.step (period_in q start) begin (stepped_parts (period_in q start) q.interval begin from.step).0 ∙ from.step
+pub end_step : (q : Filled) (start begin before round : ℕ) → IsEvenRound q start round → IsRoundsBegin q start begin before → is_stepped (period_in q start) q.interval (begin + round) ≡ true
+end_step q start begin before round is from = is.step (period_in q start) begin (stepped_parts (period_in q start) q.interval begin from.step).0 ∙ from.step
 
 -- the period of a place is that of the last local before the next
 pub top_of : (q : Filled) (place number : ℕ) → number ≤ period_in q place → number ≤ period_in q (place + 1 - 1)

@@ -49,7 +49,7 @@ date_free q d e alone none = all_in d ∙ sym (all_in e)
         in_1 true b c h = refl
         in_1 false b c h = absurd (cc)
 
-clock_alike : (q : Filled) (n m : ℕ) → lets q.hours (hour_of n) ≡ lets q.hours (hour_of m) → lets q.minutes (minute_of n) ≡ lets q.minutes (minute_of m) → lets q.seconds (second_of n) ≡ lets q.seconds (second_of m)
+pub clock_alike : (q : Filled) (n m : ℕ) → lets q.hours (hour_of n) ≡ lets q.hours (hour_of m) → lets q.minutes (minute_of n) ≡ lets q.minutes (minute_of m) → lets q.seconds (second_of n) ≡ lets q.seconds (second_of m)
     → lets_clock q n ≡ lets_clock q m
 clock_alike q n m h i s = ap (λ x. x && lets q.minutes (minute_of n) && lets q.seconds (second_of n)) h ∙ ap (λ x. lets q.hours (hour_of m) && x && lets q.seconds (second_of n)) i
     ∙ ap (λ x. lets q.hours (hour_of m) && lets q.minutes (minute_of m) && x) s
@@ -110,7 +110,7 @@ unit_first Monthly w p j h l = absurd (omega (arith, h))
 unit_first Yearly w p j h l = absurd (omega (arith, h))
 
 -- a test that repeats after a repeats after each multiple
-repeats_often : (f : ℕ → Bool) (low a : ℕ) → ((n : ℕ) → low ≤ n → f (n + a) ≡ f n) → (j n : ℕ) → low ≤ n → f (n + j * a) ≡ f n
+pub repeats_often : (f : ℕ → Bool) (low a : ℕ) → ((n : ℕ) → low ≤ n → f (n + a) ≡ f n) → (j n : ℕ) → low ≤ n → f (n + j * a) ≡ f n
 repeats_often f low a on zero n l = ap f (let same : n + 0 * a ≡ n = omega arith in same)
 repeats_often f low a on (suc j) n l = ap f (let same : n + suc j * a ≡ n + j * a + a = omega arith in same) ∙ on (n + j * a) (omega (arith, l)) ∙ repeats_often f low a on j n l
 

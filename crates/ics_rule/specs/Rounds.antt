@@ -1,16 +1,19 @@
 -- Rounds of periods. After a round, what a rule chooses repeats.
-use Rattle.std.specs.Prelude.{◌≡◌, ℕ, ◌+◌, ◌<◌, ◌≤◌, ◌&&◌, Some}
+use Rattle.std.specs.Prelude.{◌≡◌, ℕ, ◌+◌, ◌-◌, ◌*◌, ◌<◌, ◌≤◌, ◌&&◌, Some, true, false}
 use Rattle.jiff_core.specs.Weekday.{monday_zero}
 use Rattle.ics_values.specs.declared.frequency.Frequency.{Frequency}
 use Rattle.ics_values.specs.declared.frequency.Frequency.TheVariants.{Secondly, Minutely, Hourly, Daily, Weekly, Monthly, Yearly}
+use Rattle.ics_values.specs.Sets.{has}
+use Rattle.ics_values.specs.Places.{lists_no_weekday}
 use Rattle.ics_rule.specs.declared.filled.Filled.{Filled}
 use Rattle.ics_rule.specs.declared.cursor.Cursor.{Cursor}
 use Rattle.ics_rule.specs.Locals.{day_of}
 use Rattle.ics_rule.specs.Candidates.{lets_date, lets_clock, is_stepped, period_in}
-use Rattle.ics_rule.specs.Kept.{count}
+use Rattle.ics_rule.specs.Kept.{count, is_chosen}
 use Rattle.ics_rule.specs.Periods.{first_local}
 use Rattle.ics_rule.specs.Cursors.{is_met, fresh, IsCursorIn, HasLookedIn}
 use Rattle.ics_rule.specs.Searches.{LooksOrStays}
+use Rattle.ics_rule.specs.Runs.{goes_by_months}
 
 -- how many seconds each period of a frequency has, or 0 if they differ
 abbrev pub seconds_of : Frequency → ℕ
@@ -29,6 +32,26 @@ pub record IsRound (q : Filled) (periods seconds : ℕ) : Type 0 where
   pub period : (n : ℕ) → period_in q (n + seconds) ≡ period_in q n + periods
   pub first : (p : ℕ) → 2 ≤ p → first_local q.frequency (monday_zero q.week_start) (p + periods) ≡ first_local q.frequency (monday_zero q.week_start) p + seconds
   pub let_in : (n : ℕ) → (lets_date q (day_of (n + seconds)) && lets_clock q (n + seconds)) ≡ (lets_date q (day_of n) && lets_clock q n)
+
+-- of the parts of the date only BYMONTH and BYMONTHDAY are there, and its days are in each month, counted from the first
+pub record IsFlat (q : Filled) : Type 0 where
+  pub goes : goes_by_months q ≡ true
+  pub alone : lists_no_weekday q.weekdays ≡ true
+  pub back : (n : ℕ) → has q.month_days.back n ≡ false
+  pub front : (n : ℕ) → 29 ≤ n → has q.month_days.front n ≡ false
+
+-- how many locals are chosen before the period with a number
+abbrev pub chosen_to : Filled → ℕ → ℕ → ℕ
+chosen_to q start p = count (first_local q.frequency (monday_zero q.week_start) p) (is_chosen q start)
+
+-- from a step on, each so many periods have as many chosen locals as the first of these rounds
+pub record IsEvenRound (q : Filled) (start periods : ℕ) : Type 0 where
+  pub some : 1 ≤ periods
+  pub step : (first p : ℕ) → first ≤ p → is_stepped first q.interval (p + periods) ≡ is_stepped first q.interval p
+  pub total : (begin rounds before one : ℕ) → 2 ≤ begin → is_stepped (period_in q start) q.interval begin ≡ true → 1 ≤ rounds
+      → first_local q.frequency (monday_zero q.week_start) (begin + rounds * periods) ≤ 309_289_708_800
+      → before ≡ chosen_to q start begin → one ≡ chosen_to q start (begin + periods)
+      → (before ≤ one) × (before + rounds * (one - before) ≡ chosen_to q start (begin + rounds * periods))
 
 -- the periods from begin to end are a whole round or more, and begin is not the first of all
 pub record HasRound (q : Filled) (begin end : ℕ) : Type 0 where

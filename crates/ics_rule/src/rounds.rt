@@ -4,10 +4,10 @@ ghost use Rattle.ics_rule.specs.Locals.{day_of};
 ghost use Rattle.ics_rule.specs.Candidates.{lets_date, lets_clock, period_in};
 ghost use Rattle.ics_rule.specs.Cursors.{IsCursorIn};
 ghost use Rattle.ics_rule.specs.Dates.{names_weekdays_alone};
-ghost use Rattle.ics_rule.specs.Rounds.{seconds_of, IsRound, HasRound, IsPassedTo};
+ghost use Rattle.ics_rule.specs.Rounds.{seconds_of, IsRound, IsFlat, IsEvenRound, HasRound, IsPassedTo};
 
 use crate::cursor::Cursor;
-use crate::date::names_weekdays_alone;
+use crate::date::{goes_by_months, names_weekdays_alone};
 use crate::fill::skips_hours;
 use crate::filled::Filled;
 use crate::pass::next_open_step;
@@ -19,6 +19,9 @@ const A_SHORT_SEARCH: u64 = 86_400;
 
 /// A round of up to this many periods is looked at whole.
 const A_SHORT_ROUND: u64 = 200;
+
+/// Days of two years.
+const TWO_YEARS: u64 = 730;
 
 /// How many seconds each period of a frequency has, or 0 if they differ.
 pub(crate) fn seconds_of(frequency: Frequency) -> u64
@@ -90,17 +93,62 @@ pub(crate) fn last_to_look_at(parts: &Filled, begin: u64, last: u64) -> u64
     if round < left { begin + round } else { last }
 }
 
+/// Whether BYMONTHDAY is there, with days that each month has, counted from the first, and of the other parts of the date at most BYMONTH.
+fn is_flat(parts: &Filled) -> bool
+    ensures { result ≡ true → IsFlat parts.now }
+{
+    if !goes_by_months(parts) {
+        return false;
+    }
+    if !parts.weekdays.is_none() {
+        return false;
+    }
+    if parts.month_days.back.next_from(0).is_some() {
+        return false;
+    }
+    parts.month_days.front.next_from(29).is_none()
+}
+
+/// After how many periods the number of locals that a rule chooses repeats, if that is known.
+fn even_round_of(parts: &Filled) -> Option<u64>
+    requires interval { 1 ≤ parts.now.interval }
+    ensures { MatchOption result (Unit {0}) (λ k. (start : ℕ) → IsEvenRound parts.now start k) }
+{
+    if seconds_of(parts.frequency) > 0 {
+        return round_of(parts);
+    }
+    if !is_flat(parts) {
+        return None;
+    }
+    let steps = match parts.frequency {
+        Frequency::Yearly => 1,
+        _ => 12,
+    };
+    Some(parts.interval as u64 * steps)
+}
+
 /// Whether what a rule allows repeats after so few periods that they are looked at one by one.
 fn repeats_soon(parts: &Filled) -> bool
     requires interval { 1 ≤ parts.now.interval }
 {
-    match round_of(parts) {
+    match even_round_of(parts) {
         Some(round) => round / parts.interval as u64 <= A_SHORT_ROUND,
         None => false,
     }
 }
 
 impl Cursor {
+    /// Whether the place is at most two years after the first day of the month or year held, so that no two rounds lie between.
+    fn is_close(&self, parts: &Filled) -> bool {
+        match &self.held {
+            Some(period) => {
+                let end = (period.first_day as u64 + TWO_YEARS) * 86_400;
+                seconds_of(parts.frequency) == 0 && self.place < end
+            }
+            None => false,
+        }
+    }
+
     /// Counts what is chosen in the periods up to that of the place, and looks at one of the last of them: by whole rounds if these are
     /// short, and else by whole days. Nothing changes if neither can be done.
     pub(crate) fn pass_periods(&mut self, parts: &Filled, start: u64, count: u32, first: u64)
@@ -113,6 +161,9 @@ impl Cursor {
         ensures place { self.new.place ≡ self.old.place }
         ensures passed { IsPassedTo parts.now start count self.old self.new }
     {
+        if self.is_close(parts) {
+            return;
+        }
         if repeats_soon(parts) {
             self.pass_rounds(parts, start, count, first);
         } else {
@@ -142,7 +193,7 @@ impl Cursor {
         if begin < 2 || ahead < 2 {
             return;
         }
-        let Some(round) = round_of(parts) else {
+        let Some(round) = even_round_of(parts) else {
             return;
         };
         let rounds = ahead / round;

@@ -1,0 +1,129 @@
+-- The months of a rule with days that each month has.
+use Rattle.std.specs.Option.{is_some}
+use Rattle.std.proofs.Common.{Option, Some, None, ◌≡◌, ℕ, zero, suc, ◌+◌, ◌-◌, ◌*◌, ◌/◌, ◌%◌, ◌<◌, ◌≤◌, Bool, true, false, ◌&&◌, ◌||◌, pos, refl, ap, ◌∙◌, arith}
+use Rattle.jiff_core.specs.Calendar.{days_in_month}
+use Rattle.jiff_core.proofs.CalendarLemmas.{days_in_month_bounds, days_of_months-zero}
+use Rattle.ics_values.specs.Sets.{has, IsNextIn}
+use Rattle.ics_values.specs.Places.{lists_none, lists_no_weekday, numbers_of}
+use Rattle.ics_values.specs.Days.{days_before_year, year_of, month_of, month_day_of, weekday_of}
+use Rattle.ics_rule.specs.declared.filled.Filled.{Filled}
+use Rattle.ics_rule.specs.declared.runs.Run.{Run}
+use Rattle.ics_rule.specs.Locals.{day_of}
+use Rattle.ics_rule.specs.Candidates.{lets, lets_place, lets_weekday, lets_numbered, lets_date, lets_clock}
+use Rattle.ics_rule.specs.Kept.{count}
+use Rattle.ics_rule.specs.Periods.{month_start}
+use Rattle.ics_rule.specs.Rounds.{IsFlat}
+use Rattle.ics_rule.proofs.Counts.{count-same, count-add}
+use Rattle.ics_rule.proofs.RankLemmas.{count_flat}
+use Rattle.ics_rule.proofs.PeriodLemmas.{month_size}
+use Rattle.ics_rule.proofs.RoundLemmas.{clock_alike}
+use Rattle.ics_rule.proofs.MonthDays.{day_of_run, three_parts, goes, span_month}
+
+-- where there is no next member, none is left
+pub none_from : (test : ℕ → Bool) (n : ℕ) (o : Option ℕ) → is_some o ≡ false → IsNextIn test n o → (m : ℕ) → n ≤ m → test m ≡ false
+none_from test n None e next = next
+none_from test n (Some x) e next = absurd (cc)
+
+-- what a rule allows, apart from the interval
+abbrev pub is_allowed : Filled → ℕ → Bool
+is_allowed q n = lets_date q (day_of n) && lets_clock q n
+
+-- how many such locals are earlier
+abbrev pub allowed_before : Filled → ℕ → ℕ
+allowed_before q n = count n (is_allowed q)
+
+-- the first local of the month after so many
+abbrev pub month_local : ℕ → ℕ
+month_local i = month_start (suc i) * 86_400
+
+clock_of_day : (q : Filled) (e k : ℕ) → lets_clock q (e * 86_400 + k) ≡ lets_clock q k
+clock_of_day q e k = clock_alike q (e * 86_400 + k) k
+    (let same : (e * 86_400 + k) / 3_600 % 24 ≡ k / 3_600 % 24 = omega arith in ap (lets q.hours) same)
+    (let same : (e * 86_400 + k) / 60 % 60 ≡ k / 60 % 60 = omega arith in ap (lets q.minutes) same)
+    (let same : (e * 86_400 + k) % 60 ≡ k % 60 = omega arith in ap (lets q.seconds) same)
+
+module _ (q : Filled) (flat : IsFlat q) where
+  -- what is allowed in the first 28 days of a month
+  abbrev in_month : ℕ → ℕ → Bool
+  in_month m k = (lets q.months (m + 1) && has q.month_days.front (k / 86_400 + 1)) && lets_clock q k
+
+  abbrev pub month_adds : ℕ → ℕ
+  month_adds m = count (28 * 86_400) (in_month m)
+
+  date_is : (i d : ℕ) → i / 12 ≤ 9_999 → d < days_in_month (pos (i / 12)) (i % 12 + 1)
+      → lets_date q (month_start (suc i) + d) ≡ (lets q.months (i % 12 + 1) && has q.month_days.front (d + 1))
+  date_is i d year inside =
+      let back : suc i - 1 ≡ i = omega arith in
+      let len = days_in_month (pos (i / 12)) (i % 12 + 1) in
+      let r : Run = record { start = 0; len = len; weekday = weekday_of (month_start (suc i)) } in
+      let own = span_month (suc i) (month_start (suc i)) len (weekday_of (month_start (suc i)))
+      (let low : 1 ≤ suc i = omega arith in (low, (rw back year, (refl, rw back refl)))) refl in
+      let f = day_of_run r (month_start (suc i)) ((suc i - 1) / 12) ((suc i - 1) % 12 + 1) d own (let low : 0 ≤ d = omega arith in low) (let high : d - 0 < len = omega (arith, inside) in high) in
+      let month : month_of (month_start (suc i) + d) ≡ i % 12 + 1 = f.month ∙ ap (λ x. x % 12 + 1) back in
+      let day : month_day_of (month_start (suc i) + d) ≡ d + 1 = f.month_day ∙ (let same : d - 0 + 1 ≡ d + 1 = omega arith in same) in
+      let e = month_start (suc i) + d in
+      let size = days_in_month (pos (year_of e)) (month_of e) in
+      let g = goes q flat.goes in
+      three_parts q e flat.goes
+      ∙ ap (λ x. lets q.months x && (lets_place q.month_days (month_day_of e) size && lets_weekday q e)) month
+      ∙ ap (λ x. lets q.months (i % 12 + 1) && (lets_place q.month_days x size && lets_weekday q e)) day
+      ∙ ap (λ x. lets q.months (i % 12 + 1) && x) (parts (lists_none q.month_days) (lists_no_weekday q.weekdays) (has q.month_days.front (d + 1)) (has q.month_days.back (size + 1 - (d + 1))) (has q.weekdays.plain (weekday_of e)) (lets_numbered q.frequency q (numbers_of q.weekdays (weekday_of e)) e) g.1.1 flat.alone (flat.back (size + 1 - (d + 1))))
+    where
+      parts : (n w f b x z : Bool) → (n && w) ≡ false → w ≡ true → b ≡ false → ((n || (f || b)) && (w || x || z)) ≡ f
+      parts true true f b x z some none out = absurd (cc)
+      parts n false f b x z some none out = absurd (cc)
+      parts false true f true x z some none out = absurd (cc)
+      parts false true true false x z some none out = refl
+      parts false true false false x z some none out = refl
+
+  allowed_is : (i k : ℕ) → i / 12 ≤ 9_999 → k < days_in_month (pos (i / 12)) (i % 12 + 1) * 86_400 → is_allowed q (month_local i + k) ≡ in_month (i % 12) k
+  allowed_is i k year inside =
+      let day : (month_start (suc i) * 86_400 + k) / 86_400 ≡ month_start (suc i) + k / 86_400 = omega arith in
+      ap (λ e. lets_date q e && lets_clock q (month_start (suc i) * 86_400 + k)) day
+      ∙ ap (λ x. x && lets_clock q (month_start (suc i) * 86_400 + k)) (date_is i (k / 86_400) year (omega (arith, inside)))
+      ∙ ap (λ x. (lets q.months (i % 12 + 1) && has q.month_days.front (k / 86_400 + 1)) && x) (clock_of_day q (month_start (suc i)) k)
+
+  pub month_is : (i : ℕ) → i / 12 ≤ 9_999 → allowed_before q (month_local (suc i)) ≡ allowed_before q (month_local i) + month_adds (i % 12)
+  month_is i year =
+      let len = days_in_month (pos (i / 12)) (i % 12 + 1) in
+      let size = month_size i in
+      let bounds = days_in_month_bounds (pos (i / 12)) (i % 12 + 1) in
+      let whole = ap (allowed_before q) (let next : month_local (suc i) ≡ month_local i + len * 86_400 = omega (arith, size) in next) in
+      let add = count-add (month_local i) (len * 86_400) (is_allowed q) in
+      let same = count-same (len * 86_400) (λ k. is_allowed q (month_local i + k)) (in_month (i % 12)) (λ k l. allowed_is i k year l) in
+      let most = count_flat (28 * 86_400) (len * 86_400) (in_month (i % 12)) (omega (arith, bounds.1)) (λ k l u. out (lets q.months (i % 12 + 1)) (has q.month_days.front (k / 86_400 + 1)) (lets_clock q k) (flat.front (k / 86_400 + 1) (omega (arith, l)))) in
+      omega (arith, whole, add, same, most)
+    where
+      out : (a b c : Bool) → b ≡ false → ((a && b) && c) ≡ false
+      out true b c h = ap (λ x. x && c) h
+      out false b c h = refl
+
+  -- the first months of a year
+  abbrev months_add : ℕ → ℕ
+  months_add zero = 0
+  months_add (suc m) = months_add m + month_adds m
+
+  months_are : (y m : ℕ) → y ≤ 9_999 → m ≤ 12 → allowed_before q (month_local (12 * y + m)) ≡ allowed_before q (month_local (12 * y)) + months_add m
+  months_are y zero year h = ap (λ x. allowed_before q (month_local x)) (let same : 12 * y + 0 ≡ 12 * y = omega arith in same) ∙ omega arith
+  months_are y (suc m) year h =
+      let before = months_are y m year (omega (arith, h)) in
+      let next = ap (λ x. allowed_before q (month_local x)) (let same : 12 * y + suc m ≡ suc (12 * y + m) = omega arith in same) in
+      let one = month_is (12 * y + m) (omega (arith, year, h)) in
+      let own = ap month_adds (let same : (12 * y + m) % 12 ≡ m = omega (arith, h) in same) in
+      omega (arith, before, next, one, own)
+
+  year_local : (y : ℕ) → month_local (12 * y) ≡ days_before_year y * 86_400
+  year_local y =
+      let back : suc (12 * y) - 1 ≡ 12 * y = omega arith in
+      let year : 12 * y / 12 ≡ y = omega arith in
+      let rest : 12 * y % 12 ≡ 0 = omega arith in
+      let none = days_of_months-zero (pos y) in
+      ap (λ x. x * 86_400) (rw back (rw year (rw rest (omega (arith, none)))))
+
+  pub year_is : (y : ℕ) → y ≤ 9_999 → allowed_before q (days_before_year (suc y) * 86_400) ≡ allowed_before q (days_before_year y * 86_400) + months_add 12
+  year_is y h =
+      let all = months_are y 12 h (omega arith) in
+      let next = ap (λ x. allowed_before q (month_local x)) (let same : 12 * y + 12 ≡ 12 * suc y = omega arith in same) in
+      let one = ap (allowed_before q) (year_local y) in
+      let other = ap (allowed_before q) (year_local (suc y)) in
+      omega (arith, all, next, one, other)

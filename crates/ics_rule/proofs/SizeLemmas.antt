@@ -1,0 +1,134 @@
+-- Of the size of a period, the number of locals that a rule allows there, depends how many are chosen.
+use Rattle.std.proofs.Common.{◌≡◌, ℕ, suc, ◌+◌, ◌*◌, ◌<◌, ◌≤◌, ◌≢◌, ◌⊎◌, inl, inr, Bool, true, false, cond, ◌&&◌, ◌==◌, refl, sym, ap, ◌∙◌, arith}
+use Rattle.jiff_core.specs.Weekday.{monday_zero}
+use Rattle.ics_values.specs.Places.{lists_none_wide}
+use Rattle.ics_rule.specs.declared.filled.Filled.{Filled}
+use Rattle.ics_rule.specs.Locals.{calendar_end, day_of}
+use Rattle.ics_rule.specs.Candidates.{lets_date, lets_clock, lists_wide, is_stepped, is_candidate_in, period_in}
+use Rattle.ics_rule.specs.Kept.{count, is_beside, rank, size, is_placed, is_chosen}
+use Rattle.ics_rule.specs.Periods.{first_local, is_let_in, is_listed}
+use Rattle.ics_rule.specs.Rounds.{chosen_to}
+use Rattle.ics_rule.proofs.Counts.{count-same, count-suc, count-add, count-from}
+use Rattle.ics_rule.proofs.RankLemmas.{count_flat, count-ranked}
+use Rattle.ics_rule.proofs.PeriodLemmas.{begun, begins, is_short}
+use Rattle.ics_rule.proofs.ChosenLemmas.{same_or_not, self_test, apart_test, and_true, and_false, let_in}
+use Rattle.ics_rule.proofs.FlatLemmas.{is_allowed, allowed_before}
+
+by_order : (m n : ℕ) → (m < n) ⊎ (n ≤ m)
+by_order m n = grind arith
+
+-- no period is longer
+abbrev pub longest : ℕ
+longest = 366 * 86_400
+
+-- what a rule allows in a period, by its place in it
+abbrev pub let_at : Filled → ℕ → ℕ → Bool
+let_at q x k = is_let_in q x (first_local q.frequency (monday_zero q.week_start) x + k)
+
+-- and what it chooses there
+abbrev placed_at : Filled → Bool → (ℕ → Bool) → ℕ → Bool
+placed_at q true t k = true
+placed_at q false t k = lists_wide q.positions (count (suc k) t) (count longest t)
+
+abbrev chosen_at : Filled → (ℕ → Bool) → ℕ → Bool
+chosen_at q t k = t k && placed_at q (lists_none_wide q.positions) t k
+
+-- how many of so many are chosen
+abbrev pub chosen_of : Filled → Bool → ℕ → ℕ
+chosen_of q true n = n
+chosen_of q false n = count n (is_listed q.positions n)
+
+-- of a size depends only how many are chosen
+size_decides : (q : Filled) (t : ℕ → Bool) → count longest (chosen_at q t) ≡ chosen_of q (lists_none_wide q.positions) (count longest t)
+size_decides q t = by_positions (lists_none_wide q.positions)
+  where
+    same : (b : Bool) (k : ℕ) → t k ≡ b
+        → (b && lists_wide q.positions (count (suc k) t) (count longest t)) ≡ (b && is_listed q.positions (count longest t) (count k t))
+    same true k e =
+        let last = count-suc k t in
+        let one : count (suc k) t ≡ count k t + 1 = last ∙ ap (λ b. count k t + cond b 1 0) e in
+        ap (λ n. lists_wide q.positions n (count longest t)) one
+    same false k e = refl
+
+    by_positions : (b : Bool) → count longest (λ k. t k && placed_at q b t k) ≡ chosen_of q b (count longest t)
+    by_positions true = count-same longest (λ k. t k && true) t (λ k l. and_true (t k))
+    by_positions false = count-same longest (λ k. t k && lists_wide q.positions (count (suc k) t) (count longest t)) (λ k. t k && is_listed q.positions (count longest t) (count k t)) (λ k l. same (t k) k refl)
+        ∙ count-ranked longest t (is_listed q.positions (count longest t))
+
+module _ (q : Filled) (start x : ℕ) (step : is_stepped (period_in q start) q.interval x ≡ true)
+    (inside : first_local q.frequency (monday_zero q.week_start) x + 366 * 86_400 ≤ calendar_end) where
+  abbrev a : ℕ
+  a = first_local q.frequency (monday_zero q.week_start) x
+
+  abbrev t : ℕ → Bool
+  t k = let_at q x k
+
+  let_out : (n : ℕ) → period_in q n ≢ x → is_let_in q x n ≡ false
+  let_out n other = ap (λ y. y && (lets_date q (day_of n) && lets_clock q n)) (apart_test (period_in q n) x other)
+
+  beside : (n m : ℕ) → period_in q n ≡ x → is_beside q start n m ≡ is_let_in q x m
+  beside n m here = ap (λ y. is_candidate_in q start m && period_in q m == y) here ∙ cases (same_or_not (period_in q m) x)
+    where
+      cases : (period_in q m ≡ x) ⊎ (period_in q m ≢ x) → (is_candidate_in q start m && period_in q m == x) ≡ is_let_in q x m
+      cases (inl same) = ap (λ y. is_candidate_in q start m && y) (self_test (period_in q m) x same) ∙ and_true (is_candidate_in q start m) ∙ let_in q start x m step same
+      cases (inr other) = ap (λ y. is_candidate_in q start m && y) (apart_test (period_in q m) x other) ∙ and_false (is_candidate_in q start m) ∙ sym (let_out m other)
+
+  none_before : (m : ℕ) → m < a → is_let_in q x m ≡ false
+  none_before m h = let_out m (λ same. let b = begun q.frequency (monday_zero q.week_start) x m (omega (arith, same)) in omega (arith, b, h))
+
+  none_late : (m : ℕ) → a + 366 * 86_400 ≤ m → is_let_in q x m ≡ false
+  none_late m h = let_out m (λ same. let short = is_short q.frequency (monday_zero q.week_start) x in
+      let b = begins q.frequency (monday_zero q.week_start) (suc x) m (omega (arith, short, h)) in omega (arith, b, same))
+
+  rank_is : (k : ℕ) → period_in q (a + k) ≡ x → rank q start (a + k) ≡ count (suc k) t
+  rank_is k here =
+      let whole : suc (a + k) ≡ a + suc k = omega arith in
+      count-same (suc (a + k)) (is_beside q start (a + k)) (is_let_in q x) (λ m l. beside (a + k) m here)
+      ∙ ap (λ y. count y (is_let_in q x)) whole
+      ∙ count-from a (suc k) (is_let_in q x) none_before
+
+  size_is : (k : ℕ) → period_in q (a + k) ≡ x → size q start (a + k) ≡ count longest t
+  size_is k here =
+      count-same calendar_end (is_beside q start (a + k)) (is_let_in q x) (λ m l. beside (a + k) m here)
+      ∙ count_flat (a + 366 * 86_400) calendar_end (is_let_in q x) inside (λ m l u. none_late m l)
+      ∙ count-from a longest (is_let_in q x) none_before
+
+  chosen_in : (k : ℕ) → period_in q (a + k) ≡ x → is_chosen q start (a + k) ≡ chosen_at q t k
+  chosen_in k here = ap (λ y. y && is_placed q start (lists_none_wide q.positions) (a + k)) (let_in q start x (a + k) step here) ∙ ap (λ y. t k && y) (by_positions (lists_none_wide q.positions))
+    where
+      by_positions : (b : Bool) → is_placed q start b (a + k) ≡ placed_at q b t k
+      by_positions true = refl
+      by_positions false = ap (λ y. lists_wide q.positions y (size q start (a + k))) (rank_is k here) ∙ ap (λ y. lists_wide q.positions (count (suc k) t) y) (size_is k here)
+
+  module _ (len : ℕ) (e : a + len ≡ first_local q.frequency (monday_zero q.week_start) (suc x)) where
+    here : (k : ℕ) → k < len → period_in q (a + k) ≡ x
+    here k l =
+        let low = begins q.frequency (monday_zero q.week_start) x (a + k) (omega arith) in
+        elim (by_order x (period_in q (a + k))) [
+          | inl more ↦ absurd (let late = begun q.frequency (monday_zero q.week_start) (suc x) (a + k) more in omega (arith, late, e, l))
+          | inr same ↦ omega (arith, low, same)
+        ]
+
+    past : (k : ℕ) → len ≤ k → t k ≡ false
+    past k l = let_out (a + k) (λ here. let b = begins q.frequency (monday_zero q.week_start) (suc x) (a + k) (omega (arith, e, l)) in omega (arith, b, here))
+
+    -- the period adds what is chosen in it
+    pub period_adds : chosen_to q start (suc x) ≡ chosen_to q start x + chosen_of q (lists_none_wide q.positions) (count longest t)
+    period_adds =
+        let short = is_short q.frequency (monday_zero q.week_start) x in
+        let whole = ap (λ y. count y (is_chosen q start)) (sym e) in
+        let parts = count-add a len (is_chosen q start) in
+        let same = count-same len (λ k. is_chosen q start (a + k)) (chosen_at q t) (λ k l. chosen_in k (here k l)) in
+        let flat = count_flat len longest (chosen_at q t) (omega (arith, short, e)) (λ k l u. ap (λ y. y && placed_at q (lists_none_wide q.positions) t k) (past k l)) in
+        let decided = size_decides q t in
+        omega (arith, whole, parts, same, flat, decided)
+
+    -- and its size what is allowed in it
+    pub size_adds : allowed_before q (first_local q.frequency (monday_zero q.week_start) (suc x)) ≡ allowed_before q a + count longest t
+    size_adds =
+        let short = is_short q.frequency (monday_zero q.week_start) x in
+        let whole = ap (allowed_before q) (sym e) in
+        let parts = count-add a len (is_allowed q) in
+        let same = count-same len (λ k. is_allowed q (a + k)) t (λ k l. sym (ap (λ y. y && is_allowed q (a + k)) (self_test (period_in q (a + k)) x (here k l)))) in
+        let flat = count_flat len longest t (omega (arith, short, e)) (λ k l u. past k l) in
+        omega (arith, whole, parts, same, flat)
