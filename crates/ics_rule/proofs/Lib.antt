@@ -1,5 +1,6 @@
 pub mod DateLemmas
 pub mod FilledLemmas
+pub mod HourLemmas
 pub mod Counts
 pub mod Months
 pub mod PeriodLemmas

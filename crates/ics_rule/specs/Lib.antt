@@ -1,6 +1,7 @@
 pub mod Recurrence
 pub mod Locals
 pub mod Filled
+pub mod Hours
 pub mod Parts
 pub mod Candidates
 pub mod IsoWeeks

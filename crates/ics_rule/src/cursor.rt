@@ -152,7 +152,7 @@ impl Cursor {
     }
 
     /// The number of the next local that the rule keeps, from the place on and earlier than `end`.
-    fn next_number(&mut self, rule: &Rule, start: u64, end: u64) -> Option<u64>
+    pub(crate) fn next_number(&mut self, rule: &Rule, start: u64, end: u64) -> Option<u64>
         requires start { start ≡ number rule.now.start }
         requires end { end ≤ 309289708800 }
         requires own { IsCursorIn (filled rule.now) start rule.now.parts.count self.old }

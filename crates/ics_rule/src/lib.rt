@@ -7,6 +7,7 @@ mod date;
 mod days;
 mod fill;
 mod filled;
+mod hour;
 mod kind;
 mod laws;
 mod never;
@@ -27,6 +28,7 @@ mod walk;
 mod weeks;
 
 pub use cursor::Cursor;
+pub use hour::HourTimes;
 pub use kind::Kind;
 pub use laws::{
     few_steps, first_of_count, kept_locals, numbered_weekdays, numbered_weeks, ranks_are_places,

@@ -1,0 +1,88 @@
+//! The locals of an hour that a rule keeps.
+ghost use Rattle.std.specs.Prelude.{◌≡◌, ℕ, ◌<◌, ◌≤◌, false, IfSome, MatchOption};
+ghost use Rattle.ics_values.specs.Sets.{has};
+ghost use Rattle.ics_rule.specs.Locals.{number};
+ghost use Rattle.ics_rule.specs.Next.{NoneKept, IsNextKept};
+ghost use Rattle.ics_rule.specs.Hours.{is_finer, KeepsTimes};
+
+use crate::cursor::Cursor;
+use crate::rule::Rule;
+use crate::step::{local_of, number};
+use ics_values::{Frequency, Numbers};
+
+/// Each of some minutes of an hour, with each of some seconds.
+#[derive(Clone, Copy)]
+pub struct HourTimes {
+    pub minutes: Numbers,
+    pub seconds: Numbers,
+}
+
+/// The greatest member of a set.
+fn greatest(set: Numbers) -> Option<u8>
+    ensures last { MatchOption result ((n : ℕ) → has set n ≡ false) (λ last. (n : ℕ) → last < n → has set n ≡ false) }
+    ensures small { IfSome result (λ last. last < 64) }
+{
+    let mut last = None;
+    let mut from = 0;
+    while let Some(n) = set.next_from(from) {
+        last = Some(n);
+        from = n + 1;
+    }
+    last
+}
+
+/// Whether a rule repeats more often than daily.
+fn is_finer(frequency: Frequency) -> bool
+    ensures { result ≡ is_finer frequency }
+{
+    matches!(
+        frequency,
+        Frequency::Secondly | Frequency::Minutely | Frequency::Hourly
+    )
+}
+
+/// The first local from a place on that the rule keeps, if it is earlier than a bound.
+#[tactic(auto, unfolding(crate::specs::Cursors::IsCursorOf))]
+fn next_between(rule: &Rule, start: u64, from: u64, bound: u64) -> Option<u64>
+    requires start { start ≡ number rule.now.start }
+    requires from { from < 315569520000 }
+    requires bound { bound ≤ 309289708800 }
+    ensures { MatchOption result (NoneKept rule.now from bound) (IsNextKept rule.now from bound) }
+{
+    let mut cursor = Cursor::at(rule, local_of(from));
+    cursor.next_number(rule, start, bound)
+}
+
+impl Rule {
+    /// The minutes and the seconds that the rule lists, if they are the first and the last that it keeps in an hour. They are in each
+    /// hour but those that the start, UNTIL or COUNT cuts, under any rule without BYSETPOS.
+    pub fn hour(&self, hour: u64) -> Option<HourTimes>
+        requires { hour < 85913808 }
+        ensures { IfSome result (KeepsTimes self.now hour) }
+    {
+        let start = number(self.start);
+        let from = hour * 3_600;
+        let Some(kept) = next_between(self, start, from, from + 3_600) else {
+            return Some(HourTimes {
+                minutes: Numbers::new(),
+                seconds: Numbers::new(),
+            });
+        };
+        let minutes = self.whole.minutes;
+        let seconds = self.whole.seconds;
+        let first_minute = minutes.next_from(0)?;
+        let first_second = seconds.next_from(0)?;
+        let first = from + u64::from(first_minute) * 60 + u64::from(first_second);
+        let last_minute = greatest(minutes)?;
+        let last_second = greatest(seconds)?;
+        let last = from + u64::from(last_minute) * 60 + u64::from(last_second);
+        if kept <= start || kept != first || last >= from + 3_600 {
+            return None;
+        }
+        if is_finer(self.whole.frequency) || !self.whole.positions.is_none() {
+            return None;
+        }
+        next_between(self, start, last, last + 1)?;
+        Some(HourTimes { minutes, seconds })
+    }
+}
