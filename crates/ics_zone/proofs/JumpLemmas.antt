@@ -10,9 +10,9 @@ use Rattle.ics_zone.specs.declared.latest.Steady.{Steady}
 use Rattle.ics_zone.specs.declared.observance.Observance.{Observance}
 use Rattle.ics_zone.specs.declared.onsets.Onsets.{Onsets}
 use Rattle.ics_zone.specs.Observances.{Phase, IsZone, phases_of}
-use Rattle.ics_zone.specs.Offsets.{natural, IsOnset, IsInForce, IsBeforeAll, IsOffset, zone_offset}
+use Rattle.ics_zone.specs.Offsets.{natural, IsOnset, IsNotLater, IsInForce, IsBeforeAll, IsOffset, zone_offset}
 use Rattle.ics_zone.specs.Moments.{shown, IsFirstTime, IsInGap}
-use Rattle.ics_zone.specs.ZoneOnsets.{HaveOffsets, IsKnown, IsLatest, IsLatestOf, IsFirstOffset, IsNextPast, IsJump, IsSteady, IsOverridden}
+use Rattle.ics_zone.specs.ZoneOnsets.{HaveOffsets, IsKnown, IsLatest, IsLatestOf, IsFirstOffset, IsNextPast, IsClear, IsJump, IsSteady, IsOverridden}
 use Rattle.ics_zone.specs.ZoneBounds.{zone_offset_short}
 use Rattle.ics_zone.proofs.OffsetLaws.{offset_unique}
 use Rattle.ics_zone.proofs.OnsetLemmas.{natural-is, offset_found}
@@ -144,6 +144,10 @@ module _ (zone : List Phase) (facts : IsZone zone) (some : 0 < length zone) wher
             | inr l ↦ (let same = l.0 in omega (arith, ints, same, late, early))
           ]
 
+  greater_at : (t : ℤ) (i j : ℕ) → i < j → IsNotLater t j t i → ⊥
+  greater_at t i j less (inl l) = omega (arith, ints, l)
+  greater_at t i j less (inr l) = let high = l.1 in omega (arith, less, high)
+
   module _ (local : ℤ) (skipped : (t : ℤ) → shown (zone_offset zone) t ≢ local) where
     -- under one offset the clock does not pass the local, since it would show it
     not_crossed : (offset a s : ℤ) → ((t : ℤ) → a ≤ℤ t → t ≤ℤ s → offset ≡ zone_offset zone t) → a ≤ℤ s → (a +ℤ offset) ≤ℤ local → local ≤ℤ (s +ℤ offset) → ⊥
@@ -157,7 +161,7 @@ module _ (zone : List Phase) (facts : IsZone zone) (some : 0 < length zone) wher
       | inr more ↦ elim (less_or_not_z local (shown (zone_offset zone) t)) [ inl l ↦ inr l | inr l ↦ absurd (skipped t (omega (arith, ints, more, l))) ]
     ]
 
-    module _ (after next : ℤ) (earlier : (t : ℤ) → t ≤ℤ after → shown (zone_offset zone) t <ℤ local) (none : IsNextPast zone local after next) where
+    module _ (after next : ℤ) (earlier : (t : ℤ) → t ≤ℤ after → shown (zone_offset zone) t <ℤ local) (none : IsClear zone local after next) where
       not_past : (s : ℤ) → after <ℤ s → s <ℤ next → IsOffset zone s (zone_offset zone s) → local <ℤ shown (zone_offset zone) s → ⊥
       not_past s late early (inl h) more = elim (less_or_not_z after h.1.since) [
         | inr old ↦ (
@@ -171,8 +175,12 @@ module _ (zone : List Phase) (facts : IsZone zone) (some : 0 < length zone) wher
             let f = h.1 in
             let here = h.2 in
             let until = f.not_after in
-            let low = none f.place f.since h.0 f.onset new (omega (arith, ints, until, early)) in
-            not_crossed h.0.offset_to f.since s (λ t a b. holds_since s h.0 f t a b) until low (omega (arith, ints, here, more)))
+            elim (less_or_not_z local (f.since +ℤ h.0.offset_to)) [
+              | inr low ↦ not_crossed h.0.offset_to f.since s (λ t a b. holds_since s h.0 f t a b) until low (omega (arith, ints, here, more))
+              | inl past ↦ (
+                  let over = none f.place f.since h.0 f.onset new (omega (arith, ints, until, early)) past in
+                  greater_at f.since f.place over.0 over.1.1.1.0 (f.greatest over.0 f.since over.1.0 over.1.1.0 until))
+            ])
       ]
       not_past s late early (inr h) more =
           let here = h.2 in
@@ -209,6 +217,10 @@ module _ (zone : List Phase) (facts : IsZone zone) (some : 0 < length zone) wher
               omega (arith, ints, is, more, not_later))
         ]
       ]
+
+-- where no onset shows a later local, none is to be overridden
+pub past_clear : (zone : List Phase) (local after next : ℤ) → IsNextPast zone local after next → IsClear zone local after next
+past_clear zone local after next none i s p h late early past = absurd (let low = none i s p h late early in omega (arith, ints, low, past))
 
 -- a day before a local the clock shows earlier ones, and a day after it later ones
 module _ (zone : List Phase) (facts : IsZone zone) (local : ℤ) where

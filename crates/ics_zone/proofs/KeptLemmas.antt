@@ -1,5 +1,5 @@
 -- The last and the next onset of a rule.
-use Rattle.std.proofs.Common.{◌≡◌, ℕ, ◌<◌, ◌≤◌, inl, inr, sym, subst, arith, Option, Some, ℤ, ◌<ℤ◌, ◌≤ℤ◌}
+use Rattle.std.proofs.Common.{◌≡◌, ℕ, ◌<◌, ◌≤◌, inl, inr, sym, subst, arith, Option, Some, Contains, ℤ, ◌<ℤ◌, ◌≤ℤ◌}
 use Rattle.std.specs.Prelude.{MatchOption}
 use Rattle.std.proofs.lemmas.Int.{ints}
 use Rattle.ics_rule.specs.Recurrence.{Recurrence}
@@ -8,8 +8,8 @@ use Rattle.ics_rule.specs.Next.{NoneKept, IsNextKept}
 use Rattle.ics_zone.specs.declared.onsets.Onsets.{Onsets}
 use Rattle.ics_zone.specs.Observances.{instant_by}
 use Rattle.ics_zone.specs.Latest.{IsLastKept, IsLast}
-use Rattle.ics_zone.specs.OnsetSets.{IsKeptBy, IsKeptAt}
-use Rattle.ics_zone.proofs.Cases.{less_or_not, not_both}
+use Rattle.ics_zone.specs.OnsetSets.{IsKeptBy, IsKeptAt, Has}
+use Rattle.ics_zone.proofs.Cases.{less_or_not, less_or_not_z, not_both}
 
 -- how many locals are shown up to an instant and up to an end
 pub record IsShownTo (from until t : ℤ) (count : ℕ) : Type 0 where
@@ -105,3 +105,18 @@ module _ (s : Onsets) (r : Recurrence) (has : s.rule ≡ Some r) where
               | inr high ↦ absurd (not_both (is_kept r k.local) k.kept (none k.local high less))
             ]
           ]
+
+-- the earlier of the next listed onset and the next of the rule
+pub earlier_of : (s : Onsets) (after a m : ℤ) → m ≤ℤ a → ((u : ℤ) → Contains s.listed.items u → after <ℤ u → m ≤ℤ u)
+    → ((u : ℤ) → IsKeptAt s u → after <ℤ u → a ≤ℤ u)
+    → (u : ℤ) → Has s u → after <ℤ u → m ≤ℤ u
+earlier_of s after a m e x y u (inl h) l = x u h l
+earlier_of s after a m e x y u (inr h) l = let low = y u h l in omega (arith, ints, e, low)
+
+pub is_of : (s : Onsets) (limit a m : ℤ) → m ≤ℤ a → (m <ℤ a → Contains s.listed.items m) → (a <ℤ limit → IsKeptAt s a) → m <ℤ limit → Has s m
+is_of s limit a m e x y l = elim (less_or_not_z m a) [
+  | inl less ↦ inl (x less)
+  | inr more ↦ (
+      let same : a ≡ m = omega (arith, ints, e, more) in
+      inr (subst (IsKeptAt s) same (y (omega (arith, ints, same, l)))))
+]

@@ -9,6 +9,8 @@ pub mod MomentLemmas
 pub mod ZoneExamples
 pub mod LatestLemmas
 pub mod KeptLemmas
+pub mod HourLemmas
+pub mod MarkLemmas
 pub mod ListingLemmas
 pub mod OnsetsMade
 pub mod ZoneSteps

@@ -49,7 +49,7 @@ not_later_is s t i j (inr l) = omega (arith, ints, l.0)
 module _ (zone : List Phase) (list : List Onsets) (all : AreOnsetsOfAll zone list) (k : ℕ) (o : Onsets) (inside : k < length list)
     (at_place : o ≡ get_or list k o) where
   -- what is there is kept of the observance there
-  onsets_at : (p : Phase) → slice_get zone k ≡ Some p → AreOnsetsOf p o
+  pub onsets_at : (p : Phase) → slice_get zone k ≡ Some p → AreOnsetsOf p o
   onsets_at p there = rw at_place (all.each k p o there)
 
   -- an onset of the observances up to here is of one before, or of this one

@@ -13,3 +13,5 @@ pub mod ZoneBounds
 pub mod Latest
 pub mod OnsetSets
 pub mod ZoneOnsets
+pub mod Hours
+pub mod Marks

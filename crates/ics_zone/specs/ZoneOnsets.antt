@@ -65,6 +65,13 @@ abbrev pub IsNextPast : List Phase → ℤ → ℤ → ℤ → Type 0
 IsNextPast zone local after next =
     (i : ℕ) (s : ℤ) (p : Phase) → IsOnset zone i s p → after <ℤ s → s <ℤ next → (s +ℤ p.offset_to) ≤ℤ local
 
+-- each onset after one instant and before another that begins an offset that shows a later local is overridden at its own instant by one
+-- that does not
+abbrev pub IsClear : List Phase → ℤ → ℤ → ℤ → Type 0
+IsClear zone local after next =
+    (i : ℕ) (s : ℤ) (p : Phase) → IsOnset zone i s p → after <ℤ s → s <ℤ next → local <ℤ (s +ℤ p.offset_to)
+    → (j : ℕ) × ((q : Phase) × (IsOnset zone j s q × ((i < j) × ((s +ℤ q.offset_to) ≤ℤ local))))
+
 -- no onset is after one instant and before another
 abbrev pub NoneBetween : List Phase → ℤ → ℤ → Type 0
 NoneBetween zone after next = (i : ℕ) (s : ℤ) (p : Phase) → IsOnset zone i s p → after <ℤ s → next ≤ℤ s

@@ -1,14 +1,14 @@
 //! Locals as numbers, and the instants at which a clock shows them.
-ghost use Rattle.std.specs.Prelude.{◌≡◌, ℕ, ◌≤◌, ◌<◌, ◌^◌, ◌≤ℤ◌, ◌<ℤ◌};
+ghost use Rattle.std.specs.Prelude.{◌≡◌, ℕ, pos, ◌≤◌, ◌<◌, ◌^◌, ◌+ℤ◌, ◌≤ℤ◌, ◌<ℤ◌};
 ghost use Rattle.jiff_core.specs.Calendar.{IsWithin};
 ghost use Rattle.ics_values.specs.Days.{IsDayNumber};
 ghost use Rattle.ics_rule.specs.Locals.{number};
-ghost use Rattle.ics_zone.specs.Observances.{instant_by};
+ghost use Rattle.ics_zone.specs.Observances.{epoch, instant_by};
 
 use ics_values::{Local, Moment};
 
 /// The seconds from 0000-01-01 to 1970-01-01.
-const EPOCH: i64 = 62_167_219_200;
+pub(crate) const EPOCH: i64 = 62_167_219_200;
 
 /// 9801-01-01T00:00:00, the end of the rules.
 const RULES_END: i64 = 309_289_708_800;
@@ -39,6 +39,16 @@ pub(crate) fn instant(offset: i32, n: u64) -> Moment
     ensures { result ≡ instant_by offset n }
 {
     n as i64 - EPOCH - i64::from(offset)
+}
+
+// The number of the local that a clock with this offset shows at an instant.
+pub(crate) fn shown_at(offset: i32, moment: Moment) -> u64
+    requires offset { IsWithin 86_399 offset }
+    requires near { IsWithin 400_000_000_000 moment }
+    requires low { pos 0 ≤ℤ (moment +ℤ offset +ℤ pos epoch) }
+    ensures { moment ≡ instant_by offset result }
+{
+    (moment + i64::from(offset) + EPOCH) as u64
 }
 
 // How many locals before the end of the rules a clock with this offset shows up to an instant.

@@ -5,7 +5,7 @@ ghost use Rattle.ics_zone.specs.Observances.{Phase};
 ghost use Rattle.ics_zone.specs.Latest.{IsLast};
 ghost use Rattle.ics_zone.specs.OnsetSets.{Has, IsSound};
 ghost use Rattle.ics_zone.specs.Places.{IsMoment};
-ghost use Rattle.ics_zone.specs.ZoneOnsets.{AreOnsetsOfAll, IsLatestOf, IsFirstOffset, IsNextPast, IsOverridden, NoneBetween};
+ghost use Rattle.ics_zone.specs.ZoneOnsets.{AreOnsetsOfAll, IsLatestOf, IsFirstOffset, IsNextPast, IsClear, IsOverridden, NoneBetween};
 
 use crate::onsets::Onsets;
 use ics_values::Moment;
@@ -152,4 +152,23 @@ pub(crate) fn next_past(onsets: &[Onsets], seconds: i64, after: Moment) -> Momen
         next = one.next(from, next);
     }
     next
+}
+
+/// How many seconds after an instant, an hour at most, have no onset that shows a later local than this one, but those that are overridden at
+/// their own instant.
+pub(crate) fn clear_after(onsets: &[Onsets], seconds: i64, after: Moment) -> i64
+    requires sound { All IsSound onsets.now }
+    requires bound { IsMoment seconds }
+    requires low { (seconds -ℤ pos 86_400) ≤ℤ after }
+    requires high { after ≤ℤ (seconds +ℤ pos 86_401) }
+    ensures some { pos 0 ≤ℤ result }
+    ensures most { result ≤ℤ pos 3_600 }
+    ensures clear { (zone : List Phase) → AreOnsetsOfAll zone onsets.now → IsClear zone seconds after (after +ℤ result +ℤ pos 1) }
+{
+    let mut over = [false; 3_600];
+    let mut clear = 3_600;
+    for place in (0..onsets.len()).rev() {
+        clear = onsets[place].clear(seconds, after + 1, &mut over, clear);
+    }
+    clear
 }

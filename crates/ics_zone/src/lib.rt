@@ -1,10 +1,12 @@
 //! Zones: an offset at each instant, and an instant for each local.
 #![tactic(auto)]
 
+mod clear;
 mod clock;
 mod display;
 mod display_fault;
 mod display_text;
+mod hours;
 mod kept;
 mod latest;
 mod laws;

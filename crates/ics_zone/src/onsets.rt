@@ -195,12 +195,13 @@ impl Onsets {
     }
 
     // The first onset of the rule after an instant, or the limit if there is none before it.
-    fn next_by_rule(&self, after: Moment, limit: Moment) -> Moment
+    pub fn next_by_rule(&self, after: Moment, limit: Moment) -> Moment
         requires sound { IsSound self.now }
         requires limit { after <ℤ limit }
         ensures after { after <ℤ result }
         ensures bound { result ≤ℤ limit }
         ensures next { (t : ℤ) → IsKeptAt self.now t → after <ℤ t → result ≤ℤ t }
+        ensures is { result <ℤ limit → IsKeptAt self.now result }
     {
         let Some(rule) = &self.rule else {
             return limit;
@@ -214,12 +215,13 @@ impl Onsets {
     }
 
     // The first listed onset after an instant, or the limit if there is none before it.
-    fn next_listed(&self, after: Moment, limit: Moment) -> Moment
+    pub fn next_listed(&self, after: Moment, limit: Moment) -> Moment
         requires sound { IsSound self.now }
         requires limit { after <ℤ limit }
         ensures after { after <ℤ result }
         ensures bound { result ≤ℤ limit }
         ensures next { (t : ℤ) → Contains self.now.listed.items t → after <ℤ t → result ≤ℤ t }
+        ensures is { result <ℤ limit → Contains self.now.listed.items result }
     {
         let passed = passed(&self.listed, after);
         if passed == self.listed.len() {

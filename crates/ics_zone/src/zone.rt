@@ -7,7 +7,9 @@ ghost use Rattle.ics_zone.specs.Observances.{phase_of, phases_of, has_finer_rule
 ghost use Rattle.ics_zone.specs.Places.{local_seconds, IsDay, IsMoment};
 ghost use Rattle.ics_zone.specs.ZoneOnsets.{AreOnsetsOfAll, HaveOffsets};
 
-use crate::latest::{Steady, first_offset, latest_of, next_onset, next_past, overrides};
+use crate::latest::{
+    Steady, clear_after, first_offset, latest_of, next_onset, next_past, overrides,
+};
 use crate::onsets::Onsets;
 use crate::{Observance, Place, ZoneFault};
 use ics_values::{Frequency, Local, Moment};
@@ -268,6 +270,22 @@ impl Zone {
         moment + i64::from(self.in_force(moment)) > seconds
     }
 
+    // An instant up to which the clock shows earlier locals than one, where it does up to another. Onsets that are overridden at their own
+    // instants are passed over.
+    fn clear_to(&self, seconds: i64, after: Moment) -> Moment
+        requires bound { IsMoment seconds }
+        requires low { (seconds -ℤ pos 86_400) ≤ℤ after }
+        requires high { after ≤ℤ (seconds +ℤ pos 86_401) }
+        requires skipped { (t : ℤ) → shown (zone_offset (phases_of self.now)) t ≢ seconds }
+        requires earlier { (t : ℤ) → t ≤ℤ after → shown (zone_offset (phases_of self.now)) t <ℤ seconds }
+        ensures low { after ≤ℤ result }
+        ensures high { result ≤ℤ (seconds +ℤ pos 86_401) }
+        ensures earlier { (t : ℤ) → t ≤ℤ result → shown (zone_offset (phases_of self.now)) t <ℤ seconds }
+    {
+        let clear = clear_after(&self.onsets, seconds, after);
+        (after + clear).min(seconds + DAY + 1)
+    }
+
     // The instant at which the clock jumps over a local that it never shows: the first onset that shows a later one.
     fn jump(&self, seconds: i64) -> Moment
         requires bound { IsMoment seconds }
@@ -282,6 +300,7 @@ impl Zone {
             if self.is_past(seconds, after) {
                 return after;
             }
+            after = self.clear_to(seconds, after);
         }
         // not reached: a day after the local the clock shows a later one
         after

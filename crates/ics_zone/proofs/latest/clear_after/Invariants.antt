@@ -1,0 +1,14 @@
+use Rattle.std.proofs.Common.{◌≡◌, List, length, pos, ◌+ℤ◌, ◌≤ℤ◌}
+use Rattle.ics_zone.specs.Observances.{Phase}
+use Rattle.ics_zone.specs.ZoneOnsets.{AreOnsetsOfAll}
+use Rattle.ics_zone.proofs.MarkLemmas.{AreOverrides, IsClearFrom}
+use Rattle.ics_zone.proofs.latest.clear_after.Given as goal
+
+abbrev pub invariant-loop-place : goal.invariant-loop-place
+invariant-loop-place l = record {
+  length : length l.over ≡ 3_600;
+  some : pos 0 ≤ℤ l.clear;
+  most : l.clear ≤ℤ pos 3_600;
+  over : (zone : List Phase) → AreOnsetsOfAll zone l.onsets → AreOverrides zone l.place l.fn.seconds (l.fn.after +ℤ pos 1) l.over;
+  clear : (zone : List Phase) → AreOnsetsOfAll zone l.onsets → IsClearFrom zone l.place l.fn.seconds l.fn.after (l.fn.after +ℤ pos 1 +ℤ l.clear);
+}

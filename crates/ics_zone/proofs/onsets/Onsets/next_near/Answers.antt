@@ -1,0 +1,22 @@
+use Rattle.std.proofs.Common.{rules, SFits, w64}
+use Rattle.std.proofs.lemmas.Int.{to_z-of_z}
+use Rattle.ics_zone.proofs.KeptLemmas.{earlier_of, is_of}
+use Rattle.ics_zone.proofs.onsets.Onsets.next_near.Goals as goal
+
+pub returns-clause-next : goal.returns-clause-next
+returns-clause-next c =
+    let fits : SFits w64 c.args.after = c.ranges.after in
+    let kept : SFits w64 c.next_by_hours-kept.result = search rules in
+    let small : SFits w64 c.next_listed.result = search rules in
+    rw (to_z-of_z w64 c.next_listed.result small)
+    (earlier_of c.args.self.now c.args.after c.next_by_hours-kept.result c.next_listed.result (simp to_z-of_z at c.next_listed.ensures.bound)
+    (simp to_z-of_z at c.next_listed.ensures.next) (simp to_z-of_z at c.next_by_hours-kept.ensures.next))
+
+pub returns-clause-is : goal.returns-clause-is
+returns-clause-is c =
+    let fits : SFits w64 c.args.limit = c.ranges.limit in
+    let kept : SFits w64 c.next_by_hours-kept.result = search rules in
+    let small : SFits w64 c.next_listed.result = search rules in
+    rw (to_z-of_z w64 c.next_listed.result small)
+    (is_of c.args.self.now c.args.limit c.next_by_hours-kept.result c.next_listed.result (simp to_z-of_z at c.next_listed.ensures.bound)
+    (simp to_z-of_z at c.next_listed.ensures.is) (simp to_z-of_z at c.next_by_hours-kept.ensures.is))
