@@ -63,6 +63,15 @@ def dense_locals(count):
     return calendar([*dense('20230101T000000'), *locals_in('dense', stamps(count, 61))])
 
 
+def overridden(count):
+    """A time zone with a gap behind onsets at every second, each of which another observance overrides, and locals in the gap."""
+    own = zone('overridden', part('STANDARD', '20230101T000000', '+0000', '+2300', 'RRULE:' + EACH_SECOND),
+               part('STANDARD', '20230101T000000', '+0000', '-2300', 'RRULE:%s;UNTIL=20240110T115959Z' % EACH_SECOND),
+               part('STANDARD', '20240110T120000', '+0000', '+0100'))
+    times = [(datetime(2024, 1, 9, 14) + timedelta(seconds=7 * number)).strftime('%Y%m%dT%H%M%S') for number in range(count)]
+    return calendar([*own, *locals_in('overridden', times)])
+
+
 def apart(count):
     """Events ten years apart, in a time zone that changes daily since the year 0001 so many times as COUNT says."""
     own = zone('counted', part('STANDARD', '00010101T000000', '+0000', '+0100', 'RRULE:FREQ=DAILY;COUNT=3000000'))
@@ -84,5 +93,6 @@ ROWS = [
     ('20,000 onsets by RDATE, as many locals', lambda: [('a.ics', listed(20_000))], ['2024-01-01', '3d']),
     ('1,000 locals of a dense zone', lambda: [('a.ics', dense_locals(1_000))], ['2024-01-01', '3d']),
     ('10,000 locals of a dense zone', lambda: [('a.ics', dense_locals(10_000))], ['2024-01-01', '9d']),
+    ('100 locals in a gap behind overridden onsets', lambda: [('a.ics', overridden(100))], ['2024-01-08', '4d']),
     ('245 events ten years apart, COUNT', lambda: [('a.ics', apart(245))], ['2024-01-05', '1d']),
 ]
