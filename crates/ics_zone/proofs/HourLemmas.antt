@@ -30,7 +30,8 @@ told_by s r has from local is early (Some hours) h = λ t low high.
       same = h (natural (t +ℤ s.offset_from +ℤ pos epoch)) (omega (arith, ints, at, is, low)) (omega (arith, ints, at, is, high));
     }
 
-module _ (s : Onsets) (hours : Hours) (t : ℤ) (told : IsToldAt s hours t) (n : ℕ) (at : t ≡ instant_by s.offset_from n) (b : Bool) (test : b ≡ keeps hours n) where
+module _ (s : Onsets) (hours : Hours) (t : ℤ) (told : IsToldAt s hours t) (n : ℕ) (at : t ≡ instant_by s.offset_from n) (b : Bool)
+    (test : b ≡ keeps hours n) where
   same_local : n ≡ told.local
   same_local = let is = told.is in omega (arith, ints, at, is)
 

@@ -1,8 +1,7 @@
 -- The marks at the onsets of an hour.
-use Rattle.std.proofs.Common.{◌≡◌, ℕ, ◌+◌, ◌<◌, ◌≤◌, ◌⊎◌, inl, inr, Bool, true, false, refl, sym, subst, ◌∙◌, arith, List, Some, slice_get, length, get_or, set, replicate, ℤ, pos, ◌+ℤ◌, ◌-ℤ◌, ◌<ℤ◌, ◌≤ℤ◌}
+use Rattle.std.proofs.Common.{◌≡◌, ℕ, ◌+◌, ◌<◌, ◌≤◌, ◌⊎◌, inl, inr, Bool, false, sym, subst, arith, List, Some, slice_get, length, get_or, replicate, ℤ, pos, ◌+ℤ◌, ◌-ℤ◌, ◌<ℤ◌, ◌≤ℤ◌}
 use Rattle.std.proofs.lemmas.Int.{ints}
-use Rattle.std.proofs.lemmas.Grind.{get_or-set_at}
-use Rattle.std.proofs.lemmas.List.{get_or-set_other, get_or-replicate, get_or_past, length-replicate}
+use Rattle.std.proofs.lemmas.List.{get_or-replicate, get_or_past, length-replicate}
 use Rattle.std.proofs.lemmas.Option.{slice_get_within}
 use Rattle.ics_zone.specs.declared.onsets.Onsets.{Onsets}
 use Rattle.ics_zone.specs.Observances.{Phase}
@@ -10,27 +9,9 @@ use Rattle.ics_zone.specs.Offsets.{natural, IsOnset}
 use Rattle.ics_zone.specs.OnsetSets.{Has}
 use Rattle.ics_zone.specs.ZoneOnsets.{AreOnsetsOfAll}
 use Rattle.ics_zone.specs.Marks.{IsMarked, AreMarks, AreClear}
-use Rattle.ics_zone.proofs.Cases.{less_or_not, less_same_or_more, less_or_not_z, not_both}
+use Rattle.ics_zone.proofs.Cases.{less_or_not, less_or_not_z, not_both}
 use Rattle.ics_zone.proofs.OnsetLemmas.{natural-is}
 use Rattle.ics_zone.proofs.ZoneSteps.{phase_there, onsets_at}
-
--- a mark more
-pub marked_stays : (marks : List Bool) (k j : ℕ) → k < length marks → IsMarked marks j → IsMarked (set marks k true) j
-marked_stays marks k j inside h = elim (less_same_or_more j k) [
-  | inl less ↦ get_or-set_other marks k j true false (λ e. omega (arith, e, less)) ∙ h
-  | inr (inl same) ↦ get_or-set_at marks k j true false same inside
-  | inr (inr more) ↦ get_or-set_other marks k j true false (λ e. omega (arith, e, more)) ∙ h
-]
-
-pub marked_here : (marks : List Bool) (k : ℕ) → k < length marks → IsMarked (set marks k true) k
-marked_here marks k inside = get_or-set_at marks k k true false refl inside
-
-pub marked_by : (marks : List Bool) (k j : ℕ) → IsMarked (set marks k true) j → IsMarked marks j ⊎ (j ≡ k)
-marked_by marks k j h = elim (less_same_or_more j k) [
-  | inl less ↦ inl (sym (get_or-set_other marks k j true false (λ e. omega (arith, e, less))) ∙ h)
-  | inr (inl same) ↦ inr same
-  | inr (inr more) ↦ inl (sym (get_or-set_other marks k j true false (λ e. omega (arith, e, more))) ∙ h)
-]
 
 module _ (s : Onsets) (local from : ℤ) where
   -- the marks of one onset more
@@ -114,7 +95,8 @@ module _ (zone : List Phase) (list : List Onsets) (all : AreOnsetsOfAll zone lis
               let found = over m mark in
               let behind = found.1.1.1.0 in
               let low = found.1.1.1.1 in
-              (found.0, (found.1.0, (subst (λ t. IsOnset zone found.0 t found.1.0) (sym at) found.1.1.0, (omega (arith, behind, same), omega (arith, ints, low, at))))))
+              let there = subst (λ t. IsOnset zone found.0 t found.1.0) (sym at) found.1.1.0 in
+              (found.0, (found.1.0, (there, (omega (arith, behind, same), omega (arith, ints, low, at))))))
           | inr now_low ↦ absurd (let low = now_low.1 in omega (arith, ints, low, at, later, to))
         ])
   ]

@@ -92,7 +92,8 @@ impl Onsets {
         requires near { IsWithin 400_000_000_000 at }
         requires inside { second < length over.old }
         ensures length { length over.new ≡ length over.old }
-        ensures marks { (k : ℕ) → IsMarked over.new k → IsMarked over.old k ⊎ ((k ≡ second) × ((at +ℤ self.now.offset_to) ≤ℤ seconds)) }
+        ensures marks { (k : ℕ) → IsMarked over.new k
+            → IsMarked over.old k ⊎ ((k ≡ second) × ((at +ℤ self.now.offset_to) ≤ℤ seconds)) }
         ensures stay { (k : ℕ) → IsMarked over.old k → IsMarked over.new k }
         ensures open { result ≡ false → seconds <ℤ (at +ℤ self.now.offset_to) → IsMarked over.new second }
     {

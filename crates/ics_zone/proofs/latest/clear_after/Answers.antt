@@ -41,7 +41,8 @@ loop-place-preserved c =
           (subst (λ n. AreOverrides zone n c.args.seconds (c.args.after +ℤ pos 1) c.loop-place.over) again (over_before zone all)) marks
           (c.args.after +ℤ pos 1 +ℤ to_z w64 c.loop-place.clear-bits) (c.args.after +ℤ pos 1 +ℤ c.clear-clear.result)
           (omega (arith, ints, c.clear-clear.ensures.most)) clear
-          (subst (λ n. IsClearFrom zone n c.args.seconds c.args.after (c.args.after +ℤ pos 1 +ℤ to_z w64 c.loop-place.clear-bits)) again (clear_before zone all));
+          (subst (λ n. IsClearFrom zone n c.args.seconds c.args.after (c.args.after +ℤ pos 1 +ℤ to_z w64 c.loop-place.clear-bits)) again
+          (clear_before zone all));
     })
 
 pub returns-clause-clear : goal.returns-clause-clear

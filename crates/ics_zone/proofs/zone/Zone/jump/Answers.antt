@@ -30,7 +30,8 @@ returns-then-is_past-clause-jump c =
     rw (to_z-of_z w64 c.next_past-after.result next)
     (jump_at_next (phases_of c.args.self.now) (zone_facts c.args.self.now) known.some c.args.seconds c.requires.skipped
     (to_z w64 c.loop-after.after-bits) c.next_past-after.result earlier
-    (past_clear (phases_of c.args.self.now) c.args.seconds (to_z w64 c.loop-after.after-bits) c.next_past-after.result (none (phases_of c.args.self.now) known.asked)) later)
+    (past_clear (phases_of c.args.self.now) c.args.seconds (to_z w64 c.loop-after.after-bits) c.next_past-after.result
+    (none (phases_of c.args.self.now) known.asked)) later)
 
 pub loop-after-smaller : goal.loop-after-smaller
 loop-after-smaller c =
@@ -60,7 +61,8 @@ clear_to-after-requires-clause-earlier c =
     rw (to_z-of_z w64 c.next_past-after.result next, to_z-of_z w64 c.args.seconds fits)
     (earlier_at_next (phases_of c.args.self.now) (zone_facts c.args.self.now) known.some c.args.seconds c.requires.skipped
     (to_z w64 c.loop-after.after-bits) c.next_past-after.result earlier
-    (past_clear (phases_of c.args.self.now) c.args.seconds (to_z w64 c.loop-after.after-bits) c.next_past-after.result (none (phases_of c.args.self.now) known.asked))
+    (past_clear (phases_of c.args.self.now) c.args.seconds (to_z w64 c.loop-after.after-bits) c.next_past-after.result
+    (none (phases_of c.args.self.now) known.asked))
     not_later)
 
 pub returns-clause-jump : goal.returns-clause-jump
