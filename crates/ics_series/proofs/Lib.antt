@@ -1,7 +1,9 @@
 pub mod AfterKeyLemmas
 pub mod AfterLemmas
 pub mod AgendaLemmas
+pub mod AheadLemmas
 pub mod BeginsLemmas
+pub mod DayLawLemmas
 pub mod DayLemmas
 pub mod DayTokenLemmas
 mod Examples
@@ -29,8 +31,10 @@ pub mod MasterSumLemmas
 pub mod MeetingLemmas
 pub mod MergedMembers
 pub mod MetLemmas
+pub mod NearDayLemmas
 pub mod NearLemmas
 pub mod OccursLemmas
+pub mod OnDayLemmas
 pub mod OverriddenLemmas
 mod OverrideExamples
 pub mod OverrideLemmas

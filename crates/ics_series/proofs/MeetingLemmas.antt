@@ -20,15 +20,15 @@ pub both-back : (a b : Bool) → a ≡ true → b ≡ true → (a && b) ≡ true
 both-back true b e f = f
 both-back false b e f = e
 
-either : (a b : Bool) → (a || b) ≡ true → (a ≡ true) ⊎ (b ≡ true)
+pub either : (a b : Bool) → (a || b) ≡ true → (a ≡ true) ⊎ (b ≡ true)
 either true b e = inl refl
 either false b e = inr e
 
-either-left : (a b : Bool) → a ≡ true → (a || b) ≡ true
+pub either-left : (a b : Bool) → a ≡ true → (a || b) ≡ true
 either-left true b e = refl
 either-left false b e = let f : false ≡ true = e in absurd cc
 
-either-right : (a b : Bool) → b ≡ true → (a || b) ≡ true
+pub either-right : (a b : Bool) → b ≡ true → (a || b) ≡ true
 either-right true b e = refl
 either-right false b e = e
 

@@ -1,9 +1,12 @@
 pub mod After
+pub mod Ahead
 pub mod Chosen
 pub mod Clocks
 pub mod Contents
 pub mod DayKeys
+pub mod DayLaws
 pub mod DayTokens
+pub mod Days
 pub mod Entry
 pub mod EntryLaws
 pub mod EventLaws
@@ -20,7 +23,9 @@ pub mod Meeting
 pub mod Meets
 pub mod Merged
 pub mod MergedLaws
+pub mod NearDays
 pub mod Occurs
+pub mod OnDays
 pub mod Overridden
 pub mod Parts
 pub mod Placed

@@ -22,6 +22,7 @@ ghost use Rattle.ics_series.specs.Sources.{master_of, recurring, AreApart, AreAp
 ghost use Rattle.ics_series.specs.Steps.{HasStepBound};
 ghost use Rattle.ics_series.specs.Uids.{AreSortedFrom};
 ghost use Rattle.ics_series.specs.Versions.{seen, subject_cmp, subject_seen, AreChosen};
+ghost use Rattle.ics_series.specs.declared.window.Window.{Window};
 
 use crate::chosen::{chosen, is_named, overrides};
 use crate::feed::{Coming, Feed};
@@ -63,6 +64,8 @@ impl<'a> Agenda<'a> {
             × (⟦<Agenda<'a> as Coming>⟧.coming agenda ≡ after_key (option_map (λ key. key_rank key.now) after.entry) list)) }
         ensures sources { IfOk result (λ agenda. AreSources (map said_by files.entry.now) (display_clock display.entry.now) window
             (option_map (λ key. key_rank key.now) after.entry) (⟦<Agenda<'a> as Coming>⟧.sources agenda)) }
+        ensures whole { IfOk result (λ _. (w : Window) → (list : List Entry)
+            × IsListing entry_cmp (IsListed (map said_by files.entry.now) (display_clock display.entry.now) w) list) }
     {
         let chosen = chosen(alloc, files, display)?;
         let parts = parts(alloc, files, display, &chosen, window, after)?;
@@ -111,8 +114,8 @@ fn parts<'a>(
         (merged entry_cmp (map part_coming parts.items))) }
     ensures sources { IfOk result (λ parts. AreSources (map said_by files.entry.now) (display_clock display.entry.now) window
         (option_map (λ key. key_rank key.now) after.entry) (flat_map part_sources parts.items)) }
-    ensures whole { IfOk result (λ _. (list : List Entry)
-        × IsListing entry_cmp (IsListed (map said_by files.entry.now) (display_clock display.entry.now) window) list) }
+    ensures whole { IfOk result (λ _. (w : Window) → (list : List Entry)
+        × IsListing entry_cmp (IsListed (map said_by files.entry.now) (display_clock display.entry.now) w) list) }
     ensures sorted { IfOk result (λ parts. AreSortedFrom 1 (map part_coming parts.items)) }
 {
     let overrides = overrides(alloc, chosen)?;

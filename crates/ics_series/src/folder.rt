@@ -3,13 +3,18 @@ ghost use Rattle.std.specs.Prelude.{◌≡◌, List, map, IfOk};
 ghost use Rattle.std.specs.Option.{option_map};
 ghost use Rattle.ics_calendar.specs.Event.{said_by};
 ghost use Rattle.ics_series.specs.After.{after_key};
+ghost use Rattle.ics_series.specs.Ahead.{IsAhead};
 ghost use Rattle.ics_series.specs.Clocks.{display_clock};
+ghost use Rattle.ics_series.specs.DayKeys.{day_key_rank};
 ghost use Rattle.ics_series.specs.Entry.{Entry, entry_cmp, key_rank};
 ghost use Rattle.ics_series.specs.Listing.{IsListing};
 ghost use Rattle.ics_series.specs.Meets.{IsListed, IsToCome};
+ghost use Rattle.ics_series.specs.OnDays.{after_day_key, on_day_cmp, IsOnDay, OnDay};
 ghost use Rattle.ics_series.specs.Sources.{AreSources};
 
 use crate::agenda::Agenda;
+use crate::day_key::DayKey;
+use crate::days::Days;
 use crate::feed::Coming;
 use crate::key::Key;
 use crate::prepare::prepare_each;
@@ -77,5 +82,19 @@ impl Folder {
             (option_map (λ key. key_rank key.now) after.entry) (⟦<Agenda<'a> as Coming>⟧.sources agenda)) }
     {
         Agenda::new(self.alloc, &self.files, &self.display, window, after)
+    }
+
+    /// The occurrences that meet the window, under each of their days there, by day and then in the
+    /// order of their keys; after a key only those of this listing that come after it.
+    pub fn days<'a>(
+        &'a self,
+        window: Window,
+        after: Option<&DayKey>,
+    ) -> Result<Days<'a>, AllocError>
+        ensures { IfOk result (λ days. (list : List OnDay)
+            × IsListing on_day_cmp (IsOnDay (map said_by self.entry.now.files) (display_clock self.entry.now.display) window) list
+            × IsAhead days (after_day_key (option_map (λ key. day_key_rank key.now) after.entry) list)) }
+    {
+        Days::new(self.alloc, &self.files, &self.display, window, after)
     }
 }

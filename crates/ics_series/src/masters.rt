@@ -13,6 +13,7 @@ ghost use Rattle.ics_series.specs.Singles.{is_single};
 ghost use Rattle.ics_series.specs.Sources.{Recurring, IsFrom};
 ghost use Rattle.ics_series.specs.Sources.Source.{Of};
 ghost use Rattle.ics_series.specs.Versions.{seen, AreChosen};
+ghost use Rattle.ics_series.specs.declared.window.Window.{Window};
 
 use crate::feed::Coming;
 use crate::key::Key;
@@ -46,8 +47,8 @@ pub(crate) fn push_series<'a>(
     ensures sources { IfOk result (λ _. HasSources (map said_by files.entry.now) (display_clock display.entry.now) window
         (option_map (λ key. key_rank key.now) after.entry) (map seen chosen.entry.now)
         (flat_map part_sources parts.old.items) (flat_map part_sources parts.new.items)) }
-    ensures whole { IfOk result (λ _. (lists : List (List Entry))
-        × AreLists (map said_by files.entry.now) (display_clock display.entry.now) window None (map seen chosen.entry.now) lists) }
+    ensures whole { IfOk result (λ _. (w : Window) → (lists : List (List Entry))
+        × AreLists (map said_by files.entry.now) (display_clock display.entry.now) w None (map seen chosen.entry.now) lists) }
 {
     for place in 0..chosen.len() {
         if let Some(series) = series_at(alloc, files, display, chosen, place, window, after)? {
@@ -76,8 +77,8 @@ fn series_at<'a>(
     ensures sources { (version : Version) → slice_get chosen.entry.now place ≡ Some version → IfOk result (λ given. MatchOption given (Unit {0})
         (λ series. (m : Recurring) × IsSourceOf (map said_by files.entry.now) (display_clock display.entry.now) window
         (option_map (λ key. key_rank key.now) after.entry) (seen version) m × (series_sources series ≡ Of m ∷ []))) }
-    ensures whole { (version : Version) → slice_get chosen.entry.now place ≡ Some version → IfOk result (λ _.
-        HasWhole (map said_by files.entry.now) (display_clock display.entry.now) window (seen version)) }
+    ensures whole { (version : Version) → slice_get chosen.entry.now place ≡ Some version → IfOk result (λ _. (w : Window)
+        → HasWhole (map said_by files.entry.now) (display_clock display.entry.now) w (seen version)) }
 {
     let version = chosen[place];
     let event = version.spot.event(files);

@@ -29,6 +29,6 @@ returns c =
     record {
       sources = sources-behind files display c.args.window after c.args.chosen.now c.requires.chosen (flat_map part_sources c.push_series.new.parts.items) sources;
       listing = pushed-listing files display c.args.window after c.args.chosen.now singles (map part_coming c.push_series.new.parts.items) c.requires.chosen c.in_ok-singles.ensures pushed;
-      whole = whole-parts files display c.args.window c.args.chosen.now c.requires.chosen c.in_ok-push_series.ensures.whole;
+      whole = λ w. whole-parts files display w c.args.chosen.now c.requires.chosen (c.in_ok-push_series.ensures.whole w);
       sorted = parts-sorted c.push_series.new.parts.items sources.more sources.behind sources.rises;
     }

@@ -31,7 +31,7 @@ pub loop-place-init : goal.loop-place-init
 loop-place-init c = record {
   lists = lists-none (map said_by c.args.files.now) (display_clock c.args.display.now) c.args.window (option_map (λ key. key_rank key.now) c.args.after) (map part_coming c.args.parts.now.items);
   sources = sources-none (map said_by c.args.files.now) (display_clock c.args.display.now) c.args.window (option_map (λ key. key_rank key.now) c.args.after) (flat_map part_sources c.args.parts.now.items);
-  whole = ([], lists-none (map said_by c.args.files.now) (display_clock c.args.display.now) c.args.window None []);
+  whole = λ w. ([], lists-none (map said_by c.args.files.now) (display_clock c.args.display.now) w None []);
 }
 
 pub loop-place-preserved : goal.loop-place-preserved
@@ -47,8 +47,6 @@ loop-place-preserved c =
     (Recurs (map said_by c.args.files.now) (seen (get_or c.args.chosen.now c.loop-place.place none)) → ⊥)
     (λ (series : Series). IsListing entry_cmp (IsOfVersion (map said_by c.args.files.now) (display_clock c.args.display.now) c.args.window (option_map (λ key. key_rank key.now) c.args.after) (seen (get_or c.args.chosen.now c.loop-place.place none))) (series_of series (series_left series))) =
     c.in_ok-series.ensures.series v there in
-    let whole : HasWhole (map said_by c.args.files.now) (display_clock c.args.display.now) c.args.window (seen (get_or c.args.chosen.now c.loop-place.place none)) = c.in_ok-series.ensures.whole v there in
-    let lists = c.loop-place.invariant.whole in
     record {
       sources =
           elim c.match-branch-2.branch [
@@ -81,16 +79,16 @@ loop-place-preserved c =
                 (versions-skip files display c.args.window after c.args.chosen.now c.loop-place.place (c.loop-place.place + 1) none before now (add-one c.loop-place.place) c.loop-place-test.true c.loop-place.invariant.lists
                 (matched-none _ _ c.in_ok-series.field-0 w.in_default.is given))
           ];
-      whole = (
-        lists.0 ++ whole.0 ∷ [],
-        versions-more files display c.args.window None c.args.chosen.now c.loop-place.place (c.loop-place.place + 1) none whole.0 [] lists.0 (lists.0 ++ whole.0 ∷ []) (add-one c.loop-place.place) c.loop-place-test.true lists.1 whole.1 refl,
-      );
+      whole = λ w.
+          let whole : HasWhole (map said_by c.args.files.now) (display_clock c.args.display.now) w (seen (get_or c.args.chosen.now c.loop-place.place none)) = c.in_ok-series.ensures.whole v there w in
+          let lists = c.loop-place.invariant.whole w in (
+            lists.0 ++ whole.0 ∷ [],
+            versions-more files display w None c.args.chosen.now c.loop-place.place (c.loop-place.place + 1) none whole.0 [] lists.0 (lists.0 ++ whole.0 ∷ []) (add-one c.loop-place.place) c.loop-place-test.true lists.1 whole.1 refl,
+          );
     }
 
 pub returns : goal.returns
 returns c =
-    let lists = c.loop-place.invariant.whole in
-    let whole = versions-all (map said_by c.args.files.now) (display_clock c.args.display.now) c.args.window None c.args.chosen.now c.loop-place.place [] lists.0 c.loop-place-test.false lists.1 in
     record {
       lists =
           versions-all (map said_by c.args.files.now) (display_clock c.args.display.now) c.args.window (option_map (λ key. key_rank key.now) c.args.after) c.args.chosen.now c.loop-place.place
@@ -98,5 +96,8 @@ returns c =
       sources =
           sources-all (map said_by c.args.files.now) (display_clock c.args.display.now) c.args.window (option_map (λ key. key_rank key.now) c.args.after) c.args.chosen.now c.requires.chosen c.loop-place.place
           (flat_map part_sources c.args.parts.now.items) (flat_map part_sources c.loop-place.parts.items) c.loop-place-test.false c.loop-place.invariant.sources;
-      whole = (whole.more, whole.are);
+      whole = λ w.
+          let lists = c.loop-place.invariant.whole w in
+          let whole = versions-all (map said_by c.args.files.now) (display_clock c.args.display.now) w None c.args.chosen.now c.loop-place.place [] lists.0 c.loop-place-test.false lists.1 in
+          (whole.more, whole.are);
     }

@@ -2,6 +2,7 @@ use Rattle.std.proofs.Common.{List, [], None, map, take}
 use Rattle.std.specs.List.{flat_map}
 use Rattle.std.specs.Option.{option_map}
 use Rattle.ics_calendar.specs.Event.{said_by}
+use Rattle.ics_series.specs.declared.window.Window.{Window}
 use Rattle.ics_series.specs.Clocks.{display_clock}
 use Rattle.ics_series.specs.Entry.{Entry, key_rank}
 use Rattle.ics_series.specs.Masters.{HasLists, HasSources}
@@ -18,5 +19,5 @@ invariant-loop-place l = record {
   sources :
       HasSources (map said_by l.files) (display_clock l.display) l.window (option_map (λ key. key_rank key.now) l.after) (map seen (take l.place l.chosen))
       (flat_map part_sources l.initial.parts.items) (flat_map part_sources l.parts.items);
-  whole : (lists : List (List Entry)) × HasLists (map said_by l.files) (display_clock l.display) l.window None (map seen (take l.place l.chosen)) [] lists;
+  whole : (w : Window) → (lists : List (List Entry)) × HasLists (map said_by l.files) (display_clock l.display) w None (map seen (take l.place l.chosen)) [] lists;
 }

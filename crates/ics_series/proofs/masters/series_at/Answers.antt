@@ -31,8 +31,8 @@ returns-then-is_single c = record {
   sources = λ version there. tt;
   series = λ version there.
       not-single (map said_by c.args.files.now) c.args.chosen.now c.args.place none version c.requires.within there c.event-event.result.now c.event-event.ensures.event (sym c.is_single.ensures ∙ c.if-is_single.true);
-  whole = λ version there.
-      single-none (map said_by c.args.files.now) (display_clock c.args.display.now) c.args.window (seen version)
+  whole = λ version there w.
+      single-none (map said_by c.args.files.now) (display_clock c.args.display.now) w (seen version)
       (not-single (map said_by c.args.files.now) c.args.chosen.now c.args.place none version c.requires.within there c.event-event.result.now c.event-event.ensures.event (sym c.is_single.ensures ∙ c.if-is_single.true));
 }
 
@@ -78,7 +78,7 @@ returns-clause-series c = λ version there.
     (series_of c.in_ok-series.series (series_left c.in_ok-series.series)) c.in_ok-series.ensures.listing)
 
 pub returns-clause-whole : goal.returns-clause-whole
-returns-clause-whole c = λ version there.
+returns-clause-whole c = λ version there w.
     let files = map said_by c.args.files.now in
     let display = display_clock c.args.display.now in
     let v = get_or c.args.chosen.now c.args.place none in
@@ -87,9 +87,9 @@ returns-clause-whole c = λ version there.
     let uid : c.as_slice-2.result.now ≡ c.event-event.result.now.uid = c.as_slice-2.ensures ∙ ap (λ (e : Event). e.uid) c.event.view_is in
     let is_event : IsEvent c.event-event.result.now = search rules in
     let are = subst (λ u. AreOverridden u (map seen c.args.chosen.now) c.in_ok-overridden.overridden.items) uid c.in_ok-overridden.ensures.overridden in
-    subst (λ (v : Version). HasWhole (map said_by c.args.files.now) (display_clock c.args.display.now) c.args.window (seen v))
+    subst (λ (v : Version). HasWhole (map said_by c.args.files.now) (display_clock c.args.display.now) w (seen v))
     (version-there c.args.chosen.now c.args.place none version c.requires.within there)
-    (whole-version files display c.args.window c.args.chosen.now c.requires.chosen (seen v) (there-in seen c.args.chosen.now c.args.place v stands) c.event-event.result.now c.event-event.ensures.event recurs
+    (whole-version files display w c.args.chosen.now c.requires.chosen (seen v) (there-in seen c.args.chosen.now c.args.place v stands) c.event-event.result.now c.event-event.ensures.event recurs
     c.zones-zones.result c.zones-zones.ensures.clocks is_event c.in_ok-overridden.overridden.items are)
 
 pub returns-clause-sources : goal.returns-clause-sources

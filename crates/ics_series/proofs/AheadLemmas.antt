@@ -1,0 +1,223 @@
+-- What is still to come of a listing under each day: from day to day, and from its beginning.
+use Rattle.std.specs.Prelude.{◌<ℤ◌, ◌≤ℤ◌, ◌&&◌, ◌||◌, int_lt, if◌then◌else◌, Result, Ok, Err, OnErr}
+use Rattle.std.specs.List.{filter}
+use Rattle.std.specs.Int.{int_max, int_min}
+use Rattle.std.specs.Ordering.{int_eq, is_lt}
+use Rattle.std.specs.declared.cmp.Ordering.TheVariants.{Less}
+use Rattle.std.proofs.Common.{◌≡◌, ℕ, zero, suc, ℤ, pos, ◌+ℤ◌, ◌-ℤ◌, List, [], ◌∷◌, ◌++◌, map, Option, Some, None, ◌⊎◌, inl, inr, ⊎_elim, Bool, true, false, cond, refl, sym, ◌∙◌, ap, subst, arith}
+use Rattle.std.proofs.lemmas.Int.{ints}
+use Rattle.ics_calendar.specs.Event.{FileSaid}
+use Rattle.ics_zone.specs.Places.{IsNear}
+use Rattle.ics_series.specs.declared.window.Window.{Window}
+use Rattle.ics_series.specs.After.{is_after}
+use Rattle.ics_series.specs.Ahead.{is_today, today, IsAheadOf, IsLater}
+use Rattle.ics_series.specs.Clocks.{Clock, midnight}
+use Rattle.ics_series.specs.DayKeys.{DayRank}
+use Rattle.ics_series.specs.Entry.{Entry, Rank, entry_cmp, rank_cmp, rank_of}
+use Rattle.ics_series.specs.Listing.{IsIn, IsListing}
+use Rattle.ics_series.specs.Meets.{IsListed, IsToCome, Meets}
+use Rattle.ics_series.specs.NearDays.{first_near, last_near, Begins, IsNearDay}
+use Rattle.ics_series.specs.OnDays.{after_day_key, is_day_after, on_day, on_day_cmp, IsOnDay, OnDay}
+use Rattle.ics_series.proofs.FilterLemmas.{listing-filter}
+use Rattle.ics_series.proofs.ListingLemmas.{one-listing}
+use Rattle.ics_series.proofs.MeetingLemmas.{both-back, either, either-left, either-right, equal-true, less-true, true-equal, true-less}
+use Rattle.ics_series.proofs.NearDayLemmas.{meets-near, near-first, near-last, occurs-forward}
+use Rattle.ics_series.proofs.OnDayLemmas.{day-first, joined, on_day_total, shown-today, today-listing, today-shown}
+use Rattle.ics_series.proofs.ToComeLemmas.{and-true, come-listed, lt-Less}
+
+-- an occurrence of the folder under this day
+abbrev IsUnder : List FileSaid → Clock → Window → ℤ → OnDay → Type 0
+IsUnder files display w day p = IsOnDay files display w p × (p.day ≡ day)
+
+module _ (files : List FileSaid) (display : Clock) (near : (t : ℤ) → IsNear (display.offset t)) (w : Window) where
+  -- a shown occurrence meets what the window holds near its day, which is a day that a clock can show there
+  shown-near : (p : OnDay) (n : Window) → IsOnDay files display w p → IsNearDay w p.day n → Meets n p.entry
+  shown-near p n s h = meets-near display near w p.entry s.listed.1 (occurs-forward files display p.entry s.listed.0) p.day s.on n h.from h.to h.all
+
+  pub shown-first : (p : OnDay) → IsOnDay files display w p → first_near w ≤ℤ p.day
+  shown-first p s = near-first display near w p.entry s.listed.1 (occurs-forward files display p.entry s.listed.0) p.day s.on
+
+  pub shown-last : (p : OnDay) → IsOnDay files display w p → p.day ≤ℤ last_near w
+  shown-last p s = near-last display near w p.entry s.listed.1 (occurs-forward files display p.entry s.listed.0) p.day s.on
+
+  pub near-by : (n : Window) (day other : ℤ) → IsNearDay w day n → day ≡ other → IsNearDay w other n
+  near-by n day other h e = subst (λ d. IsNearDay w d n) e h
+
+  -- those of a day, from what meets the window near it
+  of-day : (day : ℤ) (n : Window) → IsNearDay w day n → (xs : List Entry) → IsListing entry_cmp (IsListed files display n) xs
+      → IsListing on_day_cmp (IsUnder files display w day) (today display w day xs)
+  of-day day n h xs l =
+      today-listing files display near w day (IsListed files display n) (IsUnder files display w day) xs l
+      (λ o p t. (today-shown files display near w day o p.0 t, refl))
+      (λ p q. (
+        q.1,
+        (q.0.listed.0, shown-near p n q.0 (subst (λ d. IsNearDay w d n) (sym q.1) h)),
+        subst (λ d. is_today display w d p.entry ≡ true) q.1 (shown-today files display near w p q.0),
+      ))
+
+  -- those of later days begin with those of the next
+  next-day : (day next : ℤ) → next ≡ day +ℤ pos 1 → (today-list later-list : List OnDay) → IsListing on_day_cmp (IsUnder files display w next) today-list → IsListing on_day_cmp (IsLater files display w next) later-list
+      → IsListing on_day_cmp (IsLater files display w day) (today-list ++ later-list)
+  next-day day next e xs ys h k =
+      joined on_day_cmp (IsUnder files display w next) (IsLater files display w next) (IsLater files display w day) xs ys h k
+      (λ p q a b. let d = a.1 in let l = b.later in day-first p q (omega (arith, ints, d, l)))
+      (λ p m. ⊎_elim (λ a. let d = a.1 in record { shown = a.0; later = omega (arith, ints, d, e) }) (λ b. let l = b.later in record { shown = b.shown; later = omega (arith, ints, l, e) }) m)
+      (λ p l. by p l (int_eq p.day next) refl)
+    where
+      by : (p : OnDay) → IsLater files display w day p → (b : Bool) → int_eq p.day next ≡ b → IsUnder files display w next p ⊎ IsLater files display w next p
+      by p l true t = inl (l.shown, equal-true p.day next t)
+      by p l false t = let later = l.later in inr (record { shown = l.shown; later = past p later t })
+        where
+          past : (p : OnDay) → day <ℤ p.day → int_eq p.day next ≡ false → next <ℤ p.day
+          past p later t = grind (arith, ints, e)
+
+  -- a later day's are those of the days behind
+  later-behind : (day next : ℤ) → next ≡ day +ℤ pos 1 → (later : List OnDay) → IsListing on_day_cmp (IsLater files display w day) later
+      → IsListing on_day_cmp (IsLater files display w next) (filter (λ p. int_lt next p.day) later)
+  later-behind day next e later l =
+      listing-filter (λ p. int_lt next p.day) on_day_cmp (IsLater files display w day) (IsLater files display w next) later l
+      (λ p s t. record { shown = s.shown; later = less-true next p.day t })
+      (λ p s. let m = s.later in (record { shown = s.shown; later = omega (arith, ints, m, e) }, true-less next p.day m))
+
+  -- The next day: where nothing is to come under the day, that day's come next.
+  pub ahead-turned : (day next : ℤ) → next ≡ day +ℤ pos 1 → (n : Window) → IsNearDay w next n → (none coming : List Entry) → none ≡ [] → IsListing entry_cmp (IsListed files display n) coming
+      → (list : List OnDay) → IsAheadOf files display w day none list → IsAheadOf files display w next coming list
+  ahead-turned day next e n h none coming empty l list a =
+      let later = filter (λ p. int_lt next p.day) a.later in
+      let behind = later-behind day next e a.later a.listing in
+      let whole = next-day day next e (today display w next coming) later (of-day next n h coming l) behind in
+      let same : a.later ≡ today display w next coming ++ later = one-listing on_day_cmp on_day_total (IsLater files display w day) a.later (today display w next coming ++ later) a.listing whole in
+      record {
+        later = later;
+        listing = behind;
+        is = a.is ∙ (ap (λ xs. today display w day xs ++ a.later) empty ∙ same);
+      }
+
+  -- past the last day nothing is to come
+  none-later : (day : ℤ) → last_near w ≤ℤ day → IsListing on_day_cmp (IsLater files display w day) []
+  none-later day h = record {
+    rises = tt;
+    exact = λ p. (λ m. absurd m, λ l. let later = l.later in let last = shown-last p l.shown in absurd (omega (arith, ints, h, later, last)));
+  }
+
+  pub ahead-ended : (day : ℤ) → last_near w ≤ℤ day → (none : List Entry) → none ≡ [] → (list : List OnDay) → IsAheadOf files display w day none list → list ≡ []
+  ahead-ended day h none empty list a =
+      a.is ∙ (ap (λ xs. today display w day xs ++ a.later) empty ∙ one-listing on_day_cmp on_day_total (IsLater files display w day) a.later [] a.listing (none-later day h))
+
+  -- There is a list of those of later days, and of all.
+  own-day : (day : ℤ) → (xs : List Entry) → IsListing entry_cmp (IsListed files display w) xs → IsListing on_day_cmp (IsUnder files display w day) (today display w day xs)
+  own-day day xs l =
+      today-listing files display near w day (IsListed files display w) (IsUnder files display w day) xs l
+      (λ o p t. (today-shown files display near w day o p.0 t, refl))
+      (λ p q. (q.1, q.0.listed, subst (λ d. is_today display w d p.entry ≡ true) q.1 (shown-today files display near w p q.0)))
+
+  some-later : (xs : List Entry) → IsListing entry_cmp (IsListed files display w) xs → (n : ℕ) (day : ℤ) → last_near w ≤ℤ (day +ℤ pos n) → (later : List OnDay) × IsListing on_day_cmp (IsLater files display w day) later
+  some-later xs l zero day h = ([], none-later day (omega (arith, ints, h)))
+  some-later xs l (suc n) day h =
+      let rest = some-later xs l n (day +ℤ pos 1) (omega (arith, ints, h)) in
+      (today display w (day +ℤ pos 1) xs ++ rest.0, next-day day (day +ℤ pos 1) refl (today display w (day +ℤ pos 1) xs) rest.0 (own-day (day +ℤ pos 1) xs l) rest.1)
+
+  -- as many days on as there are
+  days-on : (a b : ℤ) → (n : ℕ) × (b ≤ℤ (a +ℤ pos n))
+  days-on a b = by (b -ℤ a) refl
+    where
+      by : (d : ℤ) → b -ℤ a ≡ d → (n : ℕ) × (b ≤ℤ (a +ℤ pos n))
+      by (pos n) e = (n, omega (arith, ints, e))
+      by d e = (0, omega (arith, ints, e))
+
+  pub later-than : (xs : List Entry) → IsListing entry_cmp (IsListed files display w) xs → (day : ℤ) → (later : List OnDay) × IsListing on_day_cmp (IsLater files display w day) later
+  later-than xs l day = let on = days-on day (last_near w) in some-later xs l on.0 day on.1
+
+  -- Where a listing begins: at a day, and there behind a key.
+  module _ (after : Option DayRank) (day : ℤ) (key : Option Rank) (begins : Begins w after day key) (n : Window) (near-day : day ≤ℤ last_near w → IsNearDay w day n) where
+    -- those of the day that come after the key
+    abbrev IsBegun : OnDay → Type 0
+    IsBegun p = IsUnder files display w day p × (is_after key p.entry ≡ true)
+
+    after-come : (k : Option Rank) (o : Entry) → IsToCome files display n k o → is_after k o ≡ true
+    after-come None o p = refl
+    after-come (Some k) o p = ap is_lt p.1
+
+    come-after : (k : Option Rank) (o : Entry) → IsListed files display n o → is_after k o ≡ true → IsToCome files display n k o
+    come-after None o p t = p
+    come-after (Some k) o p t = (p, lt-Less (rank_cmp k (rank_of o)) t)
+
+    begun-listing : (coming : List Entry) → IsListing entry_cmp (IsToCome files display n key) coming → IsListing on_day_cmp IsBegun (today display w day coming)
+    begun-listing coming l =
+        today-listing files display near w day (IsToCome files display n key) IsBegun coming l
+        (λ o p t. ((today-shown files display near w day o (come-listed files display n key o p).0 t, refl), after-come key o p))
+        (λ p q. (
+          q.0.1,
+          come-after key p.entry (q.0.0.listed.0, shown-near p n q.0.0 (subst (λ d. IsNearDay w d n) (sym q.0.1) (near-day (subst (λ d. d ≤ℤ last_near w) q.0.1 (shown-last p q.0.0))))) q.1,
+          subst (λ d. is_today display w d p.entry ≡ true) q.0.1 (shown-today files display near w p q.0.0),
+        ))
+
+    -- what comes after the key of a day
+    abbrev IsCome : OnDay → Type 0
+    IsCome p = IsOnDay files display w p × (is_day_after after p ≡ true)
+
+    begun-come : (p : OnDay) → IsBegun p ⊎ IsLater files display w day p → IsCome p
+    begun-come p (inl b) = (
+      b.0.0,
+      begins.behind p (shown-first p b.0.0) ∙ either-right (int_lt day p.day) (int_eq p.day day && is_after key p.entry) (both-back (int_eq p.day day) (is_after key p.entry) (true-equal p.day day b.0.1) b.1),
+    )
+    begun-come p (inr l) = (l.shown, begins.behind p (shown-first p l.shown) ∙ either-left (int_lt day p.day) (int_eq p.day day && is_after key p.entry) (true-less day p.day l.later))
+
+    come-begun : (p : OnDay) → IsCome p → IsBegun p ⊎ IsLater files display w day p
+    come-begun p c =
+        ⊎_elim
+        (λ t. inr (record { shown = c.0; later = less-true day p.day t }))
+        (λ t. let parts = and-true (int_eq p.day day) (is_after key p.entry) t in inl ((c.0, equal-true p.day day parts.0), parts.1))
+        (either (int_lt day p.day) (int_eq p.day day && is_after key p.entry) (sym (begins.behind p (shown-first p c.0)) ∙ c.1))
+
+    all-shown : (xs : List Entry) → IsListing entry_cmp (IsListed files display w) xs → (list : List OnDay) × IsListing on_day_cmp (IsOnDay files display w) list
+    all-shown xs l =
+        let all = later-than xs l (first_near w -ℤ pos 1) in (
+          all.0,
+          record {
+            rises = all.1.rises;
+            exact = λ p. (
+              λ m. ((all.1.exact p).0 m).shown,
+              λ s. (all.1.exact p).1 (record { shown = s; later = let first = shown-first p s in omega (arith, ints, first) }),
+            );
+          },
+        )
+
+    pub begun-ahead : (xs coming : List Entry) → IsListing entry_cmp (IsListed files display w) xs → IsListing entry_cmp (IsToCome files display n key) coming
+        → (list : List OnDay) × IsListing on_day_cmp (IsOnDay files display w) list × IsAheadOf files display w day coming (after_day_key after list)
+    begun-ahead xs coming l come =
+        let all = all-shown xs l in
+        let later = later-than xs l day in
+        let after-key = listing-filter (λ p. is_day_after after p) on_day_cmp (IsOnDay files display w) IsCome all.0 all.1 (λ p s t. (s, t)) (λ p c. c) in
+        let begun = joined on_day_cmp IsBegun (IsLater files display w day) IsCome (today display w day coming) later.0 (begun-listing coming come) later.1
+        (λ p q a b. let d = a.0.1 in let m = b.later in day-first p q (omega (arith, ints, d, m))) begun-come come-begun in (
+          all.0,
+          all.1,
+          record {
+            later = later.0;
+            listing = later.1;
+            is = one-listing on_day_cmp on_day_total IsCome (after_day_key after all.0) (today display w day coming ++ later.0) after-key begun;
+          },
+        )
+
+-- What is drawn of the day's: it is skipped, or given.
+module _ (files : List FileSaid) (display : Clock) (w : Window) (day : ℤ) (o : Entry) (coming rest : List Entry) (drawn : coming ≡ o ∷ rest) where
+  pub ahead-skipped : is_today display w day o ≡ false → (list : List OnDay) → IsAheadOf files display w day coming list → IsAheadOf files display w day rest list
+  ahead-skipped not-today list a = record {
+    later = a.later;
+    listing = a.listing;
+    is = a.is ∙ ap (λ xs. xs ++ a.later) (ap (today display w day) drawn ∙ ap (λ b. map (on_day day) (cond b (o ∷ filter (λ x. is_today display w day x) rest) (filter (λ x. is_today display w day x) rest))) not-today);
+  }
+
+  pub ahead-given : is_today display w day o ≡ true → (list : List OnDay) → IsAheadOf files display w day coming list
+      → (more : List OnDay) × IsAheadOf files display w day rest more × (list ≡ on_day day o ∷ more)
+  ahead-given is-today list a = (
+    today display w day rest ++ a.later,
+    record { later = a.later; listing = a.listing; is = refl },
+    a.is ∙ ap (λ xs. xs ++ a.later) (ap (today display w day) drawn ∙ ap (λ b. map (on_day day) (cond b (o ∷ filter (λ x. is_today display w day x) rest) (filter (λ x. is_today display w day x) rest))) is-today),
+  )
+
+-- what holds in any case holds on an error
+pub on-err : {T E : Type 0} (P : Type 0) (r : Result T E) → P → OnErr r P
+on-err P (Ok _) h = tt
+on-err P (Err _) h = h

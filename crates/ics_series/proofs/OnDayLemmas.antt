@@ -1,0 +1,106 @@
+-- Listings under each day.
+use Rattle.std.specs.Prelude.{◌<ℤ◌, ◌≤ℤ◌, ◌&&◌, ◌||◌, int_lt, int_le, if◌then◌else◌}
+use Rattle.std.specs.Cmp.{IsTotalOrder}
+use Rattle.std.specs.List.{filter}
+use Rattle.std.specs.Int.{int_max, int_min}
+use Rattle.std.specs.Ordering.{int_cmp, int_eq, is_lt, ordering_then}
+use Rattle.std.specs.declared.cmp.Ordering.{Ordering}
+use Rattle.std.specs.declared.cmp.Ordering.TheVariants.{Less, Equal, Greater}
+use Rattle.std.proofs.Common.{◌≡◌, ℕ, zero, suc, ℤ, pos, ◌+ℤ◌, ◌-ℤ◌, List, [], ◌∷◌, ◌++◌, map, Option, Some, None, ◌⊎◌, inl, inr, ⊎_elim, Bool, true, false, refl, sym, ◌∙◌, ap, subst, arith}
+use Rattle.std.proofs.lemmas.Cmp.{int_cmp_total, on_total, then_total, tied_itself}
+use Rattle.std.proofs.lemmas.Int.{ints}
+use Rattle.ics_calendar.specs.Event.{FileSaid}
+use Rattle.ics_zone.specs.Places.{IsNear}
+use Rattle.ics_series.specs.declared.window.Window.{Window}
+use Rattle.ics_series.specs.After.{is_after}
+use Rattle.ics_series.specs.Ahead.{is_today, today, IsAheadOf, IsLater}
+use Rattle.ics_series.specs.Clocks.{Clock, midnight}
+use Rattle.ics_series.specs.Days.{is_on}
+use Rattle.ics_series.specs.Entry.{Entry, Rank, entry_cmp, rank_cmp, rank_of}
+use Rattle.ics_series.specs.EntryLaws.{rank_total}
+use Rattle.ics_series.specs.Listing.{IsIn, IsListing}
+use Rattle.ics_series.specs.Meeting.{is_met}
+use Rattle.ics_series.specs.Meets.{IsListed, IsToCome, Meets}
+use Rattle.ics_series.specs.NearDays.{first_near, last_near}
+use Rattle.ics_series.specs.Occurs.{Occurs}
+use Rattle.ics_series.specs.OnDays.{day_rank_of, on_day, on_day_cmp, IsOnDay, OnDay}
+use Rattle.ics_series.specs.Rising.{IsBefore, Rises}
+use Rattle.ics_series.proofs.FilterLemmas.{listing-filter}
+use Rattle.ics_series.proofs.GivenLemmas.{in-map, map-in}
+use Rattle.ics_series.proofs.ListingLemmas.{one-listing}
+use Rattle.ics_series.proofs.MeetingLemmas.{both-back, is_met-meets, meets-is_met}
+use Rattle.ics_series.proofs.NearDayLemmas.{meets-near, near-first, near-last, occurs-forward}
+use Rattle.ics_series.proofs.PlacedLemmas.{in-append, in-append_left, in-append_right}
+use Rattle.ics_series.proofs.ToComeLemmas.{and-true, come-listed}
+
+pub on_day_total : IsTotalOrder on_day_cmp
+on_day_total = on_total day_rank_of (then_total (on_total (λ r. r.day) int_cmp_total) (on_total (λ r. r.key) rank_total))
+
+-- Two listings, of which each of the first comes before each of the second.
+module _ {A : Type 0} (R : A → A → Ordering) where
+  before-append : (x : A) (xs ys : List A) → IsBefore R x xs → ((y : A) → IsIn y ys → R x y ≡ Less) → IsBefore R x (xs ++ ys)
+  before-append x [] [] h f = tt
+  before-append x [] (y ∷ ys) h f = (f y (inl refl), before-append x [] ys tt (λ z m. f z (inr m)))
+  before-append x (z ∷ xs) ys h f = (h.0, before-append x xs ys h.1 f)
+
+  rises-append : (xs ys : List A) → Rises R xs → Rises R ys → ((x y : A) → IsIn x xs → IsIn y ys → R x y ≡ Less) → Rises R (xs ++ ys)
+  rises-append [] ys h k f = k
+  rises-append (x ∷ xs) ys h k f = (before-append x xs ys h.0 (λ y m. f x y (inl refl) m), rises-append xs ys h.1 k (λ z y m n. f z y (inr m) n))
+
+  pub joined : (P Q S : A → Type 0) (xs ys : List A) → IsListing R P xs → IsListing R Q ys → ((x y : A) → P x → Q y → R x y ≡ Less)
+      → ((x : A) → P x ⊎ Q x → S x) → ((x : A) → S x → P x ⊎ Q x) → IsListing R S (xs ++ ys)
+  joined P Q S xs ys h k f to from = record {
+    rises = rises-append xs ys h.rises k.rises (λ x y m n. f x y ((h.exact x).0 m) ((k.exact y).0 n));
+    exact = λ x. (
+      λ m. to x (⊎_elim (λ n. inl ((h.exact x).0 n)) (λ n. inr ((k.exact x).0 n)) (in-append x xs ys m)),
+      λ s. ⊎_elim (λ p. in-append_left x xs ys ((h.exact x).1 p)) (λ q. in-append_right x xs ys ((k.exact x).1 q)) (from x s),
+    );
+  }
+
+-- Under one day the order is that of the occurrences.
+by-key : (day : ℤ) (x y : Entry) → on_day_cmp (on_day day x) (on_day day y) ≡ entry_cmp x y
+by-key day x y = ap (λ c. ordering_then c (entry_cmp x y)) (tied_itself int_cmp_total day)
+
+before-under : (day : ℤ) (x : Entry) (ys : List Entry) → IsBefore entry_cmp x ys → IsBefore on_day_cmp (on_day day x) (map (on_day day) ys)
+before-under day x [] h = tt
+before-under day x (y ∷ ys) h = (by-key day x y ∙ h.0, before-under day x ys h.1)
+
+rises-under : (day : ℤ) (xs : List Entry) → Rises entry_cmp xs → Rises on_day_cmp (map (on_day day) xs)
+rises-under day [] h = tt
+rises-under day (x ∷ xs) h = (before-under day x xs h.0, rises-under day xs h.1)
+
+-- an earlier day goes first
+int-less : (a b : ℤ) → a <ℤ b → int_cmp a b ≡ Less
+int-less a b h = grind (arith, ints)
+
+pub day-first : (p q : OnDay) → p.day <ℤ q.day → on_day_cmp p q ≡ Less
+day-first p q h = ap (λ c. ordering_then c (rank_cmp (rank_of p.entry) (rank_of q.entry))) (int-less p.day q.day h)
+
+module _ (files : List FileSaid) (display : Clock) (near : (t : ℤ) → IsNear (display.offset t)) (w : Window) where
+  -- what is shown under a day: occurrences that meet the window and have the day there
+  pub shown-today : (p : OnDay) → IsOnDay files display w p → is_today display w p.day p.entry ≡ true
+  shown-today p s = both-back (is_met w p.entry) (is_on display w p.entry p.day) (meets-is_met w p.entry s.listed.1) s.on
+
+  pub today-shown : (day : ℤ) (o : Entry) → Occurs files display o → is_today display w day o ≡ true → IsOnDay files display w (on_day day o)
+  today-shown day o occurs t =
+      let parts = and-true (is_met w o) (is_on display w o day) t in
+      record { listed = (occurs, is_met-meets w o parts.0); on = parts.1 }
+
+  pub today-listing : (day : ℤ) (P : Entry → Type 0) (Q : OnDay → Type 0) (xs : List Entry) → IsListing entry_cmp P xs
+      → ((o : Entry) → P o → is_today display w day o ≡ true → Q (on_day day o))
+      → ((p : OnDay) → Q p → (p.day ≡ day) × P p.entry × (is_today display w day p.entry ≡ true)) → IsListing on_day_cmp Q (today display w day xs)
+  today-listing day P Q xs l f g =
+      let kept = listing-filter (λ o. is_today display w day o) entry_cmp P (λ o. P o × (is_today display w day o ≡ true)) xs l (λ o p t. (p, t)) (λ o h. h) in
+      record {
+        rises = rises-under day (filter (λ o. is_today display w day o) xs) kept.rises;
+        exact = λ p. (
+          λ m.
+              let k = in-map (on_day day) p (filter (λ o. is_today display w day o) xs) m in
+              let h = (kept.exact k.0).0 k.1 in
+              subst Q (sym k.2) (f k.0 h.0 h.1),
+          λ q.
+              let k = g p q in
+              let same : on_day day p.entry ≡ p = ap (λ d. on_day d p.entry) (sym k.0) in
+              subst (λ x. IsIn x (today display w day xs)) same (map-in (on_day day) p.entry (filter (λ o. is_today display w day o) xs) ((kept.exact p.entry).1 (k.1, k.2))),
+        );
+      }

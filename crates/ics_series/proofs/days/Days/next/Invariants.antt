@@ -1,0 +1,12 @@
+use Rattle.std.proofs.Common.{◌≡◌, List}
+use Rattle.ics_series.specs.Ahead.{IsAhead}
+use Rattle.ics_series.specs.OnDays.{OnDay}
+use Rattle.ics_series.proofs.days.Days.next.Given as goal
+
+-- the days before have nothing more
+abbrev pub invariant-loop-day : goal.invariant-loop-day
+invariant-loop-day l = record {
+  day : l.self.day ≡ l.day;
+  window : l.self.window ≡ l.fn.self.window;
+  ahead : (list : List OnDay) → IsAhead l.fn.self list → IsAhead l.self list;
+}

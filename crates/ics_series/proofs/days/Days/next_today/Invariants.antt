@@ -1,0 +1,15 @@
+use Rattle.std.proofs.Common.{◌≡◌, List, length}
+use Rattle.ics_series.specs.Ahead.{agenda_coming, IsAhead}
+use Rattle.ics_series.specs.OnDays.{OnDay}
+use Rattle.ics_series.proofs.days.Days.next_today.Given as goal
+
+-- what is skipped is none of the day's
+abbrev pub invariant-loop-occurrence : goal.invariant-loop-occurrence
+invariant-loop-occurrence l = record {
+  day : l.self.day ≡ l.fn.self.day;
+  window : l.self.window ≡ l.fn.self.window;
+  ahead : (list : List OnDay) → IsAhead l.fn.self list → IsAhead l.self list;
+}
+
+abbrev pub decreases-loop-occurrence : goal.decreases-loop-occurrence
+decreases-loop-occurrence l = length (agenda_coming l.self.agenda)

@@ -1,0 +1,49 @@
+-- What is still to come of a listing under each day.
+use Rattle.std.specs.Prelude.{◌≡◌, ◌<ℤ◌, ◌&&◌, ◌∷◌, ◌++◌, ℤ, Bool, List, filter, map, Option, Some, None}
+use Rattle.ics_calendar.specs.Event.{said_by, FileSaid}
+use Rattle.ics_series.specs.declared.agenda.Agenda.{Agenda}
+use Rattle.ics_series.specs.declared.days.Days.{Days}
+use Rattle.ics_series.specs.declared.occurrence.Occurrence.{Occurrence}
+use Rattle.ics_series.specs.declared.window.Window.{Window}
+use Rattle.ics_series.specs.Clocks.{Clock, display_clock}
+use Rattle.ics_series.specs.Days.{is_on}
+use Rattle.ics_series.specs.Entry.{Entry, entry_cmp, entry_of}
+use Rattle.ics_series.specs.Leads.{listed, past}
+use Rattle.ics_series.specs.Listing.{IsListing}
+use Rattle.ics_series.specs.Meeting.{is_met}
+use Rattle.ics_series.specs.Merged.{merged}
+use Rattle.ics_series.specs.OnDays.{on_day, on_day_cmp, IsOnDay, OnDay}
+use Rattle.ics_series.specs.Parts.{part_coming}
+
+-- an occurrence meets the window and has this day there
+abbrev pub is_today : Clock → Window → ℤ → Entry → Bool
+is_today display w day o = is_met w o && is_on display w o day
+
+-- those of a list that do, under the day
+abbrev pub today : Clock → Window → ℤ → List Entry → List OnDay
+today display w day list = map (on_day day) (filter (λ o. is_today display w day o) list)
+
+-- an occurrence of the folder under a later day
+pub record IsLater (files : List FileSaid) (display : Clock) (w : Window) (day : ℤ) (p : OnDay) : Type 0 where
+  pub shown : IsOnDay files display w p
+  pub later : day <ℤ p.day
+
+-- what is to come under a day, and then all under later days
+pub record IsAheadOf (files : List FileSaid) (display : Clock) (w : Window) (day : ℤ) (near : List Entry) (list : List OnDay) : Type 0 where
+  pub later : List OnDay
+  pub listing : IsListing on_day_cmp (IsLater files display w day) later
+  pub is : list ≡ today display w day near ++ later
+
+-- what an agenda has to come
+abbrev pub agenda_coming : Agenda → List Entry
+agenda_coming agenda = merged entry_cmp (map (λ l. past agenda.merge.last (listed l.head (part_coming l.feed))) agenda.merge.leads.items)
+
+-- this list is still to come
+abbrev pub IsAhead : Days → List OnDay → Type 0
+IsAhead days list =
+    IsAheadOf (map said_by days.files.now) (display_clock days.display.now) days.window days.day (agenda_coming days.agenda) list
+
+-- what had a list to come may give this under the day, and then has the rest
+abbrev pub GivesToday : ℤ → List OnDay → Option Occurrence → List OnDay → Type 0
+GivesToday day list None rest = list ≡ rest
+GivesToday day list (Some o) rest = list ≡ on_day day (entry_of o) ∷ rest

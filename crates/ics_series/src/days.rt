@@ -1,0 +1,143 @@
+//! The listing of a window under each day.
+ghost use Rattle.std.specs.Prelude.{◌≡◌, ◌≤ℤ◌, ◌<ℤ◌, ◌+ℤ◌, pos, IsTrue, List, [], map, IfOk, IfSome, OnErr, OnOk, None};
+ghost use Rattle.std.specs.Option.{option_map};
+ghost use Rattle.ics_values.specs.Days.{IsDayNumber};
+ghost use Rattle.ics_calendar.specs.Event.{said_by};
+ghost use Rattle.ics_series.specs.Clocks.{display_clock};
+ghost use Rattle.ics_series.specs.DayKeys.{day_key_rank};
+ghost use Rattle.ics_series.specs.Entry.{entry_of, key_rank};
+ghost use Rattle.ics_series.specs.Listing.{IsListing};
+ghost use Rattle.ics_series.specs.NearDays.{first_near, last_near, Begins};
+ghost use Rattle.ics_series.specs.OnDays.{after_day_key, on_day_cmp, GivesOnDay, IsOnDay, OnDay};
+
+use crate::agenda::Agenda;
+use crate::day_key::DayKey;
+use crate::feed::Feed;
+use crate::key::Key;
+use crate::near_day::{first_near, last_near, near_day};
+use crate::occurrence::Occurrence;
+use crate::occurrence_days::is_on;
+use crate::window::Window;
+use ics_calendar::FileEvents;
+use ics_zone::Display;
+use std::alloc::{AllocError, Global};
+
+/// The occurrences of a folder that meet a window, each under each of its days there, by day and then
+/// in the order of their keys. Each is found when it is asked for, and of the days only one is looked
+/// at.
+#[derive(Drop)]
+pub struct Days<'a> {
+    alloc: Global,
+    files: &'a [FileEvents],
+    display: &'a Display,
+    window: Window,
+    day: i32,
+    // What is still to come of what meets the window near the day.
+    agenda: Agenda<'a>,
+    ghost not_before: { first_near window ≤ℤ day },
+}
+
+impl<'a> Days<'a> {
+    ghost use Rattle.ics_series.specs.Ahead.{agenda_coming, is_today, GivesToday, IsAhead};
+
+    // The occurrences to come of the events of these files, under their days.
+    pub(crate) fn new(
+        alloc: Global,
+        files: &'a [FileEvents],
+        display: &'a Display,
+        window: Window,
+        after: Option<&DayKey>,
+    ) -> Result<Days<'a>, AllocError>
+        ensures { IfOk result (λ days. (list : List OnDay)
+            × IsListing on_day_cmp (IsOnDay (map said_by files.entry.now) (display_clock display.entry.now) window) list
+            × IsAhead days (after_day_key (option_map (λ key. day_key_rank key.now) after.entry) list)) }
+    {
+        let (day, key) = begin(&window, after);
+        let near = near_day(&window, day.min(last_near(&window)));
+        let agenda = Agenda::new(alloc, files, display, near, key)?;
+        Ok(Days {
+            alloc,
+            files,
+            display,
+            window,
+            day,
+            agenda,
+        })
+    }
+
+    /// The first of the list still to come, with the day that it stands under, which then has the rest
+    /// to come; None where there is none. After an `AllocError` the list is unchanged.
+    pub fn next(&mut self) -> Result<Option<(i32, Occurrence<'a>)>, AllocError>
+        ensures ok { (list : List OnDay) → IsAhead self.old list
+            → IfOk result (λ given. (rest : List OnDay) × GivesOnDay list given rest × IsAhead self.new rest) }
+        ensures err { (list : List OnDay) → IsAhead self.old list → OnErr result (IsAhead self.new list) }
+        ensures within { IfOk result (λ given. IfSome given (λ entry. IsDayNumber entry.0)) }
+    {
+        for day in self.day..last_near(&self.window) {
+            if let Some(occurrence) = self.next_today()? {
+                return Ok(Some((day, occurrence)));
+            }
+            self.turn()?;
+        }
+        match self.next_today()? {
+            None => Ok(None),
+            Some(occurrence) => Ok(Some((self.day, occurrence))),
+        }
+    }
+
+    // The next of the day's.
+    fn next_today(&mut self) -> Result<Option<Occurrence<'a>>, AllocError>
+        ensures day { self.new.day ≡ self.old.day }
+        ensures window { self.new.window ≡ self.old.window }
+        ensures within { IfOk result (λ given. IfSome given (λ occurrence. IsDayNumber self.new.day)) }
+        ensures none { IfOk result (λ given. given ≡ None → agenda_coming self.new.agenda ≡ []) }
+        ensures ok { (list : List OnDay) → IsAhead self.old list
+            → IfOk result (λ given. (rest : List OnDay) × IsAhead self.new rest × GivesToday self.new.day list given rest) }
+        ensures err { (list : List OnDay) → IsAhead self.old list → OnErr result (IsAhead self.new list) }
+    {
+        while let Some(occurrence) = self.agenda.next()? {
+            if self.is_today(&occurrence) {
+                return Ok(Some(occurrence));
+            }
+        }
+        Ok(None)
+    }
+
+    // Goes on to the next day.
+    fn turn(&mut self) -> Result<(), AllocError>
+        requires more { self.old.day <ℤ last_near self.old.window }
+        requires none { agenda_coming self.old.agenda ≡ [] }
+        ensures day { OnOk result (self.new.day ≡ self.old.day +ℤ pos 1) }
+        ensures window { self.new.window ≡ self.old.window }
+        ensures ahead { (list : List OnDay) → IsAhead self.old list → IsAhead self.new list }
+    {
+        let day = self.day + 1;
+        let near = near_day(&self.window, day);
+        let agenda = Agenda::new(self.alloc, self.files, self.display, near, None)?;
+        self.agenda = agenda;
+        self.day = day;
+        Ok(())
+    }
+
+    // Whether an occurrence meets the window and has this day there.
+    fn is_today(&self, occurrence: &Occurrence<'_>) -> bool
+        ensures today { result ≡ is_today (display_clock self.now.display.now) self.now.window self.now.day (entry_of occurrence.now) }
+        ensures within { IsTrue result → IsDayNumber self.now.day }
+    {
+        let met = self.window.is_met(occurrence);
+        let on = is_on(self.display, &self.window, occurrence, self.day);
+        met & on
+    }
+}
+
+// The day with which a listing begins, and the key after which it does there.
+fn begin<'k>(window: &Window, after: Option<&'k DayKey>) -> (i32, Option<&'k Key>)
+    ensures { Begins window.now (option_map (λ key. day_key_rank key.now) after.entry) result.0
+        (option_map (λ key. key_rank key.now) result.1) }
+{
+    let first = first_near(window);
+    match after {
+        Some(after) if first <= after.day => (after.day, Some(&after.key)),
+        _ => (first, None),
+    }
+}

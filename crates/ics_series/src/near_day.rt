@@ -1,0 +1,52 @@
+//! The days under which a window's occurrences are shown.
+ghost use Rattle.std.specs.Prelude.{◌≡◌, ◌≤ℤ◌, ◌<ℤ◌, pos, neg_ℤ};
+ghost use Rattle.ics_values.specs.Days.{IsDayNumber};
+ghost use Rattle.ics_series.specs.Clocks.{display_clock};
+ghost use Rattle.ics_series.specs.Days.{date_at};
+ghost use Rattle.ics_series.specs.NearDays.{first_near, last_near, IsNearDay};
+
+use crate::window::Window;
+use ics_values::Moment;
+use ics_zone::{Display, Place};
+
+const DAY: i64 = 86_400;
+
+/// The date that a display zone shows.
+pub(crate) fn date_at(display: &Display, moment: Moment) -> i32
+    requires early { neg_ℤ (pos 62_135_769_601) ≤ℤ moment }
+    requires late { moment <ℤ pos 251_824_464_000 }
+    ensures day { result ≡ date_at (display_clock display.now) moment }
+    ensures within { IsDayNumber result }
+{
+    display.local(moment).day
+}
+
+/// Two days before the window's first day in UTC. No clock is two days from UTC's, so that none shows
+/// an earlier date in the window.
+pub(crate) fn first_near(window: &Window) -> i32
+    ensures { result ≡ first_near window.now }
+{
+    window.from.div_euclid(DAY) as i32 - 2
+}
+
+/// Two days after its last day in UTC, past which none shows a later one.
+pub(crate) fn last_near(window: &Window) -> i32
+    ensures { result ≡ last_near window.now }
+{
+    (window.to - 1).div_euclid(DAY) as i32 + 2
+}
+
+/// What a window holds of a day in UTC, of the two days before it and of the two after it, whether or
+/// not it leaves out what began before.
+pub(crate) fn near_day(window: &Window, day: i32) -> Window
+    requires first { first_near window.now ≤ℤ day }
+    requires last { day ≤ℤ last_near window.now }
+    ensures { IsNearDay window.now day result }
+{
+    let day = i64::from(day);
+    Window {
+        from: window.from.max((day - 2) * DAY),
+        to: window.to.min((day + 3) * DAY),
+        notstarted: false,
+    }
+}
