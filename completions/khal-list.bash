@@ -25,7 +25,7 @@ _khal_list() {
     --day-format) words='{name} {date}' ;;
     *)
         case $command:$word in
-        list:-*) words='--zone --limit --after --notstarted --format --day-format --help' ;;
+        list:-*) words='--zone --limit --after --notstarted --every-day --format --day-format --help' ;;
         at:-*) words='--zone --help' ;;
         :-*) words='--help' ;;
         :*) words='list at help' ;;

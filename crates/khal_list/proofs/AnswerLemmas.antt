@@ -1,6 +1,7 @@
 -- Answers to the same words agree.
-use Rattle.std.proofs.Common.{◌≡◌, ◌⊎◌, inl, inr, ◌+ℤ◌, ℕ, ℤ, pos, Bool, true, false, true≢false, List, [], Some, None, Ok, Err, Result, Option, IsTrue, ◌↔◌, option_and_then, ◌&&◌, if◌then◌else◌, refl, sym, ◌∙◌, ap, ap₂, subst}
-use Rattle.std.specs.Prelude.{int_le, int_lt, option_map, unwrap_or, IsSome}
+use Rattle.std.proofs.Common.{◌≡◌, ◌⊎◌, inl, inr, ◌+ℤ◌, ℕ, ℤ, pos, Bool, true, false, true≢false, List, [], ◌∷◌, Some, None, Ok, Err, Result, Option, IsTrue, ◌↔◌, option_and_then, ◌&&◌, if◌then◌else◌, arith, refl, sym, ◌∙◌, ap, ap₂, subst}
+use Rattle.std.specs.Prelude.{int_le, int_lt, option_map, IsSome}
+use Rattle.std.specs.Int.{int_max}
 use Rattle.clap.specs.Words.{Text, IsAmong}
 use Rattle.ics_zone.specs.DisplayTexts.{said_by}
 use Rattle.ics_zone.specs.Displays.{offset_of, moment_of}
@@ -8,17 +9,25 @@ use Rattle.ics_zone.specs.Zones.{zone_of, zone_by}
 use Rattle.ics_zone.specs.declared.display.Display.{Display}
 use Rattle.ics_zone.specs.declared.display.Kind.{Kind}
 use Rattle.ics_zone.specs.declared.display.Kind.TheVariants.{Fixed, Posix}
-use Rattle.ics_series.specs.Entry.{key_rank}
-use Rattle.ics_series.specs.Tokens.{OneSpelling}
+use Rattle.ics_series.specs.Clocks.{display_clock}
+use Rattle.ics_series.specs.DayKeys.{day_key_rank, DayRank}
+use Rattle.ics_series.specs.DayTokens.{day_spelling, OneDaySpelling}
+use Rattle.ics_series.specs.Days.{date_at, date_of}
+use Rattle.ics_series.specs.Entry.{key_rank, Rank}
+use Rattle.ics_series.specs.Tokens.{spelling, OneSpelling}
+use Rattle.ics_series.specs.declared.day_key.DayKey.{DayKey}
+use Rattle.ics_series.specs.declared.window.Window.{Window}
 use Rattle.ics_series.specs.declared.key.Key.{Key}
-use Rattle.khal_list.specs.Agree.{Agree, SameRequest}
+use Rattle.khal_list.specs.Agree.{Agree, SameRequest, day_after}
 use Rattle.khal_list.specs.Entries.{Entries, Span, entries_of, limit_text, span_of, IsRefused, AreTaken}
 use Rattle.khal_list.specs.Formats.{day_name, entry_name, IsFormat, OneFormat}
 use Rattle.khal_list.specs.Limits.{IsLimitOf}
-use Rattle.khal_list.specs.RequestOf.{RequestOf, IsRequest, IsBadWindow, IsKeyOf, IsNoToken, HasWindow, after_text, day_format_text, format_text}
+use Rattle.khal_list.specs.RequestOf.{RequestOf, IsAfterBy, IsDayKeyBy, IsDayKeyOf, IsRequest, IsBadWindow, IsKeyOf, HasWindow, after_text, day_format_text, day_from, format_text}
 use Rattle.khal_list.specs.WindowTexts.{Named, named}
 use Rattle.khal_list.specs.Windows.{first_start, last_end, midnight, today, start_said, between, second_at, ends_from, ends_of, end_named, moment_named}
+use Rattle.khal_list.specs.declared.every_day.EveryDay.{EveryDay}
 use Rattle.khal_list.specs.declared.request.Request.{Request}
+use Rattle.khal_list.proofs.RequestLemmas.{good_token}
 use Rattle.khal_list.specs.declared.request_fault.RequestFault.{RequestFault}
 use Rattle.khal_list.specs.declared.request_fault.RequestFault.TheVariants.{Usage, BadZone, BadWindow, BadToken, BadFormat, Memory}
 
@@ -101,11 +110,62 @@ same_key one (Some text) None b p q = absurd p
 same_key one (Some text) (Some a) None p q = absurd q
 same_key one (Some text) (Some a) (Some b) p q = ap Some (one (key_rank a) (key_rank b) p.0 q.0 (sym p.1 ∙ q.1))
 
--- a text that gives a key is a token
-no_token : (given : Option Text) (key : Option Key) → IsKeyOf given key → IsNoToken given → ⊥
-no_token None key p bad = let stands = bad.stands in cc
-no_token (Some text) None p bad = absurd p
-no_token (Some text) (Some key) p bad = bad.none (key_rank key, p.0, ap (λ (o : Option Text). unwrap_or o []) (sym bad.stands) ∙ p.1)
+-- the day under which a listing goes on is one
+same_day_from : (a b : Display) (v w : Window) → Alike a b → v.from ≡ w.from → v.to ≡ w.to → (start : ℤ) → day_from a v start ≡ day_from b w start
+same_day_from a b v w h from to start =
+    ap₂ (λ (from to : ℤ). if int_lt start to then date_at (display_clock a) (int_max start from) else pos 2_147_483_647) from to
+    ∙ ap (λ (offset : ℤ). if int_lt start w.to then date_of (int_max start w.from +ℤ offset) else pos 2_147_483_647) (h.offset (int_max start w.from))
+
+abbrev second : List ℕ → ℕ
+second [] = 0
+second (a ∷ []) = 0
+second (a ∷ b ∷ more) = b
+
+-- no key's token is one of a key under a day
+no_digit : ◌≡◌ {A = ℕ} 50 49 → ⊥
+no_digit h = omega (arith, h)
+
+pub no_both : (k : DayRank) (l : Rank) → day_spelling k ≡ spelling l → ⊥
+no_both k l h = no_digit (ap second h)
+
+abbrev day_rank : ℤ → Rank → DayRank
+day_rank day key = record { day = day; key = key }
+
+same_day_rank : (a b : DayRank) → a.day ≡ b.day → a.key ≡ b.key → a ≡ b
+same_day_rank a b day key = ap₂ day_rank day key
+
+-- the key under a day of a token is one
+same_day_key : OneSpelling → OneDaySpelling → (a b : Display) (v w : Window) → ((start : ℤ) → day_from a v start ≡ day_from b w start) → (text : Text) (k l : DayRank)
+    → IsDayKeyBy a v text k → IsDayKeyBy b w text l → k ≡ l
+same_day_key one days a b v w from text k l (inl p) (inl q) = days k l p.0 q.0 (sym p.1 ∙ q.1)
+same_day_key one days a b v w from text k l (inl p) (inr q) = absurd (no_both k l.key (sym p.1 ∙ q.1))
+same_day_key one days a b v w from text k l (inr p) (inl q) = absurd (no_both l k.key (sym q.1 ∙ p.1))
+same_day_key one days a b v w from text k l (inr p) (inr q) =
+    let key = one k.key l.key p.0 q.0 (sym p.1 ∙ q.1) in
+    same_day_rank k l (p.2 ∙ (ap (λ (r : Rank). day_from a v r.start) key ∙ (from l.key.start ∙ sym q.2))) key
+
+same_day_after : OneSpelling → OneDaySpelling → (a b : Display) (v w : Window) → ((start : ℤ) → day_from a v start ≡ day_from b w start) → (given : Option Text) (k l : Option DayKey)
+    → IsDayKeyOf a v given k → IsDayKeyOf b w given l → option_map day_key_rank k ≡ option_map day_key_rank l
+same_day_after one days a b v w from None None None p q = refl
+same_day_after one days a b v w from None None (Some l) p q = absurd q
+same_day_after one days a b v w from None (Some k) l p q = absurd p
+same_day_after one days a b v w from (Some text) None l p q = absurd p
+same_day_after one days a b v w from (Some text) (Some k) None p q = absurd q
+same_day_after one days a b v w from (Some text) (Some k) (Some l) p q = ap Some (same_day_key one days a b v w from text (day_key_rank k) (day_key_rank l) p q)
+
+-- the keys after which a listing goes on are the same
+module _ (one : OneSpelling) (days : OneDaySpelling) (entries : Entries) (a b : Display) (v w : Window) (from : (start : ℤ) → day_from a v start ≡ day_from b w start) where
+  same_once : (k l : Option Key) (c d : Option EveryDay) → IsAfterBy entries a v k c → IsAfterBy entries b w l d → option_map key_rank k ≡ option_map key_rank l
+  same_once k l None None p q = same_key one (after_text entries) k l p.1 q.1
+  same_once k l None (Some d) p q = absurd (p.0 q.0)
+  same_once k l (Some c) None p q = absurd (q.0 p.0)
+  same_once k l (Some c) (Some d) p q = ap (option_map key_rank) (p.1 ∙ sym q.1)
+
+  same_every_day : (k l : Option Key) (c d : Option EveryDay) → IsAfterBy entries a v k c → IsAfterBy entries b w l d → option_map day_after c ≡ option_map day_after d
+  same_every_day k l None None p q = refl
+  same_every_day k l None (Some d) p q = absurd (p.0 q.0)
+  same_every_day k l (Some c) None p q = absurd (q.0 p.0)
+  same_every_day k l (Some c) (Some d) p q = ap Some (same_day_after one days a b v w from (after_text entries) c.after d.after p.2 q.2)
 
 -- a request was made of two formats
 no_format : (entries : Entries) (now : ℤ) (a : Request) → IsRequest entries now a
@@ -126,6 +186,7 @@ no_window one entries now has bad =
 pub record Readings : Type 0 where
   pub display : OneDisplay
   pub spelling : OneSpelling
+  pub day_spelling : OneDaySpelling
   pub entries : OneFormat entry_name
   pub days : OneFormat day_name
 
@@ -133,6 +194,7 @@ same_request : Readings → (entries : Entries) (now : ℤ) (a b : Request) → 
 same_request one entries now a b p q =
     let zone = p.zone ∙ sym q.zone in
     let ends = same_pair _ _ _ _ (p.window ∙ (same_ends a.zone b.zone now (span_of entries) (one.display a.zone b.zone zone) ∙ sym q.window)) in
+    let from = same_day_from a.zone b.zone a.window b.window (one.display a.zone b.zone zone) ends.0 ends.1 in
     record {
       folder = p.folder ∙ sym q.folder;
       zone = zone;
@@ -140,7 +202,8 @@ same_request one entries now a b p q =
       to = ends.1;
       notstarted = same_flag a.window.notstarted b.window.notstarted _ p.notstarted q.notstarted;
       limit = same_limit (limit_text entries) a.limit b.limit p.limit q.limit;
-      after = same_key one.spelling (after_text entries) a.after b.after p.after q.after;
+      after = same_once one.spelling one.day_spelling entries a.zone b.zone a.window b.window from a.after b.after a.every_day b.every_day p.after q.after;
+      every_day = same_every_day one.spelling one.day_spelling entries a.zone b.zone a.window b.window from a.after b.after a.every_day b.every_day p.after q.after;
       format = one.entries _ _ (sym p.format ∙ q.format);
       day_format = one.days _ _ (sym p.day_format ∙ q.day_format);
     }
@@ -155,7 +218,7 @@ module _ (one : Readings) (words : List Text) (now : ℤ) where
   agree (Ok a) (Err (Usage text help)) p q = absurd (taken words help p.0 q)
   agree (Ok a) (Err BadZone) p q = absurd (says a.zone.kind (p.1.zone ∙ q.1))
   agree (Ok a) (Err BadWindow) p q = absurd (no_window one.display entries now (has_window entries now a p.1) q.1)
-  agree (Ok a) (Err BadToken) p q = absurd (no_token (after_text entries) a.after p.1.after q.1.token)
+  agree (Ok a) (Err BadToken) p q = absurd (good_token entries a.zone a.window a.after a.every_day p.1.after q.1.token)
   agree (Ok a) (Err BadFormat) p q = absurd (no_format entries now a p.1 q.1.none)
   agree (Ok a) (Err Memory) p q = tt
   agree (Err (Usage text help)) (Ok b) p q = absurd (taken words help q.0 p)
@@ -179,17 +242,17 @@ module _ (one : Readings) (words : List Text) (now : ℤ) where
   agree (Err BadWindow) (Err BadToken) p q = absurd (no_window one.display entries now q.1.window p.1)
   agree (Err BadWindow) (Err BadFormat) p q = absurd (no_window one.display entries now q.1.window p.1)
   agree (Err BadWindow) (Err Memory) p q = tt
-  agree (Err BadToken) (Ok b) p q = absurd (no_token (after_text entries) b.after q.1.after p.1.token)
+  agree (Err BadToken) (Ok b) p q = absurd (good_token entries b.zone b.window b.after b.every_day q.1.after p.1.token)
   agree (Err BadToken) (Err (Usage text help)) p q = absurd (taken words help p.0 q)
   agree (Err BadToken) (Err BadZone) p q = absurd (says p.1.window.display.kind (p.1.window.zone ∙ q.1))
   agree (Err BadToken) (Err BadWindow) p q = absurd (no_window one.display entries now p.1.window q.1)
   agree (Err BadToken) (Err BadToken) p q = tt
-  agree (Err BadToken) (Err BadFormat) p q = absurd (no_token (after_text entries) q.1.key q.1.after p.1.token)
+  agree (Err BadToken) (Err BadFormat) p q = absurd (q.1.token p.1.token)
   agree (Err BadToken) (Err Memory) p q = tt
   agree (Err BadFormat) (Ok b) p q = absurd (no_format entries now b q.1 p.1.none)
   agree (Err BadFormat) (Err (Usage text help)) p q = absurd (taken words help p.0 q)
   agree (Err BadFormat) (Err BadZone) p q = absurd (says p.1.window.display.kind (p.1.window.zone ∙ q.1))
   agree (Err BadFormat) (Err BadWindow) p q = absurd (no_window one.display entries now p.1.window q.1)
-  agree (Err BadFormat) (Err BadToken) p q = absurd (no_token (after_text entries) p.1.key p.1.after q.1.token)
+  agree (Err BadFormat) (Err BadToken) p q = absurd (p.1.token q.1.token)
   agree (Err BadFormat) (Err BadFormat) p q = tt
   agree (Err BadFormat) (Err Memory) p q = tt

@@ -8,6 +8,7 @@ pub mod NameLemmas
 pub mod OutcomeLemmas
 pub mod PageLemmas
 pub mod Printed
+pub mod PutLemmas
 pub mod ReadLemmas
 pub mod RefusalLemmas
 pub mod RefusedLemmas

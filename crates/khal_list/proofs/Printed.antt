@@ -1,40 +1,43 @@
--- What of a feed is listed so far: its first entries.
-use Rattle.std.specs.Prelude.{ℤ, ◌≢◌}
-use Rattle.std.proofs.Common.{◌≡◌, ℕ, zero, suc, ◌+◌, List, [], ◌∷◌, ◌++◌, Option, Some, None, length, take, refl, sym, ap, ◌∙◌, arith, append_assoc, append-nil, length-append}
+-- What of a list to come is written so far: its first entries.
+use Rattle.std.specs.Prelude.{ℤ, ◌≢◌, Bool, true, nat_lt, if◌then◌else◌}
+use Rattle.std.proofs.Common.{◌≡◌, ℕ, zero, suc, ◌+◌, List, [], ◌∷◌, ◌++◌, Option, Some, None, length, take, refl, sym, ap, ap₂, ◌∙◌, arith, append_assoc, append-nil, length-append}
 use Rattle.std.specs.Io.KnownBytes.{Appends}
 use Rattle.std.specs.Option.{option_map}
 use Rattle.std.proofs.Math.Seq.{take-append-add}
-use Rattle.ics_series.specs.Entry.{Entry, Rank, rank_of}
+use Rattle.std.proofs.lemmas.Grind.{common_steps}
+use Rattle.ics_series.specs.DayKeys.{DayRank}
+use Rattle.ics_series.specs.OnDays.{day_rank_of, OnDay}
 use Rattle.khal_list.specs.Drawn.{DrewAhead}
 use Rattle.khal_list.specs.Growth.{TookFront}
-use Rattle.khal_list.specs.Listed.{first_of, last_key}
-use Rattle.khal_list.specs.Text.{Style, day_under, entry_text, text, text_after}
+use Rattle.khal_list.specs.Listed.{day_key_on, first_of, is_cut, last_day_key}
+use Rattle.khal_list.specs.Text.{Style, days_text, days_text_after, entry_text}
 use Rattle.khal_list.proofs.Written.{Written, appends-both, appends-none, appends-same, written-front, written-part}
 
 -- the day that the last of some entries stands under, or the day before them
-abbrev pub last_day : Style → Option ℤ → List Entry → Option ℤ
-last_day style before [] = before
-last_day style before (e ∷ es) = last_day style (Some (day_under style e)) es
+abbrev pub last_day : Option ℤ → List OnDay → Option ℤ
+last_day before [] = before
+last_day before (p ∷ ps) = last_day (Some p.day) ps
 
-text-append : (style : Style) (before : Option ℤ) (xs ys : List Entry) → text_after style before (xs ++ ys) ≡ text_after style before xs ++ text_after style (last_day style before xs) ys
+pub text-append : (style : Style) (before : Option ℤ) (xs ys : List OnDay)
+    → days_text_after style before (xs ++ ys) ≡ days_text_after style before xs ++ days_text_after style (last_day before xs) ys
 text-append style before [] ys = refl
 text-append style before (x ∷ xs) ys =
-    let first = entry_text style before (day_under style x) x in
-    let day = Some (day_under style x) in
+    let first = entry_text style before x.day x.entry in
+    let day = Some x.day in
     ap (λ t. first ++ t) (text-append style day xs ys)
-    ∙ sym (append_assoc first (text_after style day xs) (text_after style (last_day style day xs) ys))
+    ∙ sym (append_assoc first (days_text_after style day xs) (days_text_after style (last_day day xs) ys))
 
-day-more : (style : Style) (before : Option ℤ) (xs : List Entry) (e : Entry) → last_day style before (xs ++ e ∷ []) ≡ Some (day_under style e)
-day-more style before [] e = refl
-day-more style before (x ∷ xs) e = day-more style (Some (day_under style x)) xs e
+day-more : (before : Option ℤ) (xs : List OnDay) (e : OnDay) → last_day before (xs ++ e ∷ []) ≡ Some e.day
+day-more before [] e = refl
+day-more before (x ∷ xs) e = day-more (Some x.day) xs e
 
-key-more : (xs : List Entry) (e : Entry) → last_key (xs ++ e ∷ []) ≡ Some (rank_of e)
+key-more : (xs : List OnDay) (e : OnDay) → last_day_key (xs ++ e ∷ []) ≡ Some (day_rank_of e)
 key-more [] e = refl
 key-more (x ∷ []) e = refl
 key-more (x ∷ y ∷ ys) e = key-more (y ∷ ys) e
 
 -- a limit of which some entries take their part
-first-behind : (limit left : Option ℕ) (xs ys : List Entry) → limit ≡ option_map (λ n. length xs + n) left → first_of limit (xs ++ ys) ≡ xs ++ first_of left ys
+first-behind : (limit left : Option ℕ) (xs ys : List OnDay) → limit ≡ option_map (λ n. length xs + n) left → first_of limit (xs ++ ys) ≡ xs ++ first_of left ys
 first-behind limit None xs ys h = ap (λ l. first_of l (xs ++ ys)) h
 first-behind limit (Some n) xs ys h = ap (λ l. first_of l (xs ++ ys)) h ∙ take-append-add xs ys n
 
@@ -44,89 +47,113 @@ fewer None h = (None, refl)
 fewer (Some zero) h = absurd (h refl)
 fewer (Some (suc n)) h = (Some n, ap Some (omega arith))
 
--- of a feed that had all to come some entries are listed, and it has the others to come
-pub record Printed (style : Style) (limit : Option ℕ) (all coming : List Entry) (told taken : Option (List ℕ)) (before : Option ℤ) (left : Option ℕ) (last : Option Rank) : Type 0 where
-  pub done : List Entry
+-- of a list that was to come some entries are written, and the others are to come
+pub record Printed (style : Style) (limit : Option ℕ) (all coming : List OnDay) (told taken : Option (List ℕ)) (before : Option ℤ) (left : Option ℕ) (last : Option DayRank) : Type 0 where
+  pub done : List OnDay
   pub parted : done ++ coming ≡ all
-  pub taken_is : Appends told taken (text style done)
-  pub day_is : before ≡ last_day style None done
+  pub taken_is : Appends told taken (days_text style done)
+  pub day_is : before ≡ last_day None done
   pub left_is : limit ≡ option_map (λ n. length done + n) left
-  pub last_is : last ≡ last_key done
+  pub last_is : last ≡ last_day_key done
 
-module _ {style : Style} {limit : Option ℕ} {all : List Entry} {told : Option (List ℕ)} where
-  module _ {coming : List Entry} {taken : Option (List ℕ)} {before : Option ℤ} {left : Option ℕ} {last : Option Rank} (p : Printed style limit all coming told taken before left last) where
+module _ {style : Style} {limit : Option ℕ} {all : List OnDay} {told : Option (List ℕ)} where
+  module _ {coming : List OnDay} {taken : Option (List ℕ)} {before : Option ℤ} {left : Option ℕ} {last : Option DayRank} (p : Printed style limit all coming told taken before left last) where
     first-is : first_of limit all ≡ p.done ++ first_of left coming
     first-is = ap (first_of limit) (sym p.parted) ∙ first-behind limit left p.done coming p.left_is
 
-    written : Written told taken (text_after style before (first_of left coming)) (text style (first_of limit all))
+    written : Written told taken (days_text_after style before (first_of left coming)) (days_text style (first_of limit all))
     written = record {
-      done = text style p.done;
+      done = days_text style p.done;
       taken = p.taken_is;
-      whole_is = ap (λ d. text style p.done ++ text_after style d (first_of left coming)) p.day_is ∙ (sym (text-append style None p.done (first_of left coming)) ∙ ap (text style) (sym first-is));
+      whole_is = ap (λ d. days_text style p.done ++ days_text_after style d (first_of left coming)) p.day_is ∙ (sym (text-append style None p.done (first_of left coming)) ∙ ap (days_text style) (sym first-is));
     }
 
-    pub printed-front : TookFront told taken (text style (first_of limit all))
-    printed-front = written-front told taken (text_after style before (first_of left coming)) (text style (first_of limit all)) written
+    pub printed-front : TookFront told taken (days_text style (first_of limit all))
+    printed-front = written-front told taken (days_text_after style before (first_of left coming)) (days_text style (first_of limit all)) written
 
-    pub drew-none : DrewAhead style all coming told taken
+    pub drew-none : DrewAhead (days_text style) all coming told taken
     drew-none = record {
       shown = p.done;
       ahead = [];
       part = [];
       given = p.parted;
       few = omega arith;
-      taken = appends-same told taken (sym (append-nil (text style p.done))) p.taken_is;
+      taken = appends-same told taken (sym (append-nil (days_text style p.done))) p.taken_is;
     }
 
-    module _ (e : Entry) (es : List Entry) (gives : coming ≡ e ∷ es) where
-      pub drew-part : (new : Option (List ℕ)) (part : List ℕ) → Appends taken new part → DrewAhead style all es told new
+    module _ (e : OnDay) (es : List OnDay) (gives : coming ≡ e ∷ es) where
+      pub drew-part : (new : Option (List ℕ)) (part : List ℕ) → Appends taken new part → DrewAhead (days_text style) all es told new
       drew-part new part h = record {
         shown = p.done;
         ahead = e ∷ [];
         part = part;
         given = ap (λ l. p.done ++ l) (sym gives) ∙ p.parted;
         few = omega arith;
-        taken = appends-both told taken new (text style p.done) part p.taken_is h;
+        taken = appends-both told taken new (days_text style p.done) part p.taken_is h;
       }
 
-      pub drew-one : DrewAhead style all es told taken
+      pub drew-one : DrewAhead (days_text style) all es told taken
       drew-one = drew-part taken [] (appends-none taken)
 
-      module _ (day : ℤ) (bytes : List ℕ) (lower : Option ℕ) (day-is : day ≡ day_under style e) (bytes-is : bytes ≡ entry_text style before day e) (lower-is : left ≡ option_map (λ n. n + 1) lower) where
-        piece-is : bytes ≡ entry_text style before (day_under style e) e
-        piece-is = bytes-is ∙ ap (λ d. entry_text style before d e) day-is
+      first-none : left ≡ Some 0 → first_of limit all ≡ p.done
+      first-none none = first-is ∙ (ap (λ l. p.done ++ first_of l coming) none ∙ append-nil p.done)
+
+      pub cut-text : left ≡ Some 0 → Appends told taken (days_text style (first_of limit all))
+      cut-text none = appends-same told taken (ap (days_text style) (sym (first-none none))) p.taken_is
+
+      pub cut-key : left ≡ Some 0 → last ≡ day_key_on limit all
+      cut-key none = p.last_is ∙ sym (ap₂ (λ (cut : Bool) (l : List OnDay). if cut then last_day_key l else None) cut-is (first-none none))
+        where
+          limit-is : limit ≡ Some (length p.done + 0)
+          limit-is = p.left_is ∙ ap (option_map (λ n. length p.done + n)) none
+
+          sizes : length all ≡ length p.done + suc (length es)
+          sizes = sym (ap length p.parted) ∙ (length-append p.done coming ∙ ap (λ l. length p.done + length l) gives)
+
+          less : (n k : ℕ) → nat_lt (n + 0) (n + suc k) ≡ true
+          less n k = grind (arith, common_steps)
+
+          more : nat_lt (length p.done + 0) (length all) ≡ true
+          more = ap (nat_lt (length p.done + 0)) sizes ∙ less (length p.done) (length es)
+
+          cut-is : is_cut limit all ≡ true
+          cut-is = ap (λ l. is_cut l all) limit-is ∙ more
+
+      module _ (day : ℤ) (bytes : List ℕ) (lower : Option ℕ) (day-is : day ≡ e.day) (bytes-is : bytes ≡ entry_text style before day e.entry) (lower-is : left ≡ option_map (λ n. n + 1) lower) where
+        piece-is : bytes ≡ entry_text style before e.day e.entry
+        piece-is = bytes-is ∙ ap (λ d. entry_text style before d e.entry) day-is
 
         first-lower : (l : Option ℕ) → first_of (option_map (λ n. n + 1) l) (e ∷ es) ≡ e ∷ first_of l es
         first-lower None = refl
         first-lower (Some n) = let more : n + 1 ≡ suc n = omega arith in ap (λ k. take k (e ∷ es)) more
 
-        next : text_after style before (first_of left coming) ≡ bytes ++ text_after style (Some (day_under style e)) (first_of lower es)
+        next : days_text_after style before (first_of left coming) ≡ bytes ++ days_text_after style (Some e.day) (first_of lower es)
         next =
-            ap (λ l. text_after style before (first_of l coming)) lower-is
-            ∙ (ap (λ l. text_after style before (first_of (option_map (λ n. n + 1) lower) l)) gives
-            ∙ (ap (text_after style before) (first-lower lower)
-            ∙ ap (λ b. b ++ text_after style (Some (day_under style e)) (first_of lower es)) (sym piece-is)))
+            ap (λ l. days_text_after style before (first_of l coming)) lower-is
+            ∙ (ap (λ l. days_text_after style before (first_of (option_map (λ n. n + 1) lower) l)) gives
+            ∙ (ap (days_text_after style before) (first-lower lower)
+            ∙ ap (λ b. b ++ days_text_after style (Some e.day) (first_of lower es)) (sym piece-is)))
 
-        pub printed-part : (new : Option (List ℕ)) → TookFront taken new bytes → TookFront told new (text style (first_of limit all))
+        pub printed-part : (new : Option (List ℕ)) → TookFront taken new bytes → TookFront told new (days_text style (first_of limit all))
         printed-part new f =
-            written-part told taken new bytes (text_after style (Some (day_under style e)) (first_of lower es)) (text style (first_of limit all))
+            written-part told taken new bytes (days_text_after style (Some e.day) (first_of lower es)) (days_text style (first_of limit all))
             (rw next at written) f
 
         left-lower : (l : Option ℕ) → option_map (λ n. length p.done + n) (option_map (λ n. n + 1) l) ≡ option_map (λ n. length (p.done ++ e ∷ []) + n) l
         left-lower None = refl
         left-lower (Some n) = ap Some (omega (arith, length-append p.done (e ∷ [])))
 
-        pub printed-more : (new : Option (List ℕ)) → Appends taken new bytes → Printed style limit all es told new (Some day) lower (Some (rank_of e))
+        pub printed-more : (new : Option (List ℕ)) → Appends taken new bytes → Printed style limit all es told new (Some day) lower (Some (day_rank_of e))
         printed-more new h = record {
           done = p.done ++ e ∷ [];
           parted = append_assoc p.done (e ∷ []) es ∙ (ap (λ l. p.done ++ l) (sym gives) ∙ p.parted);
-          taken_is = appends-same told new text-is (appends-both told taken new (text style p.done) bytes p.taken_is h);
-          day_is = ap Some day-is ∙ sym (day-more style None p.done e);
+          taken_is = appends-same told new text-is (appends-both told taken new (days_text style p.done) bytes p.taken_is h);
+          day_is = ap Some day-is ∙ sym (day-more None p.done e);
           left_is = p.left_is ∙ (ap (option_map (λ n. length p.done + n)) lower-is ∙ left-lower lower);
           last_is = sym (key-more p.done e);
         }
           where
-            text-is : text style p.done ++ bytes ≡ text style (p.done ++ e ∷ [])
+            text-is : days_text style p.done ++ bytes ≡ days_text style (p.done ++ e ∷ [])
             text-is =
-                ap (λ b. text style p.done ++ b) (piece-is ∙ (ap (λ d. entry_text style d (day_under style e) e) p.day_is ∙ sym (append-nil (entry_text style (last_day style None p.done) (day_under style e) e))))
+                ap (λ b. days_text style p.done ++ b) (piece-is ∙ (ap (λ d. entry_text style d e.day e.entry) p.day_is ∙ sym (append-nil (entry_text style (last_day None p.done) e.day e.entry))))
                 ∙ sym (text-append style None p.done (e ∷ []))

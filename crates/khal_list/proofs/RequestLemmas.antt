@@ -1,10 +1,14 @@
 -- What a refusal of a token or of a format says of an answer to entries.
-use Rattle.std.proofs.Common.{◌≡◌, ◌⊎◌, ℤ, Some, Ok, Err, Option, Result, refl, sym, subst, true≢false}
-use Rattle.std.specs.Prelude.{IsErrOf, IsSome}
+use Rattle.std.proofs.Common.{◌≡◌, ◌⊎◌, inl, inr, ℤ, [], None, Some, Ok, Err, Option, Result, refl, sym, ap, ◌∙◌, subst, true≢false}
+use Rattle.std.specs.Prelude.{IsErrOf, IsSome, unwrap_or}
 use Rattle.std.specs.Result.{IsErr, IsErrAnd}
+use Rattle.clap.specs.Words.{Text}
 use Rattle.ics_zone.specs.DisplayTexts.{display_of, said_by}
 use Rattle.ics_zone.specs.Zones.{zone_of}
 use Rattle.ics_zone.specs.declared.display.Display.{Display}
+use Rattle.ics_series.specs.DayKeys.{day_key_rank}
+use Rattle.ics_series.specs.Entry.{key_rank}
+use Rattle.ics_series.specs.declared.day_key.DayKey.{DayKey}
 use Rattle.ics_series.specs.declared.key.Key.{Key}
 use Rattle.ics_series.specs.declared.token.TokenFault.{TokenFault}
 use Rattle.ics_series.specs.declared.token.TokenFault.TheVariants as token
@@ -12,12 +16,34 @@ use Rattle.ics_series.specs.declared.window.Window.{Window}
 use Rattle.khal_list.specs.Entries.{Entries, span_of}
 use Rattle.khal_list.specs.Formats.{day_name, entry_name, IsFormat}
 use Rattle.khal_list.specs.RequestFaults.{format_fault, token_fault}
-use Rattle.khal_list.specs.RequestOf.{EntriesAnswer, HasWindow, IsKeyOf, IsNoToken, after_text, day_format_text, format_text, zone_text}
+use Rattle.khal_list.specs.RequestOf.{EntriesAnswer, HasWindow, IsAfterBy, IsDayKeyOf, IsKeyOf, IsNoDayKey, IsNoKey, IsNoToken, after_text, day_format_text, format_text, zone_text}
 use Rattle.khal_list.specs.Windows.{ends_of}
+use Rattle.khal_list.specs.declared.every_day.EveryDay.{EveryDay}
 use Rattle.khal_list.specs.declared.format.FormatFault.{FormatFault}
 use Rattle.khal_list.specs.declared.format.FormatFault.TheVariants as format
 use Rattle.khal_list.specs.declared.request.Request.{Request}
 use Rattle.khal_list.specs.declared.request_fault.RequestFault.{RequestFault}
+
+given_is : (text other : Text) → Some text ≡ Some other → other ≡ text
+given_is text other stands = sym (ap (λ (o : Option Text). unwrap_or o []) stands)
+
+-- a text that gives a key is a token
+token_of : (given : Option Text) (key : Option Key) → IsKeyOf given key → IsNoKey given → ⊥
+token_of None key p bad = let stands = bad.stands in cc
+token_of (Some text) None p bad = absurd p
+token_of (Some text) (Some key) p bad = bad.none (key_rank key, p.0, given_is text bad.text bad.stands ∙ p.1)
+
+-- and one that gives a key under a day is a token, or one of an entry under a day
+day_token_of : (zone : Display) (window : Window) (given : Option Text) (key : Option DayKey) → IsDayKeyOf zone window given key → IsNoDayKey given → ⊥
+day_token_of zone window None key p bad = let stands = bad.stands in cc
+day_token_of zone window (Some text) None p bad = absurd p
+day_token_of zone window (Some text) (Some key) (inl p) bad = bad.no_day (day_key_rank key, p.0, given_is text bad.text bad.stands ∙ p.1)
+day_token_of zone window (Some text) (Some key) (inr p) bad = bad.none (key_rank key.key, p.0, given_is text bad.text bad.stands ∙ p.1)
+
+-- what gives the keys after which a listing goes on is a token
+pub good_token : (entries : Entries) (zone : Display) (window : Window) (after : Option Key) (every_day : Option EveryDay) → IsAfterBy entries zone window after every_day → IsNoToken entries → ⊥
+good_token entries zone window after None p bad = token_of (after_text entries) after p.1 bad.key
+good_token entries zone window after (Some every_day) p bad = day_token_of zone window (after_text entries) every_day.after p.2 (bad.day_key p.0)
 
 module _ (entries : Entries) (now : ℤ) where
   pub has_window : (display : Display) (window : Window) → said_by (zone_of display) ≡ display_of (zone_text entries)
@@ -29,20 +55,20 @@ module _ (entries : Entries) (now : ℤ) where
   passed_on (Ok request) fault err is h = absurd (true≢false (sym err))
   passed_on (Err other) fault err is h = subst (λ (f : RequestFault). EntriesAnswer entries now (Err f)) (sym is) h
 
-  pub no_token : (r : Result Request RequestFault) (fault : TokenFault) → IsErr r → IsErrAnd r (λ f. f ≡ token_fault fault)
-      → HasWindow entries now → (IsErrOf {T = Option Key} (Err fault) token.BadToken → IsNoToken (after_text entries)) → EntriesAnswer entries now r
-  no_token r fault err is window bad = passed_on r (token_fault fault) err is (answer fault bad)
+  pub no_token : {T : Type 0} (r : Result Request RequestFault) (fault : TokenFault) → IsErr r → IsErrAnd r (λ f. f ≡ token_fault fault)
+      → HasWindow entries now → (IsErrOf {T = T} (Err fault) token.BadToken → IsNoToken entries) → EntriesAnswer entries now r
+  no_token {T} r fault err is window bad = passed_on r (token_fault fault) err is (answer fault bad)
     where
-      answer : (f : TokenFault) → (IsErrOf {T = Option Key} (Err f) token.BadToken → IsNoToken (after_text entries)) → EntriesAnswer entries now (Err (token_fault f))
+      answer : (f : TokenFault) → (IsErrOf {T = T} (Err f) token.BadToken → IsNoToken entries) → EntriesAnswer entries now (Err (token_fault f))
       answer token.BadToken bad = record { window = window; token = bad refl }
       answer token.Memory bad = tt
 
-  pub no_format : {T : Type 0} (r : Result Request RequestFault) (fault : FormatFault) (key : Option Key) → IsErr r → IsErrAnd r (λ f. f ≡ format_fault fault)
-      → HasWindow entries now → IsKeyOf (after_text entries) key
+  pub no_format : {T : Type 0} (r : Result Request RequestFault) (fault : FormatFault) → IsErr r → IsErrAnd r (λ f. f ≡ format_fault fault)
+      → HasWindow entries now → (¬ IsNoToken entries)
       → (IsErrOf {T = T} (Err fault) format.BadFormat → (¬ IsFormat entry_name (format_text entries)) ⊎ (¬ IsFormat day_name (day_format_text entries))) → EntriesAnswer entries now r
-  no_format {T} r fault key err is window after bad = passed_on r (format_fault fault) err is (answer fault bad)
+  no_format {T} r fault err is window token bad = passed_on r (format_fault fault) err is (answer fault bad)
     where
       answer : (f : FormatFault) → (IsErrOf {T = T} (Err f) format.BadFormat → (¬ IsFormat entry_name (format_text entries)) ⊎ (¬ IsFormat day_name (day_format_text entries)))
           → EntriesAnswer entries now (Err (format_fault f))
-      answer format.BadFormat bad = record { window = window; key = key; after = after; none = bad refl }
+      answer format.BadFormat bad = record { window = window; token = token; none = bad refl }
       answer format.Memory bad = tt

@@ -9,18 +9,22 @@ use Rattle.ics_calendar.specs.Event.{FileSaid}
 use Rattle.ics_zone.specs.declared.display.Display.{Display}
 use Rattle.ics_series.specs.After.{after_key}
 use Rattle.ics_series.specs.Clocks.{display_clock}
-use Rattle.ics_series.specs.declared.key.Key.{Key}
+use Rattle.ics_series.specs.DayKeys.{day_key_rank, DayRank}
+use Rattle.ics_series.specs.DayTokens.{day_spelling}
 use Rattle.ics_series.specs.Entry.{Entry, Rank, entry_cmp, key_rank}
 use Rattle.ics_series.specs.Listing.{IsListing}
 use Rattle.ics_series.specs.Meets.{IsListed}
+use Rattle.ics_series.specs.OnDays.{after_day_key, on_day_cmp, IsOnDay, OnDay}
+use Rattle.ics_series.specs.Tokens.{spelling}
+use Rattle.khal_list.specs.declared.every_day.EveryDay.{EveryDay}
 use Rattle.khal_list.specs.declared.request.Request.{Request}
 use Rattle.khal_list.specs.declared.status.Status.{Status}
 use Rattle.khal_list.specs.declared.status.Status.TheVariants.{Faulty}
 use Rattle.khal_list.specs.Answers.{Answer, Contents}
 use Rattle.khal_list.specs.Errors.{accepted, error_lines}
 use Rattle.khal_list.specs.Growth.{TookFront}
-use Rattle.khal_list.specs.Headline.{more_line, IsListingOf, Lists, Stops}
-use Rattle.khal_list.specs.Listed.{asked_after, key_on, text_of}
+use Rattle.khal_list.specs.Headline.{more_line, IsListingOf, Lists, Shown, ShownInPart, Shows, ShowsBy, ShowsDays, ShowsOnce, Stops}
+use Rattle.khal_list.specs.Listed.{asked_after, day_key_on, days_text_of, key_on, text_of}
 use Rattle.khal_list.specs.Outcomes.{IsReading}
 use Rattle.khal_list.specs.Reads.{ReadsAll}
 use Rattle.khal_list.proofs.RefusedLemmas.{lines-refused}
@@ -30,34 +34,74 @@ take-length : (xs : List ℕ) → take (length xs) xs ≡ xs
 take-length xs = grind (arith, common_steps)
 
 -- the whole of a text is a front of it
-whole-front : (told new : Option (List ℕ)) (text : List ℕ) → Appends told new text → TookFront told new text
+pub whole-front : (told new : Option (List ℕ)) (text : List ℕ) → Appends told new text → TookFront told new text
 whole-front told new text h = record { count = length text; within = omega arith; taken = appends-same told new (sym (take-length text)) h }
 
--- the key that is lent to the agenda
-pub copied-key : (lent : Option (Bor Key)) (key : Option Key) → option_copied lent ≡ key → option_map (λ k. key_rank k.now) lent ≡ option_map key_rank key
-copied-key None key h = ap (option_map key_rank) h
-copied-key (Some k) key h = ap (option_map key_rank) h
+-- the key that is lent
+pub copied-key : {K R : Type 0} (rank : K → R) (lent : Option (Bor K)) (key : Option K) → option_copied lent ≡ key → option_map (λ k. rank k.now) lent ≡ option_map rank key
+copied-key rank None key h = ap (option_map rank) h
+copied-key rank (Some k) key h = ap (option_map rank) h
 
 -- what an agenda of these files has to come is what the request asks for
-pub asked : (files made : List FileSaid) (display : Display) (request : Request) (coming : List Entry) (after : Option Rank) → made ≡ files → display ≡ request.zone → after ≡ option_map key_rank request.after
-    → (list : List Entry) × IsListing entry_cmp (IsListed made (display_clock display) request.window) list × (coming ≡ after_key after list) → (list : List Entry) × IsListingOf files request list × (coming ≡ asked_after request list)
-asked files made display request coming after said zone key whole = (
+pub asked : (files : List FileSaid) (display : Display) (request : Request) (coming : List Entry) (after : Option Rank) → display ≡ request.zone → after ≡ option_map key_rank request.after
+    → (list : List Entry) × IsListing entry_cmp (IsListed files (display_clock display) request.window) list × (coming ≡ after_key after list) → (list : List Entry) × IsListingOf files request list × (coming ≡ asked_after request list)
+asked files display request coming after zone key whole = (
   whole.0,
-  subst (λ d. IsListing entry_cmp (IsListed files (display_clock d) request.window) whole.0) zone (subst (λ these. IsListing entry_cmp (IsListed these (display_clock display) request.window) whole.0) said whole.1),
+  subst (λ d. IsListing entry_cmp (IsListed files (display_clock d) request.window) whole.0) zone whole.1,
   whole.2 ∙ ap (λ k. after_key k whole.0) key,
 )
 
-module _ {E : Type 0} (files : List FileSaid) (request : Request) (out out' : Option (List ℕ)) (coming : List Entry) (whole : (list : List Entry) × IsListingOf files request list × (coming ≡ asked_after request list)) where
-  pub listed : (result : Result (Option Key) E) → OnOk result (Appends out out' (text_of request coming)) → IfOk result (λ key. option_map key_rank key ≡ key_on request.limit coming)
-      → IfOk result (λ key. (list : List Entry) × IsListingOf files request list × Appends out out' (text_of request (asked_after request list)) × (option_map key_rank key ≡ key_on request.limit (asked_after request list)))
-  listed (Ok key) text named =
-      (whole.0, whole.1, appends-same out out' (ap (text_of request) whole.2) text, named ∙ ap (key_on request.limit) whole.2)
-  listed (Err fault) text named = tt
+-- the text of such an agenda is what the request shows once
+pub shows-once : (files : List FileSaid) (request : Request) (coming : List Entry) (token : Option (List ℕ)) → (list : List Entry) × IsListingOf files request list × (coming ≡ asked_after request list)
+    → token ≡ option_map spelling (key_on request.limit coming) → ShowsOnce files request (text_of request coming) token
+shows-once files request coming token whole is = record {
+  list = whole.0;
+  listing = whole.1;
+  shown_is = ap (text_of request) whole.2;
+  token_is = is ∙ ap (λ these. option_map spelling (key_on request.limit these)) whole.2;
+}
 
-  pub not-listed : (result : Result (Option Key) E) → OnErr result (TookFront out out' (text_of request coming))
-      → OnErr result ((out' ≡ out) ⊎ ((list : List Entry) × IsListingOf files request list × TookFront out out' (text_of request (asked_after request list))))
-  not-listed (Ok key) front = tt
-  not-listed (Err fault) front = inr (whole.0, whole.1, subst (λ l. TookFront out out' (text_of request l)) whole.2 front)
+-- a front of it
+pub part-once : (files : List FileSaid) (request : Request) (coming : List Entry) (out out' : Option (List ℕ)) → (list : List Entry) × IsListingOf files request list × (coming ≡ asked_after request list)
+    → TookFront out out' (text_of request coming) → ShownInPart (ShowsOnce files request) out out'
+part-once files request coming out out' whole front =
+    inr (text_of request coming, option_map spelling (key_on request.limit coming), shows-once files request coming (option_map spelling (key_on request.limit coming)) whole refl, front)
+
+-- the text of what is to come under each day is what the request shows under each day
+pub shows-days : (files : List FileSaid) (display : Display) (request : Request) (every_day : EveryDay) (list : List OnDay) (after : Option DayRank) (token : Option (List ℕ)) → display ≡ request.zone
+    → after ≡ option_map day_key_rank every_day.after → IsListing on_day_cmp (IsOnDay files (display_clock display) request.window) list
+    → token ≡ option_map day_spelling (day_key_on request.limit (after_day_key after list)) → ShowsDays files request every_day (days_text_of request (after_day_key after list)) token
+shows-days files display request every_day list after token zone key listing is = record {
+  list = list;
+  listing = subst (λ d. IsListing on_day_cmp (IsOnDay files (display_clock d) request.window) list) zone listing;
+  shown_is = ap (λ k. days_text_of request (after_day_key k list)) key;
+  token_is = is ∙ ap (λ k. option_map day_spelling (day_key_on request.limit (after_day_key k list))) key;
+}
+
+pub part-days : (files : List FileSaid) (display : Display) (request : Request) (every_day : EveryDay) (list : List OnDay) (after : Option DayRank) (out out' : Option (List ℕ)) → display ≡ request.zone
+    → after ≡ option_map day_key_rank every_day.after → IsListing on_day_cmp (IsOnDay files (display_clock display) request.window) list
+    → TookFront out out' (days_text_of request (after_day_key after list)) → ShownInPart (ShowsDays files request every_day) out out'
+part-days files display request every_day list after out out' zone key listing front =
+    let token = option_map day_spelling (day_key_on request.limit (after_day_key after list)) in
+    inr (days_text_of request (after_day_key after list), token, shows-days files display request every_day list after token zone key listing refl, front)
+
+module _ (files made : List FileSaid) (request : Request) (same : made ≡ files) where
+  pub once-shows : request.every_day ≡ None → (shown : List ℕ) (token : Option (List ℕ)) → ShowsOnce made request shown token → Shows files request shown token
+  once-shows none shown token s = subst (λ e. ShowsBy e files request shown token) (sym none) (subst (λ these. ShowsOnce these request shown token) same s)
+
+  pub days-shows : (every_day : EveryDay) → request.every_day ≡ Some every_day → (shown : List ℕ) (token : Option (List ℕ)) → ShowsDays made request every_day shown token → Shows files request shown token
+  days-shows every_day some shown token s = subst (λ e. ShowsBy e files request shown token) (sym some) (subst (λ these. ShowsDays these request every_day shown token) same s)
+
+-- what is shown in one way is shown in another
+module _ {T E : Type 0} (text : T → Option (List ℕ)) (one other : List ℕ → Option (List ℕ) → Type 0) (out out' : Option (List ℕ)) (gives : (shown : List ℕ) (token : Option (List ℕ)) → one shown token → other shown token) where
+  pub shown-as : (result : Result T E) → IfOk result (λ token. Shown one out out' (text token)) → IfOk result (λ token. Shown other out out' (text token))
+  shown-as (Ok token) s = (s.0, gives s.0 (text token) s.1, s.2)
+  shown-as (Err fault) s = tt
+
+  pub part-as : (result : Result T E) → OnErr result (ShownInPart one out out') → OnErr result (ShownInPart other out out')
+  part-as (Ok token) s = tt
+  part-as (Err fault) (inl none) = inl none
+  part-as (Err fault) (inr s) = inr (s.0, s.1, gives s.0 s.1 s.2, s.3)
 
 module _ {S : Type 0} (reads : S → ℕ → Answer → S → Type 0) (names : List (List ℕ)) (before after : S) (request : Request) (out out' err told : Option (List ℕ))
     (contents : List Contents) (files : List FileSaid) (errors : List ℕ)
@@ -66,38 +110,43 @@ module _ {S : Type 0} (reads : S → ℕ → Answer → S → Type 0) (names : L
   lines = appends-same err told kept.errors_are wrote
 
   -- the listing failed
-  pub stops : (out' ≡ out) ⊎ ((list : List Entry) × IsListingOf files request list × TookFront out out' (text_of request (asked_after request list)))
-      → Stops reads names before after request out out' err told
+  pub stops : ShownInPart (Shows files request) out out' → Stops reads names before after request out out' err told
   stops (inl none) = inl (contents, record { last = after; from_first = read.from_first; ended = inl (refl, omega (arith, read.each)) }, none, whole-front err told (error_lines names contents) lines)
   stops (inr some) = inr (
     contents,
     read,
     told,
     lines,
-    record { list = some.0; listing = subst (λ these. IsListingOf these request some.0) kept.files_are some.1; taken = inl (refl, some.2) },
+    record {
+      shown = some.0;
+      token = some.1;
+      shows = subst (λ these. Shows these request some.0 some.1) kept.files_are some.2;
+      taken = inl (refl, some.3);
+    },
   )
 
   -- the listing is written
-  module _ (list : List Entry) (listing : IsListingOf files request list) (text : Appends out out' (text_of request (asked_after request list))) (key : Option Rank) (key-is : key ≡ key_on request.limit (asked_after request list)) where
-    is-listing : IsListingOf (accepted contents) request list
-    is-listing = subst (λ these. IsListingOf these request list) kept.files_are listing
+  module _ (token : Option (List ℕ)) (some : Shown (Shows files request) out out' token) where
+    shows : Shows (accepted contents) request some.0 token
+    shows = subst (λ these. Shows these request some.0 token) kept.files_are some.1
 
-    pub stops-more : (err' : Option (List ℕ)) → TookFront told err' (more_line key) → Stops reads names before after request out out' err err'
+    pub stops-more : (err' : Option (List ℕ)) → TookFront told err' (more_line token) → Stops reads names before after request out out' err err'
     stops-more err' f = inr (
       contents,
       read,
       told,
       lines,
-      record { list = list; listing = is-listing; taken = inr (text, subst (λ k. TookFront told err' (more_line k)) key-is f) },
+      record { shown = some.0; token = token; shows = shows; taken = inr (some.2, f) },
     )
 
-    pub lists : (err' : Option (List ℕ)) → Appends told err' (more_line key) → (status : Status) → (status ≡ Faulty) ↔ (errors ≢ []) → Lists reads names before after request out out' err err' status
+    pub lists : (err' : Option (List ℕ)) → Appends told err' (more_line token) → (status : Status) → (status ≡ Faulty) ↔ (errors ≢ []) → Lists reads names before after request out out' err err' status
     lists err' more status faulty = record {
       contents = contents;
       read = read;
-      list = list;
-      listing = is-listing;
-      text = text;
-      errors = appends-same err err' (ap (λ k. error_lines names contents ++ more_line k) key-is) (appends-both err told err' (error_lines names contents) (more_line key) lines more);
+      shown = some.0;
+      token = token;
+      shows = shows;
+      text = some.2;
+      errors = appends-both err told err' (error_lines names contents) (more_line token) lines more;
       faulty = lines-refused names contents (status ≡ Faulty) read.each (subst (λ these. (status ≡ Faulty) ↔ (these ≢ [])) kept.errors_are faulty);
     }

@@ -1,31 +1,60 @@
 -- A listing that goes on from a token, and the text of its parts.
-use Rattle.std.proofs.Common.{◌≡◌, ℤ, List, [], ◌∷◌, ◌++◌, Option, Some, None, Bool, true, refl, sym, ◌∙◌, ap, append_assoc, if◌then◌else◌}
+use Rattle.std.proofs.Common.{◌≡◌, ℤ, List, [], ◌∷◌, ◌++◌, Option, Some, None, Bool, true, inl, inr, refl, sym, ◌∙◌, ap, append_assoc, subst, if◌then◌else◌}
 use Rattle.std.specs.Option.{option_map}
 use Rattle.std.specs.Ordering.{int_eq}
 use Rattle.std.proofs.lemmas.Cmp.{int_eq_equiv}
 use Rattle.clap.specs.Words.{Text}
+use Rattle.ics_zone.specs.declared.display.Display.{Display}
+use Rattle.ics_series.specs.Clocks.{display_clock}
+use Rattle.ics_series.specs.DayKeys.{day_key_rank, DayRank}
+use Rattle.ics_series.specs.DayLaws.{DayListingBehind}
+use Rattle.ics_series.specs.DayTokens.{day_spelling, IsDayKey, OneDaySpelling}
 use Rattle.ics_series.specs.Entry.{Entry, Rank, key_rank, rank_of}
+use Rattle.ics_series.specs.OnDays.{after_day_key, day_rank_of, OnDay}
 use Rattle.ics_series.specs.Tokens.{OneSpelling, IsKey, spelling}
+use Rattle.ics_series.specs.declared.day_key.DayKey.{DayKey}
+use Rattle.ics_series.specs.declared.window.Window.{Window}
 use Rattle.ics_series.specs.declared.key.Key.{Key}
 use Rattle.khal_list.specs.Entries.{entries_of}
-use Rattle.khal_list.specs.Pages.{TextGoesOn, TextSplits, TokenGoesOn, last_day}
-use Rattle.khal_list.specs.RequestOf.{after_text, IsKeyOf}
+use Rattle.khal_list.specs.Pages.{DayGoesOn, DayTokenGoesOn, TextGoesOn, TextSplits, TokenGoesOn, last_day}
+use Rattle.khal_list.specs.RequestOf.{after_text, IsAfterBy, IsDayKeyOf, IsKeyOf}
 use Rattle.khal_list.specs.Text.{Style, day_under, entry_text, heading_text, line_text, text_after}
+use Rattle.khal_list.proofs.AnswerLemmas.{no_both}
 use Rattle.khal_list.proofs.PageLemmas.{goes-on}
+
+same-text : (a b : Text) → Some a ≡ Some b → a ≡ b
+same-text a b e = cc
 
 -- the key that the words name is that of the token
 key-named : OneSpelling → (given : Option Text) (key : Option Key) (rank : Rank) → IsKeyOf given key → given ≡ Some (spelling rank) → IsKey rank → option_map key_rank key ≡ Some rank
 key-named one None None rank h e k = let f : None ≡ Some (spelling rank) = e in cc
 key-named one None (Some key) rank h e k = absurd h
 key-named one (Some text) None rank h e k = absurd h
-key-named one (Some text) (Some key) rank h e k = ap Some (one (key_rank key) rank h.0 k (sym h.1 ∙ same text (spelling rank) e))
-  where
-    same : (a b : Text) → Some a ≡ Some b → a ≡ b
-    same a b e = cc
+key-named one (Some text) (Some key) rank h e k = ap Some (one (key_rank key) rank h.0 k (sym h.1 ∙ same-text text (spelling rank) e))
 
 pub token-goes-on : OneSpelling → TokenGoesOn
-token-goes-on one words now files request front o behind r given k listing =
-    goes-on files request front o behind listing (key-named one (after_text (entries_of words)) request.after (rank_of o) r.1.after given k)
+token-goes-on one words now files request front o behind r once given k listing =
+    let after = subst (λ e. IsAfterBy (entries_of words) request.zone request.window request.after e) once r.1.after in
+    goes-on files request front o behind listing (key-named one (after_text (entries_of words)) request.after (rank_of o) after.1 given k)
+
+pub day-goes-on : DayListingBehind → DayGoesOn
+day-goes-on behind-is files request every_day front p behind listing after =
+    ap (λ k. after_day_key k (front ++ p ∷ behind)) after ∙ behind-is files (display_clock request.zone) request.window front p behind listing
+
+-- the key under a day that the words name is that of the token
+day-key-named : OneDaySpelling → (zone : Display) (window : Window) (given : Option Text) (key : Option DayKey) (rank : DayRank) → IsDayKeyOf zone window given key
+    → given ≡ Some (day_spelling rank) → IsDayKey rank → option_map day_key_rank key ≡ Some rank
+day-key-named one zone window None None rank h e k = let f : None ≡ Some (day_spelling rank) = e in cc
+day-key-named one zone window None (Some key) rank h e k = absurd h
+day-key-named one zone window (Some text) None rank h e k = absurd h
+day-key-named one zone window (Some text) (Some key) rank (inl h) e k = ap Some (one (day_key_rank key) rank h.0 k (sym h.1 ∙ same-text text (day_spelling rank) e))
+day-key-named one zone window (Some text) (Some key) rank (inr h) e k = absurd (no_both rank (key_rank key.key) (sym (same-text text (day_spelling rank) e) ∙ h.1))
+
+pub day-token-goes-on : OneDaySpelling → DayListingBehind → DayTokenGoesOn
+day-token-goes-on one behind-is words now files request every_day front p behind r some given k listing =
+    let after = subst (λ e. IsAfterBy (entries_of words) request.zone request.window request.after e) some r.1.after in
+    day-goes-on behind-is files request every_day front p behind listing
+    (day-key-named one request.zone request.window (after_text (entries_of words)) every_day.after (day_rank_of p) after.2 given k)
 
 splits-after : (style : Style) (before : Option ℤ) (front rest : List Entry) → text_after style before (front ++ rest) ≡ text_after style before front ++ text_after style (last_day style before front) rest
 splits-after style before [] rest = refl

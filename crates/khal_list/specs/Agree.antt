@@ -1,15 +1,21 @@
 -- Two answers to the same words say the same: the same request, as its parts show it, or the same fault.
-use Rattle.std.specs.Prelude.{◌≡◌, Result, Ok, Err}
+use Rattle.std.specs.Prelude.{◌≡◌, Option, Result, Ok, Err}
 use Rattle.std.specs.String.{string_bytes}
 use Rattle.std.specs.Option.{option_map}
+use Rattle.ics_series.specs.DayKeys.{day_key_rank, DayRank}
 use Rattle.ics_series.specs.Entry.{key_rank}
 use Rattle.ics_zone.specs.DisplayTexts.{said_by}
 use Rattle.ics_zone.specs.Zones.{zone_of}
+use Rattle.khal_list.specs.declared.every_day.EveryDay.{EveryDay}
 use Rattle.khal_list.specs.declared.request.Request.{Request}
 use Rattle.khal_list.specs.declared.request_fault.RequestFault.{RequestFault}
 use Rattle.khal_list.specs.declared.request_fault.RequestFault.TheVariants.{Usage, BadZone, BadWindow, BadToken, BadFormat, Memory}
 
--- the folder, what the zone says, the window, the limit, the key and the formats are the same
+-- the key under a day after which a listing by days goes on
+abbrev pub day_after : EveryDay → Option DayRank
+day_after every_day = option_map day_key_rank every_day.after
+
+-- the folder, what the zone says, the window, the limit, the keys and the formats are the same
 pub record SameRequest (a b : Request) : Type 0 where
   pub folder : string_bytes a.folder ≡ string_bytes b.folder
   pub zone : said_by (zone_of a.zone) ≡ said_by (zone_of b.zone)
@@ -18,6 +24,7 @@ pub record SameRequest (a b : Request) : Type 0 where
   pub notstarted : a.window.notstarted ≡ b.window.notstarted
   pub limit : a.limit ≡ b.limit
   pub after : option_map key_rank a.after ≡ option_map key_rank b.after
+  pub every_day : option_map day_after a.every_day ≡ option_map day_after b.every_day
   pub format : a.format.pieces.items ≡ b.format.pieces.items
   pub day_format : a.day_format.pieces.items ≡ b.day_format.pieces.items
 

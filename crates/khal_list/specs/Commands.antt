@@ -1,5 +1,5 @@
--- The command line, as clap's model sees it: `list FOLDER [START [END]] [--zone Z] [--limit N] [--after TOKEN] [--notstarted] [--format F]
--- [--day-format F]` and `at FOLDER MOMENT [--zone Z]`.
+-- The command line, as clap's model sees it: `list FOLDER [START [END]] [--zone Z] [--limit N] [--after TOKEN] [--notstarted] [--every-day]
+-- [--format F] [--day-format F]` and `at FOLDER MOMENT [--zone Z]`.
 use Rattle.std.specs.Prelude.{true, Some, [], ◌∷◌, codes, pos}
 use Rattle.clap.specs.Words.{App, Rule, new_app, new_rule, with_rule, with_subcommand}
 use Rattle.clap.specs.Simple.{on_top}
@@ -41,18 +41,27 @@ notstarted = record (new_rule (codes "notstarted")) {
   action = Some SetTrue;
 }
 
+abbrev pub every_day : Rule
+every_day = record (new_rule (codes "every-day")) {
+  long = Some (codes "every-day");
+  action = Some SetTrue;
+}
+
 abbrev pub format : Rule
 format = record (new_rule (codes "format")) { long = Some (codes "format"); value_names = 1 }
 
 abbrev pub day_format : Rule
 day_format = record (new_rule (codes "day-format")) { long = Some (codes "day-format"); value_names = 1 }
 
--- `list` with its places, with what chooses the entries, and with how they are written
+-- `list` with its places, with what says the pages, with what chooses the entries, and with how they are written
 abbrev pub list_places_app : App
 list_places_app = with_rule (with_rule (with_rule (new_app (codes "list")) folder) start) end
 
+abbrev pub list_pages_app : App
+list_pages_app = with_rule (with_rule (with_rule list_places_app zone) limit) after
+
 abbrev pub list_choices_app : App
-list_choices_app = with_rule (with_rule (with_rule (with_rule list_places_app zone) limit) after) notstarted
+list_choices_app = with_rule (with_rule list_pages_app notstarted) every_day
 
 abbrev pub list_app : App
 list_app = with_rule (with_rule list_choices_app format) day_format

@@ -1,54 +1,90 @@
 -- THE HEADLINE: what a run reads, lists and writes.
 use Rattle.std.specs.Prelude.{◌≡◌, ◌↔◌, ◌⊎◌, ℕ, List, [], ◌∷◌, ◌++◌, Option, Some, None, Any, IsErr, codes}
 use Rattle.std.specs.Io.KnownBytes.{Appends}
+use Rattle.std.specs.Option.{option_map}
 use Rattle.ics_calendar.specs.Event.{FileSaid}
 use Rattle.ics_series.specs.Clocks.{display_clock}
-use Rattle.ics_series.specs.Entry.{Entry, Rank, entry_cmp}
+use Rattle.ics_series.specs.DayTokens.{day_spelling}
+use Rattle.ics_series.specs.Entry.{Entry, entry_cmp}
 use Rattle.ics_series.specs.Listing.{IsListing}
 use Rattle.ics_series.specs.Meets.{IsListed}
+use Rattle.ics_series.specs.OnDays.{on_day_cmp, IsOnDay, OnDay}
 use Rattle.ics_series.specs.Tokens.{spelling}
+use Rattle.khal_list.specs.declared.every_day.EveryDay.{EveryDay}
 use Rattle.khal_list.specs.declared.request.Request.{Request}
 use Rattle.khal_list.specs.declared.status.Status.{Status}
 use Rattle.khal_list.specs.declared.status.Status.TheVariants.{Faulty}
 use Rattle.khal_list.specs.Answers.{Answer, Contents}
 use Rattle.khal_list.specs.Errors.{accepted, error_lines, file_by}
 use Rattle.khal_list.specs.Growth.{TookFront}
-use Rattle.khal_list.specs.Listed.{asked_after, key_on, text_of}
+use Rattle.khal_list.specs.Listed.{asked_after, asked_after_day, day_key_on, days_text_of, key_on, text_of}
 use Rattle.khal_list.specs.Reads.{ReadsAll, ReadsSome}
 
 -- THE listing of the files: the one strictly rising list of exactly their occurrences that meet the window
 abbrev pub IsListingOf : List FileSaid → Request → List Entry → Type 0
 IsListingOf files request list = IsListing entry_cmp (IsListed files (display_clock request.zone) request.window) list
 
--- the line with the token from which a listing continues: `more: TOKEN` and LF
-abbrev pub more_line : Option Rank → List ℕ
+-- THE listing of the files under each day: the one strictly rising list of exactly their occurrences that meet the window, under their days there
+abbrev pub IsDayListingOf : List FileSaid → Request → List OnDay → Type 0
+IsDayListingOf files request list = IsListing on_day_cmp (IsOnDay files (display_clock request.zone) request.window) list
+
+-- What a request shows of the files: the text of the first entries of their listing after its key, up to its limit, and the token of the last of
+-- them, if the limit cuts the listing.
+pub record ShowsOnce (files : List FileSaid) (request : Request) (shown : List ℕ) (token : Option (List ℕ)) : Type 0 where
+  pub list : List Entry
+  pub listing : IsListingOf files request list
+  pub shown_is : shown ≡ text_of request (asked_after request list)
+  pub token_is : token ≡ option_map spelling (key_on request.limit (asked_after request list))
+
+-- the same of their listing under each day
+pub record ShowsDays (files : List FileSaid) (request : Request) (every_day : EveryDay) (shown : List ℕ) (token : Option (List ℕ)) : Type 0 where
+  pub list : List OnDay
+  pub listing : IsDayListingOf files request list
+  pub shown_is : shown ≡ days_text_of request (asked_after_day every_day list)
+  pub token_is : token ≡ option_map day_spelling (day_key_on request.limit (asked_after_day every_day list))
+
+-- under each day, if the request asks for that
+abbrev pub ShowsBy : Option EveryDay → List FileSaid → Request → List ℕ → Option (List ℕ) → Type 0
+ShowsBy None files request shown token = ShowsOnce files request shown token
+ShowsBy (Some every_day) files request shown token = ShowsDays files request every_day shown token
+
+abbrev pub Shows : List FileSaid → Request → List ℕ → Option (List ℕ) → Type 0
+Shows files request shown token = ShowsBy request.every_day files request shown token
+
+-- an output has gained such a text, whose listing continues from this token, if there is one
+abbrev pub Shown : (List ℕ → Option (List ℕ) → Type 0) → Option (List ℕ) → Option (List ℕ) → Option (List ℕ) → Type 0
+Shown shows out out' token = (shown : List ℕ) × shows shown token × Appends out out' shown
+
+-- it has gained a prefix of such a text, or nothing
+abbrev pub ShownInPart : (List ℕ → Option (List ℕ) → Type 0) → Option (List ℕ) → Option (List ℕ) → Type 0
+ShownInPart shows out out' = (out' ≡ out) ⊎ ((shown : List ℕ) × (token : Option (List ℕ)) × shows shown token × TookFront out out' shown)
+
+-- the line with the token from which a listing continues, if there is one: `more: TOKEN` and LF
+abbrev pub more_line : Option (List ℕ) → List ℕ
 more_line None = []
-more_line (Some key) = codes "more: " ++ (spelling key ++ 10 ∷ [])
+more_line (Some token) = codes "more: " ++ (token ++ 10 ∷ [])
 
--- that line, if the limit cut the list
-abbrev pub more_of : Request → List Entry → List ℕ
-more_of request list = more_line (key_on request.limit list)
-
--- Every file was read once, in order. `out` has gained exactly the text of the first entries of the listing after the request's key, up to its
--- limit. `err` has gained exactly the lines of the files that were not read or are refused and, if the limit cut the listing, the line with the
--- token from which it continues. The status is Faulty exactly if there is a line of a file.
+-- Every file was read once, in order. `out` has gained exactly the text that the request shows of the accepted files. `err` has gained exactly the
+-- lines of the files that were not read or are refused and, if the limit cut the listing, the line with the token from which it continues. The
+-- status is Faulty exactly if there is a line of a file.
 pub record Lists {S : Type 0} (reads : S → ℕ → Answer → S → Type 0) (names : List (List ℕ)) (before after : S) (request : Request)
     (out out' err err' : Option (List ℕ)) (status : Status) : Type 0 where
   pub contents : List Contents
   pub read : ReadsAll reads names before contents after
-  pub list : List Entry
-  pub listing : IsListingOf (accepted contents) request list
-  pub text : Appends out out' (text_of request (asked_after request list))
-  pub errors : Appends err err' (error_lines names contents ++ more_of request (asked_after request list))
+  pub shown : List ℕ
+  pub token : Option (List ℕ)
+  pub shows : Shows (accepted contents) request shown token
+  pub text : Appends out out' shown
+  pub errors : Appends err err' (error_lines names contents ++ more_line token)
   pub faulty : (status ≡ Faulty) ↔ Any (λ given. IsErr (file_by given)) contents
 
--- What was written if a run ends with a fault after every file is read and all their lines are in `err`: a prefix of the listing's text in `out`,
--- or that whole text and a prefix of the last line in `err`.
+-- What was written if a run ends with a fault after every file is read and all their lines are in `err`: a prefix of the text that the request
+-- shows in `out`, or that whole text and a prefix of the last line in `err`.
 pub record StopsListing (contents : List Contents) (request : Request) (out out' err err' : Option (List ℕ)) : Type 0 where
-  pub list : List Entry
-  pub listing : IsListingOf (accepted contents) request list
-  pub taken : ((err' ≡ err) × TookFront out out' (text_of request (asked_after request list)))
-      ⊎ (Appends out out' (text_of request (asked_after request list)) × TookFront err err' (more_of request (asked_after request list)))
+  pub shown : List ℕ
+  pub token : Option (List ℕ)
+  pub shows : Shows (accepted contents) request shown token
+  pub taken : ((err' ≡ err) × TookFront out out' shown) ⊎ (Appends out out' shown × TookFront err err' (more_line token))
 
 -- What was written if a run ends with a fault: nothing in `out` and, in `err`, a prefix of the lines of the files that were read; or the run ended
 -- in the listing or in the last line.

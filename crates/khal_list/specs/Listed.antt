@@ -3,17 +3,20 @@ use Rattle.std.specs.Prelude.{◌∷◌, ℕ, Bool, false, List, [], Option, Som
 use Rattle.std.specs.Option.{option_map}
 use Rattle.ics_series.specs.After.{after_key}
 use Rattle.ics_series.specs.Clocks.{display_clock}
+use Rattle.ics_series.specs.DayKeys.{day_key_rank, DayRank}
 use Rattle.ics_series.specs.Entry.{Entry, Rank, key_rank, rank_of}
+use Rattle.ics_series.specs.OnDays.{after_day_key, day_rank_of, OnDay}
+use Rattle.khal_list.specs.declared.every_day.EveryDay.{EveryDay}
 use Rattle.khal_list.specs.declared.request.Request.{Request}
-use Rattle.khal_list.specs.Text.{Style, text}
+use Rattle.khal_list.specs.Text.{Style, days_text, text}
 
 -- the first entries, up to a limit
-abbrev pub first_of : Option ℕ → List Entry → List Entry
+abbrev pub first_of : {A : Type 0} → Option ℕ → List A → List A
 first_of None list = list
 first_of (Some limit) list = take limit list
 
 -- there are more than the limit
-abbrev pub is_cut : Option ℕ → List Entry → Bool
+abbrev pub is_cut : {A : Type 0} → Option ℕ → List A → Bool
 is_cut None list = false
 is_cut (Some limit) list = nat_lt limit (length list)
 
@@ -26,6 +29,15 @@ last_key (e ∷ f ∷ more) = last_key (f ∷ more)
 -- the key from which a listing continues: that of the last of the first entries, if there are more
 abbrev pub key_on : Option ℕ → List Entry → Option Rank
 key_on limit list = if is_cut limit list then last_key (first_of limit list) else None
+
+-- the same for entries under days
+abbrev pub last_day_key : List OnDay → Option DayRank
+last_day_key [] = None
+last_day_key (p ∷ []) = Some (day_rank_of p)
+last_day_key (p ∷ q ∷ more) = last_day_key (q ∷ more)
+
+abbrev pub day_key_on : Option ℕ → List OnDay → Option DayRank
+day_key_on limit list = if is_cut limit list then last_day_key (first_of limit list) else None
 
 -- the part of the listing of the window that comes after the request's key
 abbrev pub asked_after : Request → List Entry → List Entry
@@ -43,3 +55,10 @@ style_of request = record {
 -- the text of the first entries of a list, up to the request's limit
 abbrev pub text_of : Request → List Entry → List ℕ
 text_of request list = text (style_of request) (first_of request.limit list)
+
+-- the part of the listing under each day that comes after this key
+abbrev pub asked_after_day : EveryDay → List OnDay → List OnDay
+asked_after_day every_day list = after_day_key (option_map day_key_rank every_day.after) list
+
+abbrev pub days_text_of : Request → List OnDay → List ℕ
+days_text_of request list = days_text (style_of request) (first_of request.limit list)

@@ -4,12 +4,16 @@ use Rattle.std.specs.Option.{option_map}
 use Rattle.clap.specs.Words.{Text}
 use Rattle.ics_calendar.specs.Event.{FileSaid}
 use Rattle.ics_series.specs.After.{after_key}
+use Rattle.ics_series.specs.DayKeys.{day_key_rank}
+use Rattle.ics_series.specs.DayTokens.{day_spelling, IsDayKey}
 use Rattle.ics_series.specs.Entry.{Entry, Rank, key_rank, rank_of}
+use Rattle.ics_series.specs.OnDays.{day_rank_of, OnDay}
 use Rattle.ics_series.specs.Tokens.{spelling, IsKey}
+use Rattle.khal_list.specs.declared.every_day.EveryDay.{EveryDay}
 use Rattle.khal_list.specs.declared.request.Request.{Request}
 use Rattle.khal_list.specs.Entries.{entries_of}
-use Rattle.khal_list.specs.Headline.{IsListingOf}
-use Rattle.khal_list.specs.Listed.{asked_after, first_of, is_cut, key_on}
+use Rattle.khal_list.specs.Headline.{IsDayListingOf, IsListingOf}
+use Rattle.khal_list.specs.Listed.{asked_after, asked_after_day, first_of, is_cut, key_on}
 use Rattle.khal_list.specs.RequestOf.{after_text, RequestOf}
 use Rattle.khal_list.specs.Text.{Style, day_under, heading_text, text, text_after}
 
@@ -19,12 +23,25 @@ GoesOn =
     (files : List FileSaid) (request : Request) (front : List Entry) (o : Entry) (behind : List Entry) → IsListingOf files request (front ++ o ∷ behind)
     → option_map key_rank request.after ≡ Some (rank_of o) → asked_after request (front ++ o ∷ behind) ≡ behind
 
--- words whose `--after` has the token of an entry of the listing ask for exactly the entries after it
+-- words whose `--after` has the token of an entry of the listing, and which do not have `--every-day`, ask for exactly the entries after it
 abbrev pub TokenGoesOn : Type 0
 TokenGoesOn =
     (words : List Text) (now : ℤ) (files : List FileSaid) (request : Request) (front : List Entry) (o : Entry) (behind : List Entry)
-    → RequestOf words now (Ok request) → after_text (entries_of words) ≡ Some (spelling (rank_of o)) → IsKey (rank_of o)
+    → RequestOf words now (Ok request) → request.every_day ≡ None → after_text (entries_of words) ≡ Some (spelling (rank_of o)) → IsKey (rank_of o)
     → IsListingOf files request (front ++ o ∷ behind) → asked_after request (front ++ o ∷ behind) ≡ behind
+
+-- the listing under each day after the key of one of its entries is that of the entries after it
+abbrev pub DayGoesOn : Type 0
+DayGoesOn =
+    (files : List FileSaid) (request : Request) (every_day : EveryDay) (front : List OnDay) (p : OnDay) (behind : List OnDay) → IsDayListingOf files request (front ++ p ∷ behind)
+    → option_map day_key_rank every_day.after ≡ Some (day_rank_of p) → asked_after_day every_day (front ++ p ∷ behind) ≡ behind
+
+-- words with `--every-day` whose `--after` has the token of an entry under its day ask for exactly the entries after it
+abbrev pub DayTokenGoesOn : Type 0
+DayTokenGoesOn =
+    (words : List Text) (now : ℤ) (files : List FileSaid) (request : Request) (every_day : EveryDay) (front : List OnDay) (p : OnDay) (behind : List OnDay)
+    → RequestOf words now (Ok request) → request.every_day ≡ Some every_day → after_text (entries_of words) ≡ Some (day_spelling (day_rank_of p)) → IsDayKey (day_rank_of p)
+    → IsDayListingOf files request (front ++ p ∷ behind) → asked_after_day every_day (front ++ p ∷ behind) ≡ behind
 
 -- the day under which the last of these entries is listed, or the day before them if there are none
 abbrev pub last_day : Style → Option ℤ → List Entry → Option ℤ

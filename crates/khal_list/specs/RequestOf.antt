@@ -1,17 +1,25 @@
 -- What the words of the command line and the clock ask for, or why they are not a request.
-use Rattle.std.specs.Prelude.{◌≡◌, ◌↔◌, ◌⊎◌, ⊤, ℤ, IsTrue, List, Option, Some, None, IsSome, Result, Ok, Err, codes}
+use Rattle.std.specs.Prelude.{◌≡◌, ◌↔◌, ◌⊎◌, ⊤, ℤ, pos, int_lt, if◌then◌else◌, IsTrue, List, Option, Some, None, IsSome, Result, Ok, Err, codes}
+use Rattle.std.specs.Int.{int_max}
 use Rattle.std.specs.String.{string_bytes}
 use Rattle.clap.specs.Words.{Text}
 use Rattle.ics_zone.specs.DisplayTexts.{display_of, said_by}
 use Rattle.ics_zone.specs.Zones.{zone_of}
 use Rattle.ics_zone.specs.declared.display.Display.{Display}
+use Rattle.ics_series.specs.Clocks.{display_clock}
+use Rattle.ics_series.specs.DayKeys.{day_key_rank, DayRank}
+use Rattle.ics_series.specs.DayTokens.{day_spelling, IsDayKey, IsDayToken}
+use Rattle.ics_series.specs.Days.{date_at}
 use Rattle.ics_series.specs.Entry.{key_rank}
 use Rattle.ics_series.specs.Tokens.{spelling, IsKey, IsToken}
+use Rattle.ics_series.specs.declared.day_key.DayKey.{DayKey}
 use Rattle.ics_series.specs.declared.key.Key.{Key}
+use Rattle.ics_series.specs.declared.window.Window.{Window}
 use Rattle.khal_list.specs.Formats.{day_default, day_name, entry_default, entry_name, written, IsFormat}
 use Rattle.khal_list.specs.Entries.{Entries, entry, entries_of, limit_text, text_of, text_or, span_of, AreTaken, IsRefused}
 use Rattle.khal_list.specs.Limits.{IsLimitOf}
 use Rattle.khal_list.specs.Windows.{ends_of}
+use Rattle.khal_list.specs.declared.every_day.EveryDay.{EveryDay}
 use Rattle.khal_list.specs.declared.request.Request.{Request}
 use Rattle.khal_list.specs.declared.request_fault.RequestFault.{RequestFault}
 use Rattle.khal_list.specs.declared.request_fault.RequestFault.TheVariants.{Usage, BadZone, BadWindow, BadToken, BadFormat, Memory}
@@ -31,6 +39,10 @@ day_format_text entries = text_or (codes "day-format") day_default entries
 abbrev pub after_text : Entries → Option Text
 after_text entries = entry (codes "after") entries
 
+-- `--every-day` is given
+abbrev pub AsksEveryDay : Entries → Type 0
+AsksEveryDay entries = text_of (codes "every-day") entries ≡ codes "true"
+
 -- the key of a token, or none if there is no token
 abbrev pub IsKeyOf : Option Text → Option Key → Type 0
 IsKeyOf None None = ⊤
@@ -38,11 +50,47 @@ IsKeyOf None (Some key) = ⊥
 IsKeyOf (Some text) None = ⊥
 IsKeyOf (Some text) (Some key) = IsKey (key_rank key) × (text ≡ spelling (key_rank key))
 
--- the text is given and is not a token
-pub record IsNoToken (given : Option Text) : Type 0 where
+-- The day under which a listing by days goes on after an occurrence with this start: that of the later of it and the window's start. After one that
+-- starts past the window it is the greatest number, so that nothing is listed.
+abbrev pub day_from : Display → Window → ℤ → ℤ
+day_from zone window start =
+    if int_lt start window.to then date_at (display_clock zone) (int_max start window.from) else pos 2_147_483_647
+
+-- the key under a day of a token: its own, or if it has none that day's
+abbrev pub IsDayKeyBy : Display → Window → Text → DayRank → Type 0
+IsDayKeyBy zone window text key =
+    (IsDayKey key × (text ≡ day_spelling key))
+    ⊎ (IsKey key.key × (text ≡ spelling key.key) × (key.day ≡ day_from zone window key.key.start))
+
+abbrev pub IsDayKeyOf : Display → Window → Option Text → Option DayKey → Type 0
+IsDayKeyOf zone window None None = ⊤
+IsDayKeyOf zone window None (Some key) = ⊥
+IsDayKeyOf zone window (Some text) None = ⊥
+IsDayKeyOf zone window (Some text) (Some key) = IsDayKeyBy zone window text (day_key_rank key)
+
+-- The keys after which a listing goes on: without `--every-day` that of the token, and no days are asked for; with it that of the token under a day.
+abbrev pub IsAfterBy : Entries → Display → Window → Option Key → Option EveryDay → Type 0
+IsAfterBy entries zone window after None = (¬ AsksEveryDay entries) × IsKeyOf (after_text entries) after
+IsAfterBy entries zone window after (Some every_day) =
+    AsksEveryDay entries × (after ≡ None) × IsDayKeyOf zone window (after_text entries) every_day.after
+
+-- a text is given and is not a token
+pub record IsNoKey (given : Option Text) : Type 0 where
   pub text : Text
   pub stands : given ≡ Some text
   pub none : ¬ IsToken text
+
+-- nor is it one of an entry under a day
+pub record IsNoDayKey (given : Option Text) : Type 0 where
+  pub text : Text
+  pub stands : given ≡ Some text
+  pub none : ¬ IsToken text
+  pub no_day : ¬ IsDayToken text
+
+-- the value of `--after` is given and is not a token; with `--every-day` it is none of an entry under a day either
+pub record IsNoToken (entries : Entries) : Type 0 where
+  pub key : IsNoKey (after_text entries)
+  pub day_key : AsksEveryDay entries → IsNoDayKey (after_text entries)
 
 -- the request that clap's entries and the clock make
 pub record IsRequest (entries : Entries) (now : ℤ) (request : Request) : Type 0 where
@@ -51,7 +99,7 @@ pub record IsRequest (entries : Entries) (now : ℤ) (request : Request) : Type 
   pub window : Some (request.window.from, request.window.to) ≡ ends_of request.zone now (span_of entries)
   pub notstarted : IsTrue request.window.notstarted ↔ (text_of (codes "notstarted") entries ≡ codes "true")
   pub limit : IsLimitOf (limit_text entries) request.limit
-  pub after : IsKeyOf (after_text entries) request.after
+  pub after : IsAfterBy entries request.zone request.window request.after request.every_day
   pub format : format_text entries ≡ written entry_name request.format.pieces.items
   pub day_format : day_format_text entries ≡ written day_name request.day_format.pieces.items
 
@@ -70,13 +118,12 @@ pub record HasWindow (entries : Entries) (now : ℤ) : Type 0 where
 -- they do so, and the value of `--after` is not a token
 pub record IsBadToken (entries : Entries) (now : ℤ) : Type 0 where
   pub window : HasWindow entries now
-  pub token : IsNoToken (after_text entries)
+  pub token : IsNoToken entries
 
--- they do so, the value of `--after` is a token, and one of the formats is not a format
+-- they do so, the value of `--after`, if it is given, is a token, and one of the formats is not a format
 pub record IsBadFormat (entries : Entries) (now : ℤ) : Type 0 where
   pub window : HasWindow entries now
-  pub key : Option Key
-  pub after : IsKeyOf (after_text entries) key
+  pub token : ¬ IsNoToken entries
   pub none : (¬ IsFormat entry_name (format_text entries)) ⊎ (¬ IsFormat day_name (day_format_text entries))
 
 -- the answer to clap's entries, which are there if it accepts the words

@@ -1,5 +1,5 @@
 -- The text of a listing: each entry on a line, under its day. The form is the program's own.
-use Rattle.std.specs.Prelude.{ℕ, ℤ, pos, ◌+◌, ◌/◌, ◌%◌, ◌==◌, ◌&&◌, ◌+ℤ◌, ◌-ℤ◌, Bool, true, false, List, [], ◌∷◌, ◌++◌, Option, Some, None, codes, replicate, slice_get, unwrap_or, unsigned_abs, if◌then◌else◌}
+use Rattle.std.specs.Prelude.{ℕ, ℤ, pos, ◌+◌, ◌/◌, ◌%◌, ◌==◌, ◌&&◌, ◌+ℤ◌, ◌-ℤ◌, Bool, true, false, List, [], ◌∷◌, ◌++◌, Option, Some, None, codes, map, replicate, slice_get, unwrap_or, unsigned_abs, if◌then◌else◌}
 use Rattle.std.specs.Int.{int_div_euclid, int_rem_euclid, int_max}
 use Rattle.std.specs.Option.{option_eq}
 use Rattle.std.specs.Ordering.{int_eq}
@@ -8,6 +8,7 @@ use Rattle.ics_values.specs.declared.stamp.Stamp.TheVariants.{Date, Floating, Ut
 use Rattle.ics_values.specs.Days.{year_of, month_of, month_day_of, weekday_of, day_index}
 use Rattle.ics_series.specs.Clocks.{Clock, local_at}
 use Rattle.ics_series.specs.Entry.{Entry}
+use Rattle.ics_series.specs.OnDays.{on_day, OnDay}
 use Rattle.khal_list.specs.declared.field.EntryField.{EntryField}
 use Rattle.khal_list.specs.declared.field.EntryField.TheVariants.{Cell, Title, StartTime, EndTime, StartDate, EndDate, Location, Description, Uid, Cancelled}
 use Rattle.khal_list.specs.declared.field.DayField.{DayField}
@@ -134,11 +135,22 @@ heading_after style before day = if option_eq int_eq before (Some day) then [] e
 abbrev pub entry_text : Style → Option ℤ → ℤ → Entry → List ℕ
 entry_text style before day e = heading_after style before day ++ line_text style day e
 
+-- entries under days in order, each after the day of the one before
+abbrev pub days_text_after : Style → Option ℤ → List OnDay → List ℕ
+days_text_after style before [] = []
+days_text_after style before (p ∷ ps) = entry_text style before p.day p.entry ++ days_text_after style (Some p.day) ps
+
+-- the text of a list of entries under days
+abbrev pub days_text : Style → List OnDay → List ℕ
+days_text style list = days_text_after style None list
+
+-- an entry under the day that it is listed under
+abbrev pub under : Style → Entry → OnDay
+under style e = on_day (day_under style e) e
+
 -- the entries in order, each after the day of the one before
 abbrev pub text_after : Style → Option ℤ → List Entry → List ℕ
-text_after style before [] = []
-text_after style before (e ∷ es) =
-    entry_text style before (day_under style e) e ++ text_after style (Some (day_under style e)) es
+text_after style before list = days_text_after style before (map (under style) list)
 
 -- the text of a list of entries
 abbrev pub text : Style → List Entry → List ℕ

@@ -41,7 +41,7 @@ const WHICH_ENTRIES: &str = "Which entries";
 const HOW_WRITTEN: &str = "How they are written";
 
 /// The program's command: `list FOLDER [START [END]] [--zone Z] [--limit N] [--after TOKEN]
-/// [--notstarted] [--format F] [--day-format F]` and `at FOLDER MOMENT [--zone Z]`.
+/// [--notstarted] [--every-day] [--format F] [--day-format F]` and `at FOLDER MOMENT [--zone Z]`.
 pub(crate) fn command<'a>(alloc: Global) -> Result<Command<'a>, AllocError>
     ensures shape { IfOk result (λ c. app_of c ≡ spec.khal_app) }
     ensures local { IfOk result (λ c. (out-Command c).has_globals ≡ false) }
@@ -83,10 +83,17 @@ fn list_choices<'a>(alloc: Global) -> Result<Command<'a>, AllocError>
     ensures shape { IfOk result (λ c. app_of c ≡ spec.list_choices_app) }
     ensures local { IfOk result (λ c. (out-Command c).has_globals ≡ false) }
 {
+    let command = with(list_pages(alloc)?, notstarted_arg(alloc))?;
+    with(command, every_day_arg(alloc))
+}
+
+fn list_pages<'a>(alloc: Global) -> Result<Command<'a>, AllocError>
+    ensures shape { IfOk result (λ c. app_of c ≡ spec.list_pages_app) }
+    ensures local { IfOk result (λ c. (out-Command c).has_globals ≡ false) }
+{
     let command = with(list_places(alloc)?, zone_arg(alloc))?;
     let command = with(command, limit_arg(alloc))?;
-    let command = with(command, after_arg(alloc))?;
-    with(command, notstarted_arg(alloc))
+    with(command, after_arg(alloc))
 }
 
 fn list_places<'a>(alloc: Global) -> Result<Command<'a>, AllocError>
@@ -201,6 +208,17 @@ fn notstarted_arg<'a>(alloc: Global) -> Arg<'a>
         .long("notstarted")
         .help_heading(WHICH_ENTRIES)
         .help("Leave out what began before START")
+        .action(ArgAction::SetTrue)
+}
+
+fn every_day_arg<'a>(alloc: Global) -> Arg<'a>
+    ensures rule { rule_of result ≡ spec.every_day }
+    ensures local { result.global ≡ false }
+{
+    Arg::new(alloc, "every-day")
+        .long("every-day")
+        .help_heading(WHICH_ENTRIES)
+        .help("List what lasts several days under each of them")
         .action(ArgAction::SetTrue)
 }
 

@@ -7,7 +7,7 @@ ghost use Rattle.khal_list.specs.declared.request.Request.{Request};
 ghost use Rattle.khal_list.specs.declared.request_fault.RequestFault.{RequestFault};
 
 use crate::format_laws::one_format;
-use ics_series::one_spelling;
+use ics_series::{one_day_spelling, one_spelling};
 use ics_zone::one_display;
 
 /// Words and a clock have one answer, one request or one fault, unless an allocation fails.
@@ -17,5 +17,6 @@ pub fn one_answer()
 {
     one_display();
     one_spelling();
+    one_day_spelling();
     one_format();
 }

@@ -1,17 +1,22 @@
-//! The text of a feed, entry by entry.
-ghost use Rattle.std.specs.Prelude.{◌≡◌, ◌≢◌, ◌+◌, Some, IfOk, IfErr, OnOk, OnErr, IsErrOf};
+//! The text of a listing, entry by entry.
+ghost use Rattle.std.specs.Prelude.{◌≡◌, ◌≢◌, ◌+◌, List, Some, IfOk, IfErr, OnOk, OnErr, IsErrOf};
 ghost use Rattle.std.specs.Io.KnownBytes.{Appends};
 ghost use Rattle.std.specs.Option.{option_map};
-ghost use Rattle.ics_series.specs.Entry.{Entry, entry_of, key_rank, rank_of};
-ghost use Rattle.khal_list.specs.Drawn.{DrewAhead};
+ghost use Rattle.ics_series.specs.Ahead.{IsAhead};
+ghost use Rattle.ics_series.specs.DayKeys.{day_key_rank};
+ghost use Rattle.ics_series.specs.Entry.{key_rank};
+ghost use Rattle.ics_series.specs.OnDays.{day_rank_of, on_day_of, OnDay};
+ghost use Rattle.khal_list.specs.Drawn.{DrewAhead, Puts};
 ghost use Rattle.khal_list.specs.Growth.{TookFront, LeftByFault};
 ghost use Rattle.khal_list.specs.Listed.{key_on, style_of, text_of};
+ghost use Rattle.khal_list.specs.Text.{text};
 
-use crate::entry::{add_entry, day_under};
+use crate::drawing::{Draws, EachDay, Once};
+use crate::entry::add_entry;
 use crate::fault::RunFault;
 use crate::request::Request;
 use crate::sink::{Sink, put_all};
-use ics_series::{Feed, Key, Occurrence};
+use ics_series::{DayKey, Days, Feed, Key, Occurrence};
 use std::alloc::Global;
 
 /// Writes the text of a feed's first entries, up to the request's limit: each entry's line, and a
@@ -32,27 +37,65 @@ pub fn print<'a, F: Feed<'a>, O: Sink>(
         ≡ key_on request.now.limit (F.coming feed.old)) }
     ensures front { OnErr result (TookFront (O.taken out.old) (O.taken out.new)
         (text_of request.now (F.coming feed.old))) }
-    ensures drew { DrewAhead (style_of request.now) (F.coming feed.old) (F.coming feed.new)
+    ensures drew { DrewAhead (text (style_of request.now)) (F.coming feed.old) (F.coming feed.new)
         (O.taken out.old) (O.taken out.new) }
+    ensures cause { IsErrOf result RunFault.WriteFault → LeftByFault O.puts out.new }
+{
+    match put_entries(alloc, &Once { request }, feed, request, out)? {
+        None => Ok(None),
+        Some(last) => Ok(Some(last.key)),
+    }
+}
+
+/// Writes the text of the first entries of a listing under each day, as `print` does; the key that it
+/// returns is that of the last entry under its day.
+///
+/// WriteFault comes only if the sink failed, or was given bytes and took none.
+pub fn print_days<'a, O: Sink>(
+    alloc: Global,
+    days: &mut Days<'a>,
+    request: &Request,
+    out: &mut O,
+) -> Result<Option<DayKey>, RunFault>
+    ensures puts { (list : List OnDay) → IsAhead days.old list
+        → Puts request.now (IsAhead days.new) list (O.taken out.old) (O.taken out.new) result }
+    ensures cause { IsErrOf result RunFault.WriteFault → LeftByFault O.puts out.new }
+{
+    put_entries(alloc, &EachDay, days, request, out)
+}
+
+// Writes the text of the first entries that a source has to come, in the way in which they are drawn.
+fn put_entries<'a, X, D: Draws<'a, X>, O: Sink>(
+    alloc: Global,
+    draws: &D,
+    source: &mut X,
+    request: &Request,
+    out: &mut O,
+) -> Result<Option<DayKey>, RunFault>
+    ensures puts { (list : List OnDay) → D.comes draws.now source.old list
+        → Puts request.now (D.comes draws.now source.new) list (O.taken out.old) (O.taken out.new) result }
     ensures cause { IsErrOf result RunFault.WriteFault → LeftByFault O.puts out.new }
 {
     let mut text = Vec::new(alloc);
     let mut before: Option<i32> = None;
     let mut left = request.limit;
-    let mut last: Option<Occurrence<'a>> = None;
-    while let Some(occurrence) = feed.next()? {
+    let mut last: Option<(i32, Occurrence<'a>)> = None;
+    // No listing has so many entries that they cannot be counted.
+    for _count in 0..u64::MAX {
+        let Some((day, occurrence)) = draws.draw(source)? else {
+            return Ok(None);
+        };
         if let Some(0) = left {
             return key_of(alloc, last);
         }
-        let day = day_under(request, &occurrence);
         text.clear();
         add_entry(alloc, &mut text, request, before, day, &occurrence)?;
         put_all(out, &text)?;
         before = Some(day);
         left = one_fewer(left);
-        last = Some(occurrence);
+        last = Some((day, occurrence));
     }
-    Ok(None)
+    Err(RunFault::Memory)
 }
 
 // What is left of a limit after one entry.
@@ -66,14 +109,17 @@ fn one_fewer(left: Option<u32>) -> Option<u32>
     }
 }
 
-// The key of an occurrence, if there is one.
-fn key_of(alloc: Global, occurrence: Option<Occurrence<'_>>) -> Result<Option<Key>, RunFault>
-    ensures ok { IfOk result (λ key. option_map key_rank key
-        ≡ option_map (λ o. rank_of (entry_of o)) occurrence.entry) }
+// The key of an entry under its day, if there is one.
+fn key_of(alloc: Global, entry: Option<(i32, Occurrence<'_>)>) -> Result<Option<DayKey>, RunFault>
+    ensures ok { IfOk result (λ key. option_map day_key_rank key
+        ≡ option_map (λ given. day_rank_of (on_day_of given)) entry.entry) }
     ensures err { IfErr result (λ fault. fault ≡ RunFault.Memory) }
 {
-    match occurrence {
+    match entry {
         None => Ok(None),
-        Some(occurrence) => Ok(Some(Key::of(alloc, &occurrence)?)),
+        Some((day, occurrence)) => {
+            let key = Key::of(alloc, &occurrence)?;
+            Ok(Some(DayKey { day, key }))
+        }
     }
 }

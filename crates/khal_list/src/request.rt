@@ -1,19 +1,19 @@
 //! Requests for a listing.
-ghost use Rattle.std.specs.Prelude.{◌≡◌, ◌∷◌, IfOk, IsErrOf, map, codes};
+ghost use Rattle.std.specs.Prelude.{◌≡◌, ◌∷◌, IfOk, map, codes};
 ghost use Rattle.std.specs.String.{string_bytes};
 ghost use Rattle.clap.specs.Words.{subcommand_rows_of};
 ghost use Rattle.khal_list.specs.Entries.{limit_text, with_name, HasLimit};
 ghost use Rattle.khal_list.specs.Limits.{number_of, IsLimitOf};
-ghost use Rattle.khal_list.specs.RequestOf as spec;
 
 use crate::RequestFault;
+use crate::every_day::{After, EveryDay};
 use crate::field::{DayField, EntryField};
 use crate::format::Format;
 use crate::span::Span;
 use crate::window::window_of;
 use crate::words::{entry, matches, text, text_or};
 use clap::ArgMatches;
-use ics_series::{Key, Token, TokenFault, Window};
+use ics_series::{Key, Window};
 use ics_values::Moment;
 use ics_zone::Display;
 use std::alloc::{AllocError, Global};
@@ -27,8 +27,11 @@ pub struct Request {
     pub window: Window,
     /// The most entries that are listed.
     pub limit: Option<u32>,
-    /// The key after which the listing continues: only entries with greater keys are listed.
+    /// The key after which the listing continues: only entries with greater keys are listed. A listing
+    /// under each day has a key of its own.
     pub after: Option<Key>,
+    /// Whether an occurrence is listed under each of its days, and after which key.
+    pub every_day: Option<EveryDay>,
     /// How an entry's line is written.
     pub format: Format<EntryField>,
     /// How a day's heading is written.
@@ -39,8 +42,8 @@ impl Request {
     ghost use Rattle.khal_list.specs.RequestOf.{RequestOf, EntriesAnswer};
 
     /// The request of the words after the program's name, at a clock: `list FOLDER [START [END]]
-    /// [--zone Z] [--limit N] [--after TOKEN] [--notstarted] [--format F] [--day-format F]` or
-    /// `at FOLDER MOMENT [--zone Z]`.
+    /// [--zone Z] [--limit N] [--after TOKEN] [--notstarted] [--every-day] [--format F]
+    /// [--day-format F]` or `at FOLDER MOMENT [--zone Z]`.
     ///
     /// START is `YYYY-MM-DD` (its midnight) or `YYYY-MM-DDTHH:MM`, by default today. END is a date
     /// (its day included), a date-time (excluded) or `Nd`, START's local plus 1 to 3,700,000 days;
@@ -48,9 +51,11 @@ impl Request {
     /// display zone, from 0001-01-02 to 9800-01-01.
     ///
     /// `--limit` takes a number from 1 to 4,294,967,295, the most entries that are listed, and
-    /// `--after` the token of the key after which the listing continues. `--format` says how an entry
-    /// is written, by default `{cell} {title}`, and `--day-format` how a day's heading is, by default
-    /// `{name}, {date}`.
+    /// `--after` the token of the key after which the listing continues. With `--every-day` an
+    /// occurrence is listed under each of its days in the window, and the token is that of an entry
+    /// under a day, or that of an entry, which then stands for it under its first day there. `--format`
+    /// says how an entry is written, by default `{cell} {title}`, and `--day-format` how a day's
+    /// heading is, by default `{name}, {date}`.
     ///
     /// The first of these faults is reported: Usage if clap refuses the words, BadZone if `--zone` does
     /// not name a display zone, BadWindow if a text of the window has another form or is out of its
@@ -76,7 +81,7 @@ impl Request {
         let Some(window) = window_of(zone, now, Span::of(found), notstarted) else {
             return Err(RequestFault::BadWindow);
         };
-        let after = key_after(alloc, found)?;
+        let after = After::of(alloc, found, &zone, &window)?;
         let format = Format::parse(alloc, text_or(found, "format", "{cell} {title}"))?;
         let day_format = Format::parse(alloc, text_or(found, "day-format", "{name}, {date}"))?;
         let folder = String::from_str(alloc, text(found, "folder"))?;
@@ -85,7 +90,8 @@ impl Request {
             zone,
             window,
             limit: limit_of(found),
-            after,
+            after: after.once,
+            every_day: after.every_day,
             format,
             day_format,
         })
@@ -122,15 +128,4 @@ fn number(text: &str) -> Option<u32>
     ensures { result ≡ number_of text.now }
 {
     text.parse::<u32>().ok()
-}
-
-// The key of `--after`, if it is given.
-fn key_after<'a>(alloc: Global, found: &ArgMatches<'a>) -> Result<Option<Key>, TokenFault>
-    ensures ok { IfOk result (spec.IsKeyOf (spec.after_text (subcommand_rows_of found.now))) }
-    ensures bad { IsErrOf result TokenFault.BadToken → spec.IsNoToken (spec.after_text (subcommand_rows_of found.now)) }
-{
-    match entry(found, "after") {
-        Some(token) => Ok(Some(Token::read(alloc, token)?)),
-        None => Ok(None),
-    }
 }

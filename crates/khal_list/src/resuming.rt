@@ -1,19 +1,36 @@
 //! Laws of listings that go on from a key.
-ghost use Rattle.khal_list.specs.Pages.{GoesOn, Pages, TextGoesOn, TextSplits, TokenGoesOn};
+ghost use Rattle.khal_list.specs.Pages.{DayGoesOn, DayTokenGoesOn, GoesOn, Pages, TextGoesOn, TextSplits, TokenGoesOn};
 
-use ics_series::one_spelling;
+use ics_series::{day_listing_behind, one_day_spelling, one_spelling};
 
 /// After the key of an entry exactly the entries that follow it in the listing are listed.
 pub fn goes_on()
     ensures { GoesOn }
 {}
 
-/// If the words name `--after` with the token of an entry of the listing, they ask for exactly the
-/// entries that follow it.
+/// After the key of an entry under its day exactly the entries that follow it in the listing under
+/// each day are listed.
+pub fn day_goes_on()
+    ensures { DayGoesOn }
+{
+    day_listing_behind();
+}
+
+/// If the words name `--after` with the token of an entry of the listing, and do not have
+/// `--every-day`, they ask for exactly the entries that follow it.
 pub fn token_goes_on()
     ensures { TokenGoesOn }
 {
     one_spelling();
+}
+
+/// If the words have `--every-day`, and name `--after` with the token of an entry under its day, they
+/// ask for exactly the entries that follow it.
+pub fn day_token_goes_on()
+    ensures { DayTokenGoesOn }
+{
+    one_day_spelling();
+    day_listing_behind();
 }
 
 /// The text of a listing is that of its first entries, and then that of the others after the last day

@@ -1,51 +1,95 @@
 //! A whole run: files, errors and the listing.
-ghost use Rattle.std.specs.Prelude.{◌≡◌, ◌⊎◌, List, IfOk, OnOk, OnErr, IsErrOf, map};
-ghost use Rattle.std.specs.Io.KnownBytes.{Appends};
+ghost use Rattle.std.specs.Prelude.{◌≡◌, ◌⊎◌, IfOk, OnErr, IsErrOf, map};
 ghost use Rattle.std.specs.Option.{option_map};
+ghost use Rattle.std.specs.String.{string_bytes};
 ghost use Rattle.ics_calendar.specs.Event.{said_by};
-ghost use Rattle.ics_series.specs.Entry.{Entry, key_rank};
-ghost use Rattle.khal_list.specs.Growth.{TookFront, LeftByFault};
-ghost use Rattle.khal_list.specs.Headline.{IsListingOf, Lists, Stops};
-ghost use Rattle.khal_list.specs.Listed.{asked_after, key_on, text_of};
+ghost use Rattle.khal_list.specs.Growth.{LeftByFault};
+ghost use Rattle.khal_list.specs.Headline.{Lists, Shown, ShownInPart, Shows, ShowsDays, ShowsOnce, Stops};
 
+use crate::every_day::EveryDay;
 use crate::fault::RunFault;
 use crate::more::put_more;
-use crate::printing::print;
+use crate::printing::{print, print_days};
 use crate::reading::read_all;
 use crate::request::Request;
 use crate::sink::{Sink, put_all};
 use crate::source::Source;
 use crate::status::Status;
 use ics_calendar::FileEvents;
-use ics_series::{Folder, Key};
+use ics_series::{DayToken, Folder, Token};
 use std::alloc::Global;
 
-/// Writes the requested listing of these files, and returns the key from which it continues.
+/// Writes the requested listing of a folder that is shown in the request's zone, each occurrence once,
+/// and returns the token from which it continues.
+fn list_once<O: Sink>(
+    alloc: Global,
+    folder: &Folder,
+    request: &Request,
+    out: &mut O,
+) -> Result<Option<String>, RunFault>
+    requires { folder.now.display ≡ request.now.zone }
+    ensures ok { IfOk result (λ token. Shown (ShowsOnce (map said_by folder.now.files) request.now)
+        (O.taken out.old) (O.taken out.new) (option_map string_bytes token)) }
+    ensures err { OnErr result (ShownInPart (ShowsOnce (map said_by folder.now.files) request.now)
+        (O.taken out.old) (O.taken out.new)) }
+    ensures cause { IsErrOf result RunFault.WriteFault → LeftByFault O.puts out.new }
+{
+    let mut agenda = folder.agenda(request.window, request.after.as_ref())?;
+    match print(alloc, &mut agenda, request, out)? {
+        None => Ok(None),
+        Some(key) => Ok(Some(Token::write(alloc, &key)?)),
+    }
+}
+
+/// The same with each occurrence under each of its days.
+fn list_days<O: Sink>(
+    alloc: Global,
+    folder: &Folder,
+    request: &Request,
+    every_day: &EveryDay,
+    out: &mut O,
+) -> Result<Option<String>, RunFault>
+    requires { folder.now.display ≡ request.now.zone }
+    ensures ok { IfOk result (λ token. Shown (ShowsDays (map said_by folder.now.files) request.now every_day.now)
+        (O.taken out.old) (O.taken out.new) (option_map string_bytes token)) }
+    ensures err { OnErr result (ShownInPart (ShowsDays (map said_by folder.now.files) request.now every_day.now)
+        (O.taken out.old) (O.taken out.new)) }
+    ensures cause { IsErrOf result RunFault.WriteFault → LeftByFault O.puts out.new }
+{
+    let mut days = folder.days(request.window, every_day.after.as_ref())?;
+    match print_days(alloc, &mut days, request, out)? {
+        None => Ok(None),
+        Some(key) => Ok(Some(DayToken::write(alloc, &key)?)),
+    }
+}
+
+/// Writes the requested listing of these files, and returns the token from which it continues.
 fn list<O: Sink>(
     alloc: Global,
     files: Vec<FileEvents>,
     request: &Request,
     out: &mut O,
-) -> Result<Option<Key>, RunFault>
-    ensures ok { IfOk result (λ key. (list : List Entry) × IsListingOf (map said_by files.items) request.now list
-        × Appends (O.taken out.old) (O.taken out.new) (text_of request.now (asked_after request.now list))
-        × (option_map key_rank key ≡ key_on request.now.limit (asked_after request.now list))) }
-    ensures err { OnErr result ((O.taken out.new ≡ O.taken out.old)
-        ⊎ ((list : List Entry) × IsListingOf (map said_by files.items) request.now list
-        × TookFront (O.taken out.old) (O.taken out.new) (text_of request.now (asked_after request.now list)))) }
+) -> Result<Option<String>, RunFault>
+    ensures ok { IfOk result (λ token. Shown (Shows (map said_by files.items) request.now)
+        (O.taken out.old) (O.taken out.new) (option_map string_bytes token)) }
+    ensures err { OnErr result (ShownInPart (Shows (map said_by files.items) request.now)
+        (O.taken out.old) (O.taken out.new)) }
     ensures cause { IsErrOf result RunFault.WriteFault → LeftByFault O.puts out.new }
 {
     let mut folder = Folder::new(alloc, files, request.zone)?;
     folder.prepare(&request.window);
-    let mut agenda = folder.agenda(request.window, request.after.as_ref())?;
-    print(alloc, &mut agenda, request, out)
+    match &request.every_day {
+        None => list_once(alloc, &folder, request, out),
+        Some(every_day) => list_days(alloc, &folder, request, every_day, out),
+    }
 }
 
 /// Reads each file of the source once, in order. Writes to `err` a line for each file that is not read
 /// or is refused, and then to `out` the listing of the others: each of their occurrences that meets
-/// the request's window once, in the order of start, UID and recurrence; of these those after the
-/// request's key, up to its limit. If the limit cuts them, the last line on `err` says where the
-/// listing continues.
+/// the request's window once, in the order of start, UID and recurrence, or if the request asks for it
+/// under each of its days there, by day and then in that order; of these those after the request's
+/// key, up to its limit. If the limit cuts them, the last line on `err` says where the listing
+/// continues.
 ///
 /// WriteFault comes only if an output failed, or was given bytes and took none.
 pub fn run<S: Source, O: Sink, E: Sink>(
@@ -65,7 +109,7 @@ pub fn run<S: Source, O: Sink, E: Sink>(
     let reading = read_all(alloc, source)?;
     put_all(err, &reading.errors)?;
     let status = reading.status();
-    let key = list(alloc, reading.files, request, out)?;
-    put_more(alloc, err, &key)?;
+    let token = list(alloc, reading.files, request, out)?;
+    put_more(alloc, err, &token)?;
     Ok(status)
 }

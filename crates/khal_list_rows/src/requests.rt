@@ -2,7 +2,7 @@
 
 use crate::runs::request;
 use crate::shown::moment_text;
-use ics_series::Token;
+use ics_series::{DayToken, Token};
 use khal_list::{Request, RequestFault};
 use std::alloc::{AllocError, Global};
 use std::io;
@@ -29,6 +29,12 @@ fn request_text(alloc: Global, request: &Request) -> Result<String, AllocError> 
     }
     if let Some(key) = &request.after {
         write!(text, ", after {}", Token::write(alloc, key)?)?;
+    }
+    if let Some(every_day) = &request.every_day {
+        text.push_str(", each day")?;
+        if let Some(key) = &every_day.after {
+            write!(text, ", after {}", DayToken::write(alloc, key)?)?;
+        }
     }
     Ok(text)
 }

@@ -62,8 +62,7 @@ pub returns-clause-within : goal.returns-clause-within
 returns-clause-within c =
     let first = c.first_day-first.ensures.within in
     let end = c.date_at.ensures.within in
-    let max = c.max.ensures.value in
-    (
+    let max = c.max.ensures.value in (
       omega (arith, ints, int_max_is, first.0, end.0, max, c.max.type_inv, c.first_day-first.type_inv, c.date_at.type_inv),
       omega (arith, ints, int_max_is, first.1, end.1, max, c.max.type_inv, c.first_day-first.type_inv, c.date_at.type_inv),
     )

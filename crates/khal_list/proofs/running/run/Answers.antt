@@ -1,46 +1,44 @@
 use Rattle.std.proofs.Common.{map}
 use Rattle.std.specs.Option.{option_map}
+use Rattle.std.specs.String.{string_bytes}
 use Rattle.ics_calendar.specs.Event.{said_by}
-use Rattle.ics_series.specs.Entry.{key_rank}
 use Rattle.khal_list.specs.Headline.{Stops}
 use Rattle.khal_list.proofs.RunLemmas.{lists, stops, stops-more}
 use Rattle.khal_list.proofs.Written.{appends-same, on_err}
 use Rattle.khal_list.proofs.running.run.Goals as goal
 
-pub returns-in_err-key-clause-stops : goal.returns-in_err-key-clause-stops
-returns-in_err-key-clause-stops g c =
+pub returns-in_err-token-clause-stops : goal.returns-in_err-token-clause-stops
+returns-in_err-token-clause-stops g c =
     let all = c.in_ok-reading.ensures.all in
     let told = g.E.Sink.taken c.args.err.now in
     let wrote = appends-same told (g.E.Sink.taken c.put_all.new.sink) c.deref.ensures.value c.in_ok-put_all.ensures.ok in
     on_err {P = Stops g.S.Source.reads (g.S.Source.names c.args.source.now) c.args.source.now c.read_all.new.source c.args.request.now
     (g.O.Sink.taken c.args.out.now) (g.O.Sink.taken c.list.new.out) (g.E.Sink.taken c.args.err.now) (g.E.Sink.taken c.put_all.new.sink)}
-    c.from_residual-in_err-key.result (
+    c.from_residual-in_err-token.result (
     stops g.S.Source.reads (g.S.Source.names c.args.source.now) c.args.source.now c.read_all.new.source c.args.request.now
     (g.O.Sink.taken c.args.out.now) (g.O.Sink.taken c.list.new.out) told (g.E.Sink.taken c.put_all.new.sink)
-    all.0 (map said_by c.in_ok-reading.reading.files.items) c.in_ok-reading.reading.errors.items all.1 all.2 wrote c.in_err-key.ensures.err)
+    all.0 (map said_by c.in_ok-reading.reading.files.items) c.in_ok-reading.reading.errors.items all.1 all.2 wrote c.in_err-token.ensures.err)
 
 pub returns-in_err-put_more-clause-stops : goal.returns-in_err-put_more-clause-stops
 returns-in_err-put_more-clause-stops g c =
     let all = c.in_ok-reading.ensures.all in
     let told = g.E.Sink.taken c.args.err.now in
     let wrote = appends-same told (g.E.Sink.taken c.put_all.new.sink) c.deref.ensures.value c.in_ok-put_all.ensures.ok in
-    let listed = c.in_ok-key.ensures.ok in
     on_err {P = Stops g.S.Source.reads (g.S.Source.names c.args.source.now) c.args.source.now c.read_all.new.source c.args.request.now
     (g.O.Sink.taken c.args.out.now) (g.O.Sink.taken c.list.new.out) (g.E.Sink.taken c.args.err.now) (g.E.Sink.taken c.put_more.new.err)}
     c.from_residual-in_err-put_more.result (
     stops-more g.S.Source.reads (g.S.Source.names c.args.source.now) c.args.source.now c.read_all.new.source c.args.request.now
     (g.O.Sink.taken c.args.out.now) (g.O.Sink.taken c.list.new.out) told (g.E.Sink.taken c.put_all.new.sink)
     all.0 (map said_by c.in_ok-reading.reading.files.items) c.in_ok-reading.reading.errors.items all.1 all.2 wrote
-    listed.0 listed.1 listed.2 (option_map key_rank c.in_ok-key.key) listed.3 (g.E.Sink.taken c.put_more.new.err) c.in_err-put_more.ensures.err)
+    (option_map string_bytes c.in_ok-token.token) c.in_ok-token.ensures.ok (g.E.Sink.taken c.put_more.new.err) c.in_err-put_more.ensures.err)
 
 pub returns-clause-lists : goal.returns-clause-lists
 returns-clause-lists g c =
     let all = c.in_ok-reading.ensures.all in
     let told = g.E.Sink.taken c.args.err.now in
     let wrote = appends-same told (g.E.Sink.taken c.put_all.new.sink) c.deref.ensures.value c.in_ok-put_all.ensures.ok in
-    let listed = c.in_ok-key.ensures.ok in
     lists g.S.Source.reads (g.S.Source.names c.args.source.now) c.args.source.now c.read_all.new.source c.args.request.now
     (g.O.Sink.taken c.args.out.now) (g.O.Sink.taken c.list.new.out) told (g.E.Sink.taken c.put_all.new.sink)
     all.0 (map said_by c.in_ok-reading.reading.files.items) c.in_ok-reading.reading.errors.items all.1 all.2 wrote
-    listed.0 listed.1 listed.2 (option_map key_rank c.in_ok-key.key) listed.3 (g.E.Sink.taken c.put_more.new.err) c.in_ok-put_more.ensures.ok
+    (option_map string_bytes c.in_ok-token.token) c.in_ok-token.ensures.ok (g.E.Sink.taken c.put_more.new.err) c.in_ok-put_more.ensures.ok
     c.status-status.result c.status-status.ensures

@@ -1,0 +1,131 @@
+-- What is written of a list to come, and of a feed whose entries are each listed once.
+use Rattle.std.proofs.Common.{◌≡◌, ℕ, List, [], ◌∷◌, ◌++◌, Option, Some, None, Result, Ok, Err, length, map, take, refl, sym, ap, ap₂, ◌∙◌, subst, zero, suc, true≢false}
+use Rattle.std.specs.Prelude.{◌≤◌, Bool, true, false, IfOk, OnErr, OnOk, nat_lt, if◌then◌else◌}
+use Rattle.std.specs.Io.KnownBytes.{Appends}
+use Rattle.std.specs.Option.{option_map}
+use Rattle.std.specs.Result.{IsErr}
+use Rattle.std.proofs.lemmas.List.{length-map}
+use Rattle.ics_series.specs.DayKeys.{day_key_rank, DayRank}
+use Rattle.ics_series.specs.declared.day_key.DayKey.{DayKey}
+use Rattle.ics_series.specs.Entry.{Entry, Rank, key_rank, rank_of}
+use Rattle.ics_series.specs.OnDays.{day_rank_of, OnDay}
+use Rattle.khal_list.specs.declared.fault.RunFault.{RunFault}
+use Rattle.khal_list.specs.declared.request.Request.{Request}
+use Rattle.khal_list.specs.Drawn.{DrewAhead, Puts}
+use Rattle.khal_list.specs.Growth.{TookFront}
+use Rattle.khal_list.specs.Listed.{day_key_on, days_text_of, first_of, is_cut, key_on, last_day_key, last_key, style_of, text_of}
+use Rattle.khal_list.specs.Text.{Style, days_text, text, under}
+
+-- the first entries, each under its day, are the first of those under days
+first-under : (style : Style) (limit : Option ℕ) (list : List Entry) → first_of limit (map (under style) list) ≡ map (under style) (first_of limit list)
+first-under style None list = refl
+first-under style (Some n) list = take-under n list
+  where
+    take-under : (n : ℕ) (list : List Entry) → take n (map (under style) list) ≡ map (under style) (take n list)
+    take-under zero list = refl
+    take-under (suc n) [] = refl
+    take-under (suc n) (e ∷ es) = ap (λ l. under style e ∷ l) (take-under n es)
+
+-- the key of the last of them, without its day
+last-under : (style : Style) (list : List Entry) → option_map (λ r. r.key) (last_day_key (map (under style) list)) ≡ last_key list
+last-under style [] = refl
+last-under style (e ∷ []) = refl
+last-under style (e ∷ f ∷ more) = last-under style (f ∷ more)
+
+cut-under : (style : Style) (limit : Option ℕ) (list : List Entry) → is_cut limit (map (under style) list) ≡ is_cut limit list
+cut-under style None list = refl
+cut-under style (Some n) list = ap (nat_lt n) (length-map list (under style))
+
+key-under : (style : Style) (limit : Option ℕ) (list : List Entry) → option_map (λ r. r.key) (day_key_on limit (map (under style) list)) ≡ key_on limit list
+key-under style limit list =
+    ap₂ (λ (cut : Bool) (all : List OnDay). option_map (λ r. r.key) (if cut then last_day_key all else None)) (cut-under style limit list) (first-under style limit list)
+    ∙ chosen (is_cut limit list)
+  where
+    chosen : (cut : Bool) → option_map (λ r. r.key) (if cut then last_day_key (map (under style) (first_of limit list)) else None) ≡ (if cut then last_key (first_of limit list) else None)
+    chosen true = last-under style (first_of limit list)
+    chosen false = refl
+
+pub text-under : (request : Request) (list : List Entry) → days_text_of request (map (under (style_of request)) list) ≡ text_of request list
+text-under request list = ap (days_text (style_of request)) (first-under (style_of request) request.limit list)
+
+-- a list without its days
+abbrev entries : List OnDay → List Entry
+entries list = map (λ p. p.entry) list
+
+entries-both : (xs ys : List OnDay) → entries (xs ++ ys) ≡ entries xs ++ entries ys
+entries-both [] ys = refl
+entries-both (x ∷ xs) ys = ap (λ l. x.entry ∷ l) (entries-both xs ys)
+
+entries-under : (style : Style) (list : List Entry) → entries (map (under style) list) ≡ list
+entries-under style [] = refl
+entries-under style (e ∷ es) = ap (λ l. e ∷ l) (entries-under style es)
+
+-- a front of entries that each stand under their own day
+front-under : (style : Style) (shown rest : List OnDay) (list : List Entry) → shown ++ rest ≡ map (under style) list → shown ≡ map (under style) (entries shown)
+front-under style [] rest list h = refl
+front-under style (p ∷ ps) rest [] h = cc
+front-under style (p ∷ ps) rest (e ∷ es) h = ap₂ (λ (a : OnDay) (l : List OnDay). a ∷ l) first (front-under style ps rest es more)
+  where
+    head-is : p ≡ under style e
+    head-is = cc
+
+    more : ps ++ rest ≡ map (under style) es
+    more = cc
+
+    first : p ≡ under style p.entry
+    first = head-is ∙ sym (ap (λ (q : OnDay). under style q.entry) head-is)
+
+pub drew-under : (style : Style) (old new : List Entry) (rest : List OnDay) (out out' : Option (List ℕ)) → rest ≡ map (under style) new
+    → DrewAhead (days_text style) (map (under style) old) rest out out' → DrewAhead (text style) old new out out'
+drew-under style old new rest out out' is d = record {
+  shown = entries d.shown;
+  ahead = entries d.ahead;
+  part = d.part;
+  given = given;
+  few = subst (λ n. n ≤ 1) (sym (length-map d.ahead (λ (p : OnDay). p.entry))) d.few;
+  taken = subst (λ (l : List OnDay). Appends out out' (days_text style l ++ d.part)) (front-under style d.shown (d.ahead ++ rest) old d.given) d.taken;
+}
+  where
+    rest-is : entries rest ≡ new
+    rest-is = ap entries is ∙ entries-under style new
+
+    given : entries d.shown ++ (entries d.ahead ++ new) ≡ old
+    given =
+        ap (λ l. entries d.shown ++ (entries d.ahead ++ l)) (sym rest-is)
+        ∙ (ap (λ l. entries d.shown ++ l) (sym (entries-both d.ahead rest))
+        ∙ (sym (entries-both d.shown (d.ahead ++ rest))
+        ∙ (ap entries d.given ∙ entries-under style old)))
+
+-- what a fault leaves
+pub puts-fault : (request : Request) (coming : List OnDay → Type 0) (list rest : List OnDay) (out out' : Option (List ℕ)) (r : Result (Option DayKey) RunFault) → IsErr r
+    → TookFront out out' (days_text_of request list) → coming rest → DrewAhead (days_text (style_of request)) list rest out out' → Puts request coming list out out' r
+puts-fault request coming list rest out out' (Ok key) err front to_come drew = absurd (true≢false (sym err))
+puts-fault request coming list rest out out' (Err fault) err front to_come drew = record { text = tt; key = tt; front = front; rest = rest; to_come = to_come; drew = drew }
+
+-- what the limit leaves
+pub puts-cut : (request : Request) (coming : List OnDay → Type 0) (list rest : List OnDay) (out out' : Option (List ℕ)) (last : Option DayRank) (r : Result (Option DayKey) RunFault)
+    → IfOk r (λ key. option_map day_key_rank key ≡ last) → Appends out out' (days_text_of request list) → last ≡ day_key_on request.limit list
+    → TookFront out out' (days_text_of request list) → coming rest → DrewAhead (days_text (style_of request)) list rest out out' → Puts request coming list out out' r
+puts-cut request coming list rest out out' last (Ok key) is text cut front to_come drew = record { text = text; key = is ∙ cut; front = tt; rest = rest; to_come = to_come; drew = drew }
+puts-cut request coming list rest out out' last (Err fault) is text cut front to_come drew = record { text = tt; key = tt; front = front; rest = rest; to_come = to_come; drew = drew }
+
+-- what is written of a feed, each of whose entries stands under its own day
+module _ (request : Request) (old new : List Entry) (out out' : Option (List ℕ)) where
+  abbrev PutsOnce : Result (Option DayKey) RunFault → Type 0
+  PutsOnce result = Puts request (λ rest. rest ≡ map (under (style_of request)) new) (map (under (style_of request)) old) out out' result
+
+  pub front-once : (fault : RunFault) → PutsOnce (Err fault) → TookFront out out' (text_of request old)
+  front-once fault p = subst (λ t. TookFront out out' t) (text-under request old) p.front
+
+  pub text-once : (key : Option DayKey) → PutsOnce (Ok key) → Appends out out' (text_of request old)
+  text-once key p = subst (λ t. Appends out out' t) (text-under request old) p.text
+
+  pub key-once : (key : Option DayKey) → PutsOnce (Ok key) → option_map (λ (k : DayKey). key_rank k.key) key ≡ key_on request.limit old
+  key-once key p = key-of key ∙ (ap (option_map (λ r. r.key)) p.key ∙ key-under (style_of request) request.limit old)
+    where
+      key-of : (key : Option DayKey) → option_map (λ (k : DayKey). key_rank k.key) key ≡ option_map (λ r. r.key) (option_map day_key_rank key)
+      key-of None = refl
+      key-of (Some k) = refl
+
+  pub drew-once : (result : Result (Option DayKey) RunFault) → PutsOnce result → DrewAhead (text (style_of request)) old new out out'
+  drew-once result p = drew-under (style_of request) old new p.rest out out' p.to_come p.drew
