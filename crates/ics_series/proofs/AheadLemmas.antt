@@ -1,9 +1,7 @@
 -- What is still to come of a listing under each day: from day to day, and from its beginning.
-use Rattle.std.specs.Prelude.{◌<ℤ◌, ◌≤ℤ◌, ◌&&◌, ◌||◌, int_lt, if◌then◌else◌, Result, Ok, Err, OnErr}
+use Rattle.std.specs.Prelude.{◌<ℤ◌, ◌≤ℤ◌, ◌&&◌, int_lt, Result, Ok, Err, OnErr}
 use Rattle.std.specs.List.{filter}
-use Rattle.std.specs.Int.{int_max, int_min}
 use Rattle.std.specs.Ordering.{int_eq, is_lt}
-use Rattle.std.specs.declared.cmp.Ordering.TheVariants.{Less}
 use Rattle.std.proofs.Common.{◌≡◌, ℕ, zero, suc, ℤ, pos, ◌+ℤ◌, ◌-ℤ◌, List, [], ◌∷◌, ◌++◌, map, Option, Some, None, ◌⊎◌, inl, inr, ⊎_elim, Bool, true, false, cond, refl, sym, ◌∙◌, ap, subst, arith}
 use Rattle.std.proofs.lemmas.Int.{ints}
 use Rattle.ics_calendar.specs.Event.{FileSaid}
@@ -11,10 +9,10 @@ use Rattle.ics_zone.specs.Places.{IsNear}
 use Rattle.ics_series.specs.declared.window.Window.{Window}
 use Rattle.ics_series.specs.After.{is_after}
 use Rattle.ics_series.specs.Ahead.{is_today, today, IsAheadOf, IsLater}
-use Rattle.ics_series.specs.Clocks.{Clock, midnight}
+use Rattle.ics_series.specs.Clocks.{Clock}
 use Rattle.ics_series.specs.DayKeys.{DayRank}
 use Rattle.ics_series.specs.Entry.{Entry, Rank, entry_cmp, rank_cmp, rank_of}
-use Rattle.ics_series.specs.Listing.{IsIn, IsListing}
+use Rattle.ics_series.specs.Listing.{IsListing}
 use Rattle.ics_series.specs.Meets.{IsListed, IsToCome, Meets}
 use Rattle.ics_series.specs.NearDays.{first_near, last_near, Begins, IsNearDay}
 use Rattle.ics_series.specs.OnDays.{after_day_key, is_day_after, on_day, on_day_cmp, IsOnDay, OnDay}

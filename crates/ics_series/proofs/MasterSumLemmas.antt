@@ -8,10 +8,10 @@ use Rattle.std.proofs.Common.{◌≡◌, ℕ, ◌+◌, ◌≤◌, List, [], ◌�
 use Rattle.std.proofs.lemmas.Cmp.{nat_list_cmp_total, tied_itself}
 use Rattle.std.proofs.lemmas.List.Sums.{sum_by-cons}
 use Rattle.ics_calendar.specs.Event.{FileSaid}
-use Rattle.ics_calendar.specs.declared.event.Event.{Event}
 use Rattle.ics_series.specs.declared.window.Window.{Window}
 use Rattle.ics_series.specs.Chosen.{IsMaster}
 use Rattle.ics_series.specs.Clocks.{Clock}
+use Rattle.ics_series.specs.DayMasters.{IsDayMaster}
 use Rattle.ics_series.specs.Entry.{Rank}
 use Rattle.ics_series.specs.HeldMost.{held_most, most_in_days, Master}
 use Rattle.ics_series.specs.Listing.{IsIn, IsListing}
@@ -37,54 +37,69 @@ without f x (y ∷ ys) (inr m) =
       others = λ z n. ⊎_elim (λ s. inr (inl s)) (λ k. ⊎_elim inl (λ i. inr (inr i)) (w.others z k)) n;
     }
 
-abbrev most_of : Master → ℕ
-most_of m = 2 + most_in_days m.clocks m.event
-
 module _ (files : List FileSaid) (display : Clock) where
   -- a master of the listing is one of these
   record IsAmong (masters : List Placed) (m : Recurring) : Type 0 where
     by : Placed
     stands : IsIn by masters
-    event : m.event ≡ by.event
-    clocks : m.clocks ≡ clocks_at files display by.file
+    same : master_of m ≡ master_at files display by
 
-  behind : (m n : Recurring) (by : Placed) → m.event ≡ by.event → n.event ≡ by.event → uid_cmp m n ≡ Less → ⊥
+  behind : (m n : Recurring) (by : Placed) → master_of m ≡ master_at files display by → master_of n ≡ master_at files display by → uid_cmp m n ≡ Less → ⊥
   behind m n by p q l =
-      let same : uid_cmp m n ≡ Equal = ap (slice_cmp nat_cmp m.event.uid) (ap (λ (v : Event). v.uid) (q ∙ sym p)) ∙ tied_itself nat_list_cmp_total m.event.uid in
+      let same : uid_cmp m n ≡ Equal = ap (slice_cmp nat_cmp m.event.uid) (ap (λ (v : Master). v.event.uid) (q ∙ sym p)) ∙ tied_itself nat_list_cmp_total m.event.uid in
       let no : Less ≡ Equal = sym l ∙ same in
       absurd cc
 
-  sums-within : (ms : List Recurring) (masters : List Placed) → Rises uid_cmp ms → AllByRecursion (IsAmong masters) ms → sum_by most_of (map master_of ms) ≤ sum_by most_of (map (master_at files display) masters)
-  sums-within [] masters r h = omega arith
-  sums-within (m ∷ ms) masters r h =
-      let w = without (λ p. most_of (master_at files display p)) h.0.by masters h.0.stands in
-      let same : most_of (master_of m) ≡ most_of (master_at files display h.0.by) =
-      ap (λ c. most_of (record { clocks = c; event = m.event })) h.0.clocks ∙ ap (λ e. most_of (record { clocks = clocks_at files display h.0.by.file; event = e })) h.0.event in
-      let rest = sums-within ms w.rest r.1 (still h.0 w ms r.0 h.1) in
-      omega (arith, sum_by-cons most_of (master_of m) (map master_of ms), same, rest, as-sums masters, as-sums w.rest, w.sum)
-    where
-      as-sums : (ps : List Placed) → sum_by most_of (map (master_at files display) ps) ≡ sum_by (λ p. most_of (master_at files display p)) ps
-      as-sums [] = refl
-      as-sums (p ∷ ps) = omega (arith, sum_by-cons most_of (master_at files display p) (map (master_at files display) ps), sum_by-cons (λ q. most_of (master_at files display q)) p ps, as-sums ps)
+  module _ (f : Master → ℕ) where
+    as-sums : (ps : List Placed) → sum_by f (map (master_at files display) ps) ≡ sum_by (λ p. f (master_at files display p)) ps
+    as-sums [] = refl
+    as-sums (p ∷ ps) = omega (arith, sum_by-cons f (master_at files display p) (map (master_at files display) ps), sum_by-cons (λ q. f (master_at files display q)) p ps, as-sums ps)
 
-      still : (a : IsAmong masters m) (w : Rest (λ p. most_of (master_at files display p)) a.by masters) → (ns : List Recurring) → IsBefore uid_cmp m ns → AllByRecursion (IsAmong masters) ns → AllByRecursion (IsAmong w.rest) ns
-      still a w [] b k = tt
-      still a w (n ∷ ns) b k = (
-        record {
-          by = k.0.by;
-          stands = ⊎_elim (λ s. absurd (behind m n a.by a.event (k.0.event ∙ ap (λ (p : Placed). p.event) s) b.0)) (λ i. i) (w.others k.0.by k.0.stands);
-          event = k.0.event;
-          clocks = k.0.clocks;
-        },
-        still a w ns b.1 k.1,
-      )
+    sums-within : (ms : List Recurring) (masters : List Placed) → Rises uid_cmp ms → AllByRecursion (IsAmong masters) ms → sum_by f (map master_of ms) ≤ sum_by f (map (master_at files display) masters)
+    sums-within [] masters r h = omega arith
+    sums-within (m ∷ ms) masters r h =
+        let w = without (λ p. f (master_at files display p)) h.0.by masters h.0.stands in
+        let rest = sums-within ms w.rest r.1 (still h.0 w ms r.0 h.1) in
+        omega (arith, sum_by-cons f (master_of m) (map master_of ms), ap f h.0.same, rest, as-sums masters, as-sums w.rest, w.sum)
+      where
+        still : (a : IsAmong masters m) (w : Rest (λ p. f (master_at files display p)) a.by masters) → (ns : List Recurring) → IsBefore uid_cmp m ns → AllByRecursion (IsAmong masters) ns → AllByRecursion (IsAmong w.rest) ns
+        still a w [] b k = tt
+        still a w (n ∷ ns) b k = (
+          record {
+            by = k.0.by;
+            stands = ⊎_elim (λ s. absurd (behind m n a.by a.same (k.0.same ∙ ap (master_at files display) s) b.0)) (λ i. i) (w.others k.0.by k.0.stands);
+            same = k.0.same;
+          },
+          still a w ns b.1 k.1,
+        )
 
-  among : (w : Window) (after : Option Rank) (masters : List Placed) → IsListing (by_subject files display) (IsMaster files display) masters → (ms : List Recurring) → AllByRecursion (IsMasterOf files display w after) ms → AllByRecursion (IsAmong masters) ms
-  among w after masters all [] h = tt
-  among w after masters all (m ∷ ms) h = (record { by = h.0.by; stands = (all.exact h.0.by).1 h.0.is; event = h.0.event; clocks = h.0.clocks }, among w after masters all ms h.1)
+  among : (masters : List Placed) → IsListing (by_subject files display) (IsMaster files display) masters → (ms : List Recurring) → AllByRecursion (IsDayMaster files display) ms → AllByRecursion (IsAmong masters) ms
+  among masters all [] h = tt
+  among masters all (m ∷ ms) h = (record { by = h.0.by; stands = (all.exact h.0.by).1 h.0.is; same = h.0.same }, among masters all ms h.1)
+
+  -- A sum over some masters of the folder, each with a UID of its own, is at most that over all of them.
+  pub sum-of-masters : (f : Master → ℕ) (ms : List Recurring) (masters : List Placed) → Rises uid_cmp ms → AllByRecursion (IsDayMaster files display) ms
+      → IsListing (by_subject files display) (IsMaster files display) masters → sum_by f (map master_of ms) ≤ sum_by f (map (master_at files display) masters)
+  sum-of-masters f ms masters rise are all = sums-within f ms masters rise (among masters all ms are)
+
+  pub held-of-masters : (ms : List Recurring) (masters : List Placed) → Rises uid_cmp ms → AllByRecursion (IsDayMaster files display) ms
+      → IsListing (by_subject files display) (IsMaster files display) masters → held_most (map master_of ms) ≤ held_most (map (master_at files display) masters)
+  unfolding held_most
+  held-of-masters ms masters rise are all = omega (arith, sum-of-masters (λ m. 2 + most_in_days m.clocks m.event) ms masters rise are all)
+
+  -- the masters of a listing are masters of the folder
+  pub masters-of : (w : Window) (after : Option Rank) (ms : List Recurring) → AllByRecursion (IsMasterOf files display w after) ms → AllByRecursion (IsDayMaster files display) ms
+  masters-of w after [] h = tt
+  masters-of w after (m ∷ ms) h = (
+    record {
+      by = h.0.by;
+      is = h.0.is;
+      same = ap (λ c. record { clocks = c; event = m.event }) h.0.clocks ∙ ap (λ e. record { clocks = clocks_at files display h.0.by.file; event = e }) h.0.event;
+    },
+    masters-of w after ms h.1,
+  )
 
 pub most-of-masters : (files : List FileSaid) (display : Clock) (w : Window) (after : Option Rank) (sources : List Source) (masters : List Placed) → AreSources files display w after sources → IsListing (by_subject files display) (IsMaster files display) masters
     → held_most (map master_of (recurring sources)) ≤ held_most (map (master_at files display) masters)
-unfolding held_most
 most-of-masters files display w after sources masters are all =
-    omega (arith, sums-within files display (recurring sources) masters are.apart.1.1 (among files display w after masters all (recurring sources) are.each))
+    held-of-masters files display (recurring sources) masters are.apart.1.1 (masters-of files display w after (recurring sources) are.each) all

@@ -1,37 +1,31 @@
 -- Listings under each day.
-use Rattle.std.specs.Prelude.{◌<ℤ◌, ◌≤ℤ◌, ◌&&◌, ◌||◌, int_lt, int_le, if◌then◌else◌}
+use Rattle.std.specs.Prelude.{◌<ℤ◌}
 use Rattle.std.specs.Cmp.{IsTotalOrder}
 use Rattle.std.specs.List.{filter}
-use Rattle.std.specs.Int.{int_max, int_min}
-use Rattle.std.specs.Ordering.{int_cmp, int_eq, is_lt, ordering_then}
+use Rattle.std.specs.Ordering.{int_cmp, ordering_then}
 use Rattle.std.specs.declared.cmp.Ordering.{Ordering}
-use Rattle.std.specs.declared.cmp.Ordering.TheVariants.{Less, Equal, Greater}
-use Rattle.std.proofs.Common.{◌≡◌, ℕ, zero, suc, ℤ, pos, ◌+ℤ◌, ◌-ℤ◌, List, [], ◌∷◌, ◌++◌, map, Option, Some, None, ◌⊎◌, inl, inr, ⊎_elim, Bool, true, false, refl, sym, ◌∙◌, ap, subst, arith}
+use Rattle.std.specs.declared.cmp.Ordering.TheVariants.{Less}
+use Rattle.std.proofs.Common.{◌≡◌, ℤ, List, [], ◌∷◌, ◌++◌, map, ◌⊎◌, inl, inr, ⊎_elim, true, refl, sym, ◌∙◌, ap, subst, arith}
 use Rattle.std.proofs.lemmas.Cmp.{int_cmp_total, on_total, then_total, tied_itself}
 use Rattle.std.proofs.lemmas.Int.{ints}
 use Rattle.ics_calendar.specs.Event.{FileSaid}
 use Rattle.ics_zone.specs.Places.{IsNear}
 use Rattle.ics_series.specs.declared.window.Window.{Window}
-use Rattle.ics_series.specs.After.{is_after}
-use Rattle.ics_series.specs.Ahead.{is_today, today, IsAheadOf, IsLater}
-use Rattle.ics_series.specs.Clocks.{Clock, midnight}
+use Rattle.ics_series.specs.Ahead.{is_today, today}
+use Rattle.ics_series.specs.Clocks.{Clock}
 use Rattle.ics_series.specs.Days.{is_on}
-use Rattle.ics_series.specs.Entry.{Entry, Rank, entry_cmp, rank_cmp, rank_of}
+use Rattle.ics_series.specs.Entry.{Entry, entry_cmp, rank_cmp, rank_of}
 use Rattle.ics_series.specs.EntryLaws.{rank_total}
 use Rattle.ics_series.specs.Listing.{IsIn, IsListing}
 use Rattle.ics_series.specs.Meeting.{is_met}
-use Rattle.ics_series.specs.Meets.{IsListed, IsToCome, Meets}
-use Rattle.ics_series.specs.NearDays.{first_near, last_near}
 use Rattle.ics_series.specs.Occurs.{Occurs}
 use Rattle.ics_series.specs.OnDays.{day_rank_of, on_day, on_day_cmp, IsOnDay, OnDay}
 use Rattle.ics_series.specs.Rising.{IsBefore, Rises}
 use Rattle.ics_series.proofs.FilterLemmas.{listing-filter}
 use Rattle.ics_series.proofs.GivenLemmas.{in-map, map-in}
-use Rattle.ics_series.proofs.ListingLemmas.{one-listing}
 use Rattle.ics_series.proofs.MeetingLemmas.{both-back, is_met-meets, meets-is_met}
-use Rattle.ics_series.proofs.NearDayLemmas.{meets-near, near-first, near-last, occurs-forward}
 use Rattle.ics_series.proofs.PlacedLemmas.{in-append, in-append_left, in-append_right}
-use Rattle.ics_series.proofs.ToComeLemmas.{and-true, come-listed}
+use Rattle.ics_series.proofs.ToComeLemmas.{and-true}
 
 pub on_day_total : IsTotalOrder on_day_cmp
 on_day_total = on_total day_rank_of (then_total (on_total (λ r. r.day) int_cmp_total) (on_total (λ r. r.key) rank_total))

@@ -6,6 +6,7 @@ use Rattle.ics_series.specs.declared.days.Days.{Days}
 use Rattle.ics_series.specs.declared.occurrence.Occurrence.{Occurrence}
 use Rattle.ics_series.specs.declared.window.Window.{Window}
 use Rattle.ics_series.specs.Clocks.{Clock, display_clock}
+use Rattle.ics_series.specs.DayMasters.{scope_by, Scope}
 use Rattle.ics_series.specs.Days.{is_on}
 use Rattle.ics_series.specs.Entry.{Entry, entry_cmp, entry_of}
 use Rattle.ics_series.specs.Leads.{listed, past}
@@ -37,6 +38,10 @@ pub record IsAheadOf (files : List FileSaid) (display : Clock) (w : Window) (day
 -- what an agenda has to come
 abbrev pub agenda_coming : Agenda → List Entry
 agenda_coming agenda = merged entry_cmp (map (λ l. past agenda.merge.last (listed l.head (part_coming l.feed))) agenda.merge.leads.items)
+
+-- what it is of
+abbrev pub scope_of : Days → Scope
+scope_of days = scope_by (map said_by days.files.now) (display_clock days.display.now) days.window
 
 -- this list is still to come
 abbrev pub IsAhead : Days → List OnDay → Type 0

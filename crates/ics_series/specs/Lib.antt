@@ -5,6 +5,7 @@ pub mod Clocks
 pub mod Contents
 pub mod DayKeys
 pub mod DayLaws
+pub mod DayMasters
 pub mod DayTokens
 pub mod Days
 pub mod Entry

@@ -1,14 +1,17 @@
 //! The listing of a window under each day.
-ghost use Rattle.std.specs.Prelude.{◌≡◌, ◌≤ℤ◌, ◌<ℤ◌, ◌+ℤ◌, pos, IsTrue, List, [], map, IfOk, IfSome, OnErr, OnOk, None};
+ghost use Rattle.std.specs.Prelude.{◌≡◌, ◌≤◌, ◌-◌, ◌^◌, ◌≤ℤ◌, ◌<ℤ◌, ◌+ℤ◌, pos, length, min, IsTrue, List, [], map, IfOk, IfSome, OnErr, OnOk, None};
 ghost use Rattle.std.specs.Option.{option_map};
 ghost use Rattle.ics_values.specs.Days.{IsDayNumber};
 ghost use Rattle.ics_calendar.specs.Event.{said_by};
 ghost use Rattle.ics_series.specs.Clocks.{display_clock};
 ghost use Rattle.ics_series.specs.DayKeys.{day_key_rank};
+ghost use Rattle.ics_series.specs.DayMasters.{agenda_holds, agenda_sources, masters_in, scope_by, AreDayMasters, AreMasters};
 ghost use Rattle.ics_series.specs.Entry.{entry_of, key_rank};
+ghost use Rattle.ics_series.specs.HeldMost.{held_most};
 ghost use Rattle.ics_series.specs.Listing.{IsListing};
 ghost use Rattle.ics_series.specs.NearDays.{first_near, last_near, Begins};
 ghost use Rattle.ics_series.specs.OnDays.{after_day_key, on_day_cmp, GivesOnDay, IsOnDay, OnDay};
+ghost use Rattle.ics_series.specs.Placed.{Placed};
 
 use crate::agenda::Agenda;
 use crate::day_key::DayKey;
@@ -35,10 +38,11 @@ pub struct Days<'a> {
     // What is still to come of what meets the window near the day.
     agenda: Agenda<'a>,
     ghost not_before: { first_near window ≤ℤ day },
+    ghost masters: { ∥ AreDayMasters (map said_by files.now) (display_clock display.now) (agenda_sources agenda) ∥₁ },
 }
 
 impl<'a> Days<'a> {
-    ghost use Rattle.ics_series.specs.Ahead.{agenda_coming, is_today, GivesToday, IsAhead};
+    ghost use Rattle.ics_series.specs.Ahead.{agenda_coming, is_today, scope_of, GivesToday, IsAhead};
 
     // The occurrences to come of the events of these files, under their days.
     pub(crate) fn new(
@@ -50,7 +54,8 @@ impl<'a> Days<'a> {
     ) -> Result<Days<'a>, AllocError>
         ensures { IfOk result (λ days. (list : List OnDay)
             × IsListing on_day_cmp (IsOnDay (map said_by files.entry.now) (display_clock display.entry.now) window) list
-            × IsAhead days (after_day_key (option_map (λ key. day_key_rank key.now) after.entry) list)) }
+            × IsAhead days (after_day_key (option_map (λ key. day_key_rank key.now) after.entry) list)
+            × (scope_of days ≡ scope_by (map said_by files.entry.now) (display_clock display.entry.now) window)) }
     {
         let (day, key) = begin(&window, after);
         let near = near_day(&window, day.min(last_near(&window)));
@@ -72,6 +77,7 @@ impl<'a> Days<'a> {
             → IfOk result (λ given. (rest : List OnDay) × GivesOnDay list given rest × IsAhead self.new rest) }
         ensures err { (list : List OnDay) → IsAhead self.old list → OnErr result (IsAhead self.new list) }
         ensures within { IfOk result (λ given. IfSome given (λ entry. IsDayNumber entry.0)) }
+        ensures scope { scope_of self.new ≡ scope_of self.old }
     {
         for day in self.day..last_near(&self.window) {
             if let Some(occurrence) = self.next_today()? {
@@ -85,9 +91,21 @@ impl<'a> Days<'a> {
         }
     }
 
+    /// How many built occurrences are held: the one that was given last, and those that the search near
+    /// the day holds. They are at most two and, for each master, two and the greatest number of starts
+    /// that it has in any five days. The count stops at the greatest `usize`.
+    pub fn held(&self) -> usize
+        ensures count { result ≡ min (length (agenda_holds self.now.agenda)) (2 ^ 64 - 1) }
+        ensures most { (masters : List Placed) → AreMasters (scope_of self.now) masters
+            → result ≤ held_most (masters_in (scope_of self.now) masters) }
+    {
+        self.agenda.held()
+    }
+
     // The next of the day's.
     fn next_today(&mut self) -> Result<Option<Occurrence<'a>>, AllocError>
         ensures day { self.new.day ≡ self.old.day }
+        ensures scope { scope_of self.new ≡ scope_of self.old }
         ensures window { self.new.window ≡ self.old.window }
         ensures within { IfOk result (λ given. IfSome given (λ occurrence. IsDayNumber self.new.day)) }
         ensures none { IfOk result (λ given. given ≡ None → agenda_coming self.new.agenda ≡ []) }
@@ -108,6 +126,7 @@ impl<'a> Days<'a> {
         requires more { self.old.day <ℤ last_near self.old.window }
         requires none { agenda_coming self.old.agenda ≡ [] }
         ensures day { OnOk result (self.new.day ≡ self.old.day +ℤ pos 1) }
+        ensures scope { scope_of self.new ≡ scope_of self.old }
         ensures window { self.new.window ≡ self.old.window }
         ensures ahead { (list : List OnDay) → IsAhead self.old list → IsAhead self.new list }
     {

@@ -3,9 +3,10 @@ ghost use Rattle.std.specs.Prelude.{◌≡◌, List, map, IfOk};
 ghost use Rattle.std.specs.Option.{option_map};
 ghost use Rattle.ics_calendar.specs.Event.{said_by};
 ghost use Rattle.ics_series.specs.After.{after_key};
-ghost use Rattle.ics_series.specs.Ahead.{IsAhead};
+ghost use Rattle.ics_series.specs.Ahead.{scope_of, IsAhead};
 ghost use Rattle.ics_series.specs.Clocks.{display_clock};
 ghost use Rattle.ics_series.specs.DayKeys.{day_key_rank};
+ghost use Rattle.ics_series.specs.DayMasters.{scope_by};
 ghost use Rattle.ics_series.specs.Entry.{Entry, entry_cmp, key_rank};
 ghost use Rattle.ics_series.specs.Listing.{IsListing};
 ghost use Rattle.ics_series.specs.Meets.{IsListed, IsToCome};
@@ -93,7 +94,8 @@ impl Folder {
     ) -> Result<Days<'a>, AllocError>
         ensures { IfOk result (λ days. (list : List OnDay)
             × IsListing on_day_cmp (IsOnDay (map said_by self.entry.now.files) (display_clock self.entry.now.display) window) list
-            × IsAhead days (after_day_key (option_map (λ key. day_key_rank key.now) after.entry) list)) }
+            × IsAhead days (after_day_key (option_map (λ key. day_key_rank key.now) after.entry) list)
+            × (scope_of days ≡ scope_by (map said_by self.entry.now.files) (display_clock self.entry.now.display) window)) }
     {
         Days::new(self.alloc, &self.files, &self.display, window, after)
     }

@@ -1,5 +1,5 @@
-use Rattle.std.specs.Prelude.{◌≤ℤ◌, OnErr}
-use Rattle.std.proofs.Common.{rules, ◌≡◌, ◌∷◌, List, [], map, Option, None, Some, sym, ◌∙◌, ap, subst, arith, to_z, of_z, w32}
+use Rattle.std.specs.Prelude.{◌≤ℤ◌}
+use Rattle.std.proofs.Common.{rules, ◌≡◌, ◌∷◌, List, map, Option, None, sym, ◌∙◌, ap, subst, arith, to_z, of_z, w32}
 use Rattle.std.proofs.lemmas.Int.{ints}
 use Rattle.ics_calendar.specs.Event.{said_by}
 use Rattle.ics_zone.specs.Near.{offset_near}
@@ -30,6 +30,7 @@ returns-in_err-turn-clause-err c = λ list a.
 pub loop-day-preserved : goal.loop-day-preserved
 loop-day-preserved c = record {
   day = omega (arith, ints, c.in_ok-turn.ensures.day, c.next_today.ensures.day, c.loop-day.invariant.day, c.loop-day-test.true, c.last_near-day-end.type_inv);
+  scope = c.turn.ensures.scope ∙ (c.next_today.ensures.scope ∙ c.loop-day.invariant.scope);
   window = c.turn.ensures.window ∙ (c.next_today.ensures.window ∙ c.loop-day.invariant.window);
   ahead = λ list a.
       let none : c.in_ok-occurrence.field-0 ≡ None = search rules in

@@ -1,5 +1,5 @@
 use Rattle.std.proofs.Common.{◌≡◌, List}
-use Rattle.ics_series.specs.Ahead.{IsAhead}
+use Rattle.ics_series.specs.Ahead.{scope_of, IsAhead}
 use Rattle.ics_series.specs.OnDays.{OnDay}
 use Rattle.ics_series.proofs.days.Days.next.Given as goal
 
@@ -7,6 +7,7 @@ use Rattle.ics_series.proofs.days.Days.next.Given as goal
 abbrev pub invariant-loop-day : goal.invariant-loop-day
 invariant-loop-day l = record {
   day : l.self.day ≡ l.day;
+  scope : scope_of l.self ≡ scope_of l.fn.self;
   window : l.self.window ≡ l.fn.self.window;
   ahead : (list : List OnDay) → IsAhead l.fn.self list → IsAhead l.self list;
 }

@@ -1,5 +1,5 @@
 use Rattle.std.proofs.Common.{◌≡◌, List, length}
-use Rattle.ics_series.specs.Ahead.{agenda_coming, IsAhead}
+use Rattle.ics_series.specs.Ahead.{agenda_coming, scope_of, IsAhead}
 use Rattle.ics_series.specs.OnDays.{OnDay}
 use Rattle.ics_series.proofs.days.Days.next_today.Given as goal
 
@@ -7,6 +7,7 @@ use Rattle.ics_series.proofs.days.Days.next_today.Given as goal
 abbrev pub invariant-loop-occurrence : goal.invariant-loop-occurrence
 invariant-loop-occurrence l = record {
   day : l.self.day ≡ l.fn.self.day;
+  scope : scope_of l.self ≡ scope_of l.fn.self;
   window : l.self.window ≡ l.fn.self.window;
   ahead : (list : List OnDay) → IsAhead l.fn.self list → IsAhead l.self list;
 }

@@ -1,17 +1,30 @@
-use Rattle.std.proofs.Common.{◌≡◌, pos, ◌+ℤ◌, ◌-ℤ◌, map, refl, arith, to_z, of_z, w32}
+use Rattle.std.proofs.Common.{◌≡◌, pos, ◌+ℤ◌, ◌-ℤ◌, map, None, refl, arith, to_z, of_z, w32}
 use Rattle.std.proofs.lemmas.Int.{ints}
 use Rattle.ics_calendar.specs.Event.{said_by}
 use Rattle.ics_zone.specs.Near.{offset_near}
 use Rattle.ics_zone.specs.Zones.{zone_of}
 use Rattle.ics_series.specs.Ahead.{agenda_coming}
 use Rattle.ics_series.specs.Clocks.{display_clock}
+use Rattle.ics_series.specs.DayMasters.{agenda_sources}
 use Rattle.ics_series.specs.Days.{date_of}
+use Rattle.ics_series.specs.Sources.{recurring}
 use Rattle.ics_series.proofs.AheadLemmas.{ahead-turned}
 use Rattle.ics_series.proofs.DayLemmas.{day-under}
+use Rattle.ics_series.proofs.MasterSumLemmas.{masters-of}
 use Rattle.ics_series.proofs.days.Days.turn.Goals as goal
 
-pub invariant_of-self-2 : goal.invariant_of-self-2
-invariant_of-self-2 c =
+pub invariant_of-self-clause-masters : goal.invariant_of-self-clause-masters
+invariant_of-self-clause-masters c =
+    let self = c.args.self.now in
+    ∣ masters-of (map said_by self.files.now) (display_clock self.display.now) c.near_day-near.result None (recurring (agenda_sources c.in_ok-agenda.agenda)) c.in_ok-agenda.ensures.sources.each ∣₁
+
+pub invariant_of-self-2-clause-masters : goal.invariant_of-self-2-clause-masters
+invariant_of-self-2-clause-masters c =
+    let self = c.args.self.now in
+    ∣ masters-of (map said_by self.files.now) (display_clock self.display.now) c.near_day-near.result None (recurring (agenda_sources c.in_ok-agenda.agenda)) c.in_ok-agenda.ensures.sources.each ∣₁
+
+pub invariant_of-self-2-clause-not_before : goal.invariant_of-self-2-clause-not_before
+invariant_of-self-2-clause-not_before c =
     let self = c.args.self.now in
     let w = self.window in
     let first = day-under w.from (date_of w.from) refl in
@@ -22,7 +35,7 @@ invariant_of-self-2 c =
     let late = w.not_late in
     let more = c.requires.more in
     let from = self.not_before in
-    record { not_before = omega (arith, ints, top, low, early, late, more, from) }
+    omega (arith, ints, top, low, early, late, more, from)
 
 pub returns-clause-ahead : goal.returns-clause-ahead
 returns-clause-ahead c = λ list a.

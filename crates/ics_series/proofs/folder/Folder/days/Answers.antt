@@ -1,18 +1,21 @@
-use Rattle.std.proofs.Common.{List, map, subst}
+use Rattle.std.proofs.Common.{◌≡◌, List, map, subst}
 use Rattle.std.specs.Prelude.{IfOk}
 use Rattle.std.specs.Option.{option_map}
 use Rattle.ics_calendar.specs.Event.{said_by}
 use Rattle.ics_calendar.specs.declared.events.FileEvents.{FileEvents}
-use Rattle.ics_series.specs.Ahead.{IsAhead}
+use Rattle.ics_series.specs.Ahead.{scope_of, IsAhead}
 use Rattle.ics_series.specs.Clocks.{display_clock}
 use Rattle.ics_series.specs.Contents.{Contents}
 use Rattle.ics_series.specs.DayKeys.{day_key_rank}
+use Rattle.ics_series.specs.DayMasters.{scope_by}
 use Rattle.ics_series.specs.Listing.{IsListing}
 use Rattle.ics_series.specs.OnDays.{after_day_key, on_day_cmp, IsOnDay, OnDay}
 use Rattle.ics_series.proofs.folder.Folder.days.Goals as goal
 
 pub returns : goal.returns
 returns c =
-    subst (λ (v : Contents). IfOk c.new.result (λ days. (list : List OnDay) × IsListing on_day_cmp (IsOnDay (map said_by v.files) (display_clock v.display) c.args.window) list × IsAhead days (after_day_key (option_map (λ key. day_key_rank key.now) c.args.after) list))) c.self.view_is
-    (subst (λ (files : List FileEvents). IfOk c.new.result (λ days. (list : List OnDay) × IsListing on_day_cmp (IsOnDay (map said_by files) (display_clock c.self.inside.display) c.args.window) list × IsAhead days (after_day_key (option_map (λ key. day_key_rank key.now) c.args.after) list)))
+    subst (λ (v : Contents). IfOk c.new.result (λ days. (list : List OnDay) × IsListing on_day_cmp (IsOnDay (map said_by v.files) (display_clock v.display) c.args.window) list × IsAhead days (after_day_key (option_map (λ key. day_key_rank key.now) c.args.after) list)
+    × (scope_of days ≡ scope_by (map said_by v.files) (display_clock v.display) c.args.window))) c.self.view_is
+    (subst (λ (files : List FileEvents). IfOk c.new.result (λ days. (list : List OnDay) × IsListing on_day_cmp (IsOnDay (map said_by files) (display_clock c.self.inside.display) c.args.window) list × IsAhead days (after_day_key (option_map (λ key. day_key_rank key.now) c.args.after) list)
+    × (scope_of days ≡ scope_by (map said_by files) (display_clock c.self.inside.display) c.args.window)))
     c.deref.ensures.value c.new.ensures)
