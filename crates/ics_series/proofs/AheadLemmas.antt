@@ -11,10 +11,12 @@ use Rattle.ics_series.specs.After.{is_after}
 use Rattle.ics_series.specs.Ahead.{is_today, today, IsAheadOf, IsLater}
 use Rattle.ics_series.specs.Clocks.{Clock}
 use Rattle.ics_series.specs.DayKeys.{DayRank}
+use Rattle.ics_series.specs.DayMasters.{IsNearAgenda, IsPastAgenda}
 use Rattle.ics_series.specs.Entry.{Entry, Rank, entry_cmp, rank_cmp, rank_of}
 use Rattle.ics_series.specs.Listing.{IsListing}
 use Rattle.ics_series.specs.Meets.{IsListed, IsToCome, Meets}
 use Rattle.ics_series.specs.NearDays.{first_near, last_near, Begins, IsNearDay}
+use Rattle.ics_series.specs.Sources.{Source}
 use Rattle.ics_series.specs.OnDays.{after_day_key, is_day_after, on_day, on_day_cmp, IsOnDay, OnDay}
 use Rattle.ics_series.proofs.FilterLemmas.{listing-filter}
 use Rattle.ics_series.proofs.ListingLemmas.{one-listing}
@@ -37,9 +39,6 @@ module _ (files : List FileSaid) (display : Clock) (near : (t : ℤ) → IsNear 
 
   pub shown-last : (p : OnDay) → IsOnDay files display w p → p.day ≤ℤ last_near w
   shown-last p s = near-last display near w p.entry s.listed.1 (occurs-forward files display p.entry s.listed.0) p.day s.on
-
-  pub near-by : (n : Window) (day other : ℤ) → IsNearDay w day n → day ≡ other → IsNearDay w other n
-  near-by n day other h e = subst (λ d. IsNearDay w d n) e h
 
   -- those of a day, from what meets the window near it
   of-day : (day : ℤ) (n : Window) → IsNearDay w day n → (xs : List Entry) → IsListing entry_cmp (IsListed files display n) xs
@@ -127,28 +126,36 @@ module _ (files : List FileSaid) (display : Clock) (near : (t : ℤ) → IsNear 
   later-than xs l day = let on = days-on day (last_near w) in some-later xs l on.0 day on.1
 
   -- Where a listing begins: at a day, and there behind a key.
-  module _ (after : Option DayRank) (day : ℤ) (key : Option Rank) (begins : Begins w after day key) (n : Window) (near-day : day ≤ℤ last_near w → IsNearDay w day n) where
+  module _ (after : Option DayRank) (day : ℤ) (key : Option Rank) (begins : Begins w after day key) where
     -- those of the day that come after the key
     abbrev IsBegun : OnDay → Type 0
     IsBegun p = IsUnder files display w day p × (is_after key p.entry ≡ true)
 
-    after-come : (k : Option Rank) (o : Entry) → IsToCome files display n k o → is_after k o ≡ true
-    after-come None o p = refl
-    after-come (Some k) o p = ap is_lt p.1
+    after-come : (n : Window) (k : Option Rank) (o : Entry) → IsToCome files display n k o → is_after k o ≡ true
+    after-come n None o p = refl
+    after-come n (Some k) o p = ap is_lt p.1
 
-    come-after : (k : Option Rank) (o : Entry) → IsListed files display n o → is_after k o ≡ true → IsToCome files display n k o
-    come-after None o p t = p
-    come-after (Some k) o p t = (p, lt-Less (rank_cmp k (rank_of o)) t)
+    come-after : (n : Window) (k : Option Rank) (o : Entry) → IsListed files display n o → is_after k o ≡ true → IsToCome files display n k o
+    come-after n None o p t = p
+    come-after n (Some k) o p t = (p, lt-Less (rank_cmp k (rank_of o)) t)
 
-    begun-listing : (coming : List Entry) → IsListing entry_cmp (IsToCome files display n key) coming → IsListing on_day_cmp IsBegun (today display w day coming)
-    begun-listing coming l =
+    begun-listing : (n : Window) → IsNearDay w day n → (coming : List Entry) → IsListing entry_cmp (IsToCome files display n key) coming
+        → IsListing on_day_cmp IsBegun (today display w day coming)
+    begun-listing n near-day coming l =
         today-listing files display near w day (IsToCome files display n key) IsBegun coming l
-        (λ o p t. ((today-shown files display near w day o (come-listed files display n key o p).0 t, refl), after-come key o p))
+        (λ o p t. ((today-shown files display near w day o (come-listed files display n key o p).0 t, refl), after-come n key o p))
         (λ p q. (
           q.0.1,
-          come-after key p.entry (q.0.0.listed.0, shown-near p n q.0.0 (subst (λ d. IsNearDay w d n) (sym q.0.1) (near-day (subst (λ d. d ≤ℤ last_near w) q.0.1 (shown-last p q.0.0))))) q.1,
+          come-after n key p.entry (q.0.0.listed.0, shown-near p n q.0.0 (subst (λ d. IsNearDay w d n) (sym q.0.1) near-day)) q.1,
           subst (λ d. is_today display w d p.entry ≡ true) q.0.1 (shown-today files display near w p q.0.0),
         ))
+
+    -- past the last day there is nothing
+    begun-past : last_near w <ℤ day → (coming : List Entry) → coming ≡ [] → IsListing on_day_cmp IsBegun (today display w day coming)
+    begun-past past coming none = subst (λ (xs : List Entry). IsListing on_day_cmp IsBegun (today display w day xs)) (sym none) (record {
+      rises = tt;
+      exact = λ p. (λ m. absurd m, λ q. let on = q.0.1 in let last = shown-last p q.0.0 in absurd (omega (arith, ints, past, on, last)));
+    })
 
     -- what comes after the key of a day
     abbrev IsCome : OnDay → Type 0
@@ -181,13 +188,16 @@ module _ (files : List FileSaid) (display : Clock) (near : (t : ℤ) → IsNear 
           },
         )
 
-    pub begun-ahead : (xs coming : List Entry) → IsListing entry_cmp (IsListed files display w) xs → IsListing entry_cmp (IsToCome files display n key) coming
+    pub begun-ahead : (xs coming : List Entry) (sources : List Source) → IsListing entry_cmp (IsListed files display w) xs
+        → IsNearAgenda files display w day key coming sources ⊎ IsPastAgenda w day coming sources
         → (list : List OnDay) × IsListing on_day_cmp (IsOnDay files display w) list × IsAheadOf files display w day coming (after_day_key after list)
-    begun-ahead xs coming l come =
+    begun-ahead xs coming sources l agenda =
+        let come = ⊎_elim (λ (a : IsNearAgenda files display w day key coming sources). begun-listing a.window a.near coming a.listing)
+        (λ (a : IsPastAgenda w day coming sources). begun-past a.past coming a.none) agenda in
         let all = all-shown xs l in
         let later = later-than xs l day in
         let after-key = listing-filter (λ p. is_day_after after p) on_day_cmp (IsOnDay files display w) IsCome all.0 all.1 (λ p s t. (s, t)) (λ p c. c) in
-        let begun = joined on_day_cmp IsBegun (IsLater files display w day) IsCome (today display w day coming) later.0 (begun-listing coming come) later.1
+        let begun = joined on_day_cmp IsBegun (IsLater files display w day) IsCome (today display w day coming) later.0 come later.1
         (λ p q a b. let d = a.0.1 in let m = b.later in day-first p q (omega (arith, ints, d, m))) begun-come come-begun in (
           all.0,
           all.1,

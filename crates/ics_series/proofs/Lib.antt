@@ -5,6 +5,7 @@ pub mod AheadLemmas
 pub mod BeginsLemmas
 pub mod DayLawLemmas
 pub mod DayLemmas
+pub mod DayStepLemmas
 pub mod DayTokenLemmas
 mod Examples
 pub mod ExclusionLemmas

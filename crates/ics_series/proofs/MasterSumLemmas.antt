@@ -4,20 +4,21 @@ use Rattle.std.specs.Cmp.Lexicographic.{slice_cmp}
 use Rattle.std.specs.List.{AllByRecursion}
 use Rattle.std.specs.Ordering.{nat_cmp}
 use Rattle.std.specs.declared.cmp.Ordering.TheVariants.{Less, Equal}
-use Rattle.std.proofs.Common.{◌≡◌, ℕ, ◌+◌, ◌≤◌, List, [], ◌∷◌, map, ◌⊎◌, inl, inr, ⊎_elim, Option, refl, sym, ◌∙◌, ap, arith}
+use Rattle.std.proofs.Common.{◌≡◌, ℕ, ℤ, ◌+◌, ◌≤◌, List, [], ◌∷◌, map, ◌⊎◌, inl, inr, ⊎_elim, Option, refl, sym, ◌∙◌, ap, subst, arith}
 use Rattle.std.proofs.lemmas.Cmp.{nat_list_cmp_total, tied_itself}
 use Rattle.std.proofs.lemmas.List.Sums.{sum_by-cons}
 use Rattle.ics_calendar.specs.Event.{FileSaid}
 use Rattle.ics_series.specs.declared.window.Window.{Window}
 use Rattle.ics_series.specs.Chosen.{IsMaster}
 use Rattle.ics_series.specs.Clocks.{Clock}
-use Rattle.ics_series.specs.DayMasters.{IsDayMaster}
+use Rattle.ics_series.specs.DayMasters.{IsDayMaster, IsFromStart, Scope}
 use Rattle.ics_series.specs.Entry.{Rank}
 use Rattle.ics_series.specs.HeldMost.{held_most, most_in_days, Master}
 use Rattle.ics_series.specs.Listing.{IsIn, IsListing}
+use Rattle.ics_series.specs.NearDays.{IsNearDay}
 use Rattle.ics_series.specs.Placed.{Placed, clocks_at}
 use Rattle.ics_series.specs.Rising.{IsBefore, Rises}
-use Rattle.ics_series.specs.Sources.{master_at, master_of, recurring, uid_cmp, AreSources, IsMasterOf, Recurring, Source}
+use Rattle.ics_series.specs.Sources.{master_at, master_of, recurring, uid_cmp, AreSources, IsFrom, IsMasterOf, Recurring, Source}
 use Rattle.ics_series.specs.Versions.{by_subject}
 
 -- a list without one of its members
@@ -37,7 +38,18 @@ without f x (y ∷ ys) (inr m) =
       others = λ z n. ⊎_elim (λ s. inr (inl s)) (λ k. ⊎_elim inl (λ i. inr (inr i)) (w.others z k)) n;
     }
 
+same-master : (files : List FileSaid) (display : Clock) (m : Recurring) (by : Placed) → m.clocks ≡ clocks_at files display by.file → m.event ≡ by.event
+    → master_of m ≡ master_at files display by
+same-master files display m by clocks event =
+    ap (λ c. record { clocks = c; event = m.event }) clocks ∙ ap (λ e. record { clocks = clocks_at files display by.file; event = e }) event
+
 module _ (files : List FileSaid) (display : Clock) where
+  -- a master of the folder
+  pub record IsOfFolder (m : Recurring) : Type 0 where
+    by : Placed
+    is : IsMaster files display by
+    same : master_of m ≡ master_at files display by
+
   -- a master of the listing is one of these
   record IsAmong (masters : List Placed) (m : Recurring) : Type 0 where
     by : Placed
@@ -46,23 +58,32 @@ module _ (files : List FileSaid) (display : Clock) where
 
   behind : (m n : Recurring) (by : Placed) → master_of m ≡ master_at files display by → master_of n ≡ master_at files display by → uid_cmp m n ≡ Less → ⊥
   behind m n by p q l =
-      let same : uid_cmp m n ≡ Equal = ap (slice_cmp nat_cmp m.event.uid) (ap (λ (v : Master). v.event.uid) (q ∙ sym p)) ∙ tied_itself nat_list_cmp_total m.event.uid in
+      let same : uid_cmp m n ≡ Equal = ap (slice_cmp nat_cmp m.event.uid) (ap (λ (v : Master). v.event.uid) (q ∙ sym p))
+      ∙ tied_itself nat_list_cmp_total m.event.uid in
       let no : Less ≡ Equal = sym l ∙ same in
       absurd cc
 
   module _ (f : Master → ℕ) where
     as-sums : (ps : List Placed) → sum_by f (map (master_at files display) ps) ≡ sum_by (λ p. f (master_at files display p)) ps
     as-sums [] = refl
-    as-sums (p ∷ ps) = omega (arith, sum_by-cons f (master_at files display p) (map (master_at files display) ps), sum_by-cons (λ q. f (master_at files display q)) p ps, as-sums ps)
+    as-sums (p ∷ ps) =
+        omega (
+          arith,
+          sum_by-cons f (master_at files display p) (map (master_at files display) ps),
+          sum_by-cons (λ q. f (master_at files display q)) p ps,
+          as-sums ps,
+        )
 
-    sums-within : (ms : List Recurring) (masters : List Placed) → Rises uid_cmp ms → AllByRecursion (IsAmong masters) ms → sum_by f (map master_of ms) ≤ sum_by f (map (master_at files display) masters)
+    sums-within : (ms : List Recurring) (masters : List Placed) → Rises uid_cmp ms → AllByRecursion (IsAmong masters) ms
+        → sum_by f (map master_of ms) ≤ sum_by f (map (master_at files display) masters)
     sums-within [] masters r h = omega arith
     sums-within (m ∷ ms) masters r h =
         let w = without (λ p. f (master_at files display p)) h.0.by masters h.0.stands in
         let rest = sums-within ms w.rest r.1 (still h.0 w ms r.0 h.1) in
         omega (arith, sum_by-cons f (master_of m) (map master_of ms), ap f h.0.same, rest, as-sums masters, as-sums w.rest, w.sum)
       where
-        still : (a : IsAmong masters m) (w : Rest (λ p. f (master_at files display p)) a.by masters) → (ns : List Recurring) → IsBefore uid_cmp m ns → AllByRecursion (IsAmong masters) ns → AllByRecursion (IsAmong w.rest) ns
+        still : (a : IsAmong masters m) (w : Rest (λ p. f (master_at files display p)) a.by masters) → (ns : List Recurring) → IsBefore uid_cmp m ns
+            → AllByRecursion (IsAmong masters) ns → AllByRecursion (IsAmong w.rest) ns
         still a w [] b k = tt
         still a w (n ∷ ns) b k = (
           record {
@@ -73,31 +94,51 @@ module _ (files : List FileSaid) (display : Clock) where
           still a w ns b.1 k.1,
         )
 
-  among : (masters : List Placed) → IsListing (by_subject files display) (IsMaster files display) masters → (ms : List Recurring) → AllByRecursion (IsDayMaster files display) ms → AllByRecursion (IsAmong masters) ms
+  among : (masters : List Placed) → IsListing (by_subject files display) (IsMaster files display) masters → (ms : List Recurring)
+      → AllByRecursion IsOfFolder ms → AllByRecursion (IsAmong masters) ms
   among masters all [] h = tt
   among masters all (m ∷ ms) h = (record { by = h.0.by; stands = (all.exact h.0.by).1 h.0.is; same = h.0.same }, among masters all ms h.1)
 
   -- A sum over some masters of the folder, each with a UID of its own, is at most that over all of them.
-  pub sum-of-masters : (f : Master → ℕ) (ms : List Recurring) (masters : List Placed) → Rises uid_cmp ms → AllByRecursion (IsDayMaster files display) ms
+  pub sum-of-masters : (f : Master → ℕ) (ms : List Recurring) (masters : List Placed) → Rises uid_cmp ms → AllByRecursion IsOfFolder ms
       → IsListing (by_subject files display) (IsMaster files display) masters → sum_by f (map master_of ms) ≤ sum_by f (map (master_at files display) masters)
   sum-of-masters f ms masters rise are all = sums-within f ms masters rise (among masters all ms are)
 
-  pub held-of-masters : (ms : List Recurring) (masters : List Placed) → Rises uid_cmp ms → AllByRecursion (IsDayMaster files display) ms
+  pub held-of-masters : (ms : List Recurring) (masters : List Placed) → Rises uid_cmp ms → AllByRecursion IsOfFolder ms
       → IsListing (by_subject files display) (IsMaster files display) masters → held_most (map master_of ms) ≤ held_most (map (master_at files display) masters)
   unfolding held_most
   held-of-masters ms masters rise are all = omega (arith, sum-of-masters (λ m. 2 + most_in_days m.clocks m.event) ms masters rise are all)
 
   -- the masters of a listing are masters of the folder
-  pub masters-of : (w : Window) (after : Option Rank) (ms : List Recurring) → AllByRecursion (IsMasterOf files display w after) ms → AllByRecursion (IsDayMaster files display) ms
+  masters-of : (w : Window) (after : Option Rank) (ms : List Recurring) → AllByRecursion (IsMasterOf files display w after) ms → AllByRecursion IsOfFolder ms
   masters-of w after [] h = tt
   masters-of w after (m ∷ ms) h = (
-    record {
-      by = h.0.by;
-      is = h.0.is;
-      same = ap (λ c. record { clocks = c; event = m.event }) h.0.clocks ∙ ap (λ e. record { clocks = clocks_at files display h.0.by.file; event = e }) h.0.event;
-    },
+    record { by = h.0.by; is = h.0.is; same = same-master files display m h.0.by h.0.clocks h.0.event },
     masters-of w after ms h.1,
   )
+
+-- and so are those that are searched near a day
+pub day-masters : (s : Scope) (day : ℤ) (ms : List Recurring) → AllByRecursion (IsDayMaster s day) ms → AllByRecursion (IsOfFolder s.files s.display) ms
+day-masters s day [] h = tt
+day-masters s day (m ∷ ms) h = (record { by = h.0.by; is = h.0.is; same = h.0.searched.same }, day-masters s day ms h.1)
+
+-- those of a listing are searched in its window, from an instant on
+pub searched-masters : (s : Scope) (day : ℤ) (n : Window) (after : Option Rank) → IsNearDay s.window day n
+    → ((since : ℤ) → IsFrom after since → IsFromStart s.after day since)
+    → (ms : List Recurring) → AllByRecursion (IsMasterOf s.files s.display n after) ms → AllByRecursion (IsDayMaster s day) ms
+searched-masters s day n after near from [] h = tt
+searched-masters s day n after near from (m ∷ ms) h = (
+  record {
+    by = h.0.by;
+    is = h.0.is;
+    searched = record {
+      same = same-master s.files s.display m h.0.by h.0.clocks h.0.event;
+      near = subst (IsNearDay s.window day) (sym h.0.window) near;
+      from = from m.since h.0.since;
+    };
+  },
+  searched-masters s day n after near from ms h.1,
+)
 
 pub most-of-masters : (files : List FileSaid) (display : Clock) (w : Window) (after : Option Rank) (sources : List Source) (masters : List Placed) → AreSources files display w after sources → IsListing (by_subject files display) (IsMaster files display) masters
     → held_most (map master_of (recurring sources)) ≤ held_most (map (master_at files display) masters)

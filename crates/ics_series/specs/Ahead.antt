@@ -6,7 +6,7 @@ use Rattle.ics_series.specs.declared.days.Days.{Days}
 use Rattle.ics_series.specs.declared.occurrence.Occurrence.{Occurrence}
 use Rattle.ics_series.specs.declared.window.Window.{Window}
 use Rattle.ics_series.specs.Clocks.{Clock, display_clock}
-use Rattle.ics_series.specs.DayMasters.{scope_by, Scope}
+use Rattle.ics_series.specs.DayMasters.{scope_in, Scope}
 use Rattle.ics_series.specs.Days.{is_on}
 use Rattle.ics_series.specs.Entry.{Entry, entry_cmp, entry_of}
 use Rattle.ics_series.specs.Leads.{listed, past}
@@ -41,7 +41,7 @@ agenda_coming agenda = merged entry_cmp (map (λ l. past agenda.merge.last (list
 
 -- what it is of
 abbrev pub scope_of : Days → Scope
-scope_of days = scope_by (map said_by days.files.now) (display_clock days.display.now) days.window
+scope_of days = scope_in (map said_by days.files.now) (display_clock days.display.now) days.window days.after
 
 -- this list is still to come
 abbrev pub IsAhead : Days → List OnDay → Type 0

@@ -6,6 +6,7 @@ pub mod Contents
 pub mod DayKeys
 pub mod DayLaws
 pub mod DayMasters
+pub mod DaySteps
 pub mod DayTokens
 pub mod Days
 pub mod Entry

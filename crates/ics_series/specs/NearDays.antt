@@ -1,5 +1,5 @@
 -- The days that a clock can show in a window, and where a listing under each day begins. A clock is less than two days from UTC's.
-use Rattle.std.specs.Prelude.{◌≡◌, ◌≤ℤ◌, ◌&&◌, ◌||◌, int_lt, ℤ, pos, ◌+ℤ◌, ◌-ℤ◌, false, Option}
+use Rattle.std.specs.Prelude.{◌≡◌, ◌≤ℤ◌, ◌&&◌, ◌||◌, int_lt, ℤ, pos, ◌+ℤ◌, ◌-ℤ◌, false, Option, Some, None}
 use Rattle.std.specs.Int.{int_max, int_min}
 use Rattle.std.specs.Ordering.{int_eq}
 use Rattle.ics_series.specs.declared.window.Window.{Window}
@@ -27,3 +27,8 @@ pub record IsNearDay (w : Window) (day : ℤ) (n : Window) : Type 0 where
 pub record Begins (w : Window) (after : Option DayRank) (day : ℤ) (key : Option Rank) : Type 0 where
   pub low : first_near w ≤ℤ day
   pub behind : (p : OnDay) → first_near w ≤ℤ p.day → is_day_after after p ≡ (int_lt day p.day || (int_eq p.day day && is_after key p.entry))
+
+-- a listing begins on the day of the key or later, and on that day behind the key itself
+abbrev pub IsBehindKey : Option DayRank → ℤ → Option Rank → Type 0
+IsBehindKey None day key = Unit {0}
+IsBehindKey (Some after) day key = (after.day ≤ℤ day) × (day ≡ after.day → key ≡ Some after.key)

@@ -1,5 +1,5 @@
 //! The listing of a window.
-ghost use Rattle.std.specs.Prelude.{◌≡◌, ◌≤◌, ◌-◌, ◌^◌, ℕ, List, length, map, min, sum_by, IfOk};
+ghost use Rattle.std.specs.Prelude.{◌≡◌, ◌≤◌, ◌-◌, ◌^◌, ℕ, List, [], length, map, min, sum_by, IfOk};
 ghost use Rattle.std.specs.List.{flat_map};
 ghost use Rattle.std.specs.List.Sorted.{IsSorted};
 ghost use Rattle.std.specs.Option.{option_map};
@@ -70,6 +70,26 @@ impl<'a> Agenda<'a> {
         let chosen = chosen(alloc, files, display)?;
         let parts = parts(alloc, files, display, &chosen, window, after)?;
         let merge = Merge::of_sorted(alloc, parts, 1)?;
+        Ok(Agenda { merge })
+    }
+
+    // An agenda with nothing to come. That the files have listings is known from their feeds, none of
+    // which is read.
+    pub(crate) fn ended(
+        alloc: Global,
+        files: &'a [FileEvents],
+        display: &'a Display,
+        window: Window,
+    ) -> Result<Agenda<'a>, AllocError>
+        ensures none { IfOk result (λ agenda. ⟦<Agenda<'a> as Coming>⟧.coming agenda ≡ []) }
+        ensures sources { IfOk result (λ agenda. ⟦<Agenda<'a> as Coming>⟧.sources agenda ≡ []) }
+        ensures whole { IfOk result (λ _. (w : Window) → (list : List Entry)
+            × IsListing entry_cmp (IsListed (map said_by files.entry.now) (display_clock display.entry.now) w) list) }
+    {
+        let chosen = chosen(alloc, files, display)?;
+        let mut parts = parts(alloc, files, display, &chosen, window, None)?;
+        parts.clear();
+        let merge = Merge::new(alloc, parts)?;
         Ok(Agenda { merge })
     }
 

@@ -1,17 +1,20 @@
 //! The listing of a window under each day.
-ghost use Rattle.std.specs.Prelude.{◌≡◌, ◌≤◌, ◌-◌, ◌^◌, ◌≤ℤ◌, ◌<ℤ◌, ◌+ℤ◌, pos, length, min, IsTrue, List, [], map, IfOk, IfSome, OnErr, OnOk, None};
+ghost use Rattle.std.specs.Prelude.{◌≡◌, ◌⊎◌, ◌≤◌, ◌+◌, ◌-◌, ◌^◌, ◌≤ℤ◌, ◌<ℤ◌, ◌+ℤ◌, ℕ, pos, length, min, IsTrue, List, [], map, IfOk, IfSome, OnErr, OnOk, None};
 ghost use Rattle.std.specs.Option.{option_map};
 ghost use Rattle.ics_values.specs.Days.{IsDayNumber};
 ghost use Rattle.ics_calendar.specs.Event.{said_by};
 ghost use Rattle.ics_series.specs.Clocks.{display_clock};
 ghost use Rattle.ics_series.specs.DayKeys.{day_key_rank};
-ghost use Rattle.ics_series.specs.DayMasters.{agenda_holds, agenda_sources, masters_in, scope_by, AreDayMasters, AreMasters};
-ghost use Rattle.ics_series.specs.Entry.{entry_of, key_rank};
+ghost use Rattle.ics_series.specs.DayMasters.{agenda_holds, agenda_looked, agenda_sources, day_and_start, masters_in, scope_by, scope_in, AreDayMasters, AreMasters, IsNearAgenda, IsPastAgenda};
+ghost use Rattle.ics_series.specs.DaySteps.{begin_day, HasDaysBound, IsLookedBefore};
+ghost use Rattle.ics_series.specs.Entry.{entry_cmp, entry_of, key_rank, Entry};
 ghost use Rattle.ics_series.specs.HeldMost.{held_most};
 ghost use Rattle.ics_series.specs.Listing.{IsListing};
-ghost use Rattle.ics_series.specs.NearDays.{first_near, last_near, Begins};
+ghost use Rattle.ics_series.specs.Meets.{IsListed};
+ghost use Rattle.ics_series.specs.NearDays.{first_near, last_near, Begins, IsBehindKey};
 ghost use Rattle.ics_series.specs.OnDays.{after_day_key, on_day_cmp, GivesOnDay, IsOnDay, OnDay};
 ghost use Rattle.ics_series.specs.Placed.{Placed};
+ghost use Rattle.ics_series.specs.declared.window.Window.{Window};
 
 use crate::agenda::Agenda;
 use crate::day_key::DayKey;
@@ -22,6 +25,7 @@ use crate::occurrence::Occurrence;
 use crate::occurrence_days::is_on;
 use crate::window::Window;
 use ics_calendar::FileEvents;
+use ics_values::Moment;
 use ics_zone::Display;
 use std::alloc::{AllocError, Global};
 
@@ -34,11 +38,18 @@ pub struct Days<'a> {
     files: &'a [FileEvents],
     display: &'a Display,
     window: Window,
+    // The day and the start in the key after which the listing begins.
+    after: Option<(i32, Moment)>,
     day: i32,
     // What is still to come of what meets the window near the day.
     agenda: Agenda<'a>,
+    // How many periods of rules were looked at for the days before.
+    looked: u64,
     ghost not_before: { first_near window ≤ℤ day },
-    ghost masters: { ∥ AreDayMasters (map said_by files.now) (display_clock display.now) (agenda_sources agenda) ∥₁ },
+    ghost begun: { begin_day window after ≤ℤ day },
+    ghost masters: { ∥ AreDayMasters (scope_in (map said_by files.now) (display_clock display.now) window after) day (agenda_sources agenda) ∥₁ },
+    ghost before: { IsLookedBefore (scope_in (map said_by files.now) (display_clock display.now) window after) day looked },
+    ghost past: { last_near window <ℤ day → looked ≡ 0 },
 }
 
 impl<'a> Days<'a> {
@@ -55,19 +66,44 @@ impl<'a> Days<'a> {
         ensures { IfOk result (λ days. (list : List OnDay)
             × IsListing on_day_cmp (IsOnDay (map said_by files.entry.now) (display_clock display.entry.now) window) list
             × IsAhead days (after_day_key (option_map (λ key. day_key_rank key.now) after.entry) list)
-            × (scope_of days ≡ scope_by (map said_by files.entry.now) (display_clock display.entry.now) window)) }
+            × (scope_of days ≡ scope_by (map said_by files.entry.now) (display_clock display.entry.now) window
+            (option_map (λ key. day_key_rank key.now) after.entry))) }
     {
         let (day, key) = begin(&window, after);
-        let near = near_day(&window, day.min(last_near(&window)));
-        let agenda = Agenda::new(alloc, files, display, near, key)?;
+        let agenda = Days::agenda_of(alloc, files, display, &window, day, key)?;
         Ok(Days {
             alloc,
             files,
             display,
             window,
+            after: day_and_start(after),
             day,
             agenda,
+            looked: 0,
         })
+    }
+
+    // What is to come near the day with which a listing begins. Past the last day there is nothing.
+    fn agenda_of(
+        alloc: Global,
+        files: &'a [FileEvents],
+        display: &'a Display,
+        window: &Window,
+        day: i32,
+        key: Option<&Key>,
+    ) -> Result<Agenda<'a>, AllocError>
+        requires { first_near window.now ≤ℤ day }
+        ensures agenda { IfOk result (λ agenda. IsNearAgenda (map said_by files.entry.now) (display_clock display.entry.now) window.now day
+            (option_map (λ key. key_rank key.now) key.entry) (agenda_coming agenda) (agenda_sources agenda)
+            ⊎ IsPastAgenda window.now day (agenda_coming agenda) (agenda_sources agenda)) }
+        ensures whole { IfOk result (λ _. (w : Window) → (list : List Entry)
+            × IsListing entry_cmp (IsListed (map said_by files.entry.now) (display_clock display.entry.now) w) list) }
+    {
+        if last_near(window) < day {
+            return Agenda::ended(alloc, files, display, *window);
+        }
+        let near = near_day(window, day);
+        Agenda::new(alloc, files, display, near, key)
     }
 
     /// The first of the list still to come, with the day that it stands under, which then has the rest
@@ -102,6 +138,20 @@ impl<'a> Days<'a> {
         self.agenda.held()
     }
 
+    /// How many periods of rules were looked at, day by day: from the day of the key, or without one from
+    /// the first, to that of the first still to come, or to the last if there is none. For each of these
+    /// days and each master with a rule they are at most two more than those that hold a local from seven
+    /// days before what can meet the window near the day, or on the key's own day before the start in the
+    /// key if that is later, to seven days past what the window holds near the day. The count stops at
+    /// the greatest `u64`.
+    pub fn steps(&self) -> u64
+        ensures count { result ≡ min (self.now.looked + agenda_looked self.now.agenda) (2 ^ 64 - 1) }
+        ensures most { (list : List OnDay) (bound : ℕ) → IsAhead self.now list
+            → HasDaysBound (scope_of self.now) list bound → result ≤ bound }
+    {
+        self.looked.saturating_add(self.agenda.steps())
+    }
+
     // The next of the day's.
     fn next_today(&mut self) -> Result<Option<Occurrence<'a>>, AllocError>
         ensures day { self.new.day ≡ self.old.day }
@@ -128,13 +178,23 @@ impl<'a> Days<'a> {
         ensures day { OnOk result (self.new.day ≡ self.old.day +ℤ pos 1) }
         ensures scope { scope_of self.new ≡ scope_of self.old }
         ensures window { self.new.window ≡ self.old.window }
+        ensures looked { OnOk result (self.new.looked ≡ min (self.old.looked + agenda_looked self.old.agenda) (2 ^ 64 - 1)) }
         ensures ahead { (list : List OnDay) → IsAhead self.old list → IsAhead self.new list }
     {
         let day = self.day + 1;
         let near = near_day(&self.window, day);
         let agenda = Agenda::new(self.alloc, self.files, self.display, near, None)?;
-        self.agenda = agenda;
-        self.day = day;
+        let looked = self.looked.saturating_add(self.agenda.steps());
+        *self = Days {
+            alloc: self.alloc,
+            files: self.files,
+            display: self.display,
+            window: self.window,
+            after: self.after,
+            day,
+            agenda,
+            looked,
+        };
         Ok(())
     }
 
@@ -151,7 +211,9 @@ impl<'a> Days<'a> {
 
 // The day with which a listing begins, and the key after which it does there.
 fn begin<'k>(window: &Window, after: Option<&'k DayKey>) -> (i32, Option<&'k Key>)
-    ensures { Begins window.now (option_map (λ key. day_key_rank key.now) after.entry) result.0
+    ensures begins { Begins window.now (option_map (λ key. day_key_rank key.now) after.entry) result.0
+        (option_map (λ key. key_rank key.now) result.1) }
+    ensures behind { IsBehindKey (option_map (λ key. day_key_rank key.now) after.entry) result.0
         (option_map (λ key. key_rank key.now) result.1) }
 {
     let first = first_near(window);
@@ -159,4 +221,12 @@ fn begin<'k>(window: &Window, after: Option<&'k DayKey>) -> (i32, Option<&'k Key
         Some(after) if first <= after.day => (after.day, Some(&after.key)),
         _ => (first, None),
     }
+}
+
+// The day and the start in a key.
+fn day_and_start(after: Option<&DayKey>) -> Option<(i32, Moment)>
+    ensures { result ≡ option_map day_and_start (option_map (λ key. day_key_rank key.now) after.entry) }
+{
+    let after = after?;
+    Some((after.day, after.key.start))
 }

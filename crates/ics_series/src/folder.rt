@@ -95,7 +95,8 @@ impl Folder {
         ensures { IfOk result (λ days. (list : List OnDay)
             × IsListing on_day_cmp (IsOnDay (map said_by self.entry.now.files) (display_clock self.entry.now.display) window) list
             × IsAhead days (after_day_key (option_map (λ key. day_key_rank key.now) after.entry) list)
-            × (scope_of days ≡ scope_by (map said_by self.entry.now.files) (display_clock self.entry.now.display) window)) }
+            × (scope_of days ≡ scope_by (map said_by self.entry.now.files) (display_clock self.entry.now.display) window
+            (option_map (λ key. day_key_rank key.now) after.entry))) }
     {
         Days::new(self.alloc, &self.files, &self.display, window, after)
     }

@@ -1,19 +1,20 @@
-use Rattle.std.specs.Prelude.{ℤ}
-use Rattle.std.proofs.Common.{rules, ◌≡◌, map, refl, sym, subst, arith, to_z, of_z, w32}
+use Rattle.std.specs.Prelude.{◌≤ℤ◌, ℤ, Option}
+use Rattle.std.proofs.Common.{rules, ◌≡◌, map, refl, sym, ap, subst, arith, to_z, of_z, w32}
 use Rattle.std.specs.Option.{option_map}
-use Rattle.std.proofs.lemmas.Int.{int_min_is, ints}
+use Rattle.std.proofs.lemmas.Int.{ints}
 use Rattle.ics_calendar.specs.Event.{said_by}
 use Rattle.ics_zone.specs.Near.{offset_near}
 use Rattle.ics_zone.specs.Zones.{zone_of}
 use Rattle.ics_series.specs.Ahead.{agenda_coming}
 use Rattle.ics_series.specs.Clocks.{display_clock}
-use Rattle.ics_series.specs.DayMasters.{agenda_sources}
+use Rattle.ics_series.specs.DayMasters.{agenda_sources, scope_in, IsFromStart}
+use Rattle.ics_series.specs.DaySteps.{begin_day}
 use Rattle.ics_series.specs.Entry.{key_rank}
-use Rattle.ics_series.specs.NearDays.{Begins}
+use Rattle.ics_series.specs.NearDays.{first_near, Begins, IsBehindKey}
 use Rattle.ics_series.specs.DayKeys.{day_key_rank}
-use Rattle.ics_series.specs.Sources.{recurring}
-use Rattle.ics_series.proofs.AheadLemmas.{begun-ahead, near-by}
-use Rattle.ics_series.proofs.MasterSumLemmas.{masters-of}
+use Rattle.ics_series.specs.Sources.{IsFrom}
+use Rattle.ics_series.proofs.AheadLemmas.{begun-ahead}
+use Rattle.ics_series.proofs.DayStepLemmas.{begun-by, first-masters, from-start}
 use Rattle.ics_series.proofs.days.Days.new.Goals as goal
 
 pub returns : goal.returns
@@ -24,13 +25,32 @@ returns c =
     let key = option_map (λ key. key_rank key.now) c.begin-day.result.1 in
     let xs = c.in_ok-agenda.ensures.whole c.args.window in
     let fits : to_z w32 (of_z w32 c.begin-day.result.0) ≡ c.begin-day.result.0 = search rules in
-    let begins = subst (λ (d : ℤ). Begins c.args.window (option_map (λ key. day_key_rank key.now) c.args.after) d (option_map (λ key. key_rank key.now) c.begin-day.result.1)) (sym fits) c.begin-day.ensures in
-    let begun = begun-ahead files display (offset_near (zone_of c.args.display.now)) c.args.window after (to_z w32 (of_z w32 c.begin-day.result.0)) key begins c.near_day-near.result
-    (λ h. near-by files display (offset_near (zone_of c.args.display.now)) c.args.window c.near_day-near.result _ (to_z w32 (of_z w32 c.begin-day.result.0)) c.near_day-near.ensures
-    (omega (arith, ints, int_min_is, c.min.ensures.value, c.min.type_inv, c.last_near.ensures, c.last_near.type_inv, h)))
-    xs.0 (agenda_coming c.in_ok-agenda.agenda) xs.1 c.in_ok-agenda.ensures.listing in
-    (begun.0, begun.1, begun.2, refl)
+    let begins = subst (λ (d : ℤ). Begins c.args.window (option_map (λ key. day_key_rank key.now) c.args.after) d
+    (option_map (λ key. key_rank key.now) c.begin-day.result.1)) (sym fits) c.begin-day.ensures.begins in
+    let begun = begun-ahead files display (offset_near (zone_of c.args.display.now)) c.args.window after (to_z w32 (of_z w32 c.begin-day.result.0)) key begins
+    xs.0 (agenda_coming c.in_ok-agenda.agenda) (agenda_sources c.in_ok-agenda.agenda) xs.1 c.in_ok-agenda.ensures.agenda in
+    (begun.0, begun.1, begun.2, ap (scope_in (map said_by c.args.files.now) (display_clock c.args.display.now) c.args.window) c.day_and_start.ensures)
 
-pub invariant_of-result-clause-masters : goal.invariant_of-result-clause-masters
-invariant_of-result-clause-masters c =
-    ∣ masters-of (map said_by c.args.files.now) (display_clock c.args.display.now) c.near_day-near.result (option_map (λ key. key_rank key.now) c.begin-day.result.1) (recurring (agenda_sources c.in_ok-agenda.agenda)) c.in_ok-agenda.ensures.sources.each ∣₁
+pub invariant_of-result : goal.invariant_of-result
+invariant_of-result c =
+    let after = option_map (λ key. day_key_rank key.now) c.args.after in
+    let key = option_map (λ key. key_rank key.now) c.begin-day.result.1 in
+    let scope = scope_in (map said_by c.args.files.now) (display_clock c.args.display.now) c.args.window c.day_and_start.result in
+    let fits : to_z w32 (of_z w32 c.begin-day.result.0) ≡ c.begin-day.result.0 = search rules in
+    let low = c.begin-day.ensures.begins.low in
+    let behind = subst (λ (d : ℤ). IsBehindKey (option_map (λ key. day_key_rank key.now) c.args.after) d
+    (option_map (λ key. key_rank key.now) c.begin-day.result.1)) (sym fits) c.begin-day.ensures.behind in
+    let given = sym c.day_and_start.ensures in
+    let first : first_near c.args.window ≤ℤ to_z w32 (of_z w32 c.begin-day.result.0) = omega (arith, ints, low, fits) in
+    let from = subst (λ (a : Option (ℤ × ℤ)). (since : ℤ) → IsFrom (option_map (λ key. key_rank key.now) c.begin-day.result.1) since → IsFromStart a
+    (to_z w32 (of_z w32 c.begin-day.result.0)) since) given
+    (from-start after (to_z w32 (of_z w32 c.begin-day.result.0)) key behind) in
+    record {
+      not_before = first;
+      begun = subst (λ (a : Option (ℤ × ℤ)). begin_day c.args.window a ≤ℤ to_z w32 (of_z w32 c.begin-day.result.0)) given
+          (begun-by c.args.window after (to_z w32 (of_z w32 c.begin-day.result.0)) key behind first);
+      masters = ∣ first-masters scope (to_z w32 (of_z w32 c.begin-day.result.0)) key (agenda_coming c.in_ok-agenda.agenda)
+          (agenda_sources c.in_ok-agenda.agenda) from c.in_ok-agenda.ensures.agenda ∣₁;
+      before = λ masters most n all bounds is. omega arith;
+      past = λ l. refl;
+    }

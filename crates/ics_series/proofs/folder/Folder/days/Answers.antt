@@ -14,8 +14,14 @@ use Rattle.ics_series.proofs.folder.Folder.days.Goals as goal
 
 pub returns : goal.returns
 returns c =
-    subst (λ (v : Contents). IfOk c.new.result (λ days. (list : List OnDay) × IsListing on_day_cmp (IsOnDay (map said_by v.files) (display_clock v.display) c.args.window) list × IsAhead days (after_day_key (option_map (λ key. day_key_rank key.now) c.args.after) list)
-    × (scope_of days ≡ scope_by (map said_by v.files) (display_clock v.display) c.args.window))) c.self.view_is
-    (subst (λ (files : List FileEvents). IfOk c.new.result (λ days. (list : List OnDay) × IsListing on_day_cmp (IsOnDay (map said_by files) (display_clock c.self.inside.display) c.args.window) list × IsAhead days (after_day_key (option_map (λ key. day_key_rank key.now) c.args.after) list)
-    × (scope_of days ≡ scope_by (map said_by files) (display_clock c.self.inside.display) c.args.window)))
+    subst (λ (v : Contents). IfOk c.new.result (λ days. (list : List OnDay)
+    × IsListing on_day_cmp (IsOnDay (map said_by v.files) (display_clock v.display) c.args.window) list
+    × IsAhead days (after_day_key (option_map (λ key. day_key_rank key.now) c.args.after) list)
+    × (scope_of days ≡ scope_by (map said_by v.files) (display_clock v.display) c.args.window (option_map (λ key. day_key_rank key.now) c.args.after))))
+    c.self.view_is
+    (subst (λ (files : List FileEvents). IfOk c.new.result (λ days. (list : List OnDay)
+    × IsListing on_day_cmp (IsOnDay (map said_by files) (display_clock c.self.inside.display) c.args.window) list
+    × IsAhead days (after_day_key (option_map (λ key. day_key_rank key.now) c.args.after) list)
+    × (scope_of days ≡ scope_by (map said_by files) (display_clock c.self.inside.display) c.args.window
+    (option_map (λ key. day_key_rank key.now) c.args.after))))
     c.deref.ensures.value c.new.ensures)

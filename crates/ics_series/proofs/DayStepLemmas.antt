@@ -1,0 +1,167 @@
+-- How many periods of rules are looked at from day to day, at most.
+use Rattle.std.specs.Prelude.{◌<ℤ◌, ◌≤ℤ◌, unsigned_abs, sum_by}
+use Rattle.std.specs.List.{AllByRecursion}
+use Rattle.std.specs.Option.{option_map}
+use Rattle.std.proofs.Common.{◌≡◌, ℕ, zero, suc, ◌+◌, ◌≤◌, ℤ, pos, ◌+ℤ◌, ◌-ℤ◌, List, [], ◌∷◌, ◌++◌, map, ◌⊎◌, inl, inr, ⊎_elim, Option, Some, None, refl, sym, ap, subst, arith}
+use Rattle.std.proofs.lemmas.Int.{int_max_is, int_min_is, ints}
+use Rattle.std.proofs.lemmas.List.Sums.{sum_by-cons}
+use Rattle.ics_series.specs.declared.window.Window.{Window}
+use Rattle.ics_series.specs.Days.{date_of}
+use Rattle.ics_series.specs.DayKeys.{DayRank}
+use Rattle.ics_series.specs.DayMasters.{day_and_start, masters_in, AreDayMasters, AreMasters, IsDayMaster, IsFromStart, IsNearAgenda, IsPastAgenda, Scope}
+use Rattle.ics_series.specs.DaySteps.{begin_day, first_under, most_in, sum_days, AreDayBounds, IsLookedBefore}
+use Rattle.ics_series.specs.Entry.{Entry, Rank}
+use Rattle.ics_series.specs.HeldMost.{Master}
+use Rattle.ics_series.specs.Listing.{IsIn}
+use Rattle.ics_series.specs.NearDays.{first_near, last_near, IsBehindKey, IsNearDay}
+use Rattle.ics_series.specs.OnDays.{on_day, OnDay}
+use Rattle.ics_series.specs.Placed.{Placed}
+use Rattle.ics_series.specs.Rising.{Rises}
+use Rattle.ics_series.specs.Sources.{master_of, recurring, uid_cmp, IsFrom, Recurring, Source}
+use Rattle.ics_series.specs.Steps.{HasStepBound}
+use Rattle.ics_series.proofs.DayLemmas.{day-under}
+use Rattle.ics_series.proofs.MasterSumLemmas.{day-masters, searched-masters, sum-of-masters}
+
+-- a bound with nothing to come is one whatever is to come
+wider : (m : Recurring) (coming : List Entry) (most : ℕ) → HasStepBound m [] most → HasStepBound m coming most
+wider m coming most h = λ rule has.
+    let p = h rule has in
+    record { a = p.a; from = p.from; b = p.b; to = ⊎_elim inl (λ o. absurd o.stands) p.to; count = p.count }
+
+each-in : {A : Type 0} (P : A → Type 0) (x : A) (xs : List A) → AllByRecursion P xs → IsIn x xs → P x
+each-in P x [] h k = absurd k
+each-in P x (y ∷ ys) h k = ⊎_elim (λ e. subst P (sym e) h.0) (λ m. each-in P x ys h.1 m) k
+
+as-sum : (f : Master → ℕ) (ms : List Recurring) → sum_by (λ m. f (master_of m)) ms ≡ sum_by f (map master_of ms)
+as-sum f [] = refl
+as-sum f (m ∷ ms) = omega (arith, sum_by-cons (λ n. f (master_of n)) m ms, sum_by-cons f (master_of m) (map master_of ms), as-sum f ms)
+
+sum-none : (ms : List Master) → sum_by (λ m. 0) ms ≡ 0
+sum-none [] = refl
+sum-none (m ∷ ms) = omega (arith, sum_by-cons (λ n. 0) m ms, sum-none ms)
+
+-- past the last day the window holds nothing near one
+none-near : (w : Window) (day : ℤ) (n : Window) → last_near w <ℤ day → IsNearDay w day n → ⊥
+none-near w day n past near =
+    let last = day-under (w.to -ℤ pos 1) (date_of (w.to -ℤ pos 1)) refl in
+    let ordered = n.ordered in
+    let from = near.from in
+    let to = near.to in
+    let low = last.0 in
+    let high = last.1 in
+    absurd (omega (arith, ints, int_max_is, int_min_is, ordered, from, to, low, high, past))
+
+-- The masters of a day are within the bounds for the day.
+module _ (s : Scope) (day : ℤ) (sources : List Source) (are : AreDayMasters s day sources) (rise : Rises uid_cmp (recurring sources))
+    (coming : List Entry) (steps : ℕ) (few : (most : Recurring → ℕ) → ((m : Recurring) → IsIn m (recurring sources) → HasStepBound m coming (most m))
+    → steps ≤ sum_by most (recurring sources))
+    (masters : List Placed) (all : AreMasters s masters) where
+  bound-of : (most : Master → ℕ) → AreDayBounds s masters day most → (m : Recurring) → IsIn m (recurring sources) → HasStepBound m coming (most (master_of m))
+  bound-of most bounds m k =
+      let of = each-in (IsDayMaster s day) m (recurring sources) are k in
+      let near = bounds of.by ((all.exact of.by).1 of.is) m of.searched in
+      wider m coming (most (master_of m)) (subst (λ (x : Master). HasStepBound m [] (most x)) (sym of.searched.same) near)
+
+  pub day-most : (most : Master → ℕ) → AreDayBounds s masters day most → steps ≤ sum_by most (masters_in s masters)
+  day-most most bounds =
+      let own = few (λ m. most (master_of m)) (bound-of most bounds) in
+      let within = sum-of-masters s.files s.display most (recurring sources) masters rise (day-masters s day (recurring sources) are) all in
+      omega (arith, own, as-sum most (recurring sources), within)
+
+  none-past : last_near s.window <ℤ day → steps ≤ 0
+  none-past past =
+      let none = day-most (λ m. 0) (λ p k m searched. absurd (none-near s.window day m.window past searched.near)) in
+      omega (arith, none, sum-none (masters_in s masters))
+
+sum-more : (f : ℤ → ℕ) (day : ℤ) (n : ℕ) → sum_days f day (suc n) ≡ sum_days f day n + f (day +ℤ pos n)
+unfolding sum_days
+sum-more f day n = refl
+
+sum-grows : (f : ℤ → ℕ) (day : ℤ) (n m : ℕ) → n ≤ m → sum_days f day n ≤ sum_days f day m
+sum-grows f day n zero l = omega (arith, ap (sum_days f day) (none n l))
+  where
+    none : (n : ℕ) → n ≤ 0 → n ≡ 0
+    none n l = omega arith
+sum-grows f day n (suc m) l =
+    ⊎_elim
+    (λ low. omega (arith, sum-grows f day n m low, sum-more f day m))
+    (λ last. omega (arith, ap (sum_days f day) last))
+    (either n m l)
+  where
+    either : (n m : ℕ) → n ≤ suc m → (n ≤ m) ⊎ (n ≡ suc m)
+    either n m l = grind arith
+
+-- as many days as there are from one to another
+days-between : (a b : ℤ) → a ≤ℤ b → (a +ℤ pos (unsigned_abs (b -ℤ a))) ≡ b
+days-between a b l = omega (arith, ints, l)
+
+sides : (a b : ℤ) → (a ≤ℤ b) ⊎ (b <ℤ a)
+sides a b = grind (arith, ints)
+
+module _ (s : Scope) (day : ℤ) (looked : ℕ) (before : IsLookedBefore s day looked) (begun : begin_day s.window s.after ≤ℤ day)
+    (sources : List Source) (are : AreDayMasters s day sources) (rise : Rises uid_cmp (recurring sources))
+    (coming : List Entry) (steps : ℕ) (few : (most : Recurring → ℕ) → ((m : Recurring) → IsIn m (recurring sources) → HasStepBound m coming (most m))
+    → steps ≤ sum_by most (recurring sources)) where
+  -- what was looked at up to a day and on it
+  with-day : (masters : List Placed) (most : ℤ → Master → ℕ) (n : ℕ) → AreMasters s masters → ((d : ℤ) → AreDayBounds s masters d (most d))
+      → day <ℤ (begin_day s.window s.after +ℤ pos n)
+      → looked + steps ≤ most_in s masters most n
+  with-day masters most n all bounds l =
+      let first = begin_day s.window s.after in
+      let k = unsigned_abs (day -ℤ begin_day s.window s.after) in
+      let f = λ (d : ℤ). sum_by (most d) (masters_in s masters) in
+      let is : (begin_day s.window s.after +ℤ pos (unsigned_abs (day -ℤ begin_day s.window s.after))) ≡ day = days-between first day begun in
+      let so-far = before masters most k all bounds is in
+      let today = day-most s day sources are rise coming steps few masters all (most day) (bounds day) in
+      let same = ap (λ (d : ℤ). sum_by (most d) (masters_in s masters)) is in
+      let within : suc (unsigned_abs (day -ℤ begin_day s.window s.after)) ≤ n = omega (arith, ints, is, l) in
+      omega (arith, so-far, today, same, sum-more f first k, sum-grows f first (suc k) n within)
+
+  -- the days before the next
+  pub looked-next : (next : ℤ) (more : ℕ) → next ≡ day +ℤ pos 1 → more ≤ looked + steps → IsLookedBefore s next more
+  looked-next next more e l = λ masters most n all bounds is.
+      let days = with-day masters most n all bounds (omega (arith, ints, is, e)) in
+      omega (arith, days, l)
+
+  -- the days up to that of what is to come
+  pub steps-most : (last_near s.window <ℤ day → looked ≡ 0) → (list : List OnDay) → (day ≤ℤ last_near s.window → day ≤ℤ first_under s.window list)
+      → (masters : List Placed) (most : ℤ → Master → ℕ) (n : ℕ) → AreMasters s masters → ((d : ℤ) → AreDayBounds s masters d (most d))
+      → first_under s.window list <ℤ (begin_day s.window s.after +ℤ pos n) → looked + steps ≤ most_in s masters most n
+  steps-most past list reach masters most n all bounds l =
+      ⊎_elim
+      (λ near. let low = reach near in with-day masters most n all bounds (omega (arith, ints, low, l)))
+      (λ far. omega (arith, past far, none-past s day sources are rise coming steps few masters all far))
+      (sides day (last_near s.window))
+
+-- The first of what is to come stands under the day or a later one.
+pub first-day : (w : Window) (day : ℤ) (xs : List Entry) (later list : List OnDay) → list ≡ map (on_day day) xs ++ later
+    → ((p : OnDay) → IsIn p later → day <ℤ p.day)
+    → day ≤ℤ last_near w → day ≤ℤ first_under w list
+first-day w day (x ∷ xs) later list e h l = subst (λ (ps : List OnDay). day ≤ℤ first_under w ps) (sym e) (omega (arith, ints))
+first-day w day [] [] list e h l = subst (λ (ps : List OnDay). day ≤ℤ first_under w ps) (sym e) l
+first-day w day [] (p ∷ later) list e h l =
+    let less = h p (inl refl) in
+    subst (λ (ps : List OnDay). day ≤ℤ first_under w ps) (sym e) (omega (arith, ints, less))
+
+-- On the day of a key the search begins at the start in it, and on later days it need not.
+pub from-start : (after : Option DayRank) (day : ℤ) (key : Option Rank) → IsBehindKey after day key → (since : ℤ) → IsFrom key since
+    → IsFromStart (option_map day_and_start after) day since
+from-start None day key h since f = tt
+from-start (Some a) day key h since f = λ e. subst (λ k. IsFrom k since) (h.1 e) f
+
+pub from-later : (w : Window) (after : Option (ℤ × ℤ)) (day next : ℤ) → begin_day w after ≤ℤ day → next ≡ day +ℤ pos 1 → (since : ℤ)
+    → IsFromStart after next since
+from-later w None day next low e since = tt
+from-later w (Some a) day next low e since = λ same. absurd (omega (arith, ints, low, e, same))
+
+pub begun-by : (w : Window) (after : Option DayRank) (day : ℤ) (key : Option Rank) → IsBehindKey after day key → first_near w ≤ℤ day
+    → begin_day w (option_map day_and_start after) ≤ℤ day
+begun-by w None day key h low = low
+begun-by w (Some a) day key h low = h.0
+
+-- the masters of the first day's agenda
+pub first-masters : (s : Scope) (day : ℤ) (key : Option Rank) (coming : List Entry) (sources : List Source)
+    → ((since : ℤ) → IsFrom key since → IsFromStart s.after day since)
+    → IsNearAgenda s.files s.display s.window day key coming sources ⊎ IsPastAgenda s.window day coming sources → AreDayMasters s day sources
+first-masters s day key coming sources from (inl a) = searched-masters s day a.window key a.near from (recurring sources) a.are.each
+first-masters s day key coming sources from (inr a) = subst (λ (xs : List Source). AreDayMasters s day xs) (sym a.no_source) tt

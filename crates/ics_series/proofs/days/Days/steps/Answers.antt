@@ -1,0 +1,22 @@
+use Rattle.std.proofs.Common.{arith, map}
+use Rattle.std.specs.List.{filter}
+use Rattle.std.proofs.Math.Bridge.{le_prop}
+use Rattle.std.proofs.Math.Logic.{∥∥₁_elim}
+use Rattle.ics_calendar.specs.Event.{said_by}
+use Rattle.ics_series.specs.Ahead.{agenda_coming, is_today}
+use Rattle.ics_series.specs.Clocks.{display_clock}
+use Rattle.ics_series.specs.DayMasters.{agenda_sources, scope_in}
+use Rattle.ics_series.proofs.DayStepLemmas.{first-day, steps-most}
+use Rattle.ics_series.proofs.days.Days.steps.Goals as goal
+
+pub returns-clause-most : goal.returns-clause-most
+returns-clause-most c = λ list bound ahead h.
+    let self = c.args.self.now in
+    let scope = scope_in (map said_by self.files.now) (display_clock self.display.now) self.window self.after in
+    ∥∥₁_elim c.args.self.now.masters le_prop (λ are.
+    let reach = first-day self.window self.day
+    (filter (λ o. is_today (display_clock c.args.self.now.display.now) c.args.self.now.window c.args.self.now.day o) (agenda_coming self.agenda)) ahead.later list ahead.is
+    (λ p m. ((ahead.listing.exact p).0 m).later) in
+    let few = steps-most scope self.day self.looked self.before self.begun (agenda_sources self.agenda) are self.agenda.apart.1.1 (agenda_coming self.agenda)
+    c.steps.result c.steps.ensures.most self.past list reach h.masters h.most h.days h.are h.each h.reach in
+    omega (arith, c.saturating_add.ensures, few, h.is))
