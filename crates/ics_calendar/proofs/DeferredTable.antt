@@ -1,5 +1,6 @@
--- The table of the second round and the pass find one fault on a line.
-use Rattle.std.proofs.Common.{◌≡◌, ℕ, Bool, true, false, ◌&&◌, ◌||◌, List, [], ◌∷◌, map, refl, sym, ap, subst, ◌∙◌, cond, Option, Some, None, is_some, ℤ}
+-- The table of the second round and the pass find one fault on a line, and ask for one time zone.
+use Rattle.std.proofs.Common.{◌≡◌, ◌⊎◌, inl, inr, ℕ, Bool, true, false, ◌&&◌, ◌||◌, List, [], ◌∷◌, map, refl, sym, ap, subst, ◌∙◌, cond, Option, Some, None}
+use Rattle.std.proofs.Common.{is_some, ℤ}
 use Rattle.std.specs.Prelude.{find, codes, not}
 use Rattle.std.specs.List.{list_any}
 use Rattle.std.specs.Option.{option_and_then}
@@ -23,17 +24,18 @@ use Rattle.ics_calendar.specs.declared.deferred_check.ZoneName.{ZoneName}
 use Rattle.ics_calendar.specs.declared.name.Name.{Name}
 use Rattle.ics_calendar.specs.declared.name.Name.TheVariants as name
 use Rattle.ics_calendar.specs.Components.{component_of, is_event_context}
-use Rattle.ics_calendar.specs.DateLists.{rdate_list, exdate_list}
 use Rattle.ics_calendar.specs.DateValues.{has_zoned, listed_in}
 use Rattle.ics_calendar.specs.Event.{seconds_of, is_zoned}
 use Rattle.ics_calendar.specs.Names.{name_of}
 use Rattle.ics_calendar.specs.Placed.{Placed, Open, context_of, closes}
 use Rattle.ics_calendar.specs.Values.{dated_of, is_out}
-use Rattle.ics_calendar.specs.Faults.{stamp_names, stands_later, kinds}
+use Rattle.ics_calendar.specs.Faults.{stamp_names, is_in_unknown_zone, stands_later, kinds}
+use Rattle.ics_calendar.specs.Wanted.{tzid_on}
+use Rattle.ics_calendar.specs.DeferredChecks.{KnownZones, are_out, zone_used, moment_on, moment_in, are_of_one_zone, ends_badly_later, moment_of, judged}
+use Rattle.ics_calendar.specs.DeferredChecks.{unknown_in}
 use Rattle.ics_calendar.specs.Lines.{instant_on, instant_in, both_compared, ends_in}
 use Rattle.ics_calendar.proofs.Judged.{check_in}
 use Rattle.ics_calendar.proofs.Ended.{IsMatched}
-use Rattle.ics_calendar.specs.DeferredChecks.{KnownZones, are_out, zone_used, moment_on, moment_in, are_of_one_zone, ends_badly_later, moment_of, judged}
 use Rattle.ics_calendar.proofs.NameLemmas.{Tells, tells}
 use Rattle.ics_calendar.proofs.Rows.{Readings, dates_at, frame_at, or-false}
 use Rattle.ics_calendar.proofs.Table.{readings, frame_of}
@@ -81,11 +83,16 @@ ends-judged known k (Some a) (Some b) =
     by_test false = compared-judged known (instant_in k a) (instant_in k b)
 
 -- THE SECOND ROUND. The table, of what it reads of a line.
+abbrev ends_flat : List ℕ → Context → Bool → Bool
+ends_flat u q cl = bytes_eq u (codes "END") && cl && is_event_context q
+
+abbrev in_zone_flat : List ℕ → Parts → Context → Bool
+in_zone_flat u v q =
+    (is_event_context q && list_any has_zoned (map listed_in (dates_at u v)))
+    || (is_event_context q && list_any (bytes_eq u) stamp_names && is_zoned (dated_of v.params v.value).stamp)
+
 abbrev later_flat : (u : List ℕ) (v : Parts) (q : Context) (cl be has : Bool) → Option FaultKind
-later_flat u v q cl be has =
-    cond (bytes_eq u (codes "END") && cl && is_event_context q && be) (Some BadEnd)
-    (cond (((is_event_context q && list_any has_zoned (map listed_in (dates_at u v)))
-    || (is_event_context q && list_any (bytes_eq u) stamp_names && is_zoned (dated_of v.params v.value).stamp)) && not has) (Some UnknownZone) None)
+later_flat u v q cl be has = cond (ends_flat u q cl && be) (Some BadEnd) (cond (in_zone_flat u v q && not has) (Some UnknownZone) None)
 
 abbrev check_of : Name → Parts → Component → Context → Readings → Option DeferredCheck
 check_of n v c q g = check_in n v (frame_at c q g)
@@ -97,42 +104,81 @@ bad_check known g = ends_badly_later known g.calendar g.event.start g.event.end
 abbrev use_of : Readings → Parts → ZoneName
 use_of g v = zone_used g.calendar (dated_of v.params v.value)
 
-later-end : (known : KnownZones) (v : Parts) (c : Component) (q : Context) (has : Bool) (g : Readings) →
-    later_flat (codes "END") v q true (bad_check known g) has ≡ option_and_then (judged known) (check_of name.End v c q g)
-later-end known v c context.Event has g = ends-judged known g.calendar g.event.start g.event.end
-later-end known v c _ has g = refl
+-- What a line leaves to the second round: at the END of an event its end, and on another line the time zone of its stamps, if they are in one.
+abbrev Leaves : (ends zoned : Bool) (left end : Option DeferredCheck) → ZoneName → Type 0
+Leaves ends zoned left end used =
+    ((ends ≡ true) × (zoned ≡ false) × (left ≡ end)) ⊎ ((ends ≡ false) × (left ≡ cond zoned (Some (check.Zone used)) None))
 
+leaves : (n : Name) (u : List ℕ) (v : Parts) (c : Component) (q : Context) (cl : Bool) (g : Readings) → Tells u n →
+    (bytes_eq u (codes "END") && not (bytes_eq u (codes "END") && cl)) ≡ false →
+    Leaves (ends_flat u q cl) (in_zone_flat u v q) (check_of n v c q g) (ends_in g.calendar g.event.start g.event.end) (use_of g v)
+leaves name.End u v c context.Event true g e m = inl (rw e refl, rw e refl, refl)
+leaves name.End u v c _ true g e m = inr (rw e refl, refl)
+leaves name.End u v c q false g e m = let h : true ≡ false =
+    subst (λ (u : List ℕ). (bytes_eq u (codes "END") && not (bytes_eq u (codes "END") && false)) ≡ false) e m in inr (cc, cc)
+leaves name.Dtstart u v c context.Event cl g e m = inr (rw e refl, rw e refl)
+leaves name.Dtstart u v c _ cl g e m = inr (rw e refl, refl)
+leaves name.Dtend u v c context.Event cl g e m = inr (rw e refl, rw e refl)
+leaves name.Dtend u v c _ cl g e m = inr (rw e refl, refl)
+leaves name.RecurrenceId u v c context.Event cl g e m = inr (rw e refl, rw e refl)
+leaves name.RecurrenceId u v c _ cl g e m = inr (rw e refl, refl)
+leaves name.Rdate u v c context.Event cl g e m = inr (rw e refl, rw e (simp or-false refl))
+leaves name.Rdate u v c _ cl g e m = inr (rw e refl, refl)
+leaves name.Exdate u v c context.Event cl g e m = inr (rw e refl, rw e (simp or-false refl))
+leaves name.Exdate u v c _ cl g e m = inr (rw e refl, refl)
+leaves name.Other u v c context.Event cl g e m = inr (simp e.no_end refl, simp (e.no_rdate, e.no_exdate, e.no_dtstart, e.no_dtend, e.no_recurrence_id) refl)
+leaves name.Other u v c _ cl g e m = inr (simp e.no_end refl, refl)
+leaves _ u v c context.Event cl g e m = inr (rw e refl, rw e refl)
+leaves _ u v c _ cl g e m = inr (rw e refl, refl)
+
+turned : {X : Type 0} (t : Bool) (x : X) → cond (not t) (Some x) None ≡ cond t None (Some x)
+turned true x = refl
+turned false x = refl
+
+-- as it is judged
 in-zone : (known : KnownZones) (zoned : Bool) (used : ZoneName) →
     cond (zoned && not (is_some (known.index used))) (Some UnknownZone) None ≡ option_and_then (judged known) (cond zoned (Some (check.Zone used)) None)
 in-zone known false used = refl
-in-zone known true used = when (is_some (known.index used))
-  where
-    when : (t : Bool) → cond (not t) (Some UnknownZone) None ≡ cond t None (Some UnknownZone)
-    when true = refl
-    when false = refl
+in-zone known true used = turned (is_some (known.index used)) UnknownZone
 
-later-other : (known : KnownZones) (n : Name) (u : List ℕ) (v : Parts) (c : Component) (q : Context) (cl : Bool) (g : Readings) → Tells u n →
-    (bytes_eq u (codes "END") && not (bytes_eq u (codes "END") && cl)) ≡ false →
-    later_flat u v q cl (bad_check known g) (is_some (known.index (use_of g v))) ≡ option_and_then (judged known) (check_of n v c q g)
-later-other known name.End u v c q true g e m = rw e (later-end known v c q (is_some (known.index (use_of g v))) g)
-later-other known name.End u v c q false g e m = let h : true ≡ false =
-    subst (λ (u : List ℕ). (bytes_eq u (codes "END") && not (bytes_eq u (codes "END") && false)) ≡ false) e m in cc
-later-other known name.Dtstart u v c context.Event cl g e m = rw e (in-zone known (is_zoned (dated_of v.params v.value).stamp) (use_of g v))
-later-other known name.Dtstart u v c _ cl g e m = rw e refl
-later-other known name.Dtend u v c context.Event cl g e m = rw e (in-zone known (is_zoned (dated_of v.params v.value).stamp) (use_of g v))
-later-other known name.Dtend u v c _ cl g e m = rw e refl
-later-other known name.RecurrenceId u v c context.Event cl g e m = rw e (in-zone known (is_zoned (dated_of v.params v.value).stamp) (use_of g v))
-later-other known name.RecurrenceId u v c _ cl g e m = rw e refl
-later-other known name.Rdate u v c context.Event cl g e m =
-    rw e (simp or-false (in-zone known (list_any has_zoned (rdate_list v.params v.value).values) (use_of g v)))
-later-other known name.Rdate u v c _ cl g e m = rw e refl
-later-other known name.Exdate u v c context.Event cl g e m =
-    rw e (simp or-false (in-zone known (list_any has_zoned (exdate_list v.params v.value).values) (use_of g v)))
-later-other known name.Exdate u v c _ cl g e m = rw e refl
-later-other known name.Other u v c context.Event cl g e m = simp (e.no_end, e.no_rdate, e.no_exdate, e.no_dtstart, e.no_dtend, e.no_recurrence_id) refl
-later-other known name.Other u v c _ cl g e m = simp (e.no_end, e.no_rdate, e.no_exdate, e.no_dtstart, e.no_dtend, e.no_recurrence_id) refl
-later-other known _ u v c context.Event cl g e m = rw e refl
-later-other known _ u v c _ cl g e m = rw e refl
+judged-left : (known : KnownZones) (ends zoned : Bool) (left : Option DeferredCheck) (calendar : ℕ) (start end : Option Dated) (used : ZoneName) →
+    Leaves ends zoned left (ends_in calendar start end) used →
+    cond (ends && ends_badly_later known calendar start end) (Some BadEnd) (cond (zoned && not (is_some (known.index used))) (Some UnknownZone) None)
+    ≡ option_and_then (judged known) left
+judged-left known ends zoned left k start end used (inl h) = rw (h.0, h.1, h.2) (ends-judged known k start end)
+judged-left known ends zoned left k start end used (inr h) = rw (h.0, h.1) (in-zone known zoned used)
+
+-- as it asks for a time zone
+no-zone : (index : ZoneName → Option ℕ) (calendar : ℕ) (start end : Option Dated) → option_and_then (unknown_in index) (ends_in calendar start end) ≡ None
+no-zone index k None end = refl
+no-zone index k (Some a) None = refl
+no-zone index k (Some a) (Some b) = by_test (are_of_one_zone a b)
+  where
+    by_instants : (s t : Option Instant) → option_and_then (unknown_in index) (both_compared s t) ≡ None
+    by_instants None t = refl
+    by_instants (Some s) None = refl
+    by_instants (Some (instant.Utc a)) (Some (instant.Utc b)) = when (is_out (seconds_of a) (seconds_of b))
+      where
+        when : (t : Bool) → option_and_then (unknown_in index) (cond t (Some check.End) None) ≡ None
+        when true = refl
+        when false = refl
+    by_instants (Some (instant.Utc a)) (Some (instant.Zoned b name)) = refl
+    by_instants (Some (instant.Zoned a name)) (Some t) = refl
+
+    by_test : (t : Bool) → option_and_then (unknown_in index) (cond t None (both_compared (instant_in k a) (instant_in k b))) ≡ None
+    by_test true = refl
+    by_test false = by_instants (instant_in k a) (instant_in k b)
+
+asked-left : (index : ZoneName → Option ℕ) (ends zoned : Bool) (left : Option DeferredCheck) (calendar : ℕ) (start end : Option Dated) (used : ZoneName) →
+    Leaves ends zoned left (ends_in calendar start end) used →
+    cond (zoned && not (is_some (index used))) (Some used.name) None ≡ option_and_then (unknown_in index) left
+asked-left index ends zoned left k start end used (inl h) = rw (h.1, h.2) (sym (no-zone index k start end))
+asked-left index ends zoned left k start end used (inr h) = rw h.1 (by_zone zoned)
+  where
+    by_zone : (z : Bool) →
+        cond (z && not (is_some (index used))) (Some used.name) None ≡ option_and_then (unknown_in index) (cond z (Some (check.Zone used)) None)
+    by_zone true = turned (is_some (index used)) used.name
+    by_zone false = refl
 
 outside-later : (u : List ℕ) (v : Parts) (cl be has : Bool) → later_flat u v context.Outside cl be has ≡ None
 outside-later u v cl be has = by_tests (bytes_eq u (codes "END") && cl)
@@ -158,5 +204,22 @@ later-same whole known line [] parts ls m =
     ∙ ap (option_and_then (judged known)) (sym (none-outside whole (name_of u) parts ls))
 later-same whole known line (c ∷ cs) parts ls m =
     let u : List ℕ = map upper parts.name in
-    later-other known (name_of u) u parts (component_of c.name) (context_of (c ∷ cs)) (closes (c ∷ cs) (map upper parts.value)) (readings whole (c ∷ cs) ls)
-    (tells u) m
+    let q : Context = context_of (c ∷ cs) in
+    let cl : Bool = closes (c ∷ cs) (map upper parts.value) in
+    let g : Readings = readings whole (c ∷ cs) ls in
+    judged-left known (ends_flat u q cl) (in_zone_flat u parts q) (check_of (name_of u) parts (component_of c.name) q g) g.calendar g.event.start g.event.end
+    (use_of g parts) (leaves (name_of u) u parts (component_of c.name) q cl g (tells u) m)
+
+-- WHAT IT ASKS FOR on a line.
+pub asked-same : (whole : List Placed) (known : KnownZones) (line : Line) (path : List Open) (parts : Parts) (ls : List Placed) →
+    IsMatched (with line path parts) →
+    cond (is_in_unknown_zone known (with line path parts)) (Some (tzid_on (with line path parts))) None
+    ≡ option_and_then (unknown_in known.index) (check_in (name_of (map upper parts.name)) parts (frame_of whole path ls))
+asked-same whole known line [] parts ls m = ap (option_and_then (unknown_in known.index)) (sym (none-outside whole (name_of (map upper parts.name)) parts ls))
+asked-same whole known line (c ∷ cs) parts ls m =
+    let u : List ℕ = map upper parts.name in
+    let q : Context = context_of (c ∷ cs) in
+    let cl : Bool = closes (c ∷ cs) (map upper parts.value) in
+    let g : Readings = readings whole (c ∷ cs) ls in
+    asked-left known.index (ends_flat u q cl) (in_zone_flat u parts q) (check_of (name_of u) parts (component_of c.name) q g) g.calendar g.event.start
+    g.event.end (use_of g parts) (leaves (name_of u) u parts (component_of c.name) q cl g (tells u) m)

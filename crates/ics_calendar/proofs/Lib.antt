@@ -17,6 +17,7 @@ pub mod PassLemmas
 pub mod EventOrder
 pub mod ZoneOrder
 pub mod Firsts
+pub mod EachOnce
 pub mod Settles
 pub mod Whole
 pub mod SoundValues

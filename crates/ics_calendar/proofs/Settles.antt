@@ -1,6 +1,7 @@
--- What is settled of what the pass gathers is what the file is.
-use Rattle.std.proofs.Common.{◌≡◌, ℕ, Bool, true, false, ◌&&◌, List, [], ◌∷◌, ◌++◌, map, filter, refl, sym, ap, ◌∙◌, arith, cond, Option, Some, None}
+-- What is settled of what the pass gathers is what the file is, and what it asks for is what the file wants.
+use Rattle.std.proofs.Common.{◌≡◌, ℕ, Bool, true, false, ◌&&◌, List, [], ◌∷◌, ◌++◌, map, filter, refl, sym, ap, ◌∙◌, arith, cond, Option, Some, None, Ok}
 use Rattle.std.specs.Prelude.{find, codes}
+use Rattle.std.specs.List.{cons_option}
 use Rattle.std.specs.Option.{option_and_then}
 use Rattle.ics_text.specs.Bytes.{upper}
 use Rattle.ics_text.specs.Unfolded.{Line, Rises}
@@ -14,11 +15,12 @@ use Rattle.ics_calendar.specs.declared.deferred_check.ZoneName.{ZoneName}
 use Rattle.ics_calendar.specs.Builders.{event_of}
 use Rattle.ics_calendar.specs.Components.{is_calendar_context}
 use Rattle.ics_calendar.specs.Event.{EventSeen}
-use Rattle.ics_calendar.specs.Faults.{stands, stands_later, kinds}
+use Rattle.ics_calendar.specs.Faults.{stands, stands_later, is_in_unknown_zone, kinds}
 use Rattle.ics_calendar.specs.Files.{event_by, begins_event, said_of, decide}
 use Rattle.ics_calendar.specs.FirstFault.{found, least_on, first_from, first_fault, later_fault, fault_at_end}
-use Rattle.ics_calendar.specs.Gathered.{first_judged, settled_by, settled, nothing_gathered, checks_of}
-use Rattle.ics_calendar.specs.DeferredChecks.{KnownZones, known_zones, judged}
+use Rattle.ics_calendar.specs.Gathered.{first_judged, settled_by, settled, nothing_gathered, checks_of, all_unknown, wanted_of}
+use Rattle.ics_calendar.specs.DeferredChecks.{KnownZones, known_zones, zone_index, judged, unknown_in}
+use Rattle.ics_calendar.specs.Wanted.{each_once, tzid_on, unknown_names}
 use Rattle.ics_calendar.proofs.Judged.{check_in}
 use Rattle.ics_calendar.specs.Placed.{Placed, Open, path_behind, placed_from, context_of, begins, beside, calendar_of, lines_in}
 use Rattle.ics_calendar.specs.Names.{name_of}
@@ -26,7 +28,7 @@ use Rattle.ics_calendar.specs.Zones.{zones_of, zone_names, zones_on}
 use Rattle.ics_calendar.proofs.Ended.{events, zones}
 use Rattle.ics_calendar.proofs.EventOrder.{events-are}
 use Rattle.ics_calendar.proofs.Frames.{with}
-use Rattle.ics_calendar.proofs.DeferredTable.{later-same}
+use Rattle.ics_calendar.proofs.DeferredTable.{later-same, asked-same}
 use Rattle.ics_calendar.proofs.Order.{found-none, inside, begun, ordered, nested}
 use Rattle.ics_calendar.proofs.PassLemmas.{checks_from, gathered_from, lists, three, with_content}
 use Rattle.ics_calendar.proofs.Table.{frame_of}
@@ -80,6 +82,61 @@ events-begun index whole (l ∷ ls) = by_test (events-begun index whole ls) (is_
     by_test rest true e false = rest
     by_test rest false e t = rest
 
+-- THE TIME ZONES that the deferred checks ask for are those that the lines want.
+asked-first : (index : ZoneName → Option ℕ) (number : ℕ) (o : Option DeferredCheck) (ws : List LineCheck) →
+    all_unknown index (checks_of number o ++ ws) ≡ cons_option (option_and_then (unknown_in index) o) (all_unknown index ws)
+asked-first index number None ws = refl
+asked-first index number (Some l) ws = refl
+
+abbrev Asks : List Placed → KnownZones → List Placed → List Placed → Type 0
+Asks whole known before lines =
+    first_from stands fault_at_end before lines ≡ None →
+    all_unknown known.index (checks_from whole before lines) ≡ map tzid_on (filter (is_in_unknown_zone known) lines)
+
+asks : (whole : List Placed) (known : KnownZones) (lines : List Line) (before : List Placed) (path : List Open) →
+    Asks whole known before (placed_from path lines)
+asks whole known [] before path e = refl
+asks whole known (line ∷ lines) before path e = by_content (asks whole known lines) (content_of line.bytes) e
+  where
+    by_test : (l : Placed) (names : List (List ℕ)) (ls : List Placed) → names ≡ map tzid_on ls → (t : Bool) →
+        cons_option (cond t (Some (tzid_on l)) None) names ≡ map tzid_on (cond t (l ∷ ls) ls)
+    by_test l names ls e true = ap (λ ns. tzid_on l ∷ ns) e
+    by_test l names ls e false = e
+
+    by_content : ((before : List Placed) (path : List Open) → Asks whole known before (placed_from path lines)) →
+        (o : Option Parts) → Asks whole known before (with_content line path o ∷ placed_from (path_behind (with_content line path o)) lines)
+    by_content again None e = cc
+    by_content again (Some v) e =
+        let l : Placed = with line path v in
+        let rest : List Placed = placed_from (path_behind l) lines in
+        let behind : List Placed = before ++ l ∷ [] in
+        let none = found-none line.number (least_on stands before l) (first_from stands fault_at_end behind rest) e in
+        asked-first known.index line.number (check_in (name_of (map upper v.name)) v (frame_of whole path (beside before l))) (checks_from whole behind rest)
+        ∙ ap (λ o. cons_option o (all_unknown known.index (checks_from whole behind rest)))
+        (sym (asked-same whole known line path v (beside before l) (nested (λ kind. stands kind (beside before l) l) none.0)))
+        ∙ by_test l (all_unknown known.index (checks_from whole behind rest)) (filter (is_in_unknown_zone known) rest) (again behind (path_behind l) none.1)
+        (is_in_unknown_zone known l)
+
+-- WHAT IS GATHERED of lines without a fault: the zones and the events that begin on them.
+gathered-is : (lines : List Line) → Rises 0 lines → first_fault (placed_from [] lines) ≡ None →
+    gathered_from (placed_from [] lines) nothing_gathered [] (placed_from [] lines)
+    ≡ lists (begun (zones (placed_from [] lines)) (placed_from [] lines) (placed_from [] lines)) (begun events (placed_from [] lines) (placed_from [] lines))
+    (checks_from (placed_from [] lines) [] (placed_from [] lines))
+gathered-is lines r first =
+    let whole : List Placed = placed_from [] lines in
+    three (ordered (zones whole) (zones-are whole) lines whole [] [] 0 refl tt (omega arith) r (λ e. refl) first)
+    (ordered events events-are lines whole [] [] 0 refl tt (omega arith) r (λ e. refl) first) refl
+
+-- WHAT IS WANTED.
+pub wanted-is : (lines : List Line) → Rises 0 lines → first_fault (placed_from [] lines) ≡ None →
+    wanted_of (Ok (gathered_from (placed_from [] lines) nothing_gathered [] (placed_from [] lines))) ≡ each_once (unknown_names (placed_from [] lines))
+wanted-is lines r first =
+    let whole : List Placed = placed_from [] lines in
+    let ws : List LineCheck = checks_from whole [] whole in
+    ap (λ g. wanted_of (Ok g)) (gathered-is lines r first)
+    ∙ ap (λ ns. each_once (all_unknown (zone_index ns) ws)) (sym (names-begun whole whole))
+    ∙ ap each_once (asks whole (zones_on whole) lines [] [] first)
+
 -- WHAT IS SETTLED.
 pub settled-is : (lines : List Line) → Rises 0 lines → first_fault (placed_from [] lines) ≡ None →
     settled (gathered_from (placed_from [] lines) nothing_gathered [] (placed_from [] lines))
@@ -90,10 +147,7 @@ settled-is lines r first =
     let es : List EndedEvent = begun events whole whole in
     let ws : List LineCheck = checks_from whole [] whole in
     let known : KnownZones = zones_on whole in
-    let gathered_is : gathered_from whole nothing_gathered [] whole ≡ lists zs es ws =
-    three (ordered (zones whole) (zones-are whole) lines whole [] [] 0 refl tt (omega arith) r (λ e. refl) first)
-    (ordered events events-are lines whole [] [] 0 refl tt (omega arith) r (λ e. refl) first) refl in
-    ap settled gathered_is
+    ap settled (gathered-is lines r first)
     ∙ ap (λ ns. settled_by (known_zones ns (map (λ z. z.observances) zs)) (lists zs es ws)) (sym (names-begun whole whole))
     ∙ ap (λ ps. settled_by (known_zones (zone_names whole) ps) (lists zs es ws)) (zones-begun whole whole)
     ∙ ap (λ f. decide None f (record { zones = zones_of whole; events = map (event_of known.index) es })) (judges whole known lines [] [] first)

@@ -1,40 +1,51 @@
--- What the pass over a file's lines says is what the file is.
+-- What the pass over a file's lines says is what the file is and wants.
 use Rattle.std.proofs.Common.{◌≡◌, ◌⊎◌, ℕ, ◌+◌, ◌<◌, ◌^◌, Bool, true, false, List, [], ◌∷◌, refl, sym, ap, ◌∙◌, arith, cond, Option, Some, None, Result, Ok}
 use Rattle.std.proofs.Common.{Err, inl, inr}
-use Rattle.std.specs.Prelude.{IsTrue}
 use Rattle.ics_text.specs.Unfolded.{Line, Rises, Within, unfolded, begins_with_fold}
 use Rattle.ics_calendar.specs.Event.{FileSaid}
 use Rattle.ics_calendar.specs.Faults.{stands, stands_later}
 use Rattle.ics_calendar.specs.FirstFault.{Fault, IsFirst, IsFirstOrLast, NoneStand, first_fault, later_fault, fault_at_end}
 use Rattle.ics_calendar.specs.Files.{IsFile, bad_fold, file_of, decide, said_of}
-use Rattle.ics_calendar.specs.Gathered.{settled_of, nothing_gathered}
-use Rattle.ics_calendar.specs.Pass.{pass, bottom, unless}
+use Rattle.ics_calendar.specs.Gathered.{settled_of, nothing_gathered, wanted_of}
+use Rattle.ics_calendar.specs.Pass.{pass, bottom, unless, gathered_of}
 use Rattle.ics_calendar.specs.Placed.{Placed, placed}
 use Rattle.ics_calendar.specs.Seen.{NumbersFit}
+use Rattle.ics_calendar.specs.Wanted.{wanted_names, wanted_on}
 use Rattle.ics_calendar.specs.Zones.{zones_on}
 use Rattle.ics_calendar.proofs.Firsts.{Finds, finds, finds-none, found-at-end, found-on-line}
 use Rattle.ics_calendar.proofs.PassLemmas.{gathered_from, pass-whole}
-use Rattle.ics_calendar.proofs.Settles.{settled-is}
+use Rattle.ics_calendar.proofs.Settles.{settled-is, wanted-is}
 
 pub fits-from_within : (n : ℕ) (lines : List Line) → n + 1 < 2 ^ 64 → Within n lines → NumbersFit lines
 fits-from_within n [] l h = tt
 fits-from_within n (line ∷ lines) l h = (omega (arith, l, h.0), fits-from_within n lines l h.1)
 
-pub file_of-pass : (file : List ℕ) → begins_with_fold file ≡ false → Rises 0 (unfolded file) →
-    file_of file ≡ settled_of (pass (bottom ∷ []) None nothing_gathered (unfolded file))
-file_of-pass file f r =
-    ap (λ t. cond t (Err bad_fold) (decide (first_fault (placed file)) (later_fault (placed file)) (said_of (placed file)))) f
-    ∙ by_first (first_fault (placed file)) refl
-    ∙ ap settled_of (sym (pass-whole (unfolded file) r))
+-- what a file is, and what it wants, by what its first round gathers
+pub settled-gathered : (file : List ℕ) → Rises 0 (unfolded file) → file_of file ≡ settled_of (gathered_of file)
+settled-gathered file r = by_fold (begins_with_fold file)
   where
     by_first : (o : Option Fault) → first_fault (placed file) ≡ o →
         decide o (later_fault (placed file)) (said_of (placed file)) ≡ settled_of (unless o (gathered_from (placed file) nothing_gathered [] (placed file)))
     by_first (Some fault) e = refl
     by_first None e = sym (settled-is (unfolded file) r e)
 
-pub not_true : (b : Bool) → (IsTrue b → ⊥) → b ≡ false
-not_true true h = absurd (h refl)
-not_true false h = refl
+    by_fold : (t : Bool) → cond t (Err bad_fold) (decide (first_fault (placed file)) (later_fault (placed file)) (said_of (placed file)))
+        ≡ settled_of (cond t (Err bad_fold) (pass (bottom ∷ []) None nothing_gathered (unfolded file)))
+    by_fold true = refl
+    by_fold false = by_first (first_fault (placed file)) refl ∙ ap settled_of (sym (pass-whole (unfolded file) r))
+
+pub wanted-gathered : (file : List ℕ) → Rises 0 (unfolded file) → wanted_names file ≡ wanted_of (gathered_of file)
+wanted-gathered file r = by_fold (begins_with_fold file)
+  where
+    by_first : (o : Option Fault) → first_fault (placed file) ≡ o →
+        wanted_on o (placed file) ≡ wanted_of (unless o (gathered_from (placed file) nothing_gathered [] (placed file)))
+    by_first (Some fault) e = refl
+    by_first None e = sym (wanted-is (unfolded file) r e)
+
+    by_fold : (t : Bool) → cond t [] (wanted_on (first_fault (placed file)) (placed file))
+        ≡ wanted_of (cond t (Err bad_fold) (pass (bottom ∷ []) None nothing_gathered (unfolded file)))
+    by_fold true = refl
+    by_fold false = by_first (first_fault (placed file)) refl ∙ ap wanted_of (sym (pass-whole (unfolded file) r))
 
 abbrev none_later : List Placed → Option Fault
 none_later before = None

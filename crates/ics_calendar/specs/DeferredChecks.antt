@@ -84,3 +84,8 @@ abbrev pub judged : KnownZones → DeferredCheck → Option FaultKind
 judged known check.End = Some BadEnd
 judged known (check.Zone name) = if is_some (known.index name) then None else Some UnknownZone
 judged known (check.Ends start end) = if ends_out known start end then Some BadEnd else None
+
+-- the name of a time zone that is to be known, if it is not
+abbrev pub unknown_in : (ZoneName → Option ℕ) → DeferredCheck → Option (List ℕ)
+unknown_in index (check.Zone name) = if is_some (index name) then None else Some name.name
+unknown_in index _ = None

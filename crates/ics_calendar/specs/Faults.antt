@@ -165,11 +165,15 @@ is_in_zone line =
 abbrev pub has_zone : KnownZones → Placed → Bool
 has_zone known line = is_some (known.index (zone_named (calendar_of line.path) (zone_name (params_of line.content))))
 
+-- a property of an event with a stamp in a time zone that its calendar does not define
+abbrev pub is_in_unknown_zone : KnownZones → Placed → Bool
+is_in_unknown_zone known line = is_in_zone line && not (has_zone known line)
+
 -- THE SECOND ROUND, of zones and instants, given the time zones of the file.
 abbrev pub stands_later : KnownZones → FaultKind → List Placed → Placed → Bool
 stands_later known BadEnd beside line =
     ends_event line && ends_badly_later known (calendar_of line.path) (first_dated (codes "DTSTART") beside) (first_dated (codes "DTEND") beside)
-stands_later known UnknownZone beside line = is_in_zone line && not (has_zone known line)
+stands_later known UnknownZone beside line = is_in_unknown_zone known line
 stands_later known _ beside line = false
 
 -- the kinds of faults on lines, the least first

@@ -1,5 +1,5 @@
 -- What is gathered of a file, line by line, what the file is by it, and what holds of it where the first round finds nothing.
-use Rattle.std.specs.Prelude.{ℕ, List, [], ◌∷◌, ◌++◌, Option, Some, None, map, Result, Ok, Err}
+use Rattle.std.specs.Prelude.{ℕ, List, [], ◌∷◌, ◌++◌, Option, Some, None, map, filter_map, Result, Ok, Err}
 use Rattle.std.specs.List.{All, Contains}
 use Rattle.ics_values.specs.Stamps.{IsStampDay}
 use Rattle.ics_calendar.specs.declared.deferred_check.DeferredCheck.{DeferredCheck}
@@ -17,9 +17,11 @@ use Rattle.ics_calendar.specs.Builders.{event_of}
 use Rattle.ics_calendar.specs.Event.{FileSaid}
 use Rattle.ics_calendar.specs.Files.{decide}
 use Rattle.ics_calendar.specs.FirstFault.{Fault, found}
-use Rattle.ics_calendar.specs.DeferredChecks.{KnownZones, known_zones, judged}
+use Rattle.ics_calendar.specs.declared.deferred_check.ZoneName.{ZoneName}
+use Rattle.ics_calendar.specs.DeferredChecks.{KnownZones, known_zones, judged, unknown_in}
 use Rattle.ics_calendar.specs.Ready.{EachZone}
 use Rattle.ics_calendar.specs.Sound.{IsWhole}
+use Rattle.ics_calendar.specs.Wanted.{each_once}
 use Rattle.ics_calendar.specs.ZonesSound.{IsSoundZone}
 
 abbrev pub nothing_gathered : GatheredSeen
@@ -69,6 +71,14 @@ settled g = settled_by (known_in g) g
 abbrev pub settled_of : Result GatheredSeen Fault → Result FileSaid Fault
 settled_of (Ok g) = settled g
 settled_of (Err fault) = Err fault
+
+-- What the file wants, by the same.
+abbrev pub all_unknown : (ZoneName → Option ℕ) → List LineCheck → List (List ℕ)
+all_unknown index checks = filter_map (λ w. unknown_in index w.check) checks
+
+abbrev pub wanted_of : Result GatheredSeen Fault → List (List ℕ)
+wanted_of (Ok g) = each_once (all_unknown (known_in g).index g.checks)
+wanted_of (Err fault) = []
 
 -- What is to be read in a time zone lies in the years of stamps.
 abbrev pub IsSoundInstant : Instant → Type 0

@@ -8,6 +8,7 @@ pub mod DateValues
 pub mod DateLists
 pub mod Faults
 pub mod FirstFault
+pub mod Wanted
 pub mod Files
 pub mod Builders
 pub mod Times

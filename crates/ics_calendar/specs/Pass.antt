@@ -1,6 +1,6 @@
 -- One pass over the lines with the components that are open, the innermost first, each with what has been read of it.
 use Rattle.std.specs.Prelude.{ℕ, ◌+◌, Bool, true, false, List, [], ◌∷◌, Option, Some, None, Result, Ok, Err, if◌then◌else◌}
-use Rattle.ics_text.specs.Unfolded.{Line}
+use Rattle.ics_text.specs.Unfolded.{Line, unfolded, begins_with_fold}
 use Rattle.ics_text.specs.Contents.{Parts, content_of}
 use Rattle.ics_calendar.specs.declared.component.Component.TheVariants as component
 use Rattle.ics_calendar.specs.declared.component.Context.TheVariants as context
@@ -11,7 +11,8 @@ use Rattle.ics_calendar.specs.declared.frame.Frame.{Frame}
 use Rattle.ics_calendar.specs.declared.gathered.Passed.{Passed}
 use Rattle.ics_calendar.specs.declared.builder.Builder.TheVariants as builder
 use Rattle.ics_calendar.specs.GatheredSeen.{GatheredSeen}
-use Rattle.ics_calendar.specs.Gathered.{and_passed}
+use Rattle.ics_calendar.specs.Files.{bad_fold}
+use Rattle.ics_calendar.specs.Gathered.{nothing_gathered, and_passed}
 use Rattle.ics_calendar.specs.Lines.{line_in}
 
 -- below all components
@@ -47,3 +48,7 @@ on_content number (Some parts) frames had later = on_line number (line_in number
 abbrev pub pass : List Frame → Option ℕ → GatheredSeen → List Line → Result GatheredSeen Fault
 pass frames last had [] = unless (at_end frames last) had
 pass frames last had (line ∷ lines) = on_content line.number (content_of line.bytes) frames had (λ frames had. pass frames (Some line.number) had lines)
+
+-- What the first round gathers of a file, or its first fault.
+abbrev pub gathered_of : List ℕ → Result GatheredSeen Fault
+gathered_of file = if begins_with_fold file then Err bad_fold else pass (bottom ∷ []) None nothing_gathered (unfolded file)

@@ -28,6 +28,7 @@ mod stack;
 mod text;
 mod time;
 mod tzid;
+mod unknown_zones;
 mod words;
 mod zone_table;
 
@@ -38,3 +39,4 @@ pub use laws::{faults_look_back, files_are_one_thing, one_period};
 pub use read::read_file;
 pub use text::Text;
 pub use time::{Length, Rdate, Time};
+pub use unknown_zones::wanted;

@@ -1,10 +1,9 @@
 //! Reading a file.
 ghost use Rattle.std.specs.Prelude.{◌≡◌, ◌∷◌, [], ◌≤◌, length, IfOk, None};
-ghost use Rattle.ics_text.specs.Unfolded.{Rises};
 ghost use Rattle.ics_calendar.specs.Files.{file_of};
-ghost use Rattle.ics_calendar.specs.Gathered.{settled_of, nothing_gathered};
+ghost use Rattle.ics_calendar.specs.Gathered.{settled_of, nothing_gathered, IsSoundGathered};
 ghost use Rattle.ics_calendar.specs.Lines.{line_in};
-ghost use Rattle.ics_calendar.specs.Pass.{pass, bottom, at_end, unless};
+ghost use Rattle.ics_calendar.specs.Pass.{pass, bottom, at_end, unless, gathered_of};
 ghost use Rattle.ics_calendar.specs.Progresses.{Goes};
 ghost use Rattle.ics_calendar.specs.Seen.{said_answer, NumbersFit, LastFits, SaysFile};
 
@@ -119,13 +118,28 @@ fn pass_lines(alloc: Global, lines: Lines<'_>) -> Result<Result<Gathered, Fault>
     }
 }
 
-/// What the lines say, or their first fault.
-fn read_lines(alloc: Global, lines: Lines<'_>) -> Result<Result<FileEvents, Fault>, AllocError>
-    requires fit { NumbersFit lines }
-    requires rise { Rises 0 lines }
-    ensures { IfOk result (λ answer. said_answer answer ≡ settled_of (pass (bottom ∷ []) None nothing_gathered lines.entry)) }
+/// What the first round gathers of a file, or its first fault.
+pub fn gather(alloc: Global, bytes: &[u8]) -> Result<Result<Gathered, Fault>, AllocError>
+    requires { length bytes.now ≤ 16_777_216 }
+    ensures gathered { IfOk result (λ answer. answer ≡ gathered_of bytes.now) }
+    ensures sound { IfOk result (λ answer. IfOk answer IsSoundGathered) }
 {
-    match pass_lines(alloc, lines)? {
+    numbers_within();
+    let Ok(lines) = Lines::new(bytes) else {
+        return Ok(Err(Fault {
+            line: 1,
+            kind: FaultKind::BadFold,
+        }));
+    };
+    pass_lines(alloc, lines)
+}
+
+/// What a file says, or its first fault.
+fn read_bytes(alloc: Global, bytes: &[u8]) -> Result<Result<FileEvents, Fault>, AllocError>
+    requires { length bytes.now ≤ 16_777_216 }
+    ensures { IfOk result (λ answer. said_answer answer ≡ settled_of (gathered_of bytes.now)) }
+{
+    match gather(alloc, bytes)? {
         Ok(gathered) => settle(alloc, gathered),
         Err(fault) => Ok(Err(fault)),
     }
@@ -140,14 +154,7 @@ pub fn read_file(alloc: Global, bytes: &[u8]) -> Result<FileEvents, FileFault>
     ensures { SaysFile result (file_of bytes.now) }
 {
     numbers_rise();
-    numbers_within();
-    let Ok(lines) = Lines::new(bytes) else {
-        return Err(FileFault::At {
-            line: 1,
-            kind: FaultKind::BadFold,
-        });
-    };
-    match read_lines(alloc, lines) {
+    match read_bytes(alloc, bytes) {
         Err(_) => Err(FileFault::Memory),
         Ok(Ok(events)) => Ok(events),
         Ok(Err(Fault { line, kind })) => Err(FileFault::At { line, kind }),

@@ -1,0 +1,63 @@
+//! The time zones that a file wants.
+ghost use Rattle.std.specs.Prelude.{◌≡◌, ◌≤◌, length, map, option_copied, IfOk};
+ghost use Rattle.ics_calendar.specs.DeferredChecks.{unknown_in};
+ghost use Rattle.ics_calendar.specs.Gathered.{all_unknown};
+ghost use Rattle.ics_calendar.specs.Wanted.{each_once, wanted_names};
+ghost use Rattle.ics_calendar.specs.ZoneTables.{known_by};
+
+use crate::deferred_check::DeferredCheck;
+use crate::gathered::{Gathered, LineCheck};
+use crate::read::gather;
+use crate::tzid::Tzid;
+use crate::zone_table::ZoneTable;
+use ics_text::numbers_rise;
+use std::alloc::{AllocError, Global};
+use std::collections::BTreeSet;
+
+/// The name of the time zone that is to be known, if it is not.
+fn unknown_in<'a>(table: &ZoneTable, check: &'a DeferredCheck) -> Option<&'a Tzid>
+    ensures { option_copied result ≡ unknown_in (known_by table.now).index check.now }
+{
+    match check {
+        DeferredCheck::Zone(name) if table.index(name).is_none() => Some(&name.name),
+        _ => None,
+    }
+}
+
+/// The names of the time zones that are to be known and are not, each once, in the order of the checks.
+fn unknown_names(
+    alloc: Global,
+    table: &ZoneTable,
+    checks: &[LineCheck],
+) -> Result<Vec<Vec<u8>>, AllocError>
+    ensures { IfOk result (λ names. map (λ name. name.items) names.items ≡ each_once (all_unknown (known_by table.now).index checks.now)) }
+{
+    let mut seen = BTreeSet::new(alloc);
+    let mut names = Vec::new(alloc);
+    for deferred in checks {
+        if let Some(name) = unknown_in(table, &deferred.check) {
+            if seen.insert(name.shared()?)? {
+                names.push(Vec::from_slice(alloc, name.as_slice())?)?;
+            }
+        }
+    }
+    Ok(names)
+}
+
+/// The names of the time zones that stamps of a file are in and that no VTIMEZONE of their calendar defines (RFC 5545,
+/// section 3.2.19), each once, in the order of the lines. The file has at most 16,777,216 bytes.
+///
+/// These are the TZIDs of the properties on whose lines UnknownZone is a fault of the second round. There are none if the
+/// first round finds a fault. The error means that an allocation failed.
+pub fn wanted(alloc: Global, bytes: &[u8]) -> Result<Vec<Vec<u8>>, AllocError>
+    requires { length bytes.now ≤ 16_777_216 }
+    ensures { IfOk result (λ names. map (λ name. name.items) names.items ≡ wanted_names bytes.now) }
+{
+    numbers_rise();
+    let Ok(gathered) = gather(alloc, bytes)? else {
+        return Ok(Vec::new(alloc));
+    };
+    let Gathered { zones, checks, .. } = gathered;
+    let table = ZoneTable::new(alloc, zones)?;
+    unknown_names(alloc, &table, &checks)
+}
