@@ -37,7 +37,7 @@ sum_days f day (suc n) = sum_days f day n + f (day +ℤ pos n)
 abbrev pub most_in : Scope → List Placed → (ℤ → Master → ℕ) → ℕ → ℕ
 most_in s masters most n = sum_days (λ day. sum_by (most day) (masters_in s masters)) (begin_day s.window s.after) n
 
--- so many periods were looked at on the days before this one, that they are within all such bounds
+-- the number of periods that were looked at on the days before this one is within all such bounds
 abbrev pub IsLookedBefore : Scope → ℤ → ℕ → Type 0
 IsLookedBefore s day looked =
     (masters : List Placed) (most : ℤ → Master → ℕ) (n : ℕ) → AreMasters s masters → ((d : ℤ) → AreDayBounds s masters d (most d))

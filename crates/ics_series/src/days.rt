@@ -1,11 +1,13 @@
 //! The listing of a window under each day.
-ghost use Rattle.std.specs.Prelude.{◌≡◌, ◌⊎◌, ◌≤◌, ◌+◌, ◌-◌, ◌^◌, ◌≤ℤ◌, ◌<ℤ◌, ◌+ℤ◌, ℕ, pos, length, min, IsTrue, List, [], map, IfOk, IfSome, OnErr, OnOk, None};
+ghost use Rattle.std.specs.Prelude.{◌≡◌, ◌⊎◌, ◌≤◌, ◌+◌, ◌-◌, ◌^◌, ◌≤ℤ◌, ◌<ℤ◌, ◌+ℤ◌, ℕ, pos, length, min};
+ghost use Rattle.std.specs.Prelude.{IsTrue, List, [], map, IfOk, IfSome, OnErr, OnOk, None};
 ghost use Rattle.std.specs.Option.{option_map};
 ghost use Rattle.ics_values.specs.Days.{IsDayNumber};
 ghost use Rattle.ics_calendar.specs.Event.{said_by};
 ghost use Rattle.ics_series.specs.Clocks.{display_clock};
 ghost use Rattle.ics_series.specs.DayKeys.{day_key_rank};
-ghost use Rattle.ics_series.specs.DayMasters.{agenda_holds, agenda_looked, agenda_sources, day_and_start, masters_in, scope_by, scope_in, AreDayMasters, AreMasters, IsNearAgenda, IsPastAgenda};
+ghost use Rattle.ics_series.specs.DayMasters.{agenda_holds, agenda_looked, agenda_sources, day_and_start, masters_in, scope_by, scope_in};
+ghost use Rattle.ics_series.specs.DayMasters.{AreDayMasters, AreMasters, IsNearAgenda, IsPastAgenda};
 ghost use Rattle.ics_series.specs.DaySteps.{begin_day, HasDaysBound, IsLookedBefore};
 ghost use Rattle.ics_series.specs.Entry.{entry_cmp, entry_of, key_rank, Entry};
 ghost use Rattle.ics_series.specs.HeldMost.{held_most};
