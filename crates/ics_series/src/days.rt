@@ -116,6 +116,7 @@ impl<'a> Days<'a> {
         ensures err { (list : List OnDay) → IsAhead self.old list → OnErr result (IsAhead self.new list) }
         ensures within { IfOk result (λ given. IfSome given (λ entry. IsDayNumber entry.0)) }
         ensures scope { scope_of self.new ≡ scope_of self.old }
+        ensures looked { self.old.looked ≤ self.new.looked }
     {
         for day in self.day..last_near(&self.window) {
             if let Some(occurrence) = self.next_today()? {
@@ -159,6 +160,7 @@ impl<'a> Days<'a> {
         ensures day { self.new.day ≡ self.old.day }
         ensures scope { scope_of self.new ≡ scope_of self.old }
         ensures window { self.new.window ≡ self.old.window }
+        ensures looked { self.new.looked ≡ self.old.looked }
         ensures within { IfOk result (λ given. IfSome given (λ occurrence. IsDayNumber self.new.day)) }
         ensures none { IfOk result (λ given. given ≡ None → agenda_coming self.new.agenda ≡ []) }
         ensures ok { (list : List OnDay) → IsAhead self.old list
@@ -181,6 +183,7 @@ impl<'a> Days<'a> {
         ensures scope { scope_of self.new ≡ scope_of self.old }
         ensures window { self.new.window ≡ self.old.window }
         ensures looked { OnOk result (self.new.looked ≡ min (self.old.looked + agenda_looked self.old.agenda) (2 ^ 64 - 1)) }
+        ensures counted { self.old.looked ≤ self.new.looked }
         ensures ahead { (list : List OnDay) → IsAhead self.old list → IsAhead self.new list }
     {
         let day = self.day + 1;

@@ -32,6 +32,7 @@ loop-day-preserved c = record {
   day = omega (arith, ints, c.in_ok-turn.ensures.day, c.next_today.ensures.day, c.loop-day.invariant.day, c.loop-day-test.true, c.last_near-day-end.type_inv);
   scope = c.turn.ensures.scope ∙ (c.next_today.ensures.scope ∙ c.loop-day.invariant.scope);
   window = c.turn.ensures.window ∙ (c.next_today.ensures.window ∙ c.loop-day.invariant.window);
+  looked = omega (arith, c.turn.ensures.counted, c.next_today.ensures.looked, c.loop-day.invariant.looked);
   ahead = λ list a.
       let none : c.in_ok-occurrence.field-0 ≡ None = search rules in
       let gives = subst (λ (g : Option Occurrence). (rest : List OnDay) × IsAhead c.next_today.new.self rest × GivesToday c.next_today.new.self.day list g rest) none

@@ -18,6 +18,7 @@ loop-occurrence-preserved c = record {
   day = c.loop-occurrence.invariant.day;
   scope = c.loop-occurrence.invariant.scope;
   window = c.loop-occurrence.invariant.window;
+  looked = c.loop-occurrence.invariant.looked;
   ahead = λ list a.
       let self = c.loop-occurrence.self in
       let gives = rw c.in-Some.is at c.in_ok-occurrence.ensures.ok in

@@ -9,6 +9,7 @@ invariant-loop-occurrence l = record {
   day : l.self.day ≡ l.fn.self.day;
   scope : scope_of l.self ≡ scope_of l.fn.self;
   window : l.self.window ≡ l.fn.self.window;
+  looked : l.self.looked ≡ l.fn.self.looked;
   ahead : (list : List OnDay) → IsAhead l.fn.self list → IsAhead l.self list;
 }
 
