@@ -1,12 +1,9 @@
 -- A list of names with a set of the names seen so far beside it has each name once, in the order of their first places.
-use Rattle.std.proofs.Common.{◌≡◌, ℕ, ◌+◌, ◌<◌, Bool, true, false, List, [], ◌∷◌, ◌++◌, filter, drop, length, get_or, refl, sym, ap, ◌∙◌, cond, append_assoc}
+use Rattle.std.proofs.Common.{◌≡◌, ℕ, ◌+◌, ◌<◌, Bool, true, false, ◌||◌, List, [], ◌∷◌, ◌++◌, filter, drop, length, get_or, refl, sym, ap, ◌∙◌, cond, append_assoc}
 use Rattle.std.proofs.Common.{add-one, drop-cons, Option, Some, None}
 use Rattle.std.specs.Prelude.{not}
 use Rattle.std.specs.List.{cons_option}
-use Rattle.std.specs.Cmp.Lexicographic.{slice_cmp, nat_list_eq_equiv}
-use Rattle.std.specs.Ordering.{is_eq, nat_cmp}
 use Rattle.std.specs.Str.{bytes_eq}
-use Rattle.std.proofs.lemmas.Map.Text.{is_eq-slice_cmp}
 use Rattle.ics_calendar.specs.declared.deferred_check.ZoneName.{ZoneName}
 use Rattle.ics_calendar.specs.declared.gathered.LineCheck.{LineCheck}
 use Rattle.ics_calendar.specs.DeferredChecks.{unknown_in}
@@ -21,12 +18,12 @@ abbrev without : List ℕ → List (List ℕ) → List (List ℕ)
 without name names = filter (λ other. not (bytes_eq other name)) names
 
 -- A name more is seen.
-module _ (seen now : List ℕ → Bool) (name : List ℕ) (more : (q : List ℕ) → now q ≡ cond (bytes_eq q name) true (seen q)) where
+module _ (seen now : List ℕ → Bool) (name : List ℕ) (more : (q : List ℕ) → now q ≡ (bytes_eq q name || seen q)) where
   unseen-without : (names : List (List ℕ)) → unseen seen (without name names) ≡ unseen now names
   unseen-without [] = refl
   unseen-without (x ∷ xs) = by_test (unseen-without xs) (bytes_eq x name) (more x)
     where
-      by_test : unseen seen (without name xs) ≡ unseen now xs → (t : Bool) → now x ≡ cond t true (seen x) →
+      by_test : unseen seen (without name xs) ≡ unseen now xs → (t : Bool) → now x ≡ (t || seen x) →
           unseen seen (cond (not t) (x ∷ without name xs) (without name xs)) ≡ cond (not (now x)) (x ∷ unseen now xs) (unseen now xs)
       by_test again true e = rw e again
       by_test again false e = rw (e, again) refl
@@ -43,10 +40,6 @@ pub none-unseen : (names : List (List ℕ)) → unseen (λ name. false) names �
 none-unseen [] = refl
 none-unseen (name ∷ names) = ap (λ ns. name ∷ ns) (none-unseen names)
 
--- the order ties what is the same
-ties : (name q : List ℕ) → is_eq (slice_cmp nat_cmp name q) ≡ bytes_eq q name
-ties name q = is_eq-slice_cmp name q ∙ nat_list_eq_equiv.symm name q
-
 -- ONE CHECK FURTHER, as the loop over the checks goes.
 module _ (index : ZoneName → Option ℕ) (checks : List LineCheck) (i : ℕ) (w : LineCheck)
     (below : i < length checks) (here : w ≡ get_or checks i w) where
@@ -60,16 +53,13 @@ module _ (index : ZoneName → Option ℕ) (checks : List LineCheck) (i : ℕ) (
     pub passed-over : None ≡ unknown_in index w.check → had ++ unseen seen (each_once after) ≡ all
     passed-over e = ap (λ ns. had ++ unseen seen (each_once ns)) (sym (next None e)) ∙ so_far
 
-    module _ (now : List ℕ → Bool) (name : List ℕ) (more : (q : List ℕ) → now q ≡ cond (is_eq (slice_cmp nat_cmp name q)) true (seen q)) where
-      grown : (q : List ℕ) → now q ≡ cond (bytes_eq q name) true (seen q)
-      grown q = more q ∙ ap (λ t. cond t true (seen q)) (ties name q)
-
+    module _ (now : List ℕ → Bool) (name : List ℕ) (more : (q : List ℕ) → now q ≡ (bytes_eq q name || seen q)) where
       pub again : Some name ≡ unknown_in index w.check → not (seen name) ≡ false → had ++ unseen now (each_once after) ≡ all
       again e s =
-          ap (λ ns. had ++ ns) (sym (seen-again seen now name grown after s))
+          ap (λ ns. had ++ ns) (sym (seen-again seen now name more after s))
           ∙ ap (λ ns. had ++ unseen seen (each_once ns)) (sym (next (Some name) e)) ∙ so_far
 
       pub added : Some name ≡ unknown_in index w.check → not (seen name) ≡ true → (had ++ name ∷ []) ++ unseen now (each_once after) ≡ all
       added e s =
-          append_assoc had (name ∷ []) (unseen now (each_once after)) ∙ ap (λ ns. had ++ ns) (sym (first-seen seen now name grown after s))
+          append_assoc had (name ∷ []) (unseen now (each_once after)) ∙ ap (λ ns. had ++ ns) (sym (first-seen seen now name more after s))
           ∙ ap (λ ns. had ++ unseen seen (each_once ns)) (sym (next (Some name) e)) ∙ so_far

@@ -1,5 +1,8 @@
 //! The time zones that a file wants.
-ghost use Rattle.std.specs.Prelude.{◌≡◌, ◌≤◌, length, map, option_copied, IfOk};
+ghost use Rattle.std.specs.Prelude.{◌≡◌, ◌≤◌, ◌||◌, not, List, ℕ, length, map, option_copied, IfOk, OnOk, bytes_eq};
+ghost use Rattle.std.specs.BTreeSet.{contains};
+ghost use Rattle.std.specs.Cmp.Lexicographic.{slice_cmp};
+ghost use Rattle.std.specs.Ordering.{nat_cmp};
 ghost use Rattle.ics_calendar.specs.DeferredChecks.{unknown_in};
 ghost use Rattle.ics_calendar.specs.Gathered.{all_unknown};
 ghost use Rattle.ics_calendar.specs.Wanted.{each_once, wanted_names};
@@ -24,6 +27,15 @@ fn unknown_in<'a>(table: &ZoneTable, check: &'a DeferredCheck) -> Option<&'a Tzi
     }
 }
 
+/// Adds a name to those that are seen, and says whether it is new.
+fn see(seen: &mut BTreeSet<Tzid>, name: &Tzid) -> Result<bool, AllocError>
+    ensures new { IfOk result (λ new. new ≡ not (contains (slice_cmp nat_cmp) seen.old name.now)) }
+    ensures seen { OnOk result ((other : List ℕ) →
+        contains (slice_cmp nat_cmp) seen.new other ≡ (bytes_eq other name.now || contains (slice_cmp nat_cmp) seen.old other)) }
+{
+    Ok(seen.insert(name.shared()?)?)
+}
+
 /// The names of the time zones that are to be known and are not, each once, in the order of the checks.
 fn unknown_names(
     alloc: Global,
@@ -36,7 +48,7 @@ fn unknown_names(
     let mut names = Vec::new(alloc);
     for deferred in checks {
         if let Some(name) = unknown_in(table, &deferred.check) {
-            if seen.insert(name.shared()?)? {
+            if see(&mut seen, name)? {
                 names.push(Vec::from_slice(alloc, name.as_slice())?)?;
             }
         }

@@ -8,8 +8,8 @@ use Rattle.ics_calendar.specs.Wanted.{each_once}
 use Rattle.ics_calendar.specs.ZoneTables.{known_by}
 use Rattle.ics_calendar.proofs.EachOnce.{passed-over, again, added, none-unseen}
 use Rattle.ics_calendar.proofs.unknown_zones.unknown_names.Goals as goal
-use Rattle.ics_calendar.proofs.unknown_zones.unknown_names.Goals.{in-Some+in_ok-shared+in_ok-insert+then-branch+in_ok-from_slice+in_ok-push}
-use Rattle.ics_calendar.proofs.unknown_zones.unknown_names.Goals.{in-Some+in_ok-shared+in_ok-insert+else-branch, in_default}
+use Rattle.ics_calendar.proofs.unknown_zones.unknown_names.Goals.{in-Some+in_ok-see+then-branch+in_ok-from_slice+in_ok-push, in-Some+in_ok-see+else-branch}
+use Rattle.ics_calendar.proofs.unknown_zones.unknown_names.Goals.{in_default}
 
 pub loop-deferred-init : goal.loop-deferred-init
 loop-deferred-init c =
@@ -31,14 +31,14 @@ loop-deferred-preserved c =
     let same = again index checks i c.deferred-item.result c.loop-deferred-test.true c.deferred-item.is seen had all c.loop-deferred.invariant in
     let new = added index checks i c.deferred-item.result c.loop-deferred-test.true c.deferred-item.is seen had all c.loop-deferred.invariant in
     elim c.match-unknown_in.branch [
-      | in-Some+in_ok-shared+in_ok-insert+then-branch+in_ok-from_slice+in_ok-push w ↦
-          rw (w.seen-is, w.names-is, w.in_ok-push.ensures.items, map-append, w.in_ok-from_slice.ensures.items, w.as_slice.ensures, ← w.in_ok-shared.ensures)
-          (new (contains (slice_cmp nat_cmp) w.insert.new.self) w.in_ok-shared.field-0 w.in_ok-insert.ensures.updates.0
-          (ap (λ n. Some n) w.in_ok-shared.ensures ∙ w.in-Some.ensures) (sym w.in_ok-insert.ensures.added ∙ w.if-branch.true))
-      | in-Some+in_ok-shared+in_ok-insert+else-branch w ↦
+      | in-Some+in_ok-see+then-branch+in_ok-from_slice+in_ok-push w ↦
+          rw (w.seen-is, w.names-is, w.in_ok-push.ensures.items, map-append, w.in_ok-from_slice.ensures.items, w.as_slice.ensures)
+          (new (contains (slice_cmp nat_cmp) w.see.new.seen) w.in-Some.name.now w.in_ok-see.ensures.seen w.in-Some.ensures
+          (sym w.in_ok-see.ensures.new ∙ w.if-branch.true))
+      | in-Some+in_ok-see+else-branch w ↦
           rw (w.seen-is, w.names-is)
-          (same (contains (slice_cmp nat_cmp) w.insert.new.self) w.in_ok-shared.field-0 w.in_ok-insert.ensures.updates.0
-          (ap (λ n. Some n) w.in_ok-shared.ensures ∙ w.in-Some.ensures) (sym w.in_ok-insert.ensures.added ∙ w.if-branch.false))
+          (same (contains (slice_cmp nat_cmp) w.see.new.seen) w.in-Some.name.now w.in_ok-see.ensures.seen w.in-Some.ensures
+          (sym w.in_ok-see.ensures.new ∙ w.if-branch.false))
       | in_default w ↦
           rw (w.seen-is, w.names-is) (over (sym (ap option_copied (none c.unknown_in.result w.in_default.not-Some)) ∙ c.unknown_in.ensures))
     ]
