@@ -1,6 +1,10 @@
 pub mod Cases
 pub mod Examples
+pub mod FileExamples
 pub mod Readings
+pub mod FileReads
+pub mod TableLemmas
+pub mod FileLemmas
 pub mod SameZones
 pub mod SearchLemmas
 pub mod OffsetLaws

@@ -4,11 +4,15 @@ pub mod Displays
 pub mod Near
 pub mod DisplayFaults
 pub mod Zones
+pub mod ZoneFiles
+pub mod FileBounds
 pub mod Years
 pub mod Observances
 pub mod Offsets
 pub mod Moments
 pub mod ZoneFaults
+pub mod ZoneFileFaults
+pub mod ZoneSaid
 pub mod ZoneBounds
 pub mod Latest
 pub mod OnsetSets

@@ -1,15 +1,24 @@
--- A display zone changes an instant or a local by less than two days.
+-- A zone of jiff's changes an instant or a local by less than two days.
 use Rattle.std.proofs.Common.{ℤ, arith, ◌-ℤ◌}
 use Rattle.jiff.proofs.SpanFacts.{signed_arith}
 use Rattle.jiff.specs.Words.{nanos_of_seconds, offset_at, IsOffsetSeconds}
-use Rattle.jiff_tz.specs.Ambiguous.{compatible_offset}
 use Rattle.jiff_tz.specs.PosixRule as PosixRule
 use Rattle.jiff_tz.specs.Tzif as Table
 use Rattle.jiff_tz.specs.Zone.{zero_in_range}
 use Rattle.jiff_tz.specs.declared.timezone.TimeZone.{TimeZone}
 use Rattle.jiff_tz.specs.declared.timezone.TimeZone.TheVariants.{UTC, Unknown, Fixed, Posix, Tzif}
-use Rattle.ics_zone.specs.Displays.{offset_of, offsets_of, moment_of}
+use Rattle.jiff_tz.specs.declared.tzif.Tzif.{Tzif as Rows}
+use Rattle.ics_zone.specs.Displays.{offset_of, reading_of, moment_of}
+use Rattle.ics_zone.specs.FileBounds.{rule_short, file_offset_short, file_reading_short}
 use Rattle.ics_zone.specs.Places.{IsNear}
+use Rattle.ics_zone.specs.ZoneFiles.{file_offset, file_moment}
+use Rattle.jiff_tz.specs.Tzif.{tzif_view}
+
+short_near : (n : ℤ) → IsOffsetSeconds n → IsNear n
+short_near n bound = (omega (arith, signed_arith), omega (arith, signed_arith))
+
+moved_near : (n local : ℤ) → IsOffsetSeconds n → IsNear (local -ℤ n -ℤ local)
+moved_near n local bound = (omega (arith, signed_arith), omega (arith, signed_arith))
 
 -- jiff's offsets are less than two days
 offset_bound : (zone : TimeZone) (n : ℤ) → IsOffsetSeconds (offset_at zone n)
@@ -20,12 +29,22 @@ offset_bound (Fixed offset) n = offset.in_range
 offset_bound (Posix rule) n = (PosixRule.offset_at rule n).in_range
 offset_bound (Tzif table) n = (Table.offset_at table.now n).in_range
 
+reading_bound : (zone : TimeZone) (local : ℤ) → IsOffsetSeconds (reading_of zone local)
+reading_bound UTC local = zero_in_range
+reading_bound Unknown local = zero_in_range
+reading_bound (Fixed offset) local = offset.in_range
+reading_bound (Posix rule) local = rule_short rule.std_offset rule.dst (nanos_of_seconds local)
+reading_bound (Tzif table) local = file_reading_short table.now local
+
 pub offset_near : (zone : TimeZone) (moment : ℤ) → IsNear (offset_of zone moment)
-offset_near zone moment =
-    let bound = offset_bound zone (nanos_of_seconds moment) in
-    (omega (arith, signed_arith), omega (arith, signed_arith))
+offset_near zone moment = short_near (offset_of zone moment) (offset_bound zone (nanos_of_seconds moment))
 
 pub moment_near : (zone : TimeZone) (local : ℤ) → IsNear (moment_of zone local -ℤ local)
-moment_near zone local =
-    let bound : IsOffsetSeconds (compatible_offset (offsets_of zone local)).seconds = (compatible_offset (offsets_of zone local)).in_range in
-    (omega (arith, signed_arith), omega (arith, signed_arith))
+moment_near zone local = moved_near (reading_of zone local) local (reading_bound zone local)
+
+-- the same of a zone file
+pub file_offset_near : (table : Rows) (moment : ℤ) → IsNear (file_offset (tzif_view table) moment)
+file_offset_near table moment = short_near (file_offset (tzif_view table) moment) (file_offset_short table moment)
+
+pub file_moment_near : (table : Rows) (local : ℤ) → IsNear (file_moment (tzif_view table) local -ℤ local)
+file_moment_near table local = moved_near _ local (file_reading_short table local)

@@ -1,4 +1,4 @@
--- A zone of observances changes an instant or a local by a day or less.
+-- A time zone changes an instant or a local by less than two days, and one of observances by a day or less.
 use Rattle.std.proofs.Common.{◌≡◌, ℕ, zero, suc, ◌<◌, Bool, true, false, Option, Some, None, slice_get, List, [], ◌∷◌, length, ℤ, pos, ◌-ℤ◌, arith, refl, ◌∙◌}
 use Rattle.std.specs.Ordering.{int_eq}
 use Rattle.std.proofs.lemmas.Int.{ints}
@@ -7,7 +7,11 @@ use Rattle.ics_zone.specs.declared.observance.Observance.{Observance}
 use Rattle.ics_zone.specs.Observances.{Phase, phase_of, phases_of, IsPhase, IsZone, is_onset}
 use Rattle.ics_zone.specs.Offsets.{last_below, first_below, instant, instants_to, if_onset, last_at, first_at, in_force, earliest, offset_by, zone_offset}
 use Rattle.ics_zone.specs.Moments.{shown, near, if_so, first_time, first_later, moment_from, moment_by, zone_moment}
+use Rattle.ics_zone.specs.Near.{file_offset_near, file_moment_near}
 use Rattle.ics_zone.specs.Places.{IsNear}
+use Rattle.ics_zone.specs.ZoneSaid.{said_offset, said_moment, zone_said}
+use Rattle.ics_zone.specs.declared.zone.ZoneKind.{ZoneKind}
+use Rattle.ics_zone.specs.declared.zone.ZoneKind.TheVariants.{ByObservances, ByFile}
 
 -- what is true of all that a function gives is true of what a search finds
 module _ {A : Type 0} (P : A → Type 0) (f : ℕ → Option A) where
@@ -97,3 +101,11 @@ unfolding moment_by
 zone_moment_near zone local =
     moment_from_near (zone_offset (phases_of zone)) (zone_short zone) local
     (first_time (zone_offset (phases_of zone)) local) (first_later (zone_offset (phases_of zone)) local) refl
+
+pub said_offset_near : (zone : ZoneKind) (t : ℤ) → IsNear (said_offset (zone_said zone) t)
+said_offset_near (ByObservances observances) t = zone_offset_near observances t
+said_offset_near (ByFile table) t = file_offset_near table t
+
+pub said_moment_near : (zone : ZoneKind) (local : ℤ) → IsNear (said_moment (zone_said zone) local -ℤ local)
+said_moment_near (ByObservances observances) local = zone_moment_near observances local
+said_moment_near (ByFile table) local = file_moment_near table local

@@ -1,17 +1,16 @@
 //! The zone in which a listing is shown.
-ghost use Rattle.std.specs.Prelude.{◌≡◌, ◌↔◌, ℤ, pos, IsSome, Some, None, Err, IfOk, IfErr};
+ghost use Rattle.std.specs.Prelude.{◌≡◌, ◌↔◌, ℤ, pos, Some, None, Err, IfOk, IfErr};
 ghost use Rattle.jiff_core.specs.Calendar.{IsWithin};
-ghost use Rattle.jiff.specs.Words.{plain_zone, nanos_of_seconds, civil_nanos};
+ghost use Rattle.jiff.specs.Words.{plain_zone};
 ghost use Rattle.ics_zone.specs.DisplayTexts.{Said, display_of, said_by};
-ghost use Rattle.ics_zone.specs.Displays.{IsCompatible, offset_of, moment_of};
+ghost use Rattle.ics_zone.specs.Displays.{IsCompatible};
 ghost use Rattle.ics_zone.specs.Places.{local_seconds, IsDay};
 ghost use Rattle.ics_zone.specs.Zones.{zone_of};
 
+use crate::compatible::{offset_at, picked_moment};
 use crate::display_text::read_offset;
 use crate::{DisplayFault, Place};
 use ics_values::{Local, Moment};
-use jiff::Timestamp;
-use jiff::civil::DateTime;
 use jiff::tz::TimeZone;
 use jiff_core::Offset;
 use jiff_tz::posix;
@@ -55,8 +54,7 @@ impl Display {
 
     // The zone as a zone of jiff's.
     fn zone(&self) -> TimeZone<'static>
-        ensures zone { plain_zone result ≡ zone_of self.now }
-        ensures own { IsSome (said_by (plain_zone result)) }
+        ensures { plain_zone result ≡ zone_of self.now }
     {
         TimeZone::from_plain(match self.kind {
             Kind::Fixed(offset) => jiff_tz::TimeZone::Fixed(offset),
@@ -87,8 +85,7 @@ impl Place for Display {
 
     /// The offset that jiff gives at the instant, in seconds.
     fn offset(&self, moment: Moment) -> i32 {
-        let instant = Timestamp::from_second(moment).unwrap();
-        self.zone().to_offset(instant).seconds()
+        offset_at(self.zone(), moment)
     }
 
     /// The instant of the local by jiff's compatible strategy: the first of two, and in a gap the local read with the offset before the gap.
@@ -103,31 +100,4 @@ impl Place for Display {
     ghost near = { λ display moment. offset_near (zone_of display) moment };
 
     ghost moment_near = { λ display local. moment_near (zone_of display) local };
-}
-
-// The instant of the local, by jiff's compatible strategy, in a zone of jiff's.
-fn picked_moment(zone: TimeZone<'static>, local: Local) -> Moment
-    requires day { IsDay local.day }
-    requires own { IsSome (said_by (plain_zone zone)) }
-    ensures picked { IsCompatible (plain_zone zone.entry) (local_seconds local.day local.second) result }
-    ensures value { result ≡ moment_of (plain_zone zone.entry) (local_seconds local.day local.second) }
-{
-    let instant = zone.to_timestamp(datetime(local)).unwrap();
-    instant.as_second()
-}
-
-// The local as a `DateTime` of jiff's.
-fn datetime(local: Local) -> DateTime
-    requires { IsDay local.day }
-    ensures { civil_nanos result ≡ nanos_of_seconds (local_seconds local.day local.second) }
-{
-    let days = (local.day + 4_371_587) as u32;
-    let date = jiff_core::civil::Date::from_days_since_min(days);
-    let time = jiff_core::civil::Time {
-        hour: (local.second / 3_600) as u8,
-        minute: (local.second / 60 % 60) as u8,
-        second: (local.second % 60) as u8,
-        subsec_nanosecond: 0,
-    };
-    DateTime::from_plain(jiff_core::civil::DateTime { date, time })
 }

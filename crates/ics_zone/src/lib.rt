@@ -3,6 +3,7 @@
 
 mod clear;
 mod clock;
+mod compatible;
 mod display;
 mod display_fault;
 mod display_text;
@@ -11,10 +12,12 @@ mod kept;
 mod latest;
 mod laws;
 mod observance;
+mod observed;
 mod onsets;
 mod place;
 mod zone;
 mod zone_fault;
+mod zone_file_fault;
 mod zone_laws;
 
 pub use display::Display;
@@ -24,4 +27,5 @@ pub use observance::Observance;
 pub use place::Place;
 pub use zone::Zone;
 pub use zone_fault::ZoneFault;
-pub use zone_laws::{one_moment, one_offset};
+pub use zone_file_fault::ZoneFileFault;
+pub use zone_laws::{file_answers, one_moment, one_offset};

@@ -1,439 +1,129 @@
-//! The zone of a VTIMEZONE.
-ghost use Rattle.std.specs.Prelude.{◌≡◌, ◌≢◌, ◌↔◌, ◌<◌, length, ◌<ℤ◌, ◌≤ℤ◌, ◌+ℤ◌, ◌-ℤ◌, ℤ, pos, [], map, Err, IsTrue, IfSome, Ok, IfOk, MatchBool, MatchOption, true, false};
-ghost use Rattle.std.specs.Int.{int_min};
+//! Time zones: those of VTIMEZONEs, and those of zone files.
+ghost use Rattle.std.specs.Prelude.{◌≡◌, ◌↔◌, ◌<◌, length, [], Err, IsTrue, Ok, IfOk, None};
 ghost use Rattle.std.specs.List.{list_any};
-ghost use Rattle.jiff_core.specs.Calendar.{IsWithin};
-ghost use Rattle.ics_zone.specs.Observances.{phase_of, phases_of, has_finer_rule};
+ghost use Rattle.jiff_core.specs.declared.error.TzifFault.{TzifFault};
+ghost use Rattle.jiff_tz.specs.TzifReader.{read_tzif};
+ghost use Rattle.ics_zone.specs.Observances.{phases_of, has_finer_rule};
 ghost use Rattle.ics_zone.specs.Places.{local_seconds, IsDay, IsMoment};
-ghost use Rattle.ics_zone.specs.ZoneOnsets.{AreOnsetsOfAll, HaveOffsets};
 
-use crate::latest::{
-    Steady, clear_after, first_offset, latest_of, next_onset, next_past, overrides,
-};
-use crate::onsets::Onsets;
-use crate::{Observance, Place, ZoneFault};
-use ics_values::{Frequency, Local, Moment};
+use crate::compatible::{offset_at, picked_moment};
+use crate::observed::Observed;
+use crate::{Observance, Place, ZoneFault, ZoneFileFault};
+use ics_values::{Local, Moment};
+use jiff::tz::{TimeZone, Tzif};
 use std::alloc::{AllocError, Global};
 use std::marker::Model;
 
-const DAY: i64 = 86_400;
+/// The longest zone file, in bytes.
+const LONGEST: usize = 1_048_576;
 
-/// How many seconds after an instant the end of a span is searched for.
-const AHEAD: i64 = 400 * DAY;
-
-/// The number of spans that a zone holds at most.
-const HELD: usize = 256;
-
-/// The zone of a VTIMEZONE (RFC 5545, section 3.6.5). It has no table of onsets: it searches the observances near each instant. Contracts see
-/// the observances alone.
+/// A time zone: that of a VTIMEZONE (RFC 5545, section 3.6.5), or that of a zone file (RFC 9636). Contracts see its observances, or the table
+/// that jiff read from the file.
 #[derive(Drop)]
 pub struct Zone {
-    observances: Vec<Observance>,
-    onsets: Vec<Onsets>,
-    /// Every offset that the zone has at some instant.
-    offsets: Vec<i32>,
-    /// Spans about the instants that were given to `reach`, in order.
-    held: Vec<Steady>,
+    kind: ZoneKind,
+}
+
+/// What a zone follows.
+#[derive(Drop)]
+pub(crate) enum ZoneKind {
+    ByObservances(Observed),
+    ByFile(Tzif),
 }
 
 impl Model for Zone {
-    ghost use Rattle.std.specs.Prelude.{List};
-    ghost use Rattle.ics_zone.specs.declared.observance.Observance.{Observance};
+    ghost use Rattle.ics_zone.specs.declared.zone.ZoneKind.{ZoneKind};
 
-    ghost Value = { List Observance };
+    ghost Value = { ZoneKind };
 
-    ghost use Rattle.ics_zone.specs.Observances.{phases_of};
-    ghost use Rattle.ics_zone.specs.ZoneOnsets.{IsKnown};
-
-    ghost view = { λ z. z.observances.items };
-
-    ghost invariant = { λ z. IsKnown (phases_of z.observances.items) z.onsets.items z.offsets.items z.held.items };
+    ghost view = { λ z. z.kind };
 }
 
 impl Zone {
-    ghost use Rattle.ics_zone.specs.Offsets.{IsOffset, zone_offset};
-    ghost use Rattle.ics_zone.specs.Moments.{shown, IsFirstTime, IsInGap};
-    ghost use Rattle.ics_zone.specs.ZoneOnsets.{IsJump, IsSteady};
+    ghost use Rattle.ics_zone.specs.ZoneFiles.{zone_file};
+    ghost use Rattle.ics_zone.specs.ZoneSaid.{IsZoneOf};
 
     /// The zone of these observances. `NoObservance` if there is none, `ZoneRule` if one repeats more often than daily, else `Memory` if an allocation fails.
     pub fn read(alloc: Global, observances: Vec<Observance>) -> Result<Zone, ZoneFault>
-        ensures observances { IfOk result (λ zone. zone ≡ observances.items) }
+        ensures observances { IfOk result (λ zone. zone ≡ ZoneKind.ByObservances observances.items) }
         ensures none { (result ≡ Err ZoneFault.NoObservance) ↔ (observances.items ≡ []) }
         ensures fine { (result ≡ Err ZoneFault.ZoneRule) ↔ IsTrue (list_any has_finer_rule (phases_of observances.items)) }
     {
-        if observances.is_empty() {
-            return Err(ZoneFault::NoObservance);
+        match Observed::read(alloc, observances) {
+            Ok(observed) => Ok(Zone {
+                kind: ZoneKind::ByObservances(observed),
+            }),
+            Err(fault) => Err(fault),
         }
-        if any_is_finer(&observances) {
-            return Err(ZoneFault::ZoneRule);
-        }
-        let Ok(onsets) = onsets_of(alloc, &observances) else {
-            return Err(ZoneFault::Memory);
-        };
-        let Ok(offsets) = offsets_of(alloc, &observances) else {
-            return Err(ZoneFault::Memory);
-        };
-        Ok(Zone {
-            observances,
-            onsets,
-            offsets,
-            held: Vec::new(alloc),
-        })
     }
 
-    /// Makes answers near an instant faster and changes none: the zone answers at every instant, before this call and after it. It holds the
-    /// spans about the instant if there is room for them and no allocation fails. The result is always `Ok`.
+    /// The zone that jiff reads from the bytes of a zone file. `BadZoneFile` if there are more than 1,048,576, or if jiff refuses them for another
+    /// cause than want of memory, else `Memory` if an allocation fails.
+    pub fn from_file(alloc: Global, bytes: &[u8]) -> Result<Zone, ZoneFileFault>
+        ensures file { IfOk result (λ zone. IsZoneOf bytes.now zone) }
+        ensures bad { (result ≡ Err ZoneFileFault.BadZoneFile) → zone_file bytes.now ≡ None }
+        ensures long { 1_048_576 < length bytes.now → result ≡ Err ZoneFileFault.BadZoneFile }
+        ensures broken { (fault : TzifFault) → read_tzif bytes.now ≡ Err fault → result ≡ Err ZoneFileFault.BadZoneFile }
+    {
+        if bytes.len() > LONGEST {
+            return Err(ZoneFileFault::BadZoneFile);
+        }
+        match Tzif::parse(alloc, None, bytes) {
+            Ok(table) => Ok(Zone {
+                kind: ZoneKind::ByFile(table),
+            }),
+            Err(error) => Err(ZoneFileFault::of(error)),
+        }
+    }
+
+    /// Makes answers near an instant faster and changes none: the zone answers at every instant, before this call and after it. A zone of
+    /// observances holds the spans about the instant if there is room for them and no allocation fails. The result is always `Ok`.
     pub fn reach(&mut self, to: Moment) -> Result<(), AllocError>
         ensures same { self.new ≡ self.old }
         ensures always { result ≡ Ok tt }
     {
-        let near = to.clamp(-62_167_392_000, 251_856_172_799);
-        self.hold(near - DAY);
-        self.hold(near + DAY);
-        Ok(())
-    }
-
-    // Holds the span about an instant, if there is one, there is room for it, and no allocation fails.
-    fn hold(&mut self, near: Moment)
-        requires { IsWithin 300_000_000_000 near }
-        ensures { self.new ≡ self.old }
-    {
-        if self.held.len() >= HELD || self.held_over(near, near).is_some() {
-            return;
+        match &mut self.kind {
+            ZoneKind::ByObservances(observed) => observed.reach(to),
+            ZoneKind::ByFile(_) => Ok(()),
         }
-        let Some(steady) = self.steady_about(near) else {
-            return;
-        };
-        if self.held.push(steady).is_ok() {
-            self.held.sort_unstable_by_key(|span| span.from);
-        }
-    }
-
-    // A held span that reaches from one instant to another.
-    fn held_over(&self, from: Moment, to: Moment) -> Option<Steady>
-        ensures some { 0 < length (phases_of self.now) }
-        ensures over { IfSome result (λ s. (s.from ≤ℤ from) × (to <ℤ s.next)) }
-        ensures steady { IfSome result (λ s. IsSteady (zone_offset (phases_of self.now)) s.from s.next s.offset) }
-    {
-        let begun = self.held.partition_point(|span| span.from <= from);
-        if begun == 0 {
-            return None;
-        }
-        let steady = self.held[begun - 1];
-        if steady.from <= from && to < steady.next {
-            Some(steady)
-        } else {
-            None
-        }
-    }
-
-    // The span about an instant, from one onset to the next. None if no onset is before the instant.
-    fn steady_about(&self, near: Moment) -> Option<Steady>
-        requires { IsWithin 300_000_000_000 near }
-        ensures { IfSome result (λ s. IsSteady (zone_offset (phases_of self.now)) s.from s.next s.offset) }
-    {
-        let latest = latest_of(&self.onsets, near)?;
-        let next = next_onset(&self.onsets, near, near + AHEAD);
-        Some(Steady {
-            from: latest.at,
-            next,
-            offset: latest.offset,
-        })
-    }
-
-    // The offset at an instant.
-    fn in_force(&self, moment: Moment) -> i32
-        ensures means { IsOffset (phases_of self.now) moment result }
-        ensures value { result ≡ zone_offset (phases_of self.now) moment }
-    {
-        let mut place = 0;
-        match self.held_over(moment, moment) {
-            Some(held) => held.offset,
-            None => self.offset_of_latest(moment, &mut place),
-        }
-    }
-
-    // The offset at an instant, by the observances. The place becomes that of the observance in force.
-    fn offset_of_latest(&self, moment: Moment, place: &mut usize) -> i32
-        ensures means { IsOffset (phases_of self.now) moment result }
-        ensures value { result ≡ zone_offset (phases_of self.now) moment }
-    {
-        match latest_of(&self.onsets, moment) {
-            Some(latest) => {
-                *place = latest.place;
-                latest.offset
-            }
-            None => first_offset(&self.onsets),
-        }
-    }
-
-    // Whether the zone has an offset at an instant. The hint is the place of an observance that was in force at another instant.
-    fn has_offset(&self, moment: Moment, offset: i32, hint: &mut usize) -> bool
-        ensures { MatchBool result (zone_offset (phases_of self.now) moment ≡ offset) (zone_offset (phases_of self.now) moment ≢ offset) }
-    {
-        if let Some(held) = self.held_over(moment, moment) {
-            return held.offset == offset;
-        }
-        if overrides(&self.onsets, *hint, offset, moment) {
-            return false;
-        }
-        self.offset_of_latest(moment, hint) == offset
-    }
-
-    // The span from the greatest onset that is not after an instant up to that instant. None if there is no such onset.
-    fn steady_to(&self, to: Moment) -> Option<Steady>
-        requires { IsWithin 300_000_000_000 to }
-        ensures to { IfSome result (λ s. to <ℤ s.next) }
-        ensures steady { IfSome result (λ s. IsSteady (zone_offset (phases_of self.now)) s.from s.next s.offset) }
-    {
-        let latest = latest_of(&self.onsets, to)?;
-        Some(Steady {
-            from: latest.at,
-            next: to + 1,
-            offset: latest.offset,
-        })
-    }
-
-    // A span that reaches from one instant to another. None if an onset is after the first and not after the second.
-    fn steady_over(&self, from: Moment, to: Moment) -> Option<Steady>
-        requires { IsWithin 300_000_000_000 to }
-        ensures over { IfSome result (λ s. (s.from ≤ℤ from) × (to <ℤ s.next)) }
-        ensures steady { IfSome result (λ s. IsSteady (zone_offset (phases_of self.now)) s.from s.next s.offset) }
-    {
-        if let Some(held) = self.held_over(from, to) {
-            return Some(held);
-        }
-        let steady = self.steady_to(to)?;
-        if steady.from <= from {
-            Some(steady)
-        } else {
-            None
-        }
-    }
-
-    // The instant of a local, if the offset does not change within a day of it.
-    fn steady_time(&self, seconds: i64) -> Option<Moment>
-        requires bound { IsMoment seconds }
-        ensures { IfSome result (IsFirstTime (zone_offset (phases_of self.now)) seconds) }
-    {
-        let steady = self.steady_over(seconds - DAY, seconds + DAY)?;
-        Some(seconds - i64::from(steady.offset))
-    }
-
-    // The instant of a local on a clock with this offset, if the offset is the zone's then.
-    fn shown_with(&self, seconds: i64, offset: i32, hint: &mut usize) -> Option<Moment>
-        requires bound { IsMoment seconds }
-        ensures { MatchOption result
-            (zone_offset (phases_of self.now) (seconds -ℤ offset) ≢ offset)
-            (λ t. (t ≡ seconds -ℤ offset) × (zone_offset (phases_of self.now) t ≡ offset)) }
-    {
-        let moment = seconds - i64::from(offset);
-        if self.has_offset(moment, offset, hint) {
-            Some(moment)
-        } else {
-            None
-        }
-    }
-
-    // The first instant at which the clock shows a local, given by its seconds. Such an instant is the local less an offset of the zone.
-    fn first_time(&self, seconds: i64) -> Option<Moment>
-        requires { IsMoment seconds }
-        ensures { MatchOption result
-            ((t : ℤ) → shown (zone_offset (phases_of self.now)) t ≢ seconds)
-            (IsFirstTime (zone_offset (phases_of self.now)) seconds) }
-    {
-        if let Some(moment) = self.steady_time(seconds) {
-            return Some(moment);
-        }
-        let offsets = self.offsets.as_slice();
-        let mut first: Option<Moment> = None;
-        let mut hint = usize::MAX;
-        for offset in offsets {
-            if is_by(first, seconds - i64::from(*offset)) {
-                continue;
-            }
-            let Some(moment) = self.shown_with(seconds, *offset, &mut hint) else {
-                continue;
-            };
-            first = Some(earlier(first, moment));
-        }
-        first
-    }
-
-    // Whether the clock shows, at an instant, a later local than this one, given by its seconds.
-    fn is_past(&self, seconds: i64, moment: Moment) -> bool
-        requires { IsWithin 300_000_000_000 moment }
-        ensures { MatchBool result
-            (seconds <ℤ shown (zone_offset (phases_of self.now)) moment)
-            (shown (zone_offset (phases_of self.now)) moment ≤ℤ seconds) }
-    {
-        moment + i64::from(self.in_force(moment)) > seconds
-    }
-
-    // An instant up to which the clock shows earlier locals than one, where it does up to another. Onsets that are overridden at their own
-    // instants are passed over.
-    fn clear_to(&self, seconds: i64, after: Moment) -> Moment
-        requires bound { IsMoment seconds }
-        requires low { (seconds -ℤ pos 86_400) ≤ℤ after }
-        requires high { after ≤ℤ (seconds +ℤ pos 86_401) }
-        requires skipped { (t : ℤ) → shown (zone_offset (phases_of self.now)) t ≢ seconds }
-        requires earlier { (t : ℤ) → t ≤ℤ after → shown (zone_offset (phases_of self.now)) t <ℤ seconds }
-        ensures low { after ≤ℤ result }
-        ensures high { result ≤ℤ (seconds +ℤ pos 86_401) }
-        ensures earlier { (t : ℤ) → t ≤ℤ result → shown (zone_offset (phases_of self.now)) t <ℤ seconds }
-    {
-        let clear = clear_after(&self.onsets, seconds, after);
-        (after + clear).min(seconds + DAY + 1)
-    }
-
-    // The instant at which the clock jumps over a local that it never shows: the first onset that shows a later one.
-    fn jump(&self, seconds: i64) -> Moment
-        requires bound { IsMoment seconds }
-        requires skipped { (t : ℤ) → shown (zone_offset (phases_of self.now)) t ≢ seconds }
-        ensures low { (seconds -ℤ pos 86_400) ≤ℤ result }
-        ensures high { result ≤ℤ (seconds +ℤ pos 86_401) }
-        ensures jump { IsJump (zone_offset (phases_of self.now)) seconds result }
-    {
-        let mut after = seconds - DAY;
-        while after <= seconds + DAY {
-            after = next_past(&self.onsets, seconds, after);
-            if self.is_past(seconds, after) {
-                return after;
-            }
-            after = self.clear_to(seconds, after);
-        }
-        // not reached: a day after the local the clock shows a later one
-        after
-    }
-
-    // A local, given by its seconds, read with the offset before an instant.
-    fn read_before(&self, seconds: i64, past: Moment) -> Moment
-        requires local { IsWithin 300_000_000_000 seconds }
-        requires past { IsWithin 300_000_000_000 past }
-        ensures { result ≡ seconds -ℤ zone_offset (phases_of self.now) (past -ℤ pos 1) }
-    {
-        seconds - i64::from(self.in_force(past - 1))
-    }
-
-    // The instant of a local that the clock skips: it is read with the offset before the gap.
-    fn across_gap(&self, seconds: i64) -> Moment
-        requires bound { IsMoment seconds }
-        requires skipped { (t : ℤ) → shown (zone_offset (phases_of self.now)) t ≢ seconds }
-        ensures { IsInGap (zone_offset (phases_of self.now)) seconds result }
-    {
-        self.read_before(seconds, self.jump(seconds))
-    }
-}
-
-// Whether there is a first instant, and it is not after a second.
-fn is_by(first: Option<Moment>, second: Moment) -> bool
-    ensures { MatchOption first (result ≡ false) (λ f. result ≡ true → f ≤ℤ second) }
-{
-    match first {
-        Some(first) => first <= second,
-        None => false,
-    }
-}
-
-// The earlier of two instants, of which the first may be none.
-fn earlier(first: Option<Moment>, second: Moment) -> Moment
-    ensures { MatchOption first (result ≡ second) (λ f. result ≡ int_min f second) }
-{
-    match first {
-        Some(first) => first.min(second),
-        None => second,
-    }
-}
-
-// The onsets of each observance.
-fn onsets_of(alloc: Global, observances: &[Observance]) -> Result<Vec<Onsets>, AllocError>
-    ensures { IfOk result (λ onsets. AreOnsetsOfAll (phases_of observances.now) onsets.items) }
-{
-    let mut all = Vec::new(alloc);
-    for observance in observances {
-        all.push(Onsets::of(alloc, observance)?)?;
-    }
-    Ok(all)
-}
-
-// The offsets before and after the onsets, each of them once, the greatest first.
-fn offsets_of(alloc: Global, observances: &[Observance]) -> Result<Vec<i32>, AllocError>
-    ensures { IfOk result (λ offsets. HaveOffsets offsets.items (phases_of observances.now)) }
-{
-    let mut offsets = Vec::new(alloc);
-    for observance in observances {
-        offsets.push(observance.offset_to)?;
-        offsets.push(observance.offset_from)?;
-    }
-    offsets.sort_unstable();
-    offsets.dedup();
-    offsets.reverse();
-    Ok(offsets)
-}
-
-// The seconds from 1970-01-01T00:00:00 to a local, each day having 86,400.
-fn seconds_of(local: Local) -> i64
-    ensures { result ≡ local_seconds local.day local.second }
-{
-    i64::from(local.day) * DAY + i64::from(local.second)
-}
-
-// Whether one of the observances repeats more often than daily.
-fn any_is_finer(observances: &[Observance]) -> bool
-    ensures { result ≡ list_any has_finer_rule (phases_of observances.now) }
-{
-    observances
-        .iter()
-        .any(|observance| is_finer_than_daily(observance))
-}
-
-// Whether an observance repeats more often than daily.
-fn is_finer_than_daily(observance: &Observance) -> bool
-    ensures { result ≡ has_finer_rule (phase_of observance.now) }
-{
-    match &observance.rule {
-        None => false,
-        Some(parts) => matches!(
-            parts.frequency(),
-            Frequency::Secondly | Frequency::Minutely | Frequency::Hourly
-        ),
     }
 }
 
 impl Place for Zone {
-    ghost use Rattle.ics_zone.specs.Offsets.{IsOffset, zone_offset};
-    ghost use Rattle.ics_zone.specs.Moments.{IsMomentOf, zone_moment};
-    ghost use Rattle.ics_zone.specs.Observances.{phases_of};
-    ghost use Rattle.ics_zone.specs.ZoneBounds.{zone_offset_near, zone_moment_near};
+    ghost use Rattle.ics_zone.specs.ZoneSaid.{IsOffsetIn, IsMomentIn, said_offset, said_moment, zone_said};
+    ghost use Rattle.ics_zone.specs.ZoneBounds.{said_offset_near, said_moment_near};
 
-    ghost offset_at = { λ zone moment. zone_offset (phases_of zone) moment };
+    ghost offset_at = { λ zone moment. said_offset (zone_said zone) moment };
 
-    ghost moment_at = { λ zone local. zone_moment (phases_of zone) local };
+    ghost moment_at = { λ zone local. said_moment (zone_said zone) local };
 
-    /// The offset at an instant, in seconds: TZOFFSETTO of the greatest onset that is not after it or,
-    /// before all onsets, TZOFFSETFROM of the least (RFC 5545, section 3.6.5).
+    /// The offset at an instant, in seconds. In a zone of observances it is TZOFFSETTO of the greatest onset that is not after the instant or,
+    /// before all onsets, TZOFFSETFROM of the least (RFC 5545, section 3.6.5). In a zone of a file it is the one that jiff gives.
     fn offset(&self, moment: Moment) -> i32
-        ensures means { IsOffset (phases_of self.now) moment result }
-        ensures value { result ≡ zone_offset (phases_of self.now) moment }
+        requires { IsMoment moment }
+        ensures means { IsOffsetIn self.now moment result }
+        ensures value { result ≡ said_offset (zone_said self.now) moment }
     {
-        self.in_force(moment)
-    }
-
-    /// The first instant at which the clock shows the local. If there is none, the local read with the
-    /// offset before the gap (RFC 5545, section 3.3.5).
-    fn moment(&self, local: Local) -> Moment
-        requires { IsDay local.day }
-        ensures means { IsMomentOf (phases_of self.now) (local_seconds local.day local.second) result }
-        ensures value { result ≡ zone_moment (phases_of self.now) (local_seconds local.day local.second) }
-    {
-        let seconds = seconds_of(local);
-        match self.first_time(seconds) {
-            Some(moment) => moment,
-            None => self.across_gap(seconds),
+        match &self.kind {
+            ZoneKind::ByObservances(observed) => observed.offset(moment),
+            ZoneKind::ByFile(table) => offset_at(TimeZone::tzif(table), moment),
         }
     }
 
-    ghost near = { λ zone moment. zone_offset_near zone moment };
+    /// The instant of a local. In a zone of observances it is the first at which the clock shows the local and, if there is none, the local read
+    /// with the offset before the gap (RFC 5545, section 3.3.5). In a zone of a file it is that of jiff's compatible strategy.
+    fn moment(&self, local: Local) -> Moment
+        requires { IsDay local.day }
+        ensures means { IsMomentIn self.now (local_seconds local.day local.second) result }
+        ensures value { result ≡ said_moment (zone_said self.now) (local_seconds local.day local.second) }
+    {
+        match &self.kind {
+            ZoneKind::ByObservances(observed) => observed.moment(local),
+            ZoneKind::ByFile(table) => picked_moment(TimeZone::tzif(table), local),
+        }
+    }
 
-    ghost moment_near = { λ zone local. zone_moment_near zone local };
+    ghost near = { λ zone moment. said_offset_near zone moment };
+
+    ghost moment_near = { λ zone local. said_moment_near zone local };
 }

@@ -9,5 +9,5 @@ pub returns-clause-picked : goal.returns-clause-picked
 returns-clause-picked c =
     let fits : FitsSigned w64 c.picked_moment.result = search rules in
     rw (to_z-of_z w64 c.picked_moment.result fits)
-    (subst (λ zone. IsCompatible zone (local_seconds c.args.local.day c.args.local.second) c.picked_moment.result) c.zone.ensures.zone
+    (subst (λ zone. IsCompatible zone (local_seconds c.args.local.day c.args.local.second) c.picked_moment.result) c.zone.ensures
     c.picked_moment.ensures.picked)

@@ -1,35 +1,15 @@
-use Rattle.std.proofs.Common.{rules, ◌≡◌, inl, inr, sym, List, ℤ, SFits, w64, to_z, of_z}
+use Rattle.std.proofs.Common.{rules, ◌≡◌, sym, ◌∙◌, SFits, w64}
 use Rattle.std.proofs.lemmas.Int.{to_z-of_z}
-use Rattle.ics_zone.specs.Moments.{IsMomentOf, zone_moment}
-use Rattle.ics_zone.specs.Offsets.{zone_offset}
+use Rattle.jiff.specs.Words.{plain_zone}
 use Rattle.ics_zone.specs.Places.{local_seconds}
-use Rattle.ics_zone.specs.declared.observance.Observance.{Observance}
-use Rattle.ics_zone.specs.Observances.{phases_of}
-use Rattle.ics_zone.specs.ZoneBounds.{zone_short}
-use Rattle.ics_zone.proofs.MomentLemmas.{moment_unique, moment_found}
+use Rattle.ics_zone.specs.declared.zone.ZoneKind.TheVariants.{ByFile}
+use Rattle.ics_zone.proofs.TableLemmas.{table_read}
 use Rattle.ics_zone.proofs.zone.ZonePlace.moment.Goals as goal
 
--- what a moment is, it is as found
-is_found : (zone : List Observance) (local t : ℤ) → IsMomentOf (phases_of zone) local t → t ≡ zone_moment (phases_of zone) local
-is_found zone local t h = moment_unique (zone_offset (phases_of zone)) local t (zone_moment (phases_of zone) local) h
-    (moment_found (zone_offset (phases_of zone)) (zone_short zone) local)
-
-shown_first : (c : goal.In-Some)
-    → IsMomentOf (phases_of c.args.self.now) (local_seconds c.args.local.day c.args.local.second) (to_z w64 (of_z w64 c.in-Some.moment))
-shown_first c =
-    let fits : SFits w64 c.seconds_of-seconds.result = search rules in
-    let small : SFits w64 c.in-Some.moment = search rules in
-    rw (to_z-of_z w64 c.in-Some.moment small, sym c.seconds_of-seconds.ensures) (inl (simp to_z-of_z at c.in-Some.ensures))
-
-skipped : (c : goal.After-across_gap)
-    → IsMomentOf (phases_of c.args.self.now) (local_seconds c.args.local.day c.args.local.second) (to_z w64 (of_z w64 c.across_gap.result))
-skipped c =
-    let fits : SFits w64 c.seconds_of-seconds.result = search rules in
-    let small : SFits w64 c.across_gap.result = search rules in
-    rw (to_z-of_z w64 c.across_gap.result small, sym c.seconds_of-seconds.ensures) (inr (simp to_z-of_z at c.across_gap.ensures))
-
-pub returns-in-Some : goal.returns-in-Some
-returns-in-Some c = record { means = shown_first c; value = is_found c.args.self.now _ _ (shown_first c) }
-
-pub returns-in-None : goal.returns-in-None
-returns-in-None c = record { means = skipped c; value = is_found c.args.self.now _ _ (skipped c) }
+pub returns-in-ByFile-clause-means : goal.returns-in-ByFile-clause-means
+returns-in-ByFile-clause-means c =
+    let small : SFits w64 c.picked_moment.result = search rules in
+    let kind : c.args.self.now ≡ ByFile c.in-ByFile.table = sym c.self.view_is ∙ c.in-ByFile.is in
+    rw (kind, to_z-of_z w64 c.picked_moment.result small)
+    (table_read (plain_zone c.tzif.result) _ c.tzif.ensures (local_seconds c.args.local.day c.args.local.second) c.picked_moment.result
+    c.picked_moment.ensures.picked)

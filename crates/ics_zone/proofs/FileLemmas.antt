@@ -1,0 +1,251 @@
+-- What a zone file says is what jiff answers for a table that was read from it.
+use Rattle.std.proofs.Common.{Decides, ◌≡◌, ℕ, zero, suc, ◌+◌, ◌-◌, ◌==◌, ℤ, pos, Bool, true, false, cond, int_le, int_lt, List, [], ◌∷◌, map, length, get_or}
+use Rattle.std.proofs.Common.{Option, Some, None, option_map, refl, sym, ap, ap₂, ◌∙◌, arith, if◌then◌else◌, not, ◌||◌, vec_len}
+use Rattle.std.proofs.lemmas.Bool.{and_parts}
+use Rattle.std.proofs.lemmas.Bool.Decides.{Decides-int_eq, nat_tests}
+use Rattle.std.proofs.lemmas.Slice.Eq.{bytes_eq-Decides}
+use Rattle.std.specs.List.{prefix_len}
+use Rattle.std.proofs.lemmas.List.{length-map}
+use Rattle.jiff.specs.Words.{nanos_of_seconds, civil_nanos, civil_seconds}
+use Rattle.jiff.proofs.SpanFacts.{signed_arith}
+use Rattle.jiff_core.proofs.DateTimeLemmas.{civil_nanos-civil_seconds}
+use Rattle.jiff_core.specs.declared.offset.Offset.{Offset}
+use Rattle.jiff_core.specs.declared.civil.datetime.DateTime.{DateTime}
+use Rattle.jiff_tz.specs.Ambiguous.{compatible_offset}
+use Rattle.jiff_tz.specs.PosixRule as Posix
+use Rattle.jiff_tz.specs.PosixRule.{match_some, utc_window, rule_nanos, in_window, in_span, saturating_add, saturating_sub, shift_between, dst_info, std_info}
+use Rattle.jiff_tz.specs.PosixText.{dst_view, tz_view, day_time_view}
+use Rattle.jiff_tz.specs.Tzif as Table
+use Rattle.jiff_tz.specs.Tzif.{tzif_view}
+use Rattle.jiff_tz.specs.TzifText.{TypeText, TransitionText, transition_text, civil_start, civil_end, no_row}
+use Rattle.jiff_tz.specs.TzifAgree.{FooterAgrees, RowAgrees}
+use Rattle.jiff_tz.specs.Abbreviation.{abbreviation_text}
+use Rattle.jiff_tz.specs.Year.{year_of_nanos}
+use Rattle.jiff_tz.proofs.YearLemmas.{year_of_nanos-civil}
+use Rattle.jiff_tz.specs.declared.ambiguous.AmbiguousOffset.TheVariants.{Unambiguous, Gap, Fold}
+use Rattle.jiff_tz.specs.declared.info.Dst.{Dst as DstFlag}
+use Rattle.jiff_tz.specs.declared.info.Dst.TheVariants.{Yes, No}
+use Rattle.jiff_tz.specs.declared.info.OffsetInfo.{OffsetInfo}
+use Rattle.jiff_tz.specs.declared.posix.DayTime.{DayTime}
+use Rattle.jiff_tz.specs.declared.posix.Dst.{Dst}
+use Rattle.jiff_tz.specs.declared.posix.TimeZone.{TimeZone}
+use Rattle.jiff_tz.specs.declared.tzif.Tzif.{Tzif}
+use Rattle.jiff_tz.specs.declared.tzif.transition.Transition.{Transition}
+use Rattle.jiff_tz.specs.declared.tzif.transition.LocalTimeType.{LocalTimeType}
+use Rattle.ics_zone.specs.ZoneFiles.{rule_moment, daylight_window, daylight_type, standard_type, is_inside, rule_type, type_by, rule_reading, compatible_by}
+use Rattle.ics_zone.specs.ZoneFiles.{compatible_behind, compatible_ahead, row_at, offset_after, rule_after, count_at, civil_count_at, file_offset, file_reading}
+use Rattle.ics_zone.specs.ZoneFiles.{reading_after, is_flag, is_type, agrees}
+
+moment_is : (year ahead : ℤ) (d : DayTime) → rule_moment year ahead (day_time_view d) ≡ rule_nanos year d ahead
+unfolding rule_nanos
+moment_is year ahead d = refl
+
+pub window_is : (year : ℤ) (d : Dst) (std : Offset) → daylight_window year std.seconds (dst_view d) ≡ utc_window d year std
+unfolding utc_window rule_nanos
+window_is year d std = refl
+
+-- what holds by a rule, as jiff says it
+abbrev info_view : OffsetInfo → TypeText
+info_view info = record { seconds = info.offset.seconds; dst = info.dst; name = abbreviation_text info.abbreviation }
+
+pub rule_type_is : (rule : TimeZone) (n : ℤ) → rule_type (tz_view rule) n ≡ info_view (Posix.info_at rule n)
+rule_type_is rule n = by rule.dst
+  where
+    in_year : (b : Bool) (d : Dst) → (if b then daylight_type (dst_view d) else standard_type (tz_view rule))
+        ≡ info_view (match_some (if b then Some d else None) (std_info rule) dst_info)
+    in_year true d = refl
+    in_year false d = refl
+
+    by : (dst : Option Dst) → type_by (tz_view rule) (option_map dst_view dst) n
+        ≡ info_view (match_some (Posix.dst_at_by rule.std_offset dst n) (std_info rule) dst_info)
+    by None = refl
+    by (Some d) = rw (window_is (year_of_nanos n) d rule.std_offset) (in_year (in_window (utc_window d (year_of_nanos n) rule.std_offset) n) d)
+
+pub rule_offset_is : (rule : TimeZone) (n : ℤ) → (rule_type (tz_view rule) n).seconds ≡ (Posix.offset_at rule n).seconds
+rule_offset_is rule n = ap (λ t. t.seconds) (rule_type_is rule n) ∙ by (Posix.dst_at rule n)
+  where
+    by : (dst : Option Dst) → (match_some dst (std_info rule) dst_info).offset.seconds ≡ (match_some dst rule.std_offset (λ d. d.offset)).seconds
+    by None = refl
+    by (Some d) = refl
+
+behind_is : (std dst : Offset) (w : ℤ × ℤ) (n : ℤ) → compatible_behind std.seconds dst.seconds w n
+    ≡ (compatible_offset (Posix.ambiguous_behind std dst w n)).seconds
+behind_is std dst w n =
+    by (in_window w n) (in_span (saturating_add w.0 (shift_between std dst)) w.0 n) (in_span w.1 (saturating_sub w.1 (shift_between std dst)) n)
+  where
+    by : (a b c : Bool) → (if a then dst.seconds else (if b then std.seconds else (if c then dst.seconds else std.seconds)))
+        ≡ (compatible_offset (if a then Unambiguous dst else (if b then Fold std dst else (if c then Gap dst std else Unambiguous std)))).seconds
+    by true b c = refl
+    by false true c = refl
+    by false false true = refl
+    by false false false = refl
+
+ahead_is : (std dst : Offset) (w : ℤ × ℤ) (n : ℤ) → compatible_ahead std.seconds dst.seconds w n
+    ≡ (compatible_offset (Posix.ambiguous_ahead std dst w n)).seconds
+ahead_is std dst w n =
+    by (not (in_window w n)) (in_span w.0 (saturating_add w.0 (shift_between std dst)) n)
+    (in_span (saturating_sub w.1 (shift_between std dst)) w.1 n)
+  where
+    by : (a b c : Bool) → (if a then std.seconds else (if b then std.seconds else dst.seconds))
+        ≡ (compatible_offset (if a then Unambiguous std else (if b then Gap std dst else (if c then Fold dst std else Unambiguous dst)))).seconds
+    by true b c = refl
+    by false true c = refl
+    by false false true = refl
+    by false false false = refl
+
+compatible_is : (std dst : Offset) (w : ℤ × ℤ) (n : ℤ) → compatible_by std.seconds dst.seconds w n
+    ≡ (compatible_offset (Posix.ambiguous_by std dst w n)).seconds
+compatible_is std dst w n = by (int_lt dst.seconds std.seconds) (int_lt std.seconds dst.seconds)
+  where
+    by : (a b : Bool) → (if a then compatible_behind std.seconds dst.seconds w n else (if b then compatible_ahead std.seconds dst.seconds w n else std.seconds))
+        ≡ (compatible_offset (if a then Posix.ambiguous_behind std dst w n else (if b then Posix.ambiguous_ahead std dst w n else Unambiguous std))).seconds
+    by true b = behind_is std dst w n
+    by false true = ahead_is std dst w n
+    by false false = refl
+
+pub rule_reading_is : (std : Offset) (dst : Option Dst) (dt : DateTime) (local : ℤ) → civil_nanos dt ≡ nanos_of_seconds local
+    → rule_reading std.seconds (option_map dst_view dst) (nanos_of_seconds local) ≡ (compatible_offset (Posix.ambiguous_at_by std dst dt)).seconds
+rule_reading_is std None dt local e = refl
+rule_reading_is std (Some d) dt local e =
+    ap₂ (λ (year : ℤ) (n : ℤ). compatible_by std.seconds d.offset.seconds
+    (rule_moment year (pos 0) (day_time_view d.rule.start), rule_moment year (pos 0) (day_time_view d.rule.end)) n)
+    (sym (year_of_nanos-civil dt (nanos_of_seconds local) e)) (sym e)
+    ∙ rw (moment_is dt.date.year (pos 0) d.rule.start, moment_is dt.date.year (pos 0) d.rule.end)
+    (compatible_is std d.offset (rule_nanos dt.date.year d.rule.start (pos 0), rule_nanos dt.date.year d.rule.end (pos 0)) (civil_nanos dt))
+
+-- a property of the rows, told of what they say
+prefix_len-map : {A B : Type 0} (f : A → B) (p : B → Bool) (xs : List A) → prefix_len p (map f xs) ≡ prefix_len (λ x. p (f x)) xs
+prefix_len-map f p [] = refl
+prefix_len-map f p (x ∷ xs) = ap (λ (n : ℕ). cond (p (f x)) (1 + n) 0) (prefix_len-map f p xs)
+
+get_or-view : {A B : Type 0} (f : A → B) (xs : List A) (k : ℕ) (d : A) → get_or (map f xs) k (f d) ≡ f (get_or xs k d)
+get_or-view f [] k d = refl
+get_or-view f (x ∷ xs) zero d = refl
+get_or-view f (x ∷ xs) (suc k) d = get_or-view f xs k d
+
+module _ (z : Tzif) where
+  row_is : (k : ℕ) → row_at (tzif_view z) k ≡ transition_text (Table.transition_at z k)
+  row_is k = get_or-view transition_text z.transitions.items k (Table.no_transition z)
+
+  offset_after_is : (count : ℕ) → offset_after (tzif_view z) count ≡ (Table.type_after z count).offset.seconds
+  offset_after_is count = by (count == 0)
+    where
+      by : (b : Bool) → (if b then z.first.offset.seconds else (row_at (tzif_view z) (count - 1)).after.seconds)
+          ≡ (if b then z.first else (Table.transition_at z (count - 1)).after).offset.seconds
+      by true = refl
+      by false = ap (λ r. r.after.seconds) (row_is (count - 1))
+
+  rule_after_is : (count : ℕ) → rule_after (tzif_view z) count ≡ option_map tz_view (Table.rule_after z count)
+  rule_after_is count =
+      let same : length (map transition_text z.transitions.items) ≡ vec_len z.transitions =
+      length-map z.transitions.items transition_text ∙ sym z.transitions.ok.0 in
+      rw same (by (count == vec_len z.transitions))
+    where
+      by : (b : Bool) → (if b then option_map tz_view z.posix_tz else None) ≡ option_map tz_view (if b then z.posix_tz else None)
+      by true = refl
+      by false = refl
+
+  by_rule : (rule : Option TimeZone) (before : ℤ) (type : LocalTimeType) (n : ℤ) → before ≡ type.offset.seconds
+      → match_some (option_map tz_view rule) before (λ r. (rule_type r n).seconds) ≡ (match_some rule type.offset (λ r. Posix.offset_at r n)).seconds
+  by_rule None before type n e = e
+  by_rule (Some rule) before type n e = rule_offset_is rule n
+
+  -- the offset that jiff gives at an instant
+  pub file_offset_is : (t : ℤ) → file_offset (tzif_view z) t ≡ (Table.offset_at z (nanos_of_seconds t)).seconds
+  unfolding file_offset
+  file_offset_is t =
+      let second : Table.floor_second (nanos_of_seconds t) ≡ t = omega (arith, signed_arith) in
+      let count : count_at (tzif_view z) t ≡ Table.count_at z t = prefix_len-map transition_text (λ row. int_le row.second t) z.transitions.items in
+      rw (second, count, rule_after_is (Table.count_at z t))
+      (by_rule (Table.rule_after z (Table.count_at z t)) _ (Table.type_after z (Table.count_at z t)) (nanos_of_seconds t)
+      (offset_after_is (Table.count_at z t)))
+
+  -- that of a local, in a part of the table
+  inside_is : (count : ℕ) (local : ℤ) → is_inside (tzif_view z) count local ≡ Table.is_inside z count local
+  inside_is count local = by (count == 0)
+    where
+      by : (b : Bool) → (if b then false else int_lt local (civil_end (row_at (tzif_view z) (count - 1))))
+          ≡ (if b then false else int_lt local (Table.civil_end (Table.transition_at z (count - 1))))
+      by true = refl
+      by false = ap (λ r. int_lt local (civil_end r)) (row_is (count - 1))
+
+  module _ (dt : DateTime) (local : ℤ) (same : civil_nanos dt ≡ nanos_of_seconds local) where
+    read_by_rule : (rule : Option TimeZone) (before : ℤ) (type : LocalTimeType) → before ≡ type.offset.seconds
+        → match_some (option_map tz_view rule) before (λ r. rule_reading r.std_seconds r.dst (nanos_of_seconds local))
+        ≡ (compatible_offset (match_some rule (Unambiguous type.offset) (λ r. Posix.ambiguous_at r dt))).seconds
+    read_by_rule None before type e = e
+    read_by_rule (Some rule) before type e = rule_reading_is rule.std_offset rule.dst dt local same
+
+    past_is : (count : ℕ) → match_some (rule_after (tzif_view z) count) (offset_after (tzif_view z) count)
+        (λ r. rule_reading r.std_seconds r.dst (nanos_of_seconds local))
+        ≡ (compatible_offset (Table.ambiguous_after z count dt)).seconds
+    past_is count = rw (rule_after_is count) (read_by_rule (Table.rule_after z count) _ (Table.type_after z count) (offset_after_is count))
+
+    at_row : (t : Transition) → t.before.seconds ≡ (compatible_offset (Table.offsets_in t)).seconds
+    at_row t = by (int_lt t.before.seconds t.after.offset.seconds)
+      where
+        by : (b : Bool) → t.before.seconds ≡ (compatible_offset (if b then Gap t.before t.after.offset else Fold t.before t.after.offset)).seconds
+        by true = refl
+        by false = refl
+
+    after_is : (count : ℕ) → reading_after (tzif_view z) count local
+        ≡ (compatible_offset (if Table.is_inside z count local then Table.offsets_in (Table.transition_at z (count - 1))
+        else Table.ambiguous_after z count dt)).seconds
+    after_is count = rw (inside_is count local) (by (Table.is_inside z count local))
+      where
+        by : (b : Bool) → (if b then (row_at (tzif_view z) (count - 1)).before
+            else match_some (rule_after (tzif_view z) count) (offset_after (tzif_view z) count)
+            (λ r. rule_reading r.std_seconds r.dst (nanos_of_seconds local)))
+            ≡ (compatible_offset (if b then Table.offsets_in (Table.transition_at z (count - 1)) else Table.ambiguous_after z count dt)).seconds
+        by true = ap (λ r. r.before) (row_is (count - 1)) ∙ at_row (Table.transition_at z (count - 1))
+        by false = past_is count
+
+    -- the offset of a local that jiff's compatible strategy takes
+    pub file_reading_is : file_reading (tzif_view z) local ≡ (compatible_offset (Table.ambiguous_at z dt)).seconds
+    unfolding file_reading
+    file_reading_is =
+        let sub = dt.time.subsec_in in
+        let second : civil_seconds dt ≡ local = omega (arith, signed_arith, civil_nanos-civil_seconds dt, same) in
+        let count : civil_count_at (tzif_view z) local ≡ Table.civil_count_at z local =
+        prefix_len-map transition_text (λ row. int_le (civil_start row) local) z.transitions.items in
+        rw (second, count) (after_is (Table.civil_count_at z local))
+
+-- two flags, and two types, are the same
+is_flag-Decides : (a b : DstFlag) → Decides (is_flag a b) (a ≡ b)
+is_flag-Decides Yes Yes = (λ e. refl, λ e. refl)
+is_flag-Decides No No = (λ e. refl, λ e. refl)
+is_flag-Decides Yes No = (λ e. cc, λ e. cc)
+is_flag-Decides No Yes = (λ e. cc, λ e. cc)
+
+-- the rule agrees with the last transition exactly if jiff's own test says so
+row_agrees : (rule : TimeZone) (row : TransitionText)
+    → Decides (is_type (rule_type (tz_view rule) (nanos_of_seconds row.second)) row.after) (RowAgrees rule row)
+row_agrees rule row = rw (rule_type_is rule (nanos_of_seconds row.second)) (
+    let info = Posix.info_at rule (nanos_of_seconds row.second) in
+    let seconds = Decides-int_eq info.offset.seconds row.after.seconds in
+    let flag = is_flag-Decides info.dst row.after.dst in
+    let name = bytes_eq-Decides (abbreviation_text info.abbreviation) row.after.name in (
+      λ e. let parts = and_parts _ _ e in let more = and_parts _ _ parts.1 in (seconds.0 parts.0, flag.0 more.0, name.0 more.1),
+      λ h. rw (seconds.1 h.0, flag.1 h.1, name.1 h.2) refl,
+    ))
+
+pub agrees_yes : (rule : TimeZone) (rows : List TransitionText) → FooterAgrees rows rule → agrees (Some (tz_view rule)) rows ≡ true
+agrees_yes rule rows h = by (length rows == 0) refl
+  where
+    by : (b : Bool) → (length rows == 0) ≡ b
+        → (b || is_type (rule_type (tz_view rule) (nanos_of_seconds (get_or rows (length rows - 1) no_row).second))
+        (get_or rows (length rows - 1) no_row).after) ≡ true
+    by true e = refl
+    by false e = (row_agrees rule (get_or rows (length rows - 1) no_row)).1 (h (grind (arith, nat_tests)))
+
+pub agrees_no : (rule : TimeZone) (rows : List TransitionText) → (FooterAgrees rows rule → ⊥) → agrees (Some (tz_view rule)) rows ≡ false
+agrees_no rule rows h = by (agrees (Some (tz_view rule)) rows) refl
+  where
+    holds : agrees (Some (tz_view rule)) rows ≡ true → FooterAgrees rows rule
+    holds e l =
+        let some : (length rows == 0) ≡ false = grind (arith, nat_tests) in
+        (row_agrees rule (get_or rows (length rows - 1) no_row)).0 (rw some at e)
+
+    by : (b : Bool) → agrees (Some (tz_view rule)) rows ≡ b → b ≡ false
+    by true e = absurd (h (holds e))
+    by false e = refl
