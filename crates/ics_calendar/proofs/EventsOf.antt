@@ -13,7 +13,7 @@ use Rattle.std.proofs.lemmas.Option.{slice_get-get_or}
 use Rattle.ics_values.specs.declared.local.Local.{Local}
 use Rattle.ics_values.specs.declared.stamp.Stamp.{Stamp}
 use Rattle.ics_values.specs.declared.stamp.Stamp.TheVariants.{Date, Floating, Utc, Zoned}
-use Rattle.ics_zone.specs.Observances.{Phase}
+use Rattle.ics_zone.specs.ZoneSaid.{ZoneSaid}
 use Rattle.ics_calendar.specs.declared.date_list.DateList.{DateList}
 use Rattle.ics_calendar.specs.declared.date_list.ListedDate.{ListedDate}
 use Rattle.ics_calendar.specs.declared.date_list.ListedDate.TheVariants as value
@@ -72,7 +72,7 @@ one-name names k x y i e f =
     same-text (named k x) (get_or names i d) (position-Some (is_same (named k x)) names i d e).1
     ∙ sym (same-text (named k y) (get_or names i d) (position-Some (is_same (named k y)) names i d f).1)
 
-module _ (names : List ZoneName) (zones : List (List Phase)) (long : length names ≡ length zones) where
+module _ (names : List ZoneName) (zones : List ZoneSaid) (long : length names ≡ length zones) where
   abbrev known : KnownZones
   known = known_zones names zones
 
@@ -85,9 +85,9 @@ module _ (names : List ZoneName) (zones : List (List Phase)) (long : length name
       below : i < length zones
       below = subst (λ n. i < n) long (position-Some (is_same used) names i used e).0
 
-      by_zone : (o : Option (List Phase)) → slice_get zones i ≡ o → moment_at zones local i ≡ Some (moment_in zones (Some i) (Zoned local))
+      by_zone : (o : Option ZoneSaid) → slice_get zones i ≡ o → moment_at zones local i ≡ Some (moment_in zones (Some i) (Zoned local))
       by_zone (Some z) f = rw f refl
-      by_zone None f = let g = slice_get-get_or zones i [] below in cc
+      by_zone None f = let g = slice_get-get_or zones i (ZoneSaid.ByObservances []) below in cc
 
   not-out : (a b : Option ℤ) (x y : ℤ) → a ≡ Some x → b ≡ Some y → cond (are_out a b) (Some BadEnd) None ≡ None → is_out x y ≡ false
   not-out a b x y e f h =

@@ -10,6 +10,7 @@ use Rattle.ics_zone.specs.Offsets.{IsOffset, zone_offset}
 use Rattle.ics_zone.specs.ZoneBounds.{zone_offset_short}
 use Rattle.ics_zone.proofs.MomentLemmas.{moment_unique, moment_found}
 use Rattle.ics_zone.proofs.OnsetLemmas.{offset_found}
+use Rattle.ics_zone.specs.ZoneSaid.{ZoneSaid}
 use Rattle.ics_calendar.specs.declared.fault.FaultKind.TheVariants.{BadEnd}
 use Rattle.ics_calendar.specs.declared.deferred_check.Instant.TheVariants.{Utc, Zoned}
 use Rattle.ics_calendar.specs.declared.deferred_check.DeferredCheck.TheVariants.{Ends}
@@ -66,7 +67,7 @@ abbrev named : List ℕ → ZoneName
 named name = record { calendar = 1; name = name }
 
 abbrev known : KnownZones
-known = known_zones (named (codes "W") ∷ named (codes "E") ∷ []) ((west ∷ []) ∷ (east ∷ []) ∷ [])
+known = known_zones (named (codes "W") ∷ named (codes "E") ∷ []) (ZoneSaid.ByObservances (west ∷ []) ∷ ZoneSaid.ByObservances (east ∷ []) ∷ [])
 
 west-moment : (local : ℤ) → zone_moment (west ∷ []) local ≡ local -ℤ negsuc 17_999
 unfolding west

@@ -6,6 +6,7 @@ use Rattle.std.specs.Option.{option_and_then}
 use Rattle.ics_text.specs.Bytes.{upper}
 use Rattle.ics_text.specs.Unfolded.{Line, Rises}
 use Rattle.ics_text.specs.Contents.{Parts, content_of}
+use Rattle.ics_zone.specs.ZoneSaid.{ZoneSaid}
 use Rattle.ics_calendar.specs.declared.frame.Frame.{Frame}
 use Rattle.ics_calendar.specs.declared.gathered.EndedEvent.{EndedEvent}
 use Rattle.ics_calendar.specs.declared.gathered.EndedZone.{EndedZone}
@@ -148,7 +149,7 @@ settled-is lines r first =
     let ws : List LineCheck = checks_from whole [] whole in
     let known : KnownZones = zones_on whole in
     ap settled (gathered-is lines r first)
-    ∙ ap (λ ns. settled_by (known_zones ns (map (λ z. z.observances) zs)) (lists zs es ws)) (sym (names-begun whole whole))
+    ∙ ap (λ ns. settled_by (known_zones ns (map (λ z. ZoneSaid.ByObservances z.observances) zs)) (lists zs es ws)) (sym (names-begun whole whole))
     ∙ ap (λ ps. settled_by (known_zones (zone_names whole) ps) (lists zs es ws)) (zones-begun whole whole)
     ∙ ap (λ f. decide None f (record { zones = zones_of whole; events = map (event_of known.index) es })) (judges whole known lines [] [] first)
     ∙ ap (λ es. decide None (later_fault whole) (record { zones = zones_of whole; events = es })) (events-begun known.index whole whole)

@@ -1,21 +1,18 @@
 -- What is gathered of a file, settled: its first fault of the second round, or what it says.
-use Rattle.std.proofs.Common.{◌≡◌, ℕ, ◌<◌, List, [], ◌∷◌, map, length, get_or, refl, sym, ap, ◌∙◌, subst, Option, Some, None}
+use Rattle.std.proofs.Common.{◌≡◌, ℕ, ◌<◌, List, [], ◌∷◌, map, length, get_or, sym, ap, ◌∙◌, subst, Option, Some, None}
 use Rattle.std.specs.List.{All, AllByRecursion, Contains}
 use Rattle.std.specs.Option.{option_map}
 use Rattle.std.proofs.lemmas.List.{length-map}
 use Rattle.std.proofs.lemmas.Option.{slice_get-map, slice_get-get_or}
 use Rattle.std.proofs.lemmas.List.Elements.{All-map, All-contains, All-from_recursion}
-use Rattle.ics_zone.specs.Moments.{zone_moment}
-use Rattle.ics_zone.specs.Observances.{phases_of, Phase}
-use Rattle.ics_zone.specs.declared.observance.Observance.{Observance}
+use Rattle.ics_zone.specs.ZoneSaid.{ZoneSaid, said_moment, zone_said}
+use Rattle.ics_zone.specs.declared.zone.ZoneKind.{ZoneKind}
 use Rattle.ics_values.specs.declared.local.Local.{Local}
-use Rattle.ics_calendar.specs.declared.fault.FaultKind.{FaultKind}
 use Rattle.ics_calendar.specs.declared.gathered.LineCheck.{LineCheck}
 use Rattle.ics_calendar.specs.declared.deferred_check.DeferredCheck.{DeferredCheck}
 use Rattle.ics_calendar.specs.declared.deferred_check.ZoneName.{ZoneName}
 use Rattle.ics_calendar.specs.Builders.{event_of}
 use Rattle.ics_calendar.specs.Event.{AreEventsOf, seconds_of}
-use Rattle.ics_calendar.specs.FirstFault.{Fault, found}
 use Rattle.ics_calendar.specs.Gathered.{known_in, first_judged, IsSoundGathered}
 use Rattle.ics_calendar.specs.GatheredSeen.{GatheredSeen}
 use Rattle.ics_calendar.specs.DeferredChecks.{KnownZones, zone_index, moment_at, judged}
@@ -25,10 +22,10 @@ use Rattle.ics_calendar.proofs.Listed.{each-weaker}
 use Rattle.ics_calendar.proofs.Order.{found-none}
 
 -- a local in the zone with an index
-pub moment-here : (zones : List (List Observance)) (local : Local) (i : ℕ) (d : List Observance) → i < length zones →
-    moment_at (map phases_of zones) local i ≡ Some (zone_moment (phases_of (get_or zones i d)) (seconds_of local))
+pub moment-here : (zones : List ZoneKind) (local : Local) (i : ℕ) (d : ZoneKind) → i < length zones →
+    moment_at (map zone_said zones) local i ≡ Some (said_moment (zone_said (get_or zones i d)) (seconds_of local))
 moment-here zones local i d l =
-    ap (option_map (λ zone. zone_moment zone (seconds_of local))) (slice_get-map phases_of zones i ∙ ap (option_map phases_of) (slice_get-get_or zones i d l))
+    ap (option_map (λ zone. said_moment zone (seconds_of local))) (slice_get-map zone_said zones i ∙ ap (option_map zone_said) (slice_get-get_or zones i d l))
 
 -- THE DEFERRED CHECKS, where none finds a fault.
 none-judged : (known : KnownZones) (ws : List LineCheck) → first_judged known ws ≡ None → AllByRecursion (λ w. judged known w.check ≡ None) ws
@@ -51,11 +48,11 @@ ready g s n =
     }
 
 -- THE ANSWER.
-pub known-is : (g : GatheredSeen) (known : KnownZones) → known.index ≡ zone_index (map (λ z. z.name) g.zones) → known.zones ≡ map (λ z. z.observances) g.zones →
+pub known-is : (g : GatheredSeen) (known : KnownZones) → known.index ≡ zone_index (map (λ z. z.name) g.zones) → known.zones ≡ map (λ z. ZoneSaid.ByObservances z.observances) g.zones →
     known ≡ known_in g
 known-is g known e f =
     ap (λ (i : ZoneName → Option ℕ). record { index = i; zones = known.zones }) e
-    ∙ ap (λ (zs : List (List Phase)). record { index = zone_index (map (λ z. z.name) g.zones); zones = zs }) f
+    ∙ ap (λ (zs : List ZoneSaid). record { index = zone_index (map (λ z. z.name) g.zones); zones = zs }) f
 
 abbrev pub IsSettled : KnownZones → GatheredSeen → Type 0
 IsSettled known g = (known ≡ known_in g) × (first_judged known g.checks ≡ None)
@@ -68,7 +65,7 @@ pub events-here : (g : GatheredSeen) (known : KnownZones) → IsSoundGathered g 
     AreEventsOf known.zones (map (event_of known.index) g.events)
 events-here g known s h =
     let names : List ZoneName = map (λ z. z.name) g.zones in
-    let zones : List (List Phase) = map (λ z. z.observances) g.zones in
-    let long : length names ≡ length zones = length-map g.zones (λ z. z.name) ∙ sym (length-map g.zones (λ z. z.observances)) in
+    let zones : List ZoneSaid = map (λ z. ZoneSaid.ByObservances z.observances) g.zones in
+    let long : length names ≡ length zones = length-map g.zones (λ z. z.name) ∙ sym (length-map g.zones (λ z. ZoneSaid.ByObservances z.observances)) in
     subst (λ (k : KnownZones). AreEventsOf k.zones (map (event_of k.index) g.events)) (sym h.0)
     (events-of names zones long g.events (subst (λ (k : KnownZones). All (IsReady k) g.events) h.0 (ready-here g known s h)))

@@ -16,6 +16,7 @@ use Rattle.ics_calendar.specs.Placed.{Placed, Open, property_name, context_of, i
 use Rattle.ics_calendar.specs.Faults.{first_text}
 use Rattle.ics_calendar.proofs.Built.{zone_of}
 use Rattle.ics_calendar.specs.Builders.{zone_ended}
+use Rattle.ics_zone.specs.ZoneSaid.{ZoneSaid}
 use Rattle.ics_calendar.specs.Zones.{begins_zone, zone_by, name_by}
 use Rattle.ics_calendar.proofs.NameLemmas.{TellsComponent, tells, tells_component, context-in-outside}
 use Rattle.ics_calendar.proofs.EventBuilderLemmas.{parts_at}
@@ -88,9 +89,10 @@ zones-are whole = record {
     reorder false false c = refl
 
 -- THE TIME ZONES, by what is gathered.
-pub zones-begun : (whole ls : List Placed) → map (λ z. z.observances) (begun (zones whole) whole ls) ≡ map (λ l. zone_by whole l.number) (filter begins_zone ls)
+pub zones-begun : (whole ls : List Placed) → map (λ z. ZoneSaid.ByObservances z.observances) (begun (zones whole) whole ls)
+    ≡ map (λ l. ZoneSaid.ByObservances (zone_by whole l.number)) (filter begins_zone ls)
 zones-begun whole ls =
-    map-map (λ (z : EndedZone). z.observances) (λ (l : Placed). (zones whole).by (inside l) (lines_in l.number whole)) (filter begins_zone ls)
+    map-map (λ (z : EndedZone). ZoneSaid.ByObservances z.observances) (λ (l : Placed). (zones whole).by (inside l) (lines_in l.number whole)) (filter begins_zone ls)
 
 -- what begins directly in a calendar belongs to that
 pub calendar-inside : (l : Placed) → is_calendar_context (context_of l.path) ≡ true → calendar_of (inside l) ≡ calendar_of l.path

@@ -6,8 +6,7 @@ use Rattle.std.specs.Str.{bytes_eq}
 use Rattle.ics_values.specs.declared.local.Local.{Local}
 use Rattle.ics_values.specs.declared.stamp.Stamp.{Stamp}
 use Rattle.ics_values.specs.declared.stamp.Stamp.TheVariants as stamp
-use Rattle.ics_zone.specs.Moments.{zone_moment}
-use Rattle.ics_zone.specs.Observances.{Phase}
+use Rattle.ics_zone.specs.ZoneSaid.{ZoneSaid, said_moment}
 use Rattle.ics_calendar.specs.declared.dated.Dated.{Dated}
 use Rattle.ics_calendar.specs.declared.fault.FaultKind.{FaultKind}
 use Rattle.ics_calendar.specs.declared.fault.FaultKind.TheVariants.{BadEnd, UnknownZone}
@@ -30,14 +29,14 @@ zone_index names used = position (is_same used) names
 -- The time zones of a file, and the index of the one that a name stands for.
 pub record KnownZones : Type 0 where
   pub index : ZoneName → Option ℕ
-  pub zones : List (List Phase)
+  pub zones : List ZoneSaid
 
-abbrev pub known_zones : List ZoneName → List (List Phase) → KnownZones
+abbrev pub known_zones : List ZoneName → List ZoneSaid → KnownZones
 known_zones names zones = record { index = zone_index names; zones = zones }
 
 -- the instant that a local means in the zone with an index, and in the one that a name stands for
-abbrev pub moment_at : List (List Phase) → Local → ℕ → Option ℤ
-moment_at zones local index = option_map (λ zone. zone_moment zone (seconds_of local)) (slice_get zones index)
+abbrev pub moment_at : List ZoneSaid → Local → ℕ → Option ℤ
+moment_at zones local index = option_map (λ zone. said_moment zone (seconds_of local)) (slice_get zones index)
 
 abbrev pub moment_there : KnownZones → ZoneName → Local → Option ℤ
 moment_there known name local = option_and_then (moment_at known.zones local) (known.index name)

@@ -7,9 +7,8 @@ use Rattle.ics_values.specs.declared.local.Local.{Local}
 use Rattle.ics_values.specs.declared.duration.Duration.{Duration}
 use Rattle.ics_values.specs.declared.stamp.Stamp.{Stamp}
 use Rattle.ics_values.specs.declared.stamp.Stamp.TheVariants.{Date, Floating, Utc, Zoned}
-use Rattle.ics_zone.specs.Moments.{zone_moment}
-use Rattle.ics_zone.specs.Observances.{Phase, phases_of}
-use Rattle.ics_zone.specs.declared.observance.Observance.{Observance}
+use Rattle.ics_zone.specs.ZoneSaid.{ZoneSaid, said_moment, zone_said}
+use Rattle.ics_zone.specs.declared.zone.ZoneKind.{ZoneKind}
 use Rattle.ics_calendar.specs.declared.time.Time.{Time}
 use Rattle.ics_calendar.specs.declared.time.Length.{Length}
 use Rattle.ics_calendar.specs.declared.time.Length.TheVariants.{Open, Until, Lasting}
@@ -31,18 +30,18 @@ pub record EventSeen : Type 0 where
   pub description : List ℕ
   pub cancelled : Bool
 
--- WHAT A FILE SAYS: its time zones, each by its observances, and its events, each in the order of their BEGIN lines.
+-- WHAT A FILE SAYS: its time zones, and its events, each in the order of their BEGIN lines.
 pub record FileSaid : Type 0 where
-  pub zones : List (List Phase)
+  pub zones : List ZoneSaid
   pub events : List EventSeen
 
--- A file that has been read, with the observances of each zone as they are held.
+-- A file that has been read, with what each zone holds.
 pub record FileSeen : Type 0 where
-  pub zones : List (List Observance)
+  pub zones : List ZoneKind
   pub events : List EventSeen
 
 abbrev pub said_by : FileSeen → FileSaid
-said_by file = record { zones = map phases_of file.zones; events = file.events }
+said_by file = record { zones = map zone_said file.zones; events = file.events }
 
 abbrev pub is_zoned : Stamp → Bool
 is_zoned (Zoned local) = true
@@ -132,12 +131,12 @@ pub record HasZonesBelow (zones : ℕ) (event : EventSeen) : Type 0 where
   pub recurrence : IfSome event.recurrence (TimeBelow zones)
 
 -- the instant that a local means in a zone, if there is one
-abbrev pub moment_by : Option (List Phase) → Local → ℤ
-moment_by (Some zone) local = zone_moment zone (seconds_of local)
+abbrev pub moment_by : Option ZoneSaid → Local → ℤ
+moment_by (Some zone) local = said_moment zone (seconds_of local)
 moment_by None local = seconds_of local
 
 -- the instant of a stamp in UTC, or in one of these zones
-abbrev pub moment_in : List (List Phase) → Option ℕ → Stamp → ℤ
+abbrev pub moment_in : List ZoneSaid → Option ℕ → Stamp → ℤ
 moment_in zones (Some index) (Zoned local) = moment_by (slice_get zones index) local
 moment_in zones _ (Utc local) = seconds_of local
 moment_in zones _ _ = pos 0
@@ -147,21 +146,21 @@ is_one_zone (Some a) (Some b) = a == b
 is_one_zone _ _ = false
 
 -- two times of one zone compare as locals, others as instants
-abbrev pub compared : Bool → List (List Phase) → Time → ℤ
+abbrev pub compared : Bool → List ZoneSaid → Time → ℤ
 compared true zones time = stamp_seconds time.stamp
 compared false zones time = moment_in zones time.zone time.stamp
 
 -- Where DTSTART or DTEND has a zone, the end is within reach of the start.
-abbrev pub EndsWithin : List (List Phase) → Time → Length → Type 0
+abbrev pub EndsWithin : List ZoneSaid → Time → Length → Type 0
 EndsWithin zones start (Until end) =
     (is_some start.zone || is_some end.zone) ≡ true
     → IsWithin (compared (is_one_zone start.zone end.zone) zones start) (compared (is_one_zone start.zone end.zone) zones end)
 EndsWithin zones start _ = Unit {0}
 
 -- What holds of each event of a file with these zones.
-pub record IsEventOf (zones : List (List Phase)) (event : EventSeen) : Type 0 where
+pub record IsEventOf (zones : List ZoneSaid) (event : EventSeen) : Type 0 where
   pub below : HasZonesBelow (length zones) event
   pub short : EndsWithin zones event.start event.length
 
-abbrev pub AreEventsOf : List (List Phase) → List EventSeen → Type 0
+abbrev pub AreEventsOf : List ZoneSaid → List EventSeen → Type 0
 AreEventsOf zones events = All (IsEventOf zones) events

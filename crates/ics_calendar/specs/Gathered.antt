@@ -2,6 +2,7 @@
 use Rattle.std.specs.Prelude.{ℕ, List, [], ◌∷◌, ◌++◌, Option, Some, None, map, filter_map, Result, Ok, Err}
 use Rattle.std.specs.List.{All, Contains}
 use Rattle.ics_values.specs.Stamps.{IsStampDay}
+use Rattle.ics_zone.specs.ZoneSaid.{ZoneSaid}
 use Rattle.ics_calendar.specs.declared.deferred_check.DeferredCheck.{DeferredCheck}
 use Rattle.ics_calendar.specs.declared.deferred_check.DeferredCheck.TheVariants.{Ends}
 use Rattle.ics_calendar.specs.declared.deferred_check.Instant.{Instant}
@@ -50,7 +51,7 @@ and_passed number p had = record {
 }
 
 abbrev pub known_in : GatheredSeen → KnownZones
-known_in g = known_zones (map (λ z. z.name) g.zones) (map (λ z. z.observances) g.zones)
+known_in g = known_zones (map (λ z. z.name) g.zones) (map (λ z. ZoneSaid.ByObservances z.observances) g.zones)
 
 -- the first of the deferred checks that finds a fault
 abbrev pub first_judged : KnownZones → List LineCheck → Option Fault

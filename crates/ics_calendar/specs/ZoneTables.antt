@@ -4,7 +4,7 @@ use Rattle.std.specs.BTreeMap.{get}
 use Rattle.std.specs.Cmp.Lexicographic.{slice_cmp}
 use Rattle.std.specs.Ordering.{nat_cmp, on, then_cmp}
 use Rattle.std.specs.declared.cmp.Ordering.{Ordering}
-use Rattle.ics_zone.specs.Observances.{phases_of}
+use Rattle.ics_zone.specs.ZoneSaid.{zone_said}
 use Rattle.ics_calendar.specs.declared.deferred_check.ZoneName.{ZoneName}
 use Rattle.ics_calendar.specs.declared.zone_table.ZoneTable.{ZoneTable}
 use Rattle.ics_calendar.specs.DeferredChecks.{KnownZones, is_same}
@@ -15,7 +15,7 @@ name_cmp = then_cmp (on (λ n. n.calendar) nat_cmp) (on (λ n. n.name) (slice_cm
 
 -- the zones that a table has, and the index that it gives for a name
 abbrev pub known_by : ZoneTable → KnownZones
-known_by table = record { index = get name_cmp table.places; zones = map phases_of table.zones.items }
+known_by table = record { index = get name_cmp table.places; zones = map zone_said table.zones.items }
 
 -- with a zone at that place more, unless there is one of its name
 abbrev pub put_first : (ZoneName → Option ℕ) → ZoneName → ℕ → ZoneName → Option ℕ

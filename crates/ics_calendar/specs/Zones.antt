@@ -13,6 +13,7 @@ use Rattle.ics_values.specs.declared.stamp.Stamp.{Stamp}
 use Rattle.ics_values.specs.declared.stamp.Stamp.TheVariants.{Floating}
 use Rattle.ics_values.specs.declared.stamp.StampFault.{StampFault}
 use Rattle.ics_zone.specs.Observances.{Phase}
+use Rattle.ics_zone.specs.ZoneSaid.{ZoneSaid}
 use Rattle.ics_calendar.specs.declared.date_values.DateValue.{DateValue}
 use Rattle.ics_calendar.specs.declared.date_values.DateValue.TheVariants.{At}
 use Rattle.ics_calendar.specs.declared.deferred_check.ZoneName.{ZoneName}
@@ -73,8 +74,8 @@ abbrev pub zone_by : List Placed → ℕ → List Phase
 zone_by lines begun = map (λ l. phase_by (lines_in l.number lines)) (filter begins_phase (lines_in begun lines))
 
 -- The time zones of all calendars, in the order of their BEGIN lines.
-abbrev pub zones_of : List Placed → List (List Phase)
-zones_of lines = map (λ l. zone_by lines l.number) (filter begins_zone lines)
+abbrev pub zones_of : List Placed → List ZoneSaid
+zones_of lines = map (λ l. ZoneSaid.ByObservances (zone_by lines l.number)) (filter begins_zone lines)
 
 -- the TZID of the zone that begins on a line, in its calendar
 abbrev pub name_by : List Placed → Placed → ZoneName

@@ -14,12 +14,12 @@ pub struct FileEvents {
 
 impl Model for FileEvents {
     ghost use Rattle.std.specs.Prelude.{map};
-    ghost use Rattle.ics_zone.specs.Observances.{phases_of};
+    ghost use Rattle.ics_zone.specs.ZoneSaid.{zone_said};
     ghost use Rattle.ics_calendar.specs.Event.{FileSeen, AreEventsOf};
 
     ghost Value = { FileSeen };
 
     ghost view = { λ a. record { zones = a.zones.items; events = a.events.items } };
 
-    ghost invariant = { λ a. AreEventsOf (map phases_of a.zones.items) a.events.items };
+    ghost invariant = { λ a. AreEventsOf (map zone_said a.zones.items) a.events.items };
 }

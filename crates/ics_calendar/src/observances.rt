@@ -2,6 +2,7 @@
 ghost use Rattle.std.specs.Prelude.{◌≡◌, ◌≢◌, ◌==◌, ◌++◌, ◌∷◌, [], length, false, IfOk};
 ghost use Rattle.std.specs.List.{All, list_any};
 ghost use Rattle.ics_zone.specs.Observances.{phase_of, phases_of, has_finer_rule};
+ghost use Rattle.ics_zone.specs.ZoneSaid.{ZoneSaid, zone_said};
 ghost use Rattle.ics_calendar.specs.ZonesSound.{IsSoundPhase, IsSoundZone};
 
 use crate::locals::Locals;
@@ -64,7 +65,7 @@ impl EndedObservance {
 fn zone_of(alloc: Global, observances: Vec<Observance>) -> Result<Zone, AllocError>
     requires filled { observances.items ≢ [] }
     requires daily { list_any has_finer_rule (phases_of observances.items) ≡ false }
-    ensures { IfOk result (λ zone. zone ≡ observances.items) }
+    ensures { IfOk result (λ zone. zone_said zone ≡ ZoneSaid.ByObservances (phases_of observances.items)) }
 {
     match Zone::read(alloc, observances) {
         Ok(zone) => Ok(zone),
@@ -113,7 +114,7 @@ impl Observances {
     /// The time zone with these observances, where no fault stands on its lines.
     pub fn into_zone(self, alloc: Global) -> Result<Zone, AllocError>
         requires { IsSoundZone self }
-        ensures { IfOk result (λ zone. phases_of zone ≡ self) }
+        ensures { IfOk result (λ zone. zone_said zone ≡ ZoneSaid.ByObservances self) }
     {
         zone_of(alloc, self.into_observances(alloc)?)
     }

@@ -3,7 +3,7 @@ ghost use Rattle.std.specs.Prelude.{◌≡◌, map, IfOk, OnOk};
 ghost use Rattle.std.specs.BTreeMap.{get};
 ghost use Rattle.std.specs.List.{All};
 ghost use Rattle.ics_values.specs.Stamps.{IsStampDay};
-ghost use Rattle.ics_zone.specs.Observances.{phases_of};
+ghost use Rattle.ics_zone.specs.ZoneSaid.{ZoneSaid, zone_said};
 ghost use Rattle.ics_calendar.specs.declared.deferred_check.ZoneName.{ZoneName};
 ghost use Rattle.ics_calendar.specs.DeferredChecks.{zone_index, moment_at};
 ghost use Rattle.ics_calendar.specs.ZonesSound.{IsSoundZone};
@@ -58,7 +58,7 @@ impl ZoneTable {
     pub fn new(alloc: Global, zones: Vec<EndedZone>) -> Result<ZoneTable, AllocError>
         requires { All (λ z. IsSoundZone z.observances) zones.items }
         ensures index { IfOk result (λ table. (known_by table).index ≡ zone_index (map (λ z. z.name) zones.items)) }
-        ensures zones { IfOk result (λ table. (known_by table).zones ≡ map (λ z. z.observances) zones.items) }
+        ensures zones { IfOk result (λ table. (known_by table).zones ≡ map (λ z. ZoneSaid.ByObservances z.observances) zones.items) }
     {
         let mut names = Vec::new(alloc);
         let mut made = Vec::new(alloc);
@@ -94,7 +94,7 @@ impl ZoneTable {
 
     /// The zones.
     pub fn into_zones(self) -> Vec<Zone>
-        ensures { map phases_of result.items ≡ (known_by self).zones }
+        ensures { map zone_said result.items ≡ (known_by self).zones }
     {
         self.zones
     }

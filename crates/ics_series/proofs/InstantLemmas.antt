@@ -14,10 +14,10 @@ use Rattle.ics_calendar.specs.declared.time.Length.TheVariants.{Open, Lasting, U
 use Rattle.ics_calendar.specs.Event.{compared, is_one_zone, stamp_seconds, EndsWithin, IsEnd, IsLength, IsTime, IsWithin, is_zoned, moment_by}
 use Rattle.ics_zone.specs.Displays.{moment_of}
 use Rattle.ics_zone.specs.Near.{moment_near, offset_near}
-use Rattle.ics_zone.specs.Observances.{phases_of, Phase}
+use Rattle.ics_zone.specs.ZoneSaid.{ZoneSaid, zone_said}
 use Rattle.ics_zone.specs.Places.{IsNear}
-use Rattle.ics_zone.specs.declared.observance.Observance.{Observance}
-use Rattle.ics_zone.specs.ZoneBounds.{zone_moment_near, zone_offset_near}
+use Rattle.ics_zone.specs.declared.zone.ZoneKind.{ZoneKind}
+use Rattle.ics_zone.specs.ZoneBounds.{said_moment_near, said_offset_near}
 use Rattle.ics_zone.specs.Zones.{zone_of}
 use Rattle.ics_zone.specs.declared.display.Display.{Display}
 use Rattle.ics_series.specs.declared.zones.FileZones.{FileZones}
@@ -33,19 +33,19 @@ pub record IsNearClock (clock : Clock) : Type 0 where
 near-utc : IsNearClock utc_clock
 near-utc = record { moment = λ x. (omega (arith, ints), omega (arith, ints)); offset = λ t. (omega (arith, ints), omega (arith, ints)) }
 
-near-zone : (zone : List Observance) → IsNearClock (zone_clock (phases_of zone))
-near-zone zone = record { moment = zone_moment_near zone; offset = zone_offset_near zone }
+near-zone : (zone : ZoneKind) → IsNearClock (zone_clock (zone_said zone))
+near-zone zone = record { moment = said_moment_near zone; offset = said_offset_near zone }
 
 near-display : (display : Display) → IsNearClock (display_clock display)
 near-display display = record { moment = moment_near (zone_of display); offset = offset_near (zone_of display) }
 
-near-at : (zones : List (List Observance)) (zone : Option ℕ) → IsNearClock (clock_at (map zone_clock (map phases_of zones)) zone)
+near-at : (zones : List ZoneKind) (zone : Option ℕ) → IsNearClock (clock_at (map zone_clock (map zone_said zones)) zone)
 near-at zones None = near-utc
 near-at [] (Some zone) = near-utc
 near-at (z ∷ zones) (Some zero) = near-zone z
 near-at (z ∷ zones) (Some (suc zone)) = near-at zones (Some zone)
 
-near-by : (display : Display) (zones : List (List Observance)) (index : Option ℕ) (s : Stamp) → IsNearClock (clock_by (clocks_of (display_clock display) (map phases_of zones)) index s)
+near-by : (display : Display) (zones : List ZoneKind) (index : Option ℕ) (s : Stamp) → IsNearClock (clock_by (clocks_of (display_clock display) (map zone_said zones)) index s)
 near-by display zones index (Date day) = near-display display
 near-by display zones index (Floating local) = near-display display
 near-by display zones index (Utc local) = near-utc
@@ -55,7 +55,7 @@ pub near-clock : (zones : FileZones) (index : Option ℕ) (s : Stamp) → IsNear
 near-clock zones = near-by zones.display.now zones.zones.now
 
 -- an instant lies less than two days from what its stamp writes
-near-written : (display : Display) (zones : List (List Observance)) (time : Time) → IsNear (instant (clocks_of (display_clock display) (map phases_of zones)) time -ℤ written time.stamp)
+near-written : (display : Display) (zones : List ZoneKind) (time : Time) → IsNear (instant (clocks_of (display_clock display) (map zone_said zones)) time -ℤ written time.stamp)
 near-written display zones time = (near-by display zones time.zone time.stamp).moment (written time.stamp)
 
 pub instant-near : (zones : FileZones) (time : Time) → IsNear (instant (clocks_in zones) time -ℤ written time.stamp)
@@ -131,7 +131,7 @@ end-within (Utc a) (Zoned b) k z y = let f : true ≡ false = y in absurd cc
 end-within (Zoned a) e k z y = let f : true ≡ false = z in absurd cc
 
 -- the instant that a local means by its index
-zone-moment : (zones : List (List Phase)) (index : ℕ) (local : Local) → (clock_at (map zone_clock zones) (Some index)).moment (seconds_of local) ≡ moment_by (slice_get zones index) local
+zone-moment : (zones : List ZoneSaid) (index : ℕ) (local : Local) → (clock_at (map zone_clock zones) (Some index)).moment (seconds_of local) ≡ moment_by (slice_get zones index) local
 zone-moment [] index local = refl
 zone-moment (z ∷ zones) zero local = refl
 zone-moment (z ∷ zones) (suc index) local = zone-moment zones index local
@@ -146,8 +146,8 @@ module _ (zones : FileZones) where
       let within = end-within s e k z y in
       omega (arith, ints, within, (near-clock zones i s).moment (written s), (near-clock zones j e).moment (written e))
 
-  abbrev own : List (List Phase)
-  own = map phases_of zones.zones.now
+  abbrev own : List ZoneSaid
+  own = map zone_said zones.zones.now
 
   abbrev time_by : Option ℕ → Stamp → Time
   time_by index s = record { stamp = s; zone = index }

@@ -10,8 +10,8 @@ use Rattle.ics_calendar.specs.declared.event.Event.{Event}
 use Rattle.ics_calendar.specs.declared.time.Length.{Length}
 use Rattle.ics_calendar.specs.declared.time.Length.TheVariants.{Open, Until, Lasting}
 use Rattle.ics_calendar.specs.declared.time.Rdate.{Rdate}
-use Rattle.ics_zone.specs.Observances.{phases_of}
-use Rattle.ics_zone.specs.declared.observance.Observance.{Observance}
+use Rattle.ics_zone.specs.ZoneSaid.{zone_said}
+use Rattle.ics_zone.specs.declared.zone.ZoneKind.{ZoneKind}
 use Rattle.ics_series.specs.declared.start.Giver.{Giver}
 use Rattle.ics_series.specs.declared.zones.FileZones.{FileZones}
 use Rattle.ics_series.specs.Clocks.{utc_clock, zone_clock}
@@ -20,9 +20,9 @@ use Rattle.ics_series.specs.Zones.{clocks_in, IsEndOf, IsOwnEvent, IsTimeOf}
 use Rattle.ics_series.proofs.GiverLemmas.{gives-below, gives-value, rdate-below, rdate-time}
 use Rattle.ics_series.proofs.InstantLemmas.{ends-near}
 
-pub clock-there : (zones : List (List Observance)) (i : ℕ) (d : List Observance) → i < length zones → zone_clock (phases_of (get_or zones i d)) ≡ get_or (map zone_clock (map phases_of zones)) i utc_clock
+pub clock-there : (zones : List ZoneKind) (i : ℕ) (d : ZoneKind) → i < length zones → zone_clock (zone_said (get_or zones i d)) ≡ get_or (map zone_clock (map zone_said zones)) i utc_clock
 clock-there zones i d l =
-    ap zone_clock (sym (get_or-map phases_of zones i d [] l)) ∙ sym (get_or-map zone_clock (map phases_of zones) i [] utc_clock (subst (λ n. i < n) (sym (length-map zones phases_of)) l))
+    ap zone_clock (sym (get_or-map zone_said zones i d (zone_said d) l)) ∙ sym (get_or-map zone_clock (map zone_said zones) i (zone_said d) utc_clock (subst (λ n. i < n) (sym (length-map zones zone_said)) l))
 
 no-suc : (n : ℕ) → (suc n == 0) ≡ true → ⊥
 no-suc n e = grind (arith, nat_tests)
@@ -42,15 +42,15 @@ given-time zones event giver given h g = record {
   within = rdate-below (length zones.zones.now) given (gives-below (length zones.zones.now) (clocks_in zones) event giver given h.below g);
 }
 
-end-of : (zones : List (List Observance)) (first : Stamp) (lasts : Length) → IsLength first lasts → EndsBelow (length zones) lasts → IsEndOf zones lasts
+end-of : (zones : List ZoneKind) (first : Stamp) (lasts : Length) → IsLength first lasts → EndsBelow (length zones) lasts → IsEndOf zones lasts
 end-of zones first Open l b = tt
 end-of zones first (Lasting duration) l b = tt
 end-of zones first (Until end) l b = record { is_time = l.0; within = b }
 
 -- an event of the file
-pub own-event : (zones : FileZones) (event : Event) → IsEvent event → IsEventOf (map phases_of zones.zones.now) event → IsOwnEvent zones event
+pub own-event : (zones : FileZones) (event : Event) → IsEvent event → IsEventOf (map zone_said zones.zones.now) event → IsOwnEvent zones event
 own-event zones event h own =
-    let below : HasZonesBelow (length zones.zones.now) event = subst (λ n. HasZonesBelow n event) (length-map zones.zones.now phases_of) own.below in
+    let below : HasZonesBelow (length zones.zones.now) event = subst (λ n. HasZonesBelow n event) (length-map zones.zones.now zone_said) own.below in
     record {
       start = record { is_time = h.start; within = below.start };
       end = end-of zones.zones.now event.start.stamp event.length h.length below.length;

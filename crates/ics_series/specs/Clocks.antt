@@ -6,9 +6,7 @@ use Rattle.ics_values.specs.declared.stamp.Stamp.{Stamp}
 use Rattle.ics_values.specs.declared.stamp.Stamp.TheVariants.{Date, Floating, Utc, Zoned}
 use Rattle.ics_calendar.specs.declared.time.Time.{Time}
 use Rattle.ics_zone.specs.Displays.{offset_of, moment_of}
-use Rattle.ics_zone.specs.Moments.{zone_moment}
-use Rattle.ics_zone.specs.Observances.{Phase}
-use Rattle.ics_zone.specs.Offsets.{zone_offset}
+use Rattle.ics_zone.specs.ZoneSaid.{ZoneSaid, said_moment, said_offset}
 use Rattle.ics_zone.specs.Places.{local_seconds}
 use Rattle.ics_zone.specs.Zones.{zone_of}
 use Rattle.ics_zone.specs.declared.display.Display.{Display}
@@ -24,15 +22,15 @@ utc_clock = record { moment = λ local. local; offset = λ t. pos 0 }
 abbrev pub display_clock : Display → Clock
 display_clock display = record { moment = moment_of (zone_of display); offset = offset_of (zone_of display) }
 
-abbrev pub zone_clock : List Phase → Clock
-zone_clock zone = record { moment = zone_moment zone; offset = zone_offset zone }
+abbrev pub zone_clock : ZoneSaid → Clock
+zone_clock zone = record { moment = said_moment zone; offset = said_offset zone }
 
 -- the clocks by which the times of a file are read: that of the display zone, and those of the file's own zones
 pub record Clocks : Type 0 where
   pub display : Clock
   pub zones : List Clock
 
-abbrev pub clocks_of : Clock → List (List Phase) → Clocks
+abbrev pub clocks_of : Clock → List ZoneSaid → Clocks
 clocks_of display zones = record { display = display; zones = map zone_clock zones }
 
 -- what a clock shows at an instant

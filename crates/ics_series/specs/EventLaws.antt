@@ -11,15 +11,15 @@ use Rattle.ics_calendar.specs.declared.time.Length.TheVariants.{Open, Until, Las
 use Rattle.ics_calendar.specs.declared.time.Rdate.{Rdate}
 use Rattle.ics_calendar.specs.declared.time.Rdate.TheVariants.{At, Span}
 use Rattle.ics_calendar.specs.declared.time.Time.{Time}
-use Rattle.ics_zone.specs.declared.observance.Observance.{Observance}
+use Rattle.ics_zone.specs.declared.zone.ZoneKind.{ZoneKind}
 use Rattle.ics_series.specs.Clocks.{Clocks}
 use Rattle.ics_series.specs.Zones.{EndsNear, IsEndOf, IsOwnEvent, IsTimeOf}
 use Rattle.ics_series.specs.declared.zones.FileZones.{FileZones}
 
-pub time-prop : (zones : List (List Observance)) (time : Time) → IsProp (IsTimeOf zones time)
+pub time-prop : (zones : List ZoneKind) (time : Time) → IsProp (IsTimeOf zones time)
 time-prop zones time = hlevel props
 
-end-of-prop : (zones : List (List Observance)) (length : Length) → IsProp (IsEndOf zones length)
+end-of-prop : (zones : List ZoneKind) (length : Length) → IsProp (IsEndOf zones length)
 end-of-prop zones Open = Unit-prop
 end-of-prop zones (Until end) = time-prop zones end
 end-of-prop zones (Lasting duration) = Unit-prop

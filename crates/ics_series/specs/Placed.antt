@@ -4,7 +4,7 @@ use Rattle.std.specs.Ordering.{nat_cmp, on, then_cmp}
 use Rattle.std.specs.declared.cmp.Ordering.{Ordering}
 use Rattle.ics_calendar.specs.Event.{FileSaid}
 use Rattle.ics_calendar.specs.declared.event.Event.{Event}
-use Rattle.ics_zone.specs.Observances.{Phase}
+use Rattle.ics_zone.specs.ZoneSaid.{ZoneSaid}
 use Rattle.ics_series.specs.Clocks.{Clock, Clocks, clocks_of}
 
 -- an event, the number of its file and its place in the file
@@ -22,11 +22,11 @@ abbrev pub placed_cmp : Placed → Placed → Ordering
 placed_cmp = then_cmp (on (λ p. p.event.sequence) nat_cmp) (then_cmp (on (λ p. p.file) nat_cmp) (on (λ p. p.place) nat_cmp))
 
 -- the zones of the file with this number
-abbrev pub zones_of : Option FileSaid → List (List Phase)
+abbrev pub zones_of : Option FileSaid → List ZoneSaid
 zones_of (Some f) = f.zones
 zones_of None = []
 
-abbrev pub zones_in : List FileSaid → ℕ → List (List Phase)
+abbrev pub zones_in : List FileSaid → ℕ → List ZoneSaid
 zones_in files file = zones_of (slice_get files file)
 
 -- the clocks by which the times of a file are read

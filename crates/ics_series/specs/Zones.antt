@@ -5,32 +5,32 @@ use Rattle.ics_calendar.specs.declared.event.Event.{Event}
 use Rattle.ics_calendar.specs.declared.time.Time.{Time}
 use Rattle.ics_calendar.specs.declared.time.Length.{Length}
 use Rattle.ics_calendar.specs.declared.time.Length.TheVariants.{Until}
-use Rattle.ics_zone.specs.Observances.{phases_of}
-use Rattle.ics_zone.specs.declared.observance.Observance.{Observance}
+use Rattle.ics_zone.specs.ZoneSaid.{zone_said}
+use Rattle.ics_zone.specs.declared.zone.ZoneKind.{ZoneKind}
 use Rattle.ics_series.specs.declared.window.Window.{Window}
 use Rattle.ics_series.specs.declared.zones.FileZones.{FileZones}
 use Rattle.ics_series.specs.Clocks.{Clocks, clocks_of, display_clock, instant, written}
 
 abbrev pub clocks_in : FileZones → Clocks
-clocks_in zones = clocks_of (display_clock zones.display.now) (map phases_of zones.zones.now)
+clocks_in zones = clocks_of (display_clock zones.display.now) (map zone_said zones.zones.now)
 
 -- the local of a time is two days or more past the window's end; the time is then after that in every zone
 abbrev pub is_past : Window → Time → Bool
 is_past w time = int_le (w.to +ℤ pos 172_800) (written time.stamp)
 
 -- the zone of a time is one of these, and that of an end
-abbrev pub HasZoneIn : List (List Observance) → Time → Type 0
+abbrev pub HasZoneIn : List ZoneKind → Time → Type 0
 HasZoneIn zones time = TimeBelow (length zones) time
 
-abbrev pub HasEndIn : List (List Observance) → Length → Type 0
+abbrev pub HasEndIn : List ZoneKind → Length → Type 0
 HasEndIn zones lasts = EndsBelow (length zones) lasts
 
 -- a time of a file with these zones
-pub record IsTimeOf (zones : List (List Observance)) (time : Time) : Type 0 where
+pub record IsTimeOf (zones : List ZoneKind) (time : Time) : Type 0 where
   pub is_time : IsTime time
   pub within : HasZoneIn zones time
 
-abbrev pub IsEndOf : List (List Observance) → Length → Type 0
+abbrev pub IsEndOf : List ZoneKind → Length → Type 0
 IsEndOf zones (Until end) = IsTimeOf zones end
 IsEndOf zones _ = Unit {0}
 

@@ -31,7 +31,7 @@ impl<'a> Single<'a> {
     ghost use Rattle.std.specs.Prelude.{map};
     ghost use Rattle.std.specs.Option.{option_map};
     ghost use Rattle.ics_calendar.specs.Event.{IsEventOf};
-    ghost use Rattle.ics_zone.specs.Observances.{phases_of};
+    ghost use Rattle.ics_zone.specs.ZoneSaid.{zone_said};
     ghost use Rattle.ics_series.specs.Entry.{entry_cmp, entry_of};
     ghost use Rattle.ics_series.specs.Found.{IsStart};
     ghost use Rattle.ics_series.specs.Singles.{begun_first, single_entry};
@@ -44,7 +44,7 @@ impl<'a> Single<'a> {
         recurrence: Option<Moment>,
         window: &Window,
     ) -> Option<Single<'a>>
-        requires { IsEventOf (map phases_of zones.zones.now) event.now }
+        requires { IsEventOf (map zone_said zones.zones.now) event.now }
         ensures { option_map single_entry result ≡ begun_first (clocks_in zones.entry) window.now event.entry.now recurrence }
     {
         let start = instant(zones, event.start);

@@ -18,7 +18,7 @@ impl Spot {
     ghost use Rattle.ics_series.specs.Placed.{clocks_at, zones_in};
     ghost use Rattle.ics_series.specs.Spots.{event_at};
     ghost use Rattle.ics_series.specs.Zones.{clocks_in};
-    ghost use Rattle.ics_zone.specs.Observances.{phases_of};
+    ghost use Rattle.ics_zone.specs.ZoneSaid.{zone_said};
 
     // The event at this place.
     pub(crate) fn event<'a>(self, files: &'a [FileEvents]) -> &'a Event
@@ -33,7 +33,7 @@ impl Spot {
     // The zones by which the times of the event are read.
     pub(crate) fn zones<'a>(self, files: &'a [FileEvents], display: &'a Display) -> FileZones<'a>
         requires { IsSome (event_at (map said_by files.now) self) }
-        ensures zones { map phases_of result.zones.now ≡ zones_in (map said_by files.entry.now) self.file }
+        ensures zones { map zone_said result.zones.now ≡ zones_in (map said_by files.entry.now) self.file }
         ensures clocks { clocks_in result
             ≡ clocks_at (map said_by files.entry.now) (display_clock display.entry.now) self.file }
     {

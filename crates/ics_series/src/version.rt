@@ -5,7 +5,7 @@ ghost use Rattle.ics_series.specs.Chosen.{overridden};
 ghost use Rattle.ics_series.specs.Clocks.{display_clock};
 ghost use Rattle.ics_series.specs.Versions.{label_by, label_of, placed_from, placed_in, seen};
 ghost use Rattle.ics_series.specs.Zones.{clocks_in};
-ghost use Rattle.ics_zone.specs.Observances.{phases_of};
+ghost use Rattle.ics_zone.specs.ZoneSaid.{zone_said};
 
 use crate::instant::instant;
 use crate::spot::Spot;
@@ -58,7 +58,7 @@ fn push_versions<'a>(
     zones: FileZones<'_>,
     events: &'a [Event],
 ) -> Result<(), AllocError>
-    requires own { AreEventsOf (map phases_of zones.zones.now) events.now }
+    requires own { AreEventsOf (map zone_said zones.zones.now) events.now }
     ensures { IfOk result (λ _. map seen versions.new.items
         ≡ map seen versions.old.items ++ map (label_by (clocks_in zones.entry)) (placed_from file 0 events.entry.now)) }
 {
@@ -78,7 +78,7 @@ fn push_versions<'a>(
 
 // The instance of its UID that an event overrides.
 fn overridden(zones: FileZones<'_>, event: &Event) -> Option<Moment>
-    requires own { IsEventOf (map phases_of zones.zones.now) event.now }
+    requires own { IsEventOf (map zone_said zones.zones.now) event.now }
     ensures { result ≡ overridden (clocks_in zones.entry) event.now }
 {
     match event.recurrence {

@@ -1,7 +1,7 @@
 //! The zones by which the times of a file are read.
 ghost use Rattle.std.specs.Prelude.{◌≡◌, IsSome};
 ghost use Rattle.ics_series.specs.Clocks.{clock_at, zone_clock};
-ghost use Rattle.ics_zone.specs.Observances.{phases_of};
+ghost use Rattle.ics_zone.specs.ZoneSaid.{zone_said};
 ghost use Rattle.ics_series.specs.Zones.{clocks_in, HasZoneIn};
 
 use ics_calendar::Time;
@@ -19,7 +19,7 @@ impl<'a> FileZones<'a> {
     pub(crate) fn zone_of(self, time: Time) -> &'a Zone
         requires some { IsSome time.zone }
         requires within { HasZoneIn self.zones.now time }
-        ensures { zone_clock (phases_of result.now) ≡ clock_at (clocks_in self.entry).zones time.zone }
+        ensures { zone_clock (zone_said result.now) ≡ clock_at (clocks_in self.entry).zones time.zone }
     {
         &self.zones[time.zone.unwrap() as usize]
     }

@@ -1,5 +1,5 @@
 use Rattle.std.proofs.Common.{◌≡◌, List, sym, ap, ◌∙◌, subst, Option, None, Ok}
-use Rattle.ics_zone.specs.Observances.{Phase}
+use Rattle.ics_zone.specs.ZoneSaid.{ZoneSaid}
 use Rattle.ics_calendar.specs.Event.{EventSeen, AreEventsOf}
 use Rattle.ics_calendar.specs.Files.{decide}
 use Rattle.ics_calendar.specs.FirstFault.{Fault}
@@ -31,7 +31,7 @@ invariant_of-result c =
     let g : GatheredSeen = record { zones = c.gathered.inside.zones.items; events = c.gathered.inside.events.items; checks = c.gathered.inside.checks.items } in
     let known : KnownZones = known_by c.in_ok-table.table in
     let judged : c.first_judged.result ≡ first_judged known g.checks = c.first_judged.ensures ∙ ap (first_judged known) c.deref.ensures.value in
-    subst (λ (zs : List (List Phase)). AreEventsOf zs c.in_ok-events.events.items) (sym c.into_zones.ensures)
+    subst (λ (zs : List ZoneSaid). AreEventsOf zs c.in_ok-events.events.items) (sym c.into_zones.ensures)
     (subst (λ (es : List EventSeen). AreEventsOf known.zones es) (sym c.in_ok-events.ensures)
     (events-here g known (subst IsSoundGathered (sym c.gathered.view_is) c.requires)
     (known-is g known c.in_ok-table.ensures.index c.in_ok-table.ensures.zones, sym judged ∙ c.in_default.is)))
@@ -41,7 +41,7 @@ returns c =
     let g : GatheredSeen = record { zones = c.gathered.inside.zones.items; events = c.gathered.inside.events.items; checks = c.gathered.inside.checks.items } in
     let known : KnownZones = known_by c.in_ok-table.table in
     let judged : c.first_judged.result ≡ first_judged known g.checks = c.first_judged.ensures ∙ ap (first_judged known) c.deref.ensures.value in
-    ap (λ (zs : List (List Phase)). Ok (record { zones = zs; events = c.in_ok-events.events.items })) c.into_zones.ensures
+    ap (λ (zs : List ZoneSaid). Ok (record { zones = zs; events = c.in_ok-events.events.items })) c.into_zones.ensures
     ∙ ap (λ (es : List EventSeen). Ok (record { zones = known.zones; events = es })) c.in_ok-events.ensures
     ∙ ap (λ (o : Option Fault). decide None o (said_of_gathered known g)) (sym c.in_default.is ∙ judged)
     ∙ ap (λ (k : KnownZones). settled_by k g) (known-is g known c.in_ok-table.ensures.index c.in_ok-table.ensures.zones)

@@ -3,7 +3,7 @@ use Rattle.std.proofs.lemmas.List.{set-get_or}
 use Rattle.ics_calendar.specs.contracts.events.FileEvents.{the_view}
 use Rattle.ics_calendar.specs.Event.{AreEventsOf}
 use Rattle.ics_calendar.specs.declared.events.FileEvents.{FileEvents}
-use Rattle.ics_zone.specs.Observances.{phases_of}
+use Rattle.ics_zone.specs.ZoneSaid.{zone_said}
 use Rattle.ics_series.proofs.prepare.prepare_named.Goals as goal
 use Rattle.ics_series.proofs.prepare.prepare_named.Goals.{in-Some+in-Some-get_mut, in-Some+in_default-get_mut, in_default}
 
@@ -11,7 +11,7 @@ pub loop-k-init : goal.loop-k-init
 loop-k-init c = c.file.view_is
 
 pub invariant_of-file : goal.invariant_of-file
-invariant_of-file c = subst (λ (f : FileEvents). AreEventsOf (map phases_of f.zones) f.events) (c.file.view_is ∙ sym c.loop-k.invariant) c.file.invariant
+invariant_of-file c = subst (λ (f : FileEvents). AreEventsOf (map zone_said f.zones) f.events) (c.file.view_is ∙ sym c.loop-k.invariant) c.file.invariant
 
 pub index-requires : goal.index-requires
 index-requires c =
