@@ -42,3 +42,5 @@ mod PlaceLemmas
 mod FlatLemmas
 mod SizeLemmas
 mod EvenLemmas
+mod CycleLemmas
+mod CalendarRounds

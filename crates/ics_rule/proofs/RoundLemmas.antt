@@ -57,7 +57,7 @@ clock_alike q n m h i s = ap (λ x. x && lets q.minutes (minute_of n) && lets q.
 free : (s a b : ℕ) → is_none s ≡ true → lets s a ≡ lets s b
 free s a b h = absent_in (is_none s) (has s a) h ∙ sym (absent_in (is_none s) (has s b) h)
 
-let_in_alike : (q : Filled) (n m : ℕ) → lets_date q (day_of n) ≡ lets_date q (day_of m) → lets_clock q n ≡ lets_clock q m → (lets_date q (day_of n) && lets_clock q n) ≡ (lets_date q (day_of m) && lets_clock q m)
+pub let_in_alike : (q : Filled) (n m : ℕ) → lets_date q (day_of n) ≡ lets_date q (day_of m) → lets_clock q n ≡ lets_clock q m → (lets_date q (day_of n) && lets_clock q n) ≡ (lets_date q (day_of m) && lets_clock q m)
 let_in_alike q n m d c = ap (λ x. x && lets_clock q n) d ∙ ap (λ x. lets_date q (day_of m) && x) c
 
 module _ (q : Filled) (alone : names_weekdays_alone q ≡ true) where

@@ -1,5 +1,5 @@
 -- Rounds of periods. After a round, what a rule chooses repeats.
-use Rattle.std.specs.Prelude.{◌≡◌, ℕ, ◌+◌, ◌-◌, ◌*◌, ◌<◌, ◌≤◌, ◌&&◌, Some, true, false}
+use Rattle.std.specs.Prelude.{◌≡◌, ℕ, ◌+◌, ◌-◌, ◌*◌, ◌%◌, ◌<◌, ◌≤◌, ◌&&◌, Some, true, false}
 use Rattle.jiff_core.specs.Weekday.{monday_zero}
 use Rattle.ics_values.specs.declared.frequency.Frequency.{Frequency}
 use Rattle.ics_values.specs.declared.frequency.Frequency.TheVariants.{Secondly, Minutely, Hourly, Daily, Weekly, Monthly, Yearly}
@@ -24,6 +24,23 @@ seconds_of Daily = 86_400
 seconds_of Weekly = 604_800
 seconds_of Monthly = 0
 seconds_of Yearly = 0
+
+-- how many periods the calendar's 400 years have: they are 4,800 months, 20,871 weeks or 146,097 days
+abbrev pub calendar_periods : Frequency → ℕ
+calendar_periods Secondly = 12_622_780_800
+calendar_periods Minutely = 210_379_680
+calendar_periods Hourly = 3_506_328
+calendar_periods Daily = 146_097
+calendar_periods Weekly = 20_871
+calendar_periods Monthly = 4_800
+calendar_periods Yearly = 400
+
+-- these periods are once or more the calendar's 400 years, and a multiple of the interval
+pub record IsCalendarRound (q : Filled) (periods : ℕ) : Type 0 where
+  pub cycles : ℕ
+  pub some : 1 ≤ cycles
+  pub whole : periods ≡ cycles * calendar_periods q.frequency
+  pub step : periods % q.interval ≡ 0
 
 -- these periods last these seconds, and what the rule allows repeats after them
 pub record IsRound (q : Filled) (periods seconds : ℕ) : Type 0 where

@@ -4,7 +4,7 @@ ghost use Rattle.ics_rule.specs.Locals.{day_of};
 ghost use Rattle.ics_rule.specs.Candidates.{lets_date, lets_clock, period_in};
 ghost use Rattle.ics_rule.specs.Cursors.{IsCursorIn};
 ghost use Rattle.ics_rule.specs.Dates.{names_weekdays_alone};
-ghost use Rattle.ics_rule.specs.Rounds.{seconds_of, IsRound, IsFlat, IsEvenRound, HasRound, IsPassedTo};
+ghost use Rattle.ics_rule.specs.Rounds.{seconds_of, calendar_periods, IsCalendarRound, IsRound, IsFlat, IsEvenRound, HasRound, IsPassedTo};
 
 use crate::cursor::Cursor;
 use crate::date::{goes_by_months, names_weekdays_alone};
@@ -127,6 +127,54 @@ fn even_round_of(parts: &Filled) -> Option<u64>
     Some(parts.interval as u64 * steps)
 }
 
+/// How many periods the calendar's 400 years have, after which its dates and weekdays repeat.
+fn calendar_periods(frequency: Frequency) -> u64
+    ensures value { result ≡ calendar_periods frequency }
+    ensures some { 1 ≤ result }
+    ensures bound { result < 2 ^ 40 }
+{
+    match frequency {
+        Frequency::Secondly => 146_097 * 86_400,
+        Frequency::Minutely => 146_097 * 1_440,
+        Frequency::Hourly => 146_097 * 24,
+        Frequency::Daily => 146_097,
+        Frequency::Weekly => 146_097 / 7,
+        Frequency::Monthly => 4_800,
+        Frequency::Yearly => 400,
+    }
+}
+
+/// The first round of the calendar's 400 years, taken once or more, that steps of the interval fill. None if it is longer than half of
+/// so many periods.
+pub(crate) fn calendar_round(parts: &Filled, periods: u64) -> Option<u64>
+    requires interval { 1 ≤ parts.now.interval }
+    requires periods { periods < 2 ^ 40 }
+    ensures { MatchOption result (Unit {0}) (IsCalendarRound parts.now) }
+{
+    let cycle = calendar_periods(parts.frequency);
+    let mut round = cycle;
+    while round <= periods / 2 {
+        if round % parts.interval as u64 == 0 {
+            return Some(round);
+        }
+        round += cycle;
+    }
+    None
+}
+
+/// After how many periods the number of locals that a rule chooses repeats: by what its parts restrict, or by the calendar. None if fewer
+/// than two such rounds are left of so many periods.
+fn round_within(parts: &Filled, periods: u64) -> Option<u64>
+    requires interval { 1 ≤ parts.now.interval }
+    requires periods { periods < 2 ^ 40 }
+    ensures { MatchOption result (Unit {0}) (λ k. (start : ℕ) → IsEvenRound parts.now start k) }
+{
+    match even_round_of(parts) {
+        Some(round) => Some(round),
+        None => calendar_round(parts, periods),
+    }
+}
+
 /// Whether what a rule allows repeats after so few periods that they are looked at one by one.
 fn repeats_soon(parts: &Filled) -> bool
     requires interval { 1 ≤ parts.now.interval }
@@ -150,7 +198,7 @@ impl Cursor {
     }
 
     /// Counts what is chosen in the periods up to that of the place, and looks at one of the last of them: by whole rounds if these are
-    /// short, and else by whole days. Nothing changes if neither can be done.
+    /// short or a period is longer than a day, and else by whole days. Nothing changes if neither can be done.
     pub(crate) fn pass_periods(&mut self, parts: &Filled, start: u64, count: u32, first: u64)
         requires interval { 1 ≤ parts.now.interval }
         requires count { 1 ≤ count }
@@ -164,7 +212,8 @@ impl Cursor {
         if self.is_close(parts) {
             return;
         }
-        if repeats_soon(parts) {
+        let unit = seconds_of(parts.frequency);
+        if unit == 0 || unit > 86_400 || repeats_soon(parts) {
             self.pass_rounds(parts, start, count, first);
         } else {
             self.pass_open(parts, start, count, first);
@@ -193,7 +242,7 @@ impl Cursor {
         if begin < 2 || ahead < 2 {
             return;
         }
-        let Some(round) = even_round_of(parts) else {
+        let Some(round) = round_within(parts, ahead) else {
             return;
         };
         let rounds = ahead / round;

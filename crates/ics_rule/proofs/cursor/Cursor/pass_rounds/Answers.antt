@@ -14,7 +14,7 @@ use Rattle.ics_rule.proofs.cursor.Cursor.pass_rounds.Goals as goal
 use Rattle.ics_rule.proofs.cursor.Cursor.pass_rounds.Goals.{in-Some, in-None}
 
 pub overflow_add-end : goal.overflow_add-end
-overflow_add-end c = let e = end_in c.period_of-own.result c.match-self.begin.0 c.saturating_sub-ahead.result c.in-Some-even_round_of.round c.saturating_sub-ahead.ensures c.if-ahead-lt2.false c.if-rounds-lt2.false in omega (arith, e, c.period_of-own.ensures.small)
+overflow_add-end c = let e = end_in c.period_of-own.result c.match-self.begin.0 c.saturating_sub-ahead.result c.in-Some-round_within.round c.saturating_sub-ahead.ensures c.if-ahead-lt2.false c.if-rounds-lt2.false in omega (arith, e, c.period_of-own.ensures.small)
 
 pub loop-number-init : goal.loop-number-init
 loop-number-init c = record {
@@ -29,7 +29,7 @@ loop-number-init c = record {
     | in-None w ↦ begins_first c.args.parts.now c.args.start c.args.first c.match-self.begin c.requires.interval c.requires.first w.begin-is
   ];
   high = omega arith;
-  top = let e = end_in c.period_of-own.result c.match-self.begin.0 c.saturating_sub-ahead.result c.in-Some-even_round_of.round c.saturating_sub-ahead.ensures c.if-ahead-lt2.false c.if-rounds-lt2.false in omega (arith, e, c.period_of-own.ensures.value);
+  top = let e = end_in c.period_of-own.result c.match-self.begin.0 c.saturating_sub-ahead.result c.in-Some-round_within.round c.saturating_sub-ahead.ensures c.if-ahead-lt2.false c.if-rounds-lt2.false in omega (arith, e, c.period_of-own.ensures.value);
 }
 
 pub turn_to-requires-clause-reach : goal.turn_to-requires-clause-reach
@@ -54,8 +54,8 @@ loop-number-preserved c = record {
       (λ m l. none_taken c.args.parts.now c.args.start c.loop-number.number c.args.self.now.place c.in-Some-turn_to._period c.in-Some-turn_to.ensures.turned.product c.in-Some-turn_to.ensures.turned.number c.loop-number.invariant.walk.step
       (omega (arith, c.loop-number-test.true, c.loop-number.invariant.top)) m (let place = c.loop-number.invariant.walk.place in omega (arith, l, c.turn_to.ensures.place, place)))
       (subst (IsNextOpen c.args.parts.now (period_in c.args.parts.now c.args.start) (c.loop-number.number + c.args.parts.now.interval)) (sym c.min-number.ensures)
-      (not_past c.args.parts.now (period_in c.args.parts.now c.args.start) c.loop-number.number c.next_open_step.result (c.match-self.begin.0 + c.in-Some-even_round_of.round) c.requires.interval c.loop-number.invariant.walk.step
-      (end_step c.args.parts.now c.args.start c.match-self.begin.0 c.match-self.begin.1 c.in-Some-even_round_of.round (c.in-Some-even_round_of.ensures c.args.start) c.loop-number.invariant.from) c.loop-number-test.true
+      (not_past c.args.parts.now (period_in c.args.parts.now c.args.start) c.loop-number.number c.next_open_step.result (c.match-self.begin.0 + c.in-Some-round_within.round) c.requires.interval c.loop-number.invariant.walk.step
+      (end_step c.args.parts.now c.args.start c.match-self.begin.0 c.match-self.begin.1 c.in-Some-round_within.round (c.in-Some-round_within.ensures c.args.start) c.loop-number.invariant.from) c.loop-number-test.true
       (subst (λ x. IsNextOpen c.args.parts.now x (c.loop-number.number + c.args.parts.now.interval) c.next_open_step.result) c.requires.first c.next_open_step.ensures)));
   from = c.loop-number.invariant.from;
   high = omega (arith, c.min-number.ensures);
@@ -63,7 +63,7 @@ loop-number-preserved c = record {
 }
 
 pub turn_to-requires-2-clause-reach : goal.turn_to-requires-2-clause-reach
-turn_to-requires-2-clause-reach c = let r = begun c.args.parts.now.frequency (monday_zero c.args.parts.now.week_start) (c.match-self.begin.0 + c.in-Some-even_round_of.round) c.args.self.now.place c.loop-number.invariant.top in omega (arith, r, c.requires.place)
+turn_to-requires-2-clause-reach c = let r = begun c.args.parts.now.frequency (monday_zero c.args.parts.now.week_start) (c.match-self.begin.0 + c.in-Some-round_within.round) c.args.self.now.place c.loop-number.invariant.top in omega (arith, r, c.requires.place)
 
 pub turn_to-requires-2-clause-room : goal.turn_to-requires-2-clause-room
 turn_to-requires-2-clause-room c = let r = counting_room c.args.parts.now c.args.start c.args.count (c.args.self.now.place + 1) c.loop-number.number c.args.self.now c.loop-number.self c.loop-number.invariant.walk in omega (arith, r, c.loop-number.invariant.high, c.loop-number.invariant.top, c.period_of-own.ensures.value, c.period_of-own.ensures.small)
@@ -75,57 +75,57 @@ returns-in_default-turn_to-2-clause-passed c = subst (λ s. IsPassedTo c.args.pa
 pub overflow_sub-total : goal.overflow_sub-total
 overflow_sub-total c =
     let turned = c.in-Some-turn_to-2.ensures.turned in
-    let ends = rounds_end c.args.parts.now c.args.start c.match-self.begin.0 c.in-Some-even_round_of.round (c.saturating_sub-ahead.result / c.in-Some-even_round_of.round) c.match-self.begin.1 c.turn_to-2.new.self.counted (c.in-Some-even_round_of.ensures c.args.start) c.loop-number.invariant.from
-    c.if-begin-lt2.false c.if-rounds-lt2.false (let r = begun c.args.parts.now.frequency (monday_zero c.args.parts.now.week_start) (c.match-self.begin.0 + c.saturating_sub-ahead.result / c.in-Some-even_round_of.round * c.in-Some-even_round_of.round) c.args.self.now.place (let t = target_in c.period_of-own.result c.match-self.begin.0 c.saturating_sub-ahead.result c.in-Some-even_round_of.round c.saturating_sub-ahead.ensures c.if-ahead-lt2.false in omega (arith, t, c.period_of-own.ensures.value)) in omega (arith, r, c.requires.place)) (turned.counted.total ∙ ap (λ x. count (first_local c.args.parts.now.frequency (monday_zero c.args.parts.now.week_start) x) (is_chosen c.args.parts.now c.args.start)) turned.number) in
+    let ends = rounds_end c.args.parts.now c.args.start c.match-self.begin.0 c.in-Some-round_within.round (c.saturating_sub-ahead.result / c.in-Some-round_within.round) c.match-self.begin.1 c.turn_to-2.new.self.counted (c.in-Some-round_within.ensures c.args.start) c.loop-number.invariant.from
+    c.if-begin-lt2.false c.if-rounds-lt2.false (let r = begun c.args.parts.now.frequency (monday_zero c.args.parts.now.week_start) (c.match-self.begin.0 + c.saturating_sub-ahead.result / c.in-Some-round_within.round * c.in-Some-round_within.round) c.args.self.now.place (let t = target_in c.period_of-own.result c.match-self.begin.0 c.saturating_sub-ahead.result c.in-Some-round_within.round c.saturating_sub-ahead.ensures c.if-ahead-lt2.false in omega (arith, t, c.period_of-own.ensures.value)) in omega (arith, r, c.requires.place)) (turned.counted.total ∙ ap (λ x. count (first_local c.args.parts.now.frequency (monday_zero c.args.parts.now.week_start) x) (is_chosen c.args.parts.now c.args.start)) turned.number) in
     ends.more
 
 pub overflow_mul-total : goal.overflow_mul-total
 overflow_mul-total c =
     let turned = c.in-Some-turn_to-2.ensures.turned in
-    let ends = rounds_end c.args.parts.now c.args.start c.match-self.begin.0 c.in-Some-even_round_of.round (c.saturating_sub-ahead.result / c.in-Some-even_round_of.round) c.match-self.begin.1 c.turn_to-2.new.self.counted (c.in-Some-even_round_of.ensures c.args.start) c.loop-number.invariant.from
-    c.if-begin-lt2.false c.if-rounds-lt2.false (let r = begun c.args.parts.now.frequency (monday_zero c.args.parts.now.week_start) (c.match-self.begin.0 + c.saturating_sub-ahead.result / c.in-Some-even_round_of.round * c.in-Some-even_round_of.round) c.args.self.now.place (let t = target_in c.period_of-own.result c.match-self.begin.0 c.saturating_sub-ahead.result c.in-Some-even_round_of.round c.saturating_sub-ahead.ensures c.if-ahead-lt2.false in omega (arith, t, c.period_of-own.ensures.value)) in omega (arith, r, c.requires.place)) (turned.counted.total ∙ ap (λ x. count (first_local c.args.parts.now.frequency (monday_zero c.args.parts.now.week_start) x) (is_chosen c.args.parts.now c.args.start)) turned.number) in
-    let small = total_small c.args.parts.now c.args.start (c.match-self.begin.0 + c.saturating_sub-ahead.result / c.in-Some-even_round_of.round * c.in-Some-even_round_of.round) c.args.self.now.place (c.match-self.begin.1 + (c.saturating_sub-ahead.result / c.in-Some-even_round_of.round) * (c.turn_to-2.new.self.counted - c.match-self.begin.1)) (let t = target_in c.period_of-own.result c.match-self.begin.0 c.saturating_sub-ahead.result c.in-Some-even_round_of.round c.saturating_sub-ahead.ensures c.if-ahead-lt2.false in omega (arith, t, c.period_of-own.ensures.value)) ends.total in
+    let ends = rounds_end c.args.parts.now c.args.start c.match-self.begin.0 c.in-Some-round_within.round (c.saturating_sub-ahead.result / c.in-Some-round_within.round) c.match-self.begin.1 c.turn_to-2.new.self.counted (c.in-Some-round_within.ensures c.args.start) c.loop-number.invariant.from
+    c.if-begin-lt2.false c.if-rounds-lt2.false (let r = begun c.args.parts.now.frequency (monday_zero c.args.parts.now.week_start) (c.match-self.begin.0 + c.saturating_sub-ahead.result / c.in-Some-round_within.round * c.in-Some-round_within.round) c.args.self.now.place (let t = target_in c.period_of-own.result c.match-self.begin.0 c.saturating_sub-ahead.result c.in-Some-round_within.round c.saturating_sub-ahead.ensures c.if-ahead-lt2.false in omega (arith, t, c.period_of-own.ensures.value)) in omega (arith, r, c.requires.place)) (turned.counted.total ∙ ap (λ x. count (first_local c.args.parts.now.frequency (monday_zero c.args.parts.now.week_start) x) (is_chosen c.args.parts.now c.args.start)) turned.number) in
+    let small = total_small c.args.parts.now c.args.start (c.match-self.begin.0 + c.saturating_sub-ahead.result / c.in-Some-round_within.round * c.in-Some-round_within.round) c.args.self.now.place (c.match-self.begin.1 + (c.saturating_sub-ahead.result / c.in-Some-round_within.round) * (c.turn_to-2.new.self.counted - c.match-self.begin.1)) (let t = target_in c.period_of-own.result c.match-self.begin.0 c.saturating_sub-ahead.result c.in-Some-round_within.round c.saturating_sub-ahead.ensures c.if-ahead-lt2.false in omega (arith, t, c.period_of-own.ensures.value)) ends.total in
     omega (arith, small, c.requires.place)
 
 pub overflow_add-total : goal.overflow_add-total
 overflow_add-total c =
     let turned = c.in-Some-turn_to-2.ensures.turned in
-    let ends = rounds_end c.args.parts.now c.args.start c.match-self.begin.0 c.in-Some-even_round_of.round (c.saturating_sub-ahead.result / c.in-Some-even_round_of.round) c.match-self.begin.1 c.turn_to-2.new.self.counted (c.in-Some-even_round_of.ensures c.args.start) c.loop-number.invariant.from
-    c.if-begin-lt2.false c.if-rounds-lt2.false (let r = begun c.args.parts.now.frequency (monday_zero c.args.parts.now.week_start) (c.match-self.begin.0 + c.saturating_sub-ahead.result / c.in-Some-even_round_of.round * c.in-Some-even_round_of.round) c.args.self.now.place (let t = target_in c.period_of-own.result c.match-self.begin.0 c.saturating_sub-ahead.result c.in-Some-even_round_of.round c.saturating_sub-ahead.ensures c.if-ahead-lt2.false in omega (arith, t, c.period_of-own.ensures.value)) in omega (arith, r, c.requires.place)) (turned.counted.total ∙ ap (λ x. count (first_local c.args.parts.now.frequency (monday_zero c.args.parts.now.week_start) x) (is_chosen c.args.parts.now c.args.start)) turned.number) in
-    let small = total_small c.args.parts.now c.args.start (c.match-self.begin.0 + c.saturating_sub-ahead.result / c.in-Some-even_round_of.round * c.in-Some-even_round_of.round) c.args.self.now.place (c.match-self.begin.1 + (c.saturating_sub-ahead.result / c.in-Some-even_round_of.round) * (c.turn_to-2.new.self.counted - c.match-self.begin.1)) (let t = target_in c.period_of-own.result c.match-self.begin.0 c.saturating_sub-ahead.result c.in-Some-even_round_of.round c.saturating_sub-ahead.ensures c.if-ahead-lt2.false in omega (arith, t, c.period_of-own.ensures.value)) ends.total in
+    let ends = rounds_end c.args.parts.now c.args.start c.match-self.begin.0 c.in-Some-round_within.round (c.saturating_sub-ahead.result / c.in-Some-round_within.round) c.match-self.begin.1 c.turn_to-2.new.self.counted (c.in-Some-round_within.ensures c.args.start) c.loop-number.invariant.from
+    c.if-begin-lt2.false c.if-rounds-lt2.false (let r = begun c.args.parts.now.frequency (monday_zero c.args.parts.now.week_start) (c.match-self.begin.0 + c.saturating_sub-ahead.result / c.in-Some-round_within.round * c.in-Some-round_within.round) c.args.self.now.place (let t = target_in c.period_of-own.result c.match-self.begin.0 c.saturating_sub-ahead.result c.in-Some-round_within.round c.saturating_sub-ahead.ensures c.if-ahead-lt2.false in omega (arith, t, c.period_of-own.ensures.value)) in omega (arith, r, c.requires.place)) (turned.counted.total ∙ ap (λ x. count (first_local c.args.parts.now.frequency (monday_zero c.args.parts.now.week_start) x) (is_chosen c.args.parts.now c.args.start)) turned.number) in
+    let small = total_small c.args.parts.now c.args.start (c.match-self.begin.0 + c.saturating_sub-ahead.result / c.in-Some-round_within.round * c.in-Some-round_within.round) c.args.self.now.place (c.match-self.begin.1 + (c.saturating_sub-ahead.result / c.in-Some-round_within.round) * (c.turn_to-2.new.self.counted - c.match-self.begin.1)) (let t = target_in c.period_of-own.result c.match-self.begin.0 c.saturating_sub-ahead.result c.in-Some-round_within.round c.saturating_sub-ahead.ensures c.if-ahead-lt2.false in omega (arith, t, c.period_of-own.ensures.value)) ends.total in
     omega (arith, small, c.requires.place)
 
 pub look_at-requires-clause-low : goal.look_at-requires-clause-low
 look_at-requires-clause-low c =
     let turned = c.in-Some-turn_to-2.ensures.turned in
-    let ends = rounds_end c.args.parts.now c.args.start c.match-self.begin.0 c.in-Some-even_round_of.round (c.saturating_sub-ahead.result / c.in-Some-even_round_of.round) c.match-self.begin.1 c.turn_to-2.new.self.counted (c.in-Some-even_round_of.ensures c.args.start) c.loop-number.invariant.from
-    c.if-begin-lt2.false c.if-rounds-lt2.false (let r = begun c.args.parts.now.frequency (monday_zero c.args.parts.now.week_start) (c.match-self.begin.0 + c.saturating_sub-ahead.result / c.in-Some-even_round_of.round * c.in-Some-even_round_of.round) c.args.self.now.place (let t = target_in c.period_of-own.result c.match-self.begin.0 c.saturating_sub-ahead.result c.in-Some-even_round_of.round c.saturating_sub-ahead.ensures c.if-ahead-lt2.false in omega (arith, t, c.period_of-own.ensures.value)) in omega (arith, r, c.requires.place)) (turned.counted.total ∙ ap (λ x. count (first_local c.args.parts.now.frequency (monday_zero c.args.parts.now.week_start) x) (is_chosen c.args.parts.now c.args.start)) turned.number) in
-    step_low c.args.parts.now c.args.start (c.match-self.begin.0 + c.saturating_sub-ahead.result / c.in-Some-even_round_of.round * c.in-Some-even_round_of.round) ends.step
+    let ends = rounds_end c.args.parts.now c.args.start c.match-self.begin.0 c.in-Some-round_within.round (c.saturating_sub-ahead.result / c.in-Some-round_within.round) c.match-self.begin.1 c.turn_to-2.new.self.counted (c.in-Some-round_within.ensures c.args.start) c.loop-number.invariant.from
+    c.if-begin-lt2.false c.if-rounds-lt2.false (let r = begun c.args.parts.now.frequency (monday_zero c.args.parts.now.week_start) (c.match-self.begin.0 + c.saturating_sub-ahead.result / c.in-Some-round_within.round * c.in-Some-round_within.round) c.args.self.now.place (let t = target_in c.period_of-own.result c.match-self.begin.0 c.saturating_sub-ahead.result c.in-Some-round_within.round c.saturating_sub-ahead.ensures c.if-ahead-lt2.false in omega (arith, t, c.period_of-own.ensures.value)) in omega (arith, r, c.requires.place)) (turned.counted.total ∙ ap (λ x. count (first_local c.args.parts.now.frequency (monday_zero c.args.parts.now.week_start) x) (is_chosen c.args.parts.now c.args.start)) turned.number) in
+    step_low c.args.parts.now c.args.start (c.match-self.begin.0 + c.saturating_sub-ahead.result / c.in-Some-round_within.round * c.in-Some-round_within.round) ends.step
 
 pub look_at-requires-clause-reach : goal.look_at-requires-clause-reach
-look_at-requires-clause-reach c = let r = begun c.args.parts.now.frequency (monday_zero c.args.parts.now.week_start) (c.match-self.begin.0 + c.saturating_sub-ahead.result / c.in-Some-even_round_of.round * c.in-Some-even_round_of.round) c.args.self.now.place (let t = target_in c.period_of-own.result c.match-self.begin.0 c.saturating_sub-ahead.result c.in-Some-even_round_of.round c.saturating_sub-ahead.ensures c.if-ahead-lt2.false in omega (arith, t, c.period_of-own.ensures.value)) in omega (arith, r, c.requires.place)
+look_at-requires-clause-reach c = let r = begun c.args.parts.now.frequency (monday_zero c.args.parts.now.week_start) (c.match-self.begin.0 + c.saturating_sub-ahead.result / c.in-Some-round_within.round * c.in-Some-round_within.round) c.args.self.now.place (let t = target_in c.period_of-own.result c.match-self.begin.0 c.saturating_sub-ahead.result c.in-Some-round_within.round c.saturating_sub-ahead.ensures c.if-ahead-lt2.false in omega (arith, t, c.period_of-own.ensures.value)) in omega (arith, r, c.requires.place)
 
 pub look_at-requires-clause-room : goal.look_at-requires-clause-room
 look_at-requires-clause-room c =
-    let walked = counting_stopped c.args.parts.now c.args.start c.args.count (c.args.self.now.place + 1) (c.match-self.begin.0 + c.in-Some-even_round_of.round) c.args.self.now c.loop-number.self
-    (subst (λ x. IsCounting c.args.parts.now c.args.start c.args.count (c.args.self.now.place + 1) x c.args.self.now c.loop-number.self) (let same : c.loop-number.number ≡ (c.match-self.begin.0 + c.in-Some-even_round_of.round) = omega (arith, c.loop-number.invariant.high, c.loop-number-test.false) in same) c.loop-number.invariant.walk)
-    c.turn_to-2.new.self c.in-Some-turn_to-2._period c.requires.interval c.requires.after (omega arith) (top_of c.args.parts.now c.args.self.now.place (c.match-self.begin.0 + c.in-Some-even_round_of.round) c.loop-number.invariant.top)
+    let walked = counting_stopped c.args.parts.now c.args.start c.args.count (c.args.self.now.place + 1) (c.match-self.begin.0 + c.in-Some-round_within.round) c.args.self.now c.loop-number.self
+    (subst (λ x. IsCounting c.args.parts.now c.args.start c.args.count (c.args.self.now.place + 1) x c.args.self.now c.loop-number.self) (let same : c.loop-number.number ≡ (c.match-self.begin.0 + c.in-Some-round_within.round) = omega (arith, c.loop-number.invariant.high, c.loop-number-test.false) in same) c.loop-number.invariant.walk)
+    c.turn_to-2.new.self c.in-Some-turn_to-2._period c.requires.interval c.requires.after (omega arith) (top_of c.args.parts.now c.args.self.now.place (c.match-self.begin.0 + c.in-Some-round_within.round) c.loop-number.invariant.top)
     c.in-Some-turn_to-2.ensures.turned c.turn_to-2.ensures.place c.turn_to-2.ensures.steps c.turn_to-2.ensures.begun c.turn_to-2.ensures.moved in
-    let r = turned_room c.args.parts.now c.args.start c.args.count (c.args.self.now.place + 1) (c.match-self.begin.0 + c.in-Some-even_round_of.round) c.args.self.now c.turn_to-2.new.self c.in-Some-turn_to-2._period walked c.in-Some-turn_to-2.ensures.turned in
+    let r = turned_room c.args.parts.now c.args.start c.args.count (c.args.self.now.place + 1) (c.match-self.begin.0 + c.in-Some-round_within.round) c.args.self.now c.turn_to-2.new.self c.in-Some-turn_to-2._period walked c.in-Some-turn_to-2.ensures.turned in
     omega (arith, r, c.loop-number.invariant.top, c.period_of-own.ensures.value, c.period_of-own.ensures.small)
 
 pub returns-clause-passed : goal.returns-clause-passed
 returns-clause-passed c =
     let turned = c.in-Some-turn_to-2.ensures.turned in
-    let ends = rounds_end c.args.parts.now c.args.start c.match-self.begin.0 c.in-Some-even_round_of.round (c.saturating_sub-ahead.result / c.in-Some-even_round_of.round) c.match-self.begin.1 c.turn_to-2.new.self.counted (c.in-Some-even_round_of.ensures c.args.start) c.loop-number.invariant.from
-    c.if-begin-lt2.false c.if-rounds-lt2.false (let r = begun c.args.parts.now.frequency (monday_zero c.args.parts.now.week_start) (c.match-self.begin.0 + c.saturating_sub-ahead.result / c.in-Some-even_round_of.round * c.in-Some-even_round_of.round) c.args.self.now.place (let t = target_in c.period_of-own.result c.match-self.begin.0 c.saturating_sub-ahead.result c.in-Some-even_round_of.round c.saturating_sub-ahead.ensures c.if-ahead-lt2.false in omega (arith, t, c.period_of-own.ensures.value)) in omega (arith, r, c.requires.place)) (turned.counted.total ∙ ap (λ x. count (first_local c.args.parts.now.frequency (monday_zero c.args.parts.now.week_start) x) (is_chosen c.args.parts.now c.args.start)) turned.number) in
-    let walked = counting_stopped c.args.parts.now c.args.start c.args.count (c.args.self.now.place + 1) (c.match-self.begin.0 + c.in-Some-even_round_of.round) c.args.self.now c.loop-number.self
-    (subst (λ x. IsCounting c.args.parts.now c.args.start c.args.count (c.args.self.now.place + 1) x c.args.self.now c.loop-number.self) (let same : c.loop-number.number ≡ (c.match-self.begin.0 + c.in-Some-even_round_of.round) = omega (arith, c.loop-number.invariant.high, c.loop-number-test.false) in same) c.loop-number.invariant.walk)
-    c.turn_to-2.new.self c.in-Some-turn_to-2._period c.requires.interval c.requires.after (omega arith) (top_of c.args.parts.now c.args.self.now.place (c.match-self.begin.0 + c.in-Some-even_round_of.round) c.loop-number.invariant.top)
+    let ends = rounds_end c.args.parts.now c.args.start c.match-self.begin.0 c.in-Some-round_within.round (c.saturating_sub-ahead.result / c.in-Some-round_within.round) c.match-self.begin.1 c.turn_to-2.new.self.counted (c.in-Some-round_within.ensures c.args.start) c.loop-number.invariant.from
+    c.if-begin-lt2.false c.if-rounds-lt2.false (let r = begun c.args.parts.now.frequency (monday_zero c.args.parts.now.week_start) (c.match-self.begin.0 + c.saturating_sub-ahead.result / c.in-Some-round_within.round * c.in-Some-round_within.round) c.args.self.now.place (let t = target_in c.period_of-own.result c.match-self.begin.0 c.saturating_sub-ahead.result c.in-Some-round_within.round c.saturating_sub-ahead.ensures c.if-ahead-lt2.false in omega (arith, t, c.period_of-own.ensures.value)) in omega (arith, r, c.requires.place)) (turned.counted.total ∙ ap (λ x. count (first_local c.args.parts.now.frequency (monday_zero c.args.parts.now.week_start) x) (is_chosen c.args.parts.now c.args.start)) turned.number) in
+    let walked = counting_stopped c.args.parts.now c.args.start c.args.count (c.args.self.now.place + 1) (c.match-self.begin.0 + c.in-Some-round_within.round) c.args.self.now c.loop-number.self
+    (subst (λ x. IsCounting c.args.parts.now c.args.start c.args.count (c.args.self.now.place + 1) x c.args.self.now c.loop-number.self) (let same : c.loop-number.number ≡ (c.match-self.begin.0 + c.in-Some-round_within.round) = omega (arith, c.loop-number.invariant.high, c.loop-number-test.false) in same) c.loop-number.invariant.walk)
+    c.turn_to-2.new.self c.in-Some-turn_to-2._period c.requires.interval c.requires.after (omega arith) (top_of c.args.parts.now c.args.self.now.place (c.match-self.begin.0 + c.in-Some-round_within.round) c.loop-number.invariant.top)
     c.in-Some-turn_to-2.ensures.turned c.turn_to-2.ensures.place c.turn_to-2.ensures.steps c.turn_to-2.ensures.begun c.turn_to-2.ensures.moved in
     let place = c.loop-number.invariant.walk.place in
-    passed_on c.args.parts.now c.args.start c.args.count (c.args.self.now.place + 1) (c.match-self.begin.0 + c.in-Some-even_round_of.round) (c.match-self.begin.0 + c.saturating_sub-ahead.result / c.in-Some-even_round_of.round * c.in-Some-even_round_of.round) (c.match-self.begin.1 + (c.saturating_sub-ahead.result / c.in-Some-even_round_of.round) * (c.turn_to-2.new.self.counted - c.match-self.begin.1)) c.args.self.now c.turn_to-2.new.self c.look_at.new.self c.in-Some-turn_to-2._period c.look_at.result
-    walked turned c.look_at.ensures.cursor c.look_at.ensures.product c.look_at.ensures.number ends.later ends.step (let t = target_in c.period_of-own.result c.match-self.begin.0 c.saturating_sub-ahead.result c.in-Some-even_round_of.round c.saturating_sub-ahead.ensures c.if-ahead-lt2.false in omega (arith, t, c.period_of-own.ensures.value)) c.requires.after c.requires.own.inside refl (c.turn_to-2.ensures.place ∙ place) ends.total
+    passed_on c.args.parts.now c.args.start c.args.count (c.args.self.now.place + 1) (c.match-self.begin.0 + c.in-Some-round_within.round) (c.match-self.begin.0 + c.saturating_sub-ahead.result / c.in-Some-round_within.round * c.in-Some-round_within.round) (c.match-self.begin.1 + (c.saturating_sub-ahead.result / c.in-Some-round_within.round) * (c.turn_to-2.new.self.counted - c.match-self.begin.1)) c.args.self.now c.turn_to-2.new.self c.look_at.new.self c.in-Some-turn_to-2._period c.look_at.result
+    walked turned c.look_at.ensures.cursor c.look_at.ensures.product c.look_at.ensures.number ends.later ends.step (let t = target_in c.period_of-own.result c.match-self.begin.0 c.saturating_sub-ahead.result c.in-Some-round_within.round c.saturating_sub-ahead.ensures c.if-ahead-lt2.false in omega (arith, t, c.period_of-own.ensures.value)) c.requires.after c.requires.own.inside refl (c.turn_to-2.ensures.place ∙ place) ends.total
 
 pub nonzero_div-rounds : goal.nonzero_div-rounds
-nonzero_div-rounds c = let is = c.in-Some-even_round_of.ensures c.args.start in let some = is.some in omega (arith, some)
+nonzero_div-rounds c = let is = c.in-Some-round_within.ensures c.args.start in let some = is.some in omega (arith, some)

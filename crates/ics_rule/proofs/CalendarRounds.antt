@@ -1,0 +1,95 @@
+-- Whole rounds of the calendar are rounds of each rule.
+use Rattle.std.proofs.Common.{◌≡◌, ℕ, zero, suc, ◌+◌, ◌-◌, ◌*◌, ◌/◌, ◌%◌, ◌≤◌, Option, Some, None, MatchOption, refl, sym, ap, ◌∙◌, arith}
+use Rattle.std.proofs.lemmas.Nat.{div-add-mod'}
+use Rattle.std.proofs.Math.Nat.{mul_comm}
+use Rattle.jiff_core.specs.Weekday.{monday_zero}
+use Rattle.ics_values.specs.declared.frequency.Frequency.{Frequency}
+use Rattle.ics_values.specs.declared.frequency.Frequency.TheVariants.{Secondly, Minutely, Hourly, Daily, Weekly, Monthly, Yearly}
+use Rattle.ics_values.specs.Days.{days_before_year, year_of, month_of}
+use Rattle.ics_rule.specs.declared.filled.Filled.{Filled}
+use Rattle.ics_rule.specs.Locals.{period, day_of}
+use Rattle.ics_rule.specs.Candidates.{lets, lets_date, lets_clock, is_stepped, period_in}
+use Rattle.ics_rule.specs.Periods.{first_local}
+use Rattle.ics_rule.specs.Rounds.{calendar_periods, IsCalendarRound, IsRound, IsEvenRound}
+use Rattle.ics_rule.proofs.RoundLemmas.{clock_alike, let_in_alike, step_repeats}
+use Rattle.ics_rule.proofs.EvenLemmas.{even_of_round}
+use Rattle.ics_rule.proofs.CycleLemmas.{years_again, months_again, year_again, month_again, date_again}
+
+period_again : (f : Frequency) (w n k : ℕ) → period f w (n + k * 12_622_780_800) ≡ period f w n + k * calendar_periods f
+period_again Secondly w n k = refl
+period_again Minutely w n k = omega arith
+period_again Hourly w n k = omega arith
+period_again Daily w n k = omega arith
+period_again Weekly w n k = omega arith
+period_again Monthly w n k =
+    let day : (n + k * 12_622_780_800) / 86_400 ≡ n / 86_400 + 146_097 * k = omega arith in
+    let year = ap year_of day ∙ year_again k (n / 86_400) in
+    let month = ap month_of day ∙ month_again k (n / 86_400) in
+    omega (arith, year, month)
+period_again Yearly w n k =
+    let day : (n + k * 12_622_780_800) / 86_400 ≡ n / 86_400 + 146_097 * k = omega arith in
+    let year = ap year_of day ∙ year_again k (n / 86_400) in
+    omega (arith, year)
+
+first_again : (f : Frequency) (w p k : ℕ) → 2 ≤ p → first_local f w (p + k * calendar_periods f) ≡ first_local f w p + k * 12_622_780_800
+first_again Secondly w p k h = refl
+first_again Minutely w p k h = omega arith
+first_again Hourly w p k h = omega arith
+first_again Daily w p k h = omega arith
+first_again Weekly w p k h = omega arith
+first_again Monthly w zero k h = absurd (omega (arith, h))
+first_again Monthly w (suc p) k h =
+    let back : suc p - 1 ≡ p = omega arith in
+    let year : (suc p + k * 4_800 - 1) / 12 ≡ p / 12 + 400 * k = omega arith in
+    let month : (suc p + k * 4_800 - 1) % 12 ≡ p % 12 = omega arith in
+    let before = years_again k (p / 12) in
+    let inside = months_again k (p / 12) (p % 12) in
+    rw back (rw year (rw month (omega (arith, before, inside))))
+first_again Yearly w p k h =
+    let before = years_again k p in
+    let same = ap days_before_year (let order : p + k * 400 ≡ p + 400 * k = omega arith in order) in
+    omega (arith, before, same)
+
+clock_again : (q : Filled) (n k : ℕ) → lets_clock q (n + k * 12_622_780_800) ≡ lets_clock q n
+clock_again q n k = clock_alike q (n + k * 12_622_780_800) n
+    (let same : (n + k * 12_622_780_800) / 3_600 % 24 ≡ n / 3_600 % 24 = omega arith in ap (lets q.hours) same)
+    (let same : (n + k * 12_622_780_800) / 60 % 60 ≡ n / 60 % 60 = omega arith in ap (lets q.minutes) same)
+    (let same : (n + k * 12_622_780_800) % 60 ≡ n % 60 = omega arith in ap (lets q.seconds) same)
+
+some_periods : (f : Frequency) → 1 ≤ calendar_periods f
+some_periods Secondly = omega arith
+some_periods Minutely = omega arith
+some_periods Hourly = omega arith
+some_periods Daily = omega arith
+some_periods Weekly = omega arith
+some_periods Monthly = omega arith
+some_periods Yearly = omega arith
+
+-- so many periods are whole steps
+pub calendar_step : (q : Filled) (periods : ℕ) → IsCalendarRound q periods → (first p : ℕ) → first ≤ p → is_stepped first q.interval (p + periods) ≡ is_stepped first q.interval p
+calendar_step q periods round first p l =
+    let parts = div-add-mod' periods q.interval in
+    let swap = mul_comm q.interval (periods / q.interval) in
+    let whole = round.step in
+    ap (λ x. is_stepped first q.interval (p + x)) (let same : periods ≡ q.interval * (periods / q.interval) = omega (arith, parts, swap, whole) in same)
+    ∙ step_repeats q.interval (periods / q.interval) first p l
+
+pub calendar_is : (q : Filled) (periods : ℕ) (round : IsCalendarRound q periods) → IsRound q periods (round.cycles * 12_622_780_800)
+calendar_is q periods round = record {
+  some = positive round.cycles (calendar_periods q.frequency) periods round.whole round.some (some_periods q.frequency);
+  step = calendar_step q periods round;
+  period = λ n. period_again q.frequency (monday_zero q.week_start) n round.cycles ∙ ap (λ x. period_in q n + x) (sym round.whole);
+  first = λ p l. ap (λ x. first_local q.frequency (monday_zero q.week_start) (p + x)) round.whole ∙ first_again q.frequency (monday_zero q.week_start) p round.cycles l;
+  let_in = λ n. let_in_alike q (n + round.cycles * 12_622_780_800) n
+      (ap (lets_date q) (let day : (n + round.cycles * 12_622_780_800) / 86_400 ≡ n / 86_400 + 146_097 * round.cycles = omega arith in day) ∙ date_again q round.cycles (day_of n) round.some)
+      (clock_again q n round.cycles);
+}
+  where
+    positive : (a b c : ℕ) → c ≡ a * b → 1 ≤ a → 1 ≤ b → 1 ≤ c
+    positive (suc a) (suc b) c e h l = omega (arith, e)
+    positive zero b c e h l = absurd (omega (arith, h))
+    positive (suc a) zero c e h l = absurd (omega (arith, l))
+
+pub even_of_calendar : (q : Filled) (o : Option ℕ) → MatchOption o (Unit {0}) (IsCalendarRound q) → MatchOption o (Unit {0}) (λ k. (start : ℕ) → IsEvenRound q start k)
+even_of_calendar q None t = tt
+even_of_calendar q (Some k) t = λ start. even_of_round q start k (t.cycles * 12_622_780_800) (calendar_is q k t)
