@@ -44,3 +44,4 @@ mod SizeLemmas
 mod EvenLemmas
 mod CycleLemmas
 mod CalendarRounds
+mod OpenRounds

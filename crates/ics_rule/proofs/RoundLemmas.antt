@@ -152,7 +152,7 @@ repeats_below f low a top on (suc j) n l h =
     ap f next ∙ on (n + j * a) (omega (arith, l)) (omega (arith, h, next)) ∙ repeats_below f low a top on j n l (omega (arith, h, next))
 
 -- the members of whole rounds
-count_rounds : (f : ℕ → Bool) (a s top : ℕ) → ((n : ℕ) → a ≤ n → n + s < top → f (n + s) ≡ f n) → (j : ℕ) → a + j * s ≤ top → count (a + j * s) f ≡ count a f + j * count s (λ k. f (a + k))
+pub count_rounds : (f : ℕ → Bool) (a s top : ℕ) → ((n : ℕ) → a ≤ n → n + s < top → f (n + s) ≡ f n) → (j : ℕ) → a + j * s ≤ top → count (a + j * s) f ≡ count a f + j * count s (λ k. f (a + k))
 count_rounds f a s top on zero h = ap (λ x. count x f) (let same : a + 0 * s ≡ a = omega arith in same) ∙ omega arith
 count_rounds f a s top on (suc j) h =
     let last = count-add (a + j * s) s f in

@@ -13,7 +13,7 @@ use crate::fill::{skips_hours, skips_minutes, skips_seconds};
 use crate::filled::Filled;
 use crate::never::size_of_open;
 use crate::places::listed_below;
-use crate::rounds::seconds_of;
+use crate::rounds::{calendar_round, seconds_of};
 use crate::step::period_of;
 use crate::time::lets;
 use crate::walk::next_step;
@@ -110,8 +110,8 @@ fn open_in_day(parts: &Filled, first: u64, from: u64, before: u64) -> u64
     }
 }
 
-/// How many periods are allowed from one on and before another.
-pub(crate) fn open_between(parts: &Filled, first: u64, from: u64, before: u64) -> u64
+/// How many periods are allowed from one on and before another, counted by whole days.
+fn open_by_days(parts: &Filled, first: u64, from: u64, before: u64) -> u64
     requires interval { 1 ≤ parts.now.interval }
     requires fine { 0 < seconds_of parts.now.frequency }
     requires unit { seconds_of parts.now.frequency ≤ 86400 }
@@ -129,6 +129,25 @@ pub(crate) fn open_between(parts: &Filled, first: u64, from: u64, before: u64) -
     open_in_day(parts, first, from, (day + 1) * per_day)
         + open_of_days(parts, first, day + 1, last)
         + open_in_day(parts, first, last * per_day, before)
+}
+
+/// How many periods are allowed from one on and before another. In each round of the calendar there are as many.
+pub(crate) fn open_between(parts: &Filled, first: u64, from: u64, before: u64) -> u64
+    requires interval { 1 ≤ parts.now.interval }
+    requires fine { 0 < seconds_of parts.now.frequency }
+    requires unit { seconds_of parts.now.frequency ≤ 86400 }
+    requires first { first ≤ from }
+    requires order { from ≤ before }
+    requires before { before / per_day parts.now.frequency ≤ 3579743 }
+    ensures { result + count from (is_open_period parts.now first) ≡ count before (is_open_period parts.now first) }
+{
+    let Some(round) = calendar_round(parts, before - from) else {
+        return open_by_days(parts, first, from, before);
+    };
+    let rounds = (before - from) / round;
+    let one = open_by_days(parts, first, from, from + round);
+    let rest = open_by_days(parts, first, from + rounds * round, before);
+    rounds * one + rest
 }
 
 /// How many locals are chosen in each period that is allowed.

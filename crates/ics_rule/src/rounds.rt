@@ -1,5 +1,5 @@
 //! Counting whole rounds of periods at once. After a round, what a rule chooses repeats.
-ghost use Rattle.std.specs.Prelude.{◌≡◌, ℕ, ◌<◌, ◌≤◌, ◌+◌, ◌*◌, ◌%◌, ◌^◌, ◌&&◌, MatchOption, Some, true};
+ghost use Rattle.std.specs.Prelude.{◌≡◌, ℕ, ◌<◌, ◌≤◌, ◌+◌, ◌*◌, ◌%◌, ◌^◌, ◌&&◌, IfSome, MatchOption, Some, true};
 ghost use Rattle.ics_rule.specs.Locals.{day_of};
 ghost use Rattle.ics_rule.specs.Candidates.{lets_date, lets_clock, period_in};
 ghost use Rattle.ics_rule.specs.Cursors.{IsCursorIn};
@@ -149,7 +149,8 @@ fn calendar_periods(frequency: Frequency) -> u64
 pub(crate) fn calendar_round(parts: &Filled, periods: u64) -> Option<u64>
     requires interval { 1 ≤ parts.now.interval }
     requires periods { periods < 2 ^ 40 }
-    ensures { MatchOption result (Unit {0}) (IsCalendarRound parts.now) }
+    ensures round { MatchOption result (Unit {0}) (IsCalendarRound parts.now) }
+    ensures twice { IfSome result (λ k. 2 * k ≤ periods) }
 {
     let cycle = calendar_periods(parts.frequency);
     let mut round = cycle;

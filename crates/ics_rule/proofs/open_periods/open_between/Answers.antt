@@ -1,27 +1,23 @@
-use Rattle.std.proofs.Common.{◌≡◌, ◌∙◌, ◌+◌, ◌*◌, ◌/◌, ap, arith}
-use Rattle.std.proofs.lemmas.Nat.{div-add-mod'}
-use Rattle.ics_rule.specs.Kept.{count}
-use Rattle.ics_rule.specs.OpenPeriods.{per_day, is_open_period}
+use Rattle.std.proofs.Common.{◌-◌, ◌/◌, arith}
+use Rattle.ics_rule.specs.OpenPeriods.{is_open_period}
 use Rattle.ics_rule.proofs.Counts.{count_most}
-use Rattle.ics_rule.proofs.OpenLemmas.{day_seconds}
+use Rattle.ics_rule.proofs.OpenRounds.{open_rounds}
 use Rattle.ics_rule.proofs.open_periods.open_between.Goals as goal
+
+pub overflow_mul-result : goal.overflow_mul-result
+overflow_mul-result c =
+    let all = open_rounds c.args.parts.now c.args.first c.in-Some.round c.in-Some.ensures.round c.requires.fine c.requires.unit c.args.from c.args.before
+    ((c.args.before - c.args.from) / c.in-Some.round) c.open_by_days-one.result c.open_by_days-rest.result c.requires.first c.open_by_days-one.ensures c.open_by_days-rest.ensures in
+    let most = count_most c.args.before (is_open_period c.args.parts.now c.args.first) in
+    omega (arith, all, most, c.ranges.before)
 
 pub overflow_add-result : goal.overflow_add-result
 overflow_add-result c =
-    let per : 86_400 / c.seconds_of-per_day.result ≡ per_day c.args.parts.now.frequency = ap (λ x. 86_400 / x) c.seconds_of-per_day.ensures.value
-    ∙ (day_seconds c.args.parts.now.frequency c.requires.fine c.requires.unit).1 in
-    let join = ap (λ x. count ((c.args.from / (86_400 / c.seconds_of-per_day.result) + 1) * x) (is_open_period c.args.parts.now c.args.first)) per in
-    let joint = ap (λ x. count (c.args.before / (86_400 / c.seconds_of-per_day.result) * x) (is_open_period c.args.parts.now c.args.first)) per in
-    let most = count_most (c.args.before / (86_400 / c.seconds_of-per_day.result) * (86_400 / c.seconds_of-per_day.result))
-    (is_open_period c.args.parts.now c.args.first) in
-    let whole = div-add-mod' c.args.before (86_400 / c.seconds_of-per_day.result) in
-    omega (arith, join, joint, most, whole, c.open_in_day-2.ensures, c.open_of_days.ensures, c.ranges.before)
-
-pub overflow_add-result-2 : goal.overflow_add-result-2
-overflow_add-result-2 c =
-    let per : 86_400 / c.seconds_of-per_day.result ≡ per_day c.args.parts.now.frequency = ap (λ x. 86_400 / x) c.seconds_of-per_day.ensures.value
-    ∙ (day_seconds c.args.parts.now.frequency c.requires.fine c.requires.unit).1 in
-    let join = ap (λ x. count ((c.args.from / (86_400 / c.seconds_of-per_day.result) + 1) * x) (is_open_period c.args.parts.now c.args.first)) per in
-    let joint = ap (λ x. count (c.args.before / (86_400 / c.seconds_of-per_day.result) * x) (is_open_period c.args.parts.now c.args.first)) per in
+    let all = open_rounds c.args.parts.now c.args.first c.in-Some.round c.in-Some.ensures.round c.requires.fine c.requires.unit c.args.from c.args.before
+    ((c.args.before - c.args.from) / c.in-Some.round) c.open_by_days-one.result c.open_by_days-rest.result c.requires.first c.open_by_days-one.ensures c.open_by_days-rest.ensures in
     let most = count_most c.args.before (is_open_period c.args.parts.now c.args.first) in
-    omega (arith, join, joint, most, c.open_in_day-2.ensures, c.open_of_days.ensures, c.open_in_day-3.ensures, c.ranges.before)
+    omega (arith, all, most, c.ranges.before)
+
+pub returns : goal.returns
+returns c = open_rounds c.args.parts.now c.args.first c.in-Some.round c.in-Some.ensures.round c.requires.fine c.requires.unit c.args.from c.args.before
+    ((c.args.before - c.args.from) / c.in-Some.round) c.open_by_days-one.result c.open_by_days-rest.result c.requires.first c.open_by_days-one.ensures c.open_by_days-rest.ensures

@@ -1,0 +1,54 @@
+-- The periods of a day or less that a rule lets in repeat with the calendar.
+use Rattle.std.proofs.Common.{◌≡◌, ℕ, ◌+◌, ◌*◌, ◌/◌, ◌<◌, ◌≤◌, ◌&&◌, ap, ◌∙◌, arith}
+use Rattle.ics_values.specs.declared.frequency.Frequency.{Frequency}
+use Rattle.ics_values.specs.declared.frequency.Frequency.TheVariants.{Secondly, Minutely, Hourly, Daily, Weekly, Monthly, Yearly}
+use Rattle.ics_rule.specs.declared.filled.Filled.{Filled}
+use Rattle.ics_rule.specs.Candidates.{lets_date, is_stepped}
+use Rattle.ics_rule.specs.Kept.{count}
+use Rattle.ics_rule.specs.Rounds.{seconds_of, calendar_periods, IsCalendarRound}
+use Rattle.ics_rule.specs.OpenPeriods.{per_day, lets_own, is_open_period}
+use Rattle.ics_rule.proofs.Counts.{count-add}
+use Rattle.ics_rule.proofs.RoundLemmas.{count_rounds}
+use Rattle.ics_rule.proofs.OpenLemmas.{own_day}
+use Rattle.ics_rule.proofs.CycleLemmas.{date_again}
+use Rattle.ics_rule.proofs.CalendarRounds.{calendar_step}
+
+day_again : (f : Frequency) (p k : ℕ) → 0 < seconds_of f → seconds_of f ≤ 86_400 → (p + k * calendar_periods f) / per_day f ≡ p / per_day f + 146_097 * k
+day_again Secondly p k h u = omega arith
+day_again Minutely p k h u = omega arith
+day_again Hourly p k h u = omega arith
+day_again Daily p k h u = omega arith
+day_again Weekly p k h u = absurd (omega (arith, u))
+day_again Monthly p k h u = absurd (omega (arith, h))
+day_again Yearly p k h u = absurd (omega (arith, h))
+
+second_again : (f : Frequency) (p k : ℕ) → 0 < seconds_of f → seconds_of f ≤ 86_400 → (p + k * calendar_periods f) * seconds_of f ≡ p * seconds_of f + 146_097 * k * 86_400
+second_again Secondly p k h u = omega arith
+second_again Minutely p k h u = omega arith
+second_again Hourly p k h u = omega arith
+second_again Daily p k h u = omega arith
+second_again Weekly p k h u = absurd (omega (arith, u))
+second_again Monthly p k h u = absurd (omega (arith, h))
+second_again Yearly p k h u = absurd (omega (arith, h))
+
+module _ (q : Filled) (first periods : ℕ) (round : IsCalendarRound q periods) (fine : 0 < seconds_of q.frequency) (unit : seconds_of q.frequency ≤ 86_400) where
+  open_again : (p : ℕ) → first ≤ p → is_open_period q first (p + periods) ≡ is_open_period q first p
+  open_again p l =
+      ap (λ x. x && (lets_date q ((p + periods) / per_day q.frequency) && lets_own q.frequency q ((p + periods) * seconds_of q.frequency))) (calendar_step q periods round first p l)
+      ∙ ap (λ x. is_stepped first q.interval p && (lets_date q x && lets_own q.frequency q ((p + periods) * seconds_of q.frequency)))
+      (ap (λ x. (p + x) / per_day q.frequency) round.whole ∙ day_again q.frequency p round.cycles fine unit)
+      ∙ ap (λ x. is_stepped first q.interval p && (x && lets_own q.frequency q ((p + periods) * seconds_of q.frequency))) (date_again q round.cycles (p / per_day q.frequency) round.some)
+      ∙ ap (λ x. is_stepped first q.interval p && (lets_date q (p / per_day q.frequency) && x))
+      (ap (λ x. lets_own q.frequency q ((p + x) * seconds_of q.frequency)) round.whole ∙ ap (lets_own q.frequency q) (second_again q.frequency p round.cycles fine unit)
+      ∙ own_day q.frequency q fine unit (p * seconds_of q.frequency) (146_097 * round.cycles))
+
+  -- of whole rounds each has as many as the first
+  pub open_rounds : (from before rounds one rest : ℕ) → first ≤ from
+      → one + count from (is_open_period q first) ≡ count (from + periods) (is_open_period q first)
+      → rest + count (from + rounds * periods) (is_open_period q first) ≡ count before (is_open_period q first)
+      → rounds * one + rest + count from (is_open_period q first) ≡ count before (is_open_period q first)
+  open_rounds from before rounds one rest low eo er =
+      let all = count_rounds (is_open_period q first) from periods (from + rounds * periods) (λ n l h. open_again n (omega (arith, low, l))) rounds (omega arith) in
+      let add = count-add from periods (is_open_period q first) in
+      let product = ap (λ x. rounds * x) (let same : one ≡ count periods (λ k. is_open_period q first (from + k)) = omega (arith, add, eo) in same) in
+      omega (arith, all, product, er)
