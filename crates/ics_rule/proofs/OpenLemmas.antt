@@ -55,7 +55,7 @@ count_between from before total f g h same e =
 pub record IsStepWalk (a i : ℕ) (g : ℕ → Bool) (from before number total : ℕ) : Type 0 where
   pub step : is_stepped a i number ≡ true
   pub passed : total + count from (λ p. is_stepped a i p && g p) ≡ count number (λ p. is_stepped a i p && g p)
-  pub none : (m : ℕ) → before ≤ m → m < number → is_stepped a i m ≡ false
+  pub none : (m : ℕ) → before ≤ m → m < number → (is_stepped a i m && g m) ≡ false
 
 module _ (a i : ℕ) (some : 1 ≤ i) (g : ℕ → Bool) (from before : ℕ) where
   abbrev stepped : ℕ → Bool
@@ -65,7 +65,7 @@ module _ (a i : ℕ) (some : 1 ≤ i) (g : ℕ → Bool) (from before : ℕ) whe
   walk_first number h least = record {
     step = least.passes;
     passed = (let flat = count_flat from number stepped least.low (λ m l u. and_first (is_stepped a i m) (g m) (least.least m l u)) in omega (arith, flat));
-    none = λ m l u. least.least m (omega (arith, h, l)) u;
+    none = λ m l u. and_first (is_stepped a i m) (g m) (least.least m (omega (arith, h, l)) u);
   }
 
   module _ (number total : ℕ) (walk : IsStepWalk a i g from before number total) where
@@ -78,8 +78,8 @@ module _ (a i : ℕ) (some : 1 ≤ i) (g : ℕ → Bool) (from before : ℕ) whe
         count_flat (suc number) (number + i) stepped more (λ m l u. and_first (is_stepped a i m) (g m) (none_between i some a number m walk.step l u))
         ∙ count-suc number stepped ∙ ap (λ x. count number stepped + cond x 1 0) (and_true (is_stepped a i number) (g number) walk.step)
 
-    none_next : number < before → (m : ℕ) → before ≤ m → m < number + i → is_stepped a i m ≡ false
-    none_next h m l u = none_between i some a number m walk.step (omega (arith, h, l)) u
+    none_next : number < before → (m : ℕ) → before ≤ m → m < number + i → (is_stepped a i m && g m) ≡ false
+    none_next h m l u = and_first (is_stepped a i m) (g m) (none_between i some a number m walk.step (omega (arith, h, l)) u)
 
     pub walk_in : number < before → g number ≡ true → IsStepWalk a i g from before (number + i) (total + 1)
     walk_in h e = record {
@@ -95,8 +95,26 @@ module _ (a i : ℕ) (some : 1 ≤ i) (g : ℕ → Bool) (from before : ℕ) whe
       none = none_next h;
     }
 
+    -- past numbers of which none passes, to the next step
+    pub walk_past : (out next : ℕ) → ((j : ℕ) → j < out → g (number + j) ≡ false) → IsLeastFrom (is_stepped a i) (number + out) next → number < before → IsStepWalk a i g from before next total
+    walk_past out next none least h = record {
+      step = least.passes;
+      passed = let flat = count_flat number next stepped (let low = least.low in omega (arith, low)) closed in let t = walk.passed in omega (arith, flat, t);
+      none = λ m l u. closed m (omega (arith, h, l)) u;
+    }
+      where
+        and_second : (x y : Bool) → y ≡ false → (x && y) ≡ false
+        and_second true y p = p
+        and_second false y p = refl
+
+        closed : (m : ℕ) → number ≤ m → m < next → stepped m ≡ false
+        closed m l u = elim (by_order m (number + out)) [
+          | inl early ↦ and_second (is_stepped a i m) (g m) (ap g (let same : m ≡ number + (m - number) = omega (arith, l) in same) ∙ none (m - number) (omega (arith, early, l)))
+          | inr late ↦ and_first (is_stepped a i m) (g m) (least.least m late u)
+        ]
+
     pub walk_done : before ≤ number → total + count from stepped ≡ count before stepped
-    walk_done h = walk.passed ∙ count_flat before number stepped h (λ m l u. and_first (is_stepped a i m) (g m) (walk.none m l u))
+    walk_done h = walk.passed ∙ count_flat before number stepped h (λ m l u. walk.none m l u)
 
 -- before the first nothing is a step
 pub none_stepped : (a i : ℕ) (g : ℕ → Bool) → count a (λ p. is_stepped a i p && g p) ≡ 0

@@ -12,6 +12,7 @@ use crate::date::lets_date;
 use crate::fill::{skips_hours, skips_minutes, skips_seconds};
 use crate::filled::Filled;
 use crate::never::size_of_open;
+use crate::pass::days_of_closed_month;
 use crate::places::listed_below;
 use crate::rounds::{calendar_round, seconds_of};
 use crate::step::period_of;
@@ -50,7 +51,8 @@ fn steps_let_in(parts: &Filled, first: u64, from: u64, before: u64) -> u64
     total
 }
 
-/// How many days are allowed, of those in steps of the interval from one on and before another.
+/// How many days are allowed, of those in steps of the interval from one on and before another. A month that BYMONTH does not allow is left
+/// at its end.
 fn days_let_in(parts: &Filled, from: u64, before: u64) -> u64
     requires interval { 1 ≤ parts.now.interval }
     requires order { from ≤ before }
@@ -63,8 +65,11 @@ fn days_let_in(parts: &Filled, from: u64, before: u64) -> u64
     while day < before {
         if lets_date(parts, day as u32) {
             total += 1;
+            day += parts.interval as u64;
+        } else {
+            let closed = days_of_closed_month(parts, day as u32).max(1);
+            day = next_step(from, parts.interval, day + closed as u64);
         }
-        day += parts.interval as u64;
     }
     total
 }

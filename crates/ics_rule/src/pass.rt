@@ -14,7 +14,7 @@ use crate::walk::next_step;
 use ics_values::Frequency;
 
 /// How many days from one on are in a month that BYMONTH does not allow.
-fn days_of_closed_month(parts: &Filled, day: u32) -> u32
+pub(crate) fn days_of_closed_month(parts: &Filled, day: u32) -> u32
     requires { day ≤ 3652059 }
     ensures none { (j : ℕ) → j < result → lets_date parts.now (day + j) ≡ false }
     ensures most { result ≤ 32 }

@@ -1,9 +1,9 @@
-use Rattle.std.proofs.Common.{◌∙◌, ◌+◌, ◌&&◌, sym, subst, arith}
+use Rattle.std.proofs.Common.{◌∙◌, ◌<◌, ◌&&◌, sym, subst, arith}
 use Rattle.ics_rule.specs.Candidates.{lets_date, is_stepped}
 use Rattle.ics_rule.proofs.Counts.{count_most}
-use Rattle.ics_rule.proofs.OpenLemmas.{IsStepWalk, walk_first, walk_small, walk_in, walk_out, walk_done, none_stepped, step_begins}
+use Rattle.ics_rule.proofs.PassLemmas.{one_out}
+use Rattle.ics_rule.proofs.OpenLemmas.{walk_first, walk_small, walk_in, walk_past, walk_done, none_stepped, step_begins}
 use Rattle.ics_rule.proofs.open_periods.days_let_in.Goals as goal
-use Rattle.ics_rule.proofs.open_periods.days_let_in.Goals.{then-lets_date, else-lets_date}
 
 pub loop-day-init : goal.loop-day-init
 loop-day-init c = walk_first c.args.from c.args.parts.now.interval c.requires.interval
@@ -16,19 +16,17 @@ overflow_add-total c =
     (lets_date c.args.parts.now) c.args.from c.args.before c.loop-day.day c.loop-day.total c.loop-day.invariant in
     omega (arith, small, c.loop-day-test.true, c.requires.before)
 
+pub loop-day-preserved-then-lets_date : goal.loop-day-preserved-then-lets_date
+loop-day-preserved-then-lets_date c = walk_in c.args.from c.args.parts.now.interval c.requires.interval
+    (lets_date c.args.parts.now) c.args.from c.args.before c.loop-day.day c.loop-day.total c.loop-day.invariant c.loop-day-test.true
+    (sym c.lets_date.ensures ∙ c.if-lets_date.true)
+
 pub loop-day-preserved : goal.loop-day-preserved
-loop-day-preserved c = elim c.if-lets_date.branch [
-  | then-lets_date w ↦ subst (IsStepWalk c.args.from c.args.parts.now.interval (lets_date c.args.parts.now) c.args.from c.args.before
-      (c.loop-day.day + c.args.parts.now.interval)) (sym w.total-is)
-      (walk_in c.args.from c.args.parts.now.interval c.requires.interval
-      (lets_date c.args.parts.now) c.args.from c.args.before c.loop-day.day c.loop-day.total c.loop-day.invariant c.loop-day-test.true
-      (sym c.lets_date.ensures ∙ w.if-lets_date.true))
-  | else-lets_date w ↦ subst (IsStepWalk c.args.from c.args.parts.now.interval (lets_date c.args.parts.now) c.args.from c.args.before
-      (c.loop-day.day + c.args.parts.now.interval)) (sym w.total-is)
-      (walk_out c.args.from c.args.parts.now.interval c.requires.interval
-      (lets_date c.args.parts.now) c.args.from c.args.before c.loop-day.day c.loop-day.total c.loop-day.invariant c.loop-day-test.true
-      (sym c.lets_date.ensures ∙ w.if-lets_date.false))
-]
+loop-day-preserved c = walk_past c.args.from c.args.parts.now.interval c.requires.interval
+    (lets_date c.args.parts.now) c.args.from c.args.before c.loop-day.day c.loop-day.total c.loop-day.invariant c.max-closed.result c.next_step-day.result
+    (λ j h. one_out (lets_date c.args.parts.now) c.loop-day.day c.days_of_closed_month.result (sym c.lets_date.ensures ∙ c.if-lets_date.false)
+    c.days_of_closed_month.ensures.none j (subst (λ x. j < x) c.max-closed.ensures h))
+    c.next_step-day.ensures c.loop-day-test.true
 
 pub returns-clause-value : goal.returns-clause-value
 returns-clause-value c =
