@@ -1,5 +1,5 @@
 //! How many periods of a day or less a rule allows, counted by whole days.
-ghost use Rattle.std.specs.Prelude.{◌≡◌, ℕ, ◌<◌, ◌≤◌, ◌+◌, ◌-◌, ◌*◌, ◌/◌, ◌^◌, ◌&&◌, Some};
+ghost use Rattle.std.specs.Prelude.{◌≡◌, ℕ, ◌<◌, ◌≤◌, ◌+◌, ◌-◌, ◌*◌, ◌/◌, ◌^◌, ◌&&◌, Some, false};
 ghost use Rattle.ics_values.specs.Places.{lists_none_wide};
 ghost use Rattle.ics_rule.specs.Candidates.{is_stepped, lets_date, period_in};
 ghost use Rattle.ics_rule.specs.Kept.{count};
@@ -51,6 +51,24 @@ fn steps_let_in(parts: &Filled, first: u64, from: u64, before: u64) -> u64
     total
 }
 
+/// Steps of fewer days than this fall into each month.
+const A_SHORT_MONTH: u32 = 28;
+
+/// How many days from one on, which is not allowed, are left at once.
+fn days_to_leave(parts: &Filled, day: u32) -> u32
+    requires day { day ≤ 3652059 }
+    requires out { lets_date parts.now day ≡ false }
+    ensures none { (j : ℕ) → j < result → lets_date parts.now (day + j) ≡ false }
+    ensures some { 1 ≤ result }
+    ensures most { result ≤ 32 }
+{
+    if parts.interval < A_SHORT_MONTH {
+        days_of_closed_month(parts, day).max(1)
+    } else {
+        1
+    }
+}
+
 /// How many days are allowed, of those in steps of the interval from one on and before another. A month that BYMONTH does not allow is left
 /// at its end.
 fn days_let_in(parts: &Filled, from: u64, before: u64) -> u64
@@ -67,8 +85,8 @@ fn days_let_in(parts: &Filled, from: u64, before: u64) -> u64
             total += 1;
             day += parts.interval as u64;
         } else {
-            let closed = days_of_closed_month(parts, day as u32).max(1);
-            day = next_step(from, parts.interval, day + closed as u64);
+            let out = days_to_leave(parts, day as u32) as u64;
+            day = next_step(from, parts.interval, day + out);
         }
     }
     total
