@@ -1,5 +1,5 @@
 //! How many periods of a day or less a rule allows, counted by whole days.
-ghost use Rattle.std.specs.Prelude.{◌≡◌, ℕ, ◌<◌, ◌≤◌, ◌+◌, ◌-◌, ◌*◌, ◌/◌, ◌^◌, ◌&&◌, Some, false};
+ghost use Rattle.std.specs.Prelude.{◌≡◌, ℕ, ◌<◌, ◌≤◌, ◌+◌, ◌-◌, ◌*◌, ◌/◌, ◌^◌, ◌&&◌, Some};
 ghost use Rattle.ics_values.specs.Places.{lists_none_wide};
 ghost use Rattle.ics_rule.specs.Candidates.{is_stepped, lets_date, period_in};
 ghost use Rattle.ics_rule.specs.Kept.{count};
@@ -54,21 +54,6 @@ fn steps_let_in(parts: &Filled, first: u64, from: u64, before: u64) -> u64
 /// Steps of fewer days than this fall into each month.
 const A_SHORT_MONTH: u32 = 28;
 
-/// How many days from one on, which is not allowed, are left at once.
-fn days_to_leave(parts: &Filled, day: u32) -> u32
-    requires day { day ≤ 3652059 }
-    requires out { lets_date parts.now day ≡ false }
-    ensures none { (j : ℕ) → j < result → lets_date parts.now (day + j) ≡ false }
-    ensures some { 1 ≤ result }
-    ensures most { result ≤ 32 }
-{
-    if parts.interval < A_SHORT_MONTH {
-        days_of_closed_month(parts, day).max(1)
-    } else {
-        1
-    }
-}
-
 /// How many days are allowed, of those in steps of the interval from one on and before another. A month that BYMONTH does not allow is left
 /// at its end.
 fn days_let_in(parts: &Filled, from: u64, before: u64) -> u64
@@ -78,15 +63,18 @@ fn days_let_in(parts: &Filled, from: u64, before: u64) -> u64
     ensures value { result ≡ count before (λ e. is_stepped from parts.now.interval e && lets_date parts.now e) }
     ensures bound { result ≤ before }
 {
+    let leaves_months = parts.interval < A_SHORT_MONTH && !parts.months.is_none();
     let mut total = 0;
     let mut day = from;
     while day < before {
         if lets_date(parts, day as u32) {
             total += 1;
             day += parts.interval as u64;
+        } else if leaves_months {
+            let closed = days_of_closed_month(parts, day as u32).max(1);
+            day = next_step(from, parts.interval, day + closed as u64);
         } else {
-            let out = days_to_leave(parts, day as u32) as u64;
-            day = next_step(from, parts.interval, day + out);
+            day += parts.interval as u64;
         }
     }
     total

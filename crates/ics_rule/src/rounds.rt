@@ -163,8 +163,8 @@ pub(crate) fn calendar_round(parts: &Filled, periods: u64) -> Option<u64>
     None
 }
 
-/// After how many periods the number of locals that a rule chooses repeats: by what its parts restrict, or by the calendar. None if fewer
-/// than two such rounds are left of so many periods.
+/// After how many periods the number of locals that a rule chooses repeats: by what its parts restrict, or else by the calendar, if two
+/// rounds of it fit into so many periods.
 fn round_within(parts: &Filled, periods: u64) -> Option<u64>
     requires interval { 1 ≤ parts.now.interval }
     requires periods { periods < 2 ^ 40 }

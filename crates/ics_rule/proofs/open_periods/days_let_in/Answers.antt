@@ -1,7 +1,8 @@
-use Rattle.std.proofs.Common.{◌∙◌, ◌&&◌, sym, arith}
+use Rattle.std.proofs.Common.{◌∙◌, ◌<◌, ◌&&◌, sym, subst, arith}
 use Rattle.ics_rule.specs.Candidates.{lets_date, is_stepped}
 use Rattle.ics_rule.proofs.Counts.{count_most}
-use Rattle.ics_rule.proofs.OpenLemmas.{walk_first, walk_small, walk_in, walk_past, walk_done, none_stepped, step_begins}
+use Rattle.ics_rule.proofs.PassLemmas.{one_out}
+use Rattle.ics_rule.proofs.OpenLemmas.{walk_first, walk_small, walk_in, walk_out, walk_past, walk_done, none_stepped, step_begins}
 use Rattle.ics_rule.proofs.open_periods.days_let_in.Goals as goal
 
 pub loop-day-init : goal.loop-day-init
@@ -20,10 +21,17 @@ loop-day-preserved-then-lets_date c = walk_in c.args.from c.args.parts.now.inter
     (lets_date c.args.parts.now) c.args.from c.args.before c.loop-day.day c.loop-day.total c.loop-day.invariant c.loop-day-test.true
     (sym c.lets_date.ensures ∙ c.if-lets_date.true)
 
+pub loop-day-preserved-then-leaves_months : goal.loop-day-preserved-then-leaves_months
+loop-day-preserved-then-leaves_months c = walk_past c.args.from c.args.parts.now.interval c.requires.interval
+    (lets_date c.args.parts.now) c.args.from c.args.before c.loop-day.day c.loop-day.total c.loop-day.invariant c.max-closed.result c.next_step-day.result
+    (λ j h. one_out (lets_date c.args.parts.now) c.loop-day.day c.days_of_closed_month.result (sym c.lets_date.ensures ∙ c.if-lets_date.false)
+    c.days_of_closed_month.ensures.none j (subst (λ x. j < x) c.max-closed.ensures h))
+    c.next_step-day.ensures c.loop-day-test.true
+
 pub loop-day-preserved : goal.loop-day-preserved
-loop-day-preserved c = walk_past c.args.from c.args.parts.now.interval c.requires.interval
-    (lets_date c.args.parts.now) c.args.from c.args.before c.loop-day.day c.loop-day.total c.loop-day.invariant c.days_to_leave-out.result c.next_step-day.result
-    c.days_to_leave-out.ensures.none c.next_step-day.ensures c.loop-day-test.true
+loop-day-preserved c = walk_out c.args.from c.args.parts.now.interval c.requires.interval
+    (lets_date c.args.parts.now) c.args.from c.args.before c.loop-day.day c.loop-day.total c.loop-day.invariant c.loop-day-test.true
+    (sym c.lets_date.ensures ∙ c.if-lets_date.false)
 
 pub returns-clause-value : goal.returns-clause-value
 returns-clause-value c =
