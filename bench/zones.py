@@ -93,6 +93,6 @@ ROWS = [
     ('20,000 onsets by RDATE, as many locals', lambda: [('a.ics', listed(20_000))], ['2024-01-01', '3d']),
     ('1,000 locals of a dense zone', lambda: [('a.ics', dense_locals(1_000))], ['2024-01-01', '3d']),
     ('10,000 locals of a dense zone', lambda: [('a.ics', dense_locals(10_000))], ['2024-01-01', '9d']),
-    ('100 locals in a gap behind overridden onsets', lambda: [('a.ics', overridden(100))], ['2024-01-08', '4d']),
+    ('1,000 locals in a gap behind overridden onsets', lambda: [('a.ics', overridden(1_000))], ['2024-01-08', '4d']),
     ('245 events ten years apart, COUNT', lambda: [('a.ics', apart(245))], ['2024-01-05', '1d']),
 ]

@@ -1,5 +1,5 @@
 -- Case distinctions of orders and of tests.
-use Rattle.std.proofs.Common.{◌≡◌, ℕ, ◌<◌, ◌≤◌, ◌⊎◌, inl, inr, Bool, true, false, ◌||◌, ◌&&◌, nat_lt, refl, arith, ℤ, ◌<ℤ◌, ◌≤ℤ◌}
+use Rattle.std.proofs.Common.{◌≡◌, ◌≢◌, ℕ, ◌==◌, ◌<◌, ◌≤◌, ◌⊎◌, inl, inr, Bool, true, false, ◌||◌, ◌&&◌, nat_lt, refl, arith, ℤ, ◌<ℤ◌, ◌≤ℤ◌}
 use Rattle.std.specs.Prelude.{int_lt, int_le}
 use Rattle.std.proofs.lemmas.Int.{ints}
 use Rattle.std.proofs.lemmas.Bool.Decides.{nat_tests}
@@ -16,6 +16,9 @@ less_same_or_more a b = grind (arith, nat_tests)
 pub below_or_at : (a b : ℕ) → a ≤ b → (a < b) ⊎ (a ≡ b)
 below_or_at a b h = grind (arith, nat_tests)
 
+pub same_or_not : (a b : ℕ) → (a ≡ b) ⊎ (a ≢ b)
+same_or_not a b = grind (arith, nat_tests)
+
 -- before two numbers, between them, or past them
 pub place_of_number : (from to m : ℕ) → (m < from) ⊎ ((from ≤ m) × (m < to)) ⊎ (to ≤ m)
 place_of_number from to m = grind (arith, nat_tests)
@@ -26,11 +29,26 @@ lt_true a b h = grind (arith, nat_tests)
 pub true_lt : (a b : ℕ) → a < b → nat_lt a b ≡ true
 true_lt a b h = grind (arith, nat_tests)
 
+pub false_lt : (a b : ℕ) → b ≤ a → nat_lt a b ≡ false
+false_lt a b h = grind (arith, nat_tests)
+
+pub eq_true : (a b : ℕ) → (a == b) ≡ true → a ≡ b
+eq_true a b h = grind (arith, nat_tests)
+
+pub true_eq : (a b : ℕ) → a ≡ b → (a == b) ≡ true
+true_eq a b h = grind (arith, nat_tests)
+
+pub false_eq : (a b : ℕ) → a ≢ b → (a == b) ≡ false
+false_eq a b h = grind (arith, nat_tests)
+
 pub int_lt_true : (a b : ℤ) → int_lt a b ≡ true → a <ℤ b
 int_lt_true a b h = grind (arith, ints)
 
 pub true_int_lt : (a b : ℤ) → a <ℤ b → int_lt a b ≡ true
 true_int_lt a b h = grind (arith, ints)
+
+pub false_int_lt : (a b : ℤ) → b ≤ℤ a → int_lt a b ≡ false
+false_int_lt a b h = grind (arith, ints)
 
 pub int_le_true : (a b : ℤ) → int_le a b ≡ true → a ≤ℤ b
 int_le_true a b h = grind (arith, ints)

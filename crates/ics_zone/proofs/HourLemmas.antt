@@ -1,19 +1,61 @@
 -- What two hours tell of the onsets of a rule.
-use Rattle.std.proofs.Common.{◌≡◌, ℕ, ◌<◌, inl, inr, refl, Bool, true, false, sym, subst, ap, ◌∙◌, arith, Option, Some, None, ℤ, pos, ◌+ℤ◌, ◌-ℤ◌, ◌<ℤ◌, ◌≤ℤ◌}
-use Rattle.std.specs.Prelude.{IfSome, MatchOption}
-use Rattle.std.specs.Int.{int_min}
-use Rattle.std.proofs.lemmas.Int.{ints, clamps}
+use Rattle.std.proofs.Common.{◌≡◌, ℕ, ◌+◌, ◌-◌, ◌*◌, ◌/◌, ◌%◌, ◌<◌, ◌&&◌, nat_lt, inl, inr, refl, Bool, true, false, sym, subst, ap, ◌∙◌, arith, Option, Some, None, List, length, set, ℤ, pos, ◌+ℤ◌, ◌-ℤ◌, ◌<ℤ◌, ◌≤ℤ◌}
+use Rattle.std.specs.Prelude.{IfSome, if◌then◌else◌, int_lt}
+use Rattle.std.proofs.lemmas.Int.{ints}
+use Rattle.ics_values.specs.Sets.{has}
 use Rattle.ics_rule.specs.Recurrence.{Recurrence}
 use Rattle.ics_rule.specs.Kept.{is_kept}
 use Rattle.ics_zone.specs.declared.hours.Hours.{Hours}
+use Rattle.ics_zone.specs.declared.times.Times.{Times}
 use Rattle.ics_zone.specs.declared.onsets.Onsets.{Onsets}
 use Rattle.ics_zone.specs.Observances.{epoch, instant_by}
 use Rattle.ics_zone.specs.Offsets.{natural}
-use Rattle.ics_zone.specs.OnsetSets.{IsKeptBy, IsKeptAt}
-use Rattle.ics_zone.specs.Hours.{keeps, AreHoursOf, IsToldAt, IsToldBy}
-use Rattle.ics_zone.proofs.Cases.{less_or_not_z, not_both}
+use Rattle.ics_zone.specs.OnsetSets.{IsKeptAt}
+use Rattle.ics_zone.specs.Hours.{keeps_time, keeps, AreHoursOf, IsToldAt, IsTold, IsToldBy}
+use Rattle.ics_zone.specs.Marks.{is_marked, IsMarked}
+use Rattle.ics_zone.proofs.Cases.{less_or_not, same_or_not, true_eq, false_eq, not_both, and_parts, and_both, int_lt_true, true_int_lt}
 use Rattle.ics_zone.proofs.KeptLemmas.{to_kept, from_kept}
+use Rattle.ics_zone.proofs.MinuteLemmas.{marked-set_same, marked-set_other}
 use Rattle.ics_zone.proofs.OnsetLemmas.{natural-is}
+
+-- an hour and the next
+pub hours_of : (r : Recurrence) (local : ℕ) (here next : Times) → ((n : ℕ) → n / 3_600 ≡ local / 3_600 → is_kept r n ≡ keeps_time here n)
+    → ((n : ℕ) → n / 3_600 ≡ local / 3_600 + 1 → is_kept r n ≡ keeps_time next n)
+    → AreHoursOf r local (record { hour = local / 3_600; here = here; next = next })
+hours_of r local here next now later n from early = elim (same_or_not (n / 3_600) (local / 3_600)) [
+  | inl e ↦ now n e ∙ sym (ap (λ b. if b then keeps_time here n else keeps_time next n) (true_eq (n / 3_600) (local / 3_600) e))
+  | inr ne ↦ later n (omega (arith, from, early, ne)) ∙ sym (ap (λ b. if b then keeps_time here n else keeps_time next n) (false_eq (n / 3_600) (local / 3_600) ne))
+]
+
+-- a minute that begins at a local has the seconds of two minutes of the clock
+pub minute_from_both : (hours : Hours) (local here next word : ℕ) → ((n : ℕ) → n < 60 → has here n ≡ keeps hours (local / 60 * 60 + n))
+    → ((n : ℕ) → n < 60 → has next n ≡ keeps hours ((local / 60 + 1) * 60 + n))
+    → ((n : ℕ) → n + local % 60 < 60 → has word n ≡ has here (n + local % 60))
+    → ((n m : ℕ) → m < local % 60 → n + local % 60 ≡ m + 60 → has word n ≡ has next m) → (n : ℕ) → n < 60 → has word n ≡ keeps hours (local + n)
+minute_from_both hours local here next word is_here is_next low high n small = elim (less_or_not (n + local % 60) 60) [
+  | inl less ↦ (
+      let at : local / 60 * 60 + (n + local % 60) ≡ local + n = omega arith in
+      low n less ∙ is_here (n + local % 60) less ∙ ap (keeps hours) at)
+  | inr more ↦ (
+      let at : (local / 60 + 1) * 60 + (n + local % 60 - 60) ≡ local + n = omega (arith, more) in
+      high n (n + local % 60 - 60) (omega (arith, more, small)) (omega (arith, more)) ∙ is_next (n + local % 60 - 60) (omega (arith, small)) ∙ ap (keeps hours) at)
+]
+
+-- the words of an hour, with one minute more
+pub words_more : (hours : Hours) (local : ℕ) (count : ℤ) (marks : List ℕ) (minute size word part : ℕ) → minute < length marks
+    → ((n : ℕ) → n < 60 → has word n ≡ keeps hours (local + minute * 60 + n)) → ((n : ℕ) → n < 60 → nat_lt n size ≡ int_lt (pos (minute * 60 + n)) count)
+    → ((n : ℕ) → has part n ≡ (nat_lt n size && has word n))
+    → ((k : ℕ) → k < minute * 60 → is_marked marks k ≡ (int_lt (pos k) count && keeps hours (local + k))) → (k : ℕ) → k < (minute + 1) * 60
+    → is_marked (set marks minute part) k ≡ (int_lt (pos k) count && keeps hours (local + k))
+words_more hours local count marks minute size word part inside is_word is_size is_part old k early = elim (same_or_not (k / 60) minute) [
+  | inl e ↦ (
+      let here : minute * 60 + k % 60 ≡ k = omega (arith, e) in
+      let there : local + minute * 60 + k % 60 ≡ local + k = omega (arith, e) in
+      marked-set_same marks minute part k inside e ∙ is_part (k % 60) ∙ ap (λ b. b && has word (k % 60)) (is_size (k % 60) (omega arith))
+      ∙ ap (λ b. int_lt (pos (minute * 60 + k % 60)) count && b) (is_word (k % 60) (omega arith))
+      ∙ ap (λ m. int_lt (pos m) count && keeps hours (local + minute * 60 + k % 60)) here ∙ ap (λ m. int_lt (pos k) count && keeps hours m) there)
+  | inr ne ↦ marked-set_other marks minute part k ne ∙ old k (omega (arith, ne, early))
+]
 
 -- two hours tell of each instant of an hour whether the rule has an onset there
 pub told_by : (s : Onsets) (r : Recurrence) → s.rule ≡ Some r → (from : ℤ) (local : ℕ) → from ≡ instant_by s.offset_from local → local < 309_289_701_600
@@ -52,32 +94,27 @@ module _ (s : Onsets) (hours : Hours) (t : ℤ) (told : IsToldAt s hours t) (n :
       not_both (is_kept told.rule told.local) (subst (λ m. is_kept told.rule m ≡ true) same k.kept)
       (told.same ∙ (ap (keeps hours) (sym same_local) ∙ (sym test ∙ other)))
 
--- where none is at an instant, the next is after it
-pub none_at : (s : Onsets) (after t : ℤ) → ((u : ℤ) → IsKeptAt s u → after <ℤ u → t ≤ℤ u) → (IsKeptAt s t → ⊥) → (u : ℤ) → IsKeptAt s u → after <ℤ u
-    → (t +ℤ pos 1) ≤ℤ u
-none_at s after t none not u h late = elim (less_or_not_z t u) [
-  | inl less ↦ omega (arith, ints, less)
-  | inr more ↦ absurd (
-      let low = none u h late in
-      let same : u ≡ t = omega (arith, ints, low, more) in
-      not (subst (IsKeptAt s) same h))
-]
+is_true : (b : Bool) → (b ≡ false → ⊥) → b ≡ true
+is_true true h = refl
+is_true false h = absurd (h refl)
 
--- and past the last that the rule may have, there is none before the limit
-pub none_past : (s : Onsets) (after limit t last : ℤ) → last ≡ int_min s.until (limit -ℤ pos 1) → last <ℤ t
-    → ((u : ℤ) → IsKeptAt s u → after <ℤ u → t ≤ℤ u) → (u : ℤ) → IsKeptAt s u → after <ℤ u → limit ≤ℤ u
-none_past s after limit t last is past none u h late =
-    let low = none u h late in
-    let by_end = until_of s.rule refl in
-    omega (arith, ints, clamps, is, past, low, by_end)
-  where
-    until_of : (o : Option Recurrence) → s.rule ≡ o → u ≤ℤ s.until
-    until_of (Some r) has = (from_kept s r has u h).by_end
-    until_of None has = absurd (subst (λ (o : Option Recurrence). MatchOption o ⊥ (λ r. IsKeptBy s.offset_from s.until r u)) has h)
+-- what the words of an hour tell of the onsets of a rule
+module _ (s : Onsets) (hours : Hours) (from : ℤ) (local : ℕ) (count : ℤ) (marks : List ℕ) (told : IsTold s (from -ℤ pos 1) (from +ℤ pos 3_600) hours)
+    (at : from ≡ instant_by s.offset_from local) (words : (k : ℕ) → k < 3_600 → is_marked marks k ≡ (int_lt (pos k) count && keeps hours (local + k)))
+    (down : (k : ℕ) → k < 3_600 → pos k <ℤ count → (from +ℤ pos k) ≤ℤ s.until)
+    (up : (k : ℕ) → k < 3_600 → (from +ℤ pos k) ≤ℤ s.until → pos k <ℤ count) where
+  told_at : (k : ℕ) → k < 3_600 → IsToldAt s hours (from +ℤ pos k)
+  told_at k low = told (from +ℤ pos k) (omega (arith, ints)) (omega (arith, ints, low))
 
--- what is told of some instants is told of fewer
-pub told_part : (s : Onsets) (after limit new_after new_limit : ℤ) → (o : Option Hours) → after ≤ℤ new_after → new_limit ≤ℤ limit → IsToldBy s after limit o
-    → IsToldBy s new_after new_limit o
-told_part s after limit new_after new_limit None low high told = tt
-told_part s after limit new_after new_limit (Some hours) low high told = λ t late early.
-    told t (omega (arith, ints, low, late)) (omega (arith, ints, high, early))
+  pub told_known : (k : ℕ) → k < 3_600 → IsMarked marks k → IsKeptAt s (from +ℤ pos k)
+  told_known k low m =
+      let both = and_parts (int_lt (pos k) count) (keeps hours (local + k)) (sym (words k low) ∙ m) in
+      kept_told s hours (from +ℤ pos k) (told_at k low) (local + k) (omega (arith, ints, at)) (keeps hours (local + k)) refl both.1
+      (down k low (int_lt_true (pos k) count both.0))
+
+  pub told_complete : (k : ℕ) → k < 3_600 → IsKeptAt s (from +ℤ pos k) → IsMarked marks k
+  told_complete k low h =
+      let t = told_at k low in
+      let by_end = (from_kept s t.rule t.is_rule (from +ℤ pos k) h).by_end in
+      words k low ∙ and_both (int_lt (pos k) count) (keeps hours (local + k)) (true_int_lt (pos k) count (up k low by_end))
+      (is_true (keeps hours (local + k)) (λ not. not_kept_told s hours (from +ℤ pos k) t (local + k) (omega (arith, ints, at)) (keeps hours (local + k)) refl not h))

@@ -13,6 +13,8 @@ pub mod MomentLemmas
 pub mod ZoneExamples
 pub mod LatestLemmas
 pub mod KeptLemmas
+pub mod SixtyLemmas
+pub mod MinuteLemmas
 pub mod HourLemmas
 pub mod MarkLemmas
 pub mod ListingLemmas

@@ -1,55 +1,100 @@
 -- The marks at the onsets of an hour.
-use Rattle.std.proofs.Common.{◌≡◌, ℕ, ◌+◌, ◌<◌, ◌≤◌, ◌⊎◌, inl, inr, Bool, false, sym, subst, arith, List, Some, slice_get, length, get_or, replicate, ℤ, pos, ◌+ℤ◌, ◌-ℤ◌, ◌<ℤ◌, ◌≤ℤ◌}
+use Rattle.std.proofs.Common.{◌≡◌, ℕ, ◌+◌, ◌<◌, ◌≤◌, ◌⊎◌, ◌*◌, ◌/◌, ◌%◌, ◌==◌, ◌&&◌, ◌||◌, nat_lt, inl, inr, Bool, true, false, sym, subst, ap, ◌∙◌, arith, List, Some, slice_get, length, get_or, set, replicate, bit_or, ℤ, pos, ◌+ℤ◌, ◌-ℤ◌, ◌<ℤ◌, ◌≤ℤ◌}
+use Rattle.std.specs.Prelude.{int_lt}
 use Rattle.std.proofs.lemmas.Int.{ints}
 use Rattle.std.proofs.lemmas.List.{get_or-replicate, get_or_past, length-replicate}
 use Rattle.std.proofs.lemmas.Option.{slice_get_within}
+use Rattle.ics_values.specs.Sets.{has}
 use Rattle.ics_zone.specs.declared.onsets.Onsets.{Onsets}
 use Rattle.ics_zone.specs.Observances.{Phase}
 use Rattle.ics_zone.specs.Offsets.{natural, IsOnset}
 use Rattle.ics_zone.specs.OnsetSets.{Has}
 use Rattle.ics_zone.specs.ZoneOnsets.{AreOnsetsOfAll}
-use Rattle.ics_zone.specs.Marks.{IsMarked, AreMarks, AreClear}
-use Rattle.ics_zone.proofs.Cases.{less_or_not, less_or_not_z, not_both}
+use Rattle.ics_zone.specs.Marks.{is_marked, IsMarked, IsAsked, AreMarks, AreClear}
+use Rattle.ics_zone.proofs.Cases.{less_or_not, less_or_not_z, same_or_not, eq_true, true_eq, not_both, or_cases, or_left, or_right, and_parts, int_lt_true}
+use Rattle.ics_zone.proofs.SixtyLemmas.{has-none, has-or}
+use Rattle.ics_zone.proofs.MinuteLemmas.{marked-set_same, marked-set_other}
 use Rattle.ics_zone.proofs.OnsetLemmas.{natural-is}
 use Rattle.ics_zone.proofs.ZoneSteps.{phase_there, onsets_at}
 
-module _ (s : Onsets) (local from : ℤ) where
-  -- the marks of one onset more
-  pub marks_more : (before was now : List Bool) (at : ℤ) (second : ℕ) → at ≡ from +ℤ pos second → Has s at
-      → ((k : ℕ) → IsMarked now k → IsMarked was k ⊎ ((k ≡ second) × ((at +ℤ s.offset_to) ≤ℤ local)))
-      → AreMarks s local from before was → AreMarks s local from before now
-  marks_more before was now at second is has marks old k h = elim (marks k h) [
-    | inl m ↦ old k m
-    | inr e ↦ (
-        let same = e.0 in
-        let low = e.1 in
+-- an onset more that is marked
+module _ (s : Onsets) (with_rule : Bool) (from : ℤ) (was now : List ℕ) (at : ℤ) (second : ℕ) (is : at ≡ from +ℤ pos second)
+    (marks : (k : ℕ) → is_marked now k ≡ ((k == second) || is_marked was k)) where
+  pub known_more : (before : List ℕ) → Has s at → ((k : ℕ) → IsMarked was k → IsMarked before k ⊎ Has s (from +ℤ pos k))
+      → (k : ℕ) → IsMarked now k → IsMarked before k ⊎ Has s (from +ℤ pos k)
+  known_more before has old k m = elim (or_cases (k == second) (is_marked was k) (sym (marks k) ∙ m)) [
+    | inl e ↦ (
+        let same = eq_true k second e in
         let here : at ≡ from +ℤ pos k = omega (arith, ints, is, same) in
-        inr (subst (Has s) here has, omega (arith, ints, here, low)))
+        inr (subst (Has s) here has))
+    | inr o ↦ old k o
   ]
 
-  -- no onset is before the first
-  pub clear_first : (marks : List Bool) (next : ℤ) → ((t : ℤ) → Has s t → (from -ℤ pos 1) <ℤ t → next ≤ℤ t) → AreClear s local from marks next
-  clear_first marks next none k has early later = absurd (let low = none (from +ℤ pos k) has (omega (arith, ints)) in omega (arith, ints, low, early))
+  pub stay_more : (k : ℕ) → IsMarked was k → IsMarked now k
+  stay_more k m = marks k ∙ or_right (k == second) (is_marked was k) m
 
-  pub clear_stays : (was now : List Bool) (at : ℤ) → ((k : ℕ) → IsMarked was k → IsMarked now k) → AreClear s local from was at
-      → AreClear s local from now at
-  clear_stays was now at stay old k has early later = stay k (old k has early later)
-
-  pub clear_more : (was now : List Bool) (at next : ℤ) (second : ℕ) → at ≡ from +ℤ pos second → ((k : ℕ) → IsMarked was k → IsMarked now k)
-      → (local <ℤ (at +ℤ s.offset_to) → IsMarked now second) → ((t : ℤ) → Has s t → at <ℤ t → next ≤ℤ t)
-      → AreClear s local from was at → AreClear s local from now next
-  clear_more was now at next second is stay here none old k has early later = elim (less_or_not_z (from +ℤ pos k) at) [
-    | inl less ↦ stay k (old k has less later)
+  pub complete_more : (next : ℤ) → ((t : ℤ) → IsAsked s with_rule t → at <ℤ t → next ≤ℤ t)
+      → ((k : ℕ) → (from +ℤ pos k) <ℤ at → IsAsked s with_rule (from +ℤ pos k) → IsMarked was k)
+      → (k : ℕ) → (from +ℤ pos k) <ℤ next → IsAsked s with_rule (from +ℤ pos k) → IsMarked now k
+  complete_more next none old k early asked = elim (less_or_not_z (from +ℤ pos k) at) [
+    | inl less ↦ stay_more k (old k less asked)
     | inr more ↦ elim (less_or_not_z at (from +ℤ pos k)) [
-      | inl past ↦ absurd (let low = none (from +ℤ pos k) has past in omega (arith, ints, low, early))
-      | inr not_past ↦ (
-          let same : second ≡ k = omega (arith, ints, is, more, not_past) in
-          subst (IsMarked now) same (here (omega (arith, ints, is, more, not_past, later))))
+      | inl past ↦ absurd (let low = none (from +ℤ pos k) asked past in omega (arith, ints, low, early))
+      | inr not_past ↦ marks k ∙ or_left (k == second) (is_marked was k) (true_eq k second (omega (arith, ints, is, more, not_past)))
     ]
   ]
 
+-- the marks of a minute more
+module _ (s : Onsets) (local from low : ℤ) (onsets was : List ℕ) (minute size part : ℕ) (inside : minute < length was)
+    (known : (k : ℕ) → k < 3_600 → IsMarked onsets k → Has s (from +ℤ pos k))
+    (complete : (k : ℕ) → k < 3_600 → Has s (from +ℤ pos k) → IsMarked onsets k)
+    (down : (k : ℕ) → pos k <ℤ low → (from +ℤ pos k) ≤ℤ (local -ℤ s.offset_to))
+    (is_size : (n : ℕ) → n < 60 → nat_lt n size ≡ int_lt (pos (minute * 60 + n)) low)
+    (is_part : (n : ℕ) → has part n ≡ (nat_lt n size && has (get_or onsets minute 0) n)) where
+  in_minute : (k : ℕ) → k / 60 ≡ minute → is_marked (set was minute (bit_or (get_or was minute 0) part)) k ≡ (is_marked was k || has part (k % 60))
+  in_minute k e =
+      marked-set_same was minute (bit_or (get_or was minute 0) part) k inside e ∙ has-or (get_or was minute 0) part (k % 60)
+      ∙ ap (λ m. has (get_or was m 0) (k % 60) || has part (k % 60)) (sym e)
+
+  pub stay_minute : (k : ℕ) → IsMarked was k → IsMarked (set was minute (bit_or (get_or was minute 0) part)) k
+  stay_minute k m = elim (same_or_not (k / 60) minute) [
+    | inl e ↦ in_minute k e ∙ or_left (is_marked was k) (has part (k % 60)) m
+    | inr ne ↦ marked-set_other was minute (bit_or (get_or was minute 0) part) k ne ∙ m
+  ]
+
+  new_mark : minute < 60 → (k : ℕ) → k / 60 ≡ minute → has part (k % 60) ≡ true → Has s (from +ℤ pos k) × ((from +ℤ pos k +ℤ s.offset_to) ≤ℤ local)
+  new_mark small k e h =
+      let both = and_parts (nat_lt (k % 60) size) (has (get_or onsets minute 0) (k % 60)) (sym (is_part (k % 60)) ∙ h) in
+      let here : minute * 60 + k % 60 ≡ k = omega (arith, e) in
+      let early = int_lt_true (pos (minute * 60 + k % 60)) low (sym (is_size (k % 60) (omega arith)) ∙ both.0) in
+      let not_later = down k (subst (λ m. pos m <ℤ low) here early) in
+      (known k (omega (arith, e, small)) (ap (λ m. has (get_or onsets m 0) (k % 60)) e ∙ both.1), omega (arith, ints, not_later))
+
+  pub marks_minute : minute < 60 → (before : List ℕ) → AreMarks s local from before was
+      → AreMarks s local from before (set was minute (bit_or (get_or was minute 0) part))
+  marks_minute small before old k m = elim (same_or_not (k / 60) minute) [
+    | inl e ↦ elim (or_cases (is_marked was k) (has part (k % 60)) (sym (in_minute k e) ∙ m)) [
+      | inl o ↦ old k o
+      | inr n ↦ inr (new_mark small k e n)
+    ]
+    | inr ne ↦ old k (sym (marked-set_other was minute (bit_or (get_or was minute 0) part) k ne) ∙ m)
+  ]
+
+  -- the first seconds of the minute are clear too
+  pub clear_minute : (now : List ℕ) (bound : ℕ) → ((k : ℕ) → IsMarked was k → IsMarked now k) → minute < 60 → bound ≤ 60
+      → ((n : ℕ) → n < bound → has (get_or onsets minute 0) n ≡ true → has (get_or now minute 0) n ≡ true)
+      → ((k : ℕ) → k < minute * 60 → Has s (from +ℤ pos k) → local <ℤ (from +ℤ pos k +ℤ s.offset_to) → IsMarked was k)
+      → (k : ℕ) → k < minute * 60 + bound → Has s (from +ℤ pos k) → local <ℤ (from +ℤ pos k +ℤ s.offset_to) → IsMarked now k
+  clear_minute now bound stay small most first old k early h later = elim (less_or_not k (minute * 60)) [
+    | inl less ↦ stay k (old k less h later)
+    | inr more ↦ (
+        let e : k / 60 ≡ minute = omega (arith, more, early, most) in
+        let there = ap (λ m. has (get_or onsets m 0) (k % 60)) (sym e) ∙ complete k (omega (arith, e, small)) h in
+        ap (λ m. has (get_or now m 0) (k % 60)) e ∙ first (k % 60) (omega (arith, e, more, early)) there)
+  ]
+
 -- each marked second has an onset, of an observance from a place on, that shows no later local
-abbrev pub AreOverrides : List Phase → ℕ → ℤ → ℤ → List Bool → Type 0
+abbrev pub AreOverrides : List Phase → ℕ → ℤ → ℤ → List ℕ → Type 0
 AreOverrides zone place local from marks =
     (k : ℕ) → IsMarked marks k
     → (j : ℕ) × ((q : Phase) × (IsOnset zone j (from +ℤ pos k) q × ((place ≤ j) × ((from +ℤ pos k +ℤ q.offset_to) ≤ℤ local))))
@@ -61,7 +106,7 @@ IsClearFrom zone place local after next =
     → (j : ℕ) × ((q : Phase) × (IsOnset zone j s q × ((i < j) × ((s +ℤ q.offset_to) ≤ℤ local))))
 
 module _ (zone : List Phase) (list : List Onsets) (all : AreOnsetsOfAll zone list) (k : ℕ) (o : Onsets) (inside : k < length list)
-    (at_place : o ≡ get_or list k o) (local after : ℤ) (before now : List Bool) (over : AreOverrides zone (k + 1) local (after +ℤ pos 1) before)
+    (at_place : o ≡ get_or list k o) (local after : ℤ) (before now : List ℕ) (over : AreOverrides zone (k + 1) local (after +ℤ pos 1) before)
     (marks : AreMarks o local (after +ℤ pos 1) before now) where
   pub overrides_more : AreOverrides zone k local (after +ℤ pos 1) now
   overrides_more m h = elim (marks m h) [
@@ -101,13 +146,19 @@ module _ (zone : List Phase) (list : List Onsets) (all : AreOnsetsOfAll zone lis
         ])
   ]
 
+-- nothing is marked at first
+pub none_marked : (size k : ℕ) → is_marked (replicate size 0) k ≡ false
+none_marked size k = ap (λ word. has word (k % 60)) (zero_there (k / 60)) ∙ has-none (k % 60)
+  where
+    zero_there : (m : ℕ) → ◌≡◌ {A = ℕ} (get_or (replicate size 0) m 0) 0
+    zero_there m = elim (less_or_not m size) [
+      | inl less ↦ get_or-replicate size m 0 0 less
+      | inr more ↦ get_or_past (replicate size 0) m 0 (let n = length-replicate {A = ℕ} size 0 in omega (arith, n, more))
+    ]
+
 -- of the observances past the last nothing is said
-pub overrides_none : (zone : List Phase) (place size : ℕ) (local from : ℤ) → AreOverrides zone place local from (replicate size false)
-overrides_none zone place size local from k h = elim (less_or_not k size) [
-  | inl less ↦ absurd (not_both (get_or (replicate size false) k false) h (get_or-replicate size k false false less))
-  | inr more ↦ absurd (not_both (get_or (replicate size false) k false) h
-      (get_or_past (replicate size false) k false (let n = length-replicate size false in omega (arith, n, more))))
-]
+pub overrides_none : (zone : List Phase) (place size : ℕ) (local from : ℤ) → AreOverrides zone place local from (replicate size 0)
+overrides_none zone place size local from k h = absurd (not_both (is_marked (replicate size 0) k) h (none_marked size k))
 
 pub clear_from_past : (zone : List Phase) (local after next : ℤ) → IsClearFrom zone (length zone) local after next
 clear_from_past zone local after next i s p from h late early later = absurd (let within = slice_get_within zone i p h.0 in omega (arith, within, from))

@@ -1,22 +1,19 @@
 //! What a rule keeps in two hours that follow each other.
-ghost use Rattle.std.specs.Prelude.{◌≡◌, ◌<◌, IfSome};
-ghost use Rattle.ics_zone.specs.Hours.{keeps_time, keeps, AreHoursOf};
+ghost use Rattle.std.specs.Prelude.{◌≡◌, ℕ, ◌+◌, ◌*◌, ◌<◌, ◌&&◌, int_lt, pos, IfSome};
+ghost use Rattle.ics_values.specs.Sets.{has};
+ghost use Rattle.ics_zone.specs.Hours.{keeps, AreHoursOf};
+ghost use Rattle.ics_zone.specs.Marks.{is_marked};
 
-use ics_rule::{HourTimes, Rule};
+use crate::sixty::{first_of, front, shifted};
+use crate::times::Times;
+use ics_rule::Rule;
 
 /// What a rule keeps in an hour of the clock and in the next.
 #[derive(Clone, Copy)]
 pub(crate) struct Hours {
     pub hour: u64,
-    pub here: HourTimes,
-    pub next: HourTimes,
-}
-
-// Whether the time of a local is one of these.
-fn has_time(times: HourTimes, local: u64) -> bool
-    ensures { result ≡ keeps_time times local }
-{
-    times.minutes.has((local / 60 % 60) as u8) & times.seconds.has((local % 60) as u8)
+    pub here: Times,
+    pub next: Times,
 }
 
 impl Hours {
@@ -26,19 +23,46 @@ impl Hours {
         ensures { IfSome result (AreHoursOf rule.now local) }
     {
         let hour = local / 3_600;
-        let here = rule.hour(hour)?;
-        let next = rule.hour(hour + 1)?;
+        let here = Times::of(rule.hour(hour)?);
+        let next = Times::of(rule.hour(hour + 1)?);
         Some(Hours { hour, here, next })
     }
 
-    /// Whether a local of these hours is kept.
-    pub fn keeps(&self, local: u64) -> bool
-        ensures { result ≡ keeps self.now local }
+    // The seconds of a minute of the clock.
+    fn minute(&self, minute: u64) -> u64
+        requires { minute < 10000000000 }
+        ensures { (n : ℕ) → n < 60 → has result n ≡ keeps self.now (minute * 60 + n) }
     {
-        if local / 3_600 == self.hour {
-            has_time(self.here, local)
+        if minute / 60 == self.hour {
+            self.here.minute(minute)
         } else {
-            has_time(self.next, local)
+            self.next.minute(minute)
         }
+    }
+
+    // The seconds of a minute that begins at a local.
+    fn minute_from(&self, local: u64) -> u64
+        requires { local < 400000000000 }
+        ensures { (n : ℕ) → n < 60 → has result n ≡ keeps self.now (local + n) }
+    {
+        let minute = local / 60;
+        shifted(
+            self.minute(minute),
+            self.minute(minute + 1),
+            (local % 60) as u32,
+        )
+    }
+
+    /// The first seconds of the hour that begins at a local, so many, minute by minute.
+    pub fn words(&self, local: u64, count: i64) -> [u64; 60]
+        requires { local < 309289708800 }
+        ensures { (k : ℕ) → k < 3_600 → is_marked result k ≡ (int_lt (pos k) count && keeps self.now (local + k)) }
+    {
+        let mut words = [0; 60];
+        for minute in 0..60 {
+            let word = self.minute_from(local + minute as u64 * 60);
+            words[minute] = front(word, first_of(minute, count));
+        }
+        words
     }
 }

@@ -165,7 +165,7 @@ pub(crate) fn clear_after(onsets: &[Onsets], seconds: i64, after: Moment) -> i64
     ensures most { result ≤ℤ pos 3_600 }
     ensures clear { (zone : List Phase) → AreOnsetsOfAll zone onsets.now → IsClear zone seconds after (after +ℤ result +ℤ pos 1) }
 {
-    let mut over = [false; 3_600];
+    let mut over = [0; 60];
     let mut clear = 3_600;
     for place in (0..onsets.len()).rev() {
         clear = onsets[place].clear(seconds, after + 1, &mut over, clear);

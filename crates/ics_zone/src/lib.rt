@@ -15,6 +15,8 @@ mod observance;
 mod observed;
 mod onsets;
 mod place;
+mod sixty;
+mod times;
 mod zone;
 mod zone_fault;
 mod zone_file_fault;

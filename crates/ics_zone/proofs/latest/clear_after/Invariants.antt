@@ -6,7 +6,7 @@ use Rattle.ics_zone.proofs.latest.clear_after.Given as goal
 
 abbrev pub invariant-loop-place : goal.invariant-loop-place
 invariant-loop-place l = record {
-  length : length l.over ≡ 3_600;
+  length : length l.over ≡ 60;
   some : pos 0 ≤ℤ l.clear;
   most : l.clear ≤ℤ pos 3_600;
   over : (zone : List Phase) → AreOnsetsOfAll zone l.onsets → AreOverrides zone l.place l.fn.seconds (l.fn.after +ℤ pos 1) l.over;

@@ -1,18 +1,11 @@
-use Rattle.std.proofs.Common.{◌≡◌, length, ◌+ℤ◌, ◌-ℤ◌, ◌<ℤ◌, ◌≤ℤ◌}
-use Rattle.ics_zone.specs.Offsets.{natural}
+use Rattle.std.proofs.Common.{◌≡◌, ℕ, ◌*◌, ◌<◌, length, pos, ◌+ℤ◌, ◌<ℤ◌}
 use Rattle.ics_zone.specs.OnsetSets.{Has}
-use Rattle.ics_zone.specs.Marks.{AreMarks, AreClear}
+use Rattle.ics_zone.specs.Marks.{IsMarked, AreMarks}
 use Rattle.ics_zone.proofs.onsets.Onsets.clear.Given as goal
 
-abbrev pub invariant-loop-at : goal.invariant-loop-at
-invariant-loop-at l = record {
-  length : length l.over ≡ 3_600;
-  low : l.fn.from ≤ℤ l.at;
-  high : l.at ≤ℤ (l.fn.from +ℤ l.fn.most);
-  is : l.at <ℤ (l.fn.from +ℤ l.fn.most) → Has l.self l.at;
+abbrev pub invariant-loop-minute : goal.invariant-loop-minute
+invariant-loop-minute l = record {
+  length : length l.over ≡ 60;
   marks : AreMarks l.self l.fn.seconds l.fn.from l.initial.over l.over;
-  clear : AreClear l.self l.fn.seconds l.fn.from l.over l.at;
+  clear : (k : ℕ) → k < l.minute * 60 → Has l.self (l.fn.from +ℤ pos k) → l.fn.seconds <ℤ (l.fn.from +ℤ pos k +ℤ l.self.offset_to) → IsMarked l.over k;
 }
-
-abbrev pub decreases-loop-at : goal.decreases-loop-at
-decreases-loop-at l = natural ((l.fn.from +ℤ l.fn.most) -ℤ l.at)

@@ -1,0 +1,40 @@
+//! The times of an hour that a rule keeps.
+ghost use Rattle.std.specs.Prelude.{◌≡◌, ℕ, ◌+◌, ◌*◌, ◌<◌, ◌&&◌};
+ghost use Rattle.ics_values.specs.Sets.{has};
+ghost use Rattle.ics_rule.specs.Locals.{minute_of, second_of};
+ghost use Rattle.ics_zone.specs.Hours.{keeps_time};
+
+use crate::sixty::word_of;
+use ics_rule::HourTimes;
+use ics_values::Numbers;
+
+/// Each of some minutes of an hour, with each of some seconds.
+#[derive(Clone, Copy)]
+pub(crate) struct Times {
+    pub minutes: Numbers,
+    /// The seconds, as a word.
+    pub seconds: u64,
+}
+
+impl Times {
+    /// The times that a rule gives for an hour.
+    pub fn of(times: HourTimes) -> Times
+        ensures { (n : ℕ) → keeps_time result n ≡ (has times.minutes (minute_of n) && has times.seconds (second_of n)) }
+    {
+        Times {
+            minutes: times.minutes,
+            seconds: word_of(times.seconds),
+        }
+    }
+
+    /// The seconds of a minute.
+    pub fn minute(self, minute: u64) -> u64
+        ensures { (n : ℕ) → n < 60 → has result n ≡ keeps_time self (minute * 60 + n) }
+    {
+        if self.minutes.has((minute % 60) as u8) {
+            self.seconds
+        } else {
+            0
+        }
+    }
+}
