@@ -104,8 +104,8 @@ zone_moment_near zone local =
 
 pub said_offset_near : (zone : ZoneKind) (t : ℤ) → IsNear (said_offset (zone_said zone) t)
 said_offset_near (ByObservances observances) t = zone_offset_near observances t
-said_offset_near (ByFile table) t = file_offset_near table t
+said_offset_near (ByFile table) t = file_offset_near table.value t
 
 pub said_moment_near : (zone : ZoneKind) (local : ℤ) → IsNear (said_moment (zone_said zone) local -ℤ local)
 said_moment_near (ByObservances observances) local = zone_moment_near observances local
-said_moment_near (ByFile table) local = file_moment_near table local
+said_moment_near (ByFile table) local = file_moment_near table.value local

@@ -19,7 +19,7 @@ pub data ZoneSaid : Type 0 where
 
 abbrev pub zone_said : ZoneKind → ZoneSaid
 zone_said (kind.ByObservances observances) = ByObservances (phases_of observances)
-zone_said (kind.ByFile table) = ByFile (tzif_view table)
+zone_said (kind.ByFile table) = ByFile (tzif_view table.value)
 
 -- the zone says what jiff reads of these bytes
 abbrev pub IsZoneOf : List ℕ → ZoneKind → Type 0
@@ -43,8 +43,8 @@ pub record IsRead (table : Tzif) (local t : ℤ) : Type 0 where
 -- the same by what they mean: in a zone of a file, what jiff answers
 abbrev pub IsOffsetIn : ZoneKind → ℤ → ℤ → Type 0
 IsOffsetIn (kind.ByObservances observances) t offset = IsOffset (phases_of observances) t offset
-IsOffsetIn (kind.ByFile table) t offset = offset ≡ (offset_at table (nanos_of_seconds t)).seconds
+IsOffsetIn (kind.ByFile table) t offset = offset ≡ (offset_at table.value (nanos_of_seconds t)).seconds
 
 abbrev pub IsMomentIn : ZoneKind → ℤ → ℤ → Type 0
 IsMomentIn (kind.ByObservances observances) local t = IsMomentOf (phases_of observances) local t
-IsMomentIn (kind.ByFile table) local t = IsRead table local t
+IsMomentIn (kind.ByFile table) local t = IsRead table.value local t

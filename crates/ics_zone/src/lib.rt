@@ -19,6 +19,7 @@ mod sixty;
 mod times;
 mod zone;
 mod zone_fault;
+mod zone_file;
 mod zone_file_fault;
 mod zone_laws;
 
@@ -29,5 +30,6 @@ pub use observance::Observance;
 pub use place::Place;
 pub use zone::Zone;
 pub use zone_fault::ZoneFault;
+pub use zone_file::ZoneFile;
 pub use zone_file_fault::ZoneFileFault;
 pub use zone_laws::{file_answers, one_moment, one_offset};

@@ -8,14 +8,13 @@ ghost use Rattle.ics_zone.specs.Places.{local_seconds, IsDay, IsMoment};
 
 use crate::compatible::{offset_at, picked_moment};
 use crate::observed::Observed;
+use crate::zone_file::ZoneFile;
 use crate::{Observance, Place, ZoneFault, ZoneFileFault};
 use ics_values::{Local, Moment};
 use jiff::tz::{TimeZone, Tzif};
 use std::alloc::{AllocError, Global};
 use std::marker::Model;
-
-/// The longest zone file, in bytes.
-const LONGEST: usize = 1_048_576;
+use std::rc::Rc;
 
 /// A time zone: that of a VTIMEZONE (RFC 5545, section 3.6.5), or that of a zone file (RFC 9636). Contracts see its observances, or the table
 /// that jiff read from the file.
@@ -28,7 +27,7 @@ pub struct Zone {
 #[derive(Drop)]
 pub(crate) enum ZoneKind {
     ByObservances(Observed),
-    ByFile(Tzif),
+    ByFile(Rc<Tzif>),
 }
 
 impl Model for Zone {
@@ -41,7 +40,7 @@ impl Model for Zone {
 
 impl Zone {
     ghost use Rattle.ics_zone.specs.ZoneFiles.{zone_file};
-    ghost use Rattle.ics_zone.specs.ZoneSaid.{IsZoneOf};
+    ghost use Rattle.ics_zone.specs.ZoneSaid.{ZoneSaid, zone_said, IsZoneOf};
 
     /// The zone of these observances. `NoObservance` if there is none, `ZoneRule` if one repeats more often than daily, else `Memory` if an allocation fails.
     pub fn read(alloc: Global, observances: Vec<Observance>) -> Result<Zone, ZoneFault>
@@ -65,15 +64,22 @@ impl Zone {
         ensures long { 1_048_576 < length bytes.now → result ≡ Err ZoneFileFault.BadZoneFile }
         ensures broken { (fault : TzifFault) → read_tzif bytes.now ≡ Err fault → result ≡ Err ZoneFileFault.BadZoneFile }
     {
-        if bytes.len() > LONGEST {
-            return Err(ZoneFileFault::BadZoneFile);
+        match ZoneFile::read(alloc, bytes) {
+            Ok(file) => match Zone::of_file(&file) {
+                Ok(zone) => Ok(zone),
+                Err(_) => Err(ZoneFileFault::Memory),
+            },
+            Err(fault) => Err(fault),
         }
-        match Tzif::parse(alloc, None, bytes) {
-            Ok(table) => Ok(Zone {
-                kind: ZoneKind::ByFile(table),
-            }),
-            Err(error) => Err(ZoneFileFault::of(error)),
-        }
+    }
+
+    /// The zone of a zone file that has been read, in the same memory.
+    pub fn of_file(file: &ZoneFile) -> Result<Zone, AllocError>
+        ensures { IfOk result (λ zone. zone_said zone ≡ ZoneSaid.ByFile file.now) }
+    {
+        Ok(Zone {
+            kind: ZoneKind::ByFile(file.table.clone()?),
+        })
     }
 
     /// Makes answers near an instant faster and changes none: the zone answers at every instant, before this call and after it. A zone of

@@ -10,6 +10,6 @@ pub returns-in-ByFile-clause-means : goal.returns-in-ByFile-clause-means
 returns-in-ByFile-clause-means c =
     let small : SFits w64 c.picked_moment.result = search rules in
     let kind : c.args.self.now ≡ ByFile c.in-ByFile.table = sym c.self.view_is ∙ c.in-ByFile.is in
-    rw (kind, to_z-of_z w64 c.picked_moment.result small)
+    rw (kind, to_z-of_z w64 c.picked_moment.result small, ← c.deref.ensures)
     (table_read (plain_zone c.tzif.result) _ c.tzif.ensures (local_seconds c.args.local.day c.args.local.second) c.picked_moment.result
     c.picked_moment.ensures.picked)

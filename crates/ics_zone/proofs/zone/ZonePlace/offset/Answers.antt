@@ -23,7 +23,7 @@ returns-in-ByFile-clause-means c =
     let small : SFits w32 c.offset_at.result = search rules in
     let fits : SFits w64 c.args.moment = c.ranges.moment in
     let kind : c.args.self.now ≡ ByFile c.in-ByFile.table = sym c.self.view_is ∙ c.in-ByFile.is in
-    rw (kind, to_z-of_z w32 c.offset_at.result small)
+    rw (kind, to_z-of_z w32 c.offset_at.result small, ← c.deref.ensures)
     ((simp to_z-of_z at c.offset_at.ensures) ∙ table_offset (plain_zone c.tzif.result) _ c.tzif.ensures c.args.moment)
 
 pub returns-in-ByFile-clause-value : goal.returns-in-ByFile-clause-value
@@ -31,6 +31,6 @@ returns-in-ByFile-clause-value c =
     let small : SFits w32 c.offset_at.result = search rules in
     let fits : SFits w64 c.args.moment = c.ranges.moment in
     let kind : c.args.self.now ≡ ByFile c.in-ByFile.table = sym c.self.view_is ∙ c.in-ByFile.is in
-    rw (kind, to_z-of_z w32 c.offset_at.result small)
+    rw (kind, to_z-of_z w32 c.offset_at.result small, ← c.deref.ensures)
     ((simp to_z-of_z at c.offset_at.ensures) ∙ table_offset (plain_zone c.tzif.result) _ c.tzif.ensures c.args.moment
-    ∙ sym (file_offset_is c.in-ByFile.table c.args.moment))
+    ∙ sym (file_offset_is c.deref.result.now c.args.moment))
