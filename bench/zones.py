@@ -1,4 +1,6 @@
 """The folders that measure what time zones cost, those of hostile files among them."""
+import os
+import struct
 from datetime import datetime, timedelta
 
 from folders import NEW_YORK, calendar, event, zoned
@@ -82,12 +84,36 @@ def apart(count):
     return calendar([*own, *lines])
 
 
+ZONE_FILES = os.path.join(os.path.dirname(os.path.abspath(__file__)), 'data', 'zone-files')
+
+
+def zone_files():
+    """A folder of zone files: that of New York, in which the last year's rule goes on."""
+    block = b'TZif2' + bytes(15) + struct.pack('>6I', 0, 0, 0, 0, 1, 4) + struct.pack('>iBB', -18_000, 0, 0) + b'EST\0'
+    path = os.path.join(ZONE_FILES, 'America', 'New_York')
+    os.makedirs(os.path.dirname(path), exist_ok=True)
+    with open(path, 'wb') as file:
+        file.write(block * 2 + b'\nEST5EDT,M3.2.0,M11.1.0\n')
+    return ZONE_FILES
+
+
+def one_each(count, start):
+    """Files of one event, whose start is written so."""
+    for number in range(count):
+        stamp = '%04d%02d%02dT%02d%02d00' % (2024, number // 28 % 12 + 1, number % 28 + 1, number // 60 % 24, number % 60)
+        yield '%05d.ics' % number, calendar(['BEGIN:VEVENT', 'UID:%d@example.org' % number, start % stamp, 'DURATION:PT1H',
+                                             'SUMMARY:Event %d' % number, 'END:VEVENT'])
+
+
 # what is measured: a name, the files, and the words after the folder
 ROWS = [
     ('a dense zone that nothing names', lambda: [('a.ics', calendar([*dense('20220823T000000'), *event(0)]))],
      ['2024-01-05', '1d']),
     ('200 daily zones since 0001', lambda: [('a.ics', calendar([*daily(200), *event(0)]))], ['2024-01-05', '1d']),
     ('10,000 files with a zone since 1997', lambda: many(10_000, NEW_YORK), ['2024-01-05', '1d']),
+    ('10,000 files of one event in UTC', lambda: one_each(10_000, 'DTSTART:%sZ'), ['2024-01-05', '1d']),
+    ('10,000 files of one event, a zone file', lambda: one_each(10_000, 'DTSTART;TZID=America/New_York:%s'),
+     ['2024-01-05', '1d', '--zones', zone_files()]),
     ('10,000 files as Exchange writes them', lambda: many(10_000, EXCHANGE), ['2024-01-05', '1d']),
     ('100 files of New York, a window in 9700', lambda: many(100, NEW_YORK), ['9700-01-05', '1d']),
     ('20,000 onsets by RDATE, as many locals', lambda: [('a.ics', listed(20_000))], ['2024-01-01', '3d']),

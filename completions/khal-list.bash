@@ -13,20 +13,25 @@ _khal_list() {
     for ((at = 1; at < COMP_CWORD; at++)); do
         case $command:${COMP_WORDS[at - 1]}:${COMP_WORDS[at]} in
         :*:list | :*:at | :*:help) command=${COMP_WORDS[at]} ;;
-        *:=:* | *:*:= | *:*:-* | *:--zone:* | *:--limit:* | *:--after:* | *:--*format:*) ;;
+        *:=:* | *:*:= | *:*:-* | *:--zone:* | *:--zones:* | *:--limit:* | *:--after:* | *:--*format:*) ;;
         list:* | at:*) folder=${COMP_WORDS[at]} ;;
         esac
     done
     placeholders='{cell} {title} {start-time} {end-time} {start-date} {end-date} {location} {description} {uid} {cancelled}'
     case $before in
     --zone) words='UTC' ;;
+    --zones)
+        compopt -o filenames 2>/dev/null
+        mapfile -t COMPREPLY < <(compgen -d -- "$word")
+        return
+        ;;
     --limit | --after) return ;;
     --format) words=$placeholders ;;
     --day-format) words='{name} {date}' ;;
     *)
         case $command:$word in
-        list:-*) words='--zone --limit --after --notstarted --every-day --format --day-format --help' ;;
-        at:-*) words='--zone --help' ;;
+        list:-*) words='--zone --zones --limit --after --notstarted --every-day --format --day-format --help' ;;
+        at:-*) words='--zone --zones --help' ;;
         :-*) words='--help' ;;
         :*) words='list at help' ;;
         help:*) words='list at' ;;

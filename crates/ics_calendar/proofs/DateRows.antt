@@ -10,21 +10,19 @@ use Rattle.ics_calendar.specs.declared.time.Rdate.{Rdate}
 use Rattle.ics_calendar.specs.declared.time.Rdate.TheVariants.{At, Span}
 use Rattle.ics_calendar.specs.declared.time.Time.{Time}
 use Rattle.ics_calendar.specs.Event.{EventSeen}
-use Rattle.ics_calendar.specs.Files.{events_of}
-use Rattle.ics_calendar.specs.Placed.{placed}
-use Rattle.ics_calendar.proofs.ExampleFiles.{calendar, zone, fault, at}
+use Rattle.ics_calendar.proofs.ExampleFiles.{calendar, events, zone, fault, at}
 
 abbrev event : List (List ℕ) → List (List ℕ)
 event lines = codes "BEGIN:VEVENT" ∷ codes "UID:a" ∷ codes "DTSTART:20240105T100000Z" ∷ lines ++ codes "END:VEVENT" ∷ []
 
 abbrev rdates : List ℕ → List (List Rdate)
-rdates file = map (λ (e : EventSeen). e.rdates) (events_of (placed file))
+rdates file = map (λ (e : EventSeen). e.rdates) (events file)
 
 abbrev exdates : List ℕ → List (List Time)
-exdates file = map (λ (e : EventSeen). e.exdates) (events_of (placed file))
+exdates file = map (λ (e : EventSeen). e.exdates) (events file)
 
 abbrev recurrences : List ℕ → List (Option Time)
-recurrences file = map (λ (e : EventSeen). e.recurrence) (events_of (placed file))
+recurrences file = map (λ (e : EventSeen). e.recurrence) (events file)
 
 abbrev time : Stamp → Option ℕ → Time
 time stamp zone = record { stamp = stamp; zone = zone }

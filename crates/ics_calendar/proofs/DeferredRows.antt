@@ -5,22 +5,20 @@ use Rattle.ics_calendar.specs.declared.fault.FaultKind.TheVariants.{BadEnd, Unkn
 use Rattle.ics_calendar.specs.declared.time.Length.{Length}
 use Rattle.ics_calendar.specs.declared.time.Length.TheVariants.{Until}
 use Rattle.ics_calendar.specs.Event.{EventSeen}
-use Rattle.ics_calendar.specs.Files.{events_of}
-use Rattle.ics_calendar.specs.Placed.{placed}
-use Rattle.ics_calendar.proofs.ExampleFiles.{calendar, zone, fault, at}
+use Rattle.ics_calendar.proofs.ExampleFiles.{calendar, events, zone, fault, at}
 
 abbrev event : List (List ℕ) → List (List ℕ)
 event lines = codes "BEGIN:VEVENT" ∷ codes "UID:a" ∷ lines ++ codes "END:VEVENT" ∷ []
 
 abbrev starts : List ℕ → List (Option ℕ)
-starts file = map (λ (e : EventSeen). e.start.zone) (events_of (placed file))
+starts file = map (λ (e : EventSeen). e.start.zone) (events file)
 
 abbrev end_zone : Length → Option ℕ
 end_zone (Until end) = end.zone
 end_zone _ = None
 
 abbrev ends : List ℕ → List (Option ℕ)
-ends file = map (λ (e : EventSeen). end_zone e.length) (events_of (placed file))
+ends file = map (λ (e : EventSeen). end_zone e.length) (events file)
 
 -- zones A, B and again A, an event behind them and one before
 abbrev file : List ℕ

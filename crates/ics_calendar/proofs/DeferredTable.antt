@@ -15,7 +15,7 @@ use Rattle.ics_calendar.specs.declared.component.Context.{Context}
 use Rattle.ics_calendar.specs.declared.component.Context.TheVariants as context
 use Rattle.ics_calendar.specs.declared.dated.Dated.{Dated}
 use Rattle.ics_calendar.specs.declared.fault.FaultKind.{FaultKind}
-use Rattle.ics_calendar.specs.declared.fault.FaultKind.TheVariants.{BadEnd, UnknownZone}
+use Rattle.ics_calendar.specs.declared.fault.FaultKind.TheVariants.{BadEnd, UnknownZone, BadZoneFile}
 use Rattle.ics_calendar.specs.declared.deferred_check.Instant.{Instant}
 use Rattle.ics_calendar.specs.declared.deferred_check.Instant.TheVariants as instant
 use Rattle.ics_calendar.specs.declared.deferred_check.DeferredCheck.{DeferredCheck}
@@ -29,8 +29,7 @@ use Rattle.ics_calendar.specs.Event.{seconds_of, is_zoned}
 use Rattle.ics_calendar.specs.Names.{name_of}
 use Rattle.ics_calendar.specs.Placed.{Placed, Open, context_of, closes}
 use Rattle.ics_calendar.specs.Values.{dated_of, is_out}
-use Rattle.ics_calendar.specs.Faults.{stamp_names, is_in_unknown_zone, stands_later, kinds}
-use Rattle.ics_calendar.specs.Wanted.{tzid_on}
+use Rattle.ics_calendar.specs.Faults.{stamp_names, is_in_unknown_zone, stands_later, kinds, tzid_on}
 use Rattle.ics_calendar.specs.DeferredChecks.{KnownZones, are_out, zone_used, moment_on, moment_in, are_of_one_zone, ends_badly_later, moment_of, judged}
 use Rattle.ics_calendar.specs.DeferredChecks.{unknown_in}
 use Rattle.ics_calendar.specs.Lines.{instant_on, instant_in, both_compared, ends_in}
@@ -91,8 +90,11 @@ in_zone_flat u v q =
     (is_event_context q && list_any has_zoned (map listed_in (dates_at u v)))
     || (is_event_context q && list_any (bytes_eq u) stamp_names && is_zoned (dated_of v.params v.value).stamp)
 
-abbrev later_flat : (u : List ℕ) (v : Parts) (q : Context) (cl be has : Bool) → Option FaultKind
-later_flat u v q cl be has = cond (ends_flat u q cl && be) (Some BadEnd) (cond (in_zone_flat u v q && not has) (Some UnknownZone) None)
+abbrev unknown_flat : (zoned has bad : Bool) → Option FaultKind
+unknown_flat zoned has bad = cond ((zoned && not has) && not bad) (Some UnknownZone) (cond ((zoned && not has) && bad) (Some BadZoneFile) None)
+
+abbrev later_flat : (u : List ℕ) (v : Parts) (q : Context) (cl be has bad : Bool) → Option FaultKind
+later_flat u v q cl be has bad = cond (ends_flat u q cl && be) (Some BadEnd) (unknown_flat (in_zone_flat u v q) has bad)
 
 abbrev check_of : Name → Parts → Component → Context → Readings → Option DeferredCheck
 check_of n v c q g = check_in n v (frame_at c q g)
@@ -137,13 +139,18 @@ turned false x = refl
 
 -- as it is judged
 in-zone : (known : KnownZones) (zoned : Bool) (used : ZoneName) →
-    cond (zoned && not (is_some (known.index used))) (Some UnknownZone) None ≡ option_and_then (judged known) (cond zoned (Some (check.Zone used)) None)
+    unknown_flat zoned (is_some (known.index used)) (known.is_bad used.name) ≡ option_and_then (judged known) (cond zoned (Some (check.Zone used)) None)
 in-zone known false used = refl
-in-zone known true used = turned (is_some (known.index used)) UnknownZone
+in-zone known true used = by_tests (is_some (known.index used)) (known.is_bad used.name)
+  where
+    by_tests : (has bad : Bool) → unknown_flat true has bad ≡ cond has None (cond bad (Some BadZoneFile) (Some UnknownZone))
+    by_tests true bad = refl
+    by_tests false true = refl
+    by_tests false false = refl
 
 judged-left : (known : KnownZones) (ends zoned : Bool) (left : Option DeferredCheck) (calendar : ℕ) (start end : Option Dated) (used : ZoneName) →
     Leaves ends zoned left (ends_in calendar start end) used →
-    cond (ends && ends_badly_later known calendar start end) (Some BadEnd) (cond (zoned && not (is_some (known.index used))) (Some UnknownZone) None)
+    cond (ends && ends_badly_later known calendar start end) (Some BadEnd) (unknown_flat zoned (is_some (known.index used)) (known.is_bad used.name))
     ≡ option_and_then (judged known) left
 judged-left known ends zoned left k start end used (inl h) = rw (h.0, h.1, h.2) (ends-judged known k start end)
 judged-left known ends zoned left k start end used (inr h) = rw (h.0, h.1) (in-zone known zoned used)
@@ -180,8 +187,8 @@ asked-left index ends zoned left k start end used (inr h) = rw h.1 (by_zone zone
     by_zone true = turned (is_some (index used)) used.name
     by_zone false = refl
 
-outside-later : (u : List ℕ) (v : Parts) (cl be has : Bool) → later_flat u v context.Outside cl be has ≡ None
-outside-later u v cl be has = by_tests (bytes_eq u (codes "END") && cl)
+outside-later : (u : List ℕ) (v : Parts) (cl be has bad : Bool) → later_flat u v context.Outside cl be has bad ≡ None
+outside-later u v cl be has bad = by_tests (bytes_eq u (codes "END") && cl)
   where
     by_tests : (t : Bool) → cond (t && false && be) (Some BadEnd) None ≡ None
     by_tests true = refl
@@ -200,7 +207,7 @@ pub later-same : (whole : List Placed) (known : KnownZones) (line : Line) (path 
 later-same whole known line [] parts ls m =
     let u : List ℕ = map upper parts.name in
     let g : Readings = readings whole [] ls in
-    outside-later u parts false (bad_check known g) (is_some (known.index (use_of g parts)))
+    outside-later u parts false (bad_check known g) (is_some (known.index (use_of g parts))) (known.is_bad (use_of g parts).name)
     ∙ ap (option_and_then (judged known)) (sym (none-outside whole (name_of u) parts ls))
 later-same whole known line (c ∷ cs) parts ls m =
     let u : List ℕ = map upper parts.name in

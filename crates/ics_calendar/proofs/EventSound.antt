@@ -16,7 +16,7 @@ use Rattle.ics_calendar.specs.declared.date_list.DateList.{DateList}
 use Rattle.ics_calendar.specs.declared.date_list.ListedDate.{ListedDate}
 use Rattle.ics_calendar.specs.declared.date_list.ListedDate.TheVariants as value
 use Rattle.ics_calendar.specs.declared.dated.Dated.{Dated}
-use Rattle.ics_calendar.specs.declared.fault.FaultKind.TheVariants.{UnknownZone}
+use Rattle.ics_calendar.specs.declared.fault.FaultKind.TheVariants.{UnknownZone, BadZoneFile}
 use Rattle.ics_calendar.specs.declared.deferred_check.DeferredCheck.{DeferredCheck}
 use Rattle.ics_calendar.specs.declared.deferred_check.DeferredCheck.TheVariants as check
 use Rattle.ics_calendar.specs.declared.deferred_check.ZoneName.{ZoneName}
@@ -37,16 +37,17 @@ use Rattle.ics_calendar.proofs.Listed.{All-flat_map}
 abbrev pub IsFine : KnownZones → Option DeferredCheck → Type 0
 IsFine known o = IfSome o (λ l. judged known l ≡ None)
 
-pub known-zone : (t : Bool) → cond t None (Some UnknownZone) ≡ None → t ≡ true
-known-zone true e = refl
-known-zone false e = cc
+pub known-zone : (t bad : Bool) → cond t None (cond bad (Some BadZoneFile) (Some UnknownZone)) ≡ None → t ≡ true
+known-zone true bad e = refl
+known-zone false true e = cc
+known-zone false false e = cc
 
 stamp-time : (known : KnownZones) (name : ZoneName) (r : Stamp) → IsSoundStamp r → IsFine known (cond (is_zoned r) (Some (check.Zone name)) None) →
     IsTime (time_in (known.index name) r)
 stamp-time known name (Date d) h k = record { years = h; zone = refl }
 stamp-time known name (Floating l) h k = record { years = h; zone = refl }
 stamp-time known name (Utc l) h k = record { years = h; zone = refl }
-stamp-time known name (Zoned l) h k = record { years = h; zone = known-zone (is_some (known.index name)) k }
+stamp-time known name (Zoned l) h k = record { years = h; zone = known-zone (is_some (known.index name)) (known.is_bad name.name) k }
 
 time-sound : (known : KnownZones) (calendar : ℕ) (d : Dated) → IsSoundStamp d.stamp → IsFine known (used_zone calendar d) →
     IsTime (time_on known.index calendar d)

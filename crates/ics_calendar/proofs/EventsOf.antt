@@ -1,5 +1,5 @@
 -- An event that no fault of either round stands on is one of the zones of its file.
-use Rattle.std.proofs.Common.{◌≡◌, ℕ, ◌<◌, Bool, true, false, ◌&&◌, ◌||◌, ◌==◌, List, [], length, get_or, refl, sym, ap, ◌∙◌, subst, arith, cond, Option, Some}
+use Rattle.std.proofs.Common.{◌≡◌, ℕ, ◌<◌, Bool, true, false, ◌||◌, ◌==◌, List, [], length, get_or, refl, sym, ap, ◌∙◌, subst, arith, cond, Option, Some}
 use Rattle.std.proofs.Common.{None, is_some, IfSome, ℤ}
 use Rattle.std.specs.Prelude.{slice_get, map, flat_map, option_map}
 use Rattle.std.specs.List.{All}
@@ -8,7 +8,6 @@ use Rattle.std.specs.Str.{bytes_eq}
 use Rattle.std.specs.Cmp.Lexicographic.{bytes_decides}
 use Rattle.std.proofs.lemmas.Bool.Decides.{nat_tests}
 use Rattle.std.proofs.lemmas.List.Elements.{All-map}
-use Rattle.std.proofs.lemmas.List.Quantifiers.{position-Some}
 use Rattle.std.proofs.lemmas.Option.{slice_get-get_or}
 use Rattle.ics_values.specs.declared.local.Local.{Local}
 use Rattle.ics_values.specs.declared.stamp.Stamp.{Stamp}
@@ -30,7 +29,8 @@ use Rattle.ics_calendar.specs.Event.{seconds_of, is_zoned, IsWithin, EndsBelow, 
 use Rattle.ics_calendar.specs.Event.{is_one_zone, moment_in}
 use Rattle.ics_calendar.specs.Builders.{event_of}
 use Rattle.ics_calendar.specs.DateLists.{zone_listed, rdate_in, first_stamp, exdate_in}
-use Rattle.ics_calendar.specs.DeferredChecks.{KnownZones, known_zones, is_same, zone_index, zone_used, moment_at, moment_there, are_out}
+use Rattle.ics_calendar.specs.DeferredChecks.{KnownZones, zone_used, moment_at, moment_there, are_out}
+use Rattle.ics_calendar.specs.DraftsSound.{IsTable}
 use Rattle.ics_calendar.specs.Lines.{used_zone, used_in, ends_in}
 use Rattle.ics_calendar.specs.Ready.{IsReady, end_of}
 use Rattle.ics_calendar.specs.Sound.{IsSoundLength}
@@ -49,45 +49,19 @@ fine-end false e = refl
 abbrev named : ℕ → List ℕ → ZoneName
 named k x = record { calendar = k; name = x }
 
--- A NAME IN A TABLE.
-same-text : (a b : ZoneName) → is_same a b ≡ true → a.name ≡ b.name
-same-text a b h = by_tests (a.calendar == b.calendar) (bytes_eq a.name b.name) refl h
-  where
-    by_tests : (s t : Bool) → bytes_eq a.name b.name ≡ t → (s && t) ≡ true → a.name ≡ b.name
-    by_tests true true e h = (bytes_decides a.name b.name).0 e
-    by_tests true false e h = cc
-    by_tests false t e h = cc
-
-index-below : (names : List ZoneName) (used : ZoneName) → IfSome (zone_index names used) (λ i. i < length names)
-index-below names used = by_index (zone_index names used) refl
-  where
-    by_index : (o : Option ℕ) → zone_index names used ≡ o → IfSome o (λ i. i < length names)
-    by_index (Some i) e = (position-Some (is_same used) names i used e).0
-    by_index None e = tt
-
--- two names with one index are one
-one-name : (names : List ZoneName) (k : ℕ) (x y : List ℕ) (i : ℕ) → zone_index names (named k x) ≡ Some i → zone_index names (named k y) ≡ Some i → x ≡ y
-one-name names k x y i e f =
-    let d : ZoneName = named k x in
-    same-text (named k x) (get_or names i d) (position-Some (is_same (named k x)) names i d e).1
-    ∙ sym (same-text (named k y) (get_or names i d) (position-Some (is_same (named k y)) names i d f).1)
-
-module _ (names : List ZoneName) (zones : List ZoneSaid) (long : length names ≡ length zones) where
-  abbrev known : KnownZones
-  known = known_zones names zones
-
+module _ (known : KnownZones) (table : IsTable known) where
   -- a zoned local where its zone is known
-  local-there : (used : ZoneName) (local : Local) (i : ℕ) → zone_index names used ≡ Some i →
-      moment_there known used local ≡ Some (moment_in zones (Some i) (Zoned local))
+  local-there : (used : ZoneName) (local : Local) (i : ℕ) → known.index used ≡ Some i →
+      moment_there known used local ≡ Some (moment_in known.zones (Some i) (Zoned local))
   local-there used local i e =
-      ap (option_and_then (moment_at zones local)) e ∙ by_zone (slice_get zones i) refl
+      ap (option_and_then (moment_at known.zones local)) e ∙ by_zone (slice_get known.zones i) refl
     where
-      below : i < length zones
-      below = subst (λ n. i < n) long (position-Some (is_same used) names i used e).0
+      below : i < length known.zones
+      below = subst (λ o. IfSome o (λ i. i < length known.zones)) e (table.below used)
 
-      by_zone : (o : Option ZoneSaid) → slice_get zones i ≡ o → moment_at zones local i ≡ Some (moment_in zones (Some i) (Zoned local))
+      by_zone : (o : Option ZoneSaid) → slice_get known.zones i ≡ o → moment_at known.zones local i ≡ Some (moment_in known.zones (Some i) (Zoned local))
       by_zone (Some z) f = rw f refl
-      by_zone None f = let g = slice_get-get_or zones i (ZoneSaid.ByObservances []) below in cc
+      by_zone None f = let g = slice_get-get_or known.zones i (ZoneSaid.ByObservances []) below in cc
 
   not-out : (a b : Option ℤ) (x y : ℤ) → a ≡ Some x → b ≡ Some y → cond (are_out a b) (Some BadEnd) None ≡ None → is_out x y ≡ false
   not-out a b x y e f h =
@@ -97,52 +71,52 @@ module _ (names : List ZoneName) (zones : List ZoneSaid) (long : length names �
   time s o = record { stamp = s; zone = o }
 
   abbrev Within : Stamp → Option ℕ → Stamp → Option ℕ → Type 0
-  Within s o t p = IsWithin (compared (is_one_zone o p) zones (time s o)) (compared (is_one_zone o p) zones (time t p))
+  Within s o t p = IsWithin (compared (is_one_zone o p) known.zones (time s o)) (compared (is_one_zone o p) known.zones (time t p))
 
-  both-zoned : (k : ℕ) (x y : List ℕ) (a b : Local) (i j : ℕ) → zone_index names (named k x) ≡ Some i → zone_index names (named k y) ≡ Some j →
+  both-zoned : (k : ℕ) (x y : List ℕ) (a b : Local) (i j : ℕ) → known.index (named k x) ≡ Some i → known.index (named k y) ≡ Some j →
       is_bad_end (bytes_eq x y) (Zoned a) (Zoned b) ≡ false → IsFine known (check_between (named k x) (named k y) (bytes_eq x y) (Zoned a) (Zoned b)) →
       Within (Zoned a) (Some i) (Zoned b) (Some j)
   both-zoned k x y a b i j e f l h = by_tests (i == j) (bytes_eq x y) refl refl l h
     where
       by_tests : (t z : Bool) → (i == j) ≡ t → bytes_eq x y ≡ z → is_bad_end z (Zoned a) (Zoned b) ≡ false →
           IsFine known (check_between (named k x) (named k y) z (Zoned a) (Zoned b)) →
-          IsWithin (compared t zones (time (Zoned a) (Some i))) (compared t zones (time (Zoned b) (Some j)))
+          IsWithin (compared t known.zones (time (Zoned a) (Some i))) (compared t known.zones (time (Zoned b) (Some j)))
       by_tests true true t z l h = out-within (seconds_of a) (seconds_of b) l
       by_tests true false t z l h =
           let one : i ≡ j = grind (arith, nat_tests, t) in
-          let same : x ≡ y = one-name names k x y i e (f ∙ ap (λ (n : ℕ). Some n) (sym one)) in
+          let same : x ≡ y = table.single (named k x) (named k y) i e (f ∙ ap (λ (n : ℕ). Some n) (sym one)) in
           let told : bytes_eq x y ≡ true = (bytes_decides x y).1 same in
           cc
       by_tests false true t z l h =
           let same : x ≡ y = (bytes_decides x y).0 z in
-          let one : i ≡ j = some-same i j (sym e ∙ ap (λ w. zone_index names (named k w)) same ∙ f) in
+          let one : i ≡ j = some-same i j (sym e ∙ ap (λ w. known.index (named k w)) same ∙ f) in
           absurd (grind (arith, nat_tests, t, one))
       by_tests false false t z l h =
-          out-within (moment_in zones (Some i) (Zoned a)) (moment_in zones (Some j) (Zoned b))
+          out-within (moment_in known.zones (Some i) (Zoned a)) (moment_in known.zones (Some j) (Zoned b))
           (not-out (moment_there known (named k x) a) (moment_there known (named k y) b) _ _ (local-there (named k x) a i e) (local-there (named k y) b j f) h)
 
-  first-zoned : (k : ℕ) (x : List ℕ) (a b : Local) (i : ℕ) → zone_index names (named k x) ≡ Some i →
+  first-zoned : (k : ℕ) (x : List ℕ) (a b : Local) (i : ℕ) → known.index (named k x) ≡ Some i →
       IsFine known (Some (check.Ends (instant.Zoned a (named k x)) (instant.Utc b))) → Within (Zoned a) (Some i) (Utc b) None
   first-zoned k x a b i e h =
-      out-within (moment_in zones (Some i) (Zoned a)) (seconds_of b)
+      out-within (moment_in known.zones (Some i) (Zoned a)) (seconds_of b)
       (not-out (moment_there known (named k x) a) (Some (seconds_of b)) _ _ (local-there (named k x) a i e) refl h)
 
-  second-zoned : (k : ℕ) (y : List ℕ) (a b : Local) (j : ℕ) → zone_index names (named k y) ≡ Some j →
+  second-zoned : (k : ℕ) (y : List ℕ) (a b : Local) (j : ℕ) → known.index (named k y) ≡ Some j →
       IsFine known (Some (check.Ends (instant.Utc a) (instant.Zoned b (named k y)))) → Within (Utc a) None (Zoned b) (Some j)
   second-zoned k y a b j f h =
-      out-within (seconds_of a) (moment_in zones (Some j) (Zoned b))
+      out-within (seconds_of a) (moment_in known.zones (Some j) (Zoned b))
       (not-out (Some (seconds_of a)) (moment_there known (named k y) b) _ _ refl (local-there (named k y) b j f) h)
 
   -- the name of a zoned stamp is known
-  index-is : (used : ZoneName) → IsFine known (Some (check.Zone used)) → (i : ℕ) × (zone_index names used ≡ Some i)
-  index-is used h = by_index (zone_index names used) refl (known-zone (is_some (zone_index names used)) h)
+  index-is : (used : ZoneName) → IsFine known (Some (check.Zone used)) → (i : ℕ) × (known.index used ≡ Some i)
+  index-is used h = by_index (known.index used) refl (known-zone (is_some (known.index used)) (known.is_bad used.name) h)
     where
-      by_index : (o : Option ℕ) → zone_index names used ≡ o → is_some o ≡ true → (i : ℕ) × (zone_index names used ≡ Some i)
+      by_index : (o : Option ℕ) → known.index used ≡ o → is_some o ≡ true → (i : ℕ) × (known.index used ≡ Some i)
       by_index (Some i) e g = (i, e)
       by_index None e g = cc
 
   abbrev used_on : ZoneName → Stamp → Option ℕ
-  used_on name r = cond (is_zoned r) (zone_index names name) None
+  used_on name r = cond (is_zoned r) (known.index name) None
 
   within : (k : ℕ) (x y : List ℕ) (r q : Stamp) → is_bad_end (bytes_eq x y) r q ≡ false →
       IsFine known (cond (is_zoned r) (Some (check.Zone (named k x))) None) → IsFine known (cond (is_zoned q) (Some (check.Zone (named k y))) None) →
@@ -170,56 +144,56 @@ module _ (names : List ZoneName) (zones : List ZoneSaid) (long : length names �
 
   ends-within : (k : ℕ) (start : Dated) (length : GivenLength) → IsSoundLength start length →
       IsFine known (used_zone k start) → IsFine known (used_in k (end_of length)) → IsFine known (ends_in k (Some start) (end_of length)) →
-      EndsWithin zones (time_on (zone_index names) k start) (length_of (zone_index names) k length)
+      EndsWithin known.zones (time_on known.index k start) (length_of known.index k length)
   ends-within k s (given.Until e) h u v w = within k (tzid s) (tzid e) s.stamp e.stamp h.1 u v w
   ends-within k s (given.Lasting d) h u v w = tt
   ends-within k s given.Open h u v w = tt
 
   -- ITS ZONES.
-  stamp-below : (used : ZoneName) (r : Stamp) → IfSome (used_on used r) (λ i. i < length zones)
-  stamp-below used (Zoned a) = subst (λ n. IfSome (zone_index names used) (λ i. i < n)) long (index-below names used)
+  stamp-below : (used : ZoneName) (r : Stamp) → IfSome (used_on used r) (λ i. i < length known.zones)
+  stamp-below used (Zoned a) = table.below used
   stamp-below used _ = tt
 
-  time-below : (k : ℕ) (d : Dated) → TimeBelow (length zones) (time_on (zone_index names) k d)
+  time-below : (k : ℕ) (d : Dated) → TimeBelow (length known.zones) (time_on known.index k d)
   time-below k d = stamp-below (zone_used k d) d.stamp
 
-  ends-below : (k : ℕ) (l : GivenLength) → EndsBelow (length zones) (length_of (zone_index names) k l)
+  ends-below : (k : ℕ) (l : GivenLength) → EndsBelow (length known.zones) (length_of known.index k l)
   ends-below k (given.Until d) = time-below k d
   ends-below k (given.Lasting d) = tt
   ends-below k given.Open = tt
 
-  rdate-below : (used : ZoneName) (v : ListedDate) → RdateBelow (length zones) (rdate_in (zone_index names used) v)
+  rdate-below : (used : ZoneName) (v : ListedDate) → RdateBelow (length known.zones) (rdate_in (known.index used) v)
   rdate-below used (value.At r) = stamp-below used r
   rdate-below used (value.Between r q) = (stamp-below used r, stamp-below used q)
   rdate-below used (value.Lasting r d) = (stamp-below used r, tt)
 
-  exdate-below : (used : ZoneName) (v : ListedDate) → TimeBelow (length zones) (exdate_in (zone_index names used) v)
+  exdate-below : (used : ZoneName) (v : ListedDate) → TimeBelow (length known.zones) (exdate_in (known.index used) v)
   exdate-below used v = stamp-below used (first_stamp v)
 
-  lists-below : {A : Type 0} (P : A → Type 0) (f : Option ℕ → ListedDate → A) → ((used : ZoneName) (v : ListedDate) → P (f (zone_index names used) v)) →
+  lists-below : {A : Type 0} (P : A → Type 0) (f : Option ℕ → ListedDate → A) → ((used : ZoneName) (v : ListedDate) → P (f (known.index used) v)) →
       (k : ℕ) (lists : List DateList) →
-      All P (flat_map (λ list. map (f (zone_index names (zone_listed k list))) list.values) lists)
+      All P (flat_map (λ list. map (f (known.index (zone_listed k list))) list.values) lists)
   lists-below P f each k lists =
-      All-flat_map P (λ list. map (f (zone_index names (zone_listed k list))) list.values) lists
-      (λ i d l. All-map P (f (zone_index names (zone_listed k (get_or lists i d)))) (get_or lists i d).values
+      All-flat_map P (λ list. map (f (known.index (zone_listed k list))) list.values) lists
+      (λ i d l. All-map P (f (known.index (zone_listed k (get_or lists i d)))) (get_or lists i d).values
       (λ j e m. each (zone_listed k (get_or lists i d)) (get_or (get_or lists i d).values j e)))
 
-  recurrence-below : (k : ℕ) (o : Option Dated) → IfSome (option_map (time_on (zone_index names) k) o) (TimeBelow (length zones))
+  recurrence-below : (k : ℕ) (o : Option Dated) → IfSome (option_map (time_on known.index k) o) (TimeBelow (length known.zones))
   recurrence-below k None = tt
   recurrence-below k (Some d) = stamp-below (zone_used k d) d.stamp
 
-  event-of : (e : EndedEvent) → IsReady known e → IsEventOf zones (event_of (zone_index names) e)
+  event-of : (e : EndedEvent) → IsReady known e → IsEventOf known.zones (event_of known.index e)
   event-of e r = record {
     below = record {
       start = time-below e.calendar e.start;
       length = ends-below e.calendar e.length;
-      rdates = lists-below (RdateBelow (length zones)) rdate_in rdate-below e.calendar e.rdates;
-      exdates = lists-below (TimeBelow (length zones)) exdate_in exdate-below e.calendar e.exdates;
+      rdates = lists-below (RdateBelow (length known.zones)) rdate_in rdate-below e.calendar e.rdates;
+      exdates = lists-below (TimeBelow (length known.zones)) exdate_in exdate-below e.calendar e.exdates;
       recurrence = recurrence-below e.calendar e.recurrence;
     };
     short = ends-within e.calendar e.start e.length r.whole.length r.zones.start r.zones.end r.zones.length;
   }
 
   -- THE EVENTS of a file.
-  pub events-of : (events : List EndedEvent) → All (IsReady known) events → AreEventsOf zones (map (event_of (zone_index names)) events)
-  events-of events h = All-map (IsEventOf zones) (event_of (zone_index names)) events (λ i d l. event-of (get_or events i d) (h i d l))
+  pub events-of : (events : List EndedEvent) → All (IsReady known) events → AreEventsOf known.zones (map (event_of known.index) events)
+  events-of events h = All-map (IsEventOf known.zones) (event_of known.index) events (λ i d l. event-of (get_or events i d) (h i d l))

@@ -3,9 +3,12 @@ use Rattle.std.proofs.Common.{ℕ, List, [], ◌∷◌, ◌++◌, Option, Some, 
 use Rattle.std.specs.Prelude.{codes}
 use Rattle.std.specs.List.{flat_map}
 use Rattle.ics_calendar.specs.declared.fault.FaultKind.{FaultKind}
-use Rattle.ics_calendar.specs.Event.{FileSaid}
+use Rattle.ics_calendar.specs.Event.{EventSeen, FileSaid}
 use Rattle.ics_calendar.specs.FirstFault.{Fault}
-use Rattle.ics_calendar.specs.Files.{file_of}
+use Rattle.ics_calendar.specs.Files.{file_of, events_of}
+use Rattle.ics_calendar.specs.GivenFiles.{no_files}
+use Rattle.ics_calendar.specs.Placed.{placed}
+use Rattle.ics_calendar.specs.Zones.{zones_on}
 
 -- each line ends with CRLF
 abbrev pub text : List (List ℕ) → List ℕ
@@ -29,7 +32,11 @@ fault_in (Ok seen) = None
 fault_in (Err fault) = Some fault
 
 abbrev pub fault : List ℕ → Option Fault
-fault file = fault_in (file_of file)
+fault file = fault_in (file_of no_files file)
+
+-- its events, by the zones of its VTIMEZONEs
+abbrev pub events : List ℕ → List EventSeen
+events file = events_of (zones_on (placed file)).index (placed file)
 
 abbrev pub at : ℕ → FaultKind → Option Fault
 at line kind = Some (record { line = line; kind = kind })

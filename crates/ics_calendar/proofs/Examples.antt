@@ -9,9 +9,9 @@ use Rattle.ics_values.specs.declared.stamp.Stamp.TheVariants.{Utc}
 use Rattle.ics_calendar.specs.declared.fault.FaultKind.TheVariants.{BadFold, BadLine, BadNesting, BadStamp, NotCalendar, OldVersion, Repeated, TooDeep}
 use Rattle.ics_calendar.specs.declared.fault.FaultKind.TheVariants.{UnknownZone}
 use Rattle.ics_calendar.specs.declared.time.Length.TheVariants.{Until}
-use Rattle.ics_calendar.specs.Files.{file_of, events_of}
-use Rattle.ics_calendar.specs.Placed.{placed}
-use Rattle.ics_calendar.proofs.ExampleFiles.{text, calendar, event, fault, at}
+use Rattle.ics_calendar.specs.Files.{file_of}
+use Rattle.ics_calendar.specs.GivenFiles.{no_files}
+use Rattle.ics_calendar.proofs.ExampleFiles.{text, calendar, event, events, fault, at}
 
 -- what begins a file
 no_bytes : fault [] ≡ at 1 NotCalendar
@@ -87,7 +87,7 @@ deep_enough = refl
 abbrev standup : List ℕ
 standup = event (codes "UID:a" ∷ codes "DTSTART:20240105T100000Z" ∷ codes "DTEND:20240105T110000Z" ∷ codes "SUMMARY:Standup" ∷ [])
 
-standup_event : file_of standup ≡ Ok (record {
+standup_event : file_of no_files standup ≡ Ok (record {
   zones = [];
   events =
       record {
@@ -114,7 +114,7 @@ cafe =
     ∷ 169 ∷ 13 ∷ 10 ∷ text (codes "END:VEVENT" ∷ codes "END:VCALENDAR" ∷ [])
 
 abbrev titles : List ℕ → List (List ℕ)
-titles file = map (λ e. e.title) (events_of (placed file))
+titles file = map (λ e. e.title) (events file)
 
 folded_title : titles cafe ≡ (codes "Caf" ++ 195 ∷ 169 ∷ []) ∷ []
 folded_title = refl
@@ -126,7 +126,7 @@ two_calendars = refl
 
 -- a rule, and none
 abbrev pub rules : List ℕ → List (Option RuleParts)
-rules file = map (λ e. e.rule) (events_of (placed file))
+rules file = map (λ e. e.rule) (events file)
 
 four_days : rules (event (codes "UID:a" ∷ codes "DTSTART:20240105" ∷ codes "RRULE:FREQ=DAILY;COUNT=4" ∷ []))
     ≡ Some (record (every Daily) { count = Some 4 }) ∷ []

@@ -18,6 +18,8 @@ pub mod EventOrder
 pub mod ZoneOrder
 pub mod Firsts
 pub mod EachOnce
+pub mod FilesGiven
+pub mod FileLaws
 pub mod Settles
 pub mod Whole
 pub mod SoundValues

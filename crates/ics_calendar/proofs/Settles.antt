@@ -1,5 +1,5 @@
 -- What is settled of what the pass gathers is what the file is, and what it asks for is what the file wants.
-use Rattle.std.proofs.Common.{◌≡◌, ℕ, Bool, true, false, ◌&&◌, List, [], ◌∷◌, ◌++◌, map, filter, refl, sym, ap, ◌∙◌, arith, cond, Option, Some, None, Ok}
+use Rattle.std.proofs.Common.{◌≡◌, ℕ, Bool, true, false, ◌&&◌, List, [], ◌∷◌, ◌++◌, map, filter, refl, sym, ap, ◌∙◌, arith, cond, Option, Some, None}
 use Rattle.std.specs.Prelude.{find, codes}
 use Rattle.std.specs.List.{cons_option}
 use Rattle.std.specs.Option.{option_and_then}
@@ -16,16 +16,17 @@ use Rattle.ics_calendar.specs.declared.deferred_check.ZoneName.{ZoneName}
 use Rattle.ics_calendar.specs.Builders.{event_of}
 use Rattle.ics_calendar.specs.Components.{is_calendar_context}
 use Rattle.ics_calendar.specs.Event.{EventSeen}
-use Rattle.ics_calendar.specs.Faults.{stands, stands_later, is_in_unknown_zone, kinds}
-use Rattle.ics_calendar.specs.Files.{event_by, begins_event, said_of, decide}
+use Rattle.ics_calendar.specs.Faults.{stands, stands_later, is_in_unknown_zone, kinds, tzid_on}
+use Rattle.ics_calendar.specs.Files.{DraftSaid, event_by, begins_event, said_of, decide}
 use Rattle.ics_calendar.specs.FirstFault.{found, least_on, first_from, first_fault, later_fault, fault_at_end}
-use Rattle.ics_calendar.specs.Gathered.{first_judged, settled_by, settled, nothing_gathered, checks_of, all_unknown, wanted_of}
-use Rattle.ics_calendar.specs.DeferredChecks.{KnownZones, known_zones, zone_index, judged, unknown_in}
-use Rattle.ics_calendar.specs.Wanted.{each_once, tzid_on, unknown_names}
+use Rattle.ics_calendar.specs.Gathered.{first_judged, settled_by, known_in, drafted, nothing_gathered, checks_of, all_unknown}
+use Rattle.ics_calendar.specs.DeferredChecks.{KnownZones, known_zones, with_files, judged, unknown_in}
+use Rattle.ics_calendar.specs.GivenFiles.{GivenFiles}
+use Rattle.ics_calendar.specs.Wanted.{each_once, unknown_names, zones_with}
 use Rattle.ics_calendar.proofs.Judged.{check_in}
 use Rattle.ics_calendar.specs.Placed.{Placed, Open, path_behind, placed_from, context_of, begins, beside, calendar_of, lines_in}
 use Rattle.ics_calendar.specs.Names.{name_of}
-use Rattle.ics_calendar.specs.Zones.{zones_of, zone_names, zones_on}
+use Rattle.ics_calendar.specs.Zones.{zone_names, zones_on}
 use Rattle.ics_calendar.proofs.Ended.{events, zones}
 use Rattle.ics_calendar.proofs.EventOrder.{events-are}
 use Rattle.ics_calendar.proofs.Frames.{with}
@@ -128,28 +129,45 @@ gathered-is lines r first =
     three (ordered (zones whole) (zones-are whole) lines whole [] [] 0 refl tt (omega arith) r (λ e. refl) first)
     (ordered events events-are lines whole [] [] 0 refl tt (omega arith) r (λ e. refl) first) refl
 
--- WHAT IS WANTED.
-pub wanted-is : (lines : List Line) → Rises 0 lines → first_fault (placed_from [] lines) ≡ None →
-    wanted_of (Ok (gathered_from (placed_from [] lines) nothing_gathered [] (placed_from [] lines))) ≡ each_once (unknown_names (placed_from [] lines))
-wanted-is lines r first =
-    let whole : List Placed = placed_from [] lines in
-    let ws : List LineCheck = checks_from whole [] whole in
-    ap (λ g. wanted_of (Ok g)) (gathered-is lines r first)
-    ∙ ap (λ ns. each_once (all_unknown (zone_index ns) ws)) (sym (names-begun whole whole))
-    ∙ ap each_once (asks whole (zones_on whole) lines [] [] first)
+-- WHAT THE DRAFT SAYS, of the zones and the checks of the lines.
+abbrev draft_by : KnownZones → List EndedZone → List EndedEvent → List LineCheck → DraftSaid
+draft_by known zs es ws = drafted known (lists zs es ws)
 
--- WHAT IS SETTLED.
-pub settled-is : (lines : List Line) → Rises 0 lines → first_fault (placed_from [] lines) ≡ None →
-    settled (gathered_from (placed_from [] lines) nothing_gathered [] (placed_from [] lines))
-    ≡ decide None (later_fault (placed_from [] lines)) (said_of (placed_from [] lines))
-settled-is lines r first =
+draft-is : (lines : List Line) → Rises 0 lines → first_fault (placed_from [] lines) ≡ None →
+    drafted (known_in (gathered_from (placed_from [] lines) nothing_gathered [] (placed_from [] lines)))
+    (gathered_from (placed_from [] lines) nothing_gathered [] (placed_from [] lines))
+    ≡ draft_by (zones_on (placed_from [] lines)) (begun (zones (placed_from [] lines)) (placed_from [] lines) (placed_from [] lines))
+    (begun events (placed_from [] lines) (placed_from [] lines)) (checks_from (placed_from [] lines) [] (placed_from [] lines))
+draft-is lines r first =
     let whole : List Placed = placed_from [] lines in
     let zs : List EndedZone = begun (zones whole) whole whole in
     let es : List EndedEvent = begun events whole whole in
     let ws : List LineCheck = checks_from whole [] whole in
-    let known : KnownZones = zones_on whole in
-    ap settled (gathered-is lines r first)
-    ∙ ap (λ ns. settled_by (known_zones ns (map (λ z. ZoneSaid.ByObservances z.observances) zs)) (lists zs es ws)) (sym (names-begun whole whole))
-    ∙ ap (λ ps. settled_by (known_zones (zone_names whole) ps) (lists zs es ws)) (zones-begun whole whole)
-    ∙ ap (λ f. decide None f (record { zones = zones_of whole; events = map (event_of known.index) es })) (judges whole known lines [] [] first)
-    ∙ ap (λ es. decide None (later_fault whole) (record { zones = zones_of whole; events = es })) (events-begun known.index whole whole)
+    ap (λ g. drafted (known_in g) g) (gathered-is lines r first)
+    ∙ ap (λ ns. draft_by (known_zones ns (map (λ z. ZoneSaid.ByObservances z.observances) zs)) zs es ws) (sym (names-begun whole whole))
+    ∙ ap (λ ps. draft_by (known_zones (zone_names whole) ps) zs es ws) (zones-begun whole whole)
+
+-- WHAT IS WANTED.
+pub wanted-is : (lines : List Line) → Rises 0 lines → first_fault (placed_from [] lines) ≡ None →
+    (drafted (known_in (gathered_from (placed_from [] lines) nothing_gathered [] (placed_from [] lines)))
+    (gathered_from (placed_from [] lines) nothing_gathered [] (placed_from [] lines))).wants
+    ≡ each_once (unknown_names (placed_from [] lines))
+wanted-is lines r first =
+    let whole : List Placed = placed_from [] lines in
+    ap (λ (d : DraftSaid). d.wants) (draft-is lines r first) ∙ ap each_once (asks whole (zones_on whole) lines [] [] first)
+
+-- WHAT IS SETTLED, with zone files.
+pub settled-is : (files : GivenFiles) (lines : List Line) → Rises 0 lines → first_fault (placed_from [] lines) ≡ None →
+    (drafted (known_in (gathered_from (placed_from [] lines) nothing_gathered [] (placed_from [] lines)))
+    (gathered_from (placed_from [] lines) nothing_gathered [] (placed_from [] lines))).says files
+    ≡ decide None (later_fault files (placed_from [] lines)) (said_of files (placed_from [] lines))
+settled-is files lines r first =
+    let whole : List Placed = placed_from [] lines in
+    let zs : List EndedZone = begun (zones whole) whole whole in
+    let es : List EndedEvent = begun events whole whole in
+    let ws : List LineCheck = checks_from whole [] whole in
+    let known : KnownZones = zones_with files whole in
+    ap (λ (d : DraftSaid). d.says files) (draft-is lines r first)
+    ∙ ap (λ ns. settled_by (with_files (zones_on whole) files (each_once ns)) (lists zs es ws)) (asks whole (zones_on whole) lines [] [] first)
+    ∙ ap (λ f. decide None f (record { zones = known.zones; events = map (event_of known.index) es })) (judges whole known lines [] [] first)
+    ∙ ap (λ es. decide None (later_fault files whole) (record { zones = known.zones; events = es })) (events-begun known.index whole whole)

@@ -1,23 +1,26 @@
 -- What is gathered of a file, settled: its first fault of the second round, or what it says.
-use Rattle.std.proofs.Common.{◌≡◌, ℕ, ◌<◌, List, [], ◌∷◌, map, length, get_or, sym, ap, ◌∙◌, subst, Option, Some, None}
+use Rattle.std.proofs.Common.{◌≡◌, ℕ, ◌<◌, List, [], ◌∷◌, map, length, get_or, sym, ap, ◌∙◌, Some, None}
 use Rattle.std.specs.List.{All, AllByRecursion, Contains}
 use Rattle.std.specs.Option.{option_map}
 use Rattle.std.proofs.lemmas.List.{length-map}
 use Rattle.std.proofs.lemmas.Option.{slice_get-map, slice_get-get_or}
-use Rattle.std.proofs.lemmas.List.Elements.{All-map, All-contains, All-from_recursion}
+use Rattle.std.proofs.lemmas.List.Elements.{All-nil, All-map, All-contains, All-from_recursion}
 use Rattle.ics_zone.specs.ZoneSaid.{ZoneSaid, said_moment, zone_said}
 use Rattle.ics_zone.specs.declared.zone.ZoneKind.{ZoneKind}
 use Rattle.ics_values.specs.declared.local.Local.{Local}
 use Rattle.ics_calendar.specs.declared.gathered.LineCheck.{LineCheck}
 use Rattle.ics_calendar.specs.declared.deferred_check.DeferredCheck.{DeferredCheck}
-use Rattle.ics_calendar.specs.declared.deferred_check.ZoneName.{ZoneName}
 use Rattle.ics_calendar.specs.Builders.{event_of}
 use Rattle.ics_calendar.specs.Event.{AreEventsOf, seconds_of}
 use Rattle.ics_calendar.specs.Gathered.{known_in, first_judged, IsSoundGathered}
 use Rattle.ics_calendar.specs.GatheredSeen.{GatheredSeen}
-use Rattle.ics_calendar.specs.DeferredChecks.{KnownZones, zone_index, moment_at, judged}
+use Rattle.ics_calendar.specs.DeferredChecks.{KnownZones, moment_at, judged, with_files}
+use Rattle.ics_calendar.specs.DraftsSound.{IsSoundDraft, left_of}
+use Rattle.ics_calendar.specs.GivenFiles.{GivenFiles}
 use Rattle.ics_calendar.specs.Ready.{IsReady}
+use Rattle.ics_calendar.specs.ZonesSound.{IsSoundZone}
 use Rattle.ics_calendar.proofs.EventsOf.{events-of}
+use Rattle.ics_calendar.proofs.FilesGiven.{table-known, table-with}
 use Rattle.ics_calendar.proofs.Listed.{each-weaker}
 use Rattle.ics_calendar.proofs.Order.{found-none}
 
@@ -36,36 +39,30 @@ awaited-fine : (known : KnownZones) (bare_checks : List DeferredCheck) → All (
     Contains bare_checks l → judged known l ≡ None
 awaited-fine known bare_checks h l c = All-contains (λ l. judged known l ≡ None) bare_checks l h c
 
-pub ready : (g : GatheredSeen) → IsSoundGathered g → first_judged (known_in g) g.checks ≡ None → All (IsReady (known_in g)) g.events
-ready g s n =
-    let fine : All (λ l. judged (known_in g) l ≡ None) (map (λ w. w.check) g.checks) =
-    All-map (λ l. judged (known_in g) l ≡ None) (λ w. w.check) g.checks
-    (All-from_recursion (λ w. judged (known_in g) w.check ≡ None) g.checks (none-judged (known_in g) g.checks n)) in
+pub ready : (known : KnownZones) (g : GatheredSeen) → IsSoundGathered g → first_judged known g.checks ≡ None → All (IsReady known) g.events
+ready known g s n =
+    let fine : All (λ l. judged known l ≡ None) (map (λ w. w.check) g.checks) =
+    All-map (λ l. judged known l ≡ None) (λ w. w.check) g.checks
+    (All-from_recursion (λ w. judged known w.check ≡ None) g.checks (none-judged known g.checks n)) in
     λ i d l.
     record {
       whole = s.whole i d l;
-      zones = each-weaker (Contains (map (λ w. w.check) g.checks)) (λ l. judged (known_in g) l ≡ None) (awaited-fine (known_in g) _ fine) _ (s.awaited i d l);
+      zones = each-weaker (Contains (map (λ w. w.check) g.checks)) (λ l. judged known l ≡ None) (awaited-fine known _ fine) _ (s.awaited i d l);
     }
 
--- THE ANSWER.
-pub known-is : (g : GatheredSeen) (known : KnownZones) → known.index ≡ zone_index (map (λ z. z.name) g.zones) → known.zones ≡ map (λ z. ZoneSaid.ByObservances z.observances) g.zones →
-    known ≡ known_in g
-known-is g known e f =
-    ap (λ (i : ZoneName → Option ℕ). record { index = i; zones = known.zones }) e
-    ∙ ap (λ (zs : List ZoneSaid). record { index = zone_index (map (λ z. z.name) g.zones); zones = zs }) f
-
-abbrev pub IsSettled : KnownZones → GatheredSeen → Type 0
-IsSettled known g = (known ≡ known_in g) × (first_judged known g.checks ≡ None)
-
-pub ready-here : (g : GatheredSeen) (known : KnownZones) → IsSoundGathered g → IsSettled known g → All (IsReady known) g.events
-ready-here g known s h =
-    subst (λ (k : KnownZones). All (IsReady k) g.events) (sym h.0) (ready g s (ap (λ (k : KnownZones). first_judged k g.checks) (sym h.0) ∙ h.1))
-
-pub events-here : (g : GatheredSeen) (known : KnownZones) → IsSoundGathered g → IsSettled known g →
+pub events-here : (known : KnownZones) (g : GatheredSeen) → IsSoundDraft known g → first_judged known g.checks ≡ None →
     AreEventsOf known.zones (map (event_of known.index) g.events)
-events-here g known s h =
-    let names : List ZoneName = map (λ z. z.name) g.zones in
-    let zones : List ZoneSaid = map (λ z. ZoneSaid.ByObservances z.observances) g.zones in
-    let long : length names ≡ length zones = length-map g.zones (λ z. z.name) ∙ sym (length-map g.zones (λ z. ZoneSaid.ByObservances z.observances)) in
-    subst (λ (k : KnownZones). AreEventsOf k.zones (map (event_of k.index) g.events)) (sym h.0)
-    (events-of names zones long g.events (subst (λ (k : KnownZones). All (IsReady k) g.events) h.0 (ready-here g known s h)))
+events-here known g s n = events-of known s.table g.events (ready known g s.sound n)
+
+-- A DRAFT is sound where what is gathered is, and stays so with zone files.
+pub draft-sound : (g : GatheredSeen) → IsSoundGathered g → IsSoundDraft (known_in g) (left_of g.events g.checks)
+draft-sound g s = record {
+  table =
+      table-known (map (λ z. z.name) g.zones) (map (λ z. ZoneSaid.ByObservances z.observances) g.zones)
+      (length-map g.zones (λ z. z.name) ∙ sym (length-map g.zones (λ z. ZoneSaid.ByObservances z.observances)));
+  sound = record { zones = All-nil (λ z. IsSoundZone z.observances); whole = s.whole; awaited = s.awaited; sound = s.sound };
+}
+
+pub draft-with : (known : KnownZones) (g : GatheredSeen) (files : GivenFiles) (names : List (List ℕ)) → IsSoundDraft known g →
+    IsSoundDraft (with_files known files names) g
+draft-with known g files names s = record { table = table-with known files names s.table; sound = s.sound }

@@ -1,17 +1,21 @@
 -- What the pass over a file's lines says is what the file is and wants.
 use Rattle.std.proofs.Common.{◌≡◌, ◌⊎◌, ℕ, ◌+◌, ◌<◌, ◌^◌, Bool, true, false, List, [], ◌∷◌, refl, sym, ap, ◌∙◌, arith, cond, Option, Some, None, Result, Ok}
 use Rattle.std.proofs.Common.{Err, inl, inr}
+use Rattle.std.proofs.Math.Path.{fun_ext}
 use Rattle.ics_text.specs.Unfolded.{Line, Rises, Within, unfolded, begins_with_fold}
+use Rattle.ics_calendar.specs.declared.fault.FileFault.{FileFault}
+use Rattle.ics_calendar.specs.declared.fault.FileFault.TheVariants.{Memory, At}
+use Rattle.ics_calendar.specs.Drafts.{IsFaultOf}
 use Rattle.ics_calendar.specs.Event.{FileSaid}
 use Rattle.ics_calendar.specs.Faults.{stands, stands_later}
+use Rattle.ics_calendar.specs.GivenFiles.{GivenFiles}
 use Rattle.ics_calendar.specs.FirstFault.{Fault, IsFirst, IsFirstOrLast, NoneStand, first_fault, later_fault, fault_at_end}
-use Rattle.ics_calendar.specs.Files.{IsFile, bad_fold, file_of, decide, said_of}
-use Rattle.ics_calendar.specs.Gathered.{settled_of, nothing_gathered, wanted_of}
+use Rattle.ics_calendar.specs.Files.{DraftSaid, IsFile, bad_fold, file_of, draft_of, decide, said_of, wanted_names, wanted_on}
+use Rattle.ics_calendar.specs.Gathered.{drafted_of, nothing_gathered}
 use Rattle.ics_calendar.specs.Pass.{pass, bottom, unless, gathered_of}
 use Rattle.ics_calendar.specs.Placed.{Placed, placed}
-use Rattle.ics_calendar.specs.Seen.{NumbersFit}
-use Rattle.ics_calendar.specs.Wanted.{wanted_names, wanted_on}
-use Rattle.ics_calendar.specs.Zones.{zones_on}
+use Rattle.ics_calendar.specs.Seen.{NumbersFit, SaysFile}
+use Rattle.ics_calendar.specs.Wanted.{zones_with}
 use Rattle.ics_calendar.proofs.Firsts.{Finds, finds, finds-none, found-at-end, found-on-line}
 use Rattle.ics_calendar.proofs.PassLemmas.{gathered_from, pass-whole}
 use Rattle.ics_calendar.proofs.Settles.{settled-is, wanted-is}
@@ -20,86 +24,112 @@ pub fits-from_within : (n : ℕ) (lines : List Line) → n + 1 < 2 ^ 64 → With
 fits-from_within n [] l h = tt
 fits-from_within n (line ∷ lines) l h = (omega (arith, l, h.0), fits-from_within n lines l h.1)
 
--- what a file is, and what it wants, by what its first round gathers
-pub settled-gathered : (file : List ℕ) → Rises 0 (unfolded file) → file_of file ≡ settled_of (gathered_of file)
-settled-gathered file r = by_fold (begins_with_fold file)
+-- what a file is, and what it wants, by the draft of what its first round gathers
+abbrev pub says_by : Result DraftSaid Fault → GivenFiles → Result FileSaid Fault
+says_by (Ok draft) files = draft.says files
+says_by (Err fault) files = Err fault
+
+abbrev pub wants_by : Result DraftSaid Fault → List (List ℕ)
+wants_by (Ok draft) = draft.wants
+wants_by (Err fault) = []
+
+pub settled-gathered : (files : GivenFiles) (file : List ℕ) → Rises 0 (unfolded file) → file_of files file ≡ says_by (drafted_of (gathered_of file)) files
+settled-gathered files file r = by_fold (begins_with_fold file)
   where
     by_first : (o : Option Fault) → first_fault (placed file) ≡ o →
-        decide o (later_fault (placed file)) (said_of (placed file)) ≡ settled_of (unless o (gathered_from (placed file) nothing_gathered [] (placed file)))
+        decide o (later_fault files (placed file)) (said_of files (placed file))
+        ≡ says_by (drafted_of (unless o (gathered_from (placed file) nothing_gathered [] (placed file)))) files
     by_first (Some fault) e = refl
-    by_first None e = sym (settled-is (unfolded file) r e)
+    by_first None e = sym (settled-is files (unfolded file) r e)
 
-    by_fold : (t : Bool) → cond t (Err bad_fold) (decide (first_fault (placed file)) (later_fault (placed file)) (said_of (placed file)))
-        ≡ settled_of (cond t (Err bad_fold) (pass (bottom ∷ []) None nothing_gathered (unfolded file)))
+    by_fold : (t : Bool) → cond t (Err bad_fold) (decide (first_fault (placed file)) (later_fault files (placed file)) (said_of files (placed file)))
+        ≡ says_by (drafted_of (cond t (Err bad_fold) (pass (bottom ∷ []) None nothing_gathered (unfolded file)))) files
     by_fold true = refl
-    by_fold false = by_first (first_fault (placed file)) refl ∙ ap settled_of (sym (pass-whole (unfolded file) r))
+    by_fold false = by_first (first_fault (placed file)) refl ∙ ap (λ g. says_by (drafted_of g) files) (sym (pass-whole (unfolded file) r))
 
-pub wanted-gathered : (file : List ℕ) → Rises 0 (unfolded file) → wanted_names file ≡ wanted_of (gathered_of file)
+pub wanted-gathered : (file : List ℕ) → Rises 0 (unfolded file) → wanted_names file ≡ wants_by (drafted_of (gathered_of file))
 wanted-gathered file r = by_fold (begins_with_fold file)
   where
     by_first : (o : Option Fault) → first_fault (placed file) ≡ o →
-        wanted_on o (placed file) ≡ wanted_of (unless o (gathered_from (placed file) nothing_gathered [] (placed file)))
+        wanted_on o (placed file) ≡ wants_by (drafted_of (unless o (gathered_from (placed file) nothing_gathered [] (placed file))))
     by_first (Some fault) e = refl
     by_first None e = sym (wanted-is (unfolded file) r e)
 
     by_fold : (t : Bool) → cond t [] (wanted_on (first_fault (placed file)) (placed file))
-        ≡ wanted_of (cond t (Err bad_fold) (pass (bottom ∷ []) None nothing_gathered (unfolded file)))
+        ≡ wants_by (drafted_of (cond t (Err bad_fold) (pass (bottom ∷ []) None nothing_gathered (unfolded file))))
     by_fold true = refl
-    by_fold false = by_first (first_fault (placed file)) refl ∙ ap wanted_of (sym (pass-whole (unfolded file) r))
+    by_fold false = by_first (first_fault (placed file)) refl ∙ ap (λ g. wants_by (drafted_of g)) (sym (pass-whole (unfolded file) r))
+
+-- THE DRAFT, and a fault of the first round.
+pub draft-gathered : (file : List ℕ) (draft : DraftSaid) → Rises 0 (unfolded file) → Ok draft ≡ drafted_of (gathered_of file) → draft ≡ draft_of file
+draft-gathered file draft r e =
+    ap (λ (s : GivenFiles → Result FileSaid Fault). record { wants = draft.wants; says = s })
+    (fun_ext (λ files. ap (λ d. says_by d files) e ∙ sym (settled-gathered files file r)))
+    ∙ ap (λ names. record { wants = names; says = λ files. file_of files file }) (ap wants_by e ∙ sym (wanted-gathered file r))
+
+pub fault-gathered : (file : List ℕ) (fault : Fault) → Rises 0 (unfolded file) → Err fault ≡ drafted_of (gathered_of file) →
+    ((files : GivenFiles) → file_of files file ≡ Err fault) × (wanted_names file ≡ [])
+fault-gathered file fault r e =
+    (λ files. settled-gathered files file r ∙ ap (λ d. says_by d files) (sym e), wanted-gathered file r ∙ ap wants_by (sym e))
+
+-- a fault whatever zone files are given is the answer with each
+pub fault-says : (file : List ℕ) (fault : FileFault) (files : GivenFiles) → IsFaultOf file fault → SaysFile (Err fault) (file_of files file)
+fault-says file Memory files h = tt
+fault-says file (At line kind) files h = h.0 files
 
 abbrev none_later : List Placed → Option Fault
 none_later before = None
 
 -- WHAT A FILE IS, by its first faults.
-decided : (file : List ℕ) → begins_with_fold file ≡ false → (first later : Option Fault) → first_fault (placed file) ≡ first →
-    later_fault (placed file) ≡ later →
-    IsFile file (decide first later (said_of (placed file)))
-decided file b (Some f) later e g = inr (b, inl (finds stands fault_at_end [] (placed file) f e))
-decided file b None (Some f) e g =
+decided : (files : GivenFiles) (file : List ℕ) → begins_with_fold file ≡ false → (first later : Option Fault) → first_fault (placed file) ≡ first →
+    later_fault files (placed file) ≡ later →
+    IsFile files file (decide first later (said_of files (placed file)))
+decided files file b (Some f) later e g = inr (b, inl (finds stands fault_at_end [] (placed file) f e))
+decided files file b None (Some f) e g =
     let none = finds-none stands fault_at_end [] (placed file) e in
-    inr (b, inr (none.0, none.1, on_line (finds (stands_later (zones_on (placed file))) none_later [] (placed file) f g)))
+    inr (b, inr (none.0, none.1, on_line (finds (stands_later (zones_with files (placed file))) none_later [] (placed file) f g)))
   where
-    on_line : Finds (stands_later (zones_on (placed file))) none_later [] (placed file) f → IsFirst (stands_later (zones_on (placed file))) [] (placed file) f
+    on_line : Finds (stands_later (zones_with files (placed file))) none_later [] (placed file) f → IsFirst (stands_later (zones_with files (placed file))) [] (placed file) f
     on_line (inl r) = r
     on_line (inr r) = let n : None ≡ Some f = r.1 in cc
-decided file b None None e g =
+decided files file b None None e g =
     let none = finds-none stands fault_at_end [] (placed file) e in
-    (b, none.0, none.1, (finds-none (stands_later (zones_on (placed file))) none_later [] (placed file) g).0, refl)
+    (b, none.0, none.1, (finds-none (stands_later (zones_with files (placed file))) none_later [] (placed file) g).0, refl)
 
-pub is-file : (file : List ℕ) → IsFile file (file_of file)
-is-file file = by_fold (begins_with_fold file) refl
+pub is-file : (files : GivenFiles) (file : List ℕ) → IsFile files file (file_of files file)
+is-file files file = by_fold (begins_with_fold file) refl
   where
     by_fold : (t : Bool) → begins_with_fold file ≡ t →
-        IsFile file (cond t (Err bad_fold) (decide (first_fault (placed file)) (later_fault (placed file)) (said_of (placed file))))
+        IsFile files file (cond t (Err bad_fold) (decide (first_fault (placed file)) (later_fault files (placed file)) (said_of files (placed file))))
     by_fold true e = inl (e, refl)
-    by_fold false e = decided file e (first_fault (placed file)) (later_fault (placed file)) refl refl
+    by_fold false e = decided files file e (first_fault (placed file)) (later_fault files (placed file)) refl refl
 
 first-is : (file : List ℕ) (f : Fault) → IsFirstOrLast (placed file) f → first_fault (placed file) ≡ Some f
 first-is file f (inl r) = found-on-line stands fault_at_end [] (placed file) f r
 first-is file f (inr r) = found-at-end stands fault_at_end [] (placed file) (Some f) r.0 r.1
 
-whole-is : (file : List ℕ) (first later : Option Fault) → begins_with_fold file ≡ false → first_fault (placed file) ≡ first →
-    later_fault (placed file) ≡ later → file_of file ≡ decide first later (said_of (placed file))
-whole-is file first later b e g =
-    ap (λ t. cond t (Err bad_fold) (decide (first_fault (placed file)) (later_fault (placed file)) (said_of (placed file)))) b
-    ∙ ap (λ f. decide f (later_fault (placed file)) (said_of (placed file))) e
-    ∙ ap (λ f. decide first f (said_of (placed file))) g
+whole-is : (files : GivenFiles) (file : List ℕ) (first later : Option Fault) → begins_with_fold file ≡ false → first_fault (placed file) ≡ first →
+    later_fault files (placed file) ≡ later → file_of files file ≡ decide first later (said_of files (placed file))
+whole-is files file first later b e g =
+    ap (λ t. cond t (Err bad_fold) (decide (first_fault (placed file)) (later_fault files (placed file)) (said_of files (placed file)))) b
+    ∙ ap (λ f. decide f (later_fault files (placed file)) (said_of files (placed file))) e
+    ∙ ap (λ f. decide first f (said_of files (placed file))) g
 
 -- and it is nothing else
-pub file-is : (file : List ℕ) (answer : Result FileSaid Fault) → IsFile file answer → file_of file ≡ answer
-file-is file (Err f) (inl h) =
-    ap (λ t. cond t (Err bad_fold) (decide (first_fault (placed file)) (later_fault (placed file)) (said_of (placed file)))) h.0
+pub file-is : (files : GivenFiles) (file : List ℕ) (answer : Result FileSaid Fault) → IsFile files file answer → file_of files file ≡ answer
+file-is files file (Err f) (inl h) =
+    ap (λ t. cond t (Err bad_fold) (decide (first_fault (placed file)) (later_fault files (placed file)) (said_of files (placed file)))) h.0
     ∙ ap (λ (g : Fault). Err g) (sym h.1)
-file-is file (Err f) (inr h) = by_round h.1
+file-is files file (Err f) (inr h) = by_round h.1
   where
     by_round : IsFirstOrLast (placed file) f
-        ⊎ (NoneStand stands [] (placed file) × (fault_at_end (placed file) ≡ None) × IsFirst (stands_later (zones_on (placed file))) [] (placed file) f) →
-        file_of file ≡ Err f
-    by_round (inl r) = whole-is file (Some f) (later_fault (placed file)) h.0 (first-is file f r) refl
+        ⊎ (NoneStand stands [] (placed file) × (fault_at_end (placed file) ≡ None) × IsFirst (stands_later (zones_with files (placed file))) [] (placed file) f) →
+        file_of files file ≡ Err f
+    by_round (inl r) = whole-is files file (Some f) (later_fault files (placed file)) h.0 (first-is file f r) refl
     by_round (inr r) =
-        whole-is file None (Some f) h.0 (found-at-end stands fault_at_end [] (placed file) None r.0 r.1)
-        (found-on-line (stands_later (zones_on (placed file))) none_later [] (placed file) f r.2)
-file-is file (Ok seen) h =
-    whole-is file None None h.0 (found-at-end stands fault_at_end [] (placed file) None h.1 h.2)
-    (found-at-end (stands_later (zones_on (placed file))) none_later [] (placed file) None h.3 refl)
+        whole-is files file None (Some f) h.0 (found-at-end stands fault_at_end [] (placed file) None r.0 r.1)
+        (found-on-line (stands_later (zones_with files (placed file))) none_later [] (placed file) f r.2)
+file-is files file (Ok seen) h =
+    whole-is files file None None h.0 (found-at-end stands fault_at_end [] (placed file) None h.1 h.2)
+    (found-at-end (stands_later (zones_with files (placed file))) none_later [] (placed file) None h.3 refl)
     ∙ ap (λ (s : FileSaid). Ok s) (sym h.4)

@@ -1,7 +1,8 @@
 -- The checks of the second round, when all time zones of the file are known (RFC 5545, section 3.8.2.4).
-use Rattle.std.specs.Prelude.{ℕ, Bool, false, ◌&&◌, not, ◌==◌, List, [], slice_get, unwrap_or, Option, Some, None, is_some, option_map, ℤ, if◌then◌else◌}
-use Rattle.std.specs.List.{position}
-use Rattle.std.specs.Option.{option_and_then}
+use Rattle.std.specs.Prelude.{ℕ, Bool, false, ◌&&◌, ◌||◌, not, ◌==◌, List, [], slice_get, unwrap_or, Option, Some, None, is_some, option_map, ℤ, ◌++◌, if◌then◌else◌}
+use Rattle.std.specs.Prelude.{length}
+use Rattle.std.specs.List.{position, position_from, list_any}
+use Rattle.std.specs.Option.{option_and_then, option_or}
 use Rattle.std.specs.Str.{bytes_eq}
 use Rattle.ics_values.specs.declared.local.Local.{Local}
 use Rattle.ics_values.specs.declared.stamp.Stamp.{Stamp}
@@ -9,13 +10,14 @@ use Rattle.ics_values.specs.declared.stamp.Stamp.TheVariants as stamp
 use Rattle.ics_zone.specs.ZoneSaid.{ZoneSaid, said_moment}
 use Rattle.ics_calendar.specs.declared.dated.Dated.{Dated}
 use Rattle.ics_calendar.specs.declared.fault.FaultKind.{FaultKind}
-use Rattle.ics_calendar.specs.declared.fault.FaultKind.TheVariants.{BadEnd, UnknownZone}
+use Rattle.ics_calendar.specs.declared.fault.FaultKind.TheVariants.{BadEnd, UnknownZone, BadZoneFile}
 use Rattle.ics_calendar.specs.declared.deferred_check.Instant.{Instant}
 use Rattle.ics_calendar.specs.declared.deferred_check.Instant.TheVariants as instant
 use Rattle.ics_calendar.specs.declared.deferred_check.DeferredCheck.{DeferredCheck}
 use Rattle.ics_calendar.specs.declared.deferred_check.DeferredCheck.TheVariants as check
 use Rattle.ics_calendar.specs.declared.deferred_check.ZoneName.{ZoneName}
 use Rattle.ics_calendar.specs.Event.{seconds_of, is_zoned}
+use Rattle.ics_calendar.specs.GivenFiles.{GivenFiles, given_names, given_zones, bad_names}
 use Rattle.ics_calendar.specs.Values.{same_zone, is_out}
 
 -- the same name in the same calendar
@@ -26,13 +28,22 @@ is_same a b = a.calendar == b.calendar && bytes_eq a.name b.name
 abbrev pub zone_index : List ZoneName → ZoneName → Option ℕ
 zone_index names used = position (is_same used) names
 
--- The time zones of a file, and the index of the one that a name stands for.
+-- The time zones of a file, the index of the one that a name stands for, and the names for which a file is given that is no zone file.
 pub record KnownZones : Type 0 where
   pub index : ZoneName → Option ℕ
   pub zones : List ZoneSaid
+  pub is_bad : List ℕ → Bool
 
 abbrev pub known_zones : List ZoneName → List ZoneSaid → KnownZones
-known_zones names zones = record { index = zone_index names; zones = zones }
+known_zones names zones = record { index = zone_index names; zones = zones; is_bad = λ name. false }
+
+-- The time zones of a file, and behind them those of the zone files for the names that it wants. A VTIMEZONE goes first.
+abbrev pub with_files : KnownZones → GivenFiles → List (List ℕ) → KnownZones
+with_files known files names = record {
+  index = λ used. option_or (known.index used) (position_from (bytes_eq used.name) (length known.zones) (given_names files names));
+  zones = known.zones ++ given_zones files names;
+  is_bad = λ name. known.is_bad name || list_any (bytes_eq name) (bad_names files names);
+}
 
 -- the instant that a local means in the zone with an index, and in the one that a name stands for
 abbrev pub moment_at : List ZoneSaid → Local → ℕ → Option ℤ
@@ -81,7 +92,10 @@ ends_out known start end = are_out (moment_of known start) (moment_of known end)
 
 abbrev pub judged : KnownZones → DeferredCheck → Option FaultKind
 judged known check.End = Some BadEnd
-judged known (check.Zone name) = if is_some (known.index name) then None else Some UnknownZone
+judged known (check.Zone name) =
+    if is_some (known.index name) then None
+    else if known.is_bad name.name then Some BadZoneFile
+    else Some UnknownZone
 judged known (check.Ends start end) = if ends_out known start end then Some BadEnd else None
 
 -- the name of a time zone that is to be known, if it is not

@@ -28,6 +28,7 @@ kind_name kind.UnknownZone = codes "UnknownZone"
 kind_name kind.ThisAndFuture = codes "ThisAndFuture"
 kind_name kind.Exrule = codes "Exrule"
 kind_name kind.OldVersion = codes "OldVersion"
+kind_name kind.BadZoneFile = codes "BadZoneFile"
 
 abbrev pub fault_name : FileFault → List ℕ
 fault_name fault.Memory = codes "Memory"

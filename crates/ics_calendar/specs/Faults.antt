@@ -1,5 +1,5 @@
 -- WHICH FAULT STANDS ON WHICH LINE: one case for each kind (RFC 5545, sections 3.1, 3.4, 3.6.1, 3.6.5 and 3.8).
-use Rattle.std.specs.Prelude.{ℕ, Bool, false, ◌&&◌, ◌||◌, not, nat_le, List, [], ◌∷◌, map, length, codes, Option, is_some, is_none, option_map, Result}
+use Rattle.std.specs.Prelude.{ℕ, Bool, false, ◌&&◌, ◌||◌, not, nat_le, List, [], ◌∷◌, map, length, codes, Option, is_some, is_none, option_map, unwrap_or, Result}
 use Rattle.std.specs.Prelude.{if◌then◌else◌}
 use Rattle.std.specs.List.{list_any}
 use Rattle.std.specs.Str.{bytes_eq}
@@ -23,7 +23,7 @@ use Rattle.ics_calendar.specs.declared.dated.Dated.{Dated}
 use Rattle.ics_calendar.specs.declared.fault.FaultKind.{FaultKind}
 use Rattle.ics_calendar.specs.declared.fault.FaultKind.TheVariants.{BadLine, BadStamp, BadDuration, BadOffset, BadRule, YearRange, NumberTooLarge, NoObservance}
 use Rattle.ics_calendar.specs.declared.fault.FaultKind.TheVariants.{ObservanceField, ZoneRule, NotCalendar, BadNesting, TooDeep, MissingUid, MissingStart}
-use Rattle.ics_calendar.specs.declared.fault.FaultKind.TheVariants.{Repeated, BadEnd, UnknownZone, ThisAndFuture, Exrule, OldVersion}
+use Rattle.ics_calendar.specs.declared.fault.FaultKind.TheVariants.{Repeated, BadEnd, UnknownZone, ThisAndFuture, Exrule, OldVersion, BadZoneFile}
 use Rattle.ics_calendar.specs.Placed.{Placed, context_of, property_name, value, params_of, is_named, is_one_of, param, is_begin, is_end, is_outside}
 use Rattle.ics_calendar.specs.Placed.{in_calendar, in_event, in_observance, calendar_of, begins, is_closing, ends_event, ends_zone, begins_observance, has}
 use Rattle.ics_calendar.specs.Placed.{has_all, first_named}
@@ -165,7 +165,11 @@ is_in_zone line =
 abbrev pub has_zone : KnownZones → Placed → Bool
 has_zone known line = is_some (known.index (zone_named (calendar_of line.path) (zone_name (params_of line.content))))
 
--- a property of an event with a stamp in a time zone that its calendar does not define
+-- the name in the TZID of a line
+abbrev pub tzid_on : Placed → List ℕ
+tzid_on line = unwrap_or (zone_name (params_of line.content)) []
+
+-- a property of an event with a stamp in a time zone that its calendar does not define and no zone file gives
 abbrev pub is_in_unknown_zone : KnownZones → Placed → Bool
 is_in_unknown_zone known line = is_in_zone line && not (has_zone known line)
 
@@ -173,11 +177,12 @@ is_in_unknown_zone known line = is_in_zone line && not (has_zone known line)
 abbrev pub stands_later : KnownZones → FaultKind → List Placed → Placed → Bool
 stands_later known BadEnd beside line =
     ends_event line && ends_badly_later known (calendar_of line.path) (first_dated (codes "DTSTART") beside) (first_dated (codes "DTEND") beside)
-stands_later known UnknownZone beside line = is_in_unknown_zone known line
+stands_later known UnknownZone beside line = is_in_unknown_zone known line && not (known.is_bad (tzid_on line))
+stands_later known BadZoneFile beside line = is_in_unknown_zone known line && known.is_bad (tzid_on line)
 stands_later known _ beside line = false
 
 -- the kinds of faults on lines, the least first
 abbrev pub kinds : List FaultKind
 kinds =
     BadLine ∷ BadStamp ∷ BadDuration ∷ BadOffset ∷ BadRule ∷ YearRange ∷ NumberTooLarge ∷ NoObservance ∷ ObservanceField ∷ ZoneRule ∷ NotCalendar ∷ BadNesting
-    ∷ TooDeep ∷ MissingUid ∷ MissingStart ∷ Repeated ∷ BadEnd ∷ UnknownZone ∷ ThisAndFuture ∷ Exrule ∷ OldVersion ∷ []
+    ∷ TooDeep ∷ MissingUid ∷ MissingStart ∷ Repeated ∷ BadEnd ∷ UnknownZone ∷ ThisAndFuture ∷ Exrule ∷ OldVersion ∷ BadZoneFile ∷ []

@@ -7,10 +7,11 @@ use Rattle.ics_calendar.specs.declared.fault.FaultKind.TheVariants.{BadFold}
 use Rattle.ics_calendar.specs.declared.deferred_check.ZoneName.{ZoneName}
 use Rattle.ics_calendar.specs.DateLists.{rdates_by, exdates_by}
 use Rattle.ics_calendar.specs.Event.{EventSeen, FileSaid}
-use Rattle.ics_calendar.specs.DeferredChecks.{zone_index}
+use Rattle.ics_calendar.specs.DeferredChecks.{KnownZones}
+use Rattle.ics_calendar.specs.GivenFiles.{GivenFiles}
+use Rattle.ics_calendar.specs.Wanted.{each_once, unknown_names, zones_with}
 use Rattle.ics_calendar.specs.Placed.{Placed, placed, value, in_calendar, begins, calendar_of, lines_in, first_named, all_named}
 use Rattle.ics_calendar.specs.Times.{time_on, dated_in, given_length, length_of}
-use Rattle.ics_calendar.specs.Zones.{zones_of, zone_names, zones_on}
 use Rattle.ics_calendar.specs.Values.{ok_or_zero, is_cancelled}
 use Rattle.ics_calendar.specs.Faults.{first_text, first_dated, duration_on, parts_on, rdates_on, exdates_on, stands, stands_later}
 use Rattle.ics_calendar.specs.FirstFault.{Fault, IsFirst, IsFirstOrLast, NoneStand, fault_at_end, first_fault, later_fault}
@@ -36,27 +37,29 @@ event_by index calendar own = record {
 abbrev pub begins_event : Placed → Bool
 begins_event line = in_calendar line && begins (codes "VEVENT") line
 
--- The events of all calendars, in the order of their BEGIN lines.
-abbrev pub events_of : List Placed → List EventSeen
-events_of lines = map (λ line. event_by (zone_index (zone_names lines)) (calendar_of line.path) (lines_in line.number lines)) (filter begins_event lines)
+-- The events of all calendars, in the order of their BEGIN lines, given the index of the zone that a name stands for.
+abbrev pub events_of : (ZoneName → Option ℕ) → List Placed → List EventSeen
+events_of index lines = map (λ line. event_by index (calendar_of line.path) (lines_in line.number lines)) (filter begins_event lines)
 
--- What the file says, where no fault stands in it.
-abbrev pub said_of : List Placed → FileSaid
-said_of lines = record { zones = zones_of lines; events = events_of lines }
+-- What the file says with these zone files, where no fault stands in it. The zones of VTIMEZONEs come first.
+abbrev pub said_of : GivenFiles → List Placed → FileSaid
+said_of files lines = let known : KnownZones = zones_with files lines in record { zones = known.zones; events = events_of known.index lines }
 
 abbrev pub bad_fold : Fault
 bad_fold = record { line = 1; kind = BadFold }
 
--- WHAT A FILE IS, as a relation: a fold at its begin comes alone; then the first fault of round one, or else that of round two, or else what the file says.
-abbrev pub IsFile : List ℕ → Result FileSaid Fault → Type 0
-IsFile file (Err fault) =
+-- WHAT A FILE IS with these zone files, as a relation: a fold at its begin comes alone; then the first fault of round one, or else that of round two, or
+-- else what the file says.
+abbrev pub IsFile : GivenFiles → List ℕ → Result FileSaid Fault → Type 0
+IsFile files file (Err fault) =
     (IsTrue (begins_with_fold file) × (fault ≡ bad_fold))
     ⊎ ((begins_with_fold file ≡ false) × (IsFirstOrLast (placed file) fault
-    ⊎ (NoneStand stands [] (placed file) × (fault_at_end (placed file) ≡ None) × IsFirst (stands_later (zones_on (placed file))) [] (placed file) fault)))
-IsFile file (Ok seen) =
+    ⊎ (NoneStand stands [] (placed file) × (fault_at_end (placed file) ≡ None)
+    × IsFirst (stands_later (zones_with files (placed file))) [] (placed file) fault)))
+IsFile files file (Ok seen) =
     (begins_with_fold file ≡ false) × NoneStand stands [] (placed file) × (fault_at_end (placed file) ≡ None)
-    × NoneStand (stands_later (zones_on (placed file))) [] (placed file)
-    × (seen ≡ said_of (placed file))
+    × NoneStand (stands_later (zones_with files (placed file))) [] (placed file)
+    × (seen ≡ said_of files (placed file))
 
 -- the first fault of round one, or else that of round two, or else what the file says
 abbrev pub decide : Option Fault → Option Fault → FileSaid → Result FileSaid Fault
@@ -65,13 +68,30 @@ decide None (Some fault) said = Err fault
 decide None None said = Ok said
 
 -- WHAT A FILE IS, as it computes.
-abbrev pub file_of : List ℕ → Result FileSaid Fault
-file_of file =
+abbrev pub file_of : GivenFiles → List ℕ → Result FileSaid Fault
+file_of files file =
     if begins_with_fold file then Err bad_fold
-    else decide (first_fault (placed file)) (later_fault (placed file)) (said_of (placed file))
+    else decide (first_fault (placed file)) (later_fault files (placed file)) (said_of files (placed file))
+
+-- none, where a fault of the first round stands
+abbrev pub wanted_on : Option Fault → List Placed → List (List ℕ)
+wanted_on (Some fault) lines = []
+wanted_on None lines = each_once (unknown_names lines)
+
+-- WHAT A FILE WANTS.
+abbrev pub wanted_names : List ℕ → List (List ℕ)
+wanted_names file = if begins_with_fold file then [] else wanted_on (first_fault (placed file)) (placed file)
+
+-- A file in which the first round finds nothing: what it wants, and what it is with zone files.
+pub record DraftSaid : Type 0 where
+  pub wants : List (List ℕ)
+  pub says : GivenFiles → Result FileSaid Fault
+
+abbrev pub draft_of : List ℕ → DraftSaid
+draft_of file = record { wants = wanted_names file; says = λ files. file_of files file }
 
 -- A fault of the first round on a line looks back only: a longer file that begins with the same lines has it as its first.
 abbrev pub FaultsLookBack : Type 0
 FaultsLookBack =
-    (file longer : List ℕ) (more : List Line) (fault : Fault) → unfolded longer ≡ unfolded file ++ more → begins_with_fold longer ≡ false
-    → IsFirst stands [] (placed file) fault → IsFile longer (Err fault)
+    (files : GivenFiles) (file longer : List ℕ) (more : List Line) (fault : Fault) → unfolded longer ≡ unfolded file ++ more → begins_with_fold longer ≡ false
+    → IsFirst stands [] (placed file) fault → IsFile files longer (Err fault)

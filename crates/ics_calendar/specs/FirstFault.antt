@@ -5,7 +5,8 @@ use Rattle.ics_calendar.specs.declared.fault.FaultKind.{FaultKind}
 use Rattle.ics_calendar.specs.declared.fault.FaultKind.TheVariants.{NotCalendar, BadNesting}
 use Rattle.ics_calendar.specs.Placed.{Placed, Open, path_behind, beside}
 use Rattle.ics_calendar.specs.Faults.{stands, stands_later, kinds}
-use Rattle.ics_calendar.specs.Zones.{zones_on}
+use Rattle.ics_calendar.specs.GivenFiles.{GivenFiles}
+use Rattle.ics_calendar.specs.Wanted.{zones_with}
 
 -- Which faults stand on a line, given the lines beside it.
 abbrev pub Round : Type 0
@@ -63,5 +64,5 @@ first_from round at_end before (line ∷ lines) = found line.number (least_on ro
 abbrev pub first_fault : List Placed → Option Fault
 first_fault lines = first_from stands fault_at_end [] lines
 
-abbrev pub later_fault : List Placed → Option Fault
-later_fault lines = first_from (stands_later (zones_on lines)) (λ before. None) [] lines
+abbrev pub later_fault : GivenFiles → List Placed → Option Fault
+later_fault files lines = first_from (stands_later (zones_with files lines)) (λ before. None) [] lines

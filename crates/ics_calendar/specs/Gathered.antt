@@ -16,10 +16,10 @@ use Rattle.ics_calendar.specs.declared.gathered.Passed.{Passed}
 use Rattle.ics_calendar.specs.GatheredSeen.{GatheredSeen}
 use Rattle.ics_calendar.specs.Builders.{event_of}
 use Rattle.ics_calendar.specs.Event.{FileSaid}
-use Rattle.ics_calendar.specs.Files.{decide}
+use Rattle.ics_calendar.specs.Files.{DraftSaid, decide}
 use Rattle.ics_calendar.specs.FirstFault.{Fault, found}
 use Rattle.ics_calendar.specs.declared.deferred_check.ZoneName.{ZoneName}
-use Rattle.ics_calendar.specs.DeferredChecks.{KnownZones, known_zones, judged, unknown_in}
+use Rattle.ics_calendar.specs.DeferredChecks.{KnownZones, known_zones, with_files, judged, unknown_in}
 use Rattle.ics_calendar.specs.Ready.{EachZone}
 use Rattle.ics_calendar.specs.Sound.{IsWhole}
 use Rattle.ics_calendar.specs.Wanted.{each_once}
@@ -65,21 +65,21 @@ said_of_gathered known g = record { zones = known.zones; events = map (event_of 
 abbrev pub settled_by : KnownZones → GatheredSeen → Result FileSaid Fault
 settled_by known g = decide None (first_judged known g.checks) (said_of_gathered known g)
 
-abbrev pub settled : GatheredSeen → Result FileSaid Fault
-settled g = settled_by (known_in g) g
-
--- What the file is, by what the first round gathers or finds.
-abbrev pub settled_of : Result GatheredSeen Fault → Result FileSaid Fault
-settled_of (Ok g) = settled g
-settled_of (Err fault) = Err fault
-
 -- What the file wants, by the same.
 abbrev pub all_unknown : (ZoneName → Option ℕ) → List LineCheck → List (List ℕ)
 all_unknown index checks = filter_map (λ w. unknown_in index w.check) checks
 
-abbrev pub wanted_of : Result GatheredSeen Fault → List (List ℕ)
-wanted_of (Ok g) = each_once (all_unknown (known_in g).index g.checks)
-wanted_of (Err fault) = []
+abbrev pub wanted_by : KnownZones → GatheredSeen → List (List ℕ)
+wanted_by known g = each_once (all_unknown known.index g.checks)
+
+-- The draft of the file, given the zones of its VTIMEZONEs: what it wants, and what it is with zone files.
+abbrev pub drafted : KnownZones → GatheredSeen → DraftSaid
+drafted known g = record { wants = wanted_by known g; says = λ files. settled_by (with_files known files (wanted_by known g)) g }
+
+-- The draft, by what the first round gathers or finds.
+abbrev pub drafted_of : Result GatheredSeen Fault → Result DraftSaid Fault
+drafted_of (Ok g) = Ok (drafted (known_in g) g)
+drafted_of (Err fault) = Err fault
 
 -- What is to be read in a time zone lies in the years of stamps.
 abbrev pub IsSoundInstant : Instant → Type 0

@@ -7,8 +7,9 @@ pub mod Values
 pub mod DateValues
 pub mod DateLists
 pub mod Faults
-pub mod FirstFault
+pub mod GivenFiles
 pub mod Wanted
+pub mod FirstFault
 pub mod Files
 pub mod Builders
 pub mod Times
@@ -24,3 +25,5 @@ pub mod ZoneTables
 pub mod Ready
 pub mod GatheredSeen
 pub mod Gathered
+pub mod DraftsSound
+pub mod Drafts

@@ -44,7 +44,7 @@ pub enum FaultKind {
     Repeated,
     /// A DTEND in an event with a DURATION, or of another kind than DTSTART, before it, or more than 36,525 days after it.
     BadEnd,
-    /// A TZID that no time zone of the calendar defines.
+    /// A TZID that no time zone of the calendar defines and no zone file is given for.
     UnknownZone,
     /// A RECURRENCE-ID with a RANGE.
     ThisAndFuture,
@@ -52,6 +52,8 @@ pub enum FaultKind {
     Exrule,
     /// A calendar of version 1.0.
     OldVersion,
+    /// A TZID that no time zone of the calendar defines, for which a file is given that is no zone file.
+    BadZoneFile,
 }
 
 /// Why a file is refused: its first fault, or a failed allocation.
@@ -99,6 +101,7 @@ impl FaultKind {
             FaultKind::ThisAndFuture => "ThisAndFuture",
             FaultKind::Exrule => "Exrule",
             FaultKind::OldVersion => "OldVersion",
+            FaultKind::BadZoneFile => "BadZoneFile",
         }
     }
 }

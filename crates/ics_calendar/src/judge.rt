@@ -52,6 +52,7 @@ impl DeferredCheck {
         match self {
             DeferredCheck::End => Some(FaultKind::BadEnd),
             DeferredCheck::Zone(name) if table.index(name).is_some() => None,
+            DeferredCheck::Zone(name) if table.is_bad(&name.name) => Some(FaultKind::BadZoneFile),
             DeferredCheck::Zone(_) => Some(FaultKind::UnknownZone),
             DeferredCheck::Ends(start, end) if ends_out(table, start, end) => {
                 Some(FaultKind::BadEnd)

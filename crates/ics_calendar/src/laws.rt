@@ -1,20 +1,37 @@
 //! Laws of the definitions that the contract of `read_file` cites.
-ghost use Rattle.std.specs.Prelude.{◌≡◌, List, ℕ, Result};
+ghost use Rattle.std.specs.Prelude.{◌≡◌, ◌≢◌, List, ℕ, Result, Err};
+ghost use Rattle.std.specs.List.{All};
+ghost use Rattle.ics_calendar.specs.declared.fault.FaultKind.{FaultKind};
 ghost use Rattle.ics_calendar.specs.DateValues.{OnePeriod};
 ghost use Rattle.ics_calendar.specs.Event.{FileSaid};
 ghost use Rattle.ics_calendar.specs.FirstFault.{Fault};
-ghost use Rattle.ics_calendar.specs.Files.{FaultsLookBack, IsFile, file_of};
+ghost use Rattle.ics_calendar.specs.GivenFiles.{GivenFiles, no_files};
+ghost use Rattle.ics_calendar.specs.Files.{FaultsLookBack, IsFile, file_of, wanted_names};
+ghost use Rattle.ics_calendar.specs.Placed.{Placed};
+ghost use Rattle.ics_calendar.specs.Wanted.{zones_with};
+ghost use Rattle.ics_calendar.specs.Zones.{zones_on};
 
-/// Each file is one thing: its first fault, or its events where none stands, and `file_of` computes it.
+/// With given zone files each file is one thing: its first fault, or its events where none stands, and `file_of` computes it.
 pub fn files_are_one_thing()
-    ensures is { (file : List ℕ) → IsFile file (file_of file) }
-    ensures only { (file : List ℕ) (answer : Result FileSaid Fault) → IsFile file answer → file_of file ≡ answer }
+    ensures is { (files : GivenFiles) (file : List ℕ) → IsFile files file (file_of files file) }
+    ensures only { (files : GivenFiles) (file : List ℕ) (answer : Result FileSaid Fault) → IsFile files file answer → file_of files file ≡ answer }
 {}
 
 /// A fault of the first round on a line looks back only: a longer file that begins with the same lines
 /// has it as its first fault.
 pub fn faults_look_back()
     ensures { FaultsLookBack }
+{}
+
+/// With no zone files the time zones of a file are those of its VTIMEZONEs alone, and BadZoneFile is no fault of it.
+pub fn without_zone_files()
+    ensures zones { (lines : List Placed) → zones_with no_files lines ≡ zones_on lines }
+    ensures faults { (file : List ℕ) (line : ℕ) → file_of no_files file ≢ Err (record { line = line; kind = FaultKind.BadZoneFile }) }
+{}
+
+/// A file is one thing with all zone files that agree on the names that it wants.
+pub fn only_wanted_files_count()
+    ensures { (files others : GivenFiles) (file : List ℕ) → All (λ name. files name ≡ others name) (wanted_names file) → file_of files file ≡ file_of others file }
 {}
 
 /// If `ics_values::read_period` and a file accept a text as the value of an RDATE, they read the same

@@ -7,6 +7,7 @@ mod date_list;
 mod date_values;
 mod dated;
 mod deferred_check;
+mod draft;
 mod ends;
 mod event;
 mod event_builder;
@@ -30,13 +31,18 @@ mod time;
 mod tzid;
 mod unknown_zones;
 mod words;
+mod zone_files;
 mod zone_table;
 
+pub use draft::Draft;
 pub use event::Event;
 pub use events::FileEvents;
 pub use fault::{FaultKind, FileFault};
-pub use laws::{faults_look_back, files_are_one_thing, one_period};
+pub use laws::{
+    faults_look_back, files_are_one_thing, one_period, only_wanted_files_count, without_zone_files,
+};
 pub use read::read_file;
 pub use text::Text;
 pub use time::{Length, Rdate, Time};
 pub use unknown_zones::wanted;
+pub use zone_files::ZoneFiles;

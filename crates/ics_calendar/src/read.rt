@@ -1,19 +1,21 @@
 //! Reading a file.
-ghost use Rattle.std.specs.Prelude.{◌≡◌, ◌∷◌, [], ◌≤◌, length, IfOk, None};
+ghost use Rattle.std.specs.Prelude.{◌≡◌, ◌∷◌, [], ◌≤◌, length, map, IfOk, None};
 ghost use Rattle.ics_calendar.specs.Files.{file_of};
-ghost use Rattle.ics_calendar.specs.Gathered.{settled_of, nothing_gathered, IsSoundGathered};
+ghost use Rattle.ics_calendar.specs.Gathered.{nothing_gathered, IsSoundGathered};
+ghost use Rattle.ics_calendar.specs.GivenFiles.{files_by};
 ghost use Rattle.ics_calendar.specs.Lines.{line_in};
 ghost use Rattle.ics_calendar.specs.Pass.{pass, bottom, at_end, unless, gathered_of};
 ghost use Rattle.ics_calendar.specs.Progresses.{Goes};
-ghost use Rattle.ics_calendar.specs.Seen.{said_answer, NumbersFit, LastFits, SaysFile};
+ghost use Rattle.ics_calendar.specs.Seen.{NumbersFit, LastFits, SaysFile};
 
+use crate::draft::Draft;
 use crate::events::FileEvents;
 use crate::fault::{Fault, FaultKind, FileFault};
 use crate::gathered::Gathered;
 use crate::refused::Refused;
-use crate::settle::settle;
 use crate::stack::Stack;
-use ics_text::{Content, Lines, content, numbers_rise, numbers_within};
+use crate::zone_files::ZoneFiles;
+use ics_text::{Content, Lines, content, numbers_within};
 use std::alloc::{AllocError, Global};
 
 /// What has been read of the file so far: the components that are open, and what is gathered of those that have ended.
@@ -134,29 +136,24 @@ pub fn gather(alloc: Global, bytes: &[u8]) -> Result<Result<Gathered, Fault>, Al
     pass_lines(alloc, lines)
 }
 
-/// What a file says, or its first fault.
-fn read_bytes(alloc: Global, bytes: &[u8]) -> Result<Result<FileEvents, Fault>, AllocError>
-    requires { length bytes.now ≤ 16_777_216 }
-    ensures { IfOk result (λ answer. said_answer answer ≡ settled_of (gathered_of bytes.now)) }
-{
-    match gather(alloc, bytes)? {
-        Ok(gathered) => settle(alloc, gathered),
-        Err(fault) => Ok(Err(fault)),
-    }
-}
-
 /// The time zones and the events of a file of at most 16,777,216 bytes, or its first fault (RFC 5545, sections 3.4 and 3.6).
 ///
 /// The first fault is the one on the least line and, if that has several, of the least kind. Faults of zones and of
-/// instants count only if there is no other. `Memory` if an allocation fails.
-pub fn read_file(alloc: Global, bytes: &[u8]) -> Result<FileEvents, FileFault>
+/// instants count only if there is no other. `zones` are zone files (RFC 9636), each with the TZID that it is for: of equal
+/// names the first counts, and a VTIMEZONE of the calendar goes before them. `Memory` if an allocation fails.
+pub fn read_file(
+    alloc: Global,
+    bytes: &[u8],
+    zones: &[(Vec<u8>, Vec<u8>)],
+) -> Result<FileEvents, FileFault>
     requires { length bytes.now ≤ 16_777_216 }
-    ensures { SaysFile result (file_of bytes.now) }
+    ensures { SaysFile result (file_of (files_by (map (λ pair. (pair.0.items, pair.1.items)) zones.now)) bytes.now) }
 {
-    numbers_rise();
-    match read_bytes(alloc, bytes) {
-        Err(_) => Err(FileFault::Memory),
-        Ok(Ok(events)) => Ok(events),
-        Ok(Err(Fault { line, kind })) => Err(FileFault::At { line, kind }),
+    match Draft::read(alloc, bytes) {
+        Err(fault) => Err(fault),
+        Ok(draft) => match ZoneFiles::by(alloc, zones) {
+            Ok(files) => draft.settle(alloc, &files),
+            Err(_) => Err(FileFault::Memory),
+        },
     }
 }

@@ -2,7 +2,8 @@
 ghost use Rattle.std.specs.Prelude.{◌≡◌, map, IfOk};
 ghost use Rattle.std.specs.List.{All};
 ghost use Rattle.ics_calendar.specs.Builders.{event_of};
-ghost use Rattle.ics_calendar.specs.Gathered.{first_judged, settled, IsSoundCheck, IsSoundGathered};
+ghost use Rattle.ics_calendar.specs.DraftsSound.{IsSoundDraft, left_of};
+ghost use Rattle.ics_calendar.specs.Gathered.{first_judged, settled_by, IsSoundCheck};
 ghost use Rattle.ics_calendar.specs.Ready.{IsReady};
 ghost use Rattle.ics_calendar.specs.Seen.{said_answer};
 ghost use Rattle.ics_calendar.specs.ZoneTables.{known_by};
@@ -10,7 +11,7 @@ ghost use Rattle.ics_calendar.specs.ZoneTables.{known_by};
 use crate::event::Event;
 use crate::events::FileEvents;
 use crate::fault::Fault;
-use crate::gathered::{EndedEvent, Gathered, LineCheck};
+use crate::gathered::{EndedEvent, LineCheck};
 use crate::zone_table::ZoneTable;
 use std::alloc::{AllocError, Global};
 
@@ -47,16 +48,15 @@ fn events_of(
 }
 
 /// The zones and the events of a file in which the first round finds nothing, or its first fault of the second.
-pub fn settle(alloc: Global, gathered: Gathered) -> Result<Result<FileEvents, Fault>, AllocError>
-    requires { IsSoundGathered gathered }
-    ensures { IfOk result (λ answer. said_answer answer ≡ settled gathered) }
+pub fn settle(
+    alloc: Global,
+    table: ZoneTable,
+    events: Vec<EndedEvent>,
+    checks: Vec<LineCheck>,
+) -> Result<Result<FileEvents, Fault>, AllocError>
+    requires { IsSoundDraft (known_by table) (left_of events.items checks.items) }
+    ensures { IfOk result (λ answer. said_answer answer ≡ settled_by (known_by table) (left_of events.items checks.items)) }
 {
-    let Gathered {
-        zones,
-        events,
-        checks,
-    } = gathered;
-    let table = ZoneTable::new(alloc, zones)?;
     if let Some(found) = first_judged(&table, &checks) {
         return Ok(Err(found));
     }

@@ -41,7 +41,7 @@ impl Tzid {
     }
 
     /// A name of these bytes.
-    fn copied(alloc: Global, bytes: &[u8]) -> Result<Tzid, AllocError>
+    pub fn copied(alloc: Global, bytes: &[u8]) -> Result<Tzid, AllocError>
         ensures { IfOk result (λ zone. zone ≡ bytes.now) }
     {
         let bytes = RcSlice::from_slice(alloc, bytes)?;

@@ -5,12 +5,13 @@ ghost use Rattle.std.specs.Cmp.Lexicographic.{slice_cmp};
 ghost use Rattle.std.specs.Ordering.{nat_cmp};
 ghost use Rattle.ics_calendar.specs.DeferredChecks.{unknown_in};
 ghost use Rattle.ics_calendar.specs.Gathered.{all_unknown};
-ghost use Rattle.ics_calendar.specs.Wanted.{each_once, wanted_names};
+ghost use Rattle.ics_calendar.specs.Files.{wanted_names};
+ghost use Rattle.ics_calendar.specs.Wanted.{each_once};
 ghost use Rattle.ics_calendar.specs.ZoneTables.{known_by};
 
 use crate::deferred_check::DeferredCheck;
-use crate::gathered::{Gathered, LineCheck};
-use crate::read::gather;
+use crate::draft::drafted;
+use crate::gathered::LineCheck;
 use crate::tzid::Tzid;
 use crate::zone_table::ZoneTable;
 use ics_text::numbers_rise;
@@ -37,39 +38,48 @@ fn see(seen: &mut BTreeSet<Tzid>, name: &Tzid) -> Result<bool, AllocError>
 }
 
 /// The names of the time zones that are to be known and are not, each once, in the order of the checks.
-fn unknown_names(
+pub fn unknown_names(
     alloc: Global,
     table: &ZoneTable,
     checks: &[LineCheck],
-) -> Result<Vec<Vec<u8>>, AllocError>
-    ensures { IfOk result (λ names. map (λ name. name.items) names.items ≡ each_once (all_unknown (known_by table.now).index checks.now)) }
+) -> Result<Vec<Tzid>, AllocError>
+    ensures { IfOk result (λ names. names.items ≡ each_once (all_unknown (known_by table.now).index checks.now)) }
 {
     let mut seen = BTreeSet::new(alloc);
     let mut names = Vec::new(alloc);
     for deferred in checks {
         if let Some(name) = unknown_in(table, &deferred.check) {
             if see(&mut seen, name)? {
-                names.push(Vec::from_slice(alloc, name.as_slice())?)?;
+                names.push(name.shared()?)?;
             }
         }
     }
     Ok(names)
 }
 
+/// The bytes of each of these names.
+pub fn copied(alloc: Global, names: &[Tzid]) -> Result<Vec<Vec<u8>>, AllocError>
+    ensures { IfOk result (λ copies. map (λ name. name.items) copies.items ≡ names.now) }
+{
+    let mut copies = Vec::with_capacity(alloc, names.len())?;
+    for name in names {
+        copies.push(Vec::from_slice(alloc, name.as_slice())?)?;
+    }
+    Ok(copies)
+}
+
 /// The names of the time zones that stamps of a file are in and that no VTIMEZONE of their calendar defines (RFC 5545,
 /// section 3.2.19), each once, in the order of the lines. The file has at most 16,777,216 bytes.
 ///
-/// These are the TZIDs of the properties on whose lines UnknownZone is a fault of the second round. There are none if the
-/// first round finds a fault. The error means that an allocation failed.
+/// These are the TZIDs of the properties on whose lines UnknownZone is a fault of the second round if no zone files are
+/// given. There are none if the first round finds a fault. The error means that an allocation failed.
 pub fn wanted(alloc: Global, bytes: &[u8]) -> Result<Vec<Vec<u8>>, AllocError>
     requires { length bytes.now ≤ 16_777_216 }
     ensures { IfOk result (λ names. map (λ name. name.items) names.items ≡ wanted_names bytes.now) }
 {
     numbers_rise();
-    let Ok(gathered) = gather(alloc, bytes)? else {
-        return Ok(Vec::new(alloc));
-    };
-    let Gathered { zones, checks, .. } = gathered;
-    let table = ZoneTable::new(alloc, zones)?;
-    unknown_names(alloc, &table, &checks)
+    match drafted(alloc, bytes)? {
+        Ok(draft) => draft.wanted(alloc),
+        Err(_) => Ok(Vec::new(alloc)),
+    }
 }

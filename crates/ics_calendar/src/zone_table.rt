@@ -1,25 +1,31 @@
 //! The time zones of a file by their names.
-ghost use Rattle.std.specs.Prelude.{◌≡◌, map, IfOk, OnOk};
+ghost use Rattle.std.specs.Prelude.{◌≡◌, ◌∷◌, [], List, ℕ, map, IfOk, OnOk};
 ghost use Rattle.std.specs.BTreeMap.{get};
+ghost use Rattle.std.specs.Cmp.Lexicographic.{slice_cmp};
 ghost use Rattle.std.specs.List.{All};
+ghost use Rattle.std.specs.Ordering.{nat_cmp};
 ghost use Rattle.ics_values.specs.Stamps.{IsStampDay};
 ghost use Rattle.ics_zone.specs.ZoneSaid.{ZoneSaid, zone_said};
 ghost use Rattle.ics_calendar.specs.declared.deferred_check.ZoneName.{ZoneName};
-ghost use Rattle.ics_calendar.specs.DeferredChecks.{zone_index, moment_at};
+ghost use Rattle.ics_calendar.specs.DeferredChecks.{zone_index, moment_at, known_zones, with_files};
 ghost use Rattle.ics_calendar.specs.ZonesSound.{IsSoundZone};
-ghost use Rattle.ics_calendar.specs.ZoneTables.{name_cmp, known_by, put_first};
+ghost use Rattle.ics_calendar.specs.ZoneTables.{name_cmp, known_by, given_by, put_first, put_given, with_given};
 
 use crate::deferred_check::ZoneName;
 use crate::gathered::EndedZone;
+use crate::tzid::Tzid;
+use crate::zone_files::ZoneFiles;
 use ics_values::{Local, Moment};
-use ics_zone::{Place, Zone};
+use ics_zone::{Place, Zone, ZoneFile};
 use std::alloc::{AllocError, Global};
-use std::collections::BTreeMap;
+use std::collections::{BTreeMap, BTreeSet};
 
-/// The time zones of a file, and the index of the first of each name.
+/// The time zones of a file, the index of the first of each name, and those of the names that zone files are given for.
 #[derive(Drop)]
 pub struct ZoneTable {
     places: BTreeMap<ZoneName, u32>,
+    given: BTreeMap<Tzid, u32>,
+    refused: BTreeSet<Tzid>,
     zones: Vec<Zone>,
 }
 
@@ -42,6 +48,20 @@ fn put_first(
     Ok(())
 }
 
+/// Puts a place for a name, unless it has one.
+fn put_given(given: &mut BTreeMap<Tzid, u32>, name: Tzid, place: usize) -> Result<(), AllocError>
+    ensures { OnOk result ((used : List ℕ) → get (slice_cmp nat_cmp) given.new used ≡ put_given (get (slice_cmp nat_cmp) given.old) name place used) }
+{
+    // no memory holds as many zones as have no such number
+    let Ok(place) = u32::try_from(place) else {
+        return Err(AllocError);
+    };
+    if !given.contains_key(&name) {
+        given.insert(name, place)?;
+    }
+    Ok(())
+}
+
 /// The index of the first zone of each of these names.
 fn places_of(alloc: Global, names: Vec<ZoneName>) -> Result<BTreeMap<ZoneName, u32>, AllocError>
     ensures { IfOk result (λ places. get name_cmp places ≡ zone_index names.items) }
@@ -53,31 +73,89 @@ fn places_of(alloc: Global, names: Vec<ZoneName>) -> Result<BTreeMap<ZoneName, u
     Ok(places)
 }
 
+/// The names of these time zones, and the zones.
+fn names_and_zones(
+    alloc: Global,
+    zones: Vec<EndedZone>,
+) -> Result<(Vec<ZoneName>, Vec<Zone>), AllocError>
+    requires { All (λ z. IsSoundZone z.observances) zones.items }
+    ensures names { IfOk result (λ made. made.0.items ≡ map (λ z. z.name) zones.items) }
+    ensures zones { IfOk result (λ made. map zone_said made.1.items ≡ map (λ z. ZoneSaid.ByObservances z.observances) zones.items) }
+{
+    let mut names = Vec::new(alloc);
+    let mut made = Vec::new(alloc);
+    for zone in zones {
+        names.push(zone.name)?;
+        made.push(zone.observances.into_zone(alloc)?)?;
+    }
+    Ok((names, made))
+}
+
 impl ZoneTable {
     /// These zones, where no fault stands on their lines. Of several with one name the first counts.
     pub fn new(alloc: Global, zones: Vec<EndedZone>) -> Result<ZoneTable, AllocError>
         requires { All (λ z. IsSoundZone z.observances) zones.items }
-        ensures index { IfOk result (λ table. (known_by table).index ≡ zone_index (map (λ z. z.name) zones.items)) }
-        ensures zones { IfOk result (λ table. (known_by table).zones ≡ map (λ z. ZoneSaid.ByObservances z.observances) zones.items) }
+        ensures { IfOk result (λ table. known_by table ≡ known_zones (map (λ z. z.name) zones.items) (map (λ z. ZoneSaid.ByObservances z.observances) zones.items)) }
     {
-        let mut names = Vec::new(alloc);
-        let mut made = Vec::new(alloc);
-        for zone in zones {
-            names.push(zone.name)?;
-            made.push(zone.observances.into_zone(alloc)?)?;
-        }
+        let (names, made) = names_and_zones(alloc, zones)?;
         let places = places_of(alloc, names)?;
         Ok(ZoneTable {
             places,
+            given: BTreeMap::new(alloc),
+            refused: BTreeSet::new(alloc),
             zones: made,
         })
+    }
+
+    /// The zone of the file that is given for a name stands behind the others.
+    fn add_given(&mut self, name: Tzid, file: &ZoneFile) -> Result<(), AllocError>
+        ensures { OnOk result (known_by self.new ≡ with_given (known_by self.old) name file.now) }
+    {
+        let place = self.zones.len();
+        self.zones.push(Zone::of_file(file)?)?;
+        put_given(&mut self.given, name, place)
+    }
+
+    /// What is given for a name is taken in, if there is a file for it.
+    fn add(&mut self, files: &ZoneFiles, name: Tzid) -> Result<(), AllocError>
+        ensures { OnOk result (known_by self.new ≡ with_files (known_by self.old) (given_by files.now) (name ∷ [])) }
+    {
+        match files.of(&name) {
+            Some(Some(file)) => self.add_given(name, file),
+            Some(None) => {
+                self.refused.insert(name)?;
+                Ok(())
+            }
+            None => Ok(()),
+        }
+    }
+
+    /// With the zones of the zone files for these names.
+    pub fn with_files(self, files: &ZoneFiles, names: Vec<Tzid>) -> Result<ZoneTable, AllocError>
+        ensures { IfOk result (λ table. known_by table ≡ with_files (known_by self) (given_by files.now) names.items) }
+    {
+        let mut table = self;
+        for name in names {
+            table.add(files, name)?;
+        }
+        Ok(table)
     }
 
     /// The index of the zone of that name.
     pub fn index(&self, name: &ZoneName) -> Option<u32>
         ensures { result ≡ (known_by self.now).index name.now }
     {
-        self.places.get(name).copied()
+        match self.places.get(name) {
+            Some(place) => Some(*place),
+            None => self.given.get(&name.name).copied(),
+        }
+    }
+
+    /// Whether the file that is given for a name is no zone file.
+    pub fn is_bad(&self, name: &Tzid) -> bool
+        ensures { result ≡ (known_by self.now).is_bad name.now }
+    {
+        self.refused.contains(name)
     }
 
     /// The instant that a local means in the zone with that index, if there is one.

@@ -9,7 +9,8 @@ use Rattle.jiff_core.specs.Timestamp.{nanos_of_seconds}
 use Rattle.jiff_tz.specs.PosixRule.{match_some, rule_day, first_nanosecond, last_nanosecond, nanos_per_day, clamp_to, saturating_add, saturating_sub, int_same}
 use Rattle.jiff_tz.specs.PosixRule.{in_window, in_span}
 use Rattle.jiff_tz.specs.PosixText.{DstText, TzText}
-use Rattle.jiff_tz.specs.TzifReader.{TzifText, Parsed, read_tzif}
+pub use Rattle.jiff_tz.specs.TzifReader.{TzifText}
+use Rattle.jiff_tz.specs.TzifReader.{Parsed, read_tzif}
 use Rattle.jiff_tz.specs.TzifText.{TypeText, TransitionText, civil_start, civil_end, no_row}
 use Rattle.jiff_tz.specs.Year.{year_of_nanos}
 use Rattle.jiff_tz.specs.declared.info.Dst.{Dst}

@@ -198,6 +198,7 @@ same_request one entries now a b p q =
     record {
       folder = p.folder ∙ sym q.folder;
       zone = zone;
+      zones = p.zones ∙ sym q.zones;
       from = ends.0;
       to = ends.1;
       notstarted = same_flag a.window.notstarted b.window.notstarted _ p.notstarted q.notstarted;

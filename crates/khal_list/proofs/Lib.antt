@@ -1,7 +1,9 @@
 pub mod AddedLemmas
 pub mod AnswerLemmas
+pub mod AskedLemmas
 pub mod FormatLemmas
 pub mod Fronts
+pub mod LearnedLemmas
 pub mod LimitLemmas
 pub mod LimitRows
 pub mod NameLemmas
@@ -20,3 +22,4 @@ pub mod TokenPages
 pub mod WindowLemmas
 pub mod WindowTextLemmas
 pub mod Written
+pub mod ZoneLawLemmas

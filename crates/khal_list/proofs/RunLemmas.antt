@@ -21,14 +21,17 @@ use Rattle.khal_list.specs.declared.request.Request.{Request}
 use Rattle.khal_list.specs.declared.status.Status.{Status}
 use Rattle.khal_list.specs.declared.status.Status.TheVariants.{Faulty}
 use Rattle.khal_list.specs.Answers.{Answer, Contents}
+use Rattle.khal_list.specs.Asked.{all_wanted, Asked, AsksAll, AsksSome}
 use Rattle.khal_list.specs.Errors.{accepted, error_lines}
+use Rattle.khal_list.specs.Finds.{FindAnswer}
 use Rattle.khal_list.specs.Growth.{TookFront}
 use Rattle.khal_list.specs.Headline.{more_line, IsListingOf, Lists, Shown, ShownInPart, Shows, ShowsBy, ShowsDays, ShowsOnce, Stops}
 use Rattle.khal_list.specs.Listed.{asked_after, day_key_on, days_text_of, key_on, text_of}
 use Rattle.khal_list.specs.Outcomes.{IsReading}
-use Rattle.khal_list.specs.Reads.{ReadsAll}
+use Rattle.khal_list.specs.Reads.{ReadsAll, ReadsSome}
+use Rattle.khal_list.proofs.AskedLemmas.{all-some}
 use Rattle.khal_list.proofs.RefusedLemmas.{lines-refused}
-use Rattle.khal_list.proofs.Written.{appends-both, appends-same}
+use Rattle.khal_list.proofs.Written.{appends-both, appends-none, appends-same}
 
 take-length : (xs : List ℕ) → take (length xs) xs ≡ xs
 take-length xs = grind (arith, common_steps)
@@ -103,50 +106,87 @@ module _ {T E : Type 0} (text : T → Option (List ℕ)) (one other : List ℕ �
   part-as (Err fault) (inl none) = inl none
   part-as (Err fault) (inr s) = inr (s.0, s.1, gives s.0 s.1 s.2, s.3)
 
-module _ {S : Type 0} (reads : S → ℕ → Answer → S → Type 0) (names : List (List ℕ)) (before after : S) (request : Request) (out out' err told : Option (List ℕ))
-    (contents : List Contents) (files : List FileSaid) (errors : List ℕ)
-    (read : ReadsAll reads names before contents after) (kept : IsReading names contents files errors) (wrote : Appends err told errors) where
-  lines : Appends err told (error_lines names contents)
+-- nothing of a text is taken
+none-front : (told : Option (List ℕ)) (text : List ℕ) → TookFront told told text
+none-front told text = record { count = 0; within = omega arith; taken = appends-none told }
+
+module _ {S Z : Type 0} (reads : S → ℕ → Answer → S → Type 0) (names : List (List ℕ)) (before after : S) (finds : Z → List ℕ → FindAnswer → Z → Type 0) (zones zones' : Z)
+    (request : Request) (out err : Option (List ℕ)) where
+  -- an allocation failed while files were read
+  pub stops-reading : (contents : List Contents) × (asked : List Asked) × ReadsSome reads names before contents after × AsksSome finds [] (all_wanted contents) zones asked zones'
+      → Stops reads names before after finds zones zones' request out out err err
+  stops-reading some = inl (record { contents = some.0; read = some.2; asked = some.1; gave = some.3; none = refl; lines = none-front err (error_lines names some.1 some.0) })
+
+  -- the lines of the files were not written whole
+  pub stops-lines : (contents : List Contents) (asked : List Asked) (files : List FileSaid) (errors : List ℕ) → ReadsAll reads names before contents after
+      → AsksAll finds [] (all_wanted contents) zones asked zones' → IsReading names asked contents files errors → (given : List ℕ) → given ≡ errors
+      → (err' : Option (List ℕ)) → TookFront err err' given → Stops reads names before after finds zones zones' request out out err err'
+  stops-lines contents asked files errors read gave kept given same err' front = inl (record {
+    contents = contents;
+    read = record { last = after; from_first = read.from_first; ended = inl (refl, omega (arith, read.each)) };
+    asked = asked;
+    gave = all-some finds [] (all_wanted contents) zones asked zones' gave;
+    none = refl;
+    lines = subst (TookFront err err') (same ∙ kept.errors_are) front;
+  })
+
+module _ {S Z : Type 0} (reads : S → ℕ → Answer → S → Type 0) (names : List (List ℕ)) (before after : S) (finds : Z → List ℕ → FindAnswer → Z → Type 0) (zones zones' : Z)
+    (request : Request) (out out' err told : Option (List ℕ)) (contents : List Contents) (asked : List Asked) (files : List FileSaid) (errors : List ℕ)
+    (read : ReadsAll reads names before contents after) (gave : AsksAll finds [] (all_wanted contents) zones asked zones') (kept : IsReading names asked contents files errors) (wrote : Appends err told errors) where
+  lines : Appends err told (error_lines names asked contents)
   lines = appends-same err told kept.errors_are wrote
 
   -- the listing failed
-  pub stops : ShownInPart (Shows files request) out out' → Stops reads names before after request out out' err told
-  stops (inl none) = inl (contents, record { last = after; from_first = read.from_first; ended = inl (refl, omega (arith, read.each)) }, none, whole-front err told (error_lines names contents) lines)
-  stops (inr some) = inr (
-    contents,
-    read,
-    told,
-    lines,
-    record {
+  pub stops : ShownInPart (Shows files request) out out' → Stops reads names before after finds zones zones' request out out' err told
+  stops (inl none) = inl (record {
+    contents = contents;
+    read = record { last = after; from_first = read.from_first; ended = inl (refl, omega (arith, read.each)) };
+    asked = asked;
+    gave = all-some finds [] (all_wanted contents) zones asked zones' gave;
+    none = none;
+    lines = whole-front err told (error_lines names asked contents) lines;
+  })
+  stops (inr some) = inr (record {
+    contents = contents;
+    read = read;
+    asked = asked;
+    gave = gave;
+    told = told;
+    lines = lines;
+    stops = record {
       shown = some.0;
       token = some.1;
       shows = subst (λ these. Shows these request some.0 some.1) kept.files_are some.2;
       taken = inl (refl, some.3);
-    },
-  )
+    };
+  })
 
   -- the listing is written
   module _ (token : Option (List ℕ)) (some : Shown (Shows files request) out out' token) where
-    shows : Shows (accepted contents) request some.0 token
+    shows : Shows (accepted asked contents) request some.0 token
     shows = subst (λ these. Shows these request some.0 token) kept.files_are some.1
 
-    pub stops-more : (err' : Option (List ℕ)) → TookFront told err' (more_line token) → Stops reads names before after request out out' err err'
-    stops-more err' f = inr (
-      contents,
-      read,
-      told,
-      lines,
-      record { shown = some.0; token = token; shows = shows; taken = inr (some.2, f) },
-    )
+    pub stops-more : (err' : Option (List ℕ)) → TookFront told err' (more_line token) → Stops reads names before after finds zones zones' request out out' err err'
+    stops-more err' f = inr (record {
+      contents = contents;
+      read = read;
+      asked = asked;
+      gave = gave;
+      told = told;
+      lines = lines;
+      stops = record { shown = some.0; token = token; shows = shows; taken = inr (some.2, f) };
+    })
 
-    pub lists : (err' : Option (List ℕ)) → Appends told err' (more_line token) → (status : Status) → (status ≡ Faulty) ↔ (errors ≢ []) → Lists reads names before after request out out' err err' status
+    pub lists : (err' : Option (List ℕ)) → Appends told err' (more_line token) → (status : Status) → (status ≡ Faulty) ↔ (errors ≢ []) → Lists reads names before after finds zones zones' request out out' err err' status
     lists err' more status faulty = record {
       contents = contents;
       read = read;
+      asked = asked;
+      gave = gave;
       shown = some.0;
       token = token;
       shows = shows;
       text = some.2;
-      errors = appends-both err told err' (error_lines names contents) (more_line token) lines more;
-      faulty = lines-refused names contents (status ≡ Faulty) read.each (subst (λ these. (status ≡ Faulty) ↔ (these ≢ [])) kept.errors_are faulty);
+      errors = appends-both err told err' (error_lines names asked contents) (more_line token) lines more;
+      faulty = lines-refused asked names contents (status ≡ Faulty) read.each (subst (λ these. (status ≡ Faulty) ↔ (these ≢ [])) kept.errors_are faulty);
     }

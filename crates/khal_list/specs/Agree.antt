@@ -15,10 +15,11 @@ use Rattle.khal_list.specs.declared.request_fault.RequestFault.TheVariants.{Usag
 abbrev pub day_after : EveryDay → Option DayRank
 day_after every_day = option_map day_key_rank every_day.after
 
--- the folder, what the zone says, the window, the limit, the keys and the formats are the same
+-- the folder, what the zone says, the folder of zone files, the window, the limit, the keys and the formats are the same
 pub record SameRequest (a b : Request) : Type 0 where
   pub folder : string_bytes a.folder ≡ string_bytes b.folder
   pub zone : said_by (zone_of a.zone) ≡ said_by (zone_of b.zone)
+  pub zones : option_map string_bytes a.zones ≡ option_map string_bytes b.zones
   pub from : a.window.from ≡ b.window.from
   pub to : a.window.to ≡ b.window.to
   pub notstarted : a.window.notstarted ≡ b.window.notstarted

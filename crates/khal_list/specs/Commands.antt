@@ -1,5 +1,5 @@
--- The command line, as clap's model sees it: `list FOLDER [START [END]] [--zone Z] [--limit N] [--after TOKEN] [--notstarted] [--every-day]
--- [--format F] [--day-format F]` and `at FOLDER MOMENT [--zone Z]`.
+-- The command line, as clap's model sees it: `list FOLDER [START [END]] [--zone Z] [--zones DIR] [--limit N] [--after TOKEN] [--notstarted]
+-- [--every-day] [--format F] [--day-format F]` and `at FOLDER MOMENT [--zone Z] [--zones DIR]`.
 use Rattle.std.specs.Prelude.{true, Some, [], ◌∷◌, codes, pos}
 use Rattle.clap.specs.Words.{App, Rule, new_app, new_rule, with_rule, with_subcommand}
 use Rattle.clap.specs.Simple.{on_top}
@@ -24,6 +24,9 @@ zone = record (new_rule (codes "zone")) {
   defaults = codes "UTC" ∷ [];
   value_names = 1;
 }
+
+abbrev pub zones : Rule
+zones = record (new_rule (codes "zones")) { long = Some (codes "zones"); value_names = 1 }
 
 abbrev pub limit : Rule
 limit = record (new_rule (codes "limit")) {
@@ -53,12 +56,15 @@ format = record (new_rule (codes "format")) { long = Some (codes "format"); valu
 abbrev pub day_format : Rule
 day_format = record (new_rule (codes "day-format")) { long = Some (codes "day-format"); value_names = 1 }
 
--- `list` with its places, with what says the pages, with what chooses the entries, and with how they are written
+-- `list` with its places, with the zones, with what says the pages, with what chooses the entries, and with how they are written
 abbrev pub list_places_app : App
 list_places_app = with_rule (with_rule (with_rule (new_app (codes "list")) folder) start) end
 
+abbrev pub list_zones_app : App
+list_zones_app = with_rule (with_rule list_places_app zone) zones
+
 abbrev pub list_pages_app : App
-list_pages_app = with_rule (with_rule (with_rule list_places_app zone) limit) after
+list_pages_app = with_rule (with_rule list_zones_app limit) after
 
 abbrev pub list_choices_app : App
 list_choices_app = with_rule (with_rule list_pages_app notstarted) every_day
@@ -66,8 +72,12 @@ list_choices_app = with_rule (with_rule list_pages_app notstarted) every_day
 abbrev pub list_app : App
 list_app = with_rule (with_rule list_choices_app format) day_format
 
+-- `at` with its places, and with the zones
+abbrev pub at_places_app : App
+at_places_app = with_rule (with_rule (new_app (codes "at")) folder) moment
+
 abbrev pub at_app : App
-at_app = with_rule (with_rule (with_rule (new_app (codes "at")) folder) moment) zone
+at_app = with_rule (with_rule at_places_app zone) zones
 
 -- the command alone, which requires a subcommand
 abbrev pub bare_app : App

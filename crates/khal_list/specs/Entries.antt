@@ -37,6 +37,10 @@ text_or id default entries = unwrap_or (entry id entries) default
 abbrev pub text_of : Text → Entries → Text
 text_of id entries = text_or id [] entries
 
+-- the text of `--zones`, if it is given
+abbrev pub zones_text : Entries → Option Text
+zones_text entries = entry (codes "zones") entries
+
 -- the text of `--limit`, if it is given
 abbrev pub limit_text : Entries → Option Text
 limit_text entries = entry (codes "limit") entries

@@ -15,7 +15,9 @@ use Rattle.khal_list.specs.declared.request.Request.{Request}
 use Rattle.khal_list.specs.declared.status.Status.{Status}
 use Rattle.khal_list.specs.declared.status.Status.TheVariants.{Faulty}
 use Rattle.khal_list.specs.Answers.{Answer, Contents}
+use Rattle.khal_list.specs.Asked.{all_wanted, Asked, AsksAll, AsksSome}
 use Rattle.khal_list.specs.Errors.{accepted, error_lines, file_by}
+use Rattle.khal_list.specs.Finds.{FindAnswer}
 use Rattle.khal_list.specs.Growth.{TookFront}
 use Rattle.khal_list.specs.Listed.{asked_after, asked_after_day, day_key_on, days_text_of, key_on, text_of}
 use Rattle.khal_list.specs.Reads.{ReadsAll, ReadsSome}
@@ -64,32 +66,54 @@ abbrev pub more_line : Option (List ℕ) → List ℕ
 more_line None = []
 more_line (Some token) = codes "more: " ++ (token ++ 10 ∷ [])
 
--- Every file was read once, in order. `out` has gained exactly the text that the request shows of the accepted files. `err` has gained exactly the
--- lines of the files that were not read or are refused and, if the limit cut the listing, the line with the token from which it continues. The
--- status is Faulty exactly if there is a line of a file.
-pub record Lists {S : Type 0} (reads : S → ℕ → Answer → S → Type 0) (names : List (List ℕ)) (before after : S) (request : Request)
-    (out out' err err' : Option (List ℕ)) (status : Status) : Type 0 where
+-- Every file was read once, in order, and each name that the files want was asked for once, in order. `out` has gained exactly the text that the
+-- request shows of the accepted files. `err` has gained exactly the lines of the files that were not read or are refused and, if the limit cut the
+-- listing, the line with the token from which it continues. The status is Faulty exactly if there is a line of a file.
+pub record Lists {S Z : Type 0} (reads : S → ℕ → Answer → S → Type 0) (names : List (List ℕ)) (before after : S)
+    (finds : Z → List ℕ → FindAnswer → Z → Type 0) (zones zones' : Z) (request : Request) (out out' err err' : Option (List ℕ)) (status : Status) : Type 0 where
   pub contents : List Contents
   pub read : ReadsAll reads names before contents after
+  pub asked : List Asked
+  pub gave : AsksAll finds [] (all_wanted contents) zones asked zones'
   pub shown : List ℕ
   pub token : Option (List ℕ)
-  pub shows : Shows (accepted contents) request shown token
+  pub shows : Shows (accepted asked contents) request shown token
   pub text : Appends out out' shown
-  pub errors : Appends err err' (error_lines names contents ++ more_line token)
-  pub faulty : (status ≡ Faulty) ↔ Any (λ given. IsErr (file_by given)) contents
+  pub errors : Appends err err' (error_lines names asked contents ++ more_line token)
+  pub faulty : (status ≡ Faulty) ↔ Any (λ given. IsErr (file_by asked given)) contents
 
 -- What was written if a run ends with a fault after every file is read and all their lines are in `err`: a prefix of the text that the request
 -- shows in `out`, or that whole text and a prefix of the last line in `err`.
-pub record StopsListing (contents : List Contents) (request : Request) (out out' err err' : Option (List ℕ)) : Type 0 where
+pub record StopsListing (asked : List Asked) (contents : List Contents) (request : Request) (out out' err err' : Option (List ℕ)) : Type 0 where
   pub shown : List ℕ
   pub token : Option (List ℕ)
-  pub shows : Shows (accepted contents) request shown token
+  pub shows : Shows (accepted asked contents) request shown token
   pub taken : ((err' ≡ err) × TookFront out out' shown) ⊎ (Appends out out' shown × TookFront err err' (more_line token))
 
--- What was written if a run ends with a fault: nothing in `out` and, in `err`, a prefix of the lines of the files that were read; or the run ended
--- in the listing or in the last line.
-abbrev pub Stops : {S : Type 0} → (S → ℕ → Answer → S → Type 0) → List (List ℕ) → S → S → Request → Option (List ℕ) → Option (List ℕ) → Option (List ℕ) → Option (List ℕ) → Type 0
-Stops reads names before after request out out' err err' =
-    ((contents : List Contents) × ReadsSome reads names before contents after × (out' ≡ out) × TookFront err err' (error_lines names contents))
-    ⊎ ((contents : List Contents) × ReadsAll reads names before contents after
-    × (told : Option (List ℕ)) × Appends err told (error_lines names contents) × StopsListing contents request out out' told err')
+-- What was written if a run ends with a fault while it reads: nothing in `out` and, in `err`, a prefix of the lines of the files that were read.
+pub record StopsReading {S Z : Type 0} (reads : S → ℕ → Answer → S → Type 0) (names : List (List ℕ)) (before after : S)
+    (finds : Z → List ℕ → FindAnswer → Z → Type 0) (zones zones' : Z) (out out' err err' : Option (List ℕ)) : Type 0 where
+  pub contents : List Contents
+  pub read : ReadsSome reads names before contents after
+  pub asked : List Asked
+  pub gave : AsksSome finds [] (all_wanted contents) zones asked zones'
+  pub none : out' ≡ out
+  pub lines : TookFront err err' (error_lines names asked contents)
+
+-- The same if every file is read and all their lines are in `err`.
+pub record StopsWriting {S Z : Type 0} (reads : S → ℕ → Answer → S → Type 0) (names : List (List ℕ)) (before after : S)
+    (finds : Z → List ℕ → FindAnswer → Z → Type 0) (zones zones' : Z) (request : Request) (out out' err err' : Option (List ℕ)) : Type 0 where
+  pub contents : List Contents
+  pub read : ReadsAll reads names before contents after
+  pub asked : List Asked
+  pub gave : AsksAll finds [] (all_wanted contents) zones asked zones'
+  pub told : Option (List ℕ)
+  pub lines : Appends err told (error_lines names asked contents)
+  pub stops : StopsListing asked contents request out out' told err'
+
+-- What was written if a run ends with a fault: it ended as it read, or in the listing or the last line.
+abbrev pub Stops : {S Z : Type 0} → (S → ℕ → Answer → S → Type 0) → List (List ℕ) → S → S → (Z → List ℕ → FindAnswer → Z → Type 0) → Z → Z
+    → Request → Option (List ℕ) → Option (List ℕ) → Option (List ℕ) → Option (List ℕ) → Type 0
+Stops reads names before after finds zones zones' request out out' err err' =
+    StopsReading reads names before after finds zones zones' out out' err err'
+    ⊎ StopsWriting reads names before after finds zones zones' request out out' err err'

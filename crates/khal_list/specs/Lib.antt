@@ -1,13 +1,16 @@
 pub mod Agree
 pub mod Answers
+pub mod Asked
 pub mod Commands
 pub mod Drawn
 pub mod Entries
 pub mod Errors
 pub mod FaultNames
+pub mod Finds
 pub mod Formats
 pub mod Growth
 pub mod Headline
+pub mod Learned
 pub mod Limits
 pub mod Listed
 pub mod Outcomes

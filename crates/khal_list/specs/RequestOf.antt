@@ -1,6 +1,7 @@
 -- What the words of the command line and the clock ask for, or why they are not a request.
 use Rattle.std.specs.Prelude.{◌≡◌, ◌↔◌, ◌⊎◌, ⊤, ℤ, pos, int_lt, if◌then◌else◌, IsTrue, List, Option, Some, None, IsSome, Result, Ok, Err, codes}
 use Rattle.std.specs.Int.{int_max}
+use Rattle.std.specs.Option.{option_map}
 use Rattle.std.specs.String.{string_bytes}
 use Rattle.clap.specs.Words.{Text}
 use Rattle.ics_zone.specs.DisplayTexts.{display_of, said_by}
@@ -16,7 +17,7 @@ use Rattle.ics_series.specs.declared.day_key.DayKey.{DayKey}
 use Rattle.ics_series.specs.declared.key.Key.{Key}
 use Rattle.ics_series.specs.declared.window.Window.{Window}
 use Rattle.khal_list.specs.Formats.{day_default, day_name, entry_default, entry_name, written, IsFormat}
-use Rattle.khal_list.specs.Entries.{Entries, entry, entries_of, limit_text, text_of, text_or, span_of, AreTaken, IsRefused}
+use Rattle.khal_list.specs.Entries.{Entries, entry, entries_of, limit_text, text_of, text_or, span_of, zones_text, AreTaken, IsRefused}
 use Rattle.khal_list.specs.Limits.{IsLimitOf}
 use Rattle.khal_list.specs.Windows.{ends_of}
 use Rattle.khal_list.specs.declared.every_day.EveryDay.{EveryDay}
@@ -96,6 +97,7 @@ pub record IsNoToken (entries : Entries) : Type 0 where
 pub record IsRequest (entries : Entries) (now : ℤ) (request : Request) : Type 0 where
   pub folder : string_bytes request.folder ≡ text_of (codes "folder") entries
   pub zone : said_by (zone_of request.zone) ≡ display_of (zone_text entries)
+  pub zones : option_map string_bytes request.zones ≡ zones_text entries
   pub window : Some (request.window.from, request.window.to) ≡ ends_of request.zone now (span_of entries)
   pub notstarted : IsTrue request.window.notstarted ↔ (text_of (codes "notstarted") entries ≡ codes "true")
   pub limit : IsLimitOf (limit_text entries) request.limit

@@ -40,8 +40,9 @@ const WHICH_ENTRIES: &str = "Which entries";
 /// The heading of the options for what an entry looks like.
 const HOW_WRITTEN: &str = "How they are written";
 
-/// The program's command: `list FOLDER [START [END]] [--zone Z] [--limit N] [--after TOKEN]
-/// [--notstarted] [--every-day] [--format F] [--day-format F]` and `at FOLDER MOMENT [--zone Z]`.
+/// The program's command: `list FOLDER [START [END]] [--zone Z] [--zones DIR] [--limit N]
+/// [--after TOKEN] [--notstarted] [--every-day] [--format F] [--day-format F]` and
+/// `at FOLDER MOMENT [--zone Z] [--zones DIR]`.
 pub(crate) fn command<'a>(alloc: Global) -> Result<Command<'a>, AllocError>
     ensures shape { IfOk result (λ c. app_of c ≡ spec.khal_app) }
     ensures local { IfOk result (λ c. (out-Command c).has_globals ≡ false) }
@@ -91,9 +92,16 @@ fn list_pages<'a>(alloc: Global) -> Result<Command<'a>, AllocError>
     ensures shape { IfOk result (λ c. app_of c ≡ spec.list_pages_app) }
     ensures local { IfOk result (λ c. (out-Command c).has_globals ≡ false) }
 {
-    let command = with(list_places(alloc)?, zone_arg(alloc))?;
-    let command = with(command, limit_arg(alloc))?;
+    let command = with(list_zones(alloc)?, limit_arg(alloc))?;
     with(command, after_arg(alloc))
+}
+
+fn list_zones<'a>(alloc: Global) -> Result<Command<'a>, AllocError>
+    ensures shape { IfOk result (λ c. app_of c ≡ spec.list_zones_app) }
+    ensures local { IfOk result (λ c. (out-Command c).has_globals ≡ false) }
+{
+    let command = with(list_places(alloc)?, zone_arg(alloc))?;
+    with(command, zones_arg(alloc))
 }
 
 fn list_places<'a>(alloc: Global) -> Result<Command<'a>, AllocError>
@@ -112,12 +120,19 @@ fn at_command<'a>(alloc: Global) -> Result<Command<'a>, AllocError>
     ensures shape { IfOk result (λ c. app_of c ≡ spec.at_app) }
     ensures local { IfOk result (λ c. (out-Command c).has_globals ≡ false) }
 {
+    let command = with(at_places(alloc)?, zone_arg(alloc))?;
+    with(command, zones_arg(alloc))
+}
+
+fn at_places<'a>(alloc: Global) -> Result<Command<'a>, AllocError>
+    ensures shape { IfOk result (λ c. app_of c ≡ spec.at_places_app) }
+    ensures local { IfOk result (λ c. (out-Command c).has_globals ≡ false) }
+{
     let command = Command::new(alloc, "at")
         .about("Lists what is on at a moment")
         .after_help(AT_EXAMPLES);
     let command = with(command, folder_arg(alloc))?;
-    let command = with(command, moment_arg(alloc))?;
-    with(command, zone_arg(alloc))
+    with(command, moment_arg(alloc))
 }
 
 fn folder_arg<'a>(alloc: Global) -> Arg<'a>
@@ -173,6 +188,17 @@ fn zone_arg<'a>(alloc: Global) -> Arg<'a>
             "The time zone: UTC, an offset (--zone=-05:00), or a{n}POSIX TZ rule (EST5EDT,M3.2.0,M11.1.0)",
         )
         .default_value("UTC")
+}
+
+fn zones_arg<'a>(alloc: Global) -> Arg<'a>
+    ensures rule { rule_of result ≡ spec.zones }
+    ensures local { result.global ≡ false }
+{
+    Arg::new(alloc, "zones")
+        .long("zones")
+        .value_name("DIR")
+        .help_heading(WHICH_ENTRIES)
+        .help("Zone files for names that a calendar does not{n}define, e.g. /usr/share/zoneinfo")
 }
 
 fn limit_arg<'a>(alloc: Global) -> Arg<'a>

@@ -1,6 +1,7 @@
 //! Lists the events of a folder of calendar files: requests, the texts and the run.
 #![tactic(auto)]
 
+mod answered;
 mod cell;
 mod command;
 mod digits;
@@ -11,7 +12,9 @@ mod entry_text;
 mod every_day;
 mod fault;
 mod field;
+mod finding;
 mod folder_source;
+mod folder_zones;
 mod format;
 mod format_laws;
 mod heading;
@@ -19,7 +22,9 @@ mod laws;
 mod line;
 mod memory_sink;
 mod memory_source;
+mod memory_zones;
 mod more;
+mod no_zones;
 mod outcome;
 mod printing;
 mod reading;
@@ -37,16 +42,22 @@ mod stream;
 mod window;
 mod window_text;
 mod words;
+mod zone_laws;
+mod zone_name;
+mod zone_source;
 
 pub use every_day::EveryDay;
 pub use fault::{RunFault, SinkFault, SourceFault};
 pub use field::{DayField, EntryField, Placeholder};
 pub use folder_source::FolderSource;
+pub use folder_zones::FolderZones;
 pub use format::{Format, FormatFault, Piece};
 pub use format_laws::one_format;
 pub use laws::one_answer;
 pub use memory_sink::MemorySink;
 pub use memory_source::{MemoryFile, MemorySource};
+pub use memory_zones::{MemoryZone, MemoryZones};
+pub use no_zones::NoZones;
 pub use printing::{print, print_days};
 pub use request::Request;
 pub use request_fault::RequestFault;
@@ -56,3 +67,5 @@ pub use sink::Sink;
 pub use source::{MOST_BYTES, Source};
 pub use status::Status;
 pub use stream::Stream;
+pub use zone_laws::without_zones;
+pub use zone_source::{MOST_ZONE_BYTES, ZoneSource};

@@ -3,15 +3,18 @@ ghost use Rattle.std.specs.Prelude.{◌≡◌, ◌≢◌, ◌↔◌, ◌++◌, L
 ghost use Rattle.ics_calendar.specs.Event.{said_by};
 ghost use Rattle.khal_list.specs.Answers.{Contents};
 ghost use Rattle.khal_list.specs.Errors.{events_first, error_line};
+ghost use Rattle.khal_list.specs.Asked.{all_wanted, Asked, AsksAll, AsksSome};
 ghost use Rattle.khal_list.specs.Outcomes.{seen_outcome, IsReading};
 ghost use Rattle.khal_list.specs.Reads.{ReadsAll, ReadsSome};
 
+use crate::answered::Answered;
 use crate::fault::RunFault;
 use crate::outcome::{Outcome, read_outcome};
 use crate::refusal::add_refusal_line;
 use crate::source::Source;
 use crate::status::Status;
-use ics_calendar::FileEvents;
+use crate::zone_source::ZoneSource;
+use ics_calendar::{FileEvents, only_wanted_files_count};
 use std::alloc::Global;
 
 /// What is kept from the files of a source: the events of the accepted files, and the lines of the
@@ -62,18 +65,27 @@ impl Reading {
     }
 }
 
-/// Reads each file once, in order. Only a failed allocation ends it early.
-pub(crate) fn read_all<S: Source>(alloc: Global, source: &mut S) -> Result<Reading, RunFault>
-    ensures some { (contents : List Contents)
-        × ReadsSome S.reads (S.names source.old) source.old contents source.new }
-    ensures all { IfOk result (λ reading. (contents : List Contents)
+/// Reads each file once, in order, and asks for each name that they want once. Only a failed allocation
+/// ends it early.
+pub(crate) fn read_all<S: Source, Z: ZoneSource>(
+    alloc: Global,
+    source: &mut S,
+    zones: &mut Z,
+) -> Result<Reading, RunFault>
+    ensures some { (contents : List Contents) × (asked : List Asked)
+        × ReadsSome S.reads (S.names source.old) source.old contents source.new
+        × AsksSome Z.finds [] (all_wanted contents) zones.old asked zones.new }
+    ensures all { IfOk result (λ reading. (contents : List Contents) × (asked : List Asked)
         × ReadsAll S.reads (S.names source.old) source.old contents source.new
-        × IsReading (S.names source.old) contents (map said_by reading.files.items) reading.errors.items) }
+        × AsksAll Z.finds [] (all_wanted contents) zones.old asked zones.new
+        × IsReading (S.names source.old) asked contents (map said_by reading.files.items) reading.errors.items) }
     ensures err { IfErr result (λ fault. fault ≡ RunFault.Memory) }
 {
+    only_wanted_files_count();
     let mut reading = Reading::new(alloc);
+    let mut answered = Answered::new(alloc);
     for index in 0..source.count() {
-        let outcome = read_outcome(alloc, source, index)?;
+        let outcome = read_outcome(alloc, source, zones, &mut answered, index)?;
         reading.keep(alloc, source.name(index), outcome)?;
     }
     Ok(reading)

@@ -1,8 +1,9 @@
 //! Requests for a listing.
 ghost use Rattle.std.specs.Prelude.{◌≡◌, ◌∷◌, IfOk, map, codes};
+ghost use Rattle.std.specs.Option.{option_map};
 ghost use Rattle.std.specs.String.{string_bytes};
 ghost use Rattle.clap.specs.Words.{subcommand_rows_of};
-ghost use Rattle.khal_list.specs.Entries.{limit_text, with_name, HasLimit};
+ghost use Rattle.khal_list.specs.Entries.{limit_text, with_name, zones_text, HasLimit};
 ghost use Rattle.khal_list.specs.Limits.{number_of, IsLimitOf};
 
 use crate::RequestFault;
@@ -18,12 +19,15 @@ use ics_values::Moment;
 use ics_zone::Display;
 use std::alloc::{AllocError, Global};
 
-/// A request for a listing: the folder, the zone in which it is shown, the window that an occurrence
-/// has to meet, how many entries are listed and after which key, and how they are written.
+/// A request for a listing: the folder, the zone in which it is shown, the folder of zone files, the
+/// window that an occurrence has to meet, how many entries are listed and after which key, and how they
+/// are written.
 #[derive(Drop)]
 pub struct Request {
     pub folder: String,
     pub zone: Display,
+    /// The folder of zone files for names that a calendar does not define.
+    pub zones: Option<String>,
     pub window: Window,
     /// The most entries that are listed.
     pub limit: Option<u32>,
@@ -42,13 +46,15 @@ impl Request {
     ghost use Rattle.khal_list.specs.RequestOf.{RequestOf, EntriesAnswer};
 
     /// The request of the words after the program's name, at a clock: `list FOLDER [START [END]]
-    /// [--zone Z] [--limit N] [--after TOKEN] [--notstarted] [--every-day] [--format F]
-    /// [--day-format F]` or `at FOLDER MOMENT [--zone Z]`.
+    /// [--zone Z] [--zones DIR] [--limit N] [--after TOKEN] [--notstarted] [--every-day] [--format F]
+    /// [--day-format F]` or `at FOLDER MOMENT [--zone Z] [--zones DIR]`.
     ///
     /// START is `YYYY-MM-DD` (its midnight) or `YYYY-MM-DDTHH:MM`, by default today. END is a date
     /// (its day included), a date-time (excluded) or `Nd`, START's local plus 1 to 3,700,000 days;
     /// by default `2d`. MOMENT is a date-time, whose one second is the window. All are locals of the
     /// display zone, from 0001-01-02 to 9800-01-01.
+    ///
+    /// `--zones` takes the folder of zone files for names that a calendar does not define.
     ///
     /// `--limit` takes a number from 1 to 4,294,967,295, the most entries that are listed, and
     /// `--after` the token of the key after which the listing continues. With `--every-day` an
@@ -88,6 +94,7 @@ impl Request {
         Ok(Request {
             folder,
             zone,
+            zones: zones_of(alloc, found)?,
             window,
             limit: limit_of(found),
             after: after.once,
@@ -103,6 +110,16 @@ impl Request {
     {
         self.folder.as_str()
     }
+
+    /// The folder of zone files, as the words give it; none if they give none.
+    pub fn zones(&self) -> Option<&str>
+        ensures { option_map (λ zones. zones.now) result ≡ option_map string_bytes self.now.zones }
+    {
+        match &self.zones {
+            Some(zones) => Some(zones.as_str()),
+            None => None,
+        }
+    }
 }
 
 // The words with the program's name before them.
@@ -114,6 +131,17 @@ fn named<'a>(alloc: Global, words: &[&'a str]) -> Result<Vec<&'a str>, AllocErro
     named.push("khal-list")?;
     named.extend_from_slice(words)?;
     Ok(named)
+}
+
+// The text of `--zones`, if it is given.
+fn zones_of<'a>(alloc: Global, found: &ArgMatches<'a>) -> Result<Option<String>, AllocError>
+    ensures { IfOk result (λ zones. option_map string_bytes zones
+        ≡ zones_text (subcommand_rows_of found.now)) }
+{
+    match entry(found, "zones") {
+        Some(zones) => Ok(Some(String::from_str(alloc, zones)?)),
+        None => Ok(None),
+    }
 }
 
 // The number of `--limit`, if it is given.

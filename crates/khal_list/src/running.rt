@@ -15,6 +15,7 @@ use crate::request::Request;
 use crate::sink::{Sink, put_all};
 use crate::source::Source;
 use crate::status::Status;
+use crate::zone_source::ZoneSource;
 use ics_calendar::FileEvents;
 use ics_series::{DayToken, Folder, Token};
 use std::alloc::Global;
@@ -84,29 +85,33 @@ fn list<O: Sink>(
     }
 }
 
-/// Reads each file of the source once, in order. Writes to `err` a line for each file that is not read
-/// or is refused, and then to `out` the listing of the others: each of their occurrences that meets
-/// the request's window once, in the order of start, UID and recurrence, or if the request asks for it
-/// under each of its days there, by day and then in that order; of these those after the request's
-/// key, up to its limit. If the limit cuts them, the last line on `err` says where the listing
-/// continues.
+/// Reads each file of the source once, in order, and asks `zones` for the names that they want and no
+/// VTIMEZONE defines, for each once in a run. A file is not read if one of its zone files is not. Writes to
+/// `err` a line for each file that is not read or is refused, and then to `out` the listing of the others:
+/// each of their occurrences that meets the request's window once, in the order of start, UID and
+/// recurrence, or if the request asks for it under each of its days there, by day and then in that order;
+/// of these those after the request's key, up to its limit. If the limit cuts them, the last line on `err`
+/// says where the listing continues.
 ///
 /// WriteFault comes only if an output failed, or was given bytes and took none.
-pub fn run<S: Source, O: Sink, E: Sink>(
+pub fn run<S: Source, Z: ZoneSource, O: Sink, E: Sink>(
     alloc: Global,
     source: &mut S,
+    zones: &mut Z,
     request: &Request,
     out: &mut O,
     err: &mut E,
 ) -> Result<Status, RunFault>
-    ensures lists { IfOk result (Lists S.reads (S.names source.old) source.old source.new request.now
+    ensures lists { IfOk result (Lists S.reads (S.names source.old) source.old source.new
+        Z.finds zones.old zones.new request.now
         (O.taken out.old) (O.taken out.new) (E.taken err.old) (E.taken err.new)) }
-    ensures stops { OnErr result (Stops S.reads (S.names source.old) source.old source.new request.now
+    ensures stops { OnErr result (Stops S.reads (S.names source.old) source.old source.new
+        Z.finds zones.old zones.new request.now
         (O.taken out.old) (O.taken out.new) (E.taken err.old) (E.taken err.new)) }
     ensures cause { IsErrOf result RunFault.WriteFault
         → LeftByFault O.puts out.new ⊎ LeftByFault E.puts err.new }
 {
-    let reading = read_all(alloc, source)?;
+    let reading = read_all(alloc, source, zones)?;
     put_all(err, &reading.errors)?;
     let status = reading.status();
     let token = list(alloc, reading.files, request, out)?;

@@ -1,10 +1,10 @@
-//! The program `khal-list`: its clock, its words, a folder, and the standard streams.
+//! The program `khal-list`: its clock, its words, a folder, zone files, and the standard streams.
 #![tactic(auto)]
 
 mod failure;
 
 use failure::Failure;
-use khal_list::{FolderSource, Request, Status, Stream, run};
+use khal_list::{FolderSource, FolderZones, Request, Status, Stream, run};
 use std::alloc::Global;
 use std::env;
 use std::io::{BufWriter, Stdout};
@@ -45,15 +45,32 @@ fn output(rt: HostRuntime, request: &Request) -> Result<BufWriter<Stdout, Global
     BufWriter::with_capacity(rt.alloc(), piece, rt.stdout()).map_err(|_| Failure::Memory)
 }
 
+/// The zone files of the folder that `--zones` names, or none.
+fn zones(rt: HostRuntime, request: &Request) -> Result<FolderZones<HostRuntime>, Failure> {
+    let path = match request.zones() {
+        Some(zones) => Some(String::from_str(rt.alloc(), zones)?),
+        None => None,
+    };
+    Ok(FolderZones::below(rt, path))
+}
+
 /// Lists a folder to the standard streams.
 fn list(rt: HostRuntime) -> Result<Status, Failure> {
     let now = clock_now(&rt)?;
     let request = request(&rt, now)?;
     let folder = String::from_str(rt.alloc(), request.folder())?;
     let mut source = FolderSource::open(rt, folder).map_err(Failure::of_folder)?;
+    let mut zones = zones(rt, &request)?;
     let mut out = Stream::new(output(rt, &request)?);
     let mut err = Stream::new(rt.stderr());
-    let ran = run(rt.alloc(), &mut source, &request, &mut out, &mut err);
+    let ran = run(
+        rt.alloc(),
+        &mut source,
+        &mut zones,
+        &request,
+        &mut out,
+        &mut err,
+    );
     let finished = out.finish();
     let status = ran?;
     finished?;

@@ -6,7 +6,7 @@ use crate::rules::print_bounds;
 use crate::runs::{outcome, request};
 use ics_calendar::read_file;
 use ics_series::{Agenda, Feed, Folder};
-use khal_list::{MOST_BYTES, MemorySource, Request, print};
+use khal_list::{MOST_BYTES, MemorySource, NoZones, Request, print};
 use std::alloc::{AllocError, Global};
 use std::io;
 
@@ -55,7 +55,7 @@ fn folder_of(
     let mut files = Vec::new(alloc);
     for file in &source.files {
         if file.bytes.len() <= MOST_BYTES {
-            if let Ok(events) = read_file(alloc, file.bytes.as_slice()) {
+            if let Ok(events) = read_file(alloc, file.bytes.as_slice(), &[]) {
                 files.push(events)?;
             }
         }
@@ -111,7 +111,7 @@ fn page(
     let Ok(request) = request(alloc, words, now) else {
         return Ok(None);
     };
-    let Ok(written) = outcome(alloc, source, &request) else {
+    let Ok(written) = outcome(alloc, source, &mut NoZones, &request) else {
         return Ok(None);
     };
     for line in written.out.as_str().lines() {

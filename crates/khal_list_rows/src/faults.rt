@@ -3,7 +3,7 @@
 use crate::narrow::Narrow;
 use crate::runs::{Written, outcome, request};
 use crate::unread::Unread;
-use khal_list::{MemoryFile, MemorySource, Request, RunFault, Status, run};
+use khal_list::{MemoryFile, MemorySource, MemoryZones, Request, RunFault, Status, run};
 use std::alloc::{AllocError, Global};
 use std::{io, mem};
 
@@ -36,21 +36,22 @@ impl Tried {
         &mut self,
         rt: HostRuntime,
         source: &mut MemorySource,
+        zones: &mut MemoryZones,
         words: &str,
         now: i64,
     ) -> io::Result<()> {
         let Ok(request) = request(rt.alloc(), words, now) else {
             return Ok(());
         };
-        let Ok(whole) = outcome(rt.alloc(), source, &request) else {
+        let Ok(whole) = outcome(rt.alloc(), source, zones, &request) else {
             return Ok(());
         };
         for index in 0..source.files.len() {
-            if !lists_without(rt.alloc(), source, &request, index)? {
+            if !lists_without(rt.alloc(), source, zones, &request, index)? {
                 println!(rt; "read {index} departs")?;
             }
         }
-        ends_early(rt, source, &request, &whole)?;
+        ends_early(rt, source, zones, &request, &whole)?;
         self.runs = self.runs.saturating_add(1);
         self.reads = self.reads.saturating_add(source.files.len());
         self.out = self.out.saturating_add(whole.out.len());
@@ -72,15 +73,16 @@ impl Tried {
 fn lists_without(
     alloc: Global,
     source: &mut MemorySource,
+    zones: &mut MemoryZones,
     request: &Request,
     index: usize,
 ) -> Result<bool, AllocError> {
-    let Ok(without) = run_without(alloc, source.files.as_slice(), request, index) else {
+    let Ok(without) = run_without(alloc, source.files.as_slice(), zones, request, index) else {
         return Ok(false);
     };
     let mut bytes = Vec::from_slice(alloc, b"x")?;
     swap_bytes(source, index, &mut bytes);
-    let refused = outcome(alloc, source, request);
+    let refused = outcome(alloc, source, zones, request);
     swap_bytes(source, index, &mut bytes);
     let Ok(refused) = refused else {
         return Ok(false);
@@ -93,11 +95,12 @@ fn lists_without(
 fn run_without(
     alloc: Global,
     files: &[MemoryFile],
+    zones: &mut MemoryZones,
     request: &Request,
     index: usize,
 ) -> Result<Written, RunFault> {
     let mut unread = Unread::new(files, index);
-    outcome(alloc, &mut unread, request)
+    outcome(alloc, &mut unread, zones, request)
 }
 
 /// Puts other bytes in place of a file's, and gives these.
@@ -126,18 +129,19 @@ fn differ_by_one(lines: &str, others: &str) -> bool {
 fn ends_early(
     rt: HostRuntime,
     source: &mut MemorySource,
+    zones: &mut MemoryZones,
     request: &Request,
     whole: &Written,
 ) -> io::Result<()> {
     for fails in [false, true] {
         for room in 0..whole.out.len() {
-            let ended = Ended::of(rt.alloc(), source, request, (room, AMPLE), fails)?;
+            let ended = Ended::of(rt.alloc(), source, zones, request, (room, AMPLE), fails)?;
             if !ended.is_front(whole, room, lines_len(whole)) {
                 println!(rt; "output after {room} departs")?;
             }
         }
         for room in 0..whole.err.len() {
-            let ended = Ended::of(rt.alloc(), source, request, (AMPLE, room), fails)?;
+            let ended = Ended::of(rt.alloc(), source, zones, request, (AMPLE, room), fails)?;
             let listed = if room < lines_len(whole) {
                 0
             } else {
@@ -173,13 +177,14 @@ impl Ended {
     fn of(
         alloc: Global,
         source: &mut MemorySource,
+        zones: &mut MemoryZones,
         request: &Request,
         (out_room, err_room): (usize, usize),
         fails: bool,
     ) -> Result<Ended, AllocError> {
         let mut out = Narrow::new(alloc, out_room, fails);
         let mut err = Narrow::new(alloc, err_room, fails);
-        let is_write_fault = match run(alloc, source, request, &mut out, &mut err) {
+        let is_write_fault = match run(alloc, source, zones, request, &mut out, &mut err) {
             Ok(_) => false,
             Err(RunFault::WriteFault) => true,
             Err(RunFault::Memory) => return Err(AllocError),

@@ -3,6 +3,7 @@
 //! - `= NAME` begins a row, without files.
 //! - `> NAME` begins a file, whose lines follow, each ended by CRLF. `>> TEXT` adds bytes without a line
 //!   end. In both `%0a` stands for the byte 10.
+//! - `+ NAME BYTES` is a zone file, in the same spelling.
 //! - `$ WORDS` runs the program's words over the files, and `@ WORDS` over the folder on disk that they
 //!   name. What they write is printed, then the status in brackets, and then what standard error has. The
 //!   words of `$` are then run with each read failing in turn, and with each output ending after each of
@@ -16,6 +17,7 @@
 //! - `cuts WORDS` runs the words over the last file, cut after each of its bytes, `pages LIMIT WORDS` page
 //!   by page, and `entries HELD LEAST MOST WORDS` bounds what their agenda holds and looks at.
 //! - `out-takes ROOM WORDS` and `err-takes ROOM WORDS` run them where that output has room for few bytes.
+//! - `unfound WORDS` runs them where asking for a zone file fails.
 //! - `unread INDEX WORDS` runs them where one file is not read, and `prints-none LEAST MOST WORDS` where the
 //!   output takes no byte, and bounds what is looked at. `tried` counts the reads and bytes of all `$` so far.
 //! - `lines` are those of the last file; `content LINE` and `param NAME LINE` are parts of a line.
@@ -34,6 +36,7 @@ mod row;
 mod rules;
 mod runs;
 mod shown;
+mod unfound;
 mod unread;
 mod values;
 mod words;

@@ -2,7 +2,7 @@
 
 use crate::row::shown_bytes;
 use crate::runs::request;
-use khal_list::{MemorySource, Sink, SinkFault, run};
+use khal_list::{MemorySource, NoZones, Sink, SinkFault, run};
 use std::alloc::Global;
 use std::io;
 
@@ -72,7 +72,14 @@ pub fn run_narrow(
     let room = room.parse().unwrap_or(0);
     let mut out = Narrow::new(rt.alloc(), if is_err { 1_000 } else { room }, false);
     let mut err = Narrow::new(rt.alloc(), if is_err { room } else { 1_000 }, false);
-    match run(rt.alloc(), source, &request, &mut out, &mut err) {
+    match run(
+        rt.alloc(),
+        source,
+        &mut NoZones,
+        &request,
+        &mut out,
+        &mut err,
+    ) {
         Ok(status) => println!(rt; "[{}]", status.code())?,
         Err(fault) => println!(rt; "[{}]", fault.name())?,
     }

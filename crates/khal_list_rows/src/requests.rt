@@ -21,6 +21,9 @@ fn request_text(alloc: Global, request: &Request) -> Result<String, AllocError> 
     let from = moment_text(alloc, window.from)?;
     let to = moment_text(alloc, window.to)?;
     let mut text = format!(in alloc; "{from} to {to} of {}", request.folder())?;
+    if let Some(zones) = request.zones() {
+        write!(text, ", zones of {zones}")?;
+    }
     if window.notstarted {
         text.push_str(", not started")?;
     }

@@ -8,10 +8,11 @@ use crate::requests::{show_request, usage_has};
 use crate::rules::{rule, rule_value};
 use crate::runs::{cuts, run_disk, run_over};
 use crate::shown::moment_of;
+use crate::unfound::run_unfound;
 use crate::unread::run_unread;
 use crate::values::value;
 use crate::zones::{in_display, in_file};
-use khal_list::{MemoryFile, MemorySource};
+use khal_list::{MemoryFile, MemorySource, MemoryZone, MemoryZones};
 use percent_encoding::percent_decode;
 use std::alloc::{AllocError, Global};
 use std::io;
@@ -19,10 +20,11 @@ use std::io;
 /// 2024-01-05T00:00:00 UTC, the instant that a row's clock shows where it is not set.
 const NOW: i64 = 1_704_412_800;
 
-/// The files of a row, the instant that its clock shows, and what was tried of this row and those before it.
+/// The files and zone files of a row, the instant that its clock shows, and what was tried of this row and those before it.
 #[derive(Drop)]
 pub struct Row {
     source: MemorySource,
+    zones: MemoryZones,
     now: i64,
     tried: Tried,
 }
@@ -33,8 +35,12 @@ impl Row {
         let source = MemorySource {
             files: Vec::new(alloc),
         };
+        let zones = MemoryZones {
+            files: Vec::new(alloc),
+        };
         Row {
             source,
+            zones,
             now: NOW,
             tried: Tried::none(),
         }
@@ -48,6 +54,7 @@ impl Row {
         match mark {
             ">" => Ok(self.begin_file(rt.alloc(), rest)?),
             ">>" => Ok(self.add_bytes(rest)?),
+            "+" => Ok(self.add_zone(rt.alloc(), rest)?),
             "=" | "$" | "@" | "?" | ":" => {
                 println!(rt; "{line}")?;
                 self.ask(rt, mark, rest)
@@ -60,14 +67,16 @@ impl Row {
     fn ask(&mut self, rt: HostRuntime, mark: &str, rest: &str) -> io::Result<()> {
         match mark {
             "$" => {
-                run_over(rt, &mut self.source, rest, self.now)?;
-                self.tried.run(rt, &mut self.source, rest, self.now)
+                run_over(rt, &mut self.source, &mut self.zones, rest, self.now)?;
+                self.tried
+                    .run(rt, &mut self.source, &mut self.zones, rest, self.now)
             }
             "@" => run_disk(rt, rest, self.now),
             "?" => show_request(rt, rest, self.now),
             ":" => self.call(rt, rest),
             _ => {
                 self.source.files.clear();
+                self.zones.files.clear();
                 self.now = NOW;
                 Ok(())
             }
@@ -81,6 +90,16 @@ impl Row {
         let name = String::from_str(alloc, shown_bytes(decoded.as_slice()))?;
         let bytes = Vec::new(alloc);
         self.source.files.push(MemoryFile { name, bytes })?;
+        Ok(())
+    }
+
+    /// Adds a zone file: its name and its bytes.
+    fn add_zone(&mut self, alloc: Global, line: &str) -> Result<(), AllocError> {
+        let (name, text) = line.split_once(' ').unwrap_or((line, ""));
+        let name = Vec::from_slice(alloc, name.as_bytes())?;
+        let mut bytes = Vec::new(alloc);
+        percent_decode(text.as_bytes()).append_to(&mut bytes)?;
+        self.zones.files.push(MemoryZone { name, bytes })?;
         Ok(())
     }
 
@@ -113,6 +132,7 @@ impl Row {
             "entries" => entries(rt, &self.source, rest, self.now),
             "cuts" => cuts(rt, &mut self.source, rest, self.now),
             "tried" => self.tried.print(rt),
+            "unfound" => run_unfound(rt, &mut self.source, rest, self.now),
             "unread" => run_unread(rt, &self.source, rest, self.now),
             "prints-none" => print_none(rt, &self.source, rest, self.now),
             "pages" => pages(rt, &mut self.source, rest, self.now),

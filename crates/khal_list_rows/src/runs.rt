@@ -3,8 +3,8 @@
 use crate::row::shown_bytes;
 use crate::words::words_of;
 use khal_list::{
-    FolderSource, MemorySink, MemorySource, Request, RequestFault, RunFault, Source, Status,
-    Stream, run,
+    FolderSource, FolderZones, MemorySink, MemorySource, NoZones, Request, RequestFault, RunFault,
+    Source, Status, Stream, ZoneSource, run,
 };
 use std::alloc::Global;
 use std::io;
@@ -23,31 +23,33 @@ pub fn request(alloc: Global, words: &str, now: i64) -> Result<Request, RequestF
     Request::of(alloc, words.as_slice(), now)
 }
 
-/// Runs a request over files.
-pub fn outcome<S: Source>(
+/// Runs a request over files and zone files.
+pub fn outcome<S: Source, Z: ZoneSource>(
     alloc: Global,
     source: &mut S,
+    zones: &mut Z,
     request: &Request,
 ) -> Result<Written, RunFault> {
     let mut out = Stream::new(Vec::new(alloc));
     let mut err = MemorySink::new(alloc);
-    let status = run(alloc, source, request, &mut out, &mut err)?;
+    let status = run(alloc, source, zones, request, &mut out, &mut err)?;
     let written = out.into_writer();
     let out = String::from_str(alloc, shown_bytes(written.as_slice()))?;
     let err = String::from_str(alloc, shown_bytes(err.bytes.as_slice()))?;
     Ok(Written { out, err, status })
 }
 
-/// Runs words over files, and prints what they write, their status in brackets, and what they write to
+/// Runs words over files and zone files, and prints what they write, their status in brackets, and what they write to
 /// standard error; or the fault in brackets.
-pub fn run_over<S: Source>(
+pub fn run_over<S: Source, Z: ZoneSource>(
     rt: HostRuntime,
     source: &mut S,
+    zones: &mut Z,
     words: &str,
     now: i64,
 ) -> io::Result<()> {
     match request(rt.alloc(), words, now) {
-        Ok(request) => match outcome(rt.alloc(), source, &request) {
+        Ok(request) => match outcome(rt.alloc(), source, zones, &request) {
             Ok(written) => print_written(rt, &written),
             Err(fault) => println!(rt; "[{}]", fault.name()),
         },
@@ -61,13 +63,20 @@ fn print_written(rt: HostRuntime, written: &Written) -> io::Result<()> {
     rt.print(written.err.as_str())
 }
 
-/// Runs words over the folder on disk that they name.
+/// Runs words over the folder on disk that they name, and the folder of zone files.
 pub fn run_disk(rt: HostRuntime, words: &str, now: i64) -> io::Result<()> {
     match request(rt.alloc(), words, now) {
         Ok(request) => {
             let path = String::from_str(rt.alloc(), request.folder())?;
             match FolderSource::open(rt, path) {
-                Ok(mut source) => run_over(rt, &mut source, words, now),
+                Ok(mut source) => {
+                    let zones = match request.zones() {
+                        Some(zones) => Some(String::from_str(rt.alloc(), zones)?),
+                        None => None,
+                    };
+                    let mut zones = FolderZones::below(rt, zones);
+                    run_over(rt, &mut source, &mut zones, words, now)
+                }
                 Err(_) => println!(rt; "[not listed]"),
             }
         }
@@ -83,7 +92,7 @@ pub fn cuts(rt: HostRuntime, source: &mut MemorySource, words: &str, now: i64) -
     };
     let mut before = String::from_str(rt.alloc(), "not run")?;
     for _ in 0..1_000 {
-        let Ok(written) = outcome(rt.alloc(), source, &request) else {
+        let Ok(written) = outcome(rt.alloc(), source, &mut NoZones, &request) else {
             break;
         };
         let Some(file) = source.files.last_mut() else {

@@ -1,7 +1,7 @@
 //! Files in memory, of which one is not read.
 
 use crate::runs::run_over;
-use khal_list::{MOST_BYTES, MemoryFile, MemorySource, Source, SourceFault};
+use khal_list::{MOST_BYTES, MemoryFile, MemorySource, NoZones, Source, SourceFault};
 use std::alloc::Global;
 use std::io;
 
@@ -62,5 +62,5 @@ impl Source for Unread<'_> {
 pub fn run_unread(rt: HostRuntime, source: &MemorySource, line: &str, now: i64) -> io::Result<()> {
     let (index, words) = line.split_once(' ').unwrap_or((line, ""));
     let mut unread = Unread::new(source.files.as_slice(), index.parse().unwrap_or(0));
-    run_over(rt, &mut unread, words, now)
+    run_over(rt, &mut unread, &mut NoZones, words, now)
 }

@@ -32,7 +32,7 @@ fn first_zone(alloc: Global, file: &[u8]) -> Option<Zone> {
     if file.len() > MOST_BYTES {
         return None;
     }
-    let events = read_file(alloc, file).ok()?;
+    let events = read_file(alloc, file, &[]).ok()?;
     events.zones.into_iter().next()
 }
 

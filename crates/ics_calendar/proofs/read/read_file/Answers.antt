@@ -1,11 +1,20 @@
-use Rattle.std.proofs.Common.{sym, ◌∙◌}
-use Rattle.ics_calendar.proofs.Whole.{settled-gathered}
+use Rattle.std.proofs.Common.{map, ap, subst, ◌∙◌, Result}
+use Rattle.ics_calendar.specs.Event.{FileSaid}
+use Rattle.ics_calendar.specs.Files.{DraftSaid, file_of}
+use Rattle.ics_calendar.specs.FirstFault.{Fault}
+use Rattle.ics_calendar.specs.GivenFiles.{GivenFiles, files_by}
+use Rattle.ics_calendar.specs.Seen.{SaysFile}
+use Rattle.ics_calendar.specs.ZoneTables.{given_by}
+use Rattle.ics_calendar.proofs.Whole.{fault-says}
 use Rattle.ics_calendar.proofs.read.read_file.Goals as goal
 
-pub returns-in-Ok-Ok : goal.returns-in-Ok-Ok
-returns-in-Ok-Ok c =
-    settled-gathered c.args.bytes.now (c.numbers_rise.ensures c.args.bytes.now) ∙ sym (rw c.in-Ok-Ok.field-0-is at c.in-Ok-Ok.ensures)
+pub returns-in-Err : goal.returns-in-Err
+returns-in-Err c =
+    fault-says c.args.bytes.now c.in-Err.fault (files_by (map (λ pair. (pair.0.items, pair.1.items)) c.args.zones.now)) c.in-Err.ensures.fault
 
-pub returns-in-Ok-Err : goal.returns-in-Ok-Err
-returns-in-Ok-Err c =
-    settled-gathered c.args.bytes.now (c.numbers_rise.ensures c.args.bytes.now) ∙ sym (rw c.in-Ok-Err.field-0-is at c.in-Ok-Err.ensures)
+pub returns-in-Ok-by : goal.returns-in-Ok-by
+returns-in-Ok-by c =
+    subst (λ (said : Result FileSaid Fault). SaysFile c.settle.result said)
+    (ap (λ (draft : DraftSaid). draft.says (given_by c.in-Ok-by.files)) c.in-Ok.ensures.draft
+    ∙ ap (λ (files : GivenFiles). file_of files c.args.bytes.now) c.in-Ok-by.ensures)
+    c.settle.ensures

@@ -1,14 +1,13 @@
-use Rattle.std.proofs.Common.{◌≡◌, ℕ, Bool, List, map, refl, ap, sym, ◌∙◌, Option, Some, None, option_copied}
+use Rattle.std.proofs.Common.{◌≡◌, ℕ, Bool, List, refl, ap, sym, ◌∙◌, Option, Some, None, option_copied}
 use Rattle.std.specs.BTreeSet.{contains}
 use Rattle.std.specs.Cmp.Lexicographic.{slice_cmp}
 use Rattle.std.specs.Ordering.{nat_cmp}
-use Rattle.std.proofs.lemmas.List.{map-append}
 use Rattle.ics_calendar.specs.Gathered.{all_unknown}
 use Rattle.ics_calendar.specs.Wanted.{each_once}
 use Rattle.ics_calendar.specs.ZoneTables.{known_by}
 use Rattle.ics_calendar.proofs.EachOnce.{passed-over, again, added, none-unseen}
 use Rattle.ics_calendar.proofs.unknown_zones.unknown_names.Goals as goal
-use Rattle.ics_calendar.proofs.unknown_zones.unknown_names.Goals.{in-Some+in_ok-see+then-branch+in_ok-from_slice+in_ok-push, in-Some+in_ok-see+else-branch}
+use Rattle.ics_calendar.proofs.unknown_zones.unknown_names.Goals.{in-Some+in_ok-see+then-branch+in_ok-shared+in_ok-push, in-Some+in_ok-see+else-branch}
 use Rattle.ics_calendar.proofs.unknown_zones.unknown_names.Goals.{in_default}
 
 pub loop-deferred-init : goal.loop-deferred-init
@@ -25,14 +24,14 @@ loop-deferred-preserved c =
     let checks = c.args.checks.now in
     let i : ℕ = c.loop-deferred.deferred-index in
     let seen : List ℕ → Bool = contains (slice_cmp nat_cmp) c.loop-deferred.seen in
-    let had : List (List ℕ) = map (λ name. name.items) c.loop-deferred.names.items in
+    let had : List (List ℕ) = c.loop-deferred.names.items in
     let all : List (List ℕ) = each_once (all_unknown index checks) in
     let over = passed-over index checks i c.deferred-item.result c.loop-deferred-test.true c.deferred-item.is seen had all c.loop-deferred.invariant in
     let same = again index checks i c.deferred-item.result c.loop-deferred-test.true c.deferred-item.is seen had all c.loop-deferred.invariant in
     let new = added index checks i c.deferred-item.result c.loop-deferred-test.true c.deferred-item.is seen had all c.loop-deferred.invariant in
     elim c.match-unknown_in.branch [
-      | in-Some+in_ok-see+then-branch+in_ok-from_slice+in_ok-push w ↦
-          rw (w.seen-is, w.names-is, w.in_ok-push.ensures.items, map-append, w.in_ok-from_slice.ensures.items, w.as_slice.ensures)
+      | in-Some+in_ok-see+then-branch+in_ok-shared+in_ok-push w ↦
+          rw (w.seen-is, w.names-is, w.in_ok-push.ensures.items, w.in_ok-shared.ensures)
           (new (contains (slice_cmp nat_cmp) w.see.new.seen) w.in-Some.name.now w.in_ok-see.ensures.seen w.in-Some.ensures
           (sym w.in_ok-see.ensures.new ∙ w.if-branch.true))
       | in-Some+in_ok-see+else-branch w ↦

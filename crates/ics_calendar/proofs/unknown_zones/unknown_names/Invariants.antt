@@ -1,4 +1,4 @@
-use Rattle.std.proofs.Common.{◌≡◌, ◌++◌, map, drop}
+use Rattle.std.proofs.Common.{◌≡◌, ◌++◌, drop}
 use Rattle.std.specs.BTreeSet.{contains}
 use Rattle.std.specs.Cmp.Lexicographic.{slice_cmp}
 use Rattle.std.specs.Ordering.{nat_cmp}
@@ -11,6 +11,5 @@ use Rattle.ics_calendar.proofs.unknown_zones.unknown_names.Given as goal
 -- the names so far, and then those of the checks to come that are not seen yet
 abbrev pub invariant-loop-deferred : goal.invariant-loop-deferred
 invariant-loop-deferred l =
-    map (λ name. name.items) l.names.items
-    ++ unseen (contains (slice_cmp nat_cmp) l.seen) (each_once (all_unknown (known_by l.table).index (drop l.deferred-index l.checks)))
+    l.names.items ++ unseen (contains (slice_cmp nat_cmp) l.seen) (each_once (all_unknown (known_by l.table).index (drop l.deferred-index l.checks)))
     ≡ each_once (all_unknown (known_by l.table).index l.checks)

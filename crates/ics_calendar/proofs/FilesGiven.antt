@@ -1,0 +1,261 @@
+-- Time zones with those of zone files: one name at a time, and what holds of them still.
+use Rattle.std.proofs.Common.{◌≡◌, ℕ, ◌+◌, ◌<◌, ◌≤◌, Bool, true, false, ◌&&◌, ◌||◌, List, [], ◌∷◌, ◌++◌, length, refl, sym, ap, ◌∙◌, arith, cond, Option, Some, None}
+use Rattle.std.proofs.Common.{append_assoc, is_some, IfSome, subst}
+use Rattle.std.specs.Prelude.{not, get_or, ◌==◌}
+use Rattle.std.specs.Cmp.Lexicographic.{bytes_decides, nat_list_eq_equiv}
+use Rattle.std.specs.List.{All, list_any, position_from, cons_option}
+use Rattle.std.specs.Option.{option_or}
+use Rattle.std.specs.Str.{bytes_eq}
+use Rattle.std.proofs.Math.Bool.{or-false}
+use Rattle.std.proofs.Math.Path.{fun_ext}
+use Rattle.std.proofs.lemmas.List.{append-nil, length-append}
+use Rattle.std.proofs.lemmas.List.Elements.{All-head, All-tail}
+use Rattle.std.proofs.lemmas.List.Quantifiers.{position-Some}
+use Rattle.ics_zone.specs.ZoneFiles.{TzifText, zone_file}
+use Rattle.ics_zone.specs.ZoneSaid.{ZoneSaid}
+use Rattle.ics_calendar.specs.declared.deferred_check.ZoneName.{ZoneName}
+use Rattle.ics_calendar.specs.DeferredChecks.{KnownZones, known_zones, is_same, zone_index, with_files}
+use Rattle.ics_calendar.specs.DraftsSound.{IsTable}
+use Rattle.ics_calendar.specs.GivenFiles.{GivenFiles, no_files, with_file, files_by, zone_in, is_refused, given_names, given_zones, bad_names}
+use Rattle.ics_calendar.specs.ZoneTables.{put_given}
+
+pub or-none : {X : Type 0} (o : Option X) → option_or o None ≡ o
+or-none None = refl
+or-none (Some i) = refl
+
+pub same-known : (a b : KnownZones) → ((used : ZoneName) → a.index used ≡ b.index used) → a.zones ≡ b.zones → ((name : List ℕ) → a.is_bad name ≡ b.is_bad name) →
+    a ≡ b
+same-known a b e f g =
+    ap (λ (i : ZoneName → Option ℕ). record { index = i; zones = a.zones; is_bad = a.is_bad }) (fun_ext e)
+    ∙ ap (λ (zs : List ZoneSaid). record { index = b.index; zones = zs; is_bad = a.is_bad }) f
+    ∙ ap (λ (bad : List ℕ → Bool). record { index = b.index; zones = b.zones; is_bad = bad }) (fun_ext g)
+
+-- NO NAME, and one name before others.
+pub with-none : (known : KnownZones) (files : GivenFiles) → with_files known files [] ≡ known
+with-none known files = same-known (with_files known files []) known (λ used. or-none (known.index used)) (append-nil known.zones) (λ name. or-false (known.is_bad name))
+
+module _ (known : KnownZones) (files : GivenFiles) (n : List ℕ) where
+  abbrev zones_of_one : Option (Option TzifText) → List ZoneSaid
+  zones_of_one o = cons_option (zone_in o) []
+
+  abbrev names_of_one : Option (Option TzifText) → List (List ℕ)
+  names_of_one o = cond (is_some (zone_in o)) (n ∷ []) []
+
+  abbrev bad_of_one : Option (Option TzifText) → List (List ℕ)
+  bad_of_one o = cond (is_refused o) (n ∷ []) []
+
+  index-further : (rest : List (List ℕ)) (p : List ℕ → Bool) (k : Option ℕ) (o : Option (Option TzifText)) →
+      option_or (option_or k (position_from p (length known.zones) (names_of_one o)))
+      (position_from p (length (known.zones ++ zones_of_one o)) rest)
+      ≡ option_or k (position_from p (length known.zones) (cond (is_some (zone_in o)) (n ∷ rest) rest))
+  index-further rest p (Some i) o = refl
+  index-further rest p None (Some (Some file)) = by_test (p n)
+    where
+      long : length (known.zones ++ ZoneSaid.ByFile file ∷ []) ≡ length known.zones + 1
+      long = length-append known.zones (ZoneSaid.ByFile file ∷ [])
+
+      by_test : (t : Bool) →
+          option_or (cond t (Some (length known.zones)) None) (position_from p (length (known.zones ++ ZoneSaid.ByFile file ∷ [])) rest)
+          ≡ cond t (Some (length known.zones)) (position_from p (length known.zones + 1) rest)
+      by_test true = refl
+      by_test false = ap (λ l. position_from p l rest) long
+  index-further rest p None (Some None) = ap (λ (zs : List ZoneSaid). position_from p (length zs) rest) (append-nil known.zones)
+  index-further rest p None None = ap (λ (zs : List ZoneSaid). position_from p (length zs) rest) (append-nil known.zones)
+
+  zones-further : (more : List ZoneSaid) (o : Option (Option TzifText)) →
+      (known.zones ++ zones_of_one o) ++ more ≡ known.zones ++ cons_option (zone_in o) more
+  zones-further more (Some (Some file)) = append_assoc known.zones (ZoneSaid.ByFile file ∷ []) more
+  zones-further more (Some None) = append_assoc known.zones [] more
+  zones-further more None = append_assoc known.zones [] more
+
+  bad-further : (q : List ℕ → Bool) (b : Bool) (rest : List (List ℕ)) (o : Option (Option TzifText)) →
+      ((b || list_any q (bad_of_one o)) || list_any q rest) ≡ (b || list_any q (cond (is_refused o) (n ∷ rest) rest))
+  bad-further q true rest o = refl
+  bad-further q false rest (Some (Some file)) = refl
+  bad-further q false rest (Some None) = ap (λ t. t || list_any q rest) (or-false (q n))
+  bad-further q false rest None = refl
+
+  pub with-further : (rest : List (List ℕ)) → with_files (with_files known files (n ∷ [])) files rest ≡ with_files known files (n ∷ rest)
+  with-further rest =
+      same-known (with_files (with_files known files (n ∷ [])) files rest) (with_files known files (n ∷ rest))
+      (λ used. index-further (given_names files rest) (bytes_eq used.name) (known.index used) (files n))
+      (zones-further (given_zones files rest) (files n))
+      (λ name. bad-further (bytes_eq name) (known.is_bad name) (bad_names files rest) (files n))
+
+-- FILES THAT AGREE on the names give the same.
+agree-given : (files others : GivenFiles) (names : List (List ℕ)) → All (λ name. files name ≡ others name) names → given_names files names ≡ given_names others names
+agree-given files others [] h = refl
+agree-given files others (n ∷ ns) h =
+    ap (λ o. cond (is_some (zone_in o)) (n ∷ given_names files ns) (given_names files ns)) (All-head (λ name. files name ≡ others name) n ns h)
+    ∙ ap (λ ms. cond (is_some (zone_in (others n))) (n ∷ ms) ms) (agree-given files others ns (All-tail (λ name. files name ≡ others name) n ns h))
+
+agree-zones : (files others : GivenFiles) (names : List (List ℕ)) → All (λ name. files name ≡ others name) names → given_zones files names ≡ given_zones others names
+agree-zones files others [] h = refl
+agree-zones files others (n ∷ ns) h =
+    ap (λ o. cons_option (zone_in o) (given_zones files ns)) (All-head (λ name. files name ≡ others name) n ns h)
+    ∙ ap (cons_option (zone_in (others n))) (agree-zones files others ns (All-tail (λ name. files name ≡ others name) n ns h))
+
+agree-bad : (files others : GivenFiles) (names : List (List ℕ)) → All (λ name. files name ≡ others name) names → bad_names files names ≡ bad_names others names
+agree-bad files others [] h = refl
+agree-bad files others (n ∷ ns) h =
+    ap (λ o. cond (is_refused o) (n ∷ bad_names files ns) (bad_names files ns)) (All-head (λ name. files name ≡ others name) n ns h)
+    ∙ ap (λ ms. cond (is_refused (others n)) (n ∷ ms) ms) (agree-bad files others ns (All-tail (λ name. files name ≡ others name) n ns h))
+
+pub with-agreed : (known : KnownZones) (files others : GivenFiles) (names : List (List ℕ)) → All (λ name. files name ≡ others name) names →
+    with_files known files names ≡ with_files known others names
+with-agreed known files others names h =
+    same-known (with_files known files names) (with_files known others names)
+    (λ used. ap (λ ms. option_or (known.index used) (position_from (bytes_eq used.name) (length known.zones) ms)) (agree-given files others names h))
+    (ap (λ (zs : List ZoneSaid). known.zones ++ zs) (agree-zones files others names h))
+    (λ name. ap (λ ms. known.is_bad name || list_any (bytes_eq name) ms) (agree-bad files others names h))
+
+-- no files give nothing
+pub with-no-files : (known : KnownZones) (names : List (List ℕ)) → with_files known no_files names ≡ known
+with-no-files known [] = with-none known no_files
+with-no-files known (n ∷ ns) = with-no-files known ns
+
+-- THE INDICES.
+bounds : (p : List ℕ → Bool) (n : ℕ) (xs : List (List ℕ)) → IfSome (position_from p n xs) (λ i. (n ≤ i) × (i < n + length xs))
+bounds p n [] = tt
+bounds p n (x ∷ xs) = by_test (p x) (position_from p (n + 1) xs) (bounds p (n + 1) xs)
+  where
+    later : (o : Option ℕ) → IfSome o (λ i. (n + 1 ≤ i) × (i < n + 1 + length xs)) → IfSome o (λ i. (n ≤ i) × (i < n + length (x ∷ xs)))
+    later (Some i) h = (omega (arith, h.0), omega (arith, h.1))
+    later None h = tt
+
+    by_test : (t : Bool) (o : Option ℕ) → IfSome o (λ i. (n + 1 ≤ i) × (i < n + 1 + length xs)) → IfSome (cond t (Some n) o) (λ i. (n ≤ i) × (i < n + length (x ∷ xs)))
+    by_test true o h = (omega arith, omega arith)
+    by_test false o h = later o h
+
+bound-at : (p : List ℕ → Bool) (n : ℕ) (xs : List (List ℕ)) (i : ℕ) → position_from p n xs ≡ Some i → (n ≤ i) × (i < n + length xs)
+bound-at p n xs i e = subst (λ o. IfSome o (λ i. (n ≤ i) × (i < n + length xs))) e (bounds p n xs)
+
+single-at : (a b : List ℕ) (n : ℕ) (xs : List (List ℕ)) (i : ℕ) → position_from (bytes_eq a) n xs ≡ Some i → position_from (bytes_eq b) n xs ≡ Some i → a ≡ b
+single-at a b n [] i e f = cc
+single-at a b n (x ∷ xs) i e f = by_tests (single-at a b (n + 1) xs i) (bytes_eq a x) (bytes_eq b x) refl refl e f
+  where
+    by_tests : (position_from (bytes_eq a) (n + 1) xs ≡ Some i → position_from (bytes_eq b) (n + 1) xs ≡ Some i → a ≡ b) → (s t : Bool) → bytes_eq a x ≡ s → bytes_eq b x ≡ t → cond s (Some n) (position_from (bytes_eq a) (n + 1) xs) ≡ Some i →
+        cond t (Some n) (position_from (bytes_eq b) (n + 1) xs) ≡ Some i → a ≡ b
+    by_tests again true true s t e f = (bytes_decides a x).0 s ∙ sym ((bytes_decides b x).0 t)
+    by_tests again true false s t e f = let same : n ≡ i = cc in let h = bound-at (bytes_eq b) (n + 1) xs i f in absurd (omega (arith, same, h.0))
+    by_tests again false true s t e f = let same : n ≡ i = cc in let h = bound-at (bytes_eq a) (n + 1) xs i e in absurd (omega (arith, same, h.0))
+    by_tests again false false s t e f = again e f
+
+-- A NAME IN A TABLE of VTIMEZONEs.
+same-text : (a b : ZoneName) → is_same a b ≡ true → a.name ≡ b.name
+same-text a b h = by_tests (a.calendar == b.calendar) (bytes_eq a.name b.name) refl h
+  where
+    by_tests : (s t : Bool) → bytes_eq a.name b.name ≡ t → (s && t) ≡ true → a.name ≡ b.name
+    by_tests true true e h = (bytes_decides a.name b.name).0 e
+    by_tests true false e h = cc
+    by_tests false t e h = cc
+
+pub table-known : (names : List ZoneName) (zones : List ZoneSaid) → length names ≡ length zones → IsTable (known_zones names zones)
+table-known names zones long = record {
+  below = λ used. by_index used (zone_index names used) refl;
+  single =
+      λ a b i e f. same-text a (get_or names i a) (position-Some (is_same a) names i a e).1
+      ∙ sym (same-text b (get_or names i a) (position-Some (is_same b) names i a f).1);
+}
+  where
+    by_index : (used : ZoneName) (o : Option ℕ) → zone_index names used ≡ o → IfSome o (λ i. i < length zones)
+    by_index used (Some i) e = subst (λ n. i < n) long (position-Some (is_same used) names i used e).0
+    by_index used None e = tt
+
+-- and behind it those of zone files
+as-many : (files : GivenFiles) (names : List (List ℕ)) → length (given_names files names) ≡ length (given_zones files names)
+as-many files [] = refl
+as-many files (n ∷ ns) = by_given (files n) (as-many files ns)
+  where
+    by_given : (o : Option (Option TzifText)) → length (given_names files ns) ≡ length (given_zones files ns) →
+        length (cond (is_some (zone_in o)) (n ∷ given_names files ns) (given_names files ns)) ≡ length (cons_option (zone_in o) (given_zones files ns))
+    by_given (Some (Some file)) e = omega (arith, e)
+    by_given (Some None) e = e
+    by_given None e = e
+
+module _ (known : KnownZones) (files : GivenFiles) (names : List (List ℕ)) (table : IsTable known) where
+  abbrev from_file : ZoneName → Option ℕ
+  from_file used = position_from (bytes_eq used.name) (length known.zones) (given_names files names)
+
+  below-here : (used : ZoneName) (i : ℕ) → known.index used ≡ Some i → i < length known.zones
+  below-here used i e = subst (λ o. IfSome o (λ i. i < length known.zones)) e (table.below used)
+
+  below-both : (used : ZoneName) (k : Option ℕ) → known.index used ≡ k → (o : Option ℕ) → from_file used ≡ o →
+      IfSome (option_or k o) (λ i. i < length (known.zones ++ given_zones files names))
+  below-both used (Some i) e o f =
+      let all = length-append known.zones (given_zones files names) in omega (arith, all, below-here used i e)
+  below-both used None e (Some i) f =
+      let all = length-append known.zones (given_zones files names) in
+      omega (arith, all, as-many files names, (bound-at (bytes_eq used.name) (length known.zones) (given_names files names) i f).1)
+  below-both used None e None f = tt
+
+  single-both : (a b : ZoneName) (i : ℕ) (k l : Option ℕ) → known.index a ≡ k → known.index b ≡ l →
+      option_or k (from_file a) ≡ Some i → option_or l (from_file b) ≡ Some i → a.name ≡ b.name
+  single-both a b i (Some j) (Some m) e f g h = table.single a b i (e ∙ g) (f ∙ h)
+  single-both a b i (Some j) None e f g h =
+      absurd (omega (arith, below-here a i (e ∙ g), (bound-at (bytes_eq b.name) (length known.zones) (given_names files names) i h).0))
+  single-both a b i None (Some m) e f g h =
+      absurd (omega (arith, below-here b i (f ∙ h), (bound-at (bytes_eq a.name) (length known.zones) (given_names files names) i g).0))
+  single-both a b i None None e f g h = single-at a.name b.name (length known.zones) (given_names files names) i g h
+
+  pub table-with : IsTable (with_files known files names)
+  table-with = record {
+    below = λ used. below-both used (known.index used) refl (from_file used) refl;
+    single = λ a b i. single-both a b i (known.index a) (known.index b) refl refl;
+  }
+
+-- ONE FILE, PAIR OR NAME MORE.
+or-turned : (t b : Bool) → cond t true b ≡ (b || t)
+or-turned true true = refl
+or-turned true false = refl
+or-turned false b = sym (or-false b)
+
+-- a name for which a file is given that is no zone file
+pub with-bad : (known : KnownZones) (files : GivenFiles) (n : List ℕ) (bad : List ℕ → Bool) → files n ≡ Some None →
+    ((q : List ℕ) → bad q ≡ cond (bytes_eq n q) true (known.is_bad q)) →
+    record { index = known.index; zones = known.zones; is_bad = bad } ≡ with_files known files (n ∷ [])
+with-bad known files n bad e h =
+    same-known (record { index = known.index; zones = known.zones; is_bad = bad }) (with_files known files (n ∷ []))
+    (λ used. rw e (sym (or-none (known.index used)))) (rw e (sym (append-nil known.zones)))
+    (λ q. rw e (h q ∙ or-turned (bytes_eq n q) (known.is_bad q) ∙ ap (λ t. known.is_bad q || t) (nat_list_eq_equiv.symm n q ∙ sym (or-false (bytes_eq q n)))))
+
+pub with-nothing : (known : KnownZones) (files : GivenFiles) (names : List (List ℕ)) → length names ≡ 0 → known ≡ with_files known files names
+with-nothing known files [] e = sym (with-none known files)
+with-nothing known files (n ∷ ns) e = absurd (omega (arith, e))
+
+-- a place is put for a name that has none
+pub given-new : (index : List ℕ → Option ℕ) (name : List ℕ) (place : ℕ) (used : List ℕ) → is_some (index name) ≡ false →
+    cond (bytes_eq name used) (Some place) (index used) ≡ put_given index name place used
+given-new index name place used h =
+    ap (λ t. cond t (Some place) (index used)) (nat_list_eq_equiv.symm name used) ∙ by_test (bytes_eq used name) refl
+  where
+    by_test : (t : Bool) → bytes_eq used name ≡ t → cond t (Some place) (index used) ≡ cond (t && not (is_some (index used))) (Some place) (index used)
+    by_test true e =
+        let new : is_some (index used) ≡ false = ap (λ n. is_some (index n)) ((bytes_decides used name).0 e) ∙ h in
+        sym (ap (λ t. cond (not t) (Some place) (index used)) new)
+    by_test false e = refl
+
+-- a file is given for a name that has none
+pub file-new : (files : GivenFiles) (name bytes other : List ℕ) → is_some (files name) ≡ false →
+    cond (bytes_eq name other) (Some (zone_file bytes)) (files other) ≡ with_file files name bytes other
+file-new files name bytes other h =
+    ap (λ t. cond t (Some (zone_file bytes)) (files other)) (nat_list_eq_equiv.symm name other) ∙ by_test (bytes_eq other name) refl
+  where
+    by_old : (o : Option (Option TzifText)) → is_some o ≡ false → Some (zone_file bytes) ≡ option_or o (Some (zone_file bytes))
+    by_old None e = refl
+    by_old (Some o) e = cc
+
+    by_test : (t : Bool) → bytes_eq other name ≡ t → cond t (Some (zone_file bytes)) (files other) ≡ option_or (files other) (cond t (Some (zone_file bytes)) None)
+    by_test true e = by_old (files other) (ap (λ n. is_some (files n)) ((bytes_decides other name).0 e) ∙ h)
+    by_test false e = sym (or-none (files other))
+
+-- a pair more is given
+pub pair-further : (files : GivenFiles) (p : List ℕ × List ℕ) (rest : List (List ℕ × List ℕ)) (name : List ℕ) →
+    option_or (with_file files p.0 p.1 name) (files_by rest name) ≡ option_or (files name) (files_by (p ∷ rest) name)
+pair-further files p rest name = by_old (files name) (bytes_eq name p.0)
+  where
+    by_old : (o : Option (Option TzifText)) (t : Bool) →
+        option_or (option_or o (cond t (Some (zone_file p.1)) None)) (files_by rest name) ≡ option_or o (cond t (Some (zone_file p.1)) (files_by rest name))
+    by_old (Some x) t = refl
+    by_old None true = refl
+    by_old None false = refl

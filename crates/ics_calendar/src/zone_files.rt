@@ -1,0 +1,70 @@
+//! The zone files that are given for names of time zones (RFC 5545, section 3.2.19; RFC 9636).
+ghost use Rattle.std.specs.Prelude.{◌≡◌, map, ℕ, List, None, OnOk, OnErr, IfOk, option_copied};
+ghost use Rattle.ics_calendar.specs.GivenFiles.{with_file, files_by};
+ghost use Rattle.ics_calendar.specs.ZoneTables.{given_by};
+ghost use Rattle.ics_zone.specs.ZoneFiles.{zone_file};
+
+use crate::tzid::Tzid;
+use ics_zone::{ZoneFile, ZoneFileFault};
+use std::alloc::{AllocError, Global};
+use std::collections::BTreeMap;
+
+/// Zone files, each read once and given for a name. Contracts see what is given for each name.
+#[derive(Drop)]
+pub struct ZoneFiles {
+    files: BTreeMap<Tzid, Option<ZoneFile>>,
+}
+
+/// What a file is that is given: none if it is no zone file.
+fn read_given(alloc: Global, bytes: &[u8]) -> Result<Option<ZoneFile>, AllocError>
+    ensures { IfOk result (λ file. file ≡ zone_file bytes.now) }
+{
+    match ZoneFile::read(alloc, bytes) {
+        Ok(file) => Ok(Some(file)),
+        Err(ZoneFileFault::BadZoneFile) => Ok(None),
+        Err(ZoneFileFault::Memory) => Err(AllocError),
+    }
+}
+
+impl ZoneFiles {
+    /// No file is given.
+    pub fn new(alloc: Global) -> ZoneFiles
+        ensures { (name : List ℕ) → given_by result name ≡ None }
+    {
+        ZoneFiles {
+            files: BTreeMap::new(alloc),
+        }
+    }
+
+    /// Gives a file for a name, unless one is given for it already. The bytes may be no zone file: then the name has a bad one.
+    pub fn add(&mut self, alloc: Global, name: &[u8], bytes: &[u8]) -> Result<(), AllocError>
+        ensures added { OnOk result ((other : List ℕ) → given_by self.new other ≡ with_file (given_by self.old) name.now bytes.now other) }
+        ensures same { OnErr result (given_by self.new ≡ given_by self.old) }
+    {
+        let name = Tzid::copied(alloc, name)?;
+        if self.files.contains_key(&name) {
+            return Ok(());
+        }
+        let file = read_given(alloc, bytes)?;
+        self.files.insert(name, file)?;
+        Ok(())
+    }
+
+    /// What is given for a name.
+    pub(crate) fn of(&self, name: &Tzid) -> Option<&Option<ZoneFile>>
+        ensures { option_copied result ≡ given_by self.now name.now }
+    {
+        self.files.get(name)
+    }
+
+    /// The files of these pairs of a name and bytes.
+    pub(crate) fn by(alloc: Global, pairs: &[(Vec<u8>, Vec<u8>)]) -> Result<ZoneFiles, AllocError>
+        ensures { IfOk result (λ files. given_by files ≡ files_by (map (λ pair. (pair.0.items, pair.1.items)) pairs.now)) }
+    {
+        let mut files = ZoneFiles::new(alloc);
+        for pair in pairs {
+            files.add(alloc, &pair.0, &pair.1)?;
+        }
+        Ok(files)
+    }
+}
