@@ -7,7 +7,7 @@ use Rattle.ics_values.specs.declared.stamp.Stamp.{Stamp}
 use Rattle.ics_values.specs.declared.stamp.Stamp.TheVariants as stamp
 use Rattle.ics_values.specs.declared.duration.Duration.{Duration}
 use Rattle.ics_text.specs.Bytes.{upper}
-use Rattle.ics_text.specs.Contents.{Parts}
+use Rattle.ics_text.specs.ContentLines.{Parts}
 use Rattle.ics_calendar.specs.declared.event_builder.EventBuilder.{EventBuilder}
 use Rattle.ics_calendar.specs.declared.component.Context.{Context}
 use Rattle.ics_calendar.specs.declared.component.Context.TheVariants as context
@@ -29,7 +29,8 @@ use Rattle.ics_calendar.specs.Builders.{event_ended, fresh}
 use Rattle.ics_calendar.specs.Components.{component_of, context_in}
 use Rattle.ics_calendar.specs.DateLists.{zone_listed, rdate_list, exdate_list}
 use Rattle.ics_calendar.specs.DateValues.{has_zoned}
-use Rattle.ics_calendar.specs.Event.{seconds_of, is_zoned}
+use Rattle.ics_calendar.specs.Event.{is_zoned}
+use Rattle.ics_values.specs.Locals.{local_seconds}
 use Rattle.ics_calendar.specs.Gathered.{IsSoundInstant, IsSoundCheck, checks_of, events_of_end}
 use Rattle.ics_calendar.specs.DeferredChecks.{zone_used, are_of_one_zone}
 use Rattle.ics_calendar.specs.Lines.{or_first, used_zone, used_in, listed_zone, instant_on, instant_in, both_compared, ends_in, opened}
@@ -263,7 +264,7 @@ instant-sound name (stamp.Floating local) h = tt
 compared-sound : (a b : Option Instant) → IfSome a IsSoundInstant → IfSome b IsSoundInstant → IfSome (both_compared a b) IsSoundCheck
 compared-sound None b h k = tt
 compared-sound (Some a) None h k = tt
-compared-sound (Some (instant.Utc a)) (Some (instant.Utc b)) h k = by_test (is_out (seconds_of a) (seconds_of b))
+compared-sound (Some (instant.Utc a)) (Some (instant.Utc b)) h k = by_test (is_out (local_seconds a) (local_seconds b))
   where
     by_test : (t : Bool) → IfSome (cond t (Some check.End) None) IsSoundCheck
     by_test true = tt

@@ -6,12 +6,12 @@ use Rattle.std.proofs.lemmas.List.{append-nil, map-append}
 use Rattle.std.proofs.lemmas.List.Concat.{flat_map-append, flat_map-cons}
 use Rattle.std.proofs.lemmas.List.Elements.{filter-append}
 use Rattle.std.proofs.Math.Bool.{and-false}
-use Rattle.ics_text.specs.Contents.{Parts}
+use Rattle.ics_text.specs.ContentLines.{Parts}
 use Rattle.ics_values.specs.Offsets.{offset_of}
 use Rattle.ics_values.specs.Plain.{text_of}
 use Rattle.ics_values.specs.Rules.{rule_of}
 use Rattle.ics_values.specs.Stamps.{stamp_of}
-use Rattle.ics_zone.specs.Observances.{Phase}
+use Rattle.ics_zone.specs.Observances.{ObservanceSaid}
 use Rattle.ics_calendar.specs.declared.event_builder.EventBuilder.{EventBuilder}
 use Rattle.ics_calendar.specs.declared.component.Component.{Component}
 use Rattle.ics_calendar.specs.declared.component.Component.TheVariants as component
@@ -26,11 +26,11 @@ use Rattle.ics_calendar.specs.declared.builder.ZoneBuilder.{ZoneBuilder}
 use Rattle.ics_calendar.specs.Components.{component_of, context_in, is_zone_context, is_observance_context}
 use Rattle.ics_calendar.specs.DateValues.{rdates_of}
 use Rattle.ics_calendar.specs.Names.{name_of}
-use Rattle.ics_calendar.specs.Placed.{Placed, Open, property_name, value, context_of, in_zone, is_begin, component, is_named, all_named}
+use Rattle.ics_calendar.specs.PlacedLines.{Placed, Open, property_name, value, context_of, in_zone, is_begin, component, is_named, all_named}
 use Rattle.ics_calendar.proofs.Built.{collected_of, zone_of, observance_of}
 use Rattle.ics_calendar.specs.Lines.{or_first}
 use Rattle.ics_calendar.specs.Builders.{observance_ended}
-use Rattle.ics_calendar.specs.Zones.{local_in, onset_in, offset_in, daily_in, onset_on, offset_on, daily_on, onsets_by, begins_phase}
+use Rattle.ics_calendar.specs.Zones.{local_in, onset_in, offset_in, daily_in, onset_on, offset_on, daily_on, onsets_by, begins_in_zone}
 use Rattle.ics_calendar.proofs.Judged.{event_note, zone_note, observance_note, builder_note, joined}
 use Rattle.ics_calendar.proofs.NameLemmas.{Tells, tells, TellsComponent, tells_component}
 use Rattle.ics_calendar.proofs.EventBuilderLemmas.{collected_of-more, kept-more, parts_at}
@@ -44,7 +44,7 @@ zone-noted name.Other u v had e = rw e.no_tzid refl
 zone-noted name.Tzid u v had e = rw e refl
 zone-noted _ u v had e = rw e refl
 
-pub zone_of-more : (os : List Phase) (ls : List Placed) (l : Placed) →
+pub zone_of-more : (os : List ObservanceSaid) (ls : List Placed) (l : Placed) →
     zone_of os (ls ++ l ∷ []) ≡ zone_note (name_of (property_name l.content)) (parts_at l) (zone_of os ls)
 zone_of-more os ls l =
     rw (kept-more (λ l. text_of (value l)) (codes "TZID") ls l)
@@ -86,10 +86,10 @@ observance_of-more ls l =
     (observance-noted (name_of (property_name l.content)) (property_name l.content) (parts_at l) (observance_of ls) (tells (property_name l.content)))
 
 -- THE OBSERVANCES of a time zone, with one line more.
-parts-more : (whole ls : List Placed) (l : Placed) → parts whole (ls ++ l ∷ []) ≡ parts whole ls ++ cond (begins_phase l) (own whole l ∷ []) []
+parts-more : (whole ls : List Placed) (l : Placed) → parts whole (ls ++ l ∷ []) ≡ parts whole ls ++ cond (begins_in_zone l) (own whole l ∷ []) []
 parts-more whole ls l =
-    ap (map (own whole)) (filter-append begins_phase ls (l ∷ [])) ∙ map-append (own whole) (filter begins_phase ls) (cond (begins_phase l) (l ∷ []) [])
-    ∙ ap (λ os. parts whole ls ++ os) (by_test (begins_phase l))
+    ap (map (own whole)) (filter-append begins_in_zone ls (l ∷ [])) ∙ map-append (own whole) (filter begins_in_zone ls) (cond (begins_in_zone l) (l ∷ []) [])
+    ∙ ap (λ os. parts whole ls ++ os) (by_test (begins_in_zone l))
   where
     by_test : (t : Bool) → map (own whole) (cond t (l ∷ []) []) ≡ cond t (own whole l ∷ []) []
     by_test true = refl
@@ -103,9 +103,9 @@ parts-same whole ls l e =
     ∙ ap (λ t. parts whole ls ++ cond t (own whole l ∷ []) []) (and-false (in_zone l)) ∙ append-nil (parts whole ls)
 
 -- an observance begins exactly on a STANDARD or DAYLIGHT in a time zone
-phase-begins : (q : Context) (w : List ℕ) →
+observance-begins : (q : Context) (w : List ℕ) →
     is_observance_context (context_in q (component_of w)) ≡ (is_zone_context q && (bytes_eq w (codes "STANDARD") || bytes_eq w (codes "DAYLIGHT")))
-phase-begins q w = by_context q (component_of w) (tells_component w)
+observance-begins q w = by_context q (component_of w) (tells_component w)
   where
     by_context : (q : Context) (c : Component) → TellsComponent w c →
         is_observance_context (context_in q c) ≡ (is_zone_context q && (bytes_eq w (codes "STANDARD") || bytes_eq w (codes "DAYLIGHT")))
@@ -119,10 +119,10 @@ phase-begins q w = by_context q (component_of w) (tells_component w)
     by_context context.Zone _ e = rw e refl
     by_context _ c e = refl
 
-phase-is : (l : Placed) → is_begin l ≡ true → begins_phase l ≡ is_observance_context (context_of (inside l))
-phase-is l e =
+observance-is : (l : Placed) → is_begin l ≡ true → begins_in_zone l ≡ is_observance_context (context_of (inside l))
+observance-is l e =
     ap (λ t. in_zone l && ((t && bytes_eq (component l) (codes "STANDARD")) || (t && bytes_eq (component l) (codes "DAYLIGHT")))) e
-    ∙ sym (phase-begins (context_of l.path) (component l))
+    ∙ sym (observance-begins (context_of l.path) (component l))
 
 -- WHAT IS COLLECTED of a component, with one line more that begins none.
 pub builder-more : (whole : List Placed) (q : Context) (k : List Open) (ls : List Placed) (l : Placed) → is_begin l ≡ false →
@@ -157,7 +157,7 @@ builder-begun whole context.Observance k ls b g n e o =
     ∙ sym (observance-still (builder_at (context_of (inside b)) g) (observance_of ls))
 builder-begun whole context.Zone k ls b g n e o =
     ap builder.Zone (zone_of-more (parts whole (ls ++ b ∷ [])) ls b ∙ ap (λ n. zone_note n (parts_at b) (zone_of (parts whole (ls ++ b ∷ [])) ls)) n)
-    ∙ ap (λ os. builder.Zone (zone_of os ls)) (parts-more whole ls b ∙ ap (λ t. parts whole ls ++ cond t (own whole b ∷ []) []) (phase-is b e))
+    ∙ ap (λ os. builder.Zone (zone_of os ls)) (parts-more whole ls b ∙ ap (λ t. parts whole ls ++ cond t (own whole b ∷ []) []) (observance-is b e))
     ∙ by_context (context_of (inside b))
   where
     by_context : (p : Context) → builder.Zone (zone_of (parts whole ls ++ cond (is_observance_context p) (own whole b ∷ []) []) ls)

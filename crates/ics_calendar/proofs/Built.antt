@@ -1,11 +1,11 @@
 -- What is built of the lines that stand directly in a component.
 use Rattle.std.specs.Prelude.{List, map, codes, option_map, flat_map}
 use Rattle.ics_values.specs.Integers.{integer_of}
-use Rattle.ics_zone.specs.Observances.{Phase}
+use Rattle.ics_zone.specs.Observances.{ObservanceSaid}
 use Rattle.ics_calendar.specs.declared.builder.ObservanceBuilder.{ObservanceBuilder}
 use Rattle.ics_calendar.specs.declared.builder.ZoneBuilder.{ZoneBuilder}
 use Rattle.ics_calendar.specs.declared.event_builder.EventBuilder.{EventBuilder}
-use Rattle.ics_calendar.specs.Placed.{Placed, value, first_named, all_named}
+use Rattle.ics_calendar.specs.PlacedLines.{Placed, value, first_named, all_named}
 use Rattle.ics_calendar.specs.Values.{ok_or_zero, is_cancelled}
 use Rattle.ics_calendar.specs.Faults.{first_text, first_dated, duration_on, parts_on, rdates_on, exdates_on}
 use Rattle.ics_calendar.specs.Zones.{onset_on, offset_on, daily_on, onsets_by}
@@ -29,7 +29,7 @@ collected_of lines = record {
 }
 
 -- a time zone whose observances are these
-abbrev pub zone_of : List Phase → List Placed → ZoneBuilder
+abbrev pub zone_of : List ObservanceSaid → List Placed → ZoneBuilder
 zone_of observances lines = record { name = first_text (codes "TZID") lines; observances = observances }
 
 -- an observance

@@ -6,8 +6,8 @@ use Rattle.std.proofs.lemmas.Bool.Decides.{eqb_tells}
 use Rattle.std.proofs.lemmas.List.{append-nil}
 use Rattle.std.proofs.lemmas.List.Folds.{list_any-append}
 use Rattle.ics_calendar.specs.Components.{is_zone_context}
-use Rattle.ics_calendar.specs.Placed.{Placed, Open, context_of, is_begin, is_end, begins_observance, component, path_behind, innermost, lines_in, beside}
-use Rattle.ics_calendar.specs.Zones.{begins_phase}
+use Rattle.ics_calendar.specs.PlacedLines.{Placed, Open, context_of, is_begin, is_end, begins_observance, component, path_behind, innermost, lines_in, beside}
+use Rattle.ics_calendar.specs.Zones.{begins_in_zone}
 use Rattle.ics_calendar.proofs.Order.{inside}
 use Rattle.ics_calendar.proofs.Paths.{Falls}
 
@@ -57,7 +57,7 @@ pub record IsKept (before up : List Placed) (c : Open) (cs : List Open) (f : Bun
   pub less : innermost cs < c.begun
   pub opened : inside f.begin ≡ c ∷ cs
   pub begins : is_begin f.begin ≡ true
-  pub phases : is_zone_context (context_of (c ∷ cs)) ≡ true → list_any begins_observance f.lines ≡ list_any begins_phase f.lines
+  pub observances : is_zone_context (context_of (c ∷ cs)) ≡ true → list_any begins_observance f.lines ≡ list_any begins_in_zone f.lines
 
 -- There is a bundle for each open component, and one below them all.
 abbrev pub Keeps : List Placed → List Placed → List Open → List Bundle → Type 0
@@ -82,11 +82,11 @@ top_beside before l bundles k = at l.path bundles k
     at (c ∷ cs) [] k = absurd k
     at (c ∷ cs) (f ∷ fs) k = sym (k.0.lines ∙ append-nil f.lines)
 
-pub top_phases : (before : List Placed) (path : List Open) (bundles : List Bundle) → Keeps before [] path bundles → is_zone_context (context_of path) ≡ true →
-    list_any begins_observance (top_lines bundles) ≡ list_any begins_phase (top_lines bundles)
-top_phases before [] bundles k z = cc
-top_phases before (c ∷ cs) [] k z = absurd k
-top_phases before (c ∷ cs) (f ∷ fs) k z = k.0.phases z
+pub top_observances : (before : List Placed) (path : List Open) (bundles : List Bundle) → Keeps before [] path bundles → is_zone_context (context_of path) ≡ true →
+    list_any begins_observance (top_lines bundles) ≡ list_any begins_in_zone (top_lines bundles)
+top_observances before [] bundles k z = cc
+top_observances before (c ∷ cs) [] k z = absurd k
+top_observances before (c ∷ cs) (f ∷ fs) k z = k.0.observances z
 
 pub falls : (before up : List Placed) (path : List Open) (bundles : List Bundle) → Keeps before up path bundles → Falls path
 falls before up [] bundles k = tt
@@ -124,7 +124,7 @@ below before up l (c ∷ cs) (f ∷ fs) less k =
         less = kept.less;
         opened = kept.opened;
         begins = kept.begins;
-        phases = kept.phases;
+        observances = kept.observances;
       },
       below before (f.begin ∷ []) l cs fs (omega (arith, kept.less, less)) k.1,
     )
@@ -144,21 +144,21 @@ here before l (c ∷ cs) (f ∷ fs) e k =
         less = kept.less;
         opened = kept.opened;
         begins = kept.begins;
-        phases = kept.phases;
+        observances = kept.observances;
       },
       below before (f.begin ∷ []) l cs fs (omega (arith, at, kept.less)) k.1,
     )
 
 -- it is added
-phases-more : (l : Placed) (path : List Open) (ls : List Placed) → path ≡ l.path → is_zone_context (context_of path) ≡ true →
-    list_any begins_observance ls ≡ list_any begins_phase ls →
-    list_any begins_observance (ls ++ l ∷ []) ≡ list_any begins_phase (ls ++ l ∷ [])
-phases-more l path ls e z h =
-    let same : begins_phase l ≡ begins_observance l =
+observances-more : (l : Placed) (path : List Open) (ls : List Placed) → path ≡ l.path → is_zone_context (context_of path) ≡ true →
+    list_any begins_observance ls ≡ list_any begins_in_zone ls →
+    list_any begins_observance (ls ++ l ∷ []) ≡ list_any begins_in_zone (ls ++ l ∷ [])
+observances-more l path ls e z h =
+    let same : begins_in_zone l ≡ begins_observance l =
     ap (λ (p : List Open). is_zone_context (context_of p) && begins_observance l) (sym e) ∙ ap (λ t. t && begins_observance l) z in
     list_any-append begins_observance ls (l ∷ []) ∙ ap (λ t. t || (begins_observance l || false)) h
-    ∙ ap (λ t. list_any begins_phase ls || (t || false)) (sym same)
-    ∙ sym (list_any-append begins_phase ls (l ∷ []))
+    ∙ ap (λ t. list_any begins_in_zone ls || (t || false)) (sym same)
+    ∙ sym (list_any-append begins_in_zone ls (l ∷ []))
 
 joined : (before : List Placed) (l : Placed) (path : List Open) (bundles : List Bundle) → path ≡ l.path → Keeps before (l ∷ []) path bundles →
     Keeps before [] path (add_line l bundles)
@@ -173,7 +173,7 @@ joined before l (c ∷ cs) (f ∷ fs) e k =
         less = kept.less;
         opened = kept.opened;
         begins = kept.begins;
-        phases = λ z. phases-more l (c ∷ cs) f.lines e z (kept.phases z);
+        observances = λ z. observances-more l (c ∷ cs) f.lines e z (kept.observances z);
       },
       k.1,
     )
@@ -223,7 +223,7 @@ keeps before l bundles h less k = by_kind (is_begin l) (is_end l) refl
         less = less;
         opened = refl;
         begins = b;
-        phases = λ z. refl;
+        observances = λ z. refl;
       },
       here before l l.path bundles refl k,
     )

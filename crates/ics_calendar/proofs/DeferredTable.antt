@@ -7,7 +7,7 @@ use Rattle.std.specs.Option.{option_and_then}
 use Rattle.std.specs.Str.{bytes_eq}
 use Rattle.ics_text.specs.Bytes.{upper}
 use Rattle.ics_text.specs.Unfolded.{Line}
-use Rattle.ics_text.specs.Contents.{Parts}
+use Rattle.ics_text.specs.ContentLines.{Parts}
 use Rattle.ics_values.specs.declared.stamp.Stamp.{Stamp}
 use Rattle.ics_values.specs.declared.stamp.Stamp.TheVariants as stamp
 use Rattle.ics_calendar.specs.declared.component.Component.{Component}
@@ -25,9 +25,10 @@ use Rattle.ics_calendar.specs.declared.name.Name.{Name}
 use Rattle.ics_calendar.specs.declared.name.Name.TheVariants as name
 use Rattle.ics_calendar.specs.Components.{component_of, is_event_context}
 use Rattle.ics_calendar.specs.DateValues.{has_zoned, listed_in}
-use Rattle.ics_calendar.specs.Event.{seconds_of, is_zoned}
+use Rattle.ics_calendar.specs.Event.{is_zoned}
+use Rattle.ics_values.specs.Locals.{local_seconds}
 use Rattle.ics_calendar.specs.Names.{name_of}
-use Rattle.ics_calendar.specs.Placed.{Placed, Open, context_of, closes}
+use Rattle.ics_calendar.specs.PlacedLines.{Placed, Open, context_of, closes}
 use Rattle.ics_calendar.specs.Values.{dated_of, is_out}
 use Rattle.ics_calendar.specs.Faults.{stamp_names, is_in_unknown_zone, stands_later, kinds, tzid_on}
 use Rattle.ics_calendar.specs.DeferredChecks.{KnownZones, are_out, zone_used, moment_on, moment_in, are_of_one_zone, ends_badly_later, moment_of, judged}
@@ -56,7 +57,7 @@ compared-judged : (known : KnownZones) (a b : Option Instant) →
     ≡ option_and_then (judged known) (both_compared a b)
 compared-judged known None b = refl
 compared-judged known (Some a) None = rw (out-none (moment_of known a)) refl
-compared-judged known (Some (instant.Utc a)) (Some (instant.Utc b)) = when (is_out (seconds_of a) (seconds_of b))
+compared-judged known (Some (instant.Utc a)) (Some (instant.Utc b)) = when (is_out (local_seconds a) (local_seconds b))
   where
     when : (t : Bool) → cond t (Some BadEnd) None ≡ option_and_then (judged known) (cond t (Some check.End) None)
     when true = refl
@@ -164,7 +165,7 @@ no-zone index k (Some a) (Some b) = by_test (are_of_one_zone a b)
     by_instants : (s t : Option Instant) → option_and_then (unknown_in index) (both_compared s t) ≡ None
     by_instants None t = refl
     by_instants (Some s) None = refl
-    by_instants (Some (instant.Utc a)) (Some (instant.Utc b)) = when (is_out (seconds_of a) (seconds_of b))
+    by_instants (Some (instant.Utc a)) (Some (instant.Utc b)) = when (is_out (local_seconds a) (local_seconds b))
       where
         when : (t : Bool) → option_and_then (unknown_in index) (cond t (Some check.End) None) ≡ None
         when true = refl

@@ -5,7 +5,7 @@ use Rattle.std.specs.Str.{bytes_eq}
 use Rattle.std.proofs.Math.Bool.{and-false}
 use Rattle.ics_text.specs.Bytes.{upper}
 use Rattle.ics_text.specs.Unfolded.{Line}
-use Rattle.ics_text.specs.Contents.{Parts}
+use Rattle.ics_text.specs.ContentLines.{Parts}
 use Rattle.ics_calendar.specs.declared.component.Component.{Component}
 use Rattle.ics_calendar.specs.declared.component.Context.{Context}
 use Rattle.ics_calendar.specs.declared.component.Context.TheVariants as context
@@ -16,7 +16,7 @@ use Rattle.ics_calendar.specs.declared.gathered.EndedEvent.{EndedEvent}
 use Rattle.ics_calendar.specs.declared.gathered.EndedZone.{EndedZone}
 use Rattle.ics_calendar.specs.Components.{component_of, is_event_context, is_zone_context}
 use Rattle.ics_calendar.specs.Names.{name_of}
-use Rattle.ics_calendar.specs.Placed.{Placed, Open, context_of, calendar_of, is_end, is_closing}
+use Rattle.ics_calendar.specs.PlacedLines.{Placed, Open, context_of, calendar_of, is_end, is_closing}
 use Rattle.ics_calendar.specs.Files.{begins_event}
 use Rattle.ics_calendar.specs.Zones.{begins_zone}
 use Rattle.ics_calendar.proofs.Built.{collected_of, zone_of}

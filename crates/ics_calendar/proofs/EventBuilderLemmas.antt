@@ -4,7 +4,7 @@ use Rattle.std.specs.Prelude.{codes, option_map}
 use Rattle.std.specs.Str.{bytes_eq}
 use Rattle.std.proofs.lemmas.List.{append-nil, map-append}
 use Rattle.std.proofs.lemmas.List.Elements.{filter-append}
-use Rattle.ics_text.specs.Contents.{Parts}
+use Rattle.ics_text.specs.ContentLines.{Parts}
 use Rattle.ics_values.specs.Integers.{integer_of}
 use Rattle.ics_values.specs.Plain.{text_of}
 use Rattle.ics_values.specs.Rules.{rule_of}
@@ -13,7 +13,7 @@ use Rattle.ics_calendar.specs.declared.name.Name.{Name}
 use Rattle.ics_calendar.specs.declared.name.Name.TheVariants as name
 use Rattle.ics_calendar.specs.DateLists.{rdate_list, exdate_list}
 use Rattle.ics_calendar.specs.Names.{name_of}
-use Rattle.ics_calendar.specs.Placed.{Placed, property_name, value, value_of, params_of, is_named, first_named, first_of, all_named}
+use Rattle.ics_calendar.specs.PlacedLines.{Placed, property_name, value, value_of, params_of, is_named, first_named, first_of, all_named}
 use Rattle.ics_calendar.specs.Values.{dated_of, lasting_of, duration_in, rule_in, ok_or_zero, is_cancelled}
 use Rattle.ics_calendar.specs.Faults.{dated_on, duration_on, parts_on, rdates_on, exdates_on}
 use Rattle.ics_calendar.proofs.Built.{collected_of}

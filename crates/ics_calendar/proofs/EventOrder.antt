@@ -9,7 +9,7 @@ use Rattle.ics_calendar.specs.declared.component.Context.TheVariants as context
 use Rattle.ics_calendar.specs.declared.name.Name.TheVariants as name
 use Rattle.ics_calendar.specs.Components.{component_of, context_in, is_calendar_context, is_event_context}
 use Rattle.ics_calendar.specs.Names.{name_of}
-use Rattle.ics_calendar.specs.Placed.{Placed, Open, property_name, context_of, is_begin, component, calendar_of}
+use Rattle.ics_calendar.specs.PlacedLines.{Placed, Open, property_name, context_of, is_begin, component, calendar_of}
 use Rattle.ics_calendar.proofs.Built.{collected_of}
 use Rattle.ics_calendar.specs.Builders.{event_ended}
 use Rattle.ics_calendar.proofs.Judged.{event_note}

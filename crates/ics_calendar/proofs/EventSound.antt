@@ -20,7 +20,8 @@ use Rattle.ics_calendar.specs.declared.fault.FaultKind.TheVariants.{UnknownZone,
 use Rattle.ics_calendar.specs.declared.deferred_check.DeferredCheck.{DeferredCheck}
 use Rattle.ics_calendar.specs.declared.deferred_check.DeferredCheck.TheVariants as check
 use Rattle.ics_calendar.specs.declared.deferred_check.ZoneName.{ZoneName}
-use Rattle.ics_calendar.specs.Event.{is_zoned, IsTime, longest, seconds_of, IsWithin, IsEnd, IsLasting, IsLength, IsRdate, IsEvent}
+use Rattle.ics_calendar.specs.Event.{is_zoned, IsTime, longest, IsWithin, IsEnd, IsLasting, IsLength, IsRdate, IsEvent}
+use Rattle.ics_values.specs.Locals.{local_seconds}
 use Rattle.ics_calendar.specs.Builders.{event_of}
 use Rattle.ics_calendar.specs.DateLists.{zone_listed, rdate_in, exdate_in}
 use Rattle.ics_calendar.specs.DateValues.{has_zoned}
@@ -71,8 +72,8 @@ not-end known false h = refl
 
 end-is : (known : KnownZones) (m n : ZoneName) (z : Bool) (a b : Stamp) → is_bad_end z a b ≡ false → IsFine known (check_between m n z a b) → IsEnd a b
 end-is known m n z (Date a) (Date b) e l = out-within (a *ℤ pos 86_400) (b *ℤ pos 86_400) e
-end-is known m n z (Floating a) (Floating b) e l = out-within (seconds_of a) (seconds_of b) e
-end-is known m n z (Utc a) (Utc b) e l = out-within (seconds_of a) (seconds_of b) (not-end known (is_out (seconds_of a) (seconds_of b)) l)
+end-is known m n z (Floating a) (Floating b) e l = out-within (local_seconds a) (local_seconds b) e
+end-is known m n z (Utc a) (Utc b) e l = out-within (local_seconds a) (local_seconds b) (not-end known (is_out (local_seconds a) (local_seconds b)) l)
 end-is known m n z (Utc a) (Zoned b) e l = tt
 end-is known m n z (Zoned a) (Utc b) e l = tt
 end-is known m n z (Zoned a) (Zoned b) e l = tt

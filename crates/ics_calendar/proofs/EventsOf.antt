@@ -25,7 +25,8 @@ use Rattle.ics_calendar.specs.declared.deferred_check.Instant.TheVariants as ins
 use Rattle.ics_calendar.specs.declared.deferred_check.DeferredCheck.TheVariants as check
 use Rattle.ics_calendar.specs.declared.deferred_check.ZoneName.{ZoneName}
 use Rattle.ics_calendar.specs.declared.time.Time.{Time}
-use Rattle.ics_calendar.specs.Event.{seconds_of, is_zoned, IsWithin, EndsBelow, RdateBelow, TimeBelow, EndsWithin, IsEventOf, AreEventsOf, compared}
+use Rattle.ics_calendar.specs.Event.{is_zoned, IsWithin, EndsBelow, RdateBelow, TimeBelow, EndsWithin, IsEventOf, AreEventsOf, compared}
+use Rattle.ics_values.specs.Locals.{local_seconds}
 use Rattle.ics_calendar.specs.Event.{is_one_zone, moment_in}
 use Rattle.ics_calendar.specs.Builders.{event_of}
 use Rattle.ics_calendar.specs.DateLists.{zone_listed, rdate_in, first_stamp, exdate_in}
@@ -81,7 +82,7 @@ module _ (known : KnownZones) (table : IsTable known) where
       by_tests : (t z : Bool) → (i == j) ≡ t → bytes_eq x y ≡ z → is_bad_end z (Zoned a) (Zoned b) ≡ false →
           IsFine known (check_between (named k x) (named k y) z (Zoned a) (Zoned b)) →
           IsWithin (compared t known.zones (time (Zoned a) (Some i))) (compared t known.zones (time (Zoned b) (Some j)))
-      by_tests true true t z l h = out-within (seconds_of a) (seconds_of b) l
+      by_tests true true t z l h = out-within (local_seconds a) (local_seconds b) l
       by_tests true false t z l h =
           let one : i ≡ j = grind (arith, nat_tests, t) in
           let same : x ≡ y = table.single (named k x) (named k y) i e (f ∙ ap (λ (n : ℕ). Some n) (sym one)) in
@@ -98,14 +99,14 @@ module _ (known : KnownZones) (table : IsTable known) where
   first-zoned : (k : ℕ) (x : List ℕ) (a b : Local) (i : ℕ) → known.index (named k x) ≡ Some i →
       IsFine known (Some (check.Ends (instant.Zoned a (named k x)) (instant.Utc b))) → Within (Zoned a) (Some i) (Utc b) None
   first-zoned k x a b i e h =
-      out-within (moment_in known.zones (Some i) (Zoned a)) (seconds_of b)
-      (not-out (moment_there known (named k x) a) (Some (seconds_of b)) _ _ (local-there (named k x) a i e) refl h)
+      out-within (moment_in known.zones (Some i) (Zoned a)) (local_seconds b)
+      (not-out (moment_there known (named k x) a) (Some (local_seconds b)) _ _ (local-there (named k x) a i e) refl h)
 
   second-zoned : (k : ℕ) (y : List ℕ) (a b : Local) (j : ℕ) → known.index (named k y) ≡ Some j →
       IsFine known (Some (check.Ends (instant.Utc a) (instant.Zoned b (named k y)))) → Within (Utc a) None (Zoned b) (Some j)
   second-zoned k y a b j f h =
-      out-within (seconds_of a) (moment_in known.zones (Some j) (Zoned b))
-      (not-out (Some (seconds_of a)) (moment_there known (named k y) b) _ _ refl (local-there (named k y) b j f) h)
+      out-within (local_seconds a) (moment_in known.zones (Some j) (Zoned b))
+      (not-out (Some (local_seconds a)) (moment_there known (named k y) b) _ _ refl (local-there (named k y) b j f) h)
 
   -- the name of a zoned stamp is known
   index-is : (used : ZoneName) → IsFine known (Some (check.Zone used)) → (i : ℕ) × (known.index used ≡ Some i)

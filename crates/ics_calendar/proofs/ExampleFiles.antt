@@ -7,7 +7,7 @@ use Rattle.ics_calendar.specs.Event.{EventSeen, FileSaid}
 use Rattle.ics_calendar.specs.FirstFault.{Fault}
 use Rattle.ics_calendar.specs.Files.{file_of, events_of}
 use Rattle.ics_calendar.specs.GivenFiles.{no_files}
-use Rattle.ics_calendar.specs.Placed.{placed}
+use Rattle.ics_calendar.specs.PlacedLines.{placed}
 use Rattle.ics_calendar.specs.Zones.{zones_on}
 
 -- each line ends with CRLF

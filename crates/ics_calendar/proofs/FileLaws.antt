@@ -11,7 +11,7 @@ use Rattle.ics_calendar.specs.Faults.{stands, stands_later, is_in_unknown_zone, 
 use Rattle.ics_calendar.specs.Files.{IsFile, bad_fold, file_of, decide, events_of, said_of, wanted_names, wanted_on}
 use Rattle.ics_calendar.specs.FirstFault.{Fault, Round, IsFirst, first_fault, later_fault, first_from, end_fault, last_of, no_open}
 use Rattle.ics_calendar.specs.GivenFiles.{GivenFiles, no_files}
-use Rattle.ics_calendar.specs.Placed.{Placed, placed, beside, path_behind}
+use Rattle.ics_calendar.specs.PlacedLines.{Placed, placed, beside, path_behind}
 use Rattle.ics_calendar.specs.Wanted.{each_once, unknown_names, zones_with}
 use Rattle.ics_calendar.specs.Zones.{zones_on}
 use Rattle.ics_calendar.proofs.FilesGiven.{with-no-files, with-agreed}

@@ -1,7 +1,7 @@
 -- What the walk over the lines finds is the first fault, and it finds one where there is one.
 use Rattle.std.proofs.Common.{◌≡◌, ◌⊎◌, List, [], ◌∷◌, ◌++◌, refl, sym, ap, ◌∙◌, Option, Some, None, append_assoc, inl, inr}
 use Rattle.ics_calendar.specs.declared.fault.FaultKind.{FaultKind}
-use Rattle.ics_calendar.specs.Placed.{Placed}
+use Rattle.ics_calendar.specs.PlacedLines.{Placed}
 use Rattle.ics_calendar.specs.FirstFault.{Fault, Round, found, first_from, least_on, NoneStand, IsFirst}
 
 abbrev AtEnd : Type 0

@@ -5,7 +5,7 @@ use Rattle.std.specs.Str.{bytes_eq}
 use Rattle.std.proofs.lemmas.List.{append-nil}
 use Rattle.ics_text.specs.Bytes.{upper}
 use Rattle.ics_text.specs.Unfolded.{Line}
-use Rattle.ics_text.specs.Contents.{Parts}
+use Rattle.ics_text.specs.ContentLines.{Parts}
 use Rattle.ics_calendar.specs.declared.component.Component.{Component}
 use Rattle.ics_calendar.specs.declared.component.Context.{Context}
 use Rattle.ics_calendar.specs.declared.component.Context.TheVariants as context
@@ -14,7 +14,7 @@ use Rattle.ics_calendar.specs.declared.name.Name.{Name}
 use Rattle.ics_calendar.specs.declared.name.Name.TheVariants as name
 use Rattle.ics_calendar.specs.Components.{component_of, context_in}
 use Rattle.ics_calendar.specs.Names.{name_of}
-use Rattle.ics_calendar.specs.Placed.{Placed, Open, context_of, property_name, is_begin, is_end, component, path_behind, innermost, calendar_of, lines_in}
+use Rattle.ics_calendar.specs.PlacedLines.{Placed, Open, context_of, property_name, is_begin, is_end, component, path_behind, innermost, calendar_of, lines_in}
 use Rattle.ics_calendar.specs.Builders.{fresh, observance_ended}
 use Rattle.ics_calendar.proofs.Built.{observance_of}
 use Rattle.ics_calendar.specs.Pass.{bottom}

@@ -5,8 +5,8 @@ use Rattle.std.proofs.lemmas.Int.{ints}
 use Rattle.std.proofs.lemmas.Option.{slice_get_within}
 use Rattle.ics_values.specs.declared.local.Local.{Local}
 use Rattle.ics_zone.specs.Moments.{zone_moment}
-use Rattle.ics_zone.specs.Observances.{Phase, IsZone, IsPhase}
-use Rattle.ics_zone.specs.Offsets.{IsOffset, zone_offset}
+use Rattle.ics_zone.specs.Observances.{ObservanceSaid, IsZone, IsObservanceSaid}
+use Rattle.ics_zone.specs.ZoneOffsets.{IsOffset, zone_offset}
 use Rattle.ics_zone.specs.ZoneBounds.{zone_offset_short}
 use Rattle.ics_zone.proofs.MomentLemmas.{moment_unique, moment_found}
 use Rattle.ics_zone.proofs.OnsetLemmas.{offset_found}
@@ -18,21 +18,21 @@ use Rattle.ics_calendar.specs.declared.deferred_check.ZoneName.{ZoneName}
 use Rattle.ics_calendar.specs.DeferredChecks.{KnownZones, known_zones, judged}
 use Rattle.ics_calendar.proofs.EventsOf.{some-same}
 
-only : (p q : Phase) (i : ℕ) → slice_get (p ∷ []) i ≡ Some q → p ≡ q
+only : (p q : ObservanceSaid) (i : ℕ) → slice_get (p ∷ []) i ≡ Some q → p ≡ q
 only p q i h =
     let zero_at : i ≡ 0 = omega (arith, slice_get_within (p ∷ []) i q h) in
     some-same p q (subst (λ k. slice_get (p ∷ []) k ≡ Some q) zero_at h)
 
-module _ (p : Phase) (one : p.offset_from ≡ p.offset_to) (facts : IsPhase p) where
+module _ (p : ObservanceSaid) (one : p.offset_from ≡ p.offset_to) (facts : IsObservanceSaid p) where
   zone-facts : IsZone (p ∷ [])
-  zone-facts i q h = subst IsPhase (only p q i h) facts
+  zone-facts i q h = subst IsObservanceSaid (only p q i h) facts
 
   offset-is : (t : ℤ) → zone_offset (p ∷ []) t ≡ p.offset_to
   offset-is t = by_offset (offset_found (p ∷ []) zone-facts t (λ e. cc))
     where
       by_offset : IsOffset (p ∷ []) t (zone_offset (p ∷ []) t) → zone_offset (p ∷ []) t ≡ p.offset_to
-      by_offset (inl f) = f.2 ∙ ap (λ (q : Phase). q.offset_to) (sym (only p f.0 f.1.place f.1.onset.0))
-      by_offset (inr f) = f.2 ∙ (ap (λ (q : Phase). q.offset_from) (sym (only p f.0 f.1.place f.1.onset.0)) ∙ one)
+      by_offset (inl f) = f.2 ∙ ap (λ (q : ObservanceSaid). q.offset_to) (sym (only p f.0 f.1.place f.1.onset.0))
+      by_offset (inr f) = f.2 ∙ (ap (λ (q : ObservanceSaid). q.offset_from) (sym (only p f.0 f.1.place f.1.onset.0)) ∙ one)
 
   moment-is : (local : ℤ) → zone_moment (p ∷ []) local ≡ local -ℤ p.offset_to
   moment-is local =
@@ -54,13 +54,13 @@ abbrev eleven : Local
 eleven = record { day = pos 19_727; second = 39_600; second_in = omega arith }
 
 -- five hours west of UTC, and one hour east
-abbrev clock : ℤ → Phase
+abbrev clock : ℤ → ObservanceSaid
 clock offset = record { start = ten; offset_from = offset; offset_to = offset; rule = None; rdates = [] }
 
-west : Phase
+west : ObservanceSaid
 west = clock (negsuc 17_999)
 
-east : Phase
+east : ObservanceSaid
 east = clock (pos 3_600)
 
 abbrev named : List ℕ → ZoneName

@@ -4,7 +4,7 @@ use Rattle.std.specs.Prelude.{codes, length, filter_map, nat_le, is_some}
 use Rattle.std.specs.List.{list_any}
 use Rattle.std.specs.Str.{bytes_eq}
 use Rattle.ics_text.specs.Bytes.{upper}
-use Rattle.ics_text.specs.Contents.{Parts, param_of}
+use Rattle.ics_text.specs.ContentLines.{Parts, param_of}
 use Rattle.ics_values.specs.Integers.{integer_of}
 use Rattle.ics_values.specs.Offsets.{offset_of}
 use Rattle.ics_values.specs.Plain.{text_of}

@@ -4,8 +4,8 @@ use Rattle.ics_text.specs.Unfolded.{Line, unfolded}
 use Rattle.ics_calendar.specs.Faults.{stands}
 use Rattle.ics_calendar.specs.Files.{FaultsLookBack}
 use Rattle.ics_calendar.specs.FirstFault.{Fault, Round, IsFirst}
-use Rattle.ics_calendar.specs.Placed.{Open, Placed, placed, placed_from, path_behind}
-use Rattle.ics_text.specs.Contents.{content_of}
+use Rattle.ics_calendar.specs.PlacedLines.{Open, Placed, placed, placed_from, path_behind}
+use Rattle.ics_text.specs.ContentLines.{content_of}
 
 abbrev here : List Open → Line → Placed
 here path line = record { number = line.number; content = content_of line.bytes; path = path }

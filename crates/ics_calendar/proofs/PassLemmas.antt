@@ -6,7 +6,7 @@ use Rattle.std.specs.List.{list_any}
 use Rattle.std.proofs.lemmas.List.{append-nil}
 use Rattle.ics_text.specs.Bytes.{upper}
 use Rattle.ics_text.specs.Unfolded.{Line, Rises}
-use Rattle.ics_text.specs.Contents.{Parts, content_of}
+use Rattle.ics_text.specs.ContentLines.{Parts, content_of}
 use Rattle.ics_calendar.specs.declared.fault.FaultKind.{FaultKind}
 use Rattle.ics_calendar.specs.declared.fault.FaultKind.TheVariants.{BadNesting}
 use Rattle.ics_calendar.specs.declared.frame.Frame.{Frame}
@@ -17,7 +17,7 @@ use Rattle.ics_calendar.specs.declared.gathered.LineCheck.{LineCheck}
 use Rattle.ics_calendar.specs.declared.deferred_check.DeferredCheck.{DeferredCheck}
 use Rattle.ics_calendar.specs.declared.gathered.Passed.{Passed}
 use Rattle.ics_calendar.specs.declared.name.Name.{Name}
-use Rattle.ics_calendar.specs.Placed.{Placed, Open, path_behind, placed_from, innermost, begins_observance, lines_in, beside}
+use Rattle.ics_calendar.specs.PlacedLines.{Placed, Open, path_behind, placed_from, innermost, begins_observance, lines_in, beside}
 use Rattle.ics_calendar.specs.Faults.{stands, kinds}
 use Rattle.ics_calendar.specs.FirstFault.{Fault, found, first_from, first_fault, fault_at_end, end_fault, no_open}
 use Rattle.ics_calendar.specs.GatheredSeen.{GatheredSeen}
@@ -27,7 +27,7 @@ use Rattle.ics_calendar.specs.Names.{name_of}
 use Rattle.ics_calendar.specs.Pass.{bottom, is_lowest, at_end, unless, Going, on_line, on_content, pass}
 use Rattle.ics_calendar.proofs.Judged.{fault_in, fault_on, check_in, check_on, behind, ends, passing, line-is}
 use Rattle.ics_calendar.proofs.Table.{parts, any-part, frame_of, IsAsked, least-same}
-use Rattle.ics_calendar.proofs.Bundles.{Bundle, Keeps, Before, falls, top_lines, top_beside, top_phases, bundles_behind, keeps, Before-more, Before-later}
+use Rattle.ics_calendar.proofs.Bundles.{Bundle, Keeps, Before, falls, top_lines, top_beside, top_observances, bundles_behind, keeps, Before-more, Before-later}
 use Rattle.ics_calendar.proofs.Bundles.{innermost-behind}
 use Rattle.ics_calendar.proofs.Frames.{frames_of, top_of, with, Closes, frames-behind, fault-top, check-top, based}
 use Rattle.ics_calendar.proofs.LastLines.{last-more}
@@ -175,7 +175,7 @@ step line lines again (Some v) whole before bundles path n had w k h in_path les
     let top : top_of whole path bundles ≡ frame_of whole path (beside before l) = ap (frame_of whole path) (top_beside before l bundles k) in
     let asked : IsAsked whole path (beside before l) =
     λ z. subst (λ (ls : List Placed). list_any begins_observance ls ≡ not (length (parts whole ls) == 0)) (top_beside before l bundles k)
-    (top_phases before path bundles k z ∙ any-part whole (top_lines bundles)) in
+    (top_observances before path bundles k z ∙ any-part whole (top_lines bundles)) in
     let first : Option FaultKind = find (λ kind. stands kind (beside before l) l) kinds in
     let least : fault_on m v frames ≡ first =
     fault-top whole before m v path bundles k ∙ ap (λ f. fault_in m v f (length path)) top

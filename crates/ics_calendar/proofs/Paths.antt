@@ -2,8 +2,8 @@
 use Rattle.std.proofs.Common.{◌≡◌, ◌≢◌, ℕ, ◌<◌, ◌≤◌, Bool, true, false, ◌==◌, List, [], ◌∷◌, ◌++◌, drop, refl, ap, ◌∙◌, arith, cond, inl, inr}
 use Rattle.std.proofs.lemmas.Bool.Decides.{eqb_tells}
 use Rattle.ics_text.specs.Unfolded.{Line, Rises}
-use Rattle.ics_text.specs.Contents.{content_of}
-use Rattle.ics_calendar.specs.Placed.{Placed, Open, is_begin, is_end, component, path_behind, placed_from, innermost, lines_in}
+use Rattle.ics_text.specs.ContentLines.{content_of}
+use Rattle.ics_calendar.specs.PlacedLines.{Placed, Open, is_begin, is_end, component, path_behind, placed_from, innermost, lines_in}
 
 -- what began later stands further in
 abbrev pub Falls : List Open → Type 0

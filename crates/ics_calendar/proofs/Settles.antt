@@ -5,7 +5,7 @@ use Rattle.std.specs.List.{cons_option}
 use Rattle.std.specs.Option.{option_and_then}
 use Rattle.ics_text.specs.Bytes.{upper}
 use Rattle.ics_text.specs.Unfolded.{Line, Rises}
-use Rattle.ics_text.specs.Contents.{Parts, content_of}
+use Rattle.ics_text.specs.ContentLines.{Parts, content_of}
 use Rattle.ics_zone.specs.ZoneSaid.{ZoneSaid}
 use Rattle.ics_calendar.specs.declared.frame.Frame.{Frame}
 use Rattle.ics_calendar.specs.declared.gathered.EndedEvent.{EndedEvent}
@@ -24,7 +24,7 @@ use Rattle.ics_calendar.specs.DeferredChecks.{KnownZones, known_zones, with_file
 use Rattle.ics_calendar.specs.GivenFiles.{GivenFiles}
 use Rattle.ics_calendar.specs.Wanted.{each_once, unknown_names, zones_with}
 use Rattle.ics_calendar.proofs.Judged.{check_in}
-use Rattle.ics_calendar.specs.Placed.{Placed, Open, path_behind, placed_from, context_of, begins, beside, calendar_of, lines_in}
+use Rattle.ics_calendar.specs.PlacedLines.{Placed, Open, path_behind, placed_from, context_of, begins, beside, calendar_of, lines_in}
 use Rattle.ics_calendar.specs.Names.{name_of}
 use Rattle.ics_calendar.specs.Zones.{zone_names, zones_on}
 use Rattle.ics_calendar.proofs.Ended.{events, zones}

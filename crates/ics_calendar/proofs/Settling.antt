@@ -11,7 +11,8 @@ use Rattle.ics_values.specs.declared.local.Local.{Local}
 use Rattle.ics_calendar.specs.declared.gathered.LineCheck.{LineCheck}
 use Rattle.ics_calendar.specs.declared.deferred_check.DeferredCheck.{DeferredCheck}
 use Rattle.ics_calendar.specs.Builders.{event_of}
-use Rattle.ics_calendar.specs.Event.{AreEventsOf, seconds_of}
+use Rattle.ics_calendar.specs.Event.{AreEventsOf}
+use Rattle.ics_values.specs.Locals.{local_seconds}
 use Rattle.ics_calendar.specs.Gathered.{known_in, first_judged, IsSoundGathered}
 use Rattle.ics_calendar.specs.GatheredSeen.{GatheredSeen}
 use Rattle.ics_calendar.specs.DeferredChecks.{KnownZones, moment_at, judged, with_files}
@@ -26,9 +27,9 @@ use Rattle.ics_calendar.proofs.Order.{found-none}
 
 -- a local in the zone with an index
 pub moment-here : (zones : List ZoneKind) (local : Local) (i : ℕ) (d : ZoneKind) → i < length zones →
-    moment_at (map zone_said zones) local i ≡ Some (said_moment (zone_said (get_or zones i d)) (seconds_of local))
+    moment_at (map zone_said zones) local i ≡ Some (said_moment (zone_said (get_or zones i d)) (local_seconds local))
 moment-here zones local i d l =
-    ap (option_map (λ zone. said_moment zone (seconds_of local))) (slice_get-map zone_said zones i ∙ ap (option_map zone_said) (slice_get-get_or zones i d l))
+    ap (option_map (λ zone. said_moment zone (local_seconds local))) (slice_get-map zone_said zones i ∙ ap (option_map zone_said) (slice_get-get_or zones i d l))
 
 -- THE DEFERRED CHECKS, where none finds a fault.
 none-judged : (known : KnownZones) (ws : List LineCheck) → first_judged known ws ≡ None → AllByRecursion (λ w. judged known w.check ≡ None) ws

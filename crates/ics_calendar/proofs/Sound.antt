@@ -8,7 +8,7 @@ use Rattle.std.proofs.lemmas.Int.{ints}
 use Rattle.std.proofs.lemmas.List.Elements.{All-nil, All-cons, All-push, All-append, All-head, All-tail}
 use Rattle.jiff_core.specs.Calendar.{IsWithin}
 use Rattle.ics_text.specs.Bytes.{upper}
-use Rattle.ics_text.specs.Contents.{Parts}
+use Rattle.ics_text.specs.ContentLines.{Parts}
 use Rattle.ics_values.specs.Offsets.{is_offset_form, is_offset_text, offset_hours, offset_minutes, offset_seconds, offset_size, offset_said, offset_of}
 use Rattle.ics_values.specs.Periods.{first_half, second_half, lasts}
 use Rattle.ics_values.specs.RuleParts.{RuleParts}
@@ -48,12 +48,12 @@ use Rattle.ics_values.specs.Locals.{local_at}
 use Rattle.ics_values.specs.declared.duration.Duration.{Duration}
 use Rattle.ics_values.specs.declared.frequency.Frequency.{Frequency}
 use Rattle.ics_values.specs.declared.frequency.Frequency.TheVariants as frequency
-use Rattle.ics_zone.specs.Observances.{is_finer_than_daily, is_finer_rule, Phase}
+use Rattle.ics_zone.specs.Observances.{is_finer_than_daily, is_finer_rule, ObservanceSaid}
 use Rattle.ics_zone.specs.Years.{is_stamp_local}
 use Rattle.ics_calendar.specs.declared.fault.FaultKind.TheVariants.{NoObservance, ObservanceField, MissingUid, MissingStart, BadEnd}
 use Rattle.ics_calendar.specs.Gathered.{zones_of_end, events_of_end}
 use Rattle.ics_calendar.specs.Times.{dated_in, given_length}
-use Rattle.ics_calendar.specs.ZonesSound.{IsSoundPhase, IsSoundZone}
+use Rattle.ics_calendar.specs.ZonesSound.{IsSoundObservance, IsSoundZone}
 use Rattle.ics_calendar.specs.declared.builder.ZoneBuilder.{ZoneBuilder}
 use Rattle.ics_calendar.specs.declared.gathered.EndedZone.{EndedZone}
 
@@ -80,7 +80,7 @@ pub record IsSoundPart (had : ObservanceBuilder) : Type 0 where
 -- what is collected is of the kind that stands there, and in order
 abbrev pub IsSoundAt : Context → Builder → Type 0
 IsSoundAt context.Event (builder.Event had) = IsSound had
-IsSoundAt context.Zone (builder.Zone had) = All IsSoundPhase had.observances
+IsSoundAt context.Zone (builder.Zone had) = All IsSoundObservance had.observances
 IsSoundAt context.Observance (builder.Observance had) = IsSoundPart had
 IsSoundAt context.Outside builder.Nothing = Unit {0}
 IsSoundAt context.Calendar builder.Nothing = Unit {0}
@@ -283,7 +283,7 @@ noted-part name.Rdate v had s =
     }
 noted-part _ v had s = record { start = s.start; from = s.from; to = s.to; rule = s.rule; rdates = s.rdates }
 
-kept-zone : (n : Name) (v : Parts) (had : ZoneBuilder) → All IsSoundPhase had.observances → All IsSoundPhase (zone_note n v had).observances
+kept-zone : (n : Name) (v : Parts) (had : ZoneBuilder) → All IsSoundObservance had.observances → All IsSoundObservance (zone_note n v had).observances
 kept-zone name.Tzid v had h = h
 kept-zone _ v had h = h
 
@@ -299,7 +299,7 @@ kept-at _ n v _ h = absurd h
 fresh-sound : (q : Context) → IsSoundAt q (fresh q)
 fresh-sound context.Event = record { start = tt; end = tt; duration = tt; rdates = All-nil IsSoundList; exdates = All-nil IsSoundList; recurrence = tt }
 fresh-sound context.Observance = record { start = tt; from = tt; to = tt; rule = tt; rdates = All-nil IsSoundLocal }
-fresh-sound context.Zone = All-nil IsSoundPhase
+fresh-sound context.Zone = All-nil IsSoundObservance
 fresh-sound _ = tt
 
 -- AN OBSERVANCE is one that a time zone may have.
@@ -333,7 +333,7 @@ rule-daily : (o : Option RuleParts) → IfSome o (λ rule. is_fine rule.frequenc
 rule-daily None h = refl
 rule-daily (Some parts) h = daily parts.frequency h
 
-part-sound : (had : ObservanceBuilder) → IsSoundPart had → IsSoundPhase (observance_ended had)
+part-sound : (had : ObservanceBuilder) → IsSoundPart had → IsSoundObservance (observance_ended had)
 part-sound had s = record {
   bounds = record { start_in = onset-day had.start s.start; from_in = offset-there had.from s.from; to_in = offset-there had.to s.to };
   rdates = locals-tests had.rdates s.rdates;
@@ -348,7 +348,7 @@ joined-sound p (builder.Observance had) q (builder.Event e) h k = k
 joined-sound p (builder.Observance had) q (builder.Observance e) h k = k
 joined-sound p (builder.Observance had) q builder.Nothing h k = k
 joined-sound context.Observance (builder.Observance had) context.Zone (builder.Zone zone) h k =
-    All-push IsSoundPhase zone.observances (observance_ended had) k (part-sound had h)
+    All-push IsSoundObservance zone.observances (observance_ended had) k (part-sound had h)
 joined-sound context.Observance (builder.Observance had) _ (builder.Zone zone) h k = absurd k
 joined-sound _ (builder.Observance had) q (builder.Zone zone) h k = absurd h
 
@@ -428,7 +428,7 @@ IsSoundEnded zone = IsSoundZone zone.observances
 zone-filled : (had : ZoneBuilder) → end_of_zone had ≡ None → had.observances ≢ []
 zone-filled had e none =
     let bad : Some NoObservance ≡ None =
-    ap (λ (os : List Phase). cond (length os == 0) (Some NoObservance) (cond (not (is_some had.name)) (Some ObservanceField) None)) (sym none) ∙ e in
+    ap (λ (os : List ObservanceSaid). cond (length os == 0) (Some NoObservance) (cond (not (is_some had.name)) (Some ObservanceField) None)) (sym none) ∙ e in
     cc
 
 pub zones-sound : (n : Name) (v : Parts) (frames : List Frame) → fault_on n v frames ≡ None → AreSound frames →

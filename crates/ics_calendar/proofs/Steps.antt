@@ -1,7 +1,7 @@
 -- One line of the pass, as the loop over the lines takes it.
 use Rattle.std.proofs.Common.{◌≡◌, ℕ, ◌+◌, ◌<◌, ◌^◌, List, ◌∷◌, sym, ap, subst, ◌∙◌, Option, Some, Err}
 use Rattle.ics_text.specs.Unfolded.{Line}
-use Rattle.ics_text.specs.Contents.{Parts, content_of}
+use Rattle.ics_text.specs.ContentLines.{Parts, content_of}
 use Rattle.ics_calendar.specs.declared.fault.FaultKind.{FaultKind}
 use Rattle.ics_calendar.specs.declared.frame.Frame.{Frame}
 use Rattle.ics_calendar.specs.declared.read.Progress.{Progress}

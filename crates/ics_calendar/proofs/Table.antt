@@ -5,10 +5,10 @@ use Rattle.std.specs.List.{list_any}
 use Rattle.std.specs.Str.{bytes_eq}
 use Rattle.std.proofs.lemmas.Bool.Decides.{eqb_tells}
 use Rattle.ics_text.specs.Bytes.{upper}
-use Rattle.ics_text.specs.Contents.{Parts}
+use Rattle.ics_text.specs.ContentLines.{Parts}
 use Rattle.ics_values.specs.Integers.{integer_of}
 use Rattle.ics_values.specs.Plain.{text_of}
-use Rattle.ics_zone.specs.Observances.{Phase}
+use Rattle.ics_zone.specs.Observances.{ObservanceSaid}
 use Rattle.ics_calendar.specs.declared.component.Component.{Component}
 use Rattle.ics_calendar.specs.declared.component.Component.TheVariants as component
 use Rattle.ics_calendar.specs.declared.component.Context.{Context}
@@ -18,12 +18,12 @@ use Rattle.ics_calendar.specs.declared.name.Name.{Name}
 use Rattle.ics_calendar.specs.declared.name.Name.TheVariants as name
 use Rattle.ics_calendar.specs.Components.{component_of, component_name, is_outside_context, is_zone_context}
 use Rattle.ics_calendar.specs.Names.{name_of}
-use Rattle.ics_calendar.specs.Placed.{Placed, Open, context_of, value, closes, begins_observance, calendar_of, lines_in, has, has_all, is_named, first_named}
-use Rattle.ics_calendar.specs.Placed.{first_of, all_named}
+use Rattle.ics_calendar.specs.PlacedLines.{Placed, Open, context_of, value, closes, begins_observance, calendar_of, lines_in, has, has_all, is_named, first_named}
+use Rattle.ics_calendar.specs.PlacedLines.{first_of, all_named}
 use Rattle.ics_calendar.specs.Values.{ok_or_zero, is_filled, ends_badly}
 use Rattle.ics_calendar.specs.Faults.{dated_on, duration_on, parts_on, first_text, first_dated, field_names, stands, kinds}
 use Rattle.ics_calendar.proofs.Built.{collected_of, zone_of, observance_of}
-use Rattle.ics_calendar.specs.Zones.{onset_on, offset_on, daily_on, phase_by, begins_phase}
+use Rattle.ics_calendar.specs.Zones.{onset_on, offset_on, daily_on, observance_by, begins_in_zone}
 use Rattle.ics_calendar.proofs.Judged.{fault_in}
 use Rattle.ics_calendar.proofs.NameLemmas.{Tells, tells, component_name-of}
 use Rattle.ics_calendar.proofs.Rows.{Readings, flat, bad_end_of, has_observance, has_fields, is_bare, asked-same, frame_at, flat_of, fault_of, start_flag}
@@ -80,22 +80,22 @@ has-first f n (k ∷ ks) = by_test (is_named n k) (has-first f n ks)
     by_test false ih = ih
 
 -- the observances that begin on the lines, in a file of all these lines
-abbrev pub own : List Placed → Placed → Phase
-own whole l = phase_by (lines_in l.number whole)
+abbrev pub own : List Placed → Placed → ObservanceSaid
+own whole l = observance_by (lines_in l.number whole)
 
-abbrev pub parts : List Placed → List Placed → List Phase
-parts whole ls = map (own whole) (filter begins_phase ls)
+abbrev pub parts : List Placed → List Placed → List ObservanceSaid
+parts whole ls = map (own whole) (filter begins_in_zone ls)
 
 some-more : (n : ℕ) → not (suc n == 0) ≡ true
 some-more n = elim (eqb_tells (suc n) 0) [ inl e ↦ absurd (omega (arith, e.1)) | inr e ↦ ap not e.0 ]
 
-pub any-part : (whole ls : List Placed) → list_any begins_phase ls ≡ not (length (parts whole ls) == 0)
+pub any-part : (whole ls : List Placed) → list_any begins_in_zone ls ≡ not (length (parts whole ls) == 0)
 any-part whole [] = refl
-any-part whole (l ∷ ls) = by_test (begins_phase l) (any-part whole ls)
+any-part whole (l ∷ ls) = by_test (begins_in_zone l) (any-part whole ls)
   where
-    by_test : (t : Bool) → list_any begins_phase ls ≡ not (length (parts whole ls) == 0) →
-        (t || list_any begins_phase ls) ≡ not (length (map (own whole) (cond t (l ∷ filter begins_phase ls) (filter begins_phase ls))) == 0)
-    by_test true e = sym (some-more (length (map (own whole) (filter begins_phase ls))))
+    by_test : (t : Bool) → list_any begins_in_zone ls ≡ not (length (parts whole ls) == 0) →
+        (t || list_any begins_in_zone ls) ≡ not (length (map (own whole) (cond t (l ∷ filter begins_in_zone ls) (filter begins_in_zone ls))) == 0)
+    by_test true e = sym (some-more (length (map (own whole) (filter begins_in_zone ls))))
     by_test false e = e
 
 -- what is collected of some lines, where these components are open

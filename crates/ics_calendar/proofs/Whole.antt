@@ -13,7 +13,7 @@ use Rattle.ics_calendar.specs.FirstFault.{Fault, IsFirst, IsFirstOrLast, NoneSta
 use Rattle.ics_calendar.specs.Files.{DraftSaid, IsFile, bad_fold, file_of, draft_of, decide, said_of, wanted_names, wanted_on}
 use Rattle.ics_calendar.specs.Gathered.{drafted_of, nothing_gathered}
 use Rattle.ics_calendar.specs.Pass.{pass, bottom, unless, gathered_of}
-use Rattle.ics_calendar.specs.Placed.{Placed, placed}
+use Rattle.ics_calendar.specs.PlacedLines.{Placed, placed}
 use Rattle.ics_calendar.specs.Seen.{NumbersFit, SaysFile}
 use Rattle.ics_calendar.specs.Wanted.{zones_with}
 use Rattle.ics_calendar.proofs.Firsts.{Finds, finds, finds-none, found-at-end, found-on-line}

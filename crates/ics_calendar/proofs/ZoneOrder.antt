@@ -12,7 +12,7 @@ use Rattle.ics_calendar.specs.declared.deferred_check.ZoneName.{ZoneName}
 use Rattle.ics_calendar.specs.declared.name.Name.TheVariants as name
 use Rattle.ics_calendar.specs.Components.{component_of, context_in, is_calendar_context, is_zone_context}
 use Rattle.ics_calendar.specs.Names.{name_of}
-use Rattle.ics_calendar.specs.Placed.{Placed, Open, property_name, context_of, is_begin, begins, component, calendar_of, lines_in}
+use Rattle.ics_calendar.specs.PlacedLines.{Placed, Open, property_name, context_of, is_begin, begins, component, calendar_of, lines_in}
 use Rattle.ics_calendar.specs.Faults.{first_text}
 use Rattle.ics_calendar.proofs.Built.{zone_of}
 use Rattle.ics_calendar.specs.Builders.{zone_ended}

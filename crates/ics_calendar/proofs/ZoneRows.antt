@@ -1,9 +1,9 @@
 -- Worked time zones of files. What is expected is counted by hand.
 use Rattle.std.proofs.Common.{◌≡◌, ℕ, List, [], ◌∷◌, ◌++◌, map, refl, Some, None, ℤ, pos, negsuc}
 use Rattle.std.specs.Prelude.{codes, length}
-use Rattle.ics_zone.specs.Observances.{Phase}
+use Rattle.ics_zone.specs.Observances.{ObservanceSaid}
 use Rattle.ics_zone.specs.ZoneSaid.{ZoneSaid}
-use Rattle.ics_calendar.specs.Placed.{placed}
+use Rattle.ics_calendar.specs.PlacedLines.{placed}
 use Rattle.ics_calendar.specs.DeferredChecks.{zone_index}
 use Rattle.ics_calendar.specs.Zones.{zones_of, zone_names}
 use Rattle.ics_calendar.proofs.ExampleFiles.{calendar}
@@ -23,17 +23,17 @@ file =
     ++ zone (codes "B") (part (codes "+0100") []) ++ zone (codes "A") (part (codes "+0200") []))
     ++ calendar (zone (codes "A") (part (codes "+0300") []))
 
-abbrev phases_in : ZoneSaid → List Phase
-phases_in (ZoneSaid.ByObservances phases) = phases
-phases_in (ZoneSaid.ByFile file) = []
+abbrev observances_in : ZoneSaid → List ObservanceSaid
+observances_in (ZoneSaid.ByObservances observances) = observances
+observances_in (ZoneSaid.ByFile file) = []
 
 abbrev froms : List (List ℤ)
-froms = map (λ zone. map (λ (p : Phase). p.offset_from) (phases_in zone)) (zones_of (placed file))
+froms = map (λ zone. map (λ (p : ObservanceSaid). p.offset_from) (observances_in zone)) (zones_of (placed file))
 
 offsets : froms ≡ (negsuc 14_399 ∷ negsuc 10_799 ∷ []) ∷ (pos 3_600 ∷ []) ∷ (pos 7_200 ∷ []) ∷ (pos 10_800 ∷ []) ∷ []
 offsets = refl
 
-dates : map (λ zone. map (λ (p : Phase). length p.rdates) (phases_in zone)) (zones_of (placed file)) ≡ (3 ∷ 0 ∷ []) ∷ (0 ∷ []) ∷ (0 ∷ []) ∷ (0 ∷ []) ∷ []
+dates : map (λ zone. map (λ (p : ObservanceSaid). length p.rdates) (observances_in zone)) (zones_of (placed file)) ≡ (3 ∷ 0 ∷ []) ∷ (0 ∷ []) ∷ (0 ∷ []) ∷ (0 ∷ []) ∷ []
 dates = refl
 
 first_a : zone_index (zone_names (placed file)) (record { calendar = 1; name = codes "A" }) ≡ Some 0

@@ -1,7 +1,7 @@
 -- What has been read of an event, of a time zone and of an observance, and what each is at its END.
 use Rattle.std.specs.Prelude.{ℕ, false, [], Option, None, option_map, unwrap_or, pos}
 use Rattle.ics_values.specs.Locals.{local_at}
-use Rattle.ics_zone.specs.Observances.{Phase}
+use Rattle.ics_zone.specs.Observances.{ObservanceSaid}
 use Rattle.ics_calendar.specs.declared.builder.Builder.{Builder}
 use Rattle.ics_calendar.specs.declared.builder.Builder.TheVariants as builder
 use Rattle.ics_calendar.specs.declared.builder.ObservanceBuilder.{ObservanceBuilder}
@@ -85,7 +85,7 @@ fresh _ = builder.Nothing
 abbrev pub zone_ended : ℕ → ZoneBuilder → EndedZone
 zone_ended calendar had = record { name = record { calendar = calendar; name = unwrap_or had.name [] }; observances = had.observances }
 
-abbrev pub observance_ended : ObservanceBuilder → Phase
+abbrev pub observance_ended : ObservanceBuilder → ObservanceSaid
 observance_ended had = record {
   start = unwrap_or had.start (local_at (pos 0) 0);
   offset_from = unwrap_or had.from (pos 0);

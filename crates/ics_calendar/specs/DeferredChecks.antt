@@ -16,7 +16,8 @@ use Rattle.ics_calendar.specs.declared.deferred_check.Instant.TheVariants as ins
 use Rattle.ics_calendar.specs.declared.deferred_check.DeferredCheck.{DeferredCheck}
 use Rattle.ics_calendar.specs.declared.deferred_check.DeferredCheck.TheVariants as check
 use Rattle.ics_calendar.specs.declared.deferred_check.ZoneName.{ZoneName}
-use Rattle.ics_calendar.specs.Event.{seconds_of, is_zoned}
+use Rattle.ics_calendar.specs.Event.{is_zoned}
+use Rattle.ics_values.specs.Locals.{local_seconds}
 use Rattle.ics_calendar.specs.GivenFiles.{GivenFiles, given_names, given_zones, bad_names}
 use Rattle.ics_calendar.specs.Values.{same_zone, is_out}
 
@@ -47,7 +48,7 @@ with_files known files names = record {
 
 -- the instant that a local means in the zone with an index, and in the one that a name stands for
 abbrev pub moment_at : List ZoneSaid → Local → ℕ → Option ℤ
-moment_at zones local index = option_map (λ zone. said_moment zone (seconds_of local)) (slice_get zones index)
+moment_at zones local index = option_map (λ zone. said_moment zone (local_seconds local)) (slice_get zones index)
 
 abbrev pub moment_there : KnownZones → ZoneName → Local → Option ℤ
 moment_there known name local = option_and_then (moment_at known.zones local) (known.index name)
@@ -65,7 +66,7 @@ abbrev pub zone_used : ℕ → Dated → ZoneName
 zone_used calendar dated = zone_named calendar dated.zone
 
 abbrev pub moment_on : KnownZones → ZoneName → Stamp → Option ℤ
-moment_on known name (stamp.Utc local) = Some (seconds_of local)
+moment_on known name (stamp.Utc local) = Some (local_seconds local)
 moment_on known name (stamp.Zoned local) = moment_there known name local
 moment_on known name _ = None
 
@@ -84,7 +85,7 @@ ends_badly_later known calendar _ _ = false
 
 -- WHAT A CHECK FINDS.
 abbrev pub moment_of : KnownZones → Instant → Option ℤ
-moment_of known (instant.Utc local) = Some (seconds_of local)
+moment_of known (instant.Utc local) = Some (local_seconds local)
 moment_of known (instant.Zoned local name) = moment_there known name local
 
 abbrev pub ends_out : KnownZones → Instant → Instant → Bool

@@ -14,6 +14,7 @@ use Rattle.ics_calendar.specs.declared.time.Length.{Length}
 use Rattle.ics_calendar.specs.declared.time.Length.TheVariants.{Open, Until, Lasting}
 use Rattle.ics_calendar.specs.declared.time.Rdate.{Rdate}
 use Rattle.ics_calendar.specs.declared.time.Rdate.TheVariants.{At, Span}
+use Rattle.ics_values.specs.Locals.{local_seconds}
 
 -- An event.
 pub record EventSeen : Type 0 where
@@ -56,15 +57,12 @@ pub record IsTime (time : Time) : Type 0 where
 abbrev pub longest : ℕ
 longest = 36_525 * 86_400
 
-abbrev pub seconds_of : Local → ℤ
-seconds_of local = local.day *ℤ pos 86_400 +ℤ pos local.second
-
 -- the seconds of a stamp's local
 abbrev pub stamp_seconds : Stamp → ℤ
 stamp_seconds (Date day) = day *ℤ pos 86_400
-stamp_seconds (Floating local) = seconds_of local
-stamp_seconds (Utc local) = seconds_of local
-stamp_seconds (Zoned local) = seconds_of local
+stamp_seconds (Floating local) = local_seconds local
+stamp_seconds (Utc local) = local_seconds local
+stamp_seconds (Zoned local) = local_seconds local
 
 -- The end is not before the start, nor past the longest event from there.
 pub record IsWithin (start end : ℤ) : Type 0 where
@@ -74,8 +72,8 @@ pub record IsWithin (start end : ℤ) : Type 0 where
 -- An end of the same kind as the start and within reach of it. (A zoned one is read as an instant, in its zone.)
 abbrev pub IsEnd : Stamp → Stamp → Type 0
 IsEnd (Date a) (Date b) = IsWithin (a *ℤ pos 86_400) (b *ℤ pos 86_400)
-IsEnd (Floating a) (Floating b) = IsWithin (seconds_of a) (seconds_of b)
-IsEnd (Utc a) (Utc b) = IsWithin (seconds_of a) (seconds_of b)
+IsEnd (Floating a) (Floating b) = IsWithin (local_seconds a) (local_seconds b)
+IsEnd (Utc a) (Utc b) = IsWithin (local_seconds a) (local_seconds b)
 IsEnd (Utc a) (Zoned b) = Unit {0}
 IsEnd (Zoned a) (Utc b) = Unit {0}
 IsEnd (Zoned a) (Zoned b) = Unit {0}
@@ -132,13 +130,13 @@ pub record HasZonesBelow (zones : ℕ) (event : EventSeen) : Type 0 where
 
 -- the instant that a local means in a zone, if there is one
 abbrev pub moment_by : Option ZoneSaid → Local → ℤ
-moment_by (Some zone) local = said_moment zone (seconds_of local)
-moment_by None local = seconds_of local
+moment_by (Some zone) local = said_moment zone (local_seconds local)
+moment_by None local = local_seconds local
 
 -- the instant of a stamp in UTC, or in one of these zones
 abbrev pub moment_in : List ZoneSaid → Option ℕ → Stamp → ℤ
 moment_in zones (Some index) (Zoned local) = moment_by (slice_get zones index) local
-moment_in zones _ (Utc local) = seconds_of local
+moment_in zones _ (Utc local) = local_seconds local
 moment_in zones _ _ = pos 0
 
 abbrev pub is_one_zone : Option ℕ → Option ℕ → Bool

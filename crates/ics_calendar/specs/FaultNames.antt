@@ -30,6 +30,6 @@ kind_name kind.Exrule = codes "Exrule"
 kind_name kind.OldVersion = codes "OldVersion"
 kind_name kind.BadZoneFile = codes "BadZoneFile"
 
-abbrev pub fault_name : FileFault → List ℕ
-fault_name fault.Memory = codes "Memory"
-fault_name (fault.At line kind) = kind_name kind
+abbrev pub file_fault_name : FileFault → List ℕ
+file_fault_name fault.Memory = codes "Memory"
+file_fault_name (fault.At line kind) = kind_name kind

@@ -24,9 +24,9 @@ use Rattle.ics_calendar.specs.declared.fault.FaultKind.{FaultKind}
 use Rattle.ics_calendar.specs.declared.fault.FaultKind.TheVariants.{BadLine, BadStamp, BadDuration, BadOffset, BadRule, YearRange, NumberTooLarge, NoObservance}
 use Rattle.ics_calendar.specs.declared.fault.FaultKind.TheVariants.{ObservanceField, ZoneRule, NotCalendar, BadNesting, TooDeep, MissingUid, MissingStart}
 use Rattle.ics_calendar.specs.declared.fault.FaultKind.TheVariants.{Repeated, BadEnd, UnknownZone, ThisAndFuture, Exrule, OldVersion, BadZoneFile}
-use Rattle.ics_calendar.specs.Placed.{Placed, context_of, property_name, value, params_of, is_named, is_one_of, param, is_begin, is_end, is_outside}
-use Rattle.ics_calendar.specs.Placed.{in_calendar, in_event, in_observance, calendar_of, begins, is_closing, ends_event, ends_zone, begins_observance, has}
-use Rattle.ics_calendar.specs.Placed.{has_all, first_named}
+use Rattle.ics_calendar.specs.PlacedLines.{Placed, context_of, property_name, value, params_of, is_named, is_one_of, param, is_begin, is_end, is_outside}
+use Rattle.ics_calendar.specs.PlacedLines.{in_calendar, in_event, in_observance, calendar_of, begins, is_closing, ends_event, ends_zone, begins_observance, has}
+use Rattle.ics_calendar.specs.PlacedLines.{has_all, first_named}
 use Rattle.ics_calendar.specs.DeferredChecks.{KnownZones, zone_named, ends_badly_later}
 use Rattle.ics_calendar.specs.DateLists.{rdate_list, exdate_list}
 use Rattle.ics_calendar.specs.Event.{is_zoned}

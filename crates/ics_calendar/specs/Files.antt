@@ -10,7 +10,7 @@ use Rattle.ics_calendar.specs.Event.{EventSeen, FileSaid}
 use Rattle.ics_calendar.specs.DeferredChecks.{KnownZones}
 use Rattle.ics_calendar.specs.GivenFiles.{GivenFiles}
 use Rattle.ics_calendar.specs.Wanted.{each_once, unknown_names, zones_with}
-use Rattle.ics_calendar.specs.Placed.{Placed, placed, value, in_calendar, begins, calendar_of, lines_in, first_named, all_named}
+use Rattle.ics_calendar.specs.PlacedLines.{Placed, placed, value, in_calendar, begins, calendar_of, lines_in, first_named, all_named}
 use Rattle.ics_calendar.specs.Times.{time_on, dated_in, given_length, length_of}
 use Rattle.ics_calendar.specs.Values.{ok_or_zero, is_cancelled}
 use Rattle.ics_calendar.specs.Faults.{first_text, first_dated, duration_on, parts_on, rdates_on, exdates_on, stands, stands_later}

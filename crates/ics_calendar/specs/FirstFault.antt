@@ -3,7 +3,7 @@ use Rattle.std.specs.Prelude.{◌≡◌, ◌⊎◌, ℕ, ◌+◌, Bool, true, fa
 pub use Rattle.ics_calendar.specs.declared.fault.Fault.{Fault}
 use Rattle.ics_calendar.specs.declared.fault.FaultKind.{FaultKind}
 use Rattle.ics_calendar.specs.declared.fault.FaultKind.TheVariants.{NotCalendar, BadNesting}
-use Rattle.ics_calendar.specs.Placed.{Placed, Open, path_behind, beside}
+use Rattle.ics_calendar.specs.PlacedLines.{Placed, Open, path_behind, beside}
 use Rattle.ics_calendar.specs.Faults.{stands, stands_later, kinds}
 use Rattle.ics_calendar.specs.GivenFiles.{GivenFiles}
 use Rattle.ics_calendar.specs.Wanted.{zones_with}

@@ -2,7 +2,7 @@ pub mod Event
 pub mod FaultNames
 pub mod Names
 pub mod Components
-pub mod Placed
+pub mod PlacedLines
 pub mod Values
 pub mod DateValues
 pub mod DateLists

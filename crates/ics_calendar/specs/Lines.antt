@@ -4,7 +4,7 @@ use Rattle.std.specs.Prelude.{Result, Ok, Err, ℤ, ◌≡◌, if◌then◌else�
 use Rattle.std.specs.List.{list_any}
 use Rattle.std.specs.Str.{bytes_eq}
 use Rattle.ics_text.specs.Bytes.{upper}
-use Rattle.ics_text.specs.Contents.{Parts, param_of}
+use Rattle.ics_text.specs.ContentLines.{Parts, param_of}
 use Rattle.ics_values.specs.Integers.{integer_of}
 use Rattle.ics_values.specs.Offsets.{offset_of}
 use Rattle.ics_values.specs.Plain.{text_of}
@@ -24,7 +24,7 @@ use Rattle.ics_values.specs.declared.stamp.Stamp.{Stamp}
 use Rattle.ics_values.specs.declared.stamp.Stamp.TheVariants as stamp
 use Rattle.ics_values.specs.declared.stamp.StampFault.{StampFault}
 use Rattle.ics_values.specs.declared.stamp.StampFault.TheVariants as stamp_fault
-use Rattle.ics_zone.specs.Observances.{Phase}
+use Rattle.ics_zone.specs.Observances.{ObservanceSaid}
 use Rattle.ics_calendar.specs.declared.event_builder.EventBuilder.{EventBuilder}
 use Rattle.ics_calendar.specs.declared.component.Component.{Component}
 use Rattle.ics_calendar.specs.declared.component.Component.TheVariants as component
@@ -59,7 +59,8 @@ use Rattle.ics_calendar.specs.Builders.{event_ended, fresh, zone_ended, observan
 use Rattle.ics_calendar.specs.Components.{component_of, component_name, context_in}
 use Rattle.ics_calendar.specs.DateLists.{zone_listed, rdate_list, exdate_list}
 use Rattle.ics_calendar.specs.DateValues.{rdates_of, exdates_of, has_bad_stamp, has_far_stamp, has_bad_duration, has_large_duration, has_zoned, is_not_local}
-use Rattle.ics_calendar.specs.Event.{seconds_of, is_zoned}
+use Rattle.ics_calendar.specs.Event.{is_zoned}
+use Rattle.ics_values.specs.Locals.{local_seconds}
 use Rattle.ics_calendar.specs.DeferredChecks.{zone_used, are_of_one_zone}
 use Rattle.ics_calendar.specs.Names.{name_of}
 use Rattle.ics_calendar.specs.Values.{zone_name, stamp_read, dated_of, lasting_of, duration_in, rule_in, ok_or_zero, is_cancelled, is_fine_rule, is_filled}
@@ -209,7 +210,7 @@ instant_in calendar dated = instant_on (zone_used calendar dated) dated.stamp
 
 -- Times of UTC compare at once, and other instants when the zones are known.
 abbrev pub compared : Instant → Instant → Option DeferredCheck
-compared (instant.Utc a) (instant.Utc b) = if is_out (seconds_of a) (seconds_of b) then Some check.End else None
+compared (instant.Utc a) (instant.Utc b) = if is_out (local_seconds a) (local_seconds b) then Some check.End else None
 compared a b = Some (check.Ends a b)
 
 abbrev pub both_compared : Option Instant → Option Instant → Option DeferredCheck
@@ -295,11 +296,11 @@ zone_end calendar had = unless (end_of_zone had) (zone_ended calendar had)
 abbrev pub end_of_observance : ObservanceBuilder → Option FaultKind
 end_of_observance had = if is_some had.start && is_some had.from && is_some had.to then None else Some kind.ObservanceField
 
-abbrev pub observance_end : ObservanceBuilder → Result Phase FaultKind
+abbrev pub observance_end : ObservanceBuilder → Result ObservanceSaid FaultKind
 observance_end had = unless (end_of_observance had) (observance_ended had)
 
 -- a time zone keeps an observance that ends directly in it
-abbrev pub with_observance : Phase → Builder → Builder
+abbrev pub with_observance : ObservanceSaid → Builder → Builder
 with_observance observance (builder.Zone had) = builder.Zone (record had { observances = had.observances ++ observance ∷ [] })
 with_observance observance s = s
 

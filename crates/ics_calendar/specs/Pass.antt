@@ -1,7 +1,7 @@
 -- One pass over the lines with the components that are open, the innermost first, each with what has been read of it.
 use Rattle.std.specs.Prelude.{ℕ, ◌+◌, Bool, true, false, List, [], ◌∷◌, Option, Some, None, Result, Ok, Err, if◌then◌else◌}
 use Rattle.ics_text.specs.Unfolded.{Line, unfolded, begins_with_fold}
-use Rattle.ics_text.specs.Contents.{Parts, content_of}
+use Rattle.ics_text.specs.ContentLines.{Parts, content_of}
 use Rattle.ics_calendar.specs.declared.component.Component.TheVariants as component
 use Rattle.ics_calendar.specs.declared.component.Context.TheVariants as context
 use Rattle.ics_calendar.specs.declared.fault.Fault.{Fault}

@@ -4,7 +4,7 @@ use Rattle.std.specs.Prelude.{Result, Ok, Err, ℤ, pos, ◌+ℤ◌, ◌*ℤ◌,
 use Rattle.std.specs.Result.{result_ok}
 use Rattle.std.specs.Str.{bytes_eq}
 use Rattle.ics_text.specs.Bytes.{upper}
-use Rattle.ics_text.specs.Contents.{param_of}
+use Rattle.ics_text.specs.ContentLines.{param_of}
 use Rattle.ics_values.specs.Durations.{duration_of}
 use Rattle.ics_values.specs.RuleParts.{RuleParts, every}
 use Rattle.ics_values.specs.Texts.{begins, is_minus}
@@ -24,7 +24,8 @@ use Rattle.ics_values.specs.declared.offset.BadOffset.{BadOffset}
 use Rattle.ics_values.specs.declared.rule_text.RuleFault.{RuleFault}
 use Rattle.ics_values.specs.declared.rule_text.RuleFault.TheVariants as rule
 use Rattle.ics_calendar.specs.declared.dated.Dated.{Dated}
-use Rattle.ics_calendar.specs.Event.{longest, seconds_of}
+use Rattle.ics_calendar.specs.Event.{longest}
+use Rattle.ics_values.specs.Locals.{local_seconds}
 
 -- the name of the zone that the parameters of a line give
 abbrev pub zone_name : List ℕ → Option (List ℕ)
@@ -134,8 +135,8 @@ is_out start end = int_lt end start || int_lt (start +ℤ pos longest) end
 -- Which ends are bad before any zone is known: one of another kind than the start, and one out of its reach where both are dates, floating, or of one TZID.
 abbrev pub is_bad_end : Bool → Stamp → Stamp → Bool
 is_bad_end one_zone (Date a) (Date b) = is_out (a *ℤ pos 86_400) (b *ℤ pos 86_400)
-is_bad_end one_zone (Floating a) (Floating b) = is_out (seconds_of a) (seconds_of b)
-is_bad_end one_zone (Zoned a) (Zoned b) = one_zone && is_out (seconds_of a) (seconds_of b)
+is_bad_end one_zone (Floating a) (Floating b) = is_out (local_seconds a) (local_seconds b)
+is_bad_end one_zone (Zoned a) (Zoned b) = one_zone && is_out (local_seconds a) (local_seconds b)
 is_bad_end one_zone (Zoned a) (Utc b) = false
 is_bad_end one_zone (Utc a) (Zoned b) = false
 is_bad_end one_zone (Utc a) (Utc b) = false

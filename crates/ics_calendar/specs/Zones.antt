@@ -12,14 +12,14 @@ use Rattle.ics_values.specs.Stamps.{stamp_of}
 use Rattle.ics_values.specs.declared.stamp.Stamp.{Stamp}
 use Rattle.ics_values.specs.declared.stamp.Stamp.TheVariants.{Floating}
 use Rattle.ics_values.specs.declared.stamp.StampFault.{StampFault}
-use Rattle.ics_zone.specs.Observances.{Phase}
+use Rattle.ics_zone.specs.Observances.{ObservanceSaid}
 use Rattle.ics_zone.specs.ZoneSaid.{ZoneSaid}
 use Rattle.ics_calendar.specs.declared.date_values.DateValue.{DateValue}
 use Rattle.ics_calendar.specs.declared.date_values.DateValue.TheVariants.{At}
 use Rattle.ics_calendar.specs.declared.deferred_check.ZoneName.{ZoneName}
 use Rattle.ics_calendar.specs.Faults.{first_text, rule_on}
 use Rattle.ics_calendar.specs.DeferredChecks.{KnownZones, known_zones}
-use Rattle.ics_calendar.specs.Placed.{Placed, value, in_calendar, in_zone, begins, begins_observance, calendar_of, lines_in, first_named, all_named}
+use Rattle.ics_calendar.specs.PlacedLines.{Placed, value, in_calendar, in_zone, begins, begins_observance, calendar_of, lines_in, first_named, all_named}
 use Rattle.ics_calendar.specs.DateValues.{rdates_of}
 use Rattle.ics_calendar.specs.Values.{is_fine_rule, rule_in}
 
@@ -53,8 +53,8 @@ abbrev pub onsets_by : Placed → List Local
 onsets_by line = filter_map local_in (rdates_of false (value line))
 
 -- An observance, by the lines that stand directly in it. An accepted file has its fields.
-abbrev pub phase_by : List Placed → Phase
-phase_by own = record {
+abbrev pub observance_by : List Placed → ObservanceSaid
+observance_by own = record {
   start = unwrap_or (option_map onset_on (first_named (codes "DTSTART") own)) (local_at (pos 0) 0);
   offset_from = unwrap_or (option_map offset_on (first_named (codes "TZOFFSETFROM") own)) (pos 0);
   offset_to = unwrap_or (option_map offset_on (first_named (codes "TZOFFSETTO") own)) (pos 0);
@@ -66,12 +66,12 @@ phase_by own = record {
 abbrev pub begins_zone : Placed → Bool
 begins_zone line = in_calendar line && begins (codes "VTIMEZONE") line
 
-abbrev pub begins_phase : Placed → Bool
-begins_phase line = in_zone line && begins_observance line
+abbrev pub begins_in_zone : Placed → Bool
+begins_in_zone line = in_zone line && begins_observance line
 
 -- The observances of the time zone that begins on that line, in the order of their BEGIN lines.
-abbrev pub zone_by : List Placed → ℕ → List Phase
-zone_by lines begun = map (λ l. phase_by (lines_in l.number lines)) (filter begins_phase (lines_in begun lines))
+abbrev pub zone_by : List Placed → ℕ → List ObservanceSaid
+zone_by lines begun = map (λ l. observance_by (lines_in l.number lines)) (filter begins_in_zone (lines_in begun lines))
 
 -- The time zones of all calendars, in the order of their BEGIN lines.
 abbrev pub zones_of : List Placed → List ZoneSaid

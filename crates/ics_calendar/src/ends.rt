@@ -1,6 +1,6 @@
 //! The end of an event against its start (RFC 5545, section 3.8.2.2).
 ghost use Rattle.std.specs.Prelude.{◌≡◌, pos, ◌*ℤ◌, IfOk};
-ghost use Rattle.ics_calendar.specs.Event.{seconds_of};
+ghost use Rattle.ics_values.specs.Locals.{local_seconds};
 ghost use Rattle.ics_calendar.specs.DeferredChecks.{are_of_one_zone};
 ghost use Rattle.ics_calendar.specs.Lines.{compared, ends_in};
 ghost use Rattle.ics_calendar.specs.Values.{is_out, is_bad_end, same_zone, ends_badly};
@@ -21,7 +21,7 @@ fn day_seconds(day: i32) -> i64
 
 /// The seconds of a local on a clock without zones.
 pub fn seconds_of(local: Local) -> i64
-    ensures { result ≡ seconds_of local }
+    ensures { result ≡ local_seconds local }
 {
     day_seconds(local.day) + i64::from(local.second)
 }

@@ -1,6 +1,6 @@
 //! Why a file is refused.
 ghost use Rattle.std.specs.Prelude.{◌≡◌};
-ghost use Rattle.ics_calendar.specs.FaultNames.{kind_name, fault_name};
+ghost use Rattle.ics_calendar.specs.FaultNames.{kind_name, file_fault_name};
 
 use std::error::Error;
 use std::fmt;
@@ -117,7 +117,7 @@ impl Error for FaultKind {}
 impl FileFault {
     /// The name of the fault, as it is printed; for a fault on a line, that of its kind.
     pub fn name(&self) -> &'static str
-        ensures { result.now ≡ fault_name self.now }
+        ensures { result.now ≡ file_fault_name self.now }
     {
         match self {
             FileFault::Memory => "Memory",

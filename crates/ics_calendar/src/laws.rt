@@ -7,7 +7,7 @@ ghost use Rattle.ics_calendar.specs.Event.{FileSaid};
 ghost use Rattle.ics_calendar.specs.FirstFault.{Fault};
 ghost use Rattle.ics_calendar.specs.GivenFiles.{GivenFiles, no_files};
 ghost use Rattle.ics_calendar.specs.Files.{FaultsLookBack, IsFile, file_of, wanted_names};
-ghost use Rattle.ics_calendar.specs.Placed.{Placed};
+ghost use Rattle.ics_calendar.specs.PlacedLines.{Placed};
 ghost use Rattle.ics_calendar.specs.Wanted.{zones_with};
 ghost use Rattle.ics_calendar.specs.Zones.{zones_on};
 

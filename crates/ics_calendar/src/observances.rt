@@ -1,9 +1,9 @@
 //! The observances of a time zone (RFC 5545, section 3.6.5).
 ghost use Rattle.std.specs.Prelude.{◌≡◌, ◌≢◌, ◌==◌, ◌++◌, ◌∷◌, [], length, false, IfOk};
 ghost use Rattle.std.specs.List.{All, list_any};
-ghost use Rattle.ics_zone.specs.Observances.{phase_of, phases_of, has_finer_rule};
+ghost use Rattle.ics_zone.specs.Observances.{observance_said, observances_said, has_finer_rule};
 ghost use Rattle.ics_zone.specs.ZoneSaid.{ZoneSaid, zone_said};
-ghost use Rattle.ics_calendar.specs.ZonesSound.{IsSoundPhase, IsSoundZone};
+ghost use Rattle.ics_calendar.specs.ZonesSound.{IsSoundObservance, IsSoundZone};
 
 use crate::locals::Locals;
 use crate::rule_value::{RuleValue, parts_of};
@@ -23,9 +23,9 @@ pub struct EndedObservance {
 }
 
 impl Model for EndedObservance {
-    ghost use Rattle.ics_zone.specs.Observances.{Phase};
+    ghost use Rattle.ics_zone.specs.Observances.{ObservanceSaid};
 
-    ghost Value = { Phase };
+    ghost Value = { ObservanceSaid };
 
     ghost view = { λ a. record { start = a.start; offset_from = a.offset_from; offset_to = a.offset_to; rule = a.rule; rdates = a.rdates } };
 }
@@ -38,9 +38,9 @@ pub struct Observances {
 
 impl Model for Observances {
     ghost use Rattle.std.specs.Prelude.{List};
-    ghost use Rattle.ics_zone.specs.Observances.{Phase};
+    ghost use Rattle.ics_zone.specs.Observances.{ObservanceSaid};
 
-    ghost Value = { List Phase };
+    ghost Value = { List ObservanceSaid };
 
     ghost view = { λ a. a.list.items };
 }
@@ -48,8 +48,8 @@ impl Model for Observances {
 impl EndedObservance {
     /// The observance, where no fault stands on its lines.
     fn into_observance(self) -> Observance
-        requires { IsSoundPhase self }
-        ensures { phase_of result ≡ self }
+        requires { IsSoundObservance self }
+        ensures { observance_said result ≡ self }
     {
         Observance {
             start: self.start,
@@ -64,8 +64,8 @@ impl EndedObservance {
 /// The time zone of these observances.
 fn zone_of(alloc: Global, observances: Vec<Observance>) -> Result<Zone, AllocError>
     requires filled { observances.items ≢ [] }
-    requires daily { list_any has_finer_rule (phases_of observances.items) ≡ false }
-    ensures { IfOk result (λ zone. zone_said zone ≡ ZoneSaid.ByObservances (phases_of observances.items)) }
+    requires daily { list_any has_finer_rule (observances_said observances.items) ≡ false }
+    ensures { IfOk result (λ zone. zone_said zone ≡ ZoneSaid.ByObservances (observances_said observances.items)) }
 {
     match Zone::read(alloc, observances) {
         Ok(zone) => Ok(zone),
@@ -101,8 +101,8 @@ impl Observances {
 
     /// The observances, where no fault stands on their lines.
     fn into_observances(self, alloc: Global) -> Result<Vec<Observance>, AllocError>
-        requires { All IsSoundPhase self }
-        ensures { IfOk result (λ made. phases_of made.items ≡ self) }
+        requires { All IsSoundObservance self }
+        ensures { IfOk result (λ made. observances_said made.items ≡ self) }
     {
         let mut made = Vec::new(alloc);
         for observance in self.list {

@@ -6,10 +6,10 @@ use Rattle.jiff_core.specs.Weekday.{monday_zero}
 use Rattle.ics_values.specs.declared.frequency.Frequency.{Frequency}
 use Rattle.ics_values.specs.declared.frequency.Frequency.TheVariants.{Secondly, Minutely, Hourly, Daily, Weekly, Monthly, Yearly}
 use Rattle.ics_values.specs.Days.{days_before_year, year_of, month_of}
-use Rattle.ics_rule.specs.declared.filled.Filled.{Filled}
-use Rattle.ics_rule.specs.Locals.{period, day_of}
+use Rattle.ics_rule.specs.declared.effective_rule.EffectiveRule.{EffectiveRule}
+use Rattle.ics_rule.specs.PeriodNumbers.{period, day_of}
 use Rattle.ics_rule.specs.Candidates.{lets, lets_date, lets_clock, is_stepped, period_in}
-use Rattle.ics_rule.specs.Periods.{first_local}
+use Rattle.ics_rule.specs.RecurrencePeriods.{first_local}
 use Rattle.ics_rule.specs.Rounds.{calendar_periods, IsCalendarRound, IsRound, IsEvenRound}
 use Rattle.ics_rule.proofs.RoundLemmas.{clock_alike, let_in_alike, step_repeats}
 use Rattle.ics_rule.proofs.EvenLemmas.{even_of_round}
@@ -50,7 +50,7 @@ first_again Yearly w p k h =
     let same = ap days_before_year (let order : p + k * 400 ≡ p + 400 * k = omega arith in order) in
     omega (arith, before, same)
 
-clock_again : (q : Filled) (n k : ℕ) → lets_clock q (n + k * 12_622_780_800) ≡ lets_clock q n
+clock_again : (q : EffectiveRule) (n k : ℕ) → lets_clock q (n + k * 12_622_780_800) ≡ lets_clock q n
 clock_again q n k = clock_alike q (n + k * 12_622_780_800) n
     (let same : (n + k * 12_622_780_800) / 3_600 % 24 ≡ n / 3_600 % 24 = omega arith in ap (lets q.hours) same)
     (let same : (n + k * 12_622_780_800) / 60 % 60 ≡ n / 60 % 60 = omega arith in ap (lets q.minutes) same)
@@ -66,7 +66,7 @@ some_periods Monthly = omega arith
 some_periods Yearly = omega arith
 
 -- so many periods are whole steps
-pub calendar_step : (q : Filled) (periods : ℕ) → IsCalendarRound q periods → (first p : ℕ) → first ≤ p → is_stepped first q.interval (p + periods) ≡ is_stepped first q.interval p
+pub calendar_step : (q : EffectiveRule) (periods : ℕ) → IsCalendarRound q periods → (first p : ℕ) → first ≤ p → is_stepped first q.interval (p + periods) ≡ is_stepped first q.interval p
 calendar_step q periods round first p l =
     let parts = div-add-mod' periods q.interval in
     let swap = mul_comm q.interval (periods / q.interval) in
@@ -74,7 +74,7 @@ calendar_step q periods round first p l =
     ap (λ x. is_stepped first q.interval (p + x)) (let same : periods ≡ q.interval * (periods / q.interval) = omega (arith, parts, swap, whole) in same)
     ∙ step_repeats q.interval (periods / q.interval) first p l
 
-pub calendar_is : (q : Filled) (periods : ℕ) (round : IsCalendarRound q periods) → IsRound q periods (round.cycles * 12_622_780_800)
+pub calendar_is : (q : EffectiveRule) (periods : ℕ) (round : IsCalendarRound q periods) → IsRound q periods (round.cycles * 12_622_780_800)
 calendar_is q periods round = record {
   some = positive round.cycles (calendar_periods q.frequency) periods round.whole round.some (some_periods q.frequency);
   step = calendar_step q periods round;
@@ -90,6 +90,6 @@ calendar_is q periods round = record {
     positive zero b c e h l = absurd (omega (arith, h))
     positive (suc a) zero c e h l = absurd (omega (arith, l))
 
-pub even_of_calendar : (q : Filled) (o : Option ℕ) → MatchOption o (Unit {0}) (IsCalendarRound q) → MatchOption o (Unit {0}) (λ k. (start : ℕ) → IsEvenRound q start k)
+pub even_of_calendar : (q : EffectiveRule) (o : Option ℕ) → MatchOption o (Unit {0}) (IsCalendarRound q) → MatchOption o (Unit {0}) (λ k. (start : ℕ) → IsEvenRound q start k)
 even_of_calendar q None t = tt
 even_of_calendar q (Some k) t = λ start. even_of_round q start k (t.cycles * 12_622_780_800) (calendar_is q k t)

@@ -4,8 +4,8 @@ use Rattle.std.specs.Option.{option_map}
 use Rattle.ics_values.specs.declared.local.Local.{Local}
 use Rattle.ics_rule.specs.declared.cursor.Cursor.{Cursor}
 use Rattle.ics_rule.specs.Recurrence.{Recurrence}
-use Rattle.ics_rule.specs.Locals.{number}
-use Rattle.ics_rule.specs.Filled.{filled}
+use Rattle.ics_values.specs.Locals.{number}
+use Rattle.ics_rule.specs.EffectiveRules.{effective}
 use Rattle.ics_rule.specs.Cursors.{known_to, looks_from, period_count, steps_of, HasLooked, IsCursorOf}
 use Rattle.ics_rule.specs.Calls.{AreCalls, Call, FewSteps, IsAnswer}
 use Rattle.ics_rule.proofs.CursorLemmas.{few_steps}
@@ -16,17 +16,17 @@ known_within r bound None before now is = omega arith
 known_within r bound (Some local) before now is = omega (arith, is.0.in_bound)
 
 calls_looked : (r : Recurrence) (a b : ℕ) (calls : List Call) (before now : Cursor) → AreCalls r b calls before now → IsCursorOf r before × HasLooked r before a b → IsCursorOf r now × HasLooked r now a b
-calls_looked r a b [] before now are has = subst (λ c. IsCursorOf r c × HasLooked r c a b) (sym are) has
-calls_looked r a b (call ∷ calls) before now are has =
+calls_looked r a b [] before now are contains = subst (λ c. IsCursorOf r c × HasLooked r c a b) (sym are) contains
+calls_looked r a b (call ∷ calls) before now are contains =
     let within = known_within r (number call.bound) call.answer before call.now are.0.next in
-    calls_looked r a b calls call.now now are.1 (are.0.own, are.0.looked a b (omega (arith, within, are.0.bound)) has.1)
+    calls_looked r a b calls call.now now are.1 (are.0.own, are.0.looked a b (omega (arith, within, are.0.bound)) contains.1)
 
 few : (r : Recurrence) (a b : ℕ) (c : Cursor) → IsCursorOf r c → HasLooked r c a b → steps_of c ≤ period_count r a b
 unfolding period_count IsCursorOf HasLooked
-few r a b c own looked = few_steps (filled r) (number r.start) r.parts.count c a b own looked
+few r a b c own looked = few_steps (effective r) (number r.start) r.parts.count c a b own looked
 
 pub few_looks : FewSteps
 few_looks r from b first now calls set are =
     let a = looks_from r.parts.count (number r.start) from in
-    let has = calls_looked r a b calls first now are (set.own, set.looked b) in
-    few r a b now has.0 has.1
+    let contains = calls_looked r a b calls first now are (set.own, set.looked b) in
+    few r a b now contains.0 contains.1

@@ -1,14 +1,14 @@
 -- What a rule chooses within a period is what the product that holds the period takes.
 use Rattle.std.proofs.Common.{◌≡◌, ℕ, suc, ◌+◌, ◌⊎◌, inl, inr, ◌≢◌, Bool, true, false, cond, ◌&&◌, ◌==◌, refl, sym, ap, ◌∙◌, arith}
 use Rattle.std.proofs.lemmas.Bool.Decides.{nat_tests}
-use Rattle.ics_values.specs.declared.places.WidePlaces.{WidePlaces}
-use Rattle.ics_values.specs.Places.{lists_none_wide}
-use Rattle.ics_rule.specs.declared.filled.Filled.{Filled}
-use Rattle.ics_rule.specs.declared.period.Period.{Period}
-use Rattle.ics_rule.specs.Locals.{day_of, calendar_end}
+use Rattle.ics_values.specs.declared.ordinals.WideOrdinals.{WideOrdinals}
+use Rattle.ics_values.specs.Ordinals.{lists_none_wide}
+use Rattle.ics_rule.specs.declared.effective_rule.EffectiveRule.{EffectiveRule}
+use Rattle.ics_rule.specs.declared.recurrence_period.RecurrencePeriod.{RecurrencePeriod}
+use Rattle.ics_rule.specs.PeriodNumbers.{day_of, calendar_end}
 use Rattle.ics_rule.specs.Candidates.{is_stepped, is_candidate_in, period_in, lets_date, lets_clock, lists_wide}
 use Rattle.ics_rule.specs.Kept.{count, is_beside, rank, size, is_placed, is_chosen}
-use Rattle.ics_rule.specs.Periods.{holds, is_let_in, IsPeriodOf, is_listed, is_taken}
+use Rattle.ics_rule.specs.RecurrencePeriods.{holds, is_let_in, IsPeriodOf, is_listed, is_taken}
 use Rattle.ics_rule.specs.Searches.{is_chosen_within}
 use Rattle.ics_rule.proofs.Counts.{count-same, count-suc}
 
@@ -30,11 +30,11 @@ and_false true = refl
 and_false false = refl
 
 -- outside of the steps nothing is chosen
-pub no_step : (q : Filled) (start n : ℕ) → is_stepped (period_in q start) q.interval (period_in q n) ≡ false → is_chosen q start n ≡ false
+pub no_step : (q : EffectiveRule) (start n : ℕ) → is_stepped (period_in q start) q.interval (period_in q n) ≡ false → is_chosen q start n ≡ false
 no_step q start n e = ap (λ x. x && lets_date q (day_of n) && lets_clock q n && is_placed q start (lists_none_wide q.positions) n) e
 
 -- nor is what a rule leaves out in a step
-pub not_let_in : (q : Filled) (start n : ℕ) → (is_stepped (period_in q start) q.interval (period_in q n) ≡ true → (lets_date q (day_of n) && lets_clock q n) ≡ false) → is_chosen q start n ≡ false
+pub not_let_in : (q : EffectiveRule) (start n : ℕ) → (is_stepped (period_in q start) q.interval (period_in q n) ≡ true → (lets_date q (day_of n) && lets_clock q n) ≡ false) → is_chosen q start n ≡ false
 not_let_in q start n none = by_step (is_stepped (period_in q start) q.interval (period_in q n)) refl
   where
     all_out : (a b c d : Bool) → (b && c) ≡ false → (a && b && c && d) ≡ false
@@ -48,17 +48,17 @@ not_let_in q start n none = by_step (is_stepped (period_in q start) q.interval (
     by_step false e = no_step q start n e
 
 -- the candidates of a period that lies a multiple of the interval from the start's are what the rule lets in there
-pub let_in : (q : Filled) (start number n : ℕ) → is_stepped (period_in q start) q.interval number ≡ true → period_in q n ≡ number → is_candidate_in q start n ≡ is_let_in q number n
+pub let_in : (q : EffectiveRule) (start number n : ℕ) → is_stepped (period_in q start) q.interval number ≡ true → period_in q n ≡ number → is_candidate_in q start n ≡ is_let_in q number n
 let_in q start number n step e =
     ap (λ x. is_stepped (period_in q start) q.interval x && lets_date q (day_of n) && lets_clock q n) e
     ∙ ap (λ x. x && lets_date q (day_of n) && lets_clock q n) step
     ∙ sym (ap (λ x. x && (lets_date q (day_of n) && lets_clock q n)) (self_test (period_in q n) number e))
 
-taken_out : (positions : WidePlaces) (b : Bool) (p : Period) (n : ℕ) → holds p n ≡ false → is_taken positions b p n ≡ false
+taken_out : (positions : WideOrdinals) (b : Bool) (p : RecurrencePeriod) (n : ℕ) → holds p n ≡ false → is_taken positions b p n ≡ false
 taken_out positions true p n e = e
 taken_out positions false p n e = ap (λ x. x && is_listed positions (count calendar_end (holds p)) (count n (holds p))) e
 
-module _ (q : Filled) (start : ℕ) (p : Period) (own : IsPeriodOf q p) (step : is_stepped (period_in q start) q.interval p.number ≡ true) where
+module _ (q : EffectiveRule) (start : ℕ) (p : RecurrencePeriod) (own : IsPeriodOf q p) (step : is_stepped (period_in q start) q.interval p.number ≡ true) where
   -- what lies in another period is not held
   held_out : (n : ℕ) → period_in q n ≢ p.number → holds p n ≡ false
   held_out n other = own.members n ∙ ap (λ x. x && (lets_date q (day_of n) && lets_clock q n)) (apart_test (period_in q n) p.number other)
@@ -105,7 +105,7 @@ module _ (q : Filled) (start : ℕ) (p : Period) (own : IsPeriodOf q p) (step : 
       cases (inr other) = taken_out q.positions (lists_none_wide q.positions) p n (held_out n other) ∙ sym (ap (λ x. x && is_chosen q start n) (apart_test (period_in q n) p.number other))
 
 -- the same of a period by its number
-pub taken_within : (q : Filled) (start : ℕ) (p : Period) (number : ℕ) → IsPeriodOf q p → p.number ≡ number → is_stepped (period_in q start) q.interval number ≡ true
+pub taken_within : (q : EffectiveRule) (start : ℕ) (p : RecurrencePeriod) (number : ℕ) → IsPeriodOf q p → p.number ≡ number → is_stepped (period_in q start) q.interval number ≡ true
     → (n : ℕ) → is_taken q.positions (lists_none_wide q.positions) p n ≡ is_chosen_within q start number n
 taken_within q start p number own e step n =
     taken_is q start p own (ap (is_stepped (period_in q start) q.interval) e ∙ step) n ∙ ap (λ x. is_chosen_within q start x n) e

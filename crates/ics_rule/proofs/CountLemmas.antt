@@ -2,13 +2,13 @@
 use Rattle.std.proofs.Common.{◌≡◌, ◌≢◌, ℕ, suc, ◌+◌, ◌-◌, ◌<◌, ◌≤◌, ◌⊎◌, inl, inr, Bool, true, false, ◌==◌, nat_lt, ◌&&◌, Some, refl, sym, subst, ap, ◌∙◌, arith}
 use Rattle.std.proofs.lemmas.Bool.Decides.{nat_tests}
 use Rattle.jiff_core.specs.Weekday.{monday_zero}
-use Rattle.ics_values.specs.Places.{lists_none_wide}
-use Rattle.ics_rule.specs.declared.filled.Filled.{Filled}
-use Rattle.ics_rule.specs.declared.period.Period.{Period}
+use Rattle.ics_values.specs.Ordinals.{lists_none_wide}
+use Rattle.ics_rule.specs.declared.effective_rule.EffectiveRule.{EffectiveRule}
+use Rattle.ics_rule.specs.declared.recurrence_period.RecurrencePeriod.{RecurrencePeriod}
 use Rattle.ics_rule.specs.declared.cursor.Cursor.{Cursor}
 use Rattle.ics_rule.specs.Candidates.{is_stepped, period_in}
 use Rattle.ics_rule.specs.Kept.{count, is_chosen}
-use Rattle.ics_rule.specs.Periods.{first_local, IsPeriodOf, is_taken}
+use Rattle.ics_rule.specs.RecurrencePeriods.{first_local, IsPeriodOf, is_taken}
 use Rattle.ics_rule.specs.Cursors.{IsCounted}
 use Rattle.ics_rule.specs.Searches.{is_few, IsPassed, AllCounted, IsTurned, after_look}
 use Rattle.ics_rule.proofs.PeriodLemmas.{begun, begins, first_in, period_mono, week_small}
@@ -25,14 +25,14 @@ apart_test : (a b : ℕ) → a ≢ b → (a == b) ≡ false
 apart_test a b h = grind (arith, nat_tests)
 
 -- a period that lies a multiple of the interval from the start's is not before it
-pub step_low : (q : Filled) (start number : ℕ) → is_stepped (period_in q start) q.interval number ≡ true → period_in q 0 ≤ number
+pub step_low : (q : EffectiveRule) (start number : ℕ) → is_stepped (period_in q start) q.interval number ≡ true → period_in q 0 ≤ number
 step_low q start number step =
     let parts = stepped_parts (period_in q start) q.interval number step in
     let low = period_mono q.frequency (monday_zero q.week_start) 0 start (omega arith) in
     omega (arith, parts.0, low)
 
 -- before the start's period nothing is chosen
-pub none_before_first : (q : Filled) (start : ℕ) → count (first_local q.frequency (monday_zero q.week_start) (period_in q start)) (is_chosen q start) ≡ 0
+pub none_before_first : (q : EffectiveRule) (start : ℕ) → count (first_local q.frequency (monday_zero q.week_start) (period_in q start)) (is_chosen q start) ≡ 0
 none_before_first q start = count-none (first_local q.frequency (monday_zero q.week_start) (period_in q start)) (is_chosen q start) (λ m l. no_step q start m
     (not_true (is_stepped (period_in q start) q.interval (period_in q m)) (λ yes.
     let parts = stepped_parts (period_in q start) q.interval (period_in q m) yes in
@@ -40,12 +40,12 @@ none_before_first q start = count-none (first_local q.frequency (monday_zero q.w
     omega (arith, late, l))))
 
 -- a later period begins later
-pub first_mono : (q : Filled) (a b : ℕ) → period_in q 0 ≤ b → a ≤ b → first_local q.frequency (monday_zero q.week_start) a ≤ first_local q.frequency (monday_zero q.week_start) b
+pub first_mono : (q : EffectiveRule) (a b : ℕ) → period_in q 0 ≤ b → a ≤ b → first_local q.frequency (monday_zero q.week_start) a ≤ first_local q.frequency (monday_zero q.week_start) b
 first_mono q a b low h =
     let own = first_in q.frequency (monday_zero q.week_start) b (week_small q.week_start) low in
     begun q.frequency (monday_zero q.week_start) a (first_local q.frequency (monday_zero q.week_start) b) (omega (arith, own, h))
 
-module _ (q : Filled) (start : ℕ) (p : Period) (own : IsPeriodOf q p) (step : is_stepped (period_in q start) q.interval p.number ≡ true) (some : 1 ≤ q.interval) where
+module _ (q : EffectiveRule) (start : ℕ) (p : RecurrencePeriod) (own : IsPeriodOf q p) (step : is_stepped (period_in q start) q.interval p.number ≡ true) (some : 1 ≤ q.interval) where
   abbrev taken : ℕ → Bool
   taken = is_taken q.positions (lists_none_wide q.positions) p
 
@@ -95,7 +95,7 @@ module _ (q : Filled) (start : ℕ) (p : Period) (own : IsPeriodOf q p) (step : 
       omega (arith, own, flat)
 
 -- and the periods passed over after it
-chosen_passed : (q : Filled) (start number end : ℕ) (o : Period) → IsPeriodOf q o → is_stepped (period_in q start) q.interval o.number ≡ true → 1 ≤ q.interval → IsPassed q start (o.number + q.interval) number
+chosen_passed : (q : EffectiveRule) (start number end : ℕ) (o : RecurrencePeriod) → IsPeriodOf q o → is_stepped (period_in q start) q.interval o.number ≡ true → 1 ≤ q.interval → IsPassed q start (o.number + q.interval) number
     → first_local q.frequency (monday_zero q.week_start) number ≤ end
     → count (first_local q.frequency (monday_zero q.week_start) number) (is_chosen q start)
     ≡ count (first_local q.frequency (monday_zero q.week_start) o.number) (is_chosen q start) + count end (is_taken q.positions (lists_none_wide q.positions) o)
@@ -111,7 +111,7 @@ chosen_passed q start number end o own step some passed h =
     omega (arith, all, flat)
 
 -- a count past the limit keeps nothing more
-pub not_few : (q : Filled) (start c limit n m : ℕ) → limit + 1 ≡ c + count (suc start) (is_chosen q start) → limit ≤ count n (is_chosen q start) → n ≤ m → is_few q start c m ≡ false
+pub not_few : (q : EffectiveRule) (start c limit n m : ℕ) → limit + 1 ≡ c + count (suc start) (is_chosen q start) → limit ≤ count n (is_chosen q start) → n ≤ m → is_few q start c m ≡ false
 not_few q start c limit n m most h l =
     let more = count_mono n m (is_chosen q start) l in
     none (count m (is_chosen q start)) (c + count (suc start) (is_chosen q start)) (omega (arith, more, h, most))
@@ -119,14 +119,14 @@ not_few q start c limit n m most h l =
     none : (a b : ℕ) → b ≤ a + 1 → nat_lt (a + 1) b ≡ false
     none a b h = grind (arith, nat_tests)
 
-pub are_few : (q : Filled) (start c limit n : ℕ) → limit + 1 ≡ c + count (suc start) (is_chosen q start) → count n (is_chosen q start) < limit → is_few q start c n ≡ true
+pub are_few : (q : EffectiveRule) (start c limit n : ℕ) → limit + 1 ≡ c + count (suc start) (is_chosen q start) → count n (is_chosen q start) < limit → is_few q start c n ≡ true
 are_few q start c limit n most h = some (count n (is_chosen q start)) (c + count (suc start) (is_chosen q start)) (omega (arith, h, most))
   where
     some : (a b : ℕ) → a + 1 < b → nat_lt (a + 1) b ≡ true
     some a b h = grind (arith, nat_tests)
 
 -- the first look, at the start's period
-pub turned_first : (q : Filled) (start c number limit before : ℕ) (cursor : Cursor) (p : Period) → 1 ≤ q.interval → 1 ≤ c → number ≡ period_in q start → is_stepped (period_in q start) q.interval number ≡ true
+pub turned_first : (q : EffectiveRule) (start c number limit before : ℕ) (cursor : Cursor) (p : RecurrencePeriod) → 1 ≤ q.interval → 1 ≤ c → number ≡ period_in q start → is_stepped (period_in q start) q.interval number ≡ true
     → IsPeriodOf q p → p.number ≡ number → cursor.held ≡ Some p → cursor.counted ≡ 0 → cursor.limit ≡ limit → limit ≡ c - 1 + before → before ≡ count (start + 1) (is_taken q.positions (lists_none_wide q.positions) p)
     → IsTurned q start c number cursor p
 turned_first q start c number limit before cursor p some positive e step own same held zero most el eb = record {
@@ -155,7 +155,7 @@ turned_first q start c number limit before cursor p some positive e step own sam
     here = ap (is_stepped (period_in q start) q.interval) same ∙ step
 
 -- each further look
-pub turned_on : (q : Filled) (start c number total before end : ℕ) (was cursor : Cursor) (o p : Period) → 1 ≤ q.interval → IsPeriodOf q o → IsCounted q start c was.counted was.limit o → IsPassed q start (o.number + q.interval) number
+pub turned_on : (q : EffectiveRule) (start c number total before end : ℕ) (was cursor : Cursor) (o p : RecurrencePeriod) → 1 ≤ q.interval → IsPeriodOf q o → IsCounted q start c was.counted was.limit o → IsPassed q start (o.number + q.interval) number
     → first_local q.frequency (monday_zero q.week_start) number ≤ end → total ≡ was.counted + before → before ≡ count end (is_taken q.positions (lists_none_wide q.positions) o)
     → is_stepped (period_in q start) q.interval number ≡ true → IsPeriodOf q p → p.number ≡ number → cursor ≡ after_look was p total → IsTurned q start c number cursor p
 turned_on q start c number total before end was cursor o p some own counted e h et eb here product same look = subst (λ (x : Cursor). IsTurned q start c number x p) (sym look) (record {
@@ -170,14 +170,14 @@ turned_on q start c number total before end was cursor o p some own counted e h 
   };
 })
 
-pub counted_out : (q : Filled) (start c number before end counted limit : ℕ) (o : Period) → 1 ≤ q.interval → IsPeriodOf q o → IsCounted q start c counted limit o → IsPassed q start (o.number + q.interval) number
+pub counted_out : (q : EffectiveRule) (start c number before end counted limit : ℕ) (o : RecurrencePeriod) → 1 ≤ q.interval → IsPeriodOf q o → IsCounted q start c counted limit o → IsPassed q start (o.number + q.interval) number
     → first_local q.frequency (monday_zero q.week_start) number ≤ end → before ≡ count end (is_taken q.positions (lists_none_wide q.positions) o) → limit ≤ counted + before → AllCounted q start c number
 counted_out q start c number before end counted limit o some own known e h eb out n l =
     not_few q start c limit (first_local q.frequency (monday_zero q.week_start) number) n known.most
     (let all = chosen_passed q start number end o own known.step some e h in omega (arith, all, eb, known.total, out)) l
 
 -- counts stay small
-pub counted_small : (q : Filled) (start c number counted limit : ℕ) (o : Period) → IsCounted q start c counted limit o → o.number ≤ number → is_stepped (period_in q start) q.interval number ≡ true
+pub counted_small : (q : EffectiveRule) (start c number counted limit : ℕ) (o : RecurrencePeriod) → IsCounted q start c counted limit o → o.number ≤ number → is_stepped (period_in q start) q.interval number ≡ true
     → first_local q.frequency (monday_zero q.week_start) number ≤ 309_289_708_800 → counted ≤ 309_289_708_800
 counted_small q start c number counted limit o known l step h =
     let most = count_most (first_local q.frequency (monday_zero q.week_start) o.number) (is_chosen q start) in

@@ -3,13 +3,13 @@ use Rattle.std.proofs.Common.{◌≡◌, ℕ, ◌+◌, ◌-◌, ◌*◌, ◌%◌
 use Rattle.std.proofs.lemmas.Nat.{mod-mul-add}
 use Rattle.jiff_core.specs.Weekday.{monday_zero}
 use Rattle.ics_values.specs.Sets.{IsLeastFrom}
-use Rattle.ics_values.specs.Places.{lists_none_wide}
-use Rattle.ics_rule.specs.declared.filled.Filled.{Filled}
-use Rattle.ics_rule.specs.declared.period.Period.{Period}
+use Rattle.ics_values.specs.Ordinals.{lists_none_wide}
+use Rattle.ics_rule.specs.declared.effective_rule.EffectiveRule.{EffectiveRule}
+use Rattle.ics_rule.specs.declared.recurrence_period.RecurrencePeriod.{RecurrencePeriod}
 use Rattle.ics_rule.specs.declared.cursor.Cursor.{Cursor}
 use Rattle.ics_rule.specs.Candidates.{is_stepped, period_in}
 use Rattle.ics_rule.specs.Kept.{count, is_chosen}
-use Rattle.ics_rule.specs.Periods.{first_local, IsPeriodOf, is_taken}
+use Rattle.ics_rule.specs.RecurrencePeriods.{first_local, IsPeriodOf, is_taken}
 use Rattle.ics_rule.specs.Cursors.{is_met, fresh, HasBegun, HeldBy, CountedBy, IsCounted, HasLookedIn}
 use Rattle.ics_rule.specs.Searches.{is_few, is_wanted, NoneWanted, IsWalked, HoldsPeriodOf, LooksOrStays, LooksOnce, IsTurnOf, IsPassed, IsNextOpen, AllCounted, IsTurned}
 use Rattle.ics_rule.specs.Rounds.{IsPassedTo}
@@ -33,7 +33,7 @@ and_both : (a b : Bool) → a ≡ true → b ≡ true → (a && b) ≡ true
 and_both a b p q = ap (λ x. x && b) p ∙ q
 
 -- nothing from the place on is wanted in a period before this one, whose turn it is
-pub record IsCounting (q : Filled) (start c stop number : ℕ) (before now : Cursor) : Type 0 where
+pub record IsCounting (q : EffectiveRule) (start c stop number : ℕ) (before now : Cursor) : Type 0 where
   pub step : is_stepped (period_in q start) q.interval number ≡ true
   pub none : (n : ℕ) → before.place ≤ n → period_in q n < number → is_wanted q start (Some c) n ≡ false
   pub turn : IsTurnOf q start c number now
@@ -47,14 +47,14 @@ pub record IsCounting (q : Filled) (start c stop number : ℕ) (before now : Cur
 pub step_first : (f i : ℕ) → 1 ≤ i → is_stepped f i f ≡ true
 step_first f i some = stepped_shown f i f (omega arith) (let none : f - f ≡ 0 * i + 0 = omega arith in ap (λ x. x % i) none ∙ mod-mul-add 0 i 0 some)
 
-pub counting_begins : (q : Filled) (start c stop number : ℕ) (before cursor : Cursor) (o : Option Period) → 1 ≤ q.interval → cursor.held ≡ o
+pub counting_begins : (q : EffectiveRule) (start c stop number : ℕ) (before cursor : Cursor) (o : Option RecurrencePeriod) → 1 ≤ q.interval → cursor.held ≡ o
     → MatchOption o (number ≡ period_in q start) (λ p. number ≡ p.number) → start < cursor.place → cursor.place < stop → cursor.place ≡ before.place
     → IsPassedTo q start c before cursor → IsCounting q start c stop number before cursor
 counting_begins q start c stop number before cursor None some e h late early same passed = record {
   step = ap (is_stepped (period_in q start) q.interval) h ∙ step_first (period_in q start) q.interval some;
   none = λ n l u. absurd (let up = period_mono q.frequency (monday_zero q.week_start) start n (omega (arith, late, same, l)) in omega (arith, up, u, h));
   turn = subst (λ x. MatchOption x (number ≡ period_in q start) (λ p. IsPeriodOf q p × (IsCounted q start c cursor.counted cursor.limit p × ((p.number ≡ number) ⊎ IsPassed q start (p.number + q.interval) number)))) (sym e) h;
-  high = subst (λ (x : Option Period). MatchOption x (Unit {0}) (λ p. p.number ≤ period_in q stop)) (sym e) tt;
+  high = subst (λ (x : Option RecurrencePeriod). MatchOption x (Unit {0}) (λ p. p.number ≤ period_in q stop)) (sym e) tt;
   place = same;
   begun = passed.own.begun;
   moved = passed.moved;
@@ -69,7 +69,7 @@ counting_begins q start c stop number before cursor (Some p) some e h late early
       none = λ n l u. absurd (let up = period_mono q.frequency (monday_zero q.week_start) cursor.place n (omega (arith, same, l)) in omega (arith, up, u, h, held.1));
       turn = subst (λ x. MatchOption x (number ≡ period_in q start) (λ p. IsPeriodOf q p × (IsCounted q start c cursor.counted cursor.limit p × ((p.number ≡ number) ⊎ IsPassed q start (p.number + q.interval) number)))) (sym e)
           (held.0, (counted, inl (sym h)));
-      high = subst (λ (x : Option Period). MatchOption x (Unit {0}) (λ p. p.number ≤ period_in q stop)) (sym e) (let up = period_mono q.frequency (monday_zero q.week_start) cursor.place stop (omega arith) in omega (arith, up, held.1));
+      high = subst (λ (x : Option RecurrencePeriod). MatchOption x (Unit {0}) (λ p. p.number ≤ period_in q stop)) (sym e) (let up = period_mono q.frequency (monday_zero q.week_start) cursor.place stop (omega arith) in omega (arith, up, held.1));
       place = same;
       begun = passed.own.begun;
       moved = passed.moved;
@@ -77,7 +77,7 @@ counting_begins q start c stop number before cursor (Some p) some e h late early
       looked = λ a b s few. passed.looked a b (omega (arith, early, same, s)) few;
     }
 
-module _ (q : Filled) (start c stop number : ℕ) (before now : Cursor) (walk : IsCounting q start c stop number before now) where
+module _ (q : EffectiveRule) (start c stop number : ℕ) (before now : Cursor) (walk : IsCounting q start c stop number before now) where
   pub counting_ends : period_in q (stop - 1) < number → NoneWanted q start (Some c) before.place stop
   counting_ends past n l u = walk.none n l (let m = period_mono q.frequency (monday_zero q.week_start) n (stop - 1) (omega arith) in omega (arith, m))
 
@@ -88,7 +88,7 @@ module _ (q : Filled) (start c stop number : ℕ) (before now : Cursor) (walk : 
   ]
 
   -- where this period is looked at
-  module _ (after : Cursor) (p : Period) (some : 1 ≤ q.interval) (late : start < before.place) (early : before.place < stop) (top : number ≤ period_in q (stop - 1))
+  module _ (after : Cursor) (p : RecurrencePeriod) (some : 1 ≤ q.interval) (late : start < before.place) (early : before.place < stop) (top : number ≤ period_in q (stop - 1))
       (turned : IsTurned q start c number after p) (place : after.place ≡ now.place)
       (steps : LooksOnce number now.steps now.held after.steps after.held) (looks : HasBegun now.held now.steps → HasBegun after.held after.steps) (moved : LooksOrStays now after) where
     abbrev taken : ℕ → Bool
@@ -183,7 +183,7 @@ module _ (q : Filled) (start c stop number : ℕ) (before now : Cursor) (walk : 
       ];
       turn = subst (λ x. MatchOption x (next ≡ period_in q start) (λ p. IsPeriodOf q p × (IsCounted q start c after.counted after.limit p × ((p.number ≡ next) ⊎ IsPassed q start (p.number + q.interval) next)))) (sym turned.held)
           (turned.product, (turned.counted, inr (record { up = omega (arith, turned.number, is_next.low); none = λ n l u. not_let_in q start n (is_next.none n (omega (arith, turned.number, l)) u) })));
-      high = subst (λ (x : Option Period). MatchOption x (Unit {0}) (λ p. p.number ≤ period_in q stop)) (sym turned.held) (let t = top_stop in omega (arith, t, turned.number));
+      high = subst (λ (x : Option RecurrencePeriod). MatchOption x (Unit {0}) (λ p. p.number ≤ period_in q stop)) (sym turned.held) (let t = top_stop in omega (arith, t, turned.number));
       place = place ∙ walk.place;
       begun = looks walk.begun;
       moved = then_moves before now after walk.moved moved;

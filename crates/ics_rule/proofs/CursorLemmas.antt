@@ -3,12 +3,12 @@ use Rattle.std.proofs.Common.{◌≡◌, ℕ, zero, suc, ◌+◌, ◌-◌, ◌<�
 use Rattle.std.proofs.lemmas.Bool.Decides.{nat_tests}
 use Rattle.jiff_core.specs.Weekday.{monday_zero}
 use Rattle.ics_values.specs.Sets.{IsLeastFrom, IsNextIn}
-use Rattle.ics_rule.specs.declared.filled.Filled.{Filled}
-use Rattle.ics_rule.specs.declared.period.Period.{Period}
+use Rattle.ics_rule.specs.declared.effective_rule.EffectiveRule.{EffectiveRule}
+use Rattle.ics_rule.specs.declared.recurrence_period.RecurrencePeriod.{RecurrencePeriod}
 use Rattle.ics_rule.specs.declared.cursor.Cursor.{Cursor}
 use Rattle.ics_rule.specs.Candidates.{is_stepped, period_in}
 use Rattle.ics_rule.specs.Kept.{count, is_chosen}
-use Rattle.ics_rule.specs.Periods.{first_local, IsPeriodOf}
+use Rattle.ics_rule.specs.RecurrencePeriods.{first_local, IsPeriodOf}
 use Rattle.ics_rule.specs.Cursors.{is_met, fresh, HasBegun, HeldBy, CountedBy, IsCursorIn, HasLookedIn, looks_from}
 use Rattle.ics_rule.specs.Searches.{IsNextOpen, is_chosen_within, is_wanted, IsNextWanted, IsWalked, HoldsPeriodOf, LooksOrStays, LooksOnce, after_look}
 use Rattle.ics_rule.proofs.PeriodLemmas.{begun, begins, first_in, period_mono, period_small, week_small}
@@ -20,7 +20,7 @@ by_order : (a b : ℕ) → (a < b) ⊎ (b ≤ a)
 by_order a b = grind arith
 
 -- a period that lies a multiple of the interval from the start's is met by a local of it
-met_by : (q : Filled) (start a b p n : ℕ) → a ≤ n → n < b → period_in q n ≡ p → is_stepped (period_in q start) q.interval p ≡ true → is_met q start a b p ≡ true
+met_by : (q : EffectiveRule) (start a b p n : ℕ) → a ≤ n → n < b → period_in q n ≡ p → is_stepped (period_in q start) q.interval p ≡ true → is_met q start a b p ≡ true
 met_by q start a b p n l u e step = and_both _ _ step (positive _ (count_some b n (λ m. nat_le a m && period_in q m == p) u (both a n (period_in q n) p l e)))
   where
     and_both : (x y : Bool) → x ≡ true → y ≡ true → (x && y) ≡ true
@@ -33,7 +33,7 @@ met_by q start a b p n l u e step = and_both _ _ step (positive _ (count_some b 
     positive n h = grind (arith, nat_tests)
 
 -- so is one from that of a place to that of a bound
-pub meets : (q : Filled) (start a b place stop p : ℕ) → a ≤ place → place < stop → stop ≤ b
+pub meets : (q : EffectiveRule) (start a b place stop p : ℕ) → a ≤ place → place < stop → stop ≤ b
     → is_stepped (period_in q start) q.interval p ≡ true → period_in q place ≤ p → p ≤ period_in q (stop - 1) → is_met q start a b p ≡ true
 meets q start a b place stop p la lp lb step low high = elim (by_order (period_in q place) p) [
   | inl later ↦
@@ -54,31 +54,31 @@ next_same f g place (Some n) same next = record { passes = sym (same n) ∙ next
 fresh_low : (k number : ℕ) → k ≤ number → (k ≡ number → ⊥) → suc k ≤ number
 fresh_low k number h other = elim (by_order k number) [ inl less ↦ omega arith | inr more ↦ absurd (other (omega arith)) ]
 
-pub fresh_some : (number : ℕ) (held : Option Period) (p : Period) → held ≡ Some p → p.number ≤ number → (p.number ≡ number → ⊥) → fresh held ≤ number
+pub fresh_some : (number : ℕ) (held : Option RecurrencePeriod) (p : RecurrencePeriod) → held ≡ Some p → p.number ≤ number → (p.number ≡ number → ⊥) → fresh held ≤ number
 fresh_some number held p e h other = subst (λ o. fresh o ≤ number) (sym e) (fresh_low p.number number h other)
 
-pub fresh_none : (number : ℕ) (held : Option Period) → held ≡ None → fresh held ≤ number
+pub fresh_none : (number : ℕ) (held : Option RecurrencePeriod) → held ≡ None → fresh held ≤ number
 fresh_none number held e = subst (λ o. fresh o ≤ number) (sym e) (omega arith)
 
 -- a period that no earlier look has reached
-pub looked_at : (number steps after k : ℕ) (held : Option Period) (met : ℕ → Bool) → fresh held ≤ number → met number ≡ true
+pub looked_at : (number steps after k : ℕ) (held : Option RecurrencePeriod) (met : ℕ → Bool) → fresh held ≤ number → met number ≡ true
     → steps ≤ count (fresh held) met → after ≡ steps + 1 → k ≡ number → after ≤ count (suc k) met
 looked_at number steps after k held met h here few e same =
     let more = count_one_more (fresh held) number met h here in
     let back = ap (λ x. count (suc x) met) same in
     omega (arith, few, more, e, back)
 
-pub looks_once : (number counted : ℕ) (before now : Cursor) (p : Period) → fresh before.held ≤ number → now ≡ after_look before p counted → p.number ≡ number
+pub looks_once : (number counted : ℕ) (before now : Cursor) (p : RecurrencePeriod) → fresh before.held ≤ number → now ≡ after_look before p counted → p.number ≡ number
     → LooksOnce number before.steps before.held now.steps now.held
 looks_once number counted before now p h e same = λ met here few.
     subst (λ (c : Cursor). c.steps ≤ count (fresh c.held) met) (sym e) (looked_at number before.steps (before.steps + 1) p.number before.held met h here few refl same)
 
 -- and after a look a period is held
-pub begins_look : (counted : ℕ) (before now : Cursor) (p : Period) → now ≡ after_look before p counted → HasBegun now.held now.steps
+pub begins_look : (counted : ℕ) (before now : Cursor) (p : RecurrencePeriod) → now ≡ after_look before p counted → HasBegun now.held now.steps
 begins_look counted before now p e = subst (λ (c : Cursor). HasBegun c.held c.steps) (sym e) (omega arith)
 
 -- and the steps are more
-pub looks_more : (counted : ℕ) (before now : Cursor) (p : Period) → now ≡ after_look before p counted → LooksOrStays before now
+pub looks_more : (counted : ℕ) (before now : Cursor) (p : RecurrencePeriod) → now ≡ after_look before p counted → LooksOrStays before now
 looks_more counted before now p e = inr (subst (λ (c : Cursor). before.steps < c.steps) (sym e) (omega arith))
 
 pub never_fewer : (before now : Cursor) → LooksOrStays before now → before.steps ≤ now.steps
@@ -92,34 +92,34 @@ then_moves a b c (inr p) (inl q) = inr (omega (arith, p, q.1))
 then_moves a b c (inr p) (inr q) = inr (omega (arith, p, q))
 
 -- what is held stays so at a later place
-pub held_mono : (q : Filled) (held : Option Period) (n m : ℕ) → HeldBy q held n → n ≤ m → HeldBy q held m
+pub held_mono : (q : EffectiveRule) (held : Option RecurrencePeriod) (n m : ℕ) → HeldBy q held n → n ≤ m → HeldBy q held m
 held_mono q None n m h l = tt
 held_mono q (Some p) n m h l = (h.0, (let up = period_mono q.frequency (monday_zero q.week_start) n m l in omega (arith, h.1, up)))
 
 -- a later place with the same period
-counted_at : (q : Filled) (start : ℕ) (o : Option ℕ) (c : Cursor) (place : ℕ) → CountedBy q start o c → CountedBy q start o (record c { place = place })
+counted_at : (q : EffectiveRule) (start : ℕ) (o : Option ℕ) (c : Cursor) (place : ℕ) → CountedBy q start o c → CountedBy q start o (record c { place = place })
 counted_at q start None c place h = tt
 counted_at q start (Some k) c place h = h
 
-pub own_at : (q : Filled) (start : ℕ) (o : Option ℕ) (c : Cursor) (place : ℕ) → IsCursorIn q start o c → c.place ≤ place → place < 315_569_520_000 → IsCursorIn q start o (record c { place = place })
+pub own_at : (q : EffectiveRule) (start : ℕ) (o : Option ℕ) (c : Cursor) (place : ℕ) → IsCursorIn q start o c → c.place ≤ place → place < 315_569_520_000 → IsCursorIn q start o (record c { place = place })
 own_at q start o c place own l h = record { inside = h; held = held_mono q c.held c.place place own.held l; begun = own.begun; steps = own.steps; counted = counted_at q start o c place own.counted }
 
-pub own_walked : (q : Filled) (start : ℕ) (o : Option ℕ) (stop : ℕ) (found : Option ℕ) (before now : Cursor) (place : ℕ) → IsWalked q start o stop found before now → stop ≤ place → place < 315_569_520_000
+pub own_walked : (q : EffectiveRule) (start : ℕ) (o : Option ℕ) (stop : ℕ) (found : Option ℕ) (before now : Cursor) (place : ℕ) → IsWalked q start o stop found before now → stop ≤ place → place < 315_569_520_000
     → IsCursorIn q start o (record now { place = place })
 own_walked q start o stop found before now place walked l h =
     record { inside = h; held = held_mono q now.held stop place walked.held l; begun = walked.begun; steps = walked.steps; counted = counted_at q start o now place walked.counted }
 
-pub own_found : (q : Filled) (start : ℕ) (o : Option ℕ) (stop n : ℕ) (before now : Cursor) → IsWalked q start o stop (Some n) before now → n + 1 < 315_569_520_000
+pub own_found : (q : EffectiveRule) (start : ℕ) (o : Option ℕ) (stop n : ℕ) (before now : Cursor) → IsWalked q start o stop (Some n) before now → n + 1 < 315_569_520_000
     → IsCursorIn q start o (record now { place = n + 1 })
 own_found q start o stop n before now walked h =
     record { inside = h; held = held_mono q now.held n (n + 1) walked.found.0 (omega arith); begun = walked.begun; steps = walked.steps; counted = counted_at q start o now (n + 1) walked.counted }
 
 -- an answer in a later period than the place has taken a look
-pub counts_look : (q : Filled) (start : ℕ) (o : Option ℕ) (stop n : ℕ) (before now : Cursor) → IsCursorIn q start o before → IsWalked q start o stop (Some n) before now
+pub counts_look : (q : EffectiveRule) (start : ℕ) (o : Option ℕ) (stop n : ℕ) (before now : Cursor) → IsCursorIn q start o before → IsWalked q start o stop (Some n) before now
     → period_in q before.place < period_in q n → before.steps < now.steps
 counts_look q start o stop n before now own walked later = by_move walked.moved
   where
-    not_held : (held : Option Period) → HeldBy q held before.place → HoldsPeriodOf q held n → ⊥
+    not_held : (held : Option RecurrencePeriod) → HeldBy q held before.place → HoldsPeriodOf q held n → ⊥
     not_held None h e = e
     not_held (Some p) h e = omega (arith, h.1, e, later)
 
@@ -132,7 +132,7 @@ looks_mono : (o : Option ℕ) (start a b : ℕ) → a ≤ b → looks_from o sta
 looks_mono None start a b h = h
 looks_mono (Some c) start a b h = omega arith
 
-pub looked_walked : (q : Filled) (start : ℕ) (o : Option ℕ) (stop : ℕ) (found : Option ℕ) (before now : Cursor) (place a b : ℕ) → IsWalked q start o stop found before now → before.place ≤ place → stop ≤ b
+pub looked_walked : (q : EffectiveRule) (start : ℕ) (o : Option ℕ) (stop : ℕ) (found : Option ℕ) (before now : Cursor) (place a b : ℕ) → IsWalked q start o stop found before now → before.place ≤ place → stop ≤ b
     → HasLookedIn q start o before a b → HasLookedIn q start o (record now { place = place }) a b
 looked_walked q start o stop found before now place a b walked l s few = record { low = (let up = looks_mono o start before.place place l in omega (arith, few.low, up)); few = walked.looked a b s few }
 
@@ -164,7 +164,7 @@ count_within (suc n) f g h =
     cond_within true b h = let e : ◌≡◌ {A = ℕ} (cond b 1 0) 1 = ap (λ z. cond z 1 0) (h refl) in omega (arith, e)
 
 -- what is met before some bound and is not past the period of n is met before each bound past n
-met_soon : (q : Filled) (start a b c n p : ℕ) → a ≤ n → n < b → p ≤ period_in q n → is_met q start a c p ≡ true → is_met q start a b p ≡ true
+met_soon : (q : EffectiveRule) (start a b c n p : ℕ) → a ≤ n → n < b → p ≤ period_in q n → is_met q start a c p ≡ true → is_met q start a b p ≡ true
 met_soon q start a b c n p low high here met =
     let parts = and_facts (is_stepped (period_in q start) q.interval p) (nat_lt 0 (count c (λ m. nat_le a m && period_in q m == p))) met in
     let one = counted_one c (λ m. nat_le a m && period_in q m == p) (positive_fact (count c (λ m. nat_le a m && period_in q m == p)) parts.1) in
@@ -193,7 +193,7 @@ met_soon q start a b c n p low high here met =
     both_facts x n y z h = let parts = and_facts (nat_le x n) (y == z) h in (least_fact x n parts.0, same_fact y z parts.1)
 
 -- and what is met before a bound is met before a later one
-met_later : (q : Filled) (start a b c p : ℕ) → b ≤ c → is_met q start a b p ≡ true → is_met q start a c p ≡ true
+met_later : (q : EffectiveRule) (start a b c p : ℕ) → b ≤ c → is_met q start a b p ≡ true → is_met q start a c p ≡ true
 met_later q start a b c p h met =
     let parts = and_facts (is_stepped (period_in q start) q.interval p) (nat_lt 0 (count b (λ m. nat_le a m && period_in q m == p))) met in
     let more = count_mono b c (λ m. nat_le a m && period_in q m == p) h in
@@ -207,7 +207,7 @@ met_later q start a b c p h met =
     more_positive x m n e h l = grind (arith, nat_tests)
 
 -- An answer past the start is known from periods that hold a local not past it.
-pub looked_found : (q : Filled) (start : ℕ) (o : Option ℕ) (stop n : ℕ) (before now : Cursor) (a b : ℕ) → IsWalked q start o stop (Some n) before now
+pub looked_found : (q : EffectiveRule) (start : ℕ) (o : Option ℕ) (stop n : ℕ) (before now : Cursor) (a b : ℕ) → IsWalked q start o stop (Some n) before now
     → start ≤ n → before.place ≤ n → n + 1 ≤ b → HasLookedIn q start o before a b → HasLookedIn q start o (record now { place = n + 1 }) a b
 looked_found q start o stop n before now a b walked after low soon few = record {
   low = (let up = looks_mono o start before.place (n + 1) (omega (arith, low)) in omega (arith, few.low, up));
@@ -231,25 +231,25 @@ looked_found q start o stop n before now a b walked after low soon few = record 
     met_wide : (p : ℕ) → is_met q start a b p ≡ true → b < stop → is_met q start a stop p ≡ true
     met_wide p met early = met_later q start a b stop p (omega (arith, early)) met
 
-    below : (held : Option Period) → HeldBy q held n → (p : ℕ) → p < fresh held → p ≤ period_in q n
+    below : (held : Option RecurrencePeriod) → HeldBy q held n → (p : ℕ) → p < fresh held → p ≤ period_in q n
     below None h p l = absurd (omega (arith, l))
     below (Some k) h p l = omega (arith, h.1, l)
 
 -- a cursor's steps are counted periods
-fresh_small : (q : Filled) (held : Option Period) (n : ℕ) → HeldBy q held n → n < 315_569_520_000 → fresh held ≤ 315_569_520_000
+fresh_small : (q : EffectiveRule) (held : Option RecurrencePeriod) (n : ℕ) → HeldBy q held n → n < 315_569_520_000 → fresh held ≤ 315_569_520_000
 fresh_small q None n h l = omega arith
 fresh_small q (Some p) n h l = let s = period_small q.frequency (monday_zero q.week_start) n l in omega (arith, h.1, s)
 
-pub few_steps : (q : Filled) (start : ℕ) (o : Option ℕ) (c : Cursor) (a b : ℕ) → IsCursorIn q start o c → HasLookedIn q start o c a b → c.steps ≤ count 315_569_520_000 (is_met q start a b)
+pub few_steps : (q : EffectiveRule) (start : ℕ) (o : Option ℕ) (c : Cursor) (a b : ℕ) → IsCursorIn q start o c → HasLookedIn q start o c a b → c.steps ≤ count 315_569_520_000 (is_met q start a b)
 few_steps q start o c a b own few = let more = count_mono (fresh c.held) 315_569_520_000 (is_met q start a b) (fresh_small q c.held c.place own.held own.inside) in omega (arith, few.few, more)
 
-pub within_here : (q : Filled) (start number n : ℕ) → period_in q n ≡ number → is_chosen_within q start number n ≡ is_chosen q start n
+pub within_here : (q : EffectiveRule) (start number n : ℕ) → period_in q n ≡ number → is_chosen_within q start number n ≡ is_chosen q start n
 within_here q start number n e = ap (λ x. x && is_chosen q start n) (self_test (period_in q n) number e)
   where
     self_test : (a b : ℕ) → a ≡ b → (a == b) ≡ true
     self_test a b h = grind (arith, nat_tests)
 
-pub within_facts : (q : Filled) (start number n : ℕ) → is_chosen_within q start number n ≡ true → (period_in q n ≡ number) × (is_chosen q start n ≡ true)
+pub within_facts : (q : EffectiveRule) (start number n : ℕ) → is_chosen_within q start number n ≡ true → (period_in q n ≡ number) × (is_chosen q start n ≡ true)
 within_facts q start number n h = fact (period_in q n) number (is_chosen q start n) h
   where
     and_parts : (a b : Bool) → (a && b) ≡ true → (a ≡ true) × (b ≡ true)
@@ -263,7 +263,7 @@ within_facts q start number n h = fact (period_in q n) number (is_chosen q start
     fact a b c h = let parts = and_parts (a == b) c h in (same_fact a b parts.0, parts.1)
 
 -- how far a walk over the periods has come: nothing from the place on is chosen in a period before this one
-pub record IsWalk (q : Filled) (start stop number : ℕ) (before now : Cursor) : Type 0 where
+pub record IsWalk (q : EffectiveRule) (start stop number : ℕ) (before now : Cursor) : Type 0 where
   pub step : is_stepped (period_in q start) q.interval number ≡ true
   pub low : period_in q before.place ≤ number
   pub none : (n : ℕ) → before.place ≤ n → period_in q n < number → is_chosen q start n ≡ false
@@ -274,13 +274,13 @@ pub record IsWalk (q : Filled) (start stop number : ℕ) (before now : Cursor) :
   pub steps : now.steps ≤ fresh now.held
   pub looked : (a b : ℕ) → stop ≤ b → HasLookedIn q start None before a b → now.steps ≤ count (fresh now.held) (is_met q start a b)
 
-cases_held : (q : Filled) (held : Option Period) (n number stop : ℕ) → HeldBy q held n → period_in q n ≤ number → n ≤ stop
+cases_held : (q : EffectiveRule) (held : Option RecurrencePeriod) (n number stop : ℕ) → HeldBy q held n → period_in q n ≤ number → n ≤ stop
     → MatchOption held (Unit {0}) (λ p. IsPeriodOf q p × ((p.number ≤ number) × (p.number ≤ period_in q stop)))
 cases_held q None n number stop h l u = tt
 cases_held q (Some p) n number stop h l u = (h.0, (omega (arith, h.1, l), (let m = period_mono q.frequency (monday_zero q.week_start) n stop u in omega (arith, h.1, m))))
 
 -- it begins at the first step from the place on
-pub walk_begins : (q : Filled) (start stop number : ℕ) (c : Cursor) → IsLeastFrom (is_stepped (period_in q start) q.interval) (period_in q c.place) number
+pub walk_begins : (q : EffectiveRule) (start stop number : ℕ) (c : Cursor) → IsLeastFrom (is_stepped (period_in q start) q.interval) (period_in q c.place) number
     → c.place < stop → IsCursorIn q start None c → IsWalk q start stop number c c
 walk_begins q start stop number c next h own = record {
   step = next.passes;
@@ -298,7 +298,7 @@ pub bounded : (before now : Cursor) (number : ℕ) → LooksOnce number before.s
 bounded before now number steps h =
     let more = steps (λ m. true) refl (let e = count_every (fresh before.held) in omega (arith, e, h)) in let e = count_every (fresh now.held) in omega (arith, e, more)
 
-module _ (q : Filled) (start stop number : ℕ) (before now : Cursor) (walk : IsWalk q start stop number before now) where
+module _ (q : EffectiveRule) (start stop number : ℕ) (before now : Cursor) (walk : IsWalk q start stop number before now) where
   -- past the bound's period nothing is left
   pub walk_ends : period_in q (stop - 1) < number → IsNextWanted q start None before.place stop None
   walk_ends past n l u = walk.none n l (let m = period_mono q.frequency (monday_zero q.week_start) n (stop - 1) (omega arith) in omega (arith, m))
@@ -306,7 +306,7 @@ module _ (q : Filled) (start stop number : ℕ) (before now : Cursor) (walk : Is
   pub walk_ended : IsWalked q start None stop None before now
   walk_ended = record { held = past now.held walk.held; found = tt; moved = walk.moved; begun = walk.begun; steps = walk.steps; counted = tt; looked = walk.looked }
     where
-      past : (o : Option Period) → MatchOption o (Unit {0}) (λ p. IsPeriodOf q p × ((p.number ≤ number) × (p.number ≤ period_in q stop))) → HeldBy q o stop
+      past : (o : Option RecurrencePeriod) → MatchOption o (Unit {0}) (λ p. IsPeriodOf q p × ((p.number ≤ number) × (p.number ≤ period_in q stop))) → HeldBy q o stop
       past None h = tt
       past (Some p) h = (h.0, h.1.1)
 
@@ -338,11 +338,11 @@ module _ (q : Filled) (start stop number : ℕ) (before now : Cursor) (walk : Is
     pub walk_found : (n : ℕ) → IsLeastFrom (is_chosen_within q start number) now.place n → IsWalked q start None stop (Some n) before after
     walk_found n next = record { held = below after.held held; found = here after.held held (looks walk.begun); moved = then_moves before now after walk.moved moved; begun = looks walk.begun; steps = bounded now after number steps walk.steps; counted = tt; looked = looked }
       where
-        below : (o : Option Period) → MatchOption o ⊥ (λ p. IsPeriodOf q p × (p.number ≡ number)) → HeldBy q o stop
+        below : (o : Option RecurrencePeriod) → MatchOption o ⊥ (λ p. IsPeriodOf q p × (p.number ≡ number)) → HeldBy q o stop
         below None h = absurd h
         below (Some p) h = (h.0, (let m = period_mono q.frequency (monday_zero q.week_start) (stop - 1) stop (omega arith) in omega (arith, h.1, m, top)))
 
-        here : (o : Option Period) → MatchOption o ⊥ (λ p. IsPeriodOf q p × (p.number ≡ number)) → HasBegun o after.steps → HeldBy q o n × ((1 ≤ after.steps) × HoldsPeriodOf q o n)
+        here : (o : Option RecurrencePeriod) → MatchOption o ⊥ (λ p. IsPeriodOf q p × (p.number ≡ number)) → HasBegun o after.steps → HeldBy q o n × ((1 ≤ after.steps) × HoldsPeriodOf q o n)
         here None h some = absurd h
         here (Some p) h some = let own = within_facts q start number n next.passes in ((h.0, omega (arith, h.1, own.0)), (some, h.1 ∙ sym own.0))
 
@@ -370,18 +370,18 @@ module _ (q : Filled) (start stop number : ℕ) (before now : Cursor) (walk : Is
       looked = looked;
     }
       where
-        past : (o : Option Period) → MatchOption o ⊥ (λ p. IsPeriodOf q p × (p.number ≡ number)) → MatchOption o (Unit {0}) (λ p. IsPeriodOf q p × ((p.number ≤ next) × (p.number ≤ period_in q stop)))
+        past : (o : Option RecurrencePeriod) → MatchOption o ⊥ (λ p. IsPeriodOf q p × (p.number ≡ number)) → MatchOption o (Unit {0}) (λ p. IsPeriodOf q p × ((p.number ≤ next) × (p.number ≤ period_in q stop)))
         past None h = absurd h
         past (Some p) h = (h.0, (omega (arith, h.1, is_next.low), (let m = period_mono q.frequency (monday_zero q.week_start) (stop - 1) stop (omega arith) in omega (arith, h.1, m, top))))
 
-pub walk_reach : (q : Filled) (number stop : ℕ) → number ≤ period_in q (stop - 1) → first_local q.frequency (monday_zero q.week_start) number ≤ stop
+pub walk_reach : (q : EffectiveRule) (number stop : ℕ) → number ≤ period_in q (stop - 1) → first_local q.frequency (monday_zero q.week_start) number ≤ stop
 walk_reach q number stop h = let b = begun q.frequency (monday_zero q.week_start) number (stop - 1) h in omega (arith, b)
 
 -- a cursor that has looked at nothing
-pub cursor_begins : (q : Filled) (start : ℕ) (o : Option ℕ) (place : ℕ) → place < 315_569_520_000 → IsCursorIn q start o (record { place = place; steps = 0; held = None; counted = 0; limit = 0 })
+pub cursor_begins : (q : EffectiveRule) (start : ℕ) (o : Option ℕ) (place : ℕ) → place < 315_569_520_000 → IsCursorIn q start o (record { place = place; steps = 0; held = None; counted = 0; limit = 0 })
 cursor_begins q start None place h = record { inside = h; held = tt; begun = tt; steps = omega arith; counted = tt }
 cursor_begins q start (Some c) place h = record { inside = h; held = tt; begun = tt; steps = omega arith; counted = tt }
 
-pub looked_none : (q : Filled) (start : ℕ) (o : Option ℕ) (place from b : ℕ) → place ≡ from → HasLookedIn q start o (record { place = place; steps = 0; held = None; counted = 0; limit = 0 }) (looks_from o start from) b
+pub looked_none : (q : EffectiveRule) (start : ℕ) (o : Option ℕ) (place from b : ℕ) → place ≡ from → HasLookedIn q start o (record { place = place; steps = 0; held = None; counted = 0; limit = 0 }) (looks_from o start from) b
 looked_none q start None place from b e = record { low = omega (arith, e); few = omega arith }
 looked_none q start (Some c) place from b e = record { low = omega arith; few = omega arith }

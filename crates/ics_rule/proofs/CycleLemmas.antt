@@ -5,13 +5,13 @@ use Rattle.jiff_core.specs.Calendar.{is_leap_year, days_in_year, days_in_month, 
 use Rattle.jiff_core.specs.Weekday.{monday_zero}
 use Rattle.ics_values.specs.declared.frequency.Frequency.{Frequency}
 use Rattle.ics_values.specs.declared.frequency.Frequency.TheVariants.{Secondly, Minutely, Hourly, Daily, Weekly, Monthly, Yearly}
-use Rattle.ics_values.specs.declared.places.Places.{Places}
-use Rattle.ics_values.specs.Sets.{has, is_none}
-use Rattle.ics_values.specs.Places.{lists_none, lists_no_weekday, numbers_of}
+use Rattle.ics_values.specs.declared.ordinals.Ordinals.{Ordinals}
+use Rattle.ics_values.specs.Sets.{contains, is_empty}
+use Rattle.ics_values.specs.Ordinals.{lists_none, lists_no_weekday, numbers_of}
 use Rattle.ics_values.specs.Days.{days_before_year, year_of, year_day_of, month_from, month_of, month_day_of, weekday_of}
 use Rattle.ics_values.proofs.DayLemmas.{year_under_way, year_of_is}
-use Rattle.ics_rule.specs.declared.filled.Filled.{Filled}
-use Rattle.ics_rule.specs.Locals.{week_of}
+use Rattle.ics_rule.specs.declared.effective_rule.EffectiveRule.{EffectiveRule}
+use Rattle.ics_rule.specs.PeriodNumbers.{week_of}
 use Rattle.ics_rule.specs.Candidates.{lets, lets_place, lets_wide_place, lists_nth, fourth_day, week_number, weeks_of_year, lets_numbered, lets_date}
 
 -- k times 400 years later
@@ -85,21 +85,21 @@ module _ (k : ℕ) where
   own_month_size e = ap (λ y. days_in_month (pos y) (month_of (e + 146_097 * k))) (year_again e)
       ∙ ap (λ m. days_in_month (pos (year_of e + 400 * k)) m) (month_again e) ∙ month_size_again (year_of e) (month_of e)
 
-  place_of_week : (p : Places) (f : ℕ) → lets_place p (week_number (f + 146_097 * k)) (weeks_of_year (f + 146_097 * k)) ≡ lets_place p (week_number f) (weeks_of_year f)
+  place_of_week : (p : Ordinals) (f : ℕ) → lets_place p (week_number (f + 146_097 * k)) (weeks_of_year (f + 146_097 * k)) ≡ lets_place p (week_number f) (weeks_of_year f)
   place_of_week p f =
       ap (λ d. lets_place p ((d - 1) / 7 + 1) ((days_in_year (pos (year_of (f + 146_097 * k))) - 1 - (d - 1) % 7) / 7 + 1)) (year_day_again f)
       ∙ ap (λ n. lets_place p ((year_day_of f - 1) / 7 + 1) ((n - 1 - (year_day_of f - 1) % 7) / 7 + 1)) (own_year_size f)
 
-  nth_in_month : (p : Places) (e : ℕ) → lists_nth p (month_day_of (e + 146_097 * k)) (days_in_month (pos (year_of (e + 146_097 * k))) (month_of (e + 146_097 * k))) ≡ lists_nth p (month_day_of e) (days_in_month (pos (year_of e)) (month_of e))
+  nth_in_month : (p : Ordinals) (e : ℕ) → lists_nth p (month_day_of (e + 146_097 * k)) (days_in_month (pos (year_of (e + 146_097 * k))) (month_of (e + 146_097 * k))) ≡ lists_nth p (month_day_of e) (days_in_month (pos (year_of e)) (month_of e))
   nth_in_month p e = ap (λ d. lists_nth p d (days_in_month (pos (year_of (e + 146_097 * k))) (month_of (e + 146_097 * k)))) (month_day_again e)
       ∙ ap (λ n. lists_nth p (month_day_of e) n) (own_month_size e)
 
-  numbered_again : (f : Frequency) (q : Filled) (p : Places) (e : ℕ) → lets_numbered f q p (e + 146_097 * k) ≡ lets_numbered f q p e
+  numbered_again : (f : Frequency) (q : EffectiveRule) (p : Ordinals) (e : ℕ) → lets_numbered f q p (e + 146_097 * k) ≡ lets_numbered f q p e
   numbered_again Monthly q p e = nth_in_month p e
   numbered_again Yearly q p e = ap (λ x. cond (not (lists_none q.weeks)) (not (lists_none p)) x)
-      (ap (λ x. cond (not (is_none q.months)) x (lists_nth p (year_day_of (e + 146_097 * k)) (days_in_year (pos (year_of (e + 146_097 * k))))))
+      (ap (λ x. cond (not (is_empty q.months)) x (lists_nth p (year_day_of (e + 146_097 * k)) (days_in_year (pos (year_of (e + 146_097 * k))))))
       (nth_in_month p e)
-      ∙ ap (λ x. cond (not (is_none q.months)) (lists_nth p (month_day_of e) (days_in_month (pos (year_of e)) (month_of e))) x)
+      ∙ ap (λ x. cond (not (is_empty q.months)) (lists_nth p (month_day_of e) (days_in_month (pos (year_of e)) (month_of e))) x)
       (ap (λ d. lists_nth p d (days_in_year (pos (year_of (e + 146_097 * k))))) (year_day_again e) ∙ ap (λ n. lists_nth p (year_day_of e) n) (own_year_size e)))
   numbered_again Weekly q p e = refl
   numbered_again Daily q p e = refl
@@ -120,7 +120,7 @@ fourth_early w e h = ap (λ b. cond b (7 * week_of w e + w + 146_088) (7 * week_
     less : (a b : ℕ) → a < b → nat_lt a b ≡ true
     less a b h = grind (arith, nat_tests)
 
-week_place : (p : Places) (w k e : ℕ) → 1 ≤ k → lets_place p (week_number (fourth_day w (e + 146_097 * k))) (weeks_of_year (fourth_day w (e + 146_097 * k))) ≡ lets_place p (week_number (fourth_day w e)) (weeks_of_year (fourth_day w e))
+week_place : (p : Ordinals) (w k e : ℕ) → 1 ≤ k → lets_place p (week_number (fourth_day w (e + 146_097 * k))) (weeks_of_year (fourth_day w (e + 146_097 * k))) ≡ lets_place p (week_number (fourth_day w e)) (weeks_of_year (fourth_day w e))
 week_place p w zero e some = absurd (omega (arith, some))
 week_place p w (suc k) e some = elim (by_order (7 * week_of w e + w) 9) [
   | inl early ↦
@@ -137,7 +137,7 @@ week_place p w (suc k) e some = elim (by_order (7 * week_of w e + w) 9) [
     by_order a b = grind arith
 
 -- a rule allows the same dates
-pub date_again : (q : Filled) (k e : ℕ) → 1 ≤ k → lets_date q (e + 146_097 * k) ≡ lets_date q e
+pub date_again : (q : EffectiveRule) (k e : ℕ) → 1 ≤ k → lets_date q (e + 146_097 * k) ≡ lets_date q e
 date_again q k e some = all
     (ap (lets q.months) (month_again k e))
     (ap (λ d. lets_place q.month_days d (days_in_month (pos (year_of (e + 146_097 * k))) (month_of (e + 146_097 * k)))) (month_day_again k e)
@@ -145,8 +145,8 @@ date_again q k e some = all
     (ap (λ d. lets_wide_place q.year_days d (days_in_year (pos (year_of (e + 146_097 * k))))) (year_day_again k e)
     ∙ ap (λ n. lets_wide_place q.year_days (year_day_of e) n) (own_year_size k e))
     (week_place q.weeks (monday_zero q.week_start) k e some)
-    (ap (λ d. lists_no_weekday q.weekdays || has q.weekdays.plain d || lets_numbered q.frequency q (numbers_of q.weekdays d) (e + 146_097 * k)) (weekday_again k e)
-    ∙ ap (λ x. lists_no_weekday q.weekdays || has q.weekdays.plain (weekday_of e) || x) (numbered_again k q.frequency q (numbers_of q.weekdays (weekday_of e)) e))
+    (ap (λ d. lists_no_weekday q.weekdays || contains q.weekdays.plain d || lets_numbered q.frequency q (numbers_of q.weekdays d) (e + 146_097 * k)) (weekday_again k e)
+    ∙ ap (λ x. lists_no_weekday q.weekdays || contains q.weekdays.plain (weekday_of e) || x) (numbered_again k q.frequency q (numbers_of q.weekdays (weekday_of e)) e))
   where
     all : {a b c d e v w x y z : Bool} → a ≡ v → b ≡ w → c ≡ x → d ≡ y → e ≡ z → (a && b && c && d && e) ≡ (v && w && x && y && z)
     all {a} {b} {c} {d} {e} {v} {w} {x} {y} {z} p q r s t = rw (p, q, r, s, t) refl

@@ -4,22 +4,22 @@ use Rattle.std.proofs.lemmas.Bool.Decides.{nat_tests}
 use Rattle.std.proofs.lemmas.Nat.Bits.{bit_at-zero}
 use Rattle.ics_values.specs.declared.frequency.Frequency.{Frequency}
 use Rattle.ics_values.specs.declared.frequency.Frequency.TheVariants.{Secondly, Minutely, Hourly, Daily, Weekly, Monthly, Yearly}
-use Rattle.ics_values.specs.declared.places.Places.{Places}
-use Rattle.ics_values.specs.Sets.{has, is_none}
-use Rattle.ics_values.specs.Places.{lists_none, lists_none_wide, lists_no_weekday, numbers_of}
+use Rattle.ics_values.specs.declared.ordinals.Ordinals.{Ordinals}
+use Rattle.ics_values.specs.Sets.{contains, is_empty}
+use Rattle.ics_values.specs.Ordinals.{lists_none, lists_none_wide, lists_no_weekday, numbers_of}
 use Rattle.jiff_core.specs.Calendar.{days_in_year, days_in_month}
 use Rattle.jiff_core.specs.Weekday.{monday_zero}
-use Rattle.ics_rule.specs.declared.filled.Filled.{Filled}
+use Rattle.ics_rule.specs.declared.effective_rule.EffectiveRule.{EffectiveRule}
 use Rattle.ics_values.specs.declared.fields.Civil.{Civil}
 use Rattle.ics_values.specs.Days.{year_of, year_day_of, month_of, month_day_of, weekday_of}
 use Rattle.ics_values.specs.Fields.{IsCivilOf}
 use Rattle.ics_rule.specs.Candidates.{lets, lets_place, lets_wide_place, lets_week, lists_nth, lets_numbered, lets_weekday, lets_date, fourth_day}
-use Rattle.ics_rule.specs.Dates.{names_weekdays_alone}
-use Rattle.ics_rule.specs.Parts.{names_weekday}
+use Rattle.ics_rule.specs.DateParts.{names_weekdays_alone}
+use Rattle.ics_rule.specs.NamedWeekdays.{names_weekday}
 use Rattle.ics_rule.proofs.ScanLemmas.{in_word}
 
 -- the week of a day, by the fields of its fourth day
-pub lets_week-fields : (q : Filled) (e : ℕ) (c : Civil) → IsCivilOf c (fourth_day (monday_zero q.week_start) e) →
+pub lets_week-fields : (q : EffectiveRule) (e : ℕ) (c : Civil) → IsCivilOf c (fourth_day (monday_zero q.week_start) e) →
     lets_place q.weeks ((c.year_day - 1) / 7 + 1) ((days_in_year (pos c.year) - 1 - (c.year_day - 1) % 7) / 7 + 1) ≡ lets_week q e
 lets_week-fields q e c f =
     ap (λ y. lets_place q.weeks ((c.year_day - 1) / 7 + 1) ((days_in_year (pos y) - 1 - (c.year_day - 1) % 7) / 7 + 1)) f.year
@@ -47,12 +47,12 @@ absent_in true b h = refl
 absent_in false b h = absurd (cc)
 
 -- a weekday that stands neither alone nor with a number is out
-pub none_nth : (p : Places) (n size : ℕ) → lists_none p ≡ true → lists_nth p n size ≡ false
+pub none_nth : (p : Ordinals) (n size : ℕ) → lists_none p ≡ true → lists_nth p n size ≡ false
 none_nth p n size h =
-    let parts = and_parts (is_none p.front) (is_none p.back) h in
-    ap (λ x. has x ((n - 1) / 7 + 1) || has p.back ((size - n) / 7 + 1)) (zero_of p.front parts.0)
-    ∙ ap (λ x. has 0 ((n - 1) / 7 + 1) || has x ((size - n) / 7 + 1)) (zero_of p.back parts.1)
-    ∙ ap (λ x. (x == 1) || has 0 ((size - n) / 7 + 1)) (bit_at-zero ((n - 1) / 7 + 1))
+    let parts = and_parts (is_empty p.front) (is_empty p.back) h in
+    ap (λ x. contains x ((n - 1) / 7 + 1) || contains p.back ((size - n) / 7 + 1)) (zero_of p.front parts.0)
+    ∙ ap (λ x. contains 0 ((n - 1) / 7 + 1) || contains x ((size - n) / 7 + 1)) (zero_of p.back parts.1)
+    ∙ ap (λ x. (x == 1) || contains 0 ((size - n) / 7 + 1)) (bit_at-zero ((n - 1) / 7 + 1))
     ∙ ap (λ x. (x == 1)) (bit_at-zero ((size - n) / 7 + 1))
   where
     and_parts : (a b : Bool) → (a && b) ≡ true → (a ≡ true) × (b ≡ true)
@@ -62,9 +62,9 @@ none_nth p n size h =
     zero_of : (s : ℕ) → (s == 0) ≡ true → s ≡ 0
     zero_of s h = grind (arith, nat_tests)
 
-none_numbered : (f : Frequency) (q : Filled) (p : Places) (e : ℕ) → lists_none p ≡ true → lets_numbered f q p e ≡ false
+none_numbered : (f : Frequency) (q : EffectiveRule) (p : Ordinals) (e : ℕ) → lists_none p ≡ true → lets_numbered f q p e ≡ false
 none_numbered Monthly q p e h = none_nth p (month_day_of e) (days_in_month (pos (year_of e)) (month_of e)) h
-none_numbered Yearly q p e h = by_cases (not (lists_none q.weeks)) (not (is_none q.months))
+none_numbered Yearly q p e h = by_cases (not (lists_none q.weeks)) (not (is_empty q.months))
   where
     by_cases : (a b : Bool) → (if a then not (lists_none p) else (if b then lists_nth p (month_day_of e) (days_in_month (pos (year_of e)) (month_of e)) else lists_nth p (year_day_of e) (days_in_year (pos (year_of e))))) ≡ false
     by_cases true b = ap not h
@@ -76,15 +76,15 @@ none_numbered Hourly q p e h = ap not h
 none_numbered Minutely q p e h = ap not h
 none_numbered Secondly q p e h = ap not h
 
-pub weekday_out : (q : Filled) (e : ℕ) → (lists_no_weekday q.weekdays || has q.weekdays.plain (weekday_of e)) ≡ false → lists_none (numbers_of q.weekdays (weekday_of e)) ≡ true → lets_date q e ≡ false
+pub weekday_out : (q : EffectiveRule) (e : ℕ) → (lists_no_weekday q.weekdays || contains q.weekdays.plain (weekday_of e)) ≡ false → lists_none (numbers_of q.weekdays (weekday_of e)) ≡ true → lets_date q e ≡ false
 weekday_out q e a c = out_5 (lets q.months (month_of e)) (lets_place q.month_days (month_day_of e) (days_in_month (pos (year_of e)) (month_of e))) (lets_wide_place q.year_days (year_day_of e) (days_in_year (pos (year_of e)))) (lets_week q e) (lets_weekday q e)
     (ap (λ x. x || lets_numbered q.frequency q (numbers_of q.weekdays (weekday_of e)) e) a ∙ none_numbered q.frequency q (numbers_of q.weekdays (weekday_of e)) e c)
 
 -- where no other part speaks of the date BYDAY decides
-pub weekdays_alone : (q : Filled) (e : ℕ) → names_weekdays_alone q ≡ true → lets_date q e ≡ lets_weekday q e
-weekdays_alone q e alone = let f = four (is_none q.months) (lists_none q.month_days) (lists_none_wide q.year_days) (lists_none q.weeks) alone in
+pub weekdays_alone : (q : EffectiveRule) (e : ℕ) → names_weekdays_alone q ≡ true → lets_date q e ≡ lets_weekday q e
+weekdays_alone q e alone = let f = four (is_empty q.months) (lists_none q.month_days) (lists_none_wide q.year_days) (lists_none q.weeks) alone in
     sym (all_in (lets q.months (month_of e)) (lets_place q.month_days (month_day_of e) (days_in_month (pos (year_of e)) (month_of e))) (lets_wide_place q.year_days (year_day_of e) (days_in_year (pos (year_of e)))) (lets_week q e) (lets_weekday q e)
-    (absent_in (is_none q.months) _ f.0) (absent_in (lists_none q.month_days) _ f.1.0) (absent_in (lists_none_wide q.year_days) _ f.1.1.0) (absent_in (lists_none q.weeks) _ f.1.1.1))
+    (absent_in (is_empty q.months) _ f.0) (absent_in (lists_none q.month_days) _ f.1.0) (absent_in (lists_none_wide q.year_days) _ f.1.1.0) (absent_in (lists_none q.weeks) _ f.1.1.1))
   where
     four : (a b c d : Bool) → (a && b && c && d) ≡ true → (a ≡ true) × ((b ≡ true) × ((c ≡ true) × (d ≡ true)))
     four true true true true h = (refl, (refl, (refl, refl)))
@@ -94,20 +94,20 @@ weekdays_alone q e alone = let f = four (is_none q.months) (lists_none q.month_d
     four false b c d h = absurd (cc)
 
 -- and a weekday that stands alone is in there
-pub weekday_in : (q : Filled) (e : ℕ) → (lists_no_weekday q.weekdays || has q.weekdays.plain (weekday_of e)) ≡ true → names_weekdays_alone q ≡ true → lets_date q e ≡ true
-weekday_in q e day alone = weekdays_alone q e alone ∙ absent_in (lists_no_weekday q.weekdays || has q.weekdays.plain (weekday_of e)) (lets_numbered q.frequency q (numbers_of q.weekdays (weekday_of e)) e) day
+pub weekday_in : (q : EffectiveRule) (e : ℕ) → (lists_no_weekday q.weekdays || contains q.weekdays.plain (weekday_of e)) ≡ true → names_weekdays_alone q ≡ true → lets_date q e ≡ true
+weekday_in q e day alone = weekdays_alone q e alone ∙ absent_in (lists_no_weekday q.weekdays || contains q.weekdays.plain (weekday_of e)) (lets_numbered q.frequency q (numbers_of q.weekdays (weekday_of e)) e) day
 
 -- under WEEKLY with BYDAY alone, the weekdays that it names
 pub in_week : (d : ℕ) (b : Bool) → d < 7 → (nat_lt d 7 && b) ≡ b
 in_week d b h = let less : nat_lt d 7 ≡ true = grind (arith, nat_tests) in rw less refl
 
-named_in : (q : Filled) (e : ℕ) → q.frequency ≡ Weekly → names_weekdays_alone q ≡ true → lists_no_weekday q.weekdays ≡ false → names_weekday q.weekdays (weekday_of e) ≡ lets_date q e
+named_in : (q : EffectiveRule) (e : ℕ) → q.frequency ≡ Weekly → names_weekdays_alone q ≡ true → lists_no_weekday q.weekdays ≡ false → names_weekday q.weekdays (weekday_of e) ≡ lets_date q e
 named_in q e weekly alone some =
-    sym (weekdays_alone q e alone ∙ ap (λ x. x || has q.weekdays.plain (weekday_of e) || lets_numbered q.frequency q (numbers_of q.weekdays (weekday_of e)) e) some
-    ∙ ap (λ f. has q.weekdays.plain (weekday_of e) || lets_numbered f q (numbers_of q.weekdays (weekday_of e)) e) weekly)
+    sym (weekdays_alone q e alone ∙ ap (λ x. x || contains q.weekdays.plain (weekday_of e) || lets_numbered q.frequency q (numbers_of q.weekdays (weekday_of e)) e) some
+    ∙ ap (λ f. contains q.weekdays.plain (weekday_of e) || lets_numbered f q (numbers_of q.weekdays (weekday_of e)) e) weekly)
 
-pub day_of_week : (q : Filled) (e d set : ℕ) (found : Bool) → q.frequency ≡ Weekly → names_weekdays_alone q ≡ true → lists_no_weekday q.weekdays ≡ false
-    → d ≡ weekday_of e → d < 7 → ((n : ℕ) → has set n ≡ (nat_lt n 7 && names_weekday q.weekdays n)) → found ≡ (nat_lt d 64 && has set d) → found ≡ lets_date q e
+pub day_of_week : (q : EffectiveRule) (e d set : ℕ) (found : Bool) → q.frequency ≡ Weekly → names_weekdays_alone q ≡ true → lists_no_weekday q.weekdays ≡ false
+    → d ≡ weekday_of e → d < 7 → ((n : ℕ) → contains set n ≡ (nat_lt n 7 && names_weekday q.weekdays n)) → found ≡ (nat_lt d 64 && contains set d) → found ≡ lets_date q e
 day_of_week q e d set found weekly alone some day small named h =
-    h ∙ in_word d (has set d) (omega (arith, small)) ∙ named d ∙ in_week d (names_weekday q.weekdays d) small
+    h ∙ in_word d (contains set d) (omega (arith, small)) ∙ named d ∙ in_week d (names_weekday q.weekdays d) small
     ∙ ap (names_weekday q.weekdays) day ∙ named_in q e weekly alone some

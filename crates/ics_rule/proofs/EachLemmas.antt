@@ -6,13 +6,13 @@ use Rattle.std.proofs.Math.Nat.{mul-le-mul_right, mul_comm}
 use Rattle.jiff_core.specs.Weekday.{monday_zero}
 use Rattle.ics_values.specs.declared.frequency.Frequency.{Frequency}
 use Rattle.ics_values.specs.declared.frequency.Frequency.TheVariants.{Secondly, Minutely, Hourly, Daily, Weekly, Monthly, Yearly}
-use Rattle.ics_values.specs.Places.{lists_none_wide}
-use Rattle.ics_rule.specs.declared.filled.Filled.{Filled}
-use Rattle.ics_rule.specs.Locals.{period, calendar_end, day_of, hour_of, minute_of, second_of}
-use Rattle.ics_rule.specs.Filled.{skips_hours, skips_minutes, skips_seconds}
+use Rattle.ics_values.specs.Ordinals.{lists_none_wide}
+use Rattle.ics_rule.specs.declared.effective_rule.EffectiveRule.{EffectiveRule}
+use Rattle.ics_rule.specs.PeriodNumbers.{period, calendar_end, day_of, hour_of, minute_of, second_of}
+use Rattle.ics_rule.specs.EffectiveRules.{skips_hours, skips_minutes, skips_seconds}
 use Rattle.ics_rule.specs.Candidates.{lets, lets_date, lets_clock, lists_wide, is_stepped, is_candidate_in, period_in}
 use Rattle.ics_rule.specs.Kept.{count, is_beside, rank, size, is_placed, is_chosen}
-use Rattle.ics_rule.specs.Periods.{first_local, is_listed}
+use Rattle.ics_rule.specs.RecurrencePeriods.{first_local, is_listed}
 use Rattle.ics_rule.specs.Rounds.{seconds_of}
 use Rattle.ics_rule.specs.OpenPeriods.{per_day, lets_own, lets_within, is_open_period, size_of_open, chosen_of_size, chosen_in_open}
 use Rattle.ics_rule.proofs.Counts.{count-same, count-suc, count-add, count-from, count-none, count-product, count_every}
@@ -42,7 +42,7 @@ not_true true never = absurd (never refl)
 not_true false never = refl
 
 -- the clock is a period's own and what is within it
-pub clock_split : (f : Frequency) (q : Filled) (n : ℕ) → lets_clock q n ≡ (lets_own f q n && lets_within f q n)
+pub clock_split : (f : Frequency) (q : EffectiveRule) (n : ℕ) → lets_clock q n ≡ (lets_own f q n && lets_within f q n)
 clock_split f q n =
     sym (ap (λ x. x && part (skips_minutes f) (lets q.minutes (minute_of n)) && part (skips_seconds f) (lets q.seconds (second_of n)))
     (whole (skips_hours f) (lets q.hours (hour_of n)))
@@ -71,7 +71,7 @@ clock_split f q n =
     shuffle true true true d e f = refl
 
 -- a period's locals, by their place in it
-module _ (q : Filled) (p k : ℕ) where
+module _ (q : EffectiveRule) (p k : ℕ) where
   pub period_at : (f : Frequency) (w : ℕ) → 0 < seconds_of f → seconds_of f ≤ 86_400 → k < seconds_of f → period f w (p * seconds_of f + k) ≡ p
   period_at Secondly w h u l = omega (arith, l)
   period_at Minutely w h u l = omega (arith, l)
@@ -141,7 +141,7 @@ first_at Monthly w p h u = absurd (omega (arith, h))
 first_at Yearly w p h u = absurd (omega (arith, h))
 
 -- how many locals that is
-module _ (q : Filled) where
+module _ (q : EffectiveRule) where
   pub size_secondly : 1 ≡ count 1 (lets_within Secondly q)
   size_secondly = sym (count-same 1 (lets_within Secondly q) (λ k. true) (λ k l. refl) ∙ count_every 1)
 
@@ -163,13 +163,13 @@ module _ (q : Filled) where
       ∙ ap (λ x. x * count 60 (lets q.seconds)) (count-product 24 60 (lets q.hours) (lets q.minutes))
 
 -- a period later than another, up to which what is chosen is counted
-pub record IsOpenEnd (q : Filled) (start begin last place sum : ℕ) : Type 0 where
+pub record IsOpenEnd (q : EffectiveRule) (start begin last place sum : ℕ) : Type 0 where
   pub step : is_stepped (period_in q start) q.interval last ≡ true
   pub later : begin < last
   pub top : last ≤ period_in q place
   pub total : sum ≡ count (first_local q.frequency (monday_zero q.week_start) last) (is_chosen q start)
 
-module _ (q : Filled) (start : ℕ) (fine : 0 < seconds_of q.frequency) (unit : seconds_of q.frequency ≤ 86_400) where
+module _ (q : EffectiveRule) (start : ℕ) (fine : 0 < seconds_of q.frequency) (unit : seconds_of q.frequency ≤ 86_400) where
   abbrev u : ℕ
   u = seconds_of q.frequency
 

@@ -5,13 +5,13 @@ use Rattle.jiff_core.specs.Weekday.{monday_zero}
 use Rattle.ics_values.specs.declared.frequency.Frequency.{Frequency}
 use Rattle.ics_values.specs.declared.frequency.Frequency.TheVariants.{Secondly, Minutely, Hourly, Daily, Weekly, Monthly, Yearly}
 use Rattle.ics_values.specs.Days.{days_before_year}
-use Rattle.ics_values.specs.Places.{lists_none_wide}
+use Rattle.ics_values.specs.Ordinals.{lists_none_wide}
 use Rattle.ics_values.proofs.DayLemmas.{days_before_year_low}
-use Rattle.ics_rule.specs.declared.filled.Filled.{Filled}
-use Rattle.ics_rule.specs.Locals.{calendar_end}
+use Rattle.ics_rule.specs.declared.effective_rule.EffectiveRule.{EffectiveRule}
+use Rattle.ics_rule.specs.PeriodNumbers.{calendar_end}
 use Rattle.ics_rule.specs.Candidates.{is_stepped, period_in}
 use Rattle.ics_rule.specs.Kept.{count, is_chosen}
-use Rattle.ics_rule.specs.Periods.{first_local}
+use Rattle.ics_rule.specs.RecurrencePeriods.{first_local}
 use Rattle.ics_rule.specs.Rounds.{seconds_of, IsFlat, IsRound, IsEvenRound, chosen_to}
 use Rattle.ics_rule.proofs.Counts.{count_mono}
 use Rattle.ics_rule.proofs.RankLemmas.{count_flat}
@@ -27,19 +27,19 @@ by_order : (m n : ℕ) → (m < n) ⊎ (n ≤ m)
 by_order m n = grind arith
 
 -- a period is the start's or later, by a multiple of the interval
-abbrev IsStep : Filled → ℕ → ℕ → Type 0
+abbrev IsStep : EffectiveRule → ℕ → ℕ → Type 0
 IsStep q start p = is_stepped (period_in q start) q.interval p ≡ true
 
 -- and begins before the end of the rules
-abbrev IsEarly : Filled → ℕ → Type 0
+abbrev IsEarly : EffectiveRule → ℕ → Type 0
 IsEarly q p = first_local q.frequency (monday_zero q.week_start) p ≤ 309_289_708_800
 
 -- how many locals are allowed before the period with a number
-abbrev allowed_to : Filled → ℕ → ℕ
+abbrev allowed_to : EffectiveRule → ℕ → ℕ
 allowed_to q p = allowed_before q (first_local q.frequency (monday_zero q.week_start) p)
 
 -- steps that have as many allowed have as many chosen
-even_adds : (q : Filled) (start x y : ℕ) → IsStep q start x → IsStep q start y → x ≤ y → IsEarly q y
+even_adds : (q : EffectiveRule) (start x y : ℕ) → IsStep q start x → IsStep q start y → x ≤ y → IsEarly q y
     → allowed_to q (suc x) + allowed_to q y ≡ allowed_to q (suc y) + allowed_to q x
     → chosen_to q start (suc x) + chosen_to q start y ≡ chosen_to q start (suc y) + chosen_to q start x
 even_adds q start x y sx sy order high even =
@@ -63,7 +63,7 @@ even_adds q start x y sx sy order high even =
     let chosen = ap (chosen_of q (lists_none_wide q.positions)) same in
     omega (arith, one, other, chosen)
 
-module _ (q : Filled) (start : ℕ) (some : 1 ≤ q.interval) where
+module _ (q : EffectiveRule) (start : ℕ) (some : 1 ≤ q.interval) where
   -- from a step to the next nothing but the first period adds
   next_step_adds : (x : ℕ) → IsStep q start x → chosen_to q start (x + q.interval) ≡ chosen_to q start (suc x)
   next_step_adds x step =
@@ -177,7 +177,7 @@ module _ (q : Filled) (start : ℕ) (some : 1 ≤ q.interval) where
         positive (suc a) zero h l = absurd (omega (arith, l))
 
 -- a round of what a rule allows is one
-pub even_of_round : (q : Filled) (start periods seconds : ℕ) → IsRound q periods seconds → IsEvenRound q start periods
+pub even_of_round : (q : EffectiveRule) (start periods seconds : ℕ) → IsRound q periods seconds → IsEvenRound q start periods
 even_of_round q start periods seconds round = record {
   some = round.some;
   step = round.step;
@@ -195,7 +195,7 @@ is_monthly Monthly e other = refl
 is_monthly Yearly e other = absurd (other refl)
 
 -- twelve months in steps of the interval are one
-pub even_months : (q : Filled) (start : ℕ) → 1 ≤ q.interval → IsFlat q → q.frequency ≡ Monthly → IsEvenRound q start (q.interval * 12)
+pub even_months : (q : EffectiveRule) (start : ℕ) → 1 ≤ q.interval → IsFlat q → q.frequency ≡ Monthly → IsEvenRound q start (q.interval * 12)
 even_months q start some flat monthly = even_is q start some 12 (λ x low high. months x (x + q.interval * 12) low high (omega arith) (omega (arith, low))) (omega arith)
   where
     months : (x y : ℕ) → 1 ≤ x → IsEarly q y → x ≤ y → (y - 1) % 12 ≡ (x - 1) % 12
@@ -218,7 +218,7 @@ even_months q start some flat monthly = even_is q start some 12 (λ x low high. 
         omega (arith, one, other, own, a, b, c, d)
 
 -- and a year is one
-pub even_years : (q : Filled) (start : ℕ) → 1 ≤ q.interval → IsFlat q → q.frequency ≡ Yearly → IsEvenRound q start (q.interval * 1)
+pub even_years : (q : EffectiveRule) (start : ℕ) → 1 ≤ q.interval → IsFlat q → q.frequency ≡ Yearly → IsEvenRound q start (q.interval * 1)
 even_years q start some flat yearly = even_is q start some 1 (λ x low high. years x (x + q.interval * 1) high (omega arith)) (omega arith)
   where
     years : (x y : ℕ) → IsEarly q y → x ≤ y → allowed_to q (suc x) + allowed_to q y ≡ allowed_to q (suc y) + allowed_to q x

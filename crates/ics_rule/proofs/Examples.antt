@@ -9,11 +9,11 @@ use Rattle.jiff_core.specs.declared.civil.weekday.Weekday.{Weekday}
 use Rattle.jiff_core.specs.declared.civil.weekday.Weekday.TheVariants.{Monday, Sunday}
 use Rattle.ics_values.specs.declared.local.Local.{Local}
 use Rattle.ics_values.specs.RuleParts.{every}
-use Rattle.ics_values.specs.Places.{no_places}
+use Rattle.ics_values.specs.Ordinals.{no_ordinals}
 use Rattle.ics_values.specs.Sets.{only}
 use Rattle.ics_rule.specs.Recurrence.{Recurrence}
 use Rattle.ics_rule.specs.declared.kind.Kind.TheVariants.{Date, DateTime}
-use Rattle.ics_rule.specs.Locals.{number}
+use Rattle.ics_values.specs.Locals.{number}
 use Rattle.ics_rule.specs.Candidates.{is_candidate}
 use Rattle.ics_rule.specs.Kept.{is_kept}
 use Rattle.ics_rule.proofs.Samples.{on_weekdays, nth_last_weekday, at, local, rule, mo, tu, fr, su}
@@ -39,7 +39,7 @@ other_times = refl
 
 -- Friday the thirteenth: the start does not fit, and is kept all the same
 abbrev friday_13 : Recurrence
-friday_13 = rule (record (every Monthly) { weekdays = on_weekdays (only fr); month_days = record no_places { front = only 13 } }) (local 1997 9 2 9 0) DateTime
+friday_13 = rule (record (every Monthly) { weekdays = on_weekdays (only fr); month_days = record no_ordinals { front = only 13 } }) (local 1997 9 2 9 0) DateTime
 
 fridays : map (is_kept friday_13) (at 1997 9 2 9 0 ∷ at 1997 9 13 9 0 ∷ at 1997 9 12 9 0 ∷ at 1998 2 13 9 0 ∷ at 1998 3 13 9 0 ∷ at 1998 10 13 9 0 ∷ at 1998 11 13 9 0 ∷ [])
     ≡ true ∷ false ∷ false ∷ true ∷ true ∷ false ∷ true ∷ []
@@ -52,7 +52,7 @@ start_unfit = refl
 
 -- no 30 February: the rule goes on in March, and nothing stands in for the day
 abbrev halves : Recurrence
-halves = rule (record (every Monthly) { month_days = record no_places { front = only 15 + only 30 } }) (local 2007 1 15 9 0) DateTime
+halves = rule (record (every Monthly) { month_days = record no_ordinals { front = only 15 + only 30 } }) (local 2007 1 15 9 0) DateTime
 
 no_stand_in : map (is_kept halves) (at 2007 1 15 9 0 ∷ at 2007 1 30 9 0 ∷ at 2007 2 15 9 0 ∷ at 2007 2 28 9 0 ∷ at 2007 3 1 9 0 ∷ at 2007 3 2 9 0 ∷ at 2007 3 15 9 0 ∷ at 2007 3 30 9 0 ∷ [])
     ≡ true ∷ true ∷ true ∷ false ∷ false ∷ false ∷ true ∷ true ∷ []
@@ -61,7 +61,7 @@ no_stand_in = refl
 
 -- week 53 of a year reaches into January of the next one
 abbrev week_53 : Recurrence
-week_53 = rule (record (every Yearly) { weeks = record no_places { front = only 53 }; weekdays = on_weekdays (only fr) }) (local 2021 1 1 0 0) Date
+week_53 = rule (record (every Yearly) { weeks = record no_ordinals { front = only 53 }; weekdays = on_weekdays (only fr) }) (local 2021 1 1 0 0) Date
 
 late_weeks : map (λ y. is_kept week_53 (at y 1 1 0 0)) (2021 ∷ 2022 ∷ 2027 ∷ 2033 ∷ 2038 ∷ []) ≡ true ∷ false ∷ true ∷ false ∷ true ∷ []
 unfolding rules_on_literals days_on_literals
@@ -82,7 +82,7 @@ leap_days = refl
 
 -- 30 February never comes
 abbrev never : Recurrence
-never = rule (record (every Yearly) { months = only 2; month_days = record no_places { front = only 30 } }) (local 2024 1 1 0 0) DateTime
+never = rule (record (every Yearly) { months = only 2; month_days = record no_ordinals { front = only 30 } }) (local 2024 1 1 0 0) DateTime
 
 no_30_february : map (is_kept never) (at 2024 1 1 0 0 ∷ at 2025 2 28 0 0 ∷ at 2028 2 29 0 0 ∷ at 2025 3 2 0 0 ∷ at 2025 1 30 0 0 ∷ []) ≡ true ∷ false ∷ false ∷ false ∷ false ∷ []
 unfolding rules_on_literals days_on_literals
@@ -112,7 +112,7 @@ five_mondays = refl
 
 -- the second last day of the month
 abbrev second_last : Recurrence
-second_last = rule (record (every Monthly) { month_days = record no_places { back = only 2 } }) (local 2024 1 30 9 0) DateTime
+second_last = rule (record (every Monthly) { month_days = record no_ordinals { back = only 2 } }) (local 2024 1 30 9 0) DateTime
 
 second_last_days : map (is_kept second_last) (at 2024 1 30 9 0 ∷ at 2024 2 27 9 0 ∷ at 2024 2 28 9 0 ∷ at 2024 2 29 9 0 ∷ at 2025 2 27 9 0 ∷ at 2024 4 29 9 0 ∷ [])
     ≡ true ∷ false ∷ true ∷ false ∷ true ∷ true ∷ []

@@ -3,15 +3,15 @@ use Rattle.std.specs.Option.{is_some}
 use Rattle.std.proofs.Common.{Option, Some, None, ◌≡◌, ℕ, zero, suc, ◌+◌, ◌-◌, ◌*◌, ◌/◌, ◌%◌, ◌<◌, ◌≤◌, Bool, true, false, ◌&&◌, ◌||◌, pos, refl, ap, ◌∙◌, arith}
 use Rattle.jiff_core.specs.Calendar.{days_in_month}
 use Rattle.jiff_core.proofs.CalendarLemmas.{days_in_month_bounds, days_of_months-zero}
-use Rattle.ics_values.specs.Sets.{has, IsNextIn}
-use Rattle.ics_values.specs.Places.{lists_none, lists_no_weekday, numbers_of}
+use Rattle.ics_values.specs.Sets.{contains, IsNextIn}
+use Rattle.ics_values.specs.Ordinals.{lists_none, lists_no_weekday, numbers_of}
 use Rattle.ics_values.specs.Days.{days_before_year, year_of, month_of, month_day_of, weekday_of}
-use Rattle.ics_rule.specs.declared.filled.Filled.{Filled}
+use Rattle.ics_rule.specs.declared.effective_rule.EffectiveRule.{EffectiveRule}
 use Rattle.ics_rule.specs.declared.runs.Run.{Run}
-use Rattle.ics_rule.specs.Locals.{day_of}
+use Rattle.ics_rule.specs.PeriodNumbers.{day_of}
 use Rattle.ics_rule.specs.Candidates.{lets, lets_place, lets_weekday, lets_numbered, lets_date, lets_clock}
 use Rattle.ics_rule.specs.Kept.{count}
-use Rattle.ics_rule.specs.Periods.{month_start}
+use Rattle.ics_rule.specs.RecurrencePeriods.{month_start}
 use Rattle.ics_rule.specs.Rounds.{IsFlat}
 use Rattle.ics_rule.proofs.Counts.{count-same, count-add}
 use Rattle.ics_rule.proofs.RankLemmas.{count_flat}
@@ -25,33 +25,33 @@ none_from test n None e next = next
 none_from test n (Some x) e next = absurd (cc)
 
 -- what a rule allows, apart from the interval
-abbrev pub is_allowed : Filled → ℕ → Bool
+abbrev pub is_allowed : EffectiveRule → ℕ → Bool
 is_allowed q n = lets_date q (day_of n) && lets_clock q n
 
 -- how many such locals are earlier
-abbrev pub allowed_before : Filled → ℕ → ℕ
+abbrev pub allowed_before : EffectiveRule → ℕ → ℕ
 allowed_before q n = count n (is_allowed q)
 
 -- the first local of the month after so many
 abbrev pub month_local : ℕ → ℕ
 month_local i = month_start (suc i) * 86_400
 
-clock_of_day : (q : Filled) (e k : ℕ) → lets_clock q (e * 86_400 + k) ≡ lets_clock q k
+clock_of_day : (q : EffectiveRule) (e k : ℕ) → lets_clock q (e * 86_400 + k) ≡ lets_clock q k
 clock_of_day q e k = clock_alike q (e * 86_400 + k) k
     (let same : (e * 86_400 + k) / 3_600 % 24 ≡ k / 3_600 % 24 = omega arith in ap (lets q.hours) same)
     (let same : (e * 86_400 + k) / 60 % 60 ≡ k / 60 % 60 = omega arith in ap (lets q.minutes) same)
     (let same : (e * 86_400 + k) % 60 ≡ k % 60 = omega arith in ap (lets q.seconds) same)
 
-module _ (q : Filled) (flat : IsFlat q) where
+module _ (q : EffectiveRule) (flat : IsFlat q) where
   -- what is allowed in the first 28 days of a month
   abbrev in_month : ℕ → ℕ → Bool
-  in_month m k = (lets q.months (m + 1) && has q.month_days.front (k / 86_400 + 1)) && lets_clock q k
+  in_month m k = (lets q.months (m + 1) && contains q.month_days.front (k / 86_400 + 1)) && lets_clock q k
 
   abbrev pub month_adds : ℕ → ℕ
   month_adds m = count (28 * 86_400) (in_month m)
 
   date_is : (i d : ℕ) → i / 12 ≤ 9_999 → d < days_in_month (pos (i / 12)) (i % 12 + 1)
-      → lets_date q (month_start (suc i) + d) ≡ (lets q.months (i % 12 + 1) && has q.month_days.front (d + 1))
+      → lets_date q (month_start (suc i) + d) ≡ (lets q.months (i % 12 + 1) && contains q.month_days.front (d + 1))
   date_is i d year inside =
       let back : suc i - 1 ≡ i = omega arith in
       let len = days_in_month (pos (i / 12)) (i % 12 + 1) in
@@ -67,7 +67,7 @@ module _ (q : Filled) (flat : IsFlat q) where
       three_parts q e flat.goes
       ∙ ap (λ x. lets q.months x && (lets_place q.month_days (month_day_of e) size && lets_weekday q e)) month
       ∙ ap (λ x. lets q.months (i % 12 + 1) && (lets_place q.month_days x size && lets_weekday q e)) day
-      ∙ ap (λ x. lets q.months (i % 12 + 1) && x) (parts (lists_none q.month_days) (lists_no_weekday q.weekdays) (has q.month_days.front (d + 1)) (has q.month_days.back (size + 1 - (d + 1))) (has q.weekdays.plain (weekday_of e)) (lets_numbered q.frequency q (numbers_of q.weekdays (weekday_of e)) e) g.1.1 flat.alone (flat.back (size + 1 - (d + 1))))
+      ∙ ap (λ x. lets q.months (i % 12 + 1) && x) (parts (lists_none q.month_days) (lists_no_weekday q.weekdays) (contains q.month_days.front (d + 1)) (contains q.month_days.back (size + 1 - (d + 1))) (contains q.weekdays.plain (weekday_of e)) (lets_numbered q.frequency q (numbers_of q.weekdays (weekday_of e)) e) g.1.1 flat.alone (flat.back (size + 1 - (d + 1))))
     where
       parts : (n w f b x z : Bool) → (n && w) ≡ false → w ≡ true → b ≡ false → ((n || (f || b)) && (w || x || z)) ≡ f
       parts true true f b x z some none out = absurd (cc)
@@ -81,7 +81,7 @@ module _ (q : Filled) (flat : IsFlat q) where
       let day : (month_start (suc i) * 86_400 + k) / 86_400 ≡ month_start (suc i) + k / 86_400 = omega arith in
       ap (λ e. lets_date q e && lets_clock q (month_start (suc i) * 86_400 + k)) day
       ∙ ap (λ x. x && lets_clock q (month_start (suc i) * 86_400 + k)) (date_is i (k / 86_400) year (omega (arith, inside)))
-      ∙ ap (λ x. (lets q.months (i % 12 + 1) && has q.month_days.front (k / 86_400 + 1)) && x) (clock_of_day q (month_start (suc i)) k)
+      ∙ ap (λ x. (lets q.months (i % 12 + 1) && contains q.month_days.front (k / 86_400 + 1)) && x) (clock_of_day q (month_start (suc i)) k)
 
   pub month_is : (i : ℕ) → i / 12 ≤ 9_999 → allowed_before q (month_local (suc i)) ≡ allowed_before q (month_local i) + month_adds (i % 12)
   month_is i year =
@@ -91,7 +91,7 @@ module _ (q : Filled) (flat : IsFlat q) where
       let whole = ap (allowed_before q) (let next : month_local (suc i) ≡ month_local i + len * 86_400 = omega (arith, size) in next) in
       let add = count-add (month_local i) (len * 86_400) (is_allowed q) in
       let same = count-same (len * 86_400) (λ k. is_allowed q (month_local i + k)) (in_month (i % 12)) (λ k l. allowed_is i k year l) in
-      let most = count_flat (28 * 86_400) (len * 86_400) (in_month (i % 12)) (omega (arith, bounds.1)) (λ k l u. out (lets q.months (i % 12 + 1)) (has q.month_days.front (k / 86_400 + 1)) (lets_clock q k) (flat.front (k / 86_400 + 1) (omega (arith, l)))) in
+      let most = count_flat (28 * 86_400) (len * 86_400) (in_month (i % 12)) (omega (arith, bounds.1)) (λ k l u. out (lets q.months (i % 12 + 1)) (contains q.month_days.front (k / 86_400 + 1)) (lets_clock q k) (flat.front (k / 86_400 + 1) (omega (arith, l)))) in
       omega (arith, whole, add, same, most)
     where
       out : (a b c : Bool) → b ≡ false → ((a && b) && c) ≡ false

@@ -8,18 +8,19 @@ use Rattle.ics_values.specs.declared.frequency.Frequency.TheVariants.{Secondly, 
 use Rattle.ics_values.specs.declared.until.Until.{Until}
 use Rattle.ics_values.specs.declared.until.Until.TheVariants as until
 use Rattle.ics_values.specs.Days.{day_index, year_of}
-use Rattle.ics_values.specs.Sets.{has, is_none, IsLeastFrom}
-use Rattle.ics_values.specs.Places.{lists_none_wide}
+use Rattle.ics_values.specs.Sets.{contains, is_empty, IsLeastFrom}
+use Rattle.ics_values.specs.Ordinals.{lists_none_wide}
 use Rattle.ics_rule.specs.declared.kind.Kind.{Kind}
 use Rattle.ics_rule.specs.declared.kind.Kind.TheVariants.{Date, DateTime}
-use Rattle.ics_rule.specs.declared.filled.Filled.{Filled}
+use Rattle.ics_rule.specs.declared.effective_rule.EffectiveRule.{EffectiveRule}
 use Rattle.ics_rule.specs.Recurrence.{Recurrence}
-use Rattle.ics_rule.specs.Locals.{number, period, day_of, hour_of, minute_of, second_of, week_of, month_number, rules_end}
-use Rattle.ics_rule.specs.Filled.{filled}
+use Rattle.ics_rule.specs.PeriodNumbers.{period, day_of, hour_of, minute_of, second_of, week_of, month_number, rules_end}
+use Rattle.ics_values.specs.Locals.{number}
+use Rattle.ics_rule.specs.EffectiveRules.{effective}
 use Rattle.ics_rule.specs.Candidates.{lets, in_step, is_stepped, lets_date, lets_clock, period_in, is_candidate_in}
-use Rattle.ics_rule.specs.Kept.{count, is_chosen, is_placed, is_kept, is_until}
+use Rattle.ics_rule.specs.Kept.{count, is_chosen, is_placed, is_kept, is_by_until}
 use Rattle.ics_rule.specs.Searches.{is_few, is_wanted}
-use Rattle.ics_rule.specs.Hours.{is_finer}
+use Rattle.ics_rule.specs.HoursKept.{is_finer}
 use Rattle.ics_rule.specs.Next.{NoneKept, IsNextKept}
 use Rattle.ics_rule.proofs.Counts.{count_mono}
 use Rattle.ics_rule.proofs.KeptLemmas.{and_true, or_true, eqb_true}
@@ -49,7 +50,7 @@ same_period Monthly w n m e d = ap month_number d
 same_period Yearly w n m e d = ap year_of d
 
 -- UNTIL lets in what is earlier than a local that it lets in
-until_up : (k : Kind) (u : Option Until) (n m : ℕ) → n ≤ m → is_until k u m ≡ true → is_until k u n ≡ true
+until_up : (k : Kind) (u : Option Until) (n m : ℕ) → n ≤ m → is_by_until k u m ≡ true → is_by_until k u n ≡ true
 until_up k None n m l h = refl
 until_up k (Some (until.Date d)) n m l h = most_up (day_of n) (day_of m) (day_index d) (let e : n / 86_400 ≤ m / 86_400 = omega (arith, l) in e) h
 until_up Date (Some (until.Local t)) n m l h = most_up (day_of n) (day_of m) (day_index t.day) (let e : n / 86_400 ≤ m / 86_400 = omega (arith, l) in e) h
@@ -57,7 +58,7 @@ until_up Date (Some (until.Utc t)) n m l h = most_up (day_of n) (day_of m) (day_
 until_up DateTime (Some (until.Local t)) n m l h = most_up n m (number t) l h
 until_up DateTime (Some (until.Utc t)) n m l h = refl
 
-module _ (q : Filled) (start : ℕ) where
+module _ (q : EffectiveRule) (start : ℕ) where
   wanted_chosen : (o : Option ℕ) (n : ℕ) → is_wanted q start o n ≡ true → is_chosen q start n ≡ true
   wanted_chosen None n h = h
   wanted_chosen (Some c) n h = (and_true h).0
@@ -87,47 +88,47 @@ module _ (q : Filled) (start : ℕ) where
       (ap (λ b. is_placed q start b n) free)
 
 -- between two kept locals of an hour, each that the parts of the clock let in is kept
-pub kept_between : (r : Recurrence) (a n b : ℕ) → number r.start < a → b < rules_end → is_finer (filled r).frequency ≡ false
-    → lists_none_wide (filled r).positions ≡ true → is_kept r a ≡ true → is_kept r b ≡ true → a ≤ n → n ≤ b → day_of n ≡ day_of a
-    → lets_clock (filled r) n ≡ true → is_kept r n ≡ true
+pub kept_between : (r : Recurrence) (a n b : ℕ) → number r.start < a → b < rules_end → is_finer (effective r).frequency ≡ false
+    → lists_none_wide (effective r).positions ≡ true → is_kept r a ≡ true → is_kept r b ≡ true → a ≤ n → n ≤ b → day_of n ≡ day_of a
+    → lets_clock (effective r) n ≡ true → is_kept r n ≡ true
 kept_between r a n b after early coarse free kept_a kept_b low high d clock =
     let first = and_true (sym (kept_later r a after (let small : a < rules_end = omega (arith, low, high, early) in small)) ∙ kept_a) in
     let last = and_true (sym (kept_later r b (omega (arith, after, low, high)) early) ∙ kept_b) in
-    let chosen = wanted_chosen (filled r) (number r.start) r.parts.count a first.0 in
+    let chosen = wanted_chosen (effective r) (number r.start) r.parts.count a first.0 in
     kept_later r n (omega (arith, after, low)) (omega (arith, high, early))
-    ∙ both_true (is_wanted (filled r) (number r.start) r.parts.count n) (is_until r.kind r.parts.until n)
-    (wanted_up (filled r) (number r.start) r.parts.count n b high last.0
-    (chosen_beside (filled r) (number r.start) coarse free n a d chosen clock))
+    ∙ both_true (is_wanted (effective r) (number r.start) r.parts.count n) (is_by_until r.kind r.parts.until n)
+    (wanted_up (effective r) (number r.start) r.parts.count n b high last.0
+    (chosen_beside (effective r) (number r.start) coarse free n a d chosen clock))
     (until_up r.kind r.parts.until n b high last.1)
 
 -- the parts of the clock let a kept local in
-pub kept_clock : (r : Recurrence) (n : ℕ) → number r.start < n → n < rules_end → is_kept r n ≡ true → lets_clock (filled r) n ≡ true
+pub kept_clock : (r : Recurrence) (n : ℕ) → number r.start < n → n < rules_end → is_kept r n ≡ true → lets_clock (effective r) n ≡ true
 kept_clock r n after early kept =
     let wanted = (and_true (sym (kept_later r n after early) ∙ kept)).0 in
-    let chosen = wanted_chosen (filled r) (number r.start) r.parts.count n wanted in
-    (and_true {a = in_step (filled r) (number r.start) n && lets_date (filled r) (day_of n)}
-    (and_true {a = is_candidate_in (filled r) (number r.start) n} chosen).0).1
+    let chosen = wanted_chosen (effective r) (number r.start) r.parts.count n wanted in
+    (and_true {a = in_step (effective r) (number r.start) n && lets_date (effective r) (day_of n)}
+    (and_true {a = is_candidate_in (effective r) (number r.start) n} chosen).0).1
 
 false_not_true : (b : Bool) → b ≡ false → b ≡ true → ⊥
 false_not_true b p q = absurd (cc)
 
 -- a part that lists something lets in only what it lists
-listed : (s m n : ℕ) → has s m ≡ true → lets s n ≡ true → has s n ≡ true
+listed : (s m n : ℕ) → contains s m ≡ true → lets s n ≡ true → contains s n ≡ true
 listed s m n some let_in = elim (or_true let_in) [
-  | inl none ↦ absurd (false_not_true (has s m) (subst (λ x. has x m ≡ false) (sym (eqb_true s 0 none)) (bit_zero m)) some)
+  | inl none ↦ absurd (false_not_true (contains s m) (subst (λ x. contains x m ≡ false) (sym (eqb_true s 0 none)) (bit_zero m)) some)
   | inr h ↦ h
 ]
   where
-    bit_zero : (n : ℕ) → has 0 n ≡ false
+    bit_zero : (n : ℕ) → contains 0 n ≡ false
     bit_zero n = ap (λ x. x == 1) (bit_at-zero n)
 
 by_order : (a b : ℕ) → (a < b) ⊎ (b ≤ a)
 by_order a b = grind arith
 
 module _ (r : Recurrence) (hour fm fs lm ls : ℕ)
-    (early : hour < 85_913_808) (coarse : is_finer (filled r).frequency ≡ false) (free : lists_none_wide (filled r).positions ≡ true)
-    (first_minute : IsLeastFrom (has (filled r).minutes) 0 fm) (first_second : IsLeastFrom (has (filled r).seconds) 0 fs)
-    (last_minute : (n : ℕ) → lm < n → has (filled r).minutes n ≡ false) (last_second : (n : ℕ) → ls < n → has (filled r).seconds n ≡ false)
+    (early : hour < 85_913_808) (coarse : is_finer (effective r).frequency ≡ false) (free : lists_none_wide (effective r).positions ≡ true)
+    (first_minute : IsLeastFrom (contains (effective r).minutes) 0 fm) (first_second : IsLeastFrom (contains (effective r).seconds) 0 fs)
+    (last_minute : (n : ℕ) → lm < n → contains (effective r).minutes n ≡ false) (last_second : (n : ℕ) → ls < n → contains (effective r).seconds n ≡ false)
     (kept : ℕ) (after : number r.start < kept) (first : kept ≡ hour * 3_600 + fm * 60 + fs)
     (next : IsNextKept r (hour * 3_600) (hour * 3_600 + 3_600) kept)
     (inside : hour * 3_600 + lm * 60 + ls < hour * 3_600 + 3_600) (kept_last : is_kept r (hour * 3_600 + lm * 60 + ls) ≡ true) where
@@ -159,44 +160,44 @@ module _ (r : Recurrence) (hour fm fs lm ls : ℕ)
   parts_of : (n : ℕ) → n / 3_600 ≡ hour → n ≡ hour * 3_600 + n / 60 % 60 * 60 + n % 60
   parts_of n at = omega (arith, at)
 
-  product_kept : (n : ℕ) → n / 3_600 ≡ hour → has (filled r).minutes (minute_of n) ≡ true → has (filled r).seconds (second_of n) ≡ true → is_kept r n ≡ true
+  product_kept : (n : ℕ) → n / 3_600 ≡ hour → contains (effective r).minutes (minute_of n) ≡ true → contains (effective r).seconds (second_of n) ≡ true → is_kept r n ≡ true
   product_kept n at minute second =
-      let low_minute = least_of (has (filled r).minutes) fm (minute_of n) first_minute minute in
-      let low_second = least_of (has (filled r).seconds) fs (second_of n) first_second second in
-      let high_minute = most_of (has (filled r).minutes) lm (minute_of n) last_minute minute in
-      let high_second = most_of (has (filled r).seconds) ls (second_of n) last_second second in
+      let low_minute = least_of (contains (effective r).minutes) fm (minute_of n) first_minute minute in
+      let low_second = least_of (contains (effective r).seconds) fs (second_of n) first_second second in
+      let high_minute = most_of (contains (effective r).minutes) lm (minute_of n) last_minute minute in
+      let high_second = most_of (contains (effective r).seconds) ls (second_of n) last_second second in
       let whole = parts_of n at in
-      let clock = and_true {a = lets (filled r).hours (hour_of kept) && lets (filled r).minutes (minute_of kept)}
+      let clock = and_true {a = lets (effective r).hours (hour_of kept) && lets (effective r).minutes (minute_of kept)}
       (kept_clock r kept after (let high = next.in_bound in omega (arith, early, high)) next.kept) in
-      let of_hour = (and_true {a = lets (filled r).hours (hour_of kept)} clock.0).0 in
+      let of_hour = (and_true {a = lets (effective r).hours (hour_of kept)} clock.0).0 in
       kept_between r kept n (hour * 3_600 + lm * 60 + ls) after (omega (arith, early, inside)) coarse free next.kept kept_last
       (omega (arith, first, whole, low_minute, low_second)) (omega (arith, whole, high_minute, high_second)) (same_day n at)
-      (both_true (lets (filled r).hours (hour_of n) && lets (filled r).minutes (minute_of n)) (lets (filled r).seconds (second_of n))
-      (both_true (lets (filled r).hours (hour_of n)) (lets (filled r).minutes (minute_of n))
-      (subst (λ h. lets (filled r).hours h ≡ true) (same_hour n at) of_hour)
-      (lets_in (filled r).minutes (minute_of n) minute)) (lets_in (filled r).seconds (second_of n) second))
+      (both_true (lets (effective r).hours (hour_of n) && lets (effective r).minutes (minute_of n)) (lets (effective r).seconds (second_of n))
+      (both_true (lets (effective r).hours (hour_of n)) (lets (effective r).minutes (minute_of n))
+      (subst (λ h. lets (effective r).hours h ≡ true) (same_hour n at) of_hour)
+      (lets_in (effective r).minutes (minute_of n) minute)) (lets_in (effective r).seconds (second_of n) second))
     where
-      lets_in : (s n : ℕ) → has s n ≡ true → lets s n ≡ true
-      lets_in s n h = by_parts (is_none s) (has s n) h
+      lets_in : (s n : ℕ) → contains s n ≡ true → lets s n ≡ true
+      lets_in s n h = by_parts (is_empty s) (contains s n) h
         where
           by_parts : (a b : Bool) → b ≡ true → (a || b) ≡ true
           by_parts true b p = refl
           by_parts false b p = p
 
-  kept_product : (n : ℕ) → n / 3_600 ≡ hour → is_kept r n ≡ true → (has (filled r).minutes (minute_of n) && has (filled r).seconds (second_of n)) ≡ true
+  kept_product : (n : ℕ) → n / 3_600 ≡ hour → is_kept r n ≡ true → (contains (effective r).minutes (minute_of n) && contains (effective r).seconds (second_of n)) ≡ true
   kept_product n at keeps = elim (by_order n kept) [
     | inl before ↦ absurd (false_not_true (is_kept r n) (next.least n (omega (arith, at)) before) keeps)
     | inr from ↦ (
-        let clock = and_true {a = lets (filled r).hours (hour_of n) && lets (filled r).minutes (minute_of n)}
+        let clock = and_true {a = lets (effective r).hours (hour_of n) && lets (effective r).minutes (minute_of n)}
         (kept_clock r n (omega (arith, after, from)) (omega (arith, early, at)) keeps) in
-        both_true (has (filled r).minutes (minute_of n)) (has (filled r).seconds (second_of n))
-        (listed (filled r).minutes fm (minute_of n) first_minute.passes (and_true {a = lets (filled r).hours (hour_of n)} clock.0).1)
-        (listed (filled r).seconds fs (second_of n) first_second.passes clock.1))
+        both_true (contains (effective r).minutes (minute_of n)) (contains (effective r).seconds (second_of n))
+        (listed (effective r).minutes fm (minute_of n) first_minute.passes (and_true {a = lets (effective r).hours (hour_of n)} clock.0).1)
+        (listed (effective r).seconds fs (second_of n) first_second.passes clock.1))
   ]
 
   -- of the locals of the hour the rule keeps those that its parts list
-  pub keeps_times : (n : ℕ) → n / 3_600 ≡ hour → is_kept r n ≡ (has (filled r).minutes (minute_of n) && has (filled r).seconds (second_of n))
-  keeps_times n at = same (is_kept r n) (has (filled r).minutes (minute_of n)) (has (filled r).seconds (second_of n))
+  pub keeps_times : (n : ℕ) → n / 3_600 ≡ hour → is_kept r n ≡ (contains (effective r).minutes (minute_of n) && contains (effective r).seconds (second_of n))
+  keeps_times n at = same (is_kept r n) (contains (effective r).minutes (minute_of n)) (contains (effective r).seconds (second_of n))
       (kept_product n at) (product_kept n at)
     where
       same : (k a b : Bool) → (k ≡ true → (a && b) ≡ true) → (a ≡ true → b ≡ true → k ≡ true) → k ≡ (a && b)
@@ -207,9 +208,9 @@ module _ (r : Recurrence) (hour fm fs lm ls : ℕ)
 
 -- an hour without a kept local has none of the times of the empty sets
 pub keeps_none : (r : Recurrence) (hour : ℕ) → NoneKept r (hour * 3_600) (hour * 3_600 + 3_600)
-    → (n : ℕ) → n / 3_600 ≡ hour → is_kept r n ≡ (has 0 (minute_of n) && has 0 (second_of n))
+    → (n : ℕ) → n / 3_600 ≡ hour → is_kept r n ≡ (contains 0 (minute_of n) && contains 0 (second_of n))
 keeps_none r hour none n at =
-    none n (omega (arith, at)) (omega (arith, at)) ∙ sym (ap (λ x. (x == 1) && has 0 (second_of n)) (bit_at-zero (minute_of n)))
+    none n (omega (arith, at)) (omega (arith, at)) ∙ sym (ap (λ x. (x == 1) && contains 0 (second_of n)) (bit_at-zero (minute_of n)))
 
 -- a kept local between a place and the next is at the place
 pub kept_here : (r : Recurrence) (from n : ℕ) → IsNextKept r from (from + 1) n → is_kept r from ≡ true
@@ -220,18 +221,18 @@ kept_here r from n next =
     subst (λ m. is_kept r m ≡ true) e next.kept
 
 -- the same, said of the parts that a rule holds
-pub held_times : (r : Recurrence) (q : Filled) → q ≡ filled r → (hour fm fs lm ls kept last : ℕ) → hour < 85_913_808
-    → is_finer q.frequency ≡ false → lists_none_wide q.positions ≡ true → IsLeastFrom (has q.minutes) 0 fm → IsLeastFrom (has q.seconds) 0 fs
-    → ((n : ℕ) → lm < n → has q.minutes n ≡ false) → ((n : ℕ) → ls < n → has q.seconds n ≡ false)
+pub held_times : (r : Recurrence) (q : EffectiveRule) → q ≡ effective r → (hour fm fs lm ls kept last : ℕ) → hour < 85_913_808
+    → is_finer q.frequency ≡ false → lists_none_wide q.positions ≡ true → IsLeastFrom (contains q.minutes) 0 fm → IsLeastFrom (contains q.seconds) 0 fs
+    → ((n : ℕ) → lm < n → contains q.minutes n ≡ false) → ((n : ℕ) → ls < n → contains q.seconds n ≡ false)
     → number r.start < kept → kept ≡ hour * 3_600 + fm * 60 + fs → IsNextKept r (hour * 3_600) (hour * 3_600 + 3_600) kept
     → last ≡ hour * 3_600 + lm * 60 + ls → last < hour * 3_600 + 3_600 → is_kept r last ≡ true
-    → (n : ℕ) → n / 3_600 ≡ hour → is_kept r n ≡ (has q.minutes (minute_of n) && has q.seconds (second_of n))
+    → (n : ℕ) → n / 3_600 ≡ hour → is_kept r n ≡ (contains q.minutes (minute_of n) && contains q.seconds (second_of n))
 held_times r q whole hour fm fs lm ls kept last early coarse free first_minute first_second last_minute last_second after first next is inside kept_last =
-    subst (λ (x : Filled). (n : ℕ) → n / 3_600 ≡ hour → is_kept r n ≡ (has x.minutes (minute_of n) && has x.seconds (second_of n))) (sym whole)
-    (keeps_times r hour fm fs lm ls early (subst (λ (x : Filled). is_finer x.frequency ≡ false) whole coarse)
-    (subst (λ (x : Filled). lists_none_wide x.positions ≡ true) whole free)
-    (subst (λ (x : Filled). IsLeastFrom (has x.minutes) 0 fm) whole first_minute)
-    (subst (λ (x : Filled). IsLeastFrom (has x.seconds) 0 fs) whole first_second)
-    (subst (λ (x : Filled). (n : ℕ) → lm < n → has x.minutes n ≡ false) whole last_minute)
-    (subst (λ (x : Filled). (n : ℕ) → ls < n → has x.seconds n ≡ false) whole last_second)
+    subst (λ (x : EffectiveRule). (n : ℕ) → n / 3_600 ≡ hour → is_kept r n ≡ (contains x.minutes (minute_of n) && contains x.seconds (second_of n))) (sym whole)
+    (keeps_times r hour fm fs lm ls early (subst (λ (x : EffectiveRule). is_finer x.frequency ≡ false) whole coarse)
+    (subst (λ (x : EffectiveRule). lists_none_wide x.positions ≡ true) whole free)
+    (subst (λ (x : EffectiveRule). IsLeastFrom (contains x.minutes) 0 fm) whole first_minute)
+    (subst (λ (x : EffectiveRule). IsLeastFrom (contains x.seconds) 0 fs) whole first_second)
+    (subst (λ (x : EffectiveRule). (n : ℕ) → lm < n → contains x.minutes n ≡ false) whole last_minute)
+    (subst (λ (x : EffectiveRule). (n : ℕ) → ls < n → contains x.seconds n ≡ false) whole last_second)
     kept after first next (omega (arith, is, inside)) (subst (λ n. is_kept r n ≡ true) is kept_last))

@@ -13,7 +13,7 @@ use Rattle.jiff_core.proofs.IsoWeekLemmas.{day_count-fourth, iso_year_start-day_
 use borrow.Author.Differences.{up, down}
 use Rattle.ics_values.specs.Days.{days_before_year, year_of, weekday_of}
 use Rattle.ics_values.proofs.DayLemmas.{day_count_is, year_of_is, days_before_year-next}
-use Rattle.ics_rule.specs.Locals.{week_of}
+use Rattle.ics_rule.specs.PeriodNumbers.{week_of}
 use Rattle.ics_rule.specs.Candidates.{fourth_day, week_number, weeks_of_year}
 use Rattle.ics_rule.specs.IsoWeeks.{IsDay}
 use Rattle.ics_rule.proofs.LawLemmas.{year_day_is}

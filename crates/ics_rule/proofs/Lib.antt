@@ -1,5 +1,5 @@
 pub mod DateLemmas
-pub mod FilledLemmas
+pub mod EffectiveLemmas
 pub mod HourLemmas
 pub mod Counts
 pub mod Months

@@ -6,15 +6,15 @@ use Rattle.jiff_core.proofs.SignedLemmas.{signed_arith}
 use Rattle.jiff_core.proofs.CalendarLemmas.{days_of_months_more, days_of_months_all, days_in_year_bounds}
 use Rattle.ics_values.specs.declared.frequency.Frequency.{Frequency}
 use Rattle.ics_values.specs.declared.frequency.Frequency.TheVariants.{Secondly, Minutely, Hourly, Daily, Weekly, Monthly, Yearly}
-use Rattle.ics_values.specs.declared.places.Places.{Places}
-use Rattle.ics_values.specs.Sets.{has, is_none, IsLeastFrom}
-use Rattle.ics_values.specs.Places.{lists_none, lists_none_wide, lists_no_weekday, numbers_of}
+use Rattle.ics_values.specs.declared.ordinals.Ordinals.{Ordinals}
+use Rattle.ics_values.specs.Sets.{contains, is_empty, IsLeastFrom}
+use Rattle.ics_values.specs.Ordinals.{lists_none, lists_none_wide, lists_no_weekday, numbers_of}
 use Rattle.ics_values.specs.Days.{days_before_year, year_of, year_day_of, month_of, month_day_of, weekday_of}
 use Rattle.ics_values.proofs.DayLemmas.{Fields, days_before_year-next, days_before_year_low, year_of_is, year_under_way}
-use Rattle.ics_rule.specs.declared.filled.Filled.{Filled}
+use Rattle.ics_rule.specs.declared.effective_rule.EffectiveRule.{EffectiveRule}
 use Rattle.ics_rule.specs.declared.runs.Run.{Run}
-use Rattle.ics_rule.specs.Locals.{period}
-use Rattle.ics_rule.specs.Periods.{first_local, month_start}
+use Rattle.ics_rule.specs.PeriodNumbers.{period}
+use Rattle.ics_rule.specs.RecurrencePeriods.{first_local, month_start}
 use Rattle.ics_rule.specs.Candidates.{lets, lets_place, lets_wide_place, lets_week, lets_weekday, lets_numbered, lets_date, lists, lists_nth}
 use Rattle.ics_rule.specs.Runs.{has_run, weekday_in, lists_weekday, lists_in_month, is_in_month, goes_by_months, counts_in_month, IsMonth, IsSpan}
 use Rattle.ics_rule.proofs.Months.{earlier_month, later_month, month_of_low}
@@ -69,7 +69,7 @@ module _ (r : Run) (first y m k : ℕ) (own : IsMonth r first y m) where
         ]
       ]
 
-  pub run_lists : (q : Filled) → has_run r k ≡ true → lists_in_month q (weekday_in r (k - r.start)) (k - r.start + 1) r.len
+  pub run_lists : (q : EffectiveRule) → has_run r k ≡ true → lists_in_month q (weekday_in r (k - r.start)) (k - r.start + 1) r.len
       ≡ lists_in_month q (weekday_of (first + k)) (month_day_of (first + k)) (days_in_month (pos (year_of (first + k))) (month_of (first + k)))
   run_lists q h =
       let inside = run_facts r k h in
@@ -82,11 +82,11 @@ module _ (r : Run) (first y m k : ℕ) (own : IsMonth r first y m) where
       ∙ ap (λ n. lists_in_month q (weekday_of (first + k)) (month_day_of (first + k)) n) size
 
 -- how far a walk over the months has come
-abbrev pub seen_months : Filled → (ℕ → Bool) → ℕ → ℕ → Bool
+abbrev pub seen_months : EffectiveRule → (ℕ → Bool) → ℕ → ℕ → Bool
 seen_months q months from e =
     nat_lt (month_of e) from && (months (month_of e) && lists_in_month q (weekday_of e) (month_day_of e) (days_in_month (pos (year_of e)) (month_of e)))
 
-pub month_step : (q : Filled) (r : Run) (months : ℕ → Bool) (first y m from k : ℕ) (b new : Bool) → IsMonth r first y m → first ≡ days_before_year y → r.start + r.len ≤ days_in_year (pos y) → IsLeastFrom months from m
+pub month_step : (q : EffectiveRule) (r : Run) (months : ℕ → Bool) (first y m from k : ℕ) (b new : Bool) → IsMonth r first y m → first ≡ days_before_year y → r.start + r.len ≤ days_in_year (pos y) → IsLeastFrom months from m
     → b ≡ (nat_lt k (days_in_year (pos y)) && seen_months q months from (first + k))
     → new ≡ (b || (has_run r k && lists_in_month q (weekday_in r (k - r.start)) (k - r.start + 1) r.len))
     → new ≡ (nat_lt k (days_in_year (pos y)) && seen_months q months (m + 1) (first + k))
@@ -122,7 +122,7 @@ month_step q r months first y m from k b new own start most next e more = elim (
     spread true b t = refl
     spread false b t = refl
 
-pub months_none : (q : Filled) (months : ℕ → Bool) (e : ℕ) (a : Bool) → false ≡ (a && seen_months q months 1 e)
+pub months_none : (q : EffectiveRule) (months : ℕ → Bool) (e : ℕ) (a : Bool) → false ≡ (a && seen_months q months 1 e)
 months_none q months e a =
     let none : nat_lt (month_of e) 1 ≡ false = not_less (month_of e) 1 (month_positive e) in
     sym (and_no a (seen_months q months 1 e) (ap (λ x. x && (months (month_of e) && lists_in_month q (weekday_of e) (month_day_of e) (days_in_month (pos (year_of e)) (month_of e)))) none))
@@ -130,7 +130,7 @@ months_none q months e a =
 month_small : (e : ℕ) → month_of e < 13
 month_small e = let top = month_of_low e 12 (let all = days_of_months_all (pos (year_of e)) in let next = days_before_year-next (year_of e) in let u = year_under_way e in omega (arith, all, next, u.1)) (omega arith) in omega (arith, top)
 
-pub months_done : (q : Filled) (months : ℕ → Bool) (from e : ℕ) (a : Bool) → ((n : ℕ) → from ≤ n → months n ≡ false) → ((n : ℕ) → n < 13 → months n ≡ lets q.months n)
+pub months_done : (q : EffectiveRule) (months : ℕ → Bool) (from e : ℕ) (a : Bool) → ((n : ℕ) → from ≤ n → months n ≡ false) → ((n : ℕ) → n < 13 → months n ≡ lets q.months n)
     → (a && seen_months q months from e) ≡ (a && is_in_month q e)
 months_done q months from e a none is =
     let L = lists_in_month q (weekday_of e) (month_day_of e) (days_in_month (pos (year_of e)) (month_of e)) in
@@ -141,7 +141,7 @@ months_done q months from e a none is =
     spread false b t = refl
 
 -- one month alone
-pub one_month : (q : Filled) (first len y m w k : ℕ) (a b : Bool) → IsMonth (record { start = 0; len = len; weekday = w }) first y m → lets q.months m ≡ true → a ≡ false
+pub one_month : (q : EffectiveRule) (first len y m w k : ℕ) (a b : Bool) → IsMonth (record { start = 0; len = len; weekday = w }) first y m → lets q.months m ≡ true → a ≡ false
     → b ≡ (a || (has_run (record { start = 0; len = len; weekday = w }) k && lists_in_month q (weekday_in (record { start = 0; len = len; weekday = w }) (k - 0)) (k - 0 + 1) len))
     → b ≡ (nat_lt k len && is_in_month q (first + k))
 one_month q first len y m w k a b own among none e =
@@ -157,7 +157,7 @@ one_month q first len y m w k a b own among none e =
     run_start : (k len : ℕ) → (nat_le 0 k && nat_lt (k - 0) len) ≡ nat_lt k len
     run_start k len = let low : nat_le 0 k ≡ true = grind (arith, nat_tests) in let back : k - 0 ≡ k = omega arith in rw (low, back) refl
 
-pub closed_month : (q : Filled) (first len y m w k : ℕ) → IsMonth (record { start = 0; len = len; weekday = w }) first y m → lets q.months m ≡ false
+pub closed_month : (q : EffectiveRule) (first len y m w k : ℕ) → IsMonth (record { start = 0; len = len; weekday = w }) first y m → lets q.months m ≡ false
     → false ≡ (nat_lt k len && is_in_month q (first + k))
 closed_month q first len y m w k own closed = elim (by_order k len) [
   | inl inside ↦
@@ -168,7 +168,7 @@ closed_month q first len y m w k own closed = elim (by_order k len) [
 ]
 
 -- what the rule goes by
-pub goes : (q : Filled) → goes_by_months q ≡ true → (lists_none q.weeks ≡ true) × ((lists_none_wide q.year_days ≡ true) × ((lists_none q.month_days && lists_no_weekday q.weekdays) ≡ false))
+pub goes : (q : EffectiveRule) → goes_by_months q ≡ true → (lists_none q.weeks ≡ true) × ((lists_none_wide q.year_days ≡ true) × ((lists_none q.month_days && lists_no_weekday q.weekdays) ≡ false))
 goes q h = parts (lists_none q.weeks) (lists_none_wide q.year_days) (lists_none q.month_days && lists_no_weekday q.weekdays) h
   where
     parts : (a b c : Bool) → (a && b && not c) ≡ true → (a ≡ true) × ((b ≡ true) × (c ≡ false))
@@ -178,7 +178,7 @@ goes q h = parts (lists_none q.weeks) (lists_none_wide q.year_days) (lists_none 
     parts false b c h = absurd (cc)
 
 -- there BYMONTH, BYMONTHDAY and BYDAY decide
-pub three_parts : (q : Filled) (e : ℕ) → goes_by_months q ≡ true
+pub three_parts : (q : EffectiveRule) (e : ℕ) → goes_by_months q ≡ true
     → lets_date q e ≡ (lets q.months (month_of e) && (lets_place q.month_days (month_day_of e) (days_in_month (pos (year_of e)) (month_of e)) && lets_weekday q e))
 three_parts q e h =
     let g = goes q h in
@@ -192,10 +192,10 @@ three_parts q e h =
     drop a b false d e h l = absurd (cc)
     drop a b true false e h l = absurd (cc)
 
-numbers_in_month : (f : Frequency) (q : Filled) (p : Places) (e : ℕ) → counts_in_month q f ≡ true → lists_none q.weeks ≡ true → lists_none q.month_days ≡ true
+numbers_in_month : (f : Frequency) (q : EffectiveRule) (p : Ordinals) (e : ℕ) → counts_in_month q f ≡ true → lists_none q.weeks ≡ true → lists_none q.month_days ≡ true
     → lets_numbered f q p e ≡ lists_nth p (month_day_of e) (days_in_month (pos (year_of e)) (month_of e))
 numbers_in_month Monthly q p e h weeks days = refl
-numbers_in_month Yearly q p e h weeks days = rw (weeks, months (is_none q.months) (lists_none q.month_days) h days) refl
+numbers_in_month Yearly q p e h weeks days = rw (weeks, months (is_empty q.months) (lists_none q.month_days) h days) refl
   where
     months : (a b : Bool) → not (a && b) ≡ true → b ≡ true → a ≡ false
     months true true h l = absurd (cc)
@@ -208,12 +208,12 @@ numbers_in_month Minutely q p e h weeks days = absurd (cc)
 numbers_in_month Secondly q p e h weeks days = absurd (cc)
 
 -- by BYMONTHDAY alone, or by BYDAY alone, they list what the rule lets in
-pub month_exact : (q : Filled) (e : ℕ) → goes_by_months q ≡ true → counts_in_month q q.frequency ≡ true → (lists_none q.month_days || lists_no_weekday q.weekdays) ≡ true
+pub month_exact : (q : EffectiveRule) (e : ℕ) → goes_by_months q ≡ true → counts_in_month q q.frequency ≡ true → (lists_none q.month_days || lists_no_weekday q.weekdays) ≡ true
     → is_in_month q e ≡ lets_date q e
 month_exact q e h counts one =
     let g = goes q h in
     ap (λ x. lets q.months (month_of e) && x)
-    (cases (lists_none q.month_days) (lists_no_weekday q.weekdays) (has q.weekdays.plain (weekday_of e)) _ _ (lists q.month_days (month_day_of e) (days_in_month (pos (year_of e)) (month_of e)))
+    (cases (lists_none q.month_days) (lists_no_weekday q.weekdays) (contains q.weekdays.plain (weekday_of e)) _ _ (lists q.month_days (month_day_of e) (days_in_month (pos (year_of e)) (month_of e)))
     g.1.1 one (λ days. sym (numbers_in_month q.frequency q (numbers_of q.weekdays (weekday_of e)) e counts g.0 days)))
     ∙ sym (three_parts q e h)
   where
@@ -227,7 +227,7 @@ month_exact q e h counts one =
     cases false false p n n' l h o e = absurd (cc)
 
 -- else they list what it may let in
-pub month_candidate : (q : Filled) (e : ℕ) → goes_by_months q ≡ true → lists_none q.month_days ≡ false → lets_date q e ≡ true → is_in_month q e ≡ true
+pub month_candidate : (q : EffectiveRule) (e : ℕ) → goes_by_months q ≡ true → lists_none q.month_days ≡ false → lets_date q e ≡ true → is_in_month q e ≡ true
 month_candidate q e h some d =
     cases (lets q.months (month_of e)) (lists_none q.month_days) (lists q.month_days (month_day_of e) (days_in_month (pos (year_of e)) (month_of e))) (lets_weekday q e) _ some (sym (three_parts q e h) ∙ d)
   where
@@ -238,14 +238,14 @@ month_candidate q e h some d =
     cases false false l w x s h = absurd (cc)
 
 -- and a year without BYMONTH goes by BYDAY, which counts in the year
-pub year_exact : (q : Filled) (e n size : ℕ) → goes_by_months q ≡ true → q.frequency ≡ Yearly → (is_none q.months && lists_none q.month_days) ≡ true → year_day_of e ≡ n → days_in_year (pos (year_of e)) ≡ size
+pub year_exact : (q : EffectiveRule) (e n size : ℕ) → goes_by_months q ≡ true → q.frequency ≡ Yearly → (is_empty q.months && lists_none q.month_days) ≡ true → year_day_of e ≡ n → days_in_year (pos (year_of e)) ≡ size
     → lists_weekday q.weekdays (weekday_of e) n size ≡ lets_date q e
 year_exact q e n size h yearly none day len =
     let g = goes q h in
-    let parts = both (is_none q.months) (lists_none q.month_days) none in
+    let parts = both (is_empty q.months) (lists_none q.month_days) none in
     let numbered : lets_numbered q.frequency q (numbers_of q.weekdays (weekday_of e)) e ≡ lists_nth (numbers_of q.weekdays (weekday_of e)) n size =
     ap (λ f. lets_numbered f q (numbers_of q.weekdays (weekday_of e)) e) yearly ∙ rw (g.0, parts.0) (rw (day, len) refl) in
-    cases (is_none q.months) (lists_none q.month_days) (lists_no_weekday q.weekdays) (has q.weekdays.plain (weekday_of e)) _ _ (has q.months (month_of e)) (lists q.month_days (month_day_of e) (days_in_month (pos (year_of e)) (month_of e)))
+    cases (is_empty q.months) (lists_none q.month_days) (lists_no_weekday q.weekdays) (contains q.weekdays.plain (weekday_of e)) _ _ (contains q.months (month_of e)) (lists q.month_days (month_day_of e) (days_in_month (pos (year_of e)) (month_of e)))
     parts.0 parts.1 g.1.1 (sym numbered) ∙ sym (three_parts q e h)
   where
     both : (a b : Bool) → (a && b) ≡ true → (a ≡ true) × (b ≡ true)
@@ -317,7 +317,7 @@ not_either true b h = h
 not_either false b h = refl
 
 -- what the parts of the date say apart
-pub number_let_in : (q : Filled) (e : ℕ) → lets_date q e ≡ true → lets_wide_place q.year_days (year_day_of e) (days_in_year (pos (year_of e))) ≡ true
+pub number_let_in : (q : EffectiveRule) (e : ℕ) → lets_date q e ≡ true → lets_wide_place q.year_days (year_day_of e) (days_in_year (pos (year_of e))) ≡ true
 number_let_in q e h = third (lets q.months (month_of e)) (lets_place q.month_days (month_day_of e) (days_in_month (pos (year_of e)) (month_of e))) (lets_wide_place q.year_days (year_day_of e) (days_in_year (pos (year_of e)))) (lets_week q e) (lets_weekday q e) h
   where
     third : (a b c d e : Bool) → (a && b && c && d && e) ≡ true → c ≡ true
@@ -326,7 +326,7 @@ number_let_in q e h = third (lets q.months (month_of e)) (lets_place q.month_day
     third true false c d e h = absurd (cc)
     third false b c d e h = absurd (cc)
 
-pub week_let_in : (q : Filled) (e : ℕ) → lets_date q e ≡ true → lets_week q e ≡ true
+pub week_let_in : (q : EffectiveRule) (e : ℕ) → lets_date q e ≡ true → lets_week q e ≡ true
 week_let_in q e h = fourth (lets q.months (month_of e)) (lets_place q.month_days (month_day_of e) (days_in_month (pos (year_of e)) (month_of e))) (lets_wide_place q.year_days (year_day_of e) (days_in_year (pos (year_of e)))) (lets_week q e) (lets_weekday q e) h
   where
     fourth : (a b c d e : Bool) → (a && b && c && d && e) ≡ true → d ≡ true
@@ -349,7 +349,7 @@ year_place first y k start inside =
 pub year_starts : (first y : ℕ) → first ≡ days_before_year y → year_of first ≡ y
 year_starts first y start = year_of_is first y (omega (arith, start)) (let next = days_before_year-next y in let some = days_in_year_bounds (pos y) in omega (arith, next, start, some.1))
 
-pub number_listed : (q : Filled) (first y len k : ℕ) → first ≡ days_before_year y → len ≡ days_in_year (pos y) → nat_lt k len ≡ true → lets_date q (first + k) ≡ true → lets_wide_place q.year_days (k + 1) len ≡ true
+pub number_listed : (q : EffectiveRule) (first y len k : ℕ) → first ≡ days_before_year y → len ≡ days_in_year (pos y) → nat_lt k len ≡ true → lets_date q (first + k) ≡ true → lets_wide_place q.year_days (k + 1) len ≡ true
 number_listed q first y len k start size inside h =
     let within : k < len = grind (arith, nat_tests) in
     let place = year_place first y k start (omega (arith, within, size)) in
@@ -357,7 +357,7 @@ number_listed q first y len k start size inside h =
     ∙ ap (λ n. lets_wide_place q.year_days n (days_in_year (pos (year_of (first + k))))) (sym place.1)
     ∙ number_let_in q (first + k) h
 
-pub whole_year : (q : Filled) (first len y w k : ℕ) (a b : Bool) → goes_by_months q ≡ true → q.frequency ≡ Yearly → (is_none q.months && lists_none q.month_days) ≡ true
+pub whole_year : (q : EffectiveRule) (first len y w k : ℕ) (a b : Bool) → goes_by_months q ≡ true → q.frequency ≡ Yearly → (is_empty q.months && lists_none q.month_days) ≡ true
     → first ≡ days_before_year y → len ≡ days_in_year (pos y) → w ≡ weekday_of first → a ≡ false
     → b ≡ (a || (has_run (record { start = 0; len = len; weekday = w }) k && lists_weekday q.weekdays (weekday_in (record { start = 0; len = len; weekday = w }) (k - 0)) (k - 0 + 1) len))
     → b ≡ (nat_lt k len && lets_date q (first + k))

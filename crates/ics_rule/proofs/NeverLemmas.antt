@@ -2,11 +2,11 @@
 use Rattle.std.proofs.Common.{◌≡◌, ℕ, suc, ◌+◌, ◌-◌, ◌*◌, ◌<◌, ◌≤◌, ◌⊎◌, inl, inr, Bool, true, false, ◌&&◌, ◌||◌, ◌==◌, Option, Some, None, refl, sym, ap, ◌∙◌, arith}
 use Rattle.std.proofs.lemmas.Bool.Decides.{nat_tests}
 use Rattle.jiff_core.specs.Weekday.{monday_zero}
-use Rattle.ics_values.specs.Sets.{has_wide}
-use Rattle.ics_values.specs.Places.{lists_none_wide}
-use Rattle.ics_rule.specs.declared.filled.Filled.{Filled}
+use Rattle.ics_values.specs.Sets.{contains_wide}
+use Rattle.ics_values.specs.Ordinals.{lists_none_wide}
+use Rattle.ics_rule.specs.declared.effective_rule.EffectiveRule.{EffectiveRule}
 use Rattle.ics_rule.specs.declared.cursor.Cursor.{Cursor}
-use Rattle.ics_rule.specs.Locals.{day_of, calendar_end}
+use Rattle.ics_rule.specs.PeriodNumbers.{day_of, calendar_end}
 use Rattle.ics_rule.specs.Candidates.{lets_date, lets_clock, is_stepped, is_candidate_in, period_in}
 use Rattle.ics_rule.specs.Kept.{count, is_beside, rank, size, is_placed, is_chosen}
 use Rattle.ics_rule.specs.Cursors.{IsCursorIn}
@@ -38,7 +38,7 @@ last true b h = h
 last false b h = absurd (cc)
 
 -- what stands beside n lets in the clock, and lies in its period
-module _ (q : Filled) (start n m : ℕ) (here : is_beside q start n m ≡ true) where
+module _ (q : EffectiveRule) (start n m : ℕ) (here : is_beside q start n m ≡ true) where
   beside_clock : lets_clock q m ≡ true
   beside_clock = third (is_stepped (period_in q start) q.interval (period_in q m)) (lets_date q (day_of m)) (lets_clock q m) (period_in q m == period_in q n) here
 
@@ -50,7 +50,7 @@ not_true true never = absurd (never refl)
 not_true false never = refl
 
 -- a period of so many seconds has no more than what passes a test of each second
-size_within : (q : Filled) (start n a u : ℕ) (test : ℕ → Bool) → ((m : ℕ) → period_in q m ≡ period_in q n → (a ≤ m) × (m < a + u))
+size_within : (q : EffectiveRule) (start n a u : ℕ) (test : ℕ → Bool) → ((m : ℕ) → period_in q m ≡ period_in q n → (a ≤ m) × (m < a + u))
     → ((k : ℕ) → k < u → lets_clock q (a + k) ≡ true → test k ≡ true) → size q start n ≤ count u test
 size_within q start n a u test span clock =
     let all = up_to (by_order (a + u) calendar_end) in
@@ -63,7 +63,7 @@ size_within q start n a u test span clock =
     up_to (inr more) = count_mono calendar_end (a + u) (is_beside q start n) more
 
 -- nor than each period that the rule lets in, where a period is a day or less
-pub most_in_period : (q : Filled) → 0 < seconds_of q.frequency → seconds_of q.frequency ≤ 86_400 → (start n : ℕ) → size q start n ≤ size_of_open q
+pub most_in_period : (q : EffectiveRule) → 0 < seconds_of q.frequency → seconds_of q.frequency ≤ 86_400 → (start n : ℕ) → size q start n ≤ size_of_open q
 most_in_period q fine unit start n =
     size_within q start n (period_in q n * seconds_of q.frequency) (seconds_of q.frequency) (lets_within q.frequency q)
     (λ m here. let place = in_period q.frequency (monday_zero q.week_start) m fine unit in let begin = ap (λ x. x * seconds_of q.frequency) here in (omega (arith, place.0, begin), omega (arith, place.1, begin)))
@@ -71,8 +71,8 @@ most_in_period q fine unit start n =
     (sym (clock_split q.frequency q (period_in q n * seconds_of q.frequency + k)) ∙ clock))
 
 -- no place up to the size is listed
-pub never_chosen : (q : Filled) (most : ℕ) → lists_none_wide q.positions ≡ false → ((start n : ℕ) → size q start n ≤ most)
-    → ((k : ℕ) → 1 ≤ k → k ≤ most → has_wide q.positions.front k ≡ false) → ((k : ℕ) → 1 ≤ k → k ≤ most → has_wide q.positions.back k ≡ false)
+pub never_chosen : (q : EffectiveRule) (most : ℕ) → lists_none_wide q.positions ≡ false → ((start n : ℕ) → size q start n ≤ most)
+    → ((k : ℕ) → 1 ≤ k → k ≤ most → contains_wide q.positions.front k ≡ false) → ((k : ℕ) → 1 ≤ k → k ≤ most → contains_wide q.positions.back k ≡ false)
     → (start n : ℕ) → n < 315_569_520_000 → is_chosen q start n ≡ false
 never_chosen q most some few front back start n inside = by_candidate (is_candidate_in q start n) refl
   where
@@ -89,15 +89,15 @@ never_chosen q most some few front back start n inside = by_candidate (is_candid
         let bound = few start n in
         out (is_candidate_in q start n) (is_placed q start (lists_none_wide q.positions) n)
         (ap (λ b. is_placed q start b n) some
-        ∙ ap (λ x. x || has_wide q.positions.back (size q start n + 1 - rank q start n)) (front (rank q start n) (omega (arith, first)) (omega (arith, within, bound)))
+        ∙ ap (λ x. x || contains_wide q.positions.back (size q start n + 1 - rank q start n)) (front (rank q start n) (omega (arith, first)) (omega (arith, within, bound)))
         ∙ back (size q start n + 1 - rank q start n) (omega (arith, within)) (omega (arith, first, within, bound)))
 
 -- so a walk finds nothing
-pub none_wanted : (q : Filled) (start : ℕ) (o : Option ℕ) (place stop : ℕ) → stop ≤ 309_289_708_800 → ((n : ℕ) → n < 315_569_520_000 → is_chosen q start n ≡ false) → NoneWanted q start o place stop
+pub none_wanted : (q : EffectiveRule) (start : ℕ) (o : Option ℕ) (place stop : ℕ) → stop ≤ 309_289_708_800 → ((n : ℕ) → n < 315_569_520_000 → is_chosen q start n ≡ false) → NoneWanted q start o place stop
 none_wanted q start None place stop h none n l u = none n (omega (arith, u, h))
 none_wanted q start (Some c) place stop h none n l u = ap (λ x. x && is_few q start c n) (none n (omega (arith, u, h)))
 
-pub none_walked : (q : Filled) (start : ℕ) (o : Option ℕ) (stop : ℕ) (cursor : Cursor) → cursor.place < stop → IsCursorIn q start o cursor → IsWalked q start o stop None cursor cursor
+pub none_walked : (q : EffectiveRule) (start : ℕ) (o : Option ℕ) (stop : ℕ) (cursor : Cursor) → cursor.place < stop → IsCursorIn q start o cursor → IsWalked q start o stop None cursor cursor
 none_walked q start o stop cursor h own = record {
   held = held_mono q cursor.held cursor.place stop own.held (omega (arith, h));
   found = tt;

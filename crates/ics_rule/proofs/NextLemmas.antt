@@ -2,9 +2,10 @@
 use Rattle.std.proofs.Common.{◌≡◌, ℕ, suc, ◌+◌, ◌-◌, ◌<◌, ◌≤◌, ◌⊎◌, inl, inr, Bool, true, false, cond, ◌&&◌, ◌||◌, ◌==◌, nat_lt, min, max, Some, None, Option, MatchOption, refl, ap, ◌∙◌, arith}
 use Rattle.std.proofs.lemmas.Bool.Decides.{nat_tests}
 use Rattle.ics_rule.specs.Recurrence.{Recurrence}
-use Rattle.ics_rule.specs.Locals.{number, rules_end}
-use Rattle.ics_rule.specs.Filled.{filled}
-use Rattle.ics_rule.specs.Kept.{count, is_chosen, is_kept, is_in_rule, is_until, is_counted}
+use Rattle.ics_rule.specs.PeriodNumbers.{rules_end}
+use Rattle.ics_values.specs.Locals.{number}
+use Rattle.ics_rule.specs.EffectiveRules.{effective}
+use Rattle.ics_rule.specs.Kept.{count, is_chosen, is_kept, is_in_rule, is_by_until, is_counted}
 use Rattle.ics_rule.specs.Searches.{is_few, is_wanted, NoneWanted, IsNextBefore}
 use Rattle.ics_rule.specs.Next.{NoneKept, IsNextKept}
 use Rattle.ics_rule.proofs.Counts.{count-suc, count-add, count-none, count-same}
@@ -24,50 +25,50 @@ self_test a = grind (arith, nat_tests)
 -- what the rule has: the start, nothing before it, and later what it chooses
 pub in_rule_start : (r : Recurrence) → is_in_rule r (number r.start) ≡ true
 unfolding is_in_rule
-in_rule_start r = ap (λ b. b || (nat_lt (number r.start) (number r.start) && is_chosen (filled r) (number r.start) (number r.start))) (self_test (number r.start))
+in_rule_start r = ap (λ b. b || (nat_lt (number r.start) (number r.start) && is_chosen (effective r) (number r.start) (number r.start))) (self_test (number r.start))
 
 pub in_rule_earlier : (r : Recurrence) (n : ℕ) → n < number r.start → is_in_rule r n ≡ false
 unfolding is_in_rule
-in_rule_earlier r n h = out (n == number r.start) (nat_lt (number r.start) n) (is_chosen (filled r) (number r.start) n) (unequal n (number r.start) (inl h)) (not_less (number r.start) n (omega arith))
+in_rule_earlier r n h = out (n == number r.start) (nat_lt (number r.start) n) (is_chosen (effective r) (number r.start) n) (unequal n (number r.start) (inl h)) (not_less (number r.start) n (omega arith))
   where
     out : (a b c : Bool) → a ≡ false → b ≡ false → (a || (b && c)) ≡ false
     out a b c p q = rw (p, q) refl
 
-pub in_rule_later : (r : Recurrence) (n : ℕ) → number r.start < n → is_in_rule r n ≡ is_chosen (filled r) (number r.start) n
+pub in_rule_later : (r : Recurrence) (n : ℕ) → number r.start < n → is_in_rule r n ≡ is_chosen (effective r) (number r.start) n
 unfolding is_in_rule
-in_rule_later r n h = later (n == number r.start) (nat_lt (number r.start) n) (is_chosen (filled r) (number r.start) n) (unequal n (number r.start) (inr h)) (less (number r.start) n h)
+in_rule_later r n h = later (n == number r.start) (nat_lt (number r.start) n) (is_chosen (effective r) (number r.start) n) (unequal n (number r.start) (inr h)) (less (number r.start) n h)
   where
     later : (a b c : Bool) → a ≡ false → b ≡ true → (a || (b && c)) ≡ c
     later a b c p q = rw (p, q) refl
 
 -- how many members come before a later local, by what the rule chooses
 pub members_before : (r : Recurrence) (n : ℕ) → number r.start < n
-    → count n (is_in_rule r) + count (suc (number r.start)) (is_chosen (filled r) (number r.start)) ≡ count n (is_chosen (filled r) (number r.start)) + 1
+    → count n (is_in_rule r) + count (suc (number r.start)) (is_chosen (effective r) (number r.start)) ≡ count n (is_chosen (effective r) (number r.start)) + 1
 members_before r n h =
     let whole : suc (number r.start) + (n - suc (number r.start)) ≡ n = omega arith in
     let members = count-add (suc (number r.start)) (n - suc (number r.start)) (is_in_rule r) in
-    let chosen = count-add (suc (number r.start)) (n - suc (number r.start)) (is_chosen (filled r) (number r.start)) in
-    let same = count-same (n - suc (number r.start)) (λ k. is_in_rule r (suc (number r.start) + k)) (λ k. is_chosen (filled r) (number r.start) (suc (number r.start) + k))
+    let chosen = count-add (suc (number r.start)) (n - suc (number r.start)) (is_chosen (effective r) (number r.start)) in
+    let same = count-same (n - suc (number r.start)) (λ k. is_in_rule r (suc (number r.start) + k)) (λ k. is_chosen (effective r) (number r.start) (suc (number r.start) + k))
     (λ k l. in_rule_later r (suc (number r.start) + k) (omega arith)) in
     let none = count-none (number r.start) (is_in_rule r) (λ m l. in_rule_earlier r m l) in
     let last = count-suc (number r.start) (is_in_rule r) in
     let one = count_one (is_in_rule r (number r.start)) (in_rule_start r) in
     let a = ap (λ x. count x (is_in_rule r)) whole in
-    let b = ap (λ x. count x (is_chosen (filled r) (number r.start))) whole in
+    let b = ap (λ x. count x (is_chosen (effective r) (number r.start))) whole in
     omega (arith, members, chosen, same, none, last, one, a, b)
   where
     count_one : (b : Bool) → b ≡ true → ◌≡◌ {A = ℕ} (cond b 1 0) 1
     count_one b e = let f : Bool → ℕ = λ z. cond z 1 0 in ap f e
 
-counted_is_few : (r : Recurrence) (c n : ℕ) → number r.start < n → is_counted r (Some c) n ≡ is_few (filled r) (number r.start) c n
-counted_is_few r c n h = shifted (count n (is_in_rule r)) (count n (is_chosen (filled r) (number r.start))) c (count (suc (number r.start)) (is_chosen (filled r) (number r.start))) (members_before r n h)
+counted_is_few : (r : Recurrence) (c n : ℕ) → number r.start < n → is_counted r (Some c) n ≡ is_few (effective r) (number r.start) c n
+counted_is_few r c n h = shifted (count n (is_in_rule r)) (count n (is_chosen (effective r) (number r.start))) c (count (suc (number r.start)) (is_chosen (effective r) (number r.start))) (members_before r n h)
   where
     shifted : (a b c d : ℕ) → a + d ≡ b + 1 → nat_lt a c ≡ nat_lt (b + 1) (c + d)
     shifted a b c d e = grind (arith, nat_tests)
 
 -- a later local is kept where the rule has it and UNTIL lets it through
 pub kept_later : (r : Recurrence) (n : ℕ) → number r.start < n → n < rules_end
-    → is_kept r n ≡ (is_wanted (filled r) (number r.start) r.parts.count n && is_until r.kind r.parts.until n)
+    → is_kept r n ≡ (is_wanted (effective r) (number r.start) r.parts.count n && is_by_until r.kind r.parts.until n)
 unfolding is_kept
 kept_later r n l e = by_count r.parts.count
   where
@@ -89,17 +90,17 @@ kept_later r n l e = by_count r.parts.count
         last true false false = refl
         last false u f = refl
 
-    by_count : (o : Option ℕ) → (n == number r.start || (nat_lt n rules_end && is_in_rule r n && is_until r.kind r.parts.until n && is_counted r o n))
-        ≡ (is_wanted (filled r) (number r.start) o n && is_until r.kind r.parts.until n)
-    by_count None = free (n == number r.start) (nat_lt n rules_end) (is_in_rule r n) (is_chosen (filled r) (number r.start) n) (is_until r.kind r.parts.until n)
+    by_count : (o : Option ℕ) → (n == number r.start || (nat_lt n rules_end && is_in_rule r n && is_by_until r.kind r.parts.until n && is_counted r o n))
+        ≡ (is_wanted (effective r) (number r.start) o n && is_by_until r.kind r.parts.until n)
+    by_count None = free (n == number r.start) (nat_lt n rules_end) (is_in_rule r n) (is_chosen (effective r) (number r.start) n) (is_by_until r.kind r.parts.until n)
         (unequal n (number r.start) (inr l)) (less n rules_end e) (in_rule_later r n l)
-    by_count (Some c) = counted (n == number r.start) (nat_lt n rules_end) (is_in_rule r n) (is_chosen (filled r) (number r.start) n) (is_until r.kind r.parts.until n) (is_counted r (Some c) n) (is_few (filled r) (number r.start) c n)
+    by_count (Some c) = counted (n == number r.start) (nat_lt n rules_end) (is_in_rule r n) (is_chosen (effective r) (number r.start) n) (is_by_until r.kind r.parts.until n) (is_counted r (Some c) n) (is_few (effective r) (number r.start) c n)
         (unequal n (number r.start) (inr l)) (less n rules_end e) (in_rule_later r n l) (counted_is_few r c n l)
 
 -- none is kept before the start, and the start is
 pub kept_earlier : (r : Recurrence) (n : ℕ) → n < number r.start → is_kept r n ≡ false
 unfolding is_kept
-kept_earlier r n l = out (n == number r.start) (nat_lt n rules_end) (is_in_rule r n) (is_until r.kind r.parts.until n) (is_counted r r.parts.count n) (unequal n (number r.start) (inl l)) (in_rule_earlier r n l)
+kept_earlier r n l = out (n == number r.start) (nat_lt n rules_end) (is_in_rule r n) (is_by_until r.kind r.parts.until n) (is_counted r r.parts.count n) (unequal n (number r.start) (inl l)) (in_rule_earlier r n l)
   where
     out : (a b t u k : Bool) → a ≡ false → t ≡ false → (a || (b && t && u && k)) ≡ false
     out a b t u k p q = rw (p, q) (last b)
@@ -110,7 +111,7 @@ kept_earlier r n l = out (n == number r.start) (nat_lt n rules_end) (is_in_rule 
 
 pub kept_start : (r : Recurrence) → is_kept r (number r.start) ≡ true
 unfolding is_kept
-kept_start r = ap (λ b. b || (nat_lt (number r.start) rules_end && is_in_rule r (number r.start) && is_until r.kind r.parts.until (number r.start) && is_counted r r.parts.count (number r.start))) (self_test (number r.start))
+kept_start r = ap (λ b. b || (nat_lt (number r.start) rules_end && is_in_rule r (number r.start) && is_by_until r.kind r.parts.until (number r.start) && is_counted r r.parts.count (number r.start))) (self_test (number r.start))
 
 -- the start is the next kept
 pub next_start : (r : Recurrence) (place end : ℕ) → place ≤ number r.start → number r.start < end → IsNextKept r place end (number r.start)
@@ -121,14 +122,14 @@ none_early r place end h n low high = kept_earlier r n (omega arith)
 
 -- what is next before UNTIL and the bound is the next kept
 module _ (r : Recurrence) (place end until : ℕ) (after : number r.start < place) (early : end ≤ rules_end)
-    (ends : (n : ℕ) → n < rules_end → is_until r.kind r.parts.until n ≡ nat_lt n until) where
-  none_at : (n : ℕ) → place ≤ n → n < end → is_wanted (filled r) (number r.start) r.parts.count n ≡ false → is_kept r n ≡ false
-  none_at n low high none = kept_later r n (omega arith) (omega arith) ∙ ap (λ b. b && is_until r.kind r.parts.until n) none
+    (ends : (n : ℕ) → n < rules_end → is_by_until r.kind r.parts.until n ≡ nat_lt n until) where
+  none_at : (n : ℕ) → place ≤ n → n < end → is_wanted (effective r) (number r.start) r.parts.count n ≡ false → is_kept r n ≡ false
+  none_at n low high none = kept_later r n (omega arith) (omega arith) ∙ ap (λ b. b && is_by_until r.kind r.parts.until n) none
 
-  pub none_kept : NoneWanted (filled r) (number r.start) r.parts.count place (min end until) → NoneKept r place end
+  pub none_kept : NoneWanted (effective r) (number r.start) r.parts.count place (min end until) → NoneKept r place end
   none_kept none n low high = elim (by_order n until) [
     | inl before ↦ none_at n low high (none n low (omega arith))
-    | inr past ↦ kept_later r n (omega arith) (omega arith) ∙ and_second (is_wanted (filled r) (number r.start) r.parts.count n) (is_until r.kind r.parts.until n) (ends n (omega arith) ∙ not_less n until past)
+    | inr past ↦ kept_later r n (omega arith) (omega arith) ∙ and_second (is_wanted (effective r) (number r.start) r.parts.count n) (is_by_until r.kind r.parts.until n) (ends n (omega arith) ∙ not_less n until past)
   ]
     where
       by_order : (a b : ℕ) → (a < b) ⊎ (b ≤ a)
@@ -138,10 +139,10 @@ module _ (r : Recurrence) (place end until : ℕ) (after : number r.start < plac
       and_second true b h = h
       and_second false b h = refl
 
-  pub next_kept : (n : ℕ) → IsNextBefore (filled r) (number r.start) r.parts.count place (min end until) n → IsNextKept r place end n
+  pub next_kept : (n : ℕ) → IsNextBefore (effective r) (number r.start) r.parts.count place (min end until) n → IsNextKept r place end n
   next_kept n next = record {
     kept = kept_later r n (omega (arith, next.least.low)) (omega (arith, next.in_bound))
-        ∙ both (is_wanted (filled r) (number r.start) r.parts.count n) (is_until r.kind r.parts.until n) next.least.passes (ends n (omega (arith, next.in_bound)) ∙ less n until (omega (arith, next.in_bound)));
+        ∙ both (is_wanted (effective r) (number r.start) r.parts.count n) (is_by_until r.kind r.parts.until n) next.least.passes (ends n (omega (arith, next.in_bound)) ∙ less n until (omega (arith, next.in_bound)));
     from_place = next.least.low;
     in_bound = omega (arith, next.in_bound);
     least = λ m low high. none_at m low (omega (arith, next.in_bound)) (next.least.least m low high);
@@ -152,7 +153,7 @@ module _ (r : Recurrence) (place end until : ℕ) (after : number r.start < plac
 
   -- the answer of a search, as one of the rule
   pub kept_answer : (o : Option ℕ) (now : ℕ)
-      → MatchOption o (NoneWanted (filled r) (number r.start) r.parts.count place (min end until) × (now ≡ max place end)) (λ n. IsNextBefore (filled r) (number r.start) r.parts.count place (min end until) n × (now ≡ n + 1))
+      → MatchOption o (NoneWanted (effective r) (number r.start) r.parts.count place (min end until) × (now ≡ max place end)) (λ n. IsNextBefore (effective r) (number r.start) r.parts.count place (min end until) n × (now ≡ n + 1))
       → MatchOption o (NoneKept r place end × (now ≡ max place end)) (λ n. IsNextKept r place end n × (now ≡ n + 1))
   kept_answer None now h = (none_kept h.0, h.1)
   kept_answer (Some n) now h = (next_kept n h.0, h.1)

@@ -4,15 +4,15 @@ use Rattle.std.proofs.lemmas.Bool.Decides.{nat_tests}
 use Rattle.jiff_core.specs.Calendar.{days_in_month, days_in_year, days_of_months}
 use Rattle.jiff_core.proofs.CalendarLemmas.{days_in_month_bounds, days_in_year_bounds, days_of_months_all}
 use Rattle.ics_values.specs.declared.frequency.Frequency.TheVariants.{Monthly}
-use Rattle.ics_values.specs.declared.places.Places.{Places}
-use Rattle.ics_values.specs.declared.places.WidePlaces.{WidePlaces}
-use Rattle.ics_values.specs.Sets.{has, has_wide}
+use Rattle.ics_values.specs.declared.ordinals.Ordinals.{Ordinals}
+use Rattle.ics_values.specs.declared.ordinals.WideOrdinals.{WideOrdinals}
+use Rattle.ics_values.specs.Sets.{contains, contains_wide}
 use Rattle.ics_values.specs.Days.{days_before_year, year_of, year_day_of, month_of, month_day_of, weekday_of}
 use Rattle.ics_values.proofs.DayLemmas.{days_before_year-next, year_of_is, year_under_way}
-use Rattle.ics_rule.specs.Locals.{month_number, week_of, calendar_end}
+use Rattle.ics_rule.specs.PeriodNumbers.{month_number, week_of, calendar_end}
 use Rattle.ics_rule.specs.Candidates.{lists, lists_wide, lists_nth, fourth_day, week_number, weeks_of_year}
 use Rattle.ics_rule.specs.Kept.{count}
-use Rattle.ics_rule.specs.Periods.{month_start}
+use Rattle.ics_rule.specs.RecurrencePeriods.{month_start}
 use Rattle.ics_rule.specs.PlainReading.{is_nth, is_place, is_wide_place, in_year, in_month, with_weekday, fourth_of_week, is_week}
 use Rattle.ics_rule.proofs.Counts.{count-same, count-suc, count-none, count-from, count_every}
 use Rattle.ics_rule.proofs.Months.{month_of_low}
@@ -254,22 +254,22 @@ nth_is : (plus minus test : ℕ → Bool) (e x y : ℕ) → count (suc e) test �
     → is_nth plus minus test e ≡ (plus x || minus y)
 nth_is plus minus test e x y front back = ap (λ z. plus z || minus (count calendar_end test - count e test)) front ∙ ap (λ z. plus x || minus z) back
 
-pub month_days_listed : (p : Places) (e : ℕ) → e < 4_000_000
+pub month_days_listed : (p : Ordinals) (e : ℕ) → e < 4_000_000
     → is_place p (in_month e) e ≡ lists p (month_day_of e) (days_in_month (pos (year_of e)) (month_of e))
-month_days_listed p e small = nth_is (has p.front) (has p.back) (in_month e) e _ _ (month_nth e) (month_last e calendar_end (omega arith))
+month_days_listed p e small = nth_is (contains p.front) (contains p.back) (in_month e) e _ _ (month_nth e) (month_last e calendar_end (omega arith))
 
-pub year_days_listed : (p : WidePlaces) (e : ℕ) → e < 4_000_000 → is_wide_place p (in_year e) e ≡ lists_wide p (year_day_of e) (days_in_year (pos (year_of e)))
-year_days_listed p e small = nth_is (has_wide p.front) (has_wide p.back) (in_year e) e _ _ (year_nth e) (year_last e calendar_end (omega arith))
+pub year_days_listed : (p : WideOrdinals) (e : ℕ) → e < 4_000_000 → is_wide_place p (in_year e) e ≡ lists_wide p (year_day_of e) (days_in_year (pos (year_of e)))
+year_days_listed p e small = nth_is (contains_wide p.front) (contains_wide p.back) (in_year e) e _ _ (year_nth e) (year_last e calendar_end (omega arith))
 
-pub month_weekday_listed : (p : Places) (e : ℕ) → e < 4_000_000
+pub month_weekday_listed : (p : Ordinals) (e : ℕ) → e < 4_000_000
     → is_place p (with_weekday in_month e) e ≡ lists_nth p (month_day_of e) (days_in_month (pos (year_of e)) (month_of e))
 month_weekday_listed p e small =
-    nth_is (has p.front) (has p.back) (with_weekday in_month e) e _ _ (month_weekday_nth e) (month_weekday_last e calendar_end (omega arith))
+    nth_is (contains p.front) (contains p.back) (with_weekday in_month e) e _ _ (month_weekday_nth e) (month_weekday_last e calendar_end (omega arith))
 
-pub year_weekday_listed : (p : Places) (e : ℕ) → e < 4_000_000
+pub year_weekday_listed : (p : Ordinals) (e : ℕ) → e < 4_000_000
     → is_place p (with_weekday in_year e) e ≡ lists_nth p (year_day_of e) (days_in_year (pos (year_of e)))
 year_weekday_listed p e small =
-    nth_is (has p.front) (has p.back) (with_weekday in_year e) e _ _ (year_weekday_nth e) (year_weekday_last e calendar_end (omega arith))
+    nth_is (contains p.front) (contains p.back) (with_weekday in_year e) e _ _ (year_weekday_nth e) (year_weekday_last e calendar_end (omega arith))
 
 -- ---- weeks
 
@@ -325,14 +325,14 @@ same_week w e small = elim (by_order (7 * week_of w e + w) 9) [
 week_places : (d len : ℕ) → 1 ≤ d → d ≤ len → (len - d) / 7 + 1 ≡ (len - 1 - (d - 1) % 7) / 7 + 1 + 1 - ((d - 1) / 7 + 1)
 week_places d len low high = omega arith
 
-pub weeks_listed : (weeks : Places) (w e : ℕ) → w < 7 → e < 3_800_000
+pub weeks_listed : (weeks : Ordinals) (w e : ℕ) → w < 7 → e < 3_800_000
     → is_week weeks (fourth_of_week w e) ≡ lists weeks (week_number (fourth_day w e)) (weeks_of_year (fourth_day w e))
 weeks_listed weeks w e small range =
     let f = fourth_of_week w e in
     let same = same_week w e small in
     let d = year_day f in
     year_weekday_listed weeks f (omega arith)
-    ∙ ap (λ x. has weeks.front ((year_day_of f - 1) / 7 + 1) || has weeks.back x)
+    ∙ ap (λ x. contains weeks.front ((year_day_of f - 1) / 7 + 1) || contains weeks.back x)
     (week_places (year_day_of f) (days_in_year (pos (year_of f))) (omega (arith, d.place, d.low)) (omega (arith, d.place, d.size, d.low, d.high)))
     ∙ ap (λ x. lists weeks ((x - 1) / 7 + 1) ((days_in_year (pos (year_of f)) - 1 - (x - 1) % 7) / 7 + 1)) same.day
     ∙ ap (λ x. lists weeks (week_number (fourth_day w e)) ((x - 1 - (year_day_of (fourth_day w e) - 1) % 7) / 7 + 1)) same.length

@@ -6,9 +6,9 @@ use Rattle.std.proofs.Math.Nat.{mod-lt, mul_comm, mul_assoc}
 use Rattle.ics_values.specs.declared.frequency.Frequency.{Frequency}
 use Rattle.ics_values.specs.declared.frequency.Frequency.TheVariants.{Secondly, Minutely, Hourly, Daily, Weekly, Monthly, Yearly}
 use Rattle.ics_values.specs.Sets.{IsLeastFrom}
-use Rattle.ics_rule.specs.declared.filled.Filled.{Filled}
-use Rattle.ics_rule.specs.Locals.{hour_of, minute_of, second_of}
-use Rattle.ics_rule.specs.Filled.{skips_hours, skips_minutes, skips_seconds}
+use Rattle.ics_rule.specs.declared.effective_rule.EffectiveRule.{EffectiveRule}
+use Rattle.ics_rule.specs.PeriodNumbers.{hour_of, minute_of, second_of}
+use Rattle.ics_rule.specs.EffectiveRules.{skips_hours, skips_minutes, skips_seconds}
 use Rattle.ics_rule.specs.Candidates.{lets, lets_date, is_stepped}
 use Rattle.ics_rule.specs.Kept.{count}
 use Rattle.ics_rule.specs.Rounds.{seconds_of}
@@ -129,7 +129,7 @@ step_begins a i some = record {
 }
 
 -- A period of a day or less, in its day.
-module _ (f : Frequency) (q : Filled) (fine : 0 < seconds_of f) (unit : seconds_of f ≤ 86_400) where
+module _ (f : Frequency) (q : EffectiveRule) (fine : 0 < seconds_of f) (unit : seconds_of f ≤ 86_400) where
   pub own_day : (n d : ℕ) → lets_own f q (n + d * 86_400) ≡ lets_own f q n
   own_day n d =
       let hour : (n + d * 86_400) / 3_600 % 24 ≡ n / 3_600 % 24 = omega arith in
@@ -227,7 +227,7 @@ module _ (i : ℕ) (some : 1 ≤ i) (from j : ℕ) (less : j < i) where
       by_bool_2 true = refl
       by_bool_2 false = refl
 
-module _ (q : Filled) (first : ℕ) (fine : 0 < seconds_of q.frequency) (unit : seconds_of q.frequency ≤ 86_400) where
+module _ (q : EffectiveRule) (first : ℕ) (fine : 0 < seconds_of q.frequency) (unit : seconds_of q.frequency ≤ 86_400) where
   abbrev u : ℕ
   u = seconds_of q.frequency
 

@@ -2,7 +2,7 @@
 use Rattle.std.proofs.Common.{◌≡◌, ℕ, ◌+◌, ◌*◌, ◌/◌, ◌<◌, ◌≤◌, ◌&&◌, ap, ◌∙◌, arith}
 use Rattle.ics_values.specs.declared.frequency.Frequency.{Frequency}
 use Rattle.ics_values.specs.declared.frequency.Frequency.TheVariants.{Secondly, Minutely, Hourly, Daily, Weekly, Monthly, Yearly}
-use Rattle.ics_rule.specs.declared.filled.Filled.{Filled}
+use Rattle.ics_rule.specs.declared.effective_rule.EffectiveRule.{EffectiveRule}
 use Rattle.ics_rule.specs.Candidates.{lets_date, is_stepped}
 use Rattle.ics_rule.specs.Kept.{count}
 use Rattle.ics_rule.specs.Rounds.{seconds_of, calendar_periods, IsCalendarRound}
@@ -31,7 +31,7 @@ second_again Weekly p k h u = absurd (omega (arith, u))
 second_again Monthly p k h u = absurd (omega (arith, h))
 second_again Yearly p k h u = absurd (omega (arith, h))
 
-module _ (q : Filled) (first periods : ℕ) (round : IsCalendarRound q periods) (fine : 0 < seconds_of q.frequency) (unit : seconds_of q.frequency ≤ 86_400) where
+module _ (q : EffectiveRule) (first periods : ℕ) (round : IsCalendarRound q periods) (fine : 0 < seconds_of q.frequency) (unit : seconds_of q.frequency ≤ 86_400) where
   open_again : (p : ℕ) → first ≤ p → is_open_period q first (p + periods) ≡ is_open_period q first p
   open_again p l =
       ap (λ x. x && (lets_date q ((p + periods) / per_day q.frequency) && lets_own q.frequency q ((p + periods) * seconds_of q.frequency))) (calendar_step q periods round first p l)

@@ -2,10 +2,10 @@
 use Rattle.std.proofs.Common.{◌≡◌, ℕ, zero, suc, ◌+◌, ◌<◌, ◌≤◌, ◌⊎◌, inl, inr, Bool, true, false, ◌==◌, ◌&&◌, nat_lt, if◌then◌else◌, refl, sym, ap, ◌∙◌, arith}
 use Rattle.std.proofs.lemmas.Bool.Decides.{nat_tests}
 use Rattle.std.proofs.lemmas.Nat.Bits.{bit_at-zero}
-use Rattle.ics_values.specs.declared.places.Weekdays.{Weekdays}
-use Rattle.ics_values.specs.Sets.{has, with_number}
-use Rattle.ics_values.proofs.SetLemmas.{has-with_number}
-use Rattle.ics_rule.specs.Parts.{names_weekday, named_below}
+use Rattle.ics_values.specs.declared.ordinals.Weekdays.{Weekdays}
+use Rattle.ics_values.specs.Sets.{contains, with_number}
+use Rattle.ics_values.proofs.SetLemmas.{contains-with_number}
+use Rattle.ics_rule.specs.NamedWeekdays.{names_weekday, named_below}
 use Rattle.ics_rule.proofs.ScanLemmas.{one_more, no_more}
 
 pub named_none : (w : Weekdays) → 0 ≡ named_below w 0
@@ -32,7 +32,7 @@ either : (b : Bool) → (b ≡ true) ⊎ (b ≡ false)
 either true = inl refl
 either false = inr refl
 
-pub is_named : (w : Weekdays) (n d : ℕ) → n ≤ 64 → has (named_below w n) d ≡ (nat_lt d n && names_weekday w d)
+pub is_named : (w : Weekdays) (n d : ℕ) → n ≤ 64 → contains (named_below w n) d ≡ (nat_lt d n && names_weekday w d)
 unfolding named_below
 is_named w zero d h =
     let none : nat_lt d 0 ≡ false = grind (arith, nat_tests) in
@@ -41,9 +41,9 @@ is_named w (suc n) d h =
     let old = is_named w n d (omega (arith, h)) in
     let next : n + 1 ≡ suc n = omega arith in
     elim (either (names_weekday w n)) [
-      | inl there ↦ ap (λ b. has (if b then with_number n (named_below w n) else named_below w n) d) there ∙ has-with_number (named_below w n) n d (omega (arith, h))
+      | inl there ↦ ap (λ b. contains (if b then with_number n (named_below w n) else named_below w n) d) there ∙ contains-with_number (named_below w n) n d (omega (arith, h))
           ∙ one_more (names_weekday w) n d _ there old ∙ ap (λ x. nat_lt d x && names_weekday w d) next
-      | inr not_there ↦ ap (λ b. has (if b then with_number n (named_below w n) else named_below w n) d) not_there
+      | inr not_there ↦ ap (λ b. contains (if b then with_number n (named_below w n) else named_below w n) d) not_there
           ∙ no_more (names_weekday w) n d _ not_there old ∙ ap (λ x. nat_lt d x && names_weekday w d) next
     ]
 

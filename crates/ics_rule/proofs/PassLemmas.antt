@@ -1,10 +1,10 @@
 -- Steps over periods that hold nothing.
 use Rattle.std.proofs.Common.{◌≡◌, ℕ, ◌+◌, ◌-◌, ◌*◌, ◌/◌, ◌%◌, ◌<◌, ◌≤◌, ◌⊎◌, inl, inr, Bool, true, false, ◌||◌, ◌&&◌, ◌==◌, max, refl, sym, subst, ap, ◌∙◌, arith}
 use Rattle.jiff_core.specs.Weekday.{monday_zero}
-use Rattle.ics_values.specs.Sets.{has, IsLeastFrom}
-use Rattle.ics_rule.specs.declared.filled.Filled.{Filled}
+use Rattle.ics_values.specs.Sets.{contains, IsLeastFrom}
+use Rattle.ics_rule.specs.declared.effective_rule.EffectiveRule.{EffectiveRule}
 use Rattle.ics_rule.specs.Candidates.{lets, lets_date, lets_clock, is_stepped, period_in}
-use Rattle.ics_rule.specs.Periods.{first_local, has_time}
+use Rattle.ics_rule.specs.RecurrencePeriods.{first_local, has_time}
 use Rattle.ics_rule.specs.Searches.{NoneLetIn, IsNextOpen}
 use Rattle.ics_rule.proofs.PeriodLemmas.{begun, begins, period_mono}
 
@@ -12,7 +12,7 @@ by_order : (a b : ℕ) → (a < b) ⊎ (b ≤ a)
 by_order a b = grind arith
 
 -- the step of a local before which the rule lets nothing in
-pub step_open : (q : Filled) (first number begin place next : ℕ) → begin ≡ first_local q.frequency (monday_zero q.week_start) number → begin ≤ place → NoneLetIn q begin place
+pub step_open : (q : EffectiveRule) (first number begin place next : ℕ) → begin ≡ first_local q.frequency (monday_zero q.week_start) number → begin ≤ place → NoneLetIn q begin place
     → IsLeastFrom (is_stepped first q.interval) (period_in q place) next → IsNextOpen q first number next
 step_open q first number begin place next e up none least = record {
   step = least.passes;
@@ -38,20 +38,20 @@ out_on f from e k before none m l h = elim (by_order m e) [
 ]
 
 -- the readings of a whole day that the parts let in
-module _ (q : Filled) (hours minutes seconds : ℕ)
-    (h : (m : ℕ) → m < 24 → has hours m ≡ ((true || (m == 0)) && lets q.hours m))
-    (i : (m : ℕ) → m < 60 → has minutes m ≡ ((true || (m == 0)) && lets q.minutes m))
-    (s : (m : ℕ) → m < 60 → has seconds m ≡ ((true || (m == 0)) && lets q.seconds m)) where
+module _ (q : EffectiveRule) (hours minutes seconds : ℕ)
+    (h : (m : ℕ) → m < 24 → contains hours m ≡ ((true || (m == 0)) && lets q.hours m))
+    (i : (m : ℕ) → m < 60 → contains minutes m ≡ ((true || (m == 0)) && lets q.minutes m))
+    (s : (m : ℕ) → m < 60 → contains seconds m ≡ ((true || (m == 0)) && lets q.seconds m)) where
   clock_is : (n : ℕ) → has_time hours minutes seconds (n % 86_400) ≡ lets_clock q n
   clock_is n =
       let hour : n % 86_400 / 60 / 60 ≡ n / 3_600 % 24 = omega arith in
       let minute : n % 86_400 / 60 % 60 ≡ n / 60 % 60 = omega arith in
       let second : n % 86_400 % 60 ≡ n % 60 = omega arith in
-      ap (λ x. (has hours x && has minutes (n % 86_400 / 60 % 60)) && has seconds (n % 86_400 % 60)) hour
-      ∙ ap (λ x. (has hours (n / 3_600 % 24) && has minutes x) && has seconds (n % 86_400 % 60)) minute
-      ∙ ap (λ x. (has hours (n / 3_600 % 24) && has minutes (n / 60 % 60)) && has seconds x) second
-      ∙ ap (λ x. (x && has minutes (n / 60 % 60)) && has seconds (n % 60)) (h (n / 3_600 % 24) (omega arith))
-      ∙ ap (λ x. (lets q.hours (n / 3_600 % 24) && x) && has seconds (n % 60)) (i (n / 60 % 60) (omega arith))
+      ap (λ x. (contains hours x && contains minutes (n % 86_400 / 60 % 60)) && contains seconds (n % 86_400 % 60)) hour
+      ∙ ap (λ x. (contains hours (n / 3_600 % 24) && contains minutes x) && contains seconds (n % 86_400 % 60)) minute
+      ∙ ap (λ x. (contains hours (n / 3_600 % 24) && contains minutes (n / 60 % 60)) && contains seconds x) second
+      ∙ ap (λ x. (x && contains minutes (n / 60 % 60)) && contains seconds (n % 60)) (h (n / 3_600 % 24) (omega arith))
+      ∙ ap (λ x. (lets q.hours (n / 3_600 % 24) && x) && contains seconds (n % 60)) (i (n / 60 % 60) (omega arith))
       ∙ ap (λ x. (lets q.hours (n / 3_600 % 24) && lets q.minutes (n / 60 % 60)) && x) (s (n % 60) (omega arith))
       ∙ grouped (lets q.hours (n / 3_600 % 24)) (lets q.minutes (n / 60 % 60)) (lets q.seconds (n % 60))
     where
@@ -66,10 +66,10 @@ module _ (q : Filled) (hours minutes seconds : ℕ)
   second_none n none m l u = sym (clock_is m) ∙ none (m % 86_400) (omega (arith, l, u))
 
 -- no local is let in on a day that is not, nor at a time that is not
-pub none_on_days : (q : Filled) (n day : ℕ) → ((e : ℕ) → n / 86_400 ≤ e → e < day → lets_date q e ≡ false) → NoneLetIn q n (max n (day * 86_400))
+pub none_on_days : (q : EffectiveRule) (n day : ℕ) → ((e : ℕ) → n / 86_400 ≤ e → e < day → lets_date q e ≡ false) → NoneLetIn q n (max n (day * 86_400))
 none_on_days q n day none m l u = ap (λ x. x && lets_clock q m) (none (m / 86_400) (omega (arith, l)) (omega (arith, l, u)))
 
-pub none_on_clock : (q : Filled) (n from before : ℕ) → NoneLetIn q n from → ((m : ℕ) → from ≤ m → m < before → lets_clock q m ≡ false) → NoneLetIn q n before
+pub none_on_clock : (q : EffectiveRule) (n from before : ℕ) → NoneLetIn q n from → ((m : ℕ) → from ≤ m → m < before → lets_clock q m ≡ false) → NoneLetIn q n before
 none_on_clock q n from before days none m l u = elim (by_order m from) [
   | inl less ↦ days m l less
   | inr more ↦ and_second (lets_date q (m / 86_400)) (lets_clock q m) (none m more u)

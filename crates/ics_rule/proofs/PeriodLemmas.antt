@@ -9,9 +9,9 @@ use Rattle.ics_values.specs.Days.{days_before_year, year_of, month_of}
 use Rattle.ics_values.proofs.DayLemmas.{year_under_way, days_before_year_low, days_before_year_mono, days_before_year-next}
 use Rattle.ics_values.specs.declared.frequency.Frequency.{Frequency}
 use Rattle.ics_values.specs.declared.frequency.Frequency.TheVariants.{Secondly, Minutely, Hourly, Daily, Weekly, Monthly, Yearly}
-use Rattle.ics_rule.specs.Locals.{period, month_number}
-use Rattle.ics_rule.specs.Filled.{skips_hours, skips_minutes, skips_seconds}
-use Rattle.ics_rule.specs.Periods.{month_start, first_local}
+use Rattle.ics_rule.specs.PeriodNumbers.{period, month_number}
+use Rattle.ics_rule.specs.EffectiveRules.{skips_hours, skips_minutes, skips_seconds}
+use Rattle.ics_rule.specs.RecurrencePeriods.{month_start, first_local}
 use Rattle.ics_rule.proofs.Months.{earlier_month, later_month, month_of_high}
 
 by_order : (a b : ℕ) → (a < b) ⊎ (b ≤ a)

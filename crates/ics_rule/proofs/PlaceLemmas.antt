@@ -1,12 +1,13 @@
 -- Places in a period, and the first members of a rule, by counting.
 use Rattle.std.proofs.Common.{◌≡◌, ℕ, zero, suc, ◌+◌, ◌<◌, ◌≤◌, ◌⊎◌, inl, inr, Bool, true, false, cond, ◌&&◌, ◌||◌, ◌==◌, nat_lt, min, Some, None, refl, sym, ap, ◌∙◌, arith}
 use Rattle.std.proofs.lemmas.Bool.Decides.{nat_tests}
-use Rattle.ics_rule.specs.declared.filled.Filled.{Filled}
+use Rattle.ics_rule.specs.declared.effective_rule.EffectiveRule.{EffectiveRule}
 use Rattle.ics_rule.specs.Recurrence.{Recurrence}
-use Rattle.ics_rule.specs.Locals.{number, calendar_end, rules_end}
+use Rattle.ics_rule.specs.PeriodNumbers.{calendar_end, rules_end}
+use Rattle.ics_values.specs.Locals.{number}
 use Rattle.ics_rule.specs.Candidates.{is_candidate_in, period_in}
-use Rattle.ics_rule.specs.Kept.{count, is_beside, rank, size, is_in_rule, is_until, is_counted, is_kept}
-use Rattle.ics_rule.specs.Places.{HasRank}
+use Rattle.ics_rule.specs.Kept.{count, is_beside, rank, size, is_in_rule, is_by_until, is_counted, is_kept}
+use Rattle.ics_rule.specs.Ranks.{HasRank}
 use Rattle.ics_rule.proofs.Counts.{count-suc, count-none, count_mono, count_one_more}
 use Rattle.ics_rule.proofs.KeptLemmas.{and_true, eqb_true}
 use Rattle.ics_rule.proofs.NextLemmas.{in_rule_start, in_rule_earlier}
@@ -48,7 +49,7 @@ alone test k m o a b = elim (three m o) [
 
 -- ---- the candidates of a period
 
-module _ (q : Filled) (start n : ℕ) where
+module _ (q : EffectiveRule) (start n : ℕ) where
   -- one of them counts the same
   same_rank : (m : ℕ) → is_beside q start n m ≡ true → rank q start m ≡ count (suc m) (is_beside q start n)
   same_rank m e =
@@ -76,7 +77,7 @@ module _ (r : Recurrence) (c : ℕ) (counted : r.parts.count ≡ Some c) (some :
   pub kept_first : (n : ℕ) → n < rules_end → is_kept r n ≡ (is_in_rule r n && nat_lt (count n (is_in_rule r)) c)
   unfolding is_kept
   kept_first n inside =
-      ap (λ u. n == number r.start || (nat_lt n rules_end && is_in_rule r n && is_until r.kind u n && is_counted r r.parts.count n)) endless
+      ap (λ u. n == number r.start || (nat_lt n rules_end && is_in_rule r n && is_by_until r.kind u n && is_counted r r.parts.count n)) endless
       ∙ ap (λ o. n == number r.start || (nat_lt n rules_end && is_in_rule r n && true && is_counted r o n)) counted
       ∙ ap (λ b. n == number r.start || (b && is_in_rule r n && true && nat_lt (count n (is_in_rule r)) c)) (less n rules_end inside)
       ∙ (elim (by_start n (number r.start)) [

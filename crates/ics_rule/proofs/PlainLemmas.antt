@@ -6,18 +6,19 @@ use Rattle.jiff_core.specs.Calendar.{days_in_month, days_in_year}
 use Rattle.jiff_core.specs.Weekday.{monday_zero}
 use Rattle.ics_values.specs.declared.frequency.Frequency.{Frequency}
 use Rattle.ics_values.specs.declared.frequency.Frequency.TheVariants.{Secondly, Minutely, Hourly, Daily, Weekly, Monthly, Yearly}
-use Rattle.ics_values.specs.declared.places.Places.{Places}
-use Rattle.ics_values.specs.Sets.{has, has_wide, is_none, only}
-use Rattle.ics_values.specs.Places.{no_places, lists_none, lists_none_wide, numbers_of}
+use Rattle.ics_values.specs.declared.ordinals.Ordinals.{Ordinals}
+use Rattle.ics_values.specs.Sets.{contains, contains_wide, is_empty, only}
+use Rattle.ics_values.specs.Ordinals.{no_ordinals, lists_none, lists_none_wide, numbers_of}
 use Rattle.ics_values.specs.Days.{day_index, year_of, year_day_of, month_of, month_day_of, weekday_of}
 use Rattle.ics_rule.specs.declared.kind.Kind.{Kind}
 use Rattle.ics_rule.specs.declared.kind.Kind.TheVariants.{Date, DateTime}
-use Rattle.ics_rule.specs.declared.filled.Filled.{Filled}
+use Rattle.ics_rule.specs.declared.effective_rule.EffectiveRule.{EffectiveRule}
 use Rattle.ics_rule.specs.Recurrence.{Recurrence}
-use Rattle.ics_rule.specs.Locals.{number, day_of, hour_of, minute_of, second_of, calendar_end, rules_end}
-use Rattle.ics_rule.specs.Filled.{takes_month_day, takes_month, takes_weekday, skips_hours, skips_minutes, skips_seconds, clock_part, filled}
+use Rattle.ics_rule.specs.PeriodNumbers.{day_of, hour_of, minute_of, second_of, calendar_end, rules_end}
+use Rattle.ics_values.specs.Locals.{number}
+use Rattle.ics_rule.specs.EffectiveRules.{takes_month_day, takes_month, takes_weekday, skips_hours, skips_minutes, skips_seconds, clock_part, effective}
 use Rattle.ics_rule.specs.Candidates.{lets, lets_place, lets_wide_place, lists, lists_wide, lists_nth, lets_week, lets_numbered, lets_weekday, lets_date, lets_clock, period_in, is_stepped, is_candidate_in, fourth_day, week_number, weeks_of_year}
-use Rattle.ics_rule.specs.Kept.{count, is_beside, rank, size, is_placed, is_chosen, is_in_rule, is_until, is_counted, is_kept}
+use Rattle.ics_rule.specs.Kept.{count, is_beside, rank, size, is_placed, is_chosen, is_in_rule, is_by_until, is_counted, is_kept}
 use Rattle.ics_rule.specs.Table.{ByMonth, ByWeekNo, ByYearDay, ByMonthDay, ByDay, ByHour, ByMinute, BySecond}
 use Rattle.ics_rule.specs.ByTable.{is_absent, is_clockless, weekday_unit}
 use Rattle.ics_rule.specs.PlainReading.{is_place, is_wide_place, is_dayless, is_extracted, month_applies, in_year, in_month, month_day_applies, year_day_applies, with_weekday, weekday_period, is_weekday, weekday_applies, fourth_of_week, is_week, week_applies, hour_applies, minute_applies, second_applies, all_apply, period_at, frequency_applies, occurs_in, position_applies, is_plain_member, is_few_members, is_plainly_kept, HasPlainReading}
@@ -106,12 +107,12 @@ no_month_taken Secondly r h = refl
 
 -- ---- the numbers of a weekday
 
-place_none : (p : Places) (test : ℕ → Bool) (e : ℕ) → lists_none p ≡ true → is_place p test e ≡ false
+place_none : (p : Ordinals) (test : ℕ → Bool) (e : ℕ) → lists_none p ≡ true → is_place p test e ≡ false
 place_none p test e h =
-    let parts = and_parts (is_none p.front) (is_none p.back) h in
-    ap (λ x. has x (count (suc e) test) || has p.back (count calendar_end test - count e test)) (zero_of p.front parts.0)
-    ∙ ap (λ x. has 0 (count (suc e) test) || has x (count calendar_end test - count e test)) (zero_of p.back parts.1)
-    ∙ ap (λ x. (x == 1) || has 0 (count calendar_end test - count e test)) (bit_at-zero (count (suc e) test))
+    let parts = and_parts (is_empty p.front) (is_empty p.back) h in
+    ap (λ x. contains x (count (suc e) test) || contains p.back (count calendar_end test - count e test)) (zero_of p.front parts.0)
+    ∙ ap (λ x. contains 0 (count (suc e) test) || contains x (count calendar_end test - count e test)) (zero_of p.back parts.1)
+    ∙ ap (λ x. (x == 1) || contains 0 (count calendar_end test - count e test)) (bit_at-zero (count (suc e) test))
     ∙ ap (λ x. x == 1) (bit_at-zero (count calendar_end test - count e test))
   where
     and_parts : (a b : Bool) → (a && b) ≡ true → (a ≡ true) × (b ≡ true)
@@ -122,14 +123,14 @@ place_none p test e h =
     zero_of s h = grind (arith, nat_tests)
 
 -- under YEARLY, beside BYWEEKNO or not, and BYMONTH or not
-abbrev yearly_numbered : Places → ℕ → Bool → Bool → Bool
+abbrev yearly_numbered : Ordinals → ℕ → Bool → Bool → Bool
 yearly_numbered p e w m =
     if not w then not (lists_none p)
     else (if not m then lists_nth p (month_day_of e) (days_in_month (pos (year_of e)) (month_of e))
     else lists_nth p (year_day_of e) (days_in_year (pos (year_of e))))
 
-module _ (r : Recurrence) (q : Filled) (p : Places) (e : ℕ) (small : e < 4_000_000) (weeks : lists_none q.weeks ≡ is_absent r ByWeekNo)
-    (months : is_none q.months ≡ is_absent r ByMonth) where
+module _ (r : Recurrence) (q : EffectiveRule) (p : Ordinals) (e : ℕ) (small : e < 4_000_000) (weeks : lists_none q.weeks ≡ is_absent r ByWeekNo)
+    (months : is_empty q.months ≡ is_absent r ByMonth) where
   by_unit : (w m : Bool) → ((if not w then Weekly else (if not m then Monthly else Yearly)) ≡ Weekly → lists_none p ≡ true)
       → yearly_numbered p e w m ≡ is_place p (with_weekday (if m then in_year else in_month) e) e
   by_unit false m none = ap not (none refl) ∙ sym (place_none p (with_weekday (if m then in_year else in_month) e) e (none refl))
@@ -139,7 +140,7 @@ module _ (r : Recurrence) (q : Filled) (p : Places) (e : ℕ) (small : e < 4_000
   numbered : (f : Frequency) → (weekday_unit r f ≡ Weekly → lists_none p ≡ true) → lets_numbered f q p e ≡ is_place p (with_weekday (weekday_period r f) e) e
   numbered Monthly none = sym (month_weekday_listed p e small)
   numbered Yearly none =
-      ap (λ w. yearly_numbered p e w (is_none q.months)) weeks ∙ ap (yearly_numbered p e (is_absent r ByWeekNo)) months
+      ap (λ w. yearly_numbered p e w (is_empty q.months)) weeks ∙ ap (yearly_numbered p e (is_absent r ByWeekNo)) months
       ∙ by_unit (is_absent r ByWeekNo) (is_absent r ByMonth) none
   numbered Weekly none = ap not (none refl) ∙ sym (place_none p (with_weekday (weekday_period r Weekly) e) e (none refl))
   numbered Daily none = ap not (none refl) ∙ sym (place_none p (with_weekday (weekday_period r Daily) e) e (none refl))
@@ -148,14 +149,14 @@ module _ (r : Recurrence) (q : Filled) (p : Places) (e : ℕ) (small : e < 4_000
   numbered Secondly none = ap not (none refl) ∙ sym (place_none p (with_weekday (weekday_period r Secondly) e) e (none refl))
 
 -- no number lets nothing in
-none_numbered : (f : Frequency) (q : Filled) (e : ℕ) → lets_numbered f q no_places e ≡ false
-none_numbered Monthly q e = none_nth no_places (month_day_of e) (days_in_month (pos (year_of e)) (month_of e)) refl
-none_numbered Yearly q e = either_false (lists_none q.weeks) (is_none q.months)
+none_numbered : (f : Frequency) (q : EffectiveRule) (e : ℕ) → lets_numbered f q no_ordinals e ≡ false
+none_numbered Monthly q e = none_nth no_ordinals (month_day_of e) (days_in_month (pos (year_of e)) (month_of e)) refl
+none_numbered Yearly q e = either_false (lists_none q.weeks) (is_empty q.months)
   where
-    either_false : (w m : Bool) → yearly_numbered no_places e w m ≡ false
+    either_false : (w m : Bool) → yearly_numbered no_ordinals e w m ≡ false
     either_false false m = refl
-    either_false true false = none_nth no_places (month_day_of e) (days_in_month (pos (year_of e)) (month_of e)) refl
-    either_false true true = none_nth no_places (year_day_of e) (days_in_year (pos (year_of e))) refl
+    either_false true false = none_nth no_ordinals (month_day_of e) (days_in_month (pos (year_of e)) (month_of e)) refl
+    either_false true true = none_nth no_ordinals (year_day_of e) (days_in_year (pos (year_of e))) refl
 none_numbered Weekly q e = refl
 none_numbered Daily q e = refl
 none_numbered Hourly q e = refl
@@ -165,13 +166,13 @@ none_numbered Secondly q e = refl
 -- ---- the clock
 
 clock : (kind : Kind) (takes from : Bool) (set own n : ℕ) → takes ≡ from → (kind ≡ Date → (takes ≡ true) × (own ≡ 0))
-    → lets (clock_part kind takes set own) n ≡ (if (is_clockless kind || is_none set) then (if from then (n == own) else true) else has set n)
+    → lets (clock_part kind takes set own) n ≡ (if (is_clockless kind || is_empty set) then (if from then (n == own) else true) else contains set n)
 clock Date takes from set own n same date =
     let midnight = date refl in
     ap (λ z. lets (only z) n) (sym midnight.1) ∙ only_number true 0 own n ∙ ap (λ b. if b then (n == own) else true) (sym midnight.0 ∙ same)
 clock DateTime takes from set own n same date =
-    only_number (takes && is_none set) set own n
-    ∙ by_absence (is_none set) from (takes && is_none set) (has set n) (has set n) (n == own) (ap (λ x. x && is_none set) same) (λ e. refl)
+    only_number (takes && is_empty set) set own n
+    ∙ by_absence (is_empty set) from (takes && is_empty set) (contains set n) (contains set n) (n == own) (ap (λ x. x && is_empty set) same) (λ e. refl)
 
 hour_taken : (f : Frequency) (r : Recurrence) → skips_hours f ≡ is_extracted r f ByHour
 hour_taken Yearly r = refl
@@ -232,17 +233,17 @@ module _ (r : Recurrence) (plain : HasPlainReading r) where
   abbrev start : ℕ
   start = number r.start
 
-  month : (n : ℕ) → lets (filled r).months (month_of (day_of n)) ≡ month_applies r n
-  unfolding filled
+  month : (n : ℕ) → lets (effective r).months (month_of (day_of n)) ≡ month_applies r n
+  unfolding effective
   month n =
       only_number (takes_month r.parts.frequency r.parts) r.parts.months (month_of (day_of start)) (month_of (day_of n))
       ∙ by_absence (is_absent r ByMonth) (is_extracted r r.parts.frequency ByMonth) (takes_month r.parts.frequency r.parts)
-      (has r.parts.months (month_of (day_of n))) (has r.parts.months (month_of (day_of n))) (month_of (day_of n) == month_of (day_of start))
+      (contains r.parts.months (month_of (day_of n))) (contains r.parts.months (month_of (day_of n))) (month_of (day_of n) == month_of (day_of start))
       (month_taken r.parts.frequency r) (λ e. refl)
 
   month_day : (n : ℕ) → day_of n < 4_000_000
-      → lets_place (filled r).month_days (month_day_of (day_of n)) (days_in_month (pos (year_of (day_of n))) (month_of (day_of n))) ≡ month_day_applies r n
-  unfolding filled
+      → lets_place (effective r).month_days (month_day_of (day_of n)) (days_in_month (pos (year_of (day_of n))) (month_of (day_of n))) ≡ month_day_applies r n
+  unfolding effective
   month_day n small =
       only_day (takes_month_day r.parts.frequency r.parts) r.parts.month_days (month_day_of (day_of start)) (month_day_of (day_of n))
       (days_in_month (pos (year_of (day_of n))) (month_of (day_of n)))
@@ -252,127 +253,127 @@ module _ (r : Recurrence) (plain : HasPlainReading r) where
       (day_taken r.parts.frequency r) (λ e. sym (month_days_listed r.parts.month_days (day_of n) small))
 
   year_day : (n : ℕ) → day_of n < 4_000_000
-      → lets_wide_place (filled r).year_days (year_day_of (day_of n)) (days_in_year (pos (year_of (day_of n)))) ≡ year_day_applies r n
-  unfolding filled
+      → lets_wide_place (effective r).year_days (year_day_of (day_of n)) (days_in_year (pos (year_of (day_of n)))) ≡ year_day_applies r n
+  unfolding effective
   year_day n small =
       left_open (is_absent r ByYearDay) (is_extracted r r.parts.frequency ByYearDay)
       (lists_wide r.parts.year_days (year_day_of (day_of n)) (days_in_year (pos (year_of (day_of n)))))
       (is_wide_place r.parts.year_days (in_year (day_of n)) (day_of n)) (sym (year_days_listed r.parts.year_days (day_of n) small))
 
-  week : (n : ℕ) → day_of n < 3_800_000 → lets_week (filled r) (day_of n) ≡ week_applies r n
-  unfolding filled
+  week : (n : ℕ) → day_of n < 3_800_000 → lets_week (effective r) (day_of n) ≡ week_applies r n
+  unfolding effective
   week n small =
       let w = monday_zero r.parts.week_start in
       left_open (is_absent r ByWeekNo) (is_extracted r r.parts.frequency ByWeekNo)
       (lists r.parts.weeks (week_number (fourth_day w (day_of n))) (weeks_of_year (fourth_day w (day_of n))))
       (is_week r.parts.weeks (fourth_of_week w (day_of n))) (sym (weeks_listed r.parts.weeks w (day_of n) (week_small r.parts.week_start) small))
 
-  months_kept : is_absent r ByDay ≡ false → is_none (filled r).months ≡ is_absent r ByMonth
-  unfolding filled
-  months_kept e = ap (λ t. is_none (if t then only (month_of (day_of start)) else r.parts.months)) (no_month_taken r.parts.frequency r e)
+  months_kept : is_absent r ByDay ≡ false → is_empty (effective r).months ≡ is_absent r ByMonth
+  unfolding effective
+  months_kept e = ap (λ t. is_empty (if t then only (month_of (day_of start)) else r.parts.months)) (no_month_taken r.parts.frequency r e)
 
-  weekday : (n : ℕ) → day_of n < 4_000_000 → lets_weekday (filled r) (day_of n) ≡ weekday_applies r n
-  unfolding filled
+  weekday : (n : ℕ) → day_of n < 4_000_000 → lets_weekday (effective r) (day_of n) ≡ weekday_applies r n
+  unfolding effective
   weekday n small =
       let f = r.parts.frequency in
       let w = weekday_of (day_of n) in
       only_this_weekday (takes_weekday f r.parts) r.parts.weekdays (weekday_of (day_of start)) w
-      (λ p. lets_numbered f (filled r) p (day_of n)) (λ e. none_numbered f (filled r) (day_of n))
+      (λ p. lets_numbered f (effective r) p (day_of n)) (λ e. none_numbered f (effective r) (day_of n))
       ∙ ap (λ x. if takes_weekday f r.parts then (w == weekday_of (day_of start)) else x)
-      (sym (or_assoc (is_absent r ByDay) (has r.parts.weekdays.plain w) (lets_numbered f (filled r) (numbers_of r.parts.weekdays w) (day_of n))))
+      (sym (or_assoc (is_absent r ByDay) (contains r.parts.weekdays.plain w) (lets_numbered f (effective r) (numbers_of r.parts.weekdays w) (day_of n))))
       ∙ by_absence (is_absent r ByDay) (is_extracted r f ByDay) (takes_weekday f r.parts)
-      (has r.parts.weekdays.plain w || lets_numbered f (filled r) (numbers_of r.parts.weekdays w) (day_of n))
+      (contains r.parts.weekdays.plain w || lets_numbered f (effective r) (numbers_of r.parts.weekdays w) (day_of n))
       (is_weekday r (day_of n)) (w == weekday_of (day_of start))
       (weekday_taken f r plain.weekly plain.yearly)
-      (λ e. ap (λ x. has r.parts.weekdays.plain w || x) (numbered r (filled r) (numbers_of r.parts.weekdays w) (day_of n) small refl (months_kept e) f
+      (λ e. ap (λ x. contains r.parts.weekdays.plain w || x) (numbered r (effective r) (numbers_of r.parts.weekdays w) (day_of n) small refl (months_kept e) f
       (λ unit. plain.numbers unit w)))
 
-  hour : (n : ℕ) → lets (filled r).hours (hour_of n) ≡ hour_applies r n
-  unfolding filled
+  hour : (n : ℕ) → lets (effective r).hours (hour_of n) ≡ hour_applies r n
+  unfolding effective
   hour n =
       clock r.kind (skips_hours r.parts.frequency) (is_extracted r r.parts.frequency ByHour) r.parts.hours (hour_of start) (hour_of n)
       (hour_taken r.parts.frequency r) (λ date. ((plain.dates date).0, (midnight (day_index r.start.day) r.start.second (plain.dates date).1).0))
 
-  minute : (n : ℕ) → lets (filled r).minutes (minute_of n) ≡ minute_applies r n
-  unfolding filled
+  minute : (n : ℕ) → lets (effective r).minutes (minute_of n) ≡ minute_applies r n
+  unfolding effective
   minute n =
       let taken = minute_taken r.parts.frequency r in
       clock r.kind (skips_minutes r.parts.frequency) (is_extracted r r.parts.frequency ByMinute) r.parts.minutes (minute_of start) (minute_of n)
       taken.0 (λ date. (taken.1 (plain.dates date).0, (midnight (day_index r.start.day) r.start.second (plain.dates date).1).1.0))
 
-  second : (n : ℕ) → lets (filled r).seconds (second_of n) ≡ second_applies r n
-  unfolding filled
+  second : (n : ℕ) → lets (effective r).seconds (second_of n) ≡ second_applies r n
+  unfolding effective
   second n =
       let taken = second_taken r.parts.frequency r in
       clock r.kind (skips_seconds r.parts.frequency) (is_extracted r r.parts.frequency BySecond) r.parts.seconds (second_of start) (second_of n)
       taken.0 (λ date. (taken.1 (plain.dates date).0, (midnight (day_index r.start.day) r.start.second (plain.dates date).1).1.1))
 
-  parts_apply : (n : ℕ) → n < calendar_end → (lets_date (filled r) (day_of n) && lets_clock (filled r) n) ≡ all_apply r n
+  parts_apply : (n : ℕ) → n < calendar_end → (lets_date (effective r) (day_of n) && lets_clock (effective r) n) ≡ all_apply r n
   parts_apply n small =
       by_part (month n) (month_day n (omega arith)) (year_day n (omega arith)) (week n (omega arith)) (weekday n (omega arith)) (hour n) (minute n) (second n)
 
   -- the periods
   abbrev in_turn : ℕ → Bool
-  in_turn n = is_stepped (period_in (filled r) start) (filled r).interval (period_in (filled r) n)
+  in_turn n = is_stepped (period_in (effective r) start) (effective r).interval (period_in (effective r) n)
 
   turns : (n : ℕ) → start ≤ n → in_turn n ≡ frequency_applies r n
-  unfolding filled
+  unfolding effective
   turns n low =
       ap (λ b. b && frequency_applies r n)
       (at_most (period_at r start) (period_at r n) (period_mono r.parts.frequency (monday_zero r.parts.week_start) start n low))
 
-  candidate : (n : ℕ) → n < calendar_end → is_candidate_in (filled r) start n ≡ (in_turn n && all_apply r n)
+  candidate : (n : ℕ) → n < calendar_end → is_candidate_in (effective r) start n ≡ (in_turn n && all_apply r n)
   candidate n small =
-      and_assoc (in_turn n) (lets_date (filled r) (day_of n)) (lets_clock (filled r) n) ∙ ap (λ x. in_turn n && x) (parts_apply n small)
+      and_assoc (in_turn n) (lets_date (effective r) (day_of n)) (lets_clock (effective r) n) ∙ ap (λ x. in_turn n && x) (parts_apply n small)
 
   -- BYSETPOS
-  beside : (n m : ℕ) → m < calendar_end → in_turn n ≡ true → is_beside (filled r) start n m ≡ occurs_in r (period_at r n) m
-  unfolding filled
+  beside : (n m : ℕ) → m < calendar_end → in_turn n ≡ true → is_beside (effective r) start n m ≡ occurs_in r (period_at r n) m
+  unfolding effective
   beside n m small step = cases (same_or_not (period_at r m) (period_at r n))
     where
       cases : (period_at r m ≡ period_at r n) ⊎ (period_at r m ≢ period_at r n)
-          → (is_candidate_in (filled r) start m && period_at r m == period_at r n) ≡ occurs_in r (period_at r n) m
+          → (is_candidate_in (effective r) start m && period_at r m == period_at r n) ≡ occurs_in r (period_at r n) m
       cases (inl same) =
-          ap (λ x. is_candidate_in (filled r) start m && x) (same_test (period_at r m) (period_at r n) same)
-          ∙ keep_true (is_candidate_in (filled r) start m) ∙ candidate m small
-          ∙ ap (λ p. is_stepped (period_in (filled r) start) (filled r).interval p && all_apply r m) same ∙ ap (λ x. x && all_apply r m) step
+          ap (λ x. is_candidate_in (effective r) start m && x) (same_test (period_at r m) (period_at r n) same)
+          ∙ keep_true (is_candidate_in (effective r) start m) ∙ candidate m small
+          ∙ ap (λ p. is_stepped (period_in (effective r) start) (effective r).interval p && all_apply r m) same ∙ ap (λ x. x && all_apply r m) step
           ∙ sym (ap (λ x. x && all_apply r m) (same_test (period_at r m) (period_at r n) same))
       cases (inr other) =
-          ap (λ x. is_candidate_in (filled r) start m && x) (apart_test (period_at r m) (period_at r n) other)
-          ∙ never (is_candidate_in (filled r) start m)
+          ap (λ x. is_candidate_in (effective r) start m && x) (apart_test (period_at r m) (period_at r n) other)
+          ∙ never (is_candidate_in (effective r) start m)
           ∙ sym (ap (λ x. x && all_apply r m) (apart_test (period_at r m) (period_at r n) other))
 
-  placed : (n : ℕ) → n < calendar_end → is_candidate_in (filled r) start n ≡ true
-      → is_placed (filled r) start (lists_none_wide r.parts.positions) n ≡ position_applies r n
-  unfolding filled
+  placed : (n : ℕ) → n < calendar_end → is_candidate_in (effective r) start n ≡ true
+      → is_placed (effective r) start (lists_none_wide r.parts.positions) n ≡ position_applies r n
+  unfolding effective
   placed n small e = by_positions (lists_none_wide r.parts.positions)
     where
       here : (in_turn n ≡ true) × (all_apply r n ≡ true)
-      here = both_true (in_turn n) (all_apply r n) (is_candidate_in (filled r) start n) (candidate n small) e
+      here = both_true (in_turn n) (all_apply r n) (is_candidate_in (effective r) start n) (candidate n small) e
 
-      ranked : rank (filled r) start n ≡ count (suc n) (occurs_in r (period_at r n))
-      ranked = count-same (suc n) (is_beside (filled r) start n) (occurs_in r (period_at r n)) (λ m l. beside n m (omega (arith, l, small)) here.0)
+      ranked : rank (effective r) start n ≡ count (suc n) (occurs_in r (period_at r n))
+      ranked = count-same (suc n) (is_beside (effective r) start n) (occurs_in r (period_at r n)) (λ m l. beside n m (omega (arith, l, small)) here.0)
 
-      sized : size (filled r) start n ≡ count calendar_end (occurs_in r (period_at r n))
-      sized = count-same calendar_end (is_beside (filled r) start n) (occurs_in r (period_at r n)) (λ m l. beside n m l here.0)
+      sized : size (effective r) start n ≡ count calendar_end (occurs_in r (period_at r n))
+      sized = count-same calendar_end (is_beside (effective r) start n) (occurs_in r (period_at r n)) (λ m l. beside n m l here.0)
 
-      from_end : size (filled r) start n + 1 - rank (filled r) start n
+      from_end : size (effective r) start n + 1 - rank (effective r) start n
           ≡ count calendar_end (occurs_in r (period_at r n)) - count n (occurs_in r (period_at r n))
       from_end =
           let last = count-suc n (occurs_in r (period_at r n)) in
           let one = count_one (occurs_in r (period_at r n) n) (ap (λ x. x && all_apply r n) (self_test (period_at r n)) ∙ here.1) in
           omega (arith, ranked, sized, last, one)
 
-      by_positions : (b : Bool) → is_placed (filled r) start b n ≡ (b || is_wide_place r.parts.positions (occurs_in r (period_at r n)) n)
+      by_positions : (b : Bool) → is_placed (effective r) start b n ≡ (b || is_wide_place r.parts.positions (occurs_in r (period_at r n)) n)
       by_positions true = refl
       by_positions false =
-          ap (λ x. has_wide r.parts.positions.front x || has_wide r.parts.positions.back (size (filled r) start n + 1 - rank (filled r) start n)) ranked
-          ∙ ap (λ x. has_wide r.parts.positions.front (count (suc n) (occurs_in r (period_at r n))) || has_wide r.parts.positions.back x) from_end
+          ap (λ x. contains_wide r.parts.positions.front x || contains_wide r.parts.positions.back (size (effective r) start n + 1 - rank (effective r) start n)) ranked
+          ∙ ap (λ x. contains_wide r.parts.positions.front (count (suc n) (occurs_in r (period_at r n))) || contains_wide r.parts.positions.back x) from_end
 
-  chosen : (n : ℕ) → start ≤ n → n < calendar_end → is_chosen (filled r) start n ≡ (frequency_applies r n && (all_apply r n && position_applies r n))
-  unfolding filled
+  chosen : (n : ℕ) → start ≤ n → n < calendar_end → is_chosen (effective r) start n ≡ (frequency_applies r n && (all_apply r n && position_applies r n))
+  unfolding effective
   chosen n low small =
-      chosen_where (is_candidate_in (filled r) start n) (in_turn n) (all_apply r n) (is_placed (filled r) start (lists_none_wide r.parts.positions) n)
+      chosen_where (is_candidate_in (effective r) start n) (in_turn n) (all_apply r n) (is_placed (effective r) start (lists_none_wide r.parts.positions) n)
       (position_applies r n) (candidate n small) (placed n small)
       ∙ ap (λ x. x && (all_apply r n && position_applies r n)) (turns n low)
 
@@ -381,18 +382,18 @@ module _ (r : Recurrence) (plain : HasPlainReading r) where
   unfolding is_in_rule
   member n small = from_start (by_order n start)
     where
-      from_start : (((n < start) ⊎ (start < n)) ⊎ (n ≡ start)) → (n == start || (nat_lt start n && is_chosen (filled r) start n)) ≡ is_plain_member r n
+      from_start : (((n < start) ⊎ (start < n)) ⊎ (n ≡ start)) → (n == start || (nat_lt start n && is_chosen (effective r) start n)) ≡ is_plain_member r n
       from_start (inl (inl earlier)) =
-          ap (λ b. b || (nat_lt start n && is_chosen (filled r) start n)) (unequal n start (inl earlier))
-          ∙ ap (λ b. b && is_chosen (filled r) start n) (not_less start n (omega (arith, earlier)))
+          ap (λ b. b || (nat_lt start n && is_chosen (effective r) start n)) (unequal n start (inl earlier))
+          ∙ ap (λ b. b && is_chosen (effective r) start n) (not_less start n (omega (arith, earlier)))
           ∙ sym (ap (λ b. b && (frequency_applies r n && (all_apply r n && position_applies r n))) (above start n earlier))
       from_start (inl (inr later)) =
-          ap (λ b. b || (nat_lt start n && is_chosen (filled r) start n)) (unequal n start (inr later))
-          ∙ ap (λ b. b && is_chosen (filled r) start n) (less start n later)
+          ap (λ b. b || (nat_lt start n && is_chosen (effective r) start n)) (unequal n start (inr later))
+          ∙ ap (λ b. b && is_chosen (effective r) start n) (less start n later)
           ∙ chosen n (omega (arith, later)) (omega (arith, small))
           ∙ sym (ap (λ b. b && (frequency_applies r n && (all_apply r n && position_applies r n))) (at_most start n (omega (arith, later))))
       from_start (inr same) =
-          ap (λ b. b || (nat_lt start n && is_chosen (filled r) start n)) (ap (λ x. x == start) same ∙ self_test start)
+          ap (λ b. b || (nat_lt start n && is_chosen (effective r) start n)) (ap (λ x. x == start) same ∙ self_test start)
           ∙ sym (ap (is_plain_member r) same ∙ plain.fits)
 
   counted : (o : Option ℕ) (n : ℕ) → n < rules_end → is_counted r o n ≡ is_few_members r o n
@@ -409,7 +410,7 @@ module _ (r : Recurrence) (plain : HasPlainReading r) where
 
   start_kept : is_plainly_kept r start ≡ true
   start_kept =
-      ap (λ b. b && is_until r.kind r.parts.until start && is_few_members r r.parts.count start) plain.fits
+      ap (λ b. b && is_by_until r.kind r.parts.until start && is_few_members r r.parts.count start) plain.fits
       ∙ ap (λ b. b && is_few_members r r.parts.count start) plain.in_until ∙ first_counts r.parts.count plain.counted
 
   pub plainly_kept : (n : ℕ) → n < rules_end → is_kept r n ≡ is_plainly_kept r n
@@ -418,14 +419,14 @@ module _ (r : Recurrence) (plain : HasPlainReading r) where
     where
       apart : ((n < start) ⊎ (start < n)) → is_kept r n ≡ is_plainly_kept r n
       apart other =
-          ap (λ b. b || (nat_lt n rules_end && is_in_rule r n && is_until r.kind r.parts.until n && is_counted r r.parts.count n)) (unequal n start other)
-          ∙ ap (λ b. b && is_in_rule r n && is_until r.kind r.parts.until n && is_counted r r.parts.count n) (less n rules_end h)
-          ∙ ap (λ b. b && is_until r.kind r.parts.until n && is_counted r r.parts.count n) (member n h)
-          ∙ ap (λ b. is_plain_member r n && is_until r.kind r.parts.until n && b) (counted r.parts.count n h)
+          ap (λ b. b || (nat_lt n rules_end && is_in_rule r n && is_by_until r.kind r.parts.until n && is_counted r r.parts.count n)) (unequal n start other)
+          ∙ ap (λ b. b && is_in_rule r n && is_by_until r.kind r.parts.until n && is_counted r r.parts.count n) (less n rules_end h)
+          ∙ ap (λ b. b && is_by_until r.kind r.parts.until n && is_counted r r.parts.count n) (member n h)
+          ∙ ap (λ b. is_plain_member r n && is_by_until r.kind r.parts.until n && b) (counted r.parts.count n h)
 
       cases : (((n < start) ⊎ (start < n)) ⊎ (n ≡ start)) → is_kept r n ≡ is_plainly_kept r n
       cases (inl other) = apart other
       cases (inr same) =
-          ap (λ b. b || (nat_lt n rules_end && is_in_rule r n && is_until r.kind r.parts.until n && is_counted r r.parts.count n))
+          ap (λ b. b || (nat_lt n rules_end && is_in_rule r n && is_by_until r.kind r.parts.until n && is_counted r r.parts.count n))
           (ap (λ x. x == start) same ∙ self_test start)
           ∙ sym (ap (is_plainly_kept r) same ∙ start_kept)

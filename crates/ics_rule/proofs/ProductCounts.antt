@@ -3,12 +3,12 @@ use Rattle.std.proofs.Common.{◌≡◌, ℕ, suc, ◌+◌, ◌-◌, ◌*◌, �
 use Rattle.std.proofs.lemmas.Bool.Decides.{nat_tests}
 use Rattle.std.proofs.lemmas.Nat.{div-mul-add, mod-mul-add, div-add-mod'}
 use Rattle.std.proofs.Math.Nat.{mod-lt}
-use Rattle.ics_values.specs.Sets.{has, has_wide, IsNextIn}
+use Rattle.ics_values.specs.Sets.{contains, contains_wide, IsNextIn}
 use Rattle.ics_values.proofs.SetLemmas.{wide_past}
-use Rattle.ics_rule.specs.declared.period.Period.{Period}
-use Rattle.ics_rule.specs.Locals.{calendar_end}
+use Rattle.ics_rule.specs.declared.recurrence_period.RecurrencePeriod.{RecurrencePeriod}
+use Rattle.ics_rule.specs.PeriodNumbers.{calendar_end}
 use Rattle.ics_rule.specs.Kept.{count, size}
-use Rattle.ics_rule.specs.Periods.{has_minute, has_second, has_day, holds, IsNth}
+use Rattle.ics_rule.specs.RecurrencePeriods.{has_minute, has_second, has_day, holds, IsNth}
 use Rattle.ics_rule.proofs.Counts.{count-same, count-suc, count-add, count-from, count-up_to, count-product, count-none}
 
 -- how many pass before the t-th of block d: the blocks before it, and what passes in it
@@ -58,47 +58,47 @@ unfolding count
 count_zero p = refl
 
 -- the size of a product
-pub clock_size : (p : Period) → count 86_400 (has_second p) ≡ count 24 (has p.hours) * count 60 (has p.minutes) * count 60 (has p.seconds)
-clock_size p = count-product 1_440 60 (has_minute p.hours p.minutes) (has p.seconds) ∙ ap (λ x. x * count 60 (has p.seconds)) (count-product 24 60 (has p.hours) (has p.minutes))
+pub clock_size : (p : RecurrencePeriod) → count 86_400 (has_second p) ≡ count 24 (contains p.hours) * count 60 (contains p.minutes) * count 60 (contains p.seconds)
+clock_size p = count-product 1_440 60 (has_minute p.hours p.minutes) (contains p.seconds) ∙ ap (λ x. x * count 60 (contains p.seconds)) (count-product 24 60 (contains p.hours) (contains p.minutes))
 
-pub whole_size : (p : Period) → count calendar_end (holds p) ≡ count 3_652_425 (has_day p) * count 86_400 (has_second p)
+pub whole_size : (p : RecurrencePeriod) → count calendar_end (holds p) ≡ count 3_652_425 (has_day p) * count 86_400 (has_second p)
 whole_size p = count-product 3_652_425 86_400 (has_day p) (has_second p)
 
 -- its days, by their places in the set
-day_at : (p : Period) (k : ℕ) → has_day p (p.first_day + k) ≡ has_wide p.days k
+day_at : (p : RecurrencePeriod) (k : ℕ) → has_day p (p.first_day + k) ≡ contains_wide p.days k
 day_at p k = let low : nat_le p.first_day (p.first_day + k) ≡ true = grind (arith, nat_tests) in let back : p.first_day + k - p.first_day ≡ k = omega arith in
-    ap (λ x. x && has_wide p.days (p.first_day + k - p.first_day)) low ∙ ap (has_wide p.days) back
+    ap (λ x. x && contains_wide p.days (p.first_day + k - p.first_day)) low ∙ ap (contains_wide p.days) back
 
-day_before : (p : Period) (m : ℕ) → m < p.first_day → has_day p m ≡ false
-day_before p m h = let none : nat_le p.first_day m ≡ false = grind (arith, nat_tests) in ap (λ x. x && has_wide p.days (m - p.first_day)) none
+day_before : (p : RecurrencePeriod) (m : ℕ) → m < p.first_day → has_day p m ≡ false
+day_before p m h = let none : nat_le p.first_day m ≡ false = grind (arith, nat_tests) in ap (λ x. x && contains_wide p.days (m - p.first_day)) none
 
-pub days_from_first : (p : Period) (n : ℕ) → count (p.first_day + n) (has_day p) ≡ count n (has_wide p.days)
-days_from_first p n = count-from p.first_day n (has_day p) (day_before p) ∙ count-same n (λ k. has_day p (p.first_day + k)) (has_wide p.days) (λ k l. day_at p k)
+pub days_from_first : (p : RecurrencePeriod) (n : ℕ) → count (p.first_day + n) (has_day p) ≡ count n (contains_wide p.days)
+days_from_first p n = count-from p.first_day n (has_day p) (day_before p) ∙ count-same n (λ k. has_day p (p.first_day + k)) (contains_wide p.days) (λ k l. day_at p k)
 
-pub days_in_all : (p : Period) → p.first_day ≤ 3_600_000 → count 3_652_425 (has_day p) ≡ count 384 (has_wide p.days)
+pub days_in_all : (p : RecurrencePeriod) → p.first_day ≤ 3_600_000 → count 3_652_425 (has_day p) ≡ count 384 (contains_wide p.days)
 days_in_all p h =
     let all : p.first_day + (384 + (3_652_425 - 384 - p.first_day)) ≡ 3_652_425 = omega arith in
     sym (ap (λ x. count x (has_day p)) all) ∙ days_from_first p (384 + (3_652_425 - 384 - p.first_day))
-    ∙ count-up_to 384 (3_652_425 - 384 - p.first_day) (has_wide p.days) (λ k l u. wide_past p.days k l)
+    ∙ count-up_to 384 (3_652_425 - 384 - p.first_day) (contains_wide p.days) (λ k l u. wide_past p.days k l)
 
 -- its size by the sizes of its sets
-pub product_size : (p : Period) → p.first_day ≤ 3_600_000 → count calendar_end (holds p) ≡ count 384 (has_wide p.days) * count 86_400 (has_second p)
+pub product_size : (p : RecurrencePeriod) → p.first_day ≤ 3_600_000 → count calendar_end (holds p) ≡ count 384 (contains_wide p.days) * count 86_400 (has_second p)
 product_size p h = whole_size p ∙ ap (λ x. x * count 86_400 (has_second p)) (days_in_all p h)
 
 -- its days by their number
-pub nth_of_days : (p : Period) (k n : ℕ) → IsNth (has_wide p.days) k n → IsNth (has_day p) k (p.first_day + n)
+pub nth_of_days : (p : RecurrencePeriod) (k n : ℕ) → IsNth (contains_wide p.days) k n → IsNth (has_day p) k (p.first_day + n)
 nth_of_days p k n nth = record { passes = day_at p n ∙ nth.passes; before = days_from_first p n ∙ nth.before }
 
 -- the days before one
-pub days_before : (p : Period) (day skipped : ℕ) → skipped ≡ min (day - p.first_day) 384 → count skipped (has_wide p.days) ≡ count day (has_day p)
+pub days_before : (p : RecurrencePeriod) (day skipped : ℕ) → skipped ≡ min (day - p.first_day) 384 → count skipped (contains_wide p.days) ≡ count day (has_day p)
 days_before p day skipped e = elim (by_order day p.first_day) [
-  | inl early ↦ let none : skipped ≡ 0 = omega (arith, e) in ap (λ x. count x (has_wide p.days)) none ∙ sym (count_zero (has_wide p.days)) ∙ sym (count-none day (has_day p) (λ m l. day_before p m (omega arith)))
+  | inl early ↦ let none : skipped ≡ 0 = omega (arith, e) in ap (λ x. count x (contains_wide p.days)) none ∙ sym (count_zero (contains_wide p.days)) ∙ sym (count-none day (has_day p) (λ m l. day_before p m (omega arith)))
   | inr late ↦ let whole : p.first_day + (day - p.first_day) ≡ day = omega arith in elim (by_order 384 (day - p.first_day)) [
     | inl far ↦ let top : skipped ≡ 384 = omega (arith, e) in let all : 384 + (day - p.first_day - 384) ≡ day - p.first_day = omega arith in
-        ap (λ x. count x (has_wide p.days)) top ∙ sym (count-up_to 384 (day - p.first_day - 384) (has_wide p.days) (λ k l u. wide_past p.days k l))
-        ∙ ap (λ x. count x (has_wide p.days)) all ∙ sym (days_from_first p (day - p.first_day)) ∙ ap (λ x. count x (has_day p)) whole
+        ap (λ x. count x (contains_wide p.days)) top ∙ sym (count-up_to 384 (day - p.first_day - 384) (contains_wide p.days) (λ k l u. wide_past p.days k l))
+        ∙ ap (λ x. count x (contains_wide p.days)) all ∙ sym (days_from_first p (day - p.first_day)) ∙ ap (λ x. count x (has_day p)) whole
     | inr near ↦ let same : skipped ≡ day - p.first_day = omega (arith, e) in
-        ap (λ x. count x (has_wide p.days)) same ∙ sym (days_from_first p (day - p.first_day)) ∙ ap (λ x. count x (has_day p)) whole
+        ap (λ x. count x (contains_wide p.days)) same ∙ sym (days_from_first p (day - p.first_day)) ∙ ap (λ x. count x (has_day p)) whole
   ]
 ]
   where
@@ -119,14 +119,14 @@ nth-product b s k hi lo p q es l high low = record {
 }
 
 -- nothing stands past the calendar
-pub holds_past : (p : Period) → p.first_day ≤ 3_600_000 → (m : ℕ) → calendar_end ≤ m → holds p m ≡ false
-holds_past p h m late = ap (λ x. x && has_second p (m % 86_400)) (and_second (nat_le p.first_day (m / 86_400)) (has_wide p.days (m / 86_400 - p.first_day)) (wide_past p.days (m / 86_400 - p.first_day) (omega arith)))
+pub holds_past : (p : RecurrencePeriod) → p.first_day ≤ 3_600_000 → (m : ℕ) → calendar_end ≤ m → holds p m ≡ false
+holds_past p h m late = ap (λ x. x && has_second p (m % 86_400)) (and_second (nat_le p.first_day (m / 86_400)) (contains_wide p.days (m / 86_400 - p.first_day)) (wide_past p.days (m / 86_400 - p.first_day) (omega arith)))
   where
     and_second : (a b : Bool) → b ≡ false → (a && b) ≡ false
     and_second true b h = h
     and_second false b h = refl
 
-pub next_small : (p : Period) (n : ℕ) (o : Option ℕ) → p.first_day ≤ 3_600_000 → IsNextIn (holds p) n o → IfSome o (λ m. m < calendar_end)
+pub next_small : (p : RecurrencePeriod) (n : ℕ) (o : Option ℕ) → p.first_day ≤ 3_600_000 → IsNextIn (holds p) n o → IfSome o (λ m. m < calendar_end)
 next_small p n None h next = tt
 next_small p n (Some m) h next = elim (by_order m calendar_end) [ inl less ↦ less | inr late ↦ absurd (let no = holds_past p h m late in let yes = next.passes in cc) ]
   where

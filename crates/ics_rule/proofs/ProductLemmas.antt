@@ -4,14 +4,14 @@ use Rattle.std.proofs.lemmas.Bool.Decides.{nat_tests}
 use Rattle.jiff_core.specs.Weekday.{monday_zero}
 use Rattle.ics_values.specs.declared.frequency.Frequency.{Frequency}
 use Rattle.ics_values.specs.declared.frequency.Frequency.TheVariants.{Secondly, Minutely, Hourly, Daily, Weekly, Monthly, Yearly}
-use Rattle.ics_rule.specs.declared.filled.Filled.{Filled}
-use Rattle.ics_values.specs.Sets.{has, has_wide}
+use Rattle.ics_rule.specs.declared.effective_rule.EffectiveRule.{EffectiveRule}
+use Rattle.ics_values.specs.Sets.{contains, contains_wide}
 use Rattle.ics_values.specs.Days.{days_before_year}
-use Rattle.ics_rule.specs.Locals.{period}
-use Rattle.ics_rule.specs.Filled.{skips_hours, skips_minutes, skips_seconds}
+use Rattle.ics_rule.specs.PeriodNumbers.{period}
+use Rattle.ics_rule.specs.EffectiveRules.{skips_hours, skips_minutes, skips_seconds}
 use Rattle.ics_rule.specs.Candidates.{lets, lets_date, lets_clock}
-use Rattle.ics_rule.specs.declared.period.Period.{Period}
-use Rattle.ics_rule.specs.Periods.{first_local, month_start, holds, is_let_in}
+use Rattle.ics_rule.specs.declared.recurrence_period.RecurrencePeriod.{RecurrencePeriod}
+use Rattle.ics_rule.specs.RecurrencePeriods.{first_local, month_start, holds, is_let_in}
 use Rattle.ics_rule.proofs.PeriodLemmas.{begun, begins}
 
 abbrev day_test : ℕ → ℕ → ℕ → Bool
@@ -170,24 +170,24 @@ day_back a e x f = elim (by_order a e) [
     by_order a b = grind arith
 
 -- the product of the days that the rule lets in, and of the readings that it lets in, holds what it lets in within the period
-pub product_is : (q : Filled) (number b e : ℕ) (p : Period) → b ≡ first_local q.frequency (monday_zero q.week_start) number → e ≡ first_local q.frequency (monday_zero q.week_start) (number + 1)
+pub product_is : (q : EffectiveRule) (number b e : ℕ) (p : RecurrencePeriod) → b ≡ first_local q.frequency (monday_zero q.week_start) number → e ≡ first_local q.frequency (monday_zero q.week_start) (number + 1)
     → p.first_day ≡ b / 86_400
-    → ((k : ℕ) → has_wide p.days k ≡ (nat_lt k ((e + 86_399) / 86_400 - b / 86_400) && lets_date q (b / 86_400 + k)))
-    → ((m : ℕ) → m < 24 → has p.hours m ≡ ((skips_hours q.frequency || (m == b / 3_600 % 24)) && lets q.hours m))
-    → ((m : ℕ) → m < 60 → has p.minutes m ≡ ((skips_minutes q.frequency || (m == b / 60 % 60)) && lets q.minutes m))
-    → ((m : ℕ) → m < 60 → has p.seconds m ≡ ((skips_seconds q.frequency || (m == b % 60)) && lets q.seconds m))
+    → ((k : ℕ) → contains_wide p.days k ≡ (nat_lt k ((e + 86_399) / 86_400 - b / 86_400) && lets_date q (b / 86_400 + k)))
+    → ((m : ℕ) → m < 24 → contains p.hours m ≡ ((skips_hours q.frequency || (m == b / 3_600 % 24)) && lets q.hours m))
+    → ((m : ℕ) → m < 60 → contains p.minutes m ≡ ((skips_minutes q.frequency || (m == b / 60 % 60)) && lets q.minutes m))
+    → ((m : ℕ) → m < 60 → contains p.seconds m ≡ ((skips_seconds q.frequency || (m == b % 60)) && lets q.seconds m))
     → (n : ℕ) → holds p n ≡ is_let_in q number n
 product_is q number b e p eb ee first days hours minutes seconds n =
     let hour : n % 86_400 / 60 / 60 ≡ n / 3_600 % 24 = omega arith in
     let minute : n % 86_400 / 60 % 60 ≡ n / 60 % 60 = omega arith in
     let second : n % 86_400 % 60 ≡ n % 60 = omega arith in
-    let d = ap (λ z. nat_le z (n / 86_400) && has_wide p.days (n / 86_400 - z)) first ∙ ap (λ z. nat_le (b / 86_400) (n / 86_400) && z) (days (n / 86_400 - b / 86_400))
+    let d = ap (λ z. nat_le z (n / 86_400) && contains_wide p.days (n / 86_400 - z)) first ∙ ap (λ z. nat_le (b / 86_400) (n / 86_400) && z) (days (n / 86_400 - b / 86_400))
     ∙ day_back (b / 86_400) (n / 86_400) (nat_lt (n / 86_400 - b / 86_400) ((e + 86_399) / 86_400 - b / 86_400)) (lets_date q) in
-    let h = ap (has p.hours) hour ∙ hours (n / 3_600 % 24) (omega arith) in
-    let m = ap (has p.minutes) minute ∙ minutes (n / 60 % 60) (omega arith) in
-    let s = ap (has p.seconds) second ∙ seconds (n % 60) (omega arith) in
+    let h = ap (contains p.hours) hour ∙ hours (n / 3_600 % 24) (omega arith) in
+    let m = ap (contains p.minutes) minute ∙ minutes (n / 60 % 60) (omega arith) in
+    let s = ap (contains p.seconds) second ∙ seconds (n % 60) (omega arith) in
     let span = ap (λ z. span_test q.frequency z e n) eb ∙ ap (λ z. span_test q.frequency (first_local q.frequency (monday_zero q.week_start) number) z n) ee ∙ span_is q.frequency (monday_zero q.week_start) number n in
-    ap (λ z. z && ((has p.hours (n % 86_400 / 60 / 60) && has p.minutes (n % 86_400 / 60 % 60)) && has p.seconds (n % 86_400 % 60))) d
+    ap (λ z. z && ((contains p.hours (n % 86_400 / 60 / 60) && contains p.minutes (n % 86_400 / 60 % 60)) && contains p.seconds (n % 86_400 % 60))) d
     ∙ four (nat_le (b / 86_400) (n / 86_400) && (nat_lt (n / 86_400 - b / 86_400) ((e + 86_399) / 86_400 - b / 86_400) && lets_date q (n / 86_400))) _ _ _ _ _ _ h m s
     ∙ rearranged (nat_le (b / 86_400) (n / 86_400)) (nat_lt (n / 86_400 - b / 86_400) ((e + 86_399) / 86_400 - b / 86_400)) (lets_date q (n / 86_400))
     (skips_hours q.frequency || (n / 3_600 % 24 == b / 3_600 % 24)) (lets q.hours (n / 3_600 % 24))

@@ -4,7 +4,7 @@ use Rattle.std.proofs.lemmas.Nat.{div-add-mod'}
 use Rattle.std.proofs.Math.Nat.{mod-lt, mul-le-mul_right}
 use Rattle.ics_values.specs.Sets.{IsLeastFrom}
 use Rattle.ics_rule.specs.Kept.{count}
-use Rattle.ics_rule.specs.Periods.{IsNth}
+use Rattle.ics_rule.specs.RecurrencePeriods.{IsNth}
 use Rattle.ics_rule.proofs.Counts.{count-suc, count-add, count-none, count_mono, count_one_more}
 
 by_order : (a b : ℕ) → (a < b) ⊎ (b ≤ a)

@@ -6,16 +6,16 @@ use Rattle.std.proofs.Math.Nat.{add-mul-mod_self_right, mul_assoc, mul_comm, mul
 use Rattle.jiff_core.specs.Weekday.{monday_zero}
 use Rattle.ics_values.specs.declared.frequency.Frequency.{Frequency}
 use Rattle.ics_values.specs.declared.frequency.Frequency.TheVariants.{Secondly, Minutely, Hourly, Daily, Weekly, Monthly, Yearly}
-use Rattle.ics_values.specs.declared.places.Places.{Places}
-use Rattle.ics_values.specs.Sets.{has, is_none}
-use Rattle.ics_values.specs.Places.{lists_none_wide, lists_no_weekday, numbers_of}
+use Rattle.ics_values.specs.declared.ordinals.Ordinals.{Ordinals}
+use Rattle.ics_values.specs.Sets.{contains, is_empty}
+use Rattle.ics_values.specs.Ordinals.{lists_none_wide, lists_no_weekday, numbers_of}
 use Rattle.ics_values.specs.Days.{weekday_of}
-use Rattle.ics_rule.specs.declared.filled.Filled.{Filled}
-use Rattle.ics_rule.specs.Locals.{period, calendar_end, day_of, hour_of, minute_of, second_of}
+use Rattle.ics_rule.specs.declared.effective_rule.EffectiveRule.{EffectiveRule}
+use Rattle.ics_rule.specs.PeriodNumbers.{period, calendar_end, day_of, hour_of, minute_of, second_of}
 use Rattle.ics_rule.specs.Candidates.{lets, lets_numbered, lets_date, lets_clock, lists_wide, is_stepped, is_candidate_in, period_in}
-use Rattle.ics_rule.specs.Dates.{names_weekdays_alone}
+use Rattle.ics_rule.specs.DateParts.{names_weekdays_alone}
 use Rattle.ics_rule.specs.Kept.{count, is_beside, rank, size, is_placed, is_chosen}
-use Rattle.ics_rule.specs.Periods.{first_local}
+use Rattle.ics_rule.specs.RecurrencePeriods.{first_local}
 use Rattle.ics_rule.specs.Rounds.{seconds_of, IsRound}
 use Rattle.ics_rule.proofs.Counts.{count-same, count-add, count-from}
 use Rattle.ics_rule.proofs.RankLemmas.{count_flat}
@@ -23,7 +23,7 @@ use Rattle.ics_rule.proofs.PeriodLemmas.{begun, begins, is_short}
 use Rattle.ics_rule.proofs.DateLemmas.{absent_in, weekdays_alone}
 
 -- under the frequencies whose periods last alike a weekday with a number stands for the weekday
-numbered_alike : (f : Frequency) (q : Filled) (p : Places) (d e : ℕ) → 0 < seconds_of f → lets_numbered f q p d ≡ lets_numbered f q p e
+numbered_alike : (f : Frequency) (q : EffectiveRule) (p : Ordinals) (d e : ℕ) → 0 < seconds_of f → lets_numbered f q p d ≡ lets_numbered f q p e
 numbered_alike Secondly q p d e h = refl
 numbered_alike Minutely q p d e h = refl
 numbered_alike Hourly q p d e h = refl
@@ -32,35 +32,35 @@ numbered_alike Weekly q p d e h = refl
 numbered_alike Monthly q p d e h = absurd (omega (arith, h))
 numbered_alike Yearly q p d e h = absurd (omega (arith, h))
 
-date_repeats : (q : Filled) (d e : ℕ) → names_weekdays_alone q ≡ true → 0 < seconds_of q.frequency → weekday_of d ≡ weekday_of e → lets_date q d ≡ lets_date q e
+date_repeats : (q : EffectiveRule) (d e : ℕ) → names_weekdays_alone q ≡ true → 0 < seconds_of q.frequency → weekday_of d ≡ weekday_of e → lets_date q d ≡ lets_date q e
 date_repeats q d e alone fine same =
     weekdays_alone q d alone
-    ∙ ap (λ x. lists_no_weekday q.weekdays || has q.weekdays.plain x || lets_numbered q.frequency q (numbers_of q.weekdays x) d) same
-    ∙ ap (λ x. lists_no_weekday q.weekdays || has q.weekdays.plain (weekday_of e) || x) (numbered_alike q.frequency q (numbers_of q.weekdays (weekday_of e)) d e fine)
+    ∙ ap (λ x. lists_no_weekday q.weekdays || contains q.weekdays.plain x || lets_numbered q.frequency q (numbers_of q.weekdays x) d) same
+    ∙ ap (λ x. lists_no_weekday q.weekdays || contains q.weekdays.plain (weekday_of e) || x) (numbered_alike q.frequency q (numbers_of q.weekdays (weekday_of e)) d e fine)
     ∙ sym (weekdays_alone q e alone)
 
-date_free : (q : Filled) (d e : ℕ) → names_weekdays_alone q ≡ true → lists_no_weekday q.weekdays ≡ true → lets_date q d ≡ lets_date q e
+date_free : (q : EffectiveRule) (d e : ℕ) → names_weekdays_alone q ≡ true → lists_no_weekday q.weekdays ≡ true → lets_date q d ≡ lets_date q e
 date_free q d e alone none = all_in d ∙ sym (all_in e)
   where
     all_in : (x : ℕ) → lets_date q x ≡ true
-    all_in x = weekdays_alone q x alone ∙ in_1 (lists_no_weekday q.weekdays) (has q.weekdays.plain (weekday_of x)) (lets_numbered q.frequency q (numbers_of q.weekdays (weekday_of x)) x) none
+    all_in x = weekdays_alone q x alone ∙ in_1 (lists_no_weekday q.weekdays) (contains q.weekdays.plain (weekday_of x)) (lets_numbered q.frequency q (numbers_of q.weekdays (weekday_of x)) x) none
       where
         in_1 : (a b c : Bool) → a ≡ true → (a || b || c) ≡ true
         in_1 true b c h = refl
         in_1 false b c h = absurd (cc)
 
-pub clock_alike : (q : Filled) (n m : ℕ) → lets q.hours (hour_of n) ≡ lets q.hours (hour_of m) → lets q.minutes (minute_of n) ≡ lets q.minutes (minute_of m) → lets q.seconds (second_of n) ≡ lets q.seconds (second_of m)
+pub clock_alike : (q : EffectiveRule) (n m : ℕ) → lets q.hours (hour_of n) ≡ lets q.hours (hour_of m) → lets q.minutes (minute_of n) ≡ lets q.minutes (minute_of m) → lets q.seconds (second_of n) ≡ lets q.seconds (second_of m)
     → lets_clock q n ≡ lets_clock q m
 clock_alike q n m h i s = ap (λ x. x && lets q.minutes (minute_of n) && lets q.seconds (second_of n)) h ∙ ap (λ x. lets q.hours (hour_of m) && x && lets q.seconds (second_of n)) i
     ∙ ap (λ x. lets q.hours (hour_of m) && lets q.minutes (minute_of m) && x) s
 
-free : (s a b : ℕ) → is_none s ≡ true → lets s a ≡ lets s b
-free s a b h = absent_in (is_none s) (has s a) h ∙ sym (absent_in (is_none s) (has s b) h)
+free : (s a b : ℕ) → is_empty s ≡ true → lets s a ≡ lets s b
+free s a b h = absent_in (is_empty s) (contains s a) h ∙ sym (absent_in (is_empty s) (contains s b) h)
 
-pub let_in_alike : (q : Filled) (n m : ℕ) → lets_date q (day_of n) ≡ lets_date q (day_of m) → lets_clock q n ≡ lets_clock q m → (lets_date q (day_of n) && lets_clock q n) ≡ (lets_date q (day_of m) && lets_clock q m)
+pub let_in_alike : (q : EffectiveRule) (n m : ℕ) → lets_date q (day_of n) ≡ lets_date q (day_of m) → lets_clock q n ≡ lets_clock q m → (lets_date q (day_of n) && lets_clock q n) ≡ (lets_date q (day_of m) && lets_clock q m)
 let_in_alike q n m d c = ap (λ x. x && lets_clock q n) d ∙ ap (λ x. lets_date q (day_of m) && x) c
 
-module _ (q : Filled) (alone : names_weekdays_alone q ≡ true) where
+module _ (q : EffectiveRule) (alone : names_weekdays_alone q ≡ true) where
   pub repeats_weekly : 0 < seconds_of q.frequency → (n : ℕ) → (lets_date q (day_of (n + 604_800)) && lets_clock q (n + 604_800)) ≡ (lets_date q (day_of n) && lets_clock q n)
   repeats_weekly fine n = let_in_alike q (n + 604_800) n (date_repeats q (day_of (n + 604_800)) (day_of n) alone fine (let same : ((n + 604_800) / 86_400 + 5) % 7 ≡ (n / 86_400 + 5) % 7 = omega arith in same))
       (clock_alike q (n + 604_800) n
@@ -75,18 +75,18 @@ module _ (q : Filled) (alone : names_weekdays_alone q ≡ true) where
         (let same : (n + 86_400) / 60 % 60 ≡ n / 60 % 60 = omega arith in ap (lets q.minutes) same)
         (let same : (n + 86_400) % 60 ≡ n % 60 = omega arith in ap (lets q.seconds) same))
 
-    pub repeats_hourly : is_none q.hours ≡ true → (n : ℕ) → (lets_date q (day_of (n + 3_600)) && lets_clock q (n + 3_600)) ≡ (lets_date q (day_of n) && lets_clock q n)
+    pub repeats_hourly : is_empty q.hours ≡ true → (n : ℕ) → (lets_date q (day_of (n + 3_600)) && lets_clock q (n + 3_600)) ≡ (lets_date q (day_of n) && lets_clock q n)
     repeats_hourly h n = let_in_alike q (n + 3_600) n (date_free q (day_of (n + 3_600)) (day_of n) alone none) (clock_alike q (n + 3_600) n
         (free q.hours (hour_of (n + 3_600)) (hour_of n) h)
         (let same : (n + 3_600) / 60 % 60 ≡ n / 60 % 60 = omega arith in ap (lets q.minutes) same)
         (let same : (n + 3_600) % 60 ≡ n % 60 = omega arith in ap (lets q.seconds) same))
 
-    pub repeats_minutely : is_none q.hours ≡ true → is_none q.minutes ≡ true → (n : ℕ) → (lets_date q (day_of (n + 60)) && lets_clock q (n + 60)) ≡ (lets_date q (day_of n) && lets_clock q n)
+    pub repeats_minutely : is_empty q.hours ≡ true → is_empty q.minutes ≡ true → (n : ℕ) → (lets_date q (day_of (n + 60)) && lets_clock q (n + 60)) ≡ (lets_date q (day_of n) && lets_clock q n)
     repeats_minutely h i n = let_in_alike q (n + 60) n (date_free q (day_of (n + 60)) (day_of n) alone none) (clock_alike q (n + 60) n
         (free q.hours (hour_of (n + 60)) (hour_of n) h) (free q.minutes (minute_of (n + 60)) (minute_of n) i)
         (let same : (n + 60) % 60 ≡ n % 60 = omega arith in ap (lets q.seconds) same))
 
-    pub repeats_always : is_none q.hours ≡ true → is_none q.minutes ≡ true → is_none q.seconds ≡ true → (n : ℕ) → (lets_date q (day_of (n + 1)) && lets_clock q (n + 1)) ≡ (lets_date q (day_of n) && lets_clock q n)
+    pub repeats_always : is_empty q.hours ≡ true → is_empty q.minutes ≡ true → is_empty q.seconds ≡ true → (n : ℕ) → (lets_date q (day_of (n + 1)) && lets_clock q (n + 1)) ≡ (lets_date q (day_of n) && lets_clock q n)
     repeats_always h i s n = let_in_alike q (n + 1) n (date_free q (day_of (n + 1)) (day_of n) alone none) (clock_alike q (n + 1) n
         (free q.hours (hour_of (n + 1)) (hour_of n) h) (free q.minutes (minute_of (n + 1)) (minute_of n) i) (free q.seconds (second_of (n + 1)) (second_of n) s))
 
@@ -123,7 +123,7 @@ step_repeats i d first p l =
     yes : (a b : ℕ) → a ≤ b → nat_le a b ≡ true
     yes a b h = grind (arith, nat_tests)
 
-pub round_is : (q : Filled) (seconds unit : ℕ) → unit ≡ seconds_of q.frequency → 0 < unit → seconds % unit ≡ 0 → 1 ≤ seconds → 1 ≤ q.interval
+pub round_is : (q : EffectiveRule) (seconds unit : ℕ) → unit ≡ seconds_of q.frequency → 0 < unit → seconds % unit ≡ 0 → 1 ≤ seconds → 1 ≤ q.interval
     → ((n : ℕ) → (lets_date q (day_of (n + seconds)) && lets_clock q (n + seconds)) ≡ (lets_date q (day_of n) && lets_clock q n))
     → IsRound q (q.interval * (seconds / unit)) (q.interval * (seconds / unit) * unit)
 round_is q seconds unit e fine whole some steps on = record {
@@ -182,7 +182,7 @@ last_part : (a b : Bool) → (a && b) ≡ true → b ≡ true
 last_part true b h = h
 last_part false b h = absurd (cc)
 
-module _ (q : Filled) (start periods seconds : ℕ) (round : IsRound q periods seconds) where
+module _ (q : EffectiveRule) (start periods seconds : ℕ) (round : IsRound q periods seconds) where
   candidate_on : (n : ℕ) → period_in q start ≤ period_in q n → is_candidate_in q start (n + seconds) ≡ is_candidate_in q start n
   candidate_on n l =
       grouped (n + seconds)

@@ -1,12 +1,12 @@
 -- The days that are added to a set, of a run in which they have numbers.
 use Rattle.std.proofs.Common.{◌≡◌, ℕ, ◌+◌, ◌-◌, ◌*◌, ◌/◌, ◌^◌, ◌<◌, ◌≤◌, ◌⊎◌, inl, inr, Bool, true, false, not, ◌==◌, ◌||◌, ◌&&◌, nat_lt, nat_le, refl, sym, ap, ◌∙◌, arith}
 use Rattle.std.proofs.lemmas.Bool.Decides.{nat_tests}
-use Rattle.ics_values.specs.Sets.{has, IsLeastFrom}
+use Rattle.ics_values.specs.Sets.{contains, IsLeastFrom}
 use Rattle.ics_values.proofs.SetLemmas.{has_above}
 use Rattle.ics_rule.specs.declared.runs.Run.{Run}
-use Rattle.ics_values.specs.declared.places.Places.{Places}
-use Rattle.ics_values.specs.declared.places.Weekdays.{Weekdays}
-use Rattle.ics_values.specs.Places.{lists_none, numbers_of}
+use Rattle.ics_values.specs.declared.ordinals.Ordinals.{Ordinals}
+use Rattle.ics_values.specs.declared.ordinals.Weekdays.{Weekdays}
+use Rattle.ics_values.specs.Ordinals.{lists_none, numbers_of}
 use Rattle.ics_rule.specs.Candidates.{lists, lists_nth}
 use Rattle.ics_rule.specs.Runs.{has_run, weekday_in, lists_weekday}
 use Rattle.ics_rule.proofs.DateLemmas.{none_nth}
@@ -72,12 +72,12 @@ or_swap true false c = refl
 or_swap false b c = refl
 
 -- at first those from the front alone
-pub listed_first : (s : ℕ) (back : ℕ → Bool) (size n k : ℕ) → 1 ≤ n → ((m : ℕ) → m < size + 1 → has k m ≡ has s m) → k < 2 ^ (size + 1)
-    → has k n ≡ (nat_le n size && (has s n || (nat_lt (size + 1 - n) 1 && back (size + 1 - n))))
+pub listed_first : (s : ℕ) (back : ℕ → Bool) (size n k : ℕ) → 1 ≤ n → ((m : ℕ) → m < size + 1 → contains k m ≡ contains s m) → k < 2 ^ (size + 1)
+    → contains k n ≡ (nat_le n size && (contains s n || (nat_lt (size + 1 - n) 1 && back (size + 1 - n))))
 listed_first s back size n k one members bound = elim (by_order size n) [
   | inl past ↦ let out : nat_le n size ≡ false = grind (arith, nat_tests) in rw out (has_above k (size + 1) n bound (omega (arith, past)))
   | inr inside ↦ let in_size : nat_le n size ≡ true = grind (arith, nat_tests) in
-      rw (in_size, not_less (size + 1 - n) 1 (omega (arith, inside))) (members n (omega (arith, inside)) ∙ sym (or_false (has s n)))
+      rw (in_size, not_less (size + 1 - n) 1 (omega (arith, inside))) (members n (omega (arith, inside)) ∙ sym (or_false (contains s n)))
 ]
 
 -- the numbers that are listed from the end
@@ -225,7 +225,7 @@ module _ (r : Run) (listed : ℕ → Bool) (d p from m : ℕ) (a b : Bool) (own 
   pub number_none : a ≡ number_found 1
   number_none = sym (ap (λ y. a || y) (none_second (has_run r m) _ (none_second (weekday_in r (m - r.start) == d) _ (ap (λ y. y && listed ((m - r.start) / 7 + 1)) (not_less ((m - r.start) / 7 + 1) 1 (omega arith))))) ∙ or_false a)
 
-  pub number_done : (q : Places) (count : ℕ) → count ≡ (r.len - 1 - p) / 7 + 1 → p < r.len → ((n : ℕ) → from ≤ n → listed n ≡ false) → ((n : ℕ) → 1 ≤ n → listed n ≡ (nat_le n count && lists q n count))
+  pub number_done : (q : Ordinals) (count : ℕ) → count ≡ (r.len - 1 - p) / 7 + 1 → p < r.len → ((n : ℕ) → from ≤ n → listed n ≡ false) → ((n : ℕ) → 1 ≤ n → listed n ≡ (nat_le n count && lists q n count))
       → b ≡ number_found from → b ≡ (a || (has_run r m && ((weekday_in r (m - r.start) == d) && lists_nth q (m - r.start + 1) r.len)))
   number_done q count size some none is e = e ∙ ap (λ y. a || y) (guard (has_run r m) _ _ (λ h. guard (weekday_in r (m - r.start) == d) _ _ (λ g.
       let there = run_facts r m h in
@@ -235,8 +235,8 @@ module _ (r : Run) (listed : ℕ → Bool) (d p from m : ℕ) (a b : Bool) (own 
       let back : count + 1 - ((m - r.start) / 7 + 1) ≡ (r.len - (m - r.start + 1)) / 7 + 1 = omega (arith, size, there.1, weekday, own, early) in
       all_found listed from ((m - r.start) / 7 + 1) (none ((m - r.start) / 7 + 1)) ∙ is ((m - r.start) / 7 + 1) (omega arith)
       ∙ ap (λ y. y && lists q ((m - r.start) / 7 + 1) count) in_count
-      ∙ ap (λ n. has q.front n || has q.back (count + 1 - ((m - r.start) / 7 + 1))) front
-      ∙ ap (λ n. has q.front ((m - r.start + 1 - 1) / 7 + 1) || has q.back n) back)))
+      ∙ ap (λ n. contains q.front n || contains q.back (count + 1 - ((m - r.start) / 7 + 1))) front
+      ∙ ap (λ n. contains q.front ((m - r.start + 1 - 1) / 7 + 1) || contains q.back n) back)))
     where
       shown : (n size : ℕ) → n ≤ size → nat_le n size ≡ true
       shown n size h = grind (arith, nat_tests)
@@ -295,8 +295,8 @@ weekdays_none listed w a x = rw (not_less w 0 (omega arith)) (nothing a x)
     nothing false false = refl
 
 -- a weekday that BYDAY does not list has no day
-pub unnamed : (w : Weekdays) (d n size : ℕ) → (has w.plain d || not (lists_none (numbers_of w d))) ≡ false → lists_weekday w d n size ≡ false
-unnamed w d n size h = let parts = out (has w.plain d) (lists_none (numbers_of w d)) h in
+pub unnamed : (w : Weekdays) (d n size : ℕ) → (contains w.plain d || not (lists_none (numbers_of w d))) ≡ false → lists_weekday w d n size ≡ false
+unnamed w d n size h = let parts = out (contains w.plain d) (lists_none (numbers_of w d)) h in
     ap (λ x. x || lists_nth (numbers_of w d) n size) parts.0 ∙ none_nth (numbers_of w d) n size parts.1
   where
     out : (a b : Bool) → (a || not b) ≡ false → (a ≡ false) × (b ≡ true)

@@ -2,9 +2,9 @@
 use Rattle.std.proofs.Common.{ℕ, ◌+◌, ◌-◌, ◌*◌, ◌%◌, pos, ◌-ℤ◌, set, arith}
 use Rattle.jiff_core.specs.Calendar.{days_of_months}
 use Rattle.ics_values.specs.declared.local.Local.{Local}
-use Rattle.ics_values.specs.declared.places.Weekdays.{Weekdays}
+use Rattle.ics_values.specs.declared.ordinals.Weekdays.{Weekdays}
 use Rattle.ics_values.specs.RuleParts.{RuleParts}
-use Rattle.ics_values.specs.Places.{no_places, no_weekdays}
+use Rattle.ics_values.specs.Ordinals.{no_ordinals, no_weekdays}
 use Rattle.ics_values.specs.Sets.{only}
 use Rattle.ics_values.specs.Days.{days_before_year}
 use Rattle.ics_rule.specs.declared.kind.Kind.{Kind}
@@ -28,10 +28,10 @@ su = 6
 
 -- the n-th such weekday from the front, and from the end
 abbrev pub nth_weekday : ℕ → ℕ → Weekdays
-nth_weekday n w = record no_weekdays { numbered = set no_weekdays.numbered w (record no_places { front = only n }) }
+nth_weekday n w = record no_weekdays { numbered = set no_weekdays.numbered w (record no_ordinals { front = only n }) }
 
 abbrev pub nth_last_weekday : ℕ → ℕ → Weekdays
-nth_last_weekday n w = record no_weekdays { numbered = set no_weekdays.numbered w (record no_places { back = only n }) }
+nth_last_weekday n w = record no_weekdays { numbered = set no_weekdays.numbered w (record no_ordinals { back = only n }) }
 
 -- a date and a time of day
 abbrev pub date : ℕ → ℕ → ℕ → ℕ

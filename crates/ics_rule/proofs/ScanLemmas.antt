@@ -8,9 +8,9 @@ use Rattle.std.proofs.Math.Nat.{mod-lt, mul-le-mul_right}
 use Rattle.jiff_core.specs.Calendar.{days_of_months, days_in_month}
 use Rattle.jiff_core.proofs.CalendarLemmas.{days_of_months_more}
 use Rattle.ics_values.proofs.SetLemmas.{member_below}
-use Rattle.ics_rule.specs.declared.period.Period.{Period}
-use Rattle.ics_rule.specs.Periods.{has_minute, has_time, has_day}
-use Rattle.ics_values.specs.Sets.{has, has_wide, none_wide, only, IsLeastFrom}
+use Rattle.ics_rule.specs.declared.recurrence_period.RecurrencePeriod.{RecurrencePeriod}
+use Rattle.ics_rule.specs.RecurrencePeriods.{has_minute, has_time, has_day}
+use Rattle.ics_values.specs.Sets.{contains, contains_wide, none_wide, only, IsLeastFrom}
 
 and_first : (a b : Bool) → a ≡ false → (a && b) ≡ false
 and_first a b h = ap (λ x. x && b) h
@@ -87,8 +87,8 @@ module _ (k : ℕ) (some : 0 < k) where
 same_or_not : (m n : ℕ) → (m ≡ n) ⊎ (m ≢ n)
 same_or_not m n = grind (arith, nat_tests)
 
-pub has-only : (h m : ℕ) → has (only h) m ≡ (m == h)
-has-only h m = elim (same_or_not m h) [
+pub contains-only : (h m : ℕ) → contains (only h) m ≡ (m == h)
+contains-only h m = elim (same_or_not m h) [
   | inl same ↦ rw same (ap (λ x. x == 1) (bit_at-pow_same h) ∙ self h)
   | inr other ↦ ap (λ x. x == 1) (bit_at-pow_other h m other) ∙ apart m h other
 ]
@@ -126,8 +126,8 @@ none_get (suc (suc (suc (suc zero)))) = refl
 none_get (suc (suc (suc (suc (suc zero))))) = refl
 none_get (suc (suc (suc (suc (suc (suc i)))))) = get_or_past none_wide (suc (suc (suc (suc (suc (suc i)))))) 0 (omega arith)
 
-pub none_has : (m : ℕ) → has_wide none_wide m ≡ false
-none_has m = and_second (nat_lt m 384) (has (get_or none_wide (m / 64) 0) (m % 64)) (ap (λ x. has x (m % 64)) (none_get (m / 64)) ∙ ap (λ x. x == 1) (bit_at-zero (m % 64)))
+pub none_has : (m : ℕ) → contains_wide none_wide m ≡ false
+none_has m = and_second (nat_lt m 384) (contains (get_or none_wide (m / 64) 0) (m % 64)) (ap (λ x. contains x (m % 64)) (none_get (m / 64)) ∙ ap (λ x. x == 1) (bit_at-zero (m % 64)))
 
 -- the test of one number more
 pub one_more : (f : ℕ → Bool) (k m : ℕ) (b : Bool) → f k ≡ true → b ≡ (nat_lt m k && f m) → ((m == k) || b) ≡ (nat_lt m (k + 1) && f m)
@@ -188,42 +188,42 @@ and_parts false b h = absurd (cc)
 
 -- minutes and seconds of the product lie in the day
 pub minute_below : (hours minutes m : ℕ) → hours < 2 ^ 24 → has_minute hours minutes m ≡ true → m < 1440
-minute_below hours minutes m h e = let l = member_below hours 24 (m / 60) h (and_parts (has hours (m / 60)) (has minutes (m % 60)) e).0 in omega (arith, l)
+minute_below hours minutes m h e = let l = member_below hours 24 (m / 60) h (and_parts (contains hours (m / 60)) (contains minutes (m % 60)) e).0 in omega (arith, l)
 
 pub second_below : (hours minutes seconds t : ℕ) → hours < 2 ^ 24 → has_time hours minutes seconds t ≡ true → t < 86_400
-second_below hours minutes seconds t h e = let l = minute_below hours minutes (t / 60) h (and_parts (has_minute hours minutes (t / 60)) (has seconds (t % 60)) e).0 in omega (arith, l)
+second_below hours minutes seconds t h e = let l = minute_below hours minutes (t / 60) h (and_parts (has_minute hours minutes (t / 60)) (contains seconds (t % 60)) e).0 in omega (arith, l)
 
 -- one month more
 pub months_more : (y n : ℕ) → days_of_months (pos y) n + days_in_month (pos y) (n + 1) ≡ days_of_months (pos y) (n + 1)
 months_more y n = let more = days_of_months_more (pos y) (n + 1) (omega arith) in let back : n + 1 - 1 ≡ n = omega arith in let more' = rw back at more in sym more'
 
 -- the days of a product from a day on, by the set's places from what is skipped of it
-day_before : (p : Period) (m : ℕ) → m < p.first_day → has_day p m ≡ false
-day_before p m h = let none : nat_le p.first_day m ≡ false = grind (arith, nat_tests) in ap (λ x. x && has_wide p.days (m - p.first_day)) none
+day_before : (p : RecurrencePeriod) (m : ℕ) → m < p.first_day → has_day p m ≡ false
+day_before p m h = let none : nat_le p.first_day m ≡ false = grind (arith, nat_tests) in ap (λ x. x && contains_wide p.days (m - p.first_day)) none
 
-pub next_day : (p : Period) (day skipped k : ℕ) → skipped ≡ min (day - p.first_day) 384 → IsLeastFrom (has_wide p.days) skipped k → k < 384 → IsLeastFrom (has_day p) day (p.first_day + k)
+pub next_day : (p : RecurrencePeriod) (day skipped k : ℕ) → skipped ≡ min (day - p.first_day) 384 → IsLeastFrom (contains_wide p.days) skipped k → k < 384 → IsLeastFrom (has_day p) day (p.first_day + k)
 next_day p day skipped k e next small = record {
   passes = let low : nat_le p.first_day (p.first_day + k) ≡ true = grind (arith, nat_tests) in let back : p.first_day + k - p.first_day ≡ k = omega arith in
-      ap (λ x. x && has_wide p.days (p.first_day + k - p.first_day)) low ∙ ap (has_wide p.days) back ∙ next.passes;
+      ap (λ x. x && contains_wide p.days (p.first_day + k - p.first_day)) low ∙ ap (contains_wide p.days) back ∙ next.passes;
   low = omega (arith, e, next.low, small);
   least = λ m low high. elim (by_order m p.first_day) [
     | inl less ↦ day_before p m less
-    | inr more ↦ and_second (nat_le p.first_day m) (has_wide p.days (m - p.first_day)) (next.least (m - p.first_day) (omega (arith, e)) (omega arith))
+    | inr more ↦ and_second (nat_le p.first_day m) (contains_wide p.days (m - p.first_day)) (next.least (m - p.first_day) (omega (arith, e)) (omega arith))
   ];
 }
   where
     by_order : (a b : ℕ) → (a < b) ⊎ (b ≤ a)
     by_order a b = grind arith
 
-pub no_day : (p : Period) (day skipped : ℕ) → skipped ≡ min (day - p.first_day) 384 → ((m : ℕ) → skipped ≤ m → has_wide p.days m ≡ false) → (m : ℕ) → day ≤ m → has_day p m ≡ false
+pub no_day : (p : RecurrencePeriod) (day skipped : ℕ) → skipped ≡ min (day - p.first_day) 384 → ((m : ℕ) → skipped ≤ m → contains_wide p.days m ≡ false) → (m : ℕ) → day ≤ m → has_day p m ≡ false
 no_day p day skipped e none m low = elim (by_order m p.first_day) [
   | inl less ↦ day_before p m less
-  | inr more ↦ and_second (nat_le p.first_day m) (has_wide p.days (m - p.first_day)) (none (m - p.first_day) (omega (arith, e)))
+  | inr more ↦ and_second (nat_le p.first_day m) (contains_wide p.days (m - p.first_day)) (none (m - p.first_day) (omega (arith, e)))
 ]
   where
     by_order : (a b : ℕ) → (a < b) ⊎ (b ≤ a)
     by_order a b = grind arith
 
-pub minute_true : (hours minutes m : ℕ) (a b : Bool) → m ≤ 1440 → a ≡ (nat_lt (m / 60) 64 && has hours (m / 60)) → b ≡ (nat_lt (m % 60) 64 && has minutes (m % 60)) → has_minute hours minutes m ≡ (a && b)
+pub minute_true : (hours minutes m : ℕ) (a b : Bool) → m ≤ 1440 → a ≡ (nat_lt (m / 60) 64 && contains hours (m / 60)) → b ≡ (nat_lt (m % 60) 64 && contains minutes (m % 60)) → has_minute hours minutes m ≡ (a && b)
 minute_true hours minutes m a b h ea eb =
-    sym (ap (λ x. x && b) (ea ∙ in_word (m / 60) (has hours (m / 60)) (omega arith)) ∙ ap (λ x. has hours (m / 60) && x) (eb ∙ in_word (m % 60) (has minutes (m % 60)) (omega arith)))
+    sym (ap (λ x. x && b) (ea ∙ in_word (m / 60) (contains hours (m / 60)) (omega arith)) ∙ ap (λ x. contains hours (m / 60) && x) (eb ∙ in_word (m % 60) (contains minutes (m % 60)) (omega arith)))

@@ -1,12 +1,12 @@
 -- Of the size of a period, the number of locals that a rule allows there, depends how many are chosen.
 use Rattle.std.proofs.Common.{◌≡◌, ℕ, suc, ◌+◌, ◌*◌, ◌<◌, ◌≤◌, ◌≢◌, ◌⊎◌, inl, inr, Bool, true, false, cond, ◌&&◌, ◌==◌, refl, sym, ap, ◌∙◌, arith}
 use Rattle.jiff_core.specs.Weekday.{monday_zero}
-use Rattle.ics_values.specs.Places.{lists_none_wide}
-use Rattle.ics_rule.specs.declared.filled.Filled.{Filled}
-use Rattle.ics_rule.specs.Locals.{calendar_end, day_of}
+use Rattle.ics_values.specs.Ordinals.{lists_none_wide}
+use Rattle.ics_rule.specs.declared.effective_rule.EffectiveRule.{EffectiveRule}
+use Rattle.ics_rule.specs.PeriodNumbers.{calendar_end, day_of}
 use Rattle.ics_rule.specs.Candidates.{lets_date, lets_clock, lists_wide, is_stepped, is_candidate_in, period_in}
 use Rattle.ics_rule.specs.Kept.{count, is_beside, rank, size, is_placed, is_chosen}
-use Rattle.ics_rule.specs.Periods.{first_local, is_let_in, is_listed}
+use Rattle.ics_rule.specs.RecurrencePeriods.{first_local, is_let_in, is_listed}
 use Rattle.ics_rule.specs.Rounds.{chosen_to}
 use Rattle.ics_rule.proofs.Counts.{count-same, count-suc, count-add, count-from}
 use Rattle.ics_rule.proofs.RankLemmas.{count_flat, count-ranked}
@@ -22,24 +22,24 @@ abbrev pub longest : ℕ
 longest = 366 * 86_400
 
 -- what a rule allows in a period, by its place in it
-abbrev pub let_at : Filled → ℕ → ℕ → Bool
+abbrev pub let_at : EffectiveRule → ℕ → ℕ → Bool
 let_at q x k = is_let_in q x (first_local q.frequency (monday_zero q.week_start) x + k)
 
 -- and what it chooses there
-abbrev placed_at : Filled → Bool → (ℕ → Bool) → ℕ → Bool
+abbrev placed_at : EffectiveRule → Bool → (ℕ → Bool) → ℕ → Bool
 placed_at q true t k = true
 placed_at q false t k = lists_wide q.positions (count (suc k) t) (count longest t)
 
-abbrev chosen_at : Filled → (ℕ → Bool) → ℕ → Bool
+abbrev chosen_at : EffectiveRule → (ℕ → Bool) → ℕ → Bool
 chosen_at q t k = t k && placed_at q (lists_none_wide q.positions) t k
 
 -- how many of so many are chosen
-abbrev pub chosen_of : Filled → Bool → ℕ → ℕ
+abbrev pub chosen_of : EffectiveRule → Bool → ℕ → ℕ
 chosen_of q true n = n
 chosen_of q false n = count n (is_listed q.positions n)
 
 -- of a size depends only how many are chosen
-size_decides : (q : Filled) (t : ℕ → Bool) → count longest (chosen_at q t) ≡ chosen_of q (lists_none_wide q.positions) (count longest t)
+size_decides : (q : EffectiveRule) (t : ℕ → Bool) → count longest (chosen_at q t) ≡ chosen_of q (lists_none_wide q.positions) (count longest t)
 size_decides q t = by_positions (lists_none_wide q.positions)
   where
     same : (b : Bool) (k : ℕ) → t k ≡ b
@@ -55,7 +55,7 @@ size_decides q t = by_positions (lists_none_wide q.positions)
     by_positions false = count-same longest (λ k. t k && lists_wide q.positions (count (suc k) t) (count longest t)) (λ k. t k && is_listed q.positions (count longest t) (count k t)) (λ k l. same (t k) k refl)
         ∙ count-ranked longest t (is_listed q.positions (count longest t))
 
-module _ (q : Filled) (start x : ℕ) (step : is_stepped (period_in q start) q.interval x ≡ true)
+module _ (q : EffectiveRule) (start x : ℕ) (step : is_stepped (period_in q start) q.interval x ≡ true)
     (inside : first_local q.frequency (monday_zero q.week_start) x + 366 * 86_400 ≤ calendar_end) where
   abbrev a : ℕ
   a = first_local q.frequency (monday_zero q.week_start) x

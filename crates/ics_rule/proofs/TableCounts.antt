@@ -2,12 +2,13 @@
 use Rattle.std.proofs.Common.{◌≡◌, ℕ, zero, suc, ◌+◌, ◌-◌, ◌*◌, ◌/◌, ◌%◌, ◌<◌, ◌≤◌, ◌⊎◌, inl, inr, Bool, true, false, cond, ◌&&◌, ◌||◌, ◌==◌, nat_le, nat_lt, List, [], ◌∷◌, refl, sym, ap, ◌∙◌, arith}
 use Rattle.std.specs.Prelude.{filter}
 use Rattle.std.proofs.lemmas.Bool.Decides.{nat_tests}
-use Rattle.ics_values.specs.declared.places.WidePlaces.{WidePlaces}
-use Rattle.ics_values.specs.Sets.{has_wide}
+use Rattle.ics_values.specs.declared.ordinals.WideOrdinals.{WideOrdinals}
+use Rattle.ics_values.specs.Sets.{contains_wide}
 use Rattle.ics_rule.specs.Recurrence.{Recurrence}
-use Rattle.ics_rule.specs.Locals.{number, day_of, month_number, calendar_end}
+use Rattle.ics_rule.specs.PeriodNumbers.{day_of, month_number, calendar_end}
+use Rattle.ics_values.specs.Locals.{number}
 use Rattle.ics_rule.specs.Kept.{count}
-use Rattle.ics_rule.specs.Periods.{month_start}
+use Rattle.ics_rule.specs.RecurrencePeriods.{month_start}
 use Rattle.ics_rule.specs.Table.{BySetPos}
 use Rattle.ics_rule.specs.ByTable.{is_absent, is_instance, is_nth, is_limited, is_period, period_of, is_member}
 use Rattle.ics_rule.proofs.Counts.{count-suc, count-none}
@@ -37,10 +38,10 @@ filter-same f g e (suc n) same =
     ∙ ap (λ ds. cond (g e) (e ∷ ds) ds) (filter-same f g (e + 1) n (λ d l h. same d (omega arith) (omega arith)))
 
 -- BYSETPOS lists the local of a set on day k from a on, by counting the days from a on and before b
-abbrev pub nth_day : (ℕ → Bool) → ℕ → ℕ → ℕ → WidePlaces → ℕ → Bool
+abbrev pub nth_day : (ℕ → Bool) → ℕ → ℕ → ℕ → WideOrdinals → ℕ → Bool
 nth_day set a b t positions k =
-    has_wide positions.front (count (suc k) (λ j. set ((a + j) * 86_400 + t)))
-    || has_wide positions.back (count (b - a) (λ j. set ((a + j) * 86_400 + t)) - count k (λ j. set ((a + j) * 86_400 + t)))
+    contains_wide positions.front (count (suc k) (λ j. set ((a + j) * 86_400 + t)))
+    || contains_wide positions.back (count (b - a) (λ j. set ((a + j) * 86_400 + t)) - count k (λ j. set ((a + j) * 86_400 + t)))
 
 -- what passes lies on the days from a on and before b, at second t of the day
 module _ (set : ℕ → Bool) (a b t : ℕ) (clock : t < 86_400) (shown : (m : ℕ) → set m ≡ true → ((a ≤ m / 86_400) × (m / 86_400 < b)) × (m % 86_400 ≡ t)) where
@@ -76,12 +77,12 @@ module _ (set : ℕ → Bool) (a b t : ℕ) (clock : t < 86_400) (shown : (m : �
       count_flat (b * 86_400) calendar_end set high (λ m l h. not_true (set m) (λ e. let s = shown m e in omega (arith, s.0.1, l)))
       ∙ ap (λ x. count (x * 86_400) set) (let whole : b ≡ a + (b - a) = omega (arith, low) in whole) ∙ days_before (b - a)
 
-  nth_by_days : (positions : WidePlaces) (k : ℕ) → a ≤ b → b * 86_400 ≤ calendar_end
+  nth_by_days : (positions : WideOrdinals) (k : ℕ) → a ≤ b → b * 86_400 ≤ calendar_end
       → is_nth positions set ((a + k) * 86_400 + t) ≡ nth_day set a b t positions k
   nth_by_days positions k low high =
-      ap (λ x. has_wide positions.front x || has_wide positions.back (count calendar_end set - count ((a + k) * 86_400 + t) set)) (through_day k)
-      ∙ ap (λ x. has_wide positions.front (count (suc k) on_day) || has_wide positions.back (x - count ((a + k) * 86_400 + t) set)) (all_days low high)
-      ∙ ap (λ x. has_wide positions.front (count (suc k) on_day) || has_wide positions.back (count (b - a) on_day - x)) (to_local (a + k) ∙ days_before k)
+      ap (λ x. contains_wide positions.front x || contains_wide positions.back (count calendar_end set - count ((a + k) * 86_400 + t) set)) (through_day k)
+      ∙ ap (λ x. contains_wide positions.front (count (suc k) on_day) || contains_wide positions.back (x - count ((a + k) * 86_400 + t) set)) (all_days low high)
+      ∙ ap (λ x. contains_wide positions.front (count (suc k) on_day) || contains_wide positions.back (count (b - a) on_day - x)) (to_local (a + k) ∙ days_before k)
 
 -- the instances of a rule in the month p, at 9:00
 pub record IsMonthly (r : Recurrence) (p : ℕ) : Type 0 where

@@ -5,12 +5,12 @@ use Rattle.ics_values.specs.Days.{days_on_literals}
 use Rattle.ics_values.specs.declared.frequency.Frequency.TheVariants.{Daily, Weekly, Monthly, Yearly}
 use Rattle.jiff_core.specs.declared.civil.weekday.Weekday.TheVariants.{Sunday}
 use Rattle.ics_values.specs.RuleParts.{RuleParts, every}
-use Rattle.ics_values.specs.Places.{no_places, no_wide_places, with_wide_place}
-use Rattle.ics_values.specs.declared.places.Side.TheVariants.{Front, Back}
+use Rattle.ics_values.specs.Ordinals.{no_ordinals, no_wide_ordinals, with_wide_ordinal}
+use Rattle.ics_values.specs.declared.ordinals.Side.TheVariants.{Front, Back}
 use Rattle.ics_values.specs.Sets.{only}
 use Rattle.ics_rule.specs.declared.kind.Kind.TheVariants.{DateTime}
 use Rattle.ics_rule.specs.Recurrence.{Recurrence}
-use Rattle.ics_rule.specs.Locals.{day_of, hour_of, minute_of, second_of, month_number}
+use Rattle.ics_rule.specs.PeriodNumbers.{day_of, hour_of, minute_of, second_of, month_number}
 use Rattle.ics_rule.specs.Kept.{count}
 use Rattle.ics_rule.specs.Table.{Part, ByMonth, ByWeekNo, ByYearDay, ByMonthDay, ByDay, ByHour, ByMinute, BySecond, BySetPos, Nothing, cell}
 use Rattle.ics_rule.specs.ByTable.{is_absent, instance_of, is_listed, is_instance, is_member, IsAllowed}
@@ -56,7 +56,7 @@ first_friday_allowed = record { parts = parts; numbers = λ e. absurd (cc); date
     parts BySetPos e = refl
 
 -- the third-to-the-last day of the month
-third_last : listed (record (every Monthly) { month_days = record no_places { back = only 3 } }) 1997 9 28 (date 1998 2 1) 28 ≡ map (date 1998 2) (26 ∷ [])
+third_last : listed (record (every Monthly) { month_days = record no_ordinals { back = only 3 } }) 1997 9 28 (date 1998 2 1) 28 ≡ map (date 1998 2) (26 ∷ [])
 unfolding days_on_literals
 third_last = refl
 
@@ -73,7 +73,7 @@ june_and_july = refl
 
 -- every third year on the 1st, 100th and 200th day
 third_years : listed
-    (record (every Yearly) { interval = 3; year_days = with_wide_place Front 1 (with_wide_place Front 100 (with_wide_place Front 200 no_wide_places)) })
+    (record (every Yearly) { interval = 3; year_days = with_wide_ordinal Front 1 (with_wide_ordinal Front 100 (with_wide_ordinal Front 200 no_wide_ordinals)) })
     1997 1 1 (date 2000 4 1) 30
     ≡ map (date 2000 4) (9 ∷ [])
 unfolding days_on_literals
@@ -85,7 +85,7 @@ unfolding days_on_literals
 twentieth_monday = refl
 
 -- Monday of week number 20
-week_20 : listed (record (every Yearly) { weeks = record no_places { front = only 20 }; weekdays = on_weekdays (only mo) }) 1997 5 12 (date 1999 5 1) 31
+week_20 : listed (record (every Yearly) { weeks = record no_ordinals { front = only 20 }; weekdays = on_weekdays (only mo) }) 1997 5 12 (date 1999 5 1) 31
     ≡ map (date 1999 5) (17 ∷ [])
 unfolding days_on_literals
 week_20 = refl
@@ -98,7 +98,7 @@ march_thursdays = refl
 
 -- the first Tuesday after a Monday in November, every four years
 election_day : listed
-    (record (every Yearly) { interval = 4; months = only 11; weekdays = on_weekdays (only tu); month_days = record no_places { front = 2 ^ 9 - 2 ^ 2 } })
+    (record (every Yearly) { interval = 4; months = only 11; weekdays = on_weekdays (only tu); month_days = record no_ordinals { front = 2 ^ 9 - 2 ^ 2 } })
     1996 11 5 (date 2000 11 1) 30
     ≡ map (date 2000 11) (7 ∷ [])
 unfolding days_on_literals
@@ -119,7 +119,7 @@ at_nine listed month p m e =
 -- the third instance into the month of one of Tuesday, Wednesday or Thursday
 abbrev third_instance : Recurrence
 third_instance =
-    rule (record (every Monthly) { weekdays = on_weekdays (only tu + only 2 + only 3); positions = with_wide_place Front 3 no_wide_places })
+    rule (record (every Monthly) { weekdays = on_weekdays (only tu + only 2 + only 3); positions = with_wide_ordinal Front 3 no_wide_ordinals })
     (local 1997 9 4 9 0) DateTime
 
 instances_at_nine : (p m : ℕ) → is_instance third_instance p m ≡ true → (month_number (day_of m) ≡ p) × (m % 86_400 ≡ 32_400)
@@ -136,7 +136,7 @@ third_in_october =
 -- the second-to-last weekday of the month
 abbrev second_last_weekday : Recurrence
 second_last_weekday =
-    rule (record (every Monthly) { weekdays = on_weekdays (2 ^ 5 - 1); positions = with_wide_place Back 2 no_wide_places }) (local 1997 9 29 9 0) DateTime
+    rule (record (every Monthly) { weekdays = on_weekdays (2 ^ 5 - 1); positions = with_wide_ordinal Back 2 no_wide_ordinals }) (local 1997 9 29 9 0) DateTime
 
 weekdays_at_nine : (p m : ℕ) → is_instance second_last_weekday p m ≡ true → (month_number (day_of m) ≡ p) × (m % 86_400 ≡ 32_400)
 unfolding days_on_literals

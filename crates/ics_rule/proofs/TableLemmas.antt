@@ -1,18 +1,18 @@
--- The table of expansion and limits gives what the parts of a filled rule let in.
+-- The table of expansion and limits gives what the parts of a effective rule let in.
 use Rattle.std.proofs.Common.{◌≡◌, ℕ, ◌+◌, ◌*◌, ◌/◌, ◌%◌, Bool, true, false, not, ◌&&◌, ◌||◌, ◌==◌, if◌then◌else◌, pos, refl, sym, subst, ap, ◌∙◌, arith}
 use Rattle.jiff_core.specs.Calendar.{days_in_month, days_in_year}
 use Rattle.ics_values.specs.declared.frequency.Frequency.{Frequency}
 use Rattle.ics_values.specs.declared.frequency.Frequency.TheVariants.{Secondly, Minutely, Hourly, Daily, Weekly, Monthly, Yearly}
-use Rattle.ics_values.specs.declared.places.Places.{Places}
+use Rattle.ics_values.specs.declared.ordinals.Ordinals.{Ordinals}
 use Rattle.ics_values.specs.Days.{day_index}
-use Rattle.ics_values.specs.Sets.{is_none, has, only}
-use Rattle.ics_values.specs.Places.{no_places, lists_none, lists_no_weekday, numbers_of}
+use Rattle.ics_values.specs.Sets.{is_empty, contains, only}
+use Rattle.ics_values.specs.Ordinals.{no_ordinals, lists_none, lists_no_weekday, numbers_of}
 use Rattle.ics_rule.specs.declared.kind.Kind.{Kind}
 use Rattle.ics_rule.specs.declared.kind.Kind.TheVariants.{Date, DateTime}
 use Rattle.ics_rule.specs.Recurrence.{Recurrence}
-use Rattle.ics_rule.specs.Filled.{filled, clock_part, only_place, only_weekday}
+use Rattle.ics_rule.specs.EffectiveRules.{effective, clock_part, only_place, only_weekday}
 use Rattle.ics_rule.specs.Candidates.{lists, lists_nth, lets, lets_place}
-use Rattle.ics_rule.specs.Periods.{is_let_in}
+use Rattle.ics_rule.specs.RecurrencePeriods.{is_let_in}
 use Rattle.ics_rule.specs.Table.{Part, ByMonth, ByWeekNo, ByYearDay, ByMonthDay, ByDay, ByHour, ByMinute, BySecond, Cell, Limit, Expand}
 use Rattle.ics_rule.specs.ByTable.{Instance, Instances, instance_of, start_of, is_absent, is_listed, is_clockless, lists_nth_in, has_clock, own_instance, apply_cell, apply, is_instance, IsAllowed}
 use Rattle.ics_rule.proofs.TableSteps.{self_test, keep_true, never, or_assoc, limited, passed, expanded, week_expanded, noted, given, only_number, only_day, only_this_weekday, in_order, by_subject}
@@ -93,15 +93,15 @@ last_true false b h = absurd (cc)
 
 -- a part that expands leaves the rest to DTSTART, at midnight where that is a date
 clock_given : (kind : Kind) (set own n : ℕ) → (kind ≡ Date → own ≡ 0)
-    → (((is_clockless kind || is_none set) || has set n) && (keep (is_clockless kind || is_none set) own n == own)) ≡ lets (clock_part kind true set own) n
+    → (((is_clockless kind || is_empty set) || contains set n) && (keep (is_clockless kind || is_empty set) own n == own)) ≡ lets (clock_part kind true set own) n
 clock_given Date set own n zero = subst (λ z. (n == own) ≡ lets (only z) n) (zero refl) (sym (only_number true 0 own n))
 clock_given DateTime set own n zero =
-    ap (λ x. lets set n && x) (put_back (is_none set) own n)
-    ∙ given (is_none set) (lets set n) (n == own) (λ e. ap (λ b. b || has set n) e)
-    ∙ sym (only_number (is_none set) set own n)
+    ap (λ x. lets set n && x) (put_back (is_empty set) own n)
+    ∙ given (is_empty set) (lets set n) (n == own) (λ e. ap (λ b. b || contains set n) e)
+    ∙ sym (only_number (is_empty set) set own n)
 
 -- a part that limits has no say of DTSTART
-clock_limited : (kind : Kind) (set own n : ℕ) → (kind ≡ Date → ⊥) → (((is_clockless kind || is_none set) || has set n) && true)
+clock_limited : (kind : Kind) (set own n : ℕ) → (kind ≡ Date → ⊥) → (((is_clockless kind || is_empty set) || contains set n) && true)
     ≡ lets (clock_part kind false set own) n
 clock_limited Date set own n apart = absurd (apart refl)
 clock_limited DateTime set own n apart = keep_true (lets set n)
@@ -216,9 +216,9 @@ plain_weekday a b x h = or_assoc a b false ∙ ap (λ z. a || b || z) (sym (ap n
 
 -- where the table limits BYDAY it has no number
 limited_weekday : (r : Recurrence) (i : Instance) → lists_none (numbers_of r.parts.weekdays i.weekday) ≡ true
-    → (no_weekday r || (has r.parts.weekdays.plain i.weekday || false))
-    ≡ (no_weekday r || has r.parts.weekdays.plain i.weekday || not (lists_none (numbers_of r.parts.weekdays i.weekday)))
-limited_weekday r i h = plain_weekday (no_weekday r) (has r.parts.weekdays.plain i.weekday) (lists_none (numbers_of r.parts.weekdays i.weekday)) h
+    → (no_weekday r || (contains r.parts.weekdays.plain i.weekday || false))
+    ≡ (no_weekday r || contains r.parts.weekdays.plain i.weekday || not (lists_none (numbers_of r.parts.weekdays i.weekday)))
+limited_weekday r i h = plain_weekday (no_weekday r) (contains r.parts.weekdays.plain i.weekday) (lists_none (numbers_of r.parts.weekdays i.weekday)) h
 
 -- DAILY and finer: all parts of the date limit
 limited_dates : (r : Recurrence) (i : Instance) (x : Bool) → (set : Instances) → set i ≡ x
@@ -237,8 +237,8 @@ limited_dates r i x set e =
     ∙ ap (λ z. lets_part r ByMonth i && z) e)))
 
 module _ (rule : Recurrence) (allowed : IsAllowed (at Hourly rule)) (p n : ℕ) where
-  hourly : is_instance (at Hourly rule) p n ≡ is_let_in (filled (at Hourly rule)) p n
-  unfolding filled
+  hourly : is_instance (at Hourly rule) p n ≡ is_let_in (effective (at Hourly rule)) p n
+  unfolding effective
   hourly =
       let r = at Hourly rule in
       let i = instance_of r.parts n in
@@ -255,8 +255,8 @@ module _ (rule : Recurrence) (allowed : IsAllowed (at Hourly rule)) (p n : ℕ) 
       no_date date = let fine = (allowed.dates date).0 in cc
 
 module _ (rule : Recurrence) (allowed : IsAllowed (at Minutely rule)) (p n : ℕ) where
-  minutely : is_instance (at Minutely rule) p n ≡ is_let_in (filled (at Minutely rule)) p n
-  unfolding filled
+  minutely : is_instance (at Minutely rule) p n ≡ is_let_in (effective (at Minutely rule)) p n
+  unfolding effective
   minutely =
       let r = at Minutely rule in
       let i = instance_of r.parts n in
@@ -273,8 +273,8 @@ module _ (rule : Recurrence) (allowed : IsAllowed (at Minutely rule)) (p n : ℕ
       no_date date = let fine = (allowed.dates date).0 in cc
 
 module _ (rule : Recurrence) (allowed : IsAllowed (at Secondly rule)) (p n : ℕ) where
-  secondly : is_instance (at Secondly rule) p n ≡ is_let_in (filled (at Secondly rule)) p n
-  unfolding filled
+  secondly : is_instance (at Secondly rule) p n ≡ is_let_in (effective (at Secondly rule)) p n
+  unfolding effective
   secondly =
       let r = at Secondly rule in
       let i = instance_of r.parts n in
@@ -301,8 +301,8 @@ module _ (rule : Recurrence) (allowed : IsAllowed (at Daily rule)) (p n : ℕ) w
       ∙ ap (λ x. lets_part r ByMonthDay i && x) (passed (no_year_day r) (set2 r p i) ∙ passed (no_week r) (set1 r p i)
       ∙ limited (no_month r) (is_listed r ByMonth i) (set0 r p i)))
 
-  daily : is_instance (at Daily rule) p n ≡ is_let_in (filled (at Daily rule)) p n
-  unfolding filled
+  daily : is_instance (at Daily rule) p n ≡ is_let_in (effective (at Daily rule)) p n
+  unfolding effective
   daily =
       let r = at Daily rule in
       let i = instance_of r.parts n in
@@ -343,21 +343,21 @@ module _ (rule : Recurrence) (allowed : IsAllowed (at Weekly rule)) (p n : ℕ) 
       ∙ ap (λ x. lets_part r ByDay i && x) (passed (no_month_day r) (set3 r p j) ∙ passed (no_year_day r) (set2 r p j) ∙ passed (no_week r) (set1 r p j)
       ∙ limited (no_month r) (is_listed r ByMonth j) (set0 r p j))
 
-  abbrev weekly_plain : Places → Bool
+  abbrev weekly_plain : Ordinals → Bool
   weekly_plain numbers = not (lists_none numbers)
 
   weekly_weekday : (i : Instance)
       → (lets_part (at Weekly rule) ByDay i && (keep (no_weekday rule) (start_of rule).weekday i.weekday == (start_of rule).weekday))
       ≡ (if no_weekday rule then (i.weekday == (start_of rule).weekday)
-      else (no_weekday rule || has rule.parts.weekdays.plain i.weekday || weekly_plain (numbers_of rule.parts.weekdays i.weekday)))
+      else (no_weekday rule || contains rule.parts.weekdays.plain i.weekday || weekly_plain (numbers_of rule.parts.weekdays i.weekday)))
   weekly_weekday i =
       ap (λ x. lets_part (at Weekly rule) ByDay i && x) (put_back (no_weekday rule) (start_of rule).weekday i.weekday)
       ∙ given (no_weekday rule) (lets_part (at Weekly rule) ByDay i) (i.weekday == (start_of rule).weekday)
       (λ e. ap (λ b. b || is_listed (at Weekly rule) ByDay i) e)
       ∙ ap (λ x. if no_weekday rule then (i.weekday == (start_of rule).weekday) else x) (limited_weekday rule i (allowed.numbers refl i.weekday))
 
-  weekly : is_instance (at Weekly rule) p n ≡ is_let_in (filled (at Weekly rule)) p n
-  unfolding filled
+  weekly : is_instance (at Weekly rule) p n ≡ is_let_in (effective (at Weekly rule)) p n
+  unfolding effective
   weekly =
       let r = at Weekly rule in
       let i = instance_of r.parts n in
@@ -365,7 +365,7 @@ module _ (rule : Recurrence) (allowed : IsAllowed (at Weekly rule)) (p n : ℕ) 
       whole r (λ date. (allowed.dates date).1) (set5 r p) i (lets_part r ByDay i) true true true true (lets_part r ByMonth j) (i.period == p)
       (j.weekday == (start_of r).weekday) true true
       (weekly_dates (hour_kept r i))
-      (keep_true (lets_part r ByMonth j) ∙ month_kept (no_month r) (no_weekday r) (has r.parts.months) (start_of r).month i.month)
+      (keep_true (lets_part r ByMonth j) ∙ month_kept (no_month r) (no_weekday r) (contains r.parts.months) (start_of r).month i.month)
       (absent (no_month_day r) (is_listed r ByMonthDay i) (allowed.parts ByMonthDay refl))
       (absent (no_year_day r) (is_listed r ByYearDay i) (allowed.parts ByYearDay refl))
       (absent (no_week r) (is_listed r ByWeekNo i) (allowed.parts ByWeekNo refl))
@@ -430,8 +430,8 @@ module _ (rule : Recurrence) (allowed : IsAllowed (at Monthly rule)) (p n : ℕ)
       (λ e. ap (λ b. b || is_listed rule ByMonthDay i) (first_true (no_month_day rule) (no_year_day rule) (no_weekday rule) (no_week rule) e))
       ∙ sym (only_day takes_day rule.parts.month_days own.month_day i.month_day (days_in_month (pos i.year) i.month))
 
-  monthly : is_instance (at Monthly rule) p n ≡ is_let_in (filled (at Monthly rule)) p n
-  unfolding filled
+  monthly : is_instance (at Monthly rule) p n ≡ is_let_in (effective (at Monthly rule)) p n
+  unfolding effective
   monthly =
       let r = at Monthly rule in
       let i = instance_of r.parts n in
@@ -440,12 +440,12 @@ module _ (rule : Recurrence) (allowed : IsAllowed (at Monthly rule)) (p n : ℕ)
       (lets_part r ByMonth j) (i.period == p)
       true true (j.month_day == (start_of r).month_day)
       (monthly_dates (hour_kept r i))
-      (keep_true (lets_part r ByMonth j) ∙ monthly_month (no_month r) (no_month_day r) (no_weekday r) (has r.parts.months) (start_of r).month i.month)
+      (keep_true (lets_part r ByMonth j) ∙ monthly_month (no_month r) (no_month_day r) (no_weekday r) (contains r.parts.months) (start_of r).month i.month)
       (monthly_month_day i)
       (absent (no_year_day r) (is_listed r ByYearDay i) (allowed.parts ByYearDay refl))
       (absent (no_week r) (is_listed r ByWeekNo i) (allowed.parts ByWeekNo refl))
       (keep_true (lets_part r ByDay i)
-      ∙ or_assoc (no_weekday r) (has r.parts.weekdays.plain i.weekday)
+      ∙ or_assoc (no_weekday r) (contains r.parts.weekdays.plain i.weekday)
       (lists_nth (numbers_of r.parts.weekdays i.weekday) i.month_day (days_in_month (pos i.year) i.month)))
 
 -- YEARLY: BYDAY keeps the day where it is absent, or beside BYYEARDAY or BYMONTHDAY
@@ -507,7 +507,7 @@ yearly_listed m false false true test own_month own_day month day = refl
 yearly_listed m false false false test own_month own_day month day = refl
 
 -- BYDAY counts in the unit of note 2
-yearly_numbers : (b w m months taken : Bool) (plain : Bool) (numbers : Places) (i : Instance)
+yearly_numbers : (b w m months taken : Bool) (plain : Bool) (numbers : Ordinals) (i : Instance)
     → (taken ≡ true → b ≡ true) → (taken ≡ false → months ≡ m) → (w ≡ false → lists_none numbers ≡ true)
     → (b || (plain || lists_nth_in (if not w then Weekly else (if not m then Monthly else Yearly)) numbers i))
     ≡ (b || plain || (if not w then not (lists_none numbers)
@@ -528,7 +528,7 @@ week_unit : (w m : Bool) → w ≡ false → ◌≡◌ {A = Frequency} (if not w
 week_unit true m h = absurd (cc)
 week_unit false m h = refl
 
-months_taken : (t : Bool) (own months : ℕ) → t ≡ false → is_none (if t then only own else months) ≡ is_none months
+months_taken : (t : Bool) (own months : ℕ) → t ≡ false → is_empty (if t then only own else months) ≡ is_empty months
 months_taken true own months h = absurd (cc)
 months_taken false own months h = refl
 
@@ -583,7 +583,7 @@ module _ (rule : Recurrence) (allowed : IsAllowed (at Yearly rule)) (p n : ℕ) 
   yearly_months : (i : Instance) → (lets_part rule ByMonth (after_week i) && ((after_month i).month == (start_of rule).month))
       ≡ lets (if takes_this_month then only (start_of rule).month else rule.parts.months) i.month
   yearly_months i =
-      yearly_month (no_month_day rule) (no_year_day rule) (no_weekday rule) (no_week rule) (no_month rule) (has rule.parts.months) (start_of rule).month i.month
+      yearly_month (no_month_day rule) (no_year_day rule) (no_weekday rule) (no_week rule) (no_month rule) (contains rule.parts.months) (start_of rule).month i.month
       ∙ given takes_this_month (lets_part rule ByMonth i) (i.month == (start_of rule).month)
       (λ e. ap (λ b. b || is_listed rule ByMonth i) (last_true takes_this_day (no_month rule) e))
       ∙ sym (only_number takes_this_month rule.parts.months (start_of rule).month i.month)
@@ -601,27 +601,27 @@ module _ (rule : Recurrence) (allowed : IsAllowed (at Yearly rule)) (p n : ℕ) 
       ∙ sym (only_day takes_this_day rule.parts.month_days (start_of rule).month_day i.month_day (days_in_month (pos i.year) i.month))
 
   -- what the numbers of a weekday let in
-  abbrev yearly_nth : Instance → Places → Bool
+  abbrev yearly_nth : Instance → Ordinals → Bool
   yearly_nth i numbers =
       if not (no_week rule) then not (lists_none numbers)
-      else (if not (is_none (if takes_this_month then only (start_of rule).month else rule.parts.months)) then lists_nth numbers i.month_day
+      else (if not (is_empty (if takes_this_month then only (start_of rule).month else rule.parts.months)) then lists_nth numbers i.month_day
       (days_in_month (pos i.year) i.month)
       else lists_nth numbers i.year_day (days_in_year (pos i.year)))
 
   yearly_days : (i : Instance)
       → lets_part (at Yearly rule) ByDay i
-      ≡ (no_weekday rule || has rule.parts.weekdays.plain i.weekday || yearly_nth i (numbers_of rule.parts.weekdays i.weekday))
+      ≡ (no_weekday rule || contains rule.parts.weekdays.plain i.weekday || yearly_nth i (numbers_of rule.parts.weekdays i.weekday))
   yearly_days i =
-      yearly_numbers (no_weekday rule) (no_week rule) (no_month rule) (is_none (if takes_this_month then only (start_of rule).month else rule.parts.months))
+      yearly_numbers (no_weekday rule) (no_week rule) (no_month rule) (is_empty (if takes_this_month then only (start_of rule).month else rule.parts.months))
       takes_this_month
-      (has rule.parts.weekdays.plain i.weekday) (numbers_of rule.parts.weekdays i.weekday) i
+      (contains rule.parts.weekdays.plain i.weekday) (numbers_of rule.parts.weekdays i.weekday) i
       (λ e. third_true (no_month_day rule) (no_year_day rule) (no_weekday rule) (no_week rule) (fore_true takes_this_day (no_month rule) e))
       (months_taken takes_this_month (start_of rule).month rule.parts.months)
       (λ e. allowed.numbers (week_unit (no_week rule) (no_month rule) e) i.weekday)
 
   yearly_weekdays : (i : Instance) → (lets_part (at Yearly rule) ByDay i && ((no_week rule || own_weekday i) && true))
       ≡ (lists_no_weekday (if takes_this_weekday then only_weekday (start_of rule).weekday else rule.parts.weekdays)
-      || has (if takes_this_weekday then only_weekday (start_of rule).weekday else rule.parts.weekdays).plain i.weekday
+      || contains (if takes_this_weekday then only_weekday (start_of rule).weekday else rule.parts.weekdays).plain i.weekday
       || yearly_nth i (numbers_of (if takes_this_weekday then only_weekday (start_of rule).weekday else rule.parts.weekdays) i.weekday))
   yearly_weekdays i =
       ap (λ x. lets_part (at Yearly rule) ByDay i && x) (keep_true (no_week rule || own_weekday i)
@@ -630,15 +630,15 @@ module _ (rule : Recurrence) (allowed : IsAllowed (at Yearly rule)) (p n : ℕ) 
       (λ e. ap (λ b. b || is_listed (at Yearly rule) ByDay i) (third_true (no_month_day rule) (no_year_day rule) (no_weekday rule) (not (no_week rule)) e))
       ∙ ap (λ x. if takes_this_weekday then (i.weekday == (start_of rule).weekday) else x) (yearly_days i)
       ∙ sym (only_this_weekday takes_this_weekday rule.parts.weekdays (start_of rule).weekday i.weekday (yearly_nth i)
-      (λ e. ap (λ b. if b then not (lists_none no_places) else nth_of_none i)
+      (λ e. ap (λ b. if b then not (lists_none no_ordinals) else nth_of_none i)
       (last_true (no_month_day rule && no_year_day rule && no_weekday rule) (not (no_week rule)) e)))
     where
       nth_of_none : Instance → Bool
-      nth_of_none i = if not (is_none (if takes_this_month then only (start_of rule).month else rule.parts.months)) then lists_nth no_places i.month_day
-          (days_in_month (pos i.year) i.month) else lists_nth no_places i.year_day (days_in_year (pos i.year))
+      nth_of_none i = if not (is_empty (if takes_this_month then only (start_of rule).month else rule.parts.months)) then lists_nth no_ordinals i.month_day
+          (days_in_month (pos i.year) i.month) else lists_nth no_ordinals i.year_day (days_in_year (pos i.year))
 
-  yearly : is_instance (at Yearly rule) p n ≡ is_let_in (filled (at Yearly rule)) p n
-  unfolding filled
+  yearly : is_instance (at Yearly rule) p n ≡ is_let_in (effective (at Yearly rule)) p n
+  unfolding effective
   yearly =
       let r = at Yearly rule in
       let i = instance_of r.parts n in
@@ -649,7 +649,7 @@ module _ (rule : Recurrence) (allowed : IsAllowed (at Yearly rule)) (p n : ℕ) 
       (yearly_dates k) (yearly_months i) (yearly_month_days i) refl refl (yearly_weekdays k)
 
 -- by the frequency of the rule
-by_frequency : (f : Frequency) (r : Recurrence) → IsAllowed (at f r) → (p n : ℕ) → is_instance (at f r) p n ≡ is_let_in (filled (at f r)) p n
+by_frequency : (f : Frequency) (r : Recurrence) → IsAllowed (at f r) → (p n : ℕ) → is_instance (at f r) p n ≡ is_let_in (effective (at f r)) p n
 by_frequency Secondly r allowed p n = secondly r allowed p n
 by_frequency Minutely r allowed p n = minutely r allowed p n
 by_frequency Hourly r allowed p n = hourly r allowed p n
@@ -659,5 +659,5 @@ by_frequency Monthly r allowed p n = monthly r allowed p n
 by_frequency Yearly r allowed p n = yearly r allowed p n
 
 -- the instances that the table gives in a period are what the rule lets in there
-pub instances_by_table : (r : Recurrence) → IsAllowed r → (p n : ℕ) → is_instance r p n ≡ is_let_in (filled r) p n
+pub instances_by_table : (r : Recurrence) → IsAllowed r → (p n : ℕ) → is_instance r p n ≡ is_let_in (effective r) p n
 instances_by_table r allowed p n = by_frequency r.parts.frequency r allowed p n

@@ -3,14 +3,14 @@ use Rattle.std.proofs.Common.{◌≡◌, ℕ, zero, suc, ◌+◌, ◌-◌, ◌<�
 use Rattle.std.proofs.lemmas.Bool.Decides.{nat_tests}
 use Rattle.std.proofs.lemmas.Nat.{pow_pos}
 use Rattle.std.proofs.lemmas.Nat.Bits.{bit_at-zero}
-use Rattle.ics_values.specs.declared.places.Places.{Places}
-use Rattle.ics_values.specs.declared.places.Weekdays.{Weekdays}
-use Rattle.ics_values.specs.Sets.{is_none, has, only}
-use Rattle.ics_values.specs.Places.{no_places, no_weekdays, numbers_of, lists_no_weekday}
-use Rattle.ics_rule.specs.Filled.{only_place, only_weekday}
+use Rattle.ics_values.specs.declared.ordinals.Ordinals.{Ordinals}
+use Rattle.ics_values.specs.declared.ordinals.Weekdays.{Weekdays}
+use Rattle.ics_values.specs.Sets.{is_empty, contains, only}
+use Rattle.ics_values.specs.Ordinals.{no_ordinals, no_weekdays, numbers_of, lists_no_weekday}
+use Rattle.ics_rule.specs.EffectiveRules.{only_place, only_weekday}
 use Rattle.ics_rule.specs.Candidates.{lets, lets_place}
 use Rattle.ics_rule.specs.ByTable.{Instance, Instances}
-use Rattle.ics_rule.proofs.ScanLemmas.{has-only}
+use Rattle.ics_rule.proofs.ScanLemmas.{contains-only}
 
 pub self_test : (a : ℕ) → (a == a) ≡ true
 self_test a = grind (arith, nat_tests)
@@ -64,25 +64,25 @@ pub given : (t let_in own : Bool) → (t ≡ true → let_in ≡ true) → (let_
 given true let_in own h = ap (λ x. x && own) (h refl)
 given false let_in own h = keep_true let_in
 
-none_only : (s : ℕ) → is_none (only s) ≡ false
+none_only : (s : ℕ) → is_empty (only s) ≡ false
 none_only s = apart (only s) (pow_pos s)
   where
     apart : (n : ℕ) → 0 < n → (n == 0) ≡ false
     apart n h = grind (arith, nat_tests)
 
-has_none : (n : ℕ) → has 0 n ≡ false
+has_none : (n : ℕ) → contains 0 n ≡ false
 has_none n = ap (λ x. x == 1) (bit_at-zero n)
 
 -- a set, places and weekdays, or DTSTART's own alone
 pub only_number : (t : Bool) (s own n : ℕ) → lets (if t then only own else s) n ≡ (if t then (n == own) else lets s n)
-only_number true s own n = ap (λ x. x || has (only own) n) (none_only own) ∙ has-only own n
+only_number true s own n = ap (λ x. x || contains (only own) n) (none_only own) ∙ contains-only own n
 only_number false s own n = refl
 
-pub only_day : (t : Bool) (p : Places) (own n size : ℕ) → lets_place (if t then only_place own else p) n size ≡ (if t then (n == own) else lets_place p n size)
-only_day true p own n size = rw (none_only own, has_none (size + 1 - n), has-only own n) (or_false (n == own))
+pub only_day : (t : Bool) (p : Ordinals) (own n size : ℕ) → lets_place (if t then only_place own else p) n size ≡ (if t then (n == own) else lets_place p n size)
+only_day true p own n size = rw (none_only own, has_none (size + 1 - n), contains-only own n) (or_false (n == own))
 only_day false p own n size = refl
 
-no_number : (n : ℕ) → numbers_of no_weekdays n ≡ no_places
+no_number : (n : ℕ) → numbers_of no_weekdays n ≡ no_ordinals
 no_number zero = refl
 no_number (suc zero) = refl
 no_number (suc (suc zero)) = refl
@@ -92,11 +92,11 @@ no_number (suc (suc (suc (suc (suc zero))))) = refl
 no_number (suc (suc (suc (suc (suc (suc zero)))))) = refl
 no_number (suc (suc (suc (suc (suc (suc (suc n))))))) = refl
 
-pub only_this_weekday : (t : Bool) (ws : Weekdays) (own n : ℕ) (test : Places → Bool) → (t ≡ true → test no_places ≡ false)
-    → (lists_no_weekday (if t then only_weekday own else ws) || has (if t then only_weekday own else ws).plain n
+pub only_this_weekday : (t : Bool) (ws : Weekdays) (own n : ℕ) (test : Ordinals → Bool) → (t ≡ true → test no_ordinals ≡ false)
+    → (lists_no_weekday (if t then only_weekday own else ws) || contains (if t then only_weekday own else ws).plain n
     || test (numbers_of (if t then only_weekday own else ws) n))
-    ≡ (if t then (n == own) else (lists_no_weekday ws || has ws.plain n || test (numbers_of ws n)))
-only_this_weekday true ws own n test h = rw (none_only own, no_number n, h refl, has-only own n) (or_false (n == own))
+    ≡ (if t then (n == own) else (lists_no_weekday ws || contains ws.plain n || test (numbers_of ws n)))
+only_this_weekday true ws own n test h = rw (none_only own, no_number n, h refl, contains-only own n) (or_false (n == own))
 only_this_weekday false ws own n test h = refl
 
 -- the tests in the order of the steps, and by subject

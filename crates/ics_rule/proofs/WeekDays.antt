@@ -4,13 +4,13 @@ use Rattle.std.proofs.lemmas.Bool.Decides.{nat_tests}
 use Rattle.jiff_core.specs.Calendar.{days_in_year}
 use Rattle.jiff_core.specs.Weekday.{monday_zero}
 use Rattle.jiff_core.proofs.CalendarLemmas.{days_in_year_bounds}
-use Rattle.ics_values.specs.declared.places.Places.{Places}
-use Rattle.ics_values.specs.Sets.{has, has_wide, IsLeastFrom}
-use Rattle.ics_values.specs.Places.{lists_none}
+use Rattle.ics_values.specs.declared.ordinals.Ordinals.{Ordinals}
+use Rattle.ics_values.specs.Sets.{contains, contains_wide, IsLeastFrom}
+use Rattle.ics_values.specs.Ordinals.{lists_none}
 use Rattle.ics_values.specs.Days.{days_before_year, year_of, year_day_of, weekday_of}
 use Rattle.ics_values.proofs.DayLemmas.{days_before_year-next, year_of_is}
-use Rattle.ics_rule.specs.declared.filled.Filled.{Filled}
-use Rattle.ics_rule.specs.Locals.{week_of}
+use Rattle.ics_rule.specs.declared.effective_rule.EffectiveRule.{EffectiveRule}
+use Rattle.ics_rule.specs.PeriodNumbers.{week_of}
 use Rattle.ics_rule.specs.Candidates.{fourth_day, week_number, weeks_of_year, lets_place, lets_week}
 use Rattle.ics_rule.specs.Runs.{may_list_week}
 use Rattle.ics_rule.proofs.PeriodLemmas.{week_small}
@@ -63,14 +63,14 @@ pub between_facts : (low end m : ℕ) → (nat_le low m && nat_lt m end) ≡ tru
 between_facts low end m h = grind (arith, nat_tests)
 
 -- day k of a year is near its end, or lies in week n, of which the fourth day comes `fourth` days after the year's first and n - 1 weeks later
-pub record IsNear (weeks : Places) (fourth k n : ℕ) : Type 0 where
+pub record IsNear (weeks : Ordinals) (fourth k n : ℕ) : Type 0 where
   pub low : 1 ≤ n
   pub high : n < 54
   pub listed : may_list_week weeks n ≡ true
   pub from : 7 * n + fourth ≤ k + 10
   pub before : k + 3 < 7 * n + fourth
 
-abbrev pub IsFound : Places → ℕ → ℕ → ℕ → Type 0
+abbrev pub IsFound : Ordinals → ℕ → ℕ → ℕ → Type 0
 IsFound weeks fourth len k = (k < 3) ⊎ ((len ≤ k + 3) ⊎ ((n : ℕ) × IsNear weeks fourth k n))
 
 fourth_late : (w e : ℕ) → 9 ≤ 7 * week_of w e + w → fourth_day w e ≡ 7 * week_of w e + w - 9
@@ -81,7 +81,7 @@ unfolding year_day_of
 year_day_is f y h = rw h refl
 
 -- a week of the year that is listed, by the place of its fourth day in the year
-listed_week : (q : Filled) (f y j : ℕ) → year_of f ≡ y → f ≡ days_before_year y + j → j < days_in_year (pos y) → lists_none q.weeks ≡ false
+listed_week : (q : EffectiveRule) (f y j : ℕ) → year_of f ≡ y → f ≡ days_before_year y + j → j < days_in_year (pos y) → lists_none q.weeks ≡ false
     → lets_place q.weeks (week_number f) (weeks_of_year f) ≡ true → may_list_week q.weeks (j / 7 + 1) ≡ true
 listed_week q f y j year place inside some h =
     let day : year_day_of f - 1 ≡ j = (let d = year_day_is f y year in omega (arith, d, place)) in
@@ -92,11 +92,11 @@ listed_week q f y j year place inside some h =
     ap (λ n. lets_place q.weeks n ((days_in_year (pos y) - 1 - j % 7) / 7 + 1)) (sym number) ∙ ap (lets_place q.weeks (week_number f)) (sym weeks) ∙ h in
     elim (by_order ((days_in_year (pos y) - 1 - j % 7) / 7 + 1) 53) [
       | inl fewer ↦ let back : (days_in_year (pos y) - 1 - j % 7) / 7 + 1 + 1 - (j / 7 + 1) ≡ 53 - (j / 7 + 1) = omega (arith, fewer, bounds.0, bounds.1) in
-          first (lists_none q.weeks) (has q.weeks.front (j / 7 + 1)) (has q.weeks.back (53 - (j / 7 + 1))) (has q.weeks.back (54 - (j / 7 + 1))) some
-          (ap (λ x. lists_none q.weeks || (has q.weeks.front (j / 7 + 1) || has q.weeks.back x)) (sym back) ∙ own)
+          first (lists_none q.weeks) (contains q.weeks.front (j / 7 + 1)) (contains q.weeks.back (53 - (j / 7 + 1))) (contains q.weeks.back (54 - (j / 7 + 1))) some
+          (ap (λ x. lists_none q.weeks || (contains q.weeks.front (j / 7 + 1) || contains q.weeks.back x)) (sym back) ∙ own)
       | inr more ↦ let back : (days_in_year (pos y) - 1 - j % 7) / 7 + 1 + 1 - (j / 7 + 1) ≡ 54 - (j / 7 + 1) = omega (arith, more, bounds.0, bounds.1) in
-          second (lists_none q.weeks) (has q.weeks.front (j / 7 + 1)) (has q.weeks.back (53 - (j / 7 + 1))) (has q.weeks.back (54 - (j / 7 + 1))) some
-          (ap (λ x. lists_none q.weeks || (has q.weeks.front (j / 7 + 1) || has q.weeks.back x)) (sym back) ∙ own)
+          second (lists_none q.weeks) (contains q.weeks.front (j / 7 + 1)) (contains q.weeks.back (53 - (j / 7 + 1))) (contains q.weeks.back (54 - (j / 7 + 1))) some
+          (ap (λ x. lists_none q.weeks || (contains q.weeks.front (j / 7 + 1) || contains q.weeks.back x)) (sym back) ∙ own)
     ]
   where
     first : (n a b c : Bool) → n ≡ false → (n || (a || b)) ≡ true → (a || b || c) ≡ true
@@ -113,7 +113,7 @@ listed_week q f y j year place inside some h =
     second false false false true h l = refl
     second false false false false h l = absurd (cc)
 
-pub week_near : (q : Filled) (first len k fourth : ℕ) → first ≡ days_before_year (year_of first) → len ≡ days_in_year (pos (year_of first)) → k < len → lists_none q.weeks ≡ false
+pub week_near : (q : EffectiveRule) (first len k fourth : ℕ) → first ≡ days_before_year (year_of first) → len ≡ days_in_year (pos (year_of first)) → k < len → lists_none q.weeks ≡ false
     → fourth ≡ (monday_zero q.week_start + 10 - weekday_of first) % 7 → lets_week q (first + k) ≡ true → IsFound q.weeks fourth len k
 week_near q first len k fourth start size inside some place h =
     let w = monday_zero q.week_start in
@@ -148,45 +148,45 @@ week_near q first len k fourth start size inside some place h =
     ]
 
 -- how far a walk over the weeks has come
-pub record IsCover (weeks : Places) (fourth len n : ℕ) (days : List ℕ) : Type 0 where
-  pub within : (m : ℕ) → has_wide days m ≡ true → m < len
-  pub first : (m : ℕ) → m < 3 → has_wide days m ≡ true
-  pub last : (m : ℕ) → len ≤ m + 3 → m < len → has_wide days m ≡ true
-  pub near : (k j : ℕ) → j < n → IsNear weeks fourth k j → k < len → has_wide days k ≡ true
+pub record IsCover (weeks : Ordinals) (fourth len n : ℕ) (days : List ℕ) : Type 0 where
+  pub within : (m : ℕ) → contains_wide days m ≡ true → m < len
+  pub first : (m : ℕ) → m < 3 → contains_wide days m ≡ true
+  pub last : (m : ℕ) → len ≤ m + 3 → m < len → contains_wide days m ≡ true
+  pub near : (k j : ℕ) → j < n → IsNear weeks fourth k j → k < len → contains_wide days k ≡ true
 
-pub cover_starts : (weeks : Places) (fourth len : ℕ) (none front both : List ℕ) → 3 ≤ len → ((m : ℕ) → has_wide none m ≡ false)
-    → ((m : ℕ) → has_wide front m ≡ (has_wide none m || (nat_le 0 m && nat_lt m 3)))
-    → ((m : ℕ) → has_wide both m ≡ (has_wide front m || (nat_le (len - 3) m && nat_lt m len))) → IsCover weeks fourth len 1 both
+pub cover_starts : (weeks : Ordinals) (fourth len : ℕ) (none front both : List ℕ) → 3 ≤ len → ((m : ℕ) → contains_wide none m ≡ false)
+    → ((m : ℕ) → contains_wide front m ≡ (contains_wide none m || (nat_le 0 m && nat_lt m 3)))
+    → ((m : ℕ) → contains_wide both m ≡ (contains_wide front m || (nat_le (len - 3) m && nat_lt m len))) → IsCover weeks fourth len 1 both
 cover_starts weeks fourth len none front both long empty f b = record {
-  within = λ m h. elim (either (has_wide front m) (has_wide both m) _ (b m) h) [
-    | inl low ↦ elim (either (has_wide none m) (has_wide front m) _ (f m) low) [
+  within = λ m h. elim (either (contains_wide front m) (contains_wide both m) _ (b m) h) [
+    | inl low ↦ elim (either (contains_wide none m) (contains_wide front m) _ (f m) low) [
       | inl never ↦ absurd (let out = empty m in cc)
       | inr early ↦ let facts = between_facts 0 3 m early in omega (arith, facts.1, long)
     ]
     | inr late ↦ (between_facts (len - 3) len m late).1
   ];
-  first = λ m h. kept (has_wide front m) (has_wide both m) _ (b m) (gained (has_wide none m) (has_wide front m) _ (f m) (between_shown 0 3 m (omega arith) h));
-  last = λ m l h. gained (has_wide front m) (has_wide both m) _ (b m) (between_shown (len - 3) len m (omega (arith, l)) h);
+  first = λ m h. kept (contains_wide front m) (contains_wide both m) _ (b m) (gained (contains_wide none m) (contains_wide front m) _ (f m) (between_shown 0 3 m (omega arith) h));
+  last = λ m l h. gained (contains_wide front m) (contains_wide both m) _ (b m) (between_shown (len - 3) len m (omega (arith, l)) h);
   near = λ k j l here h. absurd (omega (arith, l, here.low));
 }
 
-pub cover_adds : (weeks : Places) (fourth len n low end : ℕ) (days more : List ℕ) → low ≡ 7 * n + fourth - 3 - 7 → end ≡ min (7 * n + fourth - 3) len
-    → ((m : ℕ) → has_wide more m ≡ (has_wide days m || (nat_le low m && nat_lt m end))) → IsCover weeks fourth len n days → IsCover weeks fourth len (n + 1) more
+pub cover_adds : (weeks : Ordinals) (fourth len n low end : ℕ) (days more : List ℕ) → low ≡ 7 * n + fourth - 3 - 7 → end ≡ min (7 * n + fourth - 3) len
+    → ((m : ℕ) → contains_wide more m ≡ (contains_wide days m || (nat_le low m && nat_lt m end))) → IsCover weeks fourth len n days → IsCover weeks fourth len (n + 1) more
 cover_adds weeks fourth len n low end days more el ee added cover = record {
-  within = λ m h. elim (either (has_wide days m) (has_wide more m) _ (added m) h) [
+  within = λ m h. elim (either (contains_wide days m) (contains_wide more m) _ (added m) h) [
     | inl old ↦ cover.within m old
     | inr new ↦ let facts = between_facts low end m new in omega (arith, facts.1, ee)
   ];
-  first = λ m h. kept (has_wide days m) (has_wide more m) _ (added m) (cover.first m h);
-  last = λ m l h. kept (has_wide days m) (has_wide more m) _ (added m) (cover.last m l h);
+  first = λ m h. kept (contains_wide days m) (contains_wide more m) _ (added m) (cover.first m h);
+  last = λ m l h. kept (contains_wide days m) (contains_wide more m) _ (added m) (cover.last m l h);
   near = λ k j l here h. elim (by_order j n) [
-    | inl old ↦ kept (has_wide days k) (has_wide more k) _ (added k) (cover.near k j old here h)
+    | inl old ↦ kept (contains_wide days k) (contains_wide more k) _ (added k) (cover.near k j old here h)
     | inr new ↦ let same : j ≡ n = omega (arith, new, l) in
-        gained (has_wide days k) (has_wide more k) _ (added k) (between_shown low end k (omega (arith, el, same, here.from)) (omega (arith, ee, same, here.before, h)))
+        gained (contains_wide days k) (contains_wide more k) _ (added k) (between_shown low end k (omega (arith, el, same, here.from)) (omega (arith, ee, same, here.before, h)))
   ];
 }
 
-pub cover_jumps : (weeks : Places) (fourth len from n : ℕ) (days : List ℕ) → ((j : ℕ) → from ≤ j → j < n → may_list_week weeks j ≡ false)
+pub cover_jumps : (weeks : Ordinals) (fourth len from n : ℕ) (days : List ℕ) → ((j : ℕ) → from ≤ j → j < n → may_list_week weeks j ≡ false)
     → IsCover weeks fourth len from days → IsCover weeks fourth len n days
 cover_jumps weeks fourth len from n days none cover = record {
   within = cover.within;
@@ -198,7 +198,7 @@ cover_jumps weeks fourth len from n days none cover = record {
   ];
 }
 
-pub covered : (weeks : Places) (fourth len n k : ℕ) (days : List ℕ) → 54 ≤ n → k < len → IsCover weeks fourth len n days → IsFound weeks fourth len k → has_wide days k ≡ true
+pub covered : (weeks : Ordinals) (fourth len n k : ℕ) (days : List ℕ) → 54 ≤ n → k < len → IsCover weeks fourth len n days → IsFound weeks fourth len k → contains_wide days k ≡ true
 covered weeks fourth len n k days all inside cover found = elim found [
   | inl early ↦ cover.first k early
   | inr (inl late) ↦ cover.last k late inside

@@ -4,19 +4,20 @@ use Rattle.jiff_core.specs.Calendar.{days_in_month, days_in_year}
 use Rattle.jiff_core.specs.Weekday.{monday_zero}
 use Rattle.ics_values.specs.declared.frequency.Frequency.{Frequency}
 use Rattle.ics_values.specs.declared.frequency.Frequency.TheVariants.{Secondly, Minutely, Hourly, Daily, Weekly, Monthly, Yearly}
-use Rattle.ics_values.specs.declared.places.Places.{Places}
-use Rattle.ics_values.specs.declared.places.WidePlaces.{WidePlaces}
+use Rattle.ics_values.specs.declared.ordinals.Ordinals.{Ordinals}
+use Rattle.ics_values.specs.declared.ordinals.WideOrdinals.{WideOrdinals}
 use Rattle.ics_values.specs.Days.{year_of, year_day_of, month_of, month_day_of, weekday_of}
-use Rattle.ics_values.specs.Sets.{is_none, has, has_wide}
-use Rattle.ics_values.specs.Places.{lists_none, lists_none_wide, lists_no_weekday, numbers_of}
+use Rattle.ics_values.specs.Sets.{is_empty, contains, contains_wide}
+use Rattle.ics_values.specs.Ordinals.{lists_none, lists_none_wide, lists_no_weekday, numbers_of}
 use Rattle.ics_values.specs.RuleParts.{RuleParts}
 use Rattle.ics_rule.specs.declared.kind.Kind.{Kind}
 use Rattle.ics_rule.specs.declared.kind.Kind.TheVariants.{Date, DateTime}
 use Rattle.ics_rule.specs.Recurrence.{Recurrence}
-use Rattle.ics_rule.specs.Locals.{number, day_of, hour_of, minute_of, second_of, period, calendar_end, rules_end}
-use Rattle.ics_rule.specs.Filled.{skips_hours}
+use Rattle.ics_rule.specs.PeriodNumbers.{day_of, hour_of, minute_of, second_of, period, calendar_end, rules_end}
+use Rattle.ics_values.specs.Locals.{number}
+use Rattle.ics_rule.specs.EffectiveRules.{skips_hours}
 use Rattle.ics_rule.specs.Candidates.{lists, lists_wide, lists_nth, fourth_day, week_number, weeks_of_year, is_stepped}
-use Rattle.ics_rule.specs.Kept.{count, is_until}
+use Rattle.ics_rule.specs.Kept.{count, is_by_until}
 use Rattle.ics_rule.specs.Table.{Part, ByMonth, ByWeekNo, ByYearDay, ByMonthDay, ByDay, ByHour, ByMinute, BySecond, BySetPos, Cell, Nothing, Limit, Expand, Note1, Note2, cell}
 
 -- An instance by its fields, which need not agree: no local is the instance 30 February, and so it is ignored. A week belongs to the year of
@@ -62,14 +63,14 @@ is_clockless DateTime = false
 
 -- the rule has no such part. The parts of the time are ignored if DTSTART is a date
 abbrev pub is_absent : Recurrence → Part → Bool
-is_absent r ByMonth = is_none r.parts.months
+is_absent r ByMonth = is_empty r.parts.months
 is_absent r ByWeekNo = lists_none r.parts.weeks
 is_absent r ByYearDay = lists_none_wide r.parts.year_days
 is_absent r ByMonthDay = lists_none r.parts.month_days
 is_absent r ByDay = lists_no_weekday r.parts.weekdays
-is_absent r ByHour = is_clockless r.kind || is_none r.parts.hours
-is_absent r ByMinute = is_clockless r.kind || is_none r.parts.minutes
-is_absent r BySecond = is_clockless r.kind || is_none r.parts.seconds
+is_absent r ByHour = is_clockless r.kind || is_empty r.parts.hours
+is_absent r ByMinute = is_clockless r.kind || is_empty r.parts.minutes
+is_absent r BySecond = is_clockless r.kind || is_empty r.parts.seconds
 is_absent r BySetPos = lists_none_wide r.parts.positions
 
 -- The unit in which BYDAY counts its weekdays. Under YEARLY it is the week with BYWEEKNO, else the month with BYMONTH, and else the year. A
@@ -79,23 +80,23 @@ weekday_unit r Yearly = if not (is_absent r ByWeekNo) then Weekly else (if not (
 weekday_unit r Monthly = Monthly
 weekday_unit r frequency = Weekly
 
-abbrev pub lists_nth_in : Frequency → Places → Instances
+abbrev pub lists_nth_in : Frequency → Ordinals → Instances
 lists_nth_in Yearly numbers i = lists_nth numbers i.year_day (days_in_year (pos i.year))
 lists_nth_in Monthly numbers i = lists_nth numbers i.month_day (days_in_month (pos i.year) i.month)
 lists_nth_in unit numbers i = false
 
 -- the part lists an instance. BYSETPOS is not one of these: it lists places in the whole set
 abbrev pub is_listed : Recurrence → Part → Instances
-is_listed r ByMonth i = has r.parts.months i.month
+is_listed r ByMonth i = contains r.parts.months i.month
 is_listed r ByWeekNo i = lists r.parts.weeks (week_number i.week) (weeks_of_year i.week)
 is_listed r ByYearDay i = lists_wide r.parts.year_days i.year_day (days_in_year (pos i.year))
 is_listed r ByMonthDay i = lists r.parts.month_days i.month_day (days_in_month (pos i.year) i.month)
 is_listed r ByDay i =
-    has r.parts.weekdays.plain i.weekday
+    contains r.parts.weekdays.plain i.weekday
     || lists_nth_in (weekday_unit r r.parts.frequency) (numbers_of r.parts.weekdays i.weekday) i
-is_listed r ByHour i = has r.parts.hours i.hour
-is_listed r ByMinute i = has r.parts.minutes i.minute
-is_listed r BySecond i = has r.parts.seconds i.second
+is_listed r ByHour i = contains r.parts.hours i.hour
+is_listed r ByMinute i = contains r.parts.minutes i.minute
+is_listed r BySecond i = contains r.parts.seconds i.second
 is_listed r BySetPos i = true
 
 -- The period's own instance: DTSTART, s, gives the fields that are finer than the period.
@@ -161,8 +162,8 @@ abbrev pub is_instance : Recurrence → ℕ → ℕ → Bool
 is_instance r p n = expanded r p (instance_of r.parts n)
 
 -- BYSETPOS lists n as the nth of a set: that many members are not later or, from the end, that many are not earlier
-abbrev pub is_nth : WidePlaces → (ℕ → Bool) → ℕ → Bool
-is_nth positions set n = has_wide positions.front (count (suc n) set) || has_wide positions.back (count calendar_end set - count n set)
+abbrev pub is_nth : WideOrdinals → (ℕ → Bool) → ℕ → Bool
+is_nth positions set n = contains_wide positions.front (count (suc n) set) || contains_wide positions.back (count calendar_end set - count n set)
 
 abbrev pub is_limited : Recurrence → ℕ → ℕ → Bool
 is_limited r p n = is_instance r p n && (is_absent r BySetPos || is_nth r.parts.positions (is_instance r p) n)
@@ -186,7 +187,7 @@ is_within_count r (Some c) n = nat_lt (count n (is_member r)) c
 abbrev pub is_kept_by_table : Recurrence → ℕ → Bool
 is_kept_by_table r n =
     n == number r.start
-    || (nat_lt n rules_end && is_member r n && is_until r.kind r.parts.until n && is_within_count r r.parts.count n)
+    || (nat_lt n rules_end && is_member r n && is_by_until r.kind r.parts.until n && is_within_count r r.parts.count n)
 
 -- A rule that the table allows: it has no part whose cell is N/A, and a numbered weekday only under MONTHLY and under YEARLY without
 -- BYWEEKNO. For dates its frequency is not finer than DAILY and its start is at midnight.

@@ -4,7 +4,7 @@ use Rattle.std.specs.Option.{option_map}
 use Rattle.ics_values.specs.declared.local.Local.{Local}
 use Rattle.ics_rule.specs.declared.cursor.Cursor.{Cursor}
 use Rattle.ics_rule.specs.Recurrence.{Recurrence}
-use Rattle.ics_rule.specs.Locals.{number}
+use Rattle.ics_values.specs.Locals.{number}
 use Rattle.ics_rule.specs.Next.{IsNextKept, NoneKept}
 use Rattle.ics_rule.specs.Cursors.{known_to, looks_from, period_count, place_of, steps_of, HasLooked, IsCursorOf}
 

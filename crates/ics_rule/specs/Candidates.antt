@@ -4,31 +4,32 @@ use Rattle.jiff_core.specs.Calendar.{days_in_month, days_in_year}
 use Rattle.jiff_core.specs.Weekday.{monday_zero}
 use Rattle.ics_values.specs.declared.frequency.Frequency.{Frequency}
 use Rattle.ics_values.specs.declared.frequency.Frequency.TheVariants.{Secondly, Minutely, Hourly, Daily, Weekly, Monthly, Yearly}
-use Rattle.ics_values.specs.declared.places.Places.{Places}
-use Rattle.ics_values.specs.declared.places.WidePlaces.{WidePlaces}
-use Rattle.ics_values.specs.Sets.{is_none, has, has_wide}
-use Rattle.ics_values.specs.Places.{lists_none, lists_none_wide, lists_no_weekday, numbers_of}
+use Rattle.ics_values.specs.declared.ordinals.Ordinals.{Ordinals}
+use Rattle.ics_values.specs.declared.ordinals.WideOrdinals.{WideOrdinals}
+use Rattle.ics_values.specs.Sets.{is_empty, contains, contains_wide}
+use Rattle.ics_values.specs.Ordinals.{lists_none, lists_none_wide, lists_no_weekday, numbers_of}
 use Rattle.ics_values.specs.Days.{year_of, year_day_of, month_of, month_day_of, weekday_of}
-use Rattle.ics_rule.specs.declared.filled.Filled.{Filled}
+use Rattle.ics_rule.specs.declared.effective_rule.EffectiveRule.{EffectiveRule}
 use Rattle.ics_rule.specs.Recurrence.{Recurrence}
-use Rattle.ics_rule.specs.Locals.{number, day_of, hour_of, minute_of, second_of, week_of, period}
-use Rattle.ics_rule.specs.Filled.{filled}
+use Rattle.ics_rule.specs.PeriodNumbers.{day_of, hour_of, minute_of, second_of, week_of, period}
+use Rattle.ics_values.specs.Locals.{number}
+use Rattle.ics_rule.specs.EffectiveRules.{effective}
 
 -- a part allows a number if it is absent or lists it
 abbrev pub lets : ℕ → ℕ → Bool
-lets s n = is_none s || has s n
+lets s n = is_empty s || contains s n
 
 -- the part lists n of the numbers 1 to size, of which n is also number size + 1 - n from the end
-abbrev pub lists : Places → ℕ → ℕ → Bool
-lists p n size = has p.front n || has p.back (size + 1 - n)
+abbrev pub lists : Ordinals → ℕ → ℕ → Bool
+lists p n size = contains p.front n || contains p.back (size + 1 - n)
 
-abbrev pub lists_wide : WidePlaces → ℕ → ℕ → Bool
-lists_wide p n size = has_wide p.front n || has_wide p.back (size + 1 - n)
+abbrev pub lists_wide : WideOrdinals → ℕ → ℕ → Bool
+lists_wide p n size = contains_wide p.front n || contains_wide p.back (size + 1 - n)
 
-abbrev pub lets_place : Places → ℕ → ℕ → Bool
+abbrev pub lets_place : Ordinals → ℕ → ℕ → Bool
 lets_place p n size = lists_none p || lists p n size
 
-abbrev pub lets_wide_place : WidePlaces → ℕ → ℕ → Bool
+abbrev pub lets_wide_place : WideOrdinals → ℕ → ℕ → Bool
 lets_wide_place p n size = lists_none_wide p || lists_wide p n size
 
 -- the week of day e, starting on weekday w, belongs to the year of its fourth day. If it begins before year 0000, that day is taken 400 years
@@ -45,16 +46,16 @@ abbrev pub weeks_of_year : ℕ → ℕ
 weeks_of_year f = (days_in_year (pos (year_of f)) - 1 - (year_day_of f - 1) % 7) / 7 + 1
 
 -- the part lists the rank of day n, of the days 1 to size, among those of its weekday, counted from the start or from the end
-abbrev pub lists_nth : Places → ℕ → ℕ → Bool
-lists_nth p n size = has p.front ((n - 1) / 7 + 1) || has p.back ((size - n) / 7 + 1)
+abbrev pub lists_nth : Ordinals → ℕ → ℕ → Bool
+lists_nth p n size = contains p.front ((n - 1) / 7 + 1) || contains p.back ((size - n) / 7 + 1)
 
 -- p are the numbers of the weekday of day e. They count in the month under MONTHLY. Under YEARLY without BYWEEKNO they count in the month with
 -- BYMONTH, and else in the year. Elsewhere a weekday with a number means the weekday (our choice)
-abbrev pub lets_numbered : Frequency → Filled → Places → ℕ → Bool
+abbrev pub lets_numbered : Frequency → EffectiveRule → Ordinals → ℕ → Bool
 lets_numbered Monthly q p e = lists_nth p (month_day_of e) (days_in_month (pos (year_of e)) (month_of e))
 lets_numbered Yearly q p e =
     if not (lists_none q.weeks) then not (lists_none p)
-    else (if not (is_none q.months) then lists_nth p (month_day_of e) (days_in_month (pos (year_of e)) (month_of e))
+    else (if not (is_empty q.months) then lists_nth p (month_day_of e) (days_in_month (pos (year_of e)) (month_of e))
     else lists_nth p (year_day_of e) (days_in_year (pos (year_of e))))
 lets_numbered Weekly q p e = not (lists_none p)
 lets_numbered Daily q p e = not (lists_none p)
@@ -63,17 +64,17 @@ lets_numbered Minutely q p e = not (lists_none p)
 lets_numbered Secondly q p e = not (lists_none p)
 
 -- a list with and without numbers is a union
-abbrev pub lets_weekday : Filled → ℕ → Bool
+abbrev pub lets_weekday : EffectiveRule → ℕ → Bool
 lets_weekday q e =
-    lists_no_weekday q.weekdays || has q.weekdays.plain (weekday_of e)
+    lists_no_weekday q.weekdays || contains q.weekdays.plain (weekday_of e)
     || lets_numbered q.frequency q (numbers_of q.weekdays (weekday_of e)) e
 
-abbrev pub lets_week : Filled → ℕ → Bool
+abbrev pub lets_week : EffectiveRule → ℕ → Bool
 lets_week q e =
     lets_place q.weeks (week_number (fourth_day (monday_zero q.week_start) e)) (weeks_of_year (fourth_day (monday_zero q.week_start) e))
 
--- each part of a filled rule that restricts the date allows day e, under every frequency (where RFC 5545 has N/A this is our choice)
-abbrev pub lets_date : Filled → ℕ → Bool
+-- each part of a effective rule that restricts the date allows day e, under every frequency (where RFC 5545 has N/A this is our choice)
+abbrev pub lets_date : EffectiveRule → ℕ → Bool
 lets_date q e =
     lets q.months (month_of e)
     && lets_place q.month_days (month_day_of e) (days_in_month (pos (year_of e)) (month_of e))
@@ -81,11 +82,11 @@ lets_date q e =
     && lets_week q e && lets_weekday q e
 
 -- each part that restricts the time of day allows local n
-abbrev pub lets_clock : Filled → ℕ → Bool
+abbrev pub lets_clock : EffectiveRule → ℕ → Bool
 lets_clock q n = lets q.hours (hour_of n) && lets q.minutes (minute_of n) && lets q.seconds (second_of n)
 
 -- the number of the period of local n, under a rule
-abbrev pub period_in : Filled → ℕ → ℕ
+abbrev pub period_in : EffectiveRule → ℕ → ℕ
 period_in q n = period q.frequency (monday_zero q.week_start) n
 
 -- p is first or later, by a multiple of the interval
@@ -93,12 +94,12 @@ abbrev pub is_stepped : ℕ → ℕ → ℕ → Bool
 is_stepped first interval p = nat_le first p && (p - first) % interval == 0
 
 -- the period of n is that of the start or later, by a multiple of the interval
-abbrev pub in_step : Filled → ℕ → ℕ → Bool
+abbrev pub in_step : EffectiveRule → ℕ → ℕ → Bool
 in_step q start n = is_stepped (period_in q start) q.interval (period_in q n)
 
--- n is a candidate of a filled rule
-abbrev pub is_candidate_in : Filled → ℕ → ℕ → Bool
+-- n is a candidate of a effective rule
+abbrev pub is_candidate_in : EffectiveRule → ℕ → ℕ → Bool
 is_candidate_in q start n = in_step q start n && lets_date q (day_of n) && lets_clock q n
 
 unfoldable pub is_candidate : Recurrence → ℕ → Bool
-is_candidate r n = is_candidate_in (filled r) (number r.start) n
+is_candidate r n = is_candidate_in (effective r) (number r.start) n

@@ -4,13 +4,14 @@ use Rattle.ics_values.specs.declared.local.Local.{Local}
 use Rattle.ics_values.specs.declared.until.Until.{Until}
 use Rattle.ics_values.specs.declared.until.Until.TheVariants as until
 use Rattle.ics_values.specs.Days.{day_index}
-use Rattle.ics_values.specs.Places.{lists_none_wide}
+use Rattle.ics_values.specs.Ordinals.{lists_none_wide}
 use Rattle.ics_rule.specs.declared.kind.Kind.{Kind}
 use Rattle.ics_rule.specs.declared.kind.Kind.TheVariants.{Date, DateTime}
-use Rattle.ics_rule.specs.declared.filled.Filled.{Filled}
+use Rattle.ics_rule.specs.declared.effective_rule.EffectiveRule.{EffectiveRule}
 use Rattle.ics_rule.specs.Recurrence.{Recurrence}
-use Rattle.ics_rule.specs.Locals.{number, day_of, calendar_end, rules_end}
-use Rattle.ics_rule.specs.Filled.{filled}
+use Rattle.ics_rule.specs.PeriodNumbers.{day_of, calendar_end, rules_end}
+use Rattle.ics_values.specs.Locals.{number}
+use Rattle.ics_rule.specs.EffectiveRules.{effective}
 use Rattle.ics_rule.specs.Candidates.{is_candidate, is_candidate_in, lists_wide, period_in}
 
 -- how many numbers below n pass the test
@@ -19,40 +20,40 @@ count zero test = 0
 count (suc n) test = count n test + (if test n then 1 else 0)
 
 -- a candidate m in the period of n
-abbrev pub is_beside : Filled → ℕ → ℕ → ℕ → Bool
+abbrev pub is_beside : EffectiveRule → ℕ → ℕ → ℕ → Bool
 is_beside q start n m = is_candidate_in q start m && period_in q m == period_in q n
 
 -- how many candidates of the period of n are not later than n, and how many the period has; those before the start count too
-abbrev pub rank : Filled → ℕ → ℕ → ℕ
+abbrev pub rank : EffectiveRule → ℕ → ℕ → ℕ
 rank q start n = count (suc n) (is_beside q start n)
 
-abbrev pub size : Filled → ℕ → ℕ → ℕ
+abbrev pub size : EffectiveRule → ℕ → ℕ → ℕ
 size q start n = count calendar_end (is_beside q start n)
 
 -- n is at one of the places that BYSETPOS lists, from the start or from the end of its period, or BYSETPOS is absent
-abbrev pub is_placed : Filled → ℕ → Bool → ℕ → Bool
+abbrev pub is_placed : EffectiveRule → ℕ → Bool → ℕ → Bool
 is_placed q start true n = true
 is_placed q start false n = lists_wide q.positions (rank q start n) (size q start n)
 
 -- a candidate that BYSETPOS allows
-abbrev pub is_chosen : Filled → ℕ → ℕ → Bool
+abbrev pub is_chosen : EffectiveRule → ℕ → ℕ → Bool
 is_chosen q start n = is_candidate_in q start n && is_placed q start (lists_none_wide q.positions) n
 
 -- the start is in the rule, whether or not it fits (our choice), and so is each later candidate that BYSETPOS allows
 unfoldable pub is_in_rule : Recurrence → ℕ → Bool
 is_in_rule r n =
     n == number r.start
-    || (nat_lt (number r.start) n && is_chosen (filled r) (number r.start) n)
+    || (nat_lt (number r.start) n && is_chosen (effective r) (number r.start) n)
 
 -- not after UNTIL. A date is compared with the date of n, and a local with n, or with its date if the event has dates (our choice). UNTIL in
 -- UTC is compared with instants if the event has date-times, and then bounds no local
-abbrev pub is_until : Kind → Option Until → ℕ → Bool
-is_until kind None n = true
-is_until kind (Some (until.Date d)) n = nat_le (day_of n) (day_index d)
-is_until Date (Some (until.Local l)) n = nat_le (day_of n) (day_index l.day)
-is_until Date (Some (until.Utc l)) n = nat_le (day_of n) (day_index l.day)
-is_until DateTime (Some (until.Local l)) n = nat_le n (number l)
-is_until DateTime (Some (until.Utc l)) n = true
+abbrev pub is_by_until : Kind → Option Until → ℕ → Bool
+is_by_until kind None n = true
+is_by_until kind (Some (until.Date d)) n = nat_le (day_of n) (day_index d)
+is_by_until Date (Some (until.Local l)) n = nat_le (day_of n) (day_index l.day)
+is_by_until Date (Some (until.Utc l)) n = nat_le (day_of n) (day_index l.day)
+is_by_until DateTime (Some (until.Local l)) n = nat_le n (number l)
+is_by_until DateTime (Some (until.Utc l)) n = true
 
 -- fewer than COUNT members are earlier
 abbrev pub is_counted : Recurrence → Option ℕ → ℕ → Bool
@@ -63,7 +64,7 @@ is_counted r (Some c) n = nat_lt (count n (is_in_rule r)) c
 unfoldable pub is_kept : Recurrence → ℕ → Bool
 is_kept r n =
     n == number r.start
-    || (nat_lt n rules_end && is_in_rule r n && is_until r.kind r.parts.until n && is_counted r r.parts.count n)
+    || (nat_lt n rules_end && is_in_rule r n && is_by_until r.kind r.parts.until n && is_counted r r.parts.count n)
 
 -- the seconds from 1970-01-01T00:00:00 to a local that is read as UTC
 abbrev pub utc_moment : Local → ℤ
@@ -82,5 +83,5 @@ until_moment r = until_moment_of r.kind r.parts.until
 
 -- what a proof unfolds to compute with a given rule
 unfoldable pub rules_on_literals : ⊤
-unfolding filled is_candidate is_in_rule is_kept
+unfolding effective is_candidate is_in_rule is_kept
 rules_on_literals = tt

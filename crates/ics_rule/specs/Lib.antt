@@ -1,13 +1,13 @@
 pub mod Recurrence
-pub mod Locals
-pub mod Filled
-pub mod Hours
-pub mod Parts
+pub mod PeriodNumbers
+pub mod EffectiveRules
+pub mod HoursKept
+pub mod NamedWeekdays
 pub mod Candidates
 pub mod IsoWeeks
-pub mod Dates
+pub mod DateParts
 pub mod Kept
-pub mod Periods
+pub mod RecurrencePeriods
 pub mod Next
 pub mod Calls
 pub mod Cursors
@@ -18,4 +18,4 @@ pub mod Table
 pub mod ByTable
 pub mod Runs
 pub mod PlainReading
-pub mod Places
+pub mod Ranks

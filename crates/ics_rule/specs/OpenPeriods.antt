@@ -2,13 +2,13 @@
 use Rattle.std.specs.Prelude.{ℕ, ◌*◌, ◌/◌, Bool, not, true, false, ◌&&◌, ◌||◌}
 use Rattle.ics_values.specs.declared.frequency.Frequency.{Frequency}
 use Rattle.ics_values.specs.declared.frequency.Frequency.TheVariants.{Secondly, Minutely, Hourly, Daily, Weekly, Monthly, Yearly}
-use Rattle.ics_values.specs.Places.{lists_none_wide}
-use Rattle.ics_rule.specs.declared.filled.Filled.{Filled}
-use Rattle.ics_rule.specs.Locals.{hour_of, minute_of, second_of}
-use Rattle.ics_rule.specs.Filled.{skips_hours, skips_minutes, skips_seconds}
+use Rattle.ics_values.specs.Ordinals.{lists_none_wide}
+use Rattle.ics_rule.specs.declared.effective_rule.EffectiveRule.{EffectiveRule}
+use Rattle.ics_rule.specs.PeriodNumbers.{hour_of, minute_of, second_of}
+use Rattle.ics_rule.specs.EffectiveRules.{skips_hours, skips_minutes, skips_seconds}
 use Rattle.ics_rule.specs.Candidates.{lets, lets_date, is_stepped}
 use Rattle.ics_rule.specs.Kept.{count}
-use Rattle.ics_rule.specs.Periods.{is_listed}
+use Rattle.ics_rule.specs.RecurrencePeriods.{is_listed}
 use Rattle.ics_rule.specs.Rounds.{seconds_of}
 
 -- how many periods a day has
@@ -22,30 +22,30 @@ per_day Monthly = 1
 per_day Yearly = 1
 
 -- the hour, minute and second of a period, as far as it has them, are allowed; n is a local of the period
-abbrev pub lets_own : Frequency → Filled → ℕ → Bool
+abbrev pub lets_own : Frequency → EffectiveRule → ℕ → Bool
 lets_own f q n =
     (skips_hours f || lets q.hours (hour_of n)) && (skips_minutes f || lets q.minutes (minute_of n))
     && (skips_seconds f || lets q.seconds (second_of n))
 
 -- the minute and second that local n has within its period, and under DAILY the hour, are allowed
-abbrev pub lets_within : Frequency → Filled → ℕ → Bool
+abbrev pub lets_within : Frequency → EffectiveRule → ℕ → Bool
 lets_within f q n =
     (not (skips_hours f) || lets q.hours (hour_of n)) && (not (skips_minutes f) || lets q.minutes (minute_of n))
     && (not (skips_seconds f) || lets q.seconds (second_of n))
 
 -- a period is a multiple of the interval after the first, and the rule allows a local of it
-abbrev pub is_open_period : Filled → ℕ → ℕ → Bool
+abbrev pub is_open_period : EffectiveRule → ℕ → ℕ → Bool
 is_open_period q first p =
     is_stepped first q.interval p && (lets_date q (p / per_day q.frequency) && lets_own q.frequency q (p * seconds_of q.frequency))
 
 -- how many allowed locals each such period has
-abbrev pub size_of_open : Filled → ℕ
+abbrev pub size_of_open : EffectiveRule → ℕ
 size_of_open q = count (seconds_of q.frequency) (lets_within q.frequency q)
 
 -- how many of them BYSETPOS allows; all of them if it is absent
-abbrev pub chosen_of_size : Filled → Bool → ℕ → ℕ
+abbrev pub chosen_of_size : EffectiveRule → Bool → ℕ → ℕ
 chosen_of_size q true size = size
 chosen_of_size q false size = count size (is_listed q.positions size)
 
-abbrev pub chosen_in_open : Filled → ℕ
+abbrev pub chosen_in_open : EffectiveRule → ℕ
 chosen_in_open q = chosen_of_size q (lists_none_wide q.positions) (size_of_open q)

@@ -3,16 +3,17 @@ use Rattle.std.specs.Prelude.{◌≡◌, ℕ, suc, ◌+◌, ◌-◌, ◌%◌, �
 use Rattle.jiff_core.specs.Weekday.{monday_zero}
 use Rattle.ics_values.specs.declared.frequency.Frequency.{Frequency}
 use Rattle.ics_values.specs.declared.frequency.Frequency.TheVariants.{Weekly, Monthly, Yearly}
-use Rattle.ics_values.specs.declared.places.Places.{Places}
-use Rattle.ics_values.specs.declared.places.WidePlaces.{WidePlaces}
-use Rattle.ics_values.specs.Sets.{has, has_wide}
-use Rattle.ics_values.specs.Places.{lists_none, numbers_of}
+use Rattle.ics_values.specs.declared.ordinals.Ordinals.{Ordinals}
+use Rattle.ics_values.specs.declared.ordinals.WideOrdinals.{WideOrdinals}
+use Rattle.ics_values.specs.Sets.{contains, contains_wide}
+use Rattle.ics_values.specs.Ordinals.{lists_none, numbers_of}
 use Rattle.ics_values.specs.Days.{year_of, month_of, month_day_of, weekday_of}
 use Rattle.ics_rule.specs.declared.kind.Kind.TheVariants.{Date}
 use Rattle.ics_rule.specs.Recurrence.{Recurrence}
-use Rattle.ics_rule.specs.Locals.{number, day_of, hour_of, minute_of, second_of, period, calendar_end}
-use Rattle.ics_rule.specs.Filled.{skips_hours, skips_minutes, skips_seconds}
-use Rattle.ics_rule.specs.Kept.{count, is_until}
+use Rattle.ics_rule.specs.PeriodNumbers.{day_of, hour_of, minute_of, second_of, period, calendar_end}
+use Rattle.ics_values.specs.Locals.{number}
+use Rattle.ics_rule.specs.EffectiveRules.{skips_hours, skips_minutes, skips_seconds}
+use Rattle.ics_rule.specs.Kept.{count, is_by_until}
 use Rattle.ics_rule.specs.Table.{Part, ByMonth, ByWeekNo, ByYearDay, ByMonthDay, ByDay, ByHour, ByMinute, BySecond, BySetPos}
 use Rattle.ics_rule.specs.ByTable.{is_absent, weekday_unit}
 
@@ -20,11 +21,11 @@ use Rattle.ics_rule.specs.ByTable.{is_absent, weekday_unit}
 abbrev pub is_nth : (ℕ → Bool) → (ℕ → Bool) → (ℕ → Bool) → ℕ → Bool
 is_nth plus minus test n = plus (count (suc n) test) || minus (count calendar_end test - count n test)
 
-abbrev pub is_place : Places → (ℕ → Bool) → ℕ → Bool
-is_place p = is_nth (has p.front) (has p.back)
+abbrev pub is_place : Ordinals → (ℕ → Bool) → ℕ → Bool
+is_place p = is_nth (contains p.front) (contains p.back)
 
-abbrev pub is_wide_place : WidePlaces → (ℕ → Bool) → ℕ → Bool
-is_wide_place p = is_nth (has_wide p.front) (has_wide p.back)
+abbrev pub is_wide_place : WideOrdinals → (ℕ → Bool) → ℕ → Bool
+is_wide_place p = is_nth (contains_wide p.front) (contains_wide p.back)
 
 -- What is missing is extracted from DTSTART if it is finer than the frequency. What it says of the date is extracted only if no part names a
 -- week or a day.
@@ -47,7 +48,7 @@ applies r part listed own = if is_absent r part then (if is_extracted r r.parts.
 
 -- BYMONTH: the months to apply the recurrence to
 abbrev pub month_applies : Recurrence → ℕ → Bool
-month_applies r n = applies r ByMonth (has r.parts.months (month_of (day_of n))) (month_of (day_of n) == month_of (day_of (number r.start)))
+month_applies r n = applies r ByMonth (contains r.parts.months (month_of (day_of n))) (month_of (day_of n) == month_of (day_of (number r.start)))
 
 -- BYMONTHDAY: the days of the month
 abbrev pub in_year : ℕ → ℕ → Bool
@@ -74,7 +75,7 @@ weekday_period r other = if is_absent r ByMonth then in_year else in_month
 
 abbrev pub is_weekday : Recurrence → ℕ → Bool
 is_weekday r e =
-    has r.parts.weekdays.plain (weekday_of e)
+    contains r.parts.weekdays.plain (weekday_of e)
     || is_place (numbers_of r.parts.weekdays (weekday_of e)) (with_weekday (weekday_period r r.parts.frequency) e) e
 
 abbrev pub weekday_applies : Recurrence → ℕ → Bool
@@ -85,7 +86,7 @@ weekday_applies r n = applies r ByDay (is_weekday r (day_of n)) (weekday_of (day
 abbrev pub fourth_of_week : ℕ → ℕ → ℕ
 fourth_of_week start e = e + 146_100 - (weekday_of e + (7 - start)) % 7
 
-abbrev pub is_week : Places → ℕ → Bool
+abbrev pub is_week : Ordinals → ℕ → Bool
 is_week weeks f = is_place weeks (with_weekday in_year f) f
 
 abbrev pub week_applies : Recurrence → ℕ → Bool
@@ -93,13 +94,13 @@ week_applies r n = applies r ByWeekNo (is_week r.parts.weeks (fourth_of_week (mo
 
 -- BYHOUR, BYMINUTE and BYSECOND: the hours, minutes and seconds
 abbrev pub hour_applies : Recurrence → ℕ → Bool
-hour_applies r n = applies r ByHour (has r.parts.hours (hour_of n)) (hour_of n == hour_of (number r.start))
+hour_applies r n = applies r ByHour (contains r.parts.hours (hour_of n)) (hour_of n == hour_of (number r.start))
 
 abbrev pub minute_applies : Recurrence → ℕ → Bool
-minute_applies r n = applies r ByMinute (has r.parts.minutes (minute_of n)) (minute_of n == minute_of (number r.start))
+minute_applies r n = applies r ByMinute (contains r.parts.minutes (minute_of n)) (minute_of n == minute_of (number r.start))
 
 abbrev pub second_applies : Recurrence → ℕ → Bool
-second_applies r n = applies r BySecond (has r.parts.seconds (second_of n)) (second_of n == second_of (number r.start))
+second_applies r n = applies r BySecond (contains r.parts.seconds (second_of n)) (second_of n == second_of (number r.start))
 
 abbrev pub all_apply : Recurrence → ℕ → Bool
 all_apply r n =
@@ -131,7 +132,7 @@ is_few_members r (Some c) n = nat_lt (count n (is_plain_member r)) c
 
 -- and none after UNTIL
 abbrev pub is_plainly_kept : Recurrence → ℕ → Bool
-is_plainly_kept r n = is_plain_member r n && is_until r.kind r.parts.until n && is_few_members r r.parts.count n
+is_plainly_kept r n = is_plain_member r n && is_by_until r.kind r.parts.until n && is_few_members r r.parts.count n
 
 -- The rules for which the plain reading is ours. DTSTART fits the rule, since dateutil leaves it out if it does not, and UNTIL and COUNT keep
 -- it. A weekday has a number only under MONTHLY and under YEARLY without BYWEEKNO. Plainly read, DTSTART gives no weekday if the rule names a
@@ -139,7 +140,7 @@ is_plainly_kept r n = is_plain_member r n && is_until r.kind r.parts.until n && 
 -- dateutil does not know, has a frequency not finer than DAILY and starts at midnight.
 pub record HasPlainReading (r : Recurrence) : Type 0 where
   pub fits : is_plain_member r (number r.start) ≡ true
-  pub in_until : is_until r.kind r.parts.until (number r.start) ≡ true
+  pub in_until : is_by_until r.kind r.parts.until (number r.start) ≡ true
   pub counted : MatchOption r.parts.count (Unit {0}) (λ c. 1 ≤ c)
   pub numbers : weekday_unit r r.parts.frequency ≡ Weekly → (w : ℕ) → lists_none (numbers_of r.parts.weekdays w) ≡ true
   pub weekly : r.parts.frequency ≡ Weekly → is_absent r ByDay ≡ true → is_dayless r ≡ true

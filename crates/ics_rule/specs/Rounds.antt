@@ -3,14 +3,14 @@ use Rattle.std.specs.Prelude.{◌≡◌, ℕ, ◌+◌, ◌-◌, ◌*◌, ◌%◌
 use Rattle.jiff_core.specs.Weekday.{monday_zero}
 use Rattle.ics_values.specs.declared.frequency.Frequency.{Frequency}
 use Rattle.ics_values.specs.declared.frequency.Frequency.TheVariants.{Secondly, Minutely, Hourly, Daily, Weekly, Monthly, Yearly}
-use Rattle.ics_values.specs.Sets.{has}
-use Rattle.ics_values.specs.Places.{lists_no_weekday}
-use Rattle.ics_rule.specs.declared.filled.Filled.{Filled}
+use Rattle.ics_values.specs.Sets.{contains}
+use Rattle.ics_values.specs.Ordinals.{lists_no_weekday}
+use Rattle.ics_rule.specs.declared.effective_rule.EffectiveRule.{EffectiveRule}
 use Rattle.ics_rule.specs.declared.cursor.Cursor.{Cursor}
-use Rattle.ics_rule.specs.Locals.{day_of}
+use Rattle.ics_rule.specs.PeriodNumbers.{day_of}
 use Rattle.ics_rule.specs.Candidates.{lets_date, lets_clock, is_stepped, period_in}
 use Rattle.ics_rule.specs.Kept.{count, is_chosen}
-use Rattle.ics_rule.specs.Periods.{first_local}
+use Rattle.ics_rule.specs.RecurrencePeriods.{first_local}
 use Rattle.ics_rule.specs.Cursors.{is_met, fresh, IsCursorIn, HasLookedIn}
 use Rattle.ics_rule.specs.Searches.{LooksOrStays}
 use Rattle.ics_rule.specs.Runs.{goes_by_months}
@@ -36,14 +36,14 @@ calendar_periods Monthly = 4_800
 calendar_periods Yearly = 400
 
 -- these periods are once or more the calendar's 400 years, and a multiple of the interval
-pub record IsCalendarRound (q : Filled) (periods : ℕ) : Type 0 where
+pub record IsCalendarRound (q : EffectiveRule) (periods : ℕ) : Type 0 where
   pub cycles : ℕ
   pub some : 1 ≤ cycles
   pub whole : periods ≡ cycles * calendar_periods q.frequency
   pub step : periods % q.interval ≡ 0
 
 -- these periods last these seconds, and what the rule allows repeats after them
-pub record IsRound (q : Filled) (periods seconds : ℕ) : Type 0 where
+pub record IsRound (q : EffectiveRule) (periods seconds : ℕ) : Type 0 where
   pub some : 1 ≤ periods
   pub step : (first p : ℕ) → first ≤ p → is_stepped first q.interval (p + periods) ≡ is_stepped first q.interval p
   pub period : (n : ℕ) → period_in q (n + seconds) ≡ period_in q n + periods
@@ -51,18 +51,18 @@ pub record IsRound (q : Filled) (periods seconds : ℕ) : Type 0 where
   pub let_in : (n : ℕ) → (lets_date q (day_of (n + seconds)) && lets_clock q (n + seconds)) ≡ (lets_date q (day_of n) && lets_clock q n)
 
 -- of the parts of the date only BYMONTH and BYMONTHDAY are there, and its days are in each month, counted from the first
-pub record IsFlat (q : Filled) : Type 0 where
+pub record IsFlat (q : EffectiveRule) : Type 0 where
   pub goes : goes_by_months q ≡ true
   pub alone : lists_no_weekday q.weekdays ≡ true
-  pub back : (n : ℕ) → has q.month_days.back n ≡ false
-  pub front : (n : ℕ) → 29 ≤ n → has q.month_days.front n ≡ false
+  pub back : (n : ℕ) → contains q.month_days.back n ≡ false
+  pub front : (n : ℕ) → 29 ≤ n → contains q.month_days.front n ≡ false
 
 -- how many locals are chosen before the period with a number
-abbrev pub chosen_to : Filled → ℕ → ℕ → ℕ
+abbrev pub chosen_to : EffectiveRule → ℕ → ℕ → ℕ
 chosen_to q start p = count (first_local q.frequency (monday_zero q.week_start) p) (is_chosen q start)
 
 -- from a step on, each so many periods have as many chosen locals as the first of these rounds
-pub record IsEvenRound (q : Filled) (start periods : ℕ) : Type 0 where
+pub record IsEvenRound (q : EffectiveRule) (start periods : ℕ) : Type 0 where
   pub some : 1 ≤ periods
   pub step : (first p : ℕ) → first ≤ p → is_stepped first q.interval (p + periods) ≡ is_stepped first q.interval p
   pub total : (begin rounds before one : ℕ) → 2 ≤ begin → is_stepped (period_in q start) q.interval begin ≡ true → 1 ≤ rounds
@@ -71,7 +71,7 @@ pub record IsEvenRound (q : Filled) (start periods : ℕ) : Type 0 where
       → (before ≤ one) × (before + rounds * (one - before) ≡ chosen_to q start (begin + rounds * periods))
 
 -- the periods from begin to end are a whole round or more, and begin is not the first of all
-pub record HasRound (q : Filled) (begin end : ℕ) : Type 0 where
+pub record HasRound (q : EffectiveRule) (begin end : ℕ) : Type 0 where
   pub periods : ℕ
   pub seconds : ℕ
   pub round : IsRound q periods seconds
@@ -79,7 +79,7 @@ pub record HasRound (q : Filled) (begin end : ℕ) : Type 0 where
   pub far : begin + periods ≤ end
 
 -- how looks up to its place change a cursor under COUNT c
-pub record IsPassedTo (q : Filled) (start c : ℕ) (before now : Cursor) : Type 0 where
+pub record IsPassedTo (q : EffectiveRule) (start c : ℕ) (before now : Cursor) : Type 0 where
   pub own : IsCursorIn q start (Some c) now
   pub moved : LooksOrStays before now
   pub looked : (a b : ℕ) → before.place < b → HasLookedIn q start (Some c) before a b → now.steps ≤ count (fresh now.held) (is_met q start a b)

@@ -3,15 +3,15 @@ use Rattle.std.specs.Prelude.{◌≡◌, ℕ, ◌+◌, ◌-◌, ◌/◌, ◌%◌
 use Rattle.jiff_core.specs.Calendar.{days_in_month, days_in_year, days_of_months}
 use Rattle.ics_values.specs.declared.frequency.Frequency.{Frequency}
 use Rattle.ics_values.specs.declared.frequency.Frequency.TheVariants.{Secondly, Minutely, Hourly, Daily, Weekly, Monthly, Yearly}
-use Rattle.ics_values.specs.declared.places.Weekdays.{Weekdays}
-use Rattle.ics_values.specs.declared.places.Places.{Places}
-use Rattle.ics_values.specs.Sets.{is_none, has}
-use Rattle.ics_values.specs.Places.{lists_none, lists_none_wide, lists_no_weekday, numbers_of}
+use Rattle.ics_values.specs.declared.ordinals.Weekdays.{Weekdays}
+use Rattle.ics_values.specs.declared.ordinals.Ordinals.{Ordinals}
+use Rattle.ics_values.specs.Sets.{is_empty, contains}
+use Rattle.ics_values.specs.Ordinals.{lists_none, lists_none_wide, lists_no_weekday, numbers_of}
 use Rattle.ics_values.specs.Days.{days_before_year, year_of, month_of, month_day_of, weekday_of}
-use Rattle.ics_rule.specs.declared.filled.Filled.{Filled}
+use Rattle.ics_rule.specs.declared.effective_rule.EffectiveRule.{EffectiveRule}
 use Rattle.ics_rule.specs.declared.runs.Run.{Run}
 use Rattle.ics_rule.specs.Candidates.{lets, lists, lists_nth}
-use Rattle.ics_rule.specs.Periods.{month_start}
+use Rattle.ics_rule.specs.RecurrencePeriods.{month_start}
 
 -- day m of a period is in a run
 abbrev pub has_run : Run → ℕ → Bool
@@ -23,7 +23,7 @@ weekday_in r i = (r.weekday + i) % 7
 
 -- BYDAY lists weekday d, or lists by number day n of a run of size days, which has that weekday
 abbrev pub lists_weekday : Weekdays → ℕ → ℕ → ℕ → Bool
-lists_weekday w d n size = has w.plain d || lists_nth (numbers_of w d) n size
+lists_weekday w d n size = contains w.plain d || lists_nth (numbers_of w d) n size
 
 -- the run is month m of year y, in a period that begins at a first day
 pub record IsMonth (r : Run) (first y m : ℕ) : Type 0 where
@@ -35,22 +35,22 @@ pub record IsMonth (r : Run) (first y m : ℕ) : Type 0 where
   pub weekday : r.weekday ≡ weekday_of (first + r.start)
 
 -- BYMONTHDAY lists day n of a month of size days. If it is absent, BYDAY lists the day, whose weekday is d
-abbrev pub lists_in_month : Filled → ℕ → ℕ → ℕ → Bool
+abbrev pub lists_in_month : EffectiveRule → ℕ → ℕ → ℕ → Bool
 lists_in_month q d n size = if lists_none q.month_days then lists_weekday q.weekdays d n size else lists q.month_days n size
 
 -- day e is in a month that BYMONTH allows, and is listed there
-abbrev pub is_in_month : Filled → ℕ → Bool
+abbrev pub is_in_month : EffectiveRule → ℕ → Bool
 is_in_month q e =
     lets q.months (month_of e) && lists_in_month q (weekday_of e) (month_day_of e) (days_in_month (pos (year_of e)) (month_of e))
 
 -- BYMONTHDAY or BYDAY is there, and neither BYYEARDAY nor BYWEEKNO
-abbrev pub goes_by_months : Filled → Bool
+abbrev pub goes_by_months : EffectiveRule → Bool
 goes_by_months q = lists_none q.weeks && lists_none_wide q.year_days && not (lists_none q.month_days && lists_no_weekday q.weekdays)
 
 -- the numbers of BYDAY count in the month
-abbrev pub counts_in_month : Filled → Frequency → Bool
+abbrev pub counts_in_month : EffectiveRule → Frequency → Bool
 counts_in_month q Monthly = true
-counts_in_month q Yearly = not (is_none q.months && lists_none q.month_days)
+counts_in_month q Yearly = not (is_empty q.months && lists_none q.month_days)
 counts_in_month q Weekly = false
 counts_in_month q Daily = false
 counts_in_month q Hourly = false
@@ -68,5 +68,5 @@ IsSpan Minutely p first len = Unit {0}
 IsSpan Secondly p first len = Unit {0}
 
 -- week n of a year of 52 weeks, or of 53, is listed
-abbrev pub may_list_week : Places → ℕ → Bool
-may_list_week w n = has w.front n || has w.back (53 - n) || has w.back (54 - n)
+abbrev pub may_list_week : Ordinals → ℕ → Bool
+may_list_week w n = contains w.front n || contains w.back (53 - n) || contains w.back (54 - n)

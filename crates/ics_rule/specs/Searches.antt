@@ -2,55 +2,55 @@
 use Rattle.std.specs.Prelude.{◌≡◌, ℕ, suc, ◌+◌, ◌<◌, ◌≤◌, ◌⊎◌, Bool, ◌&&◌, ◌==◌, nat_lt, Option, Some, None, MatchOption, true, false}
 use Rattle.jiff_core.specs.Weekday.{monday_zero}
 use Rattle.ics_values.specs.Sets.{IsLeastFrom}
-use Rattle.ics_rule.specs.declared.filled.Filled.{Filled}
-use Rattle.ics_rule.specs.declared.period.Period.{Period}
+use Rattle.ics_rule.specs.declared.effective_rule.EffectiveRule.{EffectiveRule}
+use Rattle.ics_rule.specs.declared.recurrence_period.RecurrencePeriod.{RecurrencePeriod}
 use Rattle.ics_rule.specs.declared.cursor.Cursor.{Cursor}
-use Rattle.ics_rule.specs.Locals.{day_of}
+use Rattle.ics_rule.specs.PeriodNumbers.{day_of}
 use Rattle.ics_rule.specs.Candidates.{is_stepped, lets_date, lets_clock, period_in}
 use Rattle.ics_rule.specs.Kept.{count, is_chosen}
-use Rattle.ics_rule.specs.Periods.{first_local, IsPeriodOf}
+use Rattle.ics_rule.specs.RecurrencePeriods.{first_local, IsPeriodOf}
 use Rattle.ics_rule.specs.Cursors.{is_met, fresh, HasBegun, HeldBy, CountedBy, HasLookedIn, IsCounted}
 
 -- the rule allows no local from one on and before another
-abbrev pub NoneLetIn : Filled → ℕ → ℕ → Type 0
+abbrev pub NoneLetIn : EffectiveRule → ℕ → ℕ → Type 0
 NoneLetIn q from before = (n : ℕ) → from ≤ n → n < before → (lets_date q (day_of n) && lets_clock q n) ≡ false
 
 -- a period is a multiple of the interval after the first, and the earlier ones of this kind from a number on have nothing that the rule
 -- allows
-pub record IsNextOpen (q : Filled) (first number next : ℕ) : Type 0 where
+pub record IsNextOpen (q : EffectiveRule) (first number next : ℕ) : Type 0 where
   pub step : is_stepped first q.interval next ≡ true
   pub low : number ≤ next
   pub none : (n : ℕ) → number ≤ period_in q n → period_in q n < next → is_stepped first q.interval (period_in q n) ≡ true → (lets_date q (day_of n) && lets_clock q n) ≡ false
 
 -- a local of the period with a number is a candidate that BYSETPOS allows
-abbrev pub is_chosen_within : Filled → ℕ → ℕ → ℕ → Bool
+abbrev pub is_chosen_within : EffectiveRule → ℕ → ℕ → ℕ → Bool
 is_chosen_within q start number n = period_in q n == number && is_chosen q start n
 
 -- under COUNT c: of what the rule chooses from the start on, few enough are earlier than n for n to be kept
-abbrev pub is_few : Filled → ℕ → ℕ → ℕ → Bool
+abbrev pub is_few : EffectiveRule → ℕ → ℕ → ℕ → Bool
 is_few q start c n = nat_lt (count n (is_chosen q start) + 1) (c + count (suc start) (is_chosen q start))
 
 -- a local after the start that the rule has, but for UNTIL
-abbrev pub is_wanted : Filled → ℕ → Option ℕ → ℕ → Bool
+abbrev pub is_wanted : EffectiveRule → ℕ → Option ℕ → ℕ → Bool
 is_wanted q start None n = is_chosen q start n
 is_wanted q start (Some c) n = is_chosen q start n && is_few q start c n
 
 -- there is none from a place on and earlier than a bound
-abbrev pub NoneWanted : Filled → ℕ → Option ℕ → ℕ → ℕ → Type 0
+abbrev pub NoneWanted : EffectiveRule → ℕ → Option ℕ → ℕ → ℕ → Type 0
 NoneWanted q start o place stop = (n : ℕ) → place ≤ n → n < stop → is_wanted q start o n ≡ false
 
 -- the answer is the next one from a place on, or None and there is none earlier than a bound
-abbrev pub IsNextWanted : Filled → ℕ → Option ℕ → ℕ → ℕ → Option ℕ → Type 0
+abbrev pub IsNextWanted : EffectiveRule → ℕ → Option ℕ → ℕ → ℕ → Option ℕ → Type 0
 IsNextWanted q start o place stop found =
     MatchOption found (NoneWanted q start o place stop) (λ n. IsLeastFrom (is_wanted q start o) place n)
 
 -- n is the next one, and earlier than a bound
-pub record IsNextBefore (q : Filled) (start : ℕ) (o : Option ℕ) (place stop n : ℕ) : Type 0 where
+pub record IsNextBefore (q : EffectiveRule) (start : ℕ) (o : Option ℕ) (place stop n : ℕ) : Type 0 where
   pub least : IsLeastFrom (is_wanted q start o) place n
   pub in_bound : n < stop
 
 -- the period held is that of local n
-abbrev pub HoldsPeriodOf : Filled → Option Period → ℕ → Type 0
+abbrev pub HoldsPeriodOf : EffectiveRule → Option RecurrencePeriod → ℕ → Type 0
 HoldsPeriodOf q held n = MatchOption held ⊥ (λ p. p.number ≡ period_in q n)
 
 -- a cursor has looked at a period, or holds what it held
@@ -58,7 +58,7 @@ abbrev pub LooksOrStays : Cursor → Cursor → Type 0
 LooksOrStays before now = ((now.held ≡ before.held) × (now.steps ≡ before.steps)) ⊎ (before.steps < now.steps)
 
 -- how a search of the periods up to a bound changes a cursor
-pub record IsWalked (q : Filled) (start : ℕ) (o : Option ℕ) (stop : ℕ) (answer : Option ℕ) (before now : Cursor) : Type 0 where
+pub record IsWalked (q : EffectiveRule) (start : ℕ) (o : Option ℕ) (stop : ℕ) (answer : Option ℕ) (before now : Cursor) : Type 0 where
   pub held : HeldBy q now.held stop
   pub found : MatchOption answer (Unit {0}) (λ n. HeldBy q now.held n × ((1 ≤ now.steps) × HoldsPeriodOf q now.held n))
   pub moved : LooksOrStays before now
@@ -68,33 +68,33 @@ pub record IsWalked (q : Filled) (start : ℕ) (o : Option ℕ) (stop : ℕ) (an
   pub looked : (a b : ℕ) → stop ≤ b → HasLookedIn q start o before a b → now.steps ≤ count (fresh now.held) (is_met q start a b)
 
 -- each look counts one period that no earlier look has reached
-abbrev pub LooksOnce : ℕ → ℕ → Option Period → ℕ → Option Period → Type 0
+abbrev pub LooksOnce : ℕ → ℕ → Option RecurrencePeriod → ℕ → Option RecurrencePeriod → Type 0
 LooksOnce number steps held after now =
     (met : ℕ → Bool) → met number ≡ true → steps ≤ count (fresh held) met → after ≤ count (fresh now) met
 
 -- nothing is chosen in the periods from one number on and before another
-pub record IsPassed (q : Filled) (start from before : ℕ) : Type 0 where
+pub record IsPassed (q : EffectiveRule) (start from before : ℕ) : Type 0 where
   pub up : from ≤ before
   pub none : (n : ℕ) → from ≤ period_in q n → period_in q n < before → is_chosen q start n ≡ false
 
 -- under COUNT: the period held is the one with a number, or an earlier one from whose next step on nothing is chosen before that; or none is
 -- held, and the number is that of the start's period
-abbrev pub IsTurnOf : Filled → ℕ → ℕ → ℕ → Cursor → Type 0
+abbrev pub IsTurnOf : EffectiveRule → ℕ → ℕ → ℕ → Cursor → Type 0
 IsTurnOf q start c number cursor =
     MatchOption cursor.held (number ≡ period_in q start)
     (λ p. IsPeriodOf q p × (IsCounted q start c cursor.counted cursor.limit p × ((p.number ≡ number) ⊎ IsPassed q start (p.number + q.interval) number)))
 
 -- COUNT keeps no local from the period with a number on
-abbrev pub AllCounted : Filled → ℕ → ℕ → ℕ → Type 0
+abbrev pub AllCounted : EffectiveRule → ℕ → ℕ → ℕ → Type 0
 AllCounted q start c number = (n : ℕ) → first_local q.frequency (monday_zero q.week_start) number ≤ n → is_few q start c n ≡ false
 
 -- the period with a number is held
-pub record IsTurned (q : Filled) (start c turn : ℕ) (cursor : Cursor) (p : Period) : Type 0 where
+pub record IsTurned (q : EffectiveRule) (start c turn : ℕ) (cursor : Cursor) (p : RecurrencePeriod) : Type 0 where
   pub held : cursor.held ≡ Some p
   pub product : IsPeriodOf q p
   pub number : p.number ≡ turn
   pub counted : IsCounted q start c cursor.counted cursor.limit p
 
 -- a cursor after a look at a period
-abbrev pub after_look : Cursor → Period → ℕ → Cursor
+abbrev pub after_look : Cursor → RecurrencePeriod → ℕ → Cursor
 after_look c p counted = record { place = c.place; steps = c.steps + 1; held = Some p; counted = counted; limit = c.limit }

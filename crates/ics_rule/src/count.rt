@@ -2,15 +2,15 @@
 ghost use Rattle.std.specs.Prelude.{◌≡◌, ℕ, ◌<◌, ◌≤◌, ◌+◌, ◌*◌, ◌^◌, MatchOption, Some, true};
 ghost use Rattle.jiff_core.specs.Weekday.{monday_zero};
 ghost use Rattle.ics_rule.specs.Candidates.{is_stepped, period_in};
-ghost use Rattle.ics_rule.specs.Periods.{first_local};
+ghost use Rattle.ics_rule.specs.RecurrencePeriods.{first_local};
 ghost use Rattle.ics_rule.specs.Cursors.{HasBegun, IsCursorIn};
 ghost use Rattle.ics_rule.specs.Searches.{IsNextWanted, IsWalked, LooksOrStays, LooksOnce, IsTurnOf, AllCounted, IsTurned};
 
 use crate::cursor::Cursor;
-use crate::filled::Filled;
+use crate::effective_rule::EffectiveRule;
 use crate::never::chooses_none;
 use crate::pass::next_open_step;
-use crate::period::Period;
+use crate::recurrence_period::RecurrencePeriod;
 use crate::step::period_of;
 
 /// 10000-01-01T00:00:00, the end of the calendar.
@@ -21,11 +21,11 @@ impl Cursor {
     /// is earlier.
     pub(crate) fn turn_to(
         &mut self,
-        parts: &Filled,
+        parts: &EffectiveRule,
         start: u64,
         count: u32,
         number: u64,
-    ) -> Option<Period>
+    ) -> Option<RecurrencePeriod>
         requires interval { 1 ≤ parts.now.interval }
         requires count { 1 ≤ count }
         requires start { start < 309289708800 }
@@ -64,7 +64,7 @@ impl Cursor {
     /// local before `stop`.
     pub(crate) fn walk_counting(
         &mut self,
-        parts: &Filled,
+        parts: &EffectiveRule,
         start: u64,
         count: u32,
         stop: u64,

@@ -3,11 +3,11 @@ ghost use Rattle.std.specs.Prelude.{◌≡◌, ℕ, ◌<◌, ◌≤◌, ◌+◌,
 ghost use Rattle.jiff_core.specs.Weekday.{monday_zero};
 ghost use Rattle.ics_values.specs.Days.{IsDayNumber, day_index};
 ghost use Rattle.ics_values.specs.RuleParts.{IsUntil};
-ghost use Rattle.ics_rule.specs.Kept.{is_until};
+ghost use Rattle.ics_rule.specs.Kept.{is_by_until};
 
-use crate::filled::Filled;
+use crate::effective_rule::EffectiveRule;
 use crate::kind::Kind;
-use crate::period::Period;
+use crate::recurrence_period::RecurrencePeriod;
 use crate::rule::Rule;
 use crate::step::{local_of, number};
 use ics_values::{Local, Until};
@@ -26,7 +26,7 @@ fn after_day(day: i32) -> u64
 /// The first local after UNTIL, or after the last of the rules.
 fn until_end(kind: Kind, until: Option<Until>) -> u64
     requires { MatchOption until (Unit {0}) IsUntil }
-    ensures { (n : ℕ) → n < 309289708800 → is_until kind until n ≡ nat_lt n result }
+    ensures { (n : ℕ) → n < 309289708800 → is_by_until kind until n ≡ nat_lt n result }
 {
     match until {
         None => RULES_END,
@@ -48,7 +48,7 @@ fn until_end(kind: Kind, until: Option<Until>) -> u64
 pub struct Cursor {
     pub(crate) place: u64,
     pub(crate) steps: u64,
-    pub(crate) held: Option<Period>,
+    pub(crate) held: Option<RecurrencePeriod>,
     /// Under COUNT, how many candidates that BYSETPOS allows are earlier than the period held.
     pub(crate) counted: u64,
     /// Under COUNT, a kept local has fewer than this many of them before it.
@@ -57,11 +57,11 @@ pub struct Cursor {
 
 impl Cursor {
     ghost use Rattle.ics_values.specs.Sets.{IsLeastFrom};
-    ghost use Rattle.ics_rule.specs.Locals.{number};
+    ghost use Rattle.ics_values.specs.Locals.{number};
     ghost use Rattle.ics_rule.specs.Recurrence.{Recurrence};
-    ghost use Rattle.ics_rule.specs.Filled.{filled};
+    ghost use Rattle.ics_rule.specs.EffectiveRules.{effective};
     ghost use Rattle.ics_rule.specs.Candidates.{period_in};
-    ghost use Rattle.ics_rule.specs.Periods.{first_local, IsPeriodOf};
+    ghost use Rattle.ics_rule.specs.RecurrencePeriods.{first_local, IsPeriodOf};
     ghost use Rattle.ics_rule.specs.Next.{IsNextKept, NoneKept};
     ghost use Rattle.ics_rule.specs.Calls.{IsAnswer, LooksUpTo};
     ghost use Rattle.ics_rule.specs.Cursors.{known_to, period_count, place_of, steps_of, looks_from, IsCursorOf, HasCounted, HasLooked, IsCursorIn, HasLookedIn};
@@ -85,7 +85,7 @@ impl Cursor {
     }
 
     /// Looks at the period with a number that no earlier look has reached.
-    pub(crate) fn look_at(&mut self, parts: &Filled, number: u64, counted: u64) -> Period
+    pub(crate) fn look_at(&mut self, parts: &EffectiveRule, number: u64, counted: u64) -> RecurrencePeriod
         requires low { period_in parts.now 0 ≤ number }
         requires reach { first_local parts.now.frequency (monday_zero parts.now.week_start) number ≤ 309289708800 }
         requires room { self.old.steps < 2 ^ 63 }
@@ -94,7 +94,7 @@ impl Cursor {
         ensures cursor { self.new ≡ after_look self.old result counted }
     {
         let mut steps = self.steps;
-        let looked = &Period::new(parts, number, &mut steps);
+        let looked = &RecurrencePeriod::new(parts, number, &mut steps);
         self.steps = steps;
         self.counted = counted;
         self.held = Some(*looked);
@@ -107,10 +107,10 @@ impl Cursor {
         requires after { start < self.old.place }
         requires place { self.old.place < stop }
         requires stop { stop ≤ 309289708800 }
-        requires own { IsCursorIn (filled rule.now) start rule.now.parts.count self.old }
-        ensures next { IsNextWanted (filled rule.now) start rule.now.parts.count self.old.place stop result }
+        requires own { IsCursorIn (effective rule.now) start rule.now.parts.count self.old }
+        ensures next { IsNextWanted (effective rule.now) start rule.now.parts.count self.old.place stop result }
         ensures place { self.new.place ≡ self.old.place }
-        ensures walked { IsWalked (filled rule.now) start rule.now.parts.count stop result self.old self.new }
+        ensures walked { IsWalked (effective rule.now) start rule.now.parts.count stop result self.old self.new }
     {
         match rule.parts.count() {
             None => self.walk_freely(&rule.whole, start, stop),
@@ -124,17 +124,17 @@ impl Cursor {
         requires after { start < self.old.place }
         requires stop { stop ≤ end }
         requires end { end ≤ 309289708800 }
-        requires own { IsCursorIn (filled rule.now) start rule.now.parts.count self.old }
+        requires own { IsCursorIn (effective rule.now) start rule.now.parts.count self.old }
         ensures next { MatchOption result
-            (NoneWanted (filled rule.now) start rule.now.parts.count self.old.place stop × (self.new.place ≡ max self.old.place end))
-            (λ n. IsNextBefore (filled rule.now) start rule.now.parts.count self.old.place stop n × (self.new.place ≡ n + 1)) }
-        ensures own { IsCursorIn (filled rule.now) start rule.now.parts.count self.new }
+            (NoneWanted (effective rule.now) start rule.now.parts.count self.old.place stop × (self.new.place ≡ max self.old.place end))
+            (λ n. IsNextBefore (effective rule.now) start rule.now.parts.count self.old.place stop n × (self.new.place ≡ n + 1)) }
+        ensures own { IsCursorIn (effective rule.now) start rule.now.parts.count self.new }
         ensures rise { self.old.steps ≤ self.new.steps }
         ensures shown { MatchOption result (Unit {0}) (λ n. start < n → 1 ≤ self.new.steps) }
         ensures counts { MatchOption result (Unit {0})
-            (λ n. start < n → period_in (filled rule.now) self.old.place < period_in (filled rule.now) n → self.old.steps < self.new.steps) }
-        ensures looked { (a b : ℕ) → known_to result end ≤ b → HasLookedIn (filled rule.now) start rule.now.parts.count self.old a b
-            → HasLookedIn (filled rule.now) start rule.now.parts.count self.new a b }
+            (λ n. start < n → period_in (effective rule.now) self.old.place < period_in (effective rule.now) n → self.old.steps < self.new.steps) }
+        ensures looked { (a b : ℕ) → known_to result end ≤ b → HasLookedIn (effective rule.now) start rule.now.parts.count self.old a b
+            → HasLookedIn (effective rule.now) start rule.now.parts.count self.new a b }
     {
         let place = self.place;
         if stop <= place {
@@ -155,17 +155,17 @@ impl Cursor {
     pub(crate) fn next_number(&mut self, rule: &Rule, start: u64, end: u64) -> Option<u64>
         requires start { start ≡ number rule.now.start }
         requires end { end ≤ 309289708800 }
-        requires own { IsCursorIn (filled rule.now) start rule.now.parts.count self.old }
+        requires own { IsCursorIn (effective rule.now) start rule.now.parts.count self.old }
         ensures next { MatchOption result
             (NoneKept rule.now self.old.place end × (self.new.place ≡ max self.old.place end))
             (λ n. IsNextKept rule.now self.old.place end n × (self.new.place ≡ n + 1)) }
-        ensures own { IsCursorIn (filled rule.now) start rule.now.parts.count self.new }
+        ensures own { IsCursorIn (effective rule.now) start rule.now.parts.count self.new }
         ensures rise { self.old.steps ≤ self.new.steps }
         ensures shown { MatchOption result (Unit {0}) (λ n. start < n → 1 ≤ self.new.steps) }
         ensures counts { MatchOption result (Unit {0})
-            (λ n. start < n → period_in (filled rule.now) self.old.place < period_in (filled rule.now) n → self.old.steps < self.new.steps) }
-        ensures looked { (a b : ℕ) → known_to result end ≤ b → HasLookedIn (filled rule.now) start rule.now.parts.count self.old a b
-            → HasLookedIn (filled rule.now) start rule.now.parts.count self.new a b }
+            (λ n. start < n → period_in (effective rule.now) self.old.place < period_in (effective rule.now) n → self.old.steps < self.new.steps) }
+        ensures looked { (a b : ℕ) → known_to result end ≤ b → HasLookedIn (effective rule.now) start rule.now.parts.count self.old a b
+            → HasLookedIn (effective rule.now) start rule.now.parts.count self.new a b }
     {
         let place = self.place;
         if place <= start {

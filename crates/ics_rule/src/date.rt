@@ -2,18 +2,18 @@
 ghost use Rattle.std.specs.Prelude.{◌≡◌, ℕ, ◌<◌, ◌≤◌, ◌+◌, ◌*◌, ◌^◌, ◌&&◌, ◌||◌, pos};
 ghost use Rattle.jiff_core.specs.Calendar.{days_in_year, days_in_month};
 ghost use Rattle.jiff_core.specs.Weekday.{monday_zero};
-ghost use Rattle.ics_values.specs.Sets.{has, is_none};
-ghost use Rattle.ics_values.specs.Places.{lists_none, lists_no_weekday};
+ghost use Rattle.ics_values.specs.Sets.{contains, is_empty};
+ghost use Rattle.ics_values.specs.Ordinals.{lists_none, lists_no_weekday};
 ghost use Rattle.ics_values.specs.Days.{weekday_of};
 ghost use Rattle.ics_values.specs.Fields.{IsCivilOf};
 ghost use Rattle.ics_rule.specs.Runs.{goes_by_months};
 ghost use Rattle.ics_rule.specs.Candidates.{fourth_day, lets, lets_numbered, lets_weekday, lets_week, lets_date};
-ghost use Rattle.ics_rule.specs.Dates.{names_weekdays_alone};
+ghost use Rattle.ics_rule.specs.DateParts.{names_weekdays_alone};
 
-use crate::filled::Filled;
+use crate::effective_rule::EffectiveRule;
 use crate::part::{WeekdaysPart, has_no_number};
 use crate::time::{lets, lets_place, lets_wide_place, lists_nth};
-use ics_values::{Civil, Frequency, Numbers, Places, civil};
+use ics_values::{Civil, Frequency, BitSet, Ordinals, civil};
 use jiff_core::civil::{days_in_month, days_in_year};
 
 /// The fields of a day, counted from 0000-01-01.
@@ -41,39 +41,39 @@ pub(crate) fn month_length(fields: &Civil) -> u8
 }
 
 /// Whether BYDAY lists a day by a number of its weekday.
-fn lets_numbered(parts: &Filled, numbers: &Places, fields: &Civil) -> bool
+fn lets_numbered(parts: &EffectiveRule, numbers: &Ordinals, fields: &Civil) -> bool
     requires { (e : ℕ) × IsCivilOf fields.now e }
     ensures { (e : ℕ) → IsCivilOf fields.now e → result ≡ lets_numbered parts.now.frequency parts.now numbers.now e }
 {
     match parts.frequency {
         Frequency::Monthly => { lists_nth(numbers, fields.day as u16, month_length(fields) as u16) }
         Frequency::Yearly => {
-            if !parts.weeks.is_none() {
-                !numbers.is_none()
-            } else if !parts.months.is_none() {
+            if !parts.weeks.is_empty() {
+                !numbers.is_empty()
+            } else if !parts.months.is_empty() {
                 lists_nth(numbers, fields.day as u16, month_length(fields) as u16)
             } else {
                 lists_nth(numbers, fields.year_day, year_length(fields))
             }
         }
-        _ => !numbers.is_none(),
+        _ => !numbers.is_empty(),
     }
 }
 
 /// Whether BYDAY allows a day.
-fn lets_weekday(parts: &Filled, fields: &Civil) -> bool
+fn lets_weekday(parts: &EffectiveRule, fields: &Civil) -> bool
     requires { (e : ℕ) × IsCivilOf fields.now e }
     ensures { (e : ℕ) → IsCivilOf fields.now e → result ≡ lets_weekday parts.now e }
 {
     let weekday = fields.weekday.index();
     let numbers = &parts.weekdays.list.numbered[weekday as usize];
-    parts.weekdays.is_none()
-        || parts.weekdays.list.plain.has(weekday)
+    parts.weekdays.is_empty()
+        || parts.weekdays.list.plain.contains(weekday)
         || lets_numbered(parts, numbers, fields)
 }
 
 /// The fourth day of a day's week. If the week begins before year 0000, the same one 400 years later.
-fn fourth_day(parts: &Filled, index: u32) -> u32
+fn fourth_day(parts: &EffectiveRule, index: u32) -> u32
     requires { index ≤ 3652059 }
     ensures value { result ≡ fourth_day (monday_zero parts.now.week_start) index }
     ensures bound { result ≤ 3652424 }
@@ -84,11 +84,11 @@ fn fourth_day(parts: &Filled, index: u32) -> u32
 }
 
 /// Whether BYWEEKNO allows a day, counted from 0000-01-01.
-fn lets_week(parts: &Filled, index: u32) -> bool
+fn lets_week(parts: &EffectiveRule, index: u32) -> bool
     requires { index ≤ 3652059 }
     ensures { result ≡ lets_week parts.now index }
 {
-    if parts.weeks.is_none() {
+    if parts.weeks.is_empty() {
         return true;
     }
     let fields = civil_at(fourth_day(parts, index));
@@ -98,7 +98,7 @@ fn lets_week(parts: &Filled, index: u32) -> bool
 }
 
 /// Whether each part that restricts the date allows a day, given with its fields.
-pub(crate) fn lets_fields(parts: &Filled, fields: &Civil, index: u32) -> bool
+pub(crate) fn lets_fields(parts: &EffectiveRule, fields: &Civil, index: u32) -> bool
     requires day { index ≤ 3652059 }
     requires fields { IsCivilOf fields.now index }
     ensures { result ≡ lets_date parts.now index }
@@ -121,58 +121,58 @@ pub(crate) fn lets_fields(parts: &Filled, fields: &Civil, index: u32) -> bool
 /// Whether BYDAY is absent, or lists the weekday of a day without a number.
 fn has_weekday(weekdays: &WeekdaysPart, index: u32) -> bool
     requires { index ≤ 3652059 }
-    ensures { result ≡ (lists_no_weekday weekdays.now || has weekdays.now.plain (weekday_of index)) }
+    ensures { result ≡ (lists_no_weekday weekdays.now || contains weekdays.now.plain (weekday_of index)) }
 {
-    weekdays.is_none() || weekdays.list.plain.has(((index + 5) % 7) as u8)
+    weekdays.is_empty() || weekdays.list.plain.contains(((index + 5) % 7) as u8)
 }
 
 /// The months that BYMONTH allows.
-pub(crate) fn open_months(months: Numbers) -> Numbers
-    ensures members { (m : ℕ) → m < 13 → has result m ≡ lets months m }
+pub(crate) fn open_months(months: BitSet) -> BitSet
+    ensures members { (m : ℕ) → m < 13 → contains result m ≡ lets months m }
     ensures bound { result < 2 ^ 13 }
 {
-    if months.is_none() {
-        Numbers::below(13)
+    if months.is_empty() {
+        BitSet::below(13)
     } else {
         months.front(13)
     }
 }
 
 /// Whether BYMONTHDAY or BYDAY is there, and neither BYYEARDAY nor BYWEEKNO.
-pub(crate) fn goes_by_months(parts: &Filled) -> bool
+pub(crate) fn goes_by_months(parts: &EffectiveRule) -> bool
     ensures { result ≡ goes_by_months parts.now }
 {
-    parts.weeks.is_none()
-        && parts.year_days.is_none()
-        && !(parts.month_days.is_none() && parts.weekdays.is_none())
+    parts.weeks.is_empty()
+        && parts.year_days.is_empty()
+        && !(parts.month_days.is_empty() && parts.weekdays.is_empty())
 }
 
 /// Whether BYMONTHDAY or BYDAY is absent.
-pub(crate) fn lacks_one(parts: &Filled) -> bool
+pub(crate) fn lacks_one(parts: &EffectiveRule) -> bool
     ensures { result ≡ (lists_none parts.now.month_days || lists_no_weekday parts.now.weekdays) }
 {
-    parts.month_days.is_none() || parts.weekdays.is_none()
+    parts.month_days.is_empty() || parts.weekdays.is_empty()
 }
 
 /// Whether BYMONTH and BYMONTHDAY are absent.
-pub(crate) fn names_no_month(parts: &Filled) -> bool
-    ensures { result ≡ (is_none parts.now.months && lists_none parts.now.month_days) }
+pub(crate) fn names_no_month(parts: &EffectiveRule) -> bool
+    ensures { result ≡ (is_empty parts.now.months && lists_none parts.now.month_days) }
 {
-    parts.months.is_none() && parts.month_days.is_none()
+    parts.months.is_empty() && parts.month_days.is_empty()
 }
 
 /// Whether no part but BYDAY restricts the date.
-pub(crate) fn names_weekdays_alone(parts: &Filled) -> bool
+pub(crate) fn names_weekdays_alone(parts: &EffectiveRule) -> bool
     ensures { result ≡ names_weekdays_alone parts.now }
 {
-    parts.months.is_none()
-        && parts.month_days.is_none()
-        && parts.year_days.is_none()
-        && parts.weeks.is_none()
+    parts.months.is_empty()
+        && parts.month_days.is_empty()
+        && parts.year_days.is_empty()
+        && parts.weeks.is_empty()
 }
 
 /// Whether each part that restricts the date allows a day, counted from 0000-01-01.
-pub(crate) fn lets_date(parts: &Filled, index: u32) -> bool
+pub(crate) fn lets_date(parts: &EffectiveRule, index: u32) -> bool
     requires { index ≤ 3652059 }
     ensures { result ≡ lets_date parts.now index }
 {

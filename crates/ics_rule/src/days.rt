@@ -2,9 +2,9 @@
 ghost use Rattle.std.specs.Prelude.{◌≡◌, ℕ, ◌<◌, ◌≤◌, ◌+◌, ◌-◌, ◌&&◌, ◌||◌, nat_le, nat_lt, pos, true, false};
 ghost use Rattle.jiff_core.specs.Calendar.{days_in_month, days_in_year};
 ghost use Rattle.ics_values.specs.declared.frequency.Frequency.TheVariants.{Weekly, Monthly, Yearly};
-ghost use Rattle.ics_values.specs.Sets.{has_wide, none_wide};
+ghost use Rattle.ics_values.specs.Sets.{contains_wide, none_wide};
 ghost use Rattle.ics_values.specs.Days.{weekday_of, year_of};
-ghost use Rattle.ics_values.specs.Places.{lists_none, lists_none_wide};
+ghost use Rattle.ics_values.specs.Ordinals.{lists_none, lists_none_wide};
 ghost use Rattle.ics_rule.specs.Candidates.{lets_date, lets_wide_place};
 ghost use Rattle.ics_rule.specs.Runs.{IsMonth, IsSpan, is_in_month, goes_by_months, counts_in_month};
 
@@ -12,12 +12,12 @@ use crate::date::{
     goes_by_months, lacks_one, lets_date, month_length, names_no_month, names_weekdays_alone,
     open_months,
 };
-use crate::filled::Filled;
-use crate::period::days_before_month;
+use crate::effective_rule::EffectiveRule;
+use crate::recurrence_period::days_before_month;
 use crate::runs::Run;
 use crate::time::{lets, lets_wide_place};
 use crate::weeks::days_near_weeks;
-use ics_values::{Civil, Frequency, WideNumbers};
+use ics_values::{Civil, Frequency, WideBitSet};
 use jiff_core::civil::days_in_month;
 
 /// The number of days from a day to the end of its month, including both.
@@ -41,29 +41,29 @@ pub(crate) fn weekday_at(index: u32) -> u8
 
 /// Fills a set with those of `len` days from a first that a rule allows, by a test of each.
 #[inline(never)]
-fn add_days_by_day(parts: &Filled, first: u32, len: u16, days: &mut WideNumbers)
+fn add_days_by_day(parts: &EffectiveRule, first: u32, len: u16, days: &mut WideBitSet)
     requires size { len ≤ 384 }
     requires days { first + len ≤ 3652059 }
     requires empty { days.old ≡ none_wide }
-    ensures { (k : ℕ) → has_wide days.new k ≡ (nat_lt k len && lets_date parts.now (first + k)) }
+    ensures { (k : ℕ) → contains_wide days.new k ≡ (nat_lt k len && lets_date parts.now (first + k)) }
 {
     for k in 0..len {
         if lets_date(parts, first + k as u32) {
-            days.add(k);
+            days.insert(k);
         }
     }
 }
 
 /// Fills a set with those of `len` days of a week from a first that a rule allows.
 #[inline(never)]
-fn add_days_of_week(parts: &Filled, first: u32, len: u16, days: &mut WideNumbers)
+fn add_days_of_week(parts: &EffectiveRule, first: u32, len: u16, days: &mut WideBitSet)
     requires frequency { parts.now.frequency ≡ Weekly }
     requires size { len ≤ 384 }
     requires days { first + 384 ≤ 3652059 }
     requires empty { days.old ≡ none_wide }
-    ensures { (k : ℕ) → has_wide days.new k ≡ (nat_lt k len && lets_date parts.now (first + k)) }
+    ensures { (k : ℕ) → contains_wide days.new k ≡ (nat_lt k len && lets_date parts.now (first + k)) }
 {
-    if parts.weekdays.is_none() {
+    if parts.weekdays.is_empty() {
         add_days_by_day(parts, first, len, days);
         return;
     }
@@ -73,22 +73,22 @@ fn add_days_of_week(parts: &Filled, first: u32, len: u16, days: &mut WideNumbers
     }
     let named = parts.weekdays.named();
     for k in 0..len {
-        if named.has(weekday_at(first + k as u32)) {
-            days.add(k);
+        if named.contains(weekday_at(first + k as u32)) {
+            days.insert(k);
         }
     }
 }
 
 /// Those of a set of days, counted from a first, that a rule allows.
-fn those_let_in(parts: &Filled, first: u32, some: &WideNumbers) -> WideNumbers
+fn those_let_in(parts: &EffectiveRule, first: u32, some: &WideBitSet) -> WideBitSet
     requires { first + 384 ≤ 3652059 }
-    ensures { (k : ℕ) → has_wide result k ≡ (has_wide some.now k && lets_date parts.now (first + k)) }
+    ensures { (k : ℕ) → contains_wide result k ≡ (contains_wide some.now k && lets_date parts.now (first + k)) }
 {
-    let mut days = WideNumbers::new();
+    let mut days = WideBitSet::new();
     let mut from = 0;
     while let Some(k) = some.next_from(from) {
         if lets_date(parts, first + k as u32) {
-            days.add(k);
+            days.insert(k);
         }
         from = k + 1;
     }
@@ -96,14 +96,14 @@ fn those_let_in(parts: &Filled, first: u32, some: &WideNumbers) -> WideNumbers
 }
 
 /// The days that BYYEARDAY allows in a year of `len` days.
-fn days_by_number(parts: &Filled, len: u16) -> WideNumbers
+fn days_by_number(parts: &EffectiveRule, len: u16) -> WideBitSet
     requires { len ≤ 366 }
-    ensures { (k : ℕ) → has_wide result k ≡ (nat_lt k len && lets_wide_place parts.now.year_days (k + 1) len) }
+    ensures { (k : ℕ) → contains_wide result k ≡ (nat_lt k len && lets_wide_place parts.now.year_days (k + 1) len) }
 {
-    let mut days = WideNumbers::new();
+    let mut days = WideBitSet::new();
     for k in 0..len {
         if lets_wide_place(&parts.year_days, k + 1, len) {
-            days.add(k);
+            days.insert(k);
         }
     }
     days
@@ -144,11 +144,11 @@ fn month_run(first: u32, len: u16, month: u8) -> Run
 
 /// Fills a set with the days of a year that are listed in its months.
 #[inline(always)]
-fn add_listed_days(parts: &Filled, first: u32, len: u16, days: &mut WideNumbers)
+fn add_listed_days(parts: &EffectiveRule, first: u32, len: u16, days: &mut WideBitSet)
     requires span { IsSpan Yearly (year_of first) first len }
     requires days { first + 384 ≤ 3652059 }
     requires empty { days.old ≡ none_wide }
-    ensures { (k : ℕ) → has_wide days.new k ≡ (nat_lt k len && is_in_month parts.now (first + k)) }
+    ensures { (k : ℕ) → contains_wide days.new k ≡ (nat_lt k len && is_in_month parts.now (first + k)) }
 {
     let months = open_months(parts.months);
     let mut from = 1;
@@ -160,21 +160,21 @@ fn add_listed_days(parts: &Filled, first: u32, len: u16, days: &mut WideNumbers)
 
 /// Leaves those of a set of days, counted from a first, that a rule allows.
 #[inline(never)]
-fn test_each(parts: &Filled, first: u32, days: &mut WideNumbers)
+fn test_each(parts: &EffectiveRule, first: u32, days: &mut WideBitSet)
     requires { first + 384 ≤ 3652059 }
-    ensures { (k : ℕ) → has_wide days.new k ≡ (has_wide days.old k && lets_date parts.now (first + k)) }
+    ensures { (k : ℕ) → contains_wide days.new k ≡ (contains_wide days.old k && lets_date parts.now (first + k)) }
 {
     *days = those_let_in(parts, first, days);
 }
 
 /// Leaves those of the days listed in their months that a rule allows.
 #[inline(always)]
-fn leave_let_in(parts: &Filled, first: u32, len: u16, days: &mut WideNumbers)
+fn leave_let_in(parts: &EffectiveRule, first: u32, len: u16, days: &mut WideBitSet)
     requires days { first + 384 ≤ 3652059 }
     requires months { goes_by_months parts.now ≡ true }
     requires numbers { counts_in_month parts.now parts.now.frequency ≡ true }
-    requires listed { (k : ℕ) → has_wide days.old k ≡ (nat_lt k len && is_in_month parts.now (first + k)) }
-    ensures { (k : ℕ) → has_wide days.new k ≡ (nat_lt k len && lets_date parts.now (first + k)) }
+    requires listed { (k : ℕ) → contains_wide days.old k ≡ (nat_lt k len && is_in_month parts.now (first + k)) }
+    ensures { (k : ℕ) → contains_wide days.new k ≡ (nat_lt k len && lets_date parts.now (first + k)) }
 {
     if !lacks_one(parts) {
         test_each(parts, first, days);
@@ -182,12 +182,12 @@ fn leave_let_in(parts: &Filled, first: u32, len: u16, days: &mut WideNumbers)
 }
 
 /// Fills a set with the days of a month that a rule allows.
-fn add_days_of_month(parts: &Filled, number: u64, first: u32, len: u16, days: &mut WideNumbers)
+fn add_days_of_month(parts: &EffectiveRule, number: u64, first: u32, len: u16, days: &mut WideBitSet)
     requires frequency { parts.now.frequency ≡ Monthly }
     requires span { IsSpan Monthly number first len }
     requires days { first + 384 ≤ 3652059 }
     requires empty { days.old ≡ none_wide }
-    ensures { (k : ℕ) → has_wide days.new k ≡ (nat_lt k len && lets_date parts.now (first + k)) }
+    ensures { (k : ℕ) → contains_wide days.new k ≡ (nat_lt k len && lets_date parts.now (first + k)) }
 {
     if !goes_by_months(parts) {
         add_days_by_day(parts, first, len, days);
@@ -206,12 +206,12 @@ fn add_days_of_month(parts: &Filled, number: u64, first: u32, len: u16, days: &m
 
 /// Fills a set with the days of a year that a rule allows, by a test of those that BYWEEKNO or BYYEARDAY may list, or of each.
 #[inline(never)]
-fn add_tested_days(parts: &Filled, first: u32, len: u16, days: &mut WideNumbers)
+fn add_tested_days(parts: &EffectiveRule, first: u32, len: u16, days: &mut WideBitSet)
     requires span { IsSpan Yearly (year_of first) first len }
     requires days { first + 384 ≤ 3652059 }
-    ensures { (k : ℕ) → has_wide days.new k ≡ (nat_lt k len && lets_date parts.now (first + k)) }
+    ensures { (k : ℕ) → contains_wide days.new k ≡ (nat_lt k len && lets_date parts.now (first + k)) }
 {
-    *days = if parts.weeks.is_none() {
+    *days = if parts.weeks.is_empty() {
         those_let_in(parts, first, &days_by_number(parts, len))
     } else {
         those_let_in(parts, first, &days_near_weeks(parts, first, len))
@@ -219,12 +219,12 @@ fn add_tested_days(parts: &Filled, first: u32, len: u16, days: &mut WideNumbers)
 }
 
 /// Fills a set with the days of a year that a rule allows.
-fn add_days_of_year(parts: &Filled, first: u32, len: u16, days: &mut WideNumbers)
+fn add_days_of_year(parts: &EffectiveRule, first: u32, len: u16, days: &mut WideBitSet)
     requires frequency { parts.now.frequency ≡ Yearly }
     requires span { IsSpan Yearly (year_of first) first len }
     requires days { first + 384 ≤ 3652059 }
     requires empty { days.old ≡ none_wide }
-    ensures { (k : ℕ) → has_wide days.new k ≡ (nat_lt k len && lets_date parts.now (first + k)) }
+    ensures { (k : ℕ) → contains_wide days.new k ≡ (nat_lt k len && lets_date parts.now (first + k)) }
 {
     if !goes_by_months(parts) {
         add_tested_days(parts, first, len, days);
@@ -245,17 +245,17 @@ fn add_days_of_year(parts: &Filled, first: u32, len: u16, days: &mut WideNumbers
 
 /// Fills a set with the days that a rule allows in the period with a number, which has `len` days from a first.
 pub(crate) fn add_days_let_in(
-    parts: &Filled,
+    parts: &EffectiveRule,
     number: u64,
     first: u32,
     len: u16,
-    days: &mut WideNumbers,
+    days: &mut WideBitSet,
 )
     requires size { len ≤ 384 }
     requires days { first + 384 ≤ 3652059 }
     requires span { IsSpan parts.now.frequency number first len }
     requires empty { days.old ≡ none_wide }
-    ensures { (k : ℕ) → has_wide days.new k ≡ (nat_lt k len && lets_date parts.now (first + k)) }
+    ensures { (k : ℕ) → contains_wide days.new k ≡ (nat_lt k len && lets_date parts.now (first + k)) }
 {
     match parts.frequency {
         Frequency::Yearly => add_days_of_year(parts, first, len, days),

@@ -1,25 +1,25 @@
 //! The locals of an hour that a rule keeps.
 ghost use Rattle.std.specs.Prelude.{◌≡◌, ℕ, ◌<◌, ◌≤◌, false, IfSome, MatchOption};
-ghost use Rattle.ics_values.specs.Sets.{has};
-ghost use Rattle.ics_rule.specs.Locals.{number};
+ghost use Rattle.ics_values.specs.Sets.{contains};
+ghost use Rattle.ics_values.specs.Locals.{number};
 ghost use Rattle.ics_rule.specs.Next.{NoneKept, IsNextKept};
-ghost use Rattle.ics_rule.specs.Hours.{is_finer, KeepsTimes};
+ghost use Rattle.ics_rule.specs.HoursKept.{is_finer, KeepsTimes};
 
 use crate::cursor::Cursor;
 use crate::rule::Rule;
 use crate::step::{local_of, number};
-use ics_values::{Frequency, Numbers};
+use ics_values::{Frequency, BitSet};
 
 /// Each of some minutes of an hour, with each of some seconds.
 #[derive(Clone, Copy)]
 pub struct HourTimes {
-    pub minutes: Numbers,
-    pub seconds: Numbers,
+    pub minutes: BitSet,
+    pub seconds: BitSet,
 }
 
 /// The greatest member of a set.
-fn greatest(set: Numbers) -> Option<u8>
-    ensures last { MatchOption result ((n : ℕ) → has set n ≡ false) (λ last. (n : ℕ) → last < n → has set n ≡ false) }
+fn greatest(set: BitSet) -> Option<u8>
+    ensures last { MatchOption result ((n : ℕ) → contains set n ≡ false) (λ last. (n : ℕ) → last < n → contains set n ≡ false) }
     ensures small { IfSome result (λ last. last < 64) }
 {
     let mut last = None;
@@ -64,8 +64,8 @@ impl Rule {
         let from = hour * 3_600;
         let Some(kept) = next_between(self, start, from, from + 3_600) else {
             return Some(HourTimes {
-                minutes: Numbers::new(),
-                seconds: Numbers::new(),
+                minutes: BitSet::new(),
+                seconds: BitSet::new(),
             });
         };
         let minutes = self.whole.minutes;
@@ -79,7 +79,7 @@ impl Rule {
         if kept <= start || kept != first || last >= from + 3_600 {
             return None;
         }
-        if is_finer(self.whole.frequency) || !self.whole.positions.is_none() {
+        if is_finer(self.whole.frequency) || !self.whole.positions.is_empty() {
             return None;
         }
         next_between(self, start, last, last + 1)?;

@@ -5,14 +5,15 @@ ghost use Rattle.jiff_core.specs.Weekday.{monday_zero};
 ghost use Rattle.jiff_core.specs.IsoWeek.{weeks_in_year};
 ghost use Rattle.jiff_core.specs.declared.civil.iso_week_date.ISOWeekDate.{ISOWeekDate};
 ghost use Rattle.ics_values.specs.Days.{year_of, year_day_of, month_of, month_day_of, weekday_of};
-ghost use Rattle.ics_rule.specs.declared.filled.Filled.{Filled};
+ghost use Rattle.ics_rule.specs.declared.effective_rule.EffectiveRule.{EffectiveRule};
 ghost use Rattle.ics_rule.specs.Recurrence.{Recurrence};
 ghost use Rattle.ics_rule.specs.Calls.{FewSteps};
-ghost use Rattle.ics_rule.specs.Locals.{number, week_of, calendar_end, rules_end};
+ghost use Rattle.ics_rule.specs.PeriodNumbers.{week_of, calendar_end, rules_end};
+ghost use Rattle.ics_values.specs.Locals.{number};
 ghost use Rattle.ics_rule.specs.Candidates.{fourth_day, week_number, weeks_of_year};
 ghost use Rattle.ics_rule.specs.IsoWeeks.{IsDay};
 ghost use Rattle.ics_rule.specs.Kept.{count, size, is_in_rule, is_kept};
-ghost use Rattle.ics_rule.specs.Places.{HasRank};
+ghost use Rattle.ics_rule.specs.Ranks.{HasRank};
 ghost use Rattle.ics_rule.specs.PlainReading.{in_year, in_month, with_weekday};
 
 /// The start is kept, and nothing earlier is. What is kept is in the rule. Under COUNT at most that many are kept (RFC 5545, 3.3.10 and 3.8.5.3).
@@ -26,9 +27,9 @@ pub fn kept_locals()
 /// The ranks of a period are its places (RFC 5545, 3.3.10): for each k from 1 to its size exactly one candidate of the period of local n, in the
 /// calendar's years, has rank k, and each has such a rank.
 pub fn ranks_are_places()
-    ensures there { (q : Filled) (start n k : ℕ) → 1 ≤ k → k ≤ size q start n → (m : ℕ) × HasRank q start n k m }
-    ensures alone { (q : Filled) (start n k m o : ℕ) → HasRank q start n k m → HasRank q start n k o → m ≡ o }
-    ensures within { (q : Filled) (start n k m : ℕ) → m < calendar_end → HasRank q start n k m → (1 ≤ k) × (k ≤ size q start n) }
+    ensures there { (q : EffectiveRule) (start n k : ℕ) → 1 ≤ k → k ≤ size q start n → (m : ℕ) × HasRank q start n k m }
+    ensures alone { (q : EffectiveRule) (start n k m o : ℕ) → HasRank q start n k m → HasRank q start n k o → m ≡ o }
+    ensures within { (q : EffectiveRule) (start n k m : ℕ) → m < calendar_end → HasRank q start n k m → (1 ≤ k) × (k ≤ size q start n) }
 {}
 
 /// COUNT c without UNTIL keeps, below the end of the rules, the first c of the rule, not only at most c (RFC 5545, 3.3.10): a local is kept

@@ -1,20 +1,20 @@
 //! Rules that choose nothing.
 ghost use Rattle.std.specs.Prelude.{◌≡◌, ℕ, ◌<◌, ◌≤◌, true, false};
-ghost use Rattle.ics_values.specs.Sets.{has_wide};
-ghost use Rattle.ics_values.specs.Places.{lists_none_wide};
+ghost use Rattle.ics_values.specs.Sets.{contains_wide};
+ghost use Rattle.ics_values.specs.Ordinals.{lists_none_wide};
 ghost use Rattle.ics_rule.specs.Kept.{count, is_chosen};
 ghost use Rattle.ics_rule.specs.Candidates.{lets};
 ghost use Rattle.ics_rule.specs.Rounds.{seconds_of};
 ghost use Rattle.ics_rule.specs.OpenPeriods.{size_of_open};
 
-use crate::filled::Filled;
-use crate::period::clock_set;
+use crate::effective_rule::EffectiveRule;
+use crate::recurrence_period::clock_set;
 use crate::rounds::seconds_of;
 use crate::sizes::members_below;
-use ics_values::{Frequency, Numbers, WideNumbers};
+use ics_values::{Frequency, BitSet, WideBitSet};
 
 /// How many values of one unit of the clock a part allows.
-fn readings(part: Numbers, size: u8) -> u64
+fn readings(part: BitSet, size: u8) -> u64
     requires some { 0 < size }
     requires most { size ≤ 60 }
     ensures value { result ≡ count size (lets part) }
@@ -24,7 +24,7 @@ fn readings(part: Numbers, size: u8) -> u64
 }
 
 /// How many locals each period has that a rule allows, if a period is a day or less.
-pub(crate) fn size_of_open(parts: &Filled) -> u64
+pub(crate) fn size_of_open(parts: &EffectiveRule) -> u64
     requires fine { 0 < seconds_of parts.now.frequency }
     requires unit { seconds_of parts.now.frequency ≤ 86400 }
     ensures value { result ≡ size_of_open parts.now }
@@ -41,8 +41,8 @@ pub(crate) fn size_of_open(parts: &Filled) -> u64
 }
 
 /// Whether each place of a set is greater than a number.
-fn is_past(places: &WideNumbers, most: u64) -> bool
-    ensures { result ≡ true → (k : ℕ) → 1 ≤ k → k ≤ most → has_wide places.now k ≡ false }
+fn is_past(places: &WideBitSet, most: u64) -> bool
+    ensures { result ≡ true → (k : ℕ) → 1 ≤ k → k ≤ most → contains_wide places.now k ≡ false }
 {
     match places.next_from(1) {
         Some(place) => place as u64 > most,
@@ -51,10 +51,10 @@ fn is_past(places: &WideNumbers, most: u64) -> bool
 }
 
 /// Whether BYSETPOS lists only places that no period has.
-pub(crate) fn chooses_none(parts: &Filled) -> bool
+pub(crate) fn chooses_none(parts: &EffectiveRule) -> bool
     ensures { result ≡ true → (start n : ℕ) → n < 315569520000 → is_chosen parts.now start n ≡ false }
 {
-    if parts.positions.is_none() {
+    if parts.positions.is_empty() {
         return false;
     }
     let unit = seconds_of(parts.frequency);

@@ -1,6 +1,6 @@
 //! How many periods of a day or less a rule allows, counted by whole days.
 ghost use Rattle.std.specs.Prelude.{◌≡◌, ℕ, ◌<◌, ◌≤◌, ◌+◌, ◌-◌, ◌*◌, ◌/◌, ◌^◌, ◌&&◌, Some};
-ghost use Rattle.ics_values.specs.Places.{lists_none_wide};
+ghost use Rattle.ics_values.specs.Ordinals.{lists_none_wide};
 ghost use Rattle.ics_rule.specs.Candidates.{is_stepped, lets_date, period_in};
 ghost use Rattle.ics_rule.specs.Kept.{count};
 ghost use Rattle.ics_rule.specs.Cursors.{IsCursorIn};
@@ -9,18 +9,18 @@ ghost use Rattle.ics_rule.specs.OpenPeriods.{per_day, lets_own, is_open_period, 
 
 use crate::cursor::Cursor;
 use crate::date::lets_date;
-use crate::fill::{skips_hours, skips_minutes, skips_seconds};
-use crate::filled::Filled;
+use crate::effective::{skips_hours, skips_minutes, skips_seconds};
+use crate::effective_rule::EffectiveRule;
 use crate::never::size_of_open;
 use crate::pass::days_of_closed_month;
-use crate::places::listed_below;
+use crate::ranks::listed_below;
 use crate::rounds::{calendar_round, seconds_of};
 use crate::step::period_of;
 use crate::time::lets;
 use crate::walk::next_step;
 
 /// Whether the parts allow the hour, minute and second of a period, as far as the period has them; `n` is its first local.
-fn lets_own(parts: &Filled, n: u64) -> bool
+fn lets_own(parts: &EffectiveRule, n: u64) -> bool
     ensures { result ≡ lets_own parts.now.frequency parts.now n }
 {
     let frequency = parts.frequency;
@@ -30,7 +30,7 @@ fn lets_own(parts: &Filled, n: u64) -> bool
 }
 
 /// How many steps from one period on and before another have an hour, minute and second that are allowed, whatever their days are.
-fn steps_let_in(parts: &Filled, first: u64, from: u64, before: u64) -> u64
+fn steps_let_in(parts: &EffectiveRule, first: u64, from: u64, before: u64) -> u64
     requires interval { 1 ≤ parts.now.interval }
     requires first { first < 2 ^ 40 }
     requires order { from ≤ before }
@@ -56,14 +56,14 @@ const A_SHORT_MONTH: u32 = 28;
 
 /// How many days are allowed, of those in steps of the interval from one on and before another. A month that BYMONTH does not allow is left
 /// at its end.
-fn days_let_in(parts: &Filled, from: u64, before: u64) -> u64
+fn days_let_in(parts: &EffectiveRule, from: u64, before: u64) -> u64
     requires interval { 1 ≤ parts.now.interval }
     requires order { from ≤ before }
     requires before { before ≤ 3652059 }
     ensures value { result ≡ count before (λ e. is_stepped from parts.now.interval e && lets_date parts.now e) }
     ensures bound { result ≤ before }
 {
-    let leaves_months = parts.interval < A_SHORT_MONTH && !parts.months.is_none();
+    let leaves_months = parts.interval < A_SHORT_MONTH && !parts.months.is_empty();
     let mut total = 0;
     let mut day = from;
     while day < before {
@@ -81,7 +81,7 @@ fn days_let_in(parts: &Filled, from: u64, before: u64) -> u64
 }
 
 /// How many periods of whole days are allowed. Steps have the same times on days that are a multiple of the interval apart.
-fn open_of_days(parts: &Filled, first: u64, from: u64, before: u64) -> u64
+fn open_of_days(parts: &EffectiveRule, first: u64, from: u64, before: u64) -> u64
     requires interval { 1 ≤ parts.now.interval }
     requires fine { 0 < seconds_of parts.now.frequency }
     requires unit { seconds_of parts.now.frequency ≤ 86400 }
@@ -103,7 +103,7 @@ fn open_of_days(parts: &Filled, first: u64, from: u64, before: u64) -> u64
 }
 
 /// How many periods of one day are allowed, from one on and before another.
-fn open_in_day(parts: &Filled, first: u64, from: u64, before: u64) -> u64
+fn open_in_day(parts: &EffectiveRule, first: u64, from: u64, before: u64) -> u64
     requires interval { 1 ≤ parts.now.interval }
     requires fine { 0 < seconds_of parts.now.frequency }
     requires unit { seconds_of parts.now.frequency ≤ 86400 }
@@ -122,7 +122,7 @@ fn open_in_day(parts: &Filled, first: u64, from: u64, before: u64) -> u64
 }
 
 /// How many periods are allowed from one on and before another, counted by whole days.
-fn open_by_days(parts: &Filled, first: u64, from: u64, before: u64) -> u64
+fn open_by_days(parts: &EffectiveRule, first: u64, from: u64, before: u64) -> u64
     requires interval { 1 ≤ parts.now.interval }
     requires fine { 0 < seconds_of parts.now.frequency }
     requires unit { seconds_of parts.now.frequency ≤ 86400 }
@@ -143,7 +143,7 @@ fn open_by_days(parts: &Filled, first: u64, from: u64, before: u64) -> u64
 }
 
 /// How many periods are allowed from one on and before another. In each round of the calendar there are as many.
-pub(crate) fn open_between(parts: &Filled, first: u64, from: u64, before: u64) -> u64
+pub(crate) fn open_between(parts: &EffectiveRule, first: u64, from: u64, before: u64) -> u64
     requires interval { 1 ≤ parts.now.interval }
     requires fine { 0 < seconds_of parts.now.frequency }
     requires unit { seconds_of parts.now.frequency ≤ 86400 }
@@ -162,13 +162,13 @@ pub(crate) fn open_between(parts: &Filled, first: u64, from: u64, before: u64) -
 }
 
 /// How many locals are chosen in each period that is allowed.
-pub(crate) fn chosen_in_open(parts: &Filled) -> u64
+pub(crate) fn chosen_in_open(parts: &EffectiveRule) -> u64
     requires fine { 0 < seconds_of parts.now.frequency }
     requires unit { seconds_of parts.now.frequency ≤ 86400 }
     ensures { result ≡ chosen_in_open parts.now }
 {
     let size = size_of_open(parts);
-    if parts.positions.is_none() {
+    if parts.positions.is_empty() {
         size
     } else {
         listed_below(&parts.positions.list, size, size)
@@ -181,7 +181,7 @@ const A_SHORT_WALK: u64 = 64;
 impl Cursor {
     /// Counts the periods from the one held, or from the start's, up to that of the place, if a period is a day or less, and looks at the
     /// last of them. Nothing changes if they are few.
-    pub(crate) fn pass_open(&mut self, parts: &Filled, start: u64, count: u32, first: u64)
+    pub(crate) fn pass_open(&mut self, parts: &EffectiveRule, start: u64, count: u32, first: u64)
         requires interval { 1 ≤ parts.now.interval }
         requires count { 1 ≤ count }
         requires first { first ≡ period_in parts.now start }

@@ -1,26 +1,26 @@
 //! Parts of a rule, with answers that each look needs, computed once.
 ghost use Rattle.std.specs.Prelude.{◌≡◌, ◌<◌, ◌&&◌, ℕ, nat_lt};
-ghost use Rattle.ics_values.specs.Sets.{has};
-ghost use Rattle.ics_values.specs.Places.{lists_none, lists_none_wide, lists_no_weekday, numbers_of};
-ghost use Rattle.ics_rule.specs.Parts.{names_weekday, named_below};
+ghost use Rattle.ics_values.specs.Sets.{contains};
+ghost use Rattle.ics_values.specs.Ordinals.{lists_none, lists_none_wide, lists_no_weekday, numbers_of};
+ghost use Rattle.ics_rule.specs.NamedWeekdays.{names_weekday, named_below};
 
-use ics_values::{Numbers, Places, Weekdays, WidePlaces};
+use ics_values::{BitSet, Ordinals, Weekdays, WideOrdinals};
 use std::marker::Model;
 
 /// BYYEARDAY or BYSETPOS, and whether it is absent. Contracts see the places.
 #[derive(Clone, Copy)]
 pub struct PlacesPart {
-    pub(crate) list: WidePlaces,
+    pub(crate) list: WideOrdinals,
     absent: bool,
 }
 
 impl Model for PlacesPart {
-    ghost use Rattle.ics_values.specs.declared.places.WidePlaces.{WidePlaces};
+    ghost use Rattle.ics_values.specs.declared.ordinals.WideOrdinals.{WideOrdinals};
 
-    ghost Value = { WidePlaces };
+    ghost Value = { WideOrdinals };
 
     ghost use Rattle.std.specs.Prelude.{◌≡◌};
-    ghost use Rattle.ics_values.specs.Places.{lists_none_wide};
+    ghost use Rattle.ics_values.specs.Ordinals.{lists_none_wide};
 
     ghost view = { λ p. p.list };
 
@@ -33,15 +33,15 @@ impl Model for PlacesPart {
 
 impl PlacesPart {
     /// The part of these places.
-    pub(crate) fn new(list: WidePlaces) -> PlacesPart
+    pub(crate) fn new(list: WideOrdinals) -> PlacesPart
         ensures { result ≡ list }
     {
-        let absent = list.is_none();
+        let absent = list.is_empty();
         PlacesPart { list, absent }
     }
 
     /// Whether there is no place.
-    pub(crate) fn is_none(&self) -> bool
+    pub(crate) fn is_empty(&self) -> bool
         ensures { result ≡ lists_none_wide self.now }
     {
         self.absent
@@ -53,17 +53,17 @@ impl PlacesPart {
 pub struct WeekdaysPart {
     pub(crate) list: Weekdays,
     absent: bool,
-    named: Numbers,
+    named: BitSet,
 }
 
 impl Model for WeekdaysPart {
-    ghost use Rattle.ics_values.specs.declared.places.Weekdays.{Weekdays};
+    ghost use Rattle.ics_values.specs.declared.ordinals.Weekdays.{Weekdays};
 
     ghost Value = { Weekdays };
 
     ghost use Rattle.std.specs.Prelude.{◌≡◌};
-    ghost use Rattle.ics_values.specs.Places.{lists_no_weekday};
-    ghost use Rattle.ics_rule.specs.Parts.{named_below};
+    ghost use Rattle.ics_values.specs.Ordinals.{lists_no_weekday};
+    ghost use Rattle.ics_rule.specs.NamedWeekdays.{named_below};
 
     ghost view = { λ p. p.list };
 
@@ -79,7 +79,7 @@ impl WeekdaysPart {
     pub(crate) fn new(list: Weekdays) -> WeekdaysPart
         ensures { result ≡ list }
     {
-        let absent = list.is_none();
+        let absent = list.is_empty();
         let named = named_weekdays(&list);
         WeekdaysPart {
             list,
@@ -89,22 +89,22 @@ impl WeekdaysPart {
     }
 
     /// Whether there is no weekday.
-    pub(crate) fn is_none(&self) -> bool
+    pub(crate) fn is_empty(&self) -> bool
         ensures { result ≡ lists_no_weekday self.now }
     {
         self.absent
     }
 
     /// The weekdays that it names, with a number or without.
-    pub(crate) fn named(&self) -> Numbers
-        ensures { (d : ℕ) → has result d ≡ (nat_lt d 7 && names_weekday self.now d) }
+    pub(crate) fn named(&self) -> BitSet
+        ensures { (d : ℕ) → contains result d ≡ (nat_lt d 7 && names_weekday self.now d) }
     {
         self.named
     }
 }
 
 /// The numbers that BYDAY gives a weekday.
-pub(crate) fn numbers(weekdays: &Weekdays, weekday: u8) -> &Places
+pub(crate) fn numbers(weekdays: &Weekdays, weekday: u8) -> &Ordinals
     requires { weekday < 7 }
     ensures { result.now ≡ numbers_of weekdays.now weekday }
 {
@@ -116,7 +116,7 @@ pub(crate) fn has_no_number(weekdays: &Weekdays, weekday: u8) -> bool
     requires { weekday < 7 }
     ensures { result ≡ lists_none (numbers_of weekdays.now weekday) }
 {
-    numbers(weekdays, weekday).is_none()
+    numbers(weekdays, weekday).is_empty()
 }
 
 /// Whether BYDAY names a weekday, with a number or without.
@@ -124,17 +124,17 @@ fn names_weekday(weekdays: &Weekdays, weekday: u8) -> bool
     requires { weekday < 7 }
     ensures { result ≡ names_weekday weekdays.now weekday }
 {
-    weekdays.plain.has(weekday) || !has_no_number(weekdays, weekday)
+    weekdays.plain.contains(weekday) || !has_no_number(weekdays, weekday)
 }
 
 /// The weekdays that BYDAY names.
-fn named_weekdays(weekdays: &Weekdays) -> Numbers
+fn named_weekdays(weekdays: &Weekdays) -> BitSet
     ensures { result ≡ named_below weekdays.now 7 }
 {
-    let mut named = Numbers::new();
+    let mut named = BitSet::new();
     for weekday in 0..7 {
         if names_weekday(weekdays, weekday) {
-            named.add(weekday);
+            named.insert(weekday);
         }
     }
     named

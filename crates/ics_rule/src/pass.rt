@@ -5,21 +5,21 @@ ghost use Rattle.ics_rule.specs.Searches.{NoneLetIn, IsNextOpen};
 
 use crate::date::{civil_at, lets_date};
 use crate::days::days_left;
-use crate::fill::skips_hours;
-use crate::filled::Filled;
-use crate::period::{clock_set, first_local, next_second};
+use crate::effective::skips_hours;
+use crate::effective_rule::EffectiveRule;
+use crate::recurrence_period::{clock_set, first_local, next_second};
 use crate::step::period_of;
 use crate::time::lets;
 use crate::walk::next_step;
 use ics_values::Frequency;
 
 /// How many days from one on are in a month that BYMONTH does not allow.
-pub(crate) fn days_of_closed_month(parts: &Filled, day: u32) -> u32
+pub(crate) fn days_of_closed_month(parts: &EffectiveRule, day: u32) -> u32
     requires { day ≤ 3652059 }
     ensures none { (j : ℕ) → j < result → lets_date parts.now (day + j) ≡ false }
     ensures most { result ≤ 32 }
 {
-    if parts.months.is_none() {
+    if parts.months.is_empty() {
         return 0;
     }
     let fields = civil_at(day);
@@ -31,7 +31,7 @@ pub(crate) fn days_of_closed_month(parts: &Filled, day: u32) -> u32
 }
 
 /// How many days from one on a rule does not allow, as far as one look tells. Single days are tested only if FREQ is finer than MONTHLY.
-fn days_out(parts: &Filled, day: u32) -> u32
+fn days_out(parts: &EffectiveRule, day: u32) -> u32
     requires { day ≤ 3652059 }
     ensures none { (j : ℕ) → j < result → lets_date parts.now (day + j) ≡ false }
     ensures most { result ≤ 32 }
@@ -50,7 +50,7 @@ fn days_out(parts: &Filled, day: u32) -> u32
 }
 
 /// The first day from one on that a rule may allow. The search ends at `end`.
-fn next_open_day(parts: &Filled, day: u32, end: u32) -> u32
+fn next_open_day(parts: &EffectiveRule, day: u32, end: u32) -> u32
     requires day { day ≤ end }
     requires end { end ≤ 3652059 }
     ensures low { day ≤ result }
@@ -69,7 +69,7 @@ fn next_open_day(parts: &Filled, day: u32, end: u32) -> u32
 }
 
 /// The first local from one on whose time a rule allows, or the end of its day.
-fn next_open_second(parts: &Filled, n: u64) -> u64
+fn next_open_second(parts: &EffectiveRule, n: u64) -> u64
     requires { n < 315569520000 }
     ensures low { n ≤ result }
     ensures high { result ≤ n + 86400 }
@@ -86,7 +86,7 @@ fn next_open_second(parts: &Filled, n: u64) -> u64
 }
 
 /// The first local from one on that a rule may allow. The search ends at `end`.
-fn next_open(parts: &Filled, n: u64, end: u64) -> u64
+fn next_open(parts: &EffectiveRule, n: u64, end: u64) -> u64
     requires local { n < end }
     requires end { end ≤ 309289708800 }
     ensures low { n ≤ result }
@@ -103,17 +103,17 @@ fn next_open(parts: &Filled, n: u64, end: u64) -> u64
 }
 
 /// Whether no period is skipped: each year is looked at, and each month if BYMONTH is absent.
-fn opens_every_period(parts: &Filled) -> bool {
+fn opens_every_period(parts: &EffectiveRule) -> bool {
     match parts.frequency {
         Frequency::Yearly => true,
-        Frequency::Monthly => parts.months.is_none(),
+        Frequency::Monthly => parts.months.is_empty(),
         _ => false,
     }
 }
 
 /// The first step from one on in whose period a rule may allow a local. None if that period is later than `last`, the period of the
 /// last local before `stop`.
-pub(crate) fn next_open_step(parts: &Filled, first: u64, number: u64, last: u64, stop: u64) -> u64
+pub(crate) fn next_open_step(parts: &EffectiveRule, first: u64, number: u64, last: u64, stop: u64) -> u64
     requires interval { 1 ≤ parts.now.interval }
     requires first { first < 2 ^ 40 }
     requires step { is_stepped first parts.now.interval number ≡ true }

@@ -1,15 +1,15 @@
 //! Counting whole rounds of periods at once. After a round, what a rule chooses repeats.
 ghost use Rattle.std.specs.Prelude.{◌≡◌, ℕ, ◌<◌, ◌≤◌, ◌+◌, ◌*◌, ◌%◌, ◌^◌, ◌&&◌, IfSome, MatchOption, Some, true};
-ghost use Rattle.ics_rule.specs.Locals.{day_of};
+ghost use Rattle.ics_rule.specs.PeriodNumbers.{day_of};
 ghost use Rattle.ics_rule.specs.Candidates.{lets_date, lets_clock, period_in};
 ghost use Rattle.ics_rule.specs.Cursors.{IsCursorIn};
-ghost use Rattle.ics_rule.specs.Dates.{names_weekdays_alone};
+ghost use Rattle.ics_rule.specs.DateParts.{names_weekdays_alone};
 ghost use Rattle.ics_rule.specs.Rounds.{seconds_of, calendar_periods, IsCalendarRound, IsRound, IsFlat, IsEvenRound, HasRound, IsPassedTo};
 
 use crate::cursor::Cursor;
 use crate::date::{goes_by_months, names_weekdays_alone};
-use crate::fill::skips_hours;
-use crate::filled::Filled;
+use crate::effective::skips_hours;
+use crate::effective_rule::EffectiveRule;
 use crate::pass::next_open_step;
 use crate::step::period_of;
 use ics_values::Frequency;
@@ -39,20 +39,20 @@ pub(crate) fn seconds_of(frequency: Frequency) -> u64
 }
 
 /// The number of seconds after which the times and weekdays that a rule allows repeat.
-fn repeat_seconds(parts: &Filled) -> u64
+fn repeat_seconds(parts: &EffectiveRule) -> u64
     requires alone { names_weekdays_alone parts.now ≡ true }
     requires fine { 0 < seconds_of parts.now.frequency }
     ensures some { 1 ≤ result }
     ensures bound { result ≤ 604800 }
     ensures repeat { (n : ℕ) → (lets_date parts.now (day_of (n + result)) && lets_clock parts.now (n + result)) ≡ (lets_date parts.now (day_of n) && lets_clock parts.now n) }
 {
-    if !parts.weekdays.is_none() {
+    if !parts.weekdays.is_empty() {
         604_800
-    } else if !parts.hours.is_none() {
+    } else if !parts.hours.is_empty() {
         86_400
-    } else if !parts.minutes.is_none() {
+    } else if !parts.minutes.is_empty() {
         3_600
-    } else if !parts.seconds.is_none() {
+    } else if !parts.seconds.is_empty() {
         60
     } else {
         1
@@ -60,7 +60,7 @@ fn repeat_seconds(parts: &Filled) -> u64
 }
 
 /// How many periods a round has, if a rule's parts restrict only times and weekdays.
-fn round_of(parts: &Filled) -> Option<u64>
+fn round_of(parts: &EffectiveRule) -> Option<u64>
     requires interval { 1 ≤ parts.now.interval }
     ensures { MatchOption result (Unit {0}) (λ k. (s : ℕ) × IsRound parts.now k s) }
 {
@@ -78,7 +78,7 @@ fn round_of(parts: &Filled) -> Option<u64>
 
 /// The period up to which a search from one on looks: one round later if the rule repeats, since it chooses nothing after a round in which it
 /// chooses nothing, and else the last.
-pub(crate) fn last_to_look_at(parts: &Filled, begin: u64, last: u64) -> u64
+pub(crate) fn last_to_look_at(parts: &EffectiveRule, begin: u64, last: u64) -> u64
     requires interval { 1 ≤ parts.now.interval }
     ensures high { result ≤ last }
     ensures round { result < last → HasRound parts.now begin result }
@@ -94,13 +94,13 @@ pub(crate) fn last_to_look_at(parts: &Filled, begin: u64, last: u64) -> u64
 }
 
 /// Whether BYMONTHDAY is there, with days that each month has, counted from the first, and of the other parts of the date at most BYMONTH.
-fn is_flat(parts: &Filled) -> bool
+fn is_flat(parts: &EffectiveRule) -> bool
     ensures { result ≡ true → IsFlat parts.now }
 {
     if !goes_by_months(parts) {
         return false;
     }
-    if !parts.weekdays.is_none() {
+    if !parts.weekdays.is_empty() {
         return false;
     }
     if parts.month_days.back.next_from(0).is_some() {
@@ -110,7 +110,7 @@ fn is_flat(parts: &Filled) -> bool
 }
 
 /// After how many periods the number of locals that a rule chooses repeats, if that is known.
-fn even_round_of(parts: &Filled) -> Option<u64>
+fn even_round_of(parts: &EffectiveRule) -> Option<u64>
     requires interval { 1 ≤ parts.now.interval }
     ensures { MatchOption result (Unit {0}) (λ k. (start : ℕ) → IsEvenRound parts.now start k) }
 {
@@ -146,7 +146,7 @@ fn calendar_periods(frequency: Frequency) -> u64
 
 /// The first round of the calendar's 400 years, taken once or more, that steps of the interval fill. None if it is longer than half of
 /// so many periods.
-pub(crate) fn calendar_round(parts: &Filled, periods: u64) -> Option<u64>
+pub(crate) fn calendar_round(parts: &EffectiveRule, periods: u64) -> Option<u64>
     requires interval { 1 ≤ parts.now.interval }
     requires periods { periods < 2 ^ 40 }
     ensures round { MatchOption result (Unit {0}) (IsCalendarRound parts.now) }
@@ -165,7 +165,7 @@ pub(crate) fn calendar_round(parts: &Filled, periods: u64) -> Option<u64>
 
 /// After how many periods the number of locals that a rule chooses repeats: by what its parts restrict, or else by the calendar, if two
 /// rounds of it fit into so many periods.
-fn round_within(parts: &Filled, periods: u64) -> Option<u64>
+fn round_within(parts: &EffectiveRule, periods: u64) -> Option<u64>
     requires interval { 1 ≤ parts.now.interval }
     requires periods { periods < 2 ^ 40 }
     ensures { MatchOption result (Unit {0}) (λ k. (start : ℕ) → IsEvenRound parts.now start k) }
@@ -177,7 +177,7 @@ fn round_within(parts: &Filled, periods: u64) -> Option<u64>
 }
 
 /// Whether what a rule allows repeats after so few periods that they are looked at one by one.
-fn repeats_soon(parts: &Filled) -> bool
+fn repeats_soon(parts: &EffectiveRule) -> bool
     requires interval { 1 ≤ parts.now.interval }
 {
     match even_round_of(parts) {
@@ -188,7 +188,7 @@ fn repeats_soon(parts: &Filled) -> bool
 
 impl Cursor {
     /// Whether the place is at most two years after the first day of the month or year held, so that no two rounds lie between.
-    fn is_close(&self, parts: &Filled) -> bool {
+    fn is_close(&self, parts: &EffectiveRule) -> bool {
         match &self.held {
             Some(period) => {
                 let end = (period.first_day as u64 + TWO_YEARS) * 86_400;
@@ -200,7 +200,7 @@ impl Cursor {
 
     /// Counts what is chosen in the periods up to that of the place, and looks at one of the last of them: by whole rounds if these are
     /// short or a period is longer than a day, and else by whole days. Nothing changes if neither can be done.
-    pub(crate) fn pass_periods(&mut self, parts: &Filled, start: u64, count: u32, first: u64)
+    pub(crate) fn pass_periods(&mut self, parts: &EffectiveRule, start: u64, count: u32, first: u64)
         requires interval { 1 ≤ parts.now.interval }
         requires count { 1 ≤ count }
         requires first { first ≡ period_in parts.now start }
@@ -223,7 +223,7 @@ impl Cursor {
 
     /// Counts the first round, from the period held or from the start's on. Then looks at the last period up to the place that is whole
     /// rounds after it. Nothing changes, or the first round is looked at, if fewer than two are left.
-    fn pass_rounds(&mut self, parts: &Filled, start: u64, count: u32, first: u64)
+    fn pass_rounds(&mut self, parts: &EffectiveRule, start: u64, count: u32, first: u64)
         requires interval { 1 ≤ parts.now.interval }
         requires count { 1 ≤ count }
         requires first { first ≡ period_in parts.now start }

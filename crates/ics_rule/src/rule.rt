@@ -4,8 +4,8 @@ ghost use Rattle.ics_values.specs.Days.{IsDayNumber};
 ghost use Rattle.ics_rule.specs.Kept.{utc_moment};
 
 use crate::date::lets_date;
-use crate::fill::fill;
-use crate::filled::Filled;
+use crate::effective::fill;
+use crate::effective_rule::EffectiveRule;
 use crate::kind::Kind;
 use crate::step::{in_step, number};
 use crate::time::lets_clock;
@@ -18,7 +18,7 @@ pub struct Rule {
     pub(crate) parts: Parts,
     pub(crate) start: Local,
     pub(crate) kind: Kind,
-    pub(crate) whole: Filled,
+    pub(crate) whole: EffectiveRule,
 }
 
 /// The instant of a local that is read as UTC.
@@ -35,20 +35,20 @@ impl Model for Rule {
 
     ghost use Rattle.std.specs.Prelude.{◌≡◌, ◌≤◌};
     ghost use Rattle.ics_values.specs.Days.{IsDayNumber};
-    ghost use Rattle.ics_rule.specs.Filled.{filled};
+    ghost use Rattle.ics_rule.specs.EffectiveRules.{effective};
 
     ghost view = { λ r. record { parts = r.parts; start = r.start; kind = r.kind } };
 
-    ghost invariant = { λ r. (r.whole ≡ filled (record { parts = r.parts; start = r.start; kind = r.kind }))
+    ghost invariant = { λ r. (r.whole ≡ effective (record { parts = r.parts; start = r.start; kind = r.kind }))
         × (IsDayNumber r.start.day × (1 ≤ r.whole.interval)) };
 
-    ghost inverse = { λ v. record { parts = v.parts; start = v.start; kind = v.kind; whole = filled v } };
+    ghost inverse = { λ v. record { parts = v.parts; start = v.start; kind = v.kind; whole = effective v } };
 
     ghost inverse_ok = { λ r h. Prim.rw h.0 };
 }
 
 impl Rule {
-    ghost use Rattle.ics_rule.specs.Locals.{number};
+    ghost use Rattle.ics_values.specs.Locals.{number};
     ghost use Rattle.ics_rule.specs.Candidates.{is_candidate};
     ghost use Rattle.ics_rule.specs.Kept.{until_moment};
 

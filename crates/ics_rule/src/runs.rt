@@ -1,12 +1,12 @@
 //! Months and years as runs of days, in which days and weekdays are numbered.
 ghost use Rattle.std.specs.Prelude.{◌≡◌, ℕ, ◌<◌, ◌≤◌, ◌+◌, ◌-◌, ◌/◌, ◌&&◌, ◌||◌, ◌==◌, nat_le, nat_lt};
-ghost use Rattle.ics_values.specs.Sets.{has, has_wide};
+ghost use Rattle.ics_values.specs.Sets.{contains, contains_wide};
 ghost use Rattle.ics_rule.specs.Candidates.{lists, lists_nth};
 ghost use Rattle.ics_rule.specs.Runs.{has_run, weekday_in, lists_weekday, lists_in_month};
 
-use crate::filled::Filled;
+use crate::effective_rule::EffectiveRule;
 use crate::part::{WeekdaysPart, numbers};
-use ics_values::{Numbers, Places, Weekdays, WideNumbers};
+use ics_values::{BitSet, Ordinals, Weekdays, WideBitSet};
 
 /// A month or a year, as a run of days of a period.
 #[derive(Clone, Copy)]
@@ -20,9 +20,9 @@ pub struct Run {
 }
 
 /// The numbers from 1 to `size` that a part lists, counted from the start or from the end.
-fn listed(places: &Places, size: u8) -> Numbers
+fn listed(places: &Ordinals, size: u8) -> BitSet
     requires { size < 60 }
-    ensures { (n : ℕ) → 1 ≤ n → has result n ≡ (nat_le n size && lists places.now n size) }
+    ensures { (n : ℕ) → 1 ≤ n → contains result n ≡ (nat_le n size && lists places.now n size) }
 {
     let mut listed = places.front.front(size + 1);
     let mut from = 1;
@@ -30,7 +30,7 @@ fn listed(places: &Places, size: u8) -> Numbers
         if n > size {
             return listed;
         }
-        listed.add(size + 1 - n);
+        listed.insert(size + 1 - n);
         from = n + 1;
     }
     listed
@@ -66,51 +66,51 @@ impl Run {
 
     /// Adds each day of the run on a weekday.
     #[inline(always)]
-    fn add_each(self, weekday: u8, days: &mut WideNumbers)
+    fn add_each(self, weekday: u8, days: &mut WideBitSet)
         requires weekday { weekday < 7 }
         requires own { self.weekday < 7 }
         requires some { 28 ≤ self.len }
         requires most { self.len ≤ 366 }
         requires within { self.start + self.len ≤ 384 }
-        ensures { (m : ℕ) → has_wide days.new m ≡ (has_wide days.old m || (has_run self m && (weekday_in self (m - self.start) == weekday))) }
+        ensures { (m : ℕ) → contains_wide days.new m ≡ (contains_wide days.old m || (has_run self m && (weekday_in self (m - self.start) == weekday))) }
     {
         let mut place = self.first_on(weekday);
         while place < self.len {
-            days.add(self.start + place);
+            days.insert(self.start + place);
             place += 7;
         }
     }
 
     /// Adds the days of the run on a weekday that are listed by their number.
-    fn add_numbered(self, weekday: u8, numbers: &Places, days: &mut WideNumbers)
+    fn add_numbered(self, weekday: u8, numbers: &Ordinals, days: &mut WideBitSet)
         requires weekday { weekday < 7 }
         requires own { self.weekday < 7 }
         requires some { 28 ≤ self.len }
         requires most { self.len ≤ 366 }
         requires within { self.start + self.len ≤ 384 }
-        ensures { (m : ℕ) → has_wide days.new m ≡ (has_wide days.old m
+        ensures { (m : ℕ) → contains_wide days.new m ≡ (contains_wide days.old m
             || (has_run self m && ((weekday_in self (m - self.start) == weekday) && lists_nth numbers.now (m - self.start + 1) self.len))) }
     {
         let first = self.first_on(weekday);
         let listed = listed(numbers, self.days_from(first));
         let mut from = 1;
         while let Some(n) = listed.next_from(from) {
-            days.add(self.start + (first + 7 * (n as u16 - 1)));
+            days.insert(self.start + (first + 7 * (n as u16 - 1)));
             from = n + 1;
         }
     }
 
     /// Adds the days of the run on a weekday, with the numbers that BYDAY lists or with any.
-    fn add_weekday(self, weekdays: &Weekdays, weekday: u8, days: &mut WideNumbers)
+    fn add_weekday(self, weekdays: &Weekdays, weekday: u8, days: &mut WideBitSet)
         requires weekday { weekday < 7 }
         requires own { self.weekday < 7 }
         requires some { 28 ≤ self.len }
         requires most { self.len ≤ 366 }
         requires within { self.start + self.len ≤ 384 }
-        ensures { (m : ℕ) → has_wide days.new m ≡ (has_wide days.old m
+        ensures { (m : ℕ) → contains_wide days.new m ≡ (contains_wide days.old m
             || (has_run self m && ((weekday_in self (m - self.start) == weekday) && lists_weekday weekdays.now weekday (m - self.start + 1) self.len))) }
     {
-        if weekdays.plain.has(weekday) {
+        if weekdays.plain.contains(weekday) {
             self.add_each(weekday, days);
         } else {
             self.add_numbered(weekday, numbers(weekdays, weekday), days);
@@ -119,12 +119,12 @@ impl Run {
 
     /// Adds the days of the run that BYDAY lists.
     #[inline(always)]
-    pub(crate) fn add_weekdays(self, weekdays: &WeekdaysPart, days: &mut WideNumbers)
+    pub(crate) fn add_weekdays(self, weekdays: &WeekdaysPart, days: &mut WideBitSet)
         requires own { self.weekday < 7 }
         requires some { 28 ≤ self.len }
         requires most { self.len ≤ 366 }
         requires within { self.start + self.len ≤ 384 }
-        ensures { (m : ℕ) → has_wide days.new m ≡ (has_wide days.old m
+        ensures { (m : ℕ) → contains_wide days.new m ≡ (contains_wide days.old m
             || (has_run self m && lists_weekday weekdays.now (weekday_in self (m - self.start)) (m - self.start + 1) self.len)) }
     {
         let named = weekdays.named();
@@ -137,30 +137,30 @@ impl Run {
 
     /// Adds the days of the run, a month, that BYMONTHDAY lists.
     #[inline(never)]
-    fn add_month_days(self, month_days: &Places, days: &mut WideNumbers)
+    fn add_month_days(self, month_days: &Ordinals, days: &mut WideBitSet)
         requires most { self.len ≤ 31 }
         requires within { self.start + self.len ≤ 384 }
-        ensures { (m : ℕ) → has_wide days.new m ≡ (has_wide days.old m || (has_run self m && lists month_days.now (m - self.start + 1) self.len)) }
+        ensures { (m : ℕ) → contains_wide days.new m ≡ (contains_wide days.old m || (has_run self m && lists month_days.now (m - self.start + 1) self.len)) }
     {
         let listed = listed(month_days, self.len as u8);
         let mut from = 1;
         while let Some(n) = listed.next_from(from) {
-            days.add(self.start + n as u16 - 1);
+            days.insert(self.start + n as u16 - 1);
             from = n + 1;
         }
     }
 
     /// Adds the days of the run, a month, that BYMONTHDAY lists or, if that is absent, BYDAY.
     #[inline(always)]
-    pub(crate) fn add_month(self, parts: &Filled, days: &mut WideNumbers)
+    pub(crate) fn add_month(self, parts: &EffectiveRule, days: &mut WideBitSet)
         requires own { self.weekday < 7 }
         requires some { 28 ≤ self.len }
         requires most { self.len ≤ 31 }
         requires within { self.start + self.len ≤ 384 }
-        ensures { (m : ℕ) → has_wide days.new m ≡ (has_wide days.old m
+        ensures { (m : ℕ) → contains_wide days.new m ≡ (contains_wide days.old m
             || (has_run self m && lists_in_month parts.now (weekday_in self (m - self.start)) (m - self.start + 1) self.len)) }
     {
-        if parts.month_days.is_none() {
+        if parts.month_days.is_empty() {
             self.add_weekdays(&parts.weekdays, days);
         } else {
             self.add_month_days(&parts.month_days, days);

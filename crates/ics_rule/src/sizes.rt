@@ -1,18 +1,18 @@
 //! How many locals of a period are earlier than a given one, by the sizes of its sets.
 ghost use Rattle.std.specs.Prelude.{◌≡◌, ℕ, ◌<◌, ◌≤◌, ◌+◌, ◌*◌, ◌/◌, ◌%◌, ◌^◌};
-ghost use Rattle.ics_values.specs.Sets.{has, has_wide};
-ghost use Rattle.ics_rule.specs.declared.filled.Filled.{Filled};
-ghost use Rattle.ics_rule.specs.Locals.{calendar_end};
+ghost use Rattle.ics_values.specs.Sets.{contains, contains_wide};
+ghost use Rattle.ics_rule.specs.declared.effective_rule.EffectiveRule.{EffectiveRule};
+ghost use Rattle.ics_rule.specs.PeriodNumbers.{calendar_end};
 ghost use Rattle.ics_rule.specs.Kept.{count};
-ghost use Rattle.ics_rule.specs.Periods.{has_minute, has_second, has_day, holds, IsPeriodOf};
+ghost use Rattle.ics_rule.specs.RecurrencePeriods.{has_minute, has_second, has_day, holds, IsPeriodOf};
 
-use crate::period::Period;
-use ics_values::{Numbers, WideNumbers};
+use crate::recurrence_period::RecurrencePeriod;
+use ics_values::{BitSet, WideBitSet};
 
 /// How many members of a set are below `n`.
-pub(crate) fn members_below(set: Numbers, n: u8) -> u64
+pub(crate) fn members_below(set: BitSet, n: u8) -> u64
     requires { n ≤ 64 }
-    ensures value { result ≡ count n (has set) }
+    ensures value { result ≡ count n (contains set) }
     ensures bound { result ≤ n }
 {
     let mut place = 0;
@@ -28,9 +28,9 @@ pub(crate) fn members_below(set: Numbers, n: u8) -> u64
 }
 
 /// The same for days.
-fn days_below(set: &WideNumbers, n: u16) -> u64
+fn days_below(set: &WideBitSet, n: u16) -> u64
     requires { n ≤ 384 }
-    ensures value { result ≡ count n (has_wide set.now) }
+    ensures value { result ≡ count n (contains_wide set.now) }
     ensures bound { result ≤ n }
 {
     let mut place = 0;
@@ -46,20 +46,20 @@ fn days_below(set: &WideNumbers, n: u16) -> u64
 }
 
 /// How many minutes of a day, before a given one, are in a set of hours times a set of minutes.
-fn minutes_below(hours: Numbers, minutes: Numbers, minute: u32) -> u64
+fn minutes_below(hours: BitSet, minutes: BitSet, minute: u32) -> u64
     requires { minute ≤ 1440 }
     ensures value { result ≡ count minute (has_minute hours minutes) }
     ensures bound { result ≤ minute }
 {
     let whole = members_below(hours, (minute / 60) as u8) * members_below(minutes, 60);
-    if hours.has((minute / 60) as u8) {
+    if hours.contains((minute / 60) as u8) {
         whole + members_below(minutes, (minute % 60) as u8)
     } else {
         whole
     }
 }
 
-impl Period {
+impl RecurrencePeriod {
     /// How many seconds of a day, before a given one, are in the product's times.
     pub(crate) fn seconds_below(&self, second: u32) -> u64
         requires { second ≤ 86400 }
@@ -69,7 +69,7 @@ impl Period {
         let minute = second / 60;
         let whole = minutes_below(self.hours, self.minutes, minute)
             * members_below(self.seconds, 60);
-        if self.hours.has((minute / 60) as u8) & self.minutes.has((minute % 60) as u8) {
+        if self.hours.contains((minute / 60) as u8) & self.minutes.contains((minute % 60) as u8) {
             whole + members_below(self.seconds, (second % 60) as u8)
         } else {
             whole
@@ -78,7 +78,7 @@ impl Period {
 
     /// The number of locals in the product.
     pub(crate) fn size(&self) -> u64
-        requires { (q : Filled) × IsPeriodOf q self.now }
+        requires { (q : EffectiveRule) × IsPeriodOf q self.now }
         ensures value { result ≡ count calendar_end (holds self.now) }
         ensures bound { result < 2 ^ 63 }
     {
@@ -88,7 +88,7 @@ impl Period {
     /// How many of its locals are earlier than `n`.
     pub(crate) fn rank_before(&self, n: u64) -> u64
         requires local { n < 315569520000 }
-        requires own { (q : Filled) × IsPeriodOf q self.now }
+        requires own { (q : EffectiveRule) × IsPeriodOf q self.now }
         ensures value { result ≡ count n (holds self.now) }
         ensures bound { result ≤ n }
     {

@@ -2,11 +2,12 @@
 ghost use Rattle.std.specs.Prelude.{◌≡◌, ℕ, ◌<◌, ◌≤◌, ◌+◌, ◌*◌, ◌/◌, ◌^◌, pos, ◌-ℤ◌};
 ghost use Rattle.jiff_core.specs.Weekday.{monday_zero};
 ghost use Rattle.ics_values.specs.Days.{IsDayNumber};
-ghost use Rattle.ics_rule.specs.Locals.{number, period};
+ghost use Rattle.ics_rule.specs.PeriodNumbers.{period};
+ghost use Rattle.ics_values.specs.Locals.{number};
 ghost use Rattle.ics_rule.specs.Candidates.{in_step, period_in};
 
 use crate::date::civil_at;
-use crate::filled::Filled;
+use crate::effective_rule::EffectiveRule;
 use ics_values::{Frequency, Local};
 
 /// The seconds from 0000-01-01T00:00:00 to a local.
@@ -32,7 +33,7 @@ pub(crate) fn local_of(n: u64) -> Local
 }
 
 /// The number of the period that a local is in.
-pub(crate) fn period_of(parts: &Filled, n: u64) -> u64
+pub(crate) fn period_of(parts: &EffectiveRule, n: u64) -> u64
     requires { n < 315569520000 }
     ensures value { result ≡ period_in parts.now n }
     ensures small { result < 2 ^ 40 }
@@ -53,7 +54,7 @@ pub(crate) fn period_of(parts: &Filled, n: u64) -> u64
 }
 
 /// Whether the period of `n` is that of the start or later, by a multiple of the interval.
-pub(crate) fn in_step(parts: &Filled, start: u64, n: u64) -> bool
+pub(crate) fn in_step(parts: &EffectiveRule, start: u64, n: u64) -> bool
     requires start_local { start < 315569520000 }
     requires local { n < 315569520000 }
     requires interval { 1 ≤ parts.now.interval }

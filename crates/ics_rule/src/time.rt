@@ -2,25 +2,25 @@
 ghost use Rattle.std.specs.Prelude.{◌≡◌, ℕ, ◌<◌, ◌≤◌, ◌+◌, ◌*◌};
 ghost use Rattle.ics_rule.specs.Candidates.{lets, lets_place, lets_wide_place, lists_nth, lets_clock};
 
-use crate::filled::Filled;
+use crate::effective_rule::EffectiveRule;
 use crate::part::PlacesPart;
-use ics_values::{Numbers, Places};
+use ics_values::{BitSet, Ordinals};
 
 /// Whether a part allows `n`: it is absent or lists it.
-pub(crate) fn lets(set: Numbers, n: u8) -> bool
+pub(crate) fn lets(set: BitSet, n: u8) -> bool
     requires { n < 64 }
     ensures { result ≡ lets set n }
 {
-    set.is_none() || set.has(n)
+    set.is_empty() || set.contains(n)
 }
 
 /// Whether the part allows the `n`-th of `size`.
-pub(crate) fn lets_place(places: &Places, n: u8, size: u8) -> bool
+pub(crate) fn lets_place(places: &Ordinals, n: u8, size: u8) -> bool
     requires place { n ≤ size }
     requires small { size < 63 }
     ensures { result ≡ lets_place places.now n size }
 {
-    places.is_none() || places.front.has(n) || places.back.has(size + 1 - n)
+    places.is_empty() || places.front.contains(n) || places.back.contains(size + 1 - n)
 }
 
 /// The same for a year's days.
@@ -29,21 +29,21 @@ pub(crate) fn lets_wide_place(places: &PlacesPart, n: u16, size: u16) -> bool
     requires small { size < 383 }
     ensures { result ≡ lets_wide_place places.now n size }
 {
-    places.is_none() || places.list.front.has(n) || places.list.back.has(size + 1 - n)
+    places.is_empty() || places.list.front.contains(n) || places.list.back.contains(size + 1 - n)
 }
 
 /// Whether the numbers list day `n` of `size`, counted by its weekday.
-pub(crate) fn lists_nth(places: &Places, n: u16, size: u16) -> bool
+pub(crate) fn lists_nth(places: &Ordinals, n: u16, size: u16) -> bool
     requires first { 1 ≤ n }
     requires place { n ≤ size }
     requires small { size ≤ 366 }
     ensures { result ≡ lists_nth places.now n size }
 {
-    places.front.has(((n - 1) / 7 + 1) as u8) || places.back.has(((size - n) / 7 + 1) as u8)
+    places.front.contains(((n - 1) / 7 + 1) as u8) || places.back.contains(((size - n) / 7 + 1) as u8)
 }
 
 /// Whether the parts that restrict the time allow this second of a day.
-pub(crate) fn lets_clock(parts: &Filled, second: u32) -> bool
+pub(crate) fn lets_clock(parts: &EffectiveRule, second: u32) -> bool
     requires { second < 86400 }
     ensures { (day : ℕ) → result ≡ lets_clock parts.now (day * 86400 + second) }
 {

@@ -3,12 +3,12 @@ ghost use Rattle.std.specs.Prelude.{◌≡◌, ℕ, ◌<◌, ◌≤◌, ◌+◌,
 ghost use Rattle.jiff_core.specs.Weekday.{monday_zero};
 ghost use Rattle.ics_values.specs.Sets.{IsLeastFrom, IsNextIn};
 ghost use Rattle.ics_rule.specs.Candidates.{is_stepped, period_in};
-ghost use Rattle.ics_rule.specs.Periods.{first_local, IsPeriodOf};
+ghost use Rattle.ics_rule.specs.RecurrencePeriods.{first_local, IsPeriodOf};
 ghost use Rattle.ics_rule.specs.Cursors.{HasBegun, IsCursorIn};
 ghost use Rattle.ics_rule.specs.Searches.{is_chosen_within, IsNextWanted, IsWalked, LooksOrStays, LooksOnce};
 
 use crate::cursor::Cursor;
-use crate::filled::Filled;
+use crate::effective_rule::EffectiveRule;
 use crate::never::chooses_none;
 use crate::pass::next_open_step;
 use crate::rounds::last_to_look_at;
@@ -31,7 +31,7 @@ pub(crate) fn next_step(first: u64, interval: u32, own: u64) -> u64
 
 impl Cursor {
     /// The first local from the place on that the rule chooses within a period. Looks at the period unless it is the one held.
-    fn find(&mut self, parts: &Filled, start: u64, number: u64) -> Option<u64>
+    fn find(&mut self, parts: &EffectiveRule, start: u64, number: u64) -> Option<u64>
         requires step { is_stepped (period_in parts.now start) parts.now.interval number ≡ true }
         requires low { period_in parts.now 0 ≤ number }
         requires reach { first_local parts.now.frequency (monday_zero parts.now.week_start) number ≤ 309289708800 }
@@ -57,7 +57,7 @@ impl Cursor {
     }
 
     /// The next local from the place on that the rule chooses. It is searched for in the periods up to that of the last before `stop`.
-    pub(crate) fn walk_freely(&mut self, parts: &Filled, start: u64, stop: u64) -> Option<u64>
+    pub(crate) fn walk_freely(&mut self, parts: &EffectiveRule, start: u64, stop: u64) -> Option<u64>
         requires interval { 1 ≤ parts.now.interval }
         requires start { start < 315569520000 }
         requires place { self.old.place < stop }

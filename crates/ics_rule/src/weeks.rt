@@ -1,29 +1,29 @@
 //! The days of a year that are in listed weeks.
 ghost use Rattle.std.specs.Prelude.{◌≡◌, ℕ, ◌<◌, ◌≤◌, ◌+◌, ◌&&◌, ◌||◌, nat_le, nat_lt, pos, true, false};
 ghost use Rattle.jiff_core.specs.Calendar.{days_in_year};
-ghost use Rattle.ics_values.specs.Sets.{has, has_wide};
+ghost use Rattle.ics_values.specs.Sets.{contains, contains_wide};
 ghost use Rattle.ics_values.specs.Days.{days_before_year, year_of};
-ghost use Rattle.ics_values.specs.Places.{lists_none};
+ghost use Rattle.ics_values.specs.Ordinals.{lists_none};
 ghost use Rattle.ics_rule.specs.Candidates.{lets_week};
 ghost use Rattle.ics_rule.specs.Runs.{may_list_week};
 
 use crate::days::weekday_at;
-use crate::filled::Filled;
-use ics_values::{Numbers, Places, WideNumbers};
+use crate::effective_rule::EffectiveRule;
+use ics_values::{BitSet, Ordinals, WideBitSet};
 
 /// Adds the days from `low` on and before `end`.
-fn add_between(days: &mut WideNumbers, low: u16, end: u16)
+fn add_between(days: &mut WideBitSet, low: u16, end: u16)
     requires { end ≤ 384 }
-    ensures { (m : ℕ) → has_wide days.new m ≡ (has_wide days.old m || (nat_le low m && nat_lt m end)) }
+    ensures { (m : ℕ) → contains_wide days.new m ≡ (contains_wide days.old m || (nat_le low m && nat_lt m end)) }
 {
     for k in low..end {
-        days.add(k);
+        days.insert(k);
     }
 }
 
 /// The weeks that BYWEEKNO lists in a year of 52 weeks or in one of 53.
-fn listed_weeks(weeks: &Places) -> Numbers
-    ensures { (n : ℕ) → 1 ≤ n → n ≤ 53 → has result n ≡ may_list_week weeks.now n }
+fn listed_weeks(weeks: &Ordinals) -> BitSet
+    ensures { (n : ℕ) → 1 ≤ n → n ≤ 53 → contains result n ≡ may_list_week weeks.now n }
 {
     let mut listed = weeks.front;
     let mut from = 0;
@@ -31,8 +31,8 @@ fn listed_weeks(weeks: &Places) -> Numbers
         if n > 53 {
             return listed;
         }
-        listed.add(53 - n);
-        listed.add(54 - n);
+        listed.insert(53 - n);
+        listed.insert(54 - n);
         from = n + 1;
     }
     listed
@@ -40,16 +40,16 @@ fn listed_weeks(weeks: &Places) -> Numbers
 
 /// Days of a year, including all that are in a listed week. The first three and the last three days of a year may be in a week of
 /// another year.
-pub(crate) fn days_near_weeks(parts: &Filled, first: u32, len: u16) -> WideNumbers
+pub(crate) fn days_near_weeks(parts: &EffectiveRule, first: u32, len: u16) -> WideBitSet
     requires first { first ≡ days_before_year (year_of first) }
     requires size { len ≡ days_in_year (pos (year_of first)) }
     requires early { first ≤ 3652059 }
     requires some { lists_none parts.now.weeks ≡ false }
-    ensures within { (k : ℕ) → has_wide result k ≡ true → k < len }
-    ensures all { (k : ℕ) → k < len → lets_week parts.now (first + k) ≡ true → has_wide result k ≡ true }
+    ensures within { (k : ℕ) → contains_wide result k ≡ true → k < len }
+    ensures all { (k : ℕ) → k < len → lets_week parts.now (first + k) ≡ true → contains_wide result k ≡ true }
 {
     let fourth = (parts.week_start.index() + 10 - weekday_at(first)) % 7;
-    let mut days = WideNumbers::new();
+    let mut days = WideBitSet::new();
     add_between(&mut days, 0, 3);
     add_between(&mut days, len - 3, len);
     let listed = listed_weeks(&parts.weeks);

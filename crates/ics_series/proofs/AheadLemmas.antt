@@ -5,7 +5,7 @@ use Rattle.std.specs.Ordering.{int_eq, is_lt}
 use Rattle.std.proofs.Common.{◌≡◌, ℕ, zero, suc, ℤ, pos, ◌+ℤ◌, ◌-ℤ◌, List, [], ◌∷◌, ◌++◌, map, Option, Some, None, ◌⊎◌, inl, inr, ⊎_elim, Bool, true, false, cond, refl, sym, ◌∙◌, ap, subst, arith}
 use Rattle.std.proofs.lemmas.Int.{ints}
 use Rattle.ics_calendar.specs.Event.{FileSaid}
-use Rattle.ics_zone.specs.Places.{IsNear}
+use Rattle.ics_zone.specs.Seconds.{IsNear}
 use Rattle.ics_series.specs.declared.window.Window.{Window}
 use Rattle.ics_series.specs.After.{is_after}
 use Rattle.ics_series.specs.Ahead.{is_today, today, IsAheadOf, IsLater}

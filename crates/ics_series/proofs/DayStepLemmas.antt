@@ -6,7 +6,7 @@ use Rattle.std.proofs.Common.{◌≡◌, ℕ, zero, suc, ◌+◌, ◌≤◌, ℤ
 use Rattle.std.proofs.lemmas.Int.{int_max_is, int_min_is, ints}
 use Rattle.std.proofs.lemmas.List.Sums.{sum_by-cons}
 use Rattle.ics_series.specs.declared.window.Window.{Window}
-use Rattle.ics_series.specs.Days.{date_of}
+use Rattle.ics_series.specs.ShownDays.{day_of_local}
 use Rattle.ics_series.specs.DayKeys.{DayRank}
 use Rattle.ics_series.specs.DayMasters.{day_and_start, masters_in, AreDayMasters, AreMasters, IsDayMaster, IsFromStart, IsNearAgenda, IsPastAgenda, Scope}
 use Rattle.ics_series.specs.DaySteps.{begin_day, first_under, most_in, sum_days, AreDayBounds, IsLookedBefore}
@@ -15,7 +15,7 @@ use Rattle.ics_series.specs.HeldMost.{Master}
 use Rattle.ics_series.specs.Listing.{IsIn}
 use Rattle.ics_series.specs.NearDays.{first_near, last_near, IsBehindKey, IsNearDay}
 use Rattle.ics_series.specs.OnDays.{on_day, OnDay}
-use Rattle.ics_series.specs.Placed.{Placed}
+use Rattle.ics_series.specs.PlacedEvents.{Placed}
 use Rattle.ics_series.specs.Rising.{Rises}
 use Rattle.ics_series.specs.Sources.{master_of, recurring, uid_cmp, IsFrom, Recurring, Source}
 use Rattle.ics_series.specs.Steps.{HasStepBound}
@@ -43,7 +43,7 @@ sum-none (m ∷ ms) = omega (arith, sum_by-cons (λ n. 0) m ms, sum-none ms)
 -- past the last day the window holds nothing near one
 none-near : (w : Window) (day : ℤ) (n : Window) → last_near w <ℤ day → IsNearDay w day n → ⊥
 none-near w day n past near =
-    let last = day-under (w.to -ℤ pos 1) (date_of (w.to -ℤ pos 1)) refl in
+    let last = day-under (w.to -ℤ pos 1) (day_of_local (w.to -ℤ pos 1)) refl in
     let ordered = n.ordered in
     let from = near.from in
     let to = near.to in

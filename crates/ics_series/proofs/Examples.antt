@@ -4,13 +4,12 @@ use Rattle.std.proofs.Common.{◌≡◌, ℕ, ℤ, pos, neg_ℤ, ◌+ℤ◌, ◌
 use Rattle.std.proofs.lemmas.Int.{ints}
 use Rattle.std.specs.declared.cmp.Ordering.TheVariants.{Less, Greater}
 use Rattle.ics_values.specs.Days.{days_on_literals}
-use Rattle.ics_values.specs.Locals.{local_at}
+use Rattle.ics_values.specs.Locals.{local_at, number}
 use Rattle.ics_values.specs.RuleParts.{RuleParts, every}
 use Rattle.ics_values.specs.declared.frequency.Frequency.TheVariants.{Daily}
 use Rattle.ics_values.specs.declared.local.Local.{Local}
 use Rattle.ics_values.specs.declared.until.Until.TheVariants as until
 use Rattle.ics_rule.specs.Kept.{is_kept, rules_on_literals, until_moment}
-use Rattle.ics_rule.specs.Locals.{number}
 use Rattle.ics_rule.specs.Recurrence.{Recurrence}
 use Rattle.ics_values.specs.declared.stamp.Stamp.{Stamp}
 use Rattle.ics_values.specs.declared.stamp.Stamp.TheVariants.{Date, Floating, Utc, Zoned}
@@ -26,10 +25,10 @@ use Rattle.ics_series.specs.Exclusions.{excludes}
 use Rattle.ics_series.specs.Finish.{finish}
 use Rattle.ics_series.specs.Found.{firsts_after}
 use Rattle.ics_series.specs.Starts.{given_by, recurrence_by, time_at, time_of, GivesStart, IsNotAfter, IsRuleStart}
-use Rattle.ics_series.specs.declared.start.Giver.TheVariants.{Kept, Listed}
+use Rattle.ics_series.specs.declared.start.StartSource.TheVariants.{Kept, Listed}
 use Rattle.ics_series.specs.declared.start.Start.{Start}
 use Rattle.ics_series.specs.Meeting.{is_met}
-use Rattle.ics_series.specs.Placed.{Placed, placed_cmp}
+use Rattle.ics_series.specs.PlacedEvents.{Placed, placed_cmp}
 
 abbrev event_of : ℕ → Stamp → Length → Event
 event_of sequence start length = record {
@@ -193,7 +192,7 @@ utc day second = record { stamp = Utc (local_at day second); zone = None }
 
 -- of equal instants the first
 abbrev start : ℤ → ℕ → Start
-start moment second = record { moment = moment; giver = Kept (local_at (pos 19_727) second); given = At (utc (pos 19_727) second) }
+start moment second = record { moment = moment; source = Kept (local_at (pos 19_727) second); given = At (utc (pos 19_727) second) }
 
 each_once : firsts_after None (start (pos 1) 0 ∷ start (pos 1) 60 ∷ start (pos 2) 30 ∷ start (pos 1) 90 ∷ [])
     ≡ start (pos 1) 0 ∷ start (pos 2) 30 ∷ start (pos 1) 90 ∷ []
@@ -231,11 +230,11 @@ span_length : finish (only utc_clock) with_spans (Span (utc (pos 19_727) 43_200)
 span_length = refl
 
 -- the start at 10:00 is DTSTART's, whose length the longer PERIOD does not change
-first_giver : GivesStart (only utc_clock) with_spans (Kept (local_at (pos 19_727) 36_000)) (At with_spans.start)
-first_giver = (inl refl, refl)
+first_source : GivesStart (only utc_clock) with_spans (Kept (local_at (pos 19_727) 36_000)) (At with_spans.start)
+first_source = (inl refl, refl)
 
-second_giver : GivesStart (only utc_clock) with_spans (Listed 1) (Span (utc (pos 19_727) 36_000) (lasting 0 7_200))
-second_giver = (Span (utc (pos 19_727) 36_000) (lasting 0 7_200), refl, refl)
+second_source : GivesStart (only utc_clock) with_spans (Listed 1) (Span (utc (pos 19_727) 36_000) (lasting 0 7_200))
+second_source = (Span (utc (pos 19_727) 36_000) (lasting 0 7_200), refl, refl)
 
 one_instant : instant (only utc_clock) (time_of (Span (utc (pos 19_727) 36_000) (lasting 0 7_200))) ≡ instant (only utc_clock) with_spans.start
 one_instant = refl

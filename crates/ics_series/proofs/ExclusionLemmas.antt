@@ -15,9 +15,10 @@ use Rattle.ics_values.specs.declared.stamp.Stamp.TheVariants.{Date, Floating, Ut
 use Rattle.ics_calendar.specs.declared.time.Time.{Time}
 use Rattle.ics_series.specs.declared.window.Window.{Window}
 use Rattle.ics_series.specs.declared.zones.FileZones.{FileZones}
-use Rattle.ics_series.specs.Clocks.{Clock, Clocks, instant, written}
+use Rattle.ics_series.specs.Clocks.{Clock, Clocks, instant}
+use Rattle.ics_calendar.specs.Event.{stamp_seconds}
 use Rattle.ics_series.specs.Exclusions.{excludes_by, excludes_time, is_day_in, takes_out, with_instant}
-use Rattle.ics_series.specs.Zones.{clocks_in, is_past}
+use Rattle.ics_series.specs.FileZones.{clocks_in, is_past}
 use Rattle.ics_series.proofs.InstantLemmas.{instant-near}
 use Rattle.ics_series.proofs.MeetingLemmas.{le-true}
 
@@ -62,7 +63,7 @@ pushed-by clock instants days moment t false h =
 
 later-false : (zones : FileZones) (w : Window) (time : Time) (t : ℤ) → t <ℤ w.to → is_past w time ≡ true → int_eq (instant (clocks_in zones) time) t ≡ false
 later-false zones w time t early past =
-    let late = le-true (w.to +ℤ pos 172_800) (written time.stamp) past in
+    let late = le-true (w.to +ℤ pos 172_800) (stamp_seconds time.stamp) past in
     unequal (instant (clocks_in zones) time) t (omega (arith, ints, late, early, instant-near zones time))
   where
     unequal : (a b : ℤ) → b <ℤ a → int_eq a b ≡ false

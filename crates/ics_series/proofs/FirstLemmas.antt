@@ -12,20 +12,20 @@ use Rattle.std.proofs.lemmas.Int.{ints}
 use Rattle.std.proofs.lemmas.List.Sorted.{IsPermutation-sym, answers_always, ranks_by}
 use denote.Param.Members.{Mut}
 use denote.Ref.{Bor}
-use Rattle.ics_series.specs.declared.start.Giver.{Giver}
-use Rattle.ics_series.specs.declared.start.Giver.TheVariants.{Kept, Listed}
+use Rattle.ics_series.specs.declared.start.StartSource.{StartSource}
+use Rattle.ics_series.specs.declared.start.StartSource.TheVariants.{Kept, Listed}
 use Rattle.ics_series.specs.declared.start.Start.{Start}
-use Rattle.ics_series.specs.Found.{day_in, firsts_after, giver_cmp, is_at, moment_cmp, part_of, place_in, start_cmp, AreFirsts}
+use Rattle.ics_series.specs.Found.{day_in, firsts_after, source_cmp, is_at, moment_cmp, part_of, place_in, start_cmp, AreFirsts}
 use Rattle.ics_series.specs.Listing.{IsIn}
 use Rattle.ics_series.specs.Rising.{IsBefore, Rises}
 use Rattle.ics_series.specs.Starts.{IsNotAfter}
 use Rattle.ics_series.proofs.SortLemmas.{IsUpTo, Climbs, climbs-sorted, in-permutation, up-to-in}
 
-pub giver_total : IsTotalOrder giver_cmp
-giver_total = then_total (on_total part_of nat_cmp_total) (then_total (on_total day_in int_cmp_total) (on_total place_in nat_cmp_total))
+pub source_total : IsTotalOrder source_cmp
+source_total = then_total (on_total part_of nat_cmp_total) (then_total (on_total day_in int_cmp_total) (on_total place_in nat_cmp_total))
 
 start_total : IsTotalOrder start_cmp
-start_total = then_total (on_total (λ s. s.moment) int_cmp_total) (on_total (λ s. s.giver) giver_total)
+start_total = then_total (on_total (λ s. s.moment) int_cmp_total) (on_total (λ s. s.source) source_total)
 
 pub moment_total : IsTotalOrder moment_cmp
 moment_total = on_total (λ s. s.moment) int_cmp_total
@@ -59,17 +59,17 @@ nat-up-to a b Equal e g = let r = subst (λ o. MatchOrdering o (a < b) (a ≡ b)
 nat-up-to a b Greater e g = let f : is_gt Greater ≡ false = g in absurd cc
 
 -- what is not after another by its parts stands no later in the order of what gives starts
-pub giver-order : (g k : Giver) → is_gt (giver_cmp g k) ≡ false → IsNotAfter g k
-giver-order (Kept a) (Kept b) h =
+pub source-order : (g k : StartSource) → is_gt (source_cmp g k) ≡ false → IsNotAfter g k
+source-order (Kept a) (Kept b) h =
     ⊎_elim
     (λ same. let later = nat-up-to a.second b.second (nat_cmp a.second b.second) refl
     (up-to-back (int_cmp a.day b.day) (nat_cmp a.second b.second) (ap (int_cmp a.day) (sym same) ∙ tied_itself int_cmp_total a.day) h) in
     omega (arith, ints, same, later))
     (λ less. let below = int-less a.day b.day less in omega (arith, ints, below, a.second_in, b.second_in))
     (int-up-to a.day b.day (int_cmp a.day b.day) refl (up-to-front (int_cmp a.day b.day) (nat_cmp a.second b.second) h))
-giver-order (Kept a) (Listed b) h = tt
-giver-order (Listed a) (Kept b) h = let f : true ≡ false = h in absurd cc
-giver-order (Listed a) (Listed b) h = nat-up-to a b (nat_cmp a b) refl h
+source-order (Kept a) (Listed b) h = tt
+source-order (Listed a) (Kept b) h = let f : true ≡ false = h in absurd cc
+source-order (Listed a) (Listed b) h = nat-up-to a b (nat_cmp a b) refl h
 
 -- Climbing by the finer order is climbing by instants.
 climbs-moments : (xs : List Start) → Climbs start_cmp xs → Climbs moment_cmp xs
@@ -78,7 +78,7 @@ climbs-moments (x ∷ xs) h = (up-to xs h.0, climbs-moments xs h.1)
   where
     up-to : (ys : List Start) → IsUpTo start_cmp x ys → IsUpTo moment_cmp x ys
     up-to [] k = tt
-    up-to (y ∷ ys) k = (up-to-front (moment_cmp x y) (giver_cmp x.giver y.giver) k.0, up-to ys k.1)
+    up-to (y ∷ ys) k = (up-to-front (moment_cmp x y) (source_cmp x.source y.source) k.0, up-to ys k.1)
 
 before-by : (x y : Start) (zs : List Start) → ((z : Start) → moment_cmp y z ≡ Less → moment_cmp x z ≡ Less) → IsBefore moment_cmp y zs → IsBefore moment_cmp x zs
 before-by x y [] f h = tt
@@ -164,8 +164,8 @@ firsts-of xs ys p climbs = record {
   are = λ t m. in-permutation t ys xs (IsPermutation-sym xs ys p) (firsts-in None t ys m);
   all = λ s m.
       let f = in-all-firsts s ys climbs (in-permutation s xs ys p m) in
-      let back = up-to-back (moment_cmp f.first s) (giver_cmp f.first.giver s.giver) (same-moment f.first s f.same) f.earlier in
-      record { start = f.first; stands = f.stands; same = f.same; earlier = giver-order f.first.giver s.giver back };
+      let back = up-to-back (moment_cmp f.first s) (source_cmp f.first.source s.source) (same-moment f.first s f.same) f.earlier in
+      record { start = f.first; stands = f.stands; same = f.same; earlier = source-order f.first.source s.source back };
 }
 
 -- a list sorted by what compares so climbs

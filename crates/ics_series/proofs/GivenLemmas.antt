@@ -16,7 +16,7 @@ use Rattle.ics_series.specs.Listing.{IsIn}
 use Rattle.ics_series.specs.declared.window.Window.{Window}
 use Rattle.ics_series.specs.Meets.{Meets}
 use Rattle.ics_series.specs.Occurs.{IsMoved, IsOf}
-use Rattle.ics_series.specs.Placed.{Placed, IsPlaced, clocks_at}
+use Rattle.ics_series.specs.PlacedEvents.{Placed, IsPlaced, clocks_at}
 use Rattle.ics_series.specs.Spots.{event_at}
 use Rattle.ics_series.specs.Versions.{label_of, seen, spot_of, subject_cmp, AreChosen, Label}
 use Rattle.ics_series.proofs.SortLemmas.{in-contains}

@@ -4,7 +4,7 @@ use Rattle.std.specs.declared.cmp.Ordering.TheVariants.{Less}
 use Rattle.std.proofs.Common.{◌≡◌, ℕ, zero, suc, ◌+◌, ◌<◌, ◌≤◌, ℤ, pos, neg_ℤ, ◌+ℤ◌, ◌-ℤ◌, Bool, true, false, ◌&&◌, not, cond, List, [], ◌∷◌, length, Some, ◌⊎◌, inl, inr, ⊎_elim, refl, sym, ◌∙◌, ap, arith}
 use Rattle.std.proofs.lemmas.Int.{ints}
 use Rattle.ics_rule.specs.Kept.{count, is_kept}
-use Rattle.ics_rule.specs.Locals.{calendar_end}
+use Rattle.ics_rule.specs.PeriodNumbers.{calendar_end}
 use Rattle.ics_rule.specs.Recurrence.{Recurrence}
 use Rattle.ics_rule.proofs.Counts.{count-suc}
 use Rattle.ics_rule.proofs.KeptLemmas.{and_true, eqb_true}
@@ -12,14 +12,15 @@ use Rattle.ics_calendar.specs.declared.event.Event.{Event}
 use Rattle.ics_series.specs.declared.start.Start.{Start}
 use Rattle.ics_series.specs.declared.window.Window.{Window}
 use Rattle.ics_series.specs.declared.zones.FileZones.{FileZones}
-use Rattle.ics_series.specs.Clocks.{Clocks, midnight}
+use Rattle.ics_series.specs.Clocks.{Clocks}
+use Rattle.ics_values.specs.Locals.{midnight}
 use Rattle.ics_series.specs.Found.{moment_cmp, start_at}
 use Rattle.ics_series.specs.HeldMost.{greatest, is_raw, is_within_days, most_in_days, raw_by, raw_by_rule, raw_in}
 use Rattle.ics_series.specs.Listing.{IsIn}
 use Rattle.ics_series.specs.Rising.{Rises}
 use Rattle.ics_series.specs.RuleStarts.{lets_until, local_numbered, moment_numbered, number_in, AreHeld, IsHeld}
 use Rattle.ics_series.specs.Starts.{recurrence_of}
-use Rattle.ics_series.specs.Zones.{clocks_in}
+use Rattle.ics_series.specs.FileZones.{clocks_in}
 use Rattle.ics_series.proofs.FirstLemmas.{int-less, moment_total}
 use Rattle.ics_series.proofs.ListingLemmas.{before-in}
 use Rattle.ics_series.proofs.MeetingLemmas.{true-le, true-less}
@@ -61,24 +62,24 @@ not-same false f = refl
 module _ (clocks : Clocks) (event : Event) (n : ℕ) where
   -- a start by a local below n that passes a test
   record IsBy (test : ℕ → Bool) (s : Start) : Type 0 where
-    by : s ≡ start_at clocks event (local_numbered (number_in s.giver))
-    below : number_in s.giver < n
-    passes : test (number_in s.giver) ≡ true
+    by : s ≡ start_at clocks event (local_numbered (number_in s.source))
+    below : number_in s.source < n
+    passes : test (number_in s.source) ≡ true
 
   -- starts at different instants are by different locals
-  apart : (test : ℕ → Bool) (s t : Start) → moment_cmp s t ≡ Less → IsBy test s → IsBy test t → number_in t.giver ≡ number_in s.giver → ⊥
+  apart : (test : ℕ → Bool) (s t : Start) → moment_cmp s t ≡ Less → IsBy test s → IsBy test t → number_in t.source ≡ number_in s.source → ⊥
   apart test s t less a b e =
       let same : t ≡ s = b.by ∙ (ap (λ k. start_at clocks event (local_numbered k)) e ∙ sym a.by) in
       let moments = ap (λ (x : Start). x.moment) same in
       let before = int-less s.moment t.moment less in
       omega (arith, ints, moments, before)
 
-  without-first : (test : ℕ → Bool) (s t : Start) → moment_cmp s t ≡ Less → IsBy test s → IsBy test t → IsBy (without (number_in s.giver) test) t
+  without-first : (test : ℕ → Bool) (s t : Start) → moment_cmp s t ≡ Less → IsBy test s → IsBy test t → IsBy (without (number_in s.source) test) t
   without-first test s t less a b = record {
     by = b.by;
     below = b.below;
-    passes = both (test (number_in t.giver)) (not (number_in t.giver == number_in s.giver)) b.passes
-        (not-same (number_in t.giver == number_in s.giver) (λ e. apart test s t less a b (eqb_true (number_in t.giver) (number_in s.giver) e)));
+    passes = both (test (number_in t.source)) (not (number_in t.source == number_in s.source)) b.passes
+        (not-same (number_in t.source == number_in s.source) (λ e. apart test s t less a b (eqb_true (number_in t.source) (number_in s.source) e)));
   }
 
   -- so rising starts by locals that pass a test are no more than those locals
@@ -86,9 +87,9 @@ module _ (clocks : Clocks) (event : Event) (n : ℕ) where
   few-starts test [] r are = omega arith
   few-starts test (s ∷ starts) r are =
       let first = are s (inl refl) in
-      let rest = few-starts (without (number_in s.giver) test) starts r.1
+      let rest = few-starts (without (number_in s.source) test) starts r.1
       (λ t m. without-first test s t (before-in moment_cmp moment_total s t starts r.0 m) first (are t (inr m))) in
-      omega (arith, rest, count-without n (number_in s.giver) test first.below first.passes)
+      omega (arith, rest, count-without n (number_in s.source) test first.below first.passes)
 
 greatest-most : (n k : ℕ) (f : ℕ → ℕ) → k < n → f k ≤ greatest n f
 unfolding greatest
@@ -118,9 +119,9 @@ module _ (zones : FileZones) (event : Event) (rule : Recurrence) (w : Window) wh
 
   held-by : (asked : ℤ) (s : Start) → IsHeld (clocks_in zones) event rule w asked s → IsBy (clocks_in zones) event calendar_end (is_raw (clocks_in zones) event rule (asked -ℤ pos 3)) s
   held-by asked s h =
-      let n = number_in s.giver in
-      let t = moment_numbered (clocks_in zones) event (number_in s.giver) in
-      let is : s.moment ≡ moment_numbered (clocks_in zones) event (number_in s.giver) = ap (λ (x : Start). x.moment) h.by in
+      let n = number_in s.source in
+      let t = moment_numbered (clocks_in zones) event (number_in s.source) in
+      let is : s.moment ≡ moment_numbered (clocks_in zones) event (number_in s.source) = ap (λ (x : Start). x.moment) h.by in
       record {
         by = h.by;
         below = omega (arith, in-rules zones event rule w n h.given);

@@ -17,11 +17,11 @@ use Rattle.ics_series.specs.HeldMost.{held_most, most_in_days, Master}
 use Rattle.ics_series.specs.Holding.{part_holds, rule_held, series_holds}
 use Rattle.ics_series.specs.Leads.{listed}
 use Rattle.ics_series.specs.Meeting.{entry_from}
-use Rattle.ics_series.specs.Parts.{part_sources}
+use Rattle.ics_series.specs.AgendaParts.{part_sources}
 use Rattle.ics_series.specs.SeriesStarts.{first_of, HasOwnRule}
 use Rattle.ics_series.specs.Sources.{is_once, master_of, recurring, AreApart, Recurring, Source}
 use Rattle.ics_series.specs.Sources.Source.{Of, Once}
-use Rattle.ics_series.specs.Zones.{clocks_in}
+use Rattle.ics_series.specs.FileZones.{clocks_in}
 use Rattle.ics_series.proofs.RuleStepLemmas.{few-held}
 
 rule-few : (zones : FileZones) (event : Event) (w : Window) (first : ℤ) (o : Option RuleStarts) → HasOwnRule zones event w first o → length (rule_held o) ≤ most_in_days (clocks_in zones) event

@@ -15,15 +15,16 @@ use Rattle.ics_calendar.specs.Event.{compared, is_one_zone, stamp_seconds, EndsW
 use Rattle.ics_zone.specs.Displays.{moment_of}
 use Rattle.ics_zone.specs.Near.{moment_near, offset_near}
 use Rattle.ics_zone.specs.ZoneSaid.{ZoneSaid, zone_said}
-use Rattle.ics_zone.specs.Places.{IsNear}
+use Rattle.ics_zone.specs.Seconds.{IsNear}
 use Rattle.ics_zone.specs.declared.zone.ZoneKind.{ZoneKind}
 use Rattle.ics_zone.specs.ZoneBounds.{said_moment_near, said_offset_near}
-use Rattle.ics_zone.specs.Zones.{zone_of}
+use Rattle.ics_zone.specs.JiffZones.{zone_of}
 use Rattle.ics_zone.specs.declared.display.Display.{Display}
 use Rattle.ics_series.specs.declared.zones.FileZones.{FileZones}
-use Rattle.ics_series.specs.Clocks.{Clock, Clocks, clock_at, clock_by, clocks_of, display_clock, instant, seconds_of, utc_clock, written, zone_clock}
+use Rattle.ics_series.specs.Clocks.{Clock, Clocks, clock_at, clock_by, clocks_of, display_clock, instant, utc_clock, zone_clock}
+use Rattle.ics_values.specs.Locals.{local_seconds}
 use Rattle.ics_series.specs.Finish.{end_by, seconds_by}
-use Rattle.ics_series.specs.Zones.{clocks_in, EndsNear}
+use Rattle.ics_series.specs.FileZones.{clocks_in, EndsNear}
 
 -- a clock moves a local, or an instant, by less than two days
 pub record IsNearClock (clock : Clock) : Type 0 where
@@ -55,10 +56,10 @@ pub near-clock : (zones : FileZones) (index : Option ℕ) (s : Stamp) → IsNear
 near-clock zones = near-by zones.display.now zones.zones.now
 
 -- an instant lies less than two days from what its stamp writes
-near-written : (display : Display) (zones : List ZoneKind) (time : Time) → IsNear (instant (clocks_of (display_clock display) (map zone_said zones)) time -ℤ written time.stamp)
-near-written display zones time = (near-by display zones time.zone time.stamp).moment (written time.stamp)
+near-written : (display : Display) (zones : List ZoneKind) (time : Time) → IsNear (instant (clocks_of (display_clock display) (map zone_said zones)) time -ℤ stamp_seconds time.stamp)
+near-written display zones time = (near-by display zones time.zone time.stamp).moment (stamp_seconds time.stamp)
 
-pub instant-near : (zones : FileZones) (time : Time) → IsNear (instant (clocks_in zones) time -ℤ written time.stamp)
+pub instant-near : (zones : FileZones) (time : Time) → IsNear (instant (clocks_in zones) time -ℤ stamp_seconds time.stamp)
 instant-near zones = near-written zones.display.now zones.zones.now
 
 pub near-moved : (f : ℤ → ℤ) (near : (x : ℤ) → IsNear (f x -ℤ x)) (r l : ℤ) → r ≡ f l → IsNear (r -ℤ l)
@@ -70,13 +71,13 @@ result_near display = near-moved (moment_of (zone_of display)) (moment_near (zon
 pub moved : (f : ℤ → ℤ) (s r l m : ℤ) → s ≡ r → r ≡ f l → l ≡ m → s ≡ f m
 moved f s r l m a e h = a ∙ (e ∙ ap f h)
 
-late-written : (s : Stamp) → IsStampDay (stamp_day s) → neg_ℤ (pos 62_135_596_800) ≤ℤ written s
+late-written : (s : Stamp) → IsStampDay (stamp_day s) → neg_ℤ (pos 62_135_596_800) ≤ℤ stamp_seconds s
 late-written (Date day) h = omega (arith, ints, h.0)
 late-written (Floating local) h = omega (arith, ints, h.0)
 late-written (Utc local) h = omega (arith, ints, h.0)
 late-written (Zoned local) h = omega (arith, ints, h.0)
 
-early-written : (s : Stamp) → IsStampDay (stamp_day s) → written s <ℤ pos 250_246_627_200
+early-written : (s : Stamp) → IsStampDay (stamp_day s) → stamp_seconds s <ℤ pos 250_246_627_200
 early-written (Date day) h = omega (arith, ints, h.1)
 early-written (Floating local) h = omega (arith, ints, h.1, local.second_in)
 early-written (Utc local) h = omega (arith, ints, h.1, local.second_in)
@@ -115,7 +116,7 @@ lasting-seconds clocks first duration (Utc local) h = refl
 lasting-seconds clocks first duration (Zoned local) h = refl
 
 -- Events without zones.
-end-within : (s e : Stamp) → IsEnd s e → is_zoned s ≡ false → is_zoned e ≡ false → written e ≤ℤ (written s +ℤ pos 3_155_760_000)
+end-within : (s e : Stamp) → IsEnd s e → is_zoned s ≡ false → is_zoned e ≡ false → stamp_seconds e ≤ℤ (stamp_seconds s +ℤ pos 3_155_760_000)
 end-within (Date a) (Date b) k z y = omega (arith, ints, k.short)
 end-within (Date a) (Floating b) k z y = absurd k
 end-within (Date a) (Utc b) k z y = absurd k
@@ -131,7 +132,7 @@ end-within (Utc a) (Zoned b) k z y = let f : true ≡ false = y in absurd cc
 end-within (Zoned a) e k z y = let f : true ≡ false = z in absurd cc
 
 -- the instant that a local means by its index
-zone-moment : (zones : List ZoneSaid) (index : ℕ) (local : Local) → (clock_at (map zone_clock zones) (Some index)).moment (seconds_of local) ≡ moment_by (slice_get zones index) local
+zone-moment : (zones : List ZoneSaid) (index : ℕ) (local : Local) → (clock_at (map zone_clock zones) (Some index)).moment (local_seconds local) ≡ moment_by (slice_get zones index) local
 zone-moment [] index local = refl
 zone-moment (z ∷ zones) zero local = refl
 zone-moment (z ∷ zones) (suc index) local = zone-moment zones index local
@@ -139,12 +140,12 @@ zone-moment (z ∷ zones) (suc index) local = zone-moment zones index local
 -- DTEND is not far from DTSTART
 module _ (zones : FileZones) where
   abbrev moment_of-stamp : Option ℕ → Stamp → ℤ
-  moment_of-stamp index s = (clock_by (clocks_in zones) index s).moment (written s)
+  moment_of-stamp index s = (clock_by (clocks_in zones) index s).moment (stamp_seconds s)
 
   unzoned-near : (i j : Option ℕ) (s e : Stamp) → IsEnd s e → is_zoned s ≡ false → is_zoned e ≡ false → moment_of-stamp j e ≤ℤ (moment_of-stamp i s +ℤ pos 3_156_105_600)
   unzoned-near i j s e k z y =
       let within = end-within s e k z y in
-      omega (arith, ints, within, (near-clock zones i s).moment (written s), (near-clock zones j e).moment (written e))
+      omega (arith, ints, within, (near-clock zones i s).moment (stamp_seconds s), (near-clock zones j e).moment (stamp_seconds e))
 
   abbrev own : List ZoneSaid
   own = map zone_said zones.zones.now
@@ -153,7 +154,7 @@ module _ (zones : FileZones) where
   time_by index s = record { stamp = s; zone = index }
 
   one-zone-near : (i j : Option ℕ) (a b : Local) → IsWithin (stamp_seconds (Zoned a)) (stamp_seconds (Zoned b)) → moment_of-stamp j (Zoned b) ≤ℤ (moment_of-stamp i (Zoned a) +ℤ pos 3_156_105_600)
-  one-zone-near i j a b within = omega (arith, ints, within.short, (near-clock zones i (Zoned a)).moment (seconds_of a), (near-clock zones j (Zoned b)).moment (seconds_of b))
+  one-zone-near i j a b within = omega (arith, ints, within.short, (near-clock zones i (Zoned a)).moment (local_seconds a), (near-clock zones j (Zoned b)).moment (local_seconds b))
 
   zoned-near : (one : Bool) (x y : ℕ) (a b : Local) → IsWithin (compared one own (time_by (Some x) (Zoned a))) (compared one own (time_by (Some y) (Zoned b)))
       → moment_of-stamp (Some y) (Zoned b) ≤ℤ (moment_of-stamp (Some x) (Zoned a) +ℤ pos 3_156_105_600)

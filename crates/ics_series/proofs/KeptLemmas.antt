@@ -2,7 +2,7 @@
 use Rattle.std.specs.Prelude.{◌≤ℤ◌}
 use Rattle.std.proofs.Common.{◌≡◌, ℤ, true, Option, Some, None, IfSome, refl, arith}
 use Rattle.std.proofs.lemmas.Int.{ints}
-use Rattle.ics_series.specs.Found.{is_until}
+use Rattle.ics_zone.specs.Observances.{is_until}
 
 pub until-true : (o : Option ℤ) (t : ℤ) → IfSome o (λ last. t ≤ℤ last) → is_until o t ≡ true
 until-true None t h = refl

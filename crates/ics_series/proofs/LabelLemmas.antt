@@ -9,7 +9,7 @@ use Rattle.ics_calendar.specs.declared.event.Event.{Event}
 use Rattle.ics_calendar.specs.declared.events.FileEvents.{FileEvents}
 use Rattle.ics_zone.specs.ZoneSaid.{zone_said}
 use Rattle.ics_series.specs.Clocks.{Clock, Clocks, clocks_of}
-use Rattle.ics_series.specs.Placed.{clocks_at, zones_of}
+use Rattle.ics_series.specs.PlacedEvents.{clocks_at, zones_of}
 use Rattle.ics_series.specs.Versions.{label_by, label_of, placed_from, placed_in, Label}
 
 module _ (files : List FileEvents) (display : Clock) where

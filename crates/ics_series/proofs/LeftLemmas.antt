@@ -5,7 +5,7 @@ use Rattle.std.specs.Cmp.{IsTotalOrder}
 use Rattle.std.specs.declared.cmp.Ordering.{Ordering}
 use Rattle.std.specs.declared.cmp.Ordering.TheVariants.{Less, Equal, Greater}
 use Rattle.std.proofs.lemmas.Cmp.{tied_itself}
-use Rattle.ics_series.specs.declared.start.Giver.{Giver}
+use Rattle.ics_series.specs.declared.start.StartSource.{StartSource}
 use Rattle.ics_series.specs.declared.start.Start.{Start}
 use Rattle.ics_series.specs.Found.{moment_cmp, HasStart}
 use Rattle.ics_series.specs.Listing.{IsIn}
@@ -96,17 +96,17 @@ none-taken (x ∷ xs) (y ∷ ys) e = by (int_lt y.moment x.moment) e
     by true e = let f : Some y ≡ None = e in absurd cc
     by false e = let f : Some x ≡ None = e in absurd cc
 
--- Which lists have a start at an instant by a giver or an earlier one.
-pub put-has : (x : Start) (ys : List Start) (giver : Giver) (t : ℤ) → IsNotAfter x.giver giver → HasStart ys giver t → HasStart (put moment_cmp x ys) giver t
-put-has x ys giver t early h =
+-- Which lists have a start at an instant by a source or an earlier one.
+pub put-has : (x : Start) (ys : List Start) (source : StartSource) (t : ℤ) → IsNotAfter x.source source → HasStart ys source t → HasStart (put moment_cmp x ys) source t
+put-has x ys source t early h =
     ⊎_elim
     (λ m. record { start = h.start; stands = m; same = h.same; earlier = h.earlier })
     (λ tied. record { start = x; stands = itself-put moment_cmp moment_total x ys; same = tied-moment x h.start tied ∙ h.same; earlier = early })
     (member-put moment_cmp moment_total h.start x ys h.stands)
 
-pub union-has : (xs ys : List Start) (giver : Giver) (t : ℤ) → ((x : Start) → IsIn x xs → IsNotAfter x.giver giver) → HasStart ys giver t → HasStart (union moment_cmp xs ys) giver t
-union-has [] ys giver t early h = h
-union-has (x ∷ xs) ys giver t early h = put-has x (union moment_cmp xs ys) giver t (early x (inl refl)) (union-has xs ys giver t (λ y m. early y (inr m)) h)
+pub union-has : (xs ys : List Start) (source : StartSource) (t : ℤ) → ((x : Start) → IsIn x xs → IsNotAfter x.source source) → HasStart ys source t → HasStart (union moment_cmp xs ys) source t
+union-has [] ys source t early h = h
+union-has (x ∷ xs) ys source t early h = put-has x (union moment_cmp xs ys) source t (early x (inl refl)) (union-has xs ys source t (λ y m. early y (inr m)) h)
 
-pub has-union : (xs ys : List Start) (giver : Giver) (t : ℤ) → Rises moment_cmp xs → HasStart xs giver t → HasStart (union moment_cmp xs ys) giver t
-has-union xs ys giver t r h = record { start = h.start; stands = in-union moment_cmp moment_total h.start xs ys r (inl h.stands); same = h.same; earlier = h.earlier }
+pub has-union : (xs ys : List Start) (source : StartSource) (t : ℤ) → Rises moment_cmp xs → HasStart xs source t → HasStart (union moment_cmp xs ys) source t
+has-union xs ys source t r h = record { start = h.start; stands = in-union moment_cmp moment_total h.start xs ys r (inl h.stands); same = h.same; earlier = h.earlier }

@@ -13,7 +13,7 @@ pub mod FilterLemmas
 pub mod FirstLemmas
 pub mod FoundLemmas
 pub mod GivenLemmas
-pub mod GiverLemmas
+pub mod StartSourceLemmas
 pub mod HeldLemmas
 mod HeldMostExamples
 pub mod HeldMostLaws

@@ -3,14 +3,14 @@ use Rattle.std.specs.Prelude.{slice_get, not}
 use Rattle.std.proofs.Common.{◌≡◌, ℕ, zero, suc, ◌+◌, List, [], ◌∷◌, Bool, true, false, Some, None, ◌⊎◌, inl, inr, ⊎_elim, refl, sym, ◌∙◌, ap, subst, arith}
 use Rattle.ics_calendar.specs.declared.time.Rdate.{Rdate}
 use Rattle.ics_calendar.specs.declared.time.Time.{Time}
-use Rattle.ics_series.specs.declared.start.Giver.TheVariants.{Listed}
+use Rattle.ics_series.specs.declared.start.StartSource.TheVariants.{Listed}
 use Rattle.ics_series.specs.declared.start.Start.{Start}
 use Rattle.ics_series.specs.declared.window.Window.{Window}
 use Rattle.ics_series.specs.Clocks.{Clocks}
 use Rattle.ics_series.specs.Found.{listed_from, start_by, with_front}
 use Rattle.ics_series.specs.Listing.{IsIn}
 use Rattle.ics_series.specs.Starts.{given_by, time_of}
-use Rattle.ics_series.specs.Zones.{is_past}
+use Rattle.ics_series.specs.FileZones.{is_past}
 
 -- a start of the list is by one of the RDATEs
 pub record IsListed (clocks : Clocks) (first : Time) (place : ℕ) (rdates : List Rdate) (s : Start) : Type 0 where

@@ -16,7 +16,7 @@ use Rattle.ics_series.specs.Entry.{Rank}
 use Rattle.ics_series.specs.HeldMost.{held_most, most_in_days, Master}
 use Rattle.ics_series.specs.Listing.{IsIn, IsListing}
 use Rattle.ics_series.specs.NearDays.{IsNearDay}
-use Rattle.ics_series.specs.Placed.{Placed, clocks_at}
+use Rattle.ics_series.specs.PlacedEvents.{Placed, clocks_at}
 use Rattle.ics_series.specs.Rising.{IsBefore, Rises}
 use Rattle.ics_series.specs.Sources.{master_at, master_of, recurring, uid_cmp, AreSources, IsFrom, IsMasterOf, Recurring, Source}
 use Rattle.ics_series.specs.Versions.{by_subject}

@@ -6,7 +6,7 @@ use Rattle.std.specs.declared.cmp.Ordering.TheVariants.{Less}
 use Rattle.std.specs.Ordering.{int_cmp}
 use Rattle.ics_calendar.specs.declared.event.Event.{Event}
 use Rattle.ics_calendar.specs.declared.time.Rdate.{Rdate}
-use Rattle.ics_series.specs.declared.start.Giver.{Giver}
+use Rattle.ics_series.specs.declared.start.StartSource.{StartSource}
 use Rattle.ics_series.specs.declared.start.Start.{Start}
 use Rattle.ics_series.specs.declared.window.Window.{Window}
 use Rattle.ics_series.specs.Clocks.{Clocks, instant}
@@ -19,7 +19,7 @@ use Rattle.ics_series.specs.Meeting.{entry_from, is_met}
 use Rattle.ics_series.specs.Meets.{Meets, IsEventMet}
 use Rattle.ics_series.specs.Starts.{time_of, GivesStart, IsNotAfter}
 use Rattle.ics_series.proofs.FirstLemmas.{moment_total, same-moment}
-use Rattle.ics_series.proofs.GiverLemmas.{same-first}
+use Rattle.ics_series.proofs.StartSourceLemmas.{same-first}
 use Rattle.ics_series.proofs.ListingLemmas.{before-in}
 use Rattle.ics_series.proofs.MasterLemmas.{same-entry}
 use Rattle.ics_series.proofs.MeetingLemmas.{shown-met}
@@ -170,29 +170,29 @@ module _ (clocks : Clocks) (event : Event) (test : Entry → Bool) where
 
 -- Found starts give the occurrences: here those that are sought at the instants that count.
 module _ (clocks : Clocks) (w : Window) (event : Event) (starts : List Start) (Counts : ℤ → Type 0) (rises : Rises moment_cmp starts) (are : (s : Start) → IsIn s starts → IsStart clocks event s)
-    (all : (giver : Giver) (given : Rdate) → GivesStart clocks event giver given → IsSought clocks event w (instant clocks (time_of given)) → Counts (instant clocks (time_of given)) → HasStart starts giver (instant clocks (time_of given))) where
+    (all : (source : StartSource) (given : Rdate) → GivesStart clocks event source given → IsSought clocks event w (instant clocks (time_of given)) → Counts (instant clocks (time_of given)) → HasStart starts source (instant clocks (time_of given))) where
   -- a start from which the event meets the window is sought
-  own-sought : (giver : Giver) (given : Rdate) → GivesStart clocks event giver given → Meets w (entry_from clocks event given) → IsSought clocks event w (instant clocks (time_of given))
-  own-sought giver given g m = record { giver = giver; given = given; gives = g; starts = refl; meets = m }
+  own-sought : (source : StartSource) (given : Rdate) → GivesStart clocks event source given → Meets w (entry_from clocks event given) → IsSought clocks event w (instant clocks (time_of given))
+  own-sought source given g m = record { source = source; given = given; gives = g; starts = refl; meets = m }
 
   -- a start that is shown is given by the first to do so
   pub found-is : (s : Start) → IsIn s starts → is_shown clocks w event (entry_from clocks event s.given) ≡ true → Counts (instant clocks (time_of s.given)) → IsEventMet clocks event w (entry_from clocks event s.given)
   found-is s m t counts =
       let start = are s m in
       let shown = shown-met clocks w event (entry_from clocks event s.given) t in
-      let sought = own-sought s.giver s.given start.gives shown.0 in (
+      let sought = own-sought s.source s.given start.gives shown.0 in (
         record {
           event = refl;
           recurrence = refl;
           lasts = record {
-            giver = s.giver;
+            source = s.source;
             given = s.given;
             gives = start.gives;
             starts = refl;
             earliest = λ other value g e.
                 let found = all other value g (subst (IsSought clocks event w) (sym e) sought) (subst Counts (sym e) counts) in
                 let same : found.start ≡ s = one-of-tied found.start s starts rises found.stands m (found.same ∙ (e ∙ sym start.moment)) in
-                subst (λ x. IsNotAfter x.giver other) same found.earlier;
+                subst (λ x. IsNotAfter x.source other) same found.earlier;
             ends = refl;
             stays = shown.1;
           };
@@ -205,7 +205,7 @@ module _ (clocks : Clocks) (w : Window) (event : Event) (starts : List Start) (C
   is-found e o counts =
       let of = o.0.lasts in
       let by : e ≡ entry_from clocks event of.given = same-entry e (entry_from clocks event of.given) of.starts of.ends (o.0.recurrence ∙ of.starts) o.0.event in
-      let found = all of.giver of.given of.gives (own-sought of.giver of.given of.gives (subst (Meets w) by o.1)) (subst Counts of.starts counts) in
+      let found = all of.source of.given of.gives (own-sought of.source of.given of.gives (subst (Meets w) by o.1)) (subst Counts of.starts counts) in
       let start = are found.start found.stands in
-      let above = of.earliest found.start.giver found.start.given start.gives (sym start.moment ∙ (found.same ∙ sym of.starts)) in
-      (found.start, found.stands, by ∙ ap (entry_from clocks event) (same-first clocks event of.giver found.start.giver of.given found.start.given of.gives start.gives above found.earlier))
+      let above = of.earliest found.start.source found.start.given start.gives (sym start.moment ∙ (found.same ∙ sym of.starts)) in
+      (found.start, found.stands, by ∙ ap (entry_from clocks event) (same-first clocks event of.source found.start.source of.given found.start.given of.gives start.gives above found.earlier))

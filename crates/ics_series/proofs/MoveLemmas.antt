@@ -12,7 +12,7 @@ use Rattle.ics_series.specs.Clocks.{Clock, Clocks, clocks_of}
 use Rattle.ics_series.specs.Entry.{Entry}
 use Rattle.ics_series.specs.Laws.{AddedFiles, AreApart, AreReordered, HaveApartVersions, OrderOfFiles}
 use Rattle.ics_series.specs.Occurs.{Occurs, IsOf, IsMoved, IsOfMaster, IsOfOverride}
-use Rattle.ics_series.specs.Placed.{Placed, IsPlaced, clocks_at, placed_cmp, zones_of}
+use Rattle.ics_series.specs.PlacedEvents.{Placed, IsPlaced, clocks_at, placed_cmp, zones_of}
 
 -- the event, in the file that its own has become
 abbrev move : (ℕ → ℕ) → Placed → Placed

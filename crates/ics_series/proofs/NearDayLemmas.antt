@@ -5,16 +5,17 @@ use Rattle.std.specs.Int.{int_max, int_min}
 use Rattle.std.specs.Ordering.{int_eq}
 use Rattle.std.proofs.lemmas.Int.{int_max_is, int_min_is, ints}
 use Rattle.ics_calendar.specs.Event.{FileSaid}
-use Rattle.ics_zone.specs.Places.{IsNear}
+use Rattle.ics_zone.specs.Seconds.{IsNear}
 use Rattle.ics_series.specs.declared.window.Window.{Window}
-use Rattle.ics_series.specs.Clocks.{Clock, instant, local_at, midnight}
-use Rattle.ics_series.specs.Days.{date_at, date_of, end_day, first_day, is_on, last_day}
+use Rattle.ics_series.specs.Clocks.{Clock, instant, local_at}
+use Rattle.ics_values.specs.Locals.{midnight}
+use Rattle.ics_series.specs.ShownDays.{date_at, day_of_local, end_day, first_day, is_on, last_day}
 use Rattle.ics_series.specs.Entry.{Entry}
 use Rattle.ics_series.specs.Finish.{end_of}
 use Rattle.ics_series.specs.Meets.{Meets}
 use Rattle.ics_series.specs.NearDays.{first_near, last_near}
 use Rattle.ics_series.specs.Occurs.{Occurs}
-use Rattle.ics_series.specs.Placed.{clocks_at}
+use Rattle.ics_series.specs.PlacedEvents.{clocks_at}
 use Rattle.ics_series.specs.Starts.{time_of}
 use Rattle.ics_series.proofs.DayLemmas.{day-under}
 use Rattle.ics_series.proofs.MeetingLemmas.{equal-true, le-true}
@@ -112,13 +113,13 @@ module _ (clock : Clock) (near : (t : ℤ) → IsNear (clock.offset t)) where
     near-first =
         let high = date-high (int_max o.start w.from) in
         let first = at-first in
-        let under = day-under w.from (date_of w.from) refl in
+        let under = day-under w.from (day_of_local w.from) refl in
         let low = under.0 in
         omega (arith, ints, high, first, low, int_max_is o.start w.from)
 
     pub near-last : day ≤ℤ last_near w
     near-last =
-        let under = day-under (w.to -ℤ pos 1) (date_of (w.to -ℤ pos 1)) refl in
+        let under = day-under (w.to -ℤ pos 1) (day_of_local (w.to -ℤ pos 1)) refl in
         let top = under.1 in
         let begun = met.begun in
         let ordered = w.ordered in

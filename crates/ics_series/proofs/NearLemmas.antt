@@ -10,18 +10,20 @@ use Rattle.ics_calendar.specs.declared.time.Length.{Length}
 use Rattle.ics_calendar.specs.declared.time.Length.TheVariants.{Open, Until, Lasting}
 use Rattle.ics_calendar.specs.declared.event.Event.{Event}
 use Rattle.ics_zone.specs.Near.{moment_near}
-use Rattle.ics_zone.specs.Zones.{zone_of}
+use Rattle.ics_zone.specs.JiffZones.{zone_of}
 use Rattle.ics_series.specs.declared.zones.FileZones.{FileZones}
 use Rattle.ics_series.specs.declared.window.Window.{Window}
-use Rattle.ics_series.specs.Clocks.{Clock, clock_by, day_of, instant, local_at, midnight, written}
+use Rattle.ics_series.specs.Clocks.{Clock, clock_by, day_of, instant, local_at}
+use Rattle.ics_calendar.specs.Event.{stamp_seconds}
+use Rattle.ics_values.specs.Locals.{midnight}
 use Rattle.ics_series.specs.Finish.{days_lasting, end_by, finish, later_by, seconds_by, seconds_lasting}
 use Rattle.ics_series.specs.Meeting.{entry_from}
 use Rattle.ics_series.specs.Meets.{Meets}
-use Rattle.ics_series.specs.Zones.{clocks_in}
+use Rattle.ics_series.specs.FileZones.{clocks_in}
 use Rattle.ics_series.proofs.InstantLemmas.{instant-near, near-clock}
 
 -- a day's midnight is not after what a stamp of the day writes
-pub day-written : (s : Stamp) → midnight (day_of s) ≤ℤ written s
+pub day-written : (s : Stamp) → midnight (day_of s) ≤ℤ stamp_seconds s
 day-written (Date day) = omega (arith, ints)
 day-written (Floating local) = omega (arith, ints)
 day-written (Utc local) = omega (arith, ints)

@@ -7,8 +7,8 @@ use Rattle.ics_series.specs.Chosen.{subject_of, SubjectSeen, IsMaster, IsOverrid
 use Rattle.ics_series.specs.Clocks.{Clock, Clocks, instant}
 use Rattle.ics_series.specs.Entry.{Entry}
 use Rattle.ics_series.specs.Occurs.{IsInstance, IsMoved, IsOf, IsOfMaster, IsOfOverride, Occurs}
-use Rattle.ics_series.specs.Placed.{Placed, clocks_at}
-use Rattle.ics_series.proofs.GiverLemmas.{one-instance}
+use Rattle.ics_series.specs.PlacedEvents.{Placed, clocks_at}
+use Rattle.ics_series.proofs.StartSourceLemmas.{one-instance}
 use Rattle.ics_series.proofs.MasterLemmas.{one-chosen, same-entry}
 
 abbrev sub : List ℕ → Option ℤ → SubjectSeen

@@ -9,11 +9,11 @@ use Rattle.std.proofs.Common.{◌≡◌, ℤ, List, [], ◌∷◌, ◌++◌, map
 use Rattle.std.proofs.lemmas.Cmp.{int_cmp_total, on_total, then_total, tied_itself}
 use Rattle.std.proofs.lemmas.Int.{ints}
 use Rattle.ics_calendar.specs.Event.{FileSaid}
-use Rattle.ics_zone.specs.Places.{IsNear}
+use Rattle.ics_zone.specs.Seconds.{IsNear}
 use Rattle.ics_series.specs.declared.window.Window.{Window}
 use Rattle.ics_series.specs.Ahead.{is_today, today}
 use Rattle.ics_series.specs.Clocks.{Clock}
-use Rattle.ics_series.specs.Days.{is_on}
+use Rattle.ics_series.specs.ShownDays.{is_on}
 use Rattle.ics_series.specs.Entry.{Entry, entry_cmp, rank_cmp, rank_of}
 use Rattle.ics_series.specs.EntryLaws.{rank_total}
 use Rattle.ics_series.specs.Listing.{IsIn, IsListing}

@@ -13,13 +13,13 @@ use Rattle.ics_series.specs.declared.window.Window.{Window}
 use Rattle.ics_series.specs.Clocks.{Clocks}
 use Rattle.ics_series.specs.Entry.{Entry}
 use Rattle.ics_series.specs.Listing.{IsIn}
-use Rattle.ics_series.specs.Parts.{part_coming, part_sources}
+use Rattle.ics_series.specs.AgendaParts.{part_coming, part_sources}
 use Rattle.ics_series.specs.Rising.{Rises}
 use Rattle.ics_series.specs.SeriesFeed.{series_left, source_of}
 use Rattle.ics_series.specs.Sources.{uid_cmp, Recurring, Source}
 use Rattle.ics_series.specs.Sources.Source.{Of, Once}
 use Rattle.ics_series.specs.Uids.{entry_uid_cmp, AreSortedFrom}
-use Rattle.ics_series.specs.Zones.{clocks_in}
+use Rattle.ics_series.specs.FileZones.{clocks_in}
 use Rattle.ics_series.proofs.ListingLemmas.{before-in}
 use Rattle.ics_series.proofs.SeriesLemmas.{given-own}
 

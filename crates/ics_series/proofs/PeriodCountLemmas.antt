@@ -4,11 +4,12 @@ use Rattle.std.proofs.Common.{◌≡◌, ℕ, zero, suc, ◌<◌, ◌≤◌, Boo
 use Rattle.std.proofs.lemmas.Bool.Decides.{nat_tests}
 use Rattle.ics_rule.specs.Candidates.{is_stepped, period_in}
 use Rattle.ics_rule.specs.Cursors.{is_met, period_count}
-use Rattle.ics_rule.specs.Filled.{filled}
+use Rattle.ics_rule.specs.EffectiveRules.{effective}
 use Rattle.ics_rule.specs.Kept.{count}
-use Rattle.ics_rule.specs.Locals.{calendar_end, number}
+use Rattle.ics_rule.specs.PeriodNumbers.{calendar_end}
+use Rattle.ics_values.specs.Locals.{number}
 use Rattle.ics_rule.specs.Recurrence.{Recurrence}
-use Rattle.ics_rule.specs.declared.filled.Filled.{Filled}
+use Rattle.ics_rule.specs.declared.effective_rule.EffectiveRule.{EffectiveRule}
 use Rattle.ics_rule.proofs.Counts.{count-none, count-suc, count_mono}
 use Rattle.ics_rule.proofs.KeptLemmas.{and_true, ltb_true}
 use Rattle.ics_series.proofs.RuleLocalLemmas.{both}
@@ -33,7 +34,7 @@ true-lt a b l = grind (arith, nat_tests)
 le-down : (a b m : ℕ) → b ≤ a → nat_le a m ≡ true → nat_le b m ≡ true
 le-down a b m l e = grind (arith, nat_tests)
 
-met-within : (q : Filled) (start a b c d p : ℕ) → c ≤ a → b ≤ d → is_met q start a b p ≡ true → is_met q start c d p ≡ true
+met-within : (q : EffectiveRule) (start a b c d p : ℕ) → c ≤ a → b ≤ d → is_met q start a b p ≡ true → is_met q start c d p ≡ true
 met-within q start a b c d p low high met =
     let parts = and_true {a = is_stepped (period_in q start) q.interval p} met in
     let some = ltb_true 0 (count b (λ n. nat_le a n && period_in q n == p)) parts.1 in
@@ -47,8 +48,8 @@ met-within q start a b c d p low high met =
 pub periods-within : (r : Recurrence) (a b c d : ℕ) → c ≤ a → b ≤ d → period_count r a b ≤ period_count r c d
 unfolding period_count
 periods-within r a b c d low high =
-    count-implied calendar_end (is_met (filled r) (number r.start) a b) (is_met (filled r) (number r.start) c d)
-    (λ p. met-within (filled r) (number r.start) a b c d p low high)
+    count-implied calendar_end (is_met (effective r) (number r.start) a b) (is_met (effective r) (number r.start) c d)
+    (λ p. met-within (effective r) (number r.start) a b c d p low high)
 
 le-false : (a n : ℕ) → n < a → nat_le a n ≡ false
 le-false a n l = grind (arith, nat_tests)
@@ -57,7 +58,7 @@ second-false : (p q : Bool) → q ≡ false → (p && q) ≡ false
 second-false true q e = e
 second-false false q e = refl
 
-none-met : (q : Filled) (start a b p : ℕ) → b ≤ a → is_met q start a b p ≡ false
+none-met : (q : EffectiveRule) (start a b p : ℕ) → b ≤ a → is_met q start a b p ≡ false
 none-met q start a b p l =
     second-false (is_stepped (period_in q start) q.interval p) (nat_lt 0 (count b (λ n. nat_le a n && period_in q n == p)))
     (ap (λ n. nat_lt 0 n) (count-none b (λ n. nat_le a n && period_in q n == p)
@@ -66,4 +67,4 @@ none-met q start a b p l =
 -- no period holds one of no locals
 pub periods-none : (r : Recurrence) (a b : ℕ) → b ≤ a → period_count r a b ≡ 0
 unfolding period_count
-periods-none r a b l = count-none calendar_end (is_met (filled r) (number r.start) a b) (λ p m. none-met (filled r) (number r.start) a b p l)
+periods-none r a b l = count-none calendar_end (is_met (effective r) (number r.start) a b) (λ p m. none-met (effective r) (number r.start) a b p l)

@@ -4,7 +4,7 @@ use Rattle.std.proofs.Common.{◌≡◌, ℕ, ◌+◌, List, [], ◌∷◌, ◌+
 use Rattle.ics_calendar.specs.Event.{FileSaid}
 use Rattle.ics_calendar.specs.declared.event.Event.{Event}
 use Rattle.ics_series.specs.Listing.{IsIn}
-use Rattle.ics_series.specs.Placed.{Placed, IsPlaced}
+use Rattle.ics_series.specs.PlacedEvents.{Placed, IsPlaced}
 use Rattle.ics_series.specs.Versions.{placed_from, placed_in}
 
 module _ {A : Type 0} where

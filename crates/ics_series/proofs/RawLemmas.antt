@@ -10,7 +10,8 @@ use Rattle.std.proofs.lemmas.List.Sums.{sum_by-cons}
 use Rattle.ics_values.specs.Days.{IsDayNumber}
 use Rattle.ics_values.specs.declared.local.Local.{Local}
 use Rattle.ics_rule.specs.Kept.{count, is_kept}
-use Rattle.ics_rule.specs.Locals.{calendar_end, number}
+use Rattle.ics_rule.specs.PeriodNumbers.{calendar_end}
+use Rattle.ics_values.specs.Locals.{number}
 use Rattle.ics_rule.specs.Recurrence.{Recurrence}
 use Rattle.ics_rule.proofs.Counts.{count-suc}
 use Rattle.ics_rule.proofs.KeptLemmas.{and_true}
@@ -18,41 +19,41 @@ use Rattle.ics_calendar.specs.Event.{IsTime}
 use Rattle.ics_calendar.specs.declared.event.Event.{Event}
 use Rattle.ics_calendar.specs.declared.time.Rdate.{Rdate}
 use Rattle.ics_calendar.specs.declared.time.Rdate.TheVariants.{At}
-use Rattle.ics_series.specs.declared.start.Giver.{Giver}
-use Rattle.ics_series.specs.declared.start.Giver.TheVariants.{Kept, Listed}
+use Rattle.ics_series.specs.declared.start.StartSource.{StartSource}
+use Rattle.ics_series.specs.declared.start.StartSource.TheVariants.{Kept, Listed}
 use Rattle.ics_series.specs.Clocks.{Clocks, instant}
-use Rattle.ics_series.specs.Found.{giver_cmp}
+use Rattle.ics_series.specs.Found.{source_cmp}
 use Rattle.ics_series.specs.HeldMost.{is_raw, is_within_days, raw_by, raw_by_rule, raw_in, raw_listed, IsRaw}
 use Rattle.ics_series.specs.Listing.{IsIn, IsListing}
 use Rattle.ics_series.specs.Rising.{IsBefore, Rises}
 use Rattle.ics_series.specs.RuleStarts.{lets_until, local_numbered, moment_numbered}
 use Rattle.ics_series.specs.Starts.{given_by, local_of, recurrence_of, time_at, time_of, IsNotAfter, IsRuleStart}
-use Rattle.ics_series.proofs.FirstLemmas.{giver-order, giver_total}
-use Rattle.ics_series.proofs.GiverLemmas.{calendar-day, own-day, own-time}
+use Rattle.ics_series.proofs.FirstLemmas.{source-order, source_total}
+use Rattle.ics_series.proofs.StartSourceLemmas.{calendar-day, own-day, own-time}
 use Rattle.ics_series.proofs.PlacedLemmas.{in-append, in-append_left, in-append_right}
 use Rattle.ics_series.proofs.RuleLocalLemmas.{both, kept-ruled, number-numbered, numbered-number, ruled-kept}
 use Rattle.ics_series.proofs.SourceLemmas.{rises-more}
 
 -- What is not after another comes before it.
-giver-before : (a b : Giver) → (IsNotAfter b a → ⊥) → giver_cmp a b ≡ Less
-giver-before a b n = by (giver_cmp a b) refl
+source-before : (a b : StartSource) → (IsNotAfter b a → ⊥) → source_cmp a b ≡ Less
+source-before a b n = by (source_cmp a b) refl
   where
-    turned : (c : Ordering) → giver_cmp a b ≡ c → is_gt (ordering_reverse c) ≡ false → ⊥
-    turned c e g = n (giver-order b a (ap is_gt (giver_total.antisymm b a ∙ ap ordering_reverse e) ∙ g))
+    turned : (c : Ordering) → source_cmp a b ≡ c → is_gt (ordering_reverse c) ≡ false → ⊥
+    turned c e g = n (source-order b a (ap is_gt (source_total.antisymm b a ∙ ap ordering_reverse e) ∙ g))
 
-    by : (c : Ordering) → giver_cmp a b ≡ c → giver_cmp a b ≡ Less
+    by : (c : Ordering) → source_cmp a b ≡ c → source_cmp a b ≡ Less
     by Less e = e
     by Equal e = absurd (turned Equal e refl)
     by Greater e = absurd (turned Greater e refl)
 
--- So many givers, as they rise, are those for which something holds.
-record Counts (P : Giver → Type 0) (n : ℕ) : Type 0 where
-  givers : List Giver
-  listing : IsListing giver_cmp P givers
-  count : length givers ≡ n
+-- So many sources, as they rise, are those for which something holds.
+record Counts (P : StartSource → Type 0) (n : ℕ) : Type 0 where
+  sources : List StartSource
+  listing : IsListing source_cmp P sources
+  count : length sources ≡ n
 
 -- Of the locals with numbers below n those that pass a test.
-record IsPassing (test : ℕ → Bool) (n : ℕ) (g : Giver) : Type 0 where
+record IsPassing (test : ℕ → Bool) (n : ℕ) (g : StartSource) : Type 0 where
   at : ℕ
   below : at < n
   passes : test at ≡ true
@@ -63,37 +64,37 @@ all-in P [] h = tt
 all-in P (x ∷ xs) h = (h x (inl refl), all-in P xs (λ y m. h y (inr m)))
 
 module _ (test : ℕ → Bool) where
-  on-passing : (n : ℕ) (g : Giver) → IsPassing test n g → IsPassing test (suc n) g
+  on-passing : (n : ℕ) (g : StartSource) → IsPassing test n g → IsPassing test (suc n) g
   on-passing n g p = record { at = p.at; below = omega (arith, p.below); passes = p.passes; is = p.is }
 
   below-or-last : (m n : ℕ) → m < suc n → (m < n) ⊎ (m ≡ n)
   below-or-last m n l = grind arith
 
-  earlier-local : (k n : ℕ) → k < n → giver_cmp (Kept (local_numbered k)) (Kept (local_numbered n)) ≡ Less
+  earlier-local : (k n : ℕ) → k < n → source_cmp (Kept (local_numbered k)) (Kept (local_numbered n)) ≡ Less
   earlier-local k n l =
-      giver-before (Kept (local_numbered k)) (Kept (local_numbered n)) (λ h. omega (arith, ints, l, h, number-numbered k, number-numbered n))
+      source-before (Kept (local_numbered k)) (Kept (local_numbered n)) (λ h. omega (arith, ints, l, h, number-numbered k, number-numbered n))
 
   one-passing : (n : ℕ) (b : Bool) → test n ≡ b → Counts (IsPassing test n) (count n test) → Counts (IsPassing test (suc n)) (count n test + cond b 1 0)
   one-passing n true e rest = record {
-    givers = rest.givers ++ Kept (local_numbered n) ∷ [];
+    sources = rest.sources ++ Kept (local_numbered n) ∷ [];
     listing = record {
-      rises = rises-more giver_cmp rest.givers (Kept (local_numbered n)) rest.listing.rises
-          (all-in (λ g. giver_cmp g (Kept (local_numbered n)) ≡ Less) rest.givers
-          (λ g m. let p = (rest.listing.exact g).0 m in ap (λ x. giver_cmp x (Kept (local_numbered n))) p.is ∙ earlier-local p.at n p.below));
+      rises = rises-more source_cmp rest.sources (Kept (local_numbered n)) rest.listing.rises
+          (all-in (λ g. source_cmp g (Kept (local_numbered n)) ≡ Less) rest.sources
+          (λ g m. let p = (rest.listing.exact g).0 m in ap (λ x. source_cmp x (Kept (local_numbered n))) p.is ∙ earlier-local p.at n p.below));
       exact = λ g. (
         λ m. ⊎_elim (λ k. on-passing n g ((rest.listing.exact g).0 k)) (λ k. ⊎_elim (λ s. record { at = n; below = omega arith; passes = e; is = s }) (λ no. absurd no) k)
-            (in-append g rest.givers (Kept (local_numbered n) ∷ []) m),
+            (in-append g rest.sources (Kept (local_numbered n) ∷ []) m),
         λ p.
             ⊎_elim
-            (λ l. in-append_left g rest.givers (Kept (local_numbered n) ∷ []) ((rest.listing.exact g).1 (record { at = p.at; below = l; passes = p.passes; is = p.is })))
-            (λ s. in-append_right g rest.givers (Kept (local_numbered n) ∷ []) (inl (p.is ∙ ap (λ i. Kept (local_numbered i)) s)))
+            (λ l. in-append_left g rest.sources (Kept (local_numbered n) ∷ []) ((rest.listing.exact g).1 (record { at = p.at; below = l; passes = p.passes; is = p.is })))
+            (λ s. in-append_right g rest.sources (Kept (local_numbered n) ∷ []) (inl (p.is ∙ ap (λ i. Kept (local_numbered i)) s)))
             (below-or-last p.at n p.below),
       );
     };
-    count = omega (arith, length-append rest.givers (Kept (local_numbered n) ∷ []), rest.count);
+    count = omega (arith, length-append rest.sources (Kept (local_numbered n) ∷ []), rest.count);
   }
   one-passing n false e rest = record {
-    givers = rest.givers;
+    sources = rest.sources;
     listing = record {
       rises = rest.listing.rises;
       exact = λ g. (
@@ -110,11 +111,11 @@ module _ (test : ℕ → Bool) where
 
   passing : (n : ℕ) → Counts (IsPassing test n) (count n test)
   unfolding count
-  passing zero = record { givers = []; listing = record { rises = tt; exact = λ g. (λ m. absurd m, λ p. let no : ⊥ = omega (arith, p.below) in absurd no) }; count = refl }
+  passing zero = record { sources = []; listing = record { rises = tt; exact = λ g. (λ m. absurd m, λ p. let no : ⊥ = omega (arith, p.below) in absurd no) }; count = refl }
   passing (suc n) = subst (Counts (IsPassing test (suc n))) (sym (count-suc n test)) (one-passing n (test n) refl (passing n))
 
 -- Of some RDATEs, which stand from a place on, those that pass a test.
-record IsListedFrom (test : Rdate → Bool) (place : ℕ) (rdates : List Rdate) (g : Giver) : Type 0 where
+record IsListedFrom (test : Rdate → Bool) (place : ℕ) (rdates : List Rdate) (g : StartSource) : Type 0 where
   at : ℕ
   rdate : Rdate
   stands : slice_get rdates at ≡ Some rdate
@@ -122,16 +123,16 @@ record IsListedFrom (test : Rdate → Bool) (place : ℕ) (rdates : List Rdate) 
   is : g ≡ Listed (place + at)
 
 module _ (test : Rdate → Bool) where
-  later-place : (p q : ℕ) → p < q → giver_cmp (Listed p) (Listed q) ≡ Less
-  later-place p q l = giver-before (Listed p) (Listed q) (λ h. omega (arith, l, h))
+  later-place : (p q : ℕ) → p < q → source_cmp (Listed p) (Listed q) ≡ Less
+  later-place p q l = source-before (Listed p) (Listed q) (λ h. omega (arith, l, h))
 
-  on-listed : (place : ℕ) (r : Rdate) (rs : List Rdate) (g : Giver) → IsListedFrom test (place + 1) rs g → IsListedFrom test place (r ∷ rs) g
+  on-listed : (place : ℕ) (r : Rdate) (rs : List Rdate) (g : StartSource) → IsListedFrom test (place + 1) rs g → IsListedFrom test place (r ∷ rs) g
   on-listed place r rs g p = record { at = suc p.at; rdate = p.rdate; stands = p.stands; passes = p.passes; is = p.is ∙ ap Listed (omega arith) }
 
   some-same : (x y : Rdate) → Some x ≡ Some y → x ≡ y
   some-same x y h = cc
 
-  first-or-on : (place : ℕ) (r : Rdate) (rs : List Rdate) (g : Giver) (p : IsListedFrom test place (r ∷ rs) g) (at : ℕ) → p.at ≡ at → ((test r ≡ true) × (g ≡ Listed place)) ⊎ IsListedFrom test (place + 1) rs g
+  first-or-on : (place : ℕ) (r : Rdate) (rs : List Rdate) (g : StartSource) (p : IsListedFrom test place (r ∷ rs) g) (at : ℕ) → p.at ≡ at → ((test r ≡ true) × (g ≡ Listed place)) ⊎ IsListedFrom test (place + 1) rs g
   first-or-on place r rs g p zero e =
       let same : r ≡ p.rdate = some-same r p.rdate (ap (slice_get (r ∷ rs)) (sym e) ∙ p.stands) in
       inl (ap test same ∙ p.passes, p.is ∙ ap Listed (omega (arith, e)))
@@ -140,9 +141,9 @@ module _ (test : Rdate → Bool) where
 
   one-listed : (place : ℕ) (r : Rdate) (rs : List Rdate) (b : Bool) → test r ≡ b → Counts (IsListedFrom test (place + 1) rs) (count_by test rs) → Counts (IsListedFrom test place (r ∷ rs)) (cond b 1 0 + count_by test rs)
   one-listed place r rs true e rest = record {
-    givers = Listed place ∷ rest.givers;
+    sources = Listed place ∷ rest.sources;
     listing = record {
-      rises = (before rest.givers (λ g m. let p = (rest.listing.exact g).0 m in ap (giver_cmp (Listed place)) p.is ∙ later-place place (place + 1 + p.at) (omega arith)), rest.listing.rises);
+      rises = (before rest.sources (λ g m. let p = (rest.listing.exact g).0 m in ap (source_cmp (Listed place)) p.is ∙ later-place place (place + 1 + p.at) (omega arith)), rest.listing.rises);
       exact = λ g. (
         λ m. ⊎_elim (λ s. record { at = 0; rdate = r; stands = refl; passes = e; is = s ∙ ap Listed (omega arith) }) (λ k. on-listed place r rs g ((rest.listing.exact g).0 k)) m,
         λ p. ⊎_elim (λ f. inl f.1) (λ k. inr ((rest.listing.exact g).1 k)) (first-or-on place r rs g p p.at refl),
@@ -151,11 +152,11 @@ module _ (test : Rdate → Bool) where
     count = omega (arith, rest.count);
   }
     where
-      before : (gs : List Giver) → ((g : Giver) → IsIn g gs → giver_cmp (Listed place) g ≡ Less) → IsBefore giver_cmp (Listed place) gs
+      before : (gs : List StartSource) → ((g : StartSource) → IsIn g gs → source_cmp (Listed place) g ≡ Less) → IsBefore source_cmp (Listed place) gs
       before [] h = tt
       before (g ∷ gs) h = (h g (inl refl), before gs (λ k m. h k (inr m)))
   one-listed place r rs false e rest = record {
-    givers = rest.givers;
+    sources = rest.sources;
     listing = record {
       rises = rest.listing.rises;
       exact = λ g. (
@@ -167,7 +168,7 @@ module _ (test : Rdate → Bool) where
   }
 
   listed : (place : ℕ) (rs : List Rdate) → Counts (IsListedFrom test place rs) (count_by test rs)
-  listed place [] = record { givers = []; listing = record { rises = tt; exact = λ g. (λ m. absurd m, λ p. let no : None ≡ Some p.rdate = p.stands in absurd cc) }; count = refl }
+  listed place [] = record { sources = []; listing = record { rises = tt; exact = λ g. (λ m. absurd m, λ p. let no : None ≡ Some p.rdate = p.stands in absurd cc) }; count = refl }
   listed place (r ∷ rs) = subst (Counts (IsListedFrom test place (r ∷ rs))) (sym (sum_by-cons (λ x. cond (test x) 1 0) r rs)) (one-listed place r rs (test r) refl (listed (place + 1) rs))
 
 module _ (clocks : Clocks) (event : Event) (day : ℤ) (time : IsTime event.start) where
@@ -178,7 +179,7 @@ module _ (clocks : Clocks) (event : Event) (day : ℤ) (time : IsTime event.star
   abbrev IsRawLocal : Local → Type 0
   IsRawLocal local = ((local ≡ local_of event.start.stamp) ⊎ IsRuleStart clocks event local) × (is_within_days day (instant clocks (time_at event.start local)) ≡ true)
 
-  abbrev IsRawKept : Giver → Type 0
+  abbrev IsRawKept : StartSource → Type 0
   IsRawKept (Kept local) = IsRawLocal local
   IsRawKept (Listed place) = ⊥
 
@@ -191,17 +192,17 @@ module _ (clocks : Clocks) (event : Event) (day : ℤ) (time : IsTime event.star
   -- under no rule
   once-by : (b : Bool) → is_within_days day (instant clocks event.start) ≡ b → recurrence_of event ≡ None → Counts IsRawKept (if b then 1 else 0)
   once-by true e none = record {
-    givers = Kept (local_of event.start.stamp) ∷ [];
+    sources = Kept (local_of event.start.stamp) ∷ [];
     listing = record { rises = (tt, tt); exact = λ g. (λ m. ⊎_elim (λ s. subst IsRawKept (sym s) (inl refl, ap (is_within_days day) own-instant ∙ e)) (λ no. absurd no) m, λ p. back g p) };
     count = refl;
   }
     where
-      back : (g : Giver) → IsRawKept g → IsIn g (Kept (local_of event.start.stamp) ∷ [])
+      back : (g : StartSource) → IsRawKept g → IsIn g (Kept (local_of event.start.stamp) ∷ [])
       back (Kept local) p = inl (ap Kept (⊎_elim (λ s. s) (λ r. absurd (none-ruled local none r)) p.0))
       back (Listed place) p = absurd p
-  once-by false e none = record { givers = []; listing = record { rises = tt; exact = λ g. (λ m. absurd m, λ p. back g p) }; count = refl }
+  once-by false e none = record { sources = []; listing = record { rises = tt; exact = λ g. (λ m. absurd m, λ p. back g p) }; count = refl }
     where
-      back : (g : Giver) → IsRawKept g → IsIn g []
+      back : (g : StartSource) → IsRawKept g → IsIn g []
       back (Kept local) p =
           let same : local ≡ local_of event.start.stamp = ⊎_elim (λ s. s) (λ r. absurd (none-ruled local none r)) p.0 in
           let no : true ≡ false = sym p.1 ∙ (ap (λ l. is_within_days day (instant clocks (time_at event.start l))) same ∙ (ap (is_within_days day) own-instant ∙ e)) in
@@ -213,7 +214,7 @@ module _ (clocks : Clocks) (event : Event) (day : ℤ) (time : IsTime event.star
     in-calendar : (n : ℕ) → n < calendar_end → IsDayNumber (local_numbered n).day
     in-calendar n l = (omega (arith, ints), omega (arith, ints, l))
 
-    raw-passing : (g : Giver) → IsPassing (is_raw clocks event rule day) calendar_end g → IsRawKept g
+    raw-passing : (g : StartSource) → IsPassing (is_raw clocks event rule day) calendar_end g → IsRawKept g
     raw-passing g p =
         let n = p.at in
         let kept = and_true {a = is_kept rule p.at} p.passes in
@@ -229,7 +230,7 @@ module _ (clocks : Clocks) (event : Event) (day : ℤ) (time : IsTime event.star
     local-day local k =
         ⊎_elim (λ s. subst (λ (l : Local). IsDayNumber l.day) (sym s) (calendar-day (local_of event.start.stamp).day (own-day event.start time))) (λ r. r.calendar) k
 
-    passing-raw : (g : Giver) → IsRawKept g → IsPassing (is_raw clocks event rule day) calendar_end g
+    passing-raw : (g : StartSource) → IsRawKept g → IsPassing (is_raw clocks event rule day) calendar_end g
     passing-raw (Kept local) p =
         let of_day = local-day local p.0 in
         let same = numbered-number local of_day in
@@ -250,7 +251,7 @@ module _ (clocks : Clocks) (event : Event) (day : ℤ) (time : IsTime event.star
     by-rule =
         let all = passing (is_raw clocks event rule day) calendar_end in
         record {
-          givers = all.givers;
+          sources = all.sources;
           listing = record { rises = all.listing.rises; exact = λ g. (λ m. raw-passing g ((all.listing.exact g).0 m), λ p. (all.listing.exact g).1 (passing-raw g p)) };
           count = all.count;
         }
@@ -260,39 +261,39 @@ module _ (clocks : Clocks) (event : Event) (day : ℤ) (time : IsTime event.star
   kept-counts (Some rule) e = by-rule rule e
 
   -- both kinds, the locals first
-  abbrev IsRawGiver : Giver → Type 0
-  IsRawGiver g = IsRawKept g ⊎ IsListedFrom is_there 0 event.rdates g
+  abbrev IsRawSource : StartSource → Type 0
+  IsRawSource g = IsRawKept g ⊎ IsListedFrom is_there 0 event.rdates g
 
-  locals-first : (xs ys : List Giver) → ((g : Giver) → IsIn g xs → IsRawKept g) → ((g : Giver) → IsIn g ys → IsListedFrom is_there 0 event.rdates g) → Rises giver_cmp xs → Rises giver_cmp ys → Rises giver_cmp (xs ++ ys)
+  locals-first : (xs ys : List StartSource) → ((g : StartSource) → IsIn g xs → IsRawKept g) → ((g : StartSource) → IsIn g ys → IsListedFrom is_there 0 event.rdates g) → Rises source_cmp xs → Rises source_cmp ys → Rises source_cmp (xs ++ ys)
   locals-first [] ys h k r s = s
   locals-first (x ∷ xs) ys h k r s = (ahead x xs (h x (inl refl)) r.0, locals-first xs ys (λ g m. h g (inr m)) k r.1 s)
     where
-      kept-before : (x g : Giver) → IsRawKept x → IsListedFrom is_there 0 event.rdates g → giver_cmp x g ≡ Less
-      kept-before (Kept local) g p q = ap (giver_cmp (Kept local)) q.is ∙ giver-before (Kept local) (Listed (0 + q.at)) (λ no. no)
+      kept-before : (x g : StartSource) → IsRawKept x → IsListedFrom is_there 0 event.rdates g → source_cmp x g ≡ Less
+      kept-before (Kept local) g p q = ap (source_cmp (Kept local)) q.is ∙ source-before (Kept local) (Listed (0 + q.at)) (λ no. no)
       kept-before (Listed place) g p q = absurd p
 
-      all-before : (x : Giver) (zs : List Giver) → IsRawKept x → ((g : Giver) → IsIn g zs → IsListedFrom is_there 0 event.rdates g) → IsBefore giver_cmp x zs
+      all-before : (x : StartSource) (zs : List StartSource) → IsRawKept x → ((g : StartSource) → IsIn g zs → IsListedFrom is_there 0 event.rdates g) → IsBefore source_cmp x zs
       all-before x [] p k = tt
       all-before x (z ∷ zs) p k = (kept-before x z p (k z (inl refl)), all-before x zs p (λ g m. k g (inr m)))
 
-      ahead : (x : Giver) (xs : List Giver) → IsRawKept x → IsBefore giver_cmp x xs → IsBefore giver_cmp x (xs ++ ys)
+      ahead : (x : StartSource) (xs : List StartSource) → IsRawKept x → IsBefore source_cmp x xs → IsBefore source_cmp x (xs ++ ys)
       ahead x [] p b = all-before x ys p k
       ahead x (y ∷ zs) p b = (b.0, ahead x zs p b.1)
 
-  giver-raw : (g : Giver) → IsRawGiver g → IsRaw clocks event day g
-  giver-raw (Kept local) (inl p) = (At (time_at event.start local), (p.0, refl), p.1)
-  giver-raw (Kept local) (inr q) = let no : Kept local ≡ Listed (0 + q.at) = q.is in absurd cc
-  giver-raw (Listed place) (inl p) = absurd p
-  giver-raw (Listed place) (inr q) =
+  source-raw : (g : StartSource) → IsRawSource g → IsRaw clocks event day g
+  source-raw (Kept local) (inl p) = (At (time_at event.start local), (p.0, refl), p.1)
+  source-raw (Kept local) (inr q) = let no : Kept local ≡ Listed (0 + q.at) = q.is in absurd cc
+  source-raw (Listed place) (inl p) = absurd p
+  source-raw (Listed place) (inr q) =
       let there : place ≡ q.at = omega (arith, same-place place (0 + q.at) q.is) in
       (given_by event.start q.rdate, (q.rdate, ap (slice_get event.rdates) there ∙ q.stands, refl), q.passes)
     where
       same-place : (a b : ℕ) → Listed a ≡ Listed b → a ≡ b
       same-place a b e = cc
 
-  raw-giver : (g : Giver) → IsRaw clocks event day g → IsRawGiver g
-  raw-giver (Kept local) r = inl (r.1.0, ap (λ given. is_within_days day (instant clocks (time_of given))) (sym r.1.1) ∙ r.2)
-  raw-giver (Listed place) r =
+  raw-source : (g : StartSource) → IsRaw clocks event day g → IsRawSource g
+  raw-source (Kept local) r = inl (r.1.0, ap (λ given. is_within_days day (instant clocks (time_of given))) (sym r.1.1) ∙ r.2)
+  raw-source (Listed place) r =
       inr (record {
         at = place;
         rdate = r.1.0;
@@ -301,21 +302,21 @@ module _ (clocks : Clocks) (event : Event) (day : ℤ) (time : IsTime event.star
         is = ap Listed (omega arith);
       })
 
-  raw-list : (givers : List Giver) × IsListing giver_cmp (IsRaw clocks event day) givers × (length givers ≡ raw_in clocks event day)
+  raw-list : (sources : List StartSource) × IsListing source_cmp (IsRaw clocks event day) sources × (length sources ≡ raw_in clocks event day)
   unfolding raw_in raw_listed
   raw-list =
       let kept = kept-counts (recurrence_of event) refl in
       let rest = listed is_there 0 event.rdates in (
-        kept.givers ++ rest.givers,
+        kept.sources ++ rest.sources,
         record {
-          rises = locals-first kept.givers rest.givers (λ g m. (kept.listing.exact g).0 m) (λ g m. (rest.listing.exact g).0 m) kept.listing.rises rest.listing.rises;
+          rises = locals-first kept.sources rest.sources (λ g m. (kept.listing.exact g).0 m) (λ g m. (rest.listing.exact g).0 m) kept.listing.rises rest.listing.rises;
           exact = λ g. (
-            λ m. giver-raw g (⊎_elim (λ k. inl ((kept.listing.exact g).0 k)) (λ k. inr ((rest.listing.exact g).0 k)) (in-append g kept.givers rest.givers m)),
-            λ r. ⊎_elim (λ p. in-append_left g kept.givers rest.givers ((kept.listing.exact g).1 p)) (λ q. in-append_right g kept.givers rest.givers ((rest.listing.exact g).1 q)) (raw-giver g r),
+            λ m. source-raw g (⊎_elim (λ k. inl ((kept.listing.exact g).0 k)) (λ k. inr ((rest.listing.exact g).0 k)) (in-append g kept.sources rest.sources m)),
+            λ r. ⊎_elim (λ p. in-append_left g kept.sources rest.sources ((kept.listing.exact g).1 p)) (λ q. in-append_right g kept.sources rest.sources ((rest.listing.exact g).1 q)) (raw-source g r),
           );
         },
-        omega (arith, length-append kept.givers rest.givers, kept.count, rest.count),
+        omega (arith, length-append kept.sources rest.sources, kept.count, rest.count),
       )
 
-pub raw-counted : (clocks : Clocks) (event : Event) (day : ℤ) → IsTime event.start → (givers : List Giver) × IsListing giver_cmp (IsRaw clocks event day) givers × (length givers ≡ raw_in clocks event day)
+pub raw-counted : (clocks : Clocks) (event : Event) (day : ℤ) → IsTime event.start → (sources : List StartSource) × IsListing source_cmp (IsRaw clocks event day) sources × (length sources ≡ raw_in clocks event day)
 raw-counted clocks event day time = raw-list clocks event day time

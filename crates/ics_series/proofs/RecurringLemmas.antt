@@ -20,17 +20,17 @@ use Rattle.ics_series.specs.Meets.{IsEventMet}
 use Rattle.ics_series.specs.After.{is_after}
 use Rattle.ics_series.specs.Occurs.{IsOf}
 use Rattle.ics_series.specs.Overridden.{AreOverridden, is_kept}
-use Rattle.ics_series.specs.Placed.{Placed, clocks_at}
+use Rattle.ics_series.specs.PlacedEvents.{Placed, clocks_at}
 use Rattle.ics_series.specs.SeriesStarts.{IsSeriesMet}
 use Rattle.ics_series.specs.Singles.{is_single}
 use Rattle.ics_series.specs.Spots.{event_at}
 use Rattle.ics_series.specs.Starts.{time_of}
 use Rattle.ics_series.specs.Versions.{is_named, label_of, seen, AreChosen, Label}
-use Rattle.ics_series.specs.Zones.{clocks_in}
+use Rattle.ics_series.specs.FileZones.{clocks_in}
 use Rattle.ics_series.proofs.AfterKeyLemmas.{since-none}
 use Rattle.ics_series.proofs.FilterLemmas.{listing-filter}
 use Rattle.ics_series.proofs.GivenLemmas.{in-map, placed-event, IsGiven, IsGivenBy}
-use Rattle.ics_series.proofs.GiverLemmas.{gives-value, rdate-time}
+use Rattle.ics_series.proofs.StartSourceLemmas.{gives-value, rdate-time}
 use Rattle.ics_series.proofs.InstantLemmas.{late}
 use Rattle.ics_series.proofs.ToComeLemmas.{come-listed, is-after, listed-given, to-come}
 use Rattle.ics_series.proofs.WholeLemmas.{whole-listing}
@@ -70,7 +70,7 @@ in-among t (x ∷ xs) m = ⊎_elim (λ e. ap (λ b. b || list_any (λ x. int_eq 
 -- an occurrence begins after the last two days of the year 0000 have begun
 pub of-late : (zones : FileZones) (event : Event) (o : Entry) → IsEvent event → IsOf (clocks_in zones) event o → neg_ℤ (pos 62_135_769_600) ≤ℤ o.start
 of-late zones event o e h =
-    let time = rdate-time h.lasts.given (gives-value (clocks_in zones) event h.lasts.giver h.lasts.given e.start e.rdates h.lasts.gives) in
+    let time = rdate-time h.lasts.given (gives-value (clocks_in zones) event h.lasts.source h.lasts.given e.start e.rdates h.lasts.gives) in
     let near = late zones (time_of h.lasts.given) time in
     let starts = h.lasts.starts in
     omega (arith, ints, near, starts)

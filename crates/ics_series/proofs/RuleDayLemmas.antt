@@ -9,23 +9,24 @@ use Rattle.ics_values.specs.declared.local.Local.{Local}
 use Rattle.ics_values.specs.declared.stamp.Stamp.{Stamp}
 use Rattle.ics_values.specs.declared.stamp.Stamp.TheVariants.{Date, Floating, Utc, Zoned}
 use Rattle.ics_rule.specs.Kept.{is_kept}
-use Rattle.ics_rule.specs.Locals.{rules_end}
+use Rattle.ics_rule.specs.PeriodNumbers.{rules_end}
 use Rattle.ics_rule.specs.Recurrence.{Recurrence}
 use Rattle.ics_rule.proofs.KeptLemmas.{and_true}
 use Rattle.ics_calendar.specs.declared.event.Event.{Event}
 use Rattle.ics_series.specs.declared.start.Start.{Start}
 use Rattle.ics_series.specs.declared.window.Window.{Window}
 use Rattle.ics_series.specs.declared.zones.FileZones.{FileZones}
-use Rattle.ics_series.specs.Clocks.{midnight, seconds_of, written}
+use Rattle.ics_calendar.specs.Event.{stamp_seconds}
+use Rattle.ics_values.specs.Locals.{local_seconds, midnight}
 use Rattle.ics_series.specs.Found.{moment_cmp, start_at}
 use Rattle.ics_series.specs.Listing.{IsIn}
 use Rattle.ics_series.specs.Merged.{by_order, cut, union}
 use Rattle.ics_series.specs.Rising.{IsBefore, Rises}
 use Rattle.ics_series.specs.RuleStarts.{found, found_in, gives, is_behind, is_ready, lets_until, local_numbered, midnight_number, moment_numbered, to_come, with_put, AreHeld}
 use Rattle.ics_series.specs.Starts.{stamp_at, time_at}
-use Rattle.ics_series.specs.Zones.{clocks_in}
+use Rattle.ics_series.specs.FileZones.{clocks_in}
 use Rattle.ics_series.proofs.FirstLemmas.{moment_total}
-use Rattle.ics_series.proofs.GiverLemmas.{written-at}
+use Rattle.ics_series.proofs.StartSourceLemmas.{written-at}
 use Rattle.ics_series.proofs.HeldLemmas.{before-all, before-union, put-before}
 use Rattle.ics_series.proofs.InstantLemmas.{instant-near}
 use Rattle.ics_series.proofs.MeetingLemmas.{le-true, less-true}
@@ -36,10 +37,10 @@ use Rattle.ics_series.proofs.UnionLemmas.{union-in}
 pub number-day : (day : ℤ) → IsDayNumber day → pos (midnight_number day) ≡ midnight day +ℤ pos 62_167_219_200
 number-day day h = omega (arith, ints, h.0)
 
-pub seconds-numbered : (n : ℕ) → seconds_of (local_numbered n) ≡ pos n -ℤ pos 62_167_219_200
+pub seconds-numbered : (n : ℕ) → local_seconds (local_numbered n) ≡ pos n -ℤ pos 62_167_219_200
 seconds-numbered n = omega (arith, ints)
 
-day-written : (s : Stamp) (a : Local) → midnight a.day ≤ℤ written (stamp_at s a)
+day-written : (s : Stamp) (a : Local) → midnight a.day ≤ℤ stamp_seconds (stamp_at s a)
 day-written (Date day) a = omega (arith, ints)
 day-written (Floating local) a = omega (arith, ints)
 day-written (Utc local) a = omega (arith, ints)

@@ -2,7 +2,7 @@
 use Rattle.std.proofs.Common.{◌≡◌, ℕ, ◌<◌, true, arith}
 use Rattle.std.proofs.lemmas.Int.{ints}
 use Rattle.ics_rule.specs.Kept.{is_kept}
-use Rattle.ics_rule.specs.Locals.{rules_end}
+use Rattle.ics_rule.specs.PeriodNumbers.{rules_end}
 use Rattle.ics_rule.specs.Recurrence.{Recurrence}
 use Rattle.ics_rule.proofs.KeptLemmas.{and_true}
 use Rattle.ics_calendar.specs.declared.event.Event.{Event}
@@ -10,8 +10,8 @@ use Rattle.ics_series.specs.declared.window.Window.{Window}
 use Rattle.ics_series.specs.declared.zones.FileZones.{FileZones}
 use Rattle.ics_series.specs.RuleStarts.{gives, lets_until, local_numbered, moment_numbered}
 use Rattle.ics_series.specs.Starts.{time_at}
-use Rattle.ics_series.specs.Zones.{clocks_in}
-use Rattle.ics_series.proofs.GiverLemmas.{written-at}
+use Rattle.ics_series.specs.FileZones.{clocks_in}
+use Rattle.ics_series.proofs.StartSourceLemmas.{written-at}
 use Rattle.ics_series.proofs.InstantLemmas.{instant-near}
 use Rattle.ics_series.proofs.RuleDayLemmas.{given-early, seconds-numbered}
 

@@ -7,7 +7,7 @@ use Rattle.std.specs.Ordering.{int_eq}
 use Rattle.ics_values.specs.Days.{IsDayNumber}
 use Rattle.ics_values.specs.declared.local.Local.{Local}
 use Rattle.ics_rule.specs.Kept.{is_kept, until_moment}
-use Rattle.ics_rule.specs.Locals.{number}
+use Rattle.ics_values.specs.Locals.{number}
 use Rattle.ics_rule.specs.Recurrence.{Recurrence}
 use Rattle.ics_rule.proofs.KeptLemmas.{and_true, eqb_true, or_true}
 use Rattle.ics_rule.proofs.NextLemmas.{kept_start}
@@ -15,11 +15,11 @@ use Rattle.ics_calendar.specs.Event.{IsTime}
 use Rattle.ics_calendar.specs.declared.event.Event.{Event}
 use Rattle.ics_series.specs.declared.window.Window.{Window}
 use Rattle.ics_series.specs.Clocks.{Clocks, instant}
-use Rattle.ics_series.specs.Found.{is_until}
+use Rattle.ics_zone.specs.Observances.{is_until}
 use Rattle.ics_series.specs.RuleStarts.{gives, lets_until, local_numbered, midnight_number, moment_numbered}
 use Rattle.ics_series.specs.Starts.{local_of, recurrence_of, time_at, IsRuleStart}
 use Rattle.ics_series.proofs.FirstLemmas.{eq-true, true-eq}
-use Rattle.ics_series.proofs.GiverLemmas.{calendar-day, own-day, rule-is, same-number}
+use Rattle.ics_series.proofs.StartSourceLemmas.{calendar-day, own-day, rule-is, same-number}
 use Rattle.ics_series.proofs.KeptLemmas.{true-until, until-true}
 
 same-test : (p q : Bool) → (p ≡ true → q ≡ true) → (q ≡ true → p ≡ true) → p ≡ q

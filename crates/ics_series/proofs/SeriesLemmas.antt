@@ -11,7 +11,7 @@ use Rattle.ics_values.specs.Days.{IsDayNumber}
 use Rattle.ics_values.specs.declared.local.Local.{Local}
 use Rattle.ics_rule.specs.Cursors.{place_of}
 use Rattle.ics_rule.specs.Kept.{is_kept}
-use Rattle.ics_rule.specs.Locals.{number}
+use Rattle.ics_values.specs.Locals.{number, midnight}
 use Rattle.ics_rule.specs.Recurrence.{Recurrence}
 use Rattle.ics_rule.proofs.KeptLemmas.{and_true}
 use Rattle.ics_calendar.specs.Event.{IsEvent, IsTime}
@@ -19,12 +19,12 @@ use Rattle.ics_calendar.specs.declared.event.Event.{Event}
 use Rattle.ics_calendar.specs.declared.time.Rdate.{Rdate}
 use Rattle.ics_series.specs.declared.listed_starts.ListedStarts.{ListedStarts}
 use Rattle.ics_series.specs.declared.rule_starts.RuleStarts.{RuleStarts}
-use Rattle.ics_series.specs.declared.start.Giver.{Giver}
-use Rattle.ics_series.specs.declared.start.Giver.TheVariants.{Kept, Listed}
+use Rattle.ics_series.specs.declared.start.StartSource.{StartSource}
+use Rattle.ics_series.specs.declared.start.StartSource.TheVariants.{Kept, Listed}
 use Rattle.ics_series.specs.declared.start.Start.{Start}
 use Rattle.ics_series.specs.declared.window.Window.{Window}
 use Rattle.ics_series.specs.declared.zones.FileZones.{FileZones}
-use Rattle.ics_series.specs.Clocks.{Clocks, midnight}
+use Rattle.ics_series.specs.Clocks.{Clocks}
 use Rattle.ics_series.specs.Entry.{Entry, Rank, entry_cmp, rank_of}
 use Rattle.ics_series.specs.Found.{is_shown, moment_cmp, AreStartsSince, IsStart}
 use Rattle.ics_series.specs.Listing.{IsIn, IsListing}
@@ -35,9 +35,9 @@ use Rattle.ics_series.specs.RuleFeed.{starts_left}
 use Rattle.ics_series.specs.RuleStarts.{gives, lets_until, moment_numbered}
 use Rattle.ics_series.specs.SeriesStarts.{given_of, is_among, has_moment, is_wanted, listed_left, rule_asked, rule_left, wanted_by, AreKnown, HasRuled, HasSameRule, HaveRuled, IsAskedNear, IsGivenAt, IsGivenBy, IsKnown, IsSeriesMet}
 use Rattle.ics_series.specs.Starts.{given_by, local_of, recurrence_of, GivesStart, IsRuleStart}
-use Rattle.ics_series.specs.Zones.{clocks_in}
+use Rattle.ics_series.specs.FileZones.{clocks_in}
 use Rattle.ics_series.proofs.FirstLemmas.{int-less, moment_total, tied-moment}
-use Rattle.ics_series.proofs.GiverLemmas.{gives-value}
+use Rattle.ics_series.proofs.StartSourceLemmas.{gives-value}
 use Rattle.ics_series.proofs.LeftLemmas.{member-cut}
 use Rattle.ics_series.proofs.ListingLemmas.{before-in}
 use Rattle.ics_series.proofs.MeetingLemmas.{both-back, equal-true, le-true, met-shown, true-equal, true-le}
@@ -98,7 +98,7 @@ module _ (zones : FileZones) (w : Window) (event : Event) where
   given-local local None e time g = inl g
   given-local local (Some rule) e time g = same-or-ruled local rule e time g.0 g.1
 
-  known-gives : (giver : Giver) (given : Rdate) → IsTime event.start → IsGivenBy (clocks_in zones) event w giver given → GivesStart (clocks_in zones) event giver given
+  known-gives : (source : StartSource) (given : Rdate) → IsTime event.start → IsGivenBy (clocks_in zones) event w source given → GivesStart (clocks_in zones) event source given
   known-gives (Kept local) given time g = (given-local local (recurrence_of event) refl time g.0, g.1)
   known-gives (Listed place) given time g = by (slice_get event.rdates place) refl g
     where
@@ -112,8 +112,8 @@ module _ (zones : FileZones) (w : Window) (event : Event) where
 
   pub known-start : (s : Start) → IsEvent event → IsKnown (clocks_in zones) event w s → IsStart (clocks_in zones) event s
   known-start s sound k =
-      let gives = known-gives s.giver s.given sound.start k.gives in
-      record { gives = gives; value = gives-value (clocks_in zones) event s.giver s.given sound.start sound.rdates gives; moment = k.moment }
+      let gives = known-gives s.source s.given sound.start k.gives in
+      record { gives = gives; value = gives-value (clocks_in zones) event s.source s.given sound.start sound.rdates gives; moment = k.moment }
 
 -- An instant is one of some.
 among-in-by : (b : Bool) (x t : ℤ) (xs : List ℤ) → int_eq x t ≡ b → (is_among xs t ≡ true → IsIn t xs) → (b || is_among xs t) ≡ true → IsIn t (x ∷ xs)

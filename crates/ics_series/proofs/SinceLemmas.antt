@@ -7,19 +7,20 @@ use Rattle.ics_values.specs.Days.{IsDayNumber}
 use Rattle.ics_values.specs.RuleParts.{RuleParts}
 use Rattle.ics_values.specs.declared.local.Local.{Local}
 use Rattle.ics_rule.specs.Kept.{is_kept}
-use Rattle.ics_rule.specs.Locals.{number, rules_end}
+use Rattle.ics_rule.specs.PeriodNumbers.{rules_end}
+use Rattle.ics_values.specs.Locals.{number, local_seconds}
 use Rattle.ics_rule.specs.Recurrence.{Recurrence}
 use Rattle.ics_calendar.specs.Event.{IsEvent}
 use Rattle.ics_calendar.specs.declared.event.Event.{Event}
 use Rattle.ics_calendar.specs.declared.time.Rdate.{Rdate}
 use Rattle.ics_calendar.specs.declared.time.Rdate.TheVariants.{At}
 use Rattle.ics_series.specs.declared.rule_starts.RuleStarts.{RuleStarts}
-use Rattle.ics_series.specs.declared.start.Giver.{Giver}
-use Rattle.ics_series.specs.declared.start.Giver.TheVariants.{Kept, Listed}
+use Rattle.ics_series.specs.declared.start.StartSource.{StartSource}
+use Rattle.ics_series.specs.declared.start.StartSource.TheVariants.{Kept, Listed}
 use Rattle.ics_series.specs.declared.start.Start.{Start}
 use Rattle.ics_series.specs.declared.window.Window.{Window}
 use Rattle.ics_series.specs.declared.zones.FileZones.{FileZones}
-use Rattle.ics_series.specs.Clocks.{Clocks, instant, seconds_of}
+use Rattle.ics_series.specs.Clocks.{Clocks, instant}
 use Rattle.ics_series.specs.Entry.{Entry, entry_cmp}
 use Rattle.ics_series.specs.Found.{earliest, listed_from, moment_cmp, start_at, start_by, AreFirsts, AreStartsSince, HasStart, IsSought}
 use Rattle.ics_series.specs.Listing.{IsIn, IsListing}
@@ -32,9 +33,9 @@ use Rattle.ics_series.specs.RuleFeed.{starts_left}
 use Rattle.ics_series.specs.RuleStarts.{found, found_in, gives, lets_until, local_numbered, moment_numbered, with_put}
 use Rattle.ics_series.specs.SeriesStarts.{first_asked, listed_apart, rule_left, AreKnown, HasRuled, HaveRuled, IsGivenAt, IsGivenBy, IsKnown, IsRuleFrom, IsSeriesMet}
 use Rattle.ics_series.specs.Starts.{given_by, local_of, recurrence_by, recurrence_of, time_at, time_of, GivesStart, IsNotAfter, IsRuleStart}
-use Rattle.ics_series.specs.Zones.{clocks_in}
+use Rattle.ics_series.specs.FileZones.{clocks_in}
 use Rattle.ics_series.proofs.FirstLemmas.{moment_total}
-use Rattle.ics_series.proofs.GiverLemmas.{calendar-day, number-seconds, own-day, written-at}
+use Rattle.ics_series.proofs.StartSourceLemmas.{calendar-day, number-seconds, own-day, written-at}
 use Rattle.ics_series.proofs.InstantLemmas.{instant-near}
 use Rattle.ics_series.proofs.LeftLemmas.{has-union, put-has, union-has}
 use Rattle.ics_series.proofs.ListedLemmas.{listed-in}
@@ -48,8 +49,8 @@ use Rattle.ics_series.proofs.StartLaws.{kept-first}
 use Rattle.ics_series.proofs.UnionLemmas.{itself-put, union-in}
 
 module _ (zones : FileZones) (w : Window) (event : Event) where
-  known-is : (s : Start) (giver : Giver) (given : Rdate) → IsGivenBy (clocks_in zones) event w giver given → s ≡ start_by (clocks_in zones) giver given → IsKnown (clocks_in zones) event w s
-  known-is s giver given g e = subst (IsKnown (clocks_in zones) event w) (sym e) (record { gives = g; moment = refl })
+  known-is : (s : Start) (source : StartSource) (given : Rdate) → IsGivenBy (clocks_in zones) event w source given → s ≡ start_by (clocks_in zones) source given → IsKnown (clocks_in zones) event w s
+  known-is s source given g e = subst (IsKnown (clocks_in zones) event w) (sym e) (record { gives = g; moment = refl })
 
   -- What is known from the first.
   known-listed : (s : Start) → IsIn s (listed_from (clocks_in zones) w event.start 0 event.rdates) → IsKnown (clocks_in zones) event w s
@@ -140,8 +141,8 @@ low-by from first earliest since to t local low late own above near =
 
 module _ (zones : FileZones) (w : Window) (event : Event) (sound : IsEvent event) (since : ℤ) where
   -- what gives a start that is sought from the instant on is asked for
-  asked-for : (from local : Local) (given : Rdate) → seconds_of from ≤ℤ int_max (seconds_of (local_of event.start.stamp)) (first_asked (clocks_in zones) w event since (listed_from (clocks_in zones) w event.start 0 event.rdates) -ℤ pos 518_400)
-      → GivesStart (clocks_in zones) event (Kept local) given → IsSought (clocks_in zones) event w (instant (clocks_in zones) (time_of given)) → since ≤ℤ instant (clocks_in zones) (time_of given) → seconds_of from ≤ℤ seconds_of local
+  asked-for : (from local : Local) (given : Rdate) → local_seconds from ≤ℤ int_max (local_seconds (local_of event.start.stamp)) (first_asked (clocks_in zones) w event since (listed_from (clocks_in zones) w event.start 0 event.rdates) -ℤ pos 518_400)
+      → GivesStart (clocks_in zones) event (Kept local) given → IsSought (clocks_in zones) event w (instant (clocks_in zones) (time_of given)) → since ≤ℤ instant (clocks_in zones) (time_of given) → local_seconds from ≤ℤ local_seconds local
   asked-for from local given low g s late =
       let time = time_at event.start local in
       let same = ap (λ x. instant (clocks_in zones) (time_of x)) g.1 in
@@ -149,8 +150,8 @@ module _ (zones : FileZones) (w : Window) (event : Event) (sound : IsEvent event
       sought-late zones w event (instant (clocks_in zones) (time_of given)) s in
       let near = instant-near zones time in
       let at = written-at event.start.stamp local in
-      low-by (seconds_of from) (seconds_of (local_of event.start.stamp)) (earliest (clocks_in zones) w event (listed_from (clocks_in zones) w event.start 0 event.rdates)) since (w.to +ℤ pos 1_209_600)
-      (instant (clocks_in zones) (time_of given)) (seconds_of local) low sought late (kept-first (clocks_in zones) event sound.start local g.0) (omega (arith, ints, same, near.1, at.0))
+      low-by (local_seconds from) (local_seconds (local_of event.start.stamp)) (earliest (clocks_in zones) w event (listed_from (clocks_in zones) w event.start 0 event.rdates)) since (w.to +ℤ pos 1_209_600)
+      (instant (clocks_in zones) (time_of given)) (local_seconds local) low sought late (kept-first (clocks_in zones) event sound.start local g.0) (omega (arith, ints, same, near.1, at.0))
 
   own-day-of : (local : Local) → (local ≡ local_of event.start.stamp) ⊎ IsRuleStart (clocks_in zones) event local → IsDayNumber local.day
   own-day-of local k =
@@ -177,21 +178,21 @@ module _ (zones : FileZones) (w : Window) (event : Event) (sound : IsEvent event
         (subst (λ l. HasStart (found (clocks_in zones) event r.rule w (number r.from)) (Kept l) (instant (clocks_in zones) (time_at event.start l))) (numbered-number local day) has))
 
     -- all that it gives goes before an RDATE
-    local-first : (place : ℕ) (x : Start) → IsIn x starts → IsNotAfter x.giver (Listed place)
+    local-first : (place : ℕ) (x : Start) → IsIn x starts → IsNotAfter x.source (Listed place)
     local-first place x m =
         let f = found-is zones event r.rule w (number r.from) x (subst (IsIn x) r.gives m) in
-        subst (λ (s : Start). IsNotAfter s.giver (Listed place)) (sym f.is) tt
+        subst (λ (s : Start). IsNotAfter s.source (Listed place)) (sym f.is) tt
 
     pub with-ruled : (listed : List Start) → Rises moment_cmp starts → AreFirsts (listed_from (clocks_in zones) w event.start 0 event.rdates) listed
-        → (giver : Giver) (given : Rdate) → GivesStart (clocks_in zones) event giver given → IsSought (clocks_in zones) event w (instant (clocks_in zones) (time_of given)) → since ≤ℤ instant (clocks_in zones) (time_of given)
-        → HasStart (union moment_cmp starts listed) giver (instant (clocks_in zones) (time_of given))
+        → (source : StartSource) (given : Rdate) → GivesStart (clocks_in zones) event source given → IsSought (clocks_in zones) event w (instant (clocks_in zones) (time_of given)) → since ≤ℤ instant (clocks_in zones) (time_of given)
+        → HasStart (union moment_cmp starts listed) source (instant (clocks_in zones) (time_of given))
     with-ruled listed rises firsts (Kept local) given g s late =
         has-union starts listed (Kept local) (instant (clocks_in zones) (time_of given)) rises (ruled local given g s late)
     with-ruled listed rises firsts (Listed place) given g s late =
         union-has starts listed (Listed place) (instant (clocks_in zones) (time_of given)) (local-first place)
         (firsts.all (start_by (clocks_in zones) (Listed place) given)
         (⊎_elim
-        (λ e. let f : Listed place ≡ Kept (local_of event.start.stamp) = ap (λ (x : Start). x.giver) e in absurd cc)
+        (λ e. let f : Listed place ≡ Kept (local_of event.start.stamp) = ap (λ (x : Start). x.source) e in absurd cc)
         (λ m. m)
         (listed-there zones w event place given g (sought-early zones w event (instant (clocks_in zones) (time_of given)) s))))
 
@@ -207,19 +208,19 @@ module _ (zones : FileZones) (w : Window) (event : Event) (sound : IsEvent event
 
   all-by : (o : Option RuleStarts) (parts : Option RuleParts) (listed : List Start) → event.rule ≡ parts → AreFirsts (listed_apart (clocks_in zones) w event parts) listed
       → MatchOption o (event.rule ≡ None) (λ s. IsRuleFrom (clocks_in zones) event w since (listed_apart (clocks_in zones) w event parts) (starts_left s))
-      → (giver : Giver) (given : Rdate) → GivesStart (clocks_in zones) event giver given → IsSought (clocks_in zones) event w (instant (clocks_in zones) (time_of given)) → since ≤ℤ instant (clocks_in zones) (time_of given)
-      → HasStart (union moment_cmp (rule_left o) listed) giver (instant (clocks_in zones) (time_of given))
-  all-by None None listed e firsts r giver given g s late = firsts.all (start_by (clocks_in zones) giver given) (none-else zones w event e giver given g s)
-  all-by None (Some parts) listed e firsts r giver given g s late = let f : None ≡ Some parts = sym r ∙ e in absurd cc
-  all-by (Some starts) None listed e firsts r giver given g s late = let f : None ≡ Some r.rule = ap (option_map (recurrence_by event.start.stamp)) (sym e) ∙ r.has in absurd cc
-  all-by (Some starts) (Some parts) listed e firsts r giver given g s late = with-ruled (starts_left starts) r listed (rises-rule (Some starts)) firsts giver given g s late
+      → (source : StartSource) (given : Rdate) → GivesStart (clocks_in zones) event source given → IsSought (clocks_in zones) event w (instant (clocks_in zones) (time_of given)) → since ≤ℤ instant (clocks_in zones) (time_of given)
+      → HasStart (union moment_cmp (rule_left o) listed) source (instant (clocks_in zones) (time_of given))
+  all-by None None listed e firsts r source given g s late = firsts.all (start_by (clocks_in zones) source given) (none-else zones w event e source given g s)
+  all-by None (Some parts) listed e firsts r source given g s late = let f : None ≡ Some parts = sym r ∙ e in absurd cc
+  all-by (Some starts) None listed e firsts r source given g s late = let f : None ≡ Some r.rule = ap (option_map (recurrence_by event.start.stamp)) (sym e) ∙ r.has in absurd cc
+  all-by (Some starts) (Some parts) listed e firsts r source given g s late = with-ruled (starts_left starts) r listed (rises-rule (Some starts)) firsts source given g s late
 
   -- Where an occurrence begins at the instant of a local that DTSTART has or the rule keeps, the rule has a start there.
   sought-at : (e : Entry) → IsEventMet (clocks_in zones) event w e → IsSought (clocks_in zones) event w e.start
   sought-at e o =
       let of = o.0.lasts in
       let is : e ≡ entry_from (clocks_in zones) event of.given = same-entry e (entry_from (clocks_in zones) event of.given) of.starts of.ends (o.0.recurrence ∙ of.starts) o.0.event in
-      record { giver = of.giver; given = of.given; gives = of.gives; starts = sym of.starts; meets = subst (Meets w) is o.1 }
+      record { source = of.source; given = of.given; gives = of.gives; starts = sym of.starts; meets = subst (Meets w) is o.1 }
 
   ruled-coming : (overridden : List ℤ) (starts : List Start) (coming : List Entry) → IsRuleFrom (clocks_in zones) event w since (listed_from (clocks_in zones) w event.start 0 event.rdates) starts
       → ((o : Entry) → IsIn o coming → IsSeriesMet (clocks_in zones) event w since overridden o) → HaveRuled (clocks_in zones) event starts coming

@@ -6,16 +6,16 @@ use Rattle.std.specs.Option.{option_and_then}
 use Rattle.ics_calendar.specs.Event.{FileSaid}
 use Rattle.ics_calendar.specs.declared.event.Event.{Event}
 use Rattle.ics_calendar.specs.declared.time.Rdate.TheVariants.{At}
-use Rattle.ics_series.specs.declared.start.Giver.TheVariants.{Kept}
+use Rattle.ics_series.specs.declared.start.StartSource.TheVariants.{Kept}
 use Rattle.ics_series.specs.declared.window.Window.{Window}
 use Rattle.ics_series.specs.Clocks.{Clock, Clocks, instant}
 use Rattle.ics_series.specs.Entry.{Entry, Rank}
-use Rattle.ics_series.specs.Placed.{clocks_at}
+use Rattle.ics_series.specs.PlacedEvents.{clocks_at}
 use Rattle.ics_series.specs.Singles.{begun_first, entry_first, is_single, is_to_come, single_at, single_of}
 use Rattle.ics_series.specs.Spots.{event_at}
 use Rattle.ics_series.specs.Starts.{local_of, GivesStart}
 use Rattle.ics_series.specs.Versions.{Label}
-use Rattle.ics_series.proofs.GiverLemmas.{own-time}
+use Rattle.ics_series.proofs.StartSourceLemmas.{own-time}
 
 -- one that begins at the window's end or later is left out
 pub none-begun : (clocks : Clocks) (w : Window) (event : Event) (recurrence : Option ℤ) → w.to ≤ℤ instant clocks event.start → None ≡ begun_first clocks w event recurrence

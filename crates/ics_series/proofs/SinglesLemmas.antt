@@ -19,12 +19,13 @@ use Rattle.ics_calendar.specs.declared.time.Rdate.{Rdate}
 use Rattle.ics_calendar.specs.declared.time.Rdate.TheVariants.{At}
 use Rattle.ics_calendar.specs.declared.time.Time.{Time}
 use Rattle.ics_series.specs.declared.single.Single.{Single}
-use Rattle.ics_series.specs.declared.start.Giver.{Giver}
-use Rattle.ics_series.specs.declared.start.Giver.TheVariants.{Kept, Listed}
+use Rattle.ics_series.specs.declared.start.StartSource.{StartSource}
+use Rattle.ics_series.specs.declared.start.StartSource.TheVariants.{Kept, Listed}
 use Rattle.ics_series.specs.declared.version.Version.{Version}
 use Rattle.ics_series.specs.declared.window.Window.{Window}
 use Rattle.ics_series.specs.Chosen.{overridden, subject_of, IsChosen}
-use Rattle.ics_series.specs.Clocks.{Clock, Clocks, instant, seconds_of}
+use Rattle.ics_series.specs.Clocks.{Clock, Clocks, instant}
+use Rattle.ics_values.specs.Locals.{local_seconds}
 use Rattle.ics_series.specs.Entry.{Entry, Rank, entry_cmp}
 use Rattle.ics_series.specs.EntryLaws.{entry_total}
 use Rattle.ics_series.specs.Exclusions.{excludes}
@@ -34,7 +35,7 @@ use Rattle.ics_series.specs.Meeting.{is_met}
 use Rattle.ics_series.specs.Overridden.{is_kept}
 use Rattle.ics_series.specs.After.{is_after}
 use Rattle.ics_series.specs.Occurs.{IsInstance}
-use Rattle.ics_series.specs.Placed.{Placed, clocks_at}
+use Rattle.ics_series.specs.PlacedEvents.{Placed, clocks_at}
 use Rattle.ics_series.specs.Singles.{entry_first, is_single, is_to_come, single_at, single_entry, single_of, AreSingle, IsSingleToCome}
 use Rattle.ics_series.specs.Starts.{local_of, recurrence_by, GivesStart, IsNotAfter}
 use Rattle.ics_series.specs.Versions.{by_subject, is_named, is_override, label_of, seen, subject_cmp, AreChosen, Label}
@@ -54,16 +55,16 @@ use Rattle.ics_series.proofs.ZoneLemmas.{none-of, rule-none}
 
 -- An event that starts once, and is no override.
 module _ (clocks : Clocks) (event : Event) (rule : event.rule ≡ None) (rdates : event.rdates ≡ []) (exdates : event.exdates ≡ []) where
-  first-earliest : (other : Giver) (value : Rdate) → GivesStart clocks event other value → IsNotAfter (Kept (local_of event.start.stamp)) other
+  first-earliest : (other : StartSource) (value : Rdate) → GivesStart clocks event other value → IsNotAfter (Kept (local_of event.start.stamp)) other
   first-earliest (Kept local) value g =
-      ⊎_elim (λ e. let same = ap seconds_of e in omega (arith, ints, same))
+      ⊎_elim (λ e. let same = ap local_seconds e in omega (arith, ints, same))
       (λ r. let f : None ≡ Some r.rule = ap (option_map (recurrence_by event.start.stamp)) (sym rule) ∙ r.has in absurd cc) g.0
   first-earliest (Listed place) value g = tt
 
   -- it occurs at its DTSTART
   first-instance : IsInstance clocks event (instant clocks event.start) (finish clocks event (At event.start))
   first-instance = record {
-    giver = Kept (local_of event.start.stamp);
+    source = Kept (local_of event.start.stamp);
     given = At event.start;
     gives = first-gives clocks event;
     starts = refl;

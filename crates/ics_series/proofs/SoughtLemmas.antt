@@ -5,19 +5,20 @@ use Rattle.std.proofs.lemmas.Int.{int_min_is, ints}
 use Rattle.ics_calendar.specs.declared.event.Event.{Event}
 use Rattle.ics_calendar.specs.declared.time.Rdate.{Rdate}
 use Rattle.ics_calendar.specs.declared.time.Rdate.TheVariants.{At, Span}
-use Rattle.ics_series.specs.declared.start.Giver.{Giver}
-use Rattle.ics_series.specs.declared.start.Giver.TheVariants.{Kept, Listed}
+use Rattle.ics_series.specs.declared.start.StartSource.{StartSource}
+use Rattle.ics_series.specs.declared.start.StartSource.TheVariants.{Kept, Listed}
 use Rattle.ics_series.specs.declared.start.Start.{Start}
 use Rattle.ics_series.specs.declared.window.Window.{Window}
 use Rattle.ics_series.specs.declared.zones.FileZones.{FileZones}
-use Rattle.ics_series.specs.Clocks.{Clocks, instant, written}
+use Rattle.ics_series.specs.Clocks.{Clocks, instant}
+use Rattle.ics_calendar.specs.Event.{stamp_seconds}
 use Rattle.ics_series.specs.Finish.{seconds_lasting}
 use Rattle.ics_series.specs.Found.{earlier, earliest, earliest_from, is_span_met, listed_from, start_at, start_by, IsSought}
 use Rattle.ics_series.specs.Listing.{IsIn}
 use Rattle.ics_series.specs.Meeting.{entry_from}
 use Rattle.ics_series.specs.Meets.{Meets}
 use Rattle.ics_series.specs.Starts.{given_by, local_of, recurrence_by, time_at, time_of, GivesStart}
-use Rattle.ics_series.specs.Zones.{clocks_in, is_past}
+use Rattle.ics_series.specs.FileZones.{clocks_in, is_past}
 use Rattle.ics_series.proofs.InstantLemmas.{instant-near}
 use Rattle.ics_series.proofs.ListedLemmas.{in-listed}
 use Rattle.ics_series.proofs.MeetingLemmas.{less-le, meets-is_met}
@@ -67,7 +68,7 @@ module _ (zones : FileZones) (w : Window) (event : Event) where
   listed-there place given g early =
       let time = time_of (given_by event.start g.0) in
       let same = ap (λ x. instant (clocks_in zones) (time_of x)) g.2 in
-      let past : is_past w time ≡ false = less-le (w.to +ℤ pos 172_800) (written time.stamp) (omega (arith, ints, same, early, instant-near zones time)) in
+      let past : is_past w time ≡ false = less-le (w.to +ℤ pos 172_800) (stamp_seconds time.stamp) (omega (arith, ints, same, early, instant-near zones time)) in
       let there = in-listed (clocks_in zones) w event.start 0 place event.rdates g.0 g.1 past in
       inr (subst (λ s. IsIn s (listed_from (clocks_in zones) w event.start 0 event.rdates))
       (ap (λ n. start_by (clocks_in zones) (Listed n) (given_by event.start g.0)) (omega arith) ∙ ap (start_by (clocks_in zones) (Listed place)) (sym g.2)) there)
@@ -77,11 +78,11 @@ module _ (zones : FileZones) (w : Window) (event : Event) where
 
   -- what is sought begins at most four days before what counts first
   pub sought-late : (t : ℤ) → IsSought (clocks_in zones) event w t → (earliest (clocks_in zones) w event (front (clocks_in zones) w event) -ℤ pos 345_600) ≤ℤ t
-  sought-late t s = by s.giver s.given s.gives s.starts s.meets
+  sought-late t s = by s.source s.given s.gives s.starts s.meets
     where
-      by : (giver : Giver) (given : Rdate) → GivesStart (clocks_in zones) event giver given → instant (clocks_in zones) (time_of given) ≡ t → Meets w (entry_from (clocks_in zones) event given)
+      by : (source : StartSource) (given : Rdate) → GivesStart (clocks_in zones) event source given → instant (clocks_in zones) (time_of given) ≡ t → Meets w (entry_from (clocks_in zones) event given)
           → (earliest (clocks_in zones) w event (front (clocks_in zones) w event) -ℤ pos 345_600) ≤ℤ t
-      by giver (At time) g e m =
+      by source (At time) g e m =
           omega (arith, ints, e, meets-late zones event w time m, earliest-most (clocks_in zones) w event (w.from -ℤ seconds_lasting (clocks_in zones) event) (front (clocks_in zones) w event))
       by (Kept local) (Span start lasts) g e m = let f : Span start lasts ≡ At (time_at event.start local) = g.1 in absurd cc
       by (Listed place) (Span start lasts) g e m =
@@ -91,8 +92,8 @@ module _ (zones : FileZones) (w : Window) (event : Event) where
           omega (arith, ints, e, each)
 
   -- an event without a rule has no other starts
-  pub none-else : event.rule ≡ None → (giver : Giver) (given : Rdate) → GivesStart (clocks_in zones) event giver given
-      → IsSought (clocks_in zones) event w (instant (clocks_in zones) (time_of given)) → IsIn (start_by (clocks_in zones) giver given) (front (clocks_in zones) w event)
+  pub none-else : event.rule ≡ None → (source : StartSource) (given : Rdate) → GivesStart (clocks_in zones) event source given
+      → IsSought (clocks_in zones) event w (instant (clocks_in zones) (time_of given)) → IsIn (start_by (clocks_in zones) source given) (front (clocks_in zones) w event)
   none-else none (Kept local) given g s =
       ⊎_elim
       (λ e. inl (ap (start_by (clocks_in zones) (Kept local)) g.1 ∙ ap (start_at (clocks_in zones) event) e))

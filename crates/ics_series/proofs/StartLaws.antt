@@ -5,10 +5,9 @@ use Rattle.std.specs.Ordering.{int_eq}
 use Rattle.std.proofs.lemmas.Int.{ints}
 use Rattle.std.proofs.lemmas.List.Folds.{list_any_at}
 use Rattle.ics_values.specs.Days.{IsDayNumber}
-use Rattle.ics_values.specs.Locals.{local_at}
+use Rattle.ics_values.specs.Locals.{local_at, number, local_seconds}
 use Rattle.ics_values.specs.declared.local.Local.{Local}
 use Rattle.ics_rule.specs.Kept.{is_kept, until_moment}
-use Rattle.ics_rule.specs.Locals.{number}
 use Rattle.ics_rule.specs.Recurrence.{Recurrence}
 use Rattle.ics_rule.proofs.KeptLemmas.{and_true}
 use Rattle.ics_calendar.specs.Event.{IsTime}
@@ -16,19 +15,19 @@ use Rattle.ics_calendar.specs.declared.event.Event.{Event}
 use Rattle.ics_calendar.specs.declared.time.Rdate.{Rdate}
 use Rattle.ics_calendar.specs.declared.time.Rdate.TheVariants.{At}
 use Rattle.ics_calendar.specs.declared.time.Time.{Time}
-use Rattle.ics_series.specs.declared.start.Giver.{Giver}
-use Rattle.ics_series.specs.declared.start.Giver.TheVariants.{Kept, Listed}
-use Rattle.ics_series.specs.Clocks.{Clocks, instant, seconds_of}
+use Rattle.ics_series.specs.declared.start.StartSource.{StartSource}
+use Rattle.ics_series.specs.declared.start.StartSource.TheVariants.{Kept, Listed}
+use Rattle.ics_series.specs.Clocks.{Clocks, instant}
 use Rattle.ics_series.specs.Exclusions.{excludes, is_excluded}
 use Rattle.ics_series.specs.Finish.{finish}
-use Rattle.ics_series.specs.Found.{is_until}
+use Rattle.ics_zone.specs.Observances.{is_until}
 use Rattle.ics_series.specs.Occurs.{IsInstance}
 use Rattle.ics_series.specs.Starts.{given_by, local_of, time_at, time_of, recurrence_by, recurrence_of, GivesStart, IsNotAfter, IsRuleStart}
-use Rattle.ics_series.proofs.GiverLemmas.{calendar-day, index-is, kept-late, number-seconds, own-day, own-time, rule-is, same-number}
+use Rattle.ics_series.proofs.StartSourceLemmas.{calendar-day, index-is, kept-late, number-seconds, own-day, own-time, rule-is, same-number}
 use Rattle.ics_series.proofs.KeptLemmas.{true-until, until-true}
 
 -- an event without a rule and without RDATEs has the start at DTSTART alone
-pub ruleless : (clocks : Clocks) (event : Event) (giver : Giver) (given : Rdate) → event.rule ≡ None → event.rdates ≡ [] → GivesStart clocks event giver given → given ≡ At event.start
+pub ruleless : (clocks : Clocks) (event : Event) (source : StartSource) (given : Rdate) → event.rule ≡ None → event.rdates ≡ [] → GivesStart clocks event source given → given ≡ At event.start
 ruleless clocks event (Kept local) given none bare g =
     ⊎_elim (λ e. g.1 ∙ ap (λ l. At (time_at event.start l)) e ∙ ap At (own-time event.start))
     (λ r. let f : None ≡ Some r.rule = ap (option_map (recurrence_by event.start.stamp)) (sym none) ∙ r.has in absurd cc) g.0
@@ -37,7 +36,7 @@ ruleless clocks event (Listed place) given none bare g = let f : None ≡ Some g
 pub one-start : (clocks : Clocks) (event : Event) (start end : ℤ) → event.rule ≡ None → event.rdates ≡ [] → IsInstance clocks event start end
     → (start ≡ instant clocks event.start) × (end ≡ finish clocks event (At event.start))
 one-start clocks event start end none bare h =
-    let same = ruleless clocks event h.giver h.given none bare h.gives in
+    let same = ruleless clocks event h.source h.given none bare h.gives in
     (h.starts ∙ ap (λ x. instant clocks (time_of x)) same, h.ends ∙ ap (finish clocks event) same)
 
 pub none-excluded : (clocks : Clocks) (event : Event) (exdate : Time) (start end : ℤ) → Contains event.exdates exdate → excludes clocks event.start exdate start ≡ true → ¬ IsInstance clocks event start end
@@ -102,9 +101,9 @@ module _ (clocks : Clocks) (event : Event) (time : IsTime event.start) where
   first-day = calendar-day (local_of event.start.stamp).day (own-day event.start time)
 
   -- what the rule keeps is not before DTSTART
-  pub kept-first : (local : Local) → IsKept clocks event local → seconds_of (local_of event.start.stamp) ≤ℤ seconds_of local
+  pub kept-first : (local : Local) → IsKept clocks event local → local_seconds (local_of event.start.stamp) ≤ℤ local_seconds local
   kept-first local k =
-      ⊎_elim (λ e. let same = ap seconds_of e in omega (arith, ints, same))
+      ⊎_elim (λ e. let same = ap local_seconds e in omega (arith, ints, same))
       (λ r.
       let rule = rule-is event.start.stamp event.rule r.rule r.has in
       let late : number (local_of event.start.stamp) ≤ number local = subst (λ (q : Recurrence). number q.start ≤ number local) rule.1 (kept-late r.rule (number local) r.kept) in
@@ -116,13 +115,13 @@ module _ (clocks : Clocks) (event : Event) (time : IsTime event.start) (t : ℤ)
   instant_of local = instant clocks (time_at event.start local)
 
   -- the least of the locals that give the start t
-  kept-instance : (local : Local) → IsKept clocks event local → instant_of local ≡ t → ((other : Local) → IsKept clocks event other → instant_of other ≡ t → seconds_of local ≤ℤ seconds_of other)
+  kept-instance : (local : Local) → IsKept clocks event local → instant_of local ≡ t → ((other : Local) → IsKept clocks event other → instant_of other ≡ t → local_seconds local ≤ℤ local_seconds other)
       → (end : ℤ) × IsInstance clocks event t end
   unfolding instant_of
   kept-instance local k e least = (
     finish clocks event (At (time_at event.start local)),
     record {
-      giver = Kept local;
+      source = Kept local;
       given = At (time_at event.start local);
       gives = (k, refl);
       starts = sym e;
@@ -132,7 +131,7 @@ module _ (clocks : Clocks) (event : Event) (time : IsTime event.start) (t : ℤ)
     },
   )
     where
-      first : (other : Giver) (value : Rdate) → GivesStart clocks event other value → instant clocks (time_of value) ≡ t → IsNotAfter (Kept local) other
+      first : (other : StartSource) (value : Rdate) → GivesStart clocks event other value → instant clocks (time_of value) ≡ t → IsNotAfter (Kept local) other
       first (Kept other) value g same = least other g.0 (ap (λ x. instant clocks (time_of x)) (sym g.1) ∙ same)
       first (Listed place) value g same = tt
 
@@ -241,7 +240,7 @@ module _ (clocks : Clocks) (event : Event) (time : IsTime event.start) (t : ℤ)
       let is = test-listed found.0 found.2 in (
         finish clocks event (given_by event.start is.0),
         record {
-          giver = Listed found.0;
+          source = Listed found.0;
           given = given_by event.start is.0;
           gives = (is.0, is.1, refl);
           starts = sym is.2;
@@ -252,16 +251,16 @@ module _ (clocks : Clocks) (event : Event) (time : IsTime event.start) (t : ℤ)
       ))
       (none-or-least lists_at (suc place))
     where
-      first : (n : ℕ) → ((m : ℕ) → m < n → lists_at m ≡ false) → (other : Giver) (value : Rdate) → GivesStart clocks event other value → instant clocks (time_of value) ≡ t → IsNotAfter (Listed n) other
+      first : (n : ℕ) → ((m : ℕ) → m < n → lists_at m ≡ false) → (other : StartSource) (value : Rdate) → GivesStart clocks event other value → instant clocks (time_of value) ≡ t → IsNotAfter (Listed n) other
       first n least (Kept local) value k e = unkept local k.0 (ap (λ x. instant clocks (time_of x)) (sym k.1) ∙ e)
       first n least (Listed m) value k e = ⊎_elim (λ less. let f = least m less in let yes = listed-test m value k e in absurd cc) (λ more. more) (split m n)
 
-  some-instance : (giver : Giver) (given : Rdate) → GivesStart clocks event giver given → instant clocks (time_of given) ≡ t → (end : ℤ) × IsInstance clocks event t end
+  some-instance : (source : StartSource) (given : Rdate) → GivesStart clocks event source given → instant clocks (time_of given) ≡ t → (end : ℤ) × IsInstance clocks event t end
   unfolding instant_of
   some-instance (Kept local) given g same =
       ⊎_elim (λ found. found) (λ unkept. absurd (unkept local g.0 (ap (λ x. instant clocks (time_of x)) (sym g.1) ∙ same))) kept-or-none
   some-instance (Listed place) given g same = ⊎_elim (λ found. found) (λ unkept. listed-instance unkept place given g same) kept-or-none
 
-pub each-start : (clocks : Clocks) (event : Event) (giver : Giver) (given : Rdate) → IsTime event.start → GivesStart clocks event giver given
+pub each-start : (clocks : Clocks) (event : Event) (source : StartSource) (given : Rdate) → IsTime event.start → GivesStart clocks event source given
     → is_excluded clocks event (instant clocks (time_of given)) ≡ false → (end : ℤ) × IsInstance clocks event (instant clocks (time_of given)) end
-each-start clocks event giver given time g stays = some-instance clocks event time (instant clocks (time_of given)) stays giver given g refl
+each-start clocks event source given time g stays = some-instance clocks event time (instant clocks (time_of given)) stays source given g refl

@@ -9,8 +9,8 @@ use Rattle.std.proofs.lemmas.Cmp.{nat_list_cmp_total, tied_itself}
 use Rattle.std.proofs.lemmas.Int.{ints}
 use Rattle.std.proofs.lemmas.List.Sums.{sum_by-cons}
 use Rattle.ics_rule.specs.Cursors.{looks_from, period_count, steps_of, HasLooked, IsCursorOf}
-use Rattle.ics_rule.specs.Filled.{filled}
-use Rattle.ics_rule.specs.Locals.{number}
+use Rattle.ics_rule.specs.EffectiveRules.{effective}
+use Rattle.ics_values.specs.Locals.{number, midnight}
 use Rattle.ics_rule.specs.Recurrence.{Recurrence}
 use Rattle.ics_rule.specs.declared.cursor.Cursor.{Cursor}
 use Rattle.ics_rule.proofs.CursorLemmas.{few_steps}
@@ -21,14 +21,13 @@ use Rattle.ics_series.specs.declared.part.Part.TheVariants.{Singles, Series as O
 use Rattle.ics_series.specs.declared.series.Series.{Series}
 use Rattle.ics_series.specs.declared.window.Window.{Window}
 use Rattle.ics_series.specs.declared.zones.FileZones.{FileZones}
-use Rattle.ics_series.specs.Clocks.{midnight}
 use Rattle.ics_series.specs.Entry.{Entry, entry_cmp}
 use Rattle.ics_series.specs.EntryLaws.{entry_total}
 use Rattle.ics_series.specs.Holding.{part_looked, rule_looked}
 use Rattle.ics_series.specs.Leads.{AreNear}
 use Rattle.ics_series.specs.Listing.{IsIn}
 use Rattle.ics_series.specs.Merged.{merged}
-use Rattle.ics_series.specs.Parts.{part_near, part_sources}
+use Rattle.ics_series.specs.AgendaParts.{part_near, part_sources}
 use Rattle.ics_series.specs.Rising.{IsBefore, Rises}
 use Rattle.ics_series.specs.RuleStarts.{midnight_number}
 use Rattle.ics_series.specs.SeriesFeed.{series_near}
@@ -37,8 +36,8 @@ use Rattle.ics_series.specs.Singles.{is_single}
 use Rattle.ics_series.specs.Sources.{recurring, uid_cmp, AreApart, Recurring, Source}
 use Rattle.ics_series.specs.Starts.{recurrence_of}
 use Rattle.ics_series.specs.Steps.{HasStepBound, IsLookedFrom, IsLookedTo}
-use Rattle.ics_series.specs.Zones.{clocks_in}
-use Rattle.ics_series.proofs.GiverLemmas.{number-seconds}
+use Rattle.ics_series.specs.FileZones.{clocks_in}
+use Rattle.ics_series.proofs.StartSourceLemmas.{number-seconds}
 use Rattle.ics_series.proofs.HoldingLaws.{recurring-append, sum-recurring}
 use Rattle.ics_series.proofs.MergedMembers.{from-one, IsInOne}
 use Rattle.ics_series.proofs.PeriodCountLemmas.{periods-within}
@@ -49,7 +48,7 @@ use Rattle.ics_series.proofs.UnionLemmas.{merged-in}
 -- a cursor has looked at no more periods than hold a local of those among which it looked
 looked-few : (r : Recurrence) (cursor : Cursor) (a b : ℕ) → IsCursorOf r cursor → HasLooked r cursor a b → steps_of cursor ≤ period_count r a b
 unfolding period_count IsCursorOf HasLooked
-looked-few r cursor a b own few = few_steps (filled r) (number r.start) r.parts.count cursor a b own few
+looked-few r cursor a b own few = few_steps (effective r) (number r.start) r.parts.count cursor a b own few
 
 looks-earlier : (o : Option ℕ) (start a place : ℕ) → a ≤ place → looks_from o start a ≤ looks_from o start place
 looks-earlier None start a place l = l

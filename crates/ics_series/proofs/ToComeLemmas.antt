@@ -17,7 +17,7 @@ use Rattle.ics_series.specs.Meets.{Meets, IsListed, IsToCome}
 use Rattle.ics_series.specs.Overridden.{is_kept}
 use Rattle.ics_series.specs.After.{is_after}
 use Rattle.ics_series.specs.Occurs.{Occurs, IsOfMaster, IsOfOverride}
-use Rattle.ics_series.specs.Placed.{clocks_at}
+use Rattle.ics_series.specs.PlacedEvents.{clocks_at}
 use Rattle.ics_series.specs.Versions.{is_named, seen, AreChosen}
 use Rattle.ics_series.proofs.OverrideLemmas.{named-overridden, or-true, overridden-named}
 use Rattle.ics_series.proofs.GivenLemmas.{IsGiven, IsGivenBy}

@@ -56,7 +56,7 @@ module _ {X : Type 0} (head : X → Option Occurrence) (rest : X → List Entry)
       → AreSortedFrom from (map (λ x. listed (head x) (rest x)) xs) → IsLastSorted from i (Some o) (map (λ x. listed (head x) (rest x)) xs)
   given-sorted from i xs o e h = h i (entry_of o) (head-in xs i (entry_of o) e)
 
-  -- what the places of the last giver and of a lead tell
+  -- what the places of the last source and of a lead tell
   pub last-order : (from i j : ℕ) (xs : List X) (last : Occurrence) (b : Entry) (order : Option Ordering) → IsLastSorted from i (Some last) (map (λ x. listed (head x) (rest x)) xs)
       → get_or (map (λ x. option_map entry_of (head x)) xs) j None ≡ Some b → IsPlaceOrder from i j order → IsUidOrder order (entry_of last) b
   last-order from i j xs last b None h e k = tt

@@ -9,7 +9,7 @@ use Rattle.ics_series.specs.Chosen.{subject_of, IsChosen, SubjectSeen}
 use Rattle.ics_series.specs.Clocks.{Clock}
 use Rattle.ics_series.specs.Laws.{HasVersion}
 use Rattle.ics_series.specs.Listing.{IsIn}
-use Rattle.ics_series.specs.Placed.{Placed, IsPlaced, placed_cmp}
+use Rattle.ics_series.specs.PlacedEvents.{Placed, IsPlaced, placed_cmp}
 use Rattle.ics_series.specs.Versions.{placed_in, subject_cmp}
 use Rattle.ics_series.proofs.PlacedLemmas.{in-placed, placed-in}
 use Rattle.ics_series.proofs.MasterLemmas.{one-chosen, placed_total}

@@ -14,7 +14,7 @@ use Rattle.ics_series.specs.Chosen.{subject_of, IsChosen, SubjectSeen}
 use Rattle.ics_series.specs.Clocks.{Clock}
 use Rattle.ics_series.specs.Listing.{IsIn, IsListing}
 use Rattle.ics_series.specs.Rising.{IsBefore, Rises}
-use Rattle.ics_series.specs.Placed.{Placed, IsPlaced, placed_cmp}
+use Rattle.ics_series.specs.PlacedEvents.{Placed, IsPlaced, placed_cmp}
 use Rattle.ics_series.specs.Versions.{by_subject, subject_cmp, version_cmp, lasts, is_followed}
 use Rattle.ics_series.proofs.MasterLemmas.{placed_total, second-equal, tied-by, same-placed}
 use Rattle.ics_series.proofs.SortLemmas.{IsUpTo, Climbs, up-to-in}

@@ -3,17 +3,17 @@ use Rattle.std.specs.Prelude.{◌≤ℤ◌, not}
 use Rattle.std.proofs.Common.{◌≡◌, ℕ, ◌+◌, ℤ, pos, neg_ℤ, ◌-ℤ◌, List, [], ◌∷◌, Bool, true, false, Option, Some, None, option_map, ⊎_elim, refl, sym, ap, subst, arith}
 use Rattle.std.proofs.lemmas.Int.{int_max_is, ints}
 use Rattle.ics_values.specs.RuleParts.{RuleParts}
-use Rattle.ics_rule.specs.Locals.{number}
+use Rattle.ics_values.specs.Locals.{number, local_seconds}
 use Rattle.ics_calendar.specs.Event.{IsEvent}
 use Rattle.ics_calendar.specs.declared.event.Event.{Event}
 use Rattle.ics_calendar.specs.declared.time.Rdate.{Rdate}
 use Rattle.ics_calendar.specs.declared.time.Time.{Time}
-use Rattle.ics_series.specs.declared.start.Giver.{Giver}
-use Rattle.ics_series.specs.declared.start.Giver.TheVariants.{Kept, Listed}
+use Rattle.ics_series.specs.declared.start.StartSource.{StartSource}
+use Rattle.ics_series.specs.declared.start.StartSource.TheVariants.{Kept, Listed}
 use Rattle.ics_series.specs.declared.start.Start.{Start}
 use Rattle.ics_series.specs.declared.window.Window.{Window}
 use Rattle.ics_series.specs.declared.zones.FileZones.{FileZones}
-use Rattle.ics_series.specs.Clocks.{Clocks, seconds_of}
+use Rattle.ics_series.specs.Clocks.{Clocks}
 use Rattle.ics_series.specs.Entry.{Entry, entry_cmp}
 use Rattle.ics_series.specs.Found.{listed_from, moment_cmp, start_by, with_front, AreFirsts, AreStartsSince, HasStart}
 use Rattle.ics_series.specs.Listing.{IsIn, IsListing}
@@ -23,9 +23,9 @@ use Rattle.ics_series.specs.Meets.{IsEventMet}
 use Rattle.ics_series.specs.RuleStarts.{found}
 use Rattle.ics_series.specs.SeriesStarts.{first_asked, given_of, listed_apart, IsRuleFrom, IsSeriesMet}
 use Rattle.ics_series.specs.Starts.{given_by, local_of, recurrence_by, time_of, IsNotAfter}
-use Rattle.ics_series.specs.Zones.{clocks_in, is_past}
+use Rattle.ics_series.specs.FileZones.{clocks_in, is_past}
 use Rattle.ics_series.proofs.FirstLemmas.{moment_total}
-use Rattle.ics_series.proofs.GiverLemmas.{calendar-day, gives-value, own-day, rdate-time}
+use Rattle.ics_series.proofs.StartSourceLemmas.{calendar-day, gives-value, own-day, rdate-time}
 use Rattle.ics_series.proofs.InstantLemmas.{late}
 use Rattle.ics_series.proofs.LeftLemmas.{put-has}
 use Rattle.ics_series.proofs.ListedLemmas.{listed-in}
@@ -34,25 +34,25 @@ use Rattle.ics_series.proofs.SeriesLemmas.{known-start, series-listing}
 use Rattle.ics_series.proofs.SinceLemmas.{known-apart, known-ruled, starts-since, with-ruled}
 use Rattle.ics_series.proofs.UnionLemmas.{itself-put, union-in}
 
--- of each two the giver of the first is not after that of the second
-abbrev GiversClimb : List Start → Type 0
-GiversClimb [] = Unit {0}
-GiversClimb (s ∷ starts) = ((t : Start) → IsIn t starts → IsNotAfter s.giver t.giver) × GiversClimb starts
+-- of each two the source of the first is not after that of the second
+abbrev SourcesClimb : List Start → Type 0
+SourcesClimb [] = Unit {0}
+SourcesClimb (s ∷ starts) = ((t : Start) → IsIn t starts → IsNotAfter s.source t.source) × SourcesClimb starts
 
-not-after-itself : (giver : Giver) → IsNotAfter giver giver
+not-after-itself : (source : StartSource) → IsNotAfter source source
 not-after-itself (Kept local) = omega (arith, ints)
 not-after-itself (Listed place) = omega arith
 
-has-own : (starts : List Start) (s : Start) → GiversClimb starts → IsIn s starts → HasStart (union moment_cmp starts []) s.giver s.moment
+has-own : (starts : List Start) (s : Start) → SourcesClimb starts → IsIn s starts → HasStart (union moment_cmp starts []) s.source s.moment
 has-own [] s h m = absurd m
 has-own (x ∷ starts) s h m =
     ⊎_elim
-    (λ e. subst (λ (y : Start). HasStart (union moment_cmp (x ∷ starts) []) y.giver y.moment) (sym e)
-    (record { start = x; stands = itself-put moment_cmp moment_total x (union moment_cmp starts []); same = refl; earlier = not-after-itself x.giver }))
-    (λ n. put-has x (union moment_cmp starts []) s.giver s.moment (h.0 s n) (has-own starts s h.1 n)) m
+    (λ e. subst (λ (y : Start). HasStart (union moment_cmp (x ∷ starts) []) y.source y.moment) (sym e)
+    (record { start = x; stands = itself-put moment_cmp moment_total x (union moment_cmp starts []); same = refl; earlier = not-after-itself x.source }))
+    (λ n. put-has x (union moment_cmp starts []) s.source s.moment (h.0 s n) (has-own starts s h.1 n)) m
 
--- their union with none has the first giver's at each instant
-firsts-by-union : (starts : List Start) → GiversClimb starts → AreFirsts starts (union moment_cmp starts [])
+-- their union with none has the first source's at each instant
+firsts-by-union : (starts : List Start) → SourcesClimb starts → AreFirsts starts (union moment_cmp starts [])
 firsts-by-union starts h = record {
   rises = rises-union moment_cmp moment_total starts [] tt;
   are = λ s m. ⊎_elim (λ n. n) (λ n. absurd n.1) (union-in moment_cmp moment_total s starts [] tt m);
@@ -60,22 +60,22 @@ firsts-by-union starts h = record {
 }
 
 module _ (clocks : Clocks) (w : Window) (first : Time) where
-  climb-by : (b : Bool) (place : ℕ) (s : Start) (starts : List Start) → s.giver ≡ Listed place → ((t : Start) → IsIn t starts → IsNotAfter (Listed place) t.giver) → GiversClimb starts → GiversClimb (with_front b s starts)
-  climb-by true place s starts e f h = (λ t m. subst (λ g. IsNotAfter g t.giver) (sym e) (f t m), h)
+  climb-by : (b : Bool) (place : ℕ) (s : Start) (starts : List Start) → s.source ≡ Listed place → ((t : Start) → IsIn t starts → IsNotAfter (Listed place) t.source) → SourcesClimb starts → SourcesClimb (with_front b s starts)
+  climb-by true place s starts e f h = (λ t m. subst (λ g. IsNotAfter g t.source) (sym e) (f t m), h)
   climb-by false place s starts e f h = h
 
-  listed-climb : (place : ℕ) (rdates : List Rdate) → GiversClimb (listed_from clocks w first place rdates)
+  listed-climb : (place : ℕ) (rdates : List Rdate) → SourcesClimb (listed_from clocks w first place rdates)
   listed-climb place [] = tt
   listed-climb place (r ∷ rdates) =
       climb-by (not (is_past w (time_of (given_by first r)))) place (start_by clocks (Listed place) (given_by first r)) (listed_from clocks w first (place + 1) rdates) refl
       (λ t m.
       let k = listed-in clocks w first (place + 1) rdates t m in
-      subst (λ (s : Start). IsNotAfter (Listed place) s.giver) (sym k.is) (omega arith))
+      subst (λ (s : Start). IsNotAfter (Listed place) s.source) (sym k.is) (omega arith))
       (listed-climb (place + 1) rdates)
 
-apart-climb : (clocks : Clocks) (w : Window) (event : Event) (parts : Option RuleParts) → GiversClimb (listed_apart clocks w event parts)
+apart-climb : (clocks : Clocks) (w : Window) (event : Event) (parts : Option RuleParts) → SourcesClimb (listed_apart clocks w event parts)
 apart-climb clocks w event None = (
-  λ t m. let k = listed-in clocks w event.start 0 event.rdates t m in subst (λ (s : Start). IsNotAfter (Kept (local_of event.start.stamp)) s.giver) (sym k.is) tt,
+  λ t m. let k = listed-in clocks w event.start 0 event.rdates t m in subst (λ (s : Start). IsNotAfter (Kept (local_of event.start.stamp)) s.source) (sym k.is) tt,
   listed-climb clocks w event.start 0 event.rdates,
 )
 apart-climb clocks w event (Some parts) = listed-climb clocks w event.start 0 event.rdates
@@ -89,7 +89,7 @@ module _ (zones : FileZones) (w : Window) (event : Event) (sound : IsEvent event
     has = ap (option_map (recurrence_by event.start.stamp)) e;
     from = local_of event.start.stamp;
     day = calendar-day (local_of event.start.stamp).day (own-day event.start sound.start);
-    low = omega (arith, ints, int_max_is (seconds_of (local_of event.start.stamp)) (first_asked (clocks_in zones) w event since (listed_from (clocks_in zones) w event.start 0 event.rdates) -ℤ pos 518_400));
+    low = omega (arith, ints, int_max_is (local_seconds (local_of event.start.stamp)) (first_asked (clocks_in zones) w event since (listed_from (clocks_in zones) w event.start 0 event.rdates) -ℤ pos 518_400));
     gives = refl;
   }
 
@@ -138,7 +138,7 @@ whole-listing zones w event sound =
     not-early : (e : Entry) → IsEventMet (clocks_in zones) event w e → neg_ℤ (pos 62_135_769_600) ≤ℤ e.start
     not-early e o =
         let of = o.0.lasts in
-        let value = gives-value (clocks_in zones) event of.giver of.given sound.start sound.rdates of.gives in
+        let value = gives-value (clocks_in zones) event of.source of.given sound.start sound.rdates of.gives in
         let low = late zones (time_of of.given) (rdate-time of.given value) in
         let same = of.starts in
         omega (arith, ints, low, same)

@@ -12,12 +12,12 @@ use Rattle.ics_calendar.specs.declared.time.Length.TheVariants.{Open, Until, Las
 use Rattle.ics_calendar.specs.declared.time.Rdate.{Rdate}
 use Rattle.ics_zone.specs.ZoneSaid.{zone_said}
 use Rattle.ics_zone.specs.declared.zone.ZoneKind.{ZoneKind}
-use Rattle.ics_series.specs.declared.start.Giver.{Giver}
+use Rattle.ics_series.specs.declared.start.StartSource.{StartSource}
 use Rattle.ics_series.specs.declared.zones.FileZones.{FileZones}
 use Rattle.ics_series.specs.Clocks.{utc_clock, zone_clock}
 use Rattle.ics_series.specs.Starts.{time_of, GivesStart}
-use Rattle.ics_series.specs.Zones.{clocks_in, IsEndOf, IsOwnEvent, IsTimeOf}
-use Rattle.ics_series.proofs.GiverLemmas.{gives-below, gives-value, rdate-below, rdate-time}
+use Rattle.ics_series.specs.FileZones.{clocks_in, IsEndOf, IsOwnEvent, IsTimeOf}
+use Rattle.ics_series.proofs.StartSourceLemmas.{gives-below, gives-value, rdate-below, rdate-time}
 use Rattle.ics_series.proofs.InstantLemmas.{ends-near}
 
 pub clock-there : (zones : List ZoneKind) (i : ℕ) (d : ZoneKind) → i < length zones → zone_clock (zone_said (get_or zones i d)) ≡ get_or (map zone_clock (map zone_said zones)) i utc_clock
@@ -36,10 +36,10 @@ rule-none None e = refl
 rule-none (Some parts) e = let f : false ≡ true = e in absurd cc
 
 -- what gives a start of an event is a time of its file
-pub given-time : (zones : FileZones) (event : Event) (giver : Giver) (given : Rdate) → IsOwnEvent zones event → GivesStart (clocks_in zones) event giver given → IsTimeOf zones.zones.now (time_of given)
-given-time zones event giver given h g = record {
-  is_time = rdate-time given (gives-value (clocks_in zones) event giver given h.is_event.start h.is_event.rdates g);
-  within = rdate-below (length zones.zones.now) given (gives-below (length zones.zones.now) (clocks_in zones) event giver given h.below g);
+pub given-time : (zones : FileZones) (event : Event) (source : StartSource) (given : Rdate) → IsOwnEvent zones event → GivesStart (clocks_in zones) event source given → IsTimeOf zones.zones.now (time_of given)
+given-time zones event source given h g = record {
+  is_time = rdate-time given (gives-value (clocks_in zones) event source given h.is_event.start h.is_event.rdates g);
+  within = rdate-below (length zones.zones.now) given (gives-below (length zones.zones.now) (clocks_in zones) event source given h.below g);
 }
 
 end-of : (zones : List ZoneKind) (first : Stamp) (lasts : Length) → IsLength first lasts → EndsBelow (length zones) lasts → IsEndOf zones lasts

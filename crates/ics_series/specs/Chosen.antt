@@ -5,7 +5,7 @@ use Rattle.std.specs.declared.cmp.Ordering.TheVariants.{Less}
 use Rattle.ics_calendar.specs.Event.{FileSaid}
 use Rattle.ics_calendar.specs.declared.event.Event.{Event}
 use Rattle.ics_series.specs.Clocks.{Clock, Clocks, instant}
-use Rattle.ics_series.specs.Placed.{Placed, IsPlaced, clocks_at, placed_cmp}
+use Rattle.ics_series.specs.PlacedEvents.{Placed, IsPlaced, clocks_at, placed_cmp}
 
 -- The instance of its UID that an event overrides: the instant of its RECURRENCE-ID. A master overrides none.
 abbrev pub overridden : Clocks → Event → Option ℤ

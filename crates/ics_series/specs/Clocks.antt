@@ -7,9 +7,10 @@ use Rattle.ics_values.specs.declared.stamp.Stamp.TheVariants.{Date, Floating, Ut
 use Rattle.ics_calendar.specs.declared.time.Time.{Time}
 use Rattle.ics_zone.specs.Displays.{offset_of, moment_of}
 use Rattle.ics_zone.specs.ZoneSaid.{ZoneSaid, said_moment, said_offset}
-use Rattle.ics_zone.specs.Places.{local_seconds}
-use Rattle.ics_zone.specs.Zones.{zone_of}
+use Rattle.ics_values.specs.Locals.{seconds_at, midnight, local_seconds}
+use Rattle.ics_zone.specs.JiffZones.{zone_of}
 use Rattle.ics_zone.specs.declared.display.Display.{Display}
+use Rattle.ics_calendar.specs.Event.{stamp_seconds}
 
 -- what a zone gives: the instant of each local, and the offset at each instant
 pub record Clock : Type 0 where
@@ -37,20 +38,6 @@ clocks_of display zones = record { display = display; zones = map zone_clock zon
 abbrev pub local_at : Clock → ℤ → ℤ
 local_at clock t = t +ℤ clock.offset t
 
--- the midnight that begins a day
-abbrev pub midnight : ℤ → ℤ
-midnight day = local_seconds day 0
-
-abbrev pub seconds_of : Local → ℤ
-seconds_of local = local_seconds local.day local.second
-
--- the local of a stamp; that of a date is its midnight
-abbrev pub written : Stamp → ℤ
-written (Date day) = midnight day
-written (Floating local) = seconds_of local
-written (Utc local) = seconds_of local
-written (Zoned local) = seconds_of local
-
 -- the day of a stamp
 abbrev pub day_of : Stamp → ℤ
 day_of (Date day) = day
@@ -77,4 +64,4 @@ clock_of clocks time = clock_by clocks time.zone time.stamp
 
 -- the instant of a time
 abbrev pub instant : Clocks → Time → ℤ
-instant clocks time = (clock_of clocks time).moment (written time.stamp)
+instant clocks time = (clock_of clocks time).moment (stamp_seconds time.stamp)

@@ -15,8 +15,8 @@ use Rattle.ics_series.specs.Leads.{listed}
 use Rattle.ics_series.specs.Listing.{IsListing}
 use Rattle.ics_series.specs.Meets.{IsToCome}
 use Rattle.ics_series.specs.NearDays.{last_near, IsNearDay}
-use Rattle.ics_series.specs.Parts.{part_sources}
-use Rattle.ics_series.specs.Placed.{Placed}
+use Rattle.ics_series.specs.AgendaParts.{part_sources}
+use Rattle.ics_series.specs.PlacedEvents.{Placed}
 use Rattle.ics_series.specs.Sources.{master_at, master_of, recurring, AreSources, Recurring, Source}
 use Rattle.ics_series.specs.Versions.{by_subject}
 

@@ -6,7 +6,7 @@ use Rattle.ics_series.specs.HeldMost.{Master}
 use Rattle.ics_series.specs.Listing.{IsIn}
 use Rattle.ics_series.specs.NearDays.{first_near, last_near}
 use Rattle.ics_series.specs.OnDays.{OnDay}
-use Rattle.ics_series.specs.Placed.{Placed}
+use Rattle.ics_series.specs.PlacedEvents.{Placed}
 use Rattle.ics_series.specs.Sources.{master_at, Recurring}
 use Rattle.ics_series.specs.Steps.{HasStepBound}
 

@@ -13,7 +13,7 @@ use Rattle.ics_calendar.specs.declared.time.Rdate.TheVariants.{At, Span}
 use Rattle.ics_calendar.specs.declared.time.Time.{Time}
 use Rattle.ics_zone.specs.declared.zone.ZoneKind.{ZoneKind}
 use Rattle.ics_series.specs.Clocks.{Clocks}
-use Rattle.ics_series.specs.Zones.{EndsNear, IsEndOf, IsOwnEvent, IsTimeOf}
+use Rattle.ics_series.specs.FileZones.{EndsNear, IsEndOf, IsOwnEvent, IsTimeOf}
 use Rattle.ics_series.specs.declared.zones.FileZones.{FileZones}
 
 pub time-prop : (zones : List ZoneKind) (time : Time) → IsProp (IsTimeOf zones time)

@@ -9,7 +9,7 @@ use Rattle.ics_calendar.specs.declared.event.Event.{Event}
 use Rattle.ics_calendar.specs.declared.time.Time.{Time}
 use Rattle.ics_series.specs.declared.window.Window.{Window}
 use Rattle.ics_series.specs.Clocks.{Clock, Clocks, clock_of, instant, local_at}
-use Rattle.ics_series.specs.Starts.{date_of}
+use Rattle.ics_series.specs.Starts.{date_only}
 
 -- the day that a clock shows at an instant
 abbrev pub shown_day : Clock → ℤ → ℤ
@@ -24,7 +24,7 @@ excludes_time clocks first exdate (Zoned local) t = int_eq (instant clocks exdat
 
 -- If the event has dates, an EXDATE of any form means its date.
 abbrev pub excludes_by : Clocks → Time → Stamp → Time → ℤ → Bool
-excludes_by clocks first (Date day) exdate t = int_eq (instant clocks (date_of exdate)) t
+excludes_by clocks first (Date day) exdate t = int_eq (instant clocks (date_only exdate)) t
 excludes_by clocks first (Floating local) exdate t = excludes_time clocks first exdate exdate.stamp t
 excludes_by clocks first (Utc local) exdate t = excludes_time clocks first exdate exdate.stamp t
 excludes_by clocks first (Zoned local) exdate t = excludes_time clocks first exdate exdate.stamp t

@@ -9,8 +9,8 @@ use Rattle.ics_calendar.specs.declared.event.Event.{Event}
 use Rattle.ics_calendar.specs.declared.time.Rdate.{Rdate}
 use Rattle.ics_calendar.specs.declared.time.Rdate.TheVariants.{At, Span}
 use Rattle.ics_calendar.specs.declared.time.Time.{Time}
-use Rattle.ics_series.specs.declared.start.Giver.{Giver}
-use Rattle.ics_series.specs.declared.start.Giver.TheVariants.{Kept, Listed}
+use Rattle.ics_series.specs.declared.start.StartSource.{StartSource}
+use Rattle.ics_series.specs.declared.start.StartSource.TheVariants.{Kept, Listed}
 use Rattle.ics_series.specs.declared.start.Start.{Start}
 use Rattle.ics_series.specs.declared.window.Window.{Window}
 use Rattle.ics_series.specs.Clocks.{Clocks, instant}
@@ -22,11 +22,11 @@ use Rattle.ics_series.specs.Rising.{Rises}
 use Rattle.ics_series.specs.Meeting.{is_met, entry_from}
 use Rattle.ics_series.specs.Meets.{Meets}
 use Rattle.ics_series.specs.Starts.{given_by, time_at, time_of, GivesStart, IsNotAfter}
-use Rattle.ics_series.specs.Zones.{is_past}
+use Rattle.ics_series.specs.FileZones.{is_past}
 
 -- the start that a source gives by a value
-abbrev pub start_by : Clocks → Giver → Rdate → Start
-start_by clocks giver given = record { moment = instant clocks (time_of given); giver = giver; given = given }
+abbrev pub start_by : Clocks → StartSource → Rdate → Start
+start_by clocks source given = record { moment = instant clocks (time_of given); source = source; given = given }
 
 -- the start at the local of DTSTART, or at one that the rule keeps
 abbrev pub start_at : Clocks → Event → Local → Start
@@ -34,63 +34,63 @@ start_at clocks event local = start_by clocks (Kept local) (At (time_at event.st
 
 -- a start of the event: its instant, what gives it, and the value that it gives
 pub record IsStart (clocks : Clocks) (event : Event) (s : Start) : Type 0 where
-  pub gives : GivesStart clocks event s.giver s.given
+  pub gives : GivesStart clocks event s.source s.given
   pub value : IsRdate s.given
   pub moment : s.moment ≡ instant clocks (time_of s.given)
 
 -- An occurrence from this instant meets the window, by the length of one of the sources of this start, whether it is the first or not.
 pub record IsSought (clocks : Clocks) (event : Event) (w : Window) (t : ℤ) : Type 0 where
-  pub giver : Giver
+  pub source : StartSource
   pub given : Rdate
-  pub gives : GivesStart clocks event giver given
+  pub gives : GivesStart clocks event source given
   pub starts : instant clocks (time_of given) ≡ t
   pub meets : Meets w (entry_from clocks event given)
 
 -- the list has a start at this instant, from this source or an earlier one
-pub record HasStart (starts : List Start) (giver : Giver) (t : ℤ) : Type 0 where
+pub record HasStart (starts : List Start) (source : StartSource) (t : ℤ) : Type 0 where
   pub start : Start
   pub stands : IsIn start starts
   pub same : start.moment ≡ t
-  pub earlier : IsNotAfter start.giver giver
+  pub earlier : IsNotAfter start.source source
 
 -- by instant
 abbrev pub moment_cmp : Start → Start → Ordering
 moment_cmp = on (λ s. s.moment) int_cmp
 
 -- the part of the order of a source: locals come before RDATEs
-abbrev pub part_of : Giver → ℕ
+abbrev pub part_of : StartSource → ℕ
 part_of (Kept local) = 0
 part_of (Listed place) = 1
 
 -- the day of a local
-abbrev pub day_in : Giver → ℤ
+abbrev pub day_in : StartSource → ℤ
 day_in (Kept local) = local.day
 day_in (Listed place) = pos 0
 
 -- the second of a local, and the place of an RDATE
-abbrev pub place_in : Giver → ℕ
+abbrev pub place_in : StartSource → ℕ
 place_in (Kept local) = local.second
 place_in (Listed place) = place
 
 -- locals come first, in their order, and then RDATEs in the order of the file
-abbrev pub giver_cmp : Giver → Giver → Ordering
-giver_cmp = then_cmp (on part_of nat_cmp) (then_cmp (on day_in int_cmp) (on place_in nat_cmp))
+abbrev pub source_cmp : StartSource → StartSource → Ordering
+source_cmp = then_cmp (on part_of nat_cmp) (then_cmp (on day_in int_cmp) (on place_in nat_cmp))
 
 -- by instant, then by what gives the start
 abbrev pub start_cmp : Start → Start → Ordering
-start_cmp = then_cmp moment_cmp (on (λ s. s.giver) giver_cmp)
+start_cmp = then_cmp moment_cmp (on (λ s. s.source) source_cmp)
 
 -- of these starts, at each instant the one from the first source
 pub record AreFirsts (starts firsts : List Start) : Type 0 where
   pub rises : Rises moment_cmp firsts
   pub are : (s : Start) → IsIn s firsts → IsIn s starts
-  pub all : (s : Start) → IsIn s starts → HasStart firsts s.giver s.moment
+  pub all : (s : Start) → IsIn s starts → HasStart firsts s.source s.moment
 
 -- the same, but only starts that can meet the window and are not before `since` need to be there
 pub record AreStartsSince (clocks : Clocks) (event : Event) (w : Window) (since : ℤ) (starts : List Start) : Type 0 where
   pub rises : Rises moment_cmp starts
   pub are : (s : Start) → IsIn s starts → IsStart clocks event s
-  pub all : (giver : Giver) (given : Rdate) → GivesStart clocks event giver given → IsSought clocks event w (instant clocks (time_of given)) → since ≤ℤ instant clocks (time_of given) → HasStart starts giver (instant clocks (time_of given))
+  pub all : (source : StartSource) (given : Rdate) → GivesStart clocks event source given → IsSought clocks event w (instant clocks (time_of given)) → since ≤ℤ instant clocks (time_of given) → HasStart starts source (instant clocks (time_of given))
 
 -- this instant is the last one
 abbrev pub is_at : Option ℤ → ℤ → Bool
@@ -116,11 +116,6 @@ is_shown clocks w event o = is_met w o && not (is_excluded clocks event o.start)
 abbrev pub shown_by : Clocks → Window → Event → Start → Option Entry
 shown_by clocks w event s =
     if is_shown clocks w event (entry_from clocks event s.given) then Some (entry_from clocks event s.given) else None
-
--- the instant is not after UNTIL, if there is one
-abbrev pub is_until : Option ℤ → ℤ → Bool
-is_until None moment = true
-is_until (Some last) moment = int_le moment last
 
 -- the list, with a start put before it if the test passes
 abbrev pub with_front : Bool → Start → List Start → List Start

@@ -1,12 +1,13 @@
 -- How many occurrences a listing holds at most. The bound counts the starts that an event can have in five UTC days in a row.
 use Rattle.std.specs.Prelude.{◌≡◌, true, ℕ, zero, suc, ◌+◌, max, ℤ, pos, ◌+ℤ◌, ◌-ℤ◌, Bool, ◌&&◌, int_le, int_lt, if◌then◌else◌, List, sum_by, count_by, Option, None, Some}
 use Rattle.ics_rule.specs.Kept.{count, is_kept}
-use Rattle.ics_rule.specs.Locals.{calendar_end}
+use Rattle.ics_rule.specs.PeriodNumbers.{calendar_end}
 use Rattle.ics_rule.specs.Recurrence.{Recurrence}
 use Rattle.ics_calendar.specs.declared.event.Event.{Event}
 use Rattle.ics_calendar.specs.declared.time.Rdate.{Rdate}
-use Rattle.ics_series.specs.declared.start.Giver.{Giver}
-use Rattle.ics_series.specs.Clocks.{Clocks, instant, midnight}
+use Rattle.ics_series.specs.declared.start.StartSource.{StartSource}
+use Rattle.ics_series.specs.Clocks.{Clocks, instant}
+use Rattle.ics_values.specs.Locals.{midnight}
 use Rattle.ics_series.specs.RuleStarts.{lets_until, moment_numbered}
 use Rattle.ics_series.specs.Starts.{given_by, recurrence_of, time_of, GivesStart}
 
@@ -38,8 +39,8 @@ raw_in clocks event day = raw_by clocks event (recurrence_of event) day + raw_li
 
 -- What gives the event a start in these days, which these numbers count: the local of DTSTART, a local that the rule keeps, or an RDATE by
 -- its place.
-abbrev pub IsRaw : Clocks → Event → ℤ → Giver → Type 0
-IsRaw clocks event day giver = (given : Rdate) × GivesStart clocks event giver given × (is_within_days day (instant clocks (time_of given)) ≡ true)
+abbrev pub IsRaw : Clocks → Event → ℤ → StartSource → Type 0
+IsRaw clocks event day source = (given : Rdate) × GivesStart clocks event source given × (is_within_days day (instant clocks (time_of given)) ≡ true)
 
 -- the greatest of the first n values of a function
 unfoldable pub greatest : ℕ → (ℕ → ℕ) → ℕ

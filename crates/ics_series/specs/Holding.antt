@@ -8,7 +8,7 @@ use Rattle.ics_series.specs.declared.series.Series.{Series as SeriesFeed}
 use Rattle.ics_series.specs.declared.start.Start.{Start}
 use Rattle.ics_series.specs.Entry.{Entry}
 use Rattle.ics_series.specs.Meeting.{entry_from}
-use Rattle.ics_series.specs.Zones.{clocks_in}
+use Rattle.ics_series.specs.FileZones.{clocks_in}
 
 -- the starts of a rule that are held
 abbrev pub rule_held : Option RuleStarts → List Start

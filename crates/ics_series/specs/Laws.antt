@@ -13,19 +13,19 @@ use Rattle.ics_series.specs.Clocks.{Clock, Clocks, instant}
 use Rattle.ics_series.specs.Entry.{Entry, Rank, entry_cmp, rank_cmp, rank_of}
 use Rattle.ics_series.specs.Exclusions.{excludes, is_excluded}
 use Rattle.ics_series.specs.Finish.{finish}
-use Rattle.ics_series.specs.Found.{giver_cmp}
+use Rattle.ics_series.specs.Found.{source_cmp}
 use Rattle.ics_series.specs.HeldMost.{held_most, most_in_days, raw_in, IsRaw}
 use Rattle.ics_series.specs.Listing.{IsListing}
 use Rattle.ics_series.specs.Meets.{IsListed, IsToCome}
 use Rattle.ics_series.specs.Merged.{merged, IsFromFirst}
 use Rattle.ics_series.specs.Occurs.{IsInstance, Occurs}
-use Rattle.ics_series.specs.Placed.{Placed, IsPlaced}
+use Rattle.ics_series.specs.PlacedEvents.{Placed, IsPlaced}
 use Rattle.ics_series.specs.Rising.{Rises}
 use Rattle.ics_series.specs.Sources.{master_at, master_of, recurring, AreSources, Source}
 use Rattle.ics_series.specs.Starts.{time_of, GivesStart}
 use Rattle.ics_series.specs.Versions.{by_subject}
-use Rattle.ics_series.specs.declared.start.Giver.{Giver}
-use Rattle.ics_series.specs.Zones.{clocks_in}
+use Rattle.ics_series.specs.declared.start.StartSource.{StartSource}
+use Rattle.ics_series.specs.FileZones.{clocks_in}
 
 -- a window has one listing at most
 abbrev pub OneListing : Type 0
@@ -101,7 +101,7 @@ OneRecurrence =
 -- each start that a source gives an event is that of an occurrence, if DTSTART is in the years of stamps and no EXDATE removes the start
 abbrev pub EachStart : Type 0
 EachStart =
-    (clocks : Clocks) (event : Event) (giver : Giver) (given : Rdate) → IsTime event.start → GivesStart clocks event giver given
+    (clocks : Clocks) (event : Event) (source : StartSource) (given : Rdate) → IsTime event.start → GivesStart clocks event source given
     → is_excluded clocks event (instant clocks (time_of given)) ≡ false → (end : ℤ) × IsInstance clocks event (instant clocks (time_of given)) end
 
 -- an event without a rule and without RDATEs occurs at its DTSTART alone
@@ -120,7 +120,7 @@ NoneExcluded =
 abbrev pub RawCounted : Type 0
 RawCounted =
     (clocks : Clocks) (event : Event) (day : ℤ) → IsTime event.start
-    → (givers : List Giver) × IsListing giver_cmp (IsRaw clocks event day) givers × (length givers ≡ raw_in clocks event day)
+    → (sources : List StartSource) × IsListing source_cmp (IsRaw clocks event day) sources × (length sources ≡ raw_in clocks event day)
 
 -- no five UTC days in a row have more starts than the greatest number, and some have as many
 abbrev pub MostInDays : Type 0

@@ -2,13 +2,13 @@ pub mod After
 pub mod Ahead
 pub mod Chosen
 pub mod Clocks
-pub mod Contents
+pub mod FolderContents
 pub mod DayKeys
 pub mod DayLaws
 pub mod DayMasters
 pub mod DaySteps
 pub mod DayTokens
-pub mod Days
+pub mod ShownDays
 pub mod Entry
 pub mod EntryLaws
 pub mod EventLaws
@@ -29,8 +29,8 @@ pub mod NearDays
 pub mod Occurs
 pub mod OnDays
 pub mod Overridden
-pub mod Parts
-pub mod Placed
+pub mod AgendaParts
+pub mod PlacedEvents
 pub mod Rising
 pub mod RuleFeed
 pub mod RuleStartLaws
@@ -47,5 +47,5 @@ pub mod Tokens
 pub mod Tournament
 pub mod Uids
 pub mod Versions
-pub mod Zones
+pub mod FileZones
 pub mod WindowLaws

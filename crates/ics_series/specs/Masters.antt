@@ -10,7 +10,7 @@ use Rattle.ics_series.specs.Listing.{IsIn, IsListing}
 use Rattle.ics_series.specs.Meets.{IsToCome}
 use Rattle.ics_series.specs.After.{is_after}
 use Rattle.ics_series.specs.Occurs.{IsOf}
-use Rattle.ics_series.specs.Placed.{clocks_at}
+use Rattle.ics_series.specs.PlacedEvents.{clocks_at}
 use Rattle.ics_series.specs.Rising.{Rises}
 use Rattle.ics_series.specs.Singles.{is_single}
 use Rattle.ics_series.specs.Sources.{Recurring, Source, uid_cmp, IsFrom}

@@ -4,18 +4,18 @@ use Rattle.std.specs.Int.{int_max, int_min}
 use Rattle.std.specs.Ordering.{int_eq}
 use Rattle.ics_series.specs.declared.window.Window.{Window}
 use Rattle.ics_series.specs.After.{is_after}
-use Rattle.ics_series.specs.Clocks.{midnight}
+use Rattle.ics_values.specs.Locals.{midnight}
 use Rattle.ics_series.specs.DayKeys.{DayRank}
-use Rattle.ics_series.specs.Days.{date_of}
+use Rattle.ics_series.specs.ShownDays.{day_of_local}
 use Rattle.ics_series.specs.Entry.{Rank}
 use Rattle.ics_series.specs.OnDays.{is_day_after, OnDay}
 
 -- two days before the window's first day in UTC, and two days after its last
 abbrev pub first_near : Window → ℤ
-first_near w = date_of w.from -ℤ pos 2
+first_near w = day_of_local w.from -ℤ pos 2
 
 abbrev pub last_near : Window → ℤ
-last_near w = date_of (w.to -ℤ pos 1) +ℤ pos 2
+last_near w = day_of_local (w.to -ℤ pos 1) +ℤ pos 2
 
 -- what a window holds of a day in UTC, of the two days before it and of the two after it
 pub record IsNearDay (w : Window) (day : ℤ) (n : Window) : Type 0 where

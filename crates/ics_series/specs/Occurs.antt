@@ -9,17 +9,17 @@ use Rattle.ics_series.specs.Clocks.{Clock, Clocks, instant}
 use Rattle.ics_series.specs.Entry.{Entry}
 use Rattle.ics_series.specs.Exclusions.{is_excluded}
 use Rattle.ics_series.specs.Finish.{finish}
-use Rattle.ics_series.specs.Placed.{Placed, clocks_at}
+use Rattle.ics_series.specs.PlacedEvents.{Placed, clocks_at}
 use Rattle.ics_series.specs.Starts.{time_of, GivesStart, IsNotAfter}
-use Rattle.ics_series.specs.declared.start.Giver.{Giver}
+use Rattle.ics_series.specs.declared.start.StartSource.{StartSource}
 
 -- an event occurs from this instant to that one. If several sources give the start, the first gives the finish. No EXDATE removes the start
 pub record IsInstance (clocks : Clocks) (event : Event) (start end : ℤ) : Type 0 where
-  pub giver : Giver
+  pub source : StartSource
   pub given : Rdate
-  pub gives : GivesStart clocks event giver given
+  pub gives : GivesStart clocks event source given
   pub starts : start ≡ instant clocks (time_of given)
-  pub earliest : (other : Giver) (value : Rdate) → GivesStart clocks event other value → instant clocks (time_of value) ≡ start → IsNotAfter giver other
+  pub earliest : (other : StartSource) (value : Rdate) → GivesStart clocks event other value → instant clocks (time_of value) ≡ start → IsNotAfter source other
   pub ends : end ≡ finish clocks event given
   pub stays : is_excluded clocks event start ≡ false
 

@@ -7,7 +7,7 @@ use Rattle.ics_series.specs.declared.occurrence.Occurrence.{Occurrence}
 use Rattle.ics_series.specs.declared.window.Window.{Window}
 use Rattle.ics_series.specs.Clocks.{Clock}
 use Rattle.ics_series.specs.DayKeys.{day_rank_cmp, DayRank}
-use Rattle.ics_series.specs.Days.{is_on}
+use Rattle.ics_series.specs.ShownDays.{is_on}
 use Rattle.ics_series.specs.Entry.{Entry, entry_of, rank_of}
 use Rattle.ics_series.specs.Meets.{IsListed}
 

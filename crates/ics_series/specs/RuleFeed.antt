@@ -4,7 +4,7 @@ use Rattle.ics_rule.specs.Cursors.{place_of}
 use Rattle.ics_series.specs.declared.rule_starts.RuleStarts.{RuleStarts}
 use Rattle.ics_series.specs.declared.start.Start.{Start}
 use Rattle.ics_series.specs.RuleStarts.{to_come}
-use Rattle.ics_series.specs.Zones.{clocks_in}
+use Rattle.ics_series.specs.FileZones.{clocks_in}
 
 -- the starts still to come
 abbrev pub starts_left : RuleStarts → List Start

@@ -5,11 +5,11 @@ use Rattle.std.specs.Ordering.{Ordering-set}
 use Rattle.std.proofs.Props.{props}
 use Rattle.std.specs.declared.cmp.Ordering.TheVariants.{Less}
 use Rattle.ics_rule.specs.Cursors.{CountedBy, HasLooked, IsCursorIn, IsCursorOf}
-use Rattle.ics_rule.specs.Filled.{filled}
-use Rattle.ics_rule.specs.Locals.{number}
+use Rattle.ics_rule.specs.EffectiveRules.{effective}
+use Rattle.ics_values.specs.Locals.{number}
 use Rattle.ics_rule.specs.Recurrence.{Recurrence}
 use Rattle.ics_rule.specs.declared.cursor.Cursor.{Cursor}
-use Rattle.ics_rule.specs.declared.filled.Filled.{Filled}
+use Rattle.ics_rule.specs.declared.effective_rule.EffectiveRule.{EffectiveRule}
 use Rattle.ics_calendar.specs.declared.event.Event.{Event}
 use Rattle.ics_values.specs.declared.local.Local.{Local}
 use Rattle.ics_series.specs.declared.start.Start.{Start}
@@ -46,13 +46,13 @@ looked-at-prop rule cursor a b = hlevel props
 pub looked-prop : (rule : Recurrence) (from : Local) (day : ℤ) (cursor : Cursor) → IsProp (HasLookedTo rule from day cursor)
 looked-prop rule from day cursor = Π_prop λ before. Π_prop λ h. looked-at-prop rule cursor _ before
 
-counted-prop : (q : Filled) (start : ℕ) (o : Option ℕ) (cursor : Cursor) → IsProp (CountedBy q start o cursor)
+counted-prop : (q : EffectiveRule) (start : ℕ) (o : Option ℕ) (cursor : Cursor) → IsProp (CountedBy q start o cursor)
 counted-prop q start None cursor = Unit-prop
 counted-prop q start (Some c) cursor = hlevel props
 
-cursor-in-prop : (q : Filled) (start : ℕ) (o : Option ℕ) (cursor : Cursor) → IsProp (IsCursorIn q start o cursor)
+cursor-in-prop : (q : EffectiveRule) (start : ℕ) (o : Option ℕ) (cursor : Cursor) → IsProp (IsCursorIn q start o cursor)
 cursor-in-prop q start o cursor = hlevel (props, counted-prop)
 
 pub cursor-prop : (rule : Recurrence) (cursor : Cursor) → IsProp (IsCursorOf rule cursor)
 unfolding IsCursorOf
-cursor-prop rule cursor = cursor-in-prop (filled rule) (number rule.start) rule.parts.count cursor
+cursor-prop rule cursor = cursor-in-prop (effective rule) (number rule.start) rule.parts.count cursor

@@ -1,20 +1,21 @@
 -- The starts that the rule of an event gives before the end of a window, as one rising list.
 use Rattle.std.specs.Prelude.{◌≡◌, ◌≤ℤ◌, ◌<ℤ◌, ℕ, zero, suc, ◌+◌, ◌-◌, ◌/◌, ◌≤◌, ℤ, pos, ◌-ℤ◌, ◌+ℤ◌, Bool, true, false, ◌&&◌, ◌||◌, ◌==◌, not, int_le, int_lt, List, [], ◌∷◌}
 use Rattle.ics_values.specs.Days.{day_index}
-use Rattle.ics_values.specs.Locals.{local_at}
+use Rattle.ics_values.specs.Locals.{local_at, number, midnight}
 use Rattle.ics_values.specs.declared.local.Local.{Local}
 use Rattle.ics_rule.specs.Cursors.{looks_from, HasLooked}
 use Rattle.ics_rule.specs.Kept.{is_kept, until_moment}
-use Rattle.ics_rule.specs.Locals.{number, rules_end}
+use Rattle.ics_rule.specs.PeriodNumbers.{rules_end}
 use Rattle.ics_rule.specs.Recurrence.{Recurrence}
 use Rattle.ics_rule.specs.declared.cursor.Cursor.{Cursor}
 use Rattle.ics_calendar.specs.declared.event.Event.{Event}
-use Rattle.ics_series.specs.declared.start.Giver.{Giver}
-use Rattle.ics_series.specs.declared.start.Giver.TheVariants.{Kept, Listed}
+use Rattle.ics_series.specs.declared.start.StartSource.{StartSource}
+use Rattle.ics_series.specs.declared.start.StartSource.TheVariants.{Kept, Listed}
 use Rattle.ics_series.specs.declared.start.Start.{Start}
 use Rattle.ics_series.specs.declared.window.Window.{Window}
-use Rattle.ics_series.specs.Clocks.{Clocks, instant, midnight}
-use Rattle.ics_series.specs.Found.{is_until, moment_cmp, start_at}
+use Rattle.ics_series.specs.Clocks.{Clocks, instant}
+use Rattle.ics_series.specs.Found.{moment_cmp, start_at}
+use Rattle.ics_zone.specs.Observances.{is_until}
 use Rattle.ics_series.specs.Listing.{IsIn}
 use Rattle.ics_series.specs.Merged.{put, union}
 use Rattle.ics_series.specs.Starts.{time_at}
@@ -61,7 +62,7 @@ unfoldable pub to_come : Clocks → Event → Recurrence → Window → List Sta
 to_come clocks event rule w held place = union moment_cmp held (found clocks event rule w place)
 
 -- the number of the local that gives a start
-abbrev pub number_in : Giver → ℕ
+abbrev pub number_in : StartSource → ℕ
 number_in (Kept local) = number local
 number_in (Listed place) = 0
 
@@ -71,8 +72,8 @@ midnight_number day = number (local_at day 0)
 
 -- a start by a local that gives one, in the five UTC days of which the fourth begins at this day's midnight
 pub record IsHeld (clocks : Clocks) (event : Event) (rule : Recurrence) (w : Window) (day : ℤ) (s : Start) : Type 0 where
-  pub by : s ≡ start_at clocks event (local_numbered (number_in s.giver))
-  pub given : gives clocks event rule w (number_in s.giver) ≡ true
+  pub by : s ≡ start_at clocks event (local_numbered (number_in s.source))
+  pub given : gives clocks event rule w (number_in s.source) ≡ true
   pub late : (midnight day -ℤ pos 259_200) ≤ℤ s.moment
   pub early : s.moment <ℤ (midnight day +ℤ pos 172_800)
 

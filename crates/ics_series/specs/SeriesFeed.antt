@@ -11,7 +11,7 @@ use Rattle.ics_series.specs.declared.series.Series.{Series}
 use Rattle.ics_series.specs.declared.start.Start.{Start}
 use Rattle.ics_series.specs.Entry.{Entry}
 use Rattle.ics_series.specs.SeriesStarts.{given_of, left, rule_asked, HasSameRule, IsAskedNear}
-use Rattle.ics_series.specs.Zones.{clocks_in}
+use Rattle.ics_series.specs.FileZones.{clocks_in}
 
 -- the starts still to come
 abbrev pub series_left : Series → List Start

@@ -7,8 +7,8 @@ use Rattle.ics_calendar.specs.declared.event.Event.{Event}
 use Rattle.ics_calendar.specs.declared.time.Rdate.{Rdate}
 use Rattle.ics_values.specs.declared.local.Local.{Local}
 use Rattle.ics_series.specs.declared.rule_starts.RuleStarts.{RuleStarts}
-use Rattle.ics_series.specs.declared.start.Giver.{Giver}
-use Rattle.ics_series.specs.declared.start.Giver.TheVariants.{Kept, Listed}
+use Rattle.ics_series.specs.declared.start.StartSource.{StartSource}
+use Rattle.ics_series.specs.declared.start.StartSource.TheVariants.{Kept, Listed}
 use Rattle.ics_series.specs.declared.start.Start.{Start}
 use Rattle.ics_series.specs.declared.window.Window.{Window}
 use Rattle.ics_series.specs.declared.zones.FileZones.{FileZones}
@@ -31,7 +31,7 @@ given-at-prop : (clocks : Clocks) (event : Event) (w : Window) (local : Local) (
 given-at-prop clocks event w local None = Local-set _ _
 given-at-prop clocks event w local (Some rule) = hlevel props
 
-given-by-prop : (clocks : Clocks) (event : Event) (w : Window) (giver : Giver) (given : Rdate) → IsProp (IsGivenBy clocks event w giver given)
+given-by-prop : (clocks : Clocks) (event : Event) (w : Window) (source : StartSource) (given : Rdate) → IsProp (IsGivenBy clocks event w source given)
 given-by-prop clocks event w (Kept local) given = ×_prop (given-at-prop clocks event w local (recurrence_of event)) (Rdate-set _ _)
 given-by-prop clocks event w (Listed place) given = some-set _ _
 

@@ -7,19 +7,19 @@ use Rattle.std.specs.Ordering.{int_eq}
 use Rattle.ics_values.specs.Days.{IsDayNumber}
 use Rattle.ics_values.specs.RuleParts.{RuleParts}
 use Rattle.ics_values.specs.declared.local.Local.{Local}
-use Rattle.ics_rule.specs.Locals.{number}
+use Rattle.ics_values.specs.Locals.{number, midnight, local_seconds}
 use Rattle.ics_rule.specs.Recurrence.{Recurrence}
 use Rattle.ics_calendar.specs.declared.event.Event.{Event}
 use Rattle.ics_calendar.specs.declared.time.Rdate.{Rdate}
 use Rattle.ics_calendar.specs.declared.time.Rdate.TheVariants.{At}
 use Rattle.ics_series.specs.declared.listed_starts.ListedStarts.{ListedStarts}
 use Rattle.ics_series.specs.declared.rule_starts.RuleStarts.{RuleStarts}
-use Rattle.ics_series.specs.declared.start.Giver.{Giver}
-use Rattle.ics_series.specs.declared.start.Giver.TheVariants.{Kept, Listed}
+use Rattle.ics_series.specs.declared.start.StartSource.{StartSource}
+use Rattle.ics_series.specs.declared.start.StartSource.TheVariants.{Kept, Listed}
 use Rattle.ics_series.specs.declared.start.Start.{Start}
 use Rattle.ics_series.specs.declared.window.Window.{Window}
 use Rattle.ics_series.specs.declared.zones.FileZones.{FileZones}
-use Rattle.ics_series.specs.Clocks.{Clocks, instant, midnight, seconds_of}
+use Rattle.ics_series.specs.Clocks.{Clocks, instant}
 use Rattle.ics_series.specs.Entry.{Entry}
 use Rattle.ics_series.specs.Found.{earliest, is_shown, listed_from, moment_cmp, start_at}
 use Rattle.ics_series.specs.Listing.{IsIn}
@@ -75,7 +75,7 @@ pub record IsRuleFrom (clocks : Clocks) (event : Event) (w : Window) (since : �
   pub has : recurrence_of event ≡ Some rule
   pub from : Local
   pub day : IsDayNumber from.day
-  pub low : seconds_of from ≤ℤ int_max (seconds_of (local_of event.start.stamp)) (first_asked clocks w event since listed -ℤ pos 518_400)
+  pub low : local_seconds from ≤ℤ int_max (local_seconds (local_of event.start.stamp)) (first_asked clocks w event since listed -ℤ pos 518_400)
   pub gives : starts ≡ found clocks event rule w (number from)
 
 -- These starts are those of this event's rule in this window. They are read from a local on that is not before DTSTART, and no more than
@@ -85,7 +85,7 @@ pub record IsOwnRule (zones : FileZones) (event : Event) (w : Window) (first : �
   pub event_is : s.event.now ≡ event
   pub window_is : s.window ≡ w
   pub day : IsDayNumber s.from.day
-  pub late : int_max (seconds_of (local_of event.start.stamp)) (first -ℤ pos 604_800) ≤ℤ seconds_of s.from
+  pub late : int_max (local_seconds (local_of event.start.stamp)) (first -ℤ pos 604_800) ≤ℤ local_seconds s.from
 
 abbrev pub HasOwnRule : FileZones → Event → Window → ℤ → Option RuleStarts → Type 0
 HasOwnRule zones event w first None = Unit {0}
@@ -146,13 +146,13 @@ IsGivenAt clocks event w local None = local ≡ local_of event.start.stamp
 IsGivenAt clocks event w local (Some rule) = IsDayNumber local.day × (gives clocks event rule w (number local) ≡ true)
 
 -- what gives an event a start before the window's end, and the value that it gives
-abbrev pub IsGivenBy : Clocks → Event → Window → Giver → Rdate → Type 0
+abbrev pub IsGivenBy : Clocks → Event → Window → StartSource → Rdate → Type 0
 IsGivenBy clocks event w (Kept local) given = IsGivenAt clocks event w local (recurrence_of event) × (given ≡ At (time_at event.start local))
 IsGivenBy clocks event w (Listed place) given = option_map (given_by event.start) (slice_get event.rdates place) ≡ Some given
 
 -- a start of the event
 pub record IsKnown (clocks : Clocks) (event : Event) (w : Window) (s : Start) : Type 0 where
-  pub gives : IsGivenBy clocks event w s.giver s.given
+  pub gives : IsGivenBy clocks event w s.source s.given
   pub moment : s.moment ≡ instant clocks (time_of s.given)
 
 abbrev pub AreKnown : Clocks → Event → Window → List Start → Type 0

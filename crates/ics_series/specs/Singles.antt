@@ -16,10 +16,10 @@ use Rattle.ics_series.specs.Meeting.{is_met}
 use Rattle.ics_series.specs.Meets.{IsToCome}
 use Rattle.ics_series.specs.Overridden.{is_kept}
 use Rattle.ics_series.specs.After.{is_after}
-use Rattle.ics_series.specs.Placed.{clocks_at}
+use Rattle.ics_series.specs.PlacedEvents.{clocks_at}
 use Rattle.ics_series.specs.Spots.{event_at}
 use Rattle.ics_series.specs.Versions.{Label}
-use Rattle.ics_series.specs.Zones.{clocks_in}
+use Rattle.ics_series.specs.FileZones.{clocks_in}
 
 -- an override starts at its own DTSTART alone, whatever its RRULE, RDATE and EXDATE say, and so does a master that has none of these
 abbrev pub is_single : Event → Bool

@@ -2,13 +2,12 @@
 use Rattle.std.specs.Prelude.{◌≡◌, ◌≤◌, ◌≤ℤ◌, ⊤, true, Option, None, Some, IfSome, ◌⊎◌, slice_get}
 use Rattle.std.specs.Option.{option_map}
 use Rattle.ics_values.specs.Days.{IsDayNumber}
-use Rattle.ics_values.specs.Locals.{local_at}
+use Rattle.ics_values.specs.Locals.{local_at, number, local_seconds}
 use Rattle.ics_values.specs.RuleParts.{RuleParts}
 use Rattle.ics_values.specs.declared.local.Local.{Local}
 use Rattle.ics_values.specs.declared.stamp.Stamp.{Stamp}
 use Rattle.ics_values.specs.declared.stamp.Stamp.TheVariants.{Date, Floating, Utc, Zoned}
 use Rattle.ics_rule.specs.Kept.{is_kept, until_moment}
-use Rattle.ics_rule.specs.Locals.{number}
 use Rattle.ics_rule.specs.Recurrence.{Recurrence}
 use Rattle.ics_rule.specs.declared.kind.Kind.{Kind}
 use Rattle.ics_rule.specs.declared.kind.Kind.TheVariants as kind
@@ -16,9 +15,9 @@ use Rattle.ics_calendar.specs.declared.time.Rdate.{Rdate}
 use Rattle.ics_calendar.specs.declared.time.Rdate.TheVariants.{At, Span}
 use Rattle.ics_calendar.specs.declared.time.Time.{Time}
 use Rattle.ics_calendar.specs.declared.event.Event.{Event}
-use Rattle.ics_series.specs.Clocks.{Clocks, day_of, instant, seconds_of}
-use Rattle.ics_series.specs.declared.start.Giver.{Giver}
-use Rattle.ics_series.specs.declared.start.Giver.TheVariants.{Kept, Listed}
+use Rattle.ics_series.specs.Clocks.{Clocks, day_of, instant}
+use Rattle.ics_series.specs.declared.start.StartSource.{StartSource}
+use Rattle.ics_series.specs.declared.start.StartSource.TheVariants.{Kept, Listed}
 
 -- an event that starts on a date recurs by dates
 abbrev pub kind_of : Stamp → Kind
@@ -63,8 +62,8 @@ pub record IsRuleStart (clocks : Clocks) (event : Event) (local : Local) : Type 
   pub until : IfSome (until_moment rule) (λ last. instant clocks (time_at event.start local) ≤ℤ last)
 
 -- the date of a time
-abbrev pub date_of : Time → Time
-date_of time = record { stamp = Date (day_of time.stamp); zone = None }
+abbrev pub date_only : Time → Time
+date_only time = record { stamp = Date (day_of time.stamp); zone = None }
 
 -- the time at which a value of an RDATE begins
 abbrev pub time_of : Rdate → Time
@@ -80,7 +79,7 @@ time_by first time (Zoned local) = time
 
 -- the value by which an RDATE starts an event with this DTSTART. If the event has dates, a value of any form means its date
 abbrev pub given_from : Time → Stamp → Rdate → Rdate
-given_from first (Date day) rdate = At (date_of (time_of rdate))
+given_from first (Date day) rdate = At (date_only (time_of rdate))
 given_from first stamp (At time) = At (time_by first time time.stamp)
 given_from first stamp (Span start length) = Span start length
 
@@ -89,15 +88,15 @@ given_by first rdate = given_from first first.stamp rdate
 
 -- What gives the event a start, and the value that it gives. The local of DTSTART, or one that the rule keeps, gives the time at that local,
 -- of DTSTART's kind and in its zone. An RDATE, by its place among them, gives what it means with this DTSTART.
-abbrev pub GivesStart : Clocks → Event → Giver → Rdate → Type 0
+abbrev pub GivesStart : Clocks → Event → StartSource → Rdate → Type 0
 GivesStart clocks event (Kept local) given =
     ((local ≡ local_of event.start.stamp) ⊎ IsRuleStart clocks event local) × (given ≡ At (time_at event.start local))
 GivesStart clocks event (Listed place) given =
     (rdate : Rdate) × (slice_get event.rdates place ≡ Some rdate) × (given ≡ given_by event.start rdate)
 
 -- One source of starts is not after another. Locals come first, in their order, and then RDATEs in the order of the file.
-abbrev pub IsNotAfter : Giver → Giver → Type 0
-IsNotAfter (Kept a) (Kept b) = seconds_of a ≤ℤ seconds_of b
+abbrev pub IsNotAfter : StartSource → StartSource → Type 0
+IsNotAfter (Kept a) (Kept b) = local_seconds a ≤ℤ local_seconds b
 IsNotAfter (Kept a) (Listed place) = ⊤
 IsNotAfter (Listed place) (Kept b) = ⊥
 IsNotAfter (Listed a) (Listed b) = a ≤ b

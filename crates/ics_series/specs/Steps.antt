@@ -3,9 +3,8 @@ use Rattle.std.specs.Prelude.{◌≡◌, ◌≤ℤ◌, ℕ, ◌+◌, Some, ℤ, 
 use Rattle.std.specs.Int.{int_max}
 use Rattle.ics_values.specs.declared.local.Local.{Local}
 use Rattle.ics_rule.specs.Cursors.{looks_from, period_count}
-use Rattle.ics_rule.specs.Locals.{number}
+use Rattle.ics_values.specs.Locals.{number, local_seconds}
 use Rattle.ics_rule.specs.Recurrence.{Recurrence}
-use Rattle.ics_series.specs.Clocks.{seconds_of}
 use Rattle.ics_series.specs.Entry.{Entry}
 use Rattle.ics_series.specs.Listing.{IsIn}
 use Rattle.ics_series.specs.SeriesStarts.{first_of, IsKeptAt}
@@ -17,7 +16,7 @@ use Rattle.ics_series.specs.Starts.{local_of, recurrence_of}
 -- not before the instant from which on the master's occurrences are listed, or two weeks past the window's end if that is earlier.
 abbrev pub IsLookedFrom : Recurring → ℕ → Type 0
 IsLookedFrom m a =
-    pos a ≤ℤ (int_max (seconds_of (local_of m.event.start.stamp)) (first_of m.clocks m.window m.event m.since -ℤ pos 604_800) +ℤ pos 62_167_219_200)
+    pos a ≤ℤ (int_max (local_seconds (local_of m.event.start.stamp)) (first_of m.clocks m.window m.event m.since -ℤ pos 604_800) +ℤ pos 62_167_219_200)
 
 -- the local with this number is seven days or more past an instant
 abbrev pub IsWeekPast : ℤ → ℕ → Type 0

@@ -25,6 +25,6 @@ IsToken text = (key : Rank) × IsKey key × (text ≡ spelling key)
 abbrev pub OneSpelling : Type 0
 OneSpelling = (a b : Rank) → IsKey a → IsKey b → spelling a ≡ spelling b → a ≡ b
 
-abbrev pub fault_name : TokenFault → List ℕ
-fault_name BadToken = codes "BadToken"
-fault_name Memory = codes "Memory"
+abbrev pub token_fault_name : TokenFault → List ℕ
+token_fault_name BadToken = codes "BadToken"
+token_fault_name Memory = codes "Memory"

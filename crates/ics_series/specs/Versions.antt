@@ -14,7 +14,7 @@ use Rattle.ics_series.specs.declared.version.Version.{Version}
 use Rattle.ics_series.specs.Chosen.{SubjectSeen, subject_by, subject_of, IsChosen}
 use Rattle.ics_series.specs.Clocks.{Clock, Clocks}
 use Rattle.ics_series.specs.Listing.{IsListing}
-use Rattle.ics_series.specs.Placed.{Placed, placed_cmp}
+use Rattle.ics_series.specs.PlacedEvents.{Placed, placed_cmp}
 
 -- what identifies a version
 pub record Label : Type 0 where

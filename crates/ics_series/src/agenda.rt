@@ -17,7 +17,7 @@ ghost use Rattle.ics_series.specs.Meets.{IsListed, IsToCome};
 ghost use Rattle.ics_series.specs.Merged.{merged};
 ghost use Rattle.ics_series.specs.MergedLaws.{rises-merged};
 ghost use Rattle.ics_series.specs.Overridden.{is_kept};
-ghost use Rattle.ics_series.specs.Parts.{part_coming, part_sources};
+ghost use Rattle.ics_series.specs.AgendaParts.{part_coming, part_sources};
 ghost use Rattle.ics_series.specs.Sources.{master_of, recurring, AreApart, AreApart-prop, AreSources, Recurring};
 ghost use Rattle.ics_series.specs.Steps.{HasStepBound};
 ghost use Rattle.ics_series.specs.Uids.{AreSortedFrom};
@@ -149,7 +149,7 @@ fn parts<'a>(
 impl<'a> Coming for Agenda<'a> {
     ghost use Rattle.std.specs.List.{AllByRecursion, AllByRecursion-prop};
     ghost use Rattle.ics_series.specs.Leads.{HasNear, HasNear-prop};
-    ghost use Rattle.ics_series.specs.Parts.{part_near, part_near-prop};
+    ghost use Rattle.ics_series.specs.AgendaParts.{part_near, part_near-prop};
 
     ghost coming = { λ agenda. merged entry_cmp (map (λ l. past agenda.merge.last (listed l.head (part_coming l.feed))) agenda.merge.leads.items) };
 

@@ -15,7 +15,7 @@ ghost use Rattle.ics_series.specs.Listing.{IsListing};
 ghost use Rattle.ics_series.specs.Meets.{IsListed};
 ghost use Rattle.ics_series.specs.NearDays.{first_near, last_near, Begins, IsBehindKey};
 ghost use Rattle.ics_series.specs.OnDays.{after_day_key, on_day_cmp, GivesOnDay, IsOnDay, OnDay};
-ghost use Rattle.ics_series.specs.Placed.{Placed};
+ghost use Rattle.ics_series.specs.PlacedEvents.{Placed};
 ghost use Rattle.ics_series.specs.declared.window.Window.{Window};
 
 use crate::agenda::Agenda;

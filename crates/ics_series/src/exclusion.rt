@@ -5,7 +5,7 @@ ghost use Rattle.std.specs.List.Sorted.{IsSorted};
 ghost use Rattle.std.specs.Ordering.{int_cmp};
 ghost use Rattle.ics_series.specs.Clocks.{clock_of, instant};
 ghost use Rattle.ics_series.specs.Exclusions.{excludes, is_day_in, shown_day, takes_out, with_instant};
-ghost use Rattle.ics_series.specs.Zones.{clocks_in, is_past, IsTimeOf};
+ghost use Rattle.ics_series.specs.FileZones.{clocks_in, is_past, IsTimeOf};
 
 use crate::instant::{instant, is_past};
 use crate::start::date_of;
@@ -30,7 +30,7 @@ pub(crate) struct Exclusions {
 
 impl Exclusions {
     ghost use Rattle.ics_series.specs.Exclusions.{AreExclusions};
-    ghost use Rattle.ics_series.specs.Zones.{IsOwnEvent};
+    ghost use Rattle.ics_series.specs.FileZones.{IsOwnEvent};
 
     // What the EXDATEs remove from the starts before the window's end.
     pub(crate) fn new(

@@ -1,10 +1,11 @@
 //! The end of an occurrence.
 ghost use Rattle.std.specs.Prelude.{◌≡◌, ◌+◌, ◌*◌, ◌<◌, ◌≤◌, ◌<ℤ◌, ◌≤ℤ◌, ◌+ℤ◌, ◌*ℤ◌, pos, neg_ℤ};
 ghost use Rattle.ics_calendar.specs.Event.{IsLasting, IsLength, IsSpan};
-ghost use Rattle.ics_series.specs.Clocks.{clock_of, display_clock, instant, local_at, midnight};
+ghost use Rattle.ics_series.specs.Clocks.{clock_of, display_clock, instant, local_at};
+ghost use Rattle.ics_values.specs.Locals.{midnight};
 ghost use Rattle.ics_series.specs.Finish.{end_by, finish, later_by, span_end};
 ghost use Rattle.ics_series.specs.Found.{IsStart};
-ghost use Rattle.ics_series.specs.Zones.{clocks_in, EndsNear, HasEndIn, IsEndOf, IsOwnEvent, IsTimeOf};
+ghost use Rattle.ics_series.specs.FileZones.{clocks_in, EndsNear, HasEndIn, IsEndOf, IsOwnEvent, IsTimeOf};
 
 use crate::instant::instant;
 use crate::lasting::{day_of, days_lasting};

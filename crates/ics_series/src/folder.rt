@@ -34,7 +34,7 @@ pub struct Folder {
 }
 
 impl Model for Folder {
-    ghost use Rattle.ics_series.specs.Contents.{Contents};
+    ghost use Rattle.ics_series.specs.FolderContents.{Contents};
 
     ghost Value = { Contents };
 

@@ -1,7 +1,9 @@
 //! The instants of times.
 ghost use Rattle.std.specs.Prelude.{◌≡◌};
-ghost use Rattle.ics_series.specs.Clocks.{instant, seconds_of, written};
-ghost use Rattle.ics_series.specs.Zones.{clocks_in, is_past, IsTimeOf};
+ghost use Rattle.ics_series.specs.Clocks.{instant};
+ghost use Rattle.ics_calendar.specs.Event.{stamp_seconds};
+ghost use Rattle.ics_values.specs.Locals.{local_seconds};
+ghost use Rattle.ics_series.specs.FileZones.{clocks_in, is_past, IsTimeOf};
 
 use crate::start::local_of;
 use crate::window::Window;
@@ -34,14 +36,14 @@ pub(crate) fn is_past(time: Time, window: &Window) -> bool
 
 /// The seconds from 1970-01-01T00:00:00 to the local of a stamp. That of a date is its midnight.
 pub(crate) fn written(stamp: Stamp) -> i64
-    ensures { result ≡ written stamp }
+    ensures { result ≡ stamp_seconds stamp }
 {
     seconds_of(local_of(stamp))
 }
 
 // The seconds from 1970-01-01T00:00:00 to a local, each day having 86,400.
 fn seconds_of(local: Local) -> i64
-    ensures { result ≡ seconds_of local }
+    ensures { result ≡ local_seconds local }
 {
     i64::from(local.day) * 86_400 + i64::from(local.second)
 }

@@ -3,7 +3,7 @@ ghost use Rattle.std.specs.Prelude.{◌≡◌, ◌≤ℤ◌, pos};
 ghost use Rattle.ics_calendar.specs.Event.{IsLength};
 ghost use Rattle.ics_series.specs.Clocks.{day_of};
 ghost use Rattle.ics_series.specs.Finish.{days_lasting, seconds_by, seconds_lasting};
-ghost use Rattle.ics_series.specs.Zones.{clocks_in, IsEndOf, IsOwnEvent, IsTimeOf};
+ghost use Rattle.ics_series.specs.FileZones.{clocks_in, IsEndOf, IsOwnEvent, IsTimeOf};
 
 use crate::instant::instant;
 use crate::zones::FileZones;

@@ -2,10 +2,10 @@
 ghost use Rattle.std.specs.Prelude.{◌≡◌, ◌++◌, IfOk};
 ghost use Rattle.ics_series.specs.Found.{listed_from};
 ghost use Rattle.ics_series.specs.Starts.{given_by, time_by};
-ghost use Rattle.ics_series.specs.Zones.{clocks_in, IsOwnEvent};
+ghost use Rattle.ics_series.specs.FileZones.{clocks_in, IsOwnEvent};
 
 use crate::instant::{instant, is_past};
-use crate::start::{Giver, Start, date_of, local_of, time_at, time_of};
+use crate::start::{StartSource, Start, date_of, local_of, time_at, time_of};
 use crate::window::Window;
 use crate::zones::FileZones;
 use ics_calendar::{Event, Rdate, Time};
@@ -29,7 +29,7 @@ pub(crate) fn push_listed(
         if !is_past(time_of(given), window) {
             starts.push(Start {
                 moment: instant(zones, time_of(given)),
-                giver: Giver::Listed(place),
+                source: StartSource::Listed(place),
                 given,
             })?;
         }

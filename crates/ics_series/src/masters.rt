@@ -7,7 +7,7 @@ ghost use Rattle.ics_series.specs.Clocks.{display_clock};
 ghost use Rattle.ics_series.specs.Entry.{Entry, entry_cmp, key_rank};
 ghost use Rattle.ics_series.specs.Listing.{IsListing};
 ghost use Rattle.ics_series.specs.Masters.{AreLists, HasLists, HasSources, HasWhole, IsOfVersion, IsSince, IsSourceOf, Recurs};
-ghost use Rattle.ics_series.specs.Parts.{part_coming, part_sources};
+ghost use Rattle.ics_series.specs.AgendaParts.{part_coming, part_sources};
 ghost use Rattle.ics_series.specs.SeriesFeed.{series_sources};
 ghost use Rattle.ics_series.specs.Singles.{is_single};
 ghost use Rattle.ics_series.specs.Sources.{Recurring, IsFrom};

@@ -27,7 +27,7 @@ pub struct Merge<'a, F: Coming> {
     // The occurrence that was given last. Others with its key count as given.
     last: Option<Occurrence<'a>>,
     // The lead that gave it.
-    giver: usize,
+    source: usize,
     // From this place on the leads stand in the order of their UIDs, of which each has one. So long
     // UIDs are not read again for each occurrence.
     sorted_from: usize,
@@ -37,7 +37,7 @@ pub struct Merge<'a, F: Coming> {
     ghost follows: { ComeAfter last (map (λ l. past last (listed l.head (F.coming l.feed))) leads.items) } by { ComeAfter-prop last (map (λ l. past last (listed l.head (F.coming l.feed))) leads.items) },
     ghost near: { AllByRecursion (λ l. AreNear (F.near l.feed) (past last (listed l.head (F.coming l.feed)))) leads.items } by { AllByRecursion-prop (λ l. AreNear (F.near l.feed) (past last (listed l.head (F.coming l.feed)))) (λ l. AreNear-prop (F.near l.feed) (F.near_prop l.feed) (past last (listed l.head (F.coming l.feed)))) leads.items },
     ghost sorted: { AreSortedFrom sorted_from (map (λ l. listed l.head (F.coming l.feed)) leads.items) } by { AreSortedFrom-prop sorted_from (map (λ l. listed l.head (F.coming l.feed)) leads.items) },
-    ghost last_sorted: { IsLastSorted sorted_from giver last (map (λ l. listed l.head (F.coming l.feed)) leads.items) } by { IsLastSorted-prop sorted_from giver last (map (λ l. listed l.head (F.coming l.feed)) leads.items) },
+    ghost last_sorted: { IsLastSorted sorted_from source last (map (λ l. listed l.head (F.coming l.feed)) leads.items) } by { IsLastSorted-prop sorted_from source last (map (λ l. listed l.head (F.coming l.feed)) leads.items) },
 }
 
 impl<'a, F: Feed<'a> + Drop> Merge<'a, F> {
@@ -70,7 +70,7 @@ impl<'a, F: Feed<'a> + Drop> Merge<'a, F> {
             leads,
             winners,
             last: None,
-            giver: 0,
+            source: 0,
             sorted_from,
         })
     }
@@ -94,7 +94,7 @@ impl<'a, F: Feed<'a>> Feed<'a> for Merge<'a, F> {
         match self.first() {
             None => Ok(None),
             Some(first) => {
-                self.giver = winner(&self.winners, 1);
+                self.source = winner(&self.winners, 1);
                 self.last = Some(first);
                 Ok(Some(first))
             }
@@ -136,7 +136,7 @@ impl<'a, F: Feed<'a>> Merge<'a, F> {
         match (self.last, self.first()) {
             (Some(last), Some(first)) => {
                 let lead = winner(&self.winners, 1);
-                let uids = order_by_place(self.sorted_from, self.giver, lead);
+                let uids = order_by_place(self.sorted_from, self.source, lead);
                 Occurrence::compare(&last, &first, uids).is_eq()
             }
             _ => false,

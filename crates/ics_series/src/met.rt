@@ -4,7 +4,7 @@ ghost use Rattle.std.specs.Option.{option_map};
 ghost use Rattle.ics_series.specs.Entry.{entry_of};
 ghost use Rattle.ics_series.specs.Exclusions.{AreExclusions};
 ghost use Rattle.ics_series.specs.Found.{shown_by, IsStart};
-ghost use Rattle.ics_series.specs.Zones.{clocks_in, IsOwnEvent};
+ghost use Rattle.ics_series.specs.FileZones.{clocks_in, IsOwnEvent};
 
 use crate::exclusion::Exclusions;
 use crate::occurrence::Occurrence;

@@ -2,7 +2,7 @@
 ghost use Rattle.std.specs.Prelude.{◌≡◌, ◌≤ℤ◌, ◌<ℤ◌, pos, neg_ℤ};
 ghost use Rattle.ics_values.specs.Days.{IsDayNumber};
 ghost use Rattle.ics_series.specs.Clocks.{display_clock};
-ghost use Rattle.ics_series.specs.Days.{date_at};
+ghost use Rattle.ics_series.specs.ShownDays.{date_at};
 ghost use Rattle.ics_series.specs.NearDays.{first_near, last_near, IsNearDay};
 
 use crate::window::Window;

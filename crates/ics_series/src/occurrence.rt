@@ -30,7 +30,7 @@ impl<'a> Occurrence<'a> {
     ghost use Rattle.ics_series.specs.Entry.{entry_cmp, entry_of};
     ghost use Rattle.ics_series.specs.Found.{met_by, IsStart};
     ghost use Rattle.ics_series.specs.Uids.{IsUidOrder};
-    ghost use Rattle.ics_series.specs.Zones.{clocks_in, IsOwnEvent};
+    ghost use Rattle.ics_series.specs.FileZones.{clocks_in, IsOwnEvent};
 
     // The occurrence with a start, if it meets the window.
     pub(crate) fn within(

@@ -15,7 +15,7 @@ pub(crate) enum Part<'a> {
 }
 
 impl<'a> Coming for Part<'a> {
-    ghost use Rattle.ics_series.specs.Parts.{part_coming, part_near, part_near-prop, part_sources};
+    ghost use Rattle.ics_series.specs.AgendaParts.{part_coming, part_near, part_near-prop, part_sources};
 
     ghost coming = { part_coming };
 

@@ -4,15 +4,15 @@ ghost use Rattle.std.specs.VecDeque.{deque_len, deque_capacity};
 ghost use Rattle.ics_values.specs.Days.{IsDayNumber};
 ghost use Rattle.ics_rule.specs.Cursors.{place_of, IsCursorOf};
 ghost use Rattle.ics_rule.specs.Kept.{is_kept};
-ghost use Rattle.ics_rule.specs.Locals.{number};
-ghost use Rattle.ics_series.specs.Clocks.{instant, midnight};
+ghost use Rattle.ics_values.specs.Locals.{number, midnight};
+ghost use Rattle.ics_series.specs.Clocks.{instant};
 ghost use Rattle.ics_series.specs.EventLaws.{time-prop};
 ghost use Rattle.ics_series.specs.Found.{moment_cmp, start_at};
 ghost use Rattle.ics_series.specs.Rising.{Rises};
 ghost use Rattle.ics_series.specs.RuleStarts.{gives, is_behind, is_ready, lets_until, midnight_number, with_held, AreHeld, HasLookedTo};
 ghost use Rattle.ics_series.specs.RuleStartLaws.{cursor-prop, held-prop, looked-prop, rule-prop, starts-prop};
 ghost use Rattle.ics_series.specs.Starts.{local_of, recurrence_of, time_at};
-ghost use Rattle.ics_series.specs.Zones.{clocks_in, IsTimeOf};
+ghost use Rattle.ics_series.specs.FileZones.{clocks_in, IsTimeOf};
 
 use crate::queue::put_in;
 use crate::start::{Start, local_of};
@@ -121,7 +121,7 @@ impl<'a> RuleStarts<'a> {
     ghost use Rattle.ics_series.specs.Merged.{cut};
     ghost use Rattle.ics_series.specs.RuleFeed.{starts_left, HasSameSource};
     ghost use Rattle.ics_series.specs.RuleStarts.{bound_of, found, steps_left};
-    ghost use Rattle.ics_series.specs.Zones.{IsOwnEvent};
+    ghost use Rattle.ics_series.specs.FileZones.{IsOwnEvent};
 
     /// The starts by the locals from a given one on.
     pub(crate) fn new(

@@ -12,7 +12,7 @@ ghost use Rattle.ics_series.specs.Rising.{Rises};
 ghost use Rattle.ics_series.specs.RuleFeed.{starts_left};
 ghost use Rattle.ics_series.specs.SeriesLaws.{known-prop, own-rule-prop, ruled-prop, taken-out-prop};
 ghost use Rattle.ics_series.specs.SeriesStarts.{earlier_of, first_asked, first_of, given_of, is_among, left, listed_apart, rule_asked, rule_left, AreKnown, HasOwnRule, HasRuled, HasSameRule, IsReady, IsRuleFrom};
-ghost use Rattle.ics_series.specs.Zones.{clocks_in, IsOwnEvent};
+ghost use Rattle.ics_series.specs.FileZones.{clocks_in, IsOwnEvent};
 
 use crate::exclusion::Exclusions;
 use crate::feed::{Coming, Feed};

@@ -2,12 +2,12 @@
 ghost use Rattle.std.specs.Prelude.{◌≡◌, ◌<ℤ◌, pos};
 ghost use Rattle.ics_series.specs.Clocks.{instant};
 ghost use Rattle.ics_series.specs.EventLaws.{own-event-prop};
-ghost use Rattle.ics_series.specs.Zones.{clocks_in, IsOwnEvent};
+ghost use Rattle.ics_series.specs.FileZones.{clocks_in, IsOwnEvent};
 
 use crate::finish::finish;
 use crate::instant::instant;
 use crate::occurrence::Occurrence;
-use crate::start::{Giver, Start, local_of};
+use crate::start::{StartSource, Start, local_of};
 use crate::window::Window;
 use crate::zones::FileZones;
 use ics_calendar::{Event, Rdate};
@@ -80,7 +80,7 @@ impl<'a> Single<'a> {
         let event = self.event;
         Start {
             moment: self.start,
-            giver: Giver::Kept(local_of(event.start.stamp)),
+            source: StartSource::Kept(local_of(event.start.stamp)),
             given: Rdate::At(event.start),
         }
     }

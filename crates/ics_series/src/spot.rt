@@ -15,9 +15,9 @@ pub(crate) struct Spot {
 
 impl Spot {
     ghost use Rattle.ics_series.specs.Clocks.{display_clock};
-    ghost use Rattle.ics_series.specs.Placed.{clocks_at, zones_in};
+    ghost use Rattle.ics_series.specs.PlacedEvents.{clocks_at, zones_in};
     ghost use Rattle.ics_series.specs.Spots.{event_at};
-    ghost use Rattle.ics_series.specs.Zones.{clocks_in};
+    ghost use Rattle.ics_series.specs.FileZones.{clocks_in};
     ghost use Rattle.ics_zone.specs.ZoneSaid.{zone_said};
 
     // The event at this place.

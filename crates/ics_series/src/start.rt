@@ -1,7 +1,7 @@
 //! The starts of an event and what gives them.
 ghost use Rattle.std.specs.Prelude.{◌≡◌};
-ghost use Rattle.ics_series.specs.Found.{giver_cmp};
-ghost use Rattle.ics_series.specs.Starts.{date_of, kind_of, local_of, time_at, time_of};
+ghost use Rattle.ics_series.specs.Found.{source_cmp};
+ghost use Rattle.ics_series.specs.Starts.{date_only, kind_of, local_of, time_at, time_of};
 
 use ics_calendar::{Rdate, Time};
 use ics_rule::Kind;
@@ -11,7 +11,7 @@ use std::cmp::Ordering;
 /// What gives an event a start: a local, which is that of DTSTART or kept by the rule, or the value of
 /// an RDATE, by its place among them.
 #[derive(Clone, Copy, Debug, PartialEq, Eq)]
-pub(crate) enum Giver {
+pub(crate) enum StartSource {
     Kept(Local),
     Listed(usize),
 }
@@ -20,7 +20,7 @@ pub(crate) enum Giver {
 #[derive(Clone, Copy, Debug, PartialEq, Eq)]
 pub(crate) struct Start {
     pub(crate) moment: Moment,
-    pub(crate) giver: Giver,
+    pub(crate) source: StartSource,
     pub(crate) given: Rdate,
 }
 
@@ -32,21 +32,21 @@ impl Start {
         ensures { result ≡ start_cmp a.now b.now }
     {
         match a.moment.cmp(&b.moment) {
-            Ordering::Equal => compare_givers(a.giver, b.giver),
+            Ordering::Equal => compare_sources(a.source, b.source),
             order => order,
         }
     }
 }
 
 // Locals come first, in their order, and then RDATEs in the order of the file.
-fn compare_givers(a: Giver, b: Giver) -> Ordering
-    ensures { result ≡ giver_cmp a b }
+fn compare_sources(a: StartSource, b: StartSource) -> Ordering
+    ensures { result ≡ source_cmp a b }
 {
     match (a, b) {
-        (Giver::Kept(a), Giver::Kept(b)) => a.cmp(&b),
-        (Giver::Kept(_), Giver::Listed(_)) => Ordering::Less,
-        (Giver::Listed(_), Giver::Kept(_)) => Ordering::Greater,
-        (Giver::Listed(a), Giver::Listed(b)) => a.cmp(&b),
+        (StartSource::Kept(a), StartSource::Kept(b)) => a.cmp(&b),
+        (StartSource::Kept(_), StartSource::Listed(_)) => Ordering::Less,
+        (StartSource::Listed(_), StartSource::Kept(_)) => Ordering::Greater,
+        (StartSource::Listed(a), StartSource::Listed(b)) => a.cmp(&b),
     }
 }
 
@@ -61,7 +61,7 @@ pub(crate) fn time_of(rdate: Rdate) -> Time
 
 /// The date of a time.
 pub(crate) fn date_of(time: Time) -> Time
-    ensures { result ≡ date_of time }
+    ensures { result ≡ date_only time }
 {
     Time {
         stamp: Stamp::Date(local_of(time.stamp).day),

@@ -2,16 +2,16 @@
 ghost use Rattle.std.specs.Prelude.{◌≡◌, ◌≤◌, ◌<ℤ◌, ◌≤ℤ◌, ◌+ℤ◌, ◌-ℤ◌, pos, neg_ℤ, None, All, IfOk};
 ghost use Rattle.std.specs.Int.{int_max};
 ghost use Rattle.ics_values.specs.Days.{IsDayNumber};
-ghost use Rattle.ics_rule.specs.Locals.{number};
-ghost use Rattle.ics_series.specs.Clocks.{midnight, seconds_of};
-ghost use Rattle.ics_series.specs.Found.{earliest, firsts_after, is_at, is_span_met, is_until, start_at, IsStart};
+ghost use Rattle.ics_values.specs.Locals.{number, midnight, local_seconds};
+ghost use Rattle.ics_series.specs.Found.{earliest, firsts_after, is_at, is_span_met, start_at, IsStart};
+ghost use Rattle.ics_zone.specs.Observances.{is_until};
 ghost use Rattle.ics_series.specs.Starts.{time_at};
-ghost use Rattle.ics_series.specs.Zones.{clocks_in, IsOwnEvent, IsTimeOf};
+ghost use Rattle.ics_series.specs.FileZones.{clocks_in, IsOwnEvent, IsTimeOf};
 
 use crate::instant::instant;
 use crate::lasting::seconds_lasting;
 use crate::occurrence::Occurrence;
-use crate::start::{Giver, Start, time_at};
+use crate::start::{StartSource, Start, time_at};
 use crate::window::Window;
 use crate::zones::FileZones;
 use ics_calendar::{Event, Rdate};
@@ -28,7 +28,7 @@ pub(crate) fn start_at(zones: FileZones<'_>, event: &Event, local: Local) -> Sta
     let time = time_at(event.start, local);
     Start {
         moment: instant(zones, time),
-        giver: Giver::Kept(local),
+        source: StartSource::Kept(local),
         given: Rdate::At(time),
     }
 }
@@ -87,8 +87,8 @@ pub(crate) fn first_nearby(first: Local, earliest: Moment) -> Local
     requires late { neg_ℤ (pos 500_000_000_000) ≤ℤ earliest }
     requires early { earliest ≤ℤ pos 247_092_336_000 }
     ensures day { IsDayNumber result.day }
-    ensures late { int_max (seconds_of first) (earliest -ℤ pos 604_800) ≤ℤ seconds_of result }
-    ensures low { seconds_of result ≤ℤ int_max (seconds_of first) (earliest -ℤ pos 518_400) }
+    ensures late { int_max (local_seconds first) (earliest -ℤ pos 604_800) ≤ℤ local_seconds result }
+    ensures low { local_seconds result ≤ℤ int_max (local_seconds first) (earliest -ℤ pos 518_400) }
 {
     let day = earliest.div_euclid(DAY) - 6;
     if day <= i64::from(first.day) {

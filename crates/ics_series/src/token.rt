@@ -5,7 +5,7 @@ ghost use Rattle.std.specs.Int.{w64};
 ghost use Rattle.std.specs.String.{string_bytes};
 ghost use Rattle.hex.specs.declared.error.FromHexError.TheVariants.{OutOfMemory};
 ghost use Rattle.ics_series.specs.Entry.{key_rank};
-ghost use Rattle.ics_series.specs.Tokens.{fault_name, spelling, IsKey, IsToken};
+ghost use Rattle.ics_series.specs.Tokens.{token_fault_name, spelling, IsKey, IsToken};
 
 use crate::key::Key;
 use hex::FromHexError;
@@ -26,7 +26,7 @@ pub enum TokenFault {
 impl TokenFault {
     /// The name of the fault, as it is printed.
     pub fn name(&self) -> &'static str
-        ensures { result.now ≡ fault_name self.now }
+        ensures { result.now ≡ token_fault_name self.now }
     {
         match self {
             TokenFault::BadToken => "BadToken",

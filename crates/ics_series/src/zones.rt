@@ -2,7 +2,7 @@
 ghost use Rattle.std.specs.Prelude.{◌≡◌, IsSome};
 ghost use Rattle.ics_series.specs.Clocks.{clock_at, zone_clock};
 ghost use Rattle.ics_zone.specs.ZoneSaid.{zone_said};
-ghost use Rattle.ics_series.specs.Zones.{clocks_in, HasZoneIn};
+ghost use Rattle.ics_series.specs.FileZones.{clocks_in, HasZoneIn};
 
 use ics_calendar::Time;
 use ics_zone::{Display, Zone};

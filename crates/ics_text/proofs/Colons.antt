@@ -4,14 +4,14 @@ use Rattle.std.proofs.Common.{drop-cons}
 use Rattle.std.specs.Prelude.{option_map}
 use Rattle.std.specs.List.{prefix_len}
 use Rattle.ics_text.specs.Bytes.{is_name_byte}
-use Rattle.ics_text.specs.Places.{step, colon_from}
-use Rattle.ics_text.specs.declared.place.Place.{Place}
-use Rattle.ics_text.specs.declared.place.Place.TheVariants.{Start, InName}
-use Rattle.ics_text.specs.declared.place.Move.TheVariants.{On}
+use Rattle.ics_text.specs.ScanSteps.{step, colon_from}
+use Rattle.ics_text.specs.declared.scan_state.ScanState.{ScanState}
+use Rattle.ics_text.specs.declared.scan_state.ScanState.TheVariants.{Start, InName}
+use Rattle.ics_text.specs.declared.scan_state.Move.TheVariants.{On}
 
 -- a walk from a place that has come to byte i
-abbrev pub walked : List ℕ → Place → ℕ → Place → Type 0
-walked text from i place = colon_from text from ≡ option_map (λ n. n + i) (colon_from (drop i text) place)
+abbrev pub walked : List ℕ → ScanState → ℕ → ScanState → Type 0
+walked text from i state = colon_from text from ≡ option_map (λ n. n + i) (colon_from (drop i text) state)
 
 moved : (i : ℕ) (o : Option ℕ) → option_map (λ n. n + i) (option_map (λ n. n + 1) o) ≡ option_map (λ n. n + suc i) o
 moved i None = refl
@@ -25,8 +25,8 @@ unmoved : (o : Option ℕ) → o ≡ option_map (λ n. n + 0) o
 unmoved None = refl
 unmoved (Some n) = let e : n ≡ n + 0 = omega arith in ap Some e
 
-pub walked-on : (text : List ℕ) (from : Place) (i : ℕ) (place next : Place) → i < length text → walked text from i place → step place (get_or text i 0) ≡ On next → walked text from (i + 1) next
-walked-on text from i place next l w s =
+pub walked-on : (text : List ℕ) (from : ScanState) (i : ℕ) (state next : ScanState) → i < length text → walked text from i state → step state (get_or text i 0) ≡ On next → walked text from (i + 1) next
+walked-on text from i state next l w s =
     w ∙ rw (drop-cons text i 0, s, add-one i) (moved i (colon_from (drop (suc i) text) next))
 
 -- a walk within a name comes to its end

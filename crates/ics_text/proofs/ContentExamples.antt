@@ -1,7 +1,7 @@
 -- Worked cases of the content line, which the definitions compute.
 use Rattle.std.proofs.Common.{◌≡◌, ℕ, List, [], ◌∷◌, ◌++◌, Some, None, refl}
 use Rattle.std.specs.Prelude.{codes, Option}
-use Rattle.ics_text.specs.Contents.{Parts, content_of, param_of}
+use Rattle.ics_text.specs.ContentLines.{Parts, content_of, param_of}
 
 abbrev parts : List ℕ → List ℕ → List ℕ → Option Parts
 parts name params value = Some (record { name = name; params = params; value = value })

@@ -3,7 +3,7 @@ use Rattle.std.proofs.Common.{◌≡◌, ℕ, Bool, true, false, ◌==◌, List,
 use Rattle.std.specs.List.{AllByRecursion, list_all, take_while}
 use Rattle.std.proofs.lemmas.Bool.{and_parts}
 use Rattle.ics_text.specs.Bytes.{begins, is_name_byte, is_plain_byte}
-use Rattle.ics_text.specs.Contents.{Value, Param, value_text, IsValue, IsParam, IsParams, pieces, without_quotes, after_name}
+use Rattle.ics_text.specs.ContentLines.{Value, Param, value_text, IsValue, IsParam, IsParams, pieces, without_quotes, after_name}
 use Rattle.ics_text.proofs.BytesLemmas.{plain-no_sign}
 use Rattle.ics_text.proofs.Parameters.{others_text, text_of, pieces-params, pieces-values, without_quotes-value, name-part, values-part}
 

@@ -6,7 +6,7 @@ use Rattle.std.proofs.lemmas.Bool.{and_parts, and_right}
 use Rattle.std.proofs.Math.Seq.{take-append_seam, drop-append_seam}
 use Rattle.ics_text.specs.Bytes.{comma, equals, is_name_byte, is_quoted_byte, is_plain_byte}
 use Rattle.ics_text.specs.Unfolded.{onto_first}
-use Rattle.ics_text.specs.Contents.{Value, Param, value_text, params_text, IsValue, IsParam, IsParams, first_value, pieces, turned, without_quotes, after_name, first_of_text, value_among, param_of}
+use Rattle.ics_text.specs.ContentLines.{Value, Param, value_text, params_text, IsValue, IsParam, IsParams, first_value, pieces, turned, without_quotes, after_name, first_of_text, value_among, param_of}
 use Rattle.ics_text.proofs.BytesLemmas.{quoted-no_quote, plain-no_sign, name-no_quote, name-no_semicolon}
 use Rattle.ics_text.proofs.Parting.{prefix_len-front}
 

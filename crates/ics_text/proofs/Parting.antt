@@ -6,9 +6,9 @@ use Rattle.std.proofs.lemmas.Bool.{and_parts}
 use Rattle.std.proofs.lemmas.List.{take_rest, drop-drop}
 use Rattle.std.proofs.Math.Seq.{take-append_seam, drop-append_seam}
 use Rattle.ics_text.specs.Bytes.{is_name_byte}
-use Rattle.ics_text.specs.Contents.{Param, params_text, IsContent, Parts, cut_at}
-use Rattle.ics_text.specs.Places.{colon_from}
-use Rattle.ics_text.specs.declared.place.Place.TheVariants.{Start, InName}
+use Rattle.ics_text.specs.ContentLines.{Param, params_text, IsContent, Parts, cut_at}
+use Rattle.ics_text.specs.ScanSteps.{colon_from}
+use Rattle.ics_text.specs.declared.scan_state.ScanState.TheVariants.{Start, InName}
 use Rattle.ics_text.proofs.Colons.{over_name}
 use Rattle.ics_text.proofs.Spelled.{found, comes}
 

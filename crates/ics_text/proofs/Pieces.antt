@@ -5,7 +5,7 @@ use Rattle.std.proofs.lemmas.Bool.{eqb-true}
 use Rattle.std.proofs.lemmas.Bool.Decides.{eqb_tells}
 use Rattle.ics_text.specs.Unfolded.{onto_first}
 use Rattle.ics_text.specs.Bytes.{dquote}
-use Rattle.ics_text.specs.Contents.{pieces, turned}
+use Rattle.ics_text.specs.ContentLines.{pieces, turned}
 use Rattle.ics_text.specs.Pieces.{cut_from, pieces_by}
 
 onto-by : (sep b : ℕ) (bs : List ℕ) (o : Option ℕ) → onto_first b (pieces_by sep bs o) ≡ pieces_by sep (b ∷ bs) (option_map (λ n. n + 1) o)

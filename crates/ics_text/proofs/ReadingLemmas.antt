@@ -1,9 +1,9 @@
 -- What the reader of a content line computes is what its grammar relates.
 use Rattle.std.proofs.Common.{◌≡◌, refl, List, ℕ, Option, Some, None, sym, ap, ◌∙◌, subst}
 use Rattle.std.specs.Prelude.{◌↔◌, option_map}
-use Rattle.ics_text.specs.Contents.{Parts, IsContent, cut_at, content_of}
-use Rattle.ics_text.specs.Places.{colon_from}
-use Rattle.ics_text.specs.declared.place.Place.TheVariants.{Start}
+use Rattle.ics_text.specs.ContentLines.{Parts, IsContent, cut_at, content_of}
+use Rattle.ics_text.specs.ScanSteps.{colon_from}
+use Rattle.ics_text.specs.declared.scan_state.ScanState.TheVariants.{Start}
 use Rattle.ics_text.proofs.Parting.{is_content, same_parts, refuses}
 
 computed : (line : List ℕ) (parts : Parts) (k : Option ℕ) → k ≡ colon_from line Start →

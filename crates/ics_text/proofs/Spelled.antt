@@ -4,12 +4,12 @@ use Rattle.std.specs.Prelude.{option_map, if◌then◌else◌}
 use Rattle.std.specs.List.{flat_map, AllByRecursion, list_all}
 use Rattle.std.proofs.lemmas.Bool.{eqb-true, and_parts}
 use Rattle.ics_text.specs.Bytes.{comma, is_name_byte, is_quoted_byte, is_plain_byte}
-use Rattle.ics_text.specs.Contents.{Value as Parameter, Param, value_text, params_text, IsName, IsValue, IsParam}
-use Rattle.ics_text.specs.Places.{step, counted, colon_from, ends_value, in_value}
-use Rattle.ics_text.specs.declared.place.Place.{Place}
-use Rattle.ics_text.specs.declared.place.Place.TheVariants.{Start, InName, BeforeParam, InParam, BeforeValue, InPlain, InQuotes, AfterQuotes}
-use Rattle.ics_text.specs.declared.place.Move.{Move}
-use Rattle.ics_text.specs.declared.place.Move.TheVariants.{On, Value, Refused}
+use Rattle.ics_text.specs.ContentLines.{Value as Parameter, Param, value_text, params_text, IsName, IsValue, IsParam}
+use Rattle.ics_text.specs.ScanSteps.{step, counted, colon_from, ends_value, in_value}
+use Rattle.ics_text.specs.declared.scan_state.ScanState.{ScanState}
+use Rattle.ics_text.specs.declared.scan_state.ScanState.TheVariants.{Start, InName, BeforeParam, InParam, BeforeValue, InPlain, InQuotes, AfterQuotes}
+use Rattle.ics_text.specs.declared.scan_state.Move.{Move}
+use Rattle.ics_text.specs.declared.scan_state.Move.TheVariants.{On, Value, Refused}
 use Rattle.ics_text.proofs.BytesLemmas.{quoted-no_quote, plain-no_sign}
 
 -- what may follow a value: more values, and then parameters
@@ -27,17 +27,17 @@ pub params-param : (p : Param) (ps : List Param) → params_text (p ∷ ps) ≡ 
 params-param p ps = simp append_assoc
 
 -- a text leads from a place to the colon behind it
-abbrev pub Comes : Place → List ℕ → List ℕ → Type 0
-Comes place rest text = colon_from (text ++ 58 ∷ rest) place ≡ Some (length text)
+abbrev pub Comes : ScanState → List ℕ → List ℕ → Type 0
+Comes state rest text = colon_from (text ++ 58 ∷ rest) state ≡ Some (length text)
 
-next : (place q : Place) (b : ℕ) (rest text : List ℕ) → step place b ≡ On q → Comes q rest text → Comes place rest (b ∷ text)
-next place q b rest text s c = rw (s, c, add-one) refl
+next : (state q : ScanState) (b : ℕ) (rest text : List ℕ) → step state b ≡ On q → Comes q rest text → Comes state rest (b ∷ text)
+next state q b rest text s c = rw (s, c, add-one) refl
 
-run : (p : ℕ → Bool) (place : Place) (stays : (b : ℕ) → p b ≡ true → step place b ≡ On place) (bs rest text : List ℕ) → list_all p bs ≡ true → Comes place rest text → Comes place rest (bs ++ text)
-run p place stays [] rest text h c = c
-run p place stays (b ∷ bs) rest text h c =
+run : (p : ℕ → Bool) (state : ScanState) (stays : (b : ℕ) → p b ≡ true → step state b ≡ On state) (bs rest text : List ℕ) → list_all p bs ≡ true → Comes state rest text → Comes state rest (bs ++ text)
+run p state stays [] rest text h c = c
+run p state stays (b ∷ bs) rest text h c =
     let parts = and_parts (p b) (list_all p bs) h in
-    next place place b rest (bs ++ text) (stays b parts.0) (run p place stays bs rest text parts.1 c)
+    next state state b rest (bs ++ text) (stays b parts.0) (run p state stays bs rest text parts.1 c)
 
 stays-name : (b : ℕ) → is_name_byte b ≡ true → step InName b ≡ On InName
 stays-name b h = rw h refl
@@ -116,7 +116,7 @@ pub record Tail : Type 0 where
   pub vs : List Parameter
   pub ps : List Param
 
-abbrev pub tail_text : Place → Tail → List ℕ
+abbrev pub tail_text : ScanState → Tail → List ℕ
 tail_text Start t = t.bytes ++ params_text t.ps
 tail_text InName t = t.bytes ++ params_text t.ps
 tail_text BeforeParam t = body t.bytes t.first t.vs t.ps
@@ -130,7 +130,7 @@ pub record Rest (vs : List Parameter) (ps : List Param) : Type 0 where
   pub values : AllByRecursion IsValue vs
   pub params : AllByRecursion IsParam ps
 
-abbrev pub TailOk : Place → Tail → Type 0
+abbrev pub TailOk : ScanState → Tail → Type 0
 TailOk Start t = IsName t.bytes × AllByRecursion IsParam t.ps
 TailOk InName t = (list_all is_name_byte t.bytes ≡ true) × AllByRecursion IsParam t.ps
 TailOk BeforeParam t = IsName t.bytes × IsValue t.first × Rest t.vs t.ps
@@ -141,8 +141,8 @@ TailOk InQuotes t = (list_all is_quoted_byte t.bytes ≡ true) × Rest t.vs t.ps
 TailOk AfterQuotes t = Rest t.vs t.ps
 
 -- a text of one place, with a byte in front of it, is a text of the place before
-abbrev pub Back : Place → ℕ → Tail → Place → Type 0
-Back place b t q = TailOk q t → (u : Tail) × TailOk place u × (tail_text place u ≡ b ∷ tail_text q t)
+abbrev pub Back : ScanState → ℕ → Tail → ScanState → Type 0
+Back state b t q = TailOk q t → (u : Tail) × TailOk state u × (tail_text state u ≡ b ∷ tail_text q t)
 
 none : Parameter
 none = record { quoted = false; bytes = [] }
@@ -153,7 +153,7 @@ nonempty b bs h = cc
 all-cons : (p : ℕ → Bool) (b : ℕ) (bs : List ℕ) → p b ≡ true → list_all p bs ≡ true → list_all p (b ∷ bs) ≡ true
 all-cons p b bs h k = rw (h, k) refl
 
-by_test : {P : Type 0} (b : Bool) (x y : Move) (q : Place) → (if b then x else y) ≡ On q → (b ≡ true → x ≡ On q → P) → (b ≡ false → y ≡ On q → P) → P
+by_test : {P : Type 0} (b : Bool) (x y : Move) (q : ScanState) → (if b then x else y) ≡ On q → (b ≡ true → x ≡ On q → P) → (b ≡ false → y ≡ On q → P) → P
 by_test true x y q e f g = f refl e
 by_test false x y q e f g = g refl e
 
@@ -161,16 +161,16 @@ for_value : {P : Type 0} (b : Bool) (x y : Move) → (if b then x else y) ≡ Va
 for_value true x y e f g = f refl e
 for_value false x y e f g = g refl e
 
-onto : (p q : Place) → On p ≡ On q → p ≡ q
+onto : (p q : ScanState) → On p ≡ On q → p ≡ q
 onto p q e = cc
 
-refused : (q : Place) → Refused ≡ On q → ⊥
+refused : (q : ScanState) → Refused ≡ On q → ⊥
 refused q e = cc
 
-no_value : (q : Place) → Value ≡ On q → ⊥
+no_value : (q : ScanState) → Value ≡ On q → ⊥
 no_value q e = cc
 
-back-Start : (b : ℕ) (q : Place) (t : Tail) → step Start b ≡ On q → Back Start b t q
+back-Start : (b : ℕ) (q : ScanState) (t : Tail) → step Start b ≡ On q → Back Start b t q
 back-Start b q t s = by_test (is_name_byte b) (On InName) Refused q s
     (λ h e. subst (Back Start b t) (onto InName q e) (λ ok. (record t { bytes = b ∷ t.bytes }, (record { some = nonempty b t.bytes; bytes = all-cons is_name_byte b t.bytes h ok.0 }, ok.1), refl)))
     (λ h e. absurd (refused q e))
@@ -185,7 +185,7 @@ begun-ok t ok = (record { name = ok.0; first = ok.1; others = ok.2.values }, ok.
 begun-text : (b : ℕ) (t : Tail) → b ≡ 59 → params_text (begun t ∷ t.ps) ≡ b ∷ tail_text BeforeParam t
 begun-text b t e = params-param (begun t) t.ps ∙ ap (λ c. c ∷ tail_text BeforeParam t) (sym e)
 
-back-InName : (b : ℕ) (q : Place) (t : Tail) → step InName b ≡ On q → Back InName b t q
+back-InName : (b : ℕ) (q : ScanState) (t : Tail) → step InName b ≡ On q → Back InName b t q
 back-InName b q t s = by_test (is_name_byte b) (On InName) _ q s
     (λ h e. subst (Back InName b t) (onto InName q e) (λ ok. (record t { bytes = b ∷ t.bytes }, (all-cons is_name_byte b t.bytes h ok.0, ok.1), refl)))
     (λ h e. by_test (b == 59) (On BeforeParam) (if b == 58 then Value else Refused) q e
@@ -193,13 +193,13 @@ back-InName b q t s = by_test (is_name_byte b) (On InName) _ q s
     (record { bytes = []; first = none; vs = []; ps = begun t ∷ t.ps }, (refl, begun-ok t ok), begun-text b t (eqb-true b 59 k))))
     (λ k e. by_test (b == 58) Value Refused q e (λ m e. absurd (no_value q e)) (λ m e. absurd (refused q e))))
 
-back-BeforeParam : (b : ℕ) (q : Place) (t : Tail) → step BeforeParam b ≡ On q → Back BeforeParam b t q
+back-BeforeParam : (b : ℕ) (q : ScanState) (t : Tail) → step BeforeParam b ≡ On q → Back BeforeParam b t q
 back-BeforeParam b q t s = by_test (is_name_byte b) (On InParam) Refused q s
     (λ h e. subst (Back BeforeParam b t) (onto InParam q e) (λ ok.
     (record t { bytes = b ∷ t.bytes }, (record { some = nonempty b t.bytes; bytes = all-cons is_name_byte b t.bytes h ok.0 }, ok.1, ok.2), refl)))
     (λ h e. absurd (refused q e))
 
-back-InParam : (b : ℕ) (q : Place) (t : Tail) → step InParam b ≡ On q → Back InParam b t q
+back-InParam : (b : ℕ) (q : ScanState) (t : Tail) → step InParam b ≡ On q → Back InParam b t q
 back-InParam b q t s = by_test (is_name_byte b) (On InParam) (if b == 61 then On BeforeValue else Refused) q s
     (λ h e. subst (Back InParam b t) (onto InParam q e) (λ ok. (record t { bytes = b ∷ t.bytes }, (all-cons is_name_byte b t.bytes h ok.0, ok.1, ok.2), refl)))
     (λ h e. by_test (b == 61) (On BeforeValue) Refused q e
@@ -208,10 +208,10 @@ back-InParam b q t s = by_test (is_name_byte b) (On InParam) (if b == 61 then On
     (λ k e. absurd (refused q e)))
 
 -- a byte that ends a value
-Ends : ℕ → Tail → Place → Type 0
+Ends : ℕ → Tail → ScanState → Type 0
 Ends b t q = TailOk q t → (vs : List Parameter) × (ps : List Param) × AllByRecursion IsValue vs × AllByRecursion IsParam ps × (more vs ps ≡ b ∷ tail_text q t)
 
-back-ends : (b : ℕ) (q : Place) (t : Tail) → ends_value b ≡ On q → Ends b t q
+back-ends : (b : ℕ) (q : ScanState) (t : Tail) → ends_value b ≡ On q → Ends b t q
 unfolding Ends
 back-ends b q t s = by_test (b == 44) (On BeforeValue) _ q s
     (λ h e. subst (λ q. Ends b t q) (onto BeforeValue q e) (λ ok.
@@ -220,13 +220,13 @@ back-ends b q t s = by_test (b == 44) (On BeforeValue) _ q s
     (λ k e. subst (λ q. Ends b t q) (onto BeforeParam q e) (λ ok. ([], begun t ∷ t.ps, tt, begun-ok t ok, begun-text b t (eqb-true b 59 k))))
     (λ k e. by_test (b == 58) Value Refused q e (λ m e. absurd (no_value q e)) (λ m e. absurd (refused q e))))
 
-back-AfterQuotes : (b : ℕ) (q : Place) (t : Tail) → step AfterQuotes b ≡ On q → Back AfterQuotes b t q
+back-AfterQuotes : (b : ℕ) (q : ScanState) (t : Tail) → step AfterQuotes b ≡ On q → Back AfterQuotes b t q
 unfolding Ends
 back-AfterQuotes b q t s = λ ok.
     let (vs, ps, hv, hp, e) = back-ends b q t s ok in
     (record { bytes = []; first = none; vs = vs; ps = ps }, record { values = hv; params = hp }, e)
 
-back-InPlain : (b : ℕ) (q : Place) (t : Tail) → step InPlain b ≡ On q → Back InPlain b t q
+back-InPlain : (b : ℕ) (q : ScanState) (t : Tail) → step InPlain b ≡ On q → Back InPlain b t q
 unfolding Ends
 back-InPlain b q t s = by_test (is_plain_byte b) (On InPlain) (ends_value b) q s
     (λ h e. subst (Back InPlain b t) (onto InPlain q e) (λ ok. (record t { bytes = b ∷ t.bytes }, (all-cons is_plain_byte b t.bytes h ok.0, ok.1), refl)))
@@ -234,7 +234,7 @@ back-InPlain b q t s = by_test (is_plain_byte b) (On InPlain) (ends_value b) q s
     let (vs, ps, hv, hp, same) = back-ends b q t e ok in
     (record { bytes = []; first = none; vs = vs; ps = ps }, (refl, record { values = hv; params = hp }), same))
 
-back-BeforeValue : (b : ℕ) (q : Place) (t : Tail) → step BeforeValue b ≡ On q → Back BeforeValue b t q
+back-BeforeValue : (b : ℕ) (q : ScanState) (t : Tail) → step BeforeValue b ≡ On q → Back BeforeValue b t q
 unfolding Ends none
 back-BeforeValue b q t s = by_test (b == 34) (On InQuotes) (in_value b) q s
     (λ h e. subst (Back BeforeValue b t) (onto InQuotes q e) (λ ok.
@@ -246,14 +246,14 @@ back-BeforeValue b q t s = by_test (b == 34) (On InQuotes) (in_value b) q s
     let (vs, ps, hv, hp, same) = back-ends b q t e ok in
     (record { bytes = []; first = none; vs = vs; ps = ps }, (refl, record { values = hv; params = hp }), same)))
 
-back-InQuotes : (b : ℕ) (q : Place) (t : Tail) → step InQuotes b ≡ On q → Back InQuotes b t q
+back-InQuotes : (b : ℕ) (q : ScanState) (t : Tail) → step InQuotes b ≡ On q → Back InQuotes b t q
 back-InQuotes b q t s = by_test (b == 34) (On AfterQuotes) _ q s
     (λ h e. subst (Back InQuotes b t) (onto AfterQuotes q e) (λ ok. (record t { bytes = [] }, (refl, ok), ap (λ c. c ∷ tail_text AfterQuotes t) (sym (eqb-true b 34 h)))))
     (λ h e. by_test (is_quoted_byte b) (On InQuotes) Refused q e
     (λ k e. subst (Back InQuotes b t) (onto InQuotes q e) (λ ok. (record t { bytes = b ∷ t.bytes }, (all-cons is_quoted_byte b t.bytes k ok.0, ok.1), refl)))
     (λ k e. absurd (refused q e)))
 
-back : (place : Place) (b : ℕ) (q : Place) (t : Tail) → step place b ≡ On q → Back place b t q
+back : (state : ScanState) (b : ℕ) (q : ScanState) (t : Tail) → step state b ≡ On q → Back state b t q
 back Start = back-Start
 back InName = back-InName
 back BeforeParam = back-BeforeParam
@@ -264,10 +264,10 @@ back InQuotes = back-InQuotes
 back AfterQuotes = back-AfterQuotes
 
 -- where the byte is the colon before the value, nothing may be missing
-Stops : Place → ℕ → Type 0
-Stops place b = (b ≡ 58) × ((t : Tail) × TailOk place t × (tail_text place t ≡ []))
+Stops : ScanState → ℕ → Type 0
+Stops state b = (b ≡ 58) × ((t : Tail) × TailOk state t × (tail_text state t ≡ []))
 
-on_no : (q : Place) → On q ≡ Value → ⊥
+on_no : (q : ScanState) → On q ≡ Value → ⊥
 on_no q e = cc
 
 refused_no : Refused ≡ Value → ⊥
@@ -289,7 +289,7 @@ nothing = record { bytes = []; first = none; vs = []; ps = [] }
 no_rest : Rest [] []
 no_rest = record { values = tt; params = tt }
 
-stop : (place : Place) (b : ℕ) → step place b ≡ Value → Stops place b
+stop : (state : ScanState) (b : ℕ) → step state b ≡ Value → Stops state b
 unfolding Stops nothing none
 stop Start b s = for_value (is_name_byte b) (On InName) Refused s (λ h e. absurd (on_no InName e)) (λ h e. absurd (refused_no e))
 stop InName b s = for_value (is_name_byte b) (On InName) (if b == 59 then On BeforeParam else if b == 58 then Value else Refused) s
@@ -308,19 +308,19 @@ stop InQuotes b s = for_value (b == 34) (On AfterQuotes) (if is_quoted_byte b th
     (λ h e. for_value (is_quoted_byte b) (On InQuotes) Refused e (λ k e. absurd (on_no InQuotes e)) (λ k e. absurd (refused_no e)))
 stop AfterQuotes b s = (ends-colon b s, (nothing, no_rest, refl))
 
-pub record Found (place : Place) (bs : List ℕ) (k : ℕ) : Type 0 where
+pub record Found (state : ScanState) (bs : List ℕ) (k : ℕ) : Type 0 where
   pub tail : Tail
   pub behind : List ℕ
-  pub ok : TailOk place tail
-  pub text : bs ≡ tail_text place tail ++ 58 ∷ behind
-  pub count : k ≡ length (tail_text place tail)
+  pub ok : TailOk state tail
+  pub text : bs ≡ tail_text state tail ++ 58 ∷ behind
+  pub count : k ≡ length (tail_text state tail)
 
-came : (place : Place) (b : ℕ) (bs : List ℕ) (k : ℕ) (q : Place) (o : Option ℕ) → step place b ≡ On q → colon_from bs q ≡ o → option_map (λ n. n + 1) o ≡ Some k →
-    ((j : ℕ) → colon_from bs q ≡ Some j → Found q bs j) → Found place (b ∷ bs) k
-came place b bs k q None s c e ih = cc
-came place b bs k q (Some j) s c e ih =
+came : (state : ScanState) (b : ℕ) (bs : List ℕ) (k : ℕ) (q : ScanState) (o : Option ℕ) → step state b ≡ On q → colon_from bs q ≡ o → option_map (λ n. n + 1) o ≡ Some k →
+    ((j : ℕ) → colon_from bs q ≡ Some j → Found q bs j) → Found state (b ∷ bs) k
+came state b bs k q None s c e ih = cc
+came state b bs k q (Some j) s c e ih =
     let f = ih j c in
-    let (u, ok, text) = back place b q f.tail s f.ok in
+    let (u, ok, text) = back state b q f.tail s f.ok in
     let count : j + 1 ≡ k = cc in
     record {
       tail = u;
@@ -330,17 +330,17 @@ came place b bs k q (Some j) s c e ih =
       count = sym count ∙ add-one j ∙ ap suc f.count ∙ ap length (sym text);
     }
 
-went : (place : Place) (b : ℕ) (bs : List ℕ) (k : ℕ) (m : Move) → step place b ≡ m → counted m (colon_from bs) ≡ Some k →
-    ((q : Place) (j : ℕ) → colon_from bs q ≡ Some j → Found q bs j) → Found place (b ∷ bs) k
+went : (state : ScanState) (b : ℕ) (bs : List ℕ) (k : ℕ) (m : Move) → step state b ≡ m → counted m (colon_from bs) ≡ Some k →
+    ((q : ScanState) (j : ℕ) → colon_from bs q ≡ Some j → Found q bs j) → Found state (b ∷ bs) k
 unfolding Stops
-went place b bs k (On q) s e ih = came place b bs k q (colon_from bs q) s refl e (ih q)
-went place b bs k Value s e ih =
-    let (colon, (t, ok, text)) = stop place b s in
+went state b bs k (On q) s e ih = came state b bs k q (colon_from bs q) s refl e (ih q)
+went state b bs k Value s e ih =
+    let (colon, (t, ok, text)) = stop state b s in
     let zero_is : 0 ≡ k = cc in
     record { tail = t; behind = bs; ok = ok; text = ap (λ c. c ∷ bs) colon ∙ ap (λ r. r ++ 58 ∷ bs) (sym text); count = sym zero_is ∙ ap length (sym text) }
-went place b bs k Refused s e ih = cc
+went state b bs k Refused s e ih = cc
 
 -- what leads to its colon is spelled so
-pub found : (bs : List ℕ) (place : Place) (k : ℕ) → colon_from bs place ≡ Some k → Found place bs k
-found [] place k e = cc
-found (b ∷ bs) place k e = went place b bs k (step place b) refl e (found bs)
+pub found : (bs : List ℕ) (state : ScanState) (k : ℕ) → colon_from bs state ≡ Some k → Found state bs k
+found [] state k e = cc
+found (b ∷ bs) state k e = went state b bs k (step state b) refl e (found bs)

@@ -1,6 +1,6 @@
 -- Where a piece between separators ends (RFC 5545, section 3.1).
 use Rattle.std.specs.Prelude.{ℕ, ◌+◌, Bool, false, ◌&&◌, not, ◌==◌, List, [], ◌∷◌, take, drop, Option, Some, None, option_map, if◌then◌else◌}
-use Rattle.ics_text.specs.Contents.{pieces, turned}
+use Rattle.ics_text.specs.ContentLines.{pieces, turned}
 
 -- the position of the first separator outside quotes
 abbrev pub cut_from : ℕ → Bool → List ℕ → Option ℕ

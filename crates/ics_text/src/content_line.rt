@@ -1,12 +1,12 @@
 ghost use Rattle.std.specs.Prelude.{◌≡◌, ℕ, List, ◌<◌, length, IfOk, IfSome, OnErr};
 ghost use Rattle.std.specs.Result.{result_ok};
-ghost use Rattle.ics_text.specs.Places.{colon_from};
-ghost use Rattle.ics_text.specs.Contents.{IsContent, content_of};
+ghost use Rattle.ics_text.specs.ScanSteps.{colon_from};
+ghost use Rattle.ics_text.specs.ContentLines.{IsContent, content_of};
 
 use crate::bytes::name_len;
 use crate::fault::BadLine;
 use crate::parts::Content;
-use crate::place::{Move, Place, step};
+use crate::scan_state::{Move, ScanState, step};
 
 /// The name, the parameters and the value of an unfolded line (RFC 5545, section 3.1). `BadLine` if it is not a content line.
 pub fn content<'a>(line: &'a [u8]) -> Result<Content<'a>, BadLine>
@@ -34,13 +34,13 @@ pub fn content<'a>(line: &'a [u8]) -> Result<Content<'a>, BadLine>
 
 /// The position of the colon before the value, in the text after the name.
 fn colon_of(text: &[u8]) -> Option<usize>
-    ensures value { result ≡ colon_from text.now Place.InName }
+    ensures value { result ≡ colon_from text.now ScanState.InName }
     ensures within { IfSome result (λ k. k < length text.now) }
 {
-    let mut place = Place::InName;
+    let mut state = ScanState::InName;
     for (i, b) in text.iter().enumerate() {
-        match step(place, *b) {
-            Move::On(next) => place = next,
+        match step(state, *b) {
+            Move::On(next) => state = next,
             Move::Value => return Some(i),
             Move::Refused => return None,
         }

@@ -1,7 +1,7 @@
 ghost use Rattle.std.specs.Prelude.{◌≡◌, ℕ, List, ◌+◌, length};
 ghost use Rattle.std.specs.Prelude.{◌↔◌, Some};
 ghost use Rattle.std.specs.List.{AllByRecursion, flat_map};
-ghost use Rattle.ics_text.specs.Contents.{Param, Parts, IsContent, IsParams, content_of, first_value, param_of};
+ghost use Rattle.ics_text.specs.ContentLines.{Param, Parts, IsContent, IsParams, content_of, first_value, param_of};
 ghost use Rattle.ics_text.specs.Folding.{Written, IsWritten, folded_lines, written_text};
 ghost use Rattle.ics_text.specs.Unfolded.{unfolded, without_mark, Rises, Within};
 

@@ -11,7 +11,7 @@ mod logical;
 mod param;
 mod parts;
 mod physical;
-mod place;
+mod scan_state;
 
 pub use content_line::content;
 pub use fault::{BadFold, BadLine};

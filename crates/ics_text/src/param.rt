@@ -3,7 +3,7 @@ ghost use Rattle.std.specs.List.{take_while};
 ghost use Rattle.std.specs.Option.{option_copied};
 ghost use Rattle.ics_text.specs.Bytes.{is_name_byte, same_name};
 ghost use Rattle.ics_text.specs.Pieces.{cut_from, pieces_behind};
-ghost use Rattle.ics_text.specs.Contents.{pieces, turned, without_quotes, after_name, first_of_text, param_of};
+ghost use Rattle.ics_text.specs.ContentLines.{pieces, turned, without_quotes, after_name, first_of_text, param_of};
 
 use crate::bytes::{name_len, without_first};
 

@@ -1,6 +1,6 @@
 ghost use Rattle.std.specs.Prelude.{◌≡◌, List};
 ghost use Rattle.std.specs.Option.{option_copied};
-ghost use Rattle.ics_text.specs.Contents.{Param, IsParams, first_value, param_of};
+ghost use Rattle.ics_text.specs.ContentLines.{Param, IsParams, first_value, param_of};
 
 use crate::param::param_of;
 use std::marker::Model;
@@ -14,7 +14,7 @@ pub struct Content<'a> {
 }
 
 impl<'a> Model for Content<'a> {
-    ghost use Rattle.ics_text.specs.Contents.{Parts};
+    ghost use Rattle.ics_text.specs.ContentLines.{Parts};
 
     ghost Value = { Parts };
 

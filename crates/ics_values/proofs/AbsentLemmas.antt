@@ -7,19 +7,19 @@ use Rattle.std.proofs.lemmas.Bool.{and_parts, and_from, false≢true}
 use Rattle.std.proofs.lemmas.List.Splits.{length-slice_split}
 use Rattle.jiff_core.specs.declared.civil.weekday.Weekday.{Weekday}
 use Rattle.jiff_core.specs.Weekday.{monday_zero}
-use Rattle.ics_values.specs.declared.places.Side.{Side}
-use Rattle.ics_values.specs.declared.places.Side.TheVariants.{Front, Back}
-use Rattle.ics_values.specs.declared.places.Places.{Places}
-use Rattle.ics_values.specs.declared.places.WidePlaces.{WidePlaces}
+use Rattle.ics_values.specs.declared.ordinals.Side.{Side}
+use Rattle.ics_values.specs.declared.ordinals.Side.TheVariants.{Front, Back}
+use Rattle.ics_values.specs.declared.ordinals.Ordinals.{Ordinals}
+use Rattle.ics_values.specs.declared.ordinals.WideOrdinals.{WideOrdinals}
 use Rattle.ics_values.specs.declared.frequency.Frequency.TheVariants.{Yearly}
 use Rattle.ics_values.specs.declared.part_name.ListName.{ListName}
 use Rattle.ics_values.specs.declared.part_name.ListName.TheVariants.{BySecond, ByMinute, ByHour, ByDay, ByMonthDay, ByYearDay, ByWeekNo, ByMonth, BySetPos}
 use Rattle.ics_values.specs.declared.part_name.PartName.TheVariants as part
 use Rattle.ics_values.specs.Digits.{number_of}
 use Rattle.ics_values.specs.Texts.{begins, is_minus, unsigned}
-use Rattle.ics_values.specs.Sets.{has, has_wide}
+use Rattle.ics_values.specs.Sets.{contains, contains_wide}
 use Rattle.ics_values.specs.Sets as sets
-use Rattle.ics_values.specs.Places.{no_places, lists_none, lists_none_wide, all_list_none, lists_no_weekday}
+use Rattle.ics_values.specs.Ordinals.{no_ordinals, lists_none, lists_none_wide, all_list_none, lists_no_weekday}
 use Rattle.ics_values.specs.RuleParts.{RuleParts, every}
 use Rattle.ics_values.specs.RuleTexts.{Part, pieces, has_part, none_twice, are_parts, is_part, fits_list, weekday_of, day_text, number_before}
 use Rattle.ics_values.specs.Rules.{rule_said}
@@ -28,25 +28,25 @@ use Rattle.ics_values.proofs.SaysLemmas.{Sets, part_said, sets_seconds, sets_min
 use Rattle.ics_values.proofs.RuleSays.{says, value_there, passes_day, items_fit, has_none}
 
 -- a set with a member is not empty
-not_none : (s n : ℕ) → has s n ≡ true → sets.is_none s ≡ false
-not_none s n h = by_test (sets.is_none s) refl
+not_none : (s n : ℕ) → contains s n ≡ true → sets.is_empty s ≡ false
+not_none s n h = by_test (sets.is_empty s) refl
   where
-    by_test : (t : Bool) → sets.is_none s ≡ t → t ≡ false
+    by_test : (t : Bool) → sets.is_empty s ≡ t → t ≡ false
     by_test false e = refl
-    by_test true e = absurd (false≢true (sym (has_none n) ∙ ap (λ x. has x n) (sym (eqb-true s 0 e)) ∙ h))
+    by_test true e = absurd (false≢true (sym (has_none n) ∙ ap (λ x. contains x n) (sym (eqb-true s 0 e)) ∙ h))
 
 -- words that are all empty have no member
-none_in_words : (ws : List ℕ) (k n : ℕ) → sets.is_none_wide ws ≡ true → has (get_or ws k 0) n ≡ false
+none_in_words : (ws : List ℕ) (k n : ℕ) → sets.is_empty_wide ws ≡ true → contains (get_or ws k 0) n ≡ false
 none_in_words [] k n h = has_none n
-none_in_words (w ∷ ws) zero n h = ap (λ x. has x n) (eqb-true w 0 (and_parts (sets.is_none w) (sets.is_none_wide ws) h).0) ∙ has_none n
-none_in_words (w ∷ ws) (suc k) n h = none_in_words ws k n (and_parts (sets.is_none w) (sets.is_none_wide ws) h).1
+none_in_words (w ∷ ws) zero n h = ap (λ x. contains x n) (eqb-true w 0 (and_parts (sets.is_empty w) (sets.is_empty_wide ws) h).0) ∙ has_none n
+none_in_words (w ∷ ws) (suc k) n h = none_in_words ws k n (and_parts (sets.is_empty w) (sets.is_empty_wide ws) h).1
 
-not_none_wide : (ws : List ℕ) (n : ℕ) → has_wide ws n ≡ true → sets.is_none_wide ws ≡ false
-not_none_wide ws n h = by_test (sets.is_none_wide ws) refl
+not_none_wide : (ws : List ℕ) (n : ℕ) → contains_wide ws n ≡ true → sets.is_empty_wide ws ≡ false
+not_none_wide ws n h = by_test (sets.is_empty_wide ws) refl
   where
-    by_test : (t : Bool) → sets.is_none_wide ws ≡ t → t ≡ false
+    by_test : (t : Bool) → sets.is_empty_wide ws ≡ t → t ≡ false
     by_test false e = refl
-    by_test true e = absurd (false≢true (sym (none_in_words ws (n / 64) (n % 64) e) ∙ (and_parts (nat_lt n 384) (has (get_or ws (n / 64) 0) (n % 64)) h).1))
+    by_test true e = absurd (false≢true (sym (none_in_words ws (n / 64) (n % 64) e) ∙ (and_parts (nat_lt n 384) (contains (get_or ws (n / 64) 0) (n % 64)) h).1))
 
 -- of two tests one fails
 fails_front : (a b : Bool) → a ≡ false → (a && b) ≡ false
@@ -56,19 +56,19 @@ fails_back : (a b : Bool) → b ≡ false → (a && b) ≡ false
 fails_back true b e = e
 fails_back false b e = refl
 
-not_none_place : (side : Side) (n : ℕ) (p : Places) → has_place side n p ≡ true → lists_none p ≡ false
-not_none_place Front n p h = fails_front (sets.is_none p.front) (sets.is_none p.back) (not_none p.front n h)
-not_none_place Back n p h = fails_back (sets.is_none p.front) (sets.is_none p.back) (not_none p.back n h)
+not_none_place : (side : Side) (n : ℕ) (p : Ordinals) → has_place side n p ≡ true → lists_none p ≡ false
+not_none_place Front n p h = fails_front (sets.is_empty p.front) (sets.is_empty p.back) (not_none p.front n h)
+not_none_place Back n p h = fails_back (sets.is_empty p.front) (sets.is_empty p.back) (not_none p.back n h)
 
-not_none_wide_place : (side : Side) (n : ℕ) (p : WidePlaces) → has_wide_place side n p ≡ true → lists_none_wide p ≡ false
-not_none_wide_place Front n p h = fails_front (sets.is_none_wide p.front) (sets.is_none_wide p.back) (not_none_wide p.front n h)
-not_none_wide_place Back n p h = fails_back (sets.is_none_wide p.front) (sets.is_none_wide p.back) (not_none_wide p.back n h)
+not_none_wide_place : (side : Side) (n : ℕ) (p : WideOrdinals) → has_wide_place side n p ≡ true → lists_none_wide p ≡ false
+not_none_wide_place Front n p h = fails_front (sets.is_empty_wide p.front) (sets.is_empty_wide p.back) (not_none_wide p.front n h)
+not_none_wide_place Back n p h = fails_back (sets.is_empty_wide p.front) (sets.is_empty_wide p.back) (not_none_wide p.back n h)
 
-none_here : (side : Side) (n : ℕ) → has_place side n no_places ≡ false
+none_here : (side : Side) (n : ℕ) → has_place side n no_ordinals ≡ false
 none_here Front n = has_none n
 none_here Back n = has_none n
 
-not_all_none : (ps : List Places) (k : ℕ) (side : Side) (n : ℕ) → has_place side n (get_or ps k no_places) ≡ true → all_list_none ps ≡ false
+not_all_none : (ps : List Ordinals) (k : ℕ) (side : Side) (n : ℕ) → has_place side n (get_or ps k no_ordinals) ≡ true → all_list_none ps ≡ false
 not_all_none [] k side n h = absurd (false≢true (sym (none_here side n) ∙ h))
 not_all_none (p ∷ ps) zero side n h = fails_front (lists_none p) (all_list_none ps) (not_none_place side n p h)
 not_all_none (p ∷ ps) (suc k) side n h = fails_back (lists_none p) (all_list_none ps) (not_all_none ps k side n h)
@@ -128,12 +128,12 @@ day_listed ps rule s i more e fit = by_day (weekday_of (day_text i)) refl (and_p
   where
     by_length : (day : Weekday) (two : Bool) → weekday_of (day_text i) ≡ Some day → (length i == 2) ≡ two → lists_no_weekday rule.weekdays ≡ false
     by_length day true k l =
-        fails_front (sets.is_none rule.weekdays.plain) (all_list_none rule.weekdays.numbered)
+        fails_front (sets.is_empty rule.weekdays.plain) (all_list_none rule.weekdays.numbered)
         (not_none rule.weekdays.plain (monday_zero day) (s.weekdays day ∙ first_passes (is_weekday day) (items_of ByDay ps) i more e
         (and_from (is_day day (weekday_of (day_text i))) (length i == 2) (ap (is_day day) k ∙ is_day-self day) l)))
     by_length day false k l =
         let n = number_before i in
-        fails_back (sets.is_none rule.weekdays.plain) (all_list_none rule.weekdays.numbered)
+        fails_back (sets.is_empty rule.weekdays.plain) (all_list_none rule.weekdays.numbered)
         (not_all_none rule.weekdays.numbered (monday_zero day) (own_side n) (own_number n) (s.numbered day (own_side n) (own_number n)
         ∙ first_passes (is_numbered day (own_side n) (own_number n)) (items_of ByDay ps) i more e
         (ap₂ (λ x y. x && y) (ap₂ (λ x y. x && not y) (ap (is_day day) k ∙ is_day-self day) l) (own_place n))))
@@ -155,19 +155,19 @@ absent ps h list = by_list list
     s = says ps h
 
     numbers : (l : ListName) (read : RuleParts → ℕ) (step : ℕ → List ℕ → ℕ) → Sets (part.List l) read (λ v x. fold step x (pieces 44 v)) → read (every Yearly) ≡ 0 → (number : List ℕ → ℕ)
-        → ((n : ℕ) → has (read (rule_said ps)) n ≡ list_any (λ item. n == number item) (items_of l ps)) → sets.is_none (read (rule_said ps)) ≡ not (has_part (part.List l) ps)
+        → ((n : ℕ) → contains (read (rule_said ps)) n ≡ list_any (λ item. n == number item) (items_of l ps)) → sets.is_empty (read (rule_said ps)) ≡ not (has_part (part.List l) ps)
     numbers l read step set zeros number listed =
-        by_items l ps (sets.is_none (read (rule_said ps))) (λ none. ap sets.is_none (left l read step set ps parts.1 none ∙ zeros))
+        by_items l ps (sets.is_empty (read (rule_said ps))) (λ none. ap sets.is_empty (left l read step set ps parts.1 none ∙ zeros))
         (λ i more e. not_none (read (rule_said ps)) (number i) (listed (number i) ∙ first_passes (λ item. number i == number item) (items_of l ps) i more e (same (number i))))
 
-    places : (l : ListName) (read : RuleParts → Places) (step : Places → List ℕ → Places) → Sets (part.List l) read (λ v x. fold step x (pieces 44 v)) → read (every Yearly) ≡ no_places
+    places : (l : ListName) (read : RuleParts → Ordinals) (step : Ordinals → List ℕ → Ordinals) → Sets (part.List l) read (λ v x. fold step x (pieces 44 v)) → read (every Yearly) ≡ no_ordinals
         → ((side : Side) (n : ℕ) → has_place side n (read (rule_said ps)) ≡ list_any (is_place side n) (items_of l ps)) → lists_none (read (rule_said ps)) ≡ not (has_part (part.List l) ps)
     places l read step set zeros listed =
         by_items l ps (lists_none (read (rule_said ps))) (λ none. ap lists_none (left l read step set ps parts.1 none ∙ zeros))
         (λ i more e. not_none_place (own_side i) (own_number i) (read (rule_said ps))
         (listed (own_side i) (own_number i) ∙ first_passes (is_place (own_side i) (own_number i)) (items_of l ps) i more e (own_place i)))
 
-    wide_places : (l : ListName) (read : RuleParts → WidePlaces) (step : WidePlaces → List ℕ → WidePlaces) → Sets (part.List l) read (λ v x. fold step x (pieces 44 v))
+    wide_places : (l : ListName) (read : RuleParts → WideOrdinals) (step : WideOrdinals → List ℕ → WideOrdinals) → Sets (part.List l) read (λ v x. fold step x (pieces 44 v))
         → lists_none_wide (read (every Yearly)) ≡ true
         → ((side : Side) (n : ℕ) → has_wide_place side n (read (rule_said ps)) ≡ list_any (is_place side n) (items_of l ps)) → lists_none_wide (read (rule_said ps)) ≡ not (has_part (part.List l) ps)
     wide_places l read step set zeros listed =

@@ -6,19 +6,19 @@ use Rattle.std.proofs.Math.ListN.{length-set}
 use Rattle.std.proofs.lemmas.Bool.{and_parts, leb-true, cases_eq, ne_eqb, eq-eqb}
 use Rattle.jiff_core.specs.declared.civil.weekday.Weekday.{Weekday}
 use Rattle.jiff_core.specs.Weekday.{monday_zero}
-use Rattle.ics_values.specs.declared.places.Side.{Side}
-use Rattle.ics_values.specs.declared.places.Side.TheVariants.{Front, Back}
-use Rattle.ics_values.specs.declared.places.Places.{Places}
-use Rattle.ics_values.specs.declared.places.WidePlaces.{WidePlaces}
-use Rattle.ics_values.specs.declared.places.Weekdays.{Weekdays}
+use Rattle.ics_values.specs.declared.ordinals.Side.{Side}
+use Rattle.ics_values.specs.declared.ordinals.Side.TheVariants.{Front, Back}
+use Rattle.ics_values.specs.declared.ordinals.Ordinals.{Ordinals}
+use Rattle.ics_values.specs.declared.ordinals.WideOrdinals.{WideOrdinals}
+use Rattle.ics_values.specs.declared.ordinals.Weekdays.{Weekdays}
 use Rattle.ics_values.specs.Digits.{are_digits, number_of}
 use Rattle.ics_values.specs.Texts.{begins, is_minus, unsigned}
-use Rattle.ics_values.specs.Sets.{has, with_number}
-use Rattle.ics_values.specs.Places.{numbers_of, with_place, with_wide_place, with_weekday, with_numbered_weekday}
+use Rattle.ics_values.specs.Sets.{contains, with_number}
+use Rattle.ics_values.specs.Ordinals.{numbers_of, with_ordinal, with_wide_ordinal, with_weekday, with_numbered_weekday}
 use Rattle.ics_values.specs.RuleTexts.{is_number, is_signed, is_day_item, side_of, weekday_of, day_text, number_before}
 use Rattle.ics_values.specs.Rules.{with_day}
 use Rattle.ics_values.specs.RuleLaws.{has_place, has_wide_place, is_side, is_place, is_day, is_weekday, is_numbered}
-use Rattle.ics_values.proofs.SetLemmas.{has-with_number, has_wide-with_number}
+use Rattle.ics_values.proofs.SetLemmas.{contains-with_number, contains_wide-with_number}
 use Rattle.ics_values.proofs.PlaceLemmas.{monday_zero_small}
 
 -- each item that is in order adds what it tests for, and keeps the state fine
@@ -56,46 +56,46 @@ pub number_high : (low high : ℕ) (text : List ℕ) → is_number low high text
 number_high low high text h = leb-true (number_of text) high (and_parts (are_digits text && nat_le low (number_of text)) (nat_le (number_of text) high) h).1
 
 pub adds_number : (f : List ℕ → ℕ) (fits : List ℕ → Bool) → ((i : List ℕ) → fits i ≡ true → f i < 64) → (n : ℕ)
-    → Adds (λ s i. with_number (f i) s) (λ s. has s n) (λ i. n == f i) fits (λ s. Unit {0})
-adds_number f fits small n = record { fine = λ s i h u. tt; adds = λ s i h u. has-with_number s (f i) n (small i h) }
+    → Adds (λ s i. with_number (f i) s) (λ s. contains s n) (λ i. n == f i) fits (λ s. Unit {0})
+adds_number f fits small n = record { fine = λ s i h u. tt; adds = λ s i h u. contains-with_number s (f i) n (small i h) }
 
-place_added : (side : Side) (n k : ℕ) (item : List ℕ) (p : Places) → k < 64 → has_place side n (with_place (side_of item) k p) ≡ ((is_side side (begins is_minus item) && (n == k)) || has_place side n p)
+place_added : (side : Side) (n k : ℕ) (item : List ℕ) (p : Ordinals) → k < 64 → has_place side n (with_ordinal (side_of item) k p) ≡ ((is_side side (begins is_minus item) && (n == k)) || has_place side n p)
 place_added side n k item p h = by_test side (begins is_minus item)
   where
-    by_test : (s : Side) (b : Bool) → has_place s n (with_place (cond b Back Front) k p) ≡ ((is_side s b && (n == k)) || has_place s n p)
+    by_test : (s : Side) (b : Bool) → has_place s n (with_ordinal (cond b Back Front) k p) ≡ ((is_side s b && (n == k)) || has_place s n p)
     by_test Front true = refl
-    by_test Front false = has-with_number p.front k n h
-    by_test Back true = has-with_number p.back k n h
+    by_test Front false = contains-with_number p.front k n h
+    by_test Back true = contains-with_number p.back k n h
     by_test Back false = refl
 
 pub adds_place : (high : ℕ) → high < 64 → (side : Side) (n : ℕ)
-    → Adds (λ p i. with_place (side_of i) (number_of (unsigned i)) p) (has_place side n) (is_place side n) (is_signed high) (λ p. Unit {0})
+    → Adds (λ p i. with_ordinal (side_of i) (number_of (unsigned i)) p) (has_place side n) (is_place side n) (is_signed high) (λ p. Unit {0})
 adds_place high small side n = record {
   fine = λ p i h u. tt;
   adds = λ p i h u. let last = number_high 1 high (unsigned i) h in place_added side n (number_of (unsigned i)) i p (omega arith);
 }
 
 -- a wide set has six words
-pub record IsWide (p : WidePlaces) : Type 0 where
+pub record IsWide (p : WideOrdinals) : Type 0 where
   pub front : length p.front ≡ 6
   pub back : length p.back ≡ 6
 
-wide_kept : (b : Bool) (k : ℕ) (p : WidePlaces) → IsWide p → IsWide (with_wide_place (cond b Back Front) k p)
+wide_kept : (b : Bool) (k : ℕ) (p : WideOrdinals) → IsWide p → IsWide (with_wide_ordinal (cond b Back Front) k p)
 wide_kept true k p w = record { front = w.front; back = length-set p.back (k / 64) _ ∙ w.back }
 wide_kept false k p w = record { front = length-set p.front (k / 64) _ ∙ w.front; back = w.back }
 
-wide_added : (side : Side) (n k : ℕ) (item : List ℕ) (p : WidePlaces) → k < 384 → IsWide p
-    → has_wide_place side n (with_wide_place (side_of item) k p) ≡ ((is_side side (begins is_minus item) && (n == k)) || has_wide_place side n p)
+wide_added : (side : Side) (n k : ℕ) (item : List ℕ) (p : WideOrdinals) → k < 384 → IsWide p
+    → has_wide_place side n (with_wide_ordinal (side_of item) k p) ≡ ((is_side side (begins is_minus item) && (n == k)) || has_wide_place side n p)
 wide_added side n k item p h w = by_test side (begins is_minus item)
   where
-    by_test : (s : Side) (b : Bool) → has_wide_place s n (with_wide_place (cond b Back Front) k p) ≡ ((is_side s b && (n == k)) || has_wide_place s n p)
+    by_test : (s : Side) (b : Bool) → has_wide_place s n (with_wide_ordinal (cond b Back Front) k p) ≡ ((is_side s b && (n == k)) || has_wide_place s n p)
     by_test Front true = refl
-    by_test Front false = has_wide-with_number p.front k n (let e = w.front in omega arith) h
-    by_test Back true = has_wide-with_number p.back k n (let e = w.back in omega arith) h
+    by_test Front false = contains_wide-with_number p.front k n (let e = w.front in omega arith) h
+    by_test Back true = contains_wide-with_number p.back k n (let e = w.back in omega arith) h
     by_test Back false = refl
 
 pub adds_wide_place : (high : ℕ) → high < 384 → (side : Side) (n : ℕ)
-    → Adds (λ p i. with_wide_place (side_of i) (number_of (unsigned i)) p) (has_wide_place side n) (is_place side n) (is_signed high) IsWide
+    → Adds (λ p i. with_wide_ordinal (side_of i) (number_of (unsigned i)) p) (has_wide_place side n) (is_place side n) (is_signed high) IsWide
 adds_wide_place high small side n = record {
   fine = λ p i h w. wide_kept (begins is_minus i) (number_of (unsigned i)) p w;
   adds = λ p i h w. let last = number_high 1 high (unsigned i) h in wide_added side n (number_of (unsigned i)) i p (omega arith) w;
@@ -122,16 +122,16 @@ and_false : (t : Bool) → (t && false) ≡ false
 and_false true = refl
 and_false false = refl
 
-pub adds_weekday : (d : Weekday) → Adds (λ w i. with_day (weekday_of (day_text i)) i w) (λ w. has w.plain (monday_zero d)) (is_weekday d) is_day_item (λ w. Unit {0})
+pub adds_weekday : (d : Weekday) → Adds (λ w i. with_day (weekday_of (day_text i)) i w) (λ w. contains w.plain (monday_zero d)) (is_weekday d) is_day_item (λ w. Unit {0})
 adds_weekday d = record {
   fine = λ w i h u. tt;
-  adds = λ w i h u. ap (λ (x : Weekdays). has x.plain (monday_zero d)) (with_day-is (weekday_of (day_text i)) i w) ∙ by_day w i (weekday_of (day_text i)) (length i == 2);
+  adds = λ w i h u. ap (λ (x : Weekdays). contains x.plain (monday_zero d)) (with_day-is (weekday_of (day_text i)) i w) ∙ by_day w i (weekday_of (day_text i)) (length i == 2);
 }
   where
-    by_day : (w : Weekdays) (i : List ℕ) (o : Option Weekday) (t : Bool) → has (day_with o t i w).plain (monday_zero d) ≡ ((is_day d o && t) || has w.plain (monday_zero d))
+    by_day : (w : Weekdays) (i : List ℕ) (o : Option Weekday) (t : Bool) → contains (day_with o t i w).plain (monday_zero d) ≡ ((is_day d o && t) || contains w.plain (monday_zero d))
     by_day w i None t = refl
-    by_day w i (Some e) true = has-with_number w.plain (monday_zero e) (monday_zero d) (day_small e) ∙ ap (λ t. t || has w.plain (monday_zero d)) (sym (and_true (monday_zero d == monday_zero e)))
-    by_day w i (Some e) false = ap (λ t. t || has w.plain (monday_zero d)) (sym (and_false (monday_zero d == monday_zero e)))
+    by_day w i (Some e) true = contains-with_number w.plain (monday_zero e) (monday_zero d) (day_small e) ∙ ap (λ t. t || contains w.plain (monday_zero d)) (sym (and_true (monday_zero d == monday_zero e)))
+    by_day w i (Some e) false = ap (λ t. t || contains w.plain (monday_zero d)) (sym (and_false (monday_zero d == monday_zero e)))
 
 -- the numbers of BYDAY stand beside seven weekdays
 abbrev pub HasSeven : Weekdays → Type 0

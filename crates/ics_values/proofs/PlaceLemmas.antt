@@ -5,25 +5,25 @@ use Rattle.std.proofs.lemmas.List.{set_past}
 use Rattle.jiff_core.specs.declared.civil.weekday.Weekday.{Weekday}
 use Rattle.jiff_core.specs.declared.civil.weekday.Weekday.TheVariants.{Monday, Tuesday, Wednesday, Thursday, Friday, Saturday, Sunday}
 use Rattle.jiff_core.specs.Weekday.{monday_zero}
-use Rattle.ics_values.specs.declared.places.Side.{Side}
-use Rattle.ics_values.specs.declared.places.Side.TheVariants.{Front, Back}
-use Rattle.ics_values.specs.declared.places.Places.{Places}
-use Rattle.ics_values.specs.declared.places.WidePlaces.{WidePlaces}
-use Rattle.ics_values.specs.declared.places.Weekdays.{Weekdays}
-use Rattle.ics_values.specs.Sets.{has, has_wide, with_number, with_wide_number, IsWithin}
-use Rattle.ics_values.specs.Places.{numbers_of, with_place, with_wide_place, with_weekday, with_numbered_weekday}
+use Rattle.ics_values.specs.declared.ordinals.Side.{Side}
+use Rattle.ics_values.specs.declared.ordinals.Side.TheVariants.{Front, Back}
+use Rattle.ics_values.specs.declared.ordinals.Ordinals.{Ordinals}
+use Rattle.ics_values.specs.declared.ordinals.WideOrdinals.{WideOrdinals}
+use Rattle.ics_values.specs.declared.ordinals.Weekdays.{Weekdays}
+use Rattle.ics_values.specs.Sets.{contains, contains_wide, with_number, with_wide_number, IsWithin}
+use Rattle.ics_values.specs.Ordinals.{numbers_of, with_ordinal, with_wide_ordinal, with_weekday, with_numbered_weekday}
 use Rattle.ics_values.specs.RuleParts.{ArePlaces, AreWidePlaces}
-use Rattle.ics_values.proofs.SetLemmas.{within_more, has-with_number, has_wide-with_number}
+use Rattle.ics_values.proofs.SetLemmas.{within_more, contains-with_number, contains_wide-with_number}
 
-pub places_more : (side : Side) (n high : ℕ) (p : Places) → n < 64 → 1 ≤ n → n ≤ high → ArePlaces p high → ArePlaces (with_place side n p) high
-places_more Front n high p s l h own = record { front = within_more 1 high n (has p.front) (has (with_number n p.front)) (λ m. has-with_number p.front n m s) own.front l h; back = own.back }
-places_more Back n high p s l h own = record { front = own.front; back = within_more 1 high n (has p.back) (has (with_number n p.back)) (λ m. has-with_number p.back n m s) own.back l h }
+pub ordinals_more : (side : Side) (n high : ℕ) (p : Ordinals) → n < 64 → 1 ≤ n → n ≤ high → ArePlaces p high → ArePlaces (with_ordinal side n p) high
+ordinals_more Front n high p s l h own = record { front = within_more 1 high n (contains p.front) (contains (with_number n p.front)) (λ m. contains-with_number p.front n m s) own.front l h; back = own.back }
+ordinals_more Back n high p s l h own = record { front = own.front; back = within_more 1 high n (contains p.back) (contains (with_number n p.back)) (λ m. contains-with_number p.back n m s) own.back l h }
 
-pub wide_places_more : (side : Side) (n high : ℕ) (p : WidePlaces) → n < 384 → n / 64 < length p.front → n / 64 < length p.back → 1 ≤ n → n ≤ high → AreWidePlaces p high → AreWidePlaces (with_wide_place side n p) high
-wide_places_more Front n high p s f b l h own =
-    record { front = within_more 1 high n (has_wide p.front) (has_wide (with_wide_number n p.front)) (λ m. has_wide-with_number p.front n m f s) own.front l h; back = own.back }
-wide_places_more Back n high p s f b l h own =
-    record { front = own.front; back = within_more 1 high n (has_wide p.back) (has_wide (with_wide_number n p.back)) (λ m. has_wide-with_number p.back n m b s) own.back l h }
+pub wide_ordinals_more : (side : Side) (n high : ℕ) (p : WideOrdinals) → n < 384 → n / 64 < length p.front → n / 64 < length p.back → 1 ≤ n → n ≤ high → AreWidePlaces p high → AreWidePlaces (with_wide_ordinal side n p) high
+wide_ordinals_more Front n high p s f b l h own =
+    record { front = within_more 1 high n (contains_wide p.front) (contains_wide (with_wide_number n p.front)) (λ m. contains_wide-with_number p.front n m f s) own.front l h; back = own.back }
+wide_ordinals_more Back n high p s f b l h own =
+    record { front = own.front; back = within_more 1 high n (contains_wide p.back) (contains_wide (with_wide_number n p.back)) (λ m. contains_wide-with_number p.back n m b s) own.back l h }
 
 -- a weekday is one of seven
 pub monday_zero_small : (d : Weekday) → monday_zero d ≤ 6
@@ -35,20 +35,20 @@ monday_zero_small Friday = omega arith
 monday_zero_small Saturday = omega arith
 monday_zero_small Sunday = omega arith
 
-pub weekdays_more : (d : Weekday) (w : Weekdays) → IsWithin 0 6 (has w.plain) → IsWithin 0 6 (has (with_weekday d w).plain)
+pub weekdays_more : (d : Weekday) (w : Weekdays) → IsWithin 0 6 (contains w.plain) → IsWithin 0 6 (contains (with_weekday d w).plain)
 weekdays_more d w own =
     let small = monday_zero_small d in
-    within_more 0 6 (monday_zero d) (has w.plain) (has (with_number (monday_zero d) w.plain)) (λ m. has-with_number w.plain (monday_zero d) m (omega (arith, small))) own (omega arith) small
+    within_more 0 6 (monday_zero d) (contains w.plain) (contains (with_number (monday_zero d) w.plain)) (λ m. contains-with_number w.plain (monday_zero d) m (omega (arith, small))) own (omega arith) small
 
 -- the numbers of one weekday, and those of the others
 pub numbered_more : (d : Weekday) (side : Side) (n : ℕ) (w : Weekdays) → n < 64 → 1 ≤ n → n ≤ 53 → ((k : ℕ) → ArePlaces (numbers_of w k) 53)
     → (k : ℕ) → ArePlaces (numbers_of (with_numbered_weekday d side n w) k) 53
 numbered_more d side n w s l h own k = elim (by_place (monday_zero d) (length w.numbered)) [
   | inl inside ↦ elim (same_or_not k (monday_zero d)) [
-    | inl same ↦ rw (same, get_or-set_same) (places_more side n 53 (numbers_of w (monday_zero d)) s l h (own (monday_zero d)))
+    | inl same ↦ rw (same, get_or-set_same) (ordinals_more side n 53 (numbers_of w (monday_zero d)) s l h (own (monday_zero d)))
     | inr other ↦ rw (get_or-set_other) (own k)
   ]
-  | inr past ↦ rw (set_past w.numbered (monday_zero d) (with_place side n (numbers_of w (monday_zero d))) past) (own k)
+  | inr past ↦ rw (set_past w.numbered (monday_zero d) (with_ordinal side n (numbers_of w (monday_zero d))) past) (own k)
 ]
   where
     by_place : (a b : ℕ) → (a < b) ⊎ (b ≤ a)

@@ -8,7 +8,7 @@ use Rattle.ics_values.specs.declared.rule_text.RuleFault.TheVariants.{BadRule, N
 use Rattle.ics_values.specs.declared.until.Until.TheVariants.{Date, Local, Utc}
 use Rattle.ics_values.specs.Locals.{local_at}
 use Rattle.ics_values.specs.Sets.{none_wide}
-use Rattle.ics_values.specs.Places.{no_places}
+use Rattle.ics_values.specs.Ordinals.{no_ordinals}
 use Rattle.ics_values.specs.RuleParts.{RuleParts, every}
 use Rattle.ics_values.specs.Rules.{rule_of}
 
@@ -226,11 +226,11 @@ bad_signed = refl
 
 -- BYDAY, with numbers to 53 and without, and WKST
 
-weekdays : rule_of (codes "FREQ=DAILY;BYDAY=MO,tu,WE,Th,fR,SA,SU") ≡ Ok (record (every Daily) { weekdays = record { plain = 2 ^ 0 + 2 ^ 1 + 2 ^ 2 + 2 ^ 3 + 2 ^ 4 + 2 ^ 5 + 2 ^ 6; numbered = no_places ∷ no_places ∷ no_places ∷ no_places ∷ no_places ∷ no_places ∷ no_places ∷ [] } })
+weekdays : rule_of (codes "FREQ=DAILY;BYDAY=MO,tu,WE,Th,fR,SA,SU") ≡ Ok (record (every Daily) { weekdays = record { plain = 2 ^ 0 + 2 ^ 1 + 2 ^ 2 + 2 ^ 3 + 2 ^ 4 + 2 ^ 5 + 2 ^ 6; numbered = no_ordinals ∷ no_ordinals ∷ no_ordinals ∷ no_ordinals ∷ no_ordinals ∷ no_ordinals ∷ no_ordinals ∷ [] } })
 unfolding rule_of
 weekdays = refl
 
-numbered : rule_of (codes "FREQ=DAILY;BYDAY=+1MO,-53SU,53MO,MO,02mo") ≡ Ok (record (every Daily) { weekdays = record { plain = 2 ^ 0; numbered = record { front = 2 ^ 1 + 2 ^ 53 + 2 ^ 2; back = 0 } ∷ no_places ∷ no_places ∷ no_places ∷ no_places ∷ no_places ∷ record { front = 0; back = 2 ^ 53 } ∷ [] } })
+numbered : rule_of (codes "FREQ=DAILY;BYDAY=+1MO,-53SU,53MO,MO,02mo") ≡ Ok (record (every Daily) { weekdays = record { plain = 2 ^ 0; numbered = record { front = 2 ^ 1 + 2 ^ 53 + 2 ^ 2; back = 0 } ∷ no_ordinals ∷ no_ordinals ∷ no_ordinals ∷ no_ordinals ∷ no_ordinals ∷ record { front = 0; back = 2 ^ 53 } ∷ [] } })
 unfolding rule_of
 numbered = refl
 
@@ -244,14 +244,14 @@ bad_weekday = refl
 
 -- several parts
 
-friday_13 : rule_of (codes "FREQ=MONTHLY;BYDAY=FR;BYMONTHDAY=13") ≡ Ok (record (every Monthly) { weekdays = record { plain = 2 ^ 4; numbered = no_places ∷ no_places ∷ no_places ∷ no_places ∷ no_places ∷ no_places ∷ no_places ∷ [] }; month_days = record { front = 2 ^ 13; back = 0 } })
+friday_13 : rule_of (codes "FREQ=MONTHLY;BYDAY=FR;BYMONTHDAY=13") ≡ Ok (record (every Monthly) { weekdays = record { plain = 2 ^ 4; numbered = no_ordinals ∷ no_ordinals ∷ no_ordinals ∷ no_ordinals ∷ no_ordinals ∷ no_ordinals ∷ no_ordinals ∷ [] }; month_days = record { front = 2 ^ 13; back = 0 } })
 unfolding rule_of
 friday_13 = refl
 
-fortnightly : rule_of (codes "FREQ=WEEKLY;INTERVAL=2;COUNT=4;BYDAY=TU,SU;WKST=SU") ≡ Ok (record (every Weekly) { interval = 2; count = Some 4; weekdays = record { plain = 2 ^ 1 + 2 ^ 6; numbered = no_places ∷ no_places ∷ no_places ∷ no_places ∷ no_places ∷ no_places ∷ no_places ∷ [] }; week_start = Sunday })
+fortnightly : rule_of (codes "FREQ=WEEKLY;INTERVAL=2;COUNT=4;BYDAY=TU,SU;WKST=SU") ≡ Ok (record (every Weekly) { interval = 2; count = Some 4; weekdays = record { plain = 2 ^ 1 + 2 ^ 6; numbered = no_ordinals ∷ no_ordinals ∷ no_ordinals ∷ no_ordinals ∷ no_ordinals ∷ no_ordinals ∷ no_ordinals ∷ [] }; week_start = Sunday })
 unfolding rule_of
 fortnightly = refl
 
-last_workday : rule_of (codes "FREQ=MONTHLY;BYDAY=MO,TU,WE,TH,FR;BYSETPOS=-1") ≡ Ok (record (every Monthly) { weekdays = record { plain = 31; numbered = no_places ∷ no_places ∷ no_places ∷ no_places ∷ no_places ∷ no_places ∷ no_places ∷ [] }; positions = record { front = none_wide; back = (2 ^ 1) ∷ 0 ∷ 0 ∷ 0 ∷ 0 ∷ 0 ∷ [] } })
+last_workday : rule_of (codes "FREQ=MONTHLY;BYDAY=MO,TU,WE,TH,FR;BYSETPOS=-1") ≡ Ok (record (every Monthly) { weekdays = record { plain = 31; numbered = no_ordinals ∷ no_ordinals ∷ no_ordinals ∷ no_ordinals ∷ no_ordinals ∷ no_ordinals ∷ no_ordinals ∷ [] }; positions = record { front = none_wide; back = (2 ^ 1) ∷ 0 ∷ 0 ∷ 0 ∷ 0 ∷ 0 ∷ [] } })
 unfolding rule_of
 last_workday = refl

@@ -12,12 +12,12 @@ use Rattle.ics_values.specs.declared.part_name.PartName.{PartName}
 use Rattle.ics_values.specs.declared.part_name.PartName.TheVariants as part
 use Rattle.ics_values.specs.declared.rule_text.RuleFault.{RuleFault}
 use Rattle.ics_values.specs.declared.rule_text.RuleFault.TheVariants.{BadRule, NumberTooLarge}
-use Rattle.ics_values.specs.Sets.{has, with_number}
+use Rattle.ics_values.specs.Sets.{contains, with_number}
 use Rattle.ics_values.specs.RuleParts.{RuleParts, every}
 use Rattle.ics_values.specs.RuleTexts.{Part, pieces, row, fits, fits_list, part_of, without_last, is_part, is_name, has_part, none_twice, are_parts}
 use Rattle.ics_values.specs.Rules.{with_item, with_value, with_part, is_large, has_large_number, rule_said, rule_of}
 use Rattle.ics_values.specs.RuleDrafts.{walk, item_taken, named_taken, part_taken, no_parts, is_whole}
-use Rattle.ics_values.proofs.SetLemmas.{has-with_number}
+use Rattle.ics_values.proofs.SetLemmas.{contains-with_number}
 
 -- the items of a list are all in order, or one is not
 pub walk-items : (list : ListName) (rule : RuleParts) (items : List (List ℕ)) → walk (item_taken list) rule items ≡ (if list_all (fits_list list) items then Some (fold (with_item list) rule items) else None)
@@ -48,7 +48,7 @@ row_small part.Wkst = lit< tt
 -- the name was read
 abbrev is_seen : ℕ → Option PartName → Bool
 is_seen seen None = false
-is_seen seen (Some name) = has seen (row name)
+is_seen seen (Some name) = contains seen (row name)
 
 abbrev are_fresh : ℕ → List Part → Bool
 are_fresh seen ps = list_all (λ p. not (is_seen seen p.name)) ps
@@ -69,7 +69,7 @@ draft_with d ps = record { parts = fold kept d.parts ps; seen = rows_of d.seen p
 
 is_seen-with_number : (seen : ℕ) (name : PartName) (other : Option PartName) → is_seen (with_number (row name) seen) other ≡ is_name name other || is_seen seen other
 is_seen-with_number seen name None = refl
-is_seen-with_number seen name (Some other) = has-with_number seen (row name) (row other) (row_small name)
+is_seen-with_number seen name (Some other) = contains-with_number seen (row name) (row other) (row_small name)
 
 -- those that are fresh once a name was read
 are_fresh-with_number : (seen : ℕ) (name : PartName) (ps : List Part) → are_fresh (with_number (row name) seen) ps ≡ not (list_any (λ q. is_name name q.name) ps) && are_fresh seen ps
@@ -121,7 +121,7 @@ filled d name value = record { parts = with_value name value d.parts; seen = wit
 whole_more : (d : Draft) (name : Option PartName) (value : List ℕ) (ps : List Part) (rest : Draft → Option Draft) → ((e : Draft) → rest e ≡ whole e ps)
     → option_and_then rest (named_taken name value d) ≡ whole d (record { name = name; value = value } ∷ ps)
 whole_more d None value ps rest h = refl
-whole_more d (Some name) value ps rest h = by_tests (has d.seen (row name)) (fits name value) (is_large (Some name) value)
+whole_more d (Some name) value ps rest h = by_tests (contains d.seen (row name)) (fits name value) (is_large (Some name) value)
   where
     by_tests : (s f l : Bool) →
         option_and_then rest (cond s None (cond (not f) None (cond l (Some (marked d name)) (Some (filled d name value)))))
@@ -147,7 +147,7 @@ abbrev pub answer_of : Option Draft → Result RuleParts RuleFault
 answer_of None = Err BadRule
 answer_of (Some d) = if not (is_whole d) then Err BadRule else if d.too_large then Err NumberTooLarge else Ok d.parts
 
-has_none : (n : ℕ) → has 0 n ≡ false
+has_none : (n : ℕ) → contains 0 n ≡ false
 has_none n = ap (λ x. x == 1) (bit_at-zero n)
 
 all_fresh : (ps : List Part) → are_fresh 0 ps ≡ true
@@ -162,27 +162,27 @@ same : (a b : ℕ) → (a == b) ≡ (b == a)
 same a b = grind (arith, nat_tests)
 
 -- the rows that were read are those of the parts
-has-rows_of : (ps : List Part) (seen : ℕ) (name : PartName) → has (rows_of seen ps) (row name) ≡ has seen (row name) || has_part name ps
-has-rows_of [] seen name = or_false (has seen (row name))
-has-rows_of (p ∷ ps) seen name = by_name p.name (λ s. has-rows_of ps s name)
+contains-rows_of : (ps : List Part) (seen : ℕ) (name : PartName) → contains (rows_of seen ps) (row name) ≡ contains seen (row name) || has_part name ps
+contains-rows_of [] seen name = or_false (contains seen (row name))
+contains-rows_of (p ∷ ps) seen name = by_name p.name (λ s. contains-rows_of ps s name)
   where
     by_tests : (n s r : Bool) → ((n || s) || r) ≡ (s || (n || r))
     by_tests true true r = refl
     by_tests true false r = refl
     by_tests false s r = refl
 
-    by_name : (other : Option PartName) → ((s : ℕ) → has (rows_of s ps) (row name) ≡ has s (row name) || has_part name ps)
-        → has (rows_of (with_row seen other) ps) (row name) ≡ has seen (row name) || (is_name name other || has_part name ps)
+    by_name : (other : Option PartName) → ((s : ℕ) → contains (rows_of s ps) (row name) ≡ contains s (row name) || has_part name ps)
+        → contains (rows_of (with_row seen other) ps) (row name) ≡ contains seen (row name) || (is_name name other || has_part name ps)
     by_name None h = h seen
     by_name (Some other) h =
         h (with_number (row other) seen)
-        ∙ ap (λ t. t || has_part name ps) (has-with_number seen (row other) (row name) (row_small other))
-        ∙ ap (λ t. (t || has seen (row name)) || has_part name ps) (same (row name) (row other))
-        ∙ by_tests (row other == row name) (has seen (row name)) (has_part name ps)
+        ∙ ap (λ t. t || has_part name ps) (contains-with_number seen (row other) (row name) (row_small other))
+        ∙ ap (λ t. (t || contains seen (row name)) || has_part name ps) (same (row name) (row other))
+        ∙ by_tests (row other == row name) (contains seen (row name)) (has_part name ps)
 
 -- the name was read where one of the parts has it
-seen-has_part : (ps : List Part) (name : PartName) → has (rows_of 0 ps) (row name) ≡ has_part name ps
-seen-has_part ps name = has-rows_of ps 0 name ∙ ap (λ t. t || has_part name ps) (has_none (row name))
+seen-has_part : (ps : List Part) (name : PartName) → contains (rows_of 0 ps) (row name) ≡ has_part name ps
+seen-has_part ps name = contains-rows_of ps 0 name ∙ ap (λ t. t || has_part name ps) (has_none (row name))
 
 -- where no number is too large, each part is kept
 fold-kept : (ps : List Part) (rule : RuleParts) → has_large_number ps ≡ false → fold kept rule ps ≡ fold with_part rule ps
@@ -203,8 +203,8 @@ answer-whole ps =
   where
     whole_is : is_whole (draft_with no_parts ps) ≡ has_part part.Freq ps && not (has_part part.Until ps && has_part part.Count ps)
     whole_is =
-        ap (λ t. t && not (has (rows_of 0 ps) (row part.Until) && has (rows_of 0 ps) (row part.Count))) (seen-has_part ps part.Freq)
-        ∙ ap (λ t. has_part part.Freq ps && not (t && has (rows_of 0 ps) (row part.Count))) (seen-has_part ps part.Until)
+        ap (λ t. t && not (contains (rows_of 0 ps) (row part.Until) && contains (rows_of 0 ps) (row part.Count))) (seen-has_part ps part.Freq)
+        ∙ ap (λ t. has_part part.Freq ps && not (t && contains (rows_of 0 ps) (row part.Count))) (seen-has_part ps part.Until)
         ∙ ap (λ t. has_part part.Freq ps && not (has_part part.Until ps && t)) (seen-has_part ps part.Count)
 
     by_tests : (a n f : Bool) → f ≡ true → (q r : Bool) → is_whole (draft_with no_parts ps) ≡ (q && r) → (l : Bool) → (l ≡ false → fold kept (every Yearly) ps ≡ rule_said ps)

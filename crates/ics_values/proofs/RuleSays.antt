@@ -12,15 +12,15 @@ use Rattle.jiff_core.specs.Weekday.{monday_zero}
 use Rattle.ics_values.specs.declared.frequency.Frequency.{Frequency}
 use Rattle.ics_values.specs.declared.frequency.Frequency.TheVariants.{Yearly}
 use Rattle.ics_values.specs.declared.rule_text.RuleFault.TheVariants.{BadRule, NumberTooLarge}
-use Rattle.ics_values.specs.declared.places.Side.{Side}
-use Rattle.ics_values.specs.declared.places.Side.TheVariants.{Front, Back}
+use Rattle.ics_values.specs.declared.ordinals.Side.{Side}
+use Rattle.ics_values.specs.declared.ordinals.Side.TheVariants.{Front, Back}
 use Rattle.ics_values.specs.declared.part_name.ListName.{ListName}
 use Rattle.ics_values.specs.declared.part_name.ListName.TheVariants.{BySecond, ByMinute, ByHour, ByDay, ByMonthDay, ByYearDay, ByWeekNo, ByMonth, BySetPos}
 use Rattle.ics_values.specs.declared.part_name.PartName.{PartName}
 use Rattle.ics_values.specs.declared.part_name.PartName.TheVariants as part
 use Rattle.ics_values.specs.Digits.{number_of}
-use Rattle.ics_values.specs.Sets.{has, has_wide, none_wide}
-use Rattle.ics_values.specs.Places.{no_places, no_wide_places, no_weekdays, numbers_of}
+use Rattle.ics_values.specs.Sets.{contains, contains_wide, none_wide}
+use Rattle.ics_values.specs.Ordinals.{no_ordinals, no_wide_ordinals, no_weekdays, numbers_of}
 use Rattle.ics_values.specs.RuleParts.{RuleParts, every}
 use Rattle.ics_values.specs.RuleTexts.{Part, pieces, row, fits, fits_list, fits_name, is_part, is_name, has_part, none_twice, are_parts, parts_of, frequency_of, weekday_of, until_of}
 use Rattle.ics_values.specs.Rules.{has_large_number, rule_said, rule_of}
@@ -153,10 +153,10 @@ count_is : (o : Option (List ℕ)) → option_map_or (λ v. Some (number_of v)) 
 count_is None = refl
 count_is (Some v) = refl
 
-pub has_none : (n : ℕ) → has 0 n ≡ false
+pub has_none : (n : ℕ) → contains 0 n ≡ false
 has_none n = ap (λ x. x == 1) (bit_at-zero n)
 
-none_here : (side : Side) (n : ℕ) → has_place side n no_places ≡ false
+none_here : (side : Side) (n : ℕ) → has_place side n no_ordinals ≡ false
 none_here Front n = has_none n
 none_here Back n = has_none n
 
@@ -173,10 +173,10 @@ and_never : (b : Bool) → (b && false) ≡ false
 and_never true = refl
 and_never false = refl
 
-none_wide_has : (n : ℕ) → has_wide none_wide n ≡ false
-none_wide_has n = ap (λ x. nat_lt n 384 && x) (ap (λ x. has x (n % 64)) (none_word (n / 64)) ∙ has_none (n % 64)) ∙ and_never (nat_lt n 384)
+none_wide_has : (n : ℕ) → contains_wide none_wide n ≡ false
+none_wide_has n = ap (λ x. nat_lt n 384 && x) (ap (λ x. contains x (n % 64)) (none_word (n / 64)) ∙ has_none (n % 64)) ∙ and_never (nat_lt n 384)
 
-none_wide_here : (side : Side) (n : ℕ) → has_wide_place side n no_wide_places ≡ false
+none_wide_here : (side : Side) (n : ℕ) → has_wide_place side n no_wide_ordinals ≡ false
 none_wide_here Front n = none_wide_has n
 none_wide_here Back n = none_wide_has n
 
@@ -214,13 +214,13 @@ says ps h =
       interval = part_said part.Interval (λ r. r.interval) (λ v n. number_of v) sets_interval ps once (every Yearly);
       week_start = week_start_is (value_of part.Wkst ps) (rule_said ps).week_start (value_passes part.Wkst (λ v. is_some (weekday_of v)) passes_wkst ps a)
           (part_said part.Wkst (λ r. r.week_start) (λ v d. unwrap_or (weekday_of v) d) sets_week_start ps once (every Yearly));
-      seconds = λ n. list_said BySecond (λ r. r.seconds) _ sets_seconds passes_second (λ s. has s n) _ (λ s. Unit {0})
+      seconds = λ n. list_said BySecond (λ r. r.seconds) _ sets_seconds passes_second (λ s. contains s n) _ (λ s. Unit {0})
           (adds_number (λ i. min (number_of i) 59) (fits_list BySecond) (λ i fit. let last = number_high 0 60 i fit in omega arith) n) ps a once tt (has_none n);
-      minutes = λ n. list_said ByMinute (λ r. r.minutes) _ sets_minutes passes_minute (λ s. has s n) _ (λ s. Unit {0})
+      minutes = λ n. list_said ByMinute (λ r. r.minutes) _ sets_minutes passes_minute (λ s. contains s n) _ (λ s. Unit {0})
           (adds_number (λ i. number_of i) (fits_list ByMinute) (λ i fit. let last = number_high 0 59 i fit in omega arith) n) ps a once tt (has_none n);
-      hours = λ n. list_said ByHour (λ r. r.hours) _ sets_hours passes_hour (λ s. has s n) _ (λ s. Unit {0})
+      hours = λ n. list_said ByHour (λ r. r.hours) _ sets_hours passes_hour (λ s. contains s n) _ (λ s. Unit {0})
           (adds_number (λ i. number_of i) (fits_list ByHour) (λ i fit. let last = number_high 0 23 i fit in omega arith) n) ps a once tt (has_none n);
-      months = λ n. list_said ByMonth (λ r. r.months) _ sets_months passes_month (λ s. has s n) _ (λ s. Unit {0})
+      months = λ n. list_said ByMonth (λ r. r.months) _ sets_months passes_month (λ s. contains s n) _ (λ s. Unit {0})
           (adds_number (λ i. number_of i) (fits_list ByMonth) (λ i fit. let last = number_high 1 12 i fit in omega arith) n) ps a once tt (has_none n);
       month_days = λ side n. list_said ByMonthDay (λ r. r.month_days) _ sets_month_days passes_month_day (has_place side n) _ (λ p. Unit {0}) (adds_place 31 (lit< tt) side n) ps a once tt (none_here side n);
       weeks = λ side n. list_said ByWeekNo (λ r. r.weeks) _ sets_weeks passes_week_no (has_place side n) _ (λ p. Unit {0}) (adds_place 53 (lit< tt) side n) ps a once tt (none_here side n);
@@ -228,7 +228,7 @@ says ps h =
           (record { front = refl; back = refl }) (none_wide_here side n);
       positions = λ side n. list_said BySetPos (λ r. r.positions) _ sets_positions passes_set_pos (has_wide_place side n) _ IsWide (adds_wide_place 366 (lit< tt) side n) ps a once
           (record { front = refl; back = refl }) (none_wide_here side n);
-      weekdays = λ day. list_said ByDay (λ r. r.weekdays) _ sets_weekdays passes_day (λ w. has w.plain (monday_zero day)) _ (λ w. Unit {0}) (adds_weekday day) ps a once tt (has_none (monday_zero day));
+      weekdays = λ day. list_said ByDay (λ r. r.weekdays) _ sets_weekdays passes_day (λ w. contains w.plain (monday_zero day)) _ (λ w. Unit {0}) (adds_weekday day) ps a once tt (has_none (monday_zero day));
       numbered = λ day side n. list_said ByDay (λ r. r.weekdays) _ sets_weekdays passes_day (λ w. has_place side n (numbers_of w (monday_zero day))) _ HasSeven
           (adds_numbered day side n) ps a once refl (none_numbered day side n);
     }

@@ -10,7 +10,7 @@ use Rattle.ics_values.specs.declared.part_name.PartName.TheVariants as part
 use Rattle.ics_values.specs.Digits.{number_of}
 use Rattle.ics_values.specs.Texts.{unsigned}
 use Rattle.ics_values.specs.Sets.{with_number}
-use Rattle.ics_values.specs.Places.{with_place, with_wide_place}
+use Rattle.ics_values.specs.Ordinals.{with_ordinal, with_wide_ordinal}
 use Rattle.ics_values.specs.RuleParts.{RuleParts}
 use Rattle.ics_values.specs.RuleTexts.{Part, pieces, row, is_name, same_name, has_part, none_twice, frequency_of, weekday_of, until_of, side_of, day_text}
 use Rattle.ics_values.specs.Rules.{with_item, with_value, with_named, with_part, with_day}
@@ -210,8 +210,8 @@ other_weekdays _ e v r = refl
 pub sets_weekdays : Sets (part.List ByDay) (λ r. r.weekdays) (λ v x. fold (λ w i. with_day (weekday_of (day_text i)) i w) x (pieces 44 v))
 sets_weekdays = record { own = own_weekdays; other = other_weekdays }
 
-own_month_days : (m : PartName) → (row m == row (part.List ByMonthDay)) ≡ true → (v : List ℕ) (r : RuleParts) → (with_value m v r).month_days ≡ fold (λ p i. with_place (side_of i) (number_of (unsigned i)) p) r.month_days (pieces 44 v)
-own_month_days (part.List ByMonthDay) e v r = fold_field (λ x. x.month_days) (with_item ByMonthDay) (λ p i. with_place (side_of i) (number_of (unsigned i)) p) (λ x i. refl) (pieces 44 v) r
+own_month_days : (m : PartName) → (row m == row (part.List ByMonthDay)) ≡ true → (v : List ℕ) (r : RuleParts) → (with_value m v r).month_days ≡ fold (λ p i. with_ordinal (side_of i) (number_of (unsigned i)) p) r.month_days (pieces 44 v)
+own_month_days (part.List ByMonthDay) e v r = fold_field (λ x. x.month_days) (with_item ByMonthDay) (λ p i. with_ordinal (side_of i) (number_of (unsigned i)) p) (λ x i. refl) (pieces 44 v) r
 own_month_days _ e v r = absurd (false≢true e)
 
 other_month_days : (m : PartName) → (row m == row (part.List ByMonthDay)) ≡ false → (v : List ℕ) (r : RuleParts) → (with_value m v r).month_days ≡ r.month_days
@@ -219,11 +219,11 @@ other_month_days (part.List ByMonthDay) e v r = absurd (true≢false e)
 other_month_days (part.List l) e v r = keeps_field (λ x. x.month_days) (with_item l) (λ x i. refl) (pieces 44 v) r
 other_month_days _ e v r = refl
 
-pub sets_month_days : Sets (part.List ByMonthDay) (λ r. r.month_days) (λ v x. fold (λ p i. with_place (side_of i) (number_of (unsigned i)) p) x (pieces 44 v))
+pub sets_month_days : Sets (part.List ByMonthDay) (λ r. r.month_days) (λ v x. fold (λ p i. with_ordinal (side_of i) (number_of (unsigned i)) p) x (pieces 44 v))
 sets_month_days = record { own = own_month_days; other = other_month_days }
 
-own_weeks : (m : PartName) → (row m == row (part.List ByWeekNo)) ≡ true → (v : List ℕ) (r : RuleParts) → (with_value m v r).weeks ≡ fold (λ p i. with_place (side_of i) (number_of (unsigned i)) p) r.weeks (pieces 44 v)
-own_weeks (part.List ByWeekNo) e v r = fold_field (λ x. x.weeks) (with_item ByWeekNo) (λ p i. with_place (side_of i) (number_of (unsigned i)) p) (λ x i. refl) (pieces 44 v) r
+own_weeks : (m : PartName) → (row m == row (part.List ByWeekNo)) ≡ true → (v : List ℕ) (r : RuleParts) → (with_value m v r).weeks ≡ fold (λ p i. with_ordinal (side_of i) (number_of (unsigned i)) p) r.weeks (pieces 44 v)
+own_weeks (part.List ByWeekNo) e v r = fold_field (λ x. x.weeks) (with_item ByWeekNo) (λ p i. with_ordinal (side_of i) (number_of (unsigned i)) p) (λ x i. refl) (pieces 44 v) r
 own_weeks _ e v r = absurd (false≢true e)
 
 other_weeks : (m : PartName) → (row m == row (part.List ByWeekNo)) ≡ false → (v : List ℕ) (r : RuleParts) → (with_value m v r).weeks ≡ r.weeks
@@ -231,11 +231,11 @@ other_weeks (part.List ByWeekNo) e v r = absurd (true≢false e)
 other_weeks (part.List l) e v r = keeps_field (λ x. x.weeks) (with_item l) (λ x i. refl) (pieces 44 v) r
 other_weeks _ e v r = refl
 
-pub sets_weeks : Sets (part.List ByWeekNo) (λ r. r.weeks) (λ v x. fold (λ p i. with_place (side_of i) (number_of (unsigned i)) p) x (pieces 44 v))
+pub sets_weeks : Sets (part.List ByWeekNo) (λ r. r.weeks) (λ v x. fold (λ p i. with_ordinal (side_of i) (number_of (unsigned i)) p) x (pieces 44 v))
 sets_weeks = record { own = own_weeks; other = other_weeks }
 
-own_year_days : (m : PartName) → (row m == row (part.List ByYearDay)) ≡ true → (v : List ℕ) (r : RuleParts) → (with_value m v r).year_days ≡ fold (λ p i. with_wide_place (side_of i) (number_of (unsigned i)) p) r.year_days (pieces 44 v)
-own_year_days (part.List ByYearDay) e v r = fold_field (λ x. x.year_days) (with_item ByYearDay) (λ p i. with_wide_place (side_of i) (number_of (unsigned i)) p) (λ x i. refl) (pieces 44 v) r
+own_year_days : (m : PartName) → (row m == row (part.List ByYearDay)) ≡ true → (v : List ℕ) (r : RuleParts) → (with_value m v r).year_days ≡ fold (λ p i. with_wide_ordinal (side_of i) (number_of (unsigned i)) p) r.year_days (pieces 44 v)
+own_year_days (part.List ByYearDay) e v r = fold_field (λ x. x.year_days) (with_item ByYearDay) (λ p i. with_wide_ordinal (side_of i) (number_of (unsigned i)) p) (λ x i. refl) (pieces 44 v) r
 own_year_days _ e v r = absurd (false≢true e)
 
 other_year_days : (m : PartName) → (row m == row (part.List ByYearDay)) ≡ false → (v : List ℕ) (r : RuleParts) → (with_value m v r).year_days ≡ r.year_days
@@ -243,11 +243,11 @@ other_year_days (part.List ByYearDay) e v r = absurd (true≢false e)
 other_year_days (part.List l) e v r = keeps_field (λ x. x.year_days) (with_item l) (λ x i. refl) (pieces 44 v) r
 other_year_days _ e v r = refl
 
-pub sets_year_days : Sets (part.List ByYearDay) (λ r. r.year_days) (λ v x. fold (λ p i. with_wide_place (side_of i) (number_of (unsigned i)) p) x (pieces 44 v))
+pub sets_year_days : Sets (part.List ByYearDay) (λ r. r.year_days) (λ v x. fold (λ p i. with_wide_ordinal (side_of i) (number_of (unsigned i)) p) x (pieces 44 v))
 sets_year_days = record { own = own_year_days; other = other_year_days }
 
-own_positions : (m : PartName) → (row m == row (part.List BySetPos)) ≡ true → (v : List ℕ) (r : RuleParts) → (with_value m v r).positions ≡ fold (λ p i. with_wide_place (side_of i) (number_of (unsigned i)) p) r.positions (pieces 44 v)
-own_positions (part.List BySetPos) e v r = fold_field (λ x. x.positions) (with_item BySetPos) (λ p i. with_wide_place (side_of i) (number_of (unsigned i)) p) (λ x i. refl) (pieces 44 v) r
+own_positions : (m : PartName) → (row m == row (part.List BySetPos)) ≡ true → (v : List ℕ) (r : RuleParts) → (with_value m v r).positions ≡ fold (λ p i. with_wide_ordinal (side_of i) (number_of (unsigned i)) p) r.positions (pieces 44 v)
+own_positions (part.List BySetPos) e v r = fold_field (λ x. x.positions) (with_item BySetPos) (λ p i. with_wide_ordinal (side_of i) (number_of (unsigned i)) p) (λ x i. refl) (pieces 44 v) r
 own_positions _ e v r = absurd (false≢true e)
 
 other_positions : (m : PartName) → (row m == row (part.List BySetPos)) ≡ false → (v : List ℕ) (r : RuleParts) → (with_value m v r).positions ≡ r.positions
@@ -255,5 +255,5 @@ other_positions (part.List BySetPos) e v r = absurd (true≢false e)
 other_positions (part.List l) e v r = keeps_field (λ x. x.positions) (with_item l) (λ x i. refl) (pieces 44 v) r
 other_positions _ e v r = refl
 
-pub sets_positions : Sets (part.List BySetPos) (λ r. r.positions) (λ v x. fold (λ p i. with_wide_place (side_of i) (number_of (unsigned i)) p) x (pieces 44 v))
+pub sets_positions : Sets (part.List BySetPos) (λ r. r.positions) (λ v x. fold (λ p i. with_wide_ordinal (side_of i) (number_of (unsigned i)) p) x (pieces 44 v))
 sets_positions = record { own = own_positions; other = other_positions }

@@ -5,14 +5,14 @@ use Rattle.std.proofs.lemmas.Nat.Bits.{bit_at_set_same, bit_at_set_other, bit_at
 use Rattle.std.proofs.lemmas.Nat.{one_shl, pow-add, div-add-mod'}
 use Rattle.std.proofs.Math.Nat.{div-div-eq-div-mul, div-le_self}
 use Rattle.std.specs.Int.{trailing_zeros}
-use Rattle.ics_values.specs.Sets.{has, has_wide, with_number, with_wide_number, IsWithin, IsLeastFrom}
+use Rattle.ics_values.specs.Sets.{contains, contains_wide, with_number, with_wide_number, IsWithin, IsLeastFrom}
 
 same_or_not : (m n : ℕ) → (m ≡ n) ⊎ (m ≢ n)
 same_or_not m n = grind (arith, nat_tests)
 
 -- a word with the bit n set
-pub has-or_bit : (s n m : ℕ) → n < 64 → has (bit_or s (1 * 2 ^ n % 18446744073709551616)) m ≡ (m == n) || has s m
-has-or_bit s n m h = elim (same_or_not m n) [
+pub contains-or_bit : (s n m : ℕ) → n < 64 → contains (bit_or s (1 * 2 ^ n % 18446744073709551616)) m ≡ (m == n) || contains s m
+contains-or_bit s n m h = elim (same_or_not m n) [
   | inl e ↦ rw e (let one = bit_at_set_same w64 s n h in grind (arith, nat_tests))
   | inr ne ↦ let other = bit_at_set_other w64 s n h m ne in grind (arith, nat_tests)
 ]
@@ -21,27 +21,27 @@ has-or_bit s n m h = elim (same_or_not m n) [
 pub with_number-is : (s n : ℕ) → n < 64 → bit_or s (1 * 2 ^ n % 18446744073709551616) ≡ with_number n s
 with_number-is s n h = ap (bit_or s) (one_shl n 64 h)
 
-pub has-with_number : (s n m : ℕ) → n < 64 → has (with_number n s) m ≡ (m == n) || has s m
-has-with_number s n m h = ap (λ x. has x m) (sym (with_number-is s n h)) ∙ has-or_bit s n m h
+pub contains-with_number : (s n m : ℕ) → n < 64 → contains (with_number n s) m ≡ (m == n) || contains s m
+contains-with_number s n m h = ap (λ x. contains x m) (sym (with_number-is s n h)) ∙ contains-or_bit s n m h
 
 same_in_word : (m n : ℕ) → m / 64 ≡ n / 64 → (m % 64 == n % 64) ≡ (m == n)
 same_in_word m n e = grind (arith, nat_tests)
 
 -- a digit of a list of words
 abbrev has_digit : List ℕ → ℕ → Bool
-has_digit ws n = has (get_or ws (n / 64) 0) (n % 64)
+has_digit ws n = contains (get_or ws (n / 64) 0) (n % 64)
 
 -- words of which one has the bit set
 has_digit-set : (ws : List ℕ) (n m : ℕ) → n / 64 < length ws →
     has_digit (set ws (n / 64) (bit_or (get_or ws (n / 64) 0) (1 * 2 ^ (n % 64) % 18446744073709551616))) m ≡ (m == n) || has_digit ws m
 has_digit-set ws n m h = elim (same_or_not (m / 64) (n / 64)) [
-  | inl e ↦ rw (e, get_or-set_same) (has-or_bit (get_or ws (n / 64) 0) (n % 64) (m % 64) (omega arith) ∙ ap (λ b. b || has (get_or ws (n / 64) 0) (m % 64)) (same_in_word m n e))
+  | inl e ↦ rw (e, get_or-set_same) (contains-or_bit (get_or ws (n / 64) 0) (n % 64) (m % 64) (omega arith) ∙ ap (λ b. b || contains (get_or ws (n / 64) 0) (m % 64)) (same_in_word m n e))
   | inr ne ↦ rw (get_or-set_other) (let differ : m ≢ n = λ e. ne (ap (λ x. x / 64) e) in grind (arith, nat_tests))
 ]
 
-pub has_wide-set : (ws : List ℕ) (n m : ℕ) → n / 64 < length ws → n < 384 →
-    has_wide (set ws (n / 64) (bit_or (get_or ws (n / 64) 0) (1 * 2 ^ (n % 64) % 18446744073709551616))) m ≡ (m == n) || has_wide ws m
-has_wide-set ws n m h low = ap (λ x. nat_lt m 384 && x) (has_digit-set ws n m h) ∙ cases (nat_lt m 384) (m == n) (has_digit ws m) (λ out. apart m n low out)
+pub contains_wide-set : (ws : List ℕ) (n m : ℕ) → n / 64 < length ws → n < 384 →
+    contains_wide (set ws (n / 64) (bit_or (get_or ws (n / 64) 0) (1 * 2 ^ (n % 64) % 18446744073709551616))) m ≡ (m == n) || contains_wide ws m
+contains_wide-set ws n m h low = ap (λ x. nat_lt m 384 && x) (has_digit-set ws n m h) ∙ cases (nat_lt m 384) (m == n) (has_digit ws m) (λ out. apart m n low out)
   where
     apart : (m n : ℕ) → n < 384 → nat_lt m 384 ≡ false → (m == n) ≡ false
     apart m n h o = grind (arith, nat_tests)
@@ -51,7 +51,7 @@ has_wide-set ws n m h low = ap (λ x. nat_lt m 384 && x) (has_digit-set ws n m h
     cases false b c h = rw (h refl) refl
 
 -- no member lies past the end
-pub wide_past : (ws : List ℕ) (m : ℕ) → 384 ≤ m → has_wide ws m ≡ false
+pub wide_past : (ws : List ℕ) (m : ℕ) → 384 ≤ m → contains_wide ws m ≡ false
 wide_past ws m h = ap (λ x. x && has_digit ws m) (outside m h)
   where
     outside : (m : ℕ) → 384 ≤ m → nat_lt m 384 ≡ false
@@ -60,8 +60,8 @@ wide_past ws m h = ap (λ x. x && has_digit ws m) (outside m h)
 pub with_wide_number-is : (ws : List ℕ) (n : ℕ) → set ws (n / 64) (bit_or (get_or ws (n / 64) 0) (1 * 2 ^ (n % 64) % 18446744073709551616)) ≡ with_wide_number n ws
 with_wide_number-is ws n = ap (λ x. set ws (n / 64) x) (with_number-is (get_or ws (n / 64) 0) (n % 64) (omega arith))
 
-pub has_wide-with_number : (ws : List ℕ) (n m : ℕ) → n / 64 < length ws → n < 384 → has_wide (with_wide_number n ws) m ≡ (m == n) || has_wide ws m
-has_wide-with_number ws n m h low = ap (λ x. has_wide x m) (sym (with_wide_number-is ws n)) ∙ has_wide-set ws n m h low
+pub contains_wide-with_number : (ws : List ℕ) (n m : ℕ) → n / 64 < length ws → n < 384 → contains_wide (with_wide_number n ws) m ≡ (m == n) || contains_wide ws m
+contains_wide-with_number ws n m h low = ap (λ x. contains_wide x m) (sym (with_wide_number-is ws n)) ∙ contains_wide-set ws n m h low
 
 -- a number in its range keeps a set in it
 pub within_more : (low high n : ℕ) (test more : ℕ → Bool) → ((m : ℕ) → more m ≡ (m == n) || test m) → IsWithin low high test → low ≤ n → n ≤ high → IsWithin low high more
@@ -75,34 +75,34 @@ within_more low high n test more each own l h m e = cases m (test m) refl (sym (
         fact a b c p q = grind (arith, nat_tests)
 
 -- the digits of a shifted word are those further on
-has-shift : (s n i : ℕ) → has (s / 2 ^ n) i ≡ has s (n + i)
-has-shift s n i = ap (λ x. x % 2 == 1) (div-div-eq-div-mul s (2 ^ n) (2 ^ i) ∙ ap (λ x. s / x) (sym (pow-add 2 n i)))
+contains-shift : (s n i : ℕ) → contains (s / 2 ^ n) i ≡ contains s (n + i)
+contains-shift s n i = ap (λ x. x % 2 == 1) (div-div-eq-div-mul s (2 ^ n) (2 ^ i) ∙ ap (λ x. s / x) (sym (pow-add 2 n i)))
 
 -- no digit of a word stands at 64 or later
-pub has_above : (s k m : ℕ) → s < 2 ^ k → k ≤ m → has s m ≡ false
+pub has_above : (s k m : ℕ) → s < 2 ^ k → k ≤ m → contains s m ≡ false
 has_above s k m h l = ap (λ x. x == 1) (bit_at_above s k m h l)
 
 -- a set whose shifted word is 0 has no later member
-pub none_later : (s n m : ℕ) → s / 2 ^ n ≡ 0 → n ≤ m → has s m ≡ false
+pub none_later : (s n m : ℕ) → s / 2 ^ n ≡ 0 → n ≤ m → contains s m ≡ false
 none_later s n m h l =
     let e : n + (m - n) ≡ m = omega arith in
-    subst (λ x. has s x ≡ false) e (sym (has-shift s n (m - n)) ∙ ap (λ x. has x (m - n)) h ∙ ap (λ x. x == 1) (bit_at-zero (m - n)))
+    subst (λ x. contains s x ≡ false) e (sym (contains-shift s n (m - n)) ∙ ap (λ x. contains x (m - n)) h ∙ ap (λ x. x == 1) (bit_at-zero (m - n)))
 
 -- the lowest digit of the shifted word is the next member
-pub next_member : (s n : ℕ) → s < 2 ^ 64 → s / 2 ^ n ≢ 0 → IsLeastFrom (has s) n (n + trailing_zeros w64 (s / 2 ^ n))
+pub next_member : (s n : ℕ) → s < 2 ^ 64 → s / 2 ^ n ≢ 0 → IsLeastFrom (contains s) n (n + trailing_zeros w64 (s / 2 ^ n))
 next_member s n h some =
     let low : s / 2 ^ n ≤ s = div-le_self s (2 ^ n) in
     let first = bit_at-trailing_zeros w64 (s / 2 ^ n) (omega arith) (omega arith) in
     record {
-      passes = sym (has-shift s n (trailing_zeros w64 (s / 2 ^ n))) ∙ ap (λ x. x == 1) first.1;
+      passes = sym (contains-shift s n (trailing_zeros w64 (s / 2 ^ n))) ∙ ap (λ x. x == 1) first.1;
       low = omega arith;
       least = λ m l u. let e : n + (m - n) ≡ m = omega arith in
-          subst (λ x. has s x ≡ false) e (sym (has-shift s n (m - n)) ∙ ap (λ x. x == 1) (first.2 (m - n) (omega arith)));
+          subst (λ x. contains s x ≡ false) e (sym (contains-shift s n (m - n)) ∙ ap (λ x. x == 1) (first.2 (m - n) (omega arith)));
     }
 
 -- members lie below the size of the word
-pub member_below : (s k m : ℕ) → s < 2 ^ k → has s m ≡ true → m < k
-member_below s k m h t = elim (by_order m k) [ inl l ↦ l | inr g ↦ absurd (true_or_false (has s m) t (has_above s k m h g)) ]
+pub member_below : (s k m : ℕ) → s < 2 ^ k → contains s m ≡ true → m < k
+member_below s k m h t = elim (by_order m k) [ inl l ↦ l | inr g ↦ absurd (true_or_false (contains s m) t (has_above s k m h g)) ]
   where
     by_order : (m k : ℕ) → (m < k) ⊎ (k ≤ m)
     by_order m k = grind arith
@@ -111,12 +111,12 @@ member_below s k m h t = elim (by_order m k) [ inl l ↦ l | inr g ↦ absurd (t
     true_or_false b p q = cc
 
 -- the members below a size
-pub has-front : (s k m : ℕ) → m < k → has (s % 2 ^ k) m ≡ has s m
-has-front s k m h = ap (λ x. x == 1) (sym (bit_at_cat_low (s / 2 ^ k) k (s % 2 ^ k) m h)) ∙ ap (λ x. has x m) (div-add-mod' s (2 ^ k))
+pub contains-front : (s k m : ℕ) → m < k → contains (s % 2 ^ k) m ≡ contains s m
+contains-front s k m h = ap (λ x. x == 1) (sym (bit_at_cat_low (s / 2 ^ k) k (s % 2 ^ k) m h)) ∙ ap (λ x. contains x m) (div-add-mod' s (2 ^ k))
 
-pub has-below : (k m : ℕ) → m < k → has (2 ^ k - 1) m ≡ true
-has-below k m h = ap (λ x. x == 1) (bit_at_ones k m h)
+pub contains-below : (k m : ℕ) → m < k → contains (2 ^ k - 1) m ≡ true
+contains-below k m h = ap (λ x. x == 1) (bit_at_ones k m h)
 
 -- no member from n on lies below a bound
 abbrev pub NoneBelow : List ℕ → ℕ → ℕ → Type 0
-NoneBelow ws n bound = (m : ℕ) → n ≤ m → m < bound → has_wide ws m ≡ false
+NoneBelow ws n bound = (m : ℕ) → n ≤ m → m < bound → contains_wide ws m ≡ false

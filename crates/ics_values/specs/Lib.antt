@@ -14,10 +14,10 @@ pub mod Amounts
 pub mod Offsets
 pub mod Periods
 pub mod Sets
-pub mod Places
+pub mod Ordinals
 pub mod RuleParts
 pub mod RuleTexts
 pub mod Rules
 pub mod RuleDrafts
 pub mod RuleLaws
-pub mod Faults
+pub mod ValueFaultNames

@@ -1,11 +1,11 @@
 -- A rule's parts as they are read one after another (RFC 5545, section 3.3.10).
 use Rattle.std.specs.Prelude.{◌≡◌, ◌<◌, ◌≤◌, ℕ, Bool, true, false, ◌&&◌, not, List, [], ◌∷◌, Option, Some, None, option_and_then, length, ◌==◌, if◌then◌else◌}
 use Rattle.ics_values.specs.Digits.{number_of, greatest_number}
-use Rattle.ics_values.specs.Sets.{has, with_number}
+use Rattle.ics_values.specs.Sets.{contains, with_number}
 use Rattle.ics_values.specs.RuleParts.{RuleParts, every}
 use Rattle.ics_values.specs.declared.frequency.Frequency.TheVariants.{Yearly}
 use Rattle.ics_values.specs.declared.part_name.PartName.TheVariants as part
-use Rattle.ics_values.specs.declared.places.Side.{Side}
+use Rattle.ics_values.specs.declared.ordinals.Side.{Side}
 use Rattle.ics_values.specs.declared.rule_value.Amount.{Amount}
 use Rattle.ics_values.specs.declared.rule_value.Amount.TheVariants as amount
 use Rattle.ics_values.specs.declared.rule_value.DayItem.{DayItem}
@@ -47,7 +47,7 @@ value_taken name value draft =
 abbrev pub named_taken : Option PartName → List ℕ → Draft → Option Draft
 named_taken None value draft = None
 named_taken (Some name) value draft =
-    if has draft.seen (row name) then None
+    if contains draft.seen (row name) then None
     else value_taken name value (record draft { seen = with_number (row name) draft.seen })
 
 abbrev pub part_taken : Draft → List ℕ → Option Draft
@@ -74,4 +74,4 @@ no_parts = record { parts = every Yearly; seen = 0; too_large = false }
 
 -- FREQ was read, and not both UNTIL and COUNT
 abbrev pub is_whole : Draft → Bool
-is_whole draft = has draft.seen (row part.Freq) && not (has draft.seen (row part.Until) && has draft.seen (row part.Count))
+is_whole draft = contains draft.seen (row part.Freq) && not (contains draft.seen (row part.Until) && contains draft.seen (row part.Count))

@@ -7,13 +7,13 @@ use Rattle.jiff_core.specs.declared.civil.weekday.Weekday.TheVariants.{Monday}
 use Rattle.jiff_core.specs.Weekday.{monday_zero}
 use Rattle.ics_values.specs.Digits.{number_of}
 use Rattle.ics_values.specs.Texts.{begins, is_minus, unsigned}
-use Rattle.ics_values.specs.Sets.{is_none, has, has_wide}
-use Rattle.ics_values.specs.Places.{lists_none, lists_none_wide, lists_no_weekday, numbers_of}
+use Rattle.ics_values.specs.Sets.{is_empty, contains, contains_wide}
+use Rattle.ics_values.specs.Ordinals.{lists_none, lists_none_wide, lists_no_weekday, numbers_of}
 use Rattle.ics_values.specs.RuleParts.{RuleParts}
-use Rattle.ics_values.specs.declared.places.Side.{Side}
-use Rattle.ics_values.specs.declared.places.Side.TheVariants.{Front, Back}
-use Rattle.ics_values.specs.declared.places.Places.{Places}
-use Rattle.ics_values.specs.declared.places.WidePlaces.{WidePlaces}
+use Rattle.ics_values.specs.declared.ordinals.Side.{Side}
+use Rattle.ics_values.specs.declared.ordinals.Side.TheVariants.{Front, Back}
+use Rattle.ics_values.specs.declared.ordinals.Ordinals.{Ordinals}
+use Rattle.ics_values.specs.declared.ordinals.WideOrdinals.{WideOrdinals}
 use Rattle.ics_values.specs.declared.part_name.ListName.{ListName}
 use Rattle.ics_values.specs.declared.part_name.ListName.TheVariants.{BySecond, ByMinute, ByHour, ByDay, ByMonthDay, ByYearDay, ByWeekNo, ByMonth, BySetPos}
 use Rattle.ics_values.specs.declared.part_name.PartName.{PartName}
@@ -29,13 +29,13 @@ abbrev pub items_of : ListName → List Part → List (List ℕ)
 items_of list ps = option_map_or (pieces 44) (value_of (part.List list) ps) []
 
 -- the n-th from an end is a member
-abbrev pub has_place : Side → ℕ → Places → Bool
-has_place Front n p = has p.front n
-has_place Back n p = has p.back n
+abbrev pub has_place : Side → ℕ → Ordinals → Bool
+has_place Front n p = contains p.front n
+has_place Back n p = contains p.back n
 
-abbrev pub has_wide_place : Side → ℕ → WidePlaces → Bool
-has_wide_place Front n p = has_wide p.front n
-has_wide_place Back n p = has_wide p.back n
+abbrev pub has_wide_place : Side → ℕ → WideOrdinals → Bool
+has_wide_place Front n p = contains_wide p.front n
+has_wide_place Back n p = contains_wide p.back n
 
 -- a minus counts from the end
 abbrev pub is_side : Side → Bool → Bool
@@ -64,25 +64,25 @@ pub record Says (ps : List Part) (rule : RuleParts) : Type 0 where
   pub count : rule.count ≡ option_map number_of (value_of part.Count ps)
   pub interval : rule.interval ≡ option_map_or number_of (value_of part.Interval ps) 1
   pub week_start : Some rule.week_start ≡ option_map_or weekday_of (value_of part.Wkst ps) (Some Monday)
-  pub seconds : (n : ℕ) → has rule.seconds n ≡ list_any (λ item. n == min (number_of item) 59) (items_of BySecond ps)
-  pub minutes : (n : ℕ) → has rule.minutes n ≡ list_any (λ item. n == number_of item) (items_of ByMinute ps)
-  pub hours : (n : ℕ) → has rule.hours n ≡ list_any (λ item. n == number_of item) (items_of ByHour ps)
-  pub months : (n : ℕ) → has rule.months n ≡ list_any (λ item. n == number_of item) (items_of ByMonth ps)
+  pub seconds : (n : ℕ) → contains rule.seconds n ≡ list_any (λ item. n == min (number_of item) 59) (items_of BySecond ps)
+  pub minutes : (n : ℕ) → contains rule.minutes n ≡ list_any (λ item. n == number_of item) (items_of ByMinute ps)
+  pub hours : (n : ℕ) → contains rule.hours n ≡ list_any (λ item. n == number_of item) (items_of ByHour ps)
+  pub months : (n : ℕ) → contains rule.months n ≡ list_any (λ item. n == number_of item) (items_of ByMonth ps)
   pub month_days : (side : Side) (n : ℕ) → has_place side n rule.month_days ≡ list_any (is_place side n) (items_of ByMonthDay ps)
   pub year_days : (side : Side) (n : ℕ) → has_wide_place side n rule.year_days ≡ list_any (is_place side n) (items_of ByYearDay ps)
   pub weeks : (side : Side) (n : ℕ) → has_place side n rule.weeks ≡ list_any (is_place side n) (items_of ByWeekNo ps)
   pub positions : (side : Side) (n : ℕ) → has_wide_place side n rule.positions ≡ list_any (is_place side n) (items_of BySetPos ps)
-  pub weekdays : (day : Weekday) → has rule.weekdays.plain (monday_zero day) ≡ list_any (is_weekday day) (items_of ByDay ps)
+  pub weekdays : (day : Weekday) → contains rule.weekdays.plain (monday_zero day) ≡ list_any (is_weekday day) (items_of ByDay ps)
   pub numbered : (day : Weekday) (side : Side) (n : ℕ) → has_place side n (numbers_of rule.weekdays (monday_zero day)) ≡ list_any (is_numbered day side n) (items_of ByDay ps)
 
 -- the rule has no number in the list
 abbrev pub lists_nothing : ListName → RuleParts → Bool
-lists_nothing BySecond rule = is_none rule.seconds
-lists_nothing ByMinute rule = is_none rule.minutes
-lists_nothing ByHour rule = is_none rule.hours
+lists_nothing BySecond rule = is_empty rule.seconds
+lists_nothing ByMinute rule = is_empty rule.minutes
+lists_nothing ByHour rule = is_empty rule.hours
 lists_nothing ByDay rule = lists_no_weekday rule.weekdays
 lists_nothing ByMonthDay rule = lists_none rule.month_days
 lists_nothing ByYearDay rule = lists_none_wide rule.year_days
 lists_nothing ByWeekNo rule = lists_none rule.weeks
-lists_nothing ByMonth rule = is_none rule.months
+lists_nothing ByMonth rule = is_empty rule.months
 lists_nothing BySetPos rule = lists_none_wide rule.positions

@@ -5,12 +5,12 @@ use Rattle.jiff_core.specs.declared.civil.weekday.Weekday.TheVariants.{Monday}
 use Rattle.ics_values.specs.declared.frequency.Frequency.{Frequency}
 use Rattle.ics_values.specs.declared.until.Until.{Until}
 use Rattle.ics_values.specs.declared.until.Until.TheVariants as until
-use Rattle.ics_values.specs.declared.places.Places.{Places}
-use Rattle.ics_values.specs.declared.places.WidePlaces.{WidePlaces}
-use Rattle.ics_values.specs.declared.places.Weekdays.{Weekdays}
+use Rattle.ics_values.specs.declared.ordinals.Ordinals.{Ordinals}
+use Rattle.ics_values.specs.declared.ordinals.WideOrdinals.{WideOrdinals}
+use Rattle.ics_values.specs.declared.ordinals.Weekdays.{Weekdays}
 use Rattle.ics_values.specs.Days.{IsDayNumber}
-use Rattle.ics_values.specs.Sets.{has, has_wide, IsWithin}
-use Rattle.ics_values.specs.Places.{no_places, no_wide_places, no_weekdays, numbers_of}
+use Rattle.ics_values.specs.Sets.{contains, contains_wide, IsWithin}
+use Rattle.ics_values.specs.Ordinals.{no_ordinals, no_wide_ordinals, no_weekdays, numbers_of}
 
 -- an empty list is an absent part
 pub record RuleParts : Type 0 where
@@ -22,11 +22,11 @@ pub record RuleParts : Type 0 where
   pub minutes : ℕ
   pub hours : ℕ
   pub weekdays : Weekdays
-  pub month_days : Places
-  pub year_days : WidePlaces
-  pub weeks : Places
+  pub month_days : Ordinals
+  pub year_days : WideOrdinals
+  pub weeks : Ordinals
   pub months : ℕ
-  pub positions : WidePlaces
+  pub positions : WideOrdinals
   pub week_start : Weekday
 
 -- the rule with FREQ alone
@@ -40,11 +40,11 @@ every f = record {
   minutes = 0;
   hours = 0;
   weekdays = no_weekdays;
-  month_days = no_places;
-  year_days = no_wide_places;
-  weeks = no_places;
+  month_days = no_ordinals;
+  year_days = no_wide_ordinals;
+  weeks = no_ordinals;
   months = 0;
-  positions = no_wide_places;
+  positions = no_wide_ordinals;
   week_start = Monday;
 }
 
@@ -55,26 +55,26 @@ IsUntil (until.Local local) = IsDayNumber local.day
 IsUntil (until.Utc local) = IsDayNumber local.day
 
 -- numbers from 1 to high, from either end
-pub record ArePlaces (p : Places) (high : ℕ) : Type 0 where
-  pub front : IsWithin 1 high (has p.front)
-  pub back : IsWithin 1 high (has p.back)
+pub record ArePlaces (p : Ordinals) (high : ℕ) : Type 0 where
+  pub front : IsWithin 1 high (contains p.front)
+  pub back : IsWithin 1 high (contains p.back)
 
-pub record AreWidePlaces (p : WidePlaces) (high : ℕ) : Type 0 where
-  pub front : IsWithin 1 high (has_wide p.front)
-  pub back : IsWithin 1 high (has_wide p.back)
+pub record AreWidePlaces (p : WideOrdinals) (high : ℕ) : Type 0 where
+  pub front : IsWithin 1 high (contains_wide p.front)
+  pub back : IsWithin 1 high (contains_wide p.back)
 
 -- each number is one that the grammar of its part allows
 pub record IsRuleParts (p : RuleParts) : Type 0 where
   pub interval : 1 ≤ p.interval
   pub count : MatchOption p.count (Unit {0}) (λ n. 1 ≤ n)
   pub until : MatchOption p.until (Unit {0}) IsUntil
-  pub seconds : IsWithin 0 59 (has p.seconds)
-  pub minutes : IsWithin 0 59 (has p.minutes)
-  pub hours : IsWithin 0 23 (has p.hours)
-  pub weekdays : IsWithin 0 6 (has p.weekdays.plain)
+  pub seconds : IsWithin 0 59 (contains p.seconds)
+  pub minutes : IsWithin 0 59 (contains p.minutes)
+  pub hours : IsWithin 0 23 (contains p.hours)
+  pub weekdays : IsWithin 0 6 (contains p.weekdays.plain)
   pub numbered : (w : ℕ) → ArePlaces (numbers_of p.weekdays w) 53
   pub month_days : ArePlaces p.month_days 31
   pub year_days : AreWidePlaces p.year_days 366
   pub weeks : ArePlaces p.weeks 53
-  pub months : IsWithin 1 12 (has p.months)
+  pub months : IsWithin 1 12 (contains p.months)
   pub positions : AreWidePlaces p.positions 366

@@ -11,8 +11,8 @@ use Rattle.ics_values.specs.declared.stamp.Stamp.{Stamp}
 use Rattle.ics_values.specs.declared.stamp.Stamp.TheVariants as stamp
 use Rattle.ics_values.specs.declared.until.Until.{Until}
 use Rattle.ics_values.specs.declared.until.Until.TheVariants as until
-use Rattle.ics_values.specs.declared.places.Side.{Side}
-use Rattle.ics_values.specs.declared.places.Side.TheVariants.{Front, Back}
+use Rattle.ics_values.specs.declared.ordinals.Side.{Side}
+use Rattle.ics_values.specs.declared.ordinals.Side.TheVariants.{Front, Back}
 use Rattle.ics_values.specs.declared.frequency.Frequency.{Frequency}
 use Rattle.ics_values.specs.declared.frequency.Frequency.TheVariants.{Secondly, Minutely, Hourly, Daily, Weekly, Monthly, Yearly}
 use Rattle.ics_values.specs.declared.part_name.ListName.{ListName}

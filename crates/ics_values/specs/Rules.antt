@@ -4,12 +4,12 @@ use Rattle.std.specs.List.{list_any}
 use Rattle.jiff_core.specs.declared.civil.weekday.Weekday.{Weekday}
 use Rattle.ics_values.specs.Digits.{number_of, greatest_number}
 use Rattle.ics_values.specs.Sets.{with_number}
-use Rattle.ics_values.specs.Places.{with_place, with_wide_place, with_weekday, with_numbered_weekday}
+use Rattle.ics_values.specs.Ordinals.{with_ordinal, with_wide_ordinal, with_weekday, with_numbered_weekday}
 use Rattle.ics_values.specs.RuleParts.{RuleParts, every}
 use Rattle.ics_values.specs.declared.frequency.Frequency.TheVariants.{Yearly}
 use Rattle.ics_values.specs.declared.rule_text.RuleFault.{RuleFault}
 use Rattle.ics_values.specs.declared.rule_text.RuleFault.TheVariants.{BadRule, NumberTooLarge}
-use Rattle.ics_values.specs.declared.places.Weekdays.{Weekdays}
+use Rattle.ics_values.specs.declared.ordinals.Weekdays.{Weekdays}
 use Rattle.ics_values.specs.declared.part_name.ListName.{ListName}
 use Rattle.ics_values.specs.declared.part_name.ListName.TheVariants.{BySecond, ByMinute, ByHour, ByDay, ByMonthDay, ByYearDay, ByWeekNo, ByMonth, BySetPos}
 use Rattle.ics_values.specs.declared.part_name.PartName.{PartName}
@@ -30,11 +30,11 @@ with_item BySecond rule item = record rule { seconds = with_number (min (number_
 with_item ByMinute rule item = record rule { minutes = with_number (number_of item) rule.minutes }
 with_item ByHour rule item = record rule { hours = with_number (number_of item) rule.hours }
 with_item ByDay rule item = record rule { weekdays = with_day (weekday_of (day_text item)) item rule.weekdays }
-with_item ByMonthDay rule item = record rule { month_days = with_place (side_of item) (number_of (unsigned item)) rule.month_days }
-with_item ByYearDay rule item = record rule { year_days = with_wide_place (side_of item) (number_of (unsigned item)) rule.year_days }
-with_item ByWeekNo rule item = record rule { weeks = with_place (side_of item) (number_of (unsigned item)) rule.weeks }
+with_item ByMonthDay rule item = record rule { month_days = with_ordinal (side_of item) (number_of (unsigned item)) rule.month_days }
+with_item ByYearDay rule item = record rule { year_days = with_wide_ordinal (side_of item) (number_of (unsigned item)) rule.year_days }
+with_item ByWeekNo rule item = record rule { weeks = with_ordinal (side_of item) (number_of (unsigned item)) rule.weeks }
 with_item ByMonth rule item = record rule { months = with_number (number_of item) rule.months }
-with_item BySetPos rule item = record rule { positions = with_wide_place (side_of item) (number_of (unsigned item)) rule.positions }
+with_item BySetPos rule item = record rule { positions = with_wide_ordinal (side_of item) (number_of (unsigned item)) rule.positions }
 
 -- what each part says
 abbrev pub with_value : PartName → List ℕ → RuleParts → RuleParts

@@ -2,12 +2,12 @@
 use Rattle.std.specs.Prelude.{◌≡◌, ℕ, ◌/◌, ◌%◌, ◌^◌, ◌<◌, ◌≤◌, Bool, ◌==◌, List, [], ◌∷◌, get_or, set, true, false, ◌&&◌, nat_lt, Option, MatchOption, bit_or}
 
 -- n is a member
-abbrev pub has : ℕ → ℕ → Bool
-has s n = s / 2 ^ n % 2 == 1
+abbrev pub contains : ℕ → ℕ → Bool
+contains s n = s / 2 ^ n % 2 == 1
 
 -- there is no member
-abbrev pub is_none : ℕ → Bool
-is_none s = s == 0
+abbrev pub is_empty : ℕ → Bool
+is_empty s = s == 0
 
 -- the set of n alone
 abbrev pub only : ℕ → ℕ
@@ -18,12 +18,12 @@ abbrev pub with_number : ℕ → ℕ → ℕ
 with_number n s = bit_or s (only n)
 
 -- the same for a list of six words with 64 digits each: members are below 384
-abbrev pub has_wide : List ℕ → ℕ → Bool
-has_wide ws n = nat_lt n 384 && has (get_or ws (n / 64) 0) (n % 64)
+abbrev pub contains_wide : List ℕ → ℕ → Bool
+contains_wide ws n = nat_lt n 384 && contains (get_or ws (n / 64) 0) (n % 64)
 
-abbrev pub is_none_wide : List ℕ → Bool
-is_none_wide [] = true
-is_none_wide (w ∷ ws) = is_none w && is_none_wide ws
+abbrev pub is_empty_wide : List ℕ → Bool
+is_empty_wide [] = true
+is_empty_wide (w ∷ ws) = is_empty w && is_empty_wide ws
 
 abbrev pub none_wide : List ℕ
 none_wide = 0 ∷ 0 ∷ 0 ∷ 0 ∷ 0 ∷ 0 ∷ []

@@ -1,7 +1,7 @@
 //! Durations, as a property's value has them.
 ghost use Rattle.std.specs.Prelude.{◌≡◌, IfOk};
 ghost use Rattle.ics_values.specs.Durations.{duration_of, IsDurationRange};
-ghost use Rattle.ics_values.specs.Faults.{duration_fault_name};
+ghost use Rattle.ics_values.specs.ValueFaultNames.{duration_fault_name};
 
 use crate::amounts::duration_part;
 use crate::sign::{is_negative, unsigned};

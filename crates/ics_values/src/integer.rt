@@ -1,7 +1,7 @@
 //! Integers, as a property's value has them.
 ghost use Rattle.std.specs.Prelude.{◌≡◌};
 ghost use Rattle.ics_values.specs.Integers.{integer_of, without_plus};
-ghost use Rattle.ics_values.specs.Faults.{integer_fault_name};
+ghost use Rattle.ics_values.specs.ValueFaultNames.{integer_fault_name};
 
 use crate::digits::{are_digits, number_within};
 use thiserror::Error;

@@ -1,12 +1,12 @@
 //! The parts of a recurrence rule.
 ghost use Rattle.std.specs.Prelude.{◌≡◌, ℕ, ◌≤◌, Some, MatchOption};
-ghost use Rattle.ics_values.specs.Sets.{has, with_number, IsWithin};
-ghost use Rattle.ics_values.specs.Places.{numbers_of, with_place, with_wide_place, with_weekday, with_numbered_weekday};
+ghost use Rattle.ics_values.specs.Sets.{contains, with_number, IsWithin};
+ghost use Rattle.ics_values.specs.Ordinals.{numbers_of, with_ordinal, with_wide_ordinal, with_weekday, with_numbered_weekday};
 ghost use Rattle.ics_values.specs.RuleParts.{every, IsUntil, ArePlaces, AreWidePlaces};
 
 use crate::frequency::Frequency;
-use crate::places::{Places, Side, Weekdays, WidePlaces};
-use crate::sets::Numbers;
+use crate::ordinals::{Ordinals, Side, Weekdays, WideOrdinals};
+use crate::sets::BitSet;
 use crate::until::Until;
 use jiff_core::civil::Weekday;
 use std::marker::Model;
@@ -18,15 +18,15 @@ pub struct Parts {
     interval: u32,
     count: Option<u32>,
     until: Option<Until>,
-    seconds: Numbers,
-    minutes: Numbers,
-    hours: Numbers,
+    seconds: BitSet,
+    minutes: BitSet,
+    hours: BitSet,
     weekdays: Weekdays,
-    month_days: Places,
-    year_days: WidePlaces,
-    weeks: Places,
-    months: Numbers,
-    positions: WidePlaces,
+    month_days: Ordinals,
+    year_days: WideOrdinals,
+    weeks: Ordinals,
+    months: BitSet,
+    positions: WideOrdinals,
     week_start: Weekday,
 }
 
@@ -99,15 +99,15 @@ impl Parts {
             interval: 1,
             count: None,
             until: None,
-            seconds: Numbers::new(),
-            minutes: Numbers::new(),
-            hours: Numbers::new(),
+            seconds: BitSet::new(),
+            minutes: BitSet::new(),
+            hours: BitSet::new(),
             weekdays: Weekdays::new(),
-            month_days: Places::new(),
-            year_days: WidePlaces::new(),
-            weeks: Places::new(),
-            months: Numbers::new(),
-            positions: WidePlaces::new(),
+            month_days: Ordinals::new(),
+            year_days: WideOrdinals::new(),
+            weeks: Ordinals::new(),
+            months: BitSet::new(),
+            positions: WideOrdinals::new(),
             week_start: Weekday::Monday,
         }
     }
@@ -144,25 +144,25 @@ impl Parts {
     }
 
     /// BYSECOND: numbers from 0 to 59. Second 60 is read as 59.
-    pub fn seconds(&self) -> Numbers
+    pub fn seconds(&self) -> BitSet
         ensures value { result ≡ self.now.seconds }
-        ensures range { IsWithin 0 59 (has self.now.seconds) }
+        ensures range { IsWithin 0 59 (contains self.now.seconds) }
     {
         self.seconds
     }
 
     /// BYMINUTE: numbers from 0 to 59.
-    pub fn minutes(&self) -> Numbers
+    pub fn minutes(&self) -> BitSet
         ensures value { result ≡ self.now.minutes }
-        ensures range { IsWithin 0 59 (has self.now.minutes) }
+        ensures range { IsWithin 0 59 (contains self.now.minutes) }
     {
         self.minutes
     }
 
     /// BYHOUR: numbers from 0 to 23.
-    pub fn hours(&self) -> Numbers
+    pub fn hours(&self) -> BitSet
         ensures value { result ≡ self.now.hours }
-        ensures range { IsWithin 0 23 (has self.now.hours) }
+        ensures range { IsWithin 0 23 (contains self.now.hours) }
     {
         self.hours
     }
@@ -170,14 +170,14 @@ impl Parts {
     /// BYDAY: weekdays, each with numbers from 1 to 53, with none, or both.
     pub fn weekdays(&self) -> Weekdays
         ensures value { result ≡ self.now.weekdays }
-        ensures range { IsWithin 0 6 (has self.now.weekdays.plain) }
+        ensures range { IsWithin 0 6 (contains self.now.weekdays.plain) }
         ensures numbers { (w : ℕ) → ArePlaces (numbers_of self.now.weekdays w) 53 }
     {
         self.weekdays
     }
 
     /// BYMONTHDAY: numbers from 1 to 31, counted from either end.
-    pub fn month_days(&self) -> Places
+    pub fn month_days(&self) -> Ordinals
         ensures value { result ≡ self.now.month_days }
         ensures range { ArePlaces self.now.month_days 31 }
     {
@@ -185,7 +185,7 @@ impl Parts {
     }
 
     /// BYYEARDAY: numbers from 1 to 366, counted from either end.
-    pub fn year_days(&self) -> WidePlaces
+    pub fn year_days(&self) -> WideOrdinals
         ensures value { result ≡ self.now.year_days }
         ensures range { AreWidePlaces self.now.year_days 366 }
     {
@@ -193,7 +193,7 @@ impl Parts {
     }
 
     /// BYWEEKNO: numbers from 1 to 53, counted from either end.
-    pub fn weeks(&self) -> Places
+    pub fn weeks(&self) -> Ordinals
         ensures value { result ≡ self.now.weeks }
         ensures range { ArePlaces self.now.weeks 53 }
     {
@@ -201,15 +201,15 @@ impl Parts {
     }
 
     /// BYMONTH: numbers from 1 to 12.
-    pub fn months(&self) -> Numbers
+    pub fn months(&self) -> BitSet
         ensures value { result ≡ self.now.months }
-        ensures range { IsWithin 1 12 (has self.now.months) }
+        ensures range { IsWithin 1 12 (contains self.now.months) }
     {
         self.months
     }
 
     /// BYSETPOS: numbers from 1 to 366, counted from either end.
-    pub fn positions(&self) -> WidePlaces
+    pub fn positions(&self) -> WideOrdinals
         ensures value { result ≡ self.now.positions }
         ensures range { AreWidePlaces self.now.positions 366 }
     {
@@ -268,7 +268,7 @@ impl Parts {
         requires { second ≤ 59 }
         ensures { self.new ≡ record self.old { seconds = with_number second self.old.seconds } }
     {
-        self.seconds.add(second);
+        self.seconds.insert(second);
     }
 
     /// Adds a number of BYMINUTE.
@@ -276,7 +276,7 @@ impl Parts {
         requires { minute ≤ 59 }
         ensures { self.new ≡ record self.old { minutes = with_number minute self.old.minutes } }
     {
-        self.minutes.add(minute);
+        self.minutes.insert(minute);
     }
 
     /// Adds a number of BYHOUR.
@@ -284,14 +284,14 @@ impl Parts {
         requires { hour ≤ 23 }
         ensures { self.new ≡ record self.old { hours = with_number hour self.old.hours } }
     {
-        self.hours.add(hour);
+        self.hours.insert(hour);
     }
 
     /// Adds a weekday of BYDAY without a number.
     pub(crate) fn add_weekday(&mut self, weekday: Weekday)
         ensures { self.new ≡ record self.old { weekdays = with_weekday weekday self.old.weekdays } }
     {
-        self.weekdays.add(weekday);
+        self.weekdays.insert(weekday);
     }
 
     /// Adds a weekday of BYDAY with a number.
@@ -308,27 +308,27 @@ impl Parts {
     pub(crate) fn add_month_day(&mut self, side: Side, n: u8)
         requires first { 1 ≤ n }
         requires last { n ≤ 31 }
-        ensures { self.new ≡ record self.old { month_days = with_place side n self.old.month_days } }
+        ensures { self.new ≡ record self.old { month_days = with_ordinal side n self.old.month_days } }
     {
-        self.month_days.add(side, n);
+        self.month_days.insert(side, n);
     }
 
     /// Adds a number of BYYEARDAY.
     pub(crate) fn add_year_day(&mut self, side: Side, n: u16)
         requires first { 1 ≤ n }
         requires last { n ≤ 366 }
-        ensures { self.new ≡ record self.old { year_days = with_wide_place side n self.old.year_days } }
+        ensures { self.new ≡ record self.old { year_days = with_wide_ordinal side n self.old.year_days } }
     {
-        self.year_days.add(side, n);
+        self.year_days.insert(side, n);
     }
 
     /// Adds a number of BYWEEKNO.
     pub(crate) fn add_week(&mut self, side: Side, n: u8)
         requires first { 1 ≤ n }
         requires last { n ≤ 53 }
-        ensures { self.new ≡ record self.old { weeks = with_place side n self.old.weeks } }
+        ensures { self.new ≡ record self.old { weeks = with_ordinal side n self.old.weeks } }
     {
-        self.weeks.add(side, n);
+        self.weeks.insert(side, n);
     }
 
     /// Adds a number of BYMONTH.
@@ -337,15 +337,15 @@ impl Parts {
         requires last { month ≤ 12 }
         ensures { self.new ≡ record self.old { months = with_number month self.old.months } }
     {
-        self.months.add(month);
+        self.months.insert(month);
     }
 
     /// Adds a number of BYSETPOS.
     pub(crate) fn add_position(&mut self, side: Side, n: u16)
         requires first { 1 ≤ n }
         requires last { n ≤ 366 }
-        ensures { self.new ≡ record self.old { positions = with_wide_place side n self.old.positions } }
+        ensures { self.new ≡ record self.old { positions = with_wide_ordinal side n self.old.positions } }
     {
-        self.positions.add(side, n);
+        self.positions.insert(side, n);
     }
 }

@@ -2,7 +2,7 @@
 ghost use Rattle.std.specs.Prelude.{◌≡◌, ◌==◌, IfOk, Ok};
 ghost use Rattle.std.specs.List.{position};
 ghost use Rattle.ics_values.specs.Periods.{first_half, second_half, half_of, lasts, end_of, both, period_of, IsDateTime, IsPeriodEnd};
-ghost use Rattle.ics_values.specs.Faults.{period_fault_name};
+ghost use Rattle.ics_values.specs.ValueFaultNames.{period_fault_name};
 
 use crate::duration::{Duration, DurationFault, read_duration};
 use crate::sign::is_sign;

@@ -1,7 +1,7 @@
 //! The text of a recurrence rule.
 ghost use Rattle.std.specs.Prelude.{◌≡◌, ◌<◌, ◌-◌, List, ℕ, true, false, not, ◌&&◌, fold, Some};
 ghost use Rattle.std.specs.List.{before_first, after_first};
-ghost use Rattle.ics_values.specs.Faults.{rule_fault_name};
+ghost use Rattle.ics_values.specs.ValueFaultNames.{rule_fault_name};
 ghost use Rattle.ics_values.specs.RuleTexts.{is_equals, without_last, pieces};
 ghost use Rattle.ics_values.specs.Rules.{rule_of};
 ghost use Rattle.ics_values.specs.RuleDrafts.{walk, item_taken, value_taken, part_taken, no_parts, is_whole, Takes};
@@ -13,7 +13,7 @@ use crate::rule_value::{
     Amount, number_between, read_amount, read_day_item, read_frequency, read_place, read_until,
     read_weekday,
 };
-use crate::sets::Numbers;
+use crate::sets::BitSet;
 use thiserror::Error;
 
 /// Why a text is not a recurrence rule.
@@ -44,7 +44,7 @@ impl RuleFault {
 struct Draft {
     parts: Parts,
     /// The numbers of the names that were read.
-    seen: Numbers,
+    seen: BitSet,
     /// Whether COUNT or INTERVAL was past the greatest number.
     too_large: bool,
 }
@@ -128,7 +128,7 @@ impl Draft {
     {
         Draft {
             parts: Parts::new(Frequency::Yearly),
-            seen: Numbers::new(),
+            seen: BitSet::new(),
             too_large: false,
         }
     }
@@ -159,10 +159,10 @@ impl Draft {
     {
         let (name, value) = cut(part);
         let name = part_name(name)?;
-        if self.seen.has(name.row()) {
+        if self.seen.contains(name.row()) {
             return None;
         }
-        self.seen.add(name.row());
+        self.seen.insert(name.row());
         self.take_value(name, value)
     }
 
@@ -170,9 +170,9 @@ impl Draft {
     fn is_whole(&self) -> bool
         ensures { result ≡ is_whole self.now }
     {
-        let until = self.seen.has(PartName::Until.row());
-        let count = self.seen.has(PartName::Count.row());
-        self.seen.has(PartName::Freq.row()) && !(until && count)
+        let until = self.seen.contains(PartName::Until.row());
+        let count = self.seen.contains(PartName::Count.row());
+        self.seen.contains(PartName::Freq.row()) && !(until && count)
     }
 }
 

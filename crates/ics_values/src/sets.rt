@@ -1,12 +1,12 @@
 //! Sets of small numbers, as words of bits.
 ghost use Rattle.std.specs.Prelude.{◌≡◌, ◌≢◌, ℕ, ◌<◌, ◌==◌, ◌↔◌, ◌||◌, ◌*◌, ◌&&◌, nat_lt, length, IsTrue, ◌^◌, ◌≤◌, IfSome};
-ghost use Rattle.ics_values.specs.Sets.{has, is_none, only, with_number, has_wide, is_none_wide, none_wide, with_wide_number, IsNextIn};
+ghost use Rattle.ics_values.specs.Sets.{contains, is_empty, only, with_number, contains_wide, is_empty_wide, none_wide, with_wide_number, IsNextIn};
 
 use std::marker::Model;
 
 /// The number of the lowest bit of a word, from bit `n` on, that is set.
 fn next_bit(bits: u64, n: u8) -> Option<u8>
-    ensures next { IsNextIn (has bits) n result }
+    ensures next { IsNextIn (contains bits) n result }
     ensures small { IfSome result (λ m. m < 64) }
 {
     if n >= 64 {
@@ -21,7 +21,7 @@ fn next_bit(bits: u64, n: u8) -> Option<u8>
 
 /// The same for six words.
 fn next_bit_in(words: &[u64; 6], n: u16) -> Option<u16>
-    ensures next { IsNextIn (has_wide words.now) n result }
+    ensures next { IsNextIn (contains_wide words.now) n result }
     ensures small { IfSome result (λ m. m < 384) }
 {
     let first = n as usize / 64;
@@ -41,11 +41,11 @@ fn next_bit_in(words: &[u64; 6], n: u16) -> Option<u16>
 
 /// A set of numbers below 64. Contracts see it as the number whose binary digits are its members.
 #[derive(Clone, Copy)]
-pub struct Numbers {
+pub struct BitSet {
     bits: u64,
 }
 
-impl Model for Numbers {
+impl Model for BitSet {
     ghost use Rattle.std.specs.Prelude.{ℕ};
 
     ghost Value = { ℕ };
@@ -55,71 +55,71 @@ impl Model for Numbers {
     ghost inverse = { λ n. record { bits = n } };
 }
 
-impl Numbers {
+impl BitSet {
     /// The empty set.
-    pub fn new() -> Numbers
+    pub fn new() -> BitSet
         ensures { result ≡ 0 }
     {
-        Numbers { bits: 0 }
+        BitSet { bits: 0 }
     }
 
     /// The number `n` alone.
-    pub fn only(n: u8) -> Numbers
+    pub fn only(n: u8) -> BitSet
         requires { n < 64 }
         ensures { result ≡ only n }
     {
-        Numbers { bits: 1 << n }
+        BitSet { bits: 1 << n }
     }
 
     /// Whether there is no member.
-    pub fn is_none(self) -> bool
-        ensures { result ≡ is_none self }
+    pub fn is_empty(self) -> bool
+        ensures { result ≡ is_empty self }
     {
         self.bits == 0
     }
 
     /// Whether `n` is a member.
-    pub fn has(self, n: u8) -> bool
-        ensures { result ≡ (nat_lt n 64 && has self n) }
+    pub fn contains(self, n: u8) -> bool
+        ensures { result ≡ (nat_lt n 64 && contains self n) }
     {
         n < 64 && (self.bits >> n) & 1 == 1
     }
 
     /// The numbers below `size`.
-    pub fn below(size: u8) -> Numbers
+    pub fn below(size: u8) -> BitSet
         requires { size < 64 }
-        ensures members { (m : ℕ) → m < size → IsTrue (has result m) }
+        ensures members { (m : ℕ) → m < size → IsTrue (contains result m) }
         ensures bound { result < 2 ^ size }
     {
-        Numbers {
+        BitSet {
             bits: (1 << size) - 1,
         }
     }
 
     /// The members below `size`.
-    pub fn front(self, size: u8) -> Numbers
+    pub fn front(self, size: u8) -> BitSet
         requires { size < 64 }
-        ensures members { (m : ℕ) → m < size → has result m ≡ has self m }
+        ensures members { (m : ℕ) → m < size → contains result m ≡ contains self m }
         ensures bound { result < 2 ^ size }
     {
-        Numbers {
+        BitSet {
             bits: self.bits % (1 << size),
         }
     }
 
     /// The least member from `n` on.
     pub fn next_from(self, n: u8) -> Option<u8>
-        ensures next { IsNextIn (has self) n result }
+        ensures next { IsNextIn (contains self) n result }
         ensures small { IfSome result (λ m. m < 64) }
     {
         next_bit(self.bits, n)
     }
 
     /// Adds `n`.
-    pub fn add(&mut self, n: u8)
+    pub fn insert(&mut self, n: u8)
         requires { n < 64 }
         ensures value { self.new ≡ with_number n self.old }
-        ensures members { (m : ℕ) → has self.new m ≡ ((m == n) || has self.old m) }
+        ensures members { (m : ℕ) → contains self.new m ≡ ((m == n) || contains self.old m) }
     {
         self.bits |= 1 << n;
     }
@@ -127,11 +127,11 @@ impl Numbers {
 
 /// A set of numbers below 384. Contracts see it as its six words.
 #[derive(Clone, Copy)]
-pub struct WideNumbers {
+pub struct WideBitSet {
     words: [u64; 6],
 }
 
-impl Model for WideNumbers {
+impl Model for WideBitSet {
     ghost use Rattle.std.specs.Prelude.{ℕ, List};
 
     ghost Value = { List ℕ };
@@ -141,17 +141,17 @@ impl Model for WideNumbers {
     ghost inverse = { λ ws. record { words = ws } };
 }
 
-impl WideNumbers {
+impl WideBitSet {
     /// The empty set.
-    pub fn new() -> WideNumbers
+    pub fn new() -> WideBitSet
         ensures { result ≡ none_wide }
     {
-        WideNumbers { words: [0; 6] }
+        WideBitSet { words: [0; 6] }
     }
 
     /// Whether there is no member.
-    pub(crate) fn is_none(&self) -> bool
-        ensures { result ≡ is_none_wide self.now }
+    pub(crate) fn is_empty(&self) -> bool
+        ensures { result ≡ is_empty_wide self.now }
     {
         self.words[0] == 0
             && self.words[1] == 0
@@ -162,25 +162,25 @@ impl WideNumbers {
     }
 
     /// Whether `n` is a member.
-    pub fn has(&self, n: u16) -> bool
-        ensures { result ≡ has_wide self.now n }
+    pub fn contains(&self, n: u16) -> bool
+        ensures { result ≡ contains_wide self.now n }
     {
         n < 384 && (self.words[n as usize / 64] >> (n % 64)) & 1 == 1
     }
 
     /// The least member from `n` on.
     pub fn next_from(&self, n: u16) -> Option<u16>
-        ensures next { IsNextIn (has_wide self.now) n result }
+        ensures next { IsNextIn (contains_wide self.now) n result }
         ensures small { IfSome result (λ m. m < 384) }
     {
         next_bit_in(&self.words, n)
     }
 
     /// Adds `n`.
-    pub fn add(&mut self, n: u16)
+    pub fn insert(&mut self, n: u16)
         requires { n < 384 }
         ensures value { self.new ≡ with_wide_number n self.old }
-        ensures members { (m : ℕ) → has_wide self.new m ≡ ((m == n) || has_wide self.old m) }
+        ensures members { (m : ℕ) → contains_wide self.new m ≡ ((m == n) || contains_wide self.old m) }
     {
         self.words[n as usize / 64] |= 1 << (n % 64);
     }

@@ -77,20 +77,20 @@ module _ (offset : ℤ → ℤ) (local : ℤ) (offsets : List ℤ) (k : ℕ) (o 
   ]
 
 -- where each offset is among them, the least is the first instant that shows the local
-module _ (offset : ℤ → ℤ) (local : ℤ) (offsets : List ℤ) (has : (t : ℤ) → Contains offsets (offset t)) (k : ℕ) (all : length offsets ≤ k) where
-  candidate : (s : ℤ) → shown offset s ≡ local → s ≡ local -ℤ get_or offsets (has s).0 (offset s)
-  candidate s shows = let at = (has s).2 in omega (arith, ints, shows, at)
+module _ (offset : ℤ → ℤ) (local : ℤ) (offsets : List ℤ) (contains : (t : ℤ) → Contains offsets (offset t)) (k : ℕ) (all : length offsets ≤ k) where
+  candidate : (s : ℤ) → shown offset s ≡ local → s ≡ local -ℤ get_or offsets (contains s).0 (offset s)
+  candidate s shows = let at = (contains s).2 in omega (arith, ints, shows, at)
 
   pub first_found : (found : Option ℤ) → IsFirstOf offset local offsets k found
       → MatchOption found ((t : ℤ) → shown offset t ≢ local) (IsFirstTime offset local)
   first_found None none = λ t shows.
-      let inside = (has t).1 in
-      none (has t).0 (offset t) (omega (arith, inside, all)) (ap (shown offset) (sym (candidate t shows)) ∙ shows)
+      let inside = (contains t).1 in
+      none (contains t).0 (offset t) (omega (arith, inside, all)) (ap (shown offset) (sym (candidate t shows)) ∙ shows)
   first_found (Some t) found = record {
     shows = found.shows;
     first = λ s shows.
-        let inside = (has s).1 in
+        let inside = (contains s).1 in
         let is = candidate s shows in
-        let low = found.least (has s).0 (offset s) (omega (arith, inside, all)) (ap (shown offset) (sym is) ∙ shows) in
+        let low = found.least (contains s).0 (offset s) (omega (arith, inside, all)) (ap (shown offset) (sym is) ∙ shows) in
         omega (arith, ints, low, is);
   }

@@ -2,14 +2,14 @@
 use Rattle.std.proofs.Common.{◌≡◌, ℕ, ◌+◌, ◌-◌, ◌*◌, ◌/◌, ◌%◌, ◌<◌, ◌&&◌, nat_lt, inl, inr, refl, Bool, true, false, sym, subst, ap, ◌∙◌, arith, Option, Some, None, List, length, set, ℤ, pos, ◌+ℤ◌, ◌-ℤ◌, ◌<ℤ◌, ◌≤ℤ◌}
 use Rattle.std.specs.Prelude.{IfSome, if◌then◌else◌, int_lt}
 use Rattle.std.proofs.lemmas.Int.{ints}
-use Rattle.ics_values.specs.Sets.{has}
+use Rattle.ics_values.specs.Sets.{contains}
 use Rattle.ics_rule.specs.Recurrence.{Recurrence}
 use Rattle.ics_rule.specs.Kept.{is_kept}
 use Rattle.ics_zone.specs.declared.hours.Hours.{Hours}
 use Rattle.ics_zone.specs.declared.times.Times.{Times}
 use Rattle.ics_zone.specs.declared.onsets.Onsets.{Onsets}
 use Rattle.ics_zone.specs.Observances.{epoch, instant_by}
-use Rattle.ics_zone.specs.Offsets.{natural}
+use Rattle.ics_zone.specs.ZoneOffsets.{natural}
 use Rattle.ics_zone.specs.OnsetSets.{IsKeptAt}
 use Rattle.ics_zone.specs.Hours.{keeps_time, keeps, AreHoursOf, IsToldAt, IsTold, IsToldBy}
 use Rattle.ics_zone.specs.Marks.{is_marked, IsMarked}
@@ -28,10 +28,10 @@ hours_of r local here next now later n from early = elim (same_or_not (n / 3_600
 ]
 
 -- a minute that begins at a local has the seconds of two minutes of the clock
-pub minute_from_both : (hours : Hours) (local here next word : ℕ) → ((n : ℕ) → n < 60 → has here n ≡ keeps hours (local / 60 * 60 + n))
-    → ((n : ℕ) → n < 60 → has next n ≡ keeps hours ((local / 60 + 1) * 60 + n))
-    → ((n : ℕ) → n + local % 60 < 60 → has word n ≡ has here (n + local % 60))
-    → ((n m : ℕ) → m < local % 60 → n + local % 60 ≡ m + 60 → has word n ≡ has next m) → (n : ℕ) → n < 60 → has word n ≡ keeps hours (local + n)
+pub minute_from_both : (hours : Hours) (local here next word : ℕ) → ((n : ℕ) → n < 60 → contains here n ≡ keeps hours (local / 60 * 60 + n))
+    → ((n : ℕ) → n < 60 → contains next n ≡ keeps hours ((local / 60 + 1) * 60 + n))
+    → ((n : ℕ) → n + local % 60 < 60 → contains word n ≡ contains here (n + local % 60))
+    → ((n m : ℕ) → m < local % 60 → n + local % 60 ≡ m + 60 → contains word n ≡ contains next m) → (n : ℕ) → n < 60 → contains word n ≡ keeps hours (local + n)
 minute_from_both hours local here next word is_here is_next low high n small = elim (less_or_not (n + local % 60) 60) [
   | inl less ↦ (
       let at : local / 60 * 60 + (n + local % 60) ≡ local + n = omega arith in
@@ -43,15 +43,15 @@ minute_from_both hours local here next word is_here is_next low high n small = e
 
 -- the words of an hour, with one minute more
 pub words_more : (hours : Hours) (local : ℕ) (count : ℤ) (marks : List ℕ) (minute size word part : ℕ) → minute < length marks
-    → ((n : ℕ) → n < 60 → has word n ≡ keeps hours (local + minute * 60 + n)) → ((n : ℕ) → n < 60 → nat_lt n size ≡ int_lt (pos (minute * 60 + n)) count)
-    → ((n : ℕ) → has part n ≡ (nat_lt n size && has word n))
+    → ((n : ℕ) → n < 60 → contains word n ≡ keeps hours (local + minute * 60 + n)) → ((n : ℕ) → n < 60 → nat_lt n size ≡ int_lt (pos (minute * 60 + n)) count)
+    → ((n : ℕ) → contains part n ≡ (nat_lt n size && contains word n))
     → ((k : ℕ) → k < minute * 60 → is_marked marks k ≡ (int_lt (pos k) count && keeps hours (local + k))) → (k : ℕ) → k < (minute + 1) * 60
     → is_marked (set marks minute part) k ≡ (int_lt (pos k) count && keeps hours (local + k))
 words_more hours local count marks minute size word part inside is_word is_size is_part old k early = elim (same_or_not (k / 60) minute) [
   | inl e ↦ (
       let here : minute * 60 + k % 60 ≡ k = omega (arith, e) in
       let there : local + minute * 60 + k % 60 ≡ local + k = omega (arith, e) in
-      marked-set_same marks minute part k inside e ∙ is_part (k % 60) ∙ ap (λ b. b && has word (k % 60)) (is_size (k % 60) (omega arith))
+      marked-set_same marks minute part k inside e ∙ is_part (k % 60) ∙ ap (λ b. b && contains word (k % 60)) (is_size (k % 60) (omega arith))
       ∙ ap (λ b. int_lt (pos (minute * 60 + k % 60)) count && b) (is_word (k % 60) (omega arith))
       ∙ ap (λ m. int_lt (pos m) count && keeps hours (local + minute * 60 + k % 60)) here ∙ ap (λ m. int_lt (pos k) count && keeps hours m) there)
   | inr ne ↦ marked-set_other marks minute part k ne ∙ old k (omega (arith, ne, early))
@@ -60,12 +60,12 @@ words_more hours local count marks minute size word part inside is_word is_size 
 -- two hours tell of each instant of an hour whether the rule has an onset there
 pub told_by : (s : Onsets) (r : Recurrence) → s.rule ≡ Some r → (from : ℤ) (local : ℕ) → from ≡ instant_by s.offset_from local → local < 309_289_701_600
     → (o : Option Hours) → IfSome o (AreHoursOf r local) → IsToldBy s (from -ℤ pos 1) (from +ℤ pos 3_600) o
-told_by s r has from local is early None h = tt
-told_by s r has from local is early (Some hours) h = λ t low high.
+told_by s r contains from local is early None h = tt
+told_by s r contains from local is early (Some hours) h = λ t low high.
     let at = natural-is (t +ℤ s.offset_from +ℤ pos epoch) (omega (arith, ints, is, low)) in
     record {
       rule = r;
-      is_rule = has;
+      is_rule = contains;
       local = natural (t +ℤ s.offset_from +ℤ pos epoch);
       early = omega (arith, ints, at, is, early, high);
       is = omega (arith, ints, at);

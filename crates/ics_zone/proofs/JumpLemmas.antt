@@ -9,8 +9,8 @@ use Rattle.ics_zone.specs.declared.latest.Latest.{Latest}
 use Rattle.ics_zone.specs.declared.latest.Steady.{Steady}
 use Rattle.ics_zone.specs.declared.observance.Observance.{Observance}
 use Rattle.ics_zone.specs.declared.onsets.Onsets.{Onsets}
-use Rattle.ics_zone.specs.Observances.{Phase, IsZone, phases_of}
-use Rattle.ics_zone.specs.Offsets.{natural, IsOnset, IsNotLater, IsInForce, IsBeforeAll, IsOffset, zone_offset}
+use Rattle.ics_zone.specs.Observances.{ObservanceSaid, IsZone, observances_said}
+use Rattle.ics_zone.specs.ZoneOffsets.{natural, IsOnset, IsNotLater, IsInForce, IsBeforeAll, IsOffset, zone_offset}
 use Rattle.ics_zone.specs.Moments.{shown, IsFirstTime, IsInGap}
 use Rattle.ics_zone.specs.ZoneOnsets.{HaveOffsets, IsKnown, IsLatest, IsLatestOf, IsFirstOffset, IsNextPast, IsClear, IsJump, IsSteady, IsOverridden}
 use Rattle.ics_zone.specs.ZoneBounds.{zone_offset_short}
@@ -18,18 +18,18 @@ use Rattle.ics_zone.proofs.OffsetLaws.{offset_unique}
 use Rattle.ics_zone.proofs.OnsetLemmas.{natural-is, offset_found}
 use Rattle.ics_zone.proofs.Cases.{less_or_not_z}
 
-not_empty : (zone : List Phase) → 0 < length zone → zone ≢ []
+not_empty : (zone : List ObservanceSaid) → 0 < length zone → zone ≢ []
 not_empty [] h e = omega arith
 not_empty (p ∷ zone) h e = cc
 
-module _ (zone : List Phase) (facts : IsZone zone) (some : 0 < length zone) where
+module _ (zone : List ObservanceSaid) (facts : IsZone zone) (some : 0 < length zone) where
   pub is_offset : (t : ℤ) → IsOffset zone t (zone_offset zone t)
   is_offset t = offset_found zone facts t (not_empty zone some)
 
   -- the greatest onset of all observances is the one in force
   pub in_force_is : (t : ℤ) (e : Latest) → IsLatest zone t (length zone) e → e.offset ≡ zone_offset zone t
   in_force_is t e latest = offset_unique zone t e.offset (zone_offset zone t) (inl (
-    latest.phase,
+    latest.observance,
     record {
       place = e.place;
       since = e.at;
@@ -40,15 +40,15 @@ module _ (zone : List Phase) (facts : IsZone zone) (some : 0 < length zone) wher
     latest.offset,
   )) (is_offset t)
 
-  pub before_all_is : (t offset : ℤ) → ((i : ℕ) (s : ℤ) (p : Phase) → i < length zone → IsOnset zone i s p → t <ℤ s) → IsFirstOffset zone offset
+  pub before_all_is : (t offset : ℤ) → ((i : ℕ) (s : ℤ) (p : ObservanceSaid) → i < length zone → IsOnset zone i s p → t <ℤ s) → IsFirstOffset zone offset
       → offset ≡ zone_offset zone t
   before_all_is t offset none first = offset_unique zone t offset (zone_offset zone t) (inr (
-    first.1.phase,
+    first.1.observance,
     record {
       place = first.1.place;
       first = first.0;
       onset = first.1.onset;
-      before = none first.1.place first.0 first.1.phase (slice_get_within zone first.1.place first.1.phase first.1.onset.0) first.1.onset;
+      before = none first.1.place first.0 first.1.observance (slice_get_within zone first.1.place first.1.observance first.1.onset.0) first.1.onset;
       least = λ i s p h. first.1.least i s p (slice_get_within zone i p h.0) h;
     },
     first.1.is,
@@ -72,7 +72,7 @@ module _ (zone : List Phase) (facts : IsZone zone) (some : 0 < length zone) wher
       by (inr h) = subst (Contains offsets) (sym h.2) (have h.1.place h.0 h.1.onset.0).from
 
   -- an offset holds from its onset on
-  holds_since : (s : ℤ) (p : Phase) (f : IsInForce zone s p) (t : ℤ) → f.since ≤ℤ t → t ≤ℤ s → p.offset_to ≡ zone_offset zone t
+  holds_since : (s : ℤ) (p : ObservanceSaid) (f : IsInForce zone s p) (t : ℤ) → f.since ≤ℤ t → t ≤ℤ s → p.offset_to ≡ zone_offset zone t
   holds_since s p f t low high = offset_unique zone t p.offset_to (zone_offset zone t) (inl (
     p,
     record {
@@ -85,7 +85,7 @@ module _ (zone : List Phase) (facts : IsZone zone) (some : 0 < length zone) wher
     refl,
   )) (is_offset t)
 
-  holds_before : (s : ℤ) (p : Phase) → IsBeforeAll zone s p → (t : ℤ) → t ≤ℤ s → p.offset_from ≡ zone_offset zone t
+  holds_before : (s : ℤ) (p : ObservanceSaid) → IsBeforeAll zone s p → (t : ℤ) → t ≤ℤ s → p.offset_from ≡ zone_offset zone t
   holds_before s p f t high = offset_unique zone t p.offset_from (zone_offset zone t) (inr (
     p,
     record {
@@ -99,13 +99,13 @@ module _ (zone : List Phase) (facts : IsZone zone) (some : 0 < length zone) wher
   )) (is_offset t)
 
   -- the greatest onset of all observances begins a span in which its offset holds, up to where the next may be
-  pub steady_since : (t next : ℤ) → ((i : ℕ) (s : ℤ) (p : Phase) → IsOnset zone i s p → t <ℤ s → next ≤ℤ s)
+  pub steady_since : (t next : ℤ) → ((i : ℕ) (s : ℤ) (p : ObservanceSaid) → IsOnset zone i s p → t <ℤ s → next ≤ℤ s)
       → (found : Option Latest) → IsLatestOf zone t (length zone) found → (e : Latest) → found ≡ Some e → IsSteady (zone_offset zone) e.at next e.offset
   steady_since t next none None h e same u low high = absurd (cc)
   steady_since t next none (Some f) h e same u low high =
       let one : f ≡ e = cc in
-      rw (← one) (h.offset ∙ offset_unique zone u h.phase.offset_to (zone_offset zone u) (inl (
-        h.phase,
+      rw (← one) (h.offset ∙ offset_unique zone u h.observance.offset_to (zone_offset zone u) (inl (
+        h.observance,
         record {
           place = f.place;
           since = f.at;
@@ -126,7 +126,7 @@ module _ (zone : List Phase) (facts : IsZone zone) (some : 0 < length zone) wher
       by : IsOffset zone t (zone_offset zone t) → ⊥
       by (inl h) =
           let f = h.1 in
-          let not_later = f.greatest over.place over.at over.phase over.onset over.not_after in
+          let not_later = f.greatest over.place over.at over.observance over.onset over.not_after in
           let less = over.greater f.place f.since h.0 f.onset (sym h.2 ∙ e) f.not_after in
           elim less [
             | inl l ↦ elim not_later [ inl m ↦ omega (arith, ints, l, m) | inr m ↦ (let same = m.0 in omega (arith, ints, l, same)) ]
@@ -139,7 +139,7 @@ module _ (zone : List Phase) (facts : IsZone zone) (some : 0 < length zone) wher
           let f = h.1 in
           let late = f.before in
           let early = over.not_after in
-          elim (f.least over.place over.at over.phase over.onset) [
+          elim (f.least over.place over.at over.observance over.onset) [
             | inl l ↦ omega (arith, ints, l, late, early)
             | inr l ↦ (let same = l.0 in omega (arith, ints, same, late, early))
           ]
@@ -219,11 +219,11 @@ module _ (zone : List Phase) (facts : IsZone zone) (some : 0 < length zone) wher
       ]
 
 -- where no onset shows a later local, none is to be overridden
-pub past_clear : (zone : List Phase) (local after next : ℤ) → IsNextPast zone local after next → IsClear zone local after next
+pub past_clear : (zone : List ObservanceSaid) (local after next : ℤ) → IsNextPast zone local after next → IsClear zone local after next
 past_clear zone local after next none i s p h late early past = absurd (let low = none i s p h late early in omega (arith, ints, low, past))
 
 -- a day before a local the clock shows earlier ones, and a day after it later ones
-module _ (zone : List Phase) (facts : IsZone zone) (local : ℤ) where
+module _ (zone : List ObservanceSaid) (facts : IsZone zone) (local : ℤ) where
   pub earlier_before : (t : ℤ) → t ≤ℤ (local -ℤ pos 86_400) → shown (zone_offset zone) t <ℤ local
   earlier_before t h = let bound = zone_offset_short zone facts t in omega (arith, ints, bound.0, bound.1)
 
@@ -231,7 +231,7 @@ module _ (zone : List Phase) (facts : IsZone zone) (local : ℤ) where
   later_after t h = let bound = zone_offset_short zone facts t in omega (arith, ints, bound.0, bound.1)
 
 -- a local is shown once where the offset holds within a day of it
-pub shown_once : (zone : List Phase) → IsZone zone → (local from next value : ℤ) → IsSteady (zone_offset zone) from next value
+pub shown_once : (zone : List ObservanceSaid) → IsZone zone → (local from next value : ℤ) → IsSteady (zone_offset zone) from next value
     → from ≤ℤ (local -ℤ pos 86_400) → (local +ℤ pos 86_400) <ℤ next
     → IsFirstTime (zone_offset zone) local (local -ℤ value)
 shown_once zone facts local from next value steady low high =
@@ -260,12 +260,12 @@ natural_less a b low less =
 
 -- what a zone knows is of the observances that contracts see
 pub known_zone : (observances : List Observance) (onsets : List Onsets) (offsets : List ℤ) (held : List Steady)
-    → IsKnown (phases_of observances) onsets offsets held
-    → (zone : List Observance) → observances ≡ zone → IsKnown (phases_of zone) onsets offsets held
-known_zone observances onsets offsets held known zone is = subst (λ (z : List Observance). IsKnown (phases_of z) onsets offsets held) is known
+    → IsKnown (observances_said observances) onsets offsets held
+    → (zone : List Observance) → observances ≡ zone → IsKnown (observances_said zone) onsets offsets held
+known_zone observances onsets offsets held known zone is = subst (λ (z : List Observance). IsKnown (observances_said z) onsets offsets held) is known
 
 -- the same spans are held in another order
-pub held_moved : (zone : List Phase) (onsets : List Onsets) (offsets : List ℤ) (was now : List Steady) → IsPermutation was now
+pub held_moved : (zone : List ObservanceSaid) (onsets : List Onsets) (offsets : List ℤ) (was now : List Steady) → IsPermutation was now
     → IsKnown zone onsets offsets was → IsKnown zone onsets offsets now
 held_moved zone onsets offsets was now moved known = record {
   some = known.some;
@@ -275,7 +275,7 @@ held_moved zone onsets offsets was now moved known = record {
 }
 
 -- a span more is held, or none where memory is refused
-pub held_more : (zone : List Phase) (onsets : List Onsets) (offsets : List ℤ) (was now : List Steady) (s : Steady) (b : Bool) → now ≡ cond b (was ++ s ∷ []) was
+pub held_more : (zone : List ObservanceSaid) (onsets : List Onsets) (offsets : List ℤ) (was now : List Steady) (s : Steady) (b : Bool) → now ≡ cond b (was ++ s ∷ []) was
     → IsKnown zone onsets offsets was → IsSteady (zone_offset zone) s.from s.next s.offset → IsKnown zone onsets offsets now
 held_more zone onsets offsets was now s true is known steady = rw is (record {
   some = known.some;

@@ -24,12 +24,12 @@ pub record IsShownBy (from m : ℤ) (count : ℕ) : Type 0 where
   pub shown : (n : ℕ) → n < count → instant_by from n ≤ℤ m
   pub later : (n : ℕ) → count ≤ n → n < 309_289_708_800 → m <ℤ instant_by from n
 
-module _ (s : Onsets) (r : Recurrence) (has : s.rule ≡ Some r) where
+module _ (s : Onsets) (r : Recurrence) (contains : s.rule ≡ Some r) where
   pub to_kept : (t : ℤ) → IsKeptBy s.offset_from s.until r t → IsKeptAt s t
-  to_kept t h = subst (λ (o : Option Recurrence). MatchOption o ⊥ (λ r. IsKeptBy s.offset_from s.until r t)) (sym has) h
+  to_kept t h = subst (λ (o : Option Recurrence). MatchOption o ⊥ (λ r. IsKeptBy s.offset_from s.until r t)) (sym contains) h
 
   pub from_kept : (t : ℤ) → IsKeptAt s t → IsKeptBy s.offset_from s.until r t
-  from_kept t h = subst (λ (o : Option Recurrence). MatchOption o ⊥ (λ r. IsKeptBy s.offset_from s.until r t)) has h
+  from_kept t h = subst (λ (o : Option Recurrence). MatchOption o ⊥ (λ r. IsKeptBy s.offset_from s.until r t)) contains h
 
   module _ (t : ℤ) (end : ℕ) (shown : IsShownTo s.offset_from s.until t end) where
     -- an onset that is not after t is of a local before the end

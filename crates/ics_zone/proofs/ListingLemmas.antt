@@ -10,22 +10,22 @@ use Rattle.std.proofs.lemmas.List.Elements.{Contains-append_left, Contains-push,
 use Rattle.std.proofs.lemmas.List.Folds.{list_any_more}
 use Rattle.std.proofs.lemmas.List.Sorted.{IsPermutation-sym, Contains-permutation}
 use Rattle.ics_values.specs.declared.local.Local.{Local}
-use Rattle.ics_rule.specs.Locals.{number}
-use Rattle.ics_zone.specs.Observances.{Phase, instant_by}
+use Rattle.ics_values.specs.Locals.{number}
+use Rattle.ics_zone.specs.Observances.{ObservanceSaid, instant_by}
 use Rattle.ics_zone.specs.Latest.{IsInOrder}
 use Rattle.ics_zone.specs.OnsetSets.{IsListing}
 use Rattle.ics_zone.proofs.Cases.{or_cases, or_left, or_right, not_both}
 
 -- local n is DTSTART or one of these RDATEs
-abbrev pub is_listed_in : Phase → List Local → ℕ → Bool
+abbrev pub is_listed_in : ObservanceSaid → List Local → ℕ → Bool
 is_listed_in p rdates n = n == number p.start || list_any (λ l. number l == n) rdates
 
 -- a list has the instants of DTSTART and of some RDATEs
-pub record IsListedTo (p : Phase) (rdates : List Local) (list : List ℤ) : Type 0 where
+pub record IsListedTo (p : ObservanceSaid) (rdates : List Local) (list : List ℤ) : Type 0 where
   pub known : (t : ℤ) → Contains list t → (n : ℕ) × ((t ≡ instant_by p.offset_from n) × (is_listed_in p rdates n ≡ true))
   pub complete : (n : ℕ) → is_listed_in p rdates n ≡ true → Contains list (instant_by p.offset_from n)
 
-module _ (p : Phase) where
+module _ (p : ObservanceSaid) where
   pub listed_first : (t : ℤ) → t ≡ instant_by p.offset_from (number p.start) → IsListedTo p [] (t ∷ [])
   listed_first t is = record {
     known = λ s h. (
@@ -92,7 +92,7 @@ sorted_in_order list up j k d l h =
         let step = not_less (get_or list (j + m) d) (get_or list (j + m + 1) d) (up (j + m) d (omega arith)) in
         subst (λ k. get_or list j d ≤ℤ get_or list k d) (sym next) (omega (arith, ints, before, step))
 
-pub listing_of : (p : Phase) (i : ℕ) (list sorted : List ℤ) → length p.rdates ≤ i → IsListedTo p (take i p.rdates) list → IsPermutation list sorted
+pub listing_of : (p : ObservanceSaid) (i : ℕ) (list sorted : List ℤ) → length p.rdates ≤ i → IsListedTo p (take i p.rdates) list → IsPermutation list sorted
     → IsSorted int_cmp sorted → IsListing p sorted
 listing_of p i list sorted past all moved up =
     let whole = subst (λ ys. IsListedTo p ys list) (take_all i p.rdates past) all in

@@ -4,29 +4,29 @@ use Rattle.std.specs.Prelude.{int_lt}
 use Rattle.std.proofs.lemmas.Int.{ints}
 use Rattle.std.proofs.lemmas.List.{get_or-replicate, get_or_past, length-replicate}
 use Rattle.std.proofs.lemmas.Option.{slice_get_within}
-use Rattle.ics_values.specs.Sets.{has}
+use Rattle.ics_values.specs.Sets.{contains}
 use Rattle.ics_zone.specs.declared.onsets.Onsets.{Onsets}
-use Rattle.ics_zone.specs.Observances.{Phase}
-use Rattle.ics_zone.specs.Offsets.{natural, IsOnset}
+use Rattle.ics_zone.specs.Observances.{ObservanceSaid}
+use Rattle.ics_zone.specs.ZoneOffsets.{natural, IsOnset}
 use Rattle.ics_zone.specs.OnsetSets.{Has}
 use Rattle.ics_zone.specs.ZoneOnsets.{AreOnsetsOfAll}
 use Rattle.ics_zone.specs.Marks.{is_marked, IsMarked, IsAsked, AreMarks, AreClear}
 use Rattle.ics_zone.proofs.Cases.{less_or_not, less_or_not_z, same_or_not, eq_true, true_eq, not_both, or_cases, or_left, or_right, and_parts, int_lt_true}
-use Rattle.ics_zone.proofs.SixtyLemmas.{has-none, has-or}
+use Rattle.ics_zone.proofs.SixtyLemmas.{contains-none, contains-or}
 use Rattle.ics_zone.proofs.MinuteLemmas.{marked-set_same, marked-set_other}
 use Rattle.ics_zone.proofs.OnsetLemmas.{natural-is}
-use Rattle.ics_zone.proofs.ZoneSteps.{phase_there, onsets_at}
+use Rattle.ics_zone.proofs.ZoneSteps.{observance_there, onsets_at}
 
 -- an onset more that is marked
 module _ (s : Onsets) (with_rule : Bool) (from : ℤ) (was now : List ℕ) (at : ℤ) (second : ℕ) (is : at ≡ from +ℤ pos second)
     (marks : (k : ℕ) → is_marked now k ≡ ((k == second) || is_marked was k)) where
   pub known_more : (before : List ℕ) → Has s at → ((k : ℕ) → IsMarked was k → IsMarked before k ⊎ Has s (from +ℤ pos k))
       → (k : ℕ) → IsMarked now k → IsMarked before k ⊎ Has s (from +ℤ pos k)
-  known_more before has old k m = elim (or_cases (k == second) (is_marked was k) (sym (marks k) ∙ m)) [
+  known_more before contains old k m = elim (or_cases (k == second) (is_marked was k) (sym (marks k) ∙ m)) [
     | inl e ↦ (
         let same = eq_true k second e in
         let here : at ≡ from +ℤ pos k = omega (arith, ints, is, same) in
-        inr (subst (Has s) here has))
+        inr (subst (Has s) here contains))
     | inr o ↦ old k o
   ]
 
@@ -50,30 +50,30 @@ module _ (s : Onsets) (local from low : ℤ) (onsets was : List ℕ) (minute siz
     (complete : (k : ℕ) → k < 3_600 → Has s (from +ℤ pos k) → IsMarked onsets k)
     (down : (k : ℕ) → pos k <ℤ low → (from +ℤ pos k) ≤ℤ (local -ℤ s.offset_to))
     (is_size : (n : ℕ) → n < 60 → nat_lt n size ≡ int_lt (pos (minute * 60 + n)) low)
-    (is_part : (n : ℕ) → has part n ≡ (nat_lt n size && has (get_or onsets minute 0) n)) where
-  in_minute : (k : ℕ) → k / 60 ≡ minute → is_marked (set was minute (bit_or (get_or was minute 0) part)) k ≡ (is_marked was k || has part (k % 60))
+    (is_part : (n : ℕ) → contains part n ≡ (nat_lt n size && contains (get_or onsets minute 0) n)) where
+  in_minute : (k : ℕ) → k / 60 ≡ minute → is_marked (set was minute (bit_or (get_or was minute 0) part)) k ≡ (is_marked was k || contains part (k % 60))
   in_minute k e =
-      marked-set_same was minute (bit_or (get_or was minute 0) part) k inside e ∙ has-or (get_or was minute 0) part (k % 60)
-      ∙ ap (λ m. has (get_or was m 0) (k % 60) || has part (k % 60)) (sym e)
+      marked-set_same was minute (bit_or (get_or was minute 0) part) k inside e ∙ contains-or (get_or was minute 0) part (k % 60)
+      ∙ ap (λ m. contains (get_or was m 0) (k % 60) || contains part (k % 60)) (sym e)
 
   pub stay_minute : (k : ℕ) → IsMarked was k → IsMarked (set was minute (bit_or (get_or was minute 0) part)) k
   stay_minute k m = elim (same_or_not (k / 60) minute) [
-    | inl e ↦ in_minute k e ∙ or_left (is_marked was k) (has part (k % 60)) m
+    | inl e ↦ in_minute k e ∙ or_left (is_marked was k) (contains part (k % 60)) m
     | inr ne ↦ marked-set_other was minute (bit_or (get_or was minute 0) part) k ne ∙ m
   ]
 
-  new_mark : minute < 60 → (k : ℕ) → k / 60 ≡ minute → has part (k % 60) ≡ true → Has s (from +ℤ pos k) × ((from +ℤ pos k +ℤ s.offset_to) ≤ℤ local)
+  new_mark : minute < 60 → (k : ℕ) → k / 60 ≡ minute → contains part (k % 60) ≡ true → Has s (from +ℤ pos k) × ((from +ℤ pos k +ℤ s.offset_to) ≤ℤ local)
   new_mark small k e h =
-      let both = and_parts (nat_lt (k % 60) size) (has (get_or onsets minute 0) (k % 60)) (sym (is_part (k % 60)) ∙ h) in
+      let both = and_parts (nat_lt (k % 60) size) (contains (get_or onsets minute 0) (k % 60)) (sym (is_part (k % 60)) ∙ h) in
       let here : minute * 60 + k % 60 ≡ k = omega (arith, e) in
       let early = int_lt_true (pos (minute * 60 + k % 60)) low (sym (is_size (k % 60) (omega arith)) ∙ both.0) in
       let not_later = down k (subst (λ m. pos m <ℤ low) here early) in
-      (known k (omega (arith, e, small)) (ap (λ m. has (get_or onsets m 0) (k % 60)) e ∙ both.1), omega (arith, ints, not_later))
+      (known k (omega (arith, e, small)) (ap (λ m. contains (get_or onsets m 0) (k % 60)) e ∙ both.1), omega (arith, ints, not_later))
 
   pub marks_minute : minute < 60 → (before : List ℕ) → AreMarks s local from before was
       → AreMarks s local from before (set was minute (bit_or (get_or was minute 0) part))
   marks_minute small before old k m = elim (same_or_not (k / 60) minute) [
-    | inl e ↦ elim (or_cases (is_marked was k) (has part (k % 60)) (sym (in_minute k e) ∙ m)) [
+    | inl e ↦ elim (or_cases (is_marked was k) (contains part (k % 60)) (sym (in_minute k e) ∙ m)) [
       | inl o ↦ old k o
       | inr n ↦ inr (new_mark small k e n)
     ]
@@ -82,30 +82,30 @@ module _ (s : Onsets) (local from low : ℤ) (onsets was : List ℕ) (minute siz
 
   -- the first seconds of the minute are clear too
   pub clear_minute : (now : List ℕ) (bound : ℕ) → ((k : ℕ) → IsMarked was k → IsMarked now k) → minute < 60 → bound ≤ 60
-      → ((n : ℕ) → n < bound → has (get_or onsets minute 0) n ≡ true → has (get_or now minute 0) n ≡ true)
+      → ((n : ℕ) → n < bound → contains (get_or onsets minute 0) n ≡ true → contains (get_or now minute 0) n ≡ true)
       → ((k : ℕ) → k < minute * 60 → Has s (from +ℤ pos k) → local <ℤ (from +ℤ pos k +ℤ s.offset_to) → IsMarked was k)
       → (k : ℕ) → k < minute * 60 + bound → Has s (from +ℤ pos k) → local <ℤ (from +ℤ pos k +ℤ s.offset_to) → IsMarked now k
   clear_minute now bound stay small most first old k early h later = elim (less_or_not k (minute * 60)) [
     | inl less ↦ stay k (old k less h later)
     | inr more ↦ (
         let e : k / 60 ≡ minute = omega (arith, more, early, most) in
-        let there = ap (λ m. has (get_or onsets m 0) (k % 60)) (sym e) ∙ complete k (omega (arith, e, small)) h in
-        ap (λ m. has (get_or now m 0) (k % 60)) e ∙ first (k % 60) (omega (arith, e, more, early)) there)
+        let there = ap (λ m. contains (get_or onsets m 0) (k % 60)) (sym e) ∙ complete k (omega (arith, e, small)) h in
+        ap (λ m. contains (get_or now m 0) (k % 60)) e ∙ first (k % 60) (omega (arith, e, more, early)) there)
   ]
 
 -- each marked second has an onset, of an observance from a place on, that shows no later local
-abbrev pub AreOverrides : List Phase → ℕ → ℤ → ℤ → List ℕ → Type 0
+abbrev pub AreOverrides : List ObservanceSaid → ℕ → ℤ → ℤ → List ℕ → Type 0
 AreOverrides zone place local from marks =
     (k : ℕ) → IsMarked marks k
-    → (j : ℕ) × ((q : Phase) × (IsOnset zone j (from +ℤ pos k) q × ((place ≤ j) × ((from +ℤ pos k +ℤ q.offset_to) ≤ℤ local))))
+    → (j : ℕ) × ((q : ObservanceSaid) × (IsOnset zone j (from +ℤ pos k) q × ((place ≤ j) × ((from +ℤ pos k +ℤ q.offset_to) ≤ℤ local))))
 
 -- of the observances from a place on: each onset that shows a later local is overridden at its own instant by one that does not
-abbrev pub IsClearFrom : List Phase → ℕ → ℤ → ℤ → ℤ → Type 0
+abbrev pub IsClearFrom : List ObservanceSaid → ℕ → ℤ → ℤ → ℤ → Type 0
 IsClearFrom zone place local after next =
-    (i : ℕ) (s : ℤ) (p : Phase) → place ≤ i → IsOnset zone i s p → after <ℤ s → s <ℤ next → local <ℤ (s +ℤ p.offset_to)
-    → (j : ℕ) × ((q : Phase) × (IsOnset zone j s q × ((i < j) × ((s +ℤ q.offset_to) ≤ℤ local))))
+    (i : ℕ) (s : ℤ) (p : ObservanceSaid) → place ≤ i → IsOnset zone i s p → after <ℤ s → s <ℤ next → local <ℤ (s +ℤ p.offset_to)
+    → (j : ℕ) × ((q : ObservanceSaid) × (IsOnset zone j s q × ((i < j) × ((s +ℤ q.offset_to) ≤ℤ local))))
 
-module _ (zone : List Phase) (list : List Onsets) (all : AreOnsetsOfAll zone list) (k : ℕ) (o : Onsets) (inside : k < length list)
+module _ (zone : List ObservanceSaid) (list : List Onsets) (all : AreOnsetsOfAll zone list) (k : ℕ) (o : Onsets) (inside : k < length list)
     (at_place : o ≡ get_or list k o) (local after : ℤ) (before now : List ℕ) (over : AreOverrides zone (k + 1) local (after +ℤ pos 1) before)
     (marks : AreMarks o local (after +ℤ pos 1) before now) where
   pub overrides_more : AreOverrides zone k local (after +ℤ pos 1) now
@@ -115,7 +115,7 @@ module _ (zone : List Phase) (list : List Onsets) (all : AreOnsetsOfAll zone lis
         let low = found.1.1.1.0 in
         (found.0, (found.1.0, (found.1.1.0, (omega (arith, low), found.1.1.1.1)))))
     | inr here ↦ (
-        let there = phase_there zone k (let n = all.same_length in omega (arith, n, inside)) in
+        let there = observance_there zone k (let n = all.same_length in omega (arith, n, inside)) in
         let of = onsets_at zone list all k o inside at_place there.0 there.1 in
         let to = of.to in
         let low = here.1 in
@@ -133,8 +133,8 @@ module _ (zone : List Phase) (list : List Onsets) (all : AreOnsetsOfAll zone lis
         let m = natural (s -ℤ (after +ℤ pos 1)) in
         let is = natural-is (s -ℤ (after +ℤ pos 1)) (omega (arith, ints, late)) in
         let at : s ≡ after +ℤ pos 1 +ℤ pos m = omega (arith, ints, is) in
-        let has : Has o (after +ℤ pos 1 +ℤ pos m) = subst (Has o) at (of.complete s h.1) in
-        let marked = clear m has (omega (arith, ints, at, early)) (omega (arith, ints, at, later, to)) in
+        let contains : Has o (after +ℤ pos 1 +ℤ pos m) = subst (Has o) at (of.complete s h.1) in
+        let marked = clear m contains (omega (arith, ints, at, early)) (omega (arith, ints, at, later, to)) in
         elim (marks m marked) [
           | inl mark ↦ (
               let found = over m mark in
@@ -148,7 +148,7 @@ module _ (zone : List Phase) (list : List Onsets) (all : AreOnsetsOfAll zone lis
 
 -- nothing is marked at first
 pub none_marked : (size k : ℕ) → is_marked (replicate size 0) k ≡ false
-none_marked size k = ap (λ word. has word (k % 60)) (zero_there (k / 60)) ∙ has-none (k % 60)
+none_marked size k = ap (λ word. contains word (k % 60)) (zero_there (k / 60)) ∙ contains-none (k % 60)
   where
     zero_there : (m : ℕ) → ◌≡◌ {A = ℕ} (get_or (replicate size 0) m 0) 0
     zero_there m = elim (less_or_not m size) [
@@ -157,8 +157,8 @@ none_marked size k = ap (λ word. has word (k % 60)) (zero_there (k / 60)) ∙ h
     ]
 
 -- of the observances past the last nothing is said
-pub overrides_none : (zone : List Phase) (place size : ℕ) (local from : ℤ) → AreOverrides zone place local from (replicate size 0)
+pub overrides_none : (zone : List ObservanceSaid) (place size : ℕ) (local from : ℤ) → AreOverrides zone place local from (replicate size 0)
 overrides_none zone place size local from k h = absurd (not_both (is_marked (replicate size 0) k) h (none_marked size k))
 
-pub clear_from_past : (zone : List Phase) (local after next : ℤ) → IsClearFrom zone (length zone) local after next
+pub clear_from_past : (zone : List ObservanceSaid) (local after next : ℤ) → IsClearFrom zone (length zone) local after next
 clear_from_past zone local after next i s p from h late early later = absurd (let within = slice_get_within zone i p h.0 in omega (arith, within, from))

@@ -8,7 +8,7 @@ use Rattle.jiff_core.specs.Calendar.{IsWithin}
 use Rattle.ics_zone.specs.Moments.{shown, IsFirstTime, IsMomentBy, near, if_so, first_time, first_later, moment_from, moment_by}
 use Rattle.ics_zone.proofs.OnsetLemmas.{natural-is}
 use Rattle.ics_zone.proofs.SearchLemmas.{first_below-none, first_below-some}
-use Rattle.ics_zone.specs.Offsets.{natural}
+use Rattle.ics_zone.specs.ZoneOffsets.{natural}
 use Rattle.ics_zone.proofs.Cases.{less_or_not_z, int_lt_true, true_int_lt}
 
 if_so-some : (b : Bool) (t s : ℤ) → if_so b t ≡ Some s → (b ≡ true) × (t ≡ s)

@@ -4,9 +4,9 @@ use Rattle.std.specs.List.{list_any}
 use Rattle.std.proofs.lemmas.Int.{ints}
 use Rattle.std.proofs.lemmas.Bool.Decides.{Decides-eqb}
 use Rattle.ics_values.specs.declared.local.Local.{Local}
-use Rattle.ics_rule.specs.Locals.{number}
-use Rattle.ics_zone.specs.Observances.{Phase, IsZone, instant_by, is_by_rule, is_begin, is_onset}
-use Rattle.ics_zone.specs.Offsets.{IsOnset, IsOffset, zone_offset}
+use Rattle.ics_values.specs.Locals.{number}
+use Rattle.ics_zone.specs.Observances.{ObservanceSaid, IsZone, instant_by, is_by_rule, is_begin, is_onset}
+use Rattle.ics_zone.specs.ZoneOffsets.{IsOnset, IsOffset, zone_offset}
 use Rattle.ics_zone.specs.Moments.{IsMomentOf}
 use Rattle.ics_zone.proofs.Cases.{less_or_not_z, not_both, or_cases}
 use Rattle.ics_zone.proofs.OffsetLaws.{offset_unique}
@@ -16,7 +16,7 @@ abbrev at_two : ℤ → Local
 at_two day = record { day = day; second = 7_200; second_in = omega arith }
 
 -- 2007-11-04 and 2007-03-11, at 02:00 on the clock before
-abbrev standard : Phase
+abbrev standard : ObservanceSaid
 standard = record {
   start = at_two (pos 13_821);
   offset_from = neg_ℤ (pos 14_400);
@@ -25,7 +25,7 @@ standard = record {
   rdates = [];
 }
 
-abbrev daylight : Phase
+abbrev daylight : ObservanceSaid
 daylight = record {
   start = at_two (pos 13_583);
   offset_from = neg_ℤ (pos 18_000);
@@ -34,7 +34,7 @@ daylight = record {
   rdates = [];
 }
 
-abbrev new_york : List Phase
+abbrev new_york : List ObservanceSaid
 new_york = standard ∷ daylight ∷ []
 
 -- 2007-03-11T07:00:00Z and 2007-11-04T06:00:00Z
@@ -45,7 +45,7 @@ abbrev autumn : ℤ
 autumn = pos 1_194_156_000
 
 -- without RDATE and RRULE, DTSTART alone is an onset
-alone : (p : Phase) (t : ℤ) → p.rdates ≡ [] → p.rule ≡ None → is_onset p t ≡ true → t ≡ instant_by p.offset_from (number p.start)
+alone : (p : ObservanceSaid) (t : ℤ) → p.rdates ≡ [] → p.rule ≡ None → is_onset p t ≡ true → t ≡ instant_by p.offset_from (number p.start)
 alone p t listed ruled h =
     let found = onset-local p t h in
     found.1 ∙ ap (instant_by p.offset_from) (first found.0 found.2)
@@ -60,23 +60,23 @@ alone p t listed ruled h =
     ]
 
 -- the onsets are these two
-record IsAutumn (i : ℕ) (t : ℤ) (p : Phase) : Type 0 where
+record IsAutumn (i : ℕ) (t : ℤ) (p : ObservanceSaid) : Type 0 where
   place : i ≡ 0
   at : t ≡ autumn
   same : standard ≡ p
 
-record IsSpring (i : ℕ) (t : ℤ) (p : Phase) : Type 0 where
+record IsSpring (i : ℕ) (t : ℤ) (p : ObservanceSaid) : Type 0 where
   place : i ≡ 1
   at : t ≡ spring
   same : daylight ≡ p
 
-got : (p q : Phase) → Some p ≡ Some q → p ≡ q
+got : (p q : ObservanceSaid) → Some p ≡ Some q → p ≡ q
 got p q e = cc
 
-no_more : (p : Phase) → None ≡ Some p → ⊥
+no_more : (p : ObservanceSaid) → None ≡ Some p → ⊥
 no_more p e = cc
 
-onsets : (i : ℕ) (t : ℤ) (p : Phase) → IsOnset new_york i t p → IsAutumn i t p ⊎ IsSpring i t p
+onsets : (i : ℕ) (t : ℤ) (p : ObservanceSaid) → IsOnset new_york i t p → IsAutumn i t p ⊎ IsSpring i t p
 onsets zero t p h = let same = got standard p h.0 in inl (record { place = refl; at = alone standard t refl refl (rw (sym same) at h.1); same = same })
 onsets (suc zero) t p h = let same = got daylight p h.0 in inr (record { place = refl; at = alone daylight t refl refl (rw (sym same) at h.1); same = same })
 onsets (suc (suc i)) t p h = absurd (no_more p h.0)

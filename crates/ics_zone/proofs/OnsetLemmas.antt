@@ -6,9 +6,9 @@ use Rattle.std.proofs.lemmas.Bool.Decides.{Decides-eqb}
 use Rattle.ics_values.specs.declared.local.Local.{Local}
 use Rattle.ics_values.specs.Stamps.{IsStampDay}
 use Rattle.ics_values.proofs.DayLemmas.{day_index_parts}
-use Rattle.ics_rule.specs.Locals.{number}
-use Rattle.ics_zone.specs.Observances.{Phase, IsPhase, IsZone, epoch, instant_by, is_begin, test_at, is_onset}
-use Rattle.ics_zone.specs.Offsets.{IsOnset, IsInForce, IsBeforeAll, IsOffset, instant, natural, instants_to, if_onset, last_at, first_at, in_force, earliest, offset_by, zone_offset}
+use Rattle.ics_values.specs.Locals.{number}
+use Rattle.ics_zone.specs.Observances.{ObservanceSaid, IsObservanceSaid, IsZone, epoch, instant_by, is_begin, test_at, is_onset}
+use Rattle.ics_zone.specs.ZoneOffsets.{IsOnset, IsInForce, IsBeforeAll, IsOffset, instant, natural, instants_to, if_onset, last_at, first_at, in_force, earliest, offset_by, zone_offset}
 use Rattle.ics_zone.specs.ZoneBounds.{if_onset-some}
 use Rattle.ics_zone.proofs.SearchLemmas.{last_below-none, last_below-some, first_below-none, first_below-some}
 use Rattle.ics_zone.proofs.Cases.{less_or_not_z, less_same_or_more}
@@ -31,11 +31,11 @@ test_at-true (pos n) test e = (n, refl, e)
 test_at-true (negsuc n) test e = absurd (cc)
 
 -- an onset is the instant of a local at which the observance begins, and the other way round
-pub onset-local : (p : Phase) (t : ℤ) → is_onset p t ≡ true → (n : ℕ) × (t ≡ instant_by p.offset_from n) × (is_begin p n ≡ true)
+pub onset-local : (p : ObservanceSaid) (t : ℤ) → is_onset p t ≡ true → (n : ℕ) × (t ≡ instant_by p.offset_from n) × (is_begin p n ≡ true)
 unfolding is_onset
 onset-local p t e = let found = test_at-true (t +ℤ p.offset_from +ℤ pos epoch) (is_begin p) e in (found.0, let at = found.1 in omega (arith, ints, at), found.2)
 
-pub local-onset : (p : Phase) (t : ℤ) (n : ℕ) → t ≡ instant_by p.offset_from n → is_onset p t ≡ is_begin p n
+pub local-onset : (p : ObservanceSaid) (t : ℤ) (n : ℕ) → t ≡ instant_by p.offset_from n → is_onset p t ≡ is_begin p n
 unfolding is_onset
 local-onset p t n e = test_at-is (t +ℤ p.offset_from +ℤ pos epoch) n (is_begin p) (omega (arith, ints))
 
@@ -43,13 +43,13 @@ or_true : (b c : Bool) → b ≡ true → (b || c) ≡ true
 or_true b c e = rw e refl
 
 -- an observance begins at its DTSTART
-pub start_is_onset : (p : Phase) → is_onset p (instant_by p.offset_from (number p.start)) ≡ true
+pub start_is_onset : (p : ObservanceSaid) → is_onset p (instant_by p.offset_from (number p.start)) ≡ true
 start_is_onset p =
     local-onset p (instant_by p.offset_from (number p.start)) (number p.start) refl
     ∙ or_true _ _ ((Decides-eqb (number p.start) (number p.start)).1 refl)
 
 -- each onset has a number among the instants
-pub onset_number : (p : Phase) → IsPhase p → (t : ℤ) → is_onset p t ≡ true → (k : ℕ) × (t ≡ instant k)
+pub onset_number : (p : ObservanceSaid) → IsObservanceSaid p → (t : ℤ) → is_onset p t ≡ true → (k : ℕ) × (t ≡ instant k)
 onset_number p facts t e =
     let found = onset-local p t e in
     let at = found.1 in
@@ -67,18 +67,18 @@ natural-below (negsuc n) k h = absurd (omega arith)
 pub from_instants : (t : ℤ) (k : ℕ) → k < instants_to t → instant k ≤ℤ t
 from_instants t k h = let below = natural-below (t +ℤ pos (epoch + 86_401)) k h in omega (arith, ints, below)
 
-some_is_not_none : (p : Phase) → Some p ≡ None → ⊥
+some_is_not_none : (p : ObservanceSaid) → Some p ≡ None → ⊥
 some_is_not_none p e = cc
 
-if_onset-none : (o : Option Phase) (t : ℤ) (p : Phase) → o ≡ Some p → is_onset p t ≡ true → if_onset o t ≡ None → ⊥
+if_onset-none : (o : Option ObservanceSaid) (t : ℤ) (p : ObservanceSaid) → o ≡ Some p → is_onset p t ≡ true → if_onset o t ≡ None → ⊥
 if_onset-none o t p e is none =
     let there : elim (is_onset p t) [ true ↦ Some p | false ↦ None ] ≡ None = sym (ap (λ x. if_onset x t) e) ∙ none in
     let given : Some p ≡ None = rw is at there in
     some_is_not_none p given
 
-module _ (zone : List Phase) (facts : IsZone zone) where
+module _ (zone : List ObservanceSaid) (facts : IsZone zone) where
   -- the last and the first onset of an instant
-  last_at-some : (t : ℤ) (p : Phase) → last_at zone t ≡ Some p → (i : ℕ) × IsOnset zone i t p × ((j : ℕ) (q : Phase) → IsOnset zone j t q → j ≤ i)
+  last_at-some : (t : ℤ) (p : ObservanceSaid) → last_at zone t ≡ Some p → (i : ℕ) × IsOnset zone i t p × ((j : ℕ) (q : ObservanceSaid) → IsOnset zone j t q → j ≤ i)
   last_at-some t p e =
       let found = last_below-some (λ i. if_onset (slice_get zone i) t) (length zone) p e in
       let onset = if_onset-some (slice_get zone found.place) t p found.gives in (
@@ -91,7 +91,7 @@ module _ (zone : List Phase) (facts : IsZone zone) where
         ],
       )
 
-  first_at-some : (t : ℤ) (p : Phase) → first_at zone t ≡ Some p → (i : ℕ) × IsOnset zone i t p × ((j : ℕ) (q : Phase) → IsOnset zone j t q → i ≤ j)
+  first_at-some : (t : ℤ) (p : ObservanceSaid) → first_at zone t ≡ Some p → (i : ℕ) × IsOnset zone i t p × ((j : ℕ) (q : ObservanceSaid) → IsOnset zone j t q → i ≤ j)
   first_at-some t p e =
       let found = first_below-some (λ i. if_onset (slice_get zone i) t) (length zone) p e in
       let onset = if_onset-some (slice_get zone found.place) t p found.gives in (
@@ -104,15 +104,15 @@ module _ (zone : List Phase) (facts : IsZone zone) where
         ],
       )
 
-  last_at-none : (t : ℤ) (i : ℕ) (p : Phase) → last_at zone t ≡ None → IsOnset zone i t p → ⊥
+  last_at-none : (t : ℤ) (i : ℕ) (p : ObservanceSaid) → last_at zone t ≡ None → IsOnset zone i t p → ⊥
   last_at-none t i p none h = if_onset-none (slice_get zone i) t p h.0 h.1
       (last_below-none (λ i. if_onset (slice_get zone i) t) (length zone) none i (slice_get_within zone i p h.0))
 
-  first_at-none : (t : ℤ) (i : ℕ) (p : Phase) → first_at zone t ≡ None → IsOnset zone i t p → ⊥
+  first_at-none : (t : ℤ) (i : ℕ) (p : ObservanceSaid) → first_at zone t ≡ None → IsOnset zone i t p → ⊥
   first_at-none t i p none h = if_onset-none (slice_get zone i) t p h.0 h.1
       (first_below-none (λ i. if_onset (slice_get zone i) t) (length zone) none i (slice_get_within zone i p h.0))
 
-  in_force-some : (t : ℤ) (p : Phase) → in_force zone t ≡ Some p → IsInForce zone t p
+  in_force-some : (t : ℤ) (p : ObservanceSaid) → in_force zone t ≡ Some p → IsInForce zone t p
   unfolding in_force
   in_force-some t p e =
       let found = last_below-some (λ k. last_at zone (instant k)) (instants_to t) p e in
@@ -133,7 +133,7 @@ module _ (zone : List Phase) (facts : IsZone zone) where
             ];
       }
 
-  in_force-none : (t : ℤ) (i : ℕ) (s : ℤ) (p : Phase) → in_force zone t ≡ None → IsOnset zone i s p → t <ℤ s
+  in_force-none : (t : ℤ) (i : ℕ) (s : ℤ) (p : ObservanceSaid) → in_force zone t ≡ None → IsOnset zone i s p → t <ℤ s
   unfolding in_force
   in_force-none t i s p none h = elim (less_or_not_z t s) [
     | inl l ↦ l
@@ -145,7 +145,7 @@ module _ (zone : List Phase) (facts : IsZone zone) where
         (h.0, rw at at h.1))
   ]
 
-  earliest-some : (t : ℤ) (p : Phase) → in_force zone t ≡ None → earliest zone ≡ Some p → IsBeforeAll zone t p
+  earliest-some : (t : ℤ) (p : ObservanceSaid) → in_force zone t ≡ None → earliest zone ≡ Some p → IsBeforeAll zone t p
   unfolding earliest
   earliest-some t p none e =
       let found = first_below-some (λ k. first_at zone (instant k)) (instants_to (pos 253_402_214_400)) p e in
@@ -167,7 +167,7 @@ module _ (zone : List Phase) (facts : IsZone zone) where
       }
 
 -- a zone with an observance has a least onset
-earliest-none : (p : Phase) (zone : List Phase) → IsZone (p ∷ zone) → earliest (p ∷ zone) ≡ None → ⊥
+earliest-none : (p : ObservanceSaid) (zone : List ObservanceSaid) → IsZone (p ∷ zone) → earliest (p ∷ zone) ≡ None → ⊥
 unfolding earliest
 earliest-none p zone facts none =
     let is = facts 0 p refl in
@@ -183,12 +183,12 @@ earliest-none p zone facts none =
     (first_below-none (λ k. first_at (p ∷ zone) (instant k)) (instants_to (pos 253_402_214_400)) none k.0 (in_instants (pos 253_402_214_400) k.0 early))
     (refl, rw at at start)
 
-pub offset_found : (zone : List Phase) → IsZone zone → (t : ℤ) → zone ≢ [] → IsOffset zone t (zone_offset zone t)
+pub offset_found : (zone : List ObservanceSaid) → IsZone zone → (t : ℤ) → zone ≢ [] → IsOffset zone t (zone_offset zone t)
 unfolding zone_offset
 offset_found [] facts t some = absurd (some refl)
 offset_found (p ∷ zone) facts t some = by (in_force (p ∷ zone) t) (earliest (p ∷ zone)) refl refl
   where
-    by : (now first : Option Phase) → in_force (p ∷ zone) t ≡ now → earliest (p ∷ zone) ≡ first → IsOffset (p ∷ zone) t (offset_by now first)
+    by : (now first : Option ObservanceSaid) → in_force (p ∷ zone) t ≡ now → earliest (p ∷ zone) ≡ first → IsOffset (p ∷ zone) t (offset_by now first)
     by (Some q) first is least = inl (q, in_force-some (p ∷ zone) facts t q is, refl)
     by None (Some q) is least = inr (q, earliest-some (p ∷ zone) facts t q is least, refl)
     by None None is least = absurd (earliest-none p zone facts least)

@@ -7,10 +7,10 @@ use Rattle.std.proofs.lemmas.Bool.Decides.{Decides-eqb}
 use Rattle.std.proofs.lemmas.List.{get_or_default}
 use Rattle.ics_values.specs.RuleParts.{RuleParts}
 use Rattle.ics_rule.specs.Recurrence.{Recurrence}
-use Rattle.ics_rule.specs.Locals.{number}
+use Rattle.ics_values.specs.Locals.{number}
 use Rattle.ics_rule.specs.Kept.{is_in_rule, is_kept, until_moment}
 use Rattle.ics_zone.specs.declared.onsets.Onsets.{Onsets}
-use Rattle.ics_zone.specs.Observances.{Phase, IsPhase, instant_by, rule_from, is_until, is_by_rule, is_begin, is_onset}
+use Rattle.ics_zone.specs.Observances.{ObservanceSaid, IsObservanceSaid, instant_by, rule_from, is_until, is_by_rule, is_begin, is_onset}
 use Rattle.ics_zone.specs.OnsetSets.{IsKeptBy, AreOnsetsOf, IsListing, IsEnd}
 use Rattle.ics_zone.proofs.Cases.{or_cases, or_left, or_right, and_parts, and_both, lt_true, int_le_true, true_int_le}
 use Rattle.ics_zone.proofs.OnsetLemmas.{onset-local, local-onset}
@@ -28,7 +28,7 @@ kept_early r n e = elim (or_cases (n == number r.start) _ e) [
       ])
 ]
 
-module _ (p : Phase) (facts : IsPhase p) (s : Onsets) (from : s.offset_from ≡ p.offset_from) (to : s.offset_to ≡ p.offset_to)
+module _ (p : ObservanceSaid) (facts : IsObservanceSaid p) (s : Onsets) (from : s.offset_from ≡ p.offset_from) (to : s.offset_to ≡ p.offset_to)
     (listing : IsListing p s.listed.items) where
   start_listed : Contains s.listed.items (instant_by p.offset_from (number p.start))
   start_listed = listing.complete (number p.start) (or_left (number p.start == number p.start) _ ((Decides-eqb (number p.start) (number p.start)).1 refl))

@@ -12,7 +12,7 @@ use Rattle.std.proofs.lemmas.List.{length-map, length-append, get_or_append_left
 use Rattle.std.proofs.lemmas.Option.{slice_get_within, slice_get_read, slice_get-map}
 use Rattle.ics_zone.specs.declared.observance.Observance.{Observance}
 use Rattle.ics_zone.specs.declared.onsets.Onsets.{Onsets}
-use Rattle.ics_zone.specs.Observances.{Phase, phase_of}
+use Rattle.ics_zone.specs.Observances.{ObservanceSaid, observance_said}
 use Rattle.ics_zone.specs.OnsetSets.{AreOnsetsOf}
 use Rattle.ics_zone.specs.ZoneOnsets.{AreOnsetsOfAll, HasOffsets, HaveOffsets}
 use Rattle.ics_zone.proofs.Cases.{below_or_at}
@@ -20,19 +20,19 @@ use Rattle.ics_zone.proofs.Cases.{below_or_at}
 -- the observances before a place have been read
 pub record AreOnsetsTo (observances : List Observance) (count : ℕ) (list : List Onsets) : Type 0 where
   pub same_length : length list ≡ count
-  pub each : (i : ℕ) (p : Phase) (d : Onsets) → i < count → slice_get (map phase_of observances) i ≡ Some p → AreOnsetsOf p (get_or list i d)
+  pub each : (i : ℕ) (p : ObservanceSaid) (d : Onsets) → i < count → slice_get (map observance_said observances) i ≡ Some p → AreOnsetsOf p (get_or list i d)
 
 abbrev pub HaveOffsetsTo : List Observance → ℕ → List ℤ → Type 0
-HaveOffsetsTo observances count offsets = (i : ℕ) (p : Phase) → i < count → slice_get (map phase_of observances) i ≡ Some p → HasOffsets offsets p
+HaveOffsetsTo observances count offsets = (i : ℕ) (p : ObservanceSaid) → i < count → slice_get (map observance_said observances) i ≡ Some p → HasOffsets offsets p
 
 module _ (observances : List Observance) (k : ℕ) (o : Observance) (inside : k < length observances) (at : o ≡ get_or observances k o) where
-  phase_here : (i : ℕ) (p : Phase) → i ≡ k → slice_get (map phase_of observances) i ≡ Some p → phase_of o ≡ p
-  phase_here i p same there =
-      let here = slice_get-map phase_of observances k ∙ ap (option_map phase_of) (slice_get_read observances (length observances) k o refl inside at) in
-      let both : Some (phase_of o) ≡ Some p = sym here ∙ (ap (slice_get (map phase_of observances)) (sym same) ∙ there) in
+  observance_here : (i : ℕ) (p : ObservanceSaid) → i ≡ k → slice_get (map observance_said observances) i ≡ Some p → observance_said o ≡ p
+  observance_here i p same there =
+      let here = slice_get-map observance_said observances k ∙ ap (option_map observance_said) (slice_get_read observances (length observances) k o refl inside at) in
+      let both : Some (observance_said o) ≡ Some p = sym here ∙ (ap (slice_get (map observance_said observances)) (sym same) ∙ there) in
       cc
 
-  pub onsets_more : (old new : List Onsets) (x : Onsets) → new ≡ old ++ x ∷ [] → AreOnsetsOf (phase_of o) x → AreOnsetsTo observances k old
+  pub onsets_more : (old new : List Onsets) (x : Onsets) → new ≡ old ++ x ∷ [] → AreOnsetsOf (observance_said o) x → AreOnsetsTo observances k old
       → AreOnsetsTo observances (k + 1) new
   onsets_more old new x then of before = subst (λ (list : List Onsets). AreOnsetsTo observances (k + 1) list) (sym then) (record {
     same_length = let n = before.same_length in omega (arith, n, length-append old (x ∷ []));
@@ -43,7 +43,7 @@ module _ (observances : List Observance) (k : ℕ) (o : Observance) (inside : k 
           let n = before.same_length in
           let zero : i - length old ≡ 0 = omega (arith, n, same) in
           let right = get_or-append_right old (x ∷ []) (length old) i d refl (omega (arith, n, same)) in
-          rw (right, zero) (subst (λ p. AreOnsetsOf p x) (phase_here i p same there) of))
+          rw (right, zero) (subst (λ p. AreOnsetsOf p x) (observance_here i p same there) of))
     ];
   })
 
@@ -51,7 +51,7 @@ module _ (observances : List Observance) (k : ℕ) (o : Observance) (inside : k 
       → HaveOffsetsTo observances k old → HaveOffsetsTo observances (k + 1) new
   offsets_more old new kept to from before i p l there = elim (below_or_at i k (omega arith)) [
     | inl less ↦ (let h = before i p less there in record { from = kept p.offset_from h.from; to = kept p.offset_to h.to })
-    | inr same ↦ subst (HasOffsets new) (phase_here i p same there) (record { from = from; to = to })
+    | inr same ↦ subst (HasOffsets new) (observance_here i p same there) (record { from = from; to = to })
   ]
 
   -- both offsets of an observance more are pushed
@@ -66,15 +66,15 @@ module _ (observances : List Observance) (k : ℕ) (o : Observance) (inside : k 
       (subst (λ (list : List ℤ). Contains list o.offset_from) (sym second) (Contains-push one o.offset_from))
 
 pub onsets_end : (observances : List Observance) (k : ℕ) (list : List Onsets) → length observances ≤ k → k ≤ length observances → AreOnsetsTo observances k list
-    → AreOnsetsOfAll (map phase_of observances) list
+    → AreOnsetsOfAll (map observance_said observances) list
 onsets_end observances k list past low all = record {
-  same_length = let n = all.same_length in omega (arith, n, past, low, length-map observances phase_of);
-  each = λ i p d there. all.each i p d (let h = slice_get_within (map phase_of observances) i p there in omega
-      (arith, h, past, length-map observances phase_of)) there;
+  same_length = let n = all.same_length in omega (arith, n, past, low, length-map observances observance_said);
+  each = λ i p d there. all.each i p d (let h = slice_get_within (map observance_said observances) i p there in omega
+      (arith, h, past, length-map observances observance_said)) there;
 }
 
 -- without those that stand twice they are the same offsets
-pub offsets_once : (zone : List Phase) (old new : List ℤ) → new ≡ dedup int_eq old → HaveOffsets old zone → HaveOffsets new zone
+pub offsets_once : (zone : List ObservanceSaid) (old new : List ℤ) → new ≡ dedup int_eq old → HaveOffsets old zone → HaveOffsets new zone
 offsets_once zone old new is have i p there =
     let h = have i p there in
     rw is (record { from = once p.offset_from h.from; to = once p.offset_to h.to })
@@ -83,12 +83,12 @@ offsets_once zone old new is have i p there =
     once = Contains-dedup int_eq_equiv (λ x y e. (Decides-int_eq x y).0 e) old
 
 -- moved about they are the same offsets
-pub offsets_moved : (zone : List Phase) (old new : List ℤ) → IsPermutation old new → HaveOffsets old zone → HaveOffsets new zone
+pub offsets_moved : (zone : List ObservanceSaid) (old new : List ℤ) → IsPermutation old new → HaveOffsets old zone → HaveOffsets new zone
 offsets_moved zone old new moved have i p there =
     let h = have i p there in
     record { from = Contains-permutation old new p.offset_from moved h.from; to = Contains-permutation old new p.offset_to moved h.to }
 
 pub offsets_end : (observances : List Observance) (k : ℕ) (offsets : List ℤ) → length observances ≤ k → HaveOffsetsTo observances k offsets
-    → HaveOffsets offsets (map phase_of observances)
-offsets_end observances k offsets past all i p there = all i p (let h = slice_get_within (map phase_of observances) i p there in omega
-    (arith, h, past, length-map observances phase_of)) there
+    → HaveOffsets offsets (map observance_said observances)
+offsets_end observances k offsets past all i p there = all i p (let h = slice_get_within (map observance_said observances) i p there in omega
+    (arith, h, past, length-map observances observance_said)) there

@@ -6,7 +6,7 @@ use Rattle.jiff_tz.specs.Zone.{offset_at}
 use Rattle.ics_zone.specs.DisplayTexts.{said_by}
 use Rattle.ics_zone.specs.Displays.{offset_of, moment_of}
 use Rattle.ics_zone.specs.ZoneFiles.{rule_type, rule_reading}
-use Rattle.ics_zone.specs.Zones.{zone_by}
+use Rattle.ics_zone.specs.JiffZones.{zone_by}
 use Rattle.ics_zone.specs.declared.display.Kind.{Kind}
 use Rattle.ics_zone.specs.declared.display.Kind.TheVariants.{Fixed, Posix}
 use Rattle.ics_zone.proofs.FileLemmas.{rule_offset_is}

@@ -1,6 +1,6 @@
 -- What the searches below a number find.
 use Rattle.std.proofs.Common.{◌≡◌, ℕ, zero, suc, ◌<◌, inl, inr, refl, ◌∙◌, arith, Option, Some, None}
-use Rattle.ics_zone.specs.Offsets.{last_below, first_below}
+use Rattle.ics_zone.specs.ZoneOffsets.{last_below, first_below}
 use Rattle.ics_zone.proofs.Cases.{below_or_at}
 
 -- f gives x at the greatest number below n at which it gives something

@@ -6,24 +6,24 @@ use Rattle.std.proofs.lemmas.Bool.Decides.{nat_tests}
 use Rattle.std.proofs.lemmas.Int.{ints}
 use Rattle.std.proofs.lemmas.Nat.{pow_pos, shr-shr, shl_whole}
 use Rattle.std.proofs.lemmas.Nat.Bits.{bit_at_and, bit_at_or, bit_at_not, bit_at-zero, bit_at-lt, bit_at_cat_low, bit_at_cat_high, bit_at-trailing_zeros}
-use Rattle.ics_values.specs.Sets.{has}
-use Rattle.ics_values.proofs.SetLemmas.{has-or_bit, has-front, has_above}
+use Rattle.ics_values.specs.Sets.{contains}
+use Rattle.ics_values.proofs.SetLemmas.{contains-or_bit, contains-front, has_above}
 use Rattle.ics_zone.proofs.Cases.{less_or_not, less_or_not_z, lt_true, true_lt, false_lt, true_int_lt, false_int_lt, and_parts, not_both}
 
-pub has-none : (n : ℕ) → has 0 n ≡ false
-has-none n = ap (λ x. x == 1) (bit_at-zero n)
+pub contains-none : (n : ℕ) → contains 0 n ≡ false
+contains-none n = ap (λ x. x == 1) (bit_at-zero n)
 
-bit_zero : (s n : ℕ) → has s n ≡ false → bit_at s n ≡ 0
+bit_zero : (s n : ℕ) → contains s n ≡ false → bit_at s n ≡ 0
 bit_zero s n h = let low = bit_at-lt s n in grind (arith, nat_tests)
 
-bit_one : (s n : ℕ) → has s n ≡ true → bit_at s n ≡ 1
+bit_one : (s n : ℕ) → contains s n ≡ true → bit_at s n ≡ 1
 bit_one s n h = grind (arith, nat_tests)
 
 -- the digits of a word that are below a size
-pub has-first : (s k n : ℕ) → has (s % 2 ^ k) n ≡ (nat_lt n k && has s n)
-has-first s k n = elim (less_or_not n k) [
-  | inl less ↦ has-front s k n less ∙ sym (ap (λ b. b && has s n) (true_lt n k less))
-  | inr more ↦ has_above (s % 2 ^ k) k n (omega (arith, pow_pos k)) more ∙ sym (ap (λ b. b && has s n) (false_lt n k more))
+pub contains-first : (s k n : ℕ) → contains (s % 2 ^ k) n ≡ (nat_lt n k && contains s n)
+contains-first s k n = elim (less_or_not n k) [
+  | inl less ↦ contains-front s k n less ∙ sym (ap (λ b. b && contains s n) (true_lt n k less))
+  | inr more ↦ has_above (s % 2 ^ k) k n (omega (arith, pow_pos k)) more ∙ sym (ap (λ b. b && contains s n) (false_lt n k more))
 ]
 
 -- a set with one number more, below a bound that is one more
@@ -44,17 +44,17 @@ same : (m n : ℕ) (b : Bool) → (m ≡ n → b ≡ false) → (nat_lt m n && b
 same m n true is = same_true m n (λ e. not_both true refl (is e))
 same m n false is = grind (arith, nat_tests)
 
-module _ (set word n : ℕ) (old : (m : ℕ) → has word m ≡ (nat_lt m n && has set m)) where
-  pub word_more : n < 64 → has set n ≡ true → (m : ℕ) → has (bit_or word (1 * 2 ^ n % 18446744073709551616)) m ≡ (nat_lt m (n + 1) && has set m)
+module _ (set word n : ℕ) (old : (m : ℕ) → contains word m ≡ (nat_lt m n && contains set m)) where
+  pub word_more : n < 64 → contains set n ≡ true → (m : ℕ) → contains (bit_or word (1 * 2 ^ n % 18446744073709551616)) m ≡ (nat_lt m (n + 1) && contains set m)
   word_more small is m =
-      has-or_bit word n m small ∙ ap (λ b. (m == n) || b) (old m) ∙ more m n (has set m) (λ e. subst (λ x. has set x ≡ true) (sym e) is)
+      contains-or_bit word n m small ∙ ap (λ b. (m == n) || b) (old m) ∙ more m n (contains set m) (λ e. subst (λ x. contains set x ≡ true) (sym e) is)
 
-  pub word_same : has set n ≡ false → (m : ℕ) → has word m ≡ (nat_lt m (n + 1) && has set m)
-  word_same is m = old m ∙ same m n (has set m) (λ e. subst (λ x. has set x ≡ false) (sym e) is)
+  pub word_same : contains set n ≡ false → (m : ℕ) → contains word m ≡ (nat_lt m (n + 1) && contains set m)
+  word_same is m = old m ∙ same m n (contains set m) (λ e. subst (λ x. contains set x ≡ false) (sym e) is)
 
 -- a minute that begins at a second of another
-module _ (here next from first part : ℕ) (small : from < 60) (is_first : (n : ℕ) → has first n ≡ (nat_lt n 60 && has here n))
-    (is_part : (n : ℕ) → has part n ≡ (nat_lt n from && has next n)) (bound : part < 2 ^ from) where
+module _ (here next from first part : ℕ) (small : from < 60) (is_first : (n : ℕ) → contains first n ≡ (nat_lt n 60 && contains here n))
+    (is_part : (n : ℕ) → contains part n ≡ (nat_lt n from && contains next n)) (bound : part < 2 ^ from) where
   joined_bit : (n : ℕ) → bit_at (bit_or (first / 2 ^ from) (part * 2 ^ (60 - from) % 18446744073709551616)) n
       ≡ max (bit_at first (n + from)) (bit_at (part * 2 ^ (60 - from) + 0) n)
   joined_bit n =
@@ -64,25 +64,25 @@ module _ (here next from first part : ℕ) (small : from < 60) (is_first : (n : 
       ap (λ x. bit_at (bit_or (first / 2 ^ from) x) n) (exact ∙ none) ∙ bit_at_or (first / 2 ^ from) (part * 2 ^ (60 - from) + 0) n
       ∙ ap (λ x. max x (bit_at (part * 2 ^ (60 - from) + 0) n)) (ap (λ x. x % 2) (shr-shr first from n) ∙ ap (bit_at first) order)
 
-  pub shifted_here : (n : ℕ) → n + from < 60 → has (bit_or (first / 2 ^ from) (part * 2 ^ (60 - from) % 18446744073709551616)) n ≡ has here (n + from)
+  pub shifted_here : (n : ℕ) → n + from < 60 → contains (bit_or (first / 2 ^ from) (part * 2 ^ (60 - from) % 18446744073709551616)) n ≡ contains here (n + from)
   shifted_here n low =
       let none = bit_at_cat_low part (60 - from) 0 n (omega arith) ∙ bit_at-zero n in
-      ap (λ x. x == 1) (joined_bit n ∙ omega (arith, none)) ∙ is_first (n + from) ∙ ap (λ b. b && has here (n + from)) (true_lt (n + from) 60 low)
+      ap (λ x. x == 1) (joined_bit n ∙ omega (arith, none)) ∙ is_first (n + from) ∙ ap (λ b. b && contains here (n + from)) (true_lt (n + from) 60 low)
 
   pub shifted_next : (n m : ℕ) → m < from → n + from ≡ m + 60
-      → has (bit_or (first / 2 ^ from) (part * 2 ^ (60 - from) % 18446744073709551616)) n ≡ has next m
+      → contains (bit_or (first / 2 ^ from) (part * 2 ^ (60 - from) % 18446744073709551616)) n ≡ contains next m
   shifted_next n m low at =
-      let past = is_first (n + from) ∙ ap (λ b. b && has here (n + from)) (false_lt (n + from) 60 (omega arith)) in
+      let past = is_first (n + from) ∙ ap (λ b. b && contains here (n + from)) (false_lt (n + from) 60 (omega arith)) in
       let none = bit_zero first (n + from) past in
       let there = bit_at_cat_high part (60 - from) 0 n (pow_pos (60 - from)) (omega arith) in
       let place : n - (60 - from) ≡ m = omega arith in
       let one : bit_at (part * 2 ^ (60 - from) + 0) n ≡ bit_at part m = there ∙ ap (bit_at part) place in
-      ap (λ x. x == 1) (joined_bit n ∙ omega (arith, none, one)) ∙ is_part m ∙ ap (λ b. b && has next m) (true_lt m from low)
+      ap (λ x. x == 1) (joined_bit n ∙ omega (arith, none, one)) ∙ is_part m ∙ ap (λ b. b && contains next m) (true_lt m from low)
 
 -- the seconds of a word that another does not have
 module _ (word other rest : ℕ) (fits : other < 18446744073709551616)
-    (is : (n : ℕ) → has rest n ≡ (nat_lt n 60 && has (bit_and word (18446744073709551615 - other)) n)) where
-  outside : (n : ℕ) → n < 60 → has (bit_and word (18446744073709551615 - other)) n ≡ false → has word n ≡ true → has other n ≡ true
+    (is : (n : ℕ) → contains rest n ≡ (nat_lt n 60 && contains (bit_and word (18446744073709551615 - other)) n)) where
+  outside : (n : ℕ) → n < 60 → contains (bit_and word (18446744073709551615 - other)) n ≡ false → contains word n ≡ true → contains other n ≡ true
   outside n low none there =
       let neither = bit_zero (bit_and word (18446744073709551615 - other)) n none in
       let both = bit_at_and word (18446744073709551615 - other) n in
@@ -92,14 +92,14 @@ module _ (word other rest : ℕ) (fits : other < 18446744073709551616)
       let set : bit_at other n ≡ 1 = omega (arith, neither, both, not, one, small) in
       ap (λ x. x == 1) set
 
-  pub all_inside : (n : ℕ) → n < 60 → has rest n ≡ false → has word n ≡ true → has other n ≡ true
-  all_inside n low none = outside n low (sym (ap (λ b. b && has (bit_and word (18446744073709551615 - other)) n) (true_lt n 60 low)) ∙ sym (is n) ∙ none)
+  pub all_inside : (n : ℕ) → n < 60 → contains rest n ≡ false → contains word n ≡ true → contains other n ≡ true
+  all_inside n low none = outside n low (sym (ap (λ b. b && contains (bit_and word (18446744073709551615 - other)) n) (true_lt n 60 low)) ∙ sym (is n) ∙ none)
 
   pub first_place : rest ≢ 0 → rest < 18446744073709551616
-      → (trailing_zeros w64 rest < 60) × ((n : ℕ) → n < trailing_zeros w64 rest → has word n ≡ true → has other n ≡ true)
+      → (trailing_zeros w64 rest < 60) × ((n : ℕ) → n < trailing_zeros w64 rest → contains word n ≡ true → contains other n ≡ true)
   first_place some small =
       let first = bit_at-trailing_zeros w64 rest (omega arith) small in
-      let there : (nat_lt (trailing_zeros w64 rest) 60 && has (bit_and word (18446744073709551615 - other)) (trailing_zeros w64 rest)) ≡ true =
+      let there : (nat_lt (trailing_zeros w64 rest) 60 && contains (bit_and word (18446744073709551615 - other)) (trailing_zeros w64 rest)) ≡ true =
       sym (is (trailing_zeros w64 rest)) ∙ ap (λ x. x == 1) first.1 in
       let low : trailing_zeros w64 rest < 60 = lt_true (trailing_zeros w64 rest) 60 (and_parts _ _ there).0 in
       (low, λ n less. all_inside n (omega (arith, less, low)) (ap (λ x. x == 1) (first.2 n less)))
@@ -115,13 +115,13 @@ first_seconds n size at count down up = elim (less_or_not_z at count) [
 ]
 
 -- the digits of two words
-pub has-or : (a b n : ℕ) → has (bit_or a b) n ≡ (has a n || has b n)
-has-or a b n = elim (bit_cases a n) [
-  | inl none ↦ ap (λ x. x == 1) (bit_at_or a b n ∙ omega (arith, none)) ∙ sym (ap (λ c. c || has b n) (ap (λ x. x == 1) none))
+pub contains-or : (a b n : ℕ) → contains (bit_or a b) n ≡ (contains a n || contains b n)
+contains-or a b n = elim (bit_cases a n) [
+  | inl none ↦ ap (λ x. x == 1) (bit_at_or a b n ∙ omega (arith, none)) ∙ sym (ap (λ c. c || contains b n) (ap (λ x. x == 1) none))
   | inr one ↦ (
       let low = bit_at-lt b n in
       let set : bit_at (bit_or a b) n ≡ 1 = bit_at_or a b n ∙ omega (arith, one, low) in
-      ap (λ x. x == 1) set ∙ sym (ap (λ c. c || has b n) (ap (λ x. x == 1) one)))
+      ap (λ x. x == 1) set ∙ sym (ap (λ c. c || contains b n) (ap (λ x. x == 1) one)))
 ]
   where
     bit_cases : (s m : ℕ) → (bit_at s m ≡ 0) ⊎ (bit_at s m ≡ 1)

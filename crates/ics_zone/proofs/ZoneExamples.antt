@@ -8,11 +8,11 @@ use Rattle.ics_values.specs.RuleParts.{RuleParts, every}
 use Rattle.ics_values.specs.Sets.{only}
 use Rattle.ics_rule.specs.Kept.{rules_on_literals, until_moment}
 use Rattle.ics_rule.proofs.Samples.{local, nth_weekday, su}
-use Rattle.ics_zone.specs.Observances.{Phase, is_onset}
-use Rattle.ics_zone.specs.Offsets.{last_below, first_below, last_at, first_at}
+use Rattle.ics_zone.specs.Observances.{ObservanceSaid, is_onset}
+use Rattle.ics_zone.specs.ZoneOffsets.{last_below, first_below, last_at, first_at}
 
 -- from local 02:00 on daylight time: each second Sunday of March, and one day more
-abbrev daylight : Option RuleParts → Phase
+abbrev daylight : Option RuleParts → ObservanceSaid
 daylight rule = record {
   start = record { day = pos 13_583; second = 7_200; second_in = omega arith };
   offset_from = neg_ℤ (pos 18_000);
@@ -68,7 +68,7 @@ unfolding is_onset rules_on_literals days_on_literals until_moment
 rdate_stays = refl
 
 -- of two observances that begin at one instant the second is the greater onset
-abbrev back_and_forth : List Phase
+abbrev back_and_forth : List ObservanceSaid
 back_and_forth = daylight None ∷ record (daylight None) { offset_to = neg_ℤ (pos 3_600) } ∷ []
 
 last_of_two : option_map (λ p. p.offset_to) (last_at back_and_forth (pos 1_173_596_400)) ≡ Some (neg_ℤ (pos 3_600))

@@ -7,36 +7,36 @@ use Rattle.std.proofs.lemmas.Int.{ints, clamps}
 use Rattle.std.proofs.lemmas.Option.{slice_get_within}
 use Rattle.ics_zone.specs.declared.latest.Latest.{Latest}
 use Rattle.ics_zone.specs.declared.onsets.Onsets.{Onsets}
-use Rattle.ics_zone.specs.Observances.{Phase}
-use Rattle.ics_zone.specs.Offsets.{IsOnset, IsNotLater}
+use Rattle.ics_zone.specs.Observances.{ObservanceSaid}
+use Rattle.ics_zone.specs.ZoneOffsets.{IsOnset, IsNotLater}
 use Rattle.ics_zone.specs.Latest.{IsLast, IsLastOf}
 use Rattle.ics_zone.specs.OnsetSets.{Has, IsSound, AreOnsetsOf}
 use Rattle.ics_zone.specs.ZoneOnsets.{AreOnsetsOfAll, IsLatest, IsLatestOf, IsFirst, IsOverridden}
 use Rattle.ics_zone.proofs.Cases.{below_or_at, less_or_not_z}
 
 -- each place of a zone has an observance
-pub phase_there : (zone : List Phase) (k : ℕ) → k < length zone → (p : Phase) × (slice_get zone k ≡ Some p)
-phase_there [] k h = absurd (omega arith)
-phase_there (p ∷ zone) zero h = (p, refl)
-phase_there (p ∷ zone) (suc k) h = phase_there zone k (omega arith)
+pub observance_there : (zone : List ObservanceSaid) (k : ℕ) → k < length zone → (p : ObservanceSaid) × (slice_get zone k ≡ Some p)
+observance_there [] k h = absurd (omega arith)
+observance_there (p ∷ zone) zero h = (p, refl)
+observance_there (p ∷ zone) (suc k) h = observance_there zone k (omega arith)
 
 -- what is kept of each observance is sound
-pub all_sound : (zone : List Phase) (list : List Onsets) → AreOnsetsOfAll zone list → All IsSound list
-all_sound zone list all k d h = let here = phase_there zone k (let n = all.same_length in omega (arith, n, h)) in (all.each k here.0 d here.1).sound
+pub all_sound : (zone : List ObservanceSaid) (list : List Onsets) → AreOnsetsOfAll zone list → All IsSound list
+all_sound zone list all k d h = let here = observance_there zone k (let n = all.same_length in omega (arith, n, h)) in (all.each k here.0 d here.1).sound
 
 -- of the observances before a place: no onset between two instants begins an offset that shows a later local
-abbrev pub IsNextPastTo : List Phase → ℕ → ℤ → ℤ → ℤ → Type 0
+abbrev pub IsNextPastTo : List ObservanceSaid → ℕ → ℤ → ℤ → ℤ → Type 0
 IsNextPastTo zone count local after next =
-    (i : ℕ) (s : ℤ) (p : Phase) → i < count → IsOnset zone i s p → after <ℤ s → s <ℤ next → (s +ℤ p.offset_to) ≤ℤ local
+    (i : ℕ) (s : ℤ) (p : ObservanceSaid) → i < count → IsOnset zone i s p → after <ℤ s → s <ℤ next → (s +ℤ p.offset_to) ≤ℤ local
 
 -- of the observances before a place: no onset is after one instant and before another
-abbrev pub NoneBetweenTo : List Phase → ℕ → ℤ → ℤ → Type 0
-NoneBetweenTo zone count after next = (i : ℕ) (s : ℤ) (p : Phase) → i < count → IsOnset zone i s p → after <ℤ s → next ≤ℤ s
+abbrev pub NoneBetweenTo : List ObservanceSaid → ℕ → ℤ → ℤ → Type 0
+NoneBetweenTo zone count after next = (i : ℕ) (s : ℤ) (p : ObservanceSaid) → i < count → IsOnset zone i s p → after <ℤ s → next ≤ℤ s
 
 -- of the observances before a place: the onsets of those with an offset, not after t, are less than another
-abbrev pub AreLessTo : List Phase → ℕ → ℤ → ℤ → ℤ → ℕ → Type 0
+abbrev pub AreLessTo : List ObservanceSaid → ℕ → ℤ → ℤ → ℤ → ℕ → Type 0
 AreLessTo zone count offset t at place =
-    (i : ℕ) (s : ℤ) (p : Phase) → i < count → IsOnset zone i s p → p.offset_to ≡ offset → s ≤ℤ t → (s <ℤ at) ⊎ ((s ≡ at) × (i < place))
+    (i : ℕ) (s : ℤ) (p : ObservanceSaid) → i < count → IsOnset zone i s p → p.offset_to ≡ offset → s ≤ℤ t → (s <ℤ at) ⊎ ((s ≡ at) × (i < place))
 
 -- before an instant, or at it
 not_later_by : (s t : ℤ) (i j : ℕ) → s ≤ℤ t → i ≤ j → IsNotLater s i t j
@@ -46,14 +46,14 @@ not_later_is : (s t : ℤ) (i j : ℕ) → IsNotLater s i t j → s ≤ℤ t
 not_later_is s t i j (inl l) = omega (arith, ints)
 not_later_is s t i j (inr l) = omega (arith, ints, l.0)
 
-module _ (zone : List Phase) (list : List Onsets) (all : AreOnsetsOfAll zone list) (k : ℕ) (o : Onsets) (inside : k < length list)
+module _ (zone : List ObservanceSaid) (list : List Onsets) (all : AreOnsetsOfAll zone list) (k : ℕ) (o : Onsets) (inside : k < length list)
     (at_place : o ≡ get_or list k o) where
   -- what is there is kept of the observance there
-  pub onsets_at : (p : Phase) → slice_get zone k ≡ Some p → AreOnsetsOf p o
+  pub onsets_at : (p : ObservanceSaid) → slice_get zone k ≡ Some p → AreOnsetsOf p o
   onsets_at p there = rw at_place (all.each k p o there)
 
   -- an onset of the observances up to here is of one before, or of this one
-  module _ {A : Type 0} (i : ℕ) (s : ℤ) (p : Phase) (h : IsOnset zone i s p) (early : i < k + 1) (before : i < k → A) (now : AreOnsetsOf p o → Has o s
+  module _ {A : Type 0} (i : ℕ) (s : ℤ) (p : ObservanceSaid) (h : IsOnset zone i s p) (early : i < k + 1) (before : i < k → A) (now : AreOnsetsOf p o → Has o s
       → i ≡ k → A) where
     split : A
     split = elim (below_or_at i k (omega arith)) [
@@ -63,31 +63,31 @@ module _ (zone : List Phase) (list : List Onsets) (all : AreOnsetsOfAll zone lis
 
   module _ (t : ℤ) where
     this_one : (e : Latest) → e.place ≡ k → e.offset ≡ o.offset_to → IsLast (Has o) t e.at
-        → ((i : ℕ) (s : ℤ) (p : Phase) → i < k → IsOnset zone i s p → s ≤ℤ t → s ≤ℤ e.at) → IsLatest zone t (k + 1) e
+        → ((i : ℕ) (s : ℤ) (p : ObservanceSaid) → i < k → IsOnset zone i s p → s ≤ℤ t → s ≤ℤ e.at) → IsLatest zone t (k + 1) e
     this_one e place offset last none =
-        let here = phase_there zone k (let n = all.same_length in omega (arith, n, inside)) in
+        let here = observance_there zone k (let n = all.same_length in omega (arith, n, inside)) in
         let of = onsets_at here.0 here.1 in
         record {
-          phase = here.0;
+          observance = here.0;
           onset = (ap (slice_get zone) place ∙ here.1, of.known e.at last.is);
           offset = offset ∙ of.to;
           before = omega (arith, place);
           not_after = last.not_after;
           greatest = λ i s p l h early. split i s p h l
               (λ less. not_later_by s e.at i e.place (none i s p less h early) (omega (arith, place, less)))
-              (λ of has same. not_later_by s e.at i e.place (last.last s has early) (omega (arith, place, same)));
+              (λ of contains same. not_later_by s e.at i e.place (last.last s contains early) (omega (arith, place, same)));
         }
 
     pub latest_none : (old : Option Latest) → IsLatestOf zone t k old → ((u : ℤ) → Has o u → t <ℤ u) → IsLatestOf zone t (k + 1) old
-    latest_none None before none = λ i s p l h. split i s p h l (λ less. before i s p less h) (λ of has same. none s has)
+    latest_none None before none = λ i s p l h. split i s p h l (λ less. before i s p less h) (λ of contains same. none s contains)
     latest_none (Some f) before none = record {
-      phase = before.phase;
+      observance = before.observance;
       onset = before.onset;
       offset = before.offset;
       before = let n = before.before in omega (arith, n);
       not_after = before.not_after;
       greatest = λ i s p l h early. split i s p h l (λ less. before.greatest i s p less h early)
-          (λ of has same. absurd (let late = none s has in omega (arith, ints, late, early)));
+          (λ of contains same. absurd (let late = none s contains in omega (arith, ints, late, early)));
     }
 
     pub latest_some : (old : Option Latest) (e new : Latest) → IsLatestOf zone t k old → e.place ≡ k → e.offset ≡ o.offset_to → IsLast (Has o) t e.at
@@ -101,37 +101,37 @@ module _ (zone : List Phase) (list : List Onsets) (all : AreOnsetsOfAll zone lis
     latest_some (Some f) e new before place offset last (inr is) =
         let later = is.1 in
         rw (is.0) (record {
-          phase = before.phase;
+          observance = before.observance;
           onset = before.onset;
           offset = before.offset;
           before = let n = before.before in omega (arith, n);
           not_after = before.not_after;
           greatest = λ i s p l h early. split i s p h l (λ less. before.greatest i s p less h early)
-              (λ of has same. inl (let low = last.last s has early in omega (arith, ints, low, later)));
+              (λ of contains same. inl (let low = last.last s contains early in omega (arith, ints, low, later)));
         })
 
   pub between_more : (after next new : ℤ) → new ≤ℤ next → ((t : ℤ) → Has o t → after <ℤ t → new ≤ℤ t) → NoneBetweenTo zone k after next
       → NoneBetweenTo zone (k + 1) after new
   between_more after next new less first before i s p l h late = split i s p h l
       (λ low. let none = before i s p low h late in omega (arith, ints, none, less))
-      (λ of has same. first s has late)
+      (λ of contains same. first s contains late)
 
   -- the onsets of one more are less than another
   module _ (offset t at : ℤ) (place : ℕ) (before : AreLessTo zone k offset t at place) where
     pub less_other : (o.offset_to ≡ offset → ⊥) → AreLessTo zone (k + 1) offset t at place
     less_other other i s p l h is early = split i s p h l
         (λ low. before i s p low h is early)
-        (λ of has same. absurd (other (of.to ∙ is)))
+        (λ of contains same. absurd (other (of.to ∙ is)))
 
     pub less_more : (last : Option ℤ) → IsLastOf (Has o) t last → (r : Bool)
         → MatchOption last (r ≡ false) (λ s. r ≡ false → (s <ℤ at) ⊎ ((s ≡ at) × (k < place)))
         → r ≡ false → AreLessTo zone (k + 1) offset t at place
     less_more None none r less lower i s p l h is early = split i s p h l
         (λ low. before i s p low h is early)
-        (λ of has same. absurd (let late = none s has in omega (arith, ints, late, early)))
+        (λ of contains same. absurd (let late = none s contains in omega (arith, ints, late, early)))
     less_more (Some u) last r less lower i s p l h is early = split i s p h l
         (λ low. before i s p low h is early)
-        (λ of has same. let low = last.last s has early in elim (less_or_not_z s at) [
+        (λ of contains same. let low = last.last s contains early in elim (less_or_not_z s at) [
           | inl less_now ↦ inl less_now
           | inr more ↦ elim (less lower) [
             | inl small ↦ absurd (omega (arith, ints, small, low, more))
@@ -143,11 +143,11 @@ module _ (zone : List Phase) (list : List Onsets) (all : AreOnsetsOfAll zone lis
   pub overridden_by : (t offset at : ℤ) (count : ℕ) → length list ≤ count → IsLast (Has o) t at → AreLessTo zone count offset t at k
       → IsOverridden zone t offset
   overridden_by t offset at count past last less =
-      let here = phase_there zone k (let n = all.same_length in omega (arith, n, inside)) in
+      let here = observance_there zone k (let n = all.same_length in omega (arith, n, inside)) in
       record {
         place = k;
         at = at;
-        phase = here.0;
+        observance = here.0;
         onset = (here.1, (onsets_at here.0 here.1).known at last.is);
         not_after = last.not_after;
         greater = λ i s p h is early. less i s p (let within = slice_get_within zone i p h.0 in let n = all.same_length in omega (arith, within, n, past)) h
@@ -158,16 +158,16 @@ module _ (zone : List Phase) (list : List Onsets) (all : AreOnsetsOfAll zone lis
   module _ (first at : ℤ) (is : Has o at) (least : (t : ℤ) → Has o t → at ≤ℤ t) where
     pub first_now : (offset new : ℤ) → IsFirst zone k first offset → at <ℤ first → new ≡ o.offset_from → IsFirst zone (k + 1) at new
     first_now offset new before less from =
-        let here = phase_there zone k (let n = all.same_length in omega (arith, n, inside)) in
+        let here = observance_there zone k (let n = all.same_length in omega (arith, n, inside)) in
         let of = onsets_at here.0 here.1 in
         record {
           place = k;
           in_bound = omega arith;
-          phase = here.0;
+          observance = here.0;
           onset = (here.1, of.known at is);
           least = λ i s p l h. split i s p h l
               (λ early. inl (let low = not_later_is first s before.place i (before.least i s p early h) in omega (arith, ints, low, less)))
-              (λ of has same. not_later_by at s k i (least s has) (omega (arith, same)));
+              (λ of contains same. not_later_by at s k i (least s contains) (omega (arith, same)));
           is = from ∙ of.from;
         }
 
@@ -175,10 +175,10 @@ module _ (zone : List Phase) (list : List Onsets) (all : AreOnsetsOfAll zone lis
     first_before offset before more = record {
       place = before.place;
       in_bound = let n = before.in_bound in omega (arith, n);
-      phase = before.phase;
+      observance = before.observance;
       onset = before.onset;
       least = λ i s p l h. split i s p h l (λ early. before.least i s p early h)
-          (λ of has same. not_later_by first s before.place i (let low = least s has in omega (arith, ints, low, more))
+          (λ of contains same. not_later_by first s before.place i (let low = least s contains in omega (arith, ints, low, more))
           (let n = before.in_bound in omega (arith, n, same)));
       is = before.is;
     }
@@ -188,27 +188,27 @@ module _ (zone : List Phase) (list : List Onsets) (all : AreOnsetsOfAll zone lis
     pub past_now : (new : ℤ) → new ≤ℤ next → ((t : ℤ) → Has o t → from <ℤ t → new ≤ℤ t) → IsNextPastTo zone (k + 1) local after new
     past_now new less first i s p l h late early = split i s p h l
         (λ low. before i s p low h late (omega (arith, ints, early, less)))
-        (λ of has same. elim (less_or_not_z from s) [
-          | inl more ↦ absurd (let n = first s has more in omega (arith, ints, n, early))
+        (λ of contains same. elim (less_or_not_z from s) [
+          | inl more ↦ absurd (let n = first s contains more in omega (arith, ints, n, early))
           | inr low ↦ (let to = of.to in omega (arith, ints, clamps, past, low, late, to))
         ])
 
     pub past_before : after <ℤ next → next ≤ℤ from → IsNextPastTo zone (k + 1) local after next
     past_before more none i s p l h late early = split i s p h l
         (λ low. before i s p low h late early)
-        (λ of has same. let to = of.to in omega (arith, ints, clamps, past, none, early, more, to))
+        (λ of contains same. let to = of.to in omega (arith, ints, clamps, past, none, early, more, to))
 
 -- no observance is before the first
-pub first_of : (zone : List Phase) (list : List Onsets) → AreOnsetsOfAll zone list → (o : Onsets) → 0 < length list → o ≡ get_or list 0 o → (at offset : ℤ)
+pub first_of : (zone : List ObservanceSaid) (list : List Onsets) → AreOnsetsOfAll zone list → (o : Onsets) → 0 < length list → o ≡ get_or list 0 o → (at offset : ℤ)
     → Has o at
     → offset ≡ o.offset_from → IsFirst zone 0 at offset
 first_of zone list all o inside at_place at offset is from =
-    let here = phase_there zone 0 (let n = all.same_length in omega (arith, n, inside)) in
+    let here = observance_there zone 0 (let n = all.same_length in omega (arith, n, inside)) in
     let of = onsets_at zone list all 0 o inside at_place here.0 here.1 in
     record {
       place = 0;
       in_bound = omega arith;
-      phase = here.0;
+      observance = here.0;
       onset = (here.1, of.known at is);
       least = λ i s p l h. absurd (omega (arith, l));
       is = from ∙ of.from;

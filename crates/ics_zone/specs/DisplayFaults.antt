@@ -3,6 +3,6 @@ use Rattle.std.specs.Prelude.{ℕ, List, codes}
 use Rattle.ics_zone.specs.declared.display_fault.DisplayFault.{DisplayFault}
 use Rattle.ics_zone.specs.declared.display_fault.DisplayFault.TheVariants.{BadZone, Memory}
 
-abbrev pub fault_name : DisplayFault → List ℕ
-fault_name BadZone = codes "BadZone"
-fault_name Memory = codes "Memory"
+abbrev pub display_fault_name : DisplayFault → List ℕ
+display_fault_name BadZone = codes "BadZone"
+display_fault_name Memory = codes "Memory"

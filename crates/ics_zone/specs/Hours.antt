@@ -1,8 +1,8 @@
 -- What a rule keeps in two hours that follow each other.
 use Rattle.std.specs.Prelude.{◌≡◌, ℕ, ◌+◌, ◌<◌, ◌≤◌, ◌/◌, Bool, ◌&&◌, ◌==◌, if◌then◌else◌, Some, IfSome, Option, ℤ, ◌<ℤ◌}
-use Rattle.ics_values.specs.Sets.{has}
+use Rattle.ics_values.specs.Sets.{contains}
 use Rattle.ics_rule.specs.Recurrence.{Recurrence}
-use Rattle.ics_rule.specs.Locals.{minute_of, second_of}
+use Rattle.ics_rule.specs.PeriodNumbers.{minute_of, second_of}
 use Rattle.ics_rule.specs.Kept.{is_kept}
 use Rattle.ics_zone.specs.declared.hours.Hours.{Hours}
 use Rattle.ics_zone.specs.declared.onsets.Onsets.{Onsets}
@@ -11,7 +11,7 @@ use Rattle.ics_zone.specs.Observances.{instant_by}
 
 -- the minute and the second of a local are among those of an hour
 abbrev pub keeps_time : Times → ℕ → Bool
-keeps_time times n = has times.minutes (minute_of n) && has times.seconds (second_of n)
+keeps_time times n = contains times.minutes (minute_of n) && contains times.seconds (second_of n)
 
 abbrev pub keeps : Hours → ℕ → Bool
 keeps hours n = if n / 3_600 == hours.hour then keeps_time hours.here n else keeps_time hours.next n

@@ -1,14 +1,14 @@
-pub mod Places
+pub mod Seconds
 pub mod DisplayTexts
 pub mod Displays
 pub mod Near
 pub mod DisplayFaults
-pub mod Zones
+pub mod JiffZones
 pub mod ZoneFiles
 pub mod FileBounds
 pub mod Years
 pub mod Observances
-pub mod Offsets
+pub mod ZoneOffsets
 pub mod Moments
 pub mod ZoneFaults
 pub mod ZoneFileFaults

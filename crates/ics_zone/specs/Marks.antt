@@ -1,13 +1,13 @@
 -- The onsets of an hour that show later locals than one, and the marks at those that do not.
 use Rattle.std.specs.Prelude.{◌≡◌, ℕ, ◌/◌, ◌%◌, ◌⊎◌, Bool, true, List, slice_index_or, ℤ, pos, ◌+ℤ◌, ◌<ℤ◌, ◌≤ℤ◌}
 use Rattle.std.specs.List.{Contains}
-use Rattle.ics_values.specs.Sets.{has}
+use Rattle.ics_values.specs.Sets.{contains}
 use Rattle.ics_zone.specs.declared.onsets.Onsets.{Onsets}
 use Rattle.ics_zone.specs.OnsetSets.{Has, IsKeptAt}
 
 -- the k-th second of an hour is marked, which has a word for each minute
 abbrev pub is_marked : List ℕ → ℕ → Bool
-is_marked marks k = has (slice_index_or marks (k / 60) 0) (k % 60)
+is_marked marks k = contains (slice_index_or marks (k / 60) 0) (k % 60)
 
 abbrev pub IsMarked : List ℕ → ℕ → Type 0
 IsMarked marks k = is_marked marks k ≡ true

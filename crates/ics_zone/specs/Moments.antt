@@ -1,8 +1,8 @@
 -- The instant that a local means on a clock with changing offsets (RFC 5545, section 3.3.5).
 use Rattle.std.specs.Prelude.{◌≡◌, ◌≢◌, ℕ, ◌⊎◌, Bool, true, false, List, Option, Some, None, int_lt, ℤ, pos, ◌+ℤ◌, ◌-ℤ◌, ◌<ℤ◌, ◌≤ℤ◌}
 use Rattle.std.specs.Ordering.{int_eq}
-use Rattle.ics_zone.specs.Observances.{Phase}
-use Rattle.ics_zone.specs.Offsets.{first_below, zone_offset}
+use Rattle.ics_zone.specs.Observances.{ObservanceSaid}
+use Rattle.ics_zone.specs.ZoneOffsets.{first_below, zone_offset}
 
 -- what a clock shows at t, given its offset at each instant
 abbrev pub shown : (ℤ → ℤ) → ℤ → ℤ
@@ -26,7 +26,7 @@ pub record IsInGap (offset : ℤ → ℤ) (local t : ℤ) : Type 0 where
 abbrev pub IsMomentBy : (ℤ → ℤ) → ℤ → ℤ → Type 0
 IsMomentBy offset local t = IsFirstTime offset local t ⊎ IsInGap offset local t
 
-abbrev pub IsMomentOf : List Phase → ℤ → ℤ → Type 0
+abbrev pub IsMomentOf : List ObservanceSaid → ℤ → ℤ → Type 0
 IsMomentOf zone local t = IsMomentBy (zone_offset zone) local t
 
 -- the instants from a day before the local's seconds in UTC on
@@ -53,5 +53,5 @@ moment_from offset local None None = local
 unfoldable pub moment_by : (ℤ → ℤ) → ℤ → ℤ
 moment_by offset local = moment_from offset local (first_time offset local) (first_later offset local)
 
-abbrev pub zone_moment : List Phase → ℤ → ℤ
+abbrev pub zone_moment : List ObservanceSaid → ℤ → ℤ
 zone_moment zone local = moment_by (zone_offset zone) local

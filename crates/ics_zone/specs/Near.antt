@@ -10,7 +10,7 @@ use Rattle.jiff_tz.specs.declared.timezone.TimeZone.TheVariants.{UTC, Unknown, F
 use Rattle.jiff_tz.specs.declared.tzif.Tzif.{Tzif as Rows}
 use Rattle.ics_zone.specs.Displays.{offset_of, reading_of, moment_of}
 use Rattle.ics_zone.specs.FileBounds.{rule_short, file_offset_short, file_reading_short}
-use Rattle.ics_zone.specs.Places.{IsNear}
+use Rattle.ics_zone.specs.Seconds.{IsNear}
 use Rattle.ics_zone.specs.ZoneFiles.{file_offset, file_moment}
 use Rattle.jiff_tz.specs.Tzif.{tzif_view}
 

@@ -9,20 +9,20 @@ use Rattle.ics_values.specs.RuleParts.{RuleParts}
 use Rattle.ics_values.specs.Stamps.{IsStampDay}
 use Rattle.ics_rule.specs.declared.kind.Kind.TheVariants.{DateTime}
 use Rattle.ics_rule.specs.Recurrence.{Recurrence}
-use Rattle.ics_rule.specs.Locals.{number}
+use Rattle.ics_values.specs.Locals.{number}
 use Rattle.ics_rule.specs.Kept.{is_kept, until_moment}
 use Rattle.ics_zone.specs.declared.observance.Observance.{Observance}
 
 -- what an observance says: when it begins, and the offsets before and after that
-pub record Phase : Type 0 where
+pub record ObservanceSaid : Type 0 where
   pub start : Local
   pub offset_from : ℤ
   pub offset_to : ℤ
   pub rule : Option RuleParts
   pub rdates : List Local
 
-abbrev pub phase_of : Observance → Phase
-phase_of o = record {
+abbrev pub observance_said : Observance → ObservanceSaid
+observance_said o = record {
   start = o.start;
   offset_from = o.offset_from;
   offset_to = o.offset_to;
@@ -31,17 +31,17 @@ phase_of o = record {
 }
 
 -- what the observances of a zone say
-abbrev pub phases_of : List Observance → List Phase
-phases_of observances = map phase_of observances
+abbrev pub observances_said : List Observance → List ObservanceSaid
+observances_said observances = map observance_said observances
 
 -- an observance begins in the years 0001 to 9899, and its offsets are less than a day
-pub record IsPhase (p : Phase) : Type 0 where
+pub record IsObservanceSaid (p : ObservanceSaid) : Type 0 where
   pub start_in : IsStampDay p.start.day
   pub from_in : IsWithin 86_399 p.offset_from
   pub to_in : IsWithin 86_399 p.offset_to
 
-abbrev pub IsZone : List Phase → Type 0
-IsZone zone = (i : ℕ) (p : Phase) → slice_get zone i ≡ Some p → IsPhase p
+abbrev pub IsZone : List ObservanceSaid → Type 0
+IsZone zone = (i : ℕ) (p : ObservanceSaid) → slice_get zone i ≡ Some p → IsObservanceSaid p
 
 -- the seconds from 0000-01-01 to 1970-01-01
 abbrev pub epoch : ℕ
@@ -61,14 +61,14 @@ is_until None t = true
 is_until (Some until) t = int_le t until
 
 -- the rule keeps local n, and the onset is not after an UNTIL in UTC
-abbrev pub is_by_rule : Phase → Option RuleParts → ℕ → Bool
+abbrev pub is_by_rule : ObservanceSaid → Option RuleParts → ℕ → Bool
 is_by_rule p None n = false
 is_by_rule p (Some parts) n =
     is_kept (rule_from p.start parts) n
     && is_until (until_moment (rule_from p.start parts)) (instant_by p.offset_from n)
 
 -- the observance begins when the clock before it shows local n: n is its DTSTART, an RDATE, or kept by its RRULE
-abbrev pub is_begin : Phase → ℕ → Bool
+abbrev pub is_begin : ObservanceSaid → ℕ → Bool
 is_begin p n = n == number p.start || (list_any (λ l. number l == n) p.rdates || is_by_rule p p.rule n)
 
 -- a test of a local that is given by the seconds since 0000-01-01; no earlier local passes
@@ -77,7 +77,7 @@ test_at (pos n) test = test n
 test_at (negsuc n) test = false
 
 -- instant t is an onset of the observance: the clock with TZOFFSETFROM then shows a local at which it begins
-unfoldable pub is_onset : Phase → ℤ → Bool
+unfoldable pub is_onset : ObservanceSaid → ℤ → Bool
 is_onset p t = test_at (t +ℤ p.offset_from +ℤ pos epoch) (is_begin p)
 
 -- the rule repeats more often than daily
@@ -91,5 +91,5 @@ abbrev pub is_finer_rule : Option RuleParts → Bool
 is_finer_rule None = false
 is_finer_rule (Some parts) = is_finer_than_daily parts.frequency
 
-abbrev pub has_finer_rule : Phase → Bool
+abbrev pub has_finer_rule : ObservanceSaid → Bool
 has_finer_rule p = is_finer_rule p.rule

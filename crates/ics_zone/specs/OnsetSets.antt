@@ -4,9 +4,9 @@ use Rattle.std.specs.List.{Contains, list_any}
 use Rattle.jiff_core.specs.Calendar.{IsWithin}
 use Rattle.ics_rule.specs.Recurrence.{Recurrence}
 use Rattle.ics_rule.specs.Kept.{is_kept, until_moment}
-use Rattle.ics_rule.specs.Locals.{number}
+use Rattle.ics_values.specs.Locals.{number}
 use Rattle.ics_zone.specs.declared.onsets.Onsets.{Onsets}
-use Rattle.ics_zone.specs.Observances.{Phase, instant_by, is_until, is_onset}
+use Rattle.ics_zone.specs.Observances.{ObservanceSaid, instant_by, is_until, is_onset}
 use Rattle.ics_zone.specs.Latest.{IsInOrder}
 
 -- t is the instant of a local that the rule keeps, and is not after an end
@@ -36,7 +36,7 @@ pub record IsSound (onsets : Onsets) : Type 0 where
   pub first : (t d : ℤ) → IsKeptAt onsets t → slice_index_or onsets.listed.items 0 d ≤ℤ t
 
 -- the onsets are those of an observance
-pub record AreOnsetsOf (p : Phase) (onsets : Onsets) : Type 0 where
+pub record AreOnsetsOf (p : ObservanceSaid) (onsets : Onsets) : Type 0 where
   pub sound : IsSound onsets
   pub from : onsets.offset_from ≡ p.offset_from
   pub to : onsets.offset_to ≡ p.offset_to
@@ -44,11 +44,11 @@ pub record AreOnsetsOf (p : Phase) (onsets : Onsets) : Type 0 where
   pub complete : (t : ℤ) → is_onset p t ≡ true → Has onsets t
 
 -- local n is DTSTART or an RDATE
-abbrev pub is_listed : Phase → ℕ → Bool
+abbrev pub is_listed : ObservanceSaid → ℕ → Bool
 is_listed p n = n == number p.start || list_any (λ l. number l == n) p.rdates
 
 -- a list of the instants of DTSTART and of the RDATEs, in order
-pub record IsListing (p : Phase) (list : List ℤ) : Type 0 where
+pub record IsListing (p : ObservanceSaid) (list : List ℤ) : Type 0 where
   pub in_order : IsInOrder list
   pub known : (t : ℤ) → Contains list t → (n : ℕ) × ((t ≡ instant_by p.offset_from n) × (is_listed p n ≡ true))
   pub complete : (n : ℕ) → is_listed p n ≡ true → Contains list (instant_by p.offset_from n)

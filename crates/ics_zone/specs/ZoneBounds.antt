@@ -4,31 +4,31 @@ use Rattle.std.specs.Ordering.{int_eq}
 use Rattle.std.proofs.lemmas.Int.{ints}
 use Rattle.jiff_core.specs.Calendar.{IsWithin}
 use Rattle.ics_zone.specs.declared.observance.Observance.{Observance}
-use Rattle.ics_zone.specs.Observances.{Phase, phase_of, phases_of, IsPhase, IsZone, is_onset}
-use Rattle.ics_zone.specs.Offsets.{last_below, first_below, instant, instants_to, if_onset, last_at, first_at, in_force, earliest, offset_by, zone_offset}
+use Rattle.ics_zone.specs.Observances.{ObservanceSaid, observance_said, observances_said, IsObservanceSaid, IsZone, is_onset}
+use Rattle.ics_zone.specs.ZoneOffsets.{last_below, first_below, instant, instants_to, if_onset, last_at, first_at, in_force, earliest, offset_by, zone_offset}
 use Rattle.ics_zone.specs.Moments.{shown, near, if_so, first_time, first_later, moment_from, moment_by, zone_moment}
 use Rattle.ics_zone.specs.Near.{file_offset_near, file_moment_near}
-use Rattle.ics_zone.specs.Places.{IsNear}
+use Rattle.ics_zone.specs.Seconds.{IsNear}
 use Rattle.ics_zone.specs.ZoneSaid.{said_offset, said_moment, zone_said}
 use Rattle.ics_zone.specs.declared.zone.ZoneKind.{ZoneKind}
 use Rattle.ics_zone.specs.declared.zone.ZoneKind.TheVariants.{ByObservances, ByFile}
 
 -- what is true of all that a function gives is true of what a search finds
 module _ {A : Type 0} (P : A → Type 0) (f : ℕ → Option A) where
-  last_below-has : (n : ℕ) → ((k : ℕ) (x : A) → f k ≡ Some x → P x) → (x : A) → last_below n f ≡ Some x → P x
+  last_below-contains : (n : ℕ) → ((k : ℕ) (x : A) → f k ≡ Some x → P x) → (x : A) → last_below n f ≡ Some x → P x
   unfolding last_below
-  last_below-has zero all x e = absurd (cc)
-  last_below-has (suc n) all x e = by (f n) refl (last_below-has n all x) e
+  last_below-contains zero all x e = absurd (cc)
+  last_below-contains (suc n) all x e = by (f n) refl (last_below-contains n all x) e
     where
       by : (o : Option A) → f n ≡ o → (last_below n f ≡ Some x → P x)
           → ◌≡◌ {A = Option A} (elim o [ Some y ↦ Some y | None ↦ last_below n f ]) (Some x) → P x
       by (Some y) is below e = all n x (is ∙ e)
       by None is below e = below e
 
-  first_below-has : (n : ℕ) → ((k : ℕ) (x : A) → k < n → f k ≡ Some x → P x) → (x : A) → first_below n f ≡ Some x → P x
+  first_below-contains : (n : ℕ) → ((k : ℕ) (x : A) → k < n → f k ≡ Some x → P x) → (x : A) → first_below n f ≡ Some x → P x
   unfolding first_below
-  first_below-has zero all x e = absurd (cc)
-  first_below-has (suc n) all x e = by (first_below n f) refl (first_below-has n (λ k x h g. all k x (omega arith) g)) e
+  first_below-contains zero all x e = absurd (cc)
+  first_below-contains (suc n) all x e = by (first_below n f) refl (first_below-contains n (λ k x h g. all k x (omega arith) g)) e
     where
       by : (o : Option A) → first_below n f ≡ o → ((y : A) → first_below n f ≡ Some y → P y)
           → ◌≡◌ {A = Option A} (elim o [ Some y ↦ Some y | None ↦ f n ]) (Some x) → P x
@@ -36,7 +36,7 @@ module _ {A : Type 0} (P : A → Type 0) (f : ℕ → Option A) where
       by None is below e = all n x (omega arith) e
 
 -- an observance with an onset at t
-pub if_onset-some : (o : Option Phase) (t : ℤ) (p : Phase) → if_onset o t ≡ Some p → (o ≡ Some p) × (is_onset p t ≡ true)
+pub if_onset-some : (o : Option ObservanceSaid) (t : ℤ) (p : ObservanceSaid) → if_onset o t ≡ Some p → (o ≡ Some p) × (is_onset p t ≡ true)
 if_onset-some None t p e = absurd (cc)
 if_onset-some (Some q) t p e = by (is_onset q t) refl e
   where
@@ -44,17 +44,17 @@ if_onset-some (Some q) t p e = by (is_onset q t) refl e
     by true is e = let same : q ≡ p = cc in (e, rw (← same) is)
     by false is e = absurd (cc)
 
-module _ (zone : List Phase) (facts : IsZone zone) where
-  in_force-is : (t : ℤ) (p : Phase) → in_force zone t ≡ Some p → IsPhase p
+module _ (zone : List ObservanceSaid) (facts : IsZone zone) where
+  in_force-is : (t : ℤ) (p : ObservanceSaid) → in_force zone t ≡ Some p → IsObservanceSaid p
   unfolding in_force
-  in_force-is t = last_below-has IsPhase (λ k. last_at zone (instant k)) (instants_to t)
-      (λ k. last_below-has IsPhase (λ i. if_onset (slice_get zone i) (instant k)) (length zone)
+  in_force-is t = last_below-contains IsObservanceSaid (λ k. last_at zone (instant k)) (instants_to t)
+      (λ k. last_below-contains IsObservanceSaid (λ i. if_onset (slice_get zone i) (instant k)) (length zone)
       (λ i p e. facts i p (if_onset-some (slice_get zone i) (instant k) p e).0))
 
-  earliest-is : (p : Phase) → earliest zone ≡ Some p → IsPhase p
+  earliest-is : (p : ObservanceSaid) → earliest zone ≡ Some p → IsObservanceSaid p
   unfolding earliest
-  earliest-is = first_below-has IsPhase (λ k. first_at zone (instant k)) (instants_to (pos 253_402_214_400))
-      (λ k q l. first_below-has IsPhase (λ i. if_onset (slice_get zone i) (instant k)) (length zone)
+  earliest-is = first_below-contains IsObservanceSaid (λ k. first_at zone (instant k)) (instants_to (pos 253_402_214_400))
+      (λ k q l. first_below-contains IsObservanceSaid (λ i. if_onset (slice_get zone i) (instant k)) (length zone)
       (λ i p l e. facts i p (if_onset-some (slice_get zone i) (instant k) p e).0) q)
 
   -- the offsets of a zone are less than a day
@@ -62,22 +62,22 @@ module _ (zone : List Phase) (facts : IsZone zone) where
   unfolding zone_offset
   zone_offset_short t = by (in_force zone t) (earliest zone) (in_force-is t) earliest-is
     where
-      by : (now first : Option Phase) → ((p : Phase) → now ≡ Some p → IsPhase p) → ((p : Phase) → first ≡ Some p → IsPhase p)
+      by : (now first : Option ObservanceSaid) → ((p : ObservanceSaid) → now ≡ Some p → IsObservanceSaid p) → ((p : ObservanceSaid) → first ≡ Some p → IsObservanceSaid p)
           → IsWithin 86_399 (offset_by now first)
       by (Some p) first is least = (is p refl).to_in
       by None (Some p) is least = (least p refl).from_in
       by None None is least = (omega (arith, ints), omega (arith, ints))
 
 -- the observances of the program are so
-pub zone_facts : (observances : List Observance) → IsZone (phases_of observances)
+pub zone_facts : (observances : List Observance) → IsZone (observances_said observances)
 zone_facts [] i p e = absurd (cc)
-zone_facts (o ∷ observances) zero p e = let same : phase_of o ≡ p = cc in rw (← same) (record { start_in = o.start_in; from_in = o.from_in; to_in = o.to_in })
+zone_facts (o ∷ observances) zero p e = let same : observance_said o ≡ p = cc in rw (← same) (record { start_in = o.start_in; from_in = o.from_in; to_in = o.to_in })
 zone_facts (o ∷ observances) (suc i) p e = zone_facts observances i p e
 
-pub zone_short : (zone : List Observance) (t : ℤ) → IsWithin 86_399 (zone_offset (phases_of zone) t)
-zone_short zone = zone_offset_short (phases_of zone) (zone_facts zone)
+pub zone_short : (zone : List Observance) (t : ℤ) → IsWithin 86_399 (zone_offset (observances_said zone) t)
+zone_short zone = zone_offset_short (observances_said zone) (zone_facts zone)
 
-pub zone_offset_near : (zone : List Observance) (t : ℤ) → IsNear (zone_offset (phases_of zone) t)
+pub zone_offset_near : (zone : List Observance) (t : ℤ) → IsNear (zone_offset (observances_said zone) t)
 zone_offset_near zone t = let bound = zone_short zone t in (omega (arith, ints, bound.0), omega (arith, ints, bound.1))
 
 -- an instant of the search is near the local
@@ -88,7 +88,7 @@ near_local offset local false k t h e = absurd (cc)
 moment_from_near : (offset : ℤ → ℤ) (short : (t : ℤ) → IsWithin 86_399 (offset t)) (local : ℤ) (time later : Option ℤ)
     → first_time offset local ≡ time → IsNear (moment_from offset local time later -ℤ local)
 moment_from_near offset short local (Some t) later e =
-    let found = first_below-has (λ t. IsWithin 86_400 (t -ℤ local)) (λ k. if_so (int_eq (shown offset (near local k)) local) (near local k)) 172_801
+    let found = first_below-contains (λ t. IsWithin 86_400 (t -ℤ local)) (λ k. if_so (int_eq (shown offset (near local k)) local) (near local k)) 172_801
     (λ k t h g. near_local offset local (int_eq (shown offset (near local k)) local) k t h g) t e in
     (omega (arith, ints, found.0), omega (arith, ints, found.1))
 moment_from_near offset short local None (Some past) e =
@@ -96,11 +96,11 @@ moment_from_near offset short local None (Some past) e =
     (omega (arith, ints, bound.0, bound.1), omega (arith, ints, bound.0, bound.1))
 moment_from_near offset short local None None e = (omega (arith, ints), omega (arith, ints))
 
-pub zone_moment_near : (zone : List Observance) (local : ℤ) → IsNear (zone_moment (phases_of zone) local -ℤ local)
+pub zone_moment_near : (zone : List Observance) (local : ℤ) → IsNear (zone_moment (observances_said zone) local -ℤ local)
 unfolding moment_by
 zone_moment_near zone local =
-    moment_from_near (zone_offset (phases_of zone)) (zone_short zone) local
-    (first_time (zone_offset (phases_of zone)) local) (first_later (zone_offset (phases_of zone)) local) refl
+    moment_from_near (zone_offset (observances_said zone)) (zone_short zone) local
+    (first_time (zone_offset (observances_said zone)) local) (first_later (zone_offset (observances_said zone)) local) refl
 
 pub said_offset_near : (zone : ZoneKind) (t : ℤ) → IsNear (said_offset (zone_said zone) t)
 said_offset_near (ByObservances observances) t = zone_offset_near observances t

@@ -4,86 +4,86 @@ use Rattle.std.specs.List.{All, Contains}
 use Rattle.ics_zone.specs.declared.latest.Latest.{Latest}
 use Rattle.ics_zone.specs.declared.latest.Steady.{Steady}
 use Rattle.ics_zone.specs.declared.onsets.Onsets.{Onsets}
-use Rattle.ics_zone.specs.Observances.{Phase}
-use Rattle.ics_zone.specs.Offsets.{IsOnset, IsNotLater, zone_offset}
+use Rattle.ics_zone.specs.Observances.{ObservanceSaid}
+use Rattle.ics_zone.specs.ZoneOffsets.{IsOnset, IsNotLater, zone_offset}
 use Rattle.ics_zone.specs.OnsetSets.{AreOnsetsOf}
 use Rattle.ics_zone.specs.Moments.{shown}
 
 -- the i-th onsets are those of the i-th observance
-pub record AreOnsetsOfAll (zone : List Phase) (onsets : List Onsets) : Type 0 where
+pub record AreOnsetsOfAll (zone : List ObservanceSaid) (onsets : List Onsets) : Type 0 where
   pub same_length : length onsets ≡ length zone
-  pub each : (i : ℕ) (p : Phase) (d : Onsets) → slice_get zone i ≡ Some p → AreOnsetsOf p (slice_index_or onsets i d)
+  pub each : (i : ℕ) (p : ObservanceSaid) (d : Onsets) → slice_get zone i ≡ Some p → AreOnsetsOf p (slice_index_or onsets i d)
 
 -- a list has both offsets of an observance
-pub record HasOffsets (offsets : List ℤ) (p : Phase) : Type 0 where
+pub record HasOffsets (offsets : List ℤ) (p : ObservanceSaid) : Type 0 where
   pub from : Contains offsets p.offset_from
   pub to : Contains offsets p.offset_to
 
 -- a list has both offsets of each observance
-abbrev pub HaveOffsets : List ℤ → List Phase → Type 0
-HaveOffsets offsets zone = (i : ℕ) (p : Phase) → slice_get zone i ≡ Some p → HasOffsets offsets p
+abbrev pub HaveOffsets : List ℤ → List ObservanceSaid → Type 0
+HaveOffsets offsets zone = (i : ℕ) (p : ObservanceSaid) → slice_get zone i ≡ Some p → HasOffsets offsets p
 
 -- the offset is the same from one instant on, before another
 abbrev pub IsSteady : (ℤ → ℤ) → ℤ → ℤ → ℤ → Type 0
 IsSteady offset from next value = (t : ℤ) → from ≤ℤ t → t <ℤ next → value ≡ offset t
 
 -- what a zone holds: at least one observance, the onsets of each, every offset that the zone has, and spans with one offset
-pub record IsKnown (zone : List Phase) (onsets : List Onsets) (offsets : List ℤ) (held : List Steady) : Type 0 where
+pub record IsKnown (zone : List ObservanceSaid) (onsets : List Onsets) (offsets : List ℤ) (held : List Steady) : Type 0 where
   pub some : 0 < length zone
   pub asked : AreOnsetsOfAll zone onsets
   pub all_offsets : (t : ℤ) → Contains offsets (zone_offset zone t)
   pub spans : All (λ s. IsSteady (zone_offset zone) s.from s.next s.offset) held
 
 -- the greatest onset not after t of the first `count` observances
-pub record IsLatest (zone : List Phase) (t : ℤ) (count : ℕ) (latest : Latest) : Type 0 where
-  pub phase : Phase
-  pub onset : IsOnset zone latest.place latest.at phase
-  pub offset : latest.offset ≡ phase.offset_to
+pub record IsLatest (zone : List ObservanceSaid) (t : ℤ) (count : ℕ) (latest : Latest) : Type 0 where
+  pub observance : ObservanceSaid
+  pub onset : IsOnset zone latest.place latest.at observance
+  pub offset : latest.offset ≡ observance.offset_to
   pub before : latest.place < count
   pub not_after : latest.at ≤ℤ t
-  pub greatest : (i : ℕ) (s : ℤ) (p : Phase) → i < count → IsOnset zone i s p → s ≤ℤ t → IsNotLater s i latest.at latest.place
+  pub greatest : (i : ℕ) (s : ℤ) (p : ObservanceSaid) → i < count → IsOnset zone i s p → s ≤ℤ t → IsNotLater s i latest.at latest.place
 
 -- the same, or None if those observances have no onset up to t
-abbrev pub IsLatestOf : List Phase → ℤ → ℕ → Option Latest → Type 0
+abbrev pub IsLatestOf : List ObservanceSaid → ℤ → ℕ → Option Latest → Type 0
 IsLatestOf zone t count found =
-    MatchOption found ((i : ℕ) (s : ℤ) (p : Phase) → i < count → IsOnset zone i s p → t <ℤ s) (IsLatest zone t count)
+    MatchOption found ((i : ℕ) (s : ℤ) (p : ObservanceSaid) → i < count → IsOnset zone i s p → t <ℤ s) (IsLatest zone t count)
 
 -- TZOFFSETFROM of the least onset of the first `count` observances
-pub record IsFirst (zone : List Phase) (count : ℕ) (first offset : ℤ) : Type 0 where
+pub record IsFirst (zone : List ObservanceSaid) (count : ℕ) (first offset : ℤ) : Type 0 where
   pub place : ℕ
   pub in_bound : place ≤ count
-  pub phase : Phase
-  pub onset : IsOnset zone place first phase
-  pub least : (i : ℕ) (s : ℤ) (p : Phase) → i < count → IsOnset zone i s p → IsNotLater first place s i
-  pub is : offset ≡ phase.offset_from
+  pub observance : ObservanceSaid
+  pub onset : IsOnset zone place first observance
+  pub least : (i : ℕ) (s : ℤ) (p : ObservanceSaid) → i < count → IsOnset zone i s p → IsNotLater first place s i
+  pub is : offset ≡ observance.offset_from
 
-abbrev pub IsFirstOffset : List Phase → ℤ → Type 0
+abbrev pub IsFirstOffset : List ObservanceSaid → ℤ → Type 0
 IsFirstOffset zone offset = (first : ℤ) × IsFirst zone (length zone) first offset
 
 -- no onset after one instant and before another begins an offset that shows a later local
-abbrev pub IsNextPast : List Phase → ℤ → ℤ → ℤ → Type 0
+abbrev pub IsNextPast : List ObservanceSaid → ℤ → ℤ → ℤ → Type 0
 IsNextPast zone local after next =
-    (i : ℕ) (s : ℤ) (p : Phase) → IsOnset zone i s p → after <ℤ s → s <ℤ next → (s +ℤ p.offset_to) ≤ℤ local
+    (i : ℕ) (s : ℤ) (p : ObservanceSaid) → IsOnset zone i s p → after <ℤ s → s <ℤ next → (s +ℤ p.offset_to) ≤ℤ local
 
 -- each onset after one instant and before another that begins an offset that shows a later local is overridden at its own instant by one
 -- that does not
-abbrev pub IsClear : List Phase → ℤ → ℤ → ℤ → Type 0
+abbrev pub IsClear : List ObservanceSaid → ℤ → ℤ → ℤ → Type 0
 IsClear zone local after next =
-    (i : ℕ) (s : ℤ) (p : Phase) → IsOnset zone i s p → after <ℤ s → s <ℤ next → local <ℤ (s +ℤ p.offset_to)
-    → (j : ℕ) × ((q : Phase) × (IsOnset zone j s q × ((i < j) × ((s +ℤ q.offset_to) ≤ℤ local))))
+    (i : ℕ) (s : ℤ) (p : ObservanceSaid) → IsOnset zone i s p → after <ℤ s → s <ℤ next → local <ℤ (s +ℤ p.offset_to)
+    → (j : ℕ) × ((q : ObservanceSaid) × (IsOnset zone j s q × ((i < j) × ((s +ℤ q.offset_to) ≤ℤ local))))
 
 -- no onset is after one instant and before another
-abbrev pub NoneBetween : List Phase → ℤ → ℤ → Type 0
-NoneBetween zone after next = (i : ℕ) (s : ℤ) (p : Phase) → IsOnset zone i s p → after <ℤ s → next ≤ℤ s
+abbrev pub NoneBetween : List ObservanceSaid → ℤ → ℤ → Type 0
+NoneBetween zone after next = (i : ℕ) (s : ℤ) (p : ObservanceSaid) → IsOnset zone i s p → after <ℤ s → next ≤ℤ s
 
 -- an onset not after t is greater than all of the observances with an offset
-pub record IsOverridden (zone : List Phase) (t offset : ℤ) : Type 0 where
+pub record IsOverridden (zone : List ObservanceSaid) (t offset : ℤ) : Type 0 where
   pub place : ℕ
   pub at : ℤ
-  pub phase : Phase
-  pub onset : IsOnset zone place at phase
+  pub observance : ObservanceSaid
+  pub onset : IsOnset zone place at observance
   pub not_after : at ≤ℤ t
-  pub greater : (i : ℕ) (s : ℤ) (p : Phase) → IsOnset zone i s p → p.offset_to ≡ offset → s ≤ℤ t → (s <ℤ at) ⊎ ((s ≡ at) × (i < place))
+  pub greater : (i : ℕ) (s : ℤ) (p : ObservanceSaid) → IsOnset zone i s p → p.offset_to ≡ offset → s ≤ℤ t → (s <ℤ at) ⊎ ((s ≡ at) × (i < place))
 
 -- the first instant at which the clock shows a later local
 pub record IsJump (offset : ℤ → ℤ) (local t : ℤ) : Type 0 where

@@ -6,19 +6,19 @@ use Rattle.jiff_tz.specs.Ambiguous.{compatible_offset, instant_of}
 use Rattle.jiff_tz.specs.Tzif.{tzif_view, offset_at, ambiguous_at}
 use Rattle.jiff_tz.specs.TzifReader.{TzifText}
 use Rattle.jiff_tz.specs.declared.tzif.Tzif.{Tzif}
-use Rattle.ics_zone.specs.Observances.{Phase, phases_of}
-use Rattle.ics_zone.specs.Offsets.{IsOffset, zone_offset}
+use Rattle.ics_zone.specs.Observances.{ObservanceSaid, observances_said}
+use Rattle.ics_zone.specs.ZoneOffsets.{IsOffset, zone_offset}
 use Rattle.ics_zone.specs.Moments.{IsMomentOf, zone_moment}
 use Rattle.ics_zone.specs.ZoneFiles.{file_offset, file_moment, zone_file}
 use Rattle.ics_zone.specs.declared.zone.ZoneKind.{ZoneKind}
 use Rattle.ics_zone.specs.declared.zone.ZoneKind.TheVariants as kind
 
 pub data ZoneSaid : Type 0 where
-  ByObservances : List Phase → ZoneSaid
+  ByObservances : List ObservanceSaid → ZoneSaid
   ByFile : TzifText → ZoneSaid
 
 abbrev pub zone_said : ZoneKind → ZoneSaid
-zone_said (kind.ByObservances observances) = ByObservances (phases_of observances)
+zone_said (kind.ByObservances observances) = ByObservances (observances_said observances)
 zone_said (kind.ByFile table) = ByFile (tzif_view table.value)
 
 -- the zone says what jiff reads of these bytes
@@ -42,9 +42,9 @@ pub record IsRead (table : Tzif) (local t : ℤ) : Type 0 where
 
 -- the same by what they mean: in a zone of a file, what jiff answers
 abbrev pub IsOffsetIn : ZoneKind → ℤ → ℤ → Type 0
-IsOffsetIn (kind.ByObservances observances) t offset = IsOffset (phases_of observances) t offset
+IsOffsetIn (kind.ByObservances observances) t offset = IsOffset (observances_said observances) t offset
 IsOffsetIn (kind.ByFile table) t offset = offset ≡ (offset_at table.value (nanos_of_seconds t)).seconds
 
 abbrev pub IsMomentIn : ZoneKind → ℤ → ℤ → Type 0
-IsMomentIn (kind.ByObservances observances) local t = IsMomentOf (phases_of observances) local t
+IsMomentIn (kind.ByObservances observances) local t = IsMomentOf (observances_said observances) local t
 IsMomentIn (kind.ByFile table) local t = IsRead table.value local t

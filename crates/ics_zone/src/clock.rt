@@ -2,7 +2,7 @@
 ghost use Rattle.std.specs.Prelude.{◌≡◌, ℕ, pos, ◌≤◌, ◌<◌, ◌^◌, ◌+ℤ◌, ◌≤ℤ◌, ◌<ℤ◌};
 ghost use Rattle.jiff_core.specs.Calendar.{IsWithin};
 ghost use Rattle.ics_values.specs.Days.{IsDayNumber};
-ghost use Rattle.ics_rule.specs.Locals.{number};
+ghost use Rattle.ics_values.specs.Locals.{number};
 ghost use Rattle.ics_zone.specs.Observances.{epoch, instant_by};
 
 use ics_values::{Local, Moment};

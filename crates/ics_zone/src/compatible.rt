@@ -2,7 +2,8 @@
 ghost use Rattle.std.specs.Prelude.{◌≡◌};
 ghost use Rattle.jiff.specs.Words.{plain_zone, nanos_of_seconds, civil_nanos};
 ghost use Rattle.ics_zone.specs.Displays.{IsCompatible, offset_of, moment_of};
-ghost use Rattle.ics_zone.specs.Places.{local_seconds, IsDay, IsMoment};
+ghost use Rattle.ics_zone.specs.Seconds.{IsDay, IsMoment};
+ghost use Rattle.ics_values.specs.Locals.{seconds_at};
 
 use ics_values::{Local, Moment};
 use jiff::Timestamp;
@@ -21,8 +22,8 @@ pub(crate) fn offset_at(zone: TimeZone<'_>, moment: Moment) -> i32
 // The instant of the local, by jiff's compatible strategy, in a zone of jiff's.
 pub(crate) fn picked_moment(zone: TimeZone<'_>, local: Local) -> Moment
     requires { IsDay local.day }
-    ensures picked { IsCompatible (plain_zone zone.entry) (local_seconds local.day local.second) result }
-    ensures value { result ≡ moment_of (plain_zone zone.entry) (local_seconds local.day local.second) }
+    ensures picked { IsCompatible (plain_zone zone.entry) (seconds_at local.day local.second) result }
+    ensures value { result ≡ moment_of (plain_zone zone.entry) (seconds_at local.day local.second) }
 {
     let instant = zone.to_timestamp(datetime(local)).unwrap();
     instant.as_second()
@@ -31,7 +32,7 @@ pub(crate) fn picked_moment(zone: TimeZone<'_>, local: Local) -> Moment
 // The local as a `DateTime` of jiff's.
 fn datetime(local: Local) -> DateTime
     requires { IsDay local.day }
-    ensures { civil_nanos result ≡ nanos_of_seconds (local_seconds local.day local.second) }
+    ensures { civil_nanos result ≡ nanos_of_seconds (seconds_at local.day local.second) }
 {
     let days = (local.day + 4_371_587) as u32;
     let date = jiff_core::civil::Date::from_days_since_min(days);

@@ -4,8 +4,9 @@ ghost use Rattle.jiff_core.specs.Calendar.{IsWithin};
 ghost use Rattle.jiff.specs.Words.{plain_zone};
 ghost use Rattle.ics_zone.specs.DisplayTexts.{Said, display_of, said_by};
 ghost use Rattle.ics_zone.specs.Displays.{IsCompatible};
-ghost use Rattle.ics_zone.specs.Places.{local_seconds, IsDay};
-ghost use Rattle.ics_zone.specs.Zones.{zone_of};
+ghost use Rattle.ics_zone.specs.Seconds.{IsDay};
+ghost use Rattle.ics_values.specs.Locals.{seconds_at};
+ghost use Rattle.ics_zone.specs.JiffZones.{zone_of};
 
 use crate::compatible::{offset_at, picked_moment};
 use crate::display_text::read_offset;
@@ -77,7 +78,7 @@ fn fixed(seconds: i32) -> Display
 impl Place for Display {
     ghost use Rattle.ics_zone.specs.Displays.{offset_of, moment_of};
     ghost use Rattle.ics_zone.specs.Near.{offset_near, moment_near};
-    ghost use Rattle.ics_zone.specs.Zones.{zone_of};
+    ghost use Rattle.ics_zone.specs.JiffZones.{zone_of};
 
     ghost offset_at = { λ display moment. offset_of (zone_of display) moment };
 
@@ -91,8 +92,8 @@ impl Place for Display {
     /// The instant of the local by jiff's compatible strategy: the first of two, and in a gap the local read with the offset before the gap.
     fn moment(&self, local: Local) -> Moment
         requires { IsDay local.day }
-        ensures picked { IsCompatible (zone_of self.now) (local_seconds local.day local.second) result }
-        ensures value { result ≡ moment_of (zone_of self.now) (local_seconds local.day local.second) }
+        ensures picked { IsCompatible (zone_of self.now) (seconds_at local.day local.second) result }
+        ensures value { result ≡ moment_of (zone_of self.now) (seconds_at local.day local.second) }
     {
         picked_moment(self.zone(), local)
     }

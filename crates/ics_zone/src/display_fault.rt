@@ -1,6 +1,6 @@
 //! Why a text is not a display zone.
 ghost use Rattle.std.specs.Prelude.{◌≡◌};
-ghost use Rattle.ics_zone.specs.DisplayFaults.{fault_name};
+ghost use Rattle.ics_zone.specs.DisplayFaults.{display_fault_name};
 
 use thiserror::Error;
 
@@ -16,7 +16,7 @@ pub enum DisplayFault {
 impl DisplayFault {
     /// The name of the fault, as it is printed.
     pub fn name(&self) -> &'static str
-        ensures { result.now ≡ fault_name self.now }
+        ensures { result.now ≡ display_fault_name self.now }
     {
         match self {
             DisplayFault::BadZone => "BadZone",

@@ -1,6 +1,6 @@
 //! What a rule keeps in two hours that follow each other.
 ghost use Rattle.std.specs.Prelude.{◌≡◌, ℕ, ◌+◌, ◌*◌, ◌<◌, ◌&&◌, int_lt, pos, IfSome};
-ghost use Rattle.ics_values.specs.Sets.{has};
+ghost use Rattle.ics_values.specs.Sets.{contains};
 ghost use Rattle.ics_zone.specs.Hours.{keeps, AreHoursOf};
 ghost use Rattle.ics_zone.specs.Marks.{is_marked};
 
@@ -31,7 +31,7 @@ impl Hours {
     // The seconds of a minute of the clock.
     fn minute(&self, minute: u64) -> u64
         requires { minute < 10000000000 }
-        ensures { (n : ℕ) → n < 60 → has result n ≡ keeps self.now (minute * 60 + n) }
+        ensures { (n : ℕ) → n < 60 → contains result n ≡ keeps self.now (minute * 60 + n) }
     {
         if minute / 60 == self.hour {
             self.here.minute(minute)
@@ -43,7 +43,7 @@ impl Hours {
     // The seconds of a minute that begins at a local.
     fn minute_from(&self, local: u64) -> u64
         requires { local < 400000000000 }
-        ensures { (n : ℕ) → n < 60 → has result n ≡ keeps self.now (local + n) }
+        ensures { (n : ℕ) → n < 60 → contains result n ≡ keeps self.now (local + n) }
     {
         let minute = local / 60;
         shifted(

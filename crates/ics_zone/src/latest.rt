@@ -1,10 +1,10 @@
 //! The onsets of all observances of a zone near an instant.
 ghost use Rattle.std.specs.Prelude.{◌≡◌, ℤ, pos, ◌<◌, true, false, length, List, ◌⊎◌, ◌+ℤ◌, ◌-ℤ◌, ◌<ℤ◌, ◌≤ℤ◌, IfSome, MatchOption};
 ghost use Rattle.std.specs.List.{All};
-ghost use Rattle.ics_zone.specs.Observances.{Phase};
+ghost use Rattle.ics_zone.specs.Observances.{ObservanceSaid};
 ghost use Rattle.ics_zone.specs.Latest.{IsLast};
 ghost use Rattle.ics_zone.specs.OnsetSets.{Has, IsSound};
-ghost use Rattle.ics_zone.specs.Places.{IsMoment};
+ghost use Rattle.ics_zone.specs.Seconds.{IsMoment};
 ghost use Rattle.ics_zone.specs.ZoneOnsets.{AreOnsetsOfAll, IsLatestOf, IsFirstOffset, IsNextPast, IsClear, IsOverridden, NoneBetween};
 
 use crate::onsets::Onsets;
@@ -64,7 +64,7 @@ fn last_of(one: &Onsets, place: usize, moment: Moment) -> Option<Latest>
 /// The greatest onset that is not after an instant, by instant and then by place.
 pub(crate) fn latest_of(onsets: &[Onsets], moment: Moment) -> Option<Latest>
     requires { All IsSound onsets.now }
-    ensures { (zone : List Phase) → AreOnsetsOfAll zone onsets.now → IsLatestOf zone moment (length zone) result }
+    ensures { (zone : List ObservanceSaid) → AreOnsetsOfAll zone onsets.now → IsLatestOf zone moment (length zone) result }
 {
     let mut latest: Option<Latest> = None;
     for (place, one) in onsets.iter().enumerate() {
@@ -80,7 +80,7 @@ pub(crate) fn latest_of(onsets: &[Onsets], moment: Moment) -> Option<Latest>
 pub(crate) fn first_offset(onsets: &[Onsets]) -> i32
     requires sound { All IsSound onsets.now }
     requires some { 0 < length onsets.now }
-    ensures { (zone : List Phase) → AreOnsetsOfAll zone onsets.now → IsFirstOffset zone result }
+    ensures { (zone : List ObservanceSaid) → AreOnsetsOfAll zone onsets.now → IsFirstOffset zone result }
 {
     let at_first = &onsets[0];
     let mut first = at_first.first();
@@ -100,7 +100,7 @@ pub(crate) fn first_offset(onsets: &[Onsets]) -> i32
 /// offset. If so, the zone has another offset at the instant.
 pub(crate) fn overrides(onsets: &[Onsets], place: usize, offset: i32, moment: Moment) -> bool
     requires { All IsSound onsets.now }
-    ensures { result ≡ true → (zone : List Phase) → AreOnsetsOfAll zone onsets.now → IsOverridden zone moment offset }
+    ensures { result ≡ true → (zone : List ObservanceSaid) → AreOnsetsOfAll zone onsets.now → IsOverridden zone moment offset }
 {
     if place >= onsets.len() {
         return false;
@@ -125,7 +125,7 @@ pub(crate) fn next_onset(onsets: &[Onsets], after: Moment, limit: Moment) -> Mom
     requires limit { after <ℤ limit }
     ensures after { after <ℤ result }
     ensures bound { result ≤ℤ limit }
-    ensures next { (zone : List Phase) → AreOnsetsOfAll zone onsets.now → NoneBetween zone after result }
+    ensures next { (zone : List ObservanceSaid) → AreOnsetsOfAll zone onsets.now → NoneBetween zone after result }
 {
     let mut next = limit;
     for one in onsets {
@@ -141,7 +141,7 @@ pub(crate) fn next_past(onsets: &[Onsets], seconds: i64, after: Moment) -> Momen
     requires limit { after ≤ℤ (seconds +ℤ pos 86_400) }
     ensures after { after <ℤ result }
     ensures bound { result ≤ℤ (seconds +ℤ pos 86_401) }
-    ensures next { (zone : List Phase) → AreOnsetsOfAll zone onsets.now → IsNextPast zone seconds after result }
+    ensures next { (zone : List ObservanceSaid) → AreOnsetsOfAll zone onsets.now → IsNextPast zone seconds after result }
 {
     let mut next = seconds + DAY + 1;
     for (place, one) in onsets.iter().enumerate() {
@@ -163,7 +163,7 @@ pub(crate) fn clear_after(onsets: &[Onsets], seconds: i64, after: Moment) -> i64
     requires high { after ≤ℤ (seconds +ℤ pos 86_401) }
     ensures some { pos 0 ≤ℤ result }
     ensures most { result ≤ℤ pos 3_600 }
-    ensures clear { (zone : List Phase) → AreOnsetsOfAll zone onsets.now → IsClear zone seconds after (after +ℤ result +ℤ pos 1) }
+    ensures clear { (zone : List ObservanceSaid) → AreOnsetsOfAll zone onsets.now → IsClear zone seconds after (after +ℤ result +ℤ pos 1) }
 {
     let mut over = [0; 60];
     let mut clear = 3_600;

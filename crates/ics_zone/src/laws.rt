@@ -2,8 +2,9 @@
 ghost use Rattle.std.specs.Prelude.{◌≡◌, ℤ};
 ghost use Rattle.ics_zone.specs.DisplayTexts.{said_by};
 ghost use Rattle.ics_zone.specs.Displays.{IsCompatible, offset_of, moment_of};
-ghost use Rattle.ics_zone.specs.Places.{IsDay, local_seconds};
-ghost use Rattle.ics_zone.specs.Zones.{zone_of};
+ghost use Rattle.ics_zone.specs.Seconds.{IsDay};
+ghost use Rattle.ics_values.specs.Locals.{seconds_at};
+ghost use Rattle.ics_zone.specs.JiffZones.{zone_of};
 ghost use Rattle.ics_zone.specs.declared.display.Display.{Display};
 
 use crate::{Display, Place};
@@ -22,8 +23,8 @@ pub fn one_display()
 /// instant that jiff calls compatible: the first of two, and in a gap the one by the offset before.
 pub fn compatible_moment(display: &Display, local: Local)
     requires { IsDay local.day }
-    ensures { IsCompatible (zone_of display.now) (local_seconds local.day local.second)
-        (moment_of (zone_of display.now) (local_seconds local.day local.second)) }
+    ensures { IsCompatible (zone_of display.now) (seconds_at local.day local.second)
+        (moment_of (zone_of display.now) (seconds_at local.day local.second)) }
 {
     display.moment(local);
 }

@@ -4,8 +4,9 @@ ghost use Rattle.std.specs.Prelude.{Err, IsTrue, IfSome, Ok, IfOk, MatchBool, Ma
 ghost use Rattle.std.specs.Int.{int_min};
 ghost use Rattle.std.specs.List.{list_any};
 ghost use Rattle.jiff_core.specs.Calendar.{IsWithin};
-ghost use Rattle.ics_zone.specs.Observances.{phase_of, phases_of, has_finer_rule};
-ghost use Rattle.ics_zone.specs.Places.{local_seconds, IsDay, IsMoment};
+ghost use Rattle.ics_zone.specs.Observances.{observance_said, observances_said, has_finer_rule};
+ghost use Rattle.ics_zone.specs.Seconds.{IsDay, IsMoment};
+ghost use Rattle.ics_values.specs.Locals.{seconds_at};
 ghost use Rattle.ics_zone.specs.ZoneOnsets.{AreOnsetsOfAll, HaveOffsets};
 
 use crate::latest::{
@@ -43,16 +44,16 @@ impl Model for Observed {
 
     ghost Value = { List Observance };
 
-    ghost use Rattle.ics_zone.specs.Observances.{phases_of};
+    ghost use Rattle.ics_zone.specs.Observances.{observances_said};
     ghost use Rattle.ics_zone.specs.ZoneOnsets.{IsKnown};
 
     ghost view = { λ z. z.observances.items };
 
-    ghost invariant = { λ z. IsKnown (phases_of z.observances.items) z.onsets.items z.offsets.items z.held.items };
+    ghost invariant = { λ z. IsKnown (observances_said z.observances.items) z.onsets.items z.offsets.items z.held.items };
 }
 
 impl Observed {
-    ghost use Rattle.ics_zone.specs.Offsets.{IsOffset, zone_offset};
+    ghost use Rattle.ics_zone.specs.ZoneOffsets.{IsOffset, zone_offset};
     ghost use Rattle.ics_zone.specs.Moments.{shown, IsFirstTime, IsInGap, IsMomentOf, zone_moment};
     ghost use Rattle.ics_zone.specs.ZoneOnsets.{IsJump, IsSteady};
 
@@ -60,7 +61,7 @@ impl Observed {
     pub fn read(alloc: Global, observances: Vec<Observance>) -> Result<Observed, ZoneFault>
         ensures observances { IfOk result (λ zone. zone ≡ observances.items) }
         ensures none { (result ≡ Err ZoneFault.NoObservance) ↔ (observances.items ≡ []) }
-        ensures fine { (result ≡ Err ZoneFault.ZoneRule) ↔ IsTrue (list_any has_finer_rule (phases_of observances.items)) }
+        ensures fine { (result ≡ Err ZoneFault.ZoneRule) ↔ IsTrue (list_any has_finer_rule (observances_said observances.items)) }
     {
         if observances.is_empty() {
             return Err(ZoneFault::NoObservance);
@@ -97,8 +98,8 @@ impl Observed {
     /// The offset at an instant, in seconds: TZOFFSETTO of the greatest onset that is not after it or, before all onsets, TZOFFSETFROM of the
     /// least.
     pub fn offset(&self, moment: Moment) -> i32
-        ensures means { IsOffset (phases_of self.now) moment result }
-        ensures value { result ≡ zone_offset (phases_of self.now) moment }
+        ensures means { IsOffset (observances_said self.now) moment result }
+        ensures value { result ≡ zone_offset (observances_said self.now) moment }
     {
         self.in_force(moment)
     }
@@ -106,8 +107,8 @@ impl Observed {
     /// The first instant at which the clock shows the local. If there is none, the local read with the offset before the gap.
     pub fn moment(&self, local: Local) -> Moment
         requires { IsDay local.day }
-        ensures means { IsMomentOf (phases_of self.now) (local_seconds local.day local.second) result }
-        ensures value { result ≡ zone_moment (phases_of self.now) (local_seconds local.day local.second) }
+        ensures means { IsMomentOf (observances_said self.now) (seconds_at local.day local.second) result }
+        ensures value { result ≡ zone_moment (observances_said self.now) (seconds_at local.day local.second) }
     {
         let seconds = seconds_of(local);
         match self.first_time(seconds) {
@@ -134,9 +135,9 @@ impl Observed {
 
     // A held span that reaches from one instant to another.
     fn held_over(&self, from: Moment, to: Moment) -> Option<Steady>
-        ensures some { 0 < length (phases_of self.now) }
+        ensures some { 0 < length (observances_said self.now) }
         ensures over { IfSome result (λ s. (s.from ≤ℤ from) × (to <ℤ s.next)) }
-        ensures steady { IfSome result (λ s. IsSteady (zone_offset (phases_of self.now)) s.from s.next s.offset) }
+        ensures steady { IfSome result (λ s. IsSteady (zone_offset (observances_said self.now)) s.from s.next s.offset) }
     {
         let begun = self.held.partition_point(|span| span.from <= from);
         if begun == 0 {
@@ -153,7 +154,7 @@ impl Observed {
     // The span about an instant, from one onset to the next. None if no onset is before the instant.
     fn steady_about(&self, near: Moment) -> Option<Steady>
         requires { IsWithin 300_000_000_000 near }
-        ensures { IfSome result (λ s. IsSteady (zone_offset (phases_of self.now)) s.from s.next s.offset) }
+        ensures { IfSome result (λ s. IsSteady (zone_offset (observances_said self.now)) s.from s.next s.offset) }
     {
         let latest = latest_of(&self.onsets, near)?;
         let next = next_onset(&self.onsets, near, near + AHEAD);
@@ -166,8 +167,8 @@ impl Observed {
 
     // The offset at an instant.
     fn in_force(&self, moment: Moment) -> i32
-        ensures means { IsOffset (phases_of self.now) moment result }
-        ensures value { result ≡ zone_offset (phases_of self.now) moment }
+        ensures means { IsOffset (observances_said self.now) moment result }
+        ensures value { result ≡ zone_offset (observances_said self.now) moment }
     {
         let mut place = 0;
         match self.held_over(moment, moment) {
@@ -178,8 +179,8 @@ impl Observed {
 
     // The offset at an instant, by the observances. The place becomes that of the observance in force.
     fn offset_of_latest(&self, moment: Moment, place: &mut usize) -> i32
-        ensures means { IsOffset (phases_of self.now) moment result }
-        ensures value { result ≡ zone_offset (phases_of self.now) moment }
+        ensures means { IsOffset (observances_said self.now) moment result }
+        ensures value { result ≡ zone_offset (observances_said self.now) moment }
     {
         match latest_of(&self.onsets, moment) {
             Some(latest) => {
@@ -192,7 +193,7 @@ impl Observed {
 
     // Whether the zone has an offset at an instant. The hint is the place of an observance that was in force at another instant.
     fn has_offset(&self, moment: Moment, offset: i32, hint: &mut usize) -> bool
-        ensures { MatchBool result (zone_offset (phases_of self.now) moment ≡ offset) (zone_offset (phases_of self.now) moment ≢ offset) }
+        ensures { MatchBool result (zone_offset (observances_said self.now) moment ≡ offset) (zone_offset (observances_said self.now) moment ≢ offset) }
     {
         if let Some(held) = self.held_over(moment, moment) {
             return held.offset == offset;
@@ -207,7 +208,7 @@ impl Observed {
     fn steady_to(&self, to: Moment) -> Option<Steady>
         requires { IsWithin 300_000_000_000 to }
         ensures to { IfSome result (λ s. to <ℤ s.next) }
-        ensures steady { IfSome result (λ s. IsSteady (zone_offset (phases_of self.now)) s.from s.next s.offset) }
+        ensures steady { IfSome result (λ s. IsSteady (zone_offset (observances_said self.now)) s.from s.next s.offset) }
     {
         let latest = latest_of(&self.onsets, to)?;
         Some(Steady {
@@ -221,7 +222,7 @@ impl Observed {
     fn steady_over(&self, from: Moment, to: Moment) -> Option<Steady>
         requires { IsWithin 300_000_000_000 to }
         ensures over { IfSome result (λ s. (s.from ≤ℤ from) × (to <ℤ s.next)) }
-        ensures steady { IfSome result (λ s. IsSteady (zone_offset (phases_of self.now)) s.from s.next s.offset) }
+        ensures steady { IfSome result (λ s. IsSteady (zone_offset (observances_said self.now)) s.from s.next s.offset) }
     {
         if let Some(held) = self.held_over(from, to) {
             return Some(held);
@@ -237,7 +238,7 @@ impl Observed {
     // The instant of a local, if the offset does not change within a day of it.
     fn steady_time(&self, seconds: i64) -> Option<Moment>
         requires bound { IsMoment seconds }
-        ensures { IfSome result (IsFirstTime (zone_offset (phases_of self.now)) seconds) }
+        ensures { IfSome result (IsFirstTime (zone_offset (observances_said self.now)) seconds) }
     {
         let steady = self.steady_over(seconds - DAY, seconds + DAY)?;
         Some(seconds - i64::from(steady.offset))
@@ -247,8 +248,8 @@ impl Observed {
     fn shown_with(&self, seconds: i64, offset: i32, hint: &mut usize) -> Option<Moment>
         requires bound { IsMoment seconds }
         ensures { MatchOption result
-            (zone_offset (phases_of self.now) (seconds -ℤ offset) ≢ offset)
-            (λ t. (t ≡ seconds -ℤ offset) × (zone_offset (phases_of self.now) t ≡ offset)) }
+            (zone_offset (observances_said self.now) (seconds -ℤ offset) ≢ offset)
+            (λ t. (t ≡ seconds -ℤ offset) × (zone_offset (observances_said self.now) t ≡ offset)) }
     {
         let moment = seconds - i64::from(offset);
         if self.has_offset(moment, offset, hint) {
@@ -262,8 +263,8 @@ impl Observed {
     fn first_time(&self, seconds: i64) -> Option<Moment>
         requires { IsMoment seconds }
         ensures { MatchOption result
-            ((t : ℤ) → shown (zone_offset (phases_of self.now)) t ≢ seconds)
-            (IsFirstTime (zone_offset (phases_of self.now)) seconds) }
+            ((t : ℤ) → shown (zone_offset (observances_said self.now)) t ≢ seconds)
+            (IsFirstTime (zone_offset (observances_said self.now)) seconds) }
     {
         if let Some(moment) = self.steady_time(seconds) {
             return Some(moment);
@@ -287,8 +288,8 @@ impl Observed {
     fn is_past(&self, seconds: i64, moment: Moment) -> bool
         requires { IsWithin 300_000_000_000 moment }
         ensures { MatchBool result
-            (seconds <ℤ shown (zone_offset (phases_of self.now)) moment)
-            (shown (zone_offset (phases_of self.now)) moment ≤ℤ seconds) }
+            (seconds <ℤ shown (zone_offset (observances_said self.now)) moment)
+            (shown (zone_offset (observances_said self.now)) moment ≤ℤ seconds) }
     {
         moment + i64::from(self.in_force(moment)) > seconds
     }
@@ -299,11 +300,11 @@ impl Observed {
         requires bound { IsMoment seconds }
         requires low { (seconds -ℤ pos 86_400) ≤ℤ after }
         requires high { after ≤ℤ (seconds +ℤ pos 86_401) }
-        requires skipped { (t : ℤ) → shown (zone_offset (phases_of self.now)) t ≢ seconds }
-        requires earlier { (t : ℤ) → t ≤ℤ after → shown (zone_offset (phases_of self.now)) t <ℤ seconds }
+        requires skipped { (t : ℤ) → shown (zone_offset (observances_said self.now)) t ≢ seconds }
+        requires earlier { (t : ℤ) → t ≤ℤ after → shown (zone_offset (observances_said self.now)) t <ℤ seconds }
         ensures low { after ≤ℤ result }
         ensures high { result ≤ℤ (seconds +ℤ pos 86_401) }
-        ensures earlier { (t : ℤ) → t ≤ℤ result → shown (zone_offset (phases_of self.now)) t <ℤ seconds }
+        ensures earlier { (t : ℤ) → t ≤ℤ result → shown (zone_offset (observances_said self.now)) t <ℤ seconds }
     {
         let clear = clear_after(&self.onsets, seconds, after);
         (after + clear).min(seconds + DAY + 1)
@@ -312,10 +313,10 @@ impl Observed {
     // The instant at which the clock jumps over a local that it never shows: the first onset that shows a later one.
     fn jump(&self, seconds: i64) -> Moment
         requires bound { IsMoment seconds }
-        requires skipped { (t : ℤ) → shown (zone_offset (phases_of self.now)) t ≢ seconds }
+        requires skipped { (t : ℤ) → shown (zone_offset (observances_said self.now)) t ≢ seconds }
         ensures low { (seconds -ℤ pos 86_400) ≤ℤ result }
         ensures high { result ≤ℤ (seconds +ℤ pos 86_401) }
-        ensures jump { IsJump (zone_offset (phases_of self.now)) seconds result }
+        ensures jump { IsJump (zone_offset (observances_said self.now)) seconds result }
     {
         let mut after = seconds - DAY;
         while after <= seconds + DAY {
@@ -333,7 +334,7 @@ impl Observed {
     fn read_before(&self, seconds: i64, past: Moment) -> Moment
         requires local { IsWithin 300_000_000_000 seconds }
         requires past { IsWithin 300_000_000_000 past }
-        ensures { result ≡ seconds -ℤ zone_offset (phases_of self.now) (past -ℤ pos 1) }
+        ensures { result ≡ seconds -ℤ zone_offset (observances_said self.now) (past -ℤ pos 1) }
     {
         seconds - i64::from(self.in_force(past - 1))
     }
@@ -341,8 +342,8 @@ impl Observed {
     // The instant of a local that the clock skips: it is read with the offset before the gap.
     fn across_gap(&self, seconds: i64) -> Moment
         requires bound { IsMoment seconds }
-        requires skipped { (t : ℤ) → shown (zone_offset (phases_of self.now)) t ≢ seconds }
-        ensures { IsInGap (zone_offset (phases_of self.now)) seconds result }
+        requires skipped { (t : ℤ) → shown (zone_offset (observances_said self.now)) t ≢ seconds }
+        ensures { IsInGap (zone_offset (observances_said self.now)) seconds result }
     {
         self.read_before(seconds, self.jump(seconds))
     }
@@ -370,7 +371,7 @@ fn earlier(first: Option<Moment>, second: Moment) -> Moment
 
 // The onsets of each observance.
 fn onsets_of(alloc: Global, observances: &[Observance]) -> Result<Vec<Onsets>, AllocError>
-    ensures { IfOk result (λ onsets. AreOnsetsOfAll (phases_of observances.now) onsets.items) }
+    ensures { IfOk result (λ onsets. AreOnsetsOfAll (observances_said observances.now) onsets.items) }
 {
     let mut all = Vec::new(alloc);
     for observance in observances {
@@ -381,7 +382,7 @@ fn onsets_of(alloc: Global, observances: &[Observance]) -> Result<Vec<Onsets>, A
 
 // The offsets before and after the onsets, each of them once, the greatest first.
 fn offsets_of(alloc: Global, observances: &[Observance]) -> Result<Vec<i32>, AllocError>
-    ensures { IfOk result (λ offsets. HaveOffsets offsets.items (phases_of observances.now)) }
+    ensures { IfOk result (λ offsets. HaveOffsets offsets.items (observances_said observances.now)) }
 {
     let mut offsets = Vec::new(alloc);
     for observance in observances {
@@ -396,14 +397,14 @@ fn offsets_of(alloc: Global, observances: &[Observance]) -> Result<Vec<i32>, All
 
 // The seconds from 1970-01-01T00:00:00 to a local, each day having 86,400.
 fn seconds_of(local: Local) -> i64
-    ensures { result ≡ local_seconds local.day local.second }
+    ensures { result ≡ seconds_at local.day local.second }
 {
     i64::from(local.day) * DAY + i64::from(local.second)
 }
 
 // Whether one of the observances repeats more often than daily.
 fn any_is_finer(observances: &[Observance]) -> bool
-    ensures { result ≡ list_any has_finer_rule (phases_of observances.now) }
+    ensures { result ≡ list_any has_finer_rule (observances_said observances.now) }
 {
     observances
         .iter()
@@ -412,7 +413,7 @@ fn any_is_finer(observances: &[Observance]) -> bool
 
 // Whether an observance repeats more often than daily.
 fn is_finer_than_daily(observance: &Observance) -> bool
-    ensures { result ≡ has_finer_rule (phase_of observance.now) }
+    ensures { result ≡ has_finer_rule (observance_said observance.now) }
 {
     match &observance.rule {
         None => false,

@@ -2,7 +2,7 @@
 ghost use Rattle.std.specs.Prelude.{◌≡◌, ℕ, ℤ, ◌<◌, ◌≤◌, ◌<ℤ◌, ◌≤ℤ◌, IfOk, IfSome};
 ghost use Rattle.std.specs.List.{Contains};
 ghost use Rattle.std.specs.Option.{option_map};
-ghost use Rattle.ics_zone.specs.Observances.{instant_by, phase_of, rule_from};
+ghost use Rattle.ics_zone.specs.Observances.{instant_by, observance_said, rule_from};
 ghost use Rattle.ics_zone.specs.Latest.{IsInOrder, IsPassed, IsLastOf};
 ghost use Rattle.ics_zone.specs.OnsetSets.{IsKeptAt, Has, IsSound, AreOnsetsOf, IsListing, IsEnd};
 
@@ -10,7 +10,7 @@ use crate::Observance;
 use crate::clock::{instant, number, shown_by};
 use crate::kept::{last_kept, next_kept};
 use ics_rule::{Kind, Rule};
-use ics_values::{Frequency, Moment, Numbers};
+use ics_values::{Frequency, Moment, BitSet};
 use std::alloc::{AllocError, Global};
 
 const DAY: u64 = 86_400;
@@ -49,10 +49,10 @@ fn rule_of(observance: &Observance) -> Option<Rule>
 }
 
 // How many numbers a part lists, or one if it is absent.
-fn size_of(part: Numbers) -> u64 {
+fn size_of(part: BitSet) -> u64 {
     let mut size: u64 = 0;
     for n in 0..64_u8 {
-        if part.has(n) {
+        if part.contains(n) {
             size = size.saturating_add(1);
         }
     }
@@ -91,7 +91,7 @@ fn end_of(rule: &Option<Rule>) -> Moment
 
 // The instants of DTSTART and of the RDATEs, in order.
 fn listed(alloc: Global, observance: &Observance) -> Result<Vec<Moment>, AllocError>
-    ensures { IfOk result (λ listed. IsListing (phase_of observance.now) listed.items) }
+    ensures { IfOk result (λ listed. IsListing (observance_said observance.now) listed.items) }
 {
     let mut listed = Vec::new(alloc);
     listed.push(instant(observance.offset_from, number(observance.start)))?;
@@ -105,7 +105,7 @@ fn listed(alloc: Global, observance: &Observance) -> Result<Vec<Moment>, AllocEr
 impl Onsets {
     /// The onsets of an observance.
     pub fn of(alloc: Global, observance: &Observance) -> Result<Onsets, AllocError>
-        ensures { IfOk result (AreOnsetsOf (phase_of observance.now)) }
+        ensures { IfOk result (AreOnsetsOf (observance_said observance.now)) }
     {
         let listed = listed(alloc, observance)?;
         let rule = rule_of(observance);

@@ -1,7 +1,8 @@
 //! The clock at a place.
 ghost use Rattle.std.specs.Prelude.{◌≡◌, ◌+ℤ◌, ◌-ℤ◌, ℤ, pos, neg_ℤ};
 ghost use Rattle.jiff_core.specs.Calendar.{IsBetween};
-ghost use Rattle.ics_zone.specs.Places.{local_seconds, IsMoment, IsDay};
+ghost use Rattle.ics_zone.specs.Seconds.{IsMoment, IsDay};
+ghost use Rattle.ics_values.specs.Locals.{seconds_at};
 
 use ics_values::{Local, Moment};
 
@@ -12,7 +13,7 @@ const DAY: i64 = 86_400;
 /// 1970-01-01T00:00:00, each day having 86,400. Callers stay in the years 0000 to 9950.
 pub trait Place {
     ghost use Rattle.std.specs.Prelude.{◌≡◌, ◌-ℤ◌, ℤ};
-    ghost use Rattle.ics_zone.specs.Places.{IsNear};
+    ghost use Rattle.ics_zone.specs.Seconds.{IsNear};
 
     /// The offset at an instant, in seconds.
     ghost offset_at: { Self → ℤ → ℤ };
@@ -35,12 +36,12 @@ pub trait Place {
     /// The instant that a local means.
     fn moment(&self, local: Local) -> Moment
         requires { IsDay local.day }
-        ensures { result ≡ moment_at self.now (local_seconds local.day local.second) };
+        ensures { result ≡ moment_at self.now (seconds_at local.day local.second) };
 
     /// The local that the place's clock shows at an instant: the instant moved by its offset.
     fn local(&self, moment: Moment) -> Local
         requires { IsMoment moment }
-        ensures { local_seconds result.day result.second ≡ moment +ℤ offset_at self.now moment }
+        ensures { seconds_at result.day result.second ≡ moment +ℤ offset_at self.now moment }
     {
         local_of(moment + i64::from(self.offset(moment)))
     }
@@ -55,7 +56,7 @@ pub trait Place {
 // The local with these seconds.
 fn local_of(seconds: i64) -> Local
     requires { IsBetween (neg_ℤ (pos 100_000_000_000_000)) (pos 100_000_000_000_000) seconds }
-    ensures { local_seconds result.day result.second ≡ seconds }
+    ensures { seconds_at result.day result.second ≡ seconds }
 {
     Local {
         day: seconds.div_euclid(DAY) as i32,

@@ -1,16 +1,16 @@
 //! A minute as a word of sixty bits: bit `n` is its second `n`.
 ghost use Rattle.std.specs.Prelude.{◌≡◌, ℕ, ◌+◌, ◌<◌, ◌≤◌, ◌*◌, ◌^◌, ◌&&◌, true, nat_lt, int_lt, pos, MatchOption};
-ghost use Rattle.ics_values.specs.Sets.{has};
+ghost use Rattle.ics_values.specs.Sets.{contains};
 
-use ics_values::Numbers;
+use ics_values::BitSet;
 
 /// The members of a set below sixty.
-pub(crate) fn word_of(set: Numbers) -> u64
-    ensures { (n : ℕ) → has result n ≡ (nat_lt n 60 && has set n) }
+pub(crate) fn word_of(set: BitSet) -> u64
+    ensures { (n : ℕ) → contains result n ≡ (nat_lt n 60 && contains set n) }
 {
     let mut word: u64 = 0;
     for n in 0..60_u8 {
-        if set.has(n) {
+        if set.contains(n) {
             word |= 1 << n;
         }
     }
@@ -20,7 +20,7 @@ pub(crate) fn word_of(set: Numbers) -> u64
 /// The first seconds of a minute, so many.
 pub(crate) fn front(word: u64, size: u32) -> u64
     requires { size ≤ 60 }
-    ensures members { (n : ℕ) → has result n ≡ (nat_lt n size && has word n) }
+    ensures members { (n : ℕ) → contains result n ≡ (nat_lt n size && contains word n) }
     ensures bound { result < 2 ^ size }
 {
     word % (1 << size)
@@ -29,8 +29,8 @@ pub(crate) fn front(word: u64, size: u32) -> u64
 /// Sixty seconds from a second of a minute on, of which the last are in the next minute.
 pub(crate) fn shifted(here: u64, next: u64, from: u32) -> u64
     requires { from < 60 }
-    ensures here { (n : ℕ) → n + from < 60 → has result n ≡ has here (n + from) }
-    ensures next { (n m : ℕ) → m < from → n + from ≡ m + 60 → has result n ≡ has next m }
+    ensures here { (n : ℕ) → n + from < 60 → contains result n ≡ contains here (n + from) }
+    ensures next { (n m : ℕ) → m < from → n + from ≡ m + 60 → contains result n ≡ contains next m }
 {
     (front(here, 60) >> from) | (front(next, from) << (60 - from))
 }
@@ -38,8 +38,8 @@ pub(crate) fn shifted(here: u64, next: u64, from: u32) -> u64
 /// The first second of a minute that another word does not have.
 pub(crate) fn first_outside(word: u64, other: u64) -> Option<u32>
     ensures { MatchOption result
-        ((n : ℕ) → n < 60 → has word n ≡ true → has other n ≡ true)
-        (λ s. (s < 60) × ((n : ℕ) → n < s → has word n ≡ true → has other n ≡ true)) }
+        ((n : ℕ) → n < 60 → contains word n ≡ true → contains other n ≡ true)
+        (λ s. (s < 60) × ((n : ℕ) → n < s → contains word n ≡ true → contains other n ≡ true)) }
 {
     let rest = front(word & !other, 60);
     if rest == 0 {

@@ -1,17 +1,17 @@
 //! The times of an hour that a rule keeps.
 ghost use Rattle.std.specs.Prelude.{◌≡◌, ℕ, ◌+◌, ◌*◌, ◌<◌, ◌&&◌};
-ghost use Rattle.ics_values.specs.Sets.{has};
-ghost use Rattle.ics_rule.specs.Locals.{minute_of, second_of};
+ghost use Rattle.ics_values.specs.Sets.{contains};
+ghost use Rattle.ics_rule.specs.PeriodNumbers.{minute_of, second_of};
 ghost use Rattle.ics_zone.specs.Hours.{keeps_time};
 
 use crate::sixty::word_of;
 use ics_rule::HourTimes;
-use ics_values::Numbers;
+use ics_values::BitSet;
 
 /// Each of some minutes of an hour, with each of some seconds.
 #[derive(Clone, Copy)]
 pub(crate) struct Times {
-    pub minutes: Numbers,
+    pub minutes: BitSet,
     /// The seconds, as a word.
     pub seconds: u64,
 }
@@ -19,7 +19,7 @@ pub(crate) struct Times {
 impl Times {
     /// The times that a rule gives for an hour.
     pub fn of(times: HourTimes) -> Times
-        ensures { (n : ℕ) → keeps_time result n ≡ (has times.minutes (minute_of n) && has times.seconds (second_of n)) }
+        ensures { (n : ℕ) → keeps_time result n ≡ (contains times.minutes (minute_of n) && contains times.seconds (second_of n)) }
     {
         Times {
             minutes: times.minutes,
@@ -29,9 +29,9 @@ impl Times {
 
     /// The seconds of a minute.
     pub fn minute(self, minute: u64) -> u64
-        ensures { (n : ℕ) → n < 60 → has result n ≡ keeps_time self (minute * 60 + n) }
+        ensures { (n : ℕ) → n < 60 → contains result n ≡ keeps_time self (minute * 60 + n) }
     {
-        if self.minutes.has((minute % 60) as u8) {
+        if self.minutes.contains((minute % 60) as u8) {
             self.seconds
         } else {
             0

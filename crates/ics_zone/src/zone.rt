@@ -3,8 +3,9 @@ ghost use Rattle.std.specs.Prelude.{◌≡◌, ◌↔◌, ◌<◌, length, [], E
 ghost use Rattle.std.specs.List.{list_any};
 ghost use Rattle.jiff_core.specs.declared.error.TzifFault.{TzifFault};
 ghost use Rattle.jiff_tz.specs.TzifReader.{read_tzif};
-ghost use Rattle.ics_zone.specs.Observances.{phases_of, has_finer_rule};
-ghost use Rattle.ics_zone.specs.Places.{local_seconds, IsDay, IsMoment};
+ghost use Rattle.ics_zone.specs.Observances.{observances_said, has_finer_rule};
+ghost use Rattle.ics_zone.specs.Seconds.{IsDay, IsMoment};
+ghost use Rattle.ics_values.specs.Locals.{seconds_at};
 
 use crate::compatible::{offset_at, picked_moment};
 use crate::observed::Observed;
@@ -46,7 +47,7 @@ impl Zone {
     pub fn read(alloc: Global, observances: Vec<Observance>) -> Result<Zone, ZoneFault>
         ensures observances { IfOk result (λ zone. zone ≡ ZoneKind.ByObservances observances.items) }
         ensures none { (result ≡ Err ZoneFault.NoObservance) ↔ (observances.items ≡ []) }
-        ensures fine { (result ≡ Err ZoneFault.ZoneRule) ↔ IsTrue (list_any has_finer_rule (phases_of observances.items)) }
+        ensures fine { (result ≡ Err ZoneFault.ZoneRule) ↔ IsTrue (list_any has_finer_rule (observances_said observances.items)) }
     {
         match Observed::read(alloc, observances) {
             Ok(observed) => Ok(Zone {
@@ -120,8 +121,8 @@ impl Place for Zone {
     /// with the offset before the gap (RFC 5545, section 3.3.5). In a zone of a file it is that of jiff's compatible strategy.
     fn moment(&self, local: Local) -> Moment
         requires { IsDay local.day }
-        ensures means { IsMomentIn self.now (local_seconds local.day local.second) result }
-        ensures value { result ≡ said_moment (zone_said self.now) (local_seconds local.day local.second) }
+        ensures means { IsMomentIn self.now (seconds_at local.day local.second) result }
+        ensures value { result ≡ said_moment (zone_said self.now) (seconds_at local.day local.second) }
     {
         match &self.kind {
             ZoneKind::ByObservances(observed) => observed.moment(local),

@@ -4,22 +4,22 @@ ghost use Rattle.jiff.specs.Words.{nanos_of_seconds};
 ghost use Rattle.jiff_tz.specs.Tzif as Table;
 ghost use Rattle.jiff_tz.specs.Tzif.{tzif_view};
 ghost use Rattle.jiff_tz.specs.declared.tzif.Tzif.{Tzif};
-ghost use Rattle.ics_zone.specs.Observances.{Phase, IsZone};
-ghost use Rattle.ics_zone.specs.Offsets.{IsOffset, zone_offset};
+ghost use Rattle.ics_zone.specs.Observances.{ObservanceSaid, IsZone};
+ghost use Rattle.ics_zone.specs.ZoneOffsets.{IsOffset, zone_offset};
 ghost use Rattle.ics_zone.specs.Moments.{IsMomentOf, zone_moment};
 ghost use Rattle.ics_zone.specs.ZoneFiles.{file_offset, file_moment};
 ghost use Rattle.ics_zone.specs.ZoneSaid.{IsRead};
 
 /// A zone with at least one observance has exactly one offset at each instant: the one that the search finds.
 pub fn one_offset()
-    ensures most { (zone : List Phase) (t a b : ℤ) → IsOffset zone t a → IsOffset zone t b → a ≡ b }
-    ensures found { (zone : List Phase) (t : ℤ) → IsZone zone → zone ≢ [] → IsOffset zone t (zone_offset zone t) }
+    ensures most { (zone : List ObservanceSaid) (t a b : ℤ) → IsOffset zone t a → IsOffset zone t b → a ≡ b }
+    ensures found { (zone : List ObservanceSaid) (t : ℤ) → IsZone zone → zone ≢ [] → IsOffset zone t (zone_offset zone t) }
 {}
 
 /// A local means exactly one instant: the one that the search finds.
 pub fn one_moment()
-    ensures most { (zone : List Phase) (local s t : ℤ) → IsMomentOf zone local s → IsMomentOf zone local t → s ≡ t }
-    ensures found { (zone : List Phase) (local : ℤ) → IsZone zone → IsMomentOf zone local (zone_moment zone local) }
+    ensures most { (zone : List ObservanceSaid) (local s t : ℤ) → IsMomentOf zone local s → IsMomentOf zone local t → s ≡ t }
+    ensures found { (zone : List ObservanceSaid) (local : ℤ) → IsZone zone → IsMomentOf zone local (zone_moment zone local) }
 {}
 
 /// What a zone file says of instants and locals is what jiff answers for each table that says the same.

@@ -5,14 +5,14 @@ use Rattle.std.specs.Int.{int_max}
 use Rattle.clap.specs.Words.{Text, IsAmong}
 use Rattle.ics_zone.specs.DisplayTexts.{said_by}
 use Rattle.ics_zone.specs.Displays.{offset_of, moment_of}
-use Rattle.ics_zone.specs.Zones.{zone_of, zone_by}
+use Rattle.ics_zone.specs.JiffZones.{zone_of, zone_by}
 use Rattle.ics_zone.specs.declared.display.Display.{Display}
 use Rattle.ics_zone.specs.declared.display.Kind.{Kind}
 use Rattle.ics_zone.specs.declared.display.Kind.TheVariants.{Fixed, Posix}
 use Rattle.ics_series.specs.Clocks.{display_clock}
 use Rattle.ics_series.specs.DayKeys.{day_key_rank, DayRank}
 use Rattle.ics_series.specs.DayTokens.{day_spelling, OneDaySpelling}
-use Rattle.ics_series.specs.Days.{date_at, date_of}
+use Rattle.ics_series.specs.ShownDays.{date_at, day_of_local}
 use Rattle.ics_series.specs.Entry.{key_rank, Rank}
 use Rattle.ics_series.specs.Tokens.{spelling, OneSpelling}
 use Rattle.ics_series.specs.declared.day_key.DayKey.{DayKey}
@@ -24,7 +24,7 @@ use Rattle.khal_list.specs.Formats.{day_name, entry_name, IsFormat, OneFormat}
 use Rattle.khal_list.specs.Limits.{IsLimitOf}
 use Rattle.khal_list.specs.RequestOf.{RequestOf, IsAfterBy, IsDayKeyBy, IsDayKeyOf, IsRequest, IsBadWindow, IsKeyOf, HasWindow, after_text, day_format_text, day_from, format_text}
 use Rattle.khal_list.specs.WindowTexts.{Named, named}
-use Rattle.khal_list.specs.Windows.{first_start, last_end, midnight, today, start_said, between, second_at, ends_from, ends_of, end_named, moment_named}
+use Rattle.khal_list.specs.Windows.{first_start, last_end, midnight_before, today, start_said, between, second_at, ends_from, ends_of, end_named, moment_named}
 use Rattle.khal_list.specs.declared.every_day.EveryDay.{EveryDay}
 use Rattle.khal_list.specs.declared.request.Request.{Request}
 use Rattle.khal_list.proofs.RequestLemmas.{good_token}
@@ -41,7 +41,7 @@ abbrev pub OneDisplay : Type 0
 OneDisplay = (a b : Display) → said_by (zone_of a) ≡ said_by (zone_of b) → Alike a b
 
 same_today : (a b : Display) (now : ℤ) → Alike a b → today a now ≡ today b now
-same_today a b now h = ap (λ (offset : ℤ). if int_le first_start now && int_le now last_end then Some (midnight (now +ℤ offset)) else None) (h.offset now)
+same_today a b now h = ap (λ (offset : ℤ). if int_le first_start now && int_le now last_end then Some (midnight_before (now +ℤ offset)) else None) (h.offset now)
 
 same_start : (a b : Display) (now : ℤ) (text : Option Text) → Alike a b → start_said a now text ≡ start_said b now text
 same_start a b now None h = same_today a b now h
@@ -114,7 +114,7 @@ same_key one (Some text) (Some a) (Some b) p q = ap Some (one (key_rank a) (key_
 same_day_from : (a b : Display) (v w : Window) → Alike a b → v.from ≡ w.from → v.to ≡ w.to → (start : ℤ) → day_from a v start ≡ day_from b w start
 same_day_from a b v w h from to start =
     ap₂ (λ (from to : ℤ). if int_lt start to then date_at (display_clock a) (int_max start from) else pos 2_147_483_647) from to
-    ∙ ap (λ (offset : ℤ). if int_lt start w.to then date_of (int_max start w.from +ℤ offset) else pos 2_147_483_647) (h.offset (int_max start w.from))
+    ∙ ap (λ (offset : ℤ). if int_lt start w.to then day_of_local (int_max start w.from +ℤ offset) else pos 2_147_483_647) (h.offset (int_max start w.from))
 
 abbrev second : List ℕ → ℕ
 second [] = 0

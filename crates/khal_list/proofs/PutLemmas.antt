@@ -13,7 +13,7 @@ use Rattle.khal_list.specs.declared.fault.RunFault.{RunFault}
 use Rattle.khal_list.specs.declared.request.Request.{Request}
 use Rattle.khal_list.specs.Drawn.{DrewAhead, Puts}
 use Rattle.khal_list.specs.Growth.{TookFront}
-use Rattle.khal_list.specs.Listed.{day_key_on, days_text_of, first_of, is_cut, key_on, last_day_key, last_key, style_of, text_of}
+use Rattle.khal_list.specs.Listed.{day_key_on, days_text_of, first_of, is_cut, key_on, last_day_key, last_key, style_of, listing_text}
 use Rattle.khal_list.specs.Text.{Style, days_text, text, under}
 
 -- the first entries, each under its day, are the first of those under days
@@ -45,7 +45,7 @@ key-under style limit list =
     chosen true = last-under style (first_of limit list)
     chosen false = refl
 
-pub text-under : (request : Request) (list : List Entry) → days_text_of request (map (under (style_of request)) list) ≡ text_of request list
+pub text-under : (request : Request) (list : List Entry) → days_text_of request (map (under (style_of request)) list) ≡ listing_text request list
 text-under request list = ap (days_text (style_of request)) (first-under (style_of request) request.limit list)
 
 -- a list without its days
@@ -114,10 +114,10 @@ module _ (request : Request) (old new : List Entry) (out out' : Option (List ℕ
   abbrev PutsOnce : Result (Option DayKey) RunFault → Type 0
   PutsOnce result = Puts request (λ rest. rest ≡ map (under (style_of request)) new) (map (under (style_of request)) old) out out' result
 
-  pub front-once : (fault : RunFault) → PutsOnce (Err fault) → TookFront out out' (text_of request old)
+  pub front-once : (fault : RunFault) → PutsOnce (Err fault) → TookFront out out' (listing_text request old)
   front-once fault p = subst (λ t. TookFront out out' t) (text-under request old) p.front
 
-  pub text-once : (key : Option DayKey) → PutsOnce (Ok key) → Appends out out' (text_of request old)
+  pub text-once : (key : Option DayKey) → PutsOnce (Ok key) → Appends out out' (listing_text request old)
   text-once key p = subst (λ t. Appends out out' t) (text-under request old) p.text
 
   pub key-once : (key : Option DayKey) → PutsOnce (Ok key) → option_map (λ (k : DayKey). key_rank k.key) key ≡ key_on request.limit old

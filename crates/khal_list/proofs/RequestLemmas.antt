@@ -4,7 +4,7 @@ use Rattle.std.specs.Prelude.{IsErrOf, IsSome, unwrap_or}
 use Rattle.std.specs.Result.{IsErr, IsErrAnd}
 use Rattle.clap.specs.Words.{Text}
 use Rattle.ics_zone.specs.DisplayTexts.{display_of, said_by}
-use Rattle.ics_zone.specs.Zones.{zone_of}
+use Rattle.ics_zone.specs.JiffZones.{zone_of}
 use Rattle.ics_zone.specs.declared.display.Display.{Display}
 use Rattle.ics_series.specs.DayKeys.{day_key_rank}
 use Rattle.ics_series.specs.Entry.{key_rank}

@@ -26,7 +26,7 @@ use Rattle.khal_list.specs.Errors.{accepted, error_lines}
 use Rattle.khal_list.specs.Finds.{FindAnswer}
 use Rattle.khal_list.specs.Growth.{TookFront}
 use Rattle.khal_list.specs.Headline.{more_line, IsListingOf, Lists, Shown, ShownInPart, Shows, ShowsBy, ShowsDays, ShowsOnce, Stops}
-use Rattle.khal_list.specs.Listed.{asked_after, day_key_on, days_text_of, key_on, text_of}
+use Rattle.khal_list.specs.Listed.{asked_after, day_key_on, days_text_of, key_on, listing_text}
 use Rattle.khal_list.specs.Outcomes.{IsReading}
 use Rattle.khal_list.specs.Reads.{ReadsAll, ReadsSome}
 use Rattle.khal_list.proofs.AskedLemmas.{all-some}
@@ -56,19 +56,19 @@ asked files display request coming after zone key whole = (
 
 -- the text of such an agenda is what the request shows once
 pub shows-once : (files : List FileSaid) (request : Request) (coming : List Entry) (token : Option (List ℕ)) → (list : List Entry) × IsListingOf files request list × (coming ≡ asked_after request list)
-    → token ≡ option_map spelling (key_on request.limit coming) → ShowsOnce files request (text_of request coming) token
+    → token ≡ option_map spelling (key_on request.limit coming) → ShowsOnce files request (listing_text request coming) token
 shows-once files request coming token whole is = record {
   list = whole.0;
   listing = whole.1;
-  shown_is = ap (text_of request) whole.2;
+  shown_is = ap (listing_text request) whole.2;
   token_is = is ∙ ap (λ these. option_map spelling (key_on request.limit these)) whole.2;
 }
 
 -- a front of it
 pub part-once : (files : List FileSaid) (request : Request) (coming : List Entry) (out out' : Option (List ℕ)) → (list : List Entry) × IsListingOf files request list × (coming ≡ asked_after request list)
-    → TookFront out out' (text_of request coming) → ShownInPart (ShowsOnce files request) out out'
+    → TookFront out out' (listing_text request coming) → ShownInPart (ShowsOnce files request) out out'
 part-once files request coming out out' whole front =
-    inr (text_of request coming, option_map spelling (key_on request.limit coming), shows-once files request coming (option_map spelling (key_on request.limit coming)) whole refl, front)
+    inr (listing_text request coming, option_map spelling (key_on request.limit coming), shows-once files request coming (option_map spelling (key_on request.limit coming)) whole refl, front)
 
 -- the text of what is to come under each day is what the request shows under each day
 pub shows-days : (files : List FileSaid) (display : Display) (request : Request) (every_day : EveryDay) (list : List OnDay) (after : Option DayRank) (token : Option (List ℕ)) → display ≡ request.zone

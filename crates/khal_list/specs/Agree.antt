@@ -5,7 +5,7 @@ use Rattle.std.specs.Option.{option_map}
 use Rattle.ics_series.specs.DayKeys.{day_key_rank, DayRank}
 use Rattle.ics_series.specs.Entry.{key_rank}
 use Rattle.ics_zone.specs.DisplayTexts.{said_by}
-use Rattle.ics_zone.specs.Zones.{zone_of}
+use Rattle.ics_zone.specs.JiffZones.{zone_of}
 use Rattle.khal_list.specs.declared.every_day.EveryDay.{EveryDay}
 use Rattle.khal_list.specs.declared.request.Request.{Request}
 use Rattle.khal_list.specs.declared.request_fault.RequestFault.{RequestFault}

@@ -34,8 +34,8 @@ abbrev pub text_or : Text → Text → Entries → Text
 text_or id default entries = unwrap_or (entry id entries) default
 
 -- its text, or the empty text if there is no such entry
-abbrev pub text_of : Text → Entries → Text
-text_of id entries = text_or id [] entries
+abbrev pub entries_text : Text → Entries → Text
+entries_text id entries = text_or id [] entries
 
 -- the text of `--zones`, if it is given
 abbrev pub zones_text : Entries → Option Text
@@ -60,8 +60,8 @@ is_at entries = option_map_or (λ found. bytes_eq found.0 (codes "at")) entries 
 
 abbrev pub span_of : Entries → Span
 span_of entries =
-    if is_at entries then At (text_of (codes "moment") entries)
-    else FromTo (entry (codes "start") entries) (text_of (codes "end") entries)
+    if is_at entries then At (entries_text (codes "moment") entries)
+    else FromTo (entry (codes "start") entries) (entries_text (codes "end") entries)
 
 -- clap accepts the words
 abbrev pub AreTaken : List Text → Type 0

@@ -85,6 +85,6 @@ entry_default = codes "{cell} {title}"
 abbrev pub day_default : List ℕ
 day_default = codes "{name}, {date}"
 
-abbrev pub fault_name : FormatFault → List ℕ
-fault_name BadFormat = codes "BadFormat"
-fault_name Memory = codes "Memory"
+abbrev pub format_fault_name : FormatFault → List ℕ
+format_fault_name BadFormat = codes "BadFormat"
+format_fault_name Memory = codes "Memory"

@@ -19,7 +19,7 @@ use Rattle.khal_list.specs.Asked.{all_wanted, Asked, AsksAll, AsksSome}
 use Rattle.khal_list.specs.Errors.{accepted, error_lines, file_by}
 use Rattle.khal_list.specs.Finds.{FindAnswer}
 use Rattle.khal_list.specs.Growth.{TookFront}
-use Rattle.khal_list.specs.Listed.{asked_after, asked_after_day, day_key_on, days_text_of, key_on, text_of}
+use Rattle.khal_list.specs.Listed.{asked_after, asked_after_day, day_key_on, days_text_of, key_on, listing_text}
 use Rattle.khal_list.specs.Reads.{ReadsAll, ReadsSome}
 
 -- THE listing of the files: the one strictly rising list of exactly their occurrences that meet the window
@@ -35,7 +35,7 @@ IsDayListingOf files request list = IsListing on_day_cmp (IsOnDay files (display
 pub record ShowsOnce (files : List FileSaid) (request : Request) (shown : List ℕ) (token : Option (List ℕ)) : Type 0 where
   pub list : List Entry
   pub listing : IsListingOf files request list
-  pub shown_is : shown ≡ text_of request (asked_after request list)
+  pub shown_is : shown ≡ listing_text request (asked_after request list)
   pub token_is : token ≡ option_map spelling (key_on request.limit (asked_after request list))
 
 -- the same of their listing under each day

@@ -5,7 +5,7 @@ pub mod Commands
 pub mod Drawn
 pub mod Entries
 pub mod Errors
-pub mod FaultNames
+pub mod ErrorNames
 pub mod Finds
 pub mod Formats
 pub mod Growth

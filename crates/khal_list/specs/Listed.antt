@@ -53,8 +53,8 @@ style_of request = record {
 }
 
 -- the text of the first entries of a list, up to the request's limit
-abbrev pub text_of : Request → List Entry → List ℕ
-text_of request list = text (style_of request) (first_of request.limit list)
+abbrev pub listing_text : Request → List Entry → List ℕ
+listing_text request list = text (style_of request) (first_of request.limit list)
 
 -- the part of the listing under each day that comes after this key
 abbrev pub asked_after_day : EveryDay → List OnDay → List OnDay

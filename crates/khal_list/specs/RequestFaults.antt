@@ -11,13 +11,13 @@ use Rattle.khal_list.specs.declared.format.FormatFault.TheVariants as format
 use Rattle.khal_list.specs.declared.request_fault.RequestFault.{RequestFault}
 use Rattle.khal_list.specs.declared.request_fault.RequestFault.TheVariants.{Usage, BadZone, BadWindow, BadToken, BadFormat, Memory}
 
-abbrev pub fault_name : RequestFault → List ℕ
-fault_name (Usage text help) = codes "Usage"
-fault_name BadZone = codes "BadZone"
-fault_name BadWindow = codes "BadWindow"
-fault_name BadToken = codes "BadToken"
-fault_name BadFormat = codes "BadFormat"
-fault_name Memory = codes "Memory"
+abbrev pub request_fault_name : RequestFault → List ℕ
+request_fault_name (Usage text help) = codes "Usage"
+request_fault_name BadZone = codes "BadZone"
+request_fault_name BadWindow = codes "BadWindow"
+request_fault_name BadToken = codes "BadToken"
+request_fault_name BadFormat = codes "BadFormat"
+request_fault_name Memory = codes "Memory"
 
 -- the fault of a refusal of this kind: usage, with help or not, or memory
 abbrev pub IsFaultOf : ErrorKind → RequestFault → Type 0

@@ -5,19 +5,19 @@ use Rattle.std.specs.Option.{option_map}
 use Rattle.std.specs.String.{string_bytes}
 use Rattle.clap.specs.Words.{Text}
 use Rattle.ics_zone.specs.DisplayTexts.{display_of, said_by}
-use Rattle.ics_zone.specs.Zones.{zone_of}
+use Rattle.ics_zone.specs.JiffZones.{zone_of}
 use Rattle.ics_zone.specs.declared.display.Display.{Display}
 use Rattle.ics_series.specs.Clocks.{display_clock}
 use Rattle.ics_series.specs.DayKeys.{day_key_rank, DayRank}
 use Rattle.ics_series.specs.DayTokens.{day_spelling, IsDayKey, IsDayToken}
-use Rattle.ics_series.specs.Days.{date_at}
+use Rattle.ics_series.specs.ShownDays.{date_at}
 use Rattle.ics_series.specs.Entry.{key_rank}
 use Rattle.ics_series.specs.Tokens.{spelling, IsKey, IsToken}
 use Rattle.ics_series.specs.declared.day_key.DayKey.{DayKey}
 use Rattle.ics_series.specs.declared.key.Key.{Key}
 use Rattle.ics_series.specs.declared.window.Window.{Window}
 use Rattle.khal_list.specs.Formats.{day_default, day_name, entry_default, entry_name, written, IsFormat}
-use Rattle.khal_list.specs.Entries.{Entries, entry, entries_of, limit_text, text_of, text_or, span_of, zones_text, AreTaken, IsRefused}
+use Rattle.khal_list.specs.Entries.{Entries, entry, entries_of, limit_text, entries_text, text_or, span_of, zones_text, AreTaken, IsRefused}
 use Rattle.khal_list.specs.Limits.{IsLimitOf}
 use Rattle.khal_list.specs.Windows.{ends_of}
 use Rattle.khal_list.specs.declared.every_day.EveryDay.{EveryDay}
@@ -27,7 +27,7 @@ use Rattle.khal_list.specs.declared.request_fault.RequestFault.TheVariants.{Usag
 
 -- the text of the display zone
 abbrev pub zone_text : Entries → Text
-zone_text entries = text_of (codes "zone") entries
+zone_text entries = entries_text (codes "zone") entries
 
 -- the format of the entries, and of the days, that the words give
 abbrev pub format_text : Entries → Text
@@ -42,7 +42,7 @@ after_text entries = entry (codes "after") entries
 
 -- `--every-day` is given
 abbrev pub AsksEveryDay : Entries → Type 0
-AsksEveryDay entries = text_of (codes "every-day") entries ≡ codes "true"
+AsksEveryDay entries = entries_text (codes "every-day") entries ≡ codes "true"
 
 -- the key of a token, or none if there is no token
 abbrev pub IsKeyOf : Option Text → Option Key → Type 0
@@ -95,11 +95,11 @@ pub record IsNoToken (entries : Entries) : Type 0 where
 
 -- the request that clap's entries and the clock make
 pub record IsRequest (entries : Entries) (now : ℤ) (request : Request) : Type 0 where
-  pub folder : string_bytes request.folder ≡ text_of (codes "folder") entries
+  pub folder : string_bytes request.folder ≡ entries_text (codes "folder") entries
   pub zone : said_by (zone_of request.zone) ≡ display_of (zone_text entries)
   pub zones : option_map string_bytes request.zones ≡ zones_text entries
   pub window : Some (request.window.from, request.window.to) ≡ ends_of request.zone now (span_of entries)
-  pub notstarted : IsTrue request.window.notstarted ↔ (text_of (codes "notstarted") entries ≡ codes "true")
+  pub notstarted : IsTrue request.window.notstarted ↔ (entries_text (codes "notstarted") entries ≡ codes "true")
   pub limit : IsLimitOf (limit_text entries) request.limit
   pub after : IsAfterBy entries request.zone request.window request.after request.every_day
   pub format : format_text entries ≡ written entry_name request.format.pieces.items

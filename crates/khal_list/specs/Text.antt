@@ -18,8 +18,8 @@ use Rattle.khal_list.specs.Formats.{filled}
 use Rattle.khal_list.specs.Shown.{shown}
 
 -- the day of a local, counted from 1970-01-01, and its second of that day
-abbrev pub date_of : ℤ → ℤ
-date_of local = int_div_euclid local (pos 86_400)
+abbrev pub day_of_local : ℤ → ℤ
+day_of_local local = int_div_euclid local (pos 86_400)
 
 abbrev pub second_of : ℤ → ℕ
 second_of local = unsigned_abs (int_rem_euclid local (pos 86_400))
@@ -51,16 +51,16 @@ blank = replicate 5 32
 
 -- the time of a start, or blanks if it is on another day than the entry's
 abbrev pub start_text : ℤ → ℤ → List ℕ
-start_text day start = if int_eq (date_of start) day then time_text (second_of start) else blank
+start_text day start = if int_eq (day_of_local start) day then time_text (second_of start) else blank
 
 -- a local is the first second of the day after
 abbrev pub is_end_of : ℤ → ℤ → Bool
-is_end_of day local = int_eq (date_of local) (day +ℤ pos 1) && second_of local == 0
+is_end_of day local = int_eq (day_of_local local) (day +ℤ pos 1) && second_of local == 0
 
 -- the time of a finish, or blanks if it is on another day, but `24:00` for the first second of the next day
 abbrev pub finish_text : ℤ → ℤ → List ℕ
 finish_text day finish =
-    if int_eq (date_of finish) day then time_text (second_of finish)
+    if int_eq (day_of_local finish) day then time_text (second_of finish)
     else if is_end_of day finish then codes "24:00"
     else blank
 
@@ -81,10 +81,10 @@ cell_text clock day e =
 
 -- the display dates of a start and of a finish; for an event of dates, that of the finish is its last day
 abbrev pub start_date : Clock → Entry → ℤ
-start_date clock e = date_of (local_at clock e.start)
+start_date clock e = day_of_local (local_at clock e.start)
 
 abbrev pub end_date : Clock → Entry → ℤ
-end_date clock e = if is_date e.event.start.stamp then date_of (local_at clock e.finish) -ℤ pos 1 else date_of (local_at clock e.finish)
+end_date clock e = if is_date e.event.start.stamp then day_of_local (local_at clock e.finish) -ℤ pos 1 else day_of_local (local_at clock e.finish)
 
 -- the time of a local, or nothing for an event of dates
 abbrev pub time_unless_date : Entry → ℤ → List ℕ
@@ -125,7 +125,7 @@ heading_text style day = filled (day_field_text day) style.days ++ 10 ∷ []
 
 -- an entry is listed under the display date of the later of its start and the window's start
 abbrev pub day_under : Style → Entry → ℤ
-day_under style e = date_of (local_at style.clock (int_max e.start style.from))
+day_under style e = day_of_local (local_at style.clock (int_max e.start style.from))
 
 -- the heading of a day, unless the entry before is listed under the same day
 abbrev pub heading_after : Style → Option ℤ → ℤ → List ℕ

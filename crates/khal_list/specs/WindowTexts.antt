@@ -6,7 +6,7 @@ use Rattle.std.specs.List.{list_all}
 use Rattle.std.specs.Option.{option_or}
 use Rattle.std.specs.Str.Parse.{digits_value}
 use Rattle.jiff_core.specs.Calendar.{days_in_month, days_from_civil}
-use Rattle.ics_zone.specs.Places.{local_seconds}
+use Rattle.ics_values.specs.Locals.{seconds_at}
 
 -- what a window text names: a day, a local, or a number of days
 pub data Named : Type 0 where
@@ -35,14 +35,14 @@ abbrev pub day_number : ℕ → ℕ → ℕ → Option ℤ
 day_number year month day =
     if has_date year month day then Some (days_from_civil (pos year) month day) else None
 
-abbrev pub date_of : Option ℕ → Option ℕ → Option ℕ → Option ℤ
-date_of year month day =
+abbrev pub date_named : Option ℕ → Option ℕ → Option ℕ → Option ℤ
+date_named year month day =
     option_and_then (λ y. option_and_then (λ m. option_and_then (λ d. day_number y m d) day) month) year
 
 -- the day of `YYYY-MM-DD`
 abbrev pub day_said : List ℕ → Option ℤ
 day_said (a ∷ b ∷ c ∷ d ∷ x ∷ e ∷ f ∷ y ∷ g ∷ h ∷ []) =
-    if (x == 45) && (y == 45) then date_of (quad a b c d) (pair e f) (pair g h) else None
+    if (x == 45) && (y == 45) then date_named (quad a b c d) (pair e f) (pair g h) else None
 day_said text = None
 
 -- the second of the day at these hours and minutes
@@ -61,7 +61,7 @@ second_said text = None
 -- the local of `YYYY-MM-DDTHH:MM`
 abbrev pub local_said : List ℕ → Option ℤ
 local_said text =
-    option_and_then (λ day. option_map (λ second. local_seconds day second) (second_said (drop 10 text)))
+    option_and_then (λ day. option_map (λ second. seconds_at day second) (second_said (drop 10 text)))
     (day_said (take 10 text))
 
 -- the text without the `d` at its end

@@ -4,8 +4,8 @@ use Rattle.std.specs.Prelude.{ℤ, pos, neg_ℤ, ◌*◌, ◌+ℤ◌, ◌*ℤ◌
 use Rattle.std.specs.Int.{int_div_euclid}
 use Rattle.clap.specs.Words.{Text}
 use Rattle.ics_zone.specs.Displays.{offset_of, moment_of}
-use Rattle.ics_zone.specs.Places.{local_seconds}
-use Rattle.ics_zone.specs.Zones.{zone_of}
+use Rattle.ics_values.specs.Locals.{seconds_at}
+use Rattle.ics_zone.specs.JiffZones.{zone_of}
 use Rattle.ics_zone.specs.declared.display.Display.{Display}
 use Rattle.khal_list.specs.Entries.{Span}
 use Rattle.khal_list.specs.WindowTexts.{Named, named}
@@ -19,26 +19,26 @@ abbrev pub last_end : ℤ
 last_end = pos 247_090_953_600
 
 -- the midnight that begins the day of a local
-abbrev pub midnight : ℤ → ℤ
-midnight local = int_div_euclid local (pos 86_400) *ℤ pos 86_400
+abbrev pub midnight_before : ℤ → ℤ
+midnight_before local = int_div_euclid local (pos 86_400) *ℤ pos 86_400
 
 -- today's midnight in the zone, by a clock that is within those bounds
 abbrev pub today : Display → ℤ → Option ℤ
 today zone now =
     if int_le first_start now && int_le now last_end
-    then Some (midnight (now +ℤ offset_of (zone_of zone) now))
+    then Some (midnight_before (now +ℤ offset_of (zone_of zone) now))
     else None
 
 -- the local at which a window starts: a day's midnight, or the local that is named
 abbrev pub start_named : Named → Option ℤ
-start_named (Named.Day day) = Some (local_seconds day 0)
+start_named (Named.Day day) = Some (seconds_at day 0)
 start_named (Named.Local local) = Some local
 start_named (Named.Days n) = None
 
 -- the local at which a window ends: the midnight after a day, the local that is named, or a number of days
 -- after the start
 abbrev pub end_named : ℤ → Named → ℤ
-end_named start (Named.Day day) = local_seconds (day +ℤ pos 1) 0
+end_named start (Named.Day day) = seconds_at (day +ℤ pos 1) 0
 end_named start (Named.Local local) = local
 end_named start (Named.Days n) = start +ℤ pos (n * 86_400)
 

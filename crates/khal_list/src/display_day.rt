@@ -2,7 +2,7 @@
 ghost use Rattle.std.specs.Prelude.{◌≡◌, ◌≤ℤ◌, neg_ℤ, pos};
 ghost use Rattle.jiff_core.specs.Calendar.{IsBetween};
 ghost use Rattle.ics_series.specs.Clocks.{display_clock, local_at};
-ghost use Rattle.khal_list.specs.Text.{date_of};
+ghost use Rattle.khal_list.specs.Text.{day_of_local};
 
 use ics_values::Moment;
 use ics_zone::{Display, Place};
@@ -12,7 +12,7 @@ use ics_zone::{Display, Place};
 pub(crate) fn display_day(zone: &Display, moment: Moment) -> i32
     requires early { neg_ℤ (pos 62_135_769_600) ≤ℤ moment }
     requires late { moment ≤ℤ pos 251_856_172_799 }
-    ensures date { result ≡ date_of (local_at (display_clock zone.now) moment) }
+    ensures date { result ≡ day_of_local (local_at (display_clock zone.now) moment) }
     ensures within { IsBetween (neg_ℤ (pos 719_527)) (pos 2_932_896) result }
 {
     zone.local(moment).day

@@ -1,6 +1,6 @@
 //! Why a read, a write or a run failed.
 ghost use Rattle.std.specs.Prelude.{◌≡◌};
-ghost use Rattle.khal_list.specs.FaultNames.{source_fault_name, sink_fault_name, run_fault_name};
+ghost use Rattle.khal_list.specs.ErrorNames.{source_fault_name, sink_fault_name, run_fault_name};
 ghost use Rattle.khal_list.specs.declared.fault.RunFault.TheVariants.{Memory};
 
 use std::alloc::{AllocError, AllocFailed};

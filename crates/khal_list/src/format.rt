@@ -18,11 +18,11 @@ pub enum FormatFault {
 }
 
 impl FormatFault {
-    ghost use Rattle.khal_list.specs.Formats.{fault_name};
+    ghost use Rattle.khal_list.specs.Formats.{format_fault_name};
 
     /// The name of the fault, as it is printed.
     pub fn name(&self) -> &'static str
-        ensures { result.now ≡ fault_name self.now }
+        ensures { result.now ≡ format_fault_name self.now }
     {
         match self {
             FormatFault::BadFormat => "BadFormat",

@@ -8,7 +8,7 @@ ghost use Rattle.ics_series.specs.Entry.{key_rank};
 ghost use Rattle.ics_series.specs.OnDays.{day_rank_of, on_day_of, OnDay};
 ghost use Rattle.khal_list.specs.Drawn.{DrewAhead, Puts};
 ghost use Rattle.khal_list.specs.Growth.{TookFront, LeftByFault};
-ghost use Rattle.khal_list.specs.Listed.{key_on, style_of, text_of};
+ghost use Rattle.khal_list.specs.Listed.{key_on, style_of, listing_text};
 ghost use Rattle.khal_list.specs.Text.{text};
 
 use crate::drawing::{Draws, EachDay, Once};
@@ -32,11 +32,11 @@ pub fn print<'a, F: Feed<'a>, O: Sink>(
     out: &mut O,
 ) -> Result<Option<Key>, RunFault>
     ensures text { OnOk result (Appends (O.taken out.old) (O.taken out.new)
-        (text_of request.now (F.coming feed.old))) }
+        (listing_text request.now (F.coming feed.old))) }
     ensures key { IfOk result (λ key. option_map key_rank key
         ≡ key_on request.now.limit (F.coming feed.old)) }
     ensures front { OnErr result (TookFront (O.taken out.old) (O.taken out.new)
-        (text_of request.now (F.coming feed.old))) }
+        (listing_text request.now (F.coming feed.old))) }
     ensures drew { DrewAhead (text (style_of request.now)) (F.coming feed.old) (F.coming feed.new)
         (O.taken out.old) (O.taken out.new) }
     ensures cause { IsErrOf result RunFault.WriteFault → LeftByFault O.puts out.new }

@@ -34,11 +34,11 @@ pub enum RequestFault {
 }
 
 impl RequestFault {
-    ghost use Rattle.khal_list.specs.RequestFaults.{fault_name, IsFaultOf};
+    ghost use Rattle.khal_list.specs.RequestFaults.{request_fault_name, IsFaultOf};
 
     /// The name of the fault, as it is printed.
     pub fn name(&self) -> &'static str
-        ensures { result.now ≡ fault_name self.now }
+        ensures { result.now ≡ request_fault_name self.now }
     {
         match self {
             RequestFault::Usage { .. } => "Usage",

@@ -2,8 +2,9 @@
 ghost use Rattle.std.specs.Prelude.{◌≡◌, ◌≤◌, ◌<◌, ◌*◌, ◌-ℤ◌, ◌+ℤ◌, pos, option_map, IfSome};
 ghost use Rattle.jiff_core.specs.Calendar.{IsEpochDay};
 ghost use Rattle.ics_zone.specs.Displays.{moment_of};
-ghost use Rattle.ics_zone.specs.Places.{local_seconds, IsDay, IsNear};
-ghost use Rattle.ics_zone.specs.Zones.{zone_of};
+ghost use Rattle.ics_zone.specs.Seconds.{IsDay, IsNear};
+ghost use Rattle.ics_values.specs.Locals.{seconds_at};
+ghost use Rattle.ics_zone.specs.JiffZones.{zone_of};
 ghost use Rattle.khal_list.specs.Windows as spec;
 ghost use Rattle.khal_list.specs.SpanTexts.{span_by};
 ghost use Rattle.khal_list.specs.WindowEnds.{ends_by};
@@ -50,7 +51,7 @@ pub(crate) fn window_of(
 
 // START's local, or today's midnight if it is left out.
 fn start_said(zone: Display, now: Moment, text: Option<&str>) -> Option<Local>
-    ensures value { option_map (λ l. local_seconds l.day l.second) result
+    ensures value { option_map (λ l. seconds_at l.day l.second) result
         ≡ spec.start_said zone now (option_map (λ t. t.now) text.entry) }
     ensures bound { IfSome result (λ l. IsEpochDay l.day) }
 {
@@ -62,7 +63,7 @@ fn start_said(zone: Display, now: Moment, text: Option<&str>) -> Option<Local>
 
 // Today's midnight, by a clock within the bounds of windows.
 fn today(zone: Display, now: Moment) -> Option<Local>
-    ensures value { option_map (λ l. local_seconds l.day l.second) result
+    ensures value { option_map (λ l. seconds_at l.day l.second) result
         ≡ spec.today zone now }
     ensures bound { IfSome result (λ l. IsEpochDay l.day) }
 {
@@ -75,7 +76,7 @@ fn today(zone: Display, now: Moment) -> Option<Local>
 
 fn start_local(name: WindowText) -> Option<Local>
     requires { IsInCalendar name }
-    ensures value { option_map (λ l. local_seconds l.day l.second) result
+    ensures value { option_map (λ l. seconds_at l.day l.second) result
         ≡ spec.start_named (named_by name) }
     ensures bound { IfSome result (λ l. IsEpochDay l.day) }
 {
@@ -89,8 +90,8 @@ fn start_local(name: WindowText) -> Option<Local>
 fn end_local(start: Local, name: WindowText) -> Local
     requires start { IsEpochDay start.day }
     requires name { IsInCalendar name }
-    ensures { local_seconds result.day result.second
-        ≡ spec.end_named (local_seconds start.day start.second) (named_by name) }
+    ensures { seconds_at result.day result.second
+        ≡ spec.end_named (seconds_at start.day start.second) (named_by name) }
 {
     match name {
         WindowText::Day(day) => Local {
@@ -106,7 +107,7 @@ fn end_local(start: Local, name: WindowText) -> Local
 }
 
 fn moment_local(name: WindowText) -> Option<Local>
-    ensures value { option_map (λ l. local_seconds l.day l.second) result
+    ensures value { option_map (λ l. seconds_at l.day l.second) result
         ≡ spec.moment_named (named_by name) }
 {
     match name {
@@ -118,7 +119,7 @@ fn moment_local(name: WindowText) -> Option<Local>
 // The window between two locals.
 fn between(zone: Display, start: Local, end: Local, notstarted: bool) -> Option<Window>
     ensures ends { ends_by result ≡ spec.between zone
-        (local_seconds start.day start.second) (local_seconds end.day end.second) }
+        (seconds_at start.day start.second) (seconds_at end.day end.second) }
     ensures flag { IfSome result (λ w. w.notstarted ≡ notstarted) }
 {
     if seconds(start) < FIRST_START || seconds(end) > LAST_END {
@@ -143,7 +144,7 @@ fn between(zone: Display, start: Local, end: Local, notstarted: bool) -> Option<
 
 // The window of one second.
 fn second_at(zone: Display, local: Local, notstarted: bool) -> Option<Window>
-    ensures ends { ends_by result ≡ spec.second_at zone (local_seconds local.day local.second) }
+    ensures ends { ends_by result ≡ spec.second_at zone (seconds_at local.day local.second) }
     ensures flag { IfSome result (λ w. w.notstarted ≡ notstarted) }
 {
     if seconds(local) < FIRST_START || seconds(local) > LAST_END {
@@ -159,15 +160,15 @@ fn second_at(zone: Display, local: Local, notstarted: bool) -> Option<Window>
 
 fn instant(zone: Display, local: Local) -> Moment
     requires { IsDay local.day }
-    ensures value { result ≡ moment_of (zone_of zone) (local_seconds local.day local.second) }
-    ensures near { IsNear (result -ℤ local_seconds local.day local.second) }
+    ensures value { result ≡ moment_of (zone_of zone) (seconds_at local.day local.second) }
+    ensures near { IsNear (result -ℤ seconds_at local.day local.second) }
 {
     zone.moment(local)
 }
 
 // The seconds from 1970-01-01T00:00:00 to a local, each day having 86,400.
 fn seconds(local: Local) -> i64
-    ensures { result ≡ local_seconds local.day local.second }
+    ensures { result ≡ seconds_at local.day local.second }
 {
     i64::from(local.day) * 86_400 + i64::from(local.second)
 }

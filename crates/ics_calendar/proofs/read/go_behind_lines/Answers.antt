@@ -1,5 +1,5 @@
 use Rattle.std.proofs.Common.{sym, ap, ◌∙◌}
-use Rattle.ics_text.specs.Contents.{content_of}
+use Rattle.ics_text.specs.ContentLines.{content_of}
 use Rattle.ics_calendar.proofs.Steps.{took}
 use Rattle.ics_calendar.proofs.read.go_behind_lines.Goals as goal
 

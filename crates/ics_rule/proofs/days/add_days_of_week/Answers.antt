@@ -1,28 +1,28 @@
 use Rattle.std.proofs.Common.{◌≡◌, ◌∙◌, ◌+◌, ◌&&◌, ℕ, nat_lt, false, ap, sym, arith}
 use Rattle.std.proofs.lemmas.Bool.Decides.{nat_tests}
-use Rattle.ics_values.specs.Sets.{has_wide}
+use Rattle.ics_values.specs.Sets.{contains_wide}
 use Rattle.ics_rule.specs.Candidates.{lets_date}
 use Rattle.ics_rule.proofs.DateLemmas.{day_of_week}
 use Rattle.ics_rule.proofs.ScanLemmas.{none_has, one_more, no_more}
 use Rattle.ics_rule.proofs.days.add_days_of_week.Goals as goal
-use Rattle.ics_rule.proofs.days.add_days_of_week.Goals.{then-has, else-has}
+use Rattle.ics_rule.proofs.days.add_days_of_week.Goals.{then-contains, else-contains}
 
 none_yet : (m : ℕ) → nat_lt m 0 ≡ false
 none_yet m = grind (arith, nat_tests)
 
 pub loop-k-init : goal.loop-k-init
-loop-k-init c = λ m. ap (λ ws. has_wide ws m) c.requires.empty ∙ none_has m ∙ ap (λ x. x && lets_date c.args.parts.now (c.args.first + m)) (sym (none_yet m))
+loop-k-init c = λ m. ap (λ ws. contains_wide ws m) c.requires.empty ∙ none_has m ∙ ap (λ x. x && lets_date c.args.parts.now (c.args.first + m)) (sym (none_yet m))
 
 pub loop-k-preserved : goal.loop-k-preserved
 loop-k-preserved c = λ m.
-    let test = day_of_week c.args.parts.now (c.args.first + c.loop-k.k) c.weekday_at.result c.named-named.result c.has.result c.requires.frequency
-    (sym c.names_weekdays_alone.ensures ∙ c.if-not-names_weekdays_alone.false) (sym c.is_none.ensures ∙ c.if-is_none.false)
-    c.weekday_at.ensures.value c.weekday_at.ensures.small c.named-named.ensures c.has.ensures in
-    elim c.if-has.branch [
-      | then-has w ↦ ap (λ ws. has_wide ws m) w.days-is ∙ w.add.ensures.members m
-          ∙ one_more (λ k. lets_date c.args.parts.now (c.args.first + k)) c.loop-k.k m (has_wide c.loop-k.days m) (sym test ∙ w.if-has.true) (c.loop-k.invariant m)
-      | else-has w ↦ ap (λ ws. has_wide ws m) w.days-is
-          ∙ no_more (λ k. lets_date c.args.parts.now (c.args.first + k)) c.loop-k.k m (has_wide c.loop-k.days m) (sym test ∙ w.if-has.false) (c.loop-k.invariant m)
+    let test = day_of_week c.args.parts.now (c.args.first + c.loop-k.k) c.weekday_at.result c.named-named.result c.contains.result c.requires.frequency
+    (sym c.names_weekdays_alone.ensures ∙ c.if-not-names_weekdays_alone.false) (sym c.is_empty.ensures ∙ c.if-is_empty.false)
+    c.weekday_at.ensures.value c.weekday_at.ensures.small c.named-named.ensures c.contains.ensures in
+    elim c.if-contains.branch [
+      | then-contains w ↦ ap (λ ws. contains_wide ws m) w.days-is ∙ w.insert.ensures.members m
+          ∙ one_more (λ k. lets_date c.args.parts.now (c.args.first + k)) c.loop-k.k m (contains_wide c.loop-k.days m) (sym test ∙ w.if-contains.true) (c.loop-k.invariant m)
+      | else-contains w ↦ ap (λ ws. contains_wide ws m) w.days-is
+          ∙ no_more (λ k. lets_date c.args.parts.now (c.args.first + k)) c.loop-k.k m (contains_wide c.loop-k.days m) (sym test ∙ w.if-contains.false) (c.loop-k.invariant m)
     ]
 
 pub returns : goal.returns

@@ -1,6 +1,6 @@
 use Rattle.std.proofs.Common.{ℕ, Bool, ◌∙◌, ◌+◌, ◌<◌, ◌≤◌, ◌&&◌, ap, nat_lt, pos, sym, subst, arith}
 use Rattle.jiff_core.proofs.CalendarLemmas.{days_in_month_bounds, days_in_year_bounds}
-use Rattle.ics_values.specs.Sets.{has, has_wide}
+use Rattle.ics_values.specs.Sets.{contains, contains_wide}
 use Rattle.ics_values.specs.Days.{year_of}
 use Rattle.ics_values.proofs.SetLemmas.{member_below}
 use Rattle.ics_rule.proofs.ScanLemmas.{none_has}
@@ -9,7 +9,7 @@ use Rattle.ics_rule.proofs.days.add_listed_days.Goals as goal
 use Rattle.ics_rule.proofs.days.add_listed_days.Goals.{In-Some, After-month_run}
 
 pub loop-month-init : goal.loop-month-init
-loop-month-init c = (λ k. ap (λ ws. has_wide ws k) c.requires.empty ∙ none_has k ∙ months_none c.args.parts.now (has c.open_months-months.result) (c.args.first + k) (nat_lt k c.args.len), (omega arith, omega arith))
+loop-month-init c = (λ k. ap (λ ws. contains_wide ws k) c.requires.empty ∙ none_has k ∙ months_none c.args.parts.now (contains c.open_months-months.result) (c.args.first + k) (nat_lt k c.args.len), (omega arith, omega arith))
 
 small : (c : In-Some) → c.in-Some.month < 13
 small c = member_below c.open_months-months.result 13 c.in-Some.month c.open_months-months.ensures.bound c.in-Some.ensures.next.passes
@@ -41,8 +41,8 @@ add_month-requires-clause-within c = let b = days_in_year_bounds (pos (year_of c
 pub loop-month-preserved : goal.loop-month-preserved
 loop-month-preserved c =
     let y = year_of c.args.first in
-    let seen : ℕ → ℕ → Bool = λ k from. seen_months c.args.parts.now (has c.open_months-months.result) from (c.args.first + k) in (
-      λ k. month_step c.args.parts.now c.month_run.result (has c.open_months-months.result) c.args.first y c.in-Some.month c.loop-month.from k (has_wide c.loop-month.days k) _
+    let seen : ℕ → ℕ → Bool = λ k from. seen_months c.args.parts.now (contains c.open_months-months.result) from (c.args.first + k) in (
+      λ k. month_step c.args.parts.now c.month_run.result (contains c.open_months-months.result) c.args.first y c.in-Some.month c.loop-month.from k (contains_wide c.loop-month.days k) _
           (c.month_run.ensures.month y c.requires.span) c.requires.span.1.0 (subst (λ n. c.month_run.result.start + c.month_run.result.len ≤ n) c.requires.span.1.1 (c.month_run.ensures.within y c.requires.span)) c.in-Some.ensures.next
           (c.loop-month.invariant.0 k ∙ ap (λ n. nat_lt k n && seen k c.loop-month.from) c.requires.span.1.1) (c.add_month.ensures k)
           ∙ ap (λ n. nat_lt k n && seen k (c.in-Some.month + 1)) (sym c.requires.span.1.1),
@@ -50,4 +50,4 @@ loop-month-preserved c =
     )
 
 pub returns : goal.returns
-returns c = λ k. c.loop-month.invariant.0 k ∙ months_done c.args.parts.now (has c.open_months-months.result) c.loop-month.from (c.args.first + k) (nat_lt k c.args.len) c.in_default.ensures.next c.open_months-months.ensures.members
+returns c = λ k. c.loop-month.invariant.0 k ∙ months_done c.args.parts.now (contains c.open_months-months.result) c.loop-month.from (c.args.first + k) (nat_lt k c.args.len) c.in_default.ensures.next c.open_months-months.ensures.members

@@ -1,7 +1,7 @@
 use Rattle.std.proofs.Common.{◌≡◌, ◌∙◌, ℕ, ◌+◌, ◌<◌, ◌&&◌, nat_lt, pos, true, ap, arith}
 use Rattle.std.proofs.lemmas.Bool.Decides.{nat_tests}
 use Rattle.jiff_core.proofs.CalendarLemmas.{days_in_year_bounds}
-use Rattle.ics_values.specs.Sets.{has_wide}
+use Rattle.ics_values.specs.Sets.{contains_wide}
 use Rattle.ics_values.specs.Days.{year_of}
 use Rattle.ics_rule.specs.Candidates.{lets_date, lets_wide_place}
 use Rattle.ics_rule.proofs.MonthDays.{candidates, narrowed, week_let_in, number_listed}
@@ -19,15 +19,15 @@ less_true k len h = grind (arith, nat_tests)
 less_fact : (k len : ℕ) → nat_lt k len ≡ true → k < len
 less_fact k len h = grind (arith, nat_tests)
 
-pub returns-else-is_none : goal.returns-else-is_none
-returns-else-is_none c = λ k. c.those_let_in-else-is_none.ensures k
-    ∙ candidates (has_wide c.days_near_weeks.result k) (lets_date c.args.parts.now (c.args.first + k)) (nat_lt k c.args.len)
+pub returns-else-is_empty : goal.returns-else-is_empty
+returns-else-is_empty c = λ k. c.those_let_in-else-is_empty.ensures k
+    ∙ candidates (contains_wide c.days_near_weeks.result k) (lets_date c.args.parts.now (c.args.first + k)) (nat_lt k c.args.len)
     (λ h. less_true k c.args.len (c.days_near_weeks.ensures.within k h)) (λ l h. c.days_near_weeks.ensures.all k (less_fact k c.args.len l) (week_let_in c.args.parts.now (c.args.first + k) h))
 
 pub days_by_number-requires : goal.days_by_number-requires
 days_by_number-requires c = let b = days_in_year_bounds (pos (year_of c.args.first)) in omega (arith, b.0, c.requires.span.1.1)
 
-pub returns-then-is_none : goal.returns-then-is_none
-returns-then-is_none c = λ k. c.those_let_in.ensures k ∙ ap (λ x. x && lets_date c.args.parts.now (c.args.first + k)) (c.days_by_number.ensures k)
+pub returns-then-is_empty : goal.returns-then-is_empty
+returns-then-is_empty c = λ k. c.those_let_in.ensures k ∙ ap (λ x. x && lets_date c.args.parts.now (c.args.first + k)) (c.days_by_number.ensures k)
     ∙ narrowed (nat_lt k c.args.len) (lets_wide_place c.args.parts.now.year_days (k + 1) c.args.len) (lets_date c.args.parts.now (c.args.first + k))
     (λ l h. number_listed c.args.parts.now c.args.first (year_of c.args.first) c.args.len k c.requires.span.1.0 c.requires.span.1.1 l h)

@@ -1,6 +1,6 @@
 use Rattle.std.proofs.Common.{◌≡◌, ◌∙◌, ◌+◌, ◌&&◌, ℕ, nat_lt, false, ap, sym, arith}
 use Rattle.std.proofs.lemmas.Bool.Decides.{nat_tests}
-use Rattle.ics_values.specs.Sets.{has_wide}
+use Rattle.ics_values.specs.Sets.{contains_wide}
 use Rattle.ics_rule.specs.Candidates.{lets_wide_place}
 use Rattle.ics_rule.proofs.ScanLemmas.{none_has, one_more, no_more}
 use Rattle.ics_rule.proofs.days.days_by_number.Goals as goal
@@ -10,14 +10,14 @@ none_yet : (m : ℕ) → nat_lt m 0 ≡ false
 none_yet m = grind (arith, nat_tests)
 
 pub loop-k-init : goal.loop-k-init
-loop-k-init c = λ m. ap (λ ws. has_wide ws m) c.new-days.ensures ∙ none_has m ∙ ap (λ x. x && lets_wide_place c.args.parts.now.year_days (m + 1) c.args.len) (sym (none_yet m))
+loop-k-init c = λ m. ap (λ ws. contains_wide ws m) c.new-days.ensures ∙ none_has m ∙ ap (λ x. x && lets_wide_place c.args.parts.now.year_days (m + 1) c.args.len) (sym (none_yet m))
 
 pub loop-k-preserved : goal.loop-k-preserved
 loop-k-preserved c = λ m. elim c.if-lets_wide_place.branch [
-  | then-lets_wide_place w ↦ ap (λ ws. has_wide ws m) w.days-is ∙ w.add.ensures.members m
-      ∙ one_more (λ k. lets_wide_place c.args.parts.now.year_days (k + 1) c.args.len) c.loop-k.k m (has_wide c.loop-k.days m) (sym c.lets_wide_place.ensures ∙ w.if-lets_wide_place.true) (c.loop-k.invariant m)
-  | else-lets_wide_place w ↦ ap (λ ws. has_wide ws m) w.days-is
-      ∙ no_more (λ k. lets_wide_place c.args.parts.now.year_days (k + 1) c.args.len) c.loop-k.k m (has_wide c.loop-k.days m) (sym c.lets_wide_place.ensures ∙ w.if-lets_wide_place.false) (c.loop-k.invariant m)
+  | then-lets_wide_place w ↦ ap (λ ws. contains_wide ws m) w.days-is ∙ w.insert.ensures.members m
+      ∙ one_more (λ k. lets_wide_place c.args.parts.now.year_days (k + 1) c.args.len) c.loop-k.k m (contains_wide c.loop-k.days m) (sym c.lets_wide_place.ensures ∙ w.if-lets_wide_place.true) (c.loop-k.invariant m)
+  | else-lets_wide_place w ↦ ap (λ ws. contains_wide ws m) w.days-is
+      ∙ no_more (λ k. lets_wide_place c.args.parts.now.year_days (k + 1) c.args.len) c.loop-k.k m (contains_wide c.loop-k.days m) (sym c.lets_wide_place.ensures ∙ w.if-lets_wide_place.false) (c.loop-k.invariant m)
 ]
 
 pub returns : goal.returns

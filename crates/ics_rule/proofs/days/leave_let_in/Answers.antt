@@ -1,5 +1,5 @@
 use Rattle.std.proofs.Common.{◌∙◌, ◌+◌, ◌&&◌, nat_lt, ap, sym}
-use Rattle.ics_values.specs.Places.{lists_none, lists_no_weekday}
+use Rattle.ics_values.specs.Ordinals.{lists_none, lists_no_weekday}
 use Rattle.ics_rule.specs.Candidates.{lets_date}
 use Rattle.ics_rule.specs.Runs.{is_in_month}
 use Rattle.ics_rule.proofs.MonthDays.{month_exact, month_candidate, narrowed, not_either}

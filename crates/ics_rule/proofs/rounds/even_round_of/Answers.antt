@@ -1,11 +1,11 @@
 use Rattle.std.proofs.Common.{◌≡◌, ℕ, ◌*◌, Option, Some, None, MatchOption, sym, subst, arith}
-use Rattle.ics_rule.specs.declared.filled.Filled.{Filled}
+use Rattle.ics_rule.specs.declared.effective_rule.EffectiveRule.{EffectiveRule}
 use Rattle.ics_rule.specs.Rounds.{seconds_of, IsRound, IsEvenRound}
 use Rattle.ics_rule.proofs.EvenLemmas.{even_of_round, even_months, even_years, is_monthly}
 use Rattle.ics_rule.proofs.rounds.even_round_of.Goals as goal
 use Rattle.ics_rule.proofs.rounds.even_round_of.Goals.{in-Yearly, in_default}
 
-by_round : (q : Filled) (o : Option ℕ) → MatchOption o (Unit {0}) (λ k. (s : ℕ) × IsRound q k s) → MatchOption o (Unit {0}) (λ k. (start : ℕ) → IsEvenRound q start k)
+by_round : (q : EffectiveRule) (o : Option ℕ) → MatchOption o (Unit {0}) (λ k. (s : ℕ) × IsRound q k s) → MatchOption o (Unit {0}) (λ k. (start : ℕ) → IsEvenRound q start k)
 by_round q None t = tt
 by_round q (Some k) t = λ start. even_of_round q start k t.0 t.1
 

@@ -1,7 +1,7 @@
 use Rattle.std.proofs.Common.{◌∙◌, ◌+◌, ◌-◌, ◌%◌, ap, pos, sym, arith}
 use Rattle.jiff_core.specs.Weekday.{monday_zero}
 use Rattle.jiff_core.proofs.CalendarLemmas.{days_in_year_bounds}
-use Rattle.ics_values.specs.Sets.{has_wide}
+use Rattle.ics_values.specs.Sets.{contains_wide}
 use Rattle.ics_values.specs.Days.{year_of}
 use Rattle.ics_rule.proofs.ScanLemmas.{none_has}
 use Rattle.ics_rule.proofs.WeekDays.{cover_starts, cover_adds, cover_jumps, covered, week_near}
@@ -9,7 +9,7 @@ use Rattle.ics_rule.proofs.weeks.days_near_weeks.Goals as goal
 
 pub loop-n-init : goal.loop-n-init
 loop-n-init c = let b = days_in_year_bounds (pos (year_of c.args.first)) in (
-  cover_starts c.args.parts.now.weeks _ c.args.len c.new-days.result c.add_between.new.days c.add_between-2.new.days (omega (arith, b.1, c.requires.size)) (λ m. ap (λ ws. has_wide ws m) c.new-days.ensures ∙ none_has m)
+  cover_starts c.args.parts.now.weeks _ c.args.len c.new-days.result c.add_between.new.days c.add_between-2.new.days (omega (arith, b.1, c.requires.size)) (λ m. ap (λ ws. contains_wide ws m) c.new-days.ensures ∙ none_has m)
       c.add_between.ensures c.add_between-2.ensures,
   (omega arith, omega arith),
 )

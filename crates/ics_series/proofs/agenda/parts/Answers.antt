@@ -6,7 +6,7 @@ use Rattle.ics_series.specs.declared.part.Part.TheVariants as part
 use Rattle.ics_series.specs.Clocks.{display_clock}
 use Rattle.ics_series.specs.Entry.{key_rank}
 use Rattle.ics_series.specs.Masters.{HasLists, HasSources}
-use Rattle.ics_series.specs.Parts.{part_coming, part_sources}
+use Rattle.ics_series.specs.AgendaParts.{part_coming, part_sources}
 use Rattle.ics_series.specs.Sources.Source.{Once}
 use Rattle.ics_series.specs.Versions.{seen}
 use Rattle.ics_series.proofs.PartLemmas.{pushed-listing, whole-parts}

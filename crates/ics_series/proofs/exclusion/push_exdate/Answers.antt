@@ -4,7 +4,7 @@ use Rattle.std.specs.Ordering.{int_eq}
 use Rattle.ics_values.specs.declared.stamp.Stamp.{Stamp}
 use Rattle.ics_series.specs.Clocks.{clock_of, instant}
 use Rattle.ics_series.specs.Exclusions.{excludes_by, takes_out}
-use Rattle.ics_series.specs.Zones.{clocks_in}
+use Rattle.ics_series.specs.FileZones.{clocks_in}
 use Rattle.ics_series.proofs.ExclusionLemmas.{excludes-instant, pushed-instant}
 use Rattle.ics_series.proofs.exclusion.push_exdate.Goals as goal
 

@@ -1,7 +1,7 @@
 use Rattle.std.proofs.Common.{◌≡◌, w64, to_z, of_z, arith}
 use Rattle.std.proofs.lemmas.Int.{ints, to_z-of_z}
 use mir.Val.{SFits}
-use Rattle.ics_zone.specs.Places.{IsNear}
+use Rattle.ics_zone.specs.Seconds.{IsNear}
 use Rattle.ics_series.proofs.InstantLemmas.{moved, near-moved}
 use Rattle.ics_series.proofs.finish.days_after_at.Goals as goal
 

@@ -4,8 +4,8 @@ use Rattle.ics_calendar.specs.declared.time.Length.TheVariants.{Until}
 use Rattle.ics_calendar.specs.Event.{IsLength}
 use Rattle.ics_series.specs.Clocks.{instant}
 use Rattle.ics_series.specs.Finish.{end_by}
-use Rattle.ics_series.specs.Zones.{clocks_in, EndsNear, IsEndOf}
-use Rattle.ics_series.proofs.GiverLemmas.{day-years}
+use Rattle.ics_series.specs.FileZones.{clocks_in, EndsNear, IsEndOf}
+use Rattle.ics_series.proofs.StartSourceLemmas.{day-years}
 use Rattle.ics_series.proofs.InstantLemmas.{early, instant-near, late, until}
 use Rattle.ics_series.proofs.NearLemmas.{day-written}
 use Rattle.ics_series.proofs.finish.end_by.Goals as goal

@@ -2,8 +2,8 @@ use Rattle.std.proofs.Common.{length, arith, subst}
 use Rattle.std.proofs.lemmas.Int.{ints, int_max_is}
 use Rattle.ics_calendar.specs.Event.{RdateBelow}
 use Rattle.ics_series.specs.Starts.{time_of}
-use Rattle.ics_series.specs.Zones.{clocks_in, IsTimeOf}
-use Rattle.ics_series.proofs.GiverLemmas.{gives-below}
+use Rattle.ics_series.specs.FileZones.{clocks_in, IsTimeOf}
+use Rattle.ics_series.proofs.StartSourceLemmas.{gives-below}
 use Rattle.ics_series.proofs.ZoneLemmas.{given-time}
 use Rattle.ics_series.proofs.finish.finish.Goals as goal
 use Rattle.ics_series.proofs.finish.finish.Goals.{in-At, in-Span}
@@ -11,17 +11,17 @@ use Rattle.ics_series.proofs.finish.finish.Goals.{in-At, in-Span}
 pub end_by-end-requires-clause-given : goal.end_by-end-requires-clause-given
 end_by-end-requires-clause-given c =
     subst (λ given. IsTimeOf c.args.zones.zones.now (time_of given)) c.in-At.is
-    (given-time c.args.zones c.args.event.now c.args.start.giver c.args.start.given c.requires.event c.requires.start.gives)
+    (given-time c.args.zones c.args.event.now c.args.start.source c.args.start.given c.requires.event c.requires.start.gives)
 
 pub span_end-end-requires-clause-given : goal.span_end-end-requires-clause-given
 span_end-end-requires-clause-given c =
     subst (λ given. IsTimeOf c.args.zones.zones.now (time_of given)) c.in-Span.is
-    (given-time c.args.zones c.args.event.now c.args.start.giver c.args.start.given c.requires.event c.requires.start.gives)
+    (given-time c.args.zones c.args.event.now c.args.start.source c.args.start.given c.requires.event c.requires.start.gives)
 
 pub span_end-end-requires-clause-end : goal.span_end-end-requires-clause-end
 span_end-end-requires-clause-end c =
     (subst (RdateBelow (length c.args.zones.zones.now)) c.in-Span.is
-    (gives-below (length c.args.zones.zones.now) (clocks_in c.args.zones) c.args.event.now c.args.start.giver c.args.start.given c.requires.event.below c.requires.start.gives)).1
+    (gives-below (length c.args.zones.zones.now) (clocks_in c.args.zones) c.args.event.now c.args.start.source c.args.start.given c.requires.event.below c.requires.start.gives)).1
 
 pub returns-clause-early : goal.returns-clause-early
 returns-clause-early c =

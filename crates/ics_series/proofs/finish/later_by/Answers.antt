@@ -2,7 +2,7 @@ use Rattle.std.proofs.Common.{◌≡◌, pos, ◌+ℤ◌, ◌*◌, w64, refl, ar
 use Rattle.std.proofs.lemmas.Int.{ints, to_z-of_z}
 use mir.Val.{SFits}
 use Rattle.ics_series.specs.Clocks.{Clock, clock_of, local_at}
-use Rattle.ics_series.specs.Zones.{clocks_in}
+use Rattle.ics_series.specs.FileZones.{clocks_in}
 use Rattle.ics_series.proofs.InstantLemmas.{moved}
 use Rattle.ics_series.proofs.finish.later_by.Goals as goal
 

@@ -2,7 +2,7 @@ use Rattle.std.proofs.Common.{◌≡◌, w32, w64, to_z, of_z, arith}
 use Rattle.std.proofs.lemmas.Int.{ints}
 use mir.Val.{SFits}
 use Rattle.ics_zone.specs.Displays.{moment_of}
-use Rattle.ics_zone.specs.Zones.{zone_of}
+use Rattle.ics_zone.specs.JiffZones.{zone_of}
 use Rattle.ics_series.proofs.InstantLemmas.{moved, result_near}
 use Rattle.ics_series.proofs.finish.midnight_after.Goals as goal
 

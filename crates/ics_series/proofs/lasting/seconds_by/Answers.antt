@@ -5,7 +5,7 @@ use Rattle.ics_calendar.specs.declared.time.Length.TheVariants.{Until}
 use Rattle.ics_calendar.specs.Event.{IsLasting, IsLength}
 use Rattle.ics_series.specs.Clocks.{instant}
 use Rattle.ics_series.specs.Finish.{seconds_by}
-use Rattle.ics_series.specs.Zones.{clocks_in, IsEndOf}
+use Rattle.ics_series.specs.FileZones.{clocks_in, IsEndOf}
 use Rattle.ics_series.proofs.InstantLemmas.{early, late, lasting-seconds, until-seconds}
 use Rattle.ics_series.proofs.lasting.seconds_by.Goals as goal
 

@@ -14,7 +14,7 @@ use Rattle.ics_series.specs.Clocks.{display_clock}
 use Rattle.ics_series.specs.Entry.{entry_cmp, key_rank}
 use Rattle.ics_series.specs.Listing.{IsListing}
 use Rattle.ics_series.specs.Masters.{HasLists, HasSources, HasWhole, IsOfVersion, IsSourceOf, Recurs}
-use Rattle.ics_series.specs.Parts.{part_coming, part_sources}
+use Rattle.ics_series.specs.AgendaParts.{part_coming, part_sources}
 use Rattle.ics_series.specs.SeriesFeed.{series_left, series_of, series_sources}
 use Rattle.ics_series.specs.Sources.{Recurring}
 use Rattle.ics_series.specs.Sources.Source.{Of}

@@ -6,7 +6,7 @@ use Rattle.ics_series.specs.declared.window.Window.{Window}
 use Rattle.ics_series.specs.Clocks.{display_clock}
 use Rattle.ics_series.specs.Entry.{Entry, key_rank}
 use Rattle.ics_series.specs.Masters.{HasLists, HasSources}
-use Rattle.ics_series.specs.Parts.{part_coming, part_sources}
+use Rattle.ics_series.specs.AgendaParts.{part_coming, part_sources}
 use Rattle.ics_series.specs.Versions.{seen}
 use Rattle.ics_series.proofs.masters.push_series.Given as goal
 

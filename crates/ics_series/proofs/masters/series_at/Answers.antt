@@ -13,7 +13,7 @@ use Rattle.ics_series.specs.SeriesFeed.{series_left, series_of}
 use Rattle.ics_series.specs.Singles.{is_single}
 use Rattle.ics_series.specs.Sources.{IsFrom, Recurring}
 use Rattle.ics_series.specs.Versions.{seen, subject_seen}
-use Rattle.ics_series.specs.Zones.{clocks_in}
+use Rattle.ics_series.specs.FileZones.{clocks_in}
 use Rattle.ics_series.proofs.GivenLemmas.{stands}
 use Rattle.ics_series.proofs.OverriddenLemmas.{chosen-order}
 use Rattle.ics_series.proofs.RecurringLemmas.{not-single, own-subject, series-listing, single-none, there-in, version-there, whole-version}

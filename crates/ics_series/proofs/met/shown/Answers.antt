@@ -6,7 +6,7 @@ use Rattle.ics_series.specs.Entry.{Entry, entry_of}
 use Rattle.ics_series.specs.Exclusions.{is_excluded, takes_out}
 use Rattle.ics_series.specs.Meeting.{entry_from}
 use Rattle.ics_series.specs.Starts.{time_of}
-use Rattle.ics_series.specs.Zones.{clocks_in}
+use Rattle.ics_series.specs.FileZones.{clocks_in}
 use Rattle.ics_series.proofs.MeetingLemmas.{is_met-meets}
 use Rattle.ics_series.proofs.MetLemmas.{met-some, shown-none, shown-some, unmet}
 use Rattle.ics_series.proofs.met.shown.Goals as goal

@@ -1,14 +1,14 @@
 use Rattle.std.proofs.Common.{pos, ◌-ℤ◌, refl, arith}
 use Rattle.std.proofs.lemmas.Int.{int_max_is, int_min_is, ints}
-use Rattle.ics_series.specs.Days.{date_of}
+use Rattle.ics_series.specs.ShownDays.{day_of_local}
 use Rattle.ics_series.proofs.DayLemmas.{day-under}
 use Rattle.ics_series.proofs.near_day.near_day.Goals as goal
 
 pub invariant_of-result : goal.invariant_of-result
 invariant_of-result c =
     let w = c.args.window.now in
-    let first = day-under w.from (date_of w.from) refl in
-    let last = day-under (w.to -ℤ pos 1) (date_of (w.to -ℤ pos 1)) refl in
+    let first = day-under w.from (day_of_local w.from) refl in
+    let last = day-under (w.to -ℤ pos 1) (day_of_local (w.to -ℤ pos 1)) refl in
     let top = first.1 in
     let low = last.0 in
     let ordered = w.ordered in
@@ -25,8 +25,8 @@ invariant_of-result c =
 pub returns : goal.returns
 returns c =
     let w = c.args.window.now in
-    let first = day-under w.from (date_of w.from) refl in
-    let last = day-under (w.to -ℤ pos 1) (date_of (w.to -ℤ pos 1)) refl in
+    let first = day-under w.from (day_of_local w.from) refl in
+    let last = day-under (w.to -ℤ pos 1) (day_of_local (w.to -ℤ pos 1)) refl in
     let top = first.1 in
     let low = last.0 in
     let ordered = w.ordered in

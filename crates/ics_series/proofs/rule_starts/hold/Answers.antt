@@ -3,12 +3,12 @@ use Rattle.std.proofs.lemmas.Int.{ints}
 use mir.Val.{SFits}
 use Rattle.ics_values.specs.Days.{IsDayNumber}
 use Rattle.ics_values.specs.declared.local.Local.{Local}
-use Rattle.ics_rule.specs.Locals.{number}
+use Rattle.ics_values.specs.Locals.{number}
 use Rattle.ics_series.specs.declared.start.Start.{Start}
 use Rattle.ics_series.specs.Found.{start_at}
 use Rattle.ics_series.specs.RuleStarts.{gives, with_held}
-use Rattle.ics_series.specs.Zones.{clocks_in}
-use Rattle.ics_series.proofs.GiverLemmas.{calendar-day, own-day}
+use Rattle.ics_series.specs.FileZones.{clocks_in}
+use Rattle.ics_series.proofs.StartSourceLemmas.{calendar-day, own-day}
 use Rattle.ics_series.proofs.RuleLocalLemmas.{gives-by}
 use Rattle.ics_series.proofs.rule_starts.hold.Goals as goal
 

@@ -3,7 +3,7 @@ use Rattle.std.proofs.Common.{◌≡◌, ℤ, pos, ◌-ℤ◌, ◌*ℤ◌, ◌<�
 use Rattle.std.proofs.lemmas.Int.{ints}
 use mir.Val.{SFits}
 use Rattle.ics_series.specs.declared.start.Start.{Start}
-use Rattle.ics_series.specs.Clocks.{midnight}
+use Rattle.ics_values.specs.Locals.{midnight}
 use Rattle.ics_series.specs.RuleStarts.{is_ready}
 use Rattle.ics_series.proofs.rule_starts.is_ready.Goals as goal
 

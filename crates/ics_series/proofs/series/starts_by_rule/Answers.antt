@@ -6,11 +6,11 @@ use mir.Val.{SFits}
 use Rattle.ics_values.specs.Days.{IsDayNumber}
 use Rattle.ics_values.specs.declared.local.Local.{Local}
 use Rattle.ics_calendar.specs.declared.event.Event.{Event}
-use Rattle.ics_series.specs.Clocks.{seconds_of}
+use Rattle.ics_values.specs.Locals.{local_seconds}
 use Rattle.ics_series.specs.Found.{earliest}
 use Rattle.ics_series.specs.SeriesStarts.{first_asked}
 use Rattle.ics_series.specs.Starts.{local_of}
-use Rattle.ics_series.specs.Zones.{clocks_in}
+use Rattle.ics_series.specs.FileZones.{clocks_in}
 use Rattle.ics_series.proofs.series.starts_by_rule.Goals as goal
 
 pub first_nearby-from-requires-clause-early : goal.first_nearby-from-requires-clause-early
@@ -40,8 +40,8 @@ returns-clause-from c =
       has = search rules;
       from = c.first_nearby-from.result;
       day = c.first_nearby-from.ensures.day;
-      low = subst (λ t. seconds_of c.first_nearby-from.result ≤ℤ int_max (seconds_of (local_of event.start.stamp)) (t -ℤ pos 518_400)) first
-          (subst (λ (l : Local). seconds_of c.first_nearby-from.result ≤ℤ int_max (seconds_of l) (to_z w64 (of_z w64 c.max.result) -ℤ pos 518_400)) local c.first_nearby-from.ensures.low);
+      low = subst (λ t. local_seconds c.first_nearby-from.result ≤ℤ int_max (local_seconds (local_of event.start.stamp)) (t -ℤ pos 518_400)) first
+          (subst (λ (l : Local). local_seconds c.first_nearby-from.result ≤ℤ int_max (local_seconds l) (to_z w64 (of_z w64 c.max.result) -ℤ pos 518_400)) local c.first_nearby-from.ensures.low);
       gives = c.new.ensures.left;
     }
 
@@ -68,7 +68,7 @@ returns-clause-own c =
       event_is = ap (λ (b : Bor Event). b.now) c.new.ensures.event;
       window_is = c.new.ensures.window;
       day = subst (λ (l : Local). IsDayNumber l.day) (sym c.new.ensures.from) c.first_nearby-from.ensures.day;
-      late = subst (λ (l : Local). int_max (seconds_of (local_of event.start.stamp)) (first_asked clocks c.args.window event c.args.since c.args.listed.now -ℤ pos 604_800) ≤ℤ seconds_of l) (sym c.new.ensures.from)
-          (subst (λ t. int_max (seconds_of (local_of event.start.stamp)) (t -ℤ pos 604_800) ≤ℤ seconds_of c.first_nearby-from.result) first
-          (subst (λ (l : Local). int_max (seconds_of l) (to_z w64 (of_z w64 c.max.result) -ℤ pos 604_800) ≤ℤ seconds_of c.first_nearby-from.result) local c.first_nearby-from.ensures.late));
+      late = subst (λ (l : Local). int_max (local_seconds (local_of event.start.stamp)) (first_asked clocks c.args.window event c.args.since c.args.listed.now -ℤ pos 604_800) ≤ℤ local_seconds l) (sym c.new.ensures.from)
+          (subst (λ t. int_max (local_seconds (local_of event.start.stamp)) (t -ℤ pos 604_800) ≤ℤ local_seconds c.first_nearby-from.result) first
+          (subst (λ (l : Local). int_max (local_seconds l) (to_z w64 (of_z w64 c.max.result) -ℤ pos 604_800) ≤ℤ local_seconds c.first_nearby-from.result) local c.first_nearby-from.ensures.late));
     }

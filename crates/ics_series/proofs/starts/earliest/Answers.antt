@@ -4,8 +4,8 @@ use Rattle.std.proofs.lemmas.Int.{ints, int_min_is}
 use Rattle.ics_series.specs.Finish.{seconds_lasting}
 use Rattle.ics_series.specs.Found.{earlier, earliest_from, IsStart}
 use Rattle.ics_series.specs.Starts.{time_of}
-use Rattle.ics_series.specs.Zones.{clocks_in}
-use Rattle.ics_series.proofs.GiverLemmas.{rdate-time}
+use Rattle.ics_series.specs.FileZones.{clocks_in}
+use Rattle.ics_series.proofs.StartSourceLemmas.{rdate-time}
 use Rattle.ics_series.proofs.InstantLemmas.{early, late}
 use Rattle.ics_series.proofs.SoughtLemmas.{earliest-step}
 use Rattle.ics_series.proofs.starts.earliest.Goals as goal

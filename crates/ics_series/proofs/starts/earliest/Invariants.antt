@@ -1,6 +1,6 @@
 use Rattle.std.proofs.Common.{◌≡◌, ◌≤ℤ◌, neg_ℤ, pos, drop}
 use Rattle.ics_series.specs.Found.{earliest, earliest_from}
-use Rattle.ics_series.specs.Zones.{clocks_in}
+use Rattle.ics_series.specs.FileZones.{clocks_in}
 use Rattle.ics_series.proofs.starts.earliest.Given as goal
 
 -- with the starts from this one on it is the earliest that counts

@@ -1,6 +1,6 @@
 use Rattle.std.proofs.Common.{◌≡◌, ◌++◌, map, drop}
 use Rattle.ics_series.specs.Versions.{label_by, placed_from, seen}
-use Rattle.ics_series.specs.Zones.{clocks_in}
+use Rattle.ics_series.specs.FileZones.{clocks_in}
 use Rattle.ics_series.proofs.version.push_versions.Given as goal
 
 abbrev pub invariant-loop-place : goal.invariant-loop-place

@@ -2,9 +2,9 @@ use Rattle.std.proofs.Common.{◌≡◌, ◌<◌, List, ℕ, Option, Some, None,
 use Rattle.std.specs.Prelude.{option_map}
 use Rattle.std.specs.List.{prefix_len}
 use Rattle.ics_text.specs.Bytes.{is_name_byte}
-use Rattle.ics_text.specs.Contents.{Parts, IsContent, cut_at}
-use Rattle.ics_text.specs.Places.{colon_from}
-use Rattle.ics_text.specs.declared.place.Place.TheVariants.{InName}
+use Rattle.ics_text.specs.ContentLines.{Parts, IsContent, cut_at}
+use Rattle.ics_text.specs.ScanSteps.{colon_from}
+use Rattle.ics_text.specs.declared.scan_state.ScanState.TheVariants.{InName}
 use Rattle.ics_text.proofs.Colons.{no_name}
 use Rattle.ics_text.proofs.Parting.{CutBehind, reached, not_reached, slices_behind, is_content, same_parts, refuses}
 use Rattle.ics_text.proofs.content_line.content.Goals as goal

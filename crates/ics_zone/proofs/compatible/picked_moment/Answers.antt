@@ -5,7 +5,7 @@ use Rattle.jiff.proofs.SpanFacts.{signed_arith}
 use Rattle.jiff_core.specs.declared.civil.datetime.DateTime.{DateTime}
 use Rattle.jiff_tz.specs.declared.timezone.TimeZone.{TimeZone}
 use Rattle.ics_zone.specs.Displays.{moment_of}
-use Rattle.ics_zone.specs.Places.{local_seconds}
+use Rattle.ics_values.specs.Locals.{seconds_at}
 use Rattle.ics_zone.proofs.Readings.{reading_is}
 use Rattle.ics_zone.proofs.compatible.picked_moment.Goals as goal
 
@@ -19,7 +19,7 @@ returns c =
     let zone = plain_zone c.args.zone in
     let dt = c.datetime.result in
     let offset : ℤ = (compatible_offset (ambiguous_at zone dt)).seconds in
-    let local : ℤ = local_seconds c.args.local.day c.args.local.second in
+    let local : ℤ = seconds_at c.args.local.day c.args.local.second in
     let nanos : c.unwrap-instant.result.nanosecond ≡ picked_instant zone dt = IfOk-at_ok _ c.unwrap-instant.ensures c.to_timestamp.ensures.value in
     let parts = picked_seconds zone dt local c.datetime.ensures in
     let second : c.as_second.result ≡ local -ℤ offset = rw (c.as_second.ensures, nanos, parts) (omega (arith, signed_arith)) in

@@ -1,5 +1,5 @@
 use Rattle.std.proofs.Common.{◌≡◌, List, length, pos, ◌+ℤ◌, ◌≤ℤ◌}
-use Rattle.ics_zone.specs.Observances.{Phase}
+use Rattle.ics_zone.specs.Observances.{ObservanceSaid}
 use Rattle.ics_zone.specs.ZoneOnsets.{AreOnsetsOfAll}
 use Rattle.ics_zone.proofs.MarkLemmas.{AreOverrides, IsClearFrom}
 use Rattle.ics_zone.proofs.latest.clear_after.Given as goal
@@ -9,6 +9,6 @@ invariant-loop-place l = record {
   length : length l.over ≡ 60;
   some : pos 0 ≤ℤ l.clear;
   most : l.clear ≤ℤ pos 3_600;
-  over : (zone : List Phase) → AreOnsetsOfAll zone l.onsets → AreOverrides zone l.place l.fn.seconds (l.fn.after +ℤ pos 1) l.over;
-  clear : (zone : List Phase) → AreOnsetsOfAll zone l.onsets → IsClearFrom zone l.place l.fn.seconds l.fn.after (l.fn.after +ℤ pos 1 +ℤ l.clear);
+  over : (zone : List ObservanceSaid) → AreOnsetsOfAll zone l.onsets → AreOverrides zone l.place l.fn.seconds (l.fn.after +ℤ pos 1) l.over;
+  clear : (zone : List ObservanceSaid) → AreOnsetsOfAll zone l.onsets → IsClearFrom zone l.place l.fn.seconds l.fn.after (l.fn.after +ℤ pos 1 +ℤ l.clear);
 }

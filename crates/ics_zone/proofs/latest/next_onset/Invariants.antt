@@ -1,5 +1,5 @@
 use Rattle.std.proofs.Common.{List, ◌<ℤ◌, ◌≤ℤ◌}
-use Rattle.ics_zone.specs.Observances.{Phase}
+use Rattle.ics_zone.specs.Observances.{ObservanceSaid}
 use Rattle.ics_zone.specs.ZoneOnsets.{AreOnsetsOfAll}
 use Rattle.ics_zone.proofs.ZoneSteps.{NoneBetweenTo}
 use Rattle.ics_zone.proofs.latest.next_onset.Given as goal
@@ -8,5 +8,5 @@ abbrev pub invariant-loop-one : goal.invariant-loop-one
 invariant-loop-one l = record {
   later : l.fn.after <ℤ l.next;
   in_bound : l.next ≤ℤ l.fn.limit;
-  none : (zone : List Phase) → AreOnsetsOfAll zone l.onsets → NoneBetweenTo zone l.one-index l.fn.after l.next;
+  none : (zone : List ObservanceSaid) → AreOnsetsOfAll zone l.onsets → NoneBetweenTo zone l.one-index l.fn.after l.next;
 }

@@ -1,8 +1,8 @@
 use Rattle.std.proofs.Common.{List}
-use Rattle.ics_zone.specs.Observances.{Phase}
+use Rattle.ics_zone.specs.Observances.{ObservanceSaid}
 use Rattle.ics_zone.specs.ZoneOnsets.{AreOnsetsOfAll}
 use Rattle.ics_zone.proofs.ZoneSteps.{AreLessTo}
 use Rattle.ics_zone.proofs.latest.overrides.Given as goal
 
 abbrev pub invariant-loop-other : goal.invariant-loop-other
-invariant-loop-other l = (zone : List Phase) → AreOnsetsOfAll zone l.onsets → AreLessTo zone l.other l.fn.offset l.fn.moment l.at l.place
+invariant-loop-other l = (zone : List ObservanceSaid) → AreOnsetsOfAll zone l.onsets → AreLessTo zone l.other l.fn.offset l.fn.moment l.at l.place

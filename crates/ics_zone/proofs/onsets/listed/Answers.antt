@@ -1,6 +1,6 @@
 use Rattle.std.proofs.Common.{rules, SFits, w32, w64, ◌∙◌, ◌++◌, [], ◌∷◌, List, ℤ, ap, subst, sym}
 use Rattle.std.proofs.lemmas.Int.{to_z-of_z}
-use Rattle.ics_zone.specs.Observances.{phase_of}
+use Rattle.ics_zone.specs.Observances.{observance_said}
 use Rattle.ics_zone.proofs.ListingLemmas.{IsListedTo, listed_first, listed_more, listing_of}
 use Rattle.ics_zone.proofs.onsets.listed.Goals as goal
 
@@ -10,9 +10,9 @@ loop-rdate-init c =
     let small : SFits w64 c.instant.result = search rules in
     let items = simp to_z-of_z at c.in_ok-push.ensures.items in
     let at = simp (to_z-of_z, c.number.ensures.value) at c.instant.ensures in
-    subst (λ (list : List ℤ). IsListedTo (phase_of c.args.observance.now) [] list)
+    subst (λ (list : List ℤ). IsListedTo (observance_said c.args.observance.now) [] list)
     (sym (items ∙ ap (λ (old : List ℤ). old ++ c.instant.result ∷ []) c.new-listed.ensures.items))
-    (listed_first (phase_of c.args.observance.now) c.instant.result at)
+    (listed_first (observance_said c.args.observance.now) c.instant.result at)
 
 pub loop-rdate-preserved : goal.loop-rdate-preserved
 loop-rdate-preserved c =
@@ -22,12 +22,12 @@ loop-rdate-preserved c =
     let is = rw c.deref-rdate-items.ensures.value at c.rdate-item.is in
     let items = simp to_z-of_z at c.in_ok-push-2.ensures.items in
     let at = simp (to_z-of_z, c.number-in-loop-rdate.ensures.value) at c.instant-in-loop-rdate.ensures in
-    listed_more (phase_of c.args.observance.now) c.args.observance.now.rdates.items c.loop-rdate.rdate-index c.rdate-item.result _ _
+    listed_more (observance_said c.args.observance.now) c.args.observance.now.rdates.items c.loop-rdate.rdate-index c.rdate-item.result _ _
     c.instant-in-loop-rdate.result
     inside is at items c.loop-rdate.invariant
 
 pub returns : goal.returns
 returns c =
     let past = rw c.deref-rdate-items.ensures.value at c.loop-rdate-test.false in
-    listing_of (phase_of c.args.observance.now) c.loop-rdate.rdate-index c.loop-rdate.listed.items c.sort_unstable.new.self.items past c.loop-rdate.invariant
+    listing_of (observance_said c.args.observance.now) c.loop-rdate.rdate-index c.loop-rdate.listed.items c.sort_unstable.new.self.items past c.loop-rdate.invariant
     c.sort_unstable.ensures.permutation c.sort_unstable.ensures.sorted

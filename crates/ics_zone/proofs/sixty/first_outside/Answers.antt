@@ -1,12 +1,12 @@
 use Rattle.std.proofs.Common.{arith, ◌∙◌, ap}
-use Rattle.ics_values.specs.Sets.{has}
-use Rattle.ics_zone.proofs.SixtyLemmas.{has-none, all_inside, first_place}
+use Rattle.ics_values.specs.Sets.{contains}
+use Rattle.ics_zone.proofs.SixtyLemmas.{contains-none, all_inside, first_place}
 use Rattle.ics_zone.proofs.sixty.first_outside.Goals as goal
 
 pub returns-then-rest-eq0 : goal.returns-then-rest-eq0
 returns-then-rest-eq0 c = λ n low.
     all_inside c.args.word c.args.other c.front-rest.result (omega arith) c.front-rest.ensures.members n low
-    (ap (λ x. has x n) c.if-rest-eq0.true ∙ has-none n)
+    (ap (λ x. contains x n) c.if-rest-eq0.true ∙ contains-none n)
 
 pub returns : goal.returns
 returns c = first_place c.args.word c.args.other c.front-rest.result (omega arith) c.front-rest.ensures.members c.if-rest-eq0.false (omega arith)

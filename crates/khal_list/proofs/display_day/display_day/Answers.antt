@@ -4,12 +4,13 @@ use Rattle.std.proofs.lemmas.Int.{to_z-of_z}
 use Rattle.jiff_core.proofs.SignedLemmas.{signed_arith}
 use Rattle.jiff_core.specs.Calendar.{IsBetween}
 use Rattle.ics_zone.specs.Near.{offset_near}
-use Rattle.ics_zone.specs.Places.{local_seconds, IsNear}
-use Rattle.ics_zone.specs.Zones.{zone_of}
+use Rattle.ics_zone.specs.Seconds.{IsNear}
+use Rattle.ics_values.specs.Locals.{seconds_at}
+use Rattle.ics_zone.specs.JiffZones.{zone_of}
 use Rattle.khal_list.proofs.display_day.display_day.Goals as goal
 
 -- a local near an instant of those years lies in the years 0000 to 9999
-day_within : (day : ℤ) (second : ℕ) (moment offset : ℤ) → second < 86_400 → local_seconds day second ≡ moment +ℤ offset → IsNear offset
+day_within : (day : ℤ) (second : ℕ) (moment offset : ℤ) → second < 86_400 → seconds_at day second ≡ moment +ℤ offset → IsNear offset
     → neg_ℤ (pos 62_135_769_600) ≤ℤ moment → moment ≤ℤ pos 251_856_172_799 → IsBetween (neg_ℤ (pos 719_527)) (pos 2_932_896) day
 day_within day second moment offset small same near early late = (omega (arith, signed_arith), omega (arith, signed_arith))
 

@@ -1,12 +1,13 @@
 use Rattle.std.proofs.Common.{◌-ℤ◌, arith}
 use Rattle.jiff.proofs.SpanFacts.{signed_arith}
 use Rattle.ics_zone.specs.Near.{moment_near}
-use Rattle.ics_zone.specs.Places.{local_seconds, IsNear}
-use Rattle.ics_zone.specs.Zones.{zone_of}
+use Rattle.ics_zone.specs.Seconds.{IsNear}
+use Rattle.ics_values.specs.Locals.{seconds_at}
+use Rattle.ics_zone.specs.JiffZones.{zone_of}
 use Rattle.khal_list.proofs.window.instant.Goals as goal
 
 pub returns-clause-near : goal.returns-clause-near
 returns-clause-near c =
-    let local = local_seconds c.args.local.day c.args.local.second in
+    let local = seconds_at c.args.local.day c.args.local.second in
     let near : IsNear (c.moment.result -ℤ local) = rw c.moment.ensures.value (moment_near (zone_of c.args.zone) local) in
     (omega (arith, signed_arith), omega (arith, signed_arith))

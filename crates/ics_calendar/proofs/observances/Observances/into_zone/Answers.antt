@@ -1,15 +1,15 @@
 use Rattle.std.proofs.Common.{◌≡◌, false, ◌||◌, List, [], ◌∷◌, refl, ap, ◌∙◌}
 use Rattle.std.specs.List.{All, list_any}
 use Rattle.std.proofs.lemmas.List.Elements.{All-head, All-tail}
-use Rattle.ics_zone.specs.Observances.{Phase, has_finer_rule}
-use Rattle.ics_calendar.specs.ZonesSound.{IsSoundPhase}
+use Rattle.ics_zone.specs.Observances.{ObservanceSaid, has_finer_rule}
+use Rattle.ics_calendar.specs.ZonesSound.{IsSoundObservance}
 use Rattle.ics_calendar.proofs.observances.Observances.into_zone.Goals as goal
 
-none-finer : (ps : List Phase) → All IsSoundPhase ps → list_any has_finer_rule ps ≡ false
+none-finer : (ps : List ObservanceSaid) → All IsSoundObservance ps → list_any has_finer_rule ps ≡ false
 none-finer [] sound = refl
 none-finer (p ∷ ps) sound =
-    ap (λ t. t || list_any has_finer_rule ps) (All-head IsSoundPhase p ps sound).daily
-    ∙ none-finer ps (All-tail IsSoundPhase p ps sound)
+    ap (λ t. t || list_any has_finer_rule ps) (All-head IsSoundObservance p ps sound).daily
+    ∙ none-finer ps (All-tail IsSoundObservance p ps sound)
 
 pub zone_of-requires-clause-daily : goal.zone_of-requires-clause-daily
 zone_of-requires-clause-daily c = ap (list_any has_finer_rule) c.in_ok-into_observances.ensures ∙ none-finer c.args.self c.requires.sound

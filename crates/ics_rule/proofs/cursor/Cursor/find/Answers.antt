@@ -1,7 +1,7 @@
 use Rattle.std.proofs.Common.{◌∙◌, ap}
-use Rattle.ics_values.specs.Places.{lists_none_wide}
+use Rattle.ics_values.specs.Ordinals.{lists_none_wide}
 use Rattle.ics_rule.specs.declared.cursor.Cursor.{Cursor}
-use Rattle.ics_rule.specs.Periods.{is_taken}
+use Rattle.ics_rule.specs.RecurrencePeriods.{is_taken}
 use Rattle.ics_rule.specs.Searches.{is_chosen_within, after_look}
 use Rattle.ics_rule.proofs.ChosenLemmas.{taken_within}
 use Rattle.ics_rule.proofs.CursorLemmas.{begins_look, looks_more, next_same, looks_once, fresh_some, fresh_none}

@@ -3,8 +3,8 @@ use Rattle.std.specs.Option.{option_map}
 use Rattle.ics_values.specs.declared.local.Local.{Local}
 use Rattle.ics_rule.specs.declared.cursor.Cursor.{Cursor}
 use Rattle.ics_rule.specs.Recurrence.{Recurrence}
-use Rattle.ics_rule.specs.Locals.{number}
-use Rattle.ics_rule.specs.Filled.{filled}
+use Rattle.ics_values.specs.Locals.{number}
+use Rattle.ics_rule.specs.EffectiveRules.{effective}
 use Rattle.ics_rule.specs.Candidates.{period_in}
 use Rattle.ics_rule.specs.Cursors.{known_to, IsCursorOf, HasCounted, HasLooked, IsCursorIn, HasLookedIn}
 use Rattle.ics_rule.proofs.cursor.Cursor.next.Goals as goal
@@ -17,31 +17,31 @@ start_is c = c.number.ensures.value ∙ ap (λ (r : Recurrence). number r.start)
 pub next_number-requires-clause-own : goal.next_number-requires-clause-own
 unfolding IsCursorOf
 next_number-requires-clause-own c =
-    subst (λ s. IsCursorIn (filled c.args.rule.now) s c.args.rule.now.parts.count c.args.self.now) (sym (start_is (goal.at.next_number-requires-clause-own c).After-number)) c.requires.own
+    subst (λ s. IsCursorIn (effective c.args.rule.now) s c.args.rule.now.parts.count c.args.self.now) (sym (start_is (goal.at.next_number-requires-clause-own c).After-number)) c.requires.own
 
 pub returns-in_err-n-clause-own : goal.returns-in_err-n-clause-own
 unfolding IsCursorOf
 returns-in_err-n-clause-own c =
-    subst (λ s. IsCursorIn (filled c.args.rule.now) s c.args.rule.now.parts.count c.next_number.new.self) (start_is (goal.at.returns-in_err-n-clause-own c).After-number) c.next_number.ensures.own
+    subst (λ s. IsCursorIn (effective c.args.rule.now) s c.args.rule.now.parts.count c.next_number.new.self) (start_is (goal.at.returns-in_err-n-clause-own c).After-number) c.next_number.ensures.own
 
 pub returns-in_err-n-clause-looked : goal.returns-in_err-n-clause-looked
 unfolding HasLooked
 returns-in_err-n-clause-looked c = λ a b h few.
-    subst (λ s. HasLookedIn (filled c.args.rule.now) s c.args.rule.now.parts.count c.next_number.new.self a b) (start_is (goal.at.returns-in_err-n-clause-looked c).After-number)
+    subst (λ s. HasLookedIn (effective c.args.rule.now) s c.args.rule.now.parts.count c.next_number.new.self a b) (start_is (goal.at.returns-in_err-n-clause-looked c).After-number)
     (c.in_err-n.ensures.looked a b (omega (arith, c.number-2.ensures.value, subst (λ o. known_to (option_map number o) (number c.args.before) ≤ b) c.from_residual.ensures h))
-    (subst (λ s. HasLookedIn (filled c.args.rule.now) s c.args.rule.now.parts.count c.args.self.now a b) (sym (start_is (goal.at.returns-in_err-n-clause-looked c).After-number)) few))
+    (subst (λ s. HasLookedIn (effective c.args.rule.now) s c.args.rule.now.parts.count c.args.self.now a b) (sym (start_is (goal.at.returns-in_err-n-clause-looked c).After-number)) few))
 
 pub returns-clause-own : goal.returns-clause-own
 unfolding IsCursorOf
 returns-clause-own c =
-    subst (λ s. IsCursorIn (filled c.args.rule.now) s c.args.rule.now.parts.count c.next_number.new.self) (start_is (goal.at.returns-clause-own c).After-number) c.next_number.ensures.own
+    subst (λ s. IsCursorIn (effective c.args.rule.now) s c.args.rule.now.parts.count c.next_number.new.self) (start_is (goal.at.returns-clause-own c).After-number) c.next_number.ensures.own
 
 pub returns-clause-looked : goal.returns-clause-looked
 unfolding HasLooked
 returns-clause-looked c = λ a b h few.
-    subst (λ s. HasLookedIn (filled c.args.rule.now) s c.args.rule.now.parts.count c.next_number.new.self a b) (start_is (goal.at.returns-clause-looked c).After-number)
+    subst (λ s. HasLookedIn (effective c.args.rule.now) s c.args.rule.now.parts.count c.next_number.new.self a b) (start_is (goal.at.returns-clause-looked c).After-number)
     (c.in_ok-n.ensures.looked a b (omega (arith, h, c.local_of.ensures.value))
-    (subst (λ s. HasLookedIn (filled c.args.rule.now) s c.args.rule.now.parts.count c.args.self.now a b) (sym (start_is (goal.at.returns-clause-looked c).After-number)) few))
+    (subst (λ s. HasLookedIn (effective c.args.rule.now) s c.args.rule.now.parts.count c.args.self.now a b) (sym (start_is (goal.at.returns-clause-looked c).After-number)) few))
 
 none_counted : (r : Recurrence) (o : Option Local) (before now : Cursor) → o ≡ None → before.steps ≤ now.steps → HasCounted r o before now
 none_counted r None before now e rise = record { rise = rise; some = tt; more = tt }
@@ -56,5 +56,5 @@ returns-clause-counted c = let start = start_is (goal.at.returns-clause-counted 
   rise = c.next_number.ensures.rise;
   some = λ late. c.in_ok-n.ensures.shown (omega (arith, late, start, c.local_of.ensures.value));
   more = λ late later. c.in_ok-n.ensures.counts (omega (arith, late, start, c.local_of.ensures.value))
-      (subst (λ n. period_in (filled c.args.rule.now) c.args.self.now.place < period_in (filled c.args.rule.now) n) c.local_of.ensures.value later);
+      (subst (λ n. period_in (effective c.args.rule.now) c.args.self.now.place < period_in (effective c.args.rule.now) n) c.local_of.ensures.value later);
 }

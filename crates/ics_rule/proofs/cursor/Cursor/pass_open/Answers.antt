@@ -3,7 +3,7 @@ use Rattle.jiff_core.specs.Weekday.{monday_zero}
 use Rattle.ics_rule.specs.declared.cursor.Cursor.{Cursor}
 use Rattle.ics_rule.specs.Candidates.{is_stepped, period_in}
 use Rattle.ics_rule.specs.Kept.{count, is_chosen}
-use Rattle.ics_rule.specs.Periods.{first_local}
+use Rattle.ics_rule.specs.RecurrencePeriods.{first_local}
 use Rattle.ics_rule.specs.Searches.{IsWalked}
 use Rattle.ics_rule.proofs.CountingLemmas.{IsCounting, counting_stopped}
 use Rattle.ics_rule.proofs.EachLemmas.{IsOpenEnd, open_end}

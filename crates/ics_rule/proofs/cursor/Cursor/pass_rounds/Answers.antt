@@ -2,7 +2,7 @@ use Rattle.std.proofs.Common.{◌≡◌, ◌∙◌, ℕ, ◌+◌, ◌-◌, ◌*�
 use Rattle.jiff_core.specs.Weekday.{monday_zero}
 use Rattle.ics_rule.specs.Candidates.{is_stepped, period_in}
 use Rattle.ics_rule.specs.Kept.{count, is_chosen}
-use Rattle.ics_rule.specs.Periods.{first_local}
+use Rattle.ics_rule.specs.RecurrencePeriods.{first_local}
 use Rattle.ics_rule.specs.Searches.{IsNextOpen}
 use Rattle.ics_rule.specs.Rounds.{IsPassedTo}
 use Rattle.ics_rule.proofs.PeriodLemmas.{begun}

@@ -1,5 +1,5 @@
 use Rattle.std.proofs.Common.{◌≡◌, ◌+◌, ℕ, ◌⊎◌, inl, inr, ap, refl, arith}
-use Rattle.ics_rule.specs.declared.filled.Filled.{Filled}
+use Rattle.ics_rule.specs.declared.effective_rule.EffectiveRule.{EffectiveRule}
 use Rattle.ics_rule.specs.declared.cursor.Cursor.{Cursor}
 use Rattle.ics_rule.specs.Searches.{IsPassed}
 use Rattle.ics_rule.proofs.CursorLemmas.{begins_look, looks_more, looks_once, fresh_some, fresh_none}
@@ -8,7 +8,7 @@ use Rattle.ics_rule.proofs.cursor.Cursor.turn_to.Goals as goal
 use Rattle.ics_rule.proofs.cursor.Cursor.turn_to.Goals.{After-taken_before-before}
 
 -- the period held is the one before
-step_before : (q : Filled) (start a b : ℕ) → (a ≡ b) ⊎ IsPassed q start (a + q.interval) b → (a ≡ b → ⊥) → IsPassed q start (a + q.interval) b
+step_before : (q : EffectiveRule) (start a b : ℕ) → (a ≡ b) ⊎ IsPassed q start (a + q.interval) b → (a ≡ b → ⊥) → IsPassed q start (a + q.interval) b
 step_before q start a b (inl same) other = absurd (other same)
 step_before q start a b (inr on) other = on
 

@@ -1,5 +1,5 @@
 use Rattle.std.proofs.Common.{◌∙◌, ◌≤◌, sym, arith}
-use Rattle.ics_values.specs.Sets.{has, has_wide}
+use Rattle.ics_values.specs.Sets.{contains, contains_wide}
 use Rattle.ics_rule.specs.Candidates.{lists}
 use Rattle.ics_rule.proofs.RunLemmas.{day_none, day_added, day_done, listed_within}
 use Rattle.ics_rule.proofs.runs.Run.add_month_days.Goals as goal
@@ -11,16 +11,16 @@ inside c =
     (some, listed_within c.in-Some.n c.args.self.len (lists c.args.month_days.now c.in-Some.n c.args.self.len) (sym (c.listed-listed.ensures c.in-Some.n some) ∙ c.in-Some.ensures.next.passes))
 
 pub loop-n-init : goal.loop-n-init
-loop-n-init c = (λ m. day_none c.args.self (has c.listed-listed.result) 1 m (has_wide c.args.days.now m) (has_wide c.args.days.now m), (omega arith, omega arith))
+loop-n-init c = (λ m. day_none c.args.self (contains c.listed-listed.result) 1 m (contains_wide c.args.days.now m) (contains_wide c.args.days.now m), (omega arith, omega arith))
 
-pub add-requires : goal.add-requires
-add-requires c = let i = inside (goal.at.add-requires c).In-Some in omega (arith, i.0, i.1, c.requires.within)
+pub insert-requires : goal.insert-requires
+insert-requires c = let i = inside (goal.at.insert-requires c).In-Some in omega (arith, i.0, i.1, c.requires.within)
 
 pub loop-n-preserved : goal.loop-n-preserved
 loop-n-preserved c = let i = inside (goal.at.loop-n-preserved c).In-Some in (
-  λ m. c.add.ensures.members m ∙ day_added c.args.self (has c.listed-listed.result) c.loop-n.from m (has_wide c.args.days.now m) (has_wide c.loop-n.days m) c.in-Some.n i.0 i.1 c.in-Some.ensures.next (c.loop-n.invariant.0 m),
+  λ m. c.insert.ensures.members m ∙ day_added c.args.self (contains c.listed-listed.result) c.loop-n.from m (contains_wide c.args.days.now m) (contains_wide c.loop-n.days m) c.in-Some.n i.0 i.1 c.in-Some.ensures.next (c.loop-n.invariant.0 m),
   (omega arith, omega (arith, c.in-Some.ensures.small)),
 )
 
 pub returns : goal.returns
-returns c = λ m. day_done c.args.self (has c.listed-listed.result) c.loop-n.from m (has_wide c.args.days.now m) (has_wide c.loop-n.days m) (λ n. lists c.args.month_days.now n c.args.self.len) c.in_default.ensures.next c.listed-listed.ensures (c.loop-n.invariant.0 m)
+returns c = λ m. day_done c.args.self (contains c.listed-listed.result) c.loop-n.from m (contains_wide c.args.days.now m) (contains_wide c.loop-n.days m) (λ n. lists c.args.month_days.now n c.args.self.len) c.in_default.ensures.next c.listed-listed.ensures (c.loop-n.invariant.0 m)

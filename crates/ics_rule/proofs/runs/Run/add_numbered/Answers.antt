@@ -1,5 +1,5 @@
 use Rattle.std.proofs.Common.{◌∙◌, ◌+◌, ◌-◌, ◌*◌, ◌≤◌, ◌<◌, sym, arith}
-use Rattle.ics_values.specs.Sets.{has, has_wide}
+use Rattle.ics_values.specs.Sets.{contains, contains_wide}
 use Rattle.ics_rule.specs.Candidates.{lists}
 use Rattle.ics_rule.proofs.RunLemmas.{number_none, number_added, number_done, listed_within}
 use Rattle.ics_rule.proofs.runs.Run.add_numbered.Goals as goal
@@ -13,21 +13,21 @@ inside c =
 
 pub loop-n-init : goal.loop-n-init
 loop-n-init c = (
-  λ m. number_none c.args.self (has c.listed-listed.result) c.args.weekday c.first_on-first.result 1 m (has_wide c.args.days.now m) (has_wide c.args.days.now m) c.first_on-first.ensures.place c.first_on-first.ensures.early,
+  λ m. number_none c.args.self (contains c.listed-listed.result) c.args.weekday c.first_on-first.result 1 m (contains_wide c.args.days.now m) (contains_wide c.args.days.now m) c.first_on-first.ensures.place c.first_on-first.ensures.early,
   (omega arith, omega arith),
 )
 
-pub add-requires : goal.add-requires
-add-requires c = let i = inside (goal.at.add-requires c).In-Some in omega (arith, i.0, i.1, c.requires.within)
+pub insert-requires : goal.insert-requires
+insert-requires c = let i = inside (goal.at.insert-requires c).In-Some in omega (arith, i.0, i.1, c.requires.within)
 
 pub loop-n-preserved : goal.loop-n-preserved
 loop-n-preserved c = let i = inside (goal.at.loop-n-preserved c).In-Some in (
-  λ m. c.add.ensures.members m
-      ∙ number_added c.args.self (has c.listed-listed.result) c.args.weekday c.first_on-first.result c.loop-n.from m (has_wide c.args.days.now m) (has_wide c.loop-n.days m) c.first_on-first.ensures.place c.first_on-first.ensures.early
+  λ m. c.insert.ensures.members m
+      ∙ number_added c.args.self (contains c.listed-listed.result) c.args.weekday c.first_on-first.result c.loop-n.from m (contains_wide c.args.days.now m) (contains_wide c.loop-n.days m) c.first_on-first.ensures.place c.first_on-first.ensures.early
       c.in-Some.n i.0 i.1 c.in-Some.ensures.next (c.loop-n.invariant.0 m),
   (omega arith, omega (arith, c.in-Some.ensures.small)),
 )
 
 pub returns : goal.returns
-returns c = λ m. number_done c.args.self (has c.listed-listed.result) c.args.weekday c.first_on-first.result c.loop-n.from m (has_wide c.args.days.now m) (has_wide c.loop-n.days m) c.first_on-first.ensures.place c.first_on-first.ensures.early
+returns c = λ m. number_done c.args.self (contains c.listed-listed.result) c.args.weekday c.first_on-first.result c.loop-n.from m (contains_wide c.args.days.now m) (contains_wide c.loop-n.days m) c.first_on-first.ensures.place c.first_on-first.ensures.early
     c.args.numbers.now _ c.days_from.ensures (omega (arith, c.first_on-first.ensures.early, c.requires.some)) c.in_default.ensures.next c.listed-listed.ensures (c.loop-n.invariant.0 m)

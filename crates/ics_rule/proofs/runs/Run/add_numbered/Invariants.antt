@@ -1,11 +1,11 @@
 use Rattle.std.proofs.Common.{◌≡◌, ℕ, ◌≤◌, ◌+◌, ◌-◌, ◌/◌, ◌&&◌, ◌||◌, ◌==◌, nat_lt}
-use Rattle.ics_values.specs.Sets.{has, has_wide}
+use Rattle.ics_values.specs.Sets.{contains, contains_wide}
 use Rattle.ics_rule.specs.Runs.{has_run, weekday_in}
 use Rattle.ics_rule.proofs.runs.Run.add_numbered.Given as goal
 
 abbrev pub invariant-loop-n : goal.invariant-loop-n
-invariant-loop-n l = ((m : ℕ) → has_wide l.days m ≡ (has_wide l.fn.days m
-    || (has_run l.self m && ((weekday_in l.self (m - l.self.start) == l.weekday) && (nat_lt ((m - l.self.start) / 7 + 1) l.from && has l.listed ((m - l.self.start) / 7 + 1))))))
+invariant-loop-n l = ((m : ℕ) → contains_wide l.days m ≡ (contains_wide l.fn.days m
+    || (has_run l.self m && ((weekday_in l.self (m - l.self.start) == l.weekday) && (nat_lt ((m - l.self.start) / 7 + 1) l.from && contains l.listed ((m - l.self.start) / 7 + 1))))))
     × ((1 ≤ l.from) × (l.from ≤ 64))
 
 abbrev pub decreases-loop-n : goal.decreases-loop-n

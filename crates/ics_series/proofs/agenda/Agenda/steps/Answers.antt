@@ -1,6 +1,6 @@
 use Rattle.std.proofs.Common.{arith}
 use Rattle.ics_series.specs.Leads.{listed, past}
-use Rattle.ics_series.specs.Parts.{part_coming}
+use Rattle.ics_series.specs.AgendaParts.{part_coming}
 use Rattle.ics_series.proofs.StepsLaws.{steps-of-leads}
 use Rattle.ics_series.proofs.agenda.Agenda.steps.Goals as goal
 

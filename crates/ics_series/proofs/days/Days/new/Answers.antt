@@ -4,7 +4,7 @@ use Rattle.std.specs.Option.{option_map}
 use Rattle.std.proofs.lemmas.Int.{ints}
 use Rattle.ics_calendar.specs.Event.{said_by}
 use Rattle.ics_zone.specs.Near.{offset_near}
-use Rattle.ics_zone.specs.Zones.{zone_of}
+use Rattle.ics_zone.specs.JiffZones.{zone_of}
 use Rattle.ics_series.specs.Ahead.{agenda_coming}
 use Rattle.ics_series.specs.Clocks.{display_clock}
 use Rattle.ics_series.specs.DayMasters.{agenda_sources, scope_in, IsFromStart}

@@ -3,7 +3,7 @@ use Rattle.std.proofs.Common.{rules, ◌≡◌, ◌∷◌, List, map, Option, No
 use Rattle.std.proofs.lemmas.Int.{ints}
 use Rattle.ics_calendar.specs.Event.{said_by}
 use Rattle.ics_zone.specs.Near.{offset_near}
-use Rattle.ics_zone.specs.Zones.{zone_of}
+use Rattle.ics_zone.specs.JiffZones.{zone_of}
 use Rattle.ics_series.specs.declared.occurrence.Occurrence.{Occurrence}
 use Rattle.ics_series.specs.Ahead.{agenda_coming, GivesToday, IsAhead}
 use Rattle.ics_series.specs.Clocks.{display_clock}

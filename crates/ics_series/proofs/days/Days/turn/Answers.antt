@@ -4,11 +4,11 @@ use Rattle.std.proofs.Math.Logic.{∥∥₁_elim}
 use Rattle.std.proofs.lemmas.Int.{ints}
 use Rattle.ics_calendar.specs.Event.{said_by}
 use Rattle.ics_zone.specs.Near.{offset_near}
-use Rattle.ics_zone.specs.Zones.{zone_of}
+use Rattle.ics_zone.specs.JiffZones.{zone_of}
 use Rattle.ics_series.specs.Ahead.{agenda_coming}
 use Rattle.ics_series.specs.Clocks.{display_clock}
 use Rattle.ics_series.specs.DayMasters.{agenda_sources, scope_in}
-use Rattle.ics_series.specs.Days.{date_of}
+use Rattle.ics_series.specs.ShownDays.{day_of_local}
 use Rattle.ics_series.specs.Sources.{recurring}
 use Rattle.ics_series.proofs.AheadLemmas.{ahead-turned}
 use Rattle.ics_series.proofs.DayLemmas.{day-under}
@@ -20,8 +20,8 @@ pub invariant_of-drop : goal.invariant_of-drop
 invariant_of-drop c =
     let self = c.args.self.now in
     let w = self.window in
-    let first = day-under w.from (date_of w.from) refl in
-    let last = day-under (w.to -ℤ pos 1) (date_of (w.to -ℤ pos 1)) refl in
+    let first = day-under w.from (day_of_local w.from) refl in
+    let last = day-under (w.to -ℤ pos 1) (day_of_local (w.to -ℤ pos 1)) refl in
     let top = first.1 in
     let low = last.0 in
     let early = w.not_early in
@@ -51,8 +51,8 @@ pub returns-clause-day : goal.returns-clause-day
 returns-clause-day c =
     let self = c.args.self.now in
     let w = self.window in
-    let first = day-under w.from (date_of w.from) refl in
-    let last = day-under (w.to -ℤ pos 1) (date_of (w.to -ℤ pos 1)) refl in
+    let first = day-under w.from (day_of_local w.from) refl in
+    let last = day-under (w.to -ℤ pos 1) (day_of_local (w.to -ℤ pos 1)) refl in
     let top = first.1 in
     let low = last.0 in
     let early = w.not_early in
@@ -65,8 +65,8 @@ pub returns-clause-ahead : goal.returns-clause-ahead
 returns-clause-ahead c = λ list a.
     let self = c.args.self.now in
     let w = self.window in
-    let first = day-under w.from (date_of w.from) refl in
-    let last = day-under (w.to -ℤ pos 1) (date_of (w.to -ℤ pos 1)) refl in
+    let first = day-under w.from (day_of_local w.from) refl in
+    let last = day-under (w.to -ℤ pos 1) (day_of_local (w.to -ℤ pos 1)) refl in
     let top = first.1 in
     let low = last.0 in
     let early = w.not_early in

@@ -6,7 +6,7 @@ use Rattle.std.proofs.lemmas.Int.{ints}
 use mir.Val.{SFits}
 use Rattle.ics_series.specs.Clocks.{clock_of}
 use Rattle.ics_series.specs.Exclusions.{is_day_in}
-use Rattle.ics_series.specs.Zones.{clocks_in}
+use Rattle.ics_series.specs.FileZones.{clocks_in}
 use Rattle.ics_series.proofs.ExclusionLemmas.{found-in}
 use Rattle.ics_series.proofs.exclusion.Exclusions.has.Goals as goal
 

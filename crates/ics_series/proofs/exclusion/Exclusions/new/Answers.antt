@@ -6,7 +6,7 @@ use Rattle.ics_calendar.specs.declared.event.Event.{Event}
 use Rattle.ics_calendar.specs.declared.time.Time.{Time}
 use Rattle.ics_series.specs.Clocks.{clock_of}
 use Rattle.ics_series.specs.Exclusions.{excludes, takes_out}
-use Rattle.ics_series.specs.Zones.{clocks_in}
+use Rattle.ics_series.specs.FileZones.{clocks_in}
 use Rattle.ics_series.proofs.ExclusionLemmas.{sorted-takes_out}
 use Rattle.ics_series.proofs.exclusion.Exclusions.new.Goals as goal
 

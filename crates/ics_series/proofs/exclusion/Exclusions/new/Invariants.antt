@@ -2,7 +2,7 @@ use Rattle.std.proofs.Common.{◌≡◌, ℤ, ◌<ℤ◌, take}
 use Rattle.std.specs.List.{list_any}
 use Rattle.ics_series.specs.Clocks.{clock_of}
 use Rattle.ics_series.specs.Exclusions.{excludes, takes_out}
-use Rattle.ics_series.specs.Zones.{clocks_in}
+use Rattle.ics_series.specs.FileZones.{clocks_in}
 use Rattle.ics_series.proofs.exclusion.Exclusions.new.Given as goal
 
 -- what the EXDATEs before this one take out is taken out

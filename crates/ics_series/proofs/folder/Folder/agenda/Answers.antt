@@ -7,13 +7,13 @@ use Rattle.ics_calendar.specs.declared.events.FileEvents.{FileEvents}
 use Rattle.ics_series.specs.declared.agenda.Agenda.{Agenda}
 use Rattle.ics_series.specs.After.{after_key}
 use Rattle.ics_series.specs.Clocks.{display_clock}
-use Rattle.ics_series.specs.Contents.{Contents}
+use Rattle.ics_series.specs.FolderContents.{Contents}
 use Rattle.ics_series.specs.Entry.{Entry, entry_cmp, key_rank}
 use Rattle.ics_series.specs.Leads.{listed, past}
 use Rattle.ics_series.specs.Listing.{IsListing}
 use Rattle.ics_series.specs.Meets.{IsListed, IsToCome}
 use Rattle.ics_series.specs.Merged.{merged}
-use Rattle.ics_series.specs.Parts.{part_coming, part_sources}
+use Rattle.ics_series.specs.AgendaParts.{part_coming, part_sources}
 use Rattle.ics_series.specs.Sources.{AreSources, Source}
 use Rattle.ics_series.proofs.folder.Folder.agenda.Goals as goal
 

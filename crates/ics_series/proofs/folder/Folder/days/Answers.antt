@@ -5,7 +5,7 @@ use Rattle.ics_calendar.specs.Event.{said_by}
 use Rattle.ics_calendar.specs.declared.events.FileEvents.{FileEvents}
 use Rattle.ics_series.specs.Ahead.{scope_of, IsAhead}
 use Rattle.ics_series.specs.Clocks.{display_clock}
-use Rattle.ics_series.specs.Contents.{Contents}
+use Rattle.ics_series.specs.FolderContents.{Contents}
 use Rattle.ics_series.specs.DayKeys.{day_key_rank}
 use Rattle.ics_series.specs.DayMasters.{scope_by}
 use Rattle.ics_series.specs.Listing.{IsListing}

@@ -30,7 +30,7 @@ invariant_of-self g c =
           (c.winner-lead.ensures ∙ ap (λ ws. winner ws 1) c.deref.ensures.value) c.requires).1
           c.draw.ensures.near self.near;
       sorted = fewer-sorted self.sorted_from (map (λ x. listed x.head (g.F.Coming.coming x.feed)) self.leads.items) (map (λ x. listed x.head (g.F.Coming.coming x.feed)) (set self.leads.items lead new)) (fewer-kept-in (λ x. x.head) (λ x. g.F.Coming.coming x.feed) old new self.leads.items lead c.index_mut.ensures.value c.in_err-draw.ensures.head c.in_err-draw.ensures.rest) self.sorted;
-      last_sorted = fewer-last self.sorted_from (map (λ x. listed x.head (g.F.Coming.coming x.feed)) self.leads.items) (map (λ x. listed x.head (g.F.Coming.coming x.feed)) (set self.leads.items lead new)) (fewer-kept-in (λ x. x.head) (λ x. g.F.Coming.coming x.feed) old new self.leads.items lead c.index_mut.ensures.value c.in_err-draw.ensures.head c.in_err-draw.ensures.rest) self.giver self.last self.last_sorted;
+      last_sorted = fewer-last self.sorted_from (map (λ x. listed x.head (g.F.Coming.coming x.feed)) self.leads.items) (map (λ x. listed x.head (g.F.Coming.coming x.feed)) (set self.leads.items lead new)) (fewer-kept-in (λ x. x.head) (λ x. g.F.Coming.coming x.feed) old new self.leads.items lead c.index_mut.ensures.value c.in_err-draw.ensures.head c.in_err-draw.ensures.rest) self.source self.last self.last_sorted;
     }
 
 pub returns-in_err-draw-clause-same : goal.returns-in_err-draw-clause-same
@@ -95,7 +95,7 @@ invariant_of-self-2 g c =
           (c.winner-lead.ensures ∙ ap (λ ws. winner ws 1) c.deref.ensures.value) c.requires c.index_mut.result.now.ahead)) self.follows;
       near = near-drawn (λ x. x.head) (λ x. g.F.Coming.coming x.feed) (λ x. g.F.Coming.near x.feed) self.last self.leads.items lead c.index_mut.result.now new c.in_ok-draw.ensures.drawn c.draw.ensures.near self.near;
       sorted = fewer-sorted self.sorted_from (map (λ x. listed x.head (g.F.Coming.coming x.feed)) self.leads.items) (map (λ x. listed x.head (g.F.Coming.coming x.feed)) leads) (fewer-drawn-in (λ x. x.head) (λ x. g.F.Coming.coming x.feed) c.index_mut.result.now new self.leads.items lead c.index_mut.ensures.value c.in_ok-draw.ensures.drawn) self.sorted;
-      last_sorted = fewer-last self.sorted_from (map (λ x. listed x.head (g.F.Coming.coming x.feed)) self.leads.items) (map (λ x. listed x.head (g.F.Coming.coming x.feed)) leads) (fewer-drawn-in (λ x. x.head) (λ x. g.F.Coming.coming x.feed) c.index_mut.result.now new self.leads.items lead c.index_mut.ensures.value c.in_ok-draw.ensures.drawn) self.giver self.last self.last_sorted;
+      last_sorted = fewer-last self.sorted_from (map (λ x. listed x.head (g.F.Coming.coming x.feed)) self.leads.items) (map (λ x. listed x.head (g.F.Coming.coming x.feed)) leads) (fewer-drawn-in (λ x. x.head) (λ x. g.F.Coming.coming x.feed) c.index_mut.result.now new self.leads.items lead c.index_mut.ensures.value c.in_ok-draw.ensures.drawn) self.source self.last self.last_sorted;
     }
 
 pub returns-clause-same : goal.returns-clause-same

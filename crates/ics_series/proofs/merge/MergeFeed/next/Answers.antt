@@ -22,7 +22,7 @@ invariant_of-self-clause-follows g c =
 pub invariant_of-self-clause-last_sorted : goal.invariant_of-self-clause-last_sorted
 invariant_of-self-clause-last_sorted g c =
     let self = c.skip_given.new.self in
-    subst (λ giver. IsLastSorted self.sorted_from giver (Some c.in-Some.first) (map (λ x. listed x.head (g.F.Coming.coming x.feed)) self.leads.items))
+    subst (λ source. IsLastSorted self.sorted_from source (Some c.in-Some.first) (map (λ x. listed x.head (g.F.Coming.coming x.feed)) self.leads.items))
     (sym (c.winner-self.ensures ∙ ap (λ ws. winner ws 1) c.deref.ensures.value))
     (given-sorted (λ x. x.head) (λ x. g.F.Coming.coming x.feed) self.sorted_from (winner self.winners.items 1) self.leads.items c.in-Some.first
     (sym c.first.ensures ∙ ap (option_map entry_of) c.in-Some.is) self.sorted)

@@ -1,7 +1,7 @@
 use Rattle.std.proofs.Common.{arith}
 use Rattle.std.proofs.lemmas.Int.{ints}
 use Rattle.ics_series.specs.Starts.{time_of}
-use Rattle.ics_series.proofs.GiverLemmas.{rdate-time}
+use Rattle.ics_series.proofs.StartSourceLemmas.{rdate-time}
 use Rattle.ics_series.proofs.InstantLemmas.{late}
 use Rattle.ics_series.proofs.occurrence.Occurrence.within.Goals as goal
 

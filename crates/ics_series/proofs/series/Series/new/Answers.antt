@@ -9,7 +9,7 @@ use Rattle.ics_series.specs.Listing.{IsIn, IsListing}
 use Rattle.ics_series.specs.Rising.{Rises}
 use Rattle.ics_series.specs.SeriesFeed.{source_of}
 use Rattle.ics_series.specs.SeriesStarts.{given_of, left, listed_apart, listed_left, HasRuled, IsSeriesMet}
-use Rattle.ics_series.specs.Zones.{clocks_in}
+use Rattle.ics_series.specs.FileZones.{clocks_in}
 use Rattle.ics_series.proofs.SeriesLemmas.{known-start, series-listing}
 use Rattle.ics_series.proofs.OwnRuleLemmas.{own-rule-as}
 use Rattle.ics_series.proofs.SinceLemmas.{has-ruled, known-apart, known-left, ruled-as, starts-since}

@@ -6,7 +6,7 @@ use Rattle.ics_series.specs.Merged.{union}
 use Rattle.ics_series.specs.Rising.{Rises}
 use Rattle.ics_series.specs.SeriesFeed.{series_left, series_of}
 use Rattle.ics_series.specs.SeriesStarts.{earlier_of, first_of, given_of, left, listed_left, rule_left, AreKnown, IsAskedNear, IsTaken}
-use Rattle.ics_series.specs.Zones.{clocks_in}
+use Rattle.ics_series.specs.FileZones.{clocks_in}
 use Rattle.ics_series.specs.MergedLaws.{rises-union}
 use Rattle.ics_series.proofs.FirstLemmas.{moment_total}
 use Rattle.ics_series.proofs.LeftLemmas.{first-taken, none-taken}

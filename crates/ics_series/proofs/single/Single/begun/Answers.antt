@@ -3,7 +3,7 @@ use Rattle.std.proofs.lemmas.Int.{ints}
 use Rattle.ics_calendar.specs.Event.{IsEvent}
 use Rattle.ics_calendar.specs.declared.event.Event.{Event}
 use Rattle.ics_series.specs.Clocks.{instant}
-use Rattle.ics_series.specs.Zones.{clocks_in, IsTimeOf}
+use Rattle.ics_series.specs.FileZones.{clocks_in, IsTimeOf}
 use Rattle.ics_series.proofs.ZoneLemmas.{own-event}
 use Rattle.ics_series.proofs.single.Single.begun.Goals as goal
 

@@ -1,5 +1,5 @@
 use Rattle.std.proofs.Common.{ap, ◌∙◌}
-use Rattle.ics_text.specs.Contents.{Parts, param_of}
+use Rattle.ics_text.specs.ContentLines.{Parts, param_of}
 use Rattle.ics_text.proofs.Parameters.{param_of-first}
 use Rattle.ics_text.proofs.parts.Content.param.Goals as goal
 

@@ -1,5 +1,5 @@
 use Rattle.std.proofs.Common.{arith}
-use Rattle.ics_values.specs.Sets.{has}
+use Rattle.ics_values.specs.Sets.{contains}
 use Rattle.ics_values.proofs.SetLemmas.{within_more}
 use Rattle.ics_values.proofs.parts.Parts.add_minute.Goals as goal
 
@@ -9,7 +9,7 @@ invariant_of-self c = record {
   count = c.self.invariant.count;
   until = c.self.invariant.until;
   seconds = c.self.invariant.seconds;
-  minutes = within_more 0 59 c.args.minute (has c.self.inside.minutes) (has c.add.new.self) c.add.ensures.members c.self.invariant.minutes (omega arith) c.requires;
+  minutes = within_more 0 59 c.args.minute (contains c.self.inside.minutes) (contains c.insert.new.self) c.insert.ensures.members c.self.invariant.minutes (omega arith) c.requires;
   hours = c.self.invariant.hours;
   weekdays = c.self.invariant.weekdays;
   numbered = c.self.invariant.numbered;

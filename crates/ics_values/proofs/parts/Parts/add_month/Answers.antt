@@ -1,4 +1,4 @@
-use Rattle.ics_values.specs.Sets.{has}
+use Rattle.ics_values.specs.Sets.{contains}
 use Rattle.ics_values.proofs.SetLemmas.{within_more}
 use Rattle.ics_values.proofs.parts.Parts.add_month.Goals as goal
 
@@ -15,6 +15,6 @@ invariant_of-self c = record {
   month_days = c.self.invariant.month_days;
   year_days = c.self.invariant.year_days;
   weeks = c.self.invariant.weeks;
-  months = within_more 1 12 c.args.month (has c.self.inside.months) (has c.add.new.self) c.add.ensures.members c.self.invariant.months c.requires.first c.requires.last;
+  months = within_more 1 12 c.args.month (contains c.self.inside.months) (contains c.insert.new.self) c.insert.ensures.members c.self.invariant.months c.requires.first c.requires.last;
   positions = c.self.invariant.positions;
 }

@@ -1,5 +1,5 @@
 use Rattle.std.proofs.Common.{arith}
-use Rattle.ics_values.proofs.PlaceLemmas.{wide_places_more}
+use Rattle.ics_values.proofs.PlaceLemmas.{wide_ordinals_more}
 use Rattle.ics_values.proofs.parts.Parts.add_position.Goals as goal
 
 pub invariant_of-self : goal.invariant_of-self
@@ -16,5 +16,5 @@ invariant_of-self c = record {
   year_days = c.self.invariant.year_days;
   weeks = c.self.invariant.weeks;
   months = c.self.invariant.months;
-  positions = rw c.add.ensures (wide_places_more c.args.side c.args.n 366 c.self.inside.positions (omega arith) (omega arith) (omega arith) c.requires.first c.requires.last c.self.invariant.positions);
+  positions = rw c.insert.ensures (wide_ordinals_more c.args.side c.args.n 366 c.self.inside.positions (omega arith) (omega arith) (omega arith) c.requires.first c.requires.last c.self.invariant.positions);
 }

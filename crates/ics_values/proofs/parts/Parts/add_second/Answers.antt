@@ -1,5 +1,5 @@
 use Rattle.std.proofs.Common.{arith}
-use Rattle.ics_values.specs.Sets.{has}
+use Rattle.ics_values.specs.Sets.{contains}
 use Rattle.ics_values.proofs.SetLemmas.{within_more}
 use Rattle.ics_values.proofs.parts.Parts.add_second.Goals as goal
 
@@ -8,7 +8,7 @@ invariant_of-self c = record {
   interval = c.self.invariant.interval;
   count = c.self.invariant.count;
   until = c.self.invariant.until;
-  seconds = within_more 0 59 c.args.second (has c.self.inside.seconds) (has c.add.new.self) c.add.ensures.members c.self.invariant.seconds (omega arith) c.requires;
+  seconds = within_more 0 59 c.args.second (contains c.self.inside.seconds) (contains c.insert.new.self) c.insert.ensures.members c.self.invariant.seconds (omega arith) c.requires;
   minutes = c.self.invariant.minutes;
   hours = c.self.invariant.hours;
   weekdays = c.self.invariant.weekdays;

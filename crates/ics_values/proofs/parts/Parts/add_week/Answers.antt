@@ -1,5 +1,5 @@
 use Rattle.std.proofs.Common.{arith}
-use Rattle.ics_values.proofs.PlaceLemmas.{places_more}
+use Rattle.ics_values.proofs.PlaceLemmas.{ordinals_more}
 use Rattle.ics_values.proofs.parts.Parts.add_week.Goals as goal
 
 pub invariant_of-self : goal.invariant_of-self
@@ -14,7 +14,7 @@ invariant_of-self c = record {
   numbered = c.self.invariant.numbered;
   month_days = c.self.invariant.month_days;
   year_days = c.self.invariant.year_days;
-  weeks = rw c.add.ensures (places_more c.args.side c.args.n 53 c.self.inside.weeks (omega arith) c.requires.first c.requires.last c.self.invariant.weeks);
+  weeks = rw c.insert.ensures (ordinals_more c.args.side c.args.n 53 c.self.inside.weeks (omega arith) c.requires.first c.requires.last c.self.invariant.weeks);
   months = c.self.invariant.months;
   positions = c.self.invariant.positions;
 }

@@ -1,5 +1,5 @@
 use Rattle.std.proofs.Common.{arith}
-use Rattle.ics_values.proofs.PlaceLemmas.{wide_places_more}
+use Rattle.ics_values.proofs.PlaceLemmas.{wide_ordinals_more}
 use Rattle.ics_values.proofs.parts.Parts.add_year_day.Goals as goal
 
 pub invariant_of-self : goal.invariant_of-self
@@ -13,7 +13,7 @@ invariant_of-self c = record {
   weekdays = c.self.invariant.weekdays;
   numbered = c.self.invariant.numbered;
   month_days = c.self.invariant.month_days;
-  year_days = rw c.add.ensures (wide_places_more c.args.side c.args.n 366 c.self.inside.year_days (omega arith) (omega arith) (omega arith) c.requires.first c.requires.last c.self.invariant.year_days);
+  year_days = rw c.insert.ensures (wide_ordinals_more c.args.side c.args.n 366 c.self.inside.year_days (omega arith) (omega arith) (omega arith) c.requires.first c.requires.last c.self.invariant.year_days);
   weeks = c.self.invariant.weeks;
   months = c.self.invariant.months;
   positions = c.self.invariant.positions;

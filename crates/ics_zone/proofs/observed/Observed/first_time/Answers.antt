@@ -1,8 +1,8 @@
 use Rattle.std.proofs.Common.{rules, arith, List, ℤ, pos, ◌-ℤ◌, get_or, SFits, w32, w64, to_z, of_z}
 use Rattle.std.proofs.lemmas.Int.{ints, to_z-of_z}
 use Rattle.std.proofs.lemmas.List.{get_or_default}
-use Rattle.ics_zone.specs.Offsets.{zone_offset}
-use Rattle.ics_zone.specs.Observances.{phases_of}
+use Rattle.ics_zone.specs.ZoneOffsets.{zone_offset}
+use Rattle.ics_zone.specs.Observances.{observances_said}
 use Rattle.ics_zone.specs.ZoneOnsets.{IsKnown}
 use Rattle.ics_zone.proofs.CandidateLemmas.{first_stays, first_early, first_moves, first_found}
 use Rattle.ics_zone.proofs.JumpLemmas.{known_zone}
@@ -14,7 +14,7 @@ loop-offset-preserved-then-is_by c =
     let at = c.loop-offset.offset-index in
     let offset : ℤ = get_or offsets at (pos 0) in
     let item : SFits w32 (get_or c.as_slice-offsets.result.now c.loop-offset.offset-index (pos 0)) = search rules in
-    first_early (zone_offset (phases_of c.args.self.now)) (to_z w64 (of_z w64 c.args.seconds)) offsets at offset
+    first_early (zone_offset (observances_said c.args.self.now)) (to_z w64 (of_z w64 c.args.seconds)) offsets at offset
     c.loop-offset-test.true (get_or_default offsets at (pos 0) offset c.loop-offset-test.true)
     c.loop-offset.first c.loop-offset.invariant
     (to_z w64 (of_z w64 (to_z w64 (of_z w64 c.args.seconds) -ℤ to_z w64 (of_z w64 c.from.result))))
@@ -23,7 +23,7 @@ loop-offset-preserved-then-is_by c =
 pub loop-offset-preserved-in_default-shown_with : goal.loop-offset-preserved-in_default-shown_with
 loop-offset-preserved-in_default-shown_with c =
     let item : SFits w32 (get_or c.as_slice-offsets.result.now c.loop-offset.offset-index (pos 0)) = search rules in
-    first_stays (zone_offset (phases_of c.args.self.now)) (to_z w64 (of_z w64 c.args.seconds))
+    first_stays (zone_offset (observances_said c.args.self.now)) (to_z w64 (of_z w64 c.args.seconds))
     c.as_slice-offsets.result.now c.loop-offset.offset-index (get_or c.as_slice-offsets.result.now c.loop-offset.offset-index (pos 0))
     c.loop-offset-test.true (get_or_default c.as_slice-offsets.result.now c.loop-offset.offset-index (pos 0)
     (get_or c.as_slice-offsets.result.now c.loop-offset.offset-index (pos 0)) c.loop-offset-test.true)
@@ -37,7 +37,7 @@ loop-offset-preserved c =
     let moment : SFits w64 c.in-Some-shown_with.moment = search rules in
     let is = simp (to_z-of_z w32 (get_or c.as_slice-offsets.result.now c.loop-offset.offset-index (pos 0)) item) at c.in-Some-shown_with.ensures in
     rw (to_z-of_z w64 c.earlier.result small)
-    (first_moves (zone_offset (phases_of c.args.self.now)) (to_z w64 (of_z w64 c.args.seconds))
+    (first_moves (zone_offset (observances_said c.args.self.now)) (to_z w64 (of_z w64 c.args.seconds))
     c.as_slice-offsets.result.now c.loop-offset.offset-index (get_or c.as_slice-offsets.result.now c.loop-offset.offset-index (pos 0))
     c.loop-offset-test.true (get_or_default c.as_slice-offsets.result.now c.loop-offset.offset-index (pos 0)
     (get_or c.as_slice-offsets.result.now c.loop-offset.offset-index (pos 0)) c.loop-offset-test.true)
@@ -47,9 +47,9 @@ loop-offset-preserved c =
 pub returns : goal.returns
 returns c =
     let fits : SFits w64 c.args.seconds = c.ranges.seconds in
-    let known : IsKnown (phases_of c.args.self.now) c.self.inside.onsets.items c.self.inside.offsets.items c.self.inside.held.items =
+    let known : IsKnown (observances_said c.args.self.now) c.self.inside.onsets.items c.self.inside.offsets.items c.self.inside.held.items =
     known_zone _ _ _ _ c.self.invariant c.args.self.now c.self.view_is in
     let found = simp (to_z-of_z, c.as_slice-offsets.ensures.value) at c.loop-offset.invariant in
     let past = rw c.as_slice-offsets.ensures.value at c.loop-offset-test.false in
-    first_found (zone_offset (phases_of c.args.self.now)) c.args.seconds c.self.inside.offsets.items known.all_offsets
+    first_found (zone_offset (observances_said c.args.self.now)) c.args.seconds c.self.inside.offsets.items known.all_offsets
     c.loop-offset.offset-index past c.loop-offset.first found

@@ -1,7 +1,7 @@
 use Rattle.std.proofs.Common.{is_ok, sym, subst, List}
 use Rattle.ics_zone.specs.declared.observance.Observance.{Observance}
-use Rattle.ics_zone.specs.Observances.{phases_of}
-use Rattle.ics_zone.specs.Offsets.{zone_offset}
+use Rattle.ics_zone.specs.Observances.{observances_said}
+use Rattle.ics_zone.specs.ZoneOffsets.{zone_offset}
 use Rattle.ics_zone.specs.ZoneOnsets.{IsSteady}
 use Rattle.ics_zone.proofs.JumpLemmas.{held_more, held_moved}
 use Rattle.ics_zone.proofs.observed.Observed.hold.Goals as goal
@@ -10,5 +10,5 @@ pub invariant_of-self : goal.invariant_of-self
 invariant_of-self c =
     held_moved _ _ _ c.push.new.self.items _ c.sort_unstable_by_key.ensures.permutation
     (held_more _ _ _ c.self.inside.held.items c.push.new.self.items c.in-Some.steady (is_ok c.push.result) c.push.ensures.items c.self.invariant
-    (subst (λ (z : List Observance). IsSteady (zone_offset (phases_of z)) c.in-Some.steady.from c.in-Some.steady.next c.in-Some.steady.offset)
+    (subst (λ (z : List Observance). IsSteady (zone_offset (observances_said z)) c.in-Some.steady.from c.in-Some.steady.next c.in-Some.steady.offset)
     (sym c.self.view_is) c.in-Some.ensures))

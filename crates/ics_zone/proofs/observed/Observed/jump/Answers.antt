@@ -1,6 +1,6 @@
 use Rattle.std.proofs.Common.{rules, arith, pos, ◌+ℤ◌, ◌-ℤ◌, SFits, w64, to_z, of_z}
 use Rattle.std.proofs.lemmas.Int.{ints, to_z-of_z}
-use Rattle.ics_zone.specs.Observances.{phases_of}
+use Rattle.ics_zone.specs.Observances.{observances_said}
 use Rattle.ics_zone.specs.ZoneBounds.{zone_facts}
 use Rattle.ics_zone.specs.ZoneOnsets.{IsKnown}
 use Rattle.ics_zone.proofs.ZoneSteps.{all_sound}
@@ -11,7 +11,7 @@ pub loop-after-init : goal.loop-after-init
 loop-after-init c = record {
   low = omega (arith, ints, c.requires.bound.0, c.requires.bound.1);
   high = omega (arith, ints, c.requires.bound.0, c.requires.bound.1);
-  earlier = λ t h. earlier_before (phases_of c.args.self.now) (zone_facts c.args.self.now) (to_z w64 (of_z w64 c.args.seconds)) t
+  earlier = λ t h. earlier_before (observances_said c.args.self.now) (zone_facts c.args.self.now) (to_z w64 (of_z w64 c.args.seconds)) t
       (omega (arith, ints, h, c.requires.bound.0, c.requires.bound.1));
 }
 
@@ -22,16 +22,16 @@ pub returns-then-is_past-clause-jump : goal.returns-then-is_past-clause-jump
 returns-then-is_past-clause-jump c =
     let fits : SFits w64 c.args.seconds = c.ranges.seconds in
     let next : SFits w64 c.next_past-after.result = search rules in
-    let known : IsKnown (phases_of c.args.self.now) c.self.inside.onsets.items c.self.inside.offsets.items c.self.inside.held.items =
+    let known : IsKnown (observances_said c.args.self.now) c.self.inside.onsets.items c.self.inside.offsets.items c.self.inside.held.items =
     known_zone _ _ _ _ c.self.invariant c.args.self.now c.self.view_is in
     let none = rw c.deref.ensures.value at (simp to_z-of_z at c.next_past-after.ensures.next) in
     let earlier = simp to_z-of_z at c.loop-after.invariant.earlier in
     let later = rw c.if-is_past.true at (simp to_z-of_z at c.is_past.ensures) in
     rw (to_z-of_z w64 c.next_past-after.result next)
-    (jump_at_next (phases_of c.args.self.now) (zone_facts c.args.self.now) known.some c.args.seconds c.requires.skipped
+    (jump_at_next (observances_said c.args.self.now) (zone_facts c.args.self.now) known.some c.args.seconds c.requires.skipped
     (to_z w64 c.loop-after.after-bits) c.next_past-after.result earlier
-    (past_clear (phases_of c.args.self.now) c.args.seconds (to_z w64 c.loop-after.after-bits) c.next_past-after.result
-    (none (phases_of c.args.self.now) known.asked)) later)
+    (past_clear (observances_said c.args.self.now) c.args.seconds (to_z w64 c.loop-after.after-bits) c.next_past-after.result
+    (none (observances_said c.args.self.now) known.asked)) later)
 
 pub loop-after-smaller : goal.loop-after-smaller
 loop-after-smaller c =
@@ -53,16 +53,16 @@ pub clear_to-after-requires-clause-earlier : goal.clear_to-after-requires-clause
 clear_to-after-requires-clause-earlier c =
     let fits : SFits w64 c.args.seconds = c.ranges.seconds in
     let next : SFits w64 c.next_past-after.result = search rules in
-    let known : IsKnown (phases_of c.args.self.now) c.self.inside.onsets.items c.self.inside.offsets.items c.self.inside.held.items =
+    let known : IsKnown (observances_said c.args.self.now) c.self.inside.onsets.items c.self.inside.offsets.items c.self.inside.held.items =
     known_zone _ _ _ _ c.self.invariant c.args.self.now c.self.view_is in
     let none = rw c.deref.ensures.value at (simp to_z-of_z at c.next_past-after.ensures.next) in
     let earlier = simp to_z-of_z at c.loop-after.invariant.earlier in
     let not_later = rw c.if-is_past.false at (simp to_z-of_z at c.is_past.ensures) in
     rw (to_z-of_z w64 c.next_past-after.result next, to_z-of_z w64 c.args.seconds fits)
-    (earlier_at_next (phases_of c.args.self.now) (zone_facts c.args.self.now) known.some c.args.seconds c.requires.skipped
+    (earlier_at_next (observances_said c.args.self.now) (zone_facts c.args.self.now) known.some c.args.seconds c.requires.skipped
     (to_z w64 c.loop-after.after-bits) c.next_past-after.result earlier
-    (past_clear (phases_of c.args.self.now) c.args.seconds (to_z w64 c.loop-after.after-bits) c.next_past-after.result
-    (none (phases_of c.args.self.now) known.asked))
+    (past_clear (observances_said c.args.self.now) c.args.seconds (to_z w64 c.loop-after.after-bits) c.next_past-after.result
+    (none (observances_said c.args.self.now) known.asked))
     not_later)
 
 pub returns-clause-jump : goal.returns-clause-jump
@@ -70,7 +70,7 @@ returns-clause-jump c =
     let fits : SFits w64 c.args.seconds = c.ranges.seconds in
     let earlier = simp to_z-of_z at c.loop-after.invariant.earlier in
     absurd (
-    let more = later_after (phases_of c.args.self.now) (zone_facts c.args.self.now) c.args.seconds (to_z w64 c.loop-after.after-bits)
+    let more = later_after (observances_said c.args.self.now) (zone_facts c.args.self.now) c.args.seconds (to_z w64 c.loop-after.after-bits)
     (omega (arith, ints, c.loop-after-test.false, c.requires.bound.0, c.requires.bound.1)) in
     let less = earlier (to_z w64 c.loop-after.after-bits) (omega (arith, ints)) in
     omega (arith, ints, more, less))

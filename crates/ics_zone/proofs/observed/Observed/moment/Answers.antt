@@ -1,28 +1,28 @@
 use Rattle.std.proofs.Common.{rules, ◌≡◌, inl, inr, sym, List, ℤ, SFits, w64, to_z, of_z}
 use Rattle.std.proofs.lemmas.Int.{to_z-of_z}
 use Rattle.ics_zone.specs.Moments.{IsMomentOf, zone_moment}
-use Rattle.ics_zone.specs.Offsets.{zone_offset}
-use Rattle.ics_zone.specs.Places.{local_seconds}
+use Rattle.ics_zone.specs.ZoneOffsets.{zone_offset}
+use Rattle.ics_values.specs.Locals.{seconds_at}
 use Rattle.ics_zone.specs.declared.observance.Observance.{Observance}
-use Rattle.ics_zone.specs.Observances.{phases_of}
+use Rattle.ics_zone.specs.Observances.{observances_said}
 use Rattle.ics_zone.specs.ZoneBounds.{zone_short}
 use Rattle.ics_zone.proofs.MomentLemmas.{moment_unique, moment_found}
 use Rattle.ics_zone.proofs.observed.Observed.moment.Goals as goal
 
 -- what a moment is, it is as found
-is_found : (zone : List Observance) (local t : ℤ) → IsMomentOf (phases_of zone) local t → t ≡ zone_moment (phases_of zone) local
-is_found zone local t h = moment_unique (zone_offset (phases_of zone)) local t (zone_moment (phases_of zone) local) h
-    (moment_found (zone_offset (phases_of zone)) (zone_short zone) local)
+is_found : (zone : List Observance) (local t : ℤ) → IsMomentOf (observances_said zone) local t → t ≡ zone_moment (observances_said zone) local
+is_found zone local t h = moment_unique (zone_offset (observances_said zone)) local t (zone_moment (observances_said zone) local) h
+    (moment_found (zone_offset (observances_said zone)) (zone_short zone) local)
 
 shown_first : (c : goal.In-Some)
-    → IsMomentOf (phases_of c.args.self.now) (local_seconds c.args.local.day c.args.local.second) (to_z w64 (of_z w64 c.in-Some.moment))
+    → IsMomentOf (observances_said c.args.self.now) (seconds_at c.args.local.day c.args.local.second) (to_z w64 (of_z w64 c.in-Some.moment))
 shown_first c =
     let fits : SFits w64 c.seconds_of-seconds.result = search rules in
     let small : SFits w64 c.in-Some.moment = search rules in
     rw (to_z-of_z w64 c.in-Some.moment small, sym c.seconds_of-seconds.ensures) (inl (simp to_z-of_z at c.in-Some.ensures))
 
 skipped : (c : goal.After-across_gap)
-    → IsMomentOf (phases_of c.args.self.now) (local_seconds c.args.local.day c.args.local.second) (to_z w64 (of_z w64 c.across_gap.result))
+    → IsMomentOf (observances_said c.args.self.now) (seconds_at c.args.local.day c.args.local.second) (to_z w64 (of_z w64 c.across_gap.result))
 skipped c =
     let fits : SFits w64 c.seconds_of-seconds.result = search rules in
     let small : SFits w64 c.across_gap.result = search rules in

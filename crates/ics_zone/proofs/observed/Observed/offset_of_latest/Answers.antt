@@ -1,7 +1,7 @@
 use Rattle.std.proofs.Common.{rules, ◌≡◌, SFits, w32, w64}
 use Rattle.std.proofs.lemmas.Int.{to_z-of_z}
-use Rattle.ics_zone.specs.Offsets.{zone_offset}
-use Rattle.ics_zone.specs.Observances.{phases_of}
+use Rattle.ics_zone.specs.ZoneOffsets.{zone_offset}
+use Rattle.ics_zone.specs.Observances.{observances_said}
 use Rattle.ics_zone.specs.ZoneBounds.{zone_facts}
 use Rattle.ics_zone.specs.ZoneOnsets.{IsKnown}
 use Rattle.ics_zone.proofs.ZoneSteps.{all_sound}
@@ -18,26 +18,26 @@ pub returns-in-Some : goal.returns-in-Some
 returns-in-Some c =
     let fits : SFits w64 c.args.moment = c.ranges.moment in
     let small : SFits w32 c.in-Some.latest.offset = search rules in
-    let known : IsKnown (phases_of c.args.self.now) c.self.inside.onsets.items c.self.inside.offsets.items c.self.inside.held.items = known_zone _ _ _ _
+    let known : IsKnown (observances_said c.args.self.now) c.self.inside.onsets.items c.self.inside.offsets.items c.self.inside.held.items = known_zone _ _ _ _
     c.self.invariant c.args.self.now c.self.view_is in
     let found = rw c.deref.ensures.value at (simp to_z-of_z at c.latest_of.ensures) in
-    let value : c.in-Some.latest.offset ≡ zone_offset (phases_of c.args.self.now) c.args.moment =
-    latest_is (phases_of c.args.self.now) (zone_facts c.args.self.now) known.some c.args.moment c.latest_of.result
-    (found (phases_of c.args.self.now) known.asked) c.in-Some.latest c.in-Some.is in
+    let value : c.in-Some.latest.offset ≡ zone_offset (observances_said c.args.self.now) c.args.moment =
+    latest_is (observances_said c.args.self.now) (zone_facts c.args.self.now) known.some c.args.moment c.latest_of.result
+    (found (observances_said c.args.self.now) known.asked) c.in-Some.latest c.in-Some.is in
     rw (to_z-of_z w32 c.in-Some.latest.offset small)
-    (record { means = rw value (is_offset (phases_of c.args.self.now) (zone_facts c.args.self.now) known.some c.args.moment); value = value })
+    (record { means = rw value (is_offset (observances_said c.args.self.now) (zone_facts c.args.self.now) known.some c.args.moment); value = value })
 
 pub returns-in-None : goal.returns-in-None
 returns-in-None c =
     let fits : SFits w64 c.args.moment = c.ranges.moment in
     let small : SFits w32 c.first_offset.result = search rules in
-    let known : IsKnown (phases_of c.args.self.now) c.self.inside.onsets.items c.self.inside.offsets.items c.self.inside.held.items = known_zone _ _ _ _
+    let known : IsKnown (observances_said c.args.self.now) c.self.inside.onsets.items c.self.inside.offsets.items c.self.inside.held.items = known_zone _ _ _ _
     c.self.invariant c.args.self.now c.self.view_is in
     let found = rw c.deref.ensures.value at (simp to_z-of_z at c.latest_of.ensures) in
     let first = rw c.deref-in-None.ensures.value at c.first_offset.ensures in
-    let value : c.first_offset.result ≡ zone_offset (phases_of c.args.self.now) c.args.moment =
-    none_is (phases_of c.args.self.now) (zone_facts c.args.self.now) known.some c.args.moment c.first_offset.result c.latest_of.result
-    (found (phases_of c.args.self.now) known.asked) c.in-None.is
-    (first (phases_of c.args.self.now) known.asked) in
+    let value : c.first_offset.result ≡ zone_offset (observances_said c.args.self.now) c.args.moment =
+    none_is (observances_said c.args.self.now) (zone_facts c.args.self.now) known.some c.args.moment c.first_offset.result c.latest_of.result
+    (found (observances_said c.args.self.now) known.asked) c.in-None.is
+    (first (observances_said c.args.self.now) known.asked) in
     rw (to_z-of_z w32 c.first_offset.result small)
-    (record { means = rw value (is_offset (phases_of c.args.self.now) (zone_facts c.args.self.now) known.some c.args.moment); value = value })
+    (record { means = rw value (is_offset (observances_said c.args.self.now) (zone_facts c.args.self.now) known.some c.args.moment); value = value })

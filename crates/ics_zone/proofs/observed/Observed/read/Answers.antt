@@ -1,6 +1,6 @@
 use Rattle.std.proofs.Common.{rules, ◌<◌, length, arith}
 use Rattle.std.proofs.lemmas.List.{length-map}
-use Rattle.ics_zone.specs.Observances.{phase_of, phases_of}
+use Rattle.ics_zone.specs.Observances.{observance_said, observances_said}
 use Rattle.ics_zone.specs.ZoneBounds.{zone_facts}
 use Rattle.ics_zone.proofs.JumpLemmas.{offsets_found}
 use Rattle.ics_zone.proofs.observed.Observed.read.Goals as goal
@@ -8,13 +8,13 @@ use Rattle.ics_zone.proofs.observed.Observed.read.Goals as goal
 pub invariant_of-result : goal.invariant_of-result
 invariant_of-result c =
     let there : 0 < length c.args.observances.items = search rules in
-    let some : 0 < length (phases_of c.args.observances.items) = omega (arith, there, length-map c.args.observances.items phase_of) in
+    let some : 0 < length (observances_said c.args.observances.items) = omega (arith, there, length-map c.args.observances.items observance_said) in
     let asked = rw c.deref-2.ensures.value at c.in-Ok.ensures in
     let have = rw c.deref-3.ensures.value at c.in-Ok-offsets_of.ensures in
     record {
       some = some;
       asked = asked;
-      all_offsets = offsets_found (phases_of c.args.observances.items) (zone_facts c.args.observances.items) some
+      all_offsets = offsets_found (observances_said c.args.observances.items) (zone_facts c.args.observances.items) some
           c.in-Ok-offsets_of.offsets.items have;
       spans = λ k d h. absurd (omega (arith, h));
     }

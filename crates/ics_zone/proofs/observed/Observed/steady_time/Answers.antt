@@ -1,7 +1,7 @@
 use Rattle.std.proofs.Common.{rules, arith, sym, subst, ◌≡◌, ◌-ℤ◌, SFits, w32, w64, to_z, of_z}
 use Rattle.std.proofs.lemmas.Int.{ints, to_z-of_z}
-use Rattle.ics_zone.specs.Offsets.{zone_offset}
-use Rattle.ics_zone.specs.Observances.{phases_of}
+use Rattle.ics_zone.specs.ZoneOffsets.{zone_offset}
+use Rattle.ics_zone.specs.Observances.{observances_said}
 use Rattle.ics_zone.specs.ZoneBounds.{zone_facts}
 use Rattle.ics_zone.specs.Moments.{IsFirstTime}
 use Rattle.ics_zone.proofs.JumpLemmas.{shown_once}
@@ -14,8 +14,8 @@ returns c =
     let about = simp to_z-of_z at c.in_ok-steady.ensures.over in
     let is : to_z w64 (of_z w64 (to_z w64 (of_z w64 c.args.seconds) -ℤ to_z w64 (of_z w64 c.from.result))) ≡ c.args.seconds -ℤ c.in_ok-steady.steady.offset =
     omega (arith, ints, c.from.ensures, c.requires.bound.0, c.requires.bound.1, offset) in
-    subst (IsFirstTime (zone_offset (phases_of c.args.self.now)) c.args.seconds) (sym is)
-    (shown_once (phases_of c.args.self.now) (zone_facts c.args.self.now) c.args.seconds
+    subst (IsFirstTime (zone_offset (observances_said c.args.self.now)) c.args.seconds) (sym is)
+    (shown_once (observances_said c.args.self.now) (zone_facts c.args.self.now) c.args.seconds
     c.in_ok-steady.steady.from c.in_ok-steady.steady.next c.in_ok-steady.steady.offset c.in_ok-steady.ensures.steady
     (omega (arith, ints, about.0, c.requires.bound.0, c.requires.bound.1))
     (omega (arith, ints, about.1, c.requires.bound.0, c.requires.bound.1)))

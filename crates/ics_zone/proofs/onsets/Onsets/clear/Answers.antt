@@ -25,7 +25,7 @@ returns-in-Some-clause-marks c =
     (omega (arith, c.loop-minute-test.true)) c.args.over.now marks
 
 pub returns-in-Some-clause-clear : goal.returns-in-Some-clause-clear
-returns-in-Some-clause-clear c = λ k has early later.
+returns-in-Some-clause-clear c = λ k contains early later.
     let from : SFits w64 c.args.from = c.ranges.from in
     let local : SFits w64 c.args.seconds = c.ranges.seconds in
     let low : SFits w64 c.seconds_to-low.result = search rules in
@@ -45,7 +45,7 @@ returns-in-Some-clause-clear c = λ k has early later.
     c.first_of.result c.front.result (omega (arith, c.loop-minute.invariant.length, c.loop-minute-test.true)) known complete
     (λ k h. let early = first k h in omega (arith, ints, early, c.requires.local, c.from.ensures)) is_size c.front.ensures.members)
     (omega (arith, c.loop-minute-test.true)) (omega (arith, small)) c.in-Some.ensures.1 clear k
-    (omega (arith, ints, clamps, early, small, c.min.ensures.value, c.requires.most, c.requires.some, c.loop-minute-test.true, c.from-in-Some.ensures)) has later
+    (omega (arith, ints, clamps, early, small, c.min.ensures.value, c.requires.most, c.requires.some, c.loop-minute-test.true, c.from-in-Some.ensures)) contains later
 
 pub loop-minute-preserved : goal.loop-minute-preserved
 loop-minute-preserved c =
@@ -82,9 +82,9 @@ returns-clause-marks c =
     simp to_z-of_z at c.loop-minute.invariant.marks
 
 pub returns-clause-clear : goal.returns-clause-clear
-returns-clause-clear c = λ k has early later.
+returns-clause-clear c = λ k contains early later.
     let from : SFits w64 c.args.from = c.ranges.from in
     let local : SFits w64 c.args.seconds = c.ranges.seconds in
     let most : SFits w64 c.args.most = c.ranges.most in
     let clear = simp to_z-of_z at c.loop-minute.invariant.clear in
-    clear k (omega (arith, ints, early, c.requires.most, c.loop-minute-test.false)) has later
+    clear k (omega (arith, ints, early, c.requires.most, c.loop-minute-test.false)) contains later

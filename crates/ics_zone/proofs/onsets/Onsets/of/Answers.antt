@@ -1,6 +1,6 @@
 use Rattle.std.proofs.Common.{rules, SFits, w32, w64, refl}
 use Rattle.std.proofs.lemmas.Int.{to_z-of_z}
-use Rattle.ics_zone.specs.Observances.{phase_of}
+use Rattle.ics_zone.specs.Observances.{observance_said}
 use Rattle.ics_zone.proofs.OnsetsMade.{onsets_made}
 use Rattle.ics_zone.proofs.onsets.Onsets.of.Goals as goal
 
@@ -11,5 +11,5 @@ returns c =
     let until : SFits w64 c.end_of-until.result = search rules in
     let o = c.args.observance.now in
     rw (to_z-of_z w32 c.args.observance.now.offset_from from, to_z-of_z w32 c.args.observance.now.offset_to to, to_z-of_z w64 c.end_of-until.result until)
-    (onsets_made (phase_of o) (record { start_in = o.start_in; from_in = o.from_in; to_in = o.to_in }) _ refl refl c.in_ok-listed.ensures
+    (onsets_made (observance_said o) (record { start_in = o.start_in; from_in = o.from_in; to_in = o.to_in }) _ refl refl c.in_ok-listed.ensures
     c.rule_of-rule.ensures c.end_of-until.ensures)

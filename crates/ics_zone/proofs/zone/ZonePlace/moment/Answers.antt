@@ -1,7 +1,7 @@
 use Rattle.std.proofs.Common.{rules, ◌≡◌, sym, ◌∙◌, SFits, w64}
 use Rattle.std.proofs.lemmas.Int.{to_z-of_z}
 use Rattle.jiff.specs.Words.{plain_zone}
-use Rattle.ics_zone.specs.Places.{local_seconds}
+use Rattle.ics_values.specs.Locals.{seconds_at}
 use Rattle.ics_zone.specs.declared.zone.ZoneKind.TheVariants.{ByFile}
 use Rattle.ics_zone.proofs.TableLemmas.{table_read}
 use Rattle.ics_zone.proofs.zone.ZonePlace.moment.Goals as goal
@@ -11,5 +11,5 @@ returns-in-ByFile-clause-means c =
     let small : SFits w64 c.picked_moment.result = search rules in
     let kind : c.args.self.now ≡ ByFile c.in-ByFile.table = sym c.self.view_is ∙ c.in-ByFile.is in
     rw (kind, to_z-of_z w64 c.picked_moment.result small, ← c.deref.ensures)
-    (table_read (plain_zone c.tzif.result) _ c.tzif.ensures (local_seconds c.args.local.day c.args.local.second) c.picked_moment.result
+    (table_read (plain_zone c.tzif.result) _ c.tzif.ensures (seconds_at c.args.local.day c.args.local.second) c.picked_moment.result
     c.picked_moment.ensures.picked)

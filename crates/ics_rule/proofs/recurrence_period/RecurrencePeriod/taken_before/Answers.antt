@@ -1,0 +1,21 @@
+use Rattle.std.proofs.Common.{◌≡◌, ◌∙◌, sym, ap, false, arith}
+use Rattle.ics_values.specs.Ordinals.{lists_none_wide}
+use Rattle.ics_rule.specs.PeriodNumbers.{calendar_end}
+use Rattle.ics_rule.specs.Kept.{count}
+use Rattle.ics_rule.specs.RecurrencePeriods.{holds, is_listed, is_taken}
+use Rattle.ics_rule.proofs.Counts.{count_mono}
+use Rattle.ics_rule.proofs.RankLemmas.{count-ranked}
+use Rattle.ics_rule.proofs.recurrence_period.RecurrencePeriod.taken_before.Goals as goal
+
+pub listed_below-requires-clause-some : goal.listed_below-requires-clause-some
+listed_below-requires-clause-some c = let more = count_mono c.args.n calendar_end (holds c.args.self.now) (omega (arith, c.requires.n)) in omega (arith, more, c.rank_before-rank.ensures.value, c.size.ensures.value)
+
+pub returns-else-is_empty-clause-value : goal.returns-else-is_empty-clause-value
+returns-else-is_empty-clause-value c =
+    let some : lists_none_wide c.args.positions.now ≡ false = sym c.is_empty.ensures ∙ c.if-is_empty.false in
+    c.listed_below.ensures.value
+    ∙ ap (λ positions. count c.rank_before-rank.result (is_listed positions c.size.result)) c.positions.view_is
+    ∙ ap (λ x. count x (is_listed c.args.positions.now c.size.result)) c.rank_before-rank.ensures.value
+    ∙ ap (λ x. count (count c.args.n (holds c.args.self.now)) (is_listed c.args.positions.now x)) c.size.ensures.value
+    ∙ sym (count-ranked c.args.n (holds c.args.self.now) (is_listed c.args.positions.now (count calendar_end (holds c.args.self.now))))
+    ∙ ap (λ b. count c.args.n (is_taken c.args.positions.now b c.args.self.now)) (sym some)

@@ -1,0 +1,21 @@
+-- The locals of an hour that a rule keeps.
+use Rattle.std.specs.Prelude.{◌≡◌, ℕ, ◌/◌, Bool, true, false, ◌&&◌}
+use Rattle.ics_values.specs.declared.frequency.Frequency.{Frequency}
+use Rattle.ics_values.specs.declared.frequency.Frequency.TheVariants.{Secondly, Minutely, Hourly}
+use Rattle.ics_values.specs.Sets.{contains}
+use Rattle.ics_rule.specs.declared.hour.HourTimes.{HourTimes}
+use Rattle.ics_rule.specs.Recurrence.{Recurrence}
+use Rattle.ics_rule.specs.PeriodNumbers.{minute_of, second_of}
+use Rattle.ics_rule.specs.Kept.{is_kept}
+
+-- a rule with this frequency repeats more often than daily
+abbrev pub is_finer : Frequency → Bool
+is_finer Secondly = true
+is_finer Minutely = true
+is_finer Hourly = true
+is_finer frequency = false
+
+-- of the locals of an hour, a rule keeps those with one of some minutes and one of some seconds
+abbrev pub KeepsTimes : Recurrence → ℕ → HourTimes → Type 0
+KeepsTimes r hour times =
+    (n : ℕ) → n / 3_600 ≡ hour → is_kept r n ≡ (contains times.minutes (minute_of n) && contains times.seconds (second_of n))

@@ -1,0 +1,180 @@
+//! Taking what a rule leaves out from the start of its event (RFC 5545, 3.3.10).
+ghost use Rattle.std.specs.Prelude.{◌≡◌, ℕ, ◌<◌, ◌≤◌, ◌/◌, if◌then◌else◌};
+ghost use Rattle.ics_values.specs.Sets.{only};
+ghost use Rattle.ics_values.specs.Fields.{IsCivilOf};
+ghost use Rattle.ics_rule.specs.EffectiveRules.{names_no_day, takes_month_day, takes_month, takes_weekday, skips_hours, skips_minutes, skips_seconds, clock_part, only_place, only_weekday, effective_at};
+
+use crate::date::civil_at;
+use crate::effective_rule::EffectiveRule;
+use crate::kind::Kind;
+use crate::part::{PlacesPart, WeekdaysPart};
+use ics_values::{Frequency, BitSet, Parts, Ordinals, Weekdays};
+
+/// Whether BYYEARDAY, BYMONTHDAY and BYDAY are absent.
+fn names_no_day(parts: &Parts) -> bool
+    ensures { result ≡ names_no_day parts.now }
+{
+    parts.month_days().is_empty() && parts.year_days().is_empty() && parts.weekdays().is_empty()
+}
+
+/// Whether the rule takes the day of the month from the start.
+fn takes_month_day(parts: &Parts) -> bool
+    ensures { result ≡ takes_month_day parts.now.frequency parts.now }
+{
+    match parts.frequency() {
+        Frequency::Yearly | Frequency::Monthly => names_no_day(parts) && parts.weeks().is_empty(),
+        _ => false,
+    }
+}
+
+/// Whether the rule takes the month from the start.
+fn takes_month(parts: &Parts) -> bool
+    ensures { result ≡ takes_month parts.now.frequency parts.now }
+{
+    match parts.frequency() {
+        Frequency::Yearly => takes_month_day(parts) && parts.months().is_empty(),
+        _ => false,
+    }
+}
+
+/// Whether the rule takes the weekday from the start.
+fn takes_weekday(parts: &Parts) -> bool
+    ensures { result ≡ takes_weekday parts.now.frequency parts.now }
+{
+    match parts.frequency() {
+        Frequency::Yearly => names_no_day(parts) && !parts.weeks().is_empty(),
+        Frequency::Weekly => parts.weekdays().is_empty(),
+        _ => false,
+    }
+}
+
+/// Whether a frequency is coarser than the hour.
+pub(crate) fn skips_hours(frequency: Frequency) -> bool
+    ensures { result ≡ skips_hours frequency }
+{
+    matches!(
+        frequency,
+        Frequency::Yearly | Frequency::Monthly | Frequency::Weekly | Frequency::Daily
+    )
+}
+
+/// Whether a frequency is coarser than the minute.
+pub(crate) fn skips_minutes(frequency: Frequency) -> bool
+    ensures { result ≡ skips_minutes frequency }
+{
+    skips_hours(frequency) || matches!(frequency, Frequency::Hourly)
+}
+
+/// Whether a frequency is coarser than the second.
+pub(crate) fn skips_seconds(frequency: Frequency) -> bool
+    ensures { result ≡ skips_seconds frequency }
+{
+    skips_minutes(frequency) || matches!(frequency, Frequency::Minutely)
+}
+
+/// The hours, minutes or seconds of a rule.
+fn clock_part(kind: Kind, takes: bool, set: BitSet, n: u8) -> BitSet
+    requires { n < 60 }
+    ensures { result ≡ clock_part kind takes set n }
+{
+    match kind {
+        Kind::Date => BitSet::only(0),
+        Kind::DateTime if takes && set.is_empty() => BitSet::only(n),
+        Kind::DateTime => set,
+    }
+}
+
+/// Day `n` of the month alone.
+fn only_place(n: u8) -> Ordinals
+    requires { n < 64 }
+    ensures { result ≡ only_place n }
+{
+    let mut places = Ordinals::new();
+    places.front = BitSet::only(n);
+    places
+}
+
+/// One weekday alone, numbered from 0 for Monday.
+fn only_weekday(weekday: u8) -> Weekdays
+    requires { weekday < 7 }
+    ensures { result ≡ only_weekday weekday }
+{
+    let mut weekdays = Weekdays::new();
+    weekdays.plain = BitSet::only(weekday);
+    weekdays
+}
+
+/// BYMONTH, or the month that the rule takes.
+fn months(parts: &Parts, month: u8) -> BitSet
+    requires { month < 64 }
+    ensures { result ≡ (if takes_month parts.now.frequency parts.now then only month else parts.now.months) }
+{
+    if takes_month(parts) {
+        BitSet::only(month)
+    } else {
+        parts.months()
+    }
+}
+
+/// BYMONTHDAY, or the day of the month that the rule takes.
+fn month_days(parts: &Parts, day: u8) -> Ordinals
+    requires { day < 64 }
+    ensures { result ≡ (if takes_month_day parts.now.frequency parts.now then only_place day else parts.now.month_days) }
+{
+    if takes_month_day(parts) {
+        only_place(day)
+    } else {
+        parts.month_days()
+    }
+}
+
+/// BYDAY, or the weekday that the rule takes.
+fn weekdays(parts: &Parts, weekday: u8) -> Weekdays
+    requires { weekday < 7 }
+    ensures { result ≡ (if takes_weekday parts.now.frequency parts.now then only_weekday weekday else parts.now.weekdays) }
+{
+    if takes_weekday(parts) {
+        only_weekday(weekday)
+    } else {
+        parts.weekdays()
+    }
+}
+
+/// The rule of an event that starts at the local with this number.
+pub(crate) fn fill(parts: &Parts, kind: Kind, start: u64) -> EffectiveRule
+    requires { start < 315569520000 }
+    ensures value { result ≡ effective_at parts.now kind start }
+    ensures interval { 1 ≤ result.interval }
+{
+    let fields = civil_at((start / 86_400) as u32);
+    let frequency = parts.frequency();
+    EffectiveRule {
+        frequency,
+        interval: parts.interval(),
+        week_start: parts.week_start(),
+        months: months(parts, fields.month),
+        month_days: month_days(parts, fields.day),
+        year_days: PlacesPart::new(parts.year_days()),
+        weeks: parts.weeks(),
+        weekdays: WeekdaysPart::new(weekdays(parts, fields.weekday.index())),
+        hours: clock_part(
+            kind,
+            skips_hours(frequency),
+            parts.hours(),
+            (start / 3_600 % 24) as u8,
+        ),
+        minutes: clock_part(
+            kind,
+            skips_minutes(frequency),
+            parts.minutes(),
+            (start / 60 % 60) as u8,
+        ),
+        seconds: clock_part(
+            kind,
+            skips_seconds(frequency),
+            parts.seconds(),
+            (start % 60) as u8,
+        ),
+        positions: PlacesPart::new(parts.positions()),
+    }
+}

@@ -1,0 +1,238 @@
+-- What gives starts: the values by which it does lie in the years of stamps.
+use Rattle.std.specs.Prelude.{slice_get}
+use Rattle.std.proofs.Common.{◌≡◌, ℕ, ◌<◌, ◌≤◌, ℤ, pos, ◌+ℤ◌, ◌<ℤ◌, ◌≤ℤ◌, List, All, true, ◌⊎◌, inl, inr, ⊎_elim, Option, Some, None, option_map, refl, sym, ◌∙◌, ap, subst, arith}
+use Rattle.std.proofs.Props.{props}
+use Rattle.std.proofs.lemmas.Int.{ints}
+use Rattle.std.proofs.lemmas.Option.{get_or_from_slice_get, slice_get_within}
+use mathlib.Core.HLevel.{is_prop→PathP}
+use Rattle.ics_values.specs.Days.{IsDayNumber, day_index}
+use Rattle.ics_values.specs.Locals.{local_at, number, local_seconds}
+use Rattle.ics_values.specs.Stamps.{stamp_day, IsStampDay}
+use Rattle.ics_values.specs.RuleParts.{RuleParts}
+use Rattle.ics_values.specs.declared.local.Local.{Local}
+use Rattle.ics_values.specs.declared.stamp.Stamp.{Stamp}
+use Rattle.ics_values.specs.declared.stamp.Stamp.TheVariants.{Date, Floating, Utc, Zoned}
+use Rattle.ics_rule.specs.Kept.{is_kept}
+use Rattle.ics_rule.specs.PeriodNumbers.{rules_end}
+use Rattle.ics_rule.specs.Recurrence.{Recurrence}
+use Rattle.ics_rule.proofs.KeptLemmas.{and_true, or_true, eqb_true, ltb_true}
+use Rattle.ics_rule.proofs.LawLemmas.{kept_in_rule}
+use Rattle.ics_rule.proofs.NextLemmas.{in_rule_earlier}
+use Rattle.ics_calendar.specs.declared.time.Rdate.{Rdate}
+use Rattle.ics_calendar.specs.declared.time.Rdate.TheVariants.{At, Span}
+use Rattle.ics_calendar.specs.declared.time.Time.{Time}
+use Rattle.ics_calendar.specs.declared.event.Event.{Event}
+use Rattle.ics_calendar.specs.Event.{is_zoned, HasZonesBelow, IsRdate, IsTime, RdateBelow, TimeBelow, stamp_seconds}
+use Rattle.ics_series.specs.declared.start.StartSource.{StartSource}
+use Rattle.ics_series.specs.declared.start.StartSource.TheVariants.{Kept, Listed}
+use Rattle.ics_series.specs.Clocks.{Clocks, day_of}
+use Rattle.ics_series.specs.Finish.{finish}
+use Rattle.ics_series.specs.Occurs.{IsInstance}
+use Rattle.ics_series.specs.Starts.{date_only, given_by, given_from, local_of, stamp_at, time_at, time_by, time_of, recurrence_by, recurrence_of, GivesStart, IsNotAfter}
+
+-- Locals.
+pub same-local : (a b : Local) → a.day ≡ b.day → a.second ≡ b.second → a ≡ b
+same-local a b d e = λ i. record {
+  day = d i;
+  second = e i;
+  second_in = is_prop→PathP (λ j. e j < 86_400) (λ j. hlevel props) a.second_in b.second_in i;
+}
+
+pub index-is : (d : ℤ) → IsDayNumber d → pos (day_index d) ≡ d +ℤ pos 719_528
+index-is d h = omega (arith, ints, h.0)
+
+-- a local's number counts from the year 0000, its seconds from 1970
+pub number-seconds : (a : Local) → IsDayNumber a.day → pos (number a) ≡ local_seconds a +ℤ pos 62_167_219_200
+number-seconds a h = omega (arith, ints, index-is a.day h)
+
+-- two locals with the same seconds are the same
+pub same-seconds : (a b : Local) → local_seconds a ≡ local_seconds b → a ≡ b
+same-seconds a b e = same-local a b (omega (arith, ints, a.second_in, b.second_in)) (omega (arith, ints, a.second_in, b.second_in))
+
+pub same-number : (a b : Local) → IsDayNumber a.day → IsDayNumber b.day → number a ≡ number b → a ≡ b
+same-number a b h k e = same-seconds a b (omega (arith, ints, number-seconds a h, number-seconds b k))
+
+-- Stamps of one kind.
+pub own-stamp : (s : Stamp) → stamp_at s (local_of s) ≡ s
+own-stamp (Date day) = refl
+own-stamp (Floating local) = refl
+own-stamp (Utc local) = refl
+own-stamp (Zoned local) = refl
+
+-- a stamp writes the local, or the midnight of its day
+pub written-at : (s : Stamp) (a : Local) → (stamp_seconds (stamp_at s a) ≤ℤ local_seconds a) × (local_seconds a <ℤ (stamp_seconds (stamp_at s a) +ℤ pos 86_400))
+written-at (Date day) a = (omega (arith, ints), omega (arith, ints, a.second_in))
+written-at (Floating local) a = (omega (arith, ints), omega (arith, ints))
+written-at (Utc local) a = (omega (arith, ints), omega (arith, ints))
+written-at (Zoned local) a = (omega (arith, ints), omega (arith, ints))
+
+stamp_day-at : (s : Stamp) (a : Local) → stamp_day (stamp_at s a) ≡ a.day
+stamp_day-at (Date day) a = refl
+stamp_day-at (Floating local) a = refl
+stamp_day-at (Utc local) a = refl
+stamp_day-at (Zoned local) a = refl
+
+stamp_day-own : (s : Stamp) → stamp_day s ≡ (local_of s).day
+stamp_day-own (Date day) = refl
+stamp_day-own (Floating local) = refl
+stamp_day-own (Utc local) = refl
+stamp_day-own (Zoned local) = refl
+
+is_zoned-at : (s : Stamp) (a : Local) → is_zoned (stamp_at s a) ≡ is_zoned s
+is_zoned-at (Date day) a = refl
+is_zoned-at (Floating local) a = refl
+is_zoned-at (Utc local) a = refl
+is_zoned-at (Zoned local) a = refl
+
+-- Times.
+pub own-time : (time : Time) → time_at time (local_of time.stamp) ≡ time
+own-time time = ap (λ s. record { stamp = s; zone = time.zone }) (own-stamp time.stamp)
+
+pub time-at : (time : Time) (a : Local) → IsTime time → IsStampDay a.day → IsTime (time_at time a)
+time-at time a h d = record {
+  years = subst IsStampDay (sym (stamp_day-at time.stamp a)) d;
+  zone = h.zone ∙ sym (is_zoned-at time.stamp a);
+}
+
+pub own-day : (time : Time) → IsTime time → IsStampDay (local_of time.stamp).day
+own-day time h = subst IsStampDay (stamp_day-own time.stamp) h.years
+
+pub calendar-day : (d : ℤ) → IsStampDay d → IsDayNumber d
+calendar-day d h = (omega (arith, ints, h.0), omega (arith, ints, h.1))
+
+-- Kept locals.
+pub kept-late : (r : Recurrence) (n : ℕ) → is_kept r n ≡ true → number r.start ≤ n
+kept-late r n h = ⊎_elim
+    (λ low. let in_rule = kept_in_rule r n h in let out = in_rule_earlier r n low in absurd cc)
+    (λ high. high)
+    (sides n (number r.start))
+  where
+    sides : (a b : ℕ) → (a < b) ⊎ (b ≤ a)
+    sides a b = grind arith
+
+pub kept-early : (r : Recurrence) (n : ℕ) → is_kept r n ≡ true → (n ≡ number r.start) ⊎ (n < rules_end)
+unfolding is_kept
+kept-early r n h = elim (or_true h) [
+  | inl same ↦ inl (eqb_true n (number r.start) same)
+  | inr rest ↦ inr (ltb_true n rules_end (and_true (and_true (and_true rest).0).0).0)
+]
+
+-- a local that the rule of an event keeps lies in the years of stamps
+pub kept-day : (first : Time) (parts : RuleParts) (a : Local) → IsTime first → IsDayNumber a.day → is_kept (recurrence_by first.stamp parts) (number a) ≡ true → IsStampDay a.day
+kept-day first parts a h d k =
+    let own = own-day first h in
+    let start = number-seconds (local_of first.stamp) (calendar-day (local_of first.stamp).day own) in
+    let there = number-seconds a d in
+    let late = kept-late (recurrence_by first.stamp parts) (number a) k in
+    ⊎_elim
+    (λ same. (omega (arith, ints, own.0, start, there, same, a.second_in, (local_of first.stamp).second_in), omega (arith, ints, own.1, start, there, same, a.second_in, (local_of first.stamp).second_in)))
+    (λ early. (omega (arith, ints, own.0, start, there, late, a.second_in, (local_of first.stamp).second_in), omega (arith, ints, there, early, a.second_in)))
+    (kept-early (recurrence_by first.stamp parts) (number a) k)
+
+some-same : {X : Type 0} (x y : X) → Some x ≡ Some y → x ≡ y
+some-same x y h = cc
+
+-- the rule of an event is one by its DTSTART
+pub rule-is : (first : Stamp) (o : Option RuleParts) (rule : Recurrence) → option_map (recurrence_by first) o ≡ Some rule → (parts : RuleParts) × (rule ≡ recurrence_by first parts)
+rule-is first (Some parts) rule e = (parts, some-same rule (recurrence_by first parts) (sym e))
+rule-is first None rule e = let f : None ≡ Some rule = e in absurd cc
+
+-- What gives starts.
+-- what the rule keeps is a time of the years of stamps
+pub kept-time : (event : Event) (rule : Recurrence) (a : Local) → IsTime event.start → recurrence_of event ≡ Some rule → IsDayNumber a.day → is_kept rule (number a) ≡ true → IsTime (time_at event.start a)
+kept-time event rule a h e d k =
+    let by = rule-is event.start.stamp event.rule rule e in
+    time-at event.start a h (kept-day event.start by.0 a h d (subst (λ r. is_kept r (number a) ≡ true) by.1 k))
+
+-- two of which none is after the other are the same
+same-source : (g k : StartSource) → IsNotAfter g k → IsNotAfter k g → g ≡ k
+same-source (Kept a) (Kept b) h l = ap Kept (same-seconds a b (omega (arith, ints, h, l)))
+same-source (Kept a) (Listed b) h l = absurd l
+same-source (Listed a) (Kept b) h l = absurd h
+same-source (Listed a) (Listed b) h l = ap Listed (omega (arith, h, l))
+
+-- it gives one value
+same-given : (clocks : Clocks) (event : Event) (g : StartSource) (x y : Rdate) → GivesStart clocks event g x → GivesStart clocks event g y → x ≡ y
+same-given clocks event (Kept local) x y h k = h.1 ∙ sym k.1
+same-given clocks event (Listed place) x y h k = h.2 ∙ (ap (given_by event.start) (some-same h.0 k.0 (sym h.1 ∙ k.1)) ∙ sym k.2)
+
+pub same-first : (clocks : Clocks) (event : Event) (g k : StartSource) (x y : Rdate) → GivesStart clocks event g x → GivesStart clocks event k y → IsNotAfter g k → IsNotAfter k g → x ≡ y
+same-first clocks event g k x y gives other h l =
+    same-given clocks event k x y (subst (λ i. GivesStart clocks event i x) (same-source g k h l) gives) other
+
+-- an event has one occurrence at most with a start
+pub one-instance : (clocks : Clocks) (event : Event) (start end other : ℤ) → IsInstance clocks event start end → IsInstance clocks event start other → end ≡ other
+one-instance clocks event start end other h k =
+    let below = h.earliest k.source k.given k.gives (sym k.starts) in
+    let above = k.earliest h.source h.given h.gives (sym h.starts) in
+    h.ends ∙ (ap (finish clocks event) (same-first clocks event h.source k.source h.given k.given h.gives k.gives below above) ∙ sym k.ends)
+
+-- Values that give starts.
+pub rdate-time : (r : Rdate) → IsRdate r → IsTime (time_of r)
+rdate-time (At time) h = h
+rdate-time (Span start lasts) h = h.0
+
+pub rdate-below : (zones : ℕ) (r : Rdate) → RdateBelow zones r → TimeBelow zones (time_of r)
+rdate-below zones (At time) h = h
+rdate-below zones (Span start lasts) h = h.0
+
+stamp_day-is : (s : Stamp) → stamp_day s ≡ day_of s
+stamp_day-is (Date day) = refl
+stamp_day-is (Floating local) = refl
+stamp_day-is (Utc local) = refl
+stamp_day-is (Zoned local) = refl
+
+pub day-years : (time : Time) → IsTime time → IsStampDay (day_of time.stamp)
+day-years time h = subst IsStampDay (stamp_day-is time.stamp) h.years
+
+pub date-time : (time : Time) → IsTime time → IsTime (date_only time)
+date-time time h = record { years = day-years time h; zone = refl }
+
+time-by : (first time : Time) (s : Stamp) → IsTime first → IsTime time → s ≡ time.stamp → IsTime (time_by first time s)
+time-by first time (Date day) h t e = time-at first (local_at day (local_of first.stamp).second) h (subst (λ q. IsStampDay (stamp_day q)) (sym e) t.years)
+time-by first time (Floating local) h t e = t
+time-by first time (Utc local) h t e = t
+time-by first time (Zoned local) h t e = t
+
+time-below : (zones : ℕ) (first time : Time) (s : Stamp) → TimeBelow zones first → TimeBelow zones time → TimeBelow zones (time_by first time s)
+time-below zones first time (Date day) h t = h
+time-below zones first time (Floating local) h t = t
+time-below zones first time (Utc local) h t = t
+time-below zones first time (Zoned local) h t = t
+
+pub given-value : (first : Time) (s : Stamp) (r : Rdate) → IsTime first → IsRdate r → IsRdate (given_from first s r)
+given-value first (Date day) r h v = date-time (time_of r) (rdate-time r v)
+given-value first (Floating local) (At time) h v = time-by first time time.stamp h v refl
+given-value first (Floating local) (Span start lasts) h v = v
+given-value first (Utc local) (At time) h v = time-by first time time.stamp h v refl
+given-value first (Utc local) (Span start lasts) h v = v
+given-value first (Zoned local) (At time) h v = time-by first time time.stamp h v refl
+given-value first (Zoned local) (Span start lasts) h v = v
+
+given-zone : (zones : ℕ) (first : Time) (s : Stamp) (r : Rdate) → TimeBelow zones first → RdateBelow zones r → RdateBelow zones (given_from first s r)
+given-zone zones first (Date day) r h v = tt
+given-zone zones first (Floating local) (At time) h v = time-below zones first time time.stamp h v
+given-zone zones first (Floating local) (Span start lasts) h v = v
+given-zone zones first (Utc local) (At time) h v = time-below zones first time time.stamp h v
+given-zone zones first (Utc local) (Span start lasts) h v = v
+given-zone zones first (Zoned local) (At time) h v = time-below zones first time time.stamp h v
+given-zone zones first (Zoned local) (Span start lasts) h v = v
+
+-- what holds of all of a list holds at each of its places
+pub all-at : {A : Type 0} (P : A → Type 0) (xs : List A) (k : ℕ) (x : A) → All P xs → slice_get xs k ≡ Some x → P x
+all-at P xs k x h e = subst P (get_or_from_slice_get xs k x x e) (h k x (slice_get_within xs k x e))
+
+-- what gives a start of an event is a value such as RDATEs have
+pub gives-value : (clocks : Clocks) (event : Event) (g : StartSource) (given : Rdate) → IsTime event.start → All IsRdate event.rdates → GivesStart clocks event g given → IsRdate given
+gives-value clocks event (Kept local) given h all g =
+    subst IsRdate (sym g.1)
+    (⊎_elim (λ e. subst (λ l. IsTime (time_at event.start l)) (sym e) (subst IsTime (sym (own-time event.start)) h))
+    (λ r. kept-time event r.rule local h r.has r.calendar r.kept) g.0)
+gives-value clocks event (Listed place) given h all g =
+    subst IsRdate (sym g.2) (given-value event.start event.start.stamp g.0 h (all-at IsRdate event.rdates place g.0 all g.1))
+
+-- whose zones are the file's
+pub gives-below : (zones : ℕ) (clocks : Clocks) (event : Event) (g : StartSource) (given : Rdate) → HasZonesBelow zones event → GivesStart clocks event g given → RdateBelow zones given
+gives-below zones clocks event (Kept local) given below g = subst (RdateBelow zones) (sym g.1) below.start
+gives-below zones clocks event (Listed place) given below g =
+    subst (RdateBelow zones) (sym g.2) (given-zone zones event.start event.start.stamp g.0 below.start (all-at (RdateBelow zones) event.rdates place g.0 below.rdates g.1))
