@@ -5,12 +5,13 @@ use Rattle.ics_values.specs.declared.ordinals.WideOrdinals.{WideOrdinals}
 use Rattle.ics_values.specs.Ordinals.{lists_none_wide}
 use Rattle.ics_rule.specs.declared.effective_rule.EffectiveRule.{EffectiveRule}
 use Rattle.ics_rule.specs.declared.recurrence_period.RecurrencePeriod.{RecurrencePeriod}
-use Rattle.ics_rule.specs.PeriodNumbers.{day_of, calendar_end}
+use Rattle.ics_rule.specs.PeriodNumbers.{day_of}
 use Rattle.ics_rule.specs.Candidates.{is_stepped, is_candidate_in, period_in, lets_date, lets_clock, lists_wide}
 use Rattle.ics_rule.specs.Kept.{count, is_beside, rank, size, is_placed, is_chosen}
 use Rattle.ics_rule.specs.RecurrencePeriods.{holds, is_let_in, IsPeriodOf, is_listed, is_taken}
 use Rattle.ics_rule.specs.Searches.{is_chosen_within}
 use Rattle.ics_rule.proofs.Counts.{count-same, count-suc}
+use Rattle.ics_values.specs.Locals.{calendar_end}
 
 pub same_or_not : (a b : ℕ) → (a ≡ b) ⊎ (a ≢ b)
 same_or_not a b = grind (arith, nat_tests)

@@ -17,6 +17,7 @@ use Rattle.ics_rule.proofs.RankLemmas.{count_flat}
 use Rattle.ics_rule.proofs.StepLemmas.{stepped_parts, none_between, not_true}
 use Rattle.ics_rule.proofs.ChosenLemmas.{no_step, taken_is}
 use Rattle.ics_rule.proofs.CursorLemmas.{within_here}
+use Rattle.ics_rule.specs.PeriodNumbers.{rules_end}
 
 by_order : (a b : ℕ) → (a < b) ⊎ (b ≤ a)
 by_order a b = grind arith
@@ -178,7 +179,7 @@ counted_out q start c number before end counted limit o some own known e h eb ou
 
 -- counts stay small
 pub counted_small : (q : EffectiveRule) (start c number counted limit : ℕ) (o : RecurrencePeriod) → IsCounted q start c counted limit o → o.number ≤ number → is_stepped (period_in q start) q.interval number ≡ true
-    → first_local q.frequency (monday_zero q.week_start) number ≤ 309_289_708_800 → counted ≤ 309_289_708_800
+    → first_local q.frequency (monday_zero q.week_start) number ≤ rules_end → counted ≤ rules_end
 counted_small q start c number counted limit o known l step h =
     let most = count_most (first_local q.frequency (monday_zero q.week_start) o.number) (is_chosen q start) in
     let up = first_mono q o.number number (step_low q start number step) l in

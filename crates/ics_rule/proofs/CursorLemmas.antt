@@ -15,6 +15,7 @@ use Rattle.ics_rule.proofs.PeriodLemmas.{begun, begins, first_in, period_mono, p
 use Rattle.ics_rule.proofs.Counts.{count-suc, count_some, count_mono, count_most, count_one_more, count_every}
 use Rattle.ics_rule.proofs.StepLemmas.{none_between}
 use Rattle.ics_rule.proofs.ChosenLemmas.{no_step, not_let_in}
+use Rattle.ics_values.specs.Locals.{calendar_end}
 
 by_order : (a b : ℕ) → (a < b) ⊎ (b ≤ a)
 by_order a b = grind arith
@@ -101,15 +102,15 @@ counted_at : (q : EffectiveRule) (start : ℕ) (o : Option ℕ) (c : Cursor) (pl
 counted_at q start None c place h = tt
 counted_at q start (Some k) c place h = h
 
-pub own_at : (q : EffectiveRule) (start : ℕ) (o : Option ℕ) (c : Cursor) (place : ℕ) → IsCursorIn q start o c → c.place ≤ place → place < 315_569_520_000 → IsCursorIn q start o (record c { place = place })
+pub own_at : (q : EffectiveRule) (start : ℕ) (o : Option ℕ) (c : Cursor) (place : ℕ) → IsCursorIn q start o c → c.place ≤ place → place < calendar_end → IsCursorIn q start o (record c { place = place })
 own_at q start o c place own l h = record { inside = h; held = held_mono q c.held c.place place own.held l; begun = own.begun; steps = own.steps; counted = counted_at q start o c place own.counted }
 
-pub own_walked : (q : EffectiveRule) (start : ℕ) (o : Option ℕ) (stop : ℕ) (found : Option ℕ) (before now : Cursor) (place : ℕ) → IsWalked q start o stop found before now → stop ≤ place → place < 315_569_520_000
+pub own_walked : (q : EffectiveRule) (start : ℕ) (o : Option ℕ) (stop : ℕ) (found : Option ℕ) (before now : Cursor) (place : ℕ) → IsWalked q start o stop found before now → stop ≤ place → place < calendar_end
     → IsCursorIn q start o (record now { place = place })
 own_walked q start o stop found before now place walked l h =
     record { inside = h; held = held_mono q now.held stop place walked.held l; begun = walked.begun; steps = walked.steps; counted = counted_at q start o now place walked.counted }
 
-pub own_found : (q : EffectiveRule) (start : ℕ) (o : Option ℕ) (stop n : ℕ) (before now : Cursor) → IsWalked q start o stop (Some n) before now → n + 1 < 315_569_520_000
+pub own_found : (q : EffectiveRule) (start : ℕ) (o : Option ℕ) (stop n : ℕ) (before now : Cursor) → IsWalked q start o stop (Some n) before now → n + 1 < calendar_end
     → IsCursorIn q start o (record now { place = n + 1 })
 own_found q start o stop n before now walked h =
     record { inside = h; held = held_mono q now.held n (n + 1) walked.found.0 (omega arith); begun = walked.begun; steps = walked.steps; counted = counted_at q start o now (n + 1) walked.counted }
@@ -236,12 +237,12 @@ looked_found q start o stop n before now a b walked after low soon few = record 
     below (Some k) h p l = omega (arith, h.1, l)
 
 -- a cursor's steps are counted periods
-fresh_small : (q : EffectiveRule) (held : Option RecurrencePeriod) (n : ℕ) → HeldBy q held n → n < 315_569_520_000 → fresh held ≤ 315_569_520_000
+fresh_small : (q : EffectiveRule) (held : Option RecurrencePeriod) (n : ℕ) → HeldBy q held n → n < calendar_end → fresh held ≤ calendar_end
 fresh_small q None n h l = omega arith
 fresh_small q (Some p) n h l = let s = period_small q.frequency (monday_zero q.week_start) n l in omega (arith, h.1, s)
 
-pub few_steps : (q : EffectiveRule) (start : ℕ) (o : Option ℕ) (c : Cursor) (a b : ℕ) → IsCursorIn q start o c → HasLookedIn q start o c a b → c.steps ≤ count 315_569_520_000 (is_met q start a b)
-few_steps q start o c a b own few = let more = count_mono (fresh c.held) 315_569_520_000 (is_met q start a b) (fresh_small q c.held c.place own.held own.inside) in omega (arith, few.few, more)
+pub few_steps : (q : EffectiveRule) (start : ℕ) (o : Option ℕ) (c : Cursor) (a b : ℕ) → IsCursorIn q start o c → HasLookedIn q start o c a b → c.steps ≤ count calendar_end (is_met q start a b)
+few_steps q start o c a b own few = let more = count_mono (fresh c.held) calendar_end (is_met q start a b) (fresh_small q c.held c.place own.held own.inside) in omega (arith, few.few, more)
 
 pub within_here : (q : EffectiveRule) (start number n : ℕ) → period_in q n ≡ number → is_chosen_within q start number n ≡ is_chosen q start n
 within_here q start number n e = ap (λ x. x && is_chosen q start n) (self_test (period_in q n) number e)
@@ -378,7 +379,7 @@ pub walk_reach : (q : EffectiveRule) (number stop : ℕ) → number ≤ period_i
 walk_reach q number stop h = let b = begun q.frequency (monday_zero q.week_start) number (stop - 1) h in omega (arith, b)
 
 -- a cursor that has looked at nothing
-pub cursor_begins : (q : EffectiveRule) (start : ℕ) (o : Option ℕ) (place : ℕ) → place < 315_569_520_000 → IsCursorIn q start o (record { place = place; steps = 0; held = None; counted = 0; limit = 0 })
+pub cursor_begins : (q : EffectiveRule) (start : ℕ) (o : Option ℕ) (place : ℕ) → place < calendar_end → IsCursorIn q start o (record { place = place; steps = 0; held = None; counted = 0; limit = 0 })
 cursor_begins q start None place h = record { inside = h; held = tt; begun = tt; steps = omega arith; counted = tt }
 cursor_begins q start (Some c) place h = record { inside = h; held = tt; begun = tt; steps = omega arith; counted = tt }
 

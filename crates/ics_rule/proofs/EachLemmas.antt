@@ -8,7 +8,7 @@ use Rattle.ics_values.specs.declared.frequency.Frequency.{Frequency}
 use Rattle.ics_values.specs.declared.frequency.Frequency.TheVariants.{Secondly, Minutely, Hourly, Daily, Weekly, Monthly, Yearly}
 use Rattle.ics_values.specs.Ordinals.{lists_none_wide}
 use Rattle.ics_rule.specs.declared.effective_rule.EffectiveRule.{EffectiveRule}
-use Rattle.ics_rule.specs.PeriodNumbers.{period, calendar_end, day_of, hour_of, minute_of, second_of}
+use Rattle.ics_rule.specs.PeriodNumbers.{period, day_of, hour_of, minute_of, second_of}
 use Rattle.ics_rule.specs.EffectiveRules.{skips_hours, skips_minutes, skips_seconds}
 use Rattle.ics_rule.specs.Candidates.{lets, lets_date, lets_clock, lists_wide, is_stepped, is_candidate_in, period_in}
 use Rattle.ics_rule.specs.Kept.{count, is_beside, rank, size, is_placed, is_chosen}
@@ -20,6 +20,7 @@ use Rattle.ics_rule.proofs.ProductCounts.{count_zero}
 use Rattle.ics_rule.proofs.RankLemmas.{count_flat, count-ranked}
 use Rattle.ics_rule.proofs.StepLemmas.{stepped_parts}
 use Rattle.ics_rule.proofs.RoundLemmas.{step_repeats}
+use Rattle.ics_values.specs.Locals.{calendar_end}
 
 if_true : (b : Bool) → b ≡ true → ◌≡◌ {A = ℕ} (cond b 1 0) 1
 if_true b e = let f : Bool → ℕ = λ z. cond z 1 0 in ap f e
@@ -313,7 +314,7 @@ module _ (q : EffectiveRule) (start : ℕ) (fine : 0 < seconds_of q.frequency) (
 
   -- a walk ahead by whole intervals, up to the period of a place
   pub open_end : (first begin ahead counted each number place : ℕ) → 1 ≤ q.interval → first ≡ period_in q start → ahead ≡ period_in q place - begin
-      → 64 ≤ ahead / q.interval → place < 315_569_520_000
+      → 64 ≤ ahead / q.interval → place < calendar_end
       → is_stepped (period_in q start) q.interval begin ≡ true → counted
       ≡ count (first_local q.frequency (monday_zero q.week_start) begin) (is_chosen q start) → each ≡ chosen_in_open q
       → number + count begin (is_open_period q first) ≡ count (begin + ahead / q.interval * q.interval) (is_open_period q first)

@@ -8,7 +8,6 @@ use Rattle.ics_values.specs.Days.{days_before_year}
 use Rattle.ics_values.specs.Ordinals.{lists_none_wide}
 use Rattle.ics_values.proofs.DayLemmas.{days_before_year_low}
 use Rattle.ics_rule.specs.declared.effective_rule.EffectiveRule.{EffectiveRule}
-use Rattle.ics_rule.specs.PeriodNumbers.{calendar_end}
 use Rattle.ics_rule.specs.Candidates.{is_stepped, period_in}
 use Rattle.ics_rule.specs.Kept.{count, is_chosen}
 use Rattle.ics_rule.specs.RecurrencePeriods.{first_local}
@@ -22,6 +21,8 @@ use Rattle.ics_rule.proofs.StepLemmas.{stepped_parts, none_between, not_true}
 use Rattle.ics_rule.proofs.RoundLemmas.{step_repeats, rounds_total}
 use Rattle.ics_rule.proofs.FlatLemmas.{allowed_before, month_local, month_adds, month_is, year_is}
 use Rattle.ics_rule.proofs.SizeLemmas.{let_at, longest, chosen_of, period_adds, size_adds}
+use Rattle.ics_rule.specs.PeriodNumbers.{rules_end}
+use Rattle.ics_values.specs.Locals.{calendar_end}
 
 by_order : (m n : ℕ) → (m < n) ⊎ (n ≤ m)
 by_order m n = grind arith
@@ -32,7 +33,7 @@ IsStep q start p = is_stepped (period_in q start) q.interval p ≡ true
 
 -- and begins before the end of the rules
 abbrev IsEarly : EffectiveRule → ℕ → Type 0
-IsEarly q p = first_local q.frequency (monday_zero q.week_start) p ≤ 309_289_708_800
+IsEarly q p = first_local q.frequency (monday_zero q.week_start) p ≤ rules_end
 
 -- how many locals are allowed before the period with a number
 abbrev allowed_to : EffectiveRule → ℕ → ℕ
@@ -204,7 +205,7 @@ even_months q start some flat monthly = even_is q start some 12 (λ x low high. 
     months (suc i) zero low high order same = absurd (omega (arith, order))
     months (suc i) (suc j) low high order same =
         let is : (p : ℕ) → allowed_to q (suc p) ≡ allowed_before q (month_local p) = λ p. ap (λ f. allowed_before q (first_local f (monday_zero q.week_start) (suc p))) monthly in
-        let reach = subst (λ f. first_local f (monday_zero q.week_start) (suc j) ≤ 309_289_708_800) monthly high in
+        let reach = subst (λ f. first_local f (monday_zero q.week_start) (suc j) ≤ rules_end) monthly high in
         let long = days_before_year_low (j / 12) in
         let back : suc j - 1 ≡ j = omega arith in
         let year : j / 12 ≤ 9_999 = omega (arith, rw back at reach, long) in
@@ -224,7 +225,7 @@ even_years q start some flat yearly = even_is q start some 1 (λ x low high. yea
     years : (x y : ℕ) → IsEarly q y → x ≤ y → allowed_to q (suc x) + allowed_to q y ≡ allowed_to q (suc y) + allowed_to q x
     years x y high order =
         let is : (p : ℕ) → allowed_to q p ≡ allowed_before q (days_before_year p * 86_400) = λ p. ap (λ f. allowed_before q (first_local f (monday_zero q.week_start) p)) yearly in
-        let reach = subst (λ f. first_local f (monday_zero q.week_start) y ≤ 309_289_708_800) yearly high in
+        let reach = subst (λ f. first_local f (monday_zero q.week_start) y ≤ rules_end) yearly high in
         let long = days_before_year_low y in
         let year : y ≤ 9_999 = omega (arith, reach, long) in
         let one = year_is q flat x (omega (arith, year, order)) in

@@ -13,7 +13,7 @@ use Rattle.ics_values.specs.Days.{days_before_year, year_of, year_day_of, month_
 use Rattle.ics_values.proofs.DayLemmas.{Fields, days_before_year-next, days_before_year_low, year_of_is, year_under_way}
 use Rattle.ics_rule.specs.declared.effective_rule.EffectiveRule.{EffectiveRule}
 use Rattle.ics_rule.specs.declared.runs.Run.{Run}
-use Rattle.ics_rule.specs.PeriodNumbers.{period}
+use Rattle.ics_rule.specs.PeriodNumbers.{period, rules_end}
 use Rattle.ics_rule.specs.RecurrencePeriods.{first_local, month_start}
 use Rattle.ics_rule.specs.Candidates.{lets, lets_place, lets_wide_place, lets_week, lets_weekday, lets_numbered, lets_date, lists, lists_nth}
 use Rattle.ics_rule.specs.Runs.{has_run, weekday_in, lists_weekday, lists_in_month, is_in_month, goes_by_months, counts_in_month, IsMonth, IsSpan}
@@ -388,7 +388,7 @@ span_month p first len w span weekday = record {
 }
 
 -- and the period that a rule's code looks at
-pub period_span : (f : Frequency) (w p b e : ℕ) → period f w 0 ≤ p → b ≡ first_local f w p → e ≡ first_local f w (p + 1) → b ≤ 309_289_708_800 → IsSpan f p (b / 86_400) ((e + 86_399) / 86_400 - b / 86_400)
+pub period_span : (f : Frequency) (w p b e : ℕ) → period f w 0 ≤ p → b ≡ first_local f w p → e ≡ first_local f w (p + 1) → b ≤ rules_end → IsSpan f p (b / 86_400) ((e + 86_399) / 86_400 - b / 86_400)
 period_span Yearly w p b e low eb ee reach =
     let next = days_before_year-next p in
     let one = ap days_before_year (let same : p + 1 ≡ suc p = omega arith in same) in

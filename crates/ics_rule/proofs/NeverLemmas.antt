@@ -6,7 +6,7 @@ use Rattle.ics_values.specs.Sets.{contains_wide}
 use Rattle.ics_values.specs.Ordinals.{lists_none_wide}
 use Rattle.ics_rule.specs.declared.effective_rule.EffectiveRule.{EffectiveRule}
 use Rattle.ics_rule.specs.declared.cursor.Cursor.{Cursor}
-use Rattle.ics_rule.specs.PeriodNumbers.{day_of, calendar_end}
+use Rattle.ics_rule.specs.PeriodNumbers.{day_of, rules_end}
 use Rattle.ics_rule.specs.Candidates.{lets_date, lets_clock, is_stepped, is_candidate_in, period_in}
 use Rattle.ics_rule.specs.Kept.{count, is_beside, rank, size, is_placed, is_chosen}
 use Rattle.ics_rule.specs.Cursors.{IsCursorIn}
@@ -17,6 +17,7 @@ use Rattle.ics_rule.specs.OpenPeriods.{lets_own, lets_within, size_of_open}
 use Rattle.ics_rule.proofs.EachLemmas.{clock_split, in_period, within_at}
 use Rattle.ics_rule.proofs.RankLemmas.{count_flat}
 use Rattle.ics_rule.proofs.CursorLemmas.{count_within, held_mono}
+use Rattle.ics_values.specs.Locals.{calendar_end}
 
 by_order : (a b : ℕ) → (a < b) ⊎ (b ≤ a)
 by_order a b = grind arith
@@ -73,7 +74,7 @@ most_in_period q fine unit start n =
 -- no place up to the size is listed
 pub never_chosen : (q : EffectiveRule) (most : ℕ) → lists_none_wide q.positions ≡ false → ((start n : ℕ) → size q start n ≤ most)
     → ((k : ℕ) → 1 ≤ k → k ≤ most → contains_wide q.positions.front k ≡ false) → ((k : ℕ) → 1 ≤ k → k ≤ most → contains_wide q.positions.back k ≡ false)
-    → (start n : ℕ) → n < 315_569_520_000 → is_chosen q start n ≡ false
+    → (start n : ℕ) → n < calendar_end → is_chosen q start n ≡ false
 never_chosen q most some few front back start n inside = by_candidate (is_candidate_in q start n) refl
   where
     out : (a b : Bool) → b ≡ false → (a && b) ≡ false
@@ -93,7 +94,7 @@ never_chosen q most some few front back start n inside = by_candidate (is_candid
         ∙ back (size q start n + 1 - rank q start n) (omega (arith, within)) (omega (arith, first, within, bound)))
 
 -- so a walk finds nothing
-pub none_wanted : (q : EffectiveRule) (start : ℕ) (o : Option ℕ) (place stop : ℕ) → stop ≤ 309_289_708_800 → ((n : ℕ) → n < 315_569_520_000 → is_chosen q start n ≡ false) → NoneWanted q start o place stop
+pub none_wanted : (q : EffectiveRule) (start : ℕ) (o : Option ℕ) (place stop : ℕ) → stop ≤ rules_end → ((n : ℕ) → n < calendar_end → is_chosen q start n ≡ false) → NoneWanted q start o place stop
 none_wanted q start None place stop h none n l u = none n (omega (arith, u, h))
 none_wanted q start (Some c) place stop h none n l u = ap (λ x. x && is_few q start c n) (none n (omega (arith, u, h)))
 

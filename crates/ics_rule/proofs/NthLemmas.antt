@@ -9,7 +9,7 @@ use Rattle.ics_values.specs.declared.ordinals.WideOrdinals.{WideOrdinals}
 use Rattle.ics_values.specs.Sets.{contains, contains_wide}
 use Rattle.ics_values.specs.Days.{days_before_year, year_of, year_day_of, month_of, month_day_of, weekday_of}
 use Rattle.ics_values.proofs.DayLemmas.{days_before_year-next, year_of_is, year_under_way}
-use Rattle.ics_rule.specs.PeriodNumbers.{month_number, week_of, calendar_end}
+use Rattle.ics_rule.specs.PeriodNumbers.{month_number, week_of}
 use Rattle.ics_rule.specs.Candidates.{lists, lists_wide, lists_nth, fourth_day, week_number, weeks_of_year}
 use Rattle.ics_rule.specs.Kept.{count}
 use Rattle.ics_rule.specs.RecurrencePeriods.{month_start}
@@ -20,6 +20,7 @@ use Rattle.ics_rule.proofs.PeriodLemmas.{begun, begins, month_size, month_positi
 use Rattle.ics_rule.proofs.RankLemmas.{count_flat}
 use Rattle.ics_rule.proofs.LawLemmas.{year_day_is}
 use Rattle.ics_rule.proofs.TableSteps.{same_or_not, same_test, apart_test, count_one, count_no}
+use Rattle.ics_values.specs.Locals.{calendar_end}
 
 by_order : (a b : ℕ) → (a < b) ⊎ (b ≤ a)
 by_order a b = grind arith

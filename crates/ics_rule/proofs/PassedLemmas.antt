@@ -21,6 +21,8 @@ use Rattle.ics_rule.proofs.StepLemmas.{stepped_parts, none_between}
 use Rattle.ics_rule.proofs.ChosenLemmas.{taken_within}
 use Rattle.ics_rule.proofs.CursorLemmas.{IsWalk, walk_ends, meets, then_moves, looks_once, looks_more, bounded, within_facts}
 use Rattle.ics_rule.proofs.CountingLemmas.{IsCounting, counting_begins, step_first}
+use Rattle.ics_rule.specs.PeriodNumbers.{rules_end}
+use Rattle.ics_values.specs.Locals.{calendar_end}
 
 by_order : (a b : ℕ) → (a < b) ⊎ (b ≤ a)
 by_order a b = grind arith
@@ -29,7 +31,7 @@ pub passed_none : (q : EffectiveRule) (start c : ℕ) (cursor : Cursor) → IsCu
 passed_none q start c cursor own = record { own = own; moved = inl (refl, refl); looked = λ a b l few. few.few }
 
 -- a walk that has not come past its place
-pub counting_passed : (q : EffectiveRule) (start c stop number : ℕ) (before now : Cursor) → IsCounting q start c stop number before now → number ≤ period_in q before.place → before.place < 315_569_520_000 → stop ≤ before.place + 1
+pub counting_passed : (q : EffectiveRule) (start c stop number : ℕ) (before now : Cursor) → IsCounting q start c stop number before now → number ≤ period_in q before.place → before.place < calendar_end → stop ≤ before.place + 1
     → IsPassedTo q start c before now
 counting_passed q start c stop number before now walk h inside s = record {
   own = record {
@@ -82,7 +84,7 @@ not_past q first number next end some here there h is_next = elim (by_order next
 -- a look further on, at a period before which what is chosen is counted
 pub passed_on : (q : EffectiveRule) (start c stop number target total : ℕ) (before after now : Cursor) (o p : RecurrencePeriod) → IsWalked q start (Some c) stop None before after → IsTurned q start c number after o
     → now ≡ after_look after p total → IsPeriodOf q p → p.number ≡ target → number < target → is_stepped (period_in q start) q.interval target ≡ true → target ≤ period_in q before.place
-    → start < before.place → before.place < 315_569_520_000 → stop ≡ before.place + 1 → after.place ≡ before.place
+    → start < before.place → before.place < calendar_end → stop ≡ before.place + 1 → after.place ≡ before.place
     → total ≡ count (first_local q.frequency (monday_zero q.week_start) target) (is_chosen q start) → IsPassedTo q start c before now
 passed_on q start c stop number target total before after now o p walked turned e product same later step top late inside es ep et = record {
   own = subst (λ (x : Cursor). IsCursorIn q start (Some c) x) (sym e) (record {
@@ -145,7 +147,7 @@ pub record IsRoundsEnd (q : EffectiveRule) (start begin round rounds before one 
   pub later : begin + round < begin + rounds * round
 
 pub rounds_end : (q : EffectiveRule) (start begin round rounds before one : ℕ) → IsEvenRound q start round → IsRoundsBegin q start begin before → 2 ≤ begin → 2 ≤ rounds
-    → first_local q.frequency (monday_zero q.week_start) (begin + rounds * round) ≤ 309_289_708_800 → one ≡ count (first_local q.frequency (monday_zero q.week_start) (begin + round)) (is_chosen q start) → IsRoundsEnd q start begin round rounds before one
+    → first_local q.frequency (monday_zero q.week_start) (begin + rounds * round) ≤ rules_end → one ≡ count (first_local q.frequency (monday_zero q.week_start) (begin + round)) (is_chosen q start) → IsRoundsEnd q start begin round rounds before one
 rounds_end q start begin round rounds before one is from low some high e =
     let first = (stepped_parts (period_in q start) q.interval begin from.step).0 in
     let counts = is.total begin rounds before one low from.step (omega (arith, some)) high from.total e in
@@ -186,7 +188,7 @@ pub turned_room : (q : EffectiveRule) (start c stop number : ℕ) (before after 
 turned_room q start c stop number before after o walked turned = let few = subst (λ x. after.steps ≤ fresh x) turned.held walked.steps in omega (arith, few, turned.number)
 
 -- a walk that finds nothing in a round finds nothing later
-pub walk_rounds_end : (q : EffectiveRule) (start stop number begin end : ℕ) (before now : Cursor) → IsWalk q start stop number before now → stop ≤ 309_289_708_800 → end < number → period_in q start ≤ begin → period_in q before.place ≤ begin
+pub walk_rounds_end : (q : EffectiveRule) (start stop number begin end : ℕ) (before now : Cursor) → IsWalk q start stop number before now → stop ≤ rules_end → end < number → period_in q start ≤ begin → period_in q before.place ≤ begin
     → (end < period_in q (stop - 1) → HasRound q begin end) → IsNextWanted q start None before.place stop None
 walk_rounds_end q start stop number begin end before now walk h past low here round = elim (by_order end (period_in q (stop - 1))) [
   | inl less ↦ by_round (round less)

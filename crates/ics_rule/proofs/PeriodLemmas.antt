@@ -9,10 +9,11 @@ use Rattle.ics_values.specs.Days.{days_before_year, year_of, month_of}
 use Rattle.ics_values.proofs.DayLemmas.{year_under_way, days_before_year_low, days_before_year_mono, days_before_year-next}
 use Rattle.ics_values.specs.declared.frequency.Frequency.{Frequency}
 use Rattle.ics_values.specs.declared.frequency.Frequency.TheVariants.{Secondly, Minutely, Hourly, Daily, Weekly, Monthly, Yearly}
-use Rattle.ics_rule.specs.PeriodNumbers.{period, month_number}
+use Rattle.ics_rule.specs.PeriodNumbers.{period, month_number, rules_end}
 use Rattle.ics_rule.specs.EffectiveRules.{skips_hours, skips_minutes, skips_seconds}
 use Rattle.ics_rule.specs.RecurrencePeriods.{month_start, first_local}
 use Rattle.ics_rule.proofs.Months.{earlier_month, later_month, month_of_high}
+use Rattle.ics_values.specs.Locals.{calendar_end}
 
 by_order : (a b : ℕ) → (a < b) ⊎ (b ≤ a)
 by_order a b = grind arith
@@ -157,7 +158,7 @@ next_first f w p b e h l eb ee =
     one_more p = omega arith
 
 -- a period's number is no more than its locals allow
-pub period_small : (f : Frequency) (w n : ℕ) → n < 315_569_520_000 → period f w n < 315_569_520_000
+pub period_small : (f : Frequency) (w n : ℕ) → n < calendar_end → period f w n < calendar_end
 period_small Secondly w n h = h
 period_small Minutely w n h = omega arith
 period_small Hourly w n h = omega arith
@@ -167,12 +168,12 @@ period_small Monthly w n h = let b = month_begun (month_number (n / 86_400)) (n 
 period_small Yearly w n h = let b = year_begun (year_of (n / 86_400)) (n / 86_400) (omega arith) in let l = days_before_year_low (year_of (n / 86_400)) in omega (arith, b, l)
 
 -- how many days a period touches
-pub span_fits : (f : Frequency) (w p first len : ℕ) → w < 7 → period f w 0 ≤ p → first_local f w p ≤ 309_289_708_800
+pub span_fits : (f : Frequency) (w p first len : ℕ) → w < 7 → period f w 0 ≤ p → first_local f w p ≤ rules_end
     → first ≡ first_local f w p / 86_400 → len ≡ (first_local f w (p + 1) + 86_399) / 86_400 - first_local f w p / 86_400 → (len ≤ 384) × (first + 384 ≤ 3_652_059)
 span_fits f w p first len small low reach ef el =
     let s = next_first f w p _ _ small low refl refl in fits (first_local f w p) (first_local f w (p + 1)) first len s.0 s.1 reach ef el
   where
-    fits : (b e first len : ℕ) → b < e → e ≤ b + 366 * 86_400 → b ≤ 309_289_708_800 → first ≡ b / 86_400 → len ≡ (e + 86_399) / 86_400 - b / 86_400
+    fits : (b e first len : ℕ) → b < e → e ≤ b + 366 * 86_400 → b ≤ rules_end → first ≡ b / 86_400 → len ≡ (e + 86_399) / 86_400 - b / 86_400
         → (len ≤ 384) × (first + 384 ≤ 3_652_059)
     fits b e first len more most reach ef el = (omega (arith, more, most, el), omega (arith, reach, ef))
 

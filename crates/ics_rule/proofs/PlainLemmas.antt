@@ -14,8 +14,8 @@ use Rattle.ics_rule.specs.declared.kind.Kind.{Kind}
 use Rattle.ics_rule.specs.declared.kind.Kind.TheVariants.{Date, DateTime}
 use Rattle.ics_rule.specs.declared.effective_rule.EffectiveRule.{EffectiveRule}
 use Rattle.ics_rule.specs.Recurrence.{Recurrence}
-use Rattle.ics_rule.specs.PeriodNumbers.{day_of, hour_of, minute_of, second_of, calendar_end, rules_end}
-use Rattle.ics_values.specs.Locals.{number}
+use Rattle.ics_rule.specs.PeriodNumbers.{day_of, hour_of, minute_of, second_of, rules_end}
+use Rattle.ics_values.specs.Locals.{number, calendar_end}
 use Rattle.ics_rule.specs.EffectiveRules.{takes_month_day, takes_month, takes_weekday, skips_hours, skips_minutes, skips_seconds, clock_part, effective}
 use Rattle.ics_rule.specs.Candidates.{lets, lets_place, lets_wide_place, lists, lists_wide, lists_nth, lets_week, lets_numbered, lets_weekday, lets_date, lets_clock, period_in, is_stepped, is_candidate_in, fourth_day, week_number, weeks_of_year}
 use Rattle.ics_rule.specs.Kept.{count, is_beside, rank, size, is_placed, is_chosen, is_in_rule, is_by_until, is_counted, is_kept}

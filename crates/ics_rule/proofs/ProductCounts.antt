@@ -6,10 +6,10 @@ use Rattle.std.proofs.Math.Nat.{mod-lt}
 use Rattle.ics_values.specs.Sets.{contains, contains_wide, IsNextIn}
 use Rattle.ics_values.proofs.SetLemmas.{wide_past}
 use Rattle.ics_rule.specs.declared.recurrence_period.RecurrencePeriod.{RecurrencePeriod}
-use Rattle.ics_rule.specs.PeriodNumbers.{calendar_end}
 use Rattle.ics_rule.specs.Kept.{count, size}
 use Rattle.ics_rule.specs.RecurrencePeriods.{has_minute, has_second, has_day, holds, IsNth}
 use Rattle.ics_rule.proofs.Counts.{count-same, count-suc, count-add, count-from, count-up_to, count-product, count-none}
+use Rattle.ics_values.specs.Locals.{calendar_end}
 
 -- how many pass before the t-th of block d: the blocks before it, and what passes in it
 pub count-place : (d b t : ℕ) (p q : ℕ → Bool) → t ≤ b → count (d * b + t) (λ m. p (m / b) && q (m % b)) ≡ count d p * count b q + cond (p d) 1 0 * count t q

@@ -11,7 +11,7 @@ use Rattle.ics_values.specs.Sets.{contains, is_empty}
 use Rattle.ics_values.specs.Ordinals.{lists_none_wide, lists_no_weekday, numbers_of}
 use Rattle.ics_values.specs.Days.{weekday_of}
 use Rattle.ics_rule.specs.declared.effective_rule.EffectiveRule.{EffectiveRule}
-use Rattle.ics_rule.specs.PeriodNumbers.{period, calendar_end, day_of, hour_of, minute_of, second_of}
+use Rattle.ics_rule.specs.PeriodNumbers.{period, day_of, hour_of, minute_of, second_of, rules_end}
 use Rattle.ics_rule.specs.Candidates.{lets, lets_numbered, lets_date, lets_clock, lists_wide, is_stepped, is_candidate_in, period_in}
 use Rattle.ics_rule.specs.DateParts.{names_weekdays_alone}
 use Rattle.ics_rule.specs.Kept.{count, is_beside, rank, size, is_placed, is_chosen}
@@ -21,6 +21,7 @@ use Rattle.ics_rule.proofs.Counts.{count-same, count-add, count-from}
 use Rattle.ics_rule.proofs.RankLemmas.{count_flat}
 use Rattle.ics_rule.proofs.PeriodLemmas.{begun, begins, is_short}
 use Rattle.ics_rule.proofs.DateLemmas.{absent_in, weekdays_alone}
+use Rattle.ics_values.specs.Locals.{calendar_end}
 
 -- under the frequencies whose periods last alike a weekday with a number stands for the weekday
 numbered_alike : (f : Frequency) (q : EffectiveRule) (p : Ordinals) (d e : ℕ) → 0 < seconds_of f → lets_numbered f q p d ≡ lets_numbered f q p e
@@ -232,7 +233,7 @@ module _ (q : EffectiveRule) (start periods seconds : ℕ) (round : IsRound q pe
       ∙ count-from seconds (suc n) (is_beside q start (n + seconds)) (λ m h. none_earlier n m some h)
       ∙ count-same (suc n) (λ k. is_beside q start (n + seconds) (seconds + k)) (is_beside q start n) (λ k h. beside_later n k l)
 
-  size_on : (n : ℕ) → period_in q start ≤ period_in q n → 2 ≤ period_in q n → n + seconds < 309_289_708_800 → size q start (n + seconds) ≡ size q start n
+  size_on : (n : ℕ) → period_in q start ≤ period_in q n → 2 ≤ period_in q n → n + seconds < rules_end → size q start (n + seconds) ≡ size q start n
   size_on n l some inside =
       let whole : calendar_end ≡ seconds + (calendar_end - seconds) = omega (arith, inside) in
       ap (λ x. count x (is_beside q start (n + seconds))) whole
@@ -247,7 +248,7 @@ module _ (q : EffectiveRule) (start periods seconds : ℕ) (round : IsRound q pe
       let far = begins q.frequency (monday_zero q.week_start) (suc (period_in q (n + seconds))) (m + seconds) (omega (arith, low, short, inside, h)) in
       omega (arith, same, one, other, far))))
 
-  chosen_on : (n : ℕ) → period_in q start ≤ period_in q n → 2 ≤ period_in q n → n + seconds < 309_289_708_800 → is_chosen q start (n + seconds) ≡ is_chosen q start n
+  chosen_on : (n : ℕ) → period_in q start ≤ period_in q n → 2 ≤ period_in q n → n + seconds < rules_end → is_chosen q start (n + seconds) ≡ is_chosen q start n
   chosen_on n l some inside =
       ap (λ x. x && is_placed q start (lists_none_wide q.positions) (n + seconds)) (candidate_on n l)
       ∙ ap (λ x. is_candidate_in q start n && x) (placed_on (lists_none_wide q.positions))
@@ -259,15 +260,15 @@ module _ (q : EffectiveRule) (start periods seconds : ℕ) (round : IsRound q pe
   -- where nothing is chosen in a round, nothing is later
   pub none_after : (begin : ℕ) → 2 ≤ begin → period_in q start ≤ begin
       → ((n : ℕ) → first_local q.frequency (monday_zero q.week_start) begin ≤ n → n < first_local q.frequency (monday_zero q.week_start) (begin + periods) → is_chosen q start n ≡ false)
-      → (n : ℕ) → first_local q.frequency (monday_zero q.week_start) begin ≤ n → n < 309_289_708_800 → is_chosen q start n ≡ false
+      → (n : ℕ) → first_local q.frequency (monday_zero q.week_start) begin ≤ n → n < rules_end → is_chosen q start n ≡ false
   none_after begin l low none n h u =
       let a = first_local q.frequency (monday_zero q.week_start) begin in
-      let on : (m : ℕ) → a ≤ m → m + seconds < 309_289_708_800 → is_chosen q start (m + seconds) ≡ is_chosen q start m = (λ m h u. let g = begins q.frequency (monday_zero q.week_start) begin m h in chosen_on m (omega (arith, g, low)) (omega (arith, g, l)) u) in
+      let on : (m : ℕ) → a ≤ m → m + seconds < rules_end → is_chosen q start (m + seconds) ≡ is_chosen q start m = (λ m h u. let g = begins q.frequency (monday_zero q.week_start) begin m h in chosen_on m (omega (arith, g, low)) (omega (arith, g, l)) u) in
       let whole = div-add-mod' (n - a) seconds in
       let same : n ≡ a + (n - a) % seconds + (n - a) / seconds * seconds = omega (arith, whole, h) in
       let small : (n - a) % seconds < seconds = mod-lt (n - a) positive in
       let end = round.first begin l in
-      ap (is_chosen q start) same ∙ repeats_below (is_chosen q start) a seconds 309_289_708_800 on ((n - a) / seconds) (a + (n - a) % seconds) (omega arith) (omega (arith, same, u))
+      ap (is_chosen q start) same ∙ repeats_below (is_chosen q start) a seconds rules_end on ((n - a) / seconds) (a + (n - a) % seconds) (omega arith) (omega (arith, same, u))
       ∙ none (a + (n - a) % seconds) (omega arith) (omega (arith, small, end))
     where
       positive : 0 < seconds
@@ -291,17 +292,17 @@ module _ (q : EffectiveRule) (start periods seconds : ℕ) (round : IsRound q pe
   step_rounds first j p l = repeats_often (is_stepped first q.interval) first periods (λ n h. round.step first n h) j p l
 
   -- what is chosen before the end of so many rounds, by the first
-  pub rounds_total : (begin rounds before one : ℕ) → 2 ≤ begin → period_in q start ≤ begin → 1 ≤ rounds → first_local q.frequency (monday_zero q.week_start) (begin + rounds * periods) ≤ 309_289_708_800
+  pub rounds_total : (begin rounds before one : ℕ) → 2 ≤ begin → period_in q start ≤ begin → 1 ≤ rounds → first_local q.frequency (monday_zero q.week_start) (begin + rounds * periods) ≤ rules_end
       → before ≡ count (first_local q.frequency (monday_zero q.week_start) begin) (is_chosen q start) → one ≡ count (first_local q.frequency (monday_zero q.week_start) (begin + periods)) (is_chosen q start)
       → (before ≤ one) × (before + rounds * (one - before) ≡ count (first_local q.frequency (monday_zero q.week_start) (begin + rounds * periods)) (is_chosen q start))
   rounds_total begin rounds before one l low some high eb eo =
       let a = first_local q.frequency (monday_zero q.week_start) begin in
-      let on : (n : ℕ) → a ≤ n → n + seconds < 309_289_708_800 → is_chosen q start (n + seconds) ≡ is_chosen q start n = (λ n h u. let g = begins q.frequency (monday_zero q.week_start) begin n h in chosen_on n (omega (arith, g, low)) (omega (arith, g, l)) u) in
+      let on : (n : ℕ) → a ≤ n → n + seconds < rules_end → is_chosen q start (n + seconds) ≡ is_chosen q start n = (λ n h u. let g = begins q.frequency (monday_zero q.week_start) begin n h in chosen_on n (omega (arith, g, low)) (omega (arith, g, l)) u) in
       let end = first_rounds rounds begin l in
       let once : 1 * seconds ≡ seconds = omega arith in
       let up = mul-le-mul_right {m = 1} {n = rounds} seconds some in
-      let first = count_rounds (is_chosen q start) a seconds 309_289_708_800 on 1 (omega (arith, end, up, high)) in
-      let all = count_rounds (is_chosen q start) a seconds 309_289_708_800 on rounds (omega (arith, end, high)) in
+      let first = count_rounds (is_chosen q start) a seconds rules_end on 1 (omega (arith, end, up, high)) in
+      let all = count_rounds (is_chosen q start) a seconds rules_end on rounds (omega (arith, end, high)) in
       let first' = ap (λ x. count x (is_chosen q start)) (round.first begin l ∙ ap (λ x. a + x) (sym once)) in
       let all' = ap (λ x. count x (is_chosen q start)) end in
       let b = count seconds (λ k. is_chosen q start (a + k)) in

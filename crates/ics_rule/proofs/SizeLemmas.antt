@@ -3,7 +3,7 @@ use Rattle.std.proofs.Common.{◌≡◌, ℕ, suc, ◌+◌, ◌*◌, ◌<◌, �
 use Rattle.jiff_core.specs.Weekday.{monday_zero}
 use Rattle.ics_values.specs.Ordinals.{lists_none_wide}
 use Rattle.ics_rule.specs.declared.effective_rule.EffectiveRule.{EffectiveRule}
-use Rattle.ics_rule.specs.PeriodNumbers.{calendar_end, day_of}
+use Rattle.ics_rule.specs.PeriodNumbers.{day_of}
 use Rattle.ics_rule.specs.Candidates.{lets_date, lets_clock, lists_wide, is_stepped, is_candidate_in, period_in}
 use Rattle.ics_rule.specs.Kept.{count, is_beside, rank, size, is_placed, is_chosen}
 use Rattle.ics_rule.specs.RecurrencePeriods.{first_local, is_let_in, is_listed}
@@ -13,6 +13,7 @@ use Rattle.ics_rule.proofs.RankLemmas.{count_flat, count-ranked}
 use Rattle.ics_rule.proofs.PeriodLemmas.{begun, begins, is_short}
 use Rattle.ics_rule.proofs.ChosenLemmas.{same_or_not, self_test, apart_test, and_true, and_false, let_in}
 use Rattle.ics_rule.proofs.FlatLemmas.{is_allowed, allowed_before}
+use Rattle.ics_values.specs.Locals.{calendar_end}
 
 by_order : (m n : ℕ) → (m < n) ⊎ (n ≤ m)
 by_order m n = grind arith

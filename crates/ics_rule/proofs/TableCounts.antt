@@ -5,8 +5,8 @@ use Rattle.std.proofs.lemmas.Bool.Decides.{nat_tests}
 use Rattle.ics_values.specs.declared.ordinals.WideOrdinals.{WideOrdinals}
 use Rattle.ics_values.specs.Sets.{contains_wide}
 use Rattle.ics_rule.specs.Recurrence.{Recurrence}
-use Rattle.ics_rule.specs.PeriodNumbers.{day_of, month_number, calendar_end}
-use Rattle.ics_values.specs.Locals.{number}
+use Rattle.ics_rule.specs.PeriodNumbers.{day_of, month_number}
+use Rattle.ics_values.specs.Locals.{number, calendar_end}
 use Rattle.ics_rule.specs.Kept.{count}
 use Rattle.ics_rule.specs.RecurrencePeriods.{month_start}
 use Rattle.ics_rule.specs.Table.{BySetPos}

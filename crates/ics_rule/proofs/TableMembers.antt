@@ -3,8 +3,8 @@ use Rattle.std.proofs.Common.{◌≡◌, ℕ, suc, ◌+◌, ◌-◌, ◌⊎◌, 
 use Rattle.ics_values.specs.Sets.{contains_wide}
 use Rattle.ics_values.specs.Ordinals.{lists_none_wide}
 use Rattle.ics_rule.specs.Recurrence.{Recurrence}
-use Rattle.ics_rule.specs.PeriodNumbers.{day_of, calendar_end, rules_end}
-use Rattle.ics_values.specs.Locals.{number}
+use Rattle.ics_rule.specs.PeriodNumbers.{day_of, rules_end}
+use Rattle.ics_values.specs.Locals.{number, calendar_end}
 use Rattle.ics_rule.specs.EffectiveRules.{effective}
 use Rattle.ics_rule.specs.Candidates.{lets_date, lets_clock, is_candidate, is_candidate_in}
 use Rattle.ics_rule.specs.Kept.{count, is_beside, rank, size, is_placed, is_chosen, is_in_rule, is_by_until, is_counted, is_kept}

@@ -13,8 +13,8 @@ use Rattle.ics_values.specs.RuleParts.{RuleParts}
 use Rattle.ics_rule.specs.declared.kind.Kind.{Kind}
 use Rattle.ics_rule.specs.declared.kind.Kind.TheVariants.{Date, DateTime}
 use Rattle.ics_rule.specs.Recurrence.{Recurrence}
-use Rattle.ics_rule.specs.PeriodNumbers.{day_of, hour_of, minute_of, second_of, period, calendar_end, rules_end}
-use Rattle.ics_values.specs.Locals.{number}
+use Rattle.ics_rule.specs.PeriodNumbers.{day_of, hour_of, minute_of, second_of, period, rules_end}
+use Rattle.ics_values.specs.Locals.{number, calendar_end}
 use Rattle.ics_rule.specs.EffectiveRules.{skips_hours}
 use Rattle.ics_rule.specs.Candidates.{lists, lists_wide, lists_nth, fourth_day, week_number, weeks_of_year, is_stepped}
 use Rattle.ics_rule.specs.Kept.{count, is_by_until}

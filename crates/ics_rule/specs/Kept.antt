@@ -1,5 +1,5 @@
 -- Which locals a rule keeps (RFC 5545, 3.3.10).
-use Rattle.std.specs.Prelude.{ℕ, zero, suc, ◌+◌, Bool, true, false, ◌&&◌, ◌||◌, ◌==◌, nat_le, nat_lt, if◌then◌else◌, Option, Some, None, pos, ◌+ℤ◌, ◌*ℤ◌, ℤ, ⊤}
+use Rattle.std.specs.Prelude.{ℕ, zero, suc, ◌+◌, Bool, true, false, ◌&&◌, ◌||◌, ◌==◌, nat_le, nat_lt, if◌then◌else◌, Option, Some, None, ℤ, ⊤}
 use Rattle.ics_values.specs.declared.local.Local.{Local}
 use Rattle.ics_values.specs.declared.until.Until.{Until}
 use Rattle.ics_values.specs.declared.until.Until.TheVariants as until
@@ -9,8 +9,8 @@ use Rattle.ics_rule.specs.declared.kind.Kind.{Kind}
 use Rattle.ics_rule.specs.declared.kind.Kind.TheVariants.{Date, DateTime}
 use Rattle.ics_rule.specs.declared.effective_rule.EffectiveRule.{EffectiveRule}
 use Rattle.ics_rule.specs.Recurrence.{Recurrence}
-use Rattle.ics_rule.specs.PeriodNumbers.{day_of, calendar_end, rules_end}
-use Rattle.ics_values.specs.Locals.{number}
+use Rattle.ics_rule.specs.PeriodNumbers.{day_of, rules_end}
+use Rattle.ics_values.specs.Locals.{number, local_seconds, calendar_end}
 use Rattle.ics_rule.specs.EffectiveRules.{effective}
 use Rattle.ics_rule.specs.Candidates.{is_candidate, is_candidate_in, lists_wide, period_in}
 
@@ -66,13 +66,9 @@ is_kept r n =
     n == number r.start
     || (nat_lt n rules_end && is_in_rule r n && is_by_until r.kind r.parts.until n && is_counted r r.parts.count n)
 
--- the seconds from 1970-01-01T00:00:00 to a local that is read as UTC
-abbrev pub utc_moment : Local → ℤ
-utc_moment l = l.day *ℤ pos 86_400 +ℤ pos l.second
-
--- UNTIL in UTC, if the event has date-times: it bounds instants
+-- UNTIL in UTC as seconds, if the event has date-times: it bounds instants
 abbrev pub until_moment_of : Kind → Option Until → Option ℤ
-until_moment_of DateTime (Some (until.Utc l)) = Some (utc_moment l)
+until_moment_of DateTime (Some (until.Utc l)) = Some (local_seconds l)
 until_moment_of DateTime (Some (until.Local l)) = None
 until_moment_of DateTime (Some (until.Date d)) = None
 until_moment_of DateTime None = None

@@ -4,7 +4,7 @@ use Rattle.ics_values.specs.declared.local.Local.{Local}
 use Rattle.ics_values.specs.declared.frequency.Frequency.{Frequency}
 use Rattle.ics_values.specs.declared.frequency.Frequency.TheVariants.{Secondly, Minutely, Hourly, Daily, Weekly, Monthly, Yearly}
 use Rattle.ics_values.specs.Days.{year_of, month_of, day_index}
-use Rattle.ics_values.specs.Locals.{number}
+use Rattle.ics_values.specs.Locals.{year_number}
 
 -- its day, counted from 0000-01-01, and its hour, minute and second
 abbrev pub day_of : ℕ → ℕ
@@ -38,9 +38,6 @@ period Weekly w n = week_of w (day_of n)
 period Monthly w n = month_number (day_of n)
 period Yearly w n = year_of (day_of n)
 
--- 10000-01-01T00:00:00, the end of the calendar, and 9801-01-01T00:00:00, the end of the rules
-abbrev pub calendar_end : ℕ
-calendar_end = 3_652_425 * 86_400
-
+-- 9801-01-01T00:00:00, the end of the rules
 abbrev pub rules_end : ℕ
-rules_end = 3_579_742 * 86_400
+rules_end = year_number 9_801

@@ -8,9 +8,10 @@ use Rattle.ics_values.specs.declared.frequency.Frequency.TheVariants.{Secondly, 
 use Rattle.ics_values.specs.declared.ordinals.WideOrdinals.{WideOrdinals}
 use Rattle.ics_rule.specs.declared.effective_rule.EffectiveRule.{EffectiveRule}
 use Rattle.ics_rule.specs.declared.recurrence_period.RecurrencePeriod.{RecurrencePeriod}
-use Rattle.ics_rule.specs.PeriodNumbers.{day_of, calendar_end}
+use Rattle.ics_rule.specs.PeriodNumbers.{day_of}
 use Rattle.ics_rule.specs.Candidates.{lets_date, lets_clock, lists_wide, period_in}
 use Rattle.ics_rule.specs.Kept.{count}
+use Rattle.ics_values.specs.Locals.{calendar_end}
 
 -- the first day of the month with a number
 abbrev pub month_start : ℕ → ℕ

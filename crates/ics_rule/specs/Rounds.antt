@@ -7,7 +7,7 @@ use Rattle.ics_values.specs.Sets.{contains}
 use Rattle.ics_values.specs.Ordinals.{lists_no_weekday}
 use Rattle.ics_rule.specs.declared.effective_rule.EffectiveRule.{EffectiveRule}
 use Rattle.ics_rule.specs.declared.cursor.Cursor.{Cursor}
-use Rattle.ics_rule.specs.PeriodNumbers.{day_of}
+use Rattle.ics_rule.specs.PeriodNumbers.{day_of, rules_end}
 use Rattle.ics_rule.specs.Candidates.{lets_date, lets_clock, is_stepped, period_in}
 use Rattle.ics_rule.specs.Kept.{count, is_chosen}
 use Rattle.ics_rule.specs.RecurrencePeriods.{first_local}
@@ -66,7 +66,7 @@ pub record IsEvenRound (q : EffectiveRule) (start periods : ℕ) : Type 0 where
   pub some : 1 ≤ periods
   pub step : (first p : ℕ) → first ≤ p → is_stepped first q.interval (p + periods) ≡ is_stepped first q.interval p
   pub total : (begin rounds before one : ℕ) → 2 ≤ begin → is_stepped (period_in q start) q.interval begin ≡ true → 1 ≤ rounds
-      → first_local q.frequency (monday_zero q.week_start) (begin + rounds * periods) ≤ 309_289_708_800
+      → first_local q.frequency (monday_zero q.week_start) (begin + rounds * periods) ≤ rules_end
       → before ≡ chosen_to q start begin → one ≡ chosen_to q start (begin + periods)
       → (before ≤ one) × (before + rounds * (one - before) ≡ chosen_to q start (begin + rounds * periods))
 

@@ -5,6 +5,7 @@ ghost use Rattle.ics_rule.specs.Candidates.{is_stepped, period_in};
 ghost use Rattle.ics_rule.specs.RecurrencePeriods.{first_local};
 ghost use Rattle.ics_rule.specs.Cursors.{HasBegun, IsCursorIn};
 ghost use Rattle.ics_rule.specs.Searches.{IsNextWanted, IsWalked, LooksOrStays, LooksOnce, IsTurnOf, AllCounted, IsTurned};
+ghost use Rattle.ics_rule.specs.PeriodNumbers.{rules_end};
 
 use crate::cursor::Cursor;
 use crate::effective_rule::EffectiveRule;
@@ -28,9 +29,9 @@ impl Cursor {
     ) -> Option<RecurrencePeriod>
         requires interval { 1 ≤ parts.now.interval }
         requires count { 1 ≤ count }
-        requires start { start < 309289708800 }
+        requires start { start < rules_end }
         requires step { is_stepped (period_in parts.now start) parts.now.interval number ≡ true }
-        requires reach { first_local parts.now.frequency (monday_zero parts.now.week_start) number ≤ 309289708800 }
+        requires reach { first_local parts.now.frequency (monday_zero parts.now.week_start) number ≤ rules_end }
         requires room { self.old.steps < 2 ^ 63 }
         requires turn { IsTurnOf parts.now start count number self.old }
         ensures place { self.new.place ≡ self.old.place }
@@ -73,7 +74,7 @@ impl Cursor {
         requires count { 1 ≤ count }
         requires after { start < self.old.place }
         requires place { self.old.place < stop }
-        requires stop { stop ≤ 309289708800 }
+        requires stop { stop ≤ rules_end }
         requires own { IsCursorIn parts.now start (Some count) self.old }
         ensures next { IsNextWanted parts.now start (Some count) self.old.place stop result }
         ensures place { self.new.place ≡ self.old.place }

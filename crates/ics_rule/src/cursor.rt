@@ -1,15 +1,15 @@
 //! A search for the locals that a rule keeps, from a place on.
-ghost use Rattle.std.specs.Prelude.{◌≡◌, ℕ, ◌<◌, ◌≤◌, ◌+◌, ◌*◌, ◌^◌, max, Some, MatchOption, nat_lt};
+ghost use Rattle.std.specs.Prelude.{◌≡◌, ℕ, ◌<◌, ◌≤◌, ◌+◌, ◌*◌, ◌^◌, max, Some, MatchOption, IfSome, nat_lt};
 ghost use Rattle.jiff_core.specs.Weekday.{monday_zero};
 ghost use Rattle.ics_values.specs.Days.{IsDayNumber, day_index};
 ghost use Rattle.ics_values.specs.RuleParts.{IsUntil};
 ghost use Rattle.ics_rule.specs.Kept.{is_by_until};
+ghost use Rattle.ics_rule.specs.PeriodNumbers.{rules_end};
 
 use crate::effective_rule::EffectiveRule;
 use crate::kind::Kind;
 use crate::recurrence_period::RecurrencePeriod;
 use crate::rule::Rule;
-use crate::step::{local_of, number};
 use ics_values::{Local, Until};
 
 /// 9801-01-01T00:00:00, the end of the rules.
@@ -20,20 +20,20 @@ fn after_day(day: i32) -> u64
     requires { IsDayNumber day }
     ensures { result ≡ (day_index day + 1) * 86400 }
 {
-    ((day + 719_528) as u64 + 1) * 86_400
+    Local::at(day, 0).number() + 86_400
 }
 
 /// The first local after UNTIL, or after the last of the rules.
 fn until_end(kind: Kind, until: Option<Until>) -> u64
     requires { MatchOption until (Unit {0}) IsUntil }
-    ensures { (n : ℕ) → n < 309289708800 → is_by_until kind until n ≡ nat_lt n result }
+    ensures { (n : ℕ) → n < rules_end → is_by_until kind until n ≡ nat_lt n result }
 {
     match until {
         None => RULES_END,
         Some(Until::Date(day)) => after_day(day),
         Some(Until::Local(local)) => match kind {
             Kind::Date => after_day(local.day),
-            Kind::DateTime => number(local) + 1,
+            Kind::DateTime => local.number() + 1,
         },
         Some(Until::Utc(local)) => match kind {
             Kind::Date => after_day(local.day),
@@ -76,7 +76,7 @@ impl Cursor {
         ensures looked { (b : ℕ) → HasLooked _rule.now result (looks_from _rule.now.parts.count (number _rule.now.start) (number from)) b }
     {
         Cursor {
-            place: number(from),
+            place: from.number(),
             steps: 0,
             held: None,
             counted: 0,
@@ -87,7 +87,7 @@ impl Cursor {
     /// Looks at the period with a number that no earlier look has reached.
     pub(crate) fn look_at(&mut self, parts: &EffectiveRule, number: u64, counted: u64) -> RecurrencePeriod
         requires low { period_in parts.now 0 ≤ number }
-        requires reach { first_local parts.now.frequency (monday_zero parts.now.week_start) number ≤ 309289708800 }
+        requires reach { first_local parts.now.frequency (monday_zero parts.now.week_start) number ≤ rules_end }
         requires room { self.old.steps < 2 ^ 63 }
         ensures product { IsPeriodOf parts.now result }
         ensures number { result.number ≡ number }
@@ -106,7 +106,7 @@ impl Cursor {
         requires start { start ≡ number rule.now.start }
         requires after { start < self.old.place }
         requires place { self.old.place < stop }
-        requires stop { stop ≤ 309289708800 }
+        requires stop { stop ≤ rules_end }
         requires own { IsCursorIn (effective rule.now) start rule.now.parts.count self.old }
         ensures next { IsNextWanted (effective rule.now) start rule.now.parts.count self.old.place stop result }
         ensures place { self.new.place ≡ self.old.place }
@@ -123,7 +123,7 @@ impl Cursor {
         requires start { start ≡ number rule.now.start }
         requires after { start < self.old.place }
         requires stop { stop ≤ end }
-        requires end { end ≤ 309289708800 }
+        requires end { end ≤ rules_end }
         requires own { IsCursorIn (effective rule.now) start rule.now.parts.count self.old }
         ensures next { MatchOption result
             (NoneWanted (effective rule.now) start rule.now.parts.count self.old.place stop × (self.new.place ≡ max self.old.place end))
@@ -154,7 +154,7 @@ impl Cursor {
     /// The number of the next local that the rule keeps, from the place on and earlier than `end`.
     pub(crate) fn next_number(&mut self, rule: &Rule, start: u64, end: u64) -> Option<u64>
         requires start { start ≡ number rule.now.start }
-        requires end { end ≤ 309289708800 }
+        requires end { end ≤ rules_end }
         requires own { IsCursorIn (effective rule.now) start rule.now.parts.count self.old }
         ensures next { MatchOption result
             (NoneKept rule.now self.old.place end × (self.new.place ≡ max self.old.place end))
@@ -186,15 +186,16 @@ impl Cursor {
     /// a new look. Without COUNT the cursor goes straight to the first period at or after its place; under COUNT it begins at the start's.
     pub fn next(&mut self, rule: &Rule, before: Local) -> Option<Local>
         requires bound { IsDayNumber before.day }
-        requires early { number before ≤ 309289708800 }
+        requires early { number before ≤ rules_end }
         requires own { IsCursorOf rule.now self.old }
         ensures next { IsAnswer rule.now (number before) result self.old self.new }
+        ensures day { IfSome result (λ local. IsDayNumber local.day) }
         ensures own { IsCursorOf rule.now self.new }
         ensures counted { HasCounted rule.now result self.old self.new }
         ensures looked { LooksUpTo rule.now (number before) result self.old self.new }
     {
-        let n = self.next_number(rule, number(rule.start), number(before))?;
-        Some(local_of(n))
+        let n = self.next_number(rule, rule.start.number(), before.number())?;
+        Some(Local::numbered(n))
     }
 
     /// How many periods of the rule were looked at. They are at most those that hold a local earlier than the greatest bound so far, from the

@@ -3,6 +3,7 @@ ghost use Rattle.std.specs.Prelude.{◌≡◌, ℕ, ◌<◌, ◌≤◌, ◌/◌,
 ghost use Rattle.ics_values.specs.Sets.{only};
 ghost use Rattle.ics_values.specs.Fields.{IsCivilOf};
 ghost use Rattle.ics_rule.specs.EffectiveRules.{names_no_day, takes_month_day, takes_month, takes_weekday, skips_hours, skips_minutes, skips_seconds, clock_part, only_place, only_weekday, effective_at};
+ghost use Rattle.ics_values.specs.Locals.{calendar_end};
 
 use crate::date::civil_at;
 use crate::effective_rule::EffectiveRule;
@@ -142,7 +143,7 @@ fn weekdays(parts: &Parts, weekday: u8) -> Weekdays
 
 /// The rule of an event that starts at the local with this number.
 pub(crate) fn fill(parts: &Parts, kind: Kind, start: u64) -> EffectiveRule
-    requires { start < 315569520000 }
+    requires { start < calendar_end }
     ensures value { result ≡ effective_at parts.now kind start }
     ensures interval { 1 ≤ result.interval }
 {

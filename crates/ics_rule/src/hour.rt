@@ -1,14 +1,14 @@
 //! The locals of an hour that a rule keeps.
-ghost use Rattle.std.specs.Prelude.{◌≡◌, ℕ, ◌<◌, ◌≤◌, false, IfSome, MatchOption};
+ghost use Rattle.std.specs.Prelude.{◌≡◌, ℕ, ◌<◌, ◌≤◌, ◌/◌, false, IfSome, MatchOption};
 ghost use Rattle.ics_values.specs.Sets.{contains};
-ghost use Rattle.ics_values.specs.Locals.{number};
+ghost use Rattle.ics_values.specs.Locals.{number, calendar_end};
 ghost use Rattle.ics_rule.specs.Next.{NoneKept, IsNextKept};
 ghost use Rattle.ics_rule.specs.HoursKept.{is_finer, KeepsTimes};
+ghost use Rattle.ics_rule.specs.PeriodNumbers.{rules_end};
 
 use crate::cursor::Cursor;
 use crate::rule::Rule;
-use crate::step::{local_of, number};
-use ics_values::{Frequency, BitSet};
+use ics_values::{BitSet, Frequency, Local};
 
 /// Each of some minutes of an hour, with each of some seconds.
 #[derive(Clone, Copy)]
@@ -45,11 +45,11 @@ fn is_finer(frequency: Frequency) -> bool
 #[tactic(auto, unfolding(crate::specs::Cursors::IsCursorOf))]
 fn next_between(rule: &Rule, start: u64, from: u64, bound: u64) -> Option<u64>
     requires start { start ≡ number rule.now.start }
-    requires from { from < 315569520000 }
-    requires bound { bound ≤ 309289708800 }
+    requires from { from < calendar_end }
+    requires bound { bound ≤ rules_end }
     ensures { MatchOption result (NoneKept rule.now from bound) (IsNextKept rule.now from bound) }
 {
-    let mut cursor = Cursor::at(rule, local_of(from));
+    let mut cursor = Cursor::at(rule, Local::numbered(from));
     cursor.next_number(rule, start, bound)
 }
 
@@ -57,10 +57,10 @@ impl Rule {
     /// The minutes and the seconds that the rule lists, if they are the first and the last that it keeps in an hour. They are in each
     /// hour but those that the start, UNTIL or COUNT cuts, under any rule without BYSETPOS.
     pub fn hour(&self, hour: u64) -> Option<HourTimes>
-        requires { hour < 85913808 }
+        requires { hour < rules_end / 3_600 }
         ensures { IfSome result (KeepsTimes self.now hour) }
     {
-        let start = number(self.start);
+        let start = self.start.number();
         let from = hour * 3_600;
         let Some(kept) = next_between(self, start, from, from + 3_600) else {
             return Some(HourTimes {

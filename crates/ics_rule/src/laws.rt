@@ -8,8 +8,8 @@ ghost use Rattle.ics_values.specs.Days.{year_of, year_day_of, month_of, month_da
 ghost use Rattle.ics_rule.specs.declared.effective_rule.EffectiveRule.{EffectiveRule};
 ghost use Rattle.ics_rule.specs.Recurrence.{Recurrence};
 ghost use Rattle.ics_rule.specs.Calls.{FewSteps};
-ghost use Rattle.ics_rule.specs.PeriodNumbers.{week_of, calendar_end, rules_end};
-ghost use Rattle.ics_values.specs.Locals.{number};
+ghost use Rattle.ics_rule.specs.PeriodNumbers.{week_of, rules_end};
+ghost use Rattle.ics_values.specs.Locals.{number, calendar_end};
 ghost use Rattle.ics_rule.specs.Candidates.{fourth_day, week_number, weeks_of_year};
 ghost use Rattle.ics_rule.specs.IsoWeeks.{IsDay};
 ghost use Rattle.ics_rule.specs.Kept.{count, size, is_in_rule, is_kept};

@@ -6,6 +6,7 @@ ghost use Rattle.ics_rule.specs.Kept.{count, is_chosen};
 ghost use Rattle.ics_rule.specs.Candidates.{lets};
 ghost use Rattle.ics_rule.specs.Rounds.{seconds_of};
 ghost use Rattle.ics_rule.specs.OpenPeriods.{size_of_open};
+ghost use Rattle.ics_values.specs.Locals.{calendar_end};
 
 use crate::effective_rule::EffectiveRule;
 use crate::recurrence_period::clock_set;
@@ -52,7 +53,7 @@ fn is_past(places: &WideBitSet, most: u64) -> bool
 
 /// Whether BYSETPOS lists only places that no period has.
 pub(crate) fn chooses_none(parts: &EffectiveRule) -> bool
-    ensures { result ≡ true → (start n : ℕ) → n < 315569520000 → is_chosen parts.now start n ≡ false }
+    ensures { result ≡ true → (start n : ℕ) → n < calendar_end → is_chosen parts.now start n ≡ false }
 {
     if parts.positions.is_empty() {
         return false;

@@ -6,6 +6,7 @@ ghost use Rattle.ics_rule.specs.Kept.{count};
 ghost use Rattle.ics_rule.specs.Cursors.{IsCursorIn};
 ghost use Rattle.ics_rule.specs.Rounds.{seconds_of, IsPassedTo};
 ghost use Rattle.ics_rule.specs.OpenPeriods.{per_day, lets_own, is_open_period, chosen_in_open};
+ghost use Rattle.ics_rule.specs.PeriodNumbers.{rules_end};
 
 use crate::cursor::Cursor;
 use crate::date::lets_date;
@@ -186,7 +187,7 @@ impl Cursor {
         requires count { 1 ≤ count }
         requires first { first ≡ period_in parts.now start }
         requires after { start < self.old.place }
-        requires place { self.old.place < 309289708800 }
+        requires place { self.old.place < rules_end }
         requires own { IsCursorIn parts.now start (Some count) self.old }
         ensures place { self.new.place ≡ self.old.place }
         ensures passed { IsPassedTo parts.now start count self.old self.new }

@@ -2,6 +2,8 @@
 ghost use Rattle.std.specs.Prelude.{◌≡◌, ℕ, ◌<◌, ◌≤◌, ◌+◌, ◌-◌, ◌*◌, ◌/◌, ◌^◌, false, true};
 ghost use Rattle.ics_rule.specs.Candidates.{is_stepped, lets_date, lets_clock, period_in};
 ghost use Rattle.ics_rule.specs.Searches.{NoneLetIn, IsNextOpen};
+ghost use Rattle.ics_rule.specs.PeriodNumbers.{rules_end};
+ghost use Rattle.ics_values.specs.Locals.{calendar_end};
 
 use crate::date::{civil_at, lets_date};
 use crate::days::days_left;
@@ -70,7 +72,7 @@ fn next_open_day(parts: &EffectiveRule, day: u32, end: u32) -> u32
 
 /// The first local from one on whose time a rule allows, or the end of its day.
 fn next_open_second(parts: &EffectiveRule, n: u64) -> u64
-    requires { n < 315569520000 }
+    requires { n < calendar_end }
     ensures low { n ≤ result }
     ensures high { result ≤ n + 86400 }
     ensures none { (m : ℕ) → n ≤ m → m < result → lets_clock parts.now m ≡ false }
@@ -88,9 +90,9 @@ fn next_open_second(parts: &EffectiveRule, n: u64) -> u64
 /// The first local from one on that a rule may allow. The search ends at `end`.
 fn next_open(parts: &EffectiveRule, n: u64, end: u64) -> u64
     requires local { n < end }
-    requires end { end ≤ 309289708800 }
+    requires end { end ≤ rules_end }
     ensures low { n ≤ result }
-    ensures high { result < 315569520000 }
+    ensures high { result < calendar_end }
     ensures none { NoneLetIn parts.now n result }
 {
     let day = next_open_day(parts, (n / 86_400) as u32, (end / 86_400) as u32);
@@ -119,7 +121,7 @@ pub(crate) fn next_open_step(parts: &EffectiveRule, first: u64, number: u64, las
     requires step { is_stepped first parts.now.interval number ≡ true }
     requires last { last ≡ period_in parts.now (stop - 1) }
     requires some { 0 < stop }
-    requires stop { stop ≤ 309289708800 }
+    requires stop { stop ≤ rules_end }
     ensures { IsNextOpen parts.now first number result }
 {
     if number > last || opens_every_period(parts) {

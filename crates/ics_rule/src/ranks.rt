@@ -3,9 +3,9 @@ ghost use Rattle.std.specs.Prelude.{◌≡◌, ℕ, ◌<◌, ◌≤◌, ◌+◌,
 ghost use Rattle.ics_values.specs.Sets.{contains, contains_wide, IsNextIn};
 ghost use Rattle.ics_values.specs.Ordinals.{lists_none_wide};
 ghost use Rattle.ics_rule.specs.declared.effective_rule.EffectiveRule.{EffectiveRule};
-ghost use Rattle.ics_rule.specs.PeriodNumbers.{calendar_end};
 ghost use Rattle.ics_rule.specs.Kept.{count};
 ghost use Rattle.ics_rule.specs.RecurrencePeriods.{has_minute, has_second, holds, is_listed, is_taken, IsPeriodOf, IsNth, IsNextBelow, IsFirstListed};
+ghost use Rattle.ics_values.specs.Locals.{calendar_end};
 
 use crate::part::PlacesPart;
 use crate::recurrence_period::RecurrencePeriod;
@@ -131,10 +131,10 @@ impl RecurrencePeriod {
 
     /// The first local of the product, from a local on, that BYSETPOS allows.
     pub(crate) fn next_taken(&self, positions: &PlacesPart, n: u64) -> Option<u64>
-        requires n { n < 315569520000 }
+        requires n { n < calendar_end }
         requires own { (q : EffectiveRule) × IsPeriodOf q self.now }
         ensures next { IsNextIn (is_taken positions.now (lists_none_wide positions.now) self.now) n result }
-        ensures small { IfSome result (λ m. m < 315569520000) }
+        ensures small { IfSome result (λ m. m < calendar_end) }
     {
         if positions.is_empty() {
             return self.next_from(n);
@@ -147,7 +147,7 @@ impl RecurrencePeriod {
 
     /// How many locals that BYSETPOS allows are earlier than a local.
     pub(crate) fn taken_before(&self, positions: &PlacesPart, n: u64) -> u64
-        requires n { n < 315569520000 }
+        requires n { n < calendar_end }
         requires own { (q : EffectiveRule) × IsPeriodOf q self.now }
         ensures value { result ≡ count n (is_taken positions.now (lists_none_wide positions.now) self.now) }
         ensures bound { result ≤ n }

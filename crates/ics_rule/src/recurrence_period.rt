@@ -3,11 +3,12 @@ ghost use Rattle.std.specs.Prelude.{◌≡◌, ℕ, suc, ◌<◌, ◌≤◌, ◌
 ghost use Rattle.jiff_core.specs.Calendar.{days_of_months, days_in_month, days_in_year};
 ghost use Rattle.ics_values.specs.Days.{days_before_year};
 ghost use Rattle.ics_values.specs.Sets.{contains, contains_wide, IsNextIn};
-ghost use Rattle.ics_rule.specs.PeriodNumbers.{period};
+ghost use Rattle.ics_rule.specs.PeriodNumbers.{period, rules_end};
 ghost use Rattle.ics_rule.specs.EffectiveRules.{skips_hours, skips_minutes, skips_seconds};
 ghost use Rattle.ics_rule.specs.Candidates.{lets, lets_date, period_in};
 ghost use Rattle.jiff_core.specs.Weekday.{monday_zero};
 ghost use Rattle.ics_rule.specs.RecurrencePeriods.{first_local, has_minute, has_time, has_day, holds, IsPeriodOf};
+ghost use Rattle.ics_values.specs.Locals.{calendar_end};
 
 use crate::days::add_days_let_in;
 use crate::effective::{skips_hours, skips_minutes, skips_seconds};
@@ -143,7 +144,7 @@ pub(crate) fn clock_set(free: bool, part: BitSet, own: u8, size: u8) -> BitSet
 /// The days of the period with a number.
 fn span_of(frequency: Frequency, week_start: Weekday, number: u64) -> Span
     requires low { period frequency (monday_zero week_start) 0 ≤ number }
-    requires reach { first_local frequency (monday_zero week_start) number ≤ 309289708800 }
+    requires reach { first_local frequency (monday_zero week_start) number ≤ rules_end }
     ensures first { result.first ≡ first_local frequency (monday_zero week_start) number / 86400 }
     ensures len { result.len
         ≡ (first_local frequency (monday_zero week_start) (number + 1) + 86399) / 86400 - first_local frequency (monday_zero week_start) number / 86400 }
@@ -192,7 +193,7 @@ fn span_of(frequency: Frequency, week_start: Weekday, number: u64) -> Span
 
 /// The times of the period with a number: those that the parts allow, and of them its own if it is shorter than a day.
 fn clock_of(parts: &EffectiveRule, number: u64) -> Clock
-    requires reach { first_local parts.now.frequency (monday_zero parts.now.week_start) number ≤ 309289708800 }
+    requires reach { first_local parts.now.frequency (monday_zero parts.now.week_start) number ≤ rules_end }
     ensures hours { (m : ℕ) → m < 24 → contains result.hours m
         ≡ ((skips_hours parts.now.frequency || (m == first_local parts.now.frequency (monday_zero parts.now.week_start) number / 3600 % 24))
         && lets parts.now.hours m) }
@@ -229,7 +230,7 @@ impl RecurrencePeriod {
     /// Looks at the period of a rule with this number.
     pub(crate) fn new(parts: &EffectiveRule, number: u64, steps: &mut u64) -> RecurrencePeriod
         requires low { period_in parts.now 0 ≤ number }
-        requires reach { first_local parts.now.frequency (monday_zero parts.now.week_start) number ≤ 309289708800 }
+        requires reach { first_local parts.now.frequency (monday_zero parts.now.week_start) number ≤ rules_end }
         requires room { steps.old < 2 ^ 63 }
         ensures looked { steps.new ≡ steps.old + 1 }
         ensures number { result.number ≡ number }
@@ -276,7 +277,7 @@ impl RecurrencePeriod {
 
     /// The first local of the product from a local on.
     pub(crate) fn next_from(&self, n: u64) -> Option<u64>
-        requires n { n < 315569520000 }
+        requires n { n < calendar_end }
         requires first { self.now.first_day ≤ 4000000 }
         requires hours { self.now.hours < 2 ^ 24 }
         requires minutes { self.now.minutes < 2 ^ 60 }

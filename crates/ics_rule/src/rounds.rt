@@ -1,6 +1,6 @@
 //! Counting whole rounds of periods at once. After a round, what a rule chooses repeats.
 ghost use Rattle.std.specs.Prelude.{◌≡◌, ℕ, ◌<◌, ◌≤◌, ◌+◌, ◌*◌, ◌%◌, ◌^◌, ◌&&◌, IfSome, MatchOption, Some, true};
-ghost use Rattle.ics_rule.specs.PeriodNumbers.{day_of};
+ghost use Rattle.ics_rule.specs.PeriodNumbers.{day_of, rules_end};
 ghost use Rattle.ics_rule.specs.Candidates.{lets_date, lets_clock, period_in};
 ghost use Rattle.ics_rule.specs.Cursors.{IsCursorIn};
 ghost use Rattle.ics_rule.specs.DateParts.{names_weekdays_alone};
@@ -205,7 +205,7 @@ impl Cursor {
         requires count { 1 ≤ count }
         requires first { first ≡ period_in parts.now start }
         requires after { start < self.old.place }
-        requires place { self.old.place < 309289708800 }
+        requires place { self.old.place < rules_end }
         requires own { IsCursorIn parts.now start (Some count) self.old }
         ensures place { self.new.place ≡ self.old.place }
         ensures passed { IsPassedTo parts.now start count self.old self.new }
@@ -228,7 +228,7 @@ impl Cursor {
         requires count { 1 ≤ count }
         requires first { first ≡ period_in parts.now start }
         requires after { start < self.old.place }
-        requires place { self.old.place < 309289708800 }
+        requires place { self.old.place < rules_end }
         requires own { IsCursorIn parts.now start (Some count) self.old }
         ensures place { self.new.place ≡ self.old.place }
         ensures passed { IsPassedTo parts.now start count self.old self.new }

@@ -1,13 +1,12 @@
 //! A rule with the event's start and kind.
-ghost use Rattle.std.specs.Prelude.{◌≡◌, ◌≤◌, pos, ◌≤ℤ◌};
+ghost use Rattle.std.specs.Prelude.{◌≡◌, ◌<◌};
 ghost use Rattle.ics_values.specs.Days.{IsDayNumber};
-ghost use Rattle.ics_rule.specs.Kept.{utc_moment};
 
 use crate::date::lets_date;
 use crate::effective::fill;
 use crate::effective_rule::EffectiveRule;
 use crate::kind::Kind;
-use crate::step::{in_step, number};
+use crate::step::in_step;
 use crate::time::lets_clock;
 use ics_values::{Local, Moment, Parts, Until};
 use std::marker::Model;
@@ -19,13 +18,6 @@ pub struct Rule {
     pub(crate) start: Local,
     pub(crate) kind: Kind,
     pub(crate) whole: EffectiveRule,
-}
-
-/// The instant of a local that is read as UTC.
-fn utc_moment(local: Local) -> Moment
-    ensures { result ≡ utc_moment local }
-{
-    local.day as i64 * 86_400 + local.second as i64
 }
 
 impl Model for Rule {
@@ -48,7 +40,7 @@ impl Model for Rule {
 }
 
 impl Rule {
-    ghost use Rattle.ics_values.specs.Locals.{number};
+    ghost use Rattle.ics_values.specs.Locals.{number, year_number};
     ghost use Rattle.ics_rule.specs.Candidates.{is_candidate};
     ghost use Rattle.ics_rule.specs.Kept.{until_moment};
 
@@ -58,7 +50,7 @@ impl Rule {
         requires { IsDayNumber start.day }
         ensures { result ≡ record { parts = parts; start = start; kind = kind } }
     {
-        let whole = fill(&parts, kind, number(start));
+        let whole = fill(&parts, kind, start.number());
         Rule {
             parts,
             start,
@@ -71,11 +63,11 @@ impl Rule {
     /// kept even if this is false.
     pub fn admits(&self, local: Local) -> bool
         requires day { IsDayNumber local.day }
-        requires before_9999 { local.day ≤ℤ pos 2_932_531 }
+        requires before_9999 { number local < year_number 9_999 }
         ensures { result ≡ is_candidate self.now (number local) }
     {
-        let n = number(local);
-        let in_step = in_step(&self.whole, number(self.start), n);
+        let n = local.number();
+        let in_step = in_step(&self.whole, self.start.number(), n);
         let date = lets_date(&self.whole, (n / 86_400) as u32);
         let clock = lets_clock(&self.whole, (n % 86_400) as u32);
         in_step & date & clock
@@ -90,7 +82,7 @@ impl Rule {
         match self.kind {
             Kind::Date => None,
             Kind::DateTime => match self.parts.until() {
-                Some(Until::Utc(local)) => Some(utc_moment(local)),
+                Some(Until::Utc(local)) => Some(local.seconds()),
                 _ => None,
             },
         }

@@ -2,9 +2,9 @@
 ghost use Rattle.std.specs.Prelude.{◌≡◌, ℕ, ◌<◌, ◌≤◌, ◌+◌, ◌*◌, ◌/◌, ◌%◌, ◌^◌};
 ghost use Rattle.ics_values.specs.Sets.{contains, contains_wide};
 ghost use Rattle.ics_rule.specs.declared.effective_rule.EffectiveRule.{EffectiveRule};
-ghost use Rattle.ics_rule.specs.PeriodNumbers.{calendar_end};
 ghost use Rattle.ics_rule.specs.Kept.{count};
 ghost use Rattle.ics_rule.specs.RecurrencePeriods.{has_minute, has_second, has_day, holds, IsPeriodOf};
+ghost use Rattle.ics_values.specs.Locals.{calendar_end};
 
 use crate::recurrence_period::RecurrencePeriod;
 use ics_values::{BitSet, WideBitSet};
@@ -87,7 +87,7 @@ impl RecurrencePeriod {
 
     /// How many of its locals are earlier than `n`.
     pub(crate) fn rank_before(&self, n: u64) -> u64
-        requires local { n < 315569520000 }
+        requires local { n < calendar_end }
         requires own { (q : EffectiveRule) × IsPeriodOf q self.now }
         ensures value { result ≡ count n (holds self.now) }
         ensures bound { result ≤ n }

@@ -1,40 +1,17 @@
-//! Locals as numbers, and the periods that they are in.
-ghost use Rattle.std.specs.Prelude.{◌≡◌, ℕ, ◌<◌, ◌≤◌, ◌+◌, ◌*◌, ◌/◌, ◌^◌, pos, ◌-ℤ◌};
+//! The periods that locals are in.
+ghost use Rattle.std.specs.Prelude.{◌≡◌, ℕ, ◌<◌, ◌≤◌, ◌+◌, ◌*◌, ◌/◌, ◌^◌};
 ghost use Rattle.jiff_core.specs.Weekday.{monday_zero};
-ghost use Rattle.ics_values.specs.Days.{IsDayNumber};
 ghost use Rattle.ics_rule.specs.PeriodNumbers.{period};
-ghost use Rattle.ics_values.specs.Locals.{number};
+ghost use Rattle.ics_values.specs.Locals.{calendar_end};
 ghost use Rattle.ics_rule.specs.Candidates.{in_step, period_in};
 
 use crate::date::civil_at;
 use crate::effective_rule::EffectiveRule;
-use ics_values::{Frequency, Local};
-
-/// The seconds from 0000-01-01T00:00:00 to a local.
-pub(crate) fn number(local: Local) -> u64
-    requires { IsDayNumber local.day }
-    ensures value { result ≡ number local }
-    ensures bound { result < 315569520000 }
-{
-    (local.day + 719_528) as u64 * 86_400 + local.second as u64
-}
-
-/// The local with this number.
-pub(crate) fn local_of(n: u64) -> Local
-    requires { n < 315569520000 }
-    ensures local { IsDayNumber result.day }
-    ensures value { number result ≡ n }
-    ensures day { result.day ≡ pos (n / 86400) -ℤ pos 719528 }
-{
-    Local {
-        day: (n / 86_400) as i32 - 719_528,
-        second: (n % 86_400) as u32,
-    }
-}
+use ics_values::Frequency;
 
 /// The number of the period that a local is in.
 pub(crate) fn period_of(parts: &EffectiveRule, n: u64) -> u64
-    requires { n < 315569520000 }
+    requires { n < calendar_end }
     ensures value { result ≡ period_in parts.now n }
     ensures small { result < 2 ^ 40 }
 {
@@ -55,8 +32,8 @@ pub(crate) fn period_of(parts: &EffectiveRule, n: u64) -> u64
 
 /// Whether the period of `n` is that of the start or later, by a multiple of the interval.
 pub(crate) fn in_step(parts: &EffectiveRule, start: u64, n: u64) -> bool
-    requires start_local { start < 315569520000 }
-    requires local { n < 315569520000 }
+    requires start_local { start < calendar_end }
+    requires local { n < calendar_end }
     requires interval { 1 ≤ parts.now.interval }
     ensures { result ≡ in_step parts.now start n }
 {

@@ -6,6 +6,8 @@ ghost use Rattle.ics_rule.specs.Candidates.{is_stepped, period_in};
 ghost use Rattle.ics_rule.specs.RecurrencePeriods.{first_local, IsPeriodOf};
 ghost use Rattle.ics_rule.specs.Cursors.{HasBegun, IsCursorIn};
 ghost use Rattle.ics_rule.specs.Searches.{is_chosen_within, IsNextWanted, IsWalked, LooksOrStays, LooksOnce};
+ghost use Rattle.ics_rule.specs.PeriodNumbers.{rules_end};
+ghost use Rattle.ics_values.specs.Locals.{calendar_end};
 
 use crate::cursor::Cursor;
 use crate::effective_rule::EffectiveRule;
@@ -34,9 +36,9 @@ impl Cursor {
     fn find(&mut self, parts: &EffectiveRule, start: u64, number: u64) -> Option<u64>
         requires step { is_stepped (period_in parts.now start) parts.now.interval number ≡ true }
         requires low { period_in parts.now 0 ≤ number }
-        requires reach { first_local parts.now.frequency (monday_zero parts.now.week_start) number ≤ 309289708800 }
+        requires reach { first_local parts.now.frequency (monday_zero parts.now.week_start) number ≤ rules_end }
         requires held { MatchOption self.old.held (Unit {0}) (λ p. IsPeriodOf parts.now p × (p.number ≤ number)) }
-        requires place { self.old.place < 315569520000 }
+        requires place { self.old.place < calendar_end }
         requires room { self.old.steps < 2 ^ 63 }
         ensures next { IsNextIn (is_chosen_within parts.now start number) self.old.place result }
         ensures small { IfSome result (λ n. n < 2 ^ 63) }
@@ -59,9 +61,9 @@ impl Cursor {
     /// The next local from the place on that the rule chooses. It is searched for in the periods up to that of the last before `stop`.
     pub(crate) fn walk_freely(&mut self, parts: &EffectiveRule, start: u64, stop: u64) -> Option<u64>
         requires interval { 1 ≤ parts.now.interval }
-        requires start { start < 315569520000 }
+        requires start { start < calendar_end }
         requires place { self.old.place < stop }
-        requires stop { stop ≤ 309289708800 }
+        requires stop { stop ≤ rules_end }
         requires own { IsCursorIn parts.now start None self.old }
         ensures next { IsNextWanted parts.now start None self.old.place stop result }
         ensures place { self.new.place ≡ self.old.place }

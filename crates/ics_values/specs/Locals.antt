@@ -1,5 +1,6 @@
 -- A date and a time of day without a zone (RFC 5545, section 3.3.5), and the two ways to count it in seconds.
-use Rattle.std.specs.Prelude.{ℕ, ◌+◌, ◌*◌, ◌%◌, ℤ, pos, ◌+ℤ◌, ◌*ℤ◌}
+use Rattle.std.specs.Prelude.{ℕ, ◌+◌, ◌*◌, ◌%◌, ℤ, pos, ◌+ℤ◌, ◌-ℤ◌, ◌*ℤ◌}
+use Rattle.std.specs.Int.{int_div_euclid}
 use Rattle.std.proofs.Math.Nat.{mod-lt}
 use Rattle.std.proofs.Math.Dec.{lit<}
 use Rattle.ics_values.specs.Days.{days_before_year, day_index}
@@ -20,6 +21,18 @@ midnight day = seconds_at day 0
 -- the same to a local
 abbrev pub local_seconds : Local → ℤ
 local_seconds local = seconds_at local.day local.second
+
+-- the day of a local that is counted in these seconds, from 1970-01-01
+abbrev pub day_of_local : ℤ → ℤ
+day_of_local seconds = int_div_euclid seconds (pos 86_400)
+
+-- the seconds of a number of days
+abbrev pub whole_days : ℕ → ℤ
+whole_days days = pos (days * 86_400)
+
+-- the seconds from 1970-01-01T00:00:00 to the beginning of a year
+abbrev pub year_seconds : ℕ → ℤ
+year_seconds year = midnight (pos (days_before_year year) -ℤ pos 719_528)
 
 -- the seconds from 0000-01-01T00:00:00 to a local of the year 0000 or later
 abbrev pub number : Local → ℕ

@@ -21,7 +21,7 @@ pub struct Local {
 pub type Moment = i64;
 
 impl Local {
-    ghost use Rattle.ics_values.specs.Locals.{local_at, local_seconds, number, calendar_end};
+    ghost use Rattle.ics_values.specs.Locals.{local_at, local_seconds, day_of_local, number, calendar_end};
 
     /// The local at a second, 0 to 86,399, of a day.
     pub fn at(day: i32, second: u32) -> Self
@@ -41,7 +41,8 @@ impl Local {
     /// The local that is that many seconds after 1970-01-01T00:00:00, each day having 86,400. They are at most 10^14 either way.
     pub fn of_seconds(seconds: i64) -> Self
         requires { IsWithin 100_000_000_000_000 seconds }
-        ensures { local_seconds result ≡ seconds }
+        ensures value { local_seconds result ≡ seconds }
+        ensures day { result.day ≡ day_of_local seconds }
     {
         Local {
             day: seconds.div_euclid(DAY) as i32,

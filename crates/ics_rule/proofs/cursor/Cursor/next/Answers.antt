@@ -40,7 +40,7 @@ pub returns-clause-looked : goal.returns-clause-looked
 unfolding HasLooked
 returns-clause-looked c = λ a b h few.
     subst (λ s. HasLookedIn (effective c.args.rule.now) s c.args.rule.now.parts.count c.next_number.new.self a b) (start_is (goal.at.returns-clause-looked c).After-number)
-    (c.in_ok-n.ensures.looked a b (omega (arith, h, c.local_of.ensures.value))
+    (c.in_ok-n.ensures.looked a b (omega (arith, h, c.numbered.ensures.value))
     (subst (λ s. HasLookedIn (effective c.args.rule.now) s c.args.rule.now.parts.count c.args.self.now a b) (sym (start_is (goal.at.returns-clause-looked c).After-number)) few))
 
 none_counted : (r : Recurrence) (o : Option Local) (before now : Cursor) → o ≡ None → before.steps ≤ now.steps → HasCounted r o before now
@@ -54,7 +54,7 @@ returns-in_err-n-clause-counted c =
 pub returns-clause-counted : goal.returns-clause-counted
 returns-clause-counted c = let start = start_is (goal.at.returns-clause-counted c).After-number in record {
   rise = c.next_number.ensures.rise;
-  some = λ late. c.in_ok-n.ensures.shown (omega (arith, late, start, c.local_of.ensures.value));
-  more = λ late later. c.in_ok-n.ensures.counts (omega (arith, late, start, c.local_of.ensures.value))
-      (subst (λ n. period_in (effective c.args.rule.now) c.args.self.now.place < period_in (effective c.args.rule.now) n) c.local_of.ensures.value later);
+  some = λ late. c.in_ok-n.ensures.shown (omega (arith, late, start, c.numbered.ensures.value));
+  more = λ late later. c.in_ok-n.ensures.counts (omega (arith, late, start, c.numbered.ensures.value))
+      (subst (λ n. period_in (effective c.args.rule.now) c.args.self.now.place < period_in (effective c.args.rule.now) n) c.numbered.ensures.value later);
 }
