@@ -45,6 +45,21 @@ impl Text {
         }
     }
 
+    /// A text of these bytes.
+    pub fn of(bytes: Vec<u8>) -> Text
+        ensures { result ≡ bytes.items }
+    {
+        Text { bytes }
+    }
+
+    /// The same text in memory of its own.
+    pub fn copied(&self, alloc: Global) -> Result<Text, AllocError>
+        ensures { IfOk result (λ text. text ≡ self.now) }
+    {
+        let bytes = Vec::from_slice(alloc, self.bytes.as_slice())?;
+        Ok(Text { bytes })
+    }
+
     /// The text that a TEXT value stands for, without its escapes (RFC 5545, section 3.3.11).
     pub(crate) fn of_value(alloc: Global, value: &[u8]) -> Result<Text, AllocError>
         ensures { IfOk result (λ text. text ≡ text_of value.now) }
