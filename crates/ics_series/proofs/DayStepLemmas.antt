@@ -6,7 +6,6 @@ use Rattle.std.proofs.Common.{◌≡◌, ℕ, zero, suc, ◌+◌, ◌≤◌, ℤ
 use Rattle.std.proofs.lemmas.Int.{int_max_is, int_min_is, ints}
 use Rattle.std.proofs.lemmas.List.Sums.{sum_by-cons}
 use Rattle.ics_series.specs.declared.window.Window.{Window}
-use Rattle.ics_series.specs.ShownDays.{day_of_local}
 use Rattle.ics_series.specs.DayKeys.{DayRank}
 use Rattle.ics_series.specs.DayMasters.{day_and_start, masters_in, AreDayMasters, AreMasters, IsDayMaster, IsFromStart, IsNearAgenda, IsPastAgenda, Scope}
 use Rattle.ics_series.specs.DaySteps.{begin_day, first_under, most_in, sum_days, AreDayBounds, IsLookedBefore}
@@ -21,6 +20,7 @@ use Rattle.ics_series.specs.Sources.{master_of, recurring, uid_cmp, IsFrom, Recu
 use Rattle.ics_series.specs.Steps.{HasStepBound}
 use Rattle.ics_series.proofs.DayLemmas.{day-under}
 use Rattle.ics_series.proofs.MasterSumLemmas.{day-masters, searched-masters, sum-of-masters}
+use Rattle.ics_values.specs.Locals.{day_of_local}
 
 -- a bound with nothing to come is one whatever is to come
 wider : (m : Recurring) (coming : List Entry) (most : ℕ) → HasStepBound m [] most → HasStepBound m coming most

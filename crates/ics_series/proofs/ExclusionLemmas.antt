@@ -21,6 +21,7 @@ use Rattle.ics_series.specs.Exclusions.{excludes_by, excludes_time, is_day_in, t
 use Rattle.ics_series.specs.FileZones.{clocks_in, is_past}
 use Rattle.ics_series.proofs.InstantLemmas.{instant-near}
 use Rattle.ics_series.proofs.MeetingLemmas.{le-true}
+use Rattle.ics_values.specs.Locals.{whole_days}
 
 -- Whether a search finds a number.
 equal-true : (a b : ℤ) → int_cmp a b ≡ Equal → int_eq a b ≡ true
@@ -63,7 +64,7 @@ pushed-by clock instants days moment t false h =
 
 later-false : (zones : FileZones) (w : Window) (time : Time) (t : ℤ) → t <ℤ w.to → is_past w time ≡ true → int_eq (instant (clocks_in zones) time) t ≡ false
 later-false zones w time t early past =
-    let late = le-true (w.to +ℤ pos 172_800) (stamp_seconds time.stamp) past in
+    let late = le-true (w.to +ℤ whole_days 2) (stamp_seconds time.stamp) past in
     unequal (instant (clocks_in zones) time) t (omega (arith, ints, late, early, instant-near zones time))
   where
     unequal : (a b : ℤ) → b <ℤ a → int_eq a b ≡ false

@@ -4,7 +4,6 @@ use Rattle.std.specs.declared.cmp.Ordering.TheVariants.{Less}
 use Rattle.std.proofs.Common.{◌≡◌, ℕ, zero, suc, ◌+◌, ◌<◌, ◌≤◌, ℤ, pos, neg_ℤ, ◌+ℤ◌, ◌-ℤ◌, Bool, true, false, ◌&&◌, not, cond, List, [], ◌∷◌, length, Some, ◌⊎◌, inl, inr, ⊎_elim, refl, sym, ◌∙◌, ap, arith}
 use Rattle.std.proofs.lemmas.Int.{ints}
 use Rattle.ics_rule.specs.Kept.{count, is_kept}
-use Rattle.ics_rule.specs.PeriodNumbers.{calendar_end}
 use Rattle.ics_rule.specs.Recurrence.{Recurrence}
 use Rattle.ics_rule.proofs.Counts.{count-suc}
 use Rattle.ics_rule.proofs.KeptLemmas.{and_true, eqb_true}
@@ -13,7 +12,7 @@ use Rattle.ics_series.specs.declared.start.Start.{Start}
 use Rattle.ics_series.specs.declared.window.Window.{Window}
 use Rattle.ics_series.specs.declared.zones.FileZones.{FileZones}
 use Rattle.ics_series.specs.Clocks.{Clocks}
-use Rattle.ics_values.specs.Locals.{midnight}
+use Rattle.ics_values.specs.Locals.{midnight, calendar_end, whole_days}
 use Rattle.ics_series.specs.Found.{moment_cmp, start_at}
 use Rattle.ics_series.specs.HeldMost.{greatest, is_raw, is_within_days, most_in_days, raw_by, raw_by_rule, raw_in}
 use Rattle.ics_series.specs.Listing.{IsIn}
@@ -111,7 +110,7 @@ unfolding raw_in
 rule-most clocks event rule day has = omega (arith, ap (λ o. raw_by clocks event o day) has)
 
 module _ (zones : FileZones) (event : Event) (rule : Recurrence) (w : Window) where
-  within-days : (asked t : ℤ) → (midnight asked -ℤ pos 259_200) ≤ℤ t → t <ℤ (midnight asked +ℤ pos 172_800) → is_within_days (asked -ℤ pos 3) t ≡ true
+  within-days : (asked t : ℤ) → (midnight asked -ℤ whole_days 3) ≤ℤ t → t <ℤ (midnight asked +ℤ whole_days 2) → is_within_days (asked -ℤ pos 3) t ≡ true
   within-days asked t late early =
       both (int_le (midnight (asked -ℤ pos 3)) t) (int_lt t (midnight ((asked -ℤ pos 3) +ℤ pos 5)))
       (true-le (midnight (asked -ℤ pos 3)) t (omega (arith, ints, late)))

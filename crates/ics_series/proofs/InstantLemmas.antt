@@ -22,9 +22,10 @@ use Rattle.ics_zone.specs.JiffZones.{zone_of}
 use Rattle.ics_zone.specs.declared.display.Display.{Display}
 use Rattle.ics_series.specs.declared.zones.FileZones.{FileZones}
 use Rattle.ics_series.specs.Clocks.{Clock, Clocks, clock_at, clock_by, clocks_of, display_clock, instant, utc_clock, zone_clock}
-use Rattle.ics_values.specs.Locals.{local_seconds}
+use Rattle.ics_values.specs.Locals.{local_seconds, whole_days}
 use Rattle.ics_series.specs.Finish.{end_by, seconds_by}
 use Rattle.ics_series.specs.FileZones.{clocks_in, EndsNear}
+use Rattle.ics_series.specs.WindowBounds.{occurrence_first}
 
 -- a clock moves a local, or an instant, by less than two days
 pub record IsNearClock (clock : Clock) : Type 0 where
@@ -90,7 +91,7 @@ pub early : (zones : FileZones) (time : Time) → IsTime time → instant (clock
 early zones time h = omega (arith, ints, instant-near zones time, early-written time.stamp h.years)
 
 -- an event begins after the last two days of the year 0000 have begun
-pub late : (zones : FileZones) (time : Time) → IsTime time → neg_ℤ (pos 62_135_769_600) ≤ℤ instant (clocks_in zones) time
+pub late : (zones : FileZones) (time : Time) → IsTime time → occurrence_first ≤ℤ instant (clocks_in zones) time
 late zones time h = omega (arith, ints, instant-near zones time, late-written time.stamp h.years)
 
 -- a DTEND is as far off from a start as from DTSTART
@@ -142,7 +143,7 @@ module _ (zones : FileZones) where
   abbrev moment_of-stamp : Option ℕ → Stamp → ℤ
   moment_of-stamp index s = (clock_by (clocks_in zones) index s).moment (stamp_seconds s)
 
-  unzoned-near : (i j : Option ℕ) (s e : Stamp) → IsEnd s e → is_zoned s ≡ false → is_zoned e ≡ false → moment_of-stamp j e ≤ℤ (moment_of-stamp i s +ℤ pos 3_156_105_600)
+  unzoned-near : (i j : Option ℕ) (s e : Stamp) → IsEnd s e → is_zoned s ≡ false → is_zoned e ≡ false → moment_of-stamp j e ≤ℤ (moment_of-stamp i s +ℤ whole_days 36_529)
   unzoned-near i j s e k z y =
       let within = end-within s e k z y in
       omega (arith, ints, within, (near-clock zones i s).moment (stamp_seconds s), (near-clock zones j e).moment (stamp_seconds e))
@@ -153,16 +154,16 @@ module _ (zones : FileZones) where
   abbrev time_by : Option ℕ → Stamp → Time
   time_by index s = record { stamp = s; zone = index }
 
-  one-zone-near : (i j : Option ℕ) (a b : Local) → IsWithin (stamp_seconds (Zoned a)) (stamp_seconds (Zoned b)) → moment_of-stamp j (Zoned b) ≤ℤ (moment_of-stamp i (Zoned a) +ℤ pos 3_156_105_600)
+  one-zone-near : (i j : Option ℕ) (a b : Local) → IsWithin (stamp_seconds (Zoned a)) (stamp_seconds (Zoned b)) → moment_of-stamp j (Zoned b) ≤ℤ (moment_of-stamp i (Zoned a) +ℤ whole_days 36_529)
   one-zone-near i j a b within = omega (arith, ints, within.short, (near-clock zones i (Zoned a)).moment (local_seconds a), (near-clock zones j (Zoned b)).moment (local_seconds b))
 
   zoned-near : (one : Bool) (x y : ℕ) (a b : Local) → IsWithin (compared one own (time_by (Some x) (Zoned a))) (compared one own (time_by (Some y) (Zoned b)))
-      → moment_of-stamp (Some y) (Zoned b) ≤ℤ (moment_of-stamp (Some x) (Zoned a) +ℤ pos 3_156_105_600)
+      → moment_of-stamp (Some y) (Zoned b) ≤ℤ (moment_of-stamp (Some x) (Zoned a) +ℤ whole_days 36_529)
   zoned-near true x y a b within = one-zone-near (Some x) (Some y) a b within
   zoned-near false x y a b within = omega (arith, ints, within.short, zone-moment own x a, zone-moment own y b)
 
   stamps-near : (i j : Option ℕ) (s e : Stamp) → is_some i ≡ is_zoned s → is_some j ≡ is_zoned e → IsEnd s e
-      → ((is_some i || is_some j) ≡ true → IsWithin (compared (is_one_zone i j) own (time_by i s)) (compared (is_one_zone i j) own (time_by j e))) → moment_of-stamp j e ≤ℤ (moment_of-stamp i s +ℤ pos 3_156_105_600)
+      → ((is_some i || is_some j) ≡ true → IsWithin (compared (is_one_zone i j) own (time_by i s)) (compared (is_one_zone i j) own (time_by j e))) → moment_of-stamp j e ≤ℤ (moment_of-stamp i s +ℤ whole_days 36_529)
   stamps-near i j (Date a) (Date b) p q k h = unzoned-near i j (Date a) (Date b) k refl refl
   stamps-near i j (Date a) (Floating b) p q k h = absurd k
   stamps-near i j (Date a) (Utc b) p q k h = absurd k

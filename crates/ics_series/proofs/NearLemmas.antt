@@ -15,7 +15,7 @@ use Rattle.ics_series.specs.declared.zones.FileZones.{FileZones}
 use Rattle.ics_series.specs.declared.window.Window.{Window}
 use Rattle.ics_series.specs.Clocks.{Clock, clock_by, day_of, instant, local_at}
 use Rattle.ics_calendar.specs.Event.{stamp_seconds}
-use Rattle.ics_values.specs.Locals.{midnight}
+use Rattle.ics_values.specs.Locals.{midnight, whole_days}
 use Rattle.ics_series.specs.Finish.{days_lasting, end_by, finish, later_by, seconds_by, seconds_lasting}
 use Rattle.ics_series.specs.Meeting.{entry_from}
 use Rattle.ics_series.specs.Meets.{Meets}
@@ -32,7 +32,7 @@ day-written (Zoned local) = omega (arith, ints)
 module _ (zones : FileZones) where
   -- a duration leads less than four days past its seconds
   later-bound : (zone : Option ℕ) (s : Stamp) (duration : Duration) (t : ℤ)
-      → later_by (clock_by (clocks_in zones) zone s) duration t <ℤ ((t +ℤ pos (duration.days * 86_400 + duration.seconds)) +ℤ pos 345_600)
+      → later_by (clock_by (clocks_in zones) zone s) duration t <ℤ ((t +ℤ pos (duration.days * 86_400 + duration.seconds)) +ℤ whole_days 4)
   later-bound zone s duration t =
       let c : Clock = clock_by (clocks_in zones) zone s in
       let near = near-clock zones zone s in
@@ -42,7 +42,7 @@ module _ (zones : FileZones) where
 
   -- the end lies less than four days past the start and the event's seconds
   end-bound : (first given : Time) (s : Stamp) (length : Length)
-      → end_by (clocks_in zones) first given s length <ℤ ((instant (clocks_in zones) given +ℤ seconds_by (clocks_in zones) first s length) +ℤ pos 345_600)
+      → end_by (clocks_in zones) first given s length <ℤ ((instant (clocks_in zones) given +ℤ seconds_by (clocks_in zones) first s length) +ℤ whole_days 4)
   end-bound first given (Date day) length =
       let a = moment_near (zone_of zones.display.now) (midnight (day_of given.stamp +ℤ days_lasting day length)) in
       omega (arith, ints, a.0, a.1, instant-near zones given, day-written given.stamp)
@@ -72,7 +72,7 @@ module _ (zones : FileZones) where
 
   -- but for a PERIOD the finish does too
   finish-bound : (event : Event) (given : Time)
-      → finish (clocks_in zones) event (At given) <ℤ ((instant (clocks_in zones) given +ℤ seconds_lasting (clocks_in zones) event) +ℤ pos 345_600)
+      → finish (clocks_in zones) event (At given) <ℤ ((instant (clocks_in zones) given +ℤ seconds_lasting (clocks_in zones) event) +ℤ whole_days 4)
   finish-bound event given =
       let end = end-bound event.start given event.start.stamp event.length in
       let least = seconds-least event.start event.start.stamp event.length in
@@ -80,7 +80,7 @@ module _ (zones : FileZones) where
 
   -- what meets the window begins at most four days before an event of this length can
   pub meets-late : (event : Event) (w : Window) (given : Time) → Meets w (entry_from (clocks_in zones) event (At given))
-      → ((w.from -ℤ seconds_lasting (clocks_in zones) event) -ℤ pos 345_600) ≤ℤ instant (clocks_in zones) given
+      → ((w.from -ℤ seconds_lasting (clocks_in zones) event) -ℤ whole_days 4) ≤ℤ instant (clocks_in zones) given
   meets-late event w given m =
       let bound = finish-bound event given in
       ⊎_elim (λ l. omega (arith, ints, bound, l))

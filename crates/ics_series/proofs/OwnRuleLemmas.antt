@@ -9,7 +9,7 @@ use Rattle.ics_series.specs.declared.rule_starts.RuleStarts.{RuleStarts}
 use Rattle.ics_series.specs.declared.start.Start.{Start}
 use Rattle.ics_series.specs.declared.window.Window.{Window}
 use Rattle.ics_series.specs.declared.zones.FileZones.{FileZones}
-use Rattle.ics_values.specs.Locals.{local_seconds}
+use Rattle.ics_values.specs.Locals.{local_seconds, whole_days}
 use Rattle.ics_series.specs.SeriesStarts.{first_asked, HasOwnRule, HasSameRule}
 use Rattle.ics_series.specs.Starts.{local_of}
 use Rattle.ics_series.specs.FileZones.{clocks_in}
@@ -24,7 +24,7 @@ module _ (zones : FileZones) (event : Event) (w : Window) where
         event_is = ap (λ (e : Bor Event). e.now) same.event ∙ h.event_is;
         window_is = same.window ∙ h.window_is;
         day = subst (λ (l : Local). IsDayNumber l.day) (sym same.from) h.day;
-        late = subst (λ (l : Local). int_max (local_seconds (local_of event.start.stamp)) (first -ℤ pos 604_800) ≤ℤ local_seconds l) (sym same.from) h.late;
+        late = subst (λ (l : Local). int_max (local_seconds (local_of event.start.stamp)) (first -ℤ whole_days 7) ≤ℤ local_seconds l) (sym same.from) h.late;
       }
   own-rule-same first None (Some b) same h = absurd same
   own-rule-same first (Some a) None same h = absurd same

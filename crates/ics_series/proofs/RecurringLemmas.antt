@@ -34,6 +34,7 @@ use Rattle.ics_series.proofs.StartSourceLemmas.{gives-value, rdate-time}
 use Rattle.ics_series.proofs.InstantLemmas.{late}
 use Rattle.ics_series.proofs.ToComeLemmas.{come-listed, is-after, listed-given, to-come}
 use Rattle.ics_series.proofs.WholeLemmas.{whole-listing}
+use Rattle.ics_series.specs.WindowBounds.{occurrence_first}
 
 -- an event that recurs is a master
 pub recurring-master : (event : Event) → is_single event ≡ false → event.recurrence ≡ None
@@ -68,7 +69,7 @@ in-among t [] m = absurd m
 in-among t (x ∷ xs) m = ⊎_elim (λ e. ap (λ b. b || list_any (λ x. int_eq x t) xs) (itself x t e)) (λ n. or-true (int_eq x t) (list_any (λ x. int_eq x t) xs) (in-among t xs n)) m
 
 -- an occurrence begins after the last two days of the year 0000 have begun
-pub of-late : (zones : FileZones) (event : Event) (o : Entry) → IsEvent event → IsOf (clocks_in zones) event o → neg_ℤ (pos 62_135_769_600) ≤ℤ o.start
+pub of-late : (zones : FileZones) (event : Event) (o : Entry) → IsEvent event → IsOf (clocks_in zones) event o → occurrence_first ≤ℤ o.start
 of-late zones event o e h =
     let time = rdate-time h.lasts.given (gives-value (clocks_in zones) event h.lasts.source h.lasts.given e.start e.rdates h.lasts.gives) in
     let near = late zones (time_of h.lasts.given) time in

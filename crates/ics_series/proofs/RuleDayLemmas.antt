@@ -17,7 +17,7 @@ use Rattle.ics_series.specs.declared.start.Start.{Start}
 use Rattle.ics_series.specs.declared.window.Window.{Window}
 use Rattle.ics_series.specs.declared.zones.FileZones.{FileZones}
 use Rattle.ics_calendar.specs.Event.{stamp_seconds}
-use Rattle.ics_values.specs.Locals.{local_seconds, midnight}
+use Rattle.ics_values.specs.Locals.{local_seconds, midnight, whole_days}
 use Rattle.ics_series.specs.Found.{moment_cmp, start_at}
 use Rattle.ics_series.specs.Listing.{IsIn}
 use Rattle.ics_series.specs.Merged.{by_order, cut, union}
@@ -54,7 +54,7 @@ less-start s t l = sym (int_cmp_is s.moment t.moment Less l)
 
 module _ (zones : FileZones) (event : Event) where
   -- a local from a day's midnight on means an instant that is less than two days before it
-  pub late-numbered : (day : ℤ) (n : ℕ) → IsDayNumber day → midnight_number day ≤ n → (midnight day -ℤ pos 172_800) <ℤ moment_numbered (clocks_in zones) event n
+  pub late-numbered : (day : ℤ) (n : ℕ) → IsDayNumber day → midnight_number day ≤ n → (midnight day -ℤ whole_days 2) <ℤ moment_numbered (clocks_in zones) event n
   late-numbered day n h l =
       let near = instant-near zones (time_at event.start (local_numbered n)) in
       let wrote = day-written event.start.stamp (local_numbered n) in
@@ -62,7 +62,7 @@ module _ (zones : FileZones) (event : Event) where
       omega (arith, ints, near.0, wrote, under)
 
   -- and one before it an instant that is less than two days after it
-  pub early-numbered : (day : ℤ) (n : ℕ) → IsDayNumber day → n < midnight_number day → moment_numbered (clocks_in zones) event n <ℤ (midnight day +ℤ pos 172_800)
+  pub early-numbered : (day : ℤ) (n : ℕ) → IsDayNumber day → n < midnight_number day → moment_numbered (clocks_in zones) event n <ℤ (midnight day +ℤ whole_days 2)
   early-numbered day n h l =
       let near = instant-near zones (time_at event.start (local_numbered n)) in
       let wrote = written-at event.start.stamp (local_numbered n) in
@@ -75,7 +75,7 @@ module _ (zones : FileZones) (event : Event) where
     given-early n g = less-true (moment_numbered (clocks_in zones) event n) w.to (and_true {a = lets_until rule n (moment_numbered (clocks_in zones) event n)} (and_true {a = is_kept rule n} g).1).1
 
     -- no local from a day on does that begins two days after the window's end
-    pub none-past : (end : ℤ) (n : ℕ) → IsDayNumber end → (w.to +ℤ pos 172_800) ≤ℤ midnight end → midnight_number end ≤ n → gives (clocks_in zones) event rule w n ≡ false
+    pub none-past : (end : ℤ) (n : ℕ) → IsDayNumber end → (w.to +ℤ whole_days 2) ≤ℤ midnight end → midnight_number end ≤ n → gives (clocks_in zones) event rule w n ≡ false
     none-past end n h after l = by (gives (clocks_in zones) event rule w n) refl
       where
         by : (b : Bool) → gives (clocks_in zones) event rule w n ≡ b → b ≡ false
@@ -110,7 +110,7 @@ module _ (zones : FileZones) (event : Event) where
     found-is from s m = found_in-is from (rules_end - from) s m
 
     -- a start two days or more before a day comes before all that the locals from the day on give
-    ready-before : (day : ℤ) (place : ℕ) (s : Start) → IsDayNumber day → midnight_number day ≤ place → s.moment ≤ℤ (midnight day -ℤ pos 172_800)
+    ready-before : (day : ℤ) (place : ℕ) (s : Start) → IsDayNumber day → midnight_number day ≤ place → s.moment ≤ℤ (midnight day -ℤ whole_days 2)
         → IsBefore moment_cmp s (found (clocks_in zones) event rule w place)
     ready-before day place s h read l =
         before-all moment_cmp moment_total s (found (clocks_in zones) event rule w place)
@@ -121,7 +121,7 @@ module _ (zones : FileZones) (event : Event) where
         less-start s t (omega (arith, ints, late, is, l)))
 
     -- Where no day more has to be read the first that is held is the first still to come.
-    pub past-end : (day end : ℤ) (place : ℕ) → IsDayNumber day → IsDayNumber end → (w.to +ℤ pos 172_800) ≤ℤ midnight end → end ≤ℤ day → midnight_number day ≤ place
+    pub past-end : (day end : ℤ) (place : ℕ) → IsDayNumber day → IsDayNumber end → (w.to +ℤ whole_days 2) ≤ℤ midnight end → end ≤ℤ day → midnight_number day ≤ place
         → found (clocks_in zones) event rule w place ≡ []
     past-end day end place d e after l read =
         found-none (clocks_in zones) event rule w place (λ n low. none-past end n e after (omega (arith, ints, number-day day d, number-day end e, read, low, l)))
@@ -133,7 +133,7 @@ module _ (zones : FileZones) (event : Event) where
     not-less : (a b : ℤ) → int_lt a b ≡ false → b ≤ℤ a
     not-less a b e = grind (arith, ints)
 
-    settled : (day end : ℤ) (held : List Start) (place : ℕ) → IsDayNumber day → IsDayNumber end → (w.to +ℤ pos 172_800) ≤ℤ midnight end → midnight_number day ≤ place
+    settled : (day end : ℤ) (held : List Start) (place : ℕ) → IsDayNumber day → IsDayNumber end → (w.to +ℤ whole_days 2) ≤ℤ midnight end → midnight_number day ≤ place
         → is_behind day end held ≡ false → Settled held place
     settled day end held place d e after read b = by (int_lt day end) refl held b
       where
@@ -141,7 +141,7 @@ module _ (zones : FileZones) (event : Event) where
         by false p [] q = past-end day end place d e after (not-less day end p) read
         by false p (x ∷ xs) q = subst (IsBefore moment_cmp x) (sym (past-end day end place d e after (not-less day end p) read)) tt
         by true p [] q = let f : true ≡ false = q in absurd cc
-        by true p (x ∷ xs) q = ready-before day place x d read (le-true x.moment (midnight day -ℤ pos 172_800) (not-not (is_ready day (x ∷ xs)) q))
+        by true p (x ∷ xs) q = ready-before day place x d read (le-true x.moment (midnight day -ℤ whole_days 2) (not-not (is_ready day (x ∷ xs)) q))
           where
             not-not : (c : Bool) → not c ≡ false → c ≡ true
             not-not true k = refl
@@ -158,7 +158,7 @@ module _ (zones : FileZones) (event : Event) where
     unfolding to_come
     come-nothing place e = e
 
-    module _ (day end : ℤ) (place : ℕ) (d : IsDayNumber day) (e : IsDayNumber end) (after : (w.to +ℤ pos 172_800) ≤ℤ midnight end) (read : midnight_number day ≤ place) where
+    module _ (day end : ℤ) (place : ℕ) (d : IsDayNumber day) (e : IsDayNumber end) (after : (w.to +ℤ whole_days 2) ≤ℤ midnight end) (read : midnight_number day ≤ place) where
       pub first-held : (held : List Start) → Rises moment_cmp held → is_behind day end held ≡ false
           → slice_get held 0 ≡ slice_get (to_come (clocks_in zones) event rule w held place) 0
       first-held [] r b = sym (ap (λ (xs : List Start). slice_get xs 0) (come-nothing place (settled day end [] place d e after read b)))
@@ -209,7 +209,7 @@ module _ (zones : FileZones) (event : Event) where
 
     -- each start still to come begins no more than three days before the day that is not asked for yet
     pub near-left : (day asked : ℤ) (held : List Start) (place : ℕ) → IsDayNumber day → asked ≤ℤ (day +ℤ pos 1) → midnight_number day ≤ place
-        → AreHeld (clocks_in zones) event rule w asked held → (s : Start) → IsIn s (to_come (clocks_in zones) event rule w held place) → (midnight asked -ℤ pos 259_200) ≤ℤ s.moment
+        → AreHeld (clocks_in zones) event rule w asked held → (s : Start) → IsIn s (to_come (clocks_in zones) event rule w held place) → (midnight asked -ℤ whole_days 3) ≤ℤ s.moment
     unfolding to_come
     near-left day asked held place d soon read are s m =
         ⊎_elim (λ n. (are s n).late)

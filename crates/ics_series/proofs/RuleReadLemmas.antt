@@ -4,7 +4,7 @@ use Rattle.std.proofs.Common.{◌≡◌, ℤ, pos, ◌+ℤ◌, ◌-ℤ◌, Bool,
 use Rattle.std.proofs.lemmas.Int.{ints}
 use Rattle.ics_values.specs.Days.{IsDayNumber}
 use Rattle.ics_values.specs.declared.local.Local.{Local}
-use Rattle.ics_values.specs.Locals.{number, midnight}
+use Rattle.ics_values.specs.Locals.{number, midnight, whole_days}
 use Rattle.ics_rule.specs.Recurrence.{Recurrence}
 use Rattle.ics_rule.proofs.KeptLemmas.{and_true}
 use Rattle.ics_calendar.specs.declared.event.Event.{Event}
@@ -29,11 +29,11 @@ not-true true e = let f : false ≡ true = e in absurd cc
 not-true false e = refl
 
 -- where the first is not ready none is
-pub none-ready : (day : ℤ) (held : List Start) → Rises moment_cmp held → is_ready day held ≡ false → (s : Start) → IsIn s held → (midnight day -ℤ pos 172_800) <ℤ s.moment
+pub none-ready : (day : ℤ) (held : List Start) → Rises moment_cmp held → is_ready day held ≡ false → (s : Start) → IsIn s held → (midnight day -ℤ whole_days 2) <ℤ s.moment
 none-ready day [] r e s m = absurd m
 none-ready day (x ∷ held) r e s m =
-    let first : (midnight day -ℤ pos 172_800) <ℤ x.moment = not-le x.moment (midnight day -ℤ pos 172_800) e in
-    ⊎_elim (λ same. subst (λ (y : Start). (midnight day -ℤ pos 172_800) <ℤ y.moment) (sym same) first)
+    let first : (midnight day -ℤ whole_days 2) <ℤ x.moment = not-le x.moment (midnight day -ℤ whole_days 2) e in
+    ⊎_elim (λ same. subst (λ (y : Start). (midnight day -ℤ whole_days 2) <ℤ y.moment) (sym same) first)
     (λ n. let less = int-less x.moment s.moment (before-in moment_cmp moment_total x s held r.0 n) in omega (arith, ints, first, less)) m
 
 pub behind-early : (day end : ℤ) (held : List Start) → is_behind day end held ≡ true → day <ℤ end
@@ -44,14 +44,14 @@ bound-later day end [] l = (l, omega (arith, ints))
 bound-later day end (s ∷ held) l = (omega (arith, ints), omega (arith, ints, l))
 
 -- all that is held begins no more than three days before the bound
-pub bound-late : (day end : ℤ) (held : List Start) → Rises moment_cmp held → is_behind day end held ≡ true → (s : Start) → IsIn s held → (midnight (bound_of day end held) -ℤ pos 259_200) ≤ℤ s.moment
+pub bound-late : (day end : ℤ) (held : List Start) → Rises moment_cmp held → is_behind day end held ≡ true → (s : Start) → IsIn s held → (midnight (bound_of day end held) -ℤ whole_days 3) ≤ℤ s.moment
 bound-late day end [] r b s m = absurd m
 bound-late day end (x ∷ held) r b s m =
     let late = none-ready day (x ∷ held) r (not-true (is_ready day (x ∷ held)) (and_true {a = int_lt day end} b).1) s m in
     omega (arith, ints, late)
 
 module _ (zones : FileZones) (event : Event) (rule : Recurrence) (w : Window) where
-  pub held-on : (old new : ℤ) (held : List Start) → old ≤ℤ new → ((s : Start) → IsIn s held → (midnight new -ℤ pos 259_200) ≤ℤ s.moment)
+  pub held-on : (old new : ℤ) (held : List Start) → old ≤ℤ new → ((s : Start) → IsIn s held → (midnight new -ℤ whole_days 3) ≤ℤ s.moment)
       → AreHeld (clocks_in zones) event rule w old held → AreHeld (clocks_in zones) event rule w new held
   held-on old new held l late are s m =
       let h = are s m in record { by = h.by; given = h.given; late = late s m; early = omega (arith, ints, h.early, l) }

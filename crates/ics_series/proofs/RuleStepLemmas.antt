@@ -5,7 +5,7 @@ use Rattle.std.proofs.lemmas.Int.{ints}
 use Rattle.ics_values.specs.Days.{IsDayNumber}
 use Rattle.ics_values.specs.declared.local.Local.{Local}
 use Rattle.ics_rule.specs.Cursors.{place_of}
-use Rattle.ics_values.specs.Locals.{number, midnight}
+use Rattle.ics_values.specs.Locals.{number, midnight, whole_days}
 use Rattle.ics_rule.specs.Next.{NoneKept, IsNextKept}
 use Rattle.ics_series.specs.declared.rule_starts.RuleStarts.{RuleStarts}
 use Rattle.ics_series.specs.declared.start.Start.{Start}
@@ -23,6 +23,7 @@ use Rattle.ics_series.proofs.RuleDayLemmas.{first-held, near-left, number-day}
 use Rattle.ics_series.proofs.RuleLocalLemmas.{numbered-number}
 use Rattle.ics_series.proofs.RuleReadLemmas.{behind-early, bound-late, bound-later, held-in, held-on, is-held, rises-held}
 use Rattle.ics_series.proofs.RuleStartLemmas.{come-none, come-one, rises-to_come}
+use Rattle.ics_rule.specs.PeriodNumbers.{rules_end}
 
 module _ (s : RuleStarts) where
   pub day-days : IsDayNumber s.day
@@ -47,7 +48,7 @@ module _ (s : RuleStarts) where
   pub asked-number : pos (midnight_number s.asked) ≡ midnight s.asked +ℤ pos 62_167_219_200
   asked-number = number-day s.asked (omega (arith, ints, s.low, s.asked_on), omega (arith, ints, s.asked_end, end-days.1))
 
-  pub left-near : (t : Start) → IsIn t (starts_left s) → (midnight s.asked -ℤ pos 259_200) ≤ℤ t.moment
+  pub left-near : (t : Start) → IsIn t (starts_left s) → (midnight s.asked -ℤ whole_days 3) ≤ℤ t.moment
   left-near = near-left s.zones s.event.now s.rule s.window s.day s.asked s.held.items (place_of s.cursor) day-days s.asked_soon s.read s.are
 
   module _ (behind : is_behind s.day s.end s.held.items ≡ true) (bound : ℤ) (bound-is : bound ≡ bound_of s.day s.end s.held.items) where
@@ -57,11 +58,11 @@ module _ (s : RuleStarts) where
     pub bound-days : IsDayNumber bound
     bound-days = (omega (arith, ints, within.0, s.low), omega (arith, ints, within.1, end-days.1))
 
-    pub bound-early : midnight_number bound ≤ 309_289_708_800
+    pub bound-early : midnight_number bound ≤ rules_end
     bound-early = omega (arith, ints, within.1, bound-days.0, end-days.0, s.early)
 
-    late : (t : Start) → IsIn t s.held.items → (midnight bound -ℤ pos 259_200) ≤ℤ t.moment
-    late t m = subst (λ b. (midnight b -ℤ pos 259_200) ≤ℤ t.moment) (sym bound-is) (bound-late s.day s.end s.held.items s.rises behind t m)
+    late : (t : Start) → IsIn t s.held.items → (midnight bound -ℤ whole_days 3) ≤ℤ t.moment
+    late t m = subst (λ b. (midnight b -ℤ whole_days 3) ≤ℤ t.moment) (sym bound-is) (bound-late s.day s.end s.held.items s.rises behind t m)
 
     -- none of the locals before the bound is kept
     pub none-held : AreHeld (clocks_in s.zones) s.event.now s.rule s.window bound s.held.items

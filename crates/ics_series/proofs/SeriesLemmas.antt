@@ -11,7 +11,7 @@ use Rattle.ics_values.specs.Days.{IsDayNumber}
 use Rattle.ics_values.specs.declared.local.Local.{Local}
 use Rattle.ics_rule.specs.Cursors.{place_of}
 use Rattle.ics_rule.specs.Kept.{is_kept}
-use Rattle.ics_values.specs.Locals.{number, midnight}
+use Rattle.ics_values.specs.Locals.{number, midnight, whole_days}
 use Rattle.ics_rule.specs.Recurrence.{Recurrence}
 use Rattle.ics_rule.proofs.KeptLemmas.{and_true}
 use Rattle.ics_calendar.specs.Event.{IsEvent, IsTime}
@@ -242,7 +242,7 @@ pub rule-near : (clocks : Clocks) (event : Event) (o : Option RuleStarts) (comin
 rule-near clocks event None coming ruled e m = tt
 rule-near clocks event (Some s) coming ruled e m = λ local k.
     let there = moment-in (starts_left s) e.start (ruled e m local k) in
-    subst (λ t. (midnight s.asked -ℤ pos 259_200) ≤ℤ t) there.2 (left-near s there.0 there.1)
+    subst (λ t. (midnight s.asked -ℤ whole_days 3) ≤ℤ t) there.2 (left-near s there.0 there.1)
 
 -- so it is where it has been read on
 pub asked-near : (clocks : Clocks) (event : Event) (a b : Option RuleStarts) → HasSameRule a b → rule_left b ≡ rule_left a → (coming : List Entry) → HasRuled clocks event a coming

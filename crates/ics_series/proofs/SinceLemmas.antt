@@ -8,7 +8,7 @@ use Rattle.ics_values.specs.RuleParts.{RuleParts}
 use Rattle.ics_values.specs.declared.local.Local.{Local}
 use Rattle.ics_rule.specs.Kept.{is_kept}
 use Rattle.ics_rule.specs.PeriodNumbers.{rules_end}
-use Rattle.ics_values.specs.Locals.{number, local_seconds}
+use Rattle.ics_values.specs.Locals.{number, local_seconds, whole_days}
 use Rattle.ics_rule.specs.Recurrence.{Recurrence}
 use Rattle.ics_calendar.specs.Event.{IsEvent}
 use Rattle.ics_calendar.specs.declared.event.Event.{Event}
@@ -74,7 +74,7 @@ module _ (zones : FileZones) (w : Window) (event : Event) where
       let early = given-early zones event rule w n g in
       let near = instant-near zones (time_at event.start (local_numbered n)) in
       let wrote = written-at event.start.stamp (local_numbered n) in
-      let bound : n < 309_289_708_800 = omega (arith, ints, early, near.0, wrote.1, seconds-numbered n, w.not_late) in
+      let bound : n < rules_end = omega (arith, ints, early, near.0, wrote.1, seconds-numbered n, w.not_late) in
       (omega (arith, ints), omega (arith, ints, bound))
 
   pub known-ruled : (since : ℤ) (listed starts : List Start) (s : Start) → IsRuleFrom (clocks_in zones) event w since listed starts → IsIn s starts → IsKnown (clocks_in zones) event w s
@@ -135,22 +135,22 @@ module _ (zones : FileZones) (w : Window) (event : Event) where
         ∙ both-back (lets_until rule (number local) (instant (clocks_in zones) (time_at event.start local))) (int_lt (instant (clocks_in zones) (time_at event.start local)) w.to)
         parts.1 (true-less (instant (clocks_in zones) (time_at event.start local)) w.to early)
 
-low-by : (from first earliest since to t local : ℤ) → from ≤ℤ int_max first (int_max earliest (int_min since to) -ℤ pos 518_400) → (earliest -ℤ pos 345_600) ≤ℤ t → since ≤ℤ t → first ≤ℤ local → (t -ℤ pos 172_800) <ℤ local → from ≤ℤ local
+low-by : (from first earliest since to t local : ℤ) → from ≤ℤ int_max first (int_max earliest (int_min since to) -ℤ whole_days 6) → (earliest -ℤ whole_days 4) ≤ℤ t → since ≤ℤ t → first ≤ℤ local → (t -ℤ whole_days 2) <ℤ local → from ≤ℤ local
 low-by from first earliest since to t local low late own above near =
-    omega (arith, ints, int_max_is first (int_max earliest (int_min since to) -ℤ pos 518_400), int_max_is earliest (int_min since to), int_min_is since to, low, late, own, above, near)
+    omega (arith, ints, int_max_is first (int_max earliest (int_min since to) -ℤ whole_days 6), int_max_is earliest (int_min since to), int_min_is since to, low, late, own, above, near)
 
 module _ (zones : FileZones) (w : Window) (event : Event) (sound : IsEvent event) (since : ℤ) where
   -- what gives a start that is sought from the instant on is asked for
-  asked-for : (from local : Local) (given : Rdate) → local_seconds from ≤ℤ int_max (local_seconds (local_of event.start.stamp)) (first_asked (clocks_in zones) w event since (listed_from (clocks_in zones) w event.start 0 event.rdates) -ℤ pos 518_400)
+  asked-for : (from local : Local) (given : Rdate) → local_seconds from ≤ℤ int_max (local_seconds (local_of event.start.stamp)) (first_asked (clocks_in zones) w event since (listed_from (clocks_in zones) w event.start 0 event.rdates) -ℤ whole_days 6)
       → GivesStart (clocks_in zones) event (Kept local) given → IsSought (clocks_in zones) event w (instant (clocks_in zones) (time_of given)) → since ≤ℤ instant (clocks_in zones) (time_of given) → local_seconds from ≤ℤ local_seconds local
   asked-for from local given low g s late =
       let time = time_at event.start local in
       let same = ap (λ x. instant (clocks_in zones) (time_of x)) g.1 in
-      let sought : (earliest (clocks_in zones) w event (listed_from (clocks_in zones) w event.start 0 event.rdates) -ℤ pos 345_600) ≤ℤ instant (clocks_in zones) (time_of given) =
+      let sought : (earliest (clocks_in zones) w event (listed_from (clocks_in zones) w event.start 0 event.rdates) -ℤ whole_days 4) ≤ℤ instant (clocks_in zones) (time_of given) =
       sought-late zones w event (instant (clocks_in zones) (time_of given)) s in
       let near = instant-near zones time in
       let at = written-at event.start.stamp local in
-      low-by (local_seconds from) (local_seconds (local_of event.start.stamp)) (earliest (clocks_in zones) w event (listed_from (clocks_in zones) w event.start 0 event.rdates)) since (w.to +ℤ pos 1_209_600)
+      low-by (local_seconds from) (local_seconds (local_of event.start.stamp)) (earliest (clocks_in zones) w event (listed_from (clocks_in zones) w event.start 0 event.rdates)) since (w.to +ℤ whole_days 14)
       (instant (clocks_in zones) (time_of given)) (local_seconds local) low sought late (kept-first (clocks_in zones) event sound.start local g.0) (omega (arith, ints, same, near.1, at.0))
 
   own-day-of : (local : Local) → (local ≡ local_of event.start.stamp) ⊎ IsRuleStart (clocks_in zones) event local → IsDayNumber local.day

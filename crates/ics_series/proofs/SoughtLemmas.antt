@@ -23,6 +23,7 @@ use Rattle.ics_series.proofs.InstantLemmas.{instant-near}
 use Rattle.ics_series.proofs.ListedLemmas.{in-listed}
 use Rattle.ics_series.proofs.MeetingLemmas.{less-le, meets-is_met}
 use Rattle.ics_series.proofs.NearLemmas.{meets-late}
+use Rattle.ics_values.specs.Locals.{whole_days}
 
 -- From where on the rule is asked.
 earlier-most : (b : Bool) (least t : ℤ) → earlier b least t ≤ℤ least
@@ -68,7 +69,7 @@ module _ (zones : FileZones) (w : Window) (event : Event) where
   listed-there place given g early =
       let time = time_of (given_by event.start g.0) in
       let same = ap (λ x. instant (clocks_in zones) (time_of x)) g.2 in
-      let past : is_past w time ≡ false = less-le (w.to +ℤ pos 172_800) (stamp_seconds time.stamp) (omega (arith, ints, same, early, instant-near zones time)) in
+      let past : is_past w time ≡ false = less-le (w.to +ℤ whole_days 2) (stamp_seconds time.stamp) (omega (arith, ints, same, early, instant-near zones time)) in
       let there = in-listed (clocks_in zones) w event.start 0 place event.rdates g.0 g.1 past in
       inr (subst (λ s. IsIn s (listed_from (clocks_in zones) w event.start 0 event.rdates))
       (ap (λ n. start_by (clocks_in zones) (Listed n) (given_by event.start g.0)) (omega arith) ∙ ap (start_by (clocks_in zones) (Listed place)) (sym g.2)) there)
@@ -77,11 +78,11 @@ module _ (zones : FileZones) (w : Window) (event : Event) where
   sought-early t s = omega (arith, ints, s.starts, s.meets.begun)
 
   -- what is sought begins at most four days before what counts first
-  pub sought-late : (t : ℤ) → IsSought (clocks_in zones) event w t → (earliest (clocks_in zones) w event (front (clocks_in zones) w event) -ℤ pos 345_600) ≤ℤ t
+  pub sought-late : (t : ℤ) → IsSought (clocks_in zones) event w t → (earliest (clocks_in zones) w event (front (clocks_in zones) w event) -ℤ whole_days 4) ≤ℤ t
   sought-late t s = by s.source s.given s.gives s.starts s.meets
     where
       by : (source : StartSource) (given : Rdate) → GivesStart (clocks_in zones) event source given → instant (clocks_in zones) (time_of given) ≡ t → Meets w (entry_from (clocks_in zones) event given)
-          → (earliest (clocks_in zones) w event (front (clocks_in zones) w event) -ℤ pos 345_600) ≤ℤ t
+          → (earliest (clocks_in zones) w event (front (clocks_in zones) w event) -ℤ whole_days 4) ≤ℤ t
       by source (At time) g e m =
           omega (arith, ints, e, meets-late zones event w time m, earliest-most (clocks_in zones) w event (w.from -ℤ seconds_lasting (clocks_in zones) event) (front (clocks_in zones) w event))
       by (Kept local) (Span start lasts) g e m = let f : Span start lasts ≡ At (time_at event.start local) = g.1 in absurd cc

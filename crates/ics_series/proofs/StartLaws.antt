@@ -5,7 +5,7 @@ use Rattle.std.specs.Ordering.{int_eq}
 use Rattle.std.proofs.lemmas.Int.{ints}
 use Rattle.std.proofs.lemmas.List.Folds.{list_any_at}
 use Rattle.ics_values.specs.Days.{IsDayNumber}
-use Rattle.ics_values.specs.Locals.{local_at, number, local_seconds}
+use Rattle.ics_values.specs.Locals.{local_at, number, local_seconds, calendar_end}
 use Rattle.ics_values.specs.declared.local.Local.{Local}
 use Rattle.ics_rule.specs.Kept.{is_kept, until_moment}
 use Rattle.ics_rule.specs.Recurrence.{Recurrence}
@@ -48,17 +48,17 @@ none-excluded clocks event exdate start end there out h =
 local_from : ℕ → Local
 local_from n = local_at (pos (n / 86_400) -ℤ pos 719_528) (n % 86_400)
 
-from-day : (n : ℕ) → n < 315_569_520_000 → IsDayNumber (local_from n).day
+from-day : (n : ℕ) → n < calendar_end → IsDayNumber (local_from n).day
 unfolding local_from
 from-day n h = (omega (arith, ints), omega (arith, ints))
 
-from-number : (n : ℕ) → n < 315_569_520_000 → number (local_from n) ≡ n
+from-number : (n : ℕ) → n < calendar_end → number (local_from n) ≡ n
 unfolding local_from
 from-number n h =
     let same = index-is (pos (n / 86_400) -ℤ pos 719_528) (omega (arith, ints), omega (arith, ints)) in
     omega (arith, ints, same)
 
-number-below : (a : Local) → IsDayNumber a.day → number a < 315_569_520_000
+number-below : (a : Local) → IsDayNumber a.day → number a < calendar_end
 number-below a h = omega (arith, ints, number-seconds a h, h.1, a.second_in)
 
 -- The least number that passes a test, of those below k.
@@ -159,7 +159,7 @@ module _ (clocks : Clocks) (event : Event) (time : IsTime event.start) (t : ℤ)
         (true-equal (instant_of (local_from (number local))) t (there ∙ same)))
 
     -- and what passes it is a start
-    test-given : (n : ℕ) → n < 315_569_520_000 → gives_at n ≡ true → IsRuleStart clocks event (local_from n) × (instant_of (local_from n) ≡ t)
+    test-given : (n : ℕ) → n < calendar_end → gives_at n ≡ true → IsRuleStart clocks event (local_from n) × (instant_of (local_from n) ≡ t)
     unfolding gives_at instant_of
     test-given n l h =
         let parts = and_true h in
@@ -185,7 +185,7 @@ module _ (clocks : Clocks) (event : Event) (time : IsTime event.start) (t : ℤ)
         ⊎_elim (λ e. other_start (ap instant_of (sym e) ∙ same))
         (λ r. let no = none (number local) (number-below local r.calendar) in let yes = given-test local r same in absurd cc) k))
         (λ found.
-        let small : found.0 < 315_569_520_000 = found.1 in
+        let small : found.0 < calendar_end = found.1 in
         let is = test-given found.0 small found.2 in
         inl (kept-instance (local_from found.0) (inr is.0) is.1
         (λ other k same.
@@ -193,7 +193,7 @@ module _ (clocks : Clocks) (event : Event) (time : IsTime event.start) (t : ℤ)
         (λ q. ⊎_elim (λ less. let no = found.3 (number other) less in let yes = given-test other q same in absurd cc)
         (λ more. omega (arith, ints, more, from-number found.0 small, number-seconds (local_from found.0) (from-day found.0 small), number-seconds other q.calendar))
         (sides (number other) found.0)) k)))
-        (none-or-least gives_at 315_569_520_000)
+        (none-or-least gives_at calendar_end)
 
   -- a local gives the start t, or none does
   kept-or-none : ((end : ℤ) × IsInstance clocks event t end) ⊎ ((local : Local) → IsKept clocks event local → instant_of local ≡ t → ⊥)

@@ -10,7 +10,7 @@ use Rattle.std.proofs.lemmas.Int.{ints}
 use Rattle.std.proofs.lemmas.List.Sums.{sum_by-cons}
 use Rattle.ics_rule.specs.Cursors.{looks_from, period_count, steps_of, HasLooked, IsCursorOf}
 use Rattle.ics_rule.specs.EffectiveRules.{effective}
-use Rattle.ics_values.specs.Locals.{number, midnight}
+use Rattle.ics_values.specs.Locals.{number, midnight, whole_days}
 use Rattle.ics_rule.specs.Recurrence.{Recurrence}
 use Rattle.ics_rule.specs.declared.cursor.Cursor.{Cursor}
 use Rattle.ics_rule.proofs.CursorLemmas.{few_steps}
@@ -79,7 +79,7 @@ module _ (zones : FileZones) (event : Event) (w : Window) (since : ℤ) (coming 
   asked-by : (s : RuleStarts) → IsOwnRule zones event w (first_of (clocks_in zones) w event since) s → AreAskedNear (Some s.asked) → IsLookedTo (record { clocks = clocks_in zones; event = event; window = w; since = since }) coming b → midnight_number s.asked ≤ b
   asked-by s own near to =
       let to-is : s.window.to ≡ w.to = ap (λ (x : Window). x.to) own.window_is in
-      let end : midnight s.asked ≤ℤ (s.window.to +ℤ pos 345_600) = omega (arith, ints, s.asked_end, s.soon) in
+      let end : midnight s.asked ≤ℤ (s.window.to +ℤ whole_days 4) = omega (arith, ints, s.asked_end, s.soon) in
       ⊎_elim
       (λ past. omega (arith, ints, asked-number s, end, to-is, past))
       (λ o. let close = near o.occurrence o.stands o.of o.local o.kept in omega (arith, ints, asked-number s, close, o.past))

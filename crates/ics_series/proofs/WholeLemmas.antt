@@ -3,7 +3,7 @@ use Rattle.std.specs.Prelude.{◌≤ℤ◌, not}
 use Rattle.std.proofs.Common.{◌≡◌, ℕ, ◌+◌, ℤ, pos, neg_ℤ, ◌-ℤ◌, List, [], ◌∷◌, Bool, true, false, Option, Some, None, option_map, ⊎_elim, refl, sym, ap, subst, arith}
 use Rattle.std.proofs.lemmas.Int.{int_max_is, ints}
 use Rattle.ics_values.specs.RuleParts.{RuleParts}
-use Rattle.ics_values.specs.Locals.{number, local_seconds}
+use Rattle.ics_values.specs.Locals.{number, local_seconds, whole_days}
 use Rattle.ics_calendar.specs.Event.{IsEvent}
 use Rattle.ics_calendar.specs.declared.event.Event.{Event}
 use Rattle.ics_calendar.specs.declared.time.Rdate.{Rdate}
@@ -33,6 +33,7 @@ use Rattle.ics_series.proofs.RuleStartLemmas.{rises-found}
 use Rattle.ics_series.proofs.SeriesLemmas.{known-start, series-listing}
 use Rattle.ics_series.proofs.SinceLemmas.{known-apart, known-ruled, starts-since, with-ruled}
 use Rattle.ics_series.proofs.UnionLemmas.{itself-put, union-in}
+use Rattle.ics_series.specs.WindowBounds.{occurrence_first}
 
 -- of each two the source of the first is not after that of the second
 abbrev SourcesClimb : List Start → Type 0
@@ -89,7 +90,7 @@ module _ (zones : FileZones) (w : Window) (event : Event) (sound : IsEvent event
     has = ap (option_map (recurrence_by event.start.stamp)) e;
     from = local_of event.start.stamp;
     day = calendar-day (local_of event.start.stamp).day (own-day event.start sound.start);
-    low = omega (arith, ints, int_max_is (local_seconds (local_of event.start.stamp)) (first_asked (clocks_in zones) w event since (listed_from (clocks_in zones) w event.start 0 event.rdates) -ℤ pos 518_400));
+    low = omega (arith, ints, int_max_is (local_seconds (local_of event.start.stamp)) (first_asked (clocks_in zones) w event since (listed_from (clocks_in zones) w event.start 0 event.rdates) -ℤ whole_days 6));
     gives = refl;
   }
 
@@ -121,9 +122,9 @@ module _ (zones : FileZones) (w : Window) (event : Event) (sound : IsEvent event
 -- any event
 pub whole-listing : (zones : FileZones) (w : Window) (event : Event) → IsEvent event → (list : List Entry) × IsListing entry_cmp (IsEventMet (clocks_in zones) event w) list
 whole-listing zones w event sound =
-    let since = neg_ℤ (pos 62_135_769_600) in
+    let since = occurrence_first in
     let found = whole-starts zones w event sound since event.rule refl in
-    let listing : IsListing entry_cmp (IsSeriesMet (clocks_in zones) event w (neg_ℤ (pos 62_135_769_600)) []) (given_of (clocks_in zones) w event (neg_ℤ (pos 62_135_769_600)) [] found.0) =
+    let listing : IsListing entry_cmp (IsSeriesMet (clocks_in zones) event w occurrence_first []) (given_of (clocks_in zones) w event occurrence_first [] found.0) =
     series-listing (clocks_in zones) w event since [] found.0 found.1 in (
       given_of (clocks_in zones) w event since [] found.0,
       record {
@@ -135,7 +136,7 @@ whole-listing zones w event sound =
       },
     )
   where
-    not-early : (e : Entry) → IsEventMet (clocks_in zones) event w e → neg_ℤ (pos 62_135_769_600) ≤ℤ e.start
+    not-early : (e : Entry) → IsEventMet (clocks_in zones) event w e → occurrence_first ≤ℤ e.start
     not-early e o =
         let of = o.0.lasts in
         let value = gives-value (clocks_in zones) event of.source of.given sound.start sound.rdates of.gives in

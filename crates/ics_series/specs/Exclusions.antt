@@ -1,6 +1,5 @@
 -- Which starts the EXDATEs of an event remove (RFC 5545, section 3.8.5.1).
 use Rattle.std.specs.Prelude.{◌≡◌, ◌<ℤ◌, ℤ, pos, Bool, true, false, ◌||◌, List, [], ◌∷◌, ◌++◌}
-use Rattle.std.specs.Int.{int_div_euclid}
 use Rattle.std.specs.List.{list_any}
 use Rattle.std.specs.Ordering.{int_eq}
 use Rattle.ics_values.specs.declared.stamp.Stamp.{Stamp}
@@ -10,10 +9,11 @@ use Rattle.ics_calendar.specs.declared.time.Time.{Time}
 use Rattle.ics_series.specs.declared.window.Window.{Window}
 use Rattle.ics_series.specs.Clocks.{Clock, Clocks, clock_of, instant, local_at}
 use Rattle.ics_series.specs.Starts.{date_only}
+use Rattle.ics_values.specs.Locals.{day_of_local}
 
 -- the day that a clock shows at an instant
 abbrev pub shown_day : Clock → ℤ → ℤ
-shown_day clock t = int_div_euclid (local_at clock t) (pos 86_400)
+shown_day clock t = day_of_local (local_at clock t)
 
 -- If the event has date-times, an EXDATE removes the start at its instant. One that is a date removes each start at which DTSTART's clock shows it.
 abbrev pub excludes_time : Clocks → Time → Time → Stamp → ℤ → Bool

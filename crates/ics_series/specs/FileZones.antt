@@ -10,13 +10,14 @@ use Rattle.ics_zone.specs.declared.zone.ZoneKind.{ZoneKind}
 use Rattle.ics_series.specs.declared.window.Window.{Window}
 use Rattle.ics_series.specs.declared.zones.FileZones.{FileZones}
 use Rattle.ics_series.specs.Clocks.{Clocks, clocks_of, display_clock, instant}
+use Rattle.ics_values.specs.Locals.{whole_days}
 
 abbrev pub clocks_in : FileZones → Clocks
 clocks_in zones = clocks_of (display_clock zones.display.now) (map zone_said zones.zones.now)
 
 -- the local of a time is two days or more past the window's end; the time is then after that in every zone
 abbrev pub is_past : Window → Time → Bool
-is_past w time = int_le (w.to +ℤ pos 172_800) (stamp_seconds time.stamp)
+is_past w time = int_le (w.to +ℤ whole_days 2) (stamp_seconds time.stamp)
 
 -- the zone of a time is one of these, and that of an end
 abbrev pub HasZoneIn : List ZoneKind → Time → Type 0
@@ -36,7 +37,7 @@ IsEndOf zones _ = Unit {0}
 
 -- the instant of a DTEND is not after that of DTSTART by much more than the longest event
 abbrev pub EndsNear : Clocks → Time → Length → Type 0
-EndsNear clocks first (Until end) = instant clocks end ≤ℤ (instant clocks first +ℤ pos 3_156_105_600)
+EndsNear clocks first (Until end) = instant clocks end ≤ℤ (instant clocks first +ℤ whole_days 36_529)
 EndsNear clocks first _ = Unit {0}
 
 -- an event of a file with these zones

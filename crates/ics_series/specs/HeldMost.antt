@@ -1,13 +1,12 @@
 -- How many occurrences a listing holds at most. The bound counts the starts that an event can have in five UTC days in a row.
 use Rattle.std.specs.Prelude.{◌≡◌, true, ℕ, zero, suc, ◌+◌, max, ℤ, pos, ◌+ℤ◌, ◌-ℤ◌, Bool, ◌&&◌, int_le, int_lt, if◌then◌else◌, List, sum_by, count_by, Option, None, Some}
 use Rattle.ics_rule.specs.Kept.{count, is_kept}
-use Rattle.ics_rule.specs.PeriodNumbers.{calendar_end}
 use Rattle.ics_rule.specs.Recurrence.{Recurrence}
 use Rattle.ics_calendar.specs.declared.event.Event.{Event}
 use Rattle.ics_calendar.specs.declared.time.Rdate.{Rdate}
 use Rattle.ics_series.specs.declared.start.StartSource.{StartSource}
 use Rattle.ics_series.specs.Clocks.{Clocks, instant}
-use Rattle.ics_values.specs.Locals.{midnight}
+use Rattle.ics_values.specs.Locals.{midnight, calendar_end}
 use Rattle.ics_series.specs.RuleStarts.{lets_until, moment_numbered}
 use Rattle.ics_series.specs.Starts.{given_by, recurrence_of, time_of, GivesStart}
 

@@ -48,4 +48,5 @@ pub mod Tournament
 pub mod Uids
 pub mod Versions
 pub mod FileZones
+pub mod WindowBounds
 pub mod WindowLaws

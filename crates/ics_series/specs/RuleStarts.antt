@@ -1,7 +1,7 @@
 -- The starts that the rule of an event gives before the end of a window, as one rising list.
 use Rattle.std.specs.Prelude.{◌≡◌, ◌≤ℤ◌, ◌<ℤ◌, ℕ, zero, suc, ◌+◌, ◌-◌, ◌/◌, ◌≤◌, ℤ, pos, ◌-ℤ◌, ◌+ℤ◌, Bool, true, false, ◌&&◌, ◌||◌, ◌==◌, not, int_le, int_lt, List, [], ◌∷◌}
 use Rattle.ics_values.specs.Days.{day_index}
-use Rattle.ics_values.specs.Locals.{local_at, number, midnight}
+use Rattle.ics_values.specs.Locals.{local_at, number, midnight, whole_days}
 use Rattle.ics_values.specs.declared.local.Local.{Local}
 use Rattle.ics_rule.specs.Cursors.{looks_from, HasLooked}
 use Rattle.ics_rule.specs.Kept.{is_kept, until_moment}
@@ -74,8 +74,8 @@ midnight_number day = number (local_at day 0)
 pub record IsHeld (clocks : Clocks) (event : Event) (rule : Recurrence) (w : Window) (day : ℤ) (s : Start) : Type 0 where
   pub by : s ≡ start_at clocks event (local_numbered (number_in s.source))
   pub given : gives clocks event rule w (number_in s.source) ≡ true
-  pub late : (midnight day -ℤ pos 259_200) ≤ℤ s.moment
-  pub early : s.moment <ℤ (midnight day +ℤ pos 172_800)
+  pub late : (midnight day -ℤ whole_days 3) ≤ℤ s.moment
+  pub early : s.moment <ℤ (midnight day +ℤ whole_days 2)
 
 abbrev pub AreHeld : Clocks → Event → Recurrence → Window → ℤ → List Start → Type 0
 AreHeld clocks event rule w day starts = (s : Start) → IsIn s starts → IsHeld clocks event rule w day s
@@ -83,7 +83,7 @@ AreHeld clocks event rule w day starts = (s : Start) → IsIn s starts → IsHel
 -- the first start is two days or more before a day's midnight, and so before all starts that later locals give
 abbrev pub is_ready : ℤ → List Start → Bool
 is_ready day [] = false
-is_ready day (s ∷ starts) = int_le s.moment (midnight day -ℤ pos 172_800)
+is_ready day (s ∷ starts) = int_le s.moment (midnight day -ℤ whole_days 2)
 
 -- another day has to be read before the first start still to come is known
 abbrev pub is_behind : ℤ → ℤ → List Start → Bool

@@ -7,7 +7,7 @@ use Rattle.std.specs.Ordering.{int_eq}
 use Rattle.ics_values.specs.Days.{IsDayNumber}
 use Rattle.ics_values.specs.RuleParts.{RuleParts}
 use Rattle.ics_values.specs.declared.local.Local.{Local}
-use Rattle.ics_values.specs.Locals.{number, midnight, local_seconds}
+use Rattle.ics_values.specs.Locals.{number, midnight, local_seconds, whole_days}
 use Rattle.ics_rule.specs.Recurrence.{Recurrence}
 use Rattle.ics_calendar.specs.declared.event.Event.{Event}
 use Rattle.ics_calendar.specs.declared.time.Rdate.{Rdate}
@@ -66,7 +66,7 @@ listed_apart clocks w event (Some parts) = listed_from clocks w event.start 0 ev
 
 -- The instant from which on starts are needed. None is at the window's end or later, so that two weeks past it will do for all later instants.
 abbrev pub first_asked : Clocks → Window → Event → ℤ → List Start → ℤ
-first_asked clocks w event since starts = int_max (earliest clocks w event starts) (int_min since (w.to +ℤ pos 1_209_600))
+first_asked clocks w event since starts = int_max (earliest clocks w event starts) (int_min since (w.to +ℤ whole_days 14))
 
 -- the starts that the event's rule gives by the locals from one on, which is not past DTSTART, or is six days or more before the first
 -- instant that is needed
@@ -75,7 +75,7 @@ pub record IsRuleFrom (clocks : Clocks) (event : Event) (w : Window) (since : �
   pub has : recurrence_of event ≡ Some rule
   pub from : Local
   pub day : IsDayNumber from.day
-  pub low : local_seconds from ≤ℤ int_max (local_seconds (local_of event.start.stamp)) (first_asked clocks w event since listed -ℤ pos 518_400)
+  pub low : local_seconds from ≤ℤ int_max (local_seconds (local_of event.start.stamp)) (first_asked clocks w event since listed -ℤ whole_days 6)
   pub gives : starts ≡ found clocks event rule w (number from)
 
 -- These starts are those of this event's rule in this window. They are read from a local on that is not before DTSTART, and no more than
@@ -85,7 +85,7 @@ pub record IsOwnRule (zones : FileZones) (event : Event) (w : Window) (first : �
   pub event_is : s.event.now ≡ event
   pub window_is : s.window ≡ w
   pub day : IsDayNumber s.from.day
-  pub late : int_max (local_seconds (local_of event.start.stamp)) (first -ℤ pos 604_800) ≤ℤ local_seconds s.from
+  pub late : int_max (local_seconds (local_of event.start.stamp)) (first -ℤ whole_days 7) ≤ℤ local_seconds s.from
 
 abbrev pub HasOwnRule : FileZones → Event → Window → ℤ → Option RuleStarts → Type 0
 HasOwnRule zones event w first None = Unit {0}
@@ -129,7 +129,7 @@ rule_asked (Some s) = Some s.asked
 -- That midnight is no more than three days past this instant, if it is that of such a local.
 abbrev pub IsAskedNear : Clocks → Event → Option ℤ → ℤ → Type 0
 IsAskedNear clocks event None t = Unit {0}
-IsAskedNear clocks event (Some day) t = (local : Local) → IsKeptAt clocks event local t → (midnight day -ℤ pos 259_200) ≤ℤ t
+IsAskedNear clocks event (Some day) t = (local : Local) → IsKeptAt clocks event local t → (midnight day -ℤ whole_days 3) ≤ℤ t
 
 -- if an occurrence still to come begins at the instant of such a local, these starts have one there
 abbrev pub HaveRuled : Clocks → Event → List Start → List Entry → Type 0

@@ -1,14 +1,11 @@
 -- The days under which an occurrence is shown (the program's own form).
 use Rattle.std.specs.Prelude.{ℤ, pos, ◌-ℤ◌, ◌&&◌, Bool, int_le, if◌then◌else◌}
-use Rattle.std.specs.Int.{int_div_euclid, int_max, int_min}
+use Rattle.std.specs.Int.{int_max, int_min}
 use Rattle.std.specs.Ordering.{int_eq}
+use Rattle.ics_values.specs.Locals.{day_of_local}
 use Rattle.ics_series.specs.declared.window.Window.{Window}
 use Rattle.ics_series.specs.Clocks.{Clock, local_at}
 use Rattle.ics_series.specs.Entry.{Entry}
-
--- the day of a local, counted from 1970-01-01
-abbrev pub day_of_local : ℤ → ℤ
-day_of_local local = int_div_euclid local (pos 86_400)
 
 -- the date that a clock shows
 abbrev pub date_at : Clock → ℤ → ℤ

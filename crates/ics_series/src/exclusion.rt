@@ -1,22 +1,21 @@
 //! The starts that the EXDATEs of an event remove.
-ghost use Rattle.std.specs.Prelude.{◌≡◌, ◌<ℤ◌, ◌≤ℤ◌, ◌+ℤ◌, ◌||◌, ℤ, neg_ℤ, not, pos, IfOk};
-ghost use Rattle.std.specs.Int.{int_div_euclid};
+ghost use Rattle.std.specs.Prelude.{◌≡◌, ◌<ℤ◌, ◌≤ℤ◌, ◌+ℤ◌, ◌||◌, ℤ, not, IfOk};
 ghost use Rattle.std.specs.List.Sorted.{IsSorted};
 ghost use Rattle.std.specs.Ordering.{int_cmp};
 ghost use Rattle.ics_series.specs.Clocks.{clock_of, instant};
 ghost use Rattle.ics_series.specs.Exclusions.{excludes, is_day_in, shown_day, takes_out, with_instant};
 ghost use Rattle.ics_series.specs.FileZones.{clocks_in, is_past, IsTimeOf};
+ghost use Rattle.ics_values.specs.Locals.{day_of_local};
+ghost use Rattle.ics_series.specs.WindowBounds.{window_last, occurrence_first};
 
 use crate::instant::{instant, is_past};
 use crate::start::date_of;
 use crate::window::Window;
 use crate::zones::FileZones;
 use ics_calendar::{Event, Time};
-use ics_values::{Moment, Stamp};
+use ics_values::{Local, Moment, Stamp};
 use ics_zone::Place;
 use std::alloc::{AllocError, Global};
-
-const DAY: i64 = 86_400;
 
 /// The instants that the EXDATEs of an event remove and, if the event has date-times, the days that
 /// they remove by the clock of DTSTART. Both are in order.
@@ -63,8 +62,8 @@ impl Exclusions {
     // Whether a start at an instant is removed.
     pub(crate) fn has(&self, zones: FileZones<'_>, first: Time, moment: Moment) -> bool
         requires first { IsTimeOf zones.zones.now first }
-        requires late { neg_ℤ (pos 62_135_769_600) ≤ℤ moment }
-        requires early { moment <ℤ pos 247_091_126_400 }
+        requires late { occurrence_first ≤ℤ moment }
+        requires early { moment <ℤ window_last }
         ensures { result ≡ takes_out (clock_of (clocks_in zones.entry) first)
             self.now.instants.items self.now.days.items moment }
     {
@@ -74,8 +73,8 @@ impl Exclusions {
     // Whether the day that a time's clock shows at an instant is removed.
     fn has_day(&self, zones: FileZones<'_>, first: Time, moment: Moment) -> bool
         requires first { IsTimeOf zones.zones.now first }
-        requires late { neg_ℤ (pos 62_135_769_600) ≤ℤ moment }
-        requires early { moment <ℤ pos 247_091_126_400 }
+        requires late { occurrence_first ≤ℤ moment }
+        requires early { moment <ℤ window_last }
         ensures { result ≡ is_day_in (clock_of (clocks_in zones.entry) first) self.now.days.items moment }
     {
         if self.days.is_empty() {
@@ -129,12 +128,12 @@ fn push_instant(
 // The day that a time's clock shows at an instant.
 fn shown_day(zones: FileZones<'_>, time: Time, moment: Moment) -> i32
     requires time { IsTimeOf zones.zones.now time }
-    requires late { neg_ℤ (pos 62_135_769_600) ≤ℤ moment }
-    requires early { moment <ℤ pos 247_091_126_400 }
+    requires late { occurrence_first ≤ℤ moment }
+    requires early { moment <ℤ window_last }
     ensures { result ≡ shown_day (clock_of (clocks_in zones.entry) time) moment }
 {
     match time.stamp {
-        Stamp::Utc(_) => moment.div_euclid(DAY) as i32,
+        Stamp::Utc(_) => Local::of_seconds(moment).day,
         Stamp::Date(_) | Stamp::Floating(_) => day_at(zones.display, moment),
         Stamp::Zoned(_) => day_at(zones.zone_of(time), moment),
     }
@@ -142,9 +141,9 @@ fn shown_day(zones: FileZones<'_>, time: Time, moment: Moment) -> i32
 
 // The day that the clock of a place shows at an instant.
 fn day_at<P: Place>(place: &P, moment: Moment) -> i32
-    requires late { neg_ℤ (pos 62_135_769_600) ≤ℤ moment }
-    requires early { moment <ℤ pos 247_091_126_400 }
-    ensures { result ≡ int_div_euclid (moment +ℤ P.offset_at place.now moment) (pos 86_400) }
+    requires late { occurrence_first ≤ℤ moment }
+    requires early { moment <ℤ window_last }
+    ensures { result ≡ day_of_local (moment +ℤ P.offset_at place.now moment) }
 {
     place.local(moment).day
 }

@@ -1,11 +1,12 @@
 //! The end of an occurrence.
-ghost use Rattle.std.specs.Prelude.{◌≡◌, ◌+◌, ◌*◌, ◌<◌, ◌≤◌, ◌<ℤ◌, ◌≤ℤ◌, ◌+ℤ◌, ◌*ℤ◌, pos, neg_ℤ};
+ghost use Rattle.std.specs.Prelude.{◌≡◌, ◌+◌, ◌*◌, ◌<◌, ◌≤◌, ◌<ℤ◌, ◌≤ℤ◌, ◌+ℤ◌, ◌*ℤ◌, pos, ◌-ℤ◌, neg_ℤ};
 ghost use Rattle.ics_calendar.specs.Event.{IsLasting, IsLength, IsSpan};
 ghost use Rattle.ics_series.specs.Clocks.{clock_of, display_clock, instant, local_at};
-ghost use Rattle.ics_values.specs.Locals.{midnight};
+ghost use Rattle.ics_values.specs.Locals.{midnight, whole_days};
 ghost use Rattle.ics_series.specs.Finish.{end_by, finish, later_by, span_end};
 ghost use Rattle.ics_series.specs.Found.{IsStart};
 ghost use Rattle.ics_series.specs.FileZones.{clocks_in, EndsNear, HasEndIn, IsEndOf, IsOwnEvent, IsTimeOf};
+ghost use Rattle.ics_series.specs.WindowBounds.{window_last, occurrence_first};
 
 use crate::instant::instant;
 use crate::lasting::{day_of, days_lasting};
@@ -22,10 +23,10 @@ const DAY: i64 = 86_400;
 pub(crate) fn finish(zones: FileZones<'_>, event: &Event, start: Start) -> Moment
     requires event { IsOwnEvent zones event.now }
     requires start { IsStart (clocks_in zones) event.now start }
-    requires early { start.moment <ℤ pos 247_091_126_400 }
+    requires early { start.moment <ℤ window_last }
     ensures value { result ≡ finish (clocks_in zones.entry) event.now start.given }
     ensures forward { start.moment ≤ℤ result }
-    ensures early { result <ℤ pos 250_247_232_000 }
+    ensures early { result <ℤ (window_last +ℤ whole_days 36_529) }
 {
     let end = match start.given {
         Rdate::At(given) => end_by(zones, event.start, event.length, given, start.moment),
@@ -42,9 +43,9 @@ fn end_by(zones: FileZones<'_>, first: Time, length: Length, given: Time, start:
     requires near { EndsNear (clocks_in zones) first length }
     requires given { IsTimeOf zones.zones.now given }
     requires start { start ≡ instant (clocks_in zones) given }
-    requires early { start <ℤ pos 247_091_126_400 }
+    requires early { start <ℤ window_last }
     ensures value { result ≡ end_by (clocks_in zones.entry) first given first.stamp length }
-    ensures early { result <ℤ pos 250_247_232_000 }
+    ensures early { result <ℤ (window_last +ℤ whole_days 36_529) }
 {
     match (first.stamp, length) {
         (Stamp::Date(day), length) => {
@@ -63,9 +64,9 @@ fn span_end(zones: FileZones<'_>, given: Time, length: Length, start: Moment) ->
     requires span { IsSpan length }
     requires end { HasEndIn zones.zones.now length }
     requires start { start ≡ instant (clocks_in zones) given }
-    requires early { start <ℤ pos 247_091_126_400 }
+    requires early { start <ℤ window_last }
     ensures value { result ≡ span_end (clocks_in zones.entry) given length }
-    ensures early { result <ℤ pos 250_247_232_000 }
+    ensures early { result <ℤ (window_last +ℤ whole_days 36_529) }
 {
     match length {
         Length::Open => start,
@@ -81,7 +82,7 @@ fn midnight_after(display: &Display, day: i32, days: i32) -> Moment
     requires least { pos 1 ≤ℤ days }
     requires most { days ≤ℤ pos 36_525 }
     ensures value { result ≡ (display_clock display.now).moment (midnight (day +ℤ days)) }
-    ensures early { result <ℤ pos 250_247_232_000 }
+    ensures early { result <ℤ (window_last +ℤ whole_days 36_529) }
 {
     display.moment(Local {
         day: day + days,
@@ -92,11 +93,11 @@ fn midnight_after(display: &Display, day: i32, days: i32) -> Moment
 // The instant that is a duration later. Its days are counted by the clock of a time's zone.
 fn later_by(zones: FileZones<'_>, time: Time, duration: Duration, start: Moment) -> Moment
     requires time { IsTimeOf zones.zones.now time }
-    requires late { neg_ℤ (pos 62_135_769_600) ≤ℤ start }
-    requires early { start <ℤ pos 247_091_126_400 }
+    requires late { occurrence_first ≤ℤ start }
+    requires early { start <ℤ window_last }
     requires short { IsLasting duration }
     ensures value { result ≡ later_by (clock_of (clocks_in zones.entry) time) duration start }
-    ensures early { result <ℤ pos 250_247_232_000 }
+    ensures early { result <ℤ (window_last +ℤ whole_days 36_529) }
 {
     days_after(zones, time, start, duration.days as i64) + duration.seconds as i64
 }
@@ -104,14 +105,14 @@ fn later_by(zones: FileZones<'_>, time: Time, duration: Duration, start: Moment)
 // The instant that is `days` days later by the clock of a time's zone.
 fn days_after(zones: FileZones<'_>, time: Time, start: Moment, days: i64) -> Moment
     requires time { IsTimeOf zones.zones.now time }
-    requires late { neg_ℤ (pos 62_135_769_600) ≤ℤ start }
-    requires early { start <ℤ pos 247_091_126_400 }
+    requires late { occurrence_first ≤ℤ start }
+    requires early { start <ℤ window_last }
     requires forward { pos 0 ≤ℤ days }
     requires short { days ≤ℤ pos 36_525 }
     ensures value { result ≡ (clock_of (clocks_in zones.entry) time).moment
         (local_at (clock_of (clocks_in zones.entry) time) start +ℤ days *ℤ pos 86_400) }
-    ensures late { neg_ℤ (pos 62_136_115_200) ≤ℤ result }
-    ensures early { result <ℤ ((start +ℤ days *ℤ pos 86_400) +ℤ pos 345_600) }
+    ensures late { (occurrence_first -ℤ whole_days 4) ≤ℤ result }
+    ensures early { result <ℤ ((start +ℤ days *ℤ pos 86_400) +ℤ whole_days 4) }
 {
     match time.stamp {
         Stamp::Utc(_) => start + days * DAY,
@@ -122,14 +123,14 @@ fn days_after(zones: FileZones<'_>, time: Time, start: Moment, days: i64) -> Mom
 
 // The instant that is `days` days later by the clock of a place.
 fn days_after_at<P: Place>(place: &P, start: Moment, days: i64) -> Moment
-    requires late { neg_ℤ (pos 62_135_769_600) ≤ℤ start }
-    requires early { start <ℤ pos 247_091_126_400 }
+    requires late { occurrence_first ≤ℤ start }
+    requires early { start <ℤ window_last }
     requires forward { pos 0 ≤ℤ days }
     requires short { days ≤ℤ pos 36_525 }
     ensures value { result ≡ P.moment_at place.now
         ((start +ℤ P.offset_at place.now start) +ℤ days *ℤ pos 86_400) }
-    ensures late { neg_ℤ (pos 62_136_115_200) ≤ℤ result }
-    ensures early { result <ℤ ((start +ℤ days *ℤ pos 86_400) +ℤ pos 345_600) }
+    ensures late { (occurrence_first -ℤ whole_days 4) ≤ℤ result }
+    ensures early { result <ℤ ((start +ℤ days *ℤ pos 86_400) +ℤ whole_days 4) }
 {
     let local = place.local(start);
     place.moment(Local {

@@ -2,7 +2,6 @@
 ghost use Rattle.std.specs.Prelude.{◌≡◌};
 ghost use Rattle.ics_series.specs.Clocks.{instant};
 ghost use Rattle.ics_calendar.specs.Event.{stamp_seconds};
-ghost use Rattle.ics_values.specs.Locals.{local_seconds};
 ghost use Rattle.ics_series.specs.FileZones.{clocks_in, is_past, IsTimeOf};
 
 use crate::start::local_of;
@@ -21,7 +20,7 @@ pub(crate) fn instant(zones: FileZones<'_>, time: Time) -> Moment
     match time.stamp {
         Stamp::Date(day) => zones.display.moment(Local { day, second: 0 }),
         Stamp::Floating(local) => zones.display.moment(local),
-        Stamp::Utc(local) => seconds_of(local),
+        Stamp::Utc(local) => local.seconds(),
         Stamp::Zoned(local) => zones.zone_of(time).moment(local),
     }
 }
@@ -38,12 +37,5 @@ pub(crate) fn is_past(time: Time, window: &Window) -> bool
 pub(crate) fn written(stamp: Stamp) -> i64
     ensures { result ≡ stamp_seconds stamp }
 {
-    seconds_of(local_of(stamp))
-}
-
-// The seconds from 1970-01-01T00:00:00 to a local, each day having 86,400.
-fn seconds_of(local: Local) -> i64
-    ensures { result ≡ local_seconds local }
-{
-    i64::from(local.day) * 86_400 + i64::from(local.second)
+    local_of(stamp).seconds()
 }

@@ -1,20 +1,21 @@
 //! The days under which a window's occurrences are shown.
-ghost use Rattle.std.specs.Prelude.{◌≡◌, ◌≤ℤ◌, ◌<ℤ◌, pos, neg_ℤ};
+ghost use Rattle.std.specs.Prelude.{◌≡◌, ◌≤ℤ◌, ◌<ℤ◌, ◌-ℤ◌, pos};
 ghost use Rattle.ics_values.specs.Days.{IsDayNumber};
 ghost use Rattle.ics_series.specs.Clocks.{display_clock};
 ghost use Rattle.ics_series.specs.ShownDays.{date_at};
 ghost use Rattle.ics_series.specs.NearDays.{first_near, last_near, IsNearDay};
+ghost use Rattle.ics_series.specs.WindowBounds.{occurrence_first, occurrence_end};
 
 use crate::window::Window;
-use ics_values::Moment;
+use ics_values::{Local, Moment};
 use ics_zone::{Display, Place};
 
 const DAY: i64 = 86_400;
 
 /// The date that a display zone shows.
 pub(crate) fn date_at(display: &Display, moment: Moment) -> i32
-    requires early { neg_ℤ (pos 62_135_769_601) ≤ℤ moment }
-    requires late { moment <ℤ pos 251_824_464_000 }
+    requires early { (occurrence_first -ℤ pos 1) ≤ℤ moment }
+    requires late { moment <ℤ occurrence_end }
     ensures day { result ≡ date_at (display_clock display.now) moment }
     ensures within { IsDayNumber result }
 {
@@ -26,14 +27,14 @@ pub(crate) fn date_at(display: &Display, moment: Moment) -> i32
 pub(crate) fn first_near(window: &Window) -> i32
     ensures { result ≡ first_near window.now }
 {
-    window.from.div_euclid(DAY) as i32 - 2
+    Local::of_seconds(window.from).day - 2
 }
 
 /// Two days after its last day in UTC, past which none shows a later one.
 pub(crate) fn last_near(window: &Window) -> i32
     ensures { result ≡ last_near window.now }
 {
-    (window.to - 1).div_euclid(DAY) as i32 + 2
+    Local::of_seconds(window.to - 1).day + 2
 }
 
 /// What a window holds of a day in UTC, of the two days before it and of the two after it, whether or

@@ -1,6 +1,7 @@
 //! One occurrence of an event.
 ghost use Rattle.std.specs.Prelude.{◌≡◌, ◌<ℤ◌, ◌≤ℤ◌, ◌+ℤ◌, pos, neg_ℤ};
 ghost use Rattle.ics_calendar.specs.Event.{IsEvent};
+ghost use Rattle.ics_series.specs.WindowBounds.{occurrence_first, occurrence_end};
 
 use crate::finish::finish;
 use crate::start::Start;
@@ -20,9 +21,9 @@ pub struct Occurrence<'a> {
     /// The instant that identifies it among the occurrences of its UID.
     pub recurrence: Moment,
     pub event: &'a Event,
-    pub ghost not_early: { neg_ℤ (pos 62_135_769_600) ≤ℤ start },
+    pub ghost not_early: { occurrence_first ≤ℤ start },
     pub ghost forward: { start ≤ℤ finish },
-    pub ghost not_late: { finish <ℤ pos 251_824_464_000 },
+    pub ghost not_late: { finish <ℤ occurrence_end },
 }
 
 impl<'a> Occurrence<'a> {

@@ -4,7 +4,7 @@ ghost use Rattle.std.specs.VecDeque.{deque_len, deque_capacity};
 ghost use Rattle.ics_values.specs.Days.{IsDayNumber};
 ghost use Rattle.ics_rule.specs.Cursors.{place_of, IsCursorOf};
 ghost use Rattle.ics_rule.specs.Kept.{is_kept};
-ghost use Rattle.ics_values.specs.Locals.{number, midnight};
+ghost use Rattle.ics_values.specs.Locals.{number, midnight, whole_days};
 ghost use Rattle.ics_series.specs.Clocks.{instant};
 ghost use Rattle.ics_series.specs.EventLaws.{time-prop};
 ghost use Rattle.ics_series.specs.Found.{moment_cmp, start_at};
@@ -13,10 +13,11 @@ ghost use Rattle.ics_series.specs.RuleStarts.{gives, is_behind, is_ready, lets_u
 ghost use Rattle.ics_series.specs.RuleStartLaws.{cursor-prop, held-prop, looked-prop, rule-prop, starts-prop};
 ghost use Rattle.ics_series.specs.Starts.{local_of, recurrence_of, time_at};
 ghost use Rattle.ics_series.specs.FileZones.{clocks_in, IsTimeOf};
+ghost use Rattle.ics_rule.specs.PeriodNumbers.{rules_end};
 
 use crate::queue::put_in;
 use crate::start::{Start, local_of};
-use crate::starts::{end_nearby, is_until, of_calendar, start_at};
+use crate::starts::{end_nearby, is_until, start_at};
 use crate::window::Window;
 use crate::zones::FileZones;
 use ics_calendar::Event;
@@ -54,9 +55,9 @@ pub(crate) struct RuleStarts<'a> {
     ghost asked_on: { day ≤ℤ asked },
     ghost asked_soon: { asked ≤ℤ (day +ℤ pos 1) },
     ghost asked_end: { asked ≤ℤ end },
-    ghost early: { midnight_number end ≤ 309_289_708_800 },
-    ghost after: { (window.to +ℤ pos 172_800) ≤ℤ midnight end },
-    ghost soon: { midnight end <ℤ (window.to +ℤ pos 259_200) },
+    ghost early: { midnight_number end ≤ rules_end },
+    ghost after: { (window.to +ℤ whole_days 2) ≤ℤ midnight end },
+    ghost soon: { midnight end <ℤ (window.to +ℤ whole_days 3) },
 }
 
 // Whether the instant of a local is before the window's end and, unless the local is the first, not after UNTIL.
@@ -108,7 +109,7 @@ fn is_ready(day: i32, held: &VecDeque<Start>) -> bool
 {
     match held.front() {
         None => false,
-        Some(first) => first.moment <= i64::from(day) * 86_400 - 2 * 86_400,
+        Some(first) => first.moment <= Local::at(day, 0).seconds() - 2 * 86_400,
     }
 }
 
@@ -193,7 +194,6 @@ impl<'a> RuleStarts<'a> {
                 self.asked = bound;
             }
             Some(local) => {
-                let local = of_calendar(local);
                 self.day = local.day;
                 self.asked = local.day + 1;
                 hold(
@@ -254,8 +254,8 @@ impl<'a> RuleStarts<'a> {
     pub(crate) fn steps(&self) -> u64
         ensures count { result ≡ steps_of self.now.cursor }
         ensures most { result ≤ period_count self.now.rule (looks_from self.now.rule.parts.count (number self.now.rule.start) (number self.now.from)) (midnight_number self.now.asked) }
-        ensures near { (s : Start) → IsIn s (starts_left self.now) → (midnight self.now.asked -ℤ pos 259_200) ≤ℤ s.moment }
-        ensures end { midnight self.now.asked <ℤ (self.now.window.to +ℤ pos 259_200) }
+        ensures near { (s : Start) → IsIn s (starts_left self.now) → (midnight self.now.asked -ℤ whole_days 3) ≤ℤ s.moment }
+        ensures end { midnight self.now.asked <ℤ (self.now.window.to +ℤ whole_days 3) }
     {
         self.cursor.steps()
     }

@@ -3,6 +3,7 @@ ghost use Rattle.std.specs.Prelude.{◌≡◌, ◌<ℤ◌, pos};
 ghost use Rattle.ics_series.specs.Clocks.{instant};
 ghost use Rattle.ics_series.specs.EventLaws.{own-event-prop};
 ghost use Rattle.ics_series.specs.FileZones.{clocks_in, IsOwnEvent};
+ghost use Rattle.ics_series.specs.WindowBounds.{window_last};
 
 use crate::finish::finish;
 use crate::instant::instant;
@@ -24,7 +25,7 @@ pub(crate) struct Single<'a> {
     event: &'a Event,
     ghost own: { IsOwnEvent zones event.now } by { own-event-prop zones event.now },
     ghost first: { start ≡ instant (clocks_in zones) event.now.start },
-    ghost early: { start <ℤ pos 247_091_126_400 },
+    ghost early: { start <ℤ window_last },
 }
 
 impl<'a> Single<'a> {

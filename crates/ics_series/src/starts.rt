@@ -2,11 +2,13 @@
 ghost use Rattle.std.specs.Prelude.{◌≡◌, ◌≤◌, ◌<ℤ◌, ◌≤ℤ◌, ◌+ℤ◌, ◌-ℤ◌, pos, neg_ℤ, None, All, IfOk};
 ghost use Rattle.std.specs.Int.{int_max};
 ghost use Rattle.ics_values.specs.Days.{IsDayNumber};
-ghost use Rattle.ics_values.specs.Locals.{number, midnight, local_seconds};
+ghost use Rattle.ics_values.specs.Locals.{number, midnight, local_seconds, whole_days};
 ghost use Rattle.ics_series.specs.Found.{earliest, firsts_after, is_at, is_span_met, start_at, IsStart};
 ghost use Rattle.ics_zone.specs.Observances.{is_until};
 ghost use Rattle.ics_series.specs.Starts.{time_at};
 ghost use Rattle.ics_series.specs.FileZones.{clocks_in, IsOwnEvent, IsTimeOf};
+ghost use Rattle.ics_rule.specs.PeriodNumbers.{rules_end};
+ghost use Rattle.ics_series.specs.WindowBounds.{window_last};
 
 use crate::instant::instant;
 use crate::lasting::seconds_lasting;
@@ -17,8 +19,6 @@ use crate::zones::FileZones;
 use ics_calendar::{Event, Rdate};
 use ics_values::{Local, Moment};
 use std::alloc::{AllocError, Global};
-
-const DAY: i64 = 86_400;
 
 // The start at the local of DTSTART, or at one that the rule keeps.
 pub(crate) fn start_at(zones: FileZones<'_>, event: &Event, local: Local) -> Start
@@ -85,16 +85,16 @@ pub(crate) fn is_until(until: Option<Moment>, moment: Moment) -> bool
 pub(crate) fn first_nearby(first: Local, earliest: Moment) -> Local
     requires first { IsDayNumber first.day }
     requires late { neg_ℤ (pos 500_000_000_000) ≤ℤ earliest }
-    requires early { earliest ≤ℤ pos 247_092_336_000 }
+    requires early { earliest ≤ℤ (window_last +ℤ whole_days 14) }
     ensures day { IsDayNumber result.day }
-    ensures late { int_max (local_seconds first) (earliest -ℤ pos 604_800) ≤ℤ local_seconds result }
-    ensures low { local_seconds result ≤ℤ int_max (local_seconds first) (earliest -ℤ pos 518_400) }
+    ensures late { int_max (local_seconds first) (earliest -ℤ whole_days 7) ≤ℤ local_seconds result }
+    ensures low { local_seconds result ≤ℤ int_max (local_seconds first) (earliest -ℤ whole_days 6) }
 {
-    let day = earliest.div_euclid(DAY) - 6;
-    if day <= i64::from(first.day) {
+    let day = Local::of_seconds(earliest).day - 6;
+    if day <= first.day {
         first
     } else {
-        Local::at(day as i32, 0)
+        Local::at(day, 0)
     }
 }
 
@@ -102,23 +102,10 @@ pub(crate) fn first_nearby(first: Local, earliest: Moment) -> Local
 // end.
 pub(crate) fn end_nearby(window: &Window) -> i32
     ensures day { IsDayNumber result }
-    ensures after { (window.now.to +ℤ pos 172_800) ≤ℤ midnight result }
-    ensures soon { midnight result <ℤ (window.now.to +ℤ pos 259_200) }
+    ensures after { (window.now.to +ℤ whole_days 2) ≤ℤ midnight result }
+    ensures soon { midnight result <ℤ (window.now.to +ℤ whole_days 3) }
 {
-    let last = window.to - 1;
-    let day = last.div_euclid(DAY) as i32;
-    day + 3
-}
-
-// The local of the calendar with this number. A cursor identifies its locals by their numbers, which
-// count a day before the calendar as if it were one within.
-pub(crate) fn of_calendar(local: Local) -> Local
-    requires { number local ≤ 309_289_708_800 }
-    ensures day { IsDayNumber result.day }
-    ensures same { number result ≡ number local }
-{
-    let day = (local.day + 719_528).abs() - 719_528;
-    Local::at(day, local.second)
+    Local::of_seconds(window.to - 1).day + 3
 }
 
 // The first of each run of starts at one instant.

@@ -1,5 +1,6 @@
 //! The window of a listing.
 ghost use Rattle.std.specs.Prelude.{◌≡◌, ◌≤ℤ◌, ◌<ℤ◌, pos, neg_ℤ};
+ghost use Rattle.ics_series.specs.WindowBounds.{window_first, window_last};
 
 use crate::occurrence::Occurrence;
 use ics_values::Moment;
@@ -14,8 +15,8 @@ pub struct Window {
     /// Whether what began before `from` is left out.
     pub notstarted: bool,
     pub ghost ordered: { from <ℤ to },
-    pub ghost not_early: { neg_ℤ (pos 62_135_683_200) ≤ℤ from },
-    pub ghost not_late: { to ≤ℤ pos 247_091_126_400 },
+    pub ghost not_early: { window_first ≤ℤ from },
+    pub ghost not_late: { to ≤ℤ window_last },
 }
 
 impl Window {

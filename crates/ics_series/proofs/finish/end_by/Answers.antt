@@ -8,6 +8,7 @@ use Rattle.ics_series.specs.FileZones.{clocks_in, EndsNear, IsEndOf}
 use Rattle.ics_series.proofs.StartSourceLemmas.{day-years}
 use Rattle.ics_series.proofs.InstantLemmas.{early, instant-near, late, until}
 use Rattle.ics_series.proofs.NearLemmas.{day-written}
+use Rattle.ics_series.specs.WindowBounds.{occurrence_first}
 use Rattle.ics_series.proofs.finish.end_by.Goals as goal
 
 pub midnight_after-requires-clause-early : goal.midnight_after-requires-clause-early
@@ -44,7 +45,7 @@ overflow_add-result c =
 
 pub later_by-requires : goal.later_by-requires
 later_by-requires c =
-    let from : neg_ℤ (pos 62_135_769_600) ≤ℤ instant (clocks_in c.args.zones) c.args.given = late c.args.zones c.args.given c.requires.given.is_time in
+    let from : occurrence_first ≤ℤ instant (clocks_in c.args.zones) c.args.given = late c.args.zones c.args.given c.requires.given.is_time in
     record {
       time = c.requires.given;
       late = omega (arith, ints, c.requires.start, from);

@@ -1,16 +1,17 @@
 use Rattle.std.proofs.Common.{rules, ◌≡◌, ◌+ℤ◌, ℕ, ℤ, ◌<◌, pos, arith, w32, w64}
-use Rattle.std.specs.Prelude.{◌≤ℤ◌, ◌<ℤ◌, neg_ℤ, FitsSigned}
+use Rattle.std.specs.Prelude.{◌≤ℤ◌, ◌<ℤ◌, ◌-ℤ◌, FitsSigned}
 use Rattle.std.proofs.lemmas.Int.{ints, to_z-of_z}
 use Rattle.ics_values.specs.Days.{IsDayNumber}
 use Rattle.ics_zone.specs.Near.{offset_near}
 use Rattle.ics_zone.specs.Seconds.{IsNear}
 use Rattle.ics_values.specs.Locals.{seconds_at}
 use Rattle.ics_zone.specs.JiffZones.{zone_of}
+use Rattle.ics_series.specs.WindowBounds.{occurrence_first, occurrence_end}
 use Rattle.ics_series.proofs.near_day.date_at.Goals as goal
 
 -- a local near an instant of those years lies in the years 0000 to 9999
 day_within : (day : ℤ) (second : ℕ) (moment offset : ℤ) → second < 86_400 → seconds_at day second ≡ moment +ℤ offset → IsNear offset
-    → neg_ℤ (pos 62_135_769_601) ≤ℤ moment → moment <ℤ pos 251_824_464_000 → IsDayNumber day
+    → (occurrence_first -ℤ pos 1) ≤ℤ moment → moment <ℤ occurrence_end → IsDayNumber day
 day_within day second moment offset small same near early late = (omega (arith, ints), omega (arith, ints))
 
 pub returns-clause-within : goal.returns-clause-within

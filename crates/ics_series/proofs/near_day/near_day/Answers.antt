@@ -1,6 +1,6 @@
 use Rattle.std.proofs.Common.{pos, ◌-ℤ◌, refl, arith}
 use Rattle.std.proofs.lemmas.Int.{int_max_is, int_min_is, ints}
-use Rattle.ics_series.specs.ShownDays.{day_of_local}
+use Rattle.ics_values.specs.Locals.{day_of_local}
 use Rattle.ics_series.proofs.DayLemmas.{day-under}
 use Rattle.ics_series.proofs.near_day.near_day.Goals as goal
 

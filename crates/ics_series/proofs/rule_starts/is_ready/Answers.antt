@@ -3,7 +3,8 @@ use Rattle.std.proofs.Common.{◌≡◌, ℤ, pos, ◌-ℤ◌, ◌*ℤ◌, ◌<�
 use Rattle.std.proofs.lemmas.Int.{ints}
 use mir.Val.{SFits}
 use Rattle.ics_series.specs.declared.start.Start.{Start}
-use Rattle.ics_values.specs.Locals.{midnight}
+use Rattle.ics_values.specs.declared.local.Local.{Local}
+use Rattle.ics_values.specs.Locals.{local_seconds, midnight}
 use Rattle.ics_series.specs.RuleStarts.{is_ready}
 use Rattle.ics_series.proofs.rule_starts.is_ready.Goals as goal
 
@@ -20,7 +21,8 @@ returns-in-Some c =
     let fits : SFits w64 c.in-Some.first.now.moment = search rules in
     let days : SFits w32 c.args.day = c.ranges.day in
     let left : to_z w64 (of_z w64 c.in-Some.first.now.moment) ≡ c.in-Some.first.now.moment = omega (arith, ints) in
-    let from : c.from.result ≡ c.args.day = omega (arith, ints, c.from.ensures) in
-    let right : to_z w64 (of_z w64 (to_z w64 (of_z w64 (to_z w64 (of_z w64 c.from.result) *ℤ pos 86400)) -ℤ pos 172800)) ≡ midnight c.args.day -ℤ pos 172_800 = omega (arith, ints, from) in
-    ap (λ t. int_le t (to_z w64 (of_z w64 (to_z w64 (of_z w64 (to_z w64 (of_z w64 c.from.result) *ℤ pos 86400)) -ℤ pos 172800)))) left
+    let at = ap (λ (l : Local). local_seconds l) c.at.ensures in
+    let from : c.seconds.result ≡ midnight c.args.day = omega (arith, ints, c.seconds.ensures, at) in
+    let right : to_z w64 (of_z w64 (to_z w64 (of_z w64 c.seconds.result) -ℤ pos 172800)) ≡ midnight c.args.day -ℤ pos 172_800 = omega (arith, ints, from) in
+    ap (λ t. int_le t (to_z w64 (of_z w64 (to_z w64 (of_z w64 c.seconds.result) -ℤ pos 172800)))) left
     ∙ (ap (int_le first.moment) right ∙ first-ready day c.args.held.now.items first some is)

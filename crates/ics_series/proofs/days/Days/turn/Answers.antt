@@ -8,12 +8,12 @@ use Rattle.ics_zone.specs.JiffZones.{zone_of}
 use Rattle.ics_series.specs.Ahead.{agenda_coming}
 use Rattle.ics_series.specs.Clocks.{display_clock}
 use Rattle.ics_series.specs.DayMasters.{agenda_sources, scope_in}
-use Rattle.ics_series.specs.ShownDays.{day_of_local}
 use Rattle.ics_series.specs.Sources.{recurring}
 use Rattle.ics_series.proofs.AheadLemmas.{ahead-turned}
 use Rattle.ics_series.proofs.DayLemmas.{day-under}
 use Rattle.ics_series.proofs.DayStepLemmas.{from-later, looked-next}
 use Rattle.ics_series.proofs.MasterSumLemmas.{searched-masters}
+use Rattle.ics_values.specs.Locals.{day_of_local}
 use Rattle.ics_series.proofs.days.Days.turn.Goals as goal
 
 pub invariant_of-drop : goal.invariant_of-drop

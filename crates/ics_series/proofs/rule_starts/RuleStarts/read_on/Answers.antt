@@ -11,6 +11,7 @@ use Rattle.ics_series.specs.RuleStarts.{bound_of, midnight_number, AreHeld}
 use Rattle.ics_series.specs.FileZones.{clocks_in}
 use Rattle.ics_series.proofs.RuleReadLemmas.{behind-early}
 use Rattle.ics_series.proofs.RuleStepLemmas.{bound-days, bound-early, none-asked, none-held, none-less, none-same, one-asked, one-held, one-less, one-on, one-time, one-rises, one-same, within}
+use Rattle.ics_rule.specs.PeriodNumbers.{rules_end}
 use Rattle.ics_series.proofs.rule_starts.RuleStarts.read_on.Goals as goal
 
 pub bound-bound-requires : goal.bound-bound-requires
@@ -48,7 +49,7 @@ pub next-requires-clause-early : goal.next-requires-clause-early
 next-requires-clause-early c =
     let bound = to_z w32 (of_z w32 c.bound-bound.result) in
     let is : to_z w32 (of_z w32 c.bound-bound.result) ≡ bound_of c.args.self.now.day c.args.self.now.end c.args.self.now.held.items = omega (arith, ints, c.bound-bound.type_inv, c.bound-bound.ensures) in
-    subst (λ (l : Local). number l ≤ 309_289_708_800) (sym c.at.ensures) (bound-early c.args.self.now c.requires bound is)
+    subst (λ (l : Local). number l ≤ rules_end) (sym c.at.ensures) (bound-early c.args.self.now c.requires bound is)
 
 pub invariant_of-self-in-None : goal.invariant_of-self-in-None
 invariant_of-self-in-None c =
@@ -78,25 +79,16 @@ invariant_of-self-in-None c =
       soon = s.soon;
     }
 
-pub of_calendar-local-requires : goal.of_calendar-local-requires
-of_calendar-local-requires c =
-    let bound = to_z w32 (of_z w32 c.bound-bound.result) in
-    let is : to_z w32 (of_z w32 c.bound-bound.result) ≡ bound_of c.args.self.now.day c.args.self.now.end c.args.self.now.held.items = omega (arith, ints, c.bound-bound.type_inv, c.bound-bound.ensures) in
-    let at : number c.at.result ≡ midnight_number (to_z w32 (of_z w32 c.bound-bound.result)) = ap (λ (l : Local). number l) c.at.ensures in
-    let early = bound-early c.args.self.now c.requires bound is in
-    omega (arith, c.in-Some.ensures.next.0.in_bound, at, early)
-
 pub hold-requires-clause-time : goal.hold-requires-clause-time
 hold-requires-clause-time c =
     let s = c.args.self.now in
     let bound = to_z w32 (of_z w32 c.bound-bound.result) in
     let is : to_z w32 (of_z w32 c.bound-bound.result) ≡ bound_of c.args.self.now.day c.args.self.now.end c.args.self.now.held.items = omega (arith, ints, c.bound-bound.type_inv, c.bound-bound.ensures) in
     let at : number c.at.result ≡ midnight_number (to_z w32 (of_z w32 c.bound-bound.result)) = ap (λ (l : Local). number l) c.at.ensures in
-    let a = c.of_calendar-local.result in
-    let next : IsNextKept c.args.self.now.rule (place_of c.args.self.now.cursor) (midnight_number (to_z w32 (of_z w32 c.bound-bound.result))) (number c.of_calendar-local.result) =
-    subst (IsNextKept s.rule (place_of s.cursor) (midnight_number bound)) (sym c.of_calendar-local.ensures.same)
-    (subst (λ n. IsNextKept s.rule (place_of s.cursor) n (number c.in-Some.local)) at c.in-Some.ensures.next.0) in
-    one-time s c.requires bound is a c.of_calendar-local.ensures.day next
+    let a = c.in-Some.local in
+    let next : IsNextKept c.args.self.now.rule (place_of c.args.self.now.cursor) (midnight_number (to_z w32 (of_z w32 c.bound-bound.result))) (number c.in-Some.local) =
+    subst (λ n. IsNextKept s.rule (place_of s.cursor) n (number c.in-Some.local)) at c.in-Some.ensures.next.0 in
+    one-time s c.requires bound is a c.in-Some.ensures.day next
 
 pub invariant_of-self-in-Some : goal.invariant_of-self-in-Some
 invariant_of-self-in-Some c =
@@ -104,15 +96,14 @@ invariant_of-self-in-Some c =
     let bound = to_z w32 (of_z w32 c.bound-bound.result) in
     let is : to_z w32 (of_z w32 c.bound-bound.result) ≡ bound_of c.args.self.now.day c.args.self.now.end c.args.self.now.held.items = omega (arith, ints, c.bound-bound.type_inv, c.bound-bound.ensures) in
     let at : number c.at.result ≡ midnight_number (to_z w32 (of_z w32 c.bound-bound.result)) = ap (λ (l : Local). number l) c.at.ensures in
-    let a = c.of_calendar-local.result in
-    let next : IsNextKept c.args.self.now.rule (place_of c.args.self.now.cursor) (midnight_number (to_z w32 (of_z w32 c.bound-bound.result))) (number c.of_calendar-local.result) =
-    subst (IsNextKept s.rule (place_of s.cursor) (midnight_number bound)) (sym c.of_calendar-local.ensures.same)
-    (subst (λ n. IsNextKept s.rule (place_of s.cursor) n (number c.in-Some.local)) at c.in-Some.ensures.next.0) in
+    let a = c.in-Some.local in
+    let next : IsNextKept c.args.self.now.rule (place_of c.args.self.now.cursor) (midnight_number (to_z w32 (of_z w32 c.bound-bound.result))) (number c.in-Some.local) =
+    subst (λ n. IsNextKept s.rule (place_of s.cursor) n (number c.in-Some.local)) at c.in-Some.ensures.next.0 in
     let held : c.reserve.new.self.items ≡ c.args.self.now.held.items = c.reserve.ensures.items in
-    let h = c.of_calendar-local.ensures.day in
-    let day : to_z w32 (of_z w32 c.of_calendar-local.result.day) ≡ c.of_calendar-local.result.day = omega (arith, ints, h.0, h.1) in
-    let asked : to_z w32 (of_z w32 (to_z w32 (of_z w32 c.of_calendar-local.result.day) +ℤ pos 1)) ≡ c.of_calendar-local.result.day +ℤ pos 1 = omega (arith, ints, h.0, h.1, day) in
-    let new = to_z w32 (of_z w32 (to_z w32 (of_z w32 c.of_calendar-local.result.day) +ℤ pos 1)) in
+    let h = c.in-Some.ensures.day in
+    let day : to_z w32 (of_z w32 c.in-Some.local.day) ≡ c.in-Some.local.day = omega (arith, ints, h.0, h.1) in
+    let asked : to_z w32 (of_z w32 (to_z w32 (of_z w32 c.in-Some.local.day) +ℤ pos 1)) ≡ c.in-Some.local.day +ℤ pos 1 = omega (arith, ints, h.0, h.1, day) in
+    let new = to_z w32 (of_z w32 (to_z w32 (of_z w32 c.in-Some.local.day) +ℤ pos 1)) in
     let on = one-on s c.requires bound is a h next in
     let range = within s c.requires bound is in
     let past = one-asked s c.requires bound is a h next new asked in
@@ -121,10 +112,10 @@ invariant_of-self-in-Some c =
       rises = one-rises s c.requires bound is a h next c.reserve.new.self.items c.hold.new.held.items held c.hold.ensures;
       are = one-held s c.requires bound is a h next c.reserve.new.self.items c.hold.new.held.items held c.hold.ensures new asked;
       own = c.in-Some.ensures.own;
-      looked = λ before m. c.in-Some.ensures.looked _ before (omega (arith, past.1, m, c.of_calendar-local.ensures.same)) (s.looked before (omega (arith, past.0, m)));
+      looked = λ before m. c.in-Some.ensures.looked _ before (omega (arith, past.1, m)) (s.looked before (omega (arith, past.0, m)));
       time = s.time;
       first = s.first;
-      read = omega (arith, ints, c.in-Some.ensures.next.1, c.of_calendar-local.ensures.same, day, h.0);
+      read = omega (arith, ints, c.in-Some.ensures.next.1, day, h.0);
       low = omega (arith, ints, day, h.0);
       asked_on = omega (arith, ints, day, asked);
       asked_soon = omega (arith, ints, day, asked);
@@ -157,12 +148,11 @@ returns-in-Some-clause-same c =
     let bound = to_z w32 (of_z w32 c.bound-bound.result) in
     let is : to_z w32 (of_z w32 c.bound-bound.result) ≡ bound_of c.args.self.now.day c.args.self.now.end c.args.self.now.held.items = omega (arith, ints, c.bound-bound.type_inv, c.bound-bound.ensures) in
     let at : number c.at.result ≡ midnight_number (to_z w32 (of_z w32 c.bound-bound.result)) = ap (λ (l : Local). number l) c.at.ensures in
-    let a = c.of_calendar-local.result in
-    let next : IsNextKept c.args.self.now.rule (place_of c.args.self.now.cursor) (midnight_number (to_z w32 (of_z w32 c.bound-bound.result))) (number c.of_calendar-local.result) =
-    subst (IsNextKept s.rule (place_of s.cursor) (midnight_number bound)) (sym c.of_calendar-local.ensures.same)
-    (subst (λ n. IsNextKept s.rule (place_of s.cursor) n (number c.in-Some.local)) at c.in-Some.ensures.next.0) in
-    one-same s c.requires bound is a c.of_calendar-local.ensures.day next c.reserve.new.self.items c.hold.new.held.items c.reserve.ensures.items c.hold.ensures (place_of c.next.new.self)
-    (omega (arith, c.in-Some.ensures.next.1, c.of_calendar-local.ensures.same))
+    let a = c.in-Some.local in
+    let next : IsNextKept c.args.self.now.rule (place_of c.args.self.now.cursor) (midnight_number (to_z w32 (of_z w32 c.bound-bound.result))) (number c.in-Some.local) =
+    subst (λ n. IsNextKept s.rule (place_of s.cursor) n (number c.in-Some.local)) at c.in-Some.ensures.next.0 in
+    one-same s c.requires bound is a c.in-Some.ensures.day next c.reserve.new.self.items c.hold.new.held.items c.reserve.ensures.items c.hold.ensures (place_of c.next.new.self)
+    (omega (arith, c.in-Some.ensures.next.1))
 
 pub returns-in-Some-clause-less : goal.returns-in-Some-clause-less
 returns-in-Some-clause-less c =
@@ -170,10 +160,9 @@ returns-in-Some-clause-less c =
     let bound = to_z w32 (of_z w32 c.bound-bound.result) in
     let is : to_z w32 (of_z w32 c.bound-bound.result) ≡ bound_of c.args.self.now.day c.args.self.now.end c.args.self.now.held.items = omega (arith, ints, c.bound-bound.type_inv, c.bound-bound.ensures) in
     let at : number c.at.result ≡ midnight_number (to_z w32 (of_z w32 c.bound-bound.result)) = ap (λ (l : Local). number l) c.at.ensures in
-    let a = c.of_calendar-local.result in
-    let next : IsNextKept c.args.self.now.rule (place_of c.args.self.now.cursor) (midnight_number (to_z w32 (of_z w32 c.bound-bound.result))) (number c.of_calendar-local.result) =
-    subst (IsNextKept s.rule (place_of s.cursor) (midnight_number bound)) (sym c.of_calendar-local.ensures.same)
-    (subst (λ n. IsNextKept s.rule (place_of s.cursor) n (number c.in-Some.local)) at c.in-Some.ensures.next.0) in
-    let h = c.of_calendar-local.ensures.day in
-    one-less s c.requires bound is a h next (to_z w32 (of_z w32 c.of_calendar-local.result.day)) (place_of c.next.new.self) (omega (arith, ints, h.0, h.1))
-    (omega (arith, c.in-Some.ensures.next.1, c.of_calendar-local.ensures.same))
+    let a = c.in-Some.local in
+    let next : IsNextKept c.args.self.now.rule (place_of c.args.self.now.cursor) (midnight_number (to_z w32 (of_z w32 c.bound-bound.result))) (number c.in-Some.local) =
+    subst (λ n. IsNextKept s.rule (place_of s.cursor) n (number c.in-Some.local)) at c.in-Some.ensures.next.0 in
+    let h = c.in-Some.ensures.day in
+    one-less s c.requires bound is a h next (to_z w32 (of_z w32 c.in-Some.local.day)) (place_of c.next.new.self) (omega (arith, ints, h.0, h.1))
+    (omega (arith, c.in-Some.ensures.next.1))
