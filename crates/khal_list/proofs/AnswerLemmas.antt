@@ -12,7 +12,7 @@ use Rattle.ics_zone.specs.declared.display.Kind.TheVariants.{Fixed, Posix}
 use Rattle.ics_series.specs.Clocks.{display_clock}
 use Rattle.ics_series.specs.DayKeys.{day_key_rank, DayRank}
 use Rattle.ics_series.specs.DayTokens.{day_spelling, OneDaySpelling}
-use Rattle.ics_series.specs.ShownDays.{date_at, day_of_local}
+use Rattle.ics_series.specs.ShownDays.{date_at}
 use Rattle.ics_series.specs.Entry.{key_rank, Rank}
 use Rattle.ics_series.specs.Tokens.{spelling, OneSpelling}
 use Rattle.ics_series.specs.declared.day_key.DayKey.{DayKey}
@@ -30,6 +30,7 @@ use Rattle.khal_list.specs.declared.request.Request.{Request}
 use Rattle.khal_list.proofs.RequestLemmas.{good_token}
 use Rattle.khal_list.specs.declared.request_fault.RequestFault.{RequestFault}
 use Rattle.khal_list.specs.declared.request_fault.RequestFault.TheVariants.{Usage, BadZone, BadWindow, BadToken, BadFormat, Memory}
+use Rattle.ics_values.specs.Locals.{day_of_local}
 
 -- two display zones give the same offsets and read the same instants
 pub record Alike (a b : Display) : Type 0 where

@@ -1,6 +1,6 @@
 -- The text of a listing: each entry on a line, under its day. The form is the program's own.
 use Rattle.std.specs.Prelude.{ℕ, ℤ, pos, ◌+◌, ◌/◌, ◌%◌, ◌==◌, ◌&&◌, ◌+ℤ◌, ◌-ℤ◌, Bool, true, false, List, [], ◌∷◌, ◌++◌, Option, Some, None, codes, map, replicate, slice_get, unwrap_or, unsigned_abs, if◌then◌else◌}
-use Rattle.std.specs.Int.{int_div_euclid, int_rem_euclid, int_max}
+use Rattle.std.specs.Int.{int_rem_euclid, int_max}
 use Rattle.std.specs.Option.{option_eq}
 use Rattle.std.specs.Ordering.{int_eq}
 use Rattle.ics_values.specs.declared.stamp.Stamp.{Stamp}
@@ -9,6 +9,7 @@ use Rattle.ics_values.specs.Days.{year_of, month_of, month_day_of, weekday_of, d
 use Rattle.ics_series.specs.Clocks.{Clock, local_at}
 use Rattle.ics_series.specs.Entry.{Entry}
 use Rattle.ics_series.specs.OnDays.{on_day, OnDay}
+use Rattle.ics_series.specs.ShownDays.{date_at}
 use Rattle.khal_list.specs.declared.field.EntryField.{EntryField}
 use Rattle.khal_list.specs.declared.field.EntryField.TheVariants.{Cell, Title, StartTime, EndTime, StartDate, EndDate, Location, Description, Uid, Cancelled}
 use Rattle.khal_list.specs.declared.field.DayField.{DayField}
@@ -16,11 +17,9 @@ use Rattle.khal_list.specs.declared.field.DayField.TheVariants as day
 use Rattle.khal_list.specs.declared.format.Piece.{Piece}
 use Rattle.khal_list.specs.Formats.{filled}
 use Rattle.khal_list.specs.Shown.{shown}
+use Rattle.ics_values.specs.Locals.{day_of_local}
 
--- the day of a local, counted from 1970-01-01, and its second of that day
-abbrev pub day_of_local : ℤ → ℤ
-day_of_local local = int_div_euclid local (pos 86_400)
-
+-- the second of the day of a local
 abbrev pub second_of : ℤ → ℕ
 second_of local = unsigned_abs (int_rem_euclid local (pos 86_400))
 
@@ -81,10 +80,10 @@ cell_text clock day e =
 
 -- the display dates of a start and of a finish; for an event of dates, that of the finish is its last day
 abbrev pub start_date : Clock → Entry → ℤ
-start_date clock e = day_of_local (local_at clock e.start)
+start_date clock e = date_at clock e.start
 
 abbrev pub end_date : Clock → Entry → ℤ
-end_date clock e = if is_date e.event.start.stamp then day_of_local (local_at clock e.finish) -ℤ pos 1 else day_of_local (local_at clock e.finish)
+end_date clock e = if is_date e.event.start.stamp then date_at clock e.finish -ℤ pos 1 else date_at clock e.finish
 
 -- the time of a local, or nothing for an event of dates
 abbrev pub time_unless_date : Entry → ℤ → List ℕ
@@ -125,7 +124,7 @@ heading_text style day = filled (day_field_text day) style.days ++ 10 ∷ []
 
 -- an entry is listed under the display date of the later of its start and the window's start
 abbrev pub day_under : Style → Entry → ℤ
-day_under style e = day_of_local (local_at style.clock (int_max e.start style.from))
+day_under style e = date_at style.clock (int_max e.start style.from)
 
 -- the heading of a day, unless the entry before is listed under the same day
 abbrev pub heading_after : Style → Option ℤ → ℤ → List ℕ

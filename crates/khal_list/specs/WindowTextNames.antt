@@ -1,14 +1,14 @@
 -- What contracts see of a window text that was read.
 use Rattle.std.specs.Prelude.{◌≤◌}
 use Rattle.jiff_core.specs.Calendar.{IsEpochDay}
-use Rattle.ics_values.specs.Locals.{seconds_at}
+use Rattle.ics_values.specs.Locals.{local_seconds}
 use Rattle.khal_list.specs.WindowTexts.{Named}
 use Rattle.khal_list.specs.declared.window_text.WindowText.{WindowText}
 use Rattle.khal_list.specs.declared.window_text.WindowText.TheVariants.{Day, Local, Days}
 
 abbrev pub named_by : WindowText → Named
 named_by (Day day) = Named.Day day
-named_by (Local local) = Named.Local (seconds_at local.day local.second)
+named_by (Local local) = Named.Local (local_seconds local)
 named_by (Days number) = Named.Days number
 
 -- its day is one that the calendar has, and a number of days is within its bounds

@@ -1,10 +1,9 @@
 -- The window of a listing: its first instant and the one after its last, by the words, a display zone and a
 -- clock. Locals and instants are counted in seconds from 1970-01-01T00:00:00.
-use Rattle.std.specs.Prelude.{ℤ, pos, neg_ℤ, ◌*◌, ◌+ℤ◌, ◌*ℤ◌, ◌&&◌, int_le, int_lt, Option, Some, None, option_and_then, if◌then◌else◌}
-use Rattle.std.specs.Int.{int_div_euclid}
+use Rattle.std.specs.Prelude.{ℤ, pos, ◌+ℤ◌, ◌&&◌, int_le, int_lt, Option, Some, None, option_and_then, if◌then◌else◌}
 use Rattle.clap.specs.Words.{Text}
 use Rattle.ics_zone.specs.Displays.{offset_of, moment_of}
-use Rattle.ics_values.specs.Locals.{seconds_at}
+use Rattle.ics_values.specs.Locals.{midnight, whole_days, year_seconds, day_of_local}
 use Rattle.ics_zone.specs.JiffZones.{zone_of}
 use Rattle.ics_zone.specs.declared.display.Display.{Display}
 use Rattle.khal_list.specs.Entries.{Span}
@@ -12,15 +11,15 @@ use Rattle.khal_list.specs.WindowTexts.{Named, named}
 
 -- 0001-01-02T00:00, before which no window starts
 abbrev pub first_start : ℤ
-first_start = neg_ℤ (pos 62_135_510_400)
+first_start = year_seconds 1 +ℤ whole_days 1
 
 -- 9800-01-01T00:00, after which no window ends
 abbrev pub last_end : ℤ
-last_end = pos 247_090_953_600
+last_end = year_seconds 9_800
 
 -- the midnight that begins the day of a local
 abbrev pub midnight_before : ℤ → ℤ
-midnight_before local = int_div_euclid local (pos 86_400) *ℤ pos 86_400
+midnight_before local = midnight (day_of_local local)
 
 -- today's midnight in the zone, by a clock that is within those bounds
 abbrev pub today : Display → ℤ → Option ℤ
@@ -31,16 +30,16 @@ today zone now =
 
 -- the local at which a window starts: a day's midnight, or the local that is named
 abbrev pub start_named : Named → Option ℤ
-start_named (Named.Day day) = Some (seconds_at day 0)
+start_named (Named.Day day) = Some (midnight day)
 start_named (Named.Local local) = Some local
 start_named (Named.Days n) = None
 
 -- the local at which a window ends: the midnight after a day, the local that is named, or a number of days
 -- after the start
 abbrev pub end_named : ℤ → Named → ℤ
-end_named start (Named.Day day) = seconds_at (day +ℤ pos 1) 0
+end_named start (Named.Day day) = midnight (day +ℤ pos 1)
 end_named start (Named.Local local) = local
-end_named start (Named.Days n) = start +ℤ pos (n * 86_400)
+end_named start (Named.Days n) = start +ℤ whole_days n
 
 -- the local of a moment, which is not a day
 abbrev pub moment_named : Named → Option ℤ

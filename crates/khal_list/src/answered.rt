@@ -7,9 +7,8 @@ ghost use Rattle.std.specs.Ordering.{nat_cmp};
 
 use crate::fault::RunFault;
 use crate::finding::{Found, find};
-use crate::zone_name::ZoneName;
 use crate::zone_source::ZoneSource;
-use ics_calendar::ZoneFiles;
+use ics_calendar::{Text, ZoneFiles};
 use std::alloc::{AllocError, Global};
 use std::collections::BTreeSet;
 
@@ -17,12 +16,12 @@ use std::collections::BTreeSet;
 #[derive(Drop)]
 pub(crate) struct Answered {
     pub(crate) files: ZoneFiles,
-    pub(crate) names: BTreeSet<ZoneName>,
-    pub(crate) unread: BTreeSet<ZoneName>,
+    pub(crate) names: BTreeSet<Text>,
+    pub(crate) unread: BTreeSet<Text>,
 }
 
 /// Adds a name.
-fn see(alloc: Global, seen: &mut BTreeSet<ZoneName>, name: &ZoneName) -> Result<(), AllocError>
+fn see(alloc: Global, seen: &mut BTreeSet<Text>, name: &Text) -> Result<(), AllocError>
     ensures { OnOk result ((other : List ℕ) →
         contains (slice_cmp nat_cmp) seen.new other ≡ (bytes_eq other name.now || contains (slice_cmp nat_cmp) seen.old other)) }
 {
@@ -47,7 +46,7 @@ impl Answered {
     }
 
     /// Keeps what was found for a name.
-    fn keep(&mut self, alloc: Global, name: &ZoneName, found: &Found) -> Result<(), AllocError>
+    fn keep(&mut self, alloc: Global, name: &Text, found: &Found) -> Result<(), AllocError>
         ensures files { OnOk result ((other : List ℕ) → given_by self.new.files other
             ≡ with_found (given_by self.old.files) (name.now, seen_found found.now) other) }
         ensures names { OnOk result ((other : List ℕ) → contains (slice_cmp nat_cmp) self.new.names other
@@ -68,7 +67,7 @@ impl Answered {
         &mut self,
         alloc: Global,
         zones: &mut Z,
-        name: &ZoneName,
+        name: &Text,
     ) -> Result<(), RunFault>
         ensures ok { OnOk result ((asked : List Asked) → Knows asked self.old
             → Learns Z.finds asked (name.now ∷ []) zones.old zones.new self.new) }
@@ -89,7 +88,7 @@ impl Answered {
         &mut self,
         alloc: Global,
         zones: &mut Z,
-        names: &[ZoneName],
+        names: &[Text],
     ) -> Result<(), RunFault>
         ensures ok { OnOk result ((asked : List Asked) → Knows asked self.old
             → Learns Z.finds asked names.now zones.old zones.new self.new) }
@@ -104,7 +103,7 @@ impl Answered {
     }
 
     /// Whether the file of one of these names was not read.
-    pub(crate) fn lacks(&self, names: &[ZoneName]) -> bool
+    pub(crate) fn lacks(&self, names: &[Text]) -> bool
         ensures { result ≡ list_any (contains (slice_cmp nat_cmp) self.now.unread) names.now }
     {
         names.iter().any(|name| self.unread.contains(name))

@@ -1,6 +1,6 @@
 //! The times of an entry, in eleven columns.
 ghost use Rattle.std.specs.Prelude.{◌≡◌, ◌<◌, ◌++◌, ◌∷◌, OnOk};
-ghost use Rattle.ics_values.specs.Locals.{seconds_at};
+ghost use Rattle.ics_values.specs.Locals.{local_seconds};
 ghost use Rattle.khal_list.specs.Text.{time_text, start_text, finish_text, times_text, is_end_of};
 
 use crate::digits::add_two_digits;
@@ -23,7 +23,7 @@ pub(crate) fn add_time(text: &mut Vec<u8>, second: u32) -> Result<(), AllocError
 /// Adds the time of a start, or blanks if it is on another day than the entry's.
 fn add_start(text: &mut Vec<u8>, day: i32, start: Local) -> Result<(), AllocError>
     ensures { OnOk result (text.new.items
-        ≡ text.old.items ++ start_text day (seconds_at start.day start.second)) }
+        ≡ text.old.items ++ start_text day (local_seconds start)) }
 {
     if start.day == day {
         add_time(text, start.second)
@@ -34,7 +34,7 @@ fn add_start(text: &mut Vec<u8>, day: i32, start: Local) -> Result<(), AllocErro
 
 /// Whether a local is the first second of the day after.
 fn is_end_of(day: i32, local: Local) -> bool
-    ensures { result ≡ is_end_of day (seconds_at local.day local.second) }
+    ensures { result ≡ is_end_of day (local_seconds local) }
 {
     let is_next = i64::from(local.day) == i64::from(day) + 1;
     is_next & (local.second == 0)
@@ -44,7 +44,7 @@ fn is_end_of(day: i32, local: Local) -> bool
 /// the next day.
 fn add_finish(text: &mut Vec<u8>, day: i32, finish: Local) -> Result<(), AllocError>
     ensures { OnOk result (text.new.items
-        ≡ text.old.items ++ finish_text day (seconds_at finish.day finish.second)) }
+        ≡ text.old.items ++ finish_text day (local_seconds finish)) }
 {
     if finish.day == day {
         add_time(text, finish.second)
@@ -63,7 +63,7 @@ pub(crate) fn add_times(
     finish: Local,
 ) -> Result<(), AllocError>
     ensures { OnOk result (text.new.items
-        ≡ text.old.items ++ times_text day (seconds_at start.day start.second) (seconds_at finish.day finish.second)) }
+        ≡ text.old.items ++ times_text day (local_seconds start) (local_seconds finish)) }
 {
     add_start(text, day, start)?;
     text.push(b'-')?;

@@ -1,7 +1,7 @@
 //! The values of placeholders in the line of an entry.
 ghost use Rattle.std.specs.Prelude.{◌≡◌, ◌++◌, OnOk, [], codes, if◌then◌else◌};
 ghost use Rattle.ics_values.specs.Days.{IsDayNumber};
-ghost use Rattle.ics_values.specs.Locals.{seconds_at};
+ghost use Rattle.ics_values.specs.Locals.{local_seconds};
 ghost use Rattle.ics_series.specs.Clocks.{display_clock};
 ghost use Rattle.ics_series.specs.Entry.{entry_of};
 ghost use Rattle.khal_list.specs.Text.{cell_text, end_date, entry_field_text, is_date, time_unless_date};
@@ -50,7 +50,7 @@ fn add_time_unless_date(
     local: Local,
 ) -> Result<(), AllocError>
     ensures { OnOk result (text.new.items
-        ≡ text.old.items ++ time_unless_date (entry_of occurrence.now) (seconds_at local.day local.second)) }
+        ≡ text.old.items ++ time_unless_date (entry_of occurrence.now) (local_seconds local)) }
 {
     let dated = is_all_day(occurrence.event);
     if dated {

@@ -43,7 +43,6 @@ mod window;
 mod window_text;
 mod words;
 mod zone_laws;
-mod zone_name;
 mod zone_source;
 
 pub use every_day::EveryDay;

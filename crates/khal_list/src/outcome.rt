@@ -13,9 +13,8 @@ use crate::answered::Answered;
 use crate::fault::{RunFault, SourceFault};
 use crate::refusal::Refusal;
 use crate::source::Source;
-use crate::zone_name::ZoneName;
 use crate::zone_source::ZoneSource;
-use ics_calendar::{Draft, FileEvents, FileFault, ZoneFiles, only_wanted_files_count};
+use ics_calendar::{Draft, FileEvents, FileFault, Text, ZoneFiles, only_wanted_files_count};
 use std::alloc::{AllocError, Global};
 
 /// What becomes of a file.
@@ -26,13 +25,13 @@ pub(crate) enum Outcome {
 }
 
 /// The names that a file wants.
-fn wanted(alloc: Global, draft: &Draft) -> Result<Vec<ZoneName>, AllocError>
+fn wanted(alloc: Global, draft: &Draft) -> Result<Vec<Text>, AllocError>
     ensures { IfOk result (λ names. names.items ≡ (draft_said draft.now).wants) }
 {
     draft
         .wanted(alloc)?
         .into_iter()
-        .map(ZoneName::of)
+        .map(Text::of)
         .collect(alloc)
 }
 

@@ -3,7 +3,7 @@ ghost use Rattle.std.specs.Prelude.{◌≡◌, ◌≤◌, ◌<◌, ◌*◌, ◌-
 ghost use Rattle.jiff_core.specs.Calendar.{IsEpochDay};
 ghost use Rattle.ics_zone.specs.Displays.{moment_of};
 ghost use Rattle.ics_zone.specs.Seconds.{IsDay, IsNear};
-ghost use Rattle.ics_values.specs.Locals.{seconds_at};
+ghost use Rattle.ics_values.specs.Locals.{local_seconds};
 ghost use Rattle.ics_zone.specs.JiffZones.{zone_of};
 ghost use Rattle.khal_list.specs.Windows as spec;
 ghost use Rattle.khal_list.specs.SpanTexts.{span_by};
@@ -51,7 +51,7 @@ pub(crate) fn window_of(
 
 // START's local, or today's midnight if it is left out.
 fn start_said(zone: Display, now: Moment, text: Option<&str>) -> Option<Local>
-    ensures value { option_map (λ l. seconds_at l.day l.second) result
+    ensures value { option_map (λ l. local_seconds l) result
         ≡ spec.start_said zone now (option_map (λ t. t.now) text.entry) }
     ensures bound { IfSome result (λ l. IsEpochDay l.day) }
 {
@@ -63,7 +63,7 @@ fn start_said(zone: Display, now: Moment, text: Option<&str>) -> Option<Local>
 
 // Today's midnight, by a clock within the bounds of windows.
 fn today(zone: Display, now: Moment) -> Option<Local>
-    ensures value { option_map (λ l. seconds_at l.day l.second) result
+    ensures value { option_map (λ l. local_seconds l) result
         ≡ spec.today zone now }
     ensures bound { IfSome result (λ l. IsEpochDay l.day) }
 {
@@ -76,7 +76,7 @@ fn today(zone: Display, now: Moment) -> Option<Local>
 
 fn start_local(name: WindowText) -> Option<Local>
     requires { IsInCalendar name }
-    ensures value { option_map (λ l. seconds_at l.day l.second) result
+    ensures value { option_map (λ l. local_seconds l) result
         ≡ spec.start_named (named_by name) }
     ensures bound { IfSome result (λ l. IsEpochDay l.day) }
 {
@@ -90,8 +90,8 @@ fn start_local(name: WindowText) -> Option<Local>
 fn end_local(start: Local, name: WindowText) -> Local
     requires start { IsEpochDay start.day }
     requires name { IsInCalendar name }
-    ensures { seconds_at result.day result.second
-        ≡ spec.end_named (seconds_at start.day start.second) (named_by name) }
+    ensures { local_seconds result
+        ≡ spec.end_named (local_seconds start) (named_by name) }
 {
     match name {
         WindowText::Day(day) => Local {
@@ -107,7 +107,7 @@ fn end_local(start: Local, name: WindowText) -> Local
 }
 
 fn moment_local(name: WindowText) -> Option<Local>
-    ensures value { option_map (λ l. seconds_at l.day l.second) result
+    ensures value { option_map (λ l. local_seconds l) result
         ≡ spec.moment_named (named_by name) }
 {
     match name {
@@ -119,10 +119,10 @@ fn moment_local(name: WindowText) -> Option<Local>
 // The window between two locals.
 fn between(zone: Display, start: Local, end: Local, notstarted: bool) -> Option<Window>
     ensures ends { ends_by result ≡ spec.between zone
-        (seconds_at start.day start.second) (seconds_at end.day end.second) }
+        (local_seconds start) (local_seconds end) }
     ensures flag { IfSome result (λ w. w.notstarted ≡ notstarted) }
 {
-    if seconds(start) < FIRST_START || seconds(end) > LAST_END {
+    if start.seconds() < FIRST_START || end.seconds() > LAST_END {
         return None;
     }
     // Days before every start, or days after every end, the instants do not rise.
@@ -144,10 +144,10 @@ fn between(zone: Display, start: Local, end: Local, notstarted: bool) -> Option<
 
 // The window of one second.
 fn second_at(zone: Display, local: Local, notstarted: bool) -> Option<Window>
-    ensures ends { ends_by result ≡ spec.second_at zone (seconds_at local.day local.second) }
+    ensures ends { ends_by result ≡ spec.second_at zone (local_seconds local) }
     ensures flag { IfSome result (λ w. w.notstarted ≡ notstarted) }
 {
-    if seconds(local) < FIRST_START || seconds(local) > LAST_END {
+    if local.seconds() < FIRST_START || local.seconds() > LAST_END {
         return None;
     }
     let from = instant(zone, local);
@@ -160,15 +160,8 @@ fn second_at(zone: Display, local: Local, notstarted: bool) -> Option<Window>
 
 fn instant(zone: Display, local: Local) -> Moment
     requires { IsDay local.day }
-    ensures value { result ≡ moment_of (zone_of zone) (seconds_at local.day local.second) }
-    ensures near { IsNear (result -ℤ seconds_at local.day local.second) }
+    ensures value { result ≡ moment_of (zone_of zone) (local_seconds local) }
+    ensures near { IsNear (result -ℤ local_seconds local) }
 {
     zone.moment(local)
-}
-
-// The seconds from 1970-01-01T00:00:00 to a local, each day having 86,400.
-fn seconds(local: Local) -> i64
-    ensures { result ≡ seconds_at local.day local.second }
-{
-    i64::from(local.day) * 86_400 + i64::from(local.second)
 }

@@ -3,7 +3,7 @@ ghost use Rattle.std.specs.Prelude.{◌≡◌, ◌<◌, ◌≤◌, option_map, S
 ghost use Rattle.std.specs.Char.{is_ascii_digit};
 ghost use Rattle.std.specs.List.{list_all};
 ghost use Rattle.jiff_core.specs.Calendar.{IsEpochDay};
-ghost use Rattle.ics_values.specs.Locals.{seconds_at};
+ghost use Rattle.ics_values.specs.Locals.{local_seconds};
 ghost use Rattle.khal_list.specs.WindowTexts as spec;
 ghost use Rattle.khal_list.specs.WindowTextNames.{named_by, IsInCalendar};
 
@@ -67,7 +67,7 @@ fn day_number(year: u16, month: u8, day: u8) -> Option<i32>
 }
 
 fn local(text: &[u8]) -> Option<Local>
-    ensures value { option_map (λ l. seconds_at l.day l.second) result ≡ spec.local_said text.now }
+    ensures value { option_map (λ l. local_seconds l) result ≡ spec.local_said text.now }
     ensures bound { IfSome result (λ l. IsEpochDay l.day) }
 {
     let (date, clock) = text.split_at_checked(10)?;

@@ -30,7 +30,7 @@ pub(crate) fn entry<'a>(found: &ArgMatches<'a>, id: &str) -> Option<&'a str>
 
 /// The text of that entry, or the empty text if there is none.
 pub(crate) fn text<'a>(found: &ArgMatches<'a>, id: &str) -> &'a str
-    ensures { result.now ≡ spec.text_of id.now (subcommand_rows_of found.now) }
+    ensures { result.now ≡ spec.entries_text id.now (subcommand_rows_of found.now) }
 {
     text_or(found, id, "")
 }

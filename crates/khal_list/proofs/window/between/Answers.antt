@@ -2,7 +2,7 @@ use Rattle.std.proofs.Common.{◌≤ℤ◌, ◌<ℤ◌, ◌+ℤ◌, ℤ, pos, ar
 use Rattle.std.proofs.lemmas.Int.{to_z-of_z}
 use Rattle.jiff.proofs.SpanFacts.{signed_arith}
 use Rattle.ics_zone.specs.Displays.{moment_of}
-use Rattle.ics_values.specs.Locals.{seconds_at}
+use Rattle.ics_values.specs.Locals.{local_seconds}
 use Rattle.ics_zone.specs.JiffZones.{zone_of}
 use Rattle.khal_list.specs.Windows.{first_start, last_end}
 use Rattle.khal_list.proofs.WindowLemmas.{between-apart, between-falling, between-rising}
@@ -11,8 +11,8 @@ use Rattle.khal_list.proofs.window.between.Goals.{then-end-lt-FIRST_DAY-via-then
 
 pub returns-then-end-lt-FIRST_DAY-clause-ends : goal.returns-then-end-lt-FIRST_DAY-clause-ends
 returns-then-end-lt-FIRST_DAY-clause-ends c =
-    let start : ℤ = seconds_at c.args.start.day c.args.start.second in
-    let end : ℤ = seconds_at c.args.end.day c.args.end.second in
+    let start : ℤ = local_seconds c.args.start in
+    let end : ℤ = local_seconds c.args.end in
     let start_fits : FitsSigned w32 c.args.start.day = search rules in
     let end_fits : FitsSigned w32 c.args.end.day = search rules in
     let apart : (end +ℤ pos 345_598) ≤ℤ start = elim c.then-end-lt-FIRST_DAY.branch [
@@ -35,8 +35,8 @@ invariant_of-result c =
 
 pub returns-then-from-to-clause-ends : goal.returns-then-from-to-clause-ends
 returns-then-from-to-clause-ends c =
-    let start : ℤ = seconds_at c.args.start.day c.args.start.second in
-    let end : ℤ = seconds_at c.args.end.day c.args.end.second in
+    let start : ℤ = local_seconds c.args.start in
+    let end : ℤ = local_seconds c.args.end in
     let from_fits : FitsSigned w64 c.instant-from.result = search rules in
     let to_fits : FitsSigned w64 c.instant-to.result = search rules in
     let start_fits : FitsSigned w64 c.seconds.result = search rules in
@@ -48,8 +48,8 @@ returns-then-from-to-clause-ends c =
 
 pub returns-else-from-to-clause-ends : goal.returns-else-from-to-clause-ends
 returns-else-from-to-clause-ends c =
-    let start : ℤ = seconds_at c.args.start.day c.args.start.second in
-    let end : ℤ = seconds_at c.args.end.day c.args.end.second in
+    let start : ℤ = local_seconds c.args.start in
+    let end : ℤ = local_seconds c.args.end in
     let from_fits : FitsSigned w64 c.instant-from.result = search rules in
     let to_fits : FitsSigned w64 c.instant-to.result = search rules in
     let late : moment_of (zone_of c.args.zone) end ≤ℤ moment_of (zone_of c.args.zone) start = rw (← c.instant-from.ensures.value, ← c.instant-to.ensures.value) (omega (arith, signed_arith)) in

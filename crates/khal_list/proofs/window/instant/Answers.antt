@@ -2,12 +2,12 @@ use Rattle.std.proofs.Common.{◌-ℤ◌, arith}
 use Rattle.jiff.proofs.SpanFacts.{signed_arith}
 use Rattle.ics_zone.specs.Near.{moment_near}
 use Rattle.ics_zone.specs.Seconds.{IsNear}
-use Rattle.ics_values.specs.Locals.{seconds_at}
+use Rattle.ics_values.specs.Locals.{local_seconds}
 use Rattle.ics_zone.specs.JiffZones.{zone_of}
 use Rattle.khal_list.proofs.window.instant.Goals as goal
 
 pub returns-clause-near : goal.returns-clause-near
 returns-clause-near c =
-    let local = seconds_at c.args.local.day c.args.local.second in
+    let local = local_seconds c.args.local in
     let near : IsNear (c.moment.result -ℤ local) = rw c.moment.ensures.value (moment_near (zone_of c.args.zone) local) in
     (omega (arith, signed_arith), omega (arith, signed_arith))
