@@ -15,7 +15,7 @@ use crate::name::Name;
 use crate::observances::{EndedObservance, Observances};
 use crate::refused::Refused;
 use crate::rule_value::RuleValue;
-use crate::tzid::{LastTzid, Tzid};
+use crate::tzid::{Tzid, Tzids};
 use ics_text::Content;
 use ics_values::{Local, Stamp, read_offset, read_stamp};
 use std::alloc::{AllocError, Global};
@@ -72,11 +72,17 @@ impl ZoneBuilder {
         }
     }
 
-    fn line(&mut self, alloc: Global, name: Name, content: &Content<'_>) -> Result<(), Refused>
+    fn line(
+        &mut self,
+        alloc: Global,
+        tzids: &mut Tzids,
+        name: Name,
+        content: &Content<'_>,
+    ) -> Result<(), Refused>
         ensures { Keeps result self.new (zone_line name content.now self.old) }
     {
         if let Name::Tzid = name {
-            let tzid = Tzid::of_value(alloc, content.value())?;
+            let tzid = tzids.of_value(alloc, content.value())?;
             once(&mut self.name, tzid, FaultKind::ObservanceField)?;
         }
         Ok(())
@@ -183,7 +189,7 @@ impl Builder {
     pub fn line(
         &mut self,
         alloc: Global,
-        tzids: &mut LastTzid,
+        tzids: &mut Tzids,
         calendar: u64,
         context: Context,
         name: Name,
@@ -194,7 +200,7 @@ impl Builder {
         match self {
             Builder::Event(had) => had.line(alloc, tzids, calendar, name, content),
             Builder::Zone(had) => {
-                had.line(alloc, name, content)?;
+                had.line(alloc, tzids, name, content)?;
                 Ok(None)
             }
             Builder::Observance(had) => {

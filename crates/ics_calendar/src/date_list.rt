@@ -11,7 +11,7 @@ use crate::dated::zone_name;
 use crate::deferred_check::{DeferredCheck, ZoneName};
 use crate::refused::Refused;
 use crate::time::{Length, Rdate, Time, is_zoned};
-use crate::tzid::{LastTzid, Tzid};
+use crate::tzid::{Tzid, Tzids};
 use crate::zone_table::ZoneTable;
 use ics_text::Content;
 use ics_values::{Duration, Stamp};
@@ -115,7 +115,7 @@ impl DateList {
     /// What an RDATE lists.
     pub fn read_rdates(
         alloc: Global,
-        tzids: &mut LastTzid,
+        tzids: &mut Tzids,
         content: &Content<'_>,
     ) -> Result<DateList, Refused>
         ensures { Gives result (rdates_said content.now) }
@@ -129,7 +129,7 @@ impl DateList {
     /// What an EXDATE lists.
     pub fn read_exdates(
         alloc: Global,
-        tzids: &mut LastTzid,
+        tzids: &mut Tzids,
         content: &Content<'_>,
     ) -> Result<DateList, Refused>
         ensures { Gives result (exdates_said content.now) }

@@ -6,7 +6,7 @@ ghost use Rattle.ics_calendar.specs.Values.{tzid, zone_name};
 use crate::deferred_check::{DeferredCheck, Instant, ZoneName};
 use crate::refused::Refused;
 use crate::time::is_zoned;
-use crate::tzid::{LastTzid, Tzid};
+use crate::tzid::{Tzid, Tzids};
 use ics_text::Content;
 use ics_values::{Stamp, read_stamp};
 use std::alloc::{AllocError, Global};
@@ -21,7 +21,7 @@ pub struct Dated {
 /// The name of the zone that a line's TZID gives.
 pub fn zone_name(
     alloc: Global,
-    tzids: &mut LastTzid,
+    tzids: &mut Tzids,
     content: &Content<'_>,
 ) -> Result<Option<Tzid>, AllocError>
     ensures { IfOk result (λ zone. zone ≡ zone_name content.now.params) }
@@ -34,11 +34,7 @@ pub fn zone_name(
 
 impl Dated {
     /// The stamp of a line and the zone that its TZID names.
-    pub fn read(
-        alloc: Global,
-        tzids: &mut LastTzid,
-        content: &Content<'_>,
-    ) -> Result<Dated, Refused>
+    pub fn read(alloc: Global, tzids: &mut Tzids, content: &Content<'_>) -> Result<Dated, Refused>
         ensures { Gives result (dated_said content.now) }
     {
         let zone = zone_name(alloc, tzids, content)?;

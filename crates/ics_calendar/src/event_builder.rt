@@ -17,7 +17,7 @@ use crate::name::Name;
 use crate::refused::Refused;
 use crate::rule_value::RuleValue;
 use crate::text::{Text, text_or_empty};
-use crate::tzid::LastTzid;
+use crate::tzid::Tzids;
 use crate::words::is_word;
 use ics_text::Content;
 use ics_values::{Duration, IntegerFault, read_integer};
@@ -125,7 +125,7 @@ impl EventBuilder {
     fn start_line(
         &mut self,
         alloc: Global,
-        tzids: &mut LastTzid,
+        tzids: &mut Tzids,
         calendar: u64,
         content: &Content<'_>,
     ) -> Result<Option<DeferredCheck>, Refused>
@@ -141,7 +141,7 @@ impl EventBuilder {
     fn end_line(
         &mut self,
         alloc: Global,
-        tzids: &mut LastTzid,
+        tzids: &mut Tzids,
         calendar: u64,
         content: &Content<'_>,
     ) -> Result<Option<DeferredCheck>, Refused>
@@ -157,7 +157,7 @@ impl EventBuilder {
     fn recurrence_line(
         &mut self,
         alloc: Global,
-        tzids: &mut LastTzid,
+        tzids: &mut Tzids,
         calendar: u64,
         content: &Content<'_>,
     ) -> Result<Option<DeferredCheck>, Refused>
@@ -176,7 +176,7 @@ impl EventBuilder {
     fn rdate_line(
         &mut self,
         alloc: Global,
-        tzids: &mut LastTzid,
+        tzids: &mut Tzids,
         calendar: u64,
         content: &Content<'_>,
     ) -> Result<Option<DeferredCheck>, Refused>
@@ -192,7 +192,7 @@ impl EventBuilder {
     fn exdate_line(
         &mut self,
         alloc: Global,
-        tzids: &mut LastTzid,
+        tzids: &mut Tzids,
         calendar: u64,
         content: &Content<'_>,
     ) -> Result<Option<DeferredCheck>, Refused>
@@ -208,7 +208,7 @@ impl EventBuilder {
     pub fn line(
         &mut self,
         alloc: Global,
-        tzids: &mut LastTzid,
+        tzids: &mut Tzids,
         calendar: u64,
         name: Name,
         content: &Content<'_>,

@@ -12,7 +12,7 @@ use crate::gathered::{Ended, Passed};
 use crate::name::{Name, name_of};
 use crate::refused::Refused;
 use crate::text::Text;
-use crate::tzid::LastTzid;
+use crate::tzid::Tzids;
 use ics_text::Content;
 use std::alloc::Global;
 use std::marker::Model;
@@ -26,7 +26,7 @@ const MAX_DEPTH: usize = 32;
 pub struct Stack {
     top: Frame,
     outer: Vec<Frame>,
-    tzids: LastTzid,
+    tzids: Tzids,
 }
 
 impl Model for Stack {
@@ -51,7 +51,7 @@ impl Stack {
                 builder: Builder::Nothing,
             },
             outer: Vec::new(alloc),
-            tzids: LastTzid::new(),
+            tzids: Tzids::new(alloc),
         }
     }
 

@@ -8,6 +8,7 @@ ghost use Rattle.ics_values.specs.Plain.{text_of};
 use ics_values::text_bytes;
 use std::alloc::{AllocError, Global};
 use std::cmp::Ordering;
+use std::collections::BTreeSet;
 use std::marker::Model;
 use std::rc::RcSlice;
 
@@ -26,10 +27,11 @@ impl Model for Tzid {
     ghost view = { λ a. unwrap_or (option_map rc_slice_items a.bytes) [] };
 }
 
-/// The name that was read last. Lines that name one zone share its bytes.
+/// The names of time zones in a file. Each stands once: lines that name one zone share its bytes.
 #[derive(Drop)]
-pub struct LastTzid {
+pub struct Tzids {
     last: Option<Tzid>,
+    names: BTreeSet<Tzid>,
 }
 
 impl Tzid {
@@ -49,7 +51,7 @@ impl Tzid {
     }
 
     /// The name that a TEXT value stands for, without its escapes.
-    pub fn of_value(alloc: Global, value: &[u8]) -> Result<Tzid, AllocError>
+    fn of_value(alloc: Global, value: &[u8]) -> Result<Tzid, AllocError>
         ensures { IfOk result (λ zone. zone ≡ text_of value.now) }
     {
         let bytes = RcSlice::from_vec(text_bytes(alloc, value)?)?;
@@ -79,13 +81,27 @@ impl Tzid {
     }
 }
 
-impl LastTzid {
+impl Tzids {
     /// None was read.
-    pub fn new() -> LastTzid {
-        LastTzid { last: None }
+    pub fn new(alloc: Global) -> Tzids {
+        Tzids {
+            last: None,
+            names: BTreeSet::new(alloc),
+        }
     }
 
-    /// The name of these bytes. It shares those of the last one, where they are the same.
+    /// The name, in the memory of the same one that was read before, if there is one.
+    fn kept(&mut self, name: Tzid) -> Result<Tzid, AllocError>
+        ensures { IfOk result (λ kept. kept ≡ name) }
+    {
+        if let Some(known) = self.names.get(&name) {
+            return known.shared();
+        }
+        self.names.insert(name.shared()?)?;
+        Ok(name)
+    }
+
+    /// The name of these bytes. It is looked up only where it is not the one that was read last.
     pub fn name(&mut self, alloc: Global, bytes: &[u8]) -> Result<Tzid, AllocError>
         ensures { IfOk result (λ zone. zone ≡ bytes.now) }
     {
@@ -94,9 +110,16 @@ impl LastTzid {
                 return last.shared();
             }
         }
-        let zone = Tzid::copied(alloc, bytes)?;
+        let zone = self.kept(Tzid::copied(alloc, bytes)?)?;
         self.last = Some(zone.shared()?);
         Ok(zone)
+    }
+
+    /// The name that a TEXT value stands for, without its escapes.
+    pub fn of_value(&mut self, alloc: Global, value: &[u8]) -> Result<Tzid, AllocError>
+        ensures { IfOk result (λ zone. zone ≡ text_of value.now) }
+    {
+        self.kept(Tzid::of_value(alloc, value)?)
     }
 }
 
