@@ -7,11 +7,9 @@ ghost use Rattle.ics_calendar.specs.Values.{is_out, is_bad_end, same_zone, ends_
 
 use crate::dated::Dated;
 use crate::deferred_check::{DeferredCheck, Instant};
+use crate::lasting::LONGEST;
 use ics_values::{Local, Stamp};
 use std::alloc::AllocError;
-
-/// The longest event, in seconds.
-const LONGEST: i64 = 36_525 * 86_400;
 
 fn day_seconds(day: i32) -> i64
     ensures { result ≡ day *ℤ pos 86_400 }
@@ -30,7 +28,7 @@ pub fn seconds_of(local: Local) -> i64
 pub fn is_out(start: i64, end: i64) -> bool
     ensures { result ≡ is_out start end }
 {
-    end < start || start.saturating_add(LONGEST) < end
+    end < start || start.saturating_add(i64::from(LONGEST)) < end
 }
 
 /// An end of another kind than its start, or out of its reach where they are dates, floating, or of one zone.

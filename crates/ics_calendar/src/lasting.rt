@@ -5,7 +5,7 @@ ghost use Rattle.ics_calendar.specs.Values.{is_lasting, allowed, lasting_of};
 use ics_values::{Duration, DurationFault, read_duration};
 
 /// The longest event, in seconds.
-const LONGEST: u64 = 36_525 * 86_400;
+pub const LONGEST: u32 = 36_525 * 86_400;
 
 fn is_lasting(duration: Duration) -> bool
     ensures { result ≡ is_lasting duration }
@@ -16,7 +16,7 @@ fn is_lasting(duration: Duration) -> bool
     let Some(seconds) = days.checked_add(duration.seconds) else {
         return false;
     };
-    (!duration.negative || seconds == 0) && seconds <= LONGEST
+    (!duration.negative || seconds == 0) && seconds <= u64::from(LONGEST)
 }
 
 /// The duration of an event: not negative, but for zero, and no longer than an event may be.
