@@ -59,7 +59,7 @@ pub enum FaultKind {
 /// Why a file is refused: its first fault, or a failed allocation.
 #[derive(Clone, Copy, Debug, PartialEq, Eq, thiserror::Error)]
 pub enum FileFault {
-    #[error("Memory")]
+    #[error("{}", self.name())]
     Memory,
     /// The first fault and its line, counted from 1. A file that ends too early has its fault on the line after its last one.
     #[error("line {line}: {kind}")]
