@@ -88,7 +88,8 @@ observance_of-more ls l =
 -- THE OBSERVANCES of a time zone, with one line more.
 parts-more : (whole ls : List Placed) (l : Placed) → parts whole (ls ++ l ∷ []) ≡ parts whole ls ++ cond (begins_in_zone l) (own whole l ∷ []) []
 parts-more whole ls l =
-    ap (map (own whole)) (filter-append begins_in_zone ls (l ∷ [])) ∙ map-append (own whole) (filter begins_in_zone ls) (cond (begins_in_zone l) (l ∷ []) [])
+    ap (map (own whole)) (filter-append begins_in_zone ls (l ∷ []))
+    ∙ map-append (own whole) (filter begins_in_zone ls) (cond (begins_in_zone l) (l ∷ []) [])
     ∙ ap (λ os. parts whole ls ++ os) (by_test (begins_in_zone l))
   where
     by_test : (t : Bool) → map (own whole) (cond t (l ∷ []) []) ≡ cond t (own whole l ∷ []) []

@@ -82,7 +82,8 @@ top_beside before l bundles k = at l.path bundles k
     at (c ∷ cs) [] k = absurd k
     at (c ∷ cs) (f ∷ fs) k = sym (k.0.lines ∙ append-nil f.lines)
 
-pub top_observances : (before : List Placed) (path : List Open) (bundles : List Bundle) → Keeps before [] path bundles → is_zone_context (context_of path) ≡ true →
+pub top_observances : (before : List Placed) (path : List Open) (bundles : List Bundle) → Keeps before [] path bundles →
+    is_zone_context (context_of path) ≡ true →
     list_any begins_observance (top_lines bundles) ≡ list_any begins_in_zone (top_lines bundles)
 top_observances before [] bundles k z = cc
 top_observances before (c ∷ cs) [] k z = absurd k

@@ -32,7 +32,8 @@ found-is p (k ∷ ks) kind e = by_test (found-is p ks kind) (p k) refl e
 abbrev bad_file : ℕ → Fault
 bad_file line = record { line = line; kind = BadZoneFile }
 
-first-stands : (round : Round) (lines : List Placed) (line : ℕ) (h : IsFirst round [] lines (bad_file line)) → round BadZoneFile (beside h.front h.line) h.line ≡ true
+first-stands : (round : Round) (lines : List Placed) (line : ℕ) (h : IsFirst round [] lines (bad_file line)) →
+    round BadZoneFile (beside h.front h.line) h.line ≡ true
 first-stands round lines line h = found-is (λ kind. round kind (beside h.front h.line) h.line) kinds BadZoneFile h.least
 
 -- WHERE NO FILE IS GIVEN, none is bad.
@@ -73,7 +74,8 @@ abbrev decided_by : KnownZones → List Placed → Result FileSaid Fault
 decided_by known lines =
     decide None (first_from (stands_later known) (λ before. None) [] lines) (record { zones = known.zones; events = events_of known.index lines })
 
-pub only-wanted : (files others : GivenFiles) (file : List ℕ) → All (λ name. files name ≡ others name) (wanted_names file) → file_of files file ≡ file_of others file
+pub only-wanted : (files others : GivenFiles) (file : List ℕ) → All (λ name. files name ≡ others name) (wanted_names file) →
+    file_of files file ≡ file_of others file
 only-wanted files others file h = by_fold (begins_with_fold file) refl h
   where
     by_first : (o : Option Fault) → All (λ name. files name ≡ others name) (wanted_on o (placed file)) →
@@ -82,7 +84,8 @@ only-wanted files others file h = by_fold (begins_with_fold file) refl h
     by_first None h =
         ap (λ known. decided_by known (placed file)) (with-agreed (zones_on (placed file)) files others (each_once (unknown_names (placed file))) h)
 
-    by_fold : (t : Bool) → begins_with_fold file ≡ t → All (λ name. files name ≡ others name) (cond t [] (wanted_on (first_fault (placed file)) (placed file))) →
+    by_fold : (t : Bool) → begins_with_fold file ≡ t →
+        All (λ name. files name ≡ others name) (cond t [] (wanted_on (first_fault (placed file)) (placed file))) →
         cond t (Err bad_fold) (decide (first_fault (placed file)) (later_fault files (placed file)) (said_of files (placed file)))
         ≡ cond t (Err bad_fold) (decide (first_fault (placed file)) (later_fault others (placed file)) (said_of others (placed file)))
     by_fold true e h = refl

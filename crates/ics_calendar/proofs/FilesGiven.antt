@@ -1,5 +1,6 @@
 -- Time zones with those of zone files: one name at a time, and what holds of them still.
-use Rattle.std.proofs.Common.{◌≡◌, ℕ, ◌+◌, ◌<◌, ◌≤◌, Bool, true, false, ◌&&◌, ◌||◌, List, [], ◌∷◌, ◌++◌, length, refl, sym, ap, ◌∙◌, arith, cond, Option, Some, None}
+use Rattle.std.proofs.Common.{◌≡◌, ℕ, ◌+◌, ◌<◌, ◌≤◌, Bool, true, false, ◌&&◌, ◌||◌, List, [], ◌∷◌, ◌++◌, length}
+use Rattle.std.proofs.Common.{refl, sym, ap, ◌∙◌, arith, cond, Option, Some, None}
 use Rattle.std.proofs.Common.{append_assoc, is_some, IfSome, subst}
 use Rattle.std.specs.Prelude.{not, get_or, ◌==◌}
 use Rattle.std.specs.Cmp.Lexicographic.{bytes_decides, nat_list_eq_equiv}
@@ -23,7 +24,8 @@ pub or-none : {X : Type 0} (o : Option X) → option_or o None ≡ o
 or-none None = refl
 or-none (Some i) = refl
 
-pub same-known : (a b : KnownZones) → ((used : ZoneName) → a.index used ≡ b.index used) → a.zones ≡ b.zones → ((name : List ℕ) → a.is_bad name ≡ b.is_bad name) →
+pub same-known : (a b : KnownZones) → ((used : ZoneName) → a.index used ≡ b.index used) → a.zones ≡ b.zones →
+    ((name : List ℕ) → a.is_bad name ≡ b.is_bad name) →
     a ≡ b
 same-known a b e f g =
     ap (λ (i : ZoneName → Option ℕ). record { index = i; zones = a.zones; is_bad = a.is_bad }) (fun_ext e)
@@ -32,7 +34,8 @@ same-known a b e f g =
 
 -- NO NAME, and one name before others.
 pub with-none : (known : KnownZones) (files : GivenFiles) → with_files known files [] ≡ known
-with-none known files = same-known (with_files known files []) known (λ used. or-none (known.index used)) (append-nil known.zones) (λ name. or-false (known.is_bad name))
+with-none known files =
+    same-known (with_files known files []) known (λ used. or-none (known.index used)) (append-nil known.zones) (λ name. or-false (known.is_bad name))
 
 module _ (known : KnownZones) (files : GivenFiles) (n : List ℕ) where
   abbrev zones_of_one : Option (Option TzifText) → List ZoneSaid
@@ -83,13 +86,15 @@ module _ (known : KnownZones) (files : GivenFiles) (n : List ℕ) where
       (λ name. bad-further (bytes_eq name) (known.is_bad name) (bad_names files rest) (files n))
 
 -- FILES THAT AGREE on the names give the same.
-agree-given : (files others : GivenFiles) (names : List (List ℕ)) → All (λ name. files name ≡ others name) names → given_names files names ≡ given_names others names
+agree-given : (files others : GivenFiles) (names : List (List ℕ)) → All (λ name. files name ≡ others name) names →
+    given_names files names ≡ given_names others names
 agree-given files others [] h = refl
 agree-given files others (n ∷ ns) h =
     ap (λ o. cond (is_some (zone_in o)) (n ∷ given_names files ns) (given_names files ns)) (All-head (λ name. files name ≡ others name) n ns h)
     ∙ ap (λ ms. cond (is_some (zone_in (others n))) (n ∷ ms) ms) (agree-given files others ns (All-tail (λ name. files name ≡ others name) n ns h))
 
-agree-zones : (files others : GivenFiles) (names : List (List ℕ)) → All (λ name. files name ≡ others name) names → given_zones files names ≡ given_zones others names
+agree-zones : (files others : GivenFiles) (names : List (List ℕ)) → All (λ name. files name ≡ others name) names →
+    given_zones files names ≡ given_zones others names
 agree-zones files others [] h = refl
 agree-zones files others (n ∷ ns) h =
     ap (λ o. cons_option (zone_in o) (given_zones files ns)) (All-head (λ name. files name ≡ others name) n ns h)
@@ -123,7 +128,8 @@ bounds p n (x ∷ xs) = by_test (p x) (position_from p (n + 1) xs) (bounds p (n 
     later (Some i) h = (omega (arith, h.0), omega (arith, h.1))
     later None h = tt
 
-    by_test : (t : Bool) (o : Option ℕ) → IfSome o (λ i. (n + 1 ≤ i) × (i < n + 1 + length xs)) → IfSome (cond t (Some n) o) (λ i. (n ≤ i) × (i < n + length (x ∷ xs)))
+    by_test : (t : Bool) (o : Option ℕ) → IfSome o (λ i. (n + 1 ≤ i) × (i < n + 1 + length xs)) →
+        IfSome (cond t (Some n) o) (λ i. (n ≤ i) × (i < n + length (x ∷ xs)))
     by_test true o h = (omega arith, omega arith)
     by_test false o h = later o h
 
@@ -134,8 +140,9 @@ single-at : (a b : List ℕ) (n : ℕ) (xs : List (List ℕ)) (i : ℕ) → posi
 single-at a b n [] i e f = cc
 single-at a b n (x ∷ xs) i e f = by_tests (single-at a b (n + 1) xs i) (bytes_eq a x) (bytes_eq b x) refl refl e f
   where
-    by_tests : (position_from (bytes_eq a) (n + 1) xs ≡ Some i → position_from (bytes_eq b) (n + 1) xs ≡ Some i → a ≡ b) → (s t : Bool) → bytes_eq a x ≡ s → bytes_eq b x ≡ t → cond s (Some n) (position_from (bytes_eq a) (n + 1) xs) ≡ Some i →
-        cond t (Some n) (position_from (bytes_eq b) (n + 1) xs) ≡ Some i → a ≡ b
+    by_tests : (position_from (bytes_eq a) (n + 1) xs ≡ Some i → position_from (bytes_eq b) (n + 1) xs ≡ Some i → a ≡ b) →
+        (s t : Bool) → bytes_eq a x ≡ s → bytes_eq b x ≡ t
+        → cond s (Some n) (position_from (bytes_eq a) (n + 1) xs) ≡ Some i → cond t (Some n) (position_from (bytes_eq b) (n + 1) xs) ≡ Some i → a ≡ b
     by_tests again true true s t e f = (bytes_decides a x).0 s ∙ sym ((bytes_decides b x).0 t)
     by_tests again true false s t e f = let same : n ≡ i = cc in let h = bound-at (bytes_eq b) (n + 1) xs i f in absurd (omega (arith, same, h.0))
     by_tests again false true s t e f = let same : n ≡ i = cc in let h = bound-at (bytes_eq a) (n + 1) xs i e in absurd (omega (arith, same, h.0))
@@ -245,7 +252,8 @@ file-new files name bytes other h =
     by_old None e = refl
     by_old (Some o) e = cc
 
-    by_test : (t : Bool) → bytes_eq other name ≡ t → cond t (Some (zone_file bytes)) (files other) ≡ option_or (files other) (cond t (Some (zone_file bytes)) None)
+    by_test : (t : Bool) → bytes_eq other name ≡ t →
+        cond t (Some (zone_file bytes)) (files other) ≡ option_or (files other) (cond t (Some (zone_file bytes)) None)
     by_test true e = by_old (files other) (ap (λ n. is_some (files n)) ((bytes_decides other name).0 e) ∙ h)
     by_test false e = sym (or-none (files other))
 

@@ -36,4 +36,5 @@ first-before round before xs ys fault h = record {
 pub look-back : FaultsLookBack
 look-back files file longer more fault e f h =
     let split : placed longer ≡ placed file ++ behind [] (unfolded file) more = ap (placed_from []) e ∙ placed-split [] (unfolded file) more in
-    inr (f, inl (inl (subst (λ (ls : List Placed). IsFirst stands [] ls fault) (sym split) (first-before stands [] (placed file) (behind [] (unfolded file) more) fault h))))
+    let first = first-before stands [] (placed file) (behind [] (unfolded file) more) fault h in
+    inr (f, inl (inl (subst (λ (ls : List Placed). IsFirst stands [] ls fault) (sym split) first)))

@@ -9,7 +9,8 @@ use Rattle.ics_calendar.specs.declared.fault.FaultKind.{FaultKind}
 use Rattle.ics_calendar.specs.declared.fault.FaultKind.TheVariants.{BadNesting}
 use Rattle.ics_calendar.specs.declared.name.Name.TheVariants as name
 use Rattle.ics_calendar.specs.Names.{name_of}
-use Rattle.ics_calendar.specs.PlacedLines.{Placed, Open, property_name, context_of, is_begin, is_end, is_closing, component, path_behind, placed_from, innermost}
+use Rattle.ics_calendar.specs.PlacedLines.{Placed, Open, property_name, context_of, is_begin, is_end, is_closing, component}
+use Rattle.ics_calendar.specs.PlacedLines.{path_behind, placed_from, innermost}
 use Rattle.ics_calendar.specs.PlacedLines.{lines_in, beside, closes}
 use Rattle.ics_calendar.specs.Faults.{stands, kinds}
 use Rattle.ics_calendar.specs.FirstFault.{Fault, found, least_on, first_from, fault_at_end, end_fault, no_open}

@@ -29,7 +29,8 @@ use Rattle.ics_calendar.proofs.Order.{found-none}
 pub moment-here : (zones : List ZoneKind) (local : Local) (i : ℕ) (d : ZoneKind) → i < length zones →
     moment_at (map zone_said zones) local i ≡ Some (said_moment (zone_said (get_or zones i d)) (local_seconds local))
 moment-here zones local i d l =
-    ap (option_map (λ zone. said_moment zone (local_seconds local))) (slice_get-map zone_said zones i ∙ ap (option_map zone_said) (slice_get-get_or zones i d l))
+    ap (option_map (λ zone. said_moment zone (local_seconds local)))
+    (slice_get-map zone_said zones i ∙ ap (option_map zone_said) (slice_get-get_or zones i d l))
 
 -- THE DEFERRED CHECKS, where none finds a fault.
 none-judged : (known : KnownZones) (ws : List LineCheck) → first_judged known ws ≡ None → AllByRecursion (λ w. judged known w.check ≡ None) ws

@@ -18,7 +18,8 @@ use Rattle.ics_calendar.specs.declared.name.Name.{Name}
 use Rattle.ics_calendar.specs.declared.name.Name.TheVariants as name
 use Rattle.ics_calendar.specs.Components.{component_of, component_name, is_outside_context, is_zone_context}
 use Rattle.ics_calendar.specs.Names.{name_of}
-use Rattle.ics_calendar.specs.PlacedLines.{Placed, Open, context_of, value, closes, begins_observance, calendar_of, lines_in, has, has_all, is_named, first_named}
+use Rattle.ics_calendar.specs.PlacedLines.{Placed, Open, context_of, value, closes, begins_observance, calendar_of}
+use Rattle.ics_calendar.specs.PlacedLines.{lines_in, has, has_all, is_named, first_named}
 use Rattle.ics_calendar.specs.PlacedLines.{first_of, all_named}
 use Rattle.ics_calendar.specs.Values.{ok_or_zero, is_filled, ends_badly}
 use Rattle.ics_calendar.specs.Faults.{dated_on, duration_on, parts_on, first_text, first_dated, field_names, stands, kinds}

@@ -89,7 +89,8 @@ decided files file b None (Some f) e g =
     let none = finds-none stands fault_at_end [] (placed file) e in
     inr (b, inr (none.0, none.1, on_line (finds (stands_later (zones_with files (placed file))) none_later [] (placed file) f g)))
   where
-    on_line : Finds (stands_later (zones_with files (placed file))) none_later [] (placed file) f → IsFirst (stands_later (zones_with files (placed file))) [] (placed file) f
+    on_line : Finds (stands_later (zones_with files (placed file))) none_later [] (placed file) f →
+        IsFirst (stands_later (zones_with files (placed file))) [] (placed file) f
     on_line (inl r) = r
     on_line (inr r) = let n : None ≡ Some f = r.1 in cc
 decided files file b None None e g =
@@ -123,7 +124,8 @@ file-is files file (Err f) (inl h) =
 file-is files file (Err f) (inr h) = by_round h.1
   where
     by_round : IsFirstOrLast (placed file) f
-        ⊎ (NoneStand stands [] (placed file) × (fault_at_end (placed file) ≡ None) × IsFirst (stands_later (zones_with files (placed file))) [] (placed file) f) →
+        ⊎ (NoneStand stands [] (placed file) × (fault_at_end (placed file) ≡ None)
+        × IsFirst (stands_later (zones_with files (placed file))) [] (placed file) f) →
         file_of files file ≡ Err f
     by_round (inl r) = whole-is files file (Some f) (later_fault files (placed file)) h.0 (first-is file f r) refl
     by_round (inr r) =

@@ -92,7 +92,8 @@ zones-are whole = record {
 pub zones-begun : (whole ls : List Placed) → map (λ z. ZoneSaid.ByObservances z.observances) (begun (zones whole) whole ls)
     ≡ map (λ l. ZoneSaid.ByObservances (zone_by whole l.number)) (filter begins_zone ls)
 zones-begun whole ls =
-    map-map (λ (z : EndedZone). ZoneSaid.ByObservances z.observances) (λ (l : Placed). (zones whole).by (inside l) (lines_in l.number whole)) (filter begins_zone ls)
+    map-map (λ (z : EndedZone). ZoneSaid.ByObservances z.observances) (λ (l : Placed). (zones whole).by (inside l) (lines_in l.number whole))
+    (filter begins_zone ls)
 
 -- what begins directly in a calendar belongs to that
 pub calendar-inside : (l : Placed) → is_calendar_context (context_of l.path) ≡ true → calendar_of (inside l) ≡ calendar_of l.path

@@ -33,7 +33,8 @@ froms = map (λ zone. map (λ (p : ObservanceSaid). p.offset_from) (observances_
 offsets : froms ≡ (negsuc 14_399 ∷ negsuc 10_799 ∷ []) ∷ (pos 3_600 ∷ []) ∷ (pos 7_200 ∷ []) ∷ (pos 10_800 ∷ []) ∷ []
 offsets = refl
 
-dates : map (λ zone. map (λ (p : ObservanceSaid). length p.rdates) (observances_in zone)) (zones_of (placed file)) ≡ (3 ∷ 0 ∷ []) ∷ (0 ∷ []) ∷ (0 ∷ []) ∷ (0 ∷ []) ∷ []
+dates : map (λ zone. map (λ (p : ObservanceSaid). length p.rdates) (observances_in zone)) (zones_of (placed file))
+    ≡ (3 ∷ 0 ∷ []) ∷ (0 ∷ []) ∷ (0 ∷ []) ∷ (0 ∷ []) ∷ []
 dates = refl
 
 first_a : zone_index (zone_names (placed file)) (record { calendar = 1; name = codes "A" }) ≡ Some 0

@@ -1,5 +1,6 @@
 -- The checks of the second round, when all time zones of the file are known (RFC 5545, section 3.8.2.4).
-use Rattle.std.specs.Prelude.{ℕ, Bool, false, ◌&&◌, ◌||◌, not, ◌==◌, List, [], slice_get, unwrap_or, Option, Some, None, is_some, option_map, ℤ, ◌++◌, if◌then◌else◌}
+use Rattle.std.specs.Prelude.{ℕ, Bool, false, ◌&&◌, ◌||◌, not, ◌==◌, List, [], slice_get, unwrap_or, Option, Some, None, is_some, option_map, ℤ, ◌++◌}
+use Rattle.std.specs.Prelude.{if◌then◌else◌}
 use Rattle.std.specs.Prelude.{length}
 use Rattle.std.specs.List.{position, position_from, list_any}
 use Rattle.std.specs.Option.{option_and_then, option_or}

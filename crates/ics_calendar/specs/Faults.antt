@@ -1,6 +1,6 @@
 -- WHICH FAULT STANDS ON WHICH LINE: one case for each kind (RFC 5545, sections 3.1, 3.4, 3.6.1, 3.6.5 and 3.8).
-use Rattle.std.specs.Prelude.{ℕ, Bool, false, ◌&&◌, ◌||◌, not, nat_le, List, [], ◌∷◌, map, length, codes, Option, is_some, is_none, option_map, unwrap_or, Result}
-use Rattle.std.specs.Prelude.{if◌then◌else◌}
+use Rattle.std.specs.Prelude.{ℕ, Bool, false, ◌&&◌, ◌||◌, not, nat_le, List, [], ◌∷◌, map, length, codes, Option, is_some, is_none, option_map, unwrap_or}
+use Rattle.std.specs.Prelude.{Result, if◌then◌else◌}
 use Rattle.std.specs.List.{list_any}
 use Rattle.std.specs.Str.{bytes_eq}
 use Rattle.ics_values.specs.Integers.{integer_of}

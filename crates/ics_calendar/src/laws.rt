@@ -31,7 +31,8 @@ pub fn without_zone_files()
 
 /// A file is one thing with all zone files that agree on the names that it wants.
 pub fn only_wanted_files_count()
-    ensures { (files others : GivenFiles) (file : List ℕ) → All (λ name. files name ≡ others name) (wanted_names file) → file_of files file ≡ file_of others file }
+    ensures { (files others : GivenFiles) (file : List ℕ) → All (λ name. files name ≡ others name) (wanted_names file)
+        → file_of files file ≡ file_of others file }
 {}
 
 /// If `ics_values::read_period` and a file accept a text as the value of an RDATE, they read the same

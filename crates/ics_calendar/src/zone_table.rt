@@ -95,7 +95,8 @@ impl ZoneTable {
     /// These zones, where no fault stands on their lines. Of several with one name the first counts.
     pub fn new(alloc: Global, zones: Vec<EndedZone>) -> Result<ZoneTable, AllocError>
         requires { All (λ z. IsSoundZone z.observances) zones.items }
-        ensures { IfOk result (λ table. known_by table ≡ known_zones (map (λ z. z.name) zones.items) (map (λ z. ZoneSaid.ByObservances z.observances) zones.items)) }
+        ensures { IfOk result (λ table. known_by table
+            ≡ known_zones (map (λ z. z.name) zones.items) (map (λ z. ZoneSaid.ByObservances z.observances) zones.items)) }
     {
         let (names, made) = names_and_zones(alloc, zones)?;
         let places = places_of(alloc, names)?;
