@@ -33,7 +33,8 @@ use Rattle.ics_calendar.specs.Event.{is_zoned}
 use Rattle.ics_values.specs.Locals.{local_seconds}
 use Rattle.ics_calendar.specs.Gathered.{IsSoundInstant, IsSoundCheck, checks_of, events_of_end}
 use Rattle.ics_calendar.specs.DeferredChecks.{zone_used, are_of_one_zone}
-use Rattle.ics_calendar.specs.Lines.{or_first, used_zone, used_in, listed_zone, instant_on, instant_in, both_compared, ends_in, opened}
+use Rattle.ics_calendar.specs.Lines.{or_first, opened}
+use Rattle.ics_calendar.specs.SecondRound.{used_zone, used_in, listed_zone, instant_on, instant_in, both_compared, ends_in}
 use Rattle.ics_calendar.specs.Ready.{EachZone, end_of}
 use Rattle.ics_calendar.specs.Times.{dated_in, given_length}
 use Rattle.ics_calendar.specs.Sound.{IsSoundStamp}

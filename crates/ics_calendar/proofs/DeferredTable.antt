@@ -33,7 +33,7 @@ use Rattle.ics_calendar.specs.Values.{dated_of, is_out}
 use Rattle.ics_calendar.specs.Faults.{stamp_names, is_in_unknown_zone, stands_later, kinds, tzid_on}
 use Rattle.ics_calendar.specs.DeferredChecks.{KnownZones, are_out, zone_used, moment_on, moment_in, are_of_one_zone, ends_badly_later, moment_of, judged}
 use Rattle.ics_calendar.specs.DeferredChecks.{unknown_in}
-use Rattle.ics_calendar.specs.Lines.{instant_on, instant_in, both_compared, ends_in}
+use Rattle.ics_calendar.specs.SecondRound.{instant_on, instant_in, both_compared, ends_in}
 use Rattle.ics_calendar.proofs.Judged.{check_in}
 use Rattle.ics_calendar.proofs.Ended.{IsMatched}
 use Rattle.ics_calendar.proofs.NameLemmas.{Tells, tells}

@@ -22,11 +22,11 @@ use Rattle.ics_calendar.specs.declared.deferred_check.DeferredCheck.TheVariants 
 use Rattle.ics_calendar.specs.declared.deferred_check.ZoneName.{ZoneName}
 use Rattle.ics_calendar.specs.Event.{is_zoned, IsTime, longest, IsWithin, IsEnd, IsLasting, IsLength, IsRdate, IsEvent}
 use Rattle.ics_values.specs.Locals.{local_seconds}
-use Rattle.ics_calendar.specs.Builders.{event_of}
+use Rattle.ics_calendar.specs.Gathered.{event_of}
 use Rattle.ics_calendar.specs.DateLists.{zone_listed, rdate_in, exdate_in}
 use Rattle.ics_calendar.specs.DateValues.{has_zoned}
 use Rattle.ics_calendar.specs.DeferredChecks.{KnownZones, zone_used, judged}
-use Rattle.ics_calendar.specs.Lines.{used_zone, used_in, listed_zone, instant_on, both_compared, ends_in}
+use Rattle.ics_calendar.specs.SecondRound.{used_zone, used_in, listed_zone, instant_on, both_compared, ends_in}
 use Rattle.ics_calendar.specs.Ready.{IsReady, end_of}
 use Rattle.ics_calendar.specs.Sound.{IsSoundStamp, IsSoundLength, IsSoundValue, IsSoundList}
 use Rattle.ics_calendar.specs.Times.{time_in, time_on, length_of}

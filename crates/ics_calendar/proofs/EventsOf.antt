@@ -28,11 +28,11 @@ use Rattle.ics_calendar.specs.declared.time.Time.{Time}
 use Rattle.ics_calendar.specs.Event.{is_zoned, IsWithin, EndsBelow, RdateBelow, TimeBelow, EndsWithin, IsEventOf, AreEventsOf, compared}
 use Rattle.ics_values.specs.Locals.{local_seconds}
 use Rattle.ics_calendar.specs.Event.{is_one_zone, moment_in}
-use Rattle.ics_calendar.specs.Builders.{event_of}
+use Rattle.ics_calendar.specs.Gathered.{event_of}
 use Rattle.ics_calendar.specs.DateLists.{zone_listed, rdate_in, first_stamp, exdate_in}
 use Rattle.ics_calendar.specs.DeferredChecks.{KnownZones, zone_used, moment_at, moment_there, are_out}
 use Rattle.ics_calendar.specs.DraftsSound.{IsTable}
-use Rattle.ics_calendar.specs.Lines.{used_zone, used_in, ends_in}
+use Rattle.ics_calendar.specs.SecondRound.{used_zone, used_in, ends_in}
 use Rattle.ics_calendar.specs.Ready.{IsReady, end_of}
 use Rattle.ics_calendar.specs.Sound.{IsSoundLength}
 use Rattle.ics_calendar.specs.Times.{time_on, length_of}

@@ -32,7 +32,8 @@ use Rattle.ics_calendar.specs.Components.{component_of, component_name}
 use Rattle.ics_calendar.specs.DateLists.{rdate_list, exdate_list}
 use Rattle.ics_calendar.specs.DateValues.{rdates_of, exdates_of, is_not_local}
 use Rattle.ics_calendar.specs.Lines.{unless, and_then, once, or_first, first, fault_if, stamp_fault_of, duration_fault_of, rule_fault_of, offset_fault_of}
-use Rattle.ics_calendar.specs.Lines.{number_fault_of, dates_fault, used_zone, listed_zone, ends_in, event_line, zone_line, observance_line, plain_fault}
+use Rattle.ics_calendar.specs.Lines.{number_fault_of, dates_fault, event_line, zone_line, observance_line, plain_fault}
+use Rattle.ics_calendar.specs.SecondRound.{used_zone, listed_zone, ends_in}
 use Rattle.ics_calendar.specs.Lines.{builder_line, end_of_event, end_of_zone, end_of_observance, passed, builder_end, frame_end, with_observance, opened}
 use Rattle.ics_calendar.specs.Lines.{outside_fault, named_line}
 use Rattle.ics_calendar.specs.Values.{zone_name, stamp_read, dated_of, lasting_of, duration_in, rule_in, ok_or_zero, is_cancelled, is_fine_rule}

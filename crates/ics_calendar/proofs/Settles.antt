@@ -13,7 +13,7 @@ use Rattle.ics_calendar.specs.declared.gathered.EndedZone.{EndedZone}
 use Rattle.ics_calendar.specs.declared.gathered.LineCheck.{LineCheck}
 use Rattle.ics_calendar.specs.declared.deferred_check.DeferredCheck.{DeferredCheck}
 use Rattle.ics_calendar.specs.declared.deferred_check.ZoneName.{ZoneName}
-use Rattle.ics_calendar.specs.Builders.{event_of}
+use Rattle.ics_calendar.specs.Gathered.{event_of}
 use Rattle.ics_calendar.specs.Components.{is_calendar_context}
 use Rattle.ics_calendar.specs.Event.{EventSeen}
 use Rattle.ics_calendar.specs.Faults.{stands, stands_later, is_in_unknown_zone, kinds, tzid_on}

@@ -10,7 +10,7 @@ use Rattle.ics_zone.specs.declared.zone.ZoneKind.{ZoneKind}
 use Rattle.ics_values.specs.declared.local.Local.{Local}
 use Rattle.ics_calendar.specs.declared.gathered.LineCheck.{LineCheck}
 use Rattle.ics_calendar.specs.declared.deferred_check.DeferredCheck.{DeferredCheck}
-use Rattle.ics_calendar.specs.Builders.{event_of}
+use Rattle.ics_calendar.specs.Gathered.{event_of}
 use Rattle.ics_calendar.specs.Event.{AreEventsOf}
 use Rattle.ics_values.specs.Locals.{local_seconds}
 use Rattle.ics_calendar.specs.Gathered.{known_in, first_judged, IsSoundGathered}

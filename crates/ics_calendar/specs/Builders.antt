@@ -1,5 +1,6 @@
--- What has been read of an event, of a time zone and of an observance, and what each is at its END.
-use Rattle.std.specs.Prelude.{ℕ, false, [], Option, None, option_map, unwrap_or, pos}
+-- What the reader has of an event, of a time zone and of an observance, and what each is at its END.
+-- These are the words of the code alone. No public contract cites them.
+use Rattle.std.specs.Prelude.{ℕ, false, [], None, unwrap_or, pos}
 use Rattle.ics_values.specs.Locals.{local_at}
 use Rattle.ics_zone.specs.Observances.{ObservanceSaid}
 use Rattle.ics_calendar.specs.declared.builder.Builder.{Builder}
@@ -8,13 +9,10 @@ use Rattle.ics_calendar.specs.declared.builder.ObservanceBuilder.{ObservanceBuil
 use Rattle.ics_calendar.specs.declared.builder.ZoneBuilder.{ZoneBuilder}
 use Rattle.ics_calendar.specs.declared.component.Context.{Context}
 use Rattle.ics_calendar.specs.declared.component.Context.TheVariants as context
-use Rattle.ics_calendar.specs.declared.deferred_check.ZoneName.{ZoneName}
 use Rattle.ics_calendar.specs.declared.event_builder.EventBuilder.{EventBuilder}
 use Rattle.ics_calendar.specs.declared.gathered.EndedEvent.{EndedEvent}
 use Rattle.ics_calendar.specs.declared.gathered.EndedZone.{EndedZone}
-use Rattle.ics_calendar.specs.DateLists.{rdates_by, exdates_by}
-use Rattle.ics_calendar.specs.Event.{EventSeen}
-use Rattle.ics_calendar.specs.Times.{time_on, dated_in, given_length, length_of}
+use Rattle.ics_calendar.specs.Times.{dated_in, given_length}
 
 abbrev pub nothing : EventBuilder
 nothing =
@@ -50,23 +48,6 @@ event_ended calendar had = record {
   location = unwrap_or had.location [];
   description = unwrap_or had.description [];
   cancelled = unwrap_or had.cancelled false;
-}
-
--- the event, given the index of the zone that a name stands for
-abbrev pub event_of : (ZoneName → Option ℕ) → EndedEvent → EventSeen
-event_of index event = record {
-  uid = event.uid;
-  sequence = event.sequence;
-  start = time_on index event.calendar event.start;
-  length = length_of index event.calendar event.length;
-  rule = event.rule;
-  rdates = rdates_by index event.calendar event.rdates;
-  exdates = exdates_by index event.calendar event.exdates;
-  recurrence = option_map (time_on index event.calendar) event.recurrence;
-  title = event.title;
-  location = event.location;
-  description = event.description;
-  cancelled = event.cancelled;
 }
 
 abbrev pub nothing_zone : ZoneBuilder

@@ -14,7 +14,6 @@ use Rattle.ics_calendar.specs.declared.gathered.EndedZone.{EndedZone}
 use Rattle.ics_calendar.specs.declared.gathered.LineCheck.{LineCheck}
 use Rattle.ics_calendar.specs.declared.gathered.Passed.{Passed}
 use Rattle.ics_calendar.specs.GatheredSeen.{GatheredSeen}
-use Rattle.ics_calendar.specs.Builders.{event_of}
 use Rattle.ics_calendar.specs.Event.{FileSaid}
 use Rattle.ics_calendar.specs.Files.{DraftSaid, decide}
 use Rattle.ics_calendar.specs.FirstFault.{Fault, found}
@@ -24,6 +23,10 @@ use Rattle.ics_calendar.specs.Ready.{EachZone}
 use Rattle.ics_calendar.specs.Sound.{IsWhole}
 use Rattle.ics_calendar.specs.Wanted.{each_once}
 use Rattle.ics_calendar.specs.ZonesSound.{IsSoundZone}
+use Rattle.ics_calendar.specs.DateLists.{rdates_by, exdates_by}
+use Rattle.ics_calendar.specs.Event.{EventSeen}
+use Rattle.ics_calendar.specs.Times.{time_on, length_of}
+use Rattle.std.specs.Prelude.{option_map}
 
 abbrev pub nothing_gathered : GatheredSeen
 nothing_gathered = record { zones = []; events = []; checks = [] }
@@ -57,6 +60,23 @@ known_in g = known_zones (map (λ z. z.name) g.zones) (map (λ z. ZoneSaid.ByObs
 abbrev pub first_judged : KnownZones → List LineCheck → Option Fault
 first_judged known [] = None
 first_judged known (w ∷ ws) = found w.line (judged known w.check) (first_judged known ws)
+
+-- the event, given the index of the zone that a name stands for
+abbrev pub event_of : (ZoneName → Option ℕ) → EndedEvent → EventSeen
+event_of index event = record {
+  uid = event.uid;
+  sequence = event.sequence;
+  start = time_on index event.calendar event.start;
+  length = length_of index event.calendar event.length;
+  rule = event.rule;
+  rdates = rdates_by index event.calendar event.rdates;
+  exdates = exdates_by index event.calendar event.exdates;
+  recurrence = option_map (time_on index event.calendar) event.recurrence;
+  title = event.title;
+  location = event.location;
+  description = event.description;
+  cancelled = event.cancelled;
+}
 
 -- WHAT THE FILE IS, where the first round finds nothing.
 abbrev pub said_of_gathered : KnownZones → GatheredSeen → FileSaid

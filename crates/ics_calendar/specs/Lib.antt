@@ -16,6 +16,7 @@ pub mod Times
 pub mod DeferredChecks
 pub mod Zones
 pub mod ZonesSound
+pub mod SecondRound
 pub mod Lines
 pub mod Progresses
 pub mod Sound

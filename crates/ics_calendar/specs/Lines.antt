@@ -1,4 +1,5 @@
--- What a line makes of the components that are open, or the fault on it, which is the least that stands there.
+-- What the reader makes of a line: what it has of the components that are open, or the fault on it, which is the least that stands there.
+-- These are the words of the code alone. No public contract cites them: what a file is stands in Faults and Files, and the proofs show that they agree.
 use Rattle.std.specs.Prelude.{ℕ, Bool, false, ◌&&◌, ◌||◌, not, ◌==◌, nat_le, List, [], ◌∷◌, ◌++◌, length, map, filter_map, codes, Option, Some, None, is_some}
 use Rattle.std.specs.Prelude.{Result, Ok, Err, ℤ, ◌≡◌, if◌then◌else◌}
 use Rattle.std.specs.List.{list_any}
@@ -21,7 +22,6 @@ use Rattle.ics_values.specs.declared.offset.BadOffset.{BadOffset}
 use Rattle.ics_values.specs.declared.rule_text.RuleFault.{RuleFault}
 use Rattle.ics_values.specs.declared.rule_text.RuleFault.TheVariants as rule
 use Rattle.ics_values.specs.declared.stamp.Stamp.{Stamp}
-use Rattle.ics_values.specs.declared.stamp.Stamp.TheVariants as stamp
 use Rattle.ics_values.specs.declared.stamp.StampFault.{StampFault}
 use Rattle.ics_values.specs.declared.stamp.StampFault.TheVariants as stamp_fault
 use Rattle.ics_zone.specs.Observances.{ObservanceSaid}
@@ -42,11 +42,7 @@ use Rattle.ics_calendar.specs.declared.gathered.Ended.TheVariants as ended
 use Rattle.ics_calendar.specs.declared.gathered.EndedEvent.{EndedEvent}
 use Rattle.ics_calendar.specs.declared.gathered.EndedZone.{EndedZone}
 use Rattle.ics_calendar.specs.declared.gathered.Passed.{Passed}
-use Rattle.ics_calendar.specs.declared.deferred_check.Instant.{Instant}
-use Rattle.ics_calendar.specs.declared.deferred_check.Instant.TheVariants as instant
 use Rattle.ics_calendar.specs.declared.deferred_check.DeferredCheck.{DeferredCheck}
-use Rattle.ics_calendar.specs.declared.deferred_check.DeferredCheck.TheVariants as check
-use Rattle.ics_calendar.specs.declared.deferred_check.ZoneName.{ZoneName}
 use Rattle.ics_calendar.specs.declared.name.Name.{Name}
 use Rattle.ics_calendar.specs.declared.name.Name.TheVariants as name
 use Rattle.ics_calendar.specs.declared.refused.Refused.{Refused}
@@ -57,15 +53,13 @@ use Rattle.ics_calendar.specs.declared.builder.Builder.TheVariants as builder
 use Rattle.ics_calendar.specs.declared.builder.ZoneBuilder.{ZoneBuilder}
 use Rattle.ics_calendar.specs.Builders.{event_ended, fresh, zone_ended, observance_ended}
 use Rattle.ics_calendar.specs.Components.{component_of, component_name, context_in}
-use Rattle.ics_calendar.specs.DateLists.{zone_listed, rdate_list, exdate_list}
-use Rattle.ics_calendar.specs.DateValues.{rdates_of, exdates_of, has_bad_stamp, has_far_stamp, has_bad_duration, has_large_duration, has_zoned, is_not_local}
-use Rattle.ics_calendar.specs.Event.{is_zoned}
-use Rattle.ics_values.specs.Locals.{local_seconds}
-use Rattle.ics_calendar.specs.DeferredChecks.{zone_used, are_of_one_zone}
+use Rattle.ics_calendar.specs.DateLists.{rdate_list, exdate_list}
+use Rattle.ics_calendar.specs.DateValues.{rdates_of, exdates_of, has_bad_stamp, has_far_stamp, has_bad_duration, has_large_duration, is_not_local}
 use Rattle.ics_calendar.specs.Names.{name_of}
 use Rattle.ics_calendar.specs.Values.{zone_name, stamp_read, dated_of, lasting_of, duration_in, rule_in, ok_or_zero, is_cancelled, is_fine_rule, is_filled}
-use Rattle.ics_calendar.specs.Values.{is_out, ends_badly}
+use Rattle.ics_calendar.specs.Values.{ends_badly}
 use Rattle.ics_calendar.specs.Zones.{local_in, onset_in, offset_in, daily_in}
+use Rattle.ics_calendar.specs.SecondRound.{used_zone, listed_zone, ends_in}
 
 -- WHAT A FUNCTION ANSWERS: what is said, or its fault; nothing is said where memory is refused.
 abbrev pub Gives : {X : Type 0} → Result X Refused → Result X FaultKind → Type 0
@@ -187,39 +181,6 @@ abbrev pub onsets_said : List ℕ → Result (List Local) FaultKind
 onsets_said text =
     unless (first (dates_fault (rdates_of false text)) (fault_if kind.ObservanceField (list_any is_not_local (rdates_of false text))))
     (filter_map local_in (rdates_of false text))
-
--- WHAT THE SECOND ROUND LOOKS AT: the time zones of stamps, and an end against its start.
-abbrev pub used_zone : ℕ → Dated → Option DeferredCheck
-used_zone calendar dated = if is_zoned dated.stamp then Some (check.Zone (zone_used calendar dated)) else None
-
-abbrev pub listed_zone : ℕ → DateList → Option DeferredCheck
-listed_zone calendar list = if list_any has_zoned list.values then Some (check.Zone (zone_listed calendar list)) else None
-
-abbrev pub used_in : ℕ → Option Dated → Option DeferredCheck
-used_in calendar None = None
-used_in calendar (Some dated) = used_zone calendar dated
-
--- a stamp that is an instant: one in UTC, or in a time zone
-abbrev pub instant_on : ZoneName → Stamp → Option Instant
-instant_on name (stamp.Utc local) = Some (instant.Utc local)
-instant_on name (stamp.Zoned local) = Some (instant.Zoned local name)
-instant_on name _ = None
-
-abbrev pub instant_in : ℕ → Dated → Option Instant
-instant_in calendar dated = instant_on (zone_used calendar dated) dated.stamp
-
--- Times of UTC compare at once, and other instants when the zones are known.
-abbrev pub compared : Instant → Instant → Option DeferredCheck
-compared (instant.Utc a) (instant.Utc b) = if is_out (local_seconds a) (local_seconds b) then Some check.End else None
-compared a b = Some (check.Ends a b)
-
-abbrev pub both_compared : Option Instant → Option Instant → Option DeferredCheck
-both_compared (Some a) (Some b) = compared a b
-both_compared _ _ = None
-
-abbrev pub ends_in : ℕ → Option Dated → Option Dated → Option DeferredCheck
-ends_in calendar (Some start) (Some end) = if are_of_one_zone start end then None else both_compared (instant_in calendar start) (instant_in calendar end)
-ends_in calendar _ _ = None
 
 -- A LINE OF AN EVENT in a calendar: what is collected with it, and its check in the second round.
 abbrev pub with_dated : ℕ → Parts → Option Dated → (Dated → EventBuilder) → Result (EventBuilder × Option DeferredCheck) FaultKind

@@ -1,4 +1,5 @@
 -- The names of the properties that a file is read for (RFC 5545, section 3.8).
+-- These are the words of the code alone. No public contract cites them.
 use Rattle.std.specs.Prelude.{ℕ, List, codes, if◌then◌else◌}
 use Rattle.std.specs.Str.{bytes_eq}
 use Rattle.ics_calendar.specs.declared.name.Name.{Name}

@@ -1,4 +1,5 @@
 -- What the pass has read behind a line, by what it had before.
+-- These are the words of the code alone. No public contract cites them.
 use Rattle.std.specs.Prelude.{◌≡◌, ℕ, List, Result, Ok, Err}
 use Rattle.ics_calendar.specs.declared.fault.FaultKind.{FaultKind}
 use Rattle.ics_calendar.specs.declared.frame.Frame.{Frame}

@@ -7,7 +7,7 @@ use Rattle.ics_calendar.specs.declared.gathered.GivenLength.{GivenLength}
 use Rattle.ics_calendar.specs.declared.gathered.GivenLength.TheVariants as given
 use Rattle.ics_calendar.specs.declared.deferred_check.DeferredCheck.{DeferredCheck}
 use Rattle.ics_calendar.specs.DeferredChecks.{KnownZones, judged}
-use Rattle.ics_calendar.specs.Lines.{used_zone, used_in, listed_zone, ends_in}
+use Rattle.ics_calendar.specs.SecondRound.{used_zone, used_in, listed_zone, ends_in}
 use Rattle.ics_calendar.specs.Sound.{IsWhole}
 
 -- the DTEND of an event that has ended, if it has one

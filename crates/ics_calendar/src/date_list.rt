@@ -3,7 +3,8 @@ ghost use Rattle.std.specs.Prelude.{◌≡◌, ◌++◌, ◌∷◌, [], map, IfO
 ghost use Rattle.std.specs.List.{list_any};
 ghost use Rattle.ics_calendar.specs.DateLists.{rdate_in, exdate_in, rdates_by, exdates_by};
 ghost use Rattle.ics_calendar.specs.DateValues.{has_zoned};
-ghost use Rattle.ics_calendar.specs.Lines.{Gives, rdates_said, exdates_said, listed_zone};
+ghost use Rattle.ics_calendar.specs.Lines.{Gives, rdates_said, exdates_said};
+ghost use Rattle.ics_calendar.specs.SecondRound.{listed_zone};
 ghost use Rattle.ics_calendar.specs.ZoneTables.{known_by};
 
 use crate::date_values::DateValues;

@@ -1,6 +1,7 @@
 ghost use Rattle.std.specs.Prelude.{◌≡◌, IfOk};
 ghost use Rattle.ics_calendar.specs.Event.{is_zoned};
-ghost use Rattle.ics_calendar.specs.Lines.{Gives, dated_said, used_zone, instant_in};
+ghost use Rattle.ics_calendar.specs.Lines.{Gives, dated_said};
+ghost use Rattle.ics_calendar.specs.SecondRound.{used_zone, instant_in};
 ghost use Rattle.ics_calendar.specs.Values.{tzid, zone_name};
 
 use crate::deferred_check::{DeferredCheck, Instant, ZoneName};

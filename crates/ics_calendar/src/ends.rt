@@ -2,7 +2,7 @@
 ghost use Rattle.std.specs.Prelude.{◌≡◌, pos, ◌*ℤ◌, IfOk};
 ghost use Rattle.ics_values.specs.Locals.{local_seconds};
 ghost use Rattle.ics_calendar.specs.DeferredChecks.{are_of_one_zone};
-ghost use Rattle.ics_calendar.specs.Lines.{compared, ends_in};
+ghost use Rattle.ics_calendar.specs.SecondRound.{compared, ends_in};
 ghost use Rattle.ics_calendar.specs.Values.{is_out, is_bad_end, same_zone, ends_badly};
 
 use crate::dated::Dated;

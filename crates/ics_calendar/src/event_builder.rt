@@ -2,7 +2,8 @@
 ghost use Rattle.std.specs.Prelude.{◌≡◌, Option, None, Some, is_some, true, false, IfOk, IfErr};
 ghost use Rattle.ics_calendar.specs.declared.name.Name.TheVariants as name;
 ghost use Rattle.ics_calendar.specs.Builders.{nothing};
-ghost use Rattle.ics_calendar.specs.Lines.{Gives, Makes, or_first, number_said, event_line, end_of_event, event_end, ends_in};
+ghost use Rattle.ics_calendar.specs.Lines.{Gives, Makes, or_first, number_said, event_line, end_of_event, event_end};
+ghost use Rattle.ics_calendar.specs.SecondRound.{ends_in};
 ghost use Rattle.ics_calendar.specs.Times.{given_length};
 ghost use Rattle.ics_calendar.specs.Values.{is_filled, is_cancelled, lasting_of};
 

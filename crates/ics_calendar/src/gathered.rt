@@ -1,6 +1,6 @@
 //! What is gathered of a file, before its time zones and its events are made of it.
 ghost use Rattle.std.specs.Prelude.{◌≡◌, None, option_map, IfOk};
-ghost use Rattle.ics_calendar.specs.Builders.{event_of};
+ghost use Rattle.ics_calendar.specs.Gathered.{event_of};
 ghost use Rattle.ics_calendar.specs.Gathered.{nothing_gathered, and_passed};
 ghost use Rattle.ics_calendar.specs.Lines.{passed};
 ghost use Rattle.ics_calendar.specs.Ready.{IsReady};

@@ -1,7 +1,7 @@
 //! What a file is by what is gathered of it: the second round, and then the zones and the events.
 ghost use Rattle.std.specs.Prelude.{◌≡◌, map, IfOk};
 ghost use Rattle.std.specs.List.{All};
-ghost use Rattle.ics_calendar.specs.Builders.{event_of};
+ghost use Rattle.ics_calendar.specs.Gathered.{event_of};
 ghost use Rattle.ics_calendar.specs.DraftsSound.{IsSoundDraft, left_of};
 ghost use Rattle.ics_calendar.specs.Gathered.{first_judged, settled_by, IsSoundCheck};
 ghost use Rattle.ics_calendar.specs.Ready.{IsReady};
