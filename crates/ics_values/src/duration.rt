@@ -18,10 +18,9 @@ pub struct Duration {
 
 /// Why a text is not a duration.
 #[derive(Clone, Copy, Debug, PartialEq, Eq, Error)]
+#[error("{}", self.name())]
 pub enum DurationFault {
-    #[error("BadDuration")]
     BadDuration,
-    #[error("NumberTooLarge")]
     NumberTooLarge,
 }
 

@@ -8,10 +8,9 @@ use thiserror::Error;
 
 /// Why a text is not a number.
 #[derive(Clone, Copy, Debug, PartialEq, Eq, Error)]
+#[error("{}", self.name())]
 pub enum IntegerFault {
-    #[error("NotDigits")]
     NotDigits,
-    #[error("NumberTooLarge")]
     NumberTooLarge,
 }
 

@@ -9,7 +9,7 @@ use thiserror::Error;
 
 /// The text is not an offset from UTC (RFC 5545, section 3.3.14).
 #[derive(Clone, Copy, Debug, PartialEq, Eq, Error)]
-#[error("BadOffset")]
+#[error("{}", self.name())]
 pub struct BadOffset;
 
 impl BadOffset {

@@ -25,14 +25,11 @@ pub struct Period {
 
 /// Why a text is not a period.
 #[derive(Clone, Copy, Debug, PartialEq, Eq, Error)]
+#[error("{}", self.name())]
 pub enum PeriodFault {
-    #[error("BadStamp")]
     BadStamp,
-    #[error("BadDuration")]
     BadDuration,
-    #[error("YearRange")]
     YearRange,
-    #[error("NumberTooLarge")]
     NumberTooLarge,
 }
 

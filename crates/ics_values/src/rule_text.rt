@@ -18,12 +18,11 @@ use thiserror::Error;
 
 /// Why a text is not a recurrence rule.
 #[derive(Clone, Copy, Debug, PartialEq, Eq, Error)]
+#[error("{}", self.name())]
 pub enum RuleFault {
     /// The text is not of the grammar, a part is out of its range or occurs twice, FREQ is missing, or both UNTIL and COUNT are there.
-    #[error("BadRule")]
     BadRule,
     /// The text is otherwise valid, but COUNT or INTERVAL is past 4,294,967,295.
-    #[error("NumberTooLarge")]
     NumberTooLarge,
 }
 

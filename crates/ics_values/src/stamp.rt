@@ -25,10 +25,9 @@ pub enum Stamp {
 
 /// Why a text is not a stamp.
 #[derive(Clone, Copy, Debug, PartialEq, Eq, Error)]
+#[error("{}", self.name())]
 pub enum StampFault {
-    #[error("BadStamp")]
     BadStamp,
-    #[error("YearRange")]
     YearRange,
 }
 
