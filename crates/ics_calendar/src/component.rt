@@ -5,7 +5,7 @@ ghost use Rattle.ics_text.specs.Bytes.{upper};
 ghost use Rattle.ics_calendar.specs.Components.{component_of, component_name, context_in};
 
 use crate::text::Text;
-use crate::words::is_word;
+use ics_values::is_word;
 use std::alloc::{AllocError, Global};
 
 /// A component: one of those that a file is read for, or another by its name in upper case.

@@ -19,9 +19,8 @@ use crate::refused::Refused;
 use crate::rule_value::RuleValue;
 use crate::text::{Text, text_or_empty};
 use crate::tzid::Tzids;
-use crate::words::is_word;
 use ics_text::Content;
-use ics_values::{Duration, IntegerFault, read_integer};
+use ics_values::{Duration, IntegerFault, is_word, read_integer};
 use std::alloc::{AllocError, Global};
 
 /// The value of each property that an event may have once, and what all its RDATEs and EXDATEs list.

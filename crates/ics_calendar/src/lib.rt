@@ -30,7 +30,6 @@ mod text;
 mod time;
 mod tzid;
 mod unknown_zones;
-mod words;
 mod zone_files;
 mod zone_table;
 

@@ -3,7 +3,7 @@ ghost use Rattle.std.specs.Prelude.{◌≡◌, map};
 ghost use Rattle.ics_text.specs.Bytes.{upper};
 ghost use Rattle.ics_calendar.specs.Names.{name_of, other_name_of};
 
-use crate::words::is_word;
+use ics_values::is_word;
 
 /// The names that a file is read for.
 #[derive(Clone, Copy)]

@@ -5,7 +5,6 @@ ghost use Rattle.std.specs.Ordering.{nat_cmp};
 ghost use Rattle.ics_text.specs.Bytes.{upper};
 ghost use Rattle.ics_values.specs.Plain.{text_of};
 
-use crate::words::upper_text;
 use ics_values::text_bytes;
 use std::alloc::{AllocError, Global};
 use std::cmp::Ordering;
@@ -72,7 +71,7 @@ impl Text {
     pub(crate) fn upper_case(alloc: Global, bytes: &[u8]) -> Result<Text, AllocError>
         ensures { IfOk result (λ text. text ≡ map upper bytes.now) }
     {
-        let bytes = upper_text(alloc, bytes)?;
+        let bytes = bytes.to_ascii_uppercase(alloc)?;
         Ok(Text { bytes })
     }
 

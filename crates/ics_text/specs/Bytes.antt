@@ -1,5 +1,6 @@
 -- The bytes that have a name in the format, and tests of bytes (RFC 5545, section 3.1).
-use Rattle.std.specs.Prelude.{ℕ, Bool, true, false, ◌&&◌, ◌||◌, not, ◌==◌, ◌-◌, nat_le, List, [], ◌∷◌, if◌then◌else◌}
+use Rattle.std.specs.Prelude.{ℕ, Bool, true, false, ◌&&◌, ◌||◌, not, ◌==◌, nat_le, List, [], ◌∷◌}
+use Rattle.std.specs.Char.{to_ascii_uppercase}
 
 abbrev pub htab : ℕ
 htab = 9
@@ -60,7 +61,7 @@ begins p (b ∷ bs) = p b
 
 -- the byte in upper case if it is a letter, and else the byte
 abbrev pub upper : ℕ → ℕ
-upper b = if is_between 97 122 b then b - 32 else b
+upper b = to_ascii_uppercase b
 
 -- the two texts are equal but for the case of letters
 abbrev pub same_name : List ℕ → List ℕ → Bool

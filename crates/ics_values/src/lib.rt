@@ -33,6 +33,7 @@ pub use integer::{IntegerFault, read_integer};
 pub use laws::{dates_of_the_calendar, escapes_undone, order_of_locals, times_of_a_day};
 pub use local::{Local, Moment};
 pub use offset::{BadOffset, read_offset};
+pub use part_name::is_word;
 pub use parts::Parts;
 pub use period::{Period, PeriodEnd, PeriodFault, read_period};
 pub use ordinals::{Ordinals, Weekdays, WideOrdinals};

@@ -56,7 +56,7 @@ impl PartName {
     }
 }
 
-/// Whether the text, its letters taken in upper case, is the word.
+/// Whether the text, its ASCII letters taken in upper case, is the word.
 pub fn is_word(text: &[u8], word: &[u8]) -> bool
     ensures { result ≡ bytes_eq (map upper_of text.now) word.now }
 {
