@@ -74,6 +74,16 @@ def overridden(count):
     return calendar([*own, *locals_in('overridden', times)])
 
 
+def sliced(count, more=''):
+    """The same gap behind 48 observances: 24 have the onsets of an hour each, and 24 override them."""
+    def slices(after, more):
+        return [part('STANDARD', '20240101T%02d0000' % hour, '-1200', after,
+                     'RRULE:FREQ=DAILY;BYHOUR=%d;BYMINUTE=%s;BYSECOND=%s%s' % (hour, EACH, EACH, more)) for hour in range(24)]
+    own = zone('sliced', *slices('+1200', more), *slices('-1200', ''), part('DAYLIGHT', '20240106T000000', '-1200', '+1200'))
+    times = [(datetime(2024, 1, 6) + timedelta(seconds=7 * number)).strftime('%Y%m%dT%H%M%S') for number in range(count)]
+    return calendar([*own, *locals_in('sliced', times)])
+
+
 def apart(count):
     """Events ten years apart, in a time zone that changes daily since the year 0001 so many times as COUNT says."""
     own = zone('counted', part('STANDARD', '00010101T000000', '+0000', '+0100', 'RRULE:FREQ=DAILY;COUNT=3000000'))
@@ -120,5 +130,7 @@ ROWS = [
     ('1,000 locals of a dense zone', lambda: [('a.ics', dense_locals(1_000))], ['2024-01-01', '3d']),
     ('10,000 locals of a dense zone', lambda: [('a.ics', dense_locals(10_000))], ['2024-01-01', '9d']),
     ('1,000 locals in a gap behind overridden onsets', lambda: [('a.ics', overridden(1_000))], ['2024-01-08', '4d']),
+    ('800 locals in a gap behind 48 observances', lambda: [('a.ics', sliced(800))], ['2024-01-05', '5d']),
+    ('the same, half of them with COUNT', lambda: [('a.ics', sliced(800, ';COUNT=100000'))], ['2024-01-05', '5d']),
     ('245 events ten years apart, COUNT', lambda: [('a.ics', apart(245))], ['2024-01-05', '1d']),
 ]

@@ -206,6 +206,20 @@ module _ (r : Recurrence) (hour fm fs lm ls : ℕ)
       same false true false to from = refl
       same false false b to from = refl
 
+-- of an hour after the start that BYHOUR leaves out, no local is kept
+pub left_out : (r : Recurrence) (q : EffectiveRule) → q ≡ effective r → (hour : ℕ) → hour < 85_913_808 → number r.start < hour * 3_600
+    → lets q.hours (hour % 24) ≡ false → NoneKept r (hour * 3_600) (hour * 3_600 + 3_600)
+left_out r q whole hour early after out n from to = elim (false_or_true (is_kept r n)) [
+  | inl none ↦ none
+  | inr kept ↦ absurd (
+      let clock = and_true {a = lets (effective r).hours (hour_of n) && lets (effective r).minutes (minute_of n)}
+      (kept_clock r n (omega (arith, after, from)) (omega (arith, early, to)) kept) in
+      let at : n / 3_600 ≡ hour = omega (arith, from, to) in
+      let here = (and_true {a = lets (effective r).hours (hour_of n)} clock.0).0 in
+      false_not_true (lets q.hours (hour % 24)) out
+      (subst (λ (x : EffectiveRule). lets x.hours (hour % 24) ≡ true) (sym whole) (subst (λ h. lets (effective r).hours (h % 24) ≡ true) at here)))
+]
+
 -- an hour without a kept local has none of the times of the empty sets
 pub keeps_none : (r : Recurrence) (hour : ℕ) → NoneKept r (hour * 3_600) (hour * 3_600 + 3_600)
     → (n : ℕ) → n / 3_600 ≡ hour → is_kept r n ≡ (contains 0 (minute_of n) && contains 0 (second_of n))

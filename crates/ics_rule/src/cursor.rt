@@ -85,7 +85,12 @@ impl Cursor {
     }
 
     /// Looks at the period with a number that no earlier look has reached.
-    pub(crate) fn look_at(&mut self, parts: &EffectiveRule, number: u64, counted: u64) -> RecurrencePeriod
+    pub(crate) fn look_at(
+        &mut self,
+        parts: &EffectiveRule,
+        number: u64,
+        counted: u64,
+    ) -> RecurrencePeriod
         requires low { period_in parts.now 0 ≤ number }
         requires reach { first_local parts.now.frequency (monday_zero parts.now.week_start) number ≤ rules_end }
         requires room { self.old.steps < 2 ^ 63 }

@@ -13,7 +13,7 @@ ghost use Rattle.ics_rule.specs.DateParts.{names_weekdays_alone};
 use crate::effective_rule::EffectiveRule;
 use crate::part::{WeekdaysPart, has_no_number};
 use crate::time::{lets, lets_place, lets_wide_place, lists_nth};
-use ics_values::{Civil, Frequency, BitSet, Ordinals, civil};
+use ics_values::{BitSet, Civil, Frequency, Ordinals, civil};
 use jiff_core::civil::{days_in_month, days_in_year};
 
 /// The fields of a day, counted from 0000-01-01.

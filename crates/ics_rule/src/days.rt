@@ -182,7 +182,13 @@ fn leave_let_in(parts: &EffectiveRule, first: u32, len: u16, days: &mut WideBitS
 }
 
 /// Fills a set with the days of a month that a rule allows.
-fn add_days_of_month(parts: &EffectiveRule, number: u64, first: u32, len: u16, days: &mut WideBitSet)
+fn add_days_of_month(
+    parts: &EffectiveRule,
+    number: u64,
+    first: u32,
+    len: u16,
+    days: &mut WideBitSet,
+)
     requires frequency { parts.now.frequency ≡ Monthly }
     requires span { IsSpan Monthly number first len }
     requires days { first + 384 ≤ 3652059 }

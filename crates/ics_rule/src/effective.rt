@@ -9,7 +9,7 @@ use crate::date::civil_at;
 use crate::effective_rule::EffectiveRule;
 use crate::kind::Kind;
 use crate::part::{PlacesPart, WeekdaysPart};
-use ics_values::{Frequency, BitSet, Parts, Ordinals, Weekdays};
+use ics_values::{BitSet, Frequency, Ordinals, Parts, Weekdays};
 
 /// Whether BYYEARDAY, BYMONTHDAY and BYDAY are absent.
 fn names_no_day(parts: &Parts) -> bool

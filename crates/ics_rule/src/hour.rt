@@ -1,5 +1,5 @@
 //! The locals of an hour that a rule keeps.
-ghost use Rattle.std.specs.Prelude.{◌≡◌, ℕ, ◌<◌, ◌≤◌, ◌/◌, false, IfSome, MatchOption};
+ghost use Rattle.std.specs.Prelude.{◌≡◌, ℕ, ◌+◌, ◌*◌, ◌<◌, ◌≤◌, ◌/◌, false, IfSome, MatchOption};
 ghost use Rattle.ics_values.specs.Sets.{contains};
 ghost use Rattle.ics_values.specs.Locals.{number, calendar_end};
 ghost use Rattle.ics_rule.specs.Next.{NoneKept, IsNextKept};
@@ -8,6 +8,7 @@ ghost use Rattle.ics_rule.specs.PeriodNumbers.{rules_end};
 
 use crate::cursor::Cursor;
 use crate::rule::Rule;
+use crate::time::lets;
 use ics_values::{BitSet, Frequency, Local};
 
 /// Each of some minutes of an hour, with each of some seconds.
@@ -53,6 +54,19 @@ fn next_between(rule: &Rule, start: u64, from: u64, bound: u64) -> Option<u64>
     cursor.next_number(rule, start, bound)
 }
 
+/// The first local of an hour that the rule keeps. An hour after the start that BYHOUR leaves out is not searched.
+fn first_of_hour(rule: &Rule, start: u64, hour: u64) -> Option<u64>
+    requires start { start ≡ number rule.now.start }
+    requires hour { hour < rules_end / 3_600 }
+    ensures { MatchOption result (NoneKept rule.now (hour * 3_600) (hour * 3_600 + 3_600)) (IsNextKept rule.now (hour * 3_600) (hour * 3_600 + 3_600)) }
+{
+    let from = hour * 3_600;
+    if start < from && !lets(rule.whole.hours, (hour % 24) as u8) {
+        return None;
+    }
+    next_between(rule, start, from, from + 3_600)
+}
+
 impl Rule {
     /// The minutes and the seconds that the rule lists, if they are the first and the last that it keeps in an hour. They are in each
     /// hour but those that the start, UNTIL or COUNT cuts, under any rule without BYSETPOS.
@@ -62,7 +76,7 @@ impl Rule {
     {
         let start = self.start.number();
         let from = hour * 3_600;
-        let Some(kept) = next_between(self, start, from, from + 3_600) else {
+        let Some(kept) = first_of_hour(self, start, hour) else {
             return Some(HourTimes {
                 minutes: BitSet::new(),
                 seconds: BitSet::new(),

@@ -12,7 +12,7 @@ use crate::effective_rule::EffectiveRule;
 use crate::recurrence_period::clock_set;
 use crate::rounds::seconds_of;
 use crate::sizes::members_below;
-use ics_values::{Frequency, BitSet, WideBitSet};
+use ics_values::{BitSet, Frequency, WideBitSet};
 
 /// How many values of one unit of the clock a part allows.
 fn readings(part: BitSet, size: u8) -> u64

@@ -115,7 +115,13 @@ fn opens_every_period(parts: &EffectiveRule) -> bool {
 
 /// The first step from one on in whose period a rule may allow a local. None if that period is later than `last`, the period of the
 /// last local before `stop`.
-pub(crate) fn next_open_step(parts: &EffectiveRule, first: u64, number: u64, last: u64, stop: u64) -> u64
+pub(crate) fn next_open_step(
+    parts: &EffectiveRule,
+    first: u64,
+    number: u64,
+    last: u64,
+    stop: u64,
+) -> u64
     requires interval { 1 ≤ parts.now.interval }
     requires first { first < 2 ^ 40 }
     requires step { is_stepped first parts.now.interval number ≡ true }

@@ -14,7 +14,7 @@ use crate::days::add_days_let_in;
 use crate::effective::{skips_hours, skips_minutes, skips_seconds};
 use crate::effective_rule::EffectiveRule;
 use crate::time::lets;
-use ics_values::{Frequency, BitSet, WideBitSet};
+use ics_values::{BitSet, Frequency, WideBitSet};
 use jiff_core::civil::{Weekday, days_in_month, days_in_year};
 
 /// The locals of a period that its rule allows: a set of days times sets of hours, minutes and seconds.
@@ -322,12 +322,7 @@ fn next_minute(hours: BitSet, minutes: BitSet, at: u32) -> Option<u32>
 }
 
 /// The first second of a day, from a second on, in a set of hours times sets of minutes and seconds.
-pub(crate) fn next_second(
-    hours: BitSet,
-    minutes: BitSet,
-    seconds: BitSet,
-    at: u32,
-) -> Option<u32>
+pub(crate) fn next_second(hours: BitSet, minutes: BitSet, seconds: BitSet, at: u32) -> Option<u32>
     requires hours { hours < 2 ^ 24 }
     requires minutes { minutes < 2 ^ 60 }
     requires seconds { seconds < 2 ^ 60 }

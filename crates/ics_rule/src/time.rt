@@ -39,7 +39,8 @@ pub(crate) fn lists_nth(places: &Ordinals, n: u16, size: u16) -> bool
     requires small { size ≤ 366 }
     ensures { result ≡ lists_nth places.now n size }
 {
-    places.front.contains(((n - 1) / 7 + 1) as u8) || places.back.contains(((size - n) / 7 + 1) as u8)
+    places.front.contains(((n - 1) / 7 + 1) as u8)
+        || places.back.contains(((size - n) / 7 + 1) as u8)
 }
 
 /// Whether the parts that restrict the time allow this second of a day.

@@ -59,7 +59,12 @@ impl Cursor {
     }
 
     /// The next local from the place on that the rule chooses. It is searched for in the periods up to that of the last before `stop`.
-    pub(crate) fn walk_freely(&mut self, parts: &EffectiveRule, start: u64, stop: u64) -> Option<u64>
+    pub(crate) fn walk_freely(
+        &mut self,
+        parts: &EffectiveRule,
+        start: u64,
+        stop: u64,
+    ) -> Option<u64>
         requires interval { 1 ≤ parts.now.interval }
         requires start { start < calendar_end }
         requires place { self.old.place < stop }

@@ -5,7 +5,7 @@ ghost use Rattle.ics_series.specs.Starts.{given_by, time_by};
 ghost use Rattle.ics_series.specs.FileZones.{clocks_in, IsOwnEvent};
 
 use crate::instant::{instant, is_past};
-use crate::start::{StartSource, Start, date_of, local_of, time_at, time_of};
+use crate::start::{Start, StartSource, date_of, local_of, time_at, time_of};
 use crate::window::Window;
 use crate::zones::FileZones;
 use ics_calendar::{Event, Rdate, Time};

@@ -8,7 +8,7 @@ ghost use Rattle.ics_series.specs.WindowBounds.{window_last};
 use crate::finish::finish;
 use crate::instant::instant;
 use crate::occurrence::Occurrence;
-use crate::start::{StartSource, Start, local_of};
+use crate::start::{Start, StartSource, local_of};
 use crate::window::Window;
 use crate::zones::FileZones;
 use ics_calendar::{Event, Rdate};

@@ -13,7 +13,7 @@ ghost use Rattle.ics_series.specs.WindowBounds.{window_last};
 use crate::instant::instant;
 use crate::lasting::seconds_lasting;
 use crate::occurrence::Occurrence;
-use crate::start::{StartSource, Start, time_at};
+use crate::start::{Start, StartSource, time_at};
 use crate::window::Window;
 use crate::zones::FileZones;
 use ics_calendar::{Event, Rdate};

@@ -53,7 +53,9 @@ pub fn step(state: ScanState, b: u8) -> Move
         ScanState::Start | ScanState::InName if is_name_byte(b) => Move::On(ScanState::InName),
         ScanState::InName if b == b';' => Move::On(ScanState::BeforeParam),
         ScanState::InName if b == b':' => Move::Value,
-        ScanState::BeforeParam | ScanState::InParam if is_name_byte(b) => Move::On(ScanState::InParam),
+        ScanState::BeforeParam | ScanState::InParam if is_name_byte(b) => Move::On(
+            ScanState::InParam,
+        ),
         ScanState::InParam if b == b'=' => Move::On(ScanState::BeforeValue),
         ScanState::BeforeValue if b == b'"' => Move::On(ScanState::InQuotes),
         ScanState::BeforeValue | ScanState::InPlain => in_value(b),

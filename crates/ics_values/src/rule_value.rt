@@ -8,8 +8,8 @@ ghost use Rattle.ics_values.specs.RuleDrafts.{IsAmount, IsPlace, IsDayItem};
 
 use crate::digits::{are_digits, number_within};
 use crate::frequency::Frequency;
-use crate::part_name::is_word;
 use crate::ordinals::Side;
+use crate::part_name::is_word;
 use crate::sign::{is_negative, unsigned};
 use crate::stamp::{Stamp, any_stamp, year_of};
 use crate::until::Until;

@@ -1,5 +1,5 @@
 -- What two hours tell of the onsets of a rule.
-use Rattle.std.proofs.Common.{◌≡◌, ℕ, ◌+◌, ◌-◌, ◌*◌, ◌/◌, ◌%◌, ◌<◌, ◌&&◌, nat_lt, inl, inr, refl, Bool, true, false, sym, subst, ap, ◌∙◌, arith, Option, Some, None, List, length, set, ℤ, pos, ◌+ℤ◌, ◌-ℤ◌, ◌<ℤ◌, ◌≤ℤ◌}
+use Rattle.std.proofs.Common.{◌≡◌, ℕ, ◌+◌, ◌-◌, ◌*◌, ◌/◌, ◌%◌, ◌<◌, ◌==◌, ◌&&◌, nat_lt, inl, inr, refl, Bool, true, false, sym, subst, ap, ◌∙◌, arith, Option, Some, None, List, length, set, ℤ, pos, ◌+ℤ◌, ◌-ℤ◌, ◌<ℤ◌, ◌≤ℤ◌}
 use Rattle.std.specs.Prelude.{IfSome, if◌then◌else◌, int_lt}
 use Rattle.std.proofs.lemmas.Int.{ints}
 use Rattle.ics_values.specs.Sets.{contains}
@@ -40,6 +40,20 @@ minute_from_both hours local here next word is_here is_next low high n small = e
       let at : (local / 60 + 1) * 60 + (n + local % 60 - 60) ≡ local + n = omega (arith, more) in
       high n (n + local % 60 - 60) (omega (arith, more, small)) (omega (arith, more)) ∙ is_next (n + local % 60 - 60) (omega (arith, small)) ∙ ap (keeps hours) at)
 ]
+
+-- two hours without times keep nothing
+pub keeps_nothing : (hours : Hours) → ((n : ℕ) → keeps_time hours.here n ≡ false) → ((n : ℕ) → keeps_time hours.next n ≡ false)
+    → (n : ℕ) → keeps hours n ≡ false
+keeps_nothing hours here next n = either (n / 3_600 == hours.hour)
+  where
+    either : (b : Bool) → (if b then keeps_time hours.here n else keeps_time hours.next n) ≡ false
+    either true = here n
+    either false = next n
+
+-- nor do they mark a second
+pub nothing_marked : (b kept marked : Bool) → kept ≡ false → marked ≡ false → marked ≡ (b && kept)
+nothing_marked true kept marked none not = not ∙ sym none
+nothing_marked false kept marked none not = not
 
 -- the words of an hour, with one minute more
 pub words_more : (hours : Hours) (local : ℕ) (count : ℤ) (marks : List ℕ) (minute size word part : ℕ) → minute < length marks

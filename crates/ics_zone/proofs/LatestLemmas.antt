@@ -1,9 +1,10 @@
 -- The last of a set of instants, and the next.
 use Rattle.std.proofs.Common.{◌≡◌, ℕ, ◌<◌, ◌-◌, ◌⊎◌, inl, inr, sym, arith, List, length, get_or, Contains, ℤ, ◌<ℤ◌, ◌≤ℤ◌}
-use Rattle.std.proofs.lemmas.Int.{ints}
+use Rattle.std.specs.Int.{int_max}
+use Rattle.std.proofs.lemmas.Int.{ints, clamps}
 use Rattle.std.proofs.lemmas.List.{get_or_default}
 use Rattle.ics_zone.specs.Latest.{IsInOrder, IsPassed, IsLast}
-use Rattle.ics_zone.proofs.Cases.{less_or_not}
+use Rattle.ics_zone.proofs.Cases.{less_or_not, less_or_not_z}
 
 module _ (list : List ℤ) (up : IsInOrder list) (t : ℤ) (k : ℕ) (passed : IsPassed list t k) where
   -- none of a list is passed, and its last that is
@@ -42,6 +43,13 @@ module _ (list : List ℤ) (up : IsInOrder list) (t : ℤ) (k : ℕ) (passed : I
         omega (arith, ints, low, same, at, is))
   ]
 
+-- the greater of two
+pub later_of : (a b m : ℤ) → m ≡ int_max a b → ((m ≡ a) × (b ≤ℤ m)) ⊎ ((m ≡ b) × (a ≤ℤ m))
+later_of a b m e = elim (less_or_not_z a b) [
+  | inl l ↦ inr (omega (arith, ints, clamps, e, l), omega (arith, ints, clamps, e, l))
+  | inr l ↦ inl (omega (arith, ints, clamps, e, l), omega (arith, ints, clamps, e, l))
+]
+
 -- the last of two sets together
 module _ (a b : ℤ → Type 0) (t : ℤ) where
   pub last_of_both : (s u m : ℤ) → IsLast a t s → IsLast b t u → ((m ≡ s) × (u ≤ℤ m)) ⊎ ((m ≡ u) × (s ≤ℤ m)) → IsLast (λ v. a v ⊎ b v) t m
@@ -75,6 +83,26 @@ module _ (a b : ℤ → Type 0) (t : ℤ) where
     not_after = x.not_after;
     last = λ v h l. elim h [ inr p ↦ x.last v p l | inl p ↦ absurd (let late = none v p in omega (arith, ints, late, l)) ];
   }
+
+-- the last of two sets together, where one has none after an instant
+module _ (a b : ℤ → Type 0) (after t : ℤ) where
+  pub first_after : (s : ℤ) → IsLast a t s → after <ℤ s → ((u : ℤ) → b u → u ≤ℤ t → u ≤ℤ after) → IsLast (λ v. a v ⊎ b v) t s
+  first_after s x late none = record {
+    is = inl x.is;
+    not_after = x.not_after;
+    last = λ v h l. elim h [ inl p ↦ x.last v p l | inr p ↦ (let out = none v p l in omega (arith, ints, out, late)) ];
+  }
+
+  pub second_after : (s : ℤ) → ((u : ℤ) → a u → u ≤ℤ t → u ≤ℤ after) → IsLast b t s → after <ℤ s → IsLast (λ v. a v ⊎ b v) t s
+  second_after s none x late = record {
+    is = inr x.is;
+    not_after = x.not_after;
+    last = λ v h l. elim h [ inr p ↦ x.last v p l | inl p ↦ (let out = none v p l in omega (arith, ints, out, late)) ];
+  }
+
+  pub neither_after : ((u : ℤ) → a u → u ≤ℤ t → u ≤ℤ after) → ((u : ℤ) → b u → u ≤ℤ t → u ≤ℤ after) → (u : ℤ) → a u ⊎ b u → u ≤ℤ t → u ≤ℤ after
+  neither_after x y u (inl p) l = x u p l
+  neither_after x y u (inr p) l = y u p l
 
 -- the next of a list, or the limit
 module _ (list : List ℤ) (up : IsInOrder list) (t : ℤ) (k : ℕ) (passed : IsPassed list t k) where

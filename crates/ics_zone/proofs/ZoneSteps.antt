@@ -1,5 +1,5 @@
 -- The steps of the loops over the observances of a zone.
-use Rattle.std.proofs.Common.{◌≡◌, ℕ, zero, suc, ◌+◌, ◌<◌, ◌≤◌, ◌⊎◌, inl, inr, Bool, refl, ap, ◌∙◌, arith, List, [], ◌∷◌, length, get_or, Option, Some, None, slice_get, ℤ, ◌+ℤ◌, ◌-ℤ◌, ◌<ℤ◌, ◌≤ℤ◌}
+use Rattle.std.proofs.Common.{◌≡◌, ℕ, zero, suc, ◌+◌, ◌<◌, ◌≤◌, ◌⊎◌, inl, inr, Bool, refl, ap, subst, ◌∙◌, arith, List, [], ◌∷◌, length, get_or, Option, Some, None, slice_get, ℤ, pos, ◌+ℤ◌, ◌-ℤ◌, ◌<ℤ◌, ◌≤ℤ◌}
 use Rattle.std.specs.Prelude.{MatchOption, false}
 use Rattle.std.specs.Int.{int_max}
 use Rattle.std.specs.List.{All}
@@ -11,7 +11,7 @@ use Rattle.ics_zone.specs.Observances.{ObservanceSaid}
 use Rattle.ics_zone.specs.ZoneOffsets.{IsOnset, IsNotLater}
 use Rattle.ics_zone.specs.Latest.{IsLast, IsLastOf}
 use Rattle.ics_zone.specs.OnsetSets.{Has, IsSound, AreOnsetsOf}
-use Rattle.ics_zone.specs.ZoneOnsets.{AreOnsetsOfAll, IsLatest, IsLatestOf, IsFirst, IsOverridden}
+use Rattle.ics_zone.specs.ZoneOnsets.{AreOnsetsOfAll, IsLatest, IsLatestOf, IsLatestWithin, IsFirst, IsOverridden}
 use Rattle.ics_zone.proofs.Cases.{below_or_at, less_or_not_z}
 
 -- each place of a zone has an observance
@@ -37,6 +37,11 @@ NoneBetweenTo zone count after next = (i : ℕ) (s : ℤ) (p : ObservanceSaid) �
 abbrev pub AreLessTo : List ObservanceSaid → ℕ → ℤ → ℤ → ℤ → ℕ → Type 0
 AreLessTo zone count offset t at place =
     (i : ℕ) (s : ℤ) (p : ObservanceSaid) → i < count → IsOnset zone i s p → p.offset_to ≡ offset → s ≤ℤ t → (s <ℤ at) ⊎ ((s ≡ at) × (i < place))
+
+-- the greatest onset of a window is the greatest
+pub within_is : (zone : List ObservanceSaid) (after t : ℤ) (count : ℕ) (o : Option Latest) (l : Latest) → o ≡ Some l → IsLatestWithin zone after t count o
+    → IsLatest zone t count l
+within_is zone after t count o l e h = (subst (λ x. IsLatestWithin zone after t count x) e h).0
 
 -- before an instant, or at it
 not_later_by : (s t : ℤ) (i j : ℕ) → s ≤ℤ t → i ≤ j → IsNotLater s i t j
@@ -110,6 +115,43 @@ module _ (zone : List ObservanceSaid) (list : List Onsets) (all : AreOnsetsOfAll
               (λ of contains same. inl (let low = last.last s contains early in omega (arith, ints, low, later)));
         })
 
+    -- the same after an instant, where the next are looked at from the greatest on
+    module _ (after : ℤ) where
+      abbrev pub IsBegun : Option Latest → ℤ → Type 0
+      IsBegun old from = MatchOption old (from ≡ after) (λ f. after <ℤ f.at → from ≡ f.at -ℤ pos 1)
+
+      pub within_none : (old : Option Latest) (from : ℤ) → IsBegun old from → IsLatestWithin zone after t k old
+          → ((u : ℤ) → Has o u → u ≤ℤ t → u ≤ℤ from) → IsLatestWithin zone after t (k + 1) old
+      within_none None from begun before none = λ i s p l h early. split i s p h l (λ less. before i s p less h early)
+          (λ of contains same. let out = none s contains early in omega (arith, ints, out, begun))
+      within_none (Some f) from begun before none = (
+        record {
+          observance = before.0.observance;
+          onset = before.0.onset;
+          offset = before.0.offset;
+          before = let n = before.0.before in omega (arith, n);
+          not_after = before.0.not_after;
+          greatest = λ i s p l h early. split i s p h l (λ less. before.0.greatest i s p less h early)
+              (λ of contains same. inl (let out = none s contains early in let is = begun before.1 in omega (arith, ints, out, is)));
+        },
+        before.1,
+      )
+
+      pub within_some : (old : Option Latest) (from : ℤ) → IsBegun old from → (e new : Latest) → IsLatestWithin zone after t k old → e.place ≡ k
+          → e.offset ≡ o.offset_to → IsLast (Has o) t e.at → from <ℤ e.at
+          → MatchOption old (new ≡ e) (λ f. ((new ≡ e) × (f.at ≤ℤ e.at)) ⊎ ((new ≡ f) × (e.at <ℤ f.at)))
+          → IsLatest zone t (k + 1) new × (after <ℤ new.at)
+      within_some None from begun e new before place offset last in_window is =
+          rw is (
+            this_one e place offset last (λ i s p l h early. let out = before i s p l h early in omega (arith, ints, out, in_window, begun)),
+            omega (arith, ints, in_window, begun),
+          )
+      within_some (Some f) from begun e new before place offset last in_window is = (latest_some (Some f) e new before.0 place offset last is, later_in is)
+        where
+          later_in : ((new ≡ e) × (f.at ≤ℤ e.at)) ⊎ ((new ≡ f) × (e.at <ℤ f.at)) → after <ℤ new.at
+          later_in (inl w) = rw (w.0) (let a = before.1 in let b = w.1 in omega (arith, ints, a, b))
+          later_in (inr w) = rw (w.0) before.1
+
   pub between_more : (after next new : ℤ) → new ≤ℤ next → ((t : ℤ) → Has o t → after <ℤ t → new ≤ℤ t) → NoneBetweenTo zone k after next
       → NoneBetweenTo zone (k + 1) after new
   between_more after next new less first before i s p l h late = split i s p h l
@@ -123,20 +165,13 @@ module _ (zone : List ObservanceSaid) (list : List Onsets) (all : AreOnsetsOfAll
         (λ low. before i s p low h is early)
         (λ of contains same. absurd (other (of.to ∙ is)))
 
-    pub less_more : (last : Option ℤ) → IsLastOf (Has o) t last → (r : Bool)
-        → MatchOption last (r ≡ false) (λ s. r ≡ false → (s <ℤ at) ⊎ ((s ≡ at) × (k < place)))
-        → r ≡ false → AreLessTo zone (k + 1) offset t at place
-    less_more None none r less lower i s p l h is early = split i s p h l
+    pub less_more : (at_once : Bool) → (at_once ≡ false → k < place)
+        → ((s : ℤ) → Has o s → s ≤ℤ t → (s <ℤ at) ⊎ ((s ≡ at) × (at_once ≡ false))) → AreLessTo zone (k + 1) offset t at place
+    less_more at_once lower less i s p l h is early = split i s p h l
         (λ low. before i s p low h is early)
-        (λ of contains same. absurd (let late = none s contains in omega (arith, ints, late, early)))
-    less_more (Some u) last r less lower i s p l h is early = split i s p h l
-        (λ low. before i s p low h is early)
-        (λ of contains same. let low = last.last s contains early in elim (less_or_not_z s at) [
-          | inl less_now ↦ inl less_now
-          | inr more ↦ elim (less lower) [
-            | inl small ↦ absurd (omega (arith, ints, small, low, more))
-            | inr at_once ↦ inr (let e = at_once.0 in omega (arith, ints, e, low, more), let n = at_once.1 in omega (arith, same, n))
-          ]
+        (λ of contains same. elim (less s contains early) [
+          | inl small ↦ inl small
+          | inr now ↦ inr (now.0, (let n = lower now.1 in omega (arith, same, n)))
         ])
 
   -- where its last onset is greater than all those of the observances with an offset, it overrides them

@@ -38,3 +38,7 @@ pub record IsLast (set : ℤ → Type 0) (t s : ℤ) : Type 0 where
 -- the answer is the last one, or None and all are after t
 abbrev pub IsLastOf : (ℤ → Type 0) → ℤ → Option ℤ → Type 0
 IsLastOf set t o = MatchOption o ((u : ℤ) → set u → t <ℤ u) (IsLast set t)
+
+-- the answer is the last one and after an instant, or None and none that is not after t is after that instant
+abbrev pub IsLastAfter : (ℤ → Type 0) → ℤ → ℤ → Option ℤ → Type 0
+IsLastAfter set after t o = MatchOption o ((u : ℤ) → set u → u ≤ℤ t → u ≤ℤ after) (λ s. IsLast set t s × (after <ℤ s))

@@ -48,6 +48,12 @@ abbrev pub IsLatestOf : List ObservanceSaid → ℤ → ℕ → Option Latest �
 IsLatestOf zone t count found =
     MatchOption found ((i : ℕ) (s : ℤ) (p : ObservanceSaid) → i < count → IsOnset zone i s p → t <ℤ s) (IsLatest zone t count)
 
+-- the same, if that onset is after an instant, or None if those observances have no onset after that instant and up to t
+abbrev pub IsLatestWithin : List ObservanceSaid → ℤ → ℤ → ℕ → Option Latest → Type 0
+IsLatestWithin zone after t count found =
+    MatchOption found ((i : ℕ) (s : ℤ) (p : ObservanceSaid) → i < count → IsOnset zone i s p → s ≤ℤ t → s ≤ℤ after)
+    (λ l. IsLatest zone t count l × (after <ℤ l.at))
+
 -- TZOFFSETFROM of the least onset of the first `count` observances
 pub record IsFirst (zone : List ObservanceSaid) (count : ℕ) (first offset : ℤ) : Type 0 where
   pub place : ℕ

@@ -59,6 +59,9 @@ impl Hours {
         ensures { (k : ℕ) → k < 3_600 → is_marked result k ≡ (int_lt (pos k) count && keeps self.now (local + k)) }
     {
         let mut words = [0; 60];
+        if self.here.is_empty() && self.next.is_empty() {
+            return words;
+        }
         for minute in 0..60 {
             let word = self.minute_from(local + minute as u64 * 60);
             words[minute] = front(word, first_of(minute, count));

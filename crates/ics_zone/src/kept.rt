@@ -40,7 +40,7 @@ pub(crate) fn last_kept(rule: &Rule, ago: u64, bound: u64) -> Option<u64>
 }
 
 /// The last kept local from a place on that is earlier than a bound. Mostly there is just one.
-fn last_between(rule: &Rule, from: u64, bound: u64) -> Option<u64>
+pub(crate) fn last_between(rule: &Rule, from: u64, bound: u64) -> Option<u64>
     requires from { from ≤ 309289708800 }
     requires bound { bound ≤ 309289708800 }
     ensures { MatchOption result (NoneKept rule.now from bound) (IsLastKept rule.now bound) }
@@ -94,17 +94,14 @@ fn last_from(rule: &Rule, first: u64, second: u64, bound: u64) -> u64
     requires bound { bound ≤ 309289708800 }
     ensures { IsLastKept rule.now bound result }
 {
-    let mut gap = second - first;
+    let gap = second - first;
     let mut known = Known {
         last: second,
         end: bound,
     };
     known = after_look(rule, known, (bound.saturating_sub(gap)).max(second + 1));
     while let Some(next) = next_kept(rule, known.last + 1, known.end) {
-        gap = next - known.last;
         known.last = next;
-        let guess = known.end.saturating_sub(gap).max(next + 1);
-        known = after_look(rule, known, guess);
         let middle = known.last + (known.end - known.last) / 2 + 1;
         known = after_look(rule, known, middle);
     }

@@ -5,12 +5,15 @@ ghost use Rattle.ics_zone.specs.Observances.{ObservanceSaid};
 ghost use Rattle.ics_zone.specs.Latest.{IsLast};
 ghost use Rattle.ics_zone.specs.OnsetSets.{Has, IsSound};
 ghost use Rattle.ics_zone.specs.Seconds.{IsMoment};
-ghost use Rattle.ics_zone.specs.ZoneOnsets.{AreOnsetsOfAll, IsLatestOf, IsFirstOffset, IsNextPast, IsClear, IsOverridden, NoneBetween};
+ghost use Rattle.ics_zone.specs.ZoneOnsets.{AreOnsetsOfAll, IsLatestOf, IsLatestWithin, IsFirstOffset, IsNextPast, IsClear, IsOverridden, NoneBetween};
 
 use crate::onsets::Onsets;
 use ics_values::Moment;
 
 const DAY: i64 = 86_400;
+
+/// 0000-01-01T00:00:00 UTC. An observance has its first onset later than this.
+const YEARS_BEGIN: Moment = -62_167_219_200;
 
 /// An onset of an observance, the place of the observance in its component, and the offset after the onset.
 #[derive(Clone, Copy)]
@@ -39,14 +42,17 @@ fn later(first: Option<Latest>, second: Latest) -> Latest
     }
 }
 
-// Whether there is an onset and it is not less than another, by instant and then by place.
-fn is_not_less(onset: Option<Moment>, place: usize, at: Moment, other: usize) -> bool
-    ensures { MatchOption onset (result ≡ false) (λ s. result ≡ false → (s <ℤ at) ⊎ ((s ≡ at) × (place < other))) }
+// Whether an observance may have an onset that is not after an instant, and not less than one at another, by instant and then by place.
+fn has_not_less(one: &Onsets, is_at_once: bool, at: Moment, moment: Moment) -> bool
+    requires { IsSound one.now }
+    ensures { result ≡ false → (t : ℤ) → Has one.now t → t ≤ℤ moment → (t <ℤ at) ⊎ ((t ≡ at) × (is_at_once ≡ false)) }
 {
-    match onset {
-        None => false,
-        Some(onset) => onset > at || (onset == at && place >= other),
+    if at <= Moment::MIN || moment >= Moment::MAX {
+        return true;
     }
+    let after = if is_at_once { at - 1 } else { at };
+    let limit = moment + 1;
+    after < limit && one.next(after, limit) < limit
 }
 
 // The last onset of an observance that is not after an instant, with the observance's place and the offset after it.
@@ -61,8 +67,68 @@ fn last_of(one: &Onsets, place: usize, moment: Moment) -> Option<Latest>
     Some(Latest { at, place, offset })
 }
 
-/// The greatest onset that is not after an instant, by instant and then by place.
-pub(crate) fn latest_of(onsets: &[Onsets], moment: Moment) -> Option<Latest>
+// The same, if that onset is after another instant.
+fn last_within(one: &Onsets, place: usize, after: Moment, moment: Moment) -> Option<Latest>
+    requires { IsSound one.now }
+    ensures last { MatchOption result ((t : ℤ) → Has one.now t → t ≤ℤ moment → t ≤ℤ after) (λ l. IsLast (Has one.now) moment l.at) }
+    ensures after { IfSome result (λ l. after <ℤ l.at) }
+    ensures place { IfSome result (λ l. l.place ≡ place) }
+    ensures offset { IfSome result (λ l. l.offset ≡ one.now.offset_to) }
+{
+    let at = one.last_after(after, moment)?;
+    Some(Latest {
+        at,
+        place,
+        offset: one.offset_to,
+    })
+}
+
+// From where on an onset counts: after an instant, or from the greatest onset on if there is one.
+fn begun(latest: Option<Latest>, after: Moment) -> Moment
+    ensures { MatchOption latest (result ≡ after) (λ l. after <ℤ l.at → result ≡ l.at -ℤ pos 1) }
+{
+    match latest {
+        Some(latest) => latest.at.saturating_sub(1),
+        None => after,
+    }
+}
+
+// The greatest onset that is not after an instant, by instant and then by place, if it is after another instant.
+fn latest_within(onsets: &[Onsets], after: Moment, moment: Moment) -> Option<Latest>
+    requires { All IsSound onsets.now }
+    ensures { (zone : List ObservanceSaid) → AreOnsetsOfAll zone onsets.now → IsLatestWithin zone after moment (length zone) result }
+{
+    let mut latest: Option<Latest> = None;
+    for (place, one) in onsets.iter().enumerate() {
+        let from = begun(latest, after);
+        let Some(last) = last_within(one, place, from, moment) else {
+            continue;
+        };
+        latest = Some(later(latest, last));
+    }
+    latest
+}
+
+/// The greatest onset that is not after an instant, by instant and then by place. It is searched for in the seconds before the instant, so many at
+/// first, and further back each time that there is none.
+pub(crate) fn latest_of(onsets: &[Onsets], ago: i64, moment: Moment) -> Option<Latest>
+    requires { All IsSound onsets.now }
+    ensures { (zone : List ObservanceSaid) → AreOnsetsOfAll zone onsets.now → IsLatestOf zone moment (length zone) result }
+{
+    let mut back = ago.max(1);
+    let mut after = moment.saturating_sub(back);
+    while after > YEARS_BEGIN {
+        if let Some(latest) = latest_within(onsets, after, moment) {
+            return Some(latest);
+        }
+        back = back.saturating_mul(16);
+        after = after.saturating_sub(back);
+    }
+    latest_of_each(onsets, moment)
+}
+
+// The greatest onset that is not after an instant, by instant and then by place, from the last onset of each observance.
+fn latest_of_each(onsets: &[Onsets], moment: Moment) -> Option<Latest>
     requires { All IsSound onsets.now }
     ensures { (zone : List ObservanceSaid) → AreOnsetsOfAll zone onsets.now → IsLatestOf zone moment (length zone) result }
 {
@@ -112,7 +178,7 @@ pub(crate) fn overrides(onsets: &[Onsets], place: usize, offset: i32, moment: Mo
         if one.offset_to != offset {
             continue;
         }
-        if is_not_less(one.last(moment), other, at, place) {
+        if has_not_less(one, other >= place, at, moment) {
             return false;
         }
     }

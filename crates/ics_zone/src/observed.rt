@@ -32,6 +32,8 @@ const HELD: usize = 256;
 pub struct Observed {
     observances: Vec<Observance>,
     onsets: Vec<Onsets>,
+    /// How many seconds back the search for an onset goes at first.
+    ago: i64,
     /// Every offset that the zone has at some instant.
     offsets: Vec<i32>,
     /// Spans about the instants that were given to `reach`, in order.
@@ -75,9 +77,11 @@ impl Observed {
         let Ok(offsets) = offsets_of(alloc, &observances) else {
             return Err(ZoneFault::Memory);
         };
+        let ago = least_ago(&onsets);
         Ok(Observed {
             observances,
             onsets,
+            ago,
             offsets,
             held: Vec::new(alloc),
         })
@@ -156,7 +160,7 @@ impl Observed {
         requires { IsWithin 300_000_000_000 near }
         ensures { IfSome result (λ s. IsSteady (zone_offset (observances_said self.now)) s.from s.next s.offset) }
     {
-        let latest = latest_of(&self.onsets, near)?;
+        let latest = latest_of(&self.onsets, self.ago, near)?;
         let next = next_onset(&self.onsets, near, near + AHEAD);
         Some(Steady {
             from: latest.at,
@@ -182,7 +186,7 @@ impl Observed {
         ensures means { IsOffset (observances_said self.now) moment result }
         ensures value { result ≡ zone_offset (observances_said self.now) moment }
     {
-        match latest_of(&self.onsets, moment) {
+        match latest_of(&self.onsets, self.ago, moment) {
             Some(latest) => {
                 *place = latest.place;
                 latest.offset
@@ -210,7 +214,7 @@ impl Observed {
         ensures to { IfSome result (λ s. to <ℤ s.next) }
         ensures steady { IfSome result (λ s. IsSteady (zone_offset (observances_said self.now)) s.from s.next s.offset) }
     {
-        let latest = latest_of(&self.onsets, to)?;
+        let latest = latest_of(&self.onsets, self.ago, to)?;
         Some(Steady {
             from: latest.at,
             next: to + 1,
@@ -310,6 +314,28 @@ impl Observed {
         (after + clear).min(seconds + DAY + 1)
     }
 
+    // The same, hour by hour as long as nothing but such onsets is in an hour.
+    fn clear_hours(&self, seconds: i64, after: Moment) -> Moment
+        requires bound { IsMoment seconds }
+        requires low { (seconds -ℤ pos 86_400) ≤ℤ after }
+        requires high { after ≤ℤ (seconds +ℤ pos 86_401) }
+        requires skipped { (t : ℤ) → shown (zone_offset (observances_said self.now)) t ≢ seconds }
+        requires earlier { (t : ℤ) → t ≤ℤ after → shown (zone_offset (observances_said self.now)) t <ℤ seconds }
+        ensures low { after ≤ℤ result }
+        ensures high { result ≤ℤ (seconds +ℤ pos 86_401) }
+        ensures earlier { (t : ℤ) → t ≤ℤ result → shown (zone_offset (observances_said self.now)) t <ℤ seconds }
+    {
+        let mut at = after;
+        while at <= seconds + DAY {
+            let next = self.clear_to(seconds, at);
+            if next < at + 3_600 {
+                return next;
+            }
+            at = next;
+        }
+        at
+    }
+
     // The instant at which the clock jumps over a local that it never shows: the first onset that shows a later one.
     fn jump(&self, seconds: i64) -> Moment
         requires bound { IsMoment seconds }
@@ -324,7 +350,7 @@ impl Observed {
             if self.is_past(seconds, after) {
                 return after;
             }
-            after = self.clear_to(seconds, after);
+            after = self.clear_hours(seconds, after);
         }
         // not reached: a day after the local the clock shows a later one
         after
@@ -378,6 +404,15 @@ fn onsets_of(alloc: Global, observances: &[Observance]) -> Result<Vec<Onsets>, A
         all.push(Onsets::of(alloc, observance)?)?;
     }
     Ok(all)
+}
+
+// The least number of seconds that the search for an onset of an observance goes back at first.
+fn least_ago(onsets: &[Onsets]) -> i64 {
+    let mut ago = i64::MAX;
+    for one in onsets {
+        ago = ago.min(i64::try_from(one.ago).unwrap_or(i64::MAX));
+    }
+    ago
 }
 
 // The offsets before and after the onsets, each of them once, the greatest first.

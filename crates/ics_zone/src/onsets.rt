@@ -1,16 +1,16 @@
 //! The onsets of one observance near an instant.
-ghost use Rattle.std.specs.Prelude.{◌≡◌, ℕ, ℤ, ◌<◌, ◌≤◌, ◌<ℤ◌, ◌≤ℤ◌, IfOk, IfSome};
+ghost use Rattle.std.specs.Prelude.{◌≡◌, ℕ, ℤ, ◌<◌, ◌≤◌, ◌<ℤ◌, ◌≤ℤ◌, IfOk, IfSome, MatchOption};
 ghost use Rattle.std.specs.List.{Contains};
 ghost use Rattle.std.specs.Option.{option_map};
 ghost use Rattle.ics_zone.specs.Observances.{instant_by, observance_said, rule_from};
-ghost use Rattle.ics_zone.specs.Latest.{IsInOrder, IsPassed, IsLastOf};
+ghost use Rattle.ics_zone.specs.Latest.{IsInOrder, IsPassed, IsLast, IsLastOf, IsLastAfter};
 ghost use Rattle.ics_zone.specs.OnsetSets.{IsKeptAt, Has, IsSound, AreOnsetsOf, IsListing, IsEnd};
 
 use crate::Observance;
 use crate::clock::{instant, number, shown_by};
-use crate::kept::{last_kept, next_kept};
+use crate::kept::{last_between, last_kept, next_kept};
 use ics_rule::{Kind, Rule};
-use ics_values::{Frequency, Moment, BitSet};
+use ics_values::{BitSet, Frequency, Moment};
 use std::alloc::{AllocError, Global};
 
 const DAY: u64 = 86_400;
@@ -62,7 +62,7 @@ fn size_of(part: BitSet) -> u64 {
 // About how many seconds are between two onsets of a rule: a period, divided by the number of times of a day that the rule lists.
 fn spacing(observance: &Observance) -> u64 {
     let Some(parts) = &observance.rule else {
-        return 1;
+        return u64::MAX;
     };
     let days: u64 = match parts.frequency() {
         Frequency::Yearly => 366,
@@ -188,6 +188,48 @@ impl Onsets {
         ensures { IsLastOf (Has self.now) moment result }
     {
         match (self.last_listed(moment), self.last_by_rule(moment)) {
+            (Some(listed), Some(kept)) => Some(listed.max(kept)),
+            (Some(listed), None) => Some(listed),
+            (None, kept) => kept,
+        }
+    }
+
+    // The last onset of the rule that is not after an instant, if it is after another.
+    fn last_by_rule_after(&self, after: Moment, moment: Moment) -> Option<Moment>
+        requires { IsSound self.now }
+        ensures { IsLastAfter (IsKeptAt self.now) after moment result }
+    {
+        let Some(rule) = &self.rule else {
+            return None;
+        };
+        let from = shown_by(self.offset_from, after);
+        let end = self.shown_to(moment);
+        let kept = last_between(rule, from, end)?;
+        let last = instant(self.offset_from, kept);
+        if last > after { Some(last) } else { None }
+    }
+
+    // The last listed onset that is not after an instant, if it is after another.
+    fn last_listed_after(&self, after: Moment, moment: Moment) -> Option<Moment>
+        requires { IsSound self.now }
+        ensures { IsLastAfter (Contains self.now.listed.items) after moment result }
+    {
+        let Some(last) = self.last_listed(moment) else {
+            return None;
+        };
+        if last > after { Some(last) } else { None }
+    }
+
+    /// The last onset that is not after an instant, if it is after another.
+    pub fn last_after(&self, after: Moment, moment: Moment) -> Option<Moment>
+        requires { IsSound self.now }
+        ensures last { MatchOption result ((t : ℤ) → Has self.now t → t ≤ℤ moment → t ≤ℤ after) (IsLast (Has self.now) moment) }
+        ensures after { IfSome result (λ s. after <ℤ s) }
+    {
+        match (
+            self.last_listed_after(after, moment),
+            self.last_by_rule_after(after, moment),
+        ) {
             (Some(listed), Some(kept)) => Some(listed.max(kept)),
             (Some(listed), None) => Some(listed),
             (None, kept) => kept,

@@ -1,5 +1,5 @@
 //! The times of an hour that a rule keeps.
-ghost use Rattle.std.specs.Prelude.{◌≡◌, ℕ, ◌+◌, ◌*◌, ◌<◌, ◌&&◌};
+ghost use Rattle.std.specs.Prelude.{◌≡◌, ℕ, ◌+◌, ◌*◌, ◌<◌, ◌&&◌, true, false};
 ghost use Rattle.ics_values.specs.Sets.{contains};
 ghost use Rattle.ics_rule.specs.PeriodNumbers.{minute_of, second_of};
 ghost use Rattle.ics_zone.specs.Hours.{keeps_time};
@@ -25,6 +25,13 @@ impl Times {
             minutes: times.minutes,
             seconds: word_of(times.seconds),
         }
+    }
+
+    /// Whether no time is kept for want of a second.
+    pub fn is_empty(self) -> bool
+        ensures { result ≡ true → (n : ℕ) → keeps_time self n ≡ false }
+    {
+        self.seconds == 0
     }
 
     /// The seconds of a minute.

@@ -1,16 +1,10 @@
-use Rattle.std.proofs.Common.{rules, w64, to_z, of_z}
-use Rattle.ics_zone.proofs.ZoneSteps.{latest_none, latest_some}
+use Rattle.std.proofs.Common.{SFits, w64}
+use Rattle.std.proofs.lemmas.Int.{to_z-of_z}
+use Rattle.ics_zone.proofs.ZoneSteps.{within_is}
 use Rattle.ics_zone.proofs.latest.latest_of.Goals as goal
 
-pub loop-place-preserved-in_default : goal.loop-place-preserved-in_default
-loop-place-preserved-in_default c = λ zone all.
-    latest_none zone c.args.onsets.now all c.loop-place.place c.index-onsets-place.result c.loop-place-test.true c.index-onsets-place.is
-    (to_z w64 (of_z w64 c.args.moment))
-    c.loop-place.latest (c.loop-place.invariant zone all) (search rules)
-
-pub loop-place-preserved : goal.loop-place-preserved
-loop-place-preserved c = λ zone all.
-    latest_some zone c.args.onsets.now all c.loop-place.place c.index-onsets-place.result c.loop-place-test.true c.index-onsets-place.is
-    (to_z w64 (of_z w64 c.args.moment))
-    c.loop-place.latest c.in-Some.last c.later.result
-    (c.loop-place.invariant zone all) (search rules) (search rules) (search rules) c.later.ensures
+pub returns-in-Some : goal.returns-in-Some
+returns-in-Some c = λ zone all.
+    let moment : SFits w64 c.args.moment = c.ranges.moment in
+    let found = simp to_z-of_z at c.latest_within.ensures in
+    within_is zone _ c.args.moment _ c.latest_within.result c.in-Some.latest c.in-Some.is (found zone all)

@@ -1,7 +1,9 @@
-use Rattle.std.proofs.Common.{List}
-use Rattle.ics_zone.specs.Observances.{ObservanceSaid}
-use Rattle.ics_zone.specs.ZoneOnsets.{AreOnsetsOfAll, IsLatestOf}
+use Rattle.std.proofs.Common.{pos, ◌+ℤ◌, ◌≤ℤ◌}
+use Rattle.ics_zone.specs.ZoneOffsets.{natural}
 use Rattle.ics_zone.proofs.latest.latest_of.Given as goal
 
-abbrev pub invariant-loop-place : goal.invariant-loop-place
-invariant-loop-place l = (zone : List ObservanceSaid) → AreOnsetsOfAll zone l.onsets → IsLatestOf zone l.fn.moment l.place l.latest
+abbrev pub invariant-loop-after : goal.invariant-loop-after
+invariant-loop-after l = record { ahead : pos 1 ≤ℤ l.back }
+
+abbrev pub decreases-loop-after : goal.decreases-loop-after
+decreases-loop-after l = natural (l.after +ℤ pos 62_167_219_200)

@@ -1,7 +1,11 @@
-use Rattle.std.proofs.Common.{rules, ◌≢◌, ◌<◌, length, SFits, w32, w64}
+use Rattle.std.proofs.Common.{rules, ◌≡◌, ◌≢◌, ℕ, ◌<◌, false, nat_le, arith, length, SFits, w32, w64}
+use Rattle.std.proofs.lemmas.Bool.Decides.{nat_tests}
 use Rattle.std.proofs.lemmas.Int.{to_z-of_z}
 use Rattle.ics_zone.proofs.ZoneSteps.{less_other, less_more, overridden_by}
 use Rattle.ics_zone.proofs.latest.overrides.Goals as goal
+
+not_le : (a b : ℕ) → nat_le a b ≡ false → b < a
+not_le a b e = grind (arith, nat_tests)
 
 pub loop-other-preserved-then-one-offset : goal.loop-other-preserved-then-one-offset
 loop-other-preserved-then-one-offset c =
@@ -20,11 +24,10 @@ loop-other-preserved c =
     let moment : SFits w64 c.args.moment = c.ranges.moment in
     let at : SFits w64 c.in-Some.at = search rules in
     let before = simp to_z-of_z at c.loop-other.invariant in
-    let last = simp to_z-of_z at c.last-in-loop-other.ensures in
-    let less = simp to_z-of_z at c.is_not_less.ensures in
+    let less = simp to_z-of_z at (c.has_not_less.ensures c.if-has_not_less.false) in
     rw (to_z-of_z w32 c.args.offset offset, to_z-of_z w64 c.args.moment moment, to_z-of_z w64 c.in-Some.at at) (λ zone all.
     less_more zone c.args.onsets.now all c.loop-other.other c.index-onsets-other.result c.loop-other-test.true c.index-onsets-other.is
-    c.args.offset c.args.moment c.in-Some.at c.args.place (before zone all) c.last-in-loop-other.result last c.is_not_less.result less c.if-is_not_less.false)
+    c.args.offset c.args.moment c.in-Some.at c.args.place (before zone all) (nat_le c.args.place c.loop-other.other) (λ e. not_le c.args.place c.loop-other.other e) less)
 
 pub returns : goal.returns
 returns c =

@@ -35,22 +35,22 @@ returns-then-is_past-clause-jump c =
 
 pub loop-after-smaller : goal.loop-after-smaller
 loop-after-smaller c =
-    natural_less ((to_z w64 (of_z w64 c.args.seconds) +ℤ pos 86_401) -ℤ to_z w64 (of_z w64 c.clear_to-after.result))
+    natural_less ((to_z w64 (of_z w64 c.args.seconds) +ℤ pos 86_401) -ℤ to_z w64 (of_z w64 c.clear_hours-after.result))
     ((to_z w64 (of_z w64 c.args.seconds) +ℤ pos 86_401) -ℤ to_z w64 c.loop-after.after-bits)
-    (omega (arith, ints, c.clear_to-after.ensures.high))
-    (omega (arith, ints, c.next_past-after.ensures.after, c.clear_to-after.ensures.low))
+    (omega (arith, ints, c.clear_hours-after.ensures.high))
+    (omega (arith, ints, c.next_past-after.ensures.after, c.clear_hours-after.ensures.low))
 
 pub loop-after-preserved : goal.loop-after-preserved
 loop-after-preserved c =
-    let to : SFits w64 c.clear_to-after.result = search rules in
-    rw (to_z-of_z w64 c.clear_to-after.result to) (record {
-      low = omega (arith, ints, c.loop-after.invariant.low, c.next_past-after.ensures.after, c.clear_to-after.ensures.low);
-      high = omega (arith, ints, c.clear_to-after.ensures.high);
-      earlier = c.clear_to-after.ensures.earlier;
+    let to : SFits w64 c.clear_hours-after.result = search rules in
+    rw (to_z-of_z w64 c.clear_hours-after.result to) (record {
+      low = omega (arith, ints, c.loop-after.invariant.low, c.next_past-after.ensures.after, c.clear_hours-after.ensures.low);
+      high = omega (arith, ints, c.clear_hours-after.ensures.high);
+      earlier = c.clear_hours-after.ensures.earlier;
     })
 
-pub clear_to-after-requires-clause-earlier : goal.clear_to-after-requires-clause-earlier
-clear_to-after-requires-clause-earlier c =
+pub clear_hours-after-requires-clause-earlier : goal.clear_hours-after-requires-clause-earlier
+clear_hours-after-requires-clause-earlier c =
     let fits : SFits w64 c.args.seconds = c.ranges.seconds in
     let next : SFits w64 c.next_past-after.result = search rules in
     let known : IsKnown (observances_said c.args.self.now) c.self.inside.onsets.items c.self.inside.offsets.items c.self.inside.held.items =

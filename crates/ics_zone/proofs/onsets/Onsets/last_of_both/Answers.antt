@@ -5,14 +5,8 @@ use Rattle.ics_zone.specs.Latest.{IsLastOf}
 use Rattle.ics_zone.specs.declared.onsets.Onsets.{Onsets}
 use Rattle.ics_zone.specs.OnsetSets.{IsKeptAt, Has}
 use Rattle.ics_zone.proofs.Cases.{less_or_not_z}
-use Rattle.ics_zone.proofs.LatestLemmas.{last_of_both, last_of_first, last_of_second}
+use Rattle.ics_zone.proofs.LatestLemmas.{later_of, last_of_both, last_of_first, last_of_second}
 use Rattle.ics_zone.proofs.onsets.Onsets.last_of_both.Goals as goal
-
-later_of : (a b m : ℤ) → m ≡ int_max a b → ((m ≡ a) × (b ≤ℤ m)) ⊎ ((m ≡ b) × (a ≤ℤ m))
-later_of a b m e = elim (less_or_not_z a b) [
-  | inl l ↦ inr (omega (arith, ints, clamps, e, l), omega (arith, ints, clamps, e, l))
-  | inr l ↦ inl (omega (arith, ints, clamps, e, l), omega (arith, ints, clamps, e, l))
-]
 
 none_and : (s : Onsets) (t : ℤ) (first second : Option ℤ) → first ≡ None → IsLastOf (Contains s.listed.items) t first → IsLastOf (IsKeptAt s) t second
     → IsLastOf (Has s) t second

@@ -1,0 +1,16 @@
+use Rattle.std.proofs.Common.{rules, w64, to_z, of_z}
+use Rattle.ics_zone.proofs.ZoneSteps.{within_none, within_some}
+use Rattle.ics_zone.proofs.latest.latest_within.Goals as goal
+
+pub loop-place-preserved-in_default : goal.loop-place-preserved-in_default
+loop-place-preserved-in_default c = λ zone all.
+    within_none zone c.args.onsets.now all c.loop-place.place c.index-onsets-place.result c.loop-place-test.true c.index-onsets-place.is
+    (to_z w64 (of_z w64 c.args.moment)) (to_z w64 (of_z w64 c.args.after))
+    c.loop-place.latest (to_z w64 (of_z w64 c.begun-from.result)) (search rules) (c.loop-place.invariant zone all) (search rules)
+
+pub loop-place-preserved : goal.loop-place-preserved
+loop-place-preserved c = λ zone all.
+    within_some zone c.args.onsets.now all c.loop-place.place c.index-onsets-place.result c.loop-place-test.true c.index-onsets-place.is
+    (to_z w64 (of_z w64 c.args.moment)) (to_z w64 (of_z w64 c.args.after))
+    c.loop-place.latest (to_z w64 (of_z w64 c.begun-from.result)) (search rules) c.in-Some.last c.later.result
+    (c.loop-place.invariant zone all) (search rules) (search rules) (search rules) (search rules) c.later.ensures
