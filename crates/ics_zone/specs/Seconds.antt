@@ -1,5 +1,5 @@
 -- Locals and instants as numbers of seconds, and the years for which a place has answers (RFC 5545, section 3.3.5).
-use Rattle.std.specs.Prelude.{◌+ℤ◌, ◌*ℤ◌, ℕ, ℤ, pos, neg_ℤ}
+use Rattle.std.specs.Prelude.{ℤ, pos, neg_ℤ}
 use Rattle.jiff_core.specs.Calendar.{IsBetween}
 
 -- a day of the years 0000 to 9950

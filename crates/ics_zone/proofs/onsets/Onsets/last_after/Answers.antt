@@ -1,4 +1,4 @@
-use Rattle.std.proofs.Common.{rules, arith, SFits, w64, Contains}
+use Rattle.std.proofs.Common.{rules, SFits, w64, Contains}
 use Rattle.std.proofs.lemmas.Int.{to_z-of_z}
 use Rattle.ics_zone.specs.OnsetSets.{IsKeptAt}
 use Rattle.ics_zone.proofs.LatestLemmas.{later_of, last_of_both, first_after}

@@ -1,4 +1,4 @@
-use Rattle.std.proofs.Common.{◌≡◌, Option, None, Some, Contains, List, ℤ, ◌≤ℤ◌, ◌<ℤ◌, subst, arith, SFits, w64}
+use Rattle.std.proofs.Common.{◌≡◌, Option, None, Contains, List, ℤ, ◌<ℤ◌, subst, arith, SFits, w64}
 use Rattle.std.proofs.lemmas.Int.{ints, to_z-of_z}
 use Rattle.ics_zone.specs.Latest.{IsLastOf}
 use Rattle.ics_zone.proofs.onsets.Onsets.last_listed_after.Goals as goal

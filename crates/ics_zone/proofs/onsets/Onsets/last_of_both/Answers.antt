@@ -1,10 +1,8 @@
-use Rattle.std.proofs.Common.{rules, ◌≡◌, ◌⊎◌, inl, inr, ◌≤ℤ◌, ℤ, SFits, w64, arith, None, Some, Option, Contains}
-use Rattle.std.specs.Int.{int_max}
-use Rattle.std.proofs.lemmas.Int.{ints, clamps, to_z-of_z}
+use Rattle.std.proofs.Common.{rules, ◌≡◌, inl, inr, ℤ, SFits, w64, None, Some, Option, Contains}
+use Rattle.std.proofs.lemmas.Int.{to_z-of_z}
 use Rattle.ics_zone.specs.Latest.{IsLastOf}
 use Rattle.ics_zone.specs.declared.onsets.Onsets.{Onsets}
 use Rattle.ics_zone.specs.OnsetSets.{IsKeptAt, Has}
-use Rattle.ics_zone.proofs.Cases.{less_or_not_z}
 use Rattle.ics_zone.proofs.LatestLemmas.{later_of, last_of_both, last_of_first, last_of_second}
 use Rattle.ics_zone.proofs.onsets.Onsets.last_of_both.Goals as goal
 
