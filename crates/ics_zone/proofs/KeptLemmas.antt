@@ -70,16 +70,6 @@ module _ (s : Onsets) (r : Recurrence) (contains : s.rule ≡ Some r) where
           | inr more ↦ (let b = k.is in let e = k.by_end in let a = shown.later k.local more k.early (omega (arith, ints, b, e)) in omega (arith, ints, a, b))
         ]
 
-    -- none of the rule is after another instant and not after t
-    pub none_of_window : (after : ℤ) (from : ℕ) → IsShownBy s.offset_from after from → NoneKept r from end → (u : ℤ) → IsKeptAt s u → u ≤ℤ t → u ≤ℤ after
-    none_of_window after from past none u h l =
-        let k = from_kept u h in
-        let inside = before_end u k l in
-        elim (less_or_not k.local from) [
-          | inl low ↦ (let at = k.is in let a = past.shown k.local low in omega (arith, ints, a, at))
-          | inr high ↦ absurd (not_both (is_kept r k.local) k.kept (none k.local high inside))
-        ]
-
     -- the first after another instant
     module _ (after : ℤ) (from : ℕ) (past : IsShownBy s.offset_from after from) where
       pub next_of_rule : (n : ℕ) → IsNextKept r from end n → (u : ℤ) → u ≡ instant_by s.offset_from n → (v : ℤ) → IsKeptAt s v → after <ℤ v → u ≤ℤ v

@@ -84,7 +84,7 @@ module _ (a b : ℤ → Type 0) (t : ℤ) where
     last = λ v h l. elim h [ inr p ↦ x.last v p l | inl p ↦ absurd (let late = none v p in omega (arith, ints, late, l)) ];
   }
 
--- the last of two sets together, where one has none after an instant
+-- the last of two sets together, where the second has none after an instant
 module _ (a b : ℤ → Type 0) (after t : ℤ) where
   pub first_after : (s : ℤ) → IsLast a t s → after <ℤ s → ((u : ℤ) → b u → u ≤ℤ t → u ≤ℤ after) → IsLast (λ v. a v ⊎ b v) t s
   first_after s x late none = record {
@@ -92,17 +92,6 @@ module _ (a b : ℤ → Type 0) (after t : ℤ) where
     not_after = x.not_after;
     last = λ v h l. elim h [ inl p ↦ x.last v p l | inr p ↦ (let out = none v p l in omega (arith, ints, out, late)) ];
   }
-
-  pub second_after : (s : ℤ) → ((u : ℤ) → a u → u ≤ℤ t → u ≤ℤ after) → IsLast b t s → after <ℤ s → IsLast (λ v. a v ⊎ b v) t s
-  second_after s none x late = record {
-    is = inr x.is;
-    not_after = x.not_after;
-    last = λ v h l. elim h [ inr p ↦ x.last v p l | inl p ↦ (let out = none v p l in omega (arith, ints, out, late)) ];
-  }
-
-  pub neither_after : ((u : ℤ) → a u → u ≤ℤ t → u ≤ℤ after) → ((u : ℤ) → b u → u ≤ℤ t → u ≤ℤ after) → (u : ℤ) → a u ⊎ b u → u ≤ℤ t → u ≤ℤ after
-  neither_after x y u (inl p) l = x u p l
-  neither_after x y u (inr p) l = y u p l
 
 -- the next of a list, or the limit
 module _ (list : List ℤ) (up : IsInOrder list) (t : ℤ) (k : ℕ) (passed : IsPassed list t k) where
