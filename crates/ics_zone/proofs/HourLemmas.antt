@@ -5,6 +5,7 @@ use Rattle.std.proofs.lemmas.Int.{ints}
 use Rattle.ics_values.specs.Sets.{contains}
 use Rattle.ics_rule.specs.Recurrence.{Recurrence}
 use Rattle.ics_rule.specs.Kept.{is_kept}
+use Rattle.ics_rule.specs.PeriodNumbers.{rules_end}
 use Rattle.ics_zone.specs.declared.hours.Hours.{Hours}
 use Rattle.ics_zone.specs.declared.times.Times.{Times}
 use Rattle.ics_zone.specs.declared.onsets.Onsets.{Onsets}
@@ -72,7 +73,7 @@ words_more hours local count marks minute size word part inside is_word is_size 
 ]
 
 -- two hours tell of each instant of an hour whether the rule has an onset there
-pub told_by : (s : Onsets) (r : Recurrence) → s.rule ≡ Some r → (from : ℤ) (local : ℕ) → from ≡ instant_by s.offset_from local → local < 309_289_701_600
+pub told_by : (s : Onsets) (r : Recurrence) → s.rule ≡ Some r → (from : ℤ) (local : ℕ) → from ≡ instant_by s.offset_from local → local + 7_200 < rules_end
     → (o : Option Hours) → IfSome o (AreHoursOf r local) → IsToldBy s (from -ℤ pos 1) (from +ℤ pos 3_600) o
 told_by s r contains from local is early None h = tt
 told_by s r contains from local is early (Some hours) h = λ t low high.

@@ -10,19 +10,20 @@ use Rattle.ics_zone.specs.Observances.{instant_by}
 use Rattle.ics_zone.specs.Latest.{IsLastKept, IsLast}
 use Rattle.ics_zone.specs.OnsetSets.{IsKeptBy, IsKeptAt, Has}
 use Rattle.ics_zone.proofs.Cases.{less_or_not, less_or_not_z, not_both}
+use Rattle.ics_rule.specs.PeriodNumbers.{rules_end}
 
 -- how many locals are shown up to an instant and up to an end
 pub record IsShownTo (from until t : ℤ) (count : ℕ) : Type 0 where
-  pub bound : count ≤ 309_289_708_800
+  pub bound : count ≤ rules_end
   pub shown : (n : ℕ) → n < count → instant_by from n ≤ℤ t
   pub by_until : (n : ℕ) → n < count → instant_by from n ≤ℤ until
-  pub later : (n : ℕ) → count ≤ n → n < 309_289_708_800 → instant_by from n ≤ℤ until → t <ℤ instant_by from n
+  pub later : (n : ℕ) → count ≤ n → n < rules_end → instant_by from n ≤ℤ until → t <ℤ instant_by from n
 
 -- how many locals are shown up to an instant
 pub record IsShownBy (from m : ℤ) (count : ℕ) : Type 0 where
-  pub bound : count ≤ 309_289_708_800
+  pub bound : count ≤ rules_end
   pub shown : (n : ℕ) → n < count → instant_by from n ≤ℤ m
-  pub later : (n : ℕ) → count ≤ n → n < 309_289_708_800 → m <ℤ instant_by from n
+  pub later : (n : ℕ) → count ≤ n → n < rules_end → m <ℤ instant_by from n
 
 module _ (s : Onsets) (r : Recurrence) (contains : s.rule ≡ Some r) where
   pub to_kept : (t : ℤ) → IsKeptBy s.offset_from s.until r t → IsKeptAt s t

@@ -14,9 +14,10 @@ use Rattle.ics_zone.specs.Observances.{ObservanceSaid, IsObservanceSaid, instant
 use Rattle.ics_zone.specs.OnsetSets.{IsKeptBy, AreOnsetsOf, IsListing, IsEnd}
 use Rattle.ics_zone.proofs.Cases.{or_cases, or_left, or_right, and_parts, and_both, lt_true, int_le_true, true_int_le}
 use Rattle.ics_zone.proofs.OnsetLemmas.{onset-local, local-onset}
+use Rattle.ics_rule.specs.PeriodNumbers.{rules_end}
 
 -- what is kept is the start, or earlier than the end of the rules and later than the start
-kept_early : (r : Recurrence) (n : ℕ) → is_kept r n ≡ true → (n ≡ number r.start) ⊎ ((n < 309_289_708_800) × (number r.start < n))
+kept_early : (r : Recurrence) (n : ℕ) → is_kept r n ≡ true → (n ≡ number r.start) ⊎ ((n < rules_end) × (number r.start < n))
 unfolding is_kept is_in_rule
 kept_early r n e = elim (or_cases (n == number r.start) _ e) [
   | inl first ↦ inl ((Decides-eqb n (number r.start)).0 first)

@@ -2,7 +2,7 @@
 use Rattle.std.specs.Prelude.{◌≡◌, ℕ, ◌+◌, ◌<◌, ◌≤◌, ◌/◌, Bool, ◌&&◌, ◌==◌, if◌then◌else◌, Some, IfSome, Option, ℤ, ◌<ℤ◌}
 use Rattle.ics_values.specs.Sets.{contains}
 use Rattle.ics_rule.specs.Recurrence.{Recurrence}
-use Rattle.ics_rule.specs.PeriodNumbers.{minute_of, second_of}
+use Rattle.ics_rule.specs.PeriodNumbers.{minute_of, second_of, rules_end}
 use Rattle.ics_rule.specs.Kept.{is_kept}
 use Rattle.ics_zone.specs.declared.hours.Hours.{Hours}
 use Rattle.ics_zone.specs.declared.onsets.Onsets.{Onsets}
@@ -25,7 +25,7 @@ pub record IsToldAt (onsets : Onsets) (hours : Hours) (t : ℤ) : Type 0 where
   pub rule : Recurrence
   pub is_rule : onsets.rule ≡ Some rule
   pub local : ℕ
-  pub early : local < 309_289_708_800
+  pub early : local < rules_end
   pub is : t ≡ instant_by onsets.offset_from local
   pub same : is_kept rule local ≡ keeps hours local
 

@@ -8,11 +8,16 @@ use Rattle.ics_values.specs.Locals.{number}
 use Rattle.ics_zone.specs.declared.onsets.Onsets.{Onsets}
 use Rattle.ics_zone.specs.Observances.{ObservanceSaid, instant_by, is_until, is_onset}
 use Rattle.ics_zone.specs.Latest.{IsInOrder}
+use Rattle.ics_rule.specs.PeriodNumbers.{rules_end}
+
+-- an instant or a local about which onsets are searched for: about 9,500 years either way, so that the years 0000 to 9950 have room on both sides
+abbrev pub IsSearched : ℤ → Type 0
+IsSearched seconds = IsWithin 300_000_000_000 seconds
 
 -- t is the instant of a local that the rule keeps, and is not after an end
 pub record IsKeptBy (from until : ℤ) (r : Recurrence) (t : ℤ) : Type 0 where
   pub local : ℕ
-  pub early : local < 309_289_708_800
+  pub early : local < rules_end
   pub kept : is_kept r local ≡ true
   pub is : t ≡ instant_by from local
   pub by_end : t ≤ℤ until

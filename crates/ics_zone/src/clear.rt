@@ -1,22 +1,21 @@
 //! The onsets of an observance within an hour, minute by minute.
 ghost use Rattle.std.specs.Prelude.{◌≡◌, ℕ, ℤ, pos, true, ◌<◌, ◌⊎◌, ◌||◌, ◌==◌, length, IfSome, ◌<ℤ◌, ◌≤ℤ◌, ◌+ℤ◌, ◌-ℤ◌};
-ghost use Rattle.jiff_core.specs.Calendar.{IsWithin};
-ghost use Rattle.ics_zone.specs.OnsetSets.{IsKeptAt, Has, IsSound};
+ghost use Rattle.ics_zone.specs.OnsetSets.{IsSearched, IsKeptAt, Has, IsSound};
 ghost use Rattle.ics_zone.specs.Hours.{IsToldBy};
 ghost use Rattle.ics_zone.specs.Marks.{is_marked, IsMarked, IsAsked, AreMarks, AreClear};
 
-use crate::clock::{EPOCH, shown_at};
+use crate::clock::{EPOCH, RULES_END, shown_at};
 use crate::hours::Hours;
 use crate::onsets::Onsets;
 use crate::sixty::{first_of, first_outside, front};
 use ics_values::Moment;
 
-/// Two hours before 9801-01-01T00:00:00, where the rules end.
-const LAST: i64 = 309_289_701_600;
+/// Two hours before the end of the rules.
+const LAST: i64 = RULES_END - 7_200;
 
 // How many seconds of an hour, from an instant on, are not after another instant.
 fn seconds_to(from: Moment, last: Moment) -> i64
-    requires { IsWithin 300_000_000_000 from }
+    requires { IsSearched from }
     ensures first { (k : ℕ) → pos k <ℤ result → (from +ℤ pos k) ≤ℤ last }
     ensures all { (k : ℕ) → k < 3_600 → (from +ℤ pos k) ≤ℤ last → pos k <ℤ result }
 {
@@ -37,7 +36,7 @@ impl Onsets {
     // What the rule keeps within an hour from an instant on, where that is easily told.
     fn hours_from(&self, from: Moment) -> Option<Hours>
         requires sound { IsSound self.now }
-        requires near { IsWithin 300_000_000_000 from }
+        requires near { IsSearched from }
         ensures { IsToldBy self.now (from -ℤ pos 1) (from +ℤ pos 3_600) result }
     {
         let Some(rule) = &self.rule else {
@@ -53,7 +52,7 @@ impl Onsets {
     // The onsets of the rule within an hour from an instant on, where they are easily told.
     fn told_within(&self, from: Moment) -> Option<[u64; 60]>
         requires sound { IsSound self.now }
-        requires near { IsWithin 300_000_000_000 from }
+        requires near { IsSearched from }
         ensures known { IfSome result (λ marks. (k : ℕ) → k < 3_600 → IsMarked marks k → IsKeptAt self.now (from +ℤ pos k)) }
         ensures complete { IfSome result (λ marks. (k : ℕ) → k < 3_600 → IsKeptAt self.now (from +ℤ pos k) → IsMarked marks k) }
     {
@@ -82,7 +81,7 @@ impl Onsets {
     // Marks the onsets within an hour from an instant on, the listed ones and perhaps those of the rule, one after the other.
     fn mark_each(&self, with_rule: bool, from: Moment, marks: &mut [u64])
         requires sound { IsSound self.now }
-        requires near { IsWithin 300_000_000_000 from }
+        requires near { IsSearched from }
         requires length { length marks.old ≡ 60 }
         ensures length { length marks.new ≡ 60 }
         ensures known { (k : ℕ) → IsMarked marks.new k → IsMarked marks.old k ⊎ Has self.now (from +ℤ pos k) }
@@ -100,7 +99,7 @@ impl Onsets {
     // The onsets within an hour from an instant on.
     fn within(&self, from: Moment) -> [u64; 60]
         requires sound { IsSound self.now }
-        requires near { IsWithin 300_000_000_000 from }
+        requires near { IsSearched from }
         ensures known { (k : ℕ) → k < 3_600 → IsMarked result k → Has self.now (from +ℤ pos k) }
         ensures complete { (k : ℕ) → k < 3_600 → Has self.now (from +ℤ pos k) → IsMarked result k }
     {
@@ -122,8 +121,8 @@ impl Onsets {
     /// The instants of its other onsets are marked.
     pub fn clear(&self, seconds: i64, from: Moment, over: &mut [u64], most: i64) -> i64
         requires sound { IsSound self.now }
-        requires near { IsWithin 300_000_000_000 from }
-        requires local { IsWithin 300_000_000_000 seconds }
+        requires near { IsSearched from }
+        requires local { IsSearched seconds }
         requires length { length over.old ≡ 60 }
         requires some { pos 0 ≤ℤ most }
         requires most { most ≤ℤ pos 3_600 }

@@ -4,6 +4,8 @@ ghost use Rattle.jiff_core.specs.Calendar.{IsWithin};
 ghost use Rattle.ics_values.specs.Days.{IsDayNumber};
 ghost use Rattle.ics_values.specs.Locals.{number};
 ghost use Rattle.ics_zone.specs.Observances.{epoch, instant_by};
+ghost use Rattle.ics_rule.specs.PeriodNumbers.{rules_end};
+ghost use Rattle.ics_zone.specs.OnsetSets.{IsSearched};
 
 use ics_values::{Local, Moment};
 
@@ -11,7 +13,7 @@ use ics_values::{Local, Moment};
 pub(crate) const EPOCH: i64 = 62_167_219_200;
 
 /// 9801-01-01T00:00:00, the end of the rules.
-const RULES_END: i64 = 309_289_708_800;
+pub(crate) const RULES_END: i64 = 309_289_708_800;
 
 // The seconds from 0000-01-01T00:00:00 to a local.
 pub(crate) fn number(local: Local) -> u64
@@ -23,7 +25,7 @@ pub(crate) fn number(local: Local) -> u64
 
 // The local with this number.
 pub(crate) fn local_of(n: u64) -> Local
-    requires { n ≤ 309289708800 }
+    requires { n ≤ rules_end }
     ensures day { IsDayNumber result.day }
     ensures value { number result ≡ n }
 {
@@ -44,7 +46,7 @@ pub(crate) fn instant(offset: i32, n: u64) -> Moment
 // The number of the local that a clock with this offset shows at an instant.
 pub(crate) fn shown_at(offset: i32, moment: Moment) -> u64
     requires offset { IsWithin 86_399 offset }
-    requires near { IsWithin 400_000_000_000 moment }
+    requires near { IsSearched moment }
     requires low { pos 0 ≤ℤ (moment +ℤ offset +ℤ pos epoch) }
     ensures { moment ≡ instant_by offset result }
 {
@@ -54,9 +56,9 @@ pub(crate) fn shown_at(offset: i32, moment: Moment) -> u64
 // How many locals before the end of the rules a clock with this offset shows up to an instant.
 pub(crate) fn shown_by(offset: i32, moment: Moment) -> u64
     requires { IsWithin 86_399 offset }
-    ensures bound { result ≤ 309289708800 }
+    ensures bound { result ≤ rules_end }
     ensures shown { (n : ℕ) → n < result → instant_by offset n ≤ℤ moment }
-    ensures later { (n : ℕ) → result ≤ n → n < 309289708800 → moment <ℤ instant_by offset n }
+    ensures later { (n : ℕ) → result ≤ n → n < rules_end → moment <ℤ instant_by offset n }
 {
     let moment = moment.clamp(-100_000_000_000, 400_000_000_000);
     let shown = moment + i64::from(offset) + EPOCH + 1;

@@ -3,6 +3,7 @@ ghost use Rattle.std.specs.Prelude.{◌≡◌, ℕ, ◌+◌, ◌*◌, ◌<◌, �
 ghost use Rattle.ics_values.specs.Sets.{contains};
 ghost use Rattle.ics_zone.specs.Hours.{keeps, AreHoursOf};
 ghost use Rattle.ics_zone.specs.Marks.{is_marked};
+ghost use Rattle.ics_rule.specs.PeriodNumbers.{rules_end};
 
 use crate::sixty::{first_of, front, shifted};
 use crate::times::Times;
@@ -19,7 +20,7 @@ pub(crate) struct Hours {
 impl Hours {
     /// The hour of a local and the next.
     pub fn of(rule: &Rule, local: u64) -> Option<Hours>
-        requires { local < 309289701600 }
+        requires { local + 7_200 < rules_end }
         ensures { IfSome result (AreHoursOf rule.now local) }
     {
         let hour = local / 3_600;
@@ -30,7 +31,6 @@ impl Hours {
 
     // The seconds of a minute of the clock.
     fn minute(&self, minute: u64) -> u64
-        requires { minute < 10000000000 }
         ensures { (n : ℕ) → n < 60 → contains result n ≡ keeps self.now (minute * 60 + n) }
     {
         if minute / 60 == self.hour {
@@ -42,7 +42,6 @@ impl Hours {
 
     // The seconds of a minute that begins at a local.
     fn minute_from(&self, local: u64) -> u64
-        requires { local < 400000000000 }
         ensures { (n : ℕ) → n < 60 → contains result n ≡ keeps self.now (local + n) }
     {
         let minute = local / 60;
@@ -55,7 +54,7 @@ impl Hours {
 
     /// The first seconds of the hour that begins at a local, so many, minute by minute.
     pub fn words(&self, local: u64, count: i64) -> [u64; 60]
-        requires { local < 309289708800 }
+        requires { local < rules_end }
         ensures { (k : ℕ) → k < 3_600 → is_marked result k ≡ (int_lt (pos k) count && keeps self.now (local + k)) }
     {
         let mut words = [0; 60];

@@ -3,14 +3,15 @@ ghost use Rattle.std.specs.Prelude.{◌≡◌, ℕ, ◌≤◌, ◌<◌, true, Ma
 ghost use Rattle.ics_rule.specs.Kept.{is_kept};
 ghost use Rattle.ics_rule.specs.Next.{NoneKept, IsNextKept};
 ghost use Rattle.ics_zone.specs.Latest.{IsLastKept, IsKnownLast};
+ghost use Rattle.ics_rule.specs.PeriodNumbers.{rules_end};
 
 use crate::clock::{local_of, number};
 use ics_rule::{Cursor, Rule};
 
 /// The first kept local from a place on that is earlier than a bound.
 pub(crate) fn next_kept(rule: &Rule, from: u64, bound: u64) -> Option<u64>
-    requires from { from ≤ 309289708800 }
-    requires bound { bound ≤ 309289708800 }
+    requires from { from ≤ rules_end }
+    requires bound { bound ≤ rules_end }
     ensures { MatchOption result (NoneKept rule.now from bound) (IsNextKept rule.now from bound) }
 {
     let mut cursor = Cursor::at(rule, local_of(from));
@@ -23,7 +24,7 @@ pub(crate) fn next_kept(rule: &Rule, from: u64, bound: u64) -> Option<u64>
 /// The last kept local that is earlier than a bound. The search begins a little before the bound, and goes twice as far back each time
 /// that it finds none.
 pub(crate) fn last_kept(rule: &Rule, ago: u64, bound: u64) -> Option<u64>
-    requires { bound ≤ 309289708800 }
+    requires { bound ≤ rules_end }
     ensures { MatchOption result (NoneKept rule.now 0 bound) (IsLastKept rule.now bound) }
 {
     let mut end = bound;
@@ -41,8 +42,8 @@ pub(crate) fn last_kept(rule: &Rule, ago: u64, bound: u64) -> Option<u64>
 
 /// The last kept local from a place on that is earlier than a bound. Mostly there is just one.
 pub(crate) fn last_between(rule: &Rule, from: u64, bound: u64) -> Option<u64>
-    requires from { from ≤ 309289708800 }
-    requires bound { bound ≤ 309289708800 }
+    requires from { from ≤ rules_end }
+    requires bound { bound ≤ rules_end }
     ensures { MatchOption result (NoneKept rule.now from bound) (IsLastKept rule.now bound) }
 {
     let end = local_of(bound);
@@ -67,8 +68,8 @@ pub(crate) struct Known {
 /// What is known after a look from a place on: a later kept local, or that none is kept from there on.
 fn after_look(rule: &Rule, known: Known, from: u64) -> Known
     requires after { known.last < from }
-    requires from { from ≤ 309289708800 }
-    requires end { known.end ≤ 309289708800 }
+    requires from { from ≤ rules_end }
+    requires end { known.end ≤ rules_end }
     ensures known { (bound : ℕ) → IsKnownLast rule.now bound known → IsKnownLast rule.now bound result }
     ensures later { known.last ≤ result.last }
     ensures earlier { result.end ≤ known.end }
@@ -91,7 +92,7 @@ fn last_from(rule: &Rule, first: u64, second: u64, bound: u64) -> u64
     requires kept { is_kept rule.now second ≡ true }
     requires order { first < second }
     requires early { second < bound }
-    requires bound { bound ≤ 309289708800 }
+    requires bound { bound ≤ rules_end }
     ensures { IsLastKept rule.now bound result }
 {
     let gap = second - first;

@@ -3,10 +3,10 @@ ghost use Rattle.std.specs.Prelude.{◌≡◌, ◌≢◌, ◌↔◌, ◌<◌, le
 ghost use Rattle.std.specs.Prelude.{Err, IsTrue, IfSome, Ok, IfOk, MatchBool, MatchOption, true, false};
 ghost use Rattle.std.specs.Int.{int_min};
 ghost use Rattle.std.specs.List.{list_any};
-ghost use Rattle.jiff_core.specs.Calendar.{IsWithin};
 ghost use Rattle.ics_zone.specs.Observances.{observance_said, observances_said, has_finer_rule};
 ghost use Rattle.ics_zone.specs.Seconds.{IsDay, IsMoment};
 ghost use Rattle.ics_values.specs.Locals.{seconds_at};
+ghost use Rattle.ics_zone.specs.OnsetSets.{IsSearched};
 ghost use Rattle.ics_zone.specs.ZoneOnsets.{AreOnsetsOfAll, HaveOffsets};
 
 use crate::latest::{
@@ -123,7 +123,7 @@ impl Observed {
 
     // Holds the span about an instant, if there is one, there is room for it, and no allocation fails.
     fn hold(&mut self, near: Moment)
-        requires { IsWithin 300_000_000_000 near }
+        requires { IsSearched near }
         ensures { self.new ≡ self.old }
     {
         if self.held.len() >= HELD || self.held_over(near, near).is_some() {
@@ -157,7 +157,7 @@ impl Observed {
 
     // The span about an instant, from one onset to the next. None if no onset is before the instant.
     fn steady_about(&self, near: Moment) -> Option<Steady>
-        requires { IsWithin 300_000_000_000 near }
+        requires { IsSearched near }
         ensures { IfSome result (λ s. IsSteady (zone_offset (observances_said self.now)) s.from s.next s.offset) }
     {
         let latest = latest_of(&self.onsets, self.ago, near)?;
@@ -210,7 +210,7 @@ impl Observed {
 
     // The span from the greatest onset that is not after an instant up to that instant. None if there is no such onset.
     fn steady_to(&self, to: Moment) -> Option<Steady>
-        requires { IsWithin 300_000_000_000 to }
+        requires { IsSearched to }
         ensures to { IfSome result (λ s. to <ℤ s.next) }
         ensures steady { IfSome result (λ s. IsSteady (zone_offset (observances_said self.now)) s.from s.next s.offset) }
     {
@@ -224,7 +224,7 @@ impl Observed {
 
     // A span that reaches from one instant to another. None if an onset is after the first and not after the second.
     fn steady_over(&self, from: Moment, to: Moment) -> Option<Steady>
-        requires { IsWithin 300_000_000_000 to }
+        requires { IsSearched to }
         ensures over { IfSome result (λ s. (s.from ≤ℤ from) × (to <ℤ s.next)) }
         ensures steady { IfSome result (λ s. IsSteady (zone_offset (observances_said self.now)) s.from s.next s.offset) }
     {
@@ -290,7 +290,7 @@ impl Observed {
 
     // Whether the clock shows, at an instant, a later local than this one, given by its seconds.
     fn is_past(&self, seconds: i64, moment: Moment) -> bool
-        requires { IsWithin 300_000_000_000 moment }
+        requires { IsSearched moment }
         ensures { MatchBool result
             (seconds <ℤ shown (zone_offset (observances_said self.now)) moment)
             (shown (zone_offset (observances_said self.now)) moment ≤ℤ seconds) }
@@ -358,8 +358,8 @@ impl Observed {
 
     // A local, given by its seconds, read with the offset before an instant.
     fn read_before(&self, seconds: i64, past: Moment) -> Moment
-        requires local { IsWithin 300_000_000_000 seconds }
-        requires past { IsWithin 300_000_000_000 past }
+        requires local { IsSearched seconds }
+        requires past { IsSearched past }
         ensures { result ≡ seconds -ℤ zone_offset (observances_said self.now) (past -ℤ pos 1) }
     {
         seconds - i64::from(self.in_force(past - 1))

@@ -5,6 +5,7 @@ ghost use Rattle.std.specs.Option.{option_map};
 ghost use Rattle.ics_zone.specs.Observances.{instant_by, observance_said, rule_from};
 ghost use Rattle.ics_zone.specs.Latest.{IsInOrder, IsPassed, IsLast, IsLastOf, IsLastAfter};
 ghost use Rattle.ics_zone.specs.OnsetSets.{IsKeptAt, Has, IsSound, AreOnsetsOf, IsListing, IsEnd};
+ghost use Rattle.ics_rule.specs.PeriodNumbers.{rules_end};
 
 use crate::Observance;
 use crate::clock::{instant, number, shown_by};
@@ -146,10 +147,10 @@ impl Onsets {
     // How many locals before the end of the rules the clock before the onsets shows up to an instant and up to an UNTIL in UTC.
     fn shown_to(&self, moment: Moment) -> u64
         requires { IsSound self.now }
-        ensures bound { result ≤ 309289708800 }
+        ensures bound { result ≤ rules_end }
         ensures shown { (n : ℕ) → n < result → instant_by self.now.offset_from n ≤ℤ moment }
         ensures by_until { (n : ℕ) → n < result → instant_by self.now.offset_from n ≤ℤ self.now.until }
-        ensures later { (n : ℕ) → result ≤ n → n < 309289708800 → instant_by self.now.offset_from n ≤ℤ self.now.until
+        ensures later { (n : ℕ) → result ≤ n → n < rules_end → instant_by self.now.offset_from n ≤ℤ self.now.until
             → moment <ℤ instant_by self.now.offset_from n }
     {
         shown_by(self.offset_from, moment.min(self.until))

@@ -4,6 +4,7 @@ use Rattle.std.specs.Int.{int_max, int_min}
 use Rattle.jiff_core.specs.Calendar.{IsWithin}
 use Rattle.std.proofs.lemmas.Int.{ints, clamps, to_z-of_z}
 use Rattle.ics_zone.specs.Observances.{epoch, instant_by}
+use Rattle.ics_rule.specs.PeriodNumbers.{rules_end}
 use Rattle.ics_zone.proofs.clock.shown_by.Goals as goal
 
 abs-is : (z : ℤ) → pos 0 ≤ℤ z → pos (unsigned_abs z) ≡ z
@@ -13,7 +14,7 @@ abs-is (negsuc n) h = absurd (omega (arith, ints))
 -- the sum that is clamped twice
 record Clamped (offset moment near shown : ℤ) : Type 0 where
   near_is : near ≡ int_max (negsuc 99_999_999_999) (int_min moment (pos 400_000_000_000))
-  shown_is : shown ≡ int_max (pos 0) (int_min (near +ℤ offset +ℤ pos epoch +ℤ pos 1) (pos 309_289_708_800))
+  shown_is : shown ≡ int_max (pos 0) (int_min (near +ℤ offset +ℤ pos epoch +ℤ pos 1) (pos rules_end))
 
 module _ (offset moment near shown : ℤ) (short : IsWithin 86_399 offset) (h : Clamped offset moment near shown) (n : ℕ) where
   low : pos 0 ≤ℤ shown
@@ -26,7 +27,7 @@ module _ (offset moment near shown : ℤ) (short : IsWithin 86_399 offset) (h : 
       let b = h.shown_is in
       omega (arith, ints, clamps, is, a, b, short.0, short.1, l)
 
-  above : unsigned_abs shown ≤ n → n < 309_289_708_800 → moment <ℤ instant_by offset n
+  above : unsigned_abs shown ≤ n → n < rules_end → moment <ℤ instant_by offset n
   above l e =
       let is = abs-is shown low in
       let a = h.near_is in
