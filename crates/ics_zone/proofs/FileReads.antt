@@ -1,20 +1,17 @@
 -- What jiff's reader answers for the bytes of a zone file, and what the file says.
-use Rattle.std.proofs.Common.{◌≡◌, ℕ, ◌≤◌, true, false, Bool, cond, List, length, map, nat_le, Option, Some, None, option_map, IfSome, Result, Ok, Err, refl}
+use Rattle.std.proofs.Common.{◌≡◌, ℕ, ◌≤◌, true, false, Bool, cond, List, length, map, nat_le, Option, Some, None, option_map, IfSome, Ok, refl}
 use Rattle.std.proofs.Common.{ap, ◌∙◌, arith, inl, inr}
 use Rattle.std.proofs.lemmas.Bool.Decides.{nat_tests}
 use Rattle.jiff_core.specs.declared.error.Error.{Error}
-use Rattle.jiff_core.specs.declared.error.Error.TheVariants.{OutOfMemory, Tzif as Broken}
-use Rattle.jiff_core.specs.declared.error.TzifFault.{TzifFault}
+use Rattle.jiff_core.specs.declared.error.Error.TheVariants.{OutOfMemory}
 use Rattle.jiff_tz.specs.PosixText.{tz_view}
-use Rattle.jiff_tz.specs.Tzif.{tzif_view, RuleAgrees, IsParseFailure, IsRefused}
+use Rattle.jiff_tz.specs.Tzif.{tzif_view, RuleAgrees, IsParseFailure}
 use Rattle.jiff_tz.specs.TzifAgree.{FooterAgrees}
 use Rattle.jiff_tz.specs.TzifReader.{read_tzif}
 use Rattle.jiff_tz.specs.TzifText as Text
 use Rattle.jiff_tz.specs.TzifText.{TransitionText}
 use Rattle.jiff_tz.specs.declared.posix.TimeZone.{TimeZone}
 use Rattle.jiff_tz.specs.declared.tzif.Tzif.{Tzif}
-use Rattle.ics_zone.specs.ZoneFileFaults.{fault_by}
-use Rattle.ics_zone.specs.declared.zone_file_fault.ZoneFileFault.TheVariants.{BadZoneFile}
 use Rattle.ics_zone.specs.ZoneFiles.{agrees, agreed, zone_file}
 use Rattle.ics_zone.proofs.FileLemmas.{agrees_yes, agrees_no}
 
@@ -43,14 +40,3 @@ file_refused bytes e failure other = by (nat_le (length bytes) 1_048_576)
     by : (b : Bool) → cond b (agreed (read_tzif bytes)) None ≡ None
     by true = none
     by false = refl
-
--- no table comes of them, and their fault is not want of memory
-pub none_read : (bytes : List ℕ) (fault : TzifFault) (z : Tzif) → read_tzif bytes ≡ Err fault → read_tzif bytes ≡ Ok (tzif_view z) → ⊥
-none_read bytes fault z broken read = cc
-
-pub broken_fault : (bytes : List ℕ) (fault : TzifFault) (r : Result Tzif Error) (e : Error) → read_tzif bytes ≡ Err fault → IsRefused (read_tzif bytes) r
-    → r ≡ Err e → fault_by e ≡ BadZoneFile
-broken_fault bytes fault r e broken refused is =
-    let failed : r ≡ Err (Broken fault) = rw broken at refused in
-    let same : e ≡ Broken fault = cc in
-    ap fault_by same

@@ -1,5 +1,6 @@
 -- What two hours tell of the onsets of a rule.
 use Rattle.std.proofs.Common.{◌≡◌, ℕ, ◌+◌, ◌-◌, ◌*◌, ◌/◌, ◌%◌, ◌<◌, ◌==◌, ◌&&◌, nat_lt, inl, inr, refl, Bool, true, false, sym, subst, ap, ◌∙◌, arith, Option, Some, None, List, length, set, ℤ, pos, ◌+ℤ◌, ◌-ℤ◌, ◌<ℤ◌, ◌≤ℤ◌}
+use Rattle.std.proofs.lemmas.Bool.{true_from_ne_false, cases_lt, cases_eq, eq-eqb, ne_eqb, and_parts, and_from}
 use Rattle.std.specs.Prelude.{IfSome, if◌then◌else◌, int_lt}
 use Rattle.std.proofs.lemmas.Int.{ints}
 use Rattle.ics_values.specs.Sets.{contains}
@@ -14,7 +15,7 @@ use Rattle.ics_zone.specs.ZoneOffsets.{natural}
 use Rattle.ics_zone.specs.OnsetSets.{IsKeptAt}
 use Rattle.ics_zone.specs.Hours.{keeps_time, keeps, AreHoursOf, IsToldAt, IsTold, IsToldBy}
 use Rattle.ics_zone.specs.Marks.{is_marked, IsMarked}
-use Rattle.ics_zone.proofs.Cases.{less_or_not, same_or_not, true_eq, false_eq, not_both, and_parts, and_both, int_lt_true, true_int_lt}
+use Rattle.ics_zone.proofs.Cases.{not_both, int_lt_true, true_int_lt}
 use Rattle.ics_zone.proofs.KeptLemmas.{to_kept, from_kept}
 use Rattle.ics_zone.proofs.MinuteLemmas.{marked-set_same, marked-set_other}
 use Rattle.ics_zone.proofs.OnsetLemmas.{natural-is}
@@ -23,9 +24,9 @@ use Rattle.ics_zone.proofs.OnsetLemmas.{natural-is}
 pub hours_of : (r : Recurrence) (local : ℕ) (here next : Times) → ((n : ℕ) → n / 3_600 ≡ local / 3_600 → is_kept r n ≡ keeps_time here n)
     → ((n : ℕ) → n / 3_600 ≡ local / 3_600 + 1 → is_kept r n ≡ keeps_time next n)
     → AreHoursOf r local (record { hour = local / 3_600; here = here; next = next })
-hours_of r local here next now later n from early = elim (same_or_not (n / 3_600) (local / 3_600)) [
-  | inl e ↦ now n e ∙ sym (ap (λ b. if b then keeps_time here n else keeps_time next n) (true_eq (n / 3_600) (local / 3_600) e))
-  | inr ne ↦ later n (omega (arith, from, early, ne)) ∙ sym (ap (λ b. if b then keeps_time here n else keeps_time next n) (false_eq (n / 3_600) (local / 3_600) ne))
+hours_of r local here next now later n from early = elim (cases_eq (n / 3_600) (local / 3_600)) [
+  | inl e ↦ now n e ∙ sym (ap (λ b. if b then keeps_time here n else keeps_time next n) (eq-eqb (n / 3_600) (local / 3_600) e))
+  | inr ne ↦ later n (omega (arith, from, early, ne)) ∙ sym (ap (λ b. if b then keeps_time here n else keeps_time next n) (ne_eqb (n / 3_600) (local / 3_600) ne))
 ]
 
 -- a minute that begins at a local has the seconds of two minutes of the clock
@@ -33,7 +34,7 @@ pub minute_from_both : (hours : Hours) (local here next word : ℕ) → ((n : �
     → ((n : ℕ) → n < 60 → contains next n ≡ keeps hours ((local / 60 + 1) * 60 + n))
     → ((n : ℕ) → n + local % 60 < 60 → contains word n ≡ contains here (n + local % 60))
     → ((n m : ℕ) → m < local % 60 → n + local % 60 ≡ m + 60 → contains word n ≡ contains next m) → (n : ℕ) → n < 60 → contains word n ≡ keeps hours (local + n)
-minute_from_both hours local here next word is_here is_next low high n small = elim (less_or_not (n + local % 60) 60) [
+minute_from_both hours local here next word is_here is_next low high n small = elim (cases_lt (n + local % 60) 60) [
   | inl less ↦ (
       let at : local / 60 * 60 + (n + local % 60) ≡ local + n = omega arith in
       low n less ∙ is_here (n + local % 60) less ∙ ap (keeps hours) at)
@@ -62,7 +63,7 @@ pub words_more : (hours : Hours) (local : ℕ) (count : ℤ) (marks : List ℕ) 
     → ((n : ℕ) → contains part n ≡ (nat_lt n size && contains word n))
     → ((k : ℕ) → k < minute * 60 → is_marked marks k ≡ (int_lt (pos k) count && keeps hours (local + k))) → (k : ℕ) → k < (minute + 1) * 60
     → is_marked (set marks minute part) k ≡ (int_lt (pos k) count && keeps hours (local + k))
-words_more hours local count marks minute size word part inside is_word is_size is_part old k early = elim (same_or_not (k / 60) minute) [
+words_more hours local count marks minute size word part inside is_word is_size is_part old k early = elim (cases_eq (k / 60) minute) [
   | inl e ↦ (
       let here : minute * 60 + k % 60 ≡ k = omega (arith, e) in
       let there : local + minute * 60 + k % 60 ≡ local + k = omega (arith, e) in
@@ -109,10 +110,6 @@ module _ (s : Onsets) (hours : Hours) (t : ℤ) (told : IsToldAt s hours t) (n :
       not_both (is_kept told.rule told.local) (subst (λ m. is_kept told.rule m ≡ true) same k.kept)
       (told.same ∙ (ap (keeps hours) (sym same_local) ∙ (sym test ∙ other)))
 
-is_true : (b : Bool) → (b ≡ false → ⊥) → b ≡ true
-is_true true h = refl
-is_true false h = absurd (h refl)
-
 -- what the words of an hour tell of the onsets of a rule
 module _ (s : Onsets) (hours : Hours) (from : ℤ) (local : ℕ) (count : ℤ) (marks : List ℕ) (told : IsTold s (from -ℤ pos 1) (from +ℤ pos 3_600) hours)
     (at : from ≡ instant_by s.offset_from local) (words : (k : ℕ) → k < 3_600 → is_marked marks k ≡ (int_lt (pos k) count && keeps hours (local + k)))
@@ -131,5 +128,5 @@ module _ (s : Onsets) (hours : Hours) (from : ℤ) (local : ℕ) (count : ℤ) (
   told_complete k low h =
       let t = told_at k low in
       let by_end = (from_kept s t.rule t.is_rule (from +ℤ pos k) h).by_end in
-      words k low ∙ and_both (int_lt (pos k) count) (keeps hours (local + k)) (true_int_lt (pos k) count (up k low by_end))
-      (is_true (keeps hours (local + k)) (λ not. not_kept_told s hours (from +ℤ pos k) t (local + k) (omega (arith, ints, at)) (keeps hours (local + k)) refl not h))
+      words k low ∙ and_from (int_lt (pos k) count) (keeps hours (local + k)) (true_int_lt (pos k) count (up k low by_end))
+      (true_from_ne_false (keeps hours (local + k)) (λ not. not_kept_told s hours (from +ℤ pos k) t (local + k) (omega (arith, ints, at)) (keeps hours (local + k)) refl not h))

@@ -1,5 +1,6 @@
 -- The last and the next onset of a rule.
-use Rattle.std.proofs.Common.{◌≡◌, ℕ, ◌<◌, ◌≤◌, inl, inr, sym, subst, arith, Option, Some, Contains, ℤ, ◌<ℤ◌, ◌≤ℤ◌}
+use Rattle.std.proofs.Common.{◌≡◌, ℕ, ◌<◌, inl, inr, sym, subst, arith, Option, Some, Contains, ℤ, ◌<ℤ◌, ◌≤ℤ◌}
+use Rattle.std.proofs.lemmas.Bool.{cases_lt}
 use Rattle.std.specs.Prelude.{MatchOption}
 use Rattle.std.proofs.lemmas.Int.{ints}
 use Rattle.ics_rule.specs.Recurrence.{Recurrence}
@@ -8,22 +9,8 @@ use Rattle.ics_rule.specs.Next.{NoneKept, IsNextKept}
 use Rattle.ics_zone.specs.declared.onsets.Onsets.{Onsets}
 use Rattle.ics_zone.specs.Observances.{instant_by}
 use Rattle.ics_zone.specs.Latest.{IsLastKept, IsLast}
-use Rattle.ics_zone.specs.OnsetSets.{IsKeptBy, IsKeptAt, Has}
-use Rattle.ics_zone.proofs.Cases.{less_or_not, less_or_not_z, not_both}
-use Rattle.ics_rule.specs.PeriodNumbers.{rules_end}
-
--- how many locals are shown up to an instant and up to an end
-pub record IsShownTo (from until t : ℤ) (count : ℕ) : Type 0 where
-  pub bound : count ≤ rules_end
-  pub shown : (n : ℕ) → n < count → instant_by from n ≤ℤ t
-  pub by_until : (n : ℕ) → n < count → instant_by from n ≤ℤ until
-  pub later : (n : ℕ) → count ≤ n → n < rules_end → instant_by from n ≤ℤ until → t <ℤ instant_by from n
-
--- how many locals are shown up to an instant
-pub record IsShownBy (from m : ℤ) (count : ℕ) : Type 0 where
-  pub bound : count ≤ rules_end
-  pub shown : (n : ℕ) → n < count → instant_by from n ≤ℤ m
-  pub later : (n : ℕ) → count ≤ n → n < rules_end → m <ℤ instant_by from n
+use Rattle.ics_zone.specs.OnsetSets.{IsShownBy, IsShownTo, IsKeptBy, IsKeptAt, Has}
+use Rattle.ics_zone.proofs.Cases.{less_or_not_z, not_both}
 
 module _ (s : Onsets) (r : Recurrence) (contains : s.rule ≡ Some r) where
   pub to_kept : (t : ℤ) → IsKeptBy s.offset_from s.until r t → IsKeptAt s t
@@ -35,7 +22,7 @@ module _ (s : Onsets) (r : Recurrence) (contains : s.rule ≡ Some r) where
   module _ (t : ℤ) (end : ℕ) (shown : IsShownTo s.offset_from s.until t end) where
     -- an onset that is not after t is of a local before the end
     before_end : (u : ℤ) (k : IsKeptBy s.offset_from s.until r u) → u ≤ℤ t → k.local < end
-    before_end u k l = elim (less_or_not k.local end) [
+    before_end u k l = elim (cases_lt k.local end) [
       | inl h ↦ h
       | inr h ↦ absurd (let b = k.is in let e = k.by_end in let a = shown.later k.local h k.early (omega (arith, ints, b, e)) in omega (arith, ints, a, b, l))
     ]
@@ -57,7 +44,7 @@ module _ (s : Onsets) (r : Recurrence) (contains : s.rule ≡ Some r) where
               let k = from_kept v h in
               let inside = before_end v k l in
               let at = k.is in
-              elim (less_or_not n k.local) [
+              elim (cases_lt n k.local) [
                 | inl more ↦ absurd (not_both (is_kept r k.local) k.kept (found.last k.local (omega (arith, more)) inside))
                 | inr less ↦ omega (arith, ints, at, is, less)
               ];
@@ -66,7 +53,7 @@ module _ (s : Onsets) (r : Recurrence) (contains : s.rule ≡ Some r) where
     pub none_of_rule : NoneKept r 0 end → (u : ℤ) → IsKeptAt s u → t <ℤ u
     none_of_rule none u h =
         let k = from_kept u h in
-        elim (less_or_not k.local end) [
+        elim (cases_lt k.local end) [
           | inl less ↦ absurd (not_both (is_kept r k.local) k.kept (none k.local (omega arith) less))
           | inr more ↦ (let b = k.is in let e = k.by_end in let a = shown.later k.local more k.early (omega (arith, ints, b, e)) in omega (arith, ints, a, b))
         ]
@@ -77,20 +64,13 @@ module _ (s : Onsets) (r : Recurrence) (contains : s.rule ≡ Some r) where
       next_of_rule n found u is v h l =
           let k = from_kept v h in
           let at = k.is in
-          elim (less_or_not k.local n) [
+          elim (cases_lt k.local n) [
             | inr more ↦ omega (arith, ints, at, is, more)
-            | inl less ↦ elim (less_or_not k.local from) [
+            | inl less ↦ elim (cases_lt k.local from) [
               | inl low ↦ absurd (let a = past.shown k.local low in omega (arith, ints, a, at, l))
               | inr high ↦ absurd (not_both (is_kept r k.local) k.kept (found.least k.local high less))
             ]
           ]
-
-      pub after_of_rule : (n : ℕ) → IsNextKept r from end n → (u : ℤ) → u ≡ instant_by s.offset_from n → after <ℤ u
-      after_of_rule n found u is =
-          let a = found.in_bound in
-          let b = shown.bound in
-          let c = past.later n found.from_place (omega (arith, a, b)) in
-          omega (arith, ints, c, is)
 
       pub bound_of_rule : (n : ℕ) → IsNextKept r from end n → (u : ℤ) → u ≡ instant_by s.offset_from n → u ≤ℤ t
       bound_of_rule n found u is = let a = shown.shown n found.in_bound in omega (arith, ints, a, is)
@@ -99,9 +79,9 @@ module _ (s : Onsets) (r : Recurrence) (contains : s.rule ≡ Some r) where
       no_next_of_rule none v h l =
           let k = from_kept v h in
           let at = k.is in
-          elim (less_or_not k.local end) [
+          elim (cases_lt k.local end) [
             | inr more ↦ (let e = k.by_end in let a = shown.later k.local more k.early (omega (arith, ints, at, e)) in omega (arith, ints, a, at))
-            | inl less ↦ elim (less_or_not k.local from) [
+            | inl less ↦ elim (cases_lt k.local from) [
               | inl low ↦ absurd (let a = past.shown k.local low in omega (arith, ints, a, at, l))
               | inr high ↦ absurd (not_both (is_kept r k.local) k.kept (none k.local high less))
             ]

@@ -1,10 +1,11 @@
 -- The last of a set of instants, and the next.
 use Rattle.std.proofs.Common.{◌≡◌, ℕ, ◌<◌, ◌-◌, ◌⊎◌, inl, inr, sym, arith, List, length, get_or, Contains, ℤ, ◌<ℤ◌, ◌≤ℤ◌}
+use Rattle.std.proofs.lemmas.Bool.{cases_lt}
 use Rattle.std.specs.Int.{int_max}
 use Rattle.std.proofs.lemmas.Int.{ints, clamps}
 use Rattle.std.proofs.lemmas.List.{get_or_default}
 use Rattle.ics_zone.specs.Latest.{IsInOrder, IsPassed, IsLast}
-use Rattle.ics_zone.proofs.Cases.{less_or_not, less_or_not_z}
+use Rattle.ics_zone.proofs.Cases.{less_or_not_z}
 
 module _ (list : List ℤ) (up : IsInOrder list) (t : ℤ) (k : ℕ) (passed : IsPassed list t k) where
   -- none of a list is passed, and its last that is
@@ -22,7 +23,7 @@ module _ (list : List ℤ) (up : IsInOrder list) (t : ℤ) (k : ℕ) (passed : I
       record {
         is = (k - 1, inside, sym is);
         not_after = omega (arith, ints, early, is);
-        last = λ u h l. elim (less_or_not h.0 k) [
+        last = λ u h l. elim (cases_lt h.0 k) [
           | inl less ↦ (
               let low = up h.0 (k - 1) u (omega (arith, less)) inside in
               let same = get_or_default list (k - 1) u s inside in
@@ -34,7 +35,7 @@ module _ (list : List ℤ) (up : IsInOrder list) (t : ℤ) (k : ℕ) (passed : I
 
   -- the first that is not passed
   pub next_listed : (s : ℤ) → k < length list → s ≡ get_or list k s → (u : ℤ) → Contains list u → t <ℤ u → s ≤ℤ u
-  next_listed s inside is u h l = elim (less_or_not h.0 k) [
+  next_listed s inside is u h l = elim (cases_lt h.0 k) [
     | inl less ↦ absurd (let early = passed.before h.0 u (omega arith) less in let at = h.2 in omega (arith, ints, early, at, l))
     | inr more ↦ (
         let low = up k h.0 u more h.1 in

@@ -1,5 +1,6 @@
 -- The list of the instants of DTSTART and of the RDATEs.
 use Rattle.std.proofs.Common.{◌≡◌, ℕ, zero, suc, ◌+◌, ◌-◌, ◌<◌, ◌≤◌, ◌⊎◌, inl, inr, Bool, true, false, ◌||◌, ◌==◌, refl, sym, ap, subst, ◌∙◌, arith, List, [], ◌∷◌, ◌++◌, length, get_or, take, Contains, ℤ, ◌≤ℤ◌}
+use Rattle.std.proofs.lemmas.Bool.{or_cases, or_left, or_right}
 use Rattle.std.specs.List.{list_any}
 use Rattle.std.specs.List.Sorted.{IsPermutation, IsSorted}
 use Rattle.std.specs.Ordering.{int_cmp, is_lt}
@@ -14,7 +15,7 @@ use Rattle.ics_values.specs.Locals.{number}
 use Rattle.ics_zone.specs.Observances.{ObservanceSaid, instant_by}
 use Rattle.ics_zone.specs.Latest.{IsInOrder}
 use Rattle.ics_zone.specs.OnsetSets.{IsListing}
-use Rattle.ics_zone.proofs.Cases.{or_cases, or_left, or_right, not_both}
+use Rattle.ics_zone.proofs.Cases.{not_both}
 
 -- local n is DTSTART or one of these RDATEs
 abbrev pub is_listed_in : ObservanceSaid → List Local → ℕ → Bool

@@ -1,9 +1,9 @@
 -- The marks at the onsets of an hour.
 use Rattle.std.proofs.Common.{◌≡◌, ℕ, ◌+◌, ◌<◌, ◌≤◌, ◌⊎◌, ◌*◌, ◌/◌, ◌%◌, ◌==◌, ◌&&◌, ◌||◌, nat_lt, inl, inr, Bool, true, false, sym, subst, ap, ◌∙◌, arith, List, Some, slice_get, length, get_or, set, replicate, bit_or, ℤ, pos, ◌+ℤ◌, ◌-ℤ◌, ◌<ℤ◌, ◌≤ℤ◌}
+use Rattle.std.proofs.lemmas.Bool.{cases_lt, cases_eq, eqb-true, eq-eqb, or_cases, or_left, or_right, and_parts}
 use Rattle.std.specs.Prelude.{int_lt}
 use Rattle.std.proofs.lemmas.Int.{ints}
 use Rattle.std.proofs.lemmas.List.{get_or-replicate, get_or_past, length-replicate}
-use Rattle.std.proofs.lemmas.Option.{slice_get_within}
 use Rattle.ics_values.specs.Sets.{contains}
 use Rattle.ics_zone.specs.declared.onsets.Onsets.{Onsets}
 use Rattle.ics_zone.specs.Observances.{ObservanceSaid}
@@ -11,7 +11,7 @@ use Rattle.ics_zone.specs.ZoneOffsets.{natural, IsOnset}
 use Rattle.ics_zone.specs.OnsetSets.{Has}
 use Rattle.ics_zone.specs.ZoneOnsets.{AreOnsetsOfAll}
 use Rattle.ics_zone.specs.Marks.{is_marked, IsMarked, IsAsked, AreMarks, AreClear}
-use Rattle.ics_zone.proofs.Cases.{less_or_not, less_or_not_z, same_or_not, eq_true, true_eq, not_both, or_cases, or_left, or_right, and_parts, int_lt_true}
+use Rattle.ics_zone.proofs.Cases.{less_or_not_z, not_both, int_lt_true}
 use Rattle.ics_zone.proofs.SixtyLemmas.{contains-none, contains-or}
 use Rattle.ics_zone.proofs.MinuteLemmas.{marked-set_same, marked-set_other}
 use Rattle.ics_zone.proofs.OnsetLemmas.{natural-is}
@@ -24,7 +24,7 @@ module _ (s : Onsets) (with_rule : Bool) (from : ℤ) (was now : List ℕ) (at :
       → (k : ℕ) → IsMarked now k → IsMarked before k ⊎ Has s (from +ℤ pos k)
   known_more before contains old k m = elim (or_cases (k == second) (is_marked was k) (sym (marks k) ∙ m)) [
     | inl e ↦ (
-        let same = eq_true k second e in
+        let same = eqb-true k second e in
         let here : at ≡ from +ℤ pos k = omega (arith, ints, is, same) in
         inr (subst (Has s) here contains))
     | inr o ↦ old k o
@@ -40,7 +40,7 @@ module _ (s : Onsets) (with_rule : Bool) (from : ℤ) (was now : List ℕ) (at :
     | inl less ↦ stay_more k (old k less asked)
     | inr more ↦ elim (less_or_not_z at (from +ℤ pos k)) [
       | inl past ↦ absurd (let low = none (from +ℤ pos k) asked past in omega (arith, ints, low, early))
-      | inr not_past ↦ marks k ∙ or_left (k == second) (is_marked was k) (true_eq k second (omega (arith, ints, is, more, not_past)))
+      | inr not_past ↦ marks k ∙ or_left (k == second) (is_marked was k) (eq-eqb k second (omega (arith, ints, is, more, not_past)))
     ]
   ]
 
@@ -57,7 +57,7 @@ module _ (s : Onsets) (local from low : ℤ) (onsets was : List ℕ) (minute siz
       ∙ ap (λ m. contains (get_or was m 0) (k % 60) || contains part (k % 60)) (sym e)
 
   pub stay_minute : (k : ℕ) → IsMarked was k → IsMarked (set was minute (bit_or (get_or was minute 0) part)) k
-  stay_minute k m = elim (same_or_not (k / 60) minute) [
+  stay_minute k m = elim (cases_eq (k / 60) minute) [
     | inl e ↦ in_minute k e ∙ or_left (is_marked was k) (contains part (k % 60)) m
     | inr ne ↦ marked-set_other was minute (bit_or (get_or was minute 0) part) k ne ∙ m
   ]
@@ -72,7 +72,7 @@ module _ (s : Onsets) (local from low : ℤ) (onsets was : List ℕ) (minute siz
 
   pub marks_minute : minute < 60 → (before : List ℕ) → AreMarks s local from before was
       → AreMarks s local from before (set was minute (bit_or (get_or was minute 0) part))
-  marks_minute small before old k m = elim (same_or_not (k / 60) minute) [
+  marks_minute small before old k m = elim (cases_eq (k / 60) minute) [
     | inl e ↦ elim (or_cases (is_marked was k) (contains part (k % 60)) (sym (in_minute k e) ∙ m)) [
       | inl o ↦ old k o
       | inr n ↦ inr (new_mark small k e n)
@@ -85,7 +85,7 @@ module _ (s : Onsets) (local from low : ℤ) (onsets was : List ℕ) (minute siz
       → ((n : ℕ) → n < bound → contains (get_or onsets minute 0) n ≡ true → contains (get_or now minute 0) n ≡ true)
       → ((k : ℕ) → k < minute * 60 → Has s (from +ℤ pos k) → local <ℤ (from +ℤ pos k +ℤ s.offset_to) → IsMarked was k)
       → (k : ℕ) → k < minute * 60 + bound → Has s (from +ℤ pos k) → local <ℤ (from +ℤ pos k +ℤ s.offset_to) → IsMarked now k
-  clear_minute now bound stay small most first old k early h later = elim (less_or_not k (minute * 60)) [
+  clear_minute now bound stay small most first old k early h later = elim (cases_lt k (minute * 60)) [
     | inl less ↦ stay k (old k less h later)
     | inr more ↦ (
         let e : k / 60 ≡ minute = omega (arith, more, early, most) in
@@ -124,7 +124,7 @@ module _ (zone : List ObservanceSaid) (list : List Onsets) (all : AreOnsetsOfAll
 
   pub clear_from_more : (next new : ℤ) → new ≤ℤ next → AreClear o local (after +ℤ pos 1) now new → IsClearFrom zone (k + 1) local after next
       → IsClearFrom zone k local after new
-  clear_from_more next new less clear old i s p from h late early later = elim (less_or_not k i) [
+  clear_from_more next new less clear old i s p from h late early later = elim (cases_lt k i) [
     | inl more ↦ old i s p (omega (arith, more)) h late (omega (arith, ints, early, less)) later
     | inr not_more ↦ (
         let same : i ≡ k = omega (arith, from, not_more) in
@@ -151,7 +151,7 @@ pub none_marked : (size k : ℕ) → is_marked (replicate size 0) k ≡ false
 none_marked size k = ap (λ word. contains word (k % 60)) (zero_there (k / 60)) ∙ contains-none (k % 60)
   where
     zero_there : (m : ℕ) → ◌≡◌ {A = ℕ} (get_or (replicate size 0) m 0) 0
-    zero_there m = elim (less_or_not m size) [
+    zero_there m = elim (cases_lt m size) [
       | inl less ↦ get_or-replicate size m 0 0 less
       | inr more ↦ get_or_past (replicate size 0) m 0 (let n = length-replicate {A = ℕ} size 0 in omega (arith, n, more))
     ]
@@ -159,6 +159,3 @@ none_marked size k = ap (λ word. contains word (k % 60)) (zero_there (k / 60)) 
 -- of the observances past the last nothing is said
 pub overrides_none : (zone : List ObservanceSaid) (place size : ℕ) (local from : ℤ) → AreOverrides zone place local from (replicate size 0)
 overrides_none zone place size local from k h = absurd (not_both (is_marked (replicate size 0) k) h (none_marked size k))
-
-pub clear_from_past : (zone : List ObservanceSaid) (local after next : ℤ) → IsClearFrom zone (length zone) local after next
-clear_from_past zone local after next i s p from h late early later = absurd (let within = slice_get_within zone i p h.0 in omega (arith, within, from))

@@ -1,10 +1,10 @@
 -- The marks of an hour, minute by minute.
 use Rattle.std.proofs.Common.{◌≡◌, ◌≢◌, ℕ, ◌*◌, ◌/◌, ◌%◌, ◌^◌, ◌<◌, inl, inr, refl, ◌==◌, ◌||◌, ap, ◌∙◌, arith, List, length, get_or, set, get_or-set_same, get_or-set_other, bit_or}
+use Rattle.std.proofs.lemmas.Bool.{cases_eq}
 use Rattle.std.proofs.lemmas.Bool.Decides.{nat_tests}
 use Rattle.ics_values.specs.Sets.{contains}
 use Rattle.ics_values.proofs.SetLemmas.{contains-or_bit}
 use Rattle.ics_zone.specs.Marks.{is_marked}
-use Rattle.ics_zone.proofs.Cases.{same_or_not}
 
 -- one minute set anew
 module _ (marks : List ℕ) (minute word k : ℕ) where
@@ -21,7 +21,7 @@ same_in_minute m n e = grind (arith, nat_tests)
 pub marked-set_bit : (marks : List ℕ) (second k : ℕ) → second / 60 < length marks
     → is_marked (set marks (second / 60) (bit_or (get_or marks (second / 60) 0) (1 * 2 ^ (second % 60) % 18446744073709551616))) k
     ≡ ((k == second) || is_marked marks k)
-marked-set_bit marks second k h = elim (same_or_not (k / 60) (second / 60)) [
+marked-set_bit marks second k h = elim (cases_eq (k / 60) (second / 60)) [
   | inl e ↦ rw (e, get_or-set_same) (contains-or_bit (get_or marks (second / 60) 0) (second % 60) (k % 60) (omega arith)
       ∙ ap (λ b. b || contains (get_or marks (second / 60) 0) (k % 60)) (same_in_minute k second e))
   | inr ne ↦ rw (get_or-set_other) (let differ : k ≢ second = λ e. ne (ap (λ x. x / 60) e) in grind (arith, nat_tests))

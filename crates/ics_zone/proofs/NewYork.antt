@@ -1,5 +1,6 @@
 -- New York's clocks in 2007: the offsets of the year, its gap and its fold.
 use Rattle.std.proofs.Common.{◌≡◌, ◌≢◌, ℕ, zero, suc, ◌⊎◌, inl, inr, true, false, refl, sym, ap, subst, ◌∙◌, arith, List, [], ◌∷◌, Some, None, ℤ, pos, neg_ℤ, ◌-ℤ◌, ◌<ℤ◌, ◌≤ℤ◌, ◌==◌}
+use Rattle.std.proofs.lemmas.Bool.{or_cases}
 use Rattle.std.specs.List.{list_any}
 use Rattle.std.proofs.lemmas.Int.{ints}
 use Rattle.std.proofs.lemmas.Bool.Decides.{Decides-eqb}
@@ -8,7 +9,7 @@ use Rattle.ics_values.specs.Locals.{number}
 use Rattle.ics_zone.specs.Observances.{ObservanceSaid, IsZone, instant_by, is_by_rule, is_begin, is_onset}
 use Rattle.ics_zone.specs.ZoneOffsets.{IsOnset, IsOffset, zone_offset}
 use Rattle.ics_zone.specs.Moments.{IsMomentOf}
-use Rattle.ics_zone.proofs.Cases.{less_or_not_z, not_both, or_cases}
+use Rattle.ics_zone.proofs.Cases.{less_or_not_z, not_both}
 use Rattle.ics_zone.proofs.OffsetLaws.{offset_unique}
 use Rattle.ics_zone.proofs.OnsetLemmas.{onset-local, start_is_onset, offset_found}
 

@@ -1,5 +1,6 @@
 -- Bounds of the onsets of a zone; the searches find the greatest and the least.
-use Rattle.std.proofs.Common.{◌≡◌, ◌≢◌, ℕ, ◌+◌, ◌<◌, ◌≤◌, inl, inr, Bool, true, false, ◌||◌, refl, sym, ap, ◌∙◌, arith, List, [], ◌∷◌, length, Option, Some, None, slice_get, ℤ, pos, negsuc, ◌+ℤ◌, ◌*ℤ◌, ◌<ℤ◌, ◌≤ℤ◌}
+use Rattle.std.proofs.Common.{◌≡◌, ◌≢◌, ℕ, ◌+◌, ◌<◌, ◌≤◌, inl, inr, Bool, true, false, refl, sym, ap, ◌∙◌, arith, List, [], ◌∷◌, length, Option, Some, None, slice_get, ℤ, pos, negsuc, ◌+ℤ◌, ◌*ℤ◌, ◌<ℤ◌, ◌≤ℤ◌}
+use Rattle.std.proofs.lemmas.Bool.{or_left}
 use Rattle.std.proofs.lemmas.Int.{ints}
 use Rattle.std.proofs.lemmas.Option.{slice_get_within}
 use Rattle.std.proofs.lemmas.Bool.Decides.{Decides-eqb}
@@ -39,14 +40,11 @@ pub local-onset : (p : ObservanceSaid) (t : ℤ) (n : ℕ) → t ≡ instant_by 
 unfolding is_onset
 local-onset p t n e = test_at-is (t +ℤ p.offset_from +ℤ pos epoch) n (is_begin p) (omega (arith, ints))
 
-or_true : (b c : Bool) → b ≡ true → (b || c) ≡ true
-or_true b c e = rw e refl
-
 -- an observance begins at its DTSTART
 pub start_is_onset : (p : ObservanceSaid) → is_onset p (instant_by p.offset_from (number p.start)) ≡ true
 start_is_onset p =
     local-onset p (instant_by p.offset_from (number p.start)) (number p.start) refl
-    ∙ or_true _ _ ((Decides-eqb (number p.start) (number p.start)).1 refl)
+    ∙ or_left _ _ ((Decides-eqb (number p.start) (number p.start)).1 refl)
 
 -- each onset has a number among the instants
 pub onset_number : (p : ObservanceSaid) → IsObservanceSaid p → (t : ℤ) → is_onset p t ≡ true → (k : ℕ) × (t ≡ instant k)

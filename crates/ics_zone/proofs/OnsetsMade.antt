@@ -1,5 +1,6 @@
 -- What a zone holds of an observance has its onsets.
 use Rattle.std.proofs.Common.{◌≡◌, ℕ, ◌<◌, ◌≤◌, ◌⊎◌, inl, inr, true, ◌==◌, refl, sym, ap, subst, ◌∙◌, arith, get_or, Option, Some, None, option_map, Contains, IfSome, ℤ, ◌≤ℤ◌}
+use Rattle.std.proofs.lemmas.Bool.{ltb-true, or_cases, or_left, or_right, and_parts, and_from}
 use Rattle.std.specs.Prelude.{MatchOption}
 use Rattle.std.specs.List.{list_any}
 use Rattle.std.proofs.lemmas.Int.{ints}
@@ -12,7 +13,7 @@ use Rattle.ics_rule.specs.Kept.{is_in_rule, is_kept, until_moment}
 use Rattle.ics_zone.specs.declared.onsets.Onsets.{Onsets}
 use Rattle.ics_zone.specs.Observances.{ObservanceSaid, IsObservanceSaid, instant_by, rule_from, is_until, is_by_rule, is_begin, is_onset}
 use Rattle.ics_zone.specs.OnsetSets.{IsKeptBy, AreOnsetsOf, IsListing, IsEnd}
-use Rattle.ics_zone.proofs.Cases.{or_cases, or_left, or_right, and_parts, and_both, lt_true, int_le_true, true_int_le}
+use Rattle.ics_zone.proofs.Cases.{int_le_true, true_int_le}
 use Rattle.ics_zone.proofs.OnsetLemmas.{onset-local, local-onset}
 use Rattle.ics_rule.specs.PeriodNumbers.{rules_end}
 
@@ -25,7 +26,7 @@ kept_early r n e = elim (or_cases (n == number r.start) _ e) [
       let parts = and_parts _ _ (and_parts _ _ (and_parts _ _ rest).0).0 in
       elim (or_cases (n == number r.start) _ parts.1) [
         | inl first ↦ inl ((Decides-eqb n (number r.start)).0 first)
-        | inr later ↦ inr (lt_true n _ parts.0, lt_true (number r.start) n (and_parts _ _ later).0)
+        | inr later ↦ inr (ltb-true n _ parts.0, ltb-true (number r.start) n (and_parts _ _ later).0)
       ])
 ]
 
@@ -58,7 +59,7 @@ module _ (p : ObservanceSaid) (facts : IsObservanceSaid p) (s : Onsets) (from : 
       let until = ends t (omega (arith, ints, at, from, early, shift.0, shift.1)) ∙ true_int_le t s.until k.by_end in
       local-onset p t k.local (rw (sym from) k.is)
       ∙ by_rule_begins k.local (subst (λ o. is_by_rule p o k.local ≡ true) is
-      (and_both (is_kept (rule_from p.start parts) k.local) _ k.kept (subst (λ (t : ℤ). is_until (until_moment (rule_from p.start parts)) t ≡ true)
+      (and_from (is_kept (rule_from p.start parts) k.local) _ k.kept (subst (λ (t : ℤ). is_until (until_moment (rule_from p.start parts)) t ≡ true)
       (rw (sym from) k.is) until)))
 
   kept_or_listed : (o : Option RuleParts) (r : Option Recurrence) → o ≡ p.rule → r ≡ option_map (rule_from p.start) o → IfSome r (IsEnd s.until)

@@ -1,5 +1,6 @@
 -- The bits of a word of sixty seconds.
 use Rattle.std.proofs.Common.{◌≡◌, ◌≢◌, refl, max, ℕ, ◌+◌, ◌-◌, ◌*◌, ◌/◌, ◌%◌, ◌^◌, ◌<◌, ◌⊎◌, inl, inr, Bool, true, false, ◌==◌, ◌||◌, ◌&&◌, nat_lt, sym, subst, ap, ◌∙◌, arith, w64, bit_or, bit_and, ℤ, ◌<ℤ◌}
+use Rattle.std.proofs.lemmas.Bool.{cases_lt, ltb-true, lt-ltb, le-ltb, and_parts}
 use Rattle.std.specs.Prelude.{int_lt}
 use Rattle.std.specs.Int.{bit_at, trailing_zeros}
 use Rattle.std.proofs.lemmas.Bool.Decides.{nat_tests}
@@ -8,7 +9,7 @@ use Rattle.std.proofs.lemmas.Nat.{pow_pos, shr-shr, shl_whole}
 use Rattle.std.proofs.lemmas.Nat.Bits.{bit_at_and, bit_at_or, bit_at_not, bit_at-zero, bit_at-lt, bit_at_cat_low, bit_at_cat_high, bit_at-trailing_zeros}
 use Rattle.ics_values.specs.Sets.{contains}
 use Rattle.ics_values.proofs.SetLemmas.{contains-or_bit, contains-front, has_above}
-use Rattle.ics_zone.proofs.Cases.{less_or_not, less_or_not_z, lt_true, true_lt, false_lt, true_int_lt, false_int_lt, and_parts, not_both}
+use Rattle.ics_zone.proofs.Cases.{less_or_not_z, true_int_lt, false_int_lt, not_both}
 
 pub contains-none : (n : ℕ) → contains 0 n ≡ false
 contains-none n = ap (λ x. x == 1) (bit_at-zero n)
@@ -21,9 +22,9 @@ bit_one s n h = grind (arith, nat_tests)
 
 -- the digits of a word that are below a size
 pub contains-first : (s k n : ℕ) → contains (s % 2 ^ k) n ≡ (nat_lt n k && contains s n)
-contains-first s k n = elim (less_or_not n k) [
-  | inl less ↦ contains-front s k n less ∙ sym (ap (λ b. b && contains s n) (true_lt n k less))
-  | inr more ↦ has_above (s % 2 ^ k) k n (omega (arith, pow_pos k)) more ∙ sym (ap (λ b. b && contains s n) (false_lt n k more))
+contains-first s k n = elim (cases_lt n k) [
+  | inl less ↦ contains-front s k n less ∙ sym (ap (λ b. b && contains s n) (lt-ltb n k less))
+  | inr more ↦ has_above (s % 2 ^ k) k n (omega (arith, pow_pos k)) more ∙ sym (ap (λ b. b && contains s n) (le-ltb n k more))
 ]
 
 -- a set with one number more, below a bound that is one more
@@ -67,17 +68,17 @@ module _ (here next from first part : ℕ) (small : from < 60) (is_first : (n : 
   pub shifted_here : (n : ℕ) → n + from < 60 → contains (bit_or (first / 2 ^ from) (part * 2 ^ (60 - from) % 18446744073709551616)) n ≡ contains here (n + from)
   shifted_here n low =
       let none = bit_at_cat_low part (60 - from) 0 n (omega arith) ∙ bit_at-zero n in
-      ap (λ x. x == 1) (joined_bit n ∙ omega (arith, none)) ∙ is_first (n + from) ∙ ap (λ b. b && contains here (n + from)) (true_lt (n + from) 60 low)
+      ap (λ x. x == 1) (joined_bit n ∙ omega (arith, none)) ∙ is_first (n + from) ∙ ap (λ b. b && contains here (n + from)) (lt-ltb (n + from) 60 low)
 
   pub shifted_next : (n m : ℕ) → m < from → n + from ≡ m + 60
       → contains (bit_or (first / 2 ^ from) (part * 2 ^ (60 - from) % 18446744073709551616)) n ≡ contains next m
   shifted_next n m low at =
-      let past = is_first (n + from) ∙ ap (λ b. b && contains here (n + from)) (false_lt (n + from) 60 (omega arith)) in
+      let past = is_first (n + from) ∙ ap (λ b. b && contains here (n + from)) (le-ltb (n + from) 60 (omega arith)) in
       let none = bit_zero first (n + from) past in
       let there = bit_at_cat_high part (60 - from) 0 n (pow_pos (60 - from)) (omega arith) in
       let place : n - (60 - from) ≡ m = omega arith in
       let one : bit_at (part * 2 ^ (60 - from) + 0) n ≡ bit_at part m = there ∙ ap (bit_at part) place in
-      ap (λ x. x == 1) (joined_bit n ∙ omega (arith, none, one)) ∙ is_part m ∙ ap (λ b. b && contains next m) (true_lt m from low)
+      ap (λ x. x == 1) (joined_bit n ∙ omega (arith, none, one)) ∙ is_part m ∙ ap (λ b. b && contains next m) (lt-ltb m from low)
 
 -- the seconds of a word that another does not have
 module _ (word other rest : ℕ) (fits : other < 18446744073709551616)
@@ -93,7 +94,7 @@ module _ (word other rest : ℕ) (fits : other < 18446744073709551616)
       ap (λ x. x == 1) set
 
   pub all_inside : (n : ℕ) → n < 60 → contains rest n ≡ false → contains word n ≡ true → contains other n ≡ true
-  all_inside n low none = outside n low (sym (ap (λ b. b && contains (bit_and word (18446744073709551615 - other)) n) (true_lt n 60 low)) ∙ sym (is n) ∙ none)
+  all_inside n low none = outside n low (sym (ap (λ b. b && contains (bit_and word (18446744073709551615 - other)) n) (lt-ltb n 60 low)) ∙ sym (is n) ∙ none)
 
   pub first_place : rest ≢ 0 → rest < 18446744073709551616
       → (trailing_zeros w64 rest < 60) × ((n : ℕ) → n < trailing_zeros w64 rest → contains word n ≡ true → contains other n ≡ true)
@@ -101,16 +102,16 @@ module _ (word other rest : ℕ) (fits : other < 18446744073709551616)
       let first = bit_at-trailing_zeros w64 rest (omega arith) small in
       let there : (nat_lt (trailing_zeros w64 rest) 60 && contains (bit_and word (18446744073709551615 - other)) (trailing_zeros w64 rest)) ≡ true =
       sym (is (trailing_zeros w64 rest)) ∙ ap (λ x. x == 1) first.1 in
-      let low : trailing_zeros w64 rest < 60 = lt_true (trailing_zeros w64 rest) 60 (and_parts _ _ there).0 in
+      let low : trailing_zeros w64 rest < 60 = ltb-true (trailing_zeros w64 rest) 60 (and_parts _ _ there).0 in
       (low, λ n less. all_inside n (omega (arith, less, low)) (ap (λ x. x == 1) (first.2 n less)))
 
 -- so many seconds of a minute
 pub first_seconds : (n size : ℕ) (at count : ℤ) → (n < size → at <ℤ count) → (at <ℤ count → n < size) → nat_lt n size ≡ int_lt at count
 first_seconds n size at count down up = elim (less_or_not_z at count) [
-  | inl less ↦ true_lt n size (up less) ∙ sym (true_int_lt at count less)
-  | inr more ↦ elim (less_or_not n size) [
+  | inl less ↦ lt-ltb n size (up less) ∙ sym (true_int_lt at count less)
+  | inr more ↦ elim (cases_lt n size) [
     | inl less ↦ absurd (let early = down less in omega (arith, ints, early, more))
-    | inr not_less ↦ false_lt n size not_less ∙ sym (false_int_lt at count more)
+    | inr not_less ↦ le-ltb n size not_less ∙ sym (false_int_lt at count more)
   ]
 ]
 

@@ -1,5 +1,5 @@
 -- The onsets of one observance, as a zone holds them.
-use Rattle.std.specs.Prelude.{◌≡◌, ℕ, ◌<◌, ◌⊎◌, Bool, true, ◌||◌, ◌==◌, List, length, MatchOption, slice_index_or, int_le, ℤ, pos, ◌≤ℤ◌}
+use Rattle.std.specs.Prelude.{◌≡◌, ℕ, ◌<◌, ◌≤◌, ◌⊎◌, Bool, true, ◌||◌, ◌==◌, List, length, MatchOption, slice_index_or, int_le, ℤ, pos, ◌<ℤ◌, ◌≤ℤ◌}
 use Rattle.std.specs.List.{Contains, list_any}
 use Rattle.jiff_core.specs.Calendar.{IsWithin}
 use Rattle.ics_rule.specs.Recurrence.{Recurrence}
@@ -13,6 +13,19 @@ use Rattle.ics_rule.specs.PeriodNumbers.{rules_end}
 -- an instant or a local about which onsets are searched for: about 9,500 years either way, so that the years 0000 to 9950 have room on both sides
 abbrev pub IsSearched : ℤ → Type 0
 IsSearched seconds = IsWithin 300_000_000_000 seconds
+
+-- how many locals are shown up to an instant and up to an end
+pub record IsShownTo (from until t : ℤ) (count : ℕ) : Type 0 where
+  pub bound : count ≤ rules_end
+  pub shown : (n : ℕ) → n < count → instant_by from n ≤ℤ t
+  pub by_until : (n : ℕ) → n < count → instant_by from n ≤ℤ until
+  pub later : (n : ℕ) → count ≤ n → n < rules_end → instant_by from n ≤ℤ until → t <ℤ instant_by from n
+
+-- how many locals are shown up to an instant
+pub record IsShownBy (from m : ℤ) (count : ℕ) : Type 0 where
+  pub bound : count ≤ rules_end
+  pub shown : (n : ℕ) → n < count → instant_by from n ≤ℤ m
+  pub later : (n : ℕ) → count ≤ n → n < rules_end → m <ℤ instant_by from n
 
 -- t is the instant of a local that the rule keeps, and is not after an end
 pub record IsKeptBy (from until : ℤ) (r : Recurrence) (t : ℤ) : Type 0 where

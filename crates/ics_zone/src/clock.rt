@@ -1,11 +1,11 @@
 //! Locals as numbers, and the instants at which a clock shows them.
-ghost use Rattle.std.specs.Prelude.{◌≡◌, ℕ, pos, ◌≤◌, ◌<◌, ◌^◌, ◌+ℤ◌, ◌≤ℤ◌, ◌<ℤ◌};
+ghost use Rattle.std.specs.Prelude.{◌≡◌, pos, ◌≤◌, ◌<◌, ◌^◌, ◌+ℤ◌, ◌≤ℤ◌};
 ghost use Rattle.jiff_core.specs.Calendar.{IsWithin};
 ghost use Rattle.ics_values.specs.Days.{IsDayNumber};
 ghost use Rattle.ics_values.specs.Locals.{number};
 ghost use Rattle.ics_zone.specs.Observances.{epoch, instant_by};
 ghost use Rattle.ics_rule.specs.PeriodNumbers.{rules_end};
-ghost use Rattle.ics_zone.specs.OnsetSets.{IsSearched};
+ghost use Rattle.ics_zone.specs.OnsetSets.{IsSearched, IsShownBy};
 
 use ics_values::{Local, Moment};
 
@@ -56,9 +56,7 @@ pub(crate) fn shown_at(offset: i32, moment: Moment) -> u64
 // How many locals before the end of the rules a clock with this offset shows up to an instant.
 pub(crate) fn shown_by(offset: i32, moment: Moment) -> u64
     requires { IsWithin 86_399 offset }
-    ensures bound { result ≤ rules_end }
-    ensures shown { (n : ℕ) → n < result → instant_by offset n ≤ℤ moment }
-    ensures later { (n : ℕ) → result ≤ n → n < rules_end → moment <ℤ instant_by offset n }
+    ensures { IsShownBy offset moment result }
 {
     let moment = moment.clamp(-100_000_000_000, 400_000_000_000);
     let shown = moment + i64::from(offset) + EPOCH + 1;

@@ -1,5 +1,5 @@
 //! The zone in which a listing is shown.
-ghost use Rattle.std.specs.Prelude.{◌≡◌, ◌↔◌, ℤ, pos, Some, None, Err, IfOk, IfErr};
+ghost use Rattle.std.specs.Prelude.{◌≡◌, ◌↔◌, Some, None, Err, IfOk, IfErr};
 ghost use Rattle.jiff_core.specs.Calendar.{IsWithin};
 ghost use Rattle.jiff.specs.Words.{plain_zone};
 ghost use Rattle.ics_zone.specs.DisplayTexts.{Said, display_of, said_by};

@@ -1,8 +1,7 @@
 //! The onsets of all observances of a zone near an instant.
-ghost use Rattle.std.specs.Prelude.{◌≡◌, ℤ, pos, ◌<◌, true, false, length, List, ◌⊎◌, ◌+ℤ◌, ◌-ℤ◌, ◌<ℤ◌, ◌≤ℤ◌, IfSome, MatchOption};
+ghost use Rattle.std.specs.Prelude.{◌≡◌, ℤ, pos, ◌<◌, true, false, length, List, ◌⊎◌, ◌+ℤ◌, ◌-ℤ◌, ◌<ℤ◌, ◌≤ℤ◌, MatchOption};
 ghost use Rattle.std.specs.List.{All};
 ghost use Rattle.ics_zone.specs.Observances.{ObservanceSaid};
-ghost use Rattle.ics_zone.specs.Latest.{IsLast};
 ghost use Rattle.ics_zone.specs.OnsetSets.{Has, IsSound};
 ghost use Rattle.ics_zone.specs.Seconds.{IsMoment};
 ghost use Rattle.ics_zone.specs.ZoneOnsets.{AreOnsetsOfAll, IsLatestOf, IsLatestWithin, IsFirstOffset, IsNextPast, IsClear, IsOverridden, NoneBetween};
@@ -55,34 +54,6 @@ fn has_not_less(one: &Onsets, is_at_once: bool, at: Moment, moment: Moment) -> b
     after < limit && one.next(after, limit) < limit
 }
 
-// The last onset of an observance that is not after an instant, with the observance's place and the offset after it.
-fn last_of(one: &Onsets, place: usize, moment: Moment) -> Option<Latest>
-    requires { IsSound one.now }
-    ensures last { MatchOption result ((t : ℤ) → Has one.now t → moment <ℤ t) (λ l. IsLast (Has one.now) moment l.at) }
-    ensures place { IfSome result (λ l. l.place ≡ place) }
-    ensures offset { IfSome result (λ l. l.offset ≡ one.now.offset_to) }
-{
-    let at = one.last(moment)?;
-    let offset = one.offset_to;
-    Some(Latest { at, place, offset })
-}
-
-// The same, if that onset is after another instant.
-fn last_within(one: &Onsets, place: usize, after: Moment, moment: Moment) -> Option<Latest>
-    requires { IsSound one.now }
-    ensures last { MatchOption result ((t : ℤ) → Has one.now t → t ≤ℤ moment → t ≤ℤ after) (λ l. IsLast (Has one.now) moment l.at) }
-    ensures after { IfSome result (λ l. after <ℤ l.at) }
-    ensures place { IfSome result (λ l. l.place ≡ place) }
-    ensures offset { IfSome result (λ l. l.offset ≡ one.now.offset_to) }
-{
-    let at = one.last_after(after, moment)?;
-    Some(Latest {
-        at,
-        place,
-        offset: one.offset_to,
-    })
-}
-
 // From where on an onset counts: after an instant, or from the greatest onset on if there is one.
 fn begun(latest: Option<Latest>, after: Moment) -> Moment
     ensures { MatchOption latest (result ≡ after) (λ l. after <ℤ l.at → result ≡ l.at -ℤ pos 1) }
@@ -101,8 +72,13 @@ fn latest_within(onsets: &[Onsets], after: Moment, moment: Moment) -> Option<Lat
     let mut latest: Option<Latest> = None;
     for (place, one) in onsets.iter().enumerate() {
         let from = begun(latest, after);
-        let Some(last) = last_within(one, place, from, moment) else {
+        let Some(at) = one.last_after(from, moment) else {
             continue;
+        };
+        let last = Latest {
+            at,
+            place,
+            offset: one.offset_to,
         };
         latest = Some(later(latest, last));
     }
@@ -134,10 +110,11 @@ fn latest_of_each(onsets: &[Onsets], moment: Moment) -> Option<Latest>
 {
     let mut latest: Option<Latest> = None;
     for (place, one) in onsets.iter().enumerate() {
-        let Some(last) = last_of(one, place, moment) else {
+        let Some(at) = one.last(moment) else {
             continue;
         };
-        latest = Some(later(latest, last));
+        let offset = one.offset_to;
+        latest = Some(later(latest, Latest { at, place, offset }));
     }
     latest
 }

@@ -1,5 +1,5 @@
 //! A zone by the observances of a VTIMEZONE.
-ghost use Rattle.std.specs.Prelude.{◌≡◌, ◌≢◌, ◌↔◌, ◌<◌, length, ◌<ℤ◌, ◌≤ℤ◌, ◌+ℤ◌, ◌-ℤ◌, ℤ, pos, [], map};
+ghost use Rattle.std.specs.Prelude.{◌≡◌, ◌≢◌, ◌↔◌, ◌<◌, length, ◌<ℤ◌, ◌≤ℤ◌, ◌+ℤ◌, ◌-ℤ◌, ℤ, pos, []};
 ghost use Rattle.std.specs.Prelude.{Err, IsTrue, IfSome, Ok, IfOk, MatchBool, MatchOption, true, false};
 ghost use Rattle.std.specs.Int.{int_min};
 ghost use Rattle.std.specs.List.{list_any};
@@ -105,7 +105,11 @@ impl Observed {
         ensures means { IsOffset (observances_said self.now) moment result }
         ensures value { result ≡ zone_offset (observances_said self.now) moment }
     {
-        self.in_force(moment)
+        let mut place = 0;
+        match self.held_over(moment, moment) {
+            Some(held) => held.offset,
+            None => self.offset_of_latest(moment, &mut place),
+        }
     }
 
     /// The first instant at which the clock shows the local. If there is none, the local read with the offset before the gap.
@@ -167,18 +171,6 @@ impl Observed {
             next,
             offset: latest.offset,
         })
-    }
-
-    // The offset at an instant.
-    fn in_force(&self, moment: Moment) -> i32
-        ensures means { IsOffset (observances_said self.now) moment result }
-        ensures value { result ≡ zone_offset (observances_said self.now) moment }
-    {
-        let mut place = 0;
-        match self.held_over(moment, moment) {
-            Some(held) => held.offset,
-            None => self.offset_of_latest(moment, &mut place),
-        }
     }
 
     // The offset at an instant, by the observances. The place becomes that of the observance in force.
@@ -295,7 +287,7 @@ impl Observed {
             (seconds <ℤ shown (zone_offset (observances_said self.now)) moment)
             (shown (zone_offset (observances_said self.now)) moment ≤ℤ seconds) }
     {
-        moment + i64::from(self.in_force(moment)) > seconds
+        moment + i64::from(self.offset(moment)) > seconds
     }
 
     // An instant up to which the clock shows earlier locals than one, where it does up to another. Onsets that are overridden at their own
@@ -356,22 +348,14 @@ impl Observed {
         after
     }
 
-    // A local, given by its seconds, read with the offset before an instant.
-    fn read_before(&self, seconds: i64, past: Moment) -> Moment
-        requires local { IsSearched seconds }
-        requires past { IsSearched past }
-        ensures { result ≡ seconds -ℤ zone_offset (observances_said self.now) (past -ℤ pos 1) }
-    {
-        seconds - i64::from(self.in_force(past - 1))
-    }
-
     // The instant of a local that the clock skips: it is read with the offset before the gap.
     fn across_gap(&self, seconds: i64) -> Moment
         requires bound { IsMoment seconds }
         requires skipped { (t : ℤ) → shown (zone_offset (observances_said self.now)) t ≢ seconds }
         ensures { IsInGap (zone_offset (observances_said self.now)) seconds result }
     {
-        self.read_before(seconds, self.jump(seconds))
+        let past = self.jump(seconds);
+        seconds - i64::from(self.offset(past - 1))
     }
 }
 

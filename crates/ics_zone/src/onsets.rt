@@ -1,11 +1,10 @@
 //! The onsets of one observance near an instant.
-ghost use Rattle.std.specs.Prelude.{◌≡◌, ℕ, ℤ, ◌<◌, ◌≤◌, ◌<ℤ◌, ◌≤ℤ◌, IfOk, IfSome, MatchOption};
+ghost use Rattle.std.specs.Prelude.{◌≡◌, ℤ, ◌<◌, ◌<ℤ◌, ◌≤ℤ◌, IfOk, IfSome, MatchOption};
 ghost use Rattle.std.specs.List.{Contains};
 ghost use Rattle.std.specs.Option.{option_map};
-ghost use Rattle.ics_zone.specs.Observances.{instant_by, observance_said, rule_from};
+ghost use Rattle.ics_zone.specs.Observances.{observance_said, rule_from};
 ghost use Rattle.ics_zone.specs.Latest.{IsInOrder, IsPassed, IsLast, IsLastOf, IsLastAfter};
-ghost use Rattle.ics_zone.specs.OnsetSets.{IsKeptAt, Has, IsSound, AreOnsetsOf, IsListing, IsEnd};
-ghost use Rattle.ics_rule.specs.PeriodNumbers.{rules_end};
+ghost use Rattle.ics_zone.specs.OnsetSets.{IsShownTo, IsKeptAt, Has, IsSound, AreOnsetsOf, IsListing, IsEnd};
 
 use crate::Observance;
 use crate::clock::{instant, number, shown_by};
@@ -147,11 +146,7 @@ impl Onsets {
     // How many locals before the end of the rules the clock before the onsets shows up to an instant and up to an UNTIL in UTC.
     fn shown_to(&self, moment: Moment) -> u64
         requires { IsSound self.now }
-        ensures bound { result ≤ rules_end }
-        ensures shown { (n : ℕ) → n < result → instant_by self.now.offset_from n ≤ℤ moment }
-        ensures by_until { (n : ℕ) → n < result → instant_by self.now.offset_from n ≤ℤ self.now.until }
-        ensures later { (n : ℕ) → result ≤ n → n < rules_end → instant_by self.now.offset_from n ≤ℤ self.now.until
-            → moment <ℤ instant_by self.now.offset_from n }
+        ensures { IsShownTo self.now.offset_from self.now.until moment result }
     {
         shown_by(self.offset_from, moment.min(self.until))
     }
@@ -177,17 +172,8 @@ impl Onsets {
         ensures { IsLastOf (Has self.now) moment result }
     {
         if moment < self.first() {
-            None
-        } else {
-            self.last_of_both(moment)
+            return None;
         }
-    }
-
-    // The same, from the listed onsets and those of the rule.
-    fn last_of_both(&self, moment: Moment) -> Option<Moment>
-        requires { IsSound self.now }
-        ensures { IsLastOf (Has self.now) moment result }
-    {
         match (self.last_listed(moment), self.last_by_rule(moment)) {
             (Some(listed), Some(kept)) => Some(listed.max(kept)),
             (Some(listed), None) => Some(listed),

@@ -6,6 +6,7 @@ ghost use Rattle.ics_zone.specs.ZoneFiles.{zone_file};
 
 use crate::ZoneFileFault;
 use jiff::tz::Tzif;
+use jiff_core::Error;
 use std::alloc::Global;
 use std::marker::Model;
 use std::rc::Rc;
@@ -45,7 +46,10 @@ impl ZoneFile {
                 Ok(table) => Ok(ZoneFile { table }),
                 Err(_) => Err(ZoneFileFault::Memory),
             },
-            Err(error) => Err(ZoneFileFault::of(error)),
+            Err(error) => match error {
+                Error::OutOfMemory => Err(ZoneFileFault::Memory),
+                _ => Err(ZoneFileFault::BadZoneFile),
+            },
         }
     }
 }

@@ -1,8 +1,6 @@
 //! Why bytes are not a zone file.
 ghost use Rattle.std.specs.Prelude.{◌≡◌};
-ghost use Rattle.ics_zone.specs.ZoneFileFaults.{fault_by, zone_file_fault_name};
-
-use jiff_core::Error;
+ghost use Rattle.ics_zone.specs.ZoneFileFaults.{zone_file_fault_name};
 
 /// Why bytes are not a zone file.
 #[derive(Clone, Copy, Debug, PartialEq, Eq, thiserror::Error)]
@@ -14,16 +12,6 @@ pub enum ZoneFileFault {
 }
 
 impl ZoneFileFault {
-    // The fault that an error of jiff's is.
-    pub(crate) fn of(error: Error) -> ZoneFileFault
-        ensures { result ≡ fault_by error }
-    {
-        match error {
-            Error::OutOfMemory => ZoneFileFault::Memory,
-            _ => ZoneFileFault::BadZoneFile,
-        }
-    }
-
     /// The name of the fault, as it is printed.
     pub fn name(&self) -> &'static str
         ensures { result.now ≡ zone_file_fault_name self.now }

@@ -1,4 +1,4 @@
-use Rattle.std.proofs.Common.{◌≡◌, ℕ, ◌<◌, ◌≤◌, ℤ, pos, negsuc, ◌+ℤ◌, ◌≤ℤ◌, ◌<ℤ◌, arith, refl, SFits, w64, to_z, of_z}
+use Rattle.std.proofs.Common.{◌≡◌, ℕ, ◌<◌, ◌≤◌, ℤ, pos, negsuc, ◌+ℤ◌, ◌≤ℤ◌, ◌<ℤ◌, arith, rules, refl, SFits, w64, to_z, of_z}
 use Rattle.std.specs.Prelude.{unsigned_abs}
 use Rattle.std.specs.Int.{int_max, int_min}
 use Rattle.jiff_core.specs.Calendar.{IsWithin}
@@ -44,8 +44,9 @@ clamped c = record {
       omega (arith, ints, clamps, a, b, s, c.requires.0, c.requires.1);
 }
 
-pub returns-clause-shown : goal.returns-clause-shown
-returns-clause-shown c = λ n. below c.args.offset c.args.moment c.clamp-moment.result (to_z w64 (of_z w64 c.clamp.result)) c.requires (clamped c) n
-
-pub returns-clause-later : goal.returns-clause-later
-returns-clause-later c = λ n. above c.args.offset c.args.moment c.clamp-moment.result (to_z w64 (of_z w64 c.clamp.result)) c.requires (clamped c) n
+pub returns : goal.returns
+returns c = record {
+  bound = search rules;
+  shown = λ n. below c.args.offset c.args.moment c.clamp-moment.result (to_z w64 (of_z w64 c.clamp.result)) c.requires (clamped c) n;
+  later = λ n. above c.args.offset c.args.moment c.clamp-moment.result (to_z w64 (of_z w64 c.clamp.result)) c.requires (clamped c) n;
+}

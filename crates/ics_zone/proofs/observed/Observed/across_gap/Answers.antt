@@ -1,15 +1,18 @@
-use Rattle.std.proofs.Common.{rules, SFits, w64}
-use Rattle.std.proofs.lemmas.Int.{to_z-of_z}
+use Rattle.std.proofs.Common.{rules, arith, ◌≡◌, pos, ◌-ℤ◌, SFits, w64, to_z, of_z}
+use Rattle.std.proofs.lemmas.Int.{ints, to_z-of_z}
 use Rattle.ics_zone.specs.ZoneOffsets.{zone_offset}
 use Rattle.ics_zone.specs.Observances.{observances_said}
+use Rattle.ics_zone.specs.ZoneBounds.{zone_short}
 use Rattle.ics_zone.proofs.JumpLemmas.{gap_at_jump}
 use Rattle.ics_zone.proofs.observed.Observed.across_gap.Goals as goal
 
 pub returns : goal.returns
 returns c =
     let fits : SFits w64 c.args.seconds = c.ranges.seconds in
-    let past : SFits w64 c.jump.result = search rules in
-    let small : SFits w64 c.read_before.result = search rules in
-    rw (to_z-of_z w64 c.read_before.result small)
-    (gap_at_jump (zone_offset (observances_said c.args.self.now)) c.args.seconds c.jump.result c.read_before.result c.requires.skipped
-    (simp to_z-of_z at c.jump.ensures.jump) (simp to_z-of_z at c.read_before.ensures))
+    let past : SFits w64 c.jump-past.result = search rules in
+    let at : to_z w64 (of_z w64 (to_z w64 (of_z w64 c.jump-past.result) -ℤ pos 1)) ≡ c.jump-past.result -ℤ pos 1 =
+    omega (arith, ints, c.jump-past.ensures.low, c.jump-past.ensures.high, c.requires.bound) in
+    let short = zone_short c.args.self.now (c.jump-past.result -ℤ pos 1) in
+    let before : c.offset.result ≡ zone_offset (observances_said c.args.self.now) (c.jump-past.result -ℤ pos 1) = search (rules, at, c.offset.ensures.value) in
+    gap_at_jump (zone_offset (observances_said c.args.self.now)) c.args.seconds c.jump-past.result _ c.requires.skipped
+    (simp to_z-of_z at c.jump-past.ensures.jump) (omega (arith, ints, c.from.ensures, before, short, c.requires.bound))

@@ -1,6 +1,6 @@
 use Rattle.std.proofs.Common.{rules, arith, SFits, w32, w64}
 use Rattle.std.proofs.lemmas.Int.{ints, to_z-of_z}
-use Rattle.ics_zone.proofs.KeptLemmas.{IsShownTo, last_of_rule}
+use Rattle.ics_zone.proofs.KeptLemmas.{last_of_rule}
 use Rattle.ics_zone.proofs.onsets.Onsets.last_by_rule_after.Goals as goal
 
 pub returns-then-last-after : goal.returns-then-last-after
@@ -8,13 +8,7 @@ returns-then-last-after c =
     let from : SFits w32 c.args.self.now.offset_from = search rules in
     let fits : SFits w64 c.args.moment = c.ranges.moment in
     let past : SFits w64 c.args.after = c.ranges.after in
-    let shown : IsShownTo c.args.self.now.offset_from c.args.self.now.until c.args.moment c.shown_to-end.result =
-    record {
-      bound = c.shown_to-end.ensures.bound;
-      shown = simp to_z-of_z at c.shown_to-end.ensures.shown;
-      by_until = c.shown_to-end.ensures.by_until;
-      later = simp to_z-of_z at c.shown_to-end.ensures.later;
-    } in
+    let shown = simp to_z-of_z at c.shown_to-end.ensures in
     let small : SFits w64 c.instant-last.result = search rules in
     rw (to_z-of_z w64 c.instant-last.result small) (
       last_of_rule c.args.self.now c.in-Some.rule c.in-Some.is c.args.moment c.shown_to-end.result shown
@@ -27,13 +21,7 @@ returns-else-last-after c = λ u h l.
     let from : SFits w32 c.args.self.now.offset_from = search rules in
     let fits : SFits w64 c.args.moment = c.ranges.moment in
     let past : SFits w64 c.args.after = c.ranges.after in
-    let shown : IsShownTo c.args.self.now.offset_from c.args.self.now.until c.args.moment c.shown_to-end.result =
-    record {
-      bound = c.shown_to-end.ensures.bound;
-      shown = simp to_z-of_z at c.shown_to-end.ensures.shown;
-      by_until = c.shown_to-end.ensures.by_until;
-      later = simp to_z-of_z at c.shown_to-end.ensures.later;
-    } in
+    let shown = simp to_z-of_z at c.shown_to-end.ensures in
     let small : SFits w64 c.instant-last.result = search rules in
     let last = last_of_rule c.args.self.now c.in-Some.rule c.in-Some.is c.args.moment c.shown_to-end.result shown
     c.in_ok-kept.kept c.in_ok-kept.ensures c.instant-last.result (simp to_z-of_z at c.instant-last.ensures) in

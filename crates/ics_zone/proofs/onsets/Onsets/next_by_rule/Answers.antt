@@ -1,26 +1,15 @@
 use Rattle.std.proofs.Common.{rules, SFits, w32, w64}
 use Rattle.std.proofs.lemmas.Int.{to_z-of_z}
-use Rattle.ics_zone.proofs.KeptLemmas.{IsShownBy, IsShownTo, next_of_rule, bound_of_rule, no_next_of_rule}
+use Rattle.ics_zone.proofs.KeptLemmas.{next_of_rule, bound_of_rule, no_next_of_rule}
 use Rattle.ics_zone.proofs.onsets.Onsets.next_by_rule.Goals as goal
 
 pub returns-in-Some-next_kept-clause-bound : goal.returns-in-Some-next_kept-clause-bound
 returns-in-Some-next_kept-clause-bound c =
     let from : SFits w32 c.args.self.now.offset_from = search rules in
     let fits : SFits w64 c.args.limit = c.ranges.limit in
-    let shown : IsShownTo c.args.self.now.offset_from c.args.self.now.until c.args.limit c.shown_to-end.result =
-    record {
-      bound = c.shown_to-end.ensures.bound;
-      shown = simp to_z-of_z at c.shown_to-end.ensures.shown;
-      by_until = c.shown_to-end.ensures.by_until;
-      later = simp to_z-of_z at c.shown_to-end.ensures.later;
-    } in
+    let shown = simp to_z-of_z at c.shown_to-end.ensures in
     let fits_too : SFits w64 c.args.after = c.ranges.after in
-    let past : IsShownBy c.args.self.now.offset_from c.args.after c.shown_by-from.result =
-    record {
-      bound = c.shown_by-from.ensures.bound;
-      shown = simp to_z-of_z at c.shown_by-from.ensures.shown;
-      later = simp to_z-of_z at c.shown_by-from.ensures.later;
-    } in
+    let past = simp to_z-of_z at c.shown_by-from.ensures in
     let small : SFits w64 c.instant.result = search rules in
     rw (to_z-of_z w64 c.instant.result small)
     (bound_of_rule c.args.self.now c.in-Some.rule c.in-Some.is c.args.limit c.shown_to-end.result shown c.args.after c.shown_by-from.result past
@@ -30,20 +19,9 @@ pub returns-in-Some-next_kept-clause-next : goal.returns-in-Some-next_kept-claus
 returns-in-Some-next_kept-clause-next c =
     let from : SFits w32 c.args.self.now.offset_from = search rules in
     let fits : SFits w64 c.args.limit = c.ranges.limit in
-    let shown : IsShownTo c.args.self.now.offset_from c.args.self.now.until c.args.limit c.shown_to-end.result =
-    record {
-      bound = c.shown_to-end.ensures.bound;
-      shown = simp to_z-of_z at c.shown_to-end.ensures.shown;
-      by_until = c.shown_to-end.ensures.by_until;
-      later = simp to_z-of_z at c.shown_to-end.ensures.later;
-    } in
+    let shown = simp to_z-of_z at c.shown_to-end.ensures in
     let fits_too : SFits w64 c.args.after = c.ranges.after in
-    let past : IsShownBy c.args.self.now.offset_from c.args.after c.shown_by-from.result =
-    record {
-      bound = c.shown_by-from.ensures.bound;
-      shown = simp to_z-of_z at c.shown_by-from.ensures.shown;
-      later = simp to_z-of_z at c.shown_by-from.ensures.later;
-    } in
+    let past = simp to_z-of_z at c.shown_by-from.ensures in
     let small : SFits w64 c.instant.result = search rules in
     rw (to_z-of_z w64 c.instant.result small)
     (next_of_rule c.args.self.now c.in-Some.rule c.in-Some.is c.args.limit c.shown_to-end.result shown c.args.after c.shown_by-from.result past
@@ -53,20 +31,9 @@ pub returns-in-None-clause-next : goal.returns-in-None-clause-next
 returns-in-None-clause-next c =
     let from : SFits w32 c.args.self.now.offset_from = search rules in
     let fits : SFits w64 c.args.limit = c.ranges.limit in
-    let shown : IsShownTo c.args.self.now.offset_from c.args.self.now.until c.args.limit c.shown_to-end.result =
-    record {
-      bound = c.shown_to-end.ensures.bound;
-      shown = simp to_z-of_z at c.shown_to-end.ensures.shown;
-      by_until = c.shown_to-end.ensures.by_until;
-      later = simp to_z-of_z at c.shown_to-end.ensures.later;
-    } in
+    let shown = simp to_z-of_z at c.shown_to-end.ensures in
     let fits_too : SFits w64 c.args.after = c.ranges.after in
-    let past : IsShownBy c.args.self.now.offset_from c.args.after c.shown_by-from.result =
-    record {
-      bound = c.shown_by-from.ensures.bound;
-      shown = simp to_z-of_z at c.shown_by-from.ensures.shown;
-      later = simp to_z-of_z at c.shown_by-from.ensures.later;
-    } in
+    let past = simp to_z-of_z at c.shown_by-from.ensures in
     rw (to_z-of_z w64 c.args.limit fits)
     (no_next_of_rule c.args.self.now c.in-Some.rule c.in-Some.is c.args.limit c.shown_to-end.result shown c.args.after c.shown_by-from.result past
     c.in-None.ensures)

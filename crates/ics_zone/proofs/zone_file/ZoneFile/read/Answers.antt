@@ -1,8 +1,6 @@
-use Rattle.std.proofs.Common.{rules, ◌≡◌, ◌≤◌, length, sym, ap, ◌∙◌, Some}
+use Rattle.std.proofs.Common.{rules, ◌≤◌, length, sym, ap, ◌∙◌, Some}
 use Rattle.jiff_tz.specs.Tzif.{tzif_view}
 use Rattle.jiff_tz.specs.declared.tzif.Tzif.{Tzif}
-use Rattle.ics_zone.specs.ZoneFileFaults.{fault_by}
-use Rattle.ics_zone.specs.declared.zone_file_fault.ZoneFileFault.TheVariants.{BadZoneFile, Memory}
 use Rattle.ics_zone.proofs.FileReads.{file_read, file_refused}
 use Rattle.ics_zone.proofs.zone_file.ZoneFile.read.Goals as goal
 
@@ -13,7 +11,4 @@ returns-in-Ok-new-clause-file c =
     ∙ ap (λ (z : Tzif). Some (tzif_view z)) (sym c.in-Ok-new.ensures.ok)
 
 pub returns-clause-bad : goal.returns-clause-bad
-returns-clause-bad c = λ same. file_refused c.args.bytes.now c.in-Err.error c.in-Err.ensures.err (λ memory.
-    let is : fault_by c.in-Err.error ≡ BadZoneFile = cc in
-    let other : fault_by c.in-Err.error ≡ Memory = ap fault_by memory in
-    absurd (cc))
+returns-clause-bad c = λ same. file_refused c.args.bytes.now c.in-Err.error c.in-Err.ensures.err c.in_default.not-OutOfMemory
