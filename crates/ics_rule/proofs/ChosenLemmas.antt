@@ -1,6 +1,6 @@
 -- What a rule chooses within a period is what the product that holds the period takes.
-use Rattle.std.proofs.Common.{◌≡◌, ℕ, suc, ◌+◌, ◌⊎◌, inl, inr, ◌≢◌, Bool, true, false, cond, ◌&&◌, ◌==◌, refl, sym, ap, ◌∙◌, arith}
-use Rattle.std.proofs.lemmas.Bool.Decides.{nat_tests}
+use Rattle.std.proofs.Common.{◌≡◌, ℕ, suc, ◌+◌, ◌⊎◌, inl, inr, ◌≢◌, Bool, true, false, ◌&&◌, ◌==◌, refl, sym, ap, ◌∙◌, arith}
+use Rattle.std.proofs.lemmas.Bool.{cases_eq, eq-eqb, ne_eqb}
 use Rattle.ics_values.specs.declared.ordinals.WideOrdinals.{WideOrdinals}
 use Rattle.ics_values.specs.Ordinals.{lists_none_wide}
 use Rattle.ics_rule.specs.declared.effective_rule.EffectiveRule.{EffectiveRule}
@@ -10,25 +10,9 @@ use Rattle.ics_rule.specs.Candidates.{is_stepped, is_candidate_in, period_in, le
 use Rattle.ics_rule.specs.Kept.{count, is_beside, rank, size, is_placed, is_chosen}
 use Rattle.ics_rule.specs.RecurrencePeriods.{holds, is_let_in, IsPeriodOf, is_listed, is_taken}
 use Rattle.ics_rule.specs.Searches.{is_chosen_within}
-use Rattle.ics_rule.proofs.Counts.{count-same, count-suc}
+use Rattle.ics_rule.proofs.Counts.{count-same, count-suc, count_one}
 use Rattle.ics_values.specs.Locals.{calendar_end}
-
-pub same_or_not : (a b : ℕ) → (a ≡ b) ⊎ (a ≢ b)
-same_or_not a b = grind (arith, nat_tests)
-
-pub self_test : (a b : ℕ) → a ≡ b → (a == b) ≡ true
-self_test a b h = grind (arith, nat_tests)
-
-pub apart_test : (a b : ℕ) → a ≢ b → (a == b) ≡ false
-apart_test a b h = grind (arith, nat_tests)
-
-pub and_true : (b : Bool) → (b && true) ≡ b
-and_true true = refl
-and_true false = refl
-
-pub and_false : (b : Bool) → (b && false) ≡ false
-and_false true = refl
-and_false false = refl
+use Rattle.ics_rule.proofs.Tests.{and_false, keep_true}
 
 -- outside of the steps nothing is chosen
 pub no_step : (q : EffectiveRule) (start n : ℕ) → is_stepped (period_in q start) q.interval (period_in q n) ≡ false → is_chosen q start n ≡ false
@@ -53,7 +37,7 @@ pub let_in : (q : EffectiveRule) (start number n : ℕ) → is_stepped (period_i
 let_in q start number n step e =
     ap (λ x. is_stepped (period_in q start) q.interval x && lets_date q (day_of n) && lets_clock q n) e
     ∙ ap (λ x. x && lets_date q (day_of n) && lets_clock q n) step
-    ∙ sym (ap (λ x. x && (lets_date q (day_of n) && lets_clock q n)) (self_test (period_in q n) number e))
+    ∙ sym (ap (λ x. x && (lets_date q (day_of n) && lets_clock q n)) (eq-eqb (period_in q n) number e))
 
 taken_out : (positions : WideOrdinals) (b : Bool) (p : RecurrencePeriod) (n : ℕ) → holds p n ≡ false → is_taken positions b p n ≡ false
 taken_out positions true p n e = e
@@ -62,18 +46,18 @@ taken_out positions false p n e = ap (λ x. x && is_listed positions (count cale
 module _ (q : EffectiveRule) (start : ℕ) (p : RecurrencePeriod) (own : IsPeriodOf q p) (step : is_stepped (period_in q start) q.interval p.number ≡ true) where
   -- what lies in another period is not held
   held_out : (n : ℕ) → period_in q n ≢ p.number → holds p n ≡ false
-  held_out n other = own.members n ∙ ap (λ x. x && (lets_date q (day_of n) && lets_clock q n)) (apart_test (period_in q n) p.number other)
+  held_out n other = own.members n ∙ ap (λ x. x && (lets_date q (day_of n) && lets_clock q n)) (ne_eqb (period_in q n) p.number other)
 
   candidate_here : (n : ℕ) → period_in q n ≡ p.number → is_candidate_in q start n ≡ holds p n
   candidate_here n here = let_in q start p.number n step here ∙ sym (own.members n)
 
   -- what stands beside n is what the product holds
   beside : (n m : ℕ) → period_in q n ≡ p.number → is_beside q start n m ≡ holds p m
-  beside n m here = ap (λ x. is_candidate_in q start m && period_in q m == x) here ∙ cases (same_or_not (period_in q m) p.number)
+  beside n m here = ap (λ x. is_candidate_in q start m && period_in q m == x) here ∙ cases (cases_eq (period_in q m) p.number)
     where
       cases : (period_in q m ≡ p.number) ⊎ (period_in q m ≢ p.number) → (is_candidate_in q start m && period_in q m == p.number) ≡ holds p m
-      cases (inl same) = ap (λ x. is_candidate_in q start m && x) (self_test (period_in q m) p.number same) ∙ and_true (is_candidate_in q start m) ∙ candidate_here m same
-      cases (inr other) = ap (λ x. is_candidate_in q start m && x) (apart_test (period_in q m) p.number other) ∙ and_false (is_candidate_in q start m) ∙ sym (held_out m other)
+      cases (inl same) = ap (λ x. is_candidate_in q start m && x) (eq-eqb (period_in q m) p.number same) ∙ keep_true (is_candidate_in q start m) ∙ candidate_here m same
+      cases (inr other) = ap (λ x. is_candidate_in q start m && x) (ne_eqb (period_in q m) p.number other) ∙ and_false (is_candidate_in q start m) ∙ sym (held_out m other)
 
   -- the size is the product's
   size_is : (n : ℕ) → period_in q n ≡ p.number → size q start n ≡ count calendar_end (holds p)
@@ -86,12 +70,9 @@ module _ (q : EffectiveRule) (start : ℕ) (p : RecurrencePeriod) (own : IsPerio
       let last = count-suc n (holds p) in
       let one = count_one (holds p n) e in
       omega (arith, all, last, one)
-    where
-      count_one : (b : Bool) → b ≡ true → ◌≡◌ {A = ℕ} (cond b 1 0) 1
-      count_one b e = let f : Bool → ℕ = λ z. cond z 1 0 in ap f e
 
   chosen_here : (n : ℕ) → period_in q n ≡ p.number → (b : Bool) → is_taken q.positions b p n ≡ (is_candidate_in q start n && is_placed q start b n)
-  chosen_here n here true = sym (and_true (is_candidate_in q start n) ∙ candidate_here n here)
+  chosen_here n here true = sym (keep_true (is_candidate_in q start n) ∙ candidate_here n here)
   chosen_here n here false = placed (holds p n) refl ∙ ap (λ x. x && is_placed q start false n) (sym (candidate_here n here))
     where
       placed : (b : Bool) → holds p n ≡ b → (holds p n && is_listed q.positions (count calendar_end (holds p)) (count n (holds p))) ≡ (holds p n && is_placed q start false n)
@@ -99,11 +80,11 @@ module _ (q : EffectiveRule) (start : ℕ) (p : RecurrencePeriod) (own : IsPerio
       placed false e = ap (λ x. x && is_listed q.positions (count calendar_end (holds p)) (count n (holds p))) e ∙ sym (ap (λ x. x && is_placed q start false n) e)
 
   pub taken_is : (n : ℕ) → is_taken q.positions (lists_none_wide q.positions) p n ≡ is_chosen_within q start p.number n
-  taken_is n = cases (same_or_not (period_in q n) p.number)
+  taken_is n = cases (cases_eq (period_in q n) p.number)
     where
       cases : (period_in q n ≡ p.number) ⊎ (period_in q n ≢ p.number) → is_taken q.positions (lists_none_wide q.positions) p n ≡ is_chosen_within q start p.number n
-      cases (inl same) = chosen_here n same (lists_none_wide q.positions) ∙ sym (ap (λ x. x && is_chosen q start n) (self_test (period_in q n) p.number same))
-      cases (inr other) = taken_out q.positions (lists_none_wide q.positions) p n (held_out n other) ∙ sym (ap (λ x. x && is_chosen q start n) (apart_test (period_in q n) p.number other))
+      cases (inl same) = chosen_here n same (lists_none_wide q.positions) ∙ sym (ap (λ x. x && is_chosen q start n) (eq-eqb (period_in q n) p.number same))
+      cases (inr other) = taken_out q.positions (lists_none_wide q.positions) p n (held_out n other) ∙ sym (ap (λ x. x && is_chosen q start n) (ne_eqb (period_in q n) p.number other))
 
 -- the same of a period by its number
 pub taken_within : (q : EffectiveRule) (start : ℕ) (p : RecurrencePeriod) (number : ℕ) → IsPeriodOf q p → p.number ≡ number → is_stepped (period_in q start) q.interval number ≡ true

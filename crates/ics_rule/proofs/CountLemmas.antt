@@ -1,5 +1,6 @@
 -- What a rule chooses is counted period by period.
-use Rattle.std.proofs.Common.{◌≡◌, ◌≢◌, ℕ, suc, ◌+◌, ◌-◌, ◌<◌, ◌≤◌, ◌⊎◌, inl, inr, Bool, true, false, ◌==◌, nat_lt, ◌&&◌, Some, refl, sym, subst, ap, ◌∙◌, arith}
+use Rattle.std.proofs.Common.{◌≡◌, ◌≢◌, ℕ, suc, ◌+◌, ◌-◌, ◌<◌, ◌≤◌, inl, inr, Bool, true, false, nat_lt, ◌&&◌, Some, refl, sym, subst, ap, ◌∙◌, arith}
+use Rattle.std.proofs.lemmas.Bool.{cases_lt, ne_eqb, false_from_ne_true}
 use Rattle.std.proofs.lemmas.Bool.Decides.{nat_tests}
 use Rattle.jiff_core.specs.Weekday.{monday_zero}
 use Rattle.ics_values.specs.Ordinals.{lists_none_wide}
@@ -14,16 +15,10 @@ use Rattle.ics_rule.specs.Searches.{is_few, IsPassed, AllCounted, IsTurned, afte
 use Rattle.ics_rule.proofs.PeriodLemmas.{begun, begins, first_in, period_mono, week_small}
 use Rattle.ics_rule.proofs.Counts.{count-same, count-add, count-none, count_mono, count_most}
 use Rattle.ics_rule.proofs.RankLemmas.{count_flat}
-use Rattle.ics_rule.proofs.StepLemmas.{stepped_parts, none_between, not_true}
+use Rattle.ics_rule.proofs.StepLemmas.{stepped_parts, none_between}
 use Rattle.ics_rule.proofs.ChosenLemmas.{no_step, taken_is}
 use Rattle.ics_rule.proofs.CursorLemmas.{within_here}
 use Rattle.ics_rule.specs.PeriodNumbers.{rules_end}
-
-by_order : (a b : ℕ) → (a < b) ⊎ (b ≤ a)
-by_order a b = grind arith
-
-apart_test : (a b : ℕ) → a ≢ b → (a == b) ≡ false
-apart_test a b h = grind (arith, nat_tests)
 
 -- a period that lies a multiple of the interval from the start's is not before it
 pub step_low : (q : EffectiveRule) (start number : ℕ) → is_stepped (period_in q start) q.interval number ≡ true → period_in q 0 ≤ number
@@ -35,7 +30,7 @@ step_low q start number step =
 -- before the start's period nothing is chosen
 pub none_before_first : (q : EffectiveRule) (start : ℕ) → count (first_local q.frequency (monday_zero q.week_start) (period_in q start)) (is_chosen q start) ≡ 0
 none_before_first q start = count-none (first_local q.frequency (monday_zero q.week_start) (period_in q start)) (is_chosen q start) (λ m l. no_step q start m
-    (not_true (is_stepped (period_in q start) q.interval (period_in q m)) (λ yes.
+    (false_from_ne_true (is_stepped (period_in q start) q.interval (period_in q m)) (λ yes.
     let parts = stepped_parts (period_in q start) q.interval (period_in q m) yes in
     let late = begun q.frequency (monday_zero q.week_start) (period_in q start) m parts.0 in
     omega (arith, late, l))))
@@ -57,15 +52,15 @@ module _ (q : EffectiveRule) (start : ℕ) (p : RecurrencePeriod) (own : IsPerio
   next = first_local q.frequency (monday_zero q.week_start) (p.number + q.interval)
 
   out : (m : ℕ) → period_in q m ≢ p.number → taken m ≡ false
-  out m other = taken_is q start p own step m ∙ ap (λ x. x && is_chosen q start m) (apart_test (period_in q m) p.number other)
+  out m other = taken_is q start p own step m ∙ ap (λ x. x && is_chosen q start m) (ne_eqb (period_in q m) p.number other)
 
   -- from this period's first local to the next one's the two agree
   same_here : (m : ℕ) → first ≤ m → m < next → is_chosen q start m ≡ taken m
   same_here m l h =
       let low = begins q.frequency (monday_zero q.week_start) p.number m l in
-      elim (by_order p.number (period_in q m)) [
+      elim (cases_lt p.number (period_in q m)) [
         | inl later ↦
-            let before : period_in q m < p.number + q.interval = (elim (by_order (period_in q m) (p.number + q.interval)) [
+            let before : period_in q m < p.number + q.interval = (elim (cases_lt (period_in q m) (p.number + q.interval)) [
               | inl less ↦ less
               | inr more ↦ absurd (let late = begun q.frequency (monday_zero q.week_start) (p.number + q.interval) m more in omega (arith, late, h))
             ]) in
@@ -105,7 +100,7 @@ chosen_passed q start number end o own step some passed h =
     let up = first_mono q (o.number + q.interval) number (omega (arith, low, passed.up)) passed.up in
     let all = chosen_all q start o own step some end (omega (arith, up, h)) in
     let flat = count_flat (first_local q.frequency (monday_zero q.week_start) (o.number + q.interval)) (first_local q.frequency (monday_zero q.week_start) number) (is_chosen q start) up
-    (λ m l u. passed.none m (begins q.frequency (monday_zero q.week_start) (o.number + q.interval) m l) (elim (by_order (period_in q m) number) [
+    (λ m l u. passed.none m (begins q.frequency (monday_zero q.week_start) (o.number + q.interval) m l) (elim (cases_lt (period_in q m) number) [
       | inl less ↦ less
       | inr more ↦ absurd (let late = begun q.frequency (monday_zero q.week_start) number m more in omega (arith, late, u))
     ])) in
@@ -139,7 +134,7 @@ turned_first q start c number limit before cursor p some positive e step own sam
     total = zero ∙ sym (none_before_first q start) ∙ ap (λ x. count (first_local q.frequency (monday_zero q.week_start) x) (is_chosen q start)) (sym (same ∙ e));
     most =
         let low = begun q.frequency (monday_zero q.week_start) p.number start (omega (arith, same, e)) in
-        let high : start + 1 ≤ first_local q.frequency (monday_zero q.week_start) (p.number + q.interval) = (elim (by_order start (first_local q.frequency (monday_zero q.week_start) (p.number + q.interval))) [
+        let high : start + 1 ≤ first_local q.frequency (monday_zero q.week_start) (p.number + q.interval) = (elim (cases_lt start (first_local q.frequency (monday_zero q.week_start) (p.number + q.interval))) [
           | inl less ↦ omega (arith, less)
           | inr more ↦ absurd (let late = begins q.frequency (monday_zero q.week_start) (p.number + q.interval) start more in omega (arith, late, same, e, some))
         ]) in

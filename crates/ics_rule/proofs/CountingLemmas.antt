@@ -1,5 +1,6 @@
 -- How far a walk under COUNT has come.
-use Rattle.std.proofs.Common.{◌≡◌, ℕ, ◌+◌, ◌-◌, ◌*◌, ◌%◌, ◌<◌, ◌≤◌, ◌⊎◌, inl, inr, Bool, true, false, ◌&&◌, Option, Some, None, MatchOption, refl, sym, subst, ap, ◌∙◌, arith}
+use Rattle.std.proofs.Common.{◌≡◌, ℕ, ◌+◌, ◌-◌, ◌*◌, ◌%◌, ◌<◌, ◌≤◌, ◌⊎◌, inl, inr, Bool, true, false, Option, Some, None, MatchOption, sym, subst, ap, ◌∙◌, arith}
+use Rattle.std.proofs.lemmas.Bool.{and_from, and_left, and_right, cases_lt}
 use Rattle.std.proofs.lemmas.Nat.{mod-mul-add}
 use Rattle.jiff_core.specs.Weekday.{monday_zero}
 use Rattle.ics_values.specs.Sets.{IsLeastFrom}
@@ -18,19 +19,6 @@ use Rattle.ics_rule.proofs.StepLemmas.{stepped_parts, stepped_shown, none_betwee
 use Rattle.ics_rule.proofs.ChosenLemmas.{no_step, not_let_in, taken_within}
 use Rattle.ics_rule.proofs.CursorLemmas.{meets, then_moves, within_here, within_facts, bounded}
 use Rattle.ics_rule.proofs.CountLemmas.{chosen_before, not_few, are_few}
-
-by_order : (a b : ℕ) → (a < b) ⊎ (b ≤ a)
-by_order a b = grind arith
-
-and_first : (a b : Bool) → a ≡ false → (a && b) ≡ false
-and_first a b h = ap (λ x. x && b) h
-
-and_second : (a b : Bool) → b ≡ false → (a && b) ≡ false
-and_second true b h = h
-and_second false b h = refl
-
-and_both : (a b : Bool) → a ≡ true → b ≡ true → (a && b) ≡ true
-and_both a b p q = ap (λ x. x && b) p ∙ q
 
 -- nothing from the place on is wanted in a period before this one, whose turn it is
 pub record IsCounting (q : EffectiveRule) (start c stop number : ℕ) (before now : Cursor) : Type 0 where
@@ -82,9 +70,9 @@ module _ (q : EffectiveRule) (start c stop number : ℕ) (before now : Cursor) (
   counting_ends past n l u = walk.none n l (let m = period_mono q.frequency (monday_zero q.week_start) n (stop - 1) (omega arith) in omega (arith, m))
 
   pub counting_out : AllCounted q start c number → NoneWanted q start (Some c) before.place stop
-  counting_out all n l u = elim (by_order (period_in q n) number) [
+  counting_out all n l u = elim (cases_lt (period_in q n) number) [
     | inl less ↦ walk.none n l less
-    | inr more ↦ and_second (is_chosen q start n) (is_few q start c n) (all n (begun q.frequency (monday_zero q.week_start) number n more))
+    | inr more ↦ and_right (is_chosen q start n) (is_few q start c n) (all n (begun q.frequency (monday_zero q.week_start) number n more))
   ]
 
   -- where this period is looked at
@@ -122,7 +110,7 @@ module _ (q : EffectiveRule) (start c stop number : ℕ) (before now : Cursor) (
     count_here : (n : ℕ) → period_in q n ≡ number → count n (is_chosen q start) ≡ after.counted + count n taken
     count_here n e =
         let low = begun q.frequency (monday_zero q.week_start) p.number n (omega (arith, e, turned.number)) in
-        let high : n ≤ first_local q.frequency (monday_zero q.week_start) (p.number + q.interval) = (elim (by_order n (first_local q.frequency (monday_zero q.week_start) (p.number + q.interval))) [
+        let high : n ≤ first_local q.frequency (monday_zero q.week_start) (p.number + q.interval) = (elim (cases_lt n (first_local q.frequency (monday_zero q.week_start) (p.number + q.interval))) [
           | inl less ↦ omega (arith, less)
           | inr more ↦ absurd (let far = begins q.frequency (monday_zero q.week_start) (p.number + q.interval) n more in omega (arith, far, e, turned.number, some))
         ]) in
@@ -130,17 +118,17 @@ module _ (q : EffectiveRule) (start c stop number : ℕ) (before now : Cursor) (
 
     -- nothing is wanted before what is taken next
     none_until : (n : ℕ) → IsLeastFrom taken after.place n → (m : ℕ) → before.place ≤ m → m < n → is_wanted q start (Some c) m ≡ false
-    none_until n next m l u = elim (by_order (period_in q m) number) [
+    none_until n next m l u = elim (cases_lt (period_in q m) number) [
       | inl less ↦ walk.none m l less
       | inr more ↦
           let top = period_mono q.frequency (monday_zero q.week_start) m n (omega arith) in
           let same : period_in q m ≡ number = omega (arith, more, top, (taken_here n next.passes).0) in
-          and_first (is_chosen q start m) (is_few q start c m) (sym (chosen_here m same) ∙ next.least m (omega (arith, l, walk.place, place)) u)
+          and_left (is_chosen q start m) (is_few q start c m) (sym (chosen_here m same) ∙ next.least m (omega (arith, l, walk.place, place)) u)
     ]
 
     pub counting_finds : (n earlier : ℕ) → IsLeastFrom taken after.place n → earlier ≡ count n taken → after.counted + earlier < after.limit → IsLeastFrom (is_wanted q start (Some c)) before.place n
     counting_finds n earlier next e h = let here = taken_here n next.passes in record {
-      passes = and_both (is_chosen q start n) (is_few q start c n) here.1 (are_few q start c after.limit n turned.counted.most (let all = count_here n here.0 in omega (arith, all, e, h)));
+      passes = and_from (is_chosen q start n) (is_few q start c n) here.1 (are_few q start c after.limit n turned.counted.most (let all = count_here n here.0 in omega (arith, all, e, h)));
       low = omega (arith, next.low, walk.place, place);
       least = none_until n next;
     }
@@ -158,9 +146,9 @@ module _ (q : EffectiveRule) (start c stop number : ℕ) (before now : Cursor) (
 
     -- COUNT ends the rule within this period
     pub counting_stops : (n earlier : ℕ) → IsLeastFrom taken after.place n → earlier ≡ count n taken → after.limit ≤ after.counted + earlier → NoneWanted q start (Some c) before.place stop
-    counting_stops n earlier next e h m l u = elim (by_order m n) [
+    counting_stops n earlier next e h m l u = elim (cases_lt m n) [
       | inl less ↦ none_until n next m l less
-      | inr more ↦ and_second (is_chosen q start m) (is_few q start c m)
+      | inr more ↦ and_right (is_chosen q start m) (is_few q start c m)
           (not_few q start c after.limit n m turned.counted.most (let here = taken_here n next.passes in let all = count_here n here.0 in omega (arith, all, e, h)) more)
     ]
 
@@ -171,10 +159,10 @@ module _ (q : EffectiveRule) (start c stop number : ℕ) (before now : Cursor) (
     pub counting_goes_on : (next : ℕ) → ((m : ℕ) → after.place ≤ m → taken m ≡ false) → IsNextOpen q (period_in q start) (number + q.interval) next → IsCounting q start c stop next before after
     counting_goes_on next none is_next = record {
       step = is_next.step;
-      none = λ n l u. elim (by_order (period_in q n) number) [
+      none = λ n l u. elim (cases_lt (period_in q n) number) [
         | inl less ↦ walk.none n l less
-        | inr more ↦ and_first (is_chosen q start n) (is_few q start c n) (elim (by_order number (period_in q n)) [
-          | inl later ↦ elim (by_order (period_in q n) (number + q.interval)) [
+        | inr more ↦ and_left (is_chosen q start n) (is_few q start c n) (elim (cases_lt number (period_in q n)) [
+          | inl later ↦ elim (cases_lt (period_in q n) (number + q.interval)) [
             | inl between ↦ no_step q start n (none_between q.interval some (period_in q start) number (period_in q n) walk.step later between)
             | inr past ↦ not_let_in q start n (is_next.none n past u)
           ]

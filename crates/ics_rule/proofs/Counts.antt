@@ -53,8 +53,11 @@ count-product (suc d) b p q =
     omega (arith, one_more d b (λ m. p (m / b) && q (m % b)), count-product d b p q, block, count-all (p d) b q, ap (λ x. x * count b q) (count-suc d p))
 
 -- more of the numbers, more that pass
-count_one : (b : Bool) → b ≡ true → ◌≡◌ {A = ℕ} (cond b 1 0) 1
+pub count_one : (b : Bool) → b ≡ true → ◌≡◌ {A = ℕ} (cond b 1 0) 1
 count_one b e = let f : Bool → ℕ = λ z. cond z 1 0 in ap f e
+
+pub count_none_at : (b : Bool) → b ≡ false → ◌≡◌ {A = ℕ} (cond b 1 0) 0
+count_none_at b e = let f : Bool → ℕ = λ z. cond z 1 0 in ap f e
 
 -- a test that a number below n passes is counted
 pub count_some : (n m : ℕ) (test : ℕ → Bool) → m < n → test m ≡ true → 0 < count n test

@@ -1,5 +1,6 @@
 -- What a cursor looks at.
-use Rattle.std.proofs.Common.{◌≡◌, ℕ, zero, suc, ◌+◌, ◌-◌, ◌<◌, ◌≤◌, ◌⊎◌, inl, inr, Bool, true, false, ◌==◌, nat_le, nat_lt, ◌&&◌, Option, Some, None, MatchOption, cond, refl, sym, subst, ap, ◌∙◌, arith}
+use Rattle.std.proofs.Common.{◌≡◌, ℕ, zero, suc, ◌+◌, ◌-◌, ◌<◌, ◌≤◌, inl, inr, Bool, true, false, ◌==◌, nat_le, nat_lt, ◌&&◌, Option, Some, None, MatchOption, cond, refl, sym, subst, ap, ◌∙◌, arith}
+use Rattle.std.proofs.lemmas.Bool.{and_from, and_parts, cases_lt, eq-eqb, eqb-true, leb-true}
 use Rattle.std.proofs.lemmas.Bool.Decides.{nat_tests}
 use Rattle.jiff_core.specs.Weekday.{monday_zero}
 use Rattle.ics_values.specs.Sets.{IsLeastFrom, IsNextIn}
@@ -17,16 +18,10 @@ use Rattle.ics_rule.proofs.StepLemmas.{none_between}
 use Rattle.ics_rule.proofs.ChosenLemmas.{no_step, not_let_in}
 use Rattle.ics_values.specs.Locals.{calendar_end}
 
-by_order : (a b : ℕ) → (a < b) ⊎ (b ≤ a)
-by_order a b = grind arith
-
 -- a period that lies a multiple of the interval from the start's is met by a local of it
 met_by : (q : EffectiveRule) (start a b p n : ℕ) → a ≤ n → n < b → period_in q n ≡ p → is_stepped (period_in q start) q.interval p ≡ true → is_met q start a b p ≡ true
-met_by q start a b p n l u e step = and_both _ _ step (positive _ (count_some b n (λ m. nat_le a m && period_in q m == p) u (both a n (period_in q n) p l e)))
+met_by q start a b p n l u e step = and_from _ _ step (positive _ (count_some b n (λ m. nat_le a m && period_in q m == p) u (both a n (period_in q n) p l e)))
   where
-    and_both : (x y : Bool) → x ≡ true → y ≡ true → (x && y) ≡ true
-    and_both x y e f = ap (λ z. z && y) e ∙ f
-
     both : (x n y z : ℕ) → x ≤ n → y ≡ z → (nat_le x n && (y == z)) ≡ true
     both x n y z h e = grind (arith, nat_tests)
 
@@ -36,11 +31,11 @@ met_by q start a b p n l u e step = and_both _ _ step (positive _ (count_some b 
 -- so is one from that of a place to that of a bound
 pub meets : (q : EffectiveRule) (start a b place stop p : ℕ) → a ≤ place → place < stop → stop ≤ b
     → is_stepped (period_in q start) q.interval p ≡ true → period_in q place ≤ p → p ≤ period_in q (stop - 1) → is_met q start a b p ≡ true
-meets q start a b place stop p la lp lb step low high = elim (by_order (period_in q place) p) [
+meets q start a b place stop p la lp lb step low high = elim (cases_lt (period_in q place) p) [
   | inl later ↦
       let none : period_in q 0 ≤ p = (let m = period_mono q.frequency (monday_zero q.week_start) 0 place (omega arith) in omega (arith, m)) in
       let end = begun q.frequency (monday_zero q.week_start) p (stop - 1) high in
-      met_by q start a b p (first_local q.frequency (monday_zero q.week_start) p) (elim (by_order place (first_local q.frequency (monday_zero q.week_start) p)) [
+      met_by q start a b p (first_local q.frequency (monday_zero q.week_start) p) (elim (cases_lt place (first_local q.frequency (monday_zero q.week_start) p)) [
         | inl after ↦ omega arith
         | inr before ↦ absurd (let g = begins q.frequency (monday_zero q.week_start) p place before in omega (arith, g, later))
       ]) (omega (arith, end)) (first_in q.frequency (monday_zero q.week_start) p (week_small q.week_start) none) step
@@ -53,7 +48,7 @@ next_same f g place None same none = λ m low. sym (same m) ∙ none m low
 next_same f g place (Some n) same next = record { passes = sym (same n) ∙ next.passes; low = next.low; least = λ m low high. sym (same m) ∙ next.least m low high }
 
 fresh_low : (k number : ℕ) → k ≤ number → (k ≡ number → ⊥) → suc k ≤ number
-fresh_low k number h other = elim (by_order k number) [ inl less ↦ omega arith | inr more ↦ absurd (other (omega arith)) ]
+fresh_low k number h other = elim (cases_lt k number) [ inl less ↦ omega arith | inr more ↦ absurd (other (omega arith)) ]
 
 pub fresh_some : (number : ℕ) (held : Option RecurrencePeriod) (p : RecurrencePeriod) → held ≡ Some p → p.number ≤ number → (p.number ≡ number → ⊥) → fresh held ≤ number
 fresh_some number held p e h other = subst (λ o. fresh o ≤ number) (sym e) (fresh_low p.number number h other)
@@ -167,43 +162,29 @@ count_within (suc n) f g h =
 -- what is met before some bound and is not past the period of n is met before each bound past n
 met_soon : (q : EffectiveRule) (start a b c n p : ℕ) → a ≤ n → n < b → p ≤ period_in q n → is_met q start a c p ≡ true → is_met q start a b p ≡ true
 met_soon q start a b c n p low high here met =
-    let parts = and_facts (is_stepped (period_in q start) q.interval p) (nat_lt 0 (count c (λ m. nat_le a m && period_in q m == p))) met in
+    let parts = and_parts (is_stepped (period_in q start) q.interval p) (nat_lt 0 (count c (λ m. nat_le a m && period_in q m == p))) met in
     let one = counted_one c (λ m. nat_le a m && period_in q m == p) (positive_fact (count c (λ m. nat_le a m && period_in q m == p)) parts.1) in
     let facts = both_facts a one.0 (period_in q one.0) p one.1.1 in
-    elim (by_order n one.0) [
+    elim (cases_lt n one.0) [
       | inl later ↦
           let up = period_mono q.frequency (monday_zero q.week_start) n one.0 (omega arith) in
           met_by q start a b p n low high (omega (arith, up, facts.1, here)) parts.0
       | inr before ↦ met_by q start a b p one.0 facts.0 (omega arith) facts.1 parts.0
     ]
   where
-    and_facts : (x y : Bool) → (x && y) ≡ true → (x ≡ true) × (y ≡ true)
-    and_facts true y h = (refl, h)
-    and_facts false y h = absurd (cc)
-
     positive_fact : (n : ℕ) → nat_lt 0 n ≡ true → 0 < n
     positive_fact n h = grind (arith, nat_tests)
 
-    same_fact : (x y : ℕ) → (x == y) ≡ true → x ≡ y
-    same_fact x y h = grind (arith, nat_tests)
-
-    least_fact : (x y : ℕ) → nat_le x y ≡ true → x ≤ y
-    least_fact x y h = grind (arith, nat_tests)
-
     both_facts : (x n y z : ℕ) → (nat_le x n && (y == z)) ≡ true → (x ≤ n) × (y ≡ z)
-    both_facts x n y z h = let parts = and_facts (nat_le x n) (y == z) h in (least_fact x n parts.0, same_fact y z parts.1)
+    both_facts x n y z h = let parts = and_parts (nat_le x n) (y == z) h in (leb-true x n parts.0, eqb-true y z parts.1)
 
 -- and what is met before a bound is met before a later one
 met_later : (q : EffectiveRule) (start a b c p : ℕ) → b ≤ c → is_met q start a b p ≡ true → is_met q start a c p ≡ true
 met_later q start a b c p h met =
-    let parts = and_facts (is_stepped (period_in q start) q.interval p) (nat_lt 0 (count b (λ m. nat_le a m && period_in q m == p))) met in
+    let parts = and_parts (is_stepped (period_in q start) q.interval p) (nat_lt 0 (count b (λ m. nat_le a m && period_in q m == p))) met in
     let more = count_mono b c (λ m. nat_le a m && period_in q m == p) h in
     more_positive (is_stepped (period_in q start) q.interval p) (count b (λ m. nat_le a m && period_in q m == p)) (count c (λ m. nat_le a m && period_in q m == p)) parts.0 parts.1 more
   where
-    and_facts : (x y : Bool) → (x && y) ≡ true → (x ≡ true) × (y ≡ true)
-    and_facts true y h = (refl, h)
-    and_facts false y h = absurd (cc)
-
     more_positive : (x : Bool) (m n : ℕ) → x ≡ true → nat_lt 0 m ≡ true → m ≤ n → (x && nat_lt 0 n) ≡ true
     more_positive x m n e h l = grind (arith, nat_tests)
 
@@ -212,7 +193,7 @@ pub looked_found : (q : EffectiveRule) (start : ℕ) (o : Option ℕ) (stop n : 
     → start ≤ n → before.place ≤ n → n + 1 ≤ b → HasLookedIn q start o before a b → HasLookedIn q start o (record now { place = n + 1 }) a b
 looked_found q start o stop n before now a b walked after low soon few = record {
   low = (let up = looks_mono o start before.place (n + 1) (omega (arith, low)) in omega (arith, few.low, up));
-  few = elim (by_order b stop) [
+  few = elim (cases_lt b stop) [
     | inl early ↦
         let wide = count_within (fresh before.held) (is_met q start a b) (is_met q start a stop) (λ p l met. met_wide p met early) in
         let most = walked.looked a stop (omega arith) (record { low = few.low; few = omega (arith, few.few, wide) }) in
@@ -245,23 +226,13 @@ pub few_steps : (q : EffectiveRule) (start : ℕ) (o : Option ℕ) (c : Cursor) 
 few_steps q start o c a b own few = let more = count_mono (fresh c.held) calendar_end (is_met q start a b) (fresh_small q c.held c.place own.held own.inside) in omega (arith, few.few, more)
 
 pub within_here : (q : EffectiveRule) (start number n : ℕ) → period_in q n ≡ number → is_chosen_within q start number n ≡ is_chosen q start n
-within_here q start number n e = ap (λ x. x && is_chosen q start n) (self_test (period_in q n) number e)
-  where
-    self_test : (a b : ℕ) → a ≡ b → (a == b) ≡ true
-    self_test a b h = grind (arith, nat_tests)
+within_here q start number n e = ap (λ x. x && is_chosen q start n) (eq-eqb (period_in q n) number e)
 
 pub within_facts : (q : EffectiveRule) (start number n : ℕ) → is_chosen_within q start number n ≡ true → (period_in q n ≡ number) × (is_chosen q start n ≡ true)
 within_facts q start number n h = fact (period_in q n) number (is_chosen q start n) h
   where
-    and_parts : (a b : Bool) → (a && b) ≡ true → (a ≡ true) × (b ≡ true)
-    and_parts true b h = (refl, h)
-    and_parts false b h = absurd (cc)
-
-    same_fact : (a b : ℕ) → (a == b) ≡ true → a ≡ b
-    same_fact a b h = grind (arith, nat_tests)
-
     fact : (a b : ℕ) (c : Bool) → ((a == b) && c) ≡ true → (a ≡ b) × (c ≡ true)
-    fact a b c h = let parts = and_parts (a == b) c h in (same_fact a b parts.0, parts.1)
+    fact a b c h = let parts = and_parts (a == b) c h in (eqb-true a b parts.0, parts.1)
 
 -- how far a walk over the periods has come: nothing from the place on is chosen in a period before this one
 pub record IsWalk (q : EffectiveRule) (start stop number : ℕ) (before now : Cursor) : Type 0 where
@@ -327,7 +298,7 @@ module _ (q : EffectiveRule) (start stop number : ℕ) (before now : Cursor) (wa
     walk_finds n next = let here = within_facts q start number n next.passes in record {
       passes = here.1;
       low = omega (arith, next.low, walk.place);
-      least = λ m l u. elim (by_order (period_in q m) number) [
+      least = λ m l u. elim (cases_lt (period_in q m) number) [
         | inl less ↦ walk.none m l less
         | inr more ↦
             let top = period_mono q.frequency (monday_zero q.week_start) m n (omega arith) in
@@ -353,10 +324,10 @@ module _ (q : EffectiveRule) (start stop number : ℕ) (before now : Cursor) (wa
     walk_goes_on next some none is_next = record {
       step = is_next.step;
       low = omega (arith, walk.low, is_next.low);
-      none = λ n l u. elim (by_order (period_in q n) number) [
+      none = λ n l u. elim (cases_lt (period_in q n) number) [
         | inl less ↦ walk.none n l less
-        | inr more ↦ elim (by_order number (period_in q n)) [
-          | inl later ↦ elim (by_order (period_in q n) (number + q.interval)) [
+        | inr more ↦ elim (cases_lt number (period_in q n)) [
+          | inl later ↦ elim (cases_lt (period_in q n) (number + q.interval)) [
             | inl between ↦ no_step q start n (none_between q.interval some (period_in q start) number (period_in q n) walk.step later between)
             | inr past ↦ not_let_in q start n (is_next.none n past u)
           ]

@@ -1,6 +1,6 @@
 -- The calendar repeats after 400 years, which are 146,097 days.
-use Rattle.std.proofs.Common.{◌≡◌, ℕ, zero, suc, ◌+◌, ◌-◌, ◌*◌, ◌/◌, ◌%◌, ◌<◌, ◌≤◌, ◌⊎◌, inl, inr, Bool, true, false, cond, not, ◌&&◌, ◌||◌, ◌==◌, nat_le, nat_lt, pos, refl, ap, ◌∙◌, arith}
-use Rattle.std.proofs.lemmas.Bool.Decides.{nat_tests}
+use Rattle.std.proofs.Common.{◌≡◌, ℕ, zero, suc, ◌+◌, ◌-◌, ◌*◌, ◌/◌, ◌%◌, ◌≤◌, inl, inr, Bool, true, false, cond, not, ◌&&◌, ◌||◌, ◌==◌, nat_le, pos, refl, ap, ◌∙◌, arith}
+use Rattle.std.proofs.lemmas.Bool.{cases_lt}
 use Rattle.jiff_core.specs.Calendar.{is_leap_year, days_in_year, days_in_month, days_of_months}
 use Rattle.jiff_core.specs.Weekday.{monday_zero}
 use Rattle.ics_values.specs.declared.frequency.Frequency.{Frequency}
@@ -13,6 +13,7 @@ use Rattle.ics_values.proofs.DayLemmas.{year_under_way, year_of_is}
 use Rattle.ics_rule.specs.declared.effective_rule.EffectiveRule.{EffectiveRule}
 use Rattle.ics_rule.specs.PeriodNumbers.{week_of}
 use Rattle.ics_rule.specs.Candidates.{lets, lets_place, lets_wide_place, lists_nth, fourth_day, week_number, weeks_of_year, lets_numbered, lets_date}
+use Rattle.ics_rule.proofs.PeriodLemmas.{fourth_early, fourth_late}
 
 -- k times 400 years later
 module _ (k : ℕ) where
@@ -108,21 +109,9 @@ module _ (k : ℕ) where
   numbered_again Secondly q p e = refl
 
 -- the week of a day, also where its fourth day is taken 400 years later
-fourth_late : (w e : ℕ) → 9 ≤ 7 * week_of w e + w → fourth_day w e ≡ 7 * week_of w e + w - 9
-fourth_late w e h = ap (λ b. cond b (7 * week_of w e + w + 146_088) (7 * week_of w e + w - 9)) (let no : nat_lt (7 * week_of w e + w) 9 ≡ false = not_less (7 * week_of w e + w) 9 h in no)
-  where
-    not_less : (a b : ℕ) → b ≤ a → nat_lt a b ≡ false
-    not_less a b h = grind (arith, nat_tests)
-
-fourth_early : (w e : ℕ) → 7 * week_of w e + w < 9 → fourth_day w e ≡ 7 * week_of w e + w + 146_088
-fourth_early w e h = ap (λ b. cond b (7 * week_of w e + w + 146_088) (7 * week_of w e + w - 9)) (let yes : nat_lt (7 * week_of w e + w) 9 ≡ true = less (7 * week_of w e + w) 9 h in yes)
-  where
-    less : (a b : ℕ) → a < b → nat_lt a b ≡ true
-    less a b h = grind (arith, nat_tests)
-
 week_place : (p : Ordinals) (w k e : ℕ) → 1 ≤ k → lets_place p (week_number (fourth_day w (e + 146_097 * k))) (weeks_of_year (fourth_day w (e + 146_097 * k))) ≡ lets_place p (week_number (fourth_day w e)) (weeks_of_year (fourth_day w e))
 week_place p w zero e some = absurd (omega (arith, some))
-week_place p w (suc k) e some = elim (by_order (7 * week_of w e + w) 9) [
+week_place p w (suc k) e some = elim (cases_lt (7 * week_of w e + w) 9) [
   | inl early ↦
       let own = fourth_early w e early in
       let other = fourth_late w (e + 146_097 * suc k) (omega arith) in
@@ -132,10 +121,6 @@ week_place p w (suc k) e some = elim (by_order (7 * week_of w e + w) 9) [
       let other = fourth_late w (e + 146_097 * suc k) (omega arith) in
       ap (λ f. lets_place p (week_number f) (weeks_of_year f)) (let same : fourth_day w (e + 146_097 * suc k) ≡ fourth_day w e + 146_097 * suc k = omega (arith, own, other, late) in same) ∙ place_of_week (suc k) p (fourth_day w e)
 ]
-  where
-    by_order : (a b : ℕ) → (a < b) ⊎ (b ≤ a)
-    by_order a b = grind arith
-
 -- a rule allows the same dates
 pub date_again : (q : EffectiveRule) (k e : ℕ) → 1 ≤ k → lets_date q (e + 146_097 * k) ≡ lets_date q e
 date_again q k e some = all

@@ -1,5 +1,6 @@
 -- The tests of a date by the fields that `civil` gives.
 use Rattle.std.proofs.Common.{◌≡◌, ℕ, ◌<◌, nat_lt, ◌+◌, ◌-◌, ◌/◌, ◌%◌, Bool, true, false, not, ◌&&◌, ◌||◌, ◌==◌, if◌then◌else◌, pos, refl, sym, ap, ◌∙◌, arith}
+use Rattle.std.proofs.lemmas.Bool.{and_parts, or_left}
 use Rattle.std.proofs.lemmas.Bool.Decides.{nat_tests}
 use Rattle.std.proofs.lemmas.Nat.Bits.{bit_at-zero}
 use Rattle.ics_values.specs.declared.frequency.Frequency.{Frequency}
@@ -17,6 +18,7 @@ use Rattle.ics_rule.specs.Candidates.{lets, lets_place, lets_wide_place, lets_we
 use Rattle.ics_rule.specs.DateParts.{names_weekdays_alone}
 use Rattle.ics_rule.specs.NamedWeekdays.{names_weekday}
 use Rattle.ics_rule.proofs.ScanLemmas.{in_word}
+use Rattle.ics_rule.proofs.Tests.{zero_of}
 
 -- the week of a day, by the fields of its fourth day
 pub lets_week-fields : (q : EffectiveRule) (e : ℕ) (c : Civil) → IsCivilOf c (fourth_day (monday_zero q.week_start) e) →
@@ -42,10 +44,6 @@ pub all_in : (a b c d e : Bool) → a ≡ true → b ≡ true → c ≡ true →
 all_in a b c d e p q r s = rw (p, q, r, s) refl
 
 -- an absent part lets all in
-pub absent_in : (a b : Bool) → a ≡ true → (a || b) ≡ true
-absent_in true b h = refl
-absent_in false b h = absurd (cc)
-
 -- a weekday that stands neither alone nor with a number is out
 pub none_nth : (p : Ordinals) (n size : ℕ) → lists_none p ≡ true → lists_nth p n size ≡ false
 none_nth p n size h =
@@ -54,13 +52,6 @@ none_nth p n size h =
     ∙ ap (λ x. contains 0 ((n - 1) / 7 + 1) || contains x ((size - n) / 7 + 1)) (zero_of p.back parts.1)
     ∙ ap (λ x. (x == 1) || contains 0 ((size - n) / 7 + 1)) (bit_at-zero ((n - 1) / 7 + 1))
     ∙ ap (λ x. (x == 1)) (bit_at-zero ((size - n) / 7 + 1))
-  where
-    and_parts : (a b : Bool) → (a && b) ≡ true → (a ≡ true) × (b ≡ true)
-    and_parts true b h = (refl, h)
-    and_parts false b h = absurd (cc)
-
-    zero_of : (s : ℕ) → (s == 0) ≡ true → s ≡ 0
-    zero_of s h = grind (arith, nat_tests)
 
 none_numbered : (f : Frequency) (q : EffectiveRule) (p : Ordinals) (e : ℕ) → lists_none p ≡ true → lets_numbered f q p e ≡ false
 none_numbered Monthly q p e h = none_nth p (month_day_of e) (days_in_month (pos (year_of e)) (month_of e)) h
@@ -84,7 +75,7 @@ weekday_out q e a c = out_5 (lets q.months (month_of e)) (lets_place q.month_day
 pub weekdays_alone : (q : EffectiveRule) (e : ℕ) → names_weekdays_alone q ≡ true → lets_date q e ≡ lets_weekday q e
 weekdays_alone q e alone = let f = four (is_empty q.months) (lists_none q.month_days) (lists_none_wide q.year_days) (lists_none q.weeks) alone in
     sym (all_in (lets q.months (month_of e)) (lets_place q.month_days (month_day_of e) (days_in_month (pos (year_of e)) (month_of e))) (lets_wide_place q.year_days (year_day_of e) (days_in_year (pos (year_of e)))) (lets_week q e) (lets_weekday q e)
-    (absent_in (is_empty q.months) _ f.0) (absent_in (lists_none q.month_days) _ f.1.0) (absent_in (lists_none_wide q.year_days) _ f.1.1.0) (absent_in (lists_none q.weeks) _ f.1.1.1))
+    (or_left (is_empty q.months) _ f.0) (or_left (lists_none q.month_days) _ f.1.0) (or_left (lists_none_wide q.year_days) _ f.1.1.0) (or_left (lists_none q.weeks) _ f.1.1.1))
   where
     four : (a b c d : Bool) → (a && b && c && d) ≡ true → (a ≡ true) × ((b ≡ true) × ((c ≡ true) × (d ≡ true)))
     four true true true true h = (refl, (refl, (refl, refl)))
@@ -95,7 +86,7 @@ weekdays_alone q e alone = let f = four (is_empty q.months) (lists_none q.month_
 
 -- and a weekday that stands alone is in there
 pub weekday_in : (q : EffectiveRule) (e : ℕ) → (lists_no_weekday q.weekdays || contains q.weekdays.plain (weekday_of e)) ≡ true → names_weekdays_alone q ≡ true → lets_date q e ≡ true
-weekday_in q e day alone = weekdays_alone q e alone ∙ absent_in (lists_no_weekday q.weekdays || contains q.weekdays.plain (weekday_of e)) (lets_numbered q.frequency q (numbers_of q.weekdays (weekday_of e)) e) day
+weekday_in q e day alone = weekdays_alone q e alone ∙ or_left (lists_no_weekday q.weekdays || contains q.weekdays.plain (weekday_of e)) (lets_numbered q.frequency q (numbers_of q.weekdays (weekday_of e)) e) day
 
 -- under WEEKLY with BYDAY alone, the weekdays that it names
 pub in_week : (d : ℕ) (b : Bool) → d < 7 → (nat_lt d 7 && b) ≡ b

@@ -1,6 +1,6 @@
 -- What each period of a day or less has that a rule lets in.
 use Rattle.std.proofs.Common.{◌≡◌, ℕ, zero, suc, ◌+◌, ◌-◌, ◌*◌, ◌/◌, ◌%◌, ◌<◌, ◌≤◌, Bool, true, false, cond, not, ◌&&◌, ◌||◌, ◌==◌, refl, sym, subst, ap, ◌∙◌, arith}
-use Rattle.std.proofs.lemmas.Bool.Decides.{nat_tests}
+use Rattle.std.proofs.lemmas.Bool.{eq-eqb, eqb-true, false_from_ne_true}
 use Rattle.std.proofs.lemmas.Nat.{div-add-mod'}
 use Rattle.std.proofs.Math.Nat.{mul-le-mul_right, mul_comm}
 use Rattle.jiff_core.specs.Weekday.{monday_zero}
@@ -15,32 +15,13 @@ use Rattle.ics_rule.specs.Kept.{count, is_beside, rank, size, is_placed, is_chos
 use Rattle.ics_rule.specs.RecurrencePeriods.{first_local, is_listed}
 use Rattle.ics_rule.specs.Rounds.{seconds_of}
 use Rattle.ics_rule.specs.OpenPeriods.{per_day, lets_own, lets_within, is_open_period, size_of_open, chosen_of_size, chosen_in_open}
-use Rattle.ics_rule.proofs.Counts.{count-same, count-suc, count-add, count-from, count-none, count-product, count_every}
+use Rattle.ics_rule.proofs.Counts.{count-same, count-suc, count-add, count-from, count-none, count-product, count_every, count_none_at, count_one}
 use Rattle.ics_rule.proofs.ProductCounts.{count_zero}
 use Rattle.ics_rule.proofs.RankLemmas.{count_flat, count-ranked}
 use Rattle.ics_rule.proofs.StepLemmas.{stepped_parts}
 use Rattle.ics_rule.proofs.RoundLemmas.{step_repeats}
 use Rattle.ics_values.specs.Locals.{calendar_end}
-
-if_true : (b : Bool) → b ≡ true → ◌≡◌ {A = ℕ} (cond b 1 0) 1
-if_true b e = let f : Bool → ℕ = λ z. cond z 1 0 in ap f e
-
-if_false : (b : Bool) → b ≡ false → ◌≡◌ {A = ℕ} (cond b 1 0) 0
-if_false b e = let f : Bool → ℕ = λ z. cond z 1 0 in ap f e
-
-same_fact : (a b : ℕ) → (a == b) ≡ true → a ≡ b
-same_fact a b h = grind (arith, nat_tests)
-
-self_test : (a b : ℕ) → a ≡ b → (a == b) ≡ true
-self_test a b h = grind (arith, nat_tests)
-
-last : (a b : Bool) → (a && b) ≡ true → b ≡ true
-last true b h = h
-last false b h = absurd (cc)
-
-not_true : (b : Bool) → (b ≡ true → ⊥) → b ≡ false
-not_true true never = absurd (never refl)
-not_true false never = refl
+use Rattle.ics_rule.proofs.Tests.{keep_true, last_part}
 
 -- the clock is a period's own and what is within it
 pub clock_split : (f : Frequency) (q : EffectiveRule) (n : ℕ) → lets_clock q n ≡ (lets_own f q n && lets_within f q n)
@@ -207,17 +188,13 @@ module _ (q : EffectiveRule) (start : ℕ) (fine : 0 < seconds_of q.frequency) (
     beside_at : (j : ℕ) → j < u → is_beside q start (p * u + k) (p * u + j) ≡ within j
     beside_at j h =
         ap (λ x. x && period_in q (p * u + j) == period_in q (p * u + k)) (candidate_at p j h)
-        ∙ ap (λ x. (is_open p && within j) && x) (self_test (period_in q (p * u + j)) (period_in q (p * u + k)) (period_of p j h ∙ sym (period_of p k l)))
-        ∙ ap (λ x. (x && within j) && true) is ∙ and_true (within j)
-      where
-        and_true : (b : Bool) → (b && true) ≡ b
-        and_true true = refl
-        and_true false = refl
+        ∙ ap (λ x. (is_open p && within j) && x) (eq-eqb (period_in q (p * u + j)) (period_in q (p * u + k)) (period_of p j h ∙ sym (period_of p k l)))
+        ∙ ap (λ x. (x && within j) && true) is ∙ keep_true (within j)
 
     beside_in : (m : ℕ) → is_beside q start (p * u + k) m ≡ true → (p * u ≤ m) × (m < p * u + u)
     beside_in m here =
-        let same = same_fact (period_in q m) (period_in q (p * u + k))
-        (last (is_candidate_in q start m) (period_in q m == period_in q (p * u + k)) here) ∙ period_of p k l in
+        let same = eqb-true (period_in q m) (period_in q (p * u + k))
+        (last_part (is_candidate_in q start m) (period_in q m == period_in q (p * u + k)) here) ∙ period_of p k l in
         let place = in_period q.frequency (monday_zero q.week_start) m fine unit in
         let begin = ap (λ x. x * u) same in
         (omega (arith, begin, place.0), omega (arith, begin, place.1))
@@ -226,23 +203,19 @@ module _ (q : EffectiveRule) (start : ℕ) (fine : 0 < seconds_of q.frequency) (
     rank_at =
         ap (λ x. count x (is_beside q start (p * u + k))) (let whole : suc (p * u + k) ≡ p * u + suc k = omega arith in whole)
         ∙ count-from (p * u) (suc k) (is_beside q start (p * u + k))
-        (λ m h. not_true (is_beside q start (p * u + k) m) (λ here. let low = (beside_in m here).0 in omega (arith, low, h)))
+        (λ m h. false_from_ne_true (is_beside q start (p * u + k) m) (λ here. let low = (beside_in m here).0 in omega (arith, low, h)))
         ∙ count-same (suc k) (λ j. is_beside q start (p * u + k) (p * u + j)) within (λ j h. beside_at j (omega (arith, h, l)))
 
     size_at : p * u + u ≤ calendar_end → size q start (p * u + k) ≡ count u within
     size_at top =
         count_flat (p * u + u) calendar_end (is_beside q start (p * u + k)) top
-        (λ m h t. not_true (is_beside q start (p * u + k) m) (λ here. let high = (beside_in m here).1 in omega (arith, high, h)))
+        (λ m h t. false_from_ne_true (is_beside q start (p * u + k) m) (λ here. let high = (beside_in m here).1 in omega (arith, high, h)))
         ∙ count-from (p * u) u (is_beside q start (p * u + k))
-        (λ m h. not_true (is_beside q start (p * u + k) m) (λ here. let low = (beside_in m here).0 in omega (arith, low, h)))
+        (λ m h. false_from_ne_true (is_beside q start (p * u + k) m) (λ here. let low = (beside_in m here).0 in omega (arith, low, h)))
         ∙ count-same u (λ j. is_beside q start (p * u + k) (p * u + j)) within (λ j h. beside_at j h)
 
     chosen_at : p * u + u ≤ calendar_end → (b : Bool) → (is_candidate_in q start (p * u + k) && is_placed q start b (p * u + k)) ≡ chosen_by b k
-    chosen_at top true = ap (λ x. x && true) (candidate_at p k l ∙ ap (λ x. x && within k) is) ∙ and_true (within k)
-      where
-        and_true : (b : Bool) → (b && true) ≡ b
-        and_true true = refl
-        and_true false = refl
+    chosen_at top true = ap (λ x. x && true) (candidate_at p k l ∙ ap (λ x. x && within k) is) ∙ keep_true (within k)
     chosen_at top false =
         ap (λ x. x && lists_wide q.positions (rank q start (p * u + k)) (size q start (p * u + k))) (candidate_at p k l ∙ ap (λ x. x && within k) is)
         ∙ ap (λ x. within k && lists_wide q.positions (rank q start (p * u + k)) x) (size_at top)
@@ -254,7 +227,7 @@ module _ (q : EffectiveRule) (start : ℕ) (fine : 0 < seconds_of q.frequency) (
         by_within false e = ap (λ x. x && lists_wide q.positions (count (suc k) within) (count u within)) e
             ∙ sym (ap (λ x. x && is_listed q.positions (count u within) (count k within)) e)
         by_within true e = ap (λ x. within k && lists_wide q.positions x (count u within))
-            (let one = if_true (within k) e in let more = count-suc k within in let next : count (suc k) within
+            (let one = count_one (within k) e in let more = count-suc k within in let next : count (suc k) within
             ≡ count k within + 1 = omega (arith, one, more) in next)
 
   chosen_open : (p : ℕ) → p * u + u ≤ calendar_end → is_open p ≡ true → count u (λ k. is_chosen q start (p * u + k)) ≡ chosen_in_open q
@@ -286,13 +259,13 @@ module _ (q : EffectiveRule) (start : ℕ) (fine : 0 < seconds_of q.frequency) (
       by_open : (b : Bool) → is_open p ≡ b → (t n m x : ℕ) → t ≡ m * chosen_in_open q + x → n ≡ m + cond (is_open p) 1 0
           → (is_open p ≡ true → x ≡ chosen_in_open q) → (is_open p ≡ false → x ≡ 0) → t ≡ n * chosen_in_open q
       by_open true e t n m x et en some none =
-          let one = if_true (is_open p) e in
+          let one = count_one (is_open p) e in
           let next : n ≡ m + 1 = omega (arith, en, one) in
           let product = ap (λ y. y * chosen_in_open q) next in
           let spread : (m + 1) * chosen_in_open q ≡ m * chosen_in_open q + chosen_in_open q = omega arith in
           omega (arith, et, some e, product, spread)
       by_open false e t n m x et en some none =
-          let zero = if_false (is_open p) e in
+          let zero = count_none_at (is_open p) e in
           let same : n ≡ m = omega (arith, en, zero) in
           let product = ap (λ y. y * chosen_in_open q) same in
           omega (arith, et, none e, product)

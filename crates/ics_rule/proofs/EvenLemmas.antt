@@ -1,5 +1,6 @@
 -- Rounds of periods in which a rule allows as many locals have as many chosen locals.
-use Rattle.std.proofs.Common.{◌≡◌, ℕ, zero, suc, ◌+◌, ◌-◌, ◌*◌, ◌/◌, ◌%◌, ◌<◌, ◌≤◌, ◌≢◌, ◌⊎◌, inl, inr, true, refl, sym, subst, ap, ◌∙◌, arith}
+use Rattle.std.proofs.Common.{◌≡◌, ℕ, zero, suc, ◌+◌, ◌-◌, ◌*◌, ◌/◌, ◌%◌, ◌≤◌, ◌≢◌, inl, inr, true, refl, sym, subst, ap, ◌∙◌, arith}
+use Rattle.std.proofs.lemmas.Bool.{cases_lt, false_from_ne_true}
 use Rattle.std.proofs.Math.Nat.{mul_comm}
 use Rattle.jiff_core.specs.Weekday.{monday_zero}
 use Rattle.ics_values.specs.declared.frequency.Frequency.{Frequency}
@@ -17,15 +18,13 @@ use Rattle.ics_rule.proofs.RankLemmas.{count_flat}
 use Rattle.ics_rule.proofs.PeriodLemmas.{begun, begins}
 use Rattle.ics_rule.proofs.ChosenLemmas.{no_step}
 use Rattle.ics_rule.proofs.CountLemmas.{step_low, first_mono}
-use Rattle.ics_rule.proofs.StepLemmas.{stepped_parts, none_between, not_true}
+use Rattle.ics_rule.proofs.StepLemmas.{stepped_parts, none_between}
 use Rattle.ics_rule.proofs.RoundLemmas.{step_repeats, rounds_total}
 use Rattle.ics_rule.proofs.FlatLemmas.{allowed_before, month_local, month_adds, month_is, year_is}
 use Rattle.ics_rule.proofs.SizeLemmas.{let_at, longest, chosen_of, period_adds, size_adds}
 use Rattle.ics_rule.specs.PeriodNumbers.{rules_end}
 use Rattle.ics_values.specs.Locals.{calendar_end}
-
-by_order : (m n : ℕ) → (m < n) ⊎ (n ≤ m)
-by_order m n = grind arith
+use Rattle.ics_rule.proofs.Tests.{positive}
 
 -- a period is the start's or later, by a multiple of the interval
 abbrev IsStep : EffectiveRule → ℕ → ℕ → Type 0
@@ -71,9 +70,9 @@ module _ (q : EffectiveRule) (start : ℕ) (some : 1 ≤ q.interval) where
       let low = step_low q start x step in
       count_flat (first_local q.frequency (monday_zero q.week_start) (suc x)) (first_local q.frequency (monday_zero q.week_start) (x + q.interval)) (is_chosen q start)
       (first_mono q (suc x) (x + q.interval) (omega (arith, low)) (omega (arith, some)))
-      (λ m l u. no_step q start m (not_true (is_stepped (period_in q start) q.interval (period_in q m)) (λ yes.
+      (λ m l u. no_step q start m (false_from_ne_true (is_stepped (period_in q start) q.interval (period_in q m)) (λ yes.
       let above = begins q.frequency (monday_zero q.week_start) (suc x) m l in
-      elim (by_order (period_in q m) (x + q.interval)) [
+      elim (cases_lt (period_in q m) (x + q.interval)) [
         | inl less ↦ (let out = sym yes ∙ none_between q.interval some (period_in q start) x (period_in q m) step (omega (arith, above)) less in cc)
         | inr more ↦ (let late = begun q.frequency (monday_zero q.week_start) (x + q.interval) m more in omega (arith, late, u))
       ])))
@@ -171,12 +170,6 @@ module _ (q : EffectiveRule) (start : ℕ) (some : 1 ≤ q.interval) where
           let all = all_rounds rounds begin (omega (arith, low)) step high grows in
           (omega (arith, eb, eo, grows), ap (λ b. b + rounds * (one - b)) eb ∙ ap (λ o. chosen_to q start begin + rounds * (o - chosen_to q start begin)) eo ∙ all);
     }
-      where
-        positive : (a b : ℕ) → 1 ≤ a → 1 ≤ b → 1 ≤ a * b
-        positive (suc a) (suc b) h l = omega arith
-        positive zero b h l = absurd (omega (arith, h))
-        positive (suc a) zero h l = absurd (omega (arith, l))
-
 -- a round of what a rule allows is one
 pub even_of_round : (q : EffectiveRule) (start periods seconds : ℕ) → IsRound q periods seconds → IsEvenRound q start periods
 even_of_round q start periods seconds round = record {

@@ -1,5 +1,6 @@
 -- The locals of an hour that a rule keeps.
-use Rattle.std.proofs.Common.{◌≡◌, ℕ, suc, ◌+◌, ◌*◌, ◌<◌, ◌≤◌, ◌⊎◌, inl, inr, ◌/◌, ◌%◌, Bool, true, false, ◌&&◌, ◌||◌, ◌==◌, nat_lt, nat_le, Some, None, Option, refl, ap, sym, subst, ◌∙◌, arith}
+use Rattle.std.proofs.Common.{◌≡◌, ℕ, suc, ◌+◌, ◌*◌, ◌<◌, ◌≤◌, ◌⊎◌, inl, inr, ◌/◌, ◌%◌, Bool, true, false, ◌&&◌, ◌==◌, nat_lt, nat_le, Some, None, Option, refl, ap, sym, subst, ◌∙◌, arith}
+use Rattle.std.proofs.lemmas.Bool.{and_from, cases_lt, or_right, eqb-true}
 use Rattle.std.proofs.lemmas.Bool.Decides.{nat_tests}
 use Rattle.std.proofs.lemmas.Nat.Bits.{bit_at-zero}
 use Rattle.jiff_core.specs.Weekday.{monday_zero}
@@ -23,7 +24,7 @@ use Rattle.ics_rule.specs.Searches.{is_few, is_wanted}
 use Rattle.ics_rule.specs.HoursKept.{is_finer}
 use Rattle.ics_rule.specs.Next.{NoneKept, IsNextKept}
 use Rattle.ics_rule.proofs.Counts.{count_mono}
-use Rattle.ics_rule.proofs.KeptLemmas.{and_true, or_true, eqb_true}
+use Rattle.ics_rule.proofs.KeptLemmas.{and_true, or_true}
 use Rattle.ics_rule.proofs.NextLemmas.{kept_later}
 
 less_up : (a b c : ℕ) → a ≤ b → nat_lt b c ≡ true → nat_lt a c ≡ true
@@ -31,9 +32,6 @@ less_up a b c l h = grind (arith, nat_tests)
 
 most_up : (a b c : ℕ) → a ≤ b → nat_le b c ≡ true → nat_le a c ≡ true
 most_up a b c l h = grind (arith, nat_tests)
-
-both_true : (a b : Bool) → a ≡ true → b ≡ true → (a && b) ≡ true
-both_true a b p q = rw (p, q) refl
 
 false_or_true : (b : Bool) → (b ≡ false) ⊎ (b ≡ true)
 false_or_true true = inr refl
@@ -68,7 +66,7 @@ module _ (q : EffectiveRule) (start : ℕ) where
   wanted_up None n m l h c = c
   wanted_up (Some k) n m l h c =
       let more = count_mono n m (is_chosen q start) l in
-      both_true (is_chosen q start n) (is_few q start k n) c
+      and_from (is_chosen q start n) (is_few q start k n) c
       (less_up (count n (is_chosen q start) + 1) (count m (is_chosen q start) + 1) (k + count (suc start) (is_chosen q start))
       (omega (arith, more)) (and_true h).1)
 
@@ -81,9 +79,9 @@ module _ (q : EffectiveRule) (start : ℕ) where
       let step = (and_true {a = in_step q start m} dated).0 in
       let date = (and_true {a = in_step q start m} dated).1 in
       let same = same_period q.frequency (monday_zero q.week_start) n m coarse d in
-      both_true (is_candidate_in q start n) (is_placed q start (lists_none_wide q.positions) n)
-      (both_true (in_step q start n && lets_date q (day_of n)) (lets_clock q n)
-      (both_true (in_step q start n) (lets_date q (day_of n))
+      and_from (is_candidate_in q start n) (is_placed q start (lists_none_wide q.positions) n)
+      (and_from (in_step q start n && lets_date q (day_of n)) (lets_clock q n)
+      (and_from (in_step q start n) (lets_date q (day_of n))
       (ap (is_stepped (period_in q start) q.interval) same ∙ step) (ap (lets_date q) d ∙ date)) clock)
       (ap (λ b. is_placed q start b n) free)
 
@@ -96,7 +94,7 @@ kept_between r a n b after early coarse free kept_a kept_b low high d clock =
     let last = and_true (sym (kept_later r b (omega (arith, after, low, high)) early) ∙ kept_b) in
     let chosen = wanted_chosen (effective r) (number r.start) r.parts.count a first.0 in
     kept_later r n (omega (arith, after, low)) (omega (arith, high, early))
-    ∙ both_true (is_wanted (effective r) (number r.start) r.parts.count n) (is_by_until r.kind r.parts.until n)
+    ∙ and_from (is_wanted (effective r) (number r.start) r.parts.count n) (is_by_until r.kind r.parts.until n)
     (wanted_up (effective r) (number r.start) r.parts.count n b high last.0
     (chosen_beside (effective r) (number r.start) coarse free n a d chosen clock))
     (until_up r.kind r.parts.until n b high last.1)
@@ -115,15 +113,12 @@ false_not_true b p q = absurd (cc)
 -- a part that lists something lets in only what it lists
 listed : (s m n : ℕ) → contains s m ≡ true → lets s n ≡ true → contains s n ≡ true
 listed s m n some let_in = elim (or_true let_in) [
-  | inl none ↦ absurd (false_not_true (contains s m) (subst (λ x. contains x m ≡ false) (sym (eqb_true s 0 none)) (bit_zero m)) some)
+  | inl none ↦ absurd (false_not_true (contains s m) (subst (λ x. contains x m ≡ false) (sym (eqb-true s 0 none)) (bit_zero m)) some)
   | inr h ↦ h
 ]
   where
     bit_zero : (n : ℕ) → contains 0 n ≡ false
     bit_zero n = ap (λ x. x == 1) (bit_at-zero n)
-
-by_order : (a b : ℕ) → (a < b) ⊎ (b ≤ a)
-by_order a b = grind arith
 
 module _ (r : Recurrence) (hour fm fs lm ls : ℕ)
     (early : hour < 85_913_808) (coarse : is_finer (effective r).frequency ≡ false) (free : lists_none_wide (effective r).positions ≡ true)
@@ -133,13 +128,13 @@ module _ (r : Recurrence) (hour fm fs lm ls : ℕ)
     (next : IsNextKept r (hour * 3_600) (hour * 3_600 + 3_600) kept)
     (inside : hour * 3_600 + lm * 60 + ls < hour * 3_600 + 3_600) (kept_last : is_kept r (hour * 3_600 + lm * 60 + ls) ≡ true) where
   least_of : (test : ℕ → Bool) (m n : ℕ) → IsLeastFrom test 0 m → test n ≡ true → m ≤ n
-  least_of test m n is h = elim (by_order n m) [
+  least_of test m n is h = elim (cases_lt n m) [
     | inl less ↦ absurd (false_not_true (test n) (is.least n (omega arith) less) h)
     | inr more ↦ more
   ]
 
   most_of : (test : ℕ → Bool) (m n : ℕ) → ((k : ℕ) → m < k → test k ≡ false) → test n ≡ true → n ≤ m
-  most_of test m n is h = elim (by_order m n) [
+  most_of test m n is h = elim (cases_lt m n) [
     | inl less ↦ absurd (false_not_true (test n) (is n less) h)
     | inr more ↦ more
   ]
@@ -172,25 +167,21 @@ module _ (r : Recurrence) (hour fm fs lm ls : ℕ)
       let of_hour = (and_true {a = lets (effective r).hours (hour_of kept)} clock.0).0 in
       kept_between r kept n (hour * 3_600 + lm * 60 + ls) after (omega (arith, early, inside)) coarse free next.kept kept_last
       (omega (arith, first, whole, low_minute, low_second)) (omega (arith, whole, high_minute, high_second)) (same_day n at)
-      (both_true (lets (effective r).hours (hour_of n) && lets (effective r).minutes (minute_of n)) (lets (effective r).seconds (second_of n))
-      (both_true (lets (effective r).hours (hour_of n)) (lets (effective r).minutes (minute_of n))
+      (and_from (lets (effective r).hours (hour_of n) && lets (effective r).minutes (minute_of n)) (lets (effective r).seconds (second_of n))
+      (and_from (lets (effective r).hours (hour_of n)) (lets (effective r).minutes (minute_of n))
       (subst (λ h. lets (effective r).hours h ≡ true) (same_hour n at) of_hour)
       (lets_in (effective r).minutes (minute_of n) minute)) (lets_in (effective r).seconds (second_of n) second))
     where
       lets_in : (s n : ℕ) → contains s n ≡ true → lets s n ≡ true
-      lets_in s n h = by_parts (is_empty s) (contains s n) h
-        where
-          by_parts : (a b : Bool) → b ≡ true → (a || b) ≡ true
-          by_parts true b p = refl
-          by_parts false b p = p
+      lets_in s n h = or_right (is_empty s) (contains s n) h
 
   kept_product : (n : ℕ) → n / 3_600 ≡ hour → is_kept r n ≡ true → (contains (effective r).minutes (minute_of n) && contains (effective r).seconds (second_of n)) ≡ true
-  kept_product n at keeps = elim (by_order n kept) [
+  kept_product n at keeps = elim (cases_lt n kept) [
     | inl before ↦ absurd (false_not_true (is_kept r n) (next.least n (omega (arith, at)) before) keeps)
     | inr from ↦ (
         let clock = and_true {a = lets (effective r).hours (hour_of n) && lets (effective r).minutes (minute_of n)}
         (kept_clock r n (omega (arith, after, from)) (omega (arith, early, at)) keeps) in
-        both_true (contains (effective r).minutes (minute_of n)) (contains (effective r).seconds (second_of n))
+        and_from (contains (effective r).minutes (minute_of n)) (contains (effective r).seconds (second_of n))
         (listed (effective r).minutes fm (minute_of n) first_minute.passes (and_true {a = lets (effective r).hours (hour_of n)} clock.0).1)
         (listed (effective r).seconds fs (second_of n) first_second.passes clock.1))
   ]
@@ -219,12 +210,6 @@ left_out r q whole hour early after out n from to = elim (false_or_true (is_kept
       false_not_true (lets q.hours (hour % 24)) out
       (subst (λ (x : EffectiveRule). lets x.hours (hour % 24) ≡ true) (sym whole) (subst (λ h. lets (effective r).hours (h % 24) ≡ true) at here)))
 ]
-
--- an hour without a kept local has none of the times of the empty sets
-pub keeps_none : (r : Recurrence) (hour : ℕ) → NoneKept r (hour * 3_600) (hour * 3_600 + 3_600)
-    → (n : ℕ) → n / 3_600 ≡ hour → is_kept r n ≡ (contains 0 (minute_of n) && contains 0 (second_of n))
-keeps_none r hour none n at =
-    none n (omega (arith, at)) (omega (arith, at)) ∙ sym (ap (λ x. (x == 1) && contains 0 (second_of n)) (bit_at-zero (minute_of n)))
 
 -- a kept local between a place and the next is at the place
 pub kept_here : (r : Recurrence) (from n : ℕ) → IsNextKept r from (from + 1) n → is_kept r from ≡ true

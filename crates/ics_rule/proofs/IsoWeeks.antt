@@ -1,12 +1,10 @@
 -- Weeks from Monday are the weeks of ISO 8601.
-use Rattle.std.proofs.Common.{◌≡◌, ℕ, zero, suc, ◌+◌, ◌-◌, ◌*◌, ◌/◌, ◌%◌, ◌<◌, ◌≤◌, true, false, cond, nat_lt, refl, sym, ap, ◌∙◌, arith, ℤ, pos, negsuc, neg_ℤ, ◌+ℤ◌, ◌-ℤ◌}
-use Rattle.std.proofs.lemmas.Bool.Decides.{nat_tests}
+use Rattle.std.proofs.Common.{◌≡◌, ℕ, zero, suc, ◌+◌, ◌-◌, ◌*◌, ◌/◌, ◌%◌, ◌<◌, ◌≤◌, cond, refl, sym, ap, ◌∙◌, arith, ℤ, pos, negsuc, neg_ℤ, ◌+ℤ◌, ◌-ℤ◌}
+use Rattle.std.proofs.lemmas.Bool.{le-ltb, lt-ltb}
 use Rattle.jiff_core.specs.Calendar.{days_in_year, iso_year_start, IsYear, IsBetween}
 use Rattle.jiff_core.specs.IsoWeek.{weeks_in_year, days_from_iso}
 use Rattle.jiff_core.specs.Weekday.{monday_zero}
 use Rattle.jiff_core.specs.declared.civil.iso_week_date.ISOWeekDate.{ISOWeekDate}
-use Rattle.jiff_core.specs.declared.civil.weekday.Weekday.{Weekday}
-use Rattle.jiff_core.specs.declared.civil.weekday.Weekday.TheVariants.{Monday, Tuesday, Wednesday, Thursday, Friday, Saturday, Sunday}
 use Rattle.jiff_core.proofs.SignedLemmas.{signed_arith}
 use Rattle.jiff_core.proofs.CalendarLemmas.{days_from_civil-day_count, day_count-later_year, day_count-next_year, days_in_year_bounds}
 use Rattle.jiff_core.proofs.IsoWeekLemmas.{day_count-fourth, iso_year_start-day_count, iso_year_start_near, weeks_in_year-next}
@@ -17,6 +15,7 @@ use Rattle.ics_rule.specs.PeriodNumbers.{week_of}
 use Rattle.ics_rule.specs.Candidates.{fourth_day, week_number, weeks_of_year}
 use Rattle.ics_rule.specs.IsoWeeks.{IsDay}
 use Rattle.ics_rule.proofs.LawLemmas.{year_day_is}
+use Rattle.ics_rule.proofs.PeriodLemmas.{week_small}
 
 -- the Monday that begins an ISO year, counted from 0000-01-01
 abbrev start_of : ℕ → ℕ
@@ -38,11 +37,7 @@ record IsWeek (y n all w e : ℕ) : Type 0 where
   pub weekday : weekday_of e ≡ w
 
 fourth_later : (e : ℕ) → 2 ≤ e → fourth_day 0 e ≡ 7 * ((e + 12) / 7) - 9
-fourth_later e late = ap (λ b. cond b (7 * week_of 0 e + 0 + 146_088) (7 * week_of 0 e + 0 - 9)) (not_less (7 * week_of 0 e + 0) 9 (omega arith)) ∙ omega arith
-  where
-    not_less : (a b : ℕ) → b ≤ a → nat_lt a b ≡ false
-    not_less a b h = grind (arith, nat_tests)
-
+fourth_later e late = ap (λ b. cond b (7 * week_of 0 e + 0 + 146_088) (7 * week_of 0 e + 0 - 9)) (le-ltb (7 * week_of 0 e + 0) 9 (omega arith)) ∙ omega arith
 -- the Thursday f of week n in a year from a up to b, which begins on Monday s, and the next one on t
 record IsThursday (a b s t n f : ℕ) : Type 0 where
   pub low : a ≤ f
@@ -104,10 +99,7 @@ early_week n w e one most week day =
     of_place n w e (weeks_in_year (negsuc 0)) one most all week place
   where
     fourth_early : (e : ℕ) → e < 2 → fourth_day 0 e ≡ 146_095
-    fourth_early e early = ap (λ b. cond b (7 * week_of 0 e + 0 + 146_088) (7 * week_of 0 e + 0 - 9)) (less (7 * week_of 0 e + 0) 9 (omega arith)) ∙ omega arith
-      where
-        less : (a b : ℕ) → a < b → nat_lt a b ≡ true
-        less a b h = grind (arith, nat_tests)
+    fourth_early e early = ap (λ b. cond b (7 * week_of 0 e + 0 + 146_088) (7 * week_of 0 e + 0 - 9)) (lt-ltb (7 * week_of 0 e + 0) 9 (omega arith)) ∙ omega arith
 
     of_place : (n w e weeks : ℕ) → 1 ≤ n → n ≤ weeks → weeks ≡ 52 → w < 7 → e + 362 ≡ (n - 1) * 7 + w → (e < 2) × IsWeek 399 n weeks w e
     of_place n w e weeks one most all week place =
@@ -138,15 +130,6 @@ no_earlier k n w e range most one week day =
     let zero_day = day_count_is 0 in
     omega (arith, signed_arith, near.0, first, later, long.1, zero_day, ap up weeks.0, ap down weeks.0, ap up day, ap down day)
 
-monday_zero_bound : (d : Weekday) → monday_zero d < 7
-monday_zero_bound Monday = omega arith
-monday_zero_bound Tuesday = omega arith
-monday_zero_bound Wednesday = omega arith
-monday_zero_bound Thursday = omega arith
-monday_zero_bound Friday = omega arith
-monday_zero_bound Saturday = omega arith
-monday_zero_bound Sunday = omega arith
-
 -- ISO 8601 says the same of a day as a rule whose weeks start on Monday; of the first two days of 0000 a cycle earlier
 pub record IsIsoWeek (d : ISOWeekDate) (e : ℕ) : Type 0 where
   pub year : 2 ≤ e → d.year ≡ pos (year_of (fourth_day 0 e))
@@ -162,7 +145,7 @@ iso_week d e day = by_year d.year refl
     by_year : (y : ℤ) → d.year ≡ y → IsIsoWeek d e
     by_year (pos y) is =
         let range = rw is at d.year_in in
-        let r = later_week y d.week (monday_zero d.weekday) e (omega (arith, signed_arith, range)) d.week_in.0 (rw is at d.week_in.1) (monday_zero_bound d.weekday) (rw is at day) in
+        let r = later_week y d.week (monday_zero d.weekday) e (omega (arith, signed_arith, range)) d.week_in.0 (rw is at d.week_in.1) (week_small d.weekday) (rw is at day) in
         record {
           year = λ late. is ∙ ap pos (sym r.1.year);
           cycle = λ early. absurd (omega (arith, r.0, early));
@@ -171,7 +154,7 @@ iso_week d e day = by_year d.year refl
           weekday = sym r.1.weekday;
         }
     by_year (negsuc zero) is =
-        let r = early_week d.week (monday_zero d.weekday) e d.week_in.0 (rw is at d.week_in.1) (monday_zero_bound d.weekday) (rw is at day) in
+        let r = early_week d.week (monday_zero d.weekday) e d.week_in.0 (rw is at d.week_in.1) (week_small d.weekday) (rw is at day) in
         record {
           year = λ late. absurd (omega (arith, r.0, late));
           cycle = λ early. ap (λ y. y +ℤ pos 400) is ∙ ap pos (sym r.1.year);
@@ -181,4 +164,4 @@ iso_week d e day = by_year d.year refl
         }
     by_year (negsuc (suc k)) is =
         let range = rw is at d.year_in in
-        absurd (no_earlier k d.week (monday_zero d.weekday) e (omega (arith, signed_arith, range)) (rw is at d.week_in.1) d.week_in.0 (monday_zero_bound d.weekday) (rw is at day))
+        absurd (no_earlier k d.week (monday_zero d.weekday) e (omega (arith, signed_arith, range)) (rw is at d.week_in.1) d.week_in.0 (week_small d.weekday) (rw is at day))

@@ -1,6 +1,6 @@
 -- What the definitions mean, in other words.
-use Rattle.std.proofs.Common.{◌≡◌, ◌≢◌, ℕ, zero, suc, ◌+◌, ◌-◌, ◌*◌, ◌%◌, ◌<◌, ◌≤◌, ◌⊎◌, inl, inr, Bool, true, false, cond, nat_lt, Some, pos, refl, sym, subst, ap, arith}
-use Rattle.std.proofs.lemmas.Bool.Decides.{nat_tests}
+use Rattle.std.proofs.Common.{◌≡◌, ◌≢◌, ℕ, zero, suc, ◌+◌, ◌-◌, ◌*◌, ◌%◌, ◌<◌, ◌≤◌, inl, inr, Bool, true, false, cond, Some, pos, refl, sym, subst, ap, arith}
+use Rattle.std.proofs.lemmas.Bool.{cases_lt, le-ltb, eqb-true, ltb-true}
 use Rattle.jiff_core.specs.Calendar.{days_in_year}
 use Rattle.jiff_core.proofs.CalendarLemmas.{days_in_year_bounds}
 use Rattle.ics_values.specs.Days.{days_before_year, year_of, year_day_of}
@@ -11,14 +11,14 @@ use Rattle.ics_values.specs.Locals.{number}
 use Rattle.ics_rule.specs.Candidates.{fourth_day, week_number, weeks_of_year}
 use Rattle.ics_rule.specs.Kept.{count, is_in_rule, is_kept, is_counted}
 use Rattle.ics_rule.proofs.Counts.{count-none}
-use Rattle.ics_rule.proofs.KeptLemmas.{and_true, or_true, eqb_true, ltb_true}
+use Rattle.ics_rule.proofs.KeptLemmas.{and_true, or_true}
 use Rattle.ics_rule.proofs.NextLemmas.{in_rule_start, in_rule_earlier}
 
 -- what is kept is in the rule
 pub kept_in_rule : (r : Recurrence) (n : ℕ) → is_kept r n ≡ true → is_in_rule r n ≡ true
 unfolding is_kept
 kept_in_rule r n h = elim (or_true h) [
-  | inl same ↦ subst (λ x. is_in_rule r x ≡ true) (sym (eqb_true n (number r.start) same)) (in_rule_start r)
+  | inl same ↦ subst (λ x. is_in_rule r x ≡ true) (sym (eqb-true n (number r.start) same)) (in_rule_start r)
   | inr rest ↦ (and_true (and_true (and_true rest).0).0).1
 ]
 
@@ -27,10 +27,10 @@ kept_few : (r : Recurrence) (c n : ℕ) → r.parts.count ≡ Some c → 1 ≤ c
 unfolding is_kept
 kept_few r c n e some h = elim (or_true h) [
   | inl same ↦
-      let first : n ≡ number r.start = eqb_true n (number r.start) same in
+      let first : n ≡ number r.start = eqb-true n (number r.start) same in
       let none = count-none n (is_in_rule r) (λ m l. in_rule_earlier r m (omega (arith, l, first))) in
       omega (arith, none, some)
-  | inr rest ↦ ltb_true (count n (is_in_rule r)) c (subst (λ o. is_counted r o n ≡ true) e (and_true rest).1)
+  | inr rest ↦ ltb-true (count n (is_in_rule r)) c (subst (λ o. is_counted r o n ≡ true) e (and_true rest).1)
 ]
 
 count_cases : (n x y c : ℕ) (k m : Bool) → (k ≡ true → m ≡ true) → (k ≡ true → y < c) → (x ≤ c) × (x ≤ y) → (x + cond k 1 0 ≤ c) × (x + cond k 1 0 ≤ y + cond m 1 0)
@@ -63,8 +63,8 @@ unfolding year_day_of
 week_first f other =
     let u = year_under_way f in
     let v = year_under_way (f + 7) in
-    let later : suc (year_of f) ≤ year_of (f + 7) = (elim (by_order (year_of (f + 7)) (suc (year_of f))) [
-      | inl less ↦ absurd (elim (by_order (year_of (f + 7)) (year_of f)) [
+    let later : suc (year_of f) ≤ year_of (f + 7) = (elim (cases_lt (year_of (f + 7)) (suc (year_of f))) [
+      | inl less ↦ absurd (elim (cases_lt (year_of (f + 7)) (year_of f)) [
         | inl before ↦ let m = days_before_year_mono (suc (year_of (f + 7))) (year_of f) before in omega (arith, m, u.0, v.1)
         | inr after ↦ other (omega (arith, less, after))
       ])
@@ -72,18 +72,11 @@ week_first f other =
     ]) in
     let m = days_before_year_mono (suc (year_of f)) (year_of (f + 7)) later in
     omega (arith, u.1, v.0, m)
-  where
-    by_order : (a b : ℕ) → (a < b) ⊎ (b ≤ a)
-    by_order a b = grind arith
-
 -- the fourth day of a week lies in it, three days after its first
 pub week_fourth : (w e : ℕ) → w < 7 → 9 ≤ 7 * week_of w e + w → (week_of w (fourth_day w e) ≡ week_of w e) × ((fourth_day w e + (12 - w)) % 7 ≡ 3)
 week_fourth w e h late =
-    let same : fourth_day w e ≡ 7 * week_of w e + w - 9 = ap (λ b. cond b (7 * week_of w e + w + 146_088) (7 * week_of w e + w - 9)) (not_less (7 * week_of w e + w) 9 late) in
+    let same : fourth_day w e ≡ 7 * week_of w e + w - 9 = ap (λ b. cond b (7 * week_of w e + w + 146_088) (7 * week_of w e + w - 9)) (le-ltb (7 * week_of w e + w) 9 late) in
     (omega (arith, same), omega (arith, same))
-  where
-    not_less : (a b : ℕ) → b ≤ a → nat_lt a b ≡ false
-    not_less a b h = grind (arith, nat_tests)
 
 pub year_day_is : (f : ℕ) → year_day_of f + days_before_year (year_of f) ≡ f + 1
 unfolding year_day_of

@@ -1,3 +1,4 @@
+pub mod Tests
 pub mod DateLemmas
 pub mod EffectiveLemmas
 pub mod HourLemmas

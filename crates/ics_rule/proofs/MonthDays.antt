@@ -1,5 +1,6 @@
 -- The days that months list, by their dates, and what is left to ask of them.
 use Rattle.std.proofs.Common.{◌≡◌, ℕ, zero, suc, ◌+◌, ◌-◌, ◌*◌, ◌/◌, ◌%◌, ◌<◌, ◌≤◌, ◌⊎◌, inl, inr, Bool, true, false, not, ◌==◌, ◌||◌, ◌&&◌, nat_lt, nat_le, if◌then◌else◌, pos, refl, sym, ap, ◌∙◌, arith}
+use Rattle.std.proofs.lemmas.Bool.{and_parts, and_right, cases_lt, eq-eqb, le-ltb, lt-ltb, or_left}
 use Rattle.std.proofs.lemmas.Bool.Decides.{nat_tests}
 use Rattle.jiff_core.specs.Calendar.{days_in_month, days_in_year, days_of_months}
 use Rattle.jiff_core.proofs.SignedLemmas.{signed_arith}
@@ -20,30 +21,8 @@ use Rattle.ics_rule.specs.Runs.{has_run, weekday_in, lists_weekday, lists_in_mon
 use Rattle.ics_rule.proofs.Months.{earlier_month, later_month, month_of_low}
 use Rattle.ics_rule.proofs.PeriodLemmas.{month_positive, month_size}
 use Rattle.ics_rule.proofs.DayWalkLemmas.{fields_at}
-use Rattle.ics_rule.proofs.DateLemmas.{absent_in}
 use Rattle.ics_rule.proofs.RunLemmas.{next_found, all_found, guard, run_facts, run_shown}
-
-by_order : (a b : ℕ) → (a < b) ⊎ (b ≤ a)
-by_order a b = grind arith
-
-less : (a b : ℕ) → a < b → nat_lt a b ≡ true
-less a b h = grind (arith, nat_tests)
-
-not_less : (a b : ℕ) → b ≤ a → nat_lt a b ≡ false
-not_less a b h = grind (arith, nat_tests)
-
-same : (a b : ℕ) → a ≡ b → (a == b) ≡ true
-same a b h = grind (arith, nat_tests)
-
-above : (a b : ℕ) → b < a → (a == b) ≡ false
-above a b h = grind (arith, nat_tests)
-
-below : (a b : ℕ) → a < b → (a == b) ≡ false
-below a b h = grind (arith, nat_tests)
-
-and_no : (a b : Bool) → b ≡ false → (a && b) ≡ false
-and_no true b h = h
-and_no false b h = refl
+use Rattle.ics_rule.proofs.Tests.{above, below, three}
 
 -- the month that a day of its year lies in
 module _ (r : Run) (first y m k : ℕ) (own : IsMonth r first y m) where
@@ -56,16 +35,16 @@ module _ (r : Run) (first y m k : ℕ) (own : IsMonth r first y m) where
   run_is_month start inside =
       let year : year_of (first + k) ≡ y = year_of_is (first + k) y (omega (arith, start)) (let next = days_before_year-next y in omega (arith, next, start, inside)) in
       let more = days_of_months_more (pos y) m own.low in
-      elim (by_order k r.start) [
+      elim (cases_lt k r.start) [
         | inl before ↦
             let early = earlier_month y m own.low own.high (first + k) (omega (arith, own.place, before, start)) in
             let out : nat_le r.start k ≡ false = grind (arith, nat_tests) in
             ap (λ x. x && nat_lt (k - r.start) r.len) out ∙ sym (below (month_of (first + k)) m (omega (arith, early, year)))
-        | inr begun ↦ elim (by_order (k - r.start) r.len) [
-          | inl there ↦ let f = day_of_run begun there in run_shown r k begun there ∙ sym (same (month_of (first + k)) m f.month)
+        | inr begun ↦ elim (cases_lt (k - r.start) r.len) [
+          | inl there ↦ let f = day_of_run begun there in run_shown r k begun there ∙ sym (eq-eqb (month_of (first + k)) m f.month)
           | inr past ↦
               let late = later_month y m own.low own.high (first + k) (omega (arith, own.place, own.size, more, past, start, begun)) in
-              and_no (nat_le r.start k) (nat_lt (k - r.start) r.len) (not_less (k - r.start) r.len past) ∙ sym (above (month_of (first + k)) m (omega (arith, late, year)))
+              and_right (nat_le r.start k) (nat_lt (k - r.start) r.len) (le-ltb (k - r.start) r.len past) ∙ sym (above (month_of (first + k)) m (omega (arith, late, year)))
         ]
       ]
 
@@ -90,19 +69,19 @@ pub month_step : (q : EffectiveRule) (r : Run) (months : ℕ → Bool) (first y 
     → b ≡ (nat_lt k (days_in_year (pos y)) && seen_months q months from (first + k))
     → new ≡ (b || (has_run r k && lists_in_month q (weekday_in r (k - r.start)) (k - r.start + 1) r.len))
     → new ≡ (nat_lt k (days_in_year (pos y)) && seen_months q months (m + 1) (first + k))
-month_step q r months first y m from k b new own start most next e more = elim (by_order k (days_in_year (pos y))) [
+month_step q r months first y m from k b new own start most next e more = elim (cases_lt k (days_in_year (pos y))) [
   | inl inside ↦
       let M = month_of (first + k) in
       let L = lists_in_month q (weekday_of (first + k)) (month_day_of (first + k)) (days_in_month (pos (year_of (first + k))) (month_of (first + k))) in
-      let old : b ≡ (nat_lt M from && (months M && L)) = e ∙ ap (λ x. x && (nat_lt M from && (months M && L))) (less k (days_in_year (pos y)) inside) in
+      let old : b ≡ (nat_lt M from && (months M && L)) = e ∙ ap (λ x. x && (nat_lt M from && (months M && L))) (lt-ltb k (days_in_year (pos y)) inside) in
       let added : (has_run r k && lists_in_month q (weekday_in r (k - r.start)) (k - r.start + 1) r.len) ≡ ((M == m) && L) =
       guard (has_run r k) _ L (run_lists r first y m k own q) ∙ ap (λ x. x && L) (run_is_month r first y m k own start inside) in
       more ∙ ap (λ x. x || (has_run r k && lists_in_month q (weekday_in r (k - r.start)) (k - r.start + 1) r.len)) old ∙ ap (λ x. (nat_lt M from && (months M && L)) || x) added
       ∙ gather (nat_lt M from) (months M) (M == m) L ∙ ap (λ x. x && L) (next_found months from m M next) ∙ spread (nat_lt M (m + 1)) (months M) L
-      ∙ ap (λ x. x && (nat_lt M (m + 1) && (months M && L))) (sym (less k (days_in_year (pos y)) inside))
+      ∙ ap (λ x. x && (nat_lt M (m + 1) && (months M && L))) (sym (lt-ltb k (days_in_year (pos y)) inside))
   | inr past ↦
-      let out : has_run r k ≡ false = and_no (nat_le r.start k) (nat_lt (k - r.start) r.len) (not_less (k - r.start) r.len (omega (arith, past, most))) in
-      let none = not_less k (days_in_year (pos y)) past in
+      let out : has_run r k ≡ false = and_right (nat_le r.start k) (nat_lt (k - r.start) r.len) (le-ltb (k - r.start) r.len (omega (arith, past, most))) in
+      let none = le-ltb k (days_in_year (pos y)) past in
       more ∙ ap (λ x. x || (has_run r k && lists_in_month q (weekday_in r (k - r.start)) (k - r.start + 1) r.len)) (e ∙ ap (λ x. x && seen_months q months from (first + k)) none)
       ∙ ap (λ x. x && lists_in_month q (weekday_in r (k - r.start)) (k - r.start + 1) r.len) out
       ∙ sym (ap (λ x. x && seen_months q months (m + 1) (first + k)) none)
@@ -124,8 +103,8 @@ month_step q r months first y m from k b new own start most next e more = elim (
 
 pub months_none : (q : EffectiveRule) (months : ℕ → Bool) (e : ℕ) (a : Bool) → false ≡ (a && seen_months q months 1 e)
 months_none q months e a =
-    let none : nat_lt (month_of e) 1 ≡ false = not_less (month_of e) 1 (month_positive e) in
-    sym (and_no a (seen_months q months 1 e) (ap (λ x. x && (months (month_of e) && lists_in_month q (weekday_of e) (month_day_of e) (days_in_month (pos (year_of e)) (month_of e)))) none))
+    let none : nat_lt (month_of e) 1 ≡ false = le-ltb (month_of e) 1 (month_positive e) in
+    sym (and_right a (seen_months q months 1 e) (ap (λ x. x && (months (month_of e) && lists_in_month q (weekday_of e) (month_day_of e) (days_in_month (pos (year_of e)) (month_of e)))) none))
 
 month_small : (e : ℕ) → month_of e < 13
 month_small e = let top = month_of_low e 12 (let all = days_of_months_all (pos (year_of e)) in let next = days_before_year-next (year_of e) in let u = year_under_way e in omega (arith, all, next, u.1)) (omega arith) in omega (arith, top)
@@ -159,12 +138,12 @@ one_month q first len y m w k a b own among none e =
 
 pub closed_month : (q : EffectiveRule) (first len y m w k : ℕ) → IsMonth (record { start = 0; len = len; weekday = w }) first y m → lets q.months m ≡ false
     → false ≡ (nat_lt k len && is_in_month q (first + k))
-closed_month q first len y m w k own closed = elim (by_order k len) [
+closed_month q first len y m w k own closed = elim (cases_lt k len) [
   | inl inside ↦
       let r : Run = record { start = 0; len = len; weekday = w } in
       let f = day_of_run r first y m k own (let low : 0 ≤ k = omega arith in low) (let low : k - 0 < len = omega (arith, inside) in low) in
-      sym (and_no (nat_lt k len) (is_in_month q (first + k)) (ap (λ x. x && lists_in_month q (weekday_of (first + k)) (month_day_of (first + k)) (days_in_month (pos (year_of (first + k))) (month_of (first + k)))) (ap (lets q.months) f.month ∙ closed)))
-  | inr past ↦ sym (ap (λ x. x && is_in_month q (first + k)) (not_less k len past))
+      sym (and_right (nat_lt k len) (is_in_month q (first + k)) (ap (λ x. x && lists_in_month q (weekday_of (first + k)) (month_day_of (first + k)) (days_in_month (pos (year_of (first + k))) (month_of (first + k)))) (ap (lets q.months) f.month ∙ closed)))
+  | inr past ↦ sym (ap (λ x. x && is_in_month q (first + k)) (le-ltb k len past))
 ]
 
 -- what the rule goes by
@@ -183,7 +162,7 @@ pub three_parts : (q : EffectiveRule) (e : ℕ) → goes_by_months q ≡ true
 three_parts q e h =
     let g = goes q h in
     drop (lets q.months (month_of e)) (lets_place q.month_days (month_day_of e) (days_in_month (pos (year_of e)) (month_of e))) (lets_wide_place q.year_days (year_day_of e) (days_in_year (pos (year_of e)))) (lets_week q e) (lets_weekday q e)
-    (absent_in (lists_none_wide q.year_days) _ g.1.0) (absent_in (lists_none q.weeks) _ g.0)
+    (or_left (lists_none_wide q.year_days) _ g.1.0) (or_left (lists_none q.weeks) _ g.0)
   where
     drop : (a b c d e : Bool) → c ≡ true → d ≡ true → (a && b && c && d && e) ≡ (a && (b && e))
     drop true true true true e h l = refl
@@ -242,17 +221,12 @@ pub year_exact : (q : EffectiveRule) (e n size : ℕ) → goes_by_months q ≡ t
     → lists_weekday q.weekdays (weekday_of e) n size ≡ lets_date q e
 year_exact q e n size h yearly none day len =
     let g = goes q h in
-    let parts = both (is_empty q.months) (lists_none q.month_days) none in
+    let parts = and_parts (is_empty q.months) (lists_none q.month_days) none in
     let numbered : lets_numbered q.frequency q (numbers_of q.weekdays (weekday_of e)) e ≡ lists_nth (numbers_of q.weekdays (weekday_of e)) n size =
     ap (λ f. lets_numbered f q (numbers_of q.weekdays (weekday_of e)) e) yearly ∙ rw (g.0, parts.0) (rw (day, len) refl) in
     cases (is_empty q.months) (lists_none q.month_days) (lists_no_weekday q.weekdays) (contains q.weekdays.plain (weekday_of e)) _ _ (contains q.months (month_of e)) (lists q.month_days (month_day_of e) (days_in_month (pos (year_of e)) (month_of e)))
     parts.0 parts.1 g.1.1 (sym numbered) ∙ sym (three_parts q e h)
   where
-    both : (a b : Bool) → (a && b) ≡ true → (a ≡ true) × (b ≡ true)
-    both true true h = (refl, refl)
-    both true false h = absurd (cc)
-    both false b h = absurd (cc)
-
     cases : (a d b p n n' m l : Bool) → a ≡ true → d ≡ true → (d && b) ≡ false → n ≡ n' → (p || n) ≡ ((a || m) && ((d || l) && (b || p || n')))
     cases true true false p n n' m l h g o e = ap (λ x. p || x) e
     cases true true true p n n' m l h g o e = absurd (cc)
@@ -260,40 +234,37 @@ year_exact q e n size h yearly none day len =
     cases false d b p n n' m l h g o e = absurd (cc)
 
 -- what is asked of each candidate
-three : (a b : ℕ) → (a < b) ⊎ ((a ≡ b) ⊎ (b < a))
-three a b = grind arith
-
 module _ (some f : ℕ → Bool) (from n k : ℕ) (b : Bool) where
   abbrev asked : ℕ → Bool
   asked p = some k && (nat_lt k p && f k)
 
   others : IsLeastFrom some from n → (k < n) ⊎ (n < k) → asked from ≡ asked (n + 1)
-  others next (inl low) = elim (by_order k from) [
-    | inl seen ↦ rw (less k from seen, less k (n + 1) (omega (arith, low))) refl
+  others next (inl low) = elim (cases_lt k from) [
+    | inl seen ↦ rw (lt-ltb k from seen, lt-ltb k (n + 1) (omega (arith, low))) refl
     | inr new ↦ ap (λ x. x && (nat_lt k from && f k)) (next.least k new low) ∙ sym (ap (λ x. x && (nat_lt k (n + 1) && f k)) (next.least k new low))
   ]
-  others next (inr high) = rw (not_less k from (omega (arith, high, next.low)), not_less k (n + 1) (omega (arith, high))) refl
+  others next (inr high) = rw (le-ltb k from (omega (arith, high, next.low)), le-ltb k (n + 1) (omega (arith, high))) refl
 
   pub let_in : IsLeastFrom some from n → f n ≡ true → b ≡ asked from → ((k == n) || b) ≡ asked (n + 1)
   let_in next h e = elim (three k n) [
     | inl low ↦ ap (λ x. x || b) (below k n low) ∙ e ∙ others next (inl low)
-    | inr (inl here) ↦ rw (same k n here, less k (n + 1) (omega (arith, here)), ap some here ∙ next.passes, ap f here ∙ h) refl
+    | inr (inl here) ↦ rw (eq-eqb k n here, lt-ltb k (n + 1) (omega (arith, here)), ap some here ∙ next.passes, ap f here ∙ h) refl
     | inr (inr high) ↦ ap (λ x. x || b) (above k n high) ∙ e ∙ others next (inr high)
   ]
 
   pub left_out : IsLeastFrom some from n → f n ≡ false → b ≡ asked from → b ≡ asked (n + 1)
   left_out next h e = elim (three k n) [
     | inl low ↦ e ∙ others next (inl low)
-    | inr (inl here) ↦ e ∙ ap (λ x. some k && x) (and_no (nat_lt k from) (f k) (ap f here ∙ h) ∙ sym (and_no (nat_lt k (n + 1)) (f k) (ap f here ∙ h)))
+    | inr (inl here) ↦ e ∙ ap (λ x. some k && x) (and_right (nat_lt k from) (f k) (ap f here ∙ h) ∙ sym (and_right (nat_lt k (n + 1)) (f k) (ap f here ∙ h)))
     | inr (inr high) ↦ e ∙ others next (inr high)
   ]
 
 pub asked_none : (some f : ℕ → Bool) (k : ℕ) → false ≡ (some k && (nat_lt k 0 && f k))
-asked_none some f k = sym (and_no (some k) (nat_lt k 0 && f k) (ap (λ x. x && f k) (not_less k 0 (omega arith))))
+asked_none some f k = sym (and_right (some k) (nat_lt k 0 && f k) (ap (λ x. x && f k) (le-ltb k 0 (omega arith))))
 
 pub asked_all : (some f : ℕ → Bool) (from k : ℕ) (b : Bool) → ((m : ℕ) → from ≤ m → some m ≡ false) → b ≡ (some k && (nat_lt k from && f k)) → b ≡ (some k && f k)
-asked_all some f from k b none e = e ∙ elim (by_order k from) [
-  | inl seen ↦ ap (λ x. some k && (x && f k)) (less k from seen)
+asked_all some f from k b none e = e ∙ elim (cases_lt k from) [
+  | inl seen ↦ ap (λ x. some k && (x && f k)) (lt-ltb k from seen)
   | inr past ↦ ap (λ x. x && (nat_lt k from && f k)) (none k past) ∙ sym (ap (λ x. x && f k) (none k past))
 ]
 

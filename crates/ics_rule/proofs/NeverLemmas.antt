@@ -1,6 +1,6 @@
 -- What BYSETPOS can't list.
 use Rattle.std.proofs.Common.{◌≡◌, ℕ, suc, ◌+◌, ◌-◌, ◌*◌, ◌<◌, ◌≤◌, ◌⊎◌, inl, inr, Bool, true, false, ◌&&◌, ◌||◌, ◌==◌, Option, Some, None, refl, sym, ap, ◌∙◌, arith}
-use Rattle.std.proofs.lemmas.Bool.Decides.{nat_tests}
+use Rattle.std.proofs.lemmas.Bool.{and_right, cases_lt, eq-eqb, eqb-true, false_from_ne_true}
 use Rattle.jiff_core.specs.Weekday.{monday_zero}
 use Rattle.ics_values.specs.Sets.{contains_wide}
 use Rattle.ics_values.specs.Ordinals.{lists_none_wide}
@@ -18,25 +18,7 @@ use Rattle.ics_rule.proofs.EachLemmas.{clock_split, in_period, within_at}
 use Rattle.ics_rule.proofs.RankLemmas.{count_flat}
 use Rattle.ics_rule.proofs.CursorLemmas.{count_within, held_mono}
 use Rattle.ics_values.specs.Locals.{calendar_end}
-
-by_order : (a b : ℕ) → (a < b) ⊎ (b ≤ a)
-by_order a b = grind arith
-
-self_test : (a b : ℕ) → a ≡ b → (a == b) ≡ true
-self_test a b h = grind (arith, nat_tests)
-
-same_fact : (a b : ℕ) → (a == b) ≡ true → a ≡ b
-same_fact a b h = grind (arith, nat_tests)
-
-third : (a b c d : Bool) → (a && b && c && d) ≡ true → c ≡ true
-third true true true d h = refl
-third true true false d h = absurd (cc)
-third true false c d h = absurd (cc)
-third false b c d h = absurd (cc)
-
-last : (a b : Bool) → (a && b) ≡ true → b ≡ true
-last true b h = h
-last false b h = absurd (cc)
+use Rattle.ics_rule.proofs.Tests.{last_part, third}
 
 -- what stands beside n lets in the clock, and lies in its period
 module _ (q : EffectiveRule) (start n m : ℕ) (here : is_beside q start n m ≡ true) where
@@ -44,23 +26,19 @@ module _ (q : EffectiveRule) (start n m : ℕ) (here : is_beside q start n m ≡
   beside_clock = third (is_stepped (period_in q start) q.interval (period_in q m)) (lets_date q (day_of m)) (lets_clock q m) (period_in q m == period_in q n) here
 
   beside_period : period_in q m ≡ period_in q n
-  beside_period = same_fact (period_in q m) (period_in q n) (last (is_candidate_in q start m) (period_in q m == period_in q n) here)
-
-not_true : (b : Bool) → (b ≡ true → ⊥) → b ≡ false
-not_true true never = absurd (never refl)
-not_true false never = refl
+  beside_period = eqb-true (period_in q m) (period_in q n) (last_part (is_candidate_in q start m) (period_in q m == period_in q n) here)
 
 -- a period of so many seconds has no more than what passes a test of each second
 size_within : (q : EffectiveRule) (start n a u : ℕ) (test : ℕ → Bool) → ((m : ℕ) → period_in q m ≡ period_in q n → (a ≤ m) × (m < a + u))
     → ((k : ℕ) → k < u → lets_clock q (a + k) ≡ true → test k ≡ true) → size q start n ≤ count u test
 size_within q start n a u test span clock =
-    let all = up_to (by_order (a + u) calendar_end) in
-    let low = count-from a u (is_beside q start n) (λ m l. not_true (is_beside q start n m) (λ here. let s = (span m (beside_period q start n m here)).0 in omega (arith, s, l))) in
+    let all = up_to (cases_lt (a + u) calendar_end) in
+    let low = count-from a u (is_beside q start n) (λ m l. false_from_ne_true (is_beside q start n m) (λ here. let s = (span m (beside_period q start n m here)).0 in omega (arith, s, l))) in
     let few = count_within u (λ k. is_beside q start n (a + k)) test (λ k l here. clock k l (beside_clock q start n (a + k) here)) in
     omega (arith, all, low, few)
   where
     up_to : (a + u < calendar_end) ⊎ (calendar_end ≤ a + u) → size q start n ≤ count (a + u) (is_beside q start n)
-    up_to (inl less) = let flat = count_flat (a + u) calendar_end (is_beside q start n) (omega (arith, less)) (λ m l h. not_true (is_beside q start n m) (λ here. let s = (span m (beside_period q start n m here)).1 in omega (arith, s, l))) in omega (arith, flat)
+    up_to (inl less) = let flat = count_flat (a + u) calendar_end (is_beside q start n) (omega (arith, less)) (λ m l h. false_from_ne_true (is_beside q start n m) (λ here. let s = (span m (beside_period q start n m here)).1 in omega (arith, s, l))) in omega (arith, flat)
     up_to (inr more) = count_mono calendar_end (a + u) (is_beside q start n) more
 
 -- nor than each period that the rule lets in, where a period is a day or less
@@ -68,7 +46,7 @@ pub most_in_period : (q : EffectiveRule) → 0 < seconds_of q.frequency → seco
 most_in_period q fine unit start n =
     size_within q start n (period_in q n * seconds_of q.frequency) (seconds_of q.frequency) (lets_within q.frequency q)
     (λ m here. let place = in_period q.frequency (monday_zero q.week_start) m fine unit in let begin = ap (λ x. x * seconds_of q.frequency) here in (omega (arith, place.0, begin), omega (arith, place.1, begin)))
-    (λ k l clock. sym (within_at q (period_in q n) k q.frequency fine unit l) ∙ last (lets_own q.frequency q (period_in q n * seconds_of q.frequency + k)) (lets_within q.frequency q (period_in q n * seconds_of q.frequency + k))
+    (λ k l clock. sym (within_at q (period_in q n) k q.frequency fine unit l) ∙ last_part (lets_own q.frequency q (period_in q n * seconds_of q.frequency + k)) (lets_within q.frequency q (period_in q n * seconds_of q.frequency + k))
     (sym (clock_split q.frequency q (period_in q n * seconds_of q.frequency + k)) ∙ clock))
 
 -- no place up to the size is listed
@@ -77,18 +55,14 @@ pub never_chosen : (q : EffectiveRule) (most : ℕ) → lists_none_wide q.positi
     → (start n : ℕ) → n < calendar_end → is_chosen q start n ≡ false
 never_chosen q most some few front back start n inside = by_candidate (is_candidate_in q start n) refl
   where
-    out : (a b : Bool) → b ≡ false → (a && b) ≡ false
-    out true b h = h
-    out false b h = refl
-
     by_candidate : (b : Bool) → is_candidate_in q start n ≡ b → is_chosen q start n ≡ false
     by_candidate false e = ap (λ x. x && is_placed q start (lists_none_wide q.positions) n) e
     by_candidate true e =
-        let own : is_beside q start n n ≡ true = ap (λ x. x && period_in q n == period_in q n) e ∙ self_test (period_in q n) (period_in q n) refl in
+        let own : is_beside q start n n ≡ true = ap (λ x. x && period_in q n == period_in q n) e ∙ eq-eqb (period_in q n) (period_in q n) refl in
         let first = count_some (suc n) n (is_beside q start n) (omega arith) own in
         let within = count_mono (suc n) calendar_end (is_beside q start n) (omega (arith, inside)) in
         let bound = few start n in
-        out (is_candidate_in q start n) (is_placed q start (lists_none_wide q.positions) n)
+        and_right (is_candidate_in q start n) (is_placed q start (lists_none_wide q.positions) n)
         (ap (λ b. is_placed q start b n) some
         ∙ ap (λ x. x || contains_wide q.positions.back (size q start n + 1 - rank q start n)) (front (rank q start n) (omega (arith, first)) (omega (arith, within, bound)))
         ∙ back (size q start n + 1 - rank q start n) (omega (arith, within)) (omega (arith, first, within, bound)))

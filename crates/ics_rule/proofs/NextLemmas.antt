@@ -1,5 +1,6 @@
 -- What a rule keeps: the start, and of the later locals that it has those that UNTIL lets through.
-use Rattle.std.proofs.Common.{◌≡◌, ℕ, suc, ◌+◌, ◌-◌, ◌<◌, ◌≤◌, ◌⊎◌, inl, inr, Bool, true, false, cond, ◌&&◌, ◌||◌, ◌==◌, nat_lt, min, max, Some, None, Option, MatchOption, refl, ap, ◌∙◌, arith}
+use Rattle.std.proofs.Common.{◌≡◌, ℕ, suc, ◌+◌, ◌-◌, ◌<◌, ◌≤◌, inl, inr, Bool, true, false, ◌&&◌, ◌||◌, ◌==◌, nat_lt, min, max, Some, None, Option, MatchOption, refl, ap, ◌∙◌, arith}
+use Rattle.std.proofs.lemmas.Bool.{and_from, and_right, cases_lt, le-ltb, lt-ltb}
 use Rattle.std.proofs.lemmas.Bool.Decides.{nat_tests}
 use Rattle.ics_rule.specs.Recurrence.{Recurrence}
 use Rattle.ics_rule.specs.PeriodNumbers.{rules_end}
@@ -8,19 +9,8 @@ use Rattle.ics_rule.specs.EffectiveRules.{effective}
 use Rattle.ics_rule.specs.Kept.{count, is_chosen, is_kept, is_in_rule, is_by_until, is_counted}
 use Rattle.ics_rule.specs.Searches.{is_few, is_wanted, NoneWanted, IsNextBefore}
 use Rattle.ics_rule.specs.Next.{NoneKept, IsNextKept}
-use Rattle.ics_rule.proofs.Counts.{count-suc, count-add, count-none, count-same}
-
-unequal : (a b : ℕ) → (a < b) ⊎ (b < a) → (a == b) ≡ false
-unequal a b h = grind (arith, nat_tests)
-
-less : (a b : ℕ) → a < b → nat_lt a b ≡ true
-less a b h = grind (arith, nat_tests)
-
-not_less : (a b : ℕ) → b ≤ a → nat_lt a b ≡ false
-not_less a b h = grind (arith, nat_tests)
-
-self_test : (a : ℕ) → (a == a) ≡ true
-self_test a = grind (arith, nat_tests)
+use Rattle.ics_rule.proofs.Counts.{count-suc, count-add, count-none, count-same, count_one}
+use Rattle.ics_rule.proofs.Tests.{self_test, unequal}
 
 -- what the rule has: the start, nothing before it, and later what it chooses
 pub in_rule_start : (r : Recurrence) → is_in_rule r (number r.start) ≡ true
@@ -29,14 +19,14 @@ in_rule_start r = ap (λ b. b || (nat_lt (number r.start) (number r.start) && is
 
 pub in_rule_earlier : (r : Recurrence) (n : ℕ) → n < number r.start → is_in_rule r n ≡ false
 unfolding is_in_rule
-in_rule_earlier r n h = out (n == number r.start) (nat_lt (number r.start) n) (is_chosen (effective r) (number r.start) n) (unequal n (number r.start) (inl h)) (not_less (number r.start) n (omega arith))
+in_rule_earlier r n h = out (n == number r.start) (nat_lt (number r.start) n) (is_chosen (effective r) (number r.start) n) (unequal n (number r.start) (inl h)) (le-ltb (number r.start) n (omega arith))
   where
     out : (a b c : Bool) → a ≡ false → b ≡ false → (a || (b && c)) ≡ false
     out a b c p q = rw (p, q) refl
 
 pub in_rule_later : (r : Recurrence) (n : ℕ) → number r.start < n → is_in_rule r n ≡ is_chosen (effective r) (number r.start) n
 unfolding is_in_rule
-in_rule_later r n h = later (n == number r.start) (nat_lt (number r.start) n) (is_chosen (effective r) (number r.start) n) (unequal n (number r.start) (inr h)) (less (number r.start) n h)
+in_rule_later r n h = later (n == number r.start) (nat_lt (number r.start) n) (is_chosen (effective r) (number r.start) n) (unequal n (number r.start) (inr h)) (lt-ltb (number r.start) n h)
   where
     later : (a b c : Bool) → a ≡ false → b ≡ true → (a || (b && c)) ≡ c
     later a b c p q = rw (p, q) refl
@@ -56,9 +46,6 @@ members_before r n h =
     let a = ap (λ x. count x (is_in_rule r)) whole in
     let b = ap (λ x. count x (is_chosen (effective r) (number r.start))) whole in
     omega (arith, members, chosen, same, none, last, one, a, b)
-  where
-    count_one : (b : Bool) → b ≡ true → ◌≡◌ {A = ℕ} (cond b 1 0) 1
-    count_one b e = let f : Bool → ℕ = λ z. cond z 1 0 in ap f e
 
 counted_is_few : (r : Recurrence) (c n : ℕ) → number r.start < n → is_counted r (Some c) n ≡ is_few (effective r) (number r.start) c n
 counted_is_few r c n h = shifted (count n (is_in_rule r)) (count n (is_chosen (effective r) (number r.start))) c (count (suc (number r.start)) (is_chosen (effective r) (number r.start))) (members_before r n h)
@@ -93,9 +80,9 @@ kept_later r n l e = by_count r.parts.count
     by_count : (o : Option ℕ) → (n == number r.start || (nat_lt n rules_end && is_in_rule r n && is_by_until r.kind r.parts.until n && is_counted r o n))
         ≡ (is_wanted (effective r) (number r.start) o n && is_by_until r.kind r.parts.until n)
     by_count None = free (n == number r.start) (nat_lt n rules_end) (is_in_rule r n) (is_chosen (effective r) (number r.start) n) (is_by_until r.kind r.parts.until n)
-        (unequal n (number r.start) (inr l)) (less n rules_end e) (in_rule_later r n l)
+        (unequal n (number r.start) (inr l)) (lt-ltb n rules_end e) (in_rule_later r n l)
     by_count (Some c) = counted (n == number r.start) (nat_lt n rules_end) (is_in_rule r n) (is_chosen (effective r) (number r.start) n) (is_by_until r.kind r.parts.until n) (is_counted r (Some c) n) (is_few (effective r) (number r.start) c n)
-        (unequal n (number r.start) (inr l)) (less n rules_end e) (in_rule_later r n l) (counted_is_few r c n l)
+        (unequal n (number r.start) (inr l)) (lt-ltb n rules_end e) (in_rule_later r n l) (counted_is_few r c n l)
 
 -- none is kept before the start, and the start is
 pub kept_earlier : (r : Recurrence) (n : ℕ) → n < number r.start → is_kept r n ≡ false
@@ -127,30 +114,19 @@ module _ (r : Recurrence) (place end until : ℕ) (after : number r.start < plac
   none_at n low high none = kept_later r n (omega arith) (omega arith) ∙ ap (λ b. b && is_by_until r.kind r.parts.until n) none
 
   pub none_kept : NoneWanted (effective r) (number r.start) r.parts.count place (min end until) → NoneKept r place end
-  none_kept none n low high = elim (by_order n until) [
+  none_kept none n low high = elim (cases_lt n until) [
     | inl before ↦ none_at n low high (none n low (omega arith))
-    | inr past ↦ kept_later r n (omega arith) (omega arith) ∙ and_second (is_wanted (effective r) (number r.start) r.parts.count n) (is_by_until r.kind r.parts.until n) (ends n (omega arith) ∙ not_less n until past)
+    | inr past ↦ kept_later r n (omega arith) (omega arith) ∙ and_right (is_wanted (effective r) (number r.start) r.parts.count n) (is_by_until r.kind r.parts.until n) (ends n (omega arith) ∙ le-ltb n until past)
   ]
-    where
-      by_order : (a b : ℕ) → (a < b) ⊎ (b ≤ a)
-      by_order a b = grind arith
-
-      and_second : (a b : Bool) → b ≡ false → (a && b) ≡ false
-      and_second true b h = h
-      and_second false b h = refl
 
   pub next_kept : (n : ℕ) → IsNextBefore (effective r) (number r.start) r.parts.count place (min end until) n → IsNextKept r place end n
   next_kept n next = record {
     kept = kept_later r n (omega (arith, next.least.low)) (omega (arith, next.in_bound))
-        ∙ both (is_wanted (effective r) (number r.start) r.parts.count n) (is_by_until r.kind r.parts.until n) next.least.passes (ends n (omega (arith, next.in_bound)) ∙ less n until (omega (arith, next.in_bound)));
+        ∙ and_from (is_wanted (effective r) (number r.start) r.parts.count n) (is_by_until r.kind r.parts.until n) next.least.passes (ends n (omega (arith, next.in_bound)) ∙ lt-ltb n until (omega (arith, next.in_bound)));
     from_place = next.least.low;
     in_bound = omega (arith, next.in_bound);
     least = λ m low high. none_at m low (omega (arith, next.in_bound)) (next.least.least m low high);
   }
-    where
-      both : (a b : Bool) → a ≡ true → b ≡ true → (a && b) ≡ true
-      both a b p q = ap (λ x. x && b) p ∙ q
-
   -- the answer of a search, as one of the rule
   pub kept_answer : (o : Option ℕ) (now : ℕ)
       → MatchOption o (NoneWanted (effective r) (number r.start) r.parts.count place (min end until) × (now ≡ max place end)) (λ n. IsNextBefore (effective r) (number r.start) r.parts.count place (min end until) n × (now ≡ n + 1))

@@ -1,9 +1,9 @@
 -- The n-th day of a month or year, and the n-th of its weekday there, by counting.
-use Rattle.std.proofs.Common.{◌≡◌, ◌≢◌, ℕ, zero, suc, ◌+◌, ◌-◌, ◌*◌, ◌/◌, ◌%◌, ◌<◌, ◌≤◌, ◌⊎◌, inl, inr, Bool, true, false, cond, ◌&&◌, ◌||◌, ◌==◌, nat_lt, pos, refl, sym, ap, ◌∙◌, arith}
+use Rattle.std.proofs.Common.{◌≡◌, ◌≢◌, ℕ, zero, suc, ◌+◌, ◌-◌, ◌*◌, ◌/◌, ◌%◌, ◌<◌, ◌≤◌, inl, inr, Bool, true, false, ◌&&◌, ◌||◌, ◌==◌, pos, sym, ap, ◌∙◌, arith}
+use Rattle.std.proofs.lemmas.Bool.{and_right, cases_lt, cases_eq, eq-eqb, ne_eqb}
 use Rattle.std.proofs.lemmas.Bool.Decides.{nat_tests}
 use Rattle.jiff_core.specs.Calendar.{days_in_month, days_in_year, days_of_months}
 use Rattle.jiff_core.proofs.CalendarLemmas.{days_in_month_bounds, days_in_year_bounds, days_of_months_all}
-use Rattle.ics_values.specs.declared.frequency.Frequency.TheVariants.{Monthly}
 use Rattle.ics_values.specs.declared.ordinals.Ordinals.{Ordinals}
 use Rattle.ics_values.specs.declared.ordinals.WideOrdinals.{WideOrdinals}
 use Rattle.ics_values.specs.Sets.{contains, contains_wide}
@@ -14,20 +14,12 @@ use Rattle.ics_rule.specs.Candidates.{lists, lists_wide, lists_nth, fourth_day, 
 use Rattle.ics_rule.specs.Kept.{count}
 use Rattle.ics_rule.specs.RecurrencePeriods.{month_start}
 use Rattle.ics_rule.specs.PlainReading.{is_nth, is_place, is_wide_place, in_year, in_month, with_weekday, fourth_of_week, is_week}
-use Rattle.ics_rule.proofs.Counts.{count-same, count-suc, count-none, count-from, count_every}
+use Rattle.ics_rule.proofs.Counts.{count-same, count-suc, count-none, count-from, count_every, count_one, count_none_at}
 use Rattle.ics_rule.proofs.Months.{month_of_low}
-use Rattle.ics_rule.proofs.PeriodLemmas.{begun, begins, month_size, month_positive}
+use Rattle.ics_rule.proofs.PeriodLemmas.{month_begun, month_begins, month_size, month_positive, fourth_early, fourth_late}
 use Rattle.ics_rule.proofs.RankLemmas.{count_flat}
 use Rattle.ics_rule.proofs.LawLemmas.{year_day_is}
-use Rattle.ics_rule.proofs.TableSteps.{same_or_not, same_test, apart_test, count_one, count_no}
 use Rattle.ics_values.specs.Locals.{calendar_end}
-
-by_order : (a b : ℕ) → (a < b) ⊎ (b ≤ a)
-by_order a b = grind arith
-
-and_no : (a b : Bool) → b ≡ false → (a && b) ≡ false
-and_no true b h = h
-and_no false b h = refl
 
 -- the days that pass are those from a on and before b
 pub record IsStretch (test : ℕ → Bool) (a b : ℕ) : Type 0 where
@@ -58,18 +50,18 @@ module _ (unit : ℕ → Bool) (a b : ℕ) (stretch : IsStretch unit a b) where
   on_weekday w zero small h =
       let start : a + 0 ≡ a = omega arith in
       ap (λ x. count x (λ f. weekday_of f == w && unit f)) start
-      ∙ count-none a (λ f. weekday_of f == w && unit f) (λ m l. and_no (weekday_of m == w) (unit m) (stretch.before m l)) ∙ omega arith
+      ∙ count-none a (λ f. weekday_of f == w && unit f) (λ m l. and_right (weekday_of m == w) (unit m) (stretch.before m l)) ∙ omega arith
   on_weekday w (suc k) small h =
       let more : a + suc k ≡ suc (a + k) = omega arith in
       let earlier = on_weekday w k small (omega arith) in
       let last = count-suc (a + k) (λ f. weekday_of f == w && unit f) in
-      ap (λ x. count x (λ f. weekday_of f == w && unit f)) more ∙ (elim (same_or_not (weekday_of (a + k)) w) [
+      ap (λ x. count x (λ f. weekday_of f == w && unit f)) more ∙ (elim (cases_eq (weekday_of (a + k)) w) [
         | inl own ↦
             let one = count_one (weekday_of (a + k) == w && unit (a + k))
-            (ap (λ x. x && unit (a + k)) (same_test (weekday_of (a + k)) w own) ∙ stretch.inside (a + k) (omega arith) (omega arith)) in
+            (ap (λ x. x && unit (a + k)) (eq-eqb (weekday_of (a + k)) w own) ∙ stretch.inside (a + k) (omega arith) (omega arith)) in
             omega (arith, earlier, last, one, own)
         | inr other ↦
-            let none = count_no (weekday_of (a + k) == w && unit (a + k)) (ap (λ x. x && unit (a + k)) (apart_test (weekday_of (a + k)) w other)) in
+            let none = count_none_at (weekday_of (a + k) == w && unit (a + k)) (ap (λ x. x && unit (a + k)) (ne_eqb (weekday_of (a + k)) w other)) in
             omega (arith, earlier, last, none, other)
       ])
 
@@ -88,7 +80,7 @@ module _ (unit : ℕ → Bool) (a b : ℕ) (stretch : IsStretch unit a b) where
       let earlier = on_weekday (weekday_of e) (e - a) (omega arith) (omega arith) in
       let flat =
       count_flat b end (λ f. weekday_of f == weekday_of e && unit f) past
-      (λ m l h. and_no (weekday_of m == weekday_of e) (unit m) (stretch.after m l)) in
+      (λ m l h. and_right (weekday_of m == weekday_of e) (unit m) (stretch.after m l)) in
       let whole' = ap (λ x. count x (λ f. weekday_of f == weekday_of e && unit f)) whole in
       let front' = ap (λ x. count x (λ f. weekday_of f == weekday_of e && unit f)) front in
       omega (arith, all, earlier, flat, whole', front')
@@ -97,9 +89,9 @@ module _ (unit : ℕ → Bool) (a b : ℕ) (stretch : IsStretch unit a b) where
 
 year_stretch : (e : ℕ) → IsStretch (in_year e) (days_before_year (year_of e)) (days_before_year (suc (year_of e)))
 year_stretch e = record {
-  before = λ f l. apart_test (year_of f) (year_of e) (λ same. let u = year_under_way f in let m = ap days_before_year same in omega (arith, u.0, m, l));
-  inside = λ f l h. same_test (year_of f) (year_of e) (year_of_is f (year_of e) l h);
-  after = λ f l. apart_test (year_of f) (year_of e)
+  before = λ f l. ne_eqb (year_of f) (year_of e) (λ same. let u = year_under_way f in let m = ap days_before_year same in omega (arith, u.0, m, l));
+  inside = λ f l h. eq-eqb (year_of f) (year_of e) (year_of_is f (year_of e) l h);
+  after = λ f l. ne_eqb (year_of f) (year_of e)
       (λ same. let u = year_under_way f in let m = ap (λ y. days_before_year (suc y)) same in omega (arith, u.1, m, l));
 }
 
@@ -132,30 +124,17 @@ in_month_same : (y m z k : ℕ) → 0 < m → 0 < k → m ≤ 12 → k ≤ 12 �
 in_month_same y m z k a b c d h =
     let year : y ≡ z = omega arith in
     let month : m ≡ k = omega arith in
-    ap (λ x. x && m == k) (same_test y z year) ∙ same_test m k month
+    ap (λ x. x && m == k) (eq-eqb y z year) ∙ eq-eqb m k month
 
 in_month_apart : (y m z k : ℕ) → y * 12 + m ≢ z * 12 + k → (y == z && m == k) ≡ false
 in_month_apart y m z k h = grind (arith, nat_tests)
-
-pub month_begun : (p e : ℕ) → p ≤ month_number e → month_start p ≤ e
-month_begun p e h =
-    let back : e * 86_400 / 86_400 ≡ e = omega arith in
-    let local = begun Monthly 0 p (e * 86_400) (let same = ap month_number back in omega (arith, same, h)) in
-    omega (arith, local)
-
-pub month_begins : (p e : ℕ) → month_start p ≤ e → p ≤ month_number e
-month_begins p e h =
-    let back : e * 86_400 / 86_400 ≡ e = omega arith in
-    let local = begins Monthly 0 p (e * 86_400) (omega (arith, h)) in
-    let same = ap month_number back in
-    omega (arith, local, same)
 
 month_stretch : (e : ℕ) → IsStretch (in_month e) (month_start (month_number e)) (month_start (suc (month_number e)))
 month_stretch e = record {
   before = λ f l. in_month_apart (year_of f) (month_of f) (year_of e) (month_of e)
       (λ same. let b = month_begun (month_number e) f (omega (arith, same)) in omega (arith, b, l));
   inside = λ f l h. in_month_same (year_of f) (month_of f) (year_of e) (month_of e) (month_positive f) (month_positive e) (month_high f) (month_high e)
-      (let low = month_begins (month_number e) f l in elim (by_order (month_number e) (month_number f)) [
+      (let low = month_begins (month_number e) f l in elim (cases_lt (month_number e) (month_number f)) [
         | inl past ↦ absurd (let b = month_begun (suc (month_number e)) f past in omega (arith, b, h))
         | inr same ↦ omega (arith, low, same)
       ]);
@@ -192,7 +171,7 @@ month_day e =
     let own = year_day_is e in
     record {
       low = low;
-      high = elim (by_order e (month_start (suc (month_number e)))) [
+      high = elim (cases_lt e (month_start (suc (month_number e)))) [
         | inl less ↦ less
         | inr past ↦ absurd (let b = month_begins (suc (month_number e)) e past in omega (arith, b))
       ];
@@ -297,20 +276,8 @@ record IsSameWeek (f g : ℕ) : Type 0 where
   pub day : year_day_of f ≡ year_day_of g
   pub length : days_in_year (pos (year_of f)) ≡ days_in_year (pos (year_of g))
 
-fourth_early : (w e : ℕ) → 7 * week_of w e + w < 9 → fourth_day w e ≡ 7 * week_of w e + w + 146_088
-fourth_early w e early = ap (λ b. cond b (7 * week_of w e + w + 146_088) (7 * week_of w e + w - 9)) (less (7 * week_of w e + w) 9 early)
-  where
-    less : (a b : ℕ) → a < b → nat_lt a b ≡ true
-    less a b h = grind (arith, nat_tests)
-
-fourth_late : (w e : ℕ) → 9 ≤ 7 * week_of w e + w → fourth_day w e ≡ 7 * week_of w e + w - 9
-fourth_late w e late = ap (λ b. cond b (7 * week_of w e + w + 146_088) (7 * week_of w e + w - 9)) (not_less (7 * week_of w e + w) 9 late)
-  where
-    not_less : (a b : ℕ) → b ≤ a → nat_lt a b ≡ false
-    not_less a b h = grind (arith, nat_tests)
-
 same_week : (w e : ℕ) → w < 7 → IsSameWeek (fourth_of_week w e) (fourth_day w e)
-same_week w e small = elim (by_order (7 * week_of w e + w) 9) [
+same_week w e small = elim (cases_lt (7 * week_of w e + w) 9) [
   | inl early ↦
       let same : fourth_of_week w e ≡ fourth_day w e = let own = fourth_early w e early in omega (arith, own) in
       record { day = ap year_day_of same; length = ap (λ f. days_in_year (pos (year_of f))) same }

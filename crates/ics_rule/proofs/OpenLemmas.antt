@@ -1,5 +1,6 @@
 -- The periods that a rule lets in, counted step by step and by whole days.
-use Rattle.std.proofs.Common.{◌≡◌, ℕ, zero, suc, ◌+◌, ◌-◌, ◌*◌, ◌/◌, ◌%◌, ◌<◌, ◌≤◌, ◌⊎◌, inl, inr, Bool, true, false, cond, ◌&&◌, ◌||◌, nat_le, nat_lt, min, refl, sym, ap, ◌∙◌, arith}
+use Rattle.std.proofs.Common.{◌≡◌, ℕ, zero, suc, ◌+◌, ◌-◌, ◌*◌, ◌/◌, ◌%◌, ◌<◌, ◌≤◌, inl, inr, Bool, true, false, cond, ◌&&◌, ◌||◌, nat_le, nat_lt, min, refl, sym, ap, ◌∙◌, arith}
+use Rattle.std.proofs.lemmas.Bool.{and_from, and_left, and_right, cases_lt, false_from_ne_true}
 use Rattle.std.proofs.lemmas.Bool.Decides.{nat_tests}
 use Rattle.std.proofs.lemmas.Nat.{div-add-mod', mod-mul-add, le-div, div_below}
 use Rattle.std.proofs.Math.Nat.{mod-lt, mul_comm, mul_assoc}
@@ -13,25 +14,13 @@ use Rattle.ics_rule.specs.Candidates.{lets, lets_date, is_stepped}
 use Rattle.ics_rule.specs.Kept.{count}
 use Rattle.ics_rule.specs.Rounds.{seconds_of}
 use Rattle.ics_rule.specs.OpenPeriods.{per_day, lets_own, is_open_period}
-use Rattle.ics_rule.proofs.Counts.{count-same, count-suc, count-add, count-none, count-product, count_most}
+use Rattle.ics_rule.proofs.Counts.{count-same, count-suc, count-add, count-none, count-product, count_most, count_none_at, count_one}
 use Rattle.ics_rule.proofs.RankLemmas.{count_flat}
-use Rattle.ics_rule.proofs.StepLemmas.{stepped_parts, stepped_shown, step_on, none_between, not_true}
+use Rattle.ics_rule.proofs.StepLemmas.{stepped_parts, stepped_shown, step_on, none_between}
 use Rattle.ics_rule.proofs.RoundLemmas.{step_repeats}
-
-by_order : (a b : ℕ) → (a < b) ⊎ (b ≤ a)
-by_order a b = grind arith
-
-and_first : (a b : Bool) → a ≡ false → (a && b) ≡ false
-and_first a b h = ap (λ x. x && b) h
 
 and_true : (a b : Bool) → a ≡ true → (a && b) ≡ b
 and_true a b h = ap (λ x. x && b) h
-
-if_true : (b : Bool) → b ≡ true → ◌≡◌ {A = ℕ} (cond b 1 0) 1
-if_true b e = let f : Bool → ℕ = λ z. cond z 1 0 in ap f e
-
-if_false : (b : Bool) → b ≡ false → ◌≡◌ {A = ℕ} (cond b 1 0) 0
-if_false b e = let f : Bool → ℕ = λ z. cond z 1 0 in ap f e
 
 -- counts of tests of which each number passes as many
 count-sum : (n : ℕ) (f g h : ℕ → Bool) → ((m : ℕ) → cond (h m) 1 0 ≡ cond (f m) 1 0 + cond (g m) 1 0) → count n h ≡ count n f + count n g
@@ -64,8 +53,8 @@ module _ (a i : ℕ) (some : 1 ≤ i) (g : ℕ → Bool) (from before : ℕ) whe
   pub walk_first : (number : ℕ) → from ≤ before → IsLeastFrom (is_stepped a i) from number → IsStepWalk a i g from before number 0
   walk_first number h least = record {
     step = least.passes;
-    passed = (let flat = count_flat from number stepped least.low (λ m l u. and_first (is_stepped a i m) (g m) (least.least m l u)) in omega (arith, flat));
-    none = λ m l u. and_first (is_stepped a i m) (g m) (least.least m (omega (arith, h, l)) u);
+    passed = (let flat = count_flat from number stepped least.low (λ m l u. and_left (is_stepped a i m) (g m) (least.least m l u)) in omega (arith, flat));
+    none = λ m l u. and_left (is_stepped a i m) (g m) (least.least m (omega (arith, h, l)) u);
   }
 
   module _ (number total : ℕ) (walk : IsStepWalk a i g from before number total) where
@@ -75,23 +64,23 @@ module _ (a i : ℕ) (some : 1 ≤ i) (g : ℕ → Bool) (from before : ℕ) whe
     step_next : count (number + i) stepped ≡ count number stepped + cond (g number) 1 0
     step_next =
         let more : suc number ≤ number + i = omega (arith, some) in
-        count_flat (suc number) (number + i) stepped more (λ m l u. and_first (is_stepped a i m) (g m) (none_between i some a number m walk.step l u))
+        count_flat (suc number) (number + i) stepped more (λ m l u. and_left (is_stepped a i m) (g m) (none_between i some a number m walk.step l u))
         ∙ count-suc number stepped ∙ ap (λ x. count number stepped + cond x 1 0) (and_true (is_stepped a i number) (g number) walk.step)
 
     none_next : number < before → (m : ℕ) → before ≤ m → m < number + i → (is_stepped a i m && g m) ≡ false
-    none_next h m l u = and_first (is_stepped a i m) (g m) (none_between i some a number m walk.step (omega (arith, h, l)) u)
+    none_next h m l u = and_left (is_stepped a i m) (g m) (none_between i some a number m walk.step (omega (arith, h, l)) u)
 
     pub walk_in : number < before → g number ≡ true → IsStepWalk a i g from before (number + i) (total + 1)
     walk_in h e = record {
       step = step_on i some a number walk.step;
-      passed = let next = step_next in let one = if_true (g number) e in let t = walk.passed in omega (arith, next, one, t);
+      passed = let next = step_next in let one = count_one (g number) e in let t = walk.passed in omega (arith, next, one, t);
       none = none_next h;
     }
 
     pub walk_out : number < before → g number ≡ false → IsStepWalk a i g from before (number + i) total
     walk_out h e = record {
       step = step_on i some a number walk.step;
-      passed = let next = step_next in let none = if_false (g number) e in let t = walk.passed in omega (arith, next, none, t);
+      passed = let next = step_next in let none = count_none_at (g number) e in let t = walk.passed in omega (arith, next, none, t);
       none = none_next h;
     }
 
@@ -103,14 +92,10 @@ module _ (a i : ℕ) (some : 1 ≤ i) (g : ℕ → Bool) (from before : ℕ) whe
       none = λ m l u. closed m (omega (arith, h, l)) u;
     }
       where
-        and_second : (x y : Bool) → y ≡ false → (x && y) ≡ false
-        and_second true y p = p
-        and_second false y p = refl
-
         closed : (m : ℕ) → number ≤ m → m < next → stepped m ≡ false
-        closed m l u = elim (by_order m (number + out)) [
-          | inl early ↦ and_second (is_stepped a i m) (g m) (ap g (let same : m ≡ number + (m - number) = omega (arith, l) in same) ∙ none (m - number) (omega (arith, early, l)))
-          | inr late ↦ and_first (is_stepped a i m) (g m) (least.least m late u)
+        closed m l u = elim (cases_lt m (number + out)) [
+          | inl early ↦ and_right (is_stepped a i m) (g m) (ap g (let same : m ≡ number + (m - number) = omega (arith, l) in same) ∙ none (m - number) (omega (arith, early, l)))
+          | inr late ↦ and_left (is_stepped a i m) (g m) (least.least m late u)
         ]
 
     pub walk_done : before ≤ number → total + count from stepped ≡ count before stepped
@@ -119,7 +104,7 @@ module _ (a i : ℕ) (some : 1 ≤ i) (g : ℕ → Bool) (from before : ℕ) whe
 -- before the first nothing is a step
 pub none_stepped : (a i : ℕ) (g : ℕ → Bool) → count a (λ p. is_stepped a i p && g p) ≡ 0
 none_stepped a i g = count-none a (λ p. is_stepped a i p && g p)
-    (λ m l. and_first (is_stepped a i m) (g m) (not_true (is_stepped a i m) (λ yes. let parts = stepped_parts a i m yes in omega (arith, parts.0, l))))
+    (λ m l. and_left (is_stepped a i m) (g m) (false_from_ne_true (is_stepped a i m) (λ yes. let parts = stepped_parts a i m yes in omega (arith, parts.0, l))))
 
 pub step_begins : (a i : ℕ) → 1 ≤ i → IsLeastFrom (is_stepped a i) a a
 step_begins a i some = record {
@@ -178,15 +163,15 @@ module _ (i : ℕ) (some : 1 ≤ i) (from j : ℕ) (less : j < i) where
   -- one place more
   place_more : (e : ℕ) (b : Bool) → cond ((nat_le from e && nat_lt ((e - from) % i) (j + 1)) && b) 1 0
       ≡ cond ((nat_le from e && nat_lt ((e - from) % i) j) && b) 1 0 + cond (is_stepped (from + j) i e && b) 1 0
-  place_more e b = elim (by_order e from) [
+  place_more e b = elim (cases_lt e from) [
     | inl early ↦ ends false false false (early_test early) (early_test_2 early)
-        (not_true (is_stepped (from + j) i e) (λ yes. let p = stepped_place e yes in omega (arith, p.0, early))) (omega arith)
-    | inr late ↦ elim (by_order ((e - from) % i) j) [
+        (false_from_ne_true (is_stepped (from + j) i e) (λ yes. let p = stepped_place e yes in omega (arith, p.0, early))) (omega arith)
+    | inr late ↦ elim (cases_lt ((e - from) % i) j) [
       | inl below ↦ ends true true false (late_test (j + 1) late (omega (arith, below))) (late_test j late below)
-          (not_true (is_stepped (from + j) i e) (λ yes. let p = stepped_place e yes in omega (arith, p.1, below))) (by_bool_1 b)
-      | inr above ↦ elim (by_order j ((e - from) % i)) [
+          (false_from_ne_true (is_stepped (from + j) i e) (λ yes. let p = stepped_place e yes in omega (arith, p.1, below))) (by_bool_1 b)
+      | inr above ↦ elim (cases_lt j ((e - from) % i)) [
         | inl past ↦ ends false false false (past_test (j + 1) (omega (arith, past))) (past_test j (omega (arith, past)))
-            (not_true (is_stepped (from + j) i e) (λ yes. let p = stepped_place e yes in omega (arith, p.1, past))) (omega arith)
+            (false_from_ne_true (is_stepped (from + j) i e) (λ yes. let p = stepped_place e yes in omega (arith, p.1, past))) (omega arith)
         | inr same ↦ ends true false true (late_test (j + 1) late (omega (arith, above, same))) (past_test j (omega (arith, above)))
             (place_stepped e late (omega (arith, above, same))) (by_bool_2 b)
       ]
@@ -201,23 +186,16 @@ module _ (i : ℕ) (some : 1 ≤ i) (from j : ℕ) (less : j < i) where
       ends x y z ex ey ez same = rw (ex, ey, ez) same
 
       early_test : e < from → (nat_le from e && nat_lt ((e - from) % i) (j + 1)) ≡ false
-      early_test l = and_first (nat_le from e) (nat_lt ((e - from) % i) (j + 1)) (grind (arith, nat_tests))
+      early_test l = and_left (nat_le from e) (nat_lt ((e - from) % i) (j + 1)) (grind (arith, nat_tests))
 
       early_test_2 : e < from → (nat_le from e && nat_lt ((e - from) % i) j) ≡ false
-      early_test_2 l = and_first (nat_le from e) (nat_lt ((e - from) % i) j) (grind (arith, nat_tests))
+      early_test_2 l = and_left (nat_le from e) (nat_lt ((e - from) % i) j) (grind (arith, nat_tests))
 
       late_test : (k : ℕ) → from ≤ e → (e - from) % i < k → (nat_le from e && nat_lt ((e - from) % i) k) ≡ true
-      late_test k l h = both (nat_le from e) (nat_lt ((e - from) % i) k) (grind (arith, nat_tests)) (grind (arith, nat_tests))
-        where
-          both : (x y : Bool) → x ≡ true → y ≡ true → (x && y) ≡ true
-          both x y p r = ap (λ z. z && y) p ∙ r
+      late_test k l h = and_from (nat_le from e) (nat_lt ((e - from) % i) k) (grind (arith, nat_tests)) (grind (arith, nat_tests))
 
       past_test : (k : ℕ) → k ≤ (e - from) % i → (nat_le from e && nat_lt ((e - from) % i) k) ≡ false
-      past_test k h = second (nat_le from e) (nat_lt ((e - from) % i) k) (grind (arith, nat_tests))
-        where
-          second : (x y : Bool) → y ≡ false → (x && y) ≡ false
-          second true y p = p
-          second false y p = refl
+      past_test k h = and_right (nat_le from e) (nat_lt ((e - from) % i) k) (grind (arith, nat_tests))
 
       by_bool_1 : (b : Bool) → cond (true && b) 1 0 ≡ cond (true && b) 1 0 + cond (false && b) 1 0
       by_bool_1 true = refl
@@ -282,7 +260,7 @@ module _ (q : EffectiveRule) (first : ℕ) (fine : 0 < seconds_of q.frequency) (
           by_step : (b : Bool) → is_stepped (from + j) q.interval (p / d) ≡ b → (is_stepped (from + j) q.interval (p / d) && is_open_period q first p)
               ≡ ((is_stepped (from + j) q.interval (p / d) && lets_date q (p / d)) &&
               (is_stepped first q.interval ((from + j) * d + p % d) && own ((from + j) * d + p % d)))
-          by_step false e = and_first (is_stepped (from + j) q.interval (p / d)) (is_open_period q first p) e
+          by_step false e = and_left (is_stepped (from + j) q.interval (p / d)) (is_open_period q first p) e
               ∙ sym (ap (λ x. (x && lets_date q (p / d)) && (is_stepped first q.interval ((from + j) * d + p % d) && own ((from + j) * d + p % d))) e)
           by_step true e =
               let parts = stepped_parts (from + j) q.interval (p / d) e in
@@ -398,10 +376,6 @@ module _ (q : EffectiveRule) (first : ℕ) (fine : 0 < seconds_of q.frequency) (
     pub day_out : lets_date q (from / d) ≡ false → 0 + count from (is_open_period q first) ≡ count before (is_open_period q first)
     day_out out =
         let flat = count_flat from before (is_open_period q first) order
-        (λ m l h. second (is_stepped first q.interval m) (lets_date q (m / d) && own m)
-        (and_first (lets_date q (m / d)) (own m) (ap (lets_date q) (same_day m l h) ∙ out))) in
+        (λ m l h. and_right (is_stepped first q.interval m) (lets_date q (m / d) && own m)
+        (and_left (lets_date q (m / d)) (own m) (ap (lets_date q) (same_day m l h) ∙ out))) in
         omega (arith, flat)
-      where
-        second : (a b : Bool) → b ≡ false → (a && b) ≡ false
-        second true b h = h
-        second false b h = refl

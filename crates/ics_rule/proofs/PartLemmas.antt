@@ -1,5 +1,6 @@
 -- Which weekdays BYDAY names, as a set.
-use Rattle.std.proofs.Common.{◌≡◌, ℕ, zero, suc, ◌+◌, ◌<◌, ◌≤◌, ◌⊎◌, inl, inr, Bool, true, false, ◌==◌, ◌&&◌, nat_lt, if◌then◌else◌, refl, sym, ap, ◌∙◌, arith}
+use Rattle.std.proofs.Common.{◌≡◌, ℕ, zero, suc, ◌+◌, ◌<◌, ◌≤◌, inl, inr, Bool, true, false, ◌==◌, ◌&&◌, nat_lt, if◌then◌else◌, refl, sym, ap, ◌∙◌, arith}
+use Rattle.std.proofs.lemmas.Bool.{cases_Bool}
 use Rattle.std.proofs.lemmas.Bool.Decides.{nat_tests}
 use Rattle.std.proofs.lemmas.Nat.Bits.{bit_at-zero}
 use Rattle.ics_values.specs.declared.ordinals.Weekdays.{Weekdays}
@@ -28,10 +29,6 @@ named_less w d s h not_there =
     next : (d : ℕ) → suc d ≡ d + 1
     next d = omega arith
 
-either : (b : Bool) → (b ≡ true) ⊎ (b ≡ false)
-either true = inl refl
-either false = inr refl
-
 pub is_named : (w : Weekdays) (n d : ℕ) → n ≤ 64 → contains (named_below w n) d ≡ (nat_lt d n && names_weekday w d)
 unfolding named_below
 is_named w zero d h =
@@ -40,7 +37,7 @@ is_named w zero d h =
 is_named w (suc n) d h =
     let old = is_named w n d (omega (arith, h)) in
     let next : n + 1 ≡ suc n = omega arith in
-    elim (either (names_weekday w n)) [
+    elim (cases_Bool (names_weekday w n)) [
       | inl there ↦ ap (λ b. contains (if b then with_number n (named_below w n) else named_below w n) d) there ∙ contains-with_number (named_below w n) n d (omega (arith, h))
           ∙ one_more (names_weekday w) n d _ there old ∙ ap (λ x. nat_lt d x && names_weekday w d) next
       | inr not_there ↦ ap (λ b. contains (if b then with_number n (named_below w n) else named_below w n) d) not_there

@@ -1,5 +1,6 @@
 -- Steps over periods that hold nothing.
-use Rattle.std.proofs.Common.{◌≡◌, ℕ, ◌+◌, ◌-◌, ◌*◌, ◌/◌, ◌%◌, ◌<◌, ◌≤◌, ◌⊎◌, inl, inr, Bool, true, false, ◌||◌, ◌&&◌, ◌==◌, max, refl, sym, subst, ap, ◌∙◌, arith}
+use Rattle.std.proofs.Common.{◌≡◌, ℕ, ◌+◌, ◌-◌, ◌*◌, ◌/◌, ◌%◌, ◌<◌, ◌≤◌, inl, inr, Bool, true, false, ◌||◌, ◌&&◌, ◌==◌, max, refl, sym, subst, ap, ◌∙◌, arith}
+use Rattle.std.proofs.lemmas.Bool.{and_right, cases_lt}
 use Rattle.jiff_core.specs.Weekday.{monday_zero}
 use Rattle.ics_values.specs.Sets.{contains, IsLeastFrom}
 use Rattle.ics_rule.specs.declared.effective_rule.EffectiveRule.{EffectiveRule}
@@ -8,16 +9,13 @@ use Rattle.ics_rule.specs.RecurrencePeriods.{first_local, has_time}
 use Rattle.ics_rule.specs.Searches.{NoneLetIn, IsNextOpen}
 use Rattle.ics_rule.proofs.PeriodLemmas.{begun, begins, period_mono}
 
-by_order : (a b : ℕ) → (a < b) ⊎ (b ≤ a)
-by_order a b = grind arith
-
 -- the step of a local before which the rule lets nothing in
 pub step_open : (q : EffectiveRule) (first number begin place next : ℕ) → begin ≡ first_local q.frequency (monday_zero q.week_start) number → begin ≤ place → NoneLetIn q begin place
     → IsLeastFrom (is_stepped first q.interval) (period_in q place) next → IsNextOpen q first number next
 step_open q first number begin place next e up none least = record {
   step = least.passes;
   low = let l = begins q.frequency (monday_zero q.week_start) number place (omega (arith, e, up)) in omega (arith, l, least.low);
-  none = λ n l u stepped. elim (by_order n place) [
+  none = λ n l u stepped. elim (cases_lt n place) [
     | inl less ↦ none n (let b = begun q.frequency (monday_zero q.week_start) number n l in omega (arith, b, e)) less
     | inr more ↦ absurd (let m = period_mono q.frequency (monday_zero q.week_start) place n more in let out = sym stepped ∙ least.least (period_in q n) m u in cc)
   ];
@@ -25,14 +23,14 @@ step_open q first number begin place next e up none least = record {
 
 -- one more number is left out
 pub one_out : (f : ℕ → Bool) (e k : ℕ) → f e ≡ false → ((j : ℕ) → j < k → f (e + j) ≡ false) → (j : ℕ) → j < max k 1 → f (e + j) ≡ false
-one_out f e k here none j h = elim (by_order j k) [
+one_out f e k here none j h = elim (cases_lt j k) [
   | inl less ↦ none j less
   | inr more ↦ ap f (let same : e + j ≡ e = omega (arith, h, more) in same) ∙ here
 ]
 
 -- and a walk over them goes on
 pub out_on : (f : ℕ → Bool) (from e k : ℕ) → ((m : ℕ) → from ≤ m → m < e → f m ≡ false) → ((j : ℕ) → j < k → f (e + j) ≡ false) → (m : ℕ) → from ≤ m → m < e + k → f m ≡ false
-out_on f from e k before none m l h = elim (by_order m e) [
+out_on f from e k before none m l h = elim (cases_lt m e) [
   | inl less ↦ before m l less
   | inr more ↦ subst (λ x. f x ≡ false) (let same : e + (m - e) ≡ m = omega (arith, more) in same) (none (m - e) (omega (arith, h, more)))
 ]
@@ -70,11 +68,7 @@ pub none_on_days : (q : EffectiveRule) (n day : ℕ) → ((e : ℕ) → n / 86_4
 none_on_days q n day none m l u = ap (λ x. x && lets_clock q m) (none (m / 86_400) (omega (arith, l)) (omega (arith, l, u)))
 
 pub none_on_clock : (q : EffectiveRule) (n from before : ℕ) → NoneLetIn q n from → ((m : ℕ) → from ≤ m → m < before → lets_clock q m ≡ false) → NoneLetIn q n before
-none_on_clock q n from before days none m l u = elim (by_order m from) [
+none_on_clock q n from before days none m l u = elim (cases_lt m from) [
   | inl less ↦ days m l less
-  | inr more ↦ and_second (lets_date q (m / 86_400)) (lets_clock q m) (none m more u)
+  | inr more ↦ and_right (lets_date q (m / 86_400)) (lets_clock q m) (none m more u)
 ]
-  where
-    and_second : (a b : Bool) → b ≡ false → (a && b) ≡ false
-    and_second true b h = h
-    and_second false b h = refl

@@ -1,5 +1,6 @@
 -- What looks up to its place leave of a cursor under COUNT.
 use Rattle.std.proofs.Common.{◌≡◌, ℕ, ◌+◌, ◌-◌, ◌*◌, ◌/◌, ◌<◌, ◌≤◌, ◌⊎◌, inl, inr, Bool, true, false, Option, Some, None, MatchOption, min, refl, sym, subst, ap, ◌∙◌, arith}
+use Rattle.std.proofs.lemmas.Bool.{cases_lt, false_from_ne_true}
 use Rattle.jiff_core.specs.Weekday.{monday_zero}
 use Rattle.ics_values.specs.Ordinals.{lists_none_wide}
 use Rattle.ics_rule.specs.declared.effective_rule.EffectiveRule.{EffectiveRule}
@@ -23,9 +24,6 @@ use Rattle.ics_rule.proofs.CursorLemmas.{IsWalk, walk_ends, meets, then_moves, l
 use Rattle.ics_rule.proofs.CountingLemmas.{IsCounting, counting_begins, step_first}
 use Rattle.ics_rule.specs.PeriodNumbers.{rules_end}
 use Rattle.ics_values.specs.Locals.{calendar_end}
-
-by_order : (a b : ℕ) → (a < b) ⊎ (b ≤ a)
-by_order a b = grind arith
 
 pub passed_none : (q : EffectiveRule) (start c : ℕ) (cursor : Cursor) → IsCursorIn q start (Some c) cursor → IsPassedTo q start c cursor cursor
 passed_none q start c cursor own = record { own = own; moved = inl (refl, refl); looked = λ a b l few. few.few }
@@ -57,26 +55,21 @@ counting_passed q start c stop number before now walk h inside s = record {
 -- an earlier period takes nothing from the place on
 pub none_taken : (q : EffectiveRule) (start number place : ℕ) (p : RecurrencePeriod) → IsPeriodOf q p → p.number ≡ number → is_stepped (period_in q start) q.interval number ≡ true → number < period_in q place
     → (m : ℕ) → place ≤ m → is_taken q.positions (lists_none_wide q.positions) p m ≡ false
-none_taken q start number place p own e step h m l = out (is_taken q.positions (lists_none_wide q.positions) p m) (λ yes.
+none_taken q start number place p own e step h m l = false_from_ne_true (is_taken q.positions (lists_none_wide q.positions) p m) (λ yes.
     let here = within_facts q start number m (sym (taken_within q start p number own e step m) ∙ yes) in
     let up = period_mono q.frequency (monday_zero q.week_start) place m l in
     omega (arith, here.0, up, h))
-  where
-    out : (b : Bool) → (b ≡ true → ⊥) → b ≡ false
-    out true never = absurd (never refl)
-    out false never = refl
-
 -- a step that is not passed
 pub not_past : (q : EffectiveRule) (first number next end : ℕ) → 1 ≤ q.interval → is_stepped first q.interval number ≡ true → is_stepped first q.interval end ≡ true → number < end
     → IsNextOpen q first (number + q.interval) next → IsNextOpen q first (number + q.interval) (min end next)
-not_past q first number next end some here there h is_next = elim (by_order next end) [
+not_past q first number next end some here there h is_next = elim (cases_lt next end) [
   | inl less ↦ subst (IsNextOpen q first (number + q.interval)) (let least : next ≡ min end next = omega (arith, less) in least) is_next
   | inr more ↦ subst (IsNextOpen q first (number + q.interval)) (let least : end ≡ min end next = omega (arith, more) in least)
       (record { step = there; low = low; none = λ n l u step. is_next.none n l (omega (arith, u, more)) step })
 ]
   where
     low : number + q.interval ≤ end
-    low = elim (by_order end (number + q.interval)) [
+    low = elim (cases_lt end (number + q.interval)) [
       | inl between ↦ absurd (let out = sym there ∙ none_between q.interval some first number end here h between in cc)
       | inr more ↦ more
     ]
@@ -190,21 +183,21 @@ turned_room q start c stop number before after o walked turned = let few = subst
 -- a walk that finds nothing in a round finds nothing later
 pub walk_rounds_end : (q : EffectiveRule) (start stop number begin end : ℕ) (before now : Cursor) → IsWalk q start stop number before now → stop ≤ rules_end → end < number → period_in q start ≤ begin → period_in q before.place ≤ begin
     → (end < period_in q (stop - 1) → HasRound q begin end) → IsNextWanted q start None before.place stop None
-walk_rounds_end q start stop number begin end before now walk h past low here round = elim (by_order end (period_in q (stop - 1))) [
+walk_rounds_end q start stop number begin end before now walk h past low here round = elim (cases_lt end (period_in q (stop - 1))) [
   | inl less ↦ by_round (round less)
   | inr more ↦ walk_ends q start stop number before now walk (omega (arith, more, past))
 ]
   where
     by_round : HasRound q begin end → IsNextWanted q start None before.place stop None
-    by_round is = λ n l u. elim (by_order (period_in q n) number) [
+    by_round is = λ n l u. elim (cases_lt (period_in q n) number) [
       | inl less ↦ walk.none n l less
       | inr more ↦ let far = is.far in let some = is.some in none_after q start is.periods is.seconds is.round (begin + 1) (omega (arith, some)) (omega (arith, low))
           (λ m lm um. walk.none m
-          (elim (by_order m before.place) [
+          (elim (cases_lt m before.place) [
             | inl early ↦ absurd (let up = period_mono q.frequency (monday_zero q.week_start) m before.place (omega (arith, early)) in let b = begins q.frequency (monday_zero q.week_start) (begin + 1) m lm in omega (arith, up, b, here))
             | inr late ↦ late
           ])
-          (elim (by_order (period_in q m) number) [
+          (elim (cases_lt (period_in q m) number) [
             | inl less ↦ less
             | inr over ↦ absurd (let b = begun q.frequency (monday_zero q.week_start) (begin + 1 + is.periods) m (omega (arith, over, past, far)) in omega (arith, b, um))
           ]))

@@ -1,5 +1,6 @@
 -- A period is the locals from its first on and before the next period's first.
-use Rattle.std.proofs.Common.{◌≡◌, ℕ, zero, suc, ◌+◌, ◌-◌, ◌*◌, ◌/◌, ◌%◌, ◌<◌, ◌≤◌, ◌⊎◌, inl, inr, refl, true, sym, subst, ap, arith, pos}
+use Rattle.std.proofs.Common.{◌≡◌, ℕ, zero, suc, ◌+◌, ◌-◌, ◌*◌, ◌/◌, ◌%◌, ◌<◌, ◌≤◌, inl, inr, refl, true, sym, subst, ap, cond, arith, pos}
+use Rattle.std.proofs.lemmas.Bool.{cases_lt, le-ltb, lt-ltb}
 use Rattle.jiff_core.specs.declared.civil.weekday.Weekday.{Weekday}
 use Rattle.jiff_core.specs.declared.civil.weekday.Weekday.TheVariants.{Monday, Tuesday, Wednesday, Thursday, Friday, Saturday, Sunday}
 use Rattle.jiff_core.specs.Weekday.{monday_zero}
@@ -9,14 +10,12 @@ use Rattle.ics_values.specs.Days.{days_before_year, year_of, month_of}
 use Rattle.ics_values.proofs.DayLemmas.{year_under_way, days_before_year_low, days_before_year_mono, days_before_year-next}
 use Rattle.ics_values.specs.declared.frequency.Frequency.{Frequency}
 use Rattle.ics_values.specs.declared.frequency.Frequency.TheVariants.{Secondly, Minutely, Hourly, Daily, Weekly, Monthly, Yearly}
-use Rattle.ics_rule.specs.PeriodNumbers.{period, month_number, rules_end}
+use Rattle.ics_rule.specs.PeriodNumbers.{period, month_number, week_of, rules_end}
+use Rattle.ics_rule.specs.Candidates.{fourth_day}
 use Rattle.ics_rule.specs.EffectiveRules.{skips_hours, skips_minutes, skips_seconds}
 use Rattle.ics_rule.specs.RecurrencePeriods.{month_start, first_local}
 use Rattle.ics_rule.proofs.Months.{earlier_month, later_month, month_of_high}
 use Rattle.ics_values.specs.Locals.{calendar_end}
-
-by_order : (a b : ℕ) → (a < b) ⊎ (b ≤ a)
-by_order a b = grind arith
 
 -- weeks start on one of seven weekdays
 pub week_small : (d : Weekday) → monday_zero d < 7
@@ -28,12 +27,19 @@ week_small Friday = omega arith
 week_small Saturday = omega arith
 week_small Sunday = omega arith
 
+-- the fourth day of a week, also where it is taken 400 years later
+pub fourth_early : (w e : ℕ) → 7 * week_of w e + w < 9 → fourth_day w e ≡ 7 * week_of w e + w + 146_088
+fourth_early w e early = ap (λ b. cond b (7 * week_of w e + w + 146_088) (7 * week_of w e + w - 9)) (lt-ltb (7 * week_of w e + w) 9 early)
+
+pub fourth_late : (w e : ℕ) → 9 ≤ 7 * week_of w e + w → fourth_day w e ≡ 7 * week_of w e + w - 9
+fourth_late w e late = ap (λ b. cond b (7 * week_of w e + w + 146_088) (7 * week_of w e + w - 9)) (le-ltb (7 * week_of w e + w) 9 late)
+
 -- years
 year_begun : (p e : ℕ) → p ≤ year_of e → days_before_year p ≤ e
 year_begun p e h = let u = year_under_way e in let m = days_before_year_mono p (year_of e) h in omega (arith, u.0, m)
 
 year_begins : (p e : ℕ) → days_before_year p ≤ e → p ≤ year_of e
-year_begins p e h = elim (by_order (year_of e) p) [
+year_begins p e h = elim (cases_lt (year_of e) p) [
   | inl less ↦ absurd (let u = year_under_way e in let m = days_before_year_mono (suc (year_of e)) p less in omega (arith, u.1, m))
   | inr more ↦ more
 ]
@@ -42,11 +48,11 @@ year_length : (p : ℕ) → (days_before_year p < days_before_year (suc p)) × (
 year_length p = let next = days_before_year-next p in let b = days_in_year_bounds (pos p) in (omega (arith, next, b.1), omega (arith, next, b.0))
 
 -- months
-month_begun : (p e : ℕ) → p ≤ month_number e → month_start p ≤ e
+pub month_begun : (p e : ℕ) → p ≤ month_number e → month_start p ≤ e
 month_begun zero e h = let none = days_of_months-zero (pos ((0 - 1) / 12)) in omega (arith, none)
 month_begun (suc p) e h =
     let back : suc p - 1 ≡ p = omega arith in
-    rw back (elim (by_order e (days_before_year (p / 12) + days_of_months (pos (p / 12)) (p % 12))) [
+    rw back (elim (cases_lt e (days_before_year (p / 12) + days_of_months (pos (p / 12)) (p % 12))) [
       | inl less ↦ absurd (
           let same : p % 12 + 1 - 1 ≡ p % 12 = omega arith in
           let before = earlier_month (p / 12) (p % 12 + 1) (omega arith) (omega arith) e (subst (λ k. e < days_before_year (p / 12) + days_of_months (pos (p / 12)) k) (sym same) less) in
@@ -57,9 +63,9 @@ month_begun (suc p) e h =
 pub month_positive : (e : ℕ) → 0 < month_of e
 month_positive e = month_of_high e 0 (let none = days_of_months-zero (pos (year_of e)) in let u = year_under_way e in omega (arith, none, u.0)) (omega arith)
 
-month_begins : (p e : ℕ) → month_start p ≤ e → p ≤ month_number e
+pub month_begins : (p e : ℕ) → month_start p ≤ e → p ≤ month_number e
 month_begins zero e h = omega arith
-month_begins (suc p) e h = elim (by_order 0 (p % 12)) [
+month_begins (suc p) e h = elim (cases_lt 0 (p % 12)) [
   | inl some ↦ let after = later_month (p / 12) (p % 12) (omega arith) (omega arith) e (rw back at h) in omega (arith, after)
   | inr none ↦ let year = year_begins (p / 12) e (let low : days_before_year (p / 12) ≤ days_before_year (p / 12) + days_of_months (pos (p / 12)) (p % 12) = omega arith in let h' = rw back at h in omega (arith, low, h')) in
       omega (arith, year, month_positive e)
@@ -77,7 +83,7 @@ month_size p =
     let one : suc p - 1 ≡ p = omega arith in
     let two : suc (suc p) - 1 ≡ suc p = omega arith in
     let more = month_at (p / 12) (p % 12) (omega arith) in
-    rw one (rw two (elim (by_order (p % 12) 11) [
+    rw one (rw two (elim (cases_lt (p % 12) 11) [
       | inl inside ↦
           let year : suc p / 12 ≡ p / 12 = omega arith in
           let month : suc p % 12 ≡ p % 12 + 1 = omega arith in
@@ -141,7 +147,7 @@ period_mono f w n m h = begins f w (period f w n) m (let b = begun f w (period f
 
 -- the first local of a period lies in it
 pub first_in : (f : Frequency) (w p : ℕ) → w < 7 → period f w 0 ≤ p → period f w (first_local f w p) ≡ p
-first_in f w p h l = let low = begins f w p (first_local f w p) (omega arith) in elim (by_order p (period f w (first_local f w p))) [
+first_in f w p h l = let low = begins f w p (first_local f w p) (omega arith) in elim (cases_lt p (period f w (first_local f w p))) [
   | inl more ↦ absurd (let late = begun f w (suc p) (first_local f w p) more in let some = lasts f w p h l in omega (arith, late, some))
   | inr same ↦ omega (arith, low, same)
 ]

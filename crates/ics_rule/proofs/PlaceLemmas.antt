@@ -1,5 +1,6 @@
 -- Places in a period, and the first members of a rule, by counting.
 use Rattle.std.proofs.Common.{◌≡◌, ℕ, zero, suc, ◌+◌, ◌<◌, ◌≤◌, ◌⊎◌, inl, inr, Bool, true, false, cond, ◌&&◌, ◌||◌, ◌==◌, nat_lt, min, Some, None, refl, sym, ap, ◌∙◌, arith}
+use Rattle.std.proofs.lemmas.Bool.{cases_lt, lt-ltb, eqb-true}
 use Rattle.std.proofs.lemmas.Bool.Decides.{nat_tests}
 use Rattle.ics_rule.specs.declared.effective_rule.EffectiveRule.{EffectiveRule}
 use Rattle.ics_rule.specs.Recurrence.{Recurrence}
@@ -8,16 +9,10 @@ use Rattle.ics_values.specs.Locals.{number, calendar_end}
 use Rattle.ics_rule.specs.Candidates.{is_candidate_in, period_in}
 use Rattle.ics_rule.specs.Kept.{count, is_beside, rank, size, is_in_rule, is_by_until, is_counted, is_kept}
 use Rattle.ics_rule.specs.Ranks.{HasRank}
-use Rattle.ics_rule.proofs.Counts.{count-suc, count-none, count_mono, count_one_more}
-use Rattle.ics_rule.proofs.KeptLemmas.{and_true, eqb_true}
+use Rattle.ics_rule.proofs.Counts.{count-suc, count-none, count_mono, count_one_more, count_one, count_none_at}
+use Rattle.ics_rule.proofs.KeptLemmas.{and_true}
 use Rattle.ics_rule.proofs.NextLemmas.{in_rule_start, in_rule_earlier}
-use Rattle.ics_rule.proofs.TableSteps.{count_one, count_no}
-
-by_order : (a b : ℕ) → (a < b) ⊎ (b ≤ a)
-by_order a b = grind arith
-
-three : (a b : ℕ) → (a < b) ⊎ ((a ≡ b) ⊎ (b < a))
-three a b = grind arith
+use Rattle.ics_rule.proofs.Tests.{three}
 
 -- ---- the k-th of those that pass
 
@@ -28,7 +23,7 @@ IsAt test k m = (test m ≡ true) × (count (suc m) test ≡ k)
 found : (test : ℕ → Bool) (k end : ℕ) → 1 ≤ k → k ≤ count end test → (m : ℕ) × ((m < end) × IsAt test k m)
 unfolding count
 found test k zero low high = absurd (omega (arith, low, high))
-found test k (suc end) low high = elim (by_order (count end test) k) [
+found test k (suc end) low high = elim (cases_lt (count end test) k) [
   | inl last ↦ at_end (test end) refl last
   | inr before ↦ let m = found test k end low before in (m.0, (omega (arith, m.1.0), m.1.1))
 ]
@@ -37,7 +32,7 @@ found test k (suc end) low high = elim (by_order (count end test) k) [
     at_end true e last =
         let one = count_one (test end) e in
         (end, (omega arith, (e, omega (arith, one, last, high))))
-    at_end false e last = let none = count_no (test end) e in absurd (omega (arith, none, last, high))
+    at_end false e last = let none = count_none_at (test end) e in absurd (omega (arith, none, last, high))
 
 -- and no more
 alone : (test : ℕ → Bool) (k m o : ℕ) → IsAt test k m → IsAt test k o → m ≡ o
@@ -53,7 +48,7 @@ module _ (q : EffectiveRule) (start n : ℕ) where
   -- one of them counts the same
   same_rank : (m : ℕ) → is_beside q start n m ≡ true → rank q start m ≡ count (suc m) (is_beside q start n)
   same_rank m e =
-      ap (λ p. count (suc m) (λ o. is_candidate_in q start o && period_in q o == p)) (eqb_true (period_in q m) (period_in q n) (and_true e).1)
+      ap (λ p. count (suc m) (λ o. is_candidate_in q start o && period_in q o == p)) (eqb-true (period_in q m) (period_in q n) (and_true e).1)
 
   ranked : (k m : ℕ) → HasRank q start n k m → IsAt (is_beside q start n) k m
   ranked k m h = (h.0, sym (same_rank m h.0) ∙ h.1)
@@ -79,20 +74,17 @@ module _ (r : Recurrence) (c : ℕ) (counted : r.parts.count ≡ Some c) (some :
   kept_first n inside =
       ap (λ u. n == number r.start || (nat_lt n rules_end && is_in_rule r n && is_by_until r.kind u n && is_counted r r.parts.count n)) endless
       ∙ ap (λ o. n == number r.start || (nat_lt n rules_end && is_in_rule r n && true && is_counted r o n)) counted
-      ∙ ap (λ b. n == number r.start || (b && is_in_rule r n && true && nat_lt (count n (is_in_rule r)) c)) (less n rules_end inside)
+      ∙ ap (λ b. n == number r.start || (b && is_in_rule r n && true && nat_lt (count n (is_in_rule r)) c)) (lt-ltb n rules_end inside)
       ∙ (elim (by_start n (number r.start)) [
         | inl same ↦
             ap (λ b. b || (is_in_rule r n && true && nat_lt (count n (is_in_rule r)) c)) same.0
             ∙ sym (ap (λ b. b && nat_lt (count n (is_in_rule r)) c) (ap (is_in_rule r) same.1 ∙ in_rule_start r)
-            ∙ less (count n (is_in_rule r)) c
+            ∙ lt-ltb (count n (is_in_rule r)) c
             (let none = count-none n (is_in_rule r) (λ m l. in_rule_earlier r m (omega (arith, l, same.1))) in omega (arith, none, some)))
         | inr other ↦
             ap (λ b. b || (is_in_rule r n && true && nat_lt (count n (is_in_rule r)) c)) other ∙ dropped (is_in_rule r n) (nat_lt (count n (is_in_rule r)) c)
       ])
     where
-      less : (a b : ℕ) → a < b → nat_lt a b ≡ true
-      less a b h = grind (arith, nat_tests)
-
       by_start : (a b : ℕ) → (((a == b) ≡ true) × (a ≡ b)) ⊎ ((a == b) ≡ false)
       by_start a b = grind (arith, nat_tests)
 
@@ -114,9 +106,9 @@ module _ (r : Recurrence) (c : ℕ) (counted : r.parts.count ≡ Some c) (some :
       one_more : (k m : Bool) (x y : ℕ) → k ≡ (m && nat_lt y c) → x ≡ min y c → x + cond k 1 0 ≡ min (y + cond m 1 0) c
       one_more k true x y e h = elim (test y c) [
         | inl few ↦ let one = count_one k (e ∙ few.0) in omega (arith, one, h, few.1)
-        | inr all ↦ let none = count_no k (e ∙ all.0) in omega (arith, none, h, all.1)
+        | inr all ↦ let none = count_none_at k (e ∙ all.0) in omega (arith, none, h, all.1)
       ]
-      one_more k false x y e h = let none = count_no k e in omega (arith, none, h)
+      one_more k false x y e h = let none = count_none_at k e in omega (arith, none, h)
 
       step : (k m : Bool) (x y x' y' : ℕ) → x' ≡ x + cond k 1 0 → y' ≡ y + cond m 1 0 → x ≡ min y c → k ≡ (m && nat_lt y c) → x' ≡ min y' c
       step k m x y x' y' ex ey h e = ex ∙ one_more k m x y e h ∙ ap (λ z. min z c) (sym ey)

@@ -1,6 +1,6 @@
 -- A rule whose DTSTART fits is its plain reading.
-use Rattle.std.proofs.Common.{◌≡◌, ◌≢◌, ℕ, suc, ◌+◌, ◌-◌, ◌*◌, ◌/◌, ◌%◌, ◌<◌, ◌≤◌, ◌⊎◌, inl, inr, Bool, true, false, not, ◌&&◌, ◌||◌, ◌==◌, nat_lt, nat_le, if◌then◌else◌, Option, Some, None, MatchOption, pos, refl, sym, ap, ◌∙◌, arith}
-use Rattle.std.proofs.lemmas.Bool.Decides.{nat_tests}
+use Rattle.std.proofs.Common.{◌≡◌, ◌≢◌, ℕ, suc, ◌+◌, ◌-◌, ◌*◌, ◌/◌, ◌%◌, ◌<◌, ◌≤◌, ◌⊎◌, inl, inr, Bool, true, false, not, ◌&&◌, ◌||◌, ◌==◌, nat_lt, if◌then◌else◌, Option, Some, None, MatchOption, pos, refl, sym, ap, ◌∙◌, arith}
+use Rattle.std.proofs.lemmas.Bool.{and_parts, le-leb, le-ltb, lt-leb, lt-ltb, cases_eq, eq-eqb, ne_eqb}
 use Rattle.std.proofs.lemmas.Nat.Bits.{bit_at-zero}
 use Rattle.jiff_core.specs.Calendar.{days_in_month, days_in_year}
 use Rattle.jiff_core.specs.Weekday.{monday_zero}
@@ -22,11 +22,12 @@ use Rattle.ics_rule.specs.Kept.{count, is_beside, rank, size, is_placed, is_chos
 use Rattle.ics_rule.specs.Table.{ByMonth, ByWeekNo, ByYearDay, ByMonthDay, ByDay, ByHour, ByMinute, BySecond}
 use Rattle.ics_rule.specs.ByTable.{is_absent, is_clockless, weekday_unit}
 use Rattle.ics_rule.specs.PlainReading.{is_place, is_wide_place, is_dayless, is_extracted, month_applies, in_year, in_month, month_day_applies, year_day_applies, with_weekday, weekday_period, is_weekday, weekday_applies, fourth_of_week, is_week, week_applies, hour_applies, minute_applies, second_applies, all_apply, period_at, frequency_applies, occurs_in, position_applies, is_plain_member, is_few_members, is_plainly_kept, HasPlainReading}
-use Rattle.ics_rule.proofs.Counts.{count-same, count-suc, count-none}
+use Rattle.ics_rule.proofs.Counts.{count-same, count-suc, count-none, count_one}
 use Rattle.ics_rule.proofs.DateLemmas.{none_nth}
 use Rattle.ics_rule.proofs.PeriodLemmas.{week_small, period_mono}
-use Rattle.ics_rule.proofs.TableSteps.{self_test, keep_true, never, or_assoc, only_number, only_day, only_this_weekday, same_or_not, same_test, apart_test, and_assoc, both_true, chosen_where, count_one}
+use Rattle.ics_rule.proofs.TableSteps.{or_assoc, only_number, only_day, only_this_weekday, both_true, chosen_where}
 use Rattle.ics_rule.proofs.NthLemmas.{month_days_listed, year_days_listed, month_weekday_listed, year_weekday_listed, weeks_listed}
+use Rattle.ics_rule.proofs.Tests.{unequal, zero_of, self_test, keep_true, and_false, and_assoc}
 
 -- ---- what is extracted of DTSTART
 
@@ -82,7 +83,7 @@ weekday_taken Weekly r weekly yearly = whole (is_absent r ByDay) (is_dayless r) 
   where
     whole : (b d : Bool) → (b ≡ true → d ≡ true) → b ≡ (d && b)
     whole true d h = sym (ap (λ x. x && true) (h refl))
-    whole false d h = sym (never d)
+    whole false d h = sym (and_false d)
 weekday_taken Monthly r weekly yearly = refl
 weekday_taken Daily r weekly yearly = refl
 weekday_taken Hourly r weekly yearly = refl
@@ -114,14 +115,6 @@ place_none p test e h =
     ∙ ap (λ x. contains 0 (count (suc e) test) || contains x (count calendar_end test - count e test)) (zero_of p.back parts.1)
     ∙ ap (λ x. (x == 1) || contains 0 (count calendar_end test - count e test)) (bit_at-zero (count (suc e) test))
     ∙ ap (λ x. x == 1) (bit_at-zero (count calendar_end test - count e test))
-  where
-    and_parts : (a b : Bool) → (a && b) ≡ true → (a ≡ true) × (b ≡ true)
-    and_parts true b h = (refl, h)
-    and_parts false b h = absurd (cc)
-
-    zero_of : (s : ℕ) → (s == 0) ≡ true → s ≡ 0
-    zero_of s h = grind (arith, nat_tests)
-
 -- under YEARLY, beside BYWEEKNO or not, and BYMONTH or not
 abbrev yearly_numbered : Ordinals → ℕ → Bool → Bool → Bool
 yearly_numbered p e w m =
@@ -210,21 +203,6 @@ midnight d s h = (omega (arith, h), (omega (arith, h), omega (arith, h)))
 by_part : {m m' d d' y y' w w' b b' h h' i i' s s' : Bool} → m ≡ m' → d ≡ d' → y ≡ y' → w ≡ w' → b ≡ b' → h ≡ h' → i ≡ i' → s ≡ s'
     → ((m && d && y && w && b) && (h && i && s)) ≡ ((m' && d' && y' && w' && b') && (h' && i' && s'))
 by_part m d y w b h i s = rw (m, d, y, w, b, h, i, s) refl
-
-unequal : (a b : ℕ) → (a < b) ⊎ (b < a) → (a == b) ≡ false
-unequal a b h = grind (arith, nat_tests)
-
-less : (a b : ℕ) → a < b → nat_lt a b ≡ true
-less a b h = grind (arith, nat_tests)
-
-not_less : (a b : ℕ) → b ≤ a → nat_lt a b ≡ false
-not_less a b h = grind (arith, nat_tests)
-
-at_most : (a b : ℕ) → a ≤ b → nat_le a b ≡ true
-at_most a b h = grind (arith, nat_tests)
-
-above : (a b : ℕ) → b < a → nat_le a b ≡ false
-above a b h = grind (arith, nat_tests)
 
 by_order : (a b : ℕ) → ((a < b) ⊎ (b < a)) ⊎ (a ≡ b)
 by_order a b = grind arith
@@ -320,7 +298,7 @@ module _ (r : Recurrence) (plain : HasPlainReading r) where
   unfolding effective
   turns n low =
       ap (λ b. b && frequency_applies r n)
-      (at_most (period_at r start) (period_at r n) (period_mono r.parts.frequency (monday_zero r.parts.week_start) start n low))
+      (le-leb (period_at r start) (period_at r n) (period_mono r.parts.frequency (monday_zero r.parts.week_start) start n low))
 
   candidate : (n : ℕ) → n < calendar_end → is_candidate_in (effective r) start n ≡ (in_turn n && all_apply r n)
   candidate n small =
@@ -329,19 +307,19 @@ module _ (r : Recurrence) (plain : HasPlainReading r) where
   -- BYSETPOS
   beside : (n m : ℕ) → m < calendar_end → in_turn n ≡ true → is_beside (effective r) start n m ≡ occurs_in r (period_at r n) m
   unfolding effective
-  beside n m small step = cases (same_or_not (period_at r m) (period_at r n))
+  beside n m small step = cases (cases_eq (period_at r m) (period_at r n))
     where
       cases : (period_at r m ≡ period_at r n) ⊎ (period_at r m ≢ period_at r n)
           → (is_candidate_in (effective r) start m && period_at r m == period_at r n) ≡ occurs_in r (period_at r n) m
       cases (inl same) =
-          ap (λ x. is_candidate_in (effective r) start m && x) (same_test (period_at r m) (period_at r n) same)
+          ap (λ x. is_candidate_in (effective r) start m && x) (eq-eqb (period_at r m) (period_at r n) same)
           ∙ keep_true (is_candidate_in (effective r) start m) ∙ candidate m small
           ∙ ap (λ p. is_stepped (period_in (effective r) start) (effective r).interval p && all_apply r m) same ∙ ap (λ x. x && all_apply r m) step
-          ∙ sym (ap (λ x. x && all_apply r m) (same_test (period_at r m) (period_at r n) same))
+          ∙ sym (ap (λ x. x && all_apply r m) (eq-eqb (period_at r m) (period_at r n) same))
       cases (inr other) =
-          ap (λ x. is_candidate_in (effective r) start m && x) (apart_test (period_at r m) (period_at r n) other)
-          ∙ never (is_candidate_in (effective r) start m)
-          ∙ sym (ap (λ x. x && all_apply r m) (apart_test (period_at r m) (period_at r n) other))
+          ap (λ x. is_candidate_in (effective r) start m && x) (ne_eqb (period_at r m) (period_at r n) other)
+          ∙ and_false (is_candidate_in (effective r) start m)
+          ∙ sym (ap (λ x. x && all_apply r m) (ne_eqb (period_at r m) (period_at r n) other))
 
   placed : (n : ℕ) → n < calendar_end → is_candidate_in (effective r) start n ≡ true
       → is_placed (effective r) start (lists_none_wide r.parts.positions) n ≡ position_applies r n
@@ -385,13 +363,13 @@ module _ (r : Recurrence) (plain : HasPlainReading r) where
       from_start : (((n < start) ⊎ (start < n)) ⊎ (n ≡ start)) → (n == start || (nat_lt start n && is_chosen (effective r) start n)) ≡ is_plain_member r n
       from_start (inl (inl earlier)) =
           ap (λ b. b || (nat_lt start n && is_chosen (effective r) start n)) (unequal n start (inl earlier))
-          ∙ ap (λ b. b && is_chosen (effective r) start n) (not_less start n (omega (arith, earlier)))
-          ∙ sym (ap (λ b. b && (frequency_applies r n && (all_apply r n && position_applies r n))) (above start n earlier))
+          ∙ ap (λ b. b && is_chosen (effective r) start n) (le-ltb start n (omega (arith, earlier)))
+          ∙ sym (ap (λ b. b && (frequency_applies r n && (all_apply r n && position_applies r n))) (lt-leb start n earlier))
       from_start (inl (inr later)) =
           ap (λ b. b || (nat_lt start n && is_chosen (effective r) start n)) (unequal n start (inr later))
-          ∙ ap (λ b. b && is_chosen (effective r) start n) (less start n later)
+          ∙ ap (λ b. b && is_chosen (effective r) start n) (lt-ltb start n later)
           ∙ chosen n (omega (arith, later)) (omega (arith, small))
-          ∙ sym (ap (λ b. b && (frequency_applies r n && (all_apply r n && position_applies r n))) (at_most start n (omega (arith, later))))
+          ∙ sym (ap (λ b. b && (frequency_applies r n && (all_apply r n && position_applies r n))) (le-leb start n (omega (arith, later))))
       from_start (inr same) =
           ap (λ b. b || (nat_lt start n && is_chosen (effective r) start n)) (ap (λ x. x == start) same ∙ self_test start)
           ∙ sym (ap (is_plain_member r) same ∙ plain.fits)
@@ -405,8 +383,8 @@ module _ (r : Recurrence) (plain : HasPlainReading r) where
   first_counts None h = refl
   first_counts (Some c) h =
       let none = count-none start (is_plain_member r)
-      (λ m l. ap (λ b. b && (frequency_applies r m && (all_apply r m && position_applies r m))) (above start m l)) in
-      less (count start (is_plain_member r)) c (omega (arith, none, h))
+      (λ m l. ap (λ b. b && (frequency_applies r m && (all_apply r m && position_applies r m))) (lt-leb start m l)) in
+      lt-ltb (count start (is_plain_member r)) c (omega (arith, none, h))
 
   start_kept : is_plainly_kept r start ≡ true
   start_kept =
@@ -420,7 +398,7 @@ module _ (r : Recurrence) (plain : HasPlainReading r) where
       apart : ((n < start) ⊎ (start < n)) → is_kept r n ≡ is_plainly_kept r n
       apart other =
           ap (λ b. b || (nat_lt n rules_end && is_in_rule r n && is_by_until r.kind r.parts.until n && is_counted r r.parts.count n)) (unequal n start other)
-          ∙ ap (λ b. b && is_in_rule r n && is_by_until r.kind r.parts.until n && is_counted r r.parts.count n) (less n rules_end h)
+          ∙ ap (λ b. b && is_in_rule r n && is_by_until r.kind r.parts.until n && is_counted r r.parts.count n) (lt-ltb n rules_end h)
           ∙ ap (λ b. b && is_by_until r.kind r.parts.until n && is_counted r r.parts.count n) (member n h)
           ∙ ap (λ b. is_plain_member r n && is_by_until r.kind r.parts.until n && b) (counted r.parts.count n h)
 

@@ -1,5 +1,6 @@
 -- The place of a local in a product, and the product's size, by the sizes of its sets.
-use Rattle.std.proofs.Common.{◌≡◌, ℕ, suc, ◌+◌, ◌-◌, ◌*◌, ◌/◌, ◌%◌, ◌<◌, ◌≤◌, ◌⊎◌, inl, inr, Bool, true, false, cond, ◌&&◌, nat_le, min, Option, None, Some, IfSome, refl, sym, ap, ◌∙◌, arith}
+use Rattle.std.proofs.Common.{◌≡◌, ℕ, ◌+◌, ◌-◌, ◌*◌, ◌/◌, ◌%◌, ◌<◌, ◌≤◌, inl, inr, Bool, true, false, cond, ◌&&◌, nat_le, min, Option, None, Some, IfSome, refl, sym, ap, ◌∙◌, arith}
+use Rattle.std.proofs.lemmas.Bool.{and_right, cases_lt}
 use Rattle.std.proofs.lemmas.Bool.Decides.{nat_tests}
 use Rattle.std.proofs.lemmas.Nat.{div-mul-add, mod-mul-add, div-add-mod'}
 use Rattle.std.proofs.Math.Nat.{mod-lt}
@@ -8,7 +9,8 @@ use Rattle.ics_values.proofs.SetLemmas.{wide_past}
 use Rattle.ics_rule.specs.declared.recurrence_period.RecurrencePeriod.{RecurrencePeriod}
 use Rattle.ics_rule.specs.Kept.{count, size}
 use Rattle.ics_rule.specs.RecurrencePeriods.{has_minute, has_second, has_day, holds, IsNth}
-use Rattle.ics_rule.proofs.Counts.{count-same, count-suc, count-add, count-from, count-up_to, count-product, count-none}
+use Rattle.ics_rule.proofs.ScanLemmas.{day_before}
+use Rattle.ics_rule.proofs.Counts.{count-same, count-add, count-from, count-up_to, count-product, count-none, count_none_at, count_one}
 use Rattle.ics_values.specs.Locals.{calendar_end}
 
 -- how many pass before the t-th of block d: the blocks before it, and what passes in it
@@ -29,12 +31,6 @@ pub count-at : (n b : ℕ) (p q : ℕ → Bool) → 0 < b → count n (λ m. p (
 count-at n b p q h = let whole = div-add-mod' n b in
     sym (ap (λ x. count x (λ m. p (m / b) && q (m % b))) whole) ∙ count-place (n / b) b (n % b) p q (let l : n % b < b = mod-lt n h in omega (arith, l))
 
-count_one : (b : Bool) → b ≡ true → ◌≡◌ {A = ℕ} (cond b 1 0) 1
-count_one b e = let f : Bool → ℕ = λ z. cond z 1 0 in ap f e
-
-count_none_at : (b : Bool) → b ≡ false → ◌≡◌ {A = ℕ} (cond b 1 0) 0
-count_none_at b e = let f : Bool → ℕ = λ z. cond z 1 0 in ap f e
-
 -- where the block of n passes, and where it does not
 pub count_taken : (n b total blocks size rest : ℕ) (p q : ℕ → Bool) → 0 < b → p (n / b) ≡ true → total ≡ blocks * size + rest → blocks ≡ count (n / b) p → size ≡ count b q → rest ≡ count (n % b) q
     → total ≡ count n (λ m. p (m / b) && q (m % b))
@@ -45,13 +41,6 @@ pub count_left : (n b total blocks size : ℕ) (p q : ℕ → Bool) → 0 < b �
     → total ≡ count n (λ m. p (m / b) && q (m % b))
 count_left n b total blocks size p q h e et eb es = let at = count-at n b p q h in let none = count_none_at (p (n / b)) e in let product = ap (λ x. x * count (n % b) q) none in
     let here : blocks * size ≡ count (n / b) p * count b q = ap (λ x. x * size) eb ∙ ap (λ x. count (n / b) p * x) es in omega (arith, at, product, here, et)
-
--- one number more in a loop that counts
-pub count_step : (n total : ℕ) (p : ℕ → Bool) → total ≡ count n p → p n ≡ true → total + 1 ≡ count (n + 1) p
-count_step n total p e h = let more = count-suc n p in let one = count_one (p n) h in let same = ap (λ x. count x p) (let s : suc n ≡ n + 1 = omega arith in s) in omega (arith, e, more, one, same)
-
-pub count_stay : (n total : ℕ) (p : ℕ → Bool) → total ≡ count n p → p n ≡ false → total ≡ count (n + 1) p
-count_stay n total p e h = let more = count-suc n p in let none = count_none_at (p n) h in let same = ap (λ x. count x p) (let s : suc n ≡ n + 1 = omega arith in s) in omega (arith, e, more, none, same)
 
 pub count_zero : (p : ℕ → Bool) → 0 ≡ count 0 p
 unfolding count
@@ -68,9 +57,6 @@ whole_size p = count-product 3_652_425 86_400 (has_day p) (has_second p)
 day_at : (p : RecurrencePeriod) (k : ℕ) → has_day p (p.first_day + k) ≡ contains_wide p.days k
 day_at p k = let low : nat_le p.first_day (p.first_day + k) ≡ true = grind (arith, nat_tests) in let back : p.first_day + k - p.first_day ≡ k = omega arith in
     ap (λ x. x && contains_wide p.days (p.first_day + k - p.first_day)) low ∙ ap (contains_wide p.days) back
-
-day_before : (p : RecurrencePeriod) (m : ℕ) → m < p.first_day → has_day p m ≡ false
-day_before p m h = let none : nat_le p.first_day m ≡ false = grind (arith, nat_tests) in ap (λ x. x && contains_wide p.days (m - p.first_day)) none
 
 pub days_from_first : (p : RecurrencePeriod) (n : ℕ) → count (p.first_day + n) (has_day p) ≡ count n (contains_wide p.days)
 days_from_first p n = count-from p.first_day n (has_day p) (day_before p) ∙ count-same n (λ k. has_day p (p.first_day + k)) (contains_wide p.days) (λ k l. day_at p k)
@@ -91,9 +77,9 @@ nth_of_days p k n nth = record { passes = day_at p n ∙ nth.passes; before = da
 
 -- the days before one
 pub days_before : (p : RecurrencePeriod) (day skipped : ℕ) → skipped ≡ min (day - p.first_day) 384 → count skipped (contains_wide p.days) ≡ count day (has_day p)
-days_before p day skipped e = elim (by_order day p.first_day) [
+days_before p day skipped e = elim (cases_lt day p.first_day) [
   | inl early ↦ let none : skipped ≡ 0 = omega (arith, e) in ap (λ x. count x (contains_wide p.days)) none ∙ sym (count_zero (contains_wide p.days)) ∙ sym (count-none day (has_day p) (λ m l. day_before p m (omega arith)))
-  | inr late ↦ let whole : p.first_day + (day - p.first_day) ≡ day = omega arith in elim (by_order 384 (day - p.first_day)) [
+  | inr late ↦ let whole : p.first_day + (day - p.first_day) ≡ day = omega arith in elim (cases_lt 384 (day - p.first_day)) [
     | inl far ↦ let top : skipped ≡ 384 = omega (arith, e) in let all : 384 + (day - p.first_day - 384) ≡ day - p.first_day = omega arith in
         ap (λ x. count x (contains_wide p.days)) top ∙ sym (count-up_to 384 (day - p.first_day - 384) (contains_wide p.days) (λ k l u. wide_past p.days k l))
         ∙ ap (λ x. count x (contains_wide p.days)) all ∙ sym (days_from_first p (day - p.first_day)) ∙ ap (λ x. count x (has_day p)) whole
@@ -101,10 +87,6 @@ days_before p day skipped e = elim (by_order day p.first_day) [
         ap (λ x. count x (contains_wide p.days)) same ∙ sym (days_from_first p (day - p.first_day)) ∙ ap (λ x. count x (has_day p)) whole
   ]
 ]
-  where
-    by_order : (a b : ℕ) → (a < b) ⊎ (b ≤ a)
-    by_order a b = grind arith
-
 -- the k-th number of a product, by dividing by the size of a block
 pub nth-product : (b s k hi lo : ℕ) (p q : ℕ → Bool) → s ≡ count b q → lo < b → IsNth p (k / s) hi → IsNth q (k % s) lo
     → IsNth (λ n. p (n / b) && q (n % b)) k (hi * b + lo)
@@ -120,15 +102,8 @@ nth-product b s k hi lo p q es l high low = record {
 
 -- nothing stands past the calendar
 pub holds_past : (p : RecurrencePeriod) → p.first_day ≤ 3_600_000 → (m : ℕ) → calendar_end ≤ m → holds p m ≡ false
-holds_past p h m late = ap (λ x. x && has_second p (m % 86_400)) (and_second (nat_le p.first_day (m / 86_400)) (contains_wide p.days (m / 86_400 - p.first_day)) (wide_past p.days (m / 86_400 - p.first_day) (omega arith)))
-  where
-    and_second : (a b : Bool) → b ≡ false → (a && b) ≡ false
-    and_second true b h = h
-    and_second false b h = refl
+holds_past p h m late = ap (λ x. x && has_second p (m % 86_400)) (and_right (nat_le p.first_day (m / 86_400)) (contains_wide p.days (m / 86_400 - p.first_day)) (wide_past p.days (m / 86_400 - p.first_day) (omega arith)))
 
 pub next_small : (p : RecurrencePeriod) (n : ℕ) (o : Option ℕ) → p.first_day ≤ 3_600_000 → IsNextIn (holds p) n o → IfSome o (λ m. m < calendar_end)
 next_small p n None h next = tt
-next_small p n (Some m) h next = elim (by_order m calendar_end) [ inl less ↦ less | inr late ↦ absurd (let no = holds_past p h m late in let yes = next.passes in cc) ]
-  where
-    by_order : (a b : ℕ) → (a < b) ⊎ (b ≤ a)
-    by_order a b = grind arith
+next_small p n (Some m) h next = elim (cases_lt m calendar_end) [ inl less ↦ less | inr late ↦ absurd (let no = holds_past p h m late in let yes = next.passes in cc) ]

@@ -1,5 +1,6 @@
 -- A product holds what the rule lets in within the period.
 use Rattle.std.proofs.Common.{◌≡◌, ℕ, ◌+◌, ◌-◌, ◌*◌, ◌/◌, ◌%◌, ◌<◌, ◌≤◌, ◌⊎◌, inl, inr, Bool, true, false, ◌==◌, nat_le, nat_lt, ◌&&◌, ◌||◌, refl, sym, ap, ◌∙◌, arith}
+use Rattle.std.proofs.lemmas.Bool.{and_parts, cases_lt, eq-eqb, eqb-true}
 use Rattle.std.proofs.lemmas.Bool.Decides.{nat_tests}
 use Rattle.jiff_core.specs.Weekday.{monday_zero}
 use Rattle.ics_values.specs.declared.frequency.Frequency.{Frequency}
@@ -13,30 +14,16 @@ use Rattle.ics_rule.specs.Candidates.{lets, lets_date, lets_clock}
 use Rattle.ics_rule.specs.declared.recurrence_period.RecurrencePeriod.{RecurrencePeriod}
 use Rattle.ics_rule.specs.RecurrencePeriods.{first_local, month_start, holds, is_let_in}
 use Rattle.ics_rule.proofs.PeriodLemmas.{begun, begins}
+use Rattle.ics_rule.proofs.Tests.{iff}
 
 abbrev day_test : ℕ → ℕ → ℕ → Bool
 day_test b e n = nat_le (b / 86_400) (n / 86_400) && nat_lt (n / 86_400 - b / 86_400) ((e + 86_399) / 86_400 - b / 86_400)
-
-iff : (a b : Bool) → (a ≡ true → b ≡ true) → (b ≡ true → a ≡ true) → a ≡ b
-iff true b p q = sym (p refl)
-iff false true p q = q refl
-iff false false p q = refl
-
-and_parts : (a b : Bool) → (a && b) ≡ true → (a ≡ true) × (b ≡ true)
-and_parts true b h = (refl, h)
-and_parts false b h = absurd (cc)
 
 day_facts : (b e n : ℕ) → day_test b e n ≡ true → (b / 86_400 ≤ n / 86_400) × (n / 86_400 - b / 86_400 < (e + 86_399) / 86_400 - b / 86_400)
 day_facts b e n h = grind (arith, nat_tests)
 
 day_shown : (b e n : ℕ) → b / 86_400 ≤ n / 86_400 → n / 86_400 - b / 86_400 < (e + 86_399) / 86_400 - b / 86_400 → day_test b e n ≡ true
 day_shown b e n h l = grind (arith, nat_tests)
-
-same_true : (a b : ℕ) → a ≡ b → (a == b) ≡ true
-same_true a b h = grind (arith, nat_tests)
-
-same_fact : (a b : ℕ) → (a == b) ≡ true → a ≡ b
-same_fact a b h = grind (arith, nat_tests)
 
 -- whole days
 whole_days : (b e n : ℕ) → day_test (b * 86_400) (e * 86_400) n ≡ true → (b * 86_400 ≤ n) × (n < e * 86_400)
@@ -72,9 +59,9 @@ span_low Secondly w p n h =
     let clock = and_parts _ _ parts.1 in
     let front = and_parts _ _ clock.0 in
     let day = one_day p (p + 1) n (omega arith) parts.0 in
-    let hour = same_fact (n / 3_600 % 24) (p / 3_600 % 24) front.0 in
-    let minute = same_fact (n / 60 % 60) (p / 60 % 60) front.1 in
-    let second = same_fact (n % 60) (p % 60) clock.1 in
+    let hour = eqb-true (n / 3_600 % 24) (p / 3_600 % 24) front.0 in
+    let minute = eqb-true (n / 60 % 60) (p / 60 % 60) front.1 in
+    let second = eqb-true (n % 60) (p % 60) clock.1 in
     let whole = whole_local n in
     let own = whole_local p in
     let same : n ≡ p = omega (arith, day, hour, minute, second, whole, own) in
@@ -84,8 +71,8 @@ span_low Minutely w p n h =
     let clock = and_parts _ _ parts.1 in
     let front = and_parts _ _ clock.0 in
     let day = one_day (p * 60) ((p + 1) * 60) n (omega arith) parts.0 in
-    let hour = same_fact (n / 3_600 % 24) (p * 60 / 3_600 % 24) front.0 in
-    let minute = same_fact (n / 60 % 60) (p * 60 / 60 % 60) front.1 in
+    let hour = eqb-true (n / 3_600 % 24) (p * 60 / 3_600 % 24) front.0 in
+    let minute = eqb-true (n / 60 % 60) (p * 60 / 60 % 60) front.1 in
     let whole = whole_minute n in
     let own = whole_minute (p * 60) in
     let same : n / 60 ≡ p = omega (arith, day, hour, minute, whole, own) in
@@ -95,7 +82,7 @@ span_low Hourly w p n h =
     let clock = and_parts _ _ parts.1 in
     let front = and_parts _ _ clock.0 in
     let day = one_day (p * 3_600) ((p + 1) * 3_600) n (omega arith) parts.0 in
-    let hour = same_fact (n / 3_600 % 24) (p * 3_600 / 3_600 % 24) front.0 in
+    let hour = eqb-true (n / 3_600 % 24) (p * 3_600 / 3_600 % 24) front.0 in
     let whole = whole_hour n in
     let own = whole_hour (p * 3_600) in
     let same : n / 3_600 ≡ p = omega (arith, day, hour, whole, own) in
@@ -115,15 +102,15 @@ span_high : (f : Frequency) (w p n : ℕ) → first_local f w p ≤ n → n < fi
 span_high Secondly w p n l h =
     let same : n ≡ p = omega arith in
     fixed (day_test p (p + 1) n) (n / 3_600 % 24 == p / 3_600 % 24) (n / 60 % 60 == p / 60 % 60) (n % 60 == p % 60)
-    (day_one p (p + 1) n (omega arith) (omega arith)) (same_true _ _ (ap (λ x. x / 3_600 % 24) same)) (same_true _ _ (ap (λ x. x / 60 % 60) same)) (same_true _ _ (ap (λ x. x % 60) same))
+    (day_one p (p + 1) n (omega arith) (omega arith)) (eq-eqb _ _ (ap (λ x. x / 3_600 % 24) same)) (eq-eqb _ _ (ap (λ x. x / 60 % 60) same)) (eq-eqb _ _ (ap (λ x. x % 60) same))
 span_high Minutely w p n l h =
     let same : n / 60 ≡ p = omega arith in
     fixed (day_test (p * 60) ((p + 1) * 60) n) (n / 3_600 % 24 == p * 60 / 3_600 % 24) (n / 60 % 60 == p * 60 / 60 % 60) true
-    (day_one (p * 60) ((p + 1) * 60) n (omega arith) (omega arith)) (same_true (n / 3_600 % 24) (p * 60 / 3_600 % 24) (omega arith)) (same_true (n / 60 % 60) (p * 60 / 60 % 60) (omega arith)) refl
+    (day_one (p * 60) ((p + 1) * 60) n (omega arith) (omega arith)) (eq-eqb (n / 3_600 % 24) (p * 60 / 3_600 % 24) (omega arith)) (eq-eqb (n / 60 % 60) (p * 60 / 60 % 60) (omega arith)) refl
 span_high Hourly w p n l h =
     let same : n / 3_600 ≡ p = omega arith in
     fixed (day_test (p * 3_600) ((p + 1) * 3_600) n) (n / 3_600 % 24 == p * 3_600 / 3_600 % 24) true true
-    (day_one (p * 3_600) ((p + 1) * 3_600) n (omega arith) (omega arith)) (same_true (n / 3_600 % 24) (p * 3_600 / 3_600 % 24) (omega arith)) refl refl
+    (day_one (p * 3_600) ((p + 1) * 3_600) n (omega arith) (omega arith)) (eq-eqb (n / 3_600 % 24) (p * 3_600 / 3_600 % 24) (omega arith)) refl refl
 span_high Daily w p n l h = free (day_test (p * 86_400) ((p + 1) * 86_400) n) (days_whole p (p + 1) n l h)
 span_high Weekly w p n l h = free (day_test ((7 * p - (12 - w)) * 86_400) ((7 * (p + 1) - (12 - w)) * 86_400) n) (days_whole (7 * p - (12 - w)) (7 * (p + 1) - (12 - w)) n l h)
 span_high Monthly w p n l h = free (day_test (month_start p * 86_400) (month_start (p + 1) * 86_400) n) (days_whole (month_start p) (month_start (p + 1)) n l h)
@@ -132,17 +119,14 @@ span_high Yearly w p n l h = free (day_test (days_before_year p * 86_400) (days_
 -- they say that a local lies in the period
 pub span_is : (f : Frequency) (w p n : ℕ) → span_test f (first_local f w p) (first_local f w (p + 1)) n ≡ (period f w n == p)
 span_is f w p n = iff (span_test f (first_local f w p) (first_local f w (p + 1)) n) (period f w n == p)
-    (λ h. let s = span_low f w p n h in let low = begins f w p n s.0 in same_true (period f w n) p (elim (by_order p (period f w n)) [
+    (λ h. let s = span_low f w p n h in let low = begins f w p n s.0 in eq-eqb (period f w n) p (elim (cases_lt p (period f w n)) [
       | inl more ↦ absurd (let late = begun f w (p + 1) n (omega arith) in omega (arith, late, s.1))
       | inr same ↦ omega (arith, low, same)
     ]))
-    (λ h. let e = same_fact (period f w n) p h in span_high f w p n (begun f w p n (omega (arith, e))) (elim (by_order n (first_local f w (p + 1))) [
+    (λ h. let e = eqb-true (period f w n) p h in span_high f w p n (begun f w p n (omega (arith, e))) (elim (cases_lt n (first_local f w (p + 1))) [
       | inl less ↦ less
       | inr more ↦ absurd (let late = begins f w (p + 1) n more in omega (arith, e, late))
     ]))
-  where
-    by_order : (a b : ℕ) → (a < b) ⊎ (b ≤ a)
-    by_order a b = grind arith
 
 rearranged : (le lt ld fh lh fm lm fs ls : Bool) → ((le && (lt && ld)) && (((fh && lh) && (fm && lm)) && (fs && ls))) ≡ (((le && lt) && (fh && fm && fs)) && (ld && (lh && lm && ls)))
 rearranged false lt ld fh lh fm lm fs ls = refl

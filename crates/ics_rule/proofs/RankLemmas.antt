@@ -1,14 +1,12 @@
 -- Members by their number, and the members at listed places.
-use Rattle.std.proofs.Common.{◌≡◌, ℕ, zero, suc, ◌+◌, ◌-◌, ◌*◌, ◌/◌, ◌%◌, ◌<◌, ◌≤◌, ◌⊎◌, inl, inr, Bool, true, false, cond, ◌&&◌, refl, sym, ap, ◌∙◌, arith}
+use Rattle.std.proofs.Common.{◌≡◌, ℕ, zero, suc, ◌+◌, ◌-◌, ◌*◌, ◌/◌, ◌%◌, ◌<◌, ◌≤◌, inl, inr, Bool, true, false, cond, ◌&&◌, refl, sym, ap, ◌∙◌, arith}
+use Rattle.std.proofs.lemmas.Bool.{and_from, and_right, cases_lt}
 use Rattle.std.proofs.lemmas.Nat.{div-add-mod'}
 use Rattle.std.proofs.Math.Nat.{mod-lt, mul-le-mul_right}
 use Rattle.ics_values.specs.Sets.{IsLeastFrom}
 use Rattle.ics_rule.specs.Kept.{count}
 use Rattle.ics_rule.specs.RecurrencePeriods.{IsNth}
-use Rattle.ics_rule.proofs.Counts.{count-suc, count-add, count-none, count_mono, count_one_more}
-
-by_order : (a b : ℕ) → (a < b) ⊎ (b ≤ a)
-by_order a b = grind arith
+use Rattle.ics_rule.proofs.Counts.{count-suc, count-add, count-none, count_mono, count_one_more, count_one}
 
 -- what no number between two passes counts alike up to both
 pub count_flat : (a b : ℕ) (test : ℕ → Bool) → a ≤ b → ((m : ℕ) → a ≤ m → m < b → test m ≡ false) → count b test ≡ count a test
@@ -32,12 +30,9 @@ module _ (test : ℕ → Bool) (place passed n : ℕ) (next : IsLeastFrom test p
       let one = count_one (test n) next.passes in
       let same = ap (λ x. count x test) (let e : suc n ≡ n + 1 = omega arith in e) in
       omega (arith, before_next, last, one, same)
-    where
-      count_one : (b : Bool) → b ≡ true → ◌≡◌ {A = ℕ} (cond b 1 0) 1
-      count_one b e = let f : Bool → ℕ = λ z. cond z 1 0 in ap f e
 
 pub nth_done : (test : ℕ → Bool) (place passed bound : ℕ) → ((m : ℕ) → place ≤ m → test m ≡ false) → passed ≡ count place test → count bound test ≤ passed
-nth_done test place passed bound none own = elim (by_order place bound) [
+nth_done test place passed bound none own = elim (cases_lt place bound) [
   | inl before ↦ let flat = count_flat place bound test (omega arith) (λ m l h. none m l) in omega (arith, own, flat)
   | inr past ↦ let low = count_mono bound place test past in omega (arith, own, low)
 ]
@@ -46,19 +41,12 @@ nth_done test place passed bound none own = elim (by_order place bound) [
 pub block_index : (k a s : ℕ) → k < a * s → (k / s < a) × (k % s < s)
 block_index k a zero h = absurd (omega (arith, h))
 block_index k a (suc s) h = let whole = div-add-mod' k (suc s) in (
-  elim (by_order (k / suc s) a) [
+  elim (cases_lt (k / suc s) a) [
     | inl less ↦ less
     | inr more ↦ absurd (let up = mul-le-mul_right {m = a} {n = k / suc s} (suc s) more in omega (arith, whole, up, h))
   ],
   mod-lt k (omega arith),
 )
-
-and_second : (a b : Bool) → b ≡ false → (a && b) ≡ false
-and_second true b h = h
-and_second false b h = refl
-
-and_both : (a b : Bool) → a ≡ true → b ≡ true → (a && b) ≡ true
-and_both a b p q = ap (λ x. x && b) p ∙ q
 
 -- how many members at listed places come before n
 pub count-ranked : (n : ℕ) (p listed : ℕ → Bool) → count n (λ m. p m && listed (count m p)) ≡ count (count n p) listed
@@ -77,8 +65,8 @@ module _ (p listed : ℕ → Bool) (n : ℕ) where
 
   pub next_ranked : (i m : ℕ) → IsLeastFrom listed (count n p) i → IsNth p i m → IsLeastFrom test n m
   next_ranked i m next nth = record {
-    passes = and_both (p m) (listed (count m p)) nth.passes (ap listed nth.before ∙ next.passes);
-    low = elim (by_order m n) [
+    passes = and_from (p m) (listed (count m p)) nth.passes (ap listed nth.before ∙ next.passes);
+    low = elim (cases_lt m n) [
       | inl before ↦ absurd (
           let more = count_one_more m m p (omega arith) nth.passes in
           let up = count_mono (suc m) n p before in
@@ -90,7 +78,7 @@ module _ (p listed : ℕ → Bool) (n : ℕ) where
     where
       one : (o : ℕ) → n ≤ o → o < m → (b : Bool) → p o ≡ b → (p o && listed (count o p)) ≡ false
       one o l h false e = ap (λ x. x && listed (count o p)) e
-      one o l h true e = and_second (p o) (listed (count o p)) (
+      one o l h true e = and_right (p o) (listed (count o p)) (
           let more = count_one_more o o p (omega arith) e in
           let up = count_mono (suc o) m p h in
           let low = count_mono n o p l in
@@ -102,7 +90,7 @@ module _ (p listed : ℕ → Bool) (n : ℕ) where
     where
       one : (b : Bool) → p m ≡ b → (p m && listed (count m p)) ≡ false
       one false e = ap (λ x. x && listed (count m p)) e
-      one true e = and_second (p m) (listed (count m p)) (elim (by_order m bound) [
+      one true e = and_right (p m) (listed (count m p)) (elim (cases_lt m bound) [
         | inl inside ↦
             let more = count_one_more m m p (omega arith) e in
             let up = count_mono (suc m) bound p inside in

@@ -1,5 +1,6 @@
 -- What a rule chooses repeats after a round of periods.
 use Rattle.std.proofs.Common.{◌≡◌, ℕ, zero, suc, ◌+◌, ◌-◌, ◌*◌, ◌/◌, ◌%◌, ◌<◌, ◌≤◌, Bool, true, false, ◌&&◌, ◌||◌, ◌==◌, nat_le, refl, sym, subst, ap, ◌∙◌, arith}
+use Rattle.std.proofs.lemmas.Bool.{eqb-true, false_from_ne_true, le-leb, or_left}
 use Rattle.std.proofs.lemmas.Bool.Decides.{nat_tests}
 use Rattle.std.proofs.lemmas.Nat.{div-add-mod'}
 use Rattle.std.proofs.Math.Nat.{add-mul-mod_self_right, mul_assoc, mul_comm, mul-le-mul_right, mod-lt}
@@ -20,8 +21,9 @@ use Rattle.ics_rule.specs.Rounds.{seconds_of, IsRound}
 use Rattle.ics_rule.proofs.Counts.{count-same, count-add, count-from}
 use Rattle.ics_rule.proofs.RankLemmas.{count_flat}
 use Rattle.ics_rule.proofs.PeriodLemmas.{begun, begins, is_short}
-use Rattle.ics_rule.proofs.DateLemmas.{absent_in, weekdays_alone}
+use Rattle.ics_rule.proofs.DateLemmas.{weekdays_alone}
 use Rattle.ics_values.specs.Locals.{calendar_end}
+use Rattle.ics_rule.proofs.Tests.{and_assoc, and_false, last_part, positive}
 
 -- under the frequencies whose periods last alike a weekday with a number stands for the weekday
 numbered_alike : (f : Frequency) (q : EffectiveRule) (p : Ordinals) (d e : ℕ) → 0 < seconds_of f → lets_numbered f q p d ≡ lets_numbered f q p e
@@ -56,7 +58,7 @@ clock_alike q n m h i s = ap (λ x. x && lets q.minutes (minute_of n) && lets q.
     ∙ ap (λ x. lets q.hours (hour_of m) && lets q.minutes (minute_of m) && x) s
 
 free : (s a b : ℕ) → is_empty s ≡ true → lets s a ≡ lets s b
-free s a b h = absent_in (is_empty s) (contains s a) h ∙ sym (absent_in (is_empty s) (contains s b) h)
+free s a b h = or_left (is_empty s) (contains s a) h ∙ sym (or_left (is_empty s) (contains s b) h)
 
 pub let_in_alike : (q : EffectiveRule) (n m : ℕ) → lets_date q (day_of n) ≡ lets_date q (day_of m) → lets_clock q n ≡ lets_clock q m → (lets_date q (day_of n) && lets_clock q n) ≡ (lets_date q (day_of m) && lets_clock q m)
 let_in_alike q n m d c = ap (λ x. x && lets_clock q n) d ∙ ap (λ x. lets_date q (day_of m) && x) c
@@ -117,12 +119,9 @@ repeats_often f low a on (suc j) n l = ap f (let same : n + suc j * a ≡ n + j 
 
 pub step_repeats : (i d first p : ℕ) → first ≤ p → is_stepped first i (p + i * d) ≡ is_stepped first i p
 step_repeats i d first p l =
-    let some : nat_le first (p + i * d) ≡ nat_le first p = yes first (p + i * d) (omega (arith, l)) ∙ sym (yes first p l) in
+    let some : nat_le first (p + i * d) ≡ nat_le first p = le-leb first (p + i * d) (omega (arith, l)) ∙ sym (le-leb first p l) in
     let rest : p + i * d - first ≡ p - first + d * i = (let swap = mul_comm i d in omega (arith, l, swap)) in
     ap (λ x. x && ((p + i * d - first) % i == 0)) some ∙ ap (λ x. nat_le first p && (x % i == 0)) rest ∙ ap (λ x. nat_le first p && (x == 0)) (add-mul-mod_self_right (p - first) d i)
-  where
-    yes : (a b : ℕ) → a ≤ b → nat_le a b ≡ true
-    yes a b h = grind (arith, nat_tests)
 
 pub round_is : (q : EffectiveRule) (seconds unit : ℕ) → unit ≡ seconds_of q.frequency → 0 < unit → seconds % unit ≡ 0 → 1 ≤ seconds → 1 ≤ q.interval
     → ((n : ℕ) → (lets_date q (day_of (n + seconds)) && lets_clock q (n + seconds)) ≡ (lets_date q (day_of n) && lets_clock q n))
@@ -139,11 +138,6 @@ round_is q seconds unit e fine whole some steps on = record {
     above : (d u s : ℕ) → d * u ≡ s → 1 ≤ s → 1 ≤ d
     above zero u s h l = absurd (omega (arith, h, l))
     above (suc d) u s h l = omega arith
-
-    positive : (a b : ℕ) → 1 ≤ a → 1 ≤ b → 1 ≤ a * b
-    positive (suc a) (suc b) h l = omega arith
-    positive zero b h l = absurd (omega (arith, h))
-    positive (suc a) zero h l = absurd (omega (arith, l))
 
 -- the same below a bound
 repeats_below : (f : ℕ → Bool) (low a top : ℕ) → ((n : ℕ) → low ≤ n → n + a < top → f (n + a) ≡ f n) → (j n : ℕ) → low ≤ n → n + j * a < top → f (n + j * a) ≡ f n
@@ -168,21 +162,6 @@ count_rounds f a s top on (suc j) h =
 shift_test : (a b k : ℕ) → (a + k == b + k) ≡ (a == b)
 shift_test a b k = grind (arith, nat_tests)
 
-same_fact : (a b : ℕ) → (a == b) ≡ true → a ≡ b
-same_fact a b h = grind (arith, nat_tests)
-
-and_false : (b : Bool) → (b && false) ≡ false
-and_false true = refl
-and_false false = refl
-
-not_true : (b : Bool) → (b ≡ true → ⊥) → b ≡ false
-not_true true never = absurd (never refl)
-not_true false never = refl
-
-last_part : (a b : Bool) → (a && b) ≡ true → b ≡ true
-last_part true b h = h
-last_part false b h = absurd (cc)
-
 module _ (q : EffectiveRule) (start periods seconds : ℕ) (round : IsRound q periods seconds) where
   candidate_on : (n : ℕ) → period_in q start ≤ period_in q n → is_candidate_in q start (n + seconds) ≡ is_candidate_in q start n
   candidate_on n l =
@@ -192,12 +171,8 @@ module _ (q : EffectiveRule) (start periods seconds : ℕ) (round : IsRound q pe
       ∙ ap (λ x. is_stepped (period_in q start) q.interval (period_in q n) && x) (round.let_in n)
       ∙ sym (grouped n)
     where
-      group : (a b c : Bool) → (a && b && c) ≡ (a && (b && c))
-      group true b c = refl
-      group false b c = refl
-
       grouped : (m : ℕ) → is_candidate_in q start m ≡ (is_stepped (period_in q start) q.interval (period_in q m) && (lets_date q (day_of m) && lets_clock q m))
-      grouped m = group (is_stepped (period_in q start) q.interval (period_in q m)) (lets_date q (day_of m)) (lets_clock q m)
+      grouped m = and_assoc (is_stepped (period_in q start) q.interval (period_in q m)) (lets_date q (day_of m)) (lets_clock q m)
 
   -- what stands beside a local, a round later
   beside_on : (n m : ℕ) → period_in q start ≤ period_in q n → is_beside q start (n + seconds) (m + seconds) ≡ is_beside q start n m
@@ -208,18 +183,18 @@ module _ (q : EffectiveRule) (start periods seconds : ℕ) (round : IsRound q pe
       ∙ by_period (period_in q m == period_in q n) refl
     where
       by_period : (b : Bool) → (period_in q m == period_in q n) ≡ b → (is_candidate_in q start (m + seconds) && period_in q m == period_in q n) ≡ (is_candidate_in q start m && period_in q m == period_in q n)
-      by_period true e = ap (λ x. x && period_in q m == period_in q n) (candidate_on m (let same = same_fact (period_in q m) (period_in q n) e in omega (arith, same, l)))
+      by_period true e = ap (λ x. x && period_in q m == period_in q n) (candidate_on m (let same = eqb-true (period_in q m) (period_in q n) e in omega (arith, same, l)))
       by_period false e = ap (λ x. is_candidate_in q start (m + seconds) && x) e ∙ and_false (is_candidate_in q start (m + seconds)) ∙ sym (ap (λ x. is_candidate_in q start m && x) e ∙ and_false (is_candidate_in q start m))
 
   beside_later : (n k : ℕ) → period_in q start ≤ period_in q n → is_beside q start (n + seconds) (seconds + k) ≡ is_beside q start n k
   beside_later n k l = ap (is_beside q start (n + seconds)) (let order : seconds + k ≡ k + seconds = omega arith in order) ∙ beside_on n k l
 
   beside_period : (n m : ℕ) → is_beside q start n m ≡ true → period_in q m ≡ period_in q n
-  beside_period n m h = same_fact (period_in q m) (period_in q n) (last_part (is_candidate_in q start m) (period_in q m == period_in q n) h)
+  beside_period n m h = eqb-true (period_in q m) (period_in q n) (last_part (is_candidate_in q start m) (period_in q m == period_in q n) h)
 
   -- no local of the first round lies beside it
   none_earlier : (n m : ℕ) → 2 ≤ period_in q n → m < seconds → is_beside q start (n + seconds) m ≡ false
-  none_earlier n m l h = not_true (is_beside q start (n + seconds) m) (λ here.
+  none_earlier n m l h = false_from_ne_true (is_beside q start (n + seconds) m) (λ here.
       let same = beside_period (n + seconds) m here in
       let later = round.period n in
       let first = round.first (period_in q n) l in
@@ -239,7 +214,7 @@ module _ (q : EffectiveRule) (start periods seconds : ℕ) (round : IsRound q pe
       ap (λ x. count x (is_beside q start (n + seconds))) whole
       ∙ count-from seconds (calendar_end - seconds) (is_beside q start (n + seconds)) (λ m h. none_earlier n m some h)
       ∙ count-same (calendar_end - seconds) (λ k. is_beside q start (n + seconds) (seconds + k)) (is_beside q start n) (λ k h. beside_later n k l)
-      ∙ sym (count_flat (calendar_end - seconds) calendar_end (is_beside q start n) (omega arith) (λ m h u. not_true (is_beside q start n m) (λ here.
+      ∙ sym (count_flat (calendar_end - seconds) calendar_end (is_beside q start n) (omega arith) (λ m h u. false_from_ne_true (is_beside q start n m) (λ here.
       let same = beside_period n m here in
       let one = round.period n in
       let other = round.period m in

@@ -1,5 +1,6 @@
 -- The days that are added to a set, of a run in which they have numbers.
 use Rattle.std.proofs.Common.{◌≡◌, ℕ, ◌+◌, ◌-◌, ◌*◌, ◌/◌, ◌^◌, ◌<◌, ◌≤◌, ◌⊎◌, inl, inr, Bool, true, false, not, ◌==◌, ◌||◌, ◌&&◌, nat_lt, nat_le, refl, sym, ap, ◌∙◌, arith}
+use Rattle.std.proofs.lemmas.Bool.{and_parts, and_right, cases_lt, eq-eqb, eqb-true, le-leb, le-ltb, lt-ltb}
 use Rattle.std.proofs.lemmas.Bool.Decides.{nat_tests}
 use Rattle.ics_values.specs.Sets.{contains, IsLeastFrom}
 use Rattle.ics_values.proofs.SetLemmas.{has_above}
@@ -10,31 +11,7 @@ use Rattle.ics_values.specs.Ordinals.{lists_none, numbers_of}
 use Rattle.ics_rule.specs.Candidates.{lists, lists_nth}
 use Rattle.ics_rule.specs.Runs.{has_run, weekday_in, lists_weekday}
 use Rattle.ics_rule.proofs.DateLemmas.{none_nth}
-
-by_order : (a b : ℕ) → (a < b) ⊎ (b ≤ a)
-by_order a b = grind arith
-
-three : (a b : ℕ) → (a < b) ⊎ ((a ≡ b) ⊎ (b < a))
-three a b = grind arith
-
-less : (a b : ℕ) → a < b → nat_lt a b ≡ true
-less a b h = grind (arith, nat_tests)
-
-not_less : (a b : ℕ) → b ≤ a → nat_lt a b ≡ false
-not_less a b h = grind (arith, nat_tests)
-
-same : (a b : ℕ) → a ≡ b → (a == b) ≡ true
-same a b h = grind (arith, nat_tests)
-
-above : (a b : ℕ) → b < a → (a == b) ≡ false
-above a b h = grind (arith, nat_tests)
-
-below : (a b : ℕ) → a < b → (a == b) ≡ false
-below a b h = grind (arith, nat_tests)
-
-or_false : (a : Bool) → (a || false) ≡ a
-or_false true = refl
-or_false false = refl
+use Rattle.ics_rule.proofs.Tests.{above, and_false, below, iff, or_false, or_swap, three}
 
 or_true : (a : Bool) → (a || true) ≡ true
 or_true true = refl
@@ -43,12 +20,12 @@ or_true false = refl
 -- the members found before a place, and the next
 pub next_found : (f : ℕ → Bool) (from k x : ℕ) → IsLeastFrom f from k → ((x == k) || (nat_lt x from && f x)) ≡ (nat_lt x (k + 1) && f x)
 next_found f from k x next = elim (three x k) [
-  | inl low ↦ rw (below x k low, less x (k + 1) (omega (arith, low))) (elim (by_order x from) [
-    | inl seen ↦ rw (less x from seen) refl
+  | inl low ↦ rw (below x k low, lt-ltb x (k + 1) (omega (arith, low))) (elim (cases_lt x from) [
+    | inl seen ↦ rw (lt-ltb x from seen) refl
     | inr new ↦ rw (next.least x new low) (none (nat_lt x from))
   ])
-  | inr (inl here) ↦ rw (same x k here, less x (k + 1) (omega (arith, here))) (sym (rw (← here) at next.passes))
-  | inr (inr high) ↦ rw (above x k high, not_less x (k + 1) (omega (arith, high)), not_less x from (omega (arith, high, next.low))) refl
+  | inr (inl here) ↦ rw (eq-eqb x k here, lt-ltb x (k + 1) (omega (arith, here))) (sym (rw (← here) at next.passes))
+  | inr (inr high) ↦ rw (above x k high, le-ltb x (k + 1) (omega (arith, high)), le-ltb x from (omega (arith, high, next.low))) refl
 ]
   where
     none : (a : Bool) → (false || (a && false)) ≡ (true && false)
@@ -57,34 +34,24 @@ next_found f from k x next = elim (three x k) [
 
 -- where none is left, all are found
 pub all_found : (f : ℕ → Bool) (from x : ℕ) → (from ≤ x → f x ≡ false) → (nat_lt x from && f x) ≡ f x
-all_found f from x none = elim (by_order x from) [
-  | inl seen ↦ rw (less x from seen) refl
-  | inr past ↦ rw (none past) (no (nat_lt x from))
+all_found f from x none = elim (cases_lt x from) [
+  | inl seen ↦ rw (lt-ltb x from seen) refl
+  | inr past ↦ rw (none past) (and_false (nat_lt x from))
 ]
-  where
-    no : (a : Bool) → (a && false) ≡ false
-    no true = refl
-    no false = refl
-
-or_swap : (a b c : Bool) → (b || (a || c)) ≡ (a || (b || c))
-or_swap true true c = refl
-or_swap true false c = refl
-or_swap false b c = refl
-
 -- at first those from the front alone
 pub listed_first : (s : ℕ) (back : ℕ → Bool) (size n k : ℕ) → 1 ≤ n → ((m : ℕ) → m < size + 1 → contains k m ≡ contains s m) → k < 2 ^ (size + 1)
     → contains k n ≡ (nat_le n size && (contains s n || (nat_lt (size + 1 - n) 1 && back (size + 1 - n))))
-listed_first s back size n k one members bound = elim (by_order size n) [
+listed_first s back size n k one members bound = elim (cases_lt size n) [
   | inl past ↦ let out : nat_le n size ≡ false = grind (arith, nat_tests) in rw out (has_above k (size + 1) n bound (omega (arith, past)))
   | inr inside ↦ let in_size : nat_le n size ≡ true = grind (arith, nat_tests) in
-      rw (in_size, not_less (size + 1 - n) 1 (omega (arith, inside))) (members n (omega (arith, inside)) ∙ sym (or_false (contains s n)))
+      rw (in_size, le-ltb (size + 1 - n) 1 (omega (arith, inside))) (members n (omega (arith, inside)) ∙ sym (or_false (contains s n)))
 ]
 
 -- the numbers that are listed from the end
 pub listed_more : (front back : ℕ → Bool) (size from k n : ℕ) (b : Bool) → 1 ≤ n → 1 ≤ k → k ≤ size → IsLeastFrom back from k
     → b ≡ (nat_le n size && (front n || (nat_lt (size + 1 - n) from && back (size + 1 - n))))
     → ((n == size + 1 - k) || b) ≡ (nat_le n size && (front n || (nat_lt (size + 1 - n) (k + 1) && back (size + 1 - n))))
-listed_more front back size from k n b one some most next e = elim (by_order size n) [
+listed_more front back size from k n b one some most next e = elim (cases_lt size n) [
   | inl past ↦
       let out : nat_le n size ≡ false = grind (arith, nat_tests) in
       rw (e, out, above n (size + 1 - k) (omega (arith, past, some))) refl
@@ -99,10 +66,6 @@ pub listed_done : (front back : ℕ → Bool) (size from n : ℕ) (b : Bool) →
     → b ≡ (nat_le n size && (front n || back (size + 1 - n)))
 listed_done front back size from n b one none e =
     e ∙ ap (λ x. nat_le n size && (front n || x)) (all_found back from (size + 1 - n) (λ h. none (size + 1 - n) h (omega (arith, one))))
-
-none_second : (a b : Bool) → b ≡ false → (a && b) ≡ false
-none_second true b h = h
-none_second false b h = refl
 
 -- the days of a run on a weekday, seven by seven
 module _ (r : Run) (d p m : ℕ) (a b : Bool) (own : weekday_in r p ≡ d) where
@@ -121,10 +84,10 @@ module _ (r : Run) (d p m : ℕ) (a b : Bool) (own : weekday_in r p ≡ d) where
   ]
 
   seven : (i : ℕ) → (i < p) ⊎ (p < i) → day_test p i ≡ day_test (p + 7) i
-  seven i (inl low) = rw (less i p low, less i (p + 7) (omega (arith, low))) refl
-  seven i (inr high) = elim (by_order i (p + 7)) [
-    | inl near ↦ none_second (nat_lt i p) (weekday_in r i == d) (between i high near) ∙ sym (none_second (nat_lt i (p + 7)) (weekday_in r i == d) (between i high near))
-    | inr far ↦ rw (not_less i p (omega (arith, high)), not_less i (p + 7) far) refl
+  seven i (inl low) = rw (lt-ltb i p low, lt-ltb i (p + 7) (omega (arith, low))) refl
+  seven i (inr high) = elim (cases_lt i (p + 7)) [
+    | inl near ↦ and_right (nat_lt i p) (weekday_in r i == d) (between i high near) ∙ sym (and_right (nat_lt i (p + 7)) (weekday_in r i == d) (between i high near))
+    | inr far ↦ rw (le-ltb i p (omega (arith, high)), le-ltb i (p + 7) far) refl
   ]
 
   others : (m < r.start) ⊎ ((m - r.start < p) ⊎ (p < m - r.start)) → found p ≡ found (p + 7)
@@ -133,19 +96,19 @@ module _ (r : Run) (d p m : ℕ) (a b : Bool) (own : weekday_in r p ≡ d) where
 
   pub weekday_added : p < r.len → b ≡ found p → ((m == r.start + p) || b) ≡ found (p + 7)
   weekday_added inside e = elim (three m (r.start + p)) [
-    | inl low ↦ rw (below m (r.start + p) low) (e ∙ others (elim (by_order m r.start) [ inl out ↦ inl out | inr in_run ↦ inr (inl (omega (arith, low, in_run))) ]))
+    | inl low ↦ rw (below m (r.start + p) low) (e ∙ others (elim (cases_lt m r.start) [ inl out ↦ inl out | inr in_run ↦ inr (inl (omega (arith, low, in_run))) ]))
     | inr (inl here) ↦
         let begun : nat_le r.start m ≡ true = grind (arith, nat_tests) in
         let place : m - r.start ≡ p = omega (arith, here) in
-        rw (same m (r.start + p) here, begun, place, less p r.len inside, less p (p + 7) (omega arith), same (weekday_in r p) d own) (sym (or_true a))
+        rw (eq-eqb m (r.start + p) here, begun, place, lt-ltb p r.len inside, lt-ltb p (p + 7) (omega arith), eq-eqb (weekday_in r p) d own) (sym (or_true a))
     | inr (inr high) ↦ rw (above m (r.start + p) high) (e ∙ others (inr (inr (omega (arith, high)))))
   ]
 
   -- no day of the run comes before the first on the weekday
   pub weekday_first : p < 7 → (a ≡ found p)
-  weekday_first h = or_none (has_run r m) (elim (by_order (m - r.start) p) [
-    | inl low ↦ none_second (nat_lt (m - r.start) p) (weekday_in r (m - r.start) == d) (early (m - r.start) low)
-    | inr past ↦ rw (not_less (m - r.start) p past) refl
+  weekday_first h = or_none (has_run r m) (elim (cases_lt (m - r.start) p) [
+    | inl low ↦ and_right (nat_lt (m - r.start) p) (weekday_in r (m - r.start) == d) (early (m - r.start) low)
+    | inr past ↦ rw (le-ltb (m - r.start) p past) refl
   ])
     where
       early : (i : ℕ) → i < p → (weekday_in r i == d) ≡ false
@@ -161,30 +124,18 @@ module _ (r : Run) (d p m : ℕ) (a b : Bool) (own : weekday_in r p ≡ d) where
 
   -- where the place is past the run, each day of it was seen
   pub weekday_done : r.len ≤ p → b ≡ found p → b ≡ (a || (has_run r m && (weekday_in r (m - r.start) == d)))
-  weekday_done h e = e ∙ ap (λ x. a || x) (elim (by_order (m - r.start) r.len) [
-    | inl inside ↦ rw (less (m - r.start) p (omega (arith, inside, h))) refl
-    | inr past ↦ rw (not_less (m - r.start) r.len past) (out (nat_le r.start m) _ _)
+  weekday_done h e = e ∙ ap (λ x. a || x) (elim (cases_lt (m - r.start) r.len) [
+    | inl inside ↦ rw (lt-ltb (m - r.start) p (omega (arith, inside, h))) refl
+    | inr past ↦ rw (le-ltb (m - r.start) r.len past) (out (nat_le r.start m) _ _)
   ])
     where
       out : (x y z : Bool) → (x && false && y) ≡ (x && false && z)
       out true y z = refl
       out false y z = refl
 
-guard_parts : (a b : Bool) → (a && b) ≡ true → (a ≡ true) × (b ≡ true)
-guard_parts true b h = (refl, h)
-guard_parts false b h = absurd (cc)
-
 pub guard : (a b c : Bool) → (a ≡ true → b ≡ c) → (a && b) ≡ (a && c)
 guard true b c h = h refl
 guard false b c h = refl
-
-iff : (a b : Bool) → (a ≡ true → b ≡ true) → (b ≡ true → a ≡ true) → a ≡ b
-iff true b p q = sym (p refl)
-iff false true p q = q refl
-iff false false p q = refl
-
-same_fact : (a b : ℕ) → (a == b) ≡ true → a ≡ b
-same_fact a b h = grind (arith, nat_tests)
 
 pub run_facts : (r : Run) (k : ℕ) → has_run r k ≡ true → (r.start ≤ k) × (k - r.start < r.len)
 run_facts r k h = grind (arith, nat_tests)
@@ -199,15 +150,15 @@ module _ (r : Run) (listed : ℕ → Bool) (d p from m : ℕ) (a b : Bool) (own 
 
   number_place : (n : ℕ) → 1 ≤ n → p + 7 * (n - 1) < r.len → (m == r.start + (p + 7 * (n - 1))) ≡ (has_run r m && ((weekday_in r (m - r.start) == d) && ((m - r.start) / 7 + 1 == n)))
   number_place n some inside = iff (m == r.start + (p + 7 * (n - 1))) _
-      (λ h. let here = same_fact m (r.start + (p + 7 * (n - 1))) h in
-      rw (run_shown r m (omega (arith, here)) (omega (arith, here, inside)), same (weekday_in r (m - r.start)) d (omega (arith, here, own)), same ((m - r.start) / 7 + 1) n (omega (arith, here, early, some))) refl)
+      (λ h. let here = eqb-true m (r.start + (p + 7 * (n - 1))) h in
+      rw (run_shown r m (omega (arith, here)) (omega (arith, here, inside)), eq-eqb (weekday_in r (m - r.start)) d (omega (arith, here, own)), eq-eqb ((m - r.start) / 7 + 1) n (omega (arith, here, early, some))) refl)
       (λ h.
-      let run = guard_parts (has_run r m) _ h in
-      let day = guard_parts (weekday_in r (m - r.start) == d) _ run.1 in
+      let run = and_parts (has_run r m) _ h in
+      let day = and_parts (weekday_in r (m - r.start) == d) _ run.1 in
       let there = run_facts r m run.0 in
-      let weekday = same_fact (weekday_in r (m - r.start)) d day.0 in
-      let number = same_fact ((m - r.start) / 7 + 1) n day.1 in
-      same m (r.start + (p + 7 * (n - 1))) (omega (arith, there.0, weekday, number, own, early)))
+      let weekday = eqb-true (weekday_in r (m - r.start)) d day.0 in
+      let number = eqb-true ((m - r.start) / 7 + 1) n day.1 in
+      eq-eqb m (r.start + (p + 7 * (n - 1))) (omega (arith, there.0, weekday, number, own, early)))
 
   pub number_added : (n : ℕ) → 1 ≤ n → p + 7 * (n - 1) < r.len → IsLeastFrom listed from n → b ≡ number_found from → ((m == r.start + (p + 7 * (n - 1))) || b) ≡ number_found (n + 1)
   number_added n some inside next e =
@@ -223,24 +174,20 @@ module _ (r : Run) (listed : ℕ → Bool) (d p from m : ℕ) (a b : Bool) (own 
       merge false w s t z = refl
 
   pub number_none : a ≡ number_found 1
-  number_none = sym (ap (λ y. a || y) (none_second (has_run r m) _ (none_second (weekday_in r (m - r.start) == d) _ (ap (λ y. y && listed ((m - r.start) / 7 + 1)) (not_less ((m - r.start) / 7 + 1) 1 (omega arith))))) ∙ or_false a)
+  number_none = sym (ap (λ y. a || y) (and_right (has_run r m) _ (and_right (weekday_in r (m - r.start) == d) _ (ap (λ y. y && listed ((m - r.start) / 7 + 1)) (le-ltb ((m - r.start) / 7 + 1) 1 (omega arith))))) ∙ or_false a)
 
   pub number_done : (q : Ordinals) (count : ℕ) → count ≡ (r.len - 1 - p) / 7 + 1 → p < r.len → ((n : ℕ) → from ≤ n → listed n ≡ false) → ((n : ℕ) → 1 ≤ n → listed n ≡ (nat_le n count && lists q n count))
       → b ≡ number_found from → b ≡ (a || (has_run r m && ((weekday_in r (m - r.start) == d) && lists_nth q (m - r.start + 1) r.len)))
   number_done q count size some none is e = e ∙ ap (λ y. a || y) (guard (has_run r m) _ _ (λ h. guard (weekday_in r (m - r.start) == d) _ _ (λ g.
       let there = run_facts r m h in
-      let weekday = same_fact (weekday_in r (m - r.start)) d g in
-      let in_count : nat_le ((m - r.start) / 7 + 1) count ≡ true = shown ((m - r.start) / 7 + 1) count (omega (arith, size, there.1, weekday, own, early)) in
+      let weekday = eqb-true (weekday_in r (m - r.start)) d g in
+      let in_count : nat_le ((m - r.start) / 7 + 1) count ≡ true = le-leb ((m - r.start) / 7 + 1) count (omega (arith, size, there.1, weekday, own, early)) in
       let front : (m - r.start) / 7 + 1 ≡ (m - r.start + 1 - 1) / 7 + 1 = omega arith in
       let back : count + 1 - ((m - r.start) / 7 + 1) ≡ (r.len - (m - r.start + 1)) / 7 + 1 = omega (arith, size, there.1, weekday, own, early) in
       all_found listed from ((m - r.start) / 7 + 1) (none ((m - r.start) / 7 + 1)) ∙ is ((m - r.start) / 7 + 1) (omega arith)
       ∙ ap (λ y. y && lists q ((m - r.start) / 7 + 1) count) in_count
       ∙ ap (λ n. contains q.front n || contains q.back (count + 1 - ((m - r.start) / 7 + 1))) front
       ∙ ap (λ n. contains q.front ((m - r.start + 1 - 1) / 7 + 1) || contains q.back n) back)))
-    where
-      shown : (n size : ℕ) → n ≤ size → nat_le n size ≡ true
-      shown n size h = grind (arith, nat_tests)
-
 -- a weekday without a number has any
 pub each_listed : (a x w plain n new : Bool) → plain ≡ true → new ≡ (a || (x && w)) → new ≡ (a || (x && (w && (plain || n))))
 each_listed a x w plain n new h e = e ∙ rw h (ap (λ y. a || (x && y)) (and_true w))
@@ -256,9 +203,9 @@ numbered_listed a x w plain n new h e = rw h e
 pub weekdays_more : (listed : ℕ → Bool) (w d : ℕ) (a x b new : Bool) → new ≡ (b || (x && ((w == d) && listed d)))
     → b ≡ (a || (x && (nat_lt w d && listed w))) → new ≡ (a || (x && (nat_lt w (d + 1) && listed w)))
 weekdays_more listed w d a x b new e h = elim (three w d) [
-  | inl low ↦ e ∙ rw (h, below w d low, less w d low, less w (d + 1) (omega (arith, low))) (again a x (listed w))
-  | inr (inl here) ↦ e ∙ rw (h, here, same d d refl, less d (d + 1) (omega arith), not_less d d (omega arith)) (once a x (listed d))
-  | inr (inr high) ↦ e ∙ rw (h, above w d high, not_less w d (omega (arith, high)), not_less w (d + 1) (omega (arith, high))) (never a x)
+  | inl low ↦ e ∙ rw (h, below w d low, lt-ltb w d low, lt-ltb w (d + 1) (omega (arith, low))) (again a x (listed w))
+  | inr (inl here) ↦ e ∙ rw (h, here, eq-eqb d d refl, lt-ltb d (d + 1) (omega arith), le-ltb d d (omega arith)) (once a x (listed d))
+  | inr (inr high) ↦ e ∙ rw (h, above w d high, le-ltb w d (omega (arith, high)), le-ltb w (d + 1) (omega (arith, high))) (never a x)
 ]
   where
     again : (a x y : Bool) → ((a || (x && y)) || (x && false)) ≡ (a || (x && y))
@@ -278,16 +225,16 @@ weekdays_more listed w d a x b new e h = elim (three w d) [
 
 pub weekdays_jump : (listed : ℕ → Bool) (w from d : ℕ) (a x b : Bool) → from ≤ d → (from ≤ w → w < d → listed w ≡ false)
     → b ≡ (a || (x && (nat_lt w from && listed w))) → b ≡ (a || (x && (nat_lt w d && listed w)))
-weekdays_jump listed w from d a x b up none e = e ∙ ap (λ y. a || (x && y)) (elim (by_order w from) [
-  | inl low ↦ rw (less w from low, less w d (omega (arith, low, up))) refl
-  | inr high ↦ elim (by_order w d) [
-    | inl inside ↦ rw (not_less w from high, less w d inside, none high inside) refl
-    | inr past ↦ rw (not_less w from high, not_less w d past) refl
+weekdays_jump listed w from d a x b up none e = e ∙ ap (λ y. a || (x && y)) (elim (cases_lt w from) [
+  | inl low ↦ rw (lt-ltb w from low, lt-ltb w d (omega (arith, low, up))) refl
+  | inr high ↦ elim (cases_lt w d) [
+    | inl inside ↦ rw (le-ltb w from high, lt-ltb w d inside, none high inside) refl
+    | inr past ↦ rw (le-ltb w from high, le-ltb w d past) refl
   ]
 ])
 
 pub weekdays_none : (listed : ℕ → Bool) (w : ℕ) (a x : Bool) → a ≡ (a || (x && (nat_lt w 0 && listed w)))
-weekdays_none listed w a x = rw (not_less w 0 (omega arith)) (nothing a x)
+weekdays_none listed w a x = rw (le-ltb w 0 (omega arith)) (nothing a x)
   where
     nothing : (a x : Bool) → a ≡ (a || (x && false))
     nothing true x = refl
@@ -310,7 +257,7 @@ module _ (r : Run) (listed : ℕ → Bool) (from m : ℕ) (a b : Bool) where
   day_found k = a || (has_run r m && (nat_lt (m - r.start + 1) k && listed (m - r.start + 1)))
 
   pub day_added : (n : ℕ) → 1 ≤ n → n ≤ r.len → IsLeastFrom listed from n → b ≡ day_found from → ((m == r.start + n - 1) || b) ≡ day_found (n + 1)
-  day_added n some most next e = elim (by_order m r.start) [
+  day_added n some most next e = elim (cases_lt m r.start) [
     | inl out ↦ let before : nat_le r.start m ≡ false = grind (arith, nat_tests) in
         rw (below m (r.start + n - 1) (omega (arith, out, some)), e, before) refl
     | inr inside ↦
@@ -318,7 +265,7 @@ module _ (r : Run) (listed : ℕ → Bool) (from m : ℕ) (a b : Bool) where
         let place : (m == r.start + n - 1) ≡ (m - r.start + 1 == n) = grind (arith, nat_tests) in
         rw (place, e, begun) (elim (three (m - r.start + 1) n) [
           | inl low ↦ rw (below (m - r.start + 1) n low) (ap (λ x. a || ((true && nat_lt (m - r.start) r.len) && x)) (low_step low))
-          | inr (inl here) ↦ rw (same (m - r.start + 1) n here, less (m - r.start) r.len (omega (arith, here, most)), less (m - r.start + 1) (n + 1) (omega (arith, here)), ap listed here ∙ next.passes) (sym (or_true a))
+          | inr (inl here) ↦ rw (eq-eqb (m - r.start + 1) n here, lt-ltb (m - r.start) r.len (omega (arith, here, most)), lt-ltb (m - r.start + 1) (n + 1) (omega (arith, here)), ap listed here ∙ next.passes) (sym (or_true a))
           | inr (inr high) ↦ rw (above (m - r.start + 1) n high) (ap (λ x. a || ((true && nat_lt (m - r.start) r.len) && x)) (high_step high))
         ])
   ]
@@ -330,7 +277,7 @@ module _ (r : Run) (listed : ℕ → Bool) (from m : ℕ) (a b : Bool) where
       high_step high = ap (λ x. x || (nat_lt (m - r.start + 1) from && listed (m - r.start + 1))) (sym (above (m - r.start + 1) n high)) ∙ next_found listed from n (m - r.start + 1) next
 
   pub day_none : a ≡ day_found 1
-  day_none = rw (not_less (m - r.start + 1) 1 (omega arith)) (nothing a (has_run r m))
+  day_none = rw (le-ltb (m - r.start + 1) 1 (omega arith)) (nothing a (has_run r m))
     where
       nothing : (a x : Bool) → a ≡ (a || (x && false))
       nothing true x = refl
@@ -339,11 +286,11 @@ module _ (r : Run) (listed : ℕ → Bool) (from m : ℕ) (a b : Bool) where
 
   pub day_done : (lists : ℕ → Bool) → ((n : ℕ) → from ≤ n → listed n ≡ false) → ((n : ℕ) → 1 ≤ n → listed n ≡ (nat_le n r.len && lists n)) → b ≡ day_found from
       → b ≡ (a || (has_run r m && lists (m - r.start + 1)))
-  day_done lists none is e = e ∙ ap (λ x. a || x) (ap (λ x. has_run r m && x) (all_found listed from (m - r.start + 1) (none (m - r.start + 1)) ∙ is (m - r.start + 1) (omega arith)) ∙ within (by_order (m - r.start) r.len))
+  day_done lists none is e = e ∙ ap (λ x. a || x) (ap (λ x. has_run r m && x) (all_found listed from (m - r.start + 1) (none (m - r.start + 1)) ∙ is (m - r.start + 1) (omega arith)) ∙ within (cases_lt (m - r.start) r.len))
     where
       within : (m - r.start < r.len) ⊎ (r.len ≤ m - r.start) → (has_run r m && (nat_le (m - r.start + 1) r.len && lists (m - r.start + 1))) ≡ (has_run r m && lists (m - r.start + 1))
       within (inl inside) = let in_len : nat_le (m - r.start + 1) r.len ≡ true = grind (arith, nat_tests) in rw in_len refl
-      within (inr past) = rw (not_less (m - r.start) r.len past) (out (nat_le r.start m) _ _)
+      within (inr past) = rw (le-ltb (m - r.start) r.len past) (out (nat_le r.start m) _ _)
         where
           out : (x y z : Bool) → ((x && false) && y) ≡ ((x && false) && z)
           out true y z = refl
@@ -351,7 +298,7 @@ module _ (r : Run) (listed : ℕ → Bool) (from m : ℕ) (a b : Bool) where
 
 -- a listed number is one of so many
 pub listed_within : (n size : ℕ) (b : Bool) → (nat_le n size && b) ≡ true → n ≤ size
-listed_within n size b h = elim (by_order size n) [
+listed_within n size b h = elim (cases_lt size n) [
   | inl past ↦ absurd (let out : nat_le n size ≡ false = grind (arith, nat_tests) in let h' = rw out at h in cc)
   | inr inside ↦ inside
 ]

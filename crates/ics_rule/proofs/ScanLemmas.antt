@@ -1,5 +1,6 @@
 -- The next number that passes a test of its part / k and a test of its part % k.
 use Rattle.std.proofs.Common.{◌≡◌, ℕ, zero, suc, ◌+◌, ◌-◌, ◌*◌, ◌/◌, ◌%◌, ◌^◌, ◌<◌, ◌≤◌, ◌⊎◌, inl, inr, ◌≢◌, Bool, true, false, ◌==◌, ◌||◌, ◌&&◌, nat_lt, nat_le, min, get_or, pos, refl, sym, subst, ap, ◌∙◌, arith}
+use Rattle.std.proofs.lemmas.Bool.{and_from, and_left, and_parts, and_right, cases_eq, cases_lt, ne_eqb}
 use Rattle.std.proofs.lemmas.Bool.Decides.{nat_tests}
 use Rattle.std.proofs.lemmas.List.{get_or_past}
 use Rattle.std.proofs.lemmas.Nat.{div-mul-add, mod-mul-add, div-add-mod', le-div}
@@ -11,16 +12,7 @@ use Rattle.ics_values.proofs.SetLemmas.{member_below}
 use Rattle.ics_rule.specs.declared.recurrence_period.RecurrencePeriod.{RecurrencePeriod}
 use Rattle.ics_rule.specs.RecurrencePeriods.{has_minute, has_time, has_day}
 use Rattle.ics_values.specs.Sets.{contains, contains_wide, none_wide, only, IsLeastFrom}
-
-and_first : (a b : Bool) → a ≡ false → (a && b) ≡ false
-and_first a b h = ap (λ x. x && b) h
-
-and_second : (a b : Bool) → b ≡ false → (a && b) ≡ false
-and_second true b h = h
-and_second false b h = refl
-
-and_both : (a b : Bool) → a ≡ true → b ≡ true → (a && b) ≡ true
-and_both a b p q = ap (λ x. x && b) p ∙ q
+use Rattle.ics_rule.proofs.Tests.{self_test}
 
 three : (a b : ℕ) → a ≤ b → (a ≡ b) ⊎ (a + 1 ≤ b)
 three a b h = grind arith
@@ -45,11 +37,11 @@ module _ (k : ℕ) (some : 0 < k) where
     pub next_here : (x lo : ℕ) → A (x / k) ≡ true → IsLeastFrom B (x % k) lo → IsLeastFrom (λ n. A (n / k) && B (n % k)) x (x / k * k + lo)
     next_here x lo a next =
         let l = small lo next.passes in record {
-          passes = ap (λ z. A z && B ((x / k * k + lo) % k)) (div-mul-add (x / k) k lo l) ∙ ap (λ z. A (x / k) && B z) (mod-mul-add (x / k) k lo l) ∙ and_both (A (x / k)) (B lo) a next.passes;
+          passes = ap (λ z. A z && B ((x / k * k + lo) % k)) (div-mul-add (x / k) k lo l) ∙ ap (λ z. A (x / k) && B z) (mod-mul-add (x / k) k lo l) ∙ and_from (A (x / k)) (B lo) a next.passes;
           low = let whole = div-add-mod' x k in omega (arith, whole, next.low);
           least = λ m low high. elim (before_block m (x / k) lo l high) [
             | inl less ↦ absurd (let up : x / k ≤ m / k = div_mono x m low in omega (arith, up, less))
-            | inr same ↦ and_second (A (m / k)) (B (m % k)) (next.least (m % k) (same_block x m same.0 low) same.1)
+            | inr same ↦ and_right (A (m / k)) (B (m % k)) (next.least (m % k) (same_block x m same.0 low) same.1)
           ];
         }
 
@@ -57,14 +49,14 @@ module _ (k : ℕ) (some : 0 < k) where
     pub next_later : (x hi lo : ℕ) → ((m : ℕ) → x ≤ m → m / k ≡ x / k → (A (m / k) && B (m % k)) ≡ false) → IsLeastFrom A (x / k + 1) hi → IsLeastFrom B 0 lo → IsLeastFrom (λ n. A (n / k) && B (n % k)) x (hi * k + lo)
     next_later x hi lo none next first =
         let l = small lo first.passes in record {
-          passes = ap (λ z. A z && B ((hi * k + lo) % k)) (div-mul-add hi k lo l) ∙ ap (λ z. A hi && B z) (mod-mul-add hi k lo l) ∙ and_both (A hi) (B lo) next.passes first.passes;
+          passes = ap (λ z. A z && B ((hi * k + lo) % k)) (div-mul-add hi k lo l) ∙ ap (λ z. A hi && B z) (mod-mul-add hi k lo l) ∙ and_from (A hi) (B lo) next.passes first.passes;
           low = let whole = div-add-mod' x k in let rest : x % k < k = mod-lt x some in let up : (x / k + 1) * k ≤ hi * k = mul-le-mul_right k next.low in
               let apart : (x / k + 1) * k ≡ x / k * k + k = omega arith in omega (arith, whole, rest, up, apart);
           least = λ m low high. let up : x / k ≤ m / k = div_mono x m low in elim (three (x / k) (m / k) up) [
             | inl same ↦ none m low (sym same)
             | inr later ↦ elim (before_block m hi lo l high) [
-              | inl less ↦ and_first (A (m / k)) (B (m % k)) (next.least (m / k) later less)
-              | inr here ↦ and_second (A (m / k)) (B (m % k)) (first.least (m % k) (omega arith) here.1)
+              | inl less ↦ and_left (A (m / k)) (B (m % k)) (next.least (m / k) later less)
+              | inr here ↦ and_right (A (m / k)) (B (m % k)) (first.least (m % k) (omega arith) here.1)
             ]
           ];
         }
@@ -73,22 +65,19 @@ module _ (k : ℕ) (some : 0 < k) where
     pub none_later : (x : ℕ) → ((m : ℕ) → x ≤ m → m / k ≡ x / k → (A (m / k) && B (m % k)) ≡ false) → ((m : ℕ) → x / k + 1 ≤ m → A m ≡ false) → (m : ℕ) → x ≤ m → (A (m / k) && B (m % k)) ≡ false
     none_later x none rest m low = let up : x / k ≤ m / k = div_mono x m low in elim (three (x / k) (m / k) up) [
       | inl same ↦ none m low (sym same)
-      | inr later ↦ and_first (A (m / k)) (B (m % k)) (rest (m / k) later)
+      | inr later ↦ and_left (A (m / k)) (B (m % k)) (rest (m / k) later)
     ]
 
     -- what is left where the block of the place is done
     pub block_out : (x : ℕ) → A (x / k) ≡ false → (m : ℕ) → x ≤ m → m / k ≡ x / k → (A (m / k) && B (m % k)) ≡ false
-    block_out x a m low same = and_first (A (m / k)) (B (m % k)) (ap A same ∙ a)
+    block_out x a m low same = and_left (A (m / k)) (B (m % k)) (ap A same ∙ a)
 
     pub block_done : (x : ℕ) → ((m : ℕ) → x % k ≤ m → B m ≡ false) → (m : ℕ) → x ≤ m → m / k ≡ x / k → (A (m / k) && B (m % k)) ≡ false
-    block_done x b m low same = and_second (A (m / k)) (B (m % k)) (b (m % k) (same_block x m same low))
+    block_done x b m low same = and_right (A (m / k)) (B (m % k)) (b (m % k) (same_block x m same low))
 
 -- the set of one number, and the empty set
-same_or_not : (m n : ℕ) → (m ≡ n) ⊎ (m ≢ n)
-same_or_not m n = grind (arith, nat_tests)
-
 pub contains-only : (h m : ℕ) → contains (only h) m ≡ (m == h)
-contains-only h m = elim (same_or_not m h) [
+contains-only h m = elim (cases_eq m h) [
   | inl same ↦ rw same (ap (λ x. x == 1) (bit_at-pow_same h) ∙ self h)
   | inr other ↦ ap (λ x. x == 1) (bit_at-pow_other h m other) ∙ apart m h other
 ]
@@ -100,9 +89,9 @@ contains-only h m = elim (same_or_not m h) [
     apart m h o = grind (arith, nat_tests)
 
 pub own_only : (f : ℕ → Bool) (own m : ℕ) → f own ≡ true → (m == own) ≡ ((m == own) && f m)
-own_only f own m h = elim (same_or_not m own) [
+own_only f own m h = elim (cases_eq m own) [
   | inl same ↦ rw same (one (own == own) (f own) h)
-  | inr other ↦ two (m == own) (f m) (apart m own other)
+  | inr other ↦ two (m == own) (f m) (ne_eqb m own other)
 ]
   where
     one : (a b : Bool) → b ≡ true → a ≡ (a && b)
@@ -112,9 +101,6 @@ own_only f own m h = elim (same_or_not m own) [
     two : (a b : Bool) → a ≡ false → a ≡ (a && b)
     two true b h = absurd (cc)
     two false b h = refl
-
-    apart : (m h : ℕ) → m ≢ h → (m == h) ≡ false
-    apart m h o = grind (arith, nat_tests)
 
 -- no number is a member of the empty set
 none_get : (i : ℕ) → get_or none_wide i 0 ≡ 0
@@ -127,23 +113,17 @@ none_get (suc (suc (suc (suc (suc zero))))) = refl
 none_get (suc (suc (suc (suc (suc (suc i)))))) = get_or_past none_wide (suc (suc (suc (suc (suc (suc i)))))) 0 (omega arith)
 
 pub none_has : (m : ℕ) → contains_wide none_wide m ≡ false
-none_has m = and_second (nat_lt m 384) (contains (get_or none_wide (m / 64) 0) (m % 64)) (ap (λ x. contains x (m % 64)) (none_get (m / 64)) ∙ ap (λ x. x == 1) (bit_at-zero (m % 64)))
+none_has m = and_right (nat_lt m 384) (contains (get_or none_wide (m / 64) 0) (m % 64)) (ap (λ x. contains x (m % 64)) (none_get (m / 64)) ∙ ap (λ x. x == 1) (bit_at-zero (m % 64)))
 
 -- the test of one number more
 pub one_more : (f : ℕ → Bool) (k m : ℕ) (b : Bool) → f k ≡ true → b ≡ (nat_lt m k && f m) → ((m == k) || b) ≡ (nat_lt m (k + 1) && f m)
-one_more f k m b h e = elim (same_or_not m k) [
-  | inl same ↦ ap (λ x. (m == k) || x) e ∙ subst (λ x. ((x == k) || (nat_lt x k && f x)) ≡ (nat_lt x (k + 1) && f x)) (sym same) (here (k == k) (nat_lt k k) (nat_lt k (k + 1)) (f k) (refl_test k) (next_test k) h)
-  | inr other ↦ ap (λ x. (m == k) || x) e ∙ (there (m == k) (nat_lt m k) (nat_lt m (k + 1)) (f m) (apart m k other) (grow m k other))
+one_more f k m b h e = elim (cases_eq m k) [
+  | inl same ↦ ap (λ x. (m == k) || x) e ∙ subst (λ x. ((x == k) || (nat_lt x k && f x)) ≡ (nat_lt x (k + 1) && f x)) (sym same) (here (k == k) (nat_lt k k) (nat_lt k (k + 1)) (f k) (self_test k) (next_test k) h)
+  | inr other ↦ ap (λ x. (m == k) || x) e ∙ (there (m == k) (nat_lt m k) (nat_lt m (k + 1)) (f m) (ne_eqb m k other) (grow m k other))
 ]
   where
-    refl_test : (k : ℕ) → (k == k) ≡ true
-    refl_test k = grind (arith, nat_tests)
-
     next_test : (k : ℕ) → nat_lt k (k + 1) ≡ true
     next_test k = grind (arith, nat_tests)
-
-    apart : (m k : ℕ) → m ≢ k → (m == k) ≡ false
-    apart m k o = grind (arith, nat_tests)
 
     grow : (m k : ℕ) → m ≢ k → nat_lt m k ≡ nat_lt m (k + 1)
     grow m k o = grind (arith, nat_tests)
@@ -155,25 +135,13 @@ one_more f k m b h e = elim (same_or_not m k) [
     there a b c d p q = rw (p, q) refl
 
 pub no_more : (f : ℕ → Bool) (k m : ℕ) (b : Bool) → f k ≡ false → b ≡ (nat_lt m k && f m) → b ≡ (nat_lt m (k + 1) && f m)
-no_more f k m b h e = elim (same_or_not m k) [
-  | inl same ↦ e ∙ subst (λ x. (nat_lt x k && f x) ≡ (nat_lt x (k + 1) && f x)) (sym same) (and_second (nat_lt k k) (f k) h ∙ sym (and_second (nat_lt k (k + 1)) (f k) h))
+no_more f k m b h e = elim (cases_eq m k) [
+  | inl same ↦ e ∙ subst (λ x. (nat_lt x k && f x) ≡ (nat_lt x (k + 1) && f x)) (sym same) (and_right (nat_lt k k) (f k) h ∙ sym (and_right (nat_lt k (k + 1)) (f k) h))
   | inr other ↦ e ∙ ap (λ x. x && f m) (grow m k other)
 ]
   where
     grow : (m k : ℕ) → m ≢ k → nat_lt m k ≡ nat_lt m (k + 1)
     grow m k o = grind (arith, nat_tests)
-
--- the same of what some let in alike
-or_swap : (a b c : Bool) → (b || (a || c)) ≡ (a || (b || c))
-or_swap true true c = refl
-or_swap true false c = refl
-or_swap false b c = refl
-
-pub one_more_or : (f g : ℕ → Bool) (k m : ℕ) (b : Bool) → f k ≡ true → b ≡ (g m || (nat_lt m k && f m)) → ((m == k) || b) ≡ (g m || (nat_lt m (k + 1) && f m))
-one_more_or f g k m b h e = ap (λ x. (m == k) || x) e ∙ or_swap (g m) (m == k) (nat_lt m k && f m) ∙ ap (λ x. g m || x) (one_more f k m (nat_lt m k && f m) h refl)
-
-pub no_more_or : (f g : ℕ → Bool) (k m : ℕ) (b : Bool) → f k ≡ false → b ≡ (g m || (nat_lt m k && f m)) → b ≡ (g m || (nat_lt m (k + 1) && f m))
-no_more_or f g k m b h e = e ∙ ap (λ x. g m || x) (no_more f k m (nat_lt m k && f m) h refl)
 
 -- what the test of one word says below 64
 pub in_word : (n : ℕ) (b : Bool) → n < 64 → (nat_lt n 64 && b) ≡ b
@@ -181,10 +149,6 @@ in_word n b h = ap (λ x. x && b) (within n h)
   where
     within : (n : ℕ) → n < 64 → nat_lt n 64 ≡ true
     within n h = grind (arith, nat_tests)
-
-and_parts : (a b : Bool) → (a && b) ≡ true → (a ≡ true) × (b ≡ true)
-and_parts true b h = (refl, h)
-and_parts false b h = absurd (cc)
 
 -- minutes and seconds of the product lie in the day
 pub minute_below : (hours minutes m : ℕ) → hours < 2 ^ 24 → has_minute hours minutes m ≡ true → m < 1440
@@ -198,7 +162,7 @@ pub months_more : (y n : ℕ) → days_of_months (pos y) n + days_in_month (pos 
 months_more y n = let more = days_of_months_more (pos y) (n + 1) (omega arith) in let back : n + 1 - 1 ≡ n = omega arith in let more' = rw back at more in sym more'
 
 -- the days of a product from a day on, by the set's places from what is skipped of it
-day_before : (p : RecurrencePeriod) (m : ℕ) → m < p.first_day → has_day p m ≡ false
+pub day_before : (p : RecurrencePeriod) (m : ℕ) → m < p.first_day → has_day p m ≡ false
 day_before p m h = let none : nat_le p.first_day m ≡ false = grind (arith, nat_tests) in ap (λ x. x && contains_wide p.days (m - p.first_day)) none
 
 pub next_day : (p : RecurrencePeriod) (day skipped k : ℕ) → skipped ≡ min (day - p.first_day) 384 → IsLeastFrom (contains_wide p.days) skipped k → k < 384 → IsLeastFrom (has_day p) day (p.first_day + k)
@@ -206,23 +170,17 @@ next_day p day skipped k e next small = record {
   passes = let low : nat_le p.first_day (p.first_day + k) ≡ true = grind (arith, nat_tests) in let back : p.first_day + k - p.first_day ≡ k = omega arith in
       ap (λ x. x && contains_wide p.days (p.first_day + k - p.first_day)) low ∙ ap (contains_wide p.days) back ∙ next.passes;
   low = omega (arith, e, next.low, small);
-  least = λ m low high. elim (by_order m p.first_day) [
+  least = λ m low high. elim (cases_lt m p.first_day) [
     | inl less ↦ day_before p m less
-    | inr more ↦ and_second (nat_le p.first_day m) (contains_wide p.days (m - p.first_day)) (next.least (m - p.first_day) (omega (arith, e)) (omega arith))
+    | inr more ↦ and_right (nat_le p.first_day m) (contains_wide p.days (m - p.first_day)) (next.least (m - p.first_day) (omega (arith, e)) (omega arith))
   ];
 }
-  where
-    by_order : (a b : ℕ) → (a < b) ⊎ (b ≤ a)
-    by_order a b = grind arith
 
 pub no_day : (p : RecurrencePeriod) (day skipped : ℕ) → skipped ≡ min (day - p.first_day) 384 → ((m : ℕ) → skipped ≤ m → contains_wide p.days m ≡ false) → (m : ℕ) → day ≤ m → has_day p m ≡ false
-no_day p day skipped e none m low = elim (by_order m p.first_day) [
+no_day p day skipped e none m low = elim (cases_lt m p.first_day) [
   | inl less ↦ day_before p m less
-  | inr more ↦ and_second (nat_le p.first_day m) (contains_wide p.days (m - p.first_day)) (none (m - p.first_day) (omega (arith, e)))
+  | inr more ↦ and_right (nat_le p.first_day m) (contains_wide p.days (m - p.first_day)) (none (m - p.first_day) (omega (arith, e)))
 ]
-  where
-    by_order : (a b : ℕ) → (a < b) ⊎ (b ≤ a)
-    by_order a b = grind arith
 
 pub minute_true : (hours minutes m : ℕ) (a b : Bool) → m ≤ 1440 → a ≡ (nat_lt (m / 60) 64 && contains hours (m / 60)) → b ≡ (nat_lt (m % 60) 64 && contains minutes (m % 60)) → has_minute hours minutes m ≡ (a && b)
 minute_true hours minutes m a b h ea eb =

@@ -1,5 +1,6 @@
 -- Of the size of a period, the number of locals that a rule allows there, depends how many are chosen.
 use Rattle.std.proofs.Common.{◌≡◌, ℕ, suc, ◌+◌, ◌*◌, ◌<◌, ◌≤◌, ◌≢◌, ◌⊎◌, inl, inr, Bool, true, false, cond, ◌&&◌, ◌==◌, refl, sym, ap, ◌∙◌, arith}
+use Rattle.std.proofs.lemmas.Bool.{cases_lt, cases_eq, eq-eqb, ne_eqb}
 use Rattle.jiff_core.specs.Weekday.{monday_zero}
 use Rattle.ics_values.specs.Ordinals.{lists_none_wide}
 use Rattle.ics_rule.specs.declared.effective_rule.EffectiveRule.{EffectiveRule}
@@ -11,12 +12,10 @@ use Rattle.ics_rule.specs.Rounds.{chosen_to}
 use Rattle.ics_rule.proofs.Counts.{count-same, count-suc, count-add, count-from}
 use Rattle.ics_rule.proofs.RankLemmas.{count_flat, count-ranked}
 use Rattle.ics_rule.proofs.PeriodLemmas.{begun, begins, is_short}
-use Rattle.ics_rule.proofs.ChosenLemmas.{same_or_not, self_test, apart_test, and_true, and_false, let_in}
+use Rattle.ics_rule.proofs.ChosenLemmas.{let_in}
 use Rattle.ics_rule.proofs.FlatLemmas.{is_allowed, allowed_before}
 use Rattle.ics_values.specs.Locals.{calendar_end}
-
-by_order : (m n : ℕ) → (m < n) ⊎ (n ≤ m)
-by_order m n = grind arith
+use Rattle.ics_rule.proofs.Tests.{keep_true, and_false}
 
 -- no period is longer
 abbrev pub longest : ℕ
@@ -52,7 +51,7 @@ size_decides q t = by_positions (lists_none_wide q.positions)
     same false k e = refl
 
     by_positions : (b : Bool) → count longest (λ k. t k && placed_at q b t k) ≡ chosen_of q b (count longest t)
-    by_positions true = count-same longest (λ k. t k && true) t (λ k l. and_true (t k))
+    by_positions true = count-same longest (λ k. t k && true) t (λ k l. keep_true (t k))
     by_positions false = count-same longest (λ k. t k && lists_wide q.positions (count (suc k) t) (count longest t)) (λ k. t k && is_listed q.positions (count longest t) (count k t)) (λ k l. same (t k) k refl)
         ∙ count-ranked longest t (is_listed q.positions (count longest t))
 
@@ -65,14 +64,14 @@ module _ (q : EffectiveRule) (start x : ℕ) (step : is_stepped (period_in q sta
   t k = let_at q x k
 
   let_out : (n : ℕ) → period_in q n ≢ x → is_let_in q x n ≡ false
-  let_out n other = ap (λ y. y && (lets_date q (day_of n) && lets_clock q n)) (apart_test (period_in q n) x other)
+  let_out n other = ap (λ y. y && (lets_date q (day_of n) && lets_clock q n)) (ne_eqb (period_in q n) x other)
 
   beside : (n m : ℕ) → period_in q n ≡ x → is_beside q start n m ≡ is_let_in q x m
-  beside n m here = ap (λ y. is_candidate_in q start m && period_in q m == y) here ∙ cases (same_or_not (period_in q m) x)
+  beside n m here = ap (λ y. is_candidate_in q start m && period_in q m == y) here ∙ cases (cases_eq (period_in q m) x)
     where
       cases : (period_in q m ≡ x) ⊎ (period_in q m ≢ x) → (is_candidate_in q start m && period_in q m == x) ≡ is_let_in q x m
-      cases (inl same) = ap (λ y. is_candidate_in q start m && y) (self_test (period_in q m) x same) ∙ and_true (is_candidate_in q start m) ∙ let_in q start x m step same
-      cases (inr other) = ap (λ y. is_candidate_in q start m && y) (apart_test (period_in q m) x other) ∙ and_false (is_candidate_in q start m) ∙ sym (let_out m other)
+      cases (inl same) = ap (λ y. is_candidate_in q start m && y) (eq-eqb (period_in q m) x same) ∙ keep_true (is_candidate_in q start m) ∙ let_in q start x m step same
+      cases (inr other) = ap (λ y. is_candidate_in q start m && y) (ne_eqb (period_in q m) x other) ∙ and_false (is_candidate_in q start m) ∙ sym (let_out m other)
 
   none_before : (m : ℕ) → m < a → is_let_in q x m ≡ false
   none_before m h = let_out m (λ same. let b = begun q.frequency (monday_zero q.week_start) x m (omega (arith, same)) in omega (arith, b, h))
@@ -105,7 +104,7 @@ module _ (q : EffectiveRule) (start x : ℕ) (step : is_stepped (period_in q sta
     here : (k : ℕ) → k < len → period_in q (a + k) ≡ x
     here k l =
         let low = begins q.frequency (monday_zero q.week_start) x (a + k) (omega arith) in
-        elim (by_order x (period_in q (a + k))) [
+        elim (cases_lt x (period_in q (a + k))) [
           | inl more ↦ absurd (let late = begun q.frequency (monday_zero q.week_start) (suc x) (a + k) more in omega (arith, late, e, l))
           | inr same ↦ omega (arith, low, same)
         ]
@@ -130,6 +129,6 @@ module _ (q : EffectiveRule) (start x : ℕ) (step : is_stepped (period_in q sta
         let short = is_short q.frequency (monday_zero q.week_start) x in
         let whole = ap (allowed_before q) (sym e) in
         let parts = count-add a len (is_allowed q) in
-        let same = count-same len (λ k. is_allowed q (a + k)) t (λ k l. sym (ap (λ y. y && is_allowed q (a + k)) (self_test (period_in q (a + k)) x (here k l)))) in
+        let same = count-same len (λ k. is_allowed q (a + k)) t (λ k l. sym (ap (λ y. y && is_allowed q (a + k)) (eq-eqb (period_in q (a + k)) x (here k l)))) in
         let flat = count_flat len longest t (omega (arith, short, e)) (λ k l u. past k l) in
         omega (arith, whole, parts, same, flat)

@@ -1,23 +1,17 @@
 -- Steps by the interval.
-use Rattle.std.proofs.Common.{◌≡◌, ℕ, ◌+◌, ◌-◌, ◌*◌, ◌/◌, ◌%◌, ◌<◌, ◌≤◌, ◌⊎◌, inl, inr, Bool, true, false, refl, subst, ap, ◌∙◌, arith}
+use Rattle.std.proofs.Common.{◌≡◌, ℕ, ◌+◌, ◌-◌, ◌*◌, ◌/◌, ◌%◌, ◌<◌, ◌≤◌, inl, inr, true, false, subst, ap, ◌∙◌, arith}
+use Rattle.std.proofs.lemmas.Bool.{cases_lt, false_from_ne_true}
 use Rattle.std.proofs.lemmas.Bool.Decides.{nat_tests}
 use Rattle.std.proofs.lemmas.Nat.{div-mul-add, mod-mul-add, div-add-mod', le-div}
 use Rattle.std.proofs.Math.Nat.{mul-le-mul_right, mod-lt}
 use Rattle.ics_values.specs.Sets.{IsLeastFrom}
 use Rattle.ics_rule.specs.Candidates.{is_stepped}
 
-by_order : (a b : ℕ) → (a < b) ⊎ (b ≤ a)
-by_order a b = grind arith
-
 pub stepped_parts : (first i p : ℕ) → is_stepped first i p ≡ true → (first ≤ p) × ((p - first) % i ≡ 0)
 stepped_parts first i p h = grind (arith, nat_tests)
 
 pub stepped_shown : (first i p : ℕ) → first ≤ p → (p - first) % i ≡ 0 → is_stepped first i p ≡ true
 stepped_shown first i p l e = grind (arith, nat_tests)
-
-pub not_true : (b : Bool) → (b ≡ true → ⊥) → b ≡ false
-not_true true h = absurd (h refl)
-not_true false h = refl
 
 module _ (i : ℕ) (some : 1 ≤ i) where
   -- d units take so many intervals
@@ -37,7 +31,7 @@ module _ (i : ℕ) (some : 1 ≤ i) where
     passes = stepped_shown first i (first + ceil (own - first) * i) (omega arith)
         (let back : first + ceil (own - first) * i - first ≡ ceil (own - first) * i + 0 = omega arith in ap (λ x. x % i) back ∙ mod-mul-add (ceil (own - first)) i 0 some);
     low = let high = ceil_high (own - first) in omega (arith, high);
-    least = λ m low high. not_true (is_stepped first i m) (λ yes.
+    least = λ m low high. false_from_ne_true (is_stepped first i m) (λ yes.
         let parts = stepped_parts first i m yes in
         let whole = div-add-mod' (m - first) i in
         let few = ceil_low (own - first) ((m - first) / i) (omega (arith, whole, parts.1)) in
@@ -54,10 +48,10 @@ module _ (i : ℕ) (some : 1 ≤ i) where
       ap (λ x. x % i) (same ∙ more) ∙ mod-mul-add ((p - first) / i + 1) i 0 some)
 
   pub none_between : (first p m : ℕ) → is_stepped first i p ≡ true → p < m → m < p + i → is_stepped first i m ≡ false
-  none_between first p m h l u = not_true (is_stepped first i m) (λ yes.
+  none_between first p m h l u = false_from_ne_true (is_stepped first i m) (λ yes.
       let a = stepped_parts first i p h in let b = stepped_parts first i m yes in
       let wa = div-add-mod' (p - first) i in let wb = div-add-mod' (m - first) i in
-      elim (by_order ((p - first) / i) ((m - first) / i)) [
+      elim (cases_lt ((p - first) / i) ((m - first) / i)) [
         | inl less ↦ let up = mul-le-mul_right {m = (p - first) / i + 1} {n = (m - first) / i} i (omega arith) in omega (arith, a.0, a.1, b.0, b.1, wa, wb, up)
         | inr more ↦ let up = mul-le-mul_right i more in omega (arith, a.0, a.1, b.0, b.1, wa, wb, up)
       ])

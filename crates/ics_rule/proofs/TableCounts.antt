@@ -1,7 +1,7 @@
 -- BYSETPOS by the days of a month, for a rule that has at most one local a day, so that examples can be computed.
-use Rattle.std.proofs.Common.{◌≡◌, ℕ, zero, suc, ◌+◌, ◌-◌, ◌*◌, ◌/◌, ◌%◌, ◌<◌, ◌≤◌, ◌⊎◌, inl, inr, Bool, true, false, cond, ◌&&◌, ◌||◌, ◌==◌, nat_le, nat_lt, List, [], ◌∷◌, refl, sym, ap, ◌∙◌, arith}
+use Rattle.std.proofs.Common.{◌≡◌, ℕ, zero, suc, ◌+◌, ◌-◌, ◌*◌, ◌/◌, ◌%◌, ◌<◌, ◌≤◌, inl, inr, Bool, true, cond, ◌&&◌, ◌||◌, ◌==◌, nat_le, nat_lt, List, [], ◌∷◌, refl, sym, ap, ◌∙◌, arith}
+use Rattle.std.proofs.lemmas.Bool.{cases_lt, false_from_ne_true, leb-true}
 use Rattle.std.specs.Prelude.{filter}
-use Rattle.std.proofs.lemmas.Bool.Decides.{nat_tests}
 use Rattle.ics_values.specs.declared.ordinals.WideOrdinals.{WideOrdinals}
 use Rattle.ics_values.specs.Sets.{contains_wide}
 use Rattle.ics_rule.specs.Recurrence.{Recurrence}
@@ -13,17 +13,7 @@ use Rattle.ics_rule.specs.Table.{BySetPos}
 use Rattle.ics_rule.specs.ByTable.{is_absent, is_instance, is_nth, is_limited, is_period, period_of, is_member}
 use Rattle.ics_rule.proofs.Counts.{count-suc, count-none}
 use Rattle.ics_rule.proofs.RankLemmas.{count_flat}
-use Rattle.ics_rule.proofs.NthLemmas.{month_begun, month_begins}
-
-by_order : (a b : ℕ) → (a < b) ⊎ (b ≤ a)
-by_order a b = grind arith
-
-le_true : (a b : ℕ) → nat_le a b ≡ true → a ≤ b
-le_true a b h = grind (arith, nat_tests)
-
-not_true : (b : Bool) → (b ≡ true → ⊥) → b ≡ false
-not_true true h = absurd (h refl)
-not_true false h = refl
+use Rattle.ics_rule.proofs.PeriodLemmas.{month_begun, month_begins}
 
 -- so many days from one on
 abbrev pub days_from : ℕ → ℕ → List ℕ
@@ -51,16 +41,16 @@ module _ (set : ℕ → Bool) (a b t : ℕ) (clock : t < 86_400) (shown : (m : �
   to_local : (d : ℕ) → count (d * 86_400 + t) set ≡ count (d * 86_400) set
   to_local d =
       count_flat (d * 86_400) (d * 86_400 + t) set (omega arith)
-      (λ m l h. not_true (set m) (λ e. let s = shown m e in omega (arith, s.1, l, h, clock)))
+      (λ m l h. false_from_ne_true (set m) (λ e. let s = shown m e in omega (arith, s.1, l, h, clock)))
 
   past_local : (d : ℕ) → count (d * 86_400 + 86_400) set ≡ count (suc (d * 86_400 + t)) set
   past_local d =
       count_flat (suc (d * 86_400 + t)) (d * 86_400 + 86_400) set (omega (arith, clock))
-      (λ m l h. not_true (set m) (λ e. let s = shown m e in omega (arith, s.1, l, h, clock)))
+      (λ m l h. false_from_ne_true (set m) (λ e. let s = shown m e in omega (arith, s.1, l, h, clock)))
 
   days_before : (k : ℕ) → count ((a + k) * 86_400) set ≡ count k on_day
   unfolding count
-  days_before zero = count-none ((a + 0) * 86_400) set (λ m l. not_true (set m) (λ e. let s = shown m e in omega (arith, s.0.0, l)))
+  days_before zero = count-none ((a + 0) * 86_400) set (λ m l. false_from_ne_true (set m) (λ e. let s = shown m e in omega (arith, s.0.0, l)))
   days_before (suc k) =
       let more : (a + suc k) * 86_400 ≡ (a + k) * 86_400 + 86_400 = omega arith in
       let last = count-suc ((a + k) * 86_400 + t) set in
@@ -74,7 +64,7 @@ module _ (set : ℕ → Bool) (a b t : ℕ) (clock : t < 86_400) (shown : (m : �
 
   all_days : a ≤ b → b * 86_400 ≤ calendar_end → count calendar_end set ≡ count (b - a) on_day
   all_days low high =
-      count_flat (b * 86_400) calendar_end set high (λ m l h. not_true (set m) (λ e. let s = shown m e in omega (arith, s.0.1, l)))
+      count_flat (b * 86_400) calendar_end set high (λ m l h. false_from_ne_true (set m) (λ e. let s = shown m e in omega (arith, s.0.1, l)))
       ∙ ap (λ x. count (x * 86_400) set) (let whole : b ≡ a + (b - a) = omega (arith, low) in whole) ∙ days_before (b - a)
 
   nth_by_days : (positions : WideOrdinals) (k : ℕ) → a ≤ b → b * 86_400 ≤ calendar_end
@@ -103,7 +93,7 @@ module _ (r : Recurrence) (p a b : ℕ) (monthly : IsMonthly r p) (first : month
       let low = month_begun p (day_of m) (omega (arith, s.0)) in (
         (
           omega (arith, low, first),
-          elim (by_order (day_of m) b) [
+          elim (cases_lt (day_of m) b) [
             | inl less ↦ less
             | inr past ↦ absurd (let more = month_begins (suc p) (day_of m) (omega (arith, past, next)) in omega (arith, more, s.0))
           ],
@@ -114,7 +104,7 @@ module _ (r : Recurrence) (p a b : ℕ) (monthly : IsMonthly r p) (first : month
   in_month : (e : ℕ) → a ≤ e → e < b → month_number e ≡ p
   in_month e low high =
       let begun = month_begins p e (omega (arith, low, first)) in
-      elim (by_order p (month_number e)) [
+      elim (cases_lt p (month_number e)) [
         | inl past ↦ absurd (let more = month_begun (suc p) e past in omega (arith, more, next, high))
         | inr same ↦ omega (arith, begun, same)
       ]
@@ -133,6 +123,6 @@ module _ (r : Recurrence) (p a b : ℕ) (monthly : IsMonthly r p) (first : month
   pub members_by_days : nat_le a b ≡ true → nat_le (b * 86_400) calendar_end ≡ true
       → filter (λ e. is_member r (e * 86_400 + 32_400)) (days_from a (b - a)) ≡ filter (by_days r p a b) (days_from a (b - a))
   members_by_days begun inside =
-      let low = le_true a b begun in
-      let high = le_true (b * 86_400) calendar_end inside in
+      let low = leb-true a b begun in
+      let high = leb-true (b * 86_400) calendar_end inside in
       filter-same (λ e. is_member r (e * 86_400 + 32_400)) (by_days r p a b) a (b - a) (λ e l h. member e low high l (omega (arith, h, low)))

@@ -1,5 +1,6 @@
 -- The table on examples of RFC 5545, 3.8.5.3: the list that stands there, over the days of a span.
 use Rattle.std.proofs.Common.{◌≡◌, refl, ◌∙◌, ℕ, Bool, true, ◌&&◌, ◌==◌, ◌+◌, ◌-◌, ◌*◌, ◌%◌, ◌^◌, List, [], ◌∷◌, map, arith}
+use Rattle.std.proofs.lemmas.Bool.{eqb-true}
 use Rattle.std.specs.Prelude.{filter}
 use Rattle.ics_values.specs.Days.{days_on_literals}
 use Rattle.ics_values.specs.declared.frequency.Frequency.TheVariants.{Daily, Weekly, Monthly, Yearly}
@@ -14,7 +15,7 @@ use Rattle.ics_rule.specs.PeriodNumbers.{day_of, hour_of, minute_of, second_of, 
 use Rattle.ics_rule.specs.Kept.{count}
 use Rattle.ics_rule.specs.Table.{Part, ByMonth, ByWeekNo, ByYearDay, ByMonthDay, ByDay, ByHour, ByMinute, BySecond, BySetPos, Nothing, cell}
 use Rattle.ics_rule.specs.ByTable.{is_absent, instance_of, is_listed, is_instance, is_member, IsAllowed}
-use Rattle.ics_rule.proofs.KeptLemmas.{and_true, eqb_true}
+use Rattle.ics_rule.proofs.KeptLemmas.{and_true}
 use Rattle.ics_rule.proofs.TableCounts.{days_from, members_by_days}
 use Rattle.ics_rule.proofs.Samples.{on_weekdays, nth_weekday, date, local, rule, mo, tu, fr}
 
@@ -111,10 +112,10 @@ at_nine : (listed : Bool) (month p m : ℕ) → (listed && (month == p && (hour_
 at_nine listed month p m e =
     let own = (and_true e).1 in
     let clock = (and_true own).1 in
-    let hour = eqb_true (hour_of m) 9 (and_true clock).0 in
-    let minute = eqb_true (minute_of m) 0 (and_true (and_true clock).1).0 in
-    let second = eqb_true (second_of m) 0 (and_true (and_true clock).1).1 in
-    (eqb_true month p (and_true own).0, omega (arith, hour, minute, second))
+    let hour = eqb-true (hour_of m) 9 (and_true clock).0 in
+    let minute = eqb-true (minute_of m) 0 (and_true (and_true clock).1).0 in
+    let second = eqb-true (second_of m) 0 (and_true (and_true clock).1).1 in
+    (eqb-true month p (and_true own).0, omega (arith, hour, minute, second))
 
 -- the third instance into the month of one of Tuesday, Wednesday or Thursday
 abbrev third_instance : Recurrence

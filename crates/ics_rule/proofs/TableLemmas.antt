@@ -15,7 +15,8 @@ use Rattle.ics_rule.specs.Candidates.{lists, lists_nth, lets, lets_place}
 use Rattle.ics_rule.specs.RecurrencePeriods.{is_let_in}
 use Rattle.ics_rule.specs.Table.{Part, ByMonth, ByWeekNo, ByYearDay, ByMonthDay, ByDay, ByHour, ByMinute, BySecond, Cell, Limit, Expand}
 use Rattle.ics_rule.specs.ByTable.{Instance, Instances, instance_of, start_of, is_absent, is_listed, is_clockless, lists_nth_in, has_clock, own_instance, apply_cell, apply, is_instance, IsAllowed}
-use Rattle.ics_rule.proofs.TableSteps.{self_test, keep_true, never, or_assoc, limited, passed, expanded, week_expanded, noted, given, only_number, only_day, only_this_weekday, in_order, by_subject}
+use Rattle.ics_rule.proofs.TableSteps.{or_assoc, limited, passed, expanded, week_expanded, noted, given, only_number, only_day, only_this_weekday, in_order, by_subject}
+use Rattle.ics_rule.proofs.Tests.{last_part, third, self_test, keep_true, and_false}
 
 -- the rule under a frequency
 abbrev at : Frequency → Recurrence → Recurrence
@@ -75,19 +76,9 @@ first_true : (a b c d : Bool) → (a && b && c && d) ≡ true → a ≡ true
 first_true true b c d h = refl
 first_true false b c d h = absurd (cc)
 
-third_true : (a b c d : Bool) → (a && b && c && d) ≡ true → c ≡ true
-third_true true true true d h = refl
-third_true true true false d h = absurd (cc)
-third_true true false c d h = absurd (cc)
-third_true false b c d h = absurd (cc)
-
 fore_true : (a b : Bool) → (a && b) ≡ true → a ≡ true
 fore_true true b h = refl
 fore_true false b h = absurd (cc)
-
-last_true : (a b : Bool) → (a && b) ≡ true → b ≡ true
-last_true true b h = h
-last_true false b h = absurd (cc)
 
 -- ---- the clock
 
@@ -481,11 +472,11 @@ yearly_open false false false own n = self_test own
 -- DTSTART's day of the month, where no part speaks of a day or week
 yearly_day : (d y b w : Bool) (own n : ℕ) → (keep w own (yearly_keep d y b own n) == own) ≡ (if (d && y && b && w) then (n == own) else true)
 yearly_day d y b true own n = yearly_open d y b own n ∙ ap (λ t. if t then (n == own) else true) (sym (keep_true (d && y && b)))
-yearly_day d y b false own n = self_test own ∙ ap (λ t. if t then (n == own) else true) (sym (never (d && y && b)))
+yearly_day d y b false own n = self_test own ∙ ap (λ t. if t then (n == own) else true) (sym (and_false (d && y && b)))
 
 -- DTSTART's weekday in the weeks of BYWEEKNO, where no part speaks of a day
 yearly_own_weekday : (d y b w : Bool) (own n : ℕ) → (w || (yearly_keep d y b own n == own)) ≡ (if (d && y && b && not w) then (n == own) else true)
-yearly_own_weekday d y b true own n = ap (λ t. if t then (n == own) else true) (sym (never (d && y && b)))
+yearly_own_weekday d y b true own n = ap (λ t. if t then (n == own) else true) (sym (and_false (d && y && b)))
 yearly_own_weekday d y b false own n = yearly_open d y b own n ∙ ap (λ t. if t then (n == own) else true) (sym (keep_true (d && y && b)))
 
 -- BYMONTH, and DTSTART's month where no other part speaks of the date
@@ -495,7 +486,7 @@ yearly_month : (d y b w m : Bool) (test : ℕ → Bool) (own n : ℕ)
 yearly_month d y b w true test own n = yearly_day d y b w own n ∙ ap (λ t. if t then (n == own) else true) (sym (keep_true (d && y && b && w)))
 yearly_month d y b w false test own n =
     ap (λ x. test (yearly_back false d y b w own n) && x) (self_test own) ∙ ap (λ x. test x && true) (yearly_beside d y b w own n)
-    ∙ ap (λ t. test n && (if t then (n == own) else true)) (sym (never (d && y && b && w)))
+    ∙ ap (λ t. test n && (if t then (n == own) else true)) (sym (and_false (d && y && b && w)))
 
 -- where BYMONTHDAY is there, it is asked of the day as it is
 yearly_listed : (m d y b : Bool) (test : ℕ → ℕ → Bool) (own_month own_day month day : ℕ)
@@ -585,7 +576,7 @@ module _ (rule : Recurrence) (allowed : IsAllowed (at Yearly rule)) (p n : ℕ) 
   yearly_months i =
       yearly_month (no_month_day rule) (no_year_day rule) (no_weekday rule) (no_week rule) (no_month rule) (contains rule.parts.months) (start_of rule).month i.month
       ∙ given takes_this_month (lets_part rule ByMonth i) (i.month == (start_of rule).month)
-      (λ e. ap (λ b. b || is_listed rule ByMonth i) (last_true takes_this_day (no_month rule) e))
+      (λ e. ap (λ b. b || is_listed rule ByMonth i) (last_part takes_this_day (no_month rule) e))
       ∙ sym (only_number takes_this_month rule.parts.months (start_of rule).month i.month)
 
   yearly_month_days : (i : Instance) → (lets_part rule ByMonthDay (after_day i) && ((after_month i).month_day == (start_of rule).month_day))
@@ -615,7 +606,7 @@ module _ (rule : Recurrence) (allowed : IsAllowed (at Yearly rule)) (p n : ℕ) 
       yearly_numbers (no_weekday rule) (no_week rule) (no_month rule) (is_empty (if takes_this_month then only (start_of rule).month else rule.parts.months))
       takes_this_month
       (contains rule.parts.weekdays.plain i.weekday) (numbers_of rule.parts.weekdays i.weekday) i
-      (λ e. third_true (no_month_day rule) (no_year_day rule) (no_weekday rule) (no_week rule) (fore_true takes_this_day (no_month rule) e))
+      (λ e. third (no_month_day rule) (no_year_day rule) (no_weekday rule) (no_week rule) (fore_true takes_this_day (no_month rule) e))
       (months_taken takes_this_month (start_of rule).month rule.parts.months)
       (λ e. allowed.numbers (week_unit (no_week rule) (no_month rule) e) i.weekday)
 
@@ -627,11 +618,11 @@ module _ (rule : Recurrence) (allowed : IsAllowed (at Yearly rule)) (p n : ℕ) 
       ap (λ x. lets_part (at Yearly rule) ByDay i && x) (keep_true (no_week rule || own_weekday i)
       ∙ yearly_own_weekday (no_month_day rule) (no_year_day rule) (no_weekday rule) (no_week rule) (start_of rule).weekday i.weekday)
       ∙ given takes_this_weekday (lets_part (at Yearly rule) ByDay i) (i.weekday == (start_of rule).weekday)
-      (λ e. ap (λ b. b || is_listed (at Yearly rule) ByDay i) (third_true (no_month_day rule) (no_year_day rule) (no_weekday rule) (not (no_week rule)) e))
+      (λ e. ap (λ b. b || is_listed (at Yearly rule) ByDay i) (third (no_month_day rule) (no_year_day rule) (no_weekday rule) (not (no_week rule)) e))
       ∙ ap (λ x. if takes_this_weekday then (i.weekday == (start_of rule).weekday) else x) (yearly_days i)
       ∙ sym (only_this_weekday takes_this_weekday rule.parts.weekdays (start_of rule).weekday i.weekday (yearly_nth i)
       (λ e. ap (λ b. if b then not (lists_none no_ordinals) else nth_of_none i)
-      (last_true (no_month_day rule && no_year_day rule && no_weekday rule) (not (no_week rule)) e)))
+      (last_part (no_month_day rule && no_year_day rule && no_weekday rule) (not (no_week rule)) e)))
     where
       nth_of_none : Instance → Bool
       nth_of_none i = if not (is_empty (if takes_this_month then only (start_of rule).month else rule.parts.months)) then lists_nth no_ordinals i.month_day

@@ -1,5 +1,6 @@
 -- What the table gives of a whole rule, with BYSETPOS, UNTIL and COUNT.
 use Rattle.std.proofs.Common.{◌≡◌, ℕ, suc, ◌+◌, ◌-◌, ◌⊎◌, inl, inr, ◌≢◌, Bool, true, false, ◌&&◌, ◌||◌, ◌==◌, nat_lt, Option, Some, None, refl, sym, ap, ◌∙◌, arith}
+use Rattle.std.proofs.lemmas.Bool.{cases_eq, eq-eqb, ne_eqb}
 use Rattle.ics_values.specs.Sets.{contains_wide}
 use Rattle.ics_values.specs.Ordinals.{lists_none_wide}
 use Rattle.ics_rule.specs.Recurrence.{Recurrence}
@@ -10,9 +11,10 @@ use Rattle.ics_rule.specs.Candidates.{lets_date, lets_clock, is_candidate, is_ca
 use Rattle.ics_rule.specs.Kept.{count, is_beside, rank, size, is_placed, is_chosen, is_in_rule, is_by_until, is_counted, is_kept}
 use Rattle.ics_rule.specs.Table.{BySetPos}
 use Rattle.ics_rule.specs.ByTable.{is_absent, is_instance, is_nth, is_limited, is_period, period_of, is_member, is_within_count, is_kept_by_table, IsAllowed}
-use Rattle.ics_rule.proofs.Counts.{count-same, count-suc}
-use Rattle.ics_rule.proofs.TableSteps.{self_test, keep_true, never, same_or_not, same_test, apart_test, and_assoc, both_true, chosen_where, count_one}
+use Rattle.ics_rule.proofs.Counts.{count-same, count-suc, count_one}
+use Rattle.ics_rule.proofs.TableSteps.{both_true, chosen_where}
 use Rattle.ics_rule.proofs.TableLemmas.{instances_by_table}
+use Rattle.ics_rule.proofs.Tests.{self_test, keep_true, and_false, and_assoc}
 
 module _ (r : Recurrence) (allowed : IsAllowed r) where
   -- a candidate is an instance of a period that FREQ and INTERVAL give
@@ -31,19 +33,19 @@ module _ (r : Recurrence) (allowed : IsAllowed r) where
   -- what stands beside n is the set of its period
   beside : (n m : ℕ) → is_period r (period_of r n) ≡ true → is_beside (effective r) (number r.start) n m ≡ is_instance r (period_of r n) m
   unfolding effective
-  beside n m step = cases (same_or_not (period_of r m) (period_of r n))
+  beside n m step = cases (cases_eq (period_of r m) (period_of r n))
     where
       cases : (period_of r m ≡ period_of r n) ⊎ (period_of r m ≢ period_of r n)
           → (is_candidate_in (effective r) (number r.start) m && period_of r m == period_of r n) ≡ is_instance r (period_of r n) m
       cases (inl same) =
-          ap (λ x. is_candidate_in (effective r) (number r.start) m && x) (same_test (period_of r m) (period_of r n) same)
+          ap (λ x. is_candidate_in (effective r) (number r.start) m && x) (eq-eqb (period_of r m) (period_of r n) same)
           ∙ keep_true (is_candidate_in (effective r) (number r.start) m) ∙ candidate m
           ∙ ap (λ p. is_period r p && is_instance r p m) same ∙ ap (λ x. x && is_instance r (period_of r n) m) step
       cases (inr other) =
-          ap (λ x. is_candidate_in (effective r) (number r.start) m && x) (apart_test (period_of r m) (period_of r n) other)
-          ∙ never (is_candidate_in (effective r) (number r.start) m)
+          ap (λ x. is_candidate_in (effective r) (number r.start) m && x) (ne_eqb (period_of r m) (period_of r n) other)
+          ∙ and_false (is_candidate_in (effective r) (number r.start) m)
           ∙ sym (instances_by_table r allowed (period_of r n) m
-          ∙ ap (λ x. x && (lets_date (effective r) (day_of m) && lets_clock (effective r) m)) (apart_test (period_of r m) (period_of r n) other))
+          ∙ ap (λ x. x && (lets_date (effective r) (day_of m) && lets_clock (effective r) m)) (ne_eqb (period_of r m) (period_of r n) other))
 
   -- the two places of n are those of the nth of the set
   placed : (n : ℕ) → is_candidate_in (effective r) (number r.start) n ≡ true

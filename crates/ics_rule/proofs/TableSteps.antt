@@ -1,5 +1,5 @@
 -- The table's parts, one by one: what each lets in, and what DTSTART still gives.
-use Rattle.std.proofs.Common.{◌≡◌, ℕ, zero, suc, ◌+◌, ◌-◌, ◌<◌, ◌⊎◌, ◌≢◌, Bool, true, false, not, ◌&&◌, ◌||◌, ◌==◌, if◌then◌else◌, cond, refl, sym, ap, ◌∙◌, arith}
+use Rattle.std.proofs.Common.{◌≡◌, ℕ, zero, suc, ◌+◌, ◌-◌, ◌<◌, Bool, true, false, not, ◌&&◌, ◌||◌, ◌==◌, if◌then◌else◌, refl, sym, ap, ◌∙◌, arith}
 use Rattle.std.proofs.lemmas.Bool.Decides.{nat_tests}
 use Rattle.std.proofs.lemmas.Nat.{pow_pos}
 use Rattle.std.proofs.lemmas.Nat.Bits.{bit_at-zero}
@@ -11,21 +11,7 @@ use Rattle.ics_rule.specs.EffectiveRules.{only_place, only_weekday}
 use Rattle.ics_rule.specs.Candidates.{lets, lets_place}
 use Rattle.ics_rule.specs.ByTable.{Instance, Instances}
 use Rattle.ics_rule.proofs.ScanLemmas.{contains-only}
-
-pub self_test : (a : ℕ) → (a == a) ≡ true
-self_test a = grind (arith, nat_tests)
-
-pub keep_true : (b : Bool) → (b && true) ≡ b
-keep_true true = refl
-keep_true false = refl
-
-pub never : (b : Bool) → (b && false) ≡ false
-never true = refl
-never false = refl
-
-pub or_false : (b : Bool) → (b || false) ≡ b
-or_false true = refl
-or_false false = refl
+use Rattle.ics_rule.proofs.Tests.{keep_true, or_false, and_false}
 
 pub or_assoc : (a b c : Bool) → (a || (b || c)) ≡ (a || b || c)
 or_assoc true b c = refl
@@ -103,17 +89,17 @@ only_this_weekday false ws own n test h = refl
 pub in_order : (s mi h b d y ow w m per oe om od ch cmi cs : Bool)
     → (s && (mi && (h && (b && (d && (y && (ow && (w && (m && (per && (oe && (om && (od && (ch && (cmi && cs)))))))))))))))
     ≡ (per && (((((m && om) && (d && od)) && y) && w) && (b && (ow && oe)) && (((h && ch) && (mi && cmi)) && (s && cs))))
-in_order false mi h b d y ow w m per oe om od ch cmi cs = simp never refl
-in_order true false h b d y ow w m per oe om od ch cmi cs = simp never refl
-in_order true true false b d y ow w m per oe om od ch cmi cs = simp never refl
-in_order true true true false d y ow w m per oe om od ch cmi cs = simp never refl
-in_order true true true true false y ow w m per oe om od ch cmi cs = simp never refl
-in_order true true true true true false ow w m per oe om od ch cmi cs = simp never refl
-in_order true true true true true true false w m per oe om od ch cmi cs = simp never refl
-in_order true true true true true true true false m per oe om od ch cmi cs = simp never refl
-in_order true true true true true true true true false per oe om od ch cmi cs = simp never refl
+in_order false mi h b d y ow w m per oe om od ch cmi cs = simp and_false refl
+in_order true false h b d y ow w m per oe om od ch cmi cs = simp and_false refl
+in_order true true false b d y ow w m per oe om od ch cmi cs = simp and_false refl
+in_order true true true false d y ow w m per oe om od ch cmi cs = simp and_false refl
+in_order true true true true false y ow w m per oe om od ch cmi cs = simp and_false refl
+in_order true true true true true false ow w m per oe om od ch cmi cs = simp and_false refl
+in_order true true true true true true false w m per oe om od ch cmi cs = simp and_false refl
+in_order true true true true true true true false m per oe om od ch cmi cs = simp and_false refl
+in_order true true true true true true true true false per oe om od ch cmi cs = simp and_false refl
 in_order true true true true true true true true true false oe om od ch cmi cs = refl
-in_order true true true true true true true true true true false om od ch cmi cs = simp never refl
+in_order true true true true true true true true true true false om od ch cmi cs = simp and_false refl
 in_order true true true true true true true true true true true false od ch cmi cs = refl
 in_order true true true true true true true true true true true true false ch cmi cs = refl
 in_order true true true true true true true true true true true true true false cmi cs = refl
@@ -125,19 +111,6 @@ pub by_subject : (per : Bool) {m m' d d' y y' w w' b b' h h' i i' s s' : Bool} �
 by_subject per m d y w b h i s = rw (m, d, y, w, b, h, i, s) refl
 
 -- two numbers
-pub same_or_not : (a b : ℕ) → (a ≡ b) ⊎ (a ≢ b)
-same_or_not a b = grind (arith, nat_tests)
-
-pub same_test : (a b : ℕ) → a ≡ b → (a == b) ≡ true
-same_test a b h = grind (arith, nat_tests)
-
-pub apart_test : (a b : ℕ) → a ≢ b → (a == b) ≡ false
-apart_test a b h = grind (arith, nat_tests)
-
-pub and_assoc : (a b c : Bool) → (a && b && c) ≡ (a && (b && c))
-and_assoc true b c = refl
-and_assoc false b c = refl
-
 pub both_true : (a b c : Bool) → c ≡ (a && b) → c ≡ true → (a ≡ true) × (b ≡ true)
 both_true true b c e h = (refl, sym e ∙ h)
 both_true false b c e h = absurd (cc)
@@ -150,9 +123,3 @@ chosen_where false false i placed nth e h = refl
 chosen_where true true false placed nth e h = absurd (cc)
 chosen_where true false i placed nth e h = absurd (cc)
 chosen_where false true true placed nth e h = absurd (cc)
-
-pub count_one : (b : Bool) → b ≡ true → ◌≡◌ {A = ℕ} (cond b 1 0) 1
-count_one b e = let f : Bool → ℕ = λ z. cond z 1 0 in ap f e
-
-pub count_no : (b : Bool) → b ≡ false → ◌≡◌ {A = ℕ} (cond b 1 0) 0
-count_no b e = let f : Bool → ℕ = λ z. cond z 1 0 in ap f e

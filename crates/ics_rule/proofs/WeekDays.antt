@@ -1,5 +1,6 @@
 -- The days of a year that may lie in a listed week.
 use Rattle.std.proofs.Common.{◌≡◌, ℕ, ◌+◌, ◌-◌, ◌*◌, ◌/◌, ◌%◌, ◌<◌, ◌≤◌, ◌⊎◌, inl, inr, Bool, true, false, ◌==◌, ◌||◌, ◌&&◌, nat_lt, nat_le, max, min, List, pos, refl, sym, subst, ap, ◌∙◌, arith}
+use Rattle.std.proofs.lemmas.Bool.{cases_lt}
 use Rattle.std.proofs.lemmas.Bool.Decides.{nat_tests}
 use Rattle.jiff_core.specs.Calendar.{days_in_year}
 use Rattle.jiff_core.specs.Weekday.{monday_zero}
@@ -11,16 +12,11 @@ use Rattle.ics_values.specs.Days.{days_before_year, year_of, year_day_of, weekda
 use Rattle.ics_values.proofs.DayLemmas.{days_before_year-next, year_of_is}
 use Rattle.ics_rule.specs.declared.effective_rule.EffectiveRule.{EffectiveRule}
 use Rattle.ics_rule.specs.PeriodNumbers.{week_of}
-use Rattle.ics_rule.specs.Candidates.{fourth_day, week_number, weeks_of_year, lets_place, lets_week}
+use Rattle.ics_rule.specs.Candidates.{week_number, weeks_of_year, lets_place, lets_week}
 use Rattle.ics_rule.specs.Runs.{may_list_week}
-use Rattle.ics_rule.proofs.PeriodLemmas.{week_small}
+use Rattle.ics_rule.proofs.PeriodLemmas.{week_small, fourth_late}
 use Rattle.ics_rule.proofs.RunLemmas.{next_found, all_found}
-
-by_order : (a b : ℕ) → (a < b) ⊎ (b ≤ a)
-by_order a b = grind arith
-
-three : (a b : ℕ) → (a < b) ⊎ ((a ≡ b) ⊎ (b < a))
-three a b = grind arith
+use Rattle.ics_rule.proofs.Tests.{none_yet, or_swap}
 
 -- the days between two
 pub between_none : (low m : ℕ) (a : Bool) → a ≡ (a || (nat_le low m && nat_lt m low))
@@ -32,14 +28,9 @@ between_none low m a = nothing a (nat_le low m && nat_lt m low) (let none : (nat
 
 pub between_more : (low k m : ℕ) (a b : Bool) → low ≤ k → b ≡ (a || (nat_le low m && nat_lt m k)) → ((m == k) || b) ≡ (a || (nat_le low m && nat_lt m (k + 1)))
 between_more low k m a b l e = ap (λ x. (m == k) || x) e ∙ or_swap a (m == k) (nat_le low m && nat_lt m k) ∙ ap (λ x. a || x) (let one : ((m == k) || (nat_le low m && nat_lt m k)) ≡ (nat_le low m && nat_lt m (k + 1)) = grind (arith, nat_tests) in one)
-  where
-    or_swap : (a b c : Bool) → (b || (a || c)) ≡ (a || (b || c))
-    or_swap true true c = refl
-    or_swap true false c = refl
-    or_swap false b c = refl
 
 pub between_done : (low end k m : ℕ) (a b : Bool) → low ≤ k → end ≤ k → k ≤ max low end → b ≡ (a || (nat_le low m && nat_lt m k)) → b ≡ (a || (nat_le low m && nat_lt m end))
-between_done low end k m a b l h most e = e ∙ ap (λ x. a || x) (elim (by_order end low) [
+between_done low end k m a b l h most e = e ∙ ap (λ x. a || x) (elim (cases_lt end low) [
   | inl none ↦ let all : k ≡ low = omega (arith, none, most, l) in rw all (let out : (nat_le low m && nat_lt m low) ≡ (nat_le low m && nat_lt m end) = grind (arith, nat_tests) in out)
   | inr some ↦ let all : k ≡ end = omega (arith, some, most, h) in rw all refl
 ])
@@ -73,9 +64,6 @@ pub record IsNear (weeks : Ordinals) (fourth k n : ℕ) : Type 0 where
 abbrev pub IsFound : Ordinals → ℕ → ℕ → ℕ → Type 0
 IsFound weeks fourth len k = (k < 3) ⊎ ((len ≤ k + 3) ⊎ ((n : ℕ) × IsNear weeks fourth k n))
 
-fourth_late : (w e : ℕ) → 9 ≤ 7 * week_of w e + w → fourth_day w e ≡ 7 * week_of w e + w - 9
-fourth_late w e h = let late : nat_lt (7 * week_of w e + w) 9 ≡ false = grind (arith, nat_tests) in rw late refl
-
 year_day_is : (f y : ℕ) → year_of f ≡ y → year_day_of f ≡ f - days_before_year y + 1
 unfolding year_day_of
 year_day_is f y h = rw h refl
@@ -90,7 +78,7 @@ listed_week q f y j year place inside some h =
     let weeks : weeks_of_year f ≡ (days_in_year (pos y) - 1 - j % 7) / 7 + 1 = ap (λ x. (days_in_year (pos x) - 1 - (year_day_of f - 1) % 7) / 7 + 1) year ∙ ap (λ x. (days_in_year (pos y) - 1 - x % 7) / 7 + 1) day in
     let own : lets_place q.weeks (j / 7 + 1) ((days_in_year (pos y) - 1 - j % 7) / 7 + 1) ≡ true =
     ap (λ n. lets_place q.weeks n ((days_in_year (pos y) - 1 - j % 7) / 7 + 1)) (sym number) ∙ ap (lets_place q.weeks (week_number f)) (sym weeks) ∙ h in
-    elim (by_order ((days_in_year (pos y) - 1 - j % 7) / 7 + 1) 53) [
+    elim (cases_lt ((days_in_year (pos y) - 1 - j % 7) / 7 + 1) 53) [
       | inl fewer ↦ let back : (days_in_year (pos y) - 1 - j % 7) / 7 + 1 + 1 - (j / 7 + 1) ≡ 53 - (j / 7 + 1) = omega (arith, fewer, bounds.0, bounds.1) in
           first (lists_none q.weeks) (contains q.weeks.front (j / 7 + 1)) (contains q.weeks.back (53 - (j / 7 + 1))) (contains q.weeks.back (54 - (j / 7 + 1))) some
           (ap (λ x. lists_none q.weeks || (contains q.weeks.front (j / 7 + 1) || contains q.weeks.back x)) (sym back) ∙ own)
@@ -118,13 +106,13 @@ pub week_near : (q : EffectiveRule) (first len k fourth : ℕ) → first ≡ day
 week_near q first len k fourth start size inside some place h =
     let w = monday_zero q.week_start in
     let small : w < 7 = week_small q.week_start in
-    elim (by_order (7 * week_of w (first + k) + w) 9) [
+    elim (cases_lt (7 * week_of w (first + k) + w) 9) [
       | inl early ↦ inl (omega (arith, early, small))
       | inr late ↦
           let f = 7 * week_of w (first + k) + w - 9 in
-          elim (by_order f first) [
+          elim (cases_lt f first) [
             | inl before ↦ inl (omega (arith, before, late, small))
-            | inr begun ↦ elim (by_order f (first + len)) [
+            | inr begun ↦ elim (cases_lt f (first + len)) [
               | inr past ↦ inr (inl (omega (arith, past, late, small)))
               | inl there ↦
                   let next = days_before_year-next (year_of first) in
@@ -179,7 +167,7 @@ cover_adds weeks fourth len n low end days more el ee added cover = record {
   ];
   first = λ m h. kept (contains_wide days m) (contains_wide more m) _ (added m) (cover.first m h);
   last = λ m l h. kept (contains_wide days m) (contains_wide more m) _ (added m) (cover.last m l h);
-  near = λ k j l here h. elim (by_order j n) [
+  near = λ k j l here h. elim (cases_lt j n) [
     | inl old ↦ kept (contains_wide days k) (contains_wide more k) _ (added k) (cover.near k j old here h)
     | inr new ↦ let same : j ≡ n = omega (arith, new, l) in
         gained (contains_wide days k) (contains_wide more k) _ (added k) (between_shown low end k (omega (arith, el, same, here.from)) (omega (arith, ee, same, here.before, h)))
@@ -192,7 +180,7 @@ cover_jumps weeks fourth len from n days none cover = record {
   within = cover.within;
   first = cover.first;
   last = cover.last;
-  near = λ k j l here h. elim (by_order j from) [
+  near = λ k j l here h. elim (cases_lt j from) [
     | inl old ↦ cover.near k j old here h
     | inr new ↦ absurd (let out = none j new l in let listed = here.listed in cc)
   ];
@@ -210,11 +198,8 @@ abbrev pub seen_weeks : (ℕ → Bool) → (ℕ → Bool) → ℕ → ℕ → Bo
 seen_weeks front back from n = front n || (nat_lt (53 - n) from && back (53 - n)) || (nat_lt (54 - n) from && back (54 - n))
 
 pub weeks_first : (front back : ℕ → Bool) (n : ℕ) → front n ≡ seen_weeks front back 0 n
-weeks_first front back n = rw (none (53 - n), none (54 - n)) (nothing (front n))
+weeks_first front back n = rw (none_yet (53 - n), none_yet (54 - n)) (nothing (front n))
   where
-    none : (a : ℕ) → nat_lt a 0 ≡ false
-    none a = grind (arith, nat_tests)
-
     nothing : (a : Bool) → a ≡ (a || (false && back (53 - n)) || (false && back (54 - n)))
     nothing true = refl
     nothing false = refl

@@ -1,13 +1,10 @@
-use Rattle.std.proofs.Common.{◌≡◌, ◌∙◌, ◌+◌, ◌&&◌, ℕ, nat_lt, false, ap, sym, arith}
-use Rattle.std.proofs.lemmas.Bool.Decides.{nat_tests}
+use Rattle.std.proofs.Common.{◌≡◌, ◌∙◌, ◌+◌, ◌&&◌, nat_lt, ap, sym, arith}
 use Rattle.ics_values.specs.Sets.{contains_wide}
 use Rattle.ics_rule.specs.Candidates.{lets_date}
 use Rattle.ics_rule.proofs.ScanLemmas.{none_has, one_more, no_more}
 use Rattle.ics_rule.proofs.days.add_days_by_day.Goals as goal
 use Rattle.ics_rule.proofs.days.add_days_by_day.Goals.{then-lets_date, else-lets_date}
-
-none_yet : (m : ℕ) → nat_lt m 0 ≡ false
-none_yet m = grind (arith, nat_tests)
+use Rattle.ics_rule.proofs.Tests.{none_yet}
 
 pub loop-k-init : goal.loop-k-init
 loop-k-init c = λ m. ap (λ ws. contains_wide ws m) c.requires.empty ∙ none_has m ∙ ap (λ x. x && lets_date c.args.parts.now (c.args.first + m)) (sym (none_yet m))

@@ -1,5 +1,5 @@
-use Rattle.std.proofs.Common.{◌≡◌, ◌∙◌, ℕ, ◌+◌, ◌<◌, ◌&&◌, nat_lt, pos, true, ap, arith}
-use Rattle.std.proofs.lemmas.Bool.Decides.{nat_tests}
+use Rattle.std.proofs.Common.{◌∙◌, ◌+◌, ◌&&◌, nat_lt, pos, ap, arith}
+use Rattle.std.proofs.lemmas.Bool.{lt-ltb, ltb-true}
 use Rattle.jiff_core.proofs.CalendarLemmas.{days_in_year_bounds}
 use Rattle.ics_values.specs.Sets.{contains_wide}
 use Rattle.ics_values.specs.Days.{year_of}
@@ -13,16 +13,10 @@ days_near_weeks-requires-clause-first c = c.requires.span.1.0
 pub days_near_weeks-requires-clause-size : goal.days_near_weeks-requires-clause-size
 days_near_weeks-requires-clause-size c = c.requires.span.1.1
 
-less_true : (k len : ℕ) → k < len → nat_lt k len ≡ true
-less_true k len h = grind (arith, nat_tests)
-
-less_fact : (k len : ℕ) → nat_lt k len ≡ true → k < len
-less_fact k len h = grind (arith, nat_tests)
-
 pub returns-else-is_empty : goal.returns-else-is_empty
 returns-else-is_empty c = λ k. c.those_let_in-else-is_empty.ensures k
     ∙ candidates (contains_wide c.days_near_weeks.result k) (lets_date c.args.parts.now (c.args.first + k)) (nat_lt k c.args.len)
-    (λ h. less_true k c.args.len (c.days_near_weeks.ensures.within k h)) (λ l h. c.days_near_weeks.ensures.all k (less_fact k c.args.len l) (week_let_in c.args.parts.now (c.args.first + k) h))
+    (λ h. lt-ltb k c.args.len (c.days_near_weeks.ensures.within k h)) (λ l h. c.days_near_weeks.ensures.all k (ltb-true k c.args.len l) (week_let_in c.args.parts.now (c.args.first + k) h))
 
 pub days_by_number-requires : goal.days_by_number-requires
 days_by_number-requires c = let b = days_in_year_bounds (pos (year_of c.args.first)) in omega (arith, b.0, c.requires.span.1.1)
