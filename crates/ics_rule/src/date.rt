@@ -3,7 +3,7 @@ ghost use Rattle.std.specs.Prelude.{◌≡◌, ℕ, ◌<◌, ◌≤◌, ◌+◌,
 ghost use Rattle.jiff_core.specs.Calendar.{days_in_year, days_in_month};
 ghost use Rattle.jiff_core.specs.Weekday.{monday_zero};
 ghost use Rattle.ics_values.specs.Sets.{contains, is_empty};
-ghost use Rattle.ics_values.specs.Ordinals.{lists_none, lists_no_weekday};
+ghost use Rattle.ics_values.specs.Ordinals.{lists_no_weekday};
 ghost use Rattle.ics_values.specs.Days.{weekday_of};
 ghost use Rattle.ics_values.specs.Fields.{IsCivilOf};
 ghost use Rattle.ics_rule.specs.Runs.{goes_by_months};
@@ -145,20 +145,6 @@ pub(crate) fn goes_by_months(parts: &EffectiveRule) -> bool
     parts.weeks.is_empty()
         && parts.year_days.is_empty()
         && !(parts.month_days.is_empty() && parts.weekdays.is_empty())
-}
-
-/// Whether BYMONTHDAY or BYDAY is absent.
-pub(crate) fn lacks_one(parts: &EffectiveRule) -> bool
-    ensures { result ≡ (lists_none parts.now.month_days || lists_no_weekday parts.now.weekdays) }
-{
-    parts.month_days.is_empty() || parts.weekdays.is_empty()
-}
-
-/// Whether BYMONTH and BYMONTHDAY are absent.
-pub(crate) fn names_no_month(parts: &EffectiveRule) -> bool
-    ensures { result ≡ (is_empty parts.now.months && lists_none parts.now.month_days) }
-{
-    parts.months.is_empty() && parts.month_days.is_empty()
 }
 
 /// Whether no part but BYDAY restricts the date.

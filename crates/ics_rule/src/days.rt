@@ -1,34 +1,20 @@
 //! The days of a period that a rule allows.
-ghost use Rattle.std.specs.Prelude.{◌≡◌, ℕ, ◌<◌, ◌≤◌, ◌+◌, ◌-◌, ◌&&◌, ◌||◌, nat_le, nat_lt, pos, true, false};
+ghost use Rattle.std.specs.Prelude.{◌≡◌, ℕ, ◌<◌, ◌≤◌, ◌+◌, ◌-◌, ◌&&◌, ◌||◌, nat_lt, pos, true};
 ghost use Rattle.jiff_core.specs.Calendar.{days_in_month, days_in_year};
 ghost use Rattle.ics_values.specs.declared.frequency.Frequency.TheVariants.{Weekly, Monthly, Yearly};
 ghost use Rattle.ics_values.specs.Sets.{contains_wide, none_wide};
 ghost use Rattle.ics_values.specs.Days.{weekday_of, year_of};
-ghost use Rattle.ics_values.specs.Ordinals.{lists_none, lists_none_wide};
 ghost use Rattle.ics_rule.specs.Candidates.{lets_date, lets_wide_place};
 ghost use Rattle.ics_rule.specs.Runs.{IsMonth, IsSpan, is_in_month, goes_by_months, counts_in_month};
 
-use crate::date::{
-    goes_by_months, lacks_one, lets_date, month_length, names_no_month, names_weekdays_alone,
-    open_months,
-};
+use crate::date::{goes_by_months, lets_date, names_weekdays_alone, open_months};
 use crate::effective_rule::EffectiveRule;
 use crate::recurrence_period::days_before_month;
 use crate::runs::Run;
 use crate::time::{lets, lets_wide_place};
 use crate::weeks::days_near_weeks;
-use ics_values::{Civil, Frequency, WideBitSet};
+use ics_values::{Frequency, WideBitSet};
 use jiff_core::civil::days_in_month;
-
-/// The number of days from a day to the end of its month, including both.
-pub(crate) fn days_left(fields: &Civil) -> u16
-    requires year { fields.now.year ≤ 9999 }
-    requires day { fields.now.day ≤ days_in_month (pos fields.now.year) fields.now.month }
-    ensures value { result ≡ days_in_month (pos fields.now.year) fields.now.month + 1 - fields.now.day }
-    ensures most { result ≤ 32 }
-{
-    month_length(fields) as u16 + 1 - fields.day as u16
-}
 
 /// The weekday, from 0 for Monday, of a day that is counted from 0000-01-01.
 pub(crate) fn weekday_at(index: u32) -> u8
@@ -158,15 +144,6 @@ fn add_listed_days(parts: &EffectiveRule, first: u32, len: u16, days: &mut WideB
     }
 }
 
-/// Leaves those of a set of days, counted from a first, that a rule allows.
-#[inline(never)]
-fn test_each(parts: &EffectiveRule, first: u32, days: &mut WideBitSet)
-    requires { first + 384 ≤ 3652059 }
-    ensures { (k : ℕ) → contains_wide days.new k ≡ (contains_wide days.old k && lets_date parts.now (first + k)) }
-{
-    *days = those_let_in(parts, first, days);
-}
-
 /// Leaves those of the days listed in their months that a rule allows.
 #[inline(always)]
 fn leave_let_in(parts: &EffectiveRule, first: u32, len: u16, days: &mut WideBitSet)
@@ -176,9 +153,10 @@ fn leave_let_in(parts: &EffectiveRule, first: u32, len: u16, days: &mut WideBitS
     requires listed { (k : ℕ) → contains_wide days.old k ≡ (nat_lt k len && is_in_month parts.now (first + k)) }
     ensures { (k : ℕ) → contains_wide days.new k ≡ (nat_lt k len && lets_date parts.now (first + k)) }
 {
-    if !lacks_one(parts) {
-        test_each(parts, first, days);
+    if parts.month_days.is_empty() || parts.weekdays.is_empty() {
+        return;
     }
+    *days = those_let_in(parts, first, days);
 }
 
 /// Fills a set with the days of a month that a rule allows.
@@ -236,7 +214,7 @@ fn add_days_of_year(parts: &EffectiveRule, first: u32, len: u16, days: &mut Wide
         add_tested_days(parts, first, len, days);
         return;
     }
-    if names_no_month(parts) {
+    if parts.months.is_empty() && parts.month_days.is_empty() {
         let run = Run {
             start: 0,
             len,

@@ -1,7 +1,6 @@
 //! Rules that choose nothing.
 ghost use Rattle.std.specs.Prelude.{◌≡◌, ℕ, ◌<◌, ◌≤◌, true, false};
 ghost use Rattle.ics_values.specs.Sets.{contains_wide};
-ghost use Rattle.ics_values.specs.Ordinals.{lists_none_wide};
 ghost use Rattle.ics_rule.specs.Kept.{count, is_chosen};
 ghost use Rattle.ics_rule.specs.Candidates.{lets};
 ghost use Rattle.ics_rule.specs.Rounds.{seconds_of};

@@ -4,7 +4,7 @@ ghost use Rattle.ics_values.specs.Sets.{contains};
 ghost use Rattle.ics_values.specs.Ordinals.{lists_none, lists_none_wide, lists_no_weekday, numbers_of};
 ghost use Rattle.ics_rule.specs.NamedWeekdays.{names_weekday, named_below};
 
-use ics_values::{BitSet, Ordinals, Weekdays, WideOrdinals};
+use ics_values::{BitSet, Weekdays, WideOrdinals};
 use std::marker::Model;
 
 /// BYYEARDAY or BYSETPOS, and whether it is absent. Contracts see the places.
@@ -103,20 +103,12 @@ impl WeekdaysPart {
     }
 }
 
-/// The numbers that BYDAY gives a weekday.
-pub(crate) fn numbers(weekdays: &Weekdays, weekday: u8) -> &Ordinals
-    requires { weekday < 7 }
-    ensures { result.now ≡ numbers_of weekdays.now weekday }
-{
-    &weekdays.numbered[weekday as usize]
-}
-
 /// Whether BYDAY lists a weekday with no number.
 pub(crate) fn has_no_number(weekdays: &Weekdays, weekday: u8) -> bool
     requires { weekday < 7 }
     ensures { result ≡ lists_none (numbers_of weekdays.now weekday) }
 {
-    numbers(weekdays, weekday).is_empty()
+    weekdays.numbered[weekday as usize].is_empty()
 }
 
 /// Whether BYDAY names a weekday, with a number or without.

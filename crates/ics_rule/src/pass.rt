@@ -5,8 +5,7 @@ ghost use Rattle.ics_rule.specs.Searches.{NoneLetIn, IsNextOpen};
 ghost use Rattle.ics_rule.specs.PeriodNumbers.{rules_end};
 ghost use Rattle.ics_values.specs.Locals.{calendar_end};
 
-use crate::date::{civil_at, lets_date};
-use crate::days::days_left;
+use crate::date::{civil_at, lets_date, month_length};
 use crate::effective::skips_hours;
 use crate::effective_rule::EffectiveRule;
 use crate::recurrence_period::{clock_set, first_local, next_second};
@@ -28,7 +27,7 @@ pub(crate) fn days_of_closed_month(parts: &EffectiveRule, day: u32) -> u32
     if lets(parts.months, fields.month) {
         0
     } else {
-        days_left(&fields) as u32
+        u32::from(month_length(&fields) + 1 - fields.day)
     }
 }
 

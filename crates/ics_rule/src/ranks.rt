@@ -1,5 +1,5 @@
 //! The members of a set by their rank, and the places that BYSETPOS lists.
-ghost use Rattle.std.specs.Prelude.{◌≡◌, ℕ, ◌<◌, ◌≤◌, ◌+◌, ◌*◌, ◌/◌, ◌%◌, ◌^◌, IfSome, MatchOption, false};
+ghost use Rattle.std.specs.Prelude.{◌≡◌, ◌<◌, ◌≤◌, ◌+◌, ◌*◌, ◌/◌, ◌%◌, ◌^◌, IfSome};
 ghost use Rattle.ics_values.specs.Sets.{contains, contains_wide, IsNextIn};
 ghost use Rattle.ics_values.specs.Ordinals.{lists_none_wide};
 ghost use Rattle.ics_rule.specs.declared.effective_rule.EffectiveRule.{EffectiveRule};

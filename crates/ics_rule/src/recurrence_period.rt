@@ -1,11 +1,11 @@
 //! A period of a rule, as a product of sets.
-ghost use Rattle.std.specs.Prelude.{◌≡◌, ℕ, suc, ◌<◌, ◌≤◌, ◌+◌, ◌-◌, ◌*◌, ◌/◌, ◌%◌, ◌^◌, ◌&&◌, ◌||◌, ◌==◌, nat_lt, pos, IfSome};
+ghost use Rattle.std.specs.Prelude.{◌≡◌, ℕ, ◌<◌, ◌≤◌, ◌+◌, ◌-◌, ◌*◌, ◌/◌, ◌%◌, ◌^◌, ◌&&◌, ◌||◌, ◌==◌, pos, IfSome};
 ghost use Rattle.jiff_core.specs.Calendar.{days_of_months, days_in_month, days_in_year};
 ghost use Rattle.ics_values.specs.Days.{days_before_year};
-ghost use Rattle.ics_values.specs.Sets.{contains, contains_wide, IsNextIn};
+ghost use Rattle.ics_values.specs.Sets.{contains, IsNextIn};
 ghost use Rattle.ics_rule.specs.PeriodNumbers.{period, rules_end};
 ghost use Rattle.ics_rule.specs.EffectiveRules.{skips_hours, skips_minutes, skips_seconds};
-ghost use Rattle.ics_rule.specs.Candidates.{lets, lets_date, period_in};
+ghost use Rattle.ics_rule.specs.Candidates.{lets, period_in};
 ghost use Rattle.jiff_core.specs.Weekday.{monday_zero};
 ghost use Rattle.ics_rule.specs.RecurrencePeriods.{first_local, has_minute, has_time, has_day, holds, IsPeriodOf};
 ghost use Rattle.ics_values.specs.Locals.{calendar_end};
@@ -55,16 +55,6 @@ fn days_before_year(year: u64) -> u64
 {
     let centuries = (year + 99) / 100;
     365 * year + (year + 3) / 4 - centuries + (centuries + 3) / 4
-}
-
-/// The number of days in a month.
-fn days_in(year: u64, month: u64) -> u64
-    requires year { year ≤ 10000 }
-    requires month { month ≤ 12 }
-    ensures value { result ≡ days_in_month (pos year) month }
-    ensures high { result ≤ 31 }
-{
-    days_in_month(year as i16, month as u8) as u64
 }
 
 /// The number of days in a year.
@@ -181,7 +171,7 @@ fn span_of(frequency: Frequency, week_start: Weekday, number: u64) -> Span
             let month = before % 12;
             Span {
                 first: (days_before_year(year) + days_of_months(year, month)) as u32,
-                len: days_in(year, month + 1) as u16,
+                len: days_in_month(year as i16, month as u8 + 1) as u16,
             }
         }
         Frequency::Yearly => Span {

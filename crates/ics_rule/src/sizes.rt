@@ -1,5 +1,5 @@
 //! How many locals of a period are earlier than a given one, by the sizes of its sets.
-ghost use Rattle.std.specs.Prelude.{◌≡◌, ℕ, ◌<◌, ◌≤◌, ◌+◌, ◌*◌, ◌/◌, ◌%◌, ◌^◌};
+ghost use Rattle.std.specs.Prelude.{◌≡◌, ◌<◌, ◌≤◌, ◌+◌, ◌*◌, ◌/◌, ◌%◌, ◌^◌};
 ghost use Rattle.ics_values.specs.Sets.{contains, contains_wide};
 ghost use Rattle.ics_rule.specs.declared.effective_rule.EffectiveRule.{EffectiveRule};
 ghost use Rattle.ics_rule.specs.Kept.{count};

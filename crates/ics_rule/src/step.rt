@@ -1,7 +1,5 @@
 //! The periods that locals are in.
-ghost use Rattle.std.specs.Prelude.{◌≡◌, ℕ, ◌<◌, ◌≤◌, ◌+◌, ◌*◌, ◌/◌, ◌^◌};
-ghost use Rattle.jiff_core.specs.Weekday.{monday_zero};
-ghost use Rattle.ics_rule.specs.PeriodNumbers.{period};
+ghost use Rattle.std.specs.Prelude.{◌≡◌, ◌<◌, ◌≤◌, ◌+◌, ◌*◌, ◌/◌, ◌^◌};
 ghost use Rattle.ics_values.specs.Locals.{calendar_end};
 ghost use Rattle.ics_rule.specs.Candidates.{in_step, period_in};
 

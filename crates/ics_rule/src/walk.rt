@@ -1,5 +1,5 @@
 //! Searching the periods of a rule without COUNT.
-ghost use Rattle.std.specs.Prelude.{◌≡◌, ℕ, ◌<◌, ◌≤◌, ◌+◌, ◌*◌, ◌/◌, ◌^◌, MatchOption, IfSome, None, true};
+ghost use Rattle.std.specs.Prelude.{◌≡◌, ◌<◌, ◌≤◌, ◌+◌, ◌*◌, ◌/◌, ◌^◌, MatchOption, IfSome, None, true};
 ghost use Rattle.jiff_core.specs.Weekday.{monday_zero};
 ghost use Rattle.ics_values.specs.Sets.{IsLeastFrom, IsNextIn};
 ghost use Rattle.ics_rule.specs.Candidates.{is_stepped, period_in};

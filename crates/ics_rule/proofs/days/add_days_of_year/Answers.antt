@@ -1,9 +1,9 @@
-use Rattle.std.proofs.Common.{◌≡◌, ◌∙◌, ◌&&◌, Bool, not, pos, true, false, ap, sym, arith}
+use Rattle.std.proofs.Common.{◌∙◌, pos, ap, sym, arith}
+use Rattle.std.proofs.lemmas.Bool.{and_from}
 use Rattle.jiff_core.proofs.CalendarLemmas.{days_in_year_bounds}
 use Rattle.ics_values.specs.Sets.{contains_wide, is_empty}
 use Rattle.ics_values.specs.Days.{year_of}
 use Rattle.ics_values.specs.Ordinals.{lists_none}
-use Rattle.ics_rule.specs.Runs.{counts_in_month}
 use Rattle.ics_rule.proofs.ScanLemmas.{none_has}
 use Rattle.ics_rule.proofs.MonthDays.{whole_year}
 use Rattle.ics_rule.proofs.days.add_days_of_year.Goals as goal
@@ -17,17 +17,13 @@ add_weekdays-requires-clause-most c = let b = days_in_year_bounds (pos (year_of 
 pub add_weekdays-requires-clause-within : goal.add_weekdays-requires-clause-within
 add_weekdays-requires-clause-within c = let b = days_in_year_bounds (pos (year_of c.args.first)) in omega (arith, b.0, c.requires.span.1.1)
 
-pub returns-then-names_no_month : goal.returns-then-names_no_month
-returns-then-names_no_month c = λ k. whole_year c.args.parts.now c.args.first c.args.len (year_of c.args.first) c.weekday_at.result k (contains_wide c.args.days.now k) _
-    (sym c.goes_by_months.ensures ∙ c.if-not-goes_by_months.false) c.requires.frequency (sym c.names_no_month.ensures ∙ c.if-names_no_month.true)
+pub returns-then-is_empty-2 : goal.returns-then-is_empty-2
+returns-then-is_empty-2 c = λ k. whole_year c.args.parts.now c.args.first c.args.len (year_of c.args.first) c.weekday_at.result k (contains_wide c.args.days.now k) _
+    (sym c.goes_by_months.ensures ∙ c.if-not-goes_by_months.false) c.requires.frequency
+    (and_from (is_empty c.args.parts.now.months) (lists_none c.args.parts.now.month_days) (sym c.is_empty.ensures ∙ c.if-is_empty.true)
+    (sym c.is_empty-then-is_empty.ensures ∙ c.if-is_empty-2.true))
     c.requires.span.1.0 c.requires.span.1.1 c.weekday_at.ensures.value
     (ap (λ ws. contains_wide ws k) c.requires.empty ∙ none_has k) (c.add_weekdays.ensures k)
-
-counts : (b : Bool) → b ≡ false → not b ≡ true
-counts b h = ap not h
-
-pub leave_let_in-requires-clause-numbers : goal.leave_let_in-requires-clause-numbers
-leave_let_in-requires-clause-numbers c = ap (counts_in_month c.args.parts.now) c.requires.frequency ∙ counts (is_empty c.args.parts.now.months && lists_none c.args.parts.now.month_days) (sym c.names_no_month.ensures ∙ c.if-names_no_month.false)
 
 pub leave_let_in-requires-clause-listed : goal.leave_let_in-requires-clause-listed
 leave_let_in-requires-clause-listed c = λ k. c.add_listed_days.ensures k
