@@ -282,11 +282,6 @@ narrowed true false true a = absurd (let no = a refl refl in cc)
 narrowed true false false a = refl
 narrowed false some test a = refl
 
--- BYMONTHDAY is there, where neither it nor BYDAY is absent
-pub not_either : (a b : Bool) → (a || b) ≡ false → a ≡ false
-not_either true b h = h
-not_either false b h = refl
-
 -- what the parts of the date say apart
 pub number_let_in : (q : EffectiveRule) (e : ℕ) → lets_date q e ≡ true → lets_wide_place q.year_days (year_day_of e) (days_in_year (pos (year_of e))) ≡ true
 number_let_in q e h = third (lets q.months (month_of e)) (lets_place q.month_days (month_day_of e) (days_in_month (pos (year_of e)) (month_of e))) (lets_wide_place q.year_days (year_day_of e) (days_in_year (pos (year_of e)))) (lets_week q e) (lets_weekday q e) h

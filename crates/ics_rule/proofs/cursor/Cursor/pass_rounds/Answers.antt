@@ -1,17 +1,18 @@
-use Rattle.std.proofs.Common.{◌≡◌, ◌∙◌, ℕ, ◌+◌, ◌-◌, ◌*◌, ◌/◌, Some, None, true, refl, sym, subst, ap, arith}
+use Rattle.std.proofs.Common.{◌≡◌, ◌∙◌, ℕ, ◌+◌, ◌-◌, ◌*◌, ◌/◌, ◌≤◌, Some, None, true, refl, sym, subst, ap, arith}
 use Rattle.jiff_core.specs.Weekday.{monday_zero}
 use Rattle.ics_rule.specs.Candidates.{is_stepped, period_in}
 use Rattle.ics_rule.specs.Kept.{count, is_chosen}
 use Rattle.ics_rule.specs.RecurrencePeriods.{first_local}
-use Rattle.ics_rule.specs.Searches.{IsNextOpen}
+use Rattle.ics_rule.specs.PeriodNumbers.{rules_end}
+use Rattle.ics_rule.specs.Searches.{IsNextOpen, IsWalked}
 use Rattle.ics_rule.specs.Rounds.{IsPassedTo}
 use Rattle.ics_rule.proofs.PeriodLemmas.{begun}
 use Rattle.ics_rule.proofs.StepLemmas.{step_on}
 use Rattle.ics_rule.proofs.CountLemmas.{step_low}
 use Rattle.ics_rule.proofs.CountingLemmas.{IsCounting, counting_goes_on, counting_stopped}
-use Rattle.ics_rule.proofs.PassedLemmas.{begins_held, begins_first, end_in, target_in, end_step, top_of, rounds_end, total_small, round_begins, counting_room, turned_room, counting_passed, none_taken, not_past, passed_on}
+use Rattle.ics_rule.proofs.PassedLemmas.{IsRoundsEnd, begins_held, begins_first, end_in, target_in, end_step, top_of, rounds_end, total_small, round_begins, counting_room, turned_room, counting_passed, none_taken, not_past, passed_on}
 use Rattle.ics_rule.proofs.cursor.Cursor.pass_rounds.Goals as goal
-use Rattle.ics_rule.proofs.cursor.Cursor.pass_rounds.Goals.{in-Some, in-None}
+use Rattle.ics_rule.proofs.cursor.Cursor.pass_rounds.Goals.{in-Some, in-None, In-Some-turn_to-2}
 
 pub overflow_add-end : goal.overflow_add-end
 overflow_add-end c = let e = end_in c.period_of-own.result c.match-self.begin.0 c.saturating_sub-ahead.result c.in-Some-round_within.round c.saturating_sub-ahead.ensures c.if-ahead-lt2.false c.if-rounds-lt2.false in omega (arith, e, c.period_of-own.ensures.small)
@@ -72,60 +73,83 @@ pub returns-in_default-turn_to-2-clause-passed : goal.returns-in_default-turn_to
 returns-in_default-turn_to-2-clause-passed c = subst (λ s. IsPassedTo c.args.parts.now c.args.start c.args.count c.args.self.now s) (sym c.in_default-turn_to-2.ensures.turned.1) (counting_passed c.args.parts.now c.args.start c.args.count (c.args.self.now.place + 1) c.loop-number.number c.args.self.now c.loop-number.self c.loop-number.invariant.walk
     (omega (arith, c.loop-number.invariant.high, c.loop-number.invariant.top)) c.requires.own.inside (omega arith))
 
-pub overflow_sub-total : goal.overflow_sub-total
-overflow_sub-total c =
+-- the period that is whole rounds after the first is not later than that of the place, and begins before the rules end
+target : (c : In-Some-turn_to-2) → c.match-self.begin.0 + c.saturating_sub-ahead.result / c.in-Some-round_within.round * c.in-Some-round_within.round
+    ≤ period_in c.args.parts.now c.args.self.now.place
+target c =
+    let t = target_in c.period_of-own.result c.match-self.begin.0 c.saturating_sub-ahead.result c.in-Some-round_within.round c.saturating_sub-ahead.ensures
+    c.if-ahead-lt2.false in
+    omega (arith, t, c.period_of-own.ensures.value)
+
+reach : (c : In-Some-turn_to-2) → first_local c.args.parts.now.frequency (monday_zero c.args.parts.now.week_start)
+    (c.match-self.begin.0 + c.saturating_sub-ahead.result / c.in-Some-round_within.round * c.in-Some-round_within.round) ≤ rules_end
+reach c =
+    let r = begun c.args.parts.now.frequency (monday_zero c.args.parts.now.week_start)
+    (c.match-self.begin.0 + c.saturating_sub-ahead.result / c.in-Some-round_within.round * c.in-Some-round_within.round) c.args.self.now.place (target c) in
+    omega (arith, r, c.requires.place)
+
+-- what is counted up to it
+ends : (c : In-Some-turn_to-2) → IsRoundsEnd c.args.parts.now c.args.start c.match-self.begin.0 c.in-Some-round_within.round
+    (c.saturating_sub-ahead.result / c.in-Some-round_within.round) c.match-self.begin.1 c.turn_to-2.new.self.counted
+ends c =
     let turned = c.in-Some-turn_to-2.ensures.turned in
-    let ends = rounds_end c.args.parts.now c.args.start c.match-self.begin.0 c.in-Some-round_within.round (c.saturating_sub-ahead.result / c.in-Some-round_within.round) c.match-self.begin.1 c.turn_to-2.new.self.counted (c.in-Some-round_within.ensures c.args.start) c.loop-number.invariant.from
-    c.if-begin-lt2.false c.if-rounds-lt2.false (let r = begun c.args.parts.now.frequency (monday_zero c.args.parts.now.week_start) (c.match-self.begin.0 + c.saturating_sub-ahead.result / c.in-Some-round_within.round * c.in-Some-round_within.round) c.args.self.now.place (let t = target_in c.period_of-own.result c.match-self.begin.0 c.saturating_sub-ahead.result c.in-Some-round_within.round c.saturating_sub-ahead.ensures c.if-ahead-lt2.false in omega (arith, t, c.period_of-own.ensures.value)) in omega (arith, r, c.requires.place)) (turned.counted.total ∙ ap (λ x. count (first_local c.args.parts.now.frequency (monday_zero c.args.parts.now.week_start) x) (is_chosen c.args.parts.now c.args.start)) turned.number) in
-    ends.more
+    rounds_end c.args.parts.now c.args.start c.match-self.begin.0 c.in-Some-round_within.round
+    (c.saturating_sub-ahead.result / c.in-Some-round_within.round) c.match-self.begin.1 c.turn_to-2.new.self.counted
+    (c.in-Some-round_within.ensures c.args.start) c.loop-number.invariant.from c.if-begin-lt2.false c.if-rounds-lt2.false (reach c)
+    (turned.counted.total ∙ ap (λ x. count (first_local c.args.parts.now.frequency (monday_zero c.args.parts.now.week_start) x)
+    (is_chosen c.args.parts.now c.args.start)) turned.number)
+
+small : (c : In-Some-turn_to-2) → c.match-self.begin.1
+    + c.saturating_sub-ahead.result / c.in-Some-round_within.round * (c.turn_to-2.new.self.counted - c.match-self.begin.1) ≤ c.args.self.now.place
+small c = total_small c.args.parts.now c.args.start
+    (c.match-self.begin.0 + c.saturating_sub-ahead.result / c.in-Some-round_within.round * c.in-Some-round_within.round) c.args.self.now.place
+    (c.match-self.begin.1 + c.saturating_sub-ahead.result / c.in-Some-round_within.round * (c.turn_to-2.new.self.counted - c.match-self.begin.1))
+    (target c) (ends c).total
+
+-- the walk up to the end of the first round
+walked : (c : In-Some-turn_to-2) → IsWalked c.args.parts.now c.args.start (Some c.args.count) (c.args.self.now.place + 1) None c.args.self.now
+    c.turn_to-2.new.self
+walked c =
+    counting_stopped c.args.parts.now c.args.start c.args.count (c.args.self.now.place + 1) (c.match-self.begin.0 + c.in-Some-round_within.round) c.args.self.now c.loop-number.self
+    (subst (λ x. IsCounting c.args.parts.now c.args.start c.args.count (c.args.self.now.place + 1) x c.args.self.now c.loop-number.self) (omega (arith, c.loop-number.invariant.high, c.loop-number-test.false)) c.loop-number.invariant.walk)
+    c.turn_to-2.new.self c.in-Some-turn_to-2._period c.requires.interval c.requires.after (omega arith) (top_of c.args.parts.now c.args.self.now.place (c.match-self.begin.0 + c.in-Some-round_within.round) c.loop-number.invariant.top)
+    c.in-Some-turn_to-2.ensures.turned c.turn_to-2.ensures.place c.turn_to-2.ensures.steps c.turn_to-2.ensures.begun c.turn_to-2.ensures.moved
+
+pub overflow_sub-total : goal.overflow_sub-total
+overflow_sub-total c = (ends c).more
 
 pub overflow_mul-total : goal.overflow_mul-total
-overflow_mul-total c =
-    let turned = c.in-Some-turn_to-2.ensures.turned in
-    let ends = rounds_end c.args.parts.now c.args.start c.match-self.begin.0 c.in-Some-round_within.round (c.saturating_sub-ahead.result / c.in-Some-round_within.round) c.match-self.begin.1 c.turn_to-2.new.self.counted (c.in-Some-round_within.ensures c.args.start) c.loop-number.invariant.from
-    c.if-begin-lt2.false c.if-rounds-lt2.false (let r = begun c.args.parts.now.frequency (monday_zero c.args.parts.now.week_start) (c.match-self.begin.0 + c.saturating_sub-ahead.result / c.in-Some-round_within.round * c.in-Some-round_within.round) c.args.self.now.place (let t = target_in c.period_of-own.result c.match-self.begin.0 c.saturating_sub-ahead.result c.in-Some-round_within.round c.saturating_sub-ahead.ensures c.if-ahead-lt2.false in omega (arith, t, c.period_of-own.ensures.value)) in omega (arith, r, c.requires.place)) (turned.counted.total ∙ ap (λ x. count (first_local c.args.parts.now.frequency (monday_zero c.args.parts.now.week_start) x) (is_chosen c.args.parts.now c.args.start)) turned.number) in
-    let small = total_small c.args.parts.now c.args.start (c.match-self.begin.0 + c.saturating_sub-ahead.result / c.in-Some-round_within.round * c.in-Some-round_within.round) c.args.self.now.place (c.match-self.begin.1 + (c.saturating_sub-ahead.result / c.in-Some-round_within.round) * (c.turn_to-2.new.self.counted - c.match-self.begin.1)) (let t = target_in c.period_of-own.result c.match-self.begin.0 c.saturating_sub-ahead.result c.in-Some-round_within.round c.saturating_sub-ahead.ensures c.if-ahead-lt2.false in omega (arith, t, c.period_of-own.ensures.value)) ends.total in
-    omega (arith, small, c.requires.place)
+overflow_mul-total c = let sum = small c in omega (arith, sum, c.requires.place)
 
 pub overflow_add-total : goal.overflow_add-total
-overflow_add-total c =
-    let turned = c.in-Some-turn_to-2.ensures.turned in
-    let ends = rounds_end c.args.parts.now c.args.start c.match-self.begin.0 c.in-Some-round_within.round (c.saturating_sub-ahead.result / c.in-Some-round_within.round) c.match-self.begin.1 c.turn_to-2.new.self.counted (c.in-Some-round_within.ensures c.args.start) c.loop-number.invariant.from
-    c.if-begin-lt2.false c.if-rounds-lt2.false (let r = begun c.args.parts.now.frequency (monday_zero c.args.parts.now.week_start) (c.match-self.begin.0 + c.saturating_sub-ahead.result / c.in-Some-round_within.round * c.in-Some-round_within.round) c.args.self.now.place (let t = target_in c.period_of-own.result c.match-self.begin.0 c.saturating_sub-ahead.result c.in-Some-round_within.round c.saturating_sub-ahead.ensures c.if-ahead-lt2.false in omega (arith, t, c.period_of-own.ensures.value)) in omega (arith, r, c.requires.place)) (turned.counted.total ∙ ap (λ x. count (first_local c.args.parts.now.frequency (monday_zero c.args.parts.now.week_start) x) (is_chosen c.args.parts.now c.args.start)) turned.number) in
-    let small = total_small c.args.parts.now c.args.start (c.match-self.begin.0 + c.saturating_sub-ahead.result / c.in-Some-round_within.round * c.in-Some-round_within.round) c.args.self.now.place (c.match-self.begin.1 + (c.saturating_sub-ahead.result / c.in-Some-round_within.round) * (c.turn_to-2.new.self.counted - c.match-self.begin.1)) (let t = target_in c.period_of-own.result c.match-self.begin.0 c.saturating_sub-ahead.result c.in-Some-round_within.round c.saturating_sub-ahead.ensures c.if-ahead-lt2.false in omega (arith, t, c.period_of-own.ensures.value)) ends.total in
-    omega (arith, small, c.requires.place)
+overflow_add-total c = let sum = small c in omega (arith, sum, c.requires.place)
 
 pub look_at-requires-clause-low : goal.look_at-requires-clause-low
-look_at-requires-clause-low c =
-    let turned = c.in-Some-turn_to-2.ensures.turned in
-    let ends = rounds_end c.args.parts.now c.args.start c.match-self.begin.0 c.in-Some-round_within.round (c.saturating_sub-ahead.result / c.in-Some-round_within.round) c.match-self.begin.1 c.turn_to-2.new.self.counted (c.in-Some-round_within.ensures c.args.start) c.loop-number.invariant.from
-    c.if-begin-lt2.false c.if-rounds-lt2.false (let r = begun c.args.parts.now.frequency (monday_zero c.args.parts.now.week_start) (c.match-self.begin.0 + c.saturating_sub-ahead.result / c.in-Some-round_within.round * c.in-Some-round_within.round) c.args.self.now.place (let t = target_in c.period_of-own.result c.match-self.begin.0 c.saturating_sub-ahead.result c.in-Some-round_within.round c.saturating_sub-ahead.ensures c.if-ahead-lt2.false in omega (arith, t, c.period_of-own.ensures.value)) in omega (arith, r, c.requires.place)) (turned.counted.total ∙ ap (λ x. count (first_local c.args.parts.now.frequency (monday_zero c.args.parts.now.week_start) x) (is_chosen c.args.parts.now c.args.start)) turned.number) in
-    step_low c.args.parts.now c.args.start (c.match-self.begin.0 + c.saturating_sub-ahead.result / c.in-Some-round_within.round * c.in-Some-round_within.round) ends.step
+look_at-requires-clause-low c = step_low c.args.parts.now c.args.start
+    (c.match-self.begin.0 + c.saturating_sub-ahead.result / c.in-Some-round_within.round * c.in-Some-round_within.round)
+    (ends (goal.at.look_at-requires-clause-low c).In-Some-turn_to-2).step
 
 pub look_at-requires-clause-reach : goal.look_at-requires-clause-reach
-look_at-requires-clause-reach c = let r = begun c.args.parts.now.frequency (monday_zero c.args.parts.now.week_start) (c.match-self.begin.0 + c.saturating_sub-ahead.result / c.in-Some-round_within.round * c.in-Some-round_within.round) c.args.self.now.place (let t = target_in c.period_of-own.result c.match-self.begin.0 c.saturating_sub-ahead.result c.in-Some-round_within.round c.saturating_sub-ahead.ensures c.if-ahead-lt2.false in omega (arith, t, c.period_of-own.ensures.value)) in omega (arith, r, c.requires.place)
+look_at-requires-clause-reach c = reach (goal.at.look_at-requires-clause-reach c).In-Some-turn_to-2
 
 pub look_at-requires-clause-room : goal.look_at-requires-clause-room
 look_at-requires-clause-room c =
-    let walked = counting_stopped c.args.parts.now c.args.start c.args.count (c.args.self.now.place + 1) (c.match-self.begin.0 + c.in-Some-round_within.round) c.args.self.now c.loop-number.self
-    (subst (λ x. IsCounting c.args.parts.now c.args.start c.args.count (c.args.self.now.place + 1) x c.args.self.now c.loop-number.self) (let same : c.loop-number.number ≡ (c.match-self.begin.0 + c.in-Some-round_within.round) = omega (arith, c.loop-number.invariant.high, c.loop-number-test.false) in same) c.loop-number.invariant.walk)
-    c.turn_to-2.new.self c.in-Some-turn_to-2._period c.requires.interval c.requires.after (omega arith) (top_of c.args.parts.now c.args.self.now.place (c.match-self.begin.0 + c.in-Some-round_within.round) c.loop-number.invariant.top)
-    c.in-Some-turn_to-2.ensures.turned c.turn_to-2.ensures.place c.turn_to-2.ensures.steps c.turn_to-2.ensures.begun c.turn_to-2.ensures.moved in
-    let r = turned_room c.args.parts.now c.args.start c.args.count (c.args.self.now.place + 1) (c.match-self.begin.0 + c.in-Some-round_within.round) c.args.self.now c.turn_to-2.new.self c.in-Some-turn_to-2._period walked c.in-Some-turn_to-2.ensures.turned in
+    let r = turned_room c.args.parts.now c.args.start c.args.count (c.args.self.now.place + 1) (c.match-self.begin.0 + c.in-Some-round_within.round)
+    c.args.self.now c.turn_to-2.new.self c.in-Some-turn_to-2._period
+    (walked (goal.at.look_at-requires-clause-room c).In-Some-turn_to-2) c.in-Some-turn_to-2.ensures.turned in
     omega (arith, r, c.loop-number.invariant.top, c.period_of-own.ensures.value, c.period_of-own.ensures.small)
 
 pub returns-clause-passed : goal.returns-clause-passed
 returns-clause-passed c =
-    let turned = c.in-Some-turn_to-2.ensures.turned in
-    let ends = rounds_end c.args.parts.now c.args.start c.match-self.begin.0 c.in-Some-round_within.round (c.saturating_sub-ahead.result / c.in-Some-round_within.round) c.match-self.begin.1 c.turn_to-2.new.self.counted (c.in-Some-round_within.ensures c.args.start) c.loop-number.invariant.from
-    c.if-begin-lt2.false c.if-rounds-lt2.false (let r = begun c.args.parts.now.frequency (monday_zero c.args.parts.now.week_start) (c.match-self.begin.0 + c.saturating_sub-ahead.result / c.in-Some-round_within.round * c.in-Some-round_within.round) c.args.self.now.place (let t = target_in c.period_of-own.result c.match-self.begin.0 c.saturating_sub-ahead.result c.in-Some-round_within.round c.saturating_sub-ahead.ensures c.if-ahead-lt2.false in omega (arith, t, c.period_of-own.ensures.value)) in omega (arith, r, c.requires.place)) (turned.counted.total ∙ ap (λ x. count (first_local c.args.parts.now.frequency (monday_zero c.args.parts.now.week_start) x) (is_chosen c.args.parts.now c.args.start)) turned.number) in
-    let walked = counting_stopped c.args.parts.now c.args.start c.args.count (c.args.self.now.place + 1) (c.match-self.begin.0 + c.in-Some-round_within.round) c.args.self.now c.loop-number.self
-    (subst (λ x. IsCounting c.args.parts.now c.args.start c.args.count (c.args.self.now.place + 1) x c.args.self.now c.loop-number.self) (let same : c.loop-number.number ≡ (c.match-self.begin.0 + c.in-Some-round_within.round) = omega (arith, c.loop-number.invariant.high, c.loop-number-test.false) in same) c.loop-number.invariant.walk)
-    c.turn_to-2.new.self c.in-Some-turn_to-2._period c.requires.interval c.requires.after (omega arith) (top_of c.args.parts.now c.args.self.now.place (c.match-self.begin.0 + c.in-Some-round_within.round) c.loop-number.invariant.top)
-    c.in-Some-turn_to-2.ensures.turned c.turn_to-2.ensures.place c.turn_to-2.ensures.steps c.turn_to-2.ensures.begun c.turn_to-2.ensures.moved in
+    let at = (goal.at.returns-clause-passed c).In-Some-turn_to-2 in
+    let end = ends at in
     let place = c.loop-number.invariant.walk.place in
-    passed_on c.args.parts.now c.args.start c.args.count (c.args.self.now.place + 1) (c.match-self.begin.0 + c.in-Some-round_within.round) (c.match-self.begin.0 + c.saturating_sub-ahead.result / c.in-Some-round_within.round * c.in-Some-round_within.round) (c.match-self.begin.1 + (c.saturating_sub-ahead.result / c.in-Some-round_within.round) * (c.turn_to-2.new.self.counted - c.match-self.begin.1)) c.args.self.now c.turn_to-2.new.self c.look_at.new.self c.in-Some-turn_to-2._period c.look_at.result
-    walked turned c.look_at.ensures.cursor c.look_at.ensures.product c.look_at.ensures.number ends.later ends.step (let t = target_in c.period_of-own.result c.match-self.begin.0 c.saturating_sub-ahead.result c.in-Some-round_within.round c.saturating_sub-ahead.ensures c.if-ahead-lt2.false in omega (arith, t, c.period_of-own.ensures.value)) c.requires.after c.requires.own.inside refl (c.turn_to-2.ensures.place ∙ place) ends.total
+    passed_on c.args.parts.now c.args.start c.args.count (c.args.self.now.place + 1) (c.match-self.begin.0 + c.in-Some-round_within.round)
+    (c.match-self.begin.0 + c.saturating_sub-ahead.result / c.in-Some-round_within.round * c.in-Some-round_within.round)
+    (c.match-self.begin.1 + c.saturating_sub-ahead.result / c.in-Some-round_within.round * (c.turn_to-2.new.self.counted - c.match-self.begin.1))
+    c.args.self.now c.turn_to-2.new.self c.look_at.new.self c.in-Some-turn_to-2._period c.look_at.result (walked at) c.in-Some-turn_to-2.ensures.turned
+    c.look_at.ensures.cursor c.look_at.ensures.product c.look_at.ensures.number end.later end.step (target at) c.requires.after c.requires.own.inside refl
+    (c.turn_to-2.ensures.place ∙ place) end.total
 
 pub nonzero_div-rounds : goal.nonzero_div-rounds
 nonzero_div-rounds c = let is = c.in-Some-round_within.ensures c.args.start in let some = is.some in omega (arith, some)
