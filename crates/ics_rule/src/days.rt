@@ -129,6 +129,7 @@ fn month_run(first: u32, len: u16, month: u8) -> Run
 }
 
 /// Fills a set with the days of a year that are listed in its months.
+#[tactic(auto, using(jiff_core::proofs::CalendarLemmas::days_in_year_bounds))]
 #[inline(always)]
 fn add_listed_days(parts: &EffectiveRule, first: u32, len: u16, days: &mut WideBitSet)
     requires span { IsSpan Yearly (year_of first) first len }
@@ -189,6 +190,7 @@ fn add_days_of_month(
 }
 
 /// Fills a set with the days of a year that a rule allows, by a test of those that BYWEEKNO or BYYEARDAY may list, or of each.
+#[tactic(auto, using(jiff_core::proofs::CalendarLemmas::days_in_year_bounds))]
 #[inline(never)]
 fn add_tested_days(parts: &EffectiveRule, first: u32, len: u16, days: &mut WideBitSet)
     requires span { IsSpan Yearly (year_of first) first len }
@@ -203,6 +205,7 @@ fn add_tested_days(parts: &EffectiveRule, first: u32, len: u16, days: &mut WideB
 }
 
 /// Fills a set with the days of a year that a rule allows.
+#[tactic(auto, using(jiff_core::proofs::CalendarLemmas::days_in_year_bounds))]
 fn add_days_of_year(parts: &EffectiveRule, first: u32, len: u16, days: &mut WideBitSet)
     requires frequency { parts.now.frequency ≡ Yearly }
     requires span { IsSpan Yearly (year_of first) first len }

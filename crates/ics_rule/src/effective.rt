@@ -84,45 +84,15 @@ fn clock_part(kind: Kind, takes: bool, set: BitSet, n: u8) -> BitSet
     }
 }
 
-/// Day `n` of the month alone.
-fn only_place(n: u8) -> Ordinals
-    requires { n < 64 }
-    ensures { result ≡ only_place n }
-{
-    let mut places = Ordinals::new();
-    places.front = BitSet::only(n);
-    places
-}
-
-/// One weekday alone, numbered from 0 for Monday.
-fn only_weekday(weekday: u8) -> Weekdays
-    requires { weekday < 7 }
-    ensures { result ≡ only_weekday weekday }
-{
-    let mut weekdays = Weekdays::new();
-    weekdays.plain = BitSet::only(weekday);
-    weekdays
-}
-
-/// BYMONTH, or the month that the rule takes.
-fn months(parts: &Parts, month: u8) -> BitSet
-    requires { month < 64 }
-    ensures { result ≡ (if takes_month parts.now.frequency parts.now then only month else parts.now.months) }
-{
-    if takes_month(parts) {
-        BitSet::only(month)
-    } else {
-        parts.months()
-    }
-}
-
 /// BYMONTHDAY, or the day of the month that the rule takes.
 fn month_days(parts: &Parts, day: u8) -> Ordinals
     requires { day < 64 }
     ensures { result ≡ (if takes_month_day parts.now.frequency parts.now then only_place day else parts.now.month_days) }
 {
     if takes_month_day(parts) {
-        only_place(day)
+        let mut places = Ordinals::new();
+        places.front = BitSet::only(day);
+        places
     } else {
         parts.month_days()
     }
@@ -134,7 +104,9 @@ fn weekdays(parts: &Parts, weekday: u8) -> Weekdays
     ensures { result ≡ (if takes_weekday parts.now.frequency parts.now then only_weekday weekday else parts.now.weekdays) }
 {
     if takes_weekday(parts) {
-        only_weekday(weekday)
+        let mut weekdays = Weekdays::new();
+        weekdays.plain = BitSet::only(weekday);
+        weekdays
     } else {
         parts.weekdays()
     }
@@ -147,34 +119,27 @@ pub(crate) fn fill(parts: &Parts, kind: Kind, start: u64) -> EffectiveRule
     ensures interval { 1 ≤ result.interval }
 {
     let fields = civil_at((start / 86_400) as u32);
+    let hour = (start / 3_600 % 24) as u8;
+    let minute = (start / 60 % 60) as u8;
+    let second = (start % 60) as u8;
     let frequency = parts.frequency();
+    let months = if takes_month(parts) {
+        BitSet::only(fields.month)
+    } else {
+        parts.months()
+    };
     EffectiveRule {
         frequency,
         interval: parts.interval(),
         week_start: parts.week_start(),
-        months: months(parts, fields.month),
+        months,
         month_days: month_days(parts, fields.day),
         year_days: PlacesPart::new(parts.year_days()),
         weeks: parts.weeks(),
         weekdays: WeekdaysPart::new(weekdays(parts, fields.weekday.index())),
-        hours: clock_part(
-            kind,
-            skips_hours(frequency),
-            parts.hours(),
-            (start / 3_600 % 24) as u8,
-        ),
-        minutes: clock_part(
-            kind,
-            skips_minutes(frequency),
-            parts.minutes(),
-            (start / 60 % 60) as u8,
-        ),
-        seconds: clock_part(
-            kind,
-            skips_seconds(frequency),
-            parts.seconds(),
-            (start % 60) as u8,
-        ),
+        hours: clock_part(kind, skips_hours(frequency), parts.hours(), hour),
+        minutes: clock_part(kind, skips_minutes(frequency), parts.minutes(), minute),
+        seconds: clock_part(kind, skips_seconds(frequency), parts.seconds(), second),
         positions: PlacesPart::new(parts.positions()),
     }
 }

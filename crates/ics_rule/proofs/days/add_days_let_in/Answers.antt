@@ -8,6 +8,3 @@ pub add_days_of_year-requires-clause-span : goal.add_days_of_year-requires-claus
 add_days_of_year-requires-clause-span c =
     let own : IsSpan Yearly c.args.number c.args.first c.args.len = subst (λ f. IsSpan f c.args.number c.args.first c.args.len) c.in-Yearly.is c.requires.span in
     subst (λ y. IsSpan Yearly y c.args.first c.args.len) (sym (year_starts c.args.first c.args.number own.1.0)) own
-
-pub add_days_of_month-requires-clause-span : goal.add_days_of_month-requires-clause-span
-add_days_of_month-requires-clause-span c = subst (λ f. IsSpan f c.args.number c.args.first c.args.len) c.in-Monthly.is c.requires.span

@@ -1,21 +1,11 @@
-use Rattle.std.proofs.Common.{◌∙◌, pos, ap, sym, arith}
+use Rattle.std.proofs.Common.{◌∙◌, ap, sym}
 use Rattle.std.proofs.lemmas.Bool.{and_from}
-use Rattle.jiff_core.proofs.CalendarLemmas.{days_in_year_bounds}
 use Rattle.ics_values.specs.Sets.{contains_wide, is_empty}
 use Rattle.ics_values.specs.Days.{year_of}
 use Rattle.ics_values.specs.Ordinals.{lists_none}
 use Rattle.ics_rule.proofs.ScanLemmas.{none_has}
 use Rattle.ics_rule.proofs.MonthDays.{whole_year}
 use Rattle.ics_rule.proofs.days.add_days_of_year.Goals as goal
-
-pub add_weekdays-requires-clause-some : goal.add_weekdays-requires-clause-some
-add_weekdays-requires-clause-some c = let b = days_in_year_bounds (pos (year_of c.args.first)) in omega (arith, b.1, c.requires.span.1.1)
-
-pub add_weekdays-requires-clause-most : goal.add_weekdays-requires-clause-most
-add_weekdays-requires-clause-most c = let b = days_in_year_bounds (pos (year_of c.args.first)) in omega (arith, b.0, c.requires.span.1.1)
-
-pub add_weekdays-requires-clause-within : goal.add_weekdays-requires-clause-within
-add_weekdays-requires-clause-within c = let b = days_in_year_bounds (pos (year_of c.args.first)) in omega (arith, b.0, c.requires.span.1.1)
 
 pub returns-then-is_empty-2 : goal.returns-then-is_empty-2
 returns-then-is_empty-2 c = λ k. whole_year c.args.parts.now c.args.first c.args.len (year_of c.args.first) c.weekday_at.result k (contains_wide c.args.days.now k) _
@@ -24,6 +14,3 @@ returns-then-is_empty-2 c = λ k. whole_year c.args.parts.now c.args.first c.arg
     (sym c.is_empty-then-is_empty.ensures ∙ c.if-is_empty-2.true))
     c.requires.span.1.0 c.requires.span.1.1 c.weekday_at.ensures.value
     (ap (λ ws. contains_wide ws k) c.requires.empty ∙ none_has k) (c.add_weekdays.ensures k)
-
-pub leave_let_in-requires-clause-listed : goal.leave_let_in-requires-clause-listed
-leave_let_in-requires-clause-listed c = λ k. c.add_listed_days.ensures k

@@ -6,22 +6,13 @@ use Rattle.ics_values.proofs.SetLemmas.{member_below}
 use Rattle.ics_rule.proofs.ScanLemmas.{none_has}
 use Rattle.ics_rule.proofs.MonthDays.{seen_months, months_none, month_step, months_done}
 use Rattle.ics_rule.proofs.days.add_listed_days.Goals as goal
-use Rattle.ics_rule.proofs.days.add_listed_days.Goals.{In-Some, After-month_run}
+use Rattle.ics_rule.proofs.days.add_listed_days.Goals.{In-Some}
 
 pub loop-month-init : goal.loop-month-init
 loop-month-init c = (λ k. ap (λ ws. contains_wide ws k) c.requires.empty ∙ none_has k ∙ months_none c.args.parts.now (contains c.open_months-months.result) (c.args.first + k) (nat_lt k c.args.len), (omega arith, omega arith))
 
 small : (c : In-Some) → c.in-Some.month < 13
 small c = member_below c.open_months-months.result 13 c.in-Some.month c.open_months-months.ensures.bound c.in-Some.ensures.next.passes
-
-pub month_run-requires-clause-short : goal.month_run-requires-clause-short
-month_run-requires-clause-short c = let b = days_in_year_bounds (pos (year_of c.args.first)) in omega (arith, b.1, c.requires.span.1.1)
-
-pub month_run-requires-clause-long : goal.month_run-requires-clause-long
-month_run-requires-clause-long c = let b = days_in_year_bounds (pos (year_of c.args.first)) in omega (arith, b.0, c.requires.span.1.1)
-
-pub month_run-requires-clause-low : goal.month_run-requires-clause-low
-month_run-requires-clause-low c = omega (arith, c.loop-month.invariant.1.0, c.in-Some.ensures.next.low)
 
 pub month_run-requires-clause-high : goal.month_run-requires-clause-high
 month_run-requires-clause-high c = let s = small (goal.at.month_run-requires-clause-high c).In-Some in omega (arith, s)

@@ -1,25 +1,15 @@
-use Rattle.std.proofs.Common.{◌∙◌, ◌+◌, ◌&&◌, nat_lt, pos, ap, arith}
+use Rattle.std.proofs.Common.{◌∙◌, ◌+◌, ◌&&◌, nat_lt, ap}
 use Rattle.std.proofs.lemmas.Bool.{lt-ltb, ltb-true}
-use Rattle.jiff_core.proofs.CalendarLemmas.{days_in_year_bounds}
 use Rattle.ics_values.specs.Sets.{contains_wide}
 use Rattle.ics_values.specs.Days.{year_of}
 use Rattle.ics_rule.specs.Candidates.{lets_date, lets_wide_place}
 use Rattle.ics_rule.proofs.MonthDays.{candidates, narrowed, week_let_in, number_listed}
 use Rattle.ics_rule.proofs.days.add_tested_days.Goals as goal
 
-pub days_near_weeks-requires-clause-first : goal.days_near_weeks-requires-clause-first
-days_near_weeks-requires-clause-first c = c.requires.span.1.0
-
-pub days_near_weeks-requires-clause-size : goal.days_near_weeks-requires-clause-size
-days_near_weeks-requires-clause-size c = c.requires.span.1.1
-
 pub returns-else-is_empty : goal.returns-else-is_empty
 returns-else-is_empty c = λ k. c.those_let_in-else-is_empty.ensures k
     ∙ candidates (contains_wide c.days_near_weeks.result k) (lets_date c.args.parts.now (c.args.first + k)) (nat_lt k c.args.len)
     (λ h. lt-ltb k c.args.len (c.days_near_weeks.ensures.within k h)) (λ l h. c.days_near_weeks.ensures.all k (ltb-true k c.args.len l) (week_let_in c.args.parts.now (c.args.first + k) h))
-
-pub days_by_number-requires : goal.days_by_number-requires
-days_by_number-requires c = let b = days_in_year_bounds (pos (year_of c.args.first)) in omega (arith, b.0, c.requires.span.1.1)
 
 pub returns-then-is_empty : goal.returns-then-is_empty
 returns-then-is_empty c = λ k. c.those_let_in.ensures k ∙ ap (λ x. x && lets_date c.args.parts.now (c.args.first + k)) (c.days_by_number.ensures k)

@@ -2,16 +2,6 @@ use Rattle.std.proofs.Common.{pos, arith}
 use Rattle.jiff_core.proofs.CalendarLemmas.{days_of_months_more, days_of_months_mono, days_of_months_all}
 use Rattle.ics_rule.proofs.days.month_run.Goals as goal
 
-pub returns-clause-month : goal.returns-clause-month
-returns-clause-month c = λ y span. record {
-  year = span.0;
-  low = c.requires.low;
-  high = c.requires.high;
-  place = (let start = c.days_before_month-start.ensures.value y span.1.1 in omega (arith, span.1.0, start));
-  size = c.days_of_one.ensures y span.1.1;
-  weekday = c.weekday_at.ensures.value;
-}
-
 pub returns-clause-within : goal.returns-clause-within
 returns-clause-within c = λ y span.
     let more = days_of_months_more (pos y) c.args.month c.requires.low in
@@ -20,6 +10,3 @@ returns-clause-within c = λ y span.
     let start = c.days_before_month-start.ensures.value y span.1.1 in
     let size = c.days_of_one.ensures y span.1.1 in
     omega (arith, more, most, all, start, size, span.1.1)
-
-pub weekday_at-requires : goal.weekday_at-requires
-weekday_at-requires c = omega (arith, c.requires.days, c.days_before_month-start.ensures.bound)

@@ -1,5 +1,4 @@
-use Rattle.std.proofs.Common.{◌≡◌, ◌∙◌, ap, sym, arith}
-use Rattle.ics_rule.specs.NamedWeekdays.{named_below}
+use Rattle.std.proofs.Common.{◌∙◌, sym}
 use Rattle.ics_rule.proofs.PartLemmas.{named_none, named_more, named_less}
 use Rattle.ics_rule.proofs.part.named_weekdays.Goals as goal
 use Rattle.ics_rule.proofs.part.named_weekdays.Goals.{then-names_weekday, else-names_weekday}
@@ -12,6 +11,3 @@ loop-weekday-preserved c = elim c.if-names_weekday.branch [
   | then-names_weekday w ↦ named_more c.args.weekdays.now c.loop-weekday.weekday c.loop-weekday.named _ c.loop-weekday.invariant (sym c.names_weekday.ensures ∙ w.if-names_weekday.true) (w.named-is ∙ w.insert.ensures.value)
   | else-names_weekday w ↦ w.named-is ∙ named_less c.args.weekdays.now c.loop-weekday.weekday c.loop-weekday.named c.loop-weekday.invariant (sym c.names_weekday.ensures ∙ w.if-names_weekday.false)
 ]
-
-pub returns : goal.returns
-returns c = let e : c.loop-weekday.weekday ≡ 7 = omega arith in c.loop-weekday.invariant ∙ ap (named_below c.args.weekdays.now) e

@@ -1,10 +1,7 @@
-use Rattle.std.proofs.Common.{sym, subst, arith}
+use Rattle.std.proofs.Common.{sym, subst}
 use Rattle.ics_rule.specs.Searches.{NoneLetIn}
 use Rattle.ics_rule.proofs.PassLemmas.{none_on_days, none_on_clock}
 use Rattle.ics_rule.proofs.pass.next_open.Goals as goal
-
-pub returns-else-skips_hours-clause-high : goal.returns-else-skips_hours-clause-high
-returns-else-skips_hours-clause-high c = omega (arith, c.max-n.ensures, c.next_open_day-day.ensures.high, c.next_open_second.ensures.high, c.requires.local, c.requires.end)
 
 pub returns-else-skips_hours-clause-none : goal.returns-else-skips_hours-clause-none
 returns-else-skips_hours-clause-none c = none_on_clock c.args.parts.now c.args.n c.max-n.result c.next_open_second.result

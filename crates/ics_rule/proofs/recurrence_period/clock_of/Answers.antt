@@ -1,15 +1,9 @@
 use Rattle.std.proofs.Common.{◌∙◌, ◌/◌, ◌%◌, ◌==◌, ◌||◌, ◌&&◌, ap, sym}
 use Rattle.jiff_core.specs.Weekday.{monday_zero}
-use Rattle.ics_rule.specs.EffectiveRules.{skips_hours, skips_minutes, skips_seconds}
 use Rattle.ics_rule.specs.Candidates.{lets}
 use Rattle.ics_rule.specs.RecurrencePeriods.{first_local}
 use Rattle.ics_rule.proofs.PeriodLemmas.{no_minutes, no_seconds}
 use Rattle.ics_rule.proofs.recurrence_period.clock_of.Goals as goal
-
-pub returns-then-skips_hours-clause-hours : goal.returns-then-skips_hours-clause-hours
-returns-then-skips_hours-clause-hours c = λ m h. c.clock_set.ensures.members m h
-    ∙ ap (λ z. (z || (m == first_local c.args.parts.now.frequency (monday_zero c.args.parts.now.week_start) c.args.number / 3_600 % 24)) && lets c.args.parts.now.hours m)
-    (sym (sym c.skips_hours.ensures ∙ c.if-skips_hours.true))
 
 pub returns-then-skips_hours-clause-minutes : goal.returns-then-skips_hours-clause-minutes
 returns-then-skips_hours-clause-minutes c = λ m h. c.clock_set-then-skips_hours.ensures.members m h
@@ -20,18 +14,3 @@ pub returns-then-skips_hours-clause-seconds : goal.returns-then-skips_hours-clau
 returns-then-skips_hours-clause-seconds c = λ m h. c.clock_set-then-skips_hours-2.ensures.members m h
     ∙ ap (λ z. (z || (m == first_local c.args.parts.now.frequency (monday_zero c.args.parts.now.week_start) c.args.number % 60)) && lets c.args.parts.now.seconds m)
     (sym (no_seconds c.args.parts.now.frequency (sym c.skips_hours.ensures ∙ c.if-skips_hours.true)))
-
-pub returns-clause-hours : goal.returns-clause-hours
-returns-clause-hours c = λ m h. c.clock_set-2.ensures.members m h
-    ∙ ap (λ z. (z || (m == c.first_local-begin.result / 3_600 % 24)) && lets c.args.parts.now.hours m) c.skips_hours-2.ensures
-    ∙ ap (λ b. (skips_hours c.args.parts.now.frequency || (m == b / 3_600 % 24)) && lets c.args.parts.now.hours m) c.first_local-begin.ensures
-
-pub returns-clause-minutes : goal.returns-clause-minutes
-returns-clause-minutes c = λ m h. c.clock_set-3.ensures.members m h
-    ∙ ap (λ z. (z || (m == c.first_local-begin.result / 60 % 60)) && lets c.args.parts.now.minutes m) c.skips_minutes.ensures
-    ∙ ap (λ b. (skips_minutes c.args.parts.now.frequency || (m == b / 60 % 60)) && lets c.args.parts.now.minutes m) c.first_local-begin.ensures
-
-pub returns-clause-seconds : goal.returns-clause-seconds
-returns-clause-seconds c = λ m h. c.clock_set-4.ensures.members m h
-    ∙ ap (λ z. (z || (m == c.first_local-begin.result % 60)) && lets c.args.parts.now.seconds m) c.skips_seconds.ensures
-    ∙ ap (λ b. (skips_seconds c.args.parts.now.frequency || (m == b % 60)) && lets c.args.parts.now.seconds m) c.first_local-begin.ensures

@@ -22,17 +22,11 @@ loop-n-preserved c = (
   (omega arith, omega (arith, c.in-Some.ensures.small)),
 )
 
-pub returns-then-n-gt53-clause-within : goal.returns-then-n-gt53-clause-within
-returns-then-n-gt53-clause-within c = c.loop-n.invariant.0.within
-
 pub returns-then-n-gt53-clause-all : goal.returns-then-n-gt53-clause-all
 returns-then-n-gt53-clause-all c = λ k h l. covered c.args.parts.now.weeks _ c.args.len 54 k c.loop-n.days (omega arith) h
     (cover_jumps c.args.parts.now.weeks _ c.args.len c.loop-n.from 54 c.loop-n.days
     (λ j low less. sym (c.listed_weeks-listed.ensures j (omega (arith, low, c.loop-n.invariant.1.0)) (omega (arith, less))) ∙ c.in-Some.ensures.next.least j low (omega (arith, less, c.if-n-gt53.true))) c.loop-n.invariant.0)
     (week_near c.args.parts.now c.args.first c.args.len k _ c.requires.first c.requires.size h c.requires.some (ap (λ x. (x + 10 - c.weekday_at.result) % 7) c.index.ensures.value ∙ ap (λ x. (monday_zero c.args.parts.now.week_start + 10 - x) % 7) c.weekday_at.ensures.value) l)
-
-pub returns-clause-within : goal.returns-clause-within
-returns-clause-within c = c.loop-n.invariant.0.within
 
 pub returns-clause-all : goal.returns-clause-all
 returns-clause-all c = λ k h l. covered c.args.parts.now.weeks _ c.args.len 54 k c.loop-n.days (omega arith) h
