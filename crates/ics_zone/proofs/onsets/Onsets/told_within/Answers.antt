@@ -23,8 +23,8 @@ words-requires c =
     let shown = simp to_z-of_z at c.shown_at-local.ensures in
     omega (arith, ints, is, early, shown)
 
-pub returns-clause-known : goal.returns-clause-known
-returns-clause-known c =
+pub returns : goal.returns
+returns c =
     let fits : SFits w64 c.args.from = c.ranges.from in
     let offset : SFits w32 c.args.self.now.offset_from = search rules in
     let until : SFits w64 c.args.self.now.until = search rules in
@@ -34,19 +34,9 @@ returns-clause-known c =
     let first = simp to_z-of_z at c.seconds_to.ensures.first in
     let all = simp to_z-of_z at c.seconds_to.ensures.all in
     let words = simp to_z-of_z at c.words.ensures in
-    told_known c.args.self.now c.in_ok-hours.hours c.args.from c.shown_at-local.result c.seconds_to.result c.words.result told shown words
-    (λ k low h. first k h) all
-
-pub returns-clause-complete : goal.returns-clause-complete
-returns-clause-complete c =
-    let fits : SFits w64 c.args.from = c.ranges.from in
-    let offset : SFits w32 c.args.self.now.offset_from = search rules in
-    let until : SFits w64 c.args.self.now.until = search rules in
-    let count : SFits w64 c.seconds_to.result = search rules in
-    let told = simp to_z-of_z at c.in_ok-hours.ensures in
-    let shown = simp to_z-of_z at c.shown_at-local.ensures in
-    let first = simp to_z-of_z at c.seconds_to.ensures.first in
-    let all = simp to_z-of_z at c.seconds_to.ensures.all in
-    let words = simp to_z-of_z at c.words.ensures in
-    told_complete c.args.self.now c.in_ok-hours.hours c.args.from c.shown_at-local.result c.seconds_to.result c.words.result told shown words
-    (λ k low h. first k h) all
+    record {
+      known = told_known c.args.self.now c.in_ok-hours.hours c.args.from c.shown_at-local.result c.seconds_to.result c.words.result told shown words
+          (λ k low h. first k h) all;
+      complete = told_complete c.args.self.now c.in_ok-hours.hours c.args.from c.shown_at-local.result c.seconds_to.result c.words.result told shown words
+          (λ k low h. first k h) all;
+    }
