@@ -33,13 +33,13 @@ use Rattle.ics_calendar.specs.Event.{is_zoned}
 use Rattle.ics_values.specs.Locals.{local_seconds}
 use Rattle.ics_calendar.specs.Gathered.{IsSoundInstant, IsSoundCheck, checks_of, events_of_end}
 use Rattle.ics_calendar.specs.DeferredChecks.{zone_used, are_of_one_zone}
-use Rattle.ics_calendar.specs.Lines.{or_first, opened}
+use Rattle.ics_calendar.specs.Lines.{or_first, opened, event_note, event_check, builder_note, builder_check, end_check, joined, ended_as}
 use Rattle.ics_calendar.specs.SecondRound.{used_zone, used_in, listed_zone, instant_on, instant_in, both_compared, ends_in}
 use Rattle.ics_calendar.specs.Ready.{EachZone, end_of}
 use Rattle.ics_calendar.specs.Times.{dated_in, given_length}
 use Rattle.ics_calendar.specs.Sound.{IsSoundStamp}
 use Rattle.ics_calendar.specs.Values.{dated_of, is_out}
-use Rattle.ics_calendar.proofs.Judged.{event_note, event_check, builder_note, builder_check, end_check, check_in, joined, closed, behind, ends, ended_as}
+use Rattle.ics_calendar.proofs.Judged.{check_in, closed, behind, ends}
 use Rattle.ics_calendar.proofs.Judged.{is_begin_name, is_end_name, behind-is, check-is}
 use Rattle.ics_calendar.proofs.Listed.{some-weaker}
 use Rattle.ics_calendar.proofs.Sound.{IsSoundAt}

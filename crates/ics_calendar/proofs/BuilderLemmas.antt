@@ -28,10 +28,9 @@ use Rattle.ics_calendar.specs.DateValues.{rdates_of}
 use Rattle.ics_calendar.specs.Names.{name_of}
 use Rattle.ics_calendar.specs.PlacedLines.{Placed, Open, property_name, value, context_of, in_zone, is_begin, component, is_named, all_named}
 use Rattle.ics_calendar.proofs.Built.{collected_of, zone_of, observance_of}
-use Rattle.ics_calendar.specs.Lines.{or_first}
+use Rattle.ics_calendar.specs.Lines.{or_first, event_note, zone_note, observance_note, builder_note, joined}
 use Rattle.ics_calendar.specs.Builders.{observance_ended}
 use Rattle.ics_calendar.specs.Zones.{local_in, onset_in, offset_in, daily_in, onset_on, offset_on, daily_on, onsets_by, begins_in_zone}
-use Rattle.ics_calendar.proofs.Judged.{event_note, zone_note, observance_note, builder_note, joined}
 use Rattle.ics_calendar.proofs.NameLemmas.{Tells, tells, TellsComponent, tells_component}
 use Rattle.ics_calendar.proofs.EventBuilderLemmas.{collected_of-more, kept-more, parts_at}
 use Rattle.ics_calendar.proofs.Rows.{Readings, builder_at}

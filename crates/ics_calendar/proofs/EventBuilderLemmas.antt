@@ -17,8 +17,7 @@ use Rattle.ics_calendar.specs.PlacedLines.{Placed, property_name, value, value_o
 use Rattle.ics_calendar.specs.Values.{dated_of, lasting_of, duration_in, rule_in, ok_or_zero, is_cancelled}
 use Rattle.ics_calendar.specs.Faults.{dated_on, duration_on, parts_on, rdates_on, exdates_on}
 use Rattle.ics_calendar.proofs.Built.{collected_of}
-use Rattle.ics_calendar.specs.Lines.{or_first}
-use Rattle.ics_calendar.proofs.Judged.{event_note}
+use Rattle.ics_calendar.specs.Lines.{or_first, event_note}
 use Rattle.ics_calendar.proofs.NameLemmas.{Tells, tells}
 
 -- what all lines of a name say, with one line more

@@ -2,6 +2,7 @@
 use Rattle.std.proofs.Common.{◌≡◌, ℕ, Bool, true, false, ◌&&◌, List, [], ◌∷◌, ◌++◌, refl, sym, ap, ◌∙◌}
 use Rattle.std.specs.Prelude.{codes}
 use Rattle.std.specs.Str.{bytes_eq}
+use Rattle.ics_calendar.specs.Lines.{event_note}
 use Rattle.ics_calendar.specs.declared.component.Component.{Component}
 use Rattle.ics_calendar.specs.declared.component.Component.TheVariants as component
 use Rattle.ics_calendar.specs.declared.component.Context.{Context}
@@ -12,7 +13,6 @@ use Rattle.ics_calendar.specs.Names.{name_of}
 use Rattle.ics_calendar.specs.PlacedLines.{Placed, Open, property_name, context_of, is_begin, component, calendar_of}
 use Rattle.ics_calendar.proofs.Built.{collected_of}
 use Rattle.ics_calendar.specs.Builders.{event_ended}
-use Rattle.ics_calendar.proofs.Judged.{event_note}
 use Rattle.ics_calendar.proofs.NameLemmas.{TellsComponent, tells_component, context-in-outside}
 use Rattle.ics_calendar.proofs.EventBuilderLemmas.{collected_of-more, parts_at}
 use Rattle.ics_calendar.proofs.Ended.{events}

@@ -18,8 +18,8 @@ use Rattle.ics_calendar.specs.PlacedLines.{Placed, Open, context_of, property_na
 use Rattle.ics_calendar.specs.Builders.{fresh, observance_ended}
 use Rattle.ics_calendar.proofs.Built.{observance_of}
 use Rattle.ics_calendar.specs.Pass.{bottom}
-use Rattle.ics_calendar.specs.Lines.{calendar_in, opened}
-use Rattle.ics_calendar.proofs.Judged.{fault_in, fault_on, check_in, check_on, observance_note, joined, noted, closed, behind, IsBased, is_begin_name}
+use Rattle.ics_calendar.specs.Lines.{calendar_in, opened, observance_note, joined}
+use Rattle.ics_calendar.proofs.Judged.{fault_in, fault_on, check_in, check_on, noted, closed, behind, IsBased, is_begin_name}
 use Rattle.ics_calendar.proofs.Judged.{is_end_name}
 use Rattle.ics_calendar.proofs.NameLemmas.{Tells, tells, context-in-outside}
 use Rattle.ics_calendar.proofs.EventBuilderLemmas.{parts_at}

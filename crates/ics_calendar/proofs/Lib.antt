@@ -31,7 +31,6 @@ pub mod EventSound
 pub mod EventsOf
 pub mod ZoneTables
 pub mod Settling
-pub mod Steps
 mod ExampleFiles
 mod PropertyExamples
 mod ZoneExamples

@@ -16,11 +16,11 @@ use Rattle.ics_calendar.specs.FirstFault.{Fault}
 use Rattle.ics_calendar.specs.GatheredSeen.{GatheredSeen}
 use Rattle.ics_calendar.specs.Gathered.{IsSoundCheck, IsSoundGathered, nothing_gathered, zones_of_end, events_of_end, checks_of, and_passed}
 use Rattle.ics_calendar.specs.Components.{component_of}
-use Rattle.ics_calendar.specs.Lines.{opened}
+use Rattle.ics_calendar.specs.Lines.{opened, builder_note}
 use Rattle.ics_calendar.specs.Names.{name_of}
 use Rattle.ics_calendar.specs.Ready.{EachZone}
 use Rattle.ics_calendar.specs.Pass.{bottom, at_end, unless, Going, on_line, on_content, pass}
-use Rattle.ics_calendar.proofs.Judged.{fault_on, check_in, builder_note, closed, behind, ends, passing, IsBased, is_begin_name, is_end_name, behind-is, line-is}
+use Rattle.ics_calendar.proofs.Judged.{fault_on, check_in, closed, behind, ends, passing, IsBased, is_begin_name, is_end_name, behind-is, line-is}
 use Rattle.ics_calendar.proofs.NameLemmas.{context-in-outside}
 use Rattle.ics_calendar.specs.Sound.{IsWhole}
 use Rattle.ics_calendar.specs.ZonesSound.{IsSoundZone}

@@ -36,13 +36,14 @@ use Rattle.ics_calendar.specs.declared.builder.Builder.{Builder}
 use Rattle.ics_calendar.specs.declared.builder.Builder.TheVariants as builder
 use Rattle.ics_calendar.specs.Components.{component_of, context_in}
 use Rattle.ics_calendar.specs.DateValues.{date_time_of, has_slash, rdate_of, rdates_of}
-use Rattle.ics_calendar.specs.Lines.{or_first, opened, end_of_event, end_of_zone}
+use Rattle.ics_calendar.specs.Lines.{or_first, opened, end_of_event, end_of_zone, event_note}
+use Rattle.ics_calendar.specs.Lines.{zone_note, observance_note, builder_note, joined, fault_at_end_of, ended_as}
 use Rattle.ics_calendar.specs.Sound.{IsSoundStamp, IsSoundList, IsSoundLength, IsWhole}
 use Rattle.ics_calendar.specs.Builders.{fresh, zone_ended, observance_ended, event_ended}
 use Rattle.ics_calendar.specs.Values.{zone_name, dated_of, duration_in, lasting_of, is_lasting, is_fine, is_filled, ends_badly}
 use Rattle.ics_calendar.specs.Zones.{local_in, onset_in, offset_in, daily_in}
-use Rattle.ics_calendar.proofs.Judged.{event_note, zone_note, observance_note, builder_note, joined, closed, behind, behind-is, is_begin_name, is_end_name}
-use Rattle.ics_calendar.proofs.Judged.{fault_at_end_of, end_fault_at, ended_as, ends, fault_on}
+use Rattle.ics_calendar.proofs.Judged.{closed, behind, behind-is, is_begin_name, is_end_name}
+use Rattle.ics_calendar.proofs.Judged.{end_fault_at, ends, fault_on}
 use Rattle.ics_calendar.proofs.SoundValues.{day-zero, stamp-range, sound-stamp, sound-lasting, sound-rdates, sound-exdates}
 use Rattle.ics_values.specs.Locals.{local_at}
 use Rattle.ics_values.specs.declared.duration.Duration.{Duration}

@@ -3,6 +3,7 @@ use Rattle.std.proofs.Common.{◌≡◌, ℕ, Bool, true, false, ◌&&◌, List,
 use Rattle.std.specs.Prelude.{codes, unwrap_or}
 use Rattle.std.specs.Str.{bytes_eq}
 use Rattle.std.proofs.lemmas.Simd.{map-map}
+use Rattle.ics_calendar.specs.Lines.{zone_note}
 use Rattle.ics_calendar.specs.declared.component.Component.{Component}
 use Rattle.ics_calendar.specs.declared.component.Component.TheVariants as component
 use Rattle.ics_calendar.specs.declared.component.Context.{Context}
@@ -21,7 +22,7 @@ use Rattle.ics_calendar.specs.Zones.{begins_zone, zone_by, name_by}
 use Rattle.ics_calendar.proofs.NameLemmas.{TellsComponent, tells, tells_component, context-in-outside}
 use Rattle.ics_calendar.proofs.EventBuilderLemmas.{parts_at}
 use Rattle.ics_calendar.proofs.BuilderLemmas.{zone_of-more, parts-same}
-use Rattle.ics_calendar.proofs.Judged.{zone_note, is_begin_name}
+use Rattle.ics_calendar.proofs.Judged.{is_begin_name}
 use Rattle.ics_calendar.proofs.EventOrder.{calendar-from}
 use Rattle.ics_calendar.proofs.Frames.{begin-is}
 use Rattle.ics_calendar.proofs.Ended.{zones}

@@ -18,7 +18,6 @@ pub mod Zones
 pub mod ZonesSound
 pub mod SecondRound
 pub mod Lines
-pub mod Progresses
 pub mod Sound
 pub mod Pass
 pub mod Seen

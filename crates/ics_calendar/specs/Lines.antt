@@ -17,30 +17,24 @@ use Rattle.ics_values.specs.declared.duration.DurationFault.{DurationFault}
 use Rattle.ics_values.specs.declared.duration.DurationFault.TheVariants as duration
 use Rattle.ics_values.specs.declared.integer.IntegerFault.{IntegerFault}
 use Rattle.ics_values.specs.declared.integer.IntegerFault.TheVariants as integer
-use Rattle.ics_values.specs.declared.local.Local.{Local}
 use Rattle.ics_values.specs.declared.offset.BadOffset.{BadOffset}
 use Rattle.ics_values.specs.declared.rule_text.RuleFault.{RuleFault}
 use Rattle.ics_values.specs.declared.rule_text.RuleFault.TheVariants as rule
 use Rattle.ics_values.specs.declared.stamp.Stamp.{Stamp}
 use Rattle.ics_values.specs.declared.stamp.StampFault.{StampFault}
 use Rattle.ics_values.specs.declared.stamp.StampFault.TheVariants as stamp_fault
-use Rattle.ics_zone.specs.Observances.{ObservanceSaid}
 use Rattle.ics_calendar.specs.declared.event_builder.EventBuilder.{EventBuilder}
 use Rattle.ics_calendar.specs.declared.component.Component.{Component}
 use Rattle.ics_calendar.specs.declared.component.Component.TheVariants as component
 use Rattle.ics_calendar.specs.declared.component.Context.{Context}
 use Rattle.ics_calendar.specs.declared.component.Context.TheVariants as context
-use Rattle.ics_calendar.specs.declared.date_list.DateList.{DateList}
 use Rattle.ics_calendar.specs.declared.date_values.DateValue.{DateValue}
 use Rattle.ics_calendar.specs.declared.date_values.DateValue.TheVariants.{At}
-use Rattle.ics_calendar.specs.declared.dated.Dated.{Dated}
 use Rattle.ics_calendar.specs.declared.fault.FaultKind.{FaultKind}
 use Rattle.ics_calendar.specs.declared.fault.FaultKind.TheVariants as kind
 use Rattle.ics_calendar.specs.declared.frame.Frame.{Frame}
 use Rattle.ics_calendar.specs.declared.gathered.Ended.{Ended}
 use Rattle.ics_calendar.specs.declared.gathered.Ended.TheVariants as ended
-use Rattle.ics_calendar.specs.declared.gathered.EndedEvent.{EndedEvent}
-use Rattle.ics_calendar.specs.declared.gathered.EndedZone.{EndedZone}
 use Rattle.ics_calendar.specs.declared.gathered.Passed.{Passed}
 use Rattle.ics_calendar.specs.declared.deferred_check.DeferredCheck.{DeferredCheck}
 use Rattle.ics_calendar.specs.declared.name.Name.{Name}
@@ -61,36 +55,32 @@ use Rattle.ics_calendar.specs.Values.{ends_badly}
 use Rattle.ics_calendar.specs.Zones.{local_in, onset_in, offset_in, daily_in}
 use Rattle.ics_calendar.specs.SecondRound.{used_zone, listed_zone, ends_in}
 
--- WHAT A FUNCTION ANSWERS: what is said, or its fault; nothing is said where memory is refused.
-abbrev pub Gives : {X : Type 0} → Result X Refused → Result X FaultKind → Type 0
-Gives (Ok x) said = said ≡ Ok x
-Gives (Err Memory) said = Unit {0}
-Gives (Err (Fault kind)) said = said ≡ Err kind
+-- WHAT A FUNCTION ANSWERS: a value, where no fault stands there, or the fault; nothing is said where memory is refused.
+abbrev pub Gives : {X : Type 0} → Result X Refused → Option FaultKind → X → Type 0
+Gives (Ok x) fault value = (fault ≡ None) × (x ≡ value)
+Gives (Err Memory) fault value = Unit {0}
+Gives (Err (Fault kind)) fault value = fault ≡ Some kind
 
--- the same of one that also changes what it is given
+-- the same of one that changes what it is given, without an answer and with one
+abbrev pub Keeps : {Y : Type 0} → Result Unit Refused → Y → Option FaultKind → Y → Type 0
+Keeps (Ok x) now fault next = (fault ≡ None) × (now ≡ next)
+Keeps (Err Memory) now fault next = Unit {0}
+Keeps (Err (Fault kind)) now fault next = fault ≡ Some kind
+
+abbrev pub Notes : {X Y : Type 0} → Result X Refused → Y → Option FaultKind → Y → X → Type 0
+Notes (Ok x) now fault next value = (fault ≡ None) × (now ≡ next) × (x ≡ value)
+Notes (Err Memory) now fault next value = Unit {0}
+Notes (Err (Fault kind)) now fault next value = fault ≡ Some kind
+
 abbrev pub Makes : {X Y : Type 0} → Result X Refused → Y → Result (Y × X) FaultKind → Type 0
 Makes (Ok x) now said = said ≡ Ok (now, x)
 Makes (Err Memory) now said = Unit {0}
 Makes (Err (Fault kind)) now said = said ≡ Err kind
 
-abbrev pub Keeps : {Y : Type 0} → Result Unit Refused → Y → Result Y FaultKind → Type 0
-Keeps (Ok x) now said = said ≡ Ok now
-Keeps (Err Memory) now said = Unit {0}
-Keeps (Err (Fault kind)) now said = said ≡ Err kind
-
 -- said unless a fault stands there
 abbrev pub unless : {X : Type 0} → Option FaultKind → X → Result X FaultKind
 unless None x = Ok x
 unless (Some kind) x = Err kind
-
-abbrev pub and_then : {X Y : Type 0} → Result X FaultKind → (X → Result Y FaultKind) → Result Y FaultKind
-and_then (Ok x) f = f x
-and_then (Err kind) f = Err kind
-
--- a property that stands only once
-abbrev pub once : {X Y : Type 0} → FaultKind → Option X → Y → Result Y FaultKind
-once kind None y = Ok y
-once kind (Some x) y = Err kind
 
 -- the first of several counts
 abbrev pub or_first : {X : Type 0} → Option X → X → Option X
@@ -147,76 +137,74 @@ dates_fault values =
     else if list_any has_large_duration values then Some kind.NumberTooLarge
     else None
 
--- WHAT A VALUE SAYS, of an event and of an observance.
-abbrev pub dated_said : Parts → Result Dated FaultKind
-dated_said c = unless (stamp_fault_of (stamp_read c.params c.value)) (dated_of c.params c.value)
+-- A LINE OF AN EVENT: its fault, what is collected behind it, and its check in the second round.
+abbrev pub event_fault : Name → Parts → EventBuilder → Option FaultKind
+event_fault name.Uid c had = fault_if kind.Repeated (is_some had.uid)
+event_fault name.Dtstart c had = first (stamp_fault_of (stamp_read c.params c.value)) (fault_if kind.Repeated (is_some had.start))
+event_fault name.Dtend c had = first (stamp_fault_of (stamp_read c.params c.value)) (fault_if kind.Repeated (is_some had.end))
+event_fault name.Duration c had = first (duration_fault_of (lasting_of c.value)) (fault_if kind.Repeated (is_some had.duration))
+event_fault name.Rrule c had = first (rule_fault_of (rule_of c.value)) (fault_if kind.Repeated (is_some had.rule))
+event_fault name.RecurrenceId c had =
+    first (first (stamp_fault_of (stamp_read c.params c.value)) (fault_if kind.Repeated (is_some had.recurrence)))
+    (fault_if kind.ThisAndFuture (is_some (param_of (codes "RANGE") c.params)))
+event_fault name.Sequence c had = first (number_fault_of (integer_of c.value)) (fault_if kind.Repeated (is_some had.sequence))
+event_fault name.Rdate c had = dates_fault (rdates_of (is_some (zone_name c.params)) c.value)
+event_fault name.Exdate c had = dates_fault (exdates_of (is_some (zone_name c.params)) c.value)
+event_fault name.Exrule c had = Some kind.Exrule
+event_fault _ c had = None
 
-abbrev pub duration_said : List ℕ → Result Duration FaultKind
-duration_said text = unless (duration_fault_of (lasting_of text)) (duration_in (lasting_of text))
+abbrev pub event_note : Name → Parts → EventBuilder → EventBuilder
+event_note name.Uid c had = record had { uid = or_first had.uid (text_of c.value) }
+event_note name.Dtstart c had = record had { start = or_first had.start (dated_of c.params c.value) }
+event_note name.Dtend c had = record had { end = or_first had.end (dated_of c.params c.value) }
+event_note name.Duration c had = record had { duration = or_first had.duration (duration_in (lasting_of c.value)) }
+event_note name.Rrule c had = record had { rule = or_first had.rule (rule_in (rule_of c.value)) }
+event_note name.RecurrenceId c had = record had { recurrence = or_first had.recurrence (dated_of c.params c.value) }
+event_note name.Sequence c had = record had { sequence = or_first had.sequence (ok_or_zero (integer_of c.value)) }
+event_note name.Rdate c had = record had { rdates = had.rdates ++ rdate_list c.params c.value ∷ [] }
+event_note name.Exdate c had = record had { exdates = had.exdates ++ exdate_list c.params c.value ∷ [] }
+event_note name.Summary c had = record had { title = or_first had.title (text_of c.value) }
+event_note name.Location c had = record had { location = or_first had.location (text_of c.value) }
+event_note name.Description c had = record had { description = or_first had.description (text_of c.value) }
+event_note name.Status c had = record had { cancelled = or_first had.cancelled (is_cancelled c.value) }
+event_note _ c had = had
 
-abbrev pub rule_said : List ℕ → Result RuleParts FaultKind
-rule_said text = unless (rule_fault_of (rule_of text)) (rule_in (rule_of text))
+abbrev pub event_check : ℕ → Name → Parts → Option DeferredCheck
+event_check k name.Dtstart c = used_zone k (dated_of c.params c.value)
+event_check k name.Dtend c = used_zone k (dated_of c.params c.value)
+event_check k name.RecurrenceId c = used_zone k (dated_of c.params c.value)
+event_check k name.Rdate c = listed_zone k (rdate_list c.params c.value)
+event_check k name.Exdate c = listed_zone k (exdate_list c.params c.value)
+event_check k _ c = None
 
-abbrev pub number_said : List ℕ → Result ℕ FaultKind
-number_said text = unless (number_fault_of (integer_of text)) (ok_or_zero (integer_of text))
+-- A LINE OF A TIME ZONE and of an observance.
+abbrev pub zone_fault : Name → Parts → ZoneBuilder → Option FaultKind
+zone_fault name.Tzid c had = fault_if kind.ObservanceField (is_some had.name)
+zone_fault _ c had = None
 
-abbrev pub rdates_said : Parts → Result DateList FaultKind
-rdates_said c = unless (dates_fault (rdates_of (is_some (zone_name c.params)) c.value)) (rdate_list c.params c.value)
+abbrev pub zone_note : Name → Parts → ZoneBuilder → ZoneBuilder
+zone_note name.Tzid c had = record had { name = or_first had.name (text_of c.value) }
+zone_note _ c had = had
 
-abbrev pub exdates_said : Parts → Result DateList FaultKind
-exdates_said c = unless (dates_fault (exdates_of (is_some (zone_name c.params)) c.value)) (exdate_list c.params c.value)
+abbrev pub observance_fault : Name → Parts → ObservanceBuilder → Option FaultKind
+observance_fault name.Dtstart c had =
+    first (first (stamp_fault_of (stamp_of false c.value)) (fault_if kind.ObservanceField (is_not_local (At (stamp_of false c.value)))))
+    (fault_if kind.ObservanceField (is_some had.start))
+observance_fault name.OffsetFrom c had = first (offset_fault_of (offset_of c.value)) (fault_if kind.ObservanceField (is_some had.from))
+observance_fault name.OffsetTo c had = first (offset_fault_of (offset_of c.value)) (fault_if kind.ObservanceField (is_some had.to))
+observance_fault name.Rrule c had =
+    first (first (rule_fault_of (rule_of c.value)) (fault_if kind.ZoneRule (is_fine_rule (rule_of c.value)))) (fault_if kind.ZoneRule (is_some had.rule))
+observance_fault name.Rdate c had =
+    first (dates_fault (rdates_of false c.value)) (fault_if kind.ObservanceField (list_any is_not_local (rdates_of false c.value)))
+observance_fault _ c had = None
 
-abbrev pub onset_said : List ℕ → Result Local FaultKind
-onset_said text =
-    unless (first (stamp_fault_of (stamp_of false text)) (fault_if kind.ObservanceField (is_not_local (At (stamp_of false text)))))
-    (onset_in (stamp_of false text))
-
-abbrev pub offset_said : List ℕ → Result ℤ FaultKind
-offset_said text = unless (offset_fault_of (offset_of text)) (offset_in (offset_of text))
-
-abbrev pub daily_said : List ℕ → Result RuleParts FaultKind
-daily_said text = unless (first (rule_fault_of (rule_of text)) (fault_if kind.ZoneRule (is_fine_rule (rule_of text)))) (daily_in (rule_of text))
-
-abbrev pub onsets_said : List ℕ → Result (List Local) FaultKind
-onsets_said text =
-    unless (first (dates_fault (rdates_of false text)) (fault_if kind.ObservanceField (list_any is_not_local (rdates_of false text))))
-    (filter_map local_in (rdates_of false text))
-
--- A LINE OF AN EVENT in a calendar: what is collected with it, and its check in the second round.
-abbrev pub with_dated : ℕ → Parts → Option Dated → (Dated → EventBuilder) → Result (EventBuilder × Option DeferredCheck) FaultKind
-with_dated calendar c had put = and_then (dated_said c) (λ d. once kind.Repeated had (put d, used_zone calendar d))
-
-abbrev pub event_line : ℕ → Name → Parts → EventBuilder → Result (EventBuilder × Option DeferredCheck) FaultKind
-event_line k name.Uid c had = once kind.Repeated had.uid (record had { uid = Some (text_of c.value) }, None)
-event_line k name.Dtstart c had = with_dated k c had.start (λ d. record had { start = Some d })
-event_line k name.Dtend c had = with_dated k c had.end (λ d. record had { end = Some d })
-event_line k name.Duration c had = and_then (duration_said c.value) (λ d. once kind.Repeated had.duration (record had { duration = Some d }, None))
-event_line k name.Rrule c had = and_then (rule_said c.value) (λ r. once kind.Repeated had.rule (record had { rule = Some r }, None))
-event_line k name.RecurrenceId c had =
-    and_then (with_dated k c had.recurrence (λ d. record had { recurrence = Some d }))
-    (λ r. unless (fault_if kind.ThisAndFuture (is_some (param_of (codes "RANGE") c.params))) r)
-event_line k name.Sequence c had = and_then (number_said c.value) (λ n. once kind.Repeated had.sequence (record had { sequence = Some n }, None))
-event_line k name.Rdate c had = and_then (rdates_said c) (λ l. Ok (record had { rdates = had.rdates ++ l ∷ [] }, listed_zone k l))
-event_line k name.Exdate c had = and_then (exdates_said c) (λ l. Ok (record had { exdates = had.exdates ++ l ∷ [] }, listed_zone k l))
-event_line k name.Exrule c had = Err kind.Exrule
-event_line k name.Summary c had = Ok (record had { title = or_first had.title (text_of c.value) }, None)
-event_line k name.Location c had = Ok (record had { location = or_first had.location (text_of c.value) }, None)
-event_line k name.Description c had = Ok (record had { description = or_first had.description (text_of c.value) }, None)
-event_line k name.Status c had = Ok (record had { cancelled = or_first had.cancelled (is_cancelled c.value) }, None)
-event_line k _ c had = Ok (had, None)
-
--- A LINE OF A TIME ZONE, of an observance, and of a calendar.
-abbrev pub zone_line : Name → Parts → ZoneBuilder → Result ZoneBuilder FaultKind
-zone_line name.Tzid c had = once kind.ObservanceField had.name (record had { name = Some (text_of c.value) })
-zone_line _ c had = Ok had
-
-abbrev pub observance_line : Name → Parts → ObservanceBuilder → Result ObservanceBuilder FaultKind
-observance_line name.Dtstart c had = and_then (onset_said c.value) (λ l. once kind.ObservanceField had.start (record had { start = Some l }))
-observance_line name.OffsetFrom c had = and_then (offset_said c.value) (λ o. once kind.ObservanceField had.from (record had { from = Some o }))
-observance_line name.OffsetTo c had = and_then (offset_said c.value) (λ o. once kind.ObservanceField had.to (record had { to = Some o }))
-observance_line name.Rrule c had = and_then (daily_said c.value) (λ r. once kind.ZoneRule had.rule (record had { rule = Some r }))
-observance_line name.Rdate c had = and_then (onsets_said c.value) (λ ls. Ok (record had { rdates = had.rdates ++ ls }))
-observance_line _ c had = Ok had
+abbrev pub observance_note : Name → Parts → ObservanceBuilder → ObservanceBuilder
+observance_note name.Dtstart c had = record had { start = or_first had.start (onset_in (stamp_of false c.value)) }
+observance_note name.OffsetFrom c had = record had { from = or_first had.from (offset_in (offset_of c.value)) }
+observance_note name.OffsetTo c had = record had { to = or_first had.to (offset_in (offset_of c.value)) }
+observance_note name.Rrule c had = record had { rule = or_first had.rule (daily_in (rule_of c.value)) }
+observance_note name.Rdate c had = record had { rdates = had.rdates ++ filter_map local_in (rdates_of false c.value) }
+observance_note _ c had = had
 
 abbrev pub calendar_fault : Name → Parts → Option FaultKind
 calendar_fault name.Version c = fault_if kind.OldVersion (bytes_eq c.value (codes "1.0"))
@@ -228,11 +216,22 @@ plain_fault context.Outside n c = Some kind.NotCalendar
 plain_fault context.Calendar n c = calendar_fault n c
 plain_fault _ n c = None
 
-abbrev pub builder_line : ℕ → Context → Name → Parts → Builder → Result (Builder × Option DeferredCheck) FaultKind
-builder_line k q n c (builder.Event had) = and_then (event_line k n c had) (λ r. Ok (builder.Event r.0, r.1))
-builder_line k q n c (builder.Zone had) = and_then (zone_line n c had) (λ h. Ok (builder.Zone h, None))
-builder_line k q n c (builder.Observance had) = and_then (observance_line n c had) (λ h. Ok (builder.Observance h, None))
-builder_line k q n c builder.Nothing = unless (plain_fault q n c) (builder.Nothing, None)
+-- A LINE OF ANY COMPONENT, which begins and ends none.
+abbrev pub builder_fault : Context → Name → Parts → Builder → Option FaultKind
+builder_fault q n c (builder.Event had) = event_fault n c had
+builder_fault q n c (builder.Zone had) = zone_fault n c had
+builder_fault q n c (builder.Observance had) = observance_fault n c had
+builder_fault q n c builder.Nothing = plain_fault q n c
+
+abbrev pub builder_note : Name → Parts → Builder → Builder
+builder_note n c (builder.Event had) = builder.Event (event_note n c had)
+builder_note n c (builder.Zone had) = builder.Zone (zone_note n c had)
+builder_note n c (builder.Observance had) = builder.Observance (observance_note n c had)
+builder_note n c builder.Nothing = builder.Nothing
+
+abbrev pub builder_check : ℕ → Name → Parts → Builder → Option DeferredCheck
+builder_check k n c (builder.Event had) = event_check k n c
+builder_check k n c _ = None
 
 -- WHAT A COMPONENT IS at its END, and its check in the second round.
 abbrev pub end_of_event : EventBuilder → Option FaultKind
@@ -242,41 +241,40 @@ end_of_event had =
     else if (is_some had.end && is_some had.duration) || ends_badly had.start had.end then Some kind.BadEnd
     else None
 
-abbrev pub event_end : ℕ → EventBuilder → Result EndedEvent FaultKind
-event_end calendar had = unless (end_of_event had) (event_ended calendar had)
-
 abbrev pub end_of_zone : ZoneBuilder → Option FaultKind
 end_of_zone had =
     if length had.observances == 0 then Some kind.NoObservance
     else if not (is_some had.name) then Some kind.ObservanceField
     else None
 
-abbrev pub zone_end : ℕ → ZoneBuilder → Result EndedZone FaultKind
-zone_end calendar had = unless (end_of_zone had) (zone_ended calendar had)
-
 abbrev pub end_of_observance : ObservanceBuilder → Option FaultKind
 end_of_observance had = if is_some had.start && is_some had.from && is_some had.to then None else Some kind.ObservanceField
-
-abbrev pub observance_end : ObservanceBuilder → Result ObservanceSaid FaultKind
-observance_end had = unless (end_of_observance had) (observance_ended had)
-
--- a time zone keeps an observance that ends directly in it
-abbrev pub with_observance : ObservanceSaid → Builder → Builder
-with_observance observance (builder.Zone had) = builder.Zone (record had { observances = had.observances ++ observance ∷ [] })
-with_observance observance s = s
 
 abbrev pub passed : Ended → Option DeferredCheck → Passed
 passed end check = record { ended = end; check = check }
 
-abbrev pub builder_end : ℕ → Builder → Builder → Result (Builder × Passed) FaultKind
-builder_end calendar (builder.Event had) outer =
-    and_then (event_end calendar had) (λ e. Ok (outer, passed (ended.Event e) (ends_in calendar had.start had.end)))
-builder_end calendar (builder.Zone had) outer = and_then (zone_end calendar had) (λ z. Ok (outer, passed (ended.Zone z) None))
-builder_end calendar (builder.Observance had) outer = and_then (observance_end had) (λ o. Ok (with_observance o outer, passed ended.Nothing None))
-builder_end calendar builder.Nothing outer = Ok (outer, passed ended.Nothing None)
+abbrev pub fault_at_end_of : Builder → Option FaultKind
+fault_at_end_of (builder.Event had) = end_of_event had
+fault_at_end_of (builder.Zone had) = end_of_zone had
+fault_at_end_of (builder.Observance had) = end_of_observance had
+fault_at_end_of builder.Nothing = None
 
-abbrev pub frame_end : List ℕ → Frame → Builder → Result (Builder × Passed) FaultKind
-frame_end w f outer = if bytes_eq w (component_name f.component) then builder_end f.calendar f.builder outer else Err kind.BadNesting
+abbrev pub ended_as : ℕ → Builder → Ended
+ended_as k (builder.Event had) = ended.Event (event_ended k had)
+ended_as k (builder.Zone had) = ended.Zone (zone_ended k had)
+ended_as k _ = ended.Nothing
+
+-- what becomes of the component in which it ends: a time zone keeps an observance
+abbrev pub joined : Builder → Builder → Builder
+joined (builder.Observance had) (builder.Zone outer) = builder.Zone (record outer { observances = outer.observances ++ observance_ended had ∷ [] })
+joined _ outer = outer
+
+abbrev pub end_check : ℕ → Builder → Option DeferredCheck
+end_check k (builder.Event had) = ends_in k had.start had.end
+end_check k _ = None
+
+abbrev pub frame_fault : List ℕ → Frame → Option FaultKind
+frame_fault w f = if bytes_eq w (component_name f.component) then fault_at_end_of f.builder else Some kind.BadNesting
 
 -- WHAT A LINE MAKES of the components that are open, the innermost first.
 -- the calendar of a component that begins on that line: the outermost component, or that itself
@@ -300,19 +298,21 @@ abbrev pub begin_fault : Component → List Frame → Option FaultKind
 begin_fault c [] = None
 begin_fault c (f ∷ fs) = first (outside_fault f.context c) (fault_if kind.TooDeep (nat_le 32 (length fs)))
 
-abbrev pub begin_line : ℕ → Component → List Frame → Result (List Frame) FaultKind
-begin_line number c frames = unless (begin_fault c frames) (opened number c frames)
-
 abbrev pub end_line : List ℕ → List Frame → Result (List Frame × Passed) FaultKind
-end_line w (f ∷ g ∷ gs) = and_then (frame_end w f g.builder) (λ r. Ok (record g { builder = r.0 } ∷ gs, r.1))
+end_line w (f ∷ g ∷ gs) =
+    unless (frame_fault w f)
+    (record g { builder = joined f.builder g.builder } ∷ gs, passed (ended_as f.calendar f.builder) (end_check f.calendar f.builder))
 end_line w _ = Err kind.NotCalendar
 
 abbrev pub inner_line : Name → Parts → List Frame → Result (List Frame × Passed) FaultKind
 inner_line n c [] = Err kind.NotCalendar
-inner_line n c (f ∷ fs) = and_then (builder_line f.calendar f.context n c f.builder) (λ r. Ok (record f { builder = r.0 } ∷ fs, passed ended.Nothing r.1))
+inner_line n c (f ∷ fs) =
+    unless (builder_fault f.context n c f.builder)
+    (record f { builder = builder_note n c f.builder } ∷ fs, passed ended.Nothing (builder_check f.calendar n c f.builder))
 
 abbrev pub named_line : ℕ → Name → Parts → List Frame → Result (List Frame × Passed) FaultKind
-named_line number name.Begin c frames = and_then (begin_line number (component_of (map upper c.value)) frames) (λ fs. Ok (fs, passed ended.Nothing None))
+named_line number name.Begin c frames =
+    unless (begin_fault (component_of (map upper c.value)) frames) (opened number (component_of (map upper c.value)) frames, passed ended.Nothing None)
 named_line number name.End c frames = end_line (map upper c.value) frames
 named_line number n c frames = inner_line n c frames
 

@@ -1,10 +1,11 @@
 //! The values of RDATE and EXDATE with the zones that their lines name (RFC 5545, sections 3.8.5.1 and 3.8.5.2).
-ghost use Rattle.std.specs.Prelude.{◌≡◌, ◌++◌, ◌∷◌, [], map, IfOk};
+ghost use Rattle.std.specs.Prelude.{◌≡◌, ◌++◌, ◌∷◌, [], is_some, map, IfOk};
 ghost use Rattle.std.specs.List.{list_any};
-ghost use Rattle.ics_calendar.specs.DateLists.{rdate_in, exdate_in, rdates_by, exdates_by};
-ghost use Rattle.ics_calendar.specs.DateValues.{has_zoned};
-ghost use Rattle.ics_calendar.specs.Lines.{Gives, rdates_said, exdates_said};
+ghost use Rattle.ics_calendar.specs.DateLists.{rdate_list, exdate_list, rdate_in, exdate_in, rdates_by, exdates_by};
+ghost use Rattle.ics_calendar.specs.DateValues.{has_zoned, rdates_of, exdates_of};
+ghost use Rattle.ics_calendar.specs.Lines.{Notes, dates_fault};
 ghost use Rattle.ics_calendar.specs.SecondRound.{listed_zone};
+ghost use Rattle.ics_calendar.specs.Values.{zone_name};
 ghost use Rattle.ics_calendar.specs.ZoneTables.{known_by};
 
 use crate::date_values::DateValues;
@@ -52,7 +53,7 @@ pub struct DateList {
 /// What several lines list, in their order.
 #[derive(Drop)]
 pub struct DateLists {
-    lists: Vec<DateList>,
+    pub lists: Vec<DateList>,
 }
 
 impl Model for DateLists {
@@ -113,36 +114,8 @@ impl Dates {
 }
 
 impl DateList {
-    /// What an RDATE lists.
-    pub fn read_rdates(
-        alloc: Global,
-        tzids: &mut Tzids,
-        content: &Content<'_>,
-    ) -> Result<DateList, Refused>
-        ensures { Gives result (rdates_said content.now) }
-    {
-        let zone = zone_name(alloc, tzids, content)?;
-        let values = DateValues::of_rdate(alloc, content.value(), zone.is_some())?;
-        let values = values.listed(alloc)?;
-        Ok(DateList { values, zone })
-    }
-
-    /// What an EXDATE lists.
-    pub fn read_exdates(
-        alloc: Global,
-        tzids: &mut Tzids,
-        content: &Content<'_>,
-    ) -> Result<DateList, Refused>
-        ensures { Gives result (exdates_said content.now) }
-    {
-        let zone = zone_name(alloc, tzids, content)?;
-        let values = DateValues::of_exdate(alloc, content.value(), zone.is_some())?;
-        let values = values.listed(alloc)?;
-        Ok(DateList { values, zone })
-    }
-
     /// The time zone of the stamps, which is to be known.
-    pub fn used_zone(&self, calendar: u64) -> Result<Option<DeferredCheck>, AllocError>
+    fn used_zone(&self, calendar: u64) -> Result<Option<DeferredCheck>, AllocError>
         ensures { IfOk result (λ check. check ≡ listed_zone calendar self.now) }
     {
         if !self.values.have_zoned() {
@@ -178,21 +151,44 @@ fn push_exdates(
 }
 
 impl DateLists {
-    /// No lines.
-    pub fn new(alloc: Global) -> DateLists
-        ensures { result ≡ [] }
+    /// Adds what an RDATE of that calendar lists, and gives the check of its time zone.
+    pub fn add_rdates(
+        &mut self,
+        alloc: Global,
+        tzids: &mut Tzids,
+        calendar: u64,
+        content: &Content<'_>,
+    ) -> Result<Option<DeferredCheck>, Refused>
+        ensures { Notes result self.new (dates_fault (rdates_of (is_some (zone_name content.now.params)) content.now.value))
+            (self.old ++ rdate_list content.now.params content.now.value ∷ []) (listed_zone calendar (rdate_list content.now.params content.now.value)) }
     {
-        DateLists {
-            lists: Vec::new(alloc),
-        }
+        let zone = zone_name(alloc, tzids, content)?;
+        let values = DateValues::of_rdate(alloc, content.value(), zone.is_some())?;
+        let values = values.listed(alloc)?;
+        let list = DateList { values, zone };
+        let check = list.used_zone(calendar)?;
+        self.lists.push(list)?;
+        Ok(check)
     }
 
-    /// One line more.
-    pub fn add(&mut self, list: DateList) -> Result<(), AllocError>
-        ensures { IfOk result (λ _. self.new ≡ self.old ++ list ∷ []) }
+    /// The same of an EXDATE.
+    pub fn add_exdates(
+        &mut self,
+        alloc: Global,
+        tzids: &mut Tzids,
+        calendar: u64,
+        content: &Content<'_>,
+    ) -> Result<Option<DeferredCheck>, Refused>
+        ensures { Notes result self.new (dates_fault (exdates_of (is_some (zone_name content.now.params)) content.now.value))
+            (self.old ++ exdate_list content.now.params content.now.value ∷ []) (listed_zone calendar (exdate_list content.now.params content.now.value)) }
     {
+        let zone = zone_name(alloc, tzids, content)?;
+        let values = DateValues::of_exdate(alloc, content.value(), zone.is_some())?;
+        let values = values.listed(alloc)?;
+        let list = DateList { values, zone };
+        let check = list.used_zone(calendar)?;
         self.lists.push(list)?;
-        Ok(())
+        Ok(check)
     }
 
     /// The values of these RDATEs of a calendar.

@@ -2,18 +2,16 @@
 ghost use Rattle.std.specs.Prelude.{◌≡◌, ◌==◌, map, filter_map, IfOk};
 ghost use Rattle.std.specs.List.{list_any, position};
 ghost use Rattle.ics_values.specs.Periods.{lasts};
-ghost use Rattle.ics_values.specs.RuleTexts.{pieces};
-ghost use Rattle.ics_calendar.specs.Values.{is_bad_stamp, is_far_stamp};
 ghost use Rattle.ics_calendar.specs.Zones.{local_in};
 ghost use Rattle.ics_calendar.specs.declared.fault.FaultKind.TheVariants.{ObservanceField};
-ghost use Rattle.ics_calendar.specs.DateValues.{date_time_of, period_of, rdate_of, exdate_of, rdates_of, exdates_of, listed_in, listed_said, has_bad_stamp};
+ghost use Rattle.ics_calendar.specs.DateValues.{date_time_of, period_of, rdate_of, rdates_of, exdates_of, listed_in, listed_said, has_bad_stamp};
 ghost use Rattle.ics_calendar.specs.DateValues.{has_far_stamp, has_bad_duration, has_large_duration, is_local, is_not_local};
-ghost use Rattle.ics_calendar.specs.Lines.{Gives, unless, first, fault_if, dates_fault};
+ghost use Rattle.ics_calendar.specs.Lines.{Gives, first, fault_if, dates_fault};
 
 use crate::date_list::{Dates, ListedDate};
 use crate::fault::FaultKind;
 use crate::lasting::lasting;
-use crate::locals::Locals;
+use crate::observances::Locals;
 use crate::refused::Refused;
 use ics_values::{Duration, DurationFault, Local, Stamp, StampFault, read_stamp};
 use std::alloc::{AllocError, Global};
@@ -90,27 +88,9 @@ fn rdate(text: &[u8], zoned: bool) -> DateValue
     }
 }
 
-fn exdate(text: &[u8], zoned: bool) -> DateValue
-    ensures { result ≡ exdate_of zoned text.now }
-{
-    DateValue::At(read_stamp(text, zoned))
-}
-
-fn is_bad_stamp(stamp: Result<Stamp, StampFault>) -> bool
-    ensures { result ≡ is_bad_stamp stamp }
-{
-    matches!(stamp, Err(StampFault::BadStamp))
-}
-
-fn is_far_stamp(stamp: Result<Stamp, StampFault>) -> bool
-    ensures { result ≡ is_far_stamp stamp }
-{
-    matches!(stamp, Err(StampFault::YearRange))
-}
-
 impl DateValue {
     /// Whether it is a local stamp, read without a TZID.
-    pub fn is_local(self) -> bool
+    fn is_local(self) -> bool
         ensures { result ≡ is_local self }
     {
         matches!(self, DateValue::At(Ok(Stamp::Floating(_))))
@@ -124,12 +104,6 @@ impl DateValue {
             DateValue::At(Ok(Stamp::Floating(local))) => Some(local),
             _ => None,
         }
-    }
-
-    fn is_not_local(self) -> bool
-        ensures { result ≡ is_not_local self }
-    {
-        !self.is_local()
     }
 
     /// What it says, if it has no fault.
@@ -149,21 +123,25 @@ impl DateValue {
     fn has_bad_stamp(self) -> bool
         ensures { result ≡ has_bad_stamp self }
     {
-        match self {
-            DateValue::At(stamp) => is_bad_stamp(stamp),
-            DateValue::Between(start, end) => is_bad_stamp(start) || is_bad_stamp(end),
-            DateValue::Lasting(start, _) => is_bad_stamp(start),
-        }
+        matches!(
+            self,
+            DateValue::At(Err(StampFault::BadStamp))
+                | DateValue::Between(Err(StampFault::BadStamp), _)
+                | DateValue::Between(_, Err(StampFault::BadStamp))
+                | DateValue::Lasting(Err(StampFault::BadStamp), _)
+        )
     }
 
     fn has_far_stamp(self) -> bool
         ensures { result ≡ has_far_stamp self }
     {
-        match self {
-            DateValue::At(stamp) => is_far_stamp(stamp),
-            DateValue::Between(start, end) => is_far_stamp(start) || is_far_stamp(end),
-            DateValue::Lasting(start, _) => is_far_stamp(start),
-        }
+        matches!(
+            self,
+            DateValue::At(Err(StampFault::YearRange))
+                | DateValue::Between(Err(StampFault::YearRange), _)
+                | DateValue::Between(_, Err(StampFault::YearRange))
+                | DateValue::Lasting(Err(StampFault::YearRange), _)
+        )
     }
 
     fn has_bad_duration(self) -> bool
@@ -200,7 +178,7 @@ impl DateValues {
     {
         let mut values = Vec::new(alloc);
         'values: for value in text.split(|b| *b == b',') {
-            values.push(exdate(value, zoned))?;
+            values.push(DateValue::At(read_stamp(value, zoned)))?;
         }
         Ok(DateValues { values })
     }
@@ -224,7 +202,7 @@ impl DateValues {
 
     /// What they say, or the least fault among them.
     pub fn listed(&self, alloc: Global) -> Result<Dates, Refused>
-        ensures { Gives result (unless (dates_fault self.now) (map listed_in self.now)) }
+        ensures { Gives result (dates_fault self.now) (map listed_in self.now) }
     {
         if let Some(kind) = self.fault() {
             return Err(Refused::Fault(kind));
@@ -239,8 +217,8 @@ impl DateValues {
 
     /// The locals that they are, or the least fault among them: of an observance each is one.
     pub fn locals(&self, alloc: Global) -> Result<Locals, Refused>
-        ensures { Gives result (unless (first (dates_fault self.now) (fault_if ObservanceField (list_any is_not_local self.now)))
-            (filter_map local_in self.now)) }
+        ensures { Gives result (first (dates_fault self.now) (fault_if ObservanceField (list_any is_not_local self.now)))
+            (filter_map local_in self.now) }
     {
         if let Some(kind) = self.fault() {
             return Err(Refused::Fault(kind));
@@ -270,13 +248,6 @@ impl DateValues {
         self.values.iter().any(|value| value.has_far_stamp())
     }
 
-    /// Whether one of them is no local stamp, read without a TZID.
-    fn have_not_local(&self) -> bool
-        ensures { result ≡ list_any is_not_local self.now }
-    {
-        self.values.iter().any(|value| value.is_not_local())
-    }
-
     /// Whether a duration among them is none, or none that an event may have.
     fn have_bad_duration(&self) -> bool
         ensures { result ≡ list_any has_bad_duration self.now }
@@ -289,5 +260,12 @@ impl DateValues {
         ensures { result ≡ list_any has_large_duration self.now }
     {
         self.values.iter().any(|value| value.has_large_duration())
+    }
+
+    /// Whether one of them is no local stamp, read without a TZID.
+    fn have_not_local(&self) -> bool
+        ensures { result ≡ list_any is_not_local self.now }
+    {
+        self.values.iter().any(|value| !value.is_local())
     }
 }

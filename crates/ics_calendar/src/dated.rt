@@ -1,8 +1,7 @@
 ghost use Rattle.std.specs.Prelude.{◌≡◌, IfOk};
-ghost use Rattle.ics_calendar.specs.Event.{is_zoned};
-ghost use Rattle.ics_calendar.specs.Lines.{Gives, dated_said};
+ghost use Rattle.ics_calendar.specs.Lines.{Gives, stamp_fault_of};
 ghost use Rattle.ics_calendar.specs.SecondRound.{used_zone, instant_in};
-ghost use Rattle.ics_calendar.specs.Values.{tzid, zone_name};
+ghost use Rattle.ics_calendar.specs.Values.{dated_of, stamp_read, tzid, zone_name};
 
 use crate::deferred_check::{DeferredCheck, Instant, ZoneName};
 use crate::refused::Refused;
@@ -36,18 +35,11 @@ pub fn zone_name(
 impl Dated {
     /// The stamp of a line and the zone that its TZID names.
     pub fn read(alloc: Global, tzids: &mut Tzids, content: &Content<'_>) -> Result<Dated, Refused>
-        ensures { Gives result (dated_said content.now) }
+        ensures { Gives result (stamp_fault_of (stamp_read content.now.params content.now.value)) (dated_of content.now.params content.now.value) }
     {
         let zone = zone_name(alloc, tzids, content)?;
         let stamp = read_stamp(content.value(), zone.is_some())?;
         Ok(Dated { stamp, zone })
-    }
-
-    /// Whether it is a local stamp beside a TZID.
-    pub fn is_zoned(&self) -> bool
-        ensures { result ≡ is_zoned self.now.stamp }
-    {
-        is_zoned(self.stamp)
     }
 
     /// The name that its TZID gives.
@@ -64,7 +56,7 @@ impl Dated {
     pub fn used_zone(&self, calendar: u64) -> Result<Option<DeferredCheck>, AllocError>
         ensures { IfOk result (λ check. check ≡ used_zone calendar self.now) }
     {
-        if !self.is_zoned() {
+        if !is_zoned(self.stamp) {
             return Ok(None);
         }
         let name = ZoneName::shared(calendar, &self.zone)?;

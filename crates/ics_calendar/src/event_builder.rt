@@ -1,27 +1,29 @@
 //! An event that is being built of its lines.
 ghost use Rattle.std.specs.Prelude.{◌≡◌, Option, None, Some, is_some, true, false, IfOk, IfErr};
-ghost use Rattle.ics_calendar.specs.declared.name.Name.TheVariants as name;
-ghost use Rattle.ics_calendar.specs.Builders.{nothing};
-ghost use Rattle.ics_calendar.specs.Lines.{Gives, Makes, or_first, number_said, event_line, end_of_event, event_end};
-ghost use Rattle.ics_calendar.specs.SecondRound.{ends_in};
+ghost use Rattle.ics_values.specs.Integers.{integer_of};
+ghost use Rattle.ics_calendar.specs.declared.fault.FaultKind.TheVariants.{Repeated};
+ghost use Rattle.ics_calendar.specs.Builders.{nothing, event_ended};
+ghost use Rattle.ics_calendar.specs.Lines.{Gives, Notes, first, fault_if, or_first, stamp_fault_of, number_fault_of, event_fault, event_note, event_check};
+ghost use Rattle.ics_calendar.specs.Lines.{end_of_event};
+ghost use Rattle.ics_calendar.specs.SecondRound.{used_zone};
+ghost use Rattle.ics_calendar.specs.Values.{dated_of, ok_or_zero, stamp_read};
 ghost use Rattle.ics_calendar.specs.Times.{given_length};
-ghost use Rattle.ics_calendar.specs.Values.{is_filled, is_cancelled, lasting_of};
 
-use crate::date_list::{DateList, DateLists};
+use crate::date_list::DateLists;
 use crate::dated::Dated;
 use crate::deferred_check::DeferredCheck;
-use crate::ends::{ends_badly, ends_in};
+use crate::ends::ends_badly;
 use crate::fault::FaultKind;
 use crate::gathered::{EndedEvent, GivenLength};
 use crate::lasting::lasting;
 use crate::name::Name;
 use crate::refused::Refused;
 use crate::rule_value::RuleValue;
-use crate::text::{Text, text_or_empty};
+use crate::text::Text;
 use crate::tzid::Tzids;
 use ics_text::Content;
 use ics_values::{Duration, IntegerFault, is_word, read_integer};
-use std::alloc::{AllocError, Global};
+use std::alloc::Global;
 
 /// The value of each property that an event may have once, and what all its RDATEs and EXDATEs list.
 #[derive(Drop)]
@@ -53,6 +55,23 @@ pub fn once<T: Drop>(kept: &mut Option<T>, value: T, twice: FaultKind) -> Result
     Ok(())
 }
 
+/// Puts the stamp of a property of that calendar that stands only once, and gives the check of its time zone.
+fn put_date(
+    kept: &mut Option<Dated>,
+    alloc: Global,
+    tzids: &mut Tzids,
+    calendar: u64,
+    content: &Content<'_>,
+) -> Result<Option<DeferredCheck>, Refused>
+    ensures { Notes result kept.new (first (stamp_fault_of (stamp_read content.now.params content.now.value)) (fault_if Repeated (is_some kept.old)))
+        (or_first kept.old (dated_of content.now.params content.now.value)) (used_zone calendar (dated_of content.now.params content.now.value)) }
+{
+    let dated = Dated::read(alloc, tzids, content)?;
+    let check = dated.used_zone(calendar)?;
+    once(kept, dated, FaultKind::Repeated)?;
+    Ok(check)
+}
+
 /// Keeps the first text of several.
 fn keep_first(kept: &mut Option<Text>, text: Text)
     ensures { kept.new ≡ or_first kept.old text }
@@ -62,29 +81,14 @@ fn keep_first(kept: &mut Option<Text>, text: Text)
     }
 }
 
-fn is_cancelled(text: &[u8]) -> bool
-    ensures { result ≡ is_cancelled text.now }
-{
-    is_word(text, b"CANCELLED")
-}
-
 /// What a SEQUENCE says. One that is no number counts as 0.
 fn sequence(text: &[u8]) -> Result<u32, Refused>
-    ensures { Gives result (number_said text.now) }
+    ensures { Gives result (number_fault_of (integer_of text.now)) (ok_or_zero (integer_of text.now)) }
 {
     match read_integer(text) {
         Ok(number) => Ok(number),
         Err(IntegerFault::NotDigits) => Ok(0),
         Err(IntegerFault::NumberTooLarge) => Err(Refused::Fault(FaultKind::NumberTooLarge)),
-    }
-}
-
-fn is_filled(text: &Option<Text>) -> bool
-    ensures { result ≡ is_filled text.now }
-{
-    match text {
-        Some(text) => !text.as_slice().is_empty(),
-        None => false,
     }
 }
 
@@ -110,8 +114,12 @@ impl EventBuilder {
             end: None,
             duration: None,
             rule: None,
-            rdates: DateLists::new(alloc),
-            exdates: DateLists::new(alloc),
+            rdates: DateLists {
+                lists: Vec::new(alloc),
+            },
+            exdates: DateLists {
+                lists: Vec::new(alloc),
+            },
             recurrence: None,
             sequence: None,
             title: None,
@@ -119,89 +127,6 @@ impl EventBuilder {
             description: None,
             cancelled: None,
         }
-    }
-
-    /// A DTSTART.
-    fn start_line(
-        &mut self,
-        alloc: Global,
-        tzids: &mut Tzids,
-        calendar: u64,
-        content: &Content<'_>,
-    ) -> Result<Option<DeferredCheck>, Refused>
-        ensures { Makes result self.new (event_line calendar name.Dtstart content.now self.old) }
-    {
-        let dated = Dated::read(alloc, tzids, content)?;
-        let check = dated.used_zone(calendar)?;
-        once(&mut self.start, dated, FaultKind::Repeated)?;
-        Ok(check)
-    }
-
-    /// A DTEND.
-    fn end_line(
-        &mut self,
-        alloc: Global,
-        tzids: &mut Tzids,
-        calendar: u64,
-        content: &Content<'_>,
-    ) -> Result<Option<DeferredCheck>, Refused>
-        ensures { Makes result self.new (event_line calendar name.Dtend content.now self.old) }
-    {
-        let dated = Dated::read(alloc, tzids, content)?;
-        let check = dated.used_zone(calendar)?;
-        once(&mut self.end, dated, FaultKind::Repeated)?;
-        Ok(check)
-    }
-
-    /// A RECURRENCE-ID, which has no RANGE.
-    fn recurrence_line(
-        &mut self,
-        alloc: Global,
-        tzids: &mut Tzids,
-        calendar: u64,
-        content: &Content<'_>,
-    ) -> Result<Option<DeferredCheck>, Refused>
-        ensures { Makes result self.new (event_line calendar name.RecurrenceId content.now self.old) }
-    {
-        let dated = Dated::read(alloc, tzids, content)?;
-        let check = dated.used_zone(calendar)?;
-        once(&mut self.recurrence, dated, FaultKind::Repeated)?;
-        if content.param(b"RANGE").is_some() {
-            return Err(Refused::Fault(FaultKind::ThisAndFuture));
-        }
-        Ok(check)
-    }
-
-    /// One more RDATE.
-    fn rdate_line(
-        &mut self,
-        alloc: Global,
-        tzids: &mut Tzids,
-        calendar: u64,
-        content: &Content<'_>,
-    ) -> Result<Option<DeferredCheck>, Refused>
-        ensures { Makes result self.new (event_line calendar name.Rdate content.now self.old) }
-    {
-        let list = DateList::read_rdates(alloc, tzids, content)?;
-        let check = list.used_zone(calendar)?;
-        self.rdates.add(list)?;
-        Ok(check)
-    }
-
-    /// One more EXDATE.
-    fn exdate_line(
-        &mut self,
-        alloc: Global,
-        tzids: &mut Tzids,
-        calendar: u64,
-        content: &Content<'_>,
-    ) -> Result<Option<DeferredCheck>, Refused>
-        ensures { Makes result self.new (event_line calendar name.Exdate content.now self.old) }
-    {
-        let list = DateList::read_exdates(alloc, tzids, content)?;
-        let check = list.used_zone(calendar)?;
-        self.exdates.add(list)?;
-        Ok(check)
     }
 
     /// One line more of an event in that calendar. A stamp in a time zone gives a check for the second round.
@@ -213,15 +138,22 @@ impl EventBuilder {
         name: Name,
         content: &Content<'_>,
     ) -> Result<Option<DeferredCheck>, Refused>
-        ensures { Makes result self.new (event_line calendar name content.now self.old) }
+        ensures { Notes result self.new (event_fault name content.now self.old) (event_note name content.now self.old)
+            (event_check calendar name content.now) }
     {
         let value = content.value();
         match name {
-            Name::Dtstart => return self.start_line(alloc, tzids, calendar, content),
-            Name::Dtend => return self.end_line(alloc, tzids, calendar, content),
-            Name::RecurrenceId => return self.recurrence_line(alloc, tzids, calendar, content),
-            Name::Rdate => return self.rdate_line(alloc, tzids, calendar, content),
-            Name::Exdate => return self.exdate_line(alloc, tzids, calendar, content),
+            Name::Dtstart => return Ok(put_date(&mut self.start, alloc, tzids, calendar, content)?),
+            Name::Dtend => return Ok(put_date(&mut self.end, alloc, tzids, calendar, content)?),
+            Name::RecurrenceId => {
+                let check = put_date(&mut self.recurrence, alloc, tzids, calendar, content)?;
+                if content.param(b"RANGE").is_some() {
+                    return Err(Refused::Fault(FaultKind::ThisAndFuture));
+                }
+                return Ok(check);
+            }
+            Name::Rdate => return Ok(self.rdates.add_rdates(alloc, tzids, calendar, content)?),
+            Name::Exdate => return Ok(self.exdates.add_exdates(alloc, tzids, calendar, content)?),
             Name::Uid => {
                 let uid = Text::of_value(alloc, value)?;
                 once(&mut self.uid, uid, FaultKind::Repeated)?;
@@ -236,25 +168,19 @@ impl EventBuilder {
             Name::Summary => keep_first(&mut self.title, Text::of_value(alloc, value)?),
             Name::Location => keep_first(&mut self.location, Text::of_value(alloc, value)?),
             Name::Description => keep_first(&mut self.description, Text::of_value(alloc, value)?),
-            Name::Status => self.cancelled = self.cancelled.or(Some(is_cancelled(value))),
+            Name::Status => self.cancelled = self.cancelled.or(Some(is_word(value, b"CANCELLED"))),
             _ => {}
         }
         Ok(None)
-    }
-
-    /// The check of its end against its start, where that waits for the second round.
-    pub fn ends_in(&self, calendar: u64) -> Result<Option<DeferredCheck>, AllocError>
-        ensures { IfOk result (λ check. check ≡ ends_in calendar self.now.start self.now.end) }
-    {
-        ends_in(calendar, &self.start, &self.end)
     }
 
     /// The fault on the END of the event, if one stands there.
     fn fault_at_end(&self) -> Option<FaultKind>
         ensures { result ≡ end_of_event self.now }
     {
-        if !is_filled(&self.uid) {
-            return Some(FaultKind::MissingUid);
+        match &self.uid {
+            Some(uid) if !uid.as_slice().is_empty() => {}
+            _ => return Some(FaultKind::MissingUid),
         }
         if self.start.is_none() {
             return Some(FaultKind::MissingStart);
@@ -266,11 +192,11 @@ impl EventBuilder {
     }
 
     /// The event of that calendar, at its END.
-    pub fn end(self, alloc: Global, calendar: u64) -> Result<EndedEvent, FaultKind>
-        ensures { result ≡ event_end calendar self }
+    pub fn end(self, alloc: Global, calendar: u64) -> Result<EndedEvent, Refused>
+        ensures { Gives result (end_of_event self) (event_ended calendar self) }
     {
         if let Some(kind) = self.fault_at_end() {
-            return Err(kind);
+            return Err(Refused::Fault(kind));
         }
         let EventBuilder {
             uid,
@@ -288,11 +214,11 @@ impl EventBuilder {
             cancelled,
         } = self;
         let Some(start) = start else {
-            return Err(FaultKind::MissingStart);
+            return Err(Refused::Fault(FaultKind::MissingStart));
         };
         Ok(EndedEvent {
             calendar,
-            uid: text_or_empty(alloc, uid),
+            uid: uid.unwrap_or(Text::new(alloc)),
             start,
             length: given_length(end, duration),
             rule,
@@ -300,9 +226,9 @@ impl EventBuilder {
             exdates,
             recurrence,
             sequence: sequence.unwrap_or(0),
-            title: text_or_empty(alloc, title),
-            location: text_or_empty(alloc, location),
-            description: text_or_empty(alloc, description),
+            title: title.unwrap_or(Text::new(alloc)),
+            location: location.unwrap_or(Text::new(alloc)),
+            description: description.unwrap_or(Text::new(alloc)),
             cancelled: cancelled.unwrap_or(false),
         })
     }

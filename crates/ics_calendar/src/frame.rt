@@ -1,10 +1,11 @@
 //! A component that is open.
-ghost use Rattle.ics_calendar.specs.Lines.{Makes, frame_end};
+ghost use Rattle.ics_calendar.specs.Lines.{Notes, frame_fault, joined, passed, ended_as, end_check};
 ghost use Rattle.ics_text.specs.Bytes.{upper};
 ghost use Rattle.std.specs.Prelude.{map};
 
 use crate::builder::Builder;
 use crate::component::{Component, Context};
+use crate::ends::ends_in;
 use crate::fault::FaultKind;
 use crate::gathered::{Ended, Passed};
 use crate::refused::Refused;
@@ -23,7 +24,8 @@ pub struct Frame {
 impl Frame {
     /// What the component is where an END has that name. An observance goes to what it stands in.
     pub fn end(self, alloc: Global, outer: &mut Builder, name: &[u8]) -> Result<Passed, Refused>
-        ensures { Makes result outer.new (frame_end (map upper name.now) self outer.old) }
+        ensures { Notes result outer.new (frame_fault (map upper name.now) self) (joined self.builder outer.old)
+            (passed (ended_as self.calendar self.builder) (end_check self.calendar self.builder)) }
     {
         let Frame {
             component,
@@ -36,7 +38,7 @@ impl Frame {
         }
         match builder {
             Builder::Event(had) => {
-                let check = had.ends_in(calendar)?;
+                let check = ends_in(calendar, &had.start, &had.end)?;
                 let ended = Ended::Event(had.end(alloc, calendar)?);
                 Ok(Passed { ended, check })
             }
@@ -45,10 +47,19 @@ impl Frame {
                 Ok(Passed { ended, check: None })
             }
             Builder::Observance(had) => {
-                outer.add(had.end()?)?;
-                Ok(Passed::nothing())
+                let observance = had.end()?;
+                if let Builder::Zone(zone) = outer {
+                    zone.observances.list.push(observance)?;
+                }
+                Ok(Passed {
+                    ended: Ended::Nothing,
+                    check: None,
+                })
             }
-            Builder::Nothing => Ok(Passed::nothing()),
+            Builder::Nothing => Ok(Passed {
+                ended: Ended::Nothing,
+                check: None,
+            }),
         }
     }
 }

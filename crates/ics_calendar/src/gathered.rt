@@ -1,8 +1,7 @@
 //! What is gathered of a file, before its time zones and its events are made of it.
-ghost use Rattle.std.specs.Prelude.{◌≡◌, None, option_map, IfOk};
+ghost use Rattle.std.specs.Prelude.{◌≡◌, option_map, IfOk};
 ghost use Rattle.ics_calendar.specs.Gathered.{event_of};
-ghost use Rattle.ics_calendar.specs.Gathered.{nothing_gathered, and_passed};
-ghost use Rattle.ics_calendar.specs.Lines.{passed};
+ghost use Rattle.ics_calendar.specs.Gathered.{and_passed};
 ghost use Rattle.ics_calendar.specs.Ready.{IsReady};
 ghost use Rattle.ics_calendar.specs.Times.{time_on, length_of};
 ghost use Rattle.ics_calendar.specs.ZoneTables.{known_by};
@@ -14,7 +13,7 @@ use crate::event::Event;
 use crate::observances::Observances;
 use crate::rule_value::{RuleValue, parts_of};
 use crate::text::Text;
-use crate::time::{Length, Time};
+use crate::time::{Length, Time, is_zoned};
 use crate::zone_table::ZoneTable;
 use ics_values::Duration;
 use std::alloc::{AllocError, Global};
@@ -69,18 +68,6 @@ pub struct Passed {
     pub check: Option<DeferredCheck>,
 }
 
-impl Passed {
-    /// Nothing is gathered.
-    pub fn nothing() -> Passed
-        ensures { result ≡ passed Ended.Nothing None }
-    {
-        Passed {
-            ended: Ended::Nothing,
-            check: None,
-        }
-    }
-}
-
 /// A deferred check and the number of its line.
 #[derive(Drop)]
 pub struct LineCheck {
@@ -109,7 +96,7 @@ fn time_on(table: &ZoneTable, calendar: u64, dated: Dated) -> Time
     ensures { result ≡ time_on (known_by table.now).index calendar dated }
 {
     let stamp = dated.stamp;
-    if !dated.is_zoned() {
+    if !is_zoned(stamp) {
         return Time { stamp, zone: None };
     }
     let zone = table.index(&ZoneName::of(calendar, dated.zone));
@@ -161,17 +148,6 @@ impl EndedEvent {
 }
 
 impl Gathered {
-    /// Nothing is gathered yet.
-    pub fn new(alloc: Global) -> Gathered
-        ensures { result ≡ nothing_gathered }
-    {
-        Gathered {
-            zones: Vec::new(alloc),
-            events: Vec::new(alloc),
-            checks: Vec::new(alloc),
-        }
-    }
-
     /// Adds what is gathered on the line with that number.
     pub fn pass(&mut self, number: u64, passed: Passed) -> Result<(), AllocError>
         ensures { IfOk result (λ _. self.new ≡ and_passed number passed self.old) }

@@ -1,6 +1,6 @@
 //! The durations that an event may have.
 ghost use Rattle.std.specs.Prelude.{◌≡◌};
-ghost use Rattle.ics_calendar.specs.Values.{is_lasting, allowed, lasting_of};
+ghost use Rattle.ics_calendar.specs.Values.{is_lasting, lasting_of};
 
 use ics_values::{Duration, DurationFault, read_duration};
 

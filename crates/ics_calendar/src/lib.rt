@@ -18,7 +18,6 @@ mod gathered;
 mod judge;
 mod lasting;
 mod laws;
-mod locals;
 mod name;
 mod observances;
 mod read;

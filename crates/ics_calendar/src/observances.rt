@@ -1,11 +1,10 @@
 //! The observances of a time zone (RFC 5545, section 3.6.5).
-ghost use Rattle.std.specs.Prelude.{◌≡◌, ◌≢◌, ◌==◌, ◌++◌, ◌∷◌, [], length, false, IfOk};
+ghost use Rattle.std.specs.Prelude.{◌≡◌, ◌≢◌, [], false, IfOk};
 ghost use Rattle.std.specs.List.{All, list_any};
 ghost use Rattle.ics_zone.specs.Observances.{observance_said, observances_said, has_finer_rule};
 ghost use Rattle.ics_zone.specs.ZoneSaid.{ZoneSaid, zone_said};
 ghost use Rattle.ics_calendar.specs.ZonesSound.{IsSoundObservance, IsSoundZone};
 
-use crate::locals::Locals;
 use crate::rule_value::{RuleValue, parts_of};
 use ics_values::Local;
 use ics_zone::{Observance, Zone, ZoneFault};
@@ -22,6 +21,21 @@ pub struct EndedObservance {
     pub rdates: Locals,
 }
 
+/// The locals of the RDATEs of an observance, in their order.
+#[derive(Drop)]
+pub struct Locals {
+    pub locals: Vec<Local>,
+}
+
+impl Model for Locals {
+    ghost use Rattle.std.specs.Prelude.{List};
+    ghost use Rattle.ics_values.specs.declared.local.Local.{Local};
+
+    ghost Value = { List Local };
+
+    ghost view = { λ a. a.locals.items };
+}
+
 impl Model for EndedObservance {
     ghost use Rattle.ics_zone.specs.Observances.{ObservanceSaid};
 
@@ -33,7 +47,7 @@ impl Model for EndedObservance {
 /// The observances of a time zone that have ended, in their order.
 #[derive(Drop)]
 pub struct Observances {
-    list: Vec<EndedObservance>,
+    pub list: Vec<EndedObservance>,
 }
 
 impl Model for Observances {
@@ -56,7 +70,7 @@ impl EndedObservance {
             offset_from: self.offset_from,
             offset_to: self.offset_to,
             rule: parts_of(self.rule),
-            rdates: self.rdates.into_vec(),
+            rdates: self.rdates.locals,
         }
     }
 }
@@ -75,30 +89,6 @@ fn zone_of(alloc: Global, observances: Vec<Observance>) -> Result<Zone, AllocErr
 }
 
 impl Observances {
-    /// No observance has ended.
-    pub fn new(alloc: Global) -> Observances
-        ensures { result ≡ [] }
-    {
-        Observances {
-            list: Vec::new(alloc),
-        }
-    }
-
-    /// Whether none has ended.
-    pub fn is_empty(&self) -> bool
-        ensures { result ≡ (length self.now == 0) }
-    {
-        self.list.is_empty()
-    }
-
-    /// One more has ended.
-    pub fn push(&mut self, observance: EndedObservance) -> Result<(), AllocError>
-        ensures { IfOk result (λ _. self.new ≡ self.old ++ observance ∷ []) }
-    {
-        self.list.push(observance)?;
-        Ok(())
-    }
-
     /// The observances, where no fault stands on their lines.
     fn into_observances(self, alloc: Global) -> Result<Vec<Observance>, AllocError>
         requires { All IsSoundObservance self }

@@ -3,9 +3,7 @@ ghost use Rattle.std.specs.Prelude.{◌≡◌, ◌∷◌, [], ◌≤◌, length,
 ghost use Rattle.ics_calendar.specs.Files.{file_of};
 ghost use Rattle.ics_calendar.specs.Gathered.{nothing_gathered, IsSoundGathered};
 ghost use Rattle.ics_calendar.specs.GivenFiles.{files_by};
-ghost use Rattle.ics_calendar.specs.Lines.{line_in};
-ghost use Rattle.ics_calendar.specs.Pass.{pass, bottom, at_end, unless, gathered_of};
-ghost use Rattle.ics_calendar.specs.Progresses.{Goes};
+ghost use Rattle.ics_calendar.specs.Pass.{pass, bottom, at_end, gathered_of};
 ghost use Rattle.ics_calendar.specs.Seen.{NumbersFit, LastFits, SaysFile};
 
 use crate::draft::Draft;
@@ -15,15 +13,8 @@ use crate::gathered::Gathered;
 use crate::refused::Refused;
 use crate::stack::Stack;
 use crate::zone_files::ZoneFiles;
-use ics_text::{Content, Lines, content, numbers_within};
+use ics_text::{Lines, content, numbers_within};
 use std::alloc::{AllocError, Global};
-
-/// What has been read of the file so far: the components that are open, and what is gathered of those that have ended.
-#[derive(Drop)]
-pub struct Progress {
-    pub stack: Stack,
-    pub gathered: Gathered,
-}
 
 /// What stands where the lines end.
 fn at_end(stack: &Stack, last: Option<u64>) -> Option<Fault>
@@ -48,75 +39,36 @@ fn at_end(stack: &Stack, last: Option<u64>) -> Option<Fault>
     }
 }
 
-impl Progress {
-    /// No line has been read.
-    fn new(alloc: Global) -> Progress
-        ensures stack { result.stack ≡ bottom ∷ [] }
-        ensures gathered { result.gathered ≡ nothing_gathered }
-    {
-        Progress {
-            stack: Stack::new(alloc),
-            gathered: Gathered::new(alloc),
-        }
-    }
-
-    fn into_gathered(self) -> Gathered
-        ensures { result ≡ self.gathered }
-    {
-        self.gathered
-    }
-}
-
-/// Goes behind a line, and gathers what is to be gathered there.
-fn go_behind(
-    alloc: Global,
-    progress: &mut Progress,
-    number: u64,
-    parts: &Content<'_>,
-) -> Result<(), Refused>
-    ensures { Goes result progress.new progress.old.gathered number (line_in number parts.now progress.old.stack) }
-{
-    let passed = progress.stack.line(alloc, number, parts)?;
-    progress.gathered.pass(number, passed)?;
-    Ok(())
-}
-
-/// Goes behind the lines, or gives the first fault of the first round.
-fn go_behind_lines(
-    alloc: Global,
-    progress: &mut Progress,
-    mut lines: Lines<'_>,
-) -> Result<Option<Fault>, AllocError>
+/// What is gathered of the lines, or the first fault of the first round.
+fn pass_lines(alloc: Global, mut lines: Lines<'_>) -> Result<Result<Gathered, Fault>, AllocError>
     requires { NumbersFit lines }
-    ensures { IfOk result (λ fault. unless fault progress.new.gathered ≡ pass progress.old.stack None progress.old.gathered lines.entry) }
+    ensures { IfOk result (λ answer. answer ≡ pass (bottom ∷ []) None nothing_gathered lines.entry) }
 {
+    let mut stack = Stack::new(alloc);
+    let mut gathered = Gathered {
+        zones: Vec::new(alloc),
+        events: Vec::new(alloc),
+        checks: Vec::new(alloc),
+    };
     let mut last = None;
     'lines: while let Some(line) = lines.next(alloc)? {
         let number = line.number();
         let Ok(parts) = content(line.bytes()) else {
-            return Ok(Some(Fault {
+            return Ok(Err(Fault {
                 line: number,
                 kind: FaultKind::BadLine,
             }));
         };
-        match go_behind(alloc, progress, number, &parts) {
-            Ok(()) => last = Some(number),
+        match stack.line(alloc, number, &parts) {
+            Ok(passed) => gathered.pass(number, passed)?,
             Err(Refused::Memory) => return Err(AllocError),
-            Err(Refused::Fault(kind)) => return Ok(Some(Fault { line: number, kind })),
+            Err(Refused::Fault(kind)) => return Ok(Err(Fault { line: number, kind })),
         }
+        last = Some(number);
     }
-    Ok(at_end(&progress.stack, last))
-}
-
-/// What is gathered of the lines, or the first fault of the first round.
-fn pass_lines(alloc: Global, lines: Lines<'_>) -> Result<Result<Gathered, Fault>, AllocError>
-    requires { NumbersFit lines }
-    ensures { IfOk result (λ answer. answer ≡ pass (bottom ∷ []) None nothing_gathered lines.entry) }
-{
-    let mut progress = Progress::new(alloc);
-    match go_behind_lines(alloc, &mut progress, lines)? {
+    match at_end(&stack, last) {
         Some(fault) => Ok(Err(fault)),
-        None => Ok(Ok(progress.into_gathered())),
+        None => Ok(Ok(gathered)),
     }
 }
 

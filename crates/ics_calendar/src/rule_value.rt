@@ -1,7 +1,10 @@
 //! What an RRULE says.
 ghost use Rattle.std.specs.Prelude.{◌≡◌};
-ghost use Rattle.ics_calendar.specs.Lines.{Gives, rule_said, daily_said};
-ghost use Rattle.ics_calendar.specs.Values.{is_fine};
+ghost use Rattle.ics_values.specs.Rules.{rule_of};
+ghost use Rattle.ics_calendar.specs.declared.fault.FaultKind.TheVariants.{ZoneRule};
+ghost use Rattle.ics_calendar.specs.Lines.{Gives, rule_fault_of, first, fault_if};
+ghost use Rattle.ics_calendar.specs.Values.{rule_in, is_fine_rule};
+ghost use Rattle.ics_calendar.specs.Zones.{daily_in};
 
 use crate::fault::FaultKind;
 use crate::refused::Refused;
@@ -24,20 +27,10 @@ impl Model for RuleValue {
     ghost view = { λ a. a.parts.value };
 }
 
-/// Whether a rule repeats more often than daily.
-fn is_fine(frequency: Frequency) -> bool
-    ensures { result ≡ is_fine frequency }
-{
-    matches!(
-        frequency,
-        Frequency::Secondly | Frequency::Minutely | Frequency::Hourly
-    )
-}
-
 impl RuleValue {
     /// The rule that the value of an RRULE says.
     pub fn read(alloc: Global, value: &[u8]) -> Result<RuleValue, Refused>
-        ensures { Gives result (rule_said value.now) }
+        ensures { Gives result (rule_fault_of (rule_of value.now)) (rule_in (rule_of value.now)) }
     {
         let parts = read_rule(value)?;
         let parts = Box::new(alloc, parts)?;
@@ -46,21 +39,18 @@ impl RuleValue {
 
     /// The same of an observance, which begins at most daily.
     pub fn read_daily(alloc: Global, value: &[u8]) -> Result<RuleValue, Refused>
-        ensures { Gives result (daily_said value.now) }
+        ensures { Gives result (first (rule_fault_of (rule_of value.now)) (fault_if ZoneRule (is_fine_rule (rule_of value.now))))
+            (daily_in (rule_of value.now)) }
     {
         let parts = read_rule(value)?;
-        if is_fine(parts.frequency()) {
+        if matches!(
+            parts.frequency(),
+            Frequency::Secondly | Frequency::Minutely | Frequency::Hourly
+        ) {
             return Err(Refused::Fault(FaultKind::ZoneRule));
         }
         let parts = Box::new(alloc, parts)?;
         Ok(RuleValue { parts })
-    }
-
-    /// The rule.
-    pub fn parts(&self) -> Parts
-        ensures { result ≡ self.now }
-    {
-        *self.parts
     }
 }
 
@@ -69,7 +59,7 @@ pub fn parts_of(rule: Option<RuleValue>) -> Option<Parts>
     ensures { result ≡ rule }
 {
     match rule {
-        Some(rule) => Some(rule.parts()),
+        Some(rule) => Some(*rule.parts),
         None => None,
     }
 }

@@ -1,7 +1,7 @@
 //! The components that are open.
 ghost use Rattle.std.specs.Prelude.{◌≡◌, ◌∷◌, [], map};
 ghost use Rattle.ics_text.specs.Bytes.{upper};
-ghost use Rattle.ics_calendar.specs.Lines.{Makes, Keeps, calendar_in, begin_fault, begin_line, end_line, line_in};
+ghost use Rattle.ics_calendar.specs.Lines.{Makes, Keeps, begin_fault, opened, end_line, line_in};
 ghost use Rattle.ics_calendar.specs.Pass.{bottom, is_lowest};
 
 use crate::builder::Builder;
@@ -62,40 +62,23 @@ impl Stack {
         self.outer.is_empty()
     }
 
-    /// The calendar of a component that begins on the line with that number.
-    fn calendar_in(&self, number: u64) -> u64
-        ensures { result ≡ calendar_in number self.now }
+    /// Opens a component on the line with that number.
+    fn begin(&mut self, alloc: Global, number: u64, component: Component) -> Result<(), Refused>
+        ensures { Keeps result self.new (begin_fault component self.old) (opened number component self.old) }
     {
-        if self.outer.is_empty() {
-            number
-        } else {
-            self.top.calendar
-        }
-    }
-
-    /// Why a component does not begin here: it stands outside a calendar, or too deep.
-    fn begin_fault(&self, component: &Component) -> Option<FaultKind>
-        ensures { result ≡ begin_fault component.now self.now }
-    {
-        match (self.top.context, component) {
+        match (self.top.context, &component) {
             (Context::Outside, Component::Calendar) => {}
-            (Context::Outside, _) => return Some(FaultKind::NotCalendar),
+            (Context::Outside, _) => return Err(Refused::Fault(FaultKind::NotCalendar)),
             _ => {}
         }
         if self.outer.len() >= MAX_DEPTH {
-            return Some(FaultKind::TooDeep);
+            return Err(Refused::Fault(FaultKind::TooDeep));
         }
-        None
-    }
-
-    /// Opens a component on the line with that number.
-    fn begin(&mut self, alloc: Global, number: u64, component: Component) -> Result<(), Refused>
-        ensures { Keeps result self.new (begin_line number component self.old) }
-    {
-        if let Some(kind) = self.begin_fault(&component) {
-            return Err(Refused::Fault(kind));
-        }
-        let calendar = self.calendar_in(number);
+        let calendar = if self.outer.is_empty() {
+            number
+        } else {
+            self.top.calendar
+        };
         let context = component.context_in(self.top.context);
         let inner = Frame {
             component,

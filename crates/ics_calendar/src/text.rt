@@ -1,4 +1,4 @@
-ghost use Rattle.std.specs.Prelude.{◌≡◌, IfOk, [], map, unwrap_or, Some, refl, bytes_eq};
+ghost use Rattle.std.specs.Prelude.{◌≡◌, IfOk, [], map, Some, refl, bytes_eq};
 ghost use Rattle.std.specs.Cmp.{partial_equiv_from_equiv};
 ghost use Rattle.std.specs.Cmp.Lexicographic.{slice_cmp, nat_list_eq_equiv, nat_list_cmp_total, texts_ties, texts_po};
 ghost use Rattle.std.specs.Ordering.{nat_cmp};
@@ -22,16 +22,6 @@ impl Model for Text {
     ghost Value = { List ℕ };
 
     ghost view = { λ a. a.bytes.items };
-}
-
-/// The text, or an empty one.
-pub(crate) fn text_or_empty(alloc: Global, text: Option<Text>) -> Text
-    ensures { result ≡ unwrap_or text [] }
-{
-    match text {
-        Some(text) => text,
-        None => Text::new(alloc),
-    }
 }
 
 impl Text {

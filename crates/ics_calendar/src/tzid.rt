@@ -50,14 +50,6 @@ impl Tzid {
         Ok(Tzid { bytes: Some(bytes) })
     }
 
-    /// The name that a TEXT value stands for, without its escapes.
-    fn of_value(alloc: Global, value: &[u8]) -> Result<Tzid, AllocError>
-        ensures { IfOk result (λ zone. zone ≡ text_of value.now) }
-    {
-        let bytes = RcSlice::from_vec(text_bytes(alloc, value)?)?;
-        Ok(Tzid { bytes: Some(bytes) })
-    }
-
     /// The same name, in the same memory.
     pub fn shared(&self) -> Result<Tzid, AllocError>
         ensures { IfOk result (λ zone. zone ≡ self.now) }
@@ -119,7 +111,8 @@ impl Tzids {
     pub fn of_value(&mut self, alloc: Global, value: &[u8]) -> Result<Tzid, AllocError>
         ensures { IfOk result (λ zone. zone ≡ text_of value.now) }
     {
-        self.kept(Tzid::of_value(alloc, value)?)
+        let bytes = RcSlice::from_vec(text_bytes(alloc, value)?)?;
+        self.kept(Tzid { bytes: Some(bytes) })
     }
 }
 

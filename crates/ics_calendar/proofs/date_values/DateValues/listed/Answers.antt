@@ -1,11 +1,10 @@
-use Rattle.std.proofs.Common.{◌≡◌, ◌∙◌, sym, ap, map, List, None, Ok, rules, tests}
+use Rattle.std.proofs.Common.{◌≡◌, ◌∙◌, sym, None, Ok, rules, tests}
 use Rattle.std.specs.Prelude.{filter_map}
 use Rattle.std.specs.declared.alloc.AllocError.{AllocError}
 use Rattle.std.proofs.lemmas.Iterator.{items_from_collect, YieldsList-from_slice}
 use Rattle.std.proofs.lemmas.Iterator.Consumers.{YieldsList-from_filter_map}
-use Rattle.ics_calendar.specs.declared.date_list.ListedDate.{ListedDate}
-use Rattle.ics_calendar.specs.DateValues.{listed_in, listed_said}
-use Rattle.ics_calendar.specs.Lines.{unless, dates_fault}
+use Rattle.ics_calendar.specs.DateValues.{listed_said}
+use Rattle.ics_calendar.specs.Lines.{dates_fault}
 use Rattle.ics_calendar.proofs.DateValueLemmas.{said-list}
 use Rattle.ics_calendar.proofs.date_values.DateValues.listed.Goals as goal
 
@@ -15,4 +14,4 @@ returns c =
     items_from_collect {E = AllocError} (Ok c.in_ok-values.values) c.in_ok-values.ensures.ran
     (YieldsList-from_filter_map _ _ (YieldsList-from_slice c.args.self.now cc) c.filter_map.ensures.closure (λ x r q k. search (rules, tests))) in
     let none : dates_fault c.args.self.now ≡ None = sym c.fault.ensures ∙ c.in_default.is in
-    ap (λ o. unless o (map listed_in c.args.self.now)) none ∙ ap (λ (xs : List ListedDate). Ok xs) (sym (items ∙ said-list c.args.self.now none))
+    (none, items ∙ said-list c.args.self.now none)
