@@ -9,7 +9,7 @@ use Rattle.ics_calendar.specs.Components.{is_zone_context}
 use Rattle.ics_calendar.specs.PlacedLines.{Placed, Open, context_of, is_begin, is_end, begins_observance, component, path_behind, innermost, lines_in, beside}
 use Rattle.ics_calendar.specs.Zones.{begins_in_zone}
 use Rattle.ics_calendar.proofs.Order.{inside}
-use Rattle.ics_calendar.proofs.Paths.{Falls}
+use Rattle.ics_calendar.proofs.Order.{Falls}
 
 -- An open component, by its BEGIN line and the lines that stand directly in it so far, but for the BEGIN line of the
 -- component that is open in it; the outermost bundle is no component.

@@ -1,12 +1,28 @@
--- Worked events in time zones. What is expected is counted by hand.
-use Rattle.std.proofs.Common.{◌≡◌, ℕ, List, [], ◌∷◌, ◌++◌, map, refl, Option, Some, None}
-use Rattle.std.specs.Prelude.{codes}
+-- Worked events in time zones, and ends that compare as instants, in zones with one offset. What is expected is counted by hand.
+use Rattle.std.proofs.Common.{◌≡◌, ℕ, List, [], ◌∷◌, ◌++◌, map, refl, Option, Some, None, inl, inr, sym, ap, ◌∙◌, subst, arith, ℤ, pos, negsuc, ◌-ℤ◌}
+use Rattle.std.specs.Prelude.{codes, slice_get}
+use Rattle.std.proofs.lemmas.Int.{ints}
+use Rattle.std.proofs.lemmas.Option.{slice_get_within}
+use Rattle.ics_values.specs.declared.local.Local.{Local}
+use Rattle.ics_zone.specs.Moments.{zone_moment}
+use Rattle.ics_zone.specs.Observances.{ObservanceSaid, IsZone, IsObservanceSaid}
+use Rattle.ics_zone.specs.ZoneOffsets.{IsOffset, zone_offset}
+use Rattle.ics_zone.specs.ZoneBounds.{zone_offset_short}
+use Rattle.ics_zone.proofs.MomentLemmas.{moment_unique, moment_found}
+use Rattle.ics_zone.proofs.OnsetLemmas.{offset_found}
+use Rattle.ics_zone.specs.ZoneSaid.{ZoneSaid}
 use Rattle.ics_calendar.specs.declared.fault.FaultKind.TheVariants.{BadEnd, UnknownZone}
 use Rattle.ics_calendar.specs.declared.time.Length.{Length}
 use Rattle.ics_calendar.specs.declared.time.Length.TheVariants.{Until}
 use Rattle.ics_calendar.specs.Event.{EventSeen}
 use Rattle.ics_calendar.proofs.ExampleFiles.{calendar, events, zone, fault, at}
+use Rattle.ics_calendar.specs.declared.deferred_check.Instant.TheVariants.{Utc, Zoned}
+use Rattle.ics_calendar.specs.declared.deferred_check.DeferredCheck.TheVariants.{Ends}
+use Rattle.ics_calendar.specs.declared.deferred_check.ZoneName.{ZoneName}
+use Rattle.ics_calendar.specs.DeferredChecks.{KnownZones, known_zones, judged}
+use Rattle.ics_calendar.proofs.EventSound.{some-same}
 
+-- Worked events in time zones. What is expected is counted by hand.
 abbrev event : List (List ℕ) → List (List ℕ)
 event lines = codes "BEGIN:VEVENT" ∷ codes "UID:a" ∷ lines ++ codes "END:VEVENT" ∷ []
 
@@ -54,3 +70,78 @@ unknown_end = refl
 -- stamps of one TZID compare as locals, whatever the clock does between them, and before any zone is known
 as_locals : fault (calendar (event (codes "DTSTART;TZID=A:20240105T095959" ∷ codes "DTEND;TZID=A:20240105T093000" ∷ []))) ≡ at 6 BadEnd
 as_locals = refl
+
+-- Worked ends that compare as instants, in zones with one offset. What is expected is counted by hand.
+only : (p q : ObservanceSaid) (i : ℕ) → slice_get (p ∷ []) i ≡ Some q → p ≡ q
+only p q i h =
+    let zero_at : i ≡ 0 = omega (arith, slice_get_within (p ∷ []) i q h) in
+    some-same p q (subst (λ k. slice_get (p ∷ []) k ≡ Some q) zero_at h)
+
+module _ (p : ObservanceSaid) (one : p.offset_from ≡ p.offset_to) (facts : IsObservanceSaid p) where
+  zone-facts : IsZone (p ∷ [])
+  zone-facts i q h = subst IsObservanceSaid (only p q i h) facts
+
+  offset-is : (t : ℤ) → zone_offset (p ∷ []) t ≡ p.offset_to
+  offset-is t = by_offset (offset_found (p ∷ []) zone-facts t (λ e. cc))
+    where
+      by_offset : IsOffset (p ∷ []) t (zone_offset (p ∷ []) t) → zone_offset (p ∷ []) t ≡ p.offset_to
+      by_offset (inl f) = f.2 ∙ ap (λ (q : ObservanceSaid). q.offset_to) (sym (only p f.0 f.1.place f.1.onset.0))
+      by_offset (inr f) = f.2 ∙ (ap (λ (q : ObservanceSaid). q.offset_from) (sym (only p f.0 f.1.place f.1.onset.0)) ∙ one)
+
+  moment-is : (local : ℤ) → zone_moment (p ∷ []) local ≡ local -ℤ p.offset_to
+  moment-is local =
+      moment_unique (zone_offset (p ∷ [])) local (zone_moment (p ∷ []) local) (local -ℤ p.offset_to)
+      (moment_found (zone_offset (p ∷ [])) (zone_offset_short (p ∷ []) zone-facts) local)
+      (inl (record {
+        shows = omega (arith, ints, offset-is (local -ℤ p.offset_to));
+        first = λ s h. omega (arith, ints, offset-is s, h);
+      }))
+
+-- 2024-01-05 at ten, and at nine and eleven
+abbrev ten : Local
+ten = record { day = pos 19_727; second = 36_000; second_in = omega arith }
+
+abbrev nine : Local
+nine = record { day = pos 19_727; second = 32_400; second_in = omega arith }
+
+abbrev eleven : Local
+eleven = record { day = pos 19_727; second = 39_600; second_in = omega arith }
+
+-- five hours west of UTC, and one hour east
+abbrev clock : ℤ → ObservanceSaid
+clock offset = record { start = ten; offset_from = offset; offset_to = offset; rule = None; rdates = [] }
+
+west : ObservanceSaid
+west = clock (negsuc 17_999)
+
+east : ObservanceSaid
+east = clock (pos 3_600)
+
+abbrev named : List ℕ → ZoneName
+named name = record { calendar = 1; name = name }
+
+abbrev known : KnownZones
+known = known_zones (named (codes "W") ∷ named (codes "E") ∷ []) (ZoneSaid.ByObservances (west ∷ []) ∷ ZoneSaid.ByObservances (east ∷ []) ∷ [])
+
+west-moment : (local : ℤ) → zone_moment (west ∷ []) local ≡ local -ℤ negsuc 17_999
+unfolding west
+west-moment = moment-is west refl (record { start_in = (omega (arith, ints), omega (arith, ints)); from_in = omega (arith, ints); to_in = omega (arith, ints) })
+
+east-moment : (local : ℤ) → zone_moment (east ∷ []) local ≡ local -ℤ pos 3_600
+unfolding east
+east-moment = moment-is east refl (record { start_in = (omega (arith, ints), omega (arith, ints)); from_in = omega (arith, ints); to_in = omega (arith, ints) })
+
+-- an end that is later on its clock, and earlier as an instant
+bad_end : judged known (Ends (Zoned ten (named (codes "W"))) (Zoned eleven (named (codes "E")))) ≡ Some BadEnd
+bad_end = rw (west-moment _, east-moment _) refl
+
+-- an end that is earlier on its clock, and later as an instant
+good_end : judged known (Ends (Zoned ten (named (codes "E"))) (Zoned nine (named (codes "W")))) ≡ None
+good_end = rw (west-moment _, east-moment _) refl
+
+-- against a time of UTC
+bad_utc_end : judged known (Ends (Zoned ten (named (codes "W"))) (Utc eleven)) ≡ Some BadEnd
+bad_utc_end = rw (west-moment _) refl
+
+good_utc_start : judged known (Ends (Utc ten) (Zoned nine (named (codes "W")))) ≡ None
+good_utc_start = rw (west-moment _) refl

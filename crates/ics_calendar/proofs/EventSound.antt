@@ -1,37 +1,47 @@
 -- An event that no fault of either round stands on is one, of the zones of its file.
-use Rattle.std.proofs.Common.{◌≡◌, ℕ, ◌≤◌, Bool, true, false, not, ◌&&◌, ◌||◌, ◌==◌, nat_le, IsTrue, List, [], ◌∷◌, refl, arith, cond, Option, Some, None}
-use Rattle.std.proofs.Common.{is_some, IfSome, int_lt, ℤ, pos, ◌+ℤ◌, ◌*ℤ◌}
-use Rattle.std.specs.Prelude.{flat_map, map, option_map, get_or}
+use Rattle.std.proofs.Common.{◌≡◌, ℕ, ◌≤◌, Bool, true, false, not, ◌&&◌, ◌||◌, ◌==◌, nat_le, IsTrue, List, [], ◌∷◌, refl, arith, cond, Option, Some}
+use Rattle.std.proofs.Common.{None, is_some, IfSome, int_lt, ℤ, pos, ◌+ℤ◌, ◌*ℤ◌, ◌<◌, length, get_or, sym, ap, ◌∙◌, subst}
+use Rattle.std.specs.Prelude.{flat_map, map, option_map, slice_get}
 use Rattle.std.specs.List.{All, list_any}
 use Rattle.std.proofs.lemmas.Bool.Decides.{nat_tests}
 use Rattle.std.proofs.lemmas.Int.{ints}
-use Rattle.std.proofs.lemmas.List.Elements.{All-nil, All-cons, All-head, All-tail}
+use Rattle.std.proofs.lemmas.List.Elements.{All-nil, All-cons, All-head, All-tail, All-map}
+use Rattle.std.specs.Option.{option_and_then}
+use Rattle.std.specs.Str.{bytes_eq}
+use Rattle.std.specs.Cmp.Lexicographic.{bytes_decides}
+use Rattle.std.proofs.lemmas.Option.{slice_get-get_or}
 use Rattle.ics_values.specs.declared.duration.Duration.{Duration}
 use Rattle.ics_values.specs.declared.stamp.Stamp.{Stamp}
 use Rattle.ics_values.specs.declared.stamp.Stamp.TheVariants.{Date, Floating, Utc, Zoned}
+use Rattle.ics_values.specs.Locals.{local_seconds}
+use Rattle.ics_values.specs.declared.local.Local.{Local}
+use Rattle.ics_zone.specs.ZoneSaid.{ZoneSaid}
 use Rattle.ics_calendar.specs.declared.gathered.EndedEvent.{EndedEvent}
 use Rattle.ics_calendar.specs.declared.gathered.GivenLength.{GivenLength}
-use Rattle.ics_calendar.specs.declared.gathered.GivenLength.TheVariants as given
 use Rattle.ics_calendar.specs.declared.date_list.DateList.{DateList}
 use Rattle.ics_calendar.specs.declared.date_list.ListedDate.{ListedDate}
-use Rattle.ics_calendar.specs.declared.date_list.ListedDate.TheVariants as value
 use Rattle.ics_calendar.specs.declared.dated.Dated.{Dated}
-use Rattle.ics_calendar.specs.declared.fault.FaultKind.TheVariants.{UnknownZone, BadZoneFile}
+use Rattle.ics_calendar.specs.declared.fault.FaultKind.TheVariants.{UnknownZone, BadZoneFile, BadEnd}
 use Rattle.ics_calendar.specs.declared.deferred_check.DeferredCheck.{DeferredCheck}
-use Rattle.ics_calendar.specs.declared.deferred_check.DeferredCheck.TheVariants as check
 use Rattle.ics_calendar.specs.declared.deferred_check.ZoneName.{ZoneName}
-use Rattle.ics_calendar.specs.Event.{is_zoned, IsTime, longest, IsWithin, IsEnd, IsLasting, IsLength, IsRdate, IsEvent}
-use Rattle.ics_values.specs.Locals.{local_seconds}
+use Rattle.ics_calendar.specs.Event.{is_zoned, IsTime, longest, IsWithin, IsEnd, IsLasting, IsLength, IsRdate, IsEvent, EndsBelow, RdateBelow}
+use Rattle.ics_calendar.specs.Event.{TimeBelow, EndsWithin, IsEventOf, AreEventsOf, compared, is_one_zone, moment_in}
 use Rattle.ics_calendar.specs.Gathered.{event_of}
-use Rattle.ics_calendar.specs.DateLists.{zone_listed, rdate_in, exdate_in}
+use Rattle.ics_calendar.specs.DateLists.{zone_listed, rdate_in, exdate_in, first_stamp}
 use Rattle.ics_calendar.specs.DateValues.{has_zoned}
-use Rattle.ics_calendar.specs.DeferredChecks.{KnownZones, zone_used, judged}
+use Rattle.ics_calendar.specs.DeferredChecks.{KnownZones, zone_used, judged, moment_at, moment_there, are_out}
 use Rattle.ics_calendar.specs.SecondRound.{used_zone, used_in, listed_zone, instant_on, both_compared, ends_in}
 use Rattle.ics_calendar.specs.Ready.{IsReady, end_of}
 use Rattle.ics_calendar.specs.Sound.{IsSoundStamp, IsSoundLength, IsSoundValue, IsSoundList}
 use Rattle.ics_calendar.specs.Times.{time_in, time_on, length_of}
-use Rattle.ics_calendar.specs.Values.{length_in_seconds, is_lasting, same_zone, is_out, is_bad_end}
+use Rattle.ics_calendar.specs.Values.{length_in_seconds, is_lasting, same_zone, is_out, is_bad_end, tzid}
 use Rattle.ics_calendar.proofs.Listed.{All-flat_map}
+use Rattle.ics_calendar.specs.declared.time.Time.{Time}
+use Rattle.ics_calendar.specs.DraftsSound.{IsTable}
+use Rattle.ics_calendar.specs.declared.gathered.GivenLength.TheVariants as given
+use Rattle.ics_calendar.specs.declared.date_list.ListedDate.TheVariants as value
+use Rattle.ics_calendar.specs.declared.deferred_check.DeferredCheck.TheVariants as check
+use Rattle.ics_calendar.specs.declared.deferred_check.Instant.TheVariants as instant
 
 -- A STAMP, in the zone that it names.
 -- a check of the second round finds no fault
@@ -162,3 +172,163 @@ event-is known e r = record {
   exdates = lists-are IsTime exdate_in known e.calendar (exdate-is known) e.exdates r.whole.exdates r.zones.exdates;
   recurrence = recurrence-is known e.calendar e.recurrence r.whole.recurrence r.zones.recurrence;
 }
+
+-- THE ZONES OF ITS FILE.
+pub some-same : {X : Type 0} (x y : X) → Some x ≡ Some y → x ≡ y
+some-same x y h = cc
+
+fine-end : (t : Bool) → cond t (Some BadEnd) None ≡ None → t ≡ false
+fine-end true e = cc
+fine-end false e = refl
+
+abbrev named : ℕ → List ℕ → ZoneName
+named k x = record { calendar = k; name = x }
+
+module _ (known : KnownZones) (table : IsTable known) where
+  -- a zoned local where its zone is known
+  local-there : (used : ZoneName) (local : Local) (i : ℕ) → known.index used ≡ Some i →
+      moment_there known used local ≡ Some (moment_in known.zones (Some i) (Zoned local))
+  local-there used local i e =
+      ap (option_and_then (moment_at known.zones local)) e ∙ by_zone (slice_get known.zones i) refl
+    where
+      below : i < length known.zones
+      below = subst (λ o. IfSome o (λ i. i < length known.zones)) e (table.below used)
+
+      by_zone : (o : Option ZoneSaid) → slice_get known.zones i ≡ o → moment_at known.zones local i ≡ Some (moment_in known.zones (Some i) (Zoned local))
+      by_zone (Some z) f = rw f refl
+      by_zone None f = let g = slice_get-get_or known.zones i (ZoneSaid.ByObservances []) below in cc
+
+  not-out : (a b : Option ℤ) (x y : ℤ) → a ≡ Some x → b ≡ Some y → cond (are_out a b) (Some BadEnd) None ≡ None → is_out x y ≡ false
+  not-out a b x y e f h =
+      fine-end (is_out x y) (ap (λ o. cond (are_out (Some x) o) (Some BadEnd) None) (sym f) ∙ ap (λ o. cond (are_out o b) (Some BadEnd) None) (sym e) ∙ h)
+
+  abbrev time : Stamp → Option ℕ → Time
+  time s o = record { stamp = s; zone = o }
+
+  abbrev Within : Stamp → Option ℕ → Stamp → Option ℕ → Type 0
+  Within s o t p = IsWithin (compared (is_one_zone o p) known.zones (time s o)) (compared (is_one_zone o p) known.zones (time t p))
+
+  both-zoned : (k : ℕ) (x y : List ℕ) (a b : Local) (i j : ℕ) → known.index (named k x) ≡ Some i → known.index (named k y) ≡ Some j →
+      is_bad_end (bytes_eq x y) (Zoned a) (Zoned b) ≡ false → IsFine known (check_between (named k x) (named k y) (bytes_eq x y) (Zoned a) (Zoned b)) →
+      Within (Zoned a) (Some i) (Zoned b) (Some j)
+  both-zoned k x y a b i j e f l h = by_tests (i == j) (bytes_eq x y) refl refl l h
+    where
+      by_tests : (t z : Bool) → (i == j) ≡ t → bytes_eq x y ≡ z → is_bad_end z (Zoned a) (Zoned b) ≡ false →
+          IsFine known (check_between (named k x) (named k y) z (Zoned a) (Zoned b)) →
+          IsWithin (compared t known.zones (time (Zoned a) (Some i))) (compared t known.zones (time (Zoned b) (Some j)))
+      by_tests true true t z l h = out-within (local_seconds a) (local_seconds b) l
+      by_tests true false t z l h =
+          let one : i ≡ j = grind (arith, nat_tests, t) in
+          let same : x ≡ y = table.single (named k x) (named k y) i e (f ∙ ap (λ (n : ℕ). Some n) (sym one)) in
+          let told : bytes_eq x y ≡ true = (bytes_decides x y).1 same in
+          cc
+      by_tests false true t z l h =
+          let same : x ≡ y = (bytes_decides x y).0 z in
+          let one : i ≡ j = some-same i j (sym e ∙ ap (λ w. known.index (named k w)) same ∙ f) in
+          absurd (grind (arith, nat_tests, t, one))
+      by_tests false false t z l h =
+          out-within (moment_in known.zones (Some i) (Zoned a)) (moment_in known.zones (Some j) (Zoned b))
+          (not-out (moment_there known (named k x) a) (moment_there known (named k y) b) _ _ (local-there (named k x) a i e) (local-there (named k y) b j f) h)
+
+  first-zoned : (k : ℕ) (x : List ℕ) (a b : Local) (i : ℕ) → known.index (named k x) ≡ Some i →
+      IsFine known (Some (check.Ends (instant.Zoned a (named k x)) (instant.Utc b))) → Within (Zoned a) (Some i) (Utc b) None
+  first-zoned k x a b i e h =
+      out-within (moment_in known.zones (Some i) (Zoned a)) (local_seconds b)
+      (not-out (moment_there known (named k x) a) (Some (local_seconds b)) _ _ (local-there (named k x) a i e) refl h)
+
+  second-zoned : (k : ℕ) (y : List ℕ) (a b : Local) (j : ℕ) → known.index (named k y) ≡ Some j →
+      IsFine known (Some (check.Ends (instant.Utc a) (instant.Zoned b (named k y)))) → Within (Utc a) None (Zoned b) (Some j)
+  second-zoned k y a b j f h =
+      out-within (local_seconds a) (moment_in known.zones (Some j) (Zoned b))
+      (not-out (Some (local_seconds a)) (moment_there known (named k y) b) _ _ refl (local-there (named k y) b j f) h)
+
+  -- the name of a zoned stamp is known
+  index-is : (used : ZoneName) → IsFine known (Some (check.Zone used)) → (i : ℕ) × (known.index used ≡ Some i)
+  index-is used h = by_index (known.index used) refl (known-zone (is_some (known.index used)) (known.is_bad used.name) h)
+    where
+      by_index : (o : Option ℕ) → known.index used ≡ o → is_some o ≡ true → (i : ℕ) × (known.index used ≡ Some i)
+      by_index (Some i) e g = (i, e)
+      by_index None e g = cc
+
+  abbrev used_on : ZoneName → Stamp → Option ℕ
+  used_on name r = cond (is_zoned r) (known.index name) None
+
+  within : (k : ℕ) (x y : List ℕ) (r q : Stamp) → is_bad_end (bytes_eq x y) r q ≡ false →
+      IsFine known (cond (is_zoned r) (Some (check.Zone (named k x))) None) → IsFine known (cond (is_zoned q) (Some (check.Zone (named k y))) None) →
+      IsFine known (check_between (named k x) (named k y) (bytes_eq x y) r q) →
+      (is_some (used_on (named k x) r) || is_some (used_on (named k y) q)) ≡ true → Within r (used_on (named k x) r) q (used_on (named k y) q)
+  within k x y (Zoned a) (Zoned b) l u v h g =
+      let i = index-is (named k x) u in
+      let j = index-is (named k y) v in
+      rw (i.1, j.1) (both-zoned k x y a b i.0 j.0 i.1 j.1 l h)
+  within k x y (Zoned a) (Utc b) l u v h g = let i = index-is (named k x) u in rw i.1 (first-zoned k x a b i.0 i.1 h)
+  within k x y (Utc a) (Zoned b) l u v h g = let j = index-is (named k y) v in rw j.1 (second-zoned k y a b j.0 j.1 h)
+  within k x y (Zoned a) (Date b) l u v h g = cc
+  within k x y (Zoned a) (Floating b) l u v h g = cc
+  within k x y (Date a) (Zoned b) l u v h g = cc
+  within k x y (Floating a) (Zoned b) l u v h g = cc
+  within k x y (Date a) (Date b) l u v h g = cc
+  within k x y (Date a) (Floating b) l u v h g = cc
+  within k x y (Date a) (Utc b) l u v h g = cc
+  within k x y (Floating a) (Date b) l u v h g = cc
+  within k x y (Floating a) (Floating b) l u v h g = cc
+  within k x y (Floating a) (Utc b) l u v h g = cc
+  within k x y (Utc a) (Date b) l u v h g = cc
+  within k x y (Utc a) (Floating b) l u v h g = cc
+  within k x y (Utc a) (Utc b) l u v h g = cc
+
+  ends-within : (k : ℕ) (start : Dated) (length : GivenLength) → IsSoundLength start length →
+      IsFine known (used_zone k start) → IsFine known (used_in k (end_of length)) → IsFine known (ends_in k (Some start) (end_of length)) →
+      EndsWithin known.zones (time_on known.index k start) (length_of known.index k length)
+  ends-within k s (given.Until e) h u v w = within k (tzid s) (tzid e) s.stamp e.stamp h.1 u v w
+  ends-within k s (given.Lasting d) h u v w = tt
+  ends-within k s given.Open h u v w = tt
+
+  -- ITS ZONES.
+  stamp-below : (used : ZoneName) (r : Stamp) → IfSome (used_on used r) (λ i. i < length known.zones)
+  stamp-below used (Zoned a) = table.below used
+  stamp-below used _ = tt
+
+  time-below : (k : ℕ) (d : Dated) → TimeBelow (length known.zones) (time_on known.index k d)
+  time-below k d = stamp-below (zone_used k d) d.stamp
+
+  ends-below : (k : ℕ) (l : GivenLength) → EndsBelow (length known.zones) (length_of known.index k l)
+  ends-below k (given.Until d) = time-below k d
+  ends-below k (given.Lasting d) = tt
+  ends-below k given.Open = tt
+
+  rdate-below : (used : ZoneName) (v : ListedDate) → RdateBelow (length known.zones) (rdate_in (known.index used) v)
+  rdate-below used (value.At r) = stamp-below used r
+  rdate-below used (value.Between r q) = (stamp-below used r, stamp-below used q)
+  rdate-below used (value.Lasting r d) = (stamp-below used r, tt)
+
+  exdate-below : (used : ZoneName) (v : ListedDate) → TimeBelow (length known.zones) (exdate_in (known.index used) v)
+  exdate-below used v = stamp-below used (first_stamp v)
+
+  lists-below : {A : Type 0} (P : A → Type 0) (f : Option ℕ → ListedDate → A) → ((used : ZoneName) (v : ListedDate) → P (f (known.index used) v)) →
+      (k : ℕ) (lists : List DateList) →
+      All P (flat_map (λ list. map (f (known.index (zone_listed k list))) list.values) lists)
+  lists-below P f each k lists =
+      All-flat_map P (λ list. map (f (known.index (zone_listed k list))) list.values) lists
+      (λ i d l. All-map P (f (known.index (zone_listed k (get_or lists i d)))) (get_or lists i d).values
+      (λ j e m. each (zone_listed k (get_or lists i d)) (get_or (get_or lists i d).values j e)))
+
+  recurrence-below : (k : ℕ) (o : Option Dated) → IfSome (option_map (time_on known.index k) o) (TimeBelow (length known.zones))
+  recurrence-below k None = tt
+  recurrence-below k (Some d) = stamp-below (zone_used k d) d.stamp
+
+  event-of : (e : EndedEvent) → IsReady known e → IsEventOf known.zones (event_of known.index e)
+  event-of e r = record {
+    below = record {
+      start = time-below e.calendar e.start;
+      length = ends-below e.calendar e.length;
+      rdates = lists-below (RdateBelow (length known.zones)) rdate_in rdate-below e.calendar e.rdates;
+      exdates = lists-below (TimeBelow (length known.zones)) exdate_in exdate-below e.calendar e.exdates;
+      recurrence = recurrence-below e.calendar e.recurrence;
+    };
+    short = ends-within e.calendar e.start e.length r.whole.length r.zones.start r.zones.end r.zones.length;
+  }
+
+  -- THE EVENTS of a file.
+  pub events-of : (events : List EndedEvent) → All (IsReady known) events → AreEventsOf known.zones (map (event_of known.index) events)
+  events-of events h = All-map (IsEventOf known.zones) (event_of known.index) events (λ i d l. event-of (get_or events i d) (h i d l))

@@ -1,22 +1,146 @@
--- What a file is with no zone files, and with files that agree on the names that it wants.
-use Rattle.std.proofs.Common.{◌≡◌, inl, inr, ℕ, ◌+◌, Bool, true, false, ◌&&◌, List, [], ◌∷◌, refl, ap, subst, cond, Option, Some, None, Result, Err}
+-- The laws of what a file is.
+use Rattle.std.proofs.Common.{◌≡◌, List, [], ◌∷◌, ◌++◌, inl, inr, refl, sym, ◌∙◌, ap, subst, append_assoc, ℕ, Bool, true, false, ◌+◌, ◌==◌, not}
+use Rattle.std.proofs.Common.{length, Some, Ok, Err, Result, cond, drop_of_length-le, arith, suc, ◌&&◌, Option, None}
+use Rattle.std.specs.List.{list_any, position_or_len, All}
+use Rattle.std.proofs.lemmas.Bool.{or_parts}
 use Rattle.std.specs.Prelude.{◌≢◌, find}
-use Rattle.std.specs.List.{All}
-use Rattle.ics_text.specs.Unfolded.{begins_with_fold}
+use Rattle.ics_text.specs.Unfolded.{Line, unfolded, begins_with_fold}
+use Rattle.ics_text.specs.ContentLines.{content_of}
+use Rattle.ics_values.specs.Durations.{duration_of}
+use Rattle.ics_values.specs.Periods.{first_half, second_half, lasts, both, half_of, stamp_half, lasting_end, at_end}
+use Rattle.ics_values.specs.Stamps.{is_date_time_form, stamp_of}
+use Rattle.ics_values.specs.declared.duration.Duration.{Duration}
+use Rattle.ics_values.specs.declared.duration.DurationFault.{DurationFault}
+use Rattle.ics_values.specs.declared.period.Period.{Period}
+use Rattle.ics_values.specs.declared.period.PeriodFault.{PeriodFault}
+use Rattle.ics_values.specs.declared.period.PeriodFault.TheVariants.{BadStamp, BadDuration, YearRange, NumberTooLarge}
+use Rattle.ics_values.specs.declared.stamp.Stamp.{Stamp}
+use Rattle.ics_values.specs.declared.stamp.StampFault.{StampFault}
+use Rattle.ics_values.specs.Texts.{begins, is_minus}
+use Rattle.ics_values.specs.Periods as period
+use Rattle.ics_values.specs.declared.duration.DurationFault.TheVariants as duration
+use Rattle.ics_values.specs.declared.stamp.StampFault.TheVariants as stamp
+use Rattle.ics_calendar.specs.Faults.{stands, stands_later, is_in_unknown_zone, kinds, tzid_on}
+use Rattle.ics_calendar.specs.Files.{FaultsLookBack, IsFile, bad_fold, file_of, decide, events_of, said_of, wanted_names, wanted_on}
+use Rattle.ics_calendar.specs.FirstFault.{Fault, Round, IsFirst, first_fault, later_fault, first_from, end_fault, last_of, no_open}
+use Rattle.ics_calendar.specs.PlacedLines.{Open, Placed, placed, placed_from, path_behind, beside}
+use Rattle.ics_calendar.specs.declared.date_list.ListedDate.{ListedDate}
+use Rattle.ics_calendar.specs.declared.date_values.DateValue.TheVariants.{At, Between, Lasting}
+use Rattle.ics_calendar.specs.DateValues.{date_time_of, has_slash, listed_by, listed_said, period_of, OnePeriod}
+use Rattle.ics_calendar.specs.Values.{allowed, is_lasting, lasting_of}
 use Rattle.ics_calendar.specs.declared.fault.FaultKind.{FaultKind}
 use Rattle.ics_calendar.specs.declared.fault.FaultKind.TheVariants.{BadZoneFile, BadNesting, NotCalendar}
 use Rattle.ics_calendar.specs.DeferredChecks.{KnownZones}
 use Rattle.ics_calendar.specs.Event.{FileSaid}
-use Rattle.ics_calendar.specs.Faults.{stands, stands_later, is_in_unknown_zone, kinds, tzid_on}
-use Rattle.ics_calendar.specs.Files.{IsFile, bad_fold, file_of, decide, events_of, said_of, wanted_names, wanted_on}
-use Rattle.ics_calendar.specs.FirstFault.{Fault, Round, IsFirst, first_fault, later_fault, first_from, end_fault, last_of, no_open}
 use Rattle.ics_calendar.specs.GivenFiles.{GivenFiles, no_files}
-use Rattle.ics_calendar.specs.PlacedLines.{Placed, placed, beside, path_behind}
 use Rattle.ics_calendar.specs.Wanted.{each_once, unknown_names, zones_with}
 use Rattle.ics_calendar.specs.Zones.{zones_on}
 use Rattle.ics_calendar.proofs.FilesGiven.{with-no-files, with-agreed}
 use Rattle.ics_calendar.proofs.Whole.{is-file}
 
+-- A fault of the first round is found without the lines behind it.
+abbrev here : List Open → Line → Placed
+here path line = record { number = line.number; content = content_of line.bytes; path = path }
+
+-- where lines stand behind others
+behind : List Open → List Line → List Line → List Placed
+behind path [] ys = placed_from path ys
+behind path (line ∷ xs) ys = behind (path_behind (here path line)) xs ys
+
+-- lines in their places, and then those behind them
+placed-split : (path : List Open) (xs ys : List Line) → placed_from path (xs ++ ys) ≡ placed_from path xs ++ behind path xs ys
+unfolding behind
+placed-split path [] ys = refl
+placed-split path (line ∷ xs) ys = ap (λ (ls : List Placed). here path line ∷ ls) (placed-split (path_behind (here path line)) xs ys)
+
+-- the first fault of some lines is that of these lines and more
+first-before : (round : Round) (before xs ys : List Placed) (fault : Fault) → IsFirst round before xs fault → IsFirst round before (xs ++ ys) fault
+first-before round before xs ys fault h = record {
+  front = h.front;
+  line = h.line;
+  rest = h.rest ++ ys;
+  parts = ap (λ (ls : List Placed). ls ++ ys) h.parts ∙ append_assoc h.front (h.line ∷ h.rest) ys;
+  earlier = h.earlier;
+  number = h.number;
+  least = h.least;
+}
+
+pub look-back : FaultsLookBack
+look-back files file longer more fault e f h =
+    let split : placed longer ≡ placed file ++ behind [] (unfolded file) more = ap (placed_from []) e ∙ placed-split [] (unfolded file) more in
+    let first = first-before stands [] (placed file) (behind [] (unfolded file) more) fault h in
+    inr (f, inl (inl (subst (λ (ls : List Placed). IsFirst stands [] ls fault) (sym split) first)))
+
+-- A file reads of a PERIOD what the reader of periods does.
+-- where no byte passes, nothing stands after the first that does
+none-passes : (p : ℕ → Bool) (xs : List ℕ) → list_any p xs ≡ false → position_or_len p xs ≡ length xs
+none-passes p [] h = refl
+none-passes p (x ∷ xs) h = by_test (p x) (or_parts (p x) (list_any p xs) h).0 (none-passes p xs (or_parts (p x) (list_any p xs) h).1)
+  where
+    by_test : (t : Bool) → t ≡ false → position_or_len p xs ≡ length xs → cond (not t) (1 + position_or_len p xs) 0 ≡ suc (length xs)
+    by_test true e k = cc
+    by_test false e k = omega (arith, k)
+
+no-second-half : (text : List ℕ) → has_slash text ≡ false → second_half text ≡ []
+no-second-half text h = drop_of_length-le text (omega (arith, none-passes (λ b. b == 47) text h))
+
+-- a half is a stamp with a time, or the fault that it has
+half-is : (zoned : Bool) (text : List ℕ) → half_of zoned text ≡ stamp_half (date_time_of zoned text)
+half-is zoned text = by_form (is_date_time_form text)
+  where
+    by_form : (t : Bool) → cond t (stamp_half (stamp_of zoned text)) (Err BadStamp) ≡ stamp_half (cond t (stamp_of zoned text) (Err stamp.BadStamp))
+    by_form true = refl
+    by_form false = refl
+
+lasting-agrees : (a : Result Stamp StampFault) (d : Result Duration DurationFault) (minus : Bool) (p : Period) (v : ListedDate) →
+    both (stamp_half a) (lasting_end d) ≡ Ok p
+    → listed_said (Lasting a (allowed minus d)) ≡ Some v → v ≡ listed_by p
+lasting-agrees (Ok s) (Ok d) minus p v h k = by_test (is_lasting d) k
+  where
+    by_test : (t : Bool) → listed_said (Lasting (Ok s) (cond t (Ok d) (Err duration.BadDuration))) ≡ Some v → v ≡ listed_by p
+    by_test true e = cc
+    by_test false e = cc
+lasting-agrees (Ok s) (Err duration.BadDuration) minus p v h k = cc
+lasting-agrees (Ok s) (Err duration.NumberTooLarge) minus p v h k = cc
+lasting-agrees (Err f) d minus p v h k = cc
+
+between-agrees : (a b : Result Stamp StampFault) (p : Period) (v : ListedDate) → both (stamp_half a) (at_end (stamp_half b)) ≡ Ok p →
+    listed_said (Between a b) ≡ Some v → v ≡ listed_by p
+between-agrees (Ok s) (Ok e) p v h k = cc
+between-agrees (Ok s) (Err stamp.BadStamp) p v h k = cc
+between-agrees (Ok s) (Err stamp.YearRange) p v h k = cc
+between-agrees (Err f) b p v h k = cc
+
+-- by the halves of the text
+halves-agree : (zoned : Bool) (one two : List ℕ) (p : Period) (v : ListedDate) → both (half_of zoned one) (period.end_of zoned two) ≡ Ok p →
+    listed_said (period_of zoned one two) ≡ Some v → v ≡ listed_by p
+halves-agree zoned one two p v h k = by_form (lasts two) (ap (λ x. both x (period.end_of zoned two)) (sym (half-is zoned one)) ∙ h) k
+  where
+    by_form : (t : Bool) → both (stamp_half (date_time_of zoned one)) (cond t (lasting_end (duration_of two)) (at_end (half_of zoned two))) ≡ Ok p
+        → listed_said (cond t (Lasting (date_time_of zoned one) (lasting_of two)) (Between (date_time_of zoned one) (date_time_of zoned two))) ≡ Some v
+        → v ≡ listed_by p
+    by_form true f g = lasting-agrees (date_time_of zoned one) (duration_of two) (begins is_minus two) p v f g
+    by_form false f g = between-agrees (date_time_of zoned one) (date_time_of zoned two) p v
+        (ap (λ x. both (stamp_half (date_time_of zoned one)) (at_end x)) (sym (half-is zoned two)) ∙ f) g
+
+-- a text without a second half is no PERIOD
+no-period : (a : Result Stamp PeriodFault) (zoned : Bool) (p : Period) → both a (period.end_of zoned []) ≡ Ok p → ⊥
+no-period (Ok s) zoned p h = let f : Err BadStamp ≡ Ok p = h in cc
+no-period (Err BadStamp) zoned p h = let f : Err BadStamp ≡ Ok p = h in cc
+no-period (Err BadDuration) zoned p h = let f : Err BadDuration ≡ Ok p = h in cc
+no-period (Err YearRange) zoned p h = let f : Err BadStamp ≡ Ok p = h in cc
+no-period (Err NumberTooLarge) zoned p h = let f : Err NumberTooLarge ≡ Ok p = h in cc
+
+pub one-period : OnePeriod
+one-period zoned text p v h k = by_slash (has_slash text) refl k
+  where
+    by_slash : (t : Bool) → has_slash text ≡ t →
+        listed_said (cond t (period_of zoned (first_half text) (second_half text)) (At (stamp_of zoned text))) ≡ Some v → v ≡ listed_by p
+    by_slash true e k = halves-agree zoned (first_half text) (second_half text) p v h k
+    by_slash false e k = absurd (no-period (half_of zoned (first_half text)) zoned p
+        (ap (λ x. both (half_of zoned (first_half text)) (period.end_of zoned x)) (sym (no-second-half text e)) ∙ h))
+
+-- What a file is with no zone files, and with files that agree on the names that it wants.
 pub zones-alone : (lines : List Placed) → zones_with no_files lines ≡ zones_on lines
 zones-alone lines = with-no-files (zones_on lines) (each_once (unknown_names lines))
 

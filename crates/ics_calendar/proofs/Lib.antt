@@ -9,17 +9,13 @@ pub mod EventBuilderLemmas
 pub mod Bundles
 pub mod Frames
 pub mod DeferredTable
-pub mod Paths
-pub mod LastLines
 pub mod Order
 pub mod Ended
 pub mod PassLemmas
-pub mod EventOrder
-pub mod ZoneOrder
+pub mod EndOrder
 pub mod Firsts
 pub mod EachOnce
 pub mod FilesGiven
-pub mod FileLaws
 pub mod Settles
 pub mod Whole
 pub mod SoundValues
@@ -28,16 +24,13 @@ pub mod Listed
 pub mod Awaits
 pub mod PassSound
 pub mod EventSound
-pub mod EventsOf
 pub mod ZoneTables
 pub mod Settling
 mod ExampleFiles
 mod PropertyExamples
 mod ZoneExamples
 mod ZoneRows
-mod DeferredRows
 mod DateRows
-mod InstantRows
+mod DeferredRows
 mod Examples
-pub mod LookBackLemmas
-pub mod PeriodLemmas
+pub mod FileLaws

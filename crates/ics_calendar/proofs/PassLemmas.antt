@@ -30,8 +30,8 @@ use Rattle.ics_calendar.proofs.Table.{parts, any-part, frame_of, IsAsked, least-
 use Rattle.ics_calendar.proofs.Bundles.{Bundle, Keeps, Before, falls, top_lines, top_beside, top_observances, bundles_behind, keeps, Before-more, Before-later}
 use Rattle.ics_calendar.proofs.Bundles.{innermost-behind}
 use Rattle.ics_calendar.proofs.Frames.{frames_of, top_of, with, Closes, frames-behind, fault-top, check-top, based}
-use Rattle.ics_calendar.proofs.LastLines.{last-more}
-use Rattle.ics_calendar.proofs.Paths.{Falls, Absent, below, gone, lines_in-whole}
+use Rattle.ics_calendar.proofs.Order.{last-more}
+use Rattle.ics_calendar.proofs.Order.{Falls, Absent, below, gone, lines_in-whole}
 use Rattle.ics_calendar.proofs.Order.{Sort, ended_as, ended_from, nested}
 use Rattle.ics_calendar.proofs.Ended.{events, zones, Picks, events-picked, zones-picked, picked-same, IsMatched}
 

@@ -28,13 +28,13 @@ use Rattle.ics_calendar.specs.PlacedLines.{Placed, Open, path_behind, placed_fro
 use Rattle.ics_calendar.specs.Names.{name_of}
 use Rattle.ics_calendar.specs.Zones.{zone_names, zones_on}
 use Rattle.ics_calendar.proofs.Ended.{events, zones}
-use Rattle.ics_calendar.proofs.EventOrder.{events-are}
+use Rattle.ics_calendar.proofs.EndOrder.{events-are}
 use Rattle.ics_calendar.proofs.Frames.{with}
 use Rattle.ics_calendar.proofs.DeferredTable.{later-same, asked-same}
 use Rattle.ics_calendar.proofs.Order.{found-none, inside, begun, ordered, nested}
 use Rattle.ics_calendar.proofs.PassLemmas.{checks_from, gathered_from, lists, three, with_content}
 use Rattle.ics_calendar.proofs.Table.{frame_of}
-use Rattle.ics_calendar.proofs.ZoneOrder.{zones-are, zones-begun, names-begun, calendar-inside}
+use Rattle.ics_calendar.proofs.EndOrder.{zones-are, zones-begun, names-begun, calendar-inside}
 
 -- THE DEFERRED CHECKS, judged in order, give the first fault of the second round.
 found-checks : (known : KnownZones) (number : ℕ) (o : Option DeferredCheck) (ws : List LineCheck) →

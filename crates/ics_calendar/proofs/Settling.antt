@@ -20,7 +20,7 @@ use Rattle.ics_calendar.specs.DraftsSound.{IsSoundDraft, left_of}
 use Rattle.ics_calendar.specs.GivenFiles.{GivenFiles}
 use Rattle.ics_calendar.specs.Ready.{IsReady}
 use Rattle.ics_calendar.specs.ZonesSound.{IsSoundZone}
-use Rattle.ics_calendar.proofs.EventsOf.{events-of}
+use Rattle.ics_calendar.proofs.EventSound.{events-of}
 use Rattle.ics_calendar.proofs.FilesGiven.{table-known, table-with}
 use Rattle.ics_calendar.proofs.Listed.{each-weaker}
 use Rattle.ics_calendar.proofs.Order.{found-none}

@@ -9,8 +9,8 @@ ghost use Rattle.ics_calendar.specs.DateValues.{has_far_stamp, has_bad_duration,
 ghost use Rattle.ics_calendar.specs.Lines.{Gives, first, fault_if, dates_fault};
 
 use crate::date_list::{Dates, ListedDate};
+use crate::ends::lasting;
 use crate::fault::FaultKind;
-use crate::lasting::lasting;
 use crate::observances::Locals;
 use crate::refused::Refused;
 use ics_values::{Duration, DurationFault, Local, Stamp, StampFault, read_stamp};

@@ -1,14 +1,16 @@
-//! The end of an event against its start (RFC 5545, section 3.8.2.2).
+//! How long an event lasts: its end against its start, and its duration (RFC 5545, sections 3.8.2.2 and 3.8.2.5).
 ghost use Rattle.std.specs.Prelude.{◌≡◌, IfOk};
 ghost use Rattle.ics_calendar.specs.SecondRound.{compared, ends_in};
-ghost use Rattle.ics_calendar.specs.Values.{is_out, ends_badly};
+ghost use Rattle.ics_calendar.specs.Values.{is_lasting, lasting_of, is_out, ends_badly};
 
 use crate::dated::Dated;
 use crate::deferred_check::{DeferredCheck, Instant};
-use crate::lasting::LONGEST;
 use crate::time::is_zoned;
-use ics_values::Stamp;
+use ics_values::{Duration, DurationFault, Stamp, read_duration};
 use std::alloc::AllocError;
+
+/// The longest event, in seconds.
+const LONGEST: u32 = 36_525 * 86_400;
 
 /// The end is before the start, or more than the longest event after it.
 pub fn is_out(start: i64, end: i64) -> bool
@@ -69,5 +71,40 @@ pub fn ends_in(
     match (start.instant(calendar)?, end.instant(calendar)?) {
         (Some(start), Some(end)) => Ok(compared(start, end)),
         _ => Ok(None),
+    }
+}
+
+fn is_lasting(duration: Duration) -> bool
+    ensures { result ≡ is_lasting duration }
+{
+    let Some(days) = duration.days.checked_mul(86_400) else {
+        return false;
+    };
+    let Some(seconds) = days.checked_add(duration.seconds) else {
+        return false;
+    };
+    (!duration.negative || seconds == 0) && seconds <= u64::from(LONGEST)
+}
+
+/// The duration of an event: not negative, but for zero, and no longer than an event may be.
+pub fn lasting(text: &[u8]) -> Result<Duration, DurationFault>
+    ensures { result ≡ lasting_of text.now }
+{
+    match read_duration(text) {
+        Ok(duration) => {
+            if is_lasting(duration) {
+                Ok(duration)
+            } else {
+                Err(DurationFault::BadDuration)
+            }
+        }
+        Err(DurationFault::NumberTooLarge) => {
+            if text.first() == Some(&b'-') {
+                Err(DurationFault::BadDuration)
+            } else {
+                Err(DurationFault::NumberTooLarge)
+            }
+        }
+        Err(DurationFault::BadDuration) => Err(DurationFault::BadDuration),
     }
 }

@@ -15,8 +15,6 @@ mod events;
 mod fault;
 mod frame;
 mod gathered;
-mod judge;
-mod lasting;
 mod laws;
 mod name;
 mod observances;

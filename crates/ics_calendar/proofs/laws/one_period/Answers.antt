@@ -1,4 +1,4 @@
-use Rattle.ics_calendar.proofs.PeriodLemmas.{one-period}
+use Rattle.ics_calendar.proofs.FileLaws.{one-period}
 use Rattle.ics_calendar.proofs.laws.one_period.Goals as goal
 
 pub returns : goal.returns
