@@ -8,14 +8,12 @@ use thiserror::Error;
 
 /// Why a file was not read.
 #[derive(Clone, Copy, Debug, PartialEq, Eq, Error)]
+#[error("{}", self.name())]
 pub enum SourceFault {
     /// The device failed.
-    #[error("Device")]
     Device,
     /// The file has more than 16,777,216 bytes.
-    #[error("TooLarge")]
     TooLarge,
-    #[error("Memory")]
     Memory,
 }
 
@@ -34,11 +32,10 @@ impl SourceFault {
 
 /// Why a sink took no bytes.
 #[derive(Clone, Copy, Debug, PartialEq, Eq, Error)]
+#[error("{}", self.name())]
 pub enum SinkFault {
     /// The device failed.
-    #[error("Device")]
     Device,
-    #[error("Memory")]
     Memory,
 }
 
@@ -56,11 +53,10 @@ impl SinkFault {
 
 /// Why a run ended before its end.
 #[derive(Clone, Copy, Debug, PartialEq, Eq, Error)]
+#[error("{}", self.name())]
 pub enum RunFault {
     /// An output failed, or was given bytes and took none.
-    #[error("WriteFault")]
     WriteFault,
-    #[error("Memory")]
     Memory,
 }
 

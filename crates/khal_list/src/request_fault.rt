@@ -12,24 +12,20 @@ use thiserror::Error as ErrorText;
 
 /// Why words are not a request.
 #[derive(Debug, Drop, ErrorText)]
+#[error("{}", self.name())]
 pub enum RequestFault {
     /// clap refuses the words and says why in `text`. `help` is set if they ask for help.
     #[error("{text}")]
     Usage { text: String, help: bool },
     /// `--zone` does not name a display zone.
-    #[error("BadZone")]
     BadZone,
     /// The words do not name a window, or name one that is empty or out of bounds.
-    #[error("BadWindow")]
     BadWindow,
     /// `--after` is not a token.
-    #[error("BadToken")]
     BadToken,
     /// `--format` or `--day-format` is not a format.
-    #[error("BadFormat")]
     BadFormat,
     /// An allocation failed.
-    #[error("Memory")]
     Memory,
 }
 
