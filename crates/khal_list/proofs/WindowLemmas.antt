@@ -1,7 +1,8 @@
 -- When the instants of a window's ends rise, and when they do not.
-use Rattle.std.proofs.Common.{◌≡◌, ◌≤ℤ◌, ◌<ℤ◌, ◌+ℤ◌, ℤ, pos, Bool, Option, true, false, Some, None, refl, arith, if◌then◌else◌, ◌&&◌}
+use Rattle.std.proofs.Common.{◌≡◌, ◌≤ℤ◌, ◌<ℤ◌, ◌+ℤ◌, ℤ, Bool, Option, true, false, Some, None, refl, arith, if◌then◌else◌, ◌&&◌}
 use Rattle.std.specs.Prelude.{int_lt, int_le}
 use Rattle.jiff.proofs.SpanFacts.{signed_arith}
+use Rattle.ics_values.specs.Locals.{whole_days}
 use Rattle.ics_zone.specs.Displays.{moment_of}
 use Rattle.ics_zone.specs.Near.{moment_near}
 use Rattle.ics_zone.specs.JiffZones.{zone_of}
@@ -33,7 +34,7 @@ between-falling zone start end late =
     refused_second (int_le first_start start && int_le end last_end) _ _ _ (λ (rises : int_lt (moment_of (zone_of zone) start) (moment_of (zone_of zone) end) ≡ true). omega (arith, signed_arith))
 
 -- nor do locals of which the start is four days behind the end
-pub between-apart : (zone : Display) (start end : ℤ) → (end +ℤ pos 345_598) ≤ℤ start → None ≡ between zone start end
+pub between-apart : (zone : Display) (start end : ℤ) → (end +ℤ whole_days 4) ≤ℤ start → None ≡ between zone start end
 between-apart zone start end apart =
     let start_near = moment_near (zone_of zone) start in
     let end_near = moment_near (zone_of zone) end in

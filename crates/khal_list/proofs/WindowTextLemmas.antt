@@ -11,7 +11,7 @@ use Rattle.jiff.proofs.SpanFacts.{signed_arith}
 use Rattle.jiff_core.specs.Calendar.{IsDate, days_from_civil}
 use Rattle.jiff_core.specs.Date.{IsYmd, epoch_day}
 use Rattle.jiff_core.specs.declared.civil.date.Date.{Date}
-use Rattle.khal_list.specs.WindowTexts.{has_date, day_number, before_d, number_said, is_number_of_days}
+use Rattle.khal_list.specs.WindowTexts.{has_date, day_number, before_d, most_days, number_said, is_number_of_days}
 
 tells : IsDigitsTest (λ ds. list_all is_ascii_digit ds ≡ true)
 tells = search rules
@@ -25,7 +25,7 @@ nonempty : (ds : List ℕ) → 1 ≤ digits_value 10 ds → 0 < length ds
 nonempty [] some = absurd (omega arith)
 nonempty (c ∷ cs) some = omega arith
 
-in_bounds : (n : ℕ) → is_number_of_days n ≡ true → (1 ≤ n) × (n ≤ 3_700_000)
+in_bounds : (n : ℕ) → is_number_of_days n ≡ true → (1 ≤ n) × (n ≤ most_days)
 in_bounds n t = grind (arith, nat_tests)
 
 chosen : (digits fits : Bool) (n : ℕ) → (fits ≡ true → ⊥) → None ≡ (if digits && fits then Some n else None)

@@ -1,5 +1,5 @@
 -- The number of entries that `--limit` asks for.
-use Rattle.std.specs.Prelude.{◌≡◌, ◌≤◌, ◌&&◌, ⊤, ℕ, Bool, List, Option, Some, None, length, nat_lt, if◌then◌else◌}
+use Rattle.std.specs.Prelude.{◌≡◌, ◌≤◌, ◌^◌, ◌&&◌, ⊤, ℕ, Bool, List, Option, Some, None, length, nat_lt, if◌then◌else◌}
 use Rattle.std.specs.Char.{is_ascii_digit}
 use Rattle.std.specs.List.{list_all}
 use Rattle.std.specs.Str.Parse.{digits_value, without_leading_plus}
@@ -7,7 +7,7 @@ use Rattle.std.specs.Str.Parse.{digits_value, without_leading_plus}
 -- one digit or more, and nothing else, that spell a number below 2^32
 abbrev pub is_number : List ℕ → Bool
 is_number digits =
-    (nat_lt 0 (length digits) && list_all is_ascii_digit digits) && nat_lt (digits_value 10 digits) 4_294_967_296
+    (nat_lt 0 (length digits) && list_all is_ascii_digit digits) && nat_lt (digits_value 10 digits) (2 ^ 32)
 
 abbrev pub number_in : List ℕ → Option ℕ
 number_in digits = if is_number digits then Some (digits_value 10 digits) else None

@@ -1,5 +1,5 @@
 -- What the words of the command line and the clock ask for, or why they are not a request.
-use Rattle.std.specs.Prelude.{◌≡◌, ◌↔◌, ◌⊎◌, ⊤, ℤ, pos, int_lt, if◌then◌else◌, IsTrue, List, Option, Some, None, IsSome, Result, Ok, Err, codes}
+use Rattle.std.specs.Prelude.{◌≡◌, ◌↔◌, ◌⊎◌, ◌^◌, ◌-◌, ⊤, ℤ, pos, int_lt, if◌then◌else◌, IsTrue, List, Option, Some, None, IsSome, Result, Ok, Err, codes}
 use Rattle.std.specs.Int.{int_max}
 use Rattle.std.specs.Option.{option_map}
 use Rattle.std.specs.String.{string_bytes}
@@ -55,7 +55,7 @@ IsKeyOf (Some text) (Some key) = IsKey (key_rank key) × (text ≡ spelling (key
 -- starts past the window it is the greatest number, so that nothing is listed.
 abbrev pub day_from : Display → Window → ℤ → ℤ
 day_from zone window start =
-    if int_lt start window.to then date_at (display_clock zone) (int_max start window.from) else pos 2_147_483_647
+    if int_lt start window.to then date_at (display_clock zone) (int_max start window.from) else pos (2 ^ 31 - 1)
 
 -- the key under a day of a token: its own, or if it has none that day's
 abbrev pub IsDayKeyBy : Display → Window → Text → DayRank → Type 0

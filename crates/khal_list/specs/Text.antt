@@ -17,11 +17,11 @@ use Rattle.khal_list.specs.declared.field.DayField.TheVariants as day
 use Rattle.khal_list.specs.declared.format.Piece.{Piece}
 use Rattle.khal_list.specs.Formats.{filled}
 use Rattle.khal_list.specs.Shown.{shown}
-use Rattle.ics_values.specs.Locals.{day_of_local}
+use Rattle.ics_values.specs.Locals.{day_of_local, whole_days}
 
 -- the second of the day of a local
 abbrev pub second_of : ℤ → ℕ
-second_of local = unsigned_abs (int_rem_euclid local (pos 86_400))
+second_of local = unsigned_abs (int_rem_euclid local (whole_days 1))
 
 -- a number below 100 in two digits, and one below 10,000 in four
 abbrev pub two_digits : ℕ → List ℕ

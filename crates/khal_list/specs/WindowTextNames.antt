@@ -2,7 +2,7 @@
 use Rattle.std.specs.Prelude.{◌≤◌}
 use Rattle.jiff_core.specs.Calendar.{IsEpochDay}
 use Rattle.ics_values.specs.Locals.{local_seconds}
-use Rattle.khal_list.specs.WindowTexts.{Named}
+use Rattle.khal_list.specs.WindowTexts.{most_days, Named}
 use Rattle.khal_list.specs.declared.window_text.WindowText.{WindowText}
 use Rattle.khal_list.specs.declared.window_text.WindowText.TheVariants.{Day, Local, Days}
 
@@ -15,4 +15,4 @@ named_by (Days number) = Named.Days number
 abbrev pub IsInCalendar : WindowText → Type 0
 IsInCalendar (Day day) = IsEpochDay day
 IsInCalendar (Local local) = IsEpochDay local.day
-IsInCalendar (Days number) = number ≤ 3_700_000
+IsInCalendar (Days number) = number ≤ most_days

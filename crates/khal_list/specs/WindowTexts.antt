@@ -69,9 +69,13 @@ abbrev pub before_d : List ℕ → Option (List ℕ)
 before_d text =
     if slice_index text (length text - 1) == 100 then Some (take (length text - 1) text) else None
 
--- a number of days from 1 to 3,700,000
+-- the most days of a window that is given by their number
+abbrev pub most_days : ℕ
+most_days = 3_700_000
+
+-- a number of days from 1 to that
 abbrev pub is_number_of_days : ℕ → Bool
-is_number_of_days n = nat_le 1 n && nat_le n 3_700_000
+is_number_of_days n = nat_le 1 n && nat_le n most_days
 
 abbrev pub number_said : List ℕ → Option ℕ
 number_said digits =

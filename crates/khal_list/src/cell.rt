@@ -1,7 +1,7 @@
 //! The times of an entry, in eleven columns.
-ghost use Rattle.std.specs.Prelude.{◌≡◌, ◌<◌, ◌++◌, ◌∷◌, OnOk};
+ghost use Rattle.std.specs.Prelude.{◌≡◌, ◌++◌, ◌∷◌, OnOk};
 ghost use Rattle.ics_values.specs.Locals.{local_seconds};
-ghost use Rattle.khal_list.specs.Text.{time_text, start_text, finish_text, times_text, is_end_of};
+ghost use Rattle.khal_list.specs.Text.{second_of, time_text, start_text, finish_text, times_text, is_end_of};
 
 use crate::digits::add_two_digits;
 use ics_values::Local;
@@ -10,14 +10,14 @@ use std::alloc::AllocError;
 /// What is written for a time on another day.
 const BLANK: &[u8] = b"     ";
 
-/// Adds a second of the day as `HH:MM`, the seconds left off.
-pub(crate) fn add_time(text: &mut Vec<u8>, second: u32) -> Result<(), AllocError>
-    requires { second < 86_400 }
-    ensures { OnOk result (text.new.items ≡ text.old.items ++ time_text second) }
+/// Adds the time of a local as `HH:MM`, the seconds left off.
+pub(crate) fn add_time(text: &mut Vec<u8>, local: Local) -> Result<(), AllocError>
+    ensures { OnOk result (text.new.items
+        ≡ text.old.items ++ time_text (second_of (local_seconds local))) }
 {
-    add_two_digits(text, (second / 3_600) as u8)?;
+    add_two_digits(text, (local.second / 3_600) as u8)?;
     text.push(b':')?;
-    add_two_digits(text, (second / 60 % 60) as u8)
+    add_two_digits(text, (local.second / 60 % 60) as u8)
 }
 
 /// Adds the time of a start, or blanks if it is on another day than the entry's.
@@ -26,7 +26,7 @@ fn add_start(text: &mut Vec<u8>, day: i32, start: Local) -> Result<(), AllocErro
         ≡ text.old.items ++ start_text day (local_seconds start)) }
 {
     if start.day == day {
-        add_time(text, start.second)
+        add_time(text, start)
     } else {
         text.extend_from_slice(BLANK)
     }
@@ -47,7 +47,7 @@ fn add_finish(text: &mut Vec<u8>, day: i32, finish: Local) -> Result<(), AllocEr
         ≡ text.old.items ++ finish_text day (local_seconds finish)) }
 {
     if finish.day == day {
-        add_time(text, finish.second)
+        add_time(text, finish)
     } else if is_end_of(day, finish) {
         text.extend_from_slice(b"24:00")
     } else {

@@ -56,7 +56,7 @@ fn add_time_unless_date(
     if dated {
         return Ok(());
     }
-    add_time(text, local.second)
+    add_time(text, local)
 }
 
 /// The display date of an occurrence's finish, or of an event of dates its last day.

@@ -3,7 +3,7 @@ ghost use Rattle.std.specs.Prelude.{◌≡◌, ◌<◌, ◌≤◌, List, ℕ, So
 ghost use Rattle.ics_calendar.specs.Drafts.{draft_said};
 ghost use Rattle.ics_calendar.specs.Files.{draft_of, wanted_names};
 ghost use Rattle.ics_calendar.specs.ZoneTables.{given_by};
-ghost use Rattle.khal_list.specs.Answers.{Answer};
+ghost use Rattle.khal_list.specs.Answers.{most_bytes, Answer};
 ghost use Rattle.khal_list.specs.Asked.{Asked};
 ghost use Rattle.khal_list.specs.Errors.{file_or_refusal};
 ghost use Rattle.khal_list.specs.Learned.{Knows, LearnsSome, Settles};
@@ -78,7 +78,7 @@ fn outcome_of<Z: ZoneSource>(
     answered: &mut Answered,
     bytes: &[u8],
 ) -> Result<Outcome, RunFault>
-    requires { length bytes.now ≤ 16_777_216 }
+    requires { length bytes.now ≤ most_bytes }
     ensures ok { IfOk result (λ outcome. (asked : List Asked) → Knows asked answered.old
         → Settles Z.finds asked (Some bytes.now) zones.old zones.new answered.new (seen_outcome outcome)) }
     ensures some { OnErr result ((asked : List Asked) → Knows asked answered.old

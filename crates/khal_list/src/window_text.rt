@@ -3,12 +3,15 @@ ghost use Rattle.std.specs.Prelude.{◌≡◌, ◌<◌, ◌≤◌, option_map, S
 ghost use Rattle.std.specs.Char.{is_ascii_digit};
 ghost use Rattle.std.specs.List.{list_all};
 ghost use Rattle.jiff_core.specs.Calendar.{IsEpochDay};
-ghost use Rattle.ics_values.specs.Locals.{local_seconds};
+ghost use Rattle.ics_values.specs.Locals.{local_seconds, seconds_at};
 ghost use Rattle.khal_list.specs.WindowTexts as spec;
 ghost use Rattle.khal_list.specs.WindowTextNames.{named_by, IsInCalendar};
 
 use ics_values::Local;
 use jiff_core::civil::Date;
+
+// The most days of a window that is given by their number.
+const MOST_DAYS: u32 = 3_700_000;
 
 /// What a window text names.
 #[derive(Clone, Copy)]
@@ -72,13 +75,14 @@ fn local(text: &[u8]) -> Option<Local>
 {
     let (date, clock) = text.split_at_checked(10)?;
     let day = day(date)?;
-    let second = second(clock)?;
-    Some(Local { day, second })
+    at_clock(day, clock)
 }
 
-fn second(clock: &[u8]) -> Option<u32>
-    ensures value { result ≡ spec.second_said clock.now }
-    ensures bound { IfSome result (λ second. second < 86_400) }
+// The local of a day at `THH:MM`.
+fn at_clock(day: i32, clock: &[u8]) -> Option<Local>
+    ensures value { option_map (λ l. local_seconds l) result
+        ≡ option_map (λ second. seconds_at day second) (spec.second_said clock.now) }
+    ensures day { IfSome result (λ l. l.day ≡ day) }
 {
     let [t, a, b, colon, c, d] = clock else {
         return None;
@@ -89,7 +93,10 @@ fn second(clock: &[u8]) -> Option<u32>
     let hours = u32::from(pair(*a, *b)?);
     let minutes = u32::from(pair(*c, *d)?);
     if hours < 24 && minutes < 60 {
-        Some(hours * 3_600 + minutes * 60)
+        Some(Local {
+            day,
+            second: hours * 3_600 + minutes * 60,
+        })
     } else {
         None
     }
@@ -119,7 +126,7 @@ fn pair(tens: u8, ones: u8) -> Option<u8>
 
 fn days(text: &str) -> Option<u32>
     ensures value { result ≡ spec.days_said text.now }
-    ensures bound { IfSome result (λ number. number ≤ 3_700_000) }
+    ensures bound { IfSome result (λ number. number ≤ spec.most_days) }
 {
     match text.strip_suffix('d') {
         Some(digits) => number(digits),
@@ -129,7 +136,7 @@ fn days(text: &str) -> Option<u32>
 
 fn number(digits: &str) -> Option<u32>
     ensures value { result ≡ spec.number_said digits.now }
-    ensures bound { IfSome result (λ number. number ≤ 3_700_000) }
+    ensures bound { IfSome result (λ number. number ≤ spec.most_days) }
 {
     if !are_digits(digits.as_bytes()) {
         return None;
@@ -149,9 +156,9 @@ fn are_digits(text: &[u8]) -> bool
 // The number, if it is one of the days that a window may have.
 fn within(number: u32) -> Option<u32>
     ensures value { result ≡ (if spec.is_number_of_days number then Some number else None) }
-    ensures bound { IfSome result (λ number. number ≤ 3_700_000) }
+    ensures bound { IfSome result (λ number. number ≤ spec.most_days) }
 {
-    if number >= 1 && number <= 3_700_000 {
+    if number >= 1 && number <= MOST_DAYS {
         Some(number)
     } else {
         None

@@ -1,18 +1,20 @@
-use Rattle.std.proofs.Common.{rules, ◌≡◌, ◌≤ℤ◌, ◌+ℤ◌, ℕ, ℤ, ◌<◌, neg_ℤ, pos, arith, w32, w64}
+use Rattle.std.proofs.Common.{rules, ◌≡◌, ◌≤ℤ◌, ◌<ℤ◌, ◌+ℤ◌, ◌-ℤ◌, ℕ, ℤ, ◌<◌, pos, arith, w32, w64}
 use Rattle.std.specs.Prelude.{FitsSigned}
 use Rattle.std.proofs.lemmas.Int.{to_z-of_z}
 use Rattle.jiff_core.proofs.SignedLemmas.{signed_arith}
-use Rattle.jiff_core.specs.Calendar.{IsBetween}
 use Rattle.ics_zone.specs.Near.{offset_near}
 use Rattle.ics_zone.specs.Seconds.{IsNear}
+use Rattle.ics_values.specs.Days.{IsDayNumber}
 use Rattle.ics_values.specs.Locals.{seconds_at}
 use Rattle.ics_zone.specs.JiffZones.{zone_of}
+use Rattle.ics_series.specs.WindowBounds.{occurrence_first, occurrence_end}
 use Rattle.khal_list.proofs.display_day.display_day.Goals as goal
 
--- a local near an instant of those years lies in the years 0000 to 9999
+-- a local near an instant at which an occurrence may begin or end lies in the years 0000 to 9999, and so does the day before
 day_within : (day : ℤ) (second : ℕ) (moment offset : ℤ) → second < 86_400 → seconds_at day second ≡ moment +ℤ offset → IsNear offset
-    → neg_ℤ (pos 62_135_769_600) ≤ℤ moment → moment ≤ℤ pos 251_856_172_799 → IsBetween (neg_ℤ (pos 719_527)) (pos 2_932_896) day
-day_within day second moment offset small same near early late = (omega (arith, signed_arith), omega (arith, signed_arith))
+    → occurrence_first ≤ℤ moment → moment <ℤ occurrence_end → IsDayNumber (day -ℤ pos 1) × IsDayNumber day
+day_within day second moment offset small same near early late =
+    ((omega (arith, signed_arith), omega (arith, signed_arith)), (omega (arith, signed_arith), omega (arith, signed_arith)))
 
 pub returns-clause-within : goal.returns-clause-within
 returns-clause-within c =
@@ -20,4 +22,12 @@ returns-clause-within c =
     let fits : FitsSigned w32 c.local.result.day = search rules in
     rw (to_z-of_z w32 c.local.result.day fits)
     (day_within c.local.result.day c.local.result.second moment _ c.local.result.second_in (rw (to_z-of_z w64 moment c.ranges.moment) at c.local.ensures)
-    (offset_near (zone_of c.args.zone.now) moment) c.requires.early c.requires.late)
+    (offset_near (zone_of c.args.zone.now) moment) c.requires.early c.requires.late).1
+
+pub returns-clause-before : goal.returns-clause-before
+returns-clause-before c =
+    let moment = c.args.moment in
+    let fits : FitsSigned w32 c.local.result.day = search rules in
+    rw (to_z-of_z w32 c.local.result.day fits)
+    (day_within c.local.result.day c.local.result.second moment _ c.local.result.second_in (rw (to_z-of_z w64 moment c.ranges.moment) at c.local.ensures)
+    (offset_near (zone_of c.args.zone.now) moment) c.requires.early c.requires.late).0

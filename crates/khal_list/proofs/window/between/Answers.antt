@@ -1,8 +1,8 @@
-use Rattle.std.proofs.Common.{◌≤ℤ◌, ◌<ℤ◌, ◌+ℤ◌, ℤ, pos, arith, rules, FitsSigned, w32, w64}
+use Rattle.std.proofs.Common.{◌≤ℤ◌, ◌<ℤ◌, ◌+ℤ◌, ℤ, arith, rules, FitsSigned, w32, w64}
 use Rattle.std.proofs.lemmas.Int.{to_z-of_z}
 use Rattle.jiff.proofs.SpanFacts.{signed_arith}
 use Rattle.ics_zone.specs.Displays.{moment_of}
-use Rattle.ics_values.specs.Locals.{local_seconds}
+use Rattle.ics_values.specs.Locals.{local_seconds, whole_days}
 use Rattle.ics_zone.specs.JiffZones.{zone_of}
 use Rattle.khal_list.specs.Windows.{first_start, last_end}
 use Rattle.khal_list.proofs.WindowLemmas.{between-apart, between-falling, between-rising}
@@ -15,7 +15,7 @@ returns-then-end-lt-FIRST_DAY-clause-ends c =
     let end : ℤ = local_seconds c.args.end in
     let start_fits : FitsSigned w32 c.args.start.day = search rules in
     let end_fits : FitsSigned w32 c.args.end.day = search rules in
-    let apart : (end +ℤ pos 345_598) ≤ℤ start = elim c.then-end-lt-FIRST_DAY.branch [
+    let apart : (end +ℤ whole_days 4) ≤ℤ start = elim c.then-end-lt-FIRST_DAY.branch [
       | then-end-lt-FIRST_DAY-via-then-end-lt-FIRST_DAY w ↦ omega (arith, signed_arith)
       | then-end-lt-FIRST_DAY-via-else-end-lt-FIRST_DAY+then-start-gt-LAST_DAY w ↦ omega (arith, signed_arith)
     ] in
