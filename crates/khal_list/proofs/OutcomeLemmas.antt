@@ -1,5 +1,5 @@
 -- What the bytes of a file come to.
-use Rattle.std.proofs.Common.{◌≡◌, ℕ, Bool, true, false, List, [], ◌++◌, Some, None, Result, Ok, Err, All, IfOk, OnErr, if◌then◌else◌, refl, sym, ◌∙◌, ap, subst, append-nil}
+use Rattle.std.proofs.Common.{◌≡◌, ℕ, Bool, true, false, List, [], ◌++◌, Some, None, Result, Ok, Err, All, IfOk, OnErr, if◌then◌else◌, refl, sym, ◌∙◌, ap, subst}
 use Rattle.std.specs.BTreeSet.{contains}
 use Rattle.std.specs.Cmp.Lexicographic.{slice_cmp, nat_list_eq_equiv}
 use Rattle.std.specs.List.{list_any}
@@ -95,10 +95,6 @@ module _ {Z : Type 0} (finds : Z → List ℕ → FindAnswer → Z → Type 0) (
 -- nothing is asked for
 pub asks-none : {Z : Type 0} (finds : Z → List ℕ → FindAnswer → Z → Type 0) (asked : List Asked) (wanted : List (List ℕ)) (state : Z) (answered : Answered) → Knows asked answered → LearnsSome finds asked wanted state state
 asks-none finds asked wanted state answered k = learns-front finds asked [] wanted state state (learns-some finds asked [] state state answered (learns-none finds asked state answered k))
-
--- the file that was not read
-pub settles-none : {Z : Type 0} (finds : Z → List ℕ → FindAnswer → Z → Type 0) (asked : List Asked) (state : Z) (answered : Answered) → Knows asked answered → Settles finds asked None state state answered (Err None)
-settles-none finds asked state answered k = record { learns = learns-none finds asked state answered k; outcome_is = refl }
 
 -- what is read of the bytes of a file
 module _ {Z : Type 0} (finds : Z → List ℕ → FindAnswer → Z → Type 0) (before after : Z) (known known' : Answered) (bytes read : List ℕ) (same : read ≡ bytes) where

@@ -1,14 +1,14 @@
 -- What is written of a list to come, and of a feed whose entries are each listed once.
-use Rattle.std.proofs.Common.{◌≡◌, ℕ, List, [], ◌∷◌, ◌++◌, Option, Some, None, Result, Ok, Err, length, map, take, refl, sym, ap, ap₂, ◌∙◌, subst, zero, suc, true≢false}
-use Rattle.std.specs.Prelude.{◌≤◌, Bool, true, false, IfOk, OnErr, OnOk, nat_lt, if◌then◌else◌}
+use Rattle.std.proofs.Common.{◌≡◌, ℕ, List, [], ◌∷◌, ◌++◌, Option, Some, None, Result, Ok, Err, map, take, refl, sym, ap, ap₂, ◌∙◌, subst, zero, suc, true≢false}
+use Rattle.std.specs.Prelude.{◌≤◌, Bool, true, false, IfOk, nat_lt, if◌then◌else◌}
 use Rattle.std.specs.Io.KnownBytes.{Appends}
 use Rattle.std.specs.Option.{option_map}
 use Rattle.std.specs.Result.{IsErr}
 use Rattle.std.proofs.lemmas.List.{length-map}
 use Rattle.ics_series.specs.DayKeys.{day_key_rank, DayRank}
 use Rattle.ics_series.specs.declared.day_key.DayKey.{DayKey}
-use Rattle.ics_series.specs.Entry.{Entry, Rank, key_rank, rank_of}
-use Rattle.ics_series.specs.OnDays.{day_rank_of, OnDay}
+use Rattle.ics_series.specs.Entry.{Entry, key_rank}
+use Rattle.ics_series.specs.OnDays.{OnDay}
 use Rattle.khal_list.specs.declared.fault.RunFault.{RunFault}
 use Rattle.khal_list.specs.declared.request.Request.{Request}
 use Rattle.khal_list.specs.Drawn.{DrewAhead, Puts}

@@ -1,5 +1,5 @@
 -- One read more.
-use Rattle.std.proofs.Common.{◌≡◌, ◌≤◌, inl, inr, ℕ, suc, ◌+◌, Bool, true, ◌||◌, List, [], ◌∷◌, ◌++◌, Result, Ok, Err, Option, Some, None, All, length, refl, sym, ◌∙◌, ap, subst, arith, length-append, append_assoc, append-nil}
+use Rattle.std.proofs.Common.{◌≡◌, ◌≤◌, inl, inr, ℕ, suc, ◌+◌, Bool, ◌||◌, List, [], ◌∷◌, ◌++◌, Result, Ok, Err, Some, None, length, refl, sym, ◌∙◌, ap, subst, arith, length-append, append_assoc, append-nil}
 use Rattle.std.specs.Prelude.{slice_get}
 use Rattle.std.specs.Cmp.Lexicographic.{nat_list_eq_equiv}
 use Rattle.std.specs.List.{list_any}
@@ -9,13 +9,13 @@ use Rattle.ics_calendar.specs.Event.{FileSaid}
 use Rattle.ics_calendar.specs.Files.{file_of, wanted_names}
 use Rattle.khal_list.specs.declared.answered.Answered.{Answered}
 use Rattle.khal_list.specs.Answers.{Answer, Contents, contents_of}
-use Rattle.khal_list.specs.Asked.{all_wanted, and_names, given_files, is_unread, names_of, wanted_of, Asked, AsksAll, AsksSome}
+use Rattle.khal_list.specs.Asked.{all_wanted, given_files, is_unread, names_of, wanted_of, Asked, AsksAll, AsksSome}
 use Rattle.khal_list.specs.Errors.{Refusal, file_by, file_or_refusal, events_first, accepted, error_line, error_lines}
 use Rattle.khal_list.specs.Finds.{FindAnswer}
-use Rattle.khal_list.specs.Learned.{Keeps, Knows, Learns, LearnsSome, Settles}
+use Rattle.khal_list.specs.Learned.{Keeps, Knows}
 use Rattle.khal_list.specs.Outcomes.{EndsReading, IsOutcome, IsReading}
 use Rattle.khal_list.specs.Reads.{ReadsFrom, ReadsSome}
-use Rattle.khal_list.specs.declared.fault.SourceFault.TheVariants.{Device, TooLarge, Memory}
+use Rattle.khal_list.specs.declared.fault.SourceFault.TheVariants.{Memory}
 use Rattle.khal_list.proofs.AskedLemmas.{all-some, all-then-all, all-then-some, in-back, in-front, wanted-in, IsIn}
 use Rattle.khal_list.proofs.OutcomeLemmas.{OnlyWantedCount, file_if}
 

@@ -10,7 +10,7 @@ use Rattle.ics_series.specs.DayKeys.{day_key_rank, DayRank}
 use Rattle.ics_series.specs.DayLaws.{DayListingBehind}
 use Rattle.ics_series.specs.DayTokens.{day_spelling, IsDayKey, OneDaySpelling}
 use Rattle.ics_series.specs.Entry.{Entry, Rank, key_rank, rank_of}
-use Rattle.ics_series.specs.OnDays.{after_day_key, day_rank_of, OnDay}
+use Rattle.ics_series.specs.OnDays.{after_day_key, day_rank_of}
 use Rattle.ics_series.specs.Tokens.{OneSpelling, IsKey, spelling}
 use Rattle.ics_series.specs.declared.day_key.DayKey.{DayKey}
 use Rattle.ics_series.specs.declared.window.Window.{Window}

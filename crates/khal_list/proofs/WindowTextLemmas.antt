@@ -41,8 +41,10 @@ none_said ds refuted = chosen (list_all is_ascii_digit ds) (is_number_of_days (d
     refuted (nonempty ds bounds.0, omega arith))
 
 -- the number of parsed digits
-pub number_is : (ds : List ℕ) (n : ℕ) → list_all is_ascii_digit ds ≡ true → n ≡ digits_value 10 ds → (if is_number_of_days n then Some n else None) ≡ number_said ds
-number_is ds n digits same = rw (digits, same) refl
+pub number_is : (ds : List ℕ) (n : ℕ) → list_all is_ascii_digit ds ≡ true → n ≡ digits_value 10 ds → 1 ≤ n → n ≤ most_days → Some n ≡ number_said ds
+number_is ds n digits same some few =
+    let fits : is_number_of_days n ≡ true = grind (arith, nat_tests) in
+    rw (digits, ← same, fits) refl
 
 unless : (b : Bool) (x : List ℕ) → (b ≡ true → ⊥) → None ≡ (if b then Some x else None)
 unless true x refuted = absurd (refuted refl)

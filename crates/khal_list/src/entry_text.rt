@@ -1,5 +1,5 @@
 //! The values of placeholders in the line of an entry.
-ghost use Rattle.std.specs.Prelude.{◌≡◌, ◌++◌, OnOk, [], codes, if◌then◌else◌};
+ghost use Rattle.std.specs.Prelude.{◌≡◌, ◌++◌, OnOk};
 ghost use Rattle.ics_values.specs.Days.{IsDayNumber};
 ghost use Rattle.ics_values.specs.Locals.{local_seconds};
 ghost use Rattle.ics_series.specs.Clocks.{display_clock};
@@ -69,17 +69,6 @@ fn end_day(zone: &Display, occurrence: &Occurrence<'_>) -> i32
     if dated { day - 1 } else { day }
 }
 
-/// Adds the word for an event that is cancelled.
-fn add_cancelled(text: &mut Vec<u8>, event: &Event) -> Result<(), AllocError>
-    ensures { OnOk result (text.new.items
-        ≡ text.old.items ++ (if event.now.cancelled then codes "CANCELLED " else [])) }
-{
-    if event.cancelled {
-        text.extend_from_slice(b"CANCELLED ")?;
-    }
-    Ok(())
-}
-
 /// Adds the value of a placeholder for an occurrence that is listed under this day.
 pub(crate) fn add_field(
     alloc: Global,
@@ -107,6 +96,7 @@ pub(crate) fn add_field(
         EntryField::Location => add_shown(alloc, text, event.location.as_slice()),
         EntryField::Description => add_shown(alloc, text, event.description.as_slice()),
         EntryField::Uid => add_shown(alloc, text, event.uid.as_slice()),
-        EntryField::Cancelled => add_cancelled(text, event),
+        EntryField::Cancelled if event.cancelled => text.extend_from_slice(b"CANCELLED "),
+        EntryField::Cancelled => Ok(()),
     }
 }

@@ -1,7 +1,7 @@
 //! Dates, and headings with dates.
 ghost use Rattle.std.specs.Prelude.{◌≡◌, ◌++◌, ◌∷◌, [], OnOk};
 ghost use Rattle.jiff_core.specs.Weekday.{monday_zero};
-ghost use Rattle.ics_values.specs.Days.{IsDayNumber, day_index, weekday_of};
+ghost use Rattle.ics_values.specs.Days.{IsDayNumber};
 ghost use Rattle.khal_list.specs.Formats.{filled, shown_piece};
 ghost use Rattle.khal_list.specs.Text.{weekday_name, date_text, day_field_text};
 
@@ -39,15 +39,6 @@ pub(crate) fn add_date(text: &mut Vec<u8>, day: i32) -> Result<(), AllocError>
     add_two_digits(text, date.day)
 }
 
-/// Adds the name of a day of the years 0000 to 9999.
-fn add_weekday(text: &mut Vec<u8>, day: i32) -> Result<(), AllocError>
-    requires { IsDayNumber day }
-    ensures { OnOk result (text.new.items ≡ text.old.items ++ weekday_name (weekday_of (day_index day))) }
-{
-    text.extend_from_slice(name_of(civil(day).weekday).as_bytes())?;
-    Ok(())
-}
-
 /// Adds the text of a piece of a heading, for a day of the years 0000 to 9999.
 fn add_piece(text: &mut Vec<u8>, day: i32, piece: Piece<DayField>) -> Result<(), AllocError>
     requires { IsDayNumber day }
@@ -55,7 +46,9 @@ fn add_piece(text: &mut Vec<u8>, day: i32, piece: Piece<DayField>) -> Result<(),
 {
     match piece {
         Piece::Byte(byte) => Ok(text.push(byte)?),
-        Piece::Field(DayField::Name) => add_weekday(text, day),
+        Piece::Field(DayField::Name) => {
+            text.extend_from_slice(name_of(civil(day).weekday).as_bytes())
+        }
         Piece::Field(DayField::Date) => add_date(text, day),
     }
 }

@@ -4,7 +4,7 @@ ghost use Rattle.std.specs.Option.{option_map};
 ghost use Rattle.std.specs.String.{string_bytes};
 ghost use Rattle.clap.specs.Words.{subcommand_rows_of};
 ghost use Rattle.khal_list.specs.Entries.{limit_text, with_name, zones_text, HasLimit};
-ghost use Rattle.khal_list.specs.Limits.{number_of, IsLimitOf};
+ghost use Rattle.khal_list.specs.Limits.{IsLimitOf};
 
 use crate::RequestFault;
 use crate::every_day::{After, EveryDay};
@@ -149,11 +149,5 @@ fn limit_of<'a>(found: &ArgMatches<'a>) -> Option<u32>
     requires { HasLimit (subcommand_rows_of found.now) }
     ensures { IsLimitOf (limit_text (subcommand_rows_of found.now)) result }
 {
-    number(entry(found, "limit")?)
-}
-
-fn number(text: &str) -> Option<u32>
-    ensures { result ≡ number_of text.now }
-{
-    text.parse::<u32>().ok()
+    entry(found, "limit")?.parse::<u32>().ok()
 }

@@ -1,6 +1,6 @@
 //! Bytes as they are shown.
 ghost use Rattle.std.specs.Prelude.{◌≡◌, ◌++◌, OnOk};
-ghost use Rattle.khal_list.specs.Shown.{shown, shown_byte};
+ghost use Rattle.khal_list.specs.Shown.{shown};
 
 use bstr::ByteSlice;
 use std::alloc::{AllocError, Global};
@@ -11,13 +11,7 @@ pub(crate) fn add_shown(alloc: Global, text: &mut Vec<u8>, bytes: &[u8]) -> Resu
 {
     let readable = bytes.to_str_lossy(alloc)?;
     for byte in readable.as_str().as_bytes() {
-        text.push(shown_byte(*byte))?;
+        text.push(if byte.is_ascii_control() { b' ' } else { *byte })?;
     }
     Ok(())
-}
-
-fn shown_byte(byte: u8) -> u8
-    ensures { result ≡ shown_byte byte }
-{
-    if byte < 32 || byte == 127 { b' ' } else { byte }
 }

@@ -4,7 +4,7 @@ ghost use Rattle.clap.specs.Words.{subcommand_rows_of};
 ghost use Rattle.khal_list.specs.Entries.{span_of};
 ghost use Rattle.khal_list.specs.SpanTexts.{span_by};
 
-use crate::words::{entry, is_at, text};
+use crate::words::{entry, text};
 use clap::ArgMatches;
 
 /// The window that the words ask for, as texts.
@@ -24,13 +24,12 @@ impl<'a> Span<'a> {
     pub(crate) fn of(found: &ArgMatches<'a>) -> Span<'a>
         ensures { span_by result ≡ span_of (subcommand_rows_of found.now) }
     {
-        if is_at(found) {
-            Span::At(text(found, "moment"))
-        } else {
-            Span::FromTo {
+        match found.subcommand() {
+            Some(("at", _)) => Span::At(text(found, "moment")),
+            _ => Span::FromTo {
                 start: entry(found, "start"),
                 end: text(found, "end"),
-            }
+            },
         }
     }
 }

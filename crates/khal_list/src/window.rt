@@ -38,8 +38,10 @@ pub(crate) fn window_of(
 {
     match span {
         Span::At(text) => {
-            let moment = moment_local(WindowText::parse(text)?)?;
-            second_at(zone, moment, notstarted)
+            let WindowText::Local(local) = WindowText::parse(text)? else {
+                return None;
+            };
+            second_at(zone, local, notstarted)
         }
         Span::FromTo { start, end } => {
             let start = start_said(zone, now, start)?;
@@ -55,9 +57,13 @@ fn start_said(zone: Display, now: Moment, text: Option<&str>) -> Option<Local>
         ≡ spec.start_said zone now (option_map (λ t. t.now) text.entry) }
     ensures bound { IfSome result (λ l. IsEpochDay l.day) }
 {
-    match text {
-        None => today(zone, now),
-        Some(text) => start_local(WindowText::parse(text)?),
+    let Some(text) = text else {
+        return today(zone, now);
+    };
+    match WindowText::parse(text)? {
+        WindowText::Day(day) => Some(Local { day, second: 0 }),
+        WindowText::Local(local) => Some(local),
+        WindowText::Days(_) => None,
     }
 }
 
@@ -72,19 +78,6 @@ fn today(zone: Display, now: Moment) -> Option<Local>
     }
     let day = zone.local(now).day;
     Some(Local { day, second: 0 })
-}
-
-fn start_local(name: WindowText) -> Option<Local>
-    requires { IsInCalendar name }
-    ensures value { option_map (λ l. local_seconds l) result
-        ≡ spec.start_named (named_by name) }
-    ensures bound { IfSome result (λ l. IsEpochDay l.day) }
-{
-    match name {
-        WindowText::Day(day) => Some(Local { day, second: 0 }),
-        WindowText::Local(local) => Some(local),
-        WindowText::Days(_) => None,
-    }
 }
 
 fn end_local(start: Local, name: WindowText) -> Local
@@ -103,16 +96,6 @@ fn end_local(start: Local, name: WindowText) -> Local
             day: start.day + number as i32,
             second: start.second,
         },
-    }
-}
-
-fn moment_local(name: WindowText) -> Option<Local>
-    ensures value { option_map (λ l. local_seconds l) result
-        ≡ spec.moment_named (named_by name) }
-{
-    match name {
-        WindowText::Local(local) => Some(local),
-        _ => None,
     }
 }
 

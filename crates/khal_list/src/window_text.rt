@@ -1,5 +1,5 @@
 //! The texts that name the ends of a window.
-ghost use Rattle.std.specs.Prelude.{◌≡◌, ◌<◌, ◌≤◌, option_map, Some, None, IfSome, if◌then◌else◌};
+ghost use Rattle.std.specs.Prelude.{◌≡◌, ◌<◌, ◌≤◌, option_map, IfSome};
 ghost use Rattle.std.specs.Char.{is_ascii_digit};
 ghost use Rattle.std.specs.List.{list_all};
 ghost use Rattle.jiff_core.specs.Calendar.{IsEpochDay};
@@ -142,8 +142,8 @@ fn number(digits: &str) -> Option<u32>
         return None;
     }
     match digits.parse::<u32>() {
-        Ok(number) => within(number),
-        Err(_) => None,
+        Ok(number) if number >= 1 && number <= MOST_DAYS => Some(number),
+        _ => None,
     }
 }
 
@@ -151,16 +151,4 @@ fn are_digits(text: &[u8]) -> bool
     ensures { result ≡ list_all is_ascii_digit text.now }
 {
     text.iter().all(|b| b.is_ascii_digit())
-}
-
-// The number, if it is one of the days that a window may have.
-fn within(number: u32) -> Option<u32>
-    ensures value { result ≡ (if spec.is_number_of_days number then Some number else None) }
-    ensures bound { IfSome result (λ number. number ≤ spec.most_days) }
-{
-    if number >= 1 && number <= MOST_DAYS {
-        Some(number)
-    } else {
-        None
-    }
 }

@@ -41,13 +41,3 @@ pub(crate) fn text_or<'a>(found: &ArgMatches<'a>, id: &str, default: &'a str) ->
 {
     entry(found, id).unwrap_or(default)
 }
-
-/// Whether the words name the subcommand `at`.
-pub(crate) fn is_at<'a>(found: &ArgMatches<'a>) -> bool
-    ensures { result ≡ spec.is_at (subcommand_rows_of found.now) }
-{
-    match found.subcommand() {
-        Some((name, _)) => name == "at",
-        None => false,
-    }
-}

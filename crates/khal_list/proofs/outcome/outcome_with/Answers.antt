@@ -1,4 +1,4 @@
-use Rattle.std.proofs.Common.{◌∙◌, sym}
+use Rattle.std.proofs.Common.{◌∙◌}
 use Rattle.ics_calendar.specs.Drafts.{draft_said}
 use Rattle.ics_calendar.specs.Files.{wanted_names}
 use Rattle.khal_list.specs.Outcomes.{seen_outcome}
