@@ -1,14 +1,21 @@
 //! The times of an entry, in eleven columns.
-ghost use Rattle.std.specs.Prelude.{◌≡◌, ◌++◌, ◌∷◌, OnOk};
+ghost use Rattle.std.specs.Prelude.{◌≡◌, ◌<◌, ◌++◌, OnOk};
 ghost use Rattle.ics_values.specs.Locals.{local_seconds};
-ghost use Rattle.khal_list.specs.Text.{second_of, time_text, start_text, finish_text, times_text, is_end_of};
+ghost use Rattle.khal_list.specs.Text.{two_digits, second_of, time_text, start_text, finish_text, times_text, is_end_of};
 
-use crate::digits::add_two_digits;
 use ics_values::Local;
 use std::alloc::AllocError;
 
 /// What is written for a time on another day.
 const BLANK: &[u8] = b"     ";
+
+/// Adds a number below 100 in two digits.
+fn add_two_digits(text: &mut Vec<u8>, number: u8) -> Result<(), AllocError>
+    requires { number < 100 }
+    ensures { OnOk result (text.new.items ≡ text.old.items ++ two_digits number) }
+{
+    text.extend_from_slice(&[b'0' + number / 10, b'0' + number % 10])
+}
 
 /// Adds the time of a local as `HH:MM`, the seconds left off.
 pub(crate) fn add_time(text: &mut Vec<u8>, local: Local) -> Result<(), AllocError>

@@ -5,11 +5,11 @@ ghost use Rattle.ics_values.specs.Days.{IsDayNumber};
 ghost use Rattle.khal_list.specs.Formats.{filled, shown_piece};
 ghost use Rattle.khal_list.specs.Text.{weekday_name, date_text, day_field_text};
 
-use crate::digits::{add_four_digits, add_two_digits};
 use crate::field::DayField;
 use crate::format::{Format, Piece};
 use ics_values::civil;
-use jiff_core::civil::Weekday;
+use jiff::fmt::temporal::DateTimePrinter;
+use jiff_core::civil::{Date, Weekday};
 use std::alloc::AllocError;
 
 fn name_of(weekday: Weekday) -> &'static str
@@ -31,12 +31,8 @@ pub(crate) fn add_date(text: &mut Vec<u8>, day: i32) -> Result<(), AllocError>
     requires { IsDayNumber day }
     ensures { OnOk result (text.new.items ≡ text.old.items ++ date_text day) }
 {
-    let date = civil(day);
-    add_four_digits(text, date.year)?;
-    text.push(b'-')?;
-    add_two_digits(text, date.month)?;
-    text.push(b'-')?;
-    add_two_digits(text, date.day)
+    let date = Date::from_unix_epoch_day(i64::from(day)).unwrap();
+    text.extend_from_slice(DateTimePrinter::new().date_text(date).as_str().as_bytes())
 }
 
 /// Adds the text of a piece of a heading, for a day of the years 0000 to 9999.

@@ -4,7 +4,6 @@
 mod answered;
 mod cell;
 mod command;
-mod digits;
 mod display_day;
 mod drawing;
 mod entry;
