@@ -52,7 +52,9 @@ by-next a b next Greater r h k low high = let l = high (omega (arith, ints, h)) 
 
 -- with no key all come
 pub since-none : (after : Option Rank) (uid : List ℕ) → after ≡ None → IsSince after uid (neg_ℤ (pos 9_223_372_036_854_775_808))
-since-none after uid e = λ o u r low high. ap (λ a. is_after a o) e ∙ grind (arith, ints)
+since-none after uid e = λ o u r low high.
+    let least : neg_ℤ (pos 9_223_372_036_854_775_808) ≤ℤ o.start = omega (arith, ints, low) in
+    ap (λ a. is_after a o) e ∙ grind (arith, ints)
 
 -- where those come that begin at the key's start
 pub since-start : (after : Option Rank) (key : Rank) (uid : List ℕ) (t : ℤ) → after ≡ Some key → turned key uid ≡ Greater → t ≡ key.start → IsSince after uid t
@@ -70,6 +72,6 @@ saturated (negsuc (suc n)) t x e f h = (λ l. grind (arith, ints), λ l. grind (
 -- where they do not
 pub since-next : (after : Option Rank) (key : Rank) (uid : List ℕ) (t : ℤ) → after ≡ Some key → (turned key uid ≡ Greater → ⊥) → t ≡ saturate_signed w64 (key.start +ℤ pos 1) → SFits w64 key.start → IsSince after uid t
 since-next after key uid t a n e f = λ o u r low high.
-    let k = saturated key.start t o.start e f high in
+    let k = saturated key.start t o.start e f (omega (arith, ints, high)) in
     ap (λ a. is_after a o) a
     ∙ by-next key.start o.start t (int_cmp key.start o.start) (rest key o) (int_ranks key.start o.start) (λ s. ap is_lt (rest-turned key uid o u r s) ∙ not-Less (turned key uid) n) k.0 k.1

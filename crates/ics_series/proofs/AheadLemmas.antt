@@ -6,6 +6,7 @@ use Rattle.std.proofs.Common.{◌≡◌, ℕ, zero, suc, ℤ, pos, ◌+ℤ◌, �
 use Rattle.std.proofs.lemmas.Int.{ints}
 use Rattle.ics_calendar.specs.Event.{FileSaid}
 use Rattle.ics_zone.specs.Seconds.{IsNear}
+use Rattle.ics_zone.proofs.Cases.{and_both, or_cases, or_left, or_right, int_lt_true, true_int_lt, and_parts}
 use Rattle.ics_series.specs.declared.window.Window.{Window}
 use Rattle.ics_series.specs.After.{is_after}
 use Rattle.ics_series.specs.Ahead.{is_today, today, IsAheadOf, IsLater}
@@ -18,12 +19,12 @@ use Rattle.ics_series.specs.Meets.{IsListed, IsToCome, Meets}
 use Rattle.ics_series.specs.NearDays.{first_near, last_near, Begins, IsNearDay}
 use Rattle.ics_series.specs.Sources.{Source}
 use Rattle.ics_series.specs.OnDays.{after_day_key, is_day_after, on_day, on_day_cmp, IsOnDay, OnDay}
+use Rattle.ics_series.proofs.Cases.{equal-true, true-equal}
 use Rattle.ics_series.proofs.FilterLemmas.{listing-filter}
 use Rattle.ics_series.proofs.ListingLemmas.{one-listing}
-use Rattle.ics_series.proofs.MeetingLemmas.{both-back, either, either-left, either-right, equal-true, less-true, true-equal, true-less}
 use Rattle.ics_series.proofs.NearDayLemmas.{meets-near, near-first, near-last, occurs-forward}
 use Rattle.ics_series.proofs.OnDayLemmas.{day-first, joined, on_day_total, shown-today, today-listing, today-shown}
-use Rattle.ics_series.proofs.ToComeLemmas.{and-true, come-listed, lt-Less}
+use Rattle.ics_series.proofs.ToComeLemmas.{come-listed, lt-Less}
 
 -- an occurrence of the folder under this day
 abbrev IsUnder : List FileSaid → Clock → Window → ℤ → OnDay → Type 0
@@ -73,8 +74,8 @@ module _ (files : List FileSaid) (display : Clock) (near : (t : ℤ) → IsNear 
       → IsListing on_day_cmp (IsLater files display w next) (filter (λ p. int_lt next p.day) later)
   later-behind day next e later l =
       listing-filter (λ p. int_lt next p.day) on_day_cmp (IsLater files display w day) (IsLater files display w next) later l
-      (λ p s t. record { shown = s.shown; later = less-true next p.day t })
-      (λ p s. let m = s.later in (record { shown = s.shown; later = omega (arith, ints, m, e) }, true-less next p.day m))
+      (λ p s t. record { shown = s.shown; later = int_lt_true next p.day t })
+      (λ p s. let m = s.later in (record { shown = s.shown; later = omega (arith, ints, m, e) }, true_int_lt next p.day m))
 
   -- The next day: where nothing is to come under the day, that day's come next.
   pub ahead-turned : (day next : ℤ) → next ≡ day +ℤ pos 1 → (n : Window) → IsNearDay w next n → (none coming : List Entry) → none ≡ [] → IsListing entry_cmp (IsListed files display n) coming
@@ -164,16 +165,16 @@ module _ (files : List FileSaid) (display : Clock) (near : (t : ℤ) → IsNear 
     begun-come : (p : OnDay) → IsBegun p ⊎ IsLater files display w day p → IsCome p
     begun-come p (inl b) = (
       b.0.0,
-      begins.behind p (shown-first p b.0.0) ∙ either-right (int_lt day p.day) (int_eq p.day day && is_after key p.entry) (both-back (int_eq p.day day) (is_after key p.entry) (true-equal p.day day b.0.1) b.1),
+      begins.behind p (shown-first p b.0.0) ∙ or_right (int_lt day p.day) (int_eq p.day day && is_after key p.entry) (and_both (int_eq p.day day) (is_after key p.entry) (true-equal p.day day b.0.1) b.1),
     )
-    begun-come p (inr l) = (l.shown, begins.behind p (shown-first p l.shown) ∙ either-left (int_lt day p.day) (int_eq p.day day && is_after key p.entry) (true-less day p.day l.later))
+    begun-come p (inr l) = (l.shown, begins.behind p (shown-first p l.shown) ∙ or_left (int_lt day p.day) (int_eq p.day day && is_after key p.entry) (true_int_lt day p.day l.later))
 
     come-begun : (p : OnDay) → IsCome p → IsBegun p ⊎ IsLater files display w day p
     come-begun p c =
         ⊎_elim
-        (λ t. inr (record { shown = c.0; later = less-true day p.day t }))
-        (λ t. let parts = and-true (int_eq p.day day) (is_after key p.entry) t in inl ((c.0, equal-true p.day day parts.0), parts.1))
-        (either (int_lt day p.day) (int_eq p.day day && is_after key p.entry) (sym (begins.behind p (shown-first p c.0)) ∙ c.1))
+        (λ t. inr (record { shown = c.0; later = int_lt_true day p.day t }))
+        (λ t. let parts = and_parts (int_eq p.day day) (is_after key p.entry) t in inl ((c.0, equal-true p.day day parts.0), parts.1))
+        (or_cases (int_lt day p.day) (int_eq p.day day && is_after key p.entry) (sym (begins.behind p (shown-first p c.0)) ∙ c.1))
 
     all-shown : (xs : List Entry) → IsListing entry_cmp (IsListed files display w) xs → (list : List OnDay) × IsListing on_day_cmp (IsOnDay files display w) list
     all-shown xs l =

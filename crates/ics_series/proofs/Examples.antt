@@ -10,7 +10,6 @@ use Rattle.ics_values.specs.declared.frequency.Frequency.TheVariants.{Daily}
 use Rattle.ics_values.specs.declared.local.Local.{Local}
 use Rattle.ics_values.specs.declared.until.Until.TheVariants as until
 use Rattle.ics_rule.specs.Kept.{is_kept, rules_on_literals, until_moment}
-use Rattle.ics_rule.specs.Recurrence.{Recurrence}
 use Rattle.ics_values.specs.declared.stamp.Stamp.{Stamp}
 use Rattle.ics_values.specs.declared.stamp.Stamp.TheVariants.{Date, Floating, Utc, Zoned}
 use Rattle.ics_calendar.specs.declared.event.Event.{Event}
@@ -29,6 +28,7 @@ use Rattle.ics_series.specs.declared.start.StartSource.TheVariants.{Kept, Listed
 use Rattle.ics_series.specs.declared.start.Start.{Start}
 use Rattle.ics_series.specs.Meeting.{is_met}
 use Rattle.ics_series.specs.PlacedEvents.{Placed, placed_cmp}
+use Rattle.ics_series.proofs.Cases.{some-same}
 
 abbrev event_of : ℕ → Stamp → Length → Event
 event_of sequence start length = record {
@@ -183,9 +183,6 @@ third_day r =
     let of : recurrence_by (Utc (local_at (pos 19_727) 36_000)) daily ≡ r.rule = some-same _ _ r.has in
     let last : pos 1_704_621_600 ≤ℤ pos 1_704_535_200 = subst (λ q. IfSome (until_moment q) (λ last. pos 1_704_621_600 ≤ℤ last)) (sym of) r.until in
     omega (arith, ints, last)
-  where
-    some-same : (a b : Recurrence) → Some a ≡ Some b → a ≡ b
-    some-same a b h = cc
 
 abbrev utc : ℤ → ℕ → Time
 utc day second = record { stamp = Utc (local_at day second); zone = None }

@@ -1,6 +1,6 @@
 -- Which starts EXDATEs take out.
 use Rattle.std.specs.Prelude.{◌<ℤ◌, not}
-use Rattle.std.proofs.Common.{◌≡◌, ℕ, ◌<◌, ◌≤◌, ℤ, pos, ◌+ℤ◌, Bool, true, false, ◌||◌, List, [], ◌∷◌, length, get_or, Result, Ok, Err, is_ok, ◌⊎◌, ⊎_elim, refl, sym, ◌∙◌, ap, subst, arith}
+use Rattle.std.proofs.Common.{◌≡◌, ℕ, ℤ, pos, ◌+ℤ◌, Bool, true, false, ◌||◌, List, [], ◌∷◌, length, get_or, Result, Ok, Err, is_ok, ⊎_elim, refl, sym, ◌∙◌, ap, subst, arith}
 use Rattle.std.specs.Cmp.{int_ranks}
 use Rattle.std.specs.List.{list_any}
 use Rattle.std.specs.List.Sorted.{IsBinarySearchResult, IsPermutation, IsSearchInRange, IsSorted}
@@ -13,6 +13,7 @@ use Rattle.std.proofs.lemmas.List.Sorted.{list_any-IsPermutation, searchable_fro
 use Rattle.ics_values.specs.declared.stamp.Stamp.{Stamp}
 use Rattle.ics_values.specs.declared.stamp.Stamp.TheVariants.{Date, Floating, Utc, Zoned}
 use Rattle.ics_calendar.specs.declared.time.Time.{Time}
+use Rattle.ics_zone.proofs.Cases.{int_le_true, less_or_not}
 use Rattle.ics_series.specs.declared.window.Window.{Window}
 use Rattle.ics_series.specs.declared.zones.FileZones.{FileZones}
 use Rattle.ics_series.specs.Clocks.{Clock, Clocks, instant}
@@ -20,7 +21,6 @@ use Rattle.ics_calendar.specs.Event.{stamp_seconds}
 use Rattle.ics_series.specs.Exclusions.{excludes_by, excludes_time, is_day_in, takes_out, with_instant}
 use Rattle.ics_series.specs.FileZones.{clocks_in, is_past}
 use Rattle.ics_series.proofs.InstantLemmas.{instant-near}
-use Rattle.ics_series.proofs.MeetingLemmas.{le-true}
 use Rattle.ics_values.specs.Locals.{whole_days}
 
 -- Whether a search finds a number.
@@ -38,10 +38,7 @@ found-in xs x (Ok i) s b h = sym (list_any_at (λ y. int_eq y x) xs i (pos 0) b 
 found-in xs x (Err i) s b h =
     let parts = h (searchable_from_sorted int_cmp_total (λ y. y) xs x s) in
     sym (list_any_none (λ y. int_eq y x) xs (λ k d l.
-    ⊎_elim (λ low. less-false (get_or xs k d) x (parts.0 k d (omega arith) low)) (λ high. greater-false (get_or xs k d) x (parts.1 k d high l)) (sides k i)))
-  where
-    sides : (a b : ℕ) → (a < b) ⊎ (b ≤ a)
-    sides a b = grind arith
+    ⊎_elim (λ low. less-false (get_or xs k d) x (parts.0 k d (omega arith) low)) (λ high. greater-false (get_or xs k d) x (parts.1 k d high l)) (less_or_not k i)))
 
 -- One more instant.
 or-false : (a : Bool) → (a || false) ≡ a
@@ -64,7 +61,7 @@ pushed-by clock instants days moment t false h =
 
 later-false : (zones : FileZones) (w : Window) (time : Time) (t : ℤ) → t <ℤ w.to → is_past w time ≡ true → int_eq (instant (clocks_in zones) time) t ≡ false
 later-false zones w time t early past =
-    let late = le-true (w.to +ℤ whole_days 2) (stamp_seconds time.stamp) past in
+    let late = int_le_true (w.to +ℤ whole_days 2) (stamp_seconds time.stamp) past in
     unequal (instant (clocks_in zones) time) t (omega (arith, ints, late, early, instant-near zones time))
   where
     unequal : (a b : ℤ) → b <ℤ a → int_eq a b ≡ false

@@ -15,10 +15,12 @@ use denote.Ref.{Bor}
 use Rattle.ics_series.specs.declared.start.StartSource.{StartSource}
 use Rattle.ics_series.specs.declared.start.StartSource.TheVariants.{Kept, Listed}
 use Rattle.ics_series.specs.declared.start.Start.{Start}
-use Rattle.ics_series.specs.Found.{day_in, firsts_after, source_cmp, is_at, moment_cmp, part_of, place_in, start_cmp, AreFirsts}
+use Rattle.ics_series.specs.Found.{day_in, firsts_after, source_cmp, moment_cmp, part_of, place_in, start_cmp, AreFirsts}
 use Rattle.ics_series.specs.Listing.{IsIn}
 use Rattle.ics_series.specs.Rising.{IsBefore, Rises}
 use Rattle.ics_series.specs.Starts.{IsNotAfter}
+use Rattle.std.specs.Option.{option_eq}
+use Rattle.ics_series.proofs.Cases.{some-same, equal-true, true-equal, up-to-front}
 use Rattle.ics_series.proofs.SortLemmas.{IsUpTo, Climbs, climbs-sorted, in-permutation, up-to-in}
 
 pub source_total : IsTotalOrder source_cmp
@@ -29,12 +31,6 @@ start_total = then_total (on_total (λ s. s.moment) int_cmp_total) (on_total (λ
 
 pub moment_total : IsTotalOrder moment_cmp
 moment_total = on_total (λ s. s.moment) int_cmp_total
-
--- Comparisons.
-up-to-front : (c d : Ordering) → is_gt (ordering_then c d) ≡ false → is_gt c ≡ false
-up-to-front Less d h = refl
-up-to-front Equal d h = refl
-up-to-front Greater d h = h
 
 up-to-back : (c d : Ordering) → c ≡ Equal → is_gt (ordering_then c d) ≡ false → is_gt d ≡ false
 up-to-back c d e h = subst (λ x. is_gt (ordering_then x d) ≡ false) e h
@@ -84,22 +80,16 @@ before-by : (x y : Start) (zs : List Start) → ((z : Start) → moment_cmp y z 
 before-by x y [] f h = tt
 before-by x y (z ∷ zs) f h = (f z h.0, before-by x y zs f h.1)
 
-pub eq-true : (a b : ℤ) → int_eq a b ≡ true → a ≡ b
-eq-true a b e = grind (arith, ints)
-
-pub true-eq : (a b : ℤ) → a ≡ b → int_eq a b ≡ true
-true-eq a b e = grind (arith, ints)
-
 -- The instants rise.
 abbrev RisesAfter : Start → List Start → Type 0
 RisesAfter x zs = IsBefore moment_cmp x zs × Rises moment_cmp zs
 
 rises-step : (x y : Start) (zs : List Start) (b : Bool) → int_eq x.moment y.moment ≡ b → is_gt (moment_cmp x y) ≡ false → RisesAfter y zs → RisesAfter x (cond b zs (y ∷ zs))
 rises-step x y zs true e g h =
-    let same = eq-true x.moment y.moment e in
+    let same = equal-true x.moment y.moment e in
     (before-by x y zs (λ z l. ap (λ t. int_cmp t z.moment) same ∙ l) h.0, h.1)
 rises-step x y zs false e g h =
-    let less : moment_cmp x y ≡ Less = ⊎_elim (λ same. let t = true-eq x.moment y.moment same in absurd cc) (λ l. l) (int-up-to x.moment y.moment (moment_cmp x y) refl g) in
+    let less : moment_cmp x y ≡ Less = ⊎_elim (λ same. let t = true-equal x.moment y.moment same in absurd cc) (λ l. l) (int-up-to x.moment y.moment (moment_cmp x y) refl g) in
     ((less, before-by x y zs (λ z l. moment_total.trans x y z less l) h.0), h)
 
 rises-after : (x : Start) (xs : List Start) → IsUpTo moment_cmp x xs → Climbs moment_cmp xs → RisesAfter x (firsts_after (Some x.moment) xs)
@@ -118,7 +108,7 @@ firsts-in-by false s x zs xs ih m = ⊎_elim inl (λ n. inr (ih n)) m
 
 firsts-in : (last : Option ℤ) (s : Start) (xs : List Start) → IsIn s (firsts_after last xs) → IsIn s xs
 firsts-in last s [] m = m
-firsts-in last s (x ∷ xs) m = firsts-in-by (is_at last x.moment) s x (firsts_after (Some x.moment) xs) xs (firsts-in (Some x.moment) s xs) m
+firsts-in last s (x ∷ xs) m = firsts-in-by (option_eq int_eq last (Some x.moment)) s x (firsts_after (Some x.moment) xs) xs (firsts-in (Some x.moment) s xs) m
 
 -- the list has a start at the same instant whose local is not later
 record HasFirst (zs : List Start) (x : Start) : Type 0 where
@@ -127,14 +117,11 @@ record HasFirst (zs : List Start) (x : Start) : Type 0 where
   same : first.moment ≡ x.moment
   earlier : is_gt (start_cmp first x) ≡ false
 
-at-true : (last : Option ℤ) (t : ℤ) → is_at last t ≡ true → last ≡ Some t
+at-true : (last : Option ℤ) (t : ℤ) → option_eq int_eq last (Some t) ≡ true → last ≡ Some t
 at-true None t e = let f : false ≡ true = e in absurd cc
-at-true (Some u) t e = ap Some (eq-true u t e)
+at-true (Some u) t e = ap Some (equal-true u t e)
 
-some-same : (a b : ℤ) → Some a ≡ Some b → a ≡ b
-some-same a b h = cc
-
-in-firsts-by : (last : Option ℤ) (x s : Start) (xs : List Start) (b : Bool) → is_at last x.moment ≡ b → IsUpTo start_cmp x xs
+in-firsts-by : (last : Option ℤ) (x s : Start) (xs : List Start) (b : Bool) → option_eq int_eq last (Some x.moment) ≡ b → IsUpTo start_cmp x xs
     → (IsIn s xs → (Some x.moment ≡ Some s.moment) ⊎ HasFirst (firsts_after (Some x.moment) xs) s)
     → IsIn s (x ∷ xs) → (last ≡ Some s.moment) ⊎ HasFirst (cond b (firsts_after (Some x.moment) xs) (x ∷ firsts_after (Some x.moment) xs)) s
 in-firsts-by last x s xs true e u ih m =
@@ -152,7 +139,7 @@ in-firsts-by last x s xs false e u ih m =
 
 in-firsts : (last : Option ℤ) (s : Start) (xs : List Start) → Climbs start_cmp xs → IsIn s xs → (last ≡ Some s.moment) ⊎ HasFirst (firsts_after last xs) s
 in-firsts last s [] h m = absurd m
-in-firsts last s (x ∷ xs) h m = in-firsts-by last x s xs (is_at last x.moment) refl h.0 (in-firsts (Some x.moment) s xs h.1) m
+in-firsts last s (x ∷ xs) h m = in-firsts-by last x s xs (option_eq int_eq last (Some x.moment)) refl h.0 (in-firsts (Some x.moment) s xs h.1) m
 
 in-all-firsts : (s : Start) (xs : List Start) → Climbs start_cmp xs → IsIn s xs → HasFirst (firsts_after None xs) s
 in-all-firsts s xs h m = ⊎_elim (λ f. let g : None ≡ Some s.moment = f in absurd cc) (λ k. k) (in-firsts None s xs h m)

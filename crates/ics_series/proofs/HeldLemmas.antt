@@ -8,7 +8,7 @@ use Rattle.std.specs.declared.cmp.Ordering.TheVariants.{Less, Equal, Greater}
 use Rattle.ics_series.specs.Listing.{IsIn}
 use Rattle.ics_series.specs.Rising.{IsBefore, Rises}
 use Rattle.ics_series.specs.Merged.{by_order, put, union}
-use Rattle.ics_series.specs.MergedLaws.{before-put}
+use Rattle.ics_series.proofs.BeginsLemmas.{before-union}
 
 module _ {A : Type 0} (R : A → A → Ordering) (o : IsTotalOrder R) where
   pub before-all : (x : A) (ys : List A) → ((y : A) → IsIn y ys → R x y ≡ Less) → IsBefore R x ys
@@ -19,10 +19,6 @@ module _ {A : Type 0} (R : A → A → Ordering) (o : IsTotalOrder R) where
   put-before x [] h = refl
   put-before x (y ∷ ys) h = ap (λ c. by_order c (x ∷ y ∷ ys) (x ∷ ys) (y ∷ put R x ys)) h.0
 
-  pub before-union : (x : A) (ys zs : List A) → IsBefore R x ys → IsBefore R x zs → IsBefore R x (union R ys zs)
-  before-union x [] zs h k = k
-  before-union x (y ∷ ys) zs h k = before-put R o x y (union R ys zs) h.0 (before-union x ys zs h.1 k)
-
   -- what comes before all of a rising list stands before it
   pub one-first : (s : A) (xs : List A) → Rises R xs → IsBefore R s xs → union R xs (s ∷ []) ≡ s ∷ xs
   one-first s [] r h = refl
@@ -31,7 +27,7 @@ module _ {A : Type 0} (R : A → A → Ordering) (o : IsTotalOrder R) where
       ap (put R x) (one-first s xs r.1 h.1)
       ∙ (ap (λ c. by_order c (x ∷ s ∷ xs) (x ∷ xs) (s ∷ put R x xs)) later ∙ ap (λ ws. s ∷ ws) (put-before x xs r.0))
 
-  before-at : (x : A) (xs : List A) (i : ℕ) (d : A) → IsBefore R x xs → i < length xs → R x (get_or xs i d) ≡ Less
+  pub before-at : (x : A) (xs : List A) (i : ℕ) (d : A) → IsBefore R x xs → i < length xs → R x (get_or xs i d) ≡ Less
   before-at x [] i d h l = absurd (omega arith)
   before-at x (y ∷ ys) zero d h l = h.0
   before-at x (y ∷ ys) (suc i) d h l = before-at x ys i d h.1 (omega arith)
@@ -44,7 +40,7 @@ module _ {A : Type 0} (R : A → A → Ordering) (o : IsTotalOrder R) where
   one-after s (x ∷ xs) (suc i) d r l less h =
       let low : i < length xs = omega arith in
       let first : R x s ≡ Less = o.trans x (get_or xs i d) s (before-at x xs i d r.0 low) less in
-      put-before x (union R xs (s ∷ [])) (before-union x xs (s ∷ []) r.0 (first, tt))
+      put-before x (union R xs (s ∷ [])) (before-union R o x xs (s ∷ []) r.0 (first, tt))
       ∙ ap (λ ws. x ∷ ws) (one-after s xs i d r.1 low less h)
 
   -- what is tied with the value at a place changes nothing

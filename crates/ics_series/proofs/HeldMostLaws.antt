@@ -13,6 +13,7 @@ use Rattle.ics_calendar.specs.Event.{IsRdate, IsTime}
 use Rattle.ics_calendar.specs.declared.event.Event.{Event}
 use Rattle.ics_calendar.specs.declared.time.Rdate.{Rdate}
 use Rattle.ics_calendar.specs.declared.time.Time.{Time}
+use Rattle.ics_zone.proofs.Cases.{int_lt_true, int_le_true, less_or_not_z}
 use Rattle.ics_series.specs.declared.zones.FileZones.{FileZones}
 use Rattle.ics_series.specs.Clocks.{Clocks, instant}
 use Rattle.ics_values.specs.Locals.{midnight, calendar_end}
@@ -23,7 +24,6 @@ use Rattle.ics_series.specs.FileZones.{clocks_in}
 use Rattle.ics_series.proofs.StartSourceLemmas.{given-value, kept-time, rdate-time}
 use Rattle.ics_series.proofs.HeldMostLemmas.{days-most}
 use Rattle.ics_series.proofs.InstantLemmas.{early, late}
-use Rattle.ics_series.proofs.MeetingLemmas.{le-true, less-true}
 use Rattle.ics_series.proofs.RuleLocalLemmas.{number-numbered}
 
 -- The greatest number is one of them.
@@ -78,8 +78,8 @@ module _ (zones : FileZones) (day : ℤ) (far : IsFar day) where
       by true e =
           let t = instant (clocks_in zones) time in
           let parts = and_true {a = int_le (midnight day) t} e in
-          let from = le-true (midnight day) t parts.0 in
-          let to = less-true t (midnight (day +ℤ pos 5)) parts.1 in
+          let from = int_le_true (midnight day) t parts.0 in
+          let to = int_lt_true t (midnight (day +ℤ pos 5)) parts.1 in
           let soon = early zones time h in
           let past = late zones time h in
           absurd (⊎_elim (λ l. omega (arith, ints, l, to, past)) (λ l. omega (arith, ints, l, from, soon)) far)
@@ -125,13 +125,8 @@ module _ (zones : FileZones) (day : ℤ) (far : IsFar day) where
     far-in all = omega (arith, far-by (recurrence_of event) refl, far-listed event.start event.rdates first all)
 
 near-or-far : (day : ℤ) → ((neg_ℤ (pos 719_534) ≤ℤ day) × (day <ℤ pos 2_932_899)) ⊎ IsFar day
-near-or-far day = ⊎_elim (λ low. ⊎_elim (λ high. inl (low, high)) (λ high. inr (inr high)) (sides day (pos 2_932_899))) (λ low. inr (inl low)) (order (neg_ℤ (pos 719_534)) day)
-  where
-    sides : (a b : ℤ) → (a <ℤ b) ⊎ (b ≤ℤ a)
-    sides a b = grind (arith, ints)
-
-    order : (a b : ℤ) → (a ≤ℤ b) ⊎ (b <ℤ a)
-    order a b = grind (arith, ints)
+near-or-far day =
+    ⊎_elim (λ low. inr (inl low)) (λ low. ⊎_elim (λ high. inl (low, high)) (λ high. inr (inr high)) (less_or_not_z day (pos 2_932_899))) (less_or_not_z day (neg_ℤ (pos 719_534)))
 
 -- no five days have more than the greatest number
 most-in-any : (zones : FileZones) (event : Event) → IsTime event.start → All IsRdate event.rdates → (day : ℤ) → raw_in (clocks_in zones) event day ≤ most_in_days (clocks_in zones) event

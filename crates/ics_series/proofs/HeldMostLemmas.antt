@@ -1,13 +1,14 @@
 -- The starts of a rule that are held are no more than the event has in five UTC days.
 use Rattle.std.specs.Prelude.{◌<ℤ◌, ◌≤ℤ◌, ◌==◌, int_le, int_lt, unsigned_abs}
 use Rattle.std.specs.declared.cmp.Ordering.TheVariants.{Less}
-use Rattle.std.proofs.Common.{◌≡◌, ℕ, zero, suc, ◌+◌, ◌<◌, ◌≤◌, ℤ, pos, neg_ℤ, ◌+ℤ◌, ◌-ℤ◌, Bool, true, false, ◌&&◌, not, cond, List, [], ◌∷◌, length, Some, ◌⊎◌, inl, inr, ⊎_elim, refl, sym, ◌∙◌, ap, arith}
+use Rattle.std.proofs.Common.{◌≡◌, ℕ, zero, suc, ◌+◌, ◌<◌, ◌≤◌, ℤ, pos, neg_ℤ, ◌+ℤ◌, ◌-ℤ◌, Bool, true, false, ◌&&◌, not, cond, List, [], ◌∷◌, length, Some, inl, inr, ⊎_elim, refl, sym, ◌∙◌, ap, arith}
 use Rattle.std.proofs.lemmas.Int.{ints}
 use Rattle.ics_rule.specs.Kept.{count, is_kept}
 use Rattle.ics_rule.specs.Recurrence.{Recurrence}
 use Rattle.ics_rule.proofs.Counts.{count-suc}
 use Rattle.ics_rule.proofs.KeptLemmas.{and_true, eqb_true}
 use Rattle.ics_calendar.specs.declared.event.Event.{Event}
+use Rattle.ics_zone.proofs.Cases.{true_int_lt, true_int_le, true_eq, and_both}
 use Rattle.ics_series.specs.declared.start.Start.{Start}
 use Rattle.ics_series.specs.declared.window.Window.{Window}
 use Rattle.ics_series.specs.declared.zones.FileZones.{FileZones}
@@ -20,26 +21,22 @@ use Rattle.ics_series.specs.Rising.{Rises}
 use Rattle.ics_series.specs.RuleStarts.{lets_until, local_numbered, moment_numbered, number_in, AreHeld, IsHeld}
 use Rattle.ics_series.specs.Starts.{recurrence_of}
 use Rattle.ics_series.specs.FileZones.{clocks_in}
+use Rattle.ics_series.proofs.Cases.{below-or-last}
 use Rattle.ics_series.proofs.FirstLemmas.{int-less, moment_total}
 use Rattle.ics_series.proofs.ListingLemmas.{before-in}
-use Rattle.ics_series.proofs.MeetingLemmas.{true-le, true-less}
 use Rattle.ics_series.proofs.PeriodCountLemmas.{count-implied, one-more}
 use Rattle.ics_series.proofs.RuleLawLemmas.{in-rules, kept-of, let-through}
-use Rattle.ics_series.proofs.RuleLocalLemmas.{both, true-eqb}
 
 -- the test that one number less passes
 abbrev without : ℕ → (ℕ → Bool) → ℕ → Bool
 without m test k = test k && not (k == m)
 
 itself-none : (m n : ℕ) (b : Bool) → m ≡ n → cond (b && not (n == m)) 1 0 ≤ 0
-itself-none m n true e = omega (arith, ap {B = ℕ} (λ c. cond (not c) 1 0) (true-eqb n m (sym e)))
+itself-none m n true e = omega (arith, ap {B = ℕ} (λ c. cond (not c) 1 0) (true_eq n m (sym e)))
 itself-none m n false e = omega arith
 
 itself-once : (b : Bool) → b ≡ true → 1 ≤ cond b 1 0
 itself-once b e = omega (arith, ap {B = ℕ} (λ c. cond c 1 0) e)
-
-below-or-last : (m n : ℕ) → m < suc n → (m < n) ⊎ (m ≡ n)
-below-or-last m n l = grind arith
 
 -- without a number that passes a test one number less does
 count-without : (n m : ℕ) (test : ℕ → Bool) → m < n → test m ≡ true → count n (without m test) + 1 ≤ count n test
@@ -77,7 +74,7 @@ module _ (clocks : Clocks) (event : Event) (n : ℕ) where
   without-first test s t less a b = record {
     by = b.by;
     below = b.below;
-    passes = both (test (number_in t.source)) (not (number_in t.source == number_in s.source)) b.passes
+    passes = and_both (test (number_in t.source)) (not (number_in t.source == number_in s.source)) b.passes
         (not-same (number_in t.source == number_in s.source) (λ e. apart test s t less a b (eqb_true (number_in t.source) (number_in s.source) e)));
   }
 
@@ -112,9 +109,9 @@ rule-most clocks event rule day has = omega (arith, ap (λ o. raw_by clocks even
 module _ (zones : FileZones) (event : Event) (rule : Recurrence) (w : Window) where
   within-days : (asked t : ℤ) → (midnight asked -ℤ whole_days 3) ≤ℤ t → t <ℤ (midnight asked +ℤ whole_days 2) → is_within_days (asked -ℤ pos 3) t ≡ true
   within-days asked t late early =
-      both (int_le (midnight (asked -ℤ pos 3)) t) (int_lt t (midnight ((asked -ℤ pos 3) +ℤ pos 5)))
-      (true-le (midnight (asked -ℤ pos 3)) t (omega (arith, ints, late)))
-      (true-less t (midnight ((asked -ℤ pos 3) +ℤ pos 5)) (omega (arith, ints, early)))
+      and_both (int_le (midnight (asked -ℤ pos 3)) t) (int_lt t (midnight ((asked -ℤ pos 3) +ℤ pos 5)))
+      (true_int_le (midnight (asked -ℤ pos 3)) t (omega (arith, ints, late)))
+      (true_int_lt t (midnight ((asked -ℤ pos 3) +ℤ pos 5)) (omega (arith, ints, early)))
 
   held-by : (asked : ℤ) (s : Start) → IsHeld (clocks_in zones) event rule w asked s → IsBy (clocks_in zones) event calendar_end (is_raw (clocks_in zones) event rule (asked -ℤ pos 3)) s
   held-by asked s h =
@@ -124,8 +121,8 @@ module _ (zones : FileZones) (event : Event) (rule : Recurrence) (w : Window) wh
       record {
         by = h.by;
         below = omega (arith, in-rules zones event rule w n h.given);
-        passes = both (is_kept rule n) (lets_until rule n t && is_within_days (asked -ℤ pos 3) t) (kept-of zones event rule w n h.given)
-            (both (lets_until rule n t) (is_within_days (asked -ℤ pos 3) t) (let-through zones event rule w n h.given)
+        passes = and_both (is_kept rule n) (lets_until rule n t && is_within_days (asked -ℤ pos 3) t) (kept-of zones event rule w n h.given)
+            (and_both (lets_until rule n t) (is_within_days (asked -ℤ pos 3) t) (let-through zones event rule w n h.given)
             (within-days asked t (omega (arith, ints, is, h.late)) (omega (arith, ints, is, h.early))));
       }
 

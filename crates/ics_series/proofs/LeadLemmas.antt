@@ -15,6 +15,7 @@ use Rattle.ics_series.specs.EntryLaws.{entry_total}
 use Rattle.ics_series.specs.Leads.{is_given, listed, past, ComeAfter, IsAhead, IsEmpty}
 use Rattle.ics_series.specs.Merged.{by_order, cut, merged, union}
 use Rattle.ics_series.specs.MergedLaws.{before-tied, before-trans}
+use Rattle.ics_series.proofs.Cases.{eq-Equal, up-to-front}
 use Rattle.ics_series.proofs.BeginsLemmas.{begins-at, cut-before, front-at, uncut, AllFront, AllRise, Begins}
 use Rattle.ics_series.specs.Rising.{IsBefore, Rises}
 use Rattle.ics_series.specs.Tournament.{above, head_cmp, lead_cmp, winner, AreSettled, AreSettledBut}
@@ -50,11 +51,6 @@ behind-headed e None list h n = subst (λ l. IsBefore entry_cmp e (cut entry_cmp
 behind-headed e (Some f) list h n =
     subst (λ l. IsBefore entry_cmp e (cut entry_cmp e l)) (sym h.1.0) (behind-by e f h.0 (entry_cmp e f) refl h.1.1 n)
 
-not-after : (c d : Ordering) → is_gt (ordering_then c d) ≡ false → is_gt c ≡ false
-not-after Less d h = refl
-not-after Equal d h = refl
-not-after Greater d h = h
-
 strictly : (c d : Ordering) → d ≡ Greater → is_gt (ordering_then c d) ≡ false → c ≡ Less
 strictly Less d e h = refl
 strictly Equal d e h = cc
@@ -63,11 +59,6 @@ strictly Greater d e h = cc
 nothing-after : (k : Option Entry) → is_gt (head_cmp None k) ≡ false → k ≡ None
 nothing-after None h = refl
 nothing-after (Some e) h = cc
-
-level : (c : Ordering) → is_eq c ≡ true → c ≡ Equal
-level Less h = cc
-level Equal h = refl
-level Greater h = cc
 
 map-map : {A B C : Type 0} (f : B → C) (g : A → B) (xs : List A) → map f (map g xs) ≡ map (λ x. f (g x)) xs
 map-map f g [] = refl
@@ -121,7 +112,7 @@ module _ {X : Type 0} (head : X → Option Occurrence) (rest : X → List Entry)
         within i l =
             nothing-after (get_or (map (λ x. option_map entry_of (head x)) xs) i None)
             (subst (λ h. is_gt (head_cmp h (get_or (map (λ x. option_map entry_of (head x)) xs) i None)) ≡ false) e
-            (not-after (head_cmp (get_or (map (λ x. option_map entry_of (head x)) xs) first None) (get_or (map (λ x. option_map entry_of (head x)) xs) i None)) (nat_cmp first i) (wins i l)))
+            (up-to-front (head_cmp (get_or (map (λ x. option_map entry_of (head x)) xs) first None) (get_or (map (λ x. option_map entry_of (head x)) xs) i None)) (nat_cmp first i) (wins i l)))
 
         past_end : (i : ℕ) → length xs ≤ i → get_or (map (λ x. option_map entry_of (head x)) xs) i None ≡ None
         past_end i l = get_or_past (map (λ x. option_map entry_of (head x)) xs) i None (omega (arith, length-map xs (λ x. option_map entry_of (head x))))
@@ -147,7 +138,7 @@ module _ {X : Type 0} (head : X → Option Occurrence) (rest : X → List Entry)
         (λ i l. at_lead i (λ list. IsBefore entry_cmp e (cut entry_cmp e list)) tt (λ within.
         behind-headed e (get_or heads i None) (get_or lists i []) (headed xs i)
         (subst (λ h. is_gt (head_cmp h (get_or heads i None)) ≡ false) is
-        (not-after (head_cmp (get_or heads first None) (get_or heads i None)) (nat_cmp first i) (wins i within)))))
+        (up-to-front (head_cmp (get_or heads first None) (get_or heads i None)) (nat_cmp first i) (wins i within)))))
 
     -- what is not given comes after what was given last
     fresh-after : ((x : X) → Rises entry_cmp (rest x)) → (p : Occurrence) (e : Entry) → get_or (map (λ x. option_map entry_of (head x)) xs) first None ≡ Some e
@@ -194,7 +185,7 @@ pub past-drawn : (last head : Option Occurrence) (rest : List Entry) → IsAhead
 past-drawn None head rest a g = cc
 past-drawn (Some p) None rest a g = cc
 past-drawn (Some p) (Some o) rest a g =
-    let tied : entry_cmp (entry_of p) (entry_of o) ≡ Equal = level (entry_cmp (entry_of p) (entry_of o)) g in
+    let tied : entry_cmp (entry_of p) (entry_of o) ≡ Equal = eq-Equal (entry_cmp (entry_of p) (entry_of o)) g in
     cut-before entry_cmp entry_total (entry_of p) rest (before-tied entry_cmp entry_total (entry_of p) (entry_of o) rest tied a)
     ∙ sym (ap (λ c. by_order c (entry_of o ∷ rest) rest (entry_of o ∷ rest)) tied)
 

@@ -5,6 +5,7 @@ use Rattle.std.specs.Cmp.{IsTotalOrder}
 use Rattle.std.specs.declared.cmp.Ordering.{Ordering}
 use Rattle.std.specs.declared.cmp.Ordering.TheVariants.{Less, Equal, Greater}
 use Rattle.std.proofs.lemmas.Cmp.{tied_itself}
+use Rattle.ics_zone.proofs.Cases.{int_lt_true, true_int_lt}
 use Rattle.ics_series.specs.declared.start.StartSource.{StartSource}
 use Rattle.ics_series.specs.declared.start.Start.{Start}
 use Rattle.ics_series.specs.Found.{moment_cmp, HasStart}
@@ -14,9 +15,9 @@ use Rattle.ics_series.specs.MergedLaws.{back, before-tied, before-trans}
 use Rattle.ics_series.specs.Rising.{IsBefore, Rises}
 use Rattle.ics_series.specs.SeriesStarts.{earlier_of}
 use Rattle.ics_series.specs.Starts.{IsNotAfter}
+use Rattle.ics_series.proofs.Cases.{some-same}
 use Rattle.ics_series.proofs.BeginsLemmas.{cut-before, cut-union, front-union, put-front, union-front}
 use Rattle.ics_series.proofs.FirstLemmas.{int-less, moment_total, tied-moment}
-use Rattle.ics_series.proofs.MeetingLemmas.{less-true, true-less}
 use Rattle.ics_series.proofs.RuleDayLemmas.{less-start}
 use Rattle.ics_series.proofs.UnionLemmas.{in-union, itself-put, member-put}
 
@@ -58,17 +59,14 @@ module _ {A : Type 0} (R : A → A → Ordering) (o : IsTotalOrder R) where
 taken-some : (s : Start) (xs ys : List Start) → union moment_cmp xs ys ≡ s ∷ union moment_cmp (cut moment_cmp s xs) (cut moment_cmp s ys) → (t : Start) → Some s ≡ Some t
     → union moment_cmp xs ys ≡ t ∷ union moment_cmp (cut moment_cmp t xs) (cut moment_cmp t ys)
 taken-some s xs ys h t e = let same : s ≡ t = some-same s t e in subst (λ u. union moment_cmp xs ys ≡ u ∷ union moment_cmp (cut moment_cmp u xs) (cut moment_cmp u ys)) same h
-  where
-    some-same : (x y : Start) → Some x ≡ Some y → x ≡ y
-    some-same x y h = cc
 
 less-by : (a b : Start) → int_lt b.moment a.moment ≡ true → moment_cmp b a ≡ Less
-less-by a b e = less-start b a (less-true b.moment a.moment e)
+less-by a b e = less-start b a (int_lt_true b.moment a.moment e)
 
 not-greater-by : (a b : Start) → int_lt b.moment a.moment ≡ false → moment_cmp a b ≡ Greater → ⊥
 not-greater-by a b e g =
     let later = int-less b.moment a.moment (back moment_cmp moment_total a b g) in
-    let f : true ≡ false = sym (true-less b.moment a.moment later) ∙ e in
+    let f : true ≡ false = sym (true_int_lt b.moment a.moment later) ∙ e in
     cc
 
 -- if one is the first of what is left, and both lists rise

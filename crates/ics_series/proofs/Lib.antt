@@ -3,6 +3,7 @@ pub mod AfterLemmas
 pub mod AgendaLemmas
 pub mod AheadLemmas
 pub mod BeginsLemmas
+pub mod Cases
 pub mod DayLawLemmas
 pub mod DayLemmas
 pub mod DayStepLemmas

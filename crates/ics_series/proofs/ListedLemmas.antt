@@ -11,6 +11,7 @@ use Rattle.ics_series.specs.Found.{listed_from, start_by, with_front}
 use Rattle.ics_series.specs.Listing.{IsIn}
 use Rattle.ics_series.specs.Starts.{given_by, time_of}
 use Rattle.ics_series.specs.FileZones.{is_past}
+use Rattle.ics_series.proofs.Cases.{some-same}
 
 -- a start of the list is by one of the RDATEs
 pub record IsListed (clocks : Clocks) (first : Time) (place : ℕ) (rdates : List Rdate) (s : Start) : Type 0 where
@@ -59,9 +60,6 @@ module _ (clocks : Clocks) (w : Window) (first : Time) where
       ap (λ n. start_by clocks (Listed n) (given_by first r)) (omega arith) ∙ ap (λ x. start_by clocks (Listed place) (given_by first x)) (sym same) in
       subst (λ s. IsIn s (listed_from clocks w first place (q ∷ rdates))) (sym is)
       (front-in (not (is_past w (time_of (given_by first q)))) (start_by clocks (Listed place) (given_by first q)) (listed_from clocks w first (place + 1) rdates) wanted)
-    where
-      some-same : (x y : Rdate) → Some x ≡ Some y → x ≡ y
-      some-same x y h = cc
   in-listed place (suc k) (q ∷ rdates) r e p =
       subst (λ n. IsIn (start_by clocks (Listed n) (given_by first r)) (listed_from clocks w first place (q ∷ rdates))) (moved place k)
       (rest-in (not (is_past w (time_of (given_by first q)))) (start_by clocks (Listed (place + 1 + k)) (given_by first r)) (start_by clocks (Listed place) (given_by first q))

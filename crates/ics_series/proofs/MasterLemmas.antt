@@ -1,5 +1,5 @@
 -- One version of a subject counts, and an event has one occurrence at most with a start.
-use Rattle.std.proofs.Common.{◌≡◌, ℕ, List, Some, refl, sym, ◌∙◌, ap}
+use Rattle.std.proofs.Common.{◌≡◌, ℕ, List, refl, sym, ◌∙◌, ap}
 use Rattle.std.specs.Prelude.{ℤ, slice_get}
 use Rattle.std.specs.Cmp.{IsTotalOrder}
 use Rattle.std.specs.Ordering.{nat_cmp, ordering_reverse, ordering_then}
@@ -13,6 +13,7 @@ use Rattle.ics_series.specs.Chosen.{subject_of, IsChosen}
 use Rattle.ics_series.specs.Clocks.{Clock}
 use Rattle.ics_series.specs.Entry.{Entry}
 use Rattle.ics_series.specs.PlacedEvents.{Placed, IsPlaced, placed_cmp}
+use Rattle.ics_series.proofs.Cases.{some-same}
 
 pub placed_total : IsTotalOrder placed_cmp
 placed_total = then_total (on_total (λ p. p.event.sequence) nat_cmp_total) (then_total (on_total (λ p. p.file) nat_cmp_total) (on_total (λ p. p.place) nat_cmp_total))
@@ -34,15 +35,12 @@ same-places p q h =
     let both = second-equal (nat_cmp p.file q.file) (nat_cmp p.place q.place) rest in
     (exact_unsigned p.file q.file both.0, exact_unsigned p.place q.place both.1)
 
-some-same : {X : Type 0} (x y : X) → Some x ≡ Some y → x ≡ y
-some-same x y h = cc
-
 same-event : (files : List FileSaid) (p q : Placed) → IsPlaced files p → IsPlaced files q → p.file ≡ q.file → p.place ≡ q.place → p.event ≡ q.event
 same-event files p q h k e f =
     let file : h.within.0 ≡ k.within.0 = some-same _ _ (sym h.within.1 ∙ (ap (slice_get files) e ∙ k.within.1)) in
     some-same _ _ (sym h.within.2 ∙ (ap (λ x. slice_get x.events p.place) file ∙ (ap (slice_get k.within.0.events) f ∙ k.within.2)))
 
-abbrev make : ℕ → ℕ → Event → Placed
+abbrev pub make : ℕ → ℕ → Event → Placed
 make file place event = record { file = file; place = place; event = event }
 
 -- of one place there is one event

@@ -6,6 +6,7 @@ use Rattle.std.specs.Ordering.{int_eq}
 use Rattle.std.proofs.lemmas.Int.{int_max_is, int_min_is, ints}
 use Rattle.ics_calendar.specs.Event.{FileSaid}
 use Rattle.ics_zone.specs.Seconds.{IsNear}
+use Rattle.ics_zone.proofs.Cases.{int_le_true, and_parts}
 use Rattle.ics_series.specs.declared.window.Window.{Window}
 use Rattle.ics_series.specs.Clocks.{Clock, instant, local_at}
 use Rattle.ics_values.specs.Locals.{midnight, day_of_local}
@@ -17,9 +18,8 @@ use Rattle.ics_series.specs.NearDays.{first_near, last_near}
 use Rattle.ics_series.specs.Occurs.{Occurs}
 use Rattle.ics_series.specs.PlacedEvents.{clocks_at}
 use Rattle.ics_series.specs.Starts.{time_of}
+use Rattle.ics_series.proofs.Cases.{equal-true}
 use Rattle.ics_series.proofs.DayLemmas.{day-under}
-use Rattle.ics_series.proofs.MeetingLemmas.{equal-true, le-true}
-use Rattle.ics_series.proofs.ToComeLemmas.{and-true}
 
 -- an occurrence ends where it starts, or later
 pub occurs-forward : (files : List FileSaid) (display : Clock) (o : Entry) → Occurs files display o → o.start ≤ℤ o.finish
@@ -48,10 +48,10 @@ module _ (clock : Clock) (near : (t : ℤ) → IsNear (clock.offset t)) where
 
   module _ (w : Window) (o : Entry) (met : Meets w o) (forward : o.start ≤ℤ o.finish) (day : ℤ) (on : is_on clock w o day ≡ true) where
     at-first : first_day clock w o ≤ℤ day
-    at-first = le-true (first_day clock w o) day (and-true (int_le (first_day clock w o) day) (int_le day (last_day clock w o)) on).0
+    at-first = int_le_true (first_day clock w o) day (and_parts (int_le (first_day clock w o) day) (int_le day (last_day clock w o)) on).0
 
     at-last : day ≤ℤ last_day clock w o
-    at-last = le-true day (last_day clock w o) (and-true (int_le (first_day clock w o) day) (int_le day (last_day clock w o)) on).1
+    at-last = int_le_true day (last_day clock w o) (and_parts (int_le (first_day clock w o) day) (int_le day (last_day clock w o)) on).1
 
     -- a day is the first of an occurrence of no length, or not past that of the later of its start and the window's, or not past that of its last second
     by-length : ((o.finish ≡ o.start) × (day ≤ℤ first_day clock w o)) ⊎ ((o.start <ℤ o.finish) × ((day ≤ℤ first_day clock w o) ⊎ (day ≤ℤ end_day clock w o)))

@@ -10,6 +10,7 @@ use Rattle.std.proofs.lemmas.Cmp.{int_cmp_total, on_total, then_total, tied_itse
 use Rattle.std.proofs.lemmas.Int.{ints}
 use Rattle.ics_calendar.specs.Event.{FileSaid}
 use Rattle.ics_zone.specs.Seconds.{IsNear}
+use Rattle.ics_zone.proofs.Cases.{and_both, and_parts}
 use Rattle.ics_series.specs.declared.window.Window.{Window}
 use Rattle.ics_series.specs.Ahead.{is_today, today}
 use Rattle.ics_series.specs.Clocks.{Clock}
@@ -23,9 +24,8 @@ use Rattle.ics_series.specs.OnDays.{day_rank_of, on_day, on_day_cmp, IsOnDay, On
 use Rattle.ics_series.specs.Rising.{IsBefore, Rises}
 use Rattle.ics_series.proofs.FilterLemmas.{listing-filter}
 use Rattle.ics_series.proofs.GivenLemmas.{in-map, map-in}
-use Rattle.ics_series.proofs.MeetingLemmas.{both-back, is_met-meets, meets-is_met}
+use Rattle.ics_series.proofs.MeetingLemmas.{is_met-meets, meets-is_met}
 use Rattle.ics_series.proofs.PlacedLemmas.{in-append, in-append_left, in-append_right}
-use Rattle.ics_series.proofs.ToComeLemmas.{and-true}
 
 pub on_day_total : IsTotalOrder on_day_cmp
 on_day_total = on_total day_rank_of (then_total (on_total (λ r. r.day) int_cmp_total) (on_total (λ r. r.key) rank_total))
@@ -73,11 +73,11 @@ day-first p q h = ap (λ c. ordering_then c (rank_cmp (rank_of p.entry) (rank_of
 module _ (files : List FileSaid) (display : Clock) (near : (t : ℤ) → IsNear (display.offset t)) (w : Window) where
   -- what is shown under a day: occurrences that meet the window and have the day there
   pub shown-today : (p : OnDay) → IsOnDay files display w p → is_today display w p.day p.entry ≡ true
-  shown-today p s = both-back (is_met w p.entry) (is_on display w p.entry p.day) (meets-is_met w p.entry s.listed.1) s.on
+  shown-today p s = and_both (is_met w p.entry) (is_on display w p.entry p.day) (meets-is_met w p.entry s.listed.1) s.on
 
   pub today-shown : (day : ℤ) (o : Entry) → Occurs files display o → is_today display w day o ≡ true → IsOnDay files display w (on_day day o)
   today-shown day o occurs t =
-      let parts = and-true (is_met w o) (is_on display w o day) t in
+      let parts = and_parts (is_met w o) (is_on display w o day) t in
       record { listed = (occurs, is_met-meets w o parts.0); on = parts.1 }
 
   pub today-listing : (day : ℤ) (P : Entry → Type 0) (Q : OnDay → Type 0) (xs : List Entry) → IsListing entry_cmp P xs

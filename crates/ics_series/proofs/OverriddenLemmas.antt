@@ -23,6 +23,7 @@ use Rattle.ics_series.specs.Clocks.{Clock}
 use Rattle.ics_series.specs.Overridden.{instance_of, AreOverridden}
 use Rattle.ics_series.specs.Rising.{IsBefore, Rises}
 use Rattle.ics_series.specs.Versions.{is_named, seen, subject_cmp, subject_seen, AreChosen}
+use Rattle.ics_series.proofs.Cases.{some-same}
 use Rattle.ics_series.proofs.OverrideLemmas.{chosen-rises, map-rises, rises-sorted}
 use Rattle.ics_series.proofs.PickLemmas.{rises-picked}
 use Rattle.ics_series.proofs.VersionLemmas.{subject_total}
@@ -40,17 +41,11 @@ module _ {A : Type 0} (R : A → A → Ordering) where
   behind-rises : (xs : List A) (i : ℕ) (x : A) → Rises R xs → slice_get xs i ≡ Some x → IsBefore R x (drop (suc i) xs) × Rises R (drop (suc i) xs)
   behind-rises [] i x r e = let f : None ≡ Some x = e in absurd cc
   behind-rises (y ∷ ys) zero x r e = (subst (λ z. IsBefore R z ys) (some-same y x e) r.0, r.1)
-    where
-      some-same : (a b : A) → Some a ≡ Some b → a ≡ b
-      some-same a b e = cc
   behind-rises (y ∷ ys) (suc i) x r e = behind-rises ys i x r.1 e
 
   before-there : (y : A) (ys : List A) (i : ℕ) (x : A) → IsBefore R y ys → slice_get ys i ≡ Some x → R y x ≡ Less
   before-there y [] i x b e = let f : None ≡ Some x = e in absurd cc
   before-there y (z ∷ zs) zero x b e = ap (R y) (some-same x z (sym e)) ∙ b.0
-    where
-      some-same : (a b : A) → Some a ≡ Some b → a ≡ b
-      some-same a b e = cc
   before-there y (z ∷ zs) (suc i) x b e = before-there y zs i x b.1 e
 
 module _ (uid : List ℕ) where
@@ -96,9 +91,6 @@ module _ (uid : List ℕ) where
   named-behind t [] i x r e m = let f : None ≡ Some x = e in absurd cc
   named-behind t (v ∷ vs) zero x r e m =
       less-named t v (is_named (instance t) (map seen vs)) (ap (λ s. subject_cmp s (instance t)) (ap (λ (y : Version). subject_seen y.subject) (some-same v x e) ∙ m) ∙ master-less t)
-    where
-      some-same : (a b : Version) → Some a ≡ Some b → a ≡ b
-      some-same a b e = cc
   named-behind t (v ∷ vs) (suc i) x r e m =
       let less = before-there version_cmp v vs i x r.0 e in
       let above : subject_cmp (subject_seen x.subject) (instance t) ≡ Less = ap (λ s. subject_cmp s (instance t)) m ∙ master-less t in

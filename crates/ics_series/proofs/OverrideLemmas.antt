@@ -1,6 +1,6 @@
 -- The overrides among the versions that count, and what they name.
 use Rattle.std.specs.Prelude.{zero, suc, is_some, is_ok}
-use Rattle.std.proofs.Common.{◌≡◌, ℕ, ◌+◌, ◌<◌, ◌≤◌, ℤ, ◌||◌, List, [], ◌∷◌, map, length, get_or, ◌⊎◌, inl, inr, ⊎_elim, Option, Some, None, Result, Ok, Err, Bool, true, false, cond, refl, sym, ◌∙◌, ap, subst, arith}
+use Rattle.std.proofs.Common.{◌≡◌, ℕ, ◌+◌, ◌<◌, ℤ, ◌||◌, List, [], ◌∷◌, map, length, get_or, inl, inr, ⊎_elim, Option, Some, None, Result, Ok, Err, Bool, true, false, cond, refl, sym, ◌∙◌, ap, subst, arith}
 use Rattle.std.specs.Cmp.{IsTotalOrder}
 use Rattle.std.specs.List.{filter}
 use Rattle.std.specs.List.Sorted.{IsBinarySearchResult, IsSearchInRange, IsSorted}
@@ -12,6 +12,7 @@ use Rattle.std.specs.declared.cmp.Ordering.TheVariants.{Less, Equal, Greater}
 use Rattle.std.proofs.lemmas.Cmp.{on_total, tied_itself}
 use Rattle.std.proofs.lemmas.List.Sorted.{searchable_from_sorted}
 use Rattle.ics_calendar.specs.Event.{FileSaid}
+use Rattle.ics_zone.proofs.Cases.{or_right, less_or_not}
 use Rattle.ics_series.specs.declared.version.Version.{Version}
 use Rattle.ics_series.specs.Chosen.{subject_of, IsOverridden, SubjectSeen}
 use Rattle.ics_series.specs.Clocks.{Clock}
@@ -19,34 +20,22 @@ use Rattle.ics_series.specs.Listing.{IsIn}
 use Rattle.ics_series.specs.PlacedEvents.{Placed}
 use Rattle.ics_series.specs.Rising.{IsBefore, Rises}
 use Rattle.ics_series.specs.Versions.{is_named, is_override, label_of, seen, subject_cmp, subject_seen, AreChosen, Label}
+use Rattle.ics_series.proofs.HeldLemmas.{before-at}
+use Rattle.ics_series.proofs.Cases.{eq-Equal}
 use Rattle.ics_series.proofs.FilterLemmas.{rises-filter}
 use Rattle.ics_series.proofs.OccursLemmas.{override-subject}
 use Rattle.ics_series.proofs.VersionLemmas.{exact-subject, subject_total}
-
-pub or-true : (a b : Bool) → b ≡ true → (a || b) ≡ true
-or-true true b e = refl
-or-true false b e = e
 
 or-false : (a b : Bool) → a ≡ false → b ≡ false → (a || b) ≡ false
 or-false true b e f = e
 or-false false b e f = f
 
-eq-Equal : (c : Ordering) → is_eq c ≡ true → c ≡ Equal
-eq-Equal Less e = let f : false ≡ true = e in cc
-eq-Equal Equal e = refl
-eq-Equal Greater e = let f : false ≡ true = e in cc
-
 -- The versions that count are sorted by subject.
 module _ {A : Type 0} (R : A → A → Ordering) (o : IsTotalOrder R) where
-  before-at : (x : A) (ys : List A) (j : ℕ) (d : A) → IsBefore R x ys → j < length ys → R x (get_or ys j d) ≡ Less
-  before-at x [] j d h l = absurd (omega (arith, l))
-  before-at x (y ∷ ys) zero d h l = h.0
-  before-at x (y ∷ ys) (suc j) d h l = before-at x ys j d h.1 (omega arith)
-
   rises-at : (xs : List A) (i j : ℕ) (d : A) → Rises R xs → i < j → j < length xs → R (get_or xs i d) (get_or xs j d) ≡ Less
   rises-at [] i j d h a b = absurd (omega (arith, b))
   rises-at (x ∷ xs) zero zero d h a b = absurd (omega (arith, a))
-  rises-at (x ∷ xs) zero (suc j) d h a b = before-at x xs j d h.0 (omega arith)
+  rises-at (x ∷ xs) zero (suc j) d h a b = before-at R o x xs j d h.0 (omega arith)
   rises-at (x ∷ xs) (suc i) zero d h a b = absurd (omega (arith, a))
   rises-at (x ∷ xs) (suc i) (suc j) d h a b = rises-at xs i j d h.1 (omega arith) (omega arith)
 
@@ -115,15 +104,12 @@ module _ (s : SubjectSeen) where
   named-at : (vs : List Version) (k : ℕ) → k < length vs → ((d : Version) → ranks (get_or vs k d) ≡ Equal) → is_named s (map seen vs) ≡ true
   named-at [] k l e = absurd (omega (arith, l))
   named-at (v ∷ vs) zero l e = ap (λ c. is_eq c || is_named s (map seen vs)) (e v)
-  named-at (v ∷ vs) (suc k) l e = or-true (is_eq (ranks v)) (is_named s (map seen vs)) (named-at vs k (omega arith) e)
+  named-at (v ∷ vs) (suc k) l e = or_right (is_eq (ranks v)) (is_named s (map seen vs)) (named-at vs k (omega arith) e)
 
   none-named : (vs : List Version) → ((k : ℕ) (d : Version) → k < length vs → is_eq (ranks (get_or vs k d)) ≡ false) → is_named s (map seen vs) ≡ false
   none-named [] f = refl
   none-named (v ∷ vs) f =
       or-false (is_eq (ranks v)) (is_named s (map seen vs)) (f 0 v (omega arith)) (none-named vs (λ k d l. f (suc k) d (omega arith)))
-
-  sides : (a b : ℕ) → (a < b) ⊎ (b ≤ a)
-  sides a b = grind arith
 
   pub searched : (vs : List Version) (r : Result ℕ ℕ) → IsSorted (on (λ v. subject_seen v.subject) subject_cmp) vs → IsSearchInRange r (length vs) → IsBinarySearchResult ranks vs r
       → is_ok r ≡ is_named s (map seen vs)
@@ -131,7 +117,7 @@ module _ (s : SubjectSeen) where
   searched vs (Err i) sorted within parted =
       let halves = parted (searchable_from_sorted subject_total (λ v. subject_seen v.subject) vs s sorted) in
       sym (none-named vs (λ k d l.
-      ⊎_elim (λ less. ap is_eq (halves.0 k d (omega arith) less)) (λ more. ap is_eq (halves.1 k d more l)) (sides k i)))
+      ⊎_elim (λ less. ap is_eq (halves.0 k d (omega arith) less)) (λ more. ap is_eq (halves.1 k d more l)) (less_or_not k i)))
 
 -- What is named is overridden.
 module _ (files : List FileSaid) (display : Clock) where
@@ -153,7 +139,7 @@ module _ (files : List FileSaid) (display : Clock) where
       ⊎_elim
       (λ a. ap (λ c. is_eq c || is_named s (map (label_of files display) qs))
       (ap (λ t. subject_cmp t s) (ap (subject_of files display) (sym a) ∙ e) ∙ tied_itself subject_total s))
-      (λ n. or-true (is_eq (subject_cmp (subject_of files display q) s)) (is_named s (map (label_of files display) qs)) (in-named s qs p n e)) m
+      (λ n. or_right (is_eq (subject_cmp (subject_of files display q) s)) (is_named s (map (label_of files display) qs)) (in-named s qs p n e)) m
 
   module _ (vs : List Version) (h : AreChosen files display vs) (uid : List ℕ) (t : ℤ) where
     abbrev s : SubjectSeen

@@ -1,6 +1,6 @@
 -- More locals lie in no fewer periods.
 use Rattle.std.specs.Prelude.{◌==◌, nat_le, nat_lt}
-use Rattle.std.proofs.Common.{◌≡◌, ℕ, zero, suc, ◌<◌, ◌≤◌, Bool, true, false, cond, ◌&&◌, refl, ap, arith}
+use Rattle.std.proofs.Common.{◌≡◌, ℕ, zero, suc, ◌≤◌, Bool, true, false, cond, ◌&&◌, refl, ap, arith}
 use Rattle.std.proofs.lemmas.Bool.Decides.{nat_tests}
 use Rattle.ics_rule.specs.Candidates.{is_stepped, period_in}
 use Rattle.ics_rule.specs.Cursors.{is_met, period_count}
@@ -9,9 +9,9 @@ use Rattle.ics_rule.specs.Kept.{count}
 use Rattle.ics_values.specs.Locals.{number, calendar_end}
 use Rattle.ics_rule.specs.Recurrence.{Recurrence}
 use Rattle.ics_rule.specs.declared.effective_rule.EffectiveRule.{EffectiveRule}
-use Rattle.ics_rule.proofs.Counts.{count-none, count-suc, count_mono}
+use Rattle.ics_rule.proofs.Counts.{count-suc, count_mono}
 use Rattle.ics_rule.proofs.KeptLemmas.{and_true, ltb_true}
-use Rattle.ics_series.proofs.RuleLocalLemmas.{both}
+use Rattle.ics_zone.proofs.Cases.{and_both, true_lt}
 
 pub one-more : (p q : Bool) → (p ≡ true → q ≡ true) → cond p 1 0 ≤ cond q 1 0
 one-more true q f = let e = f refl in omega (arith, ap {B = ℕ} (λ b. cond b 1 0) e)
@@ -27,9 +27,6 @@ count-implied zero p q f = let a = count-zero p in let b = count-zero q in omega
 count-implied (suc n) p q f =
     omega (arith, count-suc n p, count-suc n q, count-implied n p q f, one-more (p n) (q n) (f n))
 
-true-lt : (a b : ℕ) → a < b → nat_lt a b ≡ true
-true-lt a b l = grind (arith, nat_tests)
-
 le-down : (a b m : ℕ) → b ≤ a → nat_le a m ≡ true → nat_le b m ≡ true
 le-down a b m l e = grind (arith, nat_tests)
 
@@ -39,9 +36,9 @@ met-within q start a b c d p low high met =
     let some = ltb_true 0 (count b (λ n. nat_le a n && period_in q n == p)) parts.1 in
     let more = count_mono b d (λ n. nat_le a n && period_in q n == p) high in
     let wide = count-implied d (λ n. nat_le a n && period_in q n == p) (λ n. nat_le c n && period_in q n == p)
-    (λ n e. let k = and_true {a = nat_le a n} e in both (nat_le c n) (period_in q n == p) (le-down a c n low k.0) k.1) in
-    both (is_stepped (period_in q start) q.interval p) (nat_lt 0 (count d (λ n. nat_le c n && period_in q n == p))) parts.0
-    (true-lt 0 (count d (λ n. nat_le c n && period_in q n == p)) (omega (arith, some, more, wide)))
+    (λ n e. let k = and_true {a = nat_le a n} e in and_both (nat_le c n) (period_in q n == p) (le-down a c n low k.0) k.1) in
+    and_both (is_stepped (period_in q start) q.interval p) (nat_lt 0 (count d (λ n. nat_le c n && period_in q n == p))) parts.0
+    (true_lt 0 (count d (λ n. nat_le c n && period_in q n == p)) (omega (arith, some, more, wide)))
 
 -- the periods that hold one of these locals are no more than those that hold one of more
 pub periods-within : (r : Recurrence) (a b c d : ℕ) → c ≤ a → b ≤ d → period_count r a b ≤ period_count r c d
@@ -49,21 +46,3 @@ unfolding period_count
 periods-within r a b c d low high =
     count-implied calendar_end (is_met (effective r) (number r.start) a b) (is_met (effective r) (number r.start) c d)
     (λ p. met-within (effective r) (number r.start) a b c d p low high)
-
-le-false : (a n : ℕ) → n < a → nat_le a n ≡ false
-le-false a n l = grind (arith, nat_tests)
-
-second-false : (p q : Bool) → q ≡ false → (p && q) ≡ false
-second-false true q e = e
-second-false false q e = refl
-
-none-met : (q : EffectiveRule) (start a b p : ℕ) → b ≤ a → is_met q start a b p ≡ false
-none-met q start a b p l =
-    second-false (is_stepped (period_in q start) q.interval p) (nat_lt 0 (count b (λ n. nat_le a n && period_in q n == p)))
-    (ap (λ n. nat_lt 0 n) (count-none b (λ n. nat_le a n && period_in q n == p)
-    (λ n m. ap (λ (x : Bool). x && (period_in q n == p)) (le-false a n (omega (arith, l, m))))))
-
--- no period holds one of no locals
-pub periods-none : (r : Recurrence) (a b : ℕ) → b ≤ a → period_count r a b ≡ 0
-unfolding period_count
-periods-none r a b l = count-none calendar_end (is_met (effective r) (number r.start) a b) (λ p m. none-met (effective r) (number r.start) a b p l)

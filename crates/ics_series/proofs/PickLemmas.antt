@@ -6,6 +6,7 @@ use Rattle.std.specs.declared.cmp.Ordering.{Ordering}
 use Rattle.std.specs.declared.cmp.Ordering.TheVariants.{Less}
 use Rattle.ics_series.specs.Listing.{IsIn, IsListing}
 use Rattle.ics_series.specs.Rising.{IsBefore, Rises}
+use Rattle.ics_series.proofs.Cases.{some-same}
 use Rattle.ics_series.proofs.ListingLemmas.{before-in}
 
 pub filter_map-map : {A B C : Type 0} (f : A → B) (h : B → Option C) (xs : List A) → filter_map h (map f xs) ≡ filter_map (λ x. h (f x)) xs
@@ -21,9 +22,6 @@ module _ {A B : Type 0} (h : A → Option B) where
   picked : (y : B) (xs : List A) → IsIn y (filter_map h xs) → (x : A) × IsIn x xs × (h x ≡ Some y)
   picked y [] m = absurd m
   picked y (x ∷ xs) m = picked-by y x xs (h x) refl (picked y xs) m
-
-  some-same : (x y : B) → Some x ≡ Some y → x ≡ y
-  some-same x y e = cc
 
   in-picked-by : (x z : A) (y : B) (xs : List A) (o : Option B) → h z ≡ o → h x ≡ Some y → (IsIn x xs → IsIn y (filter_map h xs)) → IsIn x (z ∷ xs) → IsIn y (cons_option o (filter_map h xs))
   in-picked-by x z y xs (Some v) e t ih m = ⊎_elim (λ s. inl (some-same y v (sym t ∙ (ap h s ∙ e)))) (λ n. inr (ih n)) m

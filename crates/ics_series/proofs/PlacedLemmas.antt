@@ -6,6 +6,8 @@ use Rattle.ics_calendar.specs.declared.event.Event.{Event}
 use Rattle.ics_series.specs.Listing.{IsIn}
 use Rattle.ics_series.specs.PlacedEvents.{Placed, IsPlaced}
 use Rattle.ics_series.specs.Versions.{placed_from, placed_in}
+use Rattle.ics_series.proofs.MasterLemmas.{make}
+use Rattle.ics_series.proofs.Cases.{some-same}
 
 module _ {A : Type 0} where
   pub in-append_left : (x : A) (xs ys : List A) → IsIn x xs → IsIn x (xs ++ ys)
@@ -19,9 +21,6 @@ module _ {A : Type 0} where
   pub in-append : (x : A) (xs ys : List A) → IsIn x (xs ++ ys) → IsIn x xs ⊎ IsIn x ys
   in-append x [] ys m = inr m
   in-append x (z ∷ zs) ys m = ⊎_elim (λ e. inl (inl e)) (λ n. ⊎_elim (λ a. inl (inr a)) inr (in-append x zs ys n)) m
-
-abbrev make : ℕ → ℕ → Event → Placed
-make file place event = record { file = file; place = place; event = event }
 
 -- it stands among the events of a file, of which the first stands at a place
 record IsAmong (file place : ℕ) (events : List Event) (p : Placed) : Type 0 where
@@ -42,9 +41,6 @@ among-placed_from : (file place : ℕ) (events : List Event) (event : Event) (k 
 among-placed_from file place [] event k e = let f : None ≡ Some event = e in cc
 among-placed_from file place (x ∷ xs) event zero e =
     inl (ap (λ n. make file n event) (omega arith) ∙ ap (make file place) (some-same event x (sym e)))
-  where
-    some-same : (a b : Event) → Some a ≡ Some b → a ≡ b
-    some-same a b h = cc
 among-placed_from file place (x ∷ xs) event (suc k) e =
     inr (subst (λ n. IsIn (make file n event) (placed_from file (place + 1) xs)) (omega arith) (among-placed_from file (place + 1) xs event k e))
 
@@ -74,9 +70,6 @@ among-placed_in file (f ∷ fs) of zero place event h e =
     (subst (λ n. IsIn (make n place event) (placed_from file 0 f.events)) (omega arith)
     (subst (λ n. IsIn (make file n event) (placed_from file 0 f.events)) (omega arith)
     (among-placed_from file 0 f.events event place (ap (λ x. slice_get x.events place) same ∙ e))))
-  where
-    some-same : (a b : FileSaid) → Some a ≡ Some b → a ≡ b
-    some-same a b h = cc
 among-placed_in file (f ∷ fs) of (suc k) place event h e =
     in-append_right (make (file + suc k) place event) (placed_from file 0 f.events) (placed_in (file + 1) fs)
     (subst (λ n. IsIn (make n place event) (placed_in (file + 1) fs)) (omega arith) (among-placed_in (file + 1) fs of k place event h e))

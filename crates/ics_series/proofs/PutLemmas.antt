@@ -7,6 +7,7 @@ use Rattle.std.specs.declared.cmp.Ordering.{Ordering}
 use Rattle.std.specs.declared.cmp.Ordering.TheVariants.{Less, Equal, Greater}
 use Rattle.ics_series.specs.Listing.{IsIn, IsListing}
 use Rattle.ics_series.specs.Rising.{IsBefore, Rises}
+use Rattle.ics_series.specs.MergedLaws.{before-trans}
 use Rattle.ics_series.proofs.ListingLemmas.{before-in}
 
 module _ {A : Type 0} (R : A → A → Ordering) (o : IsTotalOrder R) where
@@ -39,12 +40,8 @@ module _ {A : Type 0} (R : A → A → Ordering) (o : IsTotalOrder R) where
   before-put z x [] l h = (l, tt)
   before-put z x (y ∷ ys) l h = before-put-by z x y ys (is_lt (R x y)) l h.0 h.1 (before-put z x ys l h.1)
 
-  before-behind : (x y : A) (ys : List A) → R x y ≡ Less → IsBefore R y ys → IsBefore R x ys
-  before-behind x y [] l h = tt
-  before-behind x y (z ∷ zs) l h = (o.trans x y z l h.0, before-behind x y zs l h.1)
-
   rises-put-by : (x y : A) (ys : List A) (c : Ordering) → R x y ≡ c → (R x y ≡ Equal → ⊥) → IsBefore R y ys → Rises R ys → Rises R (put x ys) → Rises R (cond (is_lt c) (x ∷ y ∷ ys) (y ∷ put x ys))
-  rises-put-by x y ys Less e n h r ih = ((e, before-behind x y ys e h), (h, r))
+  rises-put-by x y ys Less e n h r ih = ((e, before-trans R o x y ys e h), (h, r))
   rises-put-by x y ys Equal e n h r ih = absurd (n e)
   rises-put-by x y ys Greater e n h r ih = (before-put y x ys (o.antisymm y x ∙ ap ordering_reverse e) h, ih)
 

@@ -18,6 +18,7 @@ use Rattle.ics_calendar.specs.Event.{IsTime}
 use Rattle.ics_calendar.specs.declared.event.Event.{Event}
 use Rattle.ics_calendar.specs.declared.time.Rdate.{Rdate}
 use Rattle.ics_calendar.specs.declared.time.Rdate.TheVariants.{At}
+use Rattle.ics_zone.proofs.Cases.{and_both}
 use Rattle.ics_series.specs.declared.start.StartSource.{StartSource}
 use Rattle.ics_series.specs.declared.start.StartSource.TheVariants.{Kept, Listed}
 use Rattle.ics_series.specs.Clocks.{Clocks, instant}
@@ -27,10 +28,11 @@ use Rattle.ics_series.specs.Listing.{IsIn, IsListing}
 use Rattle.ics_series.specs.Rising.{IsBefore, Rises}
 use Rattle.ics_series.specs.RuleStarts.{lets_until, local_numbered, moment_numbered}
 use Rattle.ics_series.specs.Starts.{given_by, local_of, recurrence_of, time_at, time_of, IsNotAfter, IsRuleStart}
+use Rattle.ics_series.proofs.Cases.{some-same, below-or-last}
 use Rattle.ics_series.proofs.FirstLemmas.{source-order, source_total}
 use Rattle.ics_series.proofs.StartSourceLemmas.{calendar-day, own-day, own-time}
 use Rattle.ics_series.proofs.PlacedLemmas.{in-append, in-append_left, in-append_right}
-use Rattle.ics_series.proofs.RuleLocalLemmas.{both, kept-ruled, number-numbered, numbered-number, ruled-kept}
+use Rattle.ics_series.proofs.RuleLocalLemmas.{kept-ruled, number-numbered, numbered-number, ruled-kept}
 use Rattle.ics_series.proofs.SourceLemmas.{rises-more}
 
 -- What is not after another comes before it.
@@ -65,9 +67,6 @@ all-in P (x ∷ xs) h = (h x (inl refl), all-in P xs (λ y m. h y (inr m)))
 module _ (test : ℕ → Bool) where
   on-passing : (n : ℕ) (g : StartSource) → IsPassing test n g → IsPassing test (suc n) g
   on-passing n g p = record { at = p.at; below = omega (arith, p.below); passes = p.passes; is = p.is }
-
-  below-or-last : (m n : ℕ) → m < suc n → (m < n) ⊎ (m ≡ n)
-  below-or-last m n l = grind arith
 
   earlier-local : (k n : ℕ) → k < n → source_cmp (Kept (local_numbered k)) (Kept (local_numbered n)) ≡ Less
   earlier-local k n l =
@@ -127,9 +126,6 @@ module _ (test : Rdate → Bool) where
 
   on-listed : (place : ℕ) (r : Rdate) (rs : List Rdate) (g : StartSource) → IsListedFrom test (place + 1) rs g → IsListedFrom test place (r ∷ rs) g
   on-listed place r rs g p = record { at = suc p.at; rdate = p.rdate; stands = p.stands; passes = p.passes; is = p.is ∙ ap Listed (omega arith) }
-
-  some-same : (x y : Rdate) → Some x ≡ Some y → x ≡ y
-  some-same x y h = cc
 
   first-or-on : (place : ℕ) (r : Rdate) (rs : List Rdate) (g : StartSource) (p : IsListedFrom test place (r ∷ rs) g) (at : ℕ) → p.at ≡ at → ((test r ≡ true) × (g ≡ Listed place)) ⊎ IsListedFrom test (place + 1) rs g
   first-or-on place r rs g p zero e =
@@ -238,8 +234,8 @@ module _ (clocks : Clocks) (event : Event) (day : ℤ) (time : IsTime event.star
         record {
           at = number local;
           below = omega (arith, ints, of_day.0, of_day.1, local.second_in);
-          passes = both (is_kept rule (number local)) (lets_until rule (number local) (moment_numbered clocks event (number local)) && is_within_days day (moment_numbered clocks event (number local))) parts.0
-              (both (lets_until rule (number local) (moment_numbered clocks event (number local))) (is_within_days day (moment_numbered clocks event (number local)))
+          passes = and_both (is_kept rule (number local)) (lets_until rule (number local) (moment_numbered clocks event (number local)) && is_within_days day (moment_numbered clocks event (number local))) parts.0
+              (and_both (lets_until rule (number local) (moment_numbered clocks event (number local))) (is_within_days day (moment_numbered clocks event (number local)))
               (ap (lets_until rule (number local)) there ∙ parts.1) (ap (is_within_days day) there ∙ p.1));
           is = ap Kept (sym same);
         }
@@ -259,7 +255,7 @@ module _ (clocks : Clocks) (event : Event) (day : ℤ) (time : IsTime event.star
   kept-counts None e = once-by (is_within_days day (instant clocks event.start)) refl e
   kept-counts (Some rule) e = by-rule rule e
 
-  -- both kinds, the locals first
+  -- and_both kinds, the locals first
   abbrev IsRawSource : StartSource → Type 0
   IsRawSource g = IsRawKept g ⊎ IsListedFrom is_there 0 event.rdates g
 

@@ -1,6 +1,6 @@
 -- What a master gives that recurs: of the occurrences to come those of its event.
 use Rattle.std.specs.Prelude.{◌≤ℤ◌, ◌||◌, ◌&&◌, ◌==◌, int_le, neg_ℤ, not, slice_get, is_none, is_some}
-use Rattle.std.proofs.Common.{◌≡◌, ◌<◌, ◌<ℤ◌, ℕ, zero, suc, ℤ, pos, List, [], ◌∷◌, map, length, get_or, inl, inr, ⊎_elim, Option, Some, None, Bool, true, false, refl, sym, ◌∙◌, ap, subst, arith}
+use Rattle.std.proofs.Common.{◌≡◌, ◌<◌, ◌<ℤ◌, ℕ, zero, suc, ℤ, pos, List, [], ◌∷◌, map, length, get_or, inl, inr, Option, Some, None, Bool, true, false, refl, sym, ◌∙◌, ap, subst, arith}
 use Rattle.std.specs.List.{filter, list_any}
 use Rattle.std.specs.Option.{option_map}
 use Rattle.std.specs.Ordering.{int_eq}
@@ -9,6 +9,7 @@ use Rattle.std.proofs.lemmas.Option.{slice_get-get_or}
 use Rattle.ics_calendar.specs.Event.{FileSaid, IsEvent}
 use Rattle.ics_calendar.specs.declared.event.Event.{Event}
 use Rattle.ics_calendar.specs.declared.time.Time.{Time}
+use Rattle.ics_zone.proofs.Cases.{true_int_le, int_le_true}
 use Rattle.ics_series.specs.declared.version.Version.{Version}
 use Rattle.ics_series.specs.declared.window.Window.{Window}
 use Rattle.ics_series.specs.declared.zones.FileZones.{FileZones}
@@ -27,6 +28,8 @@ use Rattle.ics_series.specs.Spots.{event_at}
 use Rattle.ics_series.specs.Starts.{time_of}
 use Rattle.ics_series.specs.Versions.{is_named, label_of, seen, AreChosen, Label}
 use Rattle.ics_series.specs.FileZones.{clocks_in}
+use Rattle.ics_series.proofs.SeriesLemmas.{in-among}
+use Rattle.ics_series.proofs.Cases.{not-true, some-same}
 use Rattle.ics_series.proofs.AfterKeyLemmas.{since-none}
 use Rattle.ics_series.proofs.FilterLemmas.{listing-filter}
 use Rattle.ics_series.proofs.GivenLemmas.{in-map, placed-event, IsGiven, IsGivenBy}
@@ -44,10 +47,6 @@ recurring-master event = by event.recurrence ((is_none event.rule && length even
     by None b e = refl
     by (Some time) b e = let f : true ≡ false = e in absurd cc
 
-not-named : (b : Bool) → not b ≡ true → b ≡ false
-not-named true e = let f : false ≡ true = e in absurd cc
-not-named false e = refl
-
 -- Instants among others.
 among-by : (x t : ℤ) (b rest : Bool) → int_eq x t ≡ b → ((t ≡ x) → ⊥) → rest ≡ false → (b || rest) ≡ false
 among-by x t true rest e n f = absurd (n (grind (arith, ints)))
@@ -56,17 +55,6 @@ among-by x t false rest e n f = f
 pub not-among : (t : ℤ) (instants : List ℤ) → (IsIn t instants → ⊥) → list_any (λ x. int_eq x t) instants ≡ false
 not-among t [] n = refl
 not-among t (x ∷ xs) n = among-by x t (int_eq x t) (list_any (λ x. int_eq x t) xs) refl (λ e. n (inl e)) (not-among t xs (λ m. n (inr m)))
-
-itself : (x t : ℤ) → t ≡ x → int_eq x t ≡ true
-itself x t e = grind (arith, ints)
-
-or-true : (a b : Bool) → b ≡ true → (a || b) ≡ true
-or-true true b e = refl
-or-true false b e = e
-
-pub in-among : (t : ℤ) (instants : List ℤ) → IsIn t instants → list_any (λ x. int_eq x t) instants ≡ true
-in-among t [] m = absurd m
-in-among t (x ∷ xs) m = ⊎_elim (λ e. ap (λ b. b || list_any (λ x. int_eq x t) xs) (itself x t e)) (λ n. or-true (int_eq x t) (list_any (λ x. int_eq x t) xs) (in-among t xs n)) m
 
 -- an occurrence begins after the last two days of the year 0000 have begun
 pub of-late : (zones : FileZones) (event : Event) (o : Entry) → IsEvent event → IsOf (clocks_in zones) event o → occurrence_first ≤ℤ o.start
@@ -80,9 +68,6 @@ module _ (files : List FileSaid) (display : Clock) (w : Window) (after : Option 
     (event : Event) (stands : event_at files label.spot ≡ Some event) (recurs : is_single event ≡ false) where
   abbrev clocks : Clocks
   clocks = clocks_at files display label.spot.file
-
-  some-same : (x y : Event) → Some x ≡ Some y → x ≡ y
-  some-same x y h = cc
 
   -- the event as it counts
   pub own : (p : Placed) × IsIn p chosen.chosen × (label ≡ label_of files display p)
@@ -113,12 +98,6 @@ module _ (files : List FileSaid) (display : Clock) (w : Window) (after : Option 
         let low = of-late zones event o is_event (subst (λ k. IsOf k event o) (sym read) of) in
         from o (ap (λ (v : Event). v.uid) of.event) of.recurrence (omega (arith, ints, low)) (omega (arith, ints, b, w.not_late))
 
-    le-true : (a b : ℤ) → a ≤ℤ b → int_le a b ≡ true
-    le-true a b h = grind (arith, ints)
-
-    true-le : (a b : ℤ) → int_le a b ≡ true → a ≤ℤ b
-    true-le a b h = grind (arith, ints)
-
     met-come : (o : Entry) → IsSeriesMet clocks event w since instants o → IsOfVersion files display w after label o
     met-come o m =
         let of = m.0.0 in
@@ -135,7 +114,7 @@ module _ (files : List FileSaid) (display : Clock) (w : Window) (after : Option 
         record {
           by = record { event = event; stands = stands; recurs = recurs };
           of = of;
-          to_come = to-come files display w vs chosen after o given kept (begun o of m.0.1.begun ∙ le-true since o.start m.1.0);
+          to_come = to-come files display w vs chosen after o given kept (begun o of m.0.1.begun ∙ true_int_le since o.start m.1.0);
         }
 
     come-met : (o : Entry) → IsOfVersion files display w after label o → IsSeriesMet clocks event w since instants o
@@ -145,10 +124,10 @@ module _ (files : List FileSaid) (display : Clock) (w : Window) (after : Option 
         let listed = listed-given files display w vs chosen o (come-listed files display w after o h.to_come) in
         let meets = listed.0.is.1 in
         let out : list_any (λ x. int_eq x o.start) instants ≡ false =
-        ap (λ t. list_any (λ x. int_eq x t) instants) (sym of.recurrence) ∙ not-named (list_any (λ x. int_eq x o.recurrence) instants) (sym (named o of.event) ∙ listed.1) in (
+        ap (λ t. list_any (λ x. int_eq x t) instants) (sym of.recurrence) ∙ not-true (list_any (λ x. int_eq x o.recurrence) instants) (sym (named o of.event) ∙ listed.1) in (
           (of, meets),
           (
-            true-le since o.start (sym (begun o of meets.begun) ∙ is-after files display w vs chosen after o h.to_come),
+            int_le_true since o.start (sym (begun o of meets.begun) ∙ is-after files display w vs chosen after o h.to_come),
             λ m. let f : true ≡ false = sym (in-among o.start instants m) ∙ out in cc,
           ),
         )
@@ -169,9 +148,6 @@ there-in f (y ∷ ys) (suc k) x e = inr (there-in f ys k x e)
 
 pub version-there : {A : Type 0} (xs : List A) (k : ℕ) (d x : A) → k < length xs → slice_get xs k ≡ Some x → get_or xs k d ≡ x
 version-there xs k d x l e = some-same (get_or xs k d) x (sym (slice_get-get_or xs k d l) ∙ e)
-  where
-    some-same : {A : Type 0} (x y : A) → Some x ≡ Some y → x ≡ y
-    some-same x y h = cc
 
 -- an event that starts once does not recur
 pub not-single : (files : List FileSaid) (vs : List Version) (k : ℕ) (d v : Version) → k < length vs → slice_get vs k ≡ Some v
@@ -179,9 +155,6 @@ pub not-single : (files : List FileSaid) (vs : List Version) (k : ℕ) (d v : Ve
 not-single files vs k d v l e event there single r =
     let same : r.event ≡ event = some-same r.event event (sym r.stands ∙ (ap (λ (v : Version). event_at files v.spot) (sym (version-there vs k d v l e)) ∙ there)) in
     let f : false ≡ true = sym r.recurs ∙ (ap is_single same ∙ single) in cc
-  where
-    some-same : (x y : Event) → Some x ≡ Some y → x ≡ y
-    some-same x y h = cc
 
 -- a version whose event starts once has none
 pub single-none : (files : List FileSaid) (display : Clock) (w : Window) (label : Label) → (Recurs files label → ⊥) → (list : List Entry) × IsListing entry_cmp (IsOfVersion files display w None label) list
@@ -207,7 +180,7 @@ whole-version files display w vs chosen label there event stands recurs zones re
     low o m = let l = of-late zones event o is_event m.0 in omega (arith, ints, l)
 
     to : (o : Entry) → IsEventMet (clocks_in zones) event w o → not (list_any (λ x. int_eq x o.start) instants) ≡ true → IsSeriesMet (clocks_in zones) event w least instants o
-    to o m t = (m, (low o m, λ n. let f : true ≡ false = sym (in-among o.start instants n) ∙ not-named (list_any (λ x. int_eq x o.start) instants) t in cc))
+    to o m t = (m, (low o m, λ n. let f : true ≡ false = sym (in-among o.start instants n) ∙ not-true (list_any (λ x. int_eq x o.start) instants) t in cc))
 
     from : (o : Entry) → IsSeriesMet (clocks_in zones) event w least instants o → IsEventMet (clocks_in zones) event w o × (not (list_any (λ x. int_eq x o.start) instants) ≡ true)
     from o m = (m.0, ap not (not-among o.start instants m.1.1))

@@ -13,6 +13,7 @@ use Rattle.ics_rule.specs.PeriodNumbers.{rules_end}
 use Rattle.ics_rule.specs.Recurrence.{Recurrence}
 use Rattle.ics_rule.proofs.KeptLemmas.{and_true}
 use Rattle.ics_calendar.specs.declared.event.Event.{Event}
+use Rattle.ics_zone.proofs.Cases.{int_lt_true, int_le_true}
 use Rattle.ics_series.specs.declared.start.Start.{Start}
 use Rattle.ics_series.specs.declared.window.Window.{Window}
 use Rattle.ics_series.specs.declared.zones.FileZones.{FileZones}
@@ -25,11 +26,11 @@ use Rattle.ics_series.specs.Rising.{IsBefore, Rises}
 use Rattle.ics_series.specs.RuleStarts.{found, found_in, gives, is_behind, is_ready, lets_until, local_numbered, midnight_number, moment_numbered, to_come, with_put, AreHeld}
 use Rattle.ics_series.specs.Starts.{stamp_at, time_at}
 use Rattle.ics_series.specs.FileZones.{clocks_in}
+use Rattle.ics_series.proofs.BeginsLemmas.{before-union}
 use Rattle.ics_series.proofs.FirstLemmas.{moment_total}
 use Rattle.ics_series.proofs.StartSourceLemmas.{written-at}
-use Rattle.ics_series.proofs.HeldLemmas.{before-all, before-union, put-before}
+use Rattle.ics_series.proofs.HeldLemmas.{before-all, put-before}
 use Rattle.ics_series.proofs.InstantLemmas.{instant-near}
-use Rattle.ics_series.proofs.MeetingLemmas.{le-true, less-true}
 use Rattle.ics_series.proofs.RuleStartLemmas.{found-none, rises-found, rises-found_in}
 use Rattle.ics_series.proofs.UnionLemmas.{union-in}
 
@@ -72,7 +73,7 @@ module _ (zones : FileZones) (event : Event) where
     -- what gives a start does so before the window's end
     pub given-early : (n : ℕ) → gives (clocks_in zones) event rule w n ≡ true → moment_numbered (clocks_in zones) event n <ℤ w.to
     unfolding gives
-    given-early n g = less-true (moment_numbered (clocks_in zones) event n) w.to (and_true {a = lets_until rule n (moment_numbered (clocks_in zones) event n)} (and_true {a = is_kept rule n} g).1).1
+    given-early n g = int_lt_true (moment_numbered (clocks_in zones) event n) w.to (and_true {a = lets_until rule n (moment_numbered (clocks_in zones) event n)} (and_true {a = is_kept rule n} g).1).1
 
     -- no local from a day on does that begins two days after the window's end
     pub none-past : (end : ℤ) (n : ℕ) → IsDayNumber end → (w.to +ℤ whole_days 2) ≤ℤ midnight end → midnight_number end ≤ n → gives (clocks_in zones) event rule w n ≡ false
@@ -141,7 +142,7 @@ module _ (zones : FileZones) (event : Event) where
         by false p [] q = past-end day end place d e after (not-less day end p) read
         by false p (x ∷ xs) q = subst (IsBefore moment_cmp x) (sym (past-end day end place d e after (not-less day end p) read)) tt
         by true p [] q = let f : true ≡ false = q in absurd cc
-        by true p (x ∷ xs) q = ready-before day place x d read (le-true x.moment (midnight day -ℤ whole_days 2) (not-not (is_ready day (x ∷ xs)) q))
+        by true p (x ∷ xs) q = ready-before day place x d read (int_le_true x.moment (midnight day -ℤ whole_days 2) (not-not (is_ready day (x ∷ xs)) q))
           where
             not-not : (c : Bool) → not c ≡ false → c ≡ true
             not-not true k = refl

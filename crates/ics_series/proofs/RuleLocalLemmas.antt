@@ -1,7 +1,6 @@
 -- A local and its number.
-use Rattle.std.specs.Prelude.{◌≤ℤ◌, ◌==◌, ◌||◌, int_lt, IfSome}
-use Rattle.std.proofs.Common.{◌≡◌, ℕ, ◌<◌, ℤ, Bool, true, false, ◌&&◌, Some, ◌⊎◌, inl, inr, ⊎_elim, refl, sym, ◌∙◌, ap, subst, arith}
-use Rattle.std.proofs.lemmas.Bool.Decides.{nat_tests}
+use Rattle.std.specs.Prelude.{◌≤ℤ◌, ◌==◌, int_lt, IfSome}
+use Rattle.std.proofs.Common.{◌≡◌, ℕ, ℤ, Bool, true, false, ◌&&◌, Some, ◌⊎◌, inl, inr, ⊎_elim, refl, sym, ◌∙◌, ap, subst, arith}
 use Rattle.std.proofs.lemmas.Int.{ints}
 use Rattle.std.specs.Ordering.{int_eq}
 use Rattle.ics_values.specs.Days.{IsDayNumber}
@@ -13,12 +12,13 @@ use Rattle.ics_rule.proofs.KeptLemmas.{and_true, eqb_true, or_true}
 use Rattle.ics_rule.proofs.NextLemmas.{kept_start}
 use Rattle.ics_calendar.specs.Event.{IsTime}
 use Rattle.ics_calendar.specs.declared.event.Event.{Event}
+use Rattle.ics_zone.proofs.Cases.{true_eq, and_both, or_left, or_right}
 use Rattle.ics_series.specs.declared.window.Window.{Window}
 use Rattle.ics_series.specs.Clocks.{Clocks, instant}
 use Rattle.ics_zone.specs.Observances.{is_until}
-use Rattle.ics_series.specs.RuleStarts.{gives, lets_until, local_numbered, midnight_number, moment_numbered}
+use Rattle.ics_series.specs.RuleStarts.{gives, lets_until, local_numbered, moment_numbered}
 use Rattle.ics_series.specs.Starts.{local_of, recurrence_of, time_at, IsRuleStart}
-use Rattle.ics_series.proofs.FirstLemmas.{eq-true, true-eq}
+use Rattle.ics_series.proofs.Cases.{equal-true, true-equal, some-same}
 use Rattle.ics_series.proofs.StartSourceLemmas.{calendar-day, own-day, rule-is, same-number}
 use Rattle.ics_series.proofs.KeptLemmas.{true-until, until-true}
 
@@ -27,27 +27,18 @@ same-test true q f h = sym (f refl)
 same-test false true f h = h refl
 same-test false false f h = refl
 
-pub true-eqb : (a b : ℕ) → a ≡ b → (a == b) ≡ true
-true-eqb a b e = grind (arith, nat_tests)
-
-pub both : (p q : Bool) → p ≡ true → q ≡ true → (p && q) ≡ true
-both p q e f = ap (λ b. b && q) e ∙ f
-
 -- two locals are one exactly if their numbers are
 pub local-test : (a b : Local) → IsDayNumber a.day → IsDayNumber b.day → (int_eq a.day b.day && (a.second == b.second)) ≡ (number a == number b)
 local-test a b h k =
     same-test (int_eq a.day b.day && (a.second == b.second)) (number a == number b)
     (λ t.
     let parts = and_true {a = int_eq a.day b.day} t in
-    let day = eq-true a.day b.day parts.0 in
+    let day = equal-true a.day b.day parts.0 in
     let second = eqb_true a.second b.second parts.1 in
-    true-eqb (number a) (number b) (omega (arith, ints, day, second)))
+    true_eq (number a) (number b) (omega (arith, ints, day, second)))
     (λ t.
     let same : a ≡ b = same-number a b h k (eqb_true (number a) (number b) t) in
-    both (int_eq a.day b.day) (a.second == b.second) (true-eq a.day b.day (ap (λ (l : Local). l.day) same)) (true-eqb a.second b.second (ap (λ (l : Local). l.second) same)))
-
-pub day-numbered : (n : ℕ) (day : ℤ) → IsDayNumber day → n < midnight_number day → IsDayNumber (local_numbered n).day
-day-numbered n day h l = (omega (arith, ints), omega (arith, ints, h.0, h.1, l))
+    and_both (int_eq a.day b.day) (a.second == b.second) (true-equal a.day b.day (ap (λ (l : Local). l.day) same)) (true_eq a.second b.second (ap (λ (l : Local). l.second) same)))
 
 pub number-numbered : (n : ℕ) → number (local_numbered n) ≡ n
 number-numbered n = omega (arith, ints)
@@ -91,27 +82,16 @@ module _ (clocks : Clocks) (event : Event) (rule : Recurrence) (has : recurrence
       }))
       (or_true {a = number local == number rule.start} through)
 
-  either-left : (a b : Bool) → a ≡ true → (a || b) ≡ true
-  either-left true b e = refl
-  either-left false b e = let f : false ≡ true = e in absurd cc
-
-  either-right : (a b : Bool) → b ≡ true → (a || b) ≡ true
-  either-right true b e = refl
-  either-right false b e = e
-
   pub ruled-kept : (local ≡ local_of event.start.stamp) ⊎ IsRuleStart clocks event local
       → (is_kept rule (number local) ≡ true) × (lets_until rule (number local) (instant clocks (time_at event.start local)) ≡ true)
   ruled-kept k =
       ⊎_elim
       (λ e.
       let first : number local ≡ number rule.start = ap (λ (l : Local). number l) (e ∙ sym (rule-first event rule has)) in
-      (ap (is_kept rule) first ∙ kept_start rule, either-left (number local == number rule.start) (is_until (until_moment rule) (instant clocks (time_at event.start local))) (true-eqb (number local) (number rule.start) first)))
+      (ap (is_kept rule) first ∙ kept_start rule, or_left (number local == number rule.start) (is_until (until_moment rule) (instant clocks (time_at event.start local))) (true_eq (number local) (number rule.start) first)))
       (λ r.
       let same : r.rule ≡ rule = some-same r.rule rule (sym r.has ∙ has) in
       let until : is_until (until_moment rule) (instant clocks (time_at event.start local)) ≡ true =
       ap (λ (q : Recurrence). is_until (until_moment q) (instant clocks (time_at event.start local))) (sym same) ∙ until-true (until_moment r.rule) (instant clocks (time_at event.start local)) r.until in
-      (ap (λ (q : Recurrence). is_kept q (number local)) (sym same) ∙ r.kept, either-right (number local == number rule.start) (is_until (until_moment rule) (instant clocks (time_at event.start local))) until))
+      (ap (λ (q : Recurrence). is_kept q (number local)) (sym same) ∙ r.kept, or_right (number local == number rule.start) (is_until (until_moment rule) (instant clocks (time_at event.start local))) until))
       k
-    where
-      some-same : (x y : Recurrence) → Some x ≡ Some y → x ≡ y
-      some-same x y h = cc

@@ -1,5 +1,5 @@
 -- What is known of the starts of a rule once a local more, or none up to a bound, is read.
-use Rattle.std.specs.Prelude.{◌≤ℤ◌, ◌<ℤ◌, int_lt, not}
+use Rattle.std.specs.Prelude.{◌≤ℤ◌, ◌<ℤ◌, int_lt}
 use Rattle.std.proofs.Common.{◌≡◌, ℤ, pos, ◌+ℤ◌, ◌-ℤ◌, Bool, true, false, List, [], ◌∷◌, ◌⊎◌, inl, inr, ⊎_elim, refl, sym, ap, subst, arith}
 use Rattle.std.proofs.lemmas.Int.{ints}
 use Rattle.ics_values.specs.Days.{IsDayNumber}
@@ -8,6 +8,7 @@ use Rattle.ics_values.specs.Locals.{number, midnight, whole_days}
 use Rattle.ics_rule.specs.Recurrence.{Recurrence}
 use Rattle.ics_rule.proofs.KeptLemmas.{and_true}
 use Rattle.ics_calendar.specs.declared.event.Event.{Event}
+use Rattle.ics_zone.proofs.Cases.{int_lt_true, int_le_false}
 use Rattle.ics_series.specs.declared.start.Start.{Start}
 use Rattle.ics_series.specs.declared.window.Window.{Window}
 use Rattle.ics_series.specs.declared.zones.FileZones.{FileZones}
@@ -17,27 +18,23 @@ use Rattle.ics_series.specs.MergedLaws.{rises-union}
 use Rattle.ics_series.specs.Rising.{Rises}
 use Rattle.ics_series.specs.RuleStarts.{bound_of, gives, is_behind, is_ready, moment_numbered, with_held, AreHeld, IsHeld}
 use Rattle.ics_series.specs.FileZones.{clocks_in}
+use Rattle.ics_series.proofs.Cases.{not-true}
 use Rattle.ics_series.proofs.FirstLemmas.{int-less, moment_total}
 use Rattle.ics_series.proofs.ListingLemmas.{before-in}
-use Rattle.ics_series.proofs.MeetingLemmas.{less-true, not-le}
 use Rattle.ics_series.proofs.RuleDayLemmas.{early-numbered, late-numbered}
 use Rattle.ics_series.proofs.RuleLocalLemmas.{numbered-number}
 use Rattle.ics_series.proofs.UnionLemmas.{union-in}
-
-not-true : (b : Bool) → not b ≡ true → b ≡ false
-not-true true e = let f : false ≡ true = e in absurd cc
-not-true false e = refl
 
 -- where the first is not ready none is
 pub none-ready : (day : ℤ) (held : List Start) → Rises moment_cmp held → is_ready day held ≡ false → (s : Start) → IsIn s held → (midnight day -ℤ whole_days 2) <ℤ s.moment
 none-ready day [] r e s m = absurd m
 none-ready day (x ∷ held) r e s m =
-    let first : (midnight day -ℤ whole_days 2) <ℤ x.moment = not-le x.moment (midnight day -ℤ whole_days 2) e in
+    let first : (midnight day -ℤ whole_days 2) <ℤ x.moment = int_le_false x.moment (midnight day -ℤ whole_days 2) e in
     ⊎_elim (λ same. subst (λ (y : Start). (midnight day -ℤ whole_days 2) <ℤ y.moment) (sym same) first)
     (λ n. let less = int-less x.moment s.moment (before-in moment_cmp moment_total x s held r.0 n) in omega (arith, ints, first, less)) m
 
 pub behind-early : (day end : ℤ) (held : List Start) → is_behind day end held ≡ true → day <ℤ end
-behind-early day end held b = less-true day end (and_true {a = int_lt day end} b).0
+behind-early day end held b = int_lt_true day end (and_true {a = int_lt day end} b).0
 
 pub bound-later : (day end : ℤ) (held : List Start) → day <ℤ end → (day <ℤ bound_of day end held) × (bound_of day end held ≤ℤ end)
 bound-later day end [] l = (l, omega (arith, ints))

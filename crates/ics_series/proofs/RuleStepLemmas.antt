@@ -22,12 +22,12 @@ use Rattle.ics_series.proofs.HeldMostLemmas.{held-in-days}
 use Rattle.ics_series.proofs.RuleDayLemmas.{first-held, near-left, number-day}
 use Rattle.ics_series.proofs.RuleLocalLemmas.{numbered-number}
 use Rattle.ics_series.proofs.RuleReadLemmas.{behind-early, bound-late, bound-later, held-in, held-on, is-held, rises-held}
-use Rattle.ics_series.proofs.RuleStartLemmas.{come-none, come-one, rises-to_come}
+use Rattle.ics_series.proofs.RuleStartLemmas.{come-none, come-one}
 use Rattle.ics_rule.specs.PeriodNumbers.{rules_end}
 
 module _ (s : RuleStarts) where
   pub day-days : IsDayNumber s.day
-  day-days = (s.low, omega (arith, ints, s.asked_on, s.asked_end, s.soon, s.window.not_late))
+  day-days = (omega (arith, ints, s.low), omega (arith, ints, s.asked_on, s.asked_end, s.soon, s.window.not_late))
 
   pub end-days : IsDayNumber s.end
   end-days = (omega (arith, ints, s.low, s.asked_on, s.asked_end), omega (arith, ints, s.soon, s.window.not_late))
@@ -41,9 +41,6 @@ module _ (s : RuleStarts) where
   pub first-left : is_behind s.day s.end s.held.items ≡ false → slice_get s.held.items 0 ≡ slice_get (starts_left s) 0
   first-left ready =
       first-held s.zones s.event.now s.rule s.window s.day s.end (place_of s.cursor) day-days end-days s.after s.read s.held.items s.rises ready
-
-  pub rises-left : Rises moment_cmp (starts_left s)
-  rises-left = rises-to_come (clocks_in s.zones) s.event.now s.rule s.window s.held.items (place_of s.cursor)
 
   pub asked-number : pos (midnight_number s.asked) ≡ midnight s.asked +ℤ pos 62_167_219_200
   asked-number = number-day s.asked (omega (arith, ints, s.low, s.asked_on), omega (arith, ints, s.asked_end, end-days.1))

@@ -1,6 +1,6 @@
 -- What a series gives.
 use Rattle.std.specs.Prelude.{◌≤ℤ◌, ◌<ℤ◌, ◌&&◌, ◌||◌, not, int_le, slice_get}
-use Rattle.std.proofs.Common.{◌≡◌, ℕ, zero, suc, ℤ, pos, ◌-ℤ◌, List, [], ◌∷◌, drop, Bool, true, false, Option, Some, None, option_map, ◌⊎◌, inl, inr, ⊎_elim, refl, sym, ◌∙◌, ap, subst, arith}
+use Rattle.std.proofs.Common.{◌≡◌, ℕ, zero, suc, ℤ, ◌-ℤ◌, List, [], ◌∷◌, drop, Bool, true, false, Option, Some, None, option_map, ◌⊎◌, inl, inr, ⊎_elim, refl, sym, ◌∙◌, ap, subst, arith}
 use Rattle.std.proofs.lemmas.Int.{ints}
 use Rattle.std.specs.List.{cons_option}
 use Rattle.std.specs.Cmp.Lexicographic.{slice_cmp}
@@ -17,6 +17,7 @@ use Rattle.ics_rule.proofs.KeptLemmas.{and_true}
 use Rattle.ics_calendar.specs.Event.{IsEvent, IsTime}
 use Rattle.ics_calendar.specs.declared.event.Event.{Event}
 use Rattle.ics_calendar.specs.declared.time.Rdate.{Rdate}
+use Rattle.ics_zone.proofs.Cases.{and_both, int_le_true, true_int_le}
 use Rattle.ics_series.specs.declared.listed_starts.ListedStarts.{ListedStarts}
 use Rattle.ics_series.specs.declared.rule_starts.RuleStarts.{RuleStarts}
 use Rattle.ics_series.specs.declared.start.StartSource.{StartSource}
@@ -36,11 +37,12 @@ use Rattle.ics_series.specs.RuleStarts.{gives, lets_until, moment_numbered}
 use Rattle.ics_series.specs.SeriesStarts.{given_of, is_among, has_moment, is_wanted, listed_left, rule_asked, rule_left, wanted_by, AreKnown, HasRuled, HasSameRule, HaveRuled, IsAskedNear, IsGivenAt, IsGivenBy, IsKnown, IsSeriesMet}
 use Rattle.ics_series.specs.Starts.{given_by, local_of, recurrence_of, GivesStart, IsRuleStart}
 use Rattle.ics_series.specs.FileZones.{clocks_in}
+use Rattle.ics_series.proofs.Cases.{equal-true, true-equal, some-same}
 use Rattle.ics_series.proofs.FirstLemmas.{int-less, moment_total, tied-moment}
 use Rattle.ics_series.proofs.StartSourceLemmas.{gives-value}
 use Rattle.ics_series.proofs.LeftLemmas.{member-cut}
 use Rattle.ics_series.proofs.ListingLemmas.{before-in}
-use Rattle.ics_series.proofs.MeetingLemmas.{both-back, equal-true, le-true, met-shown, true-equal, true-le}
+use Rattle.ics_series.proofs.MeetingLemmas.{met-shown}
 use Rattle.ics_series.proofs.MetLemmas.{found-is, in-picked, is-found, listing-picked}
 use Rattle.ics_series.proofs.RuleLocalLemmas.{kept-ruled}
 use Rattle.ics_series.proofs.RuleStartLemmas.{rises-to_come}
@@ -102,9 +104,6 @@ module _ (zones : FileZones) (w : Window) (event : Event) where
   known-gives (Kept local) given time g = (given-local local (recurrence_of event) refl time g.0, g.1)
   known-gives (Listed place) given time g = by (slice_get event.rdates place) refl g
     where
-      some-same : (x y : Rdate) → Some x ≡ Some y → x ≡ y
-      some-same x y h = cc
-
       by : (o : Option Rdate) → slice_get event.rdates place ≡ o → option_map (given_by event.start) o ≡ Some given
           → (rdate : Rdate) × (slice_get event.rdates place ≡ Some rdate) × (given ≡ given_by event.start rdate)
       by None e f = let k : None ≡ Some given = f in absurd cc
@@ -128,7 +127,7 @@ in-among-by : (b : Bool) (x t : ℤ) (xs : List ℤ) → int_eq x t ≡ b → (I
 in-among-by true x t xs e ih m = refl
 in-among-by false x t xs e ih m = ⊎_elim (λ s. let f : true ≡ false = sym (true-equal x t (sym s)) ∙ e in absurd cc) ih m
 
-in-among : (t : ℤ) (xs : List ℤ) → IsIn t xs → is_among xs t ≡ true
+pub in-among : (t : ℤ) (xs : List ℤ) → IsIn t xs → is_among xs t ≡ true
 in-among t [] m = absurd m
 in-among t (x ∷ xs) m = in-among-by (int_eq x t) x t xs refl (in-among t xs) m
 
@@ -138,7 +137,7 @@ module _ (clocks : Clocks) (w : Window) (event : Event) (since : ℤ) (overridde
   wanted-is o e =
       let parts = and_true {a = int_le since o.start && not (is_among overridden o.start)} e in
       let own = and_true {a = int_le since o.start} parts.0 in
-      (parts.1, le-true since o.start own.0, λ m. not-both (is_among overridden o.start) (in-among o.start overridden m) own.1)
+      (parts.1, int_le_true since o.start own.0, λ m. not-both (is_among overridden o.start) (in-among o.start overridden m) own.1)
     where
       not-both : (b : Bool) → b ≡ true → not b ≡ true → ⊥
       not-both true e f = let g : false ≡ true = f in cc
@@ -146,8 +145,8 @@ module _ (clocks : Clocks) (w : Window) (event : Event) (since : ℤ) (overridde
 
   pub is-wanted : (o : Entry) → is_shown clocks w event o ≡ true → since ≤ℤ o.start → (IsIn o.start overridden → ⊥) → is_wanted clocks w event since overridden o ≡ true
   is-wanted o shown late none =
-      both-back (int_le since o.start && not (is_among overridden o.start)) (is_shown clocks w event o)
-      (both-back (int_le since o.start) (not (is_among overridden o.start)) (true-le since o.start late) (by (is_among overridden o.start) refl)) shown
+      and_both (int_le since o.start && not (is_among overridden o.start)) (is_shown clocks w event o)
+      (and_both (int_le since o.start) (not (is_among overridden o.start)) (true_int_le since o.start late) (by (is_among overridden o.start) refl)) shown
     where
       by : (b : Bool) → is_among overridden o.start ≡ b → not b ≡ true
       by true e = absurd (none (among-in o.start overridden e))

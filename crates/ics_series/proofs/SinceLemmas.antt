@@ -1,6 +1,6 @@
 -- The starts of a series: all that are sought from an instant on are among them.
 use Rattle.std.specs.Prelude.{◌≤ℤ◌, ◌<ℤ◌, int_lt, slice_get, MatchOption}
-use Rattle.std.proofs.Common.{◌≡◌, ℕ, zero, suc, ◌+◌, ◌-◌, ◌<◌, ◌≤◌, ℤ, pos, ◌+ℤ◌, ◌-ℤ◌, List, Bool, true, false, Option, Some, None, option_map, ◌⊎◌, ⊎_elim, refl, sym, ◌∙◌, ap, subst, arith}
+use Rattle.std.proofs.Common.{◌≡◌, ℕ, zero, suc, ◌+◌, ◌-◌, ◌<◌, ◌≤◌, ℤ, ◌+ℤ◌, ◌-ℤ◌, List, Bool, true, false, Option, Some, None, option_map, ◌⊎◌, ⊎_elim, refl, sym, ◌∙◌, ap, subst, arith}
 use Rattle.std.specs.Int.{int_max, int_min}
 use Rattle.std.proofs.lemmas.Int.{int_max_is, int_min_is, ints}
 use Rattle.ics_values.specs.Days.{IsDayNumber}
@@ -14,6 +14,7 @@ use Rattle.ics_calendar.specs.Event.{IsEvent}
 use Rattle.ics_calendar.specs.declared.event.Event.{Event}
 use Rattle.ics_calendar.specs.declared.time.Rdate.{Rdate}
 use Rattle.ics_calendar.specs.declared.time.Rdate.TheVariants.{At}
+use Rattle.ics_zone.proofs.Cases.{and_both, true_int_lt}
 use Rattle.ics_series.specs.declared.rule_starts.RuleStarts.{RuleStarts}
 use Rattle.ics_series.specs.declared.start.StartSource.{StartSource}
 use Rattle.ics_series.specs.declared.start.StartSource.TheVariants.{Kept, Listed}
@@ -40,7 +41,6 @@ use Rattle.ics_series.proofs.InstantLemmas.{instant-near}
 use Rattle.ics_series.proofs.LeftLemmas.{has-union, put-has, union-has}
 use Rattle.ics_series.proofs.ListedLemmas.{listed-in}
 use Rattle.ics_series.proofs.MasterLemmas.{same-entry}
-use Rattle.ics_series.proofs.MeetingLemmas.{both-back, true-less}
 use Rattle.ics_series.proofs.RuleDayLemmas.{found-is, given-early, seconds-numbered}
 use Rattle.ics_series.proofs.RuleLocalLemmas.{gives-kept, number-numbered, numbered-number, ruled-kept}
 use Rattle.ics_series.proofs.SeriesLemmas.{in-moment, known-start, rises-rule}
@@ -132,8 +132,8 @@ module _ (zones : FileZones) (w : Window) (event : Event) where
     gives-own local has day k early =
         let parts = let-through local has k in
         gives-kept (clocks_in zones) event rule w local day parts.0
-        ∙ both-back (lets_until rule (number local) (instant (clocks_in zones) (time_at event.start local))) (int_lt (instant (clocks_in zones) (time_at event.start local)) w.to)
-        parts.1 (true-less (instant (clocks_in zones) (time_at event.start local)) w.to early)
+        ∙ and_both (lets_until rule (number local) (instant (clocks_in zones) (time_at event.start local))) (int_lt (instant (clocks_in zones) (time_at event.start local)) w.to)
+        parts.1 (true_int_lt (instant (clocks_in zones) (time_at event.start local)) w.to early)
 
 low-by : (from first earliest since to t local : ℤ) → from ≤ℤ int_max first (int_max earliest (int_min since to) -ℤ whole_days 6) → (earliest -ℤ whole_days 4) ≤ℤ t → since ≤ℤ t → first ≤ℤ local → (t -ℤ whole_days 2) <ℤ local → from ≤ℤ local
 low-by from first earliest since to t local low late own above near =

@@ -1,7 +1,6 @@
 -- What an event gives at its DTSTART.
 use Rattle.std.specs.Prelude.{int_lt, if◌then◌else◌}
-use Rattle.std.proofs.Common.{◌≡◌, ◌<ℤ◌, ◌≤ℤ◌, ◌&&◌, ℤ, Bool, true, false, List, Option, Some, None, inl, refl, sym, ◌∙◌, ap, arith}
-use Rattle.std.proofs.lemmas.Int.{ints}
+use Rattle.std.proofs.Common.{◌≡◌, ◌&&◌, Bool, true, false, List, Option, Some, None, inl, refl, sym, ◌∙◌, ap}
 use Rattle.std.specs.Option.{option_and_then}
 use Rattle.ics_calendar.specs.Event.{FileSaid}
 use Rattle.ics_calendar.specs.declared.event.Event.{Event}
@@ -16,14 +15,6 @@ use Rattle.ics_series.specs.Spots.{event_at}
 use Rattle.ics_series.specs.Starts.{local_of, GivesStart}
 use Rattle.ics_series.specs.Versions.{Label}
 use Rattle.ics_series.proofs.StartSourceLemmas.{own-time}
-
--- one that begins at the window's end or later is left out
-pub none-begun : (clocks : Clocks) (w : Window) (event : Event) (recurrence : Option ℤ) → w.to ≤ℤ instant clocks event.start → None ≡ begun_first clocks w event recurrence
-none-begun clocks w event recurrence late = by (int_lt (instant clocks event.start) w.to) refl
-  where
-    by : (b : Bool) → int_lt (instant clocks event.start) w.to ≡ b → None ≡ (if b then Some (entry_first clocks event recurrence) else None)
-    by true e = let less : instant clocks event.start <ℤ w.to = grind (arith, ints) in absurd (omega (arith, ints, less, late))
-    by false e = refl
 
 -- DTSTART gives a start
 pub first-gives : (clocks : Clocks) (event : Event) → GivesStart clocks event (Kept (local_of event.start.stamp)) (At event.start)

@@ -18,6 +18,7 @@ use Rattle.ics_calendar.specs.declared.event.Event.{Event}
 use Rattle.ics_calendar.specs.declared.time.Rdate.{Rdate}
 use Rattle.ics_calendar.specs.declared.time.Rdate.TheVariants.{At}
 use Rattle.ics_calendar.specs.declared.time.Time.{Time}
+use Rattle.ics_zone.proofs.Cases.{and_parts}
 use Rattle.ics_series.specs.declared.single.Single.{Single}
 use Rattle.ics_series.specs.declared.start.StartSource.{StartSource}
 use Rattle.ics_series.specs.declared.start.StartSource.TheVariants.{Kept, Listed}
@@ -49,7 +50,7 @@ use Rattle.ics_series.proofs.PutLemmas.{listing-ordered}
 use Rattle.ics_series.proofs.SingleLemmas.{first-gives}
 use Rattle.ics_series.proofs.SortLemmas.{climbs-sorted, listing-sorted, map-climbs}
 use Rattle.ics_series.proofs.StartLaws.{one-start}
-use Rattle.ics_series.proofs.ToComeLemmas.{and-true, come-listed, is-after, listed-given, to-come}
+use Rattle.ics_series.proofs.ToComeLemmas.{come-listed, is-after, listed-given, to-come}
 use Rattle.ics_series.proofs.VersionLemmas.{group-total}
 use Rattle.ics_series.proofs.ZoneLemmas.{none-of, rule-none}
 
@@ -75,7 +76,7 @@ module _ (clocks : Clocks) (event : Event) (rule : event.rule ≡ None) (rdates 
 
 -- Tests.
 three-true : (a b c : Bool) → ((a && b) && c) ≡ true → (a ≡ true) × (b ≡ true) × (c ≡ true)
-three-true a b c e = let outer = and-true (a && b) c e in let inner = and-true a b outer.0 in (inner.0, inner.1, outer.1)
+three-true a b c e = let outer = and_parts (a && b) c e in let inner = and_parts a b outer.0 in (inner.0, inner.1, outer.1)
 
 true-three : (a b c : Bool) → a ≡ true → b ≡ true → c ≡ true → ((a && b) && c) ≡ true
 true-three a b c e f g = λ i. (e i && f i) && g i

@@ -15,6 +15,7 @@ use Rattle.ics_calendar.specs.declared.event.Event.{Event}
 use Rattle.ics_calendar.specs.declared.time.Rdate.{Rdate}
 use Rattle.ics_calendar.specs.declared.time.Rdate.TheVariants.{At}
 use Rattle.ics_calendar.specs.declared.time.Time.{Time}
+use Rattle.ics_zone.proofs.Cases.{and_both, less_or_not}
 use Rattle.ics_series.specs.declared.start.StartSource.{StartSource}
 use Rattle.ics_series.specs.declared.start.StartSource.TheVariants.{Kept, Listed}
 use Rattle.ics_series.specs.Clocks.{Clocks, instant}
@@ -23,6 +24,7 @@ use Rattle.ics_series.specs.Finish.{finish}
 use Rattle.ics_zone.specs.Observances.{is_until}
 use Rattle.ics_series.specs.Occurs.{IsInstance}
 use Rattle.ics_series.specs.Starts.{given_by, local_of, time_at, time_of, recurrence_by, recurrence_of, GivesStart, IsNotAfter, IsRuleStart}
+use Rattle.ics_series.proofs.Cases.{some-same, equal-true, true-equal}
 use Rattle.ics_series.proofs.StartSourceLemmas.{calendar-day, index-is, kept-late, number-seconds, own-day, own-time, rule-is, same-number}
 use Rattle.ics_series.proofs.KeptLemmas.{true-until, until-true}
 
@@ -84,15 +86,6 @@ equal-or-not a b = by (int_eq a b) refl
     by true e = inl (grind (arith, ints))
     by false e = inr (λ h. grind (arith, ints))
 
-true-equal : (a b : ℤ) → a ≡ b → int_eq a b ≡ true
-true-equal a b e = grind (arith, ints)
-
-equal-true : (a b : ℤ) → int_eq a b ≡ true → a ≡ b
-equal-true a b e = grind (arith, ints)
-
-both : (a b : Bool) → a ≡ true → b ≡ true → (a && b) ≡ true
-both a b p q = ap (λ x. x && b) p ∙ q
-
 abbrev IsKept : Clocks → Event → Local → Type 0
 IsKept clocks event local = (local ≡ local_of event.start.stamp) ⊎ IsRuleStart clocks event local
 
@@ -143,9 +136,6 @@ module _ (clocks : Clocks) (event : Event) (time : IsTime event.start) (t : ℤ)
     gives_at : ℕ → Bool
     gives_at n = is_kept rule n && (is_until (until_moment rule) (instant_of (local_from n)) && int_eq (instant_of (local_from n)) t)
 
-    some-same : (x y : Recurrence) → Some x ≡ Some y → x ≡ y
-    some-same x y k = cc
-
     -- a start by the rule passes the test
     given-test : (local : Local) (r : IsRuleStart clocks event local) → instant_of local ≡ t → gives_at (number local) ≡ true
     unfolding gives_at instant_of
@@ -153,8 +143,8 @@ module _ (clocks : Clocks) (event : Event) (time : IsTime event.start) (t : ℤ)
         let of : r.rule ≡ rule = some-same r.rule rule (sym r.has ∙ has) in
         let is : local_from (number local) ≡ local = same-number (local_from (number local)) local (from-day (number local) (number-below local r.calendar)) r.calendar (from-number (number local) (number-below local r.calendar)) in
         let there : instant_of (local_from (number local)) ≡ instant_of local = ap instant_of is in
-        both (is_kept rule (number local)) _ (ap (λ q. is_kept q (number local)) (sym of) ∙ r.kept)
-        (both (is_until (until_moment rule) (instant_of (local_from (number local)))) _
+        and_both (is_kept rule (number local)) _ (ap (λ q. is_kept q (number local)) (sym of) ∙ r.kept)
+        (and_both (is_until (until_moment rule) (instant_of (local_from (number local)))) _
         (ap (is_until (until_moment rule)) there ∙ until-true (until_moment rule) (instant_of local) (subst (λ q. IfSome (until_moment q) (λ last. instant_of local ≤ℤ last)) of r.until))
         (true-equal (instant_of (local_from (number local))) t (there ∙ same)))
 
@@ -174,9 +164,6 @@ module _ (clocks : Clocks) (event : Event) (time : IsTime event.start) (t : ℤ)
           equal-true (instant clocks (time_at event.start (local_from n))) t rest.1,
         )
 
-    sides : (a b : ℕ) → (a < b) ⊎ (b ≤ a)
-    sides a b = grind arith
-
     -- where DTSTART gives another start, the least that passes the test is the first
     rule-instance : (instant_of (local_of event.start.stamp) ≡ t → ⊥) → ((end : ℤ) × IsInstance clocks event t end) ⊎ ((local : Local) → IsKept clocks event local → instant_of local ≡ t → ⊥)
     rule-instance other_start =
@@ -192,7 +179,7 @@ module _ (clocks : Clocks) (event : Event) (time : IsTime event.start) (t : ℤ)
         ⊎_elim (λ e. absurd (other_start (ap instant_of (sym e) ∙ same)))
         (λ q. ⊎_elim (λ less. let no = found.3 (number other) less in let yes = given-test other q same in absurd cc)
         (λ more. omega (arith, ints, more, from-number found.0 small, number-seconds (local_from found.0) (from-day found.0 small), number-seconds other q.calendar))
-        (sides (number other) found.0)) k)))
+        (less_or_not (number other) found.0)) k)))
         (none-or-least gives_at calendar_end)
 
   -- a local gives the start t, or none does
@@ -226,9 +213,6 @@ module _ (clocks : Clocks) (event : Event) (time : IsTime event.start) (t : ℤ)
       by (Some r) h = (r, refl, equal-true (instant clocks (time_of (given_by event.start r))) t h)
       by None h = let f : false ≡ true = h in absurd cc
 
-  split : (a b : ℕ) → (a < b) ⊎ (b ≤ a)
-  split a b = grind arith
-
   -- where no local gives it, the first of the RDATEs that do is the first of all
   listed-instance : ((local : Local) → IsKept clocks event local → instant_of local ≡ t → ⊥) → (place : ℕ) (given : Rdate) → GivesStart clocks event (Listed place) given → instant clocks (time_of given) ≡ t
       → (end : ℤ) × IsInstance clocks event t end
@@ -253,7 +237,7 @@ module _ (clocks : Clocks) (event : Event) (time : IsTime event.start) (t : ℤ)
     where
       first : (n : ℕ) → ((m : ℕ) → m < n → lists_at m ≡ false) → (other : StartSource) (value : Rdate) → GivesStart clocks event other value → instant clocks (time_of value) ≡ t → IsNotAfter (Listed n) other
       first n least (Kept local) value k e = unkept local k.0 (ap (λ x. instant clocks (time_of x)) (sym k.1) ∙ e)
-      first n least (Listed m) value k e = ⊎_elim (λ less. let f = least m less in let yes = listed-test m value k e in absurd cc) (λ more. more) (split m n)
+      first n least (Listed m) value k e = ⊎_elim (λ less. let f = least m less in let yes = listed-test m value k e in absurd cc) (λ more. more) (less_or_not m n)
 
   some-instance : (source : StartSource) (given : Rdate) → GivesStart clocks event source given → instant clocks (time_of given) ≡ t → (end : ℤ) × IsInstance clocks event t end
   unfolding instant_of

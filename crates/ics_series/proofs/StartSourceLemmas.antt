@@ -23,12 +23,14 @@ use Rattle.ics_calendar.specs.declared.time.Rdate.TheVariants.{At, Span}
 use Rattle.ics_calendar.specs.declared.time.Time.{Time}
 use Rattle.ics_calendar.specs.declared.event.Event.{Event}
 use Rattle.ics_calendar.specs.Event.{is_zoned, HasZonesBelow, IsRdate, IsTime, RdateBelow, TimeBelow, stamp_seconds}
+use Rattle.ics_zone.proofs.Cases.{less_or_not}
 use Rattle.ics_series.specs.declared.start.StartSource.{StartSource}
 use Rattle.ics_series.specs.declared.start.StartSource.TheVariants.{Kept, Listed}
 use Rattle.ics_series.specs.Clocks.{Clocks, day_of}
 use Rattle.ics_series.specs.Finish.{finish}
 use Rattle.ics_series.specs.Occurs.{IsInstance}
 use Rattle.ics_series.specs.Starts.{date_only, given_by, given_from, local_of, stamp_at, time_at, time_by, time_of, recurrence_by, recurrence_of, GivesStart, IsNotAfter}
+use Rattle.ics_series.proofs.Cases.{some-same}
 
 -- Locals.
 pub same-local : (a b : Local) → a.day ≡ b.day → a.second ≡ b.second → a ≡ b
@@ -105,10 +107,7 @@ pub kept-late : (r : Recurrence) (n : ℕ) → is_kept r n ≡ true → number r
 kept-late r n h = ⊎_elim
     (λ low. let in_rule = kept_in_rule r n h in let out = in_rule_earlier r n low in absurd cc)
     (λ high. high)
-    (sides n (number r.start))
-  where
-    sides : (a b : ℕ) → (a < b) ⊎ (b ≤ a)
-    sides a b = grind arith
+    (less_or_not n (number r.start))
 
 pub kept-early : (r : Recurrence) (n : ℕ) → is_kept r n ≡ true → (n ≡ number r.start) ⊎ (n < rules_end)
 unfolding is_kept
@@ -128,9 +127,6 @@ kept-day first parts a h d k =
     (λ same. (omega (arith, ints, own.0, start, there, same, a.second_in, (local_of first.stamp).second_in), omega (arith, ints, own.1, start, there, same, a.second_in, (local_of first.stamp).second_in)))
     (λ early. (omega (arith, ints, own.0, start, there, late, a.second_in, (local_of first.stamp).second_in), omega (arith, ints, there, early, a.second_in)))
     (kept-early (recurrence_by first.stamp parts) (number a) k)
-
-some-same : {X : Type 0} (x y : X) → Some x ≡ Some y → x ≡ y
-some-same x y h = cc
 
 -- the rule of an event is one by its DTSTART
 pub rule-is : (first : Stamp) (o : Option RuleParts) (rule : Recurrence) → option_map (recurrence_by first) o ≡ Some rule → (parts : RuleParts) × (rule ≡ recurrence_by first parts)

@@ -4,7 +4,7 @@ use Rattle.std.specs.Cmp.Lexicographic.{slice_cmp}
 use Rattle.std.specs.List.{flat_map, AllByRecursion}
 use Rattle.std.specs.Ordering.{nat_cmp}
 use Rattle.std.specs.declared.cmp.Ordering.TheVariants.{Less, Equal}
-use Rattle.std.proofs.Common.{◌≡◌, ℕ, ◌≤◌, ℤ, pos, ◌+ℤ◌, true, false, List, [], ◌∷◌, ◌++◌, map, Option, Some, None, inl, ⊎_elim, refl, sym, ◌∙◌, ap, subst, arith}
+use Rattle.std.proofs.Common.{◌≡◌, ℕ, ◌≤◌, ℤ, ◌+ℤ◌, true, false, List, [], ◌∷◌, ◌++◌, map, Option, Some, None, inl, ⊎_elim, refl, sym, ◌∙◌, ap, subst, arith}
 use Rattle.std.proofs.lemmas.Cmp.{nat_list_cmp_total, tied_itself}
 use Rattle.std.proofs.lemmas.Int.{ints}
 use Rattle.std.proofs.lemmas.List.Sums.{sum_by-cons}
@@ -37,6 +37,7 @@ use Rattle.ics_series.specs.Sources.{recurring, uid_cmp, AreApart, Recurring, So
 use Rattle.ics_series.specs.Starts.{recurrence_of}
 use Rattle.ics_series.specs.Steps.{HasStepBound, IsLookedFrom, IsLookedTo}
 use Rattle.ics_series.specs.FileZones.{clocks_in}
+use Rattle.ics_series.proofs.Cases.{some-same}
 use Rattle.ics_series.proofs.StartSourceLemmas.{number-seconds}
 use Rattle.ics_series.proofs.HoldingLaws.{recurring-append, sum-recurring}
 use Rattle.ics_series.proofs.MergedMembers.{from-one, IsInOne}
@@ -53,9 +54,6 @@ looked-few r cursor a b own few = few_steps (effective r) (number r.start) r.par
 looks-earlier : (o : Option ℕ) (start a place : ℕ) → a ≤ place → looks_from o start a ≤ looks_from o start place
 looks-earlier None start a place l = l
 looks-earlier (Some c) start a place l = omega arith
-
-same-some : (a b : Recurrence) → Some a ≡ Some b → a ≡ b
-same-some a b e = cc
 
 own-steps : (s : RuleStarts) → steps_of s.cursor ≤ period_count s.rule (looks_from s.rule.parts.count (number s.rule.start) (number s.from)) (midnight_number s.asked)
 own-steps s =
@@ -90,7 +88,7 @@ module _ (zones : FileZones) (event : Event) (w : Window) (since : ℤ) (coming 
       → rule_looked o ≤ period_count rule (looks_from rule.parts.count (number rule.start) a) b
   rule-steps None rule has own near from to = omega arith
   rule-steps (Some s) rule has own near from to =
-      let same : s.rule ≡ rule = same-some s.rule rule (sym s.of ∙ (ap recurrence_of own.event_is ∙ has)) in
+      let same : s.rule ≡ rule = some-same s.rule rule (sym s.of ∙ (ap recurrence_of own.event_is ∙ has)) in
       let low : a ≤ number s.from = omega (arith, ints, from, own.late, number-seconds s.from own.day) in
       let high = asked-by s own near to in
       let more = periods-within s.rule (looks_from s.rule.parts.count (number s.rule.start) (number s.from)) (midnight_number s.asked)

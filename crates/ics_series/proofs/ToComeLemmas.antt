@@ -1,6 +1,6 @@
 -- What is left of the occurrences that are given: those for which no override stands, after a key.
 use Rattle.std.specs.Prelude.{is_some, not}
-use Rattle.std.proofs.Common.{◌≡◌, ◌&&◌, ◌||◌, List, map, inl, inr, ⊎_elim, Option, Some, None, Bool, true, false, refl, sym, ◌∙◌, ap, subst}
+use Rattle.std.proofs.Common.{◌≡◌, ◌||◌, List, map, inl, inr, ⊎_elim, Option, Some, None, Bool, true, false, refl, sym, ◌∙◌, ap, subst}
 use Rattle.std.specs.Option.{option_map}
 use Rattle.std.specs.Ordering.{is_lt}
 use Rattle.std.specs.declared.cmp.Ordering.{Ordering}
@@ -8,6 +8,7 @@ use Rattle.std.specs.declared.cmp.Ordering.TheVariants.{Less, Equal, Greater}
 use Rattle.ics_calendar.specs.Event.{FileSaid}
 use Rattle.ics_calendar.specs.declared.event.Event.{Event}
 use Rattle.ics_calendar.specs.declared.time.Time.{Time}
+use Rattle.ics_zone.proofs.Cases.{or_right}
 use Rattle.ics_series.specs.declared.version.Version.{Version}
 use Rattle.ics_series.specs.declared.window.Window.{Window}
 use Rattle.ics_series.specs.Chosen.{IsOverridden}
@@ -19,17 +20,13 @@ use Rattle.ics_series.specs.After.{is_after}
 use Rattle.ics_series.specs.Occurs.{Occurs, IsOfMaster, IsOfOverride}
 use Rattle.ics_series.specs.PlacedEvents.{clocks_at}
 use Rattle.ics_series.specs.Versions.{is_named, seen, AreChosen}
-use Rattle.ics_series.proofs.OverrideLemmas.{named-overridden, or-true, overridden-named}
+use Rattle.ics_series.proofs.OverrideLemmas.{named-overridden, overridden-named}
 use Rattle.ics_series.proofs.GivenLemmas.{IsGiven, IsGivenBy}
 
 pub lt-Less : (c : Ordering) → is_lt c ≡ true → c ≡ Less
 lt-Less Less e = refl
 lt-Less Equal e = let f : false ≡ true = e in cc
 lt-Less Greater e = let f : false ≡ true = e in cc
-
-pub and-true : (a b : Bool) → (a && b) ≡ true → (a ≡ true) × (b ≡ true)
-and-true true b e = (refl, e)
-and-true false b e = let f : false ≡ true = e in absurd cc
 
 -- Of what is given that is listed which is kept.
 module _ (files : List FileSaid) (display : Clock) (w : Window) (vs : List Version) (h : AreChosen files display vs) where
@@ -63,7 +60,7 @@ module _ (files : List FileSaid) (display : Clock) (w : Window) (vs : List Versi
       chosen = m.is.chosen;
       is = (subst (λ r. IsGivenBy (clocks_at files display m.master.file) m.master.event r o) (sym (ap (option_map (instant (clocks_at files display m.master.file))) m.is.single)) m.of, meets);
     },
-    or-true (is_some o.event.recurrence) (not (named o)) (unnamed (named o) refl),
+    or_right (is_some o.event.recurrence) (not (named o)) (unnamed (named o) refl),
   )
     where
       unnamed : (b : Bool) → named o ≡ b → not b ≡ true

@@ -1,6 +1,6 @@
 -- An event has a list of all its occurrences that meet a window.
 use Rattle.std.specs.Prelude.{◌≤ℤ◌, not}
-use Rattle.std.proofs.Common.{◌≡◌, ℕ, ◌+◌, ℤ, pos, neg_ℤ, ◌-ℤ◌, List, [], ◌∷◌, Bool, true, false, Option, Some, None, option_map, ⊎_elim, refl, sym, ap, subst, arith}
+use Rattle.std.proofs.Common.{◌≡◌, ℕ, ◌+◌, ℤ, ◌-ℤ◌, List, [], ◌∷◌, Bool, true, false, Option, Some, None, option_map, ⊎_elim, refl, sym, ap, subst, arith}
 use Rattle.std.proofs.lemmas.Int.{int_max_is, ints}
 use Rattle.ics_values.specs.RuleParts.{RuleParts}
 use Rattle.ics_values.specs.Locals.{number, local_seconds, whole_days}

@@ -2,8 +2,7 @@
 use Rattle.std.specs.Prelude.{◌↔◌, ◌≤ℤ◌, ◌<ℤ◌}
 use Rattle.std.proofs.Common.{◌≡◌, ℤ, pos, ◌+ℤ◌, true, false, ◌⊎◌, inl, inr, ⊎_elim, List, [], ◌∷◌, ◌++◌, refl, sym, ◌∙◌, arith}
 use Rattle.std.specs.Cmp.{int_cmp_is}
-use Rattle.std.specs.Int.{int_max}
-use Rattle.std.proofs.lemmas.Int.{int_max_is, ints}
+use Rattle.std.proofs.lemmas.Int.{ints}
 use Rattle.std.specs.declared.cmp.Ordering.TheVariants.{Less}
 use Rattle.ics_calendar.specs.Event.{FileSaid}
 use Rattle.ics_zone.proofs.Cases.{less_or_not_z}
@@ -15,17 +14,10 @@ use Rattle.ics_series.specs.Meets.{IsListed, Meets}
 use Rattle.ics_series.specs.Occurs.{Occurs}
 use Rattle.ics_series.specs.Rising.{IsBefore, Rises}
 use Rattle.ics_series.specs.WindowLaws.{IsJoined, IsWithin}
+use Rattle.ics_series.proofs.NearDayLemmas.{occurs-forward}
 use Rattle.ics_series.proofs.PlacedLemmas.{in-append, in-append_left, in-append_right}
 
-not-under : (a b : ℤ) → a ≤ℤ int_max a b
-not-under a b = omega (arith, ints, int_max_is a b)
-
--- an occurrence does not end before it starts
-lasts : (files : List FileSaid) (display : Clock) (o : Entry) → Occurs files display o → o.start ≤ℤ o.finish
-lasts files display o (inl m) = rw (m.of.lasts.starts, m.of.lasts.ends) (not-under _ _)
-lasts files display o (inr m) = rw (m.of.starts, m.of.ends) (not-under _ _)
-
--- what starts in a window lasts into it
+-- what starts in a window occurs-forward into it
 lasting : (from start finish : ℤ) → from ≤ℤ start → start ≤ℤ finish → (from <ℤ finish) ⊎ ((finish ≡ start) × (from ≤ℤ start))
 lasting from start finish h k = ⊎_elim
     (λ later. let into : from <ℤ finish = omega (arith, ints, h, later) in inl into)
@@ -34,7 +26,7 @@ lasting from start finish h k = ⊎_elim
 
 module _ (files : List FileSaid) (display : Clock) where
   starting : (w : Window) (o : Entry) → Occurs files display o → w.from ≤ℤ o.start → o.start <ℤ w.to → IsListed files display w o
-  starting w o h from to = (h, record { begun = to; lasting = lasting w.from o.start o.finish from (lasts files display o h); started = λ _. from })
+  starting w o h from to = (h, record { begun = to; lasting = lasting w.from o.start o.finish from (occurs-forward files display o h); started = λ _. from })
 
   pub lists-starts : (w : Window) (o : Entry) → w.notstarted ≡ true
       → IsListed files display w o ↔ (Occurs files display o × (w.from ≤ℤ o.start) × (o.start <ℤ w.to))

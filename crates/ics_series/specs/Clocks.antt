@@ -1,13 +1,11 @@
 -- Instants and locals of times (RFC 5545, sections 3.3.4, 3.3.5 and 3.6.5). A local is counted in seconds from
 -- 1970-01-01T00:00:00, each day having 86,400.
 use Rattle.std.specs.Prelude.{ℕ, ℤ, pos, ◌+ℤ◌, List, map, slice_index_or, Option, Some, None}
-use Rattle.ics_values.specs.declared.local.Local.{Local}
 use Rattle.ics_values.specs.declared.stamp.Stamp.{Stamp}
 use Rattle.ics_values.specs.declared.stamp.Stamp.TheVariants.{Date, Floating, Utc, Zoned}
 use Rattle.ics_calendar.specs.declared.time.Time.{Time}
 use Rattle.ics_zone.specs.Displays.{offset_of, moment_of}
 use Rattle.ics_zone.specs.ZoneSaid.{ZoneSaid, said_moment, said_offset}
-use Rattle.ics_values.specs.Locals.{seconds_at, midnight, local_seconds}
 use Rattle.ics_zone.specs.JiffZones.{zone_of}
 use Rattle.ics_zone.specs.declared.display.Display.{Display}
 use Rattle.ics_calendar.specs.Event.{stamp_seconds}

@@ -1,5 +1,5 @@
 -- Which starts the EXDATEs of an event remove (RFC 5545, section 3.8.5.1).
-use Rattle.std.specs.Prelude.{◌≡◌, ◌<ℤ◌, ℤ, pos, Bool, true, false, ◌||◌, List, [], ◌∷◌, ◌++◌}
+use Rattle.std.specs.Prelude.{◌≡◌, ◌<ℤ◌, ℤ, Bool, true, false, ◌||◌, List, [], ◌∷◌, ◌++◌}
 use Rattle.std.specs.List.{list_any}
 use Rattle.std.specs.Ordering.{int_eq}
 use Rattle.ics_values.specs.declared.stamp.Stamp.{Stamp}

@@ -1,5 +1,5 @@
 -- The zones by which the times of a file are read, and the times that can be read by them.
-use Rattle.std.specs.Prelude.{◌≤ℤ◌, ◌+ℤ◌, pos, int_le, Bool, List, length, map}
+use Rattle.std.specs.Prelude.{◌≤ℤ◌, ◌+ℤ◌, int_le, Bool, List, length, map}
 use Rattle.ics_calendar.specs.Event.{EndsBelow, HasZonesBelow, IsEvent, IsTime, TimeBelow, stamp_seconds}
 use Rattle.ics_calendar.specs.declared.event.Event.{Event}
 use Rattle.ics_calendar.specs.declared.time.Time.{Time}
@@ -10,6 +10,7 @@ use Rattle.ics_zone.specs.declared.zone.ZoneKind.{ZoneKind}
 use Rattle.ics_series.specs.declared.window.Window.{Window}
 use Rattle.ics_series.specs.declared.zones.FileZones.{FileZones}
 use Rattle.ics_series.specs.Clocks.{Clocks, clocks_of, display_clock, instant}
+use Rattle.ics_series.specs.WindowBounds.{lasts_most}
 use Rattle.ics_values.specs.Locals.{whole_days}
 
 abbrev pub clocks_in : FileZones → Clocks
@@ -19,25 +20,22 @@ clocks_in zones = clocks_of (display_clock zones.display.now) (map zone_said zon
 abbrev pub is_past : Window → Time → Bool
 is_past w time = int_le (w.to +ℤ whole_days 2) (stamp_seconds time.stamp)
 
--- the zone of a time is one of these, and that of an end
-abbrev pub HasZoneIn : List ZoneKind → Time → Type 0
-HasZoneIn zones time = TimeBelow (length zones) time
-
+-- the zone of an end is one of these
 abbrev pub HasEndIn : List ZoneKind → Length → Type 0
 HasEndIn zones lasts = EndsBelow (length zones) lasts
 
 -- a time of a file with these zones
 pub record IsTimeOf (zones : List ZoneKind) (time : Time) : Type 0 where
   pub is_time : IsTime time
-  pub within : HasZoneIn zones time
+  pub within : TimeBelow (length zones) time
 
 abbrev pub IsEndOf : List ZoneKind → Length → Type 0
 IsEndOf zones (Until end) = IsTimeOf zones end
 IsEndOf zones _ = Unit {0}
 
--- the instant of a DTEND is not after that of DTSTART by much more than the longest event
+-- the instant of a DTEND is not after that of DTSTART by more than an event lasts at most
 abbrev pub EndsNear : Clocks → Time → Length → Type 0
-EndsNear clocks first (Until end) = instant clocks end ≤ℤ (instant clocks first +ℤ whole_days 36_529)
+EndsNear clocks first (Until end) = instant clocks end ≤ℤ (instant clocks first +ℤ lasts_most)
 EndsNear clocks first _ = Unit {0}
 
 -- an event of a file with these zones

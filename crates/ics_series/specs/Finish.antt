@@ -11,7 +11,7 @@ use Rattle.ics_calendar.specs.declared.time.Length.{Length}
 use Rattle.ics_calendar.specs.declared.time.Length.TheVariants.{Open, Until, Lasting}
 use Rattle.ics_calendar.specs.declared.event.Event.{Event}
 use Rattle.ics_series.specs.Clocks.{Clock, Clocks, clock_of, instant, local_at, day_of}
-use Rattle.ics_values.specs.Locals.{midnight}
+use Rattle.ics_values.specs.Locals.{midnight, whole_days}
 use Rattle.ics_series.specs.Starts.{time_of}
 
 -- How many days an event that starts on a date lasts: up to its DTEND, or the whole days of its DURATION, and at least one.
@@ -22,7 +22,7 @@ days_lasting first (Lasting duration) = int_max (pos 1) (pos duration.days)
 
 -- The instant that is a duration later: its days are counted by the clock, and then its hours, minutes and seconds are added.
 abbrev pub later_by : Clock → Duration → ℤ → ℤ
-later_by clock duration t = clock.moment (local_at clock t +ℤ pos (duration.days * 86_400)) +ℤ pos duration.seconds
+later_by clock duration t = clock.moment (local_at clock t +ℤ whole_days duration.days) +ℤ pos duration.seconds
 
 -- The end, by the length of an event with the DTSTART `first`, of an occurrence that starts at the time `given`. From a date it is
 -- a midnight of the display zone. From a date-time, a DTEND is as many seconds later as it is after DTSTART.

@@ -1,6 +1,7 @@
 -- The starts by which an event can meet a window, as they are found.
-use Rattle.std.specs.Prelude.{◌≡◌, ◌≤ℤ◌, ◌-ℤ◌, ℕ, ◌+◌, ℤ, pos, Bool, true, false, ◌&&◌, not, int_le, List, [], ◌∷◌, Option, Some, None, if◌then◌else◌}
+use Rattle.std.specs.Prelude.{◌≡◌, ◌≤ℤ◌, ◌-ℤ◌, ℕ, ◌+◌, ℤ, pos, Bool, true, false, ◌&&◌, not, List, [], ◌∷◌, Option, Some, None, if◌then◌else◌}
 use Rattle.std.specs.Int.{int_min}
+use Rattle.std.specs.Option.{option_eq}
 use Rattle.std.specs.Ordering.{int_cmp, int_eq, nat_cmp, on, then_cmp}
 use Rattle.std.specs.declared.cmp.Ordering.{Ordering}
 use Rattle.ics_values.specs.declared.local.Local.{Local}
@@ -92,16 +93,11 @@ pub record AreStartsSince (clocks : Clocks) (event : Event) (w : Window) (since 
   pub are : (s : Start) → IsIn s starts → IsStart clocks event s
   pub all : (source : StartSource) (given : Rdate) → GivesStart clocks event source given → IsSought clocks event w (instant clocks (time_of given)) → since ≤ℤ instant clocks (time_of given) → HasStart starts source (instant clocks (time_of given))
 
--- this instant is the last one
-abbrev pub is_at : Option ℤ → ℤ → Bool
-is_at None moment = false
-is_at (Some last) moment = int_eq last moment
-
 -- the first of each run of starts at one instant, if the list so far ended with a start at the instant `last`
 abbrev pub firsts_after : Option ℤ → List Start → List Start
 firsts_after last [] = []
 firsts_after last (s ∷ starts) =
-    if is_at last s.moment then firsts_after (Some s.moment) starts else s ∷ firsts_after (Some s.moment) starts
+    if option_eq int_eq last (Some s.moment) then firsts_after (Some s.moment) starts else s ∷ firsts_after (Some s.moment) starts
 
 -- the occurrence with this start, if it meets the window
 abbrev pub met_by : Clocks → Window → Event → Start → Option Entry

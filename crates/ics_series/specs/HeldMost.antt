@@ -6,6 +6,7 @@ use Rattle.ics_calendar.specs.declared.event.Event.{Event}
 use Rattle.ics_calendar.specs.declared.time.Rdate.{Rdate}
 use Rattle.ics_series.specs.declared.start.StartSource.{StartSource}
 use Rattle.ics_series.specs.Clocks.{Clocks, instant}
+use Rattle.ics_values.specs.Days.{days_before_year}
 use Rattle.ics_values.specs.Locals.{midnight, calendar_end}
 use Rattle.ics_series.specs.RuleStarts.{lets_until, moment_numbered}
 use Rattle.ics_series.specs.Starts.{given_by, recurrence_of, time_of, GivesStart}
@@ -49,7 +50,7 @@ greatest (suc n) f = max (greatest n f) (f n)
 -- The greatest number that any five UTC days in a row have. An instant is less than two days from its local, so that five days have none if
 -- they begin more than six days before 0000-01-01, or more than two days after 9999-12-31.
 unfoldable pub most_in_days : Clocks → Event → ℕ
-most_in_days clocks event = greatest 3_652_433 (λ k. raw_in clocks event (pos k -ℤ pos 719_534))
+most_in_days clocks event = greatest (days_before_year 10_000 + 8) (λ k. raw_in clocks event (pos k -ℤ pos (days_before_year 1_970 + 6)))
 
 -- a master, with the clocks by which its times are read
 pub record Master : Type 0 where

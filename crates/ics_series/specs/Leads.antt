@@ -4,10 +4,9 @@ use Rattle.std.specs.Coded.{Unit-prop, Π_prop}
 use Rattle.std.specs.List.{AllByRecursion, AllByRecursion-prop}
 use Rattle.std.specs.Ordering.{is_eq}
 use Rattle.ics_series.specs.Entry.{Entry, entry_cmp, entry_of}
-use Rattle.ics_series.specs.EntryLaws.{before-prop}
 use Rattle.ics_series.specs.Listing.{IsIn}
 use Rattle.ics_series.specs.Merged.{cut}
-use Rattle.ics_series.specs.Rising.{IsBefore}
+use Rattle.ics_series.specs.Rising.{before-prop, IsBefore}
 use Rattle.ics_series.specs.declared.occurrence.Occurrence.{Occurrence}
 
 -- the rest, with what was drawn put before it
@@ -33,7 +32,7 @@ empty-prop (x ∷ xs) = ⊥-prop
 
 pub IsAhead-prop : (head : Option Occurrence) (rest : List Entry) → IsProp (IsAhead head rest)
 IsAhead-prop None rest = empty-prop rest
-IsAhead-prop (Some o) rest = before-prop (entry_of o) rest
+IsAhead-prop (Some o) rest = before-prop entry_cmp (entry_of o) rest
 
 -- what is still to come of a list after the entry that was given last
 abbrev pub past : Option Occurrence → List Entry → List Entry
@@ -53,7 +52,7 @@ ComeAfter (Some o) lists = AllByRecursion (IsBefore entry_cmp (entry_of o)) list
 
 pub ComeAfter-prop : (last : Option Occurrence) (lists : List (List Entry)) → IsProp (ComeAfter last lists)
 ComeAfter-prop None lists = Unit-prop
-ComeAfter-prop (Some o) lists = AllByRecursion-prop (IsBefore entry_cmp (entry_of o)) (before-prop (entry_of o)) lists
+ComeAfter-prop (Some o) lists = AllByRecursion-prop (IsBefore entry_cmp (entry_of o)) (before-prop entry_cmp (entry_of o)) lists
 
 -- P is true of each entry of a list
 abbrev pub AreNear : (Entry → Type 0) → List Entry → Type 0

@@ -1,5 +1,5 @@
 -- The lists of the versions that count and whose events recur, one for each.
-use Rattle.std.specs.Prelude.{◌≡◌, ◌<ℤ◌, ◌≤ℤ◌, ◌++◌, ℕ, ℤ, pos, neg_ℤ, int_le, false, List, map, Option, Some, None}
+use Rattle.std.specs.Prelude.{◌≡◌, ◌<ℤ◌, ◌≤ℤ◌, ◌++◌, ℕ, ℤ, int_le, false, List, map, Option, Some, None}
 use Rattle.std.specs.List.{AllByRecursion}
 use Rattle.ics_calendar.specs.Event.{FileSaid}
 use Rattle.ics_calendar.specs.declared.event.Event.{Event}
@@ -17,6 +17,7 @@ use Rattle.ics_series.specs.Sources.{Recurring, Source, uid_cmp, IsFrom}
 use Rattle.ics_series.specs.Sources.Source.{Of}
 use Rattle.ics_series.specs.Spots.{event_at}
 use Rattle.ics_series.specs.Versions.{Label}
+use Rattle.ics_series.specs.WindowBounds.{occurrence_first, window_last}
 
 -- the event of a version is a master that recurs
 pub record Recurs (files : List FileSaid) (l : Label) : Type 0 where
@@ -30,11 +31,10 @@ pub record IsOfVersion (files : List FileSaid) (display : Clock) (w : Window) (a
   pub of : IsOf (clocks_at files display l.spot.file) by.event o
   pub to_come : IsToCome files display w after o
 
--- Of the occurrences of a master with this UID, those that begin at this instant or later come after the key. Each begins well within the
--- instants of an i64.
+-- Of the occurrences of a master with this UID that can meet a window, those that begin at this instant or later come after the key.
 abbrev pub IsSince : Option Rank → List ℕ → ℤ → Type 0
 IsSince after uid since =
-    (o : Entry) → o.event.uid ≡ uid → o.recurrence ≡ o.start → neg_ℤ (pos 9_223_372_036_854_775_808) ≤ℤ o.start → o.start <ℤ pos 9_223_372_036_854_775_807
+    (o : Entry) → o.event.uid ≡ uid → o.recurrence ≡ o.start → occurrence_first ≤ℤ o.start → o.start <ℤ window_last
     → is_after after o ≡ int_le since o.start
 
 -- the occurrences of a version that meet the window have a list, whatever the key

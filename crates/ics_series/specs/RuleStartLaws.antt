@@ -1,9 +1,7 @@
 -- What is known of the starts of a rule while they are read has at most one proof.
-use Rattle.std.specs.Prelude.{◌≡◌, ℕ, ℤ, List, [], ◌∷◌, Option, None, Some}
-use Rattle.std.specs.Coded.{×_prop, Unit-prop, Π_prop, codes}
-use Rattle.std.specs.Ordering.{Ordering-set}
+use Rattle.std.specs.Prelude.{◌≡◌, ℕ, ℤ, List, Option, None, Some}
+use Rattle.std.specs.Coded.{Unit-prop, Π_prop, codes}
 use Rattle.std.proofs.Props.{props}
-use Rattle.std.specs.declared.cmp.Ordering.TheVariants.{Less}
 use Rattle.ics_rule.specs.Cursors.{CountedBy, HasLooked, IsCursorIn, IsCursorOf}
 use Rattle.ics_rule.specs.EffectiveRules.{effective}
 use Rattle.ics_values.specs.Locals.{number}
@@ -15,17 +13,7 @@ use Rattle.ics_values.specs.declared.local.Local.{Local}
 use Rattle.ics_series.specs.declared.start.Start.{Start}
 use Rattle.ics_series.specs.declared.window.Window.{Window}
 use Rattle.ics_series.specs.Clocks.{Clocks}
-use Rattle.ics_series.specs.Found.{moment_cmp}
-use Rattle.ics_series.specs.Rising.{IsBefore, Rises}
 use Rattle.ics_series.specs.RuleStarts.{AreHeld, HasLookedTo, IsHeld}
-
-before-prop : (x : Start) (xs : List Start) → IsProp (IsBefore moment_cmp x xs)
-before-prop x [] = Unit-prop
-before-prop x (y ∷ ys) = ×_prop (Ordering-set (moment_cmp x y) Less) (before-prop x ys)
-
-pub starts-prop : (xs : List Start) → IsProp (Rises moment_cmp xs)
-starts-prop [] = Unit-prop
-starts-prop (x ∷ xs) = ×_prop (before-prop x xs) (starts-prop xs)
 
 Start-set : (a b : Start) → IsProp (a ≡ b)
 Start-set a b = hlevel (props, codes)

@@ -1,11 +1,11 @@
 -- The starts that the rule of an event gives before the end of a window, as one rising list.
-use Rattle.std.specs.Prelude.{◌≡◌, ◌≤ℤ◌, ◌<ℤ◌, ℕ, zero, suc, ◌+◌, ◌-◌, ◌/◌, ◌≤◌, ℤ, pos, ◌-ℤ◌, ◌+ℤ◌, Bool, true, false, ◌&&◌, ◌||◌, ◌==◌, not, int_le, int_lt, List, [], ◌∷◌}
+use Rattle.std.specs.Prelude.{◌≡◌, ◌≤ℤ◌, ◌<ℤ◌, ℕ, zero, suc, ◌+◌, ◌-◌, ◌≤◌, ℤ, pos, ◌-ℤ◌, ◌+ℤ◌, Bool, true, false, ◌&&◌, ◌||◌, ◌==◌, not, int_le, int_lt, List, [], ◌∷◌}
 use Rattle.ics_values.specs.Days.{day_index}
 use Rattle.ics_values.specs.Locals.{local_at, number, midnight, whole_days}
 use Rattle.ics_values.specs.declared.local.Local.{Local}
 use Rattle.ics_rule.specs.Cursors.{looks_from, HasLooked}
 use Rattle.ics_rule.specs.Kept.{is_kept, until_moment}
-use Rattle.ics_rule.specs.PeriodNumbers.{rules_end}
+use Rattle.ics_rule.specs.PeriodNumbers.{day_of, rules_end}
 use Rattle.ics_rule.specs.Recurrence.{Recurrence}
 use Rattle.ics_rule.specs.declared.cursor.Cursor.{Cursor}
 use Rattle.ics_calendar.specs.declared.event.Event.{Event}
@@ -22,7 +22,7 @@ use Rattle.ics_series.specs.Starts.{time_at}
 
 -- the local with a number
 abbrev pub local_numbered : ℕ → Local
-local_numbered n = local_at (pos (n / 86_400) -ℤ pos 719_528) n
+local_numbered n = local_at (pos (day_of n) -ℤ pos 719_528) n
 
 -- the instant at which that local would start the event
 abbrev pub moment_numbered : Clocks → Event → ℕ → ℤ

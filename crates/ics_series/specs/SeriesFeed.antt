@@ -1,6 +1,6 @@
 -- What contracts see of a series.
 use Rattle.std.specs.Prelude.{◌≡◌, ℤ, List, [], ◌∷◌, Option, Some, None}
-use Rattle.std.specs.Coded.{×_prop, Unit-prop, Π_prop, codes}
+use Rattle.std.specs.Coded.{×_prop, Unit-prop, Π_prop}
 use Rattle.std.proofs.Props.{props}
 use Rattle.ics_calendar.specs.declared.event.Event.{Event}
 use Rattle.ics_series.specs.declared.window.Window.{Window}
@@ -12,6 +12,7 @@ use Rattle.ics_series.specs.declared.start.Start.{Start}
 use Rattle.ics_series.specs.Entry.{Entry}
 use Rattle.ics_series.specs.SeriesStarts.{given_of, left, rule_asked, HasSameRule, IsAskedNear}
 use Rattle.ics_series.specs.FileZones.{clocks_in}
+use Rattle.ics_series.specs.SeriesLaws.{event-set}
 
 -- the starts still to come
 abbrev pub series_left : Series → List Start
@@ -36,9 +37,6 @@ series_near s o = (o.event ≡ s.event.now) × IsAskedNear (clocks_in s.zones) s
 asked-prop : (clocks : Clocks) (event : Event) (asked : Option ℤ) (t : ℤ) → IsProp (IsAskedNear clocks event asked t)
 asked-prop clocks event None t = Unit-prop
 asked-prop clocks event (Some day) t = Π_prop λ local. Π_prop λ k. hlevel props
-
-event-set : (a b : Event) → IsProp (a ≡ b)
-event-set a b = hlevel (props, codes)
 
 pub series_near-prop : (s : Series) (o : Entry) → IsProp (series_near s o)
 series_near-prop s o = ×_prop (event-set o.event s.event.now) (asked-prop (clocks_in s.zones) s.event.now (rule_asked s.rule_starts) o.start)

@@ -51,7 +51,7 @@ ruled-prop clocks event (Some s) coming = Π_prop λ o. Π_prop λ m. Π_prop λ
 zones-set : (a b : FileZones) → IsProp (a ≡ b)
 zones-set a b = hlevel (props, codes)
 
-event-set : (a b : Event) → IsProp (a ≡ b)
+pub event-set : (a b : Event) → IsProp (a ≡ b)
 event-set a b = hlevel (props, codes)
 
 window-set : (a b : Window) → IsProp (a ≡ b)

@@ -1,12 +1,11 @@
 -- What the occurrences of a feed belong to.
 use Rattle.std.specs.Prelude.{◌≡◌, ◌≤◌, ◌≤ℤ◌, ℤ, Bool, true, false, List, [], ◌∷◌, count_by, Option, Some, None}
-use Rattle.std.specs.Coded.{×_prop, Unit-prop, le_prop}
+use Rattle.std.specs.Coded.{×_prop, le_prop}
 use Rattle.std.specs.List.{AllByRecursion, AllByRecursion-prop}
 use Rattle.std.proofs.Props.{props}
 use Rattle.std.specs.Cmp.Lexicographic.{slice_cmp}
-use Rattle.std.specs.Ordering.{nat_cmp, on, Ordering-set}
+use Rattle.std.specs.Ordering.{nat_cmp, on}
 use Rattle.std.specs.declared.cmp.Ordering.{Ordering}
-use Rattle.std.specs.declared.cmp.Ordering.TheVariants.{Less}
 use Rattle.ics_calendar.specs.Event.{FileSaid}
 use Rattle.ics_calendar.specs.declared.event.Event.{Event}
 use Rattle.ics_series.specs.declared.window.Window.{Window}
@@ -15,7 +14,7 @@ use Rattle.ics_series.specs.Clocks.{Clock, Clocks}
 use Rattle.ics_series.specs.Entry.{Rank}
 use Rattle.ics_series.specs.HeldMost.{Master}
 use Rattle.ics_series.specs.PlacedEvents.{Placed, clocks_at}
-use Rattle.ics_series.specs.Rising.{IsBefore, Rises}
+use Rattle.ics_series.specs.Rising.{Rises, Rises-prop}
 use Rattle.ics_series.specs.Singles.{is_single}
 
 -- a master that recurs, with the clocks by which its times are read, in a window and from an instant on
@@ -56,20 +55,12 @@ abbrev pub AreApart : List Source → Type 0
 AreApart sources =
     (count_by is_once sources ≤ 1) × (AllByRecursion (λ m. is_single m.event ≡ false) (recurring sources) × Rises uid_cmp (recurring sources))
 
-before-prop : (m : Recurring) (ms : List Recurring) → IsProp (IsBefore uid_cmp m ms)
-before-prop m [] = Unit-prop
-before-prop m (n ∷ ms) = ×_prop (Ordering-set (uid_cmp m n) Less) (before-prop m ms)
-
-uids-prop : (ms : List Recurring) → IsProp (Rises uid_cmp ms)
-uids-prop [] = Unit-prop
-uids-prop (m ∷ ms) = ×_prop (before-prop m ms) (uids-prop ms)
-
 recurs-prop : (m : Recurring) → IsProp (is_single m.event ≡ false)
 recurs-prop m = hlevel props
 
 pub AreApart-prop : (sources : List Source) → IsProp (AreApart sources)
 AreApart-prop sources =
-    ×_prop le_prop (×_prop (AllByRecursion-prop (λ m. is_single m.event ≡ false) recurs-prop (recurring sources)) (uids-prop (recurring sources)))
+    ×_prop le_prop (×_prop (AllByRecursion-prop (λ m. is_single m.event ≡ false) recurs-prop (recurring sources)) (Rises-prop uid_cmp (recurring sources)))
 
 -- for a listing after a key, not before the start in the key
 abbrev pub IsFrom : Option Rank → ℤ → Type 0

@@ -3,7 +3,7 @@ use Rattle.std.specs.Prelude.{◌≡◌, ◌≤ℤ◌, ℕ, ◌+◌, Some, ℤ, 
 use Rattle.std.specs.Int.{int_max}
 use Rattle.ics_values.specs.declared.local.Local.{Local}
 use Rattle.ics_rule.specs.Cursors.{looks_from, period_count}
-use Rattle.ics_values.specs.Locals.{number, local_seconds, whole_days}
+use Rattle.ics_values.specs.Locals.{number, local_seconds, whole_days, year_number}
 use Rattle.ics_rule.specs.Recurrence.{Recurrence}
 use Rattle.ics_series.specs.Entry.{Entry}
 use Rattle.ics_series.specs.Listing.{IsIn}
@@ -16,11 +16,11 @@ use Rattle.ics_series.specs.Starts.{local_of, recurrence_of}
 -- not before the instant from which on the master's occurrences are listed, or two weeks past the window's end if that is earlier.
 abbrev pub IsLookedFrom : Recurring → ℕ → Type 0
 IsLookedFrom m a =
-    pos a ≤ℤ (int_max (local_seconds (local_of m.event.start.stamp)) (first_of m.clocks m.window m.event m.since -ℤ whole_days 7) +ℤ pos 62_167_219_200)
+    pos a ≤ℤ (int_max (local_seconds (local_of m.event.start.stamp)) (first_of m.clocks m.window m.event m.since -ℤ whole_days 7) +ℤ pos (year_number 1_970))
 
 -- the local with this number is seven days or more past an instant
 abbrev pub IsWeekPast : ℤ → ℕ → Type 0
-IsWeekPast t b = ((t +ℤ whole_days 7) +ℤ pos 62_167_219_200) ≤ℤ pos b
+IsWeekPast t b = ((t +ℤ whole_days 7) +ℤ pos (year_number 1_970)) ≤ℤ pos b
 
 -- it is so past the start of an occurrence of the master still to come that begins at the instant of DTSTART's local or of one that the rule
 -- keeps

@@ -1,12 +1,12 @@
 //! The end of an occurrence.
-ghost use Rattle.std.specs.Prelude.{◌≡◌, ◌+◌, ◌*◌, ◌<◌, ◌≤◌, ◌<ℤ◌, ◌≤ℤ◌, ◌+ℤ◌, ◌*ℤ◌, pos, ◌-ℤ◌, neg_ℤ};
-ghost use Rattle.ics_calendar.specs.Event.{IsLasting, IsLength, IsSpan};
+ghost use Rattle.std.specs.Prelude.{◌≡◌, ◌<ℤ◌, ◌≤ℤ◌, ◌+ℤ◌, ◌-ℤ◌, pos};
+ghost use Rattle.ics_calendar.specs.Event.{longest, IsLasting, IsLength, IsSpan};
 ghost use Rattle.ics_series.specs.Clocks.{clock_of, display_clock, instant, local_at};
-ghost use Rattle.ics_values.specs.Locals.{midnight, whole_days};
+ghost use Rattle.ics_values.specs.Locals.{midnight, whole_days, year_seconds};
 ghost use Rattle.ics_series.specs.Finish.{end_by, finish, later_by, span_end};
 ghost use Rattle.ics_series.specs.Found.{IsStart};
 ghost use Rattle.ics_series.specs.FileZones.{clocks_in, EndsNear, HasEndIn, IsEndOf, IsOwnEvent, IsTimeOf};
-ghost use Rattle.ics_series.specs.WindowBounds.{window_last, occurrence_first};
+ghost use Rattle.ics_series.specs.WindowBounds.{lasts_most, window_last, occurrence_first};
 
 use crate::instant::instant;
 use crate::lasting::{day_of, days_lasting};
@@ -26,7 +26,7 @@ pub(crate) fn finish(zones: FileZones<'_>, event: &Event, start: Start) -> Momen
     requires early { start.moment <ℤ window_last }
     ensures value { result ≡ finish (clocks_in zones.entry) event.now start.given }
     ensures forward { start.moment ≤ℤ result }
-    ensures early { result <ℤ (window_last +ℤ whole_days 36_529) }
+    ensures early { result <ℤ (window_last +ℤ lasts_most) }
 {
     let end = match start.given {
         Rdate::At(given) => end_by(zones, event.start, event.length, given, start.moment),
@@ -45,7 +45,7 @@ fn end_by(zones: FileZones<'_>, first: Time, length: Length, given: Time, start:
     requires start { start ≡ instant (clocks_in zones) given }
     requires early { start <ℤ window_last }
     ensures value { result ≡ end_by (clocks_in zones.entry) first given first.stamp length }
-    ensures early { result <ℤ (window_last +ℤ whole_days 36_529) }
+    ensures early { result <ℤ (window_last +ℤ lasts_most) }
 {
     match (first.stamp, length) {
         (Stamp::Date(day), length) => {
@@ -66,7 +66,7 @@ fn span_end(zones: FileZones<'_>, given: Time, length: Length, start: Moment) ->
     requires start { start ≡ instant (clocks_in zones) given }
     requires early { start <ℤ window_last }
     ensures value { result ≡ span_end (clocks_in zones.entry) given length }
-    ensures early { result <ℤ (window_last +ℤ whole_days 36_529) }
+    ensures early { result <ℤ (window_last +ℤ lasts_most) }
 {
     match length {
         Length::Open => start,
@@ -77,12 +77,12 @@ fn span_end(zones: FileZones<'_>, given: Time, length: Length, start: Moment) ->
 
 // The midnight of the display zone that begins the day `days` after a day.
 fn midnight_after(display: &Display, day: i32, days: i32) -> Moment
-    requires late { neg_ℤ (pos 719_162) ≤ℤ day }
-    requires early { day ≤ℤ pos 2_859_853 }
+    requires late { year_seconds 1 ≤ℤ midnight day }
+    requires early { midnight day ≤ℤ (window_last +ℤ whole_days 2) }
     requires least { pos 1 ≤ℤ days }
-    requires most { days ≤ℤ pos 36_525 }
+    requires most { midnight days ≤ℤ pos longest }
     ensures value { result ≡ (display_clock display.now).moment (midnight (day +ℤ days)) }
-    ensures early { result <ℤ (window_last +ℤ whole_days 36_529) }
+    ensures early { result <ℤ (window_last +ℤ lasts_most) }
 {
     display.moment(Local {
         day: day + days,
@@ -97,40 +97,38 @@ fn later_by(zones: FileZones<'_>, time: Time, duration: Duration, start: Moment)
     requires early { start <ℤ window_last }
     requires short { IsLasting duration }
     ensures value { result ≡ later_by (clock_of (clocks_in zones.entry) time) duration start }
-    ensures early { result <ℤ (window_last +ℤ whole_days 36_529) }
+    ensures early { result <ℤ (window_last +ℤ lasts_most) }
 {
-    days_after(zones, time, start, duration.days as i64) + duration.seconds as i64
+    days_after(zones, time, start, duration.days) + duration.seconds as i64
 }
 
 // The instant that is `days` days later by the clock of a time's zone.
-fn days_after(zones: FileZones<'_>, time: Time, start: Moment, days: i64) -> Moment
+fn days_after(zones: FileZones<'_>, time: Time, start: Moment, days: u64) -> Moment
     requires time { IsTimeOf zones.zones.now time }
     requires late { occurrence_first ≤ℤ start }
     requires early { start <ℤ window_last }
-    requires forward { pos 0 ≤ℤ days }
-    requires short { days ≤ℤ pos 36_525 }
+    requires short { whole_days days ≤ℤ pos longest }
     ensures value { result ≡ (clock_of (clocks_in zones.entry) time).moment
-        (local_at (clock_of (clocks_in zones.entry) time) start +ℤ days *ℤ pos 86_400) }
+        (local_at (clock_of (clocks_in zones.entry) time) start +ℤ whole_days days) }
     ensures late { (occurrence_first -ℤ whole_days 4) ≤ℤ result }
-    ensures early { result <ℤ ((start +ℤ days *ℤ pos 86_400) +ℤ whole_days 4) }
+    ensures early { result <ℤ ((start +ℤ whole_days days) +ℤ whole_days 4) }
 {
     match time.stamp {
-        Stamp::Utc(_) => start + days * DAY,
+        Stamp::Utc(_) => start + days as i64 * DAY,
         Stamp::Date(_) | Stamp::Floating(_) => days_after_at(zones.display, start, days),
         Stamp::Zoned(_) => days_after_at(zones.zone_of(time), start, days),
     }
 }
 
 // The instant that is `days` days later by the clock of a place.
-fn days_after_at<P: Place>(place: &P, start: Moment, days: i64) -> Moment
+fn days_after_at<P: Place>(place: &P, start: Moment, days: u64) -> Moment
     requires late { occurrence_first ≤ℤ start }
     requires early { start <ℤ window_last }
-    requires forward { pos 0 ≤ℤ days }
-    requires short { days ≤ℤ pos 36_525 }
+    requires short { whole_days days ≤ℤ pos longest }
     ensures value { result ≡ P.moment_at place.now
-        ((start +ℤ P.offset_at place.now start) +ℤ days *ℤ pos 86_400) }
+        ((start +ℤ P.offset_at place.now start) +ℤ whole_days days) }
     ensures late { (occurrence_first -ℤ whole_days 4) ≤ℤ result }
-    ensures early { result <ℤ ((start +ℤ days *ℤ pos 86_400) +ℤ whole_days 4) }
+    ensures early { result <ℤ ((start +ℤ whole_days days) +ℤ whole_days 4) }
 {
     let local = place.local(start);
     place.moment(Local {

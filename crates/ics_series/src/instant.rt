@@ -1,7 +1,6 @@
 //! The instants of times.
 ghost use Rattle.std.specs.Prelude.{◌≡◌};
 ghost use Rattle.ics_series.specs.Clocks.{instant};
-ghost use Rattle.ics_calendar.specs.Event.{stamp_seconds};
 ghost use Rattle.ics_series.specs.FileZones.{clocks_in, is_past, IsTimeOf};
 
 use crate::start::local_of;
@@ -30,12 +29,5 @@ pub(crate) fn instant(zones: FileZones<'_>, time: Time) -> Moment
 pub(crate) fn is_past(time: Time, window: &Window) -> bool
     ensures { result ≡ is_past window.now time }
 {
-    window.to + 2 * 86_400 <= written(time.stamp)
-}
-
-/// The seconds from 1970-01-01T00:00:00 to the local of a stamp. That of a date is its midnight.
-pub(crate) fn written(stamp: Stamp) -> i64
-    ensures { result ≡ stamp_seconds stamp }
-{
-    local_of(stamp).seconds()
+    window.to + 2 * 86_400 <= local_of(time.stamp).seconds()
 }

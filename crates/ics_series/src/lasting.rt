@@ -1,9 +1,11 @@
 //! The length of an event.
 ghost use Rattle.std.specs.Prelude.{◌≡◌, ◌≤ℤ◌, pos};
-ghost use Rattle.ics_calendar.specs.Event.{IsLength};
+ghost use Rattle.ics_calendar.specs.Event.{longest, IsLength};
+ghost use Rattle.ics_values.specs.Locals.{midnight};
 ghost use Rattle.ics_series.specs.Clocks.{day_of};
 ghost use Rattle.ics_series.specs.Finish.{days_lasting, seconds_by, seconds_lasting};
-ghost use Rattle.ics_series.specs.FileZones.{clocks_in, IsEndOf, IsOwnEvent, IsTimeOf};
+ghost use Rattle.ics_series.specs.FileZones.{clocks_in, EndsNear, IsEndOf, IsOwnEvent, IsTimeOf};
+ghost use Rattle.ics_series.specs.WindowBounds.{lasts_most};
 
 use crate::instant::instant;
 use crate::zones::FileZones;
@@ -17,7 +19,7 @@ pub(crate) fn days_lasting(first: i32, length: Length) -> i32
     requires { IsLength (Stamp.Date first) length }
     ensures value { result ≡ days_lasting first length }
     ensures least { pos 1 ≤ℤ result }
-    ensures most { result ≤ℤ pos 36_525 }
+    ensures most { midnight result ≤ℤ pos longest }
 {
     match length {
         Length::Open => 1,
@@ -41,7 +43,7 @@ pub(crate) fn seconds_lasting(zones: FileZones<'_>, event: &Event) -> i64
     requires { IsOwnEvent zones event.now }
     ensures value { result ≡ seconds_lasting (clocks_in zones.entry) event.now }
     ensures least { pos 0 ≤ℤ result }
-    ensures most { result ≤ℤ pos 400_000_000_000 }
+    ensures most { result ≤ℤ lasts_most }
 {
     seconds_by(zones, event.start, event.length)
 }
@@ -50,9 +52,10 @@ fn seconds_by(zones: FileZones<'_>, first: Time, length: Length) -> i64
     requires first { IsTimeOf zones.zones.now first }
     requires length { IsLength first.stamp length }
     requires end { IsEndOf zones.zones.now length }
+    requires near { EndsNear (clocks_in zones) first length }
     ensures value { result ≡ seconds_by (clocks_in zones.entry) first first.stamp length }
     ensures least { pos 0 ≤ℤ result }
-    ensures most { result ≤ℤ pos 400_000_000_000 }
+    ensures most { result ≤ℤ lasts_most }
 {
     match (first.stamp, length) {
         (Stamp::Date(day), length) => i64::from(days_lasting(day, length)) * DAY,

@@ -1,7 +1,7 @@
 //! The starts that RDATEs give.
 ghost use Rattle.std.specs.Prelude.{◌≡◌, ◌++◌, IfOk};
 ghost use Rattle.ics_series.specs.Found.{listed_from};
-ghost use Rattle.ics_series.specs.Starts.{given_by, time_by};
+ghost use Rattle.ics_series.specs.Starts.{given_by};
 ghost use Rattle.ics_series.specs.FileZones.{clocks_in, IsOwnEvent};
 
 use crate::instant::{instant, is_past};
@@ -38,24 +38,20 @@ pub(crate) fn push_listed(
 }
 
 // The time or period at which a value of an RDATE starts an event with this DTSTART. If the event has
-// dates, a value of any form means its date.
+// dates, a value of any form means its date. Else a date means that date at DTSTART's time of day, in
+// DTSTART's zone.
 fn given_by(first: Time, rdate: Rdate) -> Rdate
     ensures { result ≡ given_by first rdate }
 {
     match (first.stamp, rdate) {
         (Stamp::Date(_), rdate) => Rdate::At(date_of(time_of(rdate))),
-        (_, Rdate::At(time)) => Rdate::At(time_by(first, time)),
+        (_, Rdate::At(time)) => match time.stamp {
+            Stamp::Date(day) => {
+                let local = Local::at(day, local_of(first.stamp).second);
+                Rdate::At(time_at(first, local))
+            }
+            Stamp::Floating(_) | Stamp::Utc(_) | Stamp::Zoned(_) => Rdate::At(time),
+        },
         (_, span) => span,
-    }
-}
-
-// A time of an RDATE, if the event has date-times. A date means that date at DTSTART's time of day, in
-// DTSTART's zone.
-fn time_by(first: Time, time: Time) -> Time
-    ensures { result ≡ time_by first time time.stamp }
-{
-    match time.stamp {
-        Stamp::Date(day) => time_at(first, Local::at(day, local_of(first.stamp).second)),
-        Stamp::Floating(_) | Stamp::Utc(_) | Stamp::Zoned(_) => time,
     }
 }

@@ -1,7 +1,6 @@
 //! Starts that are known from the beginning, given one by one.
 ghost use Rattle.ics_series.specs.Found.{moment_cmp};
-ghost use Rattle.ics_series.specs.Rising.{Rises};
-ghost use Rattle.ics_series.specs.RuleStartLaws.{starts-prop};
+ghost use Rattle.ics_series.specs.Rising.{Rises, Rises-prop};
 
 use crate::start::Start;
 use crate::starts::firsts;
@@ -13,7 +12,7 @@ pub(crate) struct ListedStarts {
     starts: Vec<Start>,
     // How many of them have been passed.
     gone: usize,
-    ghost rises: { Rises moment_cmp starts.items } by { starts-prop starts.items },
+    ghost rises: { Rises moment_cmp starts.items } by { Rises-prop moment_cmp starts.items },
 }
 
 impl ListedStarts {

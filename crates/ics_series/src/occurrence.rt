@@ -1,6 +1,5 @@
 //! One occurrence of an event.
-ghost use Rattle.std.specs.Prelude.{◌≡◌, ◌<ℤ◌, ◌≤ℤ◌, ◌+ℤ◌, pos, neg_ℤ};
-ghost use Rattle.ics_calendar.specs.Event.{IsEvent};
+ghost use Rattle.std.specs.Prelude.{◌≡◌, ◌<ℤ◌, ◌≤ℤ◌};
 ghost use Rattle.ics_series.specs.WindowBounds.{occurrence_first, occurrence_end};
 
 use crate::finish::finish;

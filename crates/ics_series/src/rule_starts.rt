@@ -1,16 +1,15 @@
 //! The starts that the rule of an event gives, read one UTC day at a time.
-ghost use Rattle.std.specs.Prelude.{◌≡◌, ◌<◌, ◌≤◌, ◌+◌, ◌<ℤ◌, ◌≤ℤ◌, ◌+ℤ◌, ◌-ℤ◌, ◌&&◌, ◌||◌, pos, neg_ℤ, true, int_lt, Some};
+ghost use Rattle.std.specs.Prelude.{◌≡◌, ◌<◌, ◌≤◌, ◌+◌, ◌<ℤ◌, ◌≤ℤ◌, ◌+ℤ◌, ◌-ℤ◌, ◌&&◌, pos, true, int_lt, Some};
 ghost use Rattle.std.specs.VecDeque.{deque_len, deque_capacity};
 ghost use Rattle.ics_values.specs.Days.{IsDayNumber};
 ghost use Rattle.ics_rule.specs.Cursors.{place_of, IsCursorOf};
 ghost use Rattle.ics_rule.specs.Kept.{is_kept};
-ghost use Rattle.ics_values.specs.Locals.{number, midnight, whole_days};
-ghost use Rattle.ics_series.specs.Clocks.{instant};
+ghost use Rattle.ics_values.specs.Locals.{number, midnight, whole_days, year_seconds};
 ghost use Rattle.ics_series.specs.EventLaws.{time-prop};
 ghost use Rattle.ics_series.specs.Found.{moment_cmp, start_at};
-ghost use Rattle.ics_series.specs.Rising.{Rises};
+ghost use Rattle.ics_series.specs.Rising.{Rises, Rises-prop};
 ghost use Rattle.ics_series.specs.RuleStarts.{gives, is_behind, is_ready, lets_until, midnight_number, with_held, AreHeld, HasLookedTo};
-ghost use Rattle.ics_series.specs.RuleStartLaws.{cursor-prop, held-prop, looked-prop, rule-prop, starts-prop};
+ghost use Rattle.ics_series.specs.RuleStartLaws.{cursor-prop, held-prop, looked-prop, rule-prop};
 ghost use Rattle.ics_series.specs.Starts.{local_of, recurrence_of, time_at};
 ghost use Rattle.ics_series.specs.FileZones.{clocks_in, IsTimeOf};
 ghost use Rattle.ics_rule.specs.PeriodNumbers.{rules_end};
@@ -44,14 +43,14 @@ pub(crate) struct RuleStarts<'a> {
     end: i32,
     held: VecDeque<Start>,
     ghost of: { recurrence_of event.now ≡ Some rule } by { rule-prop (recurrence_of event.now) (Some rule) },
-    ghost rises: { Rises moment_cmp held.items } by { starts-prop held.items },
+    ghost rises: { Rises moment_cmp held.items } by { Rises-prop moment_cmp held.items },
     ghost are: { AreHeld (clocks_in zones) event.now rule window asked held.items } by { held-prop (clocks_in zones) event.now rule window asked held.items },
     ghost own: { IsCursorOf rule cursor } by { cursor-prop rule cursor },
     ghost looked: { HasLookedTo rule from asked cursor } by { looked-prop rule from asked cursor },
     ghost time: { IsTimeOf zones.zones.now event.now.start } by { time-prop zones.zones.now event.now.start },
     ghost first: { number rule.start ≡ number (local_of event.now.start.stamp) },
     ghost read: { midnight_number day ≤ place_of cursor },
-    ghost low: { neg_ℤ (pos 719_528) ≤ℤ day },
+    ghost low: { year_seconds 0 ≤ℤ midnight day },
     ghost asked_on: { day ≤ℤ asked },
     ghost asked_soon: { asked ≤ℤ (day +ℤ pos 1) },
     ghost asked_end: { asked ≤ℤ end },
@@ -115,7 +114,6 @@ fn is_ready(day: i32, held: &VecDeque<Start>) -> bool
 
 impl<'a> RuleStarts<'a> {
     ghost use Rattle.std.specs.Prelude.{◌≡◌, ◌+◌, ◌-◌, ◌<◌, ◌≤ℤ◌, false, length, slice_get, IfOk, OnOk, Some};
-    ghost use Rattle.ics_values.specs.Days.{day_index};
     ghost use Rattle.ics_rule.specs.Cursors.{looks_from, period_count, steps_of};
     ghost use Rattle.ics_series.specs.HeldMost.{most_in_days};
     ghost use Rattle.ics_series.specs.Listing.{IsIn};

@@ -3,12 +3,11 @@ ghost use Rattle.std.specs.Prelude.{◌≡◌, slice_get, All, IfOk, MatchOption
 ghost use Rattle.std.specs.List.Sorted.{IsSorted};
 ghost use Rattle.std.specs.Ordering.{int_cmp};
 ghost use Rattle.ics_series.specs.Entry.{entry_cmp};
-ghost use Rattle.ics_series.specs.EntryLaws.{Rises-prop};
 ghost use Rattle.ics_series.specs.EventLaws.{own-event-prop};
 ghost use Rattle.ics_series.specs.Exclusions.{AreExclusions};
 ghost use Rattle.ics_series.specs.Found.{moment_cmp, IsStart};
 ghost use Rattle.ics_series.specs.Merged.{cut};
-ghost use Rattle.ics_series.specs.Rising.{Rises};
+ghost use Rattle.ics_series.specs.Rising.{Rises, Rises-prop};
 ghost use Rattle.ics_series.specs.RuleFeed.{starts_left};
 ghost use Rattle.ics_series.specs.SeriesLaws.{known-prop, own-rule-prop, ruled-prop, taken-out-prop};
 ghost use Rattle.ics_series.specs.SeriesStarts.{earlier_of, first_asked, first_of, given_of, is_among, left, listed_apart, rule_asked, rule_left, AreKnown, HasOwnRule, HasRuled, HasSameRule, IsReady, IsRuleFrom};
@@ -51,7 +50,7 @@ pub(crate) struct Series<'a> {
     ghost known: { AreKnown (clocks_in zones) event.now window (left rule_starts listed) } by { known-prop (clocks_in zones) event.now window (left rule_starts listed) },
     ghost ruled: { HasRuled (clocks_in zones) event.now rule_starts (given_of (clocks_in zones) window event.now since overridden.items (left rule_starts listed)) } by { ruled-prop (clocks_in zones) event.now rule_starts (given_of (clocks_in zones) window event.now since overridden.items (left rule_starts listed)) },
     ghost own_rule: { HasOwnRule zones event.now window (first_of (clocks_in zones) window event.now since) rule_starts } by { own-rule-prop zones event.now window (first_of (clocks_in zones) window event.now since) rule_starts },
-    ghost rising: { Rises entry_cmp (given_of (clocks_in zones) window event.now since overridden.items (left rule_starts listed)) } by { Rises-prop (given_of (clocks_in zones) window event.now since overridden.items (left rule_starts listed)) },
+    ghost rising: { Rises entry_cmp (given_of (clocks_in zones) window event.now since overridden.items (left rule_starts listed)) } by { Rises-prop entry_cmp (given_of (clocks_in zones) window event.now since overridden.items (left rule_starts listed)) },
 }
 
 // The starts that are known from the beginning: those by RDATEs and, if there is no rule, the one at
@@ -150,10 +149,9 @@ fn is_among(instants: &[Moment], moment: Moment) -> bool
 }
 
 impl<'a> Series<'a> {
-    ghost use Rattle.std.specs.Prelude.{length, IfOk, OnErr};
+    ghost use Rattle.std.specs.Prelude.{IfOk, OnErr};
     ghost use Rattle.std.specs.Option.{option_map};
     ghost use Rattle.ics_series.specs.Entry.{Entry, entry_of};
-    ghost use Rattle.ics_series.specs.Holding.{rule_held, rule_looked};
     ghost use Rattle.ics_series.specs.Listing.{IsIn, IsListing};
     ghost use Rattle.ics_series.specs.SeriesFeed.{series_left, series_near, series_of, series_sources, source_of, IsSameSeries};
     ghost use Rattle.ics_series.specs.SeriesStarts.{wanted_by, IsKnown, IsSeriesMet, IsTaken};
@@ -222,26 +220,6 @@ impl<'a> Series<'a> {
             &self.window,
         )
     }
-
-    /// How many starts of the rule are held.
-    pub(crate) fn held(&self) -> usize
-        ensures { result ≡ length (rule_held self.now.rule_starts) }
-    {
-        match &self.rule_starts {
-            None => 0,
-            Some(starts) => starts.held(),
-        }
-    }
-
-    /// How many periods of the rule were looked at.
-    pub(crate) fn steps(&self) -> u64
-        ensures { result ≡ rule_looked self.now.rule_starts }
-    {
-        match &self.rule_starts {
-            None => 0,
-            Some(starts) => starts.steps(),
-        }
-    }
 }
 
 impl<'a> Coming for Series<'a> {
@@ -264,11 +242,17 @@ impl<'a> Holding for Series<'a> {
     ghost looked = { λ series. rule_looked series.rule_starts };
 
     fn held(&self) -> usize {
-        Series::held(self)
+        match &self.rule_starts {
+            None => 0,
+            Some(starts) => starts.held(),
+        }
     }
 
     fn steps(&self) -> u64 {
-        Series::steps(self)
+        match &self.rule_starts {
+            None => 0,
+            Some(starts) => starts.steps(),
+        }
     }
 }
 

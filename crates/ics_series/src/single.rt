@@ -1,5 +1,5 @@
 //! The occurrence of an event that starts once.
-ghost use Rattle.std.specs.Prelude.{◌≡◌, ◌<ℤ◌, pos};
+ghost use Rattle.std.specs.Prelude.{◌≡◌, ◌<ℤ◌};
 ghost use Rattle.ics_series.specs.Clocks.{instant};
 ghost use Rattle.ics_series.specs.EventLaws.{own-event-prop};
 ghost use Rattle.ics_series.specs.FileZones.{clocks_in, IsOwnEvent};

@@ -8,9 +8,8 @@ ghost use Rattle.std.specs.Vec.Iter.{into_iter_items};
 ghost use Rattle.ics_calendar.specs.Event.{said_by};
 ghost use Rattle.ics_series.specs.Clocks.{display_clock};
 ghost use Rattle.ics_series.specs.Entry.{entry_cmp, entry_of, key_rank};
-ghost use Rattle.ics_series.specs.EntryLaws.{Rises-prop};
 ghost use Rattle.ics_series.specs.Listing.{IsListing};
-ghost use Rattle.ics_series.specs.Rising.{Rises};
+ghost use Rattle.ics_series.specs.Rising.{Rises, Rises-prop};
 ghost use Rattle.ics_series.specs.Singles.{is_single, is_to_come, single_at, single_entry, AreSingle, AreSingle-prop, IsSingleToCome};
 ghost use Rattle.ics_series.specs.Spots.{event_at};
 ghost use Rattle.ics_series.specs.Versions.{is_override, seen, subject_cmp, subject_seen, AreChosen};
@@ -34,7 +33,7 @@ use std::vec::IntoIter;
 pub(crate) struct Singles<'a> {
     rest: IntoIter<Single<'a>, Global>,
     ghost single: { AreSingle (map single_entry (into_iter_items rest)) } by { AreSingle-prop (map single_entry (into_iter_items rest)) },
-    ghost rising: { Rises entry_cmp (map single_entry (into_iter_items rest)) } by { Rises-prop (map single_entry (into_iter_items rest)) },
+    ghost rising: { Rises entry_cmp (map single_entry (into_iter_items rest)) } by { Rises-prop entry_cmp (map single_entry (into_iter_items rest)) },
 }
 
 impl<'a> Singles<'a> {

@@ -1,6 +1,5 @@
 //! The starts of an event and what gives them.
 ghost use Rattle.std.specs.Prelude.{◌≡◌};
-ghost use Rattle.ics_series.specs.Found.{source_cmp};
 ghost use Rattle.ics_series.specs.Starts.{date_only, kind_of, local_of, time_at, time_of};
 
 use ics_calendar::{Rdate, Time};
@@ -27,26 +26,18 @@ pub(crate) struct Start {
 impl Start {
     ghost use Rattle.ics_series.specs.Found.{start_cmp};
 
-    // By instant, then by what gives the start.
+    // By instant, then by what gives the start: locals come first, in their order, and then RDATEs in
+    // the order of the file.
     pub(crate) fn compare(a: &Start, b: &Start) -> Ordering
         ensures { result ≡ start_cmp a.now b.now }
     {
-        match a.moment.cmp(&b.moment) {
-            Ordering::Equal => compare_sources(a.source, b.source),
-            order => order,
+        match (a.moment.cmp(&b.moment), a.source, b.source) {
+            (Ordering::Equal, StartSource::Kept(a), StartSource::Kept(b)) => a.cmp(&b),
+            (Ordering::Equal, StartSource::Kept(_), StartSource::Listed(_)) => Ordering::Less,
+            (Ordering::Equal, StartSource::Listed(_), StartSource::Kept(_)) => Ordering::Greater,
+            (Ordering::Equal, StartSource::Listed(a), StartSource::Listed(b)) => a.cmp(&b),
+            (order, _, _) => order,
         }
-    }
-}
-
-// Locals come first, in their order, and then RDATEs in the order of the file.
-fn compare_sources(a: StartSource, b: StartSource) -> Ordering
-    ensures { result ≡ source_cmp a b }
-{
-    match (a, b) {
-        (StartSource::Kept(a), StartSource::Kept(b)) => a.cmp(&b),
-        (StartSource::Kept(_), StartSource::Listed(_)) => Ordering::Less,
-        (StartSource::Listed(_), StartSource::Kept(_)) => Ordering::Greater,
-        (StartSource::Listed(a), StartSource::Listed(b)) => a.cmp(&b),
     }
 }
 

@@ -1,14 +1,13 @@
 //! The starts of an event by which it can meet a window.
-ghost use Rattle.std.specs.Prelude.{◌≡◌, ◌≤◌, ◌<ℤ◌, ◌≤ℤ◌, ◌+ℤ◌, ◌-ℤ◌, pos, neg_ℤ, None, All, IfOk};
+ghost use Rattle.std.specs.Prelude.{◌≡◌, ◌<ℤ◌, ◌≤ℤ◌, ◌+ℤ◌, ◌-ℤ◌, None, All, IfOk};
 ghost use Rattle.std.specs.Int.{int_max};
 ghost use Rattle.ics_values.specs.Days.{IsDayNumber};
-ghost use Rattle.ics_values.specs.Locals.{number, midnight, local_seconds, whole_days};
-ghost use Rattle.ics_series.specs.Found.{earliest, firsts_after, is_at, is_span_met, start_at, IsStart};
+ghost use Rattle.ics_values.specs.Locals.{midnight, local_seconds, whole_days};
+ghost use Rattle.ics_series.specs.Found.{earliest, firsts_after, is_span_met, start_at, IsStart};
 ghost use Rattle.ics_zone.specs.Observances.{is_until};
 ghost use Rattle.ics_series.specs.Starts.{time_at};
 ghost use Rattle.ics_series.specs.FileZones.{clocks_in, IsOwnEvent, IsTimeOf};
-ghost use Rattle.ics_rule.specs.PeriodNumbers.{rules_end};
-ghost use Rattle.ics_series.specs.WindowBounds.{window_last};
+ghost use Rattle.ics_series.specs.WindowBounds.{lasts_most, occurrence_first, window_last};
 
 use crate::instant::instant;
 use crate::lasting::seconds_lasting;
@@ -45,7 +44,7 @@ pub(crate) fn earliest(
     requires event { IsOwnEvent zones event.now }
     requires starts { All (IsStart (clocks_in zones) event.now) starts.now }
     ensures value { result ≡ earliest (clocks_in zones.entry) window.now event.now starts.now }
-    ensures late { neg_ℤ (pos 500_000_000_000) ≤ℤ result }
+    ensures late { (occurrence_first -ℤ lasts_most) ≤ℤ result }
     ensures early { result ≤ℤ window.now.to }
 {
     let mut earliest = window.from - seconds_lasting(zones, event);
@@ -84,7 +83,7 @@ pub(crate) fn is_until(until: Option<Moment>, moment: Moment) -> bool
 // not read from its beginning.
 pub(crate) fn first_nearby(first: Local, earliest: Moment) -> Local
     requires first { IsDayNumber first.day }
-    requires late { neg_ℤ (pos 500_000_000_000) ≤ℤ earliest }
+    requires late { (occurrence_first -ℤ lasts_most) ≤ℤ earliest }
     requires early { earliest ≤ℤ (window_last +ℤ whole_days 14) }
     ensures day { IsDayNumber result.day }
     ensures late { int_max (local_seconds first) (earliest -ℤ whole_days 7) ≤ℤ local_seconds result }
@@ -115,20 +114,10 @@ pub(crate) fn firsts(alloc: Global, starts: &[Start]) -> Result<Vec<Start>, Allo
     let mut firsts = Vec::new(alloc);
     let mut last = None;
     for start in starts {
-        if !is_at(last, start.moment) {
+        if last != Some(start.moment) {
             firsts.push(*start)?;
         }
         last = Some(start.moment);
     }
     Ok(firsts)
-}
-
-// Whether an instant is the last one.
-fn is_at(last: Option<Moment>, moment: Moment) -> bool
-    ensures { result ≡ is_at last moment }
-{
-    match last {
-        None => false,
-        Some(last) => last == moment,
-    }
 }

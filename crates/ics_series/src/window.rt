@@ -1,5 +1,5 @@
 //! The window of a listing.
-ghost use Rattle.std.specs.Prelude.{◌≡◌, ◌≤ℤ◌, ◌<ℤ◌, pos, neg_ℤ};
+ghost use Rattle.std.specs.Prelude.{◌≡◌, ◌≤ℤ◌, ◌<ℤ◌};
 ghost use Rattle.ics_series.specs.WindowBounds.{window_first, window_last};
 
 use crate::occurrence::Occurrence;

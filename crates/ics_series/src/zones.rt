@@ -1,8 +1,9 @@
 //! The zones by which the times of a file are read.
-ghost use Rattle.std.specs.Prelude.{◌≡◌, IsSome};
+ghost use Rattle.std.specs.Prelude.{◌≡◌, length, IsSome};
+ghost use Rattle.ics_calendar.specs.Event.{TimeBelow};
 ghost use Rattle.ics_series.specs.Clocks.{clock_at, zone_clock};
 ghost use Rattle.ics_zone.specs.ZoneSaid.{zone_said};
-ghost use Rattle.ics_series.specs.FileZones.{clocks_in, HasZoneIn};
+ghost use Rattle.ics_series.specs.FileZones.{clocks_in};
 
 use ics_calendar::Time;
 use ics_zone::{Display, Zone};
@@ -18,7 +19,7 @@ impl<'a> FileZones<'a> {
     // The zone of a time, if it has one of the file's.
     pub(crate) fn zone_of(self, time: Time) -> &'a Zone
         requires some { IsSome time.zone }
-        requires within { HasZoneIn self.zones.now time }
+        requires within { TimeBelow (length self.zones.now) time }
         ensures { zone_clock (zone_said result.now) ≡ clock_at (clocks_in self.entry).zones time.zone }
     {
         &self.zones[time.zone.unwrap() as usize]

@@ -19,26 +19,15 @@ moment-requires g c =
     let near : IsNear (g.P.Place.offset_at c.args.place.now c.args.start) = g.met.P.Place.near c.args.place.now c.args.start in
     (omega (arith, ints, shown, near), omega (arith, ints, shown, near))
 
-pub returns-clause-value : goal.returns-clause-value
-returns-clause-value g c =
+pub returns : goal.returns
+returns g c =
     let fits : SFits w64 c.args.start = c.ranges.start in
     let shown = simp to_z-of_z at c.local-local.ensures in
     let near : IsNear (g.P.Place.offset_at c.args.place.now c.args.start) = g.met.P.Place.near c.args.place.now c.args.start in
     let same : to_z w64 (of_z w64 c.moment.result) ≡ c.moment.result = omega (arith, ints, c.moment.type_inv) in
-    moved (g.P.Place.moment_at c.args.place.now) _ _ _ _ same c.moment.ensures (omega (arith, ints, shown, near))
-
-pub returns-clause-late : goal.returns-clause-late
-returns-clause-late g c =
-    let fits : SFits w64 c.args.start = c.ranges.start in
-    let shown = simp to_z-of_z at c.local-local.ensures in
-    let near : IsNear (g.P.Place.offset_at c.args.place.now c.args.start) = g.met.P.Place.near c.args.place.now c.args.start in
     let far = near-moved (g.P.Place.moment_at c.args.place.now) (g.met.P.Place.moment_near c.args.place.now) _ _ c.moment.ensures in
-    omega (arith, ints, shown, near, far)
-
-pub returns-clause-early : goal.returns-clause-early
-returns-clause-early g c =
-    let fits : SFits w64 c.args.start = c.ranges.start in
-    let shown = simp to_z-of_z at c.local-local.ensures in
-    let near : IsNear (g.P.Place.offset_at c.args.place.now c.args.start) = g.met.P.Place.near c.args.place.now c.args.start in
-    let far = near-moved (g.P.Place.moment_at c.args.place.now) (g.met.P.Place.moment_near c.args.place.now) _ _ c.moment.ensures in
-    omega (arith, ints, shown, near, far)
+    record {
+      value = moved (g.P.Place.moment_at c.args.place.now) _ _ _ _ same c.moment.ensures (omega (arith, ints, shown, near));
+      late = omega (arith, ints, shown, near, far);
+      early = omega (arith, ints, shown, near, far);
+    }

@@ -5,7 +5,7 @@ use Rattle.ics_calendar.specs.declared.time.Length.TheVariants.{Until}
 use Rattle.ics_calendar.specs.Event.{IsLasting, IsLength}
 use Rattle.ics_series.specs.Clocks.{instant}
 use Rattle.ics_series.specs.Finish.{seconds_by}
-use Rattle.ics_series.specs.FileZones.{clocks_in, IsEndOf}
+use Rattle.ics_series.specs.FileZones.{clocks_in, EndsNear, IsEndOf}
 use Rattle.ics_series.proofs.InstantLemmas.{early, late, lasting-seconds, until-seconds}
 use Rattle.ics_series.proofs.lasting.seconds_by.Goals as goal
 
@@ -31,12 +31,13 @@ returns-in_default-Until c =
     let b = late c.args.zones c.in_default-Until.end length.0 in
     let d = early c.args.zones c.args.first c.requires.first.is_time in
     let e = late c.args.zones c.args.first c.requires.first.is_time in
+    let near : EndsNear (clocks_in c.args.zones) c.args.first (Until c.in_default-Until.end) = subst (EndsNear (clocks_in c.args.zones) c.args.first) c.in_default-Until.is-1 c.requires.near in
     let value : to_z w64 (of_z w64 c.max.result) ≡ int_max (instant clocks end -ℤ instant clocks first) (pos 0) =
     omega (arith, ints, c.max.type_inv, c.max.ensures.value, c.instant.ensures, c.instant-in_default-Until.ensures, a, b, d, e, int_max_is) in
     record {
       value = value ∙ (until-seconds clocks first end first.stamp c.in_default-Until.not-Date-0 ∙ ap (seconds_by clocks first first.stamp) (sym c.in_default-Until.is-1));
       least = omega (arith, ints, value, int_max_is (instant clocks end -ℤ instant clocks first) (pos 0));
-      most = omega (arith, ints, value, a, b, d, e, int_max_is (instant clocks end -ℤ instant clocks first) (pos 0));
+      most = omega (arith, ints, value, near, int_max_is (instant clocks end -ℤ instant clocks first) (pos 0));
     }
 
 pub returns-in_default-Lasting : goal.returns-in_default-Lasting

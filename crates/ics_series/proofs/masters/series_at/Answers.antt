@@ -55,13 +55,14 @@ pub new-requires-clause-own : goal.new-requires-clause-own
 new-requires-clause-own c =
     own-event c.zones-zones.result c.event-event.result.now (search rules) (subst (λ zs. IsEventOf zs c.event-event.result.now) (sym c.zones-zones.ensures.zones) c.event-event.ensures.own)
 
-pub returns-clause-series : goal.returns-clause-series
-returns-clause-series c = λ version there.
+pub returns : goal.returns
+returns c =
     let files = map said_by c.args.files.now in
     let display = display_clock c.args.display.now in
     let after = option_map (λ key. key_rank key.now) c.args.after in
+    let event = c.event-event.result.now in
     let v = get_or c.args.chosen.now c.args.place none in
-    let stands = slice_get-get_or c.args.chosen.now c.args.place none c.requires.within in
+    let stands = there-in seen c.args.chosen.now c.args.place v (slice_get-get_or c.args.chosen.now c.args.place none c.requires.within) in
     let recurs : is_single c.event-event.result.now ≡ false = sym c.is_single.ensures ∙ c.if-is_single.false in
     let uid : c.as_slice.result.now ≡ c.event-event.result.now.uid = c.as_slice.ensures ∙ ap (λ (e : Event). e.uid) c.event.view_is in
     let uid-2 : c.as_slice-2.result.now ≡ c.event-event.result.now.uid = c.as_slice-2.ensures ∙ ap (λ (e : Event). e.uid) c.event.view_is in
@@ -71,31 +72,6 @@ returns-clause-series c = λ version there.
     (subst (λ u. IsSince (option_map (λ key. key_rank key.now) c.args.after) u c.since_of-since.result) uid c.since_of-since.ensures.since) in
     let is_event : IsEvent c.event-event.result.now = search rules in
     let are = subst (λ u. AreOverridden u (map seen c.args.chosen.now) c.in_ok-overridden.overridden.items) uid-2 c.in_ok-overridden.ensures.overridden in
-    subst (λ (v : Version). IsListing entry_cmp (IsOfVersion (map said_by c.args.files.now) (display_clock c.args.display.now) c.args.window (option_map (λ key. key_rank key.now) c.args.after) (seen v)) (series_of c.in_ok-series.series (series_left c.in_ok-series.series)))
-    (version-there c.args.chosen.now c.args.place none version c.requires.within there)
-    (series-listing files display c.args.window after c.args.chosen.now c.requires.chosen (seen v) (there-in seen c.args.chosen.now c.args.place v stands) c.event-event.result.now c.event-event.ensures.event recurs
-    c.zones-zones.result c.zones-zones.ensures.clocks is_event (to_z w64 (of_z w64 c.since_of-since.result)) since c.in_ok-overridden.overridden.items are
-    (series_of c.in_ok-series.series (series_left c.in_ok-series.series)) c.in_ok-series.ensures.listing)
-
-pub returns-clause-whole : goal.returns-clause-whole
-returns-clause-whole c = λ version there w.
-    let files = map said_by c.args.files.now in
-    let display = display_clock c.args.display.now in
-    let v = get_or c.args.chosen.now c.args.place none in
-    let stands = slice_get-get_or c.args.chosen.now c.args.place none c.requires.within in
-    let recurs : is_single c.event-event.result.now ≡ false = sym c.is_single.ensures ∙ c.if-is_single.false in
-    let uid : c.as_slice-2.result.now ≡ c.event-event.result.now.uid = c.as_slice-2.ensures ∙ ap (λ (e : Event). e.uid) c.event.view_is in
-    let is_event : IsEvent c.event-event.result.now = search rules in
-    let are = subst (λ u. AreOverridden u (map seen c.args.chosen.now) c.in_ok-overridden.overridden.items) uid c.in_ok-overridden.ensures.overridden in
-    subst (λ (v : Version). HasWhole (map said_by c.args.files.now) (display_clock c.args.display.now) w (seen v))
-    (version-there c.args.chosen.now c.args.place none version c.requires.within there)
-    (whole-version files display w c.args.chosen.now c.requires.chosen (seen v) (there-in seen c.args.chosen.now c.args.place v stands) c.event-event.result.now c.event-event.ensures.event recurs
-    c.zones-zones.result c.zones-zones.ensures.clocks is_event c.in_ok-overridden.overridden.items are)
-
-pub returns-clause-sources : goal.returns-clause-sources
-returns-clause-sources c = λ version there.
-    let recurs : is_single c.event-event.result.now ≡ false = sym c.is_single.ensures ∙ c.if-is_single.false in
-    let fits : to_z w64 (of_z w64 c.since_of-since.result) ≡ c.since_of-since.result = search rules in
     let m : Recurring = record { clocks = clocks_in c.zones-zones.result; event = c.event-event.result.now; window = c.args.window; since = to_z w64 (of_z w64 c.since_of-since.result) } in
     let is : IsSourceOf (map said_by c.args.files.now) (display_clock c.args.display.now) c.args.window (option_map (λ key. key_rank key.now) c.args.after) (seen (get_or c.args.chosen.now c.args.place none))
     (record { clocks = clocks_in c.zones-zones.result; event = c.event-event.result.now; window = c.args.window; since = to_z w64 (of_z w64 c.since_of-since.result) }) = record {
@@ -104,10 +80,24 @@ returns-clause-sources c = λ version there.
       clocks = c.zones-zones.ensures.clocks;
       window = refl;
       since = subst (IsFrom (option_map (λ key. key_rank key.now) c.args.after)) (sym fits) c.since_of-since.ensures.from;
-    } in (
-      m,
-      subst (λ (v : Version). IsSourceOf (map said_by c.args.files.now) (display_clock c.args.display.now) c.args.window (option_map (λ key. key_rank key.now) c.args.after) (seen v)
-          (record { clocks = clocks_in c.zones-zones.result; event = c.event-event.result.now; window = c.args.window; since = to_z w64 (of_z w64 c.since_of-since.result) }))
-          (version-there c.args.chosen.now c.args.place none version c.requires.within there) is,
-      c.in_ok-series.ensures.sources,
-    )
+    } in
+    record {
+      series = λ version there.
+          subst (λ (v : Version). IsListing entry_cmp (IsOfVersion (map said_by c.args.files.now) (display_clock c.args.display.now) c.args.window (option_map (λ key. key_rank key.now) c.args.after) (seen v)) (series_of c.in_ok-series.series (series_left c.in_ok-series.series)))
+          (version-there c.args.chosen.now c.args.place none version c.requires.within there)
+          (series-listing files display c.args.window after c.args.chosen.now c.requires.chosen (seen v) stands event c.event-event.ensures.event recurs
+          c.zones-zones.result c.zones-zones.ensures.clocks is_event (to_z w64 (of_z w64 c.since_of-since.result)) since c.in_ok-overridden.overridden.items are
+          (series_of c.in_ok-series.series (series_left c.in_ok-series.series)) c.in_ok-series.ensures.listing);
+      sources = λ version there. (
+        m,
+        subst (λ (v : Version). IsSourceOf (map said_by c.args.files.now) (display_clock c.args.display.now) c.args.window (option_map (λ key. key_rank key.now) c.args.after) (seen v)
+            (record { clocks = clocks_in c.zones-zones.result; event = c.event-event.result.now; window = c.args.window; since = to_z w64 (of_z w64 c.since_of-since.result) }))
+            (version-there c.args.chosen.now c.args.place none version c.requires.within there) is,
+        c.in_ok-series.ensures.sources,
+      );
+      whole = λ version there w.
+          subst (λ (v : Version). HasWhole (map said_by c.args.files.now) (display_clock c.args.display.now) w (seen v))
+          (version-there c.args.chosen.now c.args.place none version c.requires.within there)
+          (whole-version files display w c.args.chosen.now c.requires.chosen (seen v) stands event c.event-event.ensures.event recurs
+          c.zones-zones.result c.zones-zones.ensures.clocks is_event c.in_ok-overridden.overridden.items are);
+    }

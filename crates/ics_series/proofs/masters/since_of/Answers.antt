@@ -10,20 +10,27 @@ use Rattle.ics_series.proofs.AfterKeyLemmas.{since-next, since-none, since-start
 use Rattle.ics_series.proofs.SourceLemmas.{from-by, from-next, from-none}
 use Rattle.ics_series.proofs.masters.since_of.Goals as goal
 
-pub returns-in_default-clause-since : goal.returns-in_default-clause-since
-returns-in_default-clause-since c = since-none (option_map (λ key. key_rank key.now) c.args.after) c.args.uid.now (ap (option_map (λ key. key_rank key.now)) c.in_default.is)
+pub returns-in_default : goal.returns-in_default
+returns-in_default c =
+    let none = ap (option_map (λ key. key_rank key.now)) c.in_default.is in
+    record { since = since-none _ c.args.uid.now none; from = from-none _ _ none }
 
-pub returns-in-Greater-clause-since : goal.returns-in-Greater-clause-since
-returns-in-Greater-clause-since c =
+pub returns-in-Greater : goal.returns-in-Greater
+returns-in-Greater c =
     let key = key_rank c.in-Some.key.now in
+    let is = ap (option_map (λ key. key_rank key.now)) c.in-Some.is in
     let fits : to_z w64 (of_z w64 c.in-Some.key.now.start) ≡ c.in-Some.key.now.start = search rules in
     let order : c.then.result ≡ turned (key_rank c.in-Some.key.now) c.args.uid.now =
     c.then.ensures ∙ (λ i. ordering_then ((c.cmp.ensures ∙ ap (slice_cmp nat_cmp c.args.uid.now) c.as_slice.ensures.value) i) (c.cmp-2.ensures i)) in
-    since-start (option_map (λ key. key_rank key.now) c.args.after) key c.args.uid.now (to_z w64 (of_z w64 c.in-Some.key.now.start)) (ap (option_map (λ key. key_rank key.now)) c.in-Some.is) (sym order ∙ c.in-Greater.is) fits
+    record {
+      since = since-start _ key c.args.uid.now _ is (sym order ∙ c.in-Greater.is) fits;
+      from = from-by _ key _ is (omega (arith, ints, fits));
+    }
 
-pub returns-in_default-then-clause-since : goal.returns-in_default-then-clause-since
-returns-in_default-then-clause-since c =
+pub returns-in_default-then : goal.returns-in_default-then
+returns-in_default-then c =
     let key = key_rank c.in-Some.key.now in
+    let is = ap (option_map (λ key. key_rank key.now)) c.in-Some.is in
     let fits : SFits w64 c.in-Some.key.now.start = search rules in
     let own : to_z w64 (of_z w64 c.in-Some.key.now.start) ≡ c.in-Some.key.now.start = search rules in
     let given : to_z w64 (of_z w64 c.saturating_add.result) ≡ c.saturating_add.result = search rules in
@@ -31,23 +38,7 @@ returns-in_default-then-clause-since c =
     given ∙ (c.saturating_add.ensures ∙ ap (λ (t : ℤ). saturate_signed w64 (t +ℤ pos 1)) own) in
     let order : c.then.result ≡ turned (key_rank c.in-Some.key.now) c.args.uid.now =
     c.then.ensures ∙ (λ i. ordering_then ((c.cmp.ensures ∙ ap (slice_cmp nat_cmp c.args.uid.now) c.as_slice.ensures.value) i) (c.cmp-2.ensures i)) in
-    since-next (option_map (λ key. key_rank key.now) c.args.after) key c.args.uid.now (to_z w64 (of_z w64 c.saturating_add.result)) (ap (option_map (λ key. key_rank key.now)) c.in-Some.is) (λ g. c.in_default-then.not-Greater (order ∙ g)) next fits
-
-pub returns-in_default-clause-from : goal.returns-in_default-clause-from
-returns-in_default-clause-from c = from-none (option_map (λ key. key_rank key.now) c.args.after) _ (ap (option_map (λ key. key_rank key.now)) c.in_default.is)
-
-pub returns-in-Greater-clause-from : goal.returns-in-Greater-clause-from
-returns-in-Greater-clause-from c =
-    let fits : to_z w64 (of_z w64 c.in-Some.key.now.start) ≡ c.in-Some.key.now.start = search rules in
-    from-by (option_map (λ key. key_rank key.now) c.args.after) (key_rank c.in-Some.key.now) (to_z w64 (of_z w64 c.in-Some.key.now.start)) (ap (option_map (λ key. key_rank key.now)) c.in-Some.is) (omega (arith, ints, fits))
-
-pub returns-in_default-then-clause-from : goal.returns-in_default-then-clause-from
-returns-in_default-then-clause-from c =
-    let key = key_rank c.in-Some.key.now in
-    let fits : SFits w64 c.in-Some.key.now.start = search rules in
-    let own : to_z w64 (of_z w64 c.in-Some.key.now.start) ≡ c.in-Some.key.now.start = search rules in
-    let given : to_z w64 (of_z w64 c.saturating_add.result) ≡ c.saturating_add.result = search rules in
-    let next : to_z w64 (of_z w64 c.saturating_add.result) ≡ saturate_signed w64 (c.in-Some.key.now.start +ℤ pos 1) =
-    given ∙ (c.saturating_add.ensures ∙ ap (λ (t : ℤ). saturate_signed w64 (t +ℤ pos 1)) own) in
-    from-by (option_map (λ key. key_rank key.now) c.args.after) key (to_z w64 (of_z w64 c.saturating_add.result)) (ap (option_map (λ key. key_rank key.now)) c.in-Some.is)
-    (from-next key (to_z w64 (of_z w64 c.saturating_add.result)) next fits)
+    record {
+      since = since-next _ key c.args.uid.now _ is (λ g. c.in_default-then.not-Greater (order ∙ g)) next fits;
+      from = from-by _ key _ is (from-next key _ next fits);
+    }

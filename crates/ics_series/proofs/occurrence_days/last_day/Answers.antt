@@ -1,4 +1,4 @@
-use Rattle.std.specs.Prelude.{◌≤ℤ◌, neg_ℤ, if◌then◌else◌}
+use Rattle.std.specs.Prelude.{◌≤ℤ◌, if◌then◌else◌}
 use Rattle.std.proofs.Common.{◌≡◌, pos, ◌-ℤ◌, false, sym, ◌∙◌, ap, to_z, of_z, w32, w64, arith}
 use Rattle.std.specs.Int.{int_max, int_min}
 use Rattle.std.specs.Ordering.{int_eq}
@@ -9,26 +9,14 @@ use Rattle.ics_series.specs.Entry.{entry_of}
 use Rattle.ics_series.specs.WindowBounds.{occurrence_first}
 use Rattle.ics_series.proofs.occurrence_days.last_day.Goals as goal
 
-pub date_at-requires-clause-early : goal.date_at-requires-clause-early
-date_at-requires-clause-early c =
+pub date_at-requires : goal.date_at-requires
+date_at-requires c =
     let o = c.args.occurrence.now in
     let w = c.args.window.now in
-    let start = o.not_early in
-    let forward = o.forward in
-    let ordered = w.ordered in
-    let early = w.not_early in
-    omega (arith, ints, int_min_is, c.min-end.ensures.value, c.min-end.type_inv, start, forward, ordered, early)
-
-pub date_at-requires-clause-late : goal.date_at-requires-clause-late
-date_at-requires-clause-late c =
-    let o = c.args.occurrence.now in
-    let w = c.args.window.now in
-    let start = o.not_early in
-    let forward = o.forward in
-    let late = o.not_late in
-    let ordered = w.ordered in
-    let early = w.not_early in
-    omega (arith, ints, int_min_is, c.min-end.ensures.value, c.min-end.type_inv, start, forward, late, ordered, early)
+    record {
+      early = omega (arith, ints, int_min_is, c.min-end.ensures.value, c.min-end.type_inv, o.not_early, o.forward, w.ordered, w.not_early);
+      late = omega (arith, ints, int_min_is, c.min-end.ensures.value, c.min-end.type_inv, o.not_early, o.forward, o.not_late, w.ordered, w.not_early);
+    }
 
 pub returns-clause-day : goal.returns-clause-day
 returns-clause-day c =

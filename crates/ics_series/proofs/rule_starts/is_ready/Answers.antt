@@ -1,5 +1,5 @@
 use Rattle.std.specs.Prelude.{int_le}
-use Rattle.std.proofs.Common.{◌≡◌, ℤ, pos, ◌-ℤ◌, ◌*ℤ◌, ◌<◌, List, [], ◌∷◌, length, get_or, rules, w32, w64, to_z, of_z, ◌∙◌, ap, arith}
+use Rattle.std.proofs.Common.{◌≡◌, ℤ, pos, ◌-ℤ◌, ◌<◌, List, [], ◌∷◌, length, get_or, rules, w32, w64, to_z, of_z, ◌∙◌, ap, arith}
 use Rattle.std.proofs.lemmas.Int.{ints}
 use mir.Val.{SFits}
 use Rattle.ics_series.specs.declared.start.Start.{Start}

@@ -1,4 +1,4 @@
-use Rattle.std.proofs.Common.{◌≡◌, ◌≤ℤ◌, ◌+ℤ◌, ◌-ℤ◌, pos, w64, to_z, of_z, ◌∙◌, sym, ap, subst, rules, arith}
+use Rattle.std.proofs.Common.{◌≡◌, ◌≤ℤ◌, ◌+ℤ◌, ◌-ℤ◌, w64, to_z, of_z, ◌∙◌, sym, ap, subst, rules, arith}
 use Rattle.std.specs.Int.{int_max, int_min}
 use Rattle.std.proofs.lemmas.Int.{int_max_is, int_min_is, ints}
 use denote.Ref.{Bor}
@@ -6,7 +6,7 @@ use mir.Val.{SFits}
 use Rattle.ics_values.specs.Days.{IsDayNumber}
 use Rattle.ics_values.specs.declared.local.Local.{Local}
 use Rattle.ics_calendar.specs.declared.event.Event.{Event}
-use Rattle.ics_values.specs.Locals.{local_seconds}
+use Rattle.ics_values.specs.Locals.{local_seconds, whole_days}
 use Rattle.ics_series.specs.Found.{earliest}
 use Rattle.ics_series.specs.SeriesStarts.{first_asked}
 use Rattle.ics_series.specs.Starts.{local_of}
@@ -17,8 +17,8 @@ pub first_nearby-from-requires-clause-early : goal.first_nearby-from-requires-cl
 first_nearby-from-requires-clause-early c =
     omega (arith, ints, int_max_is, int_min_is, c.max.ensures.value, c.min.ensures.value, c.max.type_inv, c.min.type_inv, c.earliest-earliest.type_inv, c.earliest-earliest.ensures.early, c.args.window.not_late)
 
-pub returns-clause-from : goal.returns-clause-from
-returns-clause-from c =
+pub returns : goal.returns
+returns c =
     let event = c.args.event.now in
     let clocks = clocks_in c.args.zones in
     let local : c.local_of-first.result ≡ local_of event.start.stamp = c.local_of-first.ensures ∙ ap (λ (v : Event). local_of v.start.stamp) c.event.view_is in
@@ -28,47 +28,30 @@ returns-clause-from c =
     let max-fits : to_z w64 (of_z w64 c.max.result) ≡ c.max.result = omega (arith, ints, c.max.type_inv) in
     let since-fits : to_z w64 (of_z w64 c.args.since) ≡ c.args.since = omega (arith, ints) in
     let to-own : to_z w64 (of_z w64 c.args.window.to) ≡ c.args.window.to = omega (arith, ints, c.args.window.not_early, c.args.window.ordered, c.args.window.not_late) in
-    let to-fits : to_z w64 (of_z w64 (c.args.window.to +ℤ pos 1_209_600)) ≡ c.args.window.to +ℤ pos 1_209_600 = omega (arith, ints, c.args.window.not_early, c.args.window.ordered, c.args.window.not_late) in
-    let min : to_z w64 (of_z w64 c.min.result) ≡ int_min c.args.since (c.args.window.to +ℤ pos 1_209_600) =
-    min-fits ∙ (c.min.ensures.value ∙ (ap (λ t. int_min t (to_z w64 (of_z w64 (to_z w64 (of_z w64 c.args.window.to) +ℤ pos 1_209_600)))) since-fits
-    ∙ ap (int_min c.args.since) (ap (λ t. to_z w64 (of_z w64 (t +ℤ pos 1_209_600))) to-own ∙ to-fits))) in
+    let to-fits : to_z w64 (of_z w64 (c.args.window.to +ℤ whole_days 14)) ≡ c.args.window.to +ℤ whole_days 14 = omega (arith, ints, c.args.window.not_early, c.args.window.ordered, c.args.window.not_late) in
+    let min : to_z w64 (of_z w64 c.min.result) ≡ int_min c.args.since (c.args.window.to +ℤ whole_days 14) =
+    min-fits ∙ (c.min.ensures.value ∙ (ap (λ t. int_min t (to_z w64 (of_z w64 (to_z w64 (of_z w64 c.args.window.to) +ℤ whole_days 14)))) since-fits
+    ∙ ap (int_min c.args.since) (ap (λ t. to_z w64 (of_z w64 (t +ℤ whole_days 14))) to-own ∙ to-fits))) in
     let first : to_z w64 (of_z w64 c.max.result) ≡ first_asked clocks c.args.window event c.args.since c.args.listed.now =
     max-fits ∙ (c.max.ensures.value ∙ (ap (λ t. int_max t (to_z w64 (of_z w64 c.min.result))) (earliest-fits ∙ c.earliest-earliest.ensures.value)
     ∙ ap (int_max (earliest clocks c.args.window event c.args.listed.now)) min)) in
     record {
-      rule = c.new-rule.result;
-      has = search rules;
-      from = c.first_nearby-from.result;
-      day = c.first_nearby-from.ensures.day;
-      low = subst (λ t. local_seconds c.first_nearby-from.result ≤ℤ int_max (local_seconds (local_of event.start.stamp)) (t -ℤ pos 518_400)) first
-          (subst (λ (l : Local). local_seconds c.first_nearby-from.result ≤ℤ int_max (local_seconds l) (to_z w64 (of_z w64 c.max.result) -ℤ pos 518_400)) local c.first_nearby-from.ensures.low);
-      gives = c.new.ensures.left;
-    }
-
-pub returns-clause-own : goal.returns-clause-own
-returns-clause-own c =
-    let event = c.args.event.now in
-    let clocks = clocks_in c.args.zones in
-    let local : c.local_of-first.result ≡ local_of event.start.stamp = c.local_of-first.ensures ∙ ap (λ (v : Event). local_of v.start.stamp) c.event.view_is in
-    let fits : SFits w64 c.args.since = c.ranges.since in
-    let earliest-fits : to_z w64 (of_z w64 c.earliest-earliest.result) ≡ c.earliest-earliest.result = omega (arith, ints, c.earliest-earliest.type_inv) in
-    let min-fits : to_z w64 (of_z w64 c.min.result) ≡ c.min.result = omega (arith, ints, c.min.type_inv) in
-    let max-fits : to_z w64 (of_z w64 c.max.result) ≡ c.max.result = omega (arith, ints, c.max.type_inv) in
-    let since-fits : to_z w64 (of_z w64 c.args.since) ≡ c.args.since = omega (arith, ints) in
-    let to-own : to_z w64 (of_z w64 c.args.window.to) ≡ c.args.window.to = omega (arith, ints, c.args.window.not_early, c.args.window.ordered, c.args.window.not_late) in
-    let to-fits : to_z w64 (of_z w64 (c.args.window.to +ℤ pos 1_209_600)) ≡ c.args.window.to +ℤ pos 1_209_600 = omega (arith, ints, c.args.window.not_early, c.args.window.ordered, c.args.window.not_late) in
-    let min : to_z w64 (of_z w64 c.min.result) ≡ int_min c.args.since (c.args.window.to +ℤ pos 1_209_600) =
-    min-fits ∙ (c.min.ensures.value ∙ (ap (λ t. int_min t (to_z w64 (of_z w64 (to_z w64 (of_z w64 c.args.window.to) +ℤ pos 1_209_600)))) since-fits
-    ∙ ap (int_min c.args.since) (ap (λ t. to_z w64 (of_z w64 (t +ℤ pos 1_209_600))) to-own ∙ to-fits))) in
-    let first : to_z w64 (of_z w64 c.max.result) ≡ first_asked clocks c.args.window event c.args.since c.args.listed.now =
-    max-fits ∙ (c.max.ensures.value ∙ (ap (λ t. int_max t (to_z w64 (of_z w64 c.min.result))) (earliest-fits ∙ c.earliest-earliest.ensures.value)
-    ∙ ap (int_max (earliest clocks c.args.window event c.args.listed.now)) min)) in
-    record {
-      zones_are = c.new.ensures.zones;
-      event_is = ap (λ (b : Bor Event). b.now) c.new.ensures.event;
-      window_is = c.new.ensures.window;
-      day = subst (λ (l : Local). IsDayNumber l.day) (sym c.new.ensures.from) c.first_nearby-from.ensures.day;
-      late = subst (λ (l : Local). int_max (local_seconds (local_of event.start.stamp)) (first_asked clocks c.args.window event c.args.since c.args.listed.now -ℤ pos 604_800) ≤ℤ local_seconds l) (sym c.new.ensures.from)
-          (subst (λ t. int_max (local_seconds (local_of event.start.stamp)) (t -ℤ pos 604_800) ≤ℤ local_seconds c.first_nearby-from.result) first
-          (subst (λ (l : Local). int_max (local_seconds l) (to_z w64 (of_z w64 c.max.result) -ℤ pos 604_800) ≤ℤ local_seconds c.first_nearby-from.result) local c.first_nearby-from.ensures.late));
+      own = record {
+        zones_are = c.new.ensures.zones;
+        event_is = ap (λ (b : Bor Event). b.now) c.new.ensures.event;
+        window_is = c.new.ensures.window;
+        day = subst (λ (l : Local). IsDayNumber l.day) (sym c.new.ensures.from) c.first_nearby-from.ensures.day;
+        late = subst (λ (l : Local). int_max (local_seconds (local_of event.start.stamp)) (first_asked clocks c.args.window event c.args.since c.args.listed.now -ℤ whole_days 7) ≤ℤ local_seconds l) (sym c.new.ensures.from)
+            (subst (λ t. int_max (local_seconds (local_of event.start.stamp)) (t -ℤ whole_days 7) ≤ℤ local_seconds c.first_nearby-from.result) first
+            (subst (λ (l : Local). int_max (local_seconds l) (to_z w64 (of_z w64 c.max.result) -ℤ whole_days 7) ≤ℤ local_seconds c.first_nearby-from.result) local c.first_nearby-from.ensures.late));
+      };
+      from = record {
+        rule = c.new-rule.result;
+        has = search rules;
+        from = c.first_nearby-from.result;
+        day = c.first_nearby-from.ensures.day;
+        low = subst (λ t. local_seconds c.first_nearby-from.result ≤ℤ int_max (local_seconds (local_of event.start.stamp)) (t -ℤ whole_days 6)) first
+            (subst (λ (l : Local). local_seconds c.first_nearby-from.result ≤ℤ int_max (local_seconds l) (to_z w64 (of_z w64 c.max.result) -ℤ whole_days 6)) local c.first_nearby-from.ensures.low);
+        gives = c.new.ensures.left;
+      };
     }

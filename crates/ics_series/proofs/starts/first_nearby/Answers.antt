@@ -1,4 +1,4 @@
-use Rattle.std.proofs.Common.{pos, ◌-ℤ◌, w64, ap, arith}
+use Rattle.std.proofs.Common.{◌-ℤ◌, w64, ap, arith}
 use Rattle.std.proofs.lemmas.Int.{ints, int_max_is}
 use mir.Val.{SFits}
 use Rattle.ics_values.specs.declared.local.Local.{Local}
@@ -22,27 +22,17 @@ returns-then-day-first-clause-late c =
     let greater = int_max_is (local_seconds c.args.first) (c.args.earliest -ℤ whole_days 7) in
     omega (arith, ints, greater, under.0, under.1, c.args.first.second_in, c.requires.first.0, c.requires.first.1, c.requires.late, c.requires.early)
 
-pub returns-else-day-first-clause-day : goal.returns-else-day-first-clause-day
-returns-else-day-first-clause-day c =
+pub returns-else-day-first : goal.returns-else-day-first
+returns-else-day-first c =
     let fits : SFits w64 c.args.earliest = c.ranges.earliest in
     let under = day-under _ c.of_seconds-day.result.day c.of_seconds-day.ensures.day in
-    let day = ap (λ (l : Local). l.day) c.at.ensures in (
-      omega (arith, ints, day, under.0, under.1, c.requires.first.0, c.requires.first.1, c.requires.late, c.requires.early),
-      omega (arith, ints, day, under.0, under.1, c.requires.first.0, c.requires.first.1, c.requires.late, c.requires.early),
-    )
-
-pub returns-else-day-first-clause-late : goal.returns-else-day-first-clause-late
-returns-else-day-first-clause-late c =
-    let fits : SFits w64 c.args.earliest = c.ranges.earliest in
-    let under = day-under _ c.of_seconds-day.result.day c.of_seconds-day.ensures.day in
+    let day = ap (λ (l : Local). l.day) c.at.ensures in
     let at = ap (λ (l : Local). local_seconds l) c.at.ensures in
-    let greater = int_max_is (local_seconds c.args.first) (c.args.earliest -ℤ whole_days 7) in
-    omega (arith, ints, greater, at, under.0, under.1, c.args.first.second_in, c.requires.first.0, c.requires.first.1, c.requires.late, c.requires.early)
-
-pub returns-else-day-first-clause-low : goal.returns-else-day-first-clause-low
-returns-else-day-first-clause-low c =
-    let fits : SFits w64 c.args.earliest = c.ranges.earliest in
-    let under = day-under _ c.of_seconds-day.result.day c.of_seconds-day.ensures.day in
-    let at = ap (λ (l : Local). local_seconds l) c.at.ensures in
-    let greater = int_max_is (local_seconds c.args.first) (c.args.earliest -ℤ whole_days 6) in
-    omega (arith, ints, greater, at, under.0, under.1, c.requires.first.0, c.requires.first.1, c.requires.late, c.requires.early)
+    let late = int_max_is (local_seconds c.args.first) (c.args.earliest -ℤ whole_days 7) in
+    let low = int_max_is (local_seconds c.args.first) (c.args.earliest -ℤ whole_days 6) in
+    let first = c.requires.first in
+    record {
+      day = (omega (arith, ints, day, under.0, under.1, first.0, first.1, c.requires.late, c.requires.early), omega (arith, ints, day, under.0, under.1, first.0, first.1, c.requires.late, c.requires.early));
+      late = omega (arith, ints, late, at, under.0, under.1, c.args.first.second_in, first.0, first.1, c.requires.late, c.requires.early);
+      low = omega (arith, ints, low, at, under.0, under.1, first.0, first.1, c.requires.late, c.requires.early);
+    }

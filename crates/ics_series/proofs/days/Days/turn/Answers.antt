@@ -1,4 +1,4 @@
-use Rattle.std.proofs.Common.{◌≡◌, pos, ◌+ℤ◌, ◌-ℤ◌, map, None, refl, arith, to_z, of_z, w32}
+use Rattle.std.proofs.Common.{◌≡◌, pos, ◌+ℤ◌, map, None, arith, to_z, of_z, w32}
 use Rattle.std.proofs.Math.Bridge.{le_prop}
 use Rattle.std.proofs.Math.Logic.{∥∥₁_elim}
 use Rattle.std.proofs.lemmas.Int.{ints}
@@ -10,29 +10,22 @@ use Rattle.ics_series.specs.Clocks.{display_clock}
 use Rattle.ics_series.specs.DayMasters.{agenda_sources, scope_in}
 use Rattle.ics_series.specs.Sources.{recurring}
 use Rattle.ics_series.proofs.AheadLemmas.{ahead-turned}
-use Rattle.ics_series.proofs.DayLemmas.{day-under}
+use Rattle.ics_series.proofs.DayLemmas.{day-within}
 use Rattle.ics_series.proofs.DayStepLemmas.{from-later, looked-next}
 use Rattle.ics_series.proofs.MasterSumLemmas.{searched-masters}
-use Rattle.ics_values.specs.Locals.{day_of_local}
 use Rattle.ics_series.proofs.days.Days.turn.Goals as goal
 
 pub invariant_of-drop : goal.invariant_of-drop
 invariant_of-drop c =
     let self = c.args.self.now in
     let w = self.window in
-    let first = day-under w.from (day_of_local w.from) refl in
-    let last = day-under (w.to -ℤ pos 1) (day_of_local (w.to -ℤ pos 1)) refl in
-    let top = first.1 in
-    let low = last.0 in
-    let early = w.not_early in
-    let late = w.not_late in
     let more = c.requires.more in
-    let from = self.not_before in
-    let next : to_z w32 (of_z w32 (to_z w32 (of_z w32 c.args.self.now.day) +ℤ pos 1)) ≡ c.args.self.now.day +ℤ pos 1 = omega (arith, ints, top, low, early, late, more, from) in
+    let within = day-within w self.day self.not_before (omega (arith, ints, more)) in
+    let next : to_z w32 (of_z w32 (to_z w32 (of_z w32 c.args.self.now.day) +ℤ pos 1)) ≡ c.args.self.now.day +ℤ pos 1 = omega (arith, ints, within.0, within.1, w.not_early, w.not_late) in
     let scope = scope_in (map said_by self.files.now) (display_clock self.display.now) self.window self.after in
     let begun = self.begun in
     record {
-      not_before = omega (arith, ints, next, from);
+      not_before = omega (arith, ints, next, self.not_before);
       begun = omega (arith, ints, next, begun);
       masters =
           ∣ searched-masters scope (to_z w32 (of_z w32 (to_z w32 (of_z w32 c.args.self.now.day) +ℤ pos 1)))
@@ -51,28 +44,16 @@ pub returns-clause-day : goal.returns-clause-day
 returns-clause-day c =
     let self = c.args.self.now in
     let w = self.window in
-    let first = day-under w.from (day_of_local w.from) refl in
-    let last = day-under (w.to -ℤ pos 1) (day_of_local (w.to -ℤ pos 1)) refl in
-    let top = first.1 in
-    let low = last.0 in
-    let early = w.not_early in
-    let late = w.not_late in
     let more = c.requires.more in
-    let from = self.not_before in
-    omega (arith, ints, top, low, early, late, more, from)
+    let within = day-within w self.day self.not_before (omega (arith, ints, more)) in
+    omega (arith, ints, within.0, within.1, w.not_early, w.not_late)
 
 pub returns-clause-ahead : goal.returns-clause-ahead
 returns-clause-ahead c = λ list a.
     let self = c.args.self.now in
     let w = self.window in
-    let first = day-under w.from (day_of_local w.from) refl in
-    let last = day-under (w.to -ℤ pos 1) (day_of_local (w.to -ℤ pos 1)) refl in
-    let top = first.1 in
-    let low = last.0 in
-    let early = w.not_early in
-    let late = w.not_late in
     let more = c.requires.more in
-    let from = self.not_before in
-    let next : to_z w32 (of_z w32 (to_z w32 (of_z w32 c.args.self.now.day) +ℤ pos 1)) ≡ c.args.self.now.day +ℤ pos 1 = omega (arith, ints, top, low, early, late, more, from) in
+    let within = day-within w self.day self.not_before (omega (arith, ints, more)) in
+    let next : to_z w32 (of_z w32 (to_z w32 (of_z w32 c.args.self.now.day) +ℤ pos 1)) ≡ c.args.self.now.day +ℤ pos 1 = omega (arith, ints, within.0, within.1, w.not_early, w.not_late) in
     ahead-turned (map said_by self.files.now) (display_clock self.display.now) (offset_near (zone_of self.display.now)) self.window
     self.day _ next c.near_day-near.result c.near_day-near.ensures (agenda_coming self.agenda) (agenda_coming c.in_ok-agenda.agenda) c.requires.none c.in_ok-agenda.ensures.listing list a

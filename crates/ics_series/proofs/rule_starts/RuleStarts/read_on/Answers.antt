@@ -1,4 +1,4 @@
-use Rattle.std.proofs.Common.{◌≡◌, ◌≤◌, ◌+ℤ◌, pos, w32, to_z, of_z, sym, ap, subst, arith}
+use Rattle.std.proofs.Common.{◌≡◌, ◌≤◌, ◌+ℤ◌, pos, w32, to_z, of_z, sym, ap, subst, arith, rules, max}
 use Rattle.std.proofs.lemmas.Int.{ints}
 use Rattle.ics_values.specs.Days.{IsDayNumber}
 use Rattle.ics_values.specs.declared.local.Local.{Local}
@@ -70,7 +70,7 @@ invariant_of-self-in-None c =
       time = s.time;
       first = s.first;
       read = omega (arith, c.in-None.ensures.next.1, at);
-      low = range.0;
+      low = omega (arith, ints, range.0);
       asked_on = omega (arith, ints);
       asked_soon = omega (arith, ints);
       asked_end = on.1;
@@ -125,37 +125,21 @@ invariant_of-self-in-Some c =
       soon = s.soon;
     }
 
-pub returns-in-None-clause-same : goal.returns-in-None-clause-same
-returns-in-None-clause-same c =
+pub returns-in-None : goal.returns-in-None
+returns-in-None c =
     let s = c.args.self.now in
     let bound = to_z w32 (of_z w32 c.bound-bound.result) in
     let is : to_z w32 (of_z w32 c.bound-bound.result) ≡ bound_of c.args.self.now.day c.args.self.now.end c.args.self.now.held.items = omega (arith, ints, c.bound-bound.type_inv, c.bound-bound.ensures) in
     let at : number c.at.result ≡ midnight_number (to_z w32 (of_z w32 c.bound-bound.result)) = ap (λ (l : Local). number l) c.at.ensures in
-    none-same s c.requires bound is c.reserve.new.self.items (place_of c.next.new.self) c.reserve.ensures.items (omega (arith, c.in-None.ensures.next.1, at))
-    (subst (NoneKept s.rule (place_of s.cursor)) at c.in-None.ensures.next.0)
+    let place : place_of c.next.new.self ≡ max (place_of c.args.self.now.cursor) (midnight_number (to_z w32 (of_z w32 c.bound-bound.result))) = omega (arith, c.in-None.ensures.next.1, at) in
+    record {
+      same = none-same s c.requires bound is c.reserve.new.self.items (place_of c.next.new.self) c.reserve.ensures.items place (subst (NoneKept s.rule (place_of s.cursor)) at c.in-None.ensures.next.0);
+      source = search rules;
+      less = none-less s c.requires bound is (place_of c.next.new.self) place;
+    }
 
-pub returns-in-None-clause-less : goal.returns-in-None-clause-less
-returns-in-None-clause-less c =
-    let s = c.args.self.now in
-    let bound = to_z w32 (of_z w32 c.bound-bound.result) in
-    let is : to_z w32 (of_z w32 c.bound-bound.result) ≡ bound_of c.args.self.now.day c.args.self.now.end c.args.self.now.held.items = omega (arith, ints, c.bound-bound.type_inv, c.bound-bound.ensures) in
-    let at : number c.at.result ≡ midnight_number (to_z w32 (of_z w32 c.bound-bound.result)) = ap (λ (l : Local). number l) c.at.ensures in
-    none-less s c.requires bound is (place_of c.next.new.self) (omega (arith, c.in-None.ensures.next.1, at))
-
-pub returns-in-Some-clause-same : goal.returns-in-Some-clause-same
-returns-in-Some-clause-same c =
-    let s = c.args.self.now in
-    let bound = to_z w32 (of_z w32 c.bound-bound.result) in
-    let is : to_z w32 (of_z w32 c.bound-bound.result) ≡ bound_of c.args.self.now.day c.args.self.now.end c.args.self.now.held.items = omega (arith, ints, c.bound-bound.type_inv, c.bound-bound.ensures) in
-    let at : number c.at.result ≡ midnight_number (to_z w32 (of_z w32 c.bound-bound.result)) = ap (λ (l : Local). number l) c.at.ensures in
-    let a = c.in-Some.local in
-    let next : IsNextKept c.args.self.now.rule (place_of c.args.self.now.cursor) (midnight_number (to_z w32 (of_z w32 c.bound-bound.result))) (number c.in-Some.local) =
-    subst (λ n. IsNextKept s.rule (place_of s.cursor) n (number c.in-Some.local)) at c.in-Some.ensures.next.0 in
-    one-same s c.requires bound is a c.in-Some.ensures.day next c.reserve.new.self.items c.hold.new.held.items c.reserve.ensures.items c.hold.ensures (place_of c.next.new.self)
-    (omega (arith, c.in-Some.ensures.next.1))
-
-pub returns-in-Some-clause-less : goal.returns-in-Some-clause-less
-returns-in-Some-clause-less c =
+pub returns-in-Some : goal.returns-in-Some
+returns-in-Some c =
     let s = c.args.self.now in
     let bound = to_z w32 (of_z w32 c.bound-bound.result) in
     let is : to_z w32 (of_z w32 c.bound-bound.result) ≡ bound_of c.args.self.now.day c.args.self.now.end c.args.self.now.held.items = omega (arith, ints, c.bound-bound.type_inv, c.bound-bound.ensures) in
@@ -164,5 +148,9 @@ returns-in-Some-clause-less c =
     let next : IsNextKept c.args.self.now.rule (place_of c.args.self.now.cursor) (midnight_number (to_z w32 (of_z w32 c.bound-bound.result))) (number c.in-Some.local) =
     subst (λ n. IsNextKept s.rule (place_of s.cursor) n (number c.in-Some.local)) at c.in-Some.ensures.next.0 in
     let h = c.in-Some.ensures.day in
-    one-less s c.requires bound is a h next (to_z w32 (of_z w32 c.in-Some.local.day)) (place_of c.next.new.self) (omega (arith, ints, h.0, h.1))
-    (omega (arith, c.in-Some.ensures.next.1))
+    let place = c.in-Some.ensures.next.1 in
+    record {
+      same = one-same s c.requires bound is a h next c.reserve.new.self.items c.hold.new.held.items c.reserve.ensures.items c.hold.ensures (place_of c.next.new.self) (omega (arith, place));
+      source = search rules;
+      less = one-less s c.requires bound is a h next (to_z w32 (of_z w32 c.in-Some.local.day)) (place_of c.next.new.self) (omega (arith, ints, h.0, h.1)) (omega (arith, place));
+    }

@@ -1,0 +1,32 @@
+-- Case distinctions of options, tests and orders.
+use Rattle.std.proofs.Common.{◌≡◌, ℕ, suc, ◌<◌, ℤ, ◌⊎◌, Bool, true, false, not, Some, refl, arith}
+use Rattle.std.specs.Ordering.{int_eq, is_eq, is_gt, ordering_then}
+use Rattle.std.specs.declared.cmp.Ordering.{Ordering}
+use Rattle.std.specs.declared.cmp.Ordering.TheVariants.{Less, Equal, Greater}
+use Rattle.std.proofs.lemmas.Int.{ints}
+
+pub some-same : {X : Type 0} (x y : X) → Some x ≡ Some y → x ≡ y
+some-same x y h = cc
+
+pub not-true : (b : Bool) → not b ≡ true → b ≡ false
+not-true true e = let f : false ≡ true = e in absurd cc
+not-true false e = refl
+
+pub equal-true : (a b : ℤ) → int_eq a b ≡ true → a ≡ b
+equal-true a b e = grind (arith, ints)
+
+pub true-equal : (a b : ℤ) → a ≡ b → int_eq a b ≡ true
+true-equal a b e = grind (arith, ints)
+
+pub eq-Equal : (c : Ordering) → is_eq c ≡ true → c ≡ Equal
+eq-Equal Less e = let f : false ≡ true = e in cc
+eq-Equal Equal e = refl
+eq-Equal Greater e = let f : false ≡ true = e in cc
+
+pub up-to-front : (c d : Ordering) → is_gt (ordering_then c d) ≡ false → is_gt c ≡ false
+up-to-front Less d h = refl
+up-to-front Equal d h = refl
+up-to-front Greater d h = h
+
+pub below-or-last : (m n : ℕ) → m < suc n → (m < n) ⊎ (m ≡ n)
+below-or-last m n l = grind arith
