@@ -66,7 +66,8 @@ some_periods Monthly = omega arith
 some_periods Yearly = omega arith
 
 -- so many periods are whole steps
-pub calendar_step : (q : EffectiveRule) (periods : ℕ) → IsCalendarRound q periods → (first p : ℕ) → first ≤ p → is_stepped first q.interval (p + periods) ≡ is_stepped first q.interval p
+pub calendar_step : (q : EffectiveRule) (periods : ℕ) → IsCalendarRound q periods → (first p : ℕ) → first ≤ p →
+    is_stepped first q.interval (p + periods) ≡ is_stepped first q.interval p
 calendar_step q periods round first p l =
     let parts = div-add-mod' periods q.interval in
     let swap = mul_comm q.interval (periods / q.interval) in
@@ -79,9 +80,11 @@ calendar_is q periods round = record {
   some = positive round.cycles (calendar_periods q.frequency) periods round.whole round.some (some_periods q.frequency);
   step = calendar_step q periods round;
   period = λ n. period_again q.frequency (monday_zero q.week_start) n round.cycles ∙ ap (λ x. period_in q n + x) (sym round.whole);
-  first = λ p l. ap (λ x. first_local q.frequency (monday_zero q.week_start) (p + x)) round.whole ∙ first_again q.frequency (monday_zero q.week_start) p round.cycles l;
+  first = λ p l. ap (λ x. first_local q.frequency (monday_zero q.week_start) (p + x)) round.whole
+      ∙ first_again q.frequency (monday_zero q.week_start) p round.cycles l;
   let_in = λ n. let_in_alike q (n + round.cycles * 12_622_780_800) n
-      (ap (lets_date q) (let day : (n + round.cycles * 12_622_780_800) / 86_400 ≡ n / 86_400 + 146_097 * round.cycles = omega arith in day) ∙ date_again q round.cycles (day_of n) round.some)
+      (ap (lets_date q) (let day : (n + round.cycles * 12_622_780_800) / 86_400 ≡ n / 86_400 + 146_097 * round.cycles = omega arith in day)
+      ∙ date_again q round.cycles (day_of n) round.some)
       (clock_again q n round.cycles);
 }
   where
@@ -90,6 +93,7 @@ calendar_is q periods round = record {
     positive zero b c e h l = absurd (omega (arith, h))
     positive (suc a) zero c e h l = absurd (omega (arith, l))
 
-pub even_of_calendar : (q : EffectiveRule) (o : Option ℕ) → MatchOption o (Unit {0}) (IsCalendarRound q) → MatchOption o (Unit {0}) (λ k. (start : ℕ) → IsEvenRound q start k)
+pub even_of_calendar : (q : EffectiveRule) (o : Option ℕ) → MatchOption o (Unit {0}) (IsCalendarRound q) →
+    MatchOption o (Unit {0}) (λ k. (start : ℕ) → IsEvenRound q start k)
 even_of_calendar q None t = tt
 even_of_calendar q (Some k) t = λ start. even_of_round q start k (t.cycles * 12_622_780_800) (calendar_is q k t)

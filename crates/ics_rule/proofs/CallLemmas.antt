@@ -11,11 +11,13 @@ use Rattle.ics_rule.specs.Calls.{AreCalls, Call, FewSteps, IsAnswer}
 use Rattle.ics_rule.proofs.CursorLemmas.{few_steps}
 
 -- what is known after a call ends at its bound
-known_within : (r : Recurrence) (bound : ℕ) (answer : Option Local) (before now : Cursor) → IsAnswer r bound answer before now → known_to (option_map number answer) bound ≤ bound
+known_within : (r : Recurrence) (bound : ℕ) (answer : Option Local) (before now : Cursor) → IsAnswer r bound answer before now →
+    known_to (option_map number answer) bound ≤ bound
 known_within r bound None before now is = omega arith
 known_within r bound (Some local) before now is = omega (arith, is.0.in_bound)
 
-calls_looked : (r : Recurrence) (a b : ℕ) (calls : List Call) (before now : Cursor) → AreCalls r b calls before now → IsCursorOf r before × HasLooked r before a b → IsCursorOf r now × HasLooked r now a b
+calls_looked : (r : Recurrence) (a b : ℕ) (calls : List Call) (before now : Cursor) → AreCalls r b calls before now →
+    IsCursorOf r before × HasLooked r before a b → IsCursorOf r now × HasLooked r now a b
 calls_looked r a b [] before now are contains = subst (λ c. IsCursorOf r c × HasLooked r c a b) (sym are) contains
 calls_looked r a b (call ∷ calls) before now are contains =
     let within = known_within r (number call.bound) call.answer before call.now are.0.next in

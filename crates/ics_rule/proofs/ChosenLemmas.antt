@@ -19,7 +19,8 @@ pub no_step : (q : EffectiveRule) (start n : ℕ) → is_stepped (period_in q st
 no_step q start n e = ap (λ x. x && lets_date q (day_of n) && lets_clock q n && is_placed q start (lists_none_wide q.positions) n) e
 
 -- nor is what a rule leaves out in a step
-pub not_let_in : (q : EffectiveRule) (start n : ℕ) → (is_stepped (period_in q start) q.interval (period_in q n) ≡ true → (lets_date q (day_of n) && lets_clock q n) ≡ false) → is_chosen q start n ≡ false
+pub not_let_in : (q : EffectiveRule) (start n : ℕ) →
+    (is_stepped (period_in q start) q.interval (period_in q n) ≡ true → (lets_date q (day_of n) && lets_clock q n) ≡ false) → is_chosen q start n ≡ false
 not_let_in q start n none = by_step (is_stepped (period_in q start) q.interval (period_in q n)) refl
   where
     all_out : (a b c d : Bool) → (b && c) ≡ false → (a && b && c && d) ≡ false
@@ -29,11 +30,13 @@ not_let_in q start n none = by_step (is_stepped (period_in q start) q.interval (
     all_out true true true d h = absurd (cc)
 
     by_step : (b : Bool) → is_stepped (period_in q start) q.interval (period_in q n) ≡ b → is_chosen q start n ≡ false
-    by_step true e = all_out (is_stepped (period_in q start) q.interval (period_in q n)) (lets_date q (day_of n)) (lets_clock q n) (is_placed q start (lists_none_wide q.positions) n) (none e)
+    by_step true e = all_out (is_stepped (period_in q start) q.interval (period_in q n)) (lets_date q (day_of n)) (lets_clock q n)
+        (is_placed q start (lists_none_wide q.positions) n) (none e)
     by_step false e = no_step q start n e
 
 -- the candidates of a period that lies a multiple of the interval from the start's are what the rule lets in there
-pub let_in : (q : EffectiveRule) (start number n : ℕ) → is_stepped (period_in q start) q.interval number ≡ true → period_in q n ≡ number → is_candidate_in q start n ≡ is_let_in q number n
+pub let_in : (q : EffectiveRule) (start number n : ℕ) → is_stepped (period_in q start) q.interval number ≡ true → period_in q n ≡ number →
+    is_candidate_in q start n ≡ is_let_in q number n
 let_in q start number n step e =
     ap (λ x. is_stepped (period_in q start) q.interval x && lets_date q (day_of n) && lets_clock q n) e
     ∙ ap (λ x. x && lets_date q (day_of n) && lets_clock q n) step
@@ -56,8 +59,10 @@ module _ (q : EffectiveRule) (start : ℕ) (p : RecurrencePeriod) (own : IsPerio
   beside n m here = ap (λ x. is_candidate_in q start m && period_in q m == x) here ∙ cases (cases_eq (period_in q m) p.number)
     where
       cases : (period_in q m ≡ p.number) ⊎ (period_in q m ≢ p.number) → (is_candidate_in q start m && period_in q m == p.number) ≡ holds p m
-      cases (inl same) = ap (λ x. is_candidate_in q start m && x) (eq-eqb (period_in q m) p.number same) ∙ keep_true (is_candidate_in q start m) ∙ candidate_here m same
-      cases (inr other) = ap (λ x. is_candidate_in q start m && x) (ne_eqb (period_in q m) p.number other) ∙ and_false (is_candidate_in q start m) ∙ sym (held_out m other)
+      cases (inl same) = ap (λ x. is_candidate_in q start m && x) (eq-eqb (period_in q m) p.number same) ∙ keep_true (is_candidate_in q start m)
+          ∙ candidate_here m same
+      cases (inr other) = ap (λ x. is_candidate_in q start m && x) (ne_eqb (period_in q m) p.number other) ∙ and_false (is_candidate_in q start m)
+          ∙ sym (held_out m other)
 
   -- the size is the product's
   size_is : (n : ℕ) → period_in q n ≡ p.number → size q start n ≡ count calendar_end (holds p)
@@ -75,19 +80,25 @@ module _ (q : EffectiveRule) (start : ℕ) (p : RecurrencePeriod) (own : IsPerio
   chosen_here n here true = sym (keep_true (is_candidate_in q start n) ∙ candidate_here n here)
   chosen_here n here false = placed (holds p n) refl ∙ ap (λ x. x && is_placed q start false n) (sym (candidate_here n here))
     where
-      placed : (b : Bool) → holds p n ≡ b → (holds p n && is_listed q.positions (count calendar_end (holds p)) (count n (holds p))) ≡ (holds p n && is_placed q start false n)
-      placed true e = ap (λ x. holds p n && lists_wide q.positions x (count calendar_end (holds p))) (sym (rank_is n here e)) ∙ ap (λ x. holds p n && lists_wide q.positions (rank q start n) x) (sym (size_is n here))
-      placed false e = ap (λ x. x && is_listed q.positions (count calendar_end (holds p)) (count n (holds p))) e ∙ sym (ap (λ x. x && is_placed q start false n) e)
+      placed : (b : Bool) → holds p n ≡ b → (holds p n && is_listed q.positions (count calendar_end (holds p)) (count n (holds p)))
+          ≡ (holds p n && is_placed q start false n)
+      placed true e = ap (λ x. holds p n && lists_wide q.positions x (count calendar_end (holds p))) (sym (rank_is n here e))
+          ∙ ap (λ x. holds p n && lists_wide q.positions (rank q start n) x) (sym (size_is n here))
+      placed false e = ap (λ x. x && is_listed q.positions (count calendar_end (holds p)) (count n (holds p))) e
+          ∙ sym (ap (λ x. x && is_placed q start false n) e)
 
   pub taken_is : (n : ℕ) → is_taken q.positions (lists_none_wide q.positions) p n ≡ is_chosen_within q start p.number n
   taken_is n = cases (cases_eq (period_in q n) p.number)
     where
-      cases : (period_in q n ≡ p.number) ⊎ (period_in q n ≢ p.number) → is_taken q.positions (lists_none_wide q.positions) p n ≡ is_chosen_within q start p.number n
+      cases : (period_in q n ≡ p.number) ⊎ (period_in q n ≢ p.number) →
+          is_taken q.positions (lists_none_wide q.positions) p n ≡ is_chosen_within q start p.number n
       cases (inl same) = chosen_here n same (lists_none_wide q.positions) ∙ sym (ap (λ x. x && is_chosen q start n) (eq-eqb (period_in q n) p.number same))
-      cases (inr other) = taken_out q.positions (lists_none_wide q.positions) p n (held_out n other) ∙ sym (ap (λ x. x && is_chosen q start n) (ne_eqb (period_in q n) p.number other))
+      cases (inr other) = taken_out q.positions (lists_none_wide q.positions) p n (held_out n other)
+          ∙ sym (ap (λ x. x && is_chosen q start n) (ne_eqb (period_in q n) p.number other))
 
 -- the same of a period by its number
-pub taken_within : (q : EffectiveRule) (start : ℕ) (p : RecurrencePeriod) (number : ℕ) → IsPeriodOf q p → p.number ≡ number → is_stepped (period_in q start) q.interval number ≡ true
+pub taken_within : (q : EffectiveRule) (start : ℕ) (p : RecurrencePeriod) (number : ℕ) → IsPeriodOf q p → p.number ≡ number →
+    is_stepped (period_in q start) q.interval number ≡ true
     → (n : ℕ) → is_taken q.positions (lists_none_wide q.positions) p n ≡ is_chosen_within q start number n
 taken_within q start p number own e step n =
     taken_is q start p own (ap (is_stepped (period_in q start) q.interval) e ∙ step) n ∙ ap (λ x. is_chosen_within q start x n) e

@@ -36,12 +36,14 @@ none_before_first q start = count-none (first_local q.frequency (monday_zero q.w
     omega (arith, late, l))))
 
 -- a later period begins later
-pub first_mono : (q : EffectiveRule) (a b : ℕ) → period_in q 0 ≤ b → a ≤ b → first_local q.frequency (monday_zero q.week_start) a ≤ first_local q.frequency (monday_zero q.week_start) b
+pub first_mono : (q : EffectiveRule) (a b : ℕ) → period_in q 0 ≤ b → a ≤ b →
+    first_local q.frequency (monday_zero q.week_start) a ≤ first_local q.frequency (monday_zero q.week_start) b
 first_mono q a b low h =
     let own = first_in q.frequency (monday_zero q.week_start) b (week_small q.week_start) low in
     begun q.frequency (monday_zero q.week_start) a (first_local q.frequency (monday_zero q.week_start) b) (omega (arith, own, h))
 
-module _ (q : EffectiveRule) (start : ℕ) (p : RecurrencePeriod) (own : IsPeriodOf q p) (step : is_stepped (period_in q start) q.interval p.number ≡ true) (some : 1 ≤ q.interval) where
+module _ (q : EffectiveRule) (start : ℕ) (p : RecurrencePeriod) (own : IsPeriodOf q p) (step : is_stepped (period_in q start) q.interval p.number ≡ true)
+    (some : 1 ≤ q.interval) where
   abbrev taken : ℕ → Bool
   taken = is_taken q.positions (lists_none_wide q.positions) p
 
@@ -74,8 +76,10 @@ module _ (q : EffectiveRule) (start : ℕ) (p : RecurrencePeriod) (own : IsPerio
       let whole : first + (n - first) ≡ n = omega arith in
       let chosen = count-add first (n - first) (is_chosen q start) in
       let took = count-add first (n - first) taken in
-      let none = count-none first taken (λ m less. out m (λ e. let late = begun q.frequency (monday_zero q.week_start) p.number m (omega (arith, e)) in omega (arith, late, less))) in
-      let same = count-same (n - first) (λ k. is_chosen q start (first + k)) (λ k. taken (first + k)) (λ k less. same_here (first + k) (omega arith) (omega arith)) in
+      let none = count-none first taken (λ m less. out m (λ e. let late = begun q.frequency (monday_zero q.week_start) p.number m (omega (arith, e)) in
+      omega (arith, late, less))) in
+      let same = count-same (n - first) (λ k. is_chosen q start (first + k)) (λ k. taken (first + k))
+      (λ k less. same_here (first + k) (omega arith) (omega arith)) in
       let a = ap (λ x. count x (is_chosen q start)) whole in
       let b = ap (λ x. count x taken) whole in
       omega (arith, chosen, took, none, same, a, b)
@@ -87,11 +91,13 @@ module _ (q : EffectiveRule) (start : ℕ) (p : RecurrencePeriod) (own : IsPerio
   pub chosen_all : (end : ℕ) → next ≤ end → count next (is_chosen q start) ≡ count first (is_chosen q start) + count end taken
   chosen_all end h =
       let own = chosen_before next first_next (omega arith) in
-      let flat = count_flat next end taken h (λ m l u. out m (λ e. let late = begins q.frequency (monday_zero q.week_start) (p.number + q.interval) m l in omega (arith, late, e, some))) in
+      let flat = count_flat next end taken h (λ m l u. out m (λ e. let late = begins q.frequency (monday_zero q.week_start) (p.number + q.interval) m l in
+      omega (arith, late, e, some))) in
       omega (arith, own, flat)
 
 -- and the periods passed over after it
-chosen_passed : (q : EffectiveRule) (start number end : ℕ) (o : RecurrencePeriod) → IsPeriodOf q o → is_stepped (period_in q start) q.interval o.number ≡ true → 1 ≤ q.interval → IsPassed q start (o.number + q.interval) number
+chosen_passed : (q : EffectiveRule) (start number end : ℕ) (o : RecurrencePeriod) → IsPeriodOf q o → is_stepped (period_in q start) q.interval o.number ≡ true →
+    1 ≤ q.interval → IsPassed q start (o.number + q.interval) number
     → first_local q.frequency (monday_zero q.week_start) number ≤ end
     → count (first_local q.frequency (monday_zero q.week_start) number) (is_chosen q start)
     ≡ count (first_local q.frequency (monday_zero q.week_start) o.number) (is_chosen q start) + count end (is_taken q.positions (lists_none_wide q.positions) o)
@@ -99,7 +105,8 @@ chosen_passed q start number end o own step some passed h =
     let low = step_low q start o.number step in
     let up = first_mono q (o.number + q.interval) number (omega (arith, low, passed.up)) passed.up in
     let all = chosen_all q start o own step some end (omega (arith, up, h)) in
-    let flat = count_flat (first_local q.frequency (monday_zero q.week_start) (o.number + q.interval)) (first_local q.frequency (monday_zero q.week_start) number) (is_chosen q start) up
+    let flat = count_flat (first_local q.frequency (monday_zero q.week_start) (o.number + q.interval))
+    (first_local q.frequency (monday_zero q.week_start) number) (is_chosen q start) up
     (λ m l u. passed.none m (begins q.frequency (monday_zero q.week_start) (o.number + q.interval) m l) (elim (cases_lt (period_in q m) number) [
       | inl less ↦ less
       | inr more ↦ absurd (let late = begun q.frequency (monday_zero q.week_start) number m more in omega (arith, late, u))
@@ -107,7 +114,8 @@ chosen_passed q start number end o own step some passed h =
     omega (arith, all, flat)
 
 -- a count past the limit keeps nothing more
-pub not_few : (q : EffectiveRule) (start c limit n m : ℕ) → limit + 1 ≡ c + count (suc start) (is_chosen q start) → limit ≤ count n (is_chosen q start) → n ≤ m → is_few q start c m ≡ false
+pub not_few : (q : EffectiveRule) (start c limit n m : ℕ) → limit + 1 ≡ c + count (suc start) (is_chosen q start) → limit ≤ count n (is_chosen q start) →
+    n ≤ m → is_few q start c m ≡ false
 not_few q start c limit n m most h l =
     let more = count_mono n m (is_chosen q start) l in
     none (count m (is_chosen q start)) (c + count (suc start) (is_chosen q start)) (omega (arith, more, h, most))
@@ -115,15 +123,18 @@ not_few q start c limit n m most h l =
     none : (a b : ℕ) → b ≤ a + 1 → nat_lt (a + 1) b ≡ false
     none a b h = grind (arith, nat_tests)
 
-pub are_few : (q : EffectiveRule) (start c limit n : ℕ) → limit + 1 ≡ c + count (suc start) (is_chosen q start) → count n (is_chosen q start) < limit → is_few q start c n ≡ true
+pub are_few : (q : EffectiveRule) (start c limit n : ℕ) → limit + 1 ≡ c + count (suc start) (is_chosen q start) → count n (is_chosen q start) < limit →
+    is_few q start c n ≡ true
 are_few q start c limit n most h = some (count n (is_chosen q start)) (c + count (suc start) (is_chosen q start)) (omega (arith, h, most))
   where
     some : (a b : ℕ) → a + 1 < b → nat_lt (a + 1) b ≡ true
     some a b h = grind (arith, nat_tests)
 
 -- the first look, at the start's period
-pub turned_first : (q : EffectiveRule) (start c number limit before : ℕ) (cursor : Cursor) (p : RecurrencePeriod) → 1 ≤ q.interval → 1 ≤ c → number ≡ period_in q start → is_stepped (period_in q start) q.interval number ≡ true
-    → IsPeriodOf q p → p.number ≡ number → cursor.held ≡ Some p → cursor.counted ≡ 0 → cursor.limit ≡ limit → limit ≡ c - 1 + before → before ≡ count (start + 1) (is_taken q.positions (lists_none_wide q.positions) p)
+pub turned_first : (q : EffectiveRule) (start c number limit before : ℕ) (cursor : Cursor) (p : RecurrencePeriod) → 1 ≤ q.interval → 1 ≤ c →
+    number ≡ period_in q start → is_stepped (period_in q start) q.interval number ≡ true
+    → IsPeriodOf q p → p.number ≡ number → cursor.held ≡ Some p → cursor.counted ≡ 0 → cursor.limit ≡ limit → limit ≡ c - 1 + before →
+    before ≡ count (start + 1) (is_taken q.positions (lists_none_wide q.positions) p)
     → IsTurned q start c number cursor p
 turned_first q start c number limit before cursor p some positive e step own same held zero most el eb = record {
   held = held;
@@ -131,12 +142,15 @@ turned_first q start c number limit before cursor p some positive e step own sam
   number = same;
   counted = record {
     step = here;
-    total = zero ∙ sym (none_before_first q start) ∙ ap (λ x. count (first_local q.frequency (monday_zero q.week_start) x) (is_chosen q start)) (sym (same ∙ e));
+    total = zero ∙ sym (none_before_first q start)
+        ∙ ap (λ x. count (first_local q.frequency (monday_zero q.week_start) x) (is_chosen q start)) (sym (same ∙ e));
     most =
         let low = begun q.frequency (monday_zero q.week_start) p.number start (omega (arith, same, e)) in
-        let high : start + 1 ≤ first_local q.frequency (monday_zero q.week_start) (p.number + q.interval) = (elim (cases_lt start (first_local q.frequency (monday_zero q.week_start) (p.number + q.interval))) [
+        let high : start + 1 ≤ first_local q.frequency (monday_zero q.week_start) (p.number + q.interval) =
+        (elim (cases_lt start (first_local q.frequency (monday_zero q.week_start) (p.number + q.interval))) [
           | inl less ↦ omega (arith, less)
-          | inr more ↦ absurd (let late = begins q.frequency (monday_zero q.week_start) (p.number + q.interval) start more in omega (arith, late, same, e, some))
+          | inr more ↦ absurd (let late = begins q.frequency (monday_zero q.week_start) (p.number + q.interval) start more in
+              omega (arith, late, same, e, some))
         ]) in
         let chosen = chosen_before q start p own here some (start + 1) (omega (arith, low)) high in
         let none = none_before_first q start in
@@ -151,29 +165,37 @@ turned_first q start c number limit before cursor p some positive e step own sam
     here = ap (is_stepped (period_in q start) q.interval) same ∙ step
 
 -- each further look
-pub turned_on : (q : EffectiveRule) (start c number total before end : ℕ) (was cursor : Cursor) (o p : RecurrencePeriod) → 1 ≤ q.interval → IsPeriodOf q o → IsCounted q start c was.counted was.limit o → IsPassed q start (o.number + q.interval) number
-    → first_local q.frequency (monday_zero q.week_start) number ≤ end → total ≡ was.counted + before → before ≡ count end (is_taken q.positions (lists_none_wide q.positions) o)
-    → is_stepped (period_in q start) q.interval number ≡ true → IsPeriodOf q p → p.number ≡ number → cursor ≡ after_look was p total → IsTurned q start c number cursor p
-turned_on q start c number total before end was cursor o p some own counted e h et eb here product same look = subst (λ (x : Cursor). IsTurned q start c number x p) (sym look) (record {
-  held = refl;
-  product = product;
-  number = same;
-  counted = record {
-    step = ap (is_stepped (period_in q start) q.interval) same ∙ here;
-    total = et ∙ (let all = chosen_passed q start number end o own counted.step some e h in
-        let back = ap (λ x. count (first_local q.frequency (monday_zero q.week_start) x) (is_chosen q start)) same in omega (arith, all, back, eb, counted.total));
-    most = counted.most;
-  };
-})
+pub turned_on : (q : EffectiveRule) (start c number total before end : ℕ) (was cursor : Cursor) (o p : RecurrencePeriod) → 1 ≤ q.interval → IsPeriodOf q o →
+    IsCounted q start c was.counted was.limit o → IsPassed q start (o.number + q.interval) number
+    → first_local q.frequency (monday_zero q.week_start) number ≤ end → total ≡ was.counted + before →
+    before ≡ count end (is_taken q.positions (lists_none_wide q.positions) o)
+    → is_stepped (period_in q start) q.interval number ≡ true → IsPeriodOf q p → p.number ≡ number → cursor ≡ after_look was p total →
+    IsTurned q start c number cursor p
+turned_on q start c number total before end was cursor o p some own counted e h et eb here product same look =
+    subst (λ (x : Cursor). IsTurned q start c number x p) (sym look) (record {
+      held = refl;
+      product = product;
+      number = same;
+      counted = record {
+        step = ap (is_stepped (period_in q start) q.interval) same ∙ here;
+        total = et ∙ (let all = chosen_passed q start number end o own counted.step some e h in
+            let back = ap (λ x. count (first_local q.frequency (monday_zero q.week_start) x) (is_chosen q start)) same in
+            omega (arith, all, back, eb, counted.total));
+        most = counted.most;
+      };
+    })
 
-pub counted_out : (q : EffectiveRule) (start c number before end counted limit : ℕ) (o : RecurrencePeriod) → 1 ≤ q.interval → IsPeriodOf q o → IsCounted q start c counted limit o → IsPassed q start (o.number + q.interval) number
-    → first_local q.frequency (monday_zero q.week_start) number ≤ end → before ≡ count end (is_taken q.positions (lists_none_wide q.positions) o) → limit ≤ counted + before → AllCounted q start c number
+pub counted_out : (q : EffectiveRule) (start c number before end counted limit : ℕ) (o : RecurrencePeriod) → 1 ≤ q.interval → IsPeriodOf q o →
+    IsCounted q start c counted limit o → IsPassed q start (o.number + q.interval) number
+    → first_local q.frequency (monday_zero q.week_start) number ≤ end → before ≡ count end (is_taken q.positions (lists_none_wide q.positions) o) →
+    limit ≤ counted + before → AllCounted q start c number
 counted_out q start c number before end counted limit o some own known e h eb out n l =
     not_few q start c limit (first_local q.frequency (monday_zero q.week_start) number) n known.most
     (let all = chosen_passed q start number end o own known.step some e h in omega (arith, all, eb, known.total, out)) l
 
 -- counts stay small
-pub counted_small : (q : EffectiveRule) (start c number counted limit : ℕ) (o : RecurrencePeriod) → IsCounted q start c counted limit o → o.number ≤ number → is_stepped (period_in q start) q.interval number ≡ true
+pub counted_small : (q : EffectiveRule) (start c number counted limit : ℕ) (o : RecurrencePeriod) → IsCounted q start c counted limit o → o.number ≤ number →
+    is_stepped (period_in q start) q.interval number ≡ true
     → first_local q.frequency (monday_zero q.week_start) number ≤ rules_end → counted ≤ rules_end
 counted_small q start c number counted limit o known l step h =
     let most = count_most (first_local q.frequency (monday_zero q.week_start) o.number) (is_chosen q start) in

@@ -1,5 +1,6 @@
 -- How far a walk under COUNT has come.
-use Rattle.std.proofs.Common.{◌≡◌, ℕ, ◌+◌, ◌-◌, ◌*◌, ◌%◌, ◌<◌, ◌≤◌, ◌⊎◌, inl, inr, Bool, true, false, Option, Some, None, MatchOption, sym, subst, ap, ◌∙◌, arith}
+use Rattle.std.proofs.Common.{◌≡◌, ℕ, ◌+◌, ◌-◌, ◌*◌, ◌%◌, ◌<◌, ◌≤◌, ◌⊎◌, inl, inr, Bool, true, false, Option, Some, None, MatchOption, sym, subst, ap, ◌∙◌}
+use Rattle.std.proofs.Common.{arith}
 use Rattle.std.proofs.lemmas.Bool.{and_from, and_left, and_right, cases_lt}
 use Rattle.std.proofs.lemmas.Nat.{mod-mul-add}
 use Rattle.jiff_core.specs.Weekday.{monday_zero}
@@ -12,7 +13,8 @@ use Rattle.ics_rule.specs.Candidates.{is_stepped, period_in}
 use Rattle.ics_rule.specs.Kept.{count, is_chosen}
 use Rattle.ics_rule.specs.RecurrencePeriods.{first_local, IsPeriodOf, is_taken}
 use Rattle.ics_rule.specs.Cursors.{is_met, fresh, HasBegun, HeldBy, CountedBy, IsCounted, HasLookedIn}
-use Rattle.ics_rule.specs.Searches.{is_few, is_wanted, NoneWanted, IsWalked, HoldsPeriodOf, LooksOrStays, LooksOnce, IsTurnOf, IsPassed, IsNextOpen, AllCounted, IsTurned}
+use Rattle.ics_rule.specs.Searches.{is_few, is_wanted, NoneWanted, IsWalked, HoldsPeriodOf, LooksOrStays, LooksOnce, IsTurnOf, IsPassed, IsNextOpen}
+use Rattle.ics_rule.specs.Searches.{AllCounted, IsTurned}
 use Rattle.ics_rule.specs.Rounds.{IsPassedTo}
 use Rattle.ics_rule.proofs.PeriodLemmas.{begun, begins, period_mono}
 use Rattle.ics_rule.proofs.StepLemmas.{stepped_parts, stepped_shown, none_between}
@@ -41,7 +43,8 @@ pub counting_begins : (q : EffectiveRule) (start c stop number : ℕ) (before cu
 counting_begins q start c stop number before cursor None some e h late early same passed = record {
   step = ap (is_stepped (period_in q start) q.interval) h ∙ step_first (period_in q start) q.interval some;
   none = λ n l u. absurd (let up = period_mono q.frequency (monday_zero q.week_start) start n (omega (arith, late, same, l)) in omega (arith, up, u, h));
-  turn = subst (λ x. MatchOption x (number ≡ period_in q start) (λ p. IsPeriodOf q p × (IsCounted q start c cursor.counted cursor.limit p × ((p.number ≡ number) ⊎ IsPassed q start (p.number + q.interval) number)))) (sym e) h;
+  turn = subst (λ x. MatchOption x (number ≡ period_in q start) (λ p. IsPeriodOf q p
+      × (IsCounted q start c cursor.counted cursor.limit p × ((p.number ≡ number) ⊎ IsPassed q start (p.number + q.interval) number)))) (sym e) h;
   high = subst (λ (x : Option RecurrencePeriod). MatchOption x (Unit {0}) (λ p. p.number ≤ period_in q stop)) (sym e) tt;
   place = same;
   begun = passed.own.begun;
@@ -54,10 +57,13 @@ counting_begins q start c stop number before cursor (Some p) some e h late early
     let counted = subst (λ x. MatchOption x (Unit {0}) (IsCounted q start c cursor.counted cursor.limit)) e passed.own.counted in
     record {
       step = ap (is_stepped (period_in q start) q.interval) h ∙ counted.step;
-      none = λ n l u. absurd (let up = period_mono q.frequency (monday_zero q.week_start) cursor.place n (omega (arith, same, l)) in omega (arith, up, u, h, held.1));
-      turn = subst (λ x. MatchOption x (number ≡ period_in q start) (λ p. IsPeriodOf q p × (IsCounted q start c cursor.counted cursor.limit p × ((p.number ≡ number) ⊎ IsPassed q start (p.number + q.interval) number)))) (sym e)
+      none = λ n l u. absurd (let up = period_mono q.frequency (monday_zero q.week_start) cursor.place n (omega (arith, same, l)) in
+          omega (arith, up, u, h, held.1));
+      turn = subst (λ x. MatchOption x (number ≡ period_in q start) (λ p. IsPeriodOf q p
+          × (IsCounted q start c cursor.counted cursor.limit p × ((p.number ≡ number) ⊎ IsPassed q start (p.number + q.interval) number)))) (sym e)
           (held.0, (counted, inl (sym h)));
-      high = subst (λ (x : Option RecurrencePeriod). MatchOption x (Unit {0}) (λ p. p.number ≤ period_in q stop)) (sym e) (let up = period_mono q.frequency (monday_zero q.week_start) cursor.place stop (omega arith) in omega (arith, up, held.1));
+      high = subst (λ (x : Option RecurrencePeriod). MatchOption x (Unit {0}) (λ p. p.number ≤ period_in q stop)) (sym e) (let up =
+          period_mono q.frequency (monday_zero q.week_start) cursor.place stop (omega arith) in omega (arith, up, held.1));
       place = same;
       begun = passed.own.begun;
       moved = passed.moved;
@@ -76,9 +82,11 @@ module _ (q : EffectiveRule) (start c stop number : ℕ) (before now : Cursor) (
   ]
 
   -- where this period is looked at
-  module _ (after : Cursor) (p : RecurrencePeriod) (some : 1 ≤ q.interval) (late : start < before.place) (early : before.place < stop) (top : number ≤ period_in q (stop - 1))
+  module _ (after : Cursor) (p : RecurrencePeriod) (some : 1 ≤ q.interval) (late : start < before.place) (early : before.place < stop)
+      (top : number ≤ period_in q (stop - 1))
       (turned : IsTurned q start c number after p) (place : after.place ≡ now.place)
-      (steps : LooksOnce number now.steps now.held after.steps after.held) (looks : HasBegun now.held now.steps → HasBegun after.held after.steps) (moved : LooksOrStays now after) where
+      (steps : LooksOnce number now.steps now.held after.steps after.held) (looks : HasBegun now.held now.steps →
+      HasBegun after.held after.steps) (moved : LooksOrStays now after) where
     abbrev taken : ℕ → Bool
     taken = is_taken q.positions (lists_none_wide q.positions) p
 
@@ -110,9 +118,11 @@ module _ (q : EffectiveRule) (start c stop number : ℕ) (before now : Cursor) (
     count_here : (n : ℕ) → period_in q n ≡ number → count n (is_chosen q start) ≡ after.counted + count n taken
     count_here n e =
         let low = begun q.frequency (monday_zero q.week_start) p.number n (omega (arith, e, turned.number)) in
-        let high : n ≤ first_local q.frequency (monday_zero q.week_start) (p.number + q.interval) = (elim (cases_lt n (first_local q.frequency (monday_zero q.week_start) (p.number + q.interval))) [
+        let high : n ≤ first_local q.frequency (monday_zero q.week_start) (p.number + q.interval) =
+        (elim (cases_lt n (first_local q.frequency (monday_zero q.week_start) (p.number + q.interval))) [
           | inl less ↦ omega (arith, less)
-          | inr more ↦ absurd (let far = begins q.frequency (monday_zero q.week_start) (p.number + q.interval) n more in omega (arith, far, e, turned.number, some))
+          | inr more ↦ absurd (let far = begins q.frequency (monday_zero q.week_start) (p.number + q.interval) n more in
+              omega (arith, far, e, turned.number, some))
         ]) in
         chosen_before q start p turned.product turned.counted.step some n low high ∙ ap (λ x. x + count n taken) (sym turned.counted.total)
 
@@ -126,9 +136,11 @@ module _ (q : EffectiveRule) (start c stop number : ℕ) (before now : Cursor) (
           and_left (is_chosen q start m) (is_few q start c m) (sym (chosen_here m same) ∙ next.least m (omega (arith, l, walk.place, place)) u)
     ]
 
-    pub counting_finds : (n earlier : ℕ) → IsLeastFrom taken after.place n → earlier ≡ count n taken → after.counted + earlier < after.limit → IsLeastFrom (is_wanted q start (Some c)) before.place n
+    pub counting_finds : (n earlier : ℕ) → IsLeastFrom taken after.place n → earlier ≡ count n taken → after.counted + earlier < after.limit →
+        IsLeastFrom (is_wanted q start (Some c)) before.place n
     counting_finds n earlier next e h = let here = taken_here n next.passes in record {
-      passes = and_from (is_chosen q start n) (is_few q start c n) here.1 (are_few q start c after.limit n turned.counted.most (let all = count_here n here.0 in omega (arith, all, e, h)));
+      passes = and_from (is_chosen q start n) (is_few q start c n) here.1
+          (are_few q start c after.limit n turned.counted.most (let all = count_here n here.0 in omega (arith, all, e, h)));
       low = omega (arith, next.low, walk.place, place);
       least = none_until n next;
     }
@@ -136,7 +148,15 @@ module _ (q : EffectiveRule) (start c stop number : ℕ) (before now : Cursor) (
     pub counting_found : (n : ℕ) → IsLeastFrom taken after.place n → IsWalked q start (Some c) stop (Some n) before after
     counting_found n next = record {
       held = held_at stop top_stop;
-      found = (held_at n (let here = taken_here n next.passes in omega (arith, here.0)), (subst (λ o. HasBegun o after.steps) turned.held (looks walk.begun), holds_at n (let here = taken_here n next.passes in turned.number ∙ sym here.0)));
+      found = (
+        held_at n (let here = taken_here n next.passes in
+            omega (arith, here.0)),
+        (
+          subst (λ o. HasBegun o after.steps) turned.held (looks walk.begun),
+          holds_at n (let here = taken_here n next.passes in
+              turned.number ∙ sym here.0),
+        ),
+      );
       begun = looks walk.begun;
       moved = then_moves before now after walk.moved moved;
       steps = bounded now after number steps walk.steps;
@@ -145,18 +165,29 @@ module _ (q : EffectiveRule) (start c stop number : ℕ) (before now : Cursor) (
     }
 
     -- COUNT ends the rule within this period
-    pub counting_stops : (n earlier : ℕ) → IsLeastFrom taken after.place n → earlier ≡ count n taken → after.limit ≤ after.counted + earlier → NoneWanted q start (Some c) before.place stop
+    pub counting_stops : (n earlier : ℕ) → IsLeastFrom taken after.place n → earlier ≡ count n taken → after.limit ≤ after.counted + earlier →
+        NoneWanted q start (Some c) before.place stop
     counting_stops n earlier next e h m l u = elim (cases_lt m n) [
       | inl less ↦ none_until n next m l less
       | inr more ↦ and_right (is_chosen q start m) (is_few q start c m)
-          (not_few q start c after.limit n m turned.counted.most (let here = taken_here n next.passes in let all = count_here n here.0 in omega (arith, all, e, h)) more)
+          (not_few q start c after.limit n m turned.counted.most (let here = taken_here n next.passes in let all = count_here n here.0 in
+          omega (arith, all, e, h)) more)
     ]
 
     pub counting_stopped : IsWalked q start (Some c) stop None before after
-    counting_stopped = record { held = held_at stop top_stop; found = tt; moved = then_moves before now after walk.moved moved; begun = looks walk.begun; steps = bounded now after number steps walk.steps; counted = counted_after; looked = looked }
+    counting_stopped = record {
+      held = held_at stop top_stop;
+      found = tt;
+      moved = then_moves before now after walk.moved moved;
+      begun = looks walk.begun;
+      steps = bounded now after number steps walk.steps;
+      counted = counted_after;
+      looked = looked;
+    }
 
     -- or the walk goes on
-    pub counting_goes_on : (next : ℕ) → ((m : ℕ) → after.place ≤ m → taken m ≡ false) → IsNextOpen q (period_in q start) (number + q.interval) next → IsCounting q start c stop next before after
+    pub counting_goes_on : (next : ℕ) → ((m : ℕ) → after.place ≤ m → taken m ≡ false) → IsNextOpen q (period_in q start) (number + q.interval) next →
+        IsCounting q start c stop next before after
     counting_goes_on next none is_next = record {
       step = is_next.step;
       none = λ n l u. elim (cases_lt (period_in q n) number) [
@@ -169,9 +200,19 @@ module _ (q : EffectiveRule) (start c stop number : ℕ) (before now : Cursor) (
           | inr same ↦ sym (chosen_here n (omega arith)) ∙ none n (omega (arith, l, walk.place, place))
         ])
       ];
-      turn = subst (λ x. MatchOption x (next ≡ period_in q start) (λ p. IsPeriodOf q p × (IsCounted q start c after.counted after.limit p × ((p.number ≡ next) ⊎ IsPassed q start (p.number + q.interval) next)))) (sym turned.held)
-          (turned.product, (turned.counted, inr (record { up = omega (arith, turned.number, is_next.low); none = λ n l u. not_let_in q start n (is_next.none n (omega (arith, turned.number, l)) u) })));
-      high = subst (λ (x : Option RecurrencePeriod). MatchOption x (Unit {0}) (λ p. p.number ≤ period_in q stop)) (sym turned.held) (let t = top_stop in omega (arith, t, turned.number));
+      turn = subst (λ x. MatchOption x (next ≡ period_in q start) (λ p. IsPeriodOf q p
+          × (IsCounted q start c after.counted after.limit p × ((p.number ≡ next) ⊎ IsPassed q start (p.number + q.interval) next)))) (sym turned.held) (
+            turned.product,
+            (
+              turned.counted,
+              inr (record {
+                up = omega (arith, turned.number, is_next.low);
+                none = λ n l u. not_let_in q start n (is_next.none n (omega (arith, turned.number, l)) u);
+              }),
+            ),
+          );
+      high = subst (λ (x : Option RecurrencePeriod). MatchOption x (Unit {0}) (λ p. p.number ≤ period_in q stop)) (sym turned.held) (let t = top_stop in
+          omega (arith, t, turned.number));
       place = place ∙ walk.place;
       begun = looks walk.begun;
       moved = then_moves before now after walk.moved moved;

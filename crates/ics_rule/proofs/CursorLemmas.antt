@@ -1,5 +1,6 @@
 -- What a cursor looks at.
-use Rattle.std.proofs.Common.{◌≡◌, ℕ, zero, suc, ◌+◌, ◌-◌, ◌<◌, ◌≤◌, inl, inr, Bool, true, false, ◌==◌, nat_le, nat_lt, ◌&&◌, Option, Some, None, MatchOption, cond, refl, sym, subst, ap, ◌∙◌, arith}
+use Rattle.std.proofs.Common.{◌≡◌, ℕ, zero, suc, ◌+◌, ◌-◌, ◌<◌, ◌≤◌, inl, inr, Bool, true, false, ◌==◌, nat_le, nat_lt, ◌&&◌, Option, Some, None, MatchOption}
+use Rattle.std.proofs.Common.{cond, refl, sym, subst, ap, ◌∙◌, arith}
 use Rattle.std.proofs.lemmas.Bool.{and_from, and_parts, cases_lt, eq-eqb, eqb-true, leb-true}
 use Rattle.std.proofs.lemmas.Bool.Decides.{nat_tests}
 use Rattle.jiff_core.specs.Weekday.{monday_zero}
@@ -19,7 +20,8 @@ use Rattle.ics_rule.proofs.ChosenLemmas.{no_step, not_let_in}
 use Rattle.ics_values.specs.Locals.{calendar_end}
 
 -- a period that lies a multiple of the interval from the start's is met by a local of it
-met_by : (q : EffectiveRule) (start a b p n : ℕ) → a ≤ n → n < b → period_in q n ≡ p → is_stepped (period_in q start) q.interval p ≡ true → is_met q start a b p ≡ true
+met_by : (q : EffectiveRule) (start a b p n : ℕ) → a ≤ n → n < b → period_in q n ≡ p → is_stepped (period_in q start) q.interval p ≡ true →
+    is_met q start a b p ≡ true
 met_by q start a b p n l u e step = and_from _ _ step (positive _ (count_some b n (λ m. nat_le a m && period_in q m == p) u (both a n (period_in q n) p l e)))
   where
     both : (x n y z : ℕ) → x ≤ n → y ≡ z → (nat_le x n && (y == z)) ≡ true
@@ -35,7 +37,8 @@ meets q start a b place stop p la lp lb step low high = elim (cases_lt (period_i
   | inl later ↦
       let none : period_in q 0 ≤ p = (let m = period_mono q.frequency (monday_zero q.week_start) 0 place (omega arith) in omega (arith, m)) in
       let end = begun q.frequency (monday_zero q.week_start) p (stop - 1) high in
-      met_by q start a b p (first_local q.frequency (monday_zero q.week_start) p) (elim (cases_lt place (first_local q.frequency (monday_zero q.week_start) p)) [
+      met_by q start a b p (first_local q.frequency (monday_zero q.week_start) p)
+      (elim (cases_lt place (first_local q.frequency (monday_zero q.week_start) p)) [
         | inl after ↦ omega arith
         | inr before ↦ absurd (let g = begins q.frequency (monday_zero q.week_start) p place before in omega (arith, g, later))
       ]) (omega (arith, end)) (first_in q.frequency (monday_zero q.week_start) p (week_small q.week_start) none) step
@@ -45,12 +48,18 @@ meets q start a b place stop p la lp lb step low high = elim (cases_lt (period_i
 -- the next number that passes one of two tests that agree
 pub next_same : (f g : ℕ → Bool) (place : ℕ) (o : Option ℕ) → ((n : ℕ) → f n ≡ g n) → IsNextIn f place o → IsNextIn g place o
 next_same f g place None same none = λ m low. sym (same m) ∙ none m low
-next_same f g place (Some n) same next = record { passes = sym (same n) ∙ next.passes; low = next.low; least = λ m low high. sym (same m) ∙ next.least m low high }
+next_same f g place (Some n) same next = record {
+  passes = sym (same n) ∙ next.passes;
+  low = next.low;
+  least = λ m low high. sym (same m)
+      ∙ next.least m low high;
+}
 
 fresh_low : (k number : ℕ) → k ≤ number → (k ≡ number → ⊥) → suc k ≤ number
 fresh_low k number h other = elim (cases_lt k number) [ inl less ↦ omega arith | inr more ↦ absurd (other (omega arith)) ]
 
-pub fresh_some : (number : ℕ) (held : Option RecurrencePeriod) (p : RecurrencePeriod) → held ≡ Some p → p.number ≤ number → (p.number ≡ number → ⊥) → fresh held ≤ number
+pub fresh_some : (number : ℕ) (held : Option RecurrencePeriod) (p : RecurrencePeriod) → held ≡ Some p → p.number ≤ number → (p.number ≡ number → ⊥) →
+    fresh held ≤ number
 fresh_some number held p e h other = subst (λ o. fresh o ≤ number) (sym e) (fresh_low p.number number h other)
 
 pub fresh_none : (number : ℕ) (held : Option RecurrencePeriod) → held ≡ None → fresh held ≤ number
@@ -64,10 +73,12 @@ looked_at number steps after k held met h here few e same =
     let back = ap (λ x. count (suc x) met) same in
     omega (arith, few, more, e, back)
 
-pub looks_once : (number counted : ℕ) (before now : Cursor) (p : RecurrencePeriod) → fresh before.held ≤ number → now ≡ after_look before p counted → p.number ≡ number
+pub looks_once : (number counted : ℕ) (before now : Cursor) (p : RecurrencePeriod) → fresh before.held ≤ number → now ≡ after_look before p counted →
+    p.number ≡ number
     → LooksOnce number before.steps before.held now.steps now.held
 looks_once number counted before now p h e same = λ met here few.
-    subst (λ (c : Cursor). c.steps ≤ count (fresh c.held) met) (sym e) (looked_at number before.steps (before.steps + 1) p.number before.held met h here few refl same)
+    subst (λ (c : Cursor). c.steps ≤ count (fresh c.held) met) (sym e)
+    (looked_at number before.steps (before.steps + 1) p.number before.held met h here few refl same)
 
 -- and after a look a period is held
 pub begins_look : (counted : ℕ) (before now : Cursor) (p : RecurrencePeriod) → now ≡ after_look before p counted → HasBegun now.held now.steps
@@ -97,21 +108,43 @@ counted_at : (q : EffectiveRule) (start : ℕ) (o : Option ℕ) (c : Cursor) (pl
 counted_at q start None c place h = tt
 counted_at q start (Some k) c place h = h
 
-pub own_at : (q : EffectiveRule) (start : ℕ) (o : Option ℕ) (c : Cursor) (place : ℕ) → IsCursorIn q start o c → c.place ≤ place → place < calendar_end → IsCursorIn q start o (record c { place = place })
-own_at q start o c place own l h = record { inside = h; held = held_mono q c.held c.place place own.held l; begun = own.begun; steps = own.steps; counted = counted_at q start o c place own.counted }
+pub own_at : (q : EffectiveRule) (start : ℕ) (o : Option ℕ) (c : Cursor) (place : ℕ) → IsCursorIn q start o c → c.place ≤ place → place < calendar_end →
+    IsCursorIn q start o (record c { place = place })
+own_at q start o c place own l h = record {
+  inside = h;
+  held = held_mono q c.held c.place place own.held l;
+  begun = own.begun;
+  steps = own.steps;
+  counted = counted_at q start o c place own.counted;
+}
 
-pub own_walked : (q : EffectiveRule) (start : ℕ) (o : Option ℕ) (stop : ℕ) (found : Option ℕ) (before now : Cursor) (place : ℕ) → IsWalked q start o stop found before now → stop ≤ place → place < calendar_end
+pub own_walked : (q : EffectiveRule) (start : ℕ) (o : Option ℕ) (stop : ℕ) (found : Option ℕ) (before now : Cursor) (place : ℕ) →
+    IsWalked q start o stop found before now → stop ≤ place → place < calendar_end
     → IsCursorIn q start o (record now { place = place })
 own_walked q start o stop found before now place walked l h =
-    record { inside = h; held = held_mono q now.held stop place walked.held l; begun = walked.begun; steps = walked.steps; counted = counted_at q start o now place walked.counted }
+    record {
+      inside = h;
+      held = held_mono q now.held stop place walked.held l;
+      begun = walked.begun;
+      steps = walked.steps;
+      counted = counted_at q start o now place walked.counted;
+    }
 
-pub own_found : (q : EffectiveRule) (start : ℕ) (o : Option ℕ) (stop n : ℕ) (before now : Cursor) → IsWalked q start o stop (Some n) before now → n + 1 < calendar_end
+pub own_found : (q : EffectiveRule) (start : ℕ) (o : Option ℕ) (stop n : ℕ) (before now : Cursor) → IsWalked q start o stop (Some n) before now →
+    n + 1 < calendar_end
     → IsCursorIn q start o (record now { place = n + 1 })
 own_found q start o stop n before now walked h =
-    record { inside = h; held = held_mono q now.held n (n + 1) walked.found.0 (omega arith); begun = walked.begun; steps = walked.steps; counted = counted_at q start o now (n + 1) walked.counted }
+    record {
+      inside = h;
+      held = held_mono q now.held n (n + 1) walked.found.0 (omega arith);
+      begun = walked.begun;
+      steps = walked.steps;
+      counted = counted_at q start o now (n + 1) walked.counted;
+    }
 
 -- an answer in a later period than the place has taken a look
-pub counts_look : (q : EffectiveRule) (start : ℕ) (o : Option ℕ) (stop n : ℕ) (before now : Cursor) → IsCursorIn q start o before → IsWalked q start o stop (Some n) before now
+pub counts_look : (q : EffectiveRule) (start : ℕ) (o : Option ℕ) (stop n : ℕ) (before now : Cursor) → IsCursorIn q start o before →
+    IsWalked q start o stop (Some n) before now
     → period_in q before.place < period_in q n → before.steps < now.steps
 counts_look q start o stop n before now own walked later = by_move walked.moved
   where
@@ -128,9 +161,11 @@ looks_mono : (o : Option ℕ) (start a b : ℕ) → a ≤ b → looks_from o sta
 looks_mono None start a b h = h
 looks_mono (Some c) start a b h = omega arith
 
-pub looked_walked : (q : EffectiveRule) (start : ℕ) (o : Option ℕ) (stop : ℕ) (found : Option ℕ) (before now : Cursor) (place a b : ℕ) → IsWalked q start o stop found before now → before.place ≤ place → stop ≤ b
+pub looked_walked : (q : EffectiveRule) (start : ℕ) (o : Option ℕ) (stop : ℕ) (found : Option ℕ) (before now : Cursor) (place a b : ℕ) →
+    IsWalked q start o stop found before now → before.place ≤ place → stop ≤ b
     → HasLookedIn q start o before a b → HasLookedIn q start o (record now { place = place }) a b
-looked_walked q start o stop found before now place a b walked l s few = record { low = (let up = looks_mono o start before.place place l in omega (arith, few.low, up)); few = walked.looked a b s few }
+looked_walked q start o stop found before now place a b walked l s few =
+    record { low = (let up = looks_mono o start before.place place l in omega (arith, few.low, up)); few = walked.looked a b s few }
 
 -- one that passes a test is among those counted
 counted_one : (n : ℕ) (test : ℕ → Bool) → 0 < count n test → (m : ℕ) × ((m < n) × (test m ≡ true))
@@ -183,7 +218,8 @@ met_later : (q : EffectiveRule) (start a b c p : ℕ) → b ≤ c → is_met q s
 met_later q start a b c p h met =
     let parts = and_parts (is_stepped (period_in q start) q.interval p) (nat_lt 0 (count b (λ m. nat_le a m && period_in q m == p))) met in
     let more = count_mono b c (λ m. nat_le a m && period_in q m == p) h in
-    more_positive (is_stepped (period_in q start) q.interval p) (count b (λ m. nat_le a m && period_in q m == p)) (count c (λ m. nat_le a m && period_in q m == p)) parts.0 parts.1 more
+    more_positive (is_stepped (period_in q start) q.interval p) (count b (λ m. nat_le a m && period_in q m == p))
+    (count c (λ m. nat_le a m && period_in q m == p)) parts.0 parts.1 more
   where
     more_positive : (x : Bool) (m n : ℕ) → x ≡ true → nat_lt 0 m ≡ true → m ≤ n → (x && nat_lt 0 n) ≡ true
     more_positive x m n e h l = grind (arith, nat_tests)
@@ -197,7 +233,8 @@ looked_found q start o stop n before now a b walked after low soon few = record 
     | inl early ↦
         let wide = count_within (fresh before.held) (is_met q start a b) (is_met q start a stop) (λ p l met. met_wide p met early) in
         let most = walked.looked a stop (omega arith) (record { low = few.low; few = omega (arith, few.few, wide) }) in
-        let near = count_within (fresh now.held) (is_met q start a stop) (is_met q start a b) (λ p l met. met_soon q start a b stop n p begins (omega (arith, soon)) (below now.held walked.found.0 p l) met) in
+        let near = count_within (fresh now.held) (is_met q start a stop) (is_met q start a b)
+        (λ p l met. met_soon q start a b stop n p begins (omega (arith, soon)) (below now.held walked.found.0 p l) met) in
         omega (arith, most, near)
     | inr late ↦ walked.looked a b late few
   ];
@@ -222,8 +259,10 @@ fresh_small : (q : EffectiveRule) (held : Option RecurrencePeriod) (n : ℕ) →
 fresh_small q None n h l = omega arith
 fresh_small q (Some p) n h l = let s = period_small q.frequency (monday_zero q.week_start) n l in omega (arith, h.1, s)
 
-pub few_steps : (q : EffectiveRule) (start : ℕ) (o : Option ℕ) (c : Cursor) (a b : ℕ) → IsCursorIn q start o c → HasLookedIn q start o c a b → c.steps ≤ count calendar_end (is_met q start a b)
-few_steps q start o c a b own few = let more = count_mono (fresh c.held) calendar_end (is_met q start a b) (fresh_small q c.held c.place own.held own.inside) in omega (arith, few.few, more)
+pub few_steps : (q : EffectiveRule) (start : ℕ) (o : Option ℕ) (c : Cursor) (a b : ℕ) → IsCursorIn q start o c → HasLookedIn q start o c a b →
+    c.steps ≤ count calendar_end (is_met q start a b)
+few_steps q start o c a b own few = let more = count_mono (fresh c.held) calendar_end (is_met q start a b) (fresh_small q c.held c.place own.held own.inside) in
+    omega (arith, few.few, more)
 
 pub within_here : (q : EffectiveRule) (start number n : ℕ) → period_in q n ≡ number → is_chosen_within q start number n ≡ is_chosen q start n
 within_here q start number n e = ap (λ x. x && is_chosen q start n) (eq-eqb (period_in q n) number e)
@@ -249,10 +288,12 @@ pub record IsWalk (q : EffectiveRule) (start stop number : ℕ) (before now : Cu
 cases_held : (q : EffectiveRule) (held : Option RecurrencePeriod) (n number stop : ℕ) → HeldBy q held n → period_in q n ≤ number → n ≤ stop
     → MatchOption held (Unit {0}) (λ p. IsPeriodOf q p × ((p.number ≤ number) × (p.number ≤ period_in q stop)))
 cases_held q None n number stop h l u = tt
-cases_held q (Some p) n number stop h l u = (h.0, (omega (arith, h.1, l), (let m = period_mono q.frequency (monday_zero q.week_start) n stop u in omega (arith, h.1, m))))
+cases_held q (Some p) n number stop h l u =
+    (h.0, (omega (arith, h.1, l), (let m = period_mono q.frequency (monday_zero q.week_start) n stop u in omega (arith, h.1, m))))
 
 -- it begins at the first step from the place on
-pub walk_begins : (q : EffectiveRule) (start stop number : ℕ) (c : Cursor) → IsLeastFrom (is_stepped (period_in q start) q.interval) (period_in q c.place) number
+pub walk_begins : (q : EffectiveRule) (start stop number : ℕ) (c : Cursor) →
+    IsLeastFrom (is_stepped (period_in q start) q.interval) (period_in q c.place) number
     → c.place < stop → IsCursorIn q start None c → IsWalk q start stop number c c
 walk_begins q start stop number c next h own = record {
   step = next.passes;
@@ -266,9 +307,11 @@ walk_begins q start stop number c next h own = record {
   looked = λ a b s few. few.few;
 }
 
-pub bounded : (before now : Cursor) (number : ℕ) → LooksOnce number before.steps before.held now.steps now.held → before.steps ≤ fresh before.held → now.steps ≤ fresh now.held
+pub bounded : (before now : Cursor) (number : ℕ) → LooksOnce number before.steps before.held now.steps now.held → before.steps ≤ fresh before.held →
+    now.steps ≤ fresh now.held
 bounded before now number steps h =
-    let more = steps (λ m. true) refl (let e = count_every (fresh before.held) in omega (arith, e, h)) in let e = count_every (fresh now.held) in omega (arith, e, more)
+    let more = steps (λ m. true) refl (let e = count_every (fresh before.held) in omega (arith, e, h)) in let e = count_every (fresh now.held) in
+    omega (arith, e, more)
 
 module _ (q : EffectiveRule) (start stop number : ℕ) (before now : Cursor) (walk : IsWalk q start stop number before now) where
   -- past the bound's period nothing is left
@@ -276,9 +319,18 @@ module _ (q : EffectiveRule) (start stop number : ℕ) (before now : Cursor) (wa
   walk_ends past n l u = walk.none n l (let m = period_mono q.frequency (monday_zero q.week_start) n (stop - 1) (omega arith) in omega (arith, m))
 
   pub walk_ended : IsWalked q start None stop None before now
-  walk_ended = record { held = past now.held walk.held; found = tt; moved = walk.moved; begun = walk.begun; steps = walk.steps; counted = tt; looked = walk.looked }
+  walk_ended = record {
+    held = past now.held walk.held;
+    found = tt;
+    moved = walk.moved;
+    begun = walk.begun;
+    steps = walk.steps;
+    counted = tt;
+    looked = walk.looked;
+  }
     where
-      past : (o : Option RecurrencePeriod) → MatchOption o (Unit {0}) (λ p. IsPeriodOf q p × ((p.number ≤ number) × (p.number ≤ period_in q stop))) → HeldBy q o stop
+      past : (o : Option RecurrencePeriod) → MatchOption o (Unit {0}) (λ p. IsPeriodOf q p × ((p.number ≤ number) × (p.number ≤ period_in q stop))) →
+          HeldBy q o stop
       past None h = tt
       past (Some p) h = (h.0, h.1.1)
 
@@ -289,7 +341,8 @@ module _ (q : EffectiveRule) (start stop number : ℕ) (before now : Cursor) (wa
   -- a look in a period
   module _ (after : Cursor) (h : before.place < stop) (top : number ≤ period_in q (stop - 1))
       (held : MatchOption after.held ⊥ (λ p. IsPeriodOf q p × (p.number ≡ number))) (place : after.place ≡ now.place)
-      (steps : LooksOnce number now.steps now.held after.steps after.held) (looks : HasBegun now.held now.steps → HasBegun after.held after.steps) (moved : LooksOrStays now after) where
+      (steps : LooksOnce number now.steps now.held after.steps after.held) (looks : HasBegun now.held now.steps →
+      HasBegun after.held after.steps) (moved : LooksOrStays now after) where
     looked : (a b : ℕ) → stop ≤ b → HasLookedIn q start None before a b → after.steps ≤ count (fresh after.held) (is_met q start a b)
     looked a b s few = steps (is_met q start a b) (meets q start a b before.place stop number few.low h s walk.step walk.low top) (walk.looked a b s few)
 
@@ -308,18 +361,28 @@ module _ (q : EffectiveRule) (start stop number : ℕ) (before now : Cursor) (wa
     }
 
     pub walk_found : (n : ℕ) → IsLeastFrom (is_chosen_within q start number) now.place n → IsWalked q start None stop (Some n) before after
-    walk_found n next = record { held = below after.held held; found = here after.held held (looks walk.begun); moved = then_moves before now after walk.moved moved; begun = looks walk.begun; steps = bounded now after number steps walk.steps; counted = tt; looked = looked }
+    walk_found n next = record {
+      held = below after.held held;
+      found = here after.held held (looks walk.begun);
+      moved = then_moves before now after walk.moved moved;
+      begun = looks walk.begun;
+      steps = bounded now after number steps walk.steps;
+      counted = tt;
+      looked = looked;
+    }
       where
         below : (o : Option RecurrencePeriod) → MatchOption o ⊥ (λ p. IsPeriodOf q p × (p.number ≡ number)) → HeldBy q o stop
         below None h = absurd h
         below (Some p) h = (h.0, (let m = period_mono q.frequency (monday_zero q.week_start) (stop - 1) stop (omega arith) in omega (arith, h.1, m, top)))
 
-        here : (o : Option RecurrencePeriod) → MatchOption o ⊥ (λ p. IsPeriodOf q p × (p.number ≡ number)) → HasBegun o after.steps → HeldBy q o n × ((1 ≤ after.steps) × HoldsPeriodOf q o n)
+        here : (o : Option RecurrencePeriod) → MatchOption o ⊥ (λ p. IsPeriodOf q p × (p.number ≡ number)) → HasBegun o after.steps →
+            HeldBy q o n × ((1 ≤ after.steps) × HoldsPeriodOf q o n)
         here None h some = absurd h
         here (Some p) h some = let own = within_facts q start number n next.passes in ((h.0, omega (arith, h.1, own.0)), (some, h.1 ∙ sym own.0))
 
     -- and where it finds none the walk goes on
-    pub walk_goes_on : (next : ℕ) → 1 ≤ q.interval → ((n : ℕ) → now.place ≤ n → is_chosen_within q start number n ≡ false) → IsNextOpen q (period_in q start) (number + q.interval) next
+    pub walk_goes_on : (next : ℕ) → 1 ≤ q.interval → ((n : ℕ) → now.place ≤ n → is_chosen_within q start number n ≡ false) →
+        IsNextOpen q (period_in q start) (number + q.interval) next
         → IsWalk q start stop next before after
     walk_goes_on next some none is_next = record {
       step = is_next.step;
@@ -342,18 +405,28 @@ module _ (q : EffectiveRule) (start stop number : ℕ) (before now : Cursor) (wa
       looked = looked;
     }
       where
-        past : (o : Option RecurrencePeriod) → MatchOption o ⊥ (λ p. IsPeriodOf q p × (p.number ≡ number)) → MatchOption o (Unit {0}) (λ p. IsPeriodOf q p × ((p.number ≤ next) × (p.number ≤ period_in q stop)))
+        past : (o : Option RecurrencePeriod) → MatchOption o ⊥ (λ p. IsPeriodOf q p × (p.number ≡ number)) →
+            MatchOption o (Unit {0}) (λ p. IsPeriodOf q p × ((p.number ≤ next) × (p.number ≤ period_in q stop)))
         past None h = absurd h
-        past (Some p) h = (h.0, (omega (arith, h.1, is_next.low), (let m = period_mono q.frequency (monday_zero q.week_start) (stop - 1) stop (omega arith) in omega (arith, h.1, m, top))))
+        past (Some p) h = (
+          h.0,
+          (
+            omega (arith, h.1, is_next.low),
+            (let m = period_mono q.frequency (monday_zero q.week_start) (stop - 1) stop (omega arith) in
+                omega (arith, h.1, m, top)),
+          ),
+        )
 
 pub walk_reach : (q : EffectiveRule) (number stop : ℕ) → number ≤ period_in q (stop - 1) → first_local q.frequency (monday_zero q.week_start) number ≤ stop
 walk_reach q number stop h = let b = begun q.frequency (monday_zero q.week_start) number (stop - 1) h in omega (arith, b)
 
 -- a cursor that has looked at nothing
-pub cursor_begins : (q : EffectiveRule) (start : ℕ) (o : Option ℕ) (place : ℕ) → place < calendar_end → IsCursorIn q start o (record { place = place; steps = 0; held = None; counted = 0; limit = 0 })
+pub cursor_begins : (q : EffectiveRule) (start : ℕ) (o : Option ℕ) (place : ℕ) → place < calendar_end →
+    IsCursorIn q start o (record { place = place; steps = 0; held = None; counted = 0; limit = 0 })
 cursor_begins q start None place h = record { inside = h; held = tt; begun = tt; steps = omega arith; counted = tt }
 cursor_begins q start (Some c) place h = record { inside = h; held = tt; begun = tt; steps = omega arith; counted = tt }
 
-pub looked_none : (q : EffectiveRule) (start : ℕ) (o : Option ℕ) (place from b : ℕ) → place ≡ from → HasLookedIn q start o (record { place = place; steps = 0; held = None; counted = 0; limit = 0 }) (looks_from o start from) b
+pub looked_none : (q : EffectiveRule) (start : ℕ) (o : Option ℕ) (place from b : ℕ) → place ≡ from →
+    HasLookedIn q start o (record { place = place; steps = 0; held = None; counted = 0; limit = 0 }) (looks_from o start from) b
 looked_none q start None place from b e = record { low = omega (arith, e); few = omega arith }
 looked_none q start (Some c) place from b e = record { low = omega arith; few = omega arith }

@@ -1,5 +1,6 @@
 -- The calendar repeats after 400 years, which are 146,097 days.
-use Rattle.std.proofs.Common.{◌≡◌, ℕ, zero, suc, ◌+◌, ◌-◌, ◌*◌, ◌/◌, ◌%◌, ◌≤◌, inl, inr, Bool, true, false, cond, not, ◌&&◌, ◌||◌, ◌==◌, nat_le, pos, refl, ap, ◌∙◌, arith}
+use Rattle.std.proofs.Common.{◌≡◌, ℕ, zero, suc, ◌+◌, ◌-◌, ◌*◌, ◌/◌, ◌%◌, ◌≤◌, inl, inr, Bool, true, false, cond, not, ◌&&◌, ◌||◌, ◌==◌, nat_le, pos, refl, ap}
+use Rattle.std.proofs.Common.{◌∙◌, arith}
 use Rattle.std.proofs.lemmas.Bool.{cases_lt}
 use Rattle.jiff_core.specs.Calendar.{is_leap_year, days_in_year, days_in_month, days_of_months}
 use Rattle.jiff_core.specs.Weekday.{monday_zero}
@@ -60,7 +61,8 @@ module _ (k : ℕ) where
   month_from_again y n zero = refl
   month_from_again y n (suc m) = by_test (nat_le (days_of_months (pos y) m + 1) n) refl (month_from_again y n m)
     where
-      by_test : (b : Bool) → nat_le (days_of_months (pos y) m + 1) n ≡ b → month_from (y + 400 * k) n m ≡ month_from y n m → month_from (y + 400 * k) n (suc m) ≡ month_from y n (suc m)
+      by_test : (b : Bool) → nat_le (days_of_months (pos y) m + 1) n ≡ b → month_from (y + 400 * k) n m ≡ month_from y n m →
+          month_from (y + 400 * k) n (suc m) ≡ month_from y n (suc m)
       by_test true e before = let later = ap (λ x. nat_le (x + 1) n) (months_again y m) ∙ e in rw (later, month_from) (rw (e, month_from) refl)
       by_test false e before = let later = ap (λ x. nat_le (x + 1) n) (months_again y m) ∙ e in rw (later, month_from) (rw (e, month_from) before)
 
@@ -86,12 +88,15 @@ module _ (k : ℕ) where
   own_month_size e = ap (λ y. days_in_month (pos y) (month_of (e + 146_097 * k))) (year_again e)
       ∙ ap (λ m. days_in_month (pos (year_of e + 400 * k)) m) (month_again e) ∙ month_size_again (year_of e) (month_of e)
 
-  place_of_week : (p : Ordinals) (f : ℕ) → lets_place p (week_number (f + 146_097 * k)) (weeks_of_year (f + 146_097 * k)) ≡ lets_place p (week_number f) (weeks_of_year f)
+  place_of_week : (p : Ordinals) (f : ℕ) → lets_place p (week_number (f + 146_097 * k)) (weeks_of_year (f + 146_097 * k))
+      ≡ lets_place p (week_number f) (weeks_of_year f)
   place_of_week p f =
       ap (λ d. lets_place p ((d - 1) / 7 + 1) ((days_in_year (pos (year_of (f + 146_097 * k))) - 1 - (d - 1) % 7) / 7 + 1)) (year_day_again f)
       ∙ ap (λ n. lets_place p ((year_day_of f - 1) / 7 + 1) ((n - 1 - (year_day_of f - 1) % 7) / 7 + 1)) (own_year_size f)
 
-  nth_in_month : (p : Ordinals) (e : ℕ) → lists_nth p (month_day_of (e + 146_097 * k)) (days_in_month (pos (year_of (e + 146_097 * k))) (month_of (e + 146_097 * k))) ≡ lists_nth p (month_day_of e) (days_in_month (pos (year_of e)) (month_of e))
+  nth_in_month : (p : Ordinals) (e : ℕ) →
+      lists_nth p (month_day_of (e + 146_097 * k)) (days_in_month (pos (year_of (e + 146_097 * k))) (month_of (e + 146_097 * k)))
+      ≡ lists_nth p (month_day_of e) (days_in_month (pos (year_of e)) (month_of e))
   nth_in_month p e = ap (λ d. lists_nth p d (days_in_month (pos (year_of (e + 146_097 * k))) (month_of (e + 146_097 * k)))) (month_day_again e)
       ∙ ap (λ n. lists_nth p (month_day_of e) n) (own_month_size e)
 
@@ -109,18 +114,22 @@ module _ (k : ℕ) where
   numbered_again Secondly q p e = refl
 
 -- the week of a day, also where its fourth day is taken 400 years later
-week_place : (p : Ordinals) (w k e : ℕ) → 1 ≤ k → lets_place p (week_number (fourth_day w (e + 146_097 * k))) (weeks_of_year (fourth_day w (e + 146_097 * k))) ≡ lets_place p (week_number (fourth_day w e)) (weeks_of_year (fourth_day w e))
+week_place : (p : Ordinals) (w k e : ℕ) → 1 ≤ k → lets_place p (week_number (fourth_day w (e + 146_097 * k))) (weeks_of_year (fourth_day w (e + 146_097 * k)))
+    ≡ lets_place p (week_number (fourth_day w e)) (weeks_of_year (fourth_day w e))
 week_place p w zero e some = absurd (omega (arith, some))
 week_place p w (suc k) e some = elim (cases_lt (7 * week_of w e + w) 9) [
   | inl early ↦
       let own = fourth_early w e early in
       let other = fourth_late w (e + 146_097 * suc k) (omega arith) in
-      ap (λ f. lets_place p (week_number f) (weeks_of_year f)) (let same : fourth_day w (e + 146_097 * suc k) ≡ fourth_day w e + 146_097 * k = omega (arith, own, other) in same) ∙ place_of_week k p (fourth_day w e)
+      ap (λ f. lets_place p (week_number f) (weeks_of_year f)) (let same : fourth_day w (e + 146_097 * suc k) ≡ fourth_day w e + 146_097 * k =
+      omega (arith, own, other) in same) ∙ place_of_week k p (fourth_day w e)
   | inr late ↦
       let own = fourth_late w e late in
       let other = fourth_late w (e + 146_097 * suc k) (omega arith) in
-      ap (λ f. lets_place p (week_number f) (weeks_of_year f)) (let same : fourth_day w (e + 146_097 * suc k) ≡ fourth_day w e + 146_097 * suc k = omega (arith, own, other, late) in same) ∙ place_of_week (suc k) p (fourth_day w e)
+      ap (λ f. lets_place p (week_number f) (weeks_of_year f)) (let same : fourth_day w (e + 146_097 * suc k) ≡ fourth_day w e + 146_097 * suc k =
+      omega (arith, own, other, late) in same) ∙ place_of_week (suc k) p (fourth_day w e)
 ]
+
 -- a rule allows the same dates
 pub date_again : (q : EffectiveRule) (k e : ℕ) → 1 ≤ k → lets_date q (e + 146_097 * k) ≡ lets_date q e
 date_again q k e some = all
@@ -130,8 +139,10 @@ date_again q k e some = all
     (ap (λ d. lets_wide_place q.year_days d (days_in_year (pos (year_of (e + 146_097 * k))))) (year_day_again k e)
     ∙ ap (λ n. lets_wide_place q.year_days (year_day_of e) n) (own_year_size k e))
     (week_place q.weeks (monday_zero q.week_start) k e some)
-    (ap (λ d. lists_no_weekday q.weekdays || contains q.weekdays.plain d || lets_numbered q.frequency q (numbers_of q.weekdays d) (e + 146_097 * k)) (weekday_again k e)
-    ∙ ap (λ x. lists_no_weekday q.weekdays || contains q.weekdays.plain (weekday_of e) || x) (numbered_again k q.frequency q (numbers_of q.weekdays (weekday_of e)) e))
+    (ap (λ d. lists_no_weekday q.weekdays || contains q.weekdays.plain d || lets_numbered q.frequency q (numbers_of q.weekdays d) (e + 146_097 * k))
+    (weekday_again k e)
+    ∙ ap (λ x. lists_no_weekday q.weekdays || contains q.weekdays.plain (weekday_of e) || x)
+    (numbered_again k q.frequency q (numbers_of q.weekdays (weekday_of e)) e))
   where
     all : {a b c d e v w x y z : Bool} → a ≡ v → b ≡ w → c ≡ x → d ≡ y → e ≡ z → (a && b && c && d && e) ≡ (v && w && x && y && z)
     all {a} {b} {c} {d} {e} {v} {w} {x} {y} {z} p q r s t = rw (p, q, r, s, t) refl

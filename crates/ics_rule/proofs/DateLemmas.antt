@@ -25,7 +25,8 @@ pub lets_week-fields : (q : EffectiveRule) (e : ℕ) (c : Civil) → IsCivilOf c
     lets_place q.weeks ((c.year_day - 1) / 7 + 1) ((days_in_year (pos c.year) - 1 - (c.year_day - 1) % 7) / 7 + 1) ≡ lets_week q e
 lets_week-fields q e c f =
     ap (λ y. lets_place q.weeks ((c.year_day - 1) / 7 + 1) ((days_in_year (pos y) - 1 - (c.year_day - 1) % 7) / 7 + 1)) f.year
-    ∙ ap (λ d. lets_place q.weeks ((d - 1) / 7 + 1) ((days_in_year (pos (year_of (fourth_day (monday_zero q.week_start) e))) - 1 - (d - 1) % 7) / 7 + 1)) f.year_day
+    ∙ ap (λ d. lets_place q.weeks ((d - 1) / 7 + 1) ((days_in_year (pos (year_of (fourth_day (monday_zero q.week_start) e))) - 1 - (d - 1) % 7) / 7 + 1))
+    f.year_day
 
 -- a conjunction fails at each of its parts
 pub out_1 : (a b c d e : Bool) → a ≡ false → (a && b && c && d && e) ≡ false
@@ -57,7 +58,9 @@ none_numbered : (f : Frequency) (q : EffectiveRule) (p : Ordinals) (e : ℕ) →
 none_numbered Monthly q p e h = none_nth p (month_day_of e) (days_in_month (pos (year_of e)) (month_of e)) h
 none_numbered Yearly q p e h = by_cases (not (lists_none q.weeks)) (not (is_empty q.months))
   where
-    by_cases : (a b : Bool) → (if a then not (lists_none p) else (if b then lists_nth p (month_day_of e) (days_in_month (pos (year_of e)) (month_of e)) else lists_nth p (year_day_of e) (days_in_year (pos (year_of e))))) ≡ false
+    by_cases : (a b : Bool) →
+        (if a then not (lists_none p) else (if b then lists_nth p (month_day_of e) (days_in_month (pos (year_of e)) (month_of e)) else lists_nth p
+        (year_day_of e) (days_in_year (pos (year_of e))))) ≡ false
     by_cases true b = ap not h
     by_cases false true = none_nth p (month_day_of e) (days_in_month (pos (year_of e)) (month_of e)) h
     by_cases false false = none_nth p (year_day_of e) (days_in_year (pos (year_of e))) h
@@ -67,15 +70,20 @@ none_numbered Hourly q p e h = ap not h
 none_numbered Minutely q p e h = ap not h
 none_numbered Secondly q p e h = ap not h
 
-pub weekday_out : (q : EffectiveRule) (e : ℕ) → (lists_no_weekday q.weekdays || contains q.weekdays.plain (weekday_of e)) ≡ false → lists_none (numbers_of q.weekdays (weekday_of e)) ≡ true → lets_date q e ≡ false
-weekday_out q e a c = out_5 (lets q.months (month_of e)) (lets_place q.month_days (month_day_of e) (days_in_month (pos (year_of e)) (month_of e))) (lets_wide_place q.year_days (year_day_of e) (days_in_year (pos (year_of e)))) (lets_week q e) (lets_weekday q e)
-    (ap (λ x. x || lets_numbered q.frequency q (numbers_of q.weekdays (weekday_of e)) e) a ∙ none_numbered q.frequency q (numbers_of q.weekdays (weekday_of e)) e c)
+pub weekday_out : (q : EffectiveRule) (e : ℕ) → (lists_no_weekday q.weekdays || contains q.weekdays.plain (weekday_of e)) ≡ false →
+    lists_none (numbers_of q.weekdays (weekday_of e)) ≡ true → lets_date q e ≡ false
+weekday_out q e a c = out_5 (lets q.months (month_of e)) (lets_place q.month_days (month_day_of e) (days_in_month (pos (year_of e)) (month_of e)))
+    (lets_wide_place q.year_days (year_day_of e) (days_in_year (pos (year_of e)))) (lets_week q e) (lets_weekday q e)
+    (ap (λ x. x || lets_numbered q.frequency q (numbers_of q.weekdays (weekday_of e)) e) a
+    ∙ none_numbered q.frequency q (numbers_of q.weekdays (weekday_of e)) e c)
 
 -- where no other part speaks of the date BYDAY decides
 pub weekdays_alone : (q : EffectiveRule) (e : ℕ) → names_weekdays_alone q ≡ true → lets_date q e ≡ lets_weekday q e
 weekdays_alone q e alone = let f = four (is_empty q.months) (lists_none q.month_days) (lists_none_wide q.year_days) (lists_none q.weeks) alone in
-    sym (all_in (lets q.months (month_of e)) (lets_place q.month_days (month_day_of e) (days_in_month (pos (year_of e)) (month_of e))) (lets_wide_place q.year_days (year_day_of e) (days_in_year (pos (year_of e)))) (lets_week q e) (lets_weekday q e)
-    (or_left (is_empty q.months) _ f.0) (or_left (lists_none q.month_days) _ f.1.0) (or_left (lists_none_wide q.year_days) _ f.1.1.0) (or_left (lists_none q.weeks) _ f.1.1.1))
+    sym (all_in (lets q.months (month_of e)) (lets_place q.month_days (month_day_of e) (days_in_month (pos (year_of e)) (month_of e)))
+    (lets_wide_place q.year_days (year_day_of e) (days_in_year (pos (year_of e)))) (lets_week q e) (lets_weekday q e)
+    (or_left (is_empty q.months) _ f.0) (or_left (lists_none q.month_days) _ f.1.0) (or_left (lists_none_wide q.year_days) _ f.1.1.0)
+    (or_left (lists_none q.weeks) _ f.1.1.1))
   where
     four : (a b c d : Bool) → (a && b && c && d) ≡ true → (a ≡ true) × ((b ≡ true) × ((c ≡ true) × (d ≡ true)))
     four true true true true h = (refl, (refl, (refl, refl)))
@@ -85,20 +93,26 @@ weekdays_alone q e alone = let f = four (is_empty q.months) (lists_none q.month_
     four false b c d h = absurd (cc)
 
 -- and a weekday that stands alone is in there
-pub weekday_in : (q : EffectiveRule) (e : ℕ) → (lists_no_weekday q.weekdays || contains q.weekdays.plain (weekday_of e)) ≡ true → names_weekdays_alone q ≡ true → lets_date q e ≡ true
-weekday_in q e day alone = weekdays_alone q e alone ∙ or_left (lists_no_weekday q.weekdays || contains q.weekdays.plain (weekday_of e)) (lets_numbered q.frequency q (numbers_of q.weekdays (weekday_of e)) e) day
+pub weekday_in : (q : EffectiveRule) (e : ℕ) → (lists_no_weekday q.weekdays || contains q.weekdays.plain (weekday_of e)) ≡ true →
+    names_weekdays_alone q ≡ true → lets_date q e ≡ true
+weekday_in q e day alone = weekdays_alone q e alone
+    ∙ or_left (lists_no_weekday q.weekdays || contains q.weekdays.plain (weekday_of e)) (lets_numbered q.frequency q (numbers_of q.weekdays (weekday_of e)) e)
+    day
 
 -- under WEEKLY with BYDAY alone, the weekdays that it names
 pub in_week : (d : ℕ) (b : Bool) → d < 7 → (nat_lt d 7 && b) ≡ b
 in_week d b h = let less : nat_lt d 7 ≡ true = grind (arith, nat_tests) in rw less refl
 
-named_in : (q : EffectiveRule) (e : ℕ) → q.frequency ≡ Weekly → names_weekdays_alone q ≡ true → lists_no_weekday q.weekdays ≡ false → names_weekday q.weekdays (weekday_of e) ≡ lets_date q e
+named_in : (q : EffectiveRule) (e : ℕ) → q.frequency ≡ Weekly → names_weekdays_alone q ≡ true → lists_no_weekday q.weekdays ≡ false →
+    names_weekday q.weekdays (weekday_of e) ≡ lets_date q e
 named_in q e weekly alone some =
-    sym (weekdays_alone q e alone ∙ ap (λ x. x || contains q.weekdays.plain (weekday_of e) || lets_numbered q.frequency q (numbers_of q.weekdays (weekday_of e)) e) some
+    sym (weekdays_alone q e alone
+    ∙ ap (λ x. x || contains q.weekdays.plain (weekday_of e) || lets_numbered q.frequency q (numbers_of q.weekdays (weekday_of e)) e) some
     ∙ ap (λ f. contains q.weekdays.plain (weekday_of e) || lets_numbered f q (numbers_of q.weekdays (weekday_of e)) e) weekly)
 
 pub day_of_week : (q : EffectiveRule) (e d set : ℕ) (found : Bool) → q.frequency ≡ Weekly → names_weekdays_alone q ≡ true → lists_no_weekday q.weekdays ≡ false
-    → d ≡ weekday_of e → d < 7 → ((n : ℕ) → contains set n ≡ (nat_lt n 7 && names_weekday q.weekdays n)) → found ≡ (nat_lt d 64 && contains set d) → found ≡ lets_date q e
+    → d ≡ weekday_of e → d < 7 → ((n : ℕ) → contains set n ≡ (nat_lt n 7 && names_weekday q.weekdays n)) → found ≡ (nat_lt d 64 && contains set d) →
+    found ≡ lets_date q e
 day_of_week q e d set found weekly alone some day small named h =
     h ∙ in_word d (contains set d) (omega (arith, small)) ∙ named d ∙ in_week d (names_weekday q.weekdays d) small
     ∙ ap (names_weekday q.weekdays) day ∙ named_in q e weekly alone some

@@ -68,7 +68,8 @@ module _ (q : EffectiveRule) (start : ℕ) (some : 1 ≤ q.interval) where
   next_step_adds : (x : ℕ) → IsStep q start x → chosen_to q start (x + q.interval) ≡ chosen_to q start (suc x)
   next_step_adds x step =
       let low = step_low q start x step in
-      count_flat (first_local q.frequency (monday_zero q.week_start) (suc x)) (first_local q.frequency (monday_zero q.week_start) (x + q.interval)) (is_chosen q start)
+      count_flat (first_local q.frequency (monday_zero q.week_start) (suc x)) (first_local q.frequency (monday_zero q.week_start) (x + q.interval))
+      (is_chosen q start)
       (first_mono q (suc x) (x + q.interval) (omega (arith, low)) (omega (arith, some)))
       (λ m l u. no_step q start m (false_from_ne_true (is_stepped (period_in q start) q.interval (period_in q m)) (λ yes.
       let above = begins q.frequency (monday_zero q.week_start) (suc x) m l in
@@ -84,7 +85,8 @@ module _ (q : EffectiveRule) (start : ℕ) (some : 1 ≤ q.interval) where
     periods = q.interval * steps
 
     is_step : (j p : ℕ) → IsStep q start p → IsStep q start (p + j * q.interval)
-    is_step j p step = ap (λ y. is_stepped (period_in q start) q.interval (p + y)) (mul_comm j q.interval) ∙ step_repeats q.interval j (period_in q start) p (stepped_parts (period_in q start) q.interval p step).0 ∙ step
+    is_step j p step = ap (λ y. is_stepped (period_in q start) q.interval (p + y)) (mul_comm j q.interval)
+        ∙ step_repeats q.interval j (period_in q start) p (stepped_parts (period_in q start) q.interval p step).0 ∙ step
 
     is_round : (p : ℕ) → IsStep q start p → IsStep q start (p + periods)
     is_round p step = step_repeats q.interval steps (period_in q start) p (stepped_parts (period_in q start) q.interval p step).0 ∙ step
@@ -147,7 +149,8 @@ module _ (q : EffectiveRule) (start : ℕ) (some : 1 ≤ q.interval) where
       where
         step_rounds : (r p : ℕ) → IsStep q start p → IsStep q start (p + r * periods)
         step_rounds zero p step = ap (is_stepped (period_in q start) q.interval) (let same : p + 0 * periods ≡ p = omega arith in same) ∙ step
-        step_rounds (suc r) p step = ap (is_stepped (period_in q start) q.interval) (let same : p + suc r * periods ≡ p + r * periods + periods = omega arith in same) ∙ is_round (p + r * periods) (step_rounds r p step)
+        step_rounds (suc r) p step = ap (is_stepped (period_in q start) q.interval) (let same : p + suc r * periods ≡ p + r * periods + periods = omega arith in
+            same) ∙ is_round (p + r * periods) (step_rounds r p step)
 
     all_rounds : (r p : ℕ) → 1 ≤ p → IsStep q start p → IsEarly q (p + r * periods) → chosen_to q start p ≤ chosen_to q start (p + periods)
         → chosen_to q start p + r * (chosen_to q start (p + periods) - chosen_to q start p) ≡ chosen_to q start (p + r * periods)
@@ -155,7 +158,9 @@ module _ (q : EffectiveRule) (start : ℕ) (some : 1 ≤ q.interval) where
     all_rounds (suc r) p low step high grows =
         let d = chosen_to q start (p + periods) - chosen_to q start p in
         let at = p + r * periods in
-        let up : first_local q.frequency (monday_zero q.week_start) (p + r * periods) ≤ first_local q.frequency (monday_zero q.week_start) (p + suc r * periods) = (let l = step_low q start p step in first_mono q (p + r * periods) (p + suc r * periods) (omega (arith, l)) (omega arith)) in
+        let up : first_local q.frequency (monday_zero q.week_start) (p + r * periods)
+        ≤ first_local q.frequency (monday_zero q.week_start) (p + suc r * periods) =
+        (let l = step_low q start p step in first_mono q (p + r * periods) (p + suc r * periods) (omega (arith, l)) (omega arith)) in
         let before = all_rounds r p low step (omega (arith, up, high)) grows in
         let one = rounds_add r p low step high in
         let more : suc r * d ≡ r * d + d = omega arith in
@@ -166,16 +171,22 @@ module _ (q : EffectiveRule) (start : ℕ) (some : 1 ≤ q.interval) where
       some = positive q.interval steps some most;
       step = step_repeats q.interval steps;
       total = λ begin rounds before one low step more high eb eo.
-          let grows = count_mono (first_local q.frequency (monday_zero q.week_start) begin) (first_local q.frequency (monday_zero q.week_start) (begin + periods)) (is_chosen q start) (reach begin (begin + periods) step (omega arith)) in
-          let all = all_rounds rounds begin (omega (arith, low)) step high grows in
-          (omega (arith, eb, eo, grows), ap (λ b. b + rounds * (one - b)) eb ∙ ap (λ o. chosen_to q start begin + rounds * (o - chosen_to q start begin)) eo ∙ all);
+          let grows = count_mono (first_local q.frequency (monday_zero q.week_start) begin)
+          (first_local q.frequency (monday_zero q.week_start) (begin + periods)) (is_chosen q start) (reach begin (begin + periods) step (omega arith)) in
+          let all = all_rounds rounds begin (omega (arith, low)) step high grows in (
+            omega (arith, eb, eo, grows),
+            ap (λ b. b + rounds * (one - b)) eb ∙ ap (λ o. chosen_to q start begin + rounds * (o - chosen_to q start begin)) eo
+                ∙ all,
+          );
     }
+
 -- a round of what a rule allows is one
 pub even_of_round : (q : EffectiveRule) (start periods seconds : ℕ) → IsRound q periods seconds → IsEvenRound q start periods
 even_of_round q start periods seconds round = record {
   some = round.some;
   step = round.step;
-  total = λ begin rounds before one low step more high eb eo. rounds_total q start periods seconds round begin rounds before one low (stepped_parts (period_in q start) q.interval begin step).0 more high eb eo;
+  total = λ begin rounds before one low step more high eb eo. rounds_total q start periods seconds round begin rounds before one low
+      (stepped_parts (period_in q start) q.interval begin step).0 more high eb eo;
 }
 
 -- only months and years differ in their seconds
@@ -190,14 +201,16 @@ is_monthly Yearly e other = absurd (other refl)
 
 -- twelve months in steps of the interval are one
 pub even_months : (q : EffectiveRule) (start : ℕ) → 1 ≤ q.interval → IsFlat q → q.frequency ≡ Monthly → IsEvenRound q start (q.interval * 12)
-even_months q start some flat monthly = even_is q start some 12 (λ x low high. months x (x + q.interval * 12) low high (omega arith) (omega (arith, low))) (omega arith)
+even_months q start some flat monthly = even_is q start some 12 (λ x low high. months x (x + q.interval * 12) low high (omega arith) (omega (arith, low)))
+    (omega arith)
   where
     months : (x y : ℕ) → 1 ≤ x → IsEarly q y → x ≤ y → (y - 1) % 12 ≡ (x - 1) % 12
         → allowed_to q (suc x) + allowed_to q y ≡ allowed_to q (suc y) + allowed_to q x
     months zero y low high order same = absurd (omega (arith, low))
     months (suc i) zero low high order same = absurd (omega (arith, order))
     months (suc i) (suc j) low high order same =
-        let is : (p : ℕ) → allowed_to q (suc p) ≡ allowed_before q (month_local p) = λ p. ap (λ f. allowed_before q (first_local f (monday_zero q.week_start) (suc p))) monthly in
+        let is : (p : ℕ) → allowed_to q (suc p) ≡ allowed_before q (month_local p) =
+        λ p. ap (λ f. allowed_before q (first_local f (monday_zero q.week_start) (suc p))) monthly in
         let reach = subst (λ f. first_local f (monday_zero q.week_start) (suc j) ≤ rules_end) monthly high in
         let long = days_before_year_low (j / 12) in
         let back : suc j - 1 ≡ j = omega arith in
@@ -217,7 +230,8 @@ even_years q start some flat yearly = even_is q start some 1 (λ x low high. yea
   where
     years : (x y : ℕ) → IsEarly q y → x ≤ y → allowed_to q (suc x) + allowed_to q y ≡ allowed_to q (suc y) + allowed_to q x
     years x y high order =
-        let is : (p : ℕ) → allowed_to q p ≡ allowed_before q (days_before_year p * 86_400) = λ p. ap (λ f. allowed_before q (first_local f (monday_zero q.week_start) p)) yearly in
+        let is : (p : ℕ) → allowed_to q p ≡ allowed_before q (days_before_year p * 86_400) =
+        λ p. ap (λ f. allowed_before q (first_local f (monday_zero q.week_start) p)) yearly in
         let reach = subst (λ f. first_local f (monday_zero q.week_start) y ≤ rules_end) yearly high in
         let long = days_before_year_low y in
         let year : y ≤ 9_999 = omega (arith, reach, long) in

@@ -33,15 +33,18 @@ from_sunday : map (is_kept (fortnightly Sunday)) august ≡ true ∷ false ∷ f
 unfolding rules_on_literals days_on_literals
 from_sunday = refl
 
-other_times : map (is_kept (fortnightly Monday)) (at 1997 8 5 9 1 ∷ at 1997 8 5 8 0 ∷ at 1997 8 6 9 0 ∷ at 1997 7 22 9 0 ∷ (at 1997 8 5 9 0 + 1) ∷ []) ≡ false ∷ false ∷ false ∷ false ∷ false ∷ []
+other_times : map (is_kept (fortnightly Monday)) (at 1997 8 5 9 1 ∷ at 1997 8 5 8 0 ∷ at 1997 8 6 9 0 ∷ at 1997 7 22 9 0 ∷ (at 1997 8 5 9 0 + 1) ∷ []) ≡ false
+    ∷ false ∷ false ∷ false ∷ false ∷ []
 unfolding rules_on_literals days_on_literals
 other_times = refl
 
 -- Friday the thirteenth: the start does not fit, and is kept all the same
 abbrev friday_13 : Recurrence
-friday_13 = rule (record (every Monthly) { weekdays = on_weekdays (only fr); month_days = record no_ordinals { front = only 13 } }) (local 1997 9 2 9 0) DateTime
+friday_13 = rule (record (every Monthly) { weekdays = on_weekdays (only fr); month_days = record no_ordinals { front = only 13 } }) (local 1997 9 2 9 0)
+    DateTime
 
-fridays : map (is_kept friday_13) (at 1997 9 2 9 0 ∷ at 1997 9 13 9 0 ∷ at 1997 9 12 9 0 ∷ at 1998 2 13 9 0 ∷ at 1998 3 13 9 0 ∷ at 1998 10 13 9 0 ∷ at 1998 11 13 9 0 ∷ [])
+fridays : map (is_kept friday_13) (at 1997 9 2 9 0 ∷ at 1997 9 13 9 0 ∷ at 1997 9 12 9 0 ∷ at 1998 2 13 9 0 ∷ at 1998 3 13 9 0 ∷ at 1998 10 13 9 0
+    ∷ at 1998 11 13 9 0 ∷ [])
     ≡ true ∷ false ∷ false ∷ true ∷ true ∷ false ∷ true ∷ []
 unfolding rules_on_literals days_on_literals
 fridays = refl
@@ -54,7 +57,8 @@ start_unfit = refl
 abbrev halves : Recurrence
 halves = rule (record (every Monthly) { month_days = record no_ordinals { front = only 15 + only 30 } }) (local 2007 1 15 9 0) DateTime
 
-no_stand_in : map (is_kept halves) (at 2007 1 15 9 0 ∷ at 2007 1 30 9 0 ∷ at 2007 2 15 9 0 ∷ at 2007 2 28 9 0 ∷ at 2007 3 1 9 0 ∷ at 2007 3 2 9 0 ∷ at 2007 3 15 9 0 ∷ at 2007 3 30 9 0 ∷ [])
+no_stand_in : map (is_kept halves) (at 2007 1 15 9 0 ∷ at 2007 1 30 9 0 ∷ at 2007 2 15 9 0 ∷ at 2007 2 28 9 0 ∷ at 2007 3 1 9 0 ∷ at 2007 3 2 9 0
+    ∷ at 2007 3 15 9 0 ∷ at 2007 3 30 9 0 ∷ [])
     ≡ true ∷ true ∷ true ∷ false ∷ false ∷ false ∷ true ∷ true ∷ []
 unfolding rules_on_literals days_on_literals
 no_stand_in = refl
@@ -75,7 +79,8 @@ late_weeks_end = refl
 abbrev leap_day : Recurrence
 leap_day = rule (every Yearly) (local 2024 2 29 0 0) Date
 
-leap_days : map (is_kept leap_day) (at 2024 2 29 0 0 ∷ at 2025 2 28 0 0 ∷ at 2025 3 1 0 0 ∷ at 2028 2 28 0 0 ∷ at 2028 2 29 0 0 ∷ at 2028 3 29 0 0 ∷ at 2032 2 29 0 0 ∷ [])
+leap_days : map (is_kept leap_day) (at 2024 2 29 0 0 ∷ at 2025 2 28 0 0 ∷ at 2025 3 1 0 0 ∷ at 2028 2 28 0 0 ∷ at 2028 2 29 0 0 ∷ at 2028 3 29 0 0
+    ∷ at 2032 2 29 0 0 ∷ [])
     ≡ true ∷ false ∷ false ∷ false ∷ true ∷ false ∷ true ∷ []
 unfolding rules_on_literals days_on_literals
 leap_days = refl
@@ -84,7 +89,8 @@ leap_days = refl
 abbrev never : Recurrence
 never = rule (record (every Yearly) { months = only 2; month_days = record no_ordinals { front = only 30 } }) (local 2024 1 1 0 0) DateTime
 
-no_30_february : map (is_kept never) (at 2024 1 1 0 0 ∷ at 2025 2 28 0 0 ∷ at 2028 2 29 0 0 ∷ at 2025 3 2 0 0 ∷ at 2025 1 30 0 0 ∷ []) ≡ true ∷ false ∷ false ∷ false ∷ false ∷ []
+no_30_february : map (is_kept never) (at 2024 1 1 0 0 ∷ at 2025 2 28 0 0 ∷ at 2028 2 29 0 0 ∷ at 2025 3 2 0 0 ∷ at 2025 1 30 0 0 ∷ []) ≡ true ∷ false ∷ false
+    ∷ false ∷ false ∷ []
 unfolding rules_on_literals days_on_literals
 no_30_february = refl
 
@@ -92,7 +98,8 @@ no_30_february = refl
 abbrev last_friday : ℕ → Recurrence
 last_friday months = rule (record (every Yearly) { weekdays = nth_last_weekday 1 fr; months = months }) (local 2024 1 5 9 0) DateTime
 
-of_the_year : map (is_kept (last_friday 0)) (at 2024 1 5 9 0 ∷ at 2024 1 26 9 0 ∷ at 2024 12 20 9 0 ∷ at 2024 12 27 9 0 ∷ at 2025 12 26 9 0 ∷ at 2025 1 31 9 0 ∷ [])
+of_the_year : map (is_kept (last_friday 0)) (at 2024 1 5 9 0 ∷ at 2024 1 26 9 0 ∷ at 2024 12 20 9 0 ∷ at 2024 12 27 9 0 ∷ at 2025 12 26 9 0 ∷ at 2025 1 31 9 0
+    ∷ [])
     ≡ true ∷ false ∷ false ∷ true ∷ true ∷ false ∷ []
 unfolding rules_on_literals days_on_literals
 of_the_year = refl
@@ -106,7 +113,8 @@ of_january = refl
 abbrev fifth_last_monday : Recurrence
 fifth_last_monday = rule (record (every Monthly) { weekdays = nth_last_weekday 5 mo }) (local 2024 1 1 9 0) DateTime
 
-five_mondays : map (is_kept fifth_last_monday) (at 2024 1 1 9 0 ∷ at 2024 2 5 9 0 ∷ at 2024 4 1 9 0 ∷ at 2024 4 29 9 0 ∷ at 2024 7 1 9 0 ∷ []) ≡ true ∷ false ∷ true ∷ false ∷ true ∷ []
+five_mondays : map (is_kept fifth_last_monday) (at 2024 1 1 9 0 ∷ at 2024 2 5 9 0 ∷ at 2024 4 1 9 0 ∷ at 2024 4 29 9 0 ∷ at 2024 7 1 9 0 ∷ []) ≡ true ∷ false
+    ∷ true ∷ false ∷ true ∷ []
 unfolding rules_on_literals days_on_literals
 five_mondays = refl
 
@@ -114,7 +122,8 @@ five_mondays = refl
 abbrev second_last : Recurrence
 second_last = rule (record (every Monthly) { month_days = record no_ordinals { back = only 2 } }) (local 2024 1 30 9 0) DateTime
 
-second_last_days : map (is_kept second_last) (at 2024 1 30 9 0 ∷ at 2024 2 27 9 0 ∷ at 2024 2 28 9 0 ∷ at 2024 2 29 9 0 ∷ at 2025 2 27 9 0 ∷ at 2024 4 29 9 0 ∷ [])
+second_last_days : map (is_kept second_last) (at 2024 1 30 9 0 ∷ at 2024 2 27 9 0 ∷ at 2024 2 28 9 0 ∷ at 2024 2 29 9 0 ∷ at 2025 2 27 9 0 ∷ at 2024 4 29 9 0
+    ∷ [])
     ≡ true ∷ false ∷ true ∷ false ∷ true ∷ true ∷ []
 unfolding rules_on_literals days_on_literals
 second_last_days = refl
@@ -123,7 +132,8 @@ second_last_days = refl
 abbrev three_quarters : Recurrence
 three_quarters = rule (record (every Minutely) { interval = 45 }) (local 2007 3 11 1 30) DateTime
 
-quarters : map (λ m. is_kept three_quarters (at 2007 3 11 1 m)) (29 ∷ 30 ∷ 45 ∷ 74 ∷ 75 ∷ 76 ∷ 120 ∷ 165 ∷ []) ≡ false ∷ true ∷ false ∷ false ∷ true ∷ false ∷ true ∷ true ∷ []
+quarters : map (λ m. is_kept three_quarters (at 2007 3 11 1 m)) (29 ∷ 30 ∷ 45 ∷ 74 ∷ 75 ∷ 76 ∷ 120 ∷ 165 ∷ []) ≡ false ∷ true ∷ false ∷ false ∷ true ∷ false
+    ∷ true ∷ true ∷ []
 unfolding rules_on_literals days_on_literals
 quarters = refl
 
@@ -161,6 +171,7 @@ until_that_day = refl
 abbrev hourly_dates : Recurrence
 hourly_dates = rule (record (every Daily) { hours = only 9; until = Some (until.Utc (clock 23 0)) }) (local 2024 1 3 0 0) Date
 
-dates_alone : map (is_kept hourly_dates) (at 2024 1 3 0 0 ∷ at 2024 1 4 0 0 ∷ at 2024 1 4 9 0 ∷ at 2024 1 5 0 0 ∷ at 2024 1 6 0 0 ∷ []) ≡ true ∷ true ∷ false ∷ true ∷ false ∷ []
+dates_alone : map (is_kept hourly_dates) (at 2024 1 3 0 0 ∷ at 2024 1 4 0 0 ∷ at 2024 1 4 9 0 ∷ at 2024 1 5 0 0 ∷ at 2024 1 6 0 0 ∷ []) ≡ true ∷ true ∷ false
+    ∷ true ∷ false ∷ []
 unfolding rules_on_literals days_on_literals
 dates_alone = refl

@@ -1,6 +1,7 @@
 -- The months of a rule with days that each month has.
 use Rattle.std.specs.Option.{is_some}
-use Rattle.std.proofs.Common.{Option, Some, None, ◌≡◌, ℕ, zero, suc, ◌+◌, ◌-◌, ◌*◌, ◌/◌, ◌%◌, ◌<◌, ◌≤◌, Bool, true, false, ◌&&◌, ◌||◌, pos, refl, ap, ◌∙◌, arith}
+use Rattle.std.proofs.Common.{Option, Some, None, ◌≡◌, ℕ, zero, suc, ◌+◌, ◌-◌, ◌*◌, ◌/◌, ◌%◌, ◌<◌, ◌≤◌, Bool, true, false, ◌&&◌, ◌||◌, pos, refl, ap, ◌∙◌}
+use Rattle.std.proofs.Common.{arith}
 use Rattle.jiff_core.specs.Calendar.{days_in_month}
 use Rattle.jiff_core.proofs.CalendarLemmas.{days_in_month_bounds, days_of_months-zero}
 use Rattle.ics_values.specs.Sets.{contains, IsNextIn}
@@ -58,7 +59,8 @@ module _ (q : EffectiveRule) (flat : IsFlat q) where
       let r : Run = record { start = 0; len = len; weekday = weekday_of (month_start (suc i)) } in
       let own = span_month (suc i) (month_start (suc i)) len (weekday_of (month_start (suc i)))
       (let low : 1 ≤ suc i = omega arith in (low, (rw back year, (refl, rw back refl)))) refl in
-      let f = day_of_run r (month_start (suc i)) ((suc i - 1) / 12) ((suc i - 1) % 12 + 1) d own (let low : 0 ≤ d = omega arith in low) (let high : d - 0 < len = omega (arith, inside) in high) in
+      let f = day_of_run r (month_start (suc i)) ((suc i - 1) / 12) ((suc i - 1) % 12 + 1) d own (let low : 0 ≤ d = omega arith in
+      low) (let high : d - 0 < len = omega (arith, inside) in high) in
       let month : month_of (month_start (suc i) + d) ≡ i % 12 + 1 = f.month ∙ ap (λ x. x % 12 + 1) back in
       let day : month_day_of (month_start (suc i) + d) ≡ d + 1 = f.month_day ∙ (let same : d - 0 + 1 ≡ d + 1 = omega arith in same) in
       let e = month_start (suc i) + d in
@@ -67,7 +69,9 @@ module _ (q : EffectiveRule) (flat : IsFlat q) where
       three_parts q e flat.goes
       ∙ ap (λ x. lets q.months x && (lets_place q.month_days (month_day_of e) size && lets_weekday q e)) month
       ∙ ap (λ x. lets q.months (i % 12 + 1) && (lets_place q.month_days x size && lets_weekday q e)) day
-      ∙ ap (λ x. lets q.months (i % 12 + 1) && x) (parts (lists_none q.month_days) (lists_no_weekday q.weekdays) (contains q.month_days.front (d + 1)) (contains q.month_days.back (size + 1 - (d + 1))) (contains q.weekdays.plain (weekday_of e)) (lets_numbered q.frequency q (numbers_of q.weekdays (weekday_of e)) e) g.1.1 flat.alone (flat.back (size + 1 - (d + 1))))
+      ∙ ap (λ x. lets q.months (i % 12 + 1) && x) (parts (lists_none q.month_days) (lists_no_weekday q.weekdays) (contains q.month_days.front (d + 1))
+      (contains q.month_days.back (size + 1 - (d + 1))) (contains q.weekdays.plain (weekday_of e))
+      (lets_numbered q.frequency q (numbers_of q.weekdays (weekday_of e)) e) g.1.1 flat.alone (flat.back (size + 1 - (d + 1))))
     where
       parts : (n w f b x z : Bool) → (n && w) ≡ false → w ≡ true → b ≡ false → ((n || (f || b)) && (w || x || z)) ≡ f
       parts true true f b x z some none out = absurd (cc)
@@ -91,7 +95,9 @@ module _ (q : EffectiveRule) (flat : IsFlat q) where
       let whole = ap (allowed_before q) (let next : month_local (suc i) ≡ month_local i + len * 86_400 = omega (arith, size) in next) in
       let add = count-add (month_local i) (len * 86_400) (is_allowed q) in
       let same = count-same (len * 86_400) (λ k. is_allowed q (month_local i + k)) (in_month (i % 12)) (λ k l. allowed_is i k year l) in
-      let most = count_flat (28 * 86_400) (len * 86_400) (in_month (i % 12)) (omega (arith, bounds.1)) (λ k l u. out (lets q.months (i % 12 + 1)) (contains q.month_days.front (k / 86_400 + 1)) (lets_clock q k) (flat.front (k / 86_400 + 1) (omega (arith, l)))) in
+      let most = count_flat (28 * 86_400) (len * 86_400) (in_month (i % 12)) (omega (arith, bounds.1))
+      (λ k l u. out (lets q.months (i % 12 + 1)) (contains q.month_days.front (k / 86_400 + 1)) (lets_clock q k)
+      (flat.front (k / 86_400 + 1) (omega (arith, l)))) in
       omega (arith, whole, add, same, most)
     where
       out : (a b c : Bool) → b ≡ false → ((a && b) && c) ≡ false

@@ -1,5 +1,6 @@
 -- The locals of an hour that a rule keeps.
-use Rattle.std.proofs.Common.{◌≡◌, ℕ, suc, ◌+◌, ◌*◌, ◌<◌, ◌≤◌, ◌⊎◌, inl, inr, ◌/◌, ◌%◌, Bool, true, false, ◌&&◌, ◌==◌, nat_lt, nat_le, Some, None, Option, refl, ap, sym, subst, ◌∙◌, arith}
+use Rattle.std.proofs.Common.{◌≡◌, ℕ, suc, ◌+◌, ◌*◌, ◌<◌, ◌≤◌, ◌⊎◌, inl, inr, ◌/◌, ◌%◌, Bool, true, false, ◌&&◌, ◌==◌, nat_lt, nat_le, Some, None, Option}
+use Rattle.std.proofs.Common.{refl, ap, sym, subst, ◌∙◌, arith}
 use Rattle.std.proofs.lemmas.Bool.{and_from, cases_lt, or_right, eqb-true}
 use Rattle.std.proofs.lemmas.Bool.Decides.{nat_tests}
 use Rattle.std.proofs.lemmas.Nat.Bits.{bit_at-zero}
@@ -155,7 +156,8 @@ module _ (r : Recurrence) (hour fm fs lm ls : ℕ)
   parts_of : (n : ℕ) → n / 3_600 ≡ hour → n ≡ hour * 3_600 + n / 60 % 60 * 60 + n % 60
   parts_of n at = omega (arith, at)
 
-  product_kept : (n : ℕ) → n / 3_600 ≡ hour → contains (effective r).minutes (minute_of n) ≡ true → contains (effective r).seconds (second_of n) ≡ true → is_kept r n ≡ true
+  product_kept : (n : ℕ) → n / 3_600 ≡ hour → contains (effective r).minutes (minute_of n) ≡ true → contains (effective r).seconds (second_of n) ≡ true →
+      is_kept r n ≡ true
   product_kept n at minute second =
       let low_minute = least_of (contains (effective r).minutes) fm (minute_of n) first_minute minute in
       let low_second = least_of (contains (effective r).seconds) fs (second_of n) first_second second in
@@ -175,7 +177,8 @@ module _ (r : Recurrence) (hour fm fs lm ls : ℕ)
       lets_in : (s n : ℕ) → contains s n ≡ true → lets s n ≡ true
       lets_in s n h = or_right (is_empty s) (contains s n) h
 
-  kept_product : (n : ℕ) → n / 3_600 ≡ hour → is_kept r n ≡ true → (contains (effective r).minutes (minute_of n) && contains (effective r).seconds (second_of n)) ≡ true
+  kept_product : (n : ℕ) → n / 3_600 ≡ hour → is_kept r n ≡ true →
+      (contains (effective r).minutes (minute_of n) && contains (effective r).seconds (second_of n)) ≡ true
   kept_product n at keeps = elim (cases_lt n kept) [
     | inl before ↦ absurd (false_not_true (is_kept r n) (next.least n (omega (arith, at)) before) keeps)
     | inr from ↦ (

@@ -38,6 +38,7 @@ record IsWeek (y n all w e : ℕ) : Type 0 where
 
 fourth_later : (e : ℕ) → 2 ≤ e → fourth_day 0 e ≡ 7 * ((e + 12) / 7) - 9
 fourth_later e late = ap (λ b. cond b (7 * week_of 0 e + 0 + 146_088) (7 * week_of 0 e + 0 - 9)) (le-ltb (7 * week_of 0 e + 0) 9 (omega arith)) ∙ omega arith
+
 -- the Thursday f of week n in a year from a up to b, which begins on Monday s, and the next one on t
 record IsThursday (a b s t n f : ℕ) : Type 0 where
   pub low : a ≤ f
@@ -45,7 +46,8 @@ record IsThursday (a b s t n f : ℕ) : Type 0 where
   pub place : (f - a) / 7 + 1 ≡ n
   pub weeks : s + 7 * ((b - a - 1 - (f - a) % 7) / 7 + 1) ≡ t
 
-thursday : (a b s t n f : ℕ) → s ≡ a + 3 - (a + 1) % 7 → t ≡ b + 3 - (b + 1) % 7 → a + 365 ≤ b → 1 ≤ n → s + 7 * n ≤ t → f ≡ s + 3 + 7 * (n - 1) → IsThursday a b s t n f
+thursday : (a b s t n f : ℕ) → s ≡ a + 3 - (a + 1) % 7 → t ≡ b + 3 - (b + 1) % 7 → a + 365 ≤ b → 1 ≤ n → s + 7 * n ≤ t → f ≡ s + 3 + 7 * (n - 1) →
+    IsThursday a b s t n f
 thursday a b s t n f first next long one most at =
     record { low = omega arith; high = omega arith; place = omega arith; weeks = omega arith }
 
@@ -67,7 +69,8 @@ later_week y n w e range one most week day =
         let length = days_before_year-next y in
         let late : 2 ≤ e = omega arith in
         let fourth = fourth_later e late in
-        let own = thursday (days_before_year y) (days_before_year (suc y)) (start_of y) (start_of (suc y)) n (fourth_day 0 e) refl refl (omega (arith, length)) one (omega arith) (omega (arith, fourth, place)) in
+        let own = thursday (days_before_year y) (days_before_year (suc y)) (start_of y) (start_of (suc y)) n (fourth_day 0 e) refl refl (omega (arith, length))
+        one (omega arith) (omega (arith, fourth, place)) in
         let year = year_of_is (fourth_day 0 e) y own.low own.high in
         let day = year_day_is (fourth_day 0 e) in
         let before = ap days_before_year year in
@@ -99,7 +102,8 @@ early_week n w e one most week day =
     of_place n w e (weeks_in_year (negsuc 0)) one most all week place
   where
     fourth_early : (e : ℕ) → e < 2 → fourth_day 0 e ≡ 146_095
-    fourth_early e early = ap (λ b. cond b (7 * week_of 0 e + 0 + 146_088) (7 * week_of 0 e + 0 - 9)) (lt-ltb (7 * week_of 0 e + 0) 9 (omega arith)) ∙ omega arith
+    fourth_early e early = ap (λ b. cond b (7 * week_of 0 e + 0 + 146_088) (7 * week_of 0 e + 0 - 9)) (lt-ltb (7 * week_of 0 e + 0) 9 (omega arith))
+        ∙ omega arith
 
     of_place : (n w e weeks : ℕ) → 1 ≤ n → n ≤ weeks → weeks ≡ 52 → w < 7 → e + 362 ≡ (n - 1) * 7 + w → (e < 2) × IsWeek 399 n weeks w e
     of_place n w e weeks one most all week place =
@@ -119,7 +123,8 @@ early_week n w e one most week day =
         )
 
 -- no day from 0000-01-01 on is in a week of an earlier year
-no_earlier : (k n w e : ℕ) → k < 9998 → n ≤ weeks_in_year (negsuc (suc k)) → 1 ≤ n → w < 7 → iso_year_start (negsuc (suc k)) +ℤ pos ((n - 1) * 7 + w) ≡ pos e -ℤ pos 719_528 → ⊥
+no_earlier : (k n w e : ℕ) → k < 9998 → n ≤ weeks_in_year (negsuc (suc k)) → 1 ≤ n → w < 7 →
+    iso_year_start (negsuc (suc k)) +ℤ pos ((n - 1) * 7 + w) ≡ pos e -ℤ pos 719_528 → ⊥
 no_earlier k n w e range most one week day =
     let year : IsYear (negsuc (suc k)) = omega (arith, signed_arith) in
     let weeks = weeks_in_year-next (negsuc (suc k)) (negsuc k) year (omega (arith, signed_arith)) in
@@ -145,7 +150,8 @@ iso_week d e day = by_year d.year refl
     by_year : (y : ℤ) → d.year ≡ y → IsIsoWeek d e
     by_year (pos y) is =
         let range = rw is at d.year_in in
-        let r = later_week y d.week (monday_zero d.weekday) e (omega (arith, signed_arith, range)) d.week_in.0 (rw is at d.week_in.1) (week_small d.weekday) (rw is at day) in
+        let r = later_week y d.week (monday_zero d.weekday) e (omega (arith, signed_arith, range)) d.week_in.0 (rw is at d.week_in.1) (week_small d.weekday)
+        (rw is at day) in
         record {
           year = λ late. is ∙ ap pos (sym r.1.year);
           cycle = λ early. absurd (omega (arith, r.0, early));
@@ -164,4 +170,5 @@ iso_week d e day = by_year d.year refl
         }
     by_year (negsuc (suc k)) is =
         let range = rw is at d.year_in in
-        absurd (no_earlier k d.week (monday_zero d.weekday) e (omega (arith, signed_arith, range)) (rw is at d.week_in.1) d.week_in.0 (week_small d.weekday) (rw is at day))
+        absurd (no_earlier k d.week (monday_zero d.weekday) e (omega (arith, signed_arith, range)) (rw is at d.week_in.1) d.week_in.0 (week_small d.weekday)
+        (rw is at day))

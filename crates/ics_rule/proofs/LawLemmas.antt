@@ -33,7 +33,8 @@ kept_few r c n e some h = elim (or_true h) [
   | inr rest ↦ ltb-true (count n (is_in_rule r)) c (subst (λ o. is_counted r o n ≡ true) e (and_true rest).1)
 ]
 
-count_cases : (n x y c : ℕ) (k m : Bool) → (k ≡ true → m ≡ true) → (k ≡ true → y < c) → (x ≤ c) × (x ≤ y) → (x + cond k 1 0 ≤ c) × (x + cond k 1 0 ≤ y + cond m 1 0)
+count_cases : (n x y c : ℕ) (k m : Bool) → (k ≡ true → m ≡ true) → (k ≡ true → y < c) → (x ≤ c) × (x ≤ y) →
+    (x + cond k 1 0 ≤ c) × (x + cond k 1 0 ≤ y + cond m 1 0)
 count_cases n x y c true true in_rule few h = (let f = few refl in omega (arith, f, h.1), omega (arith, h.1))
 count_cases n x y c true false in_rule few h = absurd (let no = in_rule refl in cc)
 count_cases n x y c false true in_rule few h = (omega (arith, h.0), omega (arith, h.1))
@@ -42,7 +43,8 @@ count_cases n x y c false false in_rule few h = (omega (arith, h.0), omega (arit
 kept_both : (r : Recurrence) (c : ℕ) → r.parts.count ≡ Some c → 1 ≤ c → (n : ℕ) → (count n (is_kept r) ≤ c) × (count n (is_kept r) ≤ count n (is_in_rule r))
 unfolding count
 kept_both r c e some zero = (omega arith, omega arith)
-kept_both r c e some (suc n) = count_cases n (count n (is_kept r)) (count n (is_in_rule r)) c (is_kept r n) (is_in_rule r n) (kept_in_rule r n) (kept_few r c n e some) (kept_both r c e some n)
+kept_both r c e some (suc n) = count_cases n (count n (is_kept r)) (count n (is_in_rule r)) c (is_kept r n) (is_in_rule r n) (kept_in_rule r n)
+    (kept_few r c n e some) (kept_both r c e some n)
 
 -- under COUNT n at most n are kept
 pub kept_most : (r : Recurrence) (c n : ℕ) → r.parts.count ≡ Some c → 1 ≤ c → count n (is_kept r) ≤ c
@@ -72,10 +74,12 @@ week_first f other =
     ]) in
     let m = days_before_year_mono (suc (year_of f)) (year_of (f + 7)) later in
     omega (arith, u.1, v.0, m)
+
 -- the fourth day of a week lies in it, three days after its first
 pub week_fourth : (w e : ℕ) → w < 7 → 9 ≤ 7 * week_of w e + w → (week_of w (fourth_day w e) ≡ week_of w e) × ((fourth_day w e + (12 - w)) % 7 ≡ 3)
 week_fourth w e h late =
-    let same : fourth_day w e ≡ 7 * week_of w e + w - 9 = ap (λ b. cond b (7 * week_of w e + w + 146_088) (7 * week_of w e + w - 9)) (le-ltb (7 * week_of w e + w) 9 late) in
+    let same : fourth_day w e ≡ 7 * week_of w e + w - 9 =
+    ap (λ b. cond b (7 * week_of w e + w + 146_088) (7 * week_of w e + w - 9)) (le-ltb (7 * week_of w e + w) 9 late) in
     (omega (arith, same), omega (arith, same))
 
 pub year_day_is : (f : ℕ) → year_day_of f + days_before_year (year_of f) ≡ f + 1

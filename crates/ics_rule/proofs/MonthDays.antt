@@ -1,5 +1,6 @@
 -- The days that months list, by their dates, and what is left to ask of them.
-use Rattle.std.proofs.Common.{◌≡◌, ℕ, zero, suc, ◌+◌, ◌-◌, ◌*◌, ◌/◌, ◌%◌, ◌<◌, ◌≤◌, ◌⊎◌, inl, inr, Bool, true, false, not, ◌==◌, ◌||◌, ◌&&◌, nat_lt, nat_le, if◌then◌else◌, pos, refl, sym, ap, ◌∙◌, arith}
+use Rattle.std.proofs.Common.{◌≡◌, ℕ, zero, suc, ◌+◌, ◌-◌, ◌*◌, ◌/◌, ◌%◌, ◌<◌, ◌≤◌, ◌⊎◌, inl, inr, Bool, true, false, not, ◌==◌, ◌||◌, ◌&&◌, nat_lt, nat_le}
+use Rattle.std.proofs.Common.{if◌then◌else◌, pos, refl, sym, ap, ◌∙◌, arith}
 use Rattle.std.proofs.lemmas.Bool.{and_parts, and_right, cases_lt, eq-eqb, le-ltb, lt-ltb, or_left}
 use Rattle.std.proofs.lemmas.Bool.Decides.{nat_tests}
 use Rattle.jiff_core.specs.Calendar.{days_in_month, days_in_year, days_of_months}
@@ -33,7 +34,8 @@ module _ (r : Run) (first y m k : ℕ) (own : IsMonth r first y m) where
 
   run_is_month : first ≡ days_before_year y → k < days_in_year (pos y) → has_run r k ≡ (month_of (first + k) == m)
   run_is_month start inside =
-      let year : year_of (first + k) ≡ y = year_of_is (first + k) y (omega (arith, start)) (let next = days_before_year-next y in omega (arith, next, start, inside)) in
+      let year : year_of (first + k) ≡ y = year_of_is (first + k) y (omega (arith, start)) (let next = days_before_year-next y in
+      omega (arith, next, start, inside)) in
       let more = days_of_months_more (pos y) m own.low in
       elim (cases_lt k r.start) [
         | inl before ↦
@@ -44,7 +46,8 @@ module _ (r : Run) (first y m k : ℕ) (own : IsMonth r first y m) where
           | inl there ↦ let f = day_of_run begun there in run_shown r k begun there ∙ sym (eq-eqb (month_of (first + k)) m f.month)
           | inr past ↦
               let late = later_month y m own.low own.high (first + k) (omega (arith, own.place, own.size, more, past, start, begun)) in
-              and_right (nat_le r.start k) (nat_lt (k - r.start) r.len) (le-ltb (k - r.start) r.len past) ∙ sym (above (month_of (first + k)) m (omega (arith, late, year)))
+              and_right (nat_le r.start k) (nat_lt (k - r.start) r.len) (le-ltb (k - r.start) r.len past)
+              ∙ sym (above (month_of (first + k)) m (omega (arith, late, year)))
         ]
       ]
 
@@ -65,7 +68,8 @@ abbrev pub seen_months : EffectiveRule → (ℕ → Bool) → ℕ → ℕ → Bo
 seen_months q months from e =
     nat_lt (month_of e) from && (months (month_of e) && lists_in_month q (weekday_of e) (month_day_of e) (days_in_month (pos (year_of e)) (month_of e)))
 
-pub month_step : (q : EffectiveRule) (r : Run) (months : ℕ → Bool) (first y m from k : ℕ) (b new : Bool) → IsMonth r first y m → first ≡ days_before_year y → r.start + r.len ≤ days_in_year (pos y) → IsLeastFrom months from m
+pub month_step : (q : EffectiveRule) (r : Run) (months : ℕ → Bool) (first y m from k : ℕ) (b new : Bool) → IsMonth r first y m → first ≡ days_before_year y →
+    r.start + r.len ≤ days_in_year (pos y) → IsLeastFrom months from m
     → b ≡ (nat_lt k (days_in_year (pos y)) && seen_months q months from (first + k))
     → new ≡ (b || (has_run r k && lists_in_month q (weekday_in r (k - r.start)) (k - r.start + 1) r.len))
     → new ≡ (nat_lt k (days_in_year (pos y)) && seen_months q months (m + 1) (first + k))
@@ -76,13 +80,15 @@ month_step q r months first y m from k b new own start most next e more = elim (
       let old : b ≡ (nat_lt M from && (months M && L)) = e ∙ ap (λ x. x && (nat_lt M from && (months M && L))) (lt-ltb k (days_in_year (pos y)) inside) in
       let added : (has_run r k && lists_in_month q (weekday_in r (k - r.start)) (k - r.start + 1) r.len) ≡ ((M == m) && L) =
       guard (has_run r k) _ L (run_lists r first y m k own q) ∙ ap (λ x. x && L) (run_is_month r first y m k own start inside) in
-      more ∙ ap (λ x. x || (has_run r k && lists_in_month q (weekday_in r (k - r.start)) (k - r.start + 1) r.len)) old ∙ ap (λ x. (nat_lt M from && (months M && L)) || x) added
+      more ∙ ap (λ x. x || (has_run r k && lists_in_month q (weekday_in r (k - r.start)) (k - r.start + 1) r.len)) old
+      ∙ ap (λ x. (nat_lt M from && (months M && L)) || x) added
       ∙ gather (nat_lt M from) (months M) (M == m) L ∙ ap (λ x. x && L) (next_found months from m M next) ∙ spread (nat_lt M (m + 1)) (months M) L
       ∙ ap (λ x. x && (nat_lt M (m + 1) && (months M && L))) (sym (lt-ltb k (days_in_year (pos y)) inside))
   | inr past ↦
       let out : has_run r k ≡ false = and_right (nat_le r.start k) (nat_lt (k - r.start) r.len) (le-ltb (k - r.start) r.len (omega (arith, past, most))) in
       let none = le-ltb k (days_in_year (pos y)) past in
-      more ∙ ap (λ x. x || (has_run r k && lists_in_month q (weekday_in r (k - r.start)) (k - r.start + 1) r.len)) (e ∙ ap (λ x. x && seen_months q months from (first + k)) none)
+      more ∙ ap (λ x. x || (has_run r k && lists_in_month q (weekday_in r (k - r.start)) (k - r.start + 1) r.len)) (e
+      ∙ ap (λ x. x && seen_months q months from (first + k)) none)
       ∙ ap (λ x. x && lists_in_month q (weekday_in r (k - r.start)) (k - r.start + 1) r.len) out
       ∙ sym (ap (λ x. x && seen_months q months (m + 1) (first + k)) none)
 ]
@@ -104,24 +110,30 @@ month_step q r months first y m from k b new own start most next e more = elim (
 pub months_none : (q : EffectiveRule) (months : ℕ → Bool) (e : ℕ) (a : Bool) → false ≡ (a && seen_months q months 1 e)
 months_none q months e a =
     let none : nat_lt (month_of e) 1 ≡ false = le-ltb (month_of e) 1 (month_positive e) in
-    sym (and_right a (seen_months q months 1 e) (ap (λ x. x && (months (month_of e) && lists_in_month q (weekday_of e) (month_day_of e) (days_in_month (pos (year_of e)) (month_of e)))) none))
+    sym (and_right a (seen_months q months 1 e)
+    (ap (λ x. x && (months (month_of e) && lists_in_month q (weekday_of e) (month_day_of e) (days_in_month (pos (year_of e)) (month_of e)))) none))
 
 month_small : (e : ℕ) → month_of e < 13
-month_small e = let top = month_of_low e 12 (let all = days_of_months_all (pos (year_of e)) in let next = days_before_year-next (year_of e) in let u = year_under_way e in omega (arith, all, next, u.1)) (omega arith) in omega (arith, top)
+month_small e = let top = month_of_low e 12 (let all = days_of_months_all (pos (year_of e)) in let next = days_before_year-next (year_of e) in
+    let u = year_under_way e in omega (arith, all, next, u.1)) (omega arith) in omega (arith, top)
 
-pub months_done : (q : EffectiveRule) (months : ℕ → Bool) (from e : ℕ) (a : Bool) → ((n : ℕ) → from ≤ n → months n ≡ false) → ((n : ℕ) → n < 13 → months n ≡ lets q.months n)
+pub months_done : (q : EffectiveRule) (months : ℕ → Bool) (from e : ℕ) (a : Bool) → ((n : ℕ) → from ≤ n → months n ≡ false) →
+    ((n : ℕ) → n < 13 → months n ≡ lets q.months n)
     → (a && seen_months q months from e) ≡ (a && is_in_month q e)
 months_done q months from e a none is =
     let L = lists_in_month q (weekday_of e) (month_day_of e) (days_in_month (pos (year_of e)) (month_of e)) in
-    ap (λ x. a && x) (sym (spread (nat_lt (month_of e) from) (months (month_of e)) L) ∙ ap (λ x. x && L) (all_found months from (month_of e) (none (month_of e)) ∙ is (month_of e) (month_small e)))
+    ap (λ x. a && x) (sym (spread (nat_lt (month_of e) from) (months (month_of e)) L)
+    ∙ ap (λ x. x && L) (all_found months from (month_of e) (none (month_of e)) ∙ is (month_of e) (month_small e)))
   where
     spread : (a b t : Bool) → ((a && b) && t) ≡ (a && (b && t))
     spread true b t = refl
     spread false b t = refl
 
 -- one month alone
-pub one_month : (q : EffectiveRule) (first len y m w k : ℕ) (a b : Bool) → IsMonth (record { start = 0; len = len; weekday = w }) first y m → lets q.months m ≡ true → a ≡ false
-    → b ≡ (a || (has_run (record { start = 0; len = len; weekday = w }) k && lists_in_month q (weekday_in (record { start = 0; len = len; weekday = w }) (k - 0)) (k - 0 + 1) len))
+pub one_month : (q : EffectiveRule) (first len y m w k : ℕ) (a b : Bool) → IsMonth (record { start = 0; len = len; weekday = w }) first y m →
+    lets q.months m ≡ true → a ≡ false
+    → b ≡ (a || (has_run (record { start = 0; len = len; weekday = w }) k
+    && lists_in_month q (weekday_in (record { start = 0; len = len; weekday = w }) (k - 0)) (k - 0 + 1) len))
     → b ≡ (nat_lt k len && is_in_month q (first + k))
 one_month q first len y m w k a b own among none e =
     let r : Run = record { start = 0; len = len; weekday = w } in
@@ -130,7 +142,8 @@ one_month q first len y m w k a b own among none e =
     let inside = run_facts r k h in
     let f = day_of_run r first y m k own inside.0 inside.1 in
     run_lists r first y m k own q h
-    ∙ ap (λ x. x && lists_in_month q (weekday_of (first + k)) (month_day_of (first + k)) (days_in_month (pos (year_of (first + k))) (month_of (first + k)))) (sym (ap (lets q.months) f.month ∙ among)))
+    ∙ ap (λ x. x && lists_in_month q (weekday_of (first + k)) (month_day_of (first + k)) (days_in_month (pos (year_of (first + k))) (month_of (first + k))))
+    (sym (ap (lets q.months) f.month ∙ among)))
     ∙ ap (λ x. x && is_in_month q (first + k)) test
   where
     run_start : (k len : ℕ) → (nat_le 0 k && nat_lt (k - 0) len) ≡ nat_lt k len
@@ -142,12 +155,15 @@ closed_month q first len y m w k own closed = elim (cases_lt k len) [
   | inl inside ↦
       let r : Run = record { start = 0; len = len; weekday = w } in
       let f = day_of_run r first y m k own (let low : 0 ≤ k = omega arith in low) (let low : k - 0 < len = omega (arith, inside) in low) in
-      sym (and_right (nat_lt k len) (is_in_month q (first + k)) (ap (λ x. x && lists_in_month q (weekday_of (first + k)) (month_day_of (first + k)) (days_in_month (pos (year_of (first + k))) (month_of (first + k)))) (ap (lets q.months) f.month ∙ closed)))
+      sym (and_right (nat_lt k len) (is_in_month q (first + k))
+      (ap (λ x. x && lists_in_month q (weekday_of (first + k)) (month_day_of (first + k))
+      (days_in_month (pos (year_of (first + k))) (month_of (first + k)))) (ap (lets q.months) f.month ∙ closed)))
   | inr past ↦ sym (ap (λ x. x && is_in_month q (first + k)) (le-ltb k len past))
 ]
 
 -- what the rule goes by
-pub goes : (q : EffectiveRule) → goes_by_months q ≡ true → (lists_none q.weeks ≡ true) × ((lists_none_wide q.year_days ≡ true) × ((lists_none q.month_days && lists_no_weekday q.weekdays) ≡ false))
+pub goes : (q : EffectiveRule) → goes_by_months q ≡ true → (lists_none q.weeks ≡ true)
+    × ((lists_none_wide q.year_days ≡ true) × ((lists_none q.month_days && lists_no_weekday q.weekdays) ≡ false))
 goes q h = parts (lists_none q.weeks) (lists_none_wide q.year_days) (lists_none q.month_days && lists_no_weekday q.weekdays) h
   where
     parts : (a b c : Bool) → (a && b && not c) ≡ true → (a ≡ true) × ((b ≡ true) × (c ≡ false))
@@ -158,10 +174,12 @@ goes q h = parts (lists_none q.weeks) (lists_none_wide q.year_days) (lists_none 
 
 -- there BYMONTH, BYMONTHDAY and BYDAY decide
 pub three_parts : (q : EffectiveRule) (e : ℕ) → goes_by_months q ≡ true
-    → lets_date q e ≡ (lets q.months (month_of e) && (lets_place q.month_days (month_day_of e) (days_in_month (pos (year_of e)) (month_of e)) && lets_weekday q e))
+    → lets_date q e ≡ (lets q.months (month_of e)
+    && (lets_place q.month_days (month_day_of e) (days_in_month (pos (year_of e)) (month_of e)) && lets_weekday q e))
 three_parts q e h =
     let g = goes q h in
-    drop (lets q.months (month_of e)) (lets_place q.month_days (month_day_of e) (days_in_month (pos (year_of e)) (month_of e))) (lets_wide_place q.year_days (year_day_of e) (days_in_year (pos (year_of e)))) (lets_week q e) (lets_weekday q e)
+    drop (lets q.months (month_of e)) (lets_place q.month_days (month_day_of e) (days_in_month (pos (year_of e)) (month_of e)))
+    (lets_wide_place q.year_days (year_day_of e) (days_in_year (pos (year_of e)))) (lets_week q e) (lets_weekday q e)
     (or_left (lists_none_wide q.year_days) _ g.1.0) (or_left (lists_none q.weeks) _ g.0)
   where
     drop : (a b c d e : Bool) → c ≡ true → d ≡ true → (a && b && c && d && e) ≡ (a && (b && e))
@@ -171,7 +189,8 @@ three_parts q e h =
     drop a b false d e h l = absurd (cc)
     drop a b true false e h l = absurd (cc)
 
-numbers_in_month : (f : Frequency) (q : EffectiveRule) (p : Ordinals) (e : ℕ) → counts_in_month q f ≡ true → lists_none q.weeks ≡ true → lists_none q.month_days ≡ true
+numbers_in_month : (f : Frequency) (q : EffectiveRule) (p : Ordinals) (e : ℕ) → counts_in_month q f ≡ true → lists_none q.weeks ≡ true →
+    lists_none q.month_days ≡ true
     → lets_numbered f q p e ≡ lists_nth p (month_day_of e) (days_in_month (pos (year_of e)) (month_of e))
 numbers_in_month Monthly q p e h weeks days = refl
 numbers_in_month Yearly q p e h weeks days = rw (weeks, months (is_empty q.months) (lists_none q.month_days) h days) refl
@@ -187,12 +206,14 @@ numbers_in_month Minutely q p e h weeks days = absurd (cc)
 numbers_in_month Secondly q p e h weeks days = absurd (cc)
 
 -- by BYMONTHDAY alone, or by BYDAY alone, they list what the rule lets in
-pub month_exact : (q : EffectiveRule) (e : ℕ) → goes_by_months q ≡ true → counts_in_month q q.frequency ≡ true → (lists_none q.month_days || lists_no_weekday q.weekdays) ≡ true
+pub month_exact : (q : EffectiveRule) (e : ℕ) → goes_by_months q ≡ true → counts_in_month q q.frequency ≡ true →
+    (lists_none q.month_days || lists_no_weekday q.weekdays) ≡ true
     → is_in_month q e ≡ lets_date q e
 month_exact q e h counts one =
     let g = goes q h in
     ap (λ x. lets q.months (month_of e) && x)
-    (cases (lists_none q.month_days) (lists_no_weekday q.weekdays) (contains q.weekdays.plain (weekday_of e)) _ _ (lists q.month_days (month_day_of e) (days_in_month (pos (year_of e)) (month_of e)))
+    (cases (lists_none q.month_days) (lists_no_weekday q.weekdays) (contains q.weekdays.plain (weekday_of e)) _ _
+    (lists q.month_days (month_day_of e) (days_in_month (pos (year_of e)) (month_of e)))
     g.1.1 one (λ days. sym (numbers_in_month q.frequency q (numbers_of q.weekdays (weekday_of e)) e counts g.0 days)))
     ∙ sym (three_parts q e h)
   where
@@ -208,7 +229,8 @@ month_exact q e h counts one =
 -- else they list what it may let in
 pub month_candidate : (q : EffectiveRule) (e : ℕ) → goes_by_months q ≡ true → lists_none q.month_days ≡ false → lets_date q e ≡ true → is_in_month q e ≡ true
 month_candidate q e h some d =
-    cases (lets q.months (month_of e)) (lists_none q.month_days) (lists q.month_days (month_day_of e) (days_in_month (pos (year_of e)) (month_of e))) (lets_weekday q e) _ some (sym (three_parts q e h) ∙ d)
+    cases (lets q.months (month_of e)) (lists_none q.month_days) (lists q.month_days (month_day_of e) (days_in_month (pos (year_of e)) (month_of e)))
+    (lets_weekday q e) _ some (sym (three_parts q e h) ∙ d)
   where
     cases : (a n l w x : Bool) → n ≡ false → (a && ((n || l) && w)) ≡ true → (a && (if n then x else l)) ≡ true
     cases a true l w x s h = absurd (cc)
@@ -217,14 +239,16 @@ month_candidate q e h some d =
     cases false false l w x s h = absurd (cc)
 
 -- and a year without BYMONTH goes by BYDAY, which counts in the year
-pub year_exact : (q : EffectiveRule) (e n size : ℕ) → goes_by_months q ≡ true → q.frequency ≡ Yearly → (is_empty q.months && lists_none q.month_days) ≡ true → year_day_of e ≡ n → days_in_year (pos (year_of e)) ≡ size
+pub year_exact : (q : EffectiveRule) (e n size : ℕ) → goes_by_months q ≡ true → q.frequency ≡ Yearly → (is_empty q.months && lists_none q.month_days) ≡ true →
+    year_day_of e ≡ n → days_in_year (pos (year_of e)) ≡ size
     → lists_weekday q.weekdays (weekday_of e) n size ≡ lets_date q e
 year_exact q e n size h yearly none day len =
     let g = goes q h in
     let parts = and_parts (is_empty q.months) (lists_none q.month_days) none in
     let numbered : lets_numbered q.frequency q (numbers_of q.weekdays (weekday_of e)) e ≡ lists_nth (numbers_of q.weekdays (weekday_of e)) n size =
     ap (λ f. lets_numbered f q (numbers_of q.weekdays (weekday_of e)) e) yearly ∙ rw (g.0, parts.0) (rw (day, len) refl) in
-    cases (is_empty q.months) (lists_none q.month_days) (lists_no_weekday q.weekdays) (contains q.weekdays.plain (weekday_of e)) _ _ (contains q.months (month_of e)) (lists q.month_days (month_day_of e) (days_in_month (pos (year_of e)) (month_of e)))
+    cases (is_empty q.months) (lists_none q.month_days) (lists_no_weekday q.weekdays) (contains q.weekdays.plain (weekday_of e)) _ _
+    (contains q.months (month_of e)) (lists q.month_days (month_day_of e) (days_in_month (pos (year_of e)) (month_of e)))
     parts.0 parts.1 g.1.1 (sym numbered) ∙ sym (three_parts q e h)
   where
     cases : (a d b p n n' m l : Bool) → a ≡ true → d ≡ true → (d && b) ≡ false → n ≡ n' → (p || n) ≡ ((a || m) && ((d || l) && (b || p || n')))
@@ -262,7 +286,8 @@ module _ (some f : ℕ → Bool) (from n k : ℕ) (b : Bool) where
 pub asked_none : (some f : ℕ → Bool) (k : ℕ) → false ≡ (some k && (nat_lt k 0 && f k))
 asked_none some f k = sym (and_right (some k) (nat_lt k 0 && f k) (ap (λ x. x && f k) (le-ltb k 0 (omega arith))))
 
-pub asked_all : (some f : ℕ → Bool) (from k : ℕ) (b : Bool) → ((m : ℕ) → from ≤ m → some m ≡ false) → b ≡ (some k && (nat_lt k from && f k)) → b ≡ (some k && f k)
+pub asked_all : (some f : ℕ → Bool) (from k : ℕ) (b : Bool) → ((m : ℕ) → from ≤ m → some m ≡ false) → b ≡ (some k && (nat_lt k from && f k)) →
+    b ≡ (some k && f k)
 asked_all some f from k b none e = e ∙ elim (cases_lt k from) [
   | inl seen ↦ ap (λ x. some k && (x && f k)) (lt-ltb k from seen)
   | inr past ↦ ap (λ x. x && (nat_lt k from && f k)) (none k past) ∙ sym (ap (λ x. x && f k) (none k past))
@@ -284,7 +309,8 @@ narrowed false some test a = refl
 
 -- what the parts of the date say apart
 pub number_let_in : (q : EffectiveRule) (e : ℕ) → lets_date q e ≡ true → lets_wide_place q.year_days (year_day_of e) (days_in_year (pos (year_of e))) ≡ true
-number_let_in q e h = third (lets q.months (month_of e)) (lets_place q.month_days (month_day_of e) (days_in_month (pos (year_of e)) (month_of e))) (lets_wide_place q.year_days (year_day_of e) (days_in_year (pos (year_of e)))) (lets_week q e) (lets_weekday q e) h
+number_let_in q e h = third (lets q.months (month_of e)) (lets_place q.month_days (month_day_of e) (days_in_month (pos (year_of e)) (month_of e)))
+    (lets_wide_place q.year_days (year_day_of e) (days_in_year (pos (year_of e)))) (lets_week q e) (lets_weekday q e) h
   where
     third : (a b c d e : Bool) → (a && b && c && d && e) ≡ true → c ≡ true
     third true true true d e h = refl
@@ -293,7 +319,8 @@ number_let_in q e h = third (lets q.months (month_of e)) (lets_place q.month_day
     third false b c d e h = absurd (cc)
 
 pub week_let_in : (q : EffectiveRule) (e : ℕ) → lets_date q e ≡ true → lets_week q e ≡ true
-week_let_in q e h = fourth (lets q.months (month_of e)) (lets_place q.month_days (month_day_of e) (days_in_month (pos (year_of e)) (month_of e))) (lets_wide_place q.year_days (year_day_of e) (days_in_year (pos (year_of e)))) (lets_week q e) (lets_weekday q e) h
+week_let_in q e h = fourth (lets q.months (month_of e)) (lets_place q.month_days (month_day_of e) (days_in_month (pos (year_of e)) (month_of e)))
+    (lets_wide_place q.year_days (year_day_of e) (days_in_year (pos (year_of e)))) (lets_week q e) (lets_weekday q e) h
   where
     fourth : (a b c d e : Bool) → (a && b && c && d && e) ≡ true → d ≡ true
     fourth true true true true e h = refl
@@ -309,13 +336,16 @@ year_day_is e y h = rw h refl
 
 pub year_place : (first y k : ℕ) → first ≡ days_before_year y → k < days_in_year (pos y) → (year_of (first + k) ≡ y) × (year_day_of (first + k) ≡ k + 1)
 year_place first y k start inside =
-    let year : year_of (first + k) ≡ y = year_of_is (first + k) y (omega (arith, start)) (let next = days_before_year-next y in omega (arith, next, start, inside)) in
+    let year : year_of (first + k) ≡ y = year_of_is (first + k) y (omega (arith, start)) (let next = days_before_year-next y in
+    omega (arith, next, start, inside)) in
     (year, (let day = year_day_is (first + k) y year in omega (arith, day, start)))
 
 pub year_starts : (first y : ℕ) → first ≡ days_before_year y → year_of first ≡ y
-year_starts first y start = year_of_is first y (omega (arith, start)) (let next = days_before_year-next y in let some = days_in_year_bounds (pos y) in omega (arith, next, start, some.1))
+year_starts first y start = year_of_is first y (omega (arith, start)) (let next = days_before_year-next y in let some = days_in_year_bounds (pos y) in
+    omega (arith, next, start, some.1))
 
-pub number_listed : (q : EffectiveRule) (first y len k : ℕ) → first ≡ days_before_year y → len ≡ days_in_year (pos y) → nat_lt k len ≡ true → lets_date q (first + k) ≡ true → lets_wide_place q.year_days (k + 1) len ≡ true
+pub number_listed : (q : EffectiveRule) (first y len k : ℕ) → first ≡ days_before_year y → len ≡ days_in_year (pos y) → nat_lt k len ≡ true →
+    lets_date q (first + k) ≡ true → lets_wide_place q.year_days (k + 1) len ≡ true
 number_listed q first y len k start size inside h =
     let within : k < len = grind (arith, nat_tests) in
     let place = year_place first y k start (omega (arith, within, size)) in
@@ -323,13 +353,16 @@ number_listed q first y len k start size inside h =
     ∙ ap (λ n. lets_wide_place q.year_days n (days_in_year (pos (year_of (first + k))))) (sym place.1)
     ∙ number_let_in q (first + k) h
 
-pub whole_year : (q : EffectiveRule) (first len y w k : ℕ) (a b : Bool) → goes_by_months q ≡ true → q.frequency ≡ Yearly → (is_empty q.months && lists_none q.month_days) ≡ true
+pub whole_year : (q : EffectiveRule) (first len y w k : ℕ) (a b : Bool) → goes_by_months q ≡ true → q.frequency ≡ Yearly →
+    (is_empty q.months && lists_none q.month_days) ≡ true
     → first ≡ days_before_year y → len ≡ days_in_year (pos y) → w ≡ weekday_of first → a ≡ false
-    → b ≡ (a || (has_run (record { start = 0; len = len; weekday = w }) k && lists_weekday q.weekdays (weekday_in (record { start = 0; len = len; weekday = w }) (k - 0)) (k - 0 + 1) len))
+    → b ≡ (a || (has_run (record { start = 0; len = len; weekday = w }) k
+    && lists_weekday q.weekdays (weekday_in (record { start = 0; len = len; weekday = w }) (k - 0)) (k - 0 + 1) len))
     → b ≡ (nat_lt k len && lets_date q (first + k))
 whole_year q first len y w k a b goes yearly none start size weekday new e =
     let r : Run = record { start = 0; len = len; weekday = w } in
-    e ∙ ap (λ x. x || (has_run r k && lists_weekday q.weekdays (weekday_in r (k - 0)) (k - 0 + 1) len)) new ∙ guard (has_run r k) _ (lets_date q (first + k)) (λ h.
+    e ∙ ap (λ x. x || (has_run r k && lists_weekday q.weekdays (weekday_in r (k - 0)) (k - 0 + 1) len)) new
+    ∙ guard (has_run r k) _ (lets_date q (first + k)) (λ h.
     let inside = run_facts r k h in
     let place = year_place first y k start (omega (arith, inside.1, size)) in
     let own : weekday_in r (k - 0) ≡ weekday_of (first + k) = omega (arith, weekday) in
@@ -343,18 +376,21 @@ whole_year q first len y w k a b goes yearly none start size weekday new e =
     run_start k len = let low : nat_le 0 k ≡ true = grind (arith, nat_tests) in let back : k - 0 ≡ k = omega arith in rw (low, back) refl
 
 -- a month as a period
-pub span_month : (p first len w : ℕ) → IsSpan Monthly p first len → w ≡ weekday_of first → IsMonth (record { start = 0; len = len; weekday = w }) first ((p - 1) / 12) ((p - 1) % 12 + 1)
+pub span_month : (p first len w : ℕ) → IsSpan Monthly p first len → w ≡ weekday_of first →
+    IsMonth (record { start = 0; len = len; weekday = w }) first ((p - 1) / 12) ((p - 1) % 12 + 1)
 span_month p first len w span weekday = record {
   year = span.1.0;
   low = omega arith;
   high = omega arith;
-  place = (let back : (p - 1) % 12 + 1 - 1 ≡ (p - 1) % 12 = omega arith in let same = ap (days_of_months (pos ((p - 1) / 12))) back in omega (arith, span.1.1.0, same));
+  place = (let back : (p - 1) % 12 + 1 - 1 ≡ (p - 1) % 12 = omega arith in let same = ap (days_of_months (pos ((p - 1) / 12))) back in
+      omega (arith, span.1.1.0, same));
   size = span.1.1.1;
   weekday = weekday ∙ ap weekday_of (let more : first ≡ first + 0 = omega arith in more);
 }
 
 -- and the period that a rule's code looks at
-pub period_span : (f : Frequency) (w p b e : ℕ) → period f w 0 ≤ p → b ≡ first_local f w p → e ≡ first_local f w (p + 1) → b ≤ rules_end → IsSpan f p (b / 86_400) ((e + 86_399) / 86_400 - b / 86_400)
+pub period_span : (f : Frequency) (w p b e : ℕ) → period f w 0 ≤ p → b ≡ first_local f w p → e ≡ first_local f w (p + 1) → b ≤ rules_end →
+    IsSpan f p (b / 86_400) ((e + 86_399) / 86_400 - b / 86_400)
 period_span Yearly w p b e low eb ee reach =
     let next = days_before_year-next p in
     let one = ap days_before_year (let same : p + 1 ≡ suc p = omega arith in same) in

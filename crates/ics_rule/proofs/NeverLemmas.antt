@@ -1,5 +1,6 @@
 -- What BYSETPOS can't list.
-use Rattle.std.proofs.Common.{◌≡◌, ℕ, suc, ◌+◌, ◌-◌, ◌*◌, ◌<◌, ◌≤◌, ◌⊎◌, inl, inr, Bool, true, false, ◌&&◌, ◌||◌, ◌==◌, Option, Some, None, refl, sym, ap, ◌∙◌, arith}
+use Rattle.std.proofs.Common.{◌≡◌, ℕ, suc, ◌+◌, ◌-◌, ◌*◌, ◌<◌, ◌≤◌, ◌⊎◌, inl, inr, Bool, true, false, ◌&&◌, ◌||◌, ◌==◌, Option, Some, None, refl, sym, ap, ◌∙◌}
+use Rattle.std.proofs.Common.{arith}
 use Rattle.std.proofs.lemmas.Bool.{and_right, cases_lt, eq-eqb, eqb-true, false_from_ne_true}
 use Rattle.jiff_core.specs.Weekday.{monday_zero}
 use Rattle.ics_values.specs.Sets.{contains_wide}
@@ -23,7 +24,8 @@ use Rattle.ics_rule.proofs.Tests.{last_part, third}
 -- what stands beside n lets in the clock, and lies in its period
 module _ (q : EffectiveRule) (start n m : ℕ) (here : is_beside q start n m ≡ true) where
   beside_clock : lets_clock q m ≡ true
-  beside_clock = third (is_stepped (period_in q start) q.interval (period_in q m)) (lets_date q (day_of m)) (lets_clock q m) (period_in q m == period_in q n) here
+  beside_clock = third (is_stepped (period_in q start) q.interval (period_in q m)) (lets_date q (day_of m)) (lets_clock q m) (period_in q m == period_in q n)
+      here
 
   beside_period : period_in q m ≡ period_in q n
   beside_period = eqb-true (period_in q m) (period_in q n) (last_part (is_candidate_in q start m) (period_in q m == period_in q n) here)
@@ -33,20 +35,26 @@ size_within : (q : EffectiveRule) (start n a u : ℕ) (test : ℕ → Bool) → 
     → ((k : ℕ) → k < u → lets_clock q (a + k) ≡ true → test k ≡ true) → size q start n ≤ count u test
 size_within q start n a u test span clock =
     let all = up_to (cases_lt (a + u) calendar_end) in
-    let low = count-from a u (is_beside q start n) (λ m l. false_from_ne_true (is_beside q start n m) (λ here. let s = (span m (beside_period q start n m here)).0 in omega (arith, s, l))) in
+    let low = count-from a u (is_beside q start n)
+    (λ m l. false_from_ne_true (is_beside q start n m) (λ here. let s = (span m (beside_period q start n m here)).0 in omega (arith, s, l))) in
     let few = count_within u (λ k. is_beside q start n (a + k)) test (λ k l here. clock k l (beside_clock q start n (a + k) here)) in
     omega (arith, all, low, few)
   where
     up_to : (a + u < calendar_end) ⊎ (calendar_end ≤ a + u) → size q start n ≤ count (a + u) (is_beside q start n)
-    up_to (inl less) = let flat = count_flat (a + u) calendar_end (is_beside q start n) (omega (arith, less)) (λ m l h. false_from_ne_true (is_beside q start n m) (λ here. let s = (span m (beside_period q start n m here)).1 in omega (arith, s, l))) in omega (arith, flat)
+    up_to (inl less) = let flat = count_flat (a + u) calendar_end (is_beside q start n) (omega (arith, less))
+        (λ m l h. false_from_ne_true (is_beside q start n m) (λ here. let s = (span m (beside_period q start n m here)).1 in omega (arith, s, l))) in
+        omega (arith, flat)
     up_to (inr more) = count_mono calendar_end (a + u) (is_beside q start n) more
 
 -- nor than each period that the rule lets in, where a period is a day or less
 pub most_in_period : (q : EffectiveRule) → 0 < seconds_of q.frequency → seconds_of q.frequency ≤ 86_400 → (start n : ℕ) → size q start n ≤ size_of_open q
 most_in_period q fine unit start n =
     size_within q start n (period_in q n * seconds_of q.frequency) (seconds_of q.frequency) (lets_within q.frequency q)
-    (λ m here. let place = in_period q.frequency (monday_zero q.week_start) m fine unit in let begin = ap (λ x. x * seconds_of q.frequency) here in (omega (arith, place.0, begin), omega (arith, place.1, begin)))
-    (λ k l clock. sym (within_at q (period_in q n) k q.frequency fine unit l) ∙ last_part (lets_own q.frequency q (period_in q n * seconds_of q.frequency + k)) (lets_within q.frequency q (period_in q n * seconds_of q.frequency + k))
+    (λ m here. let place = in_period q.frequency (monday_zero q.week_start) m fine unit in let begin = ap (λ x. x * seconds_of q.frequency) here in
+    (omega (arith, place.0, begin), omega (arith, place.1, begin)))
+    (λ k l clock. sym (within_at q (period_in q n) k q.frequency fine unit l)
+    ∙ last_part (lets_own q.frequency q (period_in q n * seconds_of q.frequency + k))
+    (lets_within q.frequency q (period_in q n * seconds_of q.frequency + k))
     (sym (clock_split q.frequency q (period_in q n * seconds_of q.frequency + k)) ∙ clock))
 
 -- no place up to the size is listed
@@ -64,15 +72,18 @@ never_chosen q most some few front back start n inside = by_candidate (is_candid
         let bound = few start n in
         and_right (is_candidate_in q start n) (is_placed q start (lists_none_wide q.positions) n)
         (ap (λ b. is_placed q start b n) some
-        ∙ ap (λ x. x || contains_wide q.positions.back (size q start n + 1 - rank q start n)) (front (rank q start n) (omega (arith, first)) (omega (arith, within, bound)))
+        ∙ ap (λ x. x || contains_wide q.positions.back (size q start n + 1 - rank q start n))
+        (front (rank q start n) (omega (arith, first)) (omega (arith, within, bound)))
         ∙ back (size q start n + 1 - rank q start n) (omega (arith, within)) (omega (arith, first, within, bound)))
 
 -- so a walk finds nothing
-pub none_wanted : (q : EffectiveRule) (start : ℕ) (o : Option ℕ) (place stop : ℕ) → stop ≤ rules_end → ((n : ℕ) → n < calendar_end → is_chosen q start n ≡ false) → NoneWanted q start o place stop
+pub none_wanted : (q : EffectiveRule) (start : ℕ) (o : Option ℕ) (place stop : ℕ) → stop ≤ rules_end →
+    ((n : ℕ) → n < calendar_end → is_chosen q start n ≡ false) → NoneWanted q start o place stop
 none_wanted q start None place stop h none n l u = none n (omega (arith, u, h))
 none_wanted q start (Some c) place stop h none n l u = ap (λ x. x && is_few q start c n) (none n (omega (arith, u, h)))
 
-pub none_walked : (q : EffectiveRule) (start : ℕ) (o : Option ℕ) (stop : ℕ) (cursor : Cursor) → cursor.place < stop → IsCursorIn q start o cursor → IsWalked q start o stop None cursor cursor
+pub none_walked : (q : EffectiveRule) (start : ℕ) (o : Option ℕ) (stop : ℕ) (cursor : Cursor) → cursor.place < stop → IsCursorIn q start o cursor →
+    IsWalked q start o stop None cursor cursor
 none_walked q start o stop cursor h own = record {
   held = held_mono q cursor.held cursor.place stop own.held (omega (arith, h));
   found = tt;

@@ -1,5 +1,6 @@
 -- What a rule keeps: the start, and of the later locals that it has those that UNTIL lets through.
-use Rattle.std.proofs.Common.{◌≡◌, ℕ, suc, ◌+◌, ◌-◌, ◌<◌, ◌≤◌, inl, inr, Bool, true, false, ◌&&◌, ◌||◌, ◌==◌, nat_lt, min, max, Some, None, Option, MatchOption, refl, ap, ◌∙◌, arith}
+use Rattle.std.proofs.Common.{◌≡◌, ℕ, suc, ◌+◌, ◌-◌, ◌<◌, ◌≤◌, inl, inr, Bool, true, false, ◌&&◌, ◌||◌, ◌==◌, nat_lt, min, max, Some, None, Option}
+use Rattle.std.proofs.Common.{MatchOption, refl, ap, ◌∙◌, arith}
 use Rattle.std.proofs.lemmas.Bool.{and_from, and_right, cases_lt, le-ltb, lt-ltb}
 use Rattle.std.proofs.lemmas.Bool.Decides.{nat_tests}
 use Rattle.ics_rule.specs.Recurrence.{Recurrence}
@@ -15,18 +16,21 @@ use Rattle.ics_rule.proofs.Tests.{self_test, unequal}
 -- what the rule has: the start, nothing before it, and later what it chooses
 pub in_rule_start : (r : Recurrence) → is_in_rule r (number r.start) ≡ true
 unfolding is_in_rule
-in_rule_start r = ap (λ b. b || (nat_lt (number r.start) (number r.start) && is_chosen (effective r) (number r.start) (number r.start))) (self_test (number r.start))
+in_rule_start r = ap (λ b. b || (nat_lt (number r.start) (number r.start) && is_chosen (effective r) (number r.start) (number r.start)))
+    (self_test (number r.start))
 
 pub in_rule_earlier : (r : Recurrence) (n : ℕ) → n < number r.start → is_in_rule r n ≡ false
 unfolding is_in_rule
-in_rule_earlier r n h = out (n == number r.start) (nat_lt (number r.start) n) (is_chosen (effective r) (number r.start) n) (unequal n (number r.start) (inl h)) (le-ltb (number r.start) n (omega arith))
+in_rule_earlier r n h = out (n == number r.start) (nat_lt (number r.start) n) (is_chosen (effective r) (number r.start) n) (unequal n (number r.start) (inl h))
+    (le-ltb (number r.start) n (omega arith))
   where
     out : (a b c : Bool) → a ≡ false → b ≡ false → (a || (b && c)) ≡ false
     out a b c p q = rw (p, q) refl
 
 pub in_rule_later : (r : Recurrence) (n : ℕ) → number r.start < n → is_in_rule r n ≡ is_chosen (effective r) (number r.start) n
 unfolding is_in_rule
-in_rule_later r n h = later (n == number r.start) (nat_lt (number r.start) n) (is_chosen (effective r) (number r.start) n) (unequal n (number r.start) (inr h)) (lt-ltb (number r.start) n h)
+in_rule_later r n h = later (n == number r.start) (nat_lt (number r.start) n) (is_chosen (effective r) (number r.start) n) (unequal n (number r.start) (inr h))
+    (lt-ltb (number r.start) n h)
   where
     later : (a b c : Bool) → a ≡ false → b ≡ true → (a || (b && c)) ≡ c
     later a b c p q = rw (p, q) refl
@@ -38,7 +42,8 @@ members_before r n h =
     let whole : suc (number r.start) + (n - suc (number r.start)) ≡ n = omega arith in
     let members = count-add (suc (number r.start)) (n - suc (number r.start)) (is_in_rule r) in
     let chosen = count-add (suc (number r.start)) (n - suc (number r.start)) (is_chosen (effective r) (number r.start)) in
-    let same = count-same (n - suc (number r.start)) (λ k. is_in_rule r (suc (number r.start) + k)) (λ k. is_chosen (effective r) (number r.start) (suc (number r.start) + k))
+    let same = count-same (n - suc (number r.start)) (λ k. is_in_rule r (suc (number r.start) + k))
+    (λ k. is_chosen (effective r) (number r.start) (suc (number r.start) + k))
     (λ k l. in_rule_later r (suc (number r.start) + k) (omega arith)) in
     let none = count-none (number r.start) (is_in_rule r) (λ m l. in_rule_earlier r m l) in
     let last = count-suc (number r.start) (is_in_rule r) in
@@ -48,7 +53,8 @@ members_before r n h =
     omega (arith, members, chosen, same, none, last, one, a, b)
 
 counted_is_few : (r : Recurrence) (c n : ℕ) → number r.start < n → is_counted r (Some c) n ≡ is_few (effective r) (number r.start) c n
-counted_is_few r c n h = shifted (count n (is_in_rule r)) (count n (is_chosen (effective r) (number r.start))) c (count (suc (number r.start)) (is_chosen (effective r) (number r.start))) (members_before r n h)
+counted_is_few r c n h = shifted (count n (is_in_rule r)) (count n (is_chosen (effective r) (number r.start))) c
+    (count (suc (number r.start)) (is_chosen (effective r) (number r.start))) (members_before r n h)
   where
     shifted : (a b c d : ℕ) → a + d ≡ b + 1 → nat_lt a c ≡ nat_lt (b + 1) (c + d)
     shifted a b c d e = grind (arith, nat_tests)
@@ -79,15 +85,18 @@ kept_later r n l e = by_count r.parts.count
 
     by_count : (o : Option ℕ) → (n == number r.start || (nat_lt n rules_end && is_in_rule r n && is_by_until r.kind r.parts.until n && is_counted r o n))
         ≡ (is_wanted (effective r) (number r.start) o n && is_by_until r.kind r.parts.until n)
-    by_count None = free (n == number r.start) (nat_lt n rules_end) (is_in_rule r n) (is_chosen (effective r) (number r.start) n) (is_by_until r.kind r.parts.until n)
+    by_count None = free (n == number r.start) (nat_lt n rules_end) (is_in_rule r n) (is_chosen (effective r) (number r.start) n)
+        (is_by_until r.kind r.parts.until n)
         (unequal n (number r.start) (inr l)) (lt-ltb n rules_end e) (in_rule_later r n l)
-    by_count (Some c) = counted (n == number r.start) (nat_lt n rules_end) (is_in_rule r n) (is_chosen (effective r) (number r.start) n) (is_by_until r.kind r.parts.until n) (is_counted r (Some c) n) (is_few (effective r) (number r.start) c n)
+    by_count (Some c) = counted (n == number r.start) (nat_lt n rules_end) (is_in_rule r n) (is_chosen (effective r) (number r.start) n)
+        (is_by_until r.kind r.parts.until n) (is_counted r (Some c) n) (is_few (effective r) (number r.start) c n)
         (unequal n (number r.start) (inr l)) (lt-ltb n rules_end e) (in_rule_later r n l) (counted_is_few r c n l)
 
 -- none is kept before the start, and the start is
 pub kept_earlier : (r : Recurrence) (n : ℕ) → n < number r.start → is_kept r n ≡ false
 unfolding is_kept
-kept_earlier r n l = out (n == number r.start) (nat_lt n rules_end) (is_in_rule r n) (is_by_until r.kind r.parts.until n) (is_counted r r.parts.count n) (unequal n (number r.start) (inl l)) (in_rule_earlier r n l)
+kept_earlier r n l = out (n == number r.start) (nat_lt n rules_end) (is_in_rule r n) (is_by_until r.kind r.parts.until n) (is_counted r r.parts.count n)
+    (unequal n (number r.start) (inl l)) (in_rule_earlier r n l)
   where
     out : (a b t u k : Bool) → a ≡ false → t ≡ false → (a || (b && t && u && k)) ≡ false
     out a b t u k p q = rw (p, q) (last b)
@@ -98,7 +107,8 @@ kept_earlier r n l = out (n == number r.start) (nat_lt n rules_end) (is_in_rule 
 
 pub kept_start : (r : Recurrence) → is_kept r (number r.start) ≡ true
 unfolding is_kept
-kept_start r = ap (λ b. b || (nat_lt (number r.start) rules_end && is_in_rule r (number r.start) && is_by_until r.kind r.parts.until (number r.start) && is_counted r r.parts.count (number r.start))) (self_test (number r.start))
+kept_start r = ap (λ b. b || (nat_lt (number r.start) rules_end && is_in_rule r (number r.start) && is_by_until r.kind r.parts.until (number r.start)
+    && is_counted r r.parts.count (number r.start))) (self_test (number r.start))
 
 -- the start is the next kept
 pub next_start : (r : Recurrence) (place end : ℕ) → place ≤ number r.start → number r.start < end → IsNextKept r place end (number r.start)
@@ -116,20 +126,24 @@ module _ (r : Recurrence) (place end until : ℕ) (after : number r.start < plac
   pub none_kept : NoneWanted (effective r) (number r.start) r.parts.count place (min end until) → NoneKept r place end
   none_kept none n low high = elim (cases_lt n until) [
     | inl before ↦ none_at n low high (none n low (omega arith))
-    | inr past ↦ kept_later r n (omega arith) (omega arith) ∙ and_right (is_wanted (effective r) (number r.start) r.parts.count n) (is_by_until r.kind r.parts.until n) (ends n (omega arith) ∙ le-ltb n until past)
+    | inr past ↦ kept_later r n (omega arith) (omega arith)
+        ∙ and_right (is_wanted (effective r) (number r.start) r.parts.count n) (is_by_until r.kind r.parts.until n) (ends n (omega arith) ∙ le-ltb n until past)
   ]
 
   pub next_kept : (n : ℕ) → IsNextBefore (effective r) (number r.start) r.parts.count place (min end until) n → IsNextKept r place end n
   next_kept n next = record {
     kept = kept_later r n (omega (arith, next.least.low)) (omega (arith, next.in_bound))
-        ∙ and_from (is_wanted (effective r) (number r.start) r.parts.count n) (is_by_until r.kind r.parts.until n) next.least.passes (ends n (omega (arith, next.in_bound)) ∙ lt-ltb n until (omega (arith, next.in_bound)));
+        ∙ and_from (is_wanted (effective r) (number r.start) r.parts.count n) (is_by_until r.kind r.parts.until n) next.least.passes
+        (ends n (omega (arith, next.in_bound)) ∙ lt-ltb n until (omega (arith, next.in_bound)));
     from_place = next.least.low;
     in_bound = omega (arith, next.in_bound);
     least = λ m low high. none_at m low (omega (arith, next.in_bound)) (next.least.least m low high);
   }
+
   -- the answer of a search, as one of the rule
   pub kept_answer : (o : Option ℕ) (now : ℕ)
-      → MatchOption o (NoneWanted (effective r) (number r.start) r.parts.count place (min end until) × (now ≡ max place end)) (λ n. IsNextBefore (effective r) (number r.start) r.parts.count place (min end until) n × (now ≡ n + 1))
+      → MatchOption o (NoneWanted (effective r) (number r.start) r.parts.count place (min end until)
+      × (now ≡ max place end)) (λ n. IsNextBefore (effective r) (number r.start) r.parts.count place (min end until) n × (now ≡ n + 1))
       → MatchOption o (NoneKept r place end × (now ≡ max place end)) (λ n. IsNextKept r place end n × (now ≡ n + 1))
   kept_answer None now h = (none_kept h.0, h.1)
   kept_answer (Some n) now h = (next_kept n h.0, h.1)

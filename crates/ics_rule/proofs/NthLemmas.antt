@@ -1,5 +1,6 @@
 -- The n-th day of a month or year, and the n-th of its weekday there, by counting.
-use Rattle.std.proofs.Common.{◌≡◌, ◌≢◌, ℕ, zero, suc, ◌+◌, ◌-◌, ◌*◌, ◌/◌, ◌%◌, ◌<◌, ◌≤◌, inl, inr, Bool, true, false, ◌&&◌, ◌||◌, ◌==◌, pos, sym, ap, ◌∙◌, arith}
+use Rattle.std.proofs.Common.{◌≡◌, ◌≢◌, ℕ, zero, suc, ◌+◌, ◌-◌, ◌*◌, ◌/◌, ◌%◌, ◌<◌, ◌≤◌, inl, inr, Bool, true, false, ◌&&◌, ◌||◌, ◌==◌, pos, sym, ap, ◌∙◌}
+use Rattle.std.proofs.Common.{arith}
 use Rattle.std.proofs.lemmas.Bool.{and_right, cases_lt, cases_eq, eq-eqb, ne_eqb}
 use Rattle.std.proofs.lemmas.Bool.Decides.{nat_tests}
 use Rattle.jiff_core.specs.Calendar.{days_in_month, days_in_year, days_of_months}
@@ -238,7 +239,8 @@ pub month_days_listed : (p : Ordinals) (e : ℕ) → e < 4_000_000
     → is_place p (in_month e) e ≡ lists p (month_day_of e) (days_in_month (pos (year_of e)) (month_of e))
 month_days_listed p e small = nth_is (contains p.front) (contains p.back) (in_month e) e _ _ (month_nth e) (month_last e calendar_end (omega arith))
 
-pub year_days_listed : (p : WideOrdinals) (e : ℕ) → e < 4_000_000 → is_wide_place p (in_year e) e ≡ lists_wide p (year_day_of e) (days_in_year (pos (year_of e)))
+pub year_days_listed : (p : WideOrdinals) (e : ℕ) → e < 4_000_000 →
+    is_wide_place p (in_year e) e ≡ lists_wide p (year_day_of e) (days_in_year (pos (year_of e)))
 year_days_listed p e small = nth_is (contains_wide p.front) (contains_wide p.back) (in_year e) e _ _ (year_nth e) (year_last e calendar_end (omega arith))
 
 pub month_weekday_listed : (p : Ordinals) (e : ℕ) → e < 4_000_000

@@ -1,5 +1,6 @@
 -- The periods that a rule lets in, counted step by step and by whole days.
-use Rattle.std.proofs.Common.{◌≡◌, ℕ, zero, suc, ◌+◌, ◌-◌, ◌*◌, ◌/◌, ◌%◌, ◌<◌, ◌≤◌, inl, inr, Bool, true, false, cond, ◌&&◌, ◌||◌, nat_le, nat_lt, min, refl, sym, ap, ◌∙◌, arith}
+use Rattle.std.proofs.Common.{◌≡◌, ℕ, zero, suc, ◌+◌, ◌-◌, ◌*◌, ◌/◌, ◌%◌, ◌<◌, ◌≤◌, inl, inr, Bool, true, false, cond, ◌&&◌, ◌||◌, nat_le, nat_lt, min, refl}
+use Rattle.std.proofs.Common.{sym, ap, ◌∙◌, arith}
 use Rattle.std.proofs.lemmas.Bool.{and_from, and_left, and_right, cases_lt, false_from_ne_true}
 use Rattle.std.proofs.lemmas.Bool.Decides.{nat_tests}
 use Rattle.std.proofs.lemmas.Nat.{div-add-mod', mod-mul-add, le-div, div_below}
@@ -85,7 +86,8 @@ module _ (a i : ℕ) (some : 1 ≤ i) (g : ℕ → Bool) (from before : ℕ) whe
     }
 
     -- past numbers of which none passes, to the next step
-    pub walk_past : (out next : ℕ) → ((j : ℕ) → j < out → g (number + j) ≡ false) → IsLeastFrom (is_stepped a i) (number + out) next → number < before → IsStepWalk a i g from before next total
+    pub walk_past : (out next : ℕ) → ((j : ℕ) → j < out → g (number + j) ≡ false) → IsLeastFrom (is_stepped a i) (number + out) next → number < before →
+        IsStepWalk a i g from before next total
     walk_past out next none least h = record {
       step = least.passes;
       passed = let flat = count_flat number next stepped (let low = least.low in omega (arith, low)) closed in let t = walk.passed in omega (arith, flat, t);
@@ -94,7 +96,8 @@ module _ (a i : ℕ) (some : 1 ≤ i) (g : ℕ → Bool) (from before : ℕ) whe
       where
         closed : (m : ℕ) → number ≤ m → m < next → stepped m ≡ false
         closed m l u = elim (cases_lt m (number + out)) [
-          | inl early ↦ and_right (is_stepped a i m) (g m) (ap g (let same : m ≡ number + (m - number) = omega (arith, l) in same) ∙ none (m - number) (omega (arith, early, l)))
+          | inl early ↦ and_right (is_stepped a i m) (g m) (ap g (let same : m ≡ number + (m - number) = omega (arith, l) in same)
+              ∙ none (m - number) (omega (arith, early, l)))
           | inr late ↦ and_left (is_stepped a i m) (g m) (least.least m late u)
         ]
 

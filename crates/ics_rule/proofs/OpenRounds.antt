@@ -22,7 +22,8 @@ day_again Weekly p k h u = absurd (omega (arith, u))
 day_again Monthly p k h u = absurd (omega (arith, h))
 day_again Yearly p k h u = absurd (omega (arith, h))
 
-second_again : (f : Frequency) (p k : ℕ) → 0 < seconds_of f → seconds_of f ≤ 86_400 → (p + k * calendar_periods f) * seconds_of f ≡ p * seconds_of f + 146_097 * k * 86_400
+second_again : (f : Frequency) (p k : ℕ) → 0 < seconds_of f → seconds_of f ≤ 86_400 →
+    (p + k * calendar_periods f) * seconds_of f ≡ p * seconds_of f + 146_097 * k * 86_400
 second_again Secondly p k h u = omega arith
 second_again Minutely p k h u = omega arith
 second_again Hourly p k h u = omega arith
@@ -31,15 +32,19 @@ second_again Weekly p k h u = absurd (omega (arith, u))
 second_again Monthly p k h u = absurd (omega (arith, h))
 second_again Yearly p k h u = absurd (omega (arith, h))
 
-module _ (q : EffectiveRule) (first periods : ℕ) (round : IsCalendarRound q periods) (fine : 0 < seconds_of q.frequency) (unit : seconds_of q.frequency ≤ 86_400) where
+module _ (q : EffectiveRule) (first periods : ℕ) (round : IsCalendarRound q periods) (fine : 0 < seconds_of q.frequency)
+    (unit : seconds_of q.frequency ≤ 86_400) where
   open_again : (p : ℕ) → first ≤ p → is_open_period q first (p + periods) ≡ is_open_period q first p
   open_again p l =
-      ap (λ x. x && (lets_date q ((p + periods) / per_day q.frequency) && lets_own q.frequency q ((p + periods) * seconds_of q.frequency))) (calendar_step q periods round first p l)
+      ap (λ x. x && (lets_date q ((p + periods) / per_day q.frequency) && lets_own q.frequency q ((p + periods) * seconds_of q.frequency)))
+      (calendar_step q periods round first p l)
       ∙ ap (λ x. is_stepped first q.interval p && (lets_date q x && lets_own q.frequency q ((p + periods) * seconds_of q.frequency)))
       (ap (λ x. (p + x) / per_day q.frequency) round.whole ∙ day_again q.frequency p round.cycles fine unit)
-      ∙ ap (λ x. is_stepped first q.interval p && (x && lets_own q.frequency q ((p + periods) * seconds_of q.frequency))) (date_again q round.cycles (p / per_day q.frequency) round.some)
+      ∙ ap (λ x. is_stepped first q.interval p && (x && lets_own q.frequency q ((p + periods) * seconds_of q.frequency)))
+      (date_again q round.cycles (p / per_day q.frequency) round.some)
       ∙ ap (λ x. is_stepped first q.interval p && (lets_date q (p / per_day q.frequency) && x))
-      (ap (λ x. lets_own q.frequency q ((p + x) * seconds_of q.frequency)) round.whole ∙ ap (lets_own q.frequency q) (second_again q.frequency p round.cycles fine unit)
+      (ap (λ x. lets_own q.frequency q ((p + x) * seconds_of q.frequency)) round.whole
+      ∙ ap (lets_own q.frequency q) (second_again q.frequency p round.cycles fine unit)
       ∙ own_day q.frequency q fine unit (p * seconds_of q.frequency) (146_097 * round.cycles))
 
   -- of whole rounds each has as many as the first
@@ -48,7 +53,8 @@ module _ (q : EffectiveRule) (first periods : ℕ) (round : IsCalendarRound q pe
       → rest + count (from + rounds * periods) (is_open_period q first) ≡ count before (is_open_period q first)
       → rounds * one + rest + count from (is_open_period q first) ≡ count before (is_open_period q first)
   open_rounds from before rounds one rest low eo er =
-      let all = count_rounds (is_open_period q first) from periods (from + rounds * periods) (λ n l h. open_again n (omega (arith, low, l))) rounds (omega arith) in
+      let all = count_rounds (is_open_period q first) from periods (from + rounds * periods) (λ n l h. open_again n (omega (arith, low, l))) rounds
+      (omega arith) in
       let add = count-add from periods (is_open_period q first) in
       let product = ap (λ x. rounds * x) (let same : one ≡ count periods (λ k. is_open_period q first (from + k)) = omega (arith, add, eo) in same) in
       omega (arith, all, product, er)

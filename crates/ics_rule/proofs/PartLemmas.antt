@@ -38,7 +38,8 @@ is_named w (suc n) d h =
     let old = is_named w n d (omega (arith, h)) in
     let next : n + 1 ≡ suc n = omega arith in
     elim (cases_Bool (names_weekday w n)) [
-      | inl there ↦ ap (λ b. contains (if b then with_number n (named_below w n) else named_below w n) d) there ∙ contains-with_number (named_below w n) n d (omega (arith, h))
+      | inl there ↦ ap (λ b. contains (if b then with_number n (named_below w n) else named_below w n) d) there
+          ∙ contains-with_number (named_below w n) n d (omega (arith, h))
           ∙ one_more (names_weekday w) n d _ there old ∙ ap (λ x. nat_lt d x && names_weekday w d) next
       | inr not_there ↦ ap (λ b. contains (if b then with_number n (named_below w n) else named_below w n) d) not_there
           ∙ no_more (names_weekday w) n d _ not_there old ∙ ap (λ x. nat_lt d x && names_weekday w d) next

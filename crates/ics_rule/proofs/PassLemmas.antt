@@ -10,14 +10,16 @@ use Rattle.ics_rule.specs.Searches.{NoneLetIn, IsNextOpen}
 use Rattle.ics_rule.proofs.PeriodLemmas.{begun, begins, period_mono}
 
 -- the step of a local before which the rule lets nothing in
-pub step_open : (q : EffectiveRule) (first number begin place next : ℕ) → begin ≡ first_local q.frequency (monday_zero q.week_start) number → begin ≤ place → NoneLetIn q begin place
+pub step_open : (q : EffectiveRule) (first number begin place next : ℕ) → begin ≡ first_local q.frequency (monday_zero q.week_start) number → begin ≤ place →
+    NoneLetIn q begin place
     → IsLeastFrom (is_stepped first q.interval) (period_in q place) next → IsNextOpen q first number next
 step_open q first number begin place next e up none least = record {
   step = least.passes;
   low = let l = begins q.frequency (monday_zero q.week_start) number place (omega (arith, e, up)) in omega (arith, l, least.low);
   none = λ n l u stepped. elim (cases_lt n place) [
     | inl less ↦ none n (let b = begun q.frequency (monday_zero q.week_start) number n l in omega (arith, b, e)) less
-    | inr more ↦ absurd (let m = period_mono q.frequency (monday_zero q.week_start) place n more in let out = sym stepped ∙ least.least (period_in q n) m u in cc)
+    | inr more ↦ absurd (let m = period_mono q.frequency (monday_zero q.week_start) place n more in let out = sym stepped ∙ least.least (period_in q n) m u in
+        cc)
   ];
 }
 
@@ -29,7 +31,8 @@ one_out f e k here none j h = elim (cases_lt j k) [
 ]
 
 -- and a walk over them goes on
-pub out_on : (f : ℕ → Bool) (from e k : ℕ) → ((m : ℕ) → from ≤ m → m < e → f m ≡ false) → ((j : ℕ) → j < k → f (e + j) ≡ false) → (m : ℕ) → from ≤ m → m < e + k → f m ≡ false
+pub out_on : (f : ℕ → Bool) (from e k : ℕ) → ((m : ℕ) → from ≤ m → m < e → f m ≡ false) → ((j : ℕ) → j < k → f (e + j) ≡ false) → (m : ℕ) → from ≤ m →
+    m < e + k → f m ≡ false
 out_on f from e k before none m l h = elim (cases_lt m e) [
   | inl less ↦ before m l less
   | inr more ↦ subst (λ x. f x ≡ false) (let same : e + (m - e) ≡ m = omega (arith, more) in same) (none (m - e) (omega (arith, h, more)))
@@ -57,17 +60,20 @@ module _ (q : EffectiveRule) (hours minutes seconds : ℕ)
       grouped true b c = refl
       grouped false b c = refl
 
-  pub second_next : (n t : ℕ) → t < 86_400 → IsLeastFrom (has_time hours minutes seconds) (n % 86_400) t → (m : ℕ) → n ≤ m → m < n / 86_400 * 86_400 + t → lets_clock q m ≡ false
+  pub second_next : (n t : ℕ) → t < 86_400 → IsLeastFrom (has_time hours minutes seconds) (n % 86_400) t → (m : ℕ) → n ≤ m → m < n / 86_400 * 86_400 + t →
+      lets_clock q m ≡ false
   second_next n t small next m l u = sym (clock_is m) ∙ next.least (m % 86_400) (omega (arith, l, u, small)) (omega (arith, l, u, small))
 
-  pub second_none : (n : ℕ) → ((t : ℕ) → n % 86_400 ≤ t → has_time hours minutes seconds t ≡ false) → (m : ℕ) → n ≤ m → m < (n / 86_400 + 1) * 86_400 → lets_clock q m ≡ false
+  pub second_none : (n : ℕ) → ((t : ℕ) → n % 86_400 ≤ t → has_time hours minutes seconds t ≡ false) → (m : ℕ) → n ≤ m → m < (n / 86_400 + 1) * 86_400 →
+      lets_clock q m ≡ false
   second_none n none m l u = sym (clock_is m) ∙ none (m % 86_400) (omega (arith, l, u))
 
 -- no local is let in on a day that is not, nor at a time that is not
 pub none_on_days : (q : EffectiveRule) (n day : ℕ) → ((e : ℕ) → n / 86_400 ≤ e → e < day → lets_date q e ≡ false) → NoneLetIn q n (max n (day * 86_400))
 none_on_days q n day none m l u = ap (λ x. x && lets_clock q m) (none (m / 86_400) (omega (arith, l)) (omega (arith, l, u)))
 
-pub none_on_clock : (q : EffectiveRule) (n from before : ℕ) → NoneLetIn q n from → ((m : ℕ) → from ≤ m → m < before → lets_clock q m ≡ false) → NoneLetIn q n before
+pub none_on_clock : (q : EffectiveRule) (n from before : ℕ) → NoneLetIn q n from → ((m : ℕ) → from ≤ m → m < before → lets_clock q m ≡ false) →
+    NoneLetIn q n before
 none_on_clock q n from before days none m l u = elim (cases_lt m from) [
   | inl less ↦ days m l less
   | inr more ↦ and_right (lets_date q (m / 86_400)) (lets_clock q m) (none m more u)

@@ -55,7 +55,8 @@ month_begun (suc p) e h =
     rw back (elim (cases_lt e (days_before_year (p / 12) + days_of_months (pos (p / 12)) (p % 12))) [
       | inl less ↦ absurd (
           let same : p % 12 + 1 - 1 ≡ p % 12 = omega arith in
-          let before = earlier_month (p / 12) (p % 12 + 1) (omega arith) (omega arith) e (subst (λ k. e < days_before_year (p / 12) + days_of_months (pos (p / 12)) k) (sym same) less) in
+          let before = earlier_month (p / 12) (p % 12 + 1) (omega arith) (omega arith) e
+          (subst (λ k. e < days_before_year (p / 12) + days_of_months (pos (p / 12)) k) (sym same) less) in
           omega (arith, before))
       | inr more ↦ more
     ])
@@ -67,7 +68,8 @@ pub month_begins : (p e : ℕ) → month_start p ≤ e → p ≤ month_number e
 month_begins zero e h = omega arith
 month_begins (suc p) e h = elim (cases_lt 0 (p % 12)) [
   | inl some ↦ let after = later_month (p / 12) (p % 12) (omega arith) (omega arith) e (rw back at h) in omega (arith, after)
-  | inr none ↦ let year = year_begins (p / 12) e (let low : days_before_year (p / 12) ≤ days_before_year (p / 12) + days_of_months (pos (p / 12)) (p % 12) = omega arith in let h' = rw back at h in omega (arith, low, h')) in
+  | inr none ↦ let year = year_begins (p / 12) e (let low : days_before_year (p / 12) ≤ days_before_year (p / 12) + days_of_months (pos (p / 12)) (p % 12) =
+      omega arith in let h' = rw back at h in omega (arith, low, h')) in
       omega (arith, year, month_positive e)
 ]
   where
@@ -75,8 +77,10 @@ month_begins (suc p) e h = elim (cases_lt 0 (p % 12)) [
     back = omega arith
 
 -- the day after the first k months of year y, and the next month's
-month_at : (y k : ℕ) → k < 12 → (days_before_year y + days_of_months (pos y) (k + 1) ≡ days_before_year y + days_of_months (pos y) k + days_in_month (pos y) (k + 1))
-month_at y k h = let more = days_of_months_more (pos y) (k + 1) (omega arith) in let back : k + 1 - 1 ≡ k = omega arith in let more' = rw back at more in omega (arith, more')
+month_at : (y k : ℕ) → k < 12 →
+    (days_before_year y + days_of_months (pos y) (k + 1) ≡ days_before_year y + days_of_months (pos y) k + days_in_month (pos y) (k + 1))
+month_at y k h = let more = days_of_months_more (pos y) (k + 1) (omega arith) in let back : k + 1 - 1 ≡ k = omega arith in let more' = rw back at more in
+    omega (arith, more')
 
 pub month_size : (p : ℕ) → month_start (suc (suc p)) ≡ month_start (suc p) + days_in_month (pos (p / 12)) (p % 12 + 1)
 month_size p =
@@ -100,7 +104,8 @@ month_size p =
     ]))
 
 month_length : (p : ℕ) → (month_start (suc p) < month_start (suc (suc p))) × (month_start (suc (suc p)) ≤ month_start (suc p) + 31)
-month_length p = let size = month_size p in let bounds = days_in_month_bounds (pos (p / 12)) (p % 12 + 1) in (omega (arith, size, bounds.1), omega (arith, size, bounds.0))
+month_length p = let size = month_size p in let bounds = days_in_month_bounds (pos (p / 12)) (p % 12 + 1) in
+    (omega (arith, size, bounds.1), omega (arith, size, bounds.0))
 
 -- a local is no earlier than the first of its period and of those before
 pub begun : (f : Frequency) (w p n : ℕ) → p ≤ period f w n → first_local f w p ≤ n
@@ -153,7 +158,8 @@ first_in f w p h l = let low = begins f w p (first_local f w p) (omega arith) in
 ]
 
 -- a period and the next, as code counts them
-pub next_first : (f : Frequency) (w p b e : ℕ) → w < 7 → period f w 0 ≤ p → b ≡ first_local f w p → e ≡ first_local f w (p + 1) → (b < e) × (e ≤ b + 366 * 86_400)
+pub next_first : (f : Frequency) (w p b e : ℕ) → w < 7 → period f w 0 ≤ p → b ≡ first_local f w p → e ≡ first_local f w (p + 1) →
+    (b < e) × (e ≤ b + 366 * 86_400)
 next_first f w p b e h l eb ee =
     let same = ap (first_local f w) (one_more p) in
     let longer = lasts f w p h l in
@@ -170,12 +176,15 @@ period_small Minutely w n h = omega arith
 period_small Hourly w n h = omega arith
 period_small Daily w n h = omega arith
 period_small Weekly w n h = omega arith
-period_small Monthly w n h = let b = month_begun (month_number (n / 86_400)) (n / 86_400) (omega arith) in let l = days_before_year_low ((month_number (n / 86_400) - 1) / 12) in omega (arith, b, l)
-period_small Yearly w n h = let b = year_begun (year_of (n / 86_400)) (n / 86_400) (omega arith) in let l = days_before_year_low (year_of (n / 86_400)) in omega (arith, b, l)
+period_small Monthly w n h = let b = month_begun (month_number (n / 86_400)) (n / 86_400) (omega arith) in
+    let l = days_before_year_low ((month_number (n / 86_400) - 1) / 12) in omega (arith, b, l)
+period_small Yearly w n h = let b = year_begun (year_of (n / 86_400)) (n / 86_400) (omega arith) in let l = days_before_year_low (year_of (n / 86_400)) in
+    omega (arith, b, l)
 
 -- how many days a period touches
 pub span_fits : (f : Frequency) (w p first len : ℕ) → w < 7 → period f w 0 ≤ p → first_local f w p ≤ rules_end
-    → first ≡ first_local f w p / 86_400 → len ≡ (first_local f w (p + 1) + 86_399) / 86_400 - first_local f w p / 86_400 → (len ≤ 384) × (first + 384 ≤ 3_652_059)
+    → first ≡ first_local f w p / 86_400 → len ≡ (first_local f w (p + 1) + 86_399) / 86_400 - first_local f w p / 86_400 →
+    (len ≤ 384) × (first + 384 ≤ 3_652_059)
 span_fits f w p first len small low reach ef el =
     let s = next_first f w p _ _ small low refl refl in fits (first_local f w p) (first_local f w (p + 1)) first len s.0 s.1 reach ef el
   where

@@ -1,5 +1,6 @@
 -- A rule whose DTSTART fits is its plain reading.
-use Rattle.std.proofs.Common.{◌≡◌, ◌≢◌, ℕ, suc, ◌+◌, ◌-◌, ◌*◌, ◌/◌, ◌%◌, ◌<◌, ◌≤◌, ◌⊎◌, inl, inr, Bool, true, false, not, ◌&&◌, ◌||◌, ◌==◌, nat_lt, if◌then◌else◌, Option, Some, None, MatchOption, pos, refl, sym, ap, ◌∙◌, arith}
+use Rattle.std.proofs.Common.{◌≡◌, ◌≢◌, ℕ, suc, ◌+◌, ◌-◌, ◌*◌, ◌/◌, ◌%◌, ◌<◌, ◌≤◌, ◌⊎◌, inl, inr, Bool, true, false, not, ◌&&◌, ◌||◌, ◌==◌, nat_lt}
+use Rattle.std.proofs.Common.{if◌then◌else◌, Option, Some, None, MatchOption, pos, refl, sym, ap, ◌∙◌, arith}
 use Rattle.std.proofs.lemmas.Bool.{and_parts, le-leb, le-ltb, lt-leb, lt-ltb, cases_eq, eq-eqb, ne_eqb}
 use Rattle.std.proofs.lemmas.Nat.Bits.{bit_at-zero}
 use Rattle.jiff_core.specs.Calendar.{days_in_month, days_in_year}
@@ -17,11 +18,15 @@ use Rattle.ics_rule.specs.Recurrence.{Recurrence}
 use Rattle.ics_rule.specs.PeriodNumbers.{day_of, hour_of, minute_of, second_of, rules_end}
 use Rattle.ics_values.specs.Locals.{number, calendar_end}
 use Rattle.ics_rule.specs.EffectiveRules.{takes_month_day, takes_month, takes_weekday, skips_hours, skips_minutes, skips_seconds, clock_part, effective}
-use Rattle.ics_rule.specs.Candidates.{lets, lets_place, lets_wide_place, lists, lists_wide, lists_nth, lets_week, lets_numbered, lets_weekday, lets_date, lets_clock, period_in, is_stepped, is_candidate_in, fourth_day, week_number, weeks_of_year}
+use Rattle.ics_rule.specs.Candidates.{lets, lets_place, lets_wide_place, lists, lists_wide, lists_nth, lets_week, lets_numbered, lets_weekday, lets_date}
+use Rattle.ics_rule.specs.Candidates.{lets_clock, period_in, is_stepped, is_candidate_in, fourth_day, week_number, weeks_of_year}
 use Rattle.ics_rule.specs.Kept.{count, is_beside, rank, size, is_placed, is_chosen, is_in_rule, is_by_until, is_counted, is_kept}
 use Rattle.ics_rule.specs.Table.{ByMonth, ByWeekNo, ByYearDay, ByMonthDay, ByDay, ByHour, ByMinute, BySecond}
 use Rattle.ics_rule.specs.ByTable.{is_absent, is_clockless, weekday_unit}
-use Rattle.ics_rule.specs.PlainReading.{is_place, is_wide_place, is_dayless, is_extracted, month_applies, in_year, in_month, month_day_applies, year_day_applies, with_weekday, weekday_period, is_weekday, weekday_applies, fourth_of_week, is_week, week_applies, hour_applies, minute_applies, second_applies, all_apply, period_at, frequency_applies, occurs_in, position_applies, is_plain_member, is_few_members, is_plainly_kept, HasPlainReading}
+use Rattle.ics_rule.specs.PlainReading.{is_place, is_wide_place, is_dayless, is_extracted, month_applies, in_year, in_month, month_day_applies}
+use Rattle.ics_rule.specs.PlainReading.{year_day_applies, with_weekday, weekday_period, is_weekday, weekday_applies, fourth_of_week, is_week, week_applies}
+use Rattle.ics_rule.specs.PlainReading.{hour_applies, minute_applies, second_applies, all_apply, period_at, frequency_applies, occurs_in, position_applies}
+use Rattle.ics_rule.specs.PlainReading.{is_plain_member, is_few_members, is_plainly_kept, HasPlainReading}
 use Rattle.ics_rule.proofs.Counts.{count-same, count-suc, count-none, count_one}
 use Rattle.ics_rule.proofs.DateLemmas.{none_nth}
 use Rattle.ics_rule.proofs.PeriodLemmas.{week_small, period_mono}
@@ -115,6 +120,7 @@ place_none p test e h =
     ∙ ap (λ x. contains 0 (count (suc e) test) || contains x (count calendar_end test - count e test)) (zero_of p.back parts.1)
     ∙ ap (λ x. (x == 1) || contains 0 (count calendar_end test - count e test)) (bit_at-zero (count (suc e) test))
     ∙ ap (λ x. x == 1) (bit_at-zero (count calendar_end test - count e test))
+
 -- under YEARLY, beside BYWEEKNO or not, and BYMONTH or not
 abbrev yearly_numbered : Ordinals → ℕ → Bool → Bool → Bool
 yearly_numbered p e w m =
@@ -345,7 +351,8 @@ module _ (r : Recurrence) (plain : HasPlainReading r) where
       by_positions : (b : Bool) → is_placed (effective r) start b n ≡ (b || is_wide_place r.parts.positions (occurs_in r (period_at r n)) n)
       by_positions true = refl
       by_positions false =
-          ap (λ x. contains_wide r.parts.positions.front x || contains_wide r.parts.positions.back (size (effective r) start n + 1 - rank (effective r) start n)) ranked
+          ap (λ x. contains_wide r.parts.positions.front x
+          || contains_wide r.parts.positions.back (size (effective r) start n + 1 - rank (effective r) start n)) ranked
           ∙ ap (λ x. contains_wide r.parts.positions.front (count (suc n) (occurs_in r (period_at r n))) || contains_wide r.parts.positions.back x) from_end
 
   chosen : (n : ℕ) → start ≤ n → n < calendar_end → is_chosen (effective r) start n ≡ (frequency_applies r n && (all_apply r n && position_applies r n))

@@ -1,5 +1,6 @@
 -- The place of a local in a product, and the product's size, by the sizes of its sets.
-use Rattle.std.proofs.Common.{◌≡◌, ℕ, ◌+◌, ◌-◌, ◌*◌, ◌/◌, ◌%◌, ◌<◌, ◌≤◌, inl, inr, Bool, true, false, cond, ◌&&◌, nat_le, min, Option, None, Some, IfSome, refl, sym, ap, ◌∙◌, arith}
+use Rattle.std.proofs.Common.{◌≡◌, ℕ, ◌+◌, ◌-◌, ◌*◌, ◌/◌, ◌%◌, ◌<◌, ◌≤◌, inl, inr, Bool, true, false, cond, ◌&&◌, nat_le, min, Option, None, Some, IfSome}
+use Rattle.std.proofs.Common.{refl, sym, ap, ◌∙◌, arith}
 use Rattle.std.proofs.lemmas.Bool.{and_right, cases_lt}
 use Rattle.std.proofs.lemmas.Bool.Decides.{nat_tests}
 use Rattle.std.proofs.lemmas.Nat.{div-mul-add, mod-mul-add, div-add-mod'}
@@ -32,14 +33,18 @@ count-at n b p q h = let whole = div-add-mod' n b in
     sym (ap (λ x. count x (λ m. p (m / b) && q (m % b))) whole) ∙ count-place (n / b) b (n % b) p q (let l : n % b < b = mod-lt n h in omega (arith, l))
 
 -- where the block of n passes, and where it does not
-pub count_taken : (n b total blocks size rest : ℕ) (p q : ℕ → Bool) → 0 < b → p (n / b) ≡ true → total ≡ blocks * size + rest → blocks ≡ count (n / b) p → size ≡ count b q → rest ≡ count (n % b) q
+pub count_taken : (n b total blocks size rest : ℕ) (p q : ℕ → Bool) → 0 < b → p (n / b) ≡ true → total ≡ blocks * size + rest → blocks ≡ count (n / b) p →
+    size ≡ count b q → rest ≡ count (n % b) q
     → total ≡ count n (λ m. p (m / b) && q (m % b))
-count_taken n b total blocks size rest p q h e et eb es er = let at = count-at n b p q h in let one = count_one (p (n / b)) e in let product = ap (λ x. x * count (n % b) q) one in
-    let here : blocks * size ≡ count (n / b) p * count b q = ap (λ x. x * size) eb ∙ ap (λ x. count (n / b) p * x) es in omega (arith, at, product, here, et, er)
+count_taken n b total blocks size rest p q h e et eb es er = let at = count-at n b p q h in let one = count_one (p (n / b)) e in
+    let product = ap (λ x. x * count (n % b) q) one in
+    let here : blocks * size ≡ count (n / b) p * count b q = ap (λ x. x * size) eb ∙ ap (λ x. count (n / b) p * x) es in
+    omega (arith, at, product, here, et, er)
 
 pub count_left : (n b total blocks size : ℕ) (p q : ℕ → Bool) → 0 < b → p (n / b) ≡ false → total ≡ blocks * size → blocks ≡ count (n / b) p → size ≡ count b q
     → total ≡ count n (λ m. p (m / b) && q (m % b))
-count_left n b total blocks size p q h e et eb es = let at = count-at n b p q h in let none = count_none_at (p (n / b)) e in let product = ap (λ x. x * count (n % b) q) none in
+count_left n b total blocks size p q h e et eb es = let at = count-at n b p q h in let none = count_none_at (p (n / b)) e in
+    let product = ap (λ x. x * count (n % b) q) none in
     let here : blocks * size ≡ count (n / b) p * count b q = ap (λ x. x * size) eb ∙ ap (λ x. count (n / b) p * x) es in omega (arith, at, product, here, et)
 
 pub count_zero : (p : ℕ → Bool) → 0 ≡ count 0 p
@@ -47,8 +52,10 @@ unfolding count
 count_zero p = refl
 
 -- the size of a product
-pub clock_size : (p : RecurrencePeriod) → count 86_400 (has_second p) ≡ count 24 (contains p.hours) * count 60 (contains p.minutes) * count 60 (contains p.seconds)
-clock_size p = count-product 1_440 60 (has_minute p.hours p.minutes) (contains p.seconds) ∙ ap (λ x. x * count 60 (contains p.seconds)) (count-product 24 60 (contains p.hours) (contains p.minutes))
+pub clock_size : (p : RecurrencePeriod) → count 86_400 (has_second p)
+    ≡ count 24 (contains p.hours) * count 60 (contains p.minutes) * count 60 (contains p.seconds)
+clock_size p = count-product 1_440 60 (has_minute p.hours p.minutes) (contains p.seconds)
+    ∙ ap (λ x. x * count 60 (contains p.seconds)) (count-product 24 60 (contains p.hours) (contains p.minutes))
 
 pub whole_size : (p : RecurrencePeriod) → count calendar_end (holds p) ≡ count 3_652_425 (has_day p) * count 86_400 (has_second p)
 whole_size p = count-product 3_652_425 86_400 (has_day p) (has_second p)
@@ -59,7 +66,8 @@ day_at p k = let low : nat_le p.first_day (p.first_day + k) ≡ true = grind (ar
     ap (λ x. x && contains_wide p.days (p.first_day + k - p.first_day)) low ∙ ap (contains_wide p.days) back
 
 pub days_from_first : (p : RecurrencePeriod) (n : ℕ) → count (p.first_day + n) (has_day p) ≡ count n (contains_wide p.days)
-days_from_first p n = count-from p.first_day n (has_day p) (day_before p) ∙ count-same n (λ k. has_day p (p.first_day + k)) (contains_wide p.days) (λ k l. day_at p k)
+days_from_first p n = count-from p.first_day n (has_day p) (day_before p)
+    ∙ count-same n (λ k. has_day p (p.first_day + k)) (contains_wide p.days) (λ k l. day_at p k)
 
 pub days_in_all : (p : RecurrencePeriod) → p.first_day ≤ 3_600_000 → count 3_652_425 (has_day p) ≡ count 384 (contains_wide p.days)
 days_in_all p h =
@@ -68,7 +76,8 @@ days_in_all p h =
     ∙ count-up_to 384 (3_652_425 - 384 - p.first_day) (contains_wide p.days) (λ k l u. wide_past p.days k l)
 
 -- its size by the sizes of its sets
-pub product_size : (p : RecurrencePeriod) → p.first_day ≤ 3_600_000 → count calendar_end (holds p) ≡ count 384 (contains_wide p.days) * count 86_400 (has_second p)
+pub product_size : (p : RecurrencePeriod) → p.first_day ≤ 3_600_000 →
+    count calendar_end (holds p) ≡ count 384 (contains_wide p.days) * count 86_400 (has_second p)
 product_size p h = whole_size p ∙ ap (λ x. x * count 86_400 (has_second p)) (days_in_all p h)
 
 -- its days by their number
@@ -76,9 +85,11 @@ pub nth_of_days : (p : RecurrencePeriod) (k n : ℕ) → IsNth (contains_wide p.
 nth_of_days p k n nth = record { passes = day_at p n ∙ nth.passes; before = days_from_first p n ∙ nth.before }
 
 -- the days before one
-pub days_before : (p : RecurrencePeriod) (day skipped : ℕ) → skipped ≡ min (day - p.first_day) 384 → count skipped (contains_wide p.days) ≡ count day (has_day p)
+pub days_before : (p : RecurrencePeriod) (day skipped : ℕ) → skipped ≡ min (day - p.first_day) 384 →
+    count skipped (contains_wide p.days) ≡ count day (has_day p)
 days_before p day skipped e = elim (cases_lt day p.first_day) [
-  | inl early ↦ let none : skipped ≡ 0 = omega (arith, e) in ap (λ x. count x (contains_wide p.days)) none ∙ sym (count_zero (contains_wide p.days)) ∙ sym (count-none day (has_day p) (λ m l. day_before p m (omega arith)))
+  | inl early ↦ let none : skipped ≡ 0 = omega (arith, e) in ap (λ x. count x (contains_wide p.days)) none ∙ sym (count_zero (contains_wide p.days))
+      ∙ sym (count-none day (has_day p) (λ m l. day_before p m (omega arith)))
   | inr late ↦ let whole : p.first_day + (day - p.first_day) ≡ day = omega arith in elim (cases_lt 384 (day - p.first_day)) [
     | inl far ↦ let top : skipped ≡ 384 = omega (arith, e) in let all : 384 + (day - p.first_day - 384) ≡ day - p.first_day = omega arith in
         ap (λ x. count x (contains_wide p.days)) top ∙ sym (count-up_to 384 (day - p.first_day - 384) (contains_wide p.days) (λ k l u. wide_past p.days k l))
@@ -87,11 +98,13 @@ days_before p day skipped e = elim (cases_lt day p.first_day) [
         ap (λ x. count x (contains_wide p.days)) same ∙ sym (days_from_first p (day - p.first_day)) ∙ ap (λ x. count x (has_day p)) whole
   ]
 ]
+
 -- the k-th number of a product, by dividing by the size of a block
 pub nth-product : (b s k hi lo : ℕ) (p q : ℕ → Bool) → s ≡ count b q → lo < b → IsNth p (k / s) hi → IsNth q (k % s) lo
     → IsNth (λ n. p (n / b) && q (n % b)) k (hi * b + lo)
 nth-product b s k hi lo p q es l high low = record {
-  passes = ap (λ z. p z && q ((hi * b + lo) % b)) (div-mul-add hi b lo l) ∙ ap (λ z. p hi && q z) (mod-mul-add hi b lo l) ∙ ap (λ z. z && q lo) high.passes ∙ low.passes;
+  passes = ap (λ z. p z && q ((hi * b + lo) % b)) (div-mul-add hi b lo l) ∙ ap (λ z. p hi && q z) (mod-mul-add hi b lo l) ∙ ap (λ z. z && q lo) high.passes
+      ∙ low.passes;
   before =
       let place = count-place hi b lo p q (omega arith) in
       let one = ap (λ x. x * count lo q) (count_one (p hi) high.passes) in
@@ -102,8 +115,10 @@ nth-product b s k hi lo p q es l high low = record {
 
 -- nothing stands past the calendar
 pub holds_past : (p : RecurrencePeriod) → p.first_day ≤ 3_600_000 → (m : ℕ) → calendar_end ≤ m → holds p m ≡ false
-holds_past p h m late = ap (λ x. x && has_second p (m % 86_400)) (and_right (nat_le p.first_day (m / 86_400)) (contains_wide p.days (m / 86_400 - p.first_day)) (wide_past p.days (m / 86_400 - p.first_day) (omega arith)))
+holds_past p h m late = ap (λ x. x && has_second p (m % 86_400))
+    (and_right (nat_le p.first_day (m / 86_400)) (contains_wide p.days (m / 86_400 - p.first_day)) (wide_past p.days (m / 86_400 - p.first_day) (omega arith)))
 
 pub next_small : (p : RecurrencePeriod) (n : ℕ) (o : Option ℕ) → p.first_day ≤ 3_600_000 → IsNextIn (holds p) n o → IfSome o (λ m. m < calendar_end)
 next_small p n None h next = tt
-next_small p n (Some m) h next = elim (cases_lt m calendar_end) [ inl less ↦ less | inr late ↦ absurd (let no = holds_past p h m late in let yes = next.passes in cc) ]
+next_small p n (Some m) h next =
+    elim (cases_lt m calendar_end) [ inl less ↦ less | inr late ↦ absurd (let no = holds_past p h m late in let yes = next.passes in cc) ]

@@ -1,5 +1,6 @@
 -- A product holds what the rule lets in within the period.
-use Rattle.std.proofs.Common.{◌≡◌, ℕ, ◌+◌, ◌-◌, ◌*◌, ◌/◌, ◌%◌, ◌<◌, ◌≤◌, ◌⊎◌, inl, inr, Bool, true, false, ◌==◌, nat_le, nat_lt, ◌&&◌, ◌||◌, refl, sym, ap, ◌∙◌, arith}
+use Rattle.std.proofs.Common.{◌≡◌, ℕ, ◌+◌, ◌-◌, ◌*◌, ◌/◌, ◌%◌, ◌<◌, ◌≤◌, ◌⊎◌, inl, inr, Bool, true, false, ◌==◌, nat_le, nat_lt, ◌&&◌, ◌||◌, refl, sym, ap}
+use Rattle.std.proofs.Common.{◌∙◌, arith}
 use Rattle.std.proofs.lemmas.Bool.{and_parts, cases_lt, eq-eqb, eqb-true}
 use Rattle.std.proofs.lemmas.Bool.Decides.{nat_tests}
 use Rattle.jiff_core.specs.Weekday.{monday_zero}
@@ -33,7 +34,8 @@ days_whole : (b e n : ℕ) → b * 86_400 ≤ n → n < e * 86_400 → day_test 
 days_whole b e n h l = day_shown (b * 86_400) (e * 86_400) n (omega arith) (omega arith)
 
 abbrev span_test : Frequency → ℕ → ℕ → ℕ → Bool
-span_test f b e n = day_test b e n && ((skips_hours f || (n / 3_600 % 24 == b / 3_600 % 24)) && (skips_minutes f || (n / 60 % 60 == b / 60 % 60)) && (skips_seconds f || (n % 60 == b % 60)))
+span_test f b e n = day_test b e n && ((skips_hours f || (n / 3_600 % 24 == b / 3_600 % 24)) && (skips_minutes f || (n / 60 % 60 == b / 60 % 60))
+    && (skips_seconds f || (n % 60 == b % 60)))
 
 -- a local by its day and its clock
 whole_local : (n : ℕ) → n ≡ n / 86_400 * 86_400 + n / 3_600 % 24 * 3_600 + n / 60 % 60 * 60 + n % 60
@@ -53,7 +55,8 @@ day_one : (b e n : ℕ) → (e + 86_399) / 86_400 ≡ b / 86_400 + 1 → n / 86_
 day_one b e n one h = day_shown b e n (omega arith) (omega arith)
 
 -- the tests of the day and of the clock's fixed readings say that a local lies between the two firsts
-span_low : (f : Frequency) (w p n : ℕ) → span_test f (first_local f w p) (first_local f w (p + 1)) n ≡ true → (first_local f w p ≤ n) × (n < first_local f w (p + 1))
+span_low : (f : Frequency) (w p n : ℕ) → span_test f (first_local f w p) (first_local f w (p + 1)) n ≡ true →
+    (first_local f w p ≤ n) × (n < first_local f w (p + 1))
 span_low Secondly w p n h =
     let parts = and_parts (day_test p (p + 1) n) _ h in
     let clock = and_parts _ _ parts.1 in
@@ -88,9 +91,12 @@ span_low Hourly w p n h =
     let same : n / 3_600 ≡ p = omega (arith, day, hour, whole, own) in
     (omega arith, omega arith)
 span_low Daily w p n h = whole_days p (p + 1) n (and_parts (day_test (p * 86_400) ((p + 1) * 86_400) n) _ h).0
-span_low Weekly w p n h = whole_days (7 * p - (12 - w)) (7 * (p + 1) - (12 - w)) n (and_parts (day_test ((7 * p - (12 - w)) * 86_400) ((7 * (p + 1) - (12 - w)) * 86_400) n) _ h).0
-span_low Monthly w p n h = whole_days (month_start p) (month_start (p + 1)) n (and_parts (day_test (month_start p * 86_400) (month_start (p + 1) * 86_400) n) _ h).0
-span_low Yearly w p n h = whole_days (days_before_year p) (days_before_year (p + 1)) n (and_parts (day_test (days_before_year p * 86_400) (days_before_year (p + 1) * 86_400) n) _ h).0
+span_low Weekly w p n h = whole_days (7 * p - (12 - w)) (7 * (p + 1) - (12 - w)) n
+    (and_parts (day_test ((7 * p - (12 - w)) * 86_400) ((7 * (p + 1) - (12 - w)) * 86_400) n) _ h).0
+span_low Monthly w p n h = whole_days (month_start p) (month_start (p + 1)) n
+    (and_parts (day_test (month_start p * 86_400) (month_start (p + 1) * 86_400) n) _ h).0
+span_low Yearly w p n h = whole_days (days_before_year p) (days_before_year (p + 1)) n
+    (and_parts (day_test (days_before_year p * 86_400) (days_before_year (p + 1) * 86_400) n) _ h).0
 
 free : (d : Bool) → d ≡ true → (d && (true && true && true)) ≡ true
 free d h = ap (λ x. x && (true && true && true)) h
@@ -98,23 +104,28 @@ free d h = ap (λ x. x && (true && true && true)) h
 fixed : (d a b c : Bool) → d ≡ true → a ≡ true → b ≡ true → c ≡ true → (d && (a && b && c)) ≡ true
 fixed d a b c p q r s = ap (λ x. x && (a && b && c)) p ∙ ap (λ x. x && b && c) q ∙ ap (λ x. x && c) r ∙ s
 
-span_high : (f : Frequency) (w p n : ℕ) → first_local f w p ≤ n → n < first_local f w (p + 1) → span_test f (first_local f w p) (first_local f w (p + 1)) n ≡ true
+span_high : (f : Frequency) (w p n : ℕ) → first_local f w p ≤ n → n < first_local f w (p + 1) →
+    span_test f (first_local f w p) (first_local f w (p + 1)) n ≡ true
 span_high Secondly w p n l h =
     let same : n ≡ p = omega arith in
     fixed (day_test p (p + 1) n) (n / 3_600 % 24 == p / 3_600 % 24) (n / 60 % 60 == p / 60 % 60) (n % 60 == p % 60)
-    (day_one p (p + 1) n (omega arith) (omega arith)) (eq-eqb _ _ (ap (λ x. x / 3_600 % 24) same)) (eq-eqb _ _ (ap (λ x. x / 60 % 60) same)) (eq-eqb _ _ (ap (λ x. x % 60) same))
+    (day_one p (p + 1) n (omega arith) (omega arith)) (eq-eqb _ _ (ap (λ x. x / 3_600 % 24) same)) (eq-eqb _ _ (ap (λ x. x / 60 % 60) same))
+    (eq-eqb _ _ (ap (λ x. x % 60) same))
 span_high Minutely w p n l h =
     let same : n / 60 ≡ p = omega arith in
     fixed (day_test (p * 60) ((p + 1) * 60) n) (n / 3_600 % 24 == p * 60 / 3_600 % 24) (n / 60 % 60 == p * 60 / 60 % 60) true
-    (day_one (p * 60) ((p + 1) * 60) n (omega arith) (omega arith)) (eq-eqb (n / 3_600 % 24) (p * 60 / 3_600 % 24) (omega arith)) (eq-eqb (n / 60 % 60) (p * 60 / 60 % 60) (omega arith)) refl
+    (day_one (p * 60) ((p + 1) * 60) n (omega arith) (omega arith)) (eq-eqb (n / 3_600 % 24) (p * 60 / 3_600 % 24) (omega arith))
+    (eq-eqb (n / 60 % 60) (p * 60 / 60 % 60) (omega arith)) refl
 span_high Hourly w p n l h =
     let same : n / 3_600 ≡ p = omega arith in
     fixed (day_test (p * 3_600) ((p + 1) * 3_600) n) (n / 3_600 % 24 == p * 3_600 / 3_600 % 24) true true
     (day_one (p * 3_600) ((p + 1) * 3_600) n (omega arith) (omega arith)) (eq-eqb (n / 3_600 % 24) (p * 3_600 / 3_600 % 24) (omega arith)) refl refl
 span_high Daily w p n l h = free (day_test (p * 86_400) ((p + 1) * 86_400) n) (days_whole p (p + 1) n l h)
-span_high Weekly w p n l h = free (day_test ((7 * p - (12 - w)) * 86_400) ((7 * (p + 1) - (12 - w)) * 86_400) n) (days_whole (7 * p - (12 - w)) (7 * (p + 1) - (12 - w)) n l h)
+span_high Weekly w p n l h = free (day_test ((7 * p - (12 - w)) * 86_400) ((7 * (p + 1) - (12 - w)) * 86_400) n)
+    (days_whole (7 * p - (12 - w)) (7 * (p + 1) - (12 - w)) n l h)
 span_high Monthly w p n l h = free (day_test (month_start p * 86_400) (month_start (p + 1) * 86_400) n) (days_whole (month_start p) (month_start (p + 1)) n l h)
-span_high Yearly w p n l h = free (day_test (days_before_year p * 86_400) (days_before_year (p + 1) * 86_400) n) (days_whole (days_before_year p) (days_before_year (p + 1)) n l h)
+span_high Yearly w p n l h = free (day_test (days_before_year p * 86_400) (days_before_year (p + 1) * 86_400) n)
+    (days_whole (days_before_year p) (days_before_year (p + 1)) n l h)
 
 -- they say that a local lies in the period
 pub span_is : (f : Frequency) (w p n : ℕ) → span_test f (first_local f w p) (first_local f w (p + 1)) n ≡ (period f w n == p)
@@ -128,7 +139,8 @@ span_is f w p n = iff (span_test f (first_local f w p) (first_local f w (p + 1))
       | inr more ↦ absurd (let late = begins f w (p + 1) n more in omega (arith, e, late))
     ]))
 
-rearranged : (le lt ld fh lh fm lm fs ls : Bool) → ((le && (lt && ld)) && (((fh && lh) && (fm && lm)) && (fs && ls))) ≡ (((le && lt) && (fh && fm && fs)) && (ld && (lh && lm && ls)))
+rearranged : (le lt ld fh lh fm lm fs ls : Bool) → ((le && (lt && ld)) && (((fh && lh) && (fm && lm)) && (fs && ls)))
+    ≡ (((le && lt) && (fh && fm && fs)) && (ld && (lh && lm && ls)))
 rearranged false lt ld fh lh fm lm fs ls = refl
 rearranged true false ld fh lh fm lm fs ls = refl
 rearranged true true false false lh fm lm fs ls = refl
@@ -154,7 +166,8 @@ day_back a e x f = elim (by_order a e) [
     by_order a b = grind arith
 
 -- the product of the days that the rule lets in, and of the readings that it lets in, holds what it lets in within the period
-pub product_is : (q : EffectiveRule) (number b e : ℕ) (p : RecurrencePeriod) → b ≡ first_local q.frequency (monday_zero q.week_start) number → e ≡ first_local q.frequency (monday_zero q.week_start) (number + 1)
+pub product_is : (q : EffectiveRule) (number b e : ℕ) (p : RecurrencePeriod) → b ≡ first_local q.frequency (monday_zero q.week_start) number →
+    e ≡ first_local q.frequency (monday_zero q.week_start) (number + 1)
     → p.first_day ≡ b / 86_400
     → ((k : ℕ) → contains_wide p.days k ≡ (nat_lt k ((e + 86_399) / 86_400 - b / 86_400) && lets_date q (b / 86_400 + k)))
     → ((m : ℕ) → m < 24 → contains p.hours m ≡ ((skips_hours q.frequency || (m == b / 3_600 % 24)) && lets q.hours m))
@@ -165,14 +178,17 @@ product_is q number b e p eb ee first days hours minutes seconds n =
     let hour : n % 86_400 / 60 / 60 ≡ n / 3_600 % 24 = omega arith in
     let minute : n % 86_400 / 60 % 60 ≡ n / 60 % 60 = omega arith in
     let second : n % 86_400 % 60 ≡ n % 60 = omega arith in
-    let d = ap (λ z. nat_le z (n / 86_400) && contains_wide p.days (n / 86_400 - z)) first ∙ ap (λ z. nat_le (b / 86_400) (n / 86_400) && z) (days (n / 86_400 - b / 86_400))
+    let d = ap (λ z. nat_le z (n / 86_400) && contains_wide p.days (n / 86_400 - z)) first
+    ∙ ap (λ z. nat_le (b / 86_400) (n / 86_400) && z) (days (n / 86_400 - b / 86_400))
     ∙ day_back (b / 86_400) (n / 86_400) (nat_lt (n / 86_400 - b / 86_400) ((e + 86_399) / 86_400 - b / 86_400)) (lets_date q) in
     let h = ap (contains p.hours) hour ∙ hours (n / 3_600 % 24) (omega arith) in
     let m = ap (contains p.minutes) minute ∙ minutes (n / 60 % 60) (omega arith) in
     let s = ap (contains p.seconds) second ∙ seconds (n % 60) (omega arith) in
-    let span = ap (λ z. span_test q.frequency z e n) eb ∙ ap (λ z. span_test q.frequency (first_local q.frequency (monday_zero q.week_start) number) z n) ee ∙ span_is q.frequency (monday_zero q.week_start) number n in
+    let span = ap (λ z. span_test q.frequency z e n) eb ∙ ap (λ z. span_test q.frequency (first_local q.frequency (monday_zero q.week_start) number) z n) ee
+    ∙ span_is q.frequency (monday_zero q.week_start) number n in
     ap (λ z. z && ((contains p.hours (n % 86_400 / 60 / 60) && contains p.minutes (n % 86_400 / 60 % 60)) && contains p.seconds (n % 86_400 % 60))) d
-    ∙ four (nat_le (b / 86_400) (n / 86_400) && (nat_lt (n / 86_400 - b / 86_400) ((e + 86_399) / 86_400 - b / 86_400) && lets_date q (n / 86_400))) _ _ _ _ _ _ h m s
+    ∙ four (nat_le (b / 86_400) (n / 86_400) && (nat_lt (n / 86_400 - b / 86_400) ((e + 86_399) / 86_400 - b / 86_400) && lets_date q (n / 86_400))) _ _ _ _ _ _
+    h m s
     ∙ rearranged (nat_le (b / 86_400) (n / 86_400)) (nat_lt (n / 86_400 - b / 86_400) ((e + 86_399) / 86_400 - b / 86_400)) (lets_date q (n / 86_400))
     (skips_hours q.frequency || (n / 3_600 % 24 == b / 3_600 % 24)) (lets q.hours (n / 3_600 % 24))
     (skips_minutes q.frequency || (n / 60 % 60 == b / 60 % 60)) (lets q.minutes (n / 60 % 60))

@@ -1,5 +1,6 @@
 -- What a rule chooses repeats after a round of periods.
-use Rattle.std.proofs.Common.{◌≡◌, ℕ, zero, suc, ◌+◌, ◌-◌, ◌*◌, ◌/◌, ◌%◌, ◌<◌, ◌≤◌, Bool, true, false, ◌&&◌, ◌||◌, ◌==◌, nat_le, refl, sym, subst, ap, ◌∙◌, arith}
+use Rattle.std.proofs.Common.{◌≡◌, ℕ, zero, suc, ◌+◌, ◌-◌, ◌*◌, ◌/◌, ◌%◌, ◌<◌, ◌≤◌, Bool, true, false, ◌&&◌, ◌||◌, ◌==◌, nat_le, refl, sym, subst, ap, ◌∙◌}
+use Rattle.std.proofs.Common.{arith}
 use Rattle.std.proofs.lemmas.Bool.{eqb-true, false_from_ne_true, le-leb, or_left}
 use Rattle.std.proofs.lemmas.Bool.Decides.{nat_tests}
 use Rattle.std.proofs.lemmas.Nat.{div-add-mod'}
@@ -35,37 +36,46 @@ numbered_alike Weekly q p d e h = refl
 numbered_alike Monthly q p d e h = absurd (omega (arith, h))
 numbered_alike Yearly q p d e h = absurd (omega (arith, h))
 
-date_repeats : (q : EffectiveRule) (d e : ℕ) → names_weekdays_alone q ≡ true → 0 < seconds_of q.frequency → weekday_of d ≡ weekday_of e → lets_date q d ≡ lets_date q e
+date_repeats : (q : EffectiveRule) (d e : ℕ) → names_weekdays_alone q ≡ true → 0 < seconds_of q.frequency → weekday_of d ≡ weekday_of e →
+    lets_date q d ≡ lets_date q e
 date_repeats q d e alone fine same =
     weekdays_alone q d alone
     ∙ ap (λ x. lists_no_weekday q.weekdays || contains q.weekdays.plain x || lets_numbered q.frequency q (numbers_of q.weekdays x) d) same
-    ∙ ap (λ x. lists_no_weekday q.weekdays || contains q.weekdays.plain (weekday_of e) || x) (numbered_alike q.frequency q (numbers_of q.weekdays (weekday_of e)) d e fine)
+    ∙ ap (λ x. lists_no_weekday q.weekdays || contains q.weekdays.plain (weekday_of e) || x)
+    (numbered_alike q.frequency q (numbers_of q.weekdays (weekday_of e)) d e fine)
     ∙ sym (weekdays_alone q e alone)
 
 date_free : (q : EffectiveRule) (d e : ℕ) → names_weekdays_alone q ≡ true → lists_no_weekday q.weekdays ≡ true → lets_date q d ≡ lets_date q e
 date_free q d e alone none = all_in d ∙ sym (all_in e)
   where
     all_in : (x : ℕ) → lets_date q x ≡ true
-    all_in x = weekdays_alone q x alone ∙ in_1 (lists_no_weekday q.weekdays) (contains q.weekdays.plain (weekday_of x)) (lets_numbered q.frequency q (numbers_of q.weekdays (weekday_of x)) x) none
+    all_in x = weekdays_alone q x alone
+        ∙ in_1 (lists_no_weekday q.weekdays) (contains q.weekdays.plain (weekday_of x)) (lets_numbered q.frequency q (numbers_of q.weekdays (weekday_of x)) x)
+        none
       where
         in_1 : (a b c : Bool) → a ≡ true → (a || b || c) ≡ true
         in_1 true b c h = refl
         in_1 false b c h = absurd (cc)
 
-pub clock_alike : (q : EffectiveRule) (n m : ℕ) → lets q.hours (hour_of n) ≡ lets q.hours (hour_of m) → lets q.minutes (minute_of n) ≡ lets q.minutes (minute_of m) → lets q.seconds (second_of n) ≡ lets q.seconds (second_of m)
+pub clock_alike : (q : EffectiveRule) (n m : ℕ) → lets q.hours (hour_of n) ≡ lets q.hours (hour_of m) →
+    lets q.minutes (minute_of n) ≡ lets q.minutes (minute_of m) → lets q.seconds (second_of n) ≡ lets q.seconds (second_of m)
     → lets_clock q n ≡ lets_clock q m
-clock_alike q n m h i s = ap (λ x. x && lets q.minutes (minute_of n) && lets q.seconds (second_of n)) h ∙ ap (λ x. lets q.hours (hour_of m) && x && lets q.seconds (second_of n)) i
+clock_alike q n m h i s = ap (λ x. x && lets q.minutes (minute_of n) && lets q.seconds (second_of n)) h
+    ∙ ap (λ x. lets q.hours (hour_of m) && x && lets q.seconds (second_of n)) i
     ∙ ap (λ x. lets q.hours (hour_of m) && lets q.minutes (minute_of m) && x) s
 
 free : (s a b : ℕ) → is_empty s ≡ true → lets s a ≡ lets s b
 free s a b h = or_left (is_empty s) (contains s a) h ∙ sym (or_left (is_empty s) (contains s b) h)
 
-pub let_in_alike : (q : EffectiveRule) (n m : ℕ) → lets_date q (day_of n) ≡ lets_date q (day_of m) → lets_clock q n ≡ lets_clock q m → (lets_date q (day_of n) && lets_clock q n) ≡ (lets_date q (day_of m) && lets_clock q m)
+pub let_in_alike : (q : EffectiveRule) (n m : ℕ) → lets_date q (day_of n) ≡ lets_date q (day_of m) → lets_clock q n ≡ lets_clock q m →
+    (lets_date q (day_of n) && lets_clock q n) ≡ (lets_date q (day_of m) && lets_clock q m)
 let_in_alike q n m d c = ap (λ x. x && lets_clock q n) d ∙ ap (λ x. lets_date q (day_of m) && x) c
 
 module _ (q : EffectiveRule) (alone : names_weekdays_alone q ≡ true) where
-  pub repeats_weekly : 0 < seconds_of q.frequency → (n : ℕ) → (lets_date q (day_of (n + 604_800)) && lets_clock q (n + 604_800)) ≡ (lets_date q (day_of n) && lets_clock q n)
-  repeats_weekly fine n = let_in_alike q (n + 604_800) n (date_repeats q (day_of (n + 604_800)) (day_of n) alone fine (let same : ((n + 604_800) / 86_400 + 5) % 7 ≡ (n / 86_400 + 5) % 7 = omega arith in same))
+  pub repeats_weekly : 0 < seconds_of q.frequency → (n : ℕ) →
+      (lets_date q (day_of (n + 604_800)) && lets_clock q (n + 604_800)) ≡ (lets_date q (day_of n) && lets_clock q n)
+  repeats_weekly fine n = let_in_alike q (n + 604_800) n
+      (date_repeats q (day_of (n + 604_800)) (day_of n) alone fine (let same : ((n + 604_800) / 86_400 + 5) % 7 ≡ (n / 86_400 + 5) % 7 = omega arith in same))
       (clock_alike q (n + 604_800) n
       (let same : (n + 604_800) / 3_600 % 24 ≡ n / 3_600 % 24 = omega arith in ap (lets q.hours) same)
       (let same : (n + 604_800) / 60 % 60 ≡ n / 60 % 60 = omega arith in ap (lets q.minutes) same)
@@ -78,20 +88,24 @@ module _ (q : EffectiveRule) (alone : names_weekdays_alone q ≡ true) where
         (let same : (n + 86_400) / 60 % 60 ≡ n / 60 % 60 = omega arith in ap (lets q.minutes) same)
         (let same : (n + 86_400) % 60 ≡ n % 60 = omega arith in ap (lets q.seconds) same))
 
-    pub repeats_hourly : is_empty q.hours ≡ true → (n : ℕ) → (lets_date q (day_of (n + 3_600)) && lets_clock q (n + 3_600)) ≡ (lets_date q (day_of n) && lets_clock q n)
+    pub repeats_hourly : is_empty q.hours ≡ true → (n : ℕ) →
+        (lets_date q (day_of (n + 3_600)) && lets_clock q (n + 3_600)) ≡ (lets_date q (day_of n) && lets_clock q n)
     repeats_hourly h n = let_in_alike q (n + 3_600) n (date_free q (day_of (n + 3_600)) (day_of n) alone none) (clock_alike q (n + 3_600) n
         (free q.hours (hour_of (n + 3_600)) (hour_of n) h)
         (let same : (n + 3_600) / 60 % 60 ≡ n / 60 % 60 = omega arith in ap (lets q.minutes) same)
         (let same : (n + 3_600) % 60 ≡ n % 60 = omega arith in ap (lets q.seconds) same))
 
-    pub repeats_minutely : is_empty q.hours ≡ true → is_empty q.minutes ≡ true → (n : ℕ) → (lets_date q (day_of (n + 60)) && lets_clock q (n + 60)) ≡ (lets_date q (day_of n) && lets_clock q n)
+    pub repeats_minutely : is_empty q.hours ≡ true → is_empty q.minutes ≡ true → (n : ℕ) →
+        (lets_date q (day_of (n + 60)) && lets_clock q (n + 60)) ≡ (lets_date q (day_of n) && lets_clock q n)
     repeats_minutely h i n = let_in_alike q (n + 60) n (date_free q (day_of (n + 60)) (day_of n) alone none) (clock_alike q (n + 60) n
         (free q.hours (hour_of (n + 60)) (hour_of n) h) (free q.minutes (minute_of (n + 60)) (minute_of n) i)
         (let same : (n + 60) % 60 ≡ n % 60 = omega arith in ap (lets q.seconds) same))
 
-    pub repeats_always : is_empty q.hours ≡ true → is_empty q.minutes ≡ true → is_empty q.seconds ≡ true → (n : ℕ) → (lets_date q (day_of (n + 1)) && lets_clock q (n + 1)) ≡ (lets_date q (day_of n) && lets_clock q n)
+    pub repeats_always : is_empty q.hours ≡ true → is_empty q.minutes ≡ true → is_empty q.seconds ≡ true → (n : ℕ) →
+        (lets_date q (day_of (n + 1)) && lets_clock q (n + 1)) ≡ (lets_date q (day_of n) && lets_clock q n)
     repeats_always h i s n = let_in_alike q (n + 1) n (date_free q (day_of (n + 1)) (day_of n) alone none) (clock_alike q (n + 1) n
-        (free q.hours (hour_of (n + 1)) (hour_of n) h) (free q.minutes (minute_of (n + 1)) (minute_of n) i) (free q.seconds (second_of (n + 1)) (second_of n) s))
+        (free q.hours (hour_of (n + 1)) (hour_of n) h) (free q.minutes (minute_of (n + 1)) (minute_of n) i)
+        (free q.seconds (second_of (n + 1)) (second_of n) s))
 
 -- periods that last alike
 unit_period : (f : Frequency) (w n j : ℕ) → 0 < seconds_of f → period f w (n + j * seconds_of f) ≡ period f w n + j
@@ -115,23 +129,29 @@ unit_first Yearly w p j h l = absurd (omega (arith, h))
 -- a test that repeats after a repeats after each multiple
 pub repeats_often : (f : ℕ → Bool) (low a : ℕ) → ((n : ℕ) → low ≤ n → f (n + a) ≡ f n) → (j n : ℕ) → low ≤ n → f (n + j * a) ≡ f n
 repeats_often f low a on zero n l = ap f (let same : n + 0 * a ≡ n = omega arith in same)
-repeats_often f low a on (suc j) n l = ap f (let same : n + suc j * a ≡ n + j * a + a = omega arith in same) ∙ on (n + j * a) (omega (arith, l)) ∙ repeats_often f low a on j n l
+repeats_often f low a on (suc j) n l = ap f (let same : n + suc j * a ≡ n + j * a + a = omega arith in same) ∙ on (n + j * a) (omega (arith, l))
+    ∙ repeats_often f low a on j n l
 
 pub step_repeats : (i d first p : ℕ) → first ≤ p → is_stepped first i (p + i * d) ≡ is_stepped first i p
 step_repeats i d first p l =
     let some : nat_le first (p + i * d) ≡ nat_le first p = le-leb first (p + i * d) (omega (arith, l)) ∙ sym (le-leb first p l) in
     let rest : p + i * d - first ≡ p - first + d * i = (let swap = mul_comm i d in omega (arith, l, swap)) in
-    ap (λ x. x && ((p + i * d - first) % i == 0)) some ∙ ap (λ x. nat_le first p && (x % i == 0)) rest ∙ ap (λ x. nat_le first p && (x == 0)) (add-mul-mod_self_right (p - first) d i)
+    ap (λ x. x && ((p + i * d - first) % i == 0)) some ∙ ap (λ x. nat_le first p && (x % i == 0)) rest
+    ∙ ap (λ x. nat_le first p && (x == 0)) (add-mul-mod_self_right (p - first) d i)
 
 pub round_is : (q : EffectiveRule) (seconds unit : ℕ) → unit ≡ seconds_of q.frequency → 0 < unit → seconds % unit ≡ 0 → 1 ≤ seconds → 1 ≤ q.interval
     → ((n : ℕ) → (lets_date q (day_of (n + seconds)) && lets_clock q (n + seconds)) ≡ (lets_date q (day_of n) && lets_clock q n))
     → IsRound q (q.interval * (seconds / unit)) (q.interval * (seconds / unit) * unit)
 round_is q seconds unit e fine whole some steps on = record {
-  some = positive q.interval (seconds / unit) steps (let parts = div-add-mod' seconds unit in above (seconds / unit) unit seconds (omega (arith, parts, whole)) some);
+  some = positive q.interval (seconds / unit) steps (let parts = div-add-mod' seconds unit in
+      above (seconds / unit) unit seconds (omega (arith, parts, whole)) some);
   step = step_repeats q.interval (seconds / unit);
-  period = λ n. ap (λ x. period_in q (n + q.interval * (seconds / unit) * x)) e ∙ unit_period q.frequency (monday_zero q.week_start) n (q.interval * (seconds / unit)) (subst (λ x. 0 < x) e fine);
-  first = λ p l. unit_first q.frequency (monday_zero q.week_start) p (q.interval * (seconds / unit)) (subst (λ x. 0 < x) e fine) l ∙ ap (λ x. first_local q.frequency (monday_zero q.week_start) p + q.interval * (seconds / unit) * x) (sym e);
-  let_in = λ n. ap (λ x. lets_date q (day_of (n + x)) && lets_clock q (n + x)) (mul_assoc q.interval (seconds / unit) unit ∙ ap (λ x. q.interval * x) (let parts = div-add-mod' seconds unit in let all : seconds / unit * unit ≡ seconds = omega (arith, parts, whole) in all))
+  period = λ n. ap (λ x. period_in q (n + q.interval * (seconds / unit) * x)) e
+      ∙ unit_period q.frequency (monday_zero q.week_start) n (q.interval * (seconds / unit)) (subst (λ x. 0 < x) e fine);
+  first = λ p l. unit_first q.frequency (monday_zero q.week_start) p (q.interval * (seconds / unit)) (subst (λ x. 0 < x) e fine) l
+      ∙ ap (λ x. first_local q.frequency (monday_zero q.week_start) p + q.interval * (seconds / unit) * x) (sym e);
+  let_in = λ n. ap (λ x. lets_date q (day_of (n + x)) && lets_clock q (n + x)) (mul_assoc q.interval (seconds / unit) unit
+      ∙ ap (λ x. q.interval * x) (let parts = div-add-mod' seconds unit in let all : seconds / unit * unit ≡ seconds = omega (arith, parts, whole) in all))
       ∙ repeats_often (λ n. lets_date q (day_of n) && lets_clock q n) 0 seconds (λ n l. on n) q.interval n (omega arith);
 }
   where
@@ -140,14 +160,16 @@ round_is q seconds unit e fine whole some steps on = record {
     above (suc d) u s h l = omega arith
 
 -- the same below a bound
-repeats_below : (f : ℕ → Bool) (low a top : ℕ) → ((n : ℕ) → low ≤ n → n + a < top → f (n + a) ≡ f n) → (j n : ℕ) → low ≤ n → n + j * a < top → f (n + j * a) ≡ f n
+repeats_below : (f : ℕ → Bool) (low a top : ℕ) → ((n : ℕ) → low ≤ n → n + a < top → f (n + a) ≡ f n) → (j n : ℕ) → low ≤ n → n + j * a < top →
+    f (n + j * a) ≡ f n
 repeats_below f low a top on zero n l h = ap f (let same : n + 0 * a ≡ n = omega arith in same)
 repeats_below f low a top on (suc j) n l h =
     let next : n + suc j * a ≡ n + j * a + a = omega arith in
     ap f next ∙ on (n + j * a) (omega (arith, l)) (omega (arith, h, next)) ∙ repeats_below f low a top on j n l (omega (arith, h, next))
 
 -- the members of whole rounds
-pub count_rounds : (f : ℕ → Bool) (a s top : ℕ) → ((n : ℕ) → a ≤ n → n + s < top → f (n + s) ≡ f n) → (j : ℕ) → a + j * s ≤ top → count (a + j * s) f ≡ count a f + j * count s (λ k. f (a + k))
+pub count_rounds : (f : ℕ → Bool) (a s top : ℕ) → ((n : ℕ) → a ≤ n → n + s < top → f (n + s) ≡ f n) → (j : ℕ) → a + j * s ≤ top →
+    count (a + j * s) f ≡ count a f + j * count s (λ k. f (a + k))
 count_rounds f a s top on zero h = ap (λ x. count x f) (let same : a + 0 * s ≡ a = omega arith in same) ∙ omega arith
 count_rounds f a s top on (suc j) h =
     let last = count-add (a + j * s) s f in
@@ -182,9 +204,12 @@ module _ (q : EffectiveRule) (start periods seconds : ℕ) (round : IsRound q pe
       ∙ ap (λ x. is_candidate_in q start (m + seconds) && x) (shift_test (period_in q m) (period_in q n) periods)
       ∙ by_period (period_in q m == period_in q n) refl
     where
-      by_period : (b : Bool) → (period_in q m == period_in q n) ≡ b → (is_candidate_in q start (m + seconds) && period_in q m == period_in q n) ≡ (is_candidate_in q start m && period_in q m == period_in q n)
-      by_period true e = ap (λ x. x && period_in q m == period_in q n) (candidate_on m (let same = eqb-true (period_in q m) (period_in q n) e in omega (arith, same, l)))
-      by_period false e = ap (λ x. is_candidate_in q start (m + seconds) && x) e ∙ and_false (is_candidate_in q start (m + seconds)) ∙ sym (ap (λ x. is_candidate_in q start m && x) e ∙ and_false (is_candidate_in q start m))
+      by_period : (b : Bool) → (period_in q m == period_in q n) ≡ b →
+          (is_candidate_in q start (m + seconds) && period_in q m == period_in q n) ≡ (is_candidate_in q start m && period_in q m == period_in q n)
+      by_period true e = ap (λ x. x && period_in q m == period_in q n)
+          (candidate_on m (let same = eqb-true (period_in q m) (period_in q n) e in omega (arith, same, l)))
+      by_period false e = ap (λ x. is_candidate_in q start (m + seconds) && x) e ∙ and_false (is_candidate_in q start (m + seconds))
+          ∙ sym (ap (λ x. is_candidate_in q start m && x) e ∙ and_false (is_candidate_in q start m))
 
   beside_later : (n k : ℕ) → period_in q start ≤ period_in q n → is_beside q start (n + seconds) (seconds + k) ≡ is_beside q start n k
   beside_later n k l = ap (is_beside q start (n + seconds)) (let order : seconds + k ≡ k + seconds = omega arith in order) ∙ beside_on n k l
@@ -230,30 +255,36 @@ module _ (q : EffectiveRule) (start periods seconds : ℕ) (round : IsRound q pe
     where
       placed_on : (b : Bool) → is_placed q start b (n + seconds) ≡ is_placed q start b n
       placed_on true = refl
-      placed_on false = ap (λ x. lists_wide q.positions x (size q start (n + seconds))) (rank_on n l some) ∙ ap (λ x. lists_wide q.positions (rank q start n) x) (size_on n l some inside)
+      placed_on false = ap (λ x. lists_wide q.positions x (size q start (n + seconds))) (rank_on n l some)
+          ∙ ap (λ x. lists_wide q.positions (rank q start n) x) (size_on n l some inside)
 
   -- where nothing is chosen in a round, nothing is later
   pub none_after : (begin : ℕ) → 2 ≤ begin → period_in q start ≤ begin
-      → ((n : ℕ) → first_local q.frequency (monday_zero q.week_start) begin ≤ n → n < first_local q.frequency (monday_zero q.week_start) (begin + periods) → is_chosen q start n ≡ false)
+      → ((n : ℕ) → first_local q.frequency (monday_zero q.week_start) begin ≤ n → n < first_local q.frequency (monday_zero q.week_start) (begin + periods) →
+      is_chosen q start n ≡ false)
       → (n : ℕ) → first_local q.frequency (monday_zero q.week_start) begin ≤ n → n < rules_end → is_chosen q start n ≡ false
   none_after begin l low none n h u =
       let a = first_local q.frequency (monday_zero q.week_start) begin in
-      let on : (m : ℕ) → a ≤ m → m + seconds < rules_end → is_chosen q start (m + seconds) ≡ is_chosen q start m = (λ m h u. let g = begins q.frequency (monday_zero q.week_start) begin m h in chosen_on m (omega (arith, g, low)) (omega (arith, g, l)) u) in
+      let on : (m : ℕ) → a ≤ m → m + seconds < rules_end → is_chosen q start (m + seconds) ≡ is_chosen q start m =
+      (λ m h u. let g = begins q.frequency (monday_zero q.week_start) begin m h in chosen_on m (omega (arith, g, low)) (omega (arith, g, l)) u) in
       let whole = div-add-mod' (n - a) seconds in
       let same : n ≡ a + (n - a) % seconds + (n - a) / seconds * seconds = omega (arith, whole, h) in
       let small : (n - a) % seconds < seconds = mod-lt (n - a) positive in
       let end = round.first begin l in
-      ap (is_chosen q start) same ∙ repeats_below (is_chosen q start) a seconds rules_end on ((n - a) / seconds) (a + (n - a) % seconds) (omega arith) (omega (arith, same, u))
+      ap (is_chosen q start) same ∙ repeats_below (is_chosen q start) a seconds rules_end on ((n - a) / seconds) (a + (n - a) % seconds) (omega arith)
+      (omega (arith, same, u))
       ∙ none (a + (n - a) % seconds) (omega arith) (omega (arith, small, end))
     where
       positive : 0 < seconds
       positive = by_zero seconds refl
         where
           by_zero : (s : ℕ) → s ≡ seconds → 0 < seconds
-          by_zero zero e = absurd (let later = round.period 0 in let some = round.some in let same = ap (λ x. period_in q (0 + x)) (sym e) in omega (arith, later, some, same))
+          by_zero zero e = absurd (let later = round.period 0 in let some = round.some in let same = ap (λ x. period_in q (0 + x)) (sym e) in
+              omega (arith, later, some, same))
           by_zero (suc s) e = omega (arith, e)
 
-  pub first_rounds : (j p : ℕ) → 2 ≤ p → first_local q.frequency (monday_zero q.week_start) (p + j * periods) ≡ first_local q.frequency (monday_zero q.week_start) p + j * seconds
+  pub first_rounds : (j p : ℕ) → 2 ≤ p → first_local q.frequency (monday_zero q.week_start) (p + j * periods)
+      ≡ first_local q.frequency (monday_zero q.week_start) p + j * seconds
   first_rounds zero p l = ap (first_local q.frequency (monday_zero q.week_start)) (let same : p + 0 * periods ≡ p = omega arith in same) ∙ omega arith
   first_rounds (suc j) p l =
       let next : p + suc j * periods ≡ p + j * periods + periods = omega arith in
@@ -267,12 +298,16 @@ module _ (q : EffectiveRule) (start periods seconds : ℕ) (round : IsRound q pe
   step_rounds first j p l = repeats_often (is_stepped first q.interval) first periods (λ n h. round.step first n h) j p l
 
   -- what is chosen before the end of so many rounds, by the first
-  pub rounds_total : (begin rounds before one : ℕ) → 2 ≤ begin → period_in q start ≤ begin → 1 ≤ rounds → first_local q.frequency (monday_zero q.week_start) (begin + rounds * periods) ≤ rules_end
-      → before ≡ count (first_local q.frequency (monday_zero q.week_start) begin) (is_chosen q start) → one ≡ count (first_local q.frequency (monday_zero q.week_start) (begin + periods)) (is_chosen q start)
-      → (before ≤ one) × (before + rounds * (one - before) ≡ count (first_local q.frequency (monday_zero q.week_start) (begin + rounds * periods)) (is_chosen q start))
+  pub rounds_total : (begin rounds before one : ℕ) → 2 ≤ begin → period_in q start ≤ begin → 1 ≤ rounds →
+      first_local q.frequency (monday_zero q.week_start) (begin + rounds * periods) ≤ rules_end
+      → before ≡ count (first_local q.frequency (monday_zero q.week_start) begin) (is_chosen q start) →
+      one ≡ count (first_local q.frequency (monday_zero q.week_start) (begin + periods)) (is_chosen q start)
+      → (before ≤ one) × (before + rounds * (one - before)
+      ≡ count (first_local q.frequency (monday_zero q.week_start) (begin + rounds * periods)) (is_chosen q start))
   rounds_total begin rounds before one l low some high eb eo =
       let a = first_local q.frequency (monday_zero q.week_start) begin in
-      let on : (n : ℕ) → a ≤ n → n + seconds < rules_end → is_chosen q start (n + seconds) ≡ is_chosen q start n = (λ n h u. let g = begins q.frequency (monday_zero q.week_start) begin n h in chosen_on n (omega (arith, g, low)) (omega (arith, g, l)) u) in
+      let on : (n : ℕ) → a ≤ n → n + seconds < rules_end → is_chosen q start (n + seconds) ≡ is_chosen q start n =
+      (λ n h u. let g = begins q.frequency (monday_zero q.week_start) begin n h in chosen_on n (omega (arith, g, low)) (omega (arith, g, l)) u) in
       let end = first_rounds rounds begin l in
       let once : 1 * seconds ≡ seconds = omega arith in
       let up = mul-le-mul_right {m = 1} {n = rounds} seconds some in

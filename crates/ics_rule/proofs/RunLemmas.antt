@@ -1,5 +1,6 @@
 -- The days that are added to a set, of a run in which they have numbers.
-use Rattle.std.proofs.Common.{◌≡◌, ℕ, ◌+◌, ◌-◌, ◌*◌, ◌/◌, ◌^◌, ◌<◌, ◌≤◌, ◌⊎◌, inl, inr, Bool, true, false, not, ◌==◌, ◌||◌, ◌&&◌, nat_lt, nat_le, refl, sym, ap, ◌∙◌, arith}
+use Rattle.std.proofs.Common.{◌≡◌, ℕ, ◌+◌, ◌-◌, ◌*◌, ◌/◌, ◌^◌, ◌<◌, ◌≤◌, ◌⊎◌, inl, inr, Bool, true, false, not, ◌==◌, ◌||◌, ◌&&◌, nat_lt, nat_le, refl, sym}
+use Rattle.std.proofs.Common.{ap, ◌∙◌, arith}
 use Rattle.std.proofs.lemmas.Bool.{and_parts, and_right, cases_lt, eq-eqb, eqb-true, le-leb, le-ltb, lt-ltb}
 use Rattle.std.proofs.lemmas.Bool.Decides.{nat_tests}
 use Rattle.ics_values.specs.Sets.{contains, IsLeastFrom}
@@ -38,6 +39,7 @@ all_found f from x none = elim (cases_lt x from) [
   | inl seen ↦ rw (lt-ltb x from seen) refl
   | inr past ↦ rw (none past) (and_false (nat_lt x from))
 ]
+
 -- at first those from the front alone
 pub listed_first : (s : ℕ) (back : ℕ → Bool) (size n k : ℕ) → 1 ≤ n → ((m : ℕ) → m < size + 1 → contains k m ≡ contains s m) → k < 2 ^ (size + 1)
     → contains k n ≡ (nat_le n size && (contains s n || (nat_lt (size + 1 - n) 1 && back (size + 1 - n))))
@@ -58,7 +60,8 @@ listed_more front back size from k n b one some most next e = elim (cases_lt siz
   | inr inside ↦
       let in_size : nat_le n size ≡ true = grind (arith, nat_tests) in
       let apart : (n == size + 1 - k) ≡ (size + 1 - n == k) = grind (arith, nat_tests) in
-      rw (e, in_size, apart) (or_swap (front n) (size + 1 - n == k) (nat_lt (size + 1 - n) from && back (size + 1 - n)) ∙ ap (λ x. front n || x) (next_found back from k (size + 1 - n) next))
+      rw (e, in_size, apart) (or_swap (front n) (size + 1 - n == k) (nat_lt (size + 1 - n) from && back (size + 1 - n))
+      ∙ ap (λ x. front n || x) (next_found back from k (size + 1 - n) next))
 ]
 
 pub listed_done : (front back : ℕ → Bool) (size from n : ℕ) (b : Bool) → 1 ≤ n → ((x : ℕ) → from ≤ x → x ≤ size → back x ≡ false)
@@ -86,7 +89,8 @@ module _ (r : Run) (d p m : ℕ) (a b : Bool) (own : weekday_in r p ≡ d) where
   seven : (i : ℕ) → (i < p) ⊎ (p < i) → day_test p i ≡ day_test (p + 7) i
   seven i (inl low) = rw (lt-ltb i p low, lt-ltb i (p + 7) (omega (arith, low))) refl
   seven i (inr high) = elim (cases_lt i (p + 7)) [
-    | inl near ↦ and_right (nat_lt i p) (weekday_in r i == d) (between i high near) ∙ sym (and_right (nat_lt i (p + 7)) (weekday_in r i == d) (between i high near))
+    | inl near ↦ and_right (nat_lt i p) (weekday_in r i == d) (between i high near)
+        ∙ sym (and_right (nat_lt i (p + 7)) (weekday_in r i == d) (between i high near))
     | inr far ↦ rw (le-ltb i p (omega (arith, high)), le-ltb i (p + 7) far) refl
   ]
 
@@ -96,7 +100,8 @@ module _ (r : Run) (d p m : ℕ) (a b : Bool) (own : weekday_in r p ≡ d) where
 
   pub weekday_added : p < r.len → b ≡ found p → ((m == r.start + p) || b) ≡ found (p + 7)
   weekday_added inside e = elim (three m (r.start + p)) [
-    | inl low ↦ rw (below m (r.start + p) low) (e ∙ others (elim (cases_lt m r.start) [ inl out ↦ inl out | inr in_run ↦ inr (inl (omega (arith, low, in_run))) ]))
+    | inl low ↦ rw (below m (r.start + p) low) (e
+        ∙ others (elim (cases_lt m r.start) [ inl out ↦ inl out | inr in_run ↦ inr (inl (omega (arith, low, in_run))) ]))
     | inr (inl here) ↦
         let begun : nat_le r.start m ≡ true = grind (arith, nat_tests) in
         let place : m - r.start ≡ p = omega (arith, here) in
@@ -148,10 +153,16 @@ module _ (r : Run) (listed : ℕ → Bool) (d p from m : ℕ) (a b : Bool) (own 
   abbrev number_found : ℕ → Bool
   number_found k = a || (has_run r m && ((weekday_in r (m - r.start) == d) && (nat_lt ((m - r.start) / 7 + 1) k && listed ((m - r.start) / 7 + 1))))
 
-  number_place : (n : ℕ) → 1 ≤ n → p + 7 * (n - 1) < r.len → (m == r.start + (p + 7 * (n - 1))) ≡ (has_run r m && ((weekday_in r (m - r.start) == d) && ((m - r.start) / 7 + 1 == n)))
+  number_place : (n : ℕ) → 1 ≤ n → p + 7 * (n - 1) < r.len →
+      (m == r.start + (p + 7 * (n - 1))) ≡ (has_run r m && ((weekday_in r (m - r.start) == d) && ((m - r.start) / 7 + 1 == n)))
   number_place n some inside = iff (m == r.start + (p + 7 * (n - 1))) _
       (λ h. let here = eqb-true m (r.start + (p + 7 * (n - 1))) h in
-      rw (run_shown r m (omega (arith, here)) (omega (arith, here, inside)), eq-eqb (weekday_in r (m - r.start)) d (omega (arith, here, own)), eq-eqb ((m - r.start) / 7 + 1) n (omega (arith, here, early, some))) refl)
+      rw (
+        run_shown r m (omega (arith, here)) (omega (arith, here, inside)),
+        eq-eqb (weekday_in r (m - r.start)) d (omega (arith, here, own)),
+        eq-eqb
+            ((m - r.start) / 7 + 1) n (omega (arith, here, early, some)),
+      ) refl)
       (λ h.
       let run = and_parts (has_run r m) _ h in
       let day = and_parts (weekday_in r (m - r.start) == d) _ run.1 in
@@ -160,11 +171,13 @@ module _ (r : Run) (listed : ℕ → Bool) (d p from m : ℕ) (a b : Bool) (own 
       let number = eqb-true ((m - r.start) / 7 + 1) n day.1 in
       eq-eqb m (r.start + (p + 7 * (n - 1))) (omega (arith, there.0, weekday, number, own, early)))
 
-  pub number_added : (n : ℕ) → 1 ≤ n → p + 7 * (n - 1) < r.len → IsLeastFrom listed from n → b ≡ number_found from → ((m == r.start + (p + 7 * (n - 1))) || b) ≡ number_found (n + 1)
+  pub number_added : (n : ℕ) → 1 ≤ n → p + 7 * (n - 1) < r.len → IsLeastFrom listed from n → b ≡ number_found from →
+      ((m == r.start + (p + 7 * (n - 1))) || b) ≡ number_found (n + 1)
   number_added n some inside next e =
       ap (λ s. s || b) (number_place n some inside)
       ∙ ap (λ y. (has_run r m && ((weekday_in r (m - r.start) == d) && ((m - r.start) / 7 + 1 == n))) || y) e
-      ∙ merge (has_run r m) (weekday_in r (m - r.start) == d) ((m - r.start) / 7 + 1 == n) (nat_lt ((m - r.start) / 7 + 1) from && listed ((m - r.start) / 7 + 1)) a
+      ∙ merge (has_run r m) (weekday_in r (m - r.start) == d) ((m - r.start) / 7 + 1 == n) (nat_lt ((m - r.start) / 7 + 1) from
+      && listed ((m - r.start) / 7 + 1)) a
       ∙ ap (λ y. a || (has_run r m && ((weekday_in r (m - r.start) == d) && y))) (next_found listed from n ((m - r.start) / 7 + 1) next)
     where
       merge : (x w s t z : Bool) → ((x && (w && s)) || (z || (x && (w && t)))) ≡ (z || (x && (w && (s || t))))
@@ -174,9 +187,12 @@ module _ (r : Run) (listed : ℕ → Bool) (d p from m : ℕ) (a b : Bool) (own 
       merge false w s t z = refl
 
   pub number_none : a ≡ number_found 1
-  number_none = sym (ap (λ y. a || y) (and_right (has_run r m) _ (and_right (weekday_in r (m - r.start) == d) _ (ap (λ y. y && listed ((m - r.start) / 7 + 1)) (le-ltb ((m - r.start) / 7 + 1) 1 (omega arith))))) ∙ or_false a)
+  number_none = sym (ap (λ y. a || y) (and_right (has_run r m) _
+      (and_right (weekday_in r (m - r.start) == d) _ (ap (λ y. y && listed ((m - r.start) / 7 + 1)) (le-ltb ((m - r.start) / 7 + 1) 1 (omega arith)))))
+      ∙ or_false a)
 
-  pub number_done : (q : Ordinals) (count : ℕ) → count ≡ (r.len - 1 - p) / 7 + 1 → p < r.len → ((n : ℕ) → from ≤ n → listed n ≡ false) → ((n : ℕ) → 1 ≤ n → listed n ≡ (nat_le n count && lists q n count))
+  pub number_done : (q : Ordinals) (count : ℕ) → count ≡ (r.len - 1 - p) / 7 + 1 → p < r.len → ((n : ℕ) → from ≤ n → listed n ≡ false) →
+      ((n : ℕ) → 1 ≤ n → listed n ≡ (nat_le n count && lists q n count))
       → b ≡ number_found from → b ≡ (a || (has_run r m && ((weekday_in r (m - r.start) == d) && lists_nth q (m - r.start + 1) r.len)))
   number_done q count size some none is e = e ∙ ap (λ y. a || y) (guard (has_run r m) _ _ (λ h. guard (weekday_in r (m - r.start) == d) _ _ (λ g.
       let there = run_facts r m h in
@@ -188,6 +204,7 @@ module _ (r : Run) (listed : ℕ → Bool) (d p from m : ℕ) (a b : Bool) (own 
       ∙ ap (λ y. y && lists q ((m - r.start) / 7 + 1) count) in_count
       ∙ ap (λ n. contains q.front n || contains q.back (count + 1 - ((m - r.start) / 7 + 1))) front
       ∙ ap (λ n. contains q.front ((m - r.start + 1 - 1) / 7 + 1) || contains q.back n) back)))
+
 -- a weekday without a number has any
 pub each_listed : (a x w plain n new : Bool) → plain ≡ true → new ≡ (a || (x && w)) → new ≡ (a || (x && (w && (plain || n))))
 each_listed a x w plain n new h e = e ∙ rw h (ap (λ y. a || (x && y)) (and_true w))
@@ -265,16 +282,26 @@ module _ (r : Run) (listed : ℕ → Bool) (from m : ℕ) (a b : Bool) where
         let place : (m == r.start + n - 1) ≡ (m - r.start + 1 == n) = grind (arith, nat_tests) in
         rw (place, e, begun) (elim (three (m - r.start + 1) n) [
           | inl low ↦ rw (below (m - r.start + 1) n low) (ap (λ x. a || ((true && nat_lt (m - r.start) r.len) && x)) (low_step low))
-          | inr (inl here) ↦ rw (eq-eqb (m - r.start + 1) n here, lt-ltb (m - r.start) r.len (omega (arith, here, most)), lt-ltb (m - r.start + 1) (n + 1) (omega (arith, here)), ap listed here ∙ next.passes) (sym (or_true a))
+          | inr (inl here) ↦ rw (
+            eq-eqb (m - r.start + 1) n here,
+            lt-ltb (m - r.start) r.len (omega (arith, here, most)),
+            lt-ltb (m - r.start + 1) (n + 1)
+                (omega (arith, here)),
+            ap listed here ∙ next.passes,
+          ) (sym (or_true a))
           | inr (inr high) ↦ rw (above (m - r.start + 1) n high) (ap (λ x. a || ((true && nat_lt (m - r.start) r.len) && x)) (high_step high))
         ])
   ]
     where
-      low_step : m - r.start + 1 < n → (nat_lt (m - r.start + 1) from && listed (m - r.start + 1)) ≡ (nat_lt (m - r.start + 1) (n + 1) && listed (m - r.start + 1))
-      low_step low = ap (λ x. x || (nat_lt (m - r.start + 1) from && listed (m - r.start + 1))) (sym (below (m - r.start + 1) n low)) ∙ next_found listed from n (m - r.start + 1) next
+      low_step : m - r.start + 1 < n → (nat_lt (m - r.start + 1) from && listed (m - r.start + 1))
+          ≡ (nat_lt (m - r.start + 1) (n + 1) && listed (m - r.start + 1))
+      low_step low = ap (λ x. x || (nat_lt (m - r.start + 1) from && listed (m - r.start + 1))) (sym (below (m - r.start + 1) n low))
+          ∙ next_found listed from n (m - r.start + 1) next
 
-      high_step : n < m - r.start + 1 → (nat_lt (m - r.start + 1) from && listed (m - r.start + 1)) ≡ (nat_lt (m - r.start + 1) (n + 1) && listed (m - r.start + 1))
-      high_step high = ap (λ x. x || (nat_lt (m - r.start + 1) from && listed (m - r.start + 1))) (sym (above (m - r.start + 1) n high)) ∙ next_found listed from n (m - r.start + 1) next
+      high_step : n < m - r.start + 1 → (nat_lt (m - r.start + 1) from && listed (m - r.start + 1))
+          ≡ (nat_lt (m - r.start + 1) (n + 1) && listed (m - r.start + 1))
+      high_step high = ap (λ x. x || (nat_lt (m - r.start + 1) from && listed (m - r.start + 1))) (sym (above (m - r.start + 1) n high))
+          ∙ next_found listed from n (m - r.start + 1) next
 
   pub day_none : a ≡ day_found 1
   day_none = rw (le-ltb (m - r.start + 1) 1 (omega arith)) (nothing a (has_run r m))
@@ -286,9 +313,12 @@ module _ (r : Run) (listed : ℕ → Bool) (from m : ℕ) (a b : Bool) where
 
   pub day_done : (lists : ℕ → Bool) → ((n : ℕ) → from ≤ n → listed n ≡ false) → ((n : ℕ) → 1 ≤ n → listed n ≡ (nat_le n r.len && lists n)) → b ≡ day_found from
       → b ≡ (a || (has_run r m && lists (m - r.start + 1)))
-  day_done lists none is e = e ∙ ap (λ x. a || x) (ap (λ x. has_run r m && x) (all_found listed from (m - r.start + 1) (none (m - r.start + 1)) ∙ is (m - r.start + 1) (omega arith)) ∙ within (cases_lt (m - r.start) r.len))
+  day_done lists none is e = e
+      ∙ ap (λ x. a || x) (ap (λ x. has_run r m && x) (all_found listed from (m - r.start + 1) (none (m - r.start + 1)) ∙ is (m - r.start + 1) (omega arith))
+      ∙ within (cases_lt (m - r.start) r.len))
     where
-      within : (m - r.start < r.len) ⊎ (r.len ≤ m - r.start) → (has_run r m && (nat_le (m - r.start + 1) r.len && lists (m - r.start + 1))) ≡ (has_run r m && lists (m - r.start + 1))
+      within : (m - r.start < r.len) ⊎ (r.len ≤ m - r.start) → (has_run r m && (nat_le (m - r.start + 1) r.len && lists (m - r.start + 1)))
+          ≡ (has_run r m && lists (m - r.start + 1))
       within (inl inside) = let in_len : nat_le (m - r.start + 1) r.len ≡ true = grind (arith, nat_tests) in rw in_len refl
       within (inr past) = rw (le-ltb (m - r.start) r.len past) (out (nat_le r.start m) _ _)
         where

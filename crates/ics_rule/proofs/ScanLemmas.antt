@@ -1,5 +1,6 @@
 -- The next number that passes a test of its part / k and a test of its part % k.
-use Rattle.std.proofs.Common.{◌≡◌, ℕ, zero, suc, ◌+◌, ◌-◌, ◌*◌, ◌/◌, ◌%◌, ◌^◌, ◌<◌, ◌≤◌, ◌⊎◌, inl, inr, ◌≢◌, Bool, true, false, ◌==◌, ◌||◌, ◌&&◌, nat_lt, nat_le, min, get_or, pos, refl, sym, subst, ap, ◌∙◌, arith}
+use Rattle.std.proofs.Common.{◌≡◌, ℕ, zero, suc, ◌+◌, ◌-◌, ◌*◌, ◌/◌, ◌%◌, ◌^◌, ◌<◌, ◌≤◌, ◌⊎◌, inl, inr, ◌≢◌, Bool, true, false, ◌==◌, ◌||◌, ◌&&◌, nat_lt}
+use Rattle.std.proofs.Common.{nat_le, min, get_or, pos, refl, sym, subst, ap, ◌∙◌, arith}
 use Rattle.std.proofs.lemmas.Bool.{and_from, and_left, and_parts, and_right, cases_eq, cases_lt, ne_eqb}
 use Rattle.std.proofs.lemmas.Bool.Decides.{nat_tests}
 use Rattle.std.proofs.lemmas.List.{get_or_past}
@@ -37,7 +38,8 @@ module _ (k : ℕ) (some : 0 < k) where
     pub next_here : (x lo : ℕ) → A (x / k) ≡ true → IsLeastFrom B (x % k) lo → IsLeastFrom (λ n. A (n / k) && B (n % k)) x (x / k * k + lo)
     next_here x lo a next =
         let l = small lo next.passes in record {
-          passes = ap (λ z. A z && B ((x / k * k + lo) % k)) (div-mul-add (x / k) k lo l) ∙ ap (λ z. A (x / k) && B z) (mod-mul-add (x / k) k lo l) ∙ and_from (A (x / k)) (B lo) a next.passes;
+          passes = ap (λ z. A z && B ((x / k * k + lo) % k)) (div-mul-add (x / k) k lo l) ∙ ap (λ z. A (x / k) && B z) (mod-mul-add (x / k) k lo l)
+              ∙ and_from (A (x / k)) (B lo) a next.passes;
           low = let whole = div-add-mod' x k in omega (arith, whole, next.low);
           least = λ m low high. elim (before_block m (x / k) lo l high) [
             | inl less ↦ absurd (let up : x / k ≤ m / k = div_mono x m low in omega (arith, up, less))
@@ -46,10 +48,12 @@ module _ (k : ℕ) (some : 0 < k) where
         }
 
     -- in a later block
-    pub next_later : (x hi lo : ℕ) → ((m : ℕ) → x ≤ m → m / k ≡ x / k → (A (m / k) && B (m % k)) ≡ false) → IsLeastFrom A (x / k + 1) hi → IsLeastFrom B 0 lo → IsLeastFrom (λ n. A (n / k) && B (n % k)) x (hi * k + lo)
+    pub next_later : (x hi lo : ℕ) → ((m : ℕ) → x ≤ m → m / k ≡ x / k → (A (m / k) && B (m % k)) ≡ false) → IsLeastFrom A (x / k + 1) hi → IsLeastFrom B 0 lo →
+        IsLeastFrom (λ n. A (n / k) && B (n % k)) x (hi * k + lo)
     next_later x hi lo none next first =
         let l = small lo first.passes in record {
-          passes = ap (λ z. A z && B ((hi * k + lo) % k)) (div-mul-add hi k lo l) ∙ ap (λ z. A hi && B z) (mod-mul-add hi k lo l) ∙ and_from (A hi) (B lo) next.passes first.passes;
+          passes = ap (λ z. A z && B ((hi * k + lo) % k)) (div-mul-add hi k lo l) ∙ ap (λ z. A hi && B z) (mod-mul-add hi k lo l)
+              ∙ and_from (A hi) (B lo) next.passes first.passes;
           low = let whole = div-add-mod' x k in let rest : x % k < k = mod-lt x some in let up : (x / k + 1) * k ≤ hi * k = mul-le-mul_right k next.low in
               let apart : (x / k + 1) * k ≡ x / k * k + k = omega arith in omega (arith, whole, rest, up, apart);
           least = λ m low high. let up : x / k ≤ m / k = div_mono x m low in elim (three (x / k) (m / k) up) [
@@ -62,7 +66,8 @@ module _ (k : ℕ) (some : 0 < k) where
         }
 
     -- nowhere
-    pub none_later : (x : ℕ) → ((m : ℕ) → x ≤ m → m / k ≡ x / k → (A (m / k) && B (m % k)) ≡ false) → ((m : ℕ) → x / k + 1 ≤ m → A m ≡ false) → (m : ℕ) → x ≤ m → (A (m / k) && B (m % k)) ≡ false
+    pub none_later : (x : ℕ) → ((m : ℕ) → x ≤ m → m / k ≡ x / k → (A (m / k) && B (m % k)) ≡ false) → ((m : ℕ) → x / k + 1 ≤ m → A m ≡ false) → (m : ℕ) →
+        x ≤ m → (A (m / k) && B (m % k)) ≡ false
     none_later x none rest m low = let up : x / k ≤ m / k = div_mono x m low in elim (three (x / k) (m / k) up) [
       | inl same ↦ none m low (sym same)
       | inr later ↦ and_left (A (m / k)) (B (m % k)) (rest (m / k) later)
@@ -113,12 +118,15 @@ none_get (suc (suc (suc (suc (suc zero))))) = refl
 none_get (suc (suc (suc (suc (suc (suc i)))))) = get_or_past none_wide (suc (suc (suc (suc (suc (suc i)))))) 0 (omega arith)
 
 pub none_has : (m : ℕ) → contains_wide none_wide m ≡ false
-none_has m = and_right (nat_lt m 384) (contains (get_or none_wide (m / 64) 0) (m % 64)) (ap (λ x. contains x (m % 64)) (none_get (m / 64)) ∙ ap (λ x. x == 1) (bit_at-zero (m % 64)))
+none_has m = and_right (nat_lt m 384) (contains (get_or none_wide (m / 64) 0) (m % 64)) (ap (λ x. contains x (m % 64)) (none_get (m / 64))
+    ∙ ap (λ x. x == 1) (bit_at-zero (m % 64)))
 
 -- the test of one number more
 pub one_more : (f : ℕ → Bool) (k m : ℕ) (b : Bool) → f k ≡ true → b ≡ (nat_lt m k && f m) → ((m == k) || b) ≡ (nat_lt m (k + 1) && f m)
 one_more f k m b h e = elim (cases_eq m k) [
-  | inl same ↦ ap (λ x. (m == k) || x) e ∙ subst (λ x. ((x == k) || (nat_lt x k && f x)) ≡ (nat_lt x (k + 1) && f x)) (sym same) (here (k == k) (nat_lt k k) (nat_lt k (k + 1)) (f k) (self_test k) (next_test k) h)
+  | inl same ↦ ap (λ x. (m == k) || x) e
+      ∙ subst (λ x. ((x == k) || (nat_lt x k && f x)) ≡ (nat_lt x (k + 1) && f x)) (sym same)
+      (here (k == k) (nat_lt k k) (nat_lt k (k + 1)) (f k) (self_test k) (next_test k) h)
   | inr other ↦ ap (λ x. (m == k) || x) e ∙ (there (m == k) (nat_lt m k) (nat_lt m (k + 1)) (f m) (ne_eqb m k other) (grow m k other))
 ]
   where
@@ -136,7 +144,8 @@ one_more f k m b h e = elim (cases_eq m k) [
 
 pub no_more : (f : ℕ → Bool) (k m : ℕ) (b : Bool) → f k ≡ false → b ≡ (nat_lt m k && f m) → b ≡ (nat_lt m (k + 1) && f m)
 no_more f k m b h e = elim (cases_eq m k) [
-  | inl same ↦ e ∙ subst (λ x. (nat_lt x k && f x) ≡ (nat_lt x (k + 1) && f x)) (sym same) (and_right (nat_lt k k) (f k) h ∙ sym (and_right (nat_lt k (k + 1)) (f k) h))
+  | inl same ↦ e ∙ subst (λ x. (nat_lt x k && f x) ≡ (nat_lt x (k + 1) && f x)) (sym same) (and_right (nat_lt k k) (f k) h
+      ∙ sym (and_right (nat_lt k (k + 1)) (f k) h))
   | inr other ↦ e ∙ ap (λ x. x && f m) (grow m k other)
 ]
   where
@@ -152,20 +161,24 @@ in_word n b h = ap (λ x. x && b) (within n h)
 
 -- minutes and seconds of the product lie in the day
 pub minute_below : (hours minutes m : ℕ) → hours < 2 ^ 24 → has_minute hours minutes m ≡ true → m < 1440
-minute_below hours minutes m h e = let l = member_below hours 24 (m / 60) h (and_parts (contains hours (m / 60)) (contains minutes (m % 60)) e).0 in omega (arith, l)
+minute_below hours minutes m h e = let l = member_below hours 24 (m / 60) h (and_parts (contains hours (m / 60)) (contains minutes (m % 60)) e).0 in
+    omega (arith, l)
 
 pub second_below : (hours minutes seconds t : ℕ) → hours < 2 ^ 24 → has_time hours minutes seconds t ≡ true → t < 86_400
-second_below hours minutes seconds t h e = let l = minute_below hours minutes (t / 60) h (and_parts (has_minute hours minutes (t / 60)) (contains seconds (t % 60)) e).0 in omega (arith, l)
+second_below hours minutes seconds t h e = let l =
+    minute_below hours minutes (t / 60) h (and_parts (has_minute hours minutes (t / 60)) (contains seconds (t % 60)) e).0 in omega (arith, l)
 
 -- one month more
 pub months_more : (y n : ℕ) → days_of_months (pos y) n + days_in_month (pos y) (n + 1) ≡ days_of_months (pos y) (n + 1)
-months_more y n = let more = days_of_months_more (pos y) (n + 1) (omega arith) in let back : n + 1 - 1 ≡ n = omega arith in let more' = rw back at more in sym more'
+months_more y n = let more = days_of_months_more (pos y) (n + 1) (omega arith) in let back : n + 1 - 1 ≡ n = omega arith in let more' = rw back at more in
+    sym more'
 
 -- the days of a product from a day on, by the set's places from what is skipped of it
 pub day_before : (p : RecurrencePeriod) (m : ℕ) → m < p.first_day → has_day p m ≡ false
 day_before p m h = let none : nat_le p.first_day m ≡ false = grind (arith, nat_tests) in ap (λ x. x && contains_wide p.days (m - p.first_day)) none
 
-pub next_day : (p : RecurrencePeriod) (day skipped k : ℕ) → skipped ≡ min (day - p.first_day) 384 → IsLeastFrom (contains_wide p.days) skipped k → k < 384 → IsLeastFrom (has_day p) day (p.first_day + k)
+pub next_day : (p : RecurrencePeriod) (day skipped k : ℕ) → skipped ≡ min (day - p.first_day) 384 → IsLeastFrom (contains_wide p.days) skipped k → k < 384 →
+    IsLeastFrom (has_day p) day (p.first_day + k)
 next_day p day skipped k e next small = record {
   passes = let low : nat_le p.first_day (p.first_day + k) ≡ true = grind (arith, nat_tests) in let back : p.first_day + k - p.first_day ≡ k = omega arith in
       ap (λ x. x && contains_wide p.days (p.first_day + k - p.first_day)) low ∙ ap (contains_wide p.days) back ∙ next.passes;
@@ -176,12 +189,15 @@ next_day p day skipped k e next small = record {
   ];
 }
 
-pub no_day : (p : RecurrencePeriod) (day skipped : ℕ) → skipped ≡ min (day - p.first_day) 384 → ((m : ℕ) → skipped ≤ m → contains_wide p.days m ≡ false) → (m : ℕ) → day ≤ m → has_day p m ≡ false
+pub no_day : (p : RecurrencePeriod) (day skipped : ℕ) → skipped ≡ min (day - p.first_day) 384 → ((m : ℕ) → skipped ≤ m → contains_wide p.days m ≡ false) →
+    (m : ℕ) → day ≤ m → has_day p m ≡ false
 no_day p day skipped e none m low = elim (cases_lt m p.first_day) [
   | inl less ↦ day_before p m less
   | inr more ↦ and_right (nat_le p.first_day m) (contains_wide p.days (m - p.first_day)) (none (m - p.first_day) (omega (arith, e)))
 ]
 
-pub minute_true : (hours minutes m : ℕ) (a b : Bool) → m ≤ 1440 → a ≡ (nat_lt (m / 60) 64 && contains hours (m / 60)) → b ≡ (nat_lt (m % 60) 64 && contains minutes (m % 60)) → has_minute hours minutes m ≡ (a && b)
+pub minute_true : (hours minutes m : ℕ) (a b : Bool) → m ≤ 1440 → a ≡ (nat_lt (m / 60) 64 && contains hours (m / 60)) →
+    b ≡ (nat_lt (m % 60) 64 && contains minutes (m % 60)) → has_minute hours minutes m ≡ (a && b)
 minute_true hours minutes m a b h ea eb =
-    sym (ap (λ x. x && b) (ea ∙ in_word (m / 60) (contains hours (m / 60)) (omega arith)) ∙ ap (λ x. contains hours (m / 60) && x) (eb ∙ in_word (m % 60) (contains minutes (m % 60)) (omega arith)))
+    sym (ap (λ x. x && b) (ea ∙ in_word (m / 60) (contains hours (m / 60)) (omega arith))
+    ∙ ap (λ x. contains hours (m / 60) && x) (eb ∙ in_word (m % 60) (contains minutes (m % 60)) (omega arith)))

@@ -52,7 +52,8 @@ size_decides q t = by_positions (lists_none_wide q.positions)
 
     by_positions : (b : Bool) → count longest (λ k. t k && placed_at q b t k) ≡ chosen_of q b (count longest t)
     by_positions true = count-same longest (λ k. t k && true) t (λ k l. keep_true (t k))
-    by_positions false = count-same longest (λ k. t k && lists_wide q.positions (count (suc k) t) (count longest t)) (λ k. t k && is_listed q.positions (count longest t) (count k t)) (λ k l. same (t k) k refl)
+    by_positions false = count-same longest (λ k. t k && lists_wide q.positions (count (suc k) t) (count longest t))
+        (λ k. t k && is_listed q.positions (count longest t) (count k t)) (λ k l. same (t k) k refl)
         ∙ count-ranked longest t (is_listed q.positions (count longest t))
 
 module _ (q : EffectiveRule) (start x : ℕ) (step : is_stepped (period_in q start) q.interval x ≡ true)
@@ -70,8 +71,10 @@ module _ (q : EffectiveRule) (start x : ℕ) (step : is_stepped (period_in q sta
   beside n m here = ap (λ y. is_candidate_in q start m && period_in q m == y) here ∙ cases (cases_eq (period_in q m) x)
     where
       cases : (period_in q m ≡ x) ⊎ (period_in q m ≢ x) → (is_candidate_in q start m && period_in q m == x) ≡ is_let_in q x m
-      cases (inl same) = ap (λ y. is_candidate_in q start m && y) (eq-eqb (period_in q m) x same) ∙ keep_true (is_candidate_in q start m) ∙ let_in q start x m step same
-      cases (inr other) = ap (λ y. is_candidate_in q start m && y) (ne_eqb (period_in q m) x other) ∙ and_false (is_candidate_in q start m) ∙ sym (let_out m other)
+      cases (inl same) = ap (λ y. is_candidate_in q start m && y) (eq-eqb (period_in q m) x same) ∙ keep_true (is_candidate_in q start m)
+          ∙ let_in q start x m step same
+      cases (inr other) = ap (λ y. is_candidate_in q start m && y) (ne_eqb (period_in q m) x other) ∙ and_false (is_candidate_in q start m)
+          ∙ sym (let_out m other)
 
   none_before : (m : ℕ) → m < a → is_let_in q x m ≡ false
   none_before m h = let_out m (λ same. let b = begun q.frequency (monday_zero q.week_start) x m (omega (arith, same)) in omega (arith, b, h))
@@ -94,11 +97,13 @@ module _ (q : EffectiveRule) (start x : ℕ) (step : is_stepped (period_in q sta
       ∙ count-from a longest (is_let_in q x) none_before
 
   chosen_in : (k : ℕ) → period_in q (a + k) ≡ x → is_chosen q start (a + k) ≡ chosen_at q t k
-  chosen_in k here = ap (λ y. y && is_placed q start (lists_none_wide q.positions) (a + k)) (let_in q start x (a + k) step here) ∙ ap (λ y. t k && y) (by_positions (lists_none_wide q.positions))
+  chosen_in k here = ap (λ y. y && is_placed q start (lists_none_wide q.positions) (a + k)) (let_in q start x (a + k) step here)
+      ∙ ap (λ y. t k && y) (by_positions (lists_none_wide q.positions))
     where
       by_positions : (b : Bool) → is_placed q start b (a + k) ≡ placed_at q b t k
       by_positions true = refl
-      by_positions false = ap (λ y. lists_wide q.positions y (size q start (a + k))) (rank_is k here) ∙ ap (λ y. lists_wide q.positions (count (suc k) t) y) (size_is k here)
+      by_positions false = ap (λ y. lists_wide q.positions y (size q start (a + k))) (rank_is k here)
+          ∙ ap (λ y. lists_wide q.positions (count (suc k) t) y) (size_is k here)
 
   module _ (len : ℕ) (e : a + len ≡ first_local q.frequency (monday_zero q.week_start) (suc x)) where
     here : (k : ℕ) → k < len → period_in q (a + k) ≡ x
@@ -119,7 +124,8 @@ module _ (q : EffectiveRule) (start x : ℕ) (step : is_stepped (period_in q sta
         let whole = ap (λ y. count y (is_chosen q start)) (sym e) in
         let parts = count-add a len (is_chosen q start) in
         let same = count-same len (λ k. is_chosen q start (a + k)) (chosen_at q t) (λ k l. chosen_in k (here k l)) in
-        let flat = count_flat len longest (chosen_at q t) (omega (arith, short, e)) (λ k l u. ap (λ y. y && placed_at q (lists_none_wide q.positions) t k) (past k l)) in
+        let flat = count_flat len longest (chosen_at q t) (omega (arith, short, e))
+        (λ k l u. ap (λ y. y && placed_at q (lists_none_wide q.positions) t k) (past k l)) in
         let decided = size_decides q t in
         omega (arith, whole, parts, same, flat, decided)
 
@@ -129,6 +135,7 @@ module _ (q : EffectiveRule) (start x : ℕ) (step : is_stepped (period_in q sta
         let short = is_short q.frequency (monday_zero q.week_start) x in
         let whole = ap (allowed_before q) (sym e) in
         let parts = count-add a len (is_allowed q) in
-        let same = count-same len (λ k. is_allowed q (a + k)) t (λ k l. sym (ap (λ y. y && is_allowed q (a + k)) (eq-eqb (period_in q (a + k)) x (here k l)))) in
+        let same = count-same len (λ k. is_allowed q (a + k)) t
+        (λ k l. sym (ap (λ y. y && is_allowed q (a + k)) (eq-eqb (period_in q (a + k)) x (here k l)))) in
         let flat = count_flat len longest t (omega (arith, short, e)) (λ k l u. past k l) in
         omega (arith, whole, parts, same, flat)

@@ -29,7 +29,8 @@ module _ (i : ℕ) (some : 1 ≤ i) where
   pub next_stepped : (first own : ℕ) → first < own → IsLeastFrom (is_stepped first i) own (first + ceil (own - first) * i)
   next_stepped first own h = record {
     passes = stepped_shown first i (first + ceil (own - first) * i) (omega arith)
-        (let back : first + ceil (own - first) * i - first ≡ ceil (own - first) * i + 0 = omega arith in ap (λ x. x % i) back ∙ mod-mul-add (ceil (own - first)) i 0 some);
+        (let back : first + ceil (own - first) * i - first ≡ ceil (own - first) * i + 0 = omega arith in ap (λ x. x % i) back
+        ∙ mod-mul-add (ceil (own - first)) i 0 some);
     low = let high = ceil_high (own - first) in omega (arith, high);
     least = λ m low high. false_from_ne_true (is_stepped first i m) (λ yes.
         let parts = stepped_parts first i m yes in

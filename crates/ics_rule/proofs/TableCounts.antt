@@ -1,5 +1,6 @@
 -- BYSETPOS by the days of a month, for a rule that has at most one local a day, so that examples can be computed.
-use Rattle.std.proofs.Common.{◌≡◌, ℕ, zero, suc, ◌+◌, ◌-◌, ◌*◌, ◌/◌, ◌%◌, ◌<◌, ◌≤◌, inl, inr, Bool, true, cond, ◌&&◌, ◌||◌, ◌==◌, nat_le, nat_lt, List, [], ◌∷◌, refl, sym, ap, ◌∙◌, arith}
+use Rattle.std.proofs.Common.{◌≡◌, ℕ, zero, suc, ◌+◌, ◌-◌, ◌*◌, ◌/◌, ◌%◌, ◌<◌, ◌≤◌, inl, inr, Bool, true, cond, ◌&&◌, ◌||◌, ◌==◌, nat_le, nat_lt, List, []}
+use Rattle.std.proofs.Common.{◌∷◌, refl, sym, ap, ◌∙◌, arith}
 use Rattle.std.proofs.lemmas.Bool.{cases_lt, false_from_ne_true, leb-true}
 use Rattle.std.specs.Prelude.{filter}
 use Rattle.ics_values.specs.declared.ordinals.WideOrdinals.{WideOrdinals}
@@ -71,8 +72,10 @@ module _ (set : ℕ → Bool) (a b t : ℕ) (clock : t < 86_400) (shown : (m : �
       → is_nth positions set ((a + k) * 86_400 + t) ≡ nth_day set a b t positions k
   nth_by_days positions k low high =
       ap (λ x. contains_wide positions.front x || contains_wide positions.back (count calendar_end set - count ((a + k) * 86_400 + t) set)) (through_day k)
-      ∙ ap (λ x. contains_wide positions.front (count (suc k) on_day) || contains_wide positions.back (x - count ((a + k) * 86_400 + t) set)) (all_days low high)
-      ∙ ap (λ x. contains_wide positions.front (count (suc k) on_day) || contains_wide positions.back (count (b - a) on_day - x)) (to_local (a + k) ∙ days_before k)
+      ∙ ap (λ x. contains_wide positions.front (count (suc k) on_day) || contains_wide positions.back (x - count ((a + k) * 86_400 + t) set))
+      (all_days low high)
+      ∙ ap (λ x. contains_wide positions.front (count (suc k) on_day) || contains_wide positions.back (count (b - a) on_day - x)) (to_local (a + k)
+      ∙ days_before k)
 
 -- the instances of a rule in the month p, at 9:00
 pub record IsMonthly (r : Recurrence) (p : ℕ) : Type 0 where

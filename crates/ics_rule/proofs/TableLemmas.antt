@@ -14,8 +14,10 @@ use Rattle.ics_rule.specs.EffectiveRules.{effective, clock_part, only_place, onl
 use Rattle.ics_rule.specs.Candidates.{lists, lists_nth, lets, lets_place}
 use Rattle.ics_rule.specs.RecurrencePeriods.{is_let_in}
 use Rattle.ics_rule.specs.Table.{Part, ByMonth, ByWeekNo, ByYearDay, ByMonthDay, ByDay, ByHour, ByMinute, BySecond, Cell, Limit, Expand}
-use Rattle.ics_rule.specs.ByTable.{Instance, Instances, instance_of, start_of, is_absent, is_listed, is_clockless, lists_nth_in, has_clock, own_instance, apply_cell, apply, is_instance, IsAllowed}
-use Rattle.ics_rule.proofs.TableSteps.{or_assoc, limited, passed, expanded, week_expanded, noted, given, only_number, only_day, only_this_weekday, in_order, by_subject}
+use Rattle.ics_rule.specs.ByTable.{Instance, Instances, instance_of, start_of, is_absent, is_listed, is_clockless, lists_nth_in, has_clock, own_instance}
+use Rattle.ics_rule.specs.ByTable.{apply_cell, apply, is_instance, IsAllowed}
+use Rattle.ics_rule.proofs.TableSteps.{or_assoc, limited, passed, expanded, week_expanded, noted, given, only_number, only_day, only_this_weekday, in_order}
+use Rattle.ics_rule.proofs.TableSteps.{by_subject}
 use Rattle.ics_rule.proofs.Tests.{last_part, third, self_test, keep_true, and_false}
 
 -- the rule under a frequency
@@ -84,7 +86,8 @@ fore_true false b h = absurd (cc)
 
 -- a part that expands leaves the rest to DTSTART, at midnight where that is a date
 clock_given : (kind : Kind) (set own n : ℕ) → (kind ≡ Date → own ≡ 0)
-    → (((is_clockless kind || is_empty set) || contains set n) && (keep (is_clockless kind || is_empty set) own n == own)) ≡ lets (clock_part kind true set own) n
+    → (((is_clockless kind || is_empty set) || contains set n) && (keep (is_clockless kind || is_empty set) own n == own))
+    ≡ lets (clock_part kind true set own) n
 clock_given Date set own n zero = subst (λ z. (n == own) ≡ lets (only z) n) (zero refl) (sym (only_number true 0 own n))
 clock_given DateTime set own n zero =
     ap (λ x. lets set n && x) (put_back (is_empty set) own n)
@@ -574,7 +577,8 @@ module _ (rule : Recurrence) (allowed : IsAllowed (at Yearly rule)) (p n : ℕ) 
   yearly_months : (i : Instance) → (lets_part rule ByMonth (after_week i) && ((after_month i).month == (start_of rule).month))
       ≡ lets (if takes_this_month then only (start_of rule).month else rule.parts.months) i.month
   yearly_months i =
-      yearly_month (no_month_day rule) (no_year_day rule) (no_weekday rule) (no_week rule) (no_month rule) (contains rule.parts.months) (start_of rule).month i.month
+      yearly_month (no_month_day rule) (no_year_day rule) (no_weekday rule) (no_week rule) (no_month rule) (contains rule.parts.months) (start_of rule).month
+      i.month
       ∙ given takes_this_month (lets_part rule ByMonth i) (i.month == (start_of rule).month)
       (λ e. ap (λ b. b || is_listed rule ByMonth i) (last_part takes_this_day (no_month rule) e))
       ∙ sym (only_number takes_this_month rule.parts.months (start_of rule).month i.month)

@@ -64,7 +64,8 @@ pub only_number : (t : Bool) (s own n : ℕ) → lets (if t then only own else s
 only_number true s own n = ap (λ x. x || contains (only own) n) (none_only own) ∙ contains-only own n
 only_number false s own n = refl
 
-pub only_day : (t : Bool) (p : Ordinals) (own n size : ℕ) → lets_place (if t then only_place own else p) n size ≡ (if t then (n == own) else lets_place p n size)
+pub only_day : (t : Bool) (p : Ordinals) (own n size : ℕ) →
+    lets_place (if t then only_place own else p) n size ≡ (if t then (n == own) else lets_place p n size)
 only_day true p own n size = rw (none_only own, has_none (size + 1 - n), contains-only own n) (or_false (n == own))
 only_day false p own n size = refl
 

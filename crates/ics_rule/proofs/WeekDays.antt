@@ -1,5 +1,6 @@
 -- The days of a year that may lie in a listed week.
-use Rattle.std.proofs.Common.{◌≡◌, ℕ, ◌+◌, ◌-◌, ◌*◌, ◌/◌, ◌%◌, ◌<◌, ◌≤◌, ◌⊎◌, inl, inr, Bool, true, false, ◌==◌, ◌||◌, ◌&&◌, nat_lt, nat_le, max, min, List, pos, refl, sym, subst, ap, ◌∙◌, arith}
+use Rattle.std.proofs.Common.{◌≡◌, ℕ, ◌+◌, ◌-◌, ◌*◌, ◌/◌, ◌%◌, ◌<◌, ◌≤◌, ◌⊎◌, inl, inr, Bool, true, false, ◌==◌, ◌||◌, ◌&&◌, nat_lt, nat_le, max, min, List}
+use Rattle.std.proofs.Common.{pos, refl, sym, subst, ap, ◌∙◌, arith}
 use Rattle.std.proofs.lemmas.Bool.{cases_lt}
 use Rattle.std.proofs.lemmas.Bool.Decides.{nat_tests}
 use Rattle.jiff_core.specs.Calendar.{days_in_year}
@@ -27,11 +28,14 @@ between_none low m a = nothing a (nat_le low m && nat_lt m low) (let none : (nat
     nothing false x h = sym h
 
 pub between_more : (low k m : ℕ) (a b : Bool) → low ≤ k → b ≡ (a || (nat_le low m && nat_lt m k)) → ((m == k) || b) ≡ (a || (nat_le low m && nat_lt m (k + 1)))
-between_more low k m a b l e = ap (λ x. (m == k) || x) e ∙ or_swap a (m == k) (nat_le low m && nat_lt m k) ∙ ap (λ x. a || x) (let one : ((m == k) || (nat_le low m && nat_lt m k)) ≡ (nat_le low m && nat_lt m (k + 1)) = grind (arith, nat_tests) in one)
+between_more low k m a b l e = ap (λ x. (m == k) || x) e ∙ or_swap a (m == k) (nat_le low m && nat_lt m k)
+    ∙ ap (λ x. a || x) (let one : ((m == k) || (nat_le low m && nat_lt m k)) ≡ (nat_le low m && nat_lt m (k + 1)) = grind (arith, nat_tests) in one)
 
-pub between_done : (low end k m : ℕ) (a b : Bool) → low ≤ k → end ≤ k → k ≤ max low end → b ≡ (a || (nat_le low m && nat_lt m k)) → b ≡ (a || (nat_le low m && nat_lt m end))
+pub between_done : (low end k m : ℕ) (a b : Bool) → low ≤ k → end ≤ k → k ≤ max low end → b ≡ (a || (nat_le low m && nat_lt m k)) →
+    b ≡ (a || (nat_le low m && nat_lt m end))
 between_done low end k m a b l h most e = e ∙ ap (λ x. a || x) (elim (cases_lt end low) [
-  | inl none ↦ let all : k ≡ low = omega (arith, none, most, l) in rw all (let out : (nat_le low m && nat_lt m low) ≡ (nat_le low m && nat_lt m end) = grind (arith, nat_tests) in out)
+  | inl none ↦ let all : k ≡ low = omega (arith, none, most, l) in
+      rw all (let out : (nat_le low m && nat_lt m low) ≡ (nat_le low m && nat_lt m end) = grind (arith, nat_tests) in out)
   | inr some ↦ let all : k ≡ end = omega (arith, some, most, h) in rw all refl
 ])
 
@@ -75,15 +79,18 @@ listed_week q f y j year place inside some h =
     let day : year_day_of f - 1 ≡ j = (let d = year_day_is f y year in omega (arith, d, place)) in
     let bounds = days_in_year_bounds (pos y) in
     let number : week_number f ≡ j / 7 + 1 = ap (λ x. x / 7 + 1) day in
-    let weeks : weeks_of_year f ≡ (days_in_year (pos y) - 1 - j % 7) / 7 + 1 = ap (λ x. (days_in_year (pos x) - 1 - (year_day_of f - 1) % 7) / 7 + 1) year ∙ ap (λ x. (days_in_year (pos y) - 1 - x % 7) / 7 + 1) day in
+    let weeks : weeks_of_year f ≡ (days_in_year (pos y) - 1 - j % 7) / 7 + 1 = ap (λ x. (days_in_year (pos x) - 1 - (year_day_of f - 1) % 7) / 7 + 1) year
+    ∙ ap (λ x. (days_in_year (pos y) - 1 - x % 7) / 7 + 1) day in
     let own : lets_place q.weeks (j / 7 + 1) ((days_in_year (pos y) - 1 - j % 7) / 7 + 1) ≡ true =
     ap (λ n. lets_place q.weeks n ((days_in_year (pos y) - 1 - j % 7) / 7 + 1)) (sym number) ∙ ap (lets_place q.weeks (week_number f)) (sym weeks) ∙ h in
     elim (cases_lt ((days_in_year (pos y) - 1 - j % 7) / 7 + 1) 53) [
       | inl fewer ↦ let back : (days_in_year (pos y) - 1 - j % 7) / 7 + 1 + 1 - (j / 7 + 1) ≡ 53 - (j / 7 + 1) = omega (arith, fewer, bounds.0, bounds.1) in
-          first (lists_none q.weeks) (contains q.weeks.front (j / 7 + 1)) (contains q.weeks.back (53 - (j / 7 + 1))) (contains q.weeks.back (54 - (j / 7 + 1))) some
+          first (lists_none q.weeks) (contains q.weeks.front (j / 7 + 1)) (contains q.weeks.back (53 - (j / 7 + 1))) (contains q.weeks.back (54 - (j / 7 + 1)))
+          some
           (ap (λ x. lists_none q.weeks || (contains q.weeks.front (j / 7 + 1) || contains q.weeks.back x)) (sym back) ∙ own)
       | inr more ↦ let back : (days_in_year (pos y) - 1 - j % 7) / 7 + 1 + 1 - (j / 7 + 1) ≡ 54 - (j / 7 + 1) = omega (arith, more, bounds.0, bounds.1) in
-          second (lists_none q.weeks) (contains q.weeks.front (j / 7 + 1)) (contains q.weeks.back (53 - (j / 7 + 1))) (contains q.weeks.back (54 - (j / 7 + 1))) some
+          second (lists_none q.weeks) (contains q.weeks.front (j / 7 + 1)) (contains q.weeks.back (53 - (j / 7 + 1))) (contains q.weeks.back (54 - (j / 7 + 1)))
+          some
           (ap (λ x. lists_none q.weeks || (contains q.weeks.front (j / 7 + 1) || contains q.weeks.back x)) (sym back) ∙ own)
     ]
   where
@@ -101,7 +108,8 @@ listed_week q f y j year place inside some h =
     second false false false true h l = refl
     second false false false false h l = absurd (cc)
 
-pub week_near : (q : EffectiveRule) (first len k fourth : ℕ) → first ≡ days_before_year (year_of first) → len ≡ days_in_year (pos (year_of first)) → k < len → lists_none q.weeks ≡ false
+pub week_near : (q : EffectiveRule) (first len k fourth : ℕ) → first ≡ days_before_year (year_of first) → len ≡ days_in_year (pos (year_of first)) → k < len →
+    lists_none q.weeks ≡ false
     → fourth ≡ (monday_zero q.week_start + 10 - weekday_of first) % 7 → lets_week q (first + k) ≡ true → IsFound q.weeks fourth len k
 week_near q first len k fourth start size inside some place h =
     let w = monday_zero q.week_start in
@@ -153,13 +161,15 @@ cover_starts weeks fourth len none front both long empty f b = record {
     ]
     | inr late ↦ (between_facts (len - 3) len m late).1
   ];
-  first = λ m h. kept (contains_wide front m) (contains_wide both m) _ (b m) (gained (contains_wide none m) (contains_wide front m) _ (f m) (between_shown 0 3 m (omega arith) h));
+  first = λ m h. kept (contains_wide front m) (contains_wide both m) _ (b m)
+      (gained (contains_wide none m) (contains_wide front m) _ (f m) (between_shown 0 3 m (omega arith) h));
   last = λ m l h. gained (contains_wide front m) (contains_wide both m) _ (b m) (between_shown (len - 3) len m (omega (arith, l)) h);
   near = λ k j l here h. absurd (omega (arith, l, here.low));
 }
 
 pub cover_adds : (weeks : Ordinals) (fourth len n low end : ℕ) (days more : List ℕ) → low ≡ 7 * n + fourth - 3 - 7 → end ≡ min (7 * n + fourth - 3) len
-    → ((m : ℕ) → contains_wide more m ≡ (contains_wide days m || (nat_le low m && nat_lt m end))) → IsCover weeks fourth len n days → IsCover weeks fourth len (n + 1) more
+    → ((m : ℕ) → contains_wide more m ≡ (contains_wide days m || (nat_le low m && nat_lt m end))) → IsCover weeks fourth len n days →
+    IsCover weeks fourth len (n + 1) more
 cover_adds weeks fourth len n low end days more el ee added cover = record {
   within = λ m h. elim (either (contains_wide days m) (contains_wide more m) _ (added m) h) [
     | inl old ↦ cover.within m old
@@ -170,7 +180,8 @@ cover_adds weeks fourth len n low end days more el ee added cover = record {
   near = λ k j l here h. elim (cases_lt j n) [
     | inl old ↦ kept (contains_wide days k) (contains_wide more k) _ (added k) (cover.near k j old here h)
     | inr new ↦ let same : j ≡ n = omega (arith, new, l) in
-        gained (contains_wide days k) (contains_wide more k) _ (added k) (between_shown low end k (omega (arith, el, same, here.from)) (omega (arith, ee, same, here.before, h)))
+        gained (contains_wide days k) (contains_wide more k) _ (added k)
+        (between_shown low end k (omega (arith, el, same, here.from)) (omega (arith, ee, same, here.before, h)))
   ];
 }
 
@@ -186,7 +197,8 @@ cover_jumps weeks fourth len from n days none cover = record {
   ];
 }
 
-pub covered : (weeks : Ordinals) (fourth len n k : ℕ) (days : List ℕ) → 54 ≤ n → k < len → IsCover weeks fourth len n days → IsFound weeks fourth len k → contains_wide days k ≡ true
+pub covered : (weeks : Ordinals) (fourth len n k : ℕ) (days : List ℕ) → 54 ≤ n → k < len → IsCover weeks fourth len n days → IsFound weeks fourth len k →
+    contains_wide days k ≡ true
 covered weeks fourth len n k days all inside cover found = elim found [
   | inl early ↦ cover.first k early
   | inr (inl late) ↦ cover.last k late inside

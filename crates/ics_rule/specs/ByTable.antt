@@ -18,7 +18,8 @@ use Rattle.ics_values.specs.Locals.{number, calendar_end}
 use Rattle.ics_rule.specs.EffectiveRules.{skips_hours}
 use Rattle.ics_rule.specs.Candidates.{lists, lists_wide, lists_nth, fourth_day, week_number, weeks_of_year, is_stepped}
 use Rattle.ics_rule.specs.Kept.{count, is_by_until}
-use Rattle.ics_rule.specs.Table.{Part, ByMonth, ByWeekNo, ByYearDay, ByMonthDay, ByDay, ByHour, ByMinute, BySecond, BySetPos, Cell, Nothing, Limit, Expand, Note1, Note2, cell}
+use Rattle.ics_rule.specs.Table.{Part, ByMonth, ByWeekNo, ByYearDay, ByMonthDay, ByDay, ByHour, ByMinute, BySecond, BySetPos, Cell, Nothing, Limit, Expand}
+use Rattle.ics_rule.specs.Table.{Note1, Note2, cell}
 
 -- An instance by its fields, which need not agree: no local is the instance 30 February, and so it is ignored. A week belongs to the year of
 -- its fourth day.

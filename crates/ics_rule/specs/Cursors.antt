@@ -69,7 +69,8 @@ pub record HasCounted (r : Recurrence) (answer : Option Local) (before now : Cur
   pub rise : steps_of before ≤ steps_of now
   pub some : MatchOption answer (Unit {0}) (λ local. number r.start < number local → 1 ≤ steps_of now)
   pub more : MatchOption answer (Unit {0})
-      (λ local. number r.start < number local → period_in (effective r) (place_of before) < period_in (effective r) (number local) → steps_of before < steps_of now)
+      (λ local. number r.start < number local → period_in (effective r) (place_of before) < period_in (effective r) (number local) →
+      steps_of before < steps_of now)
 
 -- a cursor of a rule
 unfoldable pub IsCursorOf : Recurrence → Cursor → Type 0

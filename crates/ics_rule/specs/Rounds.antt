@@ -47,7 +47,8 @@ pub record IsRound (q : EffectiveRule) (periods seconds : ℕ) : Type 0 where
   pub some : 1 ≤ periods
   pub step : (first p : ℕ) → first ≤ p → is_stepped first q.interval (p + periods) ≡ is_stepped first q.interval p
   pub period : (n : ℕ) → period_in q (n + seconds) ≡ period_in q n + periods
-  pub first : (p : ℕ) → 2 ≤ p → first_local q.frequency (monday_zero q.week_start) (p + periods) ≡ first_local q.frequency (monday_zero q.week_start) p + seconds
+  pub first : (p : ℕ) → 2 ≤ p → first_local q.frequency (monday_zero q.week_start) (p + periods)
+      ≡ first_local q.frequency (monday_zero q.week_start) p + seconds
   pub let_in : (n : ℕ) → (lets_date q (day_of (n + seconds)) && lets_clock q (n + seconds)) ≡ (lets_date q (day_of n) && lets_clock q n)
 
 -- of the parts of the date only BYMONTH and BYMONTHDAY are there, and its days are in each month, counted from the first

@@ -20,7 +20,8 @@ NoneLetIn q from before = (n : ℕ) → from ≤ n → n < before → (lets_date
 pub record IsNextOpen (q : EffectiveRule) (first number next : ℕ) : Type 0 where
   pub step : is_stepped first q.interval next ≡ true
   pub low : number ≤ next
-  pub none : (n : ℕ) → number ≤ period_in q n → period_in q n < next → is_stepped first q.interval (period_in q n) ≡ true → (lets_date q (day_of n) && lets_clock q n) ≡ false
+  pub none : (n : ℕ) → number ≤ period_in q n → period_in q n < next → is_stepped first q.interval (period_in q n) ≡ true →
+      (lets_date q (day_of n) && lets_clock q n) ≡ false
 
 -- a local of the period with a number is a candidate that BYSETPOS allows
 abbrev pub is_chosen_within : EffectiveRule → ℕ → ℕ → ℕ → Bool

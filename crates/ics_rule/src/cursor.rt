@@ -64,7 +64,8 @@ impl Cursor {
     ghost use Rattle.ics_rule.specs.RecurrencePeriods.{first_local, IsPeriodOf};
     ghost use Rattle.ics_rule.specs.Next.{IsNextKept, NoneKept};
     ghost use Rattle.ics_rule.specs.Calls.{IsAnswer, LooksUpTo};
-    ghost use Rattle.ics_rule.specs.Cursors.{known_to, period_count, place_of, steps_of, looks_from, IsCursorOf, HasCounted, HasLooked, IsCursorIn, HasLookedIn};
+    ghost use Rattle.ics_rule.specs.Cursors.{known_to, period_count, place_of, steps_of, looks_from, IsCursorOf, HasCounted, HasLooked, IsCursorIn};
+    ghost use Rattle.ics_rule.specs.Cursors.{HasLookedIn};
     ghost use Rattle.ics_rule.specs.Searches.{NoneWanted, IsNextWanted, IsNextBefore, IsWalked, after_look};
 
     /// A cursor at a local of the years 0000 to 9999, whether or not the rule keeps it. It has looked at no period.

@@ -88,7 +88,8 @@ fn open_of_days(parts: &EffectiveRule, first: u64, from: u64, before: u64) -> u6
     requires first { first < from * per_day parts.now.frequency }
     requires order { from ≤ before }
     requires before { before ≤ 3579743 }
-    ensures { result + count (from * per_day parts.now.frequency) (is_open_period parts.now first) ≡ count (before * per_day parts.now.frequency) (is_open_period parts.now first) }
+    ensures { result + count (from * per_day parts.now.frequency) (is_open_period parts.now first)
+        ≡ count (before * per_day parts.now.frequency) (is_open_period parts.now first) }
 {
     let per_day = 86_400 / seconds_of(parts.frequency);
     let mut total = 0;

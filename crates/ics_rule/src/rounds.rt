@@ -44,7 +44,8 @@ fn repeat_seconds(parts: &EffectiveRule) -> u64
     requires fine { 0 < seconds_of parts.now.frequency }
     ensures some { 1 ≤ result }
     ensures bound { result ≤ 604800 }
-    ensures repeat { (n : ℕ) → (lets_date parts.now (day_of (n + result)) && lets_clock parts.now (n + result)) ≡ (lets_date parts.now (day_of n) && lets_clock parts.now n) }
+    ensures repeat { (n : ℕ) → (lets_date parts.now (day_of (n + result)) && lets_clock parts.now (n + result))
+        ≡ (lets_date parts.now (day_of n) && lets_clock parts.now n) }
 {
     if !parts.weekdays.is_empty() {
         604_800

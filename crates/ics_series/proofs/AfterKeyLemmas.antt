@@ -29,10 +29,12 @@ rest key o = ordering_then (slice_cmp nat_cmp key.uid o.event.uid) (int_cmp key.
 abbrev pub turned : Rank → List ℕ → Ordering
 turned key uid = ordering_then (slice_cmp nat_cmp uid key.uid) (int_cmp key.start key.recurrence)
 
-rest-turned : (key : Rank) (uid : List ℕ) (o : Entry) → o.event.uid ≡ uid → o.recurrence ≡ o.start → key.start ≡ o.start → rest key o ≡ ordering_reverse (turned key uid)
+rest-turned : (key : Rank) (uid : List ℕ) (o : Entry) → o.event.uid ≡ uid → o.recurrence ≡ o.start → key.start ≡ o.start →
+    rest key o ≡ ordering_reverse (turned key uid)
 rest-turned key uid o u r s =
     (λ i. ordering_then (slice_cmp nat_cmp key.uid (u i)) (int_cmp key.recurrence ((r ∙ sym s) i)))
-    ∙ ((λ i. ordering_then (nat_list_cmp_total.antisymm key.uid uid i) (int_cmp_total.antisymm key.recurrence key.start i)) ∙ then-turned (slice_cmp nat_cmp uid key.uid) (int_cmp key.start key.recurrence))
+    ∙ ((λ i. ordering_then (nat_list_cmp_total.antisymm key.uid uid i) (int_cmp_total.antisymm key.recurrence key.start i))
+    ∙ then-turned (slice_cmp nat_cmp uid key.uid) (int_cmp key.start key.recurrence))
 
 -- by the starts, and at one start by the rest
 by-start : (a b : ℤ) (c r : Ordering) → MatchOrdering c (a <ℤ b) (a ≡ b) (b <ℤ a) → (a ≡ b → r ≡ Less) → is_lt (ordering_then c r) ≡ int_le a b
@@ -45,7 +47,8 @@ not-Less Less n = refl
 not-Less Equal n = refl
 not-Less Greater n = absurd (n refl)
 
-by-next : (a b next : ℤ) (c r : Ordering) → MatchOrdering c (a <ℤ b) (a ≡ b) (b <ℤ a) → (a ≡ b → is_lt r ≡ false) → (a <ℤ b → next ≤ℤ b) → (b ≤ℤ a → b <ℤ next) → is_lt (ordering_then c r) ≡ int_le next b
+by-next : (a b next : ℤ) (c r : Ordering) → MatchOrdering c (a <ℤ b) (a ≡ b) (b <ℤ a) → (a ≡ b → is_lt r ≡ false) → (a <ℤ b → next ≤ℤ b) →
+    (b ≤ℤ a → b <ℤ next) → is_lt (ordering_then c r) ≡ int_le next b
 by-next a b next Less r h k low high = let l = low h in grind (arith, ints)
 by-next a b next Equal r h k low high = k h ∙ (let l = high (omega (arith, ints, h)) in grind (arith, ints))
 by-next a b next Greater r h k low high = let l = high (omega (arith, ints, h)) in grind (arith, ints)
@@ -60,7 +63,8 @@ since-none after uid e = λ o u r low high.
 pub since-start : (after : Option Rank) (key : Rank) (uid : List ℕ) (t : ℤ) → after ≡ Some key → turned key uid ≡ Greater → t ≡ key.start → IsSince after uid t
 since-start after key uid t k g e = λ o u r low high.
     ap (λ a. is_after a o) k
-    ∙ (by-start key.start o.start (int_cmp key.start o.start) (rest key o) (int_ranks key.start o.start) (λ s. rest-turned key uid o u r s ∙ ap ordering_reverse g)
+    ∙ (by-start key.start o.start (int_cmp key.start o.start) (rest key o) (int_ranks key.start o.start) (λ s. rest-turned key uid o u r s
+    ∙ ap ordering_reverse g)
     ∙ ap (λ x. int_le x o.start) (sym e))
 
 -- the next instant, where there is one
@@ -70,8 +74,10 @@ saturated (negsuc zero) t x e f h = (λ l. grind (arith, ints), λ l. grind (ari
 saturated (negsuc (suc n)) t x e f h = (λ l. grind (arith, ints), λ l. grind (arith, ints))
 
 -- where they do not
-pub since-next : (after : Option Rank) (key : Rank) (uid : List ℕ) (t : ℤ) → after ≡ Some key → (turned key uid ≡ Greater → ⊥) → t ≡ saturate_signed w64 (key.start +ℤ pos 1) → SFits w64 key.start → IsSince after uid t
+pub since-next : (after : Option Rank) (key : Rank) (uid : List ℕ) (t : ℤ) → after ≡ Some key → (turned key uid ≡ Greater → ⊥) →
+    t ≡ saturate_signed w64 (key.start +ℤ pos 1) → SFits w64 key.start → IsSince after uid t
 since-next after key uid t a n e f = λ o u r low high.
     let k = saturated key.start t o.start e f (omega (arith, ints, high)) in
     ap (λ a. is_after a o) a
-    ∙ by-next key.start o.start t (int_cmp key.start o.start) (rest key o) (int_ranks key.start o.start) (λ s. ap is_lt (rest-turned key uid o u r s) ∙ not-Less (turned key uid) n) k.0 k.1
+    ∙ by-next key.start o.start t (int_cmp key.start o.start) (rest key o) (int_ranks key.start o.start) (λ s. ap is_lt (rest-turned key uid o u r s)
+    ∙ not-Less (turned key uid) n) k.0 k.1

@@ -17,7 +17,8 @@ use Rattle.ics_series.proofs.ListingLemmas.{before-in, not-both-less, not-less-i
 use Rattle.ics_series.proofs.PlacedLemmas.{in-append, in-append_right}
 use Rattle.ics_series.proofs.ToComeLemmas.{lt-Less}
 
-pub listing-after : (files : List FileSaid) (display : Clock) (w : Window) (key : Rank) (xs ys : List Entry) → IsListing entry_cmp (IsListed files display w) xs → IsListing entry_cmp (IsToCome files display w (Some key)) ys
+pub listing-after : (files : List FileSaid) (display : Clock) (w : Window) (key : Rank) (xs ys : List Entry) →
+    IsListing entry_cmp (IsListed files display w) xs → IsListing entry_cmp (IsToCome files display w (Some key)) ys
     → ys ≡ filter (λ o. is_lt (rank_cmp key (rank_of o))) xs
 listing-after files display w key xs ys h k =
     one-listing entry_cmp entry_total (IsToCome files display w (Some key)) ys (filter (λ o. is_lt (rank_cmp key (rank_of o))) xs) k
@@ -25,7 +26,8 @@ listing-after files display w key xs ys h k =
     (λ o l e. (l, lt-Less (rank_cmp key (rank_of o)) e)) (λ o t. (t.0, ap is_lt t.1)))
 
 -- so too where there may be no key
-pub listing-after_key : (files : List FileSaid) (display : Clock) (w : Window) (after : Option Rank) (xs ys : List Entry) → IsListing entry_cmp (IsListed files display w) xs → IsListing entry_cmp (IsToCome files display w after) ys
+pub listing-after_key : (files : List FileSaid) (display : Clock) (w : Window) (after : Option Rank) (xs ys : List Entry) →
+    IsListing entry_cmp (IsListed files display w) xs → IsListing entry_cmp (IsToCome files display w after) ys
     → ys ≡ after_key after xs
 listing-after_key files display w None xs ys h k = one-listing entry_cmp entry_total (IsListed files display w) ys xs k h
 listing-after_key files display w (Some key) xs ys h k = listing-after files display w key xs ys h k
@@ -38,9 +40,11 @@ rises-end (x ∷ xs) back r = rises-end xs back r.1
 front-before : (front back : List Entry) (x y : Entry) → Rises entry_cmp (front ++ back) → IsIn x front → IsIn y back → entry_cmp x y ≡ Less
 front-before [] back x y r m n = absurd m
 front-before (z ∷ zs) back x y r m n =
-    ⊎_elim (λ e. ap (λ v. entry_cmp v y) e ∙ before-in entry_cmp entry_total z y (zs ++ back) r.0 (in-append_right y zs back n)) (λ k. front-before zs back x y r.1 k n) m
+    ⊎_elim (λ e. ap (λ v. entry_cmp v y) e ∙ before-in entry_cmp entry_total z y (zs ++ back) r.0 (in-append_right y zs back n))
+    (λ k. front-before zs back x y r.1 k n) m
 
-pub listing-behind : (files : List FileSaid) (display : Clock) (w : Window) (front : List Entry) (o : Entry) (behind ys : List Entry) → IsListing entry_cmp (IsListed files display w) (front ++ o ∷ behind)
+pub listing-behind : (files : List FileSaid) (display : Clock) (w : Window) (front : List Entry) (o : Entry) (behind ys : List Entry) →
+    IsListing entry_cmp (IsListed files display w) (front ++ o ∷ behind)
     → IsListing entry_cmp (IsToCome files display w (Some (rank_of o))) ys → ys ≡ behind
 listing-behind files display w front o behind ys h k =
     let end = rises-end front (o ∷ behind) h.rises in

@@ -2,7 +2,8 @@
 use Rattle.std.specs.Prelude.{◌<ℤ◌, ◌≤ℤ◌, ◌&&◌, int_lt, Result, Ok, Err, OnErr}
 use Rattle.std.specs.List.{filter}
 use Rattle.std.specs.Ordering.{int_eq, is_lt}
-use Rattle.std.proofs.Common.{◌≡◌, ℕ, zero, suc, ℤ, pos, ◌+ℤ◌, ◌-ℤ◌, List, [], ◌∷◌, ◌++◌, map, Option, Some, None, ◌⊎◌, inl, inr, ⊎_elim, Bool, true, false, cond, refl, sym, ◌∙◌, ap, subst, arith}
+use Rattle.std.proofs.Common.{◌≡◌, ℕ, zero, suc, ℤ, pos, ◌+ℤ◌, ◌-ℤ◌, List, [], ◌∷◌, ◌++◌, map, Option, Some, None, ◌⊎◌, inl, inr, ⊎_elim, Bool, true, false}
+use Rattle.std.proofs.Common.{cond, refl, sym, ◌∙◌, ap, subst, arith}
 use Rattle.std.proofs.lemmas.Int.{ints}
 use Rattle.ics_calendar.specs.Event.{FileSaid}
 use Rattle.ics_zone.specs.Seconds.{IsNear}
@@ -54,12 +55,14 @@ module _ (files : List FileSaid) (display : Clock) (near : (t : ℤ) → IsNear 
       ))
 
   -- those of later days begin with those of the next
-  next-day : (day next : ℤ) → next ≡ day +ℤ pos 1 → (today-list later-list : List OnDay) → IsListing on_day_cmp (IsUnder files display w next) today-list → IsListing on_day_cmp (IsLater files display w next) later-list
+  next-day : (day next : ℤ) → next ≡ day +ℤ pos 1 → (today-list later-list : List OnDay) → IsListing on_day_cmp (IsUnder files display w next) today-list →
+      IsListing on_day_cmp (IsLater files display w next) later-list
       → IsListing on_day_cmp (IsLater files display w day) (today-list ++ later-list)
   next-day day next e xs ys h k =
       joined on_day_cmp (IsUnder files display w next) (IsLater files display w next) (IsLater files display w day) xs ys h k
       (λ p q a b. let d = a.1 in let l = b.later in day-first p q (omega (arith, ints, d, l)))
-      (λ p m. ⊎_elim (λ a. let d = a.1 in record { shown = a.0; later = omega (arith, ints, d, e) }) (λ b. let l = b.later in record { shown = b.shown; later = omega (arith, ints, l, e) }) m)
+      (λ p m. ⊎_elim (λ a. let d = a.1 in record { shown = a.0; later = omega (arith, ints, d, e) }) (λ b. let l = b.later in
+      record { shown = b.shown; later = omega (arith, ints, l, e) }) m)
       (λ p l. by p l (int_eq p.day next) refl)
     where
       by : (p : OnDay) → IsLater files display w day p → (b : Bool) → int_eq p.day next ≡ b → IsUnder files display w next p ⊎ IsLater files display w next p
@@ -78,13 +81,15 @@ module _ (files : List FileSaid) (display : Clock) (near : (t : ℤ) → IsNear 
       (λ p s. let m = s.later in (record { shown = s.shown; later = omega (arith, ints, m, e) }, true_int_lt next p.day m))
 
   -- The next day: where nothing is to come under the day, that day's come next.
-  pub ahead-turned : (day next : ℤ) → next ≡ day +ℤ pos 1 → (n : Window) → IsNearDay w next n → (none coming : List Entry) → none ≡ [] → IsListing entry_cmp (IsListed files display n) coming
+  pub ahead-turned : (day next : ℤ) → next ≡ day +ℤ pos 1 → (n : Window) → IsNearDay w next n → (none coming : List Entry) → none ≡ [] →
+      IsListing entry_cmp (IsListed files display n) coming
       → (list : List OnDay) → IsAheadOf files display w day none list → IsAheadOf files display w next coming list
   ahead-turned day next e n h none coming empty l list a =
       let later = filter (λ p. int_lt next p.day) a.later in
       let behind = later-behind day next e a.later a.listing in
       let whole = next-day day next e (today display w next coming) later (of-day next n h coming l) behind in
-      let same : a.later ≡ today display w next coming ++ later = one-listing on_day_cmp on_day_total (IsLater files display w day) a.later (today display w next coming ++ later) a.listing whole in
+      let same : a.later ≡ today display w next coming ++ later =
+      one-listing on_day_cmp on_day_total (IsLater files display w day) a.later (today display w next coming ++ later) a.listing whole in
       record {
         later = later;
         listing = behind;
@@ -100,20 +105,26 @@ module _ (files : List FileSaid) (display : Clock) (near : (t : ℤ) → IsNear 
 
   pub ahead-ended : (day : ℤ) → last_near w ≤ℤ day → (none : List Entry) → none ≡ [] → (list : List OnDay) → IsAheadOf files display w day none list → list ≡ []
   ahead-ended day h none empty list a =
-      a.is ∙ (ap (λ xs. today display w day xs ++ a.later) empty ∙ one-listing on_day_cmp on_day_total (IsLater files display w day) a.later [] a.listing (none-later day h))
+      a.is ∙ (ap (λ xs. today display w day xs ++ a.later) empty
+      ∙ one-listing on_day_cmp on_day_total (IsLater files display w day) a.later [] a.listing (none-later day h))
 
   -- There is a list of those of later days, and of all.
-  own-day : (day : ℤ) → (xs : List Entry) → IsListing entry_cmp (IsListed files display w) xs → IsListing on_day_cmp (IsUnder files display w day) (today display w day xs)
+  own-day : (day : ℤ) → (xs : List Entry) → IsListing entry_cmp (IsListed files display w) xs →
+      IsListing on_day_cmp (IsUnder files display w day) (today display w day xs)
   own-day day xs l =
       today-listing files display near w day (IsListed files display w) (IsUnder files display w day) xs l
       (λ o p t. (today-shown files display near w day o p.0 t, refl))
       (λ p q. (q.1, q.0.listed, subst (λ d. is_today display w d p.entry ≡ true) q.1 (shown-today files display near w p q.0)))
 
-  some-later : (xs : List Entry) → IsListing entry_cmp (IsListed files display w) xs → (n : ℕ) (day : ℤ) → last_near w ≤ℤ (day +ℤ pos n) → (later : List OnDay) × IsListing on_day_cmp (IsLater files display w day) later
+  some-later : (xs : List Entry) → IsListing entry_cmp (IsListed files display w) xs → (n : ℕ) (day : ℤ) → last_near w ≤ℤ (day +ℤ pos n) →
+      (later : List OnDay) × IsListing on_day_cmp (IsLater files display w day) later
   some-later xs l zero day h = ([], none-later day (omega (arith, ints, h)))
   some-later xs l (suc n) day h =
-      let rest = some-later xs l n (day +ℤ pos 1) (omega (arith, ints, h)) in
-      (today display w (day +ℤ pos 1) xs ++ rest.0, next-day day (day +ℤ pos 1) refl (today display w (day +ℤ pos 1) xs) rest.0 (own-day (day +ℤ pos 1) xs l) rest.1)
+      let rest = some-later xs l n (day +ℤ pos 1) (omega (arith, ints, h)) in (
+        today display w (day +ℤ pos 1) xs ++ rest.0,
+        next-day day (day +ℤ pos 1) refl (today display w (day +ℤ pos 1) xs) rest.0 (own-day (day +ℤ pos 1) xs l)
+            rest.1,
+      )
 
   -- as many days on as there are
   days-on : (a b : ℤ) → (n : ℕ) × (b ≤ℤ (a +ℤ pos n))
@@ -123,7 +134,8 @@ module _ (files : List FileSaid) (display : Clock) (near : (t : ℤ) → IsNear 
       by (pos n) e = (n, omega (arith, ints, e))
       by d e = (0, omega (arith, ints, e))
 
-  pub later-than : (xs : List Entry) → IsListing entry_cmp (IsListed files display w) xs → (day : ℤ) → (later : List OnDay) × IsListing on_day_cmp (IsLater files display w day) later
+  pub later-than : (xs : List Entry) → IsListing entry_cmp (IsListed files display w) xs → (day : ℤ) →
+      (later : List OnDay) × IsListing on_day_cmp (IsLater files display w day) later
   later-than xs l day = let on = days-on day (last_near w) in some-later xs l on.0 day on.1
 
   -- Where a listing begins: at a day, and there behind a key.
@@ -165,9 +177,15 @@ module _ (files : List FileSaid) (display : Clock) (near : (t : ℤ) → IsNear 
     begun-come : (p : OnDay) → IsBegun p ⊎ IsLater files display w day p → IsCome p
     begun-come p (inl b) = (
       b.0.0,
-      begins.behind p (shown-first p b.0.0) ∙ or_right (int_lt day p.day) (int_eq p.day day && is_after key p.entry) (and_both (int_eq p.day day) (is_after key p.entry) (true-equal p.day day b.0.1) b.1),
+      begins.behind p (shown-first p b.0.0)
+          ∙ or_right (int_lt day p.day) (int_eq p.day day && is_after key p.entry)
+          (and_both (int_eq p.day day) (is_after key p.entry) (true-equal p.day day b.0.1) b.1),
     )
-    begun-come p (inr l) = (l.shown, begins.behind p (shown-first p l.shown) ∙ or_left (int_lt day p.day) (int_eq p.day day && is_after key p.entry) (true_int_lt day p.day l.later))
+    begun-come p (inr l) = (
+      l.shown,
+      begins.behind p (shown-first p l.shown)
+          ∙ or_left (int_lt day p.day) (int_eq p.day day && is_after key p.entry) (true_int_lt day p.day l.later),
+    )
 
     come-begun : (p : OnDay) → IsCome p → IsBegun p ⊎ IsLater files display w day p
     come-begun p c =
@@ -176,7 +194,8 @@ module _ (files : List FileSaid) (display : Clock) (near : (t : ℤ) → IsNear 
         (λ t. let parts = and_parts (int_eq p.day day) (is_after key p.entry) t in inl ((c.0, equal-true p.day day parts.0), parts.1))
         (or_cases (int_lt day p.day) (int_eq p.day day && is_after key p.entry) (sym (begins.behind p (shown-first p c.0)) ∙ c.1))
 
-    all-shown : (xs : List Entry) → IsListing entry_cmp (IsListed files display w) xs → (list : List OnDay) × IsListing on_day_cmp (IsOnDay files display w) list
+    all-shown : (xs : List Entry) → IsListing entry_cmp (IsListed files display w) xs →
+        (list : List OnDay) × IsListing on_day_cmp (IsOnDay files display w) list
     all-shown xs l =
         let all = later-than xs l (first_near w -ℤ pos 1) in (
           all.0,
@@ -211,11 +230,13 @@ module _ (files : List FileSaid) (display : Clock) (near : (t : ℤ) → IsNear 
 
 -- What is drawn of the day's: it is skipped, or given.
 module _ (files : List FileSaid) (display : Clock) (w : Window) (day : ℤ) (o : Entry) (coming rest : List Entry) (drawn : coming ≡ o ∷ rest) where
-  pub ahead-skipped : is_today display w day o ≡ false → (list : List OnDay) → IsAheadOf files display w day coming list → IsAheadOf files display w day rest list
+  pub ahead-skipped : is_today display w day o ≡ false → (list : List OnDay) → IsAheadOf files display w day coming list →
+      IsAheadOf files display w day rest list
   ahead-skipped not-today list a = record {
     later = a.later;
     listing = a.listing;
-    is = a.is ∙ ap (λ xs. xs ++ a.later) (ap (today display w day) drawn ∙ ap (λ b. map (on_day day) (cond b (o ∷ filter (λ x. is_today display w day x) rest) (filter (λ x. is_today display w day x) rest))) not-today);
+    is = a.is ∙ ap (λ xs. xs ++ a.later) (ap (today display w day) drawn
+        ∙ ap (λ b. map (on_day day) (cond b (o ∷ filter (λ x. is_today display w day x) rest) (filter (λ x. is_today display w day x) rest))) not-today);
   }
 
   pub ahead-given : is_today display w day o ≡ true → (list : List OnDay) → IsAheadOf files display w day coming list
@@ -223,7 +244,8 @@ module _ (files : List FileSaid) (display : Clock) (w : Window) (day : ℤ) (o :
   ahead-given is-today list a = (
     today display w day rest ++ a.later,
     record { later = a.later; listing = a.listing; is = refl },
-    a.is ∙ ap (λ xs. xs ++ a.later) (ap (today display w day) drawn ∙ ap (λ b. map (on_day day) (cond b (o ∷ filter (λ x. is_today display w day x) rest) (filter (λ x. is_today display w day x) rest))) is-today),
+    a.is ∙ ap (λ xs. xs ++ a.later) (ap (today display w day) drawn
+        ∙ ap (λ b. map (on_day day) (cond b (o ∷ filter (λ x. is_today display w day x) rest) (filter (λ x. is_today display w day x) rest))) is-today),
   )
 
 -- what holds in any case holds on an error

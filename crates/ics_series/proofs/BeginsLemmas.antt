@@ -66,7 +66,8 @@ module _ {A : Type 0} (R : A → A → Ordering) (o : IsTotalOrder R) where
   front-union e xs ys h k = subst (IsBefore R e) (sym (cut-union e xs ys h k)) (before-union e xs (cut R e ys) h k)
 
   -- the same, where e's key may stand at the front of the first list too
-  union-both-by : (e x : A) (xs ys : List A) (c : Ordering) → R e x ≡ c → IsBefore R e (by_order c (x ∷ xs) xs (x ∷ xs)) → Rises R (x ∷ xs) → IsBefore R e (cut R e ys)
+  union-both-by : (e x : A) (xs ys : List A) (c : Ordering) → R e x ≡ c → IsBefore R e (by_order c (x ∷ xs) xs (x ∷ xs)) → Rises R (x ∷ xs) →
+      IsBefore R e (cut R e ys)
       → cut R e (put R x (union R xs ys)) ≡ union R (by_order c (x ∷ xs) xs (x ∷ xs)) (cut R e ys)
   union-both-by e x xs ys Less p h r k = cut-union e (x ∷ xs) ys h k
   union-both-by e x xs ys Equal p h r k =

@@ -31,7 +31,8 @@ module _ {A : Type 0} (R : A → A → Ordering) (o : IsTotalOrder R) where
   greater-behind [] x behind h =
       ap (λ c. cond (is_lt c) (x ∷ greater x behind) (greater x behind)) (tied_itself o x) ∙ keeps-greater x behind h.0
   greater-behind (y ∷ ys) x behind h =
-      let after : R x y ≡ Greater = o.antisymm x y ∙ ap ordering_reverse (before-in R o y x (ys ++ x ∷ behind) h.0 (in-append_right x ys (x ∷ behind) (inl refl))) in
+      let after : R x y ≡ Greater = o.antisymm x y
+      ∙ ap ordering_reverse (before-in R o y x (ys ++ x ∷ behind) h.0 (in-append_right x ys (x ∷ behind) (inl refl))) in
       ap (λ c. cond (is_lt c) (y ∷ greater x (ys ++ x ∷ behind)) (greater x (ys ++ x ∷ behind))) after ∙ greater-behind ys x behind h.1
 
 pub day-listing-behind : (files : List FileSaid) (display : Clock) (w : Window) (front : List OnDay) (p : OnDay) (behind : List OnDay)

@@ -7,7 +7,8 @@ use Rattle.ics_series.specs.declared.window.Window.{Window}
 use Rattle.ics_series.specs.NearDays.{first_near, last_near}
 
 -- the day of some seconds
-pub day-under : (seconds day : ℤ) → day ≡ int_div_euclid seconds (pos 86_400) → ((day *ℤ pos 86_400) ≤ℤ seconds) × (seconds <ℤ (day *ℤ pos 86_400 +ℤ pos 86_400))
+pub day-under : (seconds day : ℤ) → day ≡ int_div_euclid seconds (pos 86_400) →
+    ((day *ℤ pos 86_400) ≤ℤ seconds) × (seconds <ℤ (day *ℤ pos 86_400 +ℤ pos 86_400))
 day-under (pos n) day e = (omega (arith, ints, e), omega (arith, ints, e))
 day-under (negsuc n) day e = (omega (arith, ints, e), omega (arith, ints, e))
 

@@ -116,7 +116,8 @@ abbrev later_in : Clock → Stamp → Length → Local → ℤ
 later_in display start length local = finish (only display) (event_of 0 start length) (At (time_at (record { stamp = start; zone = None }) local))
 
 -- an hour, a week later
-later_hour : later_in utc_clock (Utc (local_at (pos 19_727) 36_000)) (to (Utc (local_at (pos 19_727) 39_600))) (local_at (pos 19_734) 36_000) ≡ pos 1_705_057_200
+later_hour : later_in utc_clock (Utc (local_at (pos 19_727) 36_000)) (to (Utc (local_at (pos 19_727) 39_600))) (local_at (pos 19_734) 36_000)
+    ≡ pos 1_705_057_200
 later_hour = refl
 
 -- three days, from another date
@@ -128,7 +129,8 @@ later_short_day : later_in springing (Floating (local_at (pos 13_575) 43_200)) (
 later_short_day = refl
 
 -- a DTEND is 24 hours off, as it is from DTSTART
-later_exact_day : later_in springing (Floating (local_at (pos 13_575) 43_200)) (to (Floating (local_at (pos 13_576) 43_200))) (local_at (pos 13_582) 43_200) ≡ pos 1_173_632_400
+later_exact_day : later_in springing (Floating (local_at (pos 13_575) 43_200)) (to (Floating (local_at (pos 13_576) 43_200))) (local_at (pos 13_582) 43_200)
+    ≡ pos 1_173_632_400
 later_exact_day = refl
 
 -- Times in the zones of a file: the first is five hours behind UTC, the second springs forward.

@@ -1,6 +1,7 @@
 -- Which starts EXDATEs take out.
 use Rattle.std.specs.Prelude.{◌<ℤ◌, not}
-use Rattle.std.proofs.Common.{◌≡◌, ℕ, ℤ, pos, ◌+ℤ◌, Bool, true, false, ◌||◌, List, [], ◌∷◌, length, get_or, Result, Ok, Err, is_ok, ⊎_elim, refl, sym, ◌∙◌, ap, subst, arith}
+use Rattle.std.proofs.Common.{◌≡◌, ℕ, ℤ, pos, ◌+ℤ◌, Bool, true, false, ◌||◌, List, [], ◌∷◌, length, get_or, Result, Ok, Err, is_ok, ⊎_elim, refl, sym, ◌∙◌, ap}
+use Rattle.std.proofs.Common.{subst, arith}
 use Rattle.std.specs.Cmp.{int_ranks}
 use Rattle.std.specs.List.{list_any}
 use Rattle.std.specs.List.Sorted.{IsBinarySearchResult, IsPermutation, IsSearchInRange, IsSorted}
@@ -33,12 +34,14 @@ less-false a b e = let less : a <ℤ b = subst (λ o. MatchOrdering o (a <ℤ b)
 greater-false : (a b : ℤ) → int_cmp a b ≡ Greater → int_eq a b ≡ false
 greater-false a b e = let more : b <ℤ a = subst (λ o. MatchOrdering o (a <ℤ b) (a ≡ b) (b <ℤ a)) e (int_ranks a b) in grind (arith, ints)
 
-pub found-in : (xs : List ℤ) (x : ℤ) (r : Result ℕ ℕ) → IsSorted int_cmp xs → IsSearchInRange r (length xs) → IsBinarySearchResult (λ y. int_cmp y x) xs r → is_ok r ≡ list_any (λ y. int_eq y x) xs
+pub found-in : (xs : List ℤ) (x : ℤ) (r : Result ℕ ℕ) → IsSorted int_cmp xs → IsSearchInRange r (length xs) → IsBinarySearchResult (λ y. int_cmp y x) xs r →
+    is_ok r ≡ list_any (λ y. int_eq y x) xs
 found-in xs x (Ok i) s b h = sym (list_any_at (λ y. int_eq y x) xs i (pos 0) b (equal-true (get_or xs i (pos 0)) x (h (pos 0))))
 found-in xs x (Err i) s b h =
     let parts = h (searchable_from_sorted int_cmp_total (λ y. y) xs x s) in
     sym (list_any_none (λ y. int_eq y x) xs (λ k d l.
-    ⊎_elim (λ low. less-false (get_or xs k d) x (parts.0 k d (omega arith) low)) (λ high. greater-false (get_or xs k d) x (parts.1 k d high l)) (less_or_not k i)))
+    ⊎_elim (λ low. less-false (get_or xs k d) x (parts.0 k d (omega arith) low)) (λ high. greater-false (get_or xs k d) x (parts.1 k d high l))
+    (less_or_not k i)))
 
 -- One more instant.
 or-false : (a : Bool) → (a || false) ≡ a
@@ -68,27 +71,31 @@ later-false zones w time t early past =
     unequal a b l = grind (arith, ints)
 
 -- the instant of a time takes out the start there, or lies past the window
-pub pushed-instant : (zones : FileZones) (w : Window) (clock : Clock) (instants new days : List ℤ) (time : Time) (t : ℤ) → t <ℤ w.to → new ≡ with_instant (not (is_past w time)) instants (instant (clocks_in zones) time)
+pub pushed-instant : (zones : FileZones) (w : Window) (clock : Clock) (instants new days : List ℤ) (time : Time) (t : ℤ) → t <ℤ w.to →
+    new ≡ with_instant (not (is_past w time)) instants (instant (clocks_in zones) time)
     → takes_out clock new days t ≡ (takes_out clock instants days t || int_eq (instant (clocks_in zones) time) t)
 pushed-instant zones w clock instants new days time t early e =
     ap (λ xs. takes_out clock xs days t) e
     ∙ pushed-by clock instants days (instant (clocks_in zones) time) t (is_past w time) (later-false zones w time t early)
 
-excludes-time : (clocks : Clocks) (first exdate : Time) (s : Stamp) (t : ℤ) → ((day : ℤ) → s ≡ Date day → ⊥) → excludes_time clocks first exdate s t ≡ int_eq (instant clocks exdate) t
+excludes-time : (clocks : Clocks) (first exdate : Time) (s : Stamp) (t : ℤ) → ((day : ℤ) → s ≡ Date day → ⊥) →
+    excludes_time clocks first exdate s t ≡ int_eq (instant clocks exdate) t
 excludes-time clocks first exdate (Date day) t h = absurd (h day refl)
 excludes-time clocks first exdate (Floating local) t h = refl
 excludes-time clocks first exdate (Utc local) t h = refl
 excludes-time clocks first exdate (Zoned local) t h = refl
 
 -- of date-times a time takes out the start at its instant
-pub excludes-instant : (clocks : Clocks) (first exdate : Time) (s : Stamp) (t : ℤ) → ((day : ℤ) → s ≡ Date day → ⊥) → ((day : ℤ) → exdate.stamp ≡ Date day → ⊥) → excludes_by clocks first s exdate t ≡ int_eq (instant clocks exdate) t
+pub excludes-instant : (clocks : Clocks) (first exdate : Time) (s : Stamp) (t : ℤ) → ((day : ℤ) → s ≡ Date day → ⊥) →
+    ((day : ℤ) → exdate.stamp ≡ Date day → ⊥) → excludes_by clocks first s exdate t ≡ int_eq (instant clocks exdate) t
 excludes-instant clocks first exdate (Date day) t h k = absurd (h day refl)
 excludes-instant clocks first exdate (Floating local) t h k = excludes-time clocks first exdate exdate.stamp t k
 excludes-instant clocks first exdate (Utc local) t h k = excludes-time clocks first exdate exdate.stamp t k
 excludes-instant clocks first exdate (Zoned local) t h k = excludes-time clocks first exdate exdate.stamp t k
 
 -- a sort takes nothing out and adds nothing
-pub sorted-takes_out : (clock : Clock) (instants days sorted rising : List ℤ) (t : ℤ) → IsPermutation instants sorted → IsPermutation days rising → takes_out clock sorted rising t ≡ takes_out clock instants days t
+pub sorted-takes_out : (clock : Clock) (instants days sorted rising : List ℤ) (t : ℤ) → IsPermutation instants sorted → IsPermutation days rising →
+    takes_out clock sorted rising t ≡ takes_out clock instants days t
 sorted-takes_out clock instants days sorted rising t p q =
     ap (λ b. b || is_day_in clock rising t) (sym (list_any-IsPermutation (λ x. int_eq x t) instants sorted p))
     ∙ ap (λ b. list_any (λ x. int_eq x t) instants || b) (sym (list_any-IsPermutation _ days rising q))

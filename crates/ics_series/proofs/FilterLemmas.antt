@@ -7,7 +7,8 @@ use Rattle.ics_series.specs.Listing.{IsIn, IsListing}
 use Rattle.ics_series.specs.Rising.{IsBefore, Rises}
 
 module _ {A : Type 0} (test : A → Bool) where
-  filter-in-by : (x y : A) (ys : List A) (b : Bool) → test y ≡ b → (IsIn x (filter test ys) → IsIn x ys × (test x ≡ true)) → IsIn x (cond b (y ∷ filter test ys) (filter test ys)) → IsIn x (y ∷ ys) × (test x ≡ true)
+  filter-in-by : (x y : A) (ys : List A) (b : Bool) → test y ≡ b → (IsIn x (filter test ys) → IsIn x ys × (test x ≡ true)) →
+      IsIn x (cond b (y ∷ filter test ys) (filter test ys)) → IsIn x (y ∷ ys) × (test x ≡ true)
   filter-in-by x y ys true e ih m = ⊎_elim (λ s. (inl s, ap test s ∙ e)) (λ n. let k = ih n in (inr k.0, k.1)) m
   filter-in-by x y ys false e ih m = let k = ih m in (inr k.0, k.1)
 
@@ -15,7 +16,8 @@ module _ {A : Type 0} (test : A → Bool) where
   filter-in x [] m = absurd m
   filter-in x (y ∷ ys) m = filter-in-by x y ys (test y) refl (filter-in x ys) m
 
-  in-filter-by : (x y : A) (ys : List A) (b : Bool) → test y ≡ b → test x ≡ true → (IsIn x ys → IsIn x (filter test ys)) → IsIn x (y ∷ ys) → IsIn x (cond b (y ∷ filter test ys) (filter test ys))
+  in-filter-by : (x y : A) (ys : List A) (b : Bool) → test y ≡ b → test x ≡ true → (IsIn x ys → IsIn x (filter test ys)) → IsIn x (y ∷ ys) →
+      IsIn x (cond b (y ∷ filter test ys) (filter test ys))
   in-filter-by x y ys true e t ih m = ⊎_elim inl (λ n. inr (ih n)) m
   in-filter-by x y ys false e t ih m = ⊎_elim (λ s. let f : false ≡ true = sym e ∙ (ap test (sym s) ∙ t) in absurd cc) ih m
 
@@ -40,7 +42,8 @@ module _ {A : Type 0} (test : A → Bool) where
     rises-filter [] h = tt
     rises-filter (x ∷ xs) h = rises-cond x (filter test xs) (test x) (before-filter x xs h.0) (rises-filter xs h.1)
 
-    pub listing-filter : (P Q : A → Type 0) (xs : List A) → IsListing R P xs → ((x : A) → P x → test x ≡ true → Q x) → ((x : A) → Q x → P x × (test x ≡ true)) → IsListing R Q (filter test xs)
+    pub listing-filter : (P Q : A → Type 0) (xs : List A) → IsListing R P xs → ((x : A) → P x → test x ≡ true → Q x) → ((x : A) → Q x → P x × (test x ≡ true)) →
+        IsListing R Q (filter test xs)
     listing-filter P Q xs l f g = record {
       rises = rises-filter xs l.rises;
       exact = λ x. (

@@ -1,6 +1,7 @@
 -- Of sorted starts the first at each instant.
 use Rattle.std.specs.Prelude.{◌<ℤ◌}
-use Rattle.std.proofs.Common.{◌≡◌, ℕ, ◌<◌, ◌≤◌, ℤ, List, [], ◌∷◌, Bool, true, false, cond, Option, Some, None, ◌⊎◌, inl, inr, ⊎_elim, refl, sym, ◌∙◌, ap, subst, arith}
+use Rattle.std.proofs.Common.{◌≡◌, ℕ, ◌<◌, ◌≤◌, ℤ, List, [], ◌∷◌, Bool, true, false, cond, Option, Some, None, ◌⊎◌, inl, inr, ⊎_elim, refl, sym, ◌∙◌, ap}
+use Rattle.std.proofs.Common.{subst, arith}
 use Rattle.std.specs.Cmp.{IsTotalOrder, int_ranks, ranks}
 use Rattle.std.specs.Fn.{Called}
 use Rattle.std.specs.List.Sorted.{IsPermutation, IsSortedByClosure}
@@ -76,7 +77,8 @@ climbs-moments (x ∷ xs) h = (up-to xs h.0, climbs-moments xs h.1)
     up-to [] k = tt
     up-to (y ∷ ys) k = (up-to-front (moment_cmp x y) (source_cmp x.source y.source) k.0, up-to ys k.1)
 
-before-by : (x y : Start) (zs : List Start) → ((z : Start) → moment_cmp y z ≡ Less → moment_cmp x z ≡ Less) → IsBefore moment_cmp y zs → IsBefore moment_cmp x zs
+before-by : (x y : Start) (zs : List Start) → ((z : Start) → moment_cmp y z ≡ Less → moment_cmp x z ≡ Less) → IsBefore moment_cmp y zs →
+    IsBefore moment_cmp x zs
 before-by x y [] f h = tt
 before-by x y (z ∷ zs) f h = (f z h.0, before-by x y zs f h.1)
 
@@ -84,12 +86,14 @@ before-by x y (z ∷ zs) f h = (f z h.0, before-by x y zs f h.1)
 abbrev RisesAfter : Start → List Start → Type 0
 RisesAfter x zs = IsBefore moment_cmp x zs × Rises moment_cmp zs
 
-rises-step : (x y : Start) (zs : List Start) (b : Bool) → int_eq x.moment y.moment ≡ b → is_gt (moment_cmp x y) ≡ false → RisesAfter y zs → RisesAfter x (cond b zs (y ∷ zs))
+rises-step : (x y : Start) (zs : List Start) (b : Bool) → int_eq x.moment y.moment ≡ b → is_gt (moment_cmp x y) ≡ false → RisesAfter y zs →
+    RisesAfter x (cond b zs (y ∷ zs))
 rises-step x y zs true e g h =
     let same = equal-true x.moment y.moment e in
     (before-by x y zs (λ z l. ap (λ t. int_cmp t z.moment) same ∙ l) h.0, h.1)
 rises-step x y zs false e g h =
-    let less : moment_cmp x y ≡ Less = ⊎_elim (λ same. let t = true-equal x.moment y.moment same in absurd cc) (λ l. l) (int-up-to x.moment y.moment (moment_cmp x y) refl g) in
+    let less : moment_cmp x y ≡ Less = ⊎_elim (λ same. let t = true-equal x.moment y.moment same in
+    absurd cc) (λ l. l) (int-up-to x.moment y.moment (moment_cmp x y) refl g) in
     ((less, before-by x y zs (λ z l. moment_total.trans x y z less l) h.0), h)
 
 rises-after : (x : Start) (xs : List Start) → IsUpTo moment_cmp x xs → Climbs moment_cmp xs → RisesAfter x (firsts_after (Some x.moment) xs)
@@ -130,7 +134,13 @@ in-firsts-by last x s xs true e u ih m =
     (λ n. ⊎_elim (λ f. inl (at ∙ f)) inr (ih n)) m
 in-firsts-by last x s xs false e u ih m =
     ⊎_elim
-    (λ is. inr (record { first = x; stands = inl refl; same = ap (λ t. t.moment) (sym is); earlier = ap (λ t. is_gt (start_cmp x t)) is ∙ ap is_gt (tied_itself start_total x) }))
+    (λ is. inr (record {
+      first = x;
+      stands = inl refl;
+      same = ap (λ t. t.moment) (sym is);
+      earlier = ap (λ t. is_gt (start_cmp x t)) is
+          ∙ ap is_gt (tied_itself start_total x);
+    }))
     (λ n. ⊎_elim
     (λ f. inr (record { first = x; stands = inl refl; same = some-same x.moment s.moment f; earlier = up-to-in start_cmp x s xs u n }))
     (λ h. inr (record { first = h.first; stands = inr h.stands; same = h.same; earlier = h.earlier }))

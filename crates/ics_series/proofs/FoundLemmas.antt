@@ -26,7 +26,8 @@ label_cmp =
 label_total : IsTotalOrder label_cmp
 label_total =
     then_total (on_total (λ l. l.subject) subject_total)
-    (then_total (on_total (λ l. l.sequence) nat_cmp_total) (then_total (on_total (λ l. l.spot.file) nat_cmp_total) (on_total (λ l. l.spot.place) nat_cmp_total)))
+    (then_total (on_total (λ l. l.sequence) nat_cmp_total)
+    (then_total (on_total (λ l. l.spot.file) nat_cmp_total) (on_total (λ l. l.spot.place) nat_cmp_total)))
 
 -- Versions are the same where their subjects tie.
 option-ties : (a b : Option ℤ) → option_eq int_eq a b ≡ is_eq (option_cmp int_cmp a b)
@@ -62,16 +63,19 @@ module _ {A B : Type 0} (f : A → B) (same : B → B → Bool) where
       ap (λ b. cond b (lasts same (map f xs)) (f x ∷ lasts same (map f xs))) (is_followed-map x xs)
       ∙ lasts-map-by x xs (is_followed (on f same) x xs) (lasts-map xs)
 
-pub found : (files : List FileSaid) (display : Clock) (vs ws last : List Version) → map seen vs ≡ map (label_of files display) (placed_in 0 files) → IsPermutation vs ws → IsSorted (on seen label_cmp) ws
+pub found : (files : List FileSaid) (display : Clock) (vs ws last : List Version) → map seen vs ≡ map (label_of files display) (placed_in 0 files) →
+    IsPermutation vs ws → IsSorted (on seen label_cmp) ws
     → map seen last ≡ lasts is_same (map seen ws) → AreChosen files display last
 found files display vs ws last e p s l =
     let moved = followed (label_of files display) (placed_in 0 files) (map seen vs) (map seen ws) e (IsPermutation-map seen vs ws p) in
     let xs = moved.0 in
     let climbs : Climbs (on (label_of files display) label_cmp) xs =
-    climbs-map (label_of files display) label_cmp xs (subst (Climbs label_cmp) (sym moved.2) (map-climbs seen label_cmp ws (climbs-sorted (on seen label_cmp) (on_total seen label_total) ws s))) in
+    climbs-map (label_of files display) label_cmp xs
+    (subst (Climbs label_cmp) (sym moved.2) (map-climbs seen label_cmp ws (climbs-sorted (on seen label_cmp) (on_total seen label_total) ws s))) in
     record {
       chosen = lasts (on (label_of files display) is_same) xs;
-      listing = lasts-chosen files display (on (label_of files display) is_same) (λ a b. same-ties (label_of files display a) (label_of files display b)) xs climbs
+      listing = lasts-chosen files display (on (label_of files display) is_same) (λ a b. same-ties (label_of files display a) (label_of files display b)) xs
+          climbs
           (λ a m. in-placed files a (in-permutation a xs (placed_in 0 files) (IsPermutation-sym (placed_in 0 files) xs moved.1) m))
           (λ a h. in-permutation a (placed_in 0 files) xs moved.1 (placed-in files a h));
       are = l ∙ (ap (lasts is_same) (sym moved.2) ∙ lasts-map (label_of files display) is_same xs);

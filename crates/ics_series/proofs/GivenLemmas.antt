@@ -57,21 +57,26 @@ module _ {A B : Type 0} (f : A → B) where
   map-in x [] m = absurd m
   map-in x (y ∷ ys) m = ⊎_elim (λ e. inl (ap f e)) (λ n. inr (map-in x ys n)) m
 
-pub stands : (files : List FileSaid) (display : Clock) (versions : List Version) (i : ℕ) (d : Version) → AreChosen files display versions → i < length versions → IsSome (event_at files (get_or versions i d).spot)
+pub stands : (files : List FileSaid) (display : Clock) (versions : List Version) (i : ℕ) (d : Version) → AreChosen files display versions →
+    i < length versions → IsSome (event_at files (get_or versions i d).spot)
 stands files display versions i d h l =
     let there : IsIn (get_or versions i d) versions = in-contains (get_or versions i d) versions (Contains-get_or versions i d l) in
-    let p = in-map (label_of files display) (seen (get_or versions i d)) h.chosen (subst (IsIn (seen (get_or versions i d))) h.are (map-in seen (get_or versions i d) versions there)) in
-    let e : event_at files (get_or versions i d).spot ≡ Some p.0.event = ap (λ (l : Label). event_at files l.spot) p.2 ∙ placed-event files p.0 ((h.listing.exact p.0).0 p.1).placed in
+    let p = in-map (label_of files display) (seen (get_or versions i d)) h.chosen
+    (subst (IsIn (seen (get_or versions i d))) h.are (map-in seen (get_or versions i d) versions there)) in
+    let e : event_at files (get_or versions i d).spot ≡ Some p.0.event = ap (λ (l : Label). event_at files l.spot) p.2
+    ∙ placed-event files p.0 ((h.listing.exact p.0).0 p.1).placed in
     subst IsSome (sym e) refl
 
 abbrev sub : Entry → Event → Option Time → SubjectSeen
 sub o e r = record { uid = e.uid; recurrence = option_map (λ time. o.recurrence) r }
 
 -- what a version gives has its subject
-pub given-subject : (clocks : Clocks) (event : Event) (o : Entry) → IsGivenBy clocks event (overridden clocks event) o → subject_from o ≡ subject_by clocks event
+pub given-subject : (clocks : Clocks) (event : Event) (o : Entry) → IsGivenBy clocks event (overridden clocks event) o →
+    subject_from o ≡ subject_by clocks event
 given-subject clocks event o h = by event.recurrence refl h
   where
     by : (r : Option Time) → event.recurrence ≡ r → IsGivenBy clocks event (option_map (instant clocks) r) o
         → subject_from o ≡ record { uid = event.uid; recurrence = option_map (instant clocks) r }
     by None e h = ap (λ (v : Event). sub o v v.recurrence) h.event ∙ ap (sub o event) e
-    by (Some time) e h = ap (λ (v : Event). sub o v v.recurrence) h.0.event ∙ (ap (sub o event) e ∙ ap (λ t. record { uid = event.uid; recurrence = Some t }) h.1)
+    by (Some time) e h = ap (λ (v : Event). sub o v v.recurrence) h.0.event
+        ∙ (ap (sub o event) e ∙ ap (λ t. record { uid = event.uid; recurrence = Some t }) h.1)

@@ -1,6 +1,7 @@
 -- The greatest number of starts that an event has in five days is that of five days, and no five have more.
 use Rattle.std.specs.Prelude.{◌<ℤ◌, ◌≤ℤ◌, int_le, count_by, All}
-use Rattle.std.proofs.Common.{◌≡◌, ℕ, zero, suc, ◌<◌, ◌≤◌, max, ℤ, pos, neg_ℤ, ◌+ℤ◌, ◌-ℤ◌, Bool, true, false, cond, List, [], ◌∷◌, Option, None, Some, ◌⊎◌, inl, inr, ⊎_elim, refl, sym, ◌∙◌, ap, arith}
+use Rattle.std.proofs.Common.{◌≡◌, ℕ, zero, suc, ◌<◌, ◌≤◌, max, ℤ, pos, neg_ℤ, ◌+ℤ◌, ◌-ℤ◌, Bool, true, false, cond, List, [], ◌∷◌, Option, None, Some, ◌⊎◌}
+use Rattle.std.proofs.Common.{inl, inr, ⊎_elim, refl, sym, ◌∙◌, ap, arith}
 use Rattle.std.proofs.lemmas.Int.{ints}
 use Rattle.std.proofs.lemmas.List.Elements.{All-head, All-tail}
 use Rattle.std.proofs.lemmas.List.Sums.{sum_by-cons}
@@ -126,10 +127,12 @@ module _ (zones : FileZones) (day : ℤ) (far : IsFar day) where
 
 near-or-far : (day : ℤ) → ((neg_ℤ (pos 719_534) ≤ℤ day) × (day <ℤ pos 2_932_899)) ⊎ IsFar day
 near-or-far day =
-    ⊎_elim (λ low. inr (inl low)) (λ low. ⊎_elim (λ high. inl (low, high)) (λ high. inr (inr high)) (less_or_not_z day (pos 2_932_899))) (less_or_not_z day (neg_ℤ (pos 719_534)))
+    ⊎_elim (λ low. inr (inl low)) (λ low. ⊎_elim (λ high. inl (low, high)) (λ high. inr (inr high)) (less_or_not_z day (pos 2_932_899)))
+    (less_or_not_z day (neg_ℤ (pos 719_534)))
 
 -- no five days have more than the greatest number
-most-in-any : (zones : FileZones) (event : Event) → IsTime event.start → All IsRdate event.rdates → (day : ℤ) → raw_in (clocks_in zones) event day ≤ most_in_days (clocks_in zones) event
+most-in-any : (zones : FileZones) (event : Event) → IsTime event.start → All IsRdate event.rdates → (day : ℤ) →
+    raw_in (clocks_in zones) event day ≤ most_in_days (clocks_in zones) event
 most-in-any zones event first all day =
     ⊎_elim
     (λ near. days-most (clocks_in zones) event day near.0 near.1)
@@ -138,5 +141,6 @@ most-in-any zones event first all day =
 
 -- so that it is the greatest
 pub most-in-days : (zones : FileZones) (event : Event) → IsTime event.start → All IsRdate event.rdates
-    → ((day : ℤ) → raw_in (clocks_in zones) event day ≤ most_in_days (clocks_in zones) event) × (day : ℤ) × (most_in_days (clocks_in zones) event ≡ raw_in (clocks_in zones) event day)
+    → ((day : ℤ) → raw_in (clocks_in zones) event day ≤ most_in_days (clocks_in zones) event) × (day : ℤ)
+    × (most_in_days (clocks_in zones) event ≡ raw_in (clocks_in zones) event day)
 most-in-days zones event first all = let some = most-of-days (clocks_in zones) event in (most-in-any zones event first all, some.day, some.is)

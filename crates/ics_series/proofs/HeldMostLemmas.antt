@@ -1,7 +1,8 @@
 -- The starts of a rule that are held are no more than the event has in five UTC days.
 use Rattle.std.specs.Prelude.{◌<ℤ◌, ◌≤ℤ◌, ◌==◌, int_le, int_lt, unsigned_abs}
 use Rattle.std.specs.declared.cmp.Ordering.TheVariants.{Less}
-use Rattle.std.proofs.Common.{◌≡◌, ℕ, zero, suc, ◌+◌, ◌<◌, ◌≤◌, ℤ, pos, neg_ℤ, ◌+ℤ◌, ◌-ℤ◌, Bool, true, false, ◌&&◌, not, cond, List, [], ◌∷◌, length, Some, inl, inr, ⊎_elim, refl, sym, ◌∙◌, ap, arith}
+use Rattle.std.proofs.Common.{◌≡◌, ℕ, zero, suc, ◌+◌, ◌<◌, ◌≤◌, ℤ, pos, neg_ℤ, ◌+ℤ◌, ◌-ℤ◌, Bool, true, false, ◌&&◌, not, cond, List, [], ◌∷◌, length, Some}
+use Rattle.std.proofs.Common.{inl, inr, ⊎_elim, refl, sym, ◌∙◌, ap, arith}
 use Rattle.std.proofs.lemmas.Int.{ints}
 use Rattle.ics_rule.specs.Kept.{count, is_kept}
 use Rattle.ics_rule.specs.Recurrence.{Recurrence}
@@ -94,7 +95,8 @@ greatest-most (suc n) k f l =
     ⊎_elim (λ low. omega (arith, greatest-most n k f low)) (λ last. omega (arith, ap f last)) (below-or-last k n l)
 
 -- Five days that hold an instant of a local of the calendar have no more than the greatest number.
-pub days-most : (clocks : Clocks) (event : Event) (day : ℤ) → neg_ℤ (pos 719_534) ≤ℤ day → day <ℤ pos 2_932_899 → raw_in clocks event day ≤ most_in_days clocks event
+pub days-most : (clocks : Clocks) (event : Event) (day : ℤ) → neg_ℤ (pos 719_534) ≤ℤ day → day <ℤ pos 2_932_899 →
+    raw_in clocks event day ≤ most_in_days clocks event
 unfolding most_in_days
 days-most clocks event day low high =
     let k = unsigned_abs (day +ℤ pos 719_534) in
@@ -102,7 +104,8 @@ days-most clocks event day low high =
     let most = greatest-most 3_652_433 k (λ i. raw_in clocks event (pos i -ℤ pos 719_534)) (omega (arith, ints, low, high)) in
     omega (arith, most, ap (raw_in clocks event) is)
 
-rule-most : (clocks : Clocks) (event : Event) (rule : Recurrence) (day : ℤ) → recurrence_of event ≡ Some rule → raw_by_rule clocks event rule day ≤ raw_in clocks event day
+rule-most : (clocks : Clocks) (event : Event) (rule : Recurrence) (day : ℤ) → recurrence_of event ≡ Some rule →
+    raw_by_rule clocks event rule day ≤ raw_in clocks event day
 unfolding raw_in
 rule-most clocks event rule day has = omega (arith, ap (λ o. raw_by clocks event o day) has)
 
@@ -113,7 +116,8 @@ module _ (zones : FileZones) (event : Event) (rule : Recurrence) (w : Window) wh
       (true_int_le (midnight (asked -ℤ pos 3)) t (omega (arith, ints, late)))
       (true_int_lt t (midnight ((asked -ℤ pos 3) +ℤ pos 5)) (omega (arith, ints, early)))
 
-  held-by : (asked : ℤ) (s : Start) → IsHeld (clocks_in zones) event rule w asked s → IsBy (clocks_in zones) event calendar_end (is_raw (clocks_in zones) event rule (asked -ℤ pos 3)) s
+  held-by : (asked : ℤ) (s : Start) → IsHeld (clocks_in zones) event rule w asked s →
+      IsBy (clocks_in zones) event calendar_end (is_raw (clocks_in zones) event rule (asked -ℤ pos 3)) s
   held-by asked s h =
       let n = number_in s.source in
       let t = moment_numbered (clocks_in zones) event (number_in s.source) in

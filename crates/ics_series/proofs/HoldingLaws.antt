@@ -24,7 +24,8 @@ use Rattle.ics_series.specs.Sources.Source.{Of, Once}
 use Rattle.ics_series.specs.FileZones.{clocks_in}
 use Rattle.ics_series.proofs.RuleStepLemmas.{few-held}
 
-rule-few : (zones : FileZones) (event : Event) (w : Window) (first : ℤ) (o : Option RuleStarts) → HasOwnRule zones event w first o → length (rule_held o) ≤ most_in_days (clocks_in zones) event
+rule-few : (zones : FileZones) (event : Event) (w : Window) (first : ℤ) (o : Option RuleStarts) → HasOwnRule zones event w first o →
+    length (rule_held o) ≤ most_in_days (clocks_in zones) event
 rule-few zones event w first None h = omega arith
 rule-few zones event w first (Some s) h =
     subst (λ z. length s.held.items ≤ most_in_days (clocks_in z) event) h.zones_are
@@ -58,7 +59,8 @@ most_of m = 2 + most_in_days m.clocks m.event
 abbrev once : Source → ℕ
 once s = cond (is_once s) 1 0
 
-lead-few : (head : Option Occurrence) (p : Part) → length (listed head (part_holds p)) ≤ sum_by once (part_sources p) + sum_by most_of (recurring (part_sources p))
+lead-few : (head : Option Occurrence) (p : Part) →
+    length (listed head (part_holds p)) ≤ sum_by once (part_sources p) + sum_by most_of (recurring (part_sources p))
 lead-few head (Singles s) = omega (arith, one-drawn head [], sum_by-cons once Once [])
 lead-few head (Series s) =
     let m : Recurring = record { clocks = clocks_in s.value.zones; event = s.value.event.now; window = s.value.window; since = s.value.since } in
@@ -66,7 +68,13 @@ lead-few head (Series s) =
 
 most-masters : (ms : List Recurring) → sum_by (λ x. 2 + most_in_days x.clocks x.event) (map master_of ms) ≡ sum_by most_of ms
 most-masters [] = refl
-most-masters (m ∷ ms) = omega (arith, sum_by-cons (λ (x : Master). 2 + most_in_days x.clocks x.event) (master_of m) (map master_of ms), sum_by-cons most_of m ms, most-masters ms)
+most-masters (m ∷ ms) = omega (
+  arith,
+  sum_by-cons (λ (x : Master). 2 + most_in_days x.clocks x.event) (master_of m) (map master_of ms),
+  sum_by-cons most_of m
+      ms,
+  most-masters ms,
+)
 
 -- Leads, each with what is drawn of its part and the part.
 module _ {X : Type 0} (head : X → Option Occurrence) (part : X → Part) where
@@ -85,7 +93,8 @@ module _ {X : Type 0} (head : X → Option Occurrence) (part : X → Part) where
 
   -- of which one at most is of the events that start once, and one more that was given last
   pub held-with-last : (last : Option Occurrence) (xs : List X) → AreApart (flat_map (λ x. part_sources (part x)) xs)
-      → length (listed last (flat_map (λ x. listed (head x) (part_holds (part x))) xs)) ≤ held_most (map master_of (recurring (flat_map (λ x. part_sources (part x)) xs)))
+      → length (listed last (flat_map (λ x. listed (head x) (part_holds (part x))) xs))
+      ≤ held_most (map master_of (recurring (flat_map (λ x. part_sources (part x)) xs)))
   unfolding held_most
   held-with-last last xs apart =
       omega (

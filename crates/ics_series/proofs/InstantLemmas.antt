@@ -1,6 +1,7 @@
 -- Where instants lie.
 use Rattle.std.specs.Prelude.{slice_get, ◌==◌, ◌||◌}
-use Rattle.std.proofs.Common.{◌≡◌, ℕ, Bool, zero, suc, ◌+◌, ◌*◌, ℤ, pos, neg_ℤ, ◌+ℤ◌, ◌-ℤ◌, ◌<ℤ◌, ◌≤ℤ◌, true, false, List, [], ◌∷◌, map, Option, Some, None, is_some, refl, sym, ◌∙◌, ap, subst, arith}
+use Rattle.std.proofs.Common.{◌≡◌, ℕ, Bool, zero, suc, ◌+◌, ◌*◌, ℤ, pos, neg_ℤ, ◌+ℤ◌, ◌-ℤ◌, ◌<ℤ◌, ◌≤ℤ◌, true, false, List, [], ◌∷◌, map, Option, Some, None}
+use Rattle.std.proofs.Common.{is_some, refl, sym, ◌∙◌, ap, subst, arith}
 use Rattle.std.specs.Int.{int_max}
 use Rattle.std.proofs.lemmas.Int.{int_max_is, ints}
 use Rattle.ics_values.specs.declared.duration.Duration.{Duration}
@@ -47,7 +48,8 @@ near-at [] (Some zone) = near-utc
 near-at (z ∷ zones) (Some zero) = near-zone z
 near-at (z ∷ zones) (Some (suc zone)) = near-at zones (Some zone)
 
-near-by : (display : Display) (zones : List ZoneKind) (index : Option ℕ) (s : Stamp) → IsNearClock (clock_by (clocks_of (display_clock display) (map zone_said zones)) index s)
+near-by : (display : Display) (zones : List ZoneKind) (index : Option ℕ) (s : Stamp) →
+    IsNearClock (clock_by (clocks_of (display_clock display) (map zone_said zones)) index s)
 near-by display zones index (Date day) = near-display display
 near-by display zones index (Floating local) = near-display display
 near-by display zones index (Utc local) = near-utc
@@ -57,7 +59,8 @@ pub near-clock : (zones : FileZones) (index : Option ℕ) (s : Stamp) → IsNear
 near-clock zones = near-by zones.display.now zones.zones.now
 
 -- an instant lies less than two days from what its stamp writes
-near-written : (display : Display) (zones : List ZoneKind) (time : Time) → IsNear (instant (clocks_of (display_clock display) (map zone_said zones)) time -ℤ stamp_seconds time.stamp)
+near-written : (display : Display) (zones : List ZoneKind) (time : Time) →
+    IsNear (instant (clocks_of (display_clock display) (map zone_said zones)) time -ℤ stamp_seconds time.stamp)
 near-written display zones time = (near-by display zones time.zone time.stamp).moment (stamp_seconds time.stamp)
 
 pub instant-near : (zones : FileZones) (time : Time) → IsNear (instant (clocks_in zones) time -ℤ stamp_seconds time.stamp)
@@ -133,7 +136,8 @@ end-within (Utc a) (Zoned b) k z y = let f : true ≡ false = y in absurd cc
 end-within (Zoned a) e k z y = let f : true ≡ false = z in absurd cc
 
 -- the instant that a local means by its index
-zone-moment : (zones : List ZoneSaid) (index : ℕ) (local : Local) → (clock_at (map zone_clock zones) (Some index)).moment (local_seconds local) ≡ moment_by (slice_get zones index) local
+zone-moment : (zones : List ZoneSaid) (index : ℕ) (local : Local) →
+    (clock_at (map zone_clock zones) (Some index)).moment (local_seconds local) ≡ moment_by (slice_get zones index) local
 zone-moment [] index local = refl
 zone-moment (z ∷ zones) zero local = refl
 zone-moment (z ∷ zones) (suc index) local = zone-moment zones index local
@@ -143,7 +147,8 @@ module _ (zones : FileZones) where
   abbrev moment_of-stamp : Option ℕ → Stamp → ℤ
   moment_of-stamp index s = (clock_by (clocks_in zones) index s).moment (stamp_seconds s)
 
-  unzoned-near : (i j : Option ℕ) (s e : Stamp) → IsEnd s e → is_zoned s ≡ false → is_zoned e ≡ false → moment_of-stamp j e ≤ℤ (moment_of-stamp i s +ℤ whole_days 36_529)
+  unzoned-near : (i j : Option ℕ) (s e : Stamp) → IsEnd s e → is_zoned s ≡ false → is_zoned e ≡ false →
+      moment_of-stamp j e ≤ℤ (moment_of-stamp i s +ℤ whole_days 36_529)
   unzoned-near i j s e k z y =
       let within = end-within s e k z y in
       omega (arith, ints, within, (near-clock zones i s).moment (stamp_seconds s), (near-clock zones j e).moment (stamp_seconds e))
@@ -154,8 +159,10 @@ module _ (zones : FileZones) where
   abbrev time_by : Option ℕ → Stamp → Time
   time_by index s = record { stamp = s; zone = index }
 
-  one-zone-near : (i j : Option ℕ) (a b : Local) → IsWithin (stamp_seconds (Zoned a)) (stamp_seconds (Zoned b)) → moment_of-stamp j (Zoned b) ≤ℤ (moment_of-stamp i (Zoned a) +ℤ whole_days 36_529)
-  one-zone-near i j a b within = omega (arith, ints, within.short, (near-clock zones i (Zoned a)).moment (local_seconds a), (near-clock zones j (Zoned b)).moment (local_seconds b))
+  one-zone-near : (i j : Option ℕ) (a b : Local) → IsWithin (stamp_seconds (Zoned a)) (stamp_seconds (Zoned b)) →
+      moment_of-stamp j (Zoned b) ≤ℤ (moment_of-stamp i (Zoned a) +ℤ whole_days 36_529)
+  one-zone-near i j a b within =
+      omega (arith, ints, within.short, (near-clock zones i (Zoned a)).moment (local_seconds a), (near-clock zones j (Zoned b)).moment (local_seconds b))
 
   zoned-near : (one : Bool) (x y : ℕ) (a b : Local) → IsWithin (compared one own (time_by (Some x) (Zoned a))) (compared one own (time_by (Some y) (Zoned b)))
       → moment_of-stamp (Some y) (Zoned b) ≤ℤ (moment_of-stamp (Some x) (Zoned a) +ℤ whole_days 36_529)
@@ -163,7 +170,8 @@ module _ (zones : FileZones) where
   zoned-near false x y a b within = omega (arith, ints, within.short, zone-moment own x a, zone-moment own y b)
 
   stamps-near : (i j : Option ℕ) (s e : Stamp) → is_some i ≡ is_zoned s → is_some j ≡ is_zoned e → IsEnd s e
-      → ((is_some i || is_some j) ≡ true → IsWithin (compared (is_one_zone i j) own (time_by i s)) (compared (is_one_zone i j) own (time_by j e))) → moment_of-stamp j e ≤ℤ (moment_of-stamp i s +ℤ whole_days 36_529)
+      → ((is_some i || is_some j) ≡ true → IsWithin (compared (is_one_zone i j) own (time_by i s)) (compared (is_one_zone i j) own (time_by j e))) →
+      moment_of-stamp j e ≤ℤ (moment_of-stamp i s +ℤ whole_days 36_529)
   stamps-near i j (Date a) (Date b) p q k h = unzoned-near i j (Date a) (Date b) k refl refl
   stamps-near i j (Date a) (Floating b) p q k h = absurd k
   stamps-near i j (Date a) (Utc b) p q k h = absurd k
@@ -187,7 +195,8 @@ module _ (zones : FileZones) where
   stamps-near (Some x) None (Zoned a) (Zoned b) p q k h = let f : false ≡ true = q in absurd cc
   stamps-near None j (Zoned a) (Zoned b) p q k h = let f : false ≡ true = p in absurd cc
 
-  pub ends-near : (first : Time) (length : Length) → IsTime first → IsLength first.stamp length → EndsWithin own first length → EndsNear (clocks_in zones) first length
+  pub ends-near : (first : Time) (length : Length) → IsTime first → IsLength first.stamp length → EndsWithin own first length →
+      EndsNear (clocks_in zones) first length
   ends-near first Open t l h = tt
   ends-near first (Lasting duration) t l h = tt
   ends-near first (Until end) t l h = stamps-near first.zone end.zone first.stamp end.stamp t.zone l.0.zone l.1 h

@@ -22,7 +22,8 @@ module _ (files : List FileEvents) (display : Clock) where
   labels-from clocks file place (v ∷ vs) e =
       (λ i. label_by (e i) (record { file = file; place = place; event = v }) ∷ labels-from clocks file (place + 1) vs e i)
 
-  clocks-there : (number : ℕ) (file : FileEvents) → slice_get files number ≡ Some file → clocks_of display (map zone_said file.zones) ≡ clocks_at said display number
+  clocks-there : (number : ℕ) (file : FileEvents) → slice_get files number ≡ Some file →
+      clocks_of display (map zone_said file.zones) ≡ clocks_at said display number
   clocks-there number file there =
       ap (clocks_of display) (sym (ap zones_of (slice_get-map said_by files number ∙ ap (option_map said_by) there)))
 
@@ -35,10 +36,13 @@ module _ (files : List FileEvents) (display : Clock) where
       let here = map (label_of said display) (placed_from number 0 file.events) in
       let rest = map (label_of said display) (placed_in (number + 1) (map said_by (drop (number + 1) files))) in
       let next : drop number files ≡ file ∷ drop (number + 1) files =
-      drop-cons files number file (slice_get_within files number file there) ∙ (λ i. get_or_from_slice_get files number file file there i ∷ drop (add-one-of number i) files) in
+      drop-cons files number file (slice_get_within files number file there)
+      ∙ (λ i. get_or_from_slice_get files number file file there i ∷ drop (add-one-of number i) files) in
       let placed : map (label_of said display) (placed_in number (map said_by (drop number files))) ≡ here ++ rest =
-      ap (λ fs. map (label_of said display) (placed_in number (map said_by fs))) next ∙ map-append (label_of said display) (placed_from number 0 file.events) (placed_in (number + 1) (map said_by (drop (number + 1) files))) in
-      ap (λ l. l ++ rest) (more ∙ ap (λ l. before ++ l) (labels-from (clocks_of display (map zone_said file.zones)) number 0 file.events (clocks-there number file there)))
+      ap (λ fs. map (label_of said display) (placed_in number (map said_by fs))) next
+      ∙ map-append (label_of said display) (placed_from number 0 file.events) (placed_in (number + 1) (map said_by (drop (number + 1) files))) in
+      ap (λ l. l ++ rest) (more
+      ∙ ap (λ l. before ++ l) (labels-from (clocks_of display (map zone_said file.zones)) number 0 file.events (clocks-there number file there)))
       ∙ (append_assoc before here rest ∙ (ap (λ l. before ++ l) (sym placed) ∙ whole))
     where
       add-one-of : (n : ℕ) → suc n ≡ n + 1

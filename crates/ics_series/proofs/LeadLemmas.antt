@@ -1,6 +1,7 @@
 -- What the merge of the leads' lists begins with, from the lead that goes first.
 use Rattle.std.specs.List.{AllByRecursion}
-use Rattle.std.proofs.Common.{◌≡◌, ℕ, zero, suc, ◌+◌, ◌<◌, ◌≤◌, true, false, ⊎_elim, List, [], ◌∷◌, ◌++◌, length, get_or, set, take, drop, map, sum_by, Option, Some, None, refl, sym, ◌∙◌, ap, subst, arith}
+use Rattle.std.proofs.Common.{◌≡◌, ℕ, zero, suc, ◌+◌, ◌<◌, ◌≤◌, true, false, ⊎_elim, List, [], ◌∷◌, ◌++◌, length, get_or, set, take, drop, map, sum_by, Option}
+use Rattle.std.proofs.Common.{Some, None, refl, sym, ◌∙◌, ap, subst, arith}
 use Rattle.std.specs.Option.{option_map}
 use Rattle.std.specs.Ordering.{is_eq, is_gt, nat_cmp, ordering_then}
 use Rattle.std.specs.declared.cmp.Ordering.{Ordering}
@@ -46,7 +47,8 @@ behind-by e f rest Less p h n = (p, before-trans entry_cmp entry_total e f rest 
 behind-by e f rest Equal p h n = before-tied entry_cmp entry_total e f rest p h
 behind-by e f rest Greater p h n = cc
 
-behind-headed : (e : Entry) (k : Option Entry) (list : List Entry) → IsHeaded k list → is_gt (head_cmp (Some e) k) ≡ false → IsBefore entry_cmp e (cut entry_cmp e list)
+behind-headed : (e : Entry) (k : Option Entry) (list : List Entry) → IsHeaded k list → is_gt (head_cmp (Some e) k) ≡ false →
+    IsBefore entry_cmp e (cut entry_cmp e list)
 behind-headed e None list h n = subst (λ l. IsBefore entry_cmp e (cut entry_cmp e l)) (sym h) tt
 behind-headed e (Some f) list h n =
     subst (λ l. IsBefore entry_cmp e (cut entry_cmp e l)) (sym h.1.0) (behind-by e f h.0 (entry_cmp e f) refl h.1.1 n)
@@ -68,7 +70,8 @@ later : (a b : ℕ) → b < a → nat_cmp a b ≡ Greater
 later a b h = grind (arith, nat_tests)
 
 -- the last given comes before what is not given
-given-before-by : (p e : Entry) (rest : List Entry) (c : Ordering) → entry_cmp p e ≡ c → is_eq c ≡ false → IsBefore entry_cmp p (by_order c (e ∷ rest) rest (e ∷ rest)) → entry_cmp p e ≡ Less
+given-before-by : (p e : Entry) (rest : List Entry) (c : Ordering) → entry_cmp p e ≡ c → is_eq c ≡ false →
+    IsBefore entry_cmp p (by_order c (e ∷ rest) rest (e ∷ rest)) → entry_cmp p e ≡ Less
 given-before-by p e rest Less q n h = q
 given-before-by p e rest Equal q n h = cc
 given-before-by p e rest Greater q n h = h.0
@@ -112,13 +115,15 @@ module _ {X : Type 0} (head : X → Option Occurrence) (rest : X → List Entry)
         within i l =
             nothing-after (get_or (map (λ x. option_map entry_of (head x)) xs) i None)
             (subst (λ h. is_gt (head_cmp h (get_or (map (λ x. option_map entry_of (head x)) xs) i None)) ≡ false) e
-            (up-to-front (head_cmp (get_or (map (λ x. option_map entry_of (head x)) xs) first None) (get_or (map (λ x. option_map entry_of (head x)) xs) i None)) (nat_cmp first i) (wins i l)))
+            (up-to-front (head_cmp (get_or (map (λ x. option_map entry_of (head x)) xs) first None)
+            (get_or (map (λ x. option_map entry_of (head x)) xs) i None)) (nat_cmp first i) (wins i l)))
 
         past_end : (i : ℕ) → length xs ≤ i → get_or (map (λ x. option_map entry_of (head x)) xs) i None ≡ None
         past_end i l = get_or_past (map (λ x. option_map entry_of (head x)) xs) i None (omega (arith, length-map xs (λ x. option_map entry_of (head x))))
 
     -- the list of a lead, or none past the leads
-    at_lead : (i : ℕ) (P : List Entry → Type 0) → P [] → (i < length xs → P (get_or (map (λ x. listed (head x) (rest x)) xs) i [])) → P (get_or (map (λ x. listed (head x) (rest x)) xs) i [])
+    at_lead : (i : ℕ) (P : List Entry → Type 0) → P [] → (i < length xs → P (get_or (map (λ x. listed (head x) (rest x)) xs) i [])) →
+        P (get_or (map (λ x. listed (head x) (rest x)) xs) i [])
     at_lead i P none some =
         ⊎_elim some
         (λ l. subst P (sym (get_or_past (map (λ x. listed (head x) (rest x)) xs) i [] (omega (arith, length-map xs (λ x. listed (head x) (rest x)))))) none)
@@ -147,9 +152,11 @@ module _ {X : Type 0} (head : X → Option Occurrence) (rest : X → List Entry)
         let lists : List (List Entry) = map (λ x. listed (head x) (rest x)) xs in
         let found : IsHeaded (Some e) (get_or lists first []) = subst (λ h. IsHeaded h (get_or lists first [])) is (headed xs first) in
         given-before-by (entry_of p) e found.0 (entry_cmp (entry_of p) e) refl fresh
-        (subst (λ l. IsBefore entry_cmp (entry_of p) (cut entry_cmp (entry_of p) l)) found.1.0 (front-at entry_cmp entry_total (entry_of p) lists first follows))
+        (subst (λ l. IsBefore entry_cmp (entry_of p) (cut entry_cmp (entry_of p) l)) found.1.0
+        (front-at entry_cmp entry_total (entry_of p) lists first follows))
 
-    uncut-fresh : ((x : X) → Rises entry_cmp (rest x)) → (last : Option Occurrence) (e : Entry) → get_or (map (λ x. option_map entry_of (head x)) xs) first None ≡ Some e
+    uncut-fresh : ((x : X) → Rises entry_cmp (rest x)) → (last : Option Occurrence) (e : Entry) →
+        get_or (map (λ x. option_map entry_of (head x)) xs) first None ≡ Some e
         → is_given last (Some e) ≡ false → ComeAfter last (map (λ x. past last (listed (head x) (rest x))) xs)
         → map (λ x. past last (listed (head x) (rest x))) xs ≡ map (λ x. listed (head x) (rest x)) xs
     uncut-fresh rises None e is fresh follows = refl
@@ -172,16 +179,21 @@ module _ {X : Type 0} (head : X → Option Occurrence) (rest : X → List Entry)
         → get_or (map (λ x. option_map entry_of (head x)) xs) first None ≡ Some (entry_of o)
         → is_given last (get_or (map (λ x. option_map entry_of (head x)) xs) first None) ≡ false
         → ComeAfter last (map (λ x. past last (listed (head x) (rest x))) xs)
-        → (merged entry_cmp (map (λ x. past last (listed (head x) (rest x))) xs) ≡ entry_of o ∷ merged entry_cmp (map (λ x. past (Some o) (listed (head x) (rest x))) xs))
+        → (merged entry_cmp (map (λ x. past last (listed (head x) (rest x))) xs) ≡ entry_of o
+        ∷ merged entry_cmp (map (λ x. past (Some o) (listed (head x) (rest x))) xs))
         × ComeAfter (Some o) (map (λ x. past (Some o) (listed (head x) (rest x))) xs)
     first-comes rises last o is fresh follows =
         let same = uncut-first rises last o is fresh follows in
         let b = begins-first rises (entry_of o) is in
-        let one = map-map (cut entry_cmp (entry_of o)) (λ x. listed (head x) (rest x)) xs in
-        (ap (merged entry_cmp) same ∙ (b.is ∙ ap (λ ls. entry_of o ∷ merged entry_cmp ls) one), subst (AllByRecursion (IsBefore entry_cmp (entry_of o))) one b.fronts)
+        let one = map-map (cut entry_cmp (entry_of o)) (λ x. listed (head x) (rest x)) xs in (
+          ap (merged entry_cmp) same ∙ (b.is ∙ ap (λ ls. entry_of o ∷ merged entry_cmp ls) one),
+          subst (AllByRecursion (IsBefore entry_cmp (entry_of o))) one
+              b.fronts,
+        )
 
 -- drawing what is given leaves what is still to come
-pub past-drawn : (last head : Option Occurrence) (rest : List Entry) → IsAhead head rest → is_given last (option_map entry_of head) ≡ true → past last rest ≡ past last (listed head rest)
+pub past-drawn : (last head : Option Occurrence) (rest : List Entry) → IsAhead head rest → is_given last (option_map entry_of head) ≡ true →
+    past last rest ≡ past last (listed head rest)
 past-drawn None head rest a g = cc
 past-drawn (Some p) None rest a g = cc
 past-drawn (Some p) (Some o) rest a g =
@@ -190,7 +202,8 @@ past-drawn (Some p) (Some o) rest a g =
     ∙ sym (ap (λ c. by_order c (entry_of o ∷ rest) rest (entry_of o ∷ rest)) tied)
 
 -- and shortens the list
-pub shorter-drawn : (last head : Option Occurrence) (rest : List Entry) → is_given last (option_map entry_of head) ≡ true → length rest < length (listed head rest)
+pub shorter-drawn : (last head : Option Occurrence) (rest : List Entry) → is_given last (option_map entry_of head) ≡ true →
+    length rest < length (listed head rest)
 shorter-drawn None head rest g = cc
 shorter-drawn (Some p) None rest g = cc
 shorter-drawn (Some p) (Some o) rest g = omega arith
@@ -202,7 +215,8 @@ pub wins-leads : {X : Type 0} (head : X → Option Occurrence) (xs : List X) (wi
 wins-leads head xs winners long settled lead l = wins (map (λ x. option_map entry_of (head x)) xs) winners settled lead (omega arith)
 
 -- what a vector has after its elements were lent as a slice of the same length
-pub written-back : {X : Type 0} (before after : List X) (n : ℕ) → n ≡ length before → length after ≡ length before → take n (after ++ drop (length after) before) ≡ after
+pub written-back : {X : Type 0} (before after : List X) (n : ℕ) → n ≡ length before → length after ≡ length before →
+    take n (after ++ drop (length after) before) ≡ after
 written-back before after n h k = ap (λ j. take j (after ++ drop (length after) before)) (h ∙ sym k) ∙ take-append_seam after (drop (length after) before)
 
 -- a lead that holds what was given is one of the leads
@@ -228,7 +242,8 @@ module _ {X : Type 0} (head : X → Option Occurrence) (rest : X → List Entry)
   pub given-read : (last : Option Occurrence) (first : ℕ) → lead ≡ first → is_given last (get_or (map (λ x. option_map entry_of (head x)) xs) first None) ≡ true
       → (lead < length xs) × (is_given last (option_map entry_of (head old)) ≡ true)
   given-read last first is g =
-      let within : lead < length xs = omega (arith, given-within last (map (λ x. option_map entry_of (head x)) xs) first g, length-map xs (λ x. option_map entry_of (head x))) in (
+      let within : lead < length xs =
+      omega (arith, given-within last (map (λ x. option_map entry_of (head x)) xs) first g, length-map xs (λ x. option_map entry_of (head x))) in (
         within,
         subst (λ h. is_given last h ≡ true)
             (ap (λ i. get_or (map (λ x. option_map entry_of (head x)) xs) i None) (sym is)
@@ -250,7 +265,8 @@ module _ {X : Type 0} (head : X → Option Occurrence) (rest : X → List Entry)
   -- where the first lead has drawn, which held what was given
   module _ (drawn : listed (head new) (rest new) ≡ rest old) (last : Option Occurrence) (first : ℕ) (is : lead ≡ first)
       (given : is_given last (get_or (map (λ x. option_map entry_of (head x)) xs) first None) ≡ true) where
-    pub to_come-drawn : IsAhead (head old) (rest old) → map (λ x. past last (listed (head x) (rest x))) (set xs lead new) ≡ map (λ x. past last (listed (head x) (rest x))) xs
+    pub to_come-drawn : IsAhead (head old) (rest old) → map (λ x. past last (listed (head x) (rest x))) (set xs lead new)
+        ≡ map (λ x. past last (listed (head x) (rest x))) xs
     to_come-drawn ahead = to_come-set last (ap (past last) drawn ∙ past-drawn last (head old) (rest old) ahead (given-read last first is given).1)
 
     pub fewer-drawn : sum_by (λ x. length (listed (head x) (rest x))) (set xs lead new) < sum_by (λ x. length (listed (head x) (rest x))) xs

@@ -27,7 +27,8 @@ all-pushed P [] x h p = (p, tt)
 all-pushed P (y ∷ ys) x h p = (h.0, all-pushed P ys x h.1 p)
 
 -- what each of a list gives, where one is set that gives the same as the old one
-pub flat-set : {X Y : Type 0} (f : X → List Y) (xs : List X) (i : ℕ) (old new : X) → old ≡ get_or xs i old → f new ≡ f old → flat_map f (set xs i new) ≡ flat_map f xs
+pub flat-set : {X Y : Type 0} (f : X → List Y) (xs : List X) (i : ℕ) (old new : X) → old ≡ get_or xs i old → f new ≡ f old →
+    flat_map f (set xs i new) ≡ flat_map f xs
 flat-set f [] i old new read e = refl
 flat-set f (x ∷ xs) zero old new read e = ap (λ ys. ys ++ flat_map f xs) (e ∙ ap f read)
 flat-set f (x ∷ xs) (suc i) old new read e = ap (λ ys. f x ++ ys) (flat-set f xs i old new read e)
@@ -50,7 +51,8 @@ before-merged p [] h = tt
 before-merged p (x ∷ xs) h = before-union entry_cmp entry_total p x (merged entry_cmp xs) h.0 (before-merged p xs h.1)
 
 -- what is still to come of a merge is not cut off a list
-uncut-in : (last : Option Occurrence) (lists : List (List Entry)) (o : Entry) (list : List Entry) → ComeAfter last lists → IsIn o (merged entry_cmp lists) → IsIn o list → IsIn o (past last list)
+uncut-in : (last : Option Occurrence) (lists : List (List Entry)) (o : Entry) (list : List Entry) → ComeAfter last lists → IsIn o (merged entry_cmp lists) →
+    IsIn o list → IsIn o (past last list)
 uncut-in None lists o list follows there m = m
 uncut-in (Some p) lists o list follows there m =
     let less = before-in entry_cmp entry_total (entry_of p) o (merged entry_cmp lists) (before-merged (entry_of p) lists follows) there in
@@ -65,42 +67,54 @@ module _ {X : Type 0} (head : X → Option Occurrence) (rest : X → List Entry)
   IsLeadNear last x = AreNear (N x) (past last (listed (head x) (rest x)))
 
   -- where one of them has drawn what was given, or could not
-  pub near-drawn : (last : Option Occurrence) (xs : List X) (i : ℕ) (old new : X) → listed (head new) (rest new) ≡ rest old → AreNear (N new) (rest old) → AllByRecursion (IsLeadNear last) xs
+  pub near-drawn : (last : Option Occurrence) (xs : List X) (i : ℕ) (old new : X) → listed (head new) (rest new) ≡ rest old → AreNear (N new) (rest old) →
+      AllByRecursion (IsLeadNear last) xs
       → AllByRecursion (IsLeadNear last) (set xs i new)
   near-drawn last xs i old new drawn near all =
       all-set (IsLeadNear last) xs i new all (λ o m. near o (past-in last o (rest old) (subst (λ l. IsIn o (past last l)) drawn m)))
 
-  pub near-kept : (last : Option Occurrence) (xs : List X) (i : ℕ) (old new : X) → head new ≡ head old → rest new ≡ rest old → IsAhead (head old) (rest old) → is_given last (option_map entry_of (head old)) ≡ true
+  pub near-kept : (last : Option Occurrence) (xs : List X) (i : ℕ) (old new : X) → head new ≡ head old → rest new ≡ rest old → IsAhead (head old) (rest old) →
+      is_given last (option_map entry_of (head old)) ≡ true
       → AreNear (N new) (rest old) → AllByRecursion (IsLeadNear last) xs → AllByRecursion (IsLeadNear last) (set xs i new)
   near-kept last xs i old new same left ahead given near all =
       let is : past last (listed (head new) (rest new)) ≡ past last (rest old) =
-      ap (λ h. past last (listed h (rest new))) same ∙ (ap (λ l. past last (listed (head old) l)) left ∙ sym (past-drawn last (head old) (rest old) ahead given)) in
+      ap (λ h. past last (listed h (rest new))) same
+      ∙ (ap (λ l. past last (listed (head old) l)) left ∙ sym (past-drawn last (head old) (rest old) ahead given)) in
       all-set (IsLeadNear last) xs i new all (λ o m. near o (past-in last o (rest old) (subst (IsIn o) is m)))
 
   same-head : {A : Type 0} (a b : A) (xs ys : List A) → a ∷ xs ≡ b ∷ ys → (a ≡ b) × (xs ≡ ys)
   same-head a b xs ys e = (cc, cc)
 
   -- where nothing of their lists was given
-  pub near-whole : (last : Option Occurrence) (xs : List X) → map (λ x. past last (listed (head x) (rest x))) xs ≡ map (λ x. listed (head x) (rest x)) xs → AllByRecursion (IsLeadNear last) xs
+  pub near-whole : (last : Option Occurrence) (xs : List X) → map (λ x. past last (listed (head x) (rest x))) xs ≡ map (λ x. listed (head x) (rest x)) xs →
+      AllByRecursion (IsLeadNear last) xs
       → AllByRecursion (λ x. AreNear (N x) (listed (head x) (rest x))) xs
   near-whole last [] e h = tt
   near-whole last (x ∷ xs) e h =
-      let both = same-head (past last (listed (head x) (rest x))) (listed (head x) (rest x)) (map (λ y. past last (listed (head y) (rest y))) xs) (map (λ y. listed (head y) (rest y)) xs) e in
+      let both = same-head (past last (listed (head x) (rest x))) (listed (head x) (rest x)) (map (λ y. past last (listed (head y) (rest y))) xs)
+      (map (λ y. listed (head y) (rest y)) xs) e in
       (λ o m. h.0 o (subst (IsIn o) (sym both.0) m), near-whole last xs both.1 h.1)
 
-  pub near-past : (last : Option Occurrence) (xs : List X) → AllByRecursion (λ x. AreNear (N x) (listed (head x) (rest x))) xs → AllByRecursion (IsLeadNear last) xs
+  pub near-past : (last : Option Occurrence) (xs : List X) → AllByRecursion (λ x. AreNear (N x) (listed (head x) (rest x))) xs →
+      AllByRecursion (IsLeadNear last) xs
   near-past last [] h = tt
   near-past last (x ∷ xs) h = (λ o m. h.0 o (past-in last o (listed (head x) (rest x)) m), near-past last xs h.1)
 
-  pub near-each : (o : Entry) (xs : List X) → AllByRecursion (λ x. AreNear (N x) (listed (head x) (rest x))) xs → AllByRecursion (λ x. HasNear (N x) (listed (head x) (rest x)) o) xs
+  pub near-each : (o : Entry) (xs : List X) → AllByRecursion (λ x. AreNear (N x) (listed (head x) (rest x))) xs →
+      AllByRecursion (λ x. HasNear (N x) (listed (head x) (rest x)) o) xs
   near-each o [] h = tt
   near-each o (x ∷ xs) h = (h.0 o, near-each o xs h.1)
 
   -- where it is still to come of the merge
-  pub near-to_come : (last : Option Occurrence) (o : Entry) (xs : List X) → ComeAfter last (map (λ x. past last (listed (head x) (rest x))) xs) → IsIn o (merged entry_cmp (map (λ x. past last (listed (head x) (rest x))) xs))
+  pub near-to_come : (last : Option Occurrence) (o : Entry) (xs : List X) → ComeAfter last (map (λ x. past last (listed (head x) (rest x))) xs) →
+      IsIn o (merged entry_cmp (map (λ x. past last (listed (head x) (rest x))) xs))
       → AllByRecursion (IsLeadNear last) xs → AllByRecursion (λ x. HasNear (N x) (listed (head x) (rest x)) o) xs
   near-to_come last o xs follows there = each xs
     where
       each : (ys : List X) → AllByRecursion (IsLeadNear last) ys → AllByRecursion (λ x. HasNear (N x) (listed (head x) (rest x)) o) ys
       each [] h = tt
-      each (y ∷ ys) h = (λ m. h.0 o (uncut-in last (map (λ x. past last (listed (head x) (rest x))) xs) o (listed (head y) (rest y)) follows there m), each ys h.1)
+      each (y ∷ ys) h = (
+        λ m. h.0 o (uncut-in last (map (λ x. past last (listed (head x) (rest x))) xs) o (listed (head y) (rest y)) follows there m),
+        each ys
+            h.1,
+      )

@@ -43,22 +43,26 @@ module _ {A : Type 0} (R : A → A → Ordering) (o : IsTotalOrder R) where
       put-front R o s s (union R xs ys) (tied_itself o s) (front-union R o s xs ys r.0 h)
       ∙ ap (λ zs. s ∷ zs) (cut-union R o s xs ys r.0 h ∙ ap (λ zs. union R zs (cut R s ys)) (sym (cut-own s xs)))
 
-  pub begins-second : (s x : A) (xs ys : List A) → Rises R (x ∷ xs) → R s x ≡ Less → union R (x ∷ xs) (s ∷ ys) ≡ s ∷ union R (cut R s (x ∷ xs)) (cut R s (s ∷ ys))
+  pub begins-second : (s x : A) (xs ys : List A) → Rises R (x ∷ xs) → R s x ≡ Less →
+      union R (x ∷ xs) (s ∷ ys) ≡ s ∷ union R (cut R s (x ∷ xs)) (cut R s (s ∷ ys))
   begins-second s x xs ys r l =
       let before : IsBefore R s (x ∷ xs) = (l, before-trans R o s x xs l r.0) in
       union-front R o s (x ∷ xs) ys before
       ∙ ap (λ zs. s ∷ zs) (ap (λ zs. union R zs ys) (sym (cut-before R o s (x ∷ xs) before)) ∙ ap (union R (cut R s (x ∷ xs))) (sym (cut-own s ys)))
 
   -- what is not after the first of a rising list comes before all of it but for one of its key
-  pub not-after-front : (x y : A) (ys : List A) (c : Ordering) → R x y ≡ c → (c ≡ Greater → ⊥) → Rises R (y ∷ ys) → IsBefore R x (by_order c (y ∷ ys) ys (y ∷ ys))
+  pub not-after-front : (x y : A) (ys : List A) (c : Ordering) → R x y ≡ c → (c ≡ Greater → ⊥) → Rises R (y ∷ ys) →
+      IsBefore R x (by_order c (y ∷ ys) ys (y ∷ ys))
   not-after-front x y ys Less e n r = (e, before-trans R o x y ys e r.0)
   not-after-front x y ys Equal e n r = before-tied R o x y ys e r.0
   not-after-front x y ys Greater e n r = absurd (n refl)
 
 -- Of the first of both kinds the earlier one is taken.
-taken-some : (s : Start) (xs ys : List Start) → union moment_cmp xs ys ≡ s ∷ union moment_cmp (cut moment_cmp s xs) (cut moment_cmp s ys) → (t : Start) → Some s ≡ Some t
+taken-some : (s : Start) (xs ys : List Start) → union moment_cmp xs ys ≡ s ∷ union moment_cmp (cut moment_cmp s xs) (cut moment_cmp s ys) → (t : Start) →
+    Some s ≡ Some t
     → union moment_cmp xs ys ≡ t ∷ union moment_cmp (cut moment_cmp t xs) (cut moment_cmp t ys)
-taken-some s xs ys h t e = let same : s ≡ t = some-same s t e in subst (λ u. union moment_cmp xs ys ≡ u ∷ union moment_cmp (cut moment_cmp u xs) (cut moment_cmp u ys)) same h
+taken-some s xs ys h t e = let same : s ≡ t = some-same s t e in
+    subst (λ u. union moment_cmp xs ys ≡ u ∷ union moment_cmp (cut moment_cmp u xs) (cut moment_cmp u ys)) same h
 
 less-by : (a b : Start) → int_lt b.moment a.moment ≡ true → moment_cmp b a ≡ Less
 less-by a b e = less-start b a (int_lt_true b.moment a.moment e)
@@ -82,7 +86,8 @@ first-taken (x ∷ xs) (y ∷ ys) s r k e = by (int_lt y.moment x.moment) refl e
     by true t e = taken-some y (x ∷ xs) (y ∷ ys) (begins-second moment_cmp moment_total y x xs ys r (less-by x y t)) s e
     by false f e =
         taken-some x (x ∷ xs) (y ∷ ys)
-        (begins-first moment_cmp moment_total x xs (y ∷ ys) r (not-after-front moment_cmp moment_total x y ys (moment_cmp x y) refl (not-greater-by x y f) k)) s e
+        (begins-first moment_cmp moment_total x xs (y ∷ ys) r (not-after-front moment_cmp moment_total x y ys (moment_cmp x y) refl (not-greater-by x y f) k)) s
+        e
 
 pub none-taken : (xs ys : List Start) → earlier_of (slice_get xs 0) (slice_get ys 0) ≡ None → union moment_cmp xs ys ≡ []
 none-taken [] [] e = refl
@@ -95,16 +100,23 @@ none-taken (x ∷ xs) (y ∷ ys) e = by (int_lt y.moment x.moment) e
     by false e = let f : Some x ≡ None = e in absurd cc
 
 -- Which lists have a start at an instant by a source or an earlier one.
-pub put-has : (x : Start) (ys : List Start) (source : StartSource) (t : ℤ) → IsNotAfter x.source source → HasStart ys source t → HasStart (put moment_cmp x ys) source t
+pub put-has : (x : Start) (ys : List Start) (source : StartSource) (t : ℤ) → IsNotAfter x.source source → HasStart ys source t →
+    HasStart (put moment_cmp x ys) source t
 put-has x ys source t early h =
     ⊎_elim
     (λ m. record { start = h.start; stands = m; same = h.same; earlier = h.earlier })
     (λ tied. record { start = x; stands = itself-put moment_cmp moment_total x ys; same = tied-moment x h.start tied ∙ h.same; earlier = early })
     (member-put moment_cmp moment_total h.start x ys h.stands)
 
-pub union-has : (xs ys : List Start) (source : StartSource) (t : ℤ) → ((x : Start) → IsIn x xs → IsNotAfter x.source source) → HasStart ys source t → HasStart (union moment_cmp xs ys) source t
+pub union-has : (xs ys : List Start) (source : StartSource) (t : ℤ) → ((x : Start) → IsIn x xs → IsNotAfter x.source source) → HasStart ys source t →
+    HasStart (union moment_cmp xs ys) source t
 union-has [] ys source t early h = h
 union-has (x ∷ xs) ys source t early h = put-has x (union moment_cmp xs ys) source t (early x (inl refl)) (union-has xs ys source t (λ y m. early y (inr m)) h)
 
 pub has-union : (xs ys : List Start) (source : StartSource) (t : ℤ) → Rises moment_cmp xs → HasStart xs source t → HasStart (union moment_cmp xs ys) source t
-has-union xs ys source t r h = record { start = h.start; stands = in-union moment_cmp moment_total h.start xs ys r (inl h.stands); same = h.same; earlier = h.earlier }
+has-union xs ys source t r h = record {
+  start = h.start;
+  stands = in-union moment_cmp moment_total h.start xs ys r (inl h.stands);
+  same = h.same;
+  earlier = h.earlier;
+}

@@ -39,7 +39,8 @@ module _ (clocks : Clocks) (w : Window) (first : Time) where
       ⊎_elim
       (λ e. record { index = 0; rdate = r; stands = refl; is = e ∙ ap (λ n. start_by clocks (Listed n) (given_by first r)) (omega arith) })
       (λ n. behind place r rdates s (listed-in (place + 1) rdates s n))
-      (in-front (not (is_past w (time_of (given_by first r)))) s (start_by clocks (Listed place) (given_by first r)) (listed_from clocks w first (place + 1) rdates) m)
+      (in-front (not (is_past w (time_of (given_by first r)))) s (start_by clocks (Listed place) (given_by first r))
+      (listed_from clocks w first (place + 1) rdates) m)
 
   front-in : (b : Bool) (x : Start) (xs : List Start) → b ≡ true → IsIn x (with_front b x xs)
   front-in true x xs e = inl refl
@@ -59,10 +60,12 @@ module _ (clocks : Clocks) (w : Window) (first : Time) where
       let is : start_by clocks (Listed (place + 0)) (given_by first r) ≡ start_by clocks (Listed place) (given_by first q) =
       ap (λ n. start_by clocks (Listed n) (given_by first r)) (omega arith) ∙ ap (λ x. start_by clocks (Listed place) (given_by first x)) (sym same) in
       subst (λ s. IsIn s (listed_from clocks w first place (q ∷ rdates))) (sym is)
-      (front-in (not (is_past w (time_of (given_by first q)))) (start_by clocks (Listed place) (given_by first q)) (listed_from clocks w first (place + 1) rdates) wanted)
+      (front-in (not (is_past w (time_of (given_by first q)))) (start_by clocks (Listed place) (given_by first q))
+      (listed_from clocks w first (place + 1) rdates) wanted)
   in-listed place (suc k) (q ∷ rdates) r e p =
       subst (λ n. IsIn (start_by clocks (Listed n) (given_by first r)) (listed_from clocks w first place (q ∷ rdates))) (moved place k)
-      (rest-in (not (is_past w (time_of (given_by first q)))) (start_by clocks (Listed (place + 1 + k)) (given_by first r)) (start_by clocks (Listed place) (given_by first q))
+      (rest-in (not (is_past w (time_of (given_by first q)))) (start_by clocks (Listed (place + 1 + k)) (given_by first r))
+      (start_by clocks (Listed place) (given_by first q))
       (listed_from clocks w first (place + 1) rdates) (in-listed (place + 1) k rdates r e p))
     where
       moved : (a b : ℕ) → (a + 1) + b ≡ a + suc b

@@ -16,7 +16,8 @@ use Rattle.ics_series.specs.PlacedEvents.{Placed, IsPlaced, placed_cmp}
 use Rattle.ics_series.proofs.Cases.{some-same}
 
 pub placed_total : IsTotalOrder placed_cmp
-placed_total = then_total (on_total (λ p. p.event.sequence) nat_cmp_total) (then_total (on_total (λ p. p.file) nat_cmp_total) (on_total (λ p. p.place) nat_cmp_total))
+placed_total = then_total (on_total (λ p. p.event.sequence) nat_cmp_total)
+    (then_total (on_total (λ p. p.file) nat_cmp_total) (on_total (λ p. p.place) nat_cmp_total))
 
 -- of two of which neither is less, the places are the same
 pub tied-by : (p q : Placed) (c : Ordering) → placed_cmp p q ≡ c → (placed_cmp p q ≡ Less → ⊥) → (placed_cmp q p ≡ Less → ⊥) → placed_cmp p q ≡ Equal
@@ -51,7 +52,8 @@ same-placed files p q h k e =
     ap (λ f. make f p.place p.event) places.0 ∙ (ap (λ n. make q.file n p.event) places.1 ∙ ap (make q.file q.place) event)
 
 -- of a subject one version counts
-pub one-chosen : (files : List FileSaid) (display : Clock) (p q : Placed) → IsChosen files display p → IsChosen files display q → subject_of files display p ≡ subject_of files display q → p ≡ q
+pub one-chosen : (files : List FileSaid) (display : Clock) (p q : Placed) → IsChosen files display p → IsChosen files display q →
+    subject_of files display p ≡ subject_of files display q → p ≡ q
 one-chosen files display p q h k u =
     same-placed files p q h.placed k.placed
     (tied-by p q (placed_cmp p q) refl (h.greatest q k.placed (sym u)) (k.greatest p h.placed u))

@@ -29,7 +29,11 @@ record Rest {A : Type 0} (f : A → ℕ) (x : A) (xs : List A) : Type 0 where
 
 without : {A : Type 0} (f : A → ℕ) (x : A) (xs : List A) → IsIn x xs → Rest f x xs
 without f x [] m = absurd m
-without f x (y ∷ ys) (inl e) = record { rest = ys; sum = sum_by-cons f y ys ∙ ap (λ z. f z + sum_by f ys) (sym e); others = λ z m. ⊎_elim (λ s. inl (s ∙ sym e)) inr m }
+without f x (y ∷ ys) (inl e) = record {
+  rest = ys;
+  sum = sum_by-cons f y ys ∙ ap (λ z. f z + sum_by f ys) (sym e);
+  others = λ z m. ⊎_elim (λ s. inl (s ∙ sym e)) inr m;
+}
 without f x (y ∷ ys) (inr m) =
     let w = without f x ys m in
     record {
@@ -140,7 +144,8 @@ searched-masters s day n after near from (m ∷ ms) h = (
   searched-masters s day n after near from ms h.1,
 )
 
-pub most-of-masters : (files : List FileSaid) (display : Clock) (w : Window) (after : Option Rank) (sources : List Source) (masters : List Placed) → AreSources files display w after sources → IsListing (by_subject files display) (IsMaster files display) masters
+pub most-of-masters : (files : List FileSaid) (display : Clock) (w : Window) (after : Option Rank) (sources : List Source) (masters : List Placed) →
+    AreSources files display w after sources → IsListing (by_subject files display) (IsMaster files display) masters
     → held_most (map master_of (recurring sources)) ≤ held_most (map (master_at files display) masters)
 most-of-masters files display w after sources masters are all =
     held-of-masters files display (recurring sources) masters are.apart.1.1 (masters-of files display w after (recurring sources) are.each) all

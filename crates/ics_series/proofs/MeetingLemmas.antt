@@ -48,10 +48,12 @@ meets-is_met w o m =
     m.lasting)
     (not-or-by w.notstarted (int_le w.from o.start) (λ n. true_int_le w.from o.start (m.started n))))
 
-pub shown-met : (clocks : Clocks) (w : Window) (event : Event) (o : Entry) → is_shown clocks w event o ≡ true → Meets w o × (is_excluded clocks event o.start ≡ false)
+pub shown-met : (clocks : Clocks) (w : Window) (event : Event) (o : Entry) → is_shown clocks w event o ≡ true →
+    Meets w o × (is_excluded clocks event o.start ≡ false)
 shown-met clocks w event o e =
     let parts = and_parts (is_met w o) (not (is_excluded clocks event o.start)) e in
     (is_met-meets w o parts.0, not-true (is_excluded clocks event o.start) parts.1)
 
-pub met-shown : (clocks : Clocks) (w : Window) (event : Event) (o : Entry) → Meets w o → is_excluded clocks event o.start ≡ false → is_shown clocks w event o ≡ true
+pub met-shown : (clocks : Clocks) (w : Window) (event : Event) (o : Entry) → Meets w o → is_excluded clocks event o.start ≡ false →
+    is_shown clocks w event o ≡ true
 met-shown clocks w event o m e = and_both (is_met w o) (not (is_excluded clocks event o.start)) (meets-is_met w o m) (ap not e)

@@ -74,7 +74,8 @@ one-of-tied x y [] r m n e = absurd m
 one-of-tied x y (z ∷ zs) r m n e =
     ⊎_elim
     (λ a. ⊎_elim (λ b. a ∙ sym b) (λ b. absurd (untied z y (before-in moment_cmp moment_total z y zs r.0 b) (ap (λ s. s.moment) (sym a) ∙ e))) n)
-    (λ a. ⊎_elim (λ b. absurd (untied z x (before-in moment_cmp moment_total z x zs r.0 a) (ap (λ s. s.moment) (sym b) ∙ sym e))) (λ b. one-of-tied x y zs r.1 a b e) n)
+    (λ a. ⊎_elim (λ b. absurd (untied z x (before-in moment_cmp moment_total z x zs r.0 a) (ap (λ s. s.moment) (sym b) ∙ sym e)))
+    (λ b. one-of-tied x y zs r.1 a b e) n)
     m
   where
     untied : (s t : Start) → moment_cmp s t ≡ Less → s.moment ≡ t.moment → ⊥
@@ -105,12 +106,14 @@ module _ (clocks : Clocks) (event : Event) (test : Entry → Bool) where
   unfolding own
   own-less s t a b l = ap (λ x. int_cmp x (instant clocks (time_of t.given))) (sym a.moment) ∙ (ap (int_cmp s.moment) (sym b.moment) ∙ l)
 
-  before-added : (b : Bool) (x s : Start) (es : List Entry) → entry_start_cmp (own x) (own s) ≡ Less → IsBefore entry_start_cmp (own x) es → IsBefore entry_start_cmp (own x) (added b s es)
+  before-added : (b : Bool) (x s : Start) (es : List Entry) → entry_start_cmp (own x) (own s) ≡ Less → IsBefore entry_start_cmp (own x) es →
+      IsBefore entry_start_cmp (own x) (added b s es)
   unfolding added
   before-added true x s es l h = (l, h)
   before-added false x s es l h = h
 
-  before-picked : (x : Start) (ss : List Start) → IsStart clocks event x → AreOwn ss → IsBefore moment_cmp x ss → IsBefore entry_start_cmp (own x) (picked clocks event test ss)
+  before-picked : (x : Start) (ss : List Start) → IsStart clocks event x → AreOwn ss → IsBefore moment_cmp x ss →
+      IsBefore entry_start_cmp (own x) (picked clocks event test ss)
   before-picked x [] a o h = tt
   before-picked x (s ∷ ss) a o h =
       subst (IsBefore entry_start_cmp (own x)) (sym (picked-cons s ss))
@@ -125,7 +128,8 @@ module _ (clocks : Clocks) (event : Event) (test : Entry → Bool) where
   rises-picked [] o h = tt
   rises-picked (s ∷ ss) o h =
       subst (Rises entry_start_cmp) (sym (picked-cons s ss))
-      (rises-added (test (own s)) s (picked clocks event test ss) (before-picked s ss (o s (inl refl)) (λ t m. o t (inr m)) h.0) (rises-picked ss (λ t m. o t (inr m)) h.1))
+      (rises-added (test (own s)) s (picked clocks event test ss) (before-picked s ss (o s (inl refl)) (λ t m. o t (inr m)) h.0)
+      (rises-picked ss (λ t m. o t (inr m)) h.1))
 
   -- The members: e has one of these starts, and passes.
   pub record IsPicked (ss : List Start) (e : Entry) : Type 0 where
@@ -134,7 +138,8 @@ module _ (clocks : Clocks) (event : Event) (test : Entry → Bool) where
     pub is : e ≡ entry_from clocks event start.given
     pub passes : test e ≡ true
 
-  in-added : (b : Bool) (s : Start) (ss : List Start) (es : List Entry) (e : Entry) → test (own s) ≡ b → (IsIn e es → IsPicked ss e) → IsIn e (added b s es) → IsPicked (s ∷ ss) e
+  in-added : (b : Bool) (s : Start) (ss : List Start) (es : List Entry) (e : Entry) → test (own s) ≡ b → (IsIn e es → IsPicked ss e) → IsIn e (added b s es) →
+      IsPicked (s ∷ ss) e
   unfolding own added
   in-added true s ss es e t ih m =
       ⊎_elim (λ a. record { start = s; stands = inl refl; is = a; passes = ap test a ∙ t })
@@ -145,7 +150,8 @@ module _ (clocks : Clocks) (event : Event) (test : Entry → Bool) where
   in-picked [] e m = absurd m
   in-picked (s ∷ ss) e m = in-added (test (own s)) s ss (picked clocks event test ss) e refl (in-picked ss e) (subst (IsIn e) (picked-cons s ss) m)
 
-  added-in : (b : Bool) (s t : Start) (ss : List Start) (es : List Entry) → test (own s) ≡ b → test (own t) ≡ true → (IsIn t ss → IsIn (own t) es) → IsIn t (s ∷ ss) → IsIn (own t) (added b s es)
+  added-in : (b : Bool) (s t : Start) (ss : List Start) (es : List Entry) → test (own s) ≡ b → test (own t) ≡ true → (IsIn t ss → IsIn (own t) es) →
+      IsIn t (s ∷ ss) → IsIn (own t) (added b s es)
   unfolding added
   added-in true s t ss es e u ih m = ⊎_elim (λ a. inl (ap own a)) (λ n. inr (ih n)) m
   added-in false s t ss es e u ih m = ⊎_elim (λ a. let f : true ≡ false = sym u ∙ (ap (λ x. test (own x)) a ∙ e) in absurd cc) ih m
@@ -169,14 +175,18 @@ module _ (clocks : Clocks) (event : Event) (test : Entry → Bool) where
   }
 
 -- Found starts give the occurrences: here those that are sought at the instants that count.
-module _ (clocks : Clocks) (w : Window) (event : Event) (starts : List Start) (Counts : ℤ → Type 0) (rises : Rises moment_cmp starts) (are : (s : Start) → IsIn s starts → IsStart clocks event s)
-    (all : (source : StartSource) (given : Rdate) → GivesStart clocks event source given → IsSought clocks event w (instant clocks (time_of given)) → Counts (instant clocks (time_of given)) → HasStart starts source (instant clocks (time_of given))) where
+module _ (clocks : Clocks) (w : Window) (event : Event) (starts : List Start) (Counts : ℤ → Type 0) (rises : Rises moment_cmp starts) (are : (s : Start) →
+    IsIn s starts → IsStart clocks event s)
+    (all : (source : StartSource) (given : Rdate) → GivesStart clocks event source given → IsSought clocks event w (instant clocks (time_of given)) →
+    Counts (instant clocks (time_of given)) → HasStart starts source (instant clocks (time_of given))) where
   -- a start from which the event meets the window is sought
-  own-sought : (source : StartSource) (given : Rdate) → GivesStart clocks event source given → Meets w (entry_from clocks event given) → IsSought clocks event w (instant clocks (time_of given))
+  own-sought : (source : StartSource) (given : Rdate) → GivesStart clocks event source given → Meets w (entry_from clocks event given) →
+      IsSought clocks event w (instant clocks (time_of given))
   own-sought source given g m = record { source = source; given = given; gives = g; starts = refl; meets = m }
 
   -- a start that is shown is given by the first to do so
-  pub found-is : (s : Start) → IsIn s starts → is_shown clocks w event (entry_from clocks event s.given) ≡ true → Counts (instant clocks (time_of s.given)) → IsEventMet clocks event w (entry_from clocks event s.given)
+  pub found-is : (s : Start) → IsIn s starts → is_shown clocks w event (entry_from clocks event s.given) ≡ true → Counts (instant clocks (time_of s.given)) →
+      IsEventMet clocks event w (entry_from clocks event s.given)
   found-is s m t counts =
       let start = are s m in
       let shown = shown-met clocks w event (entry_from clocks event s.given) t in
@@ -204,8 +214,13 @@ module _ (clocks : Clocks) (w : Window) (event : Event) (starts : List Start) (C
   pub is-found : (e : Entry) → IsEventMet clocks event w e → Counts e.start → (s : Start) × IsIn s starts × (e ≡ entry_from clocks event s.given)
   is-found e o counts =
       let of = o.0.lasts in
-      let by : e ≡ entry_from clocks event of.given = same-entry e (entry_from clocks event of.given) of.starts of.ends (o.0.recurrence ∙ of.starts) o.0.event in
+      let by : e ≡ entry_from clocks event of.given = same-entry e (entry_from clocks event of.given) of.starts of.ends (o.0.recurrence
+      ∙ of.starts) o.0.event in
       let found = all of.source of.given of.gives (own-sought of.source of.given of.gives (subst (Meets w) by o.1)) (subst Counts of.starts counts) in
       let start = are found.start found.stands in
-      let above = of.earliest found.start.source found.start.given start.gives (sym start.moment ∙ (found.same ∙ sym of.starts)) in
-      (found.start, found.stands, by ∙ ap (entry_from clocks event) (same-first clocks event of.source found.start.source of.given found.start.given of.gives start.gives above found.earlier))
+      let above = of.earliest found.start.source found.start.given start.gives (sym start.moment ∙ (found.same ∙ sym of.starts)) in (
+        found.start,
+        found.stands,
+        by ∙ ap (entry_from clocks event)
+            (same-first clocks event of.source found.start.source of.given found.start.given of.gives start.gives above found.earlier),
+      )

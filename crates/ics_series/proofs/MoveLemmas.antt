@@ -21,7 +21,8 @@ move to p = record { file = to p.file; place = p.place; event = p.event }
 -- Files stand among others as numbered by `to`: each is there, versions of a subject keep their order, and no other event has a UID of theirs.
 record IsMove (files others : List FileSaid) (display : Clock) (to : ℕ → ℕ) : Type 0 where
   keeps : (k : ℕ) (f : FileSaid) → slice_get files k ≡ Some f → slice_get others (to k) ≡ Some f
-  orders : (p q : Placed) → IsPlaced files p → IsPlaced files q → subject_of files display p ≡ subject_of files display q → placed_cmp p q ≡ placed_cmp (move to p) (move to q)
+  orders : (p q : Placed) → IsPlaced files p → IsPlaced files q → subject_of files display p ≡ subject_of files display q →
+      placed_cmp p q ≡ placed_cmp (move to p) (move to q)
   meets : (p q : Placed) → IsPlaced files p → IsPlaced others q → q.event.uid ≡ p.event.uid → (r : Placed) × IsPlaced files r × (move to r ≡ q)
 
 module _ (files others : List FileSaid) (display : Clock) (to : ℕ → ℕ) (m : IsMove files others display to) where
@@ -66,7 +67,8 @@ module _ (files others : List FileSaid) (display : Clock) (to : ℕ → ℕ) (m 
   overridden-there : (uid : List ℕ) (r : ℤ) → IsOverridden files display uid r → IsOverridden others display uid r
   overridden-there uid r h = record { by = move to h.by; is = override-there h.by r h.is; same = h.same }
 
-  overridden-here : (p : Placed) (uid : List ℕ) (r : ℤ) → IsPlaced files p → uid ≡ p.event.uid → IsOverridden others display uid r → IsOverridden files display uid r
+  overridden-here : (p : Placed) (uid : List ℕ) (r : ℤ) → IsPlaced files p → uid ≡ p.event.uid → IsOverridden others display uid r →
+      IsOverridden files display uid r
   overridden-here p uid r h e k =
       let own = m.meets p k.by h k.is.chosen.placed (k.same ∙ e) in
       record {
@@ -108,7 +110,8 @@ module _ (files others : List FileSaid) (display : Clock) (to : ℕ → ℕ) (m 
 
   own-override : (o : Entry) (p : Placed) → IsPlaced files p → (h : IsOfOverride others display o) → move to p ≡ h.override → Occurs files display o
   own-override o p n h e =
-      let of : IsMoved (clocks_at others display (to p.file)) p.event o = subst (λ (q : Placed). IsMoved (clocks_at others display q.file) q.event o) (sym e) h.of in
+      let of : IsMoved (clocks_at others display (to p.file)) p.event o =
+      subst (λ (q : Placed). IsMoved (clocks_at others display q.file) q.event o) (sym e) h.of in
       inr (record {
         override = p;
         is = override-here p o.recurrence n (subst (λ (q : Placed). IsOverride others display q o.recurrence) (sym e) h.is);
@@ -125,7 +128,8 @@ module _ {A : Type 0} where
   get-right [] ys k = ap (slice_get ys) (omega arith)
   get-right (z ∷ zs) ys k = let next : suc (length zs) + k ≡ suc (length zs + k) = omega arith in ap (slice_get (z ∷ (zs ++ ys))) next ∙ get-right zs ys k
 
-  get-split : (xs ys : List A) (k : ℕ) (x : A) → slice_get (xs ++ ys) k ≡ Some x → (slice_get xs k ≡ Some x) ⊎ ((j : ℕ) × (k ≡ length xs + j) × (slice_get ys j ≡ Some x))
+  get-split : (xs ys : List A) (k : ℕ) (x : A) → slice_get (xs ++ ys) k ≡ Some x →
+      (slice_get xs k ≡ Some x) ⊎ ((j : ℕ) × (k ≡ length xs + j) × (slice_get ys j ≡ Some x))
   get-split [] ys k x e = inr (k, omega arith, e)
   get-split (z ∷ zs) ys zero x e = inl e
   get-split (z ∷ zs) ys (suc k) x e = ⊎_elim inl (λ r. inr (r.0, omega (arith, r.1), r.2)) (get-split zs ys k x e)
@@ -163,7 +167,8 @@ module _ (files more : List FileSaid) (display : Clock) (apart : AreApart files 
   others-behind : IsMove more (files ++ more) display (λ k. length files + k)
   others-behind = record {
     keeps = λ k f e. get-right files more k ∙ e;
-    orders = λ p q h k u. ap (λ c. ordering_then (nat_cmp p.event.sequence q.event.sequence) (ordering_then c (nat_cmp p.place q.place))) (cmp-behind (length files) p.file q.file);
+    orders = λ p q h k u. ap (λ c. ordering_then (nat_cmp p.event.sequence q.event.sequence) (ordering_then c (nat_cmp p.place q.place)))
+        (cmp-behind (length files) p.file q.file);
     meets = λ p q h k u. ⊎_elim (λ n. absurd (apart q p n h u)) (λ s. s) (whose q k);
   }
 
@@ -188,7 +193,8 @@ by-sequence : (p q : Placed) (to : ℕ → ℕ) → (p.event.sequence ≡ q.even
 by-sequence p q to h = by (nat_cmp p.event.sequence q.event.sequence) refl
   where
     by : (c : Ordering) → nat_cmp p.event.sequence q.event.sequence ≡ c
-        → ordering_then c (ordering_then (nat_cmp p.file q.file) (nat_cmp p.place q.place)) ≡ ordering_then c (ordering_then (nat_cmp (to p.file) (to q.file)) (nat_cmp p.place q.place))
+        → ordering_then c (ordering_then (nat_cmp p.file q.file) (nat_cmp p.place q.place))
+        ≡ ordering_then c (ordering_then (nat_cmp (to p.file) (to q.file)) (nat_cmp p.place q.place))
     by Less e = refl
     by Greater e = refl
     by Equal e =
@@ -210,8 +216,10 @@ reordered-back files others m = record {
 there-placed : (files others : List FileSaid) (m : AreReordered files others) (p : Placed) → IsPlaced files p → IsPlaced others (move m.there p)
 there-placed files others m p h = record { within = (h.within.0, m.moved p.file ∙ h.within.1, h.within.2) }
 
-there-subject : (files others : List FileSaid) (display : Clock) (m : AreReordered files others) (p : Placed) → subject_of others display (move m.there p) ≡ subject_of files display p
-there-subject files others display m p = ap (λ o. record { uid = p.event.uid; recurrence = overridden (clocks_of display (zones_of o)) p.event }) (m.moved p.file)
+there-subject : (files others : List FileSaid) (display : Clock) (m : AreReordered files others) (p : Placed) →
+    subject_of others display (move m.there p) ≡ subject_of files display p
+there-subject files others display m p = ap (λ o. record { uid = p.event.uid; recurrence = overridden (clocks_of display (zones_of o)) p.event })
+    (m.moved p.file)
 
 apart-there : (files others : List FileSaid) (display : Clock) → AreReordered files others → HaveApartVersions files display → HaveApartVersions others display
 apart-there files others display m apart p q h k u e =
@@ -221,7 +229,8 @@ apart-there files others display m apart p q h k u e =
     (there-subject others files display b p ∙ u ∙ sym (there-subject others files display b q)) e)
     ∙ m.from q.file
 
-reordered-move : (files others : List FileSaid) (display : Clock) (m : AreReordered files others) → HaveApartVersions files display → IsMove files others display m.there
+reordered-move : (files others : List FileSaid) (display : Clock) (m : AreReordered files others) → HaveApartVersions files display →
+    IsMove files others display m.there
 reordered-move files others display m apart = record {
   keeps = λ k f e. m.moved k ∙ e;
   orders = λ p q h k u. by-sequence p q m.there (λ e. apart p q h k u e);

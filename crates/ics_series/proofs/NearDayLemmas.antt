@@ -26,7 +26,14 @@ pub occurs-forward : (files : List FileSaid) (display : Clock) (o : Entry) → O
 occurs-forward files display o (inl m) =
     let starts = m.of.lasts.starts in
     let ends = m.of.lasts.ends in
-    omega (arith, ints, starts, ends, int_max_is (instant (clocks_at files display m.master.file) (time_of m.of.lasts.given)) (end_of (clocks_at files display m.master.file) m.master.event m.of.lasts.given))
+    omega (
+      arith,
+      ints,
+      starts,
+      ends,
+      int_max_is (instant (clocks_at files display m.master.file) (time_of m.of.lasts.given))
+          (end_of (clocks_at files display m.master.file) m.master.event m.of.lasts.given),
+    )
 occurs-forward files display o (inr m) =
     let starts = m.of.starts in
     let ends = m.of.ends in
@@ -57,12 +64,15 @@ module _ (clock : Clock) (near : (t : ℤ) → IsNear (clock.offset t)) where
     by-length : ((o.finish ≡ o.start) × (day ≤ℤ first_day clock w o)) ⊎ ((o.start <ℤ o.finish) × ((day ≤ℤ first_day clock w o) ⊎ (day ≤ℤ end_day clock w o)))
     by-length = by (int_eq o.finish o.start) refl
       where
-        by : (b : Bool) → int_eq o.finish o.start ≡ b → ((o.finish ≡ o.start) × (day ≤ℤ first_day clock w o)) ⊎ ((o.start <ℤ o.finish) × ((day ≤ℤ first_day clock w o) ⊎ (day ≤ℤ end_day clock w o)))
+        by : (b : Bool) → int_eq o.finish o.start ≡ b → ((o.finish ≡ o.start) × (day ≤ℤ first_day clock w o))
+            ⊎ ((o.start <ℤ o.finish) × ((day ≤ℤ first_day clock w o) ⊎ (day ≤ℤ end_day clock w o)))
         by true e =
-            let last : last_day clock w o ≡ first_day clock w o = ap (λ b. if b then first_day clock w o else int_max (first_day clock w o) (end_day clock w o)) e in
+            let last : last_day clock w o ≡ first_day clock w o =
+            ap (λ b. if b then first_day clock w o else int_max (first_day clock w o) (end_day clock w o)) e in
             inl (equal-true o.finish o.start e, subst (λ l. day ≤ℤ l) last at-last)
         by false e =
-            let last : last_day clock w o ≡ int_max (first_day clock w o) (end_day clock w o) = ap (λ b. if b then first_day clock w o else int_max (first_day clock w o) (end_day clock w o)) e in
+            let last : last_day clock w o ≡ int_max (first_day clock w o) (end_day clock w o) =
+            ap (λ b. if b then first_day clock w o else int_max (first_day clock w o) (end_day clock w o)) e in
             inr (apart e, of-max (first_day clock w o) (end_day clock w o) (subst (λ l. day ≤ℤ l) last at-last))
           where
             apart : int_eq o.finish o.start ≡ false → o.start <ℤ o.finish
@@ -91,17 +101,21 @@ module _ (clock : Clock) (near : (t : ℤ) → IsNear (clock.offset t)) where
             let day-first = h.1 in
             inr (h.0, omega (arith, ints, e, low, begun, day-first, int_max_is o.start w.from, int_max_is w.from (midnight (day -ℤ pos 2))))
 
-        lasting : (o.start <ℤ o.finish) × ((day ≤ℤ first_day clock w o) ⊎ (day ≤ℤ end_day clock w o)) → (from <ℤ o.finish) ⊎ ((o.finish ≡ o.start) × (from ≤ℤ o.start))
+        lasting : (o.start <ℤ o.finish) × ((day ≤ℤ first_day clock w o) ⊎ (day ≤ℤ end_day clock w o)) →
+            (from <ℤ o.finish) ⊎ ((o.finish ≡ o.start) × (from ≤ℤ o.start))
         lasting h =
             let apart = h.0 in
             let under : w.from <ℤ o.finish = ⊎_elim (λ l. l) (λ r. let s = r.0 in absurd (omega (arith, ints, s, apart))) met.lasting in
             ⊎_elim
-            (λ k. let low = date-low (int_max o.start w.from) in inl (omega (arith, ints, e, low, apart, under, k, int_max_is o.start w.from, int_max_is w.from (midnight (day -ℤ pos 2)))))
-            (λ k. let low = date-low (int_min o.finish w.to -ℤ pos 1) in inl (omega (arith, ints, e, low, apart, under, k, int_min_is o.finish w.to, int_max_is w.from (midnight (day -ℤ pos 2)))))
+            (λ k. let low = date-low (int_max o.start w.from) in
+            inl (omega (arith, ints, e, low, apart, under, k, int_max_is o.start w.from, int_max_is w.from (midnight (day -ℤ pos 2)))))
+            (λ k. let low = date-low (int_min o.finish w.to -ℤ pos 1) in
+            inl (omega (arith, ints, e, low, apart, under, k, int_min_is o.finish w.to, int_max_is w.from (midnight (day -ℤ pos 2)))))
             h.1
 
     -- so it meets what the window holds near one of its days
-    pub meets-near : (n : Window) → n.from ≡ int_max w.from (midnight (day -ℤ pos 2)) → n.to ≡ int_min w.to (midnight (day +ℤ pos 3)) → n.notstarted ≡ false → Meets n o
+    pub meets-near : (n : Window) → n.from ≡ int_max w.from (midnight (day -ℤ pos 2)) → n.to ≡ int_min w.to (midnight (day +ℤ pos 3)) → n.notstarted ≡ false →
+        Meets n o
     meets-near n from to all = record {
       begun = let start = near-start in let begun = met.begun in omega (arith, ints, to, start, begun, int_min_is w.to (midnight (day +ℤ pos 3)));
       lasting = near-finish n.from from;

@@ -47,7 +47,8 @@ module _ (zones : FileZones) where
       let a = moment_near (zone_of zones.display.now) (midnight (day_of given.stamp +ℤ days_lasting day length)) in
       omega (arith, ints, a.0, a.1, instant-near zones given, day-written given.stamp)
   end-bound first given (Floating local) Open = omega (arith, ints)
-  end-bound first given (Floating local) (Until end) = omega (arith, ints, int_max_is (pos 0) (instant (clocks_in zones) end -ℤ instant (clocks_in zones) first))
+  end-bound first given (Floating local) (Until end) =
+      omega (arith, ints, int_max_is (pos 0) (instant (clocks_in zones) end -ℤ instant (clocks_in zones) first))
   end-bound first given (Floating local) (Lasting duration) = later-bound given.zone given.stamp duration (instant (clocks_in zones) given)
   end-bound first given (Utc local) Open = omega (arith, ints)
   end-bound first given (Utc local) (Until end) = omega (arith, ints, int_max_is (pos 0) (instant (clocks_in zones) end -ℤ instant (clocks_in zones) first))

@@ -40,14 +40,16 @@ module _ (files : List FileSaid) (display : Clock) where
         let uid = same-uid o q h.master.event k.master.event h.of.event k.of.event u in
         let one : h.master ≡ k.master = one-chosen files display h.master k.master h.is.chosen k.is.chosen
         (master-subject h.master h.is ∙ (ap (λ x. sub x None) uid ∙ sym (master-subject k.master k.is))) in
-        one-of (clocks_at files display k.master.file) k.master.event o q (subst (λ (p : Placed). IsOf (clocks_at files display p.file) p.event o) one h.of) k.of r
+        one-of (clocks_at files display k.master.file) k.master.event o q (subst (λ (p : Placed). IsOf (clocks_at files display p.file) p.event o) one h.of)
+        k.of r
 
     both-overrides : IsOfOverride files display o → IsOfOverride files display q → o ≡ q
     both-overrides h k =
         let uid = same-uid o q h.override.event k.override.event h.of.event k.of.event u in
         let one : h.override ≡ k.override = one-chosen files display h.override k.override h.is.chosen k.is.chosen
         (override-subject h.override o.recurrence h.is ∙ ((λ i. sub (uid i) (Some (r i))) ∙ sym (override-subject k.override q.recurrence k.is))) in
-        one-moved (clocks_at files display k.override.file) k.override.event o q (subst (λ (p : Placed). IsMoved (clocks_at files display p.file) p.event o) one h.of) k.of r
+        one-moved (clocks_at files display k.override.file) k.override.event o q
+        (subst (λ (p : Placed). IsMoved (clocks_at files display p.file) p.event o) one h.of) k.of r
 
     not-both : IsOfMaster files display o → IsOfOverride files display q → ⊥
     not-both h k = h.kept (record {
@@ -56,7 +58,8 @@ module _ (files : List FileSaid) (display : Clock) where
       same = sym (ap (λ v. v.uid) k.of.event) ∙ sym u;
     })
 
-pub one-recurrence : (files : List FileSaid) (display : Clock) (o q : Entry) → Occurs files display o → Occurs files display q → o.event.uid ≡ q.event.uid → o.recurrence ≡ q.recurrence → o ≡ q
+pub one-recurrence : (files : List FileSaid) (display : Clock) (o q : Entry) → Occurs files display o → Occurs files display q → o.event.uid ≡ q.event.uid →
+    o.recurrence ≡ q.recurrence → o ≡ q
 one-recurrence files display o q h k u r =
     ⊎_elim
     (λ a. ⊎_elim (λ b. both-masters files display o q u r a b) (λ b. absurd (not-both files display o q u r a b)) k)

@@ -95,6 +95,7 @@ module _ (files : List FileSaid) (display : Clock) (near : (t : ℤ) → IsNear 
           λ q.
               let k = g p q in
               let same : on_day day p.entry ≡ p = ap (λ d. on_day d p.entry) (sym k.0) in
-              subst (λ x. IsIn x (today display w day xs)) same (map-in (on_day day) p.entry (filter (λ o. is_today display w day o) xs) ((kept.exact p.entry).1 (k.1, k.2))),
+              subst (λ x. IsIn x (today display w day xs)) same
+              (map-in (on_day day) p.entry (filter (λ o. is_today display w day o) xs) ((kept.exact p.entry).1 (k.1, k.2))),
         );
       }

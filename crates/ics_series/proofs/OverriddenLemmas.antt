@@ -1,6 +1,7 @@
 -- Behind a master stand its overrides, in the order of the instances that they override.
 use Rattle.std.specs.Prelude.{⊤, ◌||◌, ◌&&◌, slice_get, if◌then◌else◌}
-use Rattle.std.proofs.Common.{◌≡◌, ℕ, zero, suc, ◌<◌, ◌≤◌, ℤ, List, [], ◌∷◌, ◌++◌, map, length, get_or, drop, Option, Some, None, Bool, true, false, refl, sym, ◌∙◌, ap, subst}
+use Rattle.std.proofs.Common.{◌≡◌, ℕ, zero, suc, ◌<◌, ◌≤◌, ℤ, List, [], ◌∷◌, ◌++◌, map, length, get_or, drop, Option, Some, None, Bool, true, false, refl, sym}
+use Rattle.std.proofs.Common.{◌∙◌, ap, subst}
 use Rattle.std.specs.Cmp.Lexicographic.{slice_cmp}
 use Rattle.std.specs.List.{cons_option, filter_map, list_any}
 use Rattle.std.specs.List.Sorted.{IsSorted}
@@ -65,32 +66,39 @@ module _ (uid : List ℕ) where
   then-equal Equal b = refl
   then-equal Greater b = refl
 
-  named-one : (t : ℤ) (s : SubjectSeen) (rest : List ℤ) → list_any (λ x. int_eq x t) (cons_option (instance_of uid s) rest) ≡ (is_eq (subject_cmp s (instance t)) || list_any (λ x. int_eq x t) rest)
+  named-one : (t : ℤ) (s : SubjectSeen) (rest : List ℤ) →
+      list_any (λ x. int_eq x t) (cons_option (instance_of uid s) rest) ≡ (is_eq (subject_cmp s (instance t)) || list_any (λ x. int_eq x t) rest)
   named-one t s rest =
       by (bytes_eq s.uid uid) s.recurrence
       ∙ ap (λ b. b || list_any (λ x. int_eq x t) rest)
-      (ap (λ b. b && is_eq (option_cmp int_cmp s.recurrence (Some t))) (sym (is_eq-slice_cmp s.uid uid)) ∙ sym (then-equal (slice_cmp nat_cmp s.uid uid) (option_cmp int_cmp s.recurrence (Some t))))
+      (ap (λ b. b && is_eq (option_cmp int_cmp s.recurrence (Some t))) (sym (is_eq-slice_cmp s.uid uid))
+      ∙ sym (then-equal (slice_cmp nat_cmp s.uid uid) (option_cmp int_cmp s.recurrence (Some t))))
     where
-      by : (b : Bool) (r : Option ℤ) → list_any (λ x. int_eq x t) (cons_option (if b then r else None) rest) ≡ ((b && is_eq (option_cmp int_cmp r (Some t))) || list_any (λ x. int_eq x t) rest)
+      by : (b : Bool) (r : Option ℤ) → list_any (λ x. int_eq x t) (cons_option (if b then r else None) rest)
+          ≡ ((b && is_eq (option_cmp int_cmp r (Some t))) || list_any (λ x. int_eq x t) rest)
       by true (Some x) = refl
       by true None = refl
       by false r = refl
 
   named-found : (t : ℤ) (vs : List Version) → list_any (λ x. int_eq x t) (found vs) ≡ is_named (instance t) (map seen vs)
   named-found t [] = refl
-  named-found t (v ∷ vs) = named-one t (subject_seen v.subject) (found vs) ∙ ap (λ b. is_eq (subject_cmp (subject_seen v.subject) (instance t)) || b) (named-found t vs)
+  named-found t (v ∷ vs) = named-one t (subject_seen v.subject) (found vs)
+      ∙ ap (λ b. is_eq (subject_cmp (subject_seen v.subject) (instance t)) || b) (named-found t vs)
 
   -- those before an override of the master do not name it
-  less-named : (t : ℤ) (v : Version) (b : Bool) → subject_cmp (subject_seen v.subject) (instance t) ≡ Less → (is_eq (subject_cmp (subject_seen v.subject) (instance t)) || b) ≡ b
+  less-named : (t : ℤ) (v : Version) (b : Bool) → subject_cmp (subject_seen v.subject) (instance t) ≡ Less →
+      (is_eq (subject_cmp (subject_seen v.subject) (instance t)) || b) ≡ b
   less-named t v b l = ap (λ c. is_eq c || b) l
 
   master-less : (t : ℤ) → subject_cmp master (instance t) ≡ Less
   master-less t = ap (λ c. ordering_then c Less) (tied_itself nat_list_cmp_total uid)
 
-  named-behind : (t : ℤ) (vs : List Version) (i : ℕ) (x : Version) → Rises version_cmp vs → slice_get vs i ≡ Some x → subject_seen x.subject ≡ master → is_named (instance t) (map seen vs) ≡ is_named (instance t) (map seen (drop (suc i) vs))
+  named-behind : (t : ℤ) (vs : List Version) (i : ℕ) (x : Version) → Rises version_cmp vs → slice_get vs i ≡ Some x → subject_seen x.subject ≡ master →
+      is_named (instance t) (map seen vs) ≡ is_named (instance t) (map seen (drop (suc i) vs))
   named-behind t [] i x r e m = let f : None ≡ Some x = e in absurd cc
   named-behind t (v ∷ vs) zero x r e m =
-      less-named t v (is_named (instance t) (map seen vs)) (ap (λ s. subject_cmp s (instance t)) (ap (λ (y : Version). subject_seen y.subject) (some-same v x e) ∙ m) ∙ master-less t)
+      less-named t v (is_named (instance t) (map seen vs)) (ap (λ s. subject_cmp s (instance t)) (ap (λ (y : Version). subject_seen y.subject) (some-same v x e)
+      ∙ m) ∙ master-less t)
   named-behind t (v ∷ vs) (suc i) x r e m =
       let less = before-there version_cmp v vs i x r.0 e in
       let above : subject_cmp (subject_seen x.subject) (instance t) ≡ Less = ap (λ s. subject_cmp s (instance t)) m ∙ master-less t in
@@ -129,9 +137,11 @@ module _ (uid : List ℕ) where
   none-behind : (v : Version) (vs : List Version) → IsLater (subject_seen v.subject) → IsBefore version_cmp v vs → found vs ≡ []
   none-behind v [] l b = refl
   none-behind v (x ∷ xs) l b =
-      ap (λ o. cons_option o (found xs)) (none-later (subject_seen x.subject) (later-still (subject_seen v.subject) (subject_seen x.subject) l b.0)) ∙ none-behind v xs l b.1
+      ap (λ o. cons_option o (found xs)) (none-later (subject_seen x.subject) (later-still (subject_seen v.subject) (subject_seen x.subject) l b.0))
+      ∙ none-behind v xs l b.1
 
-  none-from : (v : Version) (vs : List Version) → subject_cmp master (subject_seen v.subject) ≡ Less → instance_of uid (subject_seen v.subject) ≡ None → IsBefore version_cmp v vs → found (v ∷ vs) ≡ []
+  none-from : (v : Version) (vs : List Version) → subject_cmp master (subject_seen v.subject) ≡ Less → instance_of uid (subject_seen v.subject) ≡ None →
+      IsBefore version_cmp v vs → found (v ∷ vs) ≡ []
   none-from v vs l n b = ap (λ o. cons_option o (found vs)) n ∙ none-behind v vs (not-instance (subject_seen v.subject) l n) b
 
   -- Their order.
@@ -147,30 +157,36 @@ module _ (uid : List ℕ) where
           equal Greater e = let f : false ≡ true = e in cc
       by false e h = let f : None ≡ Some t = h in absurd cc
 
-  instances-rise : (v w : Version) (t u : ℤ) → instance_of uid (subject_seen v.subject) ≡ Some t → instance_of uid (subject_seen w.subject) ≡ Some u → version_cmp v w ≡ Less → int_cmp t u ≡ Less
+  instances-rise : (v w : Version) (t u : ℤ) → instance_of uid (subject_seen v.subject) ≡ Some t → instance_of uid (subject_seen w.subject) ≡ Some u →
+      version_cmp v w ≡ Less → int_cmp t u ≡ Less
   instances-rise v w t u e f l =
       let a = own-uid (subject_seen v.subject) t e in
       let b = own-uid (subject_seen w.subject) u f in
-      sym ((λ i. ordering_then (slice_cmp nat_cmp (a.0 i) (b.0 i)) (option_cmp int_cmp (a.1 i) (b.1 i))) ∙ ap (λ c. ordering_then c (int_cmp t u)) (tied_itself nat_list_cmp_total uid)) ∙ l
+      sym ((λ i. ordering_then (slice_cmp nat_cmp (a.0 i) (b.0 i)) (option_cmp int_cmp (a.1 i) (b.1 i)))
+      ∙ ap (λ c. ordering_then c (int_cmp t u)) (tied_itself nat_list_cmp_total uid)) ∙ l
 
   found-sorted : (vs : List Version) → Rises version_cmp vs → IsSorted int_cmp (found vs)
   found-sorted vs r =
       rises-sorted int_cmp int_cmp_total (found vs)
-      (rises-picked (λ v. instance_of uid (subject_seen v.subject)) version_cmp (on_total (λ v. subject_seen v.subject) subject_total) int_cmp (λ v. ⊤) (λ x z y v p q e f l. instances-rise x z y v e f l) vs (λ x m. tt) r)
+      (rises-picked (λ v. instance_of uid (subject_seen v.subject)) version_cmp (on_total (λ v. subject_seen v.subject) subject_total) int_cmp (λ v. ⊤)
+      (λ x z y v p q e f l. instances-rise x z y v e f l) vs (λ x m. tt) r)
 
 -- The loop over the versions behind a master.
-pub found-step : (uid : List ℕ) (behind : List Version) (i j : ℕ) (d : Version) (before after total : List ℤ) (t : ℤ) → j ≡ suc i → i < length behind → instance_of uid (subject_seen (get_or behind i d).subject) ≡ Some t → after ≡ before ++ t ∷ []
+pub found-step : (uid : List ℕ) (behind : List Version) (i j : ℕ) (d : Version) (before after total : List ℤ) (t : ℤ) → j ≡ suc i → i < length behind →
+    instance_of uid (subject_seen (get_or behind i d).subject) ≡ Some t → after ≡ before ++ t ∷ []
     → before ++ found uid (drop i behind) ≡ total → after ++ found uid (drop j behind) ≡ total
 found-step uid behind i j d before after total t next l some more whole =
     let rest = found uid (drop (suc i) behind) in
     ap (λ n. after ++ found uid (drop n behind)) next ∙ (ap (λ xs. xs ++ rest) more ∙ (append_assoc before (t ∷ []) rest
     ∙ (ap (λ o. before ++ cons_option o rest) (sym some) ∙ (ap (λ vs. before ++ found uid vs) (sym (drop-cons behind i d l)) ∙ whole))))
 
-module _ (uid : List ℕ) (versions behind : List Version) (place : ℕ) (order : Rises version_cmp versions) (there : option_map (λ v. subject_seen v.subject) (slice_get versions place) ≡ Some (master uid)) (rest : behind ≡ drop (suc place) versions) where
+module _ (uid : List ℕ) (versions behind : List Version) (place : ℕ) (order : Rises version_cmp versions)
+    (there : option_map (λ v. subject_seen v.subject) (slice_get versions place) ≡ Some (master uid)) (rest : behind ≡ drop (suc place) versions) where
   own : (v : Version) × (slice_get versions place ≡ Some v) × (subject_seen v.subject ≡ master uid)
   own = by (slice_get versions place) refl there
     where
-      by : (o : Option Version) → slice_get versions place ≡ o → option_map (λ v. subject_seen v.subject) o ≡ Some (master uid) → (v : Version) × (slice_get versions place ≡ Some v) × (subject_seen v.subject ≡ master uid)
+      by : (o : Option Version) → slice_get versions place ≡ o → option_map (λ v. subject_seen v.subject) o ≡ Some (master uid) →
+          (v : Version) × (slice_get versions place ≡ Some v) × (subject_seen v.subject ≡ master uid)
       by (Some v) e h = (v, e, cc)
       by None e h = let f : None ≡ Some (master uid) = h in absurd cc
 
@@ -184,16 +200,19 @@ module _ (uid : List ℕ) (versions behind : List Version) (place : ℕ) (order 
   -- and is all that is overridden
   pub overridden-all : (instants : List ℤ) → instants ≡ found uid behind → AreOverridden uid (map seen versions) instants
   overridden-all instants e = λ t.
-      ap (list_any (λ x. int_eq x t)) e ∙ (named-found uid t behind ∙ (ap (λ vs. is_named (instance uid t) (map seen vs)) rest ∙ sym (named-behind uid t versions place own.0 order own.1 own.2)))
+      ap (list_any (λ x. int_eq x t)) e ∙ (named-found uid t behind
+      ∙ (ap (λ vs. is_named (instance uid t) (map seen vs)) rest ∙ sym (named-behind uid t versions place own.0 order own.1 own.2)))
 
   -- from the first of another UID on nothing is found
-  pub found-stops : (i : ℕ) (d : Version) (instants : List ℤ) → i < length behind → instants ++ found uid (drop i behind) ≡ found uid behind → instance_of uid (subject_seen (get_or behind i d).subject) ≡ None → instants ≡ found uid behind
+  pub found-stops : (i : ℕ) (d : Version) (instants : List ℤ) → i < length behind → instants ++ found uid (drop i behind) ≡ found uid behind →
+      instance_of uid (subject_seen (get_or behind i d).subject) ≡ None → instants ≡ found uid behind
   found-stops i d instants l whole none =
       let v = get_or behind i d in
       let here = slice_get-get_or behind i d l in
       let stops : found uid (drop i behind) ≡ [] =
       ap (found uid) (drop-cons behind i d l)
-      ∙ none-from uid v (drop (suc i) behind) (ap (λ s. subject_cmp s (subject_seen v.subject)) (sym own.2) ∙ before-there version_cmp own.0 behind i v behind-master.0 here) none
+      ∙ none-from uid v (drop (suc i) behind) (ap (λ s. subject_cmp s (subject_seen v.subject)) (sym own.2)
+      ∙ before-there version_cmp own.0 behind i v behind-master.0 here) none
       (behind-rises version_cmp behind i v behind-master.1 here).0 in
       sym (append-nil instants) ∙ (ap (λ xs. instants ++ xs) (sym stops) ∙ whole)
 

@@ -1,6 +1,7 @@
 -- The overrides among the versions that count, and what they name.
 use Rattle.std.specs.Prelude.{zero, suc, is_some, is_ok}
-use Rattle.std.proofs.Common.{◌≡◌, ℕ, ◌+◌, ◌<◌, ℤ, ◌||◌, List, [], ◌∷◌, map, length, get_or, inl, inr, ⊎_elim, Option, Some, None, Result, Ok, Err, Bool, true, false, cond, refl, sym, ◌∙◌, ap, subst, arith}
+use Rattle.std.proofs.Common.{◌≡◌, ℕ, ◌+◌, ◌<◌, ℤ, ◌||◌, List, [], ◌∷◌, map, length, get_or, inl, inr, ⊎_elim, Option, Some, None, Result, Ok, Err, Bool, true}
+use Rattle.std.proofs.Common.{false, cond, refl, sym, ◌∙◌, ap, subst, arith}
 use Rattle.std.specs.Cmp.{IsTotalOrder}
 use Rattle.std.specs.List.{filter}
 use Rattle.std.specs.List.Sorted.{IsBinarySearchResult, IsSearchInRange, IsSorted}
@@ -68,10 +69,12 @@ pub chosen-rises : (files : List FileSaid) (display : Clock) (vs : List Version)
 chosen-rises files display vs h = subst (Rises label_subject_cmp) (sym h.are) (rises-map (label_of files display) label_subject_cmp h.chosen h.listing.rises)
 
 -- The overrides among them.
-pub overrides-sorted : (files : List FileSaid) (display : Clock) (vs os : List Version) → AreChosen files display vs → map seen os ≡ filter is_override (map seen vs) → IsSorted (on (λ v. subject_seen v.subject) subject_cmp) os
+pub overrides-sorted : (files : List FileSaid) (display : Clock) (vs os : List Version) → AreChosen files display vs →
+    map seen os ≡ filter is_override (map seen vs) → IsSorted (on (λ v. subject_seen v.subject) subject_cmp) os
 overrides-sorted files display vs os h e =
     rises-sorted (on (λ v. subject_seen v.subject) subject_cmp) (on_total (λ v. subject_seen v.subject) subject_total) os
-    (map-rises seen label_subject_cmp os (subst (Rises label_subject_cmp) (sym e) (rises-filter is_override label_subject_cmp (map seen vs) (chosen-rises files display vs h))))
+    (map-rises seen label_subject_cmp os (subst (Rises label_subject_cmp) (sym e)
+    (rises-filter is_override label_subject_cmp (map seen vs) (chosen-rises files display vs h))))
 
 -- an instance is named where an override names it
 module _ (uid : List ℕ) (t : ℤ) where
@@ -84,7 +87,8 @@ module _ (uid : List ℕ) (t : ℤ) where
   less-not Greater = refl
 
   untied : (l : Label) (r : Option ℤ) → l.subject.recurrence ≡ r → is_some r ≡ false → is_eq (subject_cmp l.subject instance) ≡ false
-  untied l None e n = ap (λ r. is_eq (ordering_then (slice_cmp nat_cmp l.subject.uid uid) (option_cmp int_cmp r (Some t)))) e ∙ less-not (slice_cmp nat_cmp l.subject.uid uid)
+  untied l None e n = ap (λ r. is_eq (ordering_then (slice_cmp nat_cmp l.subject.uid uid) (option_cmp int_cmp r (Some t)))) e
+      ∙ less-not (slice_cmp nat_cmp l.subject.uid uid)
   untied l (Some u) e n = let f : true ≡ false = n in cc
 
   named-overrides-by : (l : Label) (ls : List Label) (b : Bool) → is_override l ≡ b → is_named instance (filter is_override ls) ≡ is_named instance ls
@@ -111,7 +115,8 @@ module _ (s : SubjectSeen) where
   none-named (v ∷ vs) f =
       or-false (is_eq (ranks v)) (is_named s (map seen vs)) (f 0 v (omega arith)) (none-named vs (λ k d l. f (suc k) d (omega arith)))
 
-  pub searched : (vs : List Version) (r : Result ℕ ℕ) → IsSorted (on (λ v. subject_seen v.subject) subject_cmp) vs → IsSearchInRange r (length vs) → IsBinarySearchResult ranks vs r
+  pub searched : (vs : List Version) (r : Result ℕ ℕ) → IsSorted (on (λ v. subject_seen v.subject) subject_cmp) vs → IsSearchInRange r (length vs) →
+      IsBinarySearchResult ranks vs r
       → is_ok r ≡ is_named s (map seen vs)
   searched vs (Ok k) sorted within found = sym (named-at vs k within found)
   searched vs (Err i) sorted within parted =
@@ -124,7 +129,8 @@ module _ (files : List FileSaid) (display : Clock) where
   abbrev HasNamed : SubjectSeen → List Placed → Type 0
   HasNamed s ps = (p : Placed) × IsIn p ps × (subject_of files display p ≡ s)
 
-  named-in-by : (s : SubjectSeen) (p : Placed) (ps : List Placed) (b : Bool) → is_eq (subject_cmp (subject_of files display p) s) ≡ b → (is_named s (map (label_of files display) ps) ≡ true → HasNamed s ps)
+  named-in-by : (s : SubjectSeen) (p : Placed) (ps : List Placed) (b : Bool) → is_eq (subject_cmp (subject_of files display p) s) ≡ b →
+      (is_named s (map (label_of files display) ps) ≡ true → HasNamed s ps)
       → (b || is_named s (map (label_of files display) ps)) ≡ true → HasNamed s (p ∷ ps)
   named-in-by s p ps true same ih h = (p, inl refl, exact-subject (subject_of files display p) s (eq-Equal (subject_cmp (subject_of files display p) s) same))
   named-in-by s p ps false same ih h = let k = ih h in (k.0, inr k.1, k.2)
@@ -133,7 +139,8 @@ module _ (files : List FileSaid) (display : Clock) where
   named-in s [] e = let f : false ≡ true = e in absurd cc
   named-in s (p ∷ ps) e = named-in-by s p ps (is_eq (subject_cmp (subject_of files display p) s)) refl (named-in s ps) e
 
-  in-named : (s : SubjectSeen) (ps : List Placed) (p : Placed) → IsIn p ps → subject_of files display p ≡ s → is_named s (map (label_of files display) ps) ≡ true
+  in-named : (s : SubjectSeen) (ps : List Placed) (p : Placed) → IsIn p ps → subject_of files display p ≡ s →
+      is_named s (map (label_of files display) ps) ≡ true
   in-named s [] p m e = absurd m
   in-named s (q ∷ qs) p m e =
       ⊎_elim

@@ -30,11 +30,13 @@ module _ (files : List FileSaid) (display : Clock) (w : Window) (after : Option 
   abbrev InOne : Entry → List (List Entry) → Type 0
   InOne e lists = IsInOne entry_cmp entry_total e lists
 
-  each-rises : (labels : List Label) (lists : List (List Entry)) → AllByRecursion (IsOneOf files display w after labels) lists → AllByRecursion (Rises entry_cmp) lists
+  each-rises : (labels : List Label) (lists : List (List Entry)) → AllByRecursion (IsOneOf files display w after labels) lists →
+      AllByRecursion (Rises entry_cmp) lists
   each-rises labels [] h = tt
   each-rises labels (x ∷ xs) h = (h.0.listing.rises, each-rises labels xs h.1)
 
-  each-come : (labels : List Label) (lists : List (List Entry)) (e : Entry) → AllByRecursion (IsOneOf files display w after labels) lists → InOne e lists → IsToCome files display w after e
+  each-come : (labels : List Label) (lists : List (List Entry)) (e : Entry) → AllByRecursion (IsOneOf files display w after labels) lists → InOne e lists →
+      IsToCome files display w after e
   each-come labels [] e h m = absurd m
   each-come labels (x ∷ xs) e h m = ⊎_elim (λ n. ((h.0.listing.exact e).0 n).to_come) (λ n. each-come labels xs e h.1 n) m
 
@@ -42,7 +44,9 @@ module _ (files : List FileSaid) (display : Clock) (w : Window) (after : Option 
   in-one e xs [] m n = absurd m
   in-one e xs (y ∷ ys) m n = ⊎_elim (λ s. inl (subst (IsIn e) s n)) (λ k. inr (in-one e xs ys k n)) m
 
-  module _ (vs : List Version) (chosen : AreChosen files display vs) (singles : List Entry) (single : IsListing entry_cmp (IsSingleToCome files display w after) singles) (more : List (List Entry)) (are : AreLists files display w after (map seen vs) more) where
+  module _ (vs : List Version) (chosen : AreChosen files display vs) (singles : List Entry)
+      (single : IsListing entry_cmp (IsSingleToCome files display w after) singles) (more : List (List Entry))
+      (are : AreLists files display w after (map seen vs) more) where
     part-come : (e : Entry) → InOne e (singles ∷ more) → IsToCome files display w after e
     part-come e m = ⊎_elim (λ n. ((single.exact e).0 n).0) (λ n. each-come (map seen vs) more e are.each n) m
 
@@ -56,31 +60,46 @@ module _ (files : List FileSaid) (display : Clock) (w : Window) (after : Option 
             let clocks = clocks_at files display g.by.file in
             let event : e.event ≡ g.by.event = given-event clocks g.by.event (overridden clocks g.by.event) e g.is.0 in
             let label = label_of files display g.by in
-            let there : IsIn (label_of files display g.by) (map seen vs) = subst (IsIn (label_of files display g.by)) (sym chosen.are) (map-in (label_of files display) g.by chosen.chosen ((chosen.listing.exact g.by).1 g.chosen)) in
-            let none : overridden clocks g.by.event ≡ None = ap (option_map (instant (clocks_at files display g.by.file))) (recurring-master g.by.event (ap is_single (sym event) ∙ s)) in
-            let recurs : Recurs files (label_of files display g.by) = record { event = g.by.event; stands = placed-event files g.by g.chosen.placed; recurs = ap is_single (sym event) ∙ s } in
+            let there : IsIn (label_of files display g.by) (map seen vs) =
+            subst (IsIn (label_of files display g.by)) (sym chosen.are)
+            (map-in (label_of files display) g.by chosen.chosen ((chosen.listing.exact g.by).1 g.chosen)) in
+            let none : overridden clocks g.by.event ≡ None =
+            ap (option_map (instant (clocks_at files display g.by.file))) (recurring-master g.by.event (ap is_single (sym event) ∙ s)) in
+            let recurs : Recurs files (label_of files display g.by) =
+            record { event = g.by.event; stands = placed-event files g.by g.chosen.placed; recurs = ap is_single (sym event) ∙ s } in
             let has = are.every label there recurs in
-            inr (in-one e has.list more has.stands ((has.listing.exact e).1 (record { by = recurs; of = subst (λ r. IsGivenBy (clocks_at files display g.by.file) g.by.event r e) none g.is.0; to_come = t })))
+            inr (in-one e has.list more has.stands
+            ((has.listing.exact e).1 (record {
+              by = recurs;
+              of = subst (λ r. IsGivenBy (clocks_at files display g.by.file) g.by.event r e) none g.is.0;
+              to_come = t;
+            })))
 
     -- the merge of what they give is the listing
     pub parts-listing : IsListing entry_cmp (IsToCome files display w after) (merged entry_cmp (singles ∷ more))
     parts-listing =
-        merged-listing entry_cmp entry_total (IsToCome files display w after) (singles ∷ more) (single.rises, each-rises (map seen vs) more are.each) part-come come-part
+        merged-listing entry_cmp entry_total (IsToCome files display w after) (singles ∷ more) (single.rises, each-rises (map seen vs) more are.each) part-come
+        come-part
         (one-key files display w after)
 
   -- so where they were pushed behind the single events
-  pub pushed-listing : (vs : List Version) (singles : List Entry) (lists : List (List Entry)) → AreChosen files display vs → IsListing entry_cmp (IsSingleToCome files display w after) singles → HasLists files display w after (map seen vs) (singles ∷ []) lists
+  pub pushed-listing : (vs : List Version) (singles : List Entry) (lists : List (List Entry)) → AreChosen files display vs →
+      IsListing entry_cmp (IsSingleToCome files display w after) singles → HasLists files display w after (map seen vs) (singles ∷ []) lists
       → IsListing entry_cmp (IsToCome files display w after) (merged entry_cmp lists)
-  pushed-listing vs singles lists chosen single h = subst (λ xss. IsListing entry_cmp (IsToCome files display w after) (merged entry_cmp xss)) (sym h.behind) (parts-listing vs chosen singles single h.more h.are)
+  pushed-listing vs singles lists chosen single h =
+      subst (λ xss. IsListing entry_cmp (IsToCome files display w after) (merged entry_cmp xss)) (sym h.behind)
+      (parts-listing vs chosen singles single h.more h.are)
 
 -- there is the whole listing
-pub whole-parts : (files : List FileSaid) (display : Clock) (w : Window) (vs : List Version) → AreChosen files display vs → (lists : List (List Entry)) × AreLists files display w None (map seen vs) lists
+pub whole-parts : (files : List FileSaid) (display : Clock) (w : Window) (vs : List Version) → AreChosen files display vs →
+    (lists : List (List Entry)) × AreLists files display w None (map seen vs) lists
     → (list : List Entry) × IsListing entry_cmp (IsListed files display w) list
 whole-parts files display w vs chosen lists =
     let singles = singles-whole files display w vs chosen in
     (merged entry_cmp (singles.0 ∷ lists.0), parts-listing files display w None vs chosen singles.0 singles.1 lists.0 lists.1)
 
 -- and what comes is what of it stands after the key
-pub behind-key : (files : List FileSaid) (display : Clock) (w : Window) (after : Option Rank) (come : List Entry) → (list : List Entry) × IsListing entry_cmp (IsListed files display w) list → IsListing entry_cmp (IsToCome files display w after) come
+pub behind-key : (files : List FileSaid) (display : Clock) (w : Window) (after : Option Rank) (come : List Entry) →
+    (list : List Entry) × IsListing entry_cmp (IsListed files display w) list → IsListing entry_cmp (IsToCome files display w after) come
     → (list : List Entry) × IsListing entry_cmp (IsListed files display w) list × (come ≡ after_key after list)
 behind-key files display w after come whole h = (whole.0, whole.1, listing-after_key files display w after whole.0 come whole.1 h)

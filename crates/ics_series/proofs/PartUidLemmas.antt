@@ -60,7 +60,8 @@ no-source (Singles s) xs e = let no : Once ∷ xs ≡ [] = e in absurd cc
 no-source (Series s) xs e = own-some (clocks_in s.value.zones) s.value.event.now s.value.window s.value.since xs e
 
 -- the master of what stands in the list of one of the feeds
-master-in : (ps : List Part) (ms : List Recurring) (i : ℕ) (a : Entry) → flat_map part_sources ps ≡ map Of ms → IsIn a (get_or (map part_coming ps) i []) → (m : Recurring) × (IsIn m ms × (a.event ≡ m.event))
+master-in : (ps : List Part) (ms : List Recurring) (i : ℕ) (a : Entry) → flat_map part_sources ps ≡ map Of ms → IsIn a (get_or (map part_coming ps) i []) →
+    (m : Recurring) × (IsIn m ms × (a.event ≡ m.event))
 master-in [] ms i a e n = absurd n
 master-in (p ∷ ps) [] i a e n = absurd (no-source p (flat_map part_sources ps) e)
 master-in (p ∷ ps) (m ∷ ms) zero a e n = (m, (inl refl, (own-uid p a m (flat_map part_sources ps) (map Of ms) e n)))
@@ -70,7 +71,8 @@ master-in (p ∷ ps) (m ∷ ms) (suc i) a e n =
 
 alike : (a b : Entry) (m : Recurring) → a.event ≡ m.event → b.event ≡ m.event → entry_uid_cmp a b ≡ Equal
 alike a b m p q =
-    ap (λ (e : Event). slice_cmp nat_cmp e.uid b.event.uid) p ∙ (ap (λ (e : Event). slice_cmp nat_cmp m.event.uid e.uid) q ∙ tied_itself nat_list_cmp_total m.event.uid)
+    ap (λ (e : Event). slice_cmp nat_cmp e.uid b.event.uid) p
+    ∙ (ap (λ (e : Event). slice_cmp nat_cmp m.event.uid e.uid) q ∙ tied_itself nat_list_cmp_total m.event.uid)
 
 apart : (a b : Entry) (m n : Recurring) → a.event ≡ m.event → b.event ≡ n.event → uid_cmp m n ≡ Less → entry_uid_cmp a b ≡ Less
 apart a b m n p q l = ap (λ (e : Event). slice_cmp nat_cmp e.uid b.event.uid) p ∙ (ap (λ (e : Event). slice_cmp nat_cmp m.event.uid e.uid) q ∙ l)
@@ -88,7 +90,8 @@ cmp-suc : (i j : ℕ) → nat_cmp (suc i) (suc j) ≡ nat_cmp i j
 cmp-suc i j = grind (arith, nat_tests)
 
 -- the order of two UIDs is that of their feeds
-by-place : (ps : List Part) (ms : List Recurring) (i j : ℕ) (a b : Entry) → flat_map part_sources ps ≡ map Of ms → Rises uid_cmp ms → IsIn a (get_or (map part_coming ps) i []) → IsIn b (get_or (map part_coming ps) j [])
+by-place : (ps : List Part) (ms : List Recurring) (i j : ℕ) (a b : Entry) → flat_map part_sources ps ≡ map Of ms → Rises uid_cmp ms →
+    IsIn a (get_or (map part_coming ps) i []) → IsIn b (get_or (map part_coming ps) j [])
     → entry_uid_cmp a b ≡ nat_cmp i j
 by-place [] ms i j a b e r n k = absurd n
 by-place (p ∷ ps) [] i j a b e r n k = absurd (no-source p (flat_map part_sources ps) e)
@@ -96,18 +99,23 @@ by-place (p ∷ ps) (m ∷ ms) zero zero a b e r n k =
     alike a b m (own-uid p a m (flat_map part_sources ps) (map Of ms) e n) (own-uid p b m (flat_map part_sources ps) (map Of ms) e k) ∙ sym (cmp-same 0)
 by-place (p ∷ ps) (m ∷ ms) zero (suc j) a b e r n k =
     let later = master-in ps ms j b (rest-sources p (Of m) (flat_map part_sources ps) (map Of ms) e) k in
-    apart a b m later.0 (own-uid p a m (flat_map part_sources ps) (map Of ms) e n) later.1.1 (before-in uid_cmp (on_total (λ (r : Recurring). r.event.uid) nat_list_cmp_total) m later.0 ms r.0 later.1.0)
+    apart a b m later.0 (own-uid p a m (flat_map part_sources ps) (map Of ms) e n) later.1.1
+    (before-in uid_cmp (on_total (λ (r : Recurring). r.event.uid) nat_list_cmp_total) m later.0 ms r.0 later.1.0)
     ∙ sym (cmp-first j)
 by-place (p ∷ ps) (m ∷ ms) (suc i) zero a b e r n k =
     let later = master-in ps ms i a (rest-sources p (Of m) (flat_map part_sources ps) (map Of ms) e) n in
     nat_list_cmp_total.antisymm a.event.uid b.event.uid
-    ∙ (ap ordering_reverse (apart b a m later.0 (own-uid p b m (flat_map part_sources ps) (map Of ms) e k) later.1.1 (before-in uid_cmp (on_total (λ (r : Recurring). r.event.uid) nat_list_cmp_total) m later.0 ms r.0 later.1.0))
+    ∙ (ap ordering_reverse (apart b a m later.0 (own-uid p b m (flat_map part_sources ps) (map Of ms) e k) later.1.1
+    (before-in uid_cmp (on_total (λ (r : Recurring). r.event.uid) nat_list_cmp_total) m later.0 ms r.0 later.1.0))
     ∙ sym (cmp-behind i))
-by-place (p ∷ ps) (m ∷ ms) (suc i) (suc j) a b e r n k = by-place ps ms i j a b (rest-sources p (Of m) (flat_map part_sources ps) (map Of ms) e) r.1 n k ∙ sym (cmp-suc i j)
+by-place (p ∷ ps) (m ∷ ms) (suc i) (suc j) a b e r n k = by-place ps ms i j a b (rest-sources p (Of m) (flat_map part_sources ps) (map Of ms) e) r.1 n k
+    ∙ sym (cmp-suc i j)
 
 -- behind the feed of the events that start once
-pub parts-sorted : (ps : List Part) (ms : List Recurring) → flat_map part_sources ps ≡ Once ∷ map Of ms → Rises uid_cmp ms → AreSortedFrom 1 (map part_coming ps)
+pub parts-sorted : (ps : List Part) (ms : List Recurring) → flat_map part_sources ps ≡ Once ∷ map Of ms → Rises uid_cmp ms →
+    AreSortedFrom 1 (map part_coming ps)
 parts-sorted [] ms e r i a n j b low high k = absurd n
 parts-sorted (p ∷ ps) ms e r zero a n j b low high k = absurd (omega arith)
 parts-sorted (p ∷ ps) ms e r (suc i) a n zero b low high k = absurd (omega arith)
-parts-sorted (p ∷ ps) ms e r (suc i) a n (suc j) b low high k = by-place ps ms i j a b (rest-sources p Once (flat_map part_sources ps) (map Of ms) e) r n k ∙ sym (cmp-suc i j)
+parts-sorted (p ∷ ps) ms e r (suc i) a n (suc j) b low high k = by-place ps ms i j a b (rest-sources p Once (flat_map part_sources ps) (map Of ms) e) r n k
+    ∙ sym (cmp-suc i j)

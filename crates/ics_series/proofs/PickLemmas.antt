@@ -14,7 +14,8 @@ filter_map-map f h [] = refl
 filter_map-map f h (x ∷ xs) = ap (cons_option (h (f x))) (filter_map-map f h xs)
 
 module _ {A B : Type 0} (h : A → Option B) where
-  picked-by : (y : B) (x : A) (xs : List A) (o : Option B) → h x ≡ o → (IsIn y (filter_map h xs) → (z : A) × IsIn z xs × (h z ≡ Some y)) → IsIn y (cons_option o (filter_map h xs)) → (z : A) × IsIn z (x ∷ xs) × (h z ≡ Some y)
+  picked-by : (y : B) (x : A) (xs : List A) (o : Option B) → h x ≡ o → (IsIn y (filter_map h xs) → (z : A) × IsIn z xs × (h z ≡ Some y)) →
+      IsIn y (cons_option o (filter_map h xs)) → (z : A) × IsIn z (x ∷ xs) × (h z ≡ Some y)
   picked-by y x xs (Some v) e ih m = ⊎_elim (λ s. (x, inl refl, e ∙ ap Some (sym s))) (λ n. let k = ih n in (k.0, inr k.1, k.2)) m
   picked-by y x xs None e ih m = let k = ih m in (k.0, inr k.1, k.2)
 
@@ -23,7 +24,8 @@ module _ {A B : Type 0} (h : A → Option B) where
   picked y [] m = absurd m
   picked y (x ∷ xs) m = picked-by y x xs (h x) refl (picked y xs) m
 
-  in-picked-by : (x z : A) (y : B) (xs : List A) (o : Option B) → h z ≡ o → h x ≡ Some y → (IsIn x xs → IsIn y (filter_map h xs)) → IsIn x (z ∷ xs) → IsIn y (cons_option o (filter_map h xs))
+  in-picked-by : (x z : A) (y : B) (xs : List A) (o : Option B) → h z ≡ o → h x ≡ Some y → (IsIn x xs → IsIn y (filter_map h xs)) → IsIn x (z ∷ xs) →
+      IsIn y (cons_option o (filter_map h xs))
   in-picked-by x z y xs (Some v) e t ih m = ⊎_elim (λ s. inl (some-same y v (sym t ∙ (ap h s ∙ e)))) (λ n. inr (ih n)) m
   in-picked-by x z y xs None e t ih m = ⊎_elim (λ s. let f : Some y ≡ None = sym t ∙ (ap h s ∙ e) in absurd cc) ih m
 
@@ -32,12 +34,14 @@ module _ {A B : Type 0} (h : A → Option B) where
   in-picked x y (z ∷ xs) t m = in-picked-by x z y xs (h z) refl t (in-picked x y xs t) m
 
   -- R orders the list, and S so what is picked of it
-  module _ (R : A → A → Ordering) (o : IsTotalOrder R) (S : B → B → Ordering) (P : A → Type 0) (keeps : (x z : A) (y v : B) → P x → P z → h x ≡ Some y → h z ≡ Some v → R x z ≡ Less → S y v ≡ Less) where
+  module _ (R : A → A → Ordering) (o : IsTotalOrder R) (S : B → B → Ordering) (P : A → Type 0) (keeps : (x z : A) (y v : B) → P x → P z → h x ≡ Some y →
+      h z ≡ Some v → R x z ≡ Less → S y v ≡ Less) where
     before-all : (y : B) (vs : List B) → ((v : B) → IsIn v vs → S y v ≡ Less) → IsBefore S y vs
     before-all y [] f = tt
     before-all y (v ∷ vs) f = (f v (inl refl), before-all y vs (λ u m. f u (inr m)))
 
-    rises-by : (x : A) (xs : List A) (option : Option B) → h x ≡ option → P x → ((z : A) → IsIn z xs → P z) → IsBefore R x xs → Rises S (filter_map h xs) → Rises S (cons_option option (filter_map h xs))
+    rises-by : (x : A) (xs : List A) (option : Option B) → h x ≡ option → P x → ((z : A) → IsIn z xs → P z) → IsBefore R x xs → Rises S (filter_map h xs) →
+        Rises S (cons_option option (filter_map h xs))
     rises-by x xs (Some y) e p all b ih =
         (before-all y (filter_map h xs) (λ v m. let k = picked v xs m in keeps x k.0 y v p (all k.0 k.1) e k.2 (before-in R o x k.0 xs b k.1)), ih)
     rises-by x xs None e p all b ih = ih
@@ -47,7 +51,8 @@ module _ {A B : Type 0} (h : A → Option B) where
     rises-picked (x ∷ xs) all r = rises-by x xs (h x) refl (all x (inl refl)) (λ z m. all z (inr m)) r.0 (rises-picked xs (λ z m. all z (inr m)) r.1)
 
     -- of a listing of what P holds of, what is picked is the listing of what Q holds of
-    pub listing-picked : (Q : B → Type 0) (xs : List A) → IsListing R P xs → ((x : A) (y : B) → P x → h x ≡ Some y → Q y) → ((y : B) → Q y → (x : A) × P x × (h x ≡ Some y)) → IsListing S Q (filter_map h xs)
+    pub listing-picked : (Q : B → Type 0) (xs : List A) → IsListing R P xs → ((x : A) (y : B) → P x → h x ≡ Some y → Q y) →
+        ((y : B) → Q y → (x : A) × P x × (h x ≡ Some y)) → IsListing S Q (filter_map h xs)
     listing-picked Q xs l f g = record {
       rises = rises-picked xs (λ x m. (l.exact x).0 m) l.rises;
       exact = λ y. (

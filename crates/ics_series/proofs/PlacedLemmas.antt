@@ -37,7 +37,8 @@ placed_from-among file place (e ∷ es) p m =
     (λ n. let h = placed_from-among file (place + 1) es p n in record { in_file = h.in_file; from = suc h.from; at = omega (arith, h.at); is = h.is })
     m
 
-among-placed_from : (file place : ℕ) (events : List Event) (event : Event) (k : ℕ) → slice_get events k ≡ Some event → IsIn (make file (place + k) event) (placed_from file place events)
+among-placed_from : (file place : ℕ) (events : List Event) (event : Event) (k : ℕ) → slice_get events k ≡ Some event →
+    IsIn (make file (place + k) event) (placed_from file place events)
 among-placed_from file place [] event k e = let f : None ≡ Some event = e in cc
 among-placed_from file place (x ∷ xs) event zero e =
     inl (ap (λ n. make file n event) (omega arith) ∙ ap (make file place) (some-same event x (sym e)))
@@ -61,7 +62,8 @@ placed_in-among file (f ∷ fs) p m =
     record { from = suc h.from; in_file = omega (arith, h.in_file); of = h.of; is_file = h.is_file; is = h.is })
     (in-append p (placed_from file 0 f.events) (placed_in (file + 1) fs) m)
 
-among-placed_in : (file : ℕ) (files : List FileSaid) (of : FileSaid) (k place : ℕ) (event : Event) → slice_get files k ≡ Some of → slice_get of.events place ≡ Some event
+among-placed_in : (file : ℕ) (files : List FileSaid) (of : FileSaid) (k place : ℕ) (event : Event) → slice_get files k ≡ Some of →
+    slice_get of.events place ≡ Some event
     → IsIn (make (file + k) place event) (placed_in file files)
 among-placed_in file [] of k place event h e = let f : None ≡ Some of = h in cc
 among-placed_in file (f ∷ fs) of zero place event h e =

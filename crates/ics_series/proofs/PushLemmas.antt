@@ -25,28 +25,35 @@ module _ (files : List FileSaid) (display : Clock) (w : Window) (after : Option 
   pub lists-none : (before : List (List Entry)) → HasLists files display w after [] before before
   lists-none before = record { more = []; are = record { each = tt; every = λ l m. absurd m }; behind = sym (append-nil before) }
 
-  each-more : (labels : List Label) (l : Label) (lists : List (List Entry)) → AllByRecursion (IsOneOf files display w after labels) lists → AllByRecursion (IsOneOf files display w after (labels ++ l ∷ [])) lists
+  each-more : (labels : List Label) (l : Label) (lists : List (List Entry)) → AllByRecursion (IsOneOf files display w after labels) lists →
+      AllByRecursion (IsOneOf files display w after (labels ++ l ∷ [])) lists
   each-more labels l [] h = tt
-  each-more labels l (x ∷ xs) h = (record { label = h.0.label; stands = in-append_left h.0.label labels (l ∷ []) h.0.stands; listing = h.0.listing }, each-more labels l xs h.1)
+  each-more labels l (x ∷ xs) h =
+      (record { label = h.0.label; stands = in-append_left h.0.label labels (l ∷ []) h.0.stands; listing = h.0.listing }, each-more labels l xs h.1)
 
-  each-end : (labels : List Label) (l : Label) (lists : List (List Entry)) (list : List Entry) → AllByRecursion (IsOneOf files display w after labels) lists → IsListing entry_cmp (IsOfVersion files display w after l) list
+  each-end : (labels : List Label) (l : Label) (lists : List (List Entry)) (list : List Entry) → AllByRecursion (IsOneOf files display w after labels) lists →
+      IsListing entry_cmp (IsOfVersion files display w after l) list
       → AllByRecursion (IsOneOf files display w after (labels ++ l ∷ [])) (lists ++ list ∷ [])
   each-end labels l [] list h k = (record { label = l; stands = in-append_right l labels (l ∷ []) (inl refl); listing = k }, tt)
-  each-end labels l (x ∷ xs) list h k = (record { label = h.0.label; stands = in-append_left h.0.label labels (l ∷ []) h.0.stands; listing = h.0.listing }, each-end labels l xs list h.1 k)
+  each-end labels l (x ∷ xs) list h k =
+      (record { label = h.0.label; stands = in-append_left h.0.label labels (l ∷ []) h.0.stands; listing = h.0.listing }, each-end labels l xs list h.1 k)
 
   -- a version whose event does not recur has none
-  pub lists-skip : (labels : List Label) (l : Label) (before now : List (List Entry)) → HasLists files display w after labels before now → (Recurs files l → ⊥) → HasLists files display w after (labels ++ l ∷ []) before now
+  pub lists-skip : (labels : List Label) (l : Label) (before now : List (List Entry)) → HasLists files display w after labels before now →
+      (Recurs files l → ⊥) → HasLists files display w after (labels ++ l ∷ []) before now
   lists-skip labels l before now h n = record {
     more = h.more;
     are = record {
       each = each-more labels l h.more h.are.each;
-      every = λ k m r. ⊎_elim (λ a. h.are.every k a r) (λ a. ⊎_elim (λ e. absurd (n (subst (Recurs files) e r))) (λ b. absurd b) a) (in-append k labels (l ∷ []) m);
+      every = λ k m r. ⊎_elim (λ a. h.are.every k a r) (λ a. ⊎_elim (λ e. absurd (n (subst (Recurs files) e r))) (λ b. absurd b) a)
+          (in-append k labels (l ∷ []) m);
     };
     behind = h.behind;
   }
 
   -- the list of a version stands behind those of the versions before it
-  pub lists-more : (labels : List Label) (l : Label) (list : List Entry) (before now new : List (List Entry)) → HasLists files display w after labels before now → IsListing entry_cmp (IsOfVersion files display w after l) list
+  pub lists-more : (labels : List Label) (l : Label) (list : List Entry) (before now new : List (List Entry)) →
+      HasLists files display w after labels before now → IsListing entry_cmp (IsOfVersion files display w after l) list
       → new ≡ now ++ list ∷ [] → HasLists files display w after (labels ++ l ∷ []) before new
   lists-more labels l list before now new h k e = record {
     more = h.more ++ list ∷ [];
@@ -54,7 +61,11 @@ module _ (files : List FileSaid) (display : Clock) (w : Window) (after : Option 
       each = each-end labels l h.more list h.are.each k;
       every = λ x m r.
           ⊎_elim (λ a. let s = h.are.every x a r in record { list = s.list; stands = in-append_left s.list h.more (list ∷ []) s.stands; listing = s.listing })
-          (λ a. ⊎_elim (λ q. record { list = list; stands = in-append_right list h.more (list ∷ []) (inl refl); listing = subst (λ y. IsListing entry_cmp (IsOfVersion files display w after y) list) (sym q) k }) (λ b. absurd b) a)
+          (λ a. ⊎_elim (λ q. record {
+            list = list;
+            stands = in-append_right list h.more (list ∷ []) (inl refl);
+            listing = subst (λ y. IsListing entry_cmp (IsOfVersion files display w after y) list) (sym q) k;
+          }) (λ b. absurd b) a)
           (in-append x labels (l ∷ []) m);
     };
     behind = e ∙ (ap (λ xs. xs ++ list ∷ []) h.behind ∙ append_assoc before h.more (list ∷ []));
@@ -64,15 +75,21 @@ module _ (files : List FileSaid) (display : Clock) (w : Window) (after : Option 
   pub taken : (vs : List Version) (i j : ℕ) (d : Version) → j ≡ suc i → i < length vs → map seen (take i vs) ++ seen (get_or vs i d) ∷ [] ≡ map seen (take j vs)
   taken vs i j d next l = sym (ap (λ n. map seen (take n vs)) next ∙ (ap (map seen) (take-suc vs i d l) ∙ map-append seen (take i vs) (get_or vs i d ∷ [])))
 
-  pub versions-skip : (vs : List Version) (i j : ℕ) (d : Version) (before now : List (List Entry)) → j ≡ suc i → i < length vs → HasLists files display w after (map seen (take i vs)) before now
+  pub versions-skip : (vs : List Version) (i j : ℕ) (d : Version) (before now : List (List Entry)) → j ≡ suc i → i < length vs →
+      HasLists files display w after (map seen (take i vs)) before now
       → (Recurs files (seen (get_or vs i d)) → ⊥) → HasLists files display w after (map seen (take j vs)) before now
   versions-skip vs i j d before now next l h n =
-      subst (λ ls. HasLists files display w after ls before now) (taken vs i j d next l) (lists-skip (map seen (take i vs)) (seen (get_or vs i d)) before now h n)
+      subst (λ ls. HasLists files display w after ls before now) (taken vs i j d next l)
+      (lists-skip (map seen (take i vs)) (seen (get_or vs i d)) before now h n)
 
-  pub versions-more : (vs : List Version) (i j : ℕ) (d : Version) (list : List Entry) (before now new : List (List Entry)) → j ≡ suc i → i < length vs → HasLists files display w after (map seen (take i vs)) before now
-      → IsListing entry_cmp (IsOfVersion files display w after (seen (get_or vs i d))) list → new ≡ now ++ list ∷ [] → HasLists files display w after (map seen (take j vs)) before new
+  pub versions-more : (vs : List Version) (i j : ℕ) (d : Version) (list : List Entry) (before now new : List (List Entry)) → j ≡ suc i → i < length vs →
+      HasLists files display w after (map seen (take i vs)) before now
+      → IsListing entry_cmp (IsOfVersion files display w after (seen (get_or vs i d))) list → new ≡ now ++ list ∷ [] →
+      HasLists files display w after (map seen (take j vs)) before new
   versions-more vs i j d list before now new next l h k e =
-      subst (λ ls. HasLists files display w after ls before new) (taken vs i j d next l) (lists-more (map seen (take i vs)) (seen (get_or vs i d)) list before now new h k e)
+      subst (λ ls. HasLists files display w after ls before new) (taken vs i j d next l)
+      (lists-more (map seen (take i vs)) (seen (get_or vs i d)) list before now new h k e)
 
-  pub versions-all : (vs : List Version) (i : ℕ) (before now : List (List Entry)) → length vs ≤ i → HasLists files display w after (map seen (take i vs)) before now → HasLists files display w after (map seen vs) before now
+  pub versions-all : (vs : List Version) (i : ℕ) (before now : List (List Entry)) → length vs ≤ i →
+      HasLists files display w after (map seen (take i vs)) before now → HasLists files display w after (map seen vs) before now
   versions-all vs i before now l h = subst (λ xs. HasLists files display w after (map seen xs) before now) (take_all i vs l) h

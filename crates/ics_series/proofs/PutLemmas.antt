@@ -16,7 +16,8 @@ module _ {A : Type 0} (R : A → A → Ordering) (o : IsTotalOrder R) where
   put x [] = x ∷ []
   put x (y ∷ ys) = cond (is_lt (R x y)) (x ∷ y ∷ ys) (y ∷ put x ys)
 
-  put-in-by : (e x y : A) (ys : List A) (b : Bool) → (IsIn e (put x ys) → (e ≡ x) ⊎ IsIn e ys) → IsIn e (cond b (x ∷ y ∷ ys) (y ∷ put x ys)) → (e ≡ x) ⊎ IsIn e (y ∷ ys)
+  put-in-by : (e x y : A) (ys : List A) (b : Bool) → (IsIn e (put x ys) → (e ≡ x) ⊎ IsIn e ys) → IsIn e (cond b (x ∷ y ∷ ys) (y ∷ put x ys)) →
+      (e ≡ x) ⊎ IsIn e (y ∷ ys)
   put-in-by e x y ys true ih m = m
   put-in-by e x y ys false ih m = ⊎_elim (λ s. inr (inl s)) (λ n. ⊎_elim inl (λ k. inr (inr k)) (ih n)) m
 
@@ -24,7 +25,8 @@ module _ {A : Type 0} (R : A → A → Ordering) (o : IsTotalOrder R) where
   put-in e x [] m = m
   put-in e x (y ∷ ys) m = put-in-by e x y ys (is_lt (R x y)) (put-in e x ys) m
 
-  in-put-by : (e x y : A) (ys : List A) (b : Bool) → ((e ≡ x) ⊎ IsIn e ys → IsIn e (put x ys)) → (e ≡ x) ⊎ IsIn e (y ∷ ys) → IsIn e (cond b (x ∷ y ∷ ys) (y ∷ put x ys))
+  in-put-by : (e x y : A) (ys : List A) (b : Bool) → ((e ≡ x) ⊎ IsIn e ys → IsIn e (put x ys)) → (e ≡ x) ⊎ IsIn e (y ∷ ys) →
+      IsIn e (cond b (x ∷ y ∷ ys) (y ∷ put x ys))
   in-put-by e x y ys true ih m = m
   in-put-by e x y ys false ih m = ⊎_elim (λ s. inr (ih (inl s))) (λ n. ⊎_elim inl (λ k. inr (ih (inr k))) n) m
 
@@ -32,7 +34,8 @@ module _ {A : Type 0} (R : A → A → Ordering) (o : IsTotalOrder R) where
   in-put e x [] m = m
   in-put e x (y ∷ ys) m = in-put-by e x y ys (is_lt (R x y)) (in-put e x ys) m
 
-  before-put-by : (z x y : A) (ys : List A) (b : Bool) → R z x ≡ Less → R z y ≡ Less → IsBefore R z ys → IsBefore R z (put x ys) → IsBefore R z (cond b (x ∷ y ∷ ys) (y ∷ put x ys))
+  before-put-by : (z x y : A) (ys : List A) (b : Bool) → R z x ≡ Less → R z y ≡ Less → IsBefore R z ys → IsBefore R z (put x ys) →
+      IsBefore R z (cond b (x ∷ y ∷ ys) (y ∷ put x ys))
   before-put-by z x y ys true l k h ih = (l, (k, h))
   before-put-by z x y ys false l k h ih = (k, ih)
 
@@ -40,7 +43,8 @@ module _ {A : Type 0} (R : A → A → Ordering) (o : IsTotalOrder R) where
   before-put z x [] l h = (l, tt)
   before-put z x (y ∷ ys) l h = before-put-by z x y ys (is_lt (R x y)) l h.0 h.1 (before-put z x ys l h.1)
 
-  rises-put-by : (x y : A) (ys : List A) (c : Ordering) → R x y ≡ c → (R x y ≡ Equal → ⊥) → IsBefore R y ys → Rises R ys → Rises R (put x ys) → Rises R (cond (is_lt c) (x ∷ y ∷ ys) (y ∷ put x ys))
+  rises-put-by : (x y : A) (ys : List A) (c : Ordering) → R x y ≡ c → (R x y ≡ Equal → ⊥) → IsBefore R y ys → Rises R ys → Rises R (put x ys) →
+      Rises R (cond (is_lt c) (x ∷ y ∷ ys) (y ∷ put x ys))
   rises-put-by x y ys Less e n h r ih = ((e, before-trans R o x y ys e h), (h, r))
   rises-put-by x y ys Equal e n h r ih = absurd (n e)
   rises-put-by x y ys Greater e n h r ih = (before-put y x ys (o.antisymm y x ∙ ap ordering_reverse e) h, ih)

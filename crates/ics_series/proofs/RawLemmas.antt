@@ -4,7 +4,8 @@ use Rattle.std.specs.List.{AllByRecursion}
 use Rattle.std.specs.Ordering.{is_gt, ordering_reverse}
 use Rattle.std.specs.declared.cmp.Ordering.{Ordering}
 use Rattle.std.specs.declared.cmp.Ordering.TheVariants.{Less, Equal, Greater}
-use Rattle.std.proofs.Common.{◌≡◌, ℕ, zero, suc, ◌+◌, ◌<◌, ℤ, Bool, true, false, ◌&&◌, cond, List, [], ◌∷◌, ◌++◌, length, Option, Some, None, ◌⊎◌, inl, inr, ⊎_elim, refl, sym, ◌∙◌, ap, subst, length-append, arith}
+use Rattle.std.proofs.Common.{◌≡◌, ℕ, zero, suc, ◌+◌, ◌<◌, ℤ, Bool, true, false, ◌&&◌, cond, List, [], ◌∷◌, ◌++◌, length, Option, Some, None, ◌⊎◌, inl, inr}
+use Rattle.std.proofs.Common.{⊎_elim, refl, sym, ◌∙◌, ap, subst, length-append, arith}
 use Rattle.std.proofs.lemmas.Int.{ints}
 use Rattle.std.proofs.lemmas.List.Sums.{sum_by-cons}
 use Rattle.ics_values.specs.Days.{IsDayNumber}
@@ -80,11 +81,13 @@ module _ (test : ℕ → Bool) where
           (all-in (λ g. source_cmp g (Kept (local_numbered n)) ≡ Less) rest.sources
           (λ g m. let p = (rest.listing.exact g).0 m in ap (λ x. source_cmp x (Kept (local_numbered n))) p.is ∙ earlier-local p.at n p.below));
       exact = λ g. (
-        λ m. ⊎_elim (λ k. on-passing n g ((rest.listing.exact g).0 k)) (λ k. ⊎_elim (λ s. record { at = n; below = omega arith; passes = e; is = s }) (λ no. absurd no) k)
+        λ m. ⊎_elim (λ k. on-passing n g ((rest.listing.exact g).0 k))
+            (λ k. ⊎_elim (λ s. record { at = n; below = omega arith; passes = e; is = s }) (λ no. absurd no) k)
             (in-append g rest.sources (Kept (local_numbered n) ∷ []) m),
         λ p.
             ⊎_elim
-            (λ l. in-append_left g rest.sources (Kept (local_numbered n) ∷ []) ((rest.listing.exact g).1 (record { at = p.at; below = l; passes = p.passes; is = p.is })))
+            (λ l. in-append_left g rest.sources (Kept (local_numbered n)
+            ∷ []) ((rest.listing.exact g).1 (record { at = p.at; below = l; passes = p.passes; is = p.is })))
             (λ s. in-append_right g rest.sources (Kept (local_numbered n) ∷ []) (inl (p.is ∙ ap (λ i. Kept (local_numbered i)) s)))
             (below-or-last p.at n p.below),
       );
@@ -109,7 +112,11 @@ module _ (test : ℕ → Bool) where
 
   passing : (n : ℕ) → Counts (IsPassing test n) (count n test)
   unfolding count
-  passing zero = record { sources = []; listing = record { rises = tt; exact = λ g. (λ m. absurd m, λ p. let no : ⊥ = omega (arith, p.below) in absurd no) }; count = refl }
+  passing zero = record {
+    sources = [];
+    listing = record { rises = tt; exact = λ g. (λ m. absurd m, λ p. let no : ⊥ = omega (arith, p.below) in absurd no) };
+    count = refl;
+  }
   passing (suc n) = subst (Counts (IsPassing test (suc n))) (sym (count-suc n test)) (one-passing n (test n) refl (passing n))
 
 -- Of some RDATEs, which stand from a place on, those that pass a test.
@@ -127,20 +134,34 @@ module _ (test : Rdate → Bool) where
   on-listed : (place : ℕ) (r : Rdate) (rs : List Rdate) (g : StartSource) → IsListedFrom test (place + 1) rs g → IsListedFrom test place (r ∷ rs) g
   on-listed place r rs g p = record { at = suc p.at; rdate = p.rdate; stands = p.stands; passes = p.passes; is = p.is ∙ ap Listed (omega arith) }
 
-  first-or-on : (place : ℕ) (r : Rdate) (rs : List Rdate) (g : StartSource) (p : IsListedFrom test place (r ∷ rs) g) (at : ℕ) → p.at ≡ at → ((test r ≡ true) × (g ≡ Listed place)) ⊎ IsListedFrom test (place + 1) rs g
+  first-or-on : (place : ℕ) (r : Rdate) (rs : List Rdate) (g : StartSource) (p : IsListedFrom test place (r ∷ rs) g) (at : ℕ) → p.at ≡ at →
+      ((test r ≡ true) × (g ≡ Listed place)) ⊎ IsListedFrom test (place + 1) rs g
   first-or-on place r rs g p zero e =
       let same : r ≡ p.rdate = some-same r p.rdate (ap (slice_get (r ∷ rs)) (sym e) ∙ p.stands) in
       inl (ap test same ∙ p.passes, p.is ∙ ap Listed (omega (arith, e)))
   first-or-on place r rs g p (suc at) e =
-      inr (record { at = at; rdate = p.rdate; stands = ap (slice_get (r ∷ rs)) (sym e) ∙ p.stands; passes = p.passes; is = p.is ∙ ap Listed (omega (arith, e)) })
+      inr (record {
+        at = at;
+        rdate = p.rdate;
+        stands = ap (slice_get (r ∷ rs)) (sym e) ∙ p.stands;
+        passes = p.passes;
+        is = p.is
+            ∙ ap Listed (omega (arith, e));
+      })
 
-  one-listed : (place : ℕ) (r : Rdate) (rs : List Rdate) (b : Bool) → test r ≡ b → Counts (IsListedFrom test (place + 1) rs) (count_by test rs) → Counts (IsListedFrom test place (r ∷ rs)) (cond b 1 0 + count_by test rs)
+  one-listed : (place : ℕ) (r : Rdate) (rs : List Rdate) (b : Bool) → test r ≡ b → Counts (IsListedFrom test (place + 1) rs) (count_by test rs) →
+      Counts (IsListedFrom test place (r ∷ rs)) (cond b 1 0 + count_by test rs)
   one-listed place r rs true e rest = record {
     sources = Listed place ∷ rest.sources;
     listing = record {
-      rises = (before rest.sources (λ g m. let p = (rest.listing.exact g).0 m in ap (source_cmp (Listed place)) p.is ∙ later-place place (place + 1 + p.at) (omega arith)), rest.listing.rises);
+      rises = (
+        before rest.sources (λ g m. let p = (rest.listing.exact g).0 m in ap (source_cmp (Listed place)) p.is
+            ∙ later-place place (place + 1 + p.at) (omega arith)),
+        rest.listing.rises,
+      );
       exact = λ g. (
-        λ m. ⊎_elim (λ s. record { at = 0; rdate = r; stands = refl; passes = e; is = s ∙ ap Listed (omega arith) }) (λ k. on-listed place r rs g ((rest.listing.exact g).0 k)) m,
+        λ m. ⊎_elim (λ s. record { at = 0; rdate = r; stands = refl; passes = e; is = s ∙ ap Listed (omega arith) })
+            (λ k. on-listed place r rs g ((rest.listing.exact g).0 k)) m,
         λ p. ⊎_elim (λ f. inl f.1) (λ k. inr ((rest.listing.exact g).1 k)) (first-or-on place r rs g p p.at refl),
       );
     };
@@ -163,8 +184,14 @@ module _ (test : Rdate → Bool) where
   }
 
   listed : (place : ℕ) (rs : List Rdate) → Counts (IsListedFrom test place rs) (count_by test rs)
-  listed place [] = record { sources = []; listing = record { rises = tt; exact = λ g. (λ m. absurd m, λ p. let no : None ≡ Some p.rdate = p.stands in absurd cc) }; count = refl }
-  listed place (r ∷ rs) = subst (Counts (IsListedFrom test place (r ∷ rs))) (sym (sum_by-cons (λ x. cond (test x) 1 0) r rs)) (one-listed place r rs (test r) refl (listed (place + 1) rs))
+  listed place [] = record {
+    sources = [];
+    listing =
+        record { rises = tt; exact = λ g. (λ m. absurd m, λ p. let no : None ≡ Some p.rdate = p.stands in absurd cc) };
+    count = refl;
+  }
+  listed place (r ∷ rs) = subst (Counts (IsListedFrom test place (r ∷ rs))) (sym (sum_by-cons (λ x. cond (test x) 1 0) r rs))
+      (one-listed place r rs (test r) refl (listed (place + 1) rs))
 
 module _ (clocks : Clocks) (event : Event) (day : ℤ) (time : IsTime event.start) where
   abbrev is_there : Rdate → Bool
@@ -172,7 +199,8 @@ module _ (clocks : Clocks) (event : Event) (day : ℤ) (time : IsTime event.star
 
   -- what a local gives in the days
   abbrev IsRawLocal : Local → Type 0
-  IsRawLocal local = ((local ≡ local_of event.start.stamp) ⊎ IsRuleStart clocks event local) × (is_within_days day (instant clocks (time_at event.start local)) ≡ true)
+  IsRawLocal local = ((local ≡ local_of event.start.stamp) ⊎ IsRuleStart clocks event local)
+      × (is_within_days day (instant clocks (time_at event.start local)) ≡ true)
 
   abbrev IsRawKept : StartSource → Type 0
   IsRawKept (Kept local) = IsRawLocal local
@@ -188,7 +216,11 @@ module _ (clocks : Clocks) (event : Event) (day : ℤ) (time : IsTime event.star
   once-by : (b : Bool) → is_within_days day (instant clocks event.start) ≡ b → recurrence_of event ≡ None → Counts IsRawKept (if b then 1 else 0)
   once-by true e none = record {
     sources = Kept (local_of event.start.stamp) ∷ [];
-    listing = record { rises = (tt, tt); exact = λ g. (λ m. ⊎_elim (λ s. subst IsRawKept (sym s) (inl refl, ap (is_within_days day) own-instant ∙ e)) (λ no. absurd no) m, λ p. back g p) };
+    listing = record {
+      rises = (tt, tt);
+      exact =
+          λ g. (λ m. ⊎_elim (λ s. subst IsRawKept (sym s) (inl refl, ap (is_within_days day) own-instant ∙ e)) (λ no. absurd no) m, λ p. back g p);
+    };
     count = refl;
   }
     where
@@ -200,7 +232,8 @@ module _ (clocks : Clocks) (event : Event) (day : ℤ) (time : IsTime event.star
       back : (g : StartSource) → IsRawKept g → IsIn g []
       back (Kept local) p =
           let same : local ≡ local_of event.start.stamp = ⊎_elim (λ s. s) (λ r. absurd (none-ruled local none r)) p.0 in
-          let no : true ≡ false = sym p.1 ∙ (ap (λ l. is_within_days day (instant clocks (time_at event.start l))) same ∙ (ap (is_within_days day) own-instant ∙ e)) in
+          let no : true ≡ false = sym p.1 ∙ (ap (λ l. is_within_days day (instant clocks (time_at event.start l))) same
+          ∙ (ap (is_within_days day) own-instant ∙ e)) in
           absurd cc
       back (Listed place) p = absurd p
 
@@ -223,7 +256,8 @@ module _ (clocks : Clocks) (event : Event) (day : ℤ) (time : IsTime event.star
 
     local-day : (local : Local) → (local ≡ local_of event.start.stamp) ⊎ IsRuleStart clocks event local → IsDayNumber local.day
     local-day local k =
-        ⊎_elim (λ s. subst (λ (l : Local). IsDayNumber l.day) (sym s) (calendar-day (local_of event.start.stamp).day (own-day event.start time))) (λ r. r.calendar) k
+        ⊎_elim (λ s. subst (λ (l : Local). IsDayNumber l.day) (sym s) (calendar-day (local_of event.start.stamp).day (own-day event.start time)))
+        (λ r. r.calendar) k
 
     passing-raw : (g : StartSource) → IsRawKept g → IsPassing (is_raw clocks event rule day) calendar_end g
     passing-raw (Kept local) p =
@@ -234,8 +268,10 @@ module _ (clocks : Clocks) (event : Event) (day : ℤ) (time : IsTime event.star
         record {
           at = number local;
           below = omega (arith, ints, of_day.0, of_day.1, local.second_in);
-          passes = and_both (is_kept rule (number local)) (lets_until rule (number local) (moment_numbered clocks event (number local)) && is_within_days day (moment_numbered clocks event (number local))) parts.0
-              (and_both (lets_until rule (number local) (moment_numbered clocks event (number local))) (is_within_days day (moment_numbered clocks event (number local)))
+          passes = and_both (is_kept rule (number local)) (lets_until rule (number local) (moment_numbered clocks event (number local))
+              && is_within_days day (moment_numbered clocks event (number local))) parts.0
+              (and_both (lets_until rule (number local) (moment_numbered clocks event (number local)))
+              (is_within_days day (moment_numbered clocks event (number local)))
               (ap (lets_until rule (number local)) there ∙ parts.1) (ap (is_within_days day) there ∙ p.1));
           is = ap Kept (sym same);
         }
@@ -247,7 +283,11 @@ module _ (clocks : Clocks) (event : Event) (day : ℤ) (time : IsTime event.star
         let all = passing (is_raw clocks event rule day) calendar_end in
         record {
           sources = all.sources;
-          listing = record { rises = all.listing.rises; exact = λ g. (λ m. raw-passing g ((all.listing.exact g).0 m), λ p. (all.listing.exact g).1 (passing-raw g p)) };
+          listing = record {
+            rises = all.listing.rises;
+            exact =
+                λ g. (λ m. raw-passing g ((all.listing.exact g).0 m), λ p. (all.listing.exact g).1 (passing-raw g p));
+          };
           count = all.count;
         }
 
@@ -259,7 +299,8 @@ module _ (clocks : Clocks) (event : Event) (day : ℤ) (time : IsTime event.star
   abbrev IsRawSource : StartSource → Type 0
   IsRawSource g = IsRawKept g ⊎ IsListedFrom is_there 0 event.rdates g
 
-  locals-first : (xs ys : List StartSource) → ((g : StartSource) → IsIn g xs → IsRawKept g) → ((g : StartSource) → IsIn g ys → IsListedFrom is_there 0 event.rdates g) → Rises source_cmp xs → Rises source_cmp ys → Rises source_cmp (xs ++ ys)
+  locals-first : (xs ys : List StartSource) → ((g : StartSource) → IsIn g xs → IsRawKept g) →
+      ((g : StartSource) → IsIn g ys → IsListedFrom is_there 0 event.rdates g) → Rises source_cmp xs → Rises source_cmp ys → Rises source_cmp (xs ++ ys)
   locals-first [] ys h k r s = s
   locals-first (x ∷ xs) ys h k r s = (ahead x xs (h x (inl refl)) r.0, locals-first xs ys (λ g m. h g (inr m)) k r.1 s)
     where
@@ -267,7 +308,8 @@ module _ (clocks : Clocks) (event : Event) (day : ℤ) (time : IsTime event.star
       kept-before (Kept local) g p q = ap (source_cmp (Kept local)) q.is ∙ source-before (Kept local) (Listed (0 + q.at)) (λ no. no)
       kept-before (Listed place) g p q = absurd p
 
-      all-before : (x : StartSource) (zs : List StartSource) → IsRawKept x → ((g : StartSource) → IsIn g zs → IsListedFrom is_there 0 event.rdates g) → IsBefore source_cmp x zs
+      all-before : (x : StartSource) (zs : List StartSource) → IsRawKept x → ((g : StartSource) → IsIn g zs → IsListedFrom is_there 0 event.rdates g) →
+          IsBefore source_cmp x zs
       all-before x [] p k = tt
       all-before x (z ∷ zs) p k = (kept-before x z p (k z (inl refl)), all-before x zs p (λ g m. k g (inr m)))
 
@@ -304,14 +346,18 @@ module _ (clocks : Clocks) (event : Event) (day : ℤ) (time : IsTime event.star
       let rest = listed is_there 0 event.rdates in (
         kept.sources ++ rest.sources,
         record {
-          rises = locals-first kept.sources rest.sources (λ g m. (kept.listing.exact g).0 m) (λ g m. (rest.listing.exact g).0 m) kept.listing.rises rest.listing.rises;
+          rises = locals-first kept.sources rest.sources (λ g m. (kept.listing.exact g).0 m) (λ g m. (rest.listing.exact g).0 m) kept.listing.rises
+              rest.listing.rises;
           exact = λ g. (
-            λ m. source-raw g (⊎_elim (λ k. inl ((kept.listing.exact g).0 k)) (λ k. inr ((rest.listing.exact g).0 k)) (in-append g kept.sources rest.sources m)),
-            λ r. ⊎_elim (λ p. in-append_left g kept.sources rest.sources ((kept.listing.exact g).1 p)) (λ q. in-append_right g kept.sources rest.sources ((rest.listing.exact g).1 q)) (raw-source g r),
+            λ m. source-raw g (⊎_elim (λ k. inl ((kept.listing.exact g).0 k)) (λ k. inr ((rest.listing.exact g).0 k))
+                (in-append g kept.sources rest.sources m)),
+            λ r. ⊎_elim (λ p. in-append_left g kept.sources rest.sources ((kept.listing.exact g).1 p))
+                (λ q. in-append_right g kept.sources rest.sources ((rest.listing.exact g).1 q)) (raw-source g r),
           );
         },
         omega (arith, length-append kept.sources rest.sources, kept.count, rest.count),
       )
 
-pub raw-counted : (clocks : Clocks) (event : Event) (day : ℤ) → IsTime event.start → (sources : List StartSource) × IsListing source_cmp (IsRaw clocks event day) sources × (length sources ≡ raw_in clocks event day)
+pub raw-counted : (clocks : Clocks) (event : Event) (day : ℤ) → IsTime event.start →
+    (sources : List StartSource) × IsListing source_cmp (IsRaw clocks event day) sources × (length sources ≡ raw_in clocks event day)
 raw-counted clocks event day time = raw-list clocks event day time

@@ -1,6 +1,7 @@
 -- What a master gives that recurs: of the occurrences to come those of its event.
 use Rattle.std.specs.Prelude.{◌≤ℤ◌, ◌||◌, ◌&&◌, ◌==◌, int_le, neg_ℤ, not, slice_get, is_none, is_some}
-use Rattle.std.proofs.Common.{◌≡◌, ◌<◌, ◌<ℤ◌, ℕ, zero, suc, ℤ, pos, List, [], ◌∷◌, map, length, get_or, inl, inr, Option, Some, None, Bool, true, false, refl, sym, ◌∙◌, ap, subst, arith}
+use Rattle.std.proofs.Common.{◌≡◌, ◌<◌, ◌<ℤ◌, ℕ, zero, suc, ℤ, pos, List, [], ◌∷◌, map, length, get_or, inl, inr, Option, Some, None, Bool, true, false, refl}
+use Rattle.std.proofs.Common.{sym, ◌∙◌, ap, subst, arith}
 use Rattle.std.specs.List.{filter, list_any}
 use Rattle.std.specs.Option.{option_map}
 use Rattle.std.specs.Ordering.{int_eq}
@@ -64,7 +65,8 @@ of-late zones event o e h =
     let starts = h.lasts.starts in
     omega (arith, ints, near, starts)
 
-module _ (files : List FileSaid) (display : Clock) (w : Window) (after : Option Rank) (vs : List Version) (chosen : AreChosen files display vs) (label : Label) (there : IsIn label (map seen vs))
+module _ (files : List FileSaid) (display : Clock) (w : Window) (after : Option Rank) (vs : List Version) (chosen : AreChosen files display vs) (label : Label)
+    (there : IsIn label (map seen vs))
     (event : Event) (stands : event_at files label.spot ≡ Some event) (recurs : is_single event ≡ false) where
   abbrev clocks : Clocks
   clocks = clocks_at files display label.spot.file
@@ -74,7 +76,8 @@ module _ (files : List FileSaid) (display : Clock) (w : Window) (after : Option 
   own = in-map (label_of files display) label chosen.chosen (subst (IsIn label) chosen.are there)
 
   pub own-event : own.0.event ≡ event
-  own-event = some-same own.0.event event (sym (placed-event files own.0 ((chosen.listing.exact own.0).0 own.1).placed) ∙ (ap (λ (l : Label). event_at files l.spot) (sym own.2) ∙ stands))
+  own-event = some-same own.0.event event (sym (placed-event files own.0 ((chosen.listing.exact own.0).0 own.1).placed)
+      ∙ (ap (λ (l : Label). event_at files l.spot) (sym own.2) ∙ stands))
 
   pub own-clocks : clocks_at files display own.0.file ≡ clocks
   own-clocks = ap (λ (l : Label). clocks_at files display l.spot.file) (sym own.2)
@@ -84,13 +87,16 @@ module _ (files : List FileSaid) (display : Clock) (w : Window) (after : Option 
   own-subject =
       ap (λ (l : Label). l.subject) own.2
       ∙ ((λ i. record { uid = (own-event i).uid; recurrence = option_map (instant (clocks_at files display own.0.file)) (own-event i).recurrence })
-      ∙ ap (λ (r : Option Time). record { uid = event.uid; recurrence = option_map (instant (clocks_at files display own.0.file)) r }) (recurring-master event recurs))
+      ∙ ap (λ (r : Option Time). record { uid = event.uid; recurrence = option_map (instant (clocks_at files display own.0.file)) r })
+      (recurring-master event recurs))
 
-  module _ (zones : FileZones) (read : clocks_in zones ≡ clocks) (is_event : IsEvent event) (since : ℤ) (from : IsSince after event.uid since) (instants : List ℤ) (are : AreOverridden event.uid (map seen vs) instants) where
+  module _ (zones : FileZones) (read : clocks_in zones ≡ clocks) (is_event : IsEvent event) (since : ℤ) (from : IsSince after event.uid since)
+      (instants : List ℤ) (are : AreOverridden event.uid (map seen vs) instants) where
     named : (o : Entry) → o.event ≡ event → is_kept (map seen vs) o ≡ not (list_any (λ x. int_eq x o.recurrence) instants)
     named o e =
         ap (λ (v : Event). is_some v.recurrence || not (is_named (record { uid = v.uid; recurrence = Some o.recurrence }) (map seen vs))) e
-        ∙ (ap (λ (r : Option Time). is_some r || not (is_named (record { uid = event.uid; recurrence = Some o.recurrence }) (map seen vs))) (recurring-master event recurs)
+        ∙ (ap (λ (r : Option Time). is_some r || not (is_named (record { uid = event.uid; recurrence = Some o.recurrence }) (map seen vs)))
+        (recurring-master event recurs)
         ∙ ap not (sym (are o.recurrence)))
 
     begun : (o : Entry) → IsOf clocks event o → o.start <ℤ w.to → is_after after o ≡ int_le since o.start
@@ -105,7 +111,8 @@ module _ (files : List FileSaid) (display : Clock) (w : Window) (after : Option 
           by = own.0;
           chosen = (chosen.listing.exact own.0).0 own.1;
           is = (
-            subst (λ r. IsGivenBy (clocks_at files display own.0.file) own.0.event (option_map (instant (clocks_at files display own.0.file)) r) o) (sym (ap (λ (v : Event). v.recurrence) own-event ∙ recurring-master event recurs))
+            subst (λ r. IsGivenBy (clocks_at files display own.0.file) own.0.event (option_map (instant (clocks_at files display own.0.file)) r) o)
+                (sym (ap (λ (v : Event). v.recurrence) own-event ∙ recurring-master event recurs))
                 (subst (λ v. IsOf (clocks_at files display own.0.file) v o) (sym own-event) (subst (λ k. IsOf k event o) (sym own-clocks) of)),
             m.0.1,
           );
@@ -124,7 +131,8 @@ module _ (files : List FileSaid) (display : Clock) (w : Window) (after : Option 
         let listed = listed-given files display w vs chosen o (come-listed files display w after o h.to_come) in
         let meets = listed.0.is.1 in
         let out : list_any (λ x. int_eq x o.start) instants ≡ false =
-        ap (λ t. list_any (λ x. int_eq x t) instants) (sym of.recurrence) ∙ not-true (list_any (λ x. int_eq x o.recurrence) instants) (sym (named o of.event) ∙ listed.1) in (
+        ap (λ t. list_any (λ x. int_eq x t) instants) (sym of.recurrence)
+        ∙ not-true (list_any (λ x. int_eq x o.recurrence) instants) (sym (named o of.event) ∙ listed.1) in (
           (of, meets),
           (
             int_le_true since o.start (sym (begun o of meets.begun) ∙ is-after files display w vs chosen after o h.to_come),
@@ -133,7 +141,8 @@ module _ (files : List FileSaid) (display : Clock) (w : Window) (after : Option 
         )
 
     -- what its series gives are its occurrences to come
-    pub series-listing : (list : List Entry) → IsListing entry_cmp (IsSeriesMet (clocks_in zones) event w since instants) list → IsListing entry_cmp (IsOfVersion files display w after label) list
+    pub series-listing : (list : List Entry) → IsListing entry_cmp (IsSeriesMet (clocks_in zones) event w since instants) list →
+        IsListing entry_cmp (IsOfVersion files display w after label) list
     series-listing list l =
         let k = subst (λ k. IsListing entry_cmp (IsSeriesMet k event w since instants) list) read l in record {
           rises = k.rises;
@@ -153,24 +162,29 @@ version-there xs k d x l e = some-same (get_or xs k d) x (sym (slice_get-get_or 
 pub not-single : (files : List FileSaid) (vs : List Version) (k : ℕ) (d v : Version) → k < length vs → slice_get vs k ≡ Some v
     → (event : Event) → event_at files (get_or vs k d).spot ≡ Some event → is_single event ≡ true → Recurs files (seen v) → ⊥
 not-single files vs k d v l e event there single r =
-    let same : r.event ≡ event = some-same r.event event (sym r.stands ∙ (ap (λ (v : Version). event_at files v.spot) (sym (version-there vs k d v l e)) ∙ there)) in
+    let same : r.event ≡ event = some-same r.event event (sym r.stands
+    ∙ (ap (λ (v : Version). event_at files v.spot) (sym (version-there vs k d v l e)) ∙ there)) in
     let f : false ≡ true = sym r.recurs ∙ (ap is_single same ∙ single) in cc
 
 -- a version whose event starts once has none
-pub single-none : (files : List FileSaid) (display : Clock) (w : Window) (label : Label) → (Recurs files label → ⊥) → (list : List Entry) × IsListing entry_cmp (IsOfVersion files display w None label) list
+pub single-none : (files : List FileSaid) (display : Clock) (w : Window) (label : Label) → (Recurs files label → ⊥) →
+    (list : List Entry) × IsListing entry_cmp (IsOfVersion files display w None label) list
 single-none files display w label n = ([], record { rises = tt; exact = λ o. (λ m. absurd m, λ h. absurd (n h.by)) })
 
 abbrev least : ℤ
 least = neg_ℤ (pos 9_223_372_036_854_775_808)
 
 -- a version whose event recurs has a list of all its occurrences that meet the window
-pub whole-version : (files : List FileSaid) (display : Clock) (w : Window) (vs : List Version) (chosen : AreChosen files display vs) (label : Label) (there : IsIn label (map seen vs))
-    (event : Event) (stands : event_at files label.spot ≡ Some event) (recurs : is_single event ≡ false) (zones : FileZones) (read : clocks_in zones ≡ clocks_at files display label.spot.file) (is_event : IsEvent event)
+pub whole-version : (files : List FileSaid) (display : Clock) (w : Window) (vs : List Version) (chosen : AreChosen files display vs) (label : Label)
+    (there : IsIn label (map seen vs))
+    (event : Event) (stands : event_at files label.spot ≡ Some event) (recurs : is_single event ≡ false) (zones : FileZones) (read : clocks_in zones
+    ≡ clocks_at files display label.spot.file) (is_event : IsEvent event)
     → (instants : List ℤ) → AreOverridden event.uid (map seen vs) instants
     → (list : List Entry) × IsListing entry_cmp (IsOfVersion files display w None label) list
 whole-version files display w vs chosen label there event stands recurs zones read is_event instants are =
     let whole = whole-listing zones w event is_event in
-    let kept = listing-filter (λ o. not (list_any (λ x. int_eq x o.start) instants)) entry_cmp (IsEventMet (clocks_in zones) event w) (IsSeriesMet (clocks_in zones) event w least instants) whole.0 whole.1 to from in (
+    let kept = listing-filter (λ o. not (list_any (λ x. int_eq x o.start) instants)) entry_cmp (IsEventMet (clocks_in zones) event w)
+    (IsSeriesMet (clocks_in zones) event w least instants) whole.0 whole.1 to from in (
       filter (λ o. not (list_any (λ x. int_eq x o.start) instants)) whole.0,
       series-listing files display w None vs chosen label there event stands recurs zones read is_event least (since-none None event.uid refl) instants are
           (filter (λ o. not (list_any (λ x. int_eq x o.start) instants)) whole.0) kept,
@@ -179,8 +193,10 @@ whole-version files display w vs chosen label there event stands recurs zones re
     low : (o : Entry) → IsEventMet (clocks_in zones) event w o → least ≤ℤ o.start
     low o m = let l = of-late zones event o is_event m.0 in omega (arith, ints, l)
 
-    to : (o : Entry) → IsEventMet (clocks_in zones) event w o → not (list_any (λ x. int_eq x o.start) instants) ≡ true → IsSeriesMet (clocks_in zones) event w least instants o
+    to : (o : Entry) → IsEventMet (clocks_in zones) event w o → not (list_any (λ x. int_eq x o.start) instants) ≡ true →
+        IsSeriesMet (clocks_in zones) event w least instants o
     to o m t = (m, (low o m, λ n. let f : true ≡ false = sym (in-among o.start instants n) ∙ not-true (list_any (λ x. int_eq x o.start) instants) t in cc))
 
-    from : (o : Entry) → IsSeriesMet (clocks_in zones) event w least instants o → IsEventMet (clocks_in zones) event w o × (not (list_any (λ x. int_eq x o.start) instants) ≡ true)
+    from : (o : Entry) → IsSeriesMet (clocks_in zones) event w least instants o → IsEventMet (clocks_in zones) event w o
+        × (not (list_any (λ x. int_eq x o.start) instants) ≡ true)
     from o m = (m.0, ap not (not-among o.start instants m.1.1))

@@ -1,6 +1,7 @@
 -- The starts of a rule by the days of their locals.
 use Rattle.std.specs.Prelude.{◌≤ℤ◌, ◌<ℤ◌, int_lt, not, slice_get}
-use Rattle.std.proofs.Common.{◌≡◌, ℕ, zero, suc, ◌+◌, ◌-◌, ◌<◌, ◌≤◌, ℤ, pos, ◌+ℤ◌, ◌-ℤ◌, Bool, true, false, ◌&&◌, List, [], ◌∷◌, length, get_or, drop, ⊎_elim, refl, sym, ◌∙◌, ap, subst, arith}
+use Rattle.std.proofs.Common.{◌≡◌, ℕ, zero, suc, ◌+◌, ◌-◌, ◌<◌, ◌≤◌, ℤ, pos, ◌+ℤ◌, ◌-ℤ◌, Bool, true, false, ◌&&◌, List, [], ◌∷◌, length, get_or, drop, ⊎_elim}
+use Rattle.std.proofs.Common.{refl, sym, ◌∙◌, ap, subst, arith}
 use Rattle.std.proofs.lemmas.Int.{ints}
 use Rattle.std.specs.Cmp.{int_cmp_is}
 use Rattle.std.specs.declared.cmp.Ordering.TheVariants.{Less, Equal, Greater}
@@ -23,7 +24,8 @@ use Rattle.ics_series.specs.Found.{moment_cmp, start_at}
 use Rattle.ics_series.specs.Listing.{IsIn}
 use Rattle.ics_series.specs.Merged.{by_order, cut, union}
 use Rattle.ics_series.specs.Rising.{IsBefore, Rises}
-use Rattle.ics_series.specs.RuleStarts.{found, found_in, gives, is_behind, is_ready, lets_until, local_numbered, midnight_number, moment_numbered, to_come, with_put, AreHeld}
+use Rattle.ics_series.specs.RuleStarts.{found, found_in, gives, is_behind, is_ready, lets_until, local_numbered, midnight_number, moment_numbered, to_come}
+use Rattle.ics_series.specs.RuleStarts.{with_put, AreHeld}
 use Rattle.ics_series.specs.Starts.{stamp_at, time_at}
 use Rattle.ics_series.specs.FileZones.{clocks_in}
 use Rattle.ics_series.proofs.BeginsLemmas.{before-union}
@@ -55,7 +57,8 @@ less-start s t l = sym (int_cmp_is s.moment t.moment Less l)
 
 module _ (zones : FileZones) (event : Event) where
   -- a local from a day's midnight on means an instant that is less than two days before it
-  pub late-numbered : (day : ℤ) (n : ℕ) → IsDayNumber day → midnight_number day ≤ n → (midnight day -ℤ whole_days 2) <ℤ moment_numbered (clocks_in zones) event n
+  pub late-numbered : (day : ℤ) (n : ℕ) → IsDayNumber day → midnight_number day ≤ n →
+      (midnight day -ℤ whole_days 2) <ℤ moment_numbered (clocks_in zones) event n
   late-numbered day n h l =
       let near = instant-near zones (time_at event.start (local_numbered n)) in
       let wrote = day-written event.start.stamp (local_numbered n) in
@@ -63,7 +66,8 @@ module _ (zones : FileZones) (event : Event) where
       omega (arith, ints, near.0, wrote, under)
 
   -- and one before it an instant that is less than two days after it
-  pub early-numbered : (day : ℤ) (n : ℕ) → IsDayNumber day → n < midnight_number day → moment_numbered (clocks_in zones) event n <ℤ (midnight day +ℤ whole_days 2)
+  pub early-numbered : (day : ℤ) (n : ℕ) → IsDayNumber day → n < midnight_number day →
+      moment_numbered (clocks_in zones) event n <ℤ (midnight day +ℤ whole_days 2)
   early-numbered day n h l =
       let near = instant-near zones (time_at event.start (local_numbered n)) in
       let wrote = written-at event.start.stamp (local_numbered n) in
@@ -73,10 +77,12 @@ module _ (zones : FileZones) (event : Event) where
     -- what gives a start does so before the window's end
     pub given-early : (n : ℕ) → gives (clocks_in zones) event rule w n ≡ true → moment_numbered (clocks_in zones) event n <ℤ w.to
     unfolding gives
-    given-early n g = int_lt_true (moment_numbered (clocks_in zones) event n) w.to (and_true {a = lets_until rule n (moment_numbered (clocks_in zones) event n)} (and_true {a = is_kept rule n} g).1).1
+    given-early n g = int_lt_true (moment_numbered (clocks_in zones) event n) w.to
+        (and_true {a = lets_until rule n (moment_numbered (clocks_in zones) event n)} (and_true {a = is_kept rule n} g).1).1
 
     -- no local from a day on does that begins two days after the window's end
-    pub none-past : (end : ℤ) (n : ℕ) → IsDayNumber end → (w.to +ℤ whole_days 2) ≤ℤ midnight end → midnight_number end ≤ n → gives (clocks_in zones) event rule w n ≡ false
+    pub none-past : (end : ℤ) (n : ℕ) → IsDayNumber end → (w.to +ℤ whole_days 2) ≤ℤ midnight end → midnight_number end ≤ n →
+        gives (clocks_in zones) event rule w n ≡ false
     none-past end n h after l = by (gives (clocks_in zones) event rule w n) refl
       where
         by : (b : Bool) → gives (clocks_in zones) event rule w n ≡ b → b ≡ false
@@ -93,7 +99,8 @@ module _ (zones : FileZones) (event : Event) where
     later : (from : ℕ) (s : Start) → IsFound (from + 1) s → IsFound from s
     later from s f = record { by = f.by; from_place = omega (arith, f.from_place); given = f.given; is = f.is }
 
-    found-by : (from : ℕ) (rest : List Start) (s : Start) (b : Bool) → Rises moment_cmp rest → gives (clocks_in zones) event rule w from ≡ b → (IsIn s rest → IsFound (from + 1) s)
+    found-by : (from : ℕ) (rest : List Start) (s : Start) (b : Bool) → Rises moment_cmp rest → gives (clocks_in zones) event rule w from ≡ b →
+        (IsIn s rest → IsFound (from + 1) s)
         → IsIn s (with_put b (start_at (clocks_in zones) event (local_numbered from)) rest) → IsFound from s
     found-by from rest s true r e ih m =
         ⊎_elim (λ n. ⊎_elim (λ same. record { by = from; from_place = omega arith; given = e; is = same }) (λ f. absurd f) n) (λ n. later from s (ih n.1))
@@ -122,10 +129,12 @@ module _ (zones : FileZones) (event : Event) where
         less-start s t (omega (arith, ints, late, is, l)))
 
     -- Where no day more has to be read the first that is held is the first still to come.
-    pub past-end : (day end : ℤ) (place : ℕ) → IsDayNumber day → IsDayNumber end → (w.to +ℤ whole_days 2) ≤ℤ midnight end → end ≤ℤ day → midnight_number day ≤ place
+    pub past-end : (day end : ℤ) (place : ℕ) → IsDayNumber day → IsDayNumber end → (w.to +ℤ whole_days 2) ≤ℤ midnight end → end ≤ℤ day →
+        midnight_number day ≤ place
         → found (clocks_in zones) event rule w place ≡ []
     past-end day end place d e after l read =
-        found-none (clocks_in zones) event rule w place (λ n low. none-past end n e after (omega (arith, ints, number-day day d, number-day end e, read, low, l)))
+        found-none (clocks_in zones) event rule w place
+        (λ n low. none-past end n e after (omega (arith, ints, number-day day d, number-day end e, read, low, l)))
 
     abbrev Settled : List Start → ℕ → Type 0
     Settled [] place = found (clocks_in zones) event rule w place ≡ []
@@ -134,7 +143,8 @@ module _ (zones : FileZones) (event : Event) where
     not-less : (a b : ℤ) → int_lt a b ≡ false → b ≤ℤ a
     not-less a b e = grind (arith, ints)
 
-    settled : (day end : ℤ) (held : List Start) (place : ℕ) → IsDayNumber day → IsDayNumber end → (w.to +ℤ whole_days 2) ≤ℤ midnight end → midnight_number day ≤ place
+    settled : (day end : ℤ) (held : List Start) (place : ℕ) → IsDayNumber day → IsDayNumber end → (w.to +ℤ whole_days 2) ≤ℤ midnight end →
+        midnight_number day ≤ place
         → is_behind day end held ≡ false → Settled held place
     settled day end held place d e after read b = by (int_lt day end) refl held b
       where
@@ -159,7 +169,8 @@ module _ (zones : FileZones) (event : Event) where
     unfolding to_come
     come-nothing place e = e
 
-    module _ (day end : ℤ) (place : ℕ) (d : IsDayNumber day) (e : IsDayNumber end) (after : (w.to +ℤ whole_days 2) ≤ℤ midnight end) (read : midnight_number day ≤ place) where
+    module _ (day end : ℤ) (place : ℕ) (d : IsDayNumber day) (e : IsDayNumber end) (after : (w.to +ℤ whole_days 2) ≤ℤ midnight end)
+        (read : midnight_number day ≤ place) where
       pub first-held : (held : List Start) → Rises moment_cmp held → is_behind day end held ≡ false
           → slice_get held 0 ≡ slice_get (to_come (clocks_in zones) event rule w held place) 0
       first-held [] r b = sym (ap (λ (xs : List Start). slice_get xs 0) (come-nothing place (settled day end [] place d e after read b)))
@@ -192,14 +203,16 @@ module _ (zones : FileZones) (event : Event) where
           is ∙ sym (ap (cut moment_cmp t) is)
 
       -- the same of a list whose first is known
-      pub passed-at : (t d : Start) (held new : List Start) → 0 < length held → d ≡ get_or held 0 d → new ≡ drop 1 held → Rises moment_cmp held → is_behind day end held ≡ false
+      pub passed-at : (t d : Start) (held new : List Start) → 0 < length held → d ≡ get_or held 0 d → new ≡ drop 1 held → Rises moment_cmp held →
+          is_behind day end held ≡ false
           → moment_cmp t d ≡ Equal → to_come (clocks_in zones) event rule w new place ≡ cut moment_cmp t (to_come (clocks_in zones) event rule w held place)
       passed-at t d [] new l is n r b tied = absurd (omega arith)
       passed-at t d (s ∷ held) new l is n r b tied =
           ap (λ xs. to_come (clocks_in zones) event rule w xs place) n ∙ passed t s held r b (subst (λ x. moment_cmp t x ≡ Equal) is tied)
 
       pub not-passed-at : (t d : Start) (held : List Start) → 0 < length held → d ≡ get_or held 0 d → Rises moment_cmp held → is_behind day end held ≡ false
-          → (moment_cmp t d ≡ Equal → ⊥) → to_come (clocks_in zones) event rule w held place ≡ cut moment_cmp t (to_come (clocks_in zones) event rule w held place)
+          → (moment_cmp t d ≡ Equal → ⊥) → to_come (clocks_in zones) event rule w held place
+          ≡ cut moment_cmp t (to_come (clocks_in zones) event rule w held place)
       not-passed-at t d [] l is r b untied = absurd (omega arith)
       not-passed-at t d (s ∷ held) l is r b untied = not-passed t s held r b (λ tied. untied (subst (λ x. moment_cmp t x ≡ Equal) (sym is) tied))
 
@@ -210,7 +223,8 @@ module _ (zones : FileZones) (event : Event) where
 
     -- each start still to come begins no more than three days before the day that is not asked for yet
     pub near-left : (day asked : ℤ) (held : List Start) (place : ℕ) → IsDayNumber day → asked ≤ℤ (day +ℤ pos 1) → midnight_number day ≤ place
-        → AreHeld (clocks_in zones) event rule w asked held → (s : Start) → IsIn s (to_come (clocks_in zones) event rule w held place) → (midnight asked -ℤ whole_days 3) ≤ℤ s.moment
+        → AreHeld (clocks_in zones) event rule w asked held → (s : Start) → IsIn s (to_come (clocks_in zones) event rule w held place) →
+        (midnight asked -ℤ whole_days 3) ≤ℤ s.moment
     unfolding to_come
     near-left day asked held place d soon read are s m =
         ⊎_elim (λ n. (are s n).late)
@@ -221,6 +235,7 @@ module _ (zones : FileZones) (event : Event) where
         omega (arith, ints, late, is, soon))
         (union-in moment_cmp moment_total s held (found (clocks_in zones) event rule w place) (rises-found (clocks_in zones) event rule w place) m)
 
-    pub come-empty : (held : List Start) (place from : ℕ) → held ≡ [] → place ≡ from → to_come (clocks_in zones) event rule w held place ≡ found (clocks_in zones) event rule w from
+    pub come-empty : (held : List Start) (place from : ℕ) → held ≡ [] → place ≡ from →
+        to_come (clocks_in zones) event rule w held place ≡ found (clocks_in zones) event rule w from
     unfolding to_come
     come-empty held place from h e = ap (λ xs. union moment_cmp xs (found (clocks_in zones) event rule w place)) h ∙ ap (found (clocks_in zones) event rule w) e

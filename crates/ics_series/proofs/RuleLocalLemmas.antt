@@ -38,7 +38,8 @@ local-test a b h k =
     true_eq (number a) (number b) (omega (arith, ints, day, second)))
     (λ t.
     let same : a ≡ b = same-number a b h k (eqb_true (number a) (number b) t) in
-    and_both (int_eq a.day b.day) (a.second == b.second) (true-equal a.day b.day (ap (λ (l : Local). l.day) same)) (true_eq a.second b.second (ap (λ (l : Local). l.second) same)))
+    and_both (int_eq a.day b.day) (a.second == b.second) (true-equal a.day b.day (ap (λ (l : Local). l.day) same))
+    (true_eq a.second b.second (ap (λ (l : Local). l.second) same)))
 
 pub number-numbered : (n : ℕ) → number (local_numbered n) ≡ n
 number-numbered n = omega (arith, ints)
@@ -50,13 +51,16 @@ numbered-number a h =
 
 -- whether a kept local gives a start
 pub gives-kept : (clocks : Clocks) (event : Event) (rule : Recurrence) (w : Window) (a : Local) → IsDayNumber a.day → is_kept rule (number a) ≡ true
-    → gives clocks event rule w (number a) ≡ (lets_until rule (number a) (instant clocks (time_at event.start a)) && int_lt (instant clocks (time_at event.start a)) w.to)
+    → gives clocks event rule w (number a)
+    ≡ (lets_until rule (number a) (instant clocks (time_at event.start a)) && int_lt (instant clocks (time_at event.start a)) w.to)
 unfolding gives
 gives-kept clocks event rule w a h k =
     ap (λ b. b && (lets_until rule (number a) (moment_numbered clocks event (number a)) && int_lt (moment_numbered clocks event (number a)) w.to)) k
-    ∙ ap (λ l. lets_until rule (number a) (instant clocks (time_at event.start l)) && int_lt (instant clocks (time_at event.start l)) w.to) (numbered-number a h)
+    ∙ ap (λ l. lets_until rule (number a) (instant clocks (time_at event.start l)) && int_lt (instant clocks (time_at event.start l)) w.to)
+    (numbered-number a h)
 
-pub gives-by : (clocks : Clocks) (event : Event) (rule : Recurrence) (w : Window) (a : Local) (t : ℤ) (b : Bool) → IsDayNumber a.day → is_kept rule (number a) ≡ true
+pub gives-by : (clocks : Clocks) (event : Event) (rule : Recurrence) (w : Window) (a : Local) (t : ℤ) (b : Bool) → IsDayNumber a.day →
+    is_kept rule (number a) ≡ true
     → t ≡ instant clocks (time_at event.start a) → b ≡ (lets_until rule (number a) t && int_lt t w.to) → b ≡ gives clocks event rule w (number a)
 gives-by clocks event rule w a t b h k e test =
     test ∙ (ap (λ x. lets_until rule (number a) x && int_lt x w.to) e ∙ sym (gives-kept clocks event rule w a h k))
@@ -66,7 +70,8 @@ rule-first event rule has = let by = rule-is event.start.stamp event.rule rule h
 
 -- The locals that DTSTART has or a rule keeps are those that the rule keeps and whose instants it lets through.
 module _ (clocks : Clocks) (event : Event) (rule : Recurrence) (has : recurrence_of event ≡ Some rule) (local : Local) where
-  pub kept-ruled : IsTime event.start → IsDayNumber local.day → is_kept rule (number local) ≡ true → lets_until rule (number local) (moment_numbered clocks event (number local)) ≡ true
+  pub kept-ruled : IsTime event.start → IsDayNumber local.day → is_kept rule (number local) ≡ true →
+      lets_until rule (number local) (moment_numbered clocks event (number local)) ≡ true
       → (local ≡ local_of event.start.stamp) ⊎ IsRuleStart clocks event local
   kept-ruled time day kept through =
       ⊎_elim
@@ -87,11 +92,18 @@ module _ (clocks : Clocks) (event : Event) (rule : Recurrence) (has : recurrence
   ruled-kept k =
       ⊎_elim
       (λ e.
-      let first : number local ≡ number rule.start = ap (λ (l : Local). number l) (e ∙ sym (rule-first event rule has)) in
-      (ap (is_kept rule) first ∙ kept_start rule, or_left (number local == number rule.start) (is_until (until_moment rule) (instant clocks (time_at event.start local))) (true_eq (number local) (number rule.start) first)))
+      let first : number local ≡ number rule.start = ap (λ (l : Local). number l) (e ∙ sym (rule-first event rule has)) in (
+        ap (is_kept rule) first ∙ kept_start rule,
+        or_left (number local == number rule.start)
+            (is_until (until_moment rule) (instant clocks (time_at event.start local))) (true_eq (number local) (number rule.start) first),
+      ))
       (λ r.
       let same : r.rule ≡ rule = some-same r.rule rule (sym r.has ∙ has) in
       let until : is_until (until_moment rule) (instant clocks (time_at event.start local)) ≡ true =
-      ap (λ (q : Recurrence). is_until (until_moment q) (instant clocks (time_at event.start local))) (sym same) ∙ until-true (until_moment r.rule) (instant clocks (time_at event.start local)) r.until in
-      (ap (λ (q : Recurrence). is_kept q (number local)) (sym same) ∙ r.kept, or_right (number local == number rule.start) (is_until (until_moment rule) (instant clocks (time_at event.start local))) until))
+      ap (λ (q : Recurrence). is_until (until_moment q) (instant clocks (time_at event.start local))) (sym same)
+      ∙ until-true (until_moment r.rule) (instant clocks (time_at event.start local)) r.until in (
+        ap (λ (q : Recurrence). is_kept q (number local)) (sym same)
+            ∙ r.kept,
+        or_right (number local == number rule.start) (is_until (until_moment rule) (instant clocks (time_at event.start local))) until,
+      ))
       k

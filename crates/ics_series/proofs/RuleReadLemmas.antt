@@ -26,7 +26,8 @@ use Rattle.ics_series.proofs.RuleLocalLemmas.{numbered-number}
 use Rattle.ics_series.proofs.UnionLemmas.{union-in}
 
 -- where the first is not ready none is
-pub none-ready : (day : ℤ) (held : List Start) → Rises moment_cmp held → is_ready day held ≡ false → (s : Start) → IsIn s held → (midnight day -ℤ whole_days 2) <ℤ s.moment
+pub none-ready : (day : ℤ) (held : List Start) → Rises moment_cmp held → is_ready day held ≡ false → (s : Start) → IsIn s held →
+    (midnight day -ℤ whole_days 2) <ℤ s.moment
 none-ready day [] r e s m = absurd m
 none-ready day (x ∷ held) r e s m =
     let first : (midnight day -ℤ whole_days 2) <ℤ x.moment = int_le_false x.moment (midnight day -ℤ whole_days 2) e in
@@ -41,7 +42,8 @@ bound-later day end [] l = (l, omega (arith, ints))
 bound-later day end (s ∷ held) l = (omega (arith, ints), omega (arith, ints, l))
 
 -- all that is held begins no more than three days before the bound
-pub bound-late : (day end : ℤ) (held : List Start) → Rises moment_cmp held → is_behind day end held ≡ true → (s : Start) → IsIn s held → (midnight (bound_of day end held) -ℤ whole_days 3) ≤ℤ s.moment
+pub bound-late : (day end : ℤ) (held : List Start) → Rises moment_cmp held → is_behind day end held ≡ true → (s : Start) → IsIn s held →
+    (midnight (bound_of day end held) -ℤ whole_days 3) ≤ℤ s.moment
 bound-late day end [] r b s m = absurd m
 bound-late day end (x ∷ held) r b s m =
     let late = none-ready day (x ∷ held) r (not-true (is_ready day (x ∷ held)) (and_true {a = int_lt day end} b).1) s m in
@@ -66,7 +68,8 @@ module _ (zones : FileZones) (event : Event) (rule : Recurrence) (w : Window) wh
       → IsHeld (clocks_in zones) event rule w next (start_at (clocks_in zones) event a)
   is-held a next h k e given =
       let same = numbered-number a h in
-      let moment : moment_numbered (clocks_in zones) event (number a) ≡ (start_at (clocks_in zones) event a).moment = ap (λ l. (start_at (clocks_in zones) event l).moment) same in
+      let moment : moment_numbered (clocks_in zones) event (number a) ≡ (start_at (clocks_in zones) event a).moment =
+      ap (λ l. (start_at (clocks_in zones) event l).moment) same in
       let late = late-numbered zones event a.day (number a) h (omega arith) in
       let early = early-numbered zones event next (number a) k (omega (arith, ints, h.0, k.0, e, a.second_in)) in
       record {

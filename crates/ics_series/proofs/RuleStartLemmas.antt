@@ -25,7 +25,8 @@ module _ (clocks : Clocks) (event : Event) (rule : Recurrence) (w : Window) wher
   here-or-later : (from to : ℕ) → from ≤ to → (from ≡ to) ⊎ (from < to)
   here-or-later from to h = grind arith
 
-  pub found_in-skipped : (from n to m : ℕ) → from ≤ to → from + n ≡ to + m → NoneGives from to → found_in clocks event rule w from n ≡ found_in clocks event rule w to m
+  pub found_in-skipped : (from n to m : ℕ) → from ≤ to → from + n ≡ to + m → NoneGives from to →
+      found_in clocks event rule w from n ≡ found_in clocks event rule w to m
   found_in-skipped from zero to m l e none =
       let same : from ≡ to = omega (arith, l, e) in
       let rest : 0 ≡ m = omega (arith, l, e) in
@@ -48,7 +49,8 @@ module _ (clocks : Clocks) (event : Event) (rule : Recurrence) (w : Window) wher
   found-none from none =
       found_in-skipped from (rules_end - from) (from + (rules_end - from)) 0 (omega arith) (omega arith) (λ n a b. none n a)
 
-  pub found-first : (from : ℕ) → from < rules_end → found clocks event rule w from ≡ with_put (gives clocks event rule w from) (start_at clocks event (local_numbered from)) (found clocks event rule w (from + 1))
+  pub found-first : (from : ℕ) → from < rules_end → found clocks event rule w from
+      ≡ with_put (gives clocks event rule w from) (start_at clocks event (local_numbered from)) (found clocks event rule w (from + 1))
   unfolding found
   found-first from l =
       let one : rules_end - from ≡ suc (rules_end - (from + 1)) = omega (arith, l) in
@@ -91,7 +93,8 @@ module _ (clocks : Clocks) (event : Event) (rule : Recurrence) (w : Window) wher
 
   -- the next kept local is read
   pub come-one : (held : List Start) (place bound l : ℕ) → Rises moment_cmp held → bound ≤ rules_end → IsNextKept rule place bound l
-      → to_come clocks event rule w (with_held (gives clocks event rule w l) (start_at clocks event (local_numbered l)) held) (l + 1) ≡ to_come clocks event rule w held place
+      → to_come clocks event rule w (with_held (gives clocks event rule w l) (start_at clocks event (local_numbered l)) held) (l + 1)
+      ≡ to_come clocks event rule w held place
   unfolding to_come
   come-one held place bound l r h next =
       one (gives clocks event rule w l)
@@ -100,5 +103,6 @@ module _ (clocks : Clocks) (event : Event) (rule : Recurrence) (w : Window) wher
     where
       one : (b : Bool) → union moment_cmp (with_held b (start_at clocks event (local_numbered l)) held) (found clocks event rule w (l + 1))
           ≡ union moment_cmp held (with_put b (start_at clocks event (local_numbered l)) (found clocks event rule w (l + 1)))
-      one true = union_assoc moment_cmp moment_total held (start_at clocks event (local_numbered l) ∷ []) (found clocks event rule w (l + 1)) r (tt, tt) (rises-found (l + 1))
+      one true = union_assoc moment_cmp moment_total held (start_at clocks event (local_numbered l) ∷ []) (found clocks event rule w (l + 1)) r (tt, tt)
+          (rises-found (l + 1))
       one false = refl

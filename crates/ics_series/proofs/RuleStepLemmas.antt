@@ -35,7 +35,8 @@ module _ (s : RuleStarts) where
   -- what is held is no more than the event has in five UTC days
   pub few-held : length s.held.items ≤ most_in_days (clocks_in s.zones) s.event.now
   few-held =
-      held-in-days s.zones s.event.now s.rule s.window s.asked s.held.items s.of (omega (arith, ints, s.low, s.asked_on)) (omega (arith, ints, s.asked_end, end-days.1)) s.rises s.are
+      held-in-days s.zones s.event.now s.rule s.window s.asked s.held.items s.of (omega (arith, ints, s.low, s.asked_on))
+      (omega (arith, ints, s.asked_end, end-days.1)) s.rises s.are
 
   -- where no day more has to be read the first that is held is the first still to come
   pub first-left : is_behind s.day s.end s.held.items ≡ false → slice_get s.held.items 0 ≡ slice_get (starts_left s) 0
@@ -68,10 +69,12 @@ module _ (s : RuleStarts) where
     pub none-asked : midnight_number s.asked ≤ midnight_number bound
     none-asked = omega (arith, ints, s.low, s.asked_on, s.asked_soon, within.0, bound-days.0)
 
-    pub none-less : (next : ℕ) → next ≡ max (place_of s.cursor) (midnight_number bound) → steps_left bound s.end next < steps_left s.day s.end (place_of s.cursor)
+    pub none-less : (next : ℕ) → next ≡ max (place_of s.cursor) (midnight_number bound) →
+        steps_left bound s.end next < steps_left s.day s.end (place_of s.cursor)
     none-less next e = omega (arith, ints, within.0, within.1, e, s.low, bound-days.0, end-days.0)
 
-    pub none-same : (held : List Start) (next : ℕ) → held ≡ s.held.items → next ≡ max (place_of s.cursor) (midnight_number bound) → NoneKept s.rule (place_of s.cursor) (midnight_number bound)
+    pub none-same : (held : List Start) (next : ℕ) → held ≡ s.held.items → next ≡ max (place_of s.cursor) (midnight_number bound) →
+        NoneKept s.rule (place_of s.cursor) (midnight_number bound)
         → to_come (clocks_in s.zones) s.event.now s.rule s.window held next ≡ starts_left s
     none-same held next h e none =
         ap (λ xs. to_come (clocks_in s.zones) s.event.now s.rule s.window xs next) h
@@ -81,16 +84,22 @@ module _ (s : RuleStarts) where
     -- the next kept local before it is read
     module _ (a : Local) (h : IsDayNumber a.day) (next-kept : IsNextKept s.rule (place_of s.cursor) (midnight_number bound) (number a)) where
       pub one-on : (s.day ≤ℤ a.day) × ((a.day +ℤ pos 1) ≤ℤ bound)
-      one-on = (omega (arith, ints, next-kept.from_place, s.read, s.low, h.0, a.second_in), omega (arith, ints, next-kept.in_bound, h.0, bound-days.0, a.second_in))
+      one-on = (
+        omega (arith, ints, next-kept.from_place, s.read, s.low, h.0, a.second_in),
+        omega
+            (arith, ints, next-kept.in_bound, h.0, bound-days.0, a.second_in),
+      )
 
       pub one-time : IsTimeOf s.zones.zones.now (time_at s.event.now.start a)
       one-time = record { is_time = kept-time s.event.now s.rule a s.time.is_time s.of h next-kept.kept; within = s.time.within }
 
-      module _ (held new : List Start) (e : held ≡ s.held.items) (is : new ≡ with_held (gives (clocks_in s.zones) s.event.now s.rule s.window (number a)) (start_at (clocks_in s.zones) s.event.now a) held) where
+      module _ (held new : List Start) (e : held ≡ s.held.items) (is : new
+          ≡ with_held (gives (clocks_in s.zones) s.event.now s.rule s.window (number a)) (start_at (clocks_in s.zones) s.event.now a) held) where
         pub one-rises : Rises moment_cmp new
         one-rises =
             subst (Rises moment_cmp) (sym is)
-            (rises-held s.zones s.event.now s.rule s.window (gives (clocks_in s.zones) s.event.now s.rule s.window (number a)) (start_at (clocks_in s.zones) s.event.now a) held
+            (rises-held s.zones s.event.now s.rule s.window (gives (clocks_in s.zones) s.event.now s.rule s.window (number a))
+            (start_at (clocks_in s.zones) s.event.now a) held
             (subst (Rises moment_cmp) (sym e) s.rises))
 
         pub one-held : (next : ℤ) → next ≡ a.day +ℤ pos 1 → AreHeld (clocks_in s.zones) s.event.now s.rule s.window next new
@@ -100,7 +109,8 @@ module _ (s : RuleStarts) where
             (λ i. held-on s.zones s.event.now s.rule s.window s.asked next s.held.items (omega (arith, ints, n, one-on.0, s.asked_soon))
             (λ u j. let l = late u j in omega (arith, ints, l, n, one-on.1)) s.are t (subst (IsIn t) e i))
             (λ i. subst (IsHeld (clocks_in s.zones) s.event.now s.rule s.window next) (sym i.1) (is-held s.zones s.event.now s.rule s.window a next h k n i.0))
-            (held-in s.zones s.event.now s.rule s.window (gives (clocks_in s.zones) s.event.now s.rule s.window (number a)) (start_at (clocks_in s.zones) s.event.now a) t held (subst (IsIn t) is m))
+            (held-in s.zones s.event.now s.rule s.window (gives (clocks_in s.zones) s.event.now s.rule s.window (number a))
+            (start_at (clocks_in s.zones) s.event.now a) t held (subst (IsIn t) is m))
 
         pub one-same : (next : ℕ) → next ≡ number a + 1 → to_come (clocks_in s.zones) s.event.now s.rule s.window new next ≡ starts_left s
         one-same next n =
@@ -116,4 +126,18 @@ module _ (s : RuleStarts) where
       one-asked next n = (omega (arith, ints, s.low, s.asked_on, s.asked_soon, one-on.0, h.0, n), omega (arith, ints, h.0, n, a.second_in))
 
       pub one-less : (day : ℤ) (next : ℕ) → day ≡ a.day → next ≡ number a + 1 → steps_left day s.end next < steps_left s.day s.end (place_of s.cursor)
-      one-less day next d n = omega (arith, ints, d, n, next-kept.from_place, next-kept.in_bound, one-on.0, one-on.1, within.1, s.low, h.0, bound-days.0, end-days.0)
+      one-less day next d n = omega (
+        arith,
+        ints,
+        d,
+        n,
+        next-kept.from_place,
+        next-kept.in_bound,
+        one-on.0,
+        one-on.1,
+        within.1,
+        s.low,
+        h.0,
+        bound-days.0,
+        end-days.0,
+      )

@@ -1,6 +1,7 @@
 -- What a series gives.
 use Rattle.std.specs.Prelude.{◌≤ℤ◌, ◌<ℤ◌, ◌&&◌, ◌||◌, not, int_le, slice_get}
-use Rattle.std.proofs.Common.{◌≡◌, ℕ, zero, suc, ℤ, ◌-ℤ◌, List, [], ◌∷◌, drop, Bool, true, false, Option, Some, None, option_map, ◌⊎◌, inl, inr, ⊎_elim, refl, sym, ◌∙◌, ap, subst, arith}
+use Rattle.std.proofs.Common.{◌≡◌, ℕ, zero, suc, ℤ, ◌-ℤ◌, List, [], ◌∷◌, drop, Bool, true, false, Option, Some, None, option_map, ◌⊎◌, inl, inr, ⊎_elim, refl}
+use Rattle.std.proofs.Common.{sym, ◌∙◌, ap, subst, arith}
 use Rattle.std.proofs.lemmas.Int.{ints}
 use Rattle.std.specs.List.{cons_option}
 use Rattle.std.specs.Cmp.Lexicographic.{slice_cmp}
@@ -34,7 +35,8 @@ use Rattle.ics_series.specs.Merged.{cut, union}
 use Rattle.ics_series.specs.Rising.{IsBefore, Rises}
 use Rattle.ics_series.specs.RuleFeed.{starts_left}
 use Rattle.ics_series.specs.RuleStarts.{gives, lets_until, moment_numbered}
-use Rattle.ics_series.specs.SeriesStarts.{given_of, is_among, has_moment, is_wanted, listed_left, rule_asked, rule_left, wanted_by, AreKnown, HasRuled, HasSameRule, HaveRuled, IsAskedNear, IsGivenAt, IsGivenBy, IsKnown, IsSeriesMet}
+use Rattle.ics_series.specs.SeriesStarts.{given_of, is_among, has_moment, is_wanted, listed_left, rule_asked, rule_left, wanted_by, AreKnown, HasRuled}
+use Rattle.ics_series.specs.SeriesStarts.{HasSameRule, HaveRuled, IsAskedNear, IsGivenAt, IsGivenBy, IsKnown, IsSeriesMet}
 use Rattle.ics_series.specs.Starts.{given_by, local_of, recurrence_of, GivesStart, IsRuleStart}
 use Rattle.ics_series.specs.FileZones.{clocks_in}
 use Rattle.ics_series.proofs.Cases.{equal-true, true-equal, some-same}
@@ -78,7 +80,8 @@ module _ (clocks : Clocks) (w : Window) (event : Event) where
       (subst (λ xs. Rises entry_cmp (given_of clocks w event since overridden xs)) e r)
 
 -- The first of both kinds goes.
-pub both-passed : (rule rule' listed listed' rule'' : List Start) (t : Start) → rule' ≡ rule → rule'' ≡ cut moment_cmp t rule' → listed' ≡ cut moment_cmp t listed
+pub both-passed : (rule rule' listed listed' rule'' : List Start) (t : Start) → rule' ≡ rule → rule'' ≡ cut moment_cmp t rule' →
+    listed' ≡ cut moment_cmp t listed
     → union moment_cmp rule' listed ≡ t ∷ union moment_cmp (cut moment_cmp t rule') (cut moment_cmp t listed)
     → union moment_cmp rule listed ≡ t ∷ union moment_cmp rule'' listed'
 both-passed rule rule' listed listed' rule'' t a b c h =
@@ -87,7 +90,8 @@ both-passed rule rule' listed listed' rule'' t a b c h =
 
 -- What is known of a start makes it one of the event.
 module _ (zones : FileZones) (w : Window) (event : Event) where
-  same-or-ruled : (local : Local) (rule : Recurrence) → recurrence_of event ≡ Some rule → IsTime event.start → IsDayNumber local.day → gives (clocks_in zones) event rule w (number local) ≡ true
+  same-or-ruled : (local : Local) (rule : Recurrence) → recurrence_of event ≡ Some rule → IsTime event.start → IsDayNumber local.day →
+      gives (clocks_in zones) event rule w (number local) ≡ true
       → (local ≡ local_of event.start.stamp) ⊎ IsRuleStart (clocks_in zones) event local
   unfolding gives
   same-or-ruled local rule has time day g =
@@ -100,7 +104,8 @@ module _ (zones : FileZones) (w : Window) (event : Event) where
   given-local local None e time g = inl g
   given-local local (Some rule) e time g = same-or-ruled local rule e time g.0 g.1
 
-  known-gives : (source : StartSource) (given : Rdate) → IsTime event.start → IsGivenBy (clocks_in zones) event w source given → GivesStart (clocks_in zones) event source given
+  known-gives : (source : StartSource) (given : Rdate) → IsTime event.start → IsGivenBy (clocks_in zones) event w source given →
+      GivesStart (clocks_in zones) event source given
   known-gives (Kept local) given time g = (given-local local (recurrence_of event) refl time g.0, g.1)
   known-gives (Listed place) given time g = by (slice_get event.rdates place) refl g
     where
@@ -133,7 +138,8 @@ in-among t (x ∷ xs) m = in-among-by (int_eq x t) x t xs refl (in-among t xs) m
 
 -- Wanted is what is shown from an instant on, but for the instants of overrides.
 module _ (clocks : Clocks) (w : Window) (event : Event) (since : ℤ) (overridden : List ℤ) where
-  pub wanted-is : (o : Entry) → is_wanted clocks w event since overridden o ≡ true → (is_shown clocks w event o ≡ true) × (since ≤ℤ o.start) × (IsIn o.start overridden → ⊥)
+  pub wanted-is : (o : Entry) → is_wanted clocks w event since overridden o ≡ true → (is_shown clocks w event o ≡ true) × (since ≤ℤ o.start)
+      × (IsIn o.start overridden → ⊥)
   wanted-is o e =
       let parts = and_true {a = int_le since o.start && not (is_among overridden o.start)} e in
       let own = and_true {a = int_le since o.start} parts.0 in
@@ -143,7 +149,8 @@ module _ (clocks : Clocks) (w : Window) (event : Event) (since : ℤ) (overridde
       not-both true e f = let g : false ≡ true = f in cc
       not-both false e f = let g : false ≡ true = e in cc
 
-  pub is-wanted : (o : Entry) → is_shown clocks w event o ≡ true → since ≤ℤ o.start → (IsIn o.start overridden → ⊥) → is_wanted clocks w event since overridden o ≡ true
+  pub is-wanted : (o : Entry) → is_shown clocks w event o ≡ true → since ≤ℤ o.start → (IsIn o.start overridden → ⊥) →
+      is_wanted clocks w event since overridden o ≡ true
   is-wanted o shown late none =
       and_both (int_le since o.start && not (is_among overridden o.start)) (is_shown clocks w event o)
       (and_both (int_le since o.start) (not (is_among overridden o.start)) (true_int_le since o.start late) (by (is_among overridden o.start) refl)) shown
@@ -168,7 +175,8 @@ module _ (clocks : Clocks) (w : Window) (event : Event) (since : ℤ) (overridde
   rises-later (e ∷ es) r = (before-later e es r.0, rises-later es r.1)
 
   -- the starts from an instant on give what the series has
-  pub series-listing : (starts : List Start) → AreStartsSince clocks event w since starts → IsListing entry_cmp (IsSeriesMet clocks event w since overridden) (given_of clocks w event since overridden starts)
+  pub series-listing : (starts : List Start) → AreStartsSince clocks event w since starts →
+      IsListing entry_cmp (IsSeriesMet clocks event w since overridden) (given_of clocks w event since overridden starts)
   series-listing starts h =
       let listing : IsListing entry_start_cmp (IsSeriesMet clocks event w since overridden) (given_of clocks w event since overridden starts) =
       listing-picked clocks event (is_wanted clocks w event since overridden) (IsSeriesMet clocks event w since overridden) starts h.rises h.are
@@ -181,7 +189,8 @@ module _ (clocks : Clocks) (w : Window) (event : Event) (since : ℤ) (overridde
       record { rises = rises-later (given_of clocks w event since overridden starts) listing.rises; exact = listing.exact }
 
 -- Starts at an instant.
-moment-in-by : (b : Bool) (s : Start) (t : ℤ) (xs : List Start) → int_eq s.moment t ≡ b → (has_moment xs t ≡ true → (x : Start) × IsIn x xs × (x.moment ≡ t)) → (b || has_moment xs t) ≡ true → (x : Start) × IsIn x (s ∷ xs) × (x.moment ≡ t)
+moment-in-by : (b : Bool) (s : Start) (t : ℤ) (xs : List Start) → int_eq s.moment t ≡ b → (has_moment xs t ≡ true → (x : Start) × IsIn x xs × (x.moment ≡ t)) →
+    (b || has_moment xs t) ≡ true → (x : Start) × IsIn x (s ∷ xs) × (x.moment ≡ t)
 moment-in-by true s t xs e ih h = (s, inl refl, equal-true s.moment t e)
 moment-in-by false s t xs e ih h = let k = ih h in (k.0, inr k.1, k.2)
 
@@ -189,7 +198,8 @@ pub moment-in : (xs : List Start) (t : ℤ) → has_moment xs t ≡ true → (x 
 moment-in [] t e = let f : false ≡ true = e in absurd cc
 moment-in (s ∷ xs) t e = moment-in-by (int_eq s.moment t) s t xs refl (moment-in xs t) e
 
-in-moment-by : (b : Bool) (s x : Start) (t : ℤ) (xs : List Start) → int_eq s.moment t ≡ b → x.moment ≡ t → (IsIn x xs → has_moment xs t ≡ true) → IsIn x (s ∷ xs) → (b || has_moment xs t) ≡ true
+in-moment-by : (b : Bool) (s x : Start) (t : ℤ) (xs : List Start) → int_eq s.moment t ≡ b → x.moment ≡ t → (IsIn x xs → has_moment xs t ≡ true) →
+    IsIn x (s ∷ xs) → (b || has_moment xs t) ≡ true
 in-moment-by true s x t xs e is ih m = refl
 in-moment-by false s x t xs e is ih m =
     ⊎_elim (λ same. let f : true ≡ false = sym (true-equal s.moment t (ap (λ (y : Start). y.moment) (sym same) ∙ is)) ∙ e in absurd cc) ih m
@@ -200,7 +210,8 @@ in-moment x t (s ∷ xs) is m = in-moment-by (int_eq s.moment t) s x t xs refl i
 
 -- What goes before all that is left is not tied with what is still to come.
 module _ (clocks : Clocks) (w : Window) (event : Event) (since : ℤ) (overridden : List ℤ) where
-  begins-after : (t : Start) (rest : List Start) (o : Entry) → IsBefore moment_cmp t rest → AreKnown clocks event w rest → IsIn o (given_of clocks w event since overridden rest) → t.moment <ℤ o.start
+  begins-after : (t : Start) (rest : List Start) (o : Entry) → IsBefore moment_cmp t rest → AreKnown clocks event w rest →
+      IsIn o (given_of clocks w event since overridden rest) → t.moment <ℤ o.start
   begins-after t rest o b known m =
       let k = in-picked clocks event (is_wanted clocks w event since overridden) rest o m in
       let less = int-less t.moment k.start.moment (before-in moment_cmp moment_total t k.start rest b k.stands) in
@@ -211,24 +222,28 @@ module _ (clocks : Clocks) (w : Window) (event : Event) (since : ℤ) (overridde
   in-behind (Some x) e es m = inr m
 
   ruled-behind : (t : Start) (rules all rest : List Start) → all ≡ t ∷ rest → Rises moment_cmp all → AreKnown clocks event w all
-      → HaveRuled clocks event rules (given_of clocks w event since overridden all) → HaveRuled clocks event (cut moment_cmp t rules) (given_of clocks w event since overridden rest)
+      → HaveRuled clocks event rules (given_of clocks w event since overridden all) →
+      HaveRuled clocks event (cut moment_cmp t rules) (given_of clocks w event since overridden rest)
   ruled-behind t rules all rest e r known h o m local k =
       let rises : Rises moment_cmp (t ∷ rest) = subst (Rises moment_cmp) e r in
       let after = begins-after t rest o rises.0 (known-rest clocks w event t all rest e known) m in
-      let there = subst (λ xs. IsIn o (given_of clocks w event since overridden xs)) (sym e) (in-behind (wanted_by clocks w event since overridden t) o (given_of clocks w event since overridden rest) m) in
+      let there = subst (λ xs. IsIn o (given_of clocks w event since overridden xs)) (sym e)
+      (in-behind (wanted_by clocks w event since overridden t) o (given_of clocks w event since overridden rest) m) in
       let x = moment-in rules o.start (h o there local k) in
       in-moment x.0 o.start (cut moment_cmp t rules) x.2
       (member-cut moment_cmp moment_total t x.0 rules (λ tied. let same = tied-moment t x.0 tied in let is = x.2 in omega (arith, ints, after, same, is)) x.1)
 
   -- the same of the rule's starts, where there is one
-  pub ruled-same : (a b : Option RuleStarts) (coming coming' : List Entry) → HasSameRule a b → rule_left b ≡ rule_left a → coming' ≡ coming → HasRuled clocks event a coming → HasRuled clocks event b coming'
+  pub ruled-same : (a b : Option RuleStarts) (coming coming' : List Entry) → HasSameRule a b → rule_left b ≡ rule_left a → coming' ≡ coming →
+      HasRuled clocks event a coming → HasRuled clocks event b coming'
   ruled-same None None coming coming' same e f h = tt
   ruled-same (Some a) (Some b) coming coming' same e f h =
       subst (HaveRuled clocks event (starts_left b)) (sym f) (subst (λ xs. HaveRuled clocks event xs coming) (sym e) h)
   ruled-same None (Some b) coming coming' same e f h = absurd same
   ruled-same (Some a) None coming coming' same e f h = absurd same
 
-  pub ruled-rest : (a b : Option RuleStarts) (t : Start) (all rest : List Start) → HasSameRule a b → rule_left b ≡ cut moment_cmp t (rule_left a) → all ≡ t ∷ rest → Rises moment_cmp all → AreKnown clocks event w all
+  pub ruled-rest : (a b : Option RuleStarts) (t : Start) (all rest : List Start) → HasSameRule a b → rule_left b ≡ cut moment_cmp t (rule_left a) →
+      all ≡ t ∷ rest → Rises moment_cmp all → AreKnown clocks event w all
       → HasRuled clocks event a (given_of clocks w event since overridden all) → HasRuled clocks event b (given_of clocks w event since overridden rest)
   ruled-rest None None t all rest same c e r known h = tt
   ruled-rest (Some a) (Some b) t all rest same c e r known h =
@@ -237,14 +252,16 @@ module _ (clocks : Clocks) (w : Window) (event : Event) (since : ℤ) (overridde
   ruled-rest (Some a) None t all rest same c e r known h = absurd same
 
 -- A rule has been read no further than three days past an occurrence that it gives and that is still to come.
-pub rule-near : (clocks : Clocks) (event : Event) (o : Option RuleStarts) (coming : List Entry) → HasRuled clocks event o coming → (e : Entry) → IsIn e coming → IsAskedNear clocks event (rule_asked o) e.start
+pub rule-near : (clocks : Clocks) (event : Event) (o : Option RuleStarts) (coming : List Entry) → HasRuled clocks event o coming → (e : Entry) → IsIn e coming →
+    IsAskedNear clocks event (rule_asked o) e.start
 rule-near clocks event None coming ruled e m = tt
 rule-near clocks event (Some s) coming ruled e m = λ local k.
     let there = moment-in (starts_left s) e.start (ruled e m local k) in
     subst (λ t. (midnight s.asked -ℤ whole_days 3) ≤ℤ t) there.2 (left-near s there.0 there.1)
 
 -- so it is where it has been read on
-pub asked-near : (clocks : Clocks) (event : Event) (a b : Option RuleStarts) → HasSameRule a b → rule_left b ≡ rule_left a → (coming : List Entry) → HasRuled clocks event a coming
+pub asked-near : (clocks : Clocks) (event : Event) (a b : Option RuleStarts) → HasSameRule a b → rule_left b ≡ rule_left a → (coming : List Entry) →
+    HasRuled clocks event a coming
     → (e : Entry) → IsIn e coming → IsAskedNear clocks event (rule_asked b) e.start
 asked-near clocks event a b same left coming ruled =
     rule-near clocks event b coming (ruled-on a b same left ruled)
@@ -256,5 +273,7 @@ asked-near clocks event a b same left coming ruled =
     ruled-on (Some a) None same e h = absurd same
 
 -- and each that the starts of an event give is of it
-pub given-own : (clocks : Clocks) (w : Window) (event : Event) (since : ℤ) (overridden : List ℤ) (starts : List Start) (e : Entry) → IsIn e (given_of clocks w event since overridden starts) → e.event ≡ event
-given-own clocks w event since overridden starts e m = ap (λ (o : Entry). o.event) (in-picked clocks event (is_wanted clocks w event since overridden) starts e m).is
+pub given-own : (clocks : Clocks) (w : Window) (event : Event) (since : ℤ) (overridden : List ℤ) (starts : List Start) (e : Entry) →
+    IsIn e (given_of clocks w event since overridden starts) → e.event ≡ event
+given-own clocks w event since overridden starts e m =
+    ap (λ (o : Entry). o.event) (in-picked clocks event (is_wanted clocks w event since overridden) starts e m).is

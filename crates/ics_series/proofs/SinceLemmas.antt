@@ -1,6 +1,7 @@
 -- The starts of a series: all that are sought from an instant on are among them.
 use Rattle.std.specs.Prelude.{◌≤ℤ◌, ◌<ℤ◌, int_lt, slice_get, MatchOption}
-use Rattle.std.proofs.Common.{◌≡◌, ℕ, zero, suc, ◌+◌, ◌-◌, ◌<◌, ◌≤◌, ℤ, ◌+ℤ◌, ◌-ℤ◌, List, Bool, true, false, Option, Some, None, option_map, ◌⊎◌, ⊎_elim, refl, sym, ◌∙◌, ap, subst, arith}
+use Rattle.std.proofs.Common.{◌≡◌, ℕ, zero, suc, ◌+◌, ◌-◌, ◌<◌, ◌≤◌, ℤ, ◌+ℤ◌, ◌-ℤ◌, List, Bool, true, false, Option, Some, None, option_map, ◌⊎◌, ⊎_elim, refl}
+use Rattle.std.proofs.Common.{sym, ◌∙◌, ap, subst, arith}
 use Rattle.std.specs.Int.{int_max, int_min}
 use Rattle.std.proofs.lemmas.Int.{int_max_is, int_min_is, ints}
 use Rattle.ics_values.specs.Days.{IsDayNumber}
@@ -32,7 +33,8 @@ use Rattle.ics_series.specs.MergedLaws.{rises-union}
 use Rattle.ics_series.specs.Rising.{Rises}
 use Rattle.ics_series.specs.RuleFeed.{starts_left}
 use Rattle.ics_series.specs.RuleStarts.{found, found_in, gives, lets_until, local_numbered, moment_numbered, with_put}
-use Rattle.ics_series.specs.SeriesStarts.{first_asked, listed_apart, rule_left, AreKnown, HasRuled, HaveRuled, IsGivenAt, IsGivenBy, IsKnown, IsRuleFrom, IsSeriesMet}
+use Rattle.ics_series.specs.SeriesStarts.{first_asked, listed_apart, rule_left, AreKnown, HasRuled, HaveRuled, IsGivenAt, IsGivenBy, IsKnown, IsRuleFrom}
+use Rattle.ics_series.specs.SeriesStarts.{IsSeriesMet}
 use Rattle.ics_series.specs.Starts.{given_by, local_of, recurrence_by, recurrence_of, time_at, time_of, GivesStart, IsNotAfter, IsRuleStart}
 use Rattle.ics_series.specs.FileZones.{clocks_in}
 use Rattle.ics_series.proofs.FirstLemmas.{moment_total}
@@ -49,7 +51,8 @@ use Rattle.ics_series.proofs.StartLaws.{kept-first}
 use Rattle.ics_series.proofs.UnionLemmas.{itself-put, union-in}
 
 module _ (zones : FileZones) (w : Window) (event : Event) where
-  known-is : (s : Start) (source : StartSource) (given : Rdate) → IsGivenBy (clocks_in zones) event w source given → s ≡ start_by (clocks_in zones) source given → IsKnown (clocks_in zones) event w s
+  known-is : (s : Start) (source : StartSource) (given : Rdate) → IsGivenBy (clocks_in zones) event w source given →
+      s ≡ start_by (clocks_in zones) source given → IsKnown (clocks_in zones) event w s
   known-is s source given g e = subst (IsKnown (clocks_in zones) event w) (sym e) (record { gives = g; moment = refl })
 
   -- What is known from the first.
@@ -64,7 +67,8 @@ module _ (zones : FileZones) (w : Window) (event : Event) where
       known-is s (Kept (local_of event.start.stamp)) (At (time_at event.start (local_of event.start.stamp)))
       (subst (IsGivenAt (clocks_in zones) event w (local_of event.start.stamp)) (sym (ap (option_map (recurrence_by event.start.stamp)) none)) refl, refl) e
 
-  pub known-apart : (o : Option RuleParts) (s : Start) → event.rule ≡ o → IsIn s (listed_apart (clocks_in zones) w event o) → IsKnown (clocks_in zones) event w s
+  pub known-apart : (o : Option RuleParts) (s : Start) → event.rule ≡ o → IsIn s (listed_apart (clocks_in zones) w event o) →
+      IsKnown (clocks_in zones) event w s
   known-apart None s e m = ⊎_elim (known-first s e) (known-listed s) m
   known-apart (Some parts) s e m = known-listed s m
 
@@ -77,10 +81,12 @@ module _ (zones : FileZones) (w : Window) (event : Event) where
       let bound : n < rules_end = omega (arith, ints, early, near.0, wrote.1, seconds-numbered n, w.not_late) in
       (omega (arith, ints), omega (arith, ints, bound))
 
-  pub known-ruled : (since : ℤ) (listed starts : List Start) (s : Start) → IsRuleFrom (clocks_in zones) event w since listed starts → IsIn s starts → IsKnown (clocks_in zones) event w s
+  pub known-ruled : (since : ℤ) (listed starts : List Start) (s : Start) → IsRuleFrom (clocks_in zones) event w since listed starts → IsIn s starts →
+      IsKnown (clocks_in zones) event w s
   known-ruled since listed starts s r m =
       let f = found-is zones event r.rule w (number r.from) s (subst (IsIn s) r.gives m) in
-      let given : gives (clocks_in zones) event r.rule w (number (local_numbered f.by)) ≡ true = ap (gives (clocks_in zones) event r.rule w) (number-numbered f.by) ∙ f.given in
+      let given : gives (clocks_in zones) event r.rule w (number (local_numbered f.by)) ≡ true =
+      ap (gives (clocks_in zones) event r.rule w) (number-numbered f.by) ∙ f.given in
       known-is s (Kept (local_numbered f.by)) (At (time_at event.start (local_numbered f.by)))
       (subst (IsGivenAt (clocks_in zones) event w (local_numbered f.by)) (sym r.has) (day-given r.rule f.by f.given, given), refl) f.is
 
@@ -90,7 +96,8 @@ module _ (zones : FileZones) (w : Window) (event : Event) where
     here-or-later a b l = grind arith
 
     has-here : (from : ℕ) (rest : List Start) (b : Bool) → b ≡ true
-        → HasStart (with_put b (start_at (clocks_in zones) event (local_numbered from)) rest) (Kept (local_numbered from)) (moment_numbered (clocks_in zones) event from)
+        → HasStart (with_put b (start_at (clocks_in zones) event (local_numbered from)) rest) (Kept (local_numbered from))
+        (moment_numbered (clocks_in zones) event from)
     has-here from rest true e = record {
       start = start_at (clocks_in zones) event (local_numbered from);
       stands = itself-put moment_cmp moment_total (start_at (clocks_in zones) event (local_numbered from)) rest;
@@ -100,7 +107,8 @@ module _ (zones : FileZones) (w : Window) (event : Event) where
     has-here from rest false e = let f : false ≡ true = e in absurd cc
 
     has-later : (from k : ℕ) (rest : List Start) (b : Bool) → from < k → HasStart rest (Kept (local_numbered k)) (moment_numbered (clocks_in zones) event k)
-        → HasStart (with_put b (start_at (clocks_in zones) event (local_numbered from)) rest) (Kept (local_numbered k)) (moment_numbered (clocks_in zones) event k)
+        → HasStart (with_put b (start_at (clocks_in zones) event (local_numbered from)) rest) (Kept (local_numbered k))
+        (moment_numbered (clocks_in zones) event k)
     has-later from k rest true l h =
         put-has (start_at (clocks_in zones) event (local_numbered from)) rest (Kept (local_numbered k)) (moment_numbered (clocks_in zones) event k)
         (omega (arith, ints, seconds-numbered from, seconds-numbered k, l)) h
@@ -111,8 +119,10 @@ module _ (zones : FileZones) (w : Window) (event : Event) where
     found_in-has from zero k l u g = absurd (omega (arith, l, u))
     found_in-has from (suc n) k l u g =
         ⊎_elim
-        (λ e. subst (λ i. HasStart (found_in (clocks_in zones) event rule w from (suc n)) (Kept (local_numbered i)) (moment_numbered (clocks_in zones) event i)) e
-        (has-here from (found_in (clocks_in zones) event rule w (from + 1) n) (gives (clocks_in zones) event rule w from) (ap (gives (clocks_in zones) event rule w) e ∙ g)))
+        (λ e. subst (λ i. HasStart (found_in (clocks_in zones) event rule w from (suc n)) (Kept (local_numbered i)) (moment_numbered (clocks_in zones) event i))
+        e
+        (has-here from (found_in (clocks_in zones) event rule w (from + 1) n) (gives (clocks_in zones) event rule w from)
+        (ap (gives (clocks_in zones) event rule w) e ∙ g)))
         (λ less. has-later from k (found_in (clocks_in zones) event rule w (from + 1) n) (gives (clocks_in zones) event rule w from) less
         (found_in-has (from + 1) n k (omega (arith, less)) (omega (arith, u)) g))
         (here-or-later from k l)
@@ -127,43 +137,66 @@ module _ (zones : FileZones) (w : Window) (event : Event) where
         → (is_kept rule (number local) ≡ true) × (lets_until rule (number local) (instant (clocks_in zones) (time_at event.start local)) ≡ true)
     let-through local has k = ruled-kept (clocks_in zones) event rule has local k
 
-    gives-own : (local : Local) → recurrence_of event ≡ Some rule → IsDayNumber local.day → (local ≡ local_of event.start.stamp) ⊎ IsRuleStart (clocks_in zones) event local
+    gives-own : (local : Local) → recurrence_of event ≡ Some rule → IsDayNumber local.day → (local ≡ local_of event.start.stamp)
+        ⊎ IsRuleStart (clocks_in zones) event local
         → instant (clocks_in zones) (time_at event.start local) <ℤ w.to → gives (clocks_in zones) event rule w (number local) ≡ true
     gives-own local has day k early =
         let parts = let-through local has k in
         gives-kept (clocks_in zones) event rule w local day parts.0
-        ∙ and_both (lets_until rule (number local) (instant (clocks_in zones) (time_at event.start local))) (int_lt (instant (clocks_in zones) (time_at event.start local)) w.to)
+        ∙ and_both (lets_until rule (number local) (instant (clocks_in zones) (time_at event.start local)))
+        (int_lt (instant (clocks_in zones) (time_at event.start local)) w.to)
         parts.1 (true_int_lt (instant (clocks_in zones) (time_at event.start local)) w.to early)
 
-low-by : (from first earliest since to t local : ℤ) → from ≤ℤ int_max first (int_max earliest (int_min since to) -ℤ whole_days 6) → (earliest -ℤ whole_days 4) ≤ℤ t → since ≤ℤ t → first ≤ℤ local → (t -ℤ whole_days 2) <ℤ local → from ≤ℤ local
+low-by : (from first earliest since to t local : ℤ) → from ≤ℤ int_max first (int_max earliest (int_min since to) -ℤ whole_days 6) →
+    (earliest -ℤ whole_days 4) ≤ℤ t → since ≤ℤ t → first ≤ℤ local → (t -ℤ whole_days 2) <ℤ local → from ≤ℤ local
 low-by from first earliest since to t local low late own above near =
-    omega (arith, ints, int_max_is first (int_max earliest (int_min since to) -ℤ whole_days 6), int_max_is earliest (int_min since to), int_min_is since to, low, late, own, above, near)
+    omega (
+      arith,
+      ints,
+      int_max_is first (int_max earliest (int_min since to) -ℤ whole_days 6),
+      int_max_is earliest (int_min since to),
+      int_min_is since to,
+      low,
+      late,
+      own,
+      above,
+      near,
+    )
 
 module _ (zones : FileZones) (w : Window) (event : Event) (sound : IsEvent event) (since : ℤ) where
   -- what gives a start that is sought from the instant on is asked for
-  asked-for : (from local : Local) (given : Rdate) → local_seconds from ≤ℤ int_max (local_seconds (local_of event.start.stamp)) (first_asked (clocks_in zones) w event since (listed_from (clocks_in zones) w event.start 0 event.rdates) -ℤ whole_days 6)
-      → GivesStart (clocks_in zones) event (Kept local) given → IsSought (clocks_in zones) event w (instant (clocks_in zones) (time_of given)) → since ≤ℤ instant (clocks_in zones) (time_of given) → local_seconds from ≤ℤ local_seconds local
+  asked-for : (from local : Local) (given : Rdate) →
+      local_seconds from ≤ℤ int_max (local_seconds (local_of event.start.stamp))
+      (first_asked (clocks_in zones) w event since (listed_from (clocks_in zones) w event.start 0 event.rdates) -ℤ whole_days 6)
+      → GivesStart (clocks_in zones) event (Kept local) given → IsSought (clocks_in zones) event w (instant (clocks_in zones) (time_of given)) →
+      since ≤ℤ instant (clocks_in zones) (time_of given) → local_seconds from ≤ℤ local_seconds local
   asked-for from local given low g s late =
       let time = time_at event.start local in
       let same = ap (λ x. instant (clocks_in zones) (time_of x)) g.1 in
-      let sought : (earliest (clocks_in zones) w event (listed_from (clocks_in zones) w event.start 0 event.rdates) -ℤ whole_days 4) ≤ℤ instant (clocks_in zones) (time_of given) =
+      let sought : (earliest (clocks_in zones) w event (listed_from (clocks_in zones) w event.start 0 event.rdates) -ℤ whole_days 4) ≤ℤ instant
+      (clocks_in zones) (time_of given) =
       sought-late zones w event (instant (clocks_in zones) (time_of given)) s in
       let near = instant-near zones time in
       let at = written-at event.start.stamp local in
-      low-by (local_seconds from) (local_seconds (local_of event.start.stamp)) (earliest (clocks_in zones) w event (listed_from (clocks_in zones) w event.start 0 event.rdates)) since (w.to +ℤ whole_days 14)
-      (instant (clocks_in zones) (time_of given)) (local_seconds local) low sought late (kept-first (clocks_in zones) event sound.start local g.0) (omega (arith, ints, same, near.1, at.0))
+      low-by (local_seconds from) (local_seconds (local_of event.start.stamp))
+      (earliest (clocks_in zones) w event (listed_from (clocks_in zones) w event.start 0 event.rdates)) since (w.to +ℤ whole_days 14)
+      (instant (clocks_in zones) (time_of given)) (local_seconds local) low sought late (kept-first (clocks_in zones) event sound.start local g.0)
+      (omega (arith, ints, same, near.1, at.0))
 
   own-day-of : (local : Local) → (local ≡ local_of event.start.stamp) ⊎ IsRuleStart (clocks_in zones) event local → IsDayNumber local.day
   own-day-of local k =
-      ⊎_elim (λ e. subst (λ (l : Local). IsDayNumber l.day) (sym e) (calendar-day (local_of event.start.stamp).day (own-day event.start sound.start))) (λ r. r.calendar) k
+      ⊎_elim (λ e. subst (λ (l : Local). IsDayNumber l.day) (sym e) (calendar-day (local_of event.start.stamp).day (own-day event.start sound.start)))
+      (λ r. r.calendar) k
 
   -- The rule gives a start for each that is sought.
   module _ (starts : List Start) (r : IsRuleFrom (clocks_in zones) event w since (listed_from (clocks_in zones) w event.start 0 event.rdates) starts) where
-    ruled : (local : Local) (given : Rdate) → GivesStart (clocks_in zones) event (Kept local) given → IsSought (clocks_in zones) event w (instant (clocks_in zones) (time_of given)) → since ≤ℤ instant (clocks_in zones) (time_of given)
+    ruled : (local : Local) (given : Rdate) → GivesStart (clocks_in zones) event (Kept local) given →
+        IsSought (clocks_in zones) event w (instant (clocks_in zones) (time_of given)) → since ≤ℤ instant (clocks_in zones) (time_of given)
         → HasStart starts (Kept local) (instant (clocks_in zones) (time_of given))
     ruled local given g s late =
         let time = time_at event.start local in
-        let same : instant (clocks_in zones) (time_of given) ≡ instant (clocks_in zones) (time_at event.start local) = ap (λ x. instant (clocks_in zones) (time_of x)) g.1 in
+        let same : instant (clocks_in zones) (time_of given) ≡ instant (clocks_in zones) (time_at event.start local) =
+        ap (λ x. instant (clocks_in zones) (time_of x)) g.1 in
         let early = sought-early zones w event (instant (clocks_in zones) (time_of given)) s in
         let day = own-day-of local g.0 in
         let asked = asked-for r.from local given r.low g s late in
@@ -171,11 +204,13 @@ module _ (zones : FileZones) (w : Window) (event : Event) (sound : IsEvent event
         let near = instant-near zones time in
         let at = written-at event.start.stamp local in
         let below : number local < rules_end = omega (arith, ints, same, early, near.0, at.1, number-seconds local day, w.not_late) in
-        let given-there : gives (clocks_in zones) event r.rule w (number local) ≡ true = gives-own zones w event r.rule local r.has day g.0 (subst (λ t. t <ℤ w.to) same early) in
+        let given-there : gives (clocks_in zones) event r.rule w (number local) ≡ true =
+        gives-own zones w event r.rule local r.has day g.0 (subst (λ t. t <ℤ w.to) same early) in
         let has = found-has zones w event r.rule (number r.from) (number local) from below given-there in
         subst (λ xs. HasStart xs (Kept local) (instant (clocks_in zones) (time_of given))) (sym r.gives)
         (subst (HasStart (found (clocks_in zones) event r.rule w (number r.from)) (Kept local)) (sym same)
-        (subst (λ l. HasStart (found (clocks_in zones) event r.rule w (number r.from)) (Kept l) (instant (clocks_in zones) (time_at event.start l))) (numbered-number local day) has))
+        (subst (λ l. HasStart (found (clocks_in zones) event r.rule w (number r.from)) (Kept l) (instant (clocks_in zones) (time_at event.start l)))
+        (numbered-number local day) has))
 
     -- all that it gives goes before an RDATE
     local-first : (place : ℕ) (x : Start) → IsIn x starts → IsNotAfter x.source (Listed place)
@@ -184,7 +219,8 @@ module _ (zones : FileZones) (w : Window) (event : Event) (sound : IsEvent event
         subst (λ (s : Start). IsNotAfter s.source (Listed place)) (sym f.is) tt
 
     pub with-ruled : (listed : List Start) → Rises moment_cmp starts → AreFirsts (listed_from (clocks_in zones) w event.start 0 event.rdates) listed
-        → (source : StartSource) (given : Rdate) → GivesStart (clocks_in zones) event source given → IsSought (clocks_in zones) event w (instant (clocks_in zones) (time_of given)) → since ≤ℤ instant (clocks_in zones) (time_of given)
+        → (source : StartSource) (given : Rdate) → GivesStart (clocks_in zones) event source given →
+        IsSought (clocks_in zones) event w (instant (clocks_in zones) (time_of given)) → since ≤ℤ instant (clocks_in zones) (time_of given)
         → HasStart (union moment_cmp starts listed) source (instant (clocks_in zones) (time_of given))
     with-ruled listed rises firsts (Kept local) given g s late =
         has-union starts listed (Kept local) (instant (clocks_in zones) (time_of given)) rises (ruled local given g s late)
@@ -206,34 +242,42 @@ module _ (zones : FileZones) (w : Window) (event : Event) (sound : IsEvent event
       (λ n. known-apart zones w event event.rule s refl (firsts.are s n.1))
       (union-in moment_cmp moment_total s (starts_left starts) listed firsts.rises m)
 
-  all-by : (o : Option RuleStarts) (parts : Option RuleParts) (listed : List Start) → event.rule ≡ parts → AreFirsts (listed_apart (clocks_in zones) w event parts) listed
+  all-by : (o : Option RuleStarts) (parts : Option RuleParts) (listed : List Start) → event.rule ≡ parts →
+      AreFirsts (listed_apart (clocks_in zones) w event parts) listed
       → MatchOption o (event.rule ≡ None) (λ s. IsRuleFrom (clocks_in zones) event w since (listed_apart (clocks_in zones) w event parts) (starts_left s))
-      → (source : StartSource) (given : Rdate) → GivesStart (clocks_in zones) event source given → IsSought (clocks_in zones) event w (instant (clocks_in zones) (time_of given)) → since ≤ℤ instant (clocks_in zones) (time_of given)
+      → (source : StartSource) (given : Rdate) → GivesStart (clocks_in zones) event source given →
+      IsSought (clocks_in zones) event w (instant (clocks_in zones) (time_of given)) → since ≤ℤ instant (clocks_in zones) (time_of given)
       → HasStart (union moment_cmp (rule_left o) listed) source (instant (clocks_in zones) (time_of given))
   all-by None None listed e firsts r source given g s late = firsts.all (start_by (clocks_in zones) source given) (none-else zones w event e source given g s)
   all-by None (Some parts) listed e firsts r source given g s late = let f : None ≡ Some parts = sym r ∙ e in absurd cc
-  all-by (Some starts) None listed e firsts r source given g s late = let f : None ≡ Some r.rule = ap (option_map (recurrence_by event.start.stamp)) (sym e) ∙ r.has in absurd cc
-  all-by (Some starts) (Some parts) listed e firsts r source given g s late = with-ruled (starts_left starts) r listed (rises-rule (Some starts)) firsts source given g s late
+  all-by (Some starts) None listed e firsts r source given g s late = let f : None ≡ Some r.rule = ap (option_map (recurrence_by event.start.stamp)) (sym e)
+      ∙ r.has in absurd cc
+  all-by (Some starts) (Some parts) listed e firsts r source given g s late =
+      with-ruled (starts_left starts) r listed (rises-rule (Some starts)) firsts source given g s late
 
   -- Where an occurrence begins at the instant of a local that DTSTART has or the rule keeps, the rule has a start there.
   sought-at : (e : Entry) → IsEventMet (clocks_in zones) event w e → IsSought (clocks_in zones) event w e.start
   sought-at e o =
       let of = o.0.lasts in
-      let is : e ≡ entry_from (clocks_in zones) event of.given = same-entry e (entry_from (clocks_in zones) event of.given) of.starts of.ends (o.0.recurrence ∙ of.starts) o.0.event in
+      let is : e ≡ entry_from (clocks_in zones) event of.given =
+      same-entry e (entry_from (clocks_in zones) event of.given) of.starts of.ends (o.0.recurrence ∙ of.starts) o.0.event in
       record { source = of.source; given = of.given; gives = of.gives; starts = sym of.starts; meets = subst (Meets w) is o.1 }
 
-  ruled-coming : (overridden : List ℤ) (starts : List Start) (coming : List Entry) → IsRuleFrom (clocks_in zones) event w since (listed_from (clocks_in zones) w event.start 0 event.rdates) starts
+  ruled-coming : (overridden : List ℤ) (starts : List Start) (coming : List Entry) →
+      IsRuleFrom (clocks_in zones) event w since (listed_from (clocks_in zones) w event.start 0 event.rdates) starts
       → ((o : Entry) → IsIn o coming → IsSeriesMet (clocks_in zones) event w since overridden o) → HaveRuled (clocks_in zones) event starts coming
   ruled-coming overridden starts coming r f o m local k =
       let met = f o m in
-      let has = ruled starts r local (At (time_at event.start local)) (k.0, refl) (subst (IsSought (clocks_in zones) event w) (sym k.1) (sought-at o met.0)) (subst (λ t. since ≤ℤ t) (sym k.1) met.1.0) in
+      let has = ruled starts r local (At (time_at event.start local)) (k.0, refl) (subst (IsSought (clocks_in zones) event w) (sym k.1) (sought-at o met.0))
+      (subst (λ t. since ≤ℤ t) (sym k.1) met.1.0) in
       in-moment has.start o.start starts (has.same ∙ k.1) has.stands
 
   has-ruled-by : (o : Option RuleStarts) (parts : Option RuleParts) (overridden : List ℤ) (coming : List Entry) → event.rule ≡ parts
       → MatchOption o (event.rule ≡ None) (λ s. IsRuleFrom (clocks_in zones) event w since (listed_apart (clocks_in zones) w event parts) (starts_left s))
       → ((e : Entry) → IsIn e coming → IsSeriesMet (clocks_in zones) event w since overridden e) → HasRuled (clocks_in zones) event o coming
   has-ruled-by None parts overridden coming e r f = tt
-  has-ruled-by (Some starts) None overridden coming e r f = let g : None ≡ Some r.rule = ap (option_map (recurrence_by event.start.stamp)) (sym e) ∙ r.has in absurd cc
+  has-ruled-by (Some starts) None overridden coming e r f = let g : None ≡ Some r.rule = ap (option_map (recurrence_by event.start.stamp)) (sym e) ∙ r.has in
+      absurd cc
   has-ruled-by (Some starts) (Some parts) overridden coming e r f = ruled-coming overridden (starts_left starts) coming r f
 
   pub has-ruled : (o : Option RuleStarts) (overridden : List ℤ) (coming : List Entry)
@@ -252,7 +296,8 @@ module _ (zones : FileZones) (w : Window) (event : Event) (sound : IsEvent event
 
 -- the rule's starts by what the starts that are known from the first and the instant are
 pub ruled-as : (clocks : Clocks) (event : Event) (w : Window) (t since : ℤ) (given listed : List Start) (o : Option RuleStarts) → t ≡ since → given ≡ listed
-    → MatchOption o (event.rule ≡ None) (λ s. IsRuleFrom clocks event w t given (starts_left s)) → MatchOption o (event.rule ≡ None) (λ s. IsRuleFrom clocks event w since listed (starts_left s))
+    → MatchOption o (event.rule ≡ None) (λ s. IsRuleFrom clocks event w t given (starts_left s)) →
+    MatchOption o (event.rule ≡ None) (λ s. IsRuleFrom clocks event w since listed (starts_left s))
 ruled-as clocks event w t since given listed o e f h =
     subst (λ x. MatchOption o (event.rule ≡ None) (λ s. IsRuleFrom clocks event w x listed (starts_left s))) e
     (subst (λ xs. MatchOption o (event.rule ≡ None) (λ s. IsRuleFrom clocks event w t xs (starts_left s))) f h)

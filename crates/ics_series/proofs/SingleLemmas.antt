@@ -21,7 +21,8 @@ pub first-gives : (clocks : Clocks) (event : Event) → GivesStart clocks event 
 first-gives clocks event = (inl refl, sym (ap At (own-time event.start)))
 
 -- What a version gives of that.
-module _ (files : List FileSaid) (display : Clock) (w : Window) (overrides : List Label) (after : Option Rank) (label : Label) (event : Event) (stands : event_at files label.spot ≡ Some event) where
+module _ (files : List FileSaid) (display : Clock) (w : Window) (overrides : List Label) (after : Option Rank) (label : Label) (event : Event)
+    (stands : event_at files label.spot ≡ Some event) where
   abbrev clocks : Clocks
   clocks = clocks_at files display label.spot.file
 
@@ -38,11 +39,14 @@ module _ (files : List FileSaid) (display : Clock) (w : Window) (overrides : Lis
       by true e = cc
       by false e = let f : Some o ≡ None = e in absurd cc
 
-  by-test : (single comes : Bool) → is_single event ≡ single → is_to_come w overrides after first ≡ comes → single_at files display w overrides after label ≡ (if single && comes then Some first else None)
+  by-test : (single comes : Bool) → is_single event ≡ single → is_to_come w overrides after first ≡ comes →
+      single_at files display w overrides after label ≡ (if single && comes then Some first else None)
   by-test single comes s c = at-event ∙ (λ i. if s i && c i then Some first else None)
 
-  pub gives-single : (o : Entry) → is_single event ≡ true → Some o ≡ begun_first clocks w event label.subject.recurrence → is_to_come w overrides after o ≡ true → Some o ≡ single_at files display w overrides after label
+  pub gives-single : (o : Entry) → is_single event ≡ true → Some o ≡ begun_first clocks w event label.subject.recurrence →
+      is_to_come w overrides after o ≡ true → Some o ≡ single_at files display w overrides after label
   gives-single o s b c = let is = begun-is o b in ap Some is ∙ sym (by-test true true s (ap (is_to_come w overrides after) (sym is) ∙ c))
 
-  pub gives-none : (o : Entry) → is_single event ≡ true → Some o ≡ begun_first clocks w event label.subject.recurrence → is_to_come w overrides after o ≡ false → None ≡ single_at files display w overrides after label
+  pub gives-none : (o : Entry) → is_single event ≡ true → Some o ≡ begun_first clocks w event label.subject.recurrence →
+      is_to_come w overrides after o ≡ false → None ≡ single_at files display w overrides after label
   gives-none o s b c = let is = begun-is o b in sym (by-test true false s (ap (is_to_come w overrides after) (sym is) ∙ c))

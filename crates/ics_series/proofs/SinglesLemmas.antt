@@ -102,14 +102,16 @@ module _ (clocks : Clocks) (event : Event) (single : is_single event ≡ true) w
   first-given : IsGivenBy clocks event (overridden clocks event) first
   first-given = by event.recurrence refl
     where
-      by : (r : Option Time) → event.recurrence ≡ r → IsGivenBy clocks event (option_map (instant clocks) r) (entry_first clocks event (option_map (instant clocks) r))
+      by : (r : Option Time) → event.recurrence ≡ r →
+          IsGivenBy clocks event (option_map (instant clocks) r) (entry_first clocks event (option_map (instant clocks) r))
       by None none = let bare = plain none in record { event = refl; recurrence = refl; lasts = first-instance clocks event bare.0 bare.1 bare.2 }
       by (Some time) some = (record { event = refl; starts = refl; ends = refl }, refl)
 
   given-first : (o : Entry) → IsGivenBy clocks event (overridden clocks event) o → o ≡ first
   given-first o = by event.recurrence refl
     where
-      by : (r : Option Time) → event.recurrence ≡ r → IsGivenBy clocks event (option_map (instant clocks) r) o → o ≡ entry_first clocks event (option_map (instant clocks) r)
+      by : (r : Option Time) → event.recurrence ≡ r → IsGivenBy clocks event (option_map (instant clocks) r) o →
+          o ≡ entry_first clocks event (option_map (instant clocks) r)
       by None none of =
           let bare = plain none in
           let once = one-start clocks event o.start o.finish bare.0 bare.1 of.lasts in
@@ -117,7 +119,8 @@ module _ (clocks : Clocks) (event : Event) (single : is_single event ≡ true) w
       by (Some time) some of = same-entry o (entry_first clocks event (Some (instant clocks time))) of.0.starts of.0.ends of.1 of.0.event
 
 -- Of the versions that count.
-module _ (files : List FileSaid) (display : Clock) (w : Window) (after : Option Rank) (vs : List Version) (os : List Label) (chosen : AreChosen files display vs) (overrides : os ≡ filter is_override (map seen vs)) where
+module _ (files : List FileSaid) (display : Clock) (w : Window) (after : Option Rank) (vs : List Version) (os : List Label)
+    (chosen : AreChosen files display vs) (overrides : os ≡ filter is_override (map seen vs)) where
   abbrev clocks_by : Placed → Clocks
   clocks_by p = clocks_at files display p.file
 
@@ -131,10 +134,12 @@ module _ (files : List FileSaid) (display : Clock) (w : Window) (after : Option 
   given-by : (p : Placed) → IsChosen files display p → given p ≡ (if is_single p.event && is_to_come w os after (own p) then Some (own p) else None)
   given-by p c = ap (option_and_then (single_of (clocks_by p) w os after (overridden (clocks_by p) p.event))) (placed-event files p c.placed)
 
-  given-is : (p : Placed) (o : Entry) → IsChosen files display p → given p ≡ Some o → (is_single p.event ≡ true) × (is_to_come w os after (own p) ≡ true) × (o ≡ own p)
+  given-is : (p : Placed) (o : Entry) → IsChosen files display p → given p ≡ Some o → (is_single p.event ≡ true) × (is_to_come w os after (own p) ≡ true)
+      × (o ≡ own p)
   given-is p o c e = by (is_single p.event) (is_to_come w os after (own p)) refl refl (sym (given-by p c) ∙ e)
     where
-      by : (a b : Bool) → is_single p.event ≡ a → is_to_come w os after (own p) ≡ b → (if a && b then Some (own p) else None) ≡ Some o → (is_single p.event ≡ true) × (is_to_come w os after (own p) ≡ true) × (o ≡ own p)
+      by : (a b : Bool) → is_single p.event ≡ a → is_to_come w os after (own p) ≡ b → (if a && b then Some (own p) else None) ≡ Some o →
+          (is_single p.event ≡ true) × (is_to_come w os after (own p) ≡ true) × (o ≡ own p)
       by true true s t e = (s, t, cc)
       by true false s t e = let f : None ≡ Some o = e in absurd cc
       by false b s t e = let f : None ≡ Some o = e in absurd cc
@@ -143,22 +148,27 @@ module _ (files : List FileSaid) (display : Clock) (w : Window) (after : Option 
   is-given p c s t = given-by p c ∙ (λ i. if s i && t i then Some (own p) else None)
 
   -- the order of subjects is that of what is given
-  subjects-keep : (p q : Placed) (x y : Entry) → IsChosen files display p → IsChosen files display q → given p ≡ Some x → given q ≡ Some y → by_subject files display p q ≡ Less → given_cmp x y ≡ Less
+  subjects-keep : (p q : Placed) (x y : Entry) → IsChosen files display p → IsChosen files display q → given p ≡ Some x → given q ≡ Some y →
+      by_subject files display p q ≡ Less → given_cmp x y ≡ Less
   subjects-keep p q x y c d e f less =
       let a = given-is p x c e in
       let b = given-is q y d f in
-      let one : subject_from x ≡ subject_of files display p = ap subject_from a.2 ∙ given-subject (clocks_by p) p.event (own p) (first-given (clocks_by p) p.event a.0) in
-      let other : subject_from y ≡ subject_of files display q = ap subject_from b.2 ∙ given-subject (clocks_by q) q.event (own q) (first-given (clocks_by q) q.event b.0) in
+      let one : subject_from x ≡ subject_of files display p = ap subject_from a.2
+      ∙ given-subject (clocks_by p) p.event (own p) (first-given (clocks_by p) p.event a.0) in
+      let other : subject_from y ≡ subject_of files display q = ap subject_from b.2
+      ∙ given-subject (clocks_by q) q.event (own q) (first-given (clocks_by q) q.event b.0) in
       ap (λ c. ordering_then c (entry_start_cmp x y)) ((λ i. subject_cmp (one i) (other i)) ∙ less)
 
   kept-same : (o : Entry) → is_kept os o ≡ is_kept (map seen vs) o
-  kept-same o = ap (λ b. is_some o.event.recurrence || not b) (ap (is_named (record { uid = o.event.uid; recurrence = Some o.recurrence })) overrides ∙ named-overrides o.event.uid o.recurrence (map seen vs))
+  kept-same o = ap (λ b. is_some o.event.recurrence || not b) (ap (is_named (record { uid = o.event.uid; recurrence = Some o.recurrence })) overrides
+      ∙ named-overrides o.event.uid o.recurrence (map seen vs))
 
   given-come : (p : Placed) (o : Entry) → IsChosen files display p → given p ≡ Some o → IsSingleToCome files display w after o
   given-come p o c e =
       let is = given-is p o c e in
       let parts = three-true (is_met w (own p)) (is_after after (own p)) (is_kept os (own p)) is.1 in
-      let is_given : IsGiven files display w (own p) = record { by = p; chosen = c; is = (first-given (clocks_by p) p.event is.0, is_met-meets w (own p) parts.0) } in
+      let is_given : IsGiven files display w (own p) =
+      record { by = p; chosen = c; is = (first-given (clocks_by p) p.event is.0, is_met-meets w (own p) parts.0) } in
       subst (IsSingleToCome files display w after) (sym is.2)
       (to-come files display w vs chosen after (own p) is_given (sym (kept-same (own p)) ∙ parts.2) parts.1, is.0)
 
@@ -169,13 +179,17 @@ module _ (files : List FileSaid) (display : Clock) (w : Window) (after : Option 
       let event : o.event ≡ listed.0.by.event = given-event (clocks_by p) p.event (overridden (clocks_by p) p.event) o listed.0.is.0 in
       let single : is_single listed.0.by.event ≡ true = ap is_single (sym event) ∙ t.1 in
       let is = given-first (clocks_by p) p.event single o listed.0.is.0 in
-      let comes : is_to_come w os after o ≡ true = true-three (is_met w o) (is_after after o) (is_kept os o) (meets-is_met w o listed.0.is.1) (is-after files display w vs chosen after o t.0) (kept-same o ∙ listed.1) in
+      let comes : is_to_come w os after o ≡ true =
+      true-three (is_met w o) (is_after after o) (is_kept os o) (meets-is_met w o listed.0.is.1) (is-after files display w vs chosen after o t.0)
+      (kept-same o ∙ listed.1) in
       (p, listed.0.chosen, is-given p listed.0.chosen single (ap (is_to_come w os after) (sym is) ∙ comes) ∙ ap Some (sym is))
 
 -- The versions that count give the listing.
-pub singles-listing : {F : Type 0} {g : Mut F (Bor Single × (Bor Single × Unit {0})) Ordering} {f : F} (files : List FileSaid) (display : Clock) (w : Window) (after : Option Rank) (vs os : List Version) (given sorted : List Single) → AreChosen files display vs → map seen os ≡ filter is_override (map seen vs)
+pub singles-listing : {F : Type 0} {g : Mut F (Bor Single × (Bor Single × Unit {0})) Ordering} {f : F} (files : List FileSaid) (display : Clock) (w : Window)
+    (after : Option Rank) (vs os : List Version) (given sorted : List Single) → AreChosen files display vs → map seen os ≡ filter is_override (map seen vs)
     → map single_entry given ≡ filter_map (single_at files display w (map seen os) after) (map seen vs) → IsPermutation given sorted
-    → IsSortedByClosure g f sorted → ((f : F) (a : Bor Single × (Bor Single × Unit {0})) (r : Ordering) (f' : F) → Called g f a r f' → r ≡ entry_cmp (single_entry a.0.now) (single_entry a.1.0.now))
+    → IsSortedByClosure g f sorted → ((f : F) (a : Bor Single × (Bor Single × Unit {0})) (r : Ordering) (f' : F) → Called g f a r f' →
+    r ≡ entry_cmp (single_entry a.0.now) (single_entry a.1.0.now))
     → IsListing entry_cmp (IsSingleToCome files display w after) (map single_entry sorted)
 singles-listing {g = g} {f = f} files display w after vs os given sorted chosen overrides are p s h =
     let label = label_of files display in
@@ -186,21 +200,24 @@ singles-listing {g = g} {f = f} files display w after vs os given sorted chosen 
     (subjects-keep files display w after vs (map seen os) chosen overrides) (IsSingleToCome files display w after) chosen.chosen chosen.listing
     (given-come files display w after vs (map seen os) chosen overrides) (come-given files display w after vs (map seen os) chosen overrides) in
     listing-sorted given_cmp given_total entry_cmp (IsSingleToCome files display w after) (λ x y a b e. tied-given files display w after x y a.0 b.0 e)
-    (map single_entry given) (map single_entry sorted) (subst (IsListing given_cmp (IsSingleToCome files display w after)) picked found) (IsPermutation-map single_entry given sorted p)
+    (map single_entry given) (map single_entry sorted) (subst (IsListing given_cmp (IsSingleToCome files display w after)) picked found)
+    (IsPermutation-map single_entry given sorted p)
     (map-climbs single_entry entry_cmp sorted
     (climbs-sorted (on single_entry entry_cmp) (on_total single_entry entry_total) sorted
     (s (λ x y. is_lt (on single_entry entry_cmp x y)) (ranks_by entry_total single_entry)
     (answers_always g (λ a r. is_lt r ≡ is_lt (entry_cmp (single_entry a.0.now) (single_entry a.1.0.now))) f (λ k a r f' c. ap is_lt (h k a r f' c))))))
 
 -- and all that meet the window have a list
-pub singles-whole : (files : List FileSaid) (display : Clock) (w : Window) (vs : List Version) → AreChosen files display vs → (list : List Entry) × IsListing entry_cmp (IsSingleToCome files display w None) list
+pub singles-whole : (files : List FileSaid) (display : Clock) (w : Window) (vs : List Version) → AreChosen files display vs →
+    (list : List Entry) × IsListing entry_cmp (IsSingleToCome files display w None) list
 singles-whole files display w vs chosen =
     let os = filter is_override (map seen vs) in
     let one = single_at files display w (filter is_override (map seen vs)) None in
     let found = listing-picked (λ p. one (label_of files display p)) (by_subject files display) (group-total files display) given_cmp (IsChosen files display)
     (subjects-keep files display w None vs os chosen refl) (IsSingleToCome files display w None) chosen.chosen chosen.listing
     (given-come files display w None vs os chosen refl) (come-given files display w None vs os chosen refl) in
-    listing-ordered entry_cmp entry_total given_cmp given_total (IsSingleToCome files display w None) (λ x y a b e. tied-given files display w None x y a.0 b.0 e)
+    listing-ordered entry_cmp entry_total given_cmp given_total (IsSingleToCome files display w None)
+    (λ x y a b e. tied-given files display w None x y a.0 b.0 e)
     (filter_map (λ p. one (label_of files display p)) chosen.chosen) found
 
 -- what holds of each occurrence of a list

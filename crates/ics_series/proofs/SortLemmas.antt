@@ -8,7 +8,8 @@ use Rattle.std.specs.Ordering.{is_gt, is_lt, on, ordering_reverse}
 use Rattle.std.specs.declared.cmp.Ordering.{Ordering}
 use Rattle.std.specs.declared.cmp.Ordering.TheVariants.{Less, Equal, Greater}
 use Rattle.std.proofs.lemmas.Cmp.{tied_itself}
-use Rattle.std.proofs.lemmas.List.Sorted.{Contains-permutation, IsPermutation-keeps, IsPermutation-refl, IsPermutation-swap, IsPermutation-sym, IsPermutation-trans, ranks_by, sorted_far, sum_by-IsPermutation}
+use Rattle.std.proofs.lemmas.List.Sorted.{Contains-permutation, IsPermutation-keeps, IsPermutation-refl, IsPermutation-swap, IsPermutation-sym}
+use Rattle.std.proofs.lemmas.List.Sorted.{IsPermutation-trans, ranks_by, sorted_far, sum_by-IsPermutation}
 use Rattle.std.proofs.lemmas.List.{get_or-map, length-map, map-set}
 use Rattle.std.proofs.lemmas.List.Sums.{sum_by-cons}
 use Rattle.ics_series.specs.Rising.{IsBefore, Rises}
@@ -161,7 +162,8 @@ module _ {A : Type 0} (R : A → A → Ordering) (o : IsTotalOrder R) where
         absurd (omega (arith, ties_of-cons x x ys, ap tie (tied_itself o x), some-tie x y ys (finer x y p q e) m))
     less-by x y ys Greater p q e g m t = let f : is_gt Greater ≡ false = ap is_gt (sym e) ∙ g in cc
 
-    before-all : (x : A) (ys zs : List A) → P x → ((y : A) → IsIn y ys → P y) → ((y : A) → IsIn y zs → IsIn y ys) → IsUpTo S x zs → ties_of x (x ∷ ys) ≤ 1 → IsBefore S x zs
+    before-all : (x : A) (ys zs : List A) → P x → ((y : A) → IsIn y ys → P y) → ((y : A) → IsIn y zs → IsIn y ys) → IsUpTo S x zs → ties_of x (x ∷ ys) ≤ 1 →
+        IsBefore S x zs
     before-all x ys [] p all f h t = tt
     before-all x ys (z ∷ zs) p all f h t =
         (less-by x z ys (S x z) p (all z (f z (inl refl))) refl h.0 (f z (inl refl)) t, before-all x ys zs p all (λ y m. f y (inr m)) h.1 t)

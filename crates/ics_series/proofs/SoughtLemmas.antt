@@ -1,5 +1,6 @@
 -- The starts that are sought are among those that are found.
-use Rattle.std.proofs.Common.{◌≡◌, ℕ, suc, ◌+◌, ◌<◌, ℤ, ◌+ℤ◌, ◌-ℤ◌, ◌<ℤ◌, ◌≤ℤ◌, List, [], ◌∷◌, length, get_or, drop, add-one, Bool, true, false, Some, None, option_map, inl, inr, ⊎_elim, sym, ◌∙◌, ap, subst, arith}
+use Rattle.std.proofs.Common.{◌≡◌, ℕ, suc, ◌+◌, ◌<◌, ℤ, ◌+ℤ◌, ◌-ℤ◌, ◌<ℤ◌, ◌≤ℤ◌, List, [], ◌∷◌, length, get_or, drop, add-one, Bool, true, false, Some, None}
+use Rattle.std.proofs.Common.{option_map, inl, inr, ⊎_elim, sym, ◌∙◌, ap, subst, arith}
 use Rattle.std.proofs.Math.Seq.{drop-cons}
 use Rattle.std.proofs.lemmas.Int.{int_min_is, ints}
 use Rattle.ics_calendar.specs.declared.event.Event.{Event}
@@ -41,7 +42,8 @@ module _ (clocks : Clocks) (w : Window) (event : Event) where
       let rest = earliest-most (earlier (is_span_met clocks w event x x.given) least x.moment) xs in
       omega (arith, ints, rest, earlier-most (is_span_met clocks w event x x.given) least x.moment)
 
-  earliest-each : (least : ℤ) (s : Start) (xs : List Start) → IsIn s xs → is_span_met clocks w event s s.given ≡ true → earliest_from clocks w event least xs ≤ℤ s.moment
+  earliest-each : (least : ℤ) (s : Start) (xs : List Start) → IsIn s xs → is_span_met clocks w event s s.given ≡ true →
+      earliest_from clocks w event least xs ≤ℤ s.moment
   earliest-each least s [] m e = absurd m
   earliest-each least s (x ∷ xs) m e =
       ⊎_elim
@@ -53,26 +55,31 @@ module _ (clocks : Clocks) (w : Window) (event : Event) where
       (λ n. earliest-each (earlier (is_span_met clocks w event x x.given) least x.moment) s xs n e) m
 
   -- one start further on
-  pub earliest-step : (least next : ℤ) (xs : List Start) (k : ℕ) (s : Start) → k < length xs → s ≡ get_or xs k s → next ≡ earlier (is_span_met clocks w event s s.given) least s.moment
+  pub earliest-step : (least next : ℤ) (xs : List Start) (k : ℕ) (s : Start) → k < length xs → s ≡ get_or xs k s →
+      next ≡ earlier (is_span_met clocks w event s s.given) least s.moment
       → earliest_from clocks w event next (drop (k + 1) xs) ≡ earliest_from clocks w event least (drop k xs)
   earliest-step least next xs k s l e n =
       let front : drop k xs ≡ s ∷ drop (suc k) xs = drop-cons xs k s l ∙ ap (λ x. x ∷ drop (suc k) xs) (sym e) in
       ap (λ t. earliest_from clocks w event t (drop (k + 1) xs)) n
-      ∙ (ap (λ i. earliest_from clocks w event (earlier (is_span_met clocks w event s s.given) least s.moment) (drop i xs)) (add-one k) ∙ sym (ap (earliest_from clocks w event least) front))
+      ∙ (ap (λ i. earliest_from clocks w event (earlier (is_span_met clocks w event s s.given) least s.moment) (drop i xs)) (add-one k)
+      ∙ sym (ap (earliest_from clocks w event least) front))
 
 -- the starts at DTSTART and by RDATEs
 abbrev pub front : Clocks → Window → Event → List Start
 front clocks w event = start_at clocks event (local_of event.start.stamp) ∷ listed_from clocks w event.start 0 event.rdates
 
 module _ (zones : FileZones) (w : Window) (event : Event) where
-  pub listed-there : (place : ℕ) (given : Rdate) → GivesStart (clocks_in zones) event (Listed place) given → instant (clocks_in zones) (time_of given) <ℤ w.to → IsIn (start_by (clocks_in zones) (Listed place) given) (front (clocks_in zones) w event)
+  pub listed-there : (place : ℕ) (given : Rdate) → GivesStart (clocks_in zones) event (Listed place) given → instant (clocks_in zones) (time_of given) <ℤ w.to →
+      IsIn (start_by (clocks_in zones) (Listed place) given) (front (clocks_in zones) w event)
   listed-there place given g early =
       let time = time_of (given_by event.start g.0) in
       let same = ap (λ x. instant (clocks_in zones) (time_of x)) g.2 in
-      let past : is_past w time ≡ false = less-le (w.to +ℤ whole_days 2) (stamp_seconds time.stamp) (omega (arith, ints, same, early, instant-near zones time)) in
+      let past : is_past w time ≡ false =
+      less-le (w.to +ℤ whole_days 2) (stamp_seconds time.stamp) (omega (arith, ints, same, early, instant-near zones time)) in
       let there = in-listed (clocks_in zones) w event.start 0 place event.rdates g.0 g.1 past in
       inr (subst (λ s. IsIn s (listed_from (clocks_in zones) w event.start 0 event.rdates))
-      (ap (λ n. start_by (clocks_in zones) (Listed n) (given_by event.start g.0)) (omega arith) ∙ ap (start_by (clocks_in zones) (Listed place)) (sym g.2)) there)
+      (ap (λ n. start_by (clocks_in zones) (Listed n) (given_by event.start g.0)) (omega arith)
+      ∙ ap (start_by (clocks_in zones) (Listed place)) (sym g.2)) there)
 
   pub sought-early : (t : ℤ) → IsSought (clocks_in zones) event w t → t <ℤ w.to
   sought-early t s = omega (arith, ints, s.starts, s.meets.begun)
@@ -81,20 +88,30 @@ module _ (zones : FileZones) (w : Window) (event : Event) where
   pub sought-late : (t : ℤ) → IsSought (clocks_in zones) event w t → (earliest (clocks_in zones) w event (front (clocks_in zones) w event) -ℤ whole_days 4) ≤ℤ t
   sought-late t s = by s.source s.given s.gives s.starts s.meets
     where
-      by : (source : StartSource) (given : Rdate) → GivesStart (clocks_in zones) event source given → instant (clocks_in zones) (time_of given) ≡ t → Meets w (entry_from (clocks_in zones) event given)
+      by : (source : StartSource) (given : Rdate) → GivesStart (clocks_in zones) event source given → instant (clocks_in zones) (time_of given) ≡ t →
+          Meets w (entry_from (clocks_in zones) event given)
           → (earliest (clocks_in zones) w event (front (clocks_in zones) w event) -ℤ whole_days 4) ≤ℤ t
       by source (At time) g e m =
-          omega (arith, ints, e, meets-late zones event w time m, earliest-most (clocks_in zones) w event (w.from -ℤ seconds_lasting (clocks_in zones) event) (front (clocks_in zones) w event))
+          omega (
+            arith,
+            ints,
+            e,
+            meets-late zones event w time m,
+            earliest-most (clocks_in zones) w event (w.from -ℤ seconds_lasting (clocks_in zones) event)
+                (front (clocks_in zones) w event),
+          )
       by (Kept local) (Span start lasts) g e m = let f : Span start lasts ≡ At (time_at event.start local) = g.1 in absurd cc
       by (Listed place) (Span start lasts) g e m =
           let there = listed-there place (Span start lasts) g m.begun in
           let met = meets-is_met w (entry_from (clocks_in zones) event (Span start lasts)) m in
-          let each = earliest-each (clocks_in zones) w event (w.from -ℤ seconds_lasting (clocks_in zones) event) (start_by (clocks_in zones) (Listed place) (Span start lasts)) (front (clocks_in zones) w event) there met in
+          let each = earliest-each (clocks_in zones) w event (w.from -ℤ seconds_lasting (clocks_in zones) event)
+          (start_by (clocks_in zones) (Listed place) (Span start lasts)) (front (clocks_in zones) w event) there met in
           omega (arith, ints, e, each)
 
   -- an event without a rule has no other starts
   pub none-else : event.rule ≡ None → (source : StartSource) (given : Rdate) → GivesStart (clocks_in zones) event source given
-      → IsSought (clocks_in zones) event w (instant (clocks_in zones) (time_of given)) → IsIn (start_by (clocks_in zones) source given) (front (clocks_in zones) w event)
+      → IsSought (clocks_in zones) event w (instant (clocks_in zones) (time_of given)) →
+      IsIn (start_by (clocks_in zones) source given) (front (clocks_in zones) w event)
   none-else none (Kept local) given g s =
       ⊎_elim
       (λ e. inl (ap (start_by (clocks_in zones) (Kept local)) g.1 ∙ ap (start_at (clocks_in zones) event) e))

@@ -7,7 +7,8 @@ use Rattle.std.specs.Int.{saturate_signed, w64}
 use Rattle.std.specs.Ordering.{nat_cmp, on, ordering_then}
 use Rattle.std.specs.declared.cmp.Ordering.{Ordering}
 use Rattle.std.specs.declared.cmp.Ordering.TheVariants.{Less, Equal, Greater}
-use Rattle.std.proofs.Common.{◌≡◌, ℕ, zero, suc, ◌<◌, ◌≤◌, ℤ, pos, negsuc, ◌+ℤ◌, false, cond, List, [], ◌∷◌, ◌++◌, map, length, get_or, take, inl, inr, ⊎_elim, Option, Some, None, refl, sym, ◌∙◌, ap, subst, arith}
+use Rattle.std.proofs.Common.{◌≡◌, ℕ, zero, suc, ◌<◌, ◌≤◌, ℤ, pos, negsuc, ◌+ℤ◌, false, cond, List, [], ◌∷◌, ◌++◌, map, length, get_or, take, inl, inr, ⊎_elim}
+use Rattle.std.proofs.Common.{Option, Some, None, refl, sym, ◌∙◌, ap, subst, arith}
 use Rattle.std.proofs.lemmas.Cmp.{on_total}
 use Rattle.std.proofs.lemmas.Int.{ints}
 use Rattle.std.proofs.lemmas.List.{append-nil, append_assoc, map-append, take_all}
@@ -55,7 +56,8 @@ at-in f [] i d l = let no : ⊥ = omega (arith, l) in absurd no
 at-in f (x ∷ xs) zero d l = inl refl
 at-in f (x ∷ xs) (suc i) d l = inr (at-in f xs i d (omega (arith, l)))
 
-before-at : {A B : Type 0} (R : B → B → Ordering) (o : IsTotalOrder R) (f : A → B) (xs : List A) (i : ℕ) (d : A) (y : B) → i < length xs → Rises R (map f xs) → IsIn y (map f (take i xs)) → R y (f (get_or xs i d)) ≡ Less
+before-at : {A B : Type 0} (R : B → B → Ordering) (o : IsTotalOrder R) (f : A → B) (xs : List A) (i : ℕ) (d : A) (y : B) → i < length xs → Rises R (map f xs) →
+    IsIn y (map f (take i xs)) → R y (f (get_or xs i d)) ≡ Less
 before-at R o f [] i d y l r m = let no : ⊥ = omega (arith, l) in absurd no
 before-at R o f (x ∷ xs) zero d y l r m = absurd m
 before-at R o f (x ∷ xs) (suc i) d y l r m =
@@ -72,7 +74,8 @@ abbrev master : List ℕ → SubjectSeen
 master uid = record { uid = uid; recurrence = None }
 
 -- masters are ordered by their UIDs
-masters-less : (a b : List ℕ) → subject_cmp (record { uid = a; recurrence = None }) (record { uid = b; recurrence = None }) ≡ Less → slice_cmp nat_cmp a b ≡ Less
+masters-less : (a b : List ℕ) → subject_cmp (record { uid = a; recurrence = None }) (record { uid = b; recurrence = None }) ≡ Less →
+    slice_cmp nat_cmp a b ≡ Less
 masters-less a b l = sym (then-none (slice_cmp nat_cmp a b)) ∙ l
 
 -- what comes by a key does not begin before it
@@ -98,7 +101,8 @@ module _ (files : List FileSaid) (display : Clock) (w : Window) (after : Option 
   wider labels l m h = record { label = h.label; stands = in-append_left h.label labels (l ∷ []) h.stands; is = h.is }
 
   module _ (vs : List Version) (chosen : AreChosen files display vs) where
-    subject-of : (label : Label) → IsIn label (map seen vs) → (m : Recurring) → IsSourceOf files display w after label m → label.subject ≡ record { uid = m.event.uid; recurrence = None }
+    subject-of : (label : Label) → IsIn label (map seen vs) → (m : Recurring) → IsSourceOf files display w after label m →
+        label.subject ≡ record { uid = m.event.uid; recurrence = None }
     subject-of label there m h = own-subject files display w after vs chosen label there m.event h.stands h.recurs
 
     in-taken : (i : ℕ) (l : Label) → IsIn l (map seen (take i vs)) → IsIn l (map seen vs)
@@ -110,37 +114,54 @@ module _ (files : List FileSaid) (display : Clock) (w : Window) (after : Option 
         by (x ∷ xs) zero m = absurd m
         by (x ∷ xs) (suc i) m = ⊎_elim inl (λ n. inr (by xs i n)) m
 
-    earlier : (i : ℕ) (d : Version) (m n : Recurring) → i < length vs → IsSource files display w after (map seen (take i vs)) m → IsSourceOf files display w after (seen (get_or vs i d)) n → uid_cmp m n ≡ Less
+    earlier : (i : ℕ) (d : Version) (m n : Recurring) → i < length vs → IsSource files display w after (map seen (take i vs)) m →
+        IsSourceOf files display w after (seen (get_or vs i d)) n → uid_cmp m n ≡ Less
     earlier i d m n l h k =
-        let before = before-at (on (λ (x : Label). x.subject) subject_cmp) (on_total (λ (x : Label). x.subject) subject_total) seen vs i d h.label l (chosen-rises files display vs chosen) h.stands in
+        let before = before-at (on (λ (x : Label). x.subject) subject_cmp) (on_total (λ (x : Label). x.subject) subject_total) seen vs i d h.label l
+        (chosen-rises files display vs chosen) h.stands in
         masters-less m.event.uid n.event.uid
         (ap (λ s. subject_cmp s (record { uid = n.event.uid; recurrence = None })) (sym (subject-of h.label (in-taken i h.label h.stands) m h.is))
         ∙ (ap (subject_cmp h.label.subject) (sym (subject-of (seen (get_or vs i d)) (at-in seen vs i d l) n k)) ∙ before))
 
-    pub sources-more : (i j : ℕ) (d : Version) (m : Recurring) (before now new : List Source) → j ≡ suc i → i < length vs → HasSources files display w after (map seen (take i vs)) before now
-        → IsSourceOf files display w after (seen (get_or vs i d)) m → new ≡ now ++ Of m ∷ [] → HasSources files display w after (map seen (take j vs)) before new
+    pub sources-more : (i j : ℕ) (d : Version) (m : Recurring) (before now new : List Source) → j ≡ suc i → i < length vs →
+        HasSources files display w after (map seen (take i vs)) before now
+        → IsSourceOf files display w after (seen (get_or vs i d)) m → new ≡ now ++ Of m ∷ [] →
+        HasSources files display w after (map seen (take j vs)) before new
     sources-more i j d m before now new next l h k e =
         subst (λ ls. HasSources files display w after ls before new) (taken files display w after vs i j d next l)
         (record {
           more = h.more ++ m ∷ [];
           each = all-pushed (IsSource files display w after (map seen (take i vs) ++ seen (get_or vs i d) ∷ [])) h.more m
-              (all-as (IsSource files display w after (map seen (take i vs))) (IsSource files display w after (map seen (take i vs) ++ seen (get_or vs i d) ∷ [])) h.more (wider (map seen (take i vs)) (seen (get_or vs i d))) h.each)
-              (record { label = seen (get_or vs i d); stands = in-append_right (seen (get_or vs i d)) (map seen (take i vs)) (seen (get_or vs i d) ∷ []) (inl refl); is = k });
-          rises = rises-more uid_cmp h.more m h.rises (all-as (IsSource files display w after (map seen (take i vs))) (λ x. uid_cmp x m ≡ Less) h.more (λ x s. earlier i d x m l s k) h.each);
-          behind = e ∙ (ap (λ xs. xs ++ Of m ∷ []) h.behind ∙ (append_assoc before (map Of h.more) (Of m ∷ []) ∙ ap (λ xs. before ++ xs) (sym (map-append Of h.more (m ∷ [])))));
+              (all-as (IsSource files display w after (map seen (take i vs)))
+              (IsSource files display w after (map seen (take i vs) ++ seen (get_or vs i d) ∷ [])) h.more
+              (wider (map seen (take i vs)) (seen (get_or vs i d))) h.each)
+              (record {
+                label = seen (get_or vs i d);
+                stands =
+                    in-append_right (seen (get_or vs i d)) (map seen (take i vs)) (seen (get_or vs i d) ∷ []) (inl refl);
+                is = k;
+              });
+          rises = rises-more uid_cmp h.more m h.rises (all-as (IsSource files display w after (map seen (take i vs))) (λ x. uid_cmp x m ≡ Less) h.more
+              (λ x s. earlier i d x m l s k) h.each);
+          behind = e ∙ (ap (λ xs. xs ++ Of m ∷ []) h.behind
+              ∙ (append_assoc before (map Of h.more) (Of m ∷ []) ∙ ap (λ xs. before ++ xs) (sym (map-append Of h.more (m ∷ [])))));
         })
 
-    pub sources-skip : (i j : ℕ) (d : Version) (before now : List Source) → j ≡ suc i → i < length vs → HasSources files display w after (map seen (take i vs)) before now → HasSources files display w after (map seen (take j vs)) before now
+    pub sources-skip : (i j : ℕ) (d : Version) (before now : List Source) → j ≡ suc i → i < length vs →
+        HasSources files display w after (map seen (take i vs)) before now → HasSources files display w after (map seen (take j vs)) before now
     sources-skip i j d before now next l h =
         subst (λ ls. HasSources files display w after ls before now) (taken files display w after vs i j d next l)
         (record {
           more = h.more;
-          each = all-as (IsSource files display w after (map seen (take i vs))) (IsSource files display w after (map seen (take i vs) ++ seen (get_or vs i d) ∷ [])) h.more (wider (map seen (take i vs)) (seen (get_or vs i d))) h.each;
+          each = all-as (IsSource files display w after (map seen (take i vs)))
+              (IsSource files display w after (map seen (take i vs) ++ seen (get_or vs i d) ∷ [])) h.more (wider (map seen (take i vs)) (seen (get_or vs i d)))
+              h.each;
           rises = h.rises;
           behind = h.behind;
         })
 
-    pub sources-all : (i : ℕ) (before now : List Source) → length vs ≤ i → HasSources files display w after (map seen (take i vs)) before now → HasSources files display w after (map seen vs) before now
+    pub sources-all : (i : ℕ) (before now : List Source) → length vs ≤ i → HasSources files display w after (map seen (take i vs)) before now →
+        HasSources files display w after (map seen vs) before now
     sources-all i before now l h = subst (λ xs. HasSources files display w after (map seen xs) before now) (take_all i vs l) h
 
     master-of : (m : Recurring) → IsSource files display w after (map seen vs) m → IsMasterOf files display w after m
@@ -173,5 +194,6 @@ module _ (files : List FileSaid) (display : Clock) (w : Window) (after : Option 
             subst (λ ms. AllByRecursion (λ m. is_single m.event ≡ false) ms × Rises uid_cmp ms) (sym (recurring-of h.more))
                 (all-as (IsSource files display w after (map seen vs)) (λ m. is_single m.event ≡ false) h.more (λ m s. s.is.recurs) h.each, h.rises),
           );
-          each = subst (AllByRecursion (IsMasterOf files display w after)) (sym (recurring-of h.more)) (all-as (IsSource files display w after (map seen vs)) (IsMasterOf files display w after) h.more master-of h.each);
+          each = subst (AllByRecursion (IsMasterOf files display w after)) (sym (recurring-of h.more))
+              (all-as (IsSource files display w after (map seen vs)) (IsMasterOf files display w after) h.more master-of h.each);
         })

@@ -16,7 +16,8 @@ module _ (files : List FileEvents) (spot : Spot) (is_there : IsSome (event_at (m
   file-some : (f : FileEvents) × (slice_get files spot.file ≡ Some f) × IsSome (slice_get f.events spot.place)
   file-some = by (slice_get files spot.file) refl (subst (λ o. IsSome (event_in o)) (slice_get-map said_by files spot.file) is_there)
     where
-      by : (o : Option FileEvents) → slice_get files spot.file ≡ o → IsSome (event_in (option_map said_by o)) → (f : FileEvents) × (slice_get files spot.file ≡ Some f) × IsSome (slice_get f.events spot.place)
+      by : (o : Option FileEvents) → slice_get files spot.file ≡ o → IsSome (event_in (option_map said_by o)) →
+          (f : FileEvents) × (slice_get files spot.file ≡ Some f) × IsSome (slice_get f.events spot.place)
       by (Some f) e h = (f, e, h)
       by None e h = let f : false ≡ true = h in absurd cc
 

@@ -1,6 +1,7 @@
 -- Each start that something gives is that of an occurrence, unless an EXDATE takes it out: of what gives it one is the first.
 use Rattle.std.specs.Prelude.{◌≤ℤ◌, slice_get, Contains}
-use Rattle.std.proofs.Common.{◌≡◌, ℕ, zero, suc, ◌/◌, ◌%◌, ◌<◌, ◌≤◌, ℤ, pos, ◌-ℤ◌, List, [], Bool, true, false, ◌&&◌, Option, Some, None, IfSome, option_map, ◌⊎◌, inl, inr, ⊎_elim, refl, sym, ◌∙◌, ap, subst, arith}
+use Rattle.std.proofs.Common.{◌≡◌, ℕ, zero, suc, ◌/◌, ◌%◌, ◌<◌, ◌≤◌, ℤ, pos, ◌-ℤ◌, List, [], Bool, true, false, ◌&&◌, Option, Some, None, IfSome, option_map}
+use Rattle.std.proofs.Common.{◌⊎◌, inl, inr, ⊎_elim, refl, sym, ◌∙◌, ap, subst, arith}
 use Rattle.std.specs.Ordering.{int_eq}
 use Rattle.std.proofs.lemmas.Int.{ints}
 use Rattle.std.proofs.lemmas.List.Folds.{list_any_at}
@@ -29,7 +30,8 @@ use Rattle.ics_series.proofs.StartSourceLemmas.{calendar-day, index-is, kept-lat
 use Rattle.ics_series.proofs.KeptLemmas.{true-until, until-true}
 
 -- an event without a rule and without RDATEs has the start at DTSTART alone
-pub ruleless : (clocks : Clocks) (event : Event) (source : StartSource) (given : Rdate) → event.rule ≡ None → event.rdates ≡ [] → GivesStart clocks event source given → given ≡ At event.start
+pub ruleless : (clocks : Clocks) (event : Event) (source : StartSource) (given : Rdate) → event.rule ≡ None → event.rdates ≡ [] →
+    GivesStart clocks event source given → given ≡ At event.start
 ruleless clocks event (Kept local) given none bare g =
     ⊎_elim (λ e. g.1 ∙ ap (λ l. At (time_at event.start l)) e ∙ ap At (own-time event.start))
     (λ r. let f : None ≡ Some r.rule = ap (option_map (recurrence_by event.start.stamp)) (sym none) ∙ r.has in absurd cc) g.0
@@ -41,9 +43,11 @@ one-start clocks event start end none bare h =
     let same = ruleless clocks event h.source h.given none bare h.gives in
     (h.starts ∙ ap (λ x. instant clocks (time_of x)) same, h.ends ∙ ap (finish clocks event) same)
 
-pub none-excluded : (clocks : Clocks) (event : Event) (exdate : Time) (start end : ℤ) → Contains event.exdates exdate → excludes clocks event.start exdate start ≡ true → ¬ IsInstance clocks event start end
+pub none-excluded : (clocks : Clocks) (event : Event) (exdate : Time) (start end : ℤ) → Contains event.exdates exdate →
+    excludes clocks event.start exdate start ≡ true → ¬ IsInstance clocks event start end
 none-excluded clocks event exdate start end there out h =
-    let f : true ≡ false = sym (list_any_at (λ x. excludes clocks event.start x start) event.exdates there.0 exdate there.1 (ap (λ x. excludes clocks event.start x start) there.2 ∙ out)) ∙ h.stays in
+    let f : true ≡ false = sym (list_any_at (λ x. excludes clocks event.start x start) event.exdates there.0 exdate there.1
+    (ap (λ x. excludes clocks event.start x start) there.2 ∙ out)) ∙ h.stays in
     absurd cc
 
 -- The local with a number.
@@ -99,7 +103,8 @@ module _ (clocks : Clocks) (event : Event) (time : IsTime event.start) where
       ⊎_elim (λ e. let same = ap local_seconds e in omega (arith, ints, same))
       (λ r.
       let rule = rule-is event.start.stamp event.rule r.rule r.has in
-      let late : number (local_of event.start.stamp) ≤ number local = subst (λ (q : Recurrence). number q.start ≤ number local) rule.1 (kept-late r.rule (number local) r.kept) in
+      let late : number (local_of event.start.stamp) ≤ number local =
+      subst (λ (q : Recurrence). number q.start ≤ number local) rule.1 (kept-late r.rule (number local) r.kept) in
       omega (arith, ints, late, number-seconds (local_of event.start.stamp) first-day, number-seconds local r.calendar))
       k
 
@@ -108,7 +113,8 @@ module _ (clocks : Clocks) (event : Event) (time : IsTime event.start) (t : ℤ)
   instant_of local = instant clocks (time_at event.start local)
 
   -- the least of the locals that give the start t
-  kept-instance : (local : Local) → IsKept clocks event local → instant_of local ≡ t → ((other : Local) → IsKept clocks event other → instant_of other ≡ t → local_seconds local ≤ℤ local_seconds other)
+  kept-instance : (local : Local) → IsKept clocks event local → instant_of local ≡ t →
+      ((other : Local) → IsKept clocks event other → instant_of other ≡ t → local_seconds local ≤ℤ local_seconds other)
       → (end : ℤ) × IsInstance clocks event t end
   unfolding instant_of
   kept-instance local k e least = (
@@ -141,11 +147,14 @@ module _ (clocks : Clocks) (event : Event) (time : IsTime event.start) (t : ℤ)
     unfolding gives_at instant_of
     given-test local r same =
         let of : r.rule ≡ rule = some-same r.rule rule (sym r.has ∙ has) in
-        let is : local_from (number local) ≡ local = same-number (local_from (number local)) local (from-day (number local) (number-below local r.calendar)) r.calendar (from-number (number local) (number-below local r.calendar)) in
+        let is : local_from (number local) ≡ local =
+        same-number (local_from (number local)) local (from-day (number local) (number-below local r.calendar)) r.calendar
+        (from-number (number local) (number-below local r.calendar)) in
         let there : instant_of (local_from (number local)) ≡ instant_of local = ap instant_of is in
         and_both (is_kept rule (number local)) _ (ap (λ q. is_kept q (number local)) (sym of) ∙ r.kept)
         (and_both (is_until (until_moment rule) (instant_of (local_from (number local)))) _
-        (ap (is_until (until_moment rule)) there ∙ until-true (until_moment rule) (instant_of local) (subst (λ q. IfSome (until_moment q) (λ last. instant_of local ≤ℤ last)) of r.until))
+        (ap (is_until (until_moment rule)) there
+        ∙ until-true (until_moment rule) (instant_of local) (subst (λ q. IfSome (until_moment q) (λ last. instant_of local ≤ℤ last)) of r.until))
         (true-equal (instant_of (local_from (number local))) t (there ∙ same)))
 
     -- and what passes it is a start
@@ -165,7 +174,8 @@ module _ (clocks : Clocks) (event : Event) (time : IsTime event.start) (t : ℤ)
         )
 
     -- where DTSTART gives another start, the least that passes the test is the first
-    rule-instance : (instant_of (local_of event.start.stamp) ≡ t → ⊥) → ((end : ℤ) × IsInstance clocks event t end) ⊎ ((local : Local) → IsKept clocks event local → instant_of local ≡ t → ⊥)
+    rule-instance : (instant_of (local_of event.start.stamp) ≡ t → ⊥) → ((end : ℤ) × IsInstance clocks event t end)
+        ⊎ ((local : Local) → IsKept clocks event local → instant_of local ≡ t → ⊥)
     rule-instance other_start =
         ⊎_elim
         (λ none. inr (λ local k same.
@@ -178,7 +188,15 @@ module _ (clocks : Clocks) (event : Event) (time : IsTime event.start) (t : ℤ)
         (λ other k same.
         ⊎_elim (λ e. absurd (other_start (ap instant_of (sym e) ∙ same)))
         (λ q. ⊎_elim (λ less. let no = found.3 (number other) less in let yes = given-test other q same in absurd cc)
-        (λ more. omega (arith, ints, more, from-number found.0 small, number-seconds (local_from found.0) (from-day found.0 small), number-seconds other q.calendar))
+        (λ more. omega (
+          arith,
+          ints,
+          more,
+          from-number found.0 small,
+          number-seconds (local_from found.0) (from-day found.0 small),
+          number-seconds other
+              q.calendar,
+        ))
         (less_or_not (number other) found.0)) k)))
         (none-or-least gives_at calendar_end)
 
@@ -205,7 +223,8 @@ module _ (clocks : Clocks) (event : Event) (time : IsTime event.start) (t : ℤ)
   listed-test place given g same =
       ap is_given g.1 ∙ true-equal (instant clocks (time_of (given_by event.start g.0))) t (ap (λ x. instant clocks (time_of x)) (sym g.2) ∙ same)
 
-  test-listed : (place : ℕ) → lists_at place ≡ true → (r : Rdate) × (slice_get event.rdates place ≡ Some r) × (instant clocks (time_of (given_by event.start r)) ≡ t)
+  test-listed : (place : ℕ) → lists_at place ≡ true → (r : Rdate) × (slice_get event.rdates place ≡ Some r)
+      × (instant clocks (time_of (given_by event.start r)) ≡ t)
   unfolding lists_at is_given
   test-listed place = by (slice_get event.rdates place)
     where
@@ -214,7 +233,8 @@ module _ (clocks : Clocks) (event : Event) (time : IsTime event.start) (t : ℤ)
       by None h = let f : false ≡ true = h in absurd cc
 
   -- where no local gives it, the first of the RDATEs that do is the first of all
-  listed-instance : ((local : Local) → IsKept clocks event local → instant_of local ≡ t → ⊥) → (place : ℕ) (given : Rdate) → GivesStart clocks event (Listed place) given → instant clocks (time_of given) ≡ t
+  listed-instance : ((local : Local) → IsKept clocks event local → instant_of local ≡ t → ⊥) → (place : ℕ) (given : Rdate) →
+      GivesStart clocks event (Listed place) given → instant clocks (time_of given) ≡ t
       → (end : ℤ) × IsInstance clocks event t end
   unfolding instant_of
   listed-instance unkept place given g same =
@@ -235,11 +255,14 @@ module _ (clocks : Clocks) (event : Event) (time : IsTime event.start) (t : ℤ)
       ))
       (none-or-least lists_at (suc place))
     where
-      first : (n : ℕ) → ((m : ℕ) → m < n → lists_at m ≡ false) → (other : StartSource) (value : Rdate) → GivesStart clocks event other value → instant clocks (time_of value) ≡ t → IsNotAfter (Listed n) other
+      first : (n : ℕ) → ((m : ℕ) → m < n → lists_at m ≡ false) → (other : StartSource) (value : Rdate) → GivesStart clocks event other value →
+          instant clocks (time_of value) ≡ t → IsNotAfter (Listed n) other
       first n least (Kept local) value k e = unkept local k.0 (ap (λ x. instant clocks (time_of x)) (sym k.1) ∙ e)
-      first n least (Listed m) value k e = ⊎_elim (λ less. let f = least m less in let yes = listed-test m value k e in absurd cc) (λ more. more) (less_or_not m n)
+      first n least (Listed m) value k e = ⊎_elim (λ less. let f = least m less in let yes = listed-test m value k e in
+          absurd cc) (λ more. more) (less_or_not m n)
 
-  some-instance : (source : StartSource) (given : Rdate) → GivesStart clocks event source given → instant clocks (time_of given) ≡ t → (end : ℤ) × IsInstance clocks event t end
+  some-instance : (source : StartSource) (given : Rdate) → GivesStart clocks event source given → instant clocks (time_of given) ≡ t →
+      (end : ℤ) × IsInstance clocks event t end
   unfolding instant_of
   some-instance (Kept local) given g same =
       ⊎_elim (λ found. found) (λ unkept. absurd (unkept local g.0 (ap (λ x. instant clocks (time_of x)) (sym g.1) ∙ same))) kept-or-none

@@ -1,6 +1,7 @@
 -- What gives starts: the values by which it does lie in the years of stamps.
 use Rattle.std.specs.Prelude.{slice_get}
-use Rattle.std.proofs.Common.{◌≡◌, ℕ, ◌<◌, ◌≤◌, ℤ, pos, ◌+ℤ◌, ◌<ℤ◌, ◌≤ℤ◌, List, All, true, ◌⊎◌, inl, inr, ⊎_elim, Option, Some, None, option_map, refl, sym, ◌∙◌, ap, subst, arith}
+use Rattle.std.proofs.Common.{◌≡◌, ℕ, ◌<◌, ◌≤◌, ℤ, pos, ◌+ℤ◌, ◌<ℤ◌, ◌≤ℤ◌, List, All, true, ◌⊎◌, inl, inr, ⊎_elim, Option, Some, None, option_map, refl, sym}
+use Rattle.std.proofs.Common.{◌∙◌, ap, subst, arith}
 use Rattle.std.proofs.Props.{props}
 use Rattle.std.proofs.lemmas.Int.{ints}
 use Rattle.std.proofs.lemmas.Option.{get_or_from_slice_get, slice_get_within}
@@ -29,7 +30,8 @@ use Rattle.ics_series.specs.declared.start.StartSource.TheVariants.{Kept, Listed
 use Rattle.ics_series.specs.Clocks.{Clocks, day_of}
 use Rattle.ics_series.specs.Finish.{finish}
 use Rattle.ics_series.specs.Occurs.{IsInstance}
-use Rattle.ics_series.specs.Starts.{date_only, given_by, given_from, local_of, stamp_at, time_at, time_by, time_of, recurrence_by, recurrence_of, GivesStart, IsNotAfter}
+use Rattle.ics_series.specs.Starts.{date_only, given_by, given_from, local_of, stamp_at, time_at, time_by, time_of, recurrence_by, recurrence_of, GivesStart}
+use Rattle.ics_series.specs.Starts.{IsNotAfter}
 use Rattle.ics_series.proofs.Cases.{some-same}
 
 -- Locals.
@@ -117,25 +119,32 @@ kept-early r n h = elim (or_true h) [
 ]
 
 -- a local that the rule of an event keeps lies in the years of stamps
-pub kept-day : (first : Time) (parts : RuleParts) (a : Local) → IsTime first → IsDayNumber a.day → is_kept (recurrence_by first.stamp parts) (number a) ≡ true → IsStampDay a.day
+pub kept-day : (first : Time) (parts : RuleParts) (a : Local) → IsTime first → IsDayNumber a.day → is_kept (recurrence_by first.stamp parts) (number a) ≡ true →
+    IsStampDay a.day
 kept-day first parts a h d k =
     let own = own-day first h in
     let start = number-seconds (local_of first.stamp) (calendar-day (local_of first.stamp).day own) in
     let there = number-seconds a d in
     let late = kept-late (recurrence_by first.stamp parts) (number a) k in
     ⊎_elim
-    (λ same. (omega (arith, ints, own.0, start, there, same, a.second_in, (local_of first.stamp).second_in), omega (arith, ints, own.1, start, there, same, a.second_in, (local_of first.stamp).second_in)))
+    (λ same. (
+      omega (arith, ints, own.0, start, there, same, a.second_in, (local_of first.stamp).second_in),
+      omega
+          (arith, ints, own.1, start, there, same, a.second_in, (local_of first.stamp).second_in),
+    ))
     (λ early. (omega (arith, ints, own.0, start, there, late, a.second_in, (local_of first.stamp).second_in), omega (arith, ints, there, early, a.second_in)))
     (kept-early (recurrence_by first.stamp parts) (number a) k)
 
 -- the rule of an event is one by its DTSTART
-pub rule-is : (first : Stamp) (o : Option RuleParts) (rule : Recurrence) → option_map (recurrence_by first) o ≡ Some rule → (parts : RuleParts) × (rule ≡ recurrence_by first parts)
+pub rule-is : (first : Stamp) (o : Option RuleParts) (rule : Recurrence) → option_map (recurrence_by first) o ≡ Some rule →
+    (parts : RuleParts) × (rule ≡ recurrence_by first parts)
 rule-is first (Some parts) rule e = (parts, some-same rule (recurrence_by first parts) (sym e))
 rule-is first None rule e = let f : None ≡ Some rule = e in absurd cc
 
 -- What gives starts.
 -- what the rule keeps is a time of the years of stamps
-pub kept-time : (event : Event) (rule : Recurrence) (a : Local) → IsTime event.start → recurrence_of event ≡ Some rule → IsDayNumber a.day → is_kept rule (number a) ≡ true → IsTime (time_at event.start a)
+pub kept-time : (event : Event) (rule : Recurrence) (a : Local) → IsTime event.start → recurrence_of event ≡ Some rule → IsDayNumber a.day →
+    is_kept rule (number a) ≡ true → IsTime (time_at event.start a)
 kept-time event rule a h e d k =
     let by = rule-is event.start.stamp event.rule rule e in
     time-at event.start a h (kept-day event.start by.0 a h d (subst (λ r. is_kept r (number a) ≡ true) by.1 k))
@@ -152,12 +161,14 @@ same-given : (clocks : Clocks) (event : Event) (g : StartSource) (x y : Rdate) �
 same-given clocks event (Kept local) x y h k = h.1 ∙ sym k.1
 same-given clocks event (Listed place) x y h k = h.2 ∙ (ap (given_by event.start) (some-same h.0 k.0 (sym h.1 ∙ k.1)) ∙ sym k.2)
 
-pub same-first : (clocks : Clocks) (event : Event) (g k : StartSource) (x y : Rdate) → GivesStart clocks event g x → GivesStart clocks event k y → IsNotAfter g k → IsNotAfter k g → x ≡ y
+pub same-first : (clocks : Clocks) (event : Event) (g k : StartSource) (x y : Rdate) → GivesStart clocks event g x → GivesStart clocks event k y →
+    IsNotAfter g k → IsNotAfter k g → x ≡ y
 same-first clocks event g k x y gives other h l =
     same-given clocks event k x y (subst (λ i. GivesStart clocks event i x) (same-source g k h l) gives) other
 
 -- an event has one occurrence at most with a start
-pub one-instance : (clocks : Clocks) (event : Event) (start end other : ℤ) → IsInstance clocks event start end → IsInstance clocks event start other → end ≡ other
+pub one-instance : (clocks : Clocks) (event : Event) (start end other : ℤ) → IsInstance clocks event start end → IsInstance clocks event start other →
+    end ≡ other
 one-instance clocks event start end other h k =
     let below = h.earliest k.source k.given k.gives (sym k.starts) in
     let above = k.earliest h.source h.given h.gives (sym h.starts) in
@@ -219,7 +230,8 @@ pub all-at : {A : Type 0} (P : A → Type 0) (xs : List A) (k : ℕ) (x : A) →
 all-at P xs k x h e = subst P (get_or_from_slice_get xs k x x e) (h k x (slice_get_within xs k x e))
 
 -- what gives a start of an event is a value such as RDATEs have
-pub gives-value : (clocks : Clocks) (event : Event) (g : StartSource) (given : Rdate) → IsTime event.start → All IsRdate event.rdates → GivesStart clocks event g given → IsRdate given
+pub gives-value : (clocks : Clocks) (event : Event) (g : StartSource) (given : Rdate) → IsTime event.start → All IsRdate event.rdates →
+    GivesStart clocks event g given → IsRdate given
 gives-value clocks event (Kept local) given h all g =
     subst IsRdate (sym g.1)
     (⊎_elim (λ e. subst (λ l. IsTime (time_at event.start l)) (sym e) (subst IsTime (sym (own-time event.start)) h))
@@ -228,7 +240,9 @@ gives-value clocks event (Listed place) given h all g =
     subst IsRdate (sym g.2) (given-value event.start event.start.stamp g.0 h (all-at IsRdate event.rdates place g.0 all g.1))
 
 -- whose zones are the file's
-pub gives-below : (zones : ℕ) (clocks : Clocks) (event : Event) (g : StartSource) (given : Rdate) → HasZonesBelow zones event → GivesStart clocks event g given → RdateBelow zones given
+pub gives-below : (zones : ℕ) (clocks : Clocks) (event : Event) (g : StartSource) (given : Rdate) → HasZonesBelow zones event →
+    GivesStart clocks event g given → RdateBelow zones given
 gives-below zones clocks event (Kept local) given below g = subst (RdateBelow zones) (sym g.1) below.start
 gives-below zones clocks event (Listed place) given below g =
-    subst (RdateBelow zones) (sym g.2) (given-zone zones event.start event.start.stamp g.0 below.start (all-at (RdateBelow zones) event.rdates place g.0 below.rdates g.1))
+    subst (RdateBelow zones) (sym g.2) (given-zone zones event.start event.start.stamp g.0 below.start
+    (all-at (RdateBelow zones) event.rdates place g.0 below.rdates g.1))

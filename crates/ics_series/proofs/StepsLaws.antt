@@ -55,7 +55,8 @@ looks-earlier : (o : Option ℕ) (start a place : ℕ) → a ≤ place → looks
 looks-earlier None start a place l = l
 looks-earlier (Some c) start a place l = omega arith
 
-own-steps : (s : RuleStarts) → steps_of s.cursor ≤ period_count s.rule (looks_from s.rule.parts.count (number s.rule.start) (number s.from)) (midnight_number s.asked)
+own-steps : (s : RuleStarts) → steps_of s.cursor ≤ period_count s.rule (looks_from s.rule.parts.count (number s.rule.start) (number s.from))
+    (midnight_number s.asked)
 own-steps s =
     looked-few s.rule s.cursor (looks_from s.rule.parts.count (number s.rule.start) (number s.from)) (midnight_number s.asked) s.own
     (s.looked (midnight_number s.asked) (omega arith))
@@ -74,7 +75,8 @@ module _ (zones : FileZones) (event : Event) (w : Window) (since : ℤ) (coming 
   abbrev AreAskedNear : Option ℤ → Type 0
   AreAskedNear asked = (o : Entry) → IsIn o coming → o.event ≡ event → IsAskedNear (clocks_in zones) event asked o.start
 
-  asked-by : (s : RuleStarts) → IsOwnRule zones event w (first_of (clocks_in zones) w event since) s → AreAskedNear (Some s.asked) → IsLookedTo (record { clocks = clocks_in zones; event = event; window = w; since = since }) coming b → midnight_number s.asked ≤ b
+  asked-by : (s : RuleStarts) → IsOwnRule zones event w (first_of (clocks_in zones) w event since) s → AreAskedNear (Some s.asked) →
+      IsLookedTo (record { clocks = clocks_in zones; event = event; window = w; since = since }) coming b → midnight_number s.asked ≤ b
   asked-by s own near to =
       let to-is : s.window.to ≡ w.to = ap (λ (x : Window). x.to) own.window_is in
       let end : midnight s.asked ≤ℤ (s.window.to +ℤ whole_days 4) = omega (arith, ints, s.asked_end, s.soon) in
@@ -83,8 +85,10 @@ module _ (zones : FileZones) (event : Event) (w : Window) (since : ℤ) (coming 
       (λ o. let close = near o.occurrence o.stands o.of o.local o.kept in omega (arith, ints, asked-number s, close, o.past))
       to
 
-  rule-steps : (o : Option RuleStarts) (rule : Recurrence) → recurrence_of event ≡ Some rule → HasOwnRule zones event w (first_of (clocks_in zones) w event since) o
-      → AreAskedNear (rule_asked o) → IsLookedFrom (record { clocks = clocks_in zones; event = event; window = w; since = since }) a → IsLookedTo (record { clocks = clocks_in zones; event = event; window = w; since = since }) coming b
+  rule-steps : (o : Option RuleStarts) (rule : Recurrence) → recurrence_of event ≡ Some rule →
+      HasOwnRule zones event w (first_of (clocks_in zones) w event since) o
+      → AreAskedNear (rule_asked o) → IsLookedFrom (record { clocks = clocks_in zones; event = event; window = w; since = since }) a →
+      IsLookedTo (record { clocks = clocks_in zones; event = event; window = w; since = since }) coming b
       → rule_looked o ≤ period_count rule (looks_from rule.parts.count (number rule.start) a) b
   rule-steps None rule has own near from to = omega arith
   rule-steps (Some s) rule has own near from to =
@@ -95,7 +99,8 @@ module _ (zones : FileZones) (event : Event) (w : Window) (since : ℤ) (coming 
       (looks_from s.rule.parts.count (number s.rule.start) a) b (looks-earlier s.rule.parts.count (number s.rule.start) a (number s.from) low) high in
       subst (λ (r : Recurrence). steps_of s.cursor ≤ period_count r (looks_from r.parts.count (number r.start) a) b) same (omega (arith, own-steps s, more))
 
-none-looked : (zones : FileZones) (event : Event) (w : Window) (first : ℤ) (o : Option RuleStarts) → recurrence_of event ≡ None → HasOwnRule zones event w first o → rule_looked o ≤ 0
+none-looked : (zones : FileZones) (event : Event) (w : Window) (first : ℤ) (o : Option RuleStarts) → recurrence_of event ≡ None →
+    HasOwnRule zones event w first o → rule_looked o ≤ 0
 none-looked zones event w first None has own = omega arith
 none-looked zones event w first (Some r) has own = let no : Some r.rule ≡ None = sym r.of ∙ (ap recurrence_of own.event_is ∙ has) in absurd cc
 
@@ -108,18 +113,27 @@ series-most s coming None most has near bound =
     omega (arith, none-looked s.zones s.event.now s.window (first_of (clocks_in s.zones) s.window s.event.now s.since) s.rule_starts has s.own_rule)
 series-most s coming (Some rule) most has near bound =
     let p = bound rule has in
-    omega (arith, rule-steps s.zones s.event.now s.window s.since coming p.a p.b s.rule_starts rule has s.own_rule (λ e m of. (near e m of).1) p.from p.to, p.count)
+    omega (
+      arith,
+      rule-steps s.zones s.event.now s.window s.since coming p.a p.b s.rule_starts rule has s.own_rule (λ e m of. (near e m of).1) p.from p.to,
+      p.count,
+    )
 
 -- Parts, of which one at most is of the events that start once, and the masters of the others have UIDs of their own.
 abbrev IsOfPart : Part → Entry → Type 0
 IsOfPart (Singles s) e = is_single e.event ≡ true
 IsOfPart (OfSeries s) e = e.event ≡ s.value.event.now
 
-part-most : (p : Part) (coming : List Entry) (most : Recurring → ℕ) → ((e : Entry) → IsIn e coming → IsOfPart p e → part_near p e) → ((m : Recurring) → IsIn m (recurring (part_sources p)) → HasStepBound m coming (most m))
+part-most : (p : Part) (coming : List Entry) (most : Recurring → ℕ) → ((e : Entry) → IsIn e coming → IsOfPart p e → part_near p e) →
+    ((m : Recurring) → IsIn m (recurring (part_sources p)) → HasStepBound m coming (most m))
     → part_looked p ≤ sum_by most (recurring (part_sources p))
 part-most (Singles s) coming most near bound = omega arith
 part-most (OfSeries s) coming most near bound =
-    omega (arith, series-most s.value coming (recurrence_of s.value.event.now) (most (master_in s.value)) refl near (bound (master_in s.value) (inl refl)), sum_by-cons most (master_in s.value) [])
+    omega (
+      arith,
+      series-most s.value coming (recurrence_of s.value.event.now) (most (master_in s.value)) refl near (bound (master_in s.value) (inl refl)),
+      sum_by-cons most (master_in s.value) [],
+    )
 
 not-itself : (m n : Recurring) (e : Entry) → e.event ≡ m.event → e.event ≡ n.event → uid_cmp m n ≡ Less → ⊥
 not-itself m n e p q l =
@@ -164,7 +178,8 @@ module _ {X : Type 0} (part : X → Part) (lists : X → List Entry) where
       one (Singles s) more r k = k
       one (OfSeries s) more r k = absurd (not-single e s.value.event.now k h r.0)
 
-  series-behind : (e : Entry) (m : Recurring) → e.event ≡ m.event → (ys : List X) → IsBefore uid_cmp m (recurring (sources_in ys)) → AllByRecursion (IsNearOf e) ys
+  series-behind : (e : Entry) (m : Recurring) → e.event ≡ m.event → (ys : List X) → IsBefore uid_cmp m (recurring (sources_in ys)) →
+      AllByRecursion (IsNearOf e) ys
   series-behind e m h [] b = tt
   series-behind e m h (y ∷ ys) b = (one (part y) (sources_in ys) b, series-behind e m h ys (before-rest m (part y) (sources_in ys) b))
     where
@@ -172,34 +187,44 @@ module _ {X : Type 0} (part : X → Part) (lists : X → List Entry) where
       one (Singles s) more b k = k
       one (OfSeries s) more b k = absurd (not-itself m (master_in s.value) e h k b.0)
 
-  behind : (p : Part) (e : Entry) (ys : List X) → part_near p e → AreRecurring (recurring (part_sources p ++ sources_in ys)) → Rises uid_cmp (recurring (part_sources p ++ sources_in ys)) → AllByRecursion (IsNearOf e) ys
+  behind : (p : Part) (e : Entry) (ys : List X) → part_near p e → AreRecurring (recurring (part_sources p ++ sources_in ys)) →
+      Rises uid_cmp (recurring (part_sources p ++ sources_in ys)) → AllByRecursion (IsNearOf e) ys
   behind (Singles s) e ys h recur rise = single-behind e h ys recur
   behind (OfSeries s) e ys h recur rise = series-behind e (master_in s.value) h.0 ys rise.0
 
-  none-behind : (e : Entry) (m : Recurring) → e.event ≡ m.event → is_single m.event ≡ false → (ys : List X) → IsBefore uid_cmp m (recurring (sources_in ys)) → AllNear ys → InOne e (map lists ys) → ⊥
+  none-behind : (e : Entry) (m : Recurring) → e.event ≡ m.event → is_single m.event ≡ false → (ys : List X) → IsBefore uid_cmp m (recurring (sources_in ys)) →
+      AllNear ys → InOne e (map lists ys) → ⊥
   none-behind e m h s [] b near k = k
   none-behind e m h s (y ∷ ys) b near k =
-      ⊎_elim (λ here. one (part y) (sources_in ys) b (near.0 e here)) (λ there. none-behind e m h s ys (before-rest m (part y) (sources_in ys) b) near.1 there) k
+      ⊎_elim (λ here. one (part y) (sources_in ys) b (near.0 e here)) (λ there. none-behind e m h s ys (before-rest m (part y) (sources_in ys) b) near.1 there)
+      k
     where
       one : (q : Part) (more : List Source) → IsBefore uid_cmp m (recurring (part_sources q ++ more)) → part_near q e → ⊥
       one (Singles s') more b n = not-single e m.event h n s
       one (OfSeries s') more b n = not-itself m (master_in s'.value) e h n.0 b.0
 
-  ahead : (p : Part) (e : Entry) (ys : List X) → AreRecurring (recurring (part_sources p ++ sources_in ys)) → Rises uid_cmp (recurring (part_sources p ++ sources_in ys)) → AllNear ys → InOne e (map lists ys) → IsOfPart p e → part_near p e
+  ahead : (p : Part) (e : Entry) (ys : List X) → AreRecurring (recurring (part_sources p ++ sources_in ys)) →
+      Rises uid_cmp (recurring (part_sources p ++ sources_in ys)) → AllNear ys → InOne e (map lists ys) → IsOfPart p e → part_near p e
   ahead (Singles s) e ys recur rise near k of = of
   ahead (OfSeries s) e ys recur rise near k of = absurd (none-behind e (master_in s.value) of recur.0 ys rise.0 near k)
 
   -- so that what stands in one of the lists is near to the part that it is of
-  own-near : (e : Entry) (xs : List X) → AreRecurring (recurring (sources_in xs)) → Rises uid_cmp (recurring (sources_in xs)) → AllNear xs → InOne e (map lists xs) → AllByRecursion (IsNearOf e) xs
+  own-near : (e : Entry) (xs : List X) → AreRecurring (recurring (sources_in xs)) → Rises uid_cmp (recurring (sources_in xs)) → AllNear xs →
+      InOne e (map lists xs) → AllByRecursion (IsNearOf e) xs
   own-near e [] recur rise near k = tt
   own-near e (x ∷ xs) recur rise near k =
       ⊎_elim
       (λ here. (λ of. near.0 e here, behind (part x) e xs (near.0 e here) recur rise))
-      (λ there. (ahead (part x) e xs recur rise near.1 there, own-near e xs (recurring-rest (part x) (sources_in xs) recur) (rises-rest (part x) (sources_in xs) rise) near.1 there))
+      (λ there. (
+        ahead (part x) e xs recur rise near.1 there,
+        own-near e xs (recurring-rest (part x) (sources_in xs) recur)
+            (rises-rest (part x) (sources_in xs) rise) near.1 there,
+      ))
       k
 
   module _ (coming : List Entry) (most : Recurring → ℕ) where
-    each-most : (xs : List X) → ((e : Entry) → IsIn e coming → AllByRecursion (IsNearOf e) xs) → ((m : Recurring) → IsIn m (recurring (sources_in xs)) → HasStepBound m coming (most m))
+    each-most : (xs : List X) → ((e : Entry) → IsIn e coming → AllByRecursion (IsNearOf e) xs) →
+        ((m : Recurring) → IsIn m (recurring (sources_in xs)) → HasStepBound m coming (most m))
         → sum_by (λ x. part_looked (part x)) xs ≤ sum_by most (recurring (sources_in xs))
     each-most [] near bound = omega arith
     each-most (x ∷ xs) near bound =
@@ -215,7 +240,8 @@ module _ {X : Type 0} (part : X → Part) (lists : X → List Entry) where
         )
 
   -- Parts have together looked at no more periods than each of their masters may.
-  pub steps-of-leads : (most : Recurring → ℕ) (xs : List X) → AreApart (sources_in xs) → AllNear xs → ((m : Recurring) → IsIn m (recurring (sources_in xs)) → HasStepBound m (merged entry_cmp (map lists xs)) (most m))
+  pub steps-of-leads : (most : Recurring → ℕ) (xs : List X) → AreApart (sources_in xs) → AllNear xs →
+      ((m : Recurring) → IsIn m (recurring (sources_in xs)) → HasStepBound m (merged entry_cmp (map lists xs)) (most m))
       → sum_by (λ x. part_looked (part x)) xs ≤ sum_by most (recurring (sources_in xs))
   steps-of-leads most xs apart near bound =
       each-most (merged entry_cmp (map lists xs)) most xs (λ e m. own-near e xs apart.1.0 apart.1.1 near (merged-one e (map lists xs) m)) bound

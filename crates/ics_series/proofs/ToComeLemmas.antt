@@ -40,7 +40,8 @@ module _ (files : List FileSaid) (display : Clock) (w : Window) (vs : List Versi
       unnamed true n none v = let f : false ≡ true = sym (ap (λ (r : Option Time). is_some r || not (named o)) none ∙ ap not n) ∙ e in cc
       unnamed false n none v = let f : false ≡ true = sym n ∙ overridden-named files display vs h o.event.uid o.recurrence v in cc
 
-      by : (r : Option Time) → g.by.event.recurrence ≡ r → IsGivenBy (clocks_at files display g.by.file) g.by.event (option_map (instant (clocks_at files display g.by.file)) r) o → Occurs files display o
+      by : (r : Option Time) → g.by.event.recurrence ≡ r →
+          IsGivenBy (clocks_at files display g.by.file) g.by.event (option_map (instant (clocks_at files display g.by.file)) r) o → Occurs files display o
       by None none of = inl (record {
         master = g.by;
         is = record { chosen = g.chosen; single = none };
@@ -58,7 +59,11 @@ module _ (files : List FileSaid) (display : Clock) (w : Window) (vs : List Versi
     record {
       by = m.master;
       chosen = m.is.chosen;
-      is = (subst (λ r. IsGivenBy (clocks_at files display m.master.file) m.master.event r o) (sym (ap (option_map (instant (clocks_at files display m.master.file))) m.is.single)) m.of, meets);
+      is = (
+        subst (λ r. IsGivenBy (clocks_at files display m.master.file) m.master.event r o)
+            (sym (ap (option_map (instant (clocks_at files display m.master.file))) m.is.single)) m.of,
+        meets,
+      );
     },
     or_right (is_some o.event.recurrence) (not (named o)) (unnamed (named o) refl),
   )
@@ -81,7 +86,8 @@ module _ (files : List FileSaid) (display : Clock) (w : Window) (vs : List Versi
       some None e = let f : None ≡ Some o.recurrence = e in cc
       some (Some time) e = refl
 
-  pub to-come : (after : Option Rank) (o : Entry) → IsGiven files display w o → is_kept (map seen vs) o ≡ true → is_after after o ≡ true → IsToCome files display w after o
+  pub to-come : (after : Option Rank) (o : Entry) → IsGiven files display w o → is_kept (map seen vs) o ≡ true → is_after after o ≡ true →
+      IsToCome files display w after o
   to-come None o g k a = (given-occurs o g k, g.is.1)
   to-come (Some key) o g k a = ((given-occurs o g k, g.is.1), lt-Less (rank_cmp key (rank_of o)) a)
 
@@ -93,6 +99,7 @@ module _ (files : List FileSaid) (display : Clock) (w : Window) (vs : List Versi
   listed-given o l = ⊎_elim (λ m. master-given o m l.1) (λ m. override-given o m l.1) l.0
 
 -- what is to come is listed
-pub come-listed : (files : List FileSaid) (display : Clock) (w : Window) (after : Option Rank) (o : Entry) → IsToCome files display w after o → IsListed files display w o
+pub come-listed : (files : List FileSaid) (display : Clock) (w : Window) (after : Option Rank) (o : Entry) → IsToCome files display w after o →
+    IsListed files display w o
 come-listed files display w None o t = t
 come-listed files display w (Some key) o t = t.0

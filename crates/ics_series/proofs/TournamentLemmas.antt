@@ -1,6 +1,7 @@
 -- Which lead wins a tournament, and how one is put right from a lead upwards.
 use Rattle.std.specs.Prelude.{nat_lt, slice_index, slice_index_or}
-use Rattle.std.proofs.Common.{◌≡◌, ◌≢◌, ℕ, zero, suc, ◌+◌, ◌*◌, ◌/◌, ◌-◌, ◌<◌, ◌≤◌, Bool, true, false, cond, ◌⊎◌, inl, inr, ⊎_elim, List, length, get_or, replicate, set, Option, Some, None, refl, sym, ◌∙◌, ap, arith, length-set, get_or-set_same}
+use Rattle.std.proofs.Common.{◌≡◌, ◌≢◌, ℕ, zero, suc, ◌+◌, ◌*◌, ◌/◌, ◌-◌, ◌<◌, ◌≤◌, Bool, true, false, cond, ◌⊎◌, inl, inr, ⊎_elim, List, length, get_or}
+use Rattle.std.proofs.Common.{replicate, set, Option, Some, None, refl, sym, ◌∙◌, ap, arith, length-set, get_or-set_same}
 use Rattle.std.specs.Cmp.{IsTotalOrder}
 use Rattle.std.specs.List.{All}
 use Rattle.std.specs.Ordering.{is_gt, is_lt, nat_cmp, ordering_reverse, ordering_then}
@@ -124,19 +125,22 @@ module _ (heads : List (Option Entry)) (winners : List ℕ) (settled : AreSettle
       ap (λ k. length winners + winner winners k) (sym at) ∙ (ap (λ k. length winners + k) (winner-lead winners (node - length winners)) ∙ at)
 
   -- the winner at a node is that at one of the two below it
-  from_below : (node : ℕ) → 0 < node → node < length winners → (winner winners node ≡ winner winners (2 * node)) ⊎ (winner winners node ≡ winner winners (2 * node + 1))
+  from_below : (node : ℕ) → 0 < node → node < length winners → (winner winners node ≡ winner winners (2 * node))
+      ⊎ (winner winners node ≡ winner winners (2 * node + 1))
   from_below node low high =
       let is : winner winners node ≡ first_below heads winners node = winner-node winners node high ∙ settled node low high in
       ⊎_elim (λ e. inl (is ∙ e)) (λ e. inr (is ∙ e))
       (one_of (is_lt (lead_cmp heads (winner winners (2 * node)) (winner winners (2 * node + 1)))) (winner winners (2 * node)) (winner winners (2 * node + 1)))
 
   rise : (node child : ℕ) → child / 2 ≡ node → winner winners node ≡ winner winners child
-      → ((steps : ℕ) × (above steps (length winners + winner winners child) ≡ child)) → (steps : ℕ) × (above steps (length winners + winner winners node) ≡ node)
+      → ((steps : ℕ) × (above steps (length winners + winner winners child) ≡ child)) →
+      (steps : ℕ) × (above steps (length winners + winner winners node) ≡ node)
   rise node child up e p =
       (suc p.0, above-suc p.0 (length winners + winner winners node) ∙ (ap (λ k. above p.0 (length winners + k) / 2) e ∙ (ap (λ k. k / 2) p.1 ∙ up)))
 
   -- a node's winner stands below it
-  stands_by : (fuel node : ℕ) → 0 < node → node < 2 * length winners → 2 * length winners ≤ node + fuel → (steps : ℕ) × (above steps (length winners + winner winners node) ≡ node)
+  stands_by : (fuel node : ℕ) → 0 < node → node < 2 * length winners → 2 * length winners ≤ node + fuel →
+      (steps : ℕ) × (above steps (length winners + winner winners node) ≡ node)
   stands_by zero node low high most = absurd (omega arith)
   stands_by (suc fuel) node low high most =
       ⊎_elim
@@ -150,14 +154,16 @@ module _ (heads : List (Option Entry)) (winners : List ℕ) (settled : AreSettle
   pub stands : (node : ℕ) → 0 < node → node < 2 * length winners → (steps : ℕ) × (above steps (length winners + winner winners node) ≡ node)
   stands node low high = stands_by (2 * length winners) node low high (omega arith)
 
-first_of-same : (heads news : List (Option Entry)) (a b : ℕ) → slice_index_or news a None ≡ slice_index_or heads a None → slice_index_or news b None ≡ slice_index_or heads b None
+first_of-same : (heads news : List (Option Entry)) (a b : ℕ) → slice_index_or news a None ≡ slice_index_or heads a None →
+    slice_index_or news b None ≡ slice_index_or heads b None
     → first_of news a b ≡ first_of heads a b
 first_of-same heads news a b p q =
     ap (λ h. cond (is_lt (ordering_then (head_cmp h (slice_index_or news b None)) (nat_cmp a b))) a b) p
     ∙ ap (λ h. cond (is_lt (ordering_then (head_cmp (slice_index_or heads a None) h) (nat_cmp a b))) a b) q
 
 -- where only one lead has changed, all is right but for what stands above it
-pub settled_but : (heads news : List (Option Entry)) (winners : List ℕ) (lead : ℕ) → ((j : ℕ) → j ≢ lead → slice_index_or news j None ≡ slice_index_or heads j None)
+pub settled_but : (heads news : List (Option Entry)) (winners : List ℕ) (lead : ℕ) →
+    ((j : ℕ) → j ≢ lead → slice_index_or news j None ≡ slice_index_or heads j None)
     → AreSettled heads winners → AreSettledBut (above 1 (length winners + lead)) news winners
 settled_but heads news winners lead same settled node low high apart =
     let other : (child : ℕ) → child / 2 ≡ node → child < 2 * length winners → 0 < child → winner winners child ≢ lead =
@@ -204,7 +210,8 @@ settle_up heads winners node low l settled =
     not-above k h apart zero e = h (sym e)
     not-above k h apart (suc steps) e = apart steps e
 
-pub settle_down : (heads : List (Option Entry)) (winners : List ℕ) (node : ℕ) → 0 < node → node < length winners → AreSettledWhere (λ k. node + 1 ≤ k) heads winners
+pub settle_down : (heads : List (Option Entry)) (winners : List ℕ) (node : ℕ) → 0 < node → node < length winners →
+    AreSettledWhere (λ k. node + 1 ≤ k) heads winners
     → AreSettledWhere (λ k. node ≤ k) heads (set winners node (first_below heads winners node))
 settle_down heads winners node low l settled =
     settle heads winners node (λ k. node + 1 ≤ k) (λ k. node ≤ k) low l settled

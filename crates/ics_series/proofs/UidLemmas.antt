@@ -38,17 +38,20 @@ rest-in None rest a m = m
 rest-in (Some o) rest a m = inr m
 
 module _ {X : Type 0} (head : X → Option Occurrence) (rest : X → List Entry) where
-  head-in : (xs : List X) (i : ℕ) (a : Entry) → get_or (map (λ x. option_map entry_of (head x)) xs) i None ≡ Some a → IsIn a (get_or (map (λ x. listed (head x) (rest x)) xs) i [])
+  head-in : (xs : List X) (i : ℕ) (a : Entry) → get_or (map (λ x. option_map entry_of (head x)) xs) i None ≡ Some a →
+      IsIn a (get_or (map (λ x. listed (head x) (rest x)) xs) i [])
   head-in [] i a e = let no : None ≡ Some a = e in absurd cc
   head-in (x ∷ xs) zero a e = headed-in (head x) (rest x) a e
   head-in (x ∷ xs) (suc i) a e = head-in xs i a e
 
   -- what is held at a place
-  pub held-at : (xs : List X) (i : ℕ) (x : X) (o : Occurrence) → i < length xs → x ≡ get_or xs i x → head x ≡ Some o → get_or (map (λ y. option_map entry_of (head y)) xs) i None ≡ Some (entry_of o)
+  pub held-at : (xs : List X) (i : ℕ) (x : X) (o : Occurrence) → i < length xs → x ≡ get_or xs i x → head x ≡ Some o →
+      get_or (map (λ y. option_map entry_of (head y)) xs) i None ≡ Some (entry_of o)
   held-at xs i x o l read e =
       get_or-map (λ y. option_map entry_of (head y)) xs i x None l ∙ (sym (ap (λ y. option_map entry_of (head y)) read) ∙ ap (option_map entry_of) e)
 
-  pub heads-sorted : (from : ℕ) (xs : List X) → AreSortedFrom from (map (λ x. listed (head x) (rest x)) xs) → AreHeadsSorted from (map (λ x. option_map entry_of (head x)) xs)
+  pub heads-sorted : (from : ℕ) (xs : List X) → AreSortedFrom from (map (λ x. listed (head x) (rest x)) xs) →
+      AreHeadsSorted from (map (λ x. option_map entry_of (head x)) xs)
   heads-sorted from xs h i j a b low high p q = h i a (head-in xs i a p) j b low high (head-in xs j b q)
 
   -- what a lead holds, where it is given
@@ -57,15 +60,18 @@ module _ {X : Type 0} (head : X → Option Occurrence) (rest : X → List Entry)
   given-sorted from i xs o e h = h i (entry_of o) (head-in xs i (entry_of o) e)
 
   -- what the places of the last source and of a lead tell
-  pub last-order : (from i j : ℕ) (xs : List X) (last : Occurrence) (b : Entry) (order : Option Ordering) → IsLastSorted from i (Some last) (map (λ x. listed (head x) (rest x)) xs)
+  pub last-order : (from i j : ℕ) (xs : List X) (last : Occurrence) (b : Entry) (order : Option Ordering) →
+      IsLastSorted from i (Some last) (map (λ x. listed (head x) (rest x)) xs)
       → get_or (map (λ x. option_map entry_of (head x)) xs) j None ≡ Some b → IsPlaceOrder from i j order → IsUidOrder order (entry_of last) b
   last-order from i j xs last b None h e k = tt
   last-order from i j xs last b (Some order) h e k = k.1.1 ∙ sym (h j b k.0 k.1.0 (head-in xs j b e))
 
   -- where one lead has drawn, or could not
   module _ (old new : X) where
-    fewer-set : (xs : List X) (lead : ℕ) → old ≡ get_or xs lead old → ((a : Entry) → IsIn a (listed (head new) (rest new)) → IsIn a (listed (head old) (rest old)))
-        → (i : ℕ) (a : Entry) → IsIn a (get_or (map (λ x. listed (head x) (rest x)) (set xs lead new)) i []) → IsIn a (get_or (map (λ x. listed (head x) (rest x)) xs) i [])
+    fewer-set : (xs : List X) (lead : ℕ) → old ≡ get_or xs lead old →
+        ((a : Entry) → IsIn a (listed (head new) (rest new)) → IsIn a (listed (head old) (rest old)))
+        → (i : ℕ) (a : Entry) → IsIn a (get_or (map (λ x. listed (head x) (rest x)) (set xs lead new)) i []) →
+        IsIn a (get_or (map (λ x. listed (head x) (rest x)) xs) i [])
     fewer-set [] lead read f i a m = m
     fewer-set (x ∷ xs) zero read f zero a m = subst (λ y. IsIn a (listed (head y) (rest y))) read (f a m)
     fewer-set (x ∷ xs) zero read f (suc i) a m = m
@@ -74,9 +80,11 @@ module _ {X : Type 0} (head : X → Option Occurrence) (rest : X → List Entry)
 
     module _ (xs : List X) (lead : ℕ) (read : old ≡ get_or xs lead old) where
       pub fewer-drawn-in : listed (head new) (rest new) ≡ rest old
-          → (i : ℕ) (a : Entry) → IsIn a (get_or (map (λ x. listed (head x) (rest x)) (set xs lead new)) i []) → IsIn a (get_or (map (λ x. listed (head x) (rest x)) xs) i [])
+          → (i : ℕ) (a : Entry) → IsIn a (get_or (map (λ x. listed (head x) (rest x)) (set xs lead new)) i []) →
+          IsIn a (get_or (map (λ x. listed (head x) (rest x)) xs) i [])
       fewer-drawn-in drawn = fewer-set xs lead read (λ a m. rest-in (head old) (rest old) a (subst (IsIn a) drawn m))
 
       pub fewer-kept-in : head new ≡ head old → rest new ≡ rest old
-          → (i : ℕ) (a : Entry) → IsIn a (get_or (map (λ x. listed (head x) (rest x)) (set xs lead new)) i []) → IsIn a (get_or (map (λ x. listed (head x) (rest x)) xs) i [])
+          → (i : ℕ) (a : Entry) → IsIn a (get_or (map (λ x. listed (head x) (rest x)) (set xs lead new)) i []) →
+          IsIn a (get_or (map (λ x. listed (head x) (rest x)) xs) i [])
       fewer-kept-in same left = fewer-set xs lead read (λ a m. subst (IsIn a) (ap (λ h. listed h (rest new)) same ∙ ap (listed (head old)) left) m)

@@ -17,7 +17,11 @@ module _ {A : Type 0} (R : A → A → Ordering) (o : IsTotalOrder R) where
       → IsIn e (by_order c (x ∷ y ∷ ys) (x ∷ ys) (y ∷ put R x ys)) → (e ≡ x) ⊎ (IsIn e (y ∷ ys) × (R x e ≢ Equal))
   put-in-by e x y ys Less p h ih m =
       ⊎_elim inl
-      (λ k. inr (k, ⊎_elim (λ s t. let q : R x y ≡ Equal = sym (ap (R x) s) ∙ t in cc) (λ n t. let q : R x e ≡ Less = o.trans x y e p (before-in R o y e ys h n) in cc) k)) m
+      (λ k. inr (
+        k,
+        ⊎_elim (λ s t. let q : R x y ≡ Equal = sym (ap (R x) s) ∙ t in cc) (λ n t. let q : R x e ≡ Less =
+            o.trans x y e p (before-in R o y e ys h n) in cc) k,
+      )) m
   put-in-by e x y ys Equal p h ih m =
       ⊎_elim inl
       (λ n. inr (inr n, λ t. let q : R y e ≡ Less = before-in R o y e ys h n in let s : R x e ≡ R y e = o.congr x y e p in cc)) m

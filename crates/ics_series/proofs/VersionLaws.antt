@@ -73,8 +73,10 @@ module _ (files : List FileSaid) (display : Clock) (s : SubjectSeen) where
   })
 
   with-head : (x : Placed) (xs : List Placed) (c : Ordering) → subject_cmp (subject x) s ≡ c → HasNone xs ⊎ IsTop xs → HasNone (x ∷ xs) ⊎ IsTop (x ∷ xs)
-  with-head x xs Less k rest = past x xs (λ e. let f : subject_cmp (subject x) s ≡ Equal = ap (subject_cmp (subject x)) (sym e) ∙ tied_itself subject_total (subject x) in cc) rest
-  with-head x xs Greater k rest = past x xs (λ e. let f : subject_cmp (subject x) s ≡ Equal = ap (subject_cmp (subject x)) (sym e) ∙ tied_itself subject_total (subject x) in cc) rest
+  with-head x xs Less k rest = past x xs (λ e. let f : subject_cmp (subject x) s ≡ Equal = ap (subject_cmp (subject x)) (sym e)
+      ∙ tied_itself subject_total (subject x) in cc) rest
+  with-head x xs Greater k rest = past x xs (λ e. let f : subject_cmp (subject x) s ≡ Equal = ap (subject_cmp (subject x)) (sym e)
+      ∙ tied_itself subject_total (subject x) in cc) rest
   with-head x xs Equal k (inl none) = inr (alone x xs (exact-subject (subject x) s k) none)
   with-head x xs Equal k (inr t) = inr (greater x xs (exact-subject (subject x) s k) t (placed_cmp t.best x) refl)
 

@@ -123,7 +123,8 @@ module _ (files : List FileSaid) (display : Clock) where
         ))
         (λ n. let k = ih n in (
           inr k.0,
-          λ q w u. ⊎_elim (λ t l. let a : group x e ≡ Less = f e k.0 in let b : group x e ≡ Equal = same-group x e (ap (subject_of files display) (sym t) ∙ u) in cc)
+          λ q w u. ⊎_elim (λ t l. let a : group x e ≡ Less = f e k.0 in
+              let b : group x e ≡ Equal = same-group x e (ap (subject_of files display) (sym t) ∙ u) in cc)
               (λ r. k.1 q r u) w,
         ))
         m
@@ -161,7 +162,8 @@ module _ (files : List FileSaid) (display : Clock) where
     before-lasts x [] f = tt
     before-lasts x (y ∷ ys) f = (f y (inl refl), before-lasts x ys (λ z m. f z (inr m)))
 
-    rises-lasts-by : (x : Placed) (xs : List Placed) (b : Bool) → IsFollowed b x xs → Climbs order xs → Rises group (lasts same xs) → Rises group (cond b (lasts same xs) (x ∷ lasts same xs))
+    rises-lasts-by : (x : Placed) (xs : List Placed) (b : Bool) → IsFollowed b x xs → Climbs order xs → Rises group (lasts same xs) →
+        Rises group (cond b (lasts same xs) (x ∷ lasts same xs))
     rises-lasts-by x xs true f h r = r
     rises-lasts-by x xs false f h r = (before-lasts x (lasts same xs) (λ y m. f y (in-lasts y xs h m).0), r)
 

@@ -61,14 +61,16 @@ firsts-by-union starts h = record {
 }
 
 module _ (clocks : Clocks) (w : Window) (first : Time) where
-  climb-by : (b : Bool) (place : ℕ) (s : Start) (starts : List Start) → s.source ≡ Listed place → ((t : Start) → IsIn t starts → IsNotAfter (Listed place) t.source) → SourcesClimb starts → SourcesClimb (with_front b s starts)
+  climb-by : (b : Bool) (place : ℕ) (s : Start) (starts : List Start) → s.source ≡ Listed place →
+      ((t : Start) → IsIn t starts → IsNotAfter (Listed place) t.source) → SourcesClimb starts → SourcesClimb (with_front b s starts)
   climb-by true place s starts e f h = (λ t m. subst (λ g. IsNotAfter g t.source) (sym e) (f t m), h)
   climb-by false place s starts e f h = h
 
   listed-climb : (place : ℕ) (rdates : List Rdate) → SourcesClimb (listed_from clocks w first place rdates)
   listed-climb place [] = tt
   listed-climb place (r ∷ rdates) =
-      climb-by (not (is_past w (time_of (given_by first r)))) place (start_by clocks (Listed place) (given_by first r)) (listed_from clocks w first (place + 1) rdates) refl
+      climb-by (not (is_past w (time_of (given_by first r)))) place (start_by clocks (Listed place) (given_by first r))
+      (listed_from clocks w first (place + 1) rdates) refl
       (λ t m.
       let k = listed-in clocks w first (place + 1) rdates t m in
       subst (λ (s : Start). IsNotAfter (Listed place) s.source) (sym k.is) (omega arith))
@@ -76,7 +78,8 @@ module _ (clocks : Clocks) (w : Window) (first : Time) where
 
 apart-climb : (clocks : Clocks) (w : Window) (event : Event) (parts : Option RuleParts) → SourcesClimb (listed_apart clocks w event parts)
 apart-climb clocks w event None = (
-  λ t m. let k = listed-in clocks w event.start 0 event.rdates t m in subst (λ (s : Start). IsNotAfter (Kept (local_of event.start.stamp)) s.source) (sym k.is) tt,
+  λ t m. let k = listed-in clocks w event.start 0 event.rdates t m in
+      subst (λ (s : Start). IsNotAfter (Kept (local_of event.start.stamp)) s.source) (sym k.is) tt,
   listed-climb clocks w event.start 0 event.rdates,
 )
 apart-climb clocks w event (Some parts) = listed-climb clocks w event.start 0 event.rdates
@@ -90,7 +93,12 @@ module _ (zones : FileZones) (w : Window) (event : Event) (sound : IsEvent event
     has = ap (option_map (recurrence_by event.start.stamp)) e;
     from = local_of event.start.stamp;
     day = calendar-day (local_of event.start.stamp).day (own-day event.start sound.start);
-    low = omega (arith, ints, int_max_is (local_seconds (local_of event.start.stamp)) (first_asked (clocks_in zones) w event since (listed_from (clocks_in zones) w event.start 0 event.rdates) -ℤ whole_days 6));
+    low = omega (
+      arith,
+      ints,
+      int_max_is (local_seconds (local_of event.start.stamp))
+          (first_asked (clocks_in zones) w event since (listed_from (clocks_in zones) w event.start 0 event.rdates) -ℤ whole_days 6),
+    );
     gives = refl;
   }
 
@@ -120,11 +128,13 @@ module _ (zones : FileZones) (w : Window) (event : Event) (sound : IsEvent event
       )
 
 -- any event
-pub whole-listing : (zones : FileZones) (w : Window) (event : Event) → IsEvent event → (list : List Entry) × IsListing entry_cmp (IsEventMet (clocks_in zones) event w) list
+pub whole-listing : (zones : FileZones) (w : Window) (event : Event) → IsEvent event →
+    (list : List Entry) × IsListing entry_cmp (IsEventMet (clocks_in zones) event w) list
 whole-listing zones w event sound =
     let since = occurrence_first in
     let found = whole-starts zones w event sound since event.rule refl in
-    let listing : IsListing entry_cmp (IsSeriesMet (clocks_in zones) event w occurrence_first []) (given_of (clocks_in zones) w event occurrence_first [] found.0) =
+    let listing : IsListing entry_cmp (IsSeriesMet (clocks_in zones) event w occurrence_first [])
+    (given_of (clocks_in zones) w event occurrence_first [] found.0) =
     series-listing (clocks_in zones) w event since [] found.0 found.1 in (
       given_of (clocks_in zones) w event since [] found.0,
       record {

@@ -20,9 +20,11 @@ use Rattle.ics_series.specs.FileZones.{clocks_in, IsEndOf, IsOwnEvent, IsTimeOf}
 use Rattle.ics_series.proofs.StartSourceLemmas.{gives-below, gives-value, rdate-below, rdate-time}
 use Rattle.ics_series.proofs.InstantLemmas.{ends-near}
 
-pub clock-there : (zones : List ZoneKind) (i : ℕ) (d : ZoneKind) → i < length zones → zone_clock (zone_said (get_or zones i d)) ≡ get_or (map zone_clock (map zone_said zones)) i utc_clock
+pub clock-there : (zones : List ZoneKind) (i : ℕ) (d : ZoneKind) → i < length zones →
+    zone_clock (zone_said (get_or zones i d)) ≡ get_or (map zone_clock (map zone_said zones)) i utc_clock
 clock-there zones i d l =
-    ap zone_clock (sym (get_or-map zone_said zones i d (zone_said d) l)) ∙ sym (get_or-map zone_clock (map zone_said zones) i (zone_said d) utc_clock (subst (λ n. i < n) (sym (length-map zones zone_said)) l))
+    ap zone_clock (sym (get_or-map zone_said zones i d (zone_said d) l))
+    ∙ sym (get_or-map zone_clock (map zone_said zones) i (zone_said d) utc_clock (subst (λ n. i < n) (sym (length-map zones zone_said)) l))
 
 no-suc : (n : ℕ) → (suc n == 0) ≡ true → ⊥
 no-suc n e = grind (arith, nat_tests)
@@ -36,7 +38,8 @@ rule-none None e = refl
 rule-none (Some parts) e = let f : false ≡ true = e in absurd cc
 
 -- what gives a start of an event is a time of its file
-pub given-time : (zones : FileZones) (event : Event) (source : StartSource) (given : Rdate) → IsOwnEvent zones event → GivesStart (clocks_in zones) event source given → IsTimeOf zones.zones.now (time_of given)
+pub given-time : (zones : FileZones) (event : Event) (source : StartSource) (given : Rdate) → IsOwnEvent zones event →
+    GivesStart (clocks_in zones) event source given → IsTimeOf zones.zones.now (time_of given)
 given-time zones event source given h g = record {
   is_time = rdate-time given (gives-value (clocks_in zones) event source given h.is_event.start h.is_event.rdates g);
   within = rdate-below (length zones.zones.now) given (gives-below (length zones.zones.now) (clocks_in zones) event source given h.below g);

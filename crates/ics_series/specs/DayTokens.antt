@@ -14,7 +14,8 @@ pub record IsDayKey (key : DayRank) : Type 0 where
 -- `K2.day.start.recurrence.uid`, with the day and the moments in decimal and the UID in lower-case hexadecimal
 abbrev pub day_spelling : DayRank → List ℕ
 day_spelling key =
-    codes "K2." ++ (signed_decimal key.day ++ (46 ∷ (signed_decimal key.key.start ++ (46 ∷ (signed_decimal key.key.recurrence ++ (46 ∷ encode_lower key.key.uid))))))
+    codes "K2." ++ (signed_decimal key.day
+    ++ (46 ∷ (signed_decimal key.key.start ++ (46 ∷ (signed_decimal key.key.recurrence ++ (46 ∷ encode_lower key.key.uid))))))
 
 -- a text is a token if it spells such a key
 abbrev pub IsDayToken : List ℕ → Type 0

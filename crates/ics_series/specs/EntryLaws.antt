@@ -4,7 +4,8 @@ use Rattle.std.proofs.lemmas.Cmp.{int_cmp_total, nat_list_cmp_total, on_total, t
 use Rattle.ics_series.specs.Entry.{rank_of, rank_cmp, entry_cmp}
 
 pub rank_total : IsTotalOrder rank_cmp
-rank_total = then_total (on_total (λ r. r.start) int_cmp_total) (then_total (on_total (λ r. r.uid) nat_list_cmp_total) (on_total (λ r. r.recurrence) int_cmp_total))
+rank_total = then_total (on_total (λ r. r.start) int_cmp_total)
+    (then_total (on_total (λ r. r.uid) nat_list_cmp_total) (on_total (λ r. r.recurrence) int_cmp_total))
 
 pub entry_total : IsTotalOrder entry_cmp
 entry_total = on_total rank_of rank_total

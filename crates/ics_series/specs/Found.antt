@@ -91,7 +91,8 @@ pub record AreFirsts (starts firsts : List Start) : Type 0 where
 pub record AreStartsSince (clocks : Clocks) (event : Event) (w : Window) (since : ℤ) (starts : List Start) : Type 0 where
   pub rises : Rises moment_cmp starts
   pub are : (s : Start) → IsIn s starts → IsStart clocks event s
-  pub all : (source : StartSource) (given : Rdate) → GivesStart clocks event source given → IsSought clocks event w (instant clocks (time_of given)) → since ≤ℤ instant clocks (time_of given) → HasStart starts source (instant clocks (time_of given))
+  pub all : (source : StartSource) (given : Rdate) → GivesStart clocks event source given → IsSought clocks event w (instant clocks (time_of given)) →
+      since ≤ℤ instant clocks (time_of given) → HasStart starts source (instant clocks (time_of given))
 
 -- the first of each run of starts at one instant, if the list so far ended with a start at the instant `last`
 abbrev pub firsts_after : Option ℤ → List Start → List Start
@@ -123,7 +124,8 @@ with_front false s starts = starts
 abbrev pub listed_from : Clocks → Window → Time → ℕ → List Rdate → List Start
 listed_from clocks w first place [] = []
 listed_from clocks w first place (rdate ∷ rdates) =
-    with_front (not (is_past w (time_of (given_by first rdate)))) (start_by clocks (Listed place) (given_by first rdate)) (listed_from clocks w first (place + 1) rdates)
+    with_front (not (is_past w (time_of (given_by first rdate)))) (start_by clocks (Listed place) (given_by first rdate))
+    (listed_from clocks w first (place + 1) rdates)
 
 -- a start by a PERIOD that meets the window by its own length
 abbrev pub is_span_met : Clocks → Window → Event → Start → Rdate → Bool

@@ -1,5 +1,6 @@
 -- How many occurrences a listing holds at most. The bound counts the starts that an event can have in five UTC days in a row.
-use Rattle.std.specs.Prelude.{◌≡◌, true, ℕ, zero, suc, ◌+◌, max, ℤ, pos, ◌+ℤ◌, ◌-ℤ◌, Bool, ◌&&◌, int_le, int_lt, if◌then◌else◌, List, sum_by, count_by, Option, None, Some}
+use Rattle.std.specs.Prelude.{◌≡◌, true, ℕ, zero, suc, ◌+◌, max, ℤ, pos, ◌+ℤ◌, ◌-ℤ◌, Bool, ◌&&◌, int_le, int_lt, if◌then◌else◌, List, sum_by, count_by, Option}
+use Rattle.std.specs.Prelude.{None, Some}
 use Rattle.ics_rule.specs.Kept.{count, is_kept}
 use Rattle.ics_rule.specs.Recurrence.{Recurrence}
 use Rattle.ics_calendar.specs.declared.event.Event.{Event}

@@ -1,5 +1,6 @@
 -- Laws of the occurrences of events and of folders, and of listings.
-use Rattle.std.specs.Prelude.{◌≡◌, ◌≢◌, ◌⊎◌, ◌↔◌, ◌≤◌, ℕ, ℤ, true, false, List, [], ◌∷◌, ◌++◌, Option, Some, None, All, Contains, filter, length, map, slice_get}
+use Rattle.std.specs.Prelude.{◌≡◌, ◌≢◌, ◌⊎◌, ◌↔◌, ◌≤◌, ℕ, ℤ, true, false, List, [], ◌∷◌, ◌++◌, Option, Some, None, All, Contains, filter, length, map}
+use Rattle.std.specs.Prelude.{slice_get}
 use Rattle.std.specs.Ordering.{is_lt}
 use Rattle.ics_calendar.specs.Event.{FileSaid, IsRdate, IsTime}
 use Rattle.ics_calendar.specs.declared.event.Event.{Event}
@@ -84,7 +85,8 @@ pub record AreReordered (files others : List FileSaid) : Type 0 where
 -- versions of one event with equal SEQUENCE stand in one file
 abbrev pub HaveApartVersions : List FileSaid → Clock → Type 0
 HaveApartVersions files display =
-    (p q : Placed) → IsPlaced files p → IsPlaced files q → subject_of files display p ≡ subject_of files display q → p.event.sequence ≡ q.event.sequence → p.file ≡ q.file
+    (p q : Placed) → IsPlaced files p → IsPlaced files q → subject_of files display p ≡ subject_of files display q → p.event.sequence ≡ q.event.sequence →
+    p.file ≡ q.file
 
 -- the order of files matters only between versions of equal SEQUENCE
 abbrev pub OrderOfFiles : Type 0

@@ -54,12 +54,14 @@ pub record HasList (files : List FileSaid) (display : Clock) (w : Window) (after
   pub listing : IsListing entry_cmp (IsOfVersion files display w after label) list
 
 -- these lists are those of the occurrences to come of the versions whose events recur, one for each
-pub record AreLists (files : List FileSaid) (display : Clock) (w : Window) (after : Option Rank) (labels : List Label) (lists : List (List Entry)) : Type 0 where
+pub record AreLists (files : List FileSaid) (display : Clock) (w : Window) (after : Option Rank) (labels : List Label) (lists : List (List Entry)) : Type
+    0 where
   pub each : AllByRecursion (IsOneOf files display w after labels) lists
   pub every : (l : Label) → IsIn l labels → Recurs files l → HasList files display w after lists l
 
 -- these lists follow the lists that were there before
-pub record HasLists (files : List FileSaid) (display : Clock) (w : Window) (after : Option Rank) (labels : List Label) (before now : List (List Entry)) : Type 0 where
+pub record HasLists (files : List FileSaid) (display : Clock) (w : Window) (after : Option Rank) (labels : List Label) (before now : List (List Entry)) : Type
+    0 where
   pub more : List (List Entry)
   pub are : AreLists files display w after labels more
   pub behind : now ≡ before ++ more
@@ -79,7 +81,8 @@ pub record IsSource (files : List FileSaid) (display : Clock) (w : Window) (afte
   pub is : IsSourceOf files display w after label m
 
 -- such masters, each with a UID of its own, follow the sources that were there before
-pub record HasSources (files : List FileSaid) (display : Clock) (w : Window) (after : Option Rank) (labels : List Label) (before now : List Source) : Type 0 where
+pub record HasSources (files : List FileSaid) (display : Clock) (w : Window) (after : Option Rank) (labels : List Label) (before now : List Source) : Type
+    0 where
   pub more : List Recurring
   pub each : AllByRecursion (IsSource files display w after labels) more
   pub rises : Rises uid_cmp more

@@ -1,5 +1,6 @@
 -- The starts of a series still to come, and the occurrences that they give.
-use Rattle.std.specs.Prelude.{◌≡◌, ◌≤ℤ◌, ℤ, ◌+ℤ◌, ◌-ℤ◌, Bool, true, false, ◌&&◌, not, int_le, int_lt, List, [], ◌∷◌, drop, slice_get, Option, None, Some, ◌⊎◌, if◌then◌else◌}
+use Rattle.std.specs.Prelude.{◌≡◌, ◌≤ℤ◌, ℤ, ◌+ℤ◌, ◌-ℤ◌, Bool, true, false, ◌&&◌, not, int_le, int_lt, List, [], ◌∷◌, drop, slice_get, Option, None, Some, ◌⊎◌}
+use Rattle.std.specs.Prelude.{if◌then◌else◌}
 use Rattle.std.specs.Int.{int_max, int_min}
 use Rattle.std.specs.List.{filter_map, list_any}
 use Rattle.std.specs.Option.{option_map}

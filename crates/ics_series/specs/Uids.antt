@@ -28,7 +28,8 @@ IsLastSorted from i (Some o) lists = IsSortedAt from i (entry_of o) lists
 -- from a place on the UIDs of what leads hold stand in the order of the leads
 abbrev pub AreHeadsSorted : ℕ → List (Option Entry) → Type 0
 AreHeadsSorted from heads =
-    (i j : ℕ) (a b : Entry) → from ≤ i → from ≤ j → slice_index_or heads i None ≡ Some a → slice_index_or heads j None ≡ Some b → entry_uid_cmp a b ≡ nat_cmp i j
+    (i j : ℕ) (a b : Entry) → from ≤ i → from ≤ j → slice_index_or heads i None ≡ Some a → slice_index_or heads j None ≡ Some b →
+    entry_uid_cmp a b ≡ nat_cmp i j
 
 -- an order that is known is that of two places, none of which stands before the first
 abbrev pub IsPlaceOrder : ℕ → ℕ → ℕ → Option Ordering → Type 0

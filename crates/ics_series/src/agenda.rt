@@ -43,7 +43,8 @@ use std::alloc::{AllocError, Global};
 #[derive(Drop)]
 pub struct Agenda<'a> {
     merge: Merge<'a, Part<'a>>,
-    ghost apart: { AreApart (flat_map (λ l. part_sources l.feed) merge.leads.items) } by { AreApart-prop (flat_map (λ l. part_sources l.feed) merge.leads.items) },
+    ghost apart: { AreApart (flat_map (λ l. part_sources l.feed) merge.leads.items) } by { AreApart-prop
+        (flat_map (λ l. part_sources l.feed) merge.leads.items) },
 }
 
 impl<'a> Agenda<'a> {
@@ -98,7 +99,8 @@ impl<'a> Agenda<'a> {
     /// and the greatest number of starts that it has in any five days. The count stops at the greatest
     /// `usize`.
     pub fn held(&self) -> usize
-        ensures count { result ≡ min (length (listed self.now.merge.last (flat_map (λ l. listed l.head (part_holds l.feed)) self.now.merge.leads.items))) (2 ^ 64 - 1) }
+        ensures count { result ≡ min (length (listed self.now.merge.last (flat_map (λ l. listed l.head (part_holds l.feed)) self.now.merge.leads.items)))
+            (2 ^ 64 - 1) }
         ensures most { result ≤ held_most (map master_of (recurring (⟦<Agenda<'a> as Coming>⟧.sources self.now))) }
     {
         self.merge.held()
@@ -157,11 +159,13 @@ impl<'a> Coming for Agenda<'a> {
 
     ghost near = { λ agenda o. AllByRecursion (λ l. HasNear (part_near l.feed) (listed l.head (part_coming l.feed)) o) agenda.merge.leads.items };
 
-    ghost near_prop = { λ agenda o. AllByRecursion-prop (λ l. HasNear (part_near l.feed) (listed l.head (part_coming l.feed)) o) (λ l. HasNear-prop (part_near l.feed) (part_near-prop l.feed) (listed l.head (part_coming l.feed)) o) agenda.merge.leads.items };
+    ghost near_prop = { λ agenda o. AllByRecursion-prop (λ l. HasNear (part_near l.feed) (listed l.head (part_coming l.feed)) o)
+        (λ l. HasNear-prop (part_near l.feed) (part_near-prop l.feed) (listed l.head (part_coming l.feed)) o) agenda.merge.leads.items };
 }
 
 impl<'a> Feed<'a> for Agenda<'a> {
-    ghost rises = { λ agenda. rises-merged entry_cmp entry_total (map (λ l. past agenda.merge.last (listed l.head (part_coming l.feed))) agenda.merge.leads.items) };
+    ghost rises = { λ agenda. rises-merged entry_cmp entry_total
+        (map (λ l. past agenda.merge.last (listed l.head (part_coming l.feed))) agenda.merge.leads.items) };
 
     fn next(&mut self) -> Result<Option<Occurrence<'a>>, AllocError> {
         self.merge.next()

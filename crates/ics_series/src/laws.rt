@@ -1,7 +1,8 @@
 //! Laws of the definitions. Each is the contract of a function that has no other purpose.
 ghost use Rattle.std.specs.Prelude.{◌≡◌};
 ghost use Rattle.ics_series.specs.Entry.{key_rank, rank_cmp};
-ghost use Rattle.ics_series.specs.Laws.{AddedFiles, EachStart, ListingAfter, ListingBehind, ListingMerged, MostInDays, MostOfMasters, NoneExcluded, OneListing, OneRecurrence, OneStart, OneVersion, OrderOfFiles, RawCounted};
+ghost use Rattle.ics_series.specs.Laws.{AddedFiles, EachStart, ListingAfter, ListingBehind, ListingMerged, MostInDays, MostOfMasters, NoneExcluded, OneListing};
+ghost use Rattle.ics_series.specs.Laws.{OneRecurrence, OneStart, OneVersion, OrderOfFiles, RawCounted};
 ghost use Rattle.ics_series.specs.Tokens.{OneSpelling};
 ghost use Rattle.ics_series.specs.WindowLaws.{ListingWithin, ListingsJoin, ListsStarts, ListsUnderWay};
 ghost use Rattle.ics_series.specs.declared.key.Key.{Key};

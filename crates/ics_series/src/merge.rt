@@ -34,10 +34,15 @@ pub struct Merge<'a, F: Coming> {
     ghost same_length: { length winners.items ≡ length leads.items },
     ghost within: { All (λ lead. lead < length leads.items) winners.items },
     ghost settled: { AreSettled (map (λ l. option_map entry_of l.head) leads.items) winners.items },
-    ghost follows: { ComeAfter last (map (λ l. past last (listed l.head (F.coming l.feed))) leads.items) } by { ComeAfter-prop last (map (λ l. past last (listed l.head (F.coming l.feed))) leads.items) },
-    ghost near: { AllByRecursion (λ l. AreNear (F.near l.feed) (past last (listed l.head (F.coming l.feed)))) leads.items } by { AllByRecursion-prop (λ l. AreNear (F.near l.feed) (past last (listed l.head (F.coming l.feed)))) (λ l. AreNear-prop (F.near l.feed) (F.near_prop l.feed) (past last (listed l.head (F.coming l.feed)))) leads.items },
-    ghost sorted: { AreSortedFrom sorted_from (map (λ l. listed l.head (F.coming l.feed)) leads.items) } by { AreSortedFrom-prop sorted_from (map (λ l. listed l.head (F.coming l.feed)) leads.items) },
-    ghost last_sorted: { IsLastSorted sorted_from source last (map (λ l. listed l.head (F.coming l.feed)) leads.items) } by { IsLastSorted-prop sorted_from source last (map (λ l. listed l.head (F.coming l.feed)) leads.items) },
+    ghost follows: { ComeAfter last (map (λ l. past last (listed l.head (F.coming l.feed))) leads.items) } by { ComeAfter-prop last
+        (map (λ l. past last (listed l.head (F.coming l.feed))) leads.items) },
+    ghost near: { AllByRecursion (λ l. AreNear (F.near l.feed) (past last (listed l.head (F.coming l.feed)))) leads.items } by { AllByRecursion-prop
+        (λ l. AreNear (F.near l.feed) (past last (listed l.head (F.coming l.feed))))
+        (λ l. AreNear-prop (F.near l.feed) (F.near_prop l.feed) (past last (listed l.head (F.coming l.feed)))) leads.items },
+    ghost sorted: { AreSortedFrom sorted_from (map (λ l. listed l.head (F.coming l.feed)) leads.items) } by { AreSortedFrom-prop sorted_from
+        (map (λ l. listed l.head (F.coming l.feed)) leads.items) },
+    ghost last_sorted: { IsLastSorted sorted_from source last (map (λ l. listed l.head (F.coming l.feed)) leads.items) } by { IsLastSorted-prop sorted_from
+        source last (map (λ l. listed l.head (F.coming l.feed)) leads.items) },
 }
 
 impl<'a, F: Feed<'a> + Drop> Merge<'a, F> {
@@ -83,7 +88,8 @@ impl<'a, F: Coming> Coming for Merge<'a, F> {
 
     ghost near = { λ merge o. AllByRecursion (λ l. HasNear (F.near l.feed) (listed l.head (F.coming l.feed)) o) merge.leads.items };
 
-    ghost near_prop = { λ merge o. AllByRecursion-prop (λ l. HasNear (F.near l.feed) (listed l.head (F.coming l.feed)) o) (λ l. HasNear-prop (F.near l.feed) (F.near_prop l.feed) (listed l.head (F.coming l.feed)) o) merge.leads.items };
+    ghost near_prop = { λ merge o. AllByRecursion-prop (λ l. HasNear (F.near l.feed) (listed l.head (F.coming l.feed)) o)
+        (λ l. HasNear-prop (F.near l.feed) (F.near_prop l.feed) (listed l.head (F.coming l.feed)) o) merge.leads.items };
 }
 
 impl<'a, F: Feed<'a>> Feed<'a> for Merge<'a, F> {
@@ -107,7 +113,8 @@ impl<'a, F: Feed<'a>> Merge<'a, F> {
     fn skip_given(&mut self) -> Result<(), AllocError>
         ensures same { ⟦<Merge<'a, F> as Coming>⟧.coming self.new ≡ ⟦<Merge<'a, F> as Coming>⟧.coming self.old }
         ensures sources { ⟦<Merge<'a, F> as Coming>⟧.sources self.new ≡ ⟦<Merge<'a, F> as Coming>⟧.sources self.old }
-        ensures skipped { OnOk result (is_given self.new.last (first_held (map (λ l. option_map entry_of l.head) self.new.leads.items) self.new.winners.items) ≡ false) }
+        ensures skipped { OnOk result (is_given self.new.last (first_held (map (λ l. option_map entry_of l.head) self.new.leads.items) self.new.winners.items)
+            ≡ false) }
     {
         while self.is_first_given() {
             self.draw_first()?;

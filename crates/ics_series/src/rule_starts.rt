@@ -87,7 +87,8 @@ fn hold(
     requires kept { is_kept rule.now (number local) ≡ true }
     requires day { IsDayNumber local.day }
     requires first { number rule.now.start ≡ number (local_of event.now.start.stamp) }
-    ensures { held.new.items ≡ with_held (gives (clocks_in zones.entry) event.now rule.now window (number local)) (start_at (clocks_in zones.entry) event.now local) held.old.items }
+    ensures { held.new.items ≡ with_held (gives (clocks_in zones.entry) event.now rule.now window (number local))
+        (start_at (clocks_in zones.entry) event.now local) held.old.items }
 {
     let start = start_at(zones, event, local);
     if is_let_through(
@@ -181,7 +182,8 @@ impl<'a> RuleStarts<'a> {
         requires { is_behind self.old.day self.old.end self.old.held.items ≡ true }
         ensures same { starts_left self.new ≡ starts_left self.old }
         ensures source { HasSameSource self.old self.new }
-        ensures less { OnOk result (steps_left self.new.day self.new.end (place_of self.new.cursor) < steps_left self.old.day self.old.end (place_of self.old.cursor)) }
+        ensures less { OnOk result (steps_left self.new.day self.new.end (place_of self.new.cursor)
+            < steps_left self.old.day self.old.end (place_of self.old.cursor)) }
     {
         let bound = self.bound();
         // Room is reserved before the cursor moves, so that no local is lost.
@@ -251,7 +253,8 @@ impl<'a> RuleStarts<'a> {
     /// more than three days past each start still to come, and less than three past the window's end.
     pub(crate) fn steps(&self) -> u64
         ensures count { result ≡ steps_of self.now.cursor }
-        ensures most { result ≤ period_count self.now.rule (looks_from self.now.rule.parts.count (number self.now.rule.start) (number self.now.from)) (midnight_number self.now.asked) }
+        ensures most { result ≤ period_count self.now.rule (looks_from self.now.rule.parts.count (number self.now.rule.start) (number self.now.from))
+            (midnight_number self.now.asked) }
         ensures near { (s : Start) → IsIn s (starts_left self.now) → (midnight self.now.asked -ℤ whole_days 3) ≤ℤ s.moment }
         ensures end { midnight self.now.asked <ℤ (self.now.window.to +ℤ whole_days 3) }
     {

@@ -10,7 +10,8 @@ ghost use Rattle.ics_series.specs.Merged.{cut};
 ghost use Rattle.ics_series.specs.Rising.{Rises, Rises-prop};
 ghost use Rattle.ics_series.specs.RuleFeed.{starts_left};
 ghost use Rattle.ics_series.specs.SeriesLaws.{known-prop, own-rule-prop, ruled-prop, taken-out-prop};
-ghost use Rattle.ics_series.specs.SeriesStarts.{earlier_of, first_asked, first_of, given_of, is_among, left, listed_apart, rule_asked, rule_left, AreKnown, HasOwnRule, HasRuled, HasSameRule, IsReady, IsRuleFrom};
+ghost use Rattle.ics_series.specs.SeriesStarts.{earlier_of, first_asked, first_of, given_of, is_among, left, listed_apart, rule_asked, rule_left, AreKnown};
+ghost use Rattle.ics_series.specs.SeriesStarts.{HasOwnRule, HasRuled, HasSameRule, IsReady, IsRuleFrom};
 ghost use Rattle.ics_series.specs.FileZones.{clocks_in, IsOwnEvent};
 
 use crate::exclusion::Exclusions;
@@ -46,11 +47,17 @@ pub(crate) struct Series<'a> {
     listed: ListedStarts,
     ghost in_order: { IsSorted int_cmp overridden.items },
     ghost own: { IsOwnEvent zones event.now } by { own-event-prop zones event.now },
-    ghost taken_out: { AreExclusions (clocks_in zones) event.now window exclusions.instants.items exclusions.days.items } by { taken-out-prop (clocks_in zones) event.now window exclusions.instants.items exclusions.days.items },
-    ghost known: { AreKnown (clocks_in zones) event.now window (left rule_starts listed) } by { known-prop (clocks_in zones) event.now window (left rule_starts listed) },
-    ghost ruled: { HasRuled (clocks_in zones) event.now rule_starts (given_of (clocks_in zones) window event.now since overridden.items (left rule_starts listed)) } by { ruled-prop (clocks_in zones) event.now rule_starts (given_of (clocks_in zones) window event.now since overridden.items (left rule_starts listed)) },
-    ghost own_rule: { HasOwnRule zones event.now window (first_of (clocks_in zones) window event.now since) rule_starts } by { own-rule-prop zones event.now window (first_of (clocks_in zones) window event.now since) rule_starts },
-    ghost rising: { Rises entry_cmp (given_of (clocks_in zones) window event.now since overridden.items (left rule_starts listed)) } by { Rises-prop entry_cmp (given_of (clocks_in zones) window event.now since overridden.items (left rule_starts listed)) },
+    ghost taken_out: { AreExclusions (clocks_in zones) event.now window exclusions.instants.items exclusions.days.items } by { taken-out-prop (clocks_in zones)
+        event.now window exclusions.instants.items exclusions.days.items },
+    ghost known: { AreKnown (clocks_in zones) event.now window (left rule_starts listed) } by { known-prop (clocks_in zones) event.now window
+        (left rule_starts listed) },
+    ghost ruled: { HasRuled (clocks_in zones) event.now rule_starts
+        (given_of (clocks_in zones) window event.now since overridden.items (left rule_starts listed)) } by { ruled-prop (clocks_in zones) event.now rule_starts
+            (given_of (clocks_in zones) window event.now since overridden.items (left rule_starts listed)) },
+    ghost own_rule: { HasOwnRule zones event.now window (first_of (clocks_in zones) window event.now since) rule_starts } by { own-rule-prop zones event.now
+        window (first_of (clocks_in zones) window event.now since) rule_starts },
+    ghost rising: { Rises entry_cmp (given_of (clocks_in zones) window event.now since overridden.items (left rule_starts listed)) } by { Rises-prop entry_cmp
+        (given_of (clocks_in zones) window event.now since overridden.items (left rule_starts listed)) },
 }
 
 // The starts that are known from the beginning: those by RDATEs and, if there is no rule, the one at
@@ -207,7 +214,8 @@ impl<'a> Series<'a> {
     // The occurrence with a start, if it belongs to the list.
     fn wanted(&self, start: Start) -> Option<Occurrence<'a>>
         requires { IsKnown (clocks_in self.now.zones) self.now.event.now self.now.window start }
-        ensures { option_map entry_of result ≡ wanted_by (clocks_in self.now.zones) self.now.window self.now.event.now self.now.since self.now.overridden.items start }
+        ensures { option_map entry_of result ≡ wanted_by (clocks_in self.now.zones) self.now.window self.now.event.now self.now.since self.now.overridden.items
+            start }
     {
         if start.moment < self.since || is_among(&self.overridden, start.moment) {
             return None;

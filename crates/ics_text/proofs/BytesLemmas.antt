@@ -46,4 +46,5 @@ same_name-lowercase (x ∷ xs) (y ∷ ys) = rw (one_case x y, same_name-lowercas
 
 -- what std's comparison without case tells
 pub same_name-tells : (r : Bool) (a b : List ℕ) → IsTrue r ↔ (map to_ascii_lowercase a ≡ map to_ascii_lowercase b) → r ≡ same_name a b
-same_name-tells r a b h = rw (same_name-lowercase a b) (same_from_decides r (bytes_eq (map to_ascii_lowercase a) (map to_ascii_lowercase b)) h (bytes_eq-Decides _ _))
+same_name-tells r a b h =
+    rw (same_name-lowercase a b) (same_from_decides r (bytes_eq (map to_ascii_lowercase a) (map to_ascii_lowercase b)) h (bytes_eq-Decides _ _))

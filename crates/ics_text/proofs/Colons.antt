@@ -1,5 +1,6 @@
 -- The walk to the colon of a content line.
-use Rattle.std.proofs.Common.{◌≡◌, ℕ, suc, ◌+◌, ◌<◌, Bool, true, false, List, [], ◌∷◌, length, drop, get_or, refl, ap, ◌∙◌, arith, cond, Option, Some, None, add-one, one-add}
+use Rattle.std.proofs.Common.{◌≡◌, ℕ, suc, ◌+◌, ◌<◌, Bool, true, false, List, [], ◌∷◌, length, drop, get_or, refl, ap, ◌∙◌, arith, cond, Option, Some, None}
+use Rattle.std.proofs.Common.{add-one, one-add}
 use Rattle.std.proofs.Common.{drop-cons}
 use Rattle.std.specs.Prelude.{option_map}
 use Rattle.std.specs.List.{prefix_len}
@@ -25,7 +26,8 @@ unmoved : (o : Option ℕ) → o ≡ option_map (λ n. n + 0) o
 unmoved None = refl
 unmoved (Some n) = let e : n ≡ n + 0 = omega arith in ap Some e
 
-pub walked-on : (text : List ℕ) (from : ScanState) (i : ℕ) (state next : ScanState) → i < length text → walked text from i state → step state (get_or text i 0) ≡ On next → walked text from (i + 1) next
+pub walked-on : (text : List ℕ) (from : ScanState) (i : ℕ) (state next : ScanState) → i < length text → walked text from i state →
+    step state (get_or text i 0) ≡ On next → walked text from (i + 1) next
 walked-on text from i state next l w s =
     w ∙ rw (drop-cons text i 0, s, add-one i) (moved i (colon_from (drop (suc i) text) next))
 
@@ -34,8 +36,10 @@ to_end : (bs : List ℕ) → walked bs InName (prefix_len is_name_byte bs) InNam
 to_end [] = refl
 to_end (b ∷ bs) = by_test (is_name_byte b) refl (to_end bs)
   where
-    by_test : (t : Bool) → is_name_byte b ≡ t → walked bs InName (prefix_len is_name_byte bs) InName → walked (b ∷ bs) InName (cond t (1 + prefix_len is_name_byte bs) 0) InName
-    by_test true e w = rw (e, w, one-add (prefix_len is_name_byte bs)) (moved_first (prefix_len is_name_byte bs) (colon_from (drop (prefix_len is_name_byte bs) bs) InName))
+    by_test : (t : Bool) → is_name_byte b ≡ t → walked bs InName (prefix_len is_name_byte bs) InName →
+        walked (b ∷ bs) InName (cond t (1 + prefix_len is_name_byte bs) 0) InName
+    by_test true e w = rw (e, w, one-add (prefix_len is_name_byte bs))
+        (moved_first (prefix_len is_name_byte bs) (colon_from (drop (prefix_len is_name_byte bs) bs) InName))
     by_test false e w = unmoved (colon_from (b ∷ bs) InName)
 
 -- a first byte of a name is walked over as a later one

@@ -35,11 +35,13 @@ several : content_of (codes "A;B=1;C=2,3;B=4:v") ≡ parts (codes "A") (codes ";
 several = refl
 
 -- The value holds any bytes.
-any_value : content_of (codes "A:" ++ 0 ∷ 9 ∷ codes "\"x;" ++ 255 ∷ codes ":" ++ 127 ∷ []) ≡ parts (codes "A") [] (0 ∷ 9 ∷ codes "\"x;" ++ 255 ∷ codes ":" ++ 127 ∷ [])
+any_value : content_of (codes "A:" ++ 0 ∷ 9 ∷ codes "\"x;" ++ 255 ∷ codes ":" ++ 127 ∷ []) ≡ parts (codes "A") [] (0 ∷ 9 ∷ codes "\"x;" ++ 255
+    ∷ codes ":" ++ 127 ∷ [])
 any_value = refl
 
 -- HTAB and bytes past ASCII may stand in a parameter.
-tab_in_param : content_of (codes "A;B=" ++ 9 ∷ 195 ∷ 169 ∷ codes ";C=\"" ++ 9 ∷ 255 ∷ codes "\":v") ≡ parts (codes "A") (codes ";B=" ++ 9 ∷ 195 ∷ 169 ∷ codes ";C=\"" ++ 9 ∷ 255 ∷ codes "\"") (codes "v")
+tab_in_param : content_of (codes "A;B=" ++ 9 ∷ 195 ∷ 169 ∷ codes ";C=\"" ++ 9 ∷ 255 ∷ codes "\":v")
+    ≡ parts (codes "A") (codes ";B=" ++ 9 ∷ 195 ∷ 169 ∷ codes ";C=\"" ++ 9 ∷ 255 ∷ codes "\"") (codes "v")
 tab_in_param = refl
 
 equals_inside : content_of (codes "A;B=x=y:v") ≡ parts (codes "A") (codes ";B=x=y") (codes "v")

@@ -42,11 +42,13 @@ fold : unfolded (codes "ab" ++ 13 ∷ 10 ∷ codes " cd" ++ 10 ∷ 9 ∷ codes "
 fold = refl
 
 -- Several folds in a row, of which one joins nothing.
-folds_in_a_row : unfolded (codes "a" ++ 13 ∷ 10 ∷ codes " b" ++ 13 ∷ 10 ∷ codes " " ++ 13 ∷ 10 ∷ 9 ∷ codes "c" ++ 13 ∷ 10 ∷ codes "d") ≡ folded_line 1 (codes "abc") ∷ line 5 (codes "d") ∷ []
+folds_in_a_row : unfolded (codes "a" ++ 13 ∷ 10 ∷ codes " b" ++ 13 ∷ 10 ∷ codes " " ++ 13 ∷ 10 ∷ 9 ∷ codes "c" ++ 13 ∷ 10 ∷ codes "d")
+    ≡ folded_line 1 (codes "abc") ∷ line 5 (codes "d") ∷ []
 folds_in_a_row = refl
 
 -- Only the first SPACE or HTAB of a fold is taken out.
-second_blank : unfolded (codes "a" ++ 10 ∷ codes " " ++ 9 ∷ codes " b" ++ 10 ∷ 9 ∷ 9 ∷ codes "c") ≡ folded_line 1 (codes "a" ++ 9 ∷ codes " b" ++ 9 ∷ codes "c") ∷ []
+second_blank : unfolded (codes "a" ++ 10 ∷ codes " " ++ 9 ∷ codes " b" ++ 10 ∷ 9 ∷ 9 ∷ codes "c") ≡ folded_line 1 (codes "a" ++ 9 ∷ codes " b" ++ 9 ∷ codes "c")
+    ∷ []
 second_blank = refl
 
 -- An empty line goes on as others do, and its number is its own.
@@ -66,7 +68,8 @@ as_they_came : unfolded (codes "a" ++ 13 ∷ 13 ∷ 10 ∷ codes " " ++ 10 ∷ c
 as_they_came = refl
 
 -- A CR that a fold joins to an LF ends nothing either.
-carriage_before_fold : unfolded (codes "a" ++ 13 ∷ 10 ∷ codes " " ++ 13 ∷ 13 ∷ 10 ∷ codes " " ++ 10 ∷ codes " b") ≡ folded_line 1 (codes "a" ++ 13 ∷ codes "b") ∷ []
+carriage_before_fold : unfolded (codes "a" ++ 13 ∷ 10 ∷ codes " " ++ 13 ∷ 13 ∷ 10 ∷ codes " " ++ 10 ∷ codes " b") ≡ folded_line 1 (codes "a" ++ 13 ∷ codes "b")
+    ∷ []
 carriage_before_fold = refl
 
 -- A fold inside a character of two bytes.
@@ -86,7 +89,8 @@ half_a_mark : unfolded (239 ∷ 187 ∷ codes "A") ≡ line 1 (239 ∷ 187 ∷ c
 half_a_mark = refl
 
 -- A second byte order mark is a part of its line.
-second_mark : unfolded (239 ∷ 187 ∷ 191 ∷ 239 ∷ 187 ∷ 191 ∷ codes "a" ++ 10 ∷ 239 ∷ 187 ∷ 191 ∷ codes "b") ≡ line 1 (239 ∷ 187 ∷ 191 ∷ codes "a") ∷ line 2 (239 ∷ 187 ∷ 191 ∷ codes "b") ∷ []
+second_mark : unfolded (239 ∷ 187 ∷ 191 ∷ 239 ∷ 187 ∷ 191 ∷ codes "a" ++ 10 ∷ 239 ∷ 187 ∷ 191 ∷ codes "b") ≡ line 1 (239 ∷ 187 ∷ 191 ∷ codes "a")
+    ∷ line 2 (239 ∷ 187 ∷ 191 ∷ codes "b") ∷ []
 second_mark = refl
 
 -- A file that begins with SPACE or HTAB begins with a fold.

@@ -8,7 +8,8 @@ use Rattle.ics_text.proofs.BytesLemmas.{plain-no_sign}
 use Rattle.ics_text.proofs.Parameters.{others_text, text_of, pieces-params, pieces-values, without_quotes-value, name-part, values-part}
 
 -- a value begins with a quote exactly where it has quotes
-begins-value : (quoted : Bool) (bytes : List ℕ) → IsValue (record { quoted = quoted; bytes = bytes }) → begins (λ b. b == 34) (value_text (record { quoted = quoted; bytes = bytes })) ≡ quoted
+begins-value : (quoted : Bool) (bytes : List ℕ) → IsValue (record { quoted = quoted; bytes = bytes }) →
+    begins (λ b. b == 34) (value_text (record { quoted = quoted; bytes = bytes })) ≡ quoted
 begins-value true bytes ok = refl
 begins-value false [] ok = refl
 begins-value false (b ∷ bs) ok = (plain-no_sign b (and_parts (is_plain_byte b) (list_all is_plain_byte bs) ok).0).quote

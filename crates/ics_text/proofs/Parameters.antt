@@ -1,12 +1,14 @@
 -- The search for a parameter finds the first value of the first parameter of its name.
-use Rattle.std.proofs.Common.{◌≡◌, ◌≢◌, cond, ℕ, ◌-◌, Bool, true, false, ◌==◌, ◌&&◌, List, [], ◌∷◌, ◌++◌, length, drop, map, refl, sym, ap, ◌∙◌, append_assoc, length-append, arith}
+use Rattle.std.proofs.Common.{◌≡◌, ◌≢◌, cond, ℕ, ◌-◌, Bool, true, false, ◌==◌, ◌&&◌, List, [], ◌∷◌, ◌++◌, length, drop, map, refl, sym, ap, ◌∙◌, append_assoc}
+use Rattle.std.proofs.Common.{length-append, arith}
 use Rattle.std.specs.List.{flat_map, AllByRecursion, list_all, take_while, prefix_len}
 use Rattle.std.proofs.lemmas.List.{append-nil}
 use Rattle.std.proofs.lemmas.Bool.{and_parts, and_right}
 use Rattle.std.proofs.Math.Seq.{take-append_seam, drop-append_seam}
 use Rattle.ics_text.specs.Bytes.{comma, equals, is_name_byte, is_quoted_byte, is_plain_byte}
 use Rattle.ics_text.specs.Unfolded.{onto_first}
-use Rattle.ics_text.specs.ContentLines.{Value, Param, value_text, params_text, IsValue, IsParam, IsParams, first_value, pieces, turned, without_quotes, after_name, first_of_text, value_among, param_of}
+use Rattle.ics_text.specs.ContentLines.{Value, Param, value_text, params_text, IsValue, IsParam, IsParams, first_value, pieces, turned, without_quotes}
+use Rattle.ics_text.specs.ContentLines.{after_name, first_of_text, value_among, param_of}
 use Rattle.ics_text.proofs.BytesLemmas.{quoted-no_quote, plain-no_sign, name-no_quote, name-no_semicolon}
 use Rattle.ics_text.proofs.Parting.{prefix_len-front}
 
@@ -67,7 +69,8 @@ passes-run sep ok no_quote no_sep (b ∷ bs) h =
     passes-both sep (b ∷ []) bs (passes-one sep b (no_quote b parts.0) (no_sep b parts.0)) (passes-run sep ok no_quote no_sep bs parts.1)
 
 -- between quotes nothing parts, and the second quote ends that
-in_quotes : (sep : ℕ) (bs rest : List ℕ) → list_all is_quoted_byte bs ≡ true → pieces sep true (bs ++ 34 ∷ rest) ≡ in_front (bs ++ 34 ∷ []) (pieces sep false rest)
+in_quotes : (sep : ℕ) (bs rest : List ℕ) → list_all is_quoted_byte bs ≡ true →
+    pieces sep true (bs ++ 34 ∷ rest) ≡ in_front (bs ++ 34 ∷ []) (pieces sep false rest)
 in_quotes sep [] rest h = rw (and_right (34 == sep) false refl) (in_front-one 34 (pieces sep false rest))
 in_quotes sep (b ∷ bs) rest h =
     let parts = and_parts (is_quoted_byte b) (list_all is_quoted_byte bs) h in
@@ -85,7 +88,8 @@ semicolon-parts = record { no_quote = refl; not_plain = λ b h. (plain-no_sign b
 comma-parts : Parts 44
 comma-parts = record { no_quote = refl; not_plain = λ b h. (plain-no_sign b h).comma }
 
-passes-value : (sep : ℕ) → Parts sep → (quoted : Bool) (bytes : List ℕ) → IsValue (record { quoted = quoted; bytes = bytes }) → Passes sep (value_text (record { quoted = quoted; bytes = bytes }))
+passes-value : (sep : ℕ) → Parts sep → (quoted : Bool) (bytes : List ℕ) → IsValue (record { quoted = quoted; bytes = bytes }) →
+    Passes sep (value_text (record { quoted = quoted; bytes = bytes }))
 passes-value sep p false bytes ok = passes-run sep is_plain_byte (λ b h. (plain-no_sign b h).quote) p.not_plain bytes ok
 passes-value sep p true bytes ok = record {
   on = λ rest.
@@ -120,17 +124,20 @@ passes-text p ok =
 pub pieces-params : (ps : List Param) → AllByRecursion IsParam ps → pieces 59 false (params_text ps) ≡ [] ∷ map text_of ps
 pieces-params [] ok = refl
 pieces-params (p ∷ ps) ok =
-    ap (λ (t : List (List ℕ)). [] ∷ t) ((passes-text p ok.0).on (params_text ps) ∙ ap (in_front (text_of p)) (pieces-params ps ok.1) ∙ ap (λ t. t ∷ map text_of ps) (append-nil (text_of p)))
+    ap (λ (t : List (List ℕ)). [] ∷ t) ((passes-text p ok.0).on (params_text ps) ∙ ap (in_front (text_of p)) (pieces-params ps ok.1)
+    ∙ ap (λ t. t ∷ map text_of ps) (append-nil (text_of p)))
 
 -- the pieces of the values are the values
-pub pieces-values : (v : Value) (vs : List Value) → IsValue v → AllByRecursion IsValue vs → pieces 44 false (value_text v ++ others_text vs) ≡ value_text v ∷ map value_text vs
+pub pieces-values : (v : Value) (vs : List Value) → IsValue v → AllByRecursion IsValue vs →
+    pieces 44 false (value_text v ++ others_text vs) ≡ value_text v ∷ map value_text vs
 pieces-values v [] ok more = (passes-value 44 comma-parts v.quoted v.bytes ok).on [] ∙ ap (λ (t : List ℕ). t ∷ []) (append-nil (value_text v))
 pieces-values v (w ∷ ws) ok more =
     (passes-value 44 comma-parts v.quoted v.bytes ok).on (others_text (w ∷ ws))
     ∙ ap (λ (ts : List (List ℕ)). in_front (value_text v) ([] ∷ ts)) (pieces-values w ws more.0 more.1)
     ∙ ap (λ (t : List ℕ). t ∷ map value_text (w ∷ ws)) (append-nil (value_text v))
 
-pub without_quotes-value : (quoted : Bool) (bytes : List ℕ) → IsValue (record { quoted = quoted; bytes = bytes }) → without_quotes (value_text (record { quoted = quoted; bytes = bytes })) ≡ bytes
+pub without_quotes-value : (quoted : Bool) (bytes : List ℕ) → IsValue (record { quoted = quoted; bytes = bytes }) →
+    without_quotes (value_text (record { quoted = quoted; bytes = bytes })) ≡ bytes
 without_quotes-value true bytes ok =
     let inner : length (34 ∷ (bytes ++ 34 ∷ [])) - 2 ≡ length bytes = omega (arith, length-append bytes (34 ∷ [])) in
     rw inner (take-append_seam bytes (34 ∷ []))
@@ -139,11 +146,13 @@ without_quotes-value false (b ∷ bs) ok = rw ((plain-no_sign b (and_parts (is_p
 
 -- the name of a parameter ends at the equals sign
 name-ends : (p : Param) → IsParam p → prefix_len is_name_byte (text_of p) ≡ length p.name
-name-ends p ok = rw (append_assoc p.name (61 ∷ value_text p.first) (others_text p.others)) (prefix_len-front is_name_byte p.name 61 (value_text p.first ++ others_text p.others) ok.name.bytes refl)
+name-ends p ok = rw (append_assoc p.name (61 ∷ value_text p.first) (others_text p.others))
+    (prefix_len-front is_name_byte p.name 61 (value_text p.first ++ others_text p.others) ok.name.bytes refl)
 
 pub name-part : (p : Param) → IsParam p → take_while is_name_byte (text_of p) ≡ p.name
 name-part p ok =
-    rw (name-ends p ok, append_assoc p.name (61 ∷ value_text p.first) (others_text p.others)) (take-append_seam p.name (61 ∷ value_text p.first ++ others_text p.others))
+    rw (name-ends p ok, append_assoc p.name (61 ∷ value_text p.first) (others_text p.others))
+    (take-append_seam p.name (61 ∷ value_text p.first ++ others_text p.others))
 
 pub values-part : (p : Param) → IsParam p → drop 1 (after_name (text_of p)) ≡ value_text p.first ++ others_text p.others
 values-part p ok =

@@ -1,5 +1,6 @@
 -- The parts of a content line as slices.
-use Rattle.std.proofs.Common.{◌≡◌, ℕ, ◌+◌, ◌-◌, ◌<◌, ◌≤◌, Bool, true, false, List, [], ◌∷◌, ◌++◌, length, take, drop, refl, sym, ap, ◌∙◌, arith, append_assoc, Option, Some, None, subst, length-append, one-add}
+use Rattle.std.proofs.Common.{◌≡◌, ℕ, ◌+◌, ◌-◌, ◌<◌, ◌≤◌, Bool, true, false, List, [], ◌∷◌, ◌++◌, length, take, drop, refl, sym, ap, ◌∙◌, arith, append_assoc}
+use Rattle.std.proofs.Common.{Option, Some, None, subst, length-append, one-add}
 use Rattle.std.specs.Prelude.{option_map}
 use Rattle.std.specs.List.{list_all, prefix_len}
 use Rattle.std.proofs.lemmas.Bool.{and_parts}
@@ -17,10 +18,12 @@ prefix_len-front p [] y ys h n = rw n refl
 prefix_len-front p (x ∷ xs) y ys h n = let parts = and_parts (p x) (list_all p xs) h in rw (parts.0, prefix_len-front p xs y ys parts.1 n) (one-add (length xs))
 
 -- the name ends where no byte of a name follows
-pub name-length : (name : List ℕ) (ps : List Param) (value : List ℕ) → list_all is_name_byte name ≡ true → prefix_len is_name_byte ((name ++ params_text ps) ++ 58 ∷ value) ≡ length name
+pub name-length : (name : List ℕ) (ps : List Param) (value : List ℕ) → list_all is_name_byte name ≡ true →
+    prefix_len is_name_byte ((name ++ params_text ps) ++ 58 ∷ value) ≡ length name
 name-length name [] value h = rw (append_assoc name [] (58 ∷ value)) (prefix_len-front is_name_byte name 58 value h refl)
 name-length name (p ∷ ps) value h =
-    subst (λ t. prefix_len is_name_byte t ≡ length name) (sym (append_assoc name (params_text (p ∷ ps)) (58 ∷ value))) (prefix_len-front is_name_byte name 59 _ h refl)
+    subst (λ t. prefix_len is_name_byte t ≡ length name) (sym (append_assoc name (params_text (p ∷ ps)) (58 ∷ value)))
+    (prefix_len-front is_name_byte name 59 _ h refl)
 
 -- the slices of a line that is spelled so
 pub record Sliced (line name params value : List ℕ) (len k : ℕ) : Type 0 where
@@ -30,7 +33,8 @@ pub record Sliced (line name params value : List ℕ) (len k : ℕ) : Type 0 whe
   pub params_are : take (k - len) (drop len line) ≡ params
   pub value_is : drop (k + 1) line ≡ value
 
-slices : (line name params value : List ℕ) (len k : ℕ) → line ≡ (name ++ params) ++ 58 ∷ value → len ≡ length name → k ≡ length (name ++ params) → Sliced line name params value len k
+slices : (line name params value : List ℕ) (len k : ℕ) → line ≡ (name ++ params) ++ 58 ∷ value → len ≡ length name → k ≡ length (name ++ params) →
+    Sliced line name params value len k
 slices line name params value len k e l c =
     let whole : (name ++ params) ++ 58 ∷ value ≡ name ++ (params ++ 58 ∷ value) = append_assoc name params (58 ∷ value) in
     let size : k ≡ length name + length params = c ∙ length-append name params in
@@ -41,7 +45,8 @@ slices line name params value len k e l c =
       within = omega (arith, ap length e, length-append (name ++ params) (58 ∷ value));
       name_is = rw (l, e, whole) (take-append_seam name (params ++ 58 ∷ value));
       params_are = rw rest (rw (l, e, whole) (rw (drop-append_seam name (params ++ 58 ∷ value)) (take-append_seam params (58 ∷ value))));
-      value_is = rw (after, e) (ap (drop (length ((name ++ params) ++ 58 ∷ []))) (sym (append_assoc (name ++ params) (58 ∷ []) value)) ∙ drop-append_seam ((name ++ params) ++ 58 ∷ []) value);
+      value_is = rw (after, e) (ap (drop (length ((name ++ params) ++ 58 ∷ []))) (sym (append_assoc (name ++ params) (58 ∷ []) value))
+          ∙ drop-append_seam ((name ++ params) ++ 58 ∷ []) value);
     }
 
 -- where the walk comes to the colon, the slices are the parts of a content line
@@ -109,7 +114,8 @@ not_reached line name behind c =
 
 -- the slices of what stands behind the name are slices of the line
 pub slices_behind : (line name behind : List ℕ) (k : ℕ) → CutBehind line name behind (Some k) →
-    ◌≡◌ {A = Parts} (record { name = name; params = take k behind; value = take (length behind - (k + 1)) (drop (k + 1) behind) }) (cut_at line (k + prefix_len is_name_byte line))
+    ◌≡◌ {A = Parts} (record { name = name; params = take k behind; value = take (length behind - (k + 1)) (drop (k + 1) behind) })
+    (cut_at line (k + prefix_len is_name_byte line))
 slices_behind line name behind k c =
     let len = prefix_len is_name_byte line in
     let between : k ≡ k + len - len = omega arith in

@@ -1,5 +1,6 @@
 -- The first piece, and those behind it.
-use Rattle.std.proofs.Common.{◌≡◌, ◌≢◌, ℕ, ◌+◌, Bool, true, false, ◌==◌, ◌&&◌, List, [], ◌∷◌, suc, refl, sym, ap, ◌∙◌, cond, Option, Some, None, add-one, inl, inr}
+use Rattle.std.proofs.Common.{◌≡◌, ◌≢◌, ℕ, ◌+◌, Bool, true, false, ◌==◌, ◌&&◌, List, [], ◌∷◌, suc, refl, sym, ap, ◌∙◌, cond, Option, Some, None, add-one, inl}
+use Rattle.std.proofs.Common.{inr}
 use Rattle.std.specs.Prelude.{not, option_map}
 use Rattle.std.proofs.lemmas.Bool.{eqb-true}
 use Rattle.std.proofs.lemmas.Bool.Decides.{eqb_tells}

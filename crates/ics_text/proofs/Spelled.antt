@@ -1,5 +1,6 @@
 -- A line leads to its colon exactly where it is spelled as a content line.
-use Rattle.std.proofs.Common.{◌≡◌, ◌≢◌, ℕ, suc, ◌+◌, Bool, true, false, List, [], ◌∷◌, ◌++◌, length, refl, sym, ap, ◌∙◌, append_assoc, add-one, Option, Some, None, subst, ◌==◌}
+use Rattle.std.proofs.Common.{◌≡◌, ◌≢◌, ℕ, suc, ◌+◌, Bool, true, false, List, [], ◌∷◌, ◌++◌, length, refl, sym, ap, ◌∙◌, append_assoc, add-one, Option, Some}
+use Rattle.std.proofs.Common.{None, subst, ◌==◌}
 use Rattle.std.specs.Prelude.{option_map, if◌then◌else◌}
 use Rattle.std.specs.List.{flat_map, AllByRecursion, list_all}
 use Rattle.std.proofs.lemmas.Bool.{eqb-true, and_parts}
@@ -33,7 +34,8 @@ Comes state rest text = colon_from (text ++ 58 ∷ rest) state ≡ Some (length 
 next : (state q : ScanState) (b : ℕ) (rest text : List ℕ) → step state b ≡ On q → Comes q rest text → Comes state rest (b ∷ text)
 next state q b rest text s c = rw (s, c, add-one) refl
 
-run : (p : ℕ → Bool) (state : ScanState) (stays : (b : ℕ) → p b ≡ true → step state b ≡ On state) (bs rest text : List ℕ) → list_all p bs ≡ true → Comes state rest text → Comes state rest (bs ++ text)
+run : (p : ℕ → Bool) (state : ScanState) (stays : (b : ℕ) → p b ≡ true → step state b ≡ On state) (bs rest text : List ℕ) → list_all p bs ≡ true →
+    Comes state rest text → Comes state rest (bs ++ text)
 run p state stays [] rest text h c = c
 run p state stays (b ∷ bs) rest text h c =
     let parts = and_parts (p b) (list_all p bs) h in
@@ -62,14 +64,16 @@ empty-ends rest [] [] c = c
 empty-ends rest [] (p ∷ ps) c = c
 empty-ends rest (v ∷ vs) ps c = c
 
-plain-comes : (bytes rest : List ℕ) (vs : List Parameter) (ps : List Param) → list_all is_plain_byte bytes ≡ true → Comes AfterQuotes rest (more vs ps) → Comes BeforeValue rest (bytes ++ more vs ps)
+plain-comes : (bytes rest : List ℕ) (vs : List Parameter) (ps : List Param) → list_all is_plain_byte bytes ≡ true → Comes AfterQuotes rest (more vs ps) →
+    Comes BeforeValue rest (bytes ++ more vs ps)
 plain-comes [] rest vs ps h c = empty-ends rest vs ps c
 plain-comes (b ∷ bs) rest vs ps h c =
     let parts = and_parts (is_plain_byte b) (list_all is_plain_byte bs) h in
     let first : step BeforeValue b ≡ On InPlain = rw (parts.0, (plain-no_sign b parts.0).quote) refl in
     next BeforeValue InPlain b rest (bs ++ more vs ps) first (run is_plain_byte InPlain stays-plain bs rest (more vs ps) parts.1 (plain-ends rest vs ps c))
 
-value-comes : (quoted : Bool) (bytes rest : List ℕ) (vs : List Parameter) (ps : List Param) → IsValue (record { quoted = quoted; bytes = bytes }) → Comes AfterQuotes rest (more vs ps) →
+value-comes : (quoted : Bool) (bytes rest : List ℕ) (vs : List Parameter) (ps : List Param) → IsValue (record { quoted = quoted; bytes = bytes }) →
+    Comes AfterQuotes rest (more vs ps) →
     Comes BeforeValue rest (value_text (record { quoted = quoted; bytes = bytes }) ++ more vs ps)
 value-comes false bytes rest vs ps h c = plain-comes bytes rest vs ps h c
 value-comes true bytes rest vs ps h c =
@@ -77,7 +81,8 @@ value-comes true bytes rest vs ps h c =
     (next BeforeValue InQuotes 34 rest (bytes ++ (34 ∷ more vs ps)) refl
     (run is_quoted_byte InQuotes stays-quotes bytes rest (34 ∷ more vs ps) h (next InQuotes AfterQuotes 34 rest (more vs ps) refl c)))
 
-body-comes : (name rest : List ℕ) (v : Parameter) (vs : List Parameter) (ps : List Param) → IsName name → IsValue v → Comes AfterQuotes rest (more vs ps) → Comes BeforeParam rest (body name v vs ps)
+body-comes : (name rest : List ℕ) (v : Parameter) (vs : List Parameter) (ps : List Param) → IsName name → IsValue v → Comes AfterQuotes rest (more vs ps) →
+    Comes BeforeParam rest (body name v vs ps)
 body-comes [] rest v vs ps n h c = absurd (n.some refl)
 body-comes (b ∷ bs) rest v vs ps n h c =
     let parts = and_parts (is_name_byte b) (list_all is_name_byte bs) n.bytes in
@@ -86,10 +91,12 @@ body-comes (b ∷ bs) rest v vs ps n h c =
     (run is_name_byte InParam stays-param bs rest (61 ∷ (value_text v ++ more vs ps)) parts.1
     (next InParam BeforeValue 61 rest (value_text v ++ more vs ps) refl (value-comes v.quoted v.bytes rest vs ps h c)))
 
-values-come : (rest : List ℕ) (vs : List Parameter) (ps : List Param) → AllByRecursion IsValue vs → Comes AfterQuotes rest (params_text ps) → Comes AfterQuotes rest (more vs ps)
+values-come : (rest : List ℕ) (vs : List Parameter) (ps : List Param) → AllByRecursion IsValue vs → Comes AfterQuotes rest (params_text ps) →
+    Comes AfterQuotes rest (more vs ps)
 values-come rest [] ps h c = c
 values-come rest (v ∷ vs) ps h c =
-    subst (Comes AfterQuotes rest) (sym (more-value v vs ps)) (next AfterQuotes BeforeValue 44 rest (value_text v ++ more vs ps) refl (value-comes v.quoted v.bytes rest vs ps h.0 (values-come rest vs ps h.1 c)))
+    subst (Comes AfterQuotes rest) (sym (more-value v vs ps))
+    (next AfterQuotes BeforeValue 44 rest (value_text v ++ more vs ps) refl (value-comes v.quoted v.bytes rest vs ps h.0 (values-come rest vs ps h.1 c)))
 
 params-come : (rest : List ℕ) (ps : List Param) → AllByRecursion IsParam ps → Comes AfterQuotes rest (params_text ps)
 params-come rest [] h = refl
@@ -107,7 +114,8 @@ comes [] rest ps n h = absurd (n.some refl)
 comes (b ∷ bs) rest ps n h =
     let parts = and_parts (is_name_byte b) (list_all is_name_byte bs) n.bytes in
     let first : step Start b ≡ On InName = rw parts.0 refl in
-    next Start InName b rest (bs ++ params_text ps) first (run is_name_byte InName stays-name bs rest (params_text ps) parts.1 (name-ends rest ps (params-come rest ps h)))
+    next Start InName b rest (bs ++ params_text ps) first
+    (run is_name_byte InName stays-name bs rest (params_text ps) parts.1 (name-ends rest ps (params-come rest ps h)))
 
 -- What the text from a place up to the colon is made of: bytes of what the place stands in, a value, values and parameters behind them.
 pub record Tail : Type 0 where
@@ -172,7 +180,8 @@ no_value q e = cc
 
 back-Start : (b : ℕ) (q : ScanState) (t : Tail) → step Start b ≡ On q → Back Start b t q
 back-Start b q t s = by_test (is_name_byte b) (On InName) Refused q s
-    (λ h e. subst (Back Start b t) (onto InName q e) (λ ok. (record t { bytes = b ∷ t.bytes }, (record { some = nonempty b t.bytes; bytes = all-cons is_name_byte b t.bytes h ok.0 }, ok.1), refl)))
+    (λ h e. subst (Back Start b t) (onto InName q e)
+    (λ ok. (record t { bytes = b ∷ t.bytes }, (record { some = nonempty b t.bytes; bytes = all-cons is_name_byte b t.bytes h ok.0 }, ok.1), refl)))
     (λ h e. absurd (refused q e))
 
 -- the parameter that begins behind `;`
@@ -237,8 +246,12 @@ back-InPlain b q t s = by_test (is_plain_byte b) (On InPlain) (ends_value b) q s
 back-BeforeValue : (b : ℕ) (q : ScanState) (t : Tail) → step BeforeValue b ≡ On q → Back BeforeValue b t q
 unfolding Ends none
 back-BeforeValue b q t s = by_test (b == 34) (On InQuotes) (in_value b) q s
-    (λ h e. subst (Back BeforeValue b t) (onto InQuotes q e) (λ ok.
-    (record t { first = record { quoted = true; bytes = t.bytes } }, (ok.0, ok.1), ap (λ r. 34 ∷ r) (append_assoc t.bytes (34 ∷ []) (more t.vs t.ps)) ∙ ap (λ c. c ∷ tail_text InQuotes t) (sym (eqb-true b 34 h)))))
+    (λ h e. subst (Back BeforeValue b t) (onto InQuotes q e) (λ ok. (
+      record t { first = record { quoted = true; bytes = t.bytes } },
+      (ok.0, ok.1),
+      ap (λ r. 34 ∷ r) (append_assoc t.bytes (34 ∷ []) (more t.vs t.ps))
+          ∙ ap (λ c. c ∷ tail_text InQuotes t) (sym (eqb-true b 34 h)),
+    )))
     (λ h e. by_test (is_plain_byte b) (On InPlain) (ends_value b) q e
     (λ k e. subst (Back BeforeValue b t) (onto InPlain q e) (λ ok.
     (record t { first = record { quoted = false; bytes = b ∷ t.bytes } }, (all-cons is_plain_byte b t.bytes k ok.0, ok.1), refl)))
@@ -248,7 +261,8 @@ back-BeforeValue b q t s = by_test (b == 34) (On InQuotes) (in_value b) q s
 
 back-InQuotes : (b : ℕ) (q : ScanState) (t : Tail) → step InQuotes b ≡ On q → Back InQuotes b t q
 back-InQuotes b q t s = by_test (b == 34) (On AfterQuotes) _ q s
-    (λ h e. subst (Back InQuotes b t) (onto AfterQuotes q e) (λ ok. (record t { bytes = [] }, (refl, ok), ap (λ c. c ∷ tail_text AfterQuotes t) (sym (eqb-true b 34 h)))))
+    (λ h e. subst (Back InQuotes b t) (onto AfterQuotes q e)
+    (λ ok. (record t { bytes = [] }, (refl, ok), ap (λ c. c ∷ tail_text AfterQuotes t) (sym (eqb-true b 34 h)))))
     (λ h e. by_test (is_quoted_byte b) (On InQuotes) Refused q e
     (λ k e. subst (Back InQuotes b t) (onto InQuotes q e) (λ ok. (record t { bytes = b ∷ t.bytes }, (all-cons is_quoted_byte b t.bytes k ok.0, ok.1), refl)))
     (λ k e. absurd (refused q e)))
@@ -301,7 +315,8 @@ stop BeforeParam b s = for_value (is_name_byte b) (On InParam) Refused s (λ h e
 stop InParam b s = for_value (is_name_byte b) (On InParam) (if b == 61 then On BeforeValue else Refused) s
     (λ h e. absurd (on_no InParam e))
     (λ h e. for_value (b == 61) (On BeforeValue) Refused e (λ k e. absurd (on_no BeforeValue e)) (λ k e. absurd (refused_no e)))
-stop BeforeValue b s = for_value (b == 34) (On InQuotes) (in_value b) s (λ h e. absurd (on_no InQuotes e)) (λ h e. (value-colon b e, (nothing, (refl, no_rest), refl)))
+stop BeforeValue b s = for_value (b == 34) (On InQuotes) (in_value b) s (λ h e. absurd (on_no InQuotes e))
+    (λ h e. (value-colon b e, (nothing, (refl, no_rest), refl)))
 stop InPlain b s = (value-colon b s, (nothing, (refl, no_rest), refl))
 stop InQuotes b s = for_value (b == 34) (On AfterQuotes) (if is_quoted_byte b then On InQuotes else Refused) s
     (λ h e. absurd (on_no AfterQuotes e))
@@ -315,7 +330,8 @@ pub record Found (state : ScanState) (bs : List ℕ) (k : ℕ) : Type 0 where
   pub text : bs ≡ tail_text state tail ++ 58 ∷ behind
   pub count : k ≡ length (tail_text state tail)
 
-came : (state : ScanState) (b : ℕ) (bs : List ℕ) (k : ℕ) (q : ScanState) (o : Option ℕ) → step state b ≡ On q → colon_from bs q ≡ o → option_map (λ n. n + 1) o ≡ Some k →
+came : (state : ScanState) (b : ℕ) (bs : List ℕ) (k : ℕ) (q : ScanState) (o : Option ℕ) → step state b ≡ On q → colon_from bs q ≡ o →
+    option_map (λ n. n + 1) o ≡ Some k →
     ((j : ℕ) → colon_from bs q ≡ Some j → Found q bs j) → Found state (b ∷ bs) k
 came state b bs k q None s c e ih = cc
 came state b bs k q (Some j) s c e ih =

@@ -32,7 +32,8 @@ at_end b (c ∷ cs) ne e h =
     rw is_lf (refl, behind-other 0 b (10 ∷ cs) (physical_lines cs) ne (rw is_lf at h).1)
 
 -- a byte in front, by what it does: it ends the first line, or belongs to that end, or to the line
-in_front : (b : ℕ) (bs : List ℕ) (ends cr_lf : Bool) → (ends ≡ true → b ≡ 10) → (ends ≡ false → (b == 10) ≡ false) → (cr_lf ≡ true → begins (λ c. c == lf) bs ≡ true) →
+in_front : (b : ℕ) (bs : List ℕ) (ends cr_lf : Bool) → (ends ≡ true → b ≡ 10) → (ends ≡ false → (b == 10) ≡ false) →
+    (cr_lf ≡ true → begins (λ c. c == lf) bs ≡ true) →
     Behind 0 bs (physical_lines bs) → Behind 0 (b ∷ bs) (cond ends ([] ∷ physical_lines bs) (cond cr_lf (physical_lines bs) (onto_first b (physical_lines bs))))
 in_front b bs true cr_lf is_lf no_lf next_lf h = rw (is_lf refl) (refl, behind-lf 0 bs (physical_lines bs) h)
 in_front b bs false true is_lf no_lf next_lf h = at_end b bs (no_lf refl) (next_lf refl) h
@@ -41,9 +42,11 @@ in_front b bs false false is_lf no_lf next_lf h = onto b bs (physical_lines bs) 
 behind-physical : (bs : List ℕ) → Behind 0 bs (physical_lines bs)
 behind-physical [] = (refl, tt)
 behind-physical (b ∷ bs) =
-    in_front b bs (b == lf) ((b == cr) && begins (λ c. c == lf) bs) (eqb-true b 10) (λ h. h) (λ h. (and_parts (b == cr) (begins (λ c. c == lf) bs) h).1) (behind-physical bs)
+    in_front b bs (b == lf) ((b == cr) && begins (λ c. c == lf) bs) (eqb-true b 10) (λ h. h) (λ h. (and_parts (b == cr) (begins (λ c. c == lf) bs) h).1)
+    (behind-physical bs)
 
-numbered-stand : (file : List ℕ) (k n : ℕ) (lines : List (List ℕ)) → n ≡ suc k → Behind k (without_mark file) lines → AllByRecursion (StandsIn file) (numbered n lines)
+numbered-stand : (file : List ℕ) (k n : ℕ) (lines : List (List ℕ)) → n ≡ suc k → Behind k (without_mark file) lines →
+    AllByRecursion (StandsIn file) (numbered n lines)
 numbered-stand file k n [] e h = tt
 numbered-stand file k n (line ∷ lines) e h =
     let before : n - 1 ≡ k = omega arith in
@@ -65,7 +68,8 @@ joined-stand : (file : List ℕ) (lines : List Line) → AllByRecursion (StandsA
 joined-stand file [] h = tt
 joined-stand file (line ∷ lines) h = by_fold (goes_on lines) (joined lines) h.0 (joined-stand file lines h.1)
   where
-    by_fold : (t : Bool) (later : List Line) → StandsAlone file line → AllByRecursion (StandsAlone file) later → AllByRecursion (StandsAlone file) (cond t (attach line later) (line ∷ later))
+    by_fold : (t : Bool) (later : List Line) → StandsAlone file line → AllByRecursion (StandsAlone file) later →
+        AllByRecursion (StandsAlone file) (cond t (attach line later) (line ∷ later))
     by_fold true later one more = (λ alone. cc, drop-stand file later more)
     by_fold false later one more = (one, more)
 
@@ -73,7 +77,8 @@ filter-stand : (file : List ℕ) (lines : List Line) → AllByRecursion (StandsA
 filter-stand file [] h = tt
 filter-stand file (line ∷ lines) h = by_test (is_line line) (filter is_line lines) h.0 (filter-stand file lines h.1)
   where
-    by_test : (t : Bool) (later : List Line) → StandsAlone file line → AllByRecursion (StandsAlone file) later → AllByRecursion (StandsAlone file) (cond t (line ∷ later) later)
+    by_test : (t : Bool) (later : List Line) → StandsAlone file line → AllByRecursion (StandsAlone file) later →
+        AllByRecursion (StandsAlone file) (cond t (line ∷ later) later)
     by_test true later one more = (one, more)
     by_test false later one more = more
 
@@ -82,4 +87,5 @@ unfolded-stand file =
     let bytes : List ℕ = without_mark file in
     let lines : List Line = numbered 1 (physical_lines bytes) in
     All-from_recursion (StandsAlone file) (unfolded file)
-    (filter-stand file (joined lines) (joined-stand file lines (numbered-alone file lines (numbered-stand file 0 1 (physical_lines bytes) refl (behind-physical bytes)))))
+    (filter-stand file (joined lines)
+    (joined-stand file lines (numbered-alone file lines (numbered-stand file 0 1 (physical_lines bytes) refl (behind-physical bytes)))))

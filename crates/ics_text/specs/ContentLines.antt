@@ -1,5 +1,6 @@
 -- What a content line is, and what its parameters say (RFC 5545, section 3.1).
-use Rattle.std.specs.Prelude.{◌≡◌, ◌≢◌, ℕ, ◌+◌, ◌-◌, Bool, true, false, ◌&&◌, not, ◌==◌, List, [], ◌∷◌, ◌++◌, length, take, drop, Option, Some, None, option_map, if◌then◌else◌}
+use Rattle.std.specs.Prelude.{◌≡◌, ◌≢◌, ℕ, ◌+◌, ◌-◌, Bool, true, false, ◌&&◌, not, ◌==◌, List, [], ◌∷◌, ◌++◌, length, take, drop, Option, Some, None}
+use Rattle.std.specs.Prelude.{option_map, if◌then◌else◌}
 use Rattle.std.specs.List.{flat_map, AllByRecursion, list_all, take_while, prefix_len}
 use Rattle.ics_text.specs.ScanSteps.{colon_from}
 use Rattle.ics_text.specs.declared.scan_state.ScanState.TheVariants.{Start}

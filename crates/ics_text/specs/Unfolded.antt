@@ -1,5 +1,6 @@
 -- The lines of a file, unfolded (RFC 5545, section 3.1).
-use Rattle.std.specs.Prelude.{◌≡◌, ℕ, zero, suc, length, take, ◌+◌, ◌-◌, ◌<◌, ◌≤◌, Bool, true, false, ◌&&◌, not, ◌==◌, nat_eq, List, [], ◌∷◌, ◌++◌, drop, filter, if◌then◌else◌}
+use Rattle.std.specs.Prelude.{◌≡◌, ℕ, zero, suc, length, take, ◌+◌, ◌-◌, ◌<◌, ◌≤◌, Bool, true, false, ◌&&◌, not, ◌==◌, nat_eq, List, [], ◌∷◌, ◌++◌, drop}
+use Rattle.std.specs.Prelude.{filter, if◌then◌else◌}
 use Rattle.std.specs.List.{starts_with}
 use Rattle.ics_text.specs.Bytes.{lf, cr, is_blank, begins, is_empty}
 

@@ -1,5 +1,6 @@
 -- A list of a rule has no number exactly where its part is absent.
-use Rattle.std.proofs.Common.{◌≡◌, ℕ, zero, suc, Bool, true, false, ◌&&◌, ◌||◌, ◌==◌, List, [], ◌∷◌, length, Option, Some, None, refl, sym, ap, ◌∙◌, arith, ◌/◌, ◌%◌, get_or, eqb-true, eq-eqb, ap₂}
+use Rattle.std.proofs.Common.{◌≡◌, ℕ, zero, suc, Bool, true, false, ◌&&◌, ◌||◌, ◌==◌, List, [], ◌∷◌, length, Option, Some, None, refl, sym, ap, ◌∙◌, arith}
+use Rattle.std.proofs.Common.{◌/◌, ◌%◌, get_or, eqb-true, eq-eqb, ap₂}
 use Rattle.std.specs.Prelude.{not, min, is_some, fold, nat_lt}
 use Rattle.std.specs.List.{list_any, list_all}
 use Rattle.std.specs.Option.{option_map_or}
@@ -24,7 +25,8 @@ use Rattle.ics_values.specs.RuleParts.{RuleParts, every}
 use Rattle.ics_values.specs.RuleTexts.{Part, pieces, has_part, none_twice, are_parts, is_part, fits_list, weekday_of, day_text, number_before}
 use Rattle.ics_values.specs.Rules.{rule_said}
 use Rattle.ics_values.specs.RuleLaws.{value_of, items_of, has_place, has_wide_place, is_place, is_side, is_weekday, is_numbered, is_day, lists_nothing, Says}
-use Rattle.ics_values.proofs.SaysLemmas.{Sets, part_said, sets_seconds, sets_minutes, sets_hours, sets_months, sets_weekdays, sets_month_days, sets_weeks, sets_year_days, sets_positions}
+use Rattle.ics_values.proofs.SaysLemmas.{Sets, part_said, sets_seconds, sets_minutes, sets_hours, sets_months, sets_weekdays, sets_month_days, sets_weeks}
+use Rattle.ics_values.proofs.SaysLemmas.{sets_year_days, sets_positions}
 use Rattle.ics_values.proofs.RuleSays.{says, value_there, passes_day, items_fit, has_none}
 
 -- a set with a member is not empty
@@ -46,7 +48,8 @@ not_none_wide ws n h = by_test (sets.is_empty_wide ws) refl
   where
     by_test : (t : Bool) → sets.is_empty_wide ws ≡ t → t ≡ false
     by_test false e = refl
-    by_test true e = absurd (false≢true (sym (none_in_words ws (n / 64) (n % 64) e) ∙ (and_parts (nat_lt n 384) (contains (get_or ws (n / 64) 0) (n % 64)) h).1))
+    by_test true e = absurd (false≢true (sym (none_in_words ws (n / 64) (n % 64) e)
+        ∙ (and_parts (nat_lt n 384) (contains (get_or ws (n / 64) 0) (n % 64)) h).1))
 
 -- of two tests one fails
 fails_front : (a b : Bool) → a ≡ false → (a && b) ≡ false
@@ -96,10 +99,12 @@ abbrev own_number : List ℕ → ℕ
 own_number item = number_of (unsigned item)
 
 own_place : (item : List ℕ) → is_place (own_side item) (own_number item) item ≡ true
-own_place item = and_from (is_side (own_side item) (begins is_minus item)) (own_number item == own_number item) (is_side_by (begins is_minus item)) (same (own_number item))
+own_place item = and_from (is_side (own_side item) (begins is_minus item)) (own_number item == own_number item) (is_side_by (begins is_minus item))
+    (same (own_number item))
 
 -- A list of the rule is empty exactly where its part is absent, if it is empty without the part and has the first of its items.
-by_items : (list : ListName) (ps : List Part) (empty : Bool) → (value_of (part.List list) ps ≡ None → empty ≡ true) → ((i : List ℕ) (more : List (List ℕ)) → items_of list ps ≡ i ∷ more → empty ≡ false)
+by_items : (list : ListName) (ps : List Part) (empty : Bool) → (value_of (part.List list) ps ≡ None → empty ≡ true) →
+    ((i : List ℕ) (more : List (List ℕ)) → items_of list ps ≡ i ∷ more → empty ≡ false)
     → empty ≡ not (has_part (part.List list) ps)
 by_items list ps empty absent present = by_value (value_of (part.List list) ps) refl ∙ ap not (value_there (part.List list) ps)
   where
@@ -112,7 +117,8 @@ by_items list ps empty absent present = by_value (value_of (part.List list) ps) 
     by_value (Some v) k = by_split v (pieces 44 v) refl k
 
 -- what a part that is absent leaves
-left : {A : Type 0} (list : ListName) (read : RuleParts → A) (step : A → List ℕ → A) → Sets (part.List list) read (λ v x. fold step x (pieces 44 v)) → (ps : List Part) → none_twice ps ≡ true
+left : {A : Type 0} (list : ListName) (read : RuleParts → A) (step : A → List ℕ → A) → Sets (part.List list) read (λ v x. fold step x (pieces 44 v)) →
+    (ps : List Part) → none_twice ps ≡ true
     → value_of (part.List list) ps ≡ None → read (rule_said ps) ≡ read (every Yearly)
 left list read step set ps once none =
     part_said (part.List list) read (λ v x. fold step x (pieces 44 v)) set ps once (every Yearly)
@@ -154,22 +160,29 @@ absent ps h list = by_list list
     s : Says ps (rule_said ps)
     s = says ps h
 
-    numbers : (l : ListName) (read : RuleParts → ℕ) (step : ℕ → List ℕ → ℕ) → Sets (part.List l) read (λ v x. fold step x (pieces 44 v)) → read (every Yearly) ≡ 0 → (number : List ℕ → ℕ)
-        → ((n : ℕ) → contains (read (rule_said ps)) n ≡ list_any (λ item. n == number item) (items_of l ps)) → sets.is_empty (read (rule_said ps)) ≡ not (has_part (part.List l) ps)
+    numbers : (l : ListName) (read : RuleParts → ℕ) (step : ℕ → List ℕ → ℕ) → Sets (part.List l) read (λ v x. fold step x (pieces 44 v)) →
+        read (every Yearly) ≡ 0 → (number : List ℕ → ℕ)
+        → ((n : ℕ) → contains (read (rule_said ps)) n ≡ list_any (λ item. n == number item) (items_of l ps)) →
+        sets.is_empty (read (rule_said ps)) ≡ not (has_part (part.List l) ps)
     numbers l read step set zeros number listed =
         by_items l ps (sets.is_empty (read (rule_said ps))) (λ none. ap sets.is_empty (left l read step set ps parts.1 none ∙ zeros))
-        (λ i more e. not_none (read (rule_said ps)) (number i) (listed (number i) ∙ first_passes (λ item. number i == number item) (items_of l ps) i more e (same (number i))))
+        (λ i more e. not_none (read (rule_said ps)) (number i) (listed (number i)
+        ∙ first_passes (λ item. number i == number item) (items_of l ps) i more e (same (number i))))
 
-    places : (l : ListName) (read : RuleParts → Ordinals) (step : Ordinals → List ℕ → Ordinals) → Sets (part.List l) read (λ v x. fold step x (pieces 44 v)) → read (every Yearly) ≡ no_ordinals
-        → ((side : Side) (n : ℕ) → has_place side n (read (rule_said ps)) ≡ list_any (is_place side n) (items_of l ps)) → lists_none (read (rule_said ps)) ≡ not (has_part (part.List l) ps)
+    places : (l : ListName) (read : RuleParts → Ordinals) (step : Ordinals → List ℕ → Ordinals) → Sets (part.List l) read (λ v x. fold step x (pieces 44 v)) →
+        read (every Yearly) ≡ no_ordinals
+        → ((side : Side) (n : ℕ) → has_place side n (read (rule_said ps)) ≡ list_any (is_place side n) (items_of l ps)) →
+        lists_none (read (rule_said ps)) ≡ not (has_part (part.List l) ps)
     places l read step set zeros listed =
         by_items l ps (lists_none (read (rule_said ps))) (λ none. ap lists_none (left l read step set ps parts.1 none ∙ zeros))
         (λ i more e. not_none_place (own_side i) (own_number i) (read (rule_said ps))
         (listed (own_side i) (own_number i) ∙ first_passes (is_place (own_side i) (own_number i)) (items_of l ps) i more e (own_place i)))
 
-    wide_places : (l : ListName) (read : RuleParts → WideOrdinals) (step : WideOrdinals → List ℕ → WideOrdinals) → Sets (part.List l) read (λ v x. fold step x (pieces 44 v))
+    wide_places : (l : ListName) (read : RuleParts → WideOrdinals) (step : WideOrdinals → List ℕ → WideOrdinals) →
+        Sets (part.List l) read (λ v x. fold step x (pieces 44 v))
         → lists_none_wide (read (every Yearly)) ≡ true
-        → ((side : Side) (n : ℕ) → has_wide_place side n (read (rule_said ps)) ≡ list_any (is_place side n) (items_of l ps)) → lists_none_wide (read (rule_said ps)) ≡ not (has_part (part.List l) ps)
+        → ((side : Side) (n : ℕ) → has_wide_place side n (read (rule_said ps)) ≡ list_any (is_place side n) (items_of l ps)) →
+        lists_none_wide (read (rule_said ps)) ≡ not (has_part (part.List l) ps)
     wide_places l read step set zeros listed =
         by_items l ps (lists_none_wide (read (rule_said ps))) (λ none. ap lists_none_wide (left l read step set ps parts.1 none) ∙ zeros)
         (λ i more e. not_none_wide_place (own_side i) (own_number i) (read (rule_said ps))
@@ -186,4 +199,6 @@ absent ps h list = by_list list
     by_list BySetPos = wide_places BySetPos (λ r. r.positions) _ sets_positions refl s.positions
     by_list ByDay = by_items ByDay ps (lists_no_weekday (rule_said ps).weekdays)
         (λ none. ap lists_no_weekday (left ByDay (λ r. r.weekdays) _ sets_weekdays ps parts.1 none))
-        (λ i more e. day_listed ps (rule_said ps) s i more e (and_parts (fits_list ByDay i) (list_all (fits_list ByDay) more) (sym (ap (list_all (fits_list ByDay)) e) ∙ items_fit ByDay passes_day ps parts.0)).0)
+        (λ i more e. day_listed ps (rule_said ps) s i more e
+        (and_parts (fits_list ByDay i) (list_all (fits_list ByDay) more) (sym (ap (list_all (fits_list ByDay)) e)
+        ∙ items_fit ByDay passes_day ps parts.0)).0)

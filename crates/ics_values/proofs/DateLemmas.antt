@@ -39,7 +39,8 @@ parts y m d h =
     let p = by_tests 1 m 12 d (days_in_month (pos y) m) h in
     record { month_low = p.0; month_high = p.1; day_low = p.2; day_high = p.3 }
   where
-    by_tests : (one m twelve d last : ℕ) → (nat_le one m && nat_le m twelve && nat_le one d && nat_le d last) ≡ true → (one ≤ m) × (m ≤ twelve) × (one ≤ d) × (d ≤ last)
+    by_tests : (one m twelve d last : ℕ) → (nat_le one m && nat_le m twelve && nat_le one d && nat_le d last) ≡ true → (one ≤ m) × (m ≤ twelve) × (one ≤ d)
+        × (d ≤ last)
     by_tests one m twelve d last h = grind (arith, nat_tests)
 
 pub is_date-parts : (y m d : ℕ) → Parts y m d → is_date y m d ≡ true

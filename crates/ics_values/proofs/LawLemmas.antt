@@ -18,7 +18,8 @@ use Rattle.ics_values.proofs.DateLemmas.{parts, is_date-parts, day_number-days_f
 abbrev at : ℤ → ℕ → ℤ
 at day second = day *ℤ pos 86_400 +ℤ pos second
 
-in_time : (o p : Ordering) (d e : ℤ) (s t : ℕ) → s < 86_400 → t < 86_400 → MatchOrdering o (d <ℤ e) (d ≡ e) (e <ℤ d) → MatchOrdering p (s < t) (s ≡ t) (t < s) → MatchOrdering (ordering_then o p) (at d s <ℤ at e t) (at d s ≡ at e t) (at e t <ℤ at d s)
+in_time : (o p : Ordering) (d e : ℤ) (s t : ℕ) → s < 86_400 → t < 86_400 → MatchOrdering o (d <ℤ e) (d ≡ e) (e <ℤ d) → MatchOrdering p (s < t) (s ≡ t) (t < s) →
+    MatchOrdering (ordering_then o p) (at d s <ℤ at e t) (at d s ≡ at e t) (at e t <ℤ at d s)
 in_time Less p d e s t low high day second = omega (arith, ints)
 in_time Greater p d e s t low high day second = omega (arith, ints)
 in_time Equal Less d e s t low high day second = omega (arith, ints)
@@ -26,13 +27,22 @@ in_time Equal Equal d e s t low high day second = rw (day, second) refl
 in_time Equal Greater d e s t low high day second = omega (arith, ints)
 
 pub by_time : (a b : Local) → ordering_then (int_cmp a.day b.day) (nat_cmp a.second b.second) ≡ int_cmp (local_seconds a) (local_seconds b)
-by_time a b = int_cmp_is (local_seconds a) (local_seconds b) _ (in_time (int_cmp a.day b.day) (nat_cmp a.second b.second) a.day b.day a.second b.second a.second_in b.second_in (int_ranks a.day b.day) (ranks a.second b.second))
+by_time a b = int_cmp_is (local_seconds a) (local_seconds b) _
+    (in_time (int_cmp a.day b.day) (nat_cmp a.second b.second) a.day b.day a.second b.second a.second_in b.second_in (int_ranks a.day b.day)
+    (ranks a.second b.second))
 
 pub is_jiffs : (y m d : ℕ) → y ≤ 9999 → IsJiffsDate y m d
 is_jiffs y m d year = record {
   exists = (
-    (λ h. let p = parts y m d h in ((omega (arith, ints), omega (arith, ints)), (omega (arith, ints), omega (arith, ints)), (omega (arith, ints), omega (arith, ints)))),
-    (λ (h : IsDate (pos y) (pos m) (pos d)). is_date-parts y m d (record { month_low = omega (arith, ints, h.1.0); month_high = omega (arith, ints, h.1.1); day_low = omega (arith, ints, h.2.0); day_high = omega (arith, ints, h.2.1) })),
+    (λ h. let p = parts y m d h in
+        ((omega (arith, ints), omega (arith, ints)), (omega (arith, ints), omega (arith, ints)), (omega (arith, ints), omega (arith, ints)))),
+    (λ (h : IsDate (pos y) (pos m) (pos d)). is_date-parts y m d
+        (record {
+          month_low = omega (arith, ints, h.1.0);
+          month_high = omega (arith, ints, h.1.1);
+          day_low = omega (arith, ints, h.2.0);
+          day_high = omega (arith, ints, h.2.1);
+        })),
   );
   number = day_number-days_from_civil y m d;
 }

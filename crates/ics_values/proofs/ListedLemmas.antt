@@ -1,5 +1,6 @@
 -- A set to which the items of a list were added has the numbers that stand in the list, and its own.
-use Rattle.std.proofs.Common.{◌≡◌, ℕ, ◌<◌, ◌≤◌, ◌/◌, Bool, true, false, ◌&&◌, ◌||◌, ◌==◌, List, [], ◌∷◌, length, Option, Some, None, cond, refl, sym, ap, subst, ◌∙◌, inl, inr, get_or-set_same, get_or-set_other, arith}
+use Rattle.std.proofs.Common.{◌≡◌, ℕ, ◌<◌, ◌≤◌, ◌/◌, Bool, true, false, ◌&&◌, ◌||◌, ◌==◌, List, [], ◌∷◌, length, Option, Some, None, cond, refl, sym, ap}
+use Rattle.std.proofs.Common.{subst, ◌∙◌, inl, inr, get_or-set_same, get_or-set_other, arith}
 use Rattle.std.specs.Prelude.{not, fold, nat_le, is_some}
 use Rattle.std.specs.List.{list_any, list_all}
 use Rattle.std.proofs.Math.ListN.{length-set}
@@ -59,7 +60,8 @@ pub adds_number : (f : List ℕ → ℕ) (fits : List ℕ → Bool) → ((i : Li
     → Adds (λ s i. with_number (f i) s) (λ s. contains s n) (λ i. n == f i) fits (λ s. Unit {0})
 adds_number f fits small n = record { fine = λ s i h u. tt; adds = λ s i h u. contains-with_number s (f i) n (small i h) }
 
-place_added : (side : Side) (n k : ℕ) (item : List ℕ) (p : Ordinals) → k < 64 → has_place side n (with_ordinal (side_of item) k p) ≡ ((is_side side (begins is_minus item) && (n == k)) || has_place side n p)
+place_added : (side : Side) (n k : ℕ) (item : List ℕ) (p : Ordinals) → k < 64 →
+    has_place side n (with_ordinal (side_of item) k p) ≡ ((is_side side (begins is_minus item) && (n == k)) || has_place side n p)
 place_added side n k item p h = by_test side (begins is_minus item)
   where
     by_test : (s : Side) (b : Bool) → has_place s n (with_ordinal (cond b Back Front) k p) ≡ ((is_side s b && (n == k)) || has_place s n p)
@@ -122,15 +124,19 @@ and_false : (t : Bool) → (t && false) ≡ false
 and_false true = refl
 and_false false = refl
 
-pub adds_weekday : (d : Weekday) → Adds (λ w i. with_day (weekday_of (day_text i)) i w) (λ w. contains w.plain (monday_zero d)) (is_weekday d) is_day_item (λ w. Unit {0})
+pub adds_weekday : (d : Weekday) →
+    Adds (λ w i. with_day (weekday_of (day_text i)) i w) (λ w. contains w.plain (monday_zero d)) (is_weekday d) is_day_item (λ w. Unit {0})
 adds_weekday d = record {
   fine = λ w i h u. tt;
-  adds = λ w i h u. ap (λ (x : Weekdays). contains x.plain (monday_zero d)) (with_day-is (weekday_of (day_text i)) i w) ∙ by_day w i (weekday_of (day_text i)) (length i == 2);
+  adds = λ w i h u. ap (λ (x : Weekdays). contains x.plain (monday_zero d)) (with_day-is (weekday_of (day_text i)) i w)
+      ∙ by_day w i (weekday_of (day_text i)) (length i == 2);
 }
   where
-    by_day : (w : Weekdays) (i : List ℕ) (o : Option Weekday) (t : Bool) → contains (day_with o t i w).plain (monday_zero d) ≡ ((is_day d o && t) || contains w.plain (monday_zero d))
+    by_day : (w : Weekdays) (i : List ℕ) (o : Option Weekday) (t : Bool) →
+        contains (day_with o t i w).plain (monday_zero d) ≡ ((is_day d o && t) || contains w.plain (monday_zero d))
     by_day w i None t = refl
-    by_day w i (Some e) true = contains-with_number w.plain (monday_zero e) (monday_zero d) (day_small e) ∙ ap (λ t. t || contains w.plain (monday_zero d)) (sym (and_true (monday_zero d == monday_zero e)))
+    by_day w i (Some e) true = contains-with_number w.plain (monday_zero e) (monday_zero d) (day_small e)
+        ∙ ap (λ t. t || contains w.plain (monday_zero d)) (sym (and_true (monday_zero d == monday_zero e)))
     by_day w i (Some e) false = ap (λ t. t || contains w.plain (monday_zero d)) (sym (and_false (monday_zero d == monday_zero e)))
 
 -- the numbers of BYDAY stand beside seven weekdays
@@ -158,14 +164,18 @@ pub adds_numbered : (d : Weekday) (side : Side) (n : ℕ)
 adds_numbered d side n = record {
   fine = λ w i h u. subst HasSeven (sym (with_day-is (weekday_of (day_text i)) i w)) (seven_kept (weekday_of (day_text i)) (length i == 2) i w u);
   adds = λ w i h u. ap (λ (x : Weekdays). has_place side n (numbers_of x (monday_zero d))) (with_day-is (weekday_of (day_text i)) i w)
-      ∙ by_day w i (weekday_of (day_text i)) (length i == 2) u (and_parts (is_some (weekday_of (day_text i))) ((length i == 2) || is_signed 53 (number_before i)) h).1;
+      ∙ by_day w i (weekday_of (day_text i)) (length i == 2) u
+      (and_parts (is_some (weekday_of (day_text i))) ((length i == 2) || is_signed 53 (number_before i)) h).1;
 }
   where
     by_day : (w : Weekdays) (i : List ℕ) (o : Option Weekday) (t : Bool) → HasSeven w → (t || is_signed 53 (number_before i)) ≡ true
-        → has_place side n (numbers_of (day_with o t i w) (monday_zero d)) ≡ (((is_day d o && not t) && is_place side n (number_before i)) || has_place side n (numbers_of w (monday_zero d)))
+        → has_place side n (numbers_of (day_with o t i w) (monday_zero d))
+        ≡ (((is_day d o && not t) && is_place side n (number_before i)) || has_place side n (numbers_of w (monday_zero d)))
     by_day w i None t u h = refl
-    by_day w i (Some e) true u h = ap (λ t. (t && is_place side n (number_before i)) || has_place side n (numbers_of w (monday_zero d))) (sym (and_false (monday_zero d == monday_zero e)))
+    by_day w i (Some e) true u h = ap (λ t. (t && is_place side n (number_before i)) || has_place side n (numbers_of w (monday_zero d)))
+        (sym (and_false (monday_zero d == monday_zero e)))
     by_day w i (Some e) false u h =
         let last = number_high 1 53 (unsigned (number_before i)) h in
         numbered_added d e side n (number_of (unsigned (number_before i))) (number_before i) w (omega arith) u
-        ∙ ap (λ t. (t && is_place side n (number_before i)) || has_place side n (numbers_of w (monday_zero d))) (sym (and_true (monday_zero d == monday_zero e)))
+        ∙ ap (λ t. (t && is_place side n (number_before i)) || has_place side n (numbers_of w (monday_zero d)))
+        (sym (and_true (monday_zero d == monday_zero e)))

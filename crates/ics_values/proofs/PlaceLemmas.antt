@@ -16,14 +16,30 @@ use Rattle.ics_values.specs.RuleParts.{ArePlaces, AreWidePlaces}
 use Rattle.ics_values.proofs.SetLemmas.{within_more, contains-with_number, contains_wide-with_number}
 
 pub ordinals_more : (side : Side) (n high : ℕ) (p : Ordinals) → n < 64 → 1 ≤ n → n ≤ high → ArePlaces p high → ArePlaces (with_ordinal side n p) high
-ordinals_more Front n high p s l h own = record { front = within_more 1 high n (contains p.front) (contains (with_number n p.front)) (λ m. contains-with_number p.front n m s) own.front l h; back = own.back }
-ordinals_more Back n high p s l h own = record { front = own.front; back = within_more 1 high n (contains p.back) (contains (with_number n p.back)) (λ m. contains-with_number p.back n m s) own.back l h }
+ordinals_more Front n high p s l h own =
+    record {
+      front = within_more 1 high n (contains p.front) (contains (with_number n p.front)) (λ m. contains-with_number p.front n m s) own.front l h;
+      back = own.back;
+    }
+ordinals_more Back n high p s l h own = record {
+  front = own.front;
+  back = within_more 1 high n (contains p.back) (contains (with_number n p.back)) (λ m. contains-with_number p.back n m s) own.back l h;
+}
 
-pub wide_ordinals_more : (side : Side) (n high : ℕ) (p : WideOrdinals) → n < 384 → n / 64 < length p.front → n / 64 < length p.back → 1 ≤ n → n ≤ high → AreWidePlaces p high → AreWidePlaces (with_wide_ordinal side n p) high
+pub wide_ordinals_more : (side : Side) (n high : ℕ) (p : WideOrdinals) → n < 384 → n / 64 < length p.front → n / 64 < length p.back → 1 ≤ n → n ≤ high →
+    AreWidePlaces p high → AreWidePlaces (with_wide_ordinal side n p) high
 wide_ordinals_more Front n high p s f b l h own =
-    record { front = within_more 1 high n (contains_wide p.front) (contains_wide (with_wide_number n p.front)) (λ m. contains_wide-with_number p.front n m f s) own.front l h; back = own.back }
+    record {
+      front = within_more 1 high n (contains_wide p.front) (contains_wide (with_wide_number n p.front)) (λ m. contains_wide-with_number p.front n m f s)
+          own.front l h;
+      back = own.back;
+    }
 wide_ordinals_more Back n high p s f b l h own =
-    record { front = own.front; back = within_more 1 high n (contains_wide p.back) (contains_wide (with_wide_number n p.back)) (λ m. contains_wide-with_number p.back n m b s) own.back l h }
+    record {
+      front = own.front;
+      back = within_more 1 high n (contains_wide p.back) (contains_wide (with_wide_number n p.back))
+          (λ m. contains_wide-with_number p.back n m b s) own.back l h;
+    }
 
 -- a weekday is one of seven
 pub monday_zero_small : (d : Weekday) → monday_zero d ≤ 6
@@ -38,7 +54,8 @@ monday_zero_small Sunday = omega arith
 pub weekdays_more : (d : Weekday) (w : Weekdays) → IsWithin 0 6 (contains w.plain) → IsWithin 0 6 (contains (with_weekday d w).plain)
 weekdays_more d w own =
     let small = monday_zero_small d in
-    within_more 0 6 (monday_zero d) (contains w.plain) (contains (with_number (monday_zero d) w.plain)) (λ m. contains-with_number w.plain (monday_zero d) m (omega (arith, small))) own (omega arith) small
+    within_more 0 6 (monday_zero d) (contains w.plain) (contains (with_number (monday_zero d) w.plain))
+    (λ m. contains-with_number w.plain (monday_zero d) m (omega (arith, small))) own (omega arith) small
 
 -- the numbers of one weekday, and those of the others
 pub numbered_more : (d : Weekday) (side : Side) (n : ℕ) (w : Weekdays) → n < 64 → 1 ≤ n → n ≤ 53 → ((k : ℕ) → ArePlaces (numbers_of w k) 53)

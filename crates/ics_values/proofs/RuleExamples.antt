@@ -64,7 +64,8 @@ last : rule_of (codes "INTERVAL=2;FREQ=DAILY") ≡ Ok (record (every Daily) { in
 unfolding rule_of
 last = refl
 
-bad_whole_texts : list_all (λ text. is_bad (rule_of text)) (codes "" ∷ codes "COUNT=1" ∷ codes "FREQ=" ∷ codes "FREQ" ∷ codes "FREQ=NEVER" ∷ codes "FREQ=DAILYX" ∷ codes "FREQ=DAILY,WEEKLY" ∷ codes "FREQ=DAILY " ∷ codes "FREQ==DAILY" ∷ []) ≡ true
+bad_whole_texts : list_all (λ text. is_bad (rule_of text)) (codes "" ∷ codes "COUNT=1" ∷ codes "FREQ=" ∷ codes "FREQ" ∷ codes "FREQ=NEVER" ∷ codes "FREQ=DAILYX"
+    ∷ codes "FREQ=DAILY,WEEKLY" ∷ codes "FREQ=DAILY " ∷ codes "FREQ==DAILY" ∷ []) ≡ true
 unfolding rule_of
 bad_whole_texts = refl
 
@@ -84,7 +85,8 @@ bad_semicolons_texts = refl
 
 -- no part stands twice, and no other part stands
 
-bad_names : list_all (λ text. is_bad (rule_of (behind_freq text))) (codes "FREQ=DAILY" ∷ codes "COUNT=1;count=1" ∷ codes "SKIP=OMIT" ∷ codes "X=1" ∷ codes "BYMONTHS=1" ∷ codes "=1" ∷ []) ≡ true
+bad_names : list_all (λ text. is_bad (rule_of (behind_freq text))) (codes "FREQ=DAILY" ∷ codes "COUNT=1;count=1" ∷ codes "SKIP=OMIT" ∷ codes "X=1"
+    ∷ codes "BYMONTHS=1" ∷ codes "=1" ∷ []) ≡ true
 unfolding rule_of
 bad_names = refl
 
@@ -110,7 +112,8 @@ interval_greatest : rule_of (codes "FREQ=DAILY;INTERVAL=4294967295") ≡ Ok (rec
 unfolding rule_of
 interval_greatest = refl
 
-bad_amounts : list_all (λ text. is_bad (rule_of (behind_freq text))) (codes "COUNT=0" ∷ codes "INTERVAL=0" ∷ codes "INTERVAL=00" ∷ codes "COUNT=+1" ∷ codes "COUNT=-1" ∷ codes "INTERVAL=+1" ∷ codes "COUNT=" ∷ codes "COUNT=1,2" ∷ []) ≡ true
+bad_amounts : list_all (λ text. is_bad (rule_of (behind_freq text))) (codes "COUNT=0" ∷ codes "INTERVAL=0" ∷ codes "INTERVAL=00" ∷ codes "COUNT=+1"
+    ∷ codes "COUNT=-1" ∷ codes "INTERVAL=+1" ∷ codes "COUNT=" ∷ codes "COUNT=1,2" ∷ []) ≡ true
 unfolding rule_of
 bad_amounts = refl
 
@@ -124,7 +127,8 @@ large_amounts_texts = refl
 
 -- a number is too large only where the rest is in order
 
-bad_otherwise : list_all (λ text. is_bad (rule_of (behind_freq text))) (codes "COUNT=4294967296;UNTIL=20240101" ∷ codes "COUNT=4294967296;X=1" ∷ codes "INTERVAL=4294967296;BYDAY=" ∷ codes "COUNT=4294967296;COUNT=1" ∷ []) ≡ true
+bad_otherwise : list_all (λ text. is_bad (rule_of (behind_freq text))) (codes "COUNT=4294967296;UNTIL=20240101" ∷ codes "COUNT=4294967296;X=1"
+    ∷ codes "INTERVAL=4294967296;BYDAY=" ∷ codes "COUNT=4294967296;COUNT=1" ∷ []) ≡ true
 unfolding rule_of
 bad_otherwise = refl
 
@@ -162,7 +166,8 @@ year_9900 : rule_of (codes "FREQ=DAILY;UNTIL=99000101") ≡ Ok (record (every Da
 unfolding rule_of
 year_9900 = refl
 
-bad_untils : list_all (λ text. is_bad (rule_of (behind_freq text))) (codes "UNTIL=19691231T235961Z" ∷ codes "UNTIL=00001231" ∷ codes "UNTIL=20230229" ∷ codes "UNTIL=" ∷ codes "UNTIL=2023010" ∷ codes "UNTIL=20230101T24" ∷ codes "COUNT=1;UNTIL=20240101" ∷ []) ≡ true
+bad_untils : list_all (λ text. is_bad (rule_of (behind_freq text))) (codes "UNTIL=19691231T235961Z" ∷ codes "UNTIL=00001231" ∷ codes "UNTIL=20230229"
+    ∷ codes "UNTIL=" ∷ codes "UNTIL=2023010" ∷ codes "UNTIL=20230101T24" ∷ codes "COUNT=1;UNTIL=20240101" ∷ []) ≡ true
 unfolding rule_of
 bad_untils = refl
 
@@ -188,7 +193,8 @@ months : rule_of (codes "FREQ=DAILY;BYMONTH=1,12,1") ≡ Ok (record (every Daily
 unfolding rule_of
 months = refl
 
-bad_numbers : list_all (λ text. is_bad (rule_of (behind_freq text))) (codes "BYSECOND=61" ∷ codes "BYMINUTE=60" ∷ codes "BYHOUR=24" ∷ codes "BYMONTH=0" ∷ codes "BYMONTH=13" ∷ codes "BYSECOND=+1" ∷ codes "BYMINUTE=-1" ∷ codes "BYHOUR=+1" ∷ codes "BYMONTH=-1" ∷ []) ≡ true
+bad_numbers : list_all (λ text. is_bad (rule_of (behind_freq text))) (codes "BYSECOND=61" ∷ codes "BYMINUTE=60" ∷ codes "BYHOUR=24" ∷ codes "BYMONTH=0"
+    ∷ codes "BYMONTH=13" ∷ codes "BYSECOND=+1" ∷ codes "BYMINUTE=-1" ∷ codes "BYHOUR=+1" ∷ codes "BYMONTH=-1" ∷ []) ≡ true
 unfolding rule_of
 bad_numbers = refl
 
@@ -198,13 +204,15 @@ many_zeros : rule_of (codes "FREQ=DAILY;BYHOUR=000000000000000000000001") ≡ Ok
 unfolding rule_of
 many_zeros = refl
 
-bad_items : list_all (λ text. is_bad (rule_of (behind_freq text))) (codes "BYHOUR=" ∷ codes "BYHOUR=1,,2" ∷ codes "BYHOUR=1," ∷ codes "BYDAY=,MO" ∷ codes "BYHOUR=65537" ∷ []) ≡ true
+bad_items : list_all (λ text. is_bad (rule_of (behind_freq text))) (codes "BYHOUR=" ∷ codes "BYHOUR=1,,2" ∷ codes "BYHOUR=1," ∷ codes "BYDAY=,MO"
+    ∷ codes "BYHOUR=65537" ∷ []) ≡ true
 unfolding rule_of
 bad_items = refl
 
 -- BYMONTHDAY, BYWEEKNO, BYYEARDAY and BYSETPOS, from the front and from the end
 
-month_days : rule_of (codes "FREQ=DAILY;BYMONTHDAY=1,+31,-1,-31") ≡ Ok (record (every Daily) { month_days = record { front = 2 ^ 1 + 2 ^ 31; back = 2 ^ 1 + 2 ^ 31 } })
+month_days : rule_of (codes "FREQ=DAILY;BYMONTHDAY=1,+31,-1,-31")
+    ≡ Ok (record (every Daily) { month_days = record { front = 2 ^ 1 + 2 ^ 31; back = 2 ^ 1 + 2 ^ 31 } })
 unfolding rule_of
 month_days = refl
 
@@ -212,25 +220,44 @@ weeks : rule_of (codes "FREQ=DAILY;BYWEEKNO=+1,53,-53") ≡ Ok (record (every Da
 unfolding rule_of
 weeks = refl
 
-year_days : rule_of (codes "FREQ=DAILY;BYYEARDAY=1,64,+366,-366") ≡ Ok (record (every Daily) { year_days = record { front = (2 ^ 1) ∷ (2 ^ 0) ∷ 0 ∷ 0 ∷ 0 ∷ (2 ^ 46) ∷ []; back = 0 ∷ 0 ∷ 0 ∷ 0 ∷ 0 ∷ (2 ^ 46) ∷ [] } })
+year_days : rule_of (codes "FREQ=DAILY;BYYEARDAY=1,64,+366,-366")
+    ≡ Ok (record (every Daily) { year_days = record { front = (2 ^ 1) ∷ (2 ^ 0) ∷ 0 ∷ 0 ∷ 0 ∷ (2 ^ 46) ∷ []; back = 0 ∷ 0 ∷ 0 ∷ 0 ∷ 0 ∷ (2 ^ 46) ∷ [] } })
 unfolding rule_of
 year_days = refl
 
-positions : rule_of (codes "FREQ=DAILY;BYSETPOS=-1,366,-001") ≡ Ok (record (every Daily) { positions = record { front = 0 ∷ 0 ∷ 0 ∷ 0 ∷ 0 ∷ (2 ^ 46) ∷ []; back = (2 ^ 1) ∷ 0 ∷ 0 ∷ 0 ∷ 0 ∷ 0 ∷ [] } })
+positions : rule_of (codes "FREQ=DAILY;BYSETPOS=-1,366,-001")
+    ≡ Ok (record (every Daily) { positions = record { front = 0 ∷ 0 ∷ 0 ∷ 0 ∷ 0 ∷ (2 ^ 46) ∷ []; back = (2 ^ 1) ∷ 0 ∷ 0 ∷ 0 ∷ 0 ∷ 0 ∷ [] } })
 unfolding rule_of
 positions = refl
 
-bad_signed : list_all (λ text. is_bad (rule_of (behind_freq text))) (codes "BYMONTHDAY=0" ∷ codes "BYMONTHDAY=32" ∷ codes "BYMONTHDAY=-32" ∷ codes "BYMONTHDAY=-0" ∷ codes "BYWEEKNO=0" ∷ codes "BYWEEKNO=54" ∷ codes "BYWEEKNO=-54" ∷ codes "BYYEARDAY=0" ∷ codes "BYYEARDAY=367" ∷ codes "BYYEARDAY=-367" ∷ codes "BYSETPOS=0" ∷ codes "BYSETPOS=367" ∷ codes "BYSETPOS=-367" ∷ codes "BYMONTHDAY=+-1" ∷ codes "BYMONTHDAY=-" ∷ codes "BYMONTHDAY=1-" ∷ []) ≡ true
+bad_signed : list_all (λ text. is_bad (rule_of (behind_freq text))) (codes "BYMONTHDAY=0" ∷ codes "BYMONTHDAY=32" ∷ codes "BYMONTHDAY=-32"
+    ∷ codes "BYMONTHDAY=-0" ∷ codes "BYWEEKNO=0" ∷ codes "BYWEEKNO=54" ∷ codes "BYWEEKNO=-54" ∷ codes "BYYEARDAY=0" ∷ codes "BYYEARDAY=367"
+    ∷ codes "BYYEARDAY=-367" ∷ codes "BYSETPOS=0" ∷ codes "BYSETPOS=367" ∷ codes "BYSETPOS=-367" ∷ codes "BYMONTHDAY=+-1" ∷ codes "BYMONTHDAY=-"
+    ∷ codes "BYMONTHDAY=1-" ∷ []) ≡ true
 unfolding rule_of
 bad_signed = refl
 
 -- BYDAY, with numbers to 53 and without, and WKST
 
-weekdays : rule_of (codes "FREQ=DAILY;BYDAY=MO,tu,WE,Th,fR,SA,SU") ≡ Ok (record (every Daily) { weekdays = record { plain = 2 ^ 0 + 2 ^ 1 + 2 ^ 2 + 2 ^ 3 + 2 ^ 4 + 2 ^ 5 + 2 ^ 6; numbered = no_ordinals ∷ no_ordinals ∷ no_ordinals ∷ no_ordinals ∷ no_ordinals ∷ no_ordinals ∷ no_ordinals ∷ [] } })
+weekdays : rule_of (codes "FREQ=DAILY;BYDAY=MO,tu,WE,Th,fR,SA,SU")
+    ≡ Ok (record (every Daily) {
+      weekdays = record {
+        plain = 2 ^ 0 + 2 ^ 1 + 2 ^ 2 + 2 ^ 3 + 2 ^ 4 + 2 ^ 5 + 2 ^ 6;
+        numbered = no_ordinals ∷ no_ordinals
+            ∷ no_ordinals ∷ no_ordinals ∷ no_ordinals ∷ no_ordinals ∷ no_ordinals ∷ [];
+      };
+    })
 unfolding rule_of
 weekdays = refl
 
-numbered : rule_of (codes "FREQ=DAILY;BYDAY=+1MO,-53SU,53MO,MO,02mo") ≡ Ok (record (every Daily) { weekdays = record { plain = 2 ^ 0; numbered = record { front = 2 ^ 1 + 2 ^ 53 + 2 ^ 2; back = 0 } ∷ no_ordinals ∷ no_ordinals ∷ no_ordinals ∷ no_ordinals ∷ no_ordinals ∷ record { front = 0; back = 2 ^ 53 } ∷ [] } })
+numbered : rule_of (codes "FREQ=DAILY;BYDAY=+1MO,-53SU,53MO,MO,02mo")
+    ≡ Ok (record (every Daily) {
+      weekdays = record {
+        plain = 2 ^ 0;
+        numbered = record { front = 2 ^ 1 + 2 ^ 53 + 2 ^ 2; back = 0 } ∷ no_ordinals ∷ no_ordinals
+            ∷ no_ordinals ∷ no_ordinals ∷ no_ordinals ∷ record { front = 0; back = 2 ^ 53 } ∷ [];
+      };
+    })
 unfolding rule_of
 numbered = refl
 
@@ -238,20 +265,48 @@ wkst : rule_of (codes "FREQ=DAILY;WKST=su") ≡ Ok (record (every Daily) { week_
 unfolding rule_of
 wkst = refl
 
-bad_weekday : list_all (λ text. is_bad (rule_of (behind_freq text))) (codes "BYDAY=+1MO,-53SU,0MO" ∷ codes "BYDAY=54MO" ∷ codes "BYDAY=-54MO" ∷ codes "BYDAY=+MO" ∷ codes "BYDAY=1" ∷ codes "BYDAY=M" ∷ codes "BYDAY=XX" ∷ codes "BYDAY=MO1" ∷ codes "BYDAY=" ∷ codes "WKST=MO,TU" ∷ codes "WKST=1MO" ∷ codes "WKST=" ∷ []) ≡ true
+bad_weekday : list_all (λ text. is_bad (rule_of (behind_freq text))) (codes "BYDAY=+1MO,-53SU,0MO" ∷ codes "BYDAY=54MO" ∷ codes "BYDAY=-54MO"
+    ∷ codes "BYDAY=+MO" ∷ codes "BYDAY=1" ∷ codes "BYDAY=M" ∷ codes "BYDAY=XX" ∷ codes "BYDAY=MO1" ∷ codes "BYDAY=" ∷ codes "WKST=MO,TU" ∷ codes "WKST=1MO"
+    ∷ codes "WKST=" ∷ []) ≡ true
 unfolding rule_of
 bad_weekday = refl
 
 -- several parts
 
-friday_13 : rule_of (codes "FREQ=MONTHLY;BYDAY=FR;BYMONTHDAY=13") ≡ Ok (record (every Monthly) { weekdays = record { plain = 2 ^ 4; numbered = no_ordinals ∷ no_ordinals ∷ no_ordinals ∷ no_ordinals ∷ no_ordinals ∷ no_ordinals ∷ no_ordinals ∷ [] }; month_days = record { front = 2 ^ 13; back = 0 } })
+friday_13 : rule_of (codes "FREQ=MONTHLY;BYDAY=FR;BYMONTHDAY=13")
+    ≡ Ok (record (every Monthly) {
+      weekdays = record {
+        plain = 2 ^ 4;
+        numbered = no_ordinals ∷ no_ordinals ∷ no_ordinals ∷ no_ordinals ∷ no_ordinals
+            ∷ no_ordinals ∷ no_ordinals ∷ [];
+      };
+      month_days = record { front = 2 ^ 13; back = 0 };
+    })
 unfolding rule_of
 friday_13 = refl
 
-fortnightly : rule_of (codes "FREQ=WEEKLY;INTERVAL=2;COUNT=4;BYDAY=TU,SU;WKST=SU") ≡ Ok (record (every Weekly) { interval = 2; count = Some 4; weekdays = record { plain = 2 ^ 1 + 2 ^ 6; numbered = no_ordinals ∷ no_ordinals ∷ no_ordinals ∷ no_ordinals ∷ no_ordinals ∷ no_ordinals ∷ no_ordinals ∷ [] }; week_start = Sunday })
+fortnightly : rule_of (codes "FREQ=WEEKLY;INTERVAL=2;COUNT=4;BYDAY=TU,SU;WKST=SU")
+    ≡ Ok (record (every Weekly) {
+      interval = 2;
+      count = Some 4;
+      weekdays = record {
+        plain = 2 ^ 1 + 2 ^ 6;
+        numbered = no_ordinals ∷ no_ordinals ∷ no_ordinals ∷ no_ordinals ∷ no_ordinals ∷ no_ordinals ∷ no_ordinals
+            ∷ [];
+      };
+      week_start = Sunday;
+    })
 unfolding rule_of
 fortnightly = refl
 
-last_workday : rule_of (codes "FREQ=MONTHLY;BYDAY=MO,TU,WE,TH,FR;BYSETPOS=-1") ≡ Ok (record (every Monthly) { weekdays = record { plain = 31; numbered = no_ordinals ∷ no_ordinals ∷ no_ordinals ∷ no_ordinals ∷ no_ordinals ∷ no_ordinals ∷ no_ordinals ∷ [] }; positions = record { front = none_wide; back = (2 ^ 1) ∷ 0 ∷ 0 ∷ 0 ∷ 0 ∷ 0 ∷ [] } })
+last_workday : rule_of (codes "FREQ=MONTHLY;BYDAY=MO,TU,WE,TH,FR;BYSETPOS=-1")
+    ≡ Ok (record (every Monthly) {
+      weekdays = record {
+        plain = 31;
+        numbered = no_ordinals ∷ no_ordinals ∷ no_ordinals ∷ no_ordinals ∷ no_ordinals ∷ no_ordinals
+            ∷ no_ordinals ∷ [];
+      };
+      positions = record { front = none_wide; back = (2 ^ 1) ∷ 0 ∷ 0 ∷ 0 ∷ 0 ∷ 0 ∷ [] };
+    })
 unfolding rule_of
 last_workday = refl

@@ -1,5 +1,6 @@
 -- Parts that are read one after another say what they say together.
-use Rattle.std.proofs.Common.{◌≡◌, ◌<◌, ℕ, Bool, true, false, ◌&&◌, ◌||◌, ◌==◌, List, [], ◌∷◌, map, Option, Some, None, Result, Ok, Err, cond, refl, sym, ap, ◌∙◌, arith, lit<}
+use Rattle.std.proofs.Common.{◌≡◌, ◌<◌, ℕ, Bool, true, false, ◌&&◌, ◌||◌, ◌==◌, List, [], ◌∷◌, map, Option, Some, None, Result, Ok, Err, cond, refl, sym, ap}
+use Rattle.std.proofs.Common.{◌∙◌, arith, lit<}
 use Rattle.std.specs.Prelude.{not, fold, option_and_then, if◌then◌else◌}
 use Rattle.std.specs.List.{list_any, list_all}
 use Rattle.std.proofs.lemmas.Bool.Decides.{nat_tests}
@@ -20,12 +21,15 @@ use Rattle.ics_values.specs.RuleDrafts.{walk, item_taken, named_taken, part_take
 use Rattle.ics_values.proofs.SetLemmas.{contains-with_number}
 
 -- the items of a list are all in order, or one is not
-pub walk-items : (list : ListName) (rule : RuleParts) (items : List (List ℕ)) → walk (item_taken list) rule items ≡ (if list_all (fits_list list) items then Some (fold (with_item list) rule items) else None)
+pub walk-items : (list : ListName) (rule : RuleParts) (items : List (List ℕ)) →
+    walk (item_taken list) rule items ≡ (if list_all (fits_list list) items then Some (fold (with_item list) rule items) else None)
 walk-items list rule [] = refl
 walk-items list rule (item ∷ items) = by_test (fits_list list item) (walk-items list (with_item list rule item) items)
   where
-    by_test : (t : Bool) → walk (item_taken list) (with_item list rule item) items ≡ cond (list_all (fits_list list) items) (Some (fold (with_item list) (with_item list rule item) items)) None
-        → option_and_then (λ r. walk (item_taken list) r items) (cond t (Some (with_item list rule item)) None) ≡ cond (t && list_all (fits_list list) items) (Some (fold (with_item list) (with_item list rule item) items)) None
+    by_test : (t : Bool) → walk (item_taken list) (with_item list rule item) items
+        ≡ cond (list_all (fits_list list) items) (Some (fold (with_item list) (with_item list rule item) items)) None
+        → option_and_then (λ r. walk (item_taken list) r items) (cond t (Some (with_item list rule item)) None)
+        ≡ cond (t && list_all (fits_list list) items) (Some (fold (with_item list) (with_item list rule item) items)) None
     by_test true h = h
     by_test false h = refl
 
@@ -67,16 +71,19 @@ kept rule p = if is_large p.name p.value then rule else with_part rule p
 abbrev draft_with : Draft → List Part → Draft
 draft_with d ps = record { parts = fold kept d.parts ps; seen = rows_of d.seen ps; too_large = d.too_large || has_large_number ps }
 
-is_seen-with_number : (seen : ℕ) (name : PartName) (other : Option PartName) → is_seen (with_number (row name) seen) other ≡ is_name name other || is_seen seen other
+is_seen-with_number : (seen : ℕ) (name : PartName) (other : Option PartName) →
+    is_seen (with_number (row name) seen) other ≡ is_name name other || is_seen seen other
 is_seen-with_number seen name None = refl
 is_seen-with_number seen name (Some other) = contains-with_number seen (row name) (row other) (row_small name)
 
 -- those that are fresh once a name was read
-are_fresh-with_number : (seen : ℕ) (name : PartName) (ps : List Part) → are_fresh (with_number (row name) seen) ps ≡ not (list_any (λ q. is_name name q.name) ps) && are_fresh seen ps
+are_fresh-with_number : (seen : ℕ) (name : PartName) (ps : List Part) →
+    are_fresh (with_number (row name) seen) ps ≡ not (list_any (λ q. is_name name q.name) ps) && are_fresh seen ps
 are_fresh-with_number seen name [] = refl
 are_fresh-with_number seen name (p ∷ ps) =
     ap (λ t. not t && are_fresh (with_number (row name) seen) ps) (is_seen-with_number seen name p.name)
-    ∙ by_tests (is_name name p.name) (is_seen seen p.name) (are_fresh (with_number (row name) seen) ps) (list_any (λ q. is_name name q.name) ps) (are_fresh seen ps) (are_fresh-with_number seen name ps)
+    ∙ by_tests (is_name name p.name) (is_seen seen p.name) (are_fresh (with_number (row name) seen) ps) (list_any (λ q. is_name name q.name) ps)
+    (are_fresh seen ps) (are_fresh-with_number seen name ps)
   where
     by_tests : (n s a b c : Bool) → a ≡ (not b && c) → (not (n || s) && a) ≡ (not (n || b) && (not s && c))
     by_tests true s a b c h = refl
@@ -94,7 +101,8 @@ none_left true false c o = refl
 none_left false b c o = refl
 
 -- a part that is in order and fresh, and those behind it
-in_order : (all once fresh named other : Bool) (a b : Option Draft) → fresh ≡ (not named && other) → a ≡ b → cond (all && once && fresh) a None ≡ cond (all && (not named && once) && other) b None
+in_order : (all once fresh named other : Bool) (a b : Option Draft) → fresh ≡ (not named && other) → a ≡ b →
+    cond (all && once && fresh) a None ≡ cond (all && (not named && once) && other) b None
 in_order true true fresh true other a b h e = ap (λ t. cond t a None) h
 in_order true true fresh false true a b h e = ap (λ t. cond t a None) h ∙ e
 in_order true true fresh false false a b h e = ap (λ t. cond t a None) h
@@ -126,15 +134,21 @@ whole_more d (Some name) value ps rest h = by_tests (contains d.seen (row name))
     by_tests : (s f l : Bool) →
         option_and_then rest (cond s None (cond (not f) None (cond l (Some (marked d name)) (Some (filled d name value)))))
         ≡ cond (f && list_all is_part ps && (not (list_any (λ q. is_name name q.name) ps) && none_twice ps) && (not s && are_fresh d.seen ps))
-        (Some (record { parts = fold kept (cond l d.parts (with_value name value d.parts)) ps; seen = rows_of (with_number (row name) d.seen) ps; too_large = d.too_large || (l || has_large_number ps) })) None
+        (Some (record {
+          parts = fold kept (cond l d.parts (with_value name value d.parts)) ps;
+          seen = rows_of (with_number (row name) d.seen) ps;
+          too_large = d.too_large || (l || has_large_number ps);
+        })) None
     by_tests true f l = sym (none_left (f && list_all is_part ps) (not (list_any (λ q. is_name name q.name) ps) && none_twice ps) (are_fresh d.seen ps) _)
     by_tests false false l = refl
     by_tests false true true =
-        h (marked d name) ∙ in_order (list_all is_part ps) (none_twice ps) (are_fresh (with_number (row name) d.seen) ps) (list_any (λ q. is_name name q.name) ps) (are_fresh d.seen ps) _ _
+        h (marked d name) ∙ in_order (list_all is_part ps) (none_twice ps) (are_fresh (with_number (row name) d.seen) ps)
+        (list_any (λ q. is_name name q.name) ps) (are_fresh d.seen ps) _ _
         (are_fresh-with_number d.seen name ps)
         (ap (λ t. Some (record { parts = fold kept d.parts ps; seen = rows_of (with_number (row name) d.seen) ps; too_large = t })) (sym (or_true d.too_large)))
     by_tests false true false =
-        h (filled d name value) ∙ in_order (list_all is_part ps) (none_twice ps) (are_fresh (with_number (row name) d.seen) ps) (list_any (λ q. is_name name q.name) ps) (are_fresh d.seen ps) _ _
+        h (filled d name value) ∙ in_order (list_all is_part ps) (none_twice ps) (are_fresh (with_number (row name) d.seen) ps)
+        (list_any (λ q. is_name name q.name) ps) (are_fresh d.seen ps) _ _
         (are_fresh-with_number d.seen name ps) refl
 
 -- parts that are read one after another
@@ -189,7 +203,8 @@ fold-kept : (ps : List Part) (rule : RuleParts) → has_large_number ps ≡ fals
 fold-kept [] rule h = refl
 fold-kept (p ∷ ps) rule h = by_test (is_large p.name p.value) h (fold-kept ps (with_part rule p))
   where
-    by_test : (t : Bool) → (t || has_large_number ps) ≡ false → (has_large_number ps ≡ false → fold kept (with_part rule p) ps ≡ fold with_part (with_part rule p) ps)
+    by_test : (t : Bool) → (t || has_large_number ps) ≡ false →
+        (has_large_number ps ≡ false → fold kept (with_part rule p) ps ≡ fold with_part (with_part rule p) ps)
         → fold kept (cond t rule (with_part rule p)) ps ≡ fold with_part (with_part rule p) ps
     by_test true e h = cc
     by_test false e h = h e
@@ -207,7 +222,8 @@ answer-whole ps =
         ∙ ap (λ t. has_part part.Freq ps && not (t && contains (rows_of 0 ps) (row part.Count))) (seen-has_part ps part.Until)
         ∙ ap (λ t. has_part part.Freq ps && not (has_part part.Until ps && t)) (seen-has_part ps part.Count)
 
-    by_tests : (a n f : Bool) → f ≡ true → (q r : Bool) → is_whole (draft_with no_parts ps) ≡ (q && r) → (l : Bool) → (l ≡ false → fold kept (every Yearly) ps ≡ rule_said ps)
+    by_tests : (a n f : Bool) → f ≡ true → (q r : Bool) → is_whole (draft_with no_parts ps) ≡ (q && r) → (l : Bool) →
+        (l ≡ false → fold kept (every Yearly) ps ≡ rule_said ps)
         → cond (not (a && n && q && r)) (Err BadRule) (cond l (Err NumberTooLarge) (Ok (rule_said ps)))
         ≡ answer_of (cond (a && n && f) (Some (record { parts = fold kept (every Yearly) ps; seen = rows_of 0 ps; too_large = l })) None)
     by_tests false n f fresh q r w l k = refl

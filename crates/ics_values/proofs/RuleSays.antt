@@ -1,5 +1,6 @@
 -- The rule of a text says what each part of the text says.
-use Rattle.std.proofs.Common.{◌≡◌, ℕ, Bool, true, false, ◌&&◌, ◌||◌, ◌==◌, List, [], ◌∷◌, Option, Some, None, Ok, Err, cond, refl, sym, ap, ◌∙◌, lit<, arith, zero, suc, ◌/◌, ◌%◌, get_or}
+use Rattle.std.proofs.Common.{◌≡◌, ℕ, Bool, true, false, ◌&&◌, ◌||◌, ◌==◌, List, [], ◌∷◌, Option, Some, None, Ok, Err, cond, refl, sym, ap, ◌∙◌, lit<, arith}
+use Rattle.std.proofs.Common.{zero, suc, ◌/◌, ◌%◌, get_or}
 use Rattle.std.specs.Prelude.{not, nat_lt, fold, min, find, option_map, option_and_then, unwrap_or, is_some}
 use Rattle.std.specs.List.{list_any, list_all}
 use Rattle.std.specs.Option.{option_map_or}
@@ -22,11 +23,14 @@ use Rattle.ics_values.specs.Digits.{number_of}
 use Rattle.ics_values.specs.Sets.{contains, contains_wide, none_wide}
 use Rattle.ics_values.specs.Ordinals.{no_ordinals, no_wide_ordinals, no_weekdays, numbers_of}
 use Rattle.ics_values.specs.RuleParts.{RuleParts, every}
-use Rattle.ics_values.specs.RuleTexts.{Part, pieces, row, fits, fits_list, fits_name, is_part, is_name, has_part, none_twice, are_parts, parts_of, frequency_of, weekday_of, until_of}
+use Rattle.ics_values.specs.RuleTexts.{Part, pieces, row, fits, fits_list, fits_name, is_part, is_name, has_part, none_twice, are_parts, parts_of}
+use Rattle.ics_values.specs.RuleTexts.{frequency_of, weekday_of, until_of}
 use Rattle.ics_values.specs.Rules.{has_large_number, rule_said, rule_of}
 use Rattle.ics_values.specs.RuleLaws.{value_of, items_of, has_place, has_wide_place, Says}
-use Rattle.ics_values.proofs.SaysLemmas.{Sets, part_said, sets_frequency, sets_until, sets_count, sets_interval, sets_week_start, sets_seconds, sets_minutes, sets_hours, sets_months, sets_weekdays, sets_month_days, sets_weeks, sets_year_days, sets_positions}
-use Rattle.ics_values.proofs.ListedLemmas.{Adds, gathered_all, number_high, adds_number, adds_place, adds_wide_place, adds_weekday, adds_numbered, HasSeven, IsWide}
+use Rattle.ics_values.proofs.SaysLemmas.{Sets, part_said, sets_frequency, sets_until, sets_count, sets_interval, sets_week_start, sets_seconds, sets_minutes}
+use Rattle.ics_values.proofs.SaysLemmas.{sets_hours, sets_months, sets_weekdays, sets_month_days, sets_weeks, sets_year_days, sets_positions}
+use Rattle.ics_values.proofs.ListedLemmas.{Adds, gathered_all, number_high, adds_number, adds_place, adds_wide_place, adds_weekday, adds_numbered, HasSeven}
+use Rattle.ics_values.proofs.ListedLemmas.{IsWide}
 
 -- where the part of a name is there, its value passes what all values of the name pass
 value_passes : (name : PartName) (passes : List ℕ → Bool) → ((m : PartName) → (row m == row name) ≡ true → (v : List ℕ) → fits m v ≡ true → passes v ≡ true)
@@ -68,12 +72,14 @@ passes_wkst (part.List BySecond) e v f = absurd (false≢true e)
 passes_wkst (part.List l) e v f = absurd (false≢true e)
 passes_wkst _ e v f = absurd (false≢true e)
 
-passes_second : (m : PartName) → (row m == row (part.List BySecond)) ≡ true → (v : List ℕ) → fits m v ≡ true → list_all (fits_list BySecond) (pieces 44 v) ≡ true
+passes_second : (m : PartName) → (row m == row (part.List BySecond)) ≡ true → (v : List ℕ) → fits m v ≡ true →
+    list_all (fits_list BySecond) (pieces 44 v) ≡ true
 passes_second (part.List BySecond) e v f = f
 passes_second (part.List l) e v f = absurd (false≢true e)
 passes_second _ e v f = absurd (false≢true e)
 
-passes_minute : (m : PartName) → (row m == row (part.List ByMinute)) ≡ true → (v : List ℕ) → fits m v ≡ true → list_all (fits_list ByMinute) (pieces 44 v) ≡ true
+passes_minute : (m : PartName) → (row m == row (part.List ByMinute)) ≡ true → (v : List ℕ) → fits m v ≡ true →
+    list_all (fits_list ByMinute) (pieces 44 v) ≡ true
 passes_minute (part.List ByMinute) e v f = f
 passes_minute (part.List l) e v f = absurd (false≢true e)
 passes_minute _ e v f = absurd (false≢true e)
@@ -88,17 +94,20 @@ passes_day (part.List ByDay) e v f = f
 passes_day (part.List l) e v f = absurd (false≢true e)
 passes_day _ e v f = absurd (false≢true e)
 
-passes_month_day : (m : PartName) → (row m == row (part.List ByMonthDay)) ≡ true → (v : List ℕ) → fits m v ≡ true → list_all (fits_list ByMonthDay) (pieces 44 v) ≡ true
+passes_month_day : (m : PartName) → (row m == row (part.List ByMonthDay)) ≡ true → (v : List ℕ) → fits m v ≡ true →
+    list_all (fits_list ByMonthDay) (pieces 44 v) ≡ true
 passes_month_day (part.List ByMonthDay) e v f = f
 passes_month_day (part.List l) e v f = absurd (false≢true e)
 passes_month_day _ e v f = absurd (false≢true e)
 
-passes_year_day : (m : PartName) → (row m == row (part.List ByYearDay)) ≡ true → (v : List ℕ) → fits m v ≡ true → list_all (fits_list ByYearDay) (pieces 44 v) ≡ true
+passes_year_day : (m : PartName) → (row m == row (part.List ByYearDay)) ≡ true → (v : List ℕ) → fits m v ≡ true →
+    list_all (fits_list ByYearDay) (pieces 44 v) ≡ true
 passes_year_day (part.List ByYearDay) e v f = f
 passes_year_day (part.List l) e v f = absurd (false≢true e)
 passes_year_day _ e v f = absurd (false≢true e)
 
-passes_week_no : (m : PartName) → (row m == row (part.List ByWeekNo)) ≡ true → (v : List ℕ) → fits m v ≡ true → list_all (fits_list ByWeekNo) (pieces 44 v) ≡ true
+passes_week_no : (m : PartName) → (row m == row (part.List ByWeekNo)) ≡ true → (v : List ℕ) → fits m v ≡ true →
+    list_all (fits_list ByWeekNo) (pieces 44 v) ≡ true
 passes_week_no (part.List ByWeekNo) e v f = f
 passes_week_no (part.List l) e v f = absurd (false≢true e)
 passes_week_no _ e v f = absurd (false≢true e)
@@ -108,22 +117,26 @@ passes_month (part.List ByMonth) e v f = f
 passes_month (part.List l) e v f = absurd (false≢true e)
 passes_month _ e v f = absurd (false≢true e)
 
-passes_set_pos : (m : PartName) → (row m == row (part.List BySetPos)) ≡ true → (v : List ℕ) → fits m v ≡ true → list_all (fits_list BySetPos) (pieces 44 v) ≡ true
+passes_set_pos : (m : PartName) → (row m == row (part.List BySetPos)) ≡ true → (v : List ℕ) → fits m v ≡ true →
+    list_all (fits_list BySetPos) (pieces 44 v) ≡ true
 passes_set_pos (part.List BySetPos) e v f = f
 passes_set_pos (part.List l) e v f = absurd (false≢true e)
 passes_set_pos _ e v f = absurd (false≢true e)
 
 -- the items of a list are in order
-pub items_fit : (list : ListName) → ((m : PartName) → (row m == row (part.List list)) ≡ true → (v : List ℕ) → fits m v ≡ true → list_all (fits_list list) (pieces 44 v) ≡ true)
+pub items_fit : (list : ListName) → ((m : PartName) → (row m == row (part.List list)) ≡ true → (v : List ℕ) → fits m v ≡ true →
+    list_all (fits_list list) (pieces 44 v) ≡ true)
     → (ps : List Part) → list_all is_part ps ≡ true → list_all (fits_list list) (items_of list ps) ≡ true
 items_fit list h ps a = by_value (value_of (part.List list) ps) (value_passes (part.List list) (λ v. list_all (fits_list list) (pieces 44 v)) h ps a)
   where
-    by_value : (o : Option (List ℕ)) → option_map_or (λ v. list_all (fits_list list) (pieces 44 v)) o true ≡ true → list_all (fits_list list) (option_map_or (pieces 44) o []) ≡ true
+    by_value : (o : Option (List ℕ)) → option_map_or (λ v. list_all (fits_list list) (pieces 44 v)) o true ≡ true →
+        list_all (fits_list list) (option_map_or (pieces 44) o []) ≡ true
     by_value None k = refl
     by_value (Some v) k = k
 
 -- a list that its items make of an empty one
-made : {A : Type 0} (step : A → List ℕ → A) (none : A) (o : Option (List ℕ)) → option_map_or (λ v. fold step none (pieces 44 v)) o none ≡ fold step none (option_map_or (pieces 44) o [])
+made : {A : Type 0} (step : A → List ℕ → A) (none : A) (o : Option (List ℕ)) →
+    option_map_or (λ v. fold step none (pieces 44 v)) o none ≡ fold step none (option_map_or (pieces 44) o [])
 made step none None = refl
 made step none (Some v) = refl
 
@@ -196,7 +209,8 @@ list_said : {A : Type 0} (list : ListName) (read : RuleParts → A) (step : A �
     → (ps : List Part) → list_all is_part ps ≡ true → none_twice ps ≡ true → Fine (read (every Yearly)) → sees (read (every Yearly)) ≡ false
     → sees (read (rule_said ps)) ≡ list_any test (items_of list ps)
 list_said list read step sets passes sees test Fine adds ps a once fine none =
-    ap sees (part_said (part.List list) read (λ v x. fold step x (pieces 44 v)) sets ps once (every Yearly) ∙ made step (read (every Yearly)) (value_of (part.List list) ps))
+    ap sees (part_said (part.List list) read (λ v x. fold step x (pieces 44 v)) sets ps once (every Yearly)
+    ∙ made step (read (every Yearly)) (value_of (part.List list) ps))
     ∙ gathered_all step sees test (fits_list list) Fine adds (items_of list ps) (items_fit list passes ps a) (read (every Yearly)) fine none
 
 pub says : (ps : List Part) → are_parts ps ≡ true → Says ps (rule_said ps)
@@ -207,7 +221,8 @@ says ps h =
     let a = parts.0 in
     let once = parts.1 in
     record {
-      frequency = frequency_is (value_of part.Freq ps) (rule_said ps).frequency (value_there part.Freq ps ∙ front.1) (value_passes part.Freq (λ v. is_some (frequency_of v)) passes_freq ps a)
+      frequency = frequency_is (value_of part.Freq ps) (rule_said ps).frequency (value_there part.Freq ps
+          ∙ front.1) (value_passes part.Freq (λ v. is_some (frequency_of v)) passes_freq ps a)
           (part_said part.Freq (λ r. r.frequency) (λ v f. unwrap_or (frequency_of v) f) sets_frequency ps once (every Yearly));
       until = part_said part.Until (λ r. r.until) (λ v u. until_of v) sets_until ps once (every Yearly) ∙ until_is (value_of part.Until ps);
       count = part_said part.Count (λ r. r.count) (λ v c. Some (number_of v)) sets_count ps once (every Yearly) ∙ count_is (value_of part.Count ps);
@@ -215,20 +230,26 @@ says ps h =
       week_start = week_start_is (value_of part.Wkst ps) (rule_said ps).week_start (value_passes part.Wkst (λ v. is_some (weekday_of v)) passes_wkst ps a)
           (part_said part.Wkst (λ r. r.week_start) (λ v d. unwrap_or (weekday_of v) d) sets_week_start ps once (every Yearly));
       seconds = λ n. list_said BySecond (λ r. r.seconds) _ sets_seconds passes_second (λ s. contains s n) _ (λ s. Unit {0})
-          (adds_number (λ i. min (number_of i) 59) (fits_list BySecond) (λ i fit. let last = number_high 0 60 i fit in omega arith) n) ps a once tt (has_none n);
+          (adds_number (λ i. min (number_of i) 59) (fits_list BySecond) (λ i fit. let last = number_high 0 60 i fit in omega arith) n) ps a once tt
+          (has_none n);
       minutes = λ n. list_said ByMinute (λ r. r.minutes) _ sets_minutes passes_minute (λ s. contains s n) _ (λ s. Unit {0})
           (adds_number (λ i. number_of i) (fits_list ByMinute) (λ i fit. let last = number_high 0 59 i fit in omega arith) n) ps a once tt (has_none n);
       hours = λ n. list_said ByHour (λ r. r.hours) _ sets_hours passes_hour (λ s. contains s n) _ (λ s. Unit {0})
           (adds_number (λ i. number_of i) (fits_list ByHour) (λ i fit. let last = number_high 0 23 i fit in omega arith) n) ps a once tt (has_none n);
       months = λ n. list_said ByMonth (λ r. r.months) _ sets_months passes_month (λ s. contains s n) _ (λ s. Unit {0})
           (adds_number (λ i. number_of i) (fits_list ByMonth) (λ i fit. let last = number_high 1 12 i fit in omega arith) n) ps a once tt (has_none n);
-      month_days = λ side n. list_said ByMonthDay (λ r. r.month_days) _ sets_month_days passes_month_day (has_place side n) _ (λ p. Unit {0}) (adds_place 31 (lit< tt) side n) ps a once tt (none_here side n);
-      weeks = λ side n. list_said ByWeekNo (λ r. r.weeks) _ sets_weeks passes_week_no (has_place side n) _ (λ p. Unit {0}) (adds_place 53 (lit< tt) side n) ps a once tt (none_here side n);
-      year_days = λ side n. list_said ByYearDay (λ r. r.year_days) _ sets_year_days passes_year_day (has_wide_place side n) _ IsWide (adds_wide_place 366 (lit< tt) side n) ps a once
+      month_days = λ side n. list_said ByMonthDay (λ r. r.month_days) _ sets_month_days passes_month_day (has_place side n) _ (λ p. Unit {0})
+          (adds_place 31 (lit< tt) side n) ps a once tt (none_here side n);
+      weeks = λ side n. list_said ByWeekNo (λ r. r.weeks) _ sets_weeks passes_week_no (has_place side n) _ (λ p. Unit {0}) (adds_place 53 (lit< tt) side n) ps a
+          once tt (none_here side n);
+      year_days = λ side n. list_said ByYearDay (λ r. r.year_days) _ sets_year_days passes_year_day (has_wide_place side n) _ IsWide
+          (adds_wide_place 366 (lit< tt) side n) ps a once
           (record { front = refl; back = refl }) (none_wide_here side n);
-      positions = λ side n. list_said BySetPos (λ r. r.positions) _ sets_positions passes_set_pos (has_wide_place side n) _ IsWide (adds_wide_place 366 (lit< tt) side n) ps a once
+      positions = λ side n. list_said BySetPos (λ r. r.positions) _ sets_positions passes_set_pos (has_wide_place side n) _ IsWide
+          (adds_wide_place 366 (lit< tt) side n) ps a once
           (record { front = refl; back = refl }) (none_wide_here side n);
-      weekdays = λ day. list_said ByDay (λ r. r.weekdays) _ sets_weekdays passes_day (λ w. contains w.plain (monday_zero day)) _ (λ w. Unit {0}) (adds_weekday day) ps a once tt (has_none (monday_zero day));
+      weekdays = λ day. list_said ByDay (λ r. r.weekdays) _ sets_weekdays passes_day (λ w. contains w.plain (monday_zero day)) _ (λ w. Unit {0})
+          (adds_weekday day) ps a once tt (has_none (monday_zero day));
       numbered = λ day side n. list_said ByDay (λ r. r.weekdays) _ sets_weekdays passes_day (λ w. has_place side n (numbers_of w (monday_zero day))) _ HasSeven
           (adds_numbered day side n) ps a once refl (none_numbered day side n);
     }
@@ -237,7 +258,8 @@ pub of_rule : (text : List ℕ) (rule : RuleParts) → rule_of text ≡ Ok rule 
 unfolding rule_of
 of_rule text rule h = by_tests (are_parts (parts_of text)) (has_large_number (parts_of text)) h
   where
-    by_tests : (a l : Bool) → cond (not a) (Err BadRule) (cond l (Err NumberTooLarge) (Ok (rule_said (parts_of text)))) ≡ Ok rule → (a ≡ true) × (rule_said (parts_of text) ≡ rule)
+    by_tests : (a l : Bool) → cond (not a) (Err BadRule) (cond l (Err NumberTooLarge) (Ok (rule_said (parts_of text)))) ≡ Ok rule →
+        (a ≡ true) × (rule_said (parts_of text) ≡ rule)
     by_tests true true h = cc
     by_tests true false h = (refl, cc)
     by_tests false l h = cc

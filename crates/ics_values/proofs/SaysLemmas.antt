@@ -22,11 +22,13 @@ pub record Sets {A : Type 0} (name : PartName) (read : RuleParts → A) (said : 
   pub other : (m : PartName) → (row m == row name) ≡ false → (value : List ℕ) (rule : RuleParts) → read (with_value m value rule) ≡ read rule
 
 -- parts without the name leave what it sets
-kept_without : {A : Type 0} (name : PartName) (read : RuleParts → A) (said : List ℕ → A → A) → Sets name read said → (ps : List Part) (rule : RuleParts) → has_part name ps ≡ false → read (fold with_part rule ps) ≡ read rule
+kept_without : {A : Type 0} (name : PartName) (read : RuleParts → A) (said : List ℕ → A → A) → Sets name read said → (ps : List Part) (rule : RuleParts) →
+    has_part name ps ≡ false → read (fold with_part rule ps) ≡ read rule
 kept_without name read said s [] rule h = refl
 kept_without name read said s (p ∷ ps) rule h = by_name p.name h (λ r e. kept_without name read said s ps r e)
   where
-    by_name : (o : Option PartName) → (is_name name o || has_part name ps) ≡ false → ((r : RuleParts) → has_part name ps ≡ false → read (fold with_part r ps) ≡ read r)
+    by_name : (o : Option PartName) → (is_name name o || has_part name ps) ≡ false →
+        ((r : RuleParts) → has_part name ps ≡ false → read (fold with_part r ps) ≡ read r)
         → read (fold with_part (with_named o p.value rule) ps) ≡ read rule
     by_name None h k = k rule h
     by_name (Some m) h k = let e = or_parts (row m == row name) (has_part name ps) h in k (with_value m p.value rule) e.1 ∙ s.other m e.0 p.value rule
@@ -41,7 +43,8 @@ has_part-row m n (p ∷ ps) e = ap (λ t. t || has_part m ps) (by_name p.name) �
     by_name (Some k) = ap (λ x. row k == x) e
 
 -- what the part of the name says
-pub part_said : {A : Type 0} (name : PartName) (read : RuleParts → A) (said : List ℕ → A → A) → Sets name read said → (ps : List Part) → none_twice ps ≡ true → (rule : RuleParts)
+pub part_said : {A : Type 0} (name : PartName) (read : RuleParts → A) (said : List ℕ → A → A) → Sets name read said → (ps : List Part) → none_twice ps ≡ true →
+    (rule : RuleParts)
     → read (fold with_part rule ps) ≡ option_map_or (λ v. said v (read rule)) (value_of name ps) (read rule)
 part_said name read said s [] h rule = refl
 part_said name read said s (p ∷ ps) h rule = by_name p.name h (λ e r. part_said name read said s ps e r)
@@ -51,7 +54,8 @@ part_said name read said s (p ∷ ps) h rule = by_name p.name h (λ e r. part_sa
         → read (fold with_part (with_value m p.value rule) ps)
         ≡ option_map_or (λ v. said v (read rule)) (option_map (λ q. q.value) (cond t (Some p) (find (λ q. is_name name q.name) ps))) (read rule)
     by_test m true e gone k =
-        kept_without name read said s ps (with_value m p.value rule) (sym (has_part-row m name ps (eqb-true (row m) (row name) e)) ∙ gone) ∙ s.own m e p.value rule
+        kept_without name read said s ps (with_value m p.value rule) (sym (has_part-row m name ps (eqb-true (row m) (row name) e)) ∙ gone)
+        ∙ s.own m e p.value rule
     by_test m false e gone k =
         k (with_value m p.value rule) ∙ ap (λ x. option_map_or (λ v. said v x) (value_of name ps) x) (s.other m e p.value rule)
 
@@ -65,7 +69,8 @@ part_said name read said s (p ∷ ps) h rule = by_name p.name h (λ e r. part_sa
         by_test m (row m == row name) refl (not-true (has_part m ps) a.0) (k a.1)
 
 -- a list's own items, one after another, and those of another list
-fold_field : {A : Type 0} (read : RuleParts → A) (step : RuleParts → List ℕ → RuleParts) (own : A → List ℕ → A) → ((r : RuleParts) (i : List ℕ) → read (step r i) ≡ own (read r) i)
+fold_field : {A : Type 0} (read : RuleParts → A) (step : RuleParts → List ℕ → RuleParts) (own : A → List ℕ → A) →
+    ((r : RuleParts) (i : List ℕ) → read (step r i) ≡ own (read r) i)
     → (items : List (List ℕ)) (rule : RuleParts) → read (fold step rule items) ≡ fold own (read rule) items
 fold_field read step own h [] rule = refl
 fold_field read step own h (i ∷ items) rule = fold_field read step own h items (step rule i) ∙ ap (λ x. fold own x items) (h rule i)
@@ -75,7 +80,8 @@ keeps_field : {A : Type 0} (read : RuleParts → A) (step : RuleParts → List �
 keeps_field read step h [] rule = refl
 keeps_field read step h (i ∷ items) rule = keeps_field read step h items (step rule i) ∙ h rule i
 
-own_frequency : (m : PartName) → (row m == row part.Freq) ≡ true → (v : List ℕ) (r : RuleParts) → (with_value m v r).frequency ≡ unwrap_or (frequency_of v) r.frequency
+own_frequency : (m : PartName) → (row m == row part.Freq) ≡ true → (v : List ℕ) (r : RuleParts) →
+    (with_value m v r).frequency ≡ unwrap_or (frequency_of v) r.frequency
 own_frequency part.Freq e v r = refl
 own_frequency (part.List BySecond) e v r = absurd (false≢true e)
 own_frequency (part.List l) e v r = absurd (false≢true e)
@@ -135,7 +141,8 @@ other_interval _ e v r = refl
 pub sets_interval : Sets part.Interval (λ r. r.interval) (λ v n. number_of v)
 sets_interval = record { own = own_interval; other = other_interval }
 
-own_week_start : (m : PartName) → (row m == row part.Wkst) ≡ true → (v : List ℕ) (r : RuleParts) → (with_value m v r).week_start ≡ unwrap_or (weekday_of v) r.week_start
+own_week_start : (m : PartName) → (row m == row part.Wkst) ≡ true → (v : List ℕ) (r : RuleParts) →
+    (with_value m v r).week_start ≡ unwrap_or (weekday_of v) r.week_start
 own_week_start part.Wkst e v r = refl
 own_week_start (part.List BySecond) e v r = absurd (false≢true e)
 own_week_start (part.List l) e v r = absurd (false≢true e)
@@ -150,8 +157,10 @@ other_week_start _ e v r = refl
 pub sets_week_start : Sets part.Wkst (λ r. r.week_start) (λ v d. unwrap_or (weekday_of v) d)
 sets_week_start = record { own = own_week_start; other = other_week_start }
 
-own_seconds : (m : PartName) → (row m == row (part.List BySecond)) ≡ true → (v : List ℕ) (r : RuleParts) → (with_value m v r).seconds ≡ fold (λ s i. with_number (min (number_of i) 59) s) r.seconds (pieces 44 v)
-own_seconds (part.List BySecond) e v r = fold_field (λ x. x.seconds) (with_item BySecond) (λ s i. with_number (min (number_of i) 59) s) (λ x i. refl) (pieces 44 v) r
+own_seconds : (m : PartName) → (row m == row (part.List BySecond)) ≡ true → (v : List ℕ) (r : RuleParts) →
+    (with_value m v r).seconds ≡ fold (λ s i. with_number (min (number_of i) 59) s) r.seconds (pieces 44 v)
+own_seconds (part.List BySecond) e v r = fold_field (λ x. x.seconds) (with_item BySecond) (λ s i. with_number (min (number_of i) 59) s) (λ x i. refl)
+    (pieces 44 v) r
 own_seconds _ e v r = absurd (false≢true e)
 
 other_seconds : (m : PartName) → (row m == row (part.List BySecond)) ≡ false → (v : List ℕ) (r : RuleParts) → (with_value m v r).seconds ≡ r.seconds
@@ -162,7 +171,8 @@ other_seconds _ e v r = refl
 pub sets_seconds : Sets (part.List BySecond) (λ r. r.seconds) (λ v x. fold (λ s i. with_number (min (number_of i) 59) s) x (pieces 44 v))
 sets_seconds = record { own = own_seconds; other = other_seconds }
 
-own_minutes : (m : PartName) → (row m == row (part.List ByMinute)) ≡ true → (v : List ℕ) (r : RuleParts) → (with_value m v r).minutes ≡ fold (λ s i. with_number (number_of i) s) r.minutes (pieces 44 v)
+own_minutes : (m : PartName) → (row m == row (part.List ByMinute)) ≡ true → (v : List ℕ) (r : RuleParts) →
+    (with_value m v r).minutes ≡ fold (λ s i. with_number (number_of i) s) r.minutes (pieces 44 v)
 own_minutes (part.List ByMinute) e v r = fold_field (λ x. x.minutes) (with_item ByMinute) (λ s i. with_number (number_of i) s) (λ x i. refl) (pieces 44 v) r
 own_minutes _ e v r = absurd (false≢true e)
 
@@ -174,7 +184,8 @@ other_minutes _ e v r = refl
 pub sets_minutes : Sets (part.List ByMinute) (λ r. r.minutes) (λ v x. fold (λ s i. with_number (number_of i) s) x (pieces 44 v))
 sets_minutes = record { own = own_minutes; other = other_minutes }
 
-own_hours : (m : PartName) → (row m == row (part.List ByHour)) ≡ true → (v : List ℕ) (r : RuleParts) → (with_value m v r).hours ≡ fold (λ s i. with_number (number_of i) s) r.hours (pieces 44 v)
+own_hours : (m : PartName) → (row m == row (part.List ByHour)) ≡ true → (v : List ℕ) (r : RuleParts) →
+    (with_value m v r).hours ≡ fold (λ s i. with_number (number_of i) s) r.hours (pieces 44 v)
 own_hours (part.List ByHour) e v r = fold_field (λ x. x.hours) (with_item ByHour) (λ s i. with_number (number_of i) s) (λ x i. refl) (pieces 44 v) r
 own_hours _ e v r = absurd (false≢true e)
 
@@ -186,7 +197,8 @@ other_hours _ e v r = refl
 pub sets_hours : Sets (part.List ByHour) (λ r. r.hours) (λ v x. fold (λ s i. with_number (number_of i) s) x (pieces 44 v))
 sets_hours = record { own = own_hours; other = other_hours }
 
-own_months : (m : PartName) → (row m == row (part.List ByMonth)) ≡ true → (v : List ℕ) (r : RuleParts) → (with_value m v r).months ≡ fold (λ s i. with_number (number_of i) s) r.months (pieces 44 v)
+own_months : (m : PartName) → (row m == row (part.List ByMonth)) ≡ true → (v : List ℕ) (r : RuleParts) →
+    (with_value m v r).months ≡ fold (λ s i. with_number (number_of i) s) r.months (pieces 44 v)
 own_months (part.List ByMonth) e v r = fold_field (λ x. x.months) (with_item ByMonth) (λ s i. with_number (number_of i) s) (λ x i. refl) (pieces 44 v) r
 own_months _ e v r = absurd (false≢true e)
 
@@ -198,8 +210,10 @@ other_months _ e v r = refl
 pub sets_months : Sets (part.List ByMonth) (λ r. r.months) (λ v x. fold (λ s i. with_number (number_of i) s) x (pieces 44 v))
 sets_months = record { own = own_months; other = other_months }
 
-own_weekdays : (m : PartName) → (row m == row (part.List ByDay)) ≡ true → (v : List ℕ) (r : RuleParts) → (with_value m v r).weekdays ≡ fold (λ w i. with_day (weekday_of (day_text i)) i w) r.weekdays (pieces 44 v)
-own_weekdays (part.List ByDay) e v r = fold_field (λ x. x.weekdays) (with_item ByDay) (λ w i. with_day (weekday_of (day_text i)) i w) (λ x i. refl) (pieces 44 v) r
+own_weekdays : (m : PartName) → (row m == row (part.List ByDay)) ≡ true → (v : List ℕ) (r : RuleParts) →
+    (with_value m v r).weekdays ≡ fold (λ w i. with_day (weekday_of (day_text i)) i w) r.weekdays (pieces 44 v)
+own_weekdays (part.List ByDay) e v r = fold_field (λ x. x.weekdays) (with_item ByDay) (λ w i. with_day (weekday_of (day_text i)) i w) (λ x i. refl)
+    (pieces 44 v) r
 own_weekdays _ e v r = absurd (false≢true e)
 
 other_weekdays : (m : PartName) → (row m == row (part.List ByDay)) ≡ false → (v : List ℕ) (r : RuleParts) → (with_value m v r).weekdays ≡ r.weekdays
@@ -210,8 +224,10 @@ other_weekdays _ e v r = refl
 pub sets_weekdays : Sets (part.List ByDay) (λ r. r.weekdays) (λ v x. fold (λ w i. with_day (weekday_of (day_text i)) i w) x (pieces 44 v))
 sets_weekdays = record { own = own_weekdays; other = other_weekdays }
 
-own_month_days : (m : PartName) → (row m == row (part.List ByMonthDay)) ≡ true → (v : List ℕ) (r : RuleParts) → (with_value m v r).month_days ≡ fold (λ p i. with_ordinal (side_of i) (number_of (unsigned i)) p) r.month_days (pieces 44 v)
-own_month_days (part.List ByMonthDay) e v r = fold_field (λ x. x.month_days) (with_item ByMonthDay) (λ p i. with_ordinal (side_of i) (number_of (unsigned i)) p) (λ x i. refl) (pieces 44 v) r
+own_month_days : (m : PartName) → (row m == row (part.List ByMonthDay)) ≡ true → (v : List ℕ) (r : RuleParts) →
+    (with_value m v r).month_days ≡ fold (λ p i. with_ordinal (side_of i) (number_of (unsigned i)) p) r.month_days (pieces 44 v)
+own_month_days (part.List ByMonthDay) e v r =
+    fold_field (λ x. x.month_days) (with_item ByMonthDay) (λ p i. with_ordinal (side_of i) (number_of (unsigned i)) p) (λ x i. refl) (pieces 44 v) r
 own_month_days _ e v r = absurd (false≢true e)
 
 other_month_days : (m : PartName) → (row m == row (part.List ByMonthDay)) ≡ false → (v : List ℕ) (r : RuleParts) → (with_value m v r).month_days ≡ r.month_days
@@ -222,8 +238,10 @@ other_month_days _ e v r = refl
 pub sets_month_days : Sets (part.List ByMonthDay) (λ r. r.month_days) (λ v x. fold (λ p i. with_ordinal (side_of i) (number_of (unsigned i)) p) x (pieces 44 v))
 sets_month_days = record { own = own_month_days; other = other_month_days }
 
-own_weeks : (m : PartName) → (row m == row (part.List ByWeekNo)) ≡ true → (v : List ℕ) (r : RuleParts) → (with_value m v r).weeks ≡ fold (λ p i. with_ordinal (side_of i) (number_of (unsigned i)) p) r.weeks (pieces 44 v)
-own_weeks (part.List ByWeekNo) e v r = fold_field (λ x. x.weeks) (with_item ByWeekNo) (λ p i. with_ordinal (side_of i) (number_of (unsigned i)) p) (λ x i. refl) (pieces 44 v) r
+own_weeks : (m : PartName) → (row m == row (part.List ByWeekNo)) ≡ true → (v : List ℕ) (r : RuleParts) →
+    (with_value m v r).weeks ≡ fold (λ p i. with_ordinal (side_of i) (number_of (unsigned i)) p) r.weeks (pieces 44 v)
+own_weeks (part.List ByWeekNo) e v r = fold_field (λ x. x.weeks) (with_item ByWeekNo) (λ p i. with_ordinal (side_of i) (number_of (unsigned i)) p) (λ x i. refl)
+    (pieces 44 v) r
 own_weeks _ e v r = absurd (false≢true e)
 
 other_weeks : (m : PartName) → (row m == row (part.List ByWeekNo)) ≡ false → (v : List ℕ) (r : RuleParts) → (with_value m v r).weeks ≡ r.weeks
@@ -234,8 +252,10 @@ other_weeks _ e v r = refl
 pub sets_weeks : Sets (part.List ByWeekNo) (λ r. r.weeks) (λ v x. fold (λ p i. with_ordinal (side_of i) (number_of (unsigned i)) p) x (pieces 44 v))
 sets_weeks = record { own = own_weeks; other = other_weeks }
 
-own_year_days : (m : PartName) → (row m == row (part.List ByYearDay)) ≡ true → (v : List ℕ) (r : RuleParts) → (with_value m v r).year_days ≡ fold (λ p i. with_wide_ordinal (side_of i) (number_of (unsigned i)) p) r.year_days (pieces 44 v)
-own_year_days (part.List ByYearDay) e v r = fold_field (λ x. x.year_days) (with_item ByYearDay) (λ p i. with_wide_ordinal (side_of i) (number_of (unsigned i)) p) (λ x i. refl) (pieces 44 v) r
+own_year_days : (m : PartName) → (row m == row (part.List ByYearDay)) ≡ true → (v : List ℕ) (r : RuleParts) →
+    (with_value m v r).year_days ≡ fold (λ p i. with_wide_ordinal (side_of i) (number_of (unsigned i)) p) r.year_days (pieces 44 v)
+own_year_days (part.List ByYearDay) e v r =
+    fold_field (λ x. x.year_days) (with_item ByYearDay) (λ p i. with_wide_ordinal (side_of i) (number_of (unsigned i)) p) (λ x i. refl) (pieces 44 v) r
 own_year_days _ e v r = absurd (false≢true e)
 
 other_year_days : (m : PartName) → (row m == row (part.List ByYearDay)) ≡ false → (v : List ℕ) (r : RuleParts) → (with_value m v r).year_days ≡ r.year_days
@@ -243,11 +263,14 @@ other_year_days (part.List ByYearDay) e v r = absurd (true≢false e)
 other_year_days (part.List l) e v r = keeps_field (λ x. x.year_days) (with_item l) (λ x i. refl) (pieces 44 v) r
 other_year_days _ e v r = refl
 
-pub sets_year_days : Sets (part.List ByYearDay) (λ r. r.year_days) (λ v x. fold (λ p i. with_wide_ordinal (side_of i) (number_of (unsigned i)) p) x (pieces 44 v))
+pub sets_year_days : Sets (part.List ByYearDay) (λ r. r.year_days)
+    (λ v x. fold (λ p i. with_wide_ordinal (side_of i) (number_of (unsigned i)) p) x (pieces 44 v))
 sets_year_days = record { own = own_year_days; other = other_year_days }
 
-own_positions : (m : PartName) → (row m == row (part.List BySetPos)) ≡ true → (v : List ℕ) (r : RuleParts) → (with_value m v r).positions ≡ fold (λ p i. with_wide_ordinal (side_of i) (number_of (unsigned i)) p) r.positions (pieces 44 v)
-own_positions (part.List BySetPos) e v r = fold_field (λ x. x.positions) (with_item BySetPos) (λ p i. with_wide_ordinal (side_of i) (number_of (unsigned i)) p) (λ x i. refl) (pieces 44 v) r
+own_positions : (m : PartName) → (row m == row (part.List BySetPos)) ≡ true → (v : List ℕ) (r : RuleParts) →
+    (with_value m v r).positions ≡ fold (λ p i. with_wide_ordinal (side_of i) (number_of (unsigned i)) p) r.positions (pieces 44 v)
+own_positions (part.List BySetPos) e v r = fold_field (λ x. x.positions) (with_item BySetPos) (λ p i. with_wide_ordinal (side_of i) (number_of (unsigned i)) p)
+    (λ x i. refl) (pieces 44 v) r
 own_positions _ e v r = absurd (false≢true e)
 
 other_positions : (m : PartName) → (row m == row (part.List BySetPos)) ≡ false → (v : List ℕ) (r : RuleParts) → (with_value m v r).positions ≡ r.positions
@@ -255,5 +278,6 @@ other_positions (part.List BySetPos) e v r = absurd (true≢false e)
 other_positions (part.List l) e v r = keeps_field (λ x. x.positions) (with_item l) (λ x i. refl) (pieces 44 v) r
 other_positions _ e v r = refl
 
-pub sets_positions : Sets (part.List BySetPos) (λ r. r.positions) (λ v x. fold (λ p i. with_wide_ordinal (side_of i) (number_of (unsigned i)) p) x (pieces 44 v))
+pub sets_positions : Sets (part.List BySetPos) (λ r. r.positions)
+    (λ v x. fold (λ p i. with_wide_ordinal (side_of i) (number_of (unsigned i)) p) x (pieces 44 v))
 sets_positions = record { own = own_positions; other = other_positions }

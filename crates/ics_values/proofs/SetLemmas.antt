@@ -1,5 +1,6 @@
 -- What adding a member does to a set.
-use Rattle.std.proofs.Common.{◌≡◌, refl, ℕ, ◌+◌, ◌-◌, ◌*◌, ◌/◌, ◌%◌, ◌^◌, ◌<◌, ◌≤◌, ◌⊎◌, inl, inr, ◌==◌, ◌||◌, ◌&&◌, nat_lt, ◌≢◌, Bool, true, false, List, length, get_or, set, ap, sym, subst, ◌∙◌, arith, w64, bit_or, get_or-set_same, get_or-set_other}
+use Rattle.std.proofs.Common.{◌≡◌, refl, ℕ, ◌+◌, ◌-◌, ◌*◌, ◌/◌, ◌%◌, ◌^◌, ◌<◌, ◌≤◌, ◌⊎◌, inl, inr, ◌==◌, ◌||◌, ◌&&◌, nat_lt, ◌≢◌, Bool, true, false, List}
+use Rattle.std.proofs.Common.{length, get_or, set, ap, sym, subst, ◌∙◌, arith, w64, bit_or, get_or-set_same, get_or-set_other}
 use Rattle.std.proofs.lemmas.Bool.Decides.{nat_tests}
 use Rattle.std.proofs.lemmas.Nat.Bits.{bit_at_set_same, bit_at_set_other, bit_at_above, bit_at-zero, bit_at-trailing_zeros, bit_at_cat_low, bit_at_ones}
 use Rattle.std.proofs.lemmas.Nat.{one_shl, pow-add, div-add-mod'}
@@ -35,13 +36,15 @@ has_digit ws n = contains (get_or ws (n / 64) 0) (n % 64)
 has_digit-set : (ws : List ℕ) (n m : ℕ) → n / 64 < length ws →
     has_digit (set ws (n / 64) (bit_or (get_or ws (n / 64) 0) (1 * 2 ^ (n % 64) % 18446744073709551616))) m ≡ (m == n) || has_digit ws m
 has_digit-set ws n m h = elim (same_or_not (m / 64) (n / 64)) [
-  | inl e ↦ rw (e, get_or-set_same) (contains-or_bit (get_or ws (n / 64) 0) (n % 64) (m % 64) (omega arith) ∙ ap (λ b. b || contains (get_or ws (n / 64) 0) (m % 64)) (same_in_word m n e))
+  | inl e ↦ rw (e, get_or-set_same) (contains-or_bit (get_or ws (n / 64) 0) (n % 64) (m % 64) (omega arith)
+      ∙ ap (λ b. b || contains (get_or ws (n / 64) 0) (m % 64)) (same_in_word m n e))
   | inr ne ↦ rw (get_or-set_other) (let differ : m ≢ n = λ e. ne (ap (λ x. x / 64) e) in grind (arith, nat_tests))
 ]
 
 pub contains_wide-set : (ws : List ℕ) (n m : ℕ) → n / 64 < length ws → n < 384 →
     contains_wide (set ws (n / 64) (bit_or (get_or ws (n / 64) 0) (1 * 2 ^ (n % 64) % 18446744073709551616))) m ≡ (m == n) || contains_wide ws m
-contains_wide-set ws n m h low = ap (λ x. nat_lt m 384 && x) (has_digit-set ws n m h) ∙ cases (nat_lt m 384) (m == n) (has_digit ws m) (λ out. apart m n low out)
+contains_wide-set ws n m h low = ap (λ x. nat_lt m 384 && x) (has_digit-set ws n m h)
+    ∙ cases (nat_lt m 384) (m == n) (has_digit ws m) (λ out. apart m n low out)
   where
     apart : (m n : ℕ) → n < 384 → nat_lt m 384 ≡ false → (m == n) ≡ false
     apart m n h o = grind (arith, nat_tests)
@@ -57,14 +60,17 @@ wide_past ws m h = ap (λ x. x && has_digit ws m) (outside m h)
     outside : (m : ℕ) → 384 ≤ m → nat_lt m 384 ≡ false
     outside m h = grind (arith, nat_tests)
 
-pub with_wide_number-is : (ws : List ℕ) (n : ℕ) → set ws (n / 64) (bit_or (get_or ws (n / 64) 0) (1 * 2 ^ (n % 64) % 18446744073709551616)) ≡ with_wide_number n ws
+pub with_wide_number-is : (ws : List ℕ) (n : ℕ) → set ws (n / 64) (bit_or (get_or ws (n / 64) 0) (1 * 2 ^ (n % 64) % 18446744073709551616))
+    ≡ with_wide_number n ws
 with_wide_number-is ws n = ap (λ x. set ws (n / 64) x) (with_number-is (get_or ws (n / 64) 0) (n % 64) (omega arith))
 
-pub contains_wide-with_number : (ws : List ℕ) (n m : ℕ) → n / 64 < length ws → n < 384 → contains_wide (with_wide_number n ws) m ≡ (m == n) || contains_wide ws m
+pub contains_wide-with_number : (ws : List ℕ) (n m : ℕ) → n / 64 < length ws → n < 384 →
+    contains_wide (with_wide_number n ws) m ≡ (m == n) || contains_wide ws m
 contains_wide-with_number ws n m h low = ap (λ x. contains_wide x m) (sym (with_wide_number-is ws n)) ∙ contains_wide-set ws n m h low
 
 -- a number in its range keeps a set in it
-pub within_more : (low high n : ℕ) (test more : ℕ → Bool) → ((m : ℕ) → more m ≡ (m == n) || test m) → IsWithin low high test → low ≤ n → n ≤ high → IsWithin low high more
+pub within_more : (low high n : ℕ) (test more : ℕ → Bool) → ((m : ℕ) → more m ≡ (m == n) || test m) → IsWithin low high test → low ≤ n → n ≤ high →
+    IsWithin low high more
 within_more low high n test more each own l h m e = cases m (test m) refl (sym (each m) ∙ e)
   where
     cases : (m : ℕ) (b : Bool) → test m ≡ b → ((m == n) || test m) ≡ true → (low ≤ m) × (m ≤ high)

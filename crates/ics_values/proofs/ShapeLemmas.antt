@@ -1,5 +1,6 @@
 -- The shape of a duration's text, and the numbers before its units.
-use Rattle.std.proofs.Common.{◌≡◌, ◌≢◌, ℕ, suc, ◌+◌, ◌-◌, ◌*◌, ◌<◌, Bool, true, false, ◌==◌, ◌&&◌, List, [], ◌∷◌, ◌++◌, length, take, drop, refl, sym, ap, ◌∙◌, arith}
+use Rattle.std.proofs.Common.{◌≡◌, ◌≢◌, ℕ, suc, ◌+◌, ◌-◌, ◌*◌, ◌<◌, Bool, true, false, ◌==◌, ◌&&◌, List, [], ◌∷◌, ◌++◌, length, take, drop, refl, sym, ap, ◌∙◌}
+use Rattle.std.proofs.Common.{arith}
 use Rattle.std.specs.Prelude.{fold}
 use Rattle.std.specs.List.{list_all, list_any}
 use Rattle.std.specs.Str.{bytes_eq}
@@ -37,7 +38,8 @@ pub digit_count-digits : (text : List ℕ) → list_all is_digit (take (digit_co
 digit_count-digits [] = refl
 digit_count-digits (b ∷ bs) = by_test (digit_count-digits bs) (is_digit b) refl
   where
-    by_test : list_all is_digit (take (digit_count bs) bs) ≡ true → (t : Bool) → is_digit b ≡ t → list_all is_digit (take (digit_count (b ∷ bs)) (b ∷ bs)) ≡ true
+    by_test : list_all is_digit (take (digit_count bs) bs) ≡ true → (t : Bool) → is_digit b ≡ t →
+        list_all is_digit (take (digit_count (b ∷ bs)) (b ∷ bs)) ≡ true
     by_test later true h = rw (digit_count-yes b bs h) (rw h later)
     by_test later false h = rw (digit_count-no b bs h) refl
 
@@ -65,19 +67,25 @@ pub shape-digits : (text : List ℕ) → begins is_digit text ≡ true → shape
 shape-digits [] h = cc
 shape-digits (b ∷ bs) h = rw (digit_count-yes b bs h) (by_test (λ k. shape-digits bs k) (begins is_digit bs) refl)
   where
-    by_test : (begins is_digit bs ≡ true → shape bs ≡ 48 ∷ shape (drop (digit_count bs) bs)) → (t : Bool) → begins is_digit bs ≡ t → shape (b ∷ bs) ≡ 48 ∷ shape (drop (digit_count bs) bs)
+    by_test : (begins is_digit bs ≡ true → shape bs ≡ 48 ∷ shape (drop (digit_count bs) bs)) → (t : Bool) → begins is_digit bs ≡ t →
+        shape (b ∷ bs) ≡ 48 ∷ shape (drop (digit_count bs) bs)
     by_test later true k = shape-more b bs h k ∙ later k
     by_test later false k = rw (digit_count-none bs k) (shape-last b bs h k)
 
 -- and the number before what is behind them
-amount_from-no : (unit b : ℕ) (bs : List ℕ) (n : ℕ) → (upper b == unit) ≡ false → is_digit b ≡ true → amount_from unit (b ∷ bs) n ≡ amount_from unit bs (10 * n + (b - 48))
+amount_from-no : (unit b : ℕ) (bs : List ℕ) (n : ℕ) → (upper b == unit) ≡ false → is_digit b ≡ true →
+    amount_from unit (b ∷ bs) n ≡ amount_from unit bs (10 * n + (b - 48))
 amount_from-no unit b bs n h k = rw (h, k) refl
 
-pub amount_from-digits : (unit : ℕ) (text : List ℕ) (n : ℕ) → 57 < unit → amount_from unit text n ≡ amount_from unit (drop (digit_count text) text) (fold (λ n b. 10 * n + (b - 48)) n (take (digit_count text) text))
+pub amount_from-digits : (unit : ℕ) (text : List ℕ) (n : ℕ) → 57 < unit →
+    amount_from unit text n ≡ amount_from unit (drop (digit_count text) text) (fold (λ n b. 10 * n + (b - 48)) n (take (digit_count text) text))
 amount_from-digits unit [] n low = refl
 amount_from-digits unit (b ∷ bs) n low = by_test (amount_from-digits unit bs (10 * n + (b - 48)) low) (is_digit b) refl
   where
-    by_test : amount_from unit bs (10 * n + (b - 48)) ≡ amount_from unit (drop (digit_count bs) bs) (fold (λ n b. 10 * n + (b - 48)) (10 * n + (b - 48)) (take (digit_count bs) bs)) → (t : Bool) → is_digit b ≡ t → amount_from unit (b ∷ bs) n ≡ amount_from unit (drop (digit_count (b ∷ bs)) (b ∷ bs)) (fold (λ n b. 10 * n + (b - 48)) n (take (digit_count (b ∷ bs)) (b ∷ bs)))
+    by_test : amount_from unit bs (10 * n + (b - 48))
+        ≡ amount_from unit (drop (digit_count bs) bs) (fold (λ n b. 10 * n + (b - 48)) (10 * n + (b - 48)) (take (digit_count bs) bs)) → (t : Bool) →
+        is_digit b ≡ t → amount_from unit (b ∷ bs) n
+        ≡ amount_from unit (drop (digit_count (b ∷ bs)) (b ∷ bs)) (fold (λ n b. 10 * n + (b - 48)) n (take (digit_count (b ∷ bs)) (b ∷ bs)))
     by_test later true h = rw (digit_count-yes b bs h) (amount_from-no unit b bs n (upper-unit b unit h low) h ∙ later)
     by_test later false h = rw (digit_count-no b bs h) refl
 
@@ -121,7 +129,8 @@ pub none-behind : (front s : List ℕ) (shapes : List (List ℕ)) → begins_wit
 none-behind front s [] h = refl
 none-behind front s (x ∷ xs) h = rw (bytes_eq-other front s x h, none-behind front s xs h) refl
 
-pub has_shape-behind : (front text rest : List ℕ) (shapes : List (List ℕ)) → shape text ≡ front ++ shape rest → has_shape (behind front shapes) text ≡ has_shape shapes rest
+pub has_shape-behind : (front text rest : List ℕ) (shapes : List (List ℕ)) → shape text ≡ front ++ shape rest →
+    has_shape (behind front shapes) text ≡ has_shape shapes rest
 has_shape-behind front text rest shapes h = rw h (any-behind front (shape rest) shapes)
 
 -- only the empty text has the empty shape
@@ -134,16 +143,19 @@ shape-some (b ∷ bs) h = by_test (is_digit b) refl
     by_test false h = rw (shape-no b bs h) refl
 
 -- what is behind a front and a number has none of the shapes
-pub no_shape-behind : (front text rest : List ℕ) (shapes : List (List ℕ)) → shape text ≡ front ++ shape rest → (length rest == 0) ≡ false → has_shape shapes rest ≡ false → has_shape (behind front ([] ∷ shapes)) text ≡ false
+pub no_shape-behind : (front text rest : List ℕ) (shapes : List (List ℕ)) → shape text ≡ front ++ shape rest → (length rest == 0) ≡ false →
+    has_shape shapes rest ≡ false → has_shape (behind front ([] ∷ shapes)) text ≡ false
 no_shape-behind front text rest shapes h some none = has_shape-behind front text rest ([] ∷ shapes) h ∙ rw (shape-some rest some, none) refl
 
 -- the number before a unit
-pub is_amount : (unit : ℕ) (text rest : List ℕ) → 57 < unit → begins is_digit text ≡ true → IsLetter unit (drop (digit_count text) text) rest → IsAmount unit text (capped (number_of (take (digit_count text) text))) rest
+pub is_amount : (unit : ℕ) (text rest : List ℕ) → 57 < unit → begins is_digit text ≡ true → IsLetter unit (drop (digit_count text) text) rest →
+    IsAmount unit text (capped (number_of (take (digit_count text) text))) rest
 is_amount unit text rest low h letter = record {
   shape = shape-digits text h ∙ ap (λ s. 48 ∷ s) letter.shape;
   number = ap capped (sym (amount_from-digits unit text 0 low ∙ letter.own (number_of (take (digit_count text) text))));
   others = λ other high ne. amount_from-digits other text 0 high ∙ letter.others other (number_of (take (digit_count text) text)) ne;
 }
 
-pub lacks-unit : (unit : ℕ) (text : List ℕ) → begins is_digit text ≡ true → begins_with (unit ∷ []) (shape (drop (digit_count text) text)) ≡ false → begins_with (48 ∷ unit ∷ []) (shape text) ≡ false
+pub lacks-unit : (unit : ℕ) (text : List ℕ) → begins is_digit text ≡ true → begins_with (unit ∷ []) (shape (drop (digit_count text) text)) ≡ false →
+    begins_with (48 ∷ unit ∷ []) (shape text) ≡ false
 lacks-unit unit text h k = rw (shape-digits text h) k

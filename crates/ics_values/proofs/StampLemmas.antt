@@ -7,7 +7,8 @@ use Rattle.jiff_core.specs.Calendar.{days_in_year, day_of_year}
 use Rattle.jiff_core.proofs.CalendarLemmas.{day_of_year_bound}
 use Rattle.ics_values.specs.Digits.{number_at, are_digits}
 use Rattle.ics_values.specs.Dates.{is_date, day_number}
-use Rattle.ics_values.specs.Stamps.{year_of, date_exists, day_of, local_of, time_exists, is_date_form, is_utc_form, is_local_form, is_date_time_form, is_stamp_text, stamp_said, stamp_day, is_stamp_year, stamp_of, IsDayOf, IsStampDay}
+use Rattle.ics_values.specs.Stamps.{year_of, date_exists, day_of, local_of, time_exists, is_date_form, is_utc_form, is_local_form, is_date_time_form}
+use Rattle.ics_values.specs.Stamps.{is_stamp_text, stamp_said, stamp_day, is_stamp_year, stamp_of, IsDayOf, IsStampDay}
 use Rattle.ics_values.specs.Periods.{IsDateTime}
 use Rattle.ics_values.specs.declared.stamp.StampFault.TheVariants.{BadStamp, YearRange}
 use Rattle.ics_values.proofs.FormLemmas.{utc_parts, local_long}
@@ -19,7 +20,9 @@ use Rattle.ics_values.proofs.DateLemmas.{parts, days_of-months, day_number-days_
 pub stamp_day-said : (zoned : Bool) (text : List ℕ) → stamp_day (stamp_said zoned text) ≡ day_of text
 stamp_day-said zoned text = by_tests (is_date_form text) (is_utc_form text) zoned
   where
-    by_tests : (date utc zoned : Bool) → stamp_day (if date then Date (day_of text) else (if utc then Utc (local_of text) else (if zoned then Zoned (local_of text) else Floating (local_of text)))) ≡ day_of text
+    by_tests : (date utc zoned : Bool) →
+        stamp_day (if date then Date (day_of text) else
+        (if utc then Utc (local_of text) else (if zoned then Zoned (local_of text) else Floating (local_of text)))) ≡ day_of text
     by_tests true utc zoned = refl
     by_tests false true zoned = refl
     by_tests false false true = refl
@@ -50,7 +53,8 @@ pub day_number_range : (y m d : ℕ) → is_date y m d ≡ true → 1 ≤ y → 
 day_number_range y m d h low high =
     let p = parts y m d h in
     let months_before = days_of-months (pos y) (m - 1) (omega arith) in
-    let place : day_of_year (pos y) m d ≤ days_in_year (pos y) = day_of_year_bound (pos y) m d ((omega (arith, ints), omega (arith, ints)), (omega arith, omega arith), (omega arith, omega arith)) in
+    let place : day_of_year (pos y) m d ≤ days_in_year (pos y) =
+    day_of_year_bound (pos y) m d ((omega (arith, ints), omega (arith, ints)), (omega arith, omega arith), (omega arith, omega arith)) in
     let next = days_before_year-next y in
     let first = days_before_year_mono 1 y low in
     let last = days_before_year_mono (suc y) 9900 (omega arith) in
@@ -61,7 +65,8 @@ stamp_years y h = grind (arith, nat_tests)
 
 -- a text with a time says no date alone
 pub no_date : (text : List ℕ) → is_date_time_form text ≡ true → is_date_form text ≡ false
-no_date text h = by_length (length text) (are_digits text) (either (is_utc_form text) (is_local_form text) (λ k. (utc_parts text k).0) (λ k. local_long text k) h)
+no_date text h = by_length (length text) (are_digits text)
+    (either (is_utc_form text) (is_local_form text) (λ k. (utc_parts text k).0) (λ k. local_long text k) h)
   where
     either : (utc local : Bool) → (utc ≡ true → length text ≡ 16) → (local ≡ true → length text ≡ 15) → (utc || local) ≡ true → 15 ≤ length text
     either true local u l h = let e = u refl in omega arith
@@ -70,10 +75,13 @@ no_date text h = by_length (length text) (are_digits text) (either (is_utc_form 
     by_length : (n : ℕ) (digits : Bool) → 15 ≤ n → ((n == 8) && digits) ≡ false
     by_length n digits h = let e : (n == 8) ≡ false = grind (arith, nat_tests) in rw e refl
 
-pub is_date_time : (zoned : Bool) (text : List ℕ) (stamp : Stamp) → is_date_time_form text ≡ true → Ok stamp ≡ stamp_of zoned text → IsStampDay (stamp_day stamp) → IsDateTime stamp
+pub is_date_time : (zoned : Bool) (text : List ℕ) (stamp : Stamp) → is_date_time_form text ≡ true → Ok stamp ≡ stamp_of zoned text →
+    IsStampDay (stamp_day stamp) → IsDateTime stamp
 is_date_time zoned text (Date day) form said range = by_tests _ (is_stamp_year (year_of text)) (is_utc_form text) zoned (sym (rw (no_date text form) at said))
   where
-    by_tests : (ordered near utc zoned : Bool) → (if not ordered then Err BadStamp else (if not near then Err YearRange else Ok (if utc then Utc (local_of text) else (if zoned then Zoned (local_of text) else Floating (local_of text))))) ≡ Ok (Date day) → ⊥
+    by_tests : (ordered near utc zoned : Bool) →
+        (if not ordered then Err BadStamp else (if not near then Err YearRange else Ok
+        (if utc then Utc (local_of text) else (if zoned then Zoned (local_of text) else Floating (local_of text))))) ≡ Ok (Date day) → ⊥
     by_tests false near utc zoned e = cc
     by_tests true false utc zoned e = cc
     by_tests true true true zoned e = cc

@@ -1,5 +1,6 @@
 -- What the parts of a TEXT value stand for, and its escapes.
-use Rattle.std.proofs.Common.{◌≡◌, ℕ, zero, suc, ◌+◌, ◌<◌, ◌≤◌, Bool, true, false, ◌==◌, ◌&&◌, ◌||◌, List, [], ◌∷◌, ◌++◌, length, take, drop, get_or, refl, sym, ap, ◌∙◌, arith, inl, inr, add-one, drop-cons, length-drop}
+use Rattle.std.proofs.Common.{◌≡◌, ℕ, zero, suc, ◌+◌, ◌<◌, ◌≤◌, Bool, true, false, ◌==◌, ◌&&◌, ◌||◌, List, [], ◌∷◌, ◌++◌, length, take, drop, get_or, refl}
+use Rattle.std.proofs.Common.{sym, ap, ◌∙◌, arith, inl, inr, add-one, drop-cons, length-drop}
 use Rattle.std.specs.Prelude.{if◌then◌else◌}
 use Rattle.std.proofs.lemmas.Bool.{eqb-true, false_from_ne_true}
 use Rattle.std.proofs.lemmas.Bool.Decides.{eqb_tells}
@@ -67,7 +68,8 @@ pub plain_text-escaped : (text : List ℕ) → plain_text (escaped text) false �
 plain_text-escaped [] = refl
 plain_text-escaped (b ∷ bs) = by_tests (plain_text-escaped bs) (stands_for_itself b) (b == 10) refl refl
   where
-    by_tests : plain_text (escaped bs) false ≡ bs → (itself lf : Bool) → stands_for_itself b ≡ itself → (b == 10) ≡ lf → plain_text (escaped (b ∷ bs)) false ≡ b ∷ bs
+    by_tests : plain_text (escaped bs) false ≡ bs → (itself lf : Bool) → stands_for_itself b ≡ itself → (b == 10) ≡ lf →
+        plain_text (escaped (b ∷ bs)) false ≡ b ∷ bs
     by_tests later true lf h k = rw (h, never (b == 92), h) (ap (λ t. b ∷ t) later)
     by_tests later false true h k = rw (h, k) (let e : b ≡ 10 = eqb-true b 10 k in rw e (ap (λ t. 10 ∷ t) later))
     by_tests later false false h k = rw (h, k) (rw (plain b h) (ap (λ t. b ∷ t) later))

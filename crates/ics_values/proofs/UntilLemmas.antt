@@ -28,7 +28,8 @@ until_in text h year =
     let day = day_in (year_of text) (number_at text 4 6) (number_at text 6 8) year (date_of-stamp text h) in
     by_form (is_date_form text) (is_utc_form text) day
   where
-    by_form : (d u : Bool) → IsDayNumber (day_of text) → IsUntil (until_said (cond d (Date (day_of text)) (cond u (Utc (local_of text)) (Floating (local_of text)))))
+    by_form : (d u : Bool) → IsDayNumber (day_of text) →
+        IsUntil (until_said (cond d (Date (day_of text)) (cond u (Utc (local_of text)) (Floating (local_of text)))))
     by_form true u day = day
     by_form false true day = day
     by_form false false day = day

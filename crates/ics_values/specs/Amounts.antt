@@ -40,4 +40,5 @@ Reads shapes text (Some a) = (has_shape shapes text ≡ true) × HasAmounts text
 
 -- no number is too large
 abbrev pub each_fits : Amounts → Bool
-each_fits a = nat_le a.weeks greatest_number && nat_le a.days greatest_number && nat_le a.hours greatest_number && nat_le a.minutes greatest_number && nat_le a.seconds greatest_number
+each_fits a = nat_le a.weeks greatest_number && nat_le a.days greatest_number && nat_le a.hours greatest_number && nat_le a.minutes greatest_number
+    && nat_le a.seconds greatest_number

@@ -80,7 +80,8 @@ seconds = amount 83
 
 -- no number of the text is too large
 abbrev pub amounts_fit : List ℕ → Bool
-amounts_fit text = nat_le (weeks text) greatest_number && nat_le (days text) greatest_number && nat_le (hours text) greatest_number && nat_le (minutes text) greatest_number && nat_le (seconds text) greatest_number
+amounts_fit text = nat_le (weeks text) greatest_number && nat_le (days text) greatest_number && nat_le (hours text) greatest_number
+    && nat_le (minutes text) greatest_number && nat_le (seconds text) greatest_number
 
 -- what such a text says
 abbrev pub duration_said : List ℕ → Duration

@@ -73,7 +73,8 @@ pub record Says (ps : List Part) (rule : RuleParts) : Type 0 where
   pub weeks : (side : Side) (n : ℕ) → has_place side n rule.weeks ≡ list_any (is_place side n) (items_of ByWeekNo ps)
   pub positions : (side : Side) (n : ℕ) → has_wide_place side n rule.positions ≡ list_any (is_place side n) (items_of BySetPos ps)
   pub weekdays : (day : Weekday) → contains rule.weekdays.plain (monday_zero day) ≡ list_any (is_weekday day) (items_of ByDay ps)
-  pub numbered : (day : Weekday) (side : Side) (n : ℕ) → has_place side n (numbers_of rule.weekdays (monday_zero day)) ≡ list_any (is_numbered day side n) (items_of ByDay ps)
+  pub numbered : (day : Weekday) (side : Side) (n : ℕ) → has_place side n (numbers_of rule.weekdays (monday_zero day))
+      ≡ list_any (is_numbered day side n) (items_of ByDay ps)
 
 -- the rule has no number in the list
 abbrev pub lists_nothing : ListName → RuleParts → Bool

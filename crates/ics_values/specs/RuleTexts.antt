@@ -1,5 +1,6 @@
 -- The texts of recurrence rules (RFC 5545, section 3.3.10): parts `NAME=value` between `;`.
-use Rattle.std.specs.Prelude.{ℕ, ◌-◌, Bool, true, false, ◌&&◌, ◌||◌, not, ◌==◌, nat_le, List, [], ◌∷◌, length, take, drop, map, codes, slice_index, Option, Some, None, is_some, if◌then◌else◌}
+use Rattle.std.specs.Prelude.{ℕ, ◌-◌, Bool, true, false, ◌&&◌, ◌||◌, not, ◌==◌, nat_le, List, [], ◌∷◌, length, take, drop, map, codes, slice_index, Option}
+use Rattle.std.specs.Prelude.{Some, None, is_some, if◌then◌else◌}
 use Rattle.std.specs.List.{list_any, list_all, slice_split, before_first, after_first}
 use Rattle.std.specs.Str.{bytes_eq}
 use Rattle.jiff_core.specs.declared.civil.weekday.Weekday.{Weekday}

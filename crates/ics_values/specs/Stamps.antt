@@ -1,6 +1,7 @@
 -- The texts of dates and times, and what they mean (RFC 5545, sections 3.3.4 and 3.3.5).
 use Rattle.std.specs.List.{list_all}
-use Rattle.std.specs.Prelude.{◌≡◌, ◌≤◌, ℕ, ◌+◌, ◌*◌, Bool, true, ◌&&◌, ◌||◌, not, ◌==◌, nat_le, List, length, take, drop, min, Result, Ok, Err, ℤ, pos, neg_ℤ, if◌then◌else◌}
+use Rattle.std.specs.Prelude.{◌≡◌, ◌≤◌, ℕ, ◌+◌, ◌*◌, Bool, true, ◌&&◌, ◌||◌, not, ◌==◌, nat_le, List, length, take, drop, min, Result, Ok, Err, ℤ, pos, neg_ℤ}
+use Rattle.std.specs.Prelude.{if◌then◌else◌}
 use Rattle.jiff_core.specs.Calendar.{IsBetween, IsDate, days_from_civil}
 use Rattle.ics_values.specs.Digits.{is_digit, are_digits, number_at, letter_at}
 use Rattle.ics_values.specs.Dates.{is_date, day_number}

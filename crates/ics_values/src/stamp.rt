@@ -1,6 +1,7 @@
 //! Dates and times, as a property's value has them.
 ghost use Rattle.std.specs.Prelude.{◌≡◌, ◌+◌, ◌*◌, ◌<◌, ◌≤◌, true, false, length, take, drop, ◌&&◌, MatchOption, IfSome, IfOk};
-ghost use Rattle.ics_values.specs.Stamps.{is_date_form, is_local_form, is_utc_form, is_date_time_form, year_of, date_exists, day_of, time_exists, second_of, local_of, is_stamp_text, stamp_said, is_stamp_year, stamp_of, stamp_day, IsDayOf, IsStampDay, HasDate, HasTime};
+ghost use Rattle.ics_values.specs.Stamps.{is_date_form, is_local_form, is_utc_form, is_date_time_form, year_of, date_exists, day_of, time_exists, second_of};
+ghost use Rattle.ics_values.specs.Stamps.{local_of, is_stamp_text, stamp_said, is_stamp_year, stamp_of, stamp_day, IsDayOf, IsStampDay, HasDate, HasTime};
 ghost use Rattle.ics_values.specs.Options.{IsWhere};
 ghost use Rattle.ics_values.specs.Forms.{IsFormless, IsOfForm};
 ghost use Rattle.ics_values.specs.ValueFaultNames.{stamp_fault_name};

@@ -1,5 +1,6 @@
 -- What two hours tell of the onsets of a rule.
-use Rattle.std.proofs.Common.{◌≡◌, ℕ, ◌+◌, ◌-◌, ◌*◌, ◌/◌, ◌%◌, ◌<◌, ◌==◌, ◌&&◌, nat_lt, inl, inr, refl, Bool, true, false, sym, subst, ap, ◌∙◌, arith, Option, Some, None, List, length, set, ℤ, pos, ◌+ℤ◌, ◌-ℤ◌, ◌<ℤ◌, ◌≤ℤ◌}
+use Rattle.std.proofs.Common.{◌≡◌, ℕ, ◌+◌, ◌-◌, ◌*◌, ◌/◌, ◌%◌, ◌<◌, ◌==◌, ◌&&◌, nat_lt, inl, inr, refl, Bool, true, false, sym, subst, ap, ◌∙◌, arith, Option}
+use Rattle.std.proofs.Common.{Some, None, List, length, set, ℤ, pos, ◌+ℤ◌, ◌-ℤ◌, ◌<ℤ◌, ◌≤ℤ◌}
 use Rattle.std.proofs.lemmas.Bool.{true_from_ne_false, cases_lt, cases_eq, eq-eqb, ne_eqb, and_parts, and_from}
 use Rattle.std.specs.Prelude.{IfSome, if◌then◌else◌, int_lt}
 use Rattle.std.proofs.lemmas.Int.{ints}
@@ -26,7 +27,8 @@ pub hours_of : (r : Recurrence) (local : ℕ) (here next : Times) → ((n : ℕ)
     → AreHoursOf r local (record { hour = local / 3_600; here = here; next = next })
 hours_of r local here next now later n from early = elim (cases_eq (n / 3_600) (local / 3_600)) [
   | inl e ↦ now n e ∙ sym (ap (λ b. if b then keeps_time here n else keeps_time next n) (eq-eqb (n / 3_600) (local / 3_600) e))
-  | inr ne ↦ later n (omega (arith, from, early, ne)) ∙ sym (ap (λ b. if b then keeps_time here n else keeps_time next n) (ne_eqb (n / 3_600) (local / 3_600) ne))
+  | inr ne ↦ later n (omega (arith, from, early, ne))
+      ∙ sym (ap (λ b. if b then keeps_time here n else keeps_time next n) (ne_eqb (n / 3_600) (local / 3_600) ne))
 ]
 
 -- a minute that begins at a local has the seconds of two minutes of the clock
@@ -40,7 +42,8 @@ minute_from_both hours local here next word is_here is_next low high n small = e
       low n less ∙ is_here (n + local % 60) less ∙ ap (keeps hours) at)
   | inr more ↦ (
       let at : (local / 60 + 1) * 60 + (n + local % 60 - 60) ≡ local + n = omega (arith, more) in
-      high n (n + local % 60 - 60) (omega (arith, more, small)) (omega (arith, more)) ∙ is_next (n + local % 60 - 60) (omega (arith, small)) ∙ ap (keeps hours) at)
+      high n (n + local % 60 - 60) (omega (arith, more, small)) (omega (arith, more)) ∙ is_next (n + local % 60 - 60) (omega (arith, small))
+      ∙ ap (keeps hours) at)
 ]
 
 -- two hours without times keep nothing
@@ -129,4 +132,5 @@ module _ (s : Onsets) (hours : Hours) (from : ℤ) (local : ℕ) (count : ℤ) (
       let t = told_at k low in
       let by_end = (from_kept s t.rule t.is_rule (from +ℤ pos k) h).by_end in
       words k low ∙ and_from (int_lt (pos k) count) (keeps hours (local + k)) (true_int_lt (pos k) count (up k low by_end))
-      (true_from_ne_false (keeps hours (local + k)) (λ not. not_kept_told s hours (from +ℤ pos k) t (local + k) (omega (arith, ints, at)) (keeps hours (local + k)) refl not h))
+      (true_from_ne_false (keeps hours (local + k))
+      (λ not. not_kept_told s hours (from +ℤ pos k) t (local + k) (omega (arith, ints, at)) (keeps hours (local + k)) refl not h))

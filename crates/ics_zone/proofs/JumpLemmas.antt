@@ -1,5 +1,6 @@
 -- The offset in force, and the instant at which a clock jumps over a local.
-use Rattle.std.proofs.Common.{◌≡◌, ◌≢◌, ℕ, ◌<◌, ◌⊎◌, inl, inr, Bool, true, false, cond, refl, sym, ap, ◌∙◌, subst, arith, List, [], ◌∷◌, ◌++◌, length, Option, Some, None, Contains, ℤ, pos, ◌+ℤ◌, ◌-ℤ◌, ◌<ℤ◌, ◌≤ℤ◌}
+use Rattle.std.proofs.Common.{◌≡◌, ◌≢◌, ℕ, ◌<◌, ◌⊎◌, inl, inr, Bool, true, false, cond, refl, sym, ap, ◌∙◌, subst, arith, List, [], ◌∷◌, ◌++◌, length, Option}
+use Rattle.std.proofs.Common.{Some, None, Contains, ℤ, pos, ◌+ℤ◌, ◌-ℤ◌, ◌<ℤ◌, ◌≤ℤ◌}
 use Rattle.std.proofs.lemmas.Int.{ints}
 use Rattle.std.specs.List.Sorted.{IsPermutation}
 use Rattle.std.proofs.lemmas.List.Sorted.{All-permutation}
@@ -275,7 +276,8 @@ held_moved zone onsets offsets was now moved known = record {
 }
 
 -- a span more is held, or none where memory is refused
-pub held_more : (zone : List ObservanceSaid) (onsets : List Onsets) (offsets : List ℤ) (was now : List Steady) (s : Steady) (b : Bool) → now ≡ cond b (was ++ s ∷ []) was
+pub held_more : (zone : List ObservanceSaid) (onsets : List Onsets) (offsets : List ℤ) (was now : List Steady) (s : Steady) (b : Bool) →
+    now ≡ cond b (was ++ s ∷ []) was
     → IsKnown zone onsets offsets was → IsSteady (zone_offset zone) s.from s.next s.offset → IsKnown zone onsets offsets now
 held_more zone onsets offsets was now s true is known steady = rw is (record {
   some = known.some;

@@ -1,5 +1,6 @@
 -- The marks of an hour, minute by minute.
-use Rattle.std.proofs.Common.{◌≡◌, ◌≢◌, ℕ, ◌*◌, ◌/◌, ◌%◌, ◌^◌, ◌<◌, inl, inr, refl, ◌==◌, ◌||◌, ap, ◌∙◌, arith, List, length, get_or, set, get_or-set_same, get_or-set_other, bit_or}
+use Rattle.std.proofs.Common.{◌≡◌, ◌≢◌, ℕ, ◌*◌, ◌/◌, ◌%◌, ◌^◌, ◌<◌, inl, inr, refl, ◌==◌, ◌||◌, ap, ◌∙◌, arith, List, length, get_or, set, get_or-set_same}
+use Rattle.std.proofs.Common.{get_or-set_other, bit_or}
 use Rattle.std.proofs.lemmas.Bool.{cases_eq}
 use Rattle.std.proofs.lemmas.Bool.Decides.{nat_tests}
 use Rattle.ics_values.specs.Sets.{contains}

@@ -1,5 +1,6 @@
 -- New York's clocks in 2007: the offsets of the year, its gap and its fold.
-use Rattle.std.proofs.Common.{◌≡◌, ◌≢◌, ℕ, zero, suc, ◌⊎◌, inl, inr, true, false, refl, sym, ap, subst, ◌∙◌, arith, List, [], ◌∷◌, Some, None, ℤ, pos, neg_ℤ, ◌-ℤ◌, ◌<ℤ◌, ◌≤ℤ◌, ◌==◌}
+use Rattle.std.proofs.Common.{◌≡◌, ◌≢◌, ℕ, zero, suc, ◌⊎◌, inl, inr, true, false, refl, sym, ap, subst, ◌∙◌, arith, List, [], ◌∷◌, Some, None, ℤ, pos, neg_ℤ}
+use Rattle.std.proofs.Common.{◌-ℤ◌, ◌<ℤ◌, ◌≤ℤ◌, ◌==◌}
 use Rattle.std.proofs.lemmas.Bool.{or_cases}
 use Rattle.std.specs.List.{list_any}
 use Rattle.std.proofs.lemmas.Int.{ints}

@@ -1,5 +1,6 @@
 -- Bounds of the onsets of a zone; the searches find the greatest and the least.
-use Rattle.std.proofs.Common.{◌≡◌, ◌≢◌, ℕ, ◌+◌, ◌<◌, ◌≤◌, inl, inr, Bool, true, false, refl, sym, ap, ◌∙◌, arith, List, [], ◌∷◌, length, Option, Some, None, slice_get, ℤ, pos, negsuc, ◌+ℤ◌, ◌*ℤ◌, ◌<ℤ◌, ◌≤ℤ◌}
+use Rattle.std.proofs.Common.{◌≡◌, ◌≢◌, ℕ, ◌+◌, ◌<◌, ◌≤◌, inl, inr, Bool, true, false, refl, sym, ap, ◌∙◌, arith, List, [], ◌∷◌, length, Option, Some, None}
+use Rattle.std.proofs.Common.{slice_get, ℤ, pos, negsuc, ◌+ℤ◌, ◌*ℤ◌, ◌<ℤ◌, ◌≤ℤ◌}
 use Rattle.std.proofs.lemmas.Bool.{or_left}
 use Rattle.std.proofs.lemmas.Int.{ints}
 use Rattle.std.proofs.lemmas.Option.{slice_get_within}
@@ -9,7 +10,8 @@ use Rattle.ics_values.specs.Stamps.{IsStampDay}
 use Rattle.ics_values.proofs.DayLemmas.{day_index_parts}
 use Rattle.ics_values.specs.Locals.{number}
 use Rattle.ics_zone.specs.Observances.{ObservanceSaid, IsObservanceSaid, IsZone, epoch, instant_by, is_begin, test_at, is_onset}
-use Rattle.ics_zone.specs.ZoneOffsets.{IsOnset, IsInForce, IsBeforeAll, IsOffset, instant, natural, instants_to, if_onset, last_at, first_at, in_force, earliest, offset_by, zone_offset}
+use Rattle.ics_zone.specs.ZoneOffsets.{IsOnset, IsInForce, IsBeforeAll, IsOffset, instant, natural, instants_to, if_onset, last_at, first_at, in_force}
+use Rattle.ics_zone.specs.ZoneOffsets.{earliest, offset_by, zone_offset}
 use Rattle.ics_zone.specs.ZoneBounds.{if_onset-some}
 use Rattle.ics_zone.proofs.SearchLemmas.{last_below-none, last_below-some, first_below-none, first_below-some}
 use Rattle.ics_zone.proofs.Cases.{less_or_not_z, less_same_or_more}
@@ -76,7 +78,8 @@ if_onset-none o t p e is none =
 
 module _ (zone : List ObservanceSaid) (facts : IsZone zone) where
   -- the last and the first onset of an instant
-  last_at-some : (t : ℤ) (p : ObservanceSaid) → last_at zone t ≡ Some p → (i : ℕ) × IsOnset zone i t p × ((j : ℕ) (q : ObservanceSaid) → IsOnset zone j t q → j ≤ i)
+  last_at-some : (t : ℤ) (p : ObservanceSaid) → last_at zone t ≡ Some p →
+      (i : ℕ) × IsOnset zone i t p × ((j : ℕ) (q : ObservanceSaid) → IsOnset zone j t q → j ≤ i)
   last_at-some t p e =
       let found = last_below-some (λ i. if_onset (slice_get zone i) t) (length zone) p e in
       let onset = if_onset-some (slice_get zone found.place) t p found.gives in (
@@ -89,7 +92,8 @@ module _ (zone : List ObservanceSaid) (facts : IsZone zone) where
         ],
       )
 
-  first_at-some : (t : ℤ) (p : ObservanceSaid) → first_at zone t ≡ Some p → (i : ℕ) × IsOnset zone i t p × ((j : ℕ) (q : ObservanceSaid) → IsOnset zone j t q → i ≤ j)
+  first_at-some : (t : ℤ) (p : ObservanceSaid) → first_at zone t ≡ Some p →
+      (i : ℕ) × IsOnset zone i t p × ((j : ℕ) (q : ObservanceSaid) → IsOnset zone j t q → i ≤ j)
   first_at-some t p e =
       let found = first_below-some (λ i. if_onset (slice_get zone i) t) (length zone) p e in
       let onset = if_onset-some (slice_get zone found.place) t p found.gives in (

@@ -1,5 +1,6 @@
 -- What a zone holds of an observance has its onsets.
-use Rattle.std.proofs.Common.{◌≡◌, ℕ, ◌<◌, ◌≤◌, ◌⊎◌, inl, inr, true, ◌==◌, refl, sym, ap, subst, ◌∙◌, arith, get_or, Option, Some, None, option_map, Contains, IfSome, ℤ, ◌≤ℤ◌}
+use Rattle.std.proofs.Common.{◌≡◌, ℕ, ◌<◌, ◌≤◌, ◌⊎◌, inl, inr, true, ◌==◌, refl, sym, ap, subst, ◌∙◌, arith, get_or, Option, Some, None, option_map, Contains}
+use Rattle.std.proofs.Common.{IfSome, ℤ, ◌≤ℤ◌}
 use Rattle.std.proofs.lemmas.Bool.{ltb-true, or_cases, or_left, or_right, and_parts, and_from}
 use Rattle.std.specs.Prelude.{MatchOption}
 use Rattle.std.specs.List.{list_any}

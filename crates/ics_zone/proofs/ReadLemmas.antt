@@ -1,5 +1,6 @@
 -- What a zone holds of its observances, one after another.
-use Rattle.std.proofs.Common.{◌≡◌, ℕ, ◌+◌, ◌-◌, ◌<◌, ◌≤◌, inl, inr, refl, sym, ap, subst, ◌∙◌, arith, List, [], ◌∷◌, ◌++◌, length, map, get_or, Some, Contains, slice_get, option_map, ℤ}
+use Rattle.std.proofs.Common.{◌≡◌, ℕ, ◌+◌, ◌-◌, ◌<◌, ◌≤◌, inl, inr, refl, sym, ap, subst, ◌∙◌, arith, List, [], ◌∷◌, ◌++◌, length, map, get_or, Some, Contains}
+use Rattle.std.proofs.Common.{slice_get, option_map, ℤ}
 use Rattle.std.specs.List.{dedup}
 use Rattle.std.specs.List.Sorted.{IsPermutation}
 use Rattle.std.specs.Ordering.{int_eq}
@@ -23,12 +24,14 @@ pub record AreOnsetsTo (observances : List Observance) (count : ℕ) (list : Lis
   pub each : (i : ℕ) (p : ObservanceSaid) (d : Onsets) → i < count → slice_get (map observance_said observances) i ≡ Some p → AreOnsetsOf p (get_or list i d)
 
 abbrev pub HaveOffsetsTo : List Observance → ℕ → List ℤ → Type 0
-HaveOffsetsTo observances count offsets = (i : ℕ) (p : ObservanceSaid) → i < count → slice_get (map observance_said observances) i ≡ Some p → HasOffsets offsets p
+HaveOffsetsTo observances count offsets = (i : ℕ) (p : ObservanceSaid) → i < count → slice_get (map observance_said observances) i ≡ Some p →
+    HasOffsets offsets p
 
 module _ (observances : List Observance) (k : ℕ) (o : Observance) (inside : k < length observances) (at : o ≡ get_or observances k o) where
   observance_here : (i : ℕ) (p : ObservanceSaid) → i ≡ k → slice_get (map observance_said observances) i ≡ Some p → observance_said o ≡ p
   observance_here i p same there =
-      let here = slice_get-map observance_said observances k ∙ ap (option_map observance_said) (slice_get_read observances (length observances) k o refl inside at) in
+      let here = slice_get-map observance_said observances k
+      ∙ ap (option_map observance_said) (slice_get_read observances (length observances) k o refl inside at) in
       let both : Some (observance_said o) ≡ Some p = sym here ∙ (ap (slice_get (map observance_said observances)) (sym same) ∙ there) in
       cc
 

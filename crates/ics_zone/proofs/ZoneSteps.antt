@@ -1,5 +1,6 @@
 -- The steps of the loops over the observances of a zone.
-use Rattle.std.proofs.Common.{◌≡◌, ℕ, zero, suc, ◌+◌, ◌<◌, ◌≤◌, ◌⊎◌, inl, inr, Bool, refl, ap, subst, ◌∙◌, arith, List, [], ◌∷◌, length, get_or, Option, Some, None, slice_get, ℤ, pos, ◌+ℤ◌, ◌-ℤ◌, ◌<ℤ◌, ◌≤ℤ◌}
+use Rattle.std.proofs.Common.{◌≡◌, ℕ, zero, suc, ◌+◌, ◌<◌, ◌≤◌, ◌⊎◌, inl, inr, Bool, refl, ap, subst, ◌∙◌, arith, List, [], ◌∷◌, length, get_or, Option, Some}
+use Rattle.std.proofs.Common.{None, slice_get, ℤ, pos, ◌+ℤ◌, ◌-ℤ◌, ◌<ℤ◌, ◌≤ℤ◌}
 use Rattle.std.specs.Prelude.{MatchOption, false}
 use Rattle.std.specs.Int.{int_max}
 use Rattle.std.specs.List.{All}
@@ -234,7 +235,8 @@ module _ (zone : List ObservanceSaid) (list : List Onsets) (all : AreOnsetsOfAll
         (λ of contains same. let to = of.to in omega (arith, ints, clamps, past, none, early, more, to))
 
 -- no observance is before the first
-pub first_of : (zone : List ObservanceSaid) (list : List Onsets) → AreOnsetsOfAll zone list → (o : Onsets) → 0 < length list → o ≡ get_or list 0 o → (at offset : ℤ)
+pub first_of : (zone : List ObservanceSaid) (list : List Onsets) → AreOnsetsOfAll zone list → (o : Onsets) → 0 < length list → o ≡ get_or list 0 o →
+    (at offset : ℤ)
     → Has o at
     → offset ≡ o.offset_from → IsFirst zone 0 at offset
 first_of zone list all o inside at_place at offset is from =

@@ -62,7 +62,8 @@ module _ (zone : List ObservanceSaid) (facts : IsZone zone) where
   unfolding zone_offset
   zone_offset_short t = by (in_force zone t) (earliest zone) (in_force-is t) earliest-is
     where
-      by : (now first : Option ObservanceSaid) → ((p : ObservanceSaid) → now ≡ Some p → IsObservanceSaid p) → ((p : ObservanceSaid) → first ≡ Some p → IsObservanceSaid p)
+      by : (now first : Option ObservanceSaid) → ((p : ObservanceSaid) → now ≡ Some p → IsObservanceSaid p) →
+          ((p : ObservanceSaid) → first ≡ Some p → IsObservanceSaid p)
           → IsWithin 86_399 (offset_by now first)
       by (Some p) first is least = (is p refl).to_in
       by None (Some p) is least = (least p refl).from_in
@@ -71,7 +72,8 @@ module _ (zone : List ObservanceSaid) (facts : IsZone zone) where
 -- the observances of the program are so
 pub zone_facts : (observances : List Observance) → IsZone (observances_said observances)
 zone_facts [] i p e = absurd (cc)
-zone_facts (o ∷ observances) zero p e = let same : observance_said o ≡ p = cc in rw (← same) (record { start_in = o.start_in; from_in = o.from_in; to_in = o.to_in })
+zone_facts (o ∷ observances) zero p e = let same : observance_said o ≡ p = cc in
+    rw (← same) (record { start_in = o.start_in; from_in = o.from_in; to_in = o.to_in })
 zone_facts (o ∷ observances) (suc i) p e = zone_facts observances i p e
 
 pub zone_short : (zone : List Observance) (t : ℤ) → IsWithin 86_399 (zone_offset (observances_said zone) t)

@@ -1,5 +1,6 @@
 -- Answers to the same words agree.
-use Rattle.std.proofs.Common.{◌≡◌, ◌⊎◌, inl, inr, ◌+ℤ◌, ℕ, ℤ, pos, Bool, true, false, true≢false, List, [], ◌∷◌, Some, None, Ok, Err, Result, Option, IsTrue, ◌↔◌, option_and_then, ◌&&◌, if◌then◌else◌, arith, refl, sym, ◌∙◌, ap, ap₂, subst}
+use Rattle.std.proofs.Common.{◌≡◌, ◌⊎◌, inl, inr, ◌+ℤ◌, ℕ, ℤ, pos, Bool, true, false, true≢false, List, [], ◌∷◌, Some, None, Ok, Err, Result, Option, IsTrue}
+use Rattle.std.proofs.Common.{◌↔◌, option_and_then, ◌&&◌, if◌then◌else◌, arith, refl, sym, ◌∙◌, ap, ap₂, subst}
 use Rattle.std.specs.Prelude.{int_le, int_lt, option_map, IsSome}
 use Rattle.std.specs.Int.{int_max}
 use Rattle.clap.specs.Words.{Text, IsAmong}
@@ -22,7 +23,8 @@ use Rattle.khal_list.specs.Agree.{Agree, SameRequest, day_after}
 use Rattle.khal_list.specs.Entries.{Entries, Span, entries_of, limit_text, span_of, IsRefused, AreTaken}
 use Rattle.khal_list.specs.Formats.{day_name, entry_name, IsFormat, OneFormat}
 use Rattle.khal_list.specs.Limits.{IsLimitOf}
-use Rattle.khal_list.specs.RequestOf.{RequestOf, IsAfterBy, IsDayKeyBy, IsDayKeyOf, IsRequest, IsBadWindow, IsKeyOf, HasWindow, after_text, day_format_text, day_from, format_text}
+use Rattle.khal_list.specs.RequestOf.{RequestOf, IsAfterBy, IsDayKeyBy, IsDayKeyOf, IsRequest, IsBadWindow, IsKeyOf, HasWindow, after_text, day_format_text}
+use Rattle.khal_list.specs.RequestOf.{day_from, format_text}
 use Rattle.khal_list.specs.WindowTexts.{Named, named}
 use Rattle.khal_list.specs.Windows.{first_start, last_end, midnight_before, today, start_said, between, second_at, ends_from, ends_of, end_named, moment_named}
 use Rattle.khal_list.specs.declared.every_day.EveryDay.{EveryDay}
@@ -42,7 +44,8 @@ abbrev pub OneDisplay : Type 0
 OneDisplay = (a b : Display) → said_by (zone_of a) ≡ said_by (zone_of b) → Alike a b
 
 same_today : (a b : Display) (now : ℤ) → Alike a b → today a now ≡ today b now
-same_today a b now h = ap (λ (offset : ℤ). if int_le first_start now && int_le now last_end then Some (midnight_before (now +ℤ offset)) else None) (h.offset now)
+same_today a b now h = ap (λ (offset : ℤ). if int_le first_start now && int_le now last_end then Some (midnight_before (now +ℤ offset)) else None)
+    (h.offset now)
 
 same_start : (a b : Display) (now : ℤ) (text : Option Text) → Alike a b → start_said a now text ≡ start_said b now text
 same_start a b now None h = same_today a b now h
@@ -53,12 +56,14 @@ abbrev ends_if : Bool → ℤ → ℤ → Option (ℤ × ℤ)
 ends_if passed from to = if passed then Some (from, to) else None
 
 same_between : (a b : Display) (start end : ℤ) → Alike a b → between a start end ≡ between b start end
-same_between a b start end h = ap₂ (λ (from to : ℤ). ends_if ((int_le first_start start && int_le end last_end) && int_lt from to) from to) (h.moment start) (h.moment end)
+same_between a b start end h = ap₂ (λ (from to : ℤ). ends_if ((int_le first_start start && int_le end last_end) && int_lt from to) from to) (h.moment start)
+    (h.moment end)
 
 same_second : (a b : Display) (local : ℤ) → Alike a b → second_at a local ≡ second_at b local
 same_second a b local h = ap (λ (from : ℤ). ends_if (int_le first_start local && int_le local last_end) from (from +ℤ pos 1)) (h.moment local)
 
-same_end : (a b : Display) (start : ℤ) (name : Option Named) → Alike a b → option_and_then (λ n. between a start (end_named start n)) name ≡ option_and_then (λ n. between b start (end_named start n)) name
+same_end : (a b : Display) (start : ℤ) (name : Option Named) → Alike a b →
+    option_and_then (λ n. between a start (end_named start n)) name ≡ option_and_then (λ n. between b start (end_named start n)) name
 same_end a b start None h = refl
 same_end a b start (Some n) h = same_between a b start (end_named start n) h
 
@@ -136,7 +141,8 @@ same_day_rank : (a b : DayRank) → a.day ≡ b.day → a.key ≡ b.key → a �
 same_day_rank a b day key = ap₂ day_rank day key
 
 -- the key under a day of a token is one
-same_day_key : OneSpelling → OneDaySpelling → (a b : Display) (v w : Window) → ((start : ℤ) → day_from a v start ≡ day_from b w start) → (text : Text) (k l : DayRank)
+same_day_key : OneSpelling → OneDaySpelling → (a b : Display) (v w : Window) → ((start : ℤ) → day_from a v start ≡ day_from b w start) →
+    (text : Text) (k l : DayRank)
     → IsDayKeyBy a v text k → IsDayKeyBy b w text l → k ≡ l
 same_day_key one days a b v w from text k l (inl p) (inl q) = days k l p.0 q.0 (sym p.1 ∙ q.1)
 same_day_key one days a b v w from text k l (inl p) (inr q) = absurd (no_both k l.key (sym p.1 ∙ q.1))
@@ -145,7 +151,8 @@ same_day_key one days a b v w from text k l (inr p) (inr q) =
     let key = one k.key l.key p.0 q.0 (sym p.1 ∙ q.1) in
     same_day_rank k l (p.2 ∙ (ap (λ (r : Rank). day_from a v r.start) key ∙ (from l.key.start ∙ sym q.2))) key
 
-same_day_after : OneSpelling → OneDaySpelling → (a b : Display) (v w : Window) → ((start : ℤ) → day_from a v start ≡ day_from b w start) → (given : Option Text) (k l : Option DayKey)
+same_day_after : OneSpelling → OneDaySpelling → (a b : Display) (v w : Window) → ((start : ℤ) → day_from a v start ≡ day_from b w start) →
+    (given : Option Text) (k l : Option DayKey)
     → IsDayKeyOf a v given k → IsDayKeyOf b w given l → option_map day_key_rank k ≡ option_map day_key_rank l
 same_day_after one days a b v w from None None None p q = refl
 same_day_after one days a b v w from None None (Some l) p q = absurd q
@@ -155,14 +162,16 @@ same_day_after one days a b v w from (Some text) (Some k) None p q = absurd q
 same_day_after one days a b v w from (Some text) (Some k) (Some l) p q = ap Some (same_day_key one days a b v w from text (day_key_rank k) (day_key_rank l) p q)
 
 -- the keys after which a listing goes on are the same
-module _ (one : OneSpelling) (days : OneDaySpelling) (entries : Entries) (a b : Display) (v w : Window) (from : (start : ℤ) → day_from a v start ≡ day_from b w start) where
+module _ (one : OneSpelling) (days : OneDaySpelling) (entries : Entries) (a b : Display) (v w : Window) (from : (start : ℤ) →
+    day_from a v start ≡ day_from b w start) where
   same_once : (k l : Option Key) (c d : Option EveryDay) → IsAfterBy entries a v k c → IsAfterBy entries b w l d → option_map key_rank k ≡ option_map key_rank l
   same_once k l None None p q = same_key one (after_text entries) k l p.1 q.1
   same_once k l None (Some d) p q = absurd (p.0 q.0)
   same_once k l (Some c) None p q = absurd (q.0 p.0)
   same_once k l (Some c) (Some d) p q = ap (option_map key_rank) (p.1 ∙ sym q.1)
 
-  same_every_day : (k l : Option Key) (c d : Option EveryDay) → IsAfterBy entries a v k c → IsAfterBy entries b w l d → option_map day_after c ≡ option_map day_after d
+  same_every_day : (k l : Option Key) (c d : Option EveryDay) → IsAfterBy entries a v k c → IsAfterBy entries b w l d →
+      option_map day_after c ≡ option_map day_after d
   same_every_day k l None None p q = refl
   same_every_day k l None (Some d) p q = absurd (p.0 q.0)
   same_every_day k l (Some c) None p q = absurd (q.0 p.0)
@@ -205,7 +214,8 @@ same_request one entries now a b p q =
       notstarted = same_flag a.window.notstarted b.window.notstarted _ p.notstarted q.notstarted;
       limit = same_limit (limit_text entries) a.limit b.limit p.limit q.limit;
       after = same_once one.spelling one.day_spelling entries a.zone b.zone a.window b.window from a.after b.after a.every_day b.every_day p.after q.after;
-      every_day = same_every_day one.spelling one.day_spelling entries a.zone b.zone a.window b.window from a.after b.after a.every_day b.every_day p.after q.after;
+      every_day = same_every_day one.spelling one.day_spelling entries a.zone b.zone a.window b.window from a.after b.after a.every_day b.every_day p.after
+          q.after;
       format = one.entries _ _ (sym p.format ∙ q.format);
       day_format = one.days _ _ (sym p.day_format ∙ q.day_format);
     }

@@ -1,5 +1,6 @@
 -- Names that are asked for, each once, and what is found for them.
-use Rattle.std.proofs.Common.{◌≡◌, ◌⊎◌, inl, inr, ℕ, Bool, true, false, true≢false, ◌||◌, ◌&&◌, List, [], ◌∷◌, ◌++◌, Option, Some, None, Ok, Err, refl, sym, ◌∙◌, ap, subst, append_assoc, append-nil}
+use Rattle.std.proofs.Common.{◌≡◌, ◌⊎◌, inl, inr, ℕ, Bool, true, false, true≢false, ◌||◌, ◌&&◌, List, [], ◌∷◌, ◌++◌, Option, Some, None, Ok, Err, refl, sym}
+use Rattle.std.proofs.Common.{◌∙◌, ap, subst, append_assoc, append-nil}
 use Rattle.std.specs.List.{list_any}
 use Rattle.std.specs.Str.{bytes_eq}
 use Rattle.std.proofs.lemmas.List.{map-append}
@@ -8,7 +9,8 @@ use Rattle.std.proofs.lemmas.Slice.Eq.{bytes_eq-Decides}
 use Rattle.ics_zone.specs.ZoneFiles.{TzifText}
 use Rattle.ics_calendar.specs.GivenFiles.{no_files, with_file, GivenFiles}
 use Rattle.std.specs.Option.{option_or}
-use Rattle.khal_list.specs.Asked.{and_name, and_names, given_files, given_from, is_unread, names_of, was_unread, with_found, Asked, AsksAll, AsksSome, FindsEach}
+use Rattle.khal_list.specs.Asked.{and_name, and_names, given_files, given_from, is_unread, names_of, was_unread, with_found, Asked, AsksAll, AsksSome}
+use Rattle.khal_list.specs.Asked.{FindsEach}
 use Rattle.khal_list.specs.Finds.{found_of, FindAnswer, Found}
 use Rattle.khal_list.specs.declared.fault.SourceFault.TheVariants.{Device, TooLarge, Memory}
 
@@ -102,7 +104,8 @@ with_found-other files (name, Found.Given bytes) other e = with_file-other files
 with_found-other files (name, Found.Absent) other e = refl
 with_found-other files (name, Found.Unread) other e = refl
 
-pub with_found-same : (files others : GivenFiles) (one : Asked) (other : List ℕ) → files other ≡ others other → with_found files one other ≡ with_found others one other
+pub with_found-same : (files others : GivenFiles) (one : Asked) (other : List ℕ) → files other ≡ others other →
+    with_found files one other ≡ with_found others one other
 with_found-same files others (name, Found.Given bytes) other e = rw e refl
 with_found-same files others (name, Found.Absent) other e = e
 with_found-same files others (name, Found.Unread) other e = e
@@ -121,10 +124,12 @@ apart name new names h fresh = go (bytes_eq name new) refl
 pub given-one : (asked : List Asked) (one : Asked) (name : List ℕ) → given_files (asked ++ one ∷ []) name ≡ with_found (given_files asked) one name
 given-one asked one name = ap (λ (files : GivenFiles). files name) (given_from-append no_files asked (one ∷ []))
 
-pub given-other : (asked : List Asked) (one : Asked) (name : List ℕ) → bytes_eq name one.0 ≡ false → given_files (asked ++ one ∷ []) name ≡ given_files asked name
+pub given-other : (asked : List Asked) (one : Asked) (name : List ℕ) → bytes_eq name one.0 ≡ false →
+    given_files (asked ++ one ∷ []) name ≡ given_files asked name
 given-other asked one name e = given-one asked one name ∙ with_found-other (given_files asked) one name e
 
-pub unread-one : (asked : List Asked) (one : Asked) (name : List ℕ) → is_unread (asked ++ one ∷ []) name ≡ (is_unread asked name || ((bytes_eq name one.0 && was_unread one.1) || false))
+pub unread-one : (asked : List Asked) (one : Asked) (name : List ℕ) →
+    is_unread (asked ++ one ∷ []) name ≡ (is_unread asked name || ((bytes_eq name one.0 && was_unread one.1) || false))
 unread-one asked one name = list_any-append (λ (a : Asked). bytes_eq name a.0 && was_unread a.1) asked (one ∷ [])
 
 pub unread-other : (asked : List Asked) (one : Asked) (name : List ℕ) → bytes_eq name one.0 ≡ false → is_unread (asked ++ one ∷ []) name ≡ is_unread asked name
@@ -133,7 +138,8 @@ unread-other asked one name e = unread-one asked one name ∙ rw e (or-false (is
 -- ---- finds
 
 module _ {Z : Type 0} (finds : Z → List ℕ → FindAnswer → Z → Type 0) where
-  each-append : (before : Z) (xs : List Asked) (middle : Z) (ys : List Asked) (after : Z) → FindsEach finds before xs middle → FindsEach finds middle ys after → FindsEach finds before (xs ++ ys) after
+  each-append : (before : Z) (xs : List Asked) (middle : Z) (ys : List Asked) (after : Z) → FindsEach finds before xs middle → FindsEach finds middle ys after →
+      FindsEach finds before (xs ++ ys) after
   each-append before [] middle ys after h k = subst (λ (z : Z). FindsEach finds z ys after) h k
   each-append before (x ∷ xs) middle ys after h k = (h.0, h.1, h.2, h.3, each-append h.1 xs middle ys after h.4 k)
 
@@ -145,14 +151,16 @@ module _ {Z : Type 0} (finds : Z → List ℕ → FindAnswer → Z → Type 0) w
   names-then asked more first then h = ap (λ (names : List (List ℕ)). and_names names then) h ∙ sym (and_names-append (names_of asked) first then)
 
   pub all-then-all : (asked : List Asked) (first then : List (List ℕ)) (before : Z) (more : List Asked) (middle : Z) (others : List Asked) (after : Z)
-      → AsksAll finds asked first before more middle → AsksAll finds (asked ++ more) then middle others after → AsksAll finds asked (first ++ then) before (more ++ others) after
+      → AsksAll finds asked first before more middle → AsksAll finds (asked ++ more) then middle others after →
+      AsksAll finds asked (first ++ then) before (more ++ others) after
   all-then-all asked first then before more middle others after h k = record {
     each = each-append before more middle others after h.each k.each;
     names = ap names_of (sym (append_assoc asked more others)) ∙ (k.names ∙ names-then asked more first then h.names);
   }
 
   pub all-then-some : (asked : List Asked) (first then : List (List ℕ)) (before : Z) (more : List Asked) (middle : Z) (others : List Asked) (after : Z)
-      → AsksAll finds asked first before more middle → AsksSome finds (asked ++ more) then middle others after → AsksSome finds asked (first ++ then) before (more ++ others) after
+      → AsksAll finds asked first before more middle → AsksSome finds (asked ++ more) then middle others after →
+      AsksSome finds asked (first ++ then) before (more ++ others) after
   all-then-some asked first then before more middle others after h k = record {
     last = k.last;
     each = each-append before more middle others k.last h.each k.each;
@@ -161,11 +169,19 @@ module _ {Z : Type 0} (finds : Z → List ℕ → FindAnswer → Z → Type 0) w
     ended = k.ended;
   }
 
-  pub all-some : (asked : List Asked) (wanted : List (List ℕ)) (before : Z) (more : List Asked) (after : Z) → AsksAll finds asked wanted before more after → AsksSome finds asked wanted before more after
-  all-some asked wanted before more after h = record { last = after; each = h.each; rest = []; names = append-nil (names_of (asked ++ more)) ∙ h.names; ended = inl refl }
+  pub all-some : (asked : List Asked) (wanted : List (List ℕ)) (before : Z) (more : List Asked) (after : Z) → AsksAll finds asked wanted before more after →
+      AsksSome finds asked wanted before more after
+  all-some asked wanted before more after h = record {
+    last = after;
+    each = h.each;
+    rest = [];
+    names = append-nil (names_of (asked ++ more)) ∙ h.names;
+    ended = inl refl;
+  }
 
   -- what is wanted further is left
-  pub some-front : (asked : List Asked) (first then : List (List ℕ)) (before : Z) (more : List Asked) (after : Z) → AsksSome finds asked first before more after → AsksSome finds asked (first ++ then) before more after
+  pub some-front : (asked : List Asked) (first then : List (List ℕ)) (before : Z) (more : List Asked) (after : Z) →
+      AsksSome finds asked first before more after → AsksSome finds asked (first ++ then) before more after
   some-front asked first then before more after h =
       let further = and_names-more (and_names (names_of asked) first) then in
       record {
@@ -177,15 +193,18 @@ module _ {Z : Type 0} (finds : Z → List ℕ → FindAnswer → Z → Type 0) w
         ended = go h.rest h.ended;
       }
     where
-      go : (rest : List (List ℕ)) → (after ≡ h.last) ⊎ ((name : List ℕ) × (others : List (List ℕ)) × (rest ≡ name ∷ others) × finds h.last name (Err Memory) after)
-          → (after ≡ h.last) ⊎ ((name : List ℕ) × (others : List (List ℕ)) × (rest ++ (and_names-more (and_names (names_of asked) first) then).0 ≡ name ∷ others) × finds h.last name (Err Memory) after)
+      go : (rest : List (List ℕ)) → (after ≡ h.last)
+          ⊎ ((name : List ℕ) × (others : List (List ℕ)) × (rest ≡ name ∷ others) × finds h.last name (Err Memory) after)
+          → (after ≡ h.last) ⊎ ((name : List ℕ) × (others : List (List ℕ))
+          × (rest ++ (and_names-more (and_names (names_of asked) first) then).0 ≡ name ∷ others) × finds h.last name (Err Memory) after)
       go rest (inl same) = inl same
       go rest (inr e) =
           let further = and_names-more (and_names (names_of asked) first) then in
           inr (e.0, e.1 ++ further.0, ap (λ (all : List (List ℕ)). all ++ further.0) e.2, e.3)
 
   -- a name that is asked for
-  pub one-asked : (asked : List Asked) (one : Asked) (before : Z) (answer : FindAnswer) (after : Z) → list_any (bytes_eq one.0) (names_of asked) ≡ false → finds before one.0 answer after → found_of answer ≡ Some one.1
+  pub one-asked : (asked : List Asked) (one : Asked) (before : Z) (answer : FindAnswer) (after : Z) → list_any (bytes_eq one.0) (names_of asked) ≡ false →
+      finds before one.0 answer after → found_of answer ≡ Some one.1
       → AsksAll finds asked (one.0 ∷ []) before (one ∷ []) after
   one-asked asked one before answer after fresh f is = record {
     each = (answer, after, f, is, refl);
@@ -200,7 +219,8 @@ module _ {Z : Type 0} (finds : Z → List ℕ → FindAnswer → Z → Type 0) w
   is-memory (Ok (Some bytes)) e = cc
 
   -- an allocation failed in the find
-  pub one-failed : (asked : List Asked) (name : List ℕ) (before : Z) (answer : FindAnswer) (after : Z) → list_any (bytes_eq name) (names_of asked) ≡ false → finds before name answer after → None ≡ found_of answer
+  pub one-failed : (asked : List Asked) (name : List ℕ) (before : Z) (answer : FindAnswer) (after : Z) → list_any (bytes_eq name) (names_of asked) ≡ false →
+      finds before name answer after → None ≡ found_of answer
       → AsksSome finds asked (name ∷ []) before [] after
   one-failed asked name before answer after fresh f is = record {
     last = before;

@@ -1,5 +1,6 @@
 -- A text is that of pieces in one way.
-use Rattle.std.proofs.Common.{◌≡◌, ℕ, ◌+◌, ◌-◌, ◌<◌, Bool, true, false, Some, List, [], ◌∷◌, ◌++◌, length, take, drop, get_or, if◌then◌else◌, refl, sym, ap, ◌∙◌, append_assoc, append-nil, add-one, arith, length-append, length-drop}
+use Rattle.std.proofs.Common.{◌≡◌, ℕ, ◌+◌, ◌-◌, ◌<◌, Bool, true, false, Some, List, [], ◌∷◌, ◌++◌, length, take, drop, get_or, if◌then◌else◌, refl, sym, ap}
+use Rattle.std.proofs.Common.{◌∙◌, append_assoc, append-nil, add-one, arith, length-append, length-drop}
 use Rattle.std.proofs.Math.Seq.{drop-cons}
 use Rattle.std.proofs.lemmas.Bool.{and_parts, or_parts, not-true, both_ways, eqb-true, lt-ltb}
 use Rattle.std.proofs.lemmas.List.{take_all, take-append-drop}
@@ -71,7 +72,8 @@ bytes_apart b c false true x y p q e = let same : b ≡ c = cc in absurd (both_w
 bytes_apart b c false false x y p q e = ((cc), (cc))
 
 no_field : (b : ℕ) (s : Bool) (xs x y : List ℕ) → is_plain xs ≡ true → is_brace b ≡ s → spelled s b ++ x ≡ 123 ∷ (xs ++ 125 ∷ y) → ⊥
-no_field b true xs x y plain p e = let first : 123 ≡ b = cc in let after : b ∷ x ≡ xs ++ 125 ∷ y = cc in no_brace_first xs x y plain (ap (λ (c : ℕ). c ∷ x) first ∙ after)
+no_field b true xs x y plain p e = let first : 123 ≡ b = cc in let after : b ∷ x ≡ xs ++ 125 ∷ y = cc in
+    no_brace_first xs x y plain (ap (λ (c : ℕ). c ∷ x) first ∙ after)
 no_field b false xs x y plain p e = let first : b ≡ 123 = cc in both_ways (is_brace b) p (ap is_brace first)
 
 -- pieces that are written alike
@@ -90,7 +92,8 @@ module _ {F : Type 0} (name : F → List ℕ) (plain : (field : F) → is_plain 
   pieces_apart (Byte b) (Byte c) x y e = bytes_apart b c (is_brace b) (is_brace c) x y refl refl e
   pieces_apart (Byte b) (Field g) x y e = absurd (no_field b (is_brace b) (name g) x y (plain g) refl (e ∙ behind g y))
   pieces_apart (Field f) (Byte c) x y e = absurd (no_field c (is_brace c) (name f) y x (plain f) refl (sym e ∙ behind f x))
-  pieces_apart (Field f) (Field g) x y e = names_apart (name f) (name g) x y (plain f) (plain g) (let whole : 123 ∷ (name f ++ 125 ∷ x) ≡ 123 ∷ (name g ++ 125 ∷ y) = sym (behind f x) ∙ e ∙ behind g y in (cc))
+  pieces_apart (Field f) (Field g) x y e = names_apart (name f) (name g) x y (plain f) (plain g) (let whole : 123 ∷ (name f ++ 125 ∷ x) ≡ 123
+      ∷ (name g ++ 125 ∷ y) = sym (behind f x) ∙ e ∙ behind g y in (cc))
 
   pub no_pieces : (p : Piece F) (x : List ℕ) → written_piece name p ++ x ≡ [] → ⊥
   no_pieces (Byte b) x e = by_brace (is_brace b) e
@@ -107,10 +110,12 @@ module _ {F : Type 0} (name : F → List ℕ) (plain : (field : F) → is_plain 
 
   pub written-last : (ps : List (Piece F)) (p : Piece F) → written name (ps ++ p ∷ []) ≡ written name ps ++ written_piece name p
   written-last [] p = append-nil (written_piece name p)
-  written-last (q ∷ qs) p = ap (λ t. written_piece name q ++ t) (written-last qs p) ∙ sym (append_assoc (written_piece name q) (written name qs) (written_piece name p))
+  written-last (q ∷ qs) p = ap (λ t. written_piece name q ++ t) (written-last qs p)
+      ∙ sym (append_assoc (written_piece name q) (written name qs) (written_piece name p))
 
 -- a text that begins with no piece is no format, but for the empty one
-pub no_format : {F : Type 0} (name : F → List ℕ) (text : List ℕ) → 0 < length text → ((p : Piece F) (x : List ℕ) → text ≡ written_piece name p ++ x → ⊥) → IsFormat name text → ⊥
+pub no_format : {F : Type 0} (name : F → List ℕ) (text : List ℕ) → 0 < length text → ((p : Piece F) (x : List ℕ) → text ≡ written_piece name p ++ x → ⊥) →
+    IsFormat name text → ⊥
 no_format name text some none ([], e) = omega (arith, ap length e)
 no_format name text some none (p ∷ ps, e) = none p (written name ps) e
 

@@ -1,5 +1,6 @@
 -- What is known of the names that were asked for.
-use Rattle.std.proofs.Common.{◌≡◌, ◌<◌, ◌+◌, ℕ, suc, Bool, true, false, ◌||◌, ◌&&◌, List, [], ◌∷◌, ◌++◌, Some, None, arith, drop, get_or, length, take, refl, sym, ◌∙◌, ap, subst, append_assoc, append-nil}
+use Rattle.std.proofs.Common.{◌≡◌, ◌<◌, ◌+◌, ℕ, suc, Bool, true, false, ◌||◌, ◌&&◌, List, [], ◌∷◌, ◌++◌, Some, None, arith, drop, get_or, length, take, refl}
+use Rattle.std.proofs.Common.{sym, ◌∙◌, ap, subst, append_assoc, append-nil}
 use Rattle.std.proofs.Math.Seq.{take-suc}
 use Rattle.std.proofs.lemmas.List.{take-append-drop}
 use Rattle.std.specs.BTreeSet.{contains}
@@ -47,11 +48,14 @@ swap false false = refl
 module _ (asked : List Asked) (one : Asked) (old new : Answered)
     (files : (name : List ℕ) → given_by new.files name ≡ with_found (given_by old.files) one name)
     (names : (name : List ℕ) → contains (slice_cmp nat_cmp) new.names name ≡ (bytes_eq name one.0 || contains (slice_cmp nat_cmp) old.names name))
-    (unread : (name : List ℕ) → contains (slice_cmp nat_cmp) new.unread name ≡ ((bytes_eq name one.0 && was_unread one.1) || contains (slice_cmp nat_cmp) old.unread name)) where
+    (unread : (name : List ℕ) → contains (slice_cmp nat_cmp) new.unread name
+    ≡ ((bytes_eq name one.0 && was_unread one.1) || contains (slice_cmp nat_cmp) old.unread name)) where
   knows-one : Knows asked old → Knows (asked ++ one ∷ []) new
   knows-one k = record {
-    files = λ name. files name ∙ (lemma.with_found-same (given_by old.files) (given_files asked) one name (k.files name) ∙ sym (lemma.given-one asked one name));
-    names = λ name. names name ∙ (ap (λ (t : Bool). bytes_eq name one.0 || t) (k.names name) ∙ (swap (bytes_eq name one.0) (list_any (bytes_eq name) (names_of asked))
+    files = λ name. files name ∙ (lemma.with_found-same (given_by old.files) (given_files asked) one name (k.files name)
+        ∙ sym (lemma.given-one asked one name));
+    names = λ name. names name ∙ (ap (λ (t : Bool). bytes_eq name one.0 || t) (k.names name)
+        ∙ (swap (bytes_eq name one.0) (list_any (bytes_eq name) (names_of asked))
         ∙ (sym (list_any-append (bytes_eq name) (names_of asked) (one.0 ∷ [])) ∙ ap (list_any (bytes_eq name)) (sym (lemma.names-append asked (one ∷ []))))));
     unread = λ name. unread name ∙ (ap (λ (t : Bool). (bytes_eq name one.0 && was_unread one.1) || t) (k.unread name)
         ∙ (swap (bytes_eq name one.0 && was_unread one.1) (is_unread asked name) ∙ sym (lemma.unread-one asked one name)));
@@ -76,19 +80,23 @@ module _ {Z : Type 0} (finds : Z → List ℕ → FindAnswer → Z → Type 0) w
   }
 
   pub learns-then-some : (asked : List Asked) (first then : List (List ℕ)) (before middle after : Z) (a : Answered)
-      → (h : Learns finds asked first before middle a) → LearnsSome finds (asked ++ h.more) then middle after → LearnsSome finds asked (first ++ then) before after
+      → (h : Learns finds asked first before middle a) → LearnsSome finds (asked ++ h.more) then middle after →
+      LearnsSome finds asked (first ++ then) before after
   learns-then-some asked first then before middle after a h k = record {
     more = h.more ++ k.more;
     asks = lemma.all-then-some finds asked first then before h.more middle k.more after h.asks k.asks;
   }
 
-  pub learns-front : (asked : List Asked) (first then : List (List ℕ)) (before after : Z) → LearnsSome finds asked first before after → LearnsSome finds asked (first ++ then) before after
+  pub learns-front : (asked : List Asked) (first then : List (List ℕ)) (before after : Z) → LearnsSome finds asked first before after →
+      LearnsSome finds asked (first ++ then) before after
   learns-front asked first then before after h = record { more = h.more; asks = lemma.some-front finds asked first then before h.more after h.asks }
 
-  pub learns-some : (asked : List Asked) (wanted : List (List ℕ)) (before after : Z) (a : Answered) → Learns finds asked wanted before after a → LearnsSome finds asked wanted before after
+  pub learns-some : (asked : List Asked) (wanted : List (List ℕ)) (before after : Z) (a : Answered) → Learns finds asked wanted before after a →
+      LearnsSome finds asked wanted before after
   learns-some asked wanted before after a h = record { more = h.more; asks = lemma.all-some finds asked wanted before h.more after h.asks }
 
-  module _ (asked : List Asked) (name : List ℕ) (before after : Z) (old : Answered) (k : Knows asked old) (new-name : contains (slice_cmp nat_cmp) old.names name ≡ false)
+  module _ (asked : List Asked) (name : List ℕ) (before after : Z) (old : Answered) (k : Knows asked old)
+      (new-name : contains (slice_cmp nat_cmp) old.names name ≡ false)
       (answer : FindAnswer) (f : finds before name answer after) where
     fresh : list_any (bytes_eq name) (names_of asked) ≡ false
     fresh = sym (k.names name) ∙ new-name
@@ -98,12 +106,18 @@ module _ {Z : Type 0} (finds : Z → List ℕ → FindAnswer → Z → Type 0) w
 
     module _ (found : Found) (is : Some found ≡ found_of answer) where
       pub learns-some-one : LearnsSome finds asked (name ∷ []) before after
-      learns-some-one = record { more = (name, found) ∷ []; asks = lemma.all-some finds asked (name ∷ []) before ((name, found) ∷ []) after (lemma.one-asked finds asked (name, found) before answer after fresh f (sym is)) }
+      learns-some-one = record {
+        more = (name, found) ∷ [];
+        asks =
+            lemma.all-some finds asked (name ∷ []) before ((name, found)
+            ∷ []) after (lemma.one-asked finds asked (name, found) before answer after fresh f (sym is));
+      }
 
       pub learns-one : (new : Answered)
           → ((other : List ℕ) → given_by new.files other ≡ with_found (given_by old.files) (name, found) other)
           → ((other : List ℕ) → contains (slice_cmp nat_cmp) new.names other ≡ (bytes_eq other name || contains (slice_cmp nat_cmp) old.names other))
-          → ((other : List ℕ) → contains (slice_cmp nat_cmp) new.unread other ≡ ((bytes_eq other name && was_unread found) || contains (slice_cmp nat_cmp) old.unread other))
+          → ((other : List ℕ) → contains (slice_cmp nat_cmp) new.unread other
+          ≡ ((bytes_eq other name && was_unread found) || contains (slice_cmp nat_cmp) old.unread other))
           → Learns finds asked (name ∷ []) before after new
       learns-one new files names unread = record {
         more = (name, found) ∷ [];
@@ -119,16 +133,20 @@ next-front names i name h e =
     let next : suc i ≡ i + 1 = omega arith in
     ap (λ (n : List ℕ). take i names ++ n ∷ []) e ∙ (sym (take-suc names i name h) ∙ ap (λ (k : ℕ). take k names) next)
 
-front-all : (names : List (List ℕ)) (i : ℕ) (name : List ℕ) → i < length names → name ≡ get_or names i name → (take i names ++ name ∷ []) ++ drop (i + 1) names ≡ names
+front-all : (names : List (List ℕ)) (i : ℕ) (name : List ℕ) → i < length names → name ≡ get_or names i name →
+    (take i names ++ name ∷ []) ++ drop (i + 1) names ≡ names
 front-all names i name h e = ap (λ (front : List (List ℕ)). front ++ drop (i + 1) names) (next-front names i name h e) ∙ take-append-drop (i + 1) names
 
 module _ {Z : Type 0} (finds : Z → List ℕ → FindAnswer → Z → Type 0) (asked : List Asked) (names : List (List ℕ)) (i : ℕ) (name : List ℕ)
-    (inside : i < length names) (is : name ≡ get_or names i name) (before middle after : Z) (a : Answered) (h : Learns finds asked (take i names) before middle a) where
+    (inside : i < length names) (is : name ≡ get_or names i name) (before middle after : Z) (a : Answered)
+    (h : Learns finds asked (take i names) before middle a) where
   pub learns-next : (b : Answered) → Learns finds (asked ++ h.more) (name ∷ []) middle after b → Learns finds asked (take (i + 1) names) before after b
   learns-next b k =
-      subst (λ (front : List (List ℕ)). Learns finds asked front before after b) (next-front names i name inside is) (learns-then finds asked (take i names) (name ∷ []) before middle after a b h k)
+      subst (λ (front : List (List ℕ)). Learns finds asked front before after b) (next-front names i name inside is)
+      (learns-then finds asked (take i names) (name ∷ []) before middle after a b h k)
 
   pub fails-next : LearnsSome finds (asked ++ h.more) (name ∷ []) middle after → LearnsSome finds asked names before after
   fails-next k =
       subst (λ (all : List (List ℕ)). LearnsSome finds asked all before after) (front-all names i name inside is)
-      (learns-front finds asked (take i names ++ name ∷ []) (drop (i + 1) names) before after (learns-then-some finds asked (take i names) (name ∷ []) before middle after a h k))
+      (learns-front finds asked (take i names ++ name ∷ []) (drop (i + 1) names) before after
+      (learns-then-some finds asked (take i names) (name ∷ []) before middle after a h k))

@@ -1,5 +1,6 @@
 -- The number that `parse` reads from a text, as the text is read here.
-use Rattle.std.proofs.Common.{◌≡◌, ◌∙◌, ◌<◌, ◌≤◌, ◌^◌, ℕ, pos, Bool, true, false, List, Option, Some, None, Ok, Err, Result, option_and_then, arith, refl, sym, ap, subst}
+use Rattle.std.proofs.Common.{◌≡◌, ◌∙◌, ◌<◌, ◌≤◌, ◌^◌, ℕ, pos, Bool, true, false, List, Option, Some, None, Ok, Err, Result, option_and_then, arith, refl, sym}
+use Rattle.std.proofs.Common.{ap, subst}
 use Rattle.std.specs.Result.{OkIff, result_ok}
 use Rattle.std.specs.Str.Parse.{IsNumeral, ParsesUnsigned, digits_value, starts_with_minus, without_leading_plus}
 use Rattle.std.proofs.lemmas.Bool.{ltb-true, lt-ltb}
@@ -21,7 +22,8 @@ number-is digits t =
 pub is-number : (digits : List ℕ) → IsNumeral 10 digits × (digits_value 10 digits < 2 ^ 32) → is_number digits ≡ true
 is-number digits h = rw (lt-ltb _ _ h.0.0, own.from digits h.0.1, lt-ltb _ _ h.1) refl
 
-read : {E : Type 0} (digits : List ℕ) (r : Result ℕ E) → OkIff r (IsNumeral 10 digits × (digits_value 10 digits < 2 ^ 32)) (digits_value 10 digits) → result_ok r ≡ number_in digits
+read : {E : Type 0} (digits : List ℕ) (r : Result ℕ E) → OkIff r (IsNumeral 10 digits × (digits_value 10 digits < 2 ^ 32)) (digits_value 10 digits) →
+    result_ok r ≡ number_in digits
 read digits (Ok n) h = rw (is-number digits h.0) (ap Some h.1)
 read digits (Err e) h = go (is_number digits) refl
   where
@@ -50,7 +52,8 @@ limit_is text t = go (starts_with_minus text) refl
         (digits_value 10 (without_leading_plus text), rw (is-number (without_leading_plus text) (digits, fits)) refl, some)
 
 -- what is read of a limit that stands, or does not
-pub limit_stands : (given : Option (List ℕ)) (result : Option ℕ) → ((text : List ℕ) → given ≡ Some text → IsLimit text) → result ≡ option_and_then number_of given → IsLimitOf given result
+pub limit_stands : (given : Option (List ℕ)) (result : Option ℕ) → ((text : List ℕ) → given ≡ Some text → IsLimit text) →
+    result ≡ option_and_then number_of given → IsLimitOf given result
 limit_stands None None has is = tt
 limit_stands None (Some n) has is = cc
 limit_stands (Some text) result has is =

@@ -1,5 +1,6 @@
 -- Pages of a listing, each from the key that the one before names.
-use Rattle.std.proofs.Common.{◌≡◌, ℕ, ◌≤◌, ◌<◌, List, [], ◌∷◌, ◌++◌, Option, Some, None, Bool, true, false, cond, length, take, drop, refl, sym, ◌∙◌, ap, subst, arith, append_assoc, nat_lt}
+use Rattle.std.proofs.Common.{◌≡◌, ℕ, ◌≤◌, ◌<◌, List, [], ◌∷◌, ◌++◌, Option, Some, None, Bool, true, false, cond, length, take, drop, refl, sym, ◌∙◌, ap}
+use Rattle.std.proofs.Common.{subst, arith, append_assoc, nat_lt}
 use Rattle.std.specs.Option.{option_map}
 use Rattle.std.specs.Ordering.{is_lt, ordering_reverse}
 use Rattle.std.proofs.lemmas.Bool.{ltb-false, ltb-true}
@@ -34,7 +35,8 @@ behind-entry (x ∷ xs) o ys h =
     let later : rank_cmp (rank_of o) (rank_of x) ≡ Greater = entry_total.antisymm o x ∙ ap ordering_reverse (before-later x o xs ys h.0) in
     ap (λ c. cond (is_lt c) (x ∷ after_key (Some (rank_of o)) (xs ++ o ∷ ys)) (after_key (Some (rank_of o)) (xs ++ o ∷ ys))) later ∙ behind-entry xs o ys h.1
 
-pub goes-on : (files : List FileSaid) (request : Request) (front : List Entry) (o : Entry) (behind : List Entry) → IsListingOf files request (front ++ o ∷ behind)
+pub goes-on : (files : List FileSaid) (request : Request) (front : List Entry) (o : Entry) (behind : List Entry) →
+    IsListingOf files request (front ++ o ∷ behind)
     → option_map key_rank request.after ≡ Some (rank_of o) → asked_after request (front ++ o ∷ behind) ≡ behind
 goes-on files request front o behind h e = ap (λ key. after_key key (front ++ o ∷ behind)) e ∙ behind-entry front o behind h.rises
 
@@ -47,12 +49,14 @@ behind-last xs (p ∷ q ∷ ps) ys h l =
     ap (after_key (last_key (q ∷ ps))) regroup ∙ behind-last (xs ++ p ∷ []) (q ∷ ps) ys (subst (Rises entry_cmp) regroup h) (omega arith)
 
 -- a page that is cut and what the others list together, or a page that is all
-joined-by : (b : Bool) (limit : ℕ) (rest more : List Entry) → nat_lt limit (length rest) ≡ b → (b ≡ true → more ≡ drop limit rest) → cond b (take limit rest ++ more) (take limit rest) ≡ rest
+joined-by : (b : Bool) (limit : ℕ) (rest more : List Entry) → nat_lt limit (length rest) ≡ b → (b ≡ true → more ≡ drop limit rest) →
+    cond b (take limit rest ++ more) (take limit rest) ≡ rest
 joined-by true limit rest more p f = ap (λ l. take limit rest ++ l) (f refl) ∙ take-append-drop limit rest
 joined-by false limit rest more p f = take_all limit rest (ltb-false limit (length rest) p)
 
 -- the pages from a place in the listing on
-joined-from : (limits : List ℕ) (key : Option Rank) (xs rest : List Entry) → Rises entry_cmp (xs ++ rest) → after_key key (xs ++ rest) ≡ rest → ArePositive limits → length rest ≤ total limits
+joined-from : (limits : List ℕ) (key : Option Rank) (xs rest : List Entry) → Rises entry_cmp (xs ++ rest) → after_key key (xs ++ rest) ≡ rest →
+    ArePositive limits → length rest ≤ total limits
     → joined limits key (xs ++ rest) ≡ rest
 joined-from [] key xs [] h k p l = refl
 joined-from [] key xs (y ∷ ys) h k p l = absurd (omega arith)
@@ -75,6 +79,7 @@ joined-from (limit ∷ limits) key xs rest h k p l =
     p.1
     (omega (arith, l, length-drop limit rest))))
 
-pub pages-join : (files : List FileSaid) (request : Request) (list : List Entry) (limits : List ℕ) → IsListingOf files request list → ArePositive limits → length list ≤ total limits
+pub pages-join : (files : List FileSaid) (request : Request) (list : List Entry) (limits : List ℕ) → IsListingOf files request list → ArePositive limits →
+    length list ≤ total limits
     → joined limits None list ≡ list
 pages-join files request list limits h p l = joined-from limits None [] list h.rises refl p l

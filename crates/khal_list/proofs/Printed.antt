@@ -1,6 +1,7 @@
 -- What of a list to come is written so far: its first entries.
 use Rattle.std.specs.Prelude.{ℤ, ◌≢◌, Bool, true, nat_lt, if◌then◌else◌}
-use Rattle.std.proofs.Common.{◌≡◌, ℕ, zero, suc, ◌+◌, List, [], ◌∷◌, ◌++◌, Option, Some, None, length, take, refl, sym, ap, ap₂, ◌∙◌, arith, append_assoc, append-nil, length-append}
+use Rattle.std.proofs.Common.{◌≡◌, ℕ, zero, suc, ◌+◌, List, [], ◌∷◌, ◌++◌, Option, Some, None, length, take, refl, sym, ap, ap₂, ◌∙◌, arith, append_assoc}
+use Rattle.std.proofs.Common.{append-nil, length-append}
 use Rattle.std.specs.Io.KnownBytes.{Appends}
 use Rattle.std.specs.Option.{option_map}
 use Rattle.std.proofs.Math.Seq.{take-append-add}
@@ -48,7 +49,8 @@ fewer (Some zero) h = absurd (h refl)
 fewer (Some (suc n)) h = (Some n, ap Some (omega arith))
 
 -- of a list that was to come some entries are written, and the others are to come
-pub record Printed (style : Style) (limit : Option ℕ) (all coming : List OnDay) (told taken : Option (List ℕ)) (before : Option ℤ) (left : Option ℕ) (last : Option DayRank) : Type 0 where
+pub record Printed (style : Style) (limit : Option ℕ) (all coming : List OnDay) (told taken : Option (List ℕ)) (before : Option ℤ) (left : Option ℕ)
+    (last : Option DayRank) : Type 0 where
   pub done : List OnDay
   pub parted : done ++ coming ≡ all
   pub taken_is : Appends told taken (days_text style done)
@@ -57,7 +59,8 @@ pub record Printed (style : Style) (limit : Option ℕ) (all coming : List OnDay
   pub last_is : last ≡ last_day_key done
 
 module _ {style : Style} {limit : Option ℕ} {all : List OnDay} {told : Option (List ℕ)} where
-  module _ {coming : List OnDay} {taken : Option (List ℕ)} {before : Option ℤ} {left : Option ℕ} {last : Option DayRank} (p : Printed style limit all coming told taken before left last) where
+  module _ {coming : List OnDay} {taken : Option (List ℕ)} {before : Option ℤ} {left : Option ℕ} {last : Option DayRank}
+      (p : Printed style limit all coming told taken before left last) where
     first-is : first_of limit all ≡ p.done ++ first_of left coming
     first-is = ap (first_of limit) (sym p.parted) ∙ first-behind limit left p.done coming p.left_is
 
@@ -65,7 +68,8 @@ module _ {style : Style} {limit : Option ℕ} {all : List OnDay} {told : Option 
     written = record {
       done = days_text style p.done;
       taken = p.taken_is;
-      whole_is = ap (λ d. days_text style p.done ++ days_text_after style d (first_of left coming)) p.day_is ∙ (sym (text-append style None p.done (first_of left coming)) ∙ ap (days_text style) (sym first-is));
+      whole_is = ap (λ d. days_text style p.done ++ days_text_after style d (first_of left coming)) p.day_is
+          ∙ (sym (text-append style None p.done (first_of left coming)) ∙ ap (days_text style) (sym first-is));
     }
 
     pub printed-front : TookFront told taken (days_text style (first_of limit all))
@@ -119,7 +123,8 @@ module _ {style : Style} {limit : Option ℕ} {all : List OnDay} {told : Option 
           cut-is : is_cut limit all ≡ true
           cut-is = ap (λ l. is_cut l all) limit-is ∙ more
 
-      module _ (day : ℤ) (bytes : List ℕ) (lower : Option ℕ) (day-is : day ≡ e.day) (bytes-is : bytes ≡ entry_text style before day e.entry) (lower-is : left ≡ option_map (λ n. n + 1) lower) where
+      module _ (day : ℤ) (bytes : List ℕ) (lower : Option ℕ) (day-is : day ≡ e.day) (bytes-is : bytes ≡ entry_text style before day e.entry) (lower-is : left
+          ≡ option_map (λ n. n + 1) lower) where
         piece-is : bytes ≡ entry_text style before e.day e.entry
         piece-is = bytes-is ∙ ap (λ d. entry_text style before d e.entry) day-is
 
@@ -155,5 +160,6 @@ module _ {style : Style} {limit : Option ℕ} {all : List OnDay} {told : Option 
           where
             text-is : days_text style p.done ++ bytes ≡ days_text style (p.done ++ e ∷ [])
             text-is =
-                ap (λ b. days_text style p.done ++ b) (piece-is ∙ (ap (λ d. entry_text style d e.day e.entry) p.day_is ∙ sym (append-nil (entry_text style (last_day None p.done) e.day e.entry))))
+                ap (λ b. days_text style p.done ++ b) (piece-is
+                ∙ (ap (λ d. entry_text style d e.day e.entry) p.day_is ∙ sym (append-nil (entry_text style (last_day None p.done) e.day e.entry))))
                 ∙ sym (text-append style None p.done (e ∷ []))

@@ -1,5 +1,6 @@
 -- What is written of a list to come, and of a feed whose entries are each listed once.
-use Rattle.std.proofs.Common.{◌≡◌, ℕ, List, [], ◌∷◌, ◌++◌, Option, Some, None, Result, Ok, Err, map, take, refl, sym, ap, ap₂, ◌∙◌, subst, zero, suc, true≢false}
+use Rattle.std.proofs.Common.{◌≡◌, ℕ, List, [], ◌∷◌, ◌++◌, Option, Some, None, Result, Ok, Err, map, take, refl, sym, ap, ap₂, ◌∙◌, subst, zero, suc}
+use Rattle.std.proofs.Common.{true≢false}
 use Rattle.std.specs.Prelude.{◌≤◌, Bool, true, false, IfOk, nat_lt, if◌then◌else◌}
 use Rattle.std.specs.Io.KnownBytes.{Appends}
 use Rattle.std.specs.Option.{option_map}
@@ -38,10 +39,12 @@ cut-under style (Some n) list = ap (nat_lt n) (length-map list (under style))
 
 key-under : (style : Style) (limit : Option ℕ) (list : List Entry) → option_map (λ r. r.key) (day_key_on limit (map (under style) list)) ≡ key_on limit list
 key-under style limit list =
-    ap₂ (λ (cut : Bool) (all : List OnDay). option_map (λ r. r.key) (if cut then last_day_key all else None)) (cut-under style limit list) (first-under style limit list)
+    ap₂ (λ (cut : Bool) (all : List OnDay). option_map (λ r. r.key) (if cut then last_day_key all else None)) (cut-under style limit list)
+    (first-under style limit list)
     ∙ chosen (is_cut limit list)
   where
-    chosen : (cut : Bool) → option_map (λ r. r.key) (if cut then last_day_key (map (under style) (first_of limit list)) else None) ≡ (if cut then last_key (first_of limit list) else None)
+    chosen : (cut : Bool) → option_map (λ r. r.key) (if cut then last_day_key (map (under style) (first_of limit list)) else None)
+        ≡ (if cut then last_key (first_of limit list) else None)
     chosen true = last-under style (first_of limit list)
     chosen false = refl
 
@@ -97,17 +100,24 @@ drew-under style old new rest out out' is d = record {
         ∙ (ap entries d.given ∙ entries-under style old)))
 
 -- what a fault leaves
-pub puts-fault : (request : Request) (coming : List OnDay → Type 0) (list rest : List OnDay) (out out' : Option (List ℕ)) (r : Result (Option DayKey) RunFault) → IsErr r
-    → TookFront out out' (days_text_of request list) → coming rest → DrewAhead (days_text (style_of request)) list rest out out' → Puts request coming list out out' r
+pub puts-fault : (request : Request) (coming : List OnDay →
+    Type 0) (list rest : List OnDay) (out out' : Option (List ℕ)) (r : Result (Option DayKey) RunFault) → IsErr r
+    → TookFront out out' (days_text_of request list) → coming rest → DrewAhead (days_text (style_of request)) list rest out out' →
+    Puts request coming list out out' r
 puts-fault request coming list rest out out' (Ok key) err front to_come drew = absurd (true≢false (sym err))
-puts-fault request coming list rest out out' (Err fault) err front to_come drew = record { text = tt; key = tt; front = front; rest = rest; to_come = to_come; drew = drew }
+puts-fault request coming list rest out out' (Err fault) err front to_come drew =
+    record { text = tt; key = tt; front = front; rest = rest; to_come = to_come; drew = drew }
 
 -- what the limit leaves
-pub puts-cut : (request : Request) (coming : List OnDay → Type 0) (list rest : List OnDay) (out out' : Option (List ℕ)) (last : Option DayRank) (r : Result (Option DayKey) RunFault)
+pub puts-cut : (request : Request) (coming : List OnDay → Type 0) (list rest : List OnDay) (out out' : Option (List ℕ)) (last : Option DayRank)
+    (r : Result (Option DayKey) RunFault)
     → IfOk r (λ key. option_map day_key_rank key ≡ last) → Appends out out' (days_text_of request list) → last ≡ day_key_on request.limit list
-    → TookFront out out' (days_text_of request list) → coming rest → DrewAhead (days_text (style_of request)) list rest out out' → Puts request coming list out out' r
-puts-cut request coming list rest out out' last (Ok key) is text cut front to_come drew = record { text = text; key = is ∙ cut; front = tt; rest = rest; to_come = to_come; drew = drew }
-puts-cut request coming list rest out out' last (Err fault) is text cut front to_come drew = record { text = tt; key = tt; front = front; rest = rest; to_come = to_come; drew = drew }
+    → TookFront out out' (days_text_of request list) → coming rest → DrewAhead (days_text (style_of request)) list rest out out' →
+    Puts request coming list out out' r
+puts-cut request coming list rest out out' last (Ok key) is text cut front to_come drew =
+    record { text = text; key = is ∙ cut; front = tt; rest = rest; to_come = to_come; drew = drew }
+puts-cut request coming list rest out out' last (Err fault) is text cut front to_come drew =
+    record { text = tt; key = tt; front = front; rest = rest; to_come = to_come; drew = drew }
 
 -- what is written of a feed, each of whose entries stands under its own day
 module _ (request : Request) (old new : List Entry) (out out' : Option (List ℕ)) where

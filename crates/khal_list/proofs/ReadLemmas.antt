@@ -1,5 +1,6 @@
 -- One read more.
-use Rattle.std.proofs.Common.{◌≡◌, ◌≤◌, inl, inr, ℕ, suc, ◌+◌, Bool, ◌||◌, List, [], ◌∷◌, ◌++◌, Result, Ok, Err, Some, None, length, refl, sym, ◌∙◌, ap, subst, arith, length-append, append_assoc, append-nil}
+use Rattle.std.proofs.Common.{◌≡◌, ◌≤◌, inl, inr, ℕ, suc, ◌+◌, Bool, ◌||◌, List, [], ◌∷◌, ◌++◌, Result, Ok, Err, Some, None, length, refl, sym, ◌∙◌, ap, subst}
+use Rattle.std.proofs.Common.{arith, length-append, append_assoc, append-nil}
 use Rattle.std.specs.Prelude.{slice_get}
 use Rattle.std.specs.Cmp.Lexicographic.{nat_list_eq_equiv}
 use Rattle.std.specs.List.{list_any}
@@ -23,28 +24,33 @@ events_first-append : (file : Result FileSaid Refusal) (xs ys : List FileSaid) �
 events_first-append (Ok file) xs ys = refl
 events_first-append (Err refusal) xs ys = refl
 
-accepted-more : (asked : List Asked) (contents : List Contents) (a : Contents) → accepted asked (contents ++ a ∷ []) ≡ accepted asked contents ++ events_first (file_by asked a) []
+accepted-more : (asked : List Asked) (contents : List Contents) (a : Contents) →
+    accepted asked (contents ++ a ∷ []) ≡ accepted asked contents ++ events_first (file_by asked a) []
 accepted-more asked [] a = refl
 accepted-more asked (b ∷ contents) a =
-    ap (events_first (file_by asked b)) (accepted-more asked contents a) ∙ events_first-append (file_by asked b) (accepted asked contents) (events_first (file_by asked a) [])
+    ap (events_first (file_by asked b)) (accepted-more asked contents a)
+    ∙ events_first-append (file_by asked b) (accepted asked contents) (events_first (file_by asked a) [])
 
 error_lines-none : (names : List (List ℕ)) (asked : List Asked) → error_lines names asked [] ≡ []
 error_lines-none [] asked = refl
 error_lines-none (name ∷ names) asked = refl
 
-error_lines-more : (names : List (List ℕ)) (asked : List Asked) (name : List ℕ) (contents : List Contents) (a : Contents) → slice_get names (length contents) ≡ Some name
+error_lines-more : (names : List (List ℕ)) (asked : List Asked) (name : List ℕ) (contents : List Contents) (a : Contents) →
+    slice_get names (length contents) ≡ Some name
     → error_lines names asked (contents ++ a ∷ []) ≡ error_lines names asked contents ++ error_line name (file_by asked a)
 error_lines-more [] asked name contents a found = cc
 error_lines-more (first ∷ names) asked name [] a found =
     let same : first ≡ name = cc in
-    ap (λ rest. error_line first (file_by asked a) ++ rest) (error_lines-none names asked) ∙ (append-nil (error_line first (file_by asked a)) ∙ ap (λ n. error_line n (file_by asked a)) same)
+    ap (λ rest. error_line first (file_by asked a) ++ rest) (error_lines-none names asked)
+    ∙ (append-nil (error_line first (file_by asked a)) ∙ ap (λ n. error_line n (file_by asked a)) same)
 error_lines-more (first ∷ names) asked name (b ∷ contents) a found =
     ap (λ rest. error_line first (file_by asked b) ++ rest) (error_lines-more names asked name contents a found)
     ∙ sym (append_assoc (error_line first (file_by asked b)) (error_lines names asked contents) (error_line name (file_by asked a)))
 
 all_wanted-more : (contents : List Contents) (a : Contents) → all_wanted (contents ++ a ∷ []) ≡ all_wanted contents ++ wanted_of a
 all_wanted-more [] a = append-nil (wanted_of a)
-all_wanted-more (b ∷ contents) a = ap (λ rest. wanted_of b ++ rest) (all_wanted-more contents a) ∙ sym (append_assoc (wanted_of b) (all_wanted contents) (wanted_of a))
+all_wanted-more (b ∷ contents) a = ap (λ rest. wanted_of b ++ rest) (all_wanted-more contents a)
+    ∙ sym (append_assoc (wanted_of b) (all_wanted contents) (wanted_of a))
 
 -- ---- what is asked for later changes no outcome
 
@@ -55,31 +61,38 @@ any-kept s t (x ∷ xs) same =
     ap (λ (b : Bool). b || list_any s xs) (same x first) ∙ ap (λ (b : Bool). t x || b) (any-kept s t xs (λ name h. same name (in-back name (x ∷ []) xs h)))
 
 module _ (count : OnlyWantedCount) (asked more : List Asked) (keeps : Keeps asked more) where
-  file-kept : (given : Contents) → ((name : List ℕ) → IsIn name (wanted_of given) → IsIn name (names_of asked)) → file_by (asked ++ more) given ≡ file_by asked given
+  file-kept : (given : Contents) → ((name : List ℕ) → IsIn name (wanted_of given) → IsIn name (names_of asked)) →
+      file_by (asked ++ more) given ≡ file_by asked given
   file-kept None in-asked = refl
   file-kept (Some bytes) in-asked =
       let unread : list_any (is_unread (asked ++ more)) (wanted_names bytes) ≡ list_any (is_unread asked) (wanted_names bytes) =
       any-kept (is_unread (asked ++ more)) (is_unread asked) (wanted_names bytes) (λ name h. keeps.unread name (in-asked name h)) in
       let file : file_of (given_files (asked ++ more)) bytes ≡ file_of (given_files asked) bytes = count (given_files (asked ++ more)) (given_files asked) bytes
-      (All-from_any nat_list_eq_equiv (λ name. given_files (asked ++ more) name ≡ given_files asked name) (wanted_names bytes) (λ name h. keeps.files name (in-asked name h))) in
+      (All-from_any nat_list_eq_equiv (λ name. given_files (asked ++ more) name ≡ given_files asked name) (wanted_names bytes)
+      (λ name h. keeps.files name (in-asked name h))) in
       ap (λ (t : Bool). file_if t (file_or_refusal (file_of (given_files (asked ++ more)) bytes))) unread
       ∙ ap (λ f. file_if (list_any (is_unread asked) (wanted_names bytes)) (file_or_refusal f)) file
 
-  accepted-kept : (contents : List Contents) → ((name : List ℕ) → IsIn name (all_wanted contents) → IsIn name (names_of asked)) → accepted (asked ++ more) contents ≡ accepted asked contents
+  accepted-kept : (contents : List Contents) → ((name : List ℕ) → IsIn name (all_wanted contents) → IsIn name (names_of asked)) →
+      accepted (asked ++ more) contents ≡ accepted asked contents
   accepted-kept [] in-asked = refl
   accepted-kept (a ∷ contents) in-asked =
-      ap (λ file. events_first file (accepted (asked ++ more) contents)) (file-kept a (λ name h. in-asked name (in-front name (wanted_of a) (all_wanted contents) h)))
+      ap (λ file. events_first file (accepted (asked ++ more) contents))
+      (file-kept a (λ name h. in-asked name (in-front name (wanted_of a) (all_wanted contents) h)))
       ∙ ap (events_first (file_by asked a)) (accepted-kept contents (λ name h. in-asked name (in-back name (wanted_of a) (all_wanted contents) h)))
 
-  lines-kept : (names : List (List ℕ)) (contents : List Contents) → ((name : List ℕ) → IsIn name (all_wanted contents) → IsIn name (names_of asked)) → error_lines names (asked ++ more) contents ≡ error_lines names asked contents
+  lines-kept : (names : List (List ℕ)) (contents : List Contents) → ((name : List ℕ) → IsIn name (all_wanted contents) → IsIn name (names_of asked)) →
+      error_lines names (asked ++ more) contents ≡ error_lines names asked contents
   lines-kept [] contents in-asked = refl
   lines-kept (name ∷ names) [] in-asked = refl
   lines-kept (name ∷ names) (a ∷ contents) in-asked =
-      ap (λ file. error_line name file ++ error_lines names (asked ++ more) contents) (file-kept a (λ n h. in-asked n (in-front n (wanted_of a) (all_wanted contents) h)))
+      ap (λ file. error_line name file ++ error_lines names (asked ++ more) contents)
+      (file-kept a (λ n h. in-asked n (in-front n (wanted_of a) (all_wanted contents) h)))
       ∙ ap (λ rest. error_line name (file_by asked a) ++ rest) (lines-kept names contents (λ n h. in-asked n (in-back n (wanted_of a) (all_wanted contents) h)))
 
 module _ {S Z : Type 0} (reads : S → ℕ → Answer → S → Type 0) (finds : Z → List ℕ → FindAnswer → Z → Type 0) where
-  reads-more : (before : S) (i : ℕ) (contents : List Contents) (after : S) (j : ℕ) (a : Contents) (answer : Answer) (last : S) → ReadsFrom reads before i contents after → j ≡ i + length contents
+  reads-more : (before : S) (i : ℕ) (contents : List Contents) (after : S) (j : ℕ) (a : Contents) (answer : Answer) (last : S) →
+      ReadsFrom reads before i contents after → j ≡ i + length contents
       → reads after j answer last → contents_of answer ≡ Some a → ReadsFrom reads before i (contents ++ a ∷ []) last
   reads-more before i [] after j a answer last h e r g =
       let at : j ≡ i = omega (arith, e) in
@@ -88,7 +101,8 @@ module _ {S Z : Type 0} (reads : S → ℕ → Answer → S → Type 0) (finds :
       (h.0, h.1, h.2, h.3, reads-more h.1 (i + 1) contents after j a answer last h.4 (omega (arith, e)) r g)
 
   -- the reads of the first files, what is asked for, and what is kept of them
-  pub record Done (names : List (List ℕ)) (before : S) (zones : Z) (i : ℕ) (after : S) (zones' : Z) (answered : Answered) (files : List FileSaid) (errors : List ℕ) : Type 0 where
+  pub record Done (names : List (List ℕ)) (before : S) (zones : Z) (i : ℕ) (after : S) (zones' : Z) (answered : Answered) (files : List FileSaid)
+      (errors : List ℕ) : Type 0 where
     pub contents : List Contents
     pub asked : List Asked
     pub from_first : ReadsFrom reads before 0 contents after
@@ -97,7 +111,8 @@ module _ {S Z : Type 0} (reads : S → ℕ → Answer → S → Type 0) (finds :
     pub knows : Knows asked answered
     pub kept : IsReading names asked contents files errors
 
-  pub done-none : (names : List (List ℕ)) (before : S) (zones : Z) (answered : Answered) (files : List FileSaid) (errors : List ℕ) → Knows [] answered → files ≡ [] → errors ≡ []
+  pub done-none : (names : List (List ℕ)) (before : S) (zones : Z) (answered : Answered) (files : List FileSaid) (errors : List ℕ) → Knows [] answered →
+      files ≡ [] → errors ≡ []
       → Done names before zones 0 before zones answered files errors
   done-none names before zones answered files errors k f e = record {
     contents = [];
@@ -111,7 +126,8 @@ module _ {S Z : Type 0} (reads : S → ℕ → Answer → S → Type 0) (finds :
 
   module _ (names : List (List ℕ)) (before : S) (zones : Z) (i : ℕ) (after : S) (zones' : Z) (answered : Answered) (files : List FileSaid) (errors : List ℕ)
       (d : Done names before zones i after zones' answered files errors) where
-    some-more : (a : Contents) (answer : Answer) (last : S) → reads after i answer last → contents_of answer ≡ Some a → suc i ≤ length names → ReadsSome reads names before (d.contents ++ a ∷ []) last
+    some-more : (a : Contents) (answer : Answer) (last : S) → reads after i answer last → contents_of answer ≡ Some a → suc i ≤ length names →
+        ReadsSome reads names before (d.contents ++ a ∷ []) last
     some-more a answer last r g h = record {
       last = last;
       from_first = reads-more before 0 d.contents after i a answer last d.from_first (omega (arith, d.long)) r g;
@@ -119,8 +135,10 @@ module _ {S Z : Type 0} (reads : S → ℕ → Answer → S → Type 0) (finds :
     }
 
     -- the next read, in which an allocation failed, or after which one failed
-    pub read-some : (answer : Answer) (last : S) (zones'' : Z) → reads after i answer last → suc i ≤ length names → EndsReading finds answer zones' zones'' answered
-        → (contents : List Contents) × (asked : List Asked) × ReadsSome reads names before contents last × AsksSome finds [] (all_wanted contents) zones asked zones''
+    pub read-some : (answer : Answer) (last : S) (zones'' : Z) → reads after i answer last → suc i ≤ length names →
+        EndsReading finds answer zones' zones'' answered
+        → (contents : List Contents) × (asked : List Asked) × ReadsSome reads names before contents last
+        × AsksSome finds [] (all_wanted contents) zones asked zones''
     read-some answer last zones'' r h (EndsReading.InRead memory same) = (
       d.contents,
       d.asked,
@@ -141,8 +159,10 @@ module _ {S Z : Type 0} (reads : S → ℕ → Answer → S → Type 0) (finds :
         )
 
     -- the next read comes to something, and nothing is kept of it
-    pub stops-after : (answer : Answer) (last : S) (zones'' : Z) (answered' : Answered) → reads after i answer last → suc i ≤ length names → (file : Result FileSaid Refusal) → IsOutcome finds answer zones' zones'' answered answered' file
-        → (contents : List Contents) × (asked : List Asked) × ReadsSome reads names before contents last × AsksSome finds [] (all_wanted contents) zones asked zones''
+    pub stops-after : (answer : Answer) (last : S) (zones'' : Z) (answered' : Answered) → reads after i answer last → suc i ≤ length names →
+        (file : Result FileSaid Refusal) → IsOutcome finds answer zones' zones'' answered answered' file
+        → (contents : List Contents) × (asked : List Asked) × ReadsSome reads names before contents last
+        × AsksSome finds [] (all_wanted contents) zones asked zones''
     stops-after answer last zones'' answered' r h file outcome =
         let learns = (outcome.settles d.asked d.knows).learns in (
           d.contents ++ outcome.given ∷ [],
@@ -153,7 +173,8 @@ module _ {S Z : Type 0} (reads : S → ℕ → Answer → S → Type 0) (finds :
               (all-then-all finds [] (all_wanted d.contents) (wanted_of outcome.given) zones d.asked zones' learns.more zones'' d.asks learns.asks)),
         )
 
-    pub done-more : OnlyWantedCount → (answer : Answer) (last : S) (zones'' : Z) (answered' : Answered) → reads after i answer last → (name : List ℕ) → slice_get names i ≡ Some name
+    pub done-more : OnlyWantedCount → (answer : Answer) (last : S) (zones'' : Z) (answered' : Answered) → reads after i answer last → (name : List ℕ) →
+        slice_get names i ≡ Some name
         → (file : Result FileSaid Refusal) → IsOutcome finds answer zones' zones'' answered answered' file
         → (files' : List FileSaid) (errors' : List ℕ) → files' ≡ files ++ events_first file [] → errors' ≡ errors ++ error_line name file
         → Done names before zones (i + 1) last zones'' answered' files' errors'
@@ -162,7 +183,8 @@ module _ {S Z : Type 0} (reads : S → ℕ → Answer → S → Type 0) (finds :
         let settles = outcome.settles d.asked d.knows in
         let learns = settles.learns in
         let all : List Asked = d.asked ++ learns.more in
-        let in-asked : (n : List ℕ) → IsIn n (all_wanted d.contents) → IsIn n (names_of d.asked) = λ n h. subst (IsIn n) (sym d.asks.names) (wanted-in n [] (all_wanted d.contents) h) in
+        let in-asked : (n : List ℕ) → IsIn n (all_wanted d.contents) →
+        IsIn n (names_of d.asked) = λ n h. subst (IsIn n) (sym d.asks.names) (wanted-in n [] (all_wanted d.contents) h) in
         record {
           contents = d.contents ++ a ∷ [];
           asked = all;
@@ -173,9 +195,11 @@ module _ {S Z : Type 0} (reads : S → ℕ → Answer → S → Type 0) (finds :
           knows = learns.knows;
           kept = record {
             files_are = f ∙ (ap (λ x. files ++ events_first x []) settles.outcome_is
-                ∙ (ap (λ x. x ++ events_first (file_by all a) []) (d.kept.files_are ∙ sym (accepted-kept count d.asked learns.more learns.keeps d.contents in-asked)) ∙ sym (accepted-more all d.contents a)));
+                ∙ (ap (λ x. x ++ events_first (file_by all a) []) (d.kept.files_are
+                ∙ sym (accepted-kept count d.asked learns.more learns.keeps d.contents in-asked)) ∙ sym (accepted-more all d.contents a)));
             errors_are = e ∙ (ap (λ x. errors ++ error_line name x) settles.outcome_is
-                ∙ (ap (λ x. x ++ error_line name (file_by all a)) (d.kept.errors_are ∙ sym (lines-kept count d.asked learns.more learns.keeps names d.contents in-asked))
+                ∙ (ap (λ x. x ++ error_line name (file_by all a)) (d.kept.errors_are
+                ∙ sym (lines-kept count d.asked learns.more learns.keeps names d.contents in-asked))
                 ∙ sym (error_lines-more names all name d.contents a (ap (slice_get names) d.long ∙ found))));
           };
         }

@@ -10,7 +10,8 @@ use Rattle.khal_list.specs.RequestOf.{RequestOf}
 use Rattle.khal_list.specs.declared.request_fault.RequestFault.{RequestFault}
 use Rattle.khal_list.specs.declared.request_fault.RequestFault.TheVariants.{Usage, BadZone, BadWindow, BadToken, BadFormat, Memory}
 
-pub refused : (words : List (List ℕ)) (now : ℤ) (kind : ErrorKind) (fault : RequestFault) → (kind ≡ OutOfMemory) ⊎ IsAmong kind (fault_of khal_app (with_name words)) → IsFaultOf kind fault → RequestOf words now (Err fault)
+pub refused : (words : List (List ℕ)) (now : ℤ) (kind : ErrorKind) (fault : RequestFault) →
+    (kind ≡ OutOfMemory) ⊎ IsAmong kind (fault_of khal_app (with_name words)) → IsFaultOf kind fault → RequestOf words now (Err fault)
 refused words now kind (Usage text help) (inl memory) h = absurd (h.0 memory)
 refused words now kind (Usage text help) (inr among) h = record { kind = kind; among = among; asks = h.1 }
 refused words now kind BadZone some h = absurd h

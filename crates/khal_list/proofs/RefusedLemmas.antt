@@ -9,7 +9,8 @@ use Rattle.khal_list.specs.Asked.{Asked}
 use Rattle.khal_list.specs.Errors.{Refusal, file_by, error_line, error_lines}
 
 -- one line more
-line-more : (name : List ℕ) (file : Result FileSaid Refusal) (rest : List ℕ) (more : Bool) → (more ≡ true) ↔ (rest ≢ []) → ((is_err file || more) ≡ true) ↔ (error_line name file ++ rest ≢ [])
+line-more : (name : List ℕ) (file : Result FileSaid Refusal) (rest : List ℕ) (more : Bool) → (more ≡ true) ↔ (rest ≢ []) →
+    ((is_err file || more) ≡ true) ↔ (error_line name file ++ rest ≢ [])
 line-more name (Ok file) rest more h = h
 line-more name (Err refusal) rest more h = (λ _ e. cc, λ _. refl)
 
@@ -20,9 +21,11 @@ module _ (asked : List Asked) where
   lines-any [] (given ∷ contents) h = absurd (omega (arith, h))
   lines-any (name ∷ names) [] h = absurd (omega (arith, h))
   lines-any (name ∷ names) (given ∷ contents) h =
-      line-more name (file_by asked given) (error_lines names asked contents) (list_any (λ given. is_err (file_by asked given)) contents) (lines-any names contents (omega (arith, h)))
+      line-more name (file_by asked given) (error_lines names asked contents) (list_any (λ given. is_err (file_by asked given)) contents)
+      (lines-any names contents (omega (arith, h)))
 
-  pub lines-refused : (names : List (List ℕ)) (contents : List Contents) (P : Type 0) → length contents ≡ length names → P ↔ (error_lines names asked contents ≢ [])
+  pub lines-refused : (names : List (List ℕ)) (contents : List Contents) (P : Type 0) → length contents ≡ length names →
+      P ↔ (error_lines names asked contents ≢ [])
       → P ↔ Any (λ given. IsErr (file_by asked given)) contents
   lines-refused names contents P h s =
       let same = lines-any names contents h in

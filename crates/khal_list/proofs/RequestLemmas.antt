@@ -16,7 +16,8 @@ use Rattle.ics_series.specs.declared.window.Window.{Window}
 use Rattle.khal_list.specs.Entries.{Entries, span_of}
 use Rattle.khal_list.specs.Formats.{day_name, entry_name, IsFormat}
 use Rattle.khal_list.specs.RequestFaults.{format_fault, token_fault}
-use Rattle.khal_list.specs.RequestOf.{EntriesAnswer, HasWindow, IsAfterBy, IsDayKeyOf, IsKeyOf, IsNoDayKey, IsNoKey, IsNoToken, after_text, day_format_text, format_text, zone_text}
+use Rattle.khal_list.specs.RequestOf.{EntriesAnswer, HasWindow, IsAfterBy, IsDayKeyOf, IsKeyOf, IsNoDayKey, IsNoKey, IsNoToken, after_text, day_format_text}
+use Rattle.khal_list.specs.RequestOf.{format_text, zone_text}
 use Rattle.khal_list.specs.Windows.{ends_of}
 use Rattle.khal_list.specs.declared.every_day.EveryDay.{EveryDay}
 use Rattle.khal_list.specs.declared.format.FormatFault.{FormatFault}
@@ -41,7 +42,8 @@ day_token_of zone window (Some text) (Some key) (inl p) bad = bad.no_day (day_ke
 day_token_of zone window (Some text) (Some key) (inr p) bad = bad.none (key_rank key.key, p.0, given_is text bad.text bad.stands ∙ p.1)
 
 -- what gives the keys after which a listing goes on is a token
-pub good_token : (entries : Entries) (zone : Display) (window : Window) (after : Option Key) (every_day : Option EveryDay) → IsAfterBy entries zone window after every_day → IsNoToken entries → ⊥
+pub good_token : (entries : Entries) (zone : Display) (window : Window) (after : Option Key) (every_day : Option EveryDay) →
+    IsAfterBy entries zone window after every_day → IsNoToken entries → ⊥
 good_token entries zone window after None p bad = token_of (after_text entries) after p.1 bad.key
 good_token entries zone window after (Some every_day) p bad = day_token_of zone window (after_text entries) every_day.after p.2 (bad.day_key p.0)
 
@@ -51,7 +53,8 @@ module _ (entries : Entries) (now : ℤ) where
   has_window display window zone ends = record { display = display; zone = zone; some = subst IsSome ends refl }
 
   -- the fault that `?` passes on
-  passed_on : (r : Result Request RequestFault) (fault : RequestFault) → IsErr r → IsErrAnd r (λ f. f ≡ fault) → EntriesAnswer entries now (Err fault) → EntriesAnswer entries now r
+  passed_on : (r : Result Request RequestFault) (fault : RequestFault) → IsErr r → IsErrAnd r (λ f. f ≡ fault) → EntriesAnswer entries now (Err fault) →
+      EntriesAnswer entries now r
   passed_on (Ok request) fault err is h = absurd (true≢false (sym err))
   passed_on (Err other) fault err is h = subst (λ (f : RequestFault). EntriesAnswer entries now (Err f)) (sym is) h
 
@@ -65,10 +68,12 @@ module _ (entries : Entries) (now : ℤ) where
 
   pub no_format : {T : Type 0} (r : Result Request RequestFault) (fault : FormatFault) → IsErr r → IsErrAnd r (λ f. f ≡ format_fault fault)
       → HasWindow entries now → (¬ IsNoToken entries)
-      → (IsErrOf {T = T} (Err fault) format.BadFormat → (¬ IsFormat entry_name (format_text entries)) ⊎ (¬ IsFormat day_name (day_format_text entries))) → EntriesAnswer entries now r
+      → (IsErrOf {T = T} (Err fault) format.BadFormat → (¬ IsFormat entry_name (format_text entries)) ⊎ (¬ IsFormat day_name (day_format_text entries))) →
+      EntriesAnswer entries now r
   no_format {T} r fault err is window token bad = passed_on r (format_fault fault) err is (answer fault bad)
     where
-      answer : (f : FormatFault) → (IsErrOf {T = T} (Err f) format.BadFormat → (¬ IsFormat entry_name (format_text entries)) ⊎ (¬ IsFormat day_name (day_format_text entries)))
+      answer : (f : FormatFault) → (IsErrOf {T = T} (Err f) format.BadFormat → (¬ IsFormat entry_name (format_text entries))
+          ⊎ (¬ IsFormat day_name (day_format_text entries)))
           → EntriesAnswer entries now (Err (format_fault f))
       answer format.BadFormat bad = record { window = window; token = token; none = bad refl }
       answer format.Memory bad = tt

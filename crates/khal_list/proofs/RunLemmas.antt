@@ -41,13 +41,16 @@ pub whole-front : (told new : Option (List ℕ)) (text : List ℕ) → Appends t
 whole-front told new text h = record { count = length text; within = omega arith; taken = appends-same told new (sym (take-length text)) h }
 
 -- the key that is lent
-pub copied-key : {K R : Type 0} (rank : K → R) (lent : Option (Bor K)) (key : Option K) → option_copied lent ≡ key → option_map (λ k. rank k.now) lent ≡ option_map rank key
+pub copied-key : {K R : Type 0} (rank : K → R) (lent : Option (Bor K)) (key : Option K) → option_copied lent ≡ key →
+    option_map (λ k. rank k.now) lent ≡ option_map rank key
 copied-key rank None key h = ap (option_map rank) h
 copied-key rank (Some k) key h = ap (option_map rank) h
 
 -- what an agenda of these files has to come is what the request asks for
-pub asked : (files : List FileSaid) (display : Display) (request : Request) (coming : List Entry) (after : Option Rank) → display ≡ request.zone → after ≡ option_map key_rank request.after
-    → (list : List Entry) × IsListing entry_cmp (IsListed files (display_clock display) request.window) list × (coming ≡ after_key after list) → (list : List Entry) × IsListingOf files request list × (coming ≡ asked_after request list)
+pub asked : (files : List FileSaid) (display : Display) (request : Request) (coming : List Entry) (after : Option Rank) → display ≡ request.zone →
+    after ≡ option_map key_rank request.after
+    → (list : List Entry) × IsListing entry_cmp (IsListed files (display_clock display) request.window) list × (coming ≡ after_key after list) →
+    (list : List Entry) × IsListingOf files request list × (coming ≡ asked_after request list)
 asked files display request coming after zone key whole = (
   whole.0,
   subst (λ d. IsListing entry_cmp (IsListed files (display_clock d) request.window) whole.0) zone whole.1,
@@ -55,7 +58,8 @@ asked files display request coming after zone key whole = (
 )
 
 -- the text of such an agenda is what the request shows once
-pub shows-once : (files : List FileSaid) (request : Request) (coming : List Entry) (token : Option (List ℕ)) → (list : List Entry) × IsListingOf files request list × (coming ≡ asked_after request list)
+pub shows-once : (files : List FileSaid) (request : Request) (coming : List Entry) (token : Option (List ℕ)) →
+    (list : List Entry) × IsListingOf files request list × (coming ≡ asked_after request list)
     → token ≡ option_map spelling (key_on request.limit coming) → ShowsOnce files request (listing_text request coming) token
 shows-once files request coming token whole is = record {
   list = whole.0;
@@ -65,15 +69,24 @@ shows-once files request coming token whole is = record {
 }
 
 -- a front of it
-pub part-once : (files : List FileSaid) (request : Request) (coming : List Entry) (out out' : Option (List ℕ)) → (list : List Entry) × IsListingOf files request list × (coming ≡ asked_after request list)
+pub part-once : (files : List FileSaid) (request : Request) (coming : List Entry) (out out' : Option (List ℕ)) →
+    (list : List Entry) × IsListingOf files request list × (coming ≡ asked_after request list)
     → TookFront out out' (listing_text request coming) → ShownInPart (ShowsOnce files request) out out'
 part-once files request coming out out' whole front =
-    inr (listing_text request coming, option_map spelling (key_on request.limit coming), shows-once files request coming (option_map spelling (key_on request.limit coming)) whole refl, front)
+    inr (
+      listing_text request coming,
+      option_map spelling (key_on request.limit coming),
+      shows-once files request coming
+          (option_map spelling (key_on request.limit coming)) whole refl,
+      front,
+    )
 
 -- the text of what is to come under each day is what the request shows under each day
-pub shows-days : (files : List FileSaid) (display : Display) (request : Request) (every_day : EveryDay) (list : List OnDay) (after : Option DayRank) (token : Option (List ℕ)) → display ≡ request.zone
+pub shows-days : (files : List FileSaid) (display : Display) (request : Request) (every_day : EveryDay) (list : List OnDay) (after : Option DayRank)
+    (token : Option (List ℕ)) → display ≡ request.zone
     → after ≡ option_map day_key_rank every_day.after → IsListing on_day_cmp (IsOnDay files (display_clock display) request.window) list
-    → token ≡ option_map day_spelling (day_key_on request.limit (after_day_key after list)) → ShowsDays files request every_day (days_text_of request (after_day_key after list)) token
+    → token ≡ option_map day_spelling (day_key_on request.limit (after_day_key after list)) →
+    ShowsDays files request every_day (days_text_of request (after_day_key after list)) token
 shows-days files display request every_day list after token zone key listing is = record {
   list = list;
   listing = subst (λ d. IsListing on_day_cmp (IsOnDay files (display_clock d) request.window) list) zone listing;
@@ -81,7 +94,8 @@ shows-days files display request every_day list after token zone key listing is 
   token_is = is ∙ ap (λ k. option_map day_spelling (day_key_on request.limit (after_day_key k list))) key;
 }
 
-pub part-days : (files : List FileSaid) (display : Display) (request : Request) (every_day : EveryDay) (list : List OnDay) (after : Option DayRank) (out out' : Option (List ℕ)) → display ≡ request.zone
+pub part-days : (files : List FileSaid) (display : Display) (request : Request) (every_day : EveryDay) (list : List OnDay) (after : Option DayRank)
+    (out out' : Option (List ℕ)) → display ≡ request.zone
     → after ≡ option_map day_key_rank every_day.after → IsListing on_day_cmp (IsOnDay files (display_clock display) request.window) list
     → TookFront out out' (days_text_of request (after_day_key after list)) → ShownInPart (ShowsDays files request every_day) out out'
 part-days files display request every_day list after out out' zone key listing front =
@@ -92,11 +106,14 @@ module _ (files made : List FileSaid) (request : Request) (same : made ≡ files
   pub once-shows : request.every_day ≡ None → (shown : List ℕ) (token : Option (List ℕ)) → ShowsOnce made request shown token → Shows files request shown token
   once-shows none shown token s = subst (λ e. ShowsBy e files request shown token) (sym none) (subst (λ these. ShowsOnce these request shown token) same s)
 
-  pub days-shows : (every_day : EveryDay) → request.every_day ≡ Some every_day → (shown : List ℕ) (token : Option (List ℕ)) → ShowsDays made request every_day shown token → Shows files request shown token
-  days-shows every_day some shown token s = subst (λ e. ShowsBy e files request shown token) (sym some) (subst (λ these. ShowsDays these request every_day shown token) same s)
+  pub days-shows : (every_day : EveryDay) → request.every_day ≡ Some every_day → (shown : List ℕ) (token : Option (List ℕ)) →
+      ShowsDays made request every_day shown token → Shows files request shown token
+  days-shows every_day some shown token s =
+      subst (λ e. ShowsBy e files request shown token) (sym some) (subst (λ these. ShowsDays these request every_day shown token) same s)
 
 -- what is shown in one way is shown in another
-module _ {T E : Type 0} (text : T → Option (List ℕ)) (one other : List ℕ → Option (List ℕ) → Type 0) (out out' : Option (List ℕ)) (gives : (shown : List ℕ) (token : Option (List ℕ)) → one shown token → other shown token) where
+module _ {T E : Type 0} (text : T → Option (List ℕ)) (one other : List ℕ → Option (List ℕ) →
+    Type 0) (out out' : Option (List ℕ)) (gives : (shown : List ℕ) (token : Option (List ℕ)) → one shown token → other shown token) where
   pub shown-as : (result : Result T E) → IfOk result (λ token. Shown one out out' (text token)) → IfOk result (λ token. Shown other out out' (text token))
   shown-as (Ok token) s = (s.0, gives s.0 (text token) s.1, s.2)
   shown-as (Err fault) s = tt
@@ -110,12 +127,21 @@ module _ {T E : Type 0} (text : T → Option (List ℕ)) (one other : List ℕ �
 none-front : (told : Option (List ℕ)) (text : List ℕ) → TookFront told told text
 none-front told text = record { count = 0; within = omega arith; taken = appends-none told }
 
-module _ {S Z : Type 0} (reads : S → ℕ → Answer → S → Type 0) (names : List (List ℕ)) (before after : S) (finds : Z → List ℕ → FindAnswer → Z → Type 0) (zones zones' : Z)
+module _ {S Z : Type 0} (reads : S → ℕ → Answer → S → Type 0) (names : List (List ℕ)) (before after : S) (finds : Z → List ℕ → FindAnswer → Z →
+    Type 0) (zones zones' : Z)
     (request : Request) (out err : Option (List ℕ)) where
   -- an allocation failed while files were read
-  pub stops-reading : (contents : List Contents) × (asked : List Asked) × ReadsSome reads names before contents after × AsksSome finds [] (all_wanted contents) zones asked zones'
+  pub stops-reading : (contents : List Contents) × (asked : List Asked) × ReadsSome reads names before contents after
+      × AsksSome finds [] (all_wanted contents) zones asked zones'
       → Stops reads names before after finds zones zones' request out out err err
-  stops-reading some = inl (record { contents = some.0; read = some.2; asked = some.1; gave = some.3; none = refl; lines = none-front err (error_lines names some.1 some.0) })
+  stops-reading some = inl (record {
+    contents = some.0;
+    read = some.2;
+    asked = some.1;
+    gave = some.3;
+    none = refl;
+    lines = none-front err (error_lines names some.1 some.0);
+  })
 
   -- the lines of the files were not written whole
   pub stops-lines : (contents : List Contents) (asked : List Asked) (files : List FileSaid) (errors : List ℕ) → ReadsAll reads names before contents after
@@ -130,9 +156,11 @@ module _ {S Z : Type 0} (reads : S → ℕ → Answer → S → Type 0) (names :
     lines = subst (TookFront err err') (same ∙ kept.errors_are) front;
   })
 
-module _ {S Z : Type 0} (reads : S → ℕ → Answer → S → Type 0) (names : List (List ℕ)) (before after : S) (finds : Z → List ℕ → FindAnswer → Z → Type 0) (zones zones' : Z)
+module _ {S Z : Type 0} (reads : S → ℕ → Answer → S → Type 0) (names : List (List ℕ)) (before after : S) (finds : Z → List ℕ → FindAnswer → Z →
+    Type 0) (zones zones' : Z)
     (request : Request) (out out' err told : Option (List ℕ)) (contents : List Contents) (asked : List Asked) (files : List FileSaid) (errors : List ℕ)
-    (read : ReadsAll reads names before contents after) (gave : AsksAll finds [] (all_wanted contents) zones asked zones') (kept : IsReading names asked contents files errors) (wrote : Appends err told errors) where
+    (read : ReadsAll reads names before contents after) (gave : AsksAll finds [] (all_wanted contents) zones asked zones')
+    (kept : IsReading names asked contents files errors) (wrote : Appends err told errors) where
   lines : Appends err told (error_lines names asked contents)
   lines = appends-same err told kept.errors_are wrote
 
@@ -166,7 +194,8 @@ module _ {S Z : Type 0} (reads : S → ℕ → Answer → S → Type 0) (names :
     shows : Shows (accepted asked contents) request some.0 token
     shows = subst (λ these. Shows these request some.0 token) kept.files_are some.1
 
-    pub stops-more : (err' : Option (List ℕ)) → TookFront told err' (more_line token) → Stops reads names before after finds zones zones' request out out' err err'
+    pub stops-more : (err' : Option (List ℕ)) → TookFront told err' (more_line token) →
+        Stops reads names before after finds zones zones' request out out' err err'
     stops-more err' f = inr (record {
       contents = contents;
       read = read;
@@ -177,7 +206,8 @@ module _ {S Z : Type 0} (reads : S → ℕ → Answer → S → Type 0) (names :
       stops = record { shown = some.0; token = token; shows = shows; taken = inr (some.2, f) };
     })
 
-    pub lists : (err' : Option (List ℕ)) → Appends told err' (more_line token) → (status : Status) → (status ≡ Faulty) ↔ (errors ≢ []) → Lists reads names before after finds zones zones' request out out' err err' status
+    pub lists : (err' : Option (List ℕ)) → Appends told err' (more_line token) → (status : Status) → (status ≡ Faulty) ↔ (errors ≢ []) →
+        Lists reads names before after finds zones zones' request out out' err err' status
     lists err' more status faulty = record {
       contents = contents;
       read = read;

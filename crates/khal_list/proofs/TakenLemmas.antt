@@ -29,6 +29,7 @@ module _ (app : App) (words : List Text) (r : Result ArgMatches Error) (is : app
   pub limit : IfOk r (HasMatchesOf app words) → (is_simple_and_free app ≡ true → FailsBy (fault_of app words) r) → IfOk r (λ m. HasLimit (subcommand_rows_of m))
   limit h k = go r (entries h) (faults k)
     where
-      go : (x : Result ArgMatches Error) → IfOk x (λ m. subcommand_rows_of m ≡ subcommand_of khal_app words) → FailsBy (fault_of khal_app words) x → IfOk x (λ m. HasLimit (subcommand_rows_of m))
+      go : (x : Result ArgMatches Error) → IfOk x (λ m. subcommand_rows_of m ≡ subcommand_of khal_app words) → FailsBy (fault_of khal_app words) x →
+          IfOk x (λ m. HasLimit (subcommand_rows_of m))
       go (Ok m) same none = λ text e. limit_is text (limit_passes khal_app words text refl none (ap limit_text (sym same) ∙ e))
       go (Err e) same none = tt

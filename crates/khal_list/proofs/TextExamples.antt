@@ -91,12 +91,14 @@ unfolding days_on_literals pieces_from lib.Utf8.encode
 standup_text = refl
 
 -- an entry of no length at the window's start
-no_length : text (plain utc_clock (pos 1_704_448_800)) (entry timed (pos 1_704_448_800) (pos 1_704_448_800) (codes "P") ∷ []) ≡ line (codes "Friday, 2024-01-05") ++ line (codes "10:00-10:00 P")
+no_length : text (plain utc_clock (pos 1_704_448_800)) (entry timed (pos 1_704_448_800) (pos 1_704_448_800) (codes "P") ∷ [])
+    ≡ line (codes "Friday, 2024-01-05") ++ line (codes "10:00-10:00 P")
 unfolding days_on_literals pieces_from lib.Utf8.encode
 no_length = refl
 
 -- from 22:00 of the day before to the midnight after
-night : text (plain utc_clock (pos 1_704_412_800)) (entry timed (pos 1_704_405_600) (pos 1_704_499_200) (codes "Night") ∷ []) ≡ line (codes "Friday, 2024-01-05") ++ line (codes "     -24:00 Night")
+night : text (plain utc_clock (pos 1_704_412_800)) (entry timed (pos 1_704_405_600) (pos 1_704_499_200) (codes "Night") ∷ [])
+    ≡ line (codes "Friday, 2024-01-05") ++ line (codes "     -24:00 Night")
 unfolding days_on_literals pieces_from lib.Utf8.encode
 night = refl
 
@@ -106,18 +108,22 @@ unfolding days_on_literals pieces_from lib.Utf8.encode
 all_day = refl
 
 -- from 23:00 to 01:00 of the second day after
-nominal_days : text (plain utc_clock (pos 1_704_412_800)) (entry timed (pos 1_704_495_600) (pos 1_704_589_200) (codes "X") ∷ []) ≡ line (codes "Friday, 2024-01-05") ++ line (codes "23:00-      X")
+nominal_days : text (plain utc_clock (pos 1_704_412_800)) (entry timed (pos 1_704_495_600) (pos 1_704_589_200) (codes "X") ∷ [])
+    ≡ line (codes "Friday, 2024-01-05") ++ line (codes "23:00-      X")
 unfolding days_on_literals pieces_from lib.Utf8.encode
 nominal_days = refl
 
 -- one second past midnight is another day's
-past_midnight : line_text (plain utc_clock (pos 0)) (pos 19_727) (entry timed (pos 1_704_495_600) (pos 1_704_499_201) (codes "X")) ≡ line (codes "23:00-      X")
+past_midnight : line_text (plain utc_clock (pos 0)) (pos 19_727) (entry timed (pos 1_704_495_600) (pos 1_704_499_201) (codes "X"))
+    ≡ line (codes "23:00-      X")
 unfolding pieces_from lib.Utf8.encode
 past_midnight = refl
 
 -- the second entry of a day has no heading, the first of another day has one
-headings : text (plain utc_clock (pos 1_704_067_200)) (entry timed (pos 1_704_099_600) (pos 1_704_103_200) (codes "Daily") ∷ entry timed (pos 1_704_358_800) (pos 1_704_360_600) (codes "Moved") ∷ entry timed (pos 1_704_358_800) (pos 1_704_362_400) (codes "Daily") ∷ []) ≡
-    line (codes "Monday, 2024-01-01") ++ (line (codes "09:00-10:00 Daily") ++ (line (codes "Thursday, 2024-01-04") ++ (line (codes "09:00-09:30 Moved") ++ line (codes "09:00-10:00 Daily"))))
+headings : text (plain utc_clock (pos 1_704_067_200)) (entry timed (pos 1_704_099_600) (pos 1_704_103_200) (codes "Daily")
+    ∷ entry timed (pos 1_704_358_800) (pos 1_704_360_600) (codes "Moved") ∷ entry timed (pos 1_704_358_800) (pos 1_704_362_400) (codes "Daily") ∷ []) ≡
+    line (codes "Monday, 2024-01-01") ++ (line (codes "09:00-10:00 Daily")
+    ++ (line (codes "Thursday, 2024-01-04") ++ (line (codes "09:00-09:30 Moved") ++ line (codes "09:00-10:00 Daily"))))
 unfolding days_on_literals pieces_from lib.Utf8.encode
 headings = refl
 
@@ -146,7 +152,8 @@ marks = Field StartDate ∷ Byte 47 ∷ Field StartTime ∷ Byte 47 ∷ Field Ui
 marks_format : written entry_name marks ≡ codes "{start-date}/{start-time}/{uid}"
 marks_format = refl
 
-marks_line : line_text (by marks) (pos 19_727) (record standup { event = record (event timed (codes "Standup")) { uid = codes "a" } }) ≡ line (codes "2024-01-05/10:00/a")
+marks_line : line_text (by marks) (pos 19_727) (record standup { event = record (event timed (codes "Standup")) { uid = codes "a" } })
+    ≡ line (codes "2024-01-05/10:00/a")
 unfolding days_on_literals pieces_from lib.Utf8.encode
 marks_line = refl
 
@@ -165,7 +172,8 @@ braces_line = refl
 abbrev titled : List (Piece EntryField)
 titled = Field Cancelled ∷ Field Title ∷ []
 
-titled_cancelled : line_text (by titled) (pos 19_727) (record standup { event = record (event timed (codes "Standup")) { cancelled = true } }) ≡ line (codes "CANCELLED Standup")
+titled_cancelled : line_text (by titled) (pos 19_727) (record standup { event = record (event timed (codes "Standup")) { cancelled = true } })
+    ≡ line (codes "CANCELLED Standup")
 unfolding pieces_from lib.Utf8.encode
 titled_cancelled = refl
 

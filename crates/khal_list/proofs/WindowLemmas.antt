@@ -31,7 +31,8 @@ true_by false fails = absurd (fails refl)
 -- instants that do not rise make no window
 pub between-falling : (zone : Display) (start end : ℤ) → moment_of (zone_of zone) end ≤ℤ moment_of (zone_of zone) start → None ≡ between zone start end
 between-falling zone start end late =
-    refused_second (int_le first_start start && int_le end last_end) _ _ _ (λ (rises : int_lt (moment_of (zone_of zone) start) (moment_of (zone_of zone) end) ≡ true). omega (arith, signed_arith))
+    refused_second (int_le first_start start && int_le end last_end) _ _ _
+    (λ (rises : int_lt (moment_of (zone_of zone) start) (moment_of (zone_of zone) end) ≡ true). omega (arith, signed_arith))
 
 -- nor do locals of which the start is four days behind the end
 pub between-apart : (zone : Display) (start end : ℤ) → (end +ℤ whole_days 4) ≤ℤ start → None ≡ between zone start end
@@ -46,5 +47,6 @@ pub between-rising : (zone : Display) (start end : ℤ) → first_start ≤ℤ s
 between-rising zone start end early late rise =
     let a = true_by (int_le first_start start) (λ (fails : int_le first_start start ≡ false). omega (arith, signed_arith)) in
     let b = true_by (int_le end last_end) (λ (fails : int_le end last_end ≡ false). omega (arith, signed_arith)) in
-    let c = true_by (int_lt (moment_of (zone_of zone) start) (moment_of (zone_of zone) end)) (λ (fails : int_lt (moment_of (zone_of zone) start) (moment_of (zone_of zone) end) ≡ false). omega (arith, signed_arith)) in
+    let c = true_by (int_lt (moment_of (zone_of zone) start) (moment_of (zone_of zone) end))
+    (λ (fails : int_lt (moment_of (zone_of zone) start) (moment_of (zone_of zone) end) ≡ false). omega (arith, signed_arith)) in
     passed_all _ _ _ _ _ a b c

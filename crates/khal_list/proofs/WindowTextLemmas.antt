@@ -1,5 +1,6 @@
 -- What parsed digits, and a text without its last byte, say of a window text.
-use Rattle.std.proofs.Common.{◌≡◌, ◌≢◌, ◌<◌, ◌≤◌, ◌-◌, ◌^◌, ◌++◌, ◌∷◌, [], ℕ, pos, true, false, Bool, List, Some, None, length, take, get_or, suc, ◌==◌, refl, ap, sym, ◌∙◌, arith, rules, if◌then◌else◌, ◌&&◌}
+use Rattle.std.proofs.Common.{◌≡◌, ◌≢◌, ◌<◌, ◌≤◌, ◌-◌, ◌^◌, ◌++◌, ◌∷◌, [], ℕ, pos, true, false, Bool, List, Some, None, length, take, get_or, suc, ◌==◌, refl}
+use Rattle.std.proofs.Common.{ap, sym, ◌∙◌, arith, rules, if◌then◌else◌, ◌&&◌}
 use Rattle.std.proofs.Math.Seq.{take-suc, take-length}
 use Rattle.std.proofs.lemmas.Bool.{eqb-true}
 use Rattle.std.proofs.lemmas.Bool.Decides.{nat_tests}

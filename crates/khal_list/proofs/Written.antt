@@ -1,5 +1,6 @@
 -- A text of which a sink has taken the first part.
-use Rattle.std.proofs.Common.{◌≡◌, ◌≤◌, ℕ, List, [], ◌++◌, Option, Some, None, Result, Ok, Err, length, take, drop, sym, ap, ◌∙◌, subst, arith, append_assoc, append-nil, length-append}
+use Rattle.std.proofs.Common.{◌≡◌, ◌≤◌, ℕ, List, [], ◌++◌, Option, Some, None, Result, Ok, Err, length, take, drop, sym, ap, ◌∙◌, subst, arith, append_assoc}
+use Rattle.std.proofs.Common.{append-nil, length-append}
 use Rattle.std.specs.Prelude.{OnErr}
 use Rattle.std.specs.Io.KnownBytes.{Appends}
 use Rattle.std.proofs.lemmas.List.{take-append-drop}
@@ -22,7 +23,8 @@ appends-none None = tt
 appends-none (Some bytes) = sym (append-nil bytes)
 
 -- two texts after one another are one
-pub appends-both : (told middle new : Option (List ℕ)) (first second : List ℕ) → Appends told middle first → Appends middle new second → Appends told new (first ++ second)
+pub appends-both : (told middle new : Option (List ℕ)) (first second : List ℕ) → Appends told middle first → Appends middle new second →
+    Appends told new (first ++ second)
 appends-both None middle new first second h k = tt
 appends-both (Some bytes) None new first second h k = absurd h
 appends-both (Some bytes) (Some more) None first second h k = absurd k
@@ -31,7 +33,8 @@ appends-both (Some bytes) (Some more) (Some all) first second h k = k ∙ (ap (�
 pub appends-same : (told new : Option (List ℕ)) {first second : List ℕ} → first ≡ second → Appends told new first → Appends told new second
 appends-same told new same h = subst (Appends told new) same h
 
-written-more : (told middle new : Option (List ℕ)) (piece rest whole : List ℕ) → Written told middle (piece ++ rest) whole → Appends middle new piece → Written told new rest whole
+written-more : (told middle new : Option (List ℕ)) (piece rest whole : List ℕ) → Written told middle (piece ++ rest) whole → Appends middle new piece →
+    Written told new rest whole
 written-more told middle new piece rest whole w h = record {
   done = w.done ++ piece;
   taken = appends-both told middle new w.done piece w.taken h;
@@ -52,9 +55,11 @@ written-front told new rest whole w = record {
 }
 
 -- a front of the next piece
-pub written-part : (told middle new : Option (List ℕ)) (piece rest whole : List ℕ) → Written told middle (piece ++ rest) whole → TookFront middle new piece → TookFront told new whole
+pub written-part : (told middle new : Option (List ℕ)) (piece rest whole : List ℕ) → Written told middle (piece ++ rest) whole → TookFront middle new piece →
+    TookFront told new whole
 written-part told middle new piece rest whole w f =
     let parted : take f.count piece ++ (drop f.count piece ++ rest) ≡ piece ++ rest =
     sym (append_assoc (take f.count piece) (drop f.count piece) rest) ∙ ap (λ p. p ++ rest) (take-append-drop f.count piece) in
     let again : Written told middle (take f.count piece ++ (drop f.count piece ++ rest)) whole = rw parted w in
-    written-front told new (drop f.count piece ++ rest) whole (written-more told middle new (take f.count piece) (drop f.count piece ++ rest) whole again f.taken)
+    written-front told new (drop f.count piece ++ rest) whole
+    (written-more told middle new (take f.count piece) (drop f.count piece ++ rest) whole again f.taken)

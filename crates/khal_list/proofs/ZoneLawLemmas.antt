@@ -12,7 +12,8 @@ use Rattle.khal_list.proofs.OutcomeLemmas.{file-read}
 one-absent : (answer : FindAnswer) (found : Found) → answer ≡ Ok None → found_of answer ≡ Some found → found ≡ Found.Absent
 one-absent answer found none is = let e : Some Found.Absent ≡ Some found = sym (ap found_of none) ∙ is in cc
 
-pub each-absent : {Z : Type 0} (finds : Z → List ℕ → FindAnswer → Z → Type 0) → ((before : Z) (name : List ℕ) (answer : FindAnswer) (after : Z) → finds before name answer after → answer ≡ Ok None)
+pub each-absent : {Z : Type 0} (finds : Z → List ℕ → FindAnswer → Z → Type 0) →
+    ((before : Z) (name : List ℕ) (answer : FindAnswer) (after : Z) → finds before name answer after → answer ≡ Ok None)
     → (before : Z) (asked : List Asked) (after : Z) → FindsEach finds before asked after → AllByRecursion (λ one. one.1 ≡ Found.Absent) asked
 each-absent finds none before [] after h = tt
 each-absent finds none before (one ∷ asked) after h = (one-absent h.0 one.1 (none before one.0 h.0 h.1 h.2) h.3, each-absent finds none h.1 asked after h.4)
@@ -35,6 +36,8 @@ none-unread : (asked : List Asked) → AllByRecursion (λ one. one.1 ≡ Found.A
 none-unread asked h [] = refl
 none-unread asked h (name ∷ names) = ap (λ (t : Bool). t || list_any (is_unread asked) names) (unread-absent asked h name) ∙ none-unread asked h names
 
-pub same-file : (asked : List Asked) → AllByRecursion (λ one. one.1 ≡ Found.Absent) asked → (bytes : List ℕ) → file_by asked (Some bytes) ≡ file_or_refusal (file_of no_files bytes)
+pub same-file : (asked : List Asked) → AllByRecursion (λ one. one.1 ≡ Found.Absent) asked → (bytes : List ℕ) →
+    file_by asked (Some bytes) ≡ file_or_refusal (file_of no_files bytes)
 same-file asked h bytes =
-    file-read asked bytes (none-unread asked h (wanted_names bytes)) ∙ ap (λ (files : GivenFiles). file_or_refusal (file_of files bytes)) (given-absent no_files asked h)
+    file-read asked bytes (none-unread asked h (wanted_names bytes))
+    ∙ ap (λ (files : GivenFiles). file_or_refusal (file_of files bytes)) (given-absent no_files asked h)

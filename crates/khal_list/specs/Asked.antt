@@ -62,12 +62,14 @@ FindsEach {Z} finds before (one ∷ asked) after =
     (answer : FindAnswer) × (next : Z) × finds before one.0 answer next × (found_of answer ≡ Some one.1) × FindsEach finds next asked after
 
 -- Of the names that are wanted those that were not asked for are asked for, each once, in order.
-pub record AsksAll {Z : Type 0} (finds : Z → List ℕ → FindAnswer → Z → Type 0) (asked : List Asked) (wanted : List (List ℕ)) (before : Z) (more : List Asked) (after : Z) : Type 0 where
+pub record AsksAll {Z : Type 0} (finds : Z → List ℕ → FindAnswer → Z →
+    Type 0) (asked : List Asked) (wanted : List (List ℕ)) (before : Z) (more : List Asked) (after : Z) : Type 0 where
   pub each : FindsEach finds before more after
   pub names : names_of (asked ++ more) ≡ and_names (names_of asked) wanted
 
 -- The first of them are asked for. One for which an allocation failed is the last, and found nothing.
-pub record AsksSome {Z : Type 0} (finds : Z → List ℕ → FindAnswer → Z → Type 0) (asked : List Asked) (wanted : List (List ℕ)) (before : Z) (more : List Asked) (after : Z) : Type 0 where
+pub record AsksSome {Z : Type 0} (finds : Z → List ℕ → FindAnswer → Z →
+    Type 0) (asked : List Asked) (wanted : List (List ℕ)) (before : Z) (more : List Asked) (after : Z) : Type 0 where
   pub last : Z
   pub each : FindsEach finds before more last
   pub rest : List (List ℕ)

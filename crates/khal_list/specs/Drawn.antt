@@ -22,7 +22,8 @@ pub record DrewAhead {A : Type 0} (text : List A → List ℕ) (old new : List A
 
 -- Of entries under days that were to come the text of the first was written, up to the limit, or a prefix of it; and these are to come now. The
 -- key is that of the last one written, if the limit cut the list.
-pub record Puts (request : Request) (coming : List OnDay → Type 0) (list : List OnDay) (out out' : Option (List ℕ)) (result : Result (Option DayKey) RunFault) : Type 0 where
+pub record Puts (request : Request) (coming : List OnDay → Type 0) (list : List OnDay) (out out' : Option (List ℕ)) (result : Result (Option DayKey) RunFault) :
+    Type 0 where
   pub text : OnOk result (Appends out out' (days_text_of request list))
   pub key : IfOk result (λ key. option_map day_key_rank key ≡ day_key_on request.limit list)
   pub front : OnErr result (TookFront out out' (days_text_of request list))

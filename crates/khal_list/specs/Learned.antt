@@ -38,19 +38,22 @@ pub record Keeps (asked more : List Asked) : Type 0 where
   pub unread : (name : List ℕ) → list_any (bytes_eq name) (names_of asked) ≡ true → is_unread (asked ++ more) name ≡ is_unread asked name
 
 -- the wanted names are asked for, and what was found is known
-pub record Learns {Z : Type 0} (finds : Z → List ℕ → FindAnswer → Z → Type 0) (asked : List Asked) (wanted : List (List ℕ)) (before : Z) (after : Z) (answered : Answered) : Type 0 where
+pub record Learns {Z : Type 0} (finds : Z → List ℕ → FindAnswer → Z →
+    Type 0) (asked : List Asked) (wanted : List (List ℕ)) (before : Z) (after : Z) (answered : Answered) : Type 0 where
   pub more : List Asked
   pub asks : AsksAll finds asked wanted before more after
   pub knows : Knows (asked ++ more) answered
   pub keeps : Keeps asked more
 
 -- some of them are
-pub record LearnsSome {Z : Type 0} (finds : Z → List ℕ → FindAnswer → Z → Type 0) (asked : List Asked) (wanted : List (List ℕ)) (before : Z) (after : Z) : Type 0 where
+pub record LearnsSome {Z : Type 0} (finds : Z → List ℕ → FindAnswer → Z →
+    Type 0) (asked : List Asked) (wanted : List (List ℕ)) (before : Z) (after : Z) : Type 0 where
   pub more : List Asked
   pub asks : AsksSome finds asked wanted before more after
 
 -- the names that a file wants are asked for, and this is its outcome
-pub record Settles {Z : Type 0} (finds : Z → List ℕ → FindAnswer → Z → Type 0) (asked : List Asked) (given : Contents) (before : Z) (after : Z) (answered : Answered)
+pub record Settles {Z : Type 0} (finds : Z → List ℕ → FindAnswer → Z →
+    Type 0) (asked : List Asked) (given : Contents) (before : Z) (after : Z) (answered : Answered)
     (outcome : Result FileSaid Refusal) : Type 0 where
   pub learns : Learns finds asked (wanted_of given) before after answered
   pub outcome_is : outcome ≡ file_by (asked ++ learns.more) given

@@ -32,7 +32,8 @@ pub record IsOutcome {Z : Type 0} (finds : Z → List ℕ → FindAnswer → Z �
 -- It came to nothing: an allocation failed in it, or after it as the names were asked for that the file wants.
 pub data EndsReading {Z : Type 0} (finds : Z → List ℕ → FindAnswer → Z → Type 0) (answer : Answer) (before after : Z) (known : Answered) : Type 0 where
   InRead : answer ≡ Err Memory → after ≡ before → EndsReading finds answer before after known
-  AfterRead : (bytes : List ℕ) → answer ≡ Ok bytes → ((asked : List Asked) → Knows asked known → LearnsSome finds asked (wanted_names bytes) before after) → EndsReading finds answer before after known
+  AfterRead : (bytes : List ℕ) → answer ≡ Ok bytes → ((asked : List Asked) → Knows asked known → LearnsSome finds asked (wanted_names bytes) before after) →
+      EndsReading finds answer before after known
 
 -- these are the accepted files of the reads, and the lines of the others
 pub record IsReading (names : List (List ℕ)) (asked : List Asked) (contents : List Contents) (files : List FileSaid) (errors : List ℕ) : Type 0 where

@@ -33,14 +33,16 @@ TokenGoesOn =
 -- the listing under each day after the key of one of its entries is that of the entries after it
 abbrev pub DayGoesOn : Type 0
 DayGoesOn =
-    (files : List FileSaid) (request : Request) (every_day : EveryDay) (front : List OnDay) (p : OnDay) (behind : List OnDay) → IsDayListingOf files request (front ++ p ∷ behind)
+    (files : List FileSaid) (request : Request) (every_day : EveryDay) (front : List OnDay) (p : OnDay) (behind : List OnDay) →
+    IsDayListingOf files request (front ++ p ∷ behind)
     → option_map day_key_rank every_day.after ≡ Some (day_rank_of p) → asked_after_day every_day (front ++ p ∷ behind) ≡ behind
 
 -- words with `--every-day` whose `--after` has the token of an entry under its day ask for exactly the entries after it
 abbrev pub DayTokenGoesOn : Type 0
 DayTokenGoesOn =
     (words : List Text) (now : ℤ) (files : List FileSaid) (request : Request) (every_day : EveryDay) (front : List OnDay) (p : OnDay) (behind : List OnDay)
-    → RequestOf words now (Ok request) → request.every_day ≡ Some every_day → after_text (entries_of words) ≡ Some (day_spelling (day_rank_of p)) → IsDayKey (day_rank_of p)
+    → RequestOf words now (Ok request) → request.every_day ≡ Some every_day → after_text (entries_of words) ≡ Some (day_spelling (day_rank_of p)) →
+    IsDayKey (day_rank_of p)
     → IsDayListingOf files request (front ++ p ∷ behind) → asked_after_day every_day (front ++ p ∷ behind) ≡ behind
 
 -- the day under which the last of these entries is listed, or the day before them if there are none
@@ -54,7 +56,8 @@ TextSplits = (style : Style) (front rest : List Entry) → text style (front ++ 
 
 -- if the rest is listed alone, it begins with the heading of its first day, and its lines are the same
 abbrev pub TextGoesOn : Type 0
-TextGoesOn = (style : Style) (e : Entry) (es : List Entry) → text style (e ∷ es) ≡ heading_text style (day_under style e) ++ text_after style (Some (day_under style e)) (e ∷ es)
+TextGoesOn = (style : Style) (e : Entry) (es : List Entry) →
+    text style (e ∷ es) ≡ heading_text style (day_under style e) ++ text_after style (Some (day_under style e)) (e ∷ es)
 
 -- what listings with these limits list together, each from the key that the one before names, until one names none
 abbrev pub joined : List ℕ → Option Rank → List Entry → List Entry
@@ -76,5 +79,6 @@ ArePositive (limit ∷ limits) = (1 ≤ limit) × ArePositive limits
 -- pages of any limits that are together enough for the listing join to it
 abbrev pub Pages : Type 0
 Pages =
-    (files : List FileSaid) (request : Request) (list : List Entry) (limits : List ℕ) → IsListingOf files request list → ArePositive limits → length list ≤ total limits
+    (files : List FileSaid) (request : Request) (list : List Entry) (limits : List ℕ) → IsListingOf files request list → ArePositive limits →
+    length list ≤ total limits
     → joined limits None list ≡ list

@@ -10,13 +10,15 @@ ReadsFrom {S} reads before i (given ∷ contents) after =
     (answer : Answer) × (next : S) × reads before i answer next × (contents_of answer ≡ Some given) × ReadsFrom reads next (i + 1) contents after
 
 -- The first files are read, from one state to another. A read in which an allocation failed is the last, and gave nothing.
-pub record ReadsSome {S : Type 0} (reads : S → ℕ → Answer → S → Type 0) (names : List (List ℕ)) (before : S) (contents : List Contents) (after : S) : Type 0 where
+pub record ReadsSome {S : Type 0} (reads : S → ℕ → Answer → S →
+    Type 0) (names : List (List ℕ)) (before : S) (contents : List Contents) (after : S) : Type 0 where
   pub last : S
   pub from_first : ReadsFrom reads before 0 contents last
   pub ended : ((after ≡ last) × (length contents ≤ length names))
       ⊎ (reads last (length contents) (Err Memory) after × (length contents < length names))
 
 -- every file is read
-pub record ReadsAll {S : Type 0} (reads : S → ℕ → Answer → S → Type 0) (names : List (List ℕ)) (before : S) (contents : List Contents) (after : S) : Type 0 where
+pub record ReadsAll {S : Type 0} (reads : S → ℕ → Answer → S →
+    Type 0) (names : List (List ℕ)) (before : S) (contents : List Contents) (after : S) : Type 0 where
   pub from_first : ReadsFrom reads before 0 contents after
   pub each : length contents ≡ length names

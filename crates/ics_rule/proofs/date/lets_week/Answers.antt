@@ -8,5 +8,6 @@ pub returns : goal.returns
 returns c =
     let f = subst (λ x. IsCivilOf c.civil_at-fields.result x) c.fourth_day.ensures.value c.civil_at-fields.ensures in
     c.lets_place.ensures
-    ∙ ap (λ y. lets_place c.args.parts.now.weeks ((c.civil_at-fields.result.year_day - 1) / 7 + 1) ((y - 1 - (c.civil_at-fields.result.year_day - 1) % 7) / 7 + 1)) c.year_length.ensures
+    ∙ ap (λ y. lets_place c.args.parts.now.weeks ((c.civil_at-fields.result.year_day - 1) / 7 + 1)
+    ((y - 1 - (c.civil_at-fields.result.year_day - 1) % 7) / 7 + 1)) c.year_length.ensures
     ∙ lets_week-fields c.args.parts.now c.args.index c.civil_at-fields.result f

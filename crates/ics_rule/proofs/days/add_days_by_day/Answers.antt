@@ -7,14 +7,17 @@ use Rattle.ics_rule.proofs.days.add_days_by_day.Goals.{then-lets_date, else-lets
 use Rattle.ics_rule.proofs.Tests.{none_yet}
 
 pub loop-k-init : goal.loop-k-init
-loop-k-init c = λ m. ap (λ ws. contains_wide ws m) c.requires.empty ∙ none_has m ∙ ap (λ x. x && lets_date c.args.parts.now (c.args.first + m)) (sym (none_yet m))
+loop-k-init c = λ m. ap (λ ws. contains_wide ws m) c.requires.empty ∙ none_has m
+    ∙ ap (λ x. x && lets_date c.args.parts.now (c.args.first + m)) (sym (none_yet m))
 
 pub loop-k-preserved : goal.loop-k-preserved
 loop-k-preserved c = λ m. elim c.if-lets_date.branch [
   | then-lets_date w ↦ ap (λ ws. contains_wide ws m) w.days-is ∙ w.insert.ensures.members m
-      ∙ one_more (λ k. lets_date c.args.parts.now (c.args.first + k)) c.loop-k.k m (contains_wide c.loop-k.days m) (sym c.lets_date.ensures ∙ w.if-lets_date.true) (c.loop-k.invariant m)
+      ∙ one_more (λ k. lets_date c.args.parts.now (c.args.first + k)) c.loop-k.k m (contains_wide c.loop-k.days m) (sym c.lets_date.ensures
+      ∙ w.if-lets_date.true) (c.loop-k.invariant m)
   | else-lets_date w ↦ ap (λ ws. contains_wide ws m) w.days-is
-      ∙ no_more (λ k. lets_date c.args.parts.now (c.args.first + k)) c.loop-k.k m (contains_wide c.loop-k.days m) (sym c.lets_date.ensures ∙ w.if-lets_date.false) (c.loop-k.invariant m)
+      ∙ no_more (λ k. lets_date c.args.parts.now (c.args.first + k)) c.loop-k.k m (contains_wide c.loop-k.days m) (sym c.lets_date.ensures
+      ∙ w.if-lets_date.false) (c.loop-k.invariant m)
 ]
 
 pub returns : goal.returns

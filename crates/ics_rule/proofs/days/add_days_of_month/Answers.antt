@@ -8,19 +8,24 @@ use Rattle.ics_rule.proofs.days.add_days_of_month.Goals as goal
 use Rattle.ics_rule.proofs.days.add_days_of_month.Goals.{then-lets, else-lets}
 
 pub add_days_by_day-requires-clause-size : goal.add_days_by_day-requires-clause-size
-add_days_by_day-requires-clause-size c = let b = days_in_month_bounds (pos ((c.args.number - 1) / 12)) ((c.args.number - 1) % 12 + 1) in omega (arith, b.0, c.requires.span.1.1.1)
+add_days_by_day-requires-clause-size c = let b = days_in_month_bounds (pos ((c.args.number - 1) / 12)) ((c.args.number - 1) % 12 + 1) in
+    omega (arith, b.0, c.requires.span.1.1.1)
 
 pub add_days_by_day-requires-clause-days : goal.add_days_by_day-requires-clause-days
-add_days_by_day-requires-clause-days c = let b = days_in_month_bounds (pos ((c.args.number - 1) / 12)) ((c.args.number - 1) % 12 + 1) in omega (arith, b.0, c.requires.span.1.1.1, c.requires.days)
+add_days_by_day-requires-clause-days c = let b = days_in_month_bounds (pos ((c.args.number - 1) / 12)) ((c.args.number - 1) % 12 + 1) in
+    omega (arith, b.0, c.requires.span.1.1.1, c.requires.days)
 
 pub add_month-requires-clause-some : goal.add_month-requires-clause-some
-add_month-requires-clause-some c = let b = days_in_month_bounds (pos ((c.args.number - 1) / 12)) ((c.args.number - 1) % 12 + 1) in omega (arith, b.1, c.requires.span.1.1.1)
+add_month-requires-clause-some c = let b = days_in_month_bounds (pos ((c.args.number - 1) / 12)) ((c.args.number - 1) % 12 + 1) in
+    omega (arith, b.1, c.requires.span.1.1.1)
 
 pub add_month-requires-clause-most : goal.add_month-requires-clause-most
-add_month-requires-clause-most c = let b = days_in_month_bounds (pos ((c.args.number - 1) / 12)) ((c.args.number - 1) % 12 + 1) in omega (arith, b.0, c.requires.span.1.1.1)
+add_month-requires-clause-most c = let b = days_in_month_bounds (pos ((c.args.number - 1) / 12)) ((c.args.number - 1) % 12 + 1) in
+    omega (arith, b.0, c.requires.span.1.1.1)
 
 pub add_month-requires-clause-within : goal.add_month-requires-clause-within
-add_month-requires-clause-within c = let b = days_in_month_bounds (pos ((c.args.number - 1) / 12)) ((c.args.number - 1) % 12 + 1) in omega (arith, b.0, c.requires.span.1.1.1)
+add_month-requires-clause-within c = let b = days_in_month_bounds (pos ((c.args.number - 1) / 12)) ((c.args.number - 1) % 12 + 1) in
+    omega (arith, b.0, c.requires.span.1.1.1)
 
 pub leave_let_in-requires-clause-numbers : goal.leave_let_in-requires-clause-numbers
 leave_let_in-requires-clause-numbers c = ap (counts_in_month c.args.parts.now) c.requires.frequency
@@ -28,7 +33,8 @@ leave_let_in-requires-clause-numbers c = ap (counts_in_month c.args.parts.now) c
 pub leave_let_in-requires-clause-listed : goal.leave_let_in-requires-clause-listed
 leave_let_in-requires-clause-listed c = λ k. elim c.if-lets.branch [
   | then-lets w ↦ ap (λ ws. contains_wide ws k) w.days-is
-      ∙ one_month c.args.parts.now c.args.first c.args.len ((c.args.number - 1) / 12) ((c.args.number - 1) % 12 + 1) w.weekday_at.result k (contains_wide c.args.days.now k) _
+      ∙ one_month c.args.parts.now c.args.first c.args.len ((c.args.number - 1) / 12) ((c.args.number - 1) % 12 + 1) w.weekday_at.result k
+      (contains_wide c.args.days.now k) _
       (span_month c.args.number c.args.first c.args.len w.weekday_at.result c.requires.span w.weekday_at.ensures.value) (sym c.lets.ensures ∙ w.if-lets.true)
       (ap (λ ws. contains_wide ws k) c.requires.empty ∙ none_has k) (w.add_month.ensures k)
   | else-lets w ↦ ap (λ ws. contains_wide ws k) w.days-is ∙ ap (λ ws. contains_wide ws k) c.requires.empty ∙ none_has k

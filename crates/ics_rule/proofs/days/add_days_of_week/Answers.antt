@@ -8,7 +8,8 @@ use Rattle.ics_rule.proofs.days.add_days_of_week.Goals.{then-contains, else-cont
 use Rattle.ics_rule.proofs.Tests.{none_yet}
 
 pub loop-k-init : goal.loop-k-init
-loop-k-init c = λ m. ap (λ ws. contains_wide ws m) c.requires.empty ∙ none_has m ∙ ap (λ x. x && lets_date c.args.parts.now (c.args.first + m)) (sym (none_yet m))
+loop-k-init c = λ m. ap (λ ws. contains_wide ws m) c.requires.empty ∙ none_has m
+    ∙ ap (λ x. x && lets_date c.args.parts.now (c.args.first + m)) (sym (none_yet m))
 
 pub loop-k-preserved : goal.loop-k-preserved
 loop-k-preserved c = λ m.
@@ -17,9 +18,11 @@ loop-k-preserved c = λ m.
     c.weekday_at.ensures.value c.weekday_at.ensures.small c.named-named.ensures c.contains.ensures in
     elim c.if-contains.branch [
       | then-contains w ↦ ap (λ ws. contains_wide ws m) w.days-is ∙ w.insert.ensures.members m
-          ∙ one_more (λ k. lets_date c.args.parts.now (c.args.first + k)) c.loop-k.k m (contains_wide c.loop-k.days m) (sym test ∙ w.if-contains.true) (c.loop-k.invariant m)
+          ∙ one_more (λ k. lets_date c.args.parts.now (c.args.first + k)) c.loop-k.k m (contains_wide c.loop-k.days m) (sym test
+          ∙ w.if-contains.true) (c.loop-k.invariant m)
       | else-contains w ↦ ap (λ ws. contains_wide ws m) w.days-is
-          ∙ no_more (λ k. lets_date c.args.parts.now (c.args.first + k)) c.loop-k.k m (contains_wide c.loop-k.days m) (sym test ∙ w.if-contains.false) (c.loop-k.invariant m)
+          ∙ no_more (λ k. lets_date c.args.parts.now (c.args.first + k)) c.loop-k.k m (contains_wide c.loop-k.days m) (sym test
+          ∙ w.if-contains.false) (c.loop-k.invariant m)
     ]
 
 pub returns : goal.returns

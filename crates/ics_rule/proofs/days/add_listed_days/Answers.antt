@@ -9,7 +9,11 @@ use Rattle.ics_rule.proofs.days.add_listed_days.Goals as goal
 use Rattle.ics_rule.proofs.days.add_listed_days.Goals.{In-Some}
 
 pub loop-month-init : goal.loop-month-init
-loop-month-init c = (λ k. ap (λ ws. contains_wide ws k) c.requires.empty ∙ none_has k ∙ months_none c.args.parts.now (contains c.open_months-months.result) (c.args.first + k) (nat_lt k c.args.len), (omega arith, omega arith))
+loop-month-init c = (
+  λ k. ap (λ ws. contains_wide ws k) c.requires.empty ∙ none_has k
+      ∙ months_none c.args.parts.now (contains c.open_months-months.result) (c.args.first + k) (nat_lt k c.args.len),
+  (omega arith, omega arith),
+)
 
 small : (c : In-Some) → c.in-Some.month < 13
 small c = member_below c.open_months-months.result 13 c.in-Some.month c.open_months-months.ensures.bound c.in-Some.ensures.next.passes
@@ -21,24 +25,32 @@ pub add_month-requires-clause-own : goal.add_month-requires-clause-own
 add_month-requires-clause-own c = let m = c.month_run.ensures.month (year_of c.args.first) c.requires.span in let w = m.weekday in omega (arith, w)
 
 pub add_month-requires-clause-some : goal.add_month-requires-clause-some
-add_month-requires-clause-some c = let b = days_in_month_bounds (pos (year_of c.args.first)) c.in-Some.month in let m = c.month_run.ensures.month (year_of c.args.first) c.requires.span in let s = m.size in omega (arith, b.1, s)
+add_month-requires-clause-some c = let b = days_in_month_bounds (pos (year_of c.args.first)) c.in-Some.month in
+    let m = c.month_run.ensures.month (year_of c.args.first) c.requires.span in let s = m.size in omega (arith, b.1, s)
 
 pub add_month-requires-clause-most : goal.add_month-requires-clause-most
-add_month-requires-clause-most c = let b = days_in_month_bounds (pos (year_of c.args.first)) c.in-Some.month in let m = c.month_run.ensures.month (year_of c.args.first) c.requires.span in let s = m.size in omega (arith, b.0, s)
+add_month-requires-clause-most c = let b = days_in_month_bounds (pos (year_of c.args.first)) c.in-Some.month in
+    let m = c.month_run.ensures.month (year_of c.args.first) c.requires.span in let s = m.size in omega (arith, b.0, s)
 
 pub add_month-requires-clause-within : goal.add_month-requires-clause-within
-add_month-requires-clause-within c = let b = days_in_year_bounds (pos (year_of c.args.first)) in let w = c.month_run.ensures.within (year_of c.args.first) c.requires.span in omega (arith, b.0, w, c.requires.span.1.1)
+add_month-requires-clause-within c = let b = days_in_year_bounds (pos (year_of c.args.first)) in
+    let w = c.month_run.ensures.within (year_of c.args.first) c.requires.span in omega (arith, b.0, w, c.requires.span.1.1)
 
 pub loop-month-preserved : goal.loop-month-preserved
 loop-month-preserved c =
     let y = year_of c.args.first in
     let seen : ℕ → ℕ → Bool = λ k from. seen_months c.args.parts.now (contains c.open_months-months.result) from (c.args.first + k) in (
-      λ k. month_step c.args.parts.now c.month_run.result (contains c.open_months-months.result) c.args.first y c.in-Some.month c.loop-month.from k (contains_wide c.loop-month.days k) _
-          (c.month_run.ensures.month y c.requires.span) c.requires.span.1.0 (subst (λ n. c.month_run.result.start + c.month_run.result.len ≤ n) c.requires.span.1.1 (c.month_run.ensures.within y c.requires.span)) c.in-Some.ensures.next
+      λ k. month_step c.args.parts.now c.month_run.result (contains c.open_months-months.result) c.args.first y c.in-Some.month c.loop-month.from k
+          (contains_wide c.loop-month.days k) _
+          (c.month_run.ensures.month y c.requires.span) c.requires.span.1.0
+          (subst (λ n. c.month_run.result.start + c.month_run.result.len ≤ n) c.requires.span.1.1 (c.month_run.ensures.within y c.requires.span))
+          c.in-Some.ensures.next
           (c.loop-month.invariant.0 k ∙ ap (λ n. nat_lt k n && seen k c.loop-month.from) c.requires.span.1.1) (c.add_month.ensures k)
           ∙ ap (λ n. nat_lt k n && seen k (c.in-Some.month + 1)) (sym c.requires.span.1.1),
       (omega arith, omega (arith, c.in-Some.ensures.small)),
     )
 
 pub returns : goal.returns
-returns c = λ k. c.loop-month.invariant.0 k ∙ months_done c.args.parts.now (contains c.open_months-months.result) c.loop-month.from (c.args.first + k) (nat_lt k c.args.len) c.in_default.ensures.next c.open_months-months.ensures.members
+returns c = λ k. c.loop-month.invariant.0 k
+    ∙ months_done c.args.parts.now (contains c.open_months-months.result) c.loop-month.from (c.args.first + k) (nat_lt k c.args.len) c.in_default.ensures.next
+    c.open_months-months.ensures.members

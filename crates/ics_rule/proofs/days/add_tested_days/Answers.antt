@@ -9,7 +9,8 @@ use Rattle.ics_rule.proofs.days.add_tested_days.Goals as goal
 pub returns-else-is_empty : goal.returns-else-is_empty
 returns-else-is_empty c = λ k. c.those_let_in-else-is_empty.ensures k
     ∙ candidates (contains_wide c.days_near_weeks.result k) (lets_date c.args.parts.now (c.args.first + k)) (nat_lt k c.args.len)
-    (λ h. lt-ltb k c.args.len (c.days_near_weeks.ensures.within k h)) (λ l h. c.days_near_weeks.ensures.all k (ltb-true k c.args.len l) (week_let_in c.args.parts.now (c.args.first + k) h))
+    (λ h. lt-ltb k c.args.len (c.days_near_weeks.ensures.within k h))
+    (λ l h. c.days_near_weeks.ensures.all k (ltb-true k c.args.len l) (week_let_in c.args.parts.now (c.args.first + k) h))
 
 pub returns-then-is_empty : goal.returns-then-is_empty
 returns-then-is_empty c = λ k. c.those_let_in.ensures k ∙ ap (λ x. x && lets_date c.args.parts.now (c.args.first + k)) (c.days_by_number.ensures k)

@@ -7,12 +7,15 @@ use Rattle.ics_rule.proofs.days.days_by_number.Goals.{then-lets_wide_place, else
 use Rattle.ics_rule.proofs.Tests.{none_yet}
 
 pub loop-k-init : goal.loop-k-init
-loop-k-init c = λ m. ap (λ ws. contains_wide ws m) c.new-days.ensures ∙ none_has m ∙ ap (λ x. x && lets_wide_place c.args.parts.now.year_days (m + 1) c.args.len) (sym (none_yet m))
+loop-k-init c = λ m. ap (λ ws. contains_wide ws m) c.new-days.ensures ∙ none_has m
+    ∙ ap (λ x. x && lets_wide_place c.args.parts.now.year_days (m + 1) c.args.len) (sym (none_yet m))
 
 pub loop-k-preserved : goal.loop-k-preserved
 loop-k-preserved c = λ m. elim c.if-lets_wide_place.branch [
   | then-lets_wide_place w ↦ ap (λ ws. contains_wide ws m) w.days-is ∙ w.insert.ensures.members m
-      ∙ one_more (λ k. lets_wide_place c.args.parts.now.year_days (k + 1) c.args.len) c.loop-k.k m (contains_wide c.loop-k.days m) (sym c.lets_wide_place.ensures ∙ w.if-lets_wide_place.true) (c.loop-k.invariant m)
+      ∙ one_more (λ k. lets_wide_place c.args.parts.now.year_days (k + 1) c.args.len) c.loop-k.k m (contains_wide c.loop-k.days m)
+      (sym c.lets_wide_place.ensures ∙ w.if-lets_wide_place.true) (c.loop-k.invariant m)
   | else-lets_wide_place w ↦ ap (λ ws. contains_wide ws m) w.days-is
-      ∙ no_more (λ k. lets_wide_place c.args.parts.now.year_days (k + 1) c.args.len) c.loop-k.k m (contains_wide c.loop-k.days m) (sym c.lets_wide_place.ensures ∙ w.if-lets_wide_place.false) (c.loop-k.invariant m)
+      ∙ no_more (λ k. lets_wide_place c.args.parts.now.year_days (k + 1) c.args.len) c.loop-k.k m (contains_wide c.loop-k.days m) (sym c.lets_wide_place.ensures
+      ∙ w.if-lets_wide_place.false) (c.loop-k.invariant m)
 ]

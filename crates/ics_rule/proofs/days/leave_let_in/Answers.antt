@@ -10,11 +10,11 @@ use Rattle.ics_rule.proofs.days.leave_let_in.Goals as goal
 pub returns-then-is_empty : goal.returns-then-is_empty
 returns-then-is_empty c = λ k. c.requires.listed k ∙ ap (λ x. nat_lt k c.args.len && x)
     (month_exact c.args.parts.now (c.args.first + k) c.requires.months c.requires.numbers (elim c.then-is_empty.branch [
-  | then-is_empty-via-then-is_empty w ↦ or_left (lists_none c.args.parts.now.month_days) (lists_no_weekday c.args.parts.now.weekdays)
-      (sym c.is_empty.ensures ∙ w.if-is_empty.true)
-  | then-is_empty-via-else-is_empty+then-is_empty-2 w ↦ or_right (lists_none c.args.parts.now.month_days) (lists_no_weekday c.args.parts.now.weekdays)
-      (sym w.is_empty-else-is_empty.ensures ∙ w.if-is_empty-2.true)
-]))
+      | then-is_empty-via-then-is_empty w ↦ or_left (lists_none c.args.parts.now.month_days) (lists_no_weekday c.args.parts.now.weekdays)
+          (sym c.is_empty.ensures ∙ w.if-is_empty.true)
+      | then-is_empty-via-else-is_empty+then-is_empty-2 w ↦ or_right (lists_none c.args.parts.now.month_days) (lists_no_weekday c.args.parts.now.weekdays)
+          (sym w.is_empty-else-is_empty.ensures ∙ w.if-is_empty-2.true)
+    ]))
 
 pub returns : goal.returns
 returns c = λ k. c.those_let_in.ensures k ∙ ap (λ x. x && lets_date c.args.parts.now (c.args.first + k)) (c.requires.listed k)

@@ -8,14 +8,17 @@ use Rattle.ics_rule.proofs.pass.next_open_step.Goals as goal
 
 pub first_local-begin-requires : goal.first_local-begin-requires
 first_local-begin-requires c =
-    let b = begun c.args.parts.now.frequency (monday_zero c.args.parts.now.week_start) c.args.number (c.args.stop - 1) (omega (arith, c.requires.last, c.if-number-last.false)) in
+    let b = begun c.args.parts.now.frequency (monday_zero c.args.parts.now.week_start) c.args.number (c.args.stop - 1)
+    (omega (arith, c.requires.last, c.if-number-last.false)) in
     omega (arith, b, c.requires.stop)
 
 pub next_open-place-requires-clause-local : goal.next_open-place-requires-clause-local
 next_open-place-requires-clause-local c =
-    let b = begun c.args.parts.now.frequency (monday_zero c.args.parts.now.week_start) c.args.number (c.args.stop - 1) (omega (arith, c.requires.last, c.if-number-last.false)) in
+    let b = begun c.args.parts.now.frequency (monday_zero c.args.parts.now.week_start) c.args.number (c.args.stop - 1)
+    (omega (arith, c.requires.last, c.if-number-last.false)) in
     omega (arith, b, c.requires.some, c.first_local-begin.ensures)
 
 pub returns : goal.returns
-returns c = step_open c.args.parts.now c.args.first c.args.number c.first_local-begin.result c.next_open-place.result c.next_step.result c.first_local-begin.ensures c.next_open-place.ensures.low c.next_open-place.ensures.none
+returns c = step_open c.args.parts.now c.args.first c.args.number c.first_local-begin.result c.next_open-place.result c.next_step.result
+    c.first_local-begin.ensures c.next_open-place.ensures.low c.next_open-place.ensures.none
     (subst (λ x. IsLeastFrom (is_stepped c.args.first c.args.parts.now.interval) x c.next_step.result) c.period_of.ensures.value c.next_step.ensures)

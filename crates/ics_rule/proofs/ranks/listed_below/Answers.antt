@@ -9,7 +9,8 @@ loop-place-init c = (count_zero (is_listed c.args.positions.now c.args.size), (o
 
 pub returns-then-place-k-clause-value : goal.returns-then-place-k-clause-value
 returns-then-place-k-clause-value c =
-    c.loop-place.invariant.0 ∙ sym (count_flat c.loop-place.from c.args.k (is_listed c.args.positions.now c.args.size) c.loop-place.invariant.1.1 (λ m l h. c.in-Some.ensures.0.least m l (omega (arith, c.if-place-k.true))))
+    c.loop-place.invariant.0 ∙ sym (count_flat c.loop-place.from c.args.k (is_listed c.args.positions.now c.args.size) c.loop-place.invariant.1.1
+    (λ m l h. c.in-Some.ensures.0.least m l (omega (arith, c.if-place-k.true))))
 
 pub loop-place-preserved : goal.loop-place-preserved
 loop-place-preserved c = (
@@ -19,4 +20,5 @@ loop-place-preserved c = (
 
 pub returns-clause-value : goal.returns-clause-value
 returns-clause-value c =
-    c.loop-place.invariant.0 ∙ sym (count_flat c.loop-place.from c.args.k (is_listed c.args.positions.now c.args.size) c.loop-place.invariant.1.1 (λ m l h. c.in_default.ensures m l (omega (arith, c.requires.some))))
+    c.loop-place.invariant.0 ∙ sym (count_flat c.loop-place.from c.args.k (is_listed c.args.positions.now c.args.size) c.loop-place.invariant.1.1
+    (λ m l h. c.in_default.ensures m l (omega (arith, c.requires.some))))

@@ -8,7 +8,8 @@ pub loop-n-init : goal.loop-n-init
 loop-n-init c = (count_zero (contains c.args.set), (omega arith, omega arith))
 
 pub returns-then-passed-k-clause-nth : goal.returns-then-passed-k-clause-nth
-returns-then-passed-k-clause-nth c = nth_here (contains c.args.set) c.loop-n.place c.loop-n.passed c.in-Some.n c.in-Some.ensures.next c.loop-n.invariant.0 c.args.k c.if-passed-k.true
+returns-then-passed-k-clause-nth c = nth_here (contains c.args.set) c.loop-n.place c.loop-n.passed c.in-Some.n c.in-Some.ensures.next c.loop-n.invariant.0
+    c.args.k c.if-passed-k.true
 
 pub loop-n-preserved : goal.loop-n-preserved
 loop-n-preserved c = (

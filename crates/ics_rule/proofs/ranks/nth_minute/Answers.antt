@@ -9,7 +9,8 @@ use Rattle.ics_rule.proofs.ProductCounts.{nth-product}
 use Rattle.ics_rule.proofs.ranks.nth_minute.Goals as goal
 use Rattle.ics_rule.proofs.ranks.nth_minute.Goals.{After-members_below-size}
 
-index : (c : After-members_below-size) → (c.args.k / c.members_below-size.result < count 24 (contains c.args.hours)) × (c.args.k % c.members_below-size.result < c.members_below-size.result)
+index : (c : After-members_below-size) → (c.args.k / c.members_below-size.result < count 24 (contains c.args.hours))
+    × (c.args.k % c.members_below-size.result < c.members_below-size.result)
 index c = block_index c.args.k (count 24 (contains c.args.hours)) c.members_below-size.result
     (subst (λ x. c.args.k < count 24 (contains c.args.hours) * x) (sym c.members_below-size.ensures.value) c.requires.index)
 
@@ -17,8 +18,11 @@ pub nth_member-requires : goal.nth_member-requires
 nth_member-requires c = let i = index c in let more = count_mono 24 64 (contains c.args.hours) (omega arith) in omega (arith, i.0, more)
 
 pub nth_member-requires-2 : goal.nth_member-requires-2
-nth_member-requires-2 c = let i = index (goal.at.nth_member-requires-2 c).After-members_below-size in let more = count_mono 60 64 (contains c.args.minutes) (omega arith) in omega (arith, i.1, more, c.members_below-size.ensures.value)
+nth_member-requires-2 c = let i = index (goal.at.nth_member-requires-2 c).After-members_below-size in
+    let more = count_mono 60 64 (contains c.args.minutes) (omega arith) in omega (arith, i.1, more, c.members_below-size.ensures.value)
 
 pub returns-clause-nth : goal.returns-clause-nth
-returns-clause-nth c = nth-product 60 c.members_below-size.result c.args.k c.nth_member.result c.nth_member-2.result (contains c.args.hours) (contains c.args.minutes) c.members_below-size.ensures.value
-    (member_below c.args.minutes 60 c.nth_member-2.result c.requires.set (IsNth.passes c.nth_member-2.ensures.nth)) c.nth_member.ensures.nth c.nth_member-2.ensures.nth
+returns-clause-nth c = nth-product 60 c.members_below-size.result c.args.k c.nth_member.result c.nth_member-2.result (contains c.args.hours)
+    (contains c.args.minutes) c.members_below-size.ensures.value
+    (member_below c.args.minutes 60 c.nth_member-2.result c.requires.set (IsNth.passes c.nth_member-2.ensures.nth)) c.nth_member.ensures.nth
+    c.nth_member-2.ensures.nth

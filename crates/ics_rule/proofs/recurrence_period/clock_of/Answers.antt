@@ -7,10 +7,12 @@ use Rattle.ics_rule.proofs.recurrence_period.clock_of.Goals as goal
 
 pub returns-then-skips_hours-clause-minutes : goal.returns-then-skips_hours-clause-minutes
 returns-then-skips_hours-clause-minutes c = λ m h. c.clock_set-then-skips_hours.ensures.members m h
-    ∙ ap (λ z. (z || (m == first_local c.args.parts.now.frequency (monday_zero c.args.parts.now.week_start) c.args.number / 60 % 60)) && lets c.args.parts.now.minutes m)
+    ∙ ap (λ z. (z || (m == first_local c.args.parts.now.frequency (monday_zero c.args.parts.now.week_start) c.args.number / 60 % 60))
+    && lets c.args.parts.now.minutes m)
     (sym (no_minutes c.args.parts.now.frequency (sym c.skips_hours.ensures ∙ c.if-skips_hours.true)))
 
 pub returns-then-skips_hours-clause-seconds : goal.returns-then-skips_hours-clause-seconds
 returns-then-skips_hours-clause-seconds c = λ m h. c.clock_set-then-skips_hours-2.ensures.members m h
-    ∙ ap (λ z. (z || (m == first_local c.args.parts.now.frequency (monday_zero c.args.parts.now.week_start) c.args.number % 60)) && lets c.args.parts.now.seconds m)
+    ∙ ap (λ z. (z || (m == first_local c.args.parts.now.frequency (monday_zero c.args.parts.now.week_start) c.args.number % 60))
+    && lets c.args.parts.now.seconds m)
     (sym (no_seconds c.args.parts.now.frequency (sym c.skips_hours.ensures ∙ c.if-skips_hours.true)))

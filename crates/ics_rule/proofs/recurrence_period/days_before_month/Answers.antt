@@ -22,4 +22,5 @@ pub returns-then-months-lt2-clause-value : goal.returns-then-months-lt2-clause-v
 returns-then-months-lt2-clause-value c = λ y h. short y c.args.months c.if-months-lt2.true
 
 pub returns-else-months-lt2-clause-value : goal.returns-else-months-lt2-clause-value
-returns-else-months-lt2-clause-value c = λ y h. ap (λ x. (153 * c.args.months - 304) / 5 + x - 306) h ∙ long y c.args.months c.if-months-lt2.false c.requires.months
+returns-else-months-lt2-clause-value c = λ y h. ap (λ x. (153 * c.args.months - 304) / 5 + x - 306) h
+    ∙ long y c.args.months c.if-months-lt2.false c.requires.months

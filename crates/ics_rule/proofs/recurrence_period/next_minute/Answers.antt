@@ -7,7 +7,8 @@ use Rattle.ics_rule.proofs.recurrence_period.next_minute.Goals as goal
 use Rattle.ics_rule.proofs.recurrence_period.next_minute.Goals.{In-Some, In_ok-minute, then-contains+in_default, else-contains}
 
 found : (c : In-Some) → IsLeastFrom (has_minute c.args.hours c.args.minutes) c.args.at (c.args.at / 60 * 60 + c.in-Some.minute)
-found c = next_here 60 (omega arith) (contains c.args.hours) (contains c.args.minutes) (λ m. member_below c.args.minutes 60 m c.requires.minutes) c.args.at c.in-Some.minute
+found c = next_here 60 (omega arith) (contains c.args.hours) (contains c.args.minutes) (λ m. member_below c.args.minutes 60 m c.requires.minutes) c.args.at
+    c.in-Some.minute
     (sym (in_word (c.args.at / 60) (contains c.args.hours (c.args.at / 60)) (omega arith)) ∙ sym c.contains.ensures ∙ c.if-contains.true) c.in-Some.ensures.next
 
 pub returns-in-Some-clause-next : goal.returns-in-Some-clause-next
@@ -18,13 +19,16 @@ returns-in-Some-clause-small c = minute_below c.args.hours c.args.minutes (c.arg
 
 none_here : (c : In_ok-minute) → (m : ℕ) → c.args.at ≤ m → m / 60 ≡ c.args.at / 60 → has_minute c.args.hours c.args.minutes m ≡ false
 none_here c = elim c.if-contains.branch [
-  | then-contains+in_default w ↦ block_done 60 (omega arith) (contains c.args.hours) (contains c.args.minutes) (λ m. member_below c.args.minutes 60 m c.requires.minutes) c.args.at w.in_default.ensures.next
-  | else-contains w ↦ block_out 60 (omega arith) (contains c.args.hours) (contains c.args.minutes) (λ m. member_below c.args.minutes 60 m c.requires.minutes) c.args.at
+  | then-contains+in_default w ↦ block_done 60 (omega arith) (contains c.args.hours) (contains c.args.minutes)
+      (λ m. member_below c.args.minutes 60 m c.requires.minutes) c.args.at w.in_default.ensures.next
+  | else-contains w ↦ block_out 60 (omega arith) (contains c.args.hours) (contains c.args.minutes) (λ m. member_below c.args.minutes 60 m c.requires.minutes)
+      c.args.at
       (sym (in_word (c.args.at / 60) (contains c.args.hours (c.args.at / 60)) (omega arith)) ∙ sym c.contains.ensures ∙ w.if-contains.false)
 ]
 
 later : (c : In_ok-minute) → IsLeastFrom (has_minute c.args.hours c.args.minutes) c.args.at (c.in_ok-hour.hour * 60 + c.in_ok-minute.minute)
-later c = next_later 60 (omega arith) (contains c.args.hours) (contains c.args.minutes) (λ m. member_below c.args.minutes 60 m c.requires.minutes) c.args.at c.in_ok-hour.hour c.in_ok-minute.minute
+later c = next_later 60 (omega arith) (contains c.args.hours) (contains c.args.minutes) (λ m. member_below c.args.minutes 60 m c.requires.minutes) c.args.at
+    c.in_ok-hour.hour c.in_ok-minute.minute
     (none_here c) c.in_ok-hour.ensures.next c.in_ok-minute.ensures.next
 
 pub returns-clause-next : goal.returns-clause-next

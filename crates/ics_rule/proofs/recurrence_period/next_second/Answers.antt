@@ -7,28 +7,36 @@ use Rattle.ics_rule.proofs.recurrence_period.next_second.Goals as goal
 use Rattle.ics_rule.proofs.recurrence_period.next_second.Goals.{In-Some, In_ok-second, then-contains+in_default, else-contains}
 
 found : (c : In-Some) → IsLeastFrom (has_time c.args.hours c.args.minutes c.args.seconds) c.args.at (c.args.at / 60 * 60 + c.in-Some.second)
-found c = next_here 60 (omega arith) (has_minute c.args.hours c.args.minutes) (contains c.args.seconds) (λ m. member_below c.args.seconds 60 m c.requires.seconds) c.args.at c.in-Some.second
-    (minute_true c.args.hours c.args.minutes (c.args.at / 60) c.contains.result c.contains-2.result (omega arith) c.contains.ensures c.contains-2.ensures ∙ c.if-contains.true) c.in-Some.ensures.next
+found c = next_here 60 (omega arith) (has_minute c.args.hours c.args.minutes) (contains c.args.seconds)
+    (λ m. member_below c.args.seconds 60 m c.requires.seconds) c.args.at c.in-Some.second
+    (minute_true c.args.hours c.args.minutes (c.args.at / 60) c.contains.result c.contains-2.result (omega arith) c.contains.ensures c.contains-2.ensures
+    ∙ c.if-contains.true) c.in-Some.ensures.next
 
 pub returns-in-Some-clause-next : goal.returns-in-Some-clause-next
 returns-in-Some-clause-next c = found c
 
 pub returns-in-Some-clause-small : goal.returns-in-Some-clause-small
-returns-in-Some-clause-small c = second_below c.args.hours c.args.minutes c.args.seconds (c.args.at / 60 * 60 + c.in-Some.second) c.requires.hours (found c).passes
+returns-in-Some-clause-small c = second_below c.args.hours c.args.minutes c.args.seconds (c.args.at / 60 * 60 + c.in-Some.second) c.requires.hours
+    (found c).passes
 
 none_here : (c : In_ok-second) → (m : ℕ) → c.args.at ≤ m → m / 60 ≡ c.args.at / 60 → has_time c.args.hours c.args.minutes c.args.seconds m ≡ false
 none_here c = elim c.if-contains.branch [
-  | then-contains+in_default w ↦ block_done 60 (omega arith) (has_minute c.args.hours c.args.minutes) (contains c.args.seconds) (λ m. member_below c.args.seconds 60 m c.requires.seconds) c.args.at w.in_default.ensures.next
-  | else-contains w ↦ block_out 60 (omega arith) (has_minute c.args.hours c.args.minutes) (contains c.args.seconds) (λ m. member_below c.args.seconds 60 m c.requires.seconds) c.args.at
-      (minute_true c.args.hours c.args.minutes (c.args.at / 60) c.contains.result c.contains-2.result (omega arith) c.contains.ensures c.contains-2.ensures ∙ w.if-contains.false)
+  | then-contains+in_default w ↦ block_done 60 (omega arith) (has_minute c.args.hours c.args.minutes) (contains c.args.seconds)
+      (λ m. member_below c.args.seconds 60 m c.requires.seconds) c.args.at w.in_default.ensures.next
+  | else-contains w ↦ block_out 60 (omega arith) (has_minute c.args.hours c.args.minutes) (contains c.args.seconds)
+      (λ m. member_below c.args.seconds 60 m c.requires.seconds) c.args.at
+      (minute_true c.args.hours c.args.minutes (c.args.at / 60) c.contains.result c.contains-2.result (omega arith) c.contains.ensures c.contains-2.ensures
+      ∙ w.if-contains.false)
 ]
 
 later : (c : In_ok-second) → IsLeastFrom (has_time c.args.hours c.args.minutes c.args.seconds) c.args.at (c.in_ok-minute.minute * 60 + c.in_ok-second.second)
-later c = next_later 60 (omega arith) (has_minute c.args.hours c.args.minutes) (contains c.args.seconds) (λ m. member_below c.args.seconds 60 m c.requires.seconds) c.args.at c.in_ok-minute.minute c.in_ok-second.second
+later c = next_later 60 (omega arith) (has_minute c.args.hours c.args.minutes) (contains c.args.seconds)
+    (λ m. member_below c.args.seconds 60 m c.requires.seconds) c.args.at c.in_ok-minute.minute c.in_ok-second.second
     (none_here c) c.in_ok-minute.ensures.next c.in_ok-second.ensures.next
 
 pub returns-clause-next : goal.returns-clause-next
 returns-clause-next c = later c
 
 pub returns-clause-small : goal.returns-clause-small
-returns-clause-small c = second_below c.args.hours c.args.minutes c.args.seconds (c.in_ok-minute.minute * 60 + c.in_ok-second.second) c.requires.hours (later c).passes
+returns-clause-small c = second_below c.args.hours c.args.minutes c.args.seconds (c.in_ok-minute.minute * 60 + c.in_ok-second.second) c.requires.hours
+    (later c).passes

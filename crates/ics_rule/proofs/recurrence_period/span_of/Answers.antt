@@ -10,12 +10,13 @@ pub returns-in-Monthly-clause-len : goal.returns-in-Monthly-clause-len
 returns-in-Monthly-clause-len c =
     let size : c.days_in_month.result ≡ days_in_month (pos (c.saturating_sub-before.result / 12)) (c.saturating_sub-before.result % 12 + 1) = search rules in
     subst (λ f. c.days_in_month.result ≡ (first_local f (monday_zero c.args.week_start) (c.args.number + 1) + 86_399) / 86_400
-        - first_local f (monday_zero c.args.week_start) c.args.number / 86_400) (sym c.in-Monthly.is)
+    - first_local f (monday_zero c.args.week_start) c.args.number / 86_400) (sym c.in-Monthly.is)
     (month_days (monday_zero c.args.week_start) c.args.number c.days_in_month.result
     (subst (λ f. period f (monday_zero c.args.week_start) 0 ≤ c.args.number) c.in-Monthly.is c.requires.low)
     (size ∙ ap (λ before. days_in_month (pos (before / 12)) (before % 12 + 1)) c.saturating_sub-before.ensures))
 
 pub returns-in-Yearly-clause-len : goal.returns-in-Yearly-clause-len
 returns-in-Yearly-clause-len c =
-    subst (λ f. c.length_of_year.result ≡ (first_local f (monday_zero c.args.week_start) (c.args.number + 1) + 86_399) / 86_400 - first_local f (monday_zero c.args.week_start) c.args.number / 86_400) (sym c.in-Yearly.is)
+    subst (λ f. c.length_of_year.result ≡ (first_local f (monday_zero c.args.week_start) (c.args.number + 1) + 86_399) / 86_400 - first_local f
+    (monday_zero c.args.week_start) c.args.number / 86_400) (sym c.in-Yearly.is)
     (year_days (monday_zero c.args.week_start) c.args.number c.length_of_year.result c.length_of_year.ensures.value)

@@ -3,7 +3,8 @@ use Rattle.ics_values.specs.Sets.{contains}
 use Rattle.ics_rule.proofs.runs.listed.Given as goal
 
 abbrev pub invariant-loop-n : goal.invariant-loop-n
-invariant-loop-n l = ((n : ℕ) → 1 ≤ n → contains l.listed n ≡ (nat_le n l.size && (contains l.places.front n || (nat_lt (l.size + 1 - n) l.from && contains l.places.back (l.size + 1 - n)))))
+invariant-loop-n l = ((n : ℕ) → 1 ≤ n → contains l.listed n
+    ≡ (nat_le n l.size && (contains l.places.front n || (nat_lt (l.size + 1 - n) l.from && contains l.places.back (l.size + 1 - n)))))
     × ((1 ≤ l.from) × (l.from ≤ 64))
 
 abbrev pub decreases-loop-n : goal.decreases-loop-n

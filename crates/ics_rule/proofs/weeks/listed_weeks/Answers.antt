@@ -9,7 +9,8 @@ loop-n-init c = (λ n l h. weeks_first (contains c.args.weeks.now.front) (contai
 pub loop-n-preserved : goal.loop-n-preserved
 loop-n-preserved c = (
   λ n l h. c.insert-in-Some.ensures.members n ∙ ap (λ x. (n == 54 - c.in-Some.n) || x) (c.insert.ensures.members n)
-      ∙ weeks_more (contains c.args.weeks.now.front) (contains c.args.weeks.now.back) c.loop-n.from c.in-Some.n n _ l h (omega (arith, c.if-n-gt53.false)) c.in-Some.ensures.next (c.loop-n.invariant.0 n l h),
+      ∙ weeks_more (contains c.args.weeks.now.front) (contains c.args.weeks.now.back) c.loop-n.from c.in-Some.n n _ l h (omega (arith, c.if-n-gt53.false))
+      c.in-Some.ensures.next (c.loop-n.invariant.0 n l h),
   omega (arith, c.in-Some.ensures.small),
 )
 

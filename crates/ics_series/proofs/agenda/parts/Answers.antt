@@ -22,13 +22,19 @@ returns c =
     let singles = part_coming (part.Singles c.in_ok-singles.singles) in
     let first : map part_coming c.push.new.self.items ≡ part_coming (part.Singles c.in_ok-singles.singles) ∷ [] =
     ap (map part_coming) (c.in_ok-push.ensures.items ∙ ap (λ xs. xs ++ part.Singles c.in_ok-singles.singles ∷ []) c.new-parts.ensures.items) in
-    let pushed = subst (λ lists. HasLists (map said_by c.args.files.now) (display_clock c.args.display.now) c.args.window (option_map (λ key. key_rank key.now) c.args.after) (map seen c.args.chosen.now) lists (map part_coming c.push_series.new.parts.items)) first c.in_ok-push_series.ensures.lists in
+    let pushed = subst (λ lists. HasLists (map said_by c.args.files.now) (display_clock c.args.display.now) c.args.window
+    (option_map (λ key. key_rank key.now) c.args.after) (map seen c.args.chosen.now) lists (map part_coming c.push_series.new.parts.items)) first
+    c.in_ok-push_series.ensures.lists in
     let once : flat_map part_sources c.push.new.self.items ≡ Once ∷ [] =
     ap (flat_map part_sources) (c.in_ok-push.ensures.items ∙ ap (λ xs. xs ++ part.Singles c.in_ok-singles.singles ∷ []) c.new-parts.ensures.items) in
-    let sources = subst (λ before. HasSources (map said_by c.args.files.now) (display_clock c.args.display.now) c.args.window (option_map (λ key. key_rank key.now) c.args.after) (map seen c.args.chosen.now) before (flat_map part_sources c.push_series.new.parts.items)) once c.in_ok-push_series.ensures.sources in
+    let sources = subst (λ before. HasSources (map said_by c.args.files.now) (display_clock c.args.display.now) c.args.window
+    (option_map (λ key. key_rank key.now) c.args.after) (map seen c.args.chosen.now) before (flat_map part_sources c.push_series.new.parts.items)) once
+    c.in_ok-push_series.ensures.sources in
     record {
-      sources = sources-behind files display c.args.window after c.args.chosen.now c.requires.chosen (flat_map part_sources c.push_series.new.parts.items) sources;
-      listing = pushed-listing files display c.args.window after c.args.chosen.now singles (map part_coming c.push_series.new.parts.items) c.requires.chosen c.in_ok-singles.ensures pushed;
+      sources = sources-behind files display c.args.window after c.args.chosen.now c.requires.chosen (flat_map part_sources c.push_series.new.parts.items)
+          sources;
+      listing = pushed-listing files display c.args.window after c.args.chosen.now singles (map part_coming c.push_series.new.parts.items) c.requires.chosen
+          c.in_ok-singles.ensures pushed;
       whole = λ w. whole-parts files display w c.args.chosen.now c.requires.chosen (c.in_ok-push_series.ensures.whole w);
       sorted = parts-sorted c.push_series.new.parts.items sources.more sources.behind sources.rises;
     }

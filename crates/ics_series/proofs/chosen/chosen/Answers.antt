@@ -11,6 +11,7 @@ returns c =
     let files = map said_by c.args.files.now in
     let display = display_clock c.args.display.now in
     IfOk-weaker c.last_of_each.result _ (λ last. AreChosen (map said_by c.args.files.now) (display_clock c.args.display.now) last.items)
-    (λ last h. found files display c.in_ok-versions.versions.items c.sort_unstable.new.self.items last.items c.in_ok-versions.ensures c.sort_unstable.ensures.permutation c.sort_unstable.ensures.sorted
+    (λ last h. found files display c.in_ok-versions.versions.items c.sort_unstable.new.self.items last.items c.in_ok-versions.ensures
+    c.sort_unstable.ensures.permutation c.sort_unstable.ensures.sorted
     (subst (λ vs. map seen last.items ≡ lasts is_same (map seen vs)) c.deref.ensures.value h))
     c.last_of_each.ensures

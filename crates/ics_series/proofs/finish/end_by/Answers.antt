@@ -14,7 +14,17 @@ use Rattle.ics_series.proofs.finish.end_by.Goals as goal
 pub midnight_after-requires-clause-early : goal.midnight_after-requires-clause-early
 midnight_after-requires-clause-early c =
     let years = day-years c.args.given c.requires.given.is_time in
-    omega (arith, ints, c.day_of.ensures, c.requires.start, c.requires.early, instant-near c.args.zones c.args.given, day-written c.args.given.stamp, years.0, years.1)
+    omega (
+      arith,
+      ints,
+      c.day_of.ensures,
+      c.requires.start,
+      c.requires.early,
+      instant-near c.args.zones c.args.given,
+      day-written c.args.given.stamp,
+      years.0,
+      years.1,
+    )
 
 pub midnight_after-requires-clause-late : goal.midnight_after-requires-clause-late
 midnight_after-requires-clause-late c =
@@ -65,11 +75,14 @@ returns-in_default-Until c =
     let d = early c.args.zones c.args.first c.requires.first.is_time in
     let e = late c.args.zones c.args.first c.requires.first.is_time in
     let from = late c.args.zones c.args.given c.requires.given.is_time in
-    let near : EndsNear (clocks_in c.args.zones) c.args.first (Until c.in_default-Until.end) = subst (EndsNear (clocks_in c.args.zones) c.args.first) c.in_default-Until.is-1 c.requires.near in
-    let back : to_z w64 (of_z w64 (to_z w64 (of_z w64 c.args.start) +ℤ to_z w64 (of_z w64 (to_z w64 (of_z w64 c.instant.result) -ℤ to_z w64 (of_z w64 c.instant-in_default-Until.result)))))
+    let near : EndsNear (clocks_in c.args.zones) c.args.first (Until c.in_default-Until.end) =
+    subst (EndsNear (clocks_in c.args.zones) c.args.first) c.in_default-Until.is-1 c.requires.near in
+    let back : to_z w64 (of_z w64 (to_z w64 (of_z w64 c.args.start) +ℤ to_z w64
+    (of_z w64 (to_z w64 (of_z w64 c.instant.result) -ℤ to_z w64 (of_z w64 c.instant-in_default-Until.result)))))
     ≡ instant clocks given +ℤ (instant clocks end -ℤ instant clocks first) =
     omega (arith, ints, c.instant.ensures, c.instant-in_default-Until.ensures, a, b, d, e, from, c.requires.start, c.requires.early) in
     record {
-      value = back ∙ (until clocks first given end first.stamp c.in_default-Until.not-Date-0 ∙ ap (end_by clocks first given first.stamp) (sym c.in_default-Until.is-1));
+      value = back ∙ (until clocks first given end first.stamp c.in_default-Until.not-Date-0
+          ∙ ap (end_by clocks first given first.stamp) (sym c.in_default-Until.is-1));
       early = omega (arith, ints, back, near, c.requires.start, c.requires.early);
     }

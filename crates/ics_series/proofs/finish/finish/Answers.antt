@@ -21,11 +21,32 @@ span_end-end-requires-clause-given c =
 pub span_end-end-requires-clause-end : goal.span_end-end-requires-clause-end
 span_end-end-requires-clause-end c =
     (subst (RdateBelow (length c.args.zones.zones.now)) c.in-Span.is
-    (gives-below (length c.args.zones.zones.now) (clocks_in c.args.zones) c.args.event.now c.args.start.source c.args.start.given c.requires.event.below c.requires.start.gives)).1
+    (gives-below (length c.args.zones.zones.now) (clocks_in c.args.zones) c.args.event.now c.args.start.source c.args.start.given c.requires.event.below
+    c.requires.start.gives)).1
 
 pub returns-clause-early : goal.returns-clause-early
 returns-clause-early c =
     elim c.match-start.branch [
-      | in-At w ↦ omega (arith, ints, c.max.type_inv, c.max.ensures.value, c.match-start.end-is, w.end-is, w.end_by-end.ensures.early, c.requires.early, int_max_is)
-      | in-Span w ↦ omega (arith, ints, c.max.type_inv, c.max.ensures.value, c.match-start.end-is, w.end-is, w.span_end-end.ensures.early, c.requires.early, int_max_is)
+      | in-At w ↦ omega (
+        arith,
+        ints,
+        c.max.type_inv,
+        c.max.ensures.value,
+        c.match-start.end-is,
+        w.end-is,
+        w.end_by-end.ensures.early,
+        c.requires.early,
+        int_max_is,
+      )
+      | in-Span w ↦ omega (
+        arith,
+        ints,
+        c.max.type_inv,
+        c.max.ensures.value,
+        c.match-start.end-is,
+        w.end-is,
+        w.span_end-end.ensures.early,
+        c.requires.early,
+        int_max_is,
+      )
     ]

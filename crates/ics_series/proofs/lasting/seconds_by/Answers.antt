@@ -31,11 +31,13 @@ returns-in_default-Until c =
     let b = late c.args.zones c.in_default-Until.end length.0 in
     let d = early c.args.zones c.args.first c.requires.first.is_time in
     let e = late c.args.zones c.args.first c.requires.first.is_time in
-    let near : EndsNear (clocks_in c.args.zones) c.args.first (Until c.in_default-Until.end) = subst (EndsNear (clocks_in c.args.zones) c.args.first) c.in_default-Until.is-1 c.requires.near in
+    let near : EndsNear (clocks_in c.args.zones) c.args.first (Until c.in_default-Until.end) =
+    subst (EndsNear (clocks_in c.args.zones) c.args.first) c.in_default-Until.is-1 c.requires.near in
     let value : to_z w64 (of_z w64 c.max.result) ≡ int_max (instant clocks end -ℤ instant clocks first) (pos 0) =
     omega (arith, ints, c.max.type_inv, c.max.ensures.value, c.instant.ensures, c.instant-in_default-Until.ensures, a, b, d, e, int_max_is) in
     record {
-      value = value ∙ (until-seconds clocks first end first.stamp c.in_default-Until.not-Date-0 ∙ ap (seconds_by clocks first first.stamp) (sym c.in_default-Until.is-1));
+      value = value ∙ (until-seconds clocks first end first.stamp c.in_default-Until.not-Date-0
+          ∙ ap (seconds_by clocks first first.stamp) (sym c.in_default-Until.is-1));
       least = omega (arith, ints, value, int_max_is (instant clocks end -ℤ instant clocks first) (pos 0));
       most = omega (arith, ints, value, near, int_max_is (instant clocks end -ℤ instant clocks first) (pos 0));
     }
@@ -48,7 +50,8 @@ returns-in_default-Lasting c =
     let lasting : IsLasting duration = subst (IsLength c.args.first.stamp) c.in_default-Lasting.is-1 c.requires.length in
     record {
       value = omega (arith, ints, lasting.short)
-          ∙ (lasting-seconds clocks first duration first.stamp c.in_default-Lasting.not-Date-0 ∙ ap (seconds_by clocks first first.stamp) (sym c.in_default-Lasting.is-1));
+          ∙ (lasting-seconds clocks first duration first.stamp c.in_default-Lasting.not-Date-0
+          ∙ ap (seconds_by clocks first first.stamp) (sym c.in_default-Lasting.is-1));
       least = omega (arith, ints, lasting.short);
       most = omega (arith, ints, lasting.short);
     }

@@ -29,8 +29,10 @@ none = record { subject = record { uid = record { ref_ptr = (0, 0); now = [] }; 
 
 pub loop-place-init : goal.loop-place-init
 loop-place-init c = record {
-  lists = lists-none (map said_by c.args.files.now) (display_clock c.args.display.now) c.args.window (option_map (λ key. key_rank key.now) c.args.after) (map part_coming c.args.parts.now.items);
-  sources = sources-none (map said_by c.args.files.now) (display_clock c.args.display.now) c.args.window (option_map (λ key. key_rank key.now) c.args.after) (flat_map part_sources c.args.parts.now.items);
+  lists = lists-none (map said_by c.args.files.now) (display_clock c.args.display.now) c.args.window (option_map (λ key. key_rank key.now) c.args.after)
+      (map part_coming c.args.parts.now.items);
+  sources = sources-none (map said_by c.args.files.now) (display_clock c.args.display.now) c.args.window (option_map (λ key. key_rank key.now) c.args.after)
+      (flat_map part_sources c.args.parts.now.items);
   whole = λ w. ([], lists-none (map said_by c.args.files.now) (display_clock c.args.display.now) w None []);
 }
 
@@ -45,45 +47,70 @@ loop-place-preserved c =
     let now = map part_coming c.loop-place.parts.items in
     let given : MatchOption c.in_ok-series.field-0
     (Recurs (map said_by c.args.files.now) (seen (get_or c.args.chosen.now c.loop-place.place none)) → ⊥)
-    (λ (series : Series). IsListing entry_cmp (IsOfVersion (map said_by c.args.files.now) (display_clock c.args.display.now) c.args.window (option_map (λ key. key_rank key.now) c.args.after) (seen (get_or c.args.chosen.now c.loop-place.place none))) (series_of series (series_left series))) =
+    (λ (series : Series). IsListing entry_cmp (IsOfVersion (map said_by c.args.files.now) (display_clock c.args.display.now) c.args.window
+    (option_map (λ key. key_rank key.now) c.args.after) (seen (get_or c.args.chosen.now c.loop-place.place none)))
+    (series_of series (series_left series))) =
     c.in_ok-series.ensures.series v there in
     record {
       sources =
           elim c.match-branch-2.branch [
             | in-Some+in_ok-new+in_ok-push w ↦
                 let value : w.in_ok-new.field-0.value ≡ w.in-Some.series = w.in_ok-new.ensures.ok in
-                let given : MatchOption c.in_ok-series.field-0 (Unit {0}) (λ (series : Series). (m : Recurring) × IsSourceOf (map said_by c.args.files.now) (display_clock c.args.display.now) c.args.window (option_map (λ key. key_rank key.now) c.args.after) (seen (get_or c.args.chosen.now c.loop-place.place none)) m × (series_sources series ≡ Of m ∷ [])) =
+                let given : MatchOption c.in_ok-series.field-0 (Unit {0}) (λ (series : Series). (m : Recurring)
+                × IsSourceOf (map said_by c.args.files.now) (display_clock c.args.display.now) c.args.window
+                (option_map (λ key. key_rank key.now) c.args.after) (seen (get_or c.args.chosen.now c.loop-place.place none)) m
+                × (series_sources series ≡ Of m ∷ [])) =
                 c.in_ok-series.ensures.sources v there in
                 let m = matched _ _ c.in_ok-series.field-0 w.in-Some.series w.in-Some.is given in
-                sources-more files display c.args.window after c.args.chosen.now c.requires.chosen c.loop-place.place (c.loop-place.place + 1) none m.0 (flat_map part_sources c.args.parts.now.items) (flat_map part_sources c.loop-place.parts.items) (flat_map part_sources c.match-branch-2.parts.items)
+                sources-more files display c.args.window after c.args.chosen.now c.requires.chosen c.loop-place.place (c.loop-place.place + 1) none m.0
+                (flat_map part_sources c.args.parts.now.items) (flat_map part_sources c.loop-place.parts.items)
+                (flat_map part_sources c.match-branch-2.parts.items)
                 (add-one c.loop-place.place) c.loop-place-test.true c.loop-place.invariant.sources m.1
                 (ap (λ (p : Vec Part Global). flat_map part_sources p.items) w.parts-is ∙ (ap (flat_map part_sources) (w.in_ok-push.ensures.items)
-                ∙ (flat_map-append part_sources c.loop-place.parts.items (part.Series w.in_ok-new.field-0 ∷ []) ∙ ap (λ xs. flat_map part_sources c.loop-place.parts.items ++ xs) (append-nil (series_sources w.in_ok-new.field-0.value) ∙ (ap series_sources value ∙ m.2)))))
+                ∙ (flat_map-append part_sources c.loop-place.parts.items (part.Series w.in_ok-new.field-0 ∷ [])
+                ∙ ap (λ xs. flat_map part_sources c.loop-place.parts.items ++ xs) (append-nil (series_sources w.in_ok-new.field-0.value)
+                ∙ (ap series_sources value ∙ m.2)))))
             | in_default w ↦
-                subst (λ (p : Vec Part Global). HasSources (map said_by c.args.files.now) (display_clock c.args.display.now) c.args.window (option_map (λ key. key_rank key.now) c.args.after) (map seen (take (c.loop-place.place + 1) c.args.chosen.now)) (flat_map part_sources c.args.parts.now.items) (flat_map part_sources p.items))
+                subst (λ (p : Vec Part Global). HasSources (map said_by c.args.files.now) (display_clock c.args.display.now) c.args.window
+                (option_map (λ key. key_rank key.now) c.args.after) (map seen (take (c.loop-place.place + 1) c.args.chosen.now))
+                (flat_map part_sources c.args.parts.now.items) (flat_map part_sources p.items))
                 (sym w.parts-is)
-                (sources-skip files display c.args.window after c.args.chosen.now c.requires.chosen c.loop-place.place (c.loop-place.place + 1) none (flat_map part_sources c.args.parts.now.items) (flat_map part_sources c.loop-place.parts.items) (add-one c.loop-place.place) c.loop-place-test.true c.loop-place.invariant.sources)
+                (sources-skip files display c.args.window after c.args.chosen.now c.requires.chosen c.loop-place.place (c.loop-place.place + 1) none
+                (flat_map part_sources c.args.parts.now.items) (flat_map part_sources c.loop-place.parts.items) (add-one c.loop-place.place)
+                c.loop-place-test.true c.loop-place.invariant.sources)
           ];
       lists =
           elim c.match-branch-2.branch [
             | in-Some+in_ok-new+in_ok-push w ↦
                 let value : w.in_ok-new.field-0.value ≡ w.in-Some.series = w.in_ok-new.ensures.ok in
-                let listing = subst (λ (s : Series). IsListing entry_cmp (IsOfVersion (map said_by c.args.files.now) (display_clock c.args.display.now) c.args.window (option_map (λ key. key_rank key.now) c.args.after) (seen (get_or c.args.chosen.now c.loop-place.place none))) (series_of s (series_left s)))
+                let listing = subst (λ (s : Series). IsListing entry_cmp
+                (IsOfVersion (map said_by c.args.files.now) (display_clock c.args.display.now) c.args.window
+                (option_map (λ key. key_rank key.now) c.args.after) (seen (get_or c.args.chosen.now c.loop-place.place none)))
+                (series_of s (series_left s)))
                 (sym value) (matched _ _ c.in_ok-series.field-0 w.in-Some.series w.in-Some.is given) in
-                versions-more files display c.args.window after c.args.chosen.now c.loop-place.place (c.loop-place.place + 1) none (series_of w.in_ok-new.field-0.value (series_left w.in_ok-new.field-0.value))
-                before now (map part_coming c.match-branch-2.parts.items) (add-one c.loop-place.place) c.loop-place-test.true c.loop-place.invariant.lists listing
-                (ap (λ (p : Vec Part Global). map part_coming p.items) w.parts-is ∙ (ap (map part_coming) w.in_ok-push.ensures.items ∙ map-append part_coming c.loop-place.parts.items (part.Series w.in_ok-new.field-0 ∷ [])))
+                versions-more files display c.args.window after c.args.chosen.now c.loop-place.place (c.loop-place.place + 1) none
+                (series_of w.in_ok-new.field-0.value (series_left w.in_ok-new.field-0.value))
+                before now (map part_coming c.match-branch-2.parts.items) (add-one c.loop-place.place) c.loop-place-test.true c.loop-place.invariant.lists
+                listing
+                (ap (λ (p : Vec Part Global). map part_coming p.items) w.parts-is
+                ∙ (ap (map part_coming) w.in_ok-push.ensures.items
+                ∙ map-append part_coming c.loop-place.parts.items (part.Series w.in_ok-new.field-0 ∷ [])))
             | in_default w ↦
-                subst (λ (p : Vec Part Global). HasLists (map said_by c.args.files.now) (display_clock c.args.display.now) c.args.window (option_map (λ key. key_rank key.now) c.args.after) (map seen (take (c.loop-place.place + 1) c.args.chosen.now)) (map part_coming c.args.parts.now.items) (map part_coming p.items))
+                subst (λ (p : Vec Part Global). HasLists (map said_by c.args.files.now) (display_clock c.args.display.now) c.args.window
+                (option_map (λ key. key_rank key.now) c.args.after) (map seen (take (c.loop-place.place + 1) c.args.chosen.now))
+                (map part_coming c.args.parts.now.items) (map part_coming p.items))
                 (sym w.parts-is)
-                (versions-skip files display c.args.window after c.args.chosen.now c.loop-place.place (c.loop-place.place + 1) none before now (add-one c.loop-place.place) c.loop-place-test.true c.loop-place.invariant.lists
+                (versions-skip files display c.args.window after c.args.chosen.now c.loop-place.place (c.loop-place.place + 1) none before now
+                (add-one c.loop-place.place) c.loop-place-test.true c.loop-place.invariant.lists
                 (matched-none _ _ c.in_ok-series.field-0 w.in_default.is given))
           ];
       whole = λ w.
-          let whole : HasWhole (map said_by c.args.files.now) (display_clock c.args.display.now) w (seen (get_or c.args.chosen.now c.loop-place.place none)) = c.in_ok-series.ensures.whole v there w in
+          let whole : HasWhole (map said_by c.args.files.now) (display_clock c.args.display.now) w (seen (get_or c.args.chosen.now c.loop-place.place none)) =
+          c.in_ok-series.ensures.whole v there w in
           let lists = c.loop-place.invariant.whole w in (
             lists.0 ++ whole.0 ∷ [],
-            versions-more files display w None c.args.chosen.now c.loop-place.place (c.loop-place.place + 1) none whole.0 [] lists.0 (lists.0 ++ whole.0 ∷ []) (add-one c.loop-place.place) c.loop-place-test.true lists.1 whole.1 refl,
+            versions-more files display w None c.args.chosen.now c.loop-place.place (c.loop-place.place + 1) none whole.0 [] lists.0 (lists.0 ++ whole.0
+                ∷ []) (add-one c.loop-place.place) c.loop-place-test.true lists.1 whole.1 refl,
           );
     }
 
@@ -91,13 +118,17 @@ pub returns : goal.returns
 returns c =
     record {
       lists =
-          versions-all (map said_by c.args.files.now) (display_clock c.args.display.now) c.args.window (option_map (λ key. key_rank key.now) c.args.after) c.args.chosen.now c.loop-place.place
+          versions-all (map said_by c.args.files.now) (display_clock c.args.display.now) c.args.window (option_map (λ key. key_rank key.now) c.args.after)
+          c.args.chosen.now c.loop-place.place
           (map part_coming c.args.parts.now.items) (map part_coming c.loop-place.parts.items) c.loop-place-test.false c.loop-place.invariant.lists;
       sources =
-          sources-all (map said_by c.args.files.now) (display_clock c.args.display.now) c.args.window (option_map (λ key. key_rank key.now) c.args.after) c.args.chosen.now c.requires.chosen c.loop-place.place
-          (flat_map part_sources c.args.parts.now.items) (flat_map part_sources c.loop-place.parts.items) c.loop-place-test.false c.loop-place.invariant.sources;
+          sources-all (map said_by c.args.files.now) (display_clock c.args.display.now) c.args.window (option_map (λ key. key_rank key.now) c.args.after)
+          c.args.chosen.now c.requires.chosen c.loop-place.place
+          (flat_map part_sources c.args.parts.now.items) (flat_map part_sources c.loop-place.parts.items) c.loop-place-test.false
+          c.loop-place.invariant.sources;
       whole = λ w.
           let lists = c.loop-place.invariant.whole w in
-          let whole = versions-all (map said_by c.args.files.now) (display_clock c.args.display.now) w None c.args.chosen.now c.loop-place.place [] lists.0 c.loop-place-test.false lists.1 in
+          let whole = versions-all (map said_by c.args.files.now) (display_clock c.args.display.now) w None c.args.chosen.now c.loop-place.place [] lists.0
+          c.loop-place-test.false lists.1 in
           (whole.more, whole.are);
     }

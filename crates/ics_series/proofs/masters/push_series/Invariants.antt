@@ -19,5 +19,6 @@ invariant-loop-place l = record {
   sources :
       HasSources (map said_by l.files) (display_clock l.display) l.window (option_map (λ key. key_rank key.now) l.after) (map seen (take l.place l.chosen))
       (flat_map part_sources l.initial.parts.items) (flat_map part_sources l.parts.items);
-  whole : (w : Window) → (lists : List (List Entry)) × HasLists (map said_by l.files) (display_clock l.display) w None (map seen (take l.place l.chosen)) [] lists;
+  whole : (w : Window) → (lists : List (List Entry))
+      × HasLists (map said_by l.files) (display_clock l.display) w None (map seen (take l.place l.chosen)) [] lists;
 }

@@ -24,16 +24,19 @@ abbrev none : Version
 none = record { subject = record { uid = record { ref_ptr = (0, 0); now = [] }; recurrence = None }; sequence = 0; spot = record { file = 0; place = 0 } }
 
 pub event-event-requires : goal.event-event-requires
-event-event-requires c = stands (map said_by c.args.files.now) (display_clock c.args.display.now) c.args.chosen.now c.args.place none c.requires.chosen c.requires.within
+event-event-requires c = stands (map said_by c.args.files.now) (display_clock c.args.display.now) c.args.chosen.now c.args.place none c.requires.chosen
+    c.requires.within
 
 pub returns-then-is_single : goal.returns-then-is_single
 returns-then-is_single c = record {
   sources = λ version there. tt;
   series = λ version there.
-      not-single (map said_by c.args.files.now) c.args.chosen.now c.args.place none version c.requires.within there c.event-event.result.now c.event-event.ensures.event (sym c.is_single.ensures ∙ c.if-is_single.true);
+      not-single (map said_by c.args.files.now) c.args.chosen.now c.args.place none version c.requires.within there c.event-event.result.now
+      c.event-event.ensures.event (sym c.is_single.ensures ∙ c.if-is_single.true);
   whole = λ version there w.
       single-none (map said_by c.args.files.now) (display_clock c.args.display.now) w (seen version)
-      (not-single (map said_by c.args.files.now) c.args.chosen.now c.args.place none version c.requires.within there c.event-event.result.now c.event-event.ensures.event (sym c.is_single.ensures ∙ c.if-is_single.true));
+      (not-single (map said_by c.args.files.now) c.args.chosen.now c.args.place none version c.requires.within there c.event-event.result.now
+      c.event-event.ensures.event (sym c.is_single.ensures ∙ c.if-is_single.true));
 }
 
 pub overridden_instants-requires-clause-order : goal.overridden_instants-requires-clause-order
@@ -48,12 +51,14 @@ overridden_instants-requires-clause-master c =
     let recurs : is_single c.event-event.result.now ≡ false = sym c.is_single.ensures ∙ c.if-is_single.false in
     let uid : c.as_slice-2.result.now ≡ c.event-event.result.now.uid = c.as_slice-2.ensures ∙ ap (λ (e : Event). e.uid) c.event.view_is in
     ap (option_map (λ (v : Version). subject_seen v.subject)) there
-    ∙ ap Some (own-subject files display c.args.window (option_map (λ key. key_rank key.now) c.args.after) c.args.chosen.now c.requires.chosen (seen v) (there-in seen c.args.chosen.now c.args.place v there) c.event-event.result.now c.event-event.ensures.event recurs
+    ∙ ap Some (own-subject files display c.args.window (option_map (λ key. key_rank key.now) c.args.after) c.args.chosen.now c.requires.chosen (seen v)
+    (there-in seen c.args.chosen.now c.args.place v there) c.event-event.result.now c.event-event.ensures.event recurs
     ∙ ap (λ u. record { uid = u; recurrence = None }) (sym uid))
 
 pub new-requires-clause-own : goal.new-requires-clause-own
 new-requires-clause-own c =
-    own-event c.zones-zones.result c.event-event.result.now (search rules) (subst (λ zs. IsEventOf zs c.event-event.result.now) (sym c.zones-zones.ensures.zones) c.event-event.ensures.own)
+    own-event c.zones-zones.result c.event-event.result.now (search rules)
+    (subst (λ zs. IsEventOf zs c.event-event.result.now) (sym c.zones-zones.ensures.zones) c.event-event.ensures.own)
 
 pub returns : goal.returns
 returns c =
@@ -72,9 +77,20 @@ returns c =
     (subst (λ u. IsSince (option_map (λ key. key_rank key.now) c.args.after) u c.since_of-since.result) uid c.since_of-since.ensures.since) in
     let is_event : IsEvent c.event-event.result.now = search rules in
     let are = subst (λ u. AreOverridden u (map seen c.args.chosen.now) c.in_ok-overridden.overridden.items) uid-2 c.in_ok-overridden.ensures.overridden in
-    let m : Recurring = record { clocks = clocks_in c.zones-zones.result; event = c.event-event.result.now; window = c.args.window; since = to_z w64 (of_z w64 c.since_of-since.result) } in
-    let is : IsSourceOf (map said_by c.args.files.now) (display_clock c.args.display.now) c.args.window (option_map (λ key. key_rank key.now) c.args.after) (seen (get_or c.args.chosen.now c.args.place none))
-    (record { clocks = clocks_in c.zones-zones.result; event = c.event-event.result.now; window = c.args.window; since = to_z w64 (of_z w64 c.since_of-since.result) }) = record {
+    let m : Recurring = record {
+      clocks = clocks_in c.zones-zones.result;
+      event = c.event-event.result.now;
+      window = c.args.window;
+      since = to_z w64 (of_z w64 c.since_of-since.result);
+    } in
+    let is : IsSourceOf (map said_by c.args.files.now) (display_clock c.args.display.now) c.args.window (option_map (λ key. key_rank key.now) c.args.after)
+    (seen (get_or c.args.chosen.now c.args.place none))
+    (record {
+      clocks = clocks_in c.zones-zones.result;
+      event = c.event-event.result.now;
+      window = c.args.window;
+      since = to_z w64 (of_z w64 c.since_of-since.result);
+    }) = record {
       stands = c.event-event.ensures.event;
       recurs = recurs;
       clocks = c.zones-zones.ensures.clocks;
@@ -83,15 +99,22 @@ returns c =
     } in
     record {
       series = λ version there.
-          subst (λ (v : Version). IsListing entry_cmp (IsOfVersion (map said_by c.args.files.now) (display_clock c.args.display.now) c.args.window (option_map (λ key. key_rank key.now) c.args.after) (seen v)) (series_of c.in_ok-series.series (series_left c.in_ok-series.series)))
+          subst (λ (v : Version). IsListing entry_cmp (IsOfVersion (map said_by c.args.files.now) (display_clock c.args.display.now) c.args.window
+          (option_map (λ key. key_rank key.now) c.args.after) (seen v)) (series_of c.in_ok-series.series (series_left c.in_ok-series.series)))
           (version-there c.args.chosen.now c.args.place none version c.requires.within there)
           (series-listing files display c.args.window after c.args.chosen.now c.requires.chosen (seen v) stands event c.event-event.ensures.event recurs
           c.zones-zones.result c.zones-zones.ensures.clocks is_event (to_z w64 (of_z w64 c.since_of-since.result)) since c.in_ok-overridden.overridden.items are
           (series_of c.in_ok-series.series (series_left c.in_ok-series.series)) c.in_ok-series.ensures.listing);
       sources = λ version there. (
         m,
-        subst (λ (v : Version). IsSourceOf (map said_by c.args.files.now) (display_clock c.args.display.now) c.args.window (option_map (λ key. key_rank key.now) c.args.after) (seen v)
-            (record { clocks = clocks_in c.zones-zones.result; event = c.event-event.result.now; window = c.args.window; since = to_z w64 (of_z w64 c.since_of-since.result) }))
+        subst (λ (v : Version). IsSourceOf (map said_by c.args.files.now) (display_clock c.args.display.now) c.args.window
+            (option_map (λ key. key_rank key.now) c.args.after) (seen v)
+            (record {
+              clocks = clocks_in c.zones-zones.result;
+              event = c.event-event.result.now;
+              window = c.args.window;
+              since = to_z w64 (of_z w64 c.since_of-since.result);
+            }))
             (version-there c.args.chosen.now c.args.place none version c.requires.within there) is,
         c.in_ok-series.ensures.sources,
       );

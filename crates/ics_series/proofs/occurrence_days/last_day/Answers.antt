@@ -28,10 +28,13 @@ returns-clause-day c =
     let ordered = w.ordered in
     let early = w.not_early in
     let apart : int_eq o.finish o.start ≡ false = grind (arith, ints, c.if-occurrence.false) in
-    let min-is : c.min-end.result ≡ int_min o.finish w.to = omega (arith, ints, int_min_is, int_min_is o.finish w.to, c.min-end.ensures.value, c.min-end.type_inv) in
+    let min-is : c.min-end.result ≡ int_min o.finish w.to =
+    omega (arith, ints, int_min_is, int_min_is o.finish w.to, c.min-end.ensures.value, c.min-end.type_inv) in
     let low : occurrence_first ≤ℤ c.min-end.result = omega (arith, ints, int_min_is, c.min-end.ensures.value, start, forward, ordered, early) in
-    let end : to_z w64 (of_z w64 (to_z w64 (of_z w64 c.min-end.result) -ℤ pos 1)) ≡ int_min o.finish w.to -ℤ pos 1 = omega (arith, ints, c.min-end.type_inv, low, min-is) in
-    let day : c.date_at.result ≡ end_day (display_clock c.args.display.now) c.args.window.now (entry_of c.args.occurrence.now) = c.date_at.ensures.day ∙ ap (date_at (display_clock c.args.display.now)) end in
+    let end : to_z w64 (of_z w64 (to_z w64 (of_z w64 c.min-end.result) -ℤ pos 1)) ≡ int_min o.finish w.to -ℤ pos 1 =
+    omega (arith, ints, c.min-end.type_inv, low, min-is) in
+    let day : c.date_at.result ≡ end_day (display_clock c.args.display.now) c.args.window.now (entry_of c.args.occurrence.now) = c.date_at.ensures.day
+    ∙ ap (date_at (display_clock c.args.display.now)) end in
     let greater : to_z w32 (of_z w32 c.max.result) ≡ int_max (first_day clock w (entry_of o)) (end_day clock w (entry_of o)) = omega (
       arith,
       ints,

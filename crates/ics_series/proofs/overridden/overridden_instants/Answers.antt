@@ -19,11 +19,14 @@ returns-in_default c =
     let uid = c.args.uid.now in
     let versions = c.args.versions.now in
     let place = c.args.place in
-    let all = found-stops uid versions (behind versions place) place c.requires.order c.requires.master (rest versions place) c.loop-version.version-index none c.loop-version.instants.items c.loop-version-test.true c.loop-version.invariant
+    let all = found-stops uid versions (behind versions place) place c.requires.order c.requires.master (rest versions place) c.loop-version.version-index none
+    c.loop-version.instants.items c.loop-version-test.true c.loop-version.invariant
     (sym c.instance_of.ensures ∙ c.in_default.is) in
     record {
-      overridden = overridden-all uid versions (behind versions place) place c.requires.order c.requires.master (rest versions place) c.loop-version.instants.items all;
-      sorted = overridden-sorted uid versions (behind versions place) place c.requires.order c.requires.master (rest versions place) c.loop-version.instants.items all;
+      overridden = overridden-all uid versions (behind versions place) place c.requires.order c.requires.master (rest versions place)
+          c.loop-version.instants.items all;
+      sorted = overridden-sorted uid versions (behind versions place) place c.requires.order c.requires.master (rest versions place)
+          c.loop-version.instants.items all;
     }
 
 pub loop-version-preserved : goal.loop-version-preserved
@@ -38,8 +41,11 @@ returns c =
     let uid = c.args.uid.now in
     let versions = c.args.versions.now in
     let place = c.args.place in
-    let all = found-ends uid versions (behind versions place) place c.requires.order c.requires.master (rest versions place) c.loop-version.version-index c.loop-version.instants.items c.loop-version-test.false c.loop-version.invariant in
+    let all = found-ends uid versions (behind versions place) place c.requires.order c.requires.master (rest versions place) c.loop-version.version-index
+    c.loop-version.instants.items c.loop-version-test.false c.loop-version.invariant in
     record {
-      overridden = overridden-all uid versions (behind versions place) place c.requires.order c.requires.master (rest versions place) c.loop-version.instants.items all;
-      sorted = overridden-sorted uid versions (behind versions place) place c.requires.order c.requires.master (rest versions place) c.loop-version.instants.items all;
+      overridden = overridden-all uid versions (behind versions place) place c.requires.order c.requires.master (rest versions place)
+          c.loop-version.instants.items all;
+      sorted = overridden-sorted uid versions (behind versions place) place c.requires.order c.requires.master (rest versions place)
+          c.loop-version.instants.items all;
     }

@@ -7,7 +7,11 @@ loop-init c = refl
 
 pub loop-preserved : goal.loop-preserved
 loop-preserved c =
-    elim c.if-near-window.branch [ then-near-window w ↦ w.zone-is ∙ (w.reach.ensures.same ∙ c.loop.invariant) | else-near-window w ↦ w.zone-is ∙ c.loop.invariant ]
+    elim c.if-near-window.branch [
+      | then-near-window w ↦ w.zone-is ∙ (w.reach.ensures.same ∙ c.loop.invariant)
+      | else-near-window w ↦ w.zone-is
+          ∙ c.loop.invariant
+    ]
 
 pub returns : goal.returns
 returns c = c.reach-2.ensures.same ∙ c.loop.invariant

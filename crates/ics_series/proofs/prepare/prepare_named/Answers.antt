@@ -24,7 +24,8 @@ loop-k-preserved c =
     let zones = c.loop-k.file-inside.zones.items in
     elim c.match-index.branch [
       | in-Some+in-Some-get_mut w ↦
-          let there = ap (slice_set zones w.in-Some.index) (w.prepare.ensures ∙ w.in-Some-get_mut.ensures.value) ∙ set-get_or zones w.in-Some.index w.in-Some-get_mut.zone.now in
+          let there = ap (slice_set zones w.in-Some.index) (w.prepare.ensures ∙ w.in-Some-get_mut.ensures.value)
+          ∙ set-get_or zones w.in-Some.index w.in-Some-get_mut.zone.now in
           ap the_view w.file-inside-is ∙ (ap (λ z. record { zones = z; events = c.loop-k.file-inside.events.items }) there ∙ c.loop-k.invariant)
       | in-Some+in_default-get_mut w ↦ ap the_view w.file-inside-is ∙ c.loop-k.invariant
       | in_default w ↦ ap the_view w.file-inside-is ∙ c.loop-k.invariant

@@ -44,6 +44,7 @@ returns c =
     let items = c.args.held.now.items in
     let none : c.loop-at.at ≡ 0 = omega arith in (
       omega arith,
-      one-first moment_cmp moment_total c.args.start items c.requires (subst (λ k. IsBefore moment_cmp c.args.start (drop k items)) none c.loop-at.invariant.before)
+      one-first moment_cmp moment_total c.args.start items c.requires
+          (subst (λ k. IsBefore moment_cmp c.args.start (drop k items)) none c.loop-at.invariant.before)
           ∙ ap (λ k. insert items k c.args.start) (sym none),
     )

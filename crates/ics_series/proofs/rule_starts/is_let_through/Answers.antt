@@ -14,7 +14,8 @@ returns c =
     let n = number c.args.local in
     let fits : SFits w64 c.args.moment = c.ranges.moment in
     let t : to_z w64 (of_z w64 c.args.moment) ≡ c.args.moment = omega (arith, ints) in
-    let to : to_z w64 (of_z w64 c.args.window.to) ≡ c.args.window.to = omega (arith, ints, c.args.window.not_early, c.args.window.ordered, c.args.window.not_late) in
+    let to : to_z w64 (of_z w64 c.args.window.to) ≡ c.args.window.to =
+    omega (arith, ints, c.args.window.not_early, c.args.window.ordered, c.args.window.not_late) in
     let first : c.eq-first.result ≡ (n == number rule.start) =
     c.eq-first.ensures ∙ (local-test c.args.local c.args.first c.requires.local c.requires.first ∙ ap (λ k. n == k) (sym c.requires.start)) in
     let until : c.is_until-until.result ≡ is_until (until_moment rule) c.args.moment =

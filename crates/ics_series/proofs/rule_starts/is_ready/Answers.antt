@@ -8,7 +8,8 @@ use Rattle.ics_values.specs.Locals.{local_seconds, midnight}
 use Rattle.ics_series.specs.RuleStarts.{is_ready}
 use Rattle.ics_series.proofs.rule_starts.is_ready.Goals as goal
 
-first-ready : (day : ℤ) (held : List Start) (s : Start) → 0 < length held → s ≡ get_or held 0 s → int_le s.moment (midnight day -ℤ pos 172_800) ≡ is_ready day held
+first-ready : (day : ℤ) (held : List Start) (s : Start) → 0 < length held → s ≡ get_or held 0 s →
+    int_le s.moment (midnight day -ℤ pos 172_800) ≡ is_ready day held
 first-ready day [] s l is = absurd (omega (arith, l))
 first-ready day (x ∷ held) s l is = ap (λ (y : Start). int_le y.moment (midnight day -ℤ pos 172_800)) is
 

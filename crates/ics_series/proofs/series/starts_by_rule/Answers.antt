@@ -15,7 +15,19 @@ use Rattle.ics_series.proofs.series.starts_by_rule.Goals as goal
 
 pub first_nearby-from-requires-clause-early : goal.first_nearby-from-requires-clause-early
 first_nearby-from-requires-clause-early c =
-    omega (arith, ints, int_max_is, int_min_is, c.max.ensures.value, c.min.ensures.value, c.max.type_inv, c.min.type_inv, c.earliest-earliest.type_inv, c.earliest-earliest.ensures.early, c.args.window.not_late)
+    omega (
+      arith,
+      ints,
+      int_max_is,
+      int_min_is,
+      c.max.ensures.value,
+      c.min.ensures.value,
+      c.max.type_inv,
+      c.min.type_inv,
+      c.earliest-earliest.type_inv,
+      c.earliest-earliest.ensures.early,
+      c.args.window.not_late,
+    )
 
 pub returns : goal.returns
 returns c =
@@ -27,8 +39,10 @@ returns c =
     let min-fits : to_z w64 (of_z w64 c.min.result) ≡ c.min.result = omega (arith, ints, c.min.type_inv) in
     let max-fits : to_z w64 (of_z w64 c.max.result) ≡ c.max.result = omega (arith, ints, c.max.type_inv) in
     let since-fits : to_z w64 (of_z w64 c.args.since) ≡ c.args.since = omega (arith, ints) in
-    let to-own : to_z w64 (of_z w64 c.args.window.to) ≡ c.args.window.to = omega (arith, ints, c.args.window.not_early, c.args.window.ordered, c.args.window.not_late) in
-    let to-fits : to_z w64 (of_z w64 (c.args.window.to +ℤ whole_days 14)) ≡ c.args.window.to +ℤ whole_days 14 = omega (arith, ints, c.args.window.not_early, c.args.window.ordered, c.args.window.not_late) in
+    let to-own : to_z w64 (of_z w64 c.args.window.to) ≡ c.args.window.to =
+    omega (arith, ints, c.args.window.not_early, c.args.window.ordered, c.args.window.not_late) in
+    let to-fits : to_z w64 (of_z w64 (c.args.window.to +ℤ whole_days 14)) ≡ c.args.window.to +ℤ whole_days 14 =
+    omega (arith, ints, c.args.window.not_early, c.args.window.ordered, c.args.window.not_late) in
     let min : to_z w64 (of_z w64 c.min.result) ≡ int_min c.args.since (c.args.window.to +ℤ whole_days 14) =
     min-fits ∙ (c.min.ensures.value ∙ (ap (λ t. int_min t (to_z w64 (of_z w64 (to_z w64 (of_z w64 c.args.window.to) +ℤ whole_days 14)))) since-fits
     ∙ ap (int_min c.args.since) (ap (λ t. to_z w64 (of_z w64 (t +ℤ whole_days 14))) to-own ∙ to-fits))) in
@@ -41,9 +55,11 @@ returns c =
         event_is = ap (λ (b : Bor Event). b.now) c.new.ensures.event;
         window_is = c.new.ensures.window;
         day = subst (λ (l : Local). IsDayNumber l.day) (sym c.new.ensures.from) c.first_nearby-from.ensures.day;
-        late = subst (λ (l : Local). int_max (local_seconds (local_of event.start.stamp)) (first_asked clocks c.args.window event c.args.since c.args.listed.now -ℤ whole_days 7) ≤ℤ local_seconds l) (sym c.new.ensures.from)
+        late = subst (λ (l : Local). int_max (local_seconds (local_of event.start.stamp))
+            (first_asked clocks c.args.window event c.args.since c.args.listed.now -ℤ whole_days 7) ≤ℤ local_seconds l) (sym c.new.ensures.from)
             (subst (λ t. int_max (local_seconds (local_of event.start.stamp)) (t -ℤ whole_days 7) ≤ℤ local_seconds c.first_nearby-from.result) first
-            (subst (λ (l : Local). int_max (local_seconds l) (to_z w64 (of_z w64 c.max.result) -ℤ whole_days 7) ≤ℤ local_seconds c.first_nearby-from.result) local c.first_nearby-from.ensures.late));
+            (subst (λ (l : Local). int_max (local_seconds l) (to_z w64 (of_z w64 c.max.result) -ℤ whole_days 7) ≤ℤ local_seconds c.first_nearby-from.result)
+            local c.first_nearby-from.ensures.late));
       };
       from = record {
         rule = c.new-rule.result;
@@ -51,7 +67,8 @@ returns c =
         from = c.first_nearby-from.result;
         day = c.first_nearby-from.ensures.day;
         low = subst (λ t. local_seconds c.first_nearby-from.result ≤ℤ int_max (local_seconds (local_of event.start.stamp)) (t -ℤ whole_days 6)) first
-            (subst (λ (l : Local). local_seconds c.first_nearby-from.result ≤ℤ int_max (local_seconds l) (to_z w64 (of_z w64 c.max.result) -ℤ whole_days 6)) local c.first_nearby-from.ensures.low);
+            (subst (λ (l : Local). local_seconds c.first_nearby-from.result ≤ℤ int_max (local_seconds l) (to_z w64 (of_z w64 c.max.result) -ℤ whole_days 6))
+            local c.first_nearby-from.ensures.low);
         gives = c.new.ensures.left;
       };
     }

@@ -17,9 +17,13 @@ returns-then-is_to_come c =
     let after = option_map (λ key. key_rank key.now) c.args.after in
     let version = c.args.version.now in
     let single : is_single c.event-event.result.now ≡ true = sym c.is_single.ensures ∙ c.if-not-is_single.false in
-    let begun : Some (single_entry c.in_ok-single.single) ≡ begun_first (clocks_at (map said_by c.args.files.now) (display_clock c.args.display.now) c.args.version.now.spot.file) c.args.window.now c.event-event.result.now c.args.version.now.subject.recurrence =
-    c.in_ok-single.ensures ∙ ap (λ clocks. begun_first clocks c.args.window.now c.event-event.result.now c.args.version.now.subject.recurrence) c.zones-zones.ensures.clocks in
-    gives-single files display c.args.window.now overrides after (seen version) c.event-event.result.now c.event-event.ensures.event (single_entry c.in_ok-single.single) single begun
+    let begun : Some (single_entry c.in_ok-single.single)
+    ≡ begun_first (clocks_at (map said_by c.args.files.now) (display_clock c.args.display.now) c.args.version.now.spot.file) c.args.window.now
+    c.event-event.result.now c.args.version.now.subject.recurrence =
+    c.in_ok-single.ensures ∙ ap (λ clocks. begun_first clocks c.args.window.now c.event-event.result.now c.args.version.now.subject.recurrence)
+    c.zones-zones.ensures.clocks in
+    gives-single files display c.args.window.now overrides after (seen version) c.event-event.result.now c.event-event.ensures.event
+    (single_entry c.in_ok-single.single) single begun
     (ap (is_to_come c.args.window.now overrides after) (sym c.occurrence.ensures) ∙ (sym c.is_to_come.ensures ∙ c.if-is_to_come.true))
 
 pub returns-else-is_to_come : goal.returns-else-is_to_come
@@ -30,7 +34,11 @@ returns-else-is_to_come c =
     let after = option_map (λ key. key_rank key.now) c.args.after in
     let version = c.args.version.now in
     let single : is_single c.event-event.result.now ≡ true = sym c.is_single.ensures ∙ c.if-not-is_single.false in
-    let begun : Some (single_entry c.in_ok-single.single) ≡ begun_first (clocks_at (map said_by c.args.files.now) (display_clock c.args.display.now) c.args.version.now.spot.file) c.args.window.now c.event-event.result.now c.args.version.now.subject.recurrence =
-    c.in_ok-single.ensures ∙ ap (λ clocks. begun_first clocks c.args.window.now c.event-event.result.now c.args.version.now.subject.recurrence) c.zones-zones.ensures.clocks in
-    gives-none files display c.args.window.now overrides after (seen version) c.event-event.result.now c.event-event.ensures.event (single_entry c.in_ok-single.single) single begun
+    let begun : Some (single_entry c.in_ok-single.single)
+    ≡ begun_first (clocks_at (map said_by c.args.files.now) (display_clock c.args.display.now) c.args.version.now.spot.file) c.args.window.now
+    c.event-event.result.now c.args.version.now.subject.recurrence =
+    c.in_ok-single.ensures ∙ ap (λ clocks. begun_first clocks c.args.window.now c.event-event.result.now c.args.version.now.subject.recurrence)
+    c.zones-zones.ensures.clocks in
+    gives-none files display c.args.window.now overrides after (seen version) c.event-event.result.now c.event-event.ensures.event
+    (single_entry c.in_ok-single.single) single begun
     (ap (is_to_come c.args.window.now overrides after) (sym c.occurrence.ensures) ∙ (sym c.is_to_come.ensures ∙ c.if-is_to_come.false))

@@ -6,4 +6,5 @@ use Rattle.ics_series.proofs.singles.to_come.Goals as goal
 
 pub given-requires-clause-there : goal.given-requires-clause-there
 given-requires-clause-there c =
-    stands (map said_by c.args.files.now) (display_clock c.args.display.now) c.args.chosen.now c.loop-version.version-index _ c.requires.chosen c.loop-version-test.true
+    stands (map said_by c.args.files.now) (display_clock c.args.display.now) c.args.chosen.now c.loop-version.version-index _ c.requires.chosen
+    c.loop-version-test.true

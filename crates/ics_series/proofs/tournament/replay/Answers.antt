@@ -11,7 +11,8 @@ loop-node-preserved g c =
     let heads = map (λ x. option_map entry_of x.head) c.args.leads.now in
     record {
       node_in = omega arith;
-      leads = All-set (λ lead. lead < length c.args.leads.now) c.loop-node.winners c.loop-node.node c.first_below.result c.first_below.ensures.lead c.loop-node.invariant.leads;
+      leads = All-set (λ lead. lead < length c.args.leads.now) c.loop-node.winners c.loop-node.node c.first_below.result c.first_below.ensures.lead
+          c.loop-node.invariant.leads;
       settled =
           subst (λ w. AreSettledBut (c.loop-node.node / 2) heads (set c.loop-node.winners c.loop-node.node w)) (sym c.first_below.ensures.first)
           (settle_up heads c.loop-node.winners c.loop-node.node (omega arith) (omega arith) c.loop-node.invariant.settled);

@@ -27,8 +27,10 @@ loop-node-preserved g c =
       same_length = length-set winners node c.first_below.result ∙ c.loop-node.invariant.same_length;
       leads = All-set (λ lead. lead < length c.args.leads.now) winners node c.first_below.result c.first_below.ensures.lead c.loop-node.invariant.leads;
       settled =
-          subst (λ w. AreSettledWhere (λ k. node ≤ k) heads (set winners node w)) (sym (c.first_below.ensures.first ∙ ap (λ ws. first_below heads ws node) lent))
-          (settle_down heads winners node (omega arith) (omega (arith, c.loop-node.invariant.same_length)) (λ k low high most. c.loop-node.invariant.settled k low high (omega arith)));
+          subst (λ w. AreSettledWhere (λ k. node ≤ k) heads (set winners node w))
+          (sym (c.first_below.ensures.first ∙ ap (λ ws. first_below heads ws node) lent))
+          (settle_down heads winners node (omega arith) (omega (arith, c.loop-node.invariant.same_length))
+          (λ k low high most. c.loop-node.invariant.settled k low high (omega arith)));
     }
 
 pub returns-clause-settled : goal.returns-clause-settled

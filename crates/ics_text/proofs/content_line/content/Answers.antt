@@ -10,7 +10,8 @@ use Rattle.ics_text.proofs.Parting.{CutBehind, reached, not_reached, slices_behi
 use Rattle.ics_text.proofs.content_line.content.Goals as goal
 
 -- the line cut behind its name, and what the search for the colon found
-cut : (line name behind : List ℕ) (len : ℕ) (found : Option ℕ) → len ≡ prefix_len is_name_byte line → 0 < len → name ≡ take len line → behind ≡ drop len line → found ≡ colon_from behind InName →
+cut : (line name behind : List ℕ) (len : ℕ) (found : Option ℕ) → len ≡ prefix_len is_name_byte line → 0 < len → name ≡ take len line → behind ≡ drop len line →
+    found ≡ colon_from behind InName →
     CutBehind line name behind found
 cut line name behind len found e some n b f = record { some = rw (← e) some; name_is = rw (← e) n; behind_is = rw (← e) b; found_is = f }
 
@@ -22,7 +23,8 @@ returns-in_default c =
     let line = c.args.line.now in
     let (name, behind) = c.split_at.result in
     let halves = c.split_at.ensures in
-    let parts = cut line name.now behind.now c.name_len-len.result None c.name_len-len.ensures.value (omega arith) halves.front halves.back c.in_default.ensures.value in
+    let parts = cut line name.now behind.now c.name_len-len.result None c.name_len-len.ensures.value (omega arith) halves.front halves.back
+    c.in_default.ensures.value in
     let none = not_reached line name.now behind.now parts in
     record { parts = tt; only = tt; refused = refuses line none; computes = ap (option_map (cut_at line)) none }
 
@@ -32,7 +34,8 @@ returns c =
     let (name, behind) = c.split_at.result in
     let halves = c.split_at.ensures in
     let colon = c.in-Some.colon in
-    let parts = cut line name.now behind.now c.name_len-len.result (Some colon) c.name_len-len.ensures.value (omega arith) halves.front halves.back c.in-Some.ensures.value in
+    let parts = cut line name.now behind.now c.name_len-len.result (Some colon) c.name_len-len.ensures.value (omega arith) halves.front halves.back
+    c.in-Some.ensures.value in
     let slices = slices_behind line name.now behind.now colon parts in
     let some = reached line name.now behind.now colon parts in
     record {

@@ -16,7 +16,8 @@ loop-line-preserved c =
     let blank : begins is_blank rest ≡ true = cc in
     let cut = rw c.in-Some.is at c.cut_line.ensures.lines in
     let less = rw c.in-Some.is at c.cut_line.ensures.shorter in
-    let items : c.extend_from_slice-in-loop-line.new.self.items ≡ bytes ++ drop 1 line = c.in_ok-extend_from_slice-2.ensures.items ∙ ap (λ t. bytes ++ t) c.without_first.ensures in
+    let items : c.extend_from_slice-in-loop-line.new.self.items ≡ bytes ++ drop 1 line = c.in_ok-extend_from_slice-2.ensures.items
+    ∙ ap (λ t. bytes ++ t) c.without_first.ensures in
     record {
       grows = λ n.
           c.loop-line.invariant.grows n
@@ -48,5 +49,6 @@ returns-in_err-extend_from_slice-2-clause-err c =
     let some : 1 < length line = omega (arith, full, c.loop-line.bytes.ok.1, ap length c.without_first.ensures, length-drop 1 line) in
     let folded : (n : ℕ) → BeginsFolded (filter is_line (attach (line_of n c.args.first.now true) (all_from (n + 1) c.args.after.now))) =
     λ n. subst BeginsFolded (sym (c.loop-line.invariant.grows n))
-    (grown-folded n (n + c.loop-line.breaks) c.loop-line.bytes.items rest line (physical_behind (option_copied c.cut_line.result.1)) blank c.cut_line.ensures.lines some) in
+    (grown-folded n (n + c.loop-line.breaks) c.loop-line.bytes.items rest line (physical_behind (option_copied c.cut_line.result.1)) blank
+    c.cut_line.ensures.lines some) in
     on_err _ folded

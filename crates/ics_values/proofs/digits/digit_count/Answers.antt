@@ -13,4 +13,5 @@ returns-then-not-is_digit-clause-value c =
 pub returns-clause-value : goal.returns-clause-value
 returns-clause-value c =
     let text = c.args.text.now in
-    sym (position_or_len_is (λ b. not (is_digit b)) text (length text) 0 (omega arith) (λ k h. ap not (c.loop-i.invariant k (omega arith))) (λ h. absurd (omega arith)))
+    sym (position_or_len_is (λ b. not (is_digit b)) text (length text) 0 (omega arith) (λ k h. ap not (c.loop-i.invariant k (omega arith)))
+    (λ h. absurd (omega arith)))

@@ -9,4 +9,5 @@ use Rattle.ics_values.proofs.AbsentLemmas.{absent}
 use Rattle.ics_values.proofs.rule_law.absent_is_empty.Goals as goal
 
 pub returns : goal.returns
-returns c = λ text rule h list. let r = of_rule text rule h in subst (λ (x : RuleParts). lists_nothing list x ≡ not (has_part (part.List list) (parts_of text))) r.1 (absent (parts_of text) r.0 list)
+returns c = λ text rule h list. let r = of_rule text rule h in
+    subst (λ (x : RuleParts). lists_nothing list x ≡ not (has_part (part.List list) (parts_of text))) r.1 (absent (parts_of text) r.0 list)

@@ -1,4 +1,5 @@
-use Rattle.std.proofs.Common.{◌≡◌, ◌<◌, ◌≤◌, ◌+◌, ℕ, length, take, drop, cond, ltb, Some, None, Bool, true, false, sym, ap, ◌∙◌, arith, rules, tests, inl, inr, ◌⊎◌}
+use Rattle.std.proofs.Common.{◌≡◌, ◌<◌, ◌≤◌, ◌+◌, ℕ, length, take, drop, cond, ltb, Some, None, Bool, true, false, sym, ap, ◌∙◌, arith, rules, tests, inl, inr}
+use Rattle.std.proofs.Common.{◌⊎◌}
 use Rattle.std.specs.List.{position_or_len}
 use Rattle.std.proofs.lemmas.Bool.Decides.{nat_tests}
 use Rattle.std.proofs.lemmas.Grind.{common_steps}
@@ -34,16 +35,20 @@ returns-in-Some-clause-name c =
 pub returns-in-Some-clause-value : goal.returns-in-Some-clause-value
 returns-in-Some-clause-value c =
     let at = position_from_yields_List is_equals _ _ _ c.position.ensures.ran (YieldsList-from_slice c.args.part.now (cc)) (λ x b q k. search (rules, tests)) in
-    rw (take_rest c.args.part.now (c.in-Some.i + 1)) (ap (λ n. drop (n + 1) c.args.part.now) (found (position_or_len is_equals c.args.part.now) (length c.args.part.now) c.in-Some.i (sym c.in-Some.is ∙ at)))
+    rw (take_rest c.args.part.now (c.in-Some.i + 1))
+    (ap (λ n. drop (n + 1) c.args.part.now) (found (position_or_len is_equals c.args.part.now) (length c.args.part.now) c.in-Some.i (sym c.in-Some.is
+    ∙ at)))
 
 pub returns-in-None-clause-name : goal.returns-in-None-clause-name
 returns-in-None-clause-name c =
     let at = position_from_yields_List is_equals _ _ _ c.position.ensures.ran (YieldsList-from_slice c.args.part.now (cc)) (λ x b q k. search (rules, tests)) in
-    let past : length c.args.part.now ≤ position_or_len is_equals c.args.part.now = missing (position_or_len is_equals c.args.part.now) (length c.args.part.now) (sym c.in-None.is ∙ at) in
+    let past : length c.args.part.now ≤ position_or_len is_equals c.args.part.now =
+    missing (position_or_len is_equals c.args.part.now) (length c.args.part.now) (sym c.in-None.is ∙ at) in
     grind (arith, common_steps)
 
 pub returns-in-None-clause-value : goal.returns-in-None-clause-value
 returns-in-None-clause-value c =
     let at = position_from_yields_List is_equals _ _ _ c.position.ensures.ran (YieldsList-from_slice c.args.part.now (cc)) (λ x b q k. search (rules, tests)) in
-    let past : length c.args.part.now ≤ position_or_len is_equals c.args.part.now = missing (position_or_len is_equals c.args.part.now) (length c.args.part.now) (sym c.in-None.is ∙ at) in
+    let past : length c.args.part.now ≤ position_or_len is_equals c.args.part.now =
+    missing (position_or_len is_equals c.args.part.now) (length c.args.part.now) (sym c.in-None.is ∙ at) in
     grind (arith, common_steps)

@@ -12,7 +12,8 @@ items-preserved c =
     let taken : item_taken c.args.list c.items.parts c.in-Some.item.now ≡ Some c.take_item.new.parts = search rules in
     let road = YieldsList-from_slice_split _ (λ b. b == 44) c.args.value.now (cc) (cc) (cc) (λ x r q k. search (rules, tests)) in
     let turn = YieldsList-turn road c.items.yielded _ c.items.yielded_by _ _ c.in-Some.item c.in-Some.is c.next.ensures.steps in
-    let step = walk_taken (item_taken c.args.list) c.items.parts c.take_item.new.parts (pieces 44 c.args.value.now) (length c.items.yielded) c.in-Some.item.now turn taken in
+    let step = walk_taken (item_taken c.args.list) c.items.parts c.take_item.new.parts (pieces 44 c.args.value.now) (length c.items.yielded) c.in-Some.item.now
+    turn taken in
     rw (length_push c.items.yielded c.in-Some.item) (sym step ∙ c.items.invariant)
 
 pub returns-in_err-take_item : goal.returns-in_err-take_item
@@ -20,7 +21,8 @@ returns-in_err-take_item c =
     let none : c.from_residual.result ≡ None = search rules in
     let road = YieldsList-from_slice_split _ (λ b. b == 44) c.args.value.now (cc) (cc) (cc) (λ x r q k. search (rules, tests)) in
     let turn = YieldsList-turn road c.items.yielded _ c.items.yielded_by _ _ c.in-Some.item c.in-Some.is c.next.ensures.steps in
-    let step = walk_refused (item_taken c.args.list) c.items.parts (pieces 44 c.args.value.now) (length c.items.yielded) c.in-Some.item.now turn c.in_err-take_item.ensures in
+    let step = walk_refused (item_taken c.args.list) c.items.parts (pieces 44 c.args.value.now) (length c.items.yielded) c.in-Some.item.now turn
+    c.in_err-take_item.ensures in
     rw none (sym c.items.invariant ∙ step)
 
 pub returns : goal.returns

@@ -17,4 +17,5 @@ returns-then-is_stamp_year-clause-range c =
     let said = c.in-Some.ensures.value in
     let near : is_stamp_year (year_of text) ≡ true = search rules in
     let years = stamp_years (year_of text) near in
-    subst IsStampDay (sym (ap stamp_day said.1 ∙ stamp_day-said c.args.zoned text)) (day_number_range (year_of text) (number_at text 4 6) (number_at text 6 8) (date_of-stamp text said.0) years.0 years.1)
+    subst IsStampDay (sym (ap stamp_day said.1 ∙ stamp_day-said c.args.zoned text))
+    (day_number_range (year_of text) (number_at text 4 6) (number_at text 6 8) (date_of-stamp text said.0) years.0 years.1)

@@ -27,7 +27,8 @@ loop-other-preserved c =
     let less = simp to_z-of_z at (c.has_not_less.ensures c.if-has_not_less.false) in
     rw (to_z-of_z w32 c.args.offset offset, to_z-of_z w64 c.args.moment moment, to_z-of_z w64 c.in-Some.at at) (λ zone all.
     less_more zone c.args.onsets.now all c.loop-other.other c.index-onsets-other.result c.loop-other-test.true c.index-onsets-other.is
-    c.args.offset c.args.moment c.in-Some.at c.args.place (before zone all) (nat_le c.args.place c.loop-other.other) (λ e. not_le c.args.place c.loop-other.other e) less)
+    c.args.offset c.args.moment c.in-Some.at c.args.place (before zone all) (nat_le c.args.place c.loop-other.other)
+    (λ e. not_le c.args.place c.loop-other.other e) less)
 
 pub returns : goal.returns
 returns c =

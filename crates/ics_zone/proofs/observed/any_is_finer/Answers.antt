@@ -6,7 +6,8 @@ use Rattle.ics_zone.specs.declared.observance.Observance.{Observance}
 use Rattle.ics_zone.specs.Observances.{observance_said, has_finer_rule}
 use Rattle.ics_zone.proofs.observed.any_is_finer.Goals as goal
 
-any_observance : (observances : List Observance) → list_any has_finer_rule (map observance_said observances) ≡ list_any (λ o. has_finer_rule (observance_said o)) observances
+any_observance : (observances : List Observance) → list_any has_finer_rule (map observance_said observances)
+    ≡ list_any (λ o. has_finer_rule (observance_said o)) observances
 any_observance [] = refl
 any_observance (o ∷ observances) = ap (λ b. has_finer_rule (observance_said o) || b) (any_observance observances)
 

@@ -29,5 +29,6 @@ loop-rdate-preserved c =
 pub returns : goal.returns
 returns c =
     let past = rw c.deref-rdate-items.ensures.value at c.loop-rdate-test.false in
-    listing_of (observance_said c.args.observance.now) c.loop-rdate.rdate-index c.loop-rdate.listed.items c.sort_unstable.new.self.items past c.loop-rdate.invariant
+    listing_of (observance_said c.args.observance.now) c.loop-rdate.rdate-index c.loop-rdate.listed.items c.sort_unstable.new.self.items past
+    c.loop-rdate.invariant
     c.sort_unstable.ensures.permutation c.sort_unstable.ensures.sorted

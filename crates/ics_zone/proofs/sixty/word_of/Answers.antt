@@ -8,7 +8,8 @@ use Rattle.ics_zone.proofs.sixty.word_of.Goals.{then-contains, else-contains}
 pub loop-n-preserved : goal.loop-n-preserved
 loop-n-preserved c = elim c.if-contains.branch [
   | then-contains w ↦ λ m.
-      let there : contains c.args.set c.loop-n.n ≡ true = (and_parts (nat_lt c.loop-n.n 64) (contains c.args.set c.loop-n.n) (sym c.contains.ensures ∙ w.if-contains.true)).1 in
+      let there : contains c.args.set c.loop-n.n ≡ true =
+      (and_parts (nat_lt c.loop-n.n 64) (contains c.args.set c.loop-n.n) (sym c.contains.ensures ∙ w.if-contains.true)).1 in
       ap (λ x. contains x m) w.word-is ∙ word_more c.args.set c.loop-n.word c.loop-n.n c.loop-n.invariant (omega arith) there m
   | else-contains w ↦ λ m.
       let not : contains c.args.set c.loop-n.n ≡ false =

@@ -12,4 +12,5 @@ returns c =
     let pieces = c.deref-piece-items.result.now in
     let none = ap (filled value) (drop_all c.loop-piece.piece-index pieces c.loop-piece-test.false) in
     let added = rw (to_z-of_z w32 c.args.day c.ranges.day) at c.loop-piece.invariant in
-    all_added c.args.text.now.items (filled value c.args.format.now.pieces.items) (filled value (drop c.loop-piece.piece-index pieces)) (10 ∷ []) c.loop-piece.text.items c.push.new.self.items none added c.in_ok-push.ensures.items
+    all_added c.args.text.now.items (filled value c.args.format.now.pieces.items) (filled value (drop c.loop-piece.piece-index pieces)) (10
+    ∷ []) c.loop-piece.text.items c.push.new.self.items none added c.in_ok-push.ensures.items

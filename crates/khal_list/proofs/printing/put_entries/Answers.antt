@@ -30,7 +30,8 @@ returns-in_err-add_entry-clause-puts g c = λ list a.
     let p = c.loop-count.invariant.printed list a in
     let d = rw c.in-Some.is at c.in_ok-day.ensures.ok p.0 p.1 in
     let e = on_day c.in-Some.day (entry_of c.in-Some.occurrence) in
-    puts-fault c.args.request.now (g.D.Draws.comes c.args.draws.now c.draw.new.source) list d.0 _ _ c.from_residual-in_err-add_entry.result c.from_residual-in_err-add_entry.ensures.0
+    puts-fault c.args.request.now (g.D.Draws.comes c.args.draws.now c.draw.new.source) list d.0 _ _ c.from_residual-in_err-add_entry.result
+    c.from_residual-in_err-add_entry.ensures.0
     (printed-front p.2) d.2 (drew-one p.2 e d.0 d.1)
 
 pub returns-in_err-put_all-clause-puts : goal.returns-in_err-put_all-clause-puts
@@ -45,7 +46,8 @@ returns-in_err-put_all-clause-puts g c = λ list a.
     (entry_text (style_of c.args.request.now) c.loop-count.before c.in-Some.day (entry_of c.in-Some.occurrence))
     c.clear.ensures.items (rw kept at c.in_ok-add_entry.ensures) c.deref.ensures.value in
     let lower = fewer c.loop-count.left some in
-    puts-fault c.args.request.now (g.D.Draws.comes c.args.draws.now c.draw.new.source) list d.0 _ _ c.from_residual-in_err-put_all.result c.from_residual-in_err-put_all.ensures.0
+    puts-fault c.args.request.now (g.D.Draws.comes c.args.draws.now c.draw.new.source) list d.0 _ _ c.from_residual-in_err-put_all.result
+    c.from_residual-in_err-put_all.ensures.0
     (printed-part p.2 e d.0 d.1 c.in-Some.day c.deref.result.now lower.0 refl bytes lower.1 (g.O.Sink.taken c.put_all.new.sink) c.in_err-put_all.ensures.err)
     d.2 (drew-part p.2 e d.0 d.1 (g.O.Sink.taken c.put_all.new.sink) _ c.in_err-put_all.ensures.err.taken)
 

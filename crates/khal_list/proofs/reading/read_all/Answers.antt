@@ -18,7 +18,8 @@ returns-in_err-outcome-clause-some g c =
     let read = c.in_err-outcome.ensures.read in
     let names = g.S.Source.names c.args.source.now in
     let inside : suc c.loop-index.index ≤ length names = omega (arith, c.count-index-end.ensures) in
-    read-some g.S.Source.reads g.Z.ZoneSource.finds names c.args.source.now c.args.zones.now c.loop-index.index c.loop-index.source c.loop-index.zones c.loop-index.answered _ _ c.loop-index.invariant.done
+    read-some g.S.Source.reads g.Z.ZoneSource.finds names c.args.source.now c.args.zones.now c.loop-index.index c.loop-index.source c.loop-index.zones
+    c.loop-index.answered _ _ c.loop-index.invariant.done
     read.0 c.read_outcome.new.source c.read_outcome.new.zones read.1 inside read.3
 
 pub returns-in_err-keep-clause-some : goal.returns-in_err-keep-clause-some
@@ -26,7 +27,8 @@ returns-in_err-keep-clause-some g c =
     let read = c.in_ok-outcome.ensures.read in
     let names = g.S.Source.names c.args.source.now in
     let inside : suc c.loop-index.index ≤ length names = omega (arith, c.count-index-end.ensures) in
-    stops-after g.S.Source.reads g.Z.ZoneSource.finds names c.args.source.now c.args.zones.now c.loop-index.index c.loop-index.source c.loop-index.zones c.loop-index.answered _ _ c.loop-index.invariant.done
+    stops-after g.S.Source.reads g.Z.ZoneSource.finds names c.args.source.now c.args.zones.now c.loop-index.index c.loop-index.source c.loop-index.zones
+    c.loop-index.answered _ _ c.loop-index.invariant.done
     read.0 c.read_outcome.new.source c.read_outcome.new.zones c.read_outcome.new.answered read.1 inside (seen_outcome c.in_ok-outcome.outcome) read.2
 
 pub loop-index-preserved : goal.loop-index-preserved
@@ -36,7 +38,8 @@ loop-index-preserved g c =
     let kept : g.S.Source.names c.read_outcome.new.source ≡ names = c.in_ok-outcome.ensures.names ∙ c.loop-index.invariant.names in
     record {
       names = kept;
-      done = done-more g.S.Source.reads g.Z.ZoneSource.finds names c.args.source.now c.args.zones.now c.loop-index.index c.loop-index.source c.loop-index.zones c.loop-index.answered _ _ c.loop-index.invariant.done
+      done = done-more g.S.Source.reads g.Z.ZoneSource.finds names c.args.source.now c.args.zones.now c.loop-index.index c.loop-index.source c.loop-index.zones
+          c.loop-index.answered _ _ c.loop-index.invariant.done
           c.only_wanted_files_count.ensures read.0 c.read_outcome.new.source c.read_outcome.new.zones c.read_outcome.new.answered read.1
           c.name.result.now (ap (λ list. slice_get list c.loop-index.index) (sym kept) ∙ c.name.ensures) (seen_outcome c.in_ok-outcome.outcome) read.2
           (map said_by c.keep.new.self.files.items) c.keep.new.self.errors.items c.in_ok-keep.ensures.files c.in_ok-keep.ensures.errors;

@@ -17,7 +17,8 @@ returns-in_err-print_days-clause-err g c =
     let after = option_map (λ (k : Bor DayKey). day_key_rank k.now) c.as_ref.result in
     let puts = c.in_err-print_days.ensures.puts (after_day_key after days.0) days.2 in
     on_err c.from_residual-in_err-print_days.result (
-    part-days (map said_by c.args.folder.now.files) c.args.folder.now.display c.args.request.now c.args.every_day.now days.0 after (g.O.Sink.taken c.args.out.now) (g.O.Sink.taken c.print_days.new.out) c.requires key days.1 puts.front)
+    part-days (map said_by c.args.folder.now.files) c.args.folder.now.display c.args.request.now c.args.every_day.now days.0 after
+    (g.O.Sink.taken c.args.out.now) (g.O.Sink.taken c.print_days.new.out) c.requires key days.1 puts.front)
 
 pub returns-in_err-write-in-Some-clause-err : goal.returns-in_err-write-in-Some-clause-err
 returns-in_err-write-in-Some-clause-err g c =
@@ -26,7 +27,9 @@ returns-in_err-write-in-Some-clause-err g c =
     let after = option_map (λ (k : Bor DayKey). day_key_rank k.now) c.as_ref.result in
     let puts = c.in_ok-print_days.ensures.puts (after_day_key after days.0) days.2 in
     on_err c.from_residual-in_err-write-in-Some.result (
-    part-days (map said_by c.args.folder.now.files) c.args.folder.now.display c.args.request.now c.args.every_day.now days.0 after (g.O.Sink.taken c.args.out.now) (g.O.Sink.taken c.print_days.new.out) c.requires key days.1 (whole-front (g.O.Sink.taken c.args.out.now) (g.O.Sink.taken c.print_days.new.out) _ puts.text))
+    part-days (map said_by c.args.folder.now.files) c.args.folder.now.display c.args.request.now c.args.every_day.now days.0 after
+    (g.O.Sink.taken c.args.out.now) (g.O.Sink.taken c.print_days.new.out) c.requires key days.1
+    (whole-front (g.O.Sink.taken c.args.out.now) (g.O.Sink.taken c.print_days.new.out) _ puts.text))
 
 pub returns-in-None-clause-ok : goal.returns-in-None-clause-ok
 returns-in-None-clause-ok g c =
@@ -34,8 +37,12 @@ returns-in-None-clause-ok g c =
     let key = copied-key day_key_rank c.as_ref.result c.args.every_day.now.after c.as_ref.ensures.value in
     let after = option_map (λ (k : Bor DayKey). day_key_rank k.now) c.as_ref.result in
     let puts = c.in_ok-print_days.ensures.puts (after_day_key after days.0) days.2 in
-    let token = ap (option_map day_spelling) (sym (ap (option_map day_key_rank) c.in-None.is) ∙ puts.key) in
-    (_, shows-days (map said_by c.args.folder.now.files) c.args.folder.now.display c.args.request.now c.args.every_day.now days.0 after _ c.requires key days.1 token, puts.text)
+    let token = ap (option_map day_spelling) (sym (ap (option_map day_key_rank) c.in-None.is) ∙ puts.key) in (
+      _,
+      shows-days (map said_by c.args.folder.now.files) c.args.folder.now.display c.args.request.now c.args.every_day.now days.0 after _ c.requires key days.1
+          token,
+      puts.text,
+    )
 
 pub returns-clause-ok : goal.returns-clause-ok
 returns-clause-ok g c =
@@ -43,5 +50,9 @@ returns-clause-ok g c =
     let key = copied-key day_key_rank c.as_ref.result c.args.every_day.now.after c.as_ref.ensures.value in
     let after = option_map (λ (k : Bor DayKey). day_key_rank k.now) c.as_ref.result in
     let puts = c.in_ok-print_days.ensures.puts (after_day_key after days.0) days.2 in
-    let token = ap Some c.in_ok-write-in-Some.ensures ∙ ap (option_map day_spelling) (sym (ap (option_map day_key_rank) c.in-Some.is) ∙ puts.key) in
-    (_, shows-days (map said_by c.args.folder.now.files) c.args.folder.now.display c.args.request.now c.args.every_day.now days.0 after _ c.requires key days.1 token, puts.text)
+    let token = ap Some c.in_ok-write-in-Some.ensures ∙ ap (option_map day_spelling) (sym (ap (option_map day_key_rank) c.in-Some.is) ∙ puts.key) in (
+      _,
+      shows-days (map said_by c.args.folder.now.files) c.args.folder.now.display c.args.request.now c.args.every_day.now days.0 after _ c.requires key days.1
+          token,
+      puts.text,
+    )

@@ -7,13 +7,16 @@ use Rattle.khal_list.proofs.running.list_once.Goals as goal
 
 pub returns-in_err-print-clause-err : goal.returns-in_err-print-clause-err
 returns-in_err-print-clause-err g c =
-    let whole = asked (map said_by c.args.folder.now.files) c.args.folder.now.display c.args.request.now _ _ c.requires (copied-key key_rank c.as_ref.result c.args.request.now.after c.as_ref.ensures.value) c.in_ok-agenda.ensures.behind in
+    let whole = asked (map said_by c.args.folder.now.files) c.args.folder.now.display c.args.request.now _ _ c.requires
+    (copied-key key_rank c.as_ref.result c.args.request.now.after c.as_ref.ensures.value) c.in_ok-agenda.ensures.behind in
     on_err c.from_residual-in_err-print.result (
-    part-once (map said_by c.args.folder.now.files) c.args.request.now _ (g.O.Sink.taken c.args.out.now) (g.O.Sink.taken c.print.new.out) whole c.in_err-print.ensures.front)
+    part-once (map said_by c.args.folder.now.files) c.args.request.now _ (g.O.Sink.taken c.args.out.now) (g.O.Sink.taken c.print.new.out) whole
+    c.in_err-print.ensures.front)
 
 pub returns-in_err-write-in-Some-clause-err : goal.returns-in_err-write-in-Some-clause-err
 returns-in_err-write-in-Some-clause-err g c =
-    let whole = asked (map said_by c.args.folder.now.files) c.args.folder.now.display c.args.request.now _ _ c.requires (copied-key key_rank c.as_ref.result c.args.request.now.after c.as_ref.ensures.value) c.in_ok-agenda.ensures.behind in
+    let whole = asked (map said_by c.args.folder.now.files) c.args.folder.now.display c.args.request.now _ _ c.requires
+    (copied-key key_rank c.as_ref.result c.args.request.now.after c.as_ref.ensures.value) c.in_ok-agenda.ensures.behind in
     on_err c.from_residual-in_err-write-in-Some.result (
     part-once (map said_by c.args.folder.now.files) c.args.request.now _ (g.O.Sink.taken c.args.out.now) (g.O.Sink.taken c.print.new.out) whole
     (whole-front (g.O.Sink.taken c.args.out.now) (g.O.Sink.taken c.print.new.out) _ c.in_ok-print.ensures.text))

@@ -10,16 +10,19 @@ use Rattle.khal_list.proofs.running.run.Goals as goal
 pub returns-in_err-reading-clause-stops : goal.returns-in_err-reading-clause-stops
 returns-in_err-reading-clause-stops g c =
     on_err c.from_residual.result (
-    stops-reading g.S.Source.reads (g.S.Source.names c.args.source.now) c.args.source.now c.read_all.new.source g.Z.ZoneSource.finds c.args.zones.now c.read_all.new.zones c.args.request.now
+    stops-reading g.S.Source.reads (g.S.Source.names c.args.source.now) c.args.source.now c.read_all.new.source g.Z.ZoneSource.finds c.args.zones.now
+    c.read_all.new.zones c.args.request.now
     (g.O.Sink.taken c.args.out.now) (g.E.Sink.taken c.args.err.now) c.in_err-reading.ensures.some)
 
 pub returns-in_err-put_all-clause-stops : goal.returns-in_err-put_all-clause-stops
 returns-in_err-put_all-clause-stops g c =
     let all = c.in_ok-reading.ensures.all in
     on_err c.from_residual-in_err-put_all.result (
-    stops-lines g.S.Source.reads (g.S.Source.names c.args.source.now) c.args.source.now c.read_all.new.source g.Z.ZoneSource.finds c.args.zones.now c.read_all.new.zones c.args.request.now
+    stops-lines g.S.Source.reads (g.S.Source.names c.args.source.now) c.args.source.now c.read_all.new.source g.Z.ZoneSource.finds c.args.zones.now
+    c.read_all.new.zones c.args.request.now
     (g.O.Sink.taken c.args.out.now) (g.E.Sink.taken c.args.err.now)
-    all.0 all.1 (map said_by c.in_ok-reading.reading.files.items) c.in_ok-reading.reading.errors.items all.2 all.3 all.4 c.deref.result.now c.deref.ensures.value
+    all.0 all.1 (map said_by c.in_ok-reading.reading.files.items) c.in_ok-reading.reading.errors.items all.2 all.3 all.4 c.deref.result.now
+    c.deref.ensures.value
     (g.E.Sink.taken c.put_all.new.sink) c.in_err-put_all.ensures.err)
 
 pub returns-in_err-token-clause-stops : goal.returns-in_err-token-clause-stops
@@ -27,10 +30,12 @@ returns-in_err-token-clause-stops g c =
     let all = c.in_ok-reading.ensures.all in
     let told = g.E.Sink.taken c.args.err.now in
     let wrote = appends-same told (g.E.Sink.taken c.put_all.new.sink) c.deref.ensures.value c.in_ok-put_all.ensures.ok in
-    on_err {P = Stops g.S.Source.reads (g.S.Source.names c.args.source.now) c.args.source.now c.read_all.new.source g.Z.ZoneSource.finds c.args.zones.now c.read_all.new.zones c.args.request.now
+    on_err {P = Stops g.S.Source.reads (g.S.Source.names c.args.source.now) c.args.source.now c.read_all.new.source g.Z.ZoneSource.finds c.args.zones.now
+    c.read_all.new.zones c.args.request.now
     (g.O.Sink.taken c.args.out.now) (g.O.Sink.taken c.list.new.out) (g.E.Sink.taken c.args.err.now) (g.E.Sink.taken c.put_all.new.sink)}
     c.from_residual-in_err-token.result (
-    stops g.S.Source.reads (g.S.Source.names c.args.source.now) c.args.source.now c.read_all.new.source g.Z.ZoneSource.finds c.args.zones.now c.read_all.new.zones c.args.request.now
+    stops g.S.Source.reads (g.S.Source.names c.args.source.now) c.args.source.now c.read_all.new.source g.Z.ZoneSource.finds c.args.zones.now
+    c.read_all.new.zones c.args.request.now
     (g.O.Sink.taken c.args.out.now) (g.O.Sink.taken c.list.new.out) told (g.E.Sink.taken c.put_all.new.sink)
     all.0 all.1 (map said_by c.in_ok-reading.reading.files.items) c.in_ok-reading.reading.errors.items all.2 all.3 all.4 wrote c.in_err-token.ensures.err)
 
@@ -39,10 +44,12 @@ returns-in_err-put_more-clause-stops g c =
     let all = c.in_ok-reading.ensures.all in
     let told = g.E.Sink.taken c.args.err.now in
     let wrote = appends-same told (g.E.Sink.taken c.put_all.new.sink) c.deref.ensures.value c.in_ok-put_all.ensures.ok in
-    on_err {P = Stops g.S.Source.reads (g.S.Source.names c.args.source.now) c.args.source.now c.read_all.new.source g.Z.ZoneSource.finds c.args.zones.now c.read_all.new.zones c.args.request.now
+    on_err {P = Stops g.S.Source.reads (g.S.Source.names c.args.source.now) c.args.source.now c.read_all.new.source g.Z.ZoneSource.finds c.args.zones.now
+    c.read_all.new.zones c.args.request.now
     (g.O.Sink.taken c.args.out.now) (g.O.Sink.taken c.list.new.out) (g.E.Sink.taken c.args.err.now) (g.E.Sink.taken c.put_more.new.err)}
     c.from_residual-in_err-put_more.result (
-    stops-more g.S.Source.reads (g.S.Source.names c.args.source.now) c.args.source.now c.read_all.new.source g.Z.ZoneSource.finds c.args.zones.now c.read_all.new.zones c.args.request.now
+    stops-more g.S.Source.reads (g.S.Source.names c.args.source.now) c.args.source.now c.read_all.new.source g.Z.ZoneSource.finds c.args.zones.now
+    c.read_all.new.zones c.args.request.now
     (g.O.Sink.taken c.args.out.now) (g.O.Sink.taken c.list.new.out) told (g.E.Sink.taken c.put_all.new.sink)
     all.0 all.1 (map said_by c.in_ok-reading.reading.files.items) c.in_ok-reading.reading.errors.items all.2 all.3 all.4 wrote
     (option_map string_bytes c.in_ok-token.token) c.in_ok-token.ensures.ok (g.E.Sink.taken c.put_more.new.err) c.in_err-put_more.ensures.err)
@@ -52,7 +59,8 @@ returns-clause-lists g c =
     let all = c.in_ok-reading.ensures.all in
     let told = g.E.Sink.taken c.args.err.now in
     let wrote = appends-same told (g.E.Sink.taken c.put_all.new.sink) c.deref.ensures.value c.in_ok-put_all.ensures.ok in
-    lists g.S.Source.reads (g.S.Source.names c.args.source.now) c.args.source.now c.read_all.new.source g.Z.ZoneSource.finds c.args.zones.now c.read_all.new.zones c.args.request.now
+    lists g.S.Source.reads (g.S.Source.names c.args.source.now) c.args.source.now c.read_all.new.source g.Z.ZoneSource.finds c.args.zones.now
+    c.read_all.new.zones c.args.request.now
     (g.O.Sink.taken c.args.out.now) (g.O.Sink.taken c.list.new.out) told (g.E.Sink.taken c.put_all.new.sink)
     all.0 all.1 (map said_by c.in_ok-reading.reading.files.items) c.in_ok-reading.reading.errors.items all.2 all.3 all.4 wrote
     (option_map string_bytes c.in_ok-token.token) c.in_ok-token.ensures.ok (g.E.Sink.taken c.put_more.new.err) c.in_ok-put_more.ensures.ok

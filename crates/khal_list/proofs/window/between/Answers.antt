@@ -7,7 +7,8 @@ use Rattle.ics_zone.specs.JiffZones.{zone_of}
 use Rattle.khal_list.specs.Windows.{first_start, last_end}
 use Rattle.khal_list.proofs.WindowLemmas.{between-apart, between-falling, between-rising}
 use Rattle.khal_list.proofs.window.between.Goals as goal
-use Rattle.khal_list.proofs.window.between.Goals.{then-end-lt-FIRST_DAY-via-then-end-lt-FIRST_DAY, then-end-lt-FIRST_DAY-via-else-end-lt-FIRST_DAY+then-start-gt-LAST_DAY}
+use Rattle.khal_list.proofs.window.between.Goals.{then-end-lt-FIRST_DAY-via-then-end-lt-FIRST_DAY}
+use Rattle.khal_list.proofs.window.between.Goals.{then-end-lt-FIRST_DAY-via-else-end-lt-FIRST_DAY+then-start-gt-LAST_DAY}
 
 pub returns-then-end-lt-FIRST_DAY-clause-ends : goal.returns-then-end-lt-FIRST_DAY-clause-ends
 returns-then-end-lt-FIRST_DAY-clause-ends c =
@@ -43,7 +44,8 @@ returns-then-from-to-clause-ends c =
     let end_fits : FitsSigned w64 c.seconds-else-seconds-lt-FIRST_START.result = search rules in
     let early : first_start ≤ℤ start = omega (arith, signed_arith) in
     let late : end ≤ℤ last_end = omega (arith, signed_arith) in
-    let rise : moment_of (zone_of c.args.zone) start <ℤ moment_of (zone_of c.args.zone) end = rw (← c.instant-from.ensures.value, ← c.instant-to.ensures.value) (omega (arith, signed_arith)) in
+    let rise : moment_of (zone_of c.args.zone) start <ℤ moment_of (zone_of c.args.zone) end =
+    rw (← c.instant-from.ensures.value, ← c.instant-to.ensures.value) (omega (arith, signed_arith)) in
     simp to_z-of_z (rw (c.instant-from.ensures.value, c.instant-to.ensures.value) (between-rising c.args.zone start end early late rise))
 
 pub returns-else-from-to-clause-ends : goal.returns-else-from-to-clause-ends
@@ -52,5 +54,6 @@ returns-else-from-to-clause-ends c =
     let end : ℤ = local_seconds c.args.end in
     let from_fits : FitsSigned w64 c.instant-from.result = search rules in
     let to_fits : FitsSigned w64 c.instant-to.result = search rules in
-    let late : moment_of (zone_of c.args.zone) end ≤ℤ moment_of (zone_of c.args.zone) start = rw (← c.instant-from.ensures.value, ← c.instant-to.ensures.value) (omega (arith, signed_arith)) in
+    let late : moment_of (zone_of c.args.zone) end ≤ℤ moment_of (zone_of c.args.zone) start =
+    rw (← c.instant-from.ensures.value, ← c.instant-to.ensures.value) (omega (arith, signed_arith)) in
     between-falling c.args.zone start end late

@@ -13,6 +13,7 @@ returns-clause-bound c =
     let near = offset_near (zone_of c.args.zone) c.args.now in
     let now_fits : FitsSigned w64 c.args.now = search rules in
     let day_fits : FitsSigned w32 c.local-day.result.day = search rules in
-    let shown : seconds_at c.local-day.result.day c.local-day.result.second ≡ (c.args.now +ℤ offset_of (zone_of c.args.zone) c.args.now) = simp to_z-of_z at c.local-day.ensures in
+    let shown : seconds_at c.local-day.result.day c.local-day.result.second ≡ (c.args.now +ℤ offset_of (zone_of c.args.zone) c.args.now) =
+    simp to_z-of_z at c.local-day.ensures in
     let day : IsEpochDay c.local-day.result.day = (omega (arith, signed_arith), omega (arith, signed_arith)) in
     (omega (arith, signed_arith), omega (arith, signed_arith))

@@ -15,4 +15,5 @@ returns-in-Ok-clause-value c =
     let exists : IsDate (pos c.args.year) (pos c.args.month) (pos c.args.day) = rw (year, month, day) at (c.new.ensures.succeeds.0 ok) in
     let parts : IsYmd (pos c.args.year) (pos c.args.month) (pos c.args.day) c.in-Ok.date = rw (year, month, day) at (rw c.in-Ok.is at c.new.ensures.value) in
     let fits : FitsSigned w32 c.to_unix_epoch_day.result = omega (arith, signed_arith) in
-    simp to_z-of_z (ap Some (c.to_unix_epoch_day.ensures.value ∙ day_is _ _ _ c.in-Ok.date parts) ∙ sym (day_number_is c.args.year c.args.month c.args.day exists))
+    simp to_z-of_z (ap Some (c.to_unix_epoch_day.ensures.value ∙ day_is _ _ _ c.in-Ok.date parts)
+    ∙ sym (day_number_is c.args.year c.args.month c.args.day exists))

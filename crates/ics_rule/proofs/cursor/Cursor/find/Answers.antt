@@ -11,13 +11,16 @@ use Rattle.ics_rule.proofs.cursor.Cursor.find.Goals.{in-Some+else-period-number,
 pub returns-then-period-number-clause-next : goal.returns-then-period-number-clause-next
 returns-then-period-number-clause-next c =
     let own = rw c.in-Some.is at c.requires.held in
-    next_same (is_taken c.args.parts.now.positions (lists_none_wide c.args.parts.now.positions) c.in-Some.period) (is_chosen_within c.args.parts.now c.args.start c.args.number) c.args.self.now.place c.next_taken.result
+    next_same (is_taken c.args.parts.now.positions (lists_none_wide c.args.parts.now.positions) c.in-Some.period)
+    (is_chosen_within c.args.parts.now c.args.start c.args.number) c.args.self.now.place c.next_taken.result
     (taken_within c.args.parts.now c.args.start c.in-Some.period c.args.number own.0 c.if-period-number.true c.requires.step) c.next_taken.ensures.next
 
 pub returns-clause-next : goal.returns-clause-next
 returns-clause-next c =
-    next_same (is_taken c.args.parts.now.positions (lists_none_wide c.args.parts.now.positions) c.look_at.result) (is_chosen_within c.args.parts.now c.args.start c.args.number) c.args.self.now.place c.next_taken-2.result
-    (taken_within c.args.parts.now c.args.start c.look_at.result c.args.number c.look_at.ensures.product c.look_at.ensures.number c.requires.step) c.next_taken-2.ensures.next
+    next_same (is_taken c.args.parts.now.positions (lists_none_wide c.args.parts.now.positions) c.look_at.result)
+    (is_chosen_within c.args.parts.now c.args.start c.args.number) c.args.self.now.place c.next_taken-2.result
+    (taken_within c.args.parts.now c.args.start c.look_at.result c.args.number c.look_at.ensures.product c.look_at.ensures.number c.requires.step)
+    c.next_taken-2.ensures.next
 
 pub returns-clause-steps : goal.returns-clause-steps
 returns-clause-steps c = elim c.match-self.branch [
@@ -38,7 +41,9 @@ returns-clause-begun c = λ before. begins_look 0 c.match-self.self c.look_at.ne
 pub returns-clause-moved : goal.returns-clause-moved
 returns-clause-moved c = elim c.match-self.branch [
   | in-Some+else-period-number w ↦
-      looks_more 0 c.args.self.now c.look_at.new.self c.look_at.result (c.look_at.ensures.cursor ∙ ap (λ (s : Cursor). after_look s c.look_at.result 0) w.self-is)
+      looks_more 0 c.args.self.now c.look_at.new.self c.look_at.result (c.look_at.ensures.cursor
+      ∙ ap (λ (s : Cursor). after_look s c.look_at.result 0) w.self-is)
   | in_default w ↦
-      looks_more 0 c.args.self.now c.look_at.new.self c.look_at.result (c.look_at.ensures.cursor ∙ ap (λ (s : Cursor). after_look s c.look_at.result 0) w.self-is)
+      looks_more 0 c.args.self.now c.look_at.new.self c.look_at.result (c.look_at.ensures.cursor
+      ∙ ap (λ (s : Cursor). after_look s c.look_at.result 0) w.self-is)
 ]

@@ -17,31 +17,39 @@ start_is c = c.number.ensures.value ∙ ap (λ (r : Recurrence). number r.start)
 pub next_number-requires-clause-own : goal.next_number-requires-clause-own
 unfolding IsCursorOf
 next_number-requires-clause-own c =
-    subst (λ s. IsCursorIn (effective c.args.rule.now) s c.args.rule.now.parts.count c.args.self.now) (sym (start_is (goal.at.next_number-requires-clause-own c).After-number)) c.requires.own
+    subst (λ s. IsCursorIn (effective c.args.rule.now) s c.args.rule.now.parts.count c.args.self.now)
+    (sym (start_is (goal.at.next_number-requires-clause-own c).After-number)) c.requires.own
 
 pub returns-in_err-n-clause-own : goal.returns-in_err-n-clause-own
 unfolding IsCursorOf
 returns-in_err-n-clause-own c =
-    subst (λ s. IsCursorIn (effective c.args.rule.now) s c.args.rule.now.parts.count c.next_number.new.self) (start_is (goal.at.returns-in_err-n-clause-own c).After-number) c.next_number.ensures.own
+    subst (λ s. IsCursorIn (effective c.args.rule.now) s c.args.rule.now.parts.count c.next_number.new.self)
+    (start_is (goal.at.returns-in_err-n-clause-own c).After-number) c.next_number.ensures.own
 
 pub returns-in_err-n-clause-looked : goal.returns-in_err-n-clause-looked
 unfolding HasLooked
 returns-in_err-n-clause-looked c = λ a b h few.
-    subst (λ s. HasLookedIn (effective c.args.rule.now) s c.args.rule.now.parts.count c.next_number.new.self a b) (start_is (goal.at.returns-in_err-n-clause-looked c).After-number)
-    (c.in_err-n.ensures.looked a b (omega (arith, c.number-2.ensures.value, subst (λ o. known_to (option_map number o) (number c.args.before) ≤ b) c.from_residual.ensures h))
-    (subst (λ s. HasLookedIn (effective c.args.rule.now) s c.args.rule.now.parts.count c.args.self.now a b) (sym (start_is (goal.at.returns-in_err-n-clause-looked c).After-number)) few))
+    subst (λ s. HasLookedIn (effective c.args.rule.now) s c.args.rule.now.parts.count c.next_number.new.self a b)
+    (start_is (goal.at.returns-in_err-n-clause-looked c).After-number)
+    (c.in_err-n.ensures.looked a b
+    (omega (arith, c.number-2.ensures.value, subst (λ o. known_to (option_map number o) (number c.args.before) ≤ b) c.from_residual.ensures h))
+    (subst (λ s. HasLookedIn (effective c.args.rule.now) s c.args.rule.now.parts.count c.args.self.now a b)
+    (sym (start_is (goal.at.returns-in_err-n-clause-looked c).After-number)) few))
 
 pub returns-clause-own : goal.returns-clause-own
 unfolding IsCursorOf
 returns-clause-own c =
-    subst (λ s. IsCursorIn (effective c.args.rule.now) s c.args.rule.now.parts.count c.next_number.new.self) (start_is (goal.at.returns-clause-own c).After-number) c.next_number.ensures.own
+    subst (λ s. IsCursorIn (effective c.args.rule.now) s c.args.rule.now.parts.count c.next_number.new.self)
+    (start_is (goal.at.returns-clause-own c).After-number) c.next_number.ensures.own
 
 pub returns-clause-looked : goal.returns-clause-looked
 unfolding HasLooked
 returns-clause-looked c = λ a b h few.
-    subst (λ s. HasLookedIn (effective c.args.rule.now) s c.args.rule.now.parts.count c.next_number.new.self a b) (start_is (goal.at.returns-clause-looked c).After-number)
+    subst (λ s. HasLookedIn (effective c.args.rule.now) s c.args.rule.now.parts.count c.next_number.new.self a b)
+    (start_is (goal.at.returns-clause-looked c).After-number)
     (c.in_ok-n.ensures.looked a b (omega (arith, h, c.numbered.ensures.value))
-    (subst (λ s. HasLookedIn (effective c.args.rule.now) s c.args.rule.now.parts.count c.args.self.now a b) (sym (start_is (goal.at.returns-clause-looked c).After-number)) few))
+    (subst (λ s. HasLookedIn (effective c.args.rule.now) s c.args.rule.now.parts.count c.args.self.now a b)
+    (sym (start_is (goal.at.returns-clause-looked c).After-number)) few))
 
 none_counted : (r : Recurrence) (o : Option Local) (before now : Cursor) → o ≡ None → before.steps ≤ now.steps → HasCounted r o before now
 none_counted r None before now e rise = record { rise = rise; some = tt; more = tt }

@@ -10,29 +10,37 @@ use Rattle.ics_rule.proofs.cursor.Cursor.next_number.Goals as goal
 
 abbrev Found : Recurrence → ℕ → ℕ → ℕ → ℕ → Option ℕ → ℕ → Type 0
 Found r start place end stop o now =
-    MatchOption o (NoneWanted (effective r) start r.parts.count place stop × (now ≡ max place end)) (λ n. IsNextBefore (effective r) start r.parts.count place stop n × (now ≡ n + 1))
+    MatchOption o (NoneWanted (effective r) start r.parts.count place stop
+    × (now ≡ max place end)) (λ n. IsNextBefore (effective r) start r.parts.count place stop n × (now ≡ n + 1))
 
 pub returns-then-start-end-clause-next : goal.returns-then-start-end-clause-next
 returns-then-start-end-clause-next c = (
   subst (λ s. IsNextKept c.args.rule.now c.args.self.now.place c.args.end s) (sym c.requires.start)
-      (next_start c.args.rule.now c.args.self.now.place c.args.end (omega (arith, c.requires.start, c.if-place-start.true)) (omega (arith, c.requires.start, c.if-start-end.true))),
+      (next_start c.args.rule.now c.args.self.now.place c.args.end (omega (arith, c.requires.start, c.if-place-start.true))
+      (omega (arith, c.requires.start, c.if-start-end.true))),
   refl,
 )
 
 pub returns-then-start-end-clause-own : goal.returns-then-start-end-clause-own
-returns-then-start-end-clause-own c = own_at (effective c.args.rule.now) c.args.start c.args.rule.now.parts.count c.args.self.now (c.args.start + 1) c.requires.own (omega (arith, c.if-place-start.true)) (omega (arith, c.if-start-end.true, c.requires.end))
+returns-then-start-end-clause-own c = own_at (effective c.args.rule.now) c.args.start c.args.rule.now.parts.count c.args.self.now (c.args.start + 1)
+    c.requires.own (omega (arith, c.if-place-start.true)) (omega (arith, c.if-start-end.true, c.requires.end))
 
 pub returns-then-place-start-clause-next : goal.returns-then-place-start-clause-next
-returns-then-place-start-clause-next c = (none_early c.args.rule.now c.args.self.now.place c.args.end (omega (arith, c.requires.start, c.if-start-end.false)), c.max-self.ensures)
+returns-then-place-start-clause-next c =
+    (none_early c.args.rule.now c.args.self.now.place c.args.end (omega (arith, c.requires.start, c.if-start-end.false)), c.max-self.ensures)
 
 pub returns-then-place-start-clause-own : goal.returns-then-place-start-clause-own
-returns-then-place-start-clause-own c = own_at (effective c.args.rule.now) c.args.start c.args.rule.now.parts.count c.args.self.now c.max-self.result c.requires.own (omega (arith, c.max-self.ensures)) (omega (arith, c.max-self.ensures, c.requires.own.inside, c.requires.end))
+returns-then-place-start-clause-own c = own_at (effective c.args.rule.now) c.args.start c.args.rule.now.parts.count c.args.self.now c.max-self.result
+    c.requires.own (omega (arith, c.max-self.ensures)) (omega (arith, c.max-self.ensures, c.requires.own.inside, c.requires.end))
 
 pub returns-clause-next : goal.returns-clause-next
 returns-clause-next c =
     kept_answer c.args.rule.now c.args.self.now.place c.args.end c.until_end.result
     (omega (arith, c.requires.start, c.if-place-start.false)) c.requires.end
-    (λ n h. sym (ap (λ (r : Recurrence). is_by_until r.kind r.parts.until n) c.rule.view_is) ∙ ap (λ u. is_by_until c.rule.inside.kind u n) (sym c.until.ensures.value) ∙ c.until_end.ensures n h)
+    (λ n h. sym (ap (λ (r : Recurrence). is_by_until r.kind r.parts.until n) c.rule.view_is)
+    ∙ ap (λ u. is_by_until c.rule.inside.kind u n) (sym c.until.ensures.value) ∙ c.until_end.ensures n h)
     c.search.result c.search.new.self.place
-    (subst (λ s. Found c.args.rule.now s c.args.self.now.place c.args.end (min c.args.end c.until_end.result) c.search.result c.search.new.self.place) c.requires.start
-    (subst (λ x. Found c.args.rule.now c.args.start c.args.self.now.place c.args.end x c.search.result c.search.new.self.place) c.min-stop.ensures c.search.ensures.next))
+    (subst (λ s. Found c.args.rule.now s c.args.self.now.place c.args.end (min c.args.end c.until_end.result) c.search.result c.search.new.self.place)
+    c.requires.start
+    (subst (λ x. Found c.args.rule.now c.args.start c.args.self.now.place c.args.end x c.search.result c.search.new.self.place) c.min-stop.ensures
+    c.search.ensures.next))

@@ -22,14 +22,16 @@ pub overflow_add-self-in-Some : goal.overflow_add-self-in-Some
 overflow_add-self-in-Some c =
     let turn = rw c.in-Some.is at c.requires.turn in
     let on = step_before c.args.parts.now c.args.start c.in-Some.period.number c.args.number turn.1.1 c.if-period-number.false in
-    let small = counted_small c.args.parts.now c.args.start c.args.count c.args.number c.args.self.now.counted c.args.self.now.limit c.in-Some.period turn.1.0 (omega (arith, on.up)) c.requires.step c.requires.reach in
+    let small = counted_small c.args.parts.now c.args.start c.args.count c.args.number c.args.self.now.counted c.args.self.now.limit c.in-Some.period turn.1.0
+    (omega (arith, on.up)) c.requires.step c.requires.reach in
     omega (arith, small, c.taken_before-before.ensures.bound)
 
 pub returns-then-self-before-clause-turned : goal.returns-then-self-before-clause-turned
 returns-then-self-before-clause-turned c =
     let turn = rw c.in-Some.is at c.requires.turn in
     let on = step_before c.args.parts.now c.args.start c.in-Some.period.number c.args.number turn.1.1 c.if-period-number.false in (
-      counted_out c.args.parts.now c.args.start c.args.count c.args.number c.taken_before-before.result 315_569_519_999 c.args.self.now.counted c.args.self.now.limit c.in-Some.period c.requires.interval turn.0 turn.1.0 on
+      counted_out c.args.parts.now c.args.start c.args.count c.args.number c.taken_before-before.result 315_569_519_999 c.args.self.now.counted
+          c.args.self.now.limit c.in-Some.period c.requires.interval turn.0 turn.1.0 on
           (omega (arith, c.requires.reach)) c.taken_before-before.ensures.value c.if-self-before.true,
       refl,
     )
@@ -37,9 +39,11 @@ returns-then-self-before-clause-turned c =
 pub returns-in-None-clause-turned : goal.returns-in-None-clause-turned
 returns-in-None-clause-turned c =
     let turn = rw c.in-None.is at c.requires.turn in
-    turned_first c.args.parts.now c.args.start c.args.count c.args.number _ c.taken_before.result _ c.look_at-period.result c.requires.interval c.requires.count turn c.requires.step
+    turned_first c.args.parts.now c.args.start c.args.count c.args.number _ c.taken_before.result _ c.look_at-period.result c.requires.interval c.requires.count
+    turn c.requires.step
     c.look_at-period.ensures.product c.look_at-period.ensures.number
-    (ap (λ (s : Cursor). s.held) c.look_at-period.ensures.cursor) (ap (λ (s : Cursor). s.counted) c.look_at-period.ensures.cursor) refl refl c.taken_before.ensures.value
+    (ap (λ (s : Cursor). s.held) c.look_at-period.ensures.cursor) (ap (λ (s : Cursor). s.counted) c.look_at-period.ensures.cursor) refl refl
+    c.taken_before.ensures.value
 
 pub returns-in-None-clause-steps : goal.returns-in-None-clause-steps
 returns-in-None-clause-steps c = looks_once c.args.number 0 c.args.self.now c.look_at-period.new.self c.look_at-period.result
@@ -49,24 +53,29 @@ pub returns-else-self-before-clause-turned : goal.returns-else-self-before-claus
 returns-else-self-before-clause-turned c =
     let turn = rw c.in-Some.is at c.requires.turn in
     let on = step_before c.args.parts.now c.args.start c.in-Some.period.number c.args.number turn.1.1 c.if-period-number.false in
-    turned_on c.args.parts.now c.args.start c.args.count c.args.number _ c.taken_before-before.result 315_569_519_999 c.args.self.now c.look_at.new.self c.in-Some.period c.look_at.result c.requires.interval turn.0 turn.1.0 on
-    (omega (arith, c.requires.reach)) refl c.taken_before-before.ensures.value c.requires.step c.look_at.ensures.product c.look_at.ensures.number c.look_at.ensures.cursor
+    turned_on c.args.parts.now c.args.start c.args.count c.args.number _ c.taken_before-before.result 315_569_519_999 c.args.self.now c.look_at.new.self
+    c.in-Some.period c.look_at.result c.requires.interval turn.0 turn.1.0 on
+    (omega (arith, c.requires.reach)) refl c.taken_before-before.ensures.value c.requires.step c.look_at.ensures.product c.look_at.ensures.number
+    c.look_at.ensures.cursor
 
 pub returns-else-self-before-clause-steps : goal.returns-else-self-before-clause-steps
 returns-else-self-before-clause-steps c =
     let turn = rw c.in-Some.is at c.requires.turn in
     let on = step_before c.args.parts.now c.args.start c.in-Some.period.number c.args.number turn.1.1 c.if-period-number.false in
     looks_once c.args.number (c.args.self.now.counted + c.taken_before-before.result) c.args.self.now c.look_at.new.self c.look_at.result
-    (fresh_some c.args.number c.args.self.now.held c.in-Some.period c.in-Some.is (omega (arith, on.up)) c.if-period-number.false) c.look_at.ensures.cursor c.look_at.ensures.number
+    (fresh_some c.args.number c.args.self.now.held c.in-Some.period c.in-Some.is (omega (arith, on.up)) c.if-period-number.false) c.look_at.ensures.cursor
+    c.look_at.ensures.number
 
 pub returns-in-None-clause-begun : goal.returns-in-None-clause-begun
 returns-in-None-clause-begun c = λ before. begins_look 0 c.args.self.now c.look_at-period.new.self c.look_at-period.result c.look_at-period.ensures.cursor
 
 pub returns-else-self-before-clause-begun : goal.returns-else-self-before-clause-begun
-returns-else-self-before-clause-begun c = λ before. begins_look (c.args.self.now.counted + c.taken_before-before.result) c.args.self.now c.look_at.new.self c.look_at.result c.look_at.ensures.cursor
+returns-else-self-before-clause-begun c = λ before. begins_look (c.args.self.now.counted + c.taken_before-before.result) c.args.self.now c.look_at.new.self
+    c.look_at.result c.look_at.ensures.cursor
 
 pub returns-in-None-clause-moved : goal.returns-in-None-clause-moved
 returns-in-None-clause-moved c = looks_more 0 c.args.self.now c.look_at-period.new.self c.look_at-period.result c.look_at-period.ensures.cursor
 
 pub returns-else-self-before-clause-moved : goal.returns-else-self-before-clause-moved
-returns-else-self-before-clause-moved c = looks_more (c.args.self.now.counted + c.taken_before-before.result) c.args.self.now c.look_at.new.self c.look_at.result c.look_at.ensures.cursor
+returns-else-self-before-clause-moved c =
+    looks_more (c.args.self.now.counted + c.taken_before-before.result) c.args.self.now c.look_at.new.self c.look_at.result c.look_at.ensures.cursor

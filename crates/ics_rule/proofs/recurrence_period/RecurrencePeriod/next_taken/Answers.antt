@@ -20,16 +20,19 @@ returns-in-Some-clause-next c =
     (subst (λ x. IsLeastFrom (is_listed c.args.positions.now c.size.result) x c.in-Some.place) c.rank_before.ensures.value
     (subst (λ positions. IsLeastFrom (is_listed positions c.size.result) c.rank_before.result c.in-Some.place) c.positions.view_is c.in-Some.ensures.0)) in
     subst (λ b. IsLeastFrom (is_taken c.args.positions.now b c.args.self.now) c.args.n c.nth.result) (sym some)
-    (next_ranked (holds c.args.self.now) (is_listed c.args.positions.now (count calendar_end (holds c.args.self.now))) c.args.n c.in-Some.place c.nth.result next c.nth.ensures.nth)
+    (next_ranked (holds c.args.self.now) (is_listed c.args.positions.now (count calendar_end (holds c.args.self.now))) c.args.n c.in-Some.place c.nth.result
+    next c.nth.ensures.nth)
 
 pub returns-in-None-clause-next : goal.returns-in-None-clause-next
 returns-in-None-clause-next c =
     let some : lists_none_wide c.args.positions.now ≡ false = sym c.is_empty.ensures ∙ c.if-is_empty.false in
     subst (λ b. (m : ℕ) → c.args.n ≤ m → is_taken c.args.positions.now b c.args.self.now m ≡ false) (sym some)
-    (none_ranked (holds c.args.self.now) (is_listed c.args.positions.now (count calendar_end (holds c.args.self.now))) c.args.n c.size.result calendar_end c.size.ensures.value
+    (none_ranked (holds c.args.self.now) (is_listed c.args.positions.now (count calendar_end (holds c.args.self.now))) c.args.n c.size.result calendar_end
+    c.size.ensures.value
     (holds_past c.args.self.now c.requires.own.1.first)
     (λ k low high. ap (λ x. is_listed c.args.positions.now x k) (sym c.size.ensures.value)
-    ∙ ap (λ positions. is_listed positions c.size.result k) (sym c.positions.view_is) ∙ c.in-None.ensures k (omega (arith, low, c.rank_before.ensures.value)) high))
+    ∙ ap (λ positions. is_listed positions c.size.result k) (sym c.positions.view_is)
+    ∙ c.in-None.ensures k (omega (arith, low, c.rank_before.ensures.value)) high))
 
 pub returns-then-is_empty-clause-small : goal.returns-then-is_empty-clause-small
 returns-then-is_empty-clause-small c = next_small c.args.self.now c.args.n c.next_from.result c.requires.own.1.first c.next_from.ensures.next

@@ -8,9 +8,11 @@ use Rattle.ics_rule.proofs.ProductCounts.{nth-product, nth_of_days, clock_size, 
 use Rattle.ics_rule.proofs.recurrence_period.RecurrencePeriod.nth.Goals as goal
 use Rattle.ics_rule.proofs.recurrence_period.RecurrencePeriod.nth.Goals.{After-seconds_below-size}
 
-index : (c : After-seconds_below-size) → (c.args.k / c.seconds_below-size.result < count 384 (contains_wide c.args.self.now.days)) × (c.args.k % c.seconds_below-size.result < c.seconds_below-size.result)
+index : (c : After-seconds_below-size) → (c.args.k / c.seconds_below-size.result < count 384 (contains_wide c.args.self.now.days))
+    × (c.args.k % c.seconds_below-size.result < c.seconds_below-size.result)
 index c = block_index c.args.k (count 384 (contains_wide c.args.self.now.days)) c.seconds_below-size.result
-    (subst (λ x. c.args.k < x) (product_size c.args.self.now c.requires.own.1.first ∙ ap (λ x. count 384 (contains_wide c.args.self.now.days) * x) (sym c.seconds_below-size.ensures.value)) c.requires.index)
+    (subst (λ x. c.args.k < x) (product_size c.args.self.now c.requires.own.1.first
+    ∙ ap (λ x. count 384 (contains_wide c.args.self.now.days) * x) (sym c.seconds_below-size.ensures.value)) c.requires.index)
 
 pub nonzero_div-k : goal.nonzero_div-k
 nonzero_div-k c = let i = index (goal.at.nonzero_div-k c).After-seconds_below-size in omega (arith, i.1)
@@ -26,5 +28,7 @@ nth_second-requires-clause-index c = let i = index (goal.at.nth_second-requires-
     subst (λ x. c.args.k % c.seconds_below-size.result < x) (c.seconds_below-size.ensures.value ∙ clock_size c.args.self.now) i.1
 
 pub returns-clause-nth : goal.returns-clause-nth
-returns-clause-nth c = nth-product 86_400 c.seconds_below-size.result c.args.k (c.args.self.now.first_day + c.nth_day.result) c.nth_second.result (has_day c.args.self.now) (has_second c.args.self.now) c.seconds_below-size.ensures.value
-    (second_below c.args.self.now.hours c.args.self.now.minutes c.args.self.now.seconds c.nth_second.result c.requires.own.1.hours (IsNth.passes c.nth_second.ensures.nth)) (nth_of_days c.args.self.now _ c.nth_day.result c.nth_day.ensures.nth) c.nth_second.ensures.nth
+returns-clause-nth c = nth-product 86_400 c.seconds_below-size.result c.args.k (c.args.self.now.first_day + c.nth_day.result) c.nth_second.result
+    (has_day c.args.self.now) (has_second c.args.self.now) c.seconds_below-size.ensures.value
+    (second_below c.args.self.now.hours c.args.self.now.minutes c.args.self.now.seconds c.nth_second.result c.requires.own.1.hours
+    (IsNth.passes c.nth_second.ensures.nth)) (nth_of_days c.args.self.now _ c.nth_day.result c.nth_day.ensures.nth) c.nth_second.ensures.nth

@@ -11,10 +11,13 @@ use Rattle.ics_rule.proofs.recurrence_period.RecurrencePeriod.nth_second.Goals a
 pub nth_member-requires : goal.nth_member-requires
 nth_member-requires c =
     let i = block_index c.args.k (count 24 (contains c.args.self.now.hours) * count 60 (contains c.args.self.now.minutes)) c.members_below-size.result
-    (subst (λ x. c.args.k < count 24 (contains c.args.self.now.hours) * count 60 (contains c.args.self.now.minutes) * x) (sym c.members_below-size.ensures.value) c.requires.index) in
+    (subst (λ x. c.args.k < count 24 (contains c.args.self.now.hours) * count 60 (contains c.args.self.now.minutes) * x)
+    (sym c.members_below-size.ensures.value) c.requires.index) in
     let more = count_mono 60 64 (contains c.args.self.now.seconds) (omega arith) in
     omega (arith, i.1, more, c.members_below-size.ensures.value)
 
 pub returns-clause-nth : goal.returns-clause-nth
-returns-clause-nth c = nth-product 60 c.members_below-size.result c.args.k c.nth_minute.result c.nth_member.result (has_minute c.args.self.now.hours c.args.self.now.minutes) (contains c.args.self.now.seconds) c.members_below-size.ensures.value
-    (member_below c.args.self.now.seconds 60 c.nth_member.result c.requires.seconds (IsNth.passes c.nth_member.ensures.nth)) c.nth_minute.ensures.nth c.nth_member.ensures.nth
+returns-clause-nth c = nth-product 60 c.members_below-size.result c.args.k c.nth_minute.result c.nth_member.result
+    (has_minute c.args.self.now.hours c.args.self.now.minutes) (contains c.args.self.now.seconds) c.members_below-size.ensures.value
+    (member_below c.args.self.now.seconds 60 c.nth_member.result c.requires.seconds (IsNth.passes c.nth_member.ensures.nth)) c.nth_minute.ensures.nth
+    c.nth_member.ensures.nth

@@ -8,11 +8,13 @@ use Rattle.ics_rule.proofs.recurrence_period.RecurrencePeriod.seconds_below.Goal
 pub returns-then-contains-clause-value : goal.returns-then-contains-clause-value
 returns-then-contains-clause-value c = count_taken c.args.second 60 _ c.minutes_below.result c.members_below.result c.members_below-then-contains.result
     (has_minute c.args.self.now.hours c.args.self.now.minutes) (contains c.args.self.now.seconds) (omega arith)
-    (minute_true c.args.self.now.hours c.args.self.now.minutes (c.args.second / 60) c.contains.result c.contains-2.result (omega arith) c.contains.ensures c.contains-2.ensures ∙ c.if-contains.true)
+    (minute_true c.args.self.now.hours c.args.self.now.minutes (c.args.second / 60) c.contains.result c.contains-2.result (omega arith) c.contains.ensures
+    c.contains-2.ensures ∙ c.if-contains.true)
     refl c.minutes_below.ensures.value c.members_below.ensures.value c.members_below-then-contains.ensures.value
 
 pub returns-else-contains-clause-value : goal.returns-else-contains-clause-value
 returns-else-contains-clause-value c = count_left c.args.second 60 _ c.minutes_below.result c.members_below.result
     (has_minute c.args.self.now.hours c.args.self.now.minutes) (contains c.args.self.now.seconds) (omega arith)
-    (minute_true c.args.self.now.hours c.args.self.now.minutes (c.args.second / 60) c.contains.result c.contains-2.result (omega arith) c.contains.ensures c.contains-2.ensures ∙ c.if-contains.false)
+    (minute_true c.args.self.now.hours c.args.self.now.minutes (c.args.second / 60) c.contains.result c.contains-2.result (omega arith) c.contains.ensures
+    c.contains-2.ensures ∙ c.if-contains.false)
     refl c.minutes_below.ensures.value c.members_below.ensures.value

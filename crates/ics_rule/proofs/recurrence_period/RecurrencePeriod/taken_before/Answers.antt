@@ -8,7 +8,8 @@ use Rattle.ics_values.specs.Locals.{calendar_end}
 use Rattle.ics_rule.proofs.recurrence_period.RecurrencePeriod.taken_before.Goals as goal
 
 pub listed_below-requires-clause-some : goal.listed_below-requires-clause-some
-listed_below-requires-clause-some c = let more = count_mono c.args.n calendar_end (holds c.args.self.now) (omega (arith, c.requires.n)) in omega (arith, more, c.rank_before-rank.ensures.value, c.size.ensures.value)
+listed_below-requires-clause-some c = let more = count_mono c.args.n calendar_end (holds c.args.self.now) (omega (arith, c.requires.n)) in
+    omega (arith, more, c.rank_before-rank.ensures.value, c.size.ensures.value)
 
 pub returns-else-is_empty-clause-value : goal.returns-else-is_empty-clause-value
 returns-else-is_empty-clause-value c =

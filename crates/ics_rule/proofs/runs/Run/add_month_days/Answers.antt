@@ -7,20 +7,28 @@ use Rattle.ics_rule.proofs.runs.Run.add_month_days.Goals.{In-Some}
 
 inside : (c : In-Some) → (1 ≤ c.in-Some.n) × (c.in-Some.n ≤ c.args.self.len)
 inside c =
-    let some : 1 ≤ c.in-Some.n = omega (arith, c.loop-n.invariant.1.0, c.in-Some.ensures.next.low) in
-    (some, listed_within c.in-Some.n c.args.self.len (lists c.args.month_days.now c.in-Some.n c.args.self.len) (sym (c.listed-listed.ensures c.in-Some.n some) ∙ c.in-Some.ensures.next.passes))
+    let some : 1 ≤ c.in-Some.n = omega (arith, c.loop-n.invariant.1.0, c.in-Some.ensures.next.low) in (
+      some,
+      listed_within c.in-Some.n c.args.self.len (lists c.args.month_days.now c.in-Some.n c.args.self.len) (sym (c.listed-listed.ensures c.in-Some.n some)
+          ∙ c.in-Some.ensures.next.passes),
+    )
 
 pub loop-n-init : goal.loop-n-init
-loop-n-init c = (λ m. day_none c.args.self (contains c.listed-listed.result) 1 m (contains_wide c.args.days.now m) (contains_wide c.args.days.now m), (omega arith, omega arith))
+loop-n-init c = (
+  λ m. day_none c.args.self (contains c.listed-listed.result) 1 m (contains_wide c.args.days.now m) (contains_wide c.args.days.now m),
+  (omega arith, omega arith),
+)
 
 pub insert-requires : goal.insert-requires
 insert-requires c = let i = inside (goal.at.insert-requires c).In-Some in omega (arith, i.0, i.1, c.requires.within)
 
 pub loop-n-preserved : goal.loop-n-preserved
 loop-n-preserved c = let i = inside (goal.at.loop-n-preserved c).In-Some in (
-  λ m. c.insert.ensures.members m ∙ day_added c.args.self (contains c.listed-listed.result) c.loop-n.from m (contains_wide c.args.days.now m) (contains_wide c.loop-n.days m) c.in-Some.n i.0 i.1 c.in-Some.ensures.next (c.loop-n.invariant.0 m),
+  λ m. c.insert.ensures.members m ∙ day_added c.args.self (contains c.listed-listed.result) c.loop-n.from m (contains_wide c.args.days.now m)
+      (contains_wide c.loop-n.days m) c.in-Some.n i.0 i.1 c.in-Some.ensures.next (c.loop-n.invariant.0 m),
   (omega arith, omega (arith, c.in-Some.ensures.small)),
 )
 
 pub returns : goal.returns
-returns c = λ m. day_done c.args.self (contains c.listed-listed.result) c.loop-n.from m (contains_wide c.args.days.now m) (contains_wide c.loop-n.days m) (λ n. lists c.args.month_days.now n c.args.self.len) c.in_default.ensures.next c.listed-listed.ensures (c.loop-n.invariant.0 m)
+returns c = λ m. day_done c.args.self (contains c.listed-listed.result) c.loop-n.from m (contains_wide c.args.days.now m) (contains_wide c.loop-n.days m)
+    (λ n. lists c.args.month_days.now n c.args.self.len) c.in_default.ensures.next c.listed-listed.ensures (c.loop-n.invariant.0 m)

@@ -4,7 +4,8 @@ use Rattle.ics_rule.specs.Runs.{has_run}
 use Rattle.ics_rule.proofs.runs.Run.add_month_days.Given as goal
 
 abbrev pub invariant-loop-n : goal.invariant-loop-n
-invariant-loop-n l = ((m : ℕ) → contains_wide l.days m ≡ (contains_wide l.fn.days m || (has_run l.self m && (nat_lt (m - l.self.start + 1) l.from && contains l.listed (m - l.self.start + 1)))))
+invariant-loop-n l = ((m : ℕ) → contains_wide l.days m
+    ≡ (contains_wide l.fn.days m || (has_run l.self m && (nat_lt (m - l.self.start + 1) l.from && contains l.listed (m - l.self.start + 1)))))
     × ((1 ≤ l.from) × (l.from ≤ 64))
 
 abbrev pub decreases-loop-n : goal.decreases-loop-n

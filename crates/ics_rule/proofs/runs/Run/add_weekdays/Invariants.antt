@@ -5,7 +5,8 @@ use Rattle.ics_rule.proofs.runs.Run.add_weekdays.Given as goal
 
 abbrev pub invariant-loop-weekday : goal.invariant-loop-weekday
 invariant-loop-weekday l = ((m : ℕ) → contains_wide l.days m ≡ (contains_wide l.fn.days m
-    || (has_run l.self m && (nat_lt (weekday_in l.self (m - l.self.start)) l.from && lists_weekday l.weekdays (weekday_in l.self (m - l.self.start)) (m - l.self.start + 1) l.self.len)))) × (l.from ≤ 64)
+    || (has_run l.self m && (nat_lt (weekday_in l.self (m - l.self.start)) l.from
+    && lists_weekday l.weekdays (weekday_in l.self (m - l.self.start)) (m - l.self.start + 1) l.self.len)))) × (l.from ≤ 64)
 
 abbrev pub decreases-loop-weekday : goal.decreases-loop-weekday
 decreases-loop-weekday l = 64 - l.from

@@ -11,12 +11,15 @@ use Rattle.ics_series.proofs.agenda.Agenda.new.Goals as goal
 
 pub returns : goal.returns
 returns c =
-    let listing = subst (IsListing entry_cmp (IsToCome (map said_by c.args.files.now) (display_clock c.args.display.now) c.args.window (option_map (λ key. key_rank key.now) c.args.after)))
+    let listing = subst (IsListing entry_cmp (IsToCome (map said_by c.args.files.now) (display_clock c.args.display.now) c.args.window
+    (option_map (λ key. key_rank key.now) c.args.after)))
     (sym c.in_ok-merge.ensures.coming) c.in_ok-parts.ensures.listing in
     record {
-      sources = subst (AreSources (map said_by c.args.files.now) (display_clock c.args.display.now) c.args.window (option_map (λ key. key_rank key.now) c.args.after)) (sym c.in_ok-merge.ensures.sources) c.in_ok-parts.ensures.sources;
+      sources = subst (AreSources (map said_by c.args.files.now) (display_clock c.args.display.now) c.args.window
+          (option_map (λ key. key_rank key.now) c.args.after)) (sym c.in_ok-merge.ensures.sources) c.in_ok-parts.ensures.sources;
       listing = listing;
-      behind = behind-key (map said_by c.args.files.now) (display_clock c.args.display.now) c.args.window (option_map (λ key. key_rank key.now) c.args.after) _ (c.in_ok-parts.ensures.whole c.args.window) listing;
+      behind = behind-key (map said_by c.args.files.now) (display_clock c.args.display.now) c.args.window (option_map (λ key. key_rank key.now) c.args.after) _
+          (c.in_ok-parts.ensures.whole c.args.window) listing;
       whole = c.in_ok-parts.ensures.whole;
     }
 

@@ -10,7 +10,8 @@ pub returns-then-is_today-clause-ok : goal.returns-then-is_today-clause-ok
 returns-then-is_today-clause-ok c = λ list a.
     let self = c.loop-occurrence.self in
     let gives = rw c.in-Some.is at c.in_ok-occurrence.ensures.ok in
-    ahead-given (map said_by self.files.now) (display_clock self.display.now) self.window self.day (entry_of c.in-Some.occurrence) (agenda_coming self.agenda) (agenda_coming c.next.new.self) gives
+    ahead-given (map said_by self.files.now) (display_clock self.display.now) self.window self.day (entry_of c.in-Some.occurrence) (agenda_coming self.agenda)
+    (agenda_coming c.next.new.self) gives
     (sym c.is_today.ensures.today ∙ c.if-is_today.true) list (c.loop-occurrence.invariant.ahead list a)
 
 pub loop-occurrence-preserved : goal.loop-occurrence-preserved

@@ -21,7 +21,8 @@ invariant_of-drop c =
     let w = self.window in
     let more = c.requires.more in
     let within = day-within w self.day self.not_before (omega (arith, ints, more)) in
-    let next : to_z w32 (of_z w32 (to_z w32 (of_z w32 c.args.self.now.day) +ℤ pos 1)) ≡ c.args.self.now.day +ℤ pos 1 = omega (arith, ints, within.0, within.1, w.not_early, w.not_late) in
+    let next : to_z w32 (of_z w32 (to_z w32 (of_z w32 c.args.self.now.day) +ℤ pos 1)) ≡ c.args.self.now.day +ℤ pos 1 =
+    omega (arith, ints, within.0, within.1, w.not_early, w.not_late) in
     let scope = scope_in (map said_by self.files.now) (display_clock self.display.now) self.window self.after in
     let begun = self.begun in
     record {
@@ -54,6 +55,8 @@ returns-clause-ahead c = λ list a.
     let w = self.window in
     let more = c.requires.more in
     let within = day-within w self.day self.not_before (omega (arith, ints, more)) in
-    let next : to_z w32 (of_z w32 (to_z w32 (of_z w32 c.args.self.now.day) +ℤ pos 1)) ≡ c.args.self.now.day +ℤ pos 1 = omega (arith, ints, within.0, within.1, w.not_early, w.not_late) in
+    let next : to_z w32 (of_z w32 (to_z w32 (of_z w32 c.args.self.now.day) +ℤ pos 1)) ≡ c.args.self.now.day +ℤ pos 1 =
+    omega (arith, ints, within.0, within.1, w.not_early, w.not_late) in
     ahead-turned (map said_by self.files.now) (display_clock self.display.now) (offset_near (zone_of self.display.now)) self.window
-    self.day _ next c.near_day-near.result c.near_day-near.ensures (agenda_coming self.agenda) (agenda_coming c.in_ok-agenda.agenda) c.requires.none c.in_ok-agenda.ensures.listing list a
+    self.day _ next c.near_day-near.result c.near_day-near.ensures (agenda_coming self.agenda) (agenda_coming c.in_ok-agenda.agenda) c.requires.none
+    c.in_ok-agenda.ensures.listing list a

@@ -18,7 +18,9 @@ returns-then-is_ok c =
     let fits : SFits w64 c.args.moment = c.ranges.moment in
     let same : to_z w64 (of_z w64 c.args.moment) ≡ c.args.moment = omega (arith, ints) in
     let there : true ≡ list_any (λ y. int_eq y c.args.moment) c.args.self.now.instants.items =
-    sym c.if-is_ok.true ∙ (c.is_ok.ensures.value ∙ (found ∙ (ap (λ x. list_any (λ y. int_eq y x) c.deref.result.now) same ∙ ap (λ xs. list_any (λ y. int_eq y c.args.moment) xs) c.deref.ensures.value))) in
+    sym c.if-is_ok.true ∙ (c.is_ok.ensures.value
+    ∙ (found ∙ (ap (λ x. list_any (λ y. int_eq y x) c.deref.result.now) same
+    ∙ ap (λ xs. list_any (λ y. int_eq y c.args.moment) xs) c.deref.ensures.value))) in
     c.if-is_ok.true ∙ ap (λ b. b || is_day_in (clock_of (clocks_in c.args.zones) c.args.first) c.args.self.now.days.items c.args.moment) there
 
 pub returns-else-is_ok : goal.returns-else-is_ok
@@ -29,5 +31,8 @@ returns-else-is_ok c =
     let fits : SFits w64 c.args.moment = c.ranges.moment in
     let same : to_z w64 (of_z w64 c.args.moment) ≡ c.args.moment = omega (arith, ints) in
     let there : false ≡ list_any (λ y. int_eq y c.args.moment) c.args.self.now.instants.items =
-    sym c.if-is_ok.false ∙ (c.is_ok.ensures.value ∙ (found ∙ (ap (λ x. list_any (λ y. int_eq y x) c.deref.result.now) same ∙ ap (λ xs. list_any (λ y. int_eq y c.args.moment) xs) c.deref.ensures.value))) in
-    c.has_day.ensures ∙ (ap (is_day_in (clock_of (clocks_in c.args.zones) c.args.first) c.args.self.now.days.items) same ∙ ap (λ b. b || is_day_in (clock_of (clocks_in c.args.zones) c.args.first) c.args.self.now.days.items c.args.moment) there)
+    sym c.if-is_ok.false ∙ (c.is_ok.ensures.value
+    ∙ (found ∙ (ap (λ x. list_any (λ y. int_eq y x) c.deref.result.now) same
+    ∙ ap (λ xs. list_any (λ y. int_eq y c.args.moment) xs) c.deref.ensures.value))) in
+    c.has_day.ensures ∙ (ap (is_day_in (clock_of (clocks_in c.args.zones) c.args.first) c.args.self.now.days.items) same
+    ∙ ap (λ b. b || is_day_in (clock_of (clocks_in c.args.zones) c.args.first) c.args.self.now.days.items c.args.moment) there)

@@ -20,4 +20,5 @@ returns c =
     let same : to_z w64 (of_z w64 c.args.moment) ≡ c.args.moment = omega (arith, ints) in
     let clock : Clock = clock_of (clocks_in c.args.zones) c.args.first in
     let shown : c.shown_day-day.result ≡ shown_day clock c.args.moment = c.shown_day-day.ensures ∙ ap (shown_day clock) same in
-    c.is_ok.ensures.value ∙ (found ∙ (ap (λ x. list_any (λ y. int_eq y x) c.deref.result.now) (day ∙ shown) ∙ ap (λ xs. is_day_in (clock_of (clocks_in c.args.zones) c.args.first) xs c.args.moment) c.deref.ensures.value))
+    c.is_ok.ensures.value ∙ (found ∙ (ap (λ x. list_any (λ y. int_eq y x) c.deref.result.now) (day ∙ shown)
+    ∙ ap (λ xs. is_day_in (clock_of (clocks_in c.args.zones) c.args.first) xs c.args.moment) c.deref.ensures.value))

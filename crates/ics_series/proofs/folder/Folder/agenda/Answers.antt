@@ -26,15 +26,26 @@ sources agenda = flat_map (λ l. part_sources l.feed) agenda.merge.leads.items
 pub returns : goal.returns
 returns c = record {
   listing =
-      subst (λ (v : Contents). IfOk c.new.result (λ agenda. IsListing entry_cmp (IsToCome (map said_by v.files) (display_clock v.display) c.args.window (option_map (λ key. key_rank key.now) c.args.after)) (coming agenda))) c.self.view_is
-      (subst (λ (files : List FileEvents). IfOk c.new.result (λ agenda. IsListing entry_cmp (IsToCome (map said_by files) (display_clock c.self.inside.display) c.args.window (option_map (λ key. key_rank key.now) c.args.after)) (coming agenda)))
+      subst (λ (v : Contents). IfOk c.new.result
+      (λ agenda. IsListing entry_cmp (IsToCome (map said_by v.files) (display_clock v.display) c.args.window
+      (option_map (λ key. key_rank key.now) c.args.after)) (coming agenda))) c.self.view_is
+      (subst (λ (files : List FileEvents). IfOk c.new.result
+      (λ agenda. IsListing entry_cmp (IsToCome (map said_by files) (display_clock c.self.inside.display) c.args.window
+      (option_map (λ key. key_rank key.now) c.args.after)) (coming agenda)))
       c.deref.ensures.value c.new.ensures.listing);
   behind =
-      subst (λ (v : Contents). IfOk c.new.result (λ agenda. (list : List Entry) × IsListing entry_cmp (IsListed (map said_by v.files) (display_clock v.display) c.args.window) list × (coming agenda ≡ after_key (option_map (λ key. key_rank key.now) c.args.after) list))) c.self.view_is
-      (subst (λ (files : List FileEvents). IfOk c.new.result (λ agenda. (list : List Entry) × IsListing entry_cmp (IsListed (map said_by files) (display_clock c.self.inside.display) c.args.window) list × (coming agenda ≡ after_key (option_map (λ key. key_rank key.now) c.args.after) list)))
+      subst (λ (v : Contents). IfOk c.new.result (λ agenda. (list : List Entry)
+      × IsListing entry_cmp (IsListed (map said_by v.files) (display_clock v.display) c.args.window) list
+      × (coming agenda ≡ after_key (option_map (λ key. key_rank key.now) c.args.after) list))) c.self.view_is
+      (subst (λ (files : List FileEvents). IfOk c.new.result (λ agenda. (list : List Entry)
+      × IsListing entry_cmp (IsListed (map said_by files) (display_clock c.self.inside.display) c.args.window) list
+      × (coming agenda ≡ after_key (option_map (λ key. key_rank key.now) c.args.after) list)))
       c.deref.ensures.value c.new.ensures.behind);
   sources =
-      subst (λ (v : Contents). IfOk c.new.result (λ agenda. AreSources (map said_by v.files) (display_clock v.display) c.args.window (option_map (λ key. key_rank key.now) c.args.after) (sources agenda))) c.self.view_is
-      (subst (λ (files : List FileEvents). IfOk c.new.result (λ agenda. AreSources (map said_by files) (display_clock c.self.inside.display) c.args.window (option_map (λ key. key_rank key.now) c.args.after) (sources agenda)))
+      subst (λ (v : Contents). IfOk c.new.result (λ agenda. AreSources (map said_by v.files) (display_clock v.display) c.args.window
+      (option_map (λ key. key_rank key.now) c.args.after) (sources agenda))) c.self.view_is
+      (subst (λ (files : List FileEvents). IfOk c.new.result
+      (λ agenda. AreSources (map said_by files) (display_clock c.self.inside.display) c.args.window (option_map (λ key. key_rank key.now) c.args.after)
+      (sources agenda)))
       c.deref.ensures.value c.new.ensures.sources);
 }

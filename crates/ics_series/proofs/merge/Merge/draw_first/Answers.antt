@@ -20,31 +20,45 @@ invariant_of-self g c =
     record {
       same_length = self.same_length ∙ sym long;
       within = subst (λ n. All (λ l. l < n) self.winners.items) (sym long) self.within;
-      settled = subst (λ hs. AreSettled hs self.winners.items) (sym (heads-kept (λ x. x.head) (λ x. g.F.Coming.coming x.feed) self.leads.items lead old new c.index_mut.ensures.value c.in_err-draw.ensures.head)) self.settled;
+      settled = subst (λ hs. AreSettled hs self.winners.items)
+          (sym (heads-kept (λ x. x.head) (λ x. g.F.Coming.coming x.feed) self.leads.items lead old new c.index_mut.ensures.value c.in_err-draw.ensures.head))
+          self.settled;
       follows =
           subst (ComeAfter self.last)
-          (sym (to_come-kept (λ x. x.head) (λ x. g.F.Coming.coming x.feed) self.leads.items lead old new c.index_mut.ensures.value self.last c.in_err-draw.ensures.head c.in_err-draw.ensures.rest)) self.follows;
+          (sym (to_come-kept (λ x. x.head) (λ x. g.F.Coming.coming x.feed) self.leads.items lead old new c.index_mut.ensures.value self.last
+          c.in_err-draw.ensures.head c.in_err-draw.ensures.rest)) self.follows;
       near =
-          near-kept (λ x. x.head) (λ x. g.F.Coming.coming x.feed) (λ x. g.F.Coming.near x.feed) self.last self.leads.items lead old new c.in_err-draw.ensures.head c.in_err-draw.ensures.rest old.ahead
-          (given-read (λ x. x.head) (λ x. g.F.Coming.coming x.feed) self.leads.items lead old new c.index_mut.ensures.value self.last (winner self.winners.items 1)
+          near-kept (λ x. x.head) (λ x. g.F.Coming.coming x.feed) (λ x. g.F.Coming.near x.feed) self.last self.leads.items lead old new
+          c.in_err-draw.ensures.head c.in_err-draw.ensures.rest old.ahead
+          (given-read (λ x. x.head) (λ x. g.F.Coming.coming x.feed) self.leads.items lead old new c.index_mut.ensures.value self.last
+          (winner self.winners.items 1)
           (c.winner-lead.ensures ∙ ap (λ ws. winner ws 1) c.deref.ensures.value) c.requires).1
           c.draw.ensures.near self.near;
-      sorted = fewer-sorted self.sorted_from (map (λ x. listed x.head (g.F.Coming.coming x.feed)) self.leads.items) (map (λ x. listed x.head (g.F.Coming.coming x.feed)) (set self.leads.items lead new)) (fewer-kept-in (λ x. x.head) (λ x. g.F.Coming.coming x.feed) old new self.leads.items lead c.index_mut.ensures.value c.in_err-draw.ensures.head c.in_err-draw.ensures.rest) self.sorted;
-      last_sorted = fewer-last self.sorted_from (map (λ x. listed x.head (g.F.Coming.coming x.feed)) self.leads.items) (map (λ x. listed x.head (g.F.Coming.coming x.feed)) (set self.leads.items lead new)) (fewer-kept-in (λ x. x.head) (λ x. g.F.Coming.coming x.feed) old new self.leads.items lead c.index_mut.ensures.value c.in_err-draw.ensures.head c.in_err-draw.ensures.rest) self.source self.last self.last_sorted;
+      sorted = fewer-sorted self.sorted_from (map (λ x. listed x.head (g.F.Coming.coming x.feed)) self.leads.items)
+          (map (λ x. listed x.head (g.F.Coming.coming x.feed)) (set self.leads.items lead new))
+          (fewer-kept-in (λ x. x.head) (λ x. g.F.Coming.coming x.feed) old new self.leads.items lead c.index_mut.ensures.value c.in_err-draw.ensures.head
+          c.in_err-draw.ensures.rest) self.sorted;
+      last_sorted = fewer-last self.sorted_from (map (λ x. listed x.head (g.F.Coming.coming x.feed)) self.leads.items)
+          (map (λ x. listed x.head (g.F.Coming.coming x.feed)) (set self.leads.items lead new))
+          (fewer-kept-in (λ x. x.head) (λ x. g.F.Coming.coming x.feed) old new self.leads.items lead c.index_mut.ensures.value c.in_err-draw.ensures.head
+          c.in_err-draw.ensures.rest) self.source self.last self.last_sorted;
     }
 
 pub returns-in_err-draw-clause-same : goal.returns-in_err-draw-clause-same
 returns-in_err-draw-clause-same g c =
     let self = c.args.self.now in
-    ap (merged entry_cmp) (to_come-kept (λ x. x.head) (λ x. g.F.Coming.coming x.feed) self.leads.items c.winner-lead.result c.index_mut.result.now c.draw.new.self c.index_mut.ensures.value self.last c.in_err-draw.ensures.head c.in_err-draw.ensures.rest)
+    ap (merged entry_cmp) (to_come-kept (λ x. x.head) (λ x. g.F.Coming.coming x.feed) self.leads.items c.winner-lead.result c.index_mut.result.now
+    c.draw.new.self c.index_mut.ensures.value self.last c.in_err-draw.ensures.head c.in_err-draw.ensures.rest)
 
 pub returns-in_err-draw-clause-sources : goal.returns-in_err-draw-clause-sources
 returns-in_err-draw-clause-sources g c =
-    flat-set (λ x. g.F.Coming.sources x.feed) c.args.self.now.leads.items c.winner-lead.result c.index_mut.result.now c.draw.new.self c.index_mut.ensures.value c.draw.ensures.sources
+    flat-set (λ x. g.F.Coming.sources x.feed) c.args.self.now.leads.items c.winner-lead.result c.index_mut.result.now c.draw.new.self c.index_mut.ensures.value
+    c.draw.ensures.sources
 
 pub returns-clause-sources : goal.returns-clause-sources
 returns-clause-sources g c =
-    flat-set (λ x. g.F.Coming.sources x.feed) c.args.self.now.leads.items c.winner-lead.result c.index_mut.result.now c.draw.new.self c.index_mut.ensures.value c.draw.ensures.sources
+    flat-set (λ x. g.F.Coming.sources x.feed) c.args.self.now.leads.items c.winner-lead.result c.index_mut.result.now c.draw.new.self c.index_mut.ensures.value
+    c.draw.ensures.sources
 
 pub replay-requires-clause-sorted : goal.replay-requires-clause-sorted
 replay-requires-clause-sorted g c =
@@ -54,8 +68,10 @@ replay-requires-clause-sorted g c =
     let leads = set self.leads.items lead new in
     subst (λ ls. AreHeadsSorted self.sorted_from (map (λ x. option_map entry_of x.head) ls)) (sym c.deref-2.ensures.value)
     (heads-sorted (λ x. x.head) (λ x. g.F.Coming.coming x.feed) self.sorted_from leads
-    (fewer-sorted self.sorted_from (map (λ x. listed x.head (g.F.Coming.coming x.feed)) self.leads.items) (map (λ x. listed x.head (g.F.Coming.coming x.feed)) leads)
-    (fewer-drawn-in (λ x. x.head) (λ x. g.F.Coming.coming x.feed) c.index_mut.result.now new self.leads.items lead c.index_mut.ensures.value c.in_ok-draw.ensures.drawn) self.sorted))
+    (fewer-sorted self.sorted_from (map (λ x. listed x.head (g.F.Coming.coming x.feed)) self.leads.items)
+    (map (λ x. listed x.head (g.F.Coming.coming x.feed)) leads)
+    (fewer-drawn-in (λ x. x.head) (λ x. g.F.Coming.coming x.feed) c.index_mut.result.now new self.leads.items lead c.index_mut.ensures.value
+    c.in_ok-draw.ensures.drawn) self.sorted))
 
 pub replay-requires-clause-settled : goal.replay-requires-clause-settled
 replay-requires-clause-settled g c =
@@ -64,9 +80,11 @@ replay-requires-clause-settled g c =
     let new = c.draw.new.self in
     let leads = set self.leads.items lead new in
     let winners = self.winners.items in
-    let drawn = settled-drawn (λ x. x.head) (λ x. g.F.Coming.coming x.feed) self.leads.items lead c.index_mut.result.now new c.index_mut.ensures.value winners self.settled in
+    let drawn = settled-drawn (λ x. x.head) (λ x. g.F.Coming.coming x.feed) self.leads.items lead c.index_mut.result.now new c.index_mut.ensures.value winners
+    self.settled in
     let long = self.same_length ∙ sym (length-set self.leads.items lead new) in
-    subst (λ ws. AreSettledBut (above 1 (length c.deref-2.result.now + lead)) (map (λ x. option_map entry_of x.head) c.deref-2.result.now) ws) (sym c.deref_mut.ensures.value)
+    subst (λ ws. AreSettledBut (above 1 (length c.deref-2.result.now + lead)) (map (λ x. option_map entry_of x.head) c.deref-2.result.now) ws)
+    (sym c.deref_mut.ensures.value)
     (subst (λ ls. AreSettledBut (above 1 (length ls + lead)) (map (λ x. option_map entry_of x.head) ls) winners) (sym c.deref-2.ensures.value)
     (subst (λ n. AreSettledBut (above 1 (n + lead)) (map (λ x. option_map entry_of x.head) leads) winners) long drawn))
 
@@ -93,19 +111,28 @@ invariant_of-self-2 g c =
           (sym (to_come-drawn (λ x. x.head) (λ x. g.F.Coming.coming x.feed) self.leads.items lead c.index_mut.result.now new c.index_mut.ensures.value
           c.in_ok-draw.ensures.drawn self.last (winner self.winners.items 1)
           (c.winner-lead.ensures ∙ ap (λ ws. winner ws 1) c.deref.ensures.value) c.requires c.index_mut.result.now.ahead)) self.follows;
-      near = near-drawn (λ x. x.head) (λ x. g.F.Coming.coming x.feed) (λ x. g.F.Coming.near x.feed) self.last self.leads.items lead c.index_mut.result.now new c.in_ok-draw.ensures.drawn c.draw.ensures.near self.near;
-      sorted = fewer-sorted self.sorted_from (map (λ x. listed x.head (g.F.Coming.coming x.feed)) self.leads.items) (map (λ x. listed x.head (g.F.Coming.coming x.feed)) leads) (fewer-drawn-in (λ x. x.head) (λ x. g.F.Coming.coming x.feed) c.index_mut.result.now new self.leads.items lead c.index_mut.ensures.value c.in_ok-draw.ensures.drawn) self.sorted;
-      last_sorted = fewer-last self.sorted_from (map (λ x. listed x.head (g.F.Coming.coming x.feed)) self.leads.items) (map (λ x. listed x.head (g.F.Coming.coming x.feed)) leads) (fewer-drawn-in (λ x. x.head) (λ x. g.F.Coming.coming x.feed) c.index_mut.result.now new self.leads.items lead c.index_mut.ensures.value c.in_ok-draw.ensures.drawn) self.source self.last self.last_sorted;
+      near = near-drawn (λ x. x.head) (λ x. g.F.Coming.coming x.feed) (λ x. g.F.Coming.near x.feed) self.last self.leads.items lead c.index_mut.result.now new
+          c.in_ok-draw.ensures.drawn c.draw.ensures.near self.near;
+      sorted = fewer-sorted self.sorted_from (map (λ x. listed x.head (g.F.Coming.coming x.feed)) self.leads.items)
+          (map (λ x. listed x.head (g.F.Coming.coming x.feed)) leads)
+          (fewer-drawn-in (λ x. x.head) (λ x. g.F.Coming.coming x.feed) c.index_mut.result.now new self.leads.items lead c.index_mut.ensures.value
+          c.in_ok-draw.ensures.drawn) self.sorted;
+      last_sorted = fewer-last self.sorted_from (map (λ x. listed x.head (g.F.Coming.coming x.feed)) self.leads.items)
+          (map (λ x. listed x.head (g.F.Coming.coming x.feed)) leads)
+          (fewer-drawn-in (λ x. x.head) (λ x. g.F.Coming.coming x.feed) c.index_mut.result.now new self.leads.items lead c.index_mut.ensures.value
+          c.in_ok-draw.ensures.drawn) self.source self.last self.last_sorted;
     }
 
 pub returns-clause-same : goal.returns-clause-same
 returns-clause-same g c = ap (merged entry_cmp)
-    (to_come-drawn (λ x. x.head) (λ x. g.F.Coming.coming x.feed) c.args.self.now.leads.items c.winner-lead.result c.index_mut.result.now c.draw.new.self c.index_mut.ensures.value
+    (to_come-drawn (λ x. x.head) (λ x. g.F.Coming.coming x.feed) c.args.self.now.leads.items c.winner-lead.result c.index_mut.result.now c.draw.new.self
+    c.index_mut.ensures.value
     c.in_ok-draw.ensures.drawn c.args.self.now.last (winner c.args.self.now.winners.items 1)
     (c.winner-lead.ensures ∙ ap (λ ws. winner ws 1) c.deref.ensures.value) c.requires c.index_mut.result.now.ahead)
 
 pub returns-clause-fewer : goal.returns-clause-fewer
 returns-clause-fewer g c =
-    fewer-drawn (λ x. x.head) (λ x. g.F.Coming.coming x.feed) c.args.self.now.leads.items c.winner-lead.result c.index_mut.result.now c.draw.new.self c.index_mut.ensures.value
+    fewer-drawn (λ x. x.head) (λ x. g.F.Coming.coming x.feed) c.args.self.now.leads.items c.winner-lead.result c.index_mut.result.now c.draw.new.self
+    c.index_mut.ensures.value
     c.in_ok-draw.ensures.drawn c.args.self.now.last (winner c.args.self.now.winners.items 1)
     (c.winner-lead.ensures ∙ ap (λ ws. winner ws 1) c.deref.ensures.value) c.requires

@@ -4,4 +4,8 @@ use Rattle.ics_series.proofs.UidLemmas.{none-sorted}
 use Rattle.ics_series.proofs.merge.Merge.new.Goals as goal
 
 pub of_sorted-requires : goal.of_sorted-requires
-of_sorted-requires g c = λ k. ((refl, tt), none-sorted c.len-none.result (map g.F.Coming.coming c.args.feeds.items) (omega (arith, length-map c.args.feeds.items g.F.Coming.coming, c.len-none.ensures)))
+of_sorted-requires g c = λ k. (
+  (refl, tt),
+  none-sorted c.len-none.result (map g.F.Coming.coming c.args.feeds.items)
+      (omega (arith, length-map c.args.feeds.items g.F.Coming.coming, c.len-none.ensures)),
+)

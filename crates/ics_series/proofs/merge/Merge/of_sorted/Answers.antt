@@ -11,7 +11,9 @@ use Rattle.ics_series.proofs.merge.Merge.of_sorted.Goals as goal
 pub invariant_of-result : goal.invariant_of-result
 invariant_of-result g c =
     let lent = c.deref.ensures.value in
-    let all : c.loop-feed.yielded ≡ c.args.feeds.items = sym (map-id c.loop-feed.yielded) ∙ (YieldsList-end (YieldsList-from_vec c.args.feeds.items (cc) (cc)) c.loop-feed.yielded _ c.loop-feed.yielded_by c.next.result c.next.new.self c.in-None.is c.next.ensures.steps).0 in
+    let all : c.loop-feed.yielded ≡ c.args.feeds.items = sym (map-id c.loop-feed.yielded)
+    ∙ (YieldsList-end (YieldsList-from_vec c.args.feeds.items (cc) (cc)) c.loop-feed.yielded _ c.loop-feed.yielded_by c.next.result c.next.new.self
+    c.in-None.is c.next.ensures.steps).0 in
     let made = c.in_ok-winners.ensures in
     record {
       same_length = made.length ∙ ap length lent;
@@ -25,7 +27,9 @@ invariant_of-result g c =
 
 pub winners-requires : goal.winners-requires
 winners-requires g c =
-    let all : c.loop-feed.yielded ≡ c.args.feeds.items = sym (map-id c.loop-feed.yielded) ∙ (YieldsList-end (YieldsList-from_vec c.args.feeds.items (cc) (cc)) c.loop-feed.yielded _ c.loop-feed.yielded_by c.next.result c.next.new.self c.in-None.is c.next.ensures.steps).0 in
+    let all : c.loop-feed.yielded ≡ c.args.feeds.items = sym (map-id c.loop-feed.yielded)
+    ∙ (YieldsList-end (YieldsList-from_vec c.args.feeds.items (cc) (cc)) c.loop-feed.yielded _ c.loop-feed.yielded_by c.next.result c.next.new.self
+    c.in-None.is c.next.ensures.steps).0 in
     subst (λ ls. AreHeadsSorted c.args.sorted_from (map (λ x. option_map entry_of x.head) ls)) (sym c.deref.ensures.value)
     (heads-sorted (λ x. x.head) (λ x. g.F.Coming.coming x.feed) c.args.sorted_from c.loop-feed.leads.items
     (subst (AreSortedFrom c.args.sorted_from) (sym (c.loop-feed.invariant.coming ∙ ap (map g.F.Coming.coming) all)) c.requires))

@@ -71,9 +71,11 @@ returns-in-Some-clause-near g c = λ o m.
 pub returns-in-None-clause-near : goal.returns-in-None-clause-near
 returns-in-None-clause-near g c = λ o m.
     let self = c.skip_given.new.self in
-    near-to_come (λ x. x.head) (λ x. g.F.Coming.coming x.feed) (λ x. g.F.Coming.near x.feed) self.last o self.leads.items self.follows (subst (IsIn o) (sym c.skip_given.ensures.same) m) self.near
+    near-to_come (λ x. x.head) (λ x. g.F.Coming.coming x.feed) (λ x. g.F.Coming.near x.feed) self.last o self.leads.items self.follows
+    (subst (IsIn o) (sym c.skip_given.ensures.same) m) self.near
 
 pub returns-in_err-skip_given-clause-near : goal.returns-in_err-skip_given-clause-near
 returns-in_err-skip_given-clause-near g c = λ o m.
     let self = c.skip_given.new.self in
-    near-to_come (λ x. x.head) (λ x. g.F.Coming.coming x.feed) (λ x. g.F.Coming.near x.feed) self.last o self.leads.items self.follows (subst (IsIn o) (sym c.skip_given.ensures.same) m) self.near
+    near-to_come (λ x. x.head) (λ x. g.F.Coming.coming x.feed) (λ x. g.F.Coming.near x.feed) self.last o self.leads.items self.follows
+    (subst (IsIn o) (sym c.skip_given.ensures.same) m) self.near

@@ -13,7 +13,8 @@ use Rattle.ics_series.proofs.rule_starts.RuleStarts.new.Goals as goal
 pub invariant_of-result : goal.invariant_of-result
 invariant_of-result c =
     let w = c.args.window in
-    let end : to_z w32 (of_z w32 c.end_nearby-end.result) ≡ c.end_nearby-end.result = omega (arith, ints, c.end_nearby-end.ensures.day.0, c.end_nearby-end.ensures.day.1) in
+    let end : to_z w32 (of_z w32 c.end_nearby-end.result) ≡ c.end_nearby-end.result =
+    omega (arith, ints, c.end_nearby-end.ensures.day.0, c.end_nearby-end.ensures.day.1) in
     let from : to_z w32 (of_z w32 c.args.from.day) ≡ c.args.from.day = omega (arith, ints, c.requires.from.0, c.requires.from.1) in
     let day : to_z w32 (of_z w32 c.min-day.result) ≡ c.min-day.result = omega (arith, ints, c.min-day.type_inv) in
     record {
@@ -24,7 +25,20 @@ invariant_of-result c =
       looked = λ before h. c.at.ensures.looked before;
       time = c.requires.event.start;
       first = ap (λ (l : Local). number l) (rule-first c.args.event.now c.args.rule c.requires.rule);
-      read = omega (arith, ints, c.at.ensures.place, day, end, from, c.min-day.ensures.value, int_min_is, c.requires.from.0, c.requires.from.1, c.end_nearby-end.ensures.day.0, c.end_nearby-end.ensures.day.1);
+      read = omega (
+        arith,
+        ints,
+        c.at.ensures.place,
+        day,
+        end,
+        from,
+        c.min-day.ensures.value,
+        int_min_is,
+        c.requires.from.0,
+        c.requires.from.1,
+        c.end_nearby-end.ensures.day.0,
+        c.end_nearby-end.ensures.day.1,
+      );
       low = omega (arith, ints, day, end, from, c.min-day.ensures.value, int_min_is, c.requires.from.0, c.end_nearby-end.ensures.day.0);
       asked_on = omega (arith, ints);
       asked_soon = omega (arith, ints);
@@ -35,4 +49,5 @@ invariant_of-result c =
     }
 
 pub returns-clause-left : goal.returns-clause-left
-returns-clause-left c = come-empty c.args.zones c.args.event.now c.args.rule c.args.window c.new.result.items (place_of c.at.result) (number c.args.from) c.new.ensures.items c.at.ensures.place
+returns-clause-left c = come-empty c.args.zones c.args.event.now c.args.rule c.args.window c.new.result.items (place_of c.at.result) (number c.args.from)
+    c.new.ensures.items c.at.ensures.place

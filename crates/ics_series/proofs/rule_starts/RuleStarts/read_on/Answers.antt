@@ -10,7 +10,8 @@ use Rattle.ics_series.specs.Rising.{Rises}
 use Rattle.ics_series.specs.RuleStarts.{bound_of, midnight_number, AreHeld}
 use Rattle.ics_series.specs.FileZones.{clocks_in}
 use Rattle.ics_series.proofs.RuleReadLemmas.{behind-early}
-use Rattle.ics_series.proofs.RuleStepLemmas.{bound-days, bound-early, none-asked, none-held, none-less, none-same, one-asked, one-held, one-less, one-on, one-time, one-rises, one-same, within}
+use Rattle.ics_series.proofs.RuleStepLemmas.{bound-days, bound-early, none-asked, none-held, none-less, none-same, one-asked, one-held, one-less, one-on}
+use Rattle.ics_series.proofs.RuleStepLemmas.{one-time, one-rises, one-same, within}
 use Rattle.ics_rule.specs.PeriodNumbers.{rules_end}
 use Rattle.ics_series.proofs.rule_starts.RuleStarts.read_on.Goals as goal
 
@@ -42,20 +43,23 @@ invariant_of-self c =
 pub next-requires-clause-bound : goal.next-requires-clause-bound
 next-requires-clause-bound c =
     let bound = to_z w32 (of_z w32 c.bound-bound.result) in
-    let is : to_z w32 (of_z w32 c.bound-bound.result) ≡ bound_of c.args.self.now.day c.args.self.now.end c.args.self.now.held.items = omega (arith, ints, c.bound-bound.type_inv, c.bound-bound.ensures) in
+    let is : to_z w32 (of_z w32 c.bound-bound.result) ≡ bound_of c.args.self.now.day c.args.self.now.end c.args.self.now.held.items =
+    omega (arith, ints, c.bound-bound.type_inv, c.bound-bound.ensures) in
     subst (λ (l : Local). IsDayNumber l.day) (sym c.at.ensures) (bound-days c.args.self.now c.requires bound is)
 
 pub next-requires-clause-early : goal.next-requires-clause-early
 next-requires-clause-early c =
     let bound = to_z w32 (of_z w32 c.bound-bound.result) in
-    let is : to_z w32 (of_z w32 c.bound-bound.result) ≡ bound_of c.args.self.now.day c.args.self.now.end c.args.self.now.held.items = omega (arith, ints, c.bound-bound.type_inv, c.bound-bound.ensures) in
+    let is : to_z w32 (of_z w32 c.bound-bound.result) ≡ bound_of c.args.self.now.day c.args.self.now.end c.args.self.now.held.items =
+    omega (arith, ints, c.bound-bound.type_inv, c.bound-bound.ensures) in
     subst (λ (l : Local). number l ≤ rules_end) (sym c.at.ensures) (bound-early c.args.self.now c.requires bound is)
 
 pub invariant_of-self-in-None : goal.invariant_of-self-in-None
 invariant_of-self-in-None c =
     let s = c.args.self.now in
     let bound = to_z w32 (of_z w32 c.bound-bound.result) in
-    let is : to_z w32 (of_z w32 c.bound-bound.result) ≡ bound_of c.args.self.now.day c.args.self.now.end c.args.self.now.held.items = omega (arith, ints, c.bound-bound.type_inv, c.bound-bound.ensures) in
+    let is : to_z w32 (of_z w32 c.bound-bound.result) ≡ bound_of c.args.self.now.day c.args.self.now.end c.args.self.now.held.items =
+    omega (arith, ints, c.bound-bound.type_inv, c.bound-bound.ensures) in
     let at : number c.at.result ≡ midnight_number (to_z w32 (of_z w32 c.bound-bound.result)) = ap (λ (l : Local). number l) c.at.ensures in
     let held : c.reserve.new.self.items ≡ c.args.self.now.held.items = c.reserve.ensures.items in
     let range = bound-days s c.requires bound is in
@@ -83,10 +87,12 @@ pub hold-requires-clause-time : goal.hold-requires-clause-time
 hold-requires-clause-time c =
     let s = c.args.self.now in
     let bound = to_z w32 (of_z w32 c.bound-bound.result) in
-    let is : to_z w32 (of_z w32 c.bound-bound.result) ≡ bound_of c.args.self.now.day c.args.self.now.end c.args.self.now.held.items = omega (arith, ints, c.bound-bound.type_inv, c.bound-bound.ensures) in
+    let is : to_z w32 (of_z w32 c.bound-bound.result) ≡ bound_of c.args.self.now.day c.args.self.now.end c.args.self.now.held.items =
+    omega (arith, ints, c.bound-bound.type_inv, c.bound-bound.ensures) in
     let at : number c.at.result ≡ midnight_number (to_z w32 (of_z w32 c.bound-bound.result)) = ap (λ (l : Local). number l) c.at.ensures in
     let a = c.in-Some.local in
-    let next : IsNextKept c.args.self.now.rule (place_of c.args.self.now.cursor) (midnight_number (to_z w32 (of_z w32 c.bound-bound.result))) (number c.in-Some.local) =
+    let next : IsNextKept c.args.self.now.rule (place_of c.args.self.now.cursor) (midnight_number (to_z w32 (of_z w32 c.bound-bound.result)))
+    (number c.in-Some.local) =
     subst (λ n. IsNextKept s.rule (place_of s.cursor) n (number c.in-Some.local)) at c.in-Some.ensures.next.0 in
     one-time s c.requires bound is a c.in-Some.ensures.day next
 
@@ -94,10 +100,12 @@ pub invariant_of-self-in-Some : goal.invariant_of-self-in-Some
 invariant_of-self-in-Some c =
     let s = c.args.self.now in
     let bound = to_z w32 (of_z w32 c.bound-bound.result) in
-    let is : to_z w32 (of_z w32 c.bound-bound.result) ≡ bound_of c.args.self.now.day c.args.self.now.end c.args.self.now.held.items = omega (arith, ints, c.bound-bound.type_inv, c.bound-bound.ensures) in
+    let is : to_z w32 (of_z w32 c.bound-bound.result) ≡ bound_of c.args.self.now.day c.args.self.now.end c.args.self.now.held.items =
+    omega (arith, ints, c.bound-bound.type_inv, c.bound-bound.ensures) in
     let at : number c.at.result ≡ midnight_number (to_z w32 (of_z w32 c.bound-bound.result)) = ap (λ (l : Local). number l) c.at.ensures in
     let a = c.in-Some.local in
-    let next : IsNextKept c.args.self.now.rule (place_of c.args.self.now.cursor) (midnight_number (to_z w32 (of_z w32 c.bound-bound.result))) (number c.in-Some.local) =
+    let next : IsNextKept c.args.self.now.rule (place_of c.args.self.now.cursor) (midnight_number (to_z w32 (of_z w32 c.bound-bound.result)))
+    (number c.in-Some.local) =
     subst (λ n. IsNextKept s.rule (place_of s.cursor) n (number c.in-Some.local)) at c.in-Some.ensures.next.0 in
     let held : c.reserve.new.self.items ≡ c.args.self.now.held.items = c.reserve.ensures.items in
     let h = c.in-Some.ensures.day in
@@ -129,11 +137,14 @@ pub returns-in-None : goal.returns-in-None
 returns-in-None c =
     let s = c.args.self.now in
     let bound = to_z w32 (of_z w32 c.bound-bound.result) in
-    let is : to_z w32 (of_z w32 c.bound-bound.result) ≡ bound_of c.args.self.now.day c.args.self.now.end c.args.self.now.held.items = omega (arith, ints, c.bound-bound.type_inv, c.bound-bound.ensures) in
+    let is : to_z w32 (of_z w32 c.bound-bound.result) ≡ bound_of c.args.self.now.day c.args.self.now.end c.args.self.now.held.items =
+    omega (arith, ints, c.bound-bound.type_inv, c.bound-bound.ensures) in
     let at : number c.at.result ≡ midnight_number (to_z w32 (of_z w32 c.bound-bound.result)) = ap (λ (l : Local). number l) c.at.ensures in
-    let place : place_of c.next.new.self ≡ max (place_of c.args.self.now.cursor) (midnight_number (to_z w32 (of_z w32 c.bound-bound.result))) = omega (arith, c.in-None.ensures.next.1, at) in
+    let place : place_of c.next.new.self ≡ max (place_of c.args.self.now.cursor) (midnight_number (to_z w32 (of_z w32 c.bound-bound.result))) =
+    omega (arith, c.in-None.ensures.next.1, at) in
     record {
-      same = none-same s c.requires bound is c.reserve.new.self.items (place_of c.next.new.self) c.reserve.ensures.items place (subst (NoneKept s.rule (place_of s.cursor)) at c.in-None.ensures.next.0);
+      same = none-same s c.requires bound is c.reserve.new.self.items (place_of c.next.new.self) c.reserve.ensures.items place
+          (subst (NoneKept s.rule (place_of s.cursor)) at c.in-None.ensures.next.0);
       source = search rules;
       less = none-less s c.requires bound is (place_of c.next.new.self) place;
     }
@@ -142,15 +153,19 @@ pub returns-in-Some : goal.returns-in-Some
 returns-in-Some c =
     let s = c.args.self.now in
     let bound = to_z w32 (of_z w32 c.bound-bound.result) in
-    let is : to_z w32 (of_z w32 c.bound-bound.result) ≡ bound_of c.args.self.now.day c.args.self.now.end c.args.self.now.held.items = omega (arith, ints, c.bound-bound.type_inv, c.bound-bound.ensures) in
+    let is : to_z w32 (of_z w32 c.bound-bound.result) ≡ bound_of c.args.self.now.day c.args.self.now.end c.args.self.now.held.items =
+    omega (arith, ints, c.bound-bound.type_inv, c.bound-bound.ensures) in
     let at : number c.at.result ≡ midnight_number (to_z w32 (of_z w32 c.bound-bound.result)) = ap (λ (l : Local). number l) c.at.ensures in
     let a = c.in-Some.local in
-    let next : IsNextKept c.args.self.now.rule (place_of c.args.self.now.cursor) (midnight_number (to_z w32 (of_z w32 c.bound-bound.result))) (number c.in-Some.local) =
+    let next : IsNextKept c.args.self.now.rule (place_of c.args.self.now.cursor) (midnight_number (to_z w32 (of_z w32 c.bound-bound.result)))
+    (number c.in-Some.local) =
     subst (λ n. IsNextKept s.rule (place_of s.cursor) n (number c.in-Some.local)) at c.in-Some.ensures.next.0 in
     let h = c.in-Some.ensures.day in
     let place = c.in-Some.ensures.next.1 in
     record {
-      same = one-same s c.requires bound is a h next c.reserve.new.self.items c.hold.new.held.items c.reserve.ensures.items c.hold.ensures (place_of c.next.new.self) (omega (arith, place));
+      same = one-same s c.requires bound is a h next c.reserve.new.self.items c.hold.new.held.items c.reserve.ensures.items c.hold.ensures
+          (place_of c.next.new.self) (omega (arith, place));
       source = search rules;
-      less = one-less s c.requires bound is a h next (to_z w32 (of_z w32 c.in-Some.local.day)) (place_of c.next.new.self) (omega (arith, ints, h.0, h.1)) (omega (arith, place));
+      less = one-less s c.requires bound is a h next (to_z w32 (of_z w32 c.in-Some.local.day)) (place_of c.next.new.self) (omega (arith, ints, h.0, h.1))
+          (omega (arith, place));
     }

@@ -35,19 +35,26 @@ invariant_of-result c =
     let sound = c.requires.own.is_event in
     let firsts : AreFirsts (listed_apart (clocks_in c.args.zones) c.args.window c.args.event.now c.args.event.now.rule) (listed_left c.in_ok-new.field-0) =
     subst (λ xs. AreFirsts xs (listed_left c.in_ok-new.field-0)) c.in_ok-listed.ensures c.in_ok-new.ensures in
-    let ruled = ruled-as clocks event w _ c.args.since c.deref.result.now (listed_apart clocks w event event.rule) c.starts_by_rule-rule_starts.result since (c.deref.ensures.value ∙ c.in_ok-listed.ensures) c.starts_by_rule-rule_starts.ensures.from in
-    let starts : AreStartsSince (clocks_in c.args.zones) c.args.event.now c.args.window c.args.since (left c.starts_by_rule-rule_starts.result c.in_ok-new.field-0) =
+    let ruled = ruled-as clocks event w _ c.args.since c.deref.result.now (listed_apart clocks w event event.rule) c.starts_by_rule-rule_starts.result since
+    (c.deref.ensures.value ∙ c.in_ok-listed.ensures) c.starts_by_rule-rule_starts.ensures.from in
+    let starts : AreStartsSince (clocks_in c.args.zones) c.args.event.now c.args.window c.args.since
+    (left c.starts_by_rule-rule_starts.result c.in_ok-new.field-0) =
     starts-since c.args.zones w event sound c.args.since c.starts_by_rule-rule_starts.result (listed_left c.in_ok-new.field-0) firsts ruled in
     record {
       in_order = c.requires.order;
       own = c.requires.own;
       taken_out = c.in_ok-exclusions.ensures;
       known = known-left c.args.zones w event sound c.args.since c.starts_by_rule-rule_starts.result (listed_left c.in_ok-new.field-0) firsts ruled;
-      ruled = subst (λ t. HasRuled (clocks_in c.args.zones) c.args.event.now c.starts_by_rule-rule_starts.result (given_of (clocks_in c.args.zones) c.args.window c.args.event.now t c.args.overridden.items (left c.starts_by_rule-rule_starts.result c.in_ok-new.field-0))) (sym since)
-          (has-ruled c.args.zones w event sound c.args.since c.starts_by_rule-rule_starts.result c.args.overridden.items (given_of clocks w event c.args.since c.args.overridden.items (left c.starts_by_rule-rule_starts.result c.in_ok-new.field-0)) ruled
+      ruled = subst (λ t. HasRuled (clocks_in c.args.zones) c.args.event.now c.starts_by_rule-rule_starts.result
+          (given_of (clocks_in c.args.zones) c.args.window c.args.event.now t c.args.overridden.items
+          (left c.starts_by_rule-rule_starts.result c.in_ok-new.field-0))) (sym since)
+          (has-ruled c.args.zones w event sound c.args.since c.starts_by_rule-rule_starts.result c.args.overridden.items
+          (given_of clocks w event c.args.since c.args.overridden.items (left c.starts_by_rule-rule_starts.result c.in_ok-new.field-0)) ruled
           (series-listing clocks w event c.args.since c.args.overridden.items (left c.starts_by_rule-rule_starts.result c.in_ok-new.field-0) starts));
-      own_rule = own-rule-as c.args.zones event w _ _ c.deref.result.now (listed_apart clocks w event event.rule) c.starts_by_rule-rule_starts.result refl (c.deref.ensures.value ∙ c.in_ok-listed.ensures) c.starts_by_rule-rule_starts.ensures.own;
-      rising = subst (λ t. Rises entry_cmp (given_of (clocks_in c.args.zones) c.args.window c.args.event.now t c.args.overridden.items (left c.starts_by_rule-rule_starts.result c.in_ok-new.field-0))) (sym since)
+      own_rule = own-rule-as c.args.zones event w _ _ c.deref.result.now (listed_apart clocks w event event.rule) c.starts_by_rule-rule_starts.result refl
+          (c.deref.ensures.value ∙ c.in_ok-listed.ensures) c.starts_by_rule-rule_starts.ensures.own;
+      rising = subst (λ t. Rises entry_cmp (given_of (clocks_in c.args.zones) c.args.window c.args.event.now t c.args.overridden.items
+          (left c.starts_by_rule-rule_starts.result c.in_ok-new.field-0))) (sym since)
           (series-listing clocks w event c.args.since c.args.overridden.items (left c.starts_by_rule-rule_starts.result c.in_ok-new.field-0) starts).rises;
     }
 
@@ -61,11 +68,14 @@ returns-clause-listing c =
     let sound = c.requires.own.is_event in
     let firsts : AreFirsts (listed_apart (clocks_in c.args.zones) c.args.window c.args.event.now c.args.event.now.rule) (listed_left c.in_ok-new.field-0) =
     subst (λ xs. AreFirsts xs (listed_left c.in_ok-new.field-0)) c.in_ok-listed.ensures c.in_ok-new.ensures in
-    let ruled = ruled-as clocks event w _ c.args.since c.deref.result.now (listed_apart clocks w event event.rule) c.starts_by_rule-rule_starts.result since (c.deref.ensures.value ∙ c.in_ok-listed.ensures) c.starts_by_rule-rule_starts.ensures.from in
-    let starts : AreStartsSince (clocks_in c.args.zones) c.args.event.now c.args.window c.args.since (left c.starts_by_rule-rule_starts.result c.in_ok-new.field-0) =
+    let ruled = ruled-as clocks event w _ c.args.since c.deref.result.now (listed_apart clocks w event event.rule) c.starts_by_rule-rule_starts.result since
+    (c.deref.ensures.value ∙ c.in_ok-listed.ensures) c.starts_by_rule-rule_starts.ensures.from in
+    let starts : AreStartsSince (clocks_in c.args.zones) c.args.event.now c.args.window c.args.since
+    (left c.starts_by_rule-rule_starts.result c.in_ok-new.field-0) =
     starts-since c.args.zones w event sound c.args.since c.starts_by_rule-rule_starts.result (listed_left c.in_ok-new.field-0) firsts ruled in
     subst (λ t. IsListing entry_cmp (IsSeriesMet (clocks_in c.args.zones) c.args.event.now c.args.window c.args.since c.args.overridden.items)
-    (given_of (clocks_in c.args.zones) c.args.window c.args.event.now t c.args.overridden.items (left c.starts_by_rule-rule_starts.result c.in_ok-new.field-0))) (sym since)
+    (given_of (clocks_in c.args.zones) c.args.window c.args.event.now t c.args.overridden.items (left c.starts_by_rule-rule_starts.result c.in_ok-new.field-0)))
+    (sym since)
     (series-listing clocks w event c.args.since c.args.overridden.items (left c.starts_by_rule-rule_starts.result c.in_ok-new.field-0) starts)
 
 pub returns-clause-sources : goal.returns-clause-sources

@@ -17,15 +17,20 @@ use Rattle.ics_series.proofs.series.Series.take.Goals as goal
 pub invariant_of-self : goal.invariant_of-self
 invariant_of-self c =
     let s = c.args.self.now in
-    let same : left c.peek_rule.new.rule s.listed ≡ left s.rule_starts s.listed = ap (λ xs. union moment_cmp xs (listed_left s.listed)) c.peek_rule.ensures.same in
+    let same : left c.peek_rule.new.rule s.listed ≡ left s.rule_starts s.listed =
+    ap (λ xs. union moment_cmp xs (listed_left s.listed)) c.peek_rule.ensures.same in
     record {
       in_order = s.in_order;
       own = s.own;
       taken_out = s.taken_out;
       known = subst (AreKnown (clocks_in s.zones) s.event.now s.window) (sym same) s.known;
-      ruled = ruled-same (clocks_in s.zones) s.window s.event.now s.since s.overridden.items s.rule_starts c.peek_rule.new.rule (given_of (clocks_in s.zones) s.window s.event.now s.since s.overridden.items (left s.rule_starts s.listed)) (given_of (clocks_in s.zones) s.window s.event.now s.since s.overridden.items (left c.peek_rule.new.rule s.listed)) c.peek_rule.ensures.rule c.peek_rule.ensures.same
+      ruled = ruled-same (clocks_in s.zones) s.window s.event.now s.since s.overridden.items s.rule_starts c.peek_rule.new.rule
+          (given_of (clocks_in s.zones) s.window s.event.now s.since s.overridden.items (left s.rule_starts s.listed))
+          (given_of (clocks_in s.zones) s.window s.event.now s.since s.overridden.items (left c.peek_rule.new.rule s.listed)) c.peek_rule.ensures.rule
+          c.peek_rule.ensures.same
           (ap (given_of (clocks_in s.zones) s.window s.event.now s.since s.overridden.items) same) s.ruled;
-      own_rule = own-rule-same s.zones s.event.now s.window (first_of (clocks_in s.zones) s.window s.event.now s.since) s.rule_starts c.peek_rule.new.rule c.peek_rule.ensures.rule s.own_rule;
+      own_rule = own-rule-same s.zones s.event.now s.window (first_of (clocks_in s.zones) s.window s.event.now s.since) s.rule_starts c.peek_rule.new.rule
+          c.peek_rule.ensures.rule s.own_rule;
       rising = subst (λ xs. Rises entry_cmp (given_of (clocks_in s.zones) s.window s.event.now s.since s.overridden.items xs)) (sym same) s.rising;
     }
 
@@ -33,35 +38,50 @@ pub invariant_of-self-in-Some : goal.invariant_of-self-in-Some
 invariant_of-self-in-Some c =
     let s = c.args.self.now in
     let first : earlier_of (slice_get (rule_left c.peek_rule.new.rule) 0) (slice_get (listed_left c.args.self.now.listed) 0) ≡ Some c.in-Some.start =
-    ap (λ o. earlier_of o (slice_get (listed_left c.args.self.now.listed) 0)) (sym c.in_ok-ruled.ensures.first) ∙ (ap (earlier_of c.in_ok-ruled.ruled) (sym c.peek.ensures) ∙ (sym c.earlier_of-first.ensures ∙ c.in-Some.is)) in
+    ap (λ o. earlier_of o (slice_get (listed_left c.args.self.now.listed) 0)) (sym c.in_ok-ruled.ensures.first)
+    ∙ (ap (earlier_of c.in_ok-ruled.ruled) (sym c.peek.ensures) ∙ (sym c.earlier_of-first.ensures ∙ c.in-Some.is)) in
     let taken : left s.rule_starts s.listed ≡ c.in-Some.start ∷ left c.pass_rule.new.rule c.pass.new.self =
-    both-passed (rule_left s.rule_starts) (rule_left c.peek_rule.new.rule) (listed_left s.listed) (listed_left c.pass.new.self) (rule_left c.pass_rule.new.rule) c.in-Some.start
+    both-passed (rule_left s.rule_starts) (rule_left c.peek_rule.new.rule) (listed_left s.listed) (listed_left c.pass.new.self) (rule_left c.pass_rule.new.rule)
+    c.in-Some.start
     c.peek_rule.ensures.same c.pass_rule.ensures.left c.pass.ensures
     (first-taken (rule_left c.peek_rule.new.rule) (listed_left s.listed) c.in-Some.start (rises-rule c.peek_rule.new.rule) (rises-listed s.listed) first) in
     record {
       in_order = s.in_order;
       own = s.own;
       taken_out = s.taken_out;
-      known = known-rest (clocks_in s.zones) s.window s.event.now c.in-Some.start (left s.rule_starts s.listed) (left c.pass_rule.new.rule c.pass.new.self) taken s.known;
-      ruled = ruled-rest (clocks_in s.zones) s.window s.event.now s.since s.overridden.items c.peek_rule.new.rule c.pass_rule.new.rule c.in-Some.start (left s.rule_starts s.listed) (left c.pass_rule.new.rule c.pass.new.self) c.pass_rule.ensures.rule c.pass_rule.ensures.left taken
+      known = known-rest (clocks_in s.zones) s.window s.event.now c.in-Some.start (left s.rule_starts s.listed) (left c.pass_rule.new.rule c.pass.new.self)
+          taken s.known;
+      ruled = ruled-rest (clocks_in s.zones) s.window s.event.now s.since s.overridden.items c.peek_rule.new.rule c.pass_rule.new.rule c.in-Some.start
+          (left s.rule_starts s.listed) (left c.pass_rule.new.rule c.pass.new.self) c.pass_rule.ensures.rule c.pass_rule.ensures.left taken
           (rises-union moment_cmp moment_total (rule_left s.rule_starts) (listed_left s.listed) (rises-listed s.listed)) s.known
-          (ruled-same (clocks_in s.zones) s.window s.event.now s.since s.overridden.items s.rule_starts c.peek_rule.new.rule (given_of (clocks_in s.zones) s.window s.event.now s.since s.overridden.items (left s.rule_starts s.listed)) (given_of (clocks_in s.zones) s.window s.event.now s.since s.overridden.items (left s.rule_starts s.listed)) c.peek_rule.ensures.rule c.peek_rule.ensures.same refl s.ruled);
-      own_rule = own-rule-same s.zones s.event.now s.window (first_of (clocks_in s.zones) s.window s.event.now s.since) c.peek_rule.new.rule c.pass_rule.new.rule c.pass_rule.ensures.rule (own-rule-same s.zones s.event.now s.window (first_of (clocks_in s.zones) s.window s.event.now s.since) s.rule_starts c.peek_rule.new.rule c.peek_rule.ensures.rule s.own_rule);
-      rising = rises-rest (clocks_in s.zones) s.window s.event.now s.since s.overridden.items c.in-Some.start (left s.rule_starts s.listed) (left c.pass_rule.new.rule c.pass.new.self) taken s.rising;
+          (ruled-same (clocks_in s.zones) s.window s.event.now s.since s.overridden.items s.rule_starts c.peek_rule.new.rule
+          (given_of (clocks_in s.zones) s.window s.event.now s.since s.overridden.items (left s.rule_starts s.listed))
+          (given_of (clocks_in s.zones) s.window s.event.now s.since s.overridden.items (left s.rule_starts s.listed)) c.peek_rule.ensures.rule
+          c.peek_rule.ensures.same refl s.ruled);
+      own_rule = own-rule-same s.zones s.event.now s.window (first_of (clocks_in s.zones) s.window s.event.now s.since) c.peek_rule.new.rule
+          c.pass_rule.new.rule c.pass_rule.ensures.rule (own-rule-same s.zones s.event.now s.window (first_of (clocks_in s.zones) s.window s.event.now s.since)
+          s.rule_starts c.peek_rule.new.rule c.peek_rule.ensures.rule s.own_rule);
+      rising = rises-rest (clocks_in s.zones) s.window s.event.now s.since s.overridden.items c.in-Some.start (left s.rule_starts s.listed)
+          (left c.pass_rule.new.rule c.pass.new.self) taken s.rising;
     }
 
 pub invariant_of-self-in_default : goal.invariant_of-self-in_default
 invariant_of-self-in_default c =
     let s = c.args.self.now in
-    let same : left c.peek_rule.new.rule s.listed ≡ left s.rule_starts s.listed = ap (λ xs. union moment_cmp xs (listed_left s.listed)) c.peek_rule.ensures.same in
+    let same : left c.peek_rule.new.rule s.listed ≡ left s.rule_starts s.listed =
+    ap (λ xs. union moment_cmp xs (listed_left s.listed)) c.peek_rule.ensures.same in
     record {
       in_order = s.in_order;
       own = s.own;
       taken_out = s.taken_out;
       known = subst (AreKnown (clocks_in s.zones) s.event.now s.window) (sym same) s.known;
-      ruled = ruled-same (clocks_in s.zones) s.window s.event.now s.since s.overridden.items s.rule_starts c.peek_rule.new.rule (given_of (clocks_in s.zones) s.window s.event.now s.since s.overridden.items (left s.rule_starts s.listed)) (given_of (clocks_in s.zones) s.window s.event.now s.since s.overridden.items (left c.peek_rule.new.rule s.listed)) c.peek_rule.ensures.rule c.peek_rule.ensures.same
+      ruled = ruled-same (clocks_in s.zones) s.window s.event.now s.since s.overridden.items s.rule_starts c.peek_rule.new.rule
+          (given_of (clocks_in s.zones) s.window s.event.now s.since s.overridden.items (left s.rule_starts s.listed))
+          (given_of (clocks_in s.zones) s.window s.event.now s.since s.overridden.items (left c.peek_rule.new.rule s.listed)) c.peek_rule.ensures.rule
+          c.peek_rule.ensures.same
           (ap (given_of (clocks_in s.zones) s.window s.event.now s.since s.overridden.items) same) s.ruled;
-      own_rule = own-rule-same s.zones s.event.now s.window (first_of (clocks_in s.zones) s.window s.event.now s.since) s.rule_starts c.peek_rule.new.rule c.peek_rule.ensures.rule s.own_rule;
+      own_rule = own-rule-same s.zones s.event.now s.window (first_of (clocks_in s.zones) s.window s.event.now s.since) s.rule_starts c.peek_rule.new.rule
+          c.peek_rule.ensures.rule s.own_rule;
       rising = subst (λ xs. Rises entry_cmp (given_of (clocks_in s.zones) s.window s.event.now s.since s.overridden.items xs)) (sym same) s.rising;
     }
 
@@ -69,8 +89,10 @@ pub returns-in-Some-clause-taken : goal.returns-in-Some-clause-taken
 returns-in-Some-clause-taken c =
     let s = c.args.self.now in
     let first : earlier_of (slice_get (rule_left c.peek_rule.new.rule) 0) (slice_get (listed_left c.args.self.now.listed) 0) ≡ Some c.in-Some.start =
-    ap (λ o. earlier_of o (slice_get (listed_left c.args.self.now.listed) 0)) (sym c.in_ok-ruled.ensures.first) ∙ (ap (earlier_of c.in_ok-ruled.ruled) (sym c.peek.ensures) ∙ (sym c.earlier_of-first.ensures ∙ c.in-Some.is)) in
-    both-passed (rule_left s.rule_starts) (rule_left c.peek_rule.new.rule) (listed_left s.listed) (listed_left c.pass.new.self) (rule_left c.pass_rule.new.rule) c.in-Some.start
+    ap (λ o. earlier_of o (slice_get (listed_left c.args.self.now.listed) 0)) (sym c.in_ok-ruled.ensures.first)
+    ∙ (ap (earlier_of c.in_ok-ruled.ruled) (sym c.peek.ensures) ∙ (sym c.earlier_of-first.ensures ∙ c.in-Some.is)) in
+    both-passed (rule_left s.rule_starts) (rule_left c.peek_rule.new.rule) (listed_left s.listed) (listed_left c.pass.new.self) (rule_left c.pass_rule.new.rule)
+    c.in-Some.start
     c.peek_rule.ensures.same c.pass_rule.ensures.left c.pass.ensures
     (first-taken (rule_left c.peek_rule.new.rule) (listed_left s.listed) c.in-Some.start (rises-rule c.peek_rule.new.rule) (rises-listed s.listed) first)
 
@@ -78,7 +100,8 @@ pub returns-in_default-clause-taken : goal.returns-in_default-clause-taken
 returns-in_default-clause-taken c =
     let s = c.args.self.now in
     let none : earlier_of (slice_get (rule_left c.peek_rule.new.rule) 0) (slice_get (listed_left c.args.self.now.listed) 0) ≡ None =
-    ap (λ o. earlier_of o (slice_get (listed_left c.args.self.now.listed) 0)) (sym c.in_ok-ruled.ensures.first) ∙ (ap (earlier_of c.in_ok-ruled.ruled) (sym c.peek.ensures) ∙ (sym c.earlier_of-first.ensures ∙ c.in_default.is)) in
+    ap (λ o. earlier_of o (slice_get (listed_left c.args.self.now.listed) 0)) (sym c.in_ok-ruled.ensures.first)
+    ∙ (ap (earlier_of c.in_ok-ruled.ruled) (sym c.peek.ensures) ∙ (sym c.earlier_of-first.ensures ∙ c.in_default.is)) in
     let empty : left c.peek_rule.new.rule s.listed ≡ [] = none-taken (rule_left c.peek_rule.new.rule) (listed_left s.listed) none in
     let before : left s.rule_starts s.listed ≡ [] = sym (ap (λ xs. union moment_cmp xs (listed_left s.listed)) c.peek_rule.ensures.same) ∙ empty in
     subst (λ o. IsTaken (left s.rule_starts s.listed) o (left c.peek_rule.new.rule s.listed)) (sym c.in_default.is) (before, empty)
@@ -87,7 +110,8 @@ pub returns-in_err-ruled-clause-near : goal.returns-in_err-ruled-clause-near
 returns-in_err-ruled-clause-near c = λ o m.
     let s = c.args.self.now in (
       given-own (clocks_in s.zones) s.window s.event.now s.since s.overridden.items (series_left s) o m,
-      asked-near (clocks_in s.zones) s.event.now s.rule_starts c.peek_rule.new.rule c.peek_rule.ensures.rule c.peek_rule.ensures.same (series_of s (series_left s)) s.ruled o m,
+      asked-near (clocks_in s.zones) s.event.now s.rule_starts c.peek_rule.new.rule c.peek_rule.ensures.rule c.peek_rule.ensures.same
+          (series_of s (series_left s)) s.ruled o m,
     )
 
 pub returns-in-Some-clause-near : goal.returns-in-Some-clause-near
@@ -95,12 +119,14 @@ returns-in-Some-clause-near c = λ o m.
     let s = c.args.self.now in (
       given-own (clocks_in s.zones) s.window s.event.now s.since s.overridden.items (series_left s) o m,
       subst (λ day. IsAskedNear (clocks_in s.zones) s.event.now day o.start) (sym c.pass_rule.ensures.asked)
-          (asked-near (clocks_in s.zones) s.event.now s.rule_starts c.peek_rule.new.rule c.peek_rule.ensures.rule c.peek_rule.ensures.same (series_of s (series_left s)) s.ruled o m),
+          (asked-near (clocks_in s.zones) s.event.now s.rule_starts c.peek_rule.new.rule c.peek_rule.ensures.rule c.peek_rule.ensures.same
+          (series_of s (series_left s)) s.ruled o m),
     )
 
 pub returns-in_default-clause-near : goal.returns-in_default-clause-near
 returns-in_default-clause-near c = λ o m.
     let s = c.args.self.now in (
       given-own (clocks_in s.zones) s.window s.event.now s.since s.overridden.items (series_left s) o m,
-      asked-near (clocks_in s.zones) s.event.now s.rule_starts c.peek_rule.new.rule c.peek_rule.ensures.rule c.peek_rule.ensures.same (series_of s (series_left s)) s.ruled o m,
+      asked-near (clocks_in s.zones) s.event.now s.rule_starts c.peek_rule.new.rule c.peek_rule.ensures.rule c.peek_rule.ensures.same
+          (series_of s (series_left s)) s.ruled o m,
     )

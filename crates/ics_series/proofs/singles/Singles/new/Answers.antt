@@ -13,21 +13,28 @@ use Rattle.ics_series.proofs.singles.Singles.new.Goals as goal
 
 pub to_come-requires-clause-overrides : goal.to_come-requires-clause-overrides
 to_come-requires-clause-overrides c =
-    overrides-sorted (map said_by c.args.files.now) (display_clock c.args.display.now) c.args.chosen.now c.args.overrides.now c.requires.chosen c.requires.overrides
+    overrides-sorted (map said_by c.args.files.now) (display_clock c.args.display.now) c.args.chosen.now c.args.overrides.now c.requires.chosen
+    c.requires.overrides
 
 pub invariant_of-result : goal.invariant_of-result
 invariant_of-result c =
-    let listing = singles-listing (map said_by c.args.files.now) (display_clock c.args.display.now) c.args.window.now (option_map (λ key. key_rank key.now) c.args.after)
+    let listing = singles-listing (map said_by c.args.files.now) (display_clock c.args.display.now) c.args.window.now
+    (option_map (λ key. key_rank key.now) c.args.after)
     c.args.chosen.now c.args.overrides.now c.in_ok-singles.singles.items c.sort_unstable_by.new.self.items
-    c.requires.chosen c.requires.overrides c.in_ok-singles.ensures c.sort_unstable_by.ensures.permutation c.sort_unstable_by.ensures.sorted (λ f a r f' k. search rules) in
+    c.requires.chosen c.requires.overrides c.in_ok-singles.ensures c.sort_unstable_by.ensures.permutation c.sort_unstable_by.ensures.sorted
+    (λ f a r f' k. search rules) in
     record {
-      single = subst (λ (xs : List Single). AreSingle (map single_entry xs)) (sym c.into_iter.ensures.rest) (are-single (map single_entry c.sort_unstable_by.new.self.items) (λ o m. ((listing.exact o).0 m).1));
+      single = subst (λ (xs : List Single). AreSingle (map single_entry xs)) (sym c.into_iter.ensures.rest)
+          (are-single (map single_entry c.sort_unstable_by.new.self.items) (λ o m. ((listing.exact o).0 m).1));
       rising = subst (λ (xs : List Single). Rises entry_cmp (map single_entry xs)) (sym c.into_iter.ensures.rest) listing.rises;
     }
 
 pub returns : goal.returns
 returns c =
-    let listing = singles-listing (map said_by c.args.files.now) (display_clock c.args.display.now) c.args.window.now (option_map (λ key. key_rank key.now) c.args.after)
+    let listing = singles-listing (map said_by c.args.files.now) (display_clock c.args.display.now) c.args.window.now
+    (option_map (λ key. key_rank key.now) c.args.after)
     c.args.chosen.now c.args.overrides.now c.in_ok-singles.singles.items c.sort_unstable_by.new.self.items
-    c.requires.chosen c.requires.overrides c.in_ok-singles.ensures c.sort_unstable_by.ensures.permutation c.sort_unstable_by.ensures.sorted (λ f a r f' k. search rules) in
-    subst (λ (xs : List Single). IsListing entry_cmp (IsSingleToCome (map said_by c.args.files.now) (display_clock c.args.display.now) c.args.window.now (option_map (λ key. key_rank key.now) c.args.after)) (map single_entry xs)) (sym c.into_iter.ensures.rest) listing
+    c.requires.chosen c.requires.overrides c.in_ok-singles.ensures c.sort_unstable_by.ensures.permutation c.sort_unstable_by.ensures.sorted
+    (λ f a r f' k. search rules) in
+    subst (λ (xs : List Single). IsListing entry_cmp (IsSingleToCome (map said_by c.args.files.now) (display_clock c.args.display.now) c.args.window.now
+    (option_map (λ key. key_rank key.now) c.args.after)) (map single_entry xs)) (sym c.into_iter.ensures.rest) listing

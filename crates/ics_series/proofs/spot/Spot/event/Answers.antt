@@ -9,9 +9,11 @@ pub returns-clause-own : goal.returns-clause-own
 returns-clause-own c =
     let file = c.index-files-self.result in
     let there : c.args.self.place < length c.file.inside.events.items =
-    subst (λ (v : FileSeen). c.args.self.place < length v.events) (sym c.file.view_is) (event-within c.args.files.now c.args.self c.requires file c.index-files-self.is) in
+    subst (λ (v : FileSeen). c.args.self.place < length v.events) (sym c.file.view_is)
+    (event-within c.args.files.now c.args.self c.requires file c.index-files-self.is) in
     let zones : map zone_said c.file.inside.zones.items ≡ zones_in (map said_by c.args.files.now) c.args.self.file =
-    ap (λ (v : FileSeen). map zone_said v.zones) c.file.view_is ∙ sym (ap zones_of (said-there c.args.files.now c.args.self c.requires file c.index-files-self.is)) in
+    ap (λ (v : FileSeen). map zone_said v.zones) c.file.view_is
+    ∙ sym (ap zones_of (said-there c.args.files.now c.args.self c.requires file c.index-files-self.is)) in
     let own : IsEventOf (map zone_said c.file.inside.zones.items) c.index.result.now =
     subst (IsEventOf (map zone_said c.file.inside.zones.items)) (sym c.index.ensures) (c.file.invariant c.args.self.place c.index.result.now there) in
     subst (λ zs. IsEventOf zs c.index.result.now) zones own

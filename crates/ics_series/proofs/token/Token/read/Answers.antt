@@ -42,7 +42,9 @@ returns-else-eq-clause-bad c bad token =
     let parts = c.in-Some.ensures key.start key.recurrence (encode_lower key.uid) k.start k.recurrence e in
     let text : decode_of c.as_bytes.result.now ≡ Ok key.uid = ap decode_of (c.as_bytes.ensures.value ∙ parts.2) ∙ decode_of-encode_lower key.uid k.uid in
     let uid : c.in-Ok.uid.items ≡ key.uid = let q = sym c.in-Ok.ensures.ok ∙ text in cc in
-    let spelled = c.in_ok-spelled.ensures ∙ spelled-of _ _ c.in-Ok.uid.items key (back c.in-Some.start key.start parts.0 k.start) (back c.in-Some.recurrence key.recurrence parts.1 k.recurrence) uid in
+    let spelled = c.in_ok-spelled.ensures
+    ∙ spelled-of _ _ c.in-Ok.uid.items key (back c.in-Some.start key.start parts.0 k.start) (back c.in-Some.recurrence key.recurrence parts.1 k.recurrence)
+    uid in
     let same : c.as_str.result.now ≡ c.args.text.now = c.as_str.ensures.value ∙ (spelled ∙ sym e) in
     let yes : c.eq.result ≡ true = c.eq.ensures ∙ (ap (λ t. pointwise nat_eq t c.args.text.now) same ∙ nat_list_eq_equiv.refl c.args.text.now) in
     let no : c.eq.result ≡ false = c.if-eq.false in cc

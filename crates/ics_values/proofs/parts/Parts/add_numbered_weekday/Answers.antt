@@ -11,7 +11,8 @@ invariant_of-self c = record {
   minutes = c.self.invariant.minutes;
   hours = c.self.invariant.hours;
   weekdays = rw c.add_numbered.ensures c.self.invariant.weekdays;
-  numbered = rw c.add_numbered.ensures (numbered_more c.args.weekday c.args.side c.args.n c.self.inside.weekdays (omega arith) c.requires.first c.requires.last c.self.invariant.numbered);
+  numbered = rw c.add_numbered.ensures (numbered_more c.args.weekday c.args.side c.args.n c.self.inside.weekdays (omega arith) c.requires.first c.requires.last
+      c.self.invariant.numbered);
   month_days = c.self.invariant.month_days;
   year_days = c.self.invariant.year_days;
   weeks = c.self.invariant.weeks;

@@ -12,7 +12,8 @@ refused : (t : Bool) (r : RuleParts) (d : Draft) → cond t (Some r) None ≡ No
 refused true r d h = cc
 refused false r d h = refl
 
-taken : (t : Bool) (r s : RuleParts) (d : Draft) → cond t (Some r) None ≡ Some s → cond (not t) None (Some (record d { parts = r })) ≡ Some (record d { parts = s })
+taken : (t : Bool) (r s : RuleParts) (d : Draft) → cond t (Some r) None ≡ Some s →
+    cond (not t) None (Some (record d { parts = r })) ≡ Some (record d { parts = s })
 taken true r s d h = ap (λ (x : RuleParts). Some (record d { parts = x })) (let e : r ≡ s = cc in e)
 taken false r s d h = cc
 

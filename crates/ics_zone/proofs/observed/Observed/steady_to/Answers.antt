@@ -20,5 +20,6 @@ returns-clause-steady c =
     let found = rw c.deref.ensures.value at (simp to_z-of_z at c.in_ok-latest.ensures) in
     let next : to_z w64 (of_z w64 (to_z w64 (of_z w64 c.args.to) +ℤ pos 1)) ≡ c.args.to +ℤ pos 1 = omega (arith, ints, c.requires.0, c.requires.1) in
     rw (next, to_z-of_z w64 c.in_ok-latest.latest.at at, to_z-of_z w32 c.in_ok-latest.latest.offset small)
-    (steady_since (observances_said c.args.self.now) (zone_facts c.args.self.now) known.some c.args.to (c.args.to +ℤ pos 1) (λ i s p h l. omega (arith, ints, l))
+    (steady_since (observances_said c.args.self.now) (zone_facts c.args.self.now) known.some c.args.to (c.args.to +ℤ pos 1)
+    (λ i s p h l. omega (arith, ints, l))
     (Some c.in_ok-latest.latest) (found (observances_said c.args.self.now) known.asked) c.in_ok-latest.latest refl)

@@ -45,7 +45,8 @@ returns-in-Some-clause-clear c = λ k contains early later.
     c.first_of.result c.front.result (omega (arith, c.loop-minute.invariant.length, c.loop-minute-test.true)) known complete
     (λ k h. let early = first k h in omega (arith, ints, early, c.requires.local, c.from.ensures)) is_size c.front.ensures.members)
     (omega (arith, c.loop-minute-test.true)) (omega (arith, small)) c.in-Some.ensures.1 clear k
-    (omega (arith, ints, clamps, early, small, c.min.ensures.value, c.requires.most, c.requires.some, c.loop-minute-test.true, c.from-in-Some.ensures)) contains later
+    (omega (arith, ints, clamps, early, small, c.min.ensures.value, c.requires.most, c.requires.some, c.loop-minute-test.true, c.from-in-Some.ensures)) contains
+    later
 
 pub loop-minute-preserved : goal.loop-minute-preserved
 loop-minute-preserved c =
@@ -65,7 +66,8 @@ loop-minute-preserved c =
           c.first_of.result c.front.result (omega (arith, c.loop-minute.invariant.length, c.loop-minute-test.true)) known complete
           (λ k h. let early = first k h in omega (arith, ints, early, c.requires.local, c.from.ensures)) is_size c.front.ensures.members
           (omega (arith, c.loop-minute-test.true)) c.args.over.now marks;
-      clear = λ k early. clear_minute c.args.self.now c.args.seconds c.args.from c.seconds_to-low.result c.within-onsets.result c.loop-minute.over c.loop-minute.minute
+      clear = λ k early. clear_minute c.args.self.now c.args.seconds c.args.from c.seconds_to-low.result c.within-onsets.result c.loop-minute.over
+          c.loop-minute.minute
           c.first_of.result c.front.result (omega (arith, c.loop-minute.invariant.length, c.loop-minute-test.true)) known complete
           (λ k h. let early = first k h in omega (arith, ints, early, c.requires.local, c.from.ensures)) is_size c.front.ensures.members
           _ 60

@@ -9,5 +9,6 @@ none_late list t u o e h in_list = (subst (λ x. IsLastOf (Contains list) t x) e
 pub returns-in_default : goal.returns-in_default
 returns-in_default c = λ u h l.
     let moment : SFits w64 c.args.moment = c.ranges.moment in
-    absurd (let late = none_late c.args.self.now.listed.items c.args.moment u c.last_listed.result c.in_default.is (simp to_z-of_z at c.last_listed.ensures) h in
+    absurd (let late = none_late c.args.self.now.listed.items c.args.moment u c.last_listed.result c.in_default.is (simp to_z-of_z at c.last_listed.ensures)
+    h in
     omega (arith, ints, late, l))

@@ -15,7 +15,8 @@ pub returns-in_err-keep-clause-some : goal.returns-in_err-keep-clause-some
 returns-in_err-keep-clause-some g c =
     let f = c.in_ok-found.ensures.found in
     on_err c.from_residual-in_err-keep.result (λ asked k.
-    learns-some-one g.Z.ZoneSource.finds asked c.args.name.now c.args.zones.now c.find.new.zones c.args.self.now k (sym c.contains.ensures ∙ c.if-contains.false) f.0
+    learns-some-one g.Z.ZoneSource.finds asked c.args.name.now c.args.zones.now c.find.new.zones c.args.self.now k (sym c.contains.ensures
+    ∙ c.if-contains.false) f.0
     (subst (λ (n : List ℕ). g.Z.ZoneSource.finds c.args.zones.now n f.0 c.find.new.zones) c.as_slice.ensures f.1) (seen_found c.in_ok-found.found) f.2)
 
 pub returns-clause-ok : goal.returns-clause-ok

@@ -29,12 +29,14 @@ pub returns-in_err-format : goal.returns-in_err-format
 returns-in_err-format c =
     let gives = c.from_residual-in_err-format.ensures in
     no_format (subcommand_rows_of c.args.found.now) c.args.now c.from_residual-in_err-format.result c.in_err-format.field-0.0 gives.0 gives.1
-    (has_window _ _ c.in_ok-zone.zone c.in-Some.window (search rules) (search rules)) (good_token _ c.in_ok-zone.zone c.in-Some.window c.in_ok-after.after.once c.in_ok-after.after.every_day c.in_ok-after.ensures.ok)
+    (has_window _ _ c.in_ok-zone.zone c.in-Some.window (search rules) (search rules))
+    (good_token _ c.in_ok-zone.zone c.in-Some.window c.in_ok-after.after.once c.in_ok-after.after.every_day c.in_ok-after.ensures.ok)
     (λ is. inl (subst (λ (text : List ℕ). ¬ IsFormat entry_name text) c.text_or.ensures (c.in_err-format.ensures.bad is)))
 
 pub returns-in_err-day_format : goal.returns-in_err-day_format
 returns-in_err-day_format c =
     let gives = c.from_residual-in_err-day_format.ensures in
     no_format (subcommand_rows_of c.args.found.now) c.args.now c.from_residual-in_err-day_format.result c.in_err-day_format.field-0.0 gives.0 gives.1
-    (has_window _ _ c.in_ok-zone.zone c.in-Some.window (search rules) (search rules)) (good_token _ c.in_ok-zone.zone c.in-Some.window c.in_ok-after.after.once c.in_ok-after.after.every_day c.in_ok-after.ensures.ok)
+    (has_window _ _ c.in_ok-zone.zone c.in-Some.window (search rules) (search rules))
+    (good_token _ c.in_ok-zone.zone c.in-Some.window c.in_ok-after.after.once c.in_ok-after.after.every_day c.in_ok-after.ensures.ok)
     (λ is. inr (subst (λ (text : List ℕ). ¬ IsFormat day_name text) c.text_or-2.ensures (c.in_err-day_format.ensures.bad is)))
