@@ -7,7 +7,7 @@ use Rattle.std.proofs.Common.{cond, refl, sym, ◌∙◌, ap, subst, arith}
 use Rattle.std.proofs.lemmas.Int.{ints}
 use Rattle.ics_calendar.specs.Event.{FileSaid}
 use Rattle.ics_zone.specs.Seconds.{IsNear}
-use Rattle.ics_zone.proofs.Cases.{and_both, or_cases, or_left, or_right, int_lt_true, true_int_lt, and_parts}
+use Rattle.ics_zone.proofs.Cases.{int_lt_true, true_int_lt}
 use Rattle.ics_series.specs.declared.window.Window.{Window}
 use Rattle.ics_series.specs.After.{is_after}
 use Rattle.ics_series.specs.Ahead.{is_today, today, IsAheadOf, IsLater}
@@ -20,7 +20,7 @@ use Rattle.ics_series.specs.Meets.{IsListed, IsToCome, Meets}
 use Rattle.ics_series.specs.NearDays.{first_near, last_near, Begins, IsNearDay}
 use Rattle.ics_series.specs.Sources.{Source}
 use Rattle.ics_series.specs.OnDays.{after_day_key, is_day_after, on_day, on_day_cmp, IsOnDay, OnDay}
-use Rattle.ics_series.proofs.Cases.{equal-true, true-equal}
+use Rattle.ics_series.proofs.Cases.{equal-true, true-equal, and_both, or_cases, or_left, or_right, and_parts}
 use Rattle.ics_series.proofs.FilterLemmas.{listing-filter}
 use Rattle.ics_series.proofs.ListingLemmas.{one-listing}
 use Rattle.ics_series.proofs.NearDayLemmas.{meets-near, near-first, near-last, occurs-forward}

@@ -14,7 +14,8 @@ use Rattle.std.proofs.lemmas.List.Sorted.{list_any-IsPermutation, searchable_fro
 use Rattle.ics_values.specs.declared.stamp.Stamp.{Stamp}
 use Rattle.ics_values.specs.declared.stamp.Stamp.TheVariants.{Date, Floating, Utc, Zoned}
 use Rattle.ics_calendar.specs.declared.time.Time.{Time}
-use Rattle.ics_zone.proofs.Cases.{int_le_true, less_or_not}
+use Rattle.ics_zone.proofs.Cases.{int_le_true}
+use Rattle.ics_series.proofs.Cases.{less_or_not}
 use Rattle.ics_series.specs.declared.window.Window.{Window}
 use Rattle.ics_series.specs.declared.zones.FileZones.{FileZones}
 use Rattle.ics_series.specs.Clocks.{Clock, Clocks, instant}

@@ -7,9 +7,9 @@ use Rattle.std.proofs.lemmas.Int.{ints}
 use Rattle.ics_rule.specs.Kept.{count, is_kept}
 use Rattle.ics_rule.specs.Recurrence.{Recurrence}
 use Rattle.ics_rule.proofs.Counts.{count-suc}
-use Rattle.ics_rule.proofs.KeptLemmas.{and_true, eqb_true}
+use Rattle.ics_rule.proofs.KeptLemmas.{and_true}
 use Rattle.ics_calendar.specs.declared.event.Event.{Event}
-use Rattle.ics_zone.proofs.Cases.{true_int_lt, true_int_le, true_eq, and_both}
+use Rattle.ics_zone.proofs.Cases.{true_int_lt, true_int_le}
 use Rattle.ics_series.specs.declared.start.Start.{Start}
 use Rattle.ics_series.specs.declared.window.Window.{Window}
 use Rattle.ics_series.specs.declared.zones.FileZones.{FileZones}
@@ -22,7 +22,7 @@ use Rattle.ics_series.specs.Rising.{Rises}
 use Rattle.ics_series.specs.RuleStarts.{lets_until, local_numbered, moment_numbered, number_in, AreHeld, IsHeld}
 use Rattle.ics_series.specs.Starts.{recurrence_of}
 use Rattle.ics_series.specs.FileZones.{clocks_in}
-use Rattle.ics_series.proofs.Cases.{below-or-last}
+use Rattle.ics_series.proofs.Cases.{below-or-last, eqb_true, true_eq, and_both}
 use Rattle.ics_series.proofs.FirstLemmas.{int-less, moment_total}
 use Rattle.ics_series.proofs.ListingLemmas.{before-in}
 use Rattle.ics_series.proofs.PeriodCountLemmas.{count-implied, one-more}

@@ -4,7 +4,7 @@ use Rattle.std.proofs.Common.{◌≡◌, ℤ, inl, inr, ⊎_elim, Bool, true, fa
 use Rattle.std.specs.Ordering.{int_eq}
 use Rattle.std.proofs.lemmas.Int.{ints}
 use Rattle.ics_calendar.specs.declared.event.Event.{Event}
-use Rattle.ics_zone.proofs.Cases.{and_parts, and_both, or_cases, or_left, or_right, int_lt_true, true_int_lt, int_le_true, true_int_le}
+use Rattle.ics_zone.proofs.Cases.{int_lt_true, true_int_lt, int_le_true, true_int_le}
 use Rattle.ics_series.specs.declared.window.Window.{Window}
 use Rattle.ics_series.specs.Clocks.{Clocks}
 use Rattle.ics_series.specs.Entry.{Entry}
@@ -12,7 +12,7 @@ use Rattle.ics_series.specs.Exclusions.{is_excluded}
 use Rattle.ics_series.specs.Found.{is_shown}
 use Rattle.ics_series.specs.Meeting.{is_met, is_under_way}
 use Rattle.ics_series.specs.Meets.{Meets}
-use Rattle.ics_series.proofs.Cases.{not-true, equal-true, true-equal}
+use Rattle.ics_series.proofs.Cases.{not-true, equal-true, true-equal, and_parts, and_both, or_cases, or_left, or_right}
 
 not-or-by : (a b : Bool) → (a ≡ true → b ≡ true) → (not a || b) ≡ true
 not-or-by true b h = h refl

@@ -6,7 +6,7 @@ use Rattle.std.specs.Ordering.{int_eq}
 use Rattle.std.proofs.lemmas.Int.{int_max_is, int_min_is, ints}
 use Rattle.ics_calendar.specs.Event.{FileSaid}
 use Rattle.ics_zone.specs.Seconds.{IsNear}
-use Rattle.ics_zone.proofs.Cases.{int_le_true, and_parts}
+use Rattle.ics_zone.proofs.Cases.{int_le_true}
 use Rattle.ics_series.specs.declared.window.Window.{Window}
 use Rattle.ics_series.specs.Clocks.{Clock, instant, local_at}
 use Rattle.ics_values.specs.Locals.{midnight, day_of_local}
@@ -18,7 +18,7 @@ use Rattle.ics_series.specs.NearDays.{first_near, last_near}
 use Rattle.ics_series.specs.Occurs.{Occurs}
 use Rattle.ics_series.specs.PlacedEvents.{clocks_at}
 use Rattle.ics_series.specs.Starts.{time_of}
-use Rattle.ics_series.proofs.Cases.{equal-true}
+use Rattle.ics_series.proofs.Cases.{equal-true, and_parts}
 use Rattle.ics_series.proofs.DayLemmas.{day-under}
 
 -- an occurrence ends where it starts, or later

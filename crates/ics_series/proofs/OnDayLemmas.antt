@@ -10,7 +10,7 @@ use Rattle.std.proofs.lemmas.Cmp.{int_cmp_total, on_total, then_total, tied_itse
 use Rattle.std.proofs.lemmas.Int.{ints}
 use Rattle.ics_calendar.specs.Event.{FileSaid}
 use Rattle.ics_zone.specs.Seconds.{IsNear}
-use Rattle.ics_zone.proofs.Cases.{and_both, and_parts}
+use Rattle.ics_series.proofs.Cases.{and_both, and_parts}
 use Rattle.ics_series.specs.declared.window.Window.{Window}
 use Rattle.ics_series.specs.Ahead.{is_today, today}
 use Rattle.ics_series.specs.Clocks.{Clock}

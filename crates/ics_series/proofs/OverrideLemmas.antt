@@ -13,7 +13,6 @@ use Rattle.std.specs.declared.cmp.Ordering.TheVariants.{Less, Equal, Greater}
 use Rattle.std.proofs.lemmas.Cmp.{on_total, tied_itself}
 use Rattle.std.proofs.lemmas.List.Sorted.{searchable_from_sorted}
 use Rattle.ics_calendar.specs.Event.{FileSaid}
-use Rattle.ics_zone.proofs.Cases.{or_right, less_or_not}
 use Rattle.ics_series.specs.declared.version.Version.{Version}
 use Rattle.ics_series.specs.Chosen.{subject_of, IsOverridden, SubjectSeen}
 use Rattle.ics_series.specs.Clocks.{Clock}
@@ -22,7 +21,7 @@ use Rattle.ics_series.specs.PlacedEvents.{Placed}
 use Rattle.ics_series.specs.Rising.{IsBefore, Rises}
 use Rattle.ics_series.specs.Versions.{is_named, is_override, label_of, seen, subject_cmp, subject_seen, AreChosen, Label}
 use Rattle.ics_series.proofs.HeldLemmas.{before-at}
-use Rattle.ics_series.proofs.Cases.{eq-Equal}
+use Rattle.ics_series.proofs.Cases.{eq-Equal, or_right, less_or_not}
 use Rattle.ics_series.proofs.FilterLemmas.{rises-filter}
 use Rattle.ics_series.proofs.OccursLemmas.{override-subject}
 use Rattle.ics_series.proofs.VersionLemmas.{exact-subject, subject_total}

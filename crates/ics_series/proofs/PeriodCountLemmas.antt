@@ -10,8 +10,8 @@ use Rattle.ics_values.specs.Locals.{number, calendar_end}
 use Rattle.ics_rule.specs.Recurrence.{Recurrence}
 use Rattle.ics_rule.specs.declared.effective_rule.EffectiveRule.{EffectiveRule}
 use Rattle.ics_rule.proofs.Counts.{count-suc, count_mono}
-use Rattle.ics_rule.proofs.KeptLemmas.{and_true, ltb_true}
-use Rattle.ics_zone.proofs.Cases.{and_both, true_lt}
+use Rattle.ics_rule.proofs.KeptLemmas.{and_true}
+use Rattle.ics_series.proofs.Cases.{ltb_true, and_both, true_lt}
 
 pub one-more : (p q : Bool) → (p ≡ true → q ≡ true) → cond p 1 0 ≤ cond q 1 0
 one-more true q f = let e = f refl in omega (arith, ap {B = ℕ} (λ b. cond b 1 0) e)

@@ -8,17 +8,16 @@ use Rattle.ics_values.specs.declared.local.Local.{Local}
 use Rattle.ics_rule.specs.Kept.{is_kept, until_moment}
 use Rattle.ics_values.specs.Locals.{number}
 use Rattle.ics_rule.specs.Recurrence.{Recurrence}
-use Rattle.ics_rule.proofs.KeptLemmas.{and_true, eqb_true, or_true}
+use Rattle.ics_rule.proofs.KeptLemmas.{and_true, or_true}
 use Rattle.ics_rule.proofs.NextLemmas.{kept_start}
 use Rattle.ics_calendar.specs.Event.{IsTime}
 use Rattle.ics_calendar.specs.declared.event.Event.{Event}
-use Rattle.ics_zone.proofs.Cases.{true_eq, and_both, or_left, or_right}
 use Rattle.ics_series.specs.declared.window.Window.{Window}
 use Rattle.ics_series.specs.Clocks.{Clocks, instant}
 use Rattle.ics_zone.specs.Observances.{is_until}
 use Rattle.ics_series.specs.RuleStarts.{gives, lets_until, local_numbered, moment_numbered}
 use Rattle.ics_series.specs.Starts.{local_of, recurrence_of, time_at, IsRuleStart}
-use Rattle.ics_series.proofs.Cases.{equal-true, true-equal, some-same}
+use Rattle.ics_series.proofs.Cases.{equal-true, true-equal, some-same, eqb_true, true_eq, and_both, or_left, or_right}
 use Rattle.ics_series.proofs.StartSourceLemmas.{calendar-day, own-day, rule-is, same-number}
 use Rattle.ics_series.proofs.KeptLemmas.{true-until, until-true}
 

@@ -18,7 +18,7 @@ use Rattle.ics_rule.proofs.KeptLemmas.{and_true}
 use Rattle.ics_calendar.specs.Event.{IsEvent, IsTime}
 use Rattle.ics_calendar.specs.declared.event.Event.{Event}
 use Rattle.ics_calendar.specs.declared.time.Rdate.{Rdate}
-use Rattle.ics_zone.proofs.Cases.{and_both, int_le_true, true_int_le}
+use Rattle.ics_zone.proofs.Cases.{int_le_true, true_int_le}
 use Rattle.ics_series.specs.declared.listed_starts.ListedStarts.{ListedStarts}
 use Rattle.ics_series.specs.declared.rule_starts.RuleStarts.{RuleStarts}
 use Rattle.ics_series.specs.declared.start.StartSource.{StartSource}
@@ -39,7 +39,7 @@ use Rattle.ics_series.specs.SeriesStarts.{given_of, is_among, has_moment, is_wan
 use Rattle.ics_series.specs.SeriesStarts.{HasSameRule, HaveRuled, IsAskedNear, IsGivenAt, IsGivenBy, IsKnown, IsSeriesMet}
 use Rattle.ics_series.specs.Starts.{given_by, local_of, recurrence_of, GivesStart, IsRuleStart}
 use Rattle.ics_series.specs.FileZones.{clocks_in}
-use Rattle.ics_series.proofs.Cases.{equal-true, true-equal, some-same}
+use Rattle.ics_series.proofs.Cases.{equal-true, true-equal, some-same, and_both}
 use Rattle.ics_series.proofs.FirstLemmas.{int-less, moment_total, tied-moment}
 use Rattle.ics_series.proofs.StartSourceLemmas.{gives-value}
 use Rattle.ics_series.proofs.LeftLemmas.{member-cut}

@@ -15,7 +15,8 @@ use Rattle.ics_calendar.specs.Event.{IsEvent}
 use Rattle.ics_calendar.specs.declared.event.Event.{Event}
 use Rattle.ics_calendar.specs.declared.time.Rdate.{Rdate}
 use Rattle.ics_calendar.specs.declared.time.Rdate.TheVariants.{At}
-use Rattle.ics_zone.proofs.Cases.{and_both, true_int_lt}
+use Rattle.ics_zone.proofs.Cases.{true_int_lt}
+use Rattle.ics_series.proofs.Cases.{and_both}
 use Rattle.ics_series.specs.declared.rule_starts.RuleStarts.{RuleStarts}
 use Rattle.ics_series.specs.declared.start.StartSource.{StartSource}
 use Rattle.ics_series.specs.declared.start.StartSource.TheVariants.{Kept, Listed}

@@ -18,7 +18,7 @@ use Rattle.ics_calendar.specs.declared.event.Event.{Event}
 use Rattle.ics_calendar.specs.declared.time.Rdate.{Rdate}
 use Rattle.ics_calendar.specs.declared.time.Rdate.TheVariants.{At}
 use Rattle.ics_calendar.specs.declared.time.Time.{Time}
-use Rattle.ics_zone.proofs.Cases.{and_parts}
+use Rattle.ics_series.proofs.Cases.{and_parts}
 use Rattle.ics_series.specs.declared.single.Single.{Single}
 use Rattle.ics_series.specs.declared.start.StartSource.{StartSource}
 use Rattle.ics_series.specs.declared.start.StartSource.TheVariants.{Kept, Listed}

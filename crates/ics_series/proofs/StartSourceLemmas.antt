@@ -16,7 +16,7 @@ use Rattle.ics_values.specs.declared.stamp.Stamp.TheVariants.{Date, Floating, Ut
 use Rattle.ics_rule.specs.Kept.{is_kept}
 use Rattle.ics_rule.specs.PeriodNumbers.{rules_end}
 use Rattle.ics_rule.specs.Recurrence.{Recurrence}
-use Rattle.ics_rule.proofs.KeptLemmas.{and_true, or_true, eqb_true, ltb_true}
+use Rattle.ics_rule.proofs.KeptLemmas.{and_true, or_true}
 use Rattle.ics_rule.proofs.LawLemmas.{kept_in_rule}
 use Rattle.ics_rule.proofs.NextLemmas.{in_rule_earlier}
 use Rattle.ics_calendar.specs.declared.time.Rdate.{Rdate}
@@ -24,7 +24,6 @@ use Rattle.ics_calendar.specs.declared.time.Rdate.TheVariants.{At, Span}
 use Rattle.ics_calendar.specs.declared.time.Time.{Time}
 use Rattle.ics_calendar.specs.declared.event.Event.{Event}
 use Rattle.ics_calendar.specs.Event.{is_zoned, HasZonesBelow, IsRdate, IsTime, RdateBelow, TimeBelow, stamp_seconds}
-use Rattle.ics_zone.proofs.Cases.{less_or_not}
 use Rattle.ics_series.specs.declared.start.StartSource.{StartSource}
 use Rattle.ics_series.specs.declared.start.StartSource.TheVariants.{Kept, Listed}
 use Rattle.ics_series.specs.Clocks.{Clocks, day_of}
@@ -32,7 +31,7 @@ use Rattle.ics_series.specs.Finish.{finish}
 use Rattle.ics_series.specs.Occurs.{IsInstance}
 use Rattle.ics_series.specs.Starts.{date_only, given_by, given_from, local_of, stamp_at, time_at, time_by, time_of, recurrence_by, recurrence_of, GivesStart}
 use Rattle.ics_series.specs.Starts.{IsNotAfter}
-use Rattle.ics_series.proofs.Cases.{some-same}
+use Rattle.ics_series.proofs.Cases.{some-same, eqb_true, ltb_true, less_or_not}
 
 -- Locals.
 pub same-local : (a b : Local) → a.day ≡ b.day → a.second ≡ b.second → a ≡ b
