@@ -5,6 +5,7 @@ use Rattle.std.specs.Ordering.{int_eq, is_lt}
 use Rattle.std.proofs.Common.{◌≡◌, ℕ, zero, suc, ℤ, pos, ◌+ℤ◌, ◌-ℤ◌, List, [], ◌∷◌, ◌++◌, map, Option, Some, None, ◌⊎◌, inl, inr, ⊎_elim, Bool, true, false}
 use Rattle.std.proofs.Common.{cond, refl, sym, ◌∙◌, ap, subst, arith}
 use Rattle.std.proofs.lemmas.Int.{ints}
+use Rattle.std.proofs.lemmas.Bool.{and_from, or_cases, or_left, or_right, and_parts}
 use Rattle.ics_calendar.specs.Event.{FileSaid}
 use Rattle.ics_zone.specs.Seconds.{IsNear}
 use Rattle.ics_zone.proofs.Cases.{int_lt_true, true_int_lt}
@@ -20,7 +21,7 @@ use Rattle.ics_series.specs.Meets.{IsListed, IsToCome, Meets}
 use Rattle.ics_series.specs.NearDays.{first_near, last_near, Begins, IsNearDay}
 use Rattle.ics_series.specs.Sources.{Source}
 use Rattle.ics_series.specs.OnDays.{after_day_key, is_day_after, on_day, on_day_cmp, IsOnDay, OnDay}
-use Rattle.ics_series.proofs.Cases.{equal-true, true-equal, and_both, or_cases, or_left, or_right, and_parts}
+use Rattle.ics_series.proofs.Cases.{equal-true, true-equal}
 use Rattle.ics_series.proofs.FilterLemmas.{listing-filter}
 use Rattle.ics_series.proofs.ListingLemmas.{one-listing}
 use Rattle.ics_series.proofs.NearDayLemmas.{meets-near, near-first, near-last, occurs-forward}
@@ -179,7 +180,7 @@ module _ (files : List FileSaid) (display : Clock) (near : (t : ℤ) → IsNear 
       b.0.0,
       begins.behind p (shown-first p b.0.0)
           ∙ or_right (int_lt day p.day) (int_eq p.day day && is_after key p.entry)
-          (and_both (int_eq p.day day) (is_after key p.entry) (true-equal p.day day b.0.1) b.1),
+          (and_from (int_eq p.day day) (is_after key p.entry) (true-equal p.day day b.0.1) b.1),
     )
     begun-come p (inr l) = (
       l.shown,

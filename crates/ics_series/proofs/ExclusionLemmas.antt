@@ -11,11 +11,11 @@ use Rattle.std.proofs.lemmas.Cmp.{int_cmp_total}
 use Rattle.std.proofs.lemmas.Int.{ints}
 use Rattle.std.proofs.lemmas.List.Folds.{list_any-append, list_any_at, list_any_none}
 use Rattle.std.proofs.lemmas.List.Sorted.{list_any-IsPermutation, searchable_from_sorted}
+use Rattle.std.proofs.lemmas.Bool.{cases_lt}
 use Rattle.ics_values.specs.declared.stamp.Stamp.{Stamp}
 use Rattle.ics_values.specs.declared.stamp.Stamp.TheVariants.{Date, Floating, Utc, Zoned}
 use Rattle.ics_calendar.specs.declared.time.Time.{Time}
 use Rattle.ics_zone.proofs.Cases.{int_le_true}
-use Rattle.ics_series.proofs.Cases.{less_or_not}
 use Rattle.ics_series.specs.declared.window.Window.{Window}
 use Rattle.ics_series.specs.declared.zones.FileZones.{FileZones}
 use Rattle.ics_series.specs.Clocks.{Clock, Clocks, instant}
@@ -42,7 +42,7 @@ found-in xs x (Err i) s b h =
     let parts = h (searchable_from_sorted int_cmp_total (λ y. y) xs x s) in
     sym (list_any_none (λ y. int_eq y x) xs (λ k d l.
     ⊎_elim (λ low. less-false (get_or xs k d) x (parts.0 k d (omega arith) low)) (λ high. greater-false (get_or xs k d) x (parts.1 k d high l))
-    (less_or_not k i)))
+    (cases_lt k i)))
 
 -- One more instant.
 or-false : (a : Bool) → (a || false) ≡ a

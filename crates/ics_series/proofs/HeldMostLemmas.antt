@@ -4,6 +4,7 @@ use Rattle.std.specs.declared.cmp.Ordering.TheVariants.{Less}
 use Rattle.std.proofs.Common.{◌≡◌, ℕ, zero, suc, ◌+◌, ◌<◌, ◌≤◌, ℤ, pos, neg_ℤ, ◌+ℤ◌, ◌-ℤ◌, Bool, true, false, ◌&&◌, not, cond, List, [], ◌∷◌, length, Some}
 use Rattle.std.proofs.Common.{inl, inr, ⊎_elim, refl, sym, ◌∙◌, ap, arith}
 use Rattle.std.proofs.lemmas.Int.{ints}
+use Rattle.std.proofs.lemmas.Bool.{eqb-true, eq-eqb, and_from}
 use Rattle.ics_rule.specs.Kept.{count, is_kept}
 use Rattle.ics_rule.specs.Recurrence.{Recurrence}
 use Rattle.ics_rule.proofs.Counts.{count-suc}
@@ -22,7 +23,7 @@ use Rattle.ics_series.specs.Rising.{Rises}
 use Rattle.ics_series.specs.RuleStarts.{lets_until, local_numbered, moment_numbered, number_in, AreHeld, IsHeld}
 use Rattle.ics_series.specs.Starts.{recurrence_of}
 use Rattle.ics_series.specs.FileZones.{clocks_in}
-use Rattle.ics_series.proofs.Cases.{below-or-last, eqb_true, true_eq, and_both}
+use Rattle.ics_series.proofs.Cases.{below-or-last}
 use Rattle.ics_series.proofs.FirstLemmas.{int-less, moment_total}
 use Rattle.ics_series.proofs.ListingLemmas.{before-in}
 use Rattle.ics_series.proofs.PeriodCountLemmas.{count-implied, one-more}
@@ -33,7 +34,7 @@ abbrev without : ℕ → (ℕ → Bool) → ℕ → Bool
 without m test k = test k && not (k == m)
 
 itself-none : (m n : ℕ) (b : Bool) → m ≡ n → cond (b && not (n == m)) 1 0 ≤ 0
-itself-none m n true e = omega (arith, ap {B = ℕ} (λ c. cond (not c) 1 0) (true_eq n m (sym e)))
+itself-none m n true e = omega (arith, ap {B = ℕ} (λ c. cond (not c) 1 0) (eq-eqb n m (sym e)))
 itself-none m n false e = omega arith
 
 itself-once : (b : Bool) → b ≡ true → 1 ≤ cond b 1 0
@@ -75,8 +76,8 @@ module _ (clocks : Clocks) (event : Event) (n : ℕ) where
   without-first test s t less a b = record {
     by = b.by;
     below = b.below;
-    passes = and_both (test (number_in t.source)) (not (number_in t.source == number_in s.source)) b.passes
-        (not-same (number_in t.source == number_in s.source) (λ e. apart test s t less a b (eqb_true (number_in t.source) (number_in s.source) e)));
+    passes = and_from (test (number_in t.source)) (not (number_in t.source == number_in s.source)) b.passes
+        (not-same (number_in t.source == number_in s.source) (λ e. apart test s t less a b (eqb-true (number_in t.source) (number_in s.source) e)));
   }
 
   -- so rising starts by locals that pass a test are no more than those locals
@@ -112,7 +113,7 @@ rule-most clocks event rule day has = omega (arith, ap (λ o. raw_by clocks even
 module _ (zones : FileZones) (event : Event) (rule : Recurrence) (w : Window) where
   within-days : (asked t : ℤ) → (midnight asked -ℤ whole_days 3) ≤ℤ t → t <ℤ (midnight asked +ℤ whole_days 2) → is_within_days (asked -ℤ pos 3) t ≡ true
   within-days asked t late early =
-      and_both (int_le (midnight (asked -ℤ pos 3)) t) (int_lt t (midnight ((asked -ℤ pos 3) +ℤ pos 5)))
+      and_from (int_le (midnight (asked -ℤ pos 3)) t) (int_lt t (midnight ((asked -ℤ pos 3) +ℤ pos 5)))
       (true_int_le (midnight (asked -ℤ pos 3)) t (omega (arith, ints, late)))
       (true_int_lt t (midnight ((asked -ℤ pos 3) +ℤ pos 5)) (omega (arith, ints, early)))
 
@@ -125,8 +126,8 @@ module _ (zones : FileZones) (event : Event) (rule : Recurrence) (w : Window) wh
       record {
         by = h.by;
         below = omega (arith, in-rules zones event rule w n h.given);
-        passes = and_both (is_kept rule n) (lets_until rule n t && is_within_days (asked -ℤ pos 3) t) (kept-of zones event rule w n h.given)
-            (and_both (lets_until rule n t) (is_within_days (asked -ℤ pos 3) t) (let-through zones event rule w n h.given)
+        passes = and_from (is_kept rule n) (lets_until rule n t && is_within_days (asked -ℤ pos 3) t) (kept-of zones event rule w n h.given)
+            (and_from (lets_until rule n t) (is_within_days (asked -ℤ pos 3) t) (let-through zones event rule w n h.given)
             (within-days asked t (omega (arith, ints, is, h.late)) (omega (arith, ints, is, h.early))));
       }
 

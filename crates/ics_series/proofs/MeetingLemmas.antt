@@ -3,6 +3,7 @@ use Rattle.std.specs.Prelude.{◌<ℤ◌, int_lt, int_le}
 use Rattle.std.proofs.Common.{◌≡◌, ℤ, inl, inr, ⊎_elim, Bool, true, false, not, ◌&&◌, ◌||◌, refl, ap, arith}
 use Rattle.std.specs.Ordering.{int_eq}
 use Rattle.std.proofs.lemmas.Int.{ints}
+use Rattle.std.proofs.lemmas.Bool.{and_parts, and_from, or_cases, or_left, or_right}
 use Rattle.ics_calendar.specs.declared.event.Event.{Event}
 use Rattle.ics_zone.proofs.Cases.{int_lt_true, true_int_lt, int_le_true, true_int_le}
 use Rattle.ics_series.specs.declared.window.Window.{Window}
@@ -12,7 +13,7 @@ use Rattle.ics_series.specs.Exclusions.{is_excluded}
 use Rattle.ics_series.specs.Found.{is_shown}
 use Rattle.ics_series.specs.Meeting.{is_met, is_under_way}
 use Rattle.ics_series.specs.Meets.{Meets}
-use Rattle.ics_series.proofs.Cases.{not-true, equal-true, true-equal, and_parts, and_both, or_cases, or_left, or_right}
+use Rattle.ics_series.proofs.Cases.{not-true, equal-true, true-equal}
 
 not-or-by : (a b : Bool) → (a ≡ true → b ≡ true) → (not a || b) ≡ true
 not-or-by true b h = h refl
@@ -39,12 +40,12 @@ is_met-meets w o e =
 
 pub meets-is_met : (w : Window) (o : Entry) → Meets w o → is_met w o ≡ true
 meets-is_met w o m =
-    and_both (int_lt o.start w.to) (is_under_way w o.start o.finish) (true_int_lt o.start w.to m.begun)
-    (and_both (int_lt w.from o.finish || (int_eq o.finish o.start && int_le w.from o.start)) (not w.notstarted || int_le w.from o.start)
+    and_from (int_lt o.start w.to) (is_under_way w o.start o.finish) (true_int_lt o.start w.to m.begun)
+    (and_from (int_lt w.from o.finish || (int_eq o.finish o.start && int_le w.from o.start)) (not w.notstarted || int_le w.from o.start)
     (⊎_elim
     (λ l. or_left (int_lt w.from o.finish) (int_eq o.finish o.start && int_le w.from o.start) (true_int_lt w.from o.finish l))
     (λ r. or_right (int_lt w.from o.finish) (int_eq o.finish o.start && int_le w.from o.start)
-    (and_both (int_eq o.finish o.start) (int_le w.from o.start) (true-equal o.finish o.start r.0) (true_int_le w.from o.start r.1)))
+    (and_from (int_eq o.finish o.start) (int_le w.from o.start) (true-equal o.finish o.start r.0) (true_int_le w.from o.start r.1)))
     m.lasting)
     (not-or-by w.notstarted (int_le w.from o.start) (λ n. true_int_le w.from o.start (m.started n))))
 
@@ -56,4 +57,4 @@ shown-met clocks w event o e =
 
 pub met-shown : (clocks : Clocks) (w : Window) (event : Event) (o : Entry) → Meets w o → is_excluded clocks event o.start ≡ false →
     is_shown clocks w event o ≡ true
-met-shown clocks w event o m e = and_both (is_met w o) (not (is_excluded clocks event o.start)) (meets-is_met w o m) (ap not e)
+met-shown clocks w event o m e = and_from (is_met w o) (not (is_excluded clocks event o.start)) (meets-is_met w o m) (ap not e)

@@ -4,6 +4,7 @@ use Rattle.std.proofs.Common.{◌≡◌, List, ℤ, pos, ◌+ℤ◌, ◌-ℤ◌,
 use Rattle.std.specs.Int.{int_max, int_min}
 use Rattle.std.specs.Ordering.{int_eq}
 use Rattle.std.proofs.lemmas.Int.{int_max_is, int_min_is, ints}
+use Rattle.std.proofs.lemmas.Bool.{and_parts}
 use Rattle.ics_calendar.specs.Event.{FileSaid}
 use Rattle.ics_zone.specs.Seconds.{IsNear}
 use Rattle.ics_zone.proofs.Cases.{int_le_true}
@@ -18,7 +19,7 @@ use Rattle.ics_series.specs.NearDays.{first_near, last_near}
 use Rattle.ics_series.specs.Occurs.{Occurs}
 use Rattle.ics_series.specs.PlacedEvents.{clocks_at}
 use Rattle.ics_series.specs.Starts.{time_of}
-use Rattle.ics_series.proofs.Cases.{equal-true, and_parts}
+use Rattle.ics_series.proofs.Cases.{equal-true}
 use Rattle.ics_series.proofs.DayLemmas.{day-under}
 
 -- an occurrence ends where it starts, or later

@@ -8,9 +8,9 @@ use Rattle.std.specs.declared.cmp.Ordering.TheVariants.{Less}
 use Rattle.std.proofs.Common.{◌≡◌, ℤ, List, [], ◌∷◌, ◌++◌, map, ◌⊎◌, inl, inr, ⊎_elim, true, refl, sym, ◌∙◌, ap, subst, arith}
 use Rattle.std.proofs.lemmas.Cmp.{int_cmp_total, on_total, then_total, tied_itself}
 use Rattle.std.proofs.lemmas.Int.{ints}
+use Rattle.std.proofs.lemmas.Bool.{and_from, and_parts}
 use Rattle.ics_calendar.specs.Event.{FileSaid}
 use Rattle.ics_zone.specs.Seconds.{IsNear}
-use Rattle.ics_series.proofs.Cases.{and_both, and_parts}
 use Rattle.ics_series.specs.declared.window.Window.{Window}
 use Rattle.ics_series.specs.Ahead.{is_today, today}
 use Rattle.ics_series.specs.Clocks.{Clock}
@@ -73,7 +73,7 @@ day-first p q h = ap (λ c. ordering_then c (rank_cmp (rank_of p.entry) (rank_of
 module _ (files : List FileSaid) (display : Clock) (near : (t : ℤ) → IsNear (display.offset t)) (w : Window) where
   -- what is shown under a day: occurrences that meet the window and have the day there
   pub shown-today : (p : OnDay) → IsOnDay files display w p → is_today display w p.day p.entry ≡ true
-  shown-today p s = and_both (is_met w p.entry) (is_on display w p.entry p.day) (meets-is_met w p.entry s.listed.1) s.on
+  shown-today p s = and_from (is_met w p.entry) (is_on display w p.entry p.day) (meets-is_met w p.entry s.listed.1) s.on
 
   pub today-shown : (day : ℤ) (o : Entry) → Occurs files display o → is_today display w day o ≡ true → IsOnDay files display w (on_day day o)
   today-shown day o occurs t =

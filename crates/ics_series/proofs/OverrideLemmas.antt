@@ -12,6 +12,7 @@ use Rattle.std.specs.declared.cmp.Ordering.{Ordering}
 use Rattle.std.specs.declared.cmp.Ordering.TheVariants.{Less, Equal, Greater}
 use Rattle.std.proofs.lemmas.Cmp.{on_total, tied_itself}
 use Rattle.std.proofs.lemmas.List.Sorted.{searchable_from_sorted}
+use Rattle.std.proofs.lemmas.Bool.{or_right, cases_lt}
 use Rattle.ics_calendar.specs.Event.{FileSaid}
 use Rattle.ics_series.specs.declared.version.Version.{Version}
 use Rattle.ics_series.specs.Chosen.{subject_of, IsOverridden, SubjectSeen}
@@ -21,7 +22,7 @@ use Rattle.ics_series.specs.PlacedEvents.{Placed}
 use Rattle.ics_series.specs.Rising.{IsBefore, Rises}
 use Rattle.ics_series.specs.Versions.{is_named, is_override, label_of, seen, subject_cmp, subject_seen, AreChosen, Label}
 use Rattle.ics_series.proofs.HeldLemmas.{before-at}
-use Rattle.ics_series.proofs.Cases.{eq-Equal, or_right, less_or_not}
+use Rattle.ics_series.proofs.Cases.{eq-Equal}
 use Rattle.ics_series.proofs.FilterLemmas.{rises-filter}
 use Rattle.ics_series.proofs.OccursLemmas.{override-subject}
 use Rattle.ics_series.proofs.VersionLemmas.{exact-subject, subject_total}
@@ -121,7 +122,7 @@ module _ (s : SubjectSeen) where
   searched vs (Err i) sorted within parted =
       let halves = parted (searchable_from_sorted subject_total (λ v. subject_seen v.subject) vs s sorted) in
       sym (none-named vs (λ k d l.
-      ⊎_elim (λ less. ap is_eq (halves.0 k d (omega arith) less)) (λ more. ap is_eq (halves.1 k d more l)) (less_or_not k i)))
+      ⊎_elim (λ less. ap is_eq (halves.0 k d (omega arith) less)) (λ more. ap is_eq (halves.1 k d more l)) (cases_lt k i)))
 
 -- What is named is overridden.
 module _ (files : List FileSaid) (display : Clock) where

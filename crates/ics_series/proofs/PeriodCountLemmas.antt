@@ -2,6 +2,7 @@
 use Rattle.std.specs.Prelude.{◌==◌, nat_le, nat_lt}
 use Rattle.std.proofs.Common.{◌≡◌, ℕ, zero, suc, ◌≤◌, Bool, true, false, cond, ◌&&◌, refl, ap, arith}
 use Rattle.std.proofs.lemmas.Bool.Decides.{nat_tests}
+use Rattle.std.proofs.lemmas.Bool.{ltb-true, and_from, lt-ltb}
 use Rattle.ics_rule.specs.Candidates.{is_stepped, period_in}
 use Rattle.ics_rule.specs.Cursors.{is_met, period_count}
 use Rattle.ics_rule.specs.EffectiveRules.{effective}
@@ -11,7 +12,6 @@ use Rattle.ics_rule.specs.Recurrence.{Recurrence}
 use Rattle.ics_rule.specs.declared.effective_rule.EffectiveRule.{EffectiveRule}
 use Rattle.ics_rule.proofs.Counts.{count-suc, count_mono}
 use Rattle.ics_rule.proofs.KeptLemmas.{and_true}
-use Rattle.ics_series.proofs.Cases.{ltb_true, and_both, true_lt}
 
 pub one-more : (p q : Bool) → (p ≡ true → q ≡ true) → cond p 1 0 ≤ cond q 1 0
 one-more true q f = let e = f refl in omega (arith, ap {B = ℕ} (λ b. cond b 1 0) e)
@@ -33,12 +33,12 @@ le-down a b m l e = grind (arith, nat_tests)
 met-within : (q : EffectiveRule) (start a b c d p : ℕ) → c ≤ a → b ≤ d → is_met q start a b p ≡ true → is_met q start c d p ≡ true
 met-within q start a b c d p low high met =
     let parts = and_true {a = is_stepped (period_in q start) q.interval p} met in
-    let some = ltb_true 0 (count b (λ n. nat_le a n && period_in q n == p)) parts.1 in
+    let some = ltb-true 0 (count b (λ n. nat_le a n && period_in q n == p)) parts.1 in
     let more = count_mono b d (λ n. nat_le a n && period_in q n == p) high in
     let wide = count-implied d (λ n. nat_le a n && period_in q n == p) (λ n. nat_le c n && period_in q n == p)
-    (λ n e. let k = and_true {a = nat_le a n} e in and_both (nat_le c n) (period_in q n == p) (le-down a c n low k.0) k.1) in
-    and_both (is_stepped (period_in q start) q.interval p) (nat_lt 0 (count d (λ n. nat_le c n && period_in q n == p))) parts.0
-    (true_lt 0 (count d (λ n. nat_le c n && period_in q n == p)) (omega (arith, some, more, wide)))
+    (λ n e. let k = and_true {a = nat_le a n} e in and_from (nat_le c n) (period_in q n == p) (le-down a c n low k.0) k.1) in
+    and_from (is_stepped (period_in q start) q.interval p) (nat_lt 0 (count d (λ n. nat_le c n && period_in q n == p))) parts.0
+    (lt-ltb 0 (count d (λ n. nat_le c n && period_in q n == p)) (omega (arith, some, more, wide)))
 
 -- the periods that hold one of these locals are no more than those that hold one of more
 pub periods-within : (r : Recurrence) (a b c d : ℕ) → c ≤ a → b ≤ d → period_count r a b ≤ period_count r c d

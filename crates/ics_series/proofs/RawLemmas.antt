@@ -8,6 +8,7 @@ use Rattle.std.proofs.Common.{◌≡◌, ℕ, zero, suc, ◌+◌, ◌<◌, ℤ, 
 use Rattle.std.proofs.Common.{⊎_elim, refl, sym, ◌∙◌, ap, subst, length-append, arith}
 use Rattle.std.proofs.lemmas.Int.{ints}
 use Rattle.std.proofs.lemmas.List.Sums.{sum_by-cons}
+use Rattle.std.proofs.lemmas.Bool.{and_from}
 use Rattle.ics_values.specs.Days.{IsDayNumber}
 use Rattle.ics_values.specs.declared.local.Local.{Local}
 use Rattle.ics_rule.specs.Kept.{count, is_kept}
@@ -28,7 +29,7 @@ use Rattle.ics_series.specs.Listing.{IsIn, IsListing}
 use Rattle.ics_series.specs.Rising.{IsBefore, Rises}
 use Rattle.ics_series.specs.RuleStarts.{lets_until, local_numbered, moment_numbered}
 use Rattle.ics_series.specs.Starts.{given_by, local_of, recurrence_of, time_at, time_of, IsNotAfter, IsRuleStart}
-use Rattle.ics_series.proofs.Cases.{some-same, below-or-last, and_both}
+use Rattle.ics_series.proofs.Cases.{some-same, below-or-last}
 use Rattle.ics_series.proofs.FirstLemmas.{source-order, source_total}
 use Rattle.ics_series.proofs.StartSourceLemmas.{calendar-day, own-day, own-time}
 use Rattle.ics_series.proofs.PlacedLemmas.{in-append, in-append_left, in-append_right}
@@ -267,9 +268,9 @@ module _ (clocks : Clocks) (event : Event) (day : ℤ) (time : IsTime event.star
         record {
           at = number local;
           below = omega (arith, ints, of_day.0, of_day.1, local.second_in);
-          passes = and_both (is_kept rule (number local)) (lets_until rule (number local) (moment_numbered clocks event (number local))
+          passes = and_from (is_kept rule (number local)) (lets_until rule (number local) (moment_numbered clocks event (number local))
               && is_within_days day (moment_numbered clocks event (number local))) parts.0
-              (and_both (lets_until rule (number local) (moment_numbered clocks event (number local)))
+              (and_from (lets_until rule (number local) (moment_numbered clocks event (number local)))
               (is_within_days day (moment_numbered clocks event (number local)))
               (ap (lets_until rule (number local)) there ∙ parts.1) (ap (is_within_days day) there ∙ p.1));
           is = ap Kept (sym same);
@@ -294,7 +295,7 @@ module _ (clocks : Clocks) (event : Event) (day : ℤ) (time : IsTime event.star
   kept-counts None e = once-by (is_within_days day (instant clocks event.start)) refl e
   kept-counts (Some rule) e = by-rule rule e
 
-  -- and_both kinds, the locals first
+  -- and_from kinds, the locals first
   abbrev IsRawSource : StartSource → Type 0
   IsRawSource g = IsRawKept g ⊎ IsListedFrom is_there 0 event.rdates g
 

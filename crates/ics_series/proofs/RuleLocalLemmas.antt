@@ -3,6 +3,7 @@ use Rattle.std.specs.Prelude.{◌≤ℤ◌, ◌==◌, int_lt, IfSome}
 use Rattle.std.proofs.Common.{◌≡◌, ℕ, ℤ, Bool, true, false, ◌&&◌, Some, ◌⊎◌, inl, inr, ⊎_elim, refl, sym, ◌∙◌, ap, subst, arith}
 use Rattle.std.proofs.lemmas.Int.{ints}
 use Rattle.std.specs.Ordering.{int_eq}
+use Rattle.std.proofs.lemmas.Bool.{eqb-true, eq-eqb, and_from, or_left, or_right}
 use Rattle.ics_values.specs.Days.{IsDayNumber}
 use Rattle.ics_values.specs.declared.local.Local.{Local}
 use Rattle.ics_rule.specs.Kept.{is_kept, until_moment}
@@ -17,7 +18,7 @@ use Rattle.ics_series.specs.Clocks.{Clocks, instant}
 use Rattle.ics_zone.specs.Observances.{is_until}
 use Rattle.ics_series.specs.RuleStarts.{gives, lets_until, local_numbered, moment_numbered}
 use Rattle.ics_series.specs.Starts.{local_of, recurrence_of, time_at, IsRuleStart}
-use Rattle.ics_series.proofs.Cases.{equal-true, true-equal, some-same, eqb_true, true_eq, and_both, or_left, or_right}
+use Rattle.ics_series.proofs.Cases.{equal-true, true-equal, some-same}
 use Rattle.ics_series.proofs.StartSourceLemmas.{calendar-day, own-day, rule-is, same-number}
 use Rattle.ics_series.proofs.KeptLemmas.{true-until, until-true}
 
@@ -33,12 +34,12 @@ local-test a b h k =
     (λ t.
     let parts = and_true {a = int_eq a.day b.day} t in
     let day = equal-true a.day b.day parts.0 in
-    let second = eqb_true a.second b.second parts.1 in
-    true_eq (number a) (number b) (omega (arith, ints, day, second)))
+    let second = eqb-true a.second b.second parts.1 in
+    eq-eqb (number a) (number b) (omega (arith, ints, day, second)))
     (λ t.
-    let same : a ≡ b = same-number a b h k (eqb_true (number a) (number b) t) in
-    and_both (int_eq a.day b.day) (a.second == b.second) (true-equal a.day b.day (ap (λ (l : Local). l.day) same))
-    (true_eq a.second b.second (ap (λ (l : Local). l.second) same)))
+    let same : a ≡ b = same-number a b h k (eqb-true (number a) (number b) t) in
+    and_from (int_eq a.day b.day) (a.second == b.second) (true-equal a.day b.day (ap (λ (l : Local). l.day) same))
+    (eq-eqb a.second b.second (ap (λ (l : Local). l.second) same)))
 
 pub number-numbered : (n : ℕ) → number (local_numbered n) ≡ n
 number-numbered n = omega (arith, ints)
@@ -75,7 +76,7 @@ module _ (clocks : Clocks) (event : Event) (rule : Recurrence) (has : recurrence
   kept-ruled time day kept through =
       ⊎_elim
       (λ e. inl (same-number local (local_of event.start.stamp) day (calendar-day (local_of event.start.stamp).day (own-day event.start time))
-      (eqb_true (number local) (number rule.start) e ∙ ap (λ (l : Local). number l) (rule-first event rule has))))
+      (eqb-true (number local) (number rule.start) e ∙ ap (λ (l : Local). number l) (rule-first event rule has))))
       (λ u. inr (record {
         rule = rule;
         has = has;
@@ -94,7 +95,7 @@ module _ (clocks : Clocks) (event : Event) (rule : Recurrence) (has : recurrence
       let first : number local ≡ number rule.start = ap (λ (l : Local). number l) (e ∙ sym (rule-first event rule has)) in (
         ap (is_kept rule) first ∙ kept_start rule,
         or_left (number local == number rule.start)
-            (is_until (until_moment rule) (instant clocks (time_at event.start local))) (true_eq (number local) (number rule.start) first),
+            (is_until (until_moment rule) (instant clocks (time_at event.start local))) (eq-eqb (number local) (number rule.start) first),
       ))
       (λ r.
       let same : r.rule ≡ rule = some-same r.rule rule (sym r.has ∙ has) in

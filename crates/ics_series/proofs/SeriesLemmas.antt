@@ -8,6 +8,7 @@ use Rattle.std.specs.Cmp.Lexicographic.{slice_cmp}
 use Rattle.std.specs.Ordering.{int_cmp, int_eq, nat_cmp, on, ordering_then, then_cmp}
 use Rattle.std.specs.declared.cmp.Ordering.{Ordering}
 use Rattle.std.specs.declared.cmp.Ordering.TheVariants.{Less}
+use Rattle.std.proofs.lemmas.Bool.{and_from}
 use Rattle.ics_values.specs.Days.{IsDayNumber}
 use Rattle.ics_values.specs.declared.local.Local.{Local}
 use Rattle.ics_rule.specs.Cursors.{place_of}
@@ -39,7 +40,7 @@ use Rattle.ics_series.specs.SeriesStarts.{given_of, is_among, has_moment, is_wan
 use Rattle.ics_series.specs.SeriesStarts.{HasSameRule, HaveRuled, IsAskedNear, IsGivenAt, IsGivenBy, IsKnown, IsSeriesMet}
 use Rattle.ics_series.specs.Starts.{given_by, local_of, recurrence_of, GivesStart, IsRuleStart}
 use Rattle.ics_series.specs.FileZones.{clocks_in}
-use Rattle.ics_series.proofs.Cases.{equal-true, true-equal, some-same, and_both}
+use Rattle.ics_series.proofs.Cases.{equal-true, true-equal, some-same}
 use Rattle.ics_series.proofs.FirstLemmas.{int-less, moment_total, tied-moment}
 use Rattle.ics_series.proofs.StartSourceLemmas.{gives-value}
 use Rattle.ics_series.proofs.LeftLemmas.{member-cut}
@@ -152,8 +153,8 @@ module _ (clocks : Clocks) (w : Window) (event : Event) (since : ℤ) (overridde
   pub is-wanted : (o : Entry) → is_shown clocks w event o ≡ true → since ≤ℤ o.start → (IsIn o.start overridden → ⊥) →
       is_wanted clocks w event since overridden o ≡ true
   is-wanted o shown late none =
-      and_both (int_le since o.start && not (is_among overridden o.start)) (is_shown clocks w event o)
-      (and_both (int_le since o.start) (not (is_among overridden o.start)) (true_int_le since o.start late) (by (is_among overridden o.start) refl)) shown
+      and_from (int_le since o.start && not (is_among overridden o.start)) (is_shown clocks w event o)
+      (and_from (int_le since o.start) (not (is_among overridden o.start)) (true_int_le since o.start late) (by (is_among overridden o.start) refl)) shown
     where
       by : (b : Bool) → is_among overridden o.start ≡ b → not b ≡ true
       by true e = absurd (none (among-in o.start overridden e))

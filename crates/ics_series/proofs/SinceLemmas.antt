@@ -4,6 +4,7 @@ use Rattle.std.proofs.Common.{◌≡◌, ℕ, zero, suc, ◌+◌, ◌-◌, ◌<�
 use Rattle.std.proofs.Common.{sym, ◌∙◌, ap, subst, arith}
 use Rattle.std.specs.Int.{int_max, int_min}
 use Rattle.std.proofs.lemmas.Int.{int_max_is, int_min_is, ints}
+use Rattle.std.proofs.lemmas.Bool.{and_from}
 use Rattle.ics_values.specs.Days.{IsDayNumber}
 use Rattle.ics_values.specs.RuleParts.{RuleParts}
 use Rattle.ics_values.specs.declared.local.Local.{Local}
@@ -16,7 +17,6 @@ use Rattle.ics_calendar.specs.declared.event.Event.{Event}
 use Rattle.ics_calendar.specs.declared.time.Rdate.{Rdate}
 use Rattle.ics_calendar.specs.declared.time.Rdate.TheVariants.{At}
 use Rattle.ics_zone.proofs.Cases.{true_int_lt}
-use Rattle.ics_series.proofs.Cases.{and_both}
 use Rattle.ics_series.specs.declared.rule_starts.RuleStarts.{RuleStarts}
 use Rattle.ics_series.specs.declared.start.StartSource.{StartSource}
 use Rattle.ics_series.specs.declared.start.StartSource.TheVariants.{Kept, Listed}
@@ -144,7 +144,7 @@ module _ (zones : FileZones) (w : Window) (event : Event) where
     gives-own local has day k early =
         let parts = let-through local has k in
         gives-kept (clocks_in zones) event rule w local day parts.0
-        ∙ and_both (lets_until rule (number local) (instant (clocks_in zones) (time_at event.start local)))
+        ∙ and_from (lets_until rule (number local) (instant (clocks_in zones) (time_at event.start local)))
         (int_lt (instant (clocks_in zones) (time_at event.start local)) w.to)
         parts.1 (true_int_lt (instant (clocks_in zones) (time_at event.start local)) w.to early)
 

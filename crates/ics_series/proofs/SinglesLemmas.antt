@@ -11,6 +11,7 @@ use Rattle.std.specs.declared.cmp.Ordering.TheVariants.{Less}
 use Rattle.std.proofs.lemmas.Cmp.{on_total}
 use Rattle.std.proofs.lemmas.Int.{ints}
 use Rattle.std.proofs.lemmas.List.Sorted.{IsPermutation-map, answers_always, ranks_by}
+use Rattle.std.proofs.lemmas.Bool.{and_parts}
 use denote.Param.Members.{Mut}
 use denote.Ref.{Bor}
 use Rattle.ics_calendar.specs.Event.{FileSaid}
@@ -18,7 +19,6 @@ use Rattle.ics_calendar.specs.declared.event.Event.{Event}
 use Rattle.ics_calendar.specs.declared.time.Rdate.{Rdate}
 use Rattle.ics_calendar.specs.declared.time.Rdate.TheVariants.{At}
 use Rattle.ics_calendar.specs.declared.time.Time.{Time}
-use Rattle.ics_series.proofs.Cases.{and_parts}
 use Rattle.ics_series.specs.declared.single.Single.{Single}
 use Rattle.ics_series.specs.declared.start.StartSource.{StartSource}
 use Rattle.ics_series.specs.declared.start.StartSource.TheVariants.{Kept, Listed}

@@ -5,6 +5,7 @@ use Rattle.std.proofs.Common.{◌⊎◌, inl, inr, ⊎_elim, refl, sym, ◌∙�
 use Rattle.std.specs.Ordering.{int_eq}
 use Rattle.std.proofs.lemmas.Int.{ints}
 use Rattle.std.proofs.lemmas.List.Folds.{list_any_at}
+use Rattle.std.proofs.lemmas.Bool.{and_from, cases_lt}
 use Rattle.ics_values.specs.Days.{IsDayNumber}
 use Rattle.ics_values.specs.Locals.{local_at, number, local_seconds, calendar_end}
 use Rattle.ics_values.specs.declared.local.Local.{Local}
@@ -24,7 +25,7 @@ use Rattle.ics_series.specs.Finish.{finish}
 use Rattle.ics_zone.specs.Observances.{is_until}
 use Rattle.ics_series.specs.Occurs.{IsInstance}
 use Rattle.ics_series.specs.Starts.{given_by, local_of, time_at, time_of, recurrence_by, recurrence_of, GivesStart, IsNotAfter, IsRuleStart}
-use Rattle.ics_series.proofs.Cases.{some-same, equal-true, true-equal, and_both, less_or_not}
+use Rattle.ics_series.proofs.Cases.{some-same, equal-true, true-equal}
 use Rattle.ics_series.proofs.StartSourceLemmas.{calendar-day, index-is, kept-late, number-seconds, own-day, own-time, rule-is, same-number}
 use Rattle.ics_series.proofs.KeptLemmas.{true-until, until-true}
 
@@ -150,8 +151,8 @@ module _ (clocks : Clocks) (event : Event) (time : IsTime event.start) (t : ℤ)
         same-number (local_from (number local)) local (from-day (number local) (number-below local r.calendar)) r.calendar
         (from-number (number local) (number-below local r.calendar)) in
         let there : instant_of (local_from (number local)) ≡ instant_of local = ap instant_of is in
-        and_both (is_kept rule (number local)) _ (ap (λ q. is_kept q (number local)) (sym of) ∙ r.kept)
-        (and_both (is_until (until_moment rule) (instant_of (local_from (number local)))) _
+        and_from (is_kept rule (number local)) _ (ap (λ q. is_kept q (number local)) (sym of) ∙ r.kept)
+        (and_from (is_until (until_moment rule) (instant_of (local_from (number local)))) _
         (ap (is_until (until_moment rule)) there
         ∙ until-true (until_moment rule) (instant_of local) (subst (λ q. IfSome (until_moment q) (λ last. instant_of local ≤ℤ last)) of r.until))
         (true-equal (instant_of (local_from (number local))) t (there ∙ same)))
@@ -196,7 +197,7 @@ module _ (clocks : Clocks) (event : Event) (time : IsTime event.start) (t : ℤ)
           number-seconds other
               q.calendar,
         ))
-        (less_or_not (number other) found.0)) k)))
+        (cases_lt (number other) found.0)) k)))
         (none-or-least gives_at calendar_end)
 
   -- a local gives the start t, or none does
@@ -258,7 +259,7 @@ module _ (clocks : Clocks) (event : Event) (time : IsTime event.start) (t : ℤ)
           instant clocks (time_of value) ≡ t → IsNotAfter (Listed n) other
       first n least (Kept local) value k e = unkept local k.0 (ap (λ x. instant clocks (time_of x)) (sym k.1) ∙ e)
       first n least (Listed m) value k e = ⊎_elim (λ less. let f = least m less in let yes = listed-test m value k e in
-          absurd cc) (λ more. more) (less_or_not m n)
+          absurd cc) (λ more. more) (cases_lt m n)
 
   some-instance : (source : StartSource) (given : Rdate) → GivesStart clocks event source given → instant clocks (time_of given) ≡ t →
       (end : ℤ) × IsInstance clocks event t end

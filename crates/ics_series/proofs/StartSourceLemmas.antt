@@ -5,6 +5,7 @@ use Rattle.std.proofs.Common.{◌∙◌, ap, subst, arith}
 use Rattle.std.proofs.Props.{props}
 use Rattle.std.proofs.lemmas.Int.{ints}
 use Rattle.std.proofs.lemmas.Option.{get_or_from_slice_get, slice_get_within}
+use Rattle.std.proofs.lemmas.Bool.{eqb-true, ltb-true, cases_lt}
 use mathlib.Core.HLevel.{is_prop→PathP}
 use Rattle.ics_values.specs.Days.{IsDayNumber, day_index}
 use Rattle.ics_values.specs.Locals.{local_at, number, local_seconds}
@@ -31,7 +32,7 @@ use Rattle.ics_series.specs.Finish.{finish}
 use Rattle.ics_series.specs.Occurs.{IsInstance}
 use Rattle.ics_series.specs.Starts.{date_only, given_by, given_from, local_of, stamp_at, time_at, time_by, time_of, recurrence_by, recurrence_of, GivesStart}
 use Rattle.ics_series.specs.Starts.{IsNotAfter}
-use Rattle.ics_series.proofs.Cases.{some-same, eqb_true, ltb_true, less_or_not}
+use Rattle.ics_series.proofs.Cases.{some-same}
 
 -- Locals.
 pub same-local : (a b : Local) → a.day ≡ b.day → a.second ≡ b.second → a ≡ b
@@ -108,13 +109,13 @@ pub kept-late : (r : Recurrence) (n : ℕ) → is_kept r n ≡ true → number r
 kept-late r n h = ⊎_elim
     (λ low. let in_rule = kept_in_rule r n h in let out = in_rule_earlier r n low in absurd cc)
     (λ high. high)
-    (less_or_not n (number r.start))
+    (cases_lt n (number r.start))
 
 pub kept-early : (r : Recurrence) (n : ℕ) → is_kept r n ≡ true → (n ≡ number r.start) ⊎ (n < rules_end)
 unfolding is_kept
 kept-early r n h = elim (or_true h) [
-  | inl same ↦ inl (eqb_true n (number r.start) same)
-  | inr rest ↦ inr (ltb_true n rules_end (and_true (and_true (and_true rest).0).0).0)
+  | inl same ↦ inl (eqb-true n (number r.start) same)
+  | inr rest ↦ inr (ltb-true n rules_end (and_true (and_true (and_true rest).0).0).0)
 ]
 
 -- a local that the rule of an event keeps lies in the years of stamps
