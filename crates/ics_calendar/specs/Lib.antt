@@ -11,6 +11,7 @@ pub mod GivenFiles
 pub mod Wanted
 pub mod FirstFault
 pub mod Files
+pub mod FirstRounds
 pub mod Builders
 pub mod Times
 pub mod DeferredChecks

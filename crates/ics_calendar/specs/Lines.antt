@@ -17,6 +17,7 @@ use Rattle.ics_values.specs.declared.duration.DurationFault.{DurationFault}
 use Rattle.ics_values.specs.declared.duration.DurationFault.TheVariants as duration
 use Rattle.ics_values.specs.declared.integer.IntegerFault.{IntegerFault}
 use Rattle.ics_values.specs.declared.integer.IntegerFault.TheVariants as integer
+use Rattle.ics_values.specs.declared.local.Local.{Local}
 use Rattle.ics_values.specs.declared.offset.BadOffset.{BadOffset}
 use Rattle.ics_values.specs.declared.rule_text.RuleFault.{RuleFault}
 use Rattle.ics_values.specs.declared.rule_text.RuleFault.TheVariants as rule
@@ -49,7 +50,7 @@ use Rattle.ics_calendar.specs.Builders.{event_ended, fresh, zone_ended, observan
 use Rattle.ics_calendar.specs.Components.{component_of, component_name, context_in}
 use Rattle.ics_calendar.specs.DateLists.{rdate_list, exdate_list}
 use Rattle.ics_calendar.specs.DateValues.{rdates_of, exdates_of, has_bad_stamp, has_far_stamp, has_bad_duration, has_large_duration, is_not_local}
-use Rattle.ics_calendar.specs.Names.{name_of}
+use Rattle.ics_calendar.specs.Names.{name_of, gives_dates}
 use Rattle.ics_calendar.specs.Values.{zone_name, stamp_read, dated_of, lasting_of, duration_in, rule_in, ok_or_zero, is_cancelled, is_fine_rule, is_filled}
 use Rattle.ics_calendar.specs.Values.{ends_badly}
 use Rattle.ics_calendar.specs.Zones.{local_in, onset_in, offset_in, daily_in}
@@ -138,36 +139,50 @@ dates_fault values =
     else None
 
 -- A LINE OF AN EVENT: its fault, what is collected behind it, and its check in the second round.
-abbrev pub event_fault : Name → Parts → EventBuilder → Option FaultKind
-event_fault name.Uid c had = fault_if kind.Repeated (is_some had.uid)
-event_fault name.Dtstart c had = first (stamp_fault_of (stamp_read c.params c.value)) (fault_if kind.Repeated (is_some had.start))
-event_fault name.Dtend c had = first (stamp_fault_of (stamp_read c.params c.value)) (fault_if kind.Repeated (is_some had.end))
-event_fault name.Duration c had = first (duration_fault_of (lasting_of c.value)) (fault_if kind.Repeated (is_some had.duration))
-event_fault name.Rrule c had = first (rule_fault_of (rule_of c.value)) (fault_if kind.Repeated (is_some had.rule))
-event_fault name.RecurrenceId c had =
+-- a line that gives dates
+abbrev pub dates_line_fault : Name → Parts → EventBuilder → Option FaultKind
+dates_line_fault name.Dtstart c had = first (stamp_fault_of (stamp_read c.params c.value)) (fault_if kind.Repeated (is_some had.start))
+dates_line_fault name.Dtend c had = first (stamp_fault_of (stamp_read c.params c.value)) (fault_if kind.Repeated (is_some had.end))
+dates_line_fault name.RecurrenceId c had =
     first (first (stamp_fault_of (stamp_read c.params c.value)) (fault_if kind.Repeated (is_some had.recurrence)))
     (fault_if kind.ThisAndFuture (is_some (param_of (codes "RANGE") c.params)))
-event_fault name.Sequence c had = first (number_fault_of (integer_of c.value)) (fault_if kind.Repeated (is_some had.sequence))
-event_fault name.Rdate c had = dates_fault (rdates_of (is_some (zone_name c.params)) c.value)
-event_fault name.Exdate c had = dates_fault (exdates_of (is_some (zone_name c.params)) c.value)
-event_fault name.Exrule c had = Some kind.Exrule
-event_fault _ c had = None
+dates_line_fault name.Rdate c had = dates_fault (rdates_of (is_some (zone_name c.params)) c.value)
+dates_line_fault name.Exdate c had = dates_fault (exdates_of (is_some (zone_name c.params)) c.value)
+dates_line_fault _ c had = None
+
+abbrev pub dates_line_note : Name → Parts → EventBuilder → EventBuilder
+dates_line_note name.Dtstart c had = record had { start = or_first had.start (dated_of c.params c.value) }
+dates_line_note name.Dtend c had = record had { end = or_first had.end (dated_of c.params c.value) }
+dates_line_note name.RecurrenceId c had = record had { recurrence = or_first had.recurrence (dated_of c.params c.value) }
+dates_line_note name.Rdate c had = record had { rdates = had.rdates ++ rdate_list c.params c.value ∷ [] }
+dates_line_note name.Exdate c had = record had { exdates = had.exdates ++ exdate_list c.params c.value ∷ [] }
+dates_line_note _ c had = had
+
+-- a line that gives another value
+abbrev pub value_fault : Name → List ℕ → EventBuilder → Option FaultKind
+value_fault name.Uid v had = fault_if kind.Repeated (is_some had.uid)
+value_fault name.Duration v had = first (duration_fault_of (lasting_of v)) (fault_if kind.Repeated (is_some had.duration))
+value_fault name.Rrule v had = first (rule_fault_of (rule_of v)) (fault_if kind.Repeated (is_some had.rule))
+value_fault name.Sequence v had = first (number_fault_of (integer_of v)) (fault_if kind.Repeated (is_some had.sequence))
+value_fault name.Exrule v had = Some kind.Exrule
+value_fault _ v had = None
+
+abbrev pub value_note : Name → List ℕ → EventBuilder → EventBuilder
+value_note name.Uid v had = record had { uid = or_first had.uid (text_of v) }
+value_note name.Duration v had = record had { duration = or_first had.duration (duration_in (lasting_of v)) }
+value_note name.Rrule v had = record had { rule = or_first had.rule (rule_in (rule_of v)) }
+value_note name.Sequence v had = record had { sequence = or_first had.sequence (ok_or_zero (integer_of v)) }
+value_note name.Summary v had = record had { title = or_first had.title (text_of v) }
+value_note name.Location v had = record had { location = or_first had.location (text_of v) }
+value_note name.Description v had = record had { description = or_first had.description (text_of v) }
+value_note name.Status v had = record had { cancelled = or_first had.cancelled (is_cancelled v) }
+value_note _ v had = had
+
+abbrev pub event_fault : Name → Parts → EventBuilder → Option FaultKind
+event_fault n c had = if gives_dates n then dates_line_fault n c had else value_fault n c.value had
 
 abbrev pub event_note : Name → Parts → EventBuilder → EventBuilder
-event_note name.Uid c had = record had { uid = or_first had.uid (text_of c.value) }
-event_note name.Dtstart c had = record had { start = or_first had.start (dated_of c.params c.value) }
-event_note name.Dtend c had = record had { end = or_first had.end (dated_of c.params c.value) }
-event_note name.Duration c had = record had { duration = or_first had.duration (duration_in (lasting_of c.value)) }
-event_note name.Rrule c had = record had { rule = or_first had.rule (rule_in (rule_of c.value)) }
-event_note name.RecurrenceId c had = record had { recurrence = or_first had.recurrence (dated_of c.params c.value) }
-event_note name.Sequence c had = record had { sequence = or_first had.sequence (ok_or_zero (integer_of c.value)) }
-event_note name.Rdate c had = record had { rdates = had.rdates ++ rdate_list c.params c.value ∷ [] }
-event_note name.Exdate c had = record had { exdates = had.exdates ++ exdate_list c.params c.value ∷ [] }
-event_note name.Summary c had = record had { title = or_first had.title (text_of c.value) }
-event_note name.Location c had = record had { location = or_first had.location (text_of c.value) }
-event_note name.Description c had = record had { description = or_first had.description (text_of c.value) }
-event_note name.Status c had = record had { cancelled = or_first had.cancelled (is_cancelled c.value) }
-event_note _ c had = had
+event_note n c had = if gives_dates n then dates_line_note n c had else value_note n c.value had
 
 abbrev pub event_check : ℕ → Name → Parts → Option DeferredCheck
 event_check k name.Dtstart c = used_zone k (dated_of c.params c.value)
@@ -186,6 +201,13 @@ abbrev pub zone_note : Name → Parts → ZoneBuilder → ZoneBuilder
 zone_note name.Tzid c had = record had { name = or_first had.name (text_of c.value) }
 zone_note _ c had = had
 
+-- the local times of an RDATE
+abbrev pub locals_fault : List ℕ → Option FaultKind
+locals_fault v = first (dates_fault (rdates_of false v)) (fault_if kind.ObservanceField (list_any is_not_local (rdates_of false v)))
+
+abbrev pub locals_of : List ℕ → List Local
+locals_of v = filter_map local_in (rdates_of false v)
+
 abbrev pub observance_fault : Name → Parts → ObservanceBuilder → Option FaultKind
 observance_fault name.Dtstart c had =
     first (first (stamp_fault_of (stamp_of false c.value)) (fault_if kind.ObservanceField (is_not_local (At (stamp_of false c.value)))))
@@ -194,8 +216,7 @@ observance_fault name.OffsetFrom c had = first (offset_fault_of (offset_of c.val
 observance_fault name.OffsetTo c had = first (offset_fault_of (offset_of c.value)) (fault_if kind.ObservanceField (is_some had.to))
 observance_fault name.Rrule c had =
     first (first (rule_fault_of (rule_of c.value)) (fault_if kind.ZoneRule (is_fine_rule (rule_of c.value)))) (fault_if kind.ZoneRule (is_some had.rule))
-observance_fault name.Rdate c had =
-    first (dates_fault (rdates_of false c.value)) (fault_if kind.ObservanceField (list_any is_not_local (rdates_of false c.value)))
+observance_fault name.Rdate c had = locals_fault c.value
 observance_fault _ c had = None
 
 abbrev pub observance_note : Name → Parts → ObservanceBuilder → ObservanceBuilder
@@ -203,7 +224,7 @@ observance_note name.Dtstart c had = record had { start = or_first had.start (on
 observance_note name.OffsetFrom c had = record had { from = or_first had.from (offset_in (offset_of c.value)) }
 observance_note name.OffsetTo c had = record had { to = or_first had.to (offset_in (offset_of c.value)) }
 observance_note name.Rrule c had = record had { rule = or_first had.rule (daily_in (rule_of c.value)) }
-observance_note name.Rdate c had = record had { rdates = had.rdates ++ filter_map local_in (rdates_of false c.value) }
+observance_note name.Rdate c had = record had { rdates = had.rdates ++ locals_of c.value }
 observance_note _ c had = had
 
 abbrev pub calendar_fault : Name → Parts → Option FaultKind

@@ -1,15 +1,17 @@
 //! A component that is being built of its lines.
-ghost use Rattle.std.specs.Prelude.{◌≡◌};
+ghost use Rattle.std.specs.Prelude.{◌≡◌, ◌++◌, None};
 ghost use Rattle.ics_calendar.specs.Builders.{fresh, zone_ended, observance_ended};
 ghost use Rattle.ics_calendar.specs.Lines.{Gives, Keeps, Notes, end_of_zone, end_of_observance, observance_fault, observance_note};
-ghost use Rattle.ics_calendar.specs.Lines.{builder_fault, builder_note, builder_check};
+ghost use Rattle.ics_calendar.specs.Lines.{builder_fault, builder_note, builder_check, joined, passed, locals_fault, locals_of};
+ghost use Rattle.ics_calendar.specs.declared.builder.Builder.TheVariants.{Observance};
+ghost use Rattle.ics_calendar.specs.declared.gathered.Ended.TheVariants.{Zone};
 
 use crate::component::Context;
 use crate::date_values::DateValues;
 use crate::deferred_check::{DeferredCheck, ZoneName};
 use crate::event_builder::{EventBuilder, once};
 use crate::fault::FaultKind;
-use crate::gathered::EndedZone;
+use crate::gathered::{Ended, EndedZone, Passed};
 use crate::name::Name;
 use crate::observances::{EndedObservance, Locals, Observances};
 use crate::refused::Refused;
@@ -47,24 +49,35 @@ pub struct ObservanceBuilder {
 
 impl ZoneBuilder {
     /// The time zone of that calendar, at its END.
-    pub fn end(self, calendar: u64) -> Result<EndedZone, Refused>
-        ensures { Gives result (end_of_zone self) (zone_ended calendar self) }
+    pub fn end(self, calendar: u64) -> Result<Passed, Refused>
+        ensures { Gives result (end_of_zone self) (passed (Zone (zone_ended calendar self)) None) }
     {
         let ZoneBuilder { name, observances } = self;
         if observances.list.is_empty() {
             return Err(Refused::Fault(FaultKind::NoObservance));
         }
-        match name {
-            Some(name) => Ok(EndedZone {
-                name: ZoneName { calendar, name },
-                observances,
-            }),
-            None => Err(Refused::Fault(FaultKind::ObservanceField)),
-        }
+        let Some(name) = name else {
+            return Err(Refused::Fault(FaultKind::ObservanceField));
+        };
+        let name = ZoneName { calendar, name };
+        Ok(Passed {
+            ended: Ended::Zone(EndedZone { name, observances }),
+            check: None,
+        })
     }
 }
 
 impl ObservanceBuilder {
+    /// Adds the local times of an RDATE.
+    fn add_rdates(&mut self, alloc: Global, value: &[u8]) -> Result<(), Refused>
+        ensures { Keeps result self.new (locals_fault value.now) (record self.old { rdates = self.old.rdates ++ locals_of value.now }) }
+    {
+        let values = DateValues::of_rdate(alloc, value, false)?;
+        let mut more = values.locals(alloc)?;
+        self.rdates.locals.append(&mut more.locals)?;
+        Ok(())
+    }
+
     fn line(&mut self, alloc: Global, name: Name, content: &Content<'_>) -> Result<(), Refused>
         ensures { Keeps result self.new (observance_fault name content.now self.old) (observance_note name content.now self.old) }
     {
@@ -82,18 +95,14 @@ impl ObservanceBuilder {
                 let rule = RuleValue::read_daily(alloc, value)?;
                 once(&mut self.rule, rule, FaultKind::ZoneRule)?;
             }
-            Name::Rdate => {
-                let values = DateValues::of_rdate(alloc, value, false)?;
-                let mut more = values.locals(alloc)?;
-                self.rdates.locals.append(&mut more.locals)?;
-            }
+            Name::Rdate => self.add_rdates(alloc, value)?,
             _ => {}
         }
         Ok(())
     }
 
     /// The observance, at its END.
-    pub fn end(self) -> Result<EndedObservance, Refused>
+    fn end(self) -> Result<EndedObservance, Refused>
         ensures { Gives result (end_of_observance self) (observance_ended self) }
     {
         let (Some(start), Some(offset_from), Some(offset_to)) = (self.start, self.from, self.to)
@@ -107,6 +116,17 @@ impl ObservanceBuilder {
             rule: self.rule,
             rdates: self.rdates,
         })
+    }
+
+    /// Goes at its END to the time zone in which it stands.
+    pub fn join(self, outer: &mut Builder) -> Result<(), Refused>
+        ensures { Keeps result outer.new (end_of_observance self) (joined (Observance self) outer.old) }
+    {
+        let observance = self.end()?;
+        if let Builder::Zone(zone) = outer {
+            zone.observances.list.push(observance)?;
+        }
+        Ok(())
     }
 }
 

@@ -151,6 +151,16 @@ fn push_exdates(
 }
 
 impl DateLists {
+    /// Adds a list of that calendar, and gives the check of its time zone.
+    fn add(&mut self, calendar: u64, list: DateList) -> Result<Option<DeferredCheck>, AllocError>
+        ensures added { IfOk result (λ _. self.new ≡ self.old ++ list ∷ []) }
+        ensures check { IfOk result (λ check. check ≡ listed_zone calendar list) }
+    {
+        let check = list.used_zone(calendar)?;
+        self.lists.push(list)?;
+        Ok(check)
+    }
+
     /// Adds what an RDATE of that calendar lists, and gives the check of its time zone.
     pub fn add_rdates(
         &mut self,
@@ -165,10 +175,7 @@ impl DateLists {
         let zone = zone_name(alloc, tzids, content)?;
         let values = DateValues::of_rdate(alloc, content.value(), zone.is_some())?;
         let values = values.listed(alloc)?;
-        let list = DateList { values, zone };
-        let check = list.used_zone(calendar)?;
-        self.lists.push(list)?;
-        Ok(check)
+        Ok(self.add(calendar, DateList { values, zone })?)
     }
 
     /// The same of an EXDATE.
@@ -185,10 +192,7 @@ impl DateLists {
         let zone = zone_name(alloc, tzids, content)?;
         let values = DateValues::of_exdate(alloc, content.value(), zone.is_some())?;
         let values = values.listed(alloc)?;
-        let list = DateList { values, zone };
-        let check = list.used_zone(calendar)?;
-        self.lists.push(list)?;
-        Ok(check)
+        Ok(self.add(calendar, DateList { values, zone })?)
     }
 
     /// The values of these RDATEs of a calendar.

@@ -4,17 +4,19 @@ ghost use Rattle.ics_values.specs.Integers.{integer_of};
 ghost use Rattle.ics_calendar.specs.declared.fault.FaultKind.TheVariants.{Repeated};
 ghost use Rattle.ics_calendar.specs.Builders.{nothing, event_ended};
 ghost use Rattle.ics_calendar.specs.Lines.{Gives, Notes, first, fault_if, or_first, stamp_fault_of, number_fault_of, event_fault, event_note, event_check};
-ghost use Rattle.ics_calendar.specs.Lines.{end_of_event};
-ghost use Rattle.ics_calendar.specs.SecondRound.{used_zone};
+ghost use Rattle.ics_calendar.specs.Lines.{Keeps, dates_line_fault, dates_line_note, value_fault, value_note};
+ghost use Rattle.ics_calendar.specs.Lines.{end_of_event, passed};
+ghost use Rattle.ics_calendar.specs.declared.gathered.Ended.TheVariants.{Event};
+ghost use Rattle.ics_calendar.specs.SecondRound.{used_zone, ends_in};
 ghost use Rattle.ics_calendar.specs.Values.{dated_of, ok_or_zero, stamp_read};
 ghost use Rattle.ics_calendar.specs.Times.{given_length};
 
 use crate::date_list::DateLists;
 use crate::dated::Dated;
 use crate::deferred_check::DeferredCheck;
-use crate::ends::{ends_badly, lasting};
+use crate::ends::{ends_badly, ends_in, lasting};
 use crate::fault::FaultKind;
-use crate::gathered::{EndedEvent, GivenLength};
+use crate::gathered::{Ended, EndedEvent, GivenLength, Passed};
 use crate::name::Name;
 use crate::refused::Refused;
 use crate::rule_value::RuleValue;
@@ -128,6 +130,60 @@ impl EventBuilder {
         }
     }
 
+    /// One line more that gives dates. A stamp in a time zone gives a check for the second round.
+    fn dates(
+        &mut self,
+        alloc: Global,
+        tzids: &mut Tzids,
+        calendar: u64,
+        name: Name,
+        content: &Content<'_>,
+    ) -> Result<Option<DeferredCheck>, Refused>
+        ensures { Notes result self.new (dates_line_fault name content.now self.old) (dates_line_note name content.now self.old)
+            (event_check calendar name content.now) }
+    {
+        match name {
+            Name::Dtstart => put_date(&mut self.start, alloc, tzids, calendar, content),
+            Name::Dtend => put_date(&mut self.end, alloc, tzids, calendar, content),
+            Name::RecurrenceId => {
+                let check = put_date(&mut self.recurrence, alloc, tzids, calendar, content)?;
+                if content.param(b"RANGE").is_some() {
+                    return Err(Refused::Fault(FaultKind::ThisAndFuture));
+                }
+                Ok(check)
+            }
+            Name::Rdate => self.rdates.add_rdates(alloc, tzids, calendar, content),
+            Name::Exdate => self.exdates.add_exdates(alloc, tzids, calendar, content),
+            _ => Ok(None),
+        }
+    }
+
+    /// One line more that gives no date.
+    fn value(&mut self, alloc: Global, name: Name, value: &[u8]) -> Result<(), Refused>
+        ensures { Keeps result self.new (value_fault name value.now self.old) (value_note name value.now self.old) }
+    {
+        let again = FaultKind::Repeated;
+        match name {
+            Name::Uid => {
+                let uid = Text::of_value(alloc, value)?;
+                once(&mut self.uid, uid, again)?;
+            }
+            Name::Duration => once(&mut self.duration, lasting(value)?, again)?,
+            Name::Rrule => {
+                let rule = RuleValue::read(alloc, value)?;
+                once(&mut self.rule, rule, again)?;
+            }
+            Name::Sequence => once(&mut self.sequence, sequence(value)?, again)?,
+            Name::Exrule => return Err(Refused::Fault(FaultKind::Exrule)),
+            Name::Summary => keep_first(&mut self.title, Text::of_value(alloc, value)?),
+            Name::Location => keep_first(&mut self.location, Text::of_value(alloc, value)?),
+            Name::Description => keep_first(&mut self.description, Text::of_value(alloc, value)?),
+            Name::Status => self.cancelled = self.cancelled.or(Some(is_word(value, b"CANCELLED"))),
+            _ => {}
+        }
+        Ok(())
+    }
+
     /// One line more of an event in that calendar. A stamp in a time zone gives a check for the second round.
     pub fn line(
         &mut self,
@@ -140,36 +196,10 @@ impl EventBuilder {
         ensures { Notes result self.new (event_fault name content.now self.old) (event_note name content.now self.old)
             (event_check calendar name content.now) }
     {
-        let value = content.value();
-        match name {
-            Name::Dtstart => return Ok(put_date(&mut self.start, alloc, tzids, calendar, content)?),
-            Name::Dtend => return Ok(put_date(&mut self.end, alloc, tzids, calendar, content)?),
-            Name::RecurrenceId => {
-                let check = put_date(&mut self.recurrence, alloc, tzids, calendar, content)?;
-                if content.param(b"RANGE").is_some() {
-                    return Err(Refused::Fault(FaultKind::ThisAndFuture));
-                }
-                return Ok(check);
-            }
-            Name::Rdate => return Ok(self.rdates.add_rdates(alloc, tzids, calendar, content)?),
-            Name::Exdate => return Ok(self.exdates.add_exdates(alloc, tzids, calendar, content)?),
-            Name::Uid => {
-                let uid = Text::of_value(alloc, value)?;
-                once(&mut self.uid, uid, FaultKind::Repeated)?;
-            }
-            Name::Duration => once(&mut self.duration, lasting(value)?, FaultKind::Repeated)?,
-            Name::Rrule => {
-                let rule = RuleValue::read(alloc, value)?;
-                once(&mut self.rule, rule, FaultKind::Repeated)?;
-            }
-            Name::Sequence => once(&mut self.sequence, sequence(value)?, FaultKind::Repeated)?,
-            Name::Exrule => return Err(Refused::Fault(FaultKind::Exrule)),
-            Name::Summary => keep_first(&mut self.title, Text::of_value(alloc, value)?),
-            Name::Location => keep_first(&mut self.location, Text::of_value(alloc, value)?),
-            Name::Description => keep_first(&mut self.description, Text::of_value(alloc, value)?),
-            Name::Status => self.cancelled = self.cancelled.or(Some(is_word(value, b"CANCELLED"))),
-            _ => {}
+        if name.gives_dates() {
+            return self.dates(alloc, tzids, calendar, name, content);
         }
+        self.value(alloc, name, content.value())?;
         Ok(None)
     }
 
@@ -190,16 +220,23 @@ impl EventBuilder {
         None
     }
 
-    /// The event of that calendar, at its END.
-    pub fn end(self, alloc: Global, calendar: u64) -> Result<EndedEvent, Refused>
-        ensures { Gives result (end_of_event self) (event_ended calendar self) }
+    /// The check of the end of the event, where no fault stands on its END.
+    fn check_at_end(&self, calendar: u64) -> Result<Option<DeferredCheck>, Refused>
+        ensures { Gives result (end_of_event self.now) (ends_in calendar self.now.start self.now.end) }
     {
         if let Some(kind) = self.fault_at_end() {
             return Err(Refused::Fault(kind));
         }
+        Ok(ends_in(calendar, &self.start, &self.end)?)
+    }
+
+    /// The event of that calendar that has that start.
+    fn started(self, alloc: Global, calendar: u64, start: Dated) -> EndedEvent
+        ensures { result ≡ event_ended calendar (record self { start = Some start }) }
+    {
         let EventBuilder {
             uid,
-            start,
+            start: _,
             end,
             duration,
             rule,
@@ -212,10 +249,7 @@ impl EventBuilder {
             description,
             cancelled,
         } = self;
-        let Some(start) = start else {
-            return Err(Refused::Fault(FaultKind::MissingStart));
-        };
-        Ok(EndedEvent {
+        EndedEvent {
             calendar,
             uid: uid.unwrap_or(Text::new(alloc)),
             start,
@@ -229,6 +263,20 @@ impl EventBuilder {
             location: location.unwrap_or(Text::new(alloc)),
             description: description.unwrap_or(Text::new(alloc)),
             cancelled: cancelled.unwrap_or(false),
+        }
+    }
+
+    /// The event of that calendar and the check of its end, at its END.
+    pub fn end(mut self, alloc: Global, calendar: u64) -> Result<Passed, Refused>
+        ensures { Gives result (end_of_event self) (passed (Event (event_ended calendar self)) (ends_in calendar self.start self.end)) }
+    {
+        let check = self.check_at_end(calendar)?;
+        let Some(start) = self.start.take() else {
+            return Err(Refused::Fault(FaultKind::MissingStart));
+        };
+        Ok(Passed {
+            ended: Ended::Event(self.started(alloc, calendar, start)),
+            check,
         })
     }
 }

@@ -5,9 +5,8 @@ ghost use Rattle.std.specs.Prelude.{map};
 
 use crate::builder::Builder;
 use crate::component::{Component, Context};
-use crate::ends::ends_in;
 use crate::fault::FaultKind;
-use crate::gathered::{Ended, Passed};
+use crate::gathered::Passed;
 use crate::refused::Refused;
 use std::alloc::Global;
 
@@ -37,29 +36,13 @@ impl Frame {
             return Err(Refused::Fault(FaultKind::BadNesting));
         }
         match builder {
-            Builder::Event(had) => {
-                let check = ends_in(calendar, &had.start, &had.end)?;
-                let ended = Ended::Event(had.end(alloc, calendar)?);
-                Ok(Passed { ended, check })
-            }
-            Builder::Zone(had) => {
-                let ended = Ended::Zone(had.end(calendar)?);
-                Ok(Passed { ended, check: None })
-            }
+            Builder::Event(had) => had.end(alloc, calendar),
+            Builder::Zone(had) => had.end(calendar),
             Builder::Observance(had) => {
-                let observance = had.end()?;
-                if let Builder::Zone(zone) = outer {
-                    zone.observances.list.push(observance)?;
-                }
-                Ok(Passed {
-                    ended: Ended::Nothing,
-                    check: None,
-                })
+                had.join(outer)?;
+                Ok(Passed::nothing())
             }
-            Builder::Nothing => Ok(Passed {
-                ended: Ended::Nothing,
-                check: None,
-            }),
+            Builder::Nothing => Ok(Passed::nothing()),
         }
     }
 }

@@ -1,7 +1,9 @@
 //! What is gathered of a file, before its time zones and its events are made of it.
-ghost use Rattle.std.specs.Prelude.{◌≡◌, option_map, IfOk};
+ghost use Rattle.std.specs.Prelude.{◌≡◌, option_map, IfOk, None};
 ghost use Rattle.ics_calendar.specs.Gathered.{event_of};
 ghost use Rattle.ics_calendar.specs.Gathered.{and_passed};
+ghost use Rattle.ics_calendar.specs.Lines.{passed};
+ghost use Rattle.ics_calendar.specs.declared.gathered.Ended.TheVariants.{Nothing};
 ghost use Rattle.ics_calendar.specs.Ready.{IsReady};
 ghost use Rattle.ics_calendar.specs.Times.{time_on, length_of};
 ghost use Rattle.ics_calendar.specs.ZoneTables.{known_by};
@@ -66,6 +68,18 @@ pub enum Ended {
 pub struct Passed {
     pub ended: Ended,
     pub check: Option<DeferredCheck>,
+}
+
+impl Passed {
+    /// Nothing ends, and there is no check.
+    pub fn nothing() -> Passed
+        ensures { result ≡ passed Nothing None }
+    {
+        Passed {
+            ended: Ended::Nothing,
+            check: None,
+        }
+    }
 }
 
 /// A deferred check and the number of its line.
@@ -153,16 +167,16 @@ impl Gathered {
         ensures { IfOk result (λ _. self.new ≡ and_passed number passed self.old) }
     {
         let Passed { ended, check } = passed;
+        match ended {
+            Ended::Zone(zone) => self.zones.push(zone)?,
+            Ended::Event(event) => self.events.push(event)?,
+            Ended::Nothing => {}
+        }
         if let Some(check) = check {
             self.checks.push(LineCheck {
                 line: number,
                 check,
             })?;
-        }
-        match ended {
-            Ended::Zone(zone) => self.zones.push(zone)?,
-            Ended::Event(event) => self.events.push(event)?,
-            Ended::Nothing => {}
         }
         Ok(())
     }

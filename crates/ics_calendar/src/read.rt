@@ -1,9 +1,10 @@
 //! Reading a file.
-ghost use Rattle.std.specs.Prelude.{◌≡◌, ◌∷◌, [], ◌≤◌, length, map, IfOk, None};
+ghost use Rattle.std.specs.Prelude.{◌≡◌, ◌∷◌, [], ◌≤◌, length, map, IfOk, Some, None};
 ghost use Rattle.ics_calendar.specs.Files.{file_of};
+ghost use Rattle.ics_calendar.specs.FirstRounds.{pass_on, GoesBehind};
 ghost use Rattle.ics_calendar.specs.Gathered.{nothing_gathered, IsSoundGathered};
 ghost use Rattle.ics_calendar.specs.GivenFiles.{files_by};
-ghost use Rattle.ics_calendar.specs.Pass.{pass, bottom, at_end, gathered_of};
+ghost use Rattle.ics_calendar.specs.Pass.{pass, bottom, at_end, gathered_of, unless};
 ghost use Rattle.ics_calendar.specs.Seen.{NumbersFit, LastFits, SaysFile};
 
 use crate::draft::Draft;
@@ -13,7 +14,7 @@ use crate::gathered::Gathered;
 use crate::refused::Refused;
 use crate::stack::Stack;
 use crate::zone_files::ZoneFiles;
-use ics_text::{Lines, content, numbers_within};
+use ics_text::{Lines, Logical, content, numbers_within};
 use std::alloc::{AllocError, Global};
 
 /// What stands where the lines end.
@@ -39,37 +40,77 @@ fn at_end(stack: &Stack, last: Option<u64>) -> Option<Fault>
     }
 }
 
+/// The first round behind some lines: the components that are open, what is gathered, and the number of the last line.
+#[derive(Drop)]
+struct FirstRound {
+    stack: Stack,
+    gathered: Gathered,
+    last: Option<u64>,
+}
+
+impl FirstRound {
+    /// Takes one line, or answers its fault.
+    fn line(&mut self, alloc: Global, line: &Logical<'_>) -> Result<(), Refused>
+        ensures behind { GoesBehind result line.now self.old self.new }
+        ensures last { IfOk result (λ _. self.new.last ≡ Some line.now.number) }
+    {
+        let number = line.number();
+        let Ok(parts) = content(line.bytes()) else {
+            return Err(Refused::Fault(FaultKind::BadLine));
+        };
+        let passed = self.stack.line(alloc, number, &parts)?;
+        self.gathered.pass(number, passed)?;
+        self.last = Some(number);
+        Ok(())
+    }
+
+    /// Takes the lines up to the first that has a fault. The fault that it answers may stand where they end.
+    fn lines(&mut self, alloc: Global, mut lines: Lines<'_>) -> Result<Option<Fault>, AllocError>
+        requires lines { NumbersFit lines }
+        requires last { LastFits self.old.last }
+        ensures { IfOk result (λ fault. pass_on self.old lines.entry ≡ unless fault self.new.gathered) }
+    {
+        'lines: while let Some(line) = lines.next(alloc)? {
+            match self.line(alloc, &line) {
+                Ok(()) => {}
+                Err(Refused::Memory) => return Err(AllocError),
+                Err(Refused::Fault(kind)) => {
+                    return Ok(Some(Fault {
+                        line: line.number(),
+                        kind,
+                    }));
+                }
+            }
+        }
+        Ok(at_end(&self.stack, self.last))
+    }
+}
+
 /// What is gathered of the lines, or the first fault of the first round.
-fn pass_lines(alloc: Global, mut lines: Lines<'_>) -> Result<Result<Gathered, Fault>, AllocError>
+fn pass_lines(alloc: Global, lines: Lines<'_>) -> Result<Result<Gathered, Fault>, AllocError>
     requires { NumbersFit lines }
     ensures { IfOk result (λ answer. answer ≡ pass (bottom ∷ []) None nothing_gathered lines.entry) }
 {
-    let mut stack = Stack::new(alloc);
-    let mut gathered = Gathered {
-        zones: Vec::new(alloc),
-        events: Vec::new(alloc),
-        checks: Vec::new(alloc),
+    let mut round = FirstRound {
+        stack: Stack::new(alloc),
+        gathered: Gathered {
+            zones: Vec::new(alloc),
+            events: Vec::new(alloc),
+            checks: Vec::new(alloc),
+        },
+        last: None,
     };
-    let mut last = None;
-    'lines: while let Some(line) = lines.next(alloc)? {
-        let number = line.number();
-        let Ok(parts) = content(line.bytes()) else {
-            return Ok(Err(Fault {
-                line: number,
-                kind: FaultKind::BadLine,
-            }));
-        };
-        match stack.line(alloc, number, &parts) {
-            Ok(passed) => gathered.pass(number, passed)?,
-            Err(Refused::Memory) => return Err(AllocError),
-            Err(Refused::Fault(kind)) => return Ok(Err(Fault { line: number, kind })),
-        }
-        last = Some(number);
-    }
-    match at_end(&stack, last) {
-        Some(fault) => Ok(Err(fault)),
-        None => Ok(Ok(gathered)),
-    }
+    let fault = round.lines(alloc, lines);
+    let FirstRound {
+        stack,
+        gathered,
+        ..
+    } = round;
+    drop(stack);
+    Ok(match fault? {
+        Some(fault) => Err(fault),
+        None => Ok(gathered),
+    })
 }
 
 /// What the first round gathers of a file, or its first fault.
