@@ -35,9 +35,8 @@ use Rattle.ics_calendar.specs.Gathered.{IsSoundInstant, IsSoundCheck, checks_of,
 use Rattle.ics_calendar.specs.DeferredChecks.{zone_used, are_of_one_zone}
 use Rattle.ics_calendar.specs.Lines.{or_first, opened, event_note, event_check, builder_note, builder_check, end_check, joined, ended_as}
 use Rattle.ics_calendar.specs.SecondRound.{used_zone, used_in, listed_zone, instant_on, instant_in, both_compared, ends_in}
-use Rattle.ics_calendar.specs.Ready.{EachZone, end_of}
+use Rattle.ics_calendar.specs.Sound.{EachZone, end_of, IsSoundStamp}
 use Rattle.ics_calendar.specs.Times.{dated_in, given_length}
-use Rattle.ics_calendar.specs.Sound.{IsSoundStamp}
 use Rattle.ics_calendar.specs.Values.{dated_of, is_out}
 use Rattle.ics_calendar.proofs.Judged.{check_in, closed, behind, ends}
 use Rattle.ics_calendar.proofs.Judged.{is_begin_name, is_end_name, behind-is, check-is}

@@ -31,13 +31,12 @@ use Rattle.ics_calendar.specs.DateLists.{zone_listed, rdate_in, exdate_in, first
 use Rattle.ics_calendar.specs.DateValues.{has_zoned}
 use Rattle.ics_calendar.specs.DeferredChecks.{KnownZones, zone_used, judged, moment_at, moment_there, are_out}
 use Rattle.ics_calendar.specs.SecondRound.{used_zone, used_in, listed_zone, instant_on, both_compared, ends_in}
-use Rattle.ics_calendar.specs.Ready.{IsReady, end_of}
-use Rattle.ics_calendar.specs.Sound.{IsSoundStamp, IsSoundLength, IsSoundValue, IsSoundList}
+use Rattle.ics_calendar.specs.Sound.{IsReady, end_of, IsSoundStamp, IsSoundLength, IsSoundValue, IsSoundList}
 use Rattle.ics_calendar.specs.Times.{time_in, time_on, length_of}
 use Rattle.ics_calendar.specs.Values.{length_in_seconds, is_lasting, same_zone, is_out, is_bad_end, tzid}
 use Rattle.ics_calendar.proofs.Listed.{All-flat_map}
 use Rattle.ics_calendar.specs.declared.time.Time.{Time}
-use Rattle.ics_calendar.specs.DraftsSound.{IsTable}
+use Rattle.ics_calendar.specs.Drafts.{IsTable}
 use Rattle.ics_calendar.specs.declared.gathered.GivenLength.TheVariants as given
 use Rattle.ics_calendar.specs.declared.date_list.ListedDate.TheVariants as value
 use Rattle.ics_calendar.specs.declared.deferred_check.DeferredCheck.TheVariants as check

@@ -8,7 +8,7 @@ use Rattle.ics_calendar.specs.declared.date_list.DateList.{DateList}
 use Rattle.ics_calendar.specs.declared.deferred_check.DeferredCheck.{DeferredCheck}
 use Rattle.ics_calendar.specs.declared.gathered.EndedEvent.{EndedEvent}
 use Rattle.ics_calendar.specs.SecondRound.{used_zone, used_in, listed_zone, ends_in}
-use Rattle.ics_calendar.specs.Ready.{EachZone, end_of}
+use Rattle.ics_calendar.specs.Sound.{EachZone, end_of}
 
 pub All-flat_map : {X A : Type 0} (P : A → Type 0) (f : X → List A) (xs : List X) → All (λ x. All P (f x)) xs → All P (flat_map f xs)
 All-flat_map P f [] h = All-nil P

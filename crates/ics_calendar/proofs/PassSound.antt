@@ -18,12 +18,10 @@ use Rattle.ics_calendar.specs.Gathered.{IsSoundCheck, IsSoundGathered, nothing_g
 use Rattle.ics_calendar.specs.Components.{component_of}
 use Rattle.ics_calendar.specs.Lines.{opened, builder_note}
 use Rattle.ics_calendar.specs.Names.{name_of}
-use Rattle.ics_calendar.specs.Ready.{EachZone}
+use Rattle.ics_calendar.specs.Sound.{EachZone, IsWhole, IsSoundZone}
 use Rattle.ics_calendar.specs.Pass.{bottom, at_end, unless, Going, on_line, on_content, pass}
 use Rattle.ics_calendar.proofs.Judged.{fault_on, check_in, closed, behind, ends, passing, IsBased, is_begin_name, is_end_name, behind-is, line-is}
 use Rattle.ics_calendar.proofs.NameLemmas.{context-in-outside}
-use Rattle.ics_calendar.specs.Sound.{IsWhole}
-use Rattle.ics_calendar.specs.ZonesSound.{IsSoundZone}
 use Rattle.ics_calendar.proofs.Awaits.{bare_checks, one, bare_checks-more, AreAwaited, awaited-behind, ended-awaited, checks-sound}
 use Rattle.ics_calendar.proofs.Listed.{each-weaker}
 use Rattle.ics_calendar.proofs.PassLemmas.{refused, on-line-is}

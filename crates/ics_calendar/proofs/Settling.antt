@@ -16,10 +16,9 @@ use Rattle.ics_values.specs.Locals.{local_seconds}
 use Rattle.ics_calendar.specs.Gathered.{known_in, first_judged, IsSoundGathered}
 use Rattle.ics_calendar.specs.GatheredSeen.{GatheredSeen}
 use Rattle.ics_calendar.specs.DeferredChecks.{KnownZones, moment_at, judged, with_files}
-use Rattle.ics_calendar.specs.DraftsSound.{IsSoundDraft, left_of}
+use Rattle.ics_calendar.specs.Drafts.{IsSoundDraft, left_of}
 use Rattle.ics_calendar.specs.GivenFiles.{GivenFiles}
-use Rattle.ics_calendar.specs.Ready.{IsReady}
-use Rattle.ics_calendar.specs.ZonesSound.{IsSoundZone}
+use Rattle.ics_calendar.specs.Sound.{IsReady, IsSoundZone}
 use Rattle.ics_calendar.proofs.EventSound.{events-of}
 use Rattle.ics_calendar.proofs.FilesGiven.{table-known, table-with}
 use Rattle.ics_calendar.proofs.Listed.{each-weaker}

@@ -38,7 +38,7 @@ use Rattle.ics_calendar.specs.Components.{component_of, context_in}
 use Rattle.ics_calendar.specs.DateValues.{date_time_of, has_slash, rdate_of, rdates_of}
 use Rattle.ics_calendar.specs.Lines.{or_first, opened, end_of_event, end_of_zone, event_note}
 use Rattle.ics_calendar.specs.Lines.{zone_note, observance_note, builder_note, joined, fault_at_end_of, ended_as}
-use Rattle.ics_calendar.specs.Sound.{IsSoundStamp, IsSoundList, IsSoundLength, IsWhole}
+use Rattle.ics_calendar.specs.Sound.{IsSoundStamp, IsSoundList, IsSoundLength, IsWhole, IsSoundObservance, IsSoundZone}
 use Rattle.ics_calendar.specs.Builders.{fresh, zone_ended, observance_ended, event_ended}
 use Rattle.ics_calendar.specs.Values.{zone_name, dated_of, duration_in, lasting_of, is_lasting, is_fine, is_filled, ends_badly}
 use Rattle.ics_calendar.specs.Zones.{local_in, onset_in, offset_in, daily_in}
@@ -54,7 +54,6 @@ use Rattle.ics_zone.specs.Years.{is_stamp_local}
 use Rattle.ics_calendar.specs.declared.fault.FaultKind.TheVariants.{NoObservance, ObservanceField, MissingUid, MissingStart, BadEnd}
 use Rattle.ics_calendar.specs.Gathered.{zones_of_end, events_of_end}
 use Rattle.ics_calendar.specs.Times.{dated_in, given_length}
-use Rattle.ics_calendar.specs.ZonesSound.{IsSoundObservance, IsSoundZone}
 use Rattle.ics_calendar.specs.declared.builder.ZoneBuilder.{ZoneBuilder}
 use Rattle.ics_calendar.specs.declared.gathered.EndedZone.{EndedZone}
 

@@ -10,11 +10,10 @@ use Rattle.ics_calendar.specs.Event.{FileSaid}
 use Rattle.ics_calendar.specs.Faults.{stands, stands_later}
 use Rattle.ics_calendar.specs.GivenFiles.{GivenFiles}
 use Rattle.ics_calendar.specs.FirstFault.{Fault, IsFirst, IsFirstOrLast, NoneStand, first_fault, later_fault, fault_at_end}
-use Rattle.ics_calendar.specs.Files.{DraftSaid, IsFile, bad_fold, file_of, draft_of, decide, said_of, wanted_names, wanted_on}
+use Rattle.ics_calendar.specs.Files.{DraftSaid, IsFile, bad_fold, file_of, draft_of, decide, said_of, wanted_names, wanted_on, SaysFile}
 use Rattle.ics_calendar.specs.Gathered.{drafted_of, nothing_gathered}
-use Rattle.ics_calendar.specs.Pass.{pass, bottom, unless, gathered_of}
+use Rattle.ics_calendar.specs.Pass.{pass, bottom, unless, gathered_of, NumbersFit}
 use Rattle.ics_calendar.specs.PlacedLines.{Placed, placed}
-use Rattle.ics_calendar.specs.Seen.{NumbersFit, SaysFile}
 use Rattle.ics_calendar.specs.Wanted.{zones_with}
 use Rattle.ics_calendar.proofs.Firsts.{Finds, finds, finds-none, found-at-end, found-on-line}
 use Rattle.ics_calendar.proofs.PassLemmas.{gathered_from, pass-whole}

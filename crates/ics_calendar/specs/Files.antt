@@ -1,12 +1,12 @@
 -- WHAT A FILE IS: its time zones and its events, or its first fault.
-use Rattle.std.specs.Prelude.{◌≡◌, ◌⊎◌, ℕ, Bool, false, IsTrue, List, [], ◌++◌, filter, map, codes, unwrap_or, Option, Some, None, option_map}
-use Rattle.std.specs.Prelude.{Result, Ok, Err, ◌&&◌, if◌then◌else◌}
+use Rattle.std.specs.Prelude.{◌≡◌, ◌⊎◌, ℕ, Bool, false, IsTrue, List, [], ◌++◌, filter, map, codes, unwrap_or, Option, Some, None, option_map, Result, Ok, Err}
+use Rattle.std.specs.Prelude.{◌&&◌, if◌then◌else◌}
 use Rattle.ics_text.specs.Unfolded.{Line, begins_with_fold, unfolded}
 use Rattle.ics_values.specs.Integers.{integer_of}
 use Rattle.ics_calendar.specs.declared.fault.FaultKind.TheVariants.{BadFold}
 use Rattle.ics_calendar.specs.declared.deferred_check.ZoneName.{ZoneName}
 use Rattle.ics_calendar.specs.DateLists.{rdates_by, exdates_by}
-use Rattle.ics_calendar.specs.Event.{EventSeen, FileSaid}
+use Rattle.ics_calendar.specs.Event.{EventSeen, FileSaid, FileSeen, said_by}
 use Rattle.ics_calendar.specs.DeferredChecks.{KnownZones}
 use Rattle.ics_calendar.specs.GivenFiles.{GivenFiles}
 use Rattle.ics_calendar.specs.Wanted.{each_once, unknown_names, zones_with}
@@ -15,6 +15,8 @@ use Rattle.ics_calendar.specs.Times.{time_on, dated_in, given_length, length_of}
 use Rattle.ics_calendar.specs.Values.{ok_or_zero, is_cancelled}
 use Rattle.ics_calendar.specs.Faults.{first_text, first_dated, duration_on, parts_on, rdates_on, exdates_on, stands, stands_later}
 use Rattle.ics_calendar.specs.FirstFault.{Fault, IsFirst, IsFirstOrLast, NoneStand, fault_at_end, first_fault, later_fault}
+use Rattle.ics_calendar.specs.declared.fault.FileFault.{FileFault}
+use Rattle.ics_calendar.specs.declared.fault.FileFault.TheVariants.{Memory, At}
 
 -- An event of a calendar, by the lines that stand directly in it, given the index of the zone that a name stands for.
 abbrev pub event_by : (ZoneName → Option ℕ) → ℕ → List Placed → EventSeen
@@ -95,3 +97,13 @@ abbrev pub FaultsLookBack : Type 0
 FaultsLookBack =
     (files : GivenFiles) (file longer : List ℕ) (more : List Line) (fault : Fault) → unfolded longer ≡ unfolded file ++ more → begins_with_fold longer ≡ false
     → IsFirst stands [] (placed file) fault → IsFile files longer (Err fault)
+
+-- The answer is what the file says, or its first fault, or that memory is refused.
+abbrev pub SaysFile : Result FileSeen FileFault → Result FileSaid Fault → Type 0
+SaysFile (Ok seen) file = file ≡ Ok (said_by seen)
+SaysFile (Err Memory) file = Unit {0}
+SaysFile (Err (At line kind)) file = file ≡ Err (record { line = line; kind = kind })
+
+abbrev pub said_answer : Result FileSeen Fault → Result FileSaid Fault
+said_answer (Ok seen) = Ok (said_by seen)
+said_answer (Err fault) = Err fault

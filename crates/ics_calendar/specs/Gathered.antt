@@ -19,10 +19,8 @@ use Rattle.ics_calendar.specs.Files.{DraftSaid, decide}
 use Rattle.ics_calendar.specs.FirstFault.{Fault, found}
 use Rattle.ics_calendar.specs.declared.deferred_check.ZoneName.{ZoneName}
 use Rattle.ics_calendar.specs.DeferredChecks.{KnownZones, known_zones, with_files, judged, unknown_in}
-use Rattle.ics_calendar.specs.Ready.{EachZone}
-use Rattle.ics_calendar.specs.Sound.{IsWhole}
+use Rattle.ics_calendar.specs.Sound.{EachZone, IsWhole, IsSoundZone}
 use Rattle.ics_calendar.specs.Wanted.{each_once}
-use Rattle.ics_calendar.specs.ZonesSound.{IsSoundZone}
 use Rattle.ics_calendar.specs.DateLists.{rdates_by, exdates_by}
 use Rattle.ics_calendar.specs.Event.{EventSeen}
 use Rattle.ics_calendar.specs.Times.{time_on, length_of}

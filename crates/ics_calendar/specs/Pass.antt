@@ -1,6 +1,6 @@
 -- One pass over the lines with the components that are open, the innermost first, each with what has been read of it.
 -- These are the words of the code alone. No public contract cites them.
-use Rattle.std.specs.Prelude.{ℕ, ◌+◌, Bool, true, false, List, [], ◌∷◌, Option, Some, None, Result, Ok, Err, if◌then◌else◌}
+use Rattle.std.specs.Prelude.{ℕ, ◌+◌, Bool, true, false, List, [], ◌∷◌, Option, Some, None, Result, Ok, Err, if◌then◌else◌, ◌≡◌, ◌<◌, ◌^◌}
 use Rattle.ics_text.specs.Unfolded.{Line, unfolded, begins_with_fold}
 use Rattle.ics_text.specs.ContentLines.{Parts, content_of}
 use Rattle.ics_calendar.specs.declared.component.Component.TheVariants as component
@@ -15,6 +15,9 @@ use Rattle.ics_calendar.specs.GatheredSeen.{GatheredSeen}
 use Rattle.ics_calendar.specs.Files.{bad_fold}
 use Rattle.ics_calendar.specs.Gathered.{nothing_gathered, and_passed}
 use Rattle.ics_calendar.specs.Lines.{line_in}
+use Rattle.ics_calendar.specs.declared.read.FirstRound.{FirstRound}
+use Rattle.ics_calendar.specs.declared.refused.Refused.{Refused}
+use Rattle.ics_calendar.specs.declared.refused.Refused.TheVariants as refused
 
 -- below all components
 abbrev pub bottom : Frame
@@ -53,3 +56,23 @@ pass frames last had (line ∷ lines) = on_content line.number (content_of line.
 -- What the first round gathers of a file, or its first fault.
 abbrev pub gathered_of : List ℕ → Result GatheredSeen Fault
 gathered_of file = if begins_with_fold file then Err bad_fold else pass (bottom ∷ []) None nothing_gathered (unfolded file)
+
+-- there is a number after that of each line
+abbrev pub NumbersFit : List Line → Type 0
+NumbersFit [] = Unit {0}
+NumbersFit (line ∷ lines) = (line.number + 1 < 2 ^ 64) × NumbersFit lines
+
+abbrev pub LastFits : Option ℕ → Type 0
+LastFits None = Unit {0}
+LastFits (Some n) = n + 1 < 2 ^ 64
+
+-- the pass over the lines that are left
+abbrev pub pass_on : FirstRound → List Line → Result GatheredSeen Fault
+pass_on round lines = pass round.stack round.last round.gathered lines
+
+-- ONE LINE: the pass goes on behind it, or its fault is the answer.
+abbrev pub GoesBehind : Result Unit Refused → Line → FirstRound → FirstRound → Type 0
+GoesBehind (Ok taken) line round behind = (lines : List Line) → pass_on round (line ∷ lines) ≡ pass_on behind lines
+GoesBehind (Err refused.Memory) line round behind = Unit {0}
+GoesBehind (Err (refused.Fault kind)) line round behind = (lines : List Line) →
+    pass_on round (line ∷ lines) ≡ Err (record { line = line.number; kind = kind })

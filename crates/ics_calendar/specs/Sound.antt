@@ -1,6 +1,6 @@
--- What holds of an event that has ended, where no fault stands on its lines.
-use Rattle.std.specs.Prelude.{◌≡◌, ◌≢◌, true, false, [], IfSome}
-use Rattle.std.specs.List.{All}
+-- What holds of what has ended, where no fault stands on its lines.
+use Rattle.std.specs.Prelude.{◌≡◌, ◌≢◌, true, false, [], IfSome, List, IsTrue, Option, Some, None}
+use Rattle.std.specs.List.{All, list_all}
 use Rattle.ics_values.specs.Stamps.{stamp_day, IsStampDay}
 use Rattle.ics_values.specs.declared.stamp.Stamp.{Stamp}
 use Rattle.ics_calendar.specs.declared.date_list.DateList.{DateList}
@@ -11,6 +11,11 @@ use Rattle.ics_calendar.specs.declared.gathered.EndedEvent.{EndedEvent}
 use Rattle.ics_calendar.specs.declared.gathered.GivenLength.{GivenLength}
 use Rattle.ics_calendar.specs.declared.gathered.GivenLength.TheVariants as given
 use Rattle.ics_calendar.specs.Values.{is_lasting, is_bad_end, same_zone}
+use Rattle.ics_zone.specs.Observances.{ObservanceSaid, IsObservanceSaid, has_finer_rule}
+use Rattle.ics_zone.specs.Years.{is_stamp_local}
+use Rattle.ics_calendar.specs.declared.deferred_check.DeferredCheck.{DeferredCheck}
+use Rattle.ics_calendar.specs.DeferredChecks.{KnownZones, judged}
+use Rattle.ics_calendar.specs.SecondRound.{used_zone, used_in, listed_zone, ends_in}
 
 -- Its stamps lie in the years of stamps, and its duration and those of its PERIODs are ones that an event may have.
 abbrev pub IsSoundStamp : Stamp → Type 0
@@ -37,3 +42,36 @@ pub record IsWhole (event : EndedEvent) : Type 0 where
   pub rdates : All IsSoundList event.rdates
   pub exdates : All IsSoundList event.exdates
   pub recurrence : IfSome event.recurrence (λ dated. IsSoundStamp dated.stamp)
+
+-- WHAT IS GATHERED OF TIME ZONES (RFC 5545, section 3.6.5).
+
+-- Its DTSTART and its RDATEs are of the years 0001 to 9899, its offsets less than a day, and its rule no finer than daily.
+pub record IsSoundObservance (observance : ObservanceSaid) : Type 0 where
+  pub bounds : IsObservanceSaid observance
+  pub rdates : IsTrue (list_all is_stamp_local observance.rdates)
+  pub daily : has_finer_rule observance ≡ false
+
+-- A time zone has an observance.
+pub record IsSoundZone (observances : List ObservanceSaid) : Type 0 where
+  pub filled : observances ≢ []
+  pub sound : All IsSoundObservance observances
+
+-- AN EVENT AFTER BOTH ROUNDS.
+
+-- the DTEND of an event that has ended, if it has one
+abbrev pub end_of : GivenLength → Option Dated
+end_of (given.Until end) = Some end
+end_of _ = None
+
+-- P holds of all zones that the event's stamps name, as the second round looks at them, and of its end against its start.
+pub record EachZone (P : DeferredCheck → Type 0) (event : EndedEvent) : Type 0 where
+  pub start : IfSome (used_zone event.calendar event.start) P
+  pub end : IfSome (used_in event.calendar (end_of event.length)) P
+  pub rdates : All (λ list. IfSome (listed_zone event.calendar list) P) event.rdates
+  pub exdates : All (λ list. IfSome (listed_zone event.calendar list) P) event.exdates
+  pub recurrence : IfSome (used_in event.calendar event.recurrence) P
+  pub length : IfSome (ends_in event.calendar (Some event.start) (end_of event.length)) P
+
+pub record IsReady (known : KnownZones) (event : EndedEvent) : Type 0 where
+  pub whole : IsWhole event
+  pub zones : EachZone (λ l. judged known l ≡ None) event

@@ -1,10 +1,9 @@
 //! Files in which the first round finds nothing.
 ghost use Rattle.std.specs.Prelude.{◌≡◌, ◌≤◌, length, map, IfOk, IfErr};
 ghost use Rattle.ics_calendar.specs.Drafts.{draft_said, says_draft, IsFaultOf};
-ghost use Rattle.ics_calendar.specs.Files.{draft_of};
+ghost use Rattle.ics_calendar.specs.Files.{draft_of, said_answer, SaysFile};
 ghost use Rattle.ics_calendar.specs.Gathered.{known_in, drafted, drafted_of, IsSoundGathered};
 ghost use Rattle.ics_calendar.specs.Pass.{gathered_of};
-ghost use Rattle.ics_calendar.specs.Seen.{said_answer, SaysFile};
 ghost use Rattle.ics_calendar.specs.ZoneTables.{given_by};
 
 use crate::events::FileEvents;
@@ -30,7 +29,7 @@ pub struct Draft {
 impl Model for Draft {
     ghost use Rattle.std.specs.Coded.{codes};
     ghost use Rattle.ics_calendar.specs.contracts.zone_table.ZoneTable as zone_table;
-    ghost use Rattle.ics_calendar.specs.DraftsSound.{DraftSeen, IsSoundDraft, left_of};
+    ghost use Rattle.ics_calendar.specs.Drafts.{DraftSeen, IsSoundDraft, left_of};
     ghost use Rattle.ics_calendar.specs.ZoneTables.{known_by};
 
     ghost Value = { DraftSeen };

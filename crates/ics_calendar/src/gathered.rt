@@ -4,7 +4,7 @@ ghost use Rattle.ics_calendar.specs.Gathered.{event_of};
 ghost use Rattle.ics_calendar.specs.Gathered.{and_passed};
 ghost use Rattle.ics_calendar.specs.Lines.{passed};
 ghost use Rattle.ics_calendar.specs.declared.gathered.Ended.TheVariants.{Nothing};
-ghost use Rattle.ics_calendar.specs.Ready.{IsReady};
+ghost use Rattle.ics_calendar.specs.Sound.{IsReady};
 ghost use Rattle.ics_calendar.specs.Times.{time_on, length_of};
 ghost use Rattle.ics_calendar.specs.ZoneTables.{known_by};
 

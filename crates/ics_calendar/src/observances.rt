@@ -3,7 +3,7 @@ ghost use Rattle.std.specs.Prelude.{◌≡◌, ◌≢◌, [], false, IfOk};
 ghost use Rattle.std.specs.List.{All, list_any};
 ghost use Rattle.ics_zone.specs.Observances.{observance_said, observances_said, has_finer_rule};
 ghost use Rattle.ics_zone.specs.ZoneSaid.{ZoneSaid, zone_said};
-ghost use Rattle.ics_calendar.specs.ZonesSound.{IsSoundObservance, IsSoundZone};
+ghost use Rattle.ics_calendar.specs.Sound.{IsSoundObservance, IsSoundZone};
 
 use crate::rule_value::{RuleValue, parts_of};
 use ics_values::Local;

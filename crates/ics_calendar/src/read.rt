@@ -1,11 +1,9 @@
 //! Reading a file.
 ghost use Rattle.std.specs.Prelude.{◌≡◌, ◌∷◌, [], ◌≤◌, length, map, IfOk, Some, None};
-ghost use Rattle.ics_calendar.specs.Files.{file_of};
-ghost use Rattle.ics_calendar.specs.FirstRounds.{pass_on, GoesBehind};
+ghost use Rattle.ics_calendar.specs.Files.{file_of, SaysFile};
+ghost use Rattle.ics_calendar.specs.Pass.{pass_on, GoesBehind, pass, bottom, at_end, gathered_of, unless, NumbersFit, LastFits};
 ghost use Rattle.ics_calendar.specs.Gathered.{nothing_gathered, IsSoundGathered};
 ghost use Rattle.ics_calendar.specs.GivenFiles.{files_by};
-ghost use Rattle.ics_calendar.specs.Pass.{pass, bottom, at_end, gathered_of, unless};
-ghost use Rattle.ics_calendar.specs.Seen.{NumbersFit, LastFits, SaysFile};
 
 use crate::draft::Draft;
 use crate::events::FileEvents;

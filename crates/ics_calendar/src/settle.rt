@@ -2,10 +2,10 @@
 ghost use Rattle.std.specs.Prelude.{◌≡◌, map, IfOk};
 ghost use Rattle.std.specs.List.{All};
 ghost use Rattle.ics_calendar.specs.Gathered.{event_of};
-ghost use Rattle.ics_calendar.specs.DraftsSound.{IsSoundDraft, left_of};
+ghost use Rattle.ics_calendar.specs.Drafts.{IsSoundDraft, left_of};
 ghost use Rattle.ics_calendar.specs.Gathered.{first_judged, settled_by, IsSoundCheck};
-ghost use Rattle.ics_calendar.specs.Ready.{IsReady};
-ghost use Rattle.ics_calendar.specs.Seen.{said_answer};
+ghost use Rattle.ics_calendar.specs.Sound.{IsReady};
+ghost use Rattle.ics_calendar.specs.Files.{said_answer};
 ghost use Rattle.ics_calendar.specs.ZoneTables.{known_by};
 
 use crate::event::Event;

@@ -8,7 +8,7 @@ ghost use Rattle.ics_values.specs.Stamps.{IsStampDay};
 ghost use Rattle.ics_zone.specs.ZoneSaid.{ZoneSaid, zone_said};
 ghost use Rattle.ics_calendar.specs.declared.deferred_check.ZoneName.{ZoneName};
 ghost use Rattle.ics_calendar.specs.DeferredChecks.{zone_index, moment_at, known_zones, with_files};
-ghost use Rattle.ics_calendar.specs.ZonesSound.{IsSoundZone};
+ghost use Rattle.ics_calendar.specs.Sound.{IsSoundZone};
 ghost use Rattle.ics_calendar.specs.ZoneTables.{name_cmp, known_by, given_by, put_first, put_given, with_given};
 
 use crate::deferred_check::ZoneName;

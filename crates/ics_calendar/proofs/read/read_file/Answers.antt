@@ -1,9 +1,8 @@
 use Rattle.std.proofs.Common.{map, ap, subst, ◌∙◌, Result}
 use Rattle.ics_calendar.specs.Event.{FileSaid}
-use Rattle.ics_calendar.specs.Files.{DraftSaid, file_of}
+use Rattle.ics_calendar.specs.Files.{DraftSaid, file_of, SaysFile}
 use Rattle.ics_calendar.specs.FirstFault.{Fault}
 use Rattle.ics_calendar.specs.GivenFiles.{GivenFiles, files_by}
-use Rattle.ics_calendar.specs.Seen.{SaysFile}
 use Rattle.ics_calendar.specs.ZoneTables.{given_by}
 use Rattle.ics_calendar.proofs.Whole.{fault-says}
 use Rattle.ics_calendar.proofs.read.read_file.Goals as goal

@@ -1,6 +1,6 @@
 use Rattle.std.proofs.Common.{sym, ap, ◌∙◌, subst}
 use Rattle.ics_calendar.specs.DeferredChecks.{KnownZones}
-use Rattle.ics_calendar.specs.DraftsSound.{IsSoundDraft, left_of}
+use Rattle.ics_calendar.specs.Drafts.{IsSoundDraft, left_of}
 use Rattle.ics_calendar.specs.Gathered.{known_in, drafted, IsSoundGathered}
 use Rattle.ics_calendar.specs.GatheredSeen.{GatheredSeen}
 use Rattle.ics_calendar.proofs.Settling.{draft-sound}

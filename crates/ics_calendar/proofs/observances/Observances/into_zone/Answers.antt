@@ -2,7 +2,7 @@ use Rattle.std.proofs.Common.{◌≡◌, false, ◌||◌, List, [], ◌∷◌, r
 use Rattle.std.specs.List.{All, list_any}
 use Rattle.std.proofs.lemmas.List.Elements.{All-head, All-tail}
 use Rattle.ics_zone.specs.Observances.{ObservanceSaid, has_finer_rule}
-use Rattle.ics_calendar.specs.ZonesSound.{IsSoundObservance}
+use Rattle.ics_calendar.specs.Sound.{IsSoundObservance}
 use Rattle.ics_calendar.proofs.observances.Observances.into_zone.Goals as goal
 
 none-finer : (ps : List ObservanceSaid) → All IsSoundObservance ps → list_any has_finer_rule ps ≡ false

@@ -1,7 +1,6 @@
 use Rattle.std.proofs.Common.{◌≡◌, ℕ, List, ◌∷◌, Option, sym, ap, subst, ◌∙◌}
 use Rattle.ics_text.specs.Unfolded.{Line}
-use Rattle.ics_calendar.specs.FirstRounds.{pass_on}
-use Rattle.ics_calendar.specs.Seen.{NumbersFit, LastFits}
+use Rattle.ics_calendar.specs.Pass.{pass_on, NumbersFit, LastFits}
 use Rattle.ics_calendar.proofs.read.FirstRound.lines.Goals as goal
 
 -- one line further

@@ -1,6 +1,5 @@
 use Rattle.std.proofs.Common.{◌≡◌, length}
-use Rattle.ics_calendar.specs.FirstRounds.{pass_on}
-use Rattle.ics_calendar.specs.Seen.{NumbersFit, LastFits}
+use Rattle.ics_calendar.specs.Pass.{pass_on, NumbersFit, LastFits}
 use Rattle.ics_calendar.proofs.read.FirstRound.lines.Given as goal
 
 abbrev pub invariant-lines : goal.invariant-lines
