@@ -1,18 +1,12 @@
 ghost use Rattle.std.specs.Prelude.{◌≡◌, ◌≤◌, drop, length};
 ghost use Rattle.std.specs.List.{prefix_len};
-ghost use Rattle.ics_text.specs.Bytes.{is_blank, is_control, is_name_byte, is_quoted_byte, is_plain_byte};
+ghost use Rattle.ics_text.specs.Bytes.{is_blank, is_name_byte, is_quoted_byte, is_plain_byte};
 
 /// Whether a line that begins with the byte continues the line before it: SPACE or HTAB.
 pub fn is_blank(b: u8) -> bool
     ensures { result ≡ is_blank b }
 {
     b == b' ' || b == b'\t'
-}
-
-fn is_control(b: u8) -> bool
-    ensures { result ≡ is_control b }
-{
-    (b <= 31 && b != b'\t') || b == 127
 }
 
 /// Whether the name of a property or a parameter may contain the byte.
@@ -26,7 +20,7 @@ pub fn is_name_byte(b: u8) -> bool
 pub fn is_quoted_byte(b: u8) -> bool
     ensures { result ≡ is_quoted_byte b }
 {
-    b != b'"' && !is_control(b)
+    b != b'"' && (b == b'\t' || (b > 31 && b != 127))
 }
 
 /// Whether an unquoted value of a parameter may contain the byte.

@@ -3,7 +3,7 @@ ghost use Rattle.std.specs.List.{take_while};
 ghost use Rattle.std.specs.Option.{option_copied};
 ghost use Rattle.ics_text.specs.Bytes.{is_name_byte, same_name};
 ghost use Rattle.ics_text.specs.Pieces.{cut_from, pieces_behind};
-ghost use Rattle.ics_text.specs.ContentLines.{pieces, turned, without_quotes, after_name, first_of_text, param_of};
+ghost use Rattle.ics_text.specs.ContentLines.{pieces, without_quotes, first_of_text, param_of};
 
 use crate::bytes::{name_len, without_first};
 
@@ -39,14 +39,9 @@ fn is_named(text: &[u8], name: &[u8]) -> bool
 fn first_of_text(text: &[u8]) -> &[u8]
     ensures { result.now ≡ first_of_text text.now }
 {
-    let (first, _) = cut_piece(without_first(after_name(text)), COMMA);
+    let behind = without_first(&text[name_len(text)..]);
+    let (first, _) = cut_piece(behind, COMMA);
     without_quotes(first)
-}
-
-fn after_name(text: &[u8]) -> &[u8]
-    ensures { result.now ≡ after_name text.now }
-{
-    &text[name_len(text)..]
 }
 
 /// A value without its quotes.
@@ -81,14 +76,9 @@ fn cut_of(text: &[u8], separator: u8) -> Option<usize>
         if *b == separator && !quoted {
             return Some(i);
         }
-        quoted = turned(quoted, *b);
+        if *b == QUOTE {
+            quoted = !quoted;
+        }
     }
     None
-}
-
-/// Whether the text after a byte is between quotes.
-fn turned(quoted: bool, b: u8) -> bool
-    ensures { result ≡ turned quoted b }
-{
-    if b == QUOTE { !quoted } else { quoted }
 }

@@ -1,5 +1,5 @@
 ghost use Rattle.std.specs.Prelude.{◌≡◌};
-ghost use Rattle.ics_text.specs.ScanSteps.{step, ends_value, in_value};
+ghost use Rattle.ics_text.specs.ScanSteps.{step, ends_value};
 
 use crate::bytes::{is_name_byte, is_plain_byte, is_quoted_byte};
 
@@ -35,16 +35,6 @@ fn ends_value(b: u8) -> Move
     }
 }
 
-fn in_value(b: u8) -> Move
-    ensures { result ≡ in_value b }
-{
-    if is_plain_byte(b) {
-        Move::On(ScanState::InPlain)
-    } else {
-        ends_value(b)
-    }
-}
-
 /// What a byte does in a state.
 pub fn step(state: ScanState, b: u8) -> Move
     ensures { result ≡ step state b }
@@ -58,7 +48,10 @@ pub fn step(state: ScanState, b: u8) -> Move
         ),
         ScanState::InParam if b == b'=' => Move::On(ScanState::BeforeValue),
         ScanState::BeforeValue if b == b'"' => Move::On(ScanState::InQuotes),
-        ScanState::BeforeValue | ScanState::InPlain => in_value(b),
+        ScanState::BeforeValue | ScanState::InPlain if is_plain_byte(b) => Move::On(
+            ScanState::InPlain,
+        ),
+        ScanState::BeforeValue | ScanState::InPlain => ends_value(b),
         ScanState::InQuotes if b == b'"' => Move::On(ScanState::AfterQuotes),
         ScanState::InQuotes if is_quoted_byte(b) => Move::On(ScanState::InQuotes),
         ScanState::AfterQuotes => ends_value(b),

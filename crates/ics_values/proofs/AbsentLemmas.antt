@@ -27,7 +27,8 @@ use Rattle.ics_values.specs.Rules.{rule_said}
 use Rattle.ics_values.specs.RuleLaws.{value_of, items_of, has_place, has_wide_place, is_place, is_side, is_weekday, is_numbered, is_day, lists_nothing, Says}
 use Rattle.ics_values.proofs.SaysLemmas.{Sets, part_said, sets_seconds, sets_minutes, sets_hours, sets_months, sets_weekdays, sets_month_days, sets_weeks}
 use Rattle.ics_values.proofs.SaysLemmas.{sets_year_days, sets_positions}
-use Rattle.ics_values.proofs.RuleSays.{says, value_there, passes_day, items_fit, has_none}
+use Rattle.ics_values.proofs.RuleSays.{says, value_there, passes_day, items_fit, none_here}
+use Rattle.ics_values.proofs.SetLemmas.{has_none}
 
 -- a set with a member is not empty
 not_none : (s n : ℕ) → contains s n ≡ true → sets.is_empty s ≡ false
@@ -66,10 +67,6 @@ not_none_place Back n p h = fails_back (sets.is_empty p.front) (sets.is_empty p.
 not_none_wide_place : (side : Side) (n : ℕ) (p : WideOrdinals) → has_wide_place side n p ≡ true → lists_none_wide p ≡ false
 not_none_wide_place Front n p h = fails_front (sets.is_empty_wide p.front) (sets.is_empty_wide p.back) (not_none_wide p.front n h)
 not_none_wide_place Back n p h = fails_back (sets.is_empty_wide p.front) (sets.is_empty_wide p.back) (not_none_wide p.back n h)
-
-none_here : (side : Side) (n : ℕ) → has_place side n no_ordinals ≡ false
-none_here Front n = has_none n
-none_here Back n = has_none n
 
 not_all_none : (ps : List Ordinals) (k : ℕ) (side : Side) (n : ℕ) → has_place side n (get_or ps k no_ordinals) ≡ true → all_list_none ps ≡ false
 not_all_none [] k side n h = absurd (false≢true (sym (none_here side n) ∙ h))

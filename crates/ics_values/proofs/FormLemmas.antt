@@ -1,11 +1,11 @@
 -- What the form of a stamp's text says of its bytes.
-use Rattle.std.proofs.Common.{◌≡◌, ℕ, zero, suc, Bool, true, false, ◌==◌, ◌&&◌, List, [], ◌∷◌, length, take, drop, refl, arith}
+use Rattle.std.proofs.Common.{◌≡◌, ℕ, zero, suc, Bool, true, false, ◌==◌, ◌&&◌, ◌||◌, List, [], ◌∷◌, length, take, drop, refl, arith}
 use Rattle.std.specs.Prelude.{not}
 use Rattle.std.specs.List.{list_all}
 use Rattle.std.proofs.lemmas.Bool.{eqb-true}
 use Rattle.std.proofs.lemmas.List.{drop-take, take-take}
 use Rattle.ics_values.specs.Digits.{is_digit, are_digits, letter_at}
-use Rattle.ics_values.specs.Stamps.{is_local_form, is_utc_form, HasDate, HasTime}
+use Rattle.ics_values.specs.Stamps.{is_date_form, is_local_form, is_utc_form, is_date_time_form, HasDate, HasTime}
 
 both : (a b : Bool) → (a && b) ≡ true → (a ≡ true) × (b ≡ true)
 both true b h = (refl, h)
@@ -31,6 +31,12 @@ parts text h =
     let b = both ((length text == 15) && are_digits (take 8 text)) (letter_at text 8 == 84) a.0 in
     let c = both (length text == 15) (are_digits (take 8 text)) b.0 in
     record { long = eqb-true (length text) 15 c.0; date = digits_of (take 8 text) c.1; time = digits_of (drop 9 text) a.1 }
+
+pub date_digits : (text : List ℕ) → is_date_form text ≡ true → HasDate text
+date_digits text h =
+    let a = both (length text == 8) (are_digits text) h in
+    let long = eqb-true (length text) 8 a.0 in
+    record { long = omega (arith, long); digits = list_all-take is_digit text 8 (digits_of text a.1) }
 
 pub local_long : (text : List ℕ) → is_local_form text ≡ true → length text ≡ 15
 local_long text h = (parts text h).long
@@ -58,3 +64,18 @@ utc_time text h =
     let u = utc_parts text h in
     let p = parts (take 15 text) u.1 in
     record { long = omega (arith, u.0); digits = rw (drop-take 9 6 text) at p.time }
+
+-- a DATE-TIME has digits for its date and for its time
+pub date_time_date : (text : List ℕ) → is_date_time_form text ≡ true → HasDate text
+date_time_date text h = by_test (is_utc_form text) refl h
+  where
+    by_test : (t : Bool) → is_utc_form text ≡ t → (t || is_local_form text) ≡ true → HasDate text
+    by_test true u h = utc_date text u
+    by_test false u h = local_date text h
+
+pub date_time_time : (text : List ℕ) → is_date_time_form text ≡ true → HasTime text
+date_time_time text h = by_test (is_utc_form text) refl h
+  where
+    by_test : (t : Bool) → is_utc_form text ≡ t → (t || is_local_form text) ≡ true → HasTime text
+    by_test true u h = utc_time text u
+    by_test false u h = local_time text h

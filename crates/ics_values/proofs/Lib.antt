@@ -4,7 +4,6 @@ pub mod FormLemmas
 pub mod ShapeLemmas
 pub mod SetLemmas
 pub mod PlaceLemmas
-pub mod WalkLemmas
 pub mod UntilLemmas
 pub mod RuleLemmas
 pub mod SaysLemmas

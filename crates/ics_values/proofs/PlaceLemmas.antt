@@ -1,19 +1,21 @@
 -- Places keep within their range.
-use Rattle.std.proofs.Common.{◌≡◌, ℕ, ◌<◌, ◌≤◌, ◌/◌, ◌⊎◌, inl, inr, ◌≢◌, length, get_or-set_same, get_or-set_other, arith}
+use Rattle.std.proofs.Common.{◌≡◌, ℕ, zero, suc, ◌<◌, ◌≤◌, ◌/◌, ◌⊎◌, inl, inr, ◌≢◌, length, get_or-set_same, get_or-set_other, sym, ◌∙◌, arith}
 use Rattle.std.proofs.lemmas.Bool.Decides.{nat_tests}
-use Rattle.std.proofs.lemmas.List.{set_past}
+use Rattle.std.proofs.lemmas.Bool.{false≢true}
+use Rattle.std.proofs.lemmas.List.{set_past, get_or_past}
 use Rattle.jiff_core.specs.declared.civil.weekday.Weekday.{Weekday}
 use Rattle.jiff_core.specs.declared.civil.weekday.Weekday.TheVariants.{Monday, Tuesday, Wednesday, Thursday, Friday, Saturday, Sunday}
 use Rattle.jiff_core.specs.Weekday.{monday_zero}
+use Rattle.ics_values.specs.declared.frequency.Frequency.{Frequency}
 use Rattle.ics_values.specs.declared.ordinals.Side.{Side}
 use Rattle.ics_values.specs.declared.ordinals.Side.TheVariants.{Front, Back}
 use Rattle.ics_values.specs.declared.ordinals.Ordinals.{Ordinals}
 use Rattle.ics_values.specs.declared.ordinals.WideOrdinals.{WideOrdinals}
 use Rattle.ics_values.specs.declared.ordinals.Weekdays.{Weekdays}
-use Rattle.ics_values.specs.Sets.{contains, contains_wide, with_number, with_wide_number, IsWithin}
-use Rattle.ics_values.specs.Ordinals.{numbers_of, with_ordinal, with_wide_ordinal, with_weekday, with_numbered_weekday}
-use Rattle.ics_values.specs.RuleParts.{ArePlaces, AreWidePlaces}
-use Rattle.ics_values.proofs.SetLemmas.{within_more, contains-with_number, contains_wide-with_number}
+use Rattle.ics_values.specs.Sets.{contains, contains_wide, none_wide, with_number, with_wide_number, IsWithin}
+use Rattle.ics_values.specs.Ordinals.{no_ordinals, no_wide_ordinals, no_weekdays, numbers_of, with_ordinal, with_wide_ordinal, with_weekday, with_numbered_weekday}
+use Rattle.ics_values.specs.RuleParts.{every, ArePlaces, AreWidePlaces, IsRuleParts}
+use Rattle.ics_values.proofs.SetLemmas.{within_more, contains-with_number, contains_wide-with_number, has_none, none_wide_has}
 
 pub ordinals_more : (side : Side) (n high : ℕ) (p : Ordinals) → n < 64 → 1 ≤ n → n ≤ high → ArePlaces p high → ArePlaces (with_ordinal side n p) high
 ordinals_more Front n high p s l h own =
@@ -73,3 +75,45 @@ numbered_more d side n w s l h own k = elim (by_place (monday_zero d) (length w.
 
     same_or_not : (m n : ℕ) → (m ≡ n) ⊎ (m ≢ n)
     same_or_not m n = grind (arith, nat_tests)
+
+-- a part that is absent is in any range
+none_within : (low high : ℕ) → IsWithin low high (contains 0)
+none_within low high n h = absurd (false≢true (sym (has_none n) ∙ h))
+
+none_within_wide : (low high : ℕ) → IsWithin low high (contains_wide none_wide)
+none_within_wide low high n h = absurd (false≢true (sym (none_wide_has n) ∙ h))
+
+none_placed : (high : ℕ) → ArePlaces no_ordinals high
+none_placed high = record { front = none_within 1 high; back = none_within 1 high }
+
+none_placed_wide : (high : ℕ) → AreWidePlaces no_wide_ordinals high
+none_placed_wide high = record { front = none_within_wide 1 high; back = none_within_wide 1 high }
+
+none_numbered : (w : ℕ) → ArePlaces (numbers_of no_weekdays w) 53
+none_numbered zero = none_placed 53
+none_numbered (suc zero) = none_placed 53
+none_numbered (suc (suc zero)) = none_placed 53
+none_numbered (suc (suc (suc zero))) = none_placed 53
+none_numbered (suc (suc (suc (suc zero)))) = none_placed 53
+none_numbered (suc (suc (suc (suc (suc zero))))) = none_placed 53
+none_numbered (suc (suc (suc (suc (suc (suc zero)))))) = none_placed 53
+none_numbered (suc (suc (suc (suc (suc (suc (suc w))))))) =
+    rw (get_or_past no_weekdays.numbered (suc (suc (suc (suc (suc (suc (suc w))))))) no_ordinals (omega arith)) (none_placed 53)
+
+-- the rule with FREQ alone
+pub every_kept : (f : Frequency) → IsRuleParts (every f)
+every_kept f = record {
+  interval = omega arith;
+  count = tt;
+  until = tt;
+  seconds = none_within 0 59;
+  minutes = none_within 0 59;
+  hours = none_within 0 23;
+  weekdays = none_within 0 6;
+  numbered = none_numbered;
+  month_days = none_placed 31;
+  year_days = none_placed_wide 366;
+  weeks = none_placed 53;
+  months = none_within 1 12;
+  positions = none_placed_wide 366;
+}

@@ -4,7 +4,6 @@ use Rattle.std.proofs.Common.{◌∙◌, arith, lit<}
 use Rattle.std.specs.Prelude.{not, fold, option_and_then, if◌then◌else◌}
 use Rattle.std.specs.List.{list_any, list_all}
 use Rattle.std.proofs.lemmas.Bool.Decides.{nat_tests}
-use Rattle.std.proofs.lemmas.Nat.Bits.{bit_at-zero}
 use Rattle.ics_values.specs.declared.rule_text.Draft.{Draft}
 use Rattle.ics_values.specs.declared.frequency.Frequency.TheVariants.{Yearly}
 use Rattle.ics_values.specs.declared.part_name.ListName.{ListName}
@@ -18,7 +17,7 @@ use Rattle.ics_values.specs.RuleParts.{RuleParts, every}
 use Rattle.ics_values.specs.RuleTexts.{Part, pieces, row, fits, fits_list, part_of, without_last, is_part, is_name, has_part, none_twice, are_parts}
 use Rattle.ics_values.specs.Rules.{with_item, with_value, with_part, is_large, has_large_number, rule_said, rule_of}
 use Rattle.ics_values.specs.RuleDrafts.{walk, item_taken, named_taken, part_taken, no_parts, is_whole}
-use Rattle.ics_values.proofs.SetLemmas.{contains-with_number}
+use Rattle.ics_values.proofs.SetLemmas.{contains-with_number, has_none}
 
 -- the items of a list are all in order, or one is not
 pub walk-items : (list : ListName) (rule : RuleParts) (items : List (List ℕ)) →
@@ -160,9 +159,6 @@ walk-parts d (text ∷ texts) = whole_more d (part_of text).name (part_of text).
 abbrev pub answer_of : Option Draft → Result RuleParts RuleFault
 answer_of None = Err BadRule
 answer_of (Some d) = if not (is_whole d) then Err BadRule else if d.too_large then Err NumberTooLarge else Ok d.parts
-
-has_none : (n : ℕ) → contains 0 n ≡ false
-has_none n = ap (λ x. x == 1) (bit_at-zero n)
 
 all_fresh : (ps : List Part) → are_fresh 0 ps ≡ true
 all_fresh [] = refl

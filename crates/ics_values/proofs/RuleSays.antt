@@ -1,12 +1,9 @@
 -- The rule of a text says what each part of the text says.
 use Rattle.std.proofs.Common.{◌≡◌, ℕ, Bool, true, false, ◌&&◌, ◌||◌, ◌==◌, List, [], ◌∷◌, Option, Some, None, Ok, Err, cond, refl, sym, ap, ◌∙◌, lit<, arith}
-use Rattle.std.proofs.Common.{zero, suc, ◌/◌, ◌%◌, get_or}
-use Rattle.std.specs.Prelude.{not, nat_lt, fold, min, find, option_map, option_and_then, unwrap_or, is_some}
+use Rattle.std.specs.Prelude.{not, fold, min, find, option_map, option_and_then, unwrap_or, is_some}
 use Rattle.std.specs.List.{list_any, list_all}
 use Rattle.std.specs.Option.{option_map_or}
 use Rattle.std.proofs.lemmas.Bool.{and_parts, false≢true}
-use Rattle.std.proofs.lemmas.List.{get_or_past}
-use Rattle.std.proofs.lemmas.Nat.Bits.{bit_at-zero}
 use Rattle.jiff_core.specs.declared.civil.weekday.Weekday.{Weekday}
 use Rattle.jiff_core.specs.declared.civil.weekday.Weekday.TheVariants.{Monday, Tuesday, Wednesday, Thursday, Friday, Saturday, Sunday}
 use Rattle.jiff_core.specs.Weekday.{monday_zero}
@@ -20,13 +17,14 @@ use Rattle.ics_values.specs.declared.part_name.ListName.TheVariants.{BySecond, B
 use Rattle.ics_values.specs.declared.part_name.PartName.{PartName}
 use Rattle.ics_values.specs.declared.part_name.PartName.TheVariants as part
 use Rattle.ics_values.specs.Digits.{number_of}
-use Rattle.ics_values.specs.Sets.{contains, contains_wide, none_wide}
+use Rattle.ics_values.specs.Sets.{contains}
 use Rattle.ics_values.specs.Ordinals.{no_ordinals, no_wide_ordinals, no_weekdays, numbers_of}
 use Rattle.ics_values.specs.RuleParts.{RuleParts, every}
 use Rattle.ics_values.specs.RuleTexts.{Part, pieces, row, fits, fits_list, fits_name, is_part, is_name, has_part, none_twice, are_parts, parts_of}
 use Rattle.ics_values.specs.RuleTexts.{frequency_of, weekday_of, until_of}
 use Rattle.ics_values.specs.Rules.{has_large_number, rule_said, rule_of}
 use Rattle.ics_values.specs.RuleLaws.{value_of, items_of, has_place, has_wide_place, Says}
+use Rattle.ics_values.proofs.SetLemmas.{has_none, none_wide_has}
 use Rattle.ics_values.proofs.SaysLemmas.{Sets, part_said, sets_frequency, sets_until, sets_count, sets_interval, sets_week_start, sets_seconds, sets_minutes}
 use Rattle.ics_values.proofs.SaysLemmas.{sets_hours, sets_months, sets_weekdays, sets_month_days, sets_weeks, sets_year_days, sets_positions}
 use Rattle.ics_values.proofs.ListedLemmas.{Adds, gathered_all, number_high, adds_number, adds_place, adds_wide_place, adds_weekday, adds_numbered, HasSeven}
@@ -166,28 +164,9 @@ count_is : (o : Option (List ℕ)) → option_map_or (λ v. Some (number_of v)) 
 count_is None = refl
 count_is (Some v) = refl
 
-pub has_none : (n : ℕ) → contains 0 n ≡ false
-has_none n = ap (λ x. x == 1) (bit_at-zero n)
-
-none_here : (side : Side) (n : ℕ) → has_place side n no_ordinals ≡ false
+pub none_here : (side : Side) (n : ℕ) → has_place side n no_ordinals ≡ false
 none_here Front n = has_none n
 none_here Back n = has_none n
-
-pub none_word : (k : ℕ) → get_or none_wide k 0 ≡ 0
-none_word zero = refl
-none_word (suc zero) = refl
-none_word (suc (suc zero)) = refl
-none_word (suc (suc (suc zero))) = refl
-none_word (suc (suc (suc (suc zero)))) = refl
-none_word (suc (suc (suc (suc (suc zero))))) = refl
-none_word (suc (suc (suc (suc (suc (suc k)))))) = get_or_past none_wide (suc (suc (suc (suc (suc (suc k)))))) 0 (omega arith)
-
-and_never : (b : Bool) → (b && false) ≡ false
-and_never true = refl
-and_never false = refl
-
-none_wide_has : (n : ℕ) → contains_wide none_wide n ≡ false
-none_wide_has n = ap (λ x. nat_lt n 384 && x) (ap (λ x. contains x (n % 64)) (none_word (n / 64)) ∙ has_none (n % 64)) ∙ and_never (nat_lt n 384)
 
 none_wide_here : (side : Side) (n : ℕ) → has_wide_place side n no_wide_ordinals ≡ false
 none_wide_here Front n = none_wide_has n

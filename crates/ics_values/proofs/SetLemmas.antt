@@ -1,12 +1,13 @@
 -- What adding a member does to a set.
-use Rattle.std.proofs.Common.{◌≡◌, refl, ℕ, ◌+◌, ◌-◌, ◌*◌, ◌/◌, ◌%◌, ◌^◌, ◌<◌, ◌≤◌, ◌⊎◌, inl, inr, ◌==◌, ◌||◌, ◌&&◌, nat_lt, ◌≢◌, Bool, true, false, List}
+use Rattle.std.proofs.Common.{◌≡◌, refl, ℕ, zero, suc, ◌+◌, ◌-◌, ◌*◌, ◌/◌, ◌%◌, ◌^◌, ◌<◌, ◌≤◌, ◌⊎◌, inl, inr, ◌==◌, ◌||◌, ◌&&◌, nat_lt, ◌≢◌, Bool, true, false, List}
 use Rattle.std.proofs.Common.{length, get_or, set, ap, sym, subst, ◌∙◌, arith, w64, bit_or, get_or-set_same, get_or-set_other}
 use Rattle.std.proofs.lemmas.Bool.Decides.{nat_tests}
 use Rattle.std.proofs.lemmas.Nat.Bits.{bit_at_set_same, bit_at_set_other, bit_at_above, bit_at-zero, bit_at-trailing_zeros, bit_at_cat_low, bit_at_ones}
+use Rattle.std.proofs.lemmas.List.{get_or_past}
 use Rattle.std.proofs.lemmas.Nat.{one_shl, pow-add, div-add-mod'}
 use Rattle.std.proofs.Math.Nat.{div-div-eq-div-mul, div-le_self}
 use Rattle.std.specs.Int.{trailing_zeros}
-use Rattle.ics_values.specs.Sets.{contains, contains_wide, with_number, with_wide_number, IsWithin, IsLeastFrom}
+use Rattle.ics_values.specs.Sets.{contains, contains_wide, none_wide, with_number, with_wide_number, IsWithin, IsLeastFrom}
 
 same_or_not : (m n : ℕ) → (m ≡ n) ⊎ (m ≢ n)
 same_or_not m n = grind (arith, nat_tests)
@@ -88,11 +89,15 @@ contains-shift s n i = ap (λ x. x % 2 == 1) (div-div-eq-div-mul s (2 ^ n) (2 ^ 
 pub has_above : (s k m : ℕ) → s < 2 ^ k → k ≤ m → contains s m ≡ false
 has_above s k m h l = ap (λ x. x == 1) (bit_at_above s k m h l)
 
+-- the empty set has no member
+pub has_none : (n : ℕ) → contains 0 n ≡ false
+has_none n = ap (λ x. x == 1) (bit_at-zero n)
+
 -- a set whose shifted word is 0 has no later member
 pub none_later : (s n m : ℕ) → s / 2 ^ n ≡ 0 → n ≤ m → contains s m ≡ false
 none_later s n m h l =
     let e : n + (m - n) ≡ m = omega arith in
-    subst (λ x. contains s x ≡ false) e (sym (contains-shift s n (m - n)) ∙ ap (λ x. contains x (m - n)) h ∙ ap (λ x. x == 1) (bit_at-zero (m - n)))
+    subst (λ x. contains s x ≡ false) e (sym (contains-shift s n (m - n)) ∙ ap (λ x. contains x (m - n)) h ∙ has_none (m - n))
 
 -- the lowest digit of the shifted word is the next member
 pub next_member : (s n : ℕ) → s < 2 ^ 64 → s / 2 ^ n ≢ 0 → IsLeastFrom (contains s) n (n + trailing_zeros w64 (s / 2 ^ n))
@@ -126,3 +131,20 @@ contains-below k m h = ap (λ x. x == 1) (bit_at_ones k m h)
 -- no member from n on lies below a bound
 abbrev pub NoneBelow : List ℕ → ℕ → ℕ → Type 0
 NoneBelow ws n bound = (m : ℕ) → n ≤ m → m < bound → contains_wide ws m ≡ false
+
+-- the empty list of words has no member
+none_word : (k : ℕ) → get_or none_wide k 0 ≡ 0
+none_word zero = refl
+none_word (suc zero) = refl
+none_word (suc (suc zero)) = refl
+none_word (suc (suc (suc zero))) = refl
+none_word (suc (suc (suc (suc zero)))) = refl
+none_word (suc (suc (suc (suc (suc zero))))) = refl
+none_word (suc (suc (suc (suc (suc (suc k)))))) = get_or_past none_wide (suc (suc (suc (suc (suc (suc k)))))) 0 (omega arith)
+
+pub none_wide_has : (n : ℕ) → contains_wide none_wide n ≡ false
+none_wide_has n = ap (λ x. nat_lt n 384 && x) (ap (λ x. contains x (n % 64)) (none_word (n / 64)) ∙ has_none (n % 64)) ∙ never (nat_lt n 384)
+  where
+    never : (b : Bool) → (b && false) ≡ false
+    never true = refl
+    never false = refl

@@ -43,6 +43,22 @@ digit_count-digits (b ∷ bs) = by_test (digit_count-digits bs) (is_digit b) ref
     by_test later true h = rw (digit_count-yes b bs h) (rw h later)
     by_test later false h = rw (digit_count-no b bs h) refl
 
+-- all bytes are digits where as many begin the text
+pub digit_count-all : (text : List ℕ) → list_all is_digit text ≡ (digit_count text == length text)
+digit_count-all [] = refl
+digit_count-all (b ∷ bs) = by_test (digit_count-all bs) (is_digit b) refl
+  where
+    one_more : (m n : ℕ) → (m == n) ≡ (suc m == suc n)
+    one_more m n = grind (arith, nat_tests)
+
+    none_there : (n : ℕ) → false ≡ (0 == suc n)
+    none_there n = grind (arith, nat_tests)
+
+    by_test : list_all is_digit bs ≡ (digit_count bs == length bs) → (t : Bool) → is_digit b ≡ t →
+        list_all is_digit (b ∷ bs) ≡ (digit_count (b ∷ bs) == length (b ∷ bs))
+    by_test later true h = rw (digit_count-yes b bs h, h) (later ∙ one_more (digit_count bs) (length bs))
+    by_test later false h = rw (digit_count-no b bs h, h) (none_there (length bs))
+
 pub digit_count-none : (text : List ℕ) → begins is_digit text ≡ false → digit_count text ≡ 0
 digit_count-none [] h = refl
 digit_count-none (b ∷ bs) h = digit_count-no b bs h

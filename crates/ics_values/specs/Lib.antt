@@ -6,7 +6,6 @@ pub mod Fields
 pub mod Dates
 pub mod Locals
 pub mod Stamps
-pub mod Forms
 pub mod Integers
 pub mod Plain
 pub mod Durations

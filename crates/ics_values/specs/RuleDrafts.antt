@@ -13,7 +13,7 @@ use Rattle.ics_values.specs.declared.part_name.ListName.{ListName}
 use Rattle.ics_values.specs.declared.part_name.PartName.{PartName}
 use Rattle.ics_values.specs.declared.rule_text.Draft.{Draft}
 use Rattle.ics_values.specs.Texts.{unsigned}
-use Rattle.ics_values.specs.RuleTexts.{is_amount, is_signed, side_of, fits, fits_list, part_of, row, is_day_item, weekday_of, day_text, number_before}
+use Rattle.ics_values.specs.RuleTexts.{pieces, is_amount, is_signed, side_of, fits, fits_list, part_of, row, is_day_item, weekday_of, day_text, number_before}
 use Rattle.ics_values.specs.Rules.{with_item, with_value, is_large}
 
 -- what reading an amount gives
@@ -26,6 +26,11 @@ pub record IsPlace (high : ℕ) (text : List ℕ) (place : Side × ℕ) : Type 0
   pub in_order : is_signed high text ≡ true
   pub side : place.0 ≡ side_of text
   pub number : place.1 ≡ number_of (unsigned text)
+
+-- the pieces after a separator, if there is one
+abbrev pub pieces_behind : ℕ → Option (List ℕ) → List (List ℕ)
+pieces_behind separator None = []
+pieces_behind separator (Some text) = pieces separator text
 
 -- the state after all pieces, or None if one of them is refused
 abbrev pub walk : {S : Type 0} → (S → List ℕ → Option S) → S → List (List ℕ) → Option S

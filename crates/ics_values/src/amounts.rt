@@ -3,7 +3,7 @@ ghost use Rattle.std.specs.Prelude.{◌≡◌, ◌<◌, ◌∷◌, [], MatchOpti
 ghost use Rattle.ics_values.specs.Durations.{duration_shapes, week_shapes, day_shapes, time_shapes, hour_shapes, minute_shapes, second_shapes};
 ghost use Rattle.ics_values.specs.Amounts.{IsLetter, IsAmount, LacksFront, Reads, each_fits};
 
-use crate::digits::{capped_number, digit_count, upper};
+use crate::digits::{capped_number, digit_count};
 
 /// The numbers of a duration's text. A number past 4,294,967,295 is held as 4,294,967,296.
 #[derive(Clone, Copy)]
@@ -37,7 +37,7 @@ fn behind_letter(text: &[u8], letter: u8) -> Option<&[u8]>
         (λ rest. IsLetter letter text.now rest.now) }
 {
     let (first, rest) = text.split_first()?;
-    if upper(*first) == letter {
+    if first.to_ascii_uppercase() == letter {
         Some(rest)
     } else {
         None

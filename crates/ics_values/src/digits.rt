@@ -1,46 +1,13 @@
-//! Digits, the numbers that they spell, and letters in upper case.
+//! Digits and the numbers that they spell.
 ghost use Rattle.std.specs.Prelude.{◌≡◌, ◌+◌, ◌*◌, ◌-◌, ◌<◌, ◌≤◌, ◌^◌, true, min, length, take, drop};
 ghost use Rattle.std.specs.List.{list_all};
-ghost use Rattle.ics_values.specs.Digits.{is_digit, are_digits, number_of, number_at, digit_count, greatest_number, upper, SaysNumber};
-
-fn is_digit(b: u8) -> bool
-    ensures { result ≡ is_digit b }
-{
-    b.is_ascii_digit()
-}
-
-fn all_digits(text: &[u8]) -> bool
-    ensures { result ≡ list_all is_digit text.now }
-{
-    text.iter().all(|b| is_digit(*b))
-}
+ghost use Rattle.ics_values.specs.Digits.{is_digit, are_digits, number_of, number_at, digit_count, greatest_number, SaysNumber};
 
 /// Whether the text is one digit or more, and nothing else.
 pub fn are_digits(text: &[u8]) -> bool
     ensures { result ≡ are_digits text.now }
 {
-    !text.is_empty() && all_digits(text)
-}
-
-/// The number that at most four digits spell.
-pub fn number(digits: &[u8]) -> u32
-    requires digits { list_all is_digit digits.now ≡ true }
-    requires few { length digits.now ≤ 4 }
-    ensures value { result ≡ number_of digits.now }
-    ensures bound { result < 10 ^ length digits.now }
-{
-    let mut n = 0u32;
-    for b in digits {
-        n = 10 * n + u32::from(*b - b'0');
-    }
-    n
-}
-
-/// The byte in upper case if it is a letter, and else the byte.
-pub fn upper(b: u8) -> u8
-    ensures { result ≡ upper b }
-{
-    b.to_ascii_uppercase()
+    !text.is_empty() && digit_count(text) == text.len()
 }
 
 /// The number that the digits from place `i` up to place `j` spell.
@@ -52,7 +19,11 @@ pub fn number_at(text: &[u8], i: usize, j: usize) -> u32
     ensures value { result ≡ number_at text.now i j }
     ensures bound { result < 10 ^ (j - i) }
 {
-    number(&text[i..j])
+    let mut n = 0u32;
+    for b in &text[i..j] {
+        n = 10 * n + u32::from(*b - b'0');
+    }
+    n
 }
 
 /// How many digits begin the text.
@@ -61,7 +32,7 @@ pub fn digit_count(text: &[u8]) -> usize
     ensures within { result ≤ length text.now }
 {
     for (i, b) in text.iter().enumerate() {
-        if !is_digit(*b) {
+        if !b.is_ascii_digit() {
             return i;
         }
     }

@@ -8,6 +8,7 @@ mod digits;
 mod duration;
 mod fields;
 mod frequency;
+mod halves;
 mod integer;
 mod laws;
 mod local;

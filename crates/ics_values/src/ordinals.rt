@@ -6,7 +6,7 @@ use crate::sets::{BitSet, WideBitSet};
 use jiff_core::civil::Weekday;
 
 /// The end from which a number of a recurrence rule counts (RFC 5545, 3.3.10).
-#[derive(Clone, Copy, Debug, PartialEq, Eq)]
+#[derive(Clone, Copy)]
 pub(crate) enum Side {
     /// A number without a sign or with `+`: 1 is the first.
     Front,
@@ -118,14 +118,7 @@ impl Weekdays {
     pub fn is_empty(&self) -> bool
         ensures { result ≡ lists_no_weekday self.now }
     {
-        self.plain.is_empty()
-            && self.numbered[0].is_empty()
-            && self.numbered[1].is_empty()
-            && self.numbered[2].is_empty()
-            && self.numbered[3].is_empty()
-            && self.numbered[4].is_empty()
-            && self.numbered[5].is_empty()
-            && self.numbered[6].is_empty()
+        self.plain.is_empty() && self.numbered.iter().all(Ordinals::is_empty)
     }
 
     /// Adds a weekday without a number.

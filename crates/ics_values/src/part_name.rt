@@ -4,8 +4,6 @@ ghost use Rattle.std.specs.Str.{bytes_eq};
 ghost use Rattle.ics_values.specs.Digits.{upper as upper_of};
 ghost use Rattle.ics_values.specs.RuleTexts.{name_of, row};
 
-use crate::digits::upper;
-
 /// The parts of a rule that are lists.
 #[derive(Clone, Copy)]
 pub enum ListName {
@@ -64,7 +62,7 @@ pub fn is_word(text: &[u8], word: &[u8]) -> bool
         return false;
     }
     for (i, b) in text.iter().enumerate() {
-        if upper(*b) != word[i] {
+        if b.to_ascii_uppercase() != word[i] {
             return false;
         }
     }

@@ -1,10 +1,10 @@
 //! Periods, as a property's value has them.
-ghost use Rattle.std.specs.Prelude.{◌≡◌, ◌==◌, IfOk, Ok};
-ghost use Rattle.std.specs.List.{position};
-ghost use Rattle.ics_values.specs.Periods.{first_half, second_half, half_of, lasts, end_of, both, period_of, IsDateTime, IsPeriodEnd};
+ghost use Rattle.std.specs.Prelude.{◌≡◌, IfOk, Ok};
+ghost use Rattle.ics_values.specs.Periods.{half_of, lasts, end_of, both, period_of, IsDateTime, IsPeriodEnd};
 ghost use Rattle.ics_values.specs.ValueFaultNames.{period_fault_name};
 
 use crate::duration::{Duration, DurationFault, read_duration};
+use crate::halves::halves;
 use crate::sign::is_sign;
 use crate::stamp::{Stamp, StampFault, is_date_time_form, read_stamp};
 use thiserror::Error;
@@ -44,33 +44,6 @@ impl PeriodFault {
             PeriodFault::YearRange => "YearRange",
             PeriodFault::NumberTooLarge => "NumberTooLarge",
         }
-    }
-}
-
-/// The position of the first `/`.
-fn slash(text: &[u8]) -> Option<usize>
-    ensures { result ≡ position (λ b. b == 47) text.now }
-{
-    text.iter().position(|b| *b == b'/')
-}
-
-/// The text before the first `/`, or all of it if there is none.
-fn first_half(text: &[u8]) -> &[u8]
-    ensures { result.now ≡ first_half text.now }
-{
-    match slash(text) {
-        Some(end) => &text[..end],
-        None => text,
-    }
-}
-
-/// The text after the first `/`, or nothing if there is none.
-fn second_half(text: &[u8]) -> &[u8]
-    ensures { result.now ≡ second_half text.now }
-{
-    match slash(text) {
-        Some(end) => &text[end + 1..],
-        None => &[],
     }
 }
 
@@ -146,7 +119,6 @@ pub fn read_period(text: &[u8], zoned: bool) -> Result<Period, PeriodFault>
     ensures start { IfOk result (λ period. IsDateTime period.start) }
     ensures end { IfOk result (λ period. IsPeriodEnd period.end) }
 {
-    let start = read_half(first_half(text), zoned);
-    let end = read_end(second_half(text), zoned);
-    both(start, end)
+    let (start, end) = halves(text, b'/');
+    both(read_half(start, zoned), read_end(end, zoned))
 }

@@ -1,12 +1,12 @@
 //! The text of a recurrence rule.
 ghost use Rattle.std.specs.Prelude.{◌≡◌, ◌<◌, ◌-◌, List, ℕ, true, false, not, ◌&&◌, fold, Some};
-ghost use Rattle.std.specs.List.{before_first, after_first};
 ghost use Rattle.ics_values.specs.ValueFaultNames.{rule_fault_name};
-ghost use Rattle.ics_values.specs.RuleTexts.{is_equals, without_last, pieces};
+ghost use Rattle.ics_values.specs.RuleTexts.{without_last, pieces};
 ghost use Rattle.ics_values.specs.Rules.{rule_of};
 ghost use Rattle.ics_values.specs.RuleDrafts.{walk, item_taken, value_taken, part_taken, no_parts, is_whole, Takes};
 
 use crate::frequency::Frequency;
+use crate::halves::{cut, halves};
 use crate::part_name::{ListName, PartName, part_name};
 use crate::parts::Parts;
 use crate::rule_value::{
@@ -46,17 +46,6 @@ struct Draft {
     seen: BitSet,
     /// Whether COUNT or INTERVAL was past the greatest number.
     too_large: bool,
-}
-
-/// A part's name and its value: the text before the first `=` and the text after it.
-fn cut(part: &[u8]) -> (&[u8], &[u8])
-    ensures name { result.0.now ≡ before_first is_equals part.now }
-    ensures value { result.1.now ≡ after_first is_equals part.now }
-{
-    match part.iter().position(|b| *b == b'=') {
-        Some(i) => (&part[..i], &part[i + 1..]),
-        None => (part, b""),
-    }
 }
 
 /// The text without the `;` that may end it.
@@ -115,23 +104,16 @@ fn take_day(parts: &mut Parts, item: &[u8]) -> Option<()>
 fn take_items(parts: &mut Parts, list: ListName, value: &[u8]) -> Option<()>
     ensures { Takes (walk (item_taken list) parts.old (pieces 44 value.now)) result parts.new }
 {
-    'items: for item in value.split(|b| *b == b',') {
+    let mut behind = Some(value);
+    'items: while let Some(rest) = behind {
+        let (item, next) = cut(rest, b',');
         take_item(parts, list, item)?;
+        behind = next;
     }
     Some(())
 }
 
 impl Draft {
-    fn new() -> Draft
-        ensures { result ≡ no_parts }
-    {
-        Draft {
-            parts: Parts::new(Frequency::Yearly),
-            seen: BitSet::new(),
-            too_large: false,
-        }
-    }
-
     fn take_value(&mut self, name: PartName, value: &[u8]) -> Option<()>
         ensures { Takes (value_taken name value.now self.old) result self.new }
     {
@@ -156,7 +138,7 @@ impl Draft {
     fn take(&mut self, part: &[u8]) -> Option<()>
         ensures { Takes (part_taken self.old part.now) result self.new }
     {
-        let (name, value) = cut(part);
+        let (name, value) = halves(part, b'=');
         let name = part_name(name)?;
         if self.seen.contains(name.row()) {
             return None;
@@ -178,9 +160,16 @@ impl Draft {
 fn draft_of(text: &[u8]) -> Option<Draft>
     ensures { result ≡ walk part_taken no_parts (pieces 59 (without_last text.now)) }
 {
-    let mut draft = Draft::new();
-    'parts: for part in without_last(text).split(|b| *b == b';') {
+    let mut draft = Draft {
+        parts: Parts::new(Frequency::Yearly),
+        seen: BitSet::new(),
+        too_large: false,
+    };
+    let mut behind = Some(without_last(text));
+    'parts: while let Some(rest) = behind {
+        let (part, next) = cut(rest, b';');
         draft.take(part)?;
+        behind = next;
     }
     Some(draft)
 }

@@ -2,7 +2,7 @@
 ghost use Rattle.std.specs.Prelude.{◌≡◌, ◌≤◌, false, MatchOption, IfSome, map};
 ghost use Rattle.ics_values.specs.Options.{IsWhere};
 ghost use Rattle.ics_values.specs.RuleParts.{IsUntil};
-ghost use Rattle.ics_values.specs.RuleTexts.{frequency_of, weekday_of, until_said, until_of, is_amount, is_number, is_signed, side_of, is_day_item};
+ghost use Rattle.ics_values.specs.RuleTexts.{frequency_of, weekday_of, until_said, until_of, is_amount, is_number, is_signed, is_day_item};
 ghost use Rattle.ics_values.specs.Digits.{number_of};
 ghost use Rattle.ics_values.specs.RuleDrafts.{IsAmount, IsPlace, IsDayItem};
 
@@ -122,17 +122,6 @@ pub fn number_between(text: &[u8], low: u16, high: u16) -> Option<u16>
     }
 }
 
-/// The end from which a number with an optional sign counts.
-fn side_of(text: &[u8]) -> Side
-    ensures { result ≡ side_of text.now }
-{
-    if is_negative(text) {
-        Side::Back
-    } else {
-        Side::Front
-    }
-}
-
 /// A number from 1 to `high` with an optional sign, and the end from which it counts.
 pub fn read_place(text: &[u8], high: u16) -> Option<(Side, u16)>
     ensures value { MatchOption result (is_signed high text.now ≡ false) (IsPlace high text.now) }
@@ -140,7 +129,11 @@ pub fn read_place(text: &[u8], high: u16) -> Option<(Side, u16)>
     ensures last { IfSome result (λ p. p.1 ≤ high) }
 {
     let n = number_between(unsigned(text), 1, high)?;
-    Some((side_of(text), n))
+    if is_negative(text) {
+        Some((Side::Back, n))
+    } else {
+        Some((Side::Front, n))
+    }
 }
 
 /// An item of BYDAY: a weekday, and the number before it if there is one.

@@ -4,41 +4,6 @@ ghost use Rattle.ics_values.specs.Sets.{contains, is_empty, only, with_number, c
 
 use std::marker::Model;
 
-/// The number of the lowest bit of a word, from bit `n` on, that is set.
-fn next_bit(bits: u64, n: u8) -> Option<u8>
-    ensures next { IsNextIn (contains bits) n result }
-    ensures small { IfSome result (λ m. m < 64) }
-{
-    if n >= 64 {
-        return None;
-    }
-    let rest = bits >> n;
-    if rest == 0 {
-        return None;
-    }
-    Some(n + rest.trailing_zeros() as u8)
-}
-
-/// The same for six words.
-fn next_bit_in(words: &[u64; 6], n: u16) -> Option<u16>
-    ensures next { IsNextIn (contains_wide words.now) n result }
-    ensures small { IfSome result (λ m. m < 384) }
-{
-    let first = n as usize / 64;
-    if first >= 6 {
-        return None;
-    }
-    if let Some(bit) = next_bit(words[first], (n % 64) as u8) {
-        return Some(first as u16 * 64 + bit as u16);
-    }
-    for word in first + 1..6 {
-        if let Some(bit) = next_bit(words[word], 0) {
-            return Some(word as u16 * 64 + bit as u16);
-        }
-    }
-    None
-}
-
 /// A set of numbers below 64. Contracts see it as the number whose binary digits are its members.
 #[derive(Clone, Copy)]
 pub struct BitSet {
@@ -112,7 +77,15 @@ impl BitSet {
         ensures next { IsNextIn (contains self) n result }
         ensures small { IfSome result (λ m. m < 64) }
     {
-        next_bit(self.bits, n)
+        let bits = self.bits;
+        if n >= 64 {
+            return None;
+        }
+        let rest = bits >> n;
+        if rest == 0 {
+            return None;
+        }
+        Some(n + rest.trailing_zeros() as u8)
     }
 
     /// Adds `n`.
@@ -173,7 +146,25 @@ impl WideBitSet {
         ensures next { IsNextIn (contains_wide self.now) n result }
         ensures small { IfSome result (λ m. m < 384) }
     {
-        next_bit_in(&self.words, n)
+        let first = n as usize / 64;
+        if first >= 6 {
+            return None;
+        }
+        let bits = BitSet {
+            bits: self.words[first],
+        };
+        if let Some(bit) = bits.next_from((n % 64) as u8) {
+            return Some(first as u16 * 64 + bit as u16);
+        }
+        for word in first + 1..6 {
+            let bits = BitSet {
+                bits: self.words[word],
+            };
+            if let Some(bit) = bits.next_from(0) {
+                return Some(word as u16 * 64 + bit as u16);
+            }
+        }
+        None
     }
 
     /// Adds `n`.

@@ -9,19 +9,13 @@ pub fn is_sign(b: u8) -> bool
     b == b'+' || b == b'-'
 }
 
-pub fn is_minus(b: u8) -> bool
-    ensures { result ≡ is_minus b }
-{
-    b == b'-'
-}
-
 /// Whether a minus begins the text.
 pub fn is_negative(text: &[u8]) -> bool
     ensures { result ≡ begins is_minus text.now }
 {
     match text {
         [] => false,
-        [first, ..] => is_minus(*first),
+        [first, ..] => *first == b'-',
     }
 }
 

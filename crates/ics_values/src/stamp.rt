@@ -1,13 +1,12 @@
 //! Dates and times, as a property's value has them.
-ghost use Rattle.std.specs.Prelude.{◌≡◌, ◌+◌, ◌*◌, ◌<◌, ◌≤◌, true, false, length, take, drop, ◌&&◌, MatchOption, IfSome, IfOk};
+ghost use Rattle.std.specs.Prelude.{◌≡◌, ◌+◌, ◌*◌, ◌<◌, ◌≤◌, true, false, IfSome, IfOk};
 ghost use Rattle.ics_values.specs.Stamps.{is_date_form, is_local_form, is_utc_form, is_date_time_form, year_of, date_exists, day_of, time_exists, second_of};
-ghost use Rattle.ics_values.specs.Stamps.{local_of, is_stamp_text, stamp_said, is_stamp_year, stamp_of, stamp_day, IsDayOf, IsStampDay, HasDate, HasTime};
+ghost use Rattle.ics_values.specs.Stamps.{is_stamp_text, stamp_said, is_stamp_year, stamp_of, stamp_day, IsDayOf, IsStampDay, HasDate, HasTime};
 ghost use Rattle.ics_values.specs.Options.{IsWhere};
-ghost use Rattle.ics_values.specs.Forms.{IsFormless, IsOfForm};
 ghost use Rattle.ics_values.specs.ValueFaultNames.{stamp_fault_name};
 
 use crate::date::date_day;
-use crate::digits::{are_digits, number_at, upper};
+use crate::digits::{are_digits, number_at};
 use crate::local::Local;
 use thiserror::Error;
 
@@ -44,14 +43,6 @@ impl StampFault {
     }
 }
 
-/// The forms of a stamp's text.
-#[derive(Clone, Copy)]
-pub enum Form {
-    Date,
-    Local,
-    Utc,
-}
-
 fn is_date_form(text: &[u8]) -> bool
     ensures { result ≡ is_date_form text.now }
 {
@@ -61,13 +52,16 @@ fn is_date_form(text: &[u8]) -> bool
 fn is_local_form(text: &[u8]) -> bool
     ensures { result ≡ is_local_form text.now }
 {
-    text.len() == 15 && are_digits(&text[..8]) && upper(text[8]) == b'T' && are_digits(&text[9..])
+    text.len() == 15
+        && are_digits(&text[..8])
+        && text[8].to_ascii_uppercase() == b'T'
+        && are_digits(&text[9..])
 }
 
 fn is_utc_form(text: &[u8]) -> bool
     ensures { result ≡ is_utc_form text.now }
 {
-    text.len() == 16 && is_local_form(&text[..15]) && upper(text[15]) == b'Z'
+    text.len() == 16 && is_local_form(&text[..15]) && text[15].to_ascii_uppercase() == b'Z'
 }
 
 /// Whether the text has the form of a DATE-TIME.
@@ -75,20 +69,6 @@ pub fn is_date_time_form(text: &[u8]) -> bool
     ensures { result ≡ is_date_time_form text.now }
 {
     is_utc_form(text) || is_local_form(text)
-}
-
-fn form_of(text: &[u8]) -> Option<Form>
-    ensures { MatchOption result (IsFormless text.now) (IsOfForm text.now) }
-{
-    if is_date_form(text) {
-        Some(Form::Date)
-    } else if is_utc_form(text) {
-        Some(Form::Utc)
-    } else if is_local_form(text) {
-        Some(Form::Local)
-    } else {
-        None
-    }
 }
 
 /// The number that the text's first four digits spell.
@@ -124,33 +104,25 @@ fn second_of(text: &[u8]) -> Option<u32>
     }
 }
 
-fn local_of(text: &[u8]) -> Option<Local>
-    requires date { HasDate text.now }
-    requires time { HasTime text.now }
-    ensures { IsWhere result (date_exists text.now && time_exists text.now) (local_of text.now) }
-{
-    let day = day_of(text)?;
-    let second = second_of(text)?;
-    Some(Local::at(day, second))
-}
-
 /// The stamp that a text says, whatever its year.
 pub fn any_stamp(text: &[u8], zoned: bool) -> Option<Stamp>
     ensures value { IsWhere result (is_stamp_text text.now) (stamp_said zoned text.now) }
     ensures digits { IfSome result (λ _. HasDate text.now) }
 {
-    match form_of(text)? {
-        Form::Date => Some(Stamp::Date(day_of(text)?)),
-        Form::Utc => Some(Stamp::Utc(local_of(text)?)),
-        Form::Local => {
-            let local = local_of(text)?;
-            Some(if zoned {
-                Stamp::Zoned(local)
-            } else {
-                Stamp::Floating(local)
-            })
-        }
+    if is_date_form(text) {
+        return Some(Stamp::Date(day_of(text)?));
     }
+    if !is_date_time_form(text) {
+        return None;
+    }
+    let local = Local::at(day_of(text)?, second_of(text)?);
+    Some(if is_utc_form(text) {
+        Stamp::Utc(local)
+    } else if zoned {
+        Stamp::Zoned(local)
+    } else {
+        Stamp::Floating(local)
+    })
 }
 
 fn is_stamp_year(year: u32) -> bool

@@ -4,10 +4,10 @@ use Rattle.ics_values.specs.Amounts.{LacksFront}
 use Rattle.ics_values.proofs.ShapeLemmas.{lacks-letter, neq-false}
 use Rattle.ics_values.proofs.amounts.behind_letter.Goals as goal
 
-pub returns-else-upper-letter : goal.returns-else-upper-letter
-returns-else-upper-letter c =
+pub returns-else-to_ascii_uppercase-letter : goal.returns-else-to_ascii_uppercase-letter
+returns-else-to_ascii_uppercase-letter c =
     let first = c.in_ok-first.first.now in
     let rest = c.in_ok-first.rest.now in
-    let other : upper first ≢ c.args.letter = subst (λ (u : ℕ). u ≢ c.args.letter) c.upper.ensures c.if-upper-letter.false in
+    let other : upper first ≢ c.args.letter = subst (λ (u : ℕ). u ≢ c.args.letter) c.to_ascii_uppercase.ensures.value c.if-to_ascii_uppercase-letter.false in
     let none : (upper first == c.args.letter) ≡ false = neq-false (upper first) c.args.letter (λ e. other (sym e)) in
     subst (LacksFront (c.args.letter ∷ [])) (sym c.in_ok-first.ensures.cases.0) (lacks-letter c.args.letter first rest c.requires none)

@@ -1,0 +1,24 @@
+use Rattle.std.proofs.Common.{sym, ◌∙◌}
+use Rattle.ics_values.proofs.FormLemmas.{date_digits, date_time_date, date_time_time}
+use Rattle.ics_values.proofs.stamp.any_stamp.Goals as goal
+
+pub day_of-requires : goal.day_of-requires
+day_of-requires c = date_digits c.args.text.now (sym c.is_date_form.ensures ∙ c.if-is_date_form.true)
+
+pub returns-then-is_date_form-clause-digits : goal.returns-then-is_date_form-clause-digits
+returns-then-is_date_form-clause-digits c = date_digits c.args.text.now (sym c.is_date_form.ensures ∙ c.if-is_date_form.true)
+
+pub day_of-requires-2 : goal.day_of-requires-2
+day_of-requires-2 c = date_time_date c.args.text.now (sym c.is_date_time_form.ensures ∙ c.if-not-is_date_time_form.false)
+
+pub second_of-requires : goal.second_of-requires
+second_of-requires c = date_time_time c.args.text.now (sym c.is_date_time_form.ensures ∙ c.if-not-is_date_time_form.false)
+
+pub returns-then-is_utc_form-clause-digits : goal.returns-then-is_utc_form-clause-digits
+returns-then-is_utc_form-clause-digits c = date_time_date c.args.text.now (sym c.is_date_time_form.ensures ∙ c.if-not-is_date_time_form.false)
+
+pub returns-then-zoned-clause-digits : goal.returns-then-zoned-clause-digits
+returns-then-zoned-clause-digits c = date_time_date c.args.text.now (sym c.is_date_time_form.ensures ∙ c.if-not-is_date_time_form.false)
+
+pub returns-else-zoned-clause-digits : goal.returns-else-zoned-clause-digits
+returns-else-zoned-clause-digits c = date_time_date c.args.text.now (sym c.is_date_time_form.ensures ∙ c.if-not-is_date_time_form.false)
