@@ -193,11 +193,18 @@ counted_out q start c number before end counted limit o some own known e h eb ou
     not_few q start c limit (first_local q.frequency (monday_zero q.week_start) number) n known.most
     (let all = chosen_passed q start number end o own known.step some e h in omega (arith, all, eb, known.total, out)) l
 
+-- a later step than one, up to the period of a place, before which so many locals are chosen
+pub record IsCountedStep (q : EffectiveRule) (start number target place chosen : ℕ) : Type 0 where
+  pub later : number < target
+  pub step : is_stepped (period_in q start) q.interval target ≡ true
+  pub top : target ≤ period_in q place
+  pub total : chosen ≡ count (first_local q.frequency (monday_zero q.week_start) target) (is_chosen q start)
+
 -- counts stay small
-pub counted_small : (q : EffectiveRule) (start c number counted limit : ℕ) (o : RecurrencePeriod) → IsCounted q start c counted limit o → o.number ≤ number →
-    is_stepped (period_in q start) q.interval number ≡ true
+pub counted_small : {q : EffectiveRule} {start c counted limit : ℕ} {o : RecurrencePeriod} (number : ℕ) → IsCounted q start c counted limit o →
+    o.number ≤ number → is_stepped (period_in q start) q.interval number ≡ true
     → first_local q.frequency (monday_zero q.week_start) number ≤ rules_end → counted ≤ rules_end
-counted_small q start c number counted limit o known l step h =
+counted_small {q = q} {start = start} {o = o} number known l step h =
     let most = count_most (first_local q.frequency (monday_zero q.week_start) o.number) (is_chosen q start) in
     let up = first_mono q o.number number (step_low q start number step) l in
     omega (arith, most, up, known.total)

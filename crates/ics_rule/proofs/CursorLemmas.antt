@@ -12,7 +12,7 @@ use Rattle.ics_rule.specs.Candidates.{is_stepped, period_in}
 use Rattle.ics_rule.specs.Kept.{count, is_chosen}
 use Rattle.ics_rule.specs.RecurrencePeriods.{first_local, IsPeriodOf}
 use Rattle.ics_rule.specs.Cursors.{is_met, fresh, HasBegun, HeldBy, CountedBy, IsCursorIn, HasLookedIn, looks_from}
-use Rattle.ics_rule.specs.Searches.{IsNextOpen, is_chosen_within, is_wanted, IsNextWanted, IsWalked, HoldsPeriodOf, LooksOrStays, LooksOnce, after_look}
+use Rattle.ics_rule.specs.Searches.{IsNextOpen, is_chosen_within, is_wanted, IsNextWanted, HasMoved, IsWalked, HoldsPeriodOf, LooksOrStays, LooksAt, after_look}
 use Rattle.ics_rule.proofs.PeriodLemmas.{begun, begins, first_in, period_mono, period_small, week_small}
 use Rattle.ics_rule.proofs.Counts.{count-suc, count_some, count_mono, count_most, count_one_more, count_every}
 use Rattle.ics_rule.proofs.StepLemmas.{none_between}
@@ -73,30 +73,49 @@ looked_at number steps after k held met h here few e same =
     let back = ap (λ x. count (suc x) met) same in
     omega (arith, few, more, e, back)
 
+-- no look, and one that no earlier look has reached
+pub looks_none : (number : ℕ) (c : Cursor) → LooksAt number c c
+looks_none number c = record { place = refl; looks = inl (refl, refl); begun = λ some. some; steps = λ met here few. few }
+
 pub looks_once : (number counted : ℕ) (before now : Cursor) (p : RecurrencePeriod) → fresh before.held ≤ number → now ≡ after_look before p counted →
-    p.number ≡ number
-    → LooksOnce number before.steps before.held now.steps now.held
-looks_once number counted before now p h e same = λ met here few.
-    subst (λ (c : Cursor). c.steps ≤ count (fresh c.held) met) (sym e)
-    (looked_at number before.steps (before.steps + 1) p.number before.held met h here few refl same)
-
--- and after a look a period is held
-pub begins_look : (counted : ℕ) (before now : Cursor) (p : RecurrencePeriod) → now ≡ after_look before p counted → HasBegun now.held now.steps
-begins_look counted before now p e = subst (λ (c : Cursor). HasBegun c.held c.steps) (sym e) (omega arith)
-
--- and the steps are more
-pub looks_more : (counted : ℕ) (before now : Cursor) (p : RecurrencePeriod) → now ≡ after_look before p counted → LooksOrStays before now
-looks_more counted before now p e = inr (subst (λ (c : Cursor). before.steps < c.steps) (sym e) (omega arith))
+    p.number ≡ number → LooksAt number before now
+looks_once number counted before now p h e same = subst (LooksAt number before) (sym e) (record {
+  place = refl;
+  looks = inr (omega arith);
+  begun = λ some. omega arith;
+  steps = λ met here few. looked_at number before.steps (before.steps + 1) p.number before.held met h here few refl same;
+})
 
 pub never_fewer : (before now : Cursor) → LooksOrStays before now → before.steps ≤ now.steps
 never_fewer before now (inl same) = omega (arith, same.1)
 never_fewer before now (inr more) = omega (arith, more)
 
-pub then_moves : (a b c : Cursor) → LooksOrStays a b → LooksOrStays b c → LooksOrStays a c
-then_moves a b c (inl p) (inl q) = inl (q.0 ∙ p.0, q.1 ∙ p.1)
-then_moves a b c (inl p) (inr q) = inr (omega (arith, p.1, q))
-then_moves a b c (inr p) (inl q) = inr (omega (arith, p, q.1))
-then_moves a b c (inr p) (inr q) = inr (omega (arith, p, q))
+then_looks : (a b c : Cursor) → LooksOrStays a b → LooksOrStays b c → LooksOrStays a c
+then_looks a b c (inl p) (inl q) = inl (q.0 ∙ p.0, q.1 ∙ p.1)
+then_looks a b c (inl p) (inr q) = inr (omega (arith, p.1, q))
+then_looks a b c (inr p) (inl q) = inr (omega (arith, p, q.1))
+then_looks a b c (inr p) (inr q) = inr (omega (arith, p, q))
+
+-- a cursor before its looks
+pub moved_none : {q : EffectiveRule} {start : ℕ} {o : Option ℕ} {c : Cursor} (stop : ℕ) → IsCursorIn q start o c → HasMoved q start o stop c c
+moved_none stop own =
+    record { place = refl; looks = inl (refl, refl); begun = own.begun; steps = own.steps; looked = λ a b s few. few.few }
+
+-- and one look further, at a step that is met
+pub moved_on : {q : EffectiveRule} {start : ℕ} {o : Option ℕ} {stop number : ℕ} {before now after : Cursor} → HasMoved q start o stop before now →
+    LooksAt number now after
+    → ((a b : ℕ) → stop ≤ b → HasLookedIn q start o before a b → is_met q start a b number ≡ true) → HasMoved q start o stop before after
+moved_on {q = q} {start = start} {before = before} {now = now} {after = after} moved at met = record {
+  place = at.place ∙ moved.place;
+  looks = then_looks before now after moved.looks at.looks;
+  begun = at.begun moved.begun;
+  steps =
+      let all = count_every (fresh now.held) in
+      let more = at.steps (λ m. true) refl (omega (arith, all, moved.steps)) in
+      let most = count_every (fresh after.held) in
+      omega (arith, more, most);
+  looked = λ a b s few. at.steps (is_met q start a b) (met a b s few) (moved.looked a b s few);
+}
 
 -- what is held stays so at a later place
 pub held_mono : (q : EffectiveRule) (held : Option RecurrencePeriod) (n m : ℕ) → HeldBy q held n → n ≤ m → HeldBy q held m
@@ -118,35 +137,30 @@ own_at q start o c place own l h = record {
   counted = counted_at q start o c place own.counted;
 }
 
-pub own_walked : (q : EffectiveRule) (start : ℕ) (o : Option ℕ) (stop : ℕ) (found : Option ℕ) (before now : Cursor) (place : ℕ) →
-    IsWalked q start o stop found before now → stop ≤ place → place < calendar_end
-    → IsCursorIn q start o (record now { place = place })
-own_walked q start o stop found before now place walked l h =
-    record {
-      inside = h;
-      held = held_mono q now.held stop place walked.held l;
-      begun = walked.begun;
-      steps = walked.steps;
-      counted = counted_at q start o now place walked.counted;
-    }
+pub own_walked : {q : EffectiveRule} {start : ℕ} {o : Option ℕ} {stop : ℕ} {found : Option ℕ} {before now : Cursor} (place : ℕ) →
+    IsWalked q start o stop found before now → stop ≤ place → place < calendar_end → IsCursorIn q start o (record now { place = place })
+own_walked {q = q} {start = start} {o = o} {stop = stop} {now = now} place walked l h = record {
+  inside = h;
+  held = held_mono q now.held stop place walked.held l;
+  begun = walked.moved.begun;
+  steps = walked.moved.steps;
+  counted = counted_at q start o now place walked.counted;
+}
 
-pub own_found : (q : EffectiveRule) (start : ℕ) (o : Option ℕ) (stop n : ℕ) (before now : Cursor) → IsWalked q start o stop (Some n) before now →
-    n + 1 < calendar_end
-    → IsCursorIn q start o (record now { place = n + 1 })
-own_found q start o stop n before now walked h =
-    record {
-      inside = h;
-      held = held_mono q now.held n (n + 1) walked.found.0 (omega arith);
-      begun = walked.begun;
-      steps = walked.steps;
-      counted = counted_at q start o now (n + 1) walked.counted;
-    }
+pub own_found : {q : EffectiveRule} {start : ℕ} {o : Option ℕ} {stop n : ℕ} {before now : Cursor} → IsWalked q start o stop (Some n) before now →
+    n + 1 < calendar_end → IsCursorIn q start o (record now { place = n + 1 })
+own_found {q = q} {start = start} {o = o} {n = n} {now = now} walked h = record {
+  inside = h;
+  held = held_mono q now.held n (n + 1) walked.found.0 (omega arith);
+  begun = walked.moved.begun;
+  steps = walked.moved.steps;
+  counted = counted_at q start o now (n + 1) walked.counted;
+}
 
 -- an answer in a later period than the place has taken a look
-pub counts_look : (q : EffectiveRule) (start : ℕ) (o : Option ℕ) (stop n : ℕ) (before now : Cursor) → IsCursorIn q start o before →
-    IsWalked q start o stop (Some n) before now
-    → period_in q before.place < period_in q n → before.steps < now.steps
-counts_look q start o stop n before now own walked later = by_move walked.moved
+pub counts_look : {q : EffectiveRule} {start : ℕ} {o : Option ℕ} {stop n : ℕ} {before now : Cursor} → IsCursorIn q start o before →
+    IsWalked q start o stop (Some n) before now → period_in q before.place < period_in q n → before.steps < now.steps
+counts_look {q = q} {n = n} {before = before} {now = now} own walked later = by_move walked.moved.looks
   where
     not_held : (held : Option RecurrencePeriod) → HeldBy q held before.place → HoldsPeriodOf q held n → ⊥
     not_held None h e = e
@@ -161,11 +175,13 @@ looks_mono : (o : Option ℕ) (start a b : ℕ) → a ≤ b → looks_from o sta
 looks_mono None start a b h = h
 looks_mono (Some c) start a b h = omega arith
 
-pub looked_walked : (q : EffectiveRule) (start : ℕ) (o : Option ℕ) (stop : ℕ) (found : Option ℕ) (before now : Cursor) (place a b : ℕ) →
+pub looked_walked : {q : EffectiveRule} {start : ℕ} {o : Option ℕ} {stop : ℕ} {found : Option ℕ} {before now : Cursor} {a b : ℕ} (place : ℕ) →
     IsWalked q start o stop found before now → before.place ≤ place → stop ≤ b
     → HasLookedIn q start o before a b → HasLookedIn q start o (record now { place = place }) a b
-looked_walked q start o stop found before now place a b walked l s few =
-    record { low = (let up = looks_mono o start before.place place l in omega (arith, few.low, up)); few = walked.looked a b s few }
+looked_walked {start = start} {o = o} {before = before} {a = a} {b = b} place walked l s few = record {
+  low = (let up = looks_mono o start before.place place l in omega (arith, few.low, up));
+  few = walked.moved.looked a b s few;
+}
 
 -- one that passes a test is among those counted
 counted_one : (n : ℕ) (test : ℕ → Bool) → 0 < count n test → (m : ℕ) × ((m < n) × (test m ≡ true))
@@ -225,18 +241,18 @@ met_later q start a b c p h met =
     more_positive x m n e h l = grind (arith, nat_tests)
 
 -- An answer past the start is known from periods that hold a local not past it.
-pub looked_found : (q : EffectiveRule) (start : ℕ) (o : Option ℕ) (stop n : ℕ) (before now : Cursor) (a b : ℕ) → IsWalked q start o stop (Some n) before now
+pub looked_found : {q : EffectiveRule} {start : ℕ} {o : Option ℕ} {stop n : ℕ} {before now : Cursor} {a b : ℕ} → IsWalked q start o stop (Some n) before now
     → start ≤ n → before.place ≤ n → n + 1 ≤ b → HasLookedIn q start o before a b → HasLookedIn q start o (record now { place = n + 1 }) a b
-looked_found q start o stop n before now a b walked after low soon few = record {
+looked_found {q = q} {start = start} {o = o} {stop = stop} {n = n} {before = before} {now = now} {a = a} {b = b} walked after low soon few = record {
   low = (let up = looks_mono o start before.place (n + 1) (omega (arith, low)) in omega (arith, few.low, up));
   few = elim (cases_lt b stop) [
     | inl early ↦
         let wide = count_within (fresh before.held) (is_met q start a b) (is_met q start a stop) (λ p l met. met_wide p met early) in
-        let most = walked.looked a stop (omega arith) (record { low = few.low; few = omega (arith, few.few, wide) }) in
+        let most = walked.moved.looked a stop (omega arith) (record { low = few.low; few = omega (arith, few.few, wide) }) in
         let near = count_within (fresh now.held) (is_met q start a stop) (is_met q start a b)
         (λ p l met. met_soon q start a b stop n p begins (omega (arith, soon)) (below now.held walked.found.0 p l) met) in
         omega (arith, most, near)
-    | inr late ↦ walked.looked a b late few
+    | inr late ↦ walked.moved.looked a b late few
   ];
 }
   where
@@ -273,17 +289,24 @@ within_facts q start number n h = fact (period_in q n) number (is_chosen q start
     fact : (a b : ℕ) (c : Bool) → ((a == b) && c) ≡ true → (a ≡ b) × (c ≡ true)
     fact a b c h = let parts = and_parts (a == b) c h in (eqb-true a b parts.0, parts.1)
 
+-- nothing is chosen between a step and the next that may be open
+pub passed_over : {q : EffectiveRule} {number next : ℕ} (start : ℕ) → 1 ≤ q.interval → is_stepped (period_in q start) q.interval number ≡ true →
+    IsNextOpen q (period_in q start) (number + q.interval) next
+    → (n : ℕ) → number < period_in q n → period_in q n < next → is_chosen q start n ≡ false
+passed_over {q = q} {number = number} start some step is_next n later u = elim (cases_lt (period_in q n) (number + q.interval)) [
+  | inl between ↦ no_step q start n (none_between q.interval some (period_in q start) number (period_in q n) step later between)
+  | inr past ↦ not_let_in q start n (is_next.none n past u)
+]
+
 -- how far a walk over the periods has come: nothing from the place on is chosen in a period before this one
 pub record IsWalk (q : EffectiveRule) (start stop number : ℕ) (before now : Cursor) : Type 0 where
+  pub some : 1 ≤ q.interval
+  pub early : before.place < stop
   pub step : is_stepped (period_in q start) q.interval number ≡ true
   pub low : period_in q before.place ≤ number
   pub none : (n : ℕ) → before.place ≤ n → period_in q n < number → is_chosen q start n ≡ false
   pub held : MatchOption now.held (Unit {0}) (λ p. IsPeriodOf q p × ((p.number ≤ number) × (p.number ≤ period_in q stop)))
-  pub place : now.place ≡ before.place
-  pub begun : HasBegun now.held now.steps
-  pub moved : LooksOrStays before now
-  pub steps : now.steps ≤ fresh now.held
-  pub looked : (a b : ℕ) → stop ≤ b → HasLookedIn q start None before a b → now.steps ≤ count (fresh now.held) (is_met q start a b)
+  pub moved : HasMoved q start None stop before now
 
 cases_held : (q : EffectiveRule) (held : Option RecurrencePeriod) (n number stop : ℕ) → HeldBy q held n → period_in q n ≤ number → n ≤ stop
     → MatchOption held (Unit {0}) (λ p. IsPeriodOf q p × ((p.number ≤ number) × (p.number ≤ period_in q stop)))
@@ -292,42 +315,27 @@ cases_held q (Some p) n number stop h l u =
     (h.0, (omega (arith, h.1, l), (let m = period_mono q.frequency (monday_zero q.week_start) n stop u in omega (arith, h.1, m))))
 
 -- it begins at the first step from the place on
-pub walk_begins : (q : EffectiveRule) (start stop number : ℕ) (c : Cursor) →
-    IsLeastFrom (is_stepped (period_in q start) q.interval) (period_in q c.place) number
-    → c.place < stop → IsCursorIn q start None c → IsWalk q start stop number c c
-walk_begins q start stop number c next h own = record {
-  step = next.passes;
-  low = next.low;
-  none = λ n l u. no_step q start n (next.least (period_in q n) (period_mono q.frequency (monday_zero q.week_start) c.place n l) u);
-  held = cases_held q c.held c.place number stop own.held next.low (omega arith);
-  place = refl;
-  begun = own.begun;
-  moved = inl (refl, refl);
-  steps = own.steps;
-  looked = λ a b s few. few.few;
-}
+pub walk_begins : {q : EffectiveRule} {start stop first own number : ℕ} {c : Cursor} → 1 ≤ q.interval → first ≡ period_in q start → own ≡ period_in q c.place →
+    IsLeastFrom (is_stepped first q.interval) own number → c.place < stop → IsCursorIn q start None c → IsWalk q start stop number c c
+walk_begins {q = q} {start = start} {stop = stop} {first = first} {number = number} {c = c} some ef eo is h own =
+    let next = subst (λ x. IsLeastFrom (is_stepped x q.interval) (period_in q c.place) number) ef
+    (subst (λ x. IsLeastFrom (is_stepped first q.interval) x number) eo is) in record {
+      some = some;
+      early = h;
+      step = next.passes;
+      low = next.low;
+      none = λ n l u. no_step q start n (next.least (period_in q n) (period_mono q.frequency (monday_zero q.week_start) c.place n l) u);
+      held = cases_held q c.held c.place number stop own.held next.low (omega arith);
+      moved = moved_none stop own;
+    }
 
-pub bounded : (before now : Cursor) (number : ℕ) → LooksOnce number before.steps before.held now.steps now.held → before.steps ≤ fresh before.held →
-    now.steps ≤ fresh now.held
-bounded before now number steps h =
-    let more = steps (λ m. true) refl (let e = count_every (fresh before.held) in omega (arith, e, h)) in let e = count_every (fresh now.held) in
-    omega (arith, e, more)
-
-module _ (q : EffectiveRule) (start stop number : ℕ) (before now : Cursor) (walk : IsWalk q start stop number before now) where
+module _ {q : EffectiveRule} {start stop number : ℕ} {before now : Cursor} (walk : IsWalk q start stop number before now) where
   -- past the bound's period nothing is left
   pub walk_ends : period_in q (stop - 1) < number → IsNextWanted q start None before.place stop None
   walk_ends past n l u = walk.none n l (let m = period_mono q.frequency (monday_zero q.week_start) n (stop - 1) (omega arith) in omega (arith, m))
 
   pub walk_ended : IsWalked q start None stop None before now
-  walk_ended = record {
-    held = past now.held walk.held;
-    found = tt;
-    moved = walk.moved;
-    begun = walk.begun;
-    steps = walk.steps;
-    counted = tt;
-    looked = walk.looked;
-  }
+  walk_ended = record { moved = walk.moved; held = past now.held walk.held; found = tt; counted = tt }
     where
       past : (o : Option RecurrencePeriod) → MatchOption o (Unit {0}) (λ p. IsPeriodOf q p × ((p.number ≤ number) × (p.number ≤ period_in q stop))) →
           HeldBy q o stop
@@ -338,42 +346,35 @@ module _ (q : EffectiveRule) (start stop number : ℕ) (before now : Cursor) (wa
   pub walk_low : period_in q 0 ≤ number
   walk_low = let m = period_mono q.frequency (monday_zero q.week_start) 0 before.place (omega arith) in omega (arith, m, walk.low)
 
+  -- what a look finds is the next
+  pub walk_finds : {n : ℕ} → IsLeastFrom (is_chosen_within q start number) now.place n → IsLeastFrom (is_wanted q start None) before.place n
+  walk_finds {n = n} next = let here = within_facts q start number n next.passes in record {
+    passes = here.1;
+    low = omega (arith, next.low, walk.moved.place);
+    least = λ m l u. elim (cases_lt (period_in q m) number) [
+      | inl less ↦ walk.none m l less
+      | inr more ↦
+          let top = period_mono q.frequency (monday_zero q.week_start) m n (omega arith) in
+          let same : period_in q m ≡ number = omega (arith, more, top, here.0) in
+          sym (within_here q start number m same) ∙ next.least m (omega (arith, l, walk.moved.place)) u
+    ];
+  }
+
   -- a look in a period
-  module _ (after : Cursor) (h : before.place < stop) (top : number ≤ period_in q (stop - 1))
-      (held : MatchOption after.held ⊥ (λ p. IsPeriodOf q p × (p.number ≡ number))) (place : after.place ≡ now.place)
-      (steps : LooksOnce number now.steps now.held after.steps after.held) (looks : HasBegun now.held now.steps →
-      HasBegun after.held after.steps) (moved : LooksOrStays now after) where
-    looked : (a b : ℕ) → stop ≤ b → HasLookedIn q start None before a b → after.steps ≤ count (fresh after.held) (is_met q start a b)
-    looked a b s few = steps (is_met q start a b) (meets q start a b before.place stop number few.low h s walk.step walk.low top) (walk.looked a b s few)
+  module _ {after : Cursor} (at : LooksAt number now after) (held : MatchOption after.held ⊥ (λ p. IsPeriodOf q p × (p.number ≡ number)))
+      (top : number ≤ period_in q (stop - 1)) where
+    moved : HasMoved q start None stop before after
+    moved = moved_on walk.moved at (λ a b s few. meets q start a b before.place stop number few.low walk.early s walk.step walk.low top)
 
-    -- what it finds is the next
-    pub walk_finds : (n : ℕ) → IsLeastFrom (is_chosen_within q start number) now.place n → IsLeastFrom (is_wanted q start None) before.place n
-    walk_finds n next = let here = within_facts q start number n next.passes in record {
-      passes = here.1;
-      low = omega (arith, next.low, walk.place);
-      least = λ m l u. elim (cases_lt (period_in q m) number) [
-        | inl less ↦ walk.none m l less
-        | inr more ↦
-            let top = period_mono q.frequency (monday_zero q.week_start) m n (omega arith) in
-            let same : period_in q m ≡ number = omega (arith, more, top, here.0) in
-            sym (within_here q start number m same) ∙ next.least m (omega (arith, l, walk.place)) u
-      ];
-    }
+    top_stop : number ≤ period_in q stop
+    top_stop = let m = period_mono q.frequency (monday_zero q.week_start) (stop - 1) stop (omega arith) in omega (arith, m, top)
 
-    pub walk_found : (n : ℕ) → IsLeastFrom (is_chosen_within q start number) now.place n → IsWalked q start None stop (Some n) before after
-    walk_found n next = record {
-      held = below after.held held;
-      found = here after.held held (looks walk.begun);
-      moved = then_moves before now after walk.moved moved;
-      begun = looks walk.begun;
-      steps = bounded now after number steps walk.steps;
-      counted = tt;
-      looked = looked;
-    }
+    pub walk_found : {n : ℕ} → IsLeastFrom (is_chosen_within q start number) now.place n → IsWalked q start None stop (Some n) before after
+    walk_found {n = n} next = record { moved = moved; held = below after.held held; found = here after.held held moved.begun; counted = tt }
       where
         below : (o : Option RecurrencePeriod) → MatchOption o ⊥ (λ p. IsPeriodOf q p × (p.number ≡ number)) → HeldBy q o stop
         below None h = absurd h
-        below (Some p) h = (h.0, (let m = period_mono q.frequency (monday_zero q.week_start) (stop - 1) stop (omega arith) in omega (arith, h.1, m, top)))
+        below (Some p) h = (h.0, omega (arith, h.1, top_stop))
 
         here : (o : Option RecurrencePeriod) → MatchOption o ⊥ (λ p. IsPeriodOf q p × (p.number ≡ number)) → HasBegun o after.steps →
             HeldBy q o n × ((1 ≤ after.steps) × HoldsPeriodOf q o n)
@@ -381,41 +382,28 @@ module _ (q : EffectiveRule) (start stop number : ℕ) (before now : Cursor) (wa
         here (Some p) h some = let own = within_facts q start number n next.passes in ((h.0, omega (arith, h.1, own.0)), (some, h.1 ∙ sym own.0))
 
     -- and where it finds none the walk goes on
-    pub walk_goes_on : (next : ℕ) → 1 ≤ q.interval → ((n : ℕ) → now.place ≤ n → is_chosen_within q start number n ≡ false) →
-        IsNextOpen q (period_in q start) (number + q.interval) next
-        → IsWalk q start stop next before after
-    walk_goes_on next some none is_next = record {
+    pub walk_goes_on : {first next : ℕ} → first ≡ period_in q start → ((n : ℕ) → now.place ≤ n → is_chosen_within q start number n ≡ false)
+        → IsNextOpen q first (number + q.interval) next → IsWalk q start stop next before after
+    walk_goes_on {next = next} ef none is = let is_next = subst (λ x. IsNextOpen q x (number + q.interval) next) ef is in record {
+      some = walk.some;
+      early = walk.early;
       step = is_next.step;
       low = omega (arith, walk.low, is_next.low);
       none = λ n l u. elim (cases_lt (period_in q n) number) [
         | inl less ↦ walk.none n l less
         | inr more ↦ elim (cases_lt number (period_in q n)) [
-          | inl later ↦ elim (cases_lt (period_in q n) (number + q.interval)) [
-            | inl between ↦ no_step q start n (none_between q.interval some (period_in q start) number (period_in q n) walk.step later between)
-            | inr past ↦ not_let_in q start n (is_next.none n past u)
-          ]
-          | inr same ↦ sym (within_here q start number n (omega arith)) ∙ none n (omega (arith, l, walk.place))
+          | inl later ↦ passed_over start walk.some walk.step is_next n later u
+          | inr same ↦ sym (within_here q start number n (omega arith)) ∙ none n (omega (arith, l, walk.moved.place))
         ]
       ];
-      held = past after.held held;
-      place = place ∙ walk.place;
-      begun = looks walk.begun;
-      moved = then_moves before now after walk.moved moved;
-      steps = bounded now after number steps walk.steps;
-      looked = looked;
+      held = past after.held held is_next.low;
+      moved = moved;
     }
       where
-        past : (o : Option RecurrencePeriod) → MatchOption o ⊥ (λ p. IsPeriodOf q p × (p.number ≡ number)) →
+        past : (o : Option RecurrencePeriod) → MatchOption o ⊥ (λ p. IsPeriodOf q p × (p.number ≡ number)) → number + q.interval ≤ next →
             MatchOption o (Unit {0}) (λ p. IsPeriodOf q p × ((p.number ≤ next) × (p.number ≤ period_in q stop)))
-        past None h = absurd h
-        past (Some p) h = (
-          h.0,
-          (
-            omega (arith, h.1, is_next.low),
-            (let m = period_mono q.frequency (monday_zero q.week_start) (stop - 1) stop (omega arith) in
-                omega (arith, h.1, m, top)),
-          ),
-        )
+        past None h l = absurd h
+        past (Some p) h l = (h.0, (omega (arith, h.1, l), omega (arith, h.1, top_stop)))
 
 pub walk_reach : (q : EffectiveRule) (number stop : ℕ) → number ≤ period_in q (stop - 1) → first_local q.frequency (monday_zero q.week_start) number ≤ stop
 walk_reach q number stop h = let b = begun q.frequency (monday_zero q.week_start) number (stop - 1) h in omega (arith, b)

@@ -1,5 +1,5 @@
 -- What each period of a day or less has that a rule lets in.
-use Rattle.std.proofs.Common.{◌≡◌, ℕ, zero, suc, ◌+◌, ◌-◌, ◌*◌, ◌/◌, ◌%◌, ◌<◌, ◌≤◌, Bool, true, false, cond, not, ◌&&◌, ◌||◌, ◌==◌, refl, sym, subst, ap, ◌∙◌}
+use Rattle.std.proofs.Common.{◌≡◌, ℕ, zero, suc, ◌+◌, ◌-◌, ◌*◌, ◌/◌, ◌%◌, ◌<◌, ◌≤◌, Bool, true, false, cond, not, ◌&&◌, ◌||◌, ◌==◌, refl, sym, ap, ◌∙◌}
 use Rattle.std.proofs.Common.{arith}
 use Rattle.std.proofs.lemmas.Bool.{eq-eqb, eqb-true, false_from_ne_true}
 use Rattle.std.proofs.lemmas.Nat.{div-add-mod'}
@@ -9,6 +9,9 @@ use Rattle.ics_values.specs.declared.frequency.Frequency.{Frequency}
 use Rattle.ics_values.specs.declared.frequency.Frequency.TheVariants.{Secondly, Minutely, Hourly, Daily, Weekly, Monthly, Yearly}
 use Rattle.ics_values.specs.Ordinals.{lists_none_wide}
 use Rattle.ics_rule.specs.declared.effective_rule.EffectiveRule.{EffectiveRule}
+use Rattle.ics_rule.specs.declared.recurrence_period.RecurrencePeriod.{RecurrencePeriod}
+use Rattle.ics_rule.specs.declared.cursor.Cursor.{Cursor}
+use Rattle.ics_rule.specs.Searches.{IsTurned}
 use Rattle.ics_rule.specs.PeriodNumbers.{period, day_of, hour_of, minute_of, second_of}
 use Rattle.ics_rule.specs.EffectiveRules.{skips_hours, skips_minutes, skips_seconds}
 use Rattle.ics_rule.specs.Candidates.{lets, lets_date, lets_clock, lists_wide, is_stepped, is_candidate_in, period_in}
@@ -20,6 +23,7 @@ use Rattle.ics_rule.proofs.Counts.{count-same, count-suc, count-add, count-from,
 use Rattle.ics_rule.proofs.ProductCounts.{count_zero}
 use Rattle.ics_rule.proofs.RankLemmas.{count_flat, count-ranked}
 use Rattle.ics_rule.proofs.StepLemmas.{stepped_parts}
+use Rattle.ics_rule.proofs.CountLemmas.{IsCountedStep}
 use Rattle.ics_rule.proofs.RoundLemmas.{step_repeats}
 use Rattle.ics_values.specs.Locals.{calendar_end}
 use Rattle.ics_rule.proofs.Tests.{keep_true, last_part}
@@ -144,13 +148,6 @@ module _ (q : EffectiveRule) where
       (let same : k / 3_600 % 24 ≡ k / 60 / 60 = omega (arith, l) in same))
       ∙ count-product 1_440 60 (λ m. lets q.hours (m / 60) && lets q.minutes (m % 60)) (lets q.seconds)
       ∙ ap (λ x. x * count 60 (lets q.seconds)) (count-product 24 60 (lets q.hours) (lets q.minutes))
-
--- a period later than another, up to which what is chosen is counted
-pub record IsOpenEnd (q : EffectiveRule) (start begin last place sum : ℕ) : Type 0 where
-  pub step : is_stepped (period_in q start) q.interval last ≡ true
-  pub later : begin < last
-  pub top : last ≤ period_in q place
-  pub total : sum ≡ count (first_local q.frequency (monday_zero q.week_start) last) (is_chosen q start)
 
 module _ (q : EffectiveRule) (start : ℕ) (fine : 0 < seconds_of q.frequency) (unit : seconds_of q.frequency ≤ 86_400) where
   abbrev u : ℕ
@@ -286,30 +283,37 @@ module _ (q : EffectiveRule) (start : ℕ) (fine : 0 < seconds_of q.frequency) (
       let turned : each * number ≡ number * chosen_in_open q = ap (λ x. x * number) ee ∙ mul_comm (chosen_in_open q) number in
       omega (arith, low, high, a, b, product, spread, turned, ec)
 
-  -- a walk ahead by whole intervals, up to the period of a place
-  pub open_end : (first begin ahead counted each number place : ℕ) → 1 ≤ q.interval → first ≡ period_in q start → ahead ≡ period_in q place - begin
-      → 64 ≤ ahead / q.interval → place < calendar_end
-      → is_stepped (period_in q start) q.interval begin ≡ true → counted
-      ≡ count (first_local q.frequency (monday_zero q.week_start) begin) (is_chosen q start) → each ≡ chosen_in_open q
-      → number + count begin (is_open_period q first) ≡ count (begin + ahead / q.interval * q.interval) (is_open_period q first)
-      → IsOpenEnd q start begin (begin + ahead / q.interval * q.interval) place (counted + each * number)
-  open_end first begin ahead counted each number place some ef ea far inside step ec ee en =
-      let parts = stepped_parts (period_in q start) q.interval begin step in
-      let whole = div-add-mod' ahead q.interval in
-      let up = mul-le-mul_right {m = 64} {n = ahead / q.interval} q.interval far in
-      let order = mul_comm q.interval (ahead / q.interval) in
-      let own = in_period q.frequency (monday_zero q.week_start) place fine unit in
-      let top : begin + ahead / q.interval * q.interval ≤ period_in q place = omega (arith, whole, ea, up, some) in
-      let high = mul-le-mul_right u top in
-      record {
-        step = ap (λ x. is_stepped (period_in q start) q.interval (begin + x)) (sym order)
-            ∙ step_repeats q.interval (ahead / q.interval) (period_in q start) begin parts.0 ∙ step;
-        later = omega (arith, up, some);
-        top = top;
-        total = total_between begin (begin + ahead / q.interval * q.interval) counted each number ee
-            (subst (λ x. number + count begin (is_open_period q x) ≡ count (begin + ahead / q.interval * q.interval) (is_open_period q x)) ef en)
-            (omega (arith, high, own.0, inside)) (omega arith) ec;
-      }
+-- whole intervals from a step on, up to the period of a place, with the number of the periods that are open
+pub record IsOpenRun (q : EffectiveRule) (start begin ahead place each number : ℕ) : Type 0 where
+  pub fine : 0 < seconds_of q.frequency
+  pub unit : seconds_of q.frequency ≤ 86_400
+  pub some : 1 ≤ q.interval
+  pub whole : ahead ≡ period_in q place - begin
+  pub far : 64 ≤ ahead / q.interval
+  pub inside : place < calendar_end
+  pub size : each ≡ chosen_in_open q
+  pub total : number + count begin (is_open_period q (period_in q start))
+      ≡ count (begin + ahead / q.interval * q.interval) (is_open_period q (period_in q start))
+
+pub open_end : {q : EffectiveRule} {start c begin ahead place each number : ℕ} {cursor : Cursor} {p : RecurrencePeriod} →
+    IsOpenRun q start begin ahead place each number → IsTurned q start c begin cursor p
+    → IsCountedStep q start begin (begin + ahead / q.interval * q.interval) place (cursor.counted + each * number)
+open_end {q = q} {start = start} {begin = begin} {ahead = ahead} {place = place} {each = each} {number = number} {cursor = cursor} run turned =
+    let step = ap (is_stepped (period_in q start) q.interval) (sym turned.number) ∙ turned.counted.step in
+    let whole = div-add-mod' ahead q.interval in
+    let up = mul-le-mul_right {m = 64} {n = ahead / q.interval} q.interval run.far in
+    let own = in_period q.frequency (monday_zero q.week_start) place run.fine run.unit in
+    let top : begin + ahead / q.interval * q.interval ≤ period_in q place = omega (arith, whole, run.whole, up, run.some) in
+    let high = mul-le-mul_right (seconds_of q.frequency) top in
+    record {
+      later = omega (arith, up, run.some);
+      step = ap (λ x. is_stepped (period_in q start) q.interval (begin + x)) (mul_comm (ahead / q.interval) q.interval)
+          ∙ step_repeats q.interval (ahead / q.interval) (period_in q start) begin (stepped_parts (period_in q start) q.interval begin step).0 ∙ step;
+      top = top;
+      total = total_between q start run.fine run.unit begin (begin + ahead / q.interval * q.interval) cursor.counted each number run.size run.total
+          (omega (arith, high, own.0, run.inside)) (omega arith)
+          (turned.counted.total ∙ ap (λ x. count (first_local q.frequency (monday_zero q.week_start) x) (is_chosen q start)) turned.number);
+    }
 
 -- of the frequencies whose periods are a day or less the day is the one that is no part of a day
 pub daily : (f : Frequency) → 0 < seconds_of f → seconds_of f ≤ 86_400 → (f ≡ Secondly → ⊥) → (f ≡ Minutely → ⊥) → (f ≡ Hourly → ⊥) → f ≡ Daily

@@ -1,7 +1,7 @@
 -- The locals of an hour that a rule keeps.
 use Rattle.std.proofs.Common.{◌≡◌, ℕ, suc, ◌+◌, ◌*◌, ◌<◌, ◌≤◌, ◌⊎◌, inl, inr, ◌/◌, ◌%◌, Bool, true, false, ◌&&◌, ◌==◌, nat_lt, nat_le, Some, None, Option}
 use Rattle.std.proofs.Common.{refl, ap, sym, subst, ◌∙◌, arith}
-use Rattle.std.proofs.lemmas.Bool.{and_from, cases_lt, or_right, eqb-true}
+use Rattle.std.proofs.lemmas.Bool.{and_from, cases_lt, or_right, eqb-true, false_from_ne_true}
 use Rattle.std.proofs.lemmas.Bool.Decides.{nat_tests}
 use Rattle.std.proofs.lemmas.Nat.Bits.{bit_at-zero}
 use Rattle.jiff_core.specs.Weekday.{monday_zero}
@@ -22,7 +22,8 @@ use Rattle.ics_rule.specs.EffectiveRules.{effective}
 use Rattle.ics_rule.specs.Candidates.{lets, in_step, is_stepped, lets_date, lets_clock, period_in, is_candidate_in}
 use Rattle.ics_rule.specs.Kept.{count, is_chosen, is_placed, is_kept, is_by_until}
 use Rattle.ics_rule.specs.Searches.{is_few, is_wanted}
-use Rattle.ics_rule.specs.HoursKept.{is_finer}
+use Rattle.ics_rule.specs.declared.hour.HourTimes.{HourTimes}
+use Rattle.ics_rule.specs.HoursKept.{is_finer, IsFirstTime, IsLastTime, KeepsTimes}
 use Rattle.ics_rule.specs.Next.{NoneKept, IsNextKept}
 use Rattle.ics_rule.proofs.Counts.{count_mono}
 use Rattle.ics_rule.proofs.KeptLemmas.{and_true, or_true}
@@ -112,85 +113,69 @@ false_not_true : (b : Bool) → b ≡ false → b ≡ true → ⊥
 false_not_true b p q = absurd (cc)
 
 -- a part that lists something lets in only what it lists
-listed : (s m n : ℕ) → contains s m ≡ true → lets s n ≡ true → contains s n ≡ true
-listed s m n some let_in = elim (or_true let_in) [
-  | inl none ↦ absurd (false_not_true (contains s m) (subst (λ x. contains x m ≡ false) (sym (eqb-true s 0 none)) (bit_zero m)) some)
-  | inr h ↦ h
-]
-  where
-    bit_zero : (n : ℕ) → contains 0 n ≡ false
-    bit_zero n = ap (λ x. x == 1) (bit_at-zero n)
+listed : (s n : ℕ) → is_empty s ≡ false → lets s n ≡ true → contains s n ≡ true
+listed s n some let_in = elim (or_true let_in) [ inl none ↦ absurd (false_not_true (is_empty s) some none) | inr h ↦ h ]
 
-module _ (r : Recurrence) (hour fm fs lm ls : ℕ)
-    (early : hour < 85_913_808) (coarse : is_finer (effective r).frequency ≡ false) (free : lists_none_wide (effective r).positions ≡ true)
-    (first_minute : IsLeastFrom (contains (effective r).minutes) 0 fm) (first_second : IsLeastFrom (contains (effective r).seconds) 0 fs)
-    (last_minute : (n : ℕ) → lm < n → contains (effective r).minutes n ≡ false) (last_second : (n : ℕ) → ls < n → contains (effective r).seconds n ≡ false)
-    (kept : ℕ) (after : number r.start < kept) (first : kept ≡ hour * 3_600 + fm * 60 + fs)
-    (next : IsNextKept r (hour * 3_600) (hour * 3_600 + 3_600) kept)
-    (inside : hour * 3_600 + lm * 60 + ls < hour * 3_600 + 3_600) (kept_last : is_kept r (hour * 3_600 + lm * 60 + ls) ≡ true) where
-  least_of : (test : ℕ → Bool) (m n : ℕ) → IsLeastFrom test 0 m → test n ≡ true → m ≤ n
-  least_of test m n is h = elim (cases_lt n m) [
-    | inl less ↦ absurd (false_not_true (test n) (is.least n (omega arith) less) h)
-    | inr more ↦ more
-  ]
+-- the times of an hour that a rule's parts list
+abbrev times_of : EffectiveRule → HourTimes
+times_of q = record { minutes = q.minutes; seconds = q.seconds }
 
-  most_of : (test : ℕ → Bool) (m n : ℕ) → ((k : ℕ) → m < k → test k ≡ false) → test n ≡ true → n ≤ m
-  most_of test m n is h = elim (cases_lt m n) [
-    | inl less ↦ absurd (false_not_true (test n) (is n less) h)
-    | inr more ↦ more
-  ]
+-- an hour after the start keeps the first of its times, and nothing before it, and the last
+pub record KeepsBounds (r : Recurrence) (q : EffectiveRule) (hour first last : ℕ) : Type 0 where
+  pub early : hour < 85_913_808
+  pub coarse : is_finer q.frequency ≡ false
+  pub free : lists_none_wide q.positions ≡ true
+  pub after : number r.start < hour * 3_600 + first
+  pub first_time : IsFirstTime (times_of q) first
+  pub last_time : IsLastTime (times_of q) last
+  pub next : IsNextKept r (hour * 3_600) (hour * 3_600 + 3_600) (hour * 3_600 + first)
+  pub inside : last < 3_600
+  pub kept_last : is_kept r (hour * 3_600 + last) ≡ true
+
+module _ (r : Recurrence) (hour first last : ℕ) (bounds : KeepsBounds r (effective r) hour first last) where
+  abbrev kept : ℕ
+  kept = hour * 3_600 + first
 
   same_day : (n : ℕ) → n / 3_600 ≡ hour → day_of n ≡ day_of kept
-  same_day n at =
-      let low = next.from_place in
-      let high = next.in_bound in
-      omega (arith, at, low, high)
+  same_day n at = let high = bounds.next.in_bound in omega (arith, at, high)
 
   same_hour : (n : ℕ) → n / 3_600 ≡ hour → hour_of kept ≡ hour_of n
   same_hour n at =
-      let low = next.from_place in
-      let high = next.in_bound in
-      let e : kept / 3_600 ≡ n / 3_600 = omega (arith, at, low, high) in
+      let high = bounds.next.in_bound in
+      let e : kept / 3_600 ≡ n / 3_600 = omega (arith, at, high) in
       ap (λ h. h % 24) e
-
-  parts_of : (n : ℕ) → n / 3_600 ≡ hour → n ≡ hour * 3_600 + n / 60 % 60 * 60 + n % 60
-  parts_of n at = omega (arith, at)
 
   product_kept : (n : ℕ) → n / 3_600 ≡ hour → contains (effective r).minutes (minute_of n) ≡ true → contains (effective r).seconds (second_of n) ≡ true →
       is_kept r n ≡ true
   product_kept n at minute second =
-      let low_minute = least_of (contains (effective r).minutes) fm (minute_of n) first_minute minute in
-      let low_second = least_of (contains (effective r).seconds) fs (second_of n) first_second second in
-      let high_minute = most_of (contains (effective r).minutes) lm (minute_of n) last_minute minute in
-      let high_second = most_of (contains (effective r).seconds) ls (second_of n) last_second second in
-      let whole = parts_of n at in
+      let low = bounds.first_time.least (minute_of n) (second_of n) minute second in
+      let high = bounds.last_time (minute_of n) (second_of n) minute second in
+      let whole : n ≡ hour * 3_600 + n / 60 % 60 * 60 + n % 60 = omega (arith, at) in
       let clock = and_true {a = lets (effective r).hours (hour_of kept) && lets (effective r).minutes (minute_of kept)}
-      (kept_clock r kept after (let high = next.in_bound in omega (arith, early, high)) next.kept) in
+      (kept_clock r kept bounds.after (let high = bounds.next.in_bound in omega (arith, bounds.early, high)) bounds.next.kept) in
       let of_hour = (and_true {a = lets (effective r).hours (hour_of kept)} clock.0).0 in
-      kept_between r kept n (hour * 3_600 + lm * 60 + ls) after (omega (arith, early, inside)) coarse free next.kept kept_last
-      (omega (arith, first, whole, low_minute, low_second)) (omega (arith, whole, high_minute, high_second)) (same_day n at)
+      kept_between r kept n (hour * 3_600 + last) bounds.after (omega (arith, bounds.early, bounds.inside)) bounds.coarse bounds.free bounds.next.kept
+      bounds.kept_last (omega (arith, whole, low)) (omega (arith, whole, high)) (same_day n at)
       (and_from (lets (effective r).hours (hour_of n) && lets (effective r).minutes (minute_of n)) (lets (effective r).seconds (second_of n))
       (and_from (lets (effective r).hours (hour_of n)) (lets (effective r).minutes (minute_of n))
       (subst (λ h. lets (effective r).hours h ≡ true) (same_hour n at) of_hour)
-      (lets_in (effective r).minutes (minute_of n) minute)) (lets_in (effective r).seconds (second_of n) second))
-    where
-      lets_in : (s n : ℕ) → contains s n ≡ true → lets s n ≡ true
-      lets_in s n h = or_right (is_empty s) (contains s n) h
+      (or_right (is_empty (effective r).minutes) (contains (effective r).minutes (minute_of n)) minute))
+      (or_right (is_empty (effective r).seconds) (contains (effective r).seconds (second_of n)) second))
 
   kept_product : (n : ℕ) → n / 3_600 ≡ hour → is_kept r n ≡ true →
       (contains (effective r).minutes (minute_of n) && contains (effective r).seconds (second_of n)) ≡ true
   kept_product n at keeps = elim (cases_lt n kept) [
-    | inl before ↦ absurd (false_not_true (is_kept r n) (next.least n (omega (arith, at)) before) keeps)
+    | inl before ↦ absurd (false_not_true (is_kept r n) (bounds.next.least n (omega (arith, at)) before) keeps)
     | inr from ↦ (
         let clock = and_true {a = lets (effective r).hours (hour_of n) && lets (effective r).minutes (minute_of n)}
-        (kept_clock r n (omega (arith, after, from)) (omega (arith, early, at)) keeps) in
+        (kept_clock r n (omega (arith, bounds.after, from)) (omega (arith, bounds.early, at)) keeps) in
         and_from (contains (effective r).minutes (minute_of n)) (contains (effective r).seconds (second_of n))
-        (listed (effective r).minutes fm (minute_of n) first_minute.passes (and_true {a = lets (effective r).hours (hour_of n)} clock.0).1)
-        (listed (effective r).seconds fs (second_of n) first_second.passes clock.1))
+        (listed (effective r).minutes (minute_of n) bounds.first_time.minute (and_true {a = lets (effective r).hours (hour_of n)} clock.0).1)
+        (listed (effective r).seconds (second_of n) bounds.first_time.second clock.1))
   ]
 
   -- of the locals of the hour the rule keeps those that its parts list
-  pub keeps_times : (n : ℕ) → n / 3_600 ≡ hour → is_kept r n ≡ (contains (effective r).minutes (minute_of n) && contains (effective r).seconds (second_of n))
+  keeps_times : KeepsTimes r hour (times_of (effective r))
   keeps_times n at = same (is_kept r n) (contains (effective r).minutes (minute_of n)) (contains (effective r).seconds (second_of n))
       (kept_product n at) (product_kept n at)
     where
@@ -223,18 +208,25 @@ kept_here r from n next =
     subst (λ m. is_kept r m ≡ true) e next.kept
 
 -- the same, said of the parts that a rule holds
-pub held_times : (r : Recurrence) (q : EffectiveRule) → q ≡ effective r → (hour fm fs lm ls kept last : ℕ) → hour < 85_913_808
-    → is_finer q.frequency ≡ false → lists_none_wide q.positions ≡ true → IsLeastFrom (contains q.minutes) 0 fm → IsLeastFrom (contains q.seconds) 0 fs
-    → ((n : ℕ) → lm < n → contains q.minutes n ≡ false) → ((n : ℕ) → ls < n → contains q.seconds n ≡ false)
-    → number r.start < kept → kept ≡ hour * 3_600 + fm * 60 + fs → IsNextKept r (hour * 3_600) (hour * 3_600 + 3_600) kept
-    → last ≡ hour * 3_600 + lm * 60 + ls → last < hour * 3_600 + 3_600 → is_kept r last ≡ true
-    → (n : ℕ) → n / 3_600 ≡ hour → is_kept r n ≡ (contains q.minutes (minute_of n) && contains q.seconds (second_of n))
-held_times r q whole hour fm fs lm ls kept last early coarse free first_minute first_second last_minute last_second after first next is inside kept_last =
-    subst (λ (x : EffectiveRule). (n : ℕ) → n / 3_600 ≡ hour → is_kept r n ≡ (contains x.minutes (minute_of n) && contains x.seconds (second_of n))) (sym whole)
-    (keeps_times r hour fm fs lm ls early (subst (λ (x : EffectiveRule). is_finer x.frequency ≡ false) whole coarse)
-    (subst (λ (x : EffectiveRule). lists_none_wide x.positions ≡ true) whole free)
-    (subst (λ (x : EffectiveRule). IsLeastFrom (contains x.minutes) 0 fm) whole first_minute)
-    (subst (λ (x : EffectiveRule). IsLeastFrom (contains x.seconds) 0 fs) whole first_second)
-    (subst (λ (x : EffectiveRule). (n : ℕ) → lm < n → contains x.minutes n ≡ false) whole last_minute)
-    (subst (λ (x : EffectiveRule). (n : ℕ) → ls < n → contains x.seconds n ≡ false) whole last_second)
-    kept after first next (omega (arith, is, inside)) (subst (λ n. is_kept r n ≡ true) is kept_last))
+pub held_times : (r : Recurrence) (q : EffectiveRule) (hour first last : ℕ) → q ≡ effective r → KeepsBounds r q hour first last →
+    KeepsTimes r hour (times_of q)
+held_times r q hour first last whole bounds = subst (λ (x : EffectiveRule). KeepsTimes r hour (times_of x)) (sym whole)
+    (keeps_times r hour first last (subst (λ (x : EffectiveRule). KeepsBounds r x hour first last) whole bounds))
+
+-- some hour, minute or second is listed
+pub some_listed : (s n : ℕ) → contains s n ≡ true → is_empty s ≡ false
+some_listed s n h = false_from_ne_true (is_empty s) (λ none.
+    false_not_true (contains s n) (subst (λ x. contains x n ≡ false) (sym (eqb-true s 0 none)) (ap (λ x. x == 1) (bit_at-zero n))) h)
+
+-- a member of a set is not below the first, and not above the last
+pub not_below : (s least n : ℕ) → IsLeastFrom (contains s) 0 least → contains s n ≡ true → least ≤ n
+not_below s least n is h = elim (cases_lt n least) [
+  | inl less ↦ absurd (false_not_true (contains s n) (is.least n (omega arith) less) h)
+  | inr more ↦ more
+]
+
+pub not_above : (s most n : ℕ) → ((k : ℕ) → most < k → contains s k ≡ false) → contains s n ≡ true → n ≤ most
+not_above s most n is h = elim (cases_lt most n) [
+  | inl less ↦ absurd (false_not_true (contains s n) (is n less) h)
+  | inr more ↦ more
+]

@@ -17,7 +17,7 @@ use Rattle.ics_rule.specs.Rounds.{seconds_of}
 use Rattle.ics_rule.specs.OpenPeriods.{lets_own, lets_within, size_of_open}
 use Rattle.ics_rule.proofs.EachLemmas.{clock_split, in_period, within_at}
 use Rattle.ics_rule.proofs.RankLemmas.{count_flat}
-use Rattle.ics_rule.proofs.CursorLemmas.{count_within, held_mono}
+use Rattle.ics_rule.proofs.CursorLemmas.{count_within, held_mono, moved_none}
 use Rattle.ics_values.specs.Locals.{calendar_end}
 use Rattle.ics_rule.proofs.Tests.{last_part, third}
 
@@ -82,14 +82,11 @@ pub none_wanted : (q : EffectiveRule) (start : ℕ) (o : Option ℕ) (place stop
 none_wanted q start None place stop h none n l u = none n (omega (arith, u, h))
 none_wanted q start (Some c) place stop h none n l u = ap (λ x. x && is_few q start c n) (none n (omega (arith, u, h)))
 
-pub none_walked : (q : EffectiveRule) (start : ℕ) (o : Option ℕ) (stop : ℕ) (cursor : Cursor) → cursor.place < stop → IsCursorIn q start o cursor →
+pub none_walked : {q : EffectiveRule} {start : ℕ} {o : Option ℕ} {cursor : Cursor} (stop : ℕ) → cursor.place < stop → IsCursorIn q start o cursor →
     IsWalked q start o stop None cursor cursor
-none_walked q start o stop cursor h own = record {
+none_walked {q = q} {cursor = cursor} stop h own = record {
+  moved = moved_none stop own;
   held = held_mono q cursor.held cursor.place stop own.held (omega (arith, h));
   found = tt;
-  moved = inl (refl, refl);
-  begun = own.begun;
-  steps = own.steps;
   counted = own.counted;
-  looked = λ a b s few. few.few;
 }

@@ -1,5 +1,5 @@
 -- What looks up to its place leave of a cursor under COUNT.
-use Rattle.std.proofs.Common.{◌≡◌, ℕ, ◌+◌, ◌-◌, ◌*◌, ◌/◌, ◌<◌, ◌≤◌, ◌⊎◌, inl, inr, Bool, true, false, Option, Some, None, MatchOption, min, refl, sym, subst}
+use Rattle.std.proofs.Common.{◌≡◌, ℕ, ◌+◌, ◌-◌, ◌*◌, ◌/◌, ◌<◌, ◌≤◌, ◌⊎◌, inl, inr, true, false, Option, Some, None, MatchOption, is_some, min, sym, subst}
 use Rattle.std.proofs.Common.{ap, ◌∙◌, arith}
 use Rattle.std.proofs.lemmas.Bool.{cases_lt, false_from_ne_true}
 use Rattle.jiff_core.specs.Weekday.{monday_zero}
@@ -10,39 +10,41 @@ use Rattle.ics_rule.specs.declared.cursor.Cursor.{Cursor}
 use Rattle.ics_rule.specs.Candidates.{is_stepped, period_in}
 use Rattle.ics_rule.specs.Kept.{count, is_chosen}
 use Rattle.ics_rule.specs.RecurrencePeriods.{first_local, IsPeriodOf, is_taken}
-use Rattle.ics_rule.specs.Cursors.{is_met, fresh, HeldBy, IsCounted, IsCursorIn}
-use Rattle.ics_rule.specs.Searches.{IsNextWanted, IsWalked, IsTurned, IsPassed, IsNextOpen, after_look}
-use Rattle.ics_rule.specs.Rounds.{IsEvenRound, HasRound, IsPassedTo}
+use Rattle.ics_rule.specs.Cursors.{fresh, HeldBy, CountedBy, IsCounted, IsCursorIn}
+use Rattle.ics_rule.specs.Searches.{IsNextWanted, LooksAt, IsTurned, IsPassed, IsNextOpen, after_look}
+use Rattle.ics_rule.specs.Rounds.{IsEvenRound, HasRound, IsPassedTo, CountsFrom, HasCountedTo}
 use Rattle.std.proofs.lemmas.Nat.{div-add-mod'}
 use Rattle.std.proofs.Math.Nat.{mul-le-mul_right}
 use Rattle.ics_rule.proofs.PeriodLemmas.{begun, begins, period_mono}
 use Rattle.ics_rule.proofs.Counts.{count_most}
-use Rattle.ics_rule.proofs.CountLemmas.{none_before_first}
+use Rattle.ics_rule.proofs.CountLemmas.{IsCountedStep, none_before_first}
 use Rattle.ics_rule.proofs.RoundLemmas.{repeats_often, none_after}
 use Rattle.ics_rule.proofs.StepLemmas.{stepped_parts, none_between}
 use Rattle.ics_rule.proofs.ChosenLemmas.{taken_within}
-use Rattle.ics_rule.proofs.CursorLemmas.{IsWalk, walk_ends, meets, then_moves, looks_once, looks_more, bounded, within_facts}
-use Rattle.ics_rule.proofs.CountingLemmas.{IsCounting, counting_begins, step_first}
+use Rattle.ics_rule.proofs.CursorLemmas.{IsWalk, walk_ends, meets, moved_none, moved_on, looks_once, within_facts}
+use Rattle.ics_rule.proofs.CountingLemmas.{IsCounting, counting_stopped, step_first}
 use Rattle.ics_rule.specs.PeriodNumbers.{rules_end}
 use Rattle.ics_values.specs.Locals.{calendar_end}
 
-pub passed_none : (q : EffectiveRule) (start c : ℕ) (cursor : Cursor) → IsCursorIn q start (Some c) cursor → IsPassedTo q start c cursor cursor
-passed_none q start c cursor own = record { own = own; moved = inl (refl, refl); looked = λ a b l few. few.few }
+-- the period of a place is that of the last local before the next
+pub top_of : (q : EffectiveRule) (place number : ℕ) → number ≤ period_in q place → number ≤ period_in q (place + 1 - 1)
+top_of q place number h = subst (λ x. number ≤ period_in q x) (let back : place ≡ place + 1 - 1 = omega arith in back) h
 
--- a walk that has not come past its place
-pub counting_passed : (q : EffectiveRule) (start c stop number : ℕ) (before now : Cursor) → IsCounting q start c stop number before now →
-    number ≤ period_in q before.place → before.place < calendar_end → stop ≤ before.place + 1
-    → IsPassedTo q start c before now
-counting_passed q start c stop number before now walk h inside s = record {
+pub passed_none : {q : EffectiveRule} {start c : ℕ} {cursor : Cursor} → IsCursorIn q start (Some c) cursor → IsPassedTo q start c cursor cursor
+passed_none {cursor = cursor} own = record { own = own; moved = moved_none (cursor.place + 1) own }
+
+-- a walk up to the place that has not come past it
+pub counting_passed : {q : EffectiveRule} {start c number : ℕ} {before now : Cursor} → IsCounting q start c (before.place + 1) number before now →
+    number ≤ period_in q before.place → before.place < calendar_end → IsPassedTo q start c before now
+counting_passed {q = q} {start = start} {c = c} {number = number} {before = before} {now = now} walk h inside = record {
   own = record {
-    inside = omega (arith, walk.place, inside);
+    inside = omega (arith, walk.moved.place, inside);
     held = here now.held walk.turn;
-    begun = walk.begun;
-    steps = walk.steps;
+    begun = walk.moved.begun;
+    steps = walk.moved.steps;
     counted = known now.held walk.turn;
   };
   moved = walk.moved;
-  looked = λ a b l few. walk.looked a b (omega (arith, l, s)) few;
 }
   where
     here : (o : Option RecurrencePeriod) → MatchOption o (number ≡ period_in q start) (λ p. IsPeriodOf q p
@@ -50,7 +52,7 @@ counting_passed q start c stop number before now walk h inside s = record {
     here None t = tt
     here (Some p) t = (
       t.0,
-      (let place = ap (period_in q) walk.place in
+      (let place = ap (period_in q) walk.moved.place in
           elim t.1.1 [ inl same ↦ omega (arith, same, h, place) | inr on ↦ (let up = on.up in omega (arith, up, h, place)) ]),
     )
 
@@ -62,19 +64,20 @@ counting_passed q start c stop number before now walk h inside s = record {
     known (Some p) t = t.1.0
 
 -- an earlier period takes nothing from the place on
-pub none_taken : (q : EffectiveRule) (start number place : ℕ) (p : RecurrencePeriod) → IsPeriodOf q p → p.number ≡ number →
-    is_stepped (period_in q start) q.interval number ≡ true → number < period_in q place
-    → (m : ℕ) → place ≤ m → is_taken q.positions (lists_none_wide q.positions) p m ≡ false
-none_taken q start number place p own e step h m l = false_from_ne_true (is_taken q.positions (lists_none_wide q.positions) p m) (λ yes.
-    let here = within_facts q start number m (sym (taken_within q start p number own e step m) ∙ yes) in
+pub none_taken : {q : EffectiveRule} {start c number : ℕ} {cursor : Cursor} {p : RecurrencePeriod} (place : ℕ) → IsTurned q start c number cursor p →
+    number < period_in q place → (m : ℕ) → place ≤ m → is_taken q.positions (lists_none_wide q.positions) p m ≡ false
+none_taken {q = q} {start = start} {number = number} {p = p} place turned h m l =
+    false_from_ne_true (is_taken q.positions (lists_none_wide q.positions) p m) (λ yes.
+    let step = ap (is_stepped (period_in q start) q.interval) (sym turned.number) ∙ turned.counted.step in
+    let here = within_facts q start number m (sym (taken_within q start p number turned.product turned.number step m) ∙ yes) in
     let up = period_mono q.frequency (monday_zero q.week_start) place m l in
     omega (arith, here.0, up, h))
 
 -- a step that is not passed
-pub not_past : (q : EffectiveRule) (first number next end : ℕ) → 1 ≤ q.interval → is_stepped first q.interval number ≡ true →
+pub not_past : {q : EffectiveRule} {first number next end : ℕ} → 1 ≤ q.interval → is_stepped first q.interval number ≡ true →
     is_stepped first q.interval end ≡ true → number < end
     → IsNextOpen q first (number + q.interval) next → IsNextOpen q first (number + q.interval) (min end next)
-not_past q first number next end some here there h is_next = elim (cases_lt next end) [
+not_past {q = q} {first = first} {number = number} {next = next} {end = end} some here there h is_next = elim (cases_lt next end) [
   | inl less ↦ subst (IsNextOpen q first (number + q.interval)) (let least : next ≡ min end next = omega (arith, less) in least) is_next
   | inr more ↦ subst (IsNextOpen q first (number + q.interval)) (let least : end ≡ min end next = omega (arith, more) in least)
       (record { step = there; low = low; none = λ n l u step. is_next.none n l (omega (arith, u, more)) step })
@@ -86,108 +89,129 @@ not_past q first number next end some here there h is_next = elim (cases_lt next
       | inr more ↦ more
     ]
 
--- a look further on, at a period before which what is chosen is counted
-pub passed_on : (q : EffectiveRule) (start c stop number target total : ℕ) (before after now : Cursor) (o p : RecurrencePeriod) →
-    IsWalked q start (Some c) stop None before after → IsTurned q start c number after o
-    → now ≡ after_look after p total → IsPeriodOf q p → p.number ≡ target → number < target → is_stepped (period_in q start) q.interval target ≡ true →
-    target ≤ period_in q before.place
-    → start < before.place → before.place < calendar_end → stop ≡ before.place + 1 → after.place ≡ before.place
-    → total ≡ count (first_local q.frequency (monday_zero q.week_start) target) (is_chosen q start) → IsPassedTo q start c before now
-passed_on q start c stop number target total before after now o p walked turned e product same later step top late inside es ep et = record {
-  own = subst (λ (x : Cursor). IsCursorIn q start (Some c) x) (sym e) (record {
-    inside = omega (arith, ep, inside);
-    held = (product, (let place = ap (period_in q) ep in omega (arith, same, top, place)));
-    begun = omega arith;
-    steps = subst (λ (x : Cursor). x.steps ≤ fresh x.held) e (bounded after now target looks walked.steps);
-    counted = record {
-      step = ap (is_stepped (period_in q start) q.interval) same ∙ step;
-      total = et ∙ ap (λ x. count (first_local q.frequency (monday_zero q.week_start) x) (is_chosen q start)) (sym same);
-      most = turned.counted.most;
-    };
-  });
-  moved = then_moves before after now walked.moved (looks_more total after now p e);
-  looked = λ a b l few. looks (is_met q start a b)
-      (meets q start a b start stop target few.low (omega (arith, late, es)) (omega (arith, l, es)) step
-      (stepped_parts (period_in q start) q.interval target step).0
-      (let back : stop - 1 ≡ before.place = omega (arith, es) in subst (λ x. target ≤ period_in q x) (sym back) top))
-      (walked.looked a b (omega (arith, l, es)) few);
-}
+-- a walk up to the place that turns to a period
+pub counted_to : {q : EffectiveRule} {start c number : ℕ} {before now after : Cursor} {p : RecurrencePeriod} →
+    IsCounting q start c (before.place + 1) number before now
+    → IsTurned q start c number after p → LooksAt number now after → number ≤ period_in q before.place → HasCountedTo q start c number before after
+counted_to {q = q} {number = number} {before = before} {p = p} walk turned at top =
+    record { period = p; turned = turned; walked = counting_stopped walk turned at (top_of q before.place number top) }
+
+-- an answer that is there, and one that is not
+pub there : (A : Type 0) (P : RecurrencePeriod → Type 0) (o : Option RecurrencePeriod) → MatchOption o A P → is_some o ≡ true → (p : RecurrencePeriod) × P p
+there A P None h some = absurd (cc)
+there A P (Some p) h some = (p, h)
+
+pub not_there : (A : Type 0) (P : RecurrencePeriod → Type 0) (o : Option RecurrencePeriod) → MatchOption o A P → is_some o ≡ false → A
+not_there A P None h none = h
+not_there A P (Some p) h none = absurd (cc)
+
+-- and looks on, at a later step
+pub passed_on : {q : EffectiveRule} {start c number target total : ℕ} {before after now : Cursor} {p : RecurrencePeriod} →
+    HasCountedTo q start c number before after → IsCountedStep q start number target before.place total → start < before.place
+    → before.place < calendar_end → now ≡ after_look after p total → IsPeriodOf q p × (p.number ≡ target) → IsPassedTo q start c before now
+passed_on {q = q} {start = start} {c = c} {target = target} {total = total} {before = before} {after = after} {now = now} {p = p} to is late inside e own =
+    let same = own.1 in
+    let moved = moved_on to.walked.moved (looks_once target total after now p first_fresh e same) (λ a b l few.
+    meets q start a b start (before.place + 1) target few.low (omega (arith, late)) l is.step (stepped_parts (period_in q start) q.interval target is.step).0
+    (top_of q before.place target is.top)) in
+    record {
+      own = record {
+        inside = omega (arith, moved.place, inside);
+        held = subst (λ (x : Cursor). HeldBy q x.held x.place) (sym e)
+            (own.0, (let place = ap (period_in q) to.walked.moved.place in omega (arith, same, is.top, place)));
+        begun = moved.begun;
+        steps = moved.steps;
+        counted = subst (λ (x : Cursor). CountedBy q start (Some c) x) (sym e) (record {
+          step = ap (is_stepped (period_in q start) q.interval) same ∙ is.step;
+          total = is.total ∙ ap (λ x. count (first_local q.frequency (monday_zero q.week_start) x) (is_chosen q start)) (sym same);
+          most = to.turned.counted.most;
+        });
+      };
+      moved = moved;
+    }
   where
     first_fresh : fresh after.held ≤ target
-    first_fresh = subst (λ o. fresh o ≤ target) (sym turned.held) (omega (arith, turned.number, later))
+    first_fresh = subst (λ o. fresh o ≤ target) (sym to.turned.held) (omega (arith, to.turned.number, is.later))
 
-    looks : (met : ℕ → Bool) → met target ≡ true → after.steps ≤ count (fresh after.held) met → now.steps ≤ count (fresh now.held) met
-    looks = looks_once target total after now p first_fresh e same
+-- a walk up to a period
+pub counting_at : {q : EffectiveRule} {start c stop number : ℕ} {before now : Cursor} (end : ℕ) → IsCounting q start c stop number before now → number ≡ end →
+    IsCounting q start c stop end before now
+counting_at {q = q} {start = start} {c = c} {stop = stop} {before = before} {now = now} end walk e = subst (λ x. IsCounting q start c stop x before now) e walk
 
-pub counting_room : (q : EffectiveRule) (start c stop number : ℕ) (before now : Cursor) → IsCounting q start c stop number before now → now.steps ≤ number + 1
-counting_room q start c stop number before now walk = let few = walk.steps in let low = below now.held walk.turn in omega (arith, few, low)
+-- steps are few
+pub counting_room : {q : EffectiveRule} {start c stop number : ℕ} {before now : Cursor} → IsCounting q start c stop number before now →
+    now.steps ≤ number + 1
+counting_room {q = q} {start = start} {c = c} {number = number} {now = now} walk = let low = below now.held walk.turn in omega (arith, walk.moved.steps, low)
   where
     below : (o : Option RecurrencePeriod) → MatchOption o (number ≡ period_in q start) (λ p. IsPeriodOf q p
         × (IsCounted q start c now.counted now.limit p × ((p.number ≡ number) ⊎ IsPassed q start (p.number + q.interval) number))) → fresh o ≤ number + 1
     below None t = omega arith
     below (Some p) t = elim t.1.1 [ inl same ↦ omega (arith, same) | inr on ↦ (let up = on.up in omega (arith, up)) ]
 
+pub turned_room : {q : EffectiveRule} {start c number : ℕ} {before after : Cursor} → HasCountedTo q start c number before after →
+    after.steps ≤ number + 1
+turned_room {after = after} to = let few = subst (λ x. after.steps ≤ fresh x) to.turned.held to.walked.moved.steps in omega (arith, few, to.turned.number)
+
 -- the period from which rounds are counted
 pub record IsRoundsBegin (q : EffectiveRule) (start begin before : ℕ) : Type 0 where
   pub step : is_stepped (period_in q start) q.interval begin ≡ true
   pub total : before ≡ count (first_local q.frequency (monday_zero q.week_start) begin) (is_chosen q start)
 
-pub begins_held : (q : EffectiveRule) (start c : ℕ) (cursor : Cursor) (p : RecurrencePeriod) (at : ℕ × ℕ) → IsCursorIn q start (Some c) cursor →
-    cursor.held ≡ Some p → at ≡ (p.number, cursor.counted) → IsRoundsBegin q start at.0 at.1
-begins_held q start c cursor p at own e is =
-    let known = subst (λ o. MatchOption o (Unit {0}) (IsCounted q start c cursor.counted cursor.limit)) e own.counted in
-    subst (λ (x : ℕ × ℕ). IsRoundsBegin q start x.0 x.1) (sym is) (record { step = known.step; total = known.total })
-
-pub begins_first : (q : EffectiveRule) (start first : ℕ) (at : ℕ × ℕ) → 1 ≤ q.interval → first ≡ period_in q start → at ≡ (first, 0) →
-    IsRoundsBegin q start at.0 at.1
-begins_first q start first at some e is = subst (λ (x : ℕ × ℕ). IsRoundsBegin q start x.0 x.1) (sym is) (record {
-  step = ap (is_stepped (period_in q start) q.interval) e ∙ step_first (period_in q start) q.interval some;
-  total = sym (ap (λ x. count (first_local q.frequency (monday_zero q.week_start) x) (is_chosen q start)) e ∙ none_before_first q start);
-})
+pub counts_from : {q : EffectiveRule} {start c first begin before : ℕ} {cursor : Cursor} → 1 ≤ q.interval → IsCursorIn q start (Some c) cursor →
+    first ≡ period_in q start → CountsFrom first begin before cursor → IsRoundsBegin q start begin before
+counts_from {q = q} {start = start} {c = c} {first = first} {begin = begin} {before = before} {cursor = cursor} some own ef is =
+    by_held cursor.held own.counted is.number is.chosen
+  where
+    by_held : (o : Option RecurrencePeriod) → MatchOption o (Unit {0}) (IsCounted q start c cursor.counted cursor.limit)
+        → MatchOption o (begin ≡ first) (λ p. begin ≡ p.number) → MatchOption o (before ≡ 0) (λ p. before ≡ cursor.counted) → IsRoundsBegin q start begin before
+    by_held None counted e f = record {
+      step = ap (is_stepped (period_in q start) q.interval) (e ∙ ef) ∙ step_first (period_in q start) q.interval some;
+      total = f ∙ sym (ap (λ x. count (first_local q.frequency (monday_zero q.week_start) x) (is_chosen q start)) (e ∙ ef) ∙ none_before_first q start);
+    }
+    by_held (Some p) counted e f = record {
+      step = ap (is_stepped (period_in q start) q.interval) e ∙ counted.step;
+      total = f ∙ counted.total ∙ sym (ap (λ x. count (first_local q.frequency (monday_zero q.week_start) x) (is_chosen q start)) e);
+    }
 
 -- two rounds ahead
 pub round_small : (ahead round : ℕ) → 2 ≤ ahead / round → round + round ≤ ahead
 round_small ahead round h = let whole = div-add-mod' ahead round in let more = mul-le-mul_right {m = 2} {n = ahead / round} round h in
     omega (arith, whole, more)
 
--- where the rounds end
-pub record IsRoundsEnd (q : EffectiveRule) (start begin round rounds before one : ℕ) : Type 0 where
-  pub first : is_stepped (period_in q start) q.interval (begin + round) ≡ true
-  pub step : is_stepped (period_in q start) q.interval (begin + rounds * round) ≡ true
-  pub more : before ≤ one
-  pub total : before + rounds * (one - before) ≡ count (first_local q.frequency (monday_zero q.week_start) (begin + rounds * round)) (is_chosen q start)
-  pub later : begin + round < begin + rounds * round
+-- where the first round ends, and the last
+pub first_step : {q : EffectiveRule} {start begin before round : ℕ} → IsEvenRound q start round → IsRoundsBegin q start begin before →
+    is_stepped (period_in q start) q.interval (begin + round) ≡ true
+first_step {q = q} {start = start} {begin = begin} is from =
+    is.step (period_in q start) begin (stepped_parts (period_in q start) q.interval begin from.step).0 ∙ from.step
 
-pub rounds_end : (q : EffectiveRule) (start begin round rounds before one : ℕ) → IsEvenRound q start round → IsRoundsBegin q start begin before → 2 ≤ begin →
-    2 ≤ rounds
-    → first_local q.frequency (monday_zero q.week_start) (begin + rounds * round) ≤ rules_end →
-    one ≡ count (first_local q.frequency (monday_zero q.week_start) (begin + round)) (is_chosen q start) → IsRoundsEnd q start begin round rounds before one
-rounds_end q start begin round rounds before one is from low some high e =
+pub rounds_end : {q : EffectiveRule} {start begin round rounds before one place : ℕ} → IsEvenRound q start round → IsRoundsBegin q start begin before →
+    2 ≤ begin → 2 ≤ rounds → begin + rounds * round ≤ period_in q place → place < rules_end →
+    one ≡ count (first_local q.frequency (monday_zero q.week_start) (begin + round)) (is_chosen q start)
+    → (before ≤ one) × IsCountedStep q start (begin + round) (begin + rounds * round) place (before + rounds * (one - before))
+rounds_end {q = q} {start = start} {begin = begin} {round = round} {rounds = rounds} {before = before} {one = one} {place = place} is from low some top high e =
     let first = (stepped_parts (period_in q start) q.interval begin from.step).0 in
-    let counts = is.total begin rounds before one low from.step (omega (arith, some)) high from.total e in
-    record {
-      first = is.step (period_in q start) begin first ∙ from.step;
-      step = repeats_often (is_stepped (period_in q start) q.interval) (period_in q start) round (λ n h. is.step (period_in q start) n h) rounds begin first
-          ∙ from.step;
-      more = counts.0;
-      total = counts.1;
-      later = (let up = mul-le-mul_right {m = 2} {n = rounds} round some in let positive = is.some in omega (arith, up, positive));
-    }
+    let reach = begun q.frequency (monday_zero q.week_start) (begin + rounds * round) place top in
+    let counts = is.total begin rounds before one low from.step (omega (arith, some)) (omega (arith, reach, high)) from.total e in (
+      counts.0,
+      record {
+        later = (let up = mul-le-mul_right {m = 2} {n = rounds} round some in omega (arith, up, is.some));
+        step = repeats_often (is_stepped (period_in q start) q.interval) (period_in q start) round (λ n h. is.step (period_in q start) n h) rounds begin first
+            ∙ from.step;
+        top = top;
+        total = counts.1;
+      },
+    )
 
 -- counts stay small
-pub total_small : (q : EffectiveRule) (start target place total : ℕ) → target ≤ period_in q place →
-    total ≡ count (first_local q.frequency (monday_zero q.week_start) target) (is_chosen q start) → total ≤ place
-total_small q start target place total h e =
-    let most = count_most (first_local q.frequency (monday_zero q.week_start) target) (is_chosen q start) in
-    let low = begun q.frequency (monday_zero q.week_start) target place h in
-    omega (arith, most, low, e)
+pub counted_reach : {q : EffectiveRule} {start number target place chosen : ℕ} → IsCountedStep q start number target place chosen →
+    first_local q.frequency (monday_zero q.week_start) target ≤ place
+counted_reach {q = q} {target = target} {place = place} is = begun q.frequency (monday_zero q.week_start) target place is.top
 
--- the first round begins
-pub round_begins : (q : EffectiveRule) (start c number : ℕ) (cursor : Cursor) (o : Option RecurrencePeriod) → 1 ≤ q.interval → cursor.held ≡ o →
-    MatchOption o (number ≡ period_in q start) (λ p. number ≡ p.number) → start < cursor.place
-    → IsCursorIn q start (Some c) cursor → IsCounting q start c (cursor.place + 1) number cursor cursor
-round_begins q start c number cursor o some e h late own =
-    counting_begins q start c (cursor.place + 1) number cursor cursor o some e h late (omega arith) refl (passed_none q start c cursor own)
+pub total_small : {q : EffectiveRule} {start number target place chosen : ℕ} → IsCountedStep q start number target place chosen → chosen ≤ place
+total_small {q = q} {start = start} {target = target} is =
+    let most = count_most (first_local q.frequency (monday_zero q.week_start) target) (is_chosen q start) in
+    let low = counted_reach is in
+    omega (arith, most, low, is.total)
 
 pub end_in : (own begin ahead round : ℕ) → ahead ≡ own - begin → 2 ≤ ahead → 2 ≤ ahead / round → begin + round ≤ own
 end_in own begin ahead round e some h = let small = round_small ahead round h in omega (arith, small, e, some)
@@ -195,27 +219,15 @@ end_in own begin ahead round e some h = let small = round_small ahead round h in
 pub target_in : (own begin ahead round : ℕ) → ahead ≡ own - begin → 2 ≤ ahead → begin + ahead / round * round ≤ own
 target_in own begin ahead round e some = let whole = div-add-mod' ahead round in omega (arith, whole, e, some)
 
-pub end_step : (q : EffectiveRule) (start begin before round : ℕ) → IsEvenRound q start round → IsRoundsBegin q start begin before →
-    is_stepped (period_in q start) q.interval (begin + round) ≡ true
-end_step q start begin before round is from = is.step (period_in q start) begin (stepped_parts (period_in q start) q.interval begin from.step).0 ∙ from.step
-
--- the period of a place is that of the last local before the next
-pub top_of : (q : EffectiveRule) (place number : ℕ) → number ≤ period_in q place → number ≤ period_in q (place + 1 - 1)
-top_of q place number h = subst (λ x. number ≤ period_in q x) (let back : place ≡ place + 1 - 1 = omega arith in back) h
-
-pub turned_room : (q : EffectiveRule) (start c stop number : ℕ) (before after : Cursor) (o : RecurrencePeriod) →
-    IsWalked q start (Some c) stop None before after → IsTurned q start c number after o → after.steps ≤ number + 1
-turned_room q start c stop number before after o walked turned = let few = subst (λ x. after.steps ≤ fresh x) turned.held walked.steps in
-    omega (arith, few, turned.number)
-
 -- a walk that finds nothing in a round finds nothing later
-pub walk_rounds_end : (q : EffectiveRule) (start stop number begin end : ℕ) (before now : Cursor) → IsWalk q start stop number before now → stop ≤ rules_end →
-    end < number → period_in q start ≤ begin → period_in q before.place ≤ begin
+pub walk_rounds_end : {q : EffectiveRule} {start stop number : ℕ} {before now : Cursor} (begin end : ℕ) → IsWalk q start stop number before now →
+    stop ≤ rules_end → end < number → period_in q start ≤ begin → period_in q before.place ≤ begin
     → (end < period_in q (stop - 1) → HasRound q begin end) → IsNextWanted q start None before.place stop None
-walk_rounds_end q start stop number begin end before now walk h past low here round = elim (cases_lt end (period_in q (stop - 1))) [
-  | inl less ↦ by_round (round less)
-  | inr more ↦ walk_ends q start stop number before now walk (omega (arith, more, past))
-]
+walk_rounds_end {q = q} {start = start} {stop = stop} {number = number} {before = before} begin end walk h past low here round =
+    elim (cases_lt end (period_in q (stop - 1))) [
+      | inl less ↦ by_round (round less)
+      | inr more ↦ walk_ends walk (omega (arith, more, past))
+    ]
   where
     by_round : HasRound q begin end → IsNextWanted q start None before.place stop None
     by_round is = λ n l u. elim (cases_lt (period_in q n) number) [

@@ -1,8 +1,8 @@
 -- The locals of an hour that a rule keeps.
-use Rattle.std.specs.Prelude.{◌≡◌, ℕ, ◌/◌, Bool, true, false, ◌&&◌}
+use Rattle.std.specs.Prelude.{◌≡◌, ℕ, ◌≤◌, ◌+◌, ◌*◌, ◌/◌, Bool, true, false, ◌&&◌}
 use Rattle.ics_values.specs.declared.frequency.Frequency.{Frequency}
 use Rattle.ics_values.specs.declared.frequency.Frequency.TheVariants.{Secondly, Minutely, Hourly}
-use Rattle.ics_values.specs.Sets.{contains}
+use Rattle.ics_values.specs.Sets.{contains, is_empty}
 use Rattle.ics_rule.specs.declared.hour.HourTimes.{HourTimes}
 use Rattle.ics_rule.specs.Recurrence.{Recurrence}
 use Rattle.ics_rule.specs.PeriodNumbers.{minute_of, second_of}
@@ -14,6 +14,16 @@ is_finer Secondly = true
 is_finer Minutely = true
 is_finer Hourly = true
 is_finer frequency = false
+
+-- an hour has some of these times, and none earlier than second t
+pub record IsFirstTime (times : HourTimes) (t : ℕ) : Type 0 where
+  pub minute : is_empty times.minutes ≡ false
+  pub second : is_empty times.seconds ≡ false
+  pub least : (m s : ℕ) → contains times.minutes m ≡ true → contains times.seconds s ≡ true → t ≤ m * 60 + s
+
+-- none of the times is later than second t of the hour
+abbrev pub IsLastTime : HourTimes → ℕ → Type 0
+IsLastTime times t = (m s : ℕ) → contains times.minutes m ≡ true → contains times.seconds s ≡ true → m * 60 + s ≤ t
 
 -- of the locals of an hour, a rule keeps those with one of some minutes and one of some seconds
 abbrev pub KeepsTimes : Recurrence → ℕ → HourTimes → Type 0

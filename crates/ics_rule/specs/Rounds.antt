@@ -1,18 +1,19 @@
 -- Rounds of periods. After a round, what a rule chooses repeats.
-use Rattle.std.specs.Prelude.{◌≡◌, ℕ, ◌+◌, ◌-◌, ◌*◌, ◌%◌, ◌<◌, ◌≤◌, ◌&&◌, Some, true, false}
+use Rattle.std.specs.Prelude.{◌≡◌, ℕ, ◌+◌, ◌-◌, ◌*◌, ◌%◌, ◌≤◌, ◌&&◌, Some, None, MatchOption, true, false}
 use Rattle.jiff_core.specs.Weekday.{monday_zero}
 use Rattle.ics_values.specs.declared.frequency.Frequency.{Frequency}
 use Rattle.ics_values.specs.declared.frequency.Frequency.TheVariants.{Secondly, Minutely, Hourly, Daily, Weekly, Monthly, Yearly}
 use Rattle.ics_values.specs.Sets.{contains}
 use Rattle.ics_values.specs.Ordinals.{lists_no_weekday}
 use Rattle.ics_rule.specs.declared.effective_rule.EffectiveRule.{EffectiveRule}
+use Rattle.ics_rule.specs.declared.recurrence_period.RecurrencePeriod.{RecurrencePeriod}
 use Rattle.ics_rule.specs.declared.cursor.Cursor.{Cursor}
 use Rattle.ics_rule.specs.PeriodNumbers.{day_of, rules_end}
 use Rattle.ics_rule.specs.Candidates.{lets_date, lets_clock, is_stepped, period_in}
 use Rattle.ics_rule.specs.Kept.{count, is_chosen}
 use Rattle.ics_rule.specs.RecurrencePeriods.{first_local}
-use Rattle.ics_rule.specs.Cursors.{is_met, fresh, IsCursorIn, HasLookedIn}
-use Rattle.ics_rule.specs.Searches.{LooksOrStays}
+use Rattle.ics_rule.specs.Cursors.{IsCursorIn}
+use Rattle.ics_rule.specs.Searches.{HasMoved, IsWalked, IsTurned}
 use Rattle.ics_rule.specs.Runs.{goes_by_months}
 
 -- how many seconds each period of a frequency has, or 0 if they differ
@@ -82,5 +83,15 @@ pub record HasRound (q : EffectiveRule) (begin end : ℕ) : Type 0 where
 -- how looks up to its place change a cursor under COUNT c
 pub record IsPassedTo (q : EffectiveRule) (start c : ℕ) (before now : Cursor) : Type 0 where
   pub own : IsCursorIn q start (Some c) now
-  pub moved : LooksOrStays before now
-  pub looked : (a b : ℕ) → before.place < b → HasLookedIn q start (Some c) before a b → now.steps ≤ count (fresh now.held) (is_met q start a b)
+  pub moved : HasMoved q start (Some c) (before.place + 1) before now
+
+-- the period with a number is turned to, and what is chosen before it is counted
+pub record HasCountedTo (q : EffectiveRule) (start c number : ℕ) (before now : Cursor) : Type 0 where
+  pub period : RecurrencePeriod
+  pub turned : IsTurned q start c number now period
+  pub walked : IsWalked q start (Some c) (before.place + 1) None before now
+
+-- the period that a cursor counts on from, and how many locals are chosen before it: that of the period held, or the first
+pub record CountsFrom (first begin before : ℕ) (cursor : Cursor) : Type 0 where
+  pub number : MatchOption cursor.held (begin ≡ first) (λ p. begin ≡ p.number)
+  pub chosen : MatchOption cursor.held (before ≡ 0) (λ p. before ≡ cursor.counted)

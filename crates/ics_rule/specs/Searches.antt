@@ -58,20 +58,27 @@ HoldsPeriodOf q held n = MatchOption held ⊥ (λ p. p.number ≡ period_in q n)
 abbrev pub LooksOrStays : Cursor → Cursor → Type 0
 LooksOrStays before now = ((now.held ≡ before.held) × (now.steps ≡ before.steps)) ⊎ (before.steps < now.steps)
 
--- how a search of the periods up to a bound changes a cursor
-pub record IsWalked (q : EffectiveRule) (start : ℕ) (o : Option ℕ) (stop : ℕ) (answer : Option ℕ) (before now : Cursor) : Type 0 where
-  pub held : HeldBy q now.held stop
-  pub found : MatchOption answer (Unit {0}) (λ n. HeldBy q now.held n × ((1 ≤ now.steps) × HoldsPeriodOf q now.held n))
-  pub moved : LooksOrStays before now
+-- how looks at periods up to a bound change a cursor, which stays at its place
+pub record HasMoved (q : EffectiveRule) (start : ℕ) (o : Option ℕ) (stop : ℕ) (before now : Cursor) : Type 0 where
+  pub place : now.place ≡ before.place
+  pub looks : LooksOrStays before now
   pub begun : HasBegun now.held now.steps
   pub steps : now.steps ≤ fresh now.held
-  pub counted : CountedBy q start o now
   pub looked : (a b : ℕ) → stop ≤ b → HasLookedIn q start o before a b → now.steps ≤ count (fresh now.held) (is_met q start a b)
 
--- each look counts one period that no earlier look has reached
-abbrev pub LooksOnce : ℕ → ℕ → Option RecurrencePeriod → ℕ → Option RecurrencePeriod → Type 0
-LooksOnce number steps held after now =
-    (met : ℕ → Bool) → met number ≡ true → steps ≤ count (fresh held) met → after ≤ count (fresh now) met
+-- how a search of the periods up to a bound changes a cursor
+pub record IsWalked (q : EffectiveRule) (start : ℕ) (o : Option ℕ) (stop : ℕ) (answer : Option ℕ) (before now : Cursor) : Type 0 where
+  pub moved : HasMoved q start o stop before now
+  pub held : HeldBy q now.held stop
+  pub found : MatchOption answer (Unit {0}) (λ n. HeldBy q now.held n × ((1 ≤ now.steps) × HoldsPeriodOf q now.held n))
+  pub counted : CountedBy q start o now
+
+-- how one look at the period with a number, or none, changes a cursor: a look counts one period that no earlier look has reached
+pub record LooksAt (number : ℕ) (before now : Cursor) : Type 0 where
+  pub place : now.place ≡ before.place
+  pub looks : LooksOrStays before now
+  pub begun : HasBegun before.held before.steps → HasBegun now.held now.steps
+  pub steps : (met : ℕ → Bool) → met number ≡ true → before.steps ≤ count (fresh before.held) met → now.steps ≤ count (fresh now.held) met
 
 -- nothing is chosen in the periods from one number on and before another
 pub record IsPassed (q : EffectiveRule) (start from before : ℕ) : Type 0 where

@@ -1,10 +1,11 @@
 //! How a cursor counts the periods of a rule with COUNT, from the start on.
-ghost use Rattle.std.specs.Prelude.{◌≡◌, ◌<◌, ◌≤◌, ◌+◌, ◌^◌, MatchOption, Some, true};
+ghost use Rattle.std.specs.Prelude.{◌≡◌, ◌<◌, ◌≤◌, ◌+◌, ◌^◌, MatchOption, Some, true, false};
 ghost use Rattle.jiff_core.specs.Weekday.{monday_zero};
 ghost use Rattle.ics_rule.specs.Candidates.{is_stepped, period_in};
 ghost use Rattle.ics_rule.specs.RecurrencePeriods.{first_local};
-ghost use Rattle.ics_rule.specs.Cursors.{HasBegun, IsCursorIn};
-ghost use Rattle.ics_rule.specs.Searches.{IsNextWanted, IsWalked, LooksOrStays, LooksOnce, IsTurnOf, AllCounted, IsTurned};
+ghost use Rattle.ics_rule.specs.Cursors.{IsCursorIn};
+ghost use Rattle.ics_rule.specs.Searches.{IsNextWanted, IsWalked, LooksAt, IsTurnOf, AllCounted, IsTurned};
+ghost use Rattle.ics_rule.specs.Rounds.{IsPassedTo, CountsFrom, HasCountedTo};
 ghost use Rattle.ics_rule.specs.PeriodNumbers.{rules_end};
 
 use crate::cursor::Cursor;
@@ -34,13 +35,10 @@ impl Cursor {
         requires reach { first_local parts.now.frequency (monday_zero parts.now.week_start) number ≤ rules_end }
         requires room { self.old.steps < 2 ^ 63 }
         requires turn { IsTurnOf parts.now start count number self.old }
-        ensures place { self.new.place ≡ self.old.place }
+        ensures looks { LooksAt number self.old self.new }
         ensures turned { MatchOption result
             (AllCounted parts.now start count number × (self.new ≡ self.old))
             (IsTurned parts.now start count number self.new) }
-        ensures moved { LooksOrStays self.old self.new }
-        ensures begun { HasBegun self.old.held self.old.steps → HasBegun self.new.held self.new.steps }
-        ensures steps { LooksOnce number self.old.steps self.old.held self.new.steps self.new.held }
     {
         match self.held {
             None => {
@@ -61,6 +59,53 @@ impl Cursor {
         }
     }
 
+    /// The number of the period held, and how many locals are chosen before it. If none is held, the start's number and 0.
+    pub(crate) fn counted_from(&self, first: u64) -> (u64, u64)
+        ensures { CountsFrom first result.0 result.1 self.now }
+    {
+        match &self.held {
+            Some(period) => (period.number, self.counted),
+            None => (first, 0),
+        }
+    }
+
+    /// Turns to each period from the first to count on that the rule may allow, and then to the one with number `end`. False if all that
+    /// COUNT keeps is earlier.
+    pub(crate) fn turn_through(
+        &mut self,
+        parts: &EffectiveRule,
+        start: u64,
+        count: u32,
+        first: u64,
+        begin: u64,
+        end: u64,
+    ) -> bool
+        requires interval { 1 ≤ parts.now.interval }
+        requires count { 1 ≤ count }
+        requires first { first ≡ period_in parts.now start }
+        requires after { start < self.old.place }
+        requires place { self.old.place < rules_end }
+        requires own { IsCursorIn parts.now start (Some count) self.old }
+        requires begin { MatchOption self.old.held (begin ≡ first) (λ p. begin ≡ p.number) }
+        requires order { begin ≤ end }
+        requires end { end ≤ period_in parts.now self.old.place }
+        requires step { is_stepped (period_in parts.now start) parts.now.interval end ≡ true }
+        ensures out { result ≡ false → IsPassedTo parts.now start count self.old self.new }
+        ensures counted { result ≡ true → HasCountedTo parts.now start count end self.old self.new }
+    {
+        let place = self.place;
+        let last = period_of(parts, place);
+        let mut number = begin;
+        while number < end {
+            if self.turn_to(parts, start, count, number).is_none() {
+                return false;
+            }
+            let next = number + parts.interval as u64;
+            number = end.min(next_open_step(parts, first, next, last, place + 1));
+        }
+        self.turn_to(parts, start, count, end).is_some()
+    }
+
     /// The next local from the place on that the rule chooses and COUNT keeps. It is searched for in the periods up to that of the last
     /// local before `stop`.
     pub(crate) fn walk_counting(
@@ -77,7 +122,6 @@ impl Cursor {
         requires stop { stop ≤ rules_end }
         requires own { IsCursorIn parts.now start (Some count) self.old }
         ensures next { IsNextWanted parts.now start (Some count) self.old.place stop result }
-        ensures place { self.new.place ≡ self.old.place }
         ensures walked { IsWalked parts.now start (Some count) stop result self.old self.new }
     {
         if chooses_none(parts) {
@@ -86,10 +130,7 @@ impl Cursor {
         let first = period_of(parts, start);
         let last = period_of(parts, stop - 1);
         self.pass_periods(parts, start, count, first);
-        let mut number = match &self.held {
-            Some(period) => period.number,
-            None => first,
-        };
+        let (mut number, _) = self.counted_from(first);
         while number <= last {
             match self.turn_to(parts, start, count, number) {
                 None => return None,

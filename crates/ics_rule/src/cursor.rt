@@ -115,7 +115,6 @@ impl Cursor {
         requires stop { stop ≤ rules_end }
         requires own { IsCursorIn (effective rule.now) start rule.now.parts.count self.old }
         ensures next { IsNextWanted (effective rule.now) start rule.now.parts.count self.old.place stop result }
-        ensures place { self.new.place ≡ self.old.place }
         ensures walked { IsWalked (effective rule.now) start rule.now.parts.count stop result self.old self.new }
     {
         match rule.parts.count() {

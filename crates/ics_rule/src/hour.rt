@@ -3,7 +3,7 @@ ghost use Rattle.std.specs.Prelude.{◌≡◌, ℕ, ◌+◌, ◌*◌, ◌<◌, �
 ghost use Rattle.ics_values.specs.Sets.{contains};
 ghost use Rattle.ics_values.specs.Locals.{number, calendar_end};
 ghost use Rattle.ics_rule.specs.Next.{NoneKept, IsNextKept};
-ghost use Rattle.ics_rule.specs.HoursKept.{is_finer, KeepsTimes};
+ghost use Rattle.ics_rule.specs.HoursKept.{is_finer, IsFirstTime, IsLastTime, KeepsTimes};
 ghost use Rattle.ics_rule.specs.PeriodNumbers.{rules_end};
 
 use crate::cursor::Cursor;
@@ -18,18 +18,38 @@ pub struct HourTimes {
     pub seconds: BitSet,
 }
 
-/// The greatest member of a set.
-fn greatest(set: BitSet) -> Option<u8>
-    ensures last { MatchOption result ((n : ℕ) → contains set n ≡ false) (λ last. (n : ℕ) → last < n → contains set n ≡ false) }
-    ensures small { IfSome result (λ last. last < 64) }
+/// The greatest member of a set, or 0 if there is none.
+fn greatest(set: BitSet) -> u8
+    ensures last { (n : ℕ) → result < n → contains set n ≡ false }
+    ensures small { result < 64 }
 {
-    let mut last = None;
+    let mut last = 0;
     let mut from = 0;
     while let Some(n) = set.next_from(from) {
-        last = Some(n);
+        last = n;
         from = n + 1;
     }
     last
+}
+
+impl HourTimes {
+    /// The first of the times, in seconds from the start of an hour.
+    fn first(&self) -> Option<u64>
+        ensures first { IfSome result (IsFirstTime self.now) }
+        ensures small { IfSome result (λ t. t < 4096) }
+    {
+        let minute = self.minutes.next_from(0)?;
+        let second = self.seconds.next_from(0)?;
+        Some(u64::from(minute) * 60 + u64::from(second))
+    }
+
+    /// The last of the times, in seconds from the start of an hour.
+    fn last(&self) -> u64
+        ensures last { IsLastTime self.now result }
+        ensures small { result < 4096 }
+    {
+        u64::from(greatest(self.minutes)) * 60 + u64::from(greatest(self.seconds))
+    }
 }
 
 /// Whether a rule repeats more often than daily.
@@ -82,21 +102,19 @@ impl Rule {
                 seconds: BitSet::new(),
             });
         };
-        let minutes = self.whole.minutes;
-        let seconds = self.whole.seconds;
-        let first_minute = minutes.next_from(0)?;
-        let first_second = seconds.next_from(0)?;
-        let first = from + u64::from(first_minute) * 60 + u64::from(first_second);
-        let last_minute = greatest(minutes)?;
-        let last_second = greatest(seconds)?;
-        let last = from + u64::from(last_minute) * 60 + u64::from(last_second);
-        if kept <= start || kept != first || last >= from + 3_600 {
-            return None;
-        }
         if is_finer(self.whole.frequency) || !self.whole.positions.is_empty() {
             return None;
         }
+        let times = HourTimes {
+            minutes: self.whole.minutes,
+            seconds: self.whole.seconds,
+        };
+        let first = from + times.first()?;
+        let last = from + times.last();
+        if kept <= start || kept != first || last >= from + 3_600 {
+            return None;
+        }
         next_between(self, start, last, last + 1)?;
-        Some(HourTimes { minutes, seconds })
+        Some(times)
     }
 }

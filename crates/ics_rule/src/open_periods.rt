@@ -189,25 +189,21 @@ impl Cursor {
         requires after { start < self.old.place }
         requires place { self.old.place < rules_end }
         requires own { IsCursorIn parts.now start (Some count) self.old }
-        ensures place { self.new.place ≡ self.old.place }
-        ensures passed { IsPassedTo parts.now start count self.old self.new }
+        ensures { IsPassedTo parts.now start count self.old self.new }
     {
         let unit = seconds_of(parts.frequency);
         if unit == 0 || unit > 86_400 {
             return;
         }
-        let begin = match &self.held {
-            Some(period) => period.number,
-            None => first,
-        };
+        let (begin, _) = self.counted_from(first);
         let interval = parts.interval as u64;
         let steps = period_of(parts, self.place).saturating_sub(begin) / interval;
         if steps < A_SHORT_WALK {
             return;
         }
-        let Some(_period) = self.turn_to(parts, start, count, begin) else {
+        if !self.turn_through(parts, start, count, first, begin, begin) {
             return;
-        };
+        }
         let last = begin + steps * interval;
         let number = open_between(parts, first, begin, last);
         let total = self.counted + chosen_in_open(parts) * number;

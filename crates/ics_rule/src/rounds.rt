@@ -10,7 +10,6 @@ use crate::cursor::Cursor;
 use crate::date::{goes_by_months, names_weekdays_alone};
 use crate::effective::skips_hours;
 use crate::effective_rule::EffectiveRule;
-use crate::pass::next_open_step;
 use crate::step::period_of;
 use ics_values::Frequency;
 
@@ -208,8 +207,7 @@ impl Cursor {
         requires after { start < self.old.place }
         requires place { self.old.place < rules_end }
         requires own { IsCursorIn parts.now start (Some count) self.old }
-        ensures place { self.new.place ≡ self.old.place }
-        ensures passed { IsPassedTo parts.now start count self.old self.new }
+        ensures { IsPassedTo parts.now start count self.old self.new }
     {
         if self.is_close(parts) {
             return;
@@ -231,16 +229,10 @@ impl Cursor {
         requires after { start < self.old.place }
         requires place { self.old.place < rules_end }
         requires own { IsCursorIn parts.now start (Some count) self.old }
-        ensures place { self.new.place ≡ self.old.place }
-        ensures passed { IsPassedTo parts.now start count self.old self.new }
+        ensures { IsPassedTo parts.now start count self.old self.new }
     {
-        let place = self.place;
-        let own = period_of(parts, place);
-        let (begin, before) = match &self.held {
-            Some(period) => (period.number, self.counted),
-            None => (first, 0),
-        };
-        let ahead = own.saturating_sub(begin);
+        let (begin, before) = self.counted_from(first);
+        let ahead = period_of(parts, self.place).saturating_sub(begin);
         if begin < 2 || ahead < 2 {
             return;
         }
@@ -252,17 +244,9 @@ impl Cursor {
             return;
         }
         let end = begin + round;
-        let mut number = begin;
-        while number < end {
-            let Some(_period) = self.turn_to(parts, start, count, number) else {
-                return;
-            };
-            let next = number + parts.interval as u64;
-            number = end.min(next_open_step(parts, first, next, own, place + 1));
-        }
-        let Some(_period) = self.turn_to(parts, start, count, end) else {
+        if !self.turn_through(parts, start, count, first, begin, end) {
             return;
-        };
+        }
         let total = before + rounds * (self.counted - before);
         self.look_at(parts, begin + rounds * round, total);
     }

@@ -4,8 +4,8 @@ ghost use Rattle.jiff_core.specs.Weekday.{monday_zero};
 ghost use Rattle.ics_values.specs.Sets.{IsLeastFrom, IsNextIn};
 ghost use Rattle.ics_rule.specs.Candidates.{is_stepped, period_in};
 ghost use Rattle.ics_rule.specs.RecurrencePeriods.{first_local, IsPeriodOf};
-ghost use Rattle.ics_rule.specs.Cursors.{HasBegun, IsCursorIn};
-ghost use Rattle.ics_rule.specs.Searches.{is_chosen_within, IsNextWanted, IsWalked, LooksOrStays, LooksOnce};
+ghost use Rattle.ics_rule.specs.Cursors.{IsCursorIn};
+ghost use Rattle.ics_rule.specs.Searches.{is_chosen_within, IsNextWanted, IsWalked, LooksAt};
 ghost use Rattle.ics_rule.specs.PeriodNumbers.{rules_end};
 ghost use Rattle.ics_values.specs.Locals.{calendar_end};
 
@@ -42,11 +42,8 @@ impl Cursor {
         requires room { self.old.steps < 2 ^ 63 }
         ensures next { IsNextIn (is_chosen_within parts.now start number) self.old.place result }
         ensures small { IfSome result (λ n. n < 2 ^ 63) }
-        ensures place { self.new.place ≡ self.old.place }
         ensures held { MatchOption self.new.held ⊥ (λ p. IsPeriodOf parts.now p × (p.number ≡ number)) }
-        ensures moved { LooksOrStays self.old self.new }
-        ensures begun { HasBegun self.old.held self.old.steps → HasBegun self.new.held self.new.steps }
-        ensures steps { LooksOnce number self.old.steps self.old.held self.new.steps self.new.held }
+        ensures looks { LooksAt number self.old self.new }
     {
         let place = self.place;
         if let Some(period) = &self.held {
@@ -71,7 +68,6 @@ impl Cursor {
         requires stop { stop ≤ rules_end }
         requires own { IsCursorIn parts.now start None self.old }
         ensures next { IsNextWanted parts.now start None self.old.place stop result }
-        ensures place { self.new.place ≡ self.old.place }
         ensures walked { IsWalked parts.now start None stop result self.old self.new }
     {
         if chooses_none(parts) {

@@ -4,7 +4,7 @@ use Rattle.ics_rule.specs.declared.cursor.Cursor.{Cursor}
 use Rattle.ics_rule.specs.RecurrencePeriods.{is_taken}
 use Rattle.ics_rule.specs.Searches.{is_chosen_within, after_look}
 use Rattle.ics_rule.proofs.ChosenLemmas.{taken_within}
-use Rattle.ics_rule.proofs.CursorLemmas.{begins_look, looks_more, next_same, looks_once, fresh_some, fresh_none}
+use Rattle.ics_rule.proofs.CursorLemmas.{next_same, looks_none, looks_once, fresh_some, fresh_none}
 use Rattle.ics_rule.proofs.cursor.Cursor.find.Goals as goal
 use Rattle.ics_rule.proofs.cursor.Cursor.find.Goals.{in-Some+else-period-number, in_default}
 
@@ -22,8 +22,8 @@ returns-clause-next c =
     (taken_within c.args.parts.now c.args.start c.look_at.result c.args.number c.look_at.ensures.product c.look_at.ensures.number c.requires.step)
     c.next_taken-2.ensures.next
 
-pub returns-clause-steps : goal.returns-clause-steps
-returns-clause-steps c = elim c.match-self.branch [
+pub returns-clause-looks : goal.returns-clause-looks
+returns-clause-looks c = elim c.match-self.branch [
   | in-Some+else-period-number w ↦
       let own = rw w.in-Some.is at c.requires.held in
       looks_once c.args.number 0 c.args.self.now c.look_at.new.self c.look_at.result
@@ -35,15 +35,5 @@ returns-clause-steps c = elim c.match-self.branch [
       (c.look_at.ensures.cursor ∙ ap (λ (s : Cursor). after_look s c.look_at.result 0) w.self-is) c.look_at.ensures.number
 ]
 
-pub returns-clause-begun : goal.returns-clause-begun
-returns-clause-begun c = λ before. begins_look 0 c.match-self.self c.look_at.new.self c.look_at.result c.look_at.ensures.cursor
-
-pub returns-clause-moved : goal.returns-clause-moved
-returns-clause-moved c = elim c.match-self.branch [
-  | in-Some+else-period-number w ↦
-      looks_more 0 c.args.self.now c.look_at.new.self c.look_at.result (c.look_at.ensures.cursor
-      ∙ ap (λ (s : Cursor). after_look s c.look_at.result 0) w.self-is)
-  | in_default w ↦
-      looks_more 0 c.args.self.now c.look_at.new.self c.look_at.result (c.look_at.ensures.cursor
-      ∙ ap (λ (s : Cursor). after_look s c.look_at.result 0) w.self-is)
-]
+pub returns-then-period-number-clause-looks : goal.returns-then-period-number-clause-looks
+returns-then-period-number-clause-looks c = looks_none c.args.number c.args.self.now

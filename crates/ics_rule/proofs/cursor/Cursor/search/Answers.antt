@@ -8,29 +8,24 @@ returns-then-stop-place-clause-own c = own_at (effective c.args.rule.now) c.args
     c.requires.own (omega (arith, c.max-self.ensures)) (omega (arith, c.max-self.ensures, c.requires.own.inside, c.requires.end))
 
 pub returns-then-n-stop-clause-own : goal.returns-then-n-stop-clause-own
-returns-then-n-stop-clause-own c = own_found (effective c.args.rule.now) c.args.start c.args.rule.now.parts.count c.args.stop c.in-Some.n c.args.self.now
-    c.walk.new.self c.in-Some.ensures.walked (omega (arith, c.requires.end, c.requires.stop, c.if-n-stop.true))
+returns-then-n-stop-clause-own c = own_found c.in-Some.ensures.walked (omega (arith, c.requires.end, c.requires.stop, c.if-n-stop.true))
 
 pub returns-clause-own : goal.returns-clause-own
-returns-clause-own c = own_walked (effective c.args.rule.now) c.args.start c.args.rule.now.parts.count c.args.stop c.walk.result c.args.self.now c.walk.new.self
-    c.args.end c.walk.ensures.walked c.requires.stop (omega (arith, c.requires.end))
+returns-clause-own c = own_walked c.args.end c.walk.ensures.walked c.requires.stop (omega (arith, c.requires.end))
 
 pub returns-then-n-stop-clause-looked : goal.returns-then-n-stop-clause-looked
-returns-then-n-stop-clause-looked c = λ a b h few. looked_found (effective c.args.rule.now) c.args.start c.args.rule.now.parts.count c.args.stop c.in-Some.n
-    c.args.self.now c.walk.new.self a b c.in-Some.ensures.walked
+returns-then-n-stop-clause-looked c = λ a b h few. looked_found c.in-Some.ensures.walked
     (omega (arith, c.in-Some.ensures.next.low, c.requires.after)) (omega (arith, c.in-Some.ensures.next.low)) (omega (arith, h)) few
 
 pub returns-then-n-stop-clause-counts : goal.returns-then-n-stop-clause-counts
-returns-then-n-stop-clause-counts c = λ after later. counts_look (effective c.args.rule.now) c.args.start c.args.rule.now.parts.count c.args.stop c.in-Some.n
-    c.args.self.now c.walk.new.self c.requires.own c.in-Some.ensures.walked later
+returns-then-n-stop-clause-counts c = λ after later. counts_look c.requires.own c.in-Some.ensures.walked later
 
 pub returns-clause-looked : goal.returns-clause-looked
-returns-clause-looked c = λ a b h few. looked_walked (effective c.args.rule.now) c.args.start c.args.rule.now.parts.count c.args.stop c.walk.result
-    c.args.self.now c.walk.new.self c.args.end a b c.walk.ensures.walked
+returns-clause-looked c = λ a b h few. looked_walked c.args.end c.walk.ensures.walked
     (omega (arith, c.if-stop-place.false, c.requires.stop)) (omega (arith, c.requires.stop, h)) few
 
 pub returns-then-n-stop-clause-rise : goal.returns-then-n-stop-clause-rise
-returns-then-n-stop-clause-rise c = never_fewer c.args.self.now c.walk.new.self c.in-Some.ensures.walked.moved
+returns-then-n-stop-clause-rise c = never_fewer c.args.self.now c.walk.new.self c.in-Some.ensures.walked.moved.looks
 
 pub returns-clause-rise : goal.returns-clause-rise
-returns-clause-rise c = never_fewer c.args.self.now c.walk.new.self c.walk.ensures.walked.moved
+returns-clause-rise c = never_fewer c.args.self.now c.walk.new.self c.walk.ensures.walked.moved.looks

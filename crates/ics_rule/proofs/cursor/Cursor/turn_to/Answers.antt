@@ -2,7 +2,7 @@ use Rattle.std.proofs.Common.{◌≡◌, ◌+◌, ℕ, ◌⊎◌, inl, inr, ap, 
 use Rattle.ics_rule.specs.declared.effective_rule.EffectiveRule.{EffectiveRule}
 use Rattle.ics_rule.specs.declared.cursor.Cursor.{Cursor}
 use Rattle.ics_rule.specs.Searches.{IsPassed}
-use Rattle.ics_rule.proofs.CursorLemmas.{begins_look, looks_more, looks_once, fresh_some, fresh_none}
+use Rattle.ics_rule.proofs.CursorLemmas.{looks_none, looks_once, fresh_some, fresh_none}
 use Rattle.ics_rule.proofs.CountLemmas.{step_low, turned_first, turned_on, counted_out, counted_small}
 use Rattle.ics_rule.proofs.cursor.Cursor.turn_to.Goals as goal
 use Rattle.ics_rule.proofs.cursor.Cursor.turn_to.Goals.{After-taken_before-before}
@@ -22,8 +22,7 @@ pub overflow_add-self-in-Some : goal.overflow_add-self-in-Some
 overflow_add-self-in-Some c =
     let turn = rw c.in-Some.is at c.requires.turn in
     let on = step_before c.args.parts.now c.args.start c.in-Some.period.number c.args.number turn.1.1 c.if-period-number.false in
-    let small = counted_small c.args.parts.now c.args.start c.args.count c.args.number c.args.self.now.counted c.args.self.now.limit c.in-Some.period turn.1.0
-    (omega (arith, on.up)) c.requires.step c.requires.reach in
+    let small = counted_small c.args.number turn.1.0 (omega (arith, on.up)) c.requires.step c.requires.reach in
     omega (arith, small, c.taken_before-before.ensures.bound)
 
 pub returns-then-self-before-clause-turned : goal.returns-then-self-before-clause-turned
@@ -45,9 +44,11 @@ returns-in-None-clause-turned c =
     (ap (λ (s : Cursor). s.held) c.look_at-period.ensures.cursor) (ap (λ (s : Cursor). s.counted) c.look_at-period.ensures.cursor) refl refl
     c.taken_before.ensures.value
 
-pub returns-in-None-clause-steps : goal.returns-in-None-clause-steps
-returns-in-None-clause-steps c = looks_once c.args.number 0 c.args.self.now c.look_at-period.new.self c.look_at-period.result
-    (fresh_none c.args.number c.args.self.now.held c.in-None.is) c.look_at-period.ensures.cursor c.look_at-period.ensures.number
+pub returns-in-None-clause-looks : goal.returns-in-None-clause-looks
+returns-in-None-clause-looks c =
+    let at = looks_once c.args.number 0 c.args.self.now c.look_at-period.new.self c.look_at-period.result
+    (fresh_none c.args.number c.args.self.now.held c.in-None.is) c.look_at-period.ensures.cursor c.look_at-period.ensures.number in
+    record { place = at.place; looks = at.looks; begun = at.begun; steps = at.steps }
 
 pub returns-else-self-before-clause-turned : goal.returns-else-self-before-clause-turned
 returns-else-self-before-clause-turned c =
@@ -58,24 +59,16 @@ returns-else-self-before-clause-turned c =
     (omega (arith, c.requires.reach)) refl c.taken_before-before.ensures.value c.requires.step c.look_at.ensures.product c.look_at.ensures.number
     c.look_at.ensures.cursor
 
-pub returns-else-self-before-clause-steps : goal.returns-else-self-before-clause-steps
-returns-else-self-before-clause-steps c =
+pub returns-else-self-before-clause-looks : goal.returns-else-self-before-clause-looks
+returns-else-self-before-clause-looks c =
     let turn = rw c.in-Some.is at c.requires.turn in
     let on = step_before c.args.parts.now c.args.start c.in-Some.period.number c.args.number turn.1.1 c.if-period-number.false in
     looks_once c.args.number (c.args.self.now.counted + c.taken_before-before.result) c.args.self.now c.look_at.new.self c.look_at.result
     (fresh_some c.args.number c.args.self.now.held c.in-Some.period c.in-Some.is (omega (arith, on.up)) c.if-period-number.false) c.look_at.ensures.cursor
     c.look_at.ensures.number
 
-pub returns-in-None-clause-begun : goal.returns-in-None-clause-begun
-returns-in-None-clause-begun c = λ before. begins_look 0 c.args.self.now c.look_at-period.new.self c.look_at-period.result c.look_at-period.ensures.cursor
+pub returns-then-period-number-clause-looks : goal.returns-then-period-number-clause-looks
+returns-then-period-number-clause-looks c = looks_none c.args.number c.args.self.now
 
-pub returns-else-self-before-clause-begun : goal.returns-else-self-before-clause-begun
-returns-else-self-before-clause-begun c = λ before. begins_look (c.args.self.now.counted + c.taken_before-before.result) c.args.self.now c.look_at.new.self
-    c.look_at.result c.look_at.ensures.cursor
-
-pub returns-in-None-clause-moved : goal.returns-in-None-clause-moved
-returns-in-None-clause-moved c = looks_more 0 c.args.self.now c.look_at-period.new.self c.look_at-period.result c.look_at-period.ensures.cursor
-
-pub returns-else-self-before-clause-moved : goal.returns-else-self-before-clause-moved
-returns-else-self-before-clause-moved c =
-    looks_more (c.args.self.now.counted + c.taken_before-before.result) c.args.self.now c.look_at.new.self c.look_at.result c.look_at.ensures.cursor
+pub returns-then-self-before-clause-looks : goal.returns-then-self-before-clause-looks
+returns-then-self-before-clause-looks c = looks_none c.args.number c.args.self.now

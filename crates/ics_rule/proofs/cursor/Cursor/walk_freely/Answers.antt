@@ -1,7 +1,5 @@
-use Rattle.std.proofs.Common.{◌≡◌, ◌+◌, None, true, sym, subst, arith}
-use Rattle.ics_values.specs.Sets.{IsLeastFrom}
+use Rattle.std.proofs.Common.{◌∙◌, ◌+◌, None, ap, arith}
 use Rattle.ics_rule.specs.Candidates.{is_stepped, period_in}
-use Rattle.ics_rule.specs.Searches.{IsNextOpen}
 use Rattle.ics_rule.proofs.StepLemmas.{step_on}
 use Rattle.ics_rule.proofs.CursorLemmas.{walk_begins, walk_goes_on, walk_ended, walk_finds, walk_found, walk_low, walk_reach}
 use Rattle.ics_rule.proofs.PassedLemmas.{walk_rounds_end}
@@ -9,53 +7,40 @@ use Rattle.ics_rule.proofs.NeverLemmas.{none_wanted, none_walked}
 use Rattle.ics_rule.proofs.cursor.Cursor.walk_freely.Goals as goal
 
 pub loop-number-init : goal.loop-number-init
-loop-number-init c = walk_begins c.args.parts.now c.args.start c.args.stop c.next_step-number.result c.args.self.now
-    (subst (λ x. IsLeastFrom (is_stepped x c.args.parts.now.interval) (period_in c.args.parts.now c.args.self.now.place) c.next_step-number.result)
-    c.period_of-first.ensures.value
-    (subst (λ x. IsLeastFrom (is_stepped c.period_of-first.result c.args.parts.now.interval) x c.next_step-number.result) c.period_of-own.ensures.value
-    c.next_step-number.ensures))
-    c.requires.place c.requires.own
+loop-number-init c = walk_begins c.requires.interval c.period_of-first.ensures.value c.period_of-own.ensures.value c.next_step-number.ensures c.requires.place
+    c.requires.own
 
 pub find-requires-clause-low : goal.find-requires-clause-low
-find-requires-clause-low c = walk_low c.args.parts.now c.args.start c.args.stop c.loop-number.number c.args.self.now c.loop-number.self c.loop-number.invariant
+find-requires-clause-low c = walk_low c.loop-number.invariant
 
 pub find-requires-clause-reach : goal.find-requires-clause-reach
 find-requires-clause-reach c = let r = walk_reach c.args.parts.now c.loop-number.number c.args.stop
     (omega (arith, c.loop-number-test.true, c.last_to_look_at-end.ensures.high, c.period_of-last.ensures.value)) in omega (arith, r, c.requires.stop)
 
 pub returns-in-Some-clause-next : goal.returns-in-Some-clause-next
-returns-in-Some-clause-next c = walk_finds c.args.parts.now c.args.start c.args.stop c.loop-number.number c.args.self.now c.loop-number.self
-    c.loop-number.invariant c.find.new.self c.requires.place
-    (omega (arith, c.loop-number-test.true, c.last_to_look_at-end.ensures.high, c.period_of-last.ensures.value)) c.find.ensures.held c.find.ensures.place
-    c.find.ensures.steps c.find.ensures.begun c.find.ensures.moved c.in-Some.n c.in-Some.ensures.next
+returns-in-Some-clause-next c = walk_finds c.loop-number.invariant c.in-Some.ensures.next
 
 pub returns-in-Some-clause-walked : goal.returns-in-Some-clause-walked
-returns-in-Some-clause-walked c = walk_found c.args.parts.now c.args.start c.args.stop c.loop-number.number c.args.self.now c.loop-number.self
-    c.loop-number.invariant c.find.new.self c.requires.place
-    (omega (arith, c.loop-number-test.true, c.last_to_look_at-end.ensures.high, c.period_of-last.ensures.value)) c.find.ensures.held c.find.ensures.place
-    c.find.ensures.steps c.find.ensures.begun c.find.ensures.moved c.in-Some.n c.in-Some.ensures.next
+returns-in-Some-clause-walked c = walk_found c.loop-number.invariant c.find.ensures.looks c.find.ensures.held
+    (omega (arith, c.loop-number-test.true, c.last_to_look_at-end.ensures.high, c.period_of-last.ensures.value)) c.in-Some.ensures.next
 
 pub next_open_step-number-requires-clause-step : goal.next_open_step-number-requires-clause-step
 next_open_step-number-requires-clause-step c =
-    subst (λ x. is_stepped x c.args.parts.now.interval (c.loop-number.number + c.args.parts.now.interval) ≡ true) (sym c.period_of-first.ensures.value)
-    (step_on c.args.parts.now.interval c.requires.interval (period_in c.args.parts.now c.args.start) c.loop-number.number c.loop-number.invariant.step)
+    ap (λ x. is_stepped x c.args.parts.now.interval (c.loop-number.number + c.args.parts.now.interval)) c.period_of-first.ensures.value
+    ∙ step_on c.args.parts.now.interval c.requires.interval (period_in c.args.parts.now c.args.start) c.loop-number.number c.loop-number.invariant.step
 
 pub loop-number-preserved : goal.loop-number-preserved
-loop-number-preserved c = walk_goes_on c.args.parts.now c.args.start c.args.stop c.loop-number.number c.args.self.now c.loop-number.self c.loop-number.invariant
-    c.find.new.self c.requires.place
-    (omega (arith, c.loop-number-test.true, c.last_to_look_at-end.ensures.high, c.period_of-last.ensures.value)) c.find.ensures.held c.find.ensures.place
-    c.find.ensures.steps c.find.ensures.begun c.find.ensures.moved c.next_open_step-number.result c.requires.interval c.in_default.ensures.next
-    (subst (λ x. IsNextOpen c.args.parts.now x (c.loop-number.number + c.args.parts.now.interval) c.next_open_step-number.result)
-    c.period_of-first.ensures.value c.next_open_step-number.ensures)
+loop-number-preserved c = walk_goes_on c.loop-number.invariant c.find.ensures.looks c.find.ensures.held
+    (omega (arith, c.loop-number-test.true, c.last_to_look_at-end.ensures.high, c.period_of-last.ensures.value)) c.period_of-first.ensures.value
+    c.in_default.ensures.next c.next_open_step-number.ensures
 
 pub returns-clause-next : goal.returns-clause-next
-returns-clause-next c = walk_rounds_end c.args.parts.now c.args.start c.args.stop c.loop-number.number c.max.result c.last_to_look_at-end.result c.args.self.now
-    c.loop-number.self c.loop-number.invariant c.requires.stop c.loop-number-test.false
+returns-clause-next c = walk_rounds_end c.max.result c.last_to_look_at-end.result c.loop-number.invariant c.requires.stop c.loop-number-test.false
     (omega (arith, c.max.ensures, c.period_of-first.ensures.value)) (omega (arith, c.max.ensures, c.period_of-own.ensures.value))
     (λ less. c.last_to_look_at-end.ensures.round (omega (arith, less, c.period_of-last.ensures.value)))
 
 pub returns-clause-walked : goal.returns-clause-walked
-returns-clause-walked c = walk_ended c.args.parts.now c.args.start c.args.stop c.loop-number.number c.args.self.now c.loop-number.self c.loop-number.invariant
+returns-clause-walked c = walk_ended c.loop-number.invariant
 
 pub returns-then-chooses_none-clause-next : goal.returns-then-chooses_none-clause-next
 returns-then-chooses_none-clause-next c =
@@ -63,4 +48,4 @@ returns-then-chooses_none-clause-next c =
     (c.chooses_none.ensures c.if-chooses_none.true c.args.start)
 
 pub returns-then-chooses_none-clause-walked : goal.returns-then-chooses_none-clause-walked
-returns-then-chooses_none-clause-walked c = none_walked c.args.parts.now c.args.start None c.args.stop c.args.self.now c.requires.place c.requires.own
+returns-then-chooses_none-clause-walked c = none_walked c.args.stop c.requires.place c.requires.own
