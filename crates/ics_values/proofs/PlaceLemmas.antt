@@ -13,7 +13,8 @@ use Rattle.ics_values.specs.declared.ordinals.Ordinals.{Ordinals}
 use Rattle.ics_values.specs.declared.ordinals.WideOrdinals.{WideOrdinals}
 use Rattle.ics_values.specs.declared.ordinals.Weekdays.{Weekdays}
 use Rattle.ics_values.specs.Sets.{contains, contains_wide, none_wide, with_number, with_wide_number, IsWithin}
-use Rattle.ics_values.specs.Ordinals.{no_ordinals, no_wide_ordinals, no_weekdays, numbers_of, with_ordinal, with_wide_ordinal, with_weekday, with_numbered_weekday}
+use Rattle.ics_values.specs.Ordinals.{no_ordinals, no_wide_ordinals, no_weekdays, numbers_of}
+use Rattle.ics_values.specs.Ordinals.{with_ordinal, with_wide_ordinal, with_weekday, with_numbered_weekday}
 use Rattle.ics_values.specs.RuleParts.{every, ArePlaces, AreWidePlaces, IsRuleParts}
 use Rattle.ics_values.proofs.SetLemmas.{within_more, contains-with_number, contains_wide-with_number, has_none, none_wide_has}
 

@@ -1,6 +1,6 @@
 -- What adding a member does to a set.
-use Rattle.std.proofs.Common.{◌≡◌, refl, ℕ, zero, suc, ◌+◌, ◌-◌, ◌*◌, ◌/◌, ◌%◌, ◌^◌, ◌<◌, ◌≤◌, ◌⊎◌, inl, inr, ◌==◌, ◌||◌, ◌&&◌, nat_lt, ◌≢◌, Bool, true, false, List}
-use Rattle.std.proofs.Common.{length, get_or, set, ap, sym, subst, ◌∙◌, arith, w64, bit_or, get_or-set_same, get_or-set_other}
+use Rattle.std.proofs.Common.{◌≡◌, refl, ℕ, zero, suc, ◌+◌, ◌-◌, ◌*◌, ◌/◌, ◌%◌, ◌^◌, ◌<◌, ◌≤◌, ◌⊎◌, inl, inr, ◌==◌, ◌||◌, ◌&&◌, nat_lt, ◌≢◌}
+use Rattle.std.proofs.Common.{Bool, true, false, List, length, get_or, set, ap, sym, subst, ◌∙◌, arith, w64, bit_or, get_or-set_same, get_or-set_other}
 use Rattle.std.proofs.lemmas.Bool.Decides.{nat_tests}
 use Rattle.std.proofs.lemmas.Nat.Bits.{bit_at_set_same, bit_at_set_other, bit_at_above, bit_at-zero, bit_at-trailing_zeros, bit_at_cat_low, bit_at_ones}
 use Rattle.std.proofs.lemmas.List.{get_or_past}
