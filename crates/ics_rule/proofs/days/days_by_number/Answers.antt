@@ -1,4 +1,4 @@
-use Rattle.std.proofs.Common.{◌∙◌, ◌+◌, ◌&&◌, ap, sym}
+use Rattle.std.proofs.Common.{◌∙◌, ◌+◌, ◌&&◌, nat_lt, ap, sym, arith}
 use Rattle.ics_values.specs.Sets.{contains_wide}
 use Rattle.ics_rule.specs.Candidates.{lets_wide_place}
 use Rattle.ics_rule.proofs.ScanLemmas.{none_has, one_more, no_more}
@@ -19,3 +19,7 @@ loop-k-preserved c = λ m. elim c.if-lets_wide_place.branch [
       ∙ no_more (λ k. lets_wide_place c.args.parts.now.year_days (k + 1) c.args.len) c.loop-k.k m (contains_wide c.loop-k.days m) (sym c.lets_wide_place.ensures
       ∙ w.if-lets_wide_place.false) (c.loop-k.invariant m)
 ]
+
+pub returns : goal.returns
+returns c = λ m. c.loop-k.invariant m ∙ ap (λ k. nat_lt m k && lets_wide_place c.args.parts.now.year_days (m + 1) c.args.len)
+    (omega (arith, c.loop-k-test.false, c.loop-k.auto.k-end))
