@@ -3,16 +3,13 @@ use Rattle.std.specs.Prelude.{◌<ℤ◌}
 use Rattle.std.proofs.Common.{◌≡◌, ℕ, ◌<◌, ◌≤◌, ℤ, List, [], ◌∷◌, Bool, true, false, cond, Option, Some, None, ◌⊎◌, inl, inr, ⊎_elim, refl, sym, ◌∙◌, ap}
 use Rattle.std.proofs.Common.{subst, arith}
 use Rattle.std.specs.Cmp.{IsTotalOrder, int_ranks, ranks}
-use Rattle.std.specs.Fn.{Called}
-use Rattle.std.specs.List.Sorted.{IsPermutation, IsSortedByClosure}
-use Rattle.std.specs.Ordering.{int_cmp, int_eq, nat_cmp, is_gt, is_lt, ordering_then, MatchOrdering}
+use Rattle.std.specs.List.Sorted.{IsPermutation}
+use Rattle.std.specs.Ordering.{int_cmp, int_eq, nat_cmp, is_gt, ordering_then, MatchOrdering}
 use Rattle.std.specs.declared.cmp.Ordering.{Ordering}
 use Rattle.std.specs.declared.cmp.Ordering.TheVariants.{Less, Equal, Greater}
 use Rattle.std.proofs.lemmas.Cmp.{int_cmp_total, nat_cmp_total, on_total, then_total, tied_itself}
 use Rattle.std.proofs.lemmas.Int.{ints}
-use Rattle.std.proofs.lemmas.List.Sorted.{IsPermutation-sym, answers_always, ranks_by}
-use denote.Param.Members.{Mut}
-use denote.Ref.{Bor}
+use Rattle.std.proofs.lemmas.List.Sorted.{IsPermutation-sym}
 use Rattle.ics_series.specs.declared.start.StartSource.{StartSource}
 use Rattle.ics_series.specs.declared.start.StartSource.TheVariants.{Kept, Listed}
 use Rattle.ics_series.specs.declared.start.Start.{Start}
@@ -22,12 +19,12 @@ use Rattle.ics_series.specs.Rising.{IsBefore, Rises}
 use Rattle.ics_series.specs.Starts.{IsNotAfter}
 use Rattle.std.specs.Option.{option_eq}
 use Rattle.ics_series.proofs.Cases.{some-same, equal-true, true-equal, up-to-front}
-use Rattle.ics_series.proofs.SortLemmas.{IsUpTo, Climbs, climbs-sorted, in-permutation, up-to-in}
+use Rattle.ics_series.proofs.SortLemmas.{IsUpTo, Climbs, in-permutation, up-to-in}
 
 pub source_total : IsTotalOrder source_cmp
 source_total = then_total (on_total part_of nat_cmp_total) (then_total (on_total day_in int_cmp_total) (on_total place_in nat_cmp_total))
 
-start_total : IsTotalOrder start_cmp
+pub start_total : IsTotalOrder start_cmp
 start_total = then_total (on_total (λ s. s.moment) int_cmp_total) (on_total (λ s. s.source) source_total)
 
 pub moment_total : IsTotalOrder moment_cmp
@@ -164,11 +161,3 @@ firsts-of xs ys p climbs = record {
       let back = up-to-back (moment_cmp f.first s) (source_cmp f.first.source s.source) (same-moment f.first s f.same) f.earlier in
       record { start = f.first; stands = f.stands; same = f.same; earlier = source-order f.first.source s.source back };
 }
-
--- a list sorted by what compares so climbs
-pub climbs-by : {F : Type 0} {g : Mut F (Bor Start × (Bor Start × Unit {0})) Ordering} {f : F} (ys : List Start) → IsSortedByClosure g f ys
-    → ((f : F) (a : Bor Start × (Bor Start × Unit {0})) (r : Ordering) (f' : F) → Called g f a r f' → r ≡ start_cmp a.0.now a.1.0.now) → Climbs start_cmp ys
-climbs-by {g = g} {f = f} ys s h =
-    climbs-sorted start_cmp start_total ys
-    (s (λ x y. is_lt (start_cmp x y)) (ranks_by start_total (λ x. x))
-    (answers_always g (λ a r. is_lt r ≡ is_lt (start_cmp a.0.now a.1.0.now)) f (λ k a r f' c. ap is_lt (h k a r f' c))))

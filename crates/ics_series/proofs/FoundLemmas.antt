@@ -2,9 +2,9 @@
 use Rattle.std.proofs.Common.{◌≡◌, ℤ, ◌&&◌, List, [], ◌∷◌, map, Option, Some, None, Bool, true, false, cond, refl, sym, ◌∙◌, ap, subst}
 use Rattle.std.specs.Cmp.{IsTotalOrder}
 use Rattle.std.specs.Cmp.Lexicographic.{slice_cmp, lists_ties}
-use Rattle.std.specs.List.Sorted.{IsPermutation, IsSorted}
+use Rattle.std.specs.List.Sorted.{IsPermutation}
 use Rattle.std.specs.Option.{option_cmp, option_eq}
-use Rattle.std.specs.Ordering.{int_cmp, int_eq, is_eq, nat_cmp, on, ordering_then, then_cmp}
+use Rattle.std.specs.Ordering.{int_cmp, int_eq, is_eq, nat_cmp, on, ordering_then}
 use Rattle.std.specs.declared.cmp.Ordering.{Ordering}
 use Rattle.std.specs.declared.cmp.Ordering.TheVariants.{Less, Equal, Greater}
 use Rattle.std.specs.Cmp.{unsigned_ties}
@@ -13,17 +13,12 @@ use Rattle.std.proofs.lemmas.List.Sorted.{IsPermutation-map, IsPermutation-sym}
 use Rattle.ics_calendar.specs.Event.{FileSaid}
 use Rattle.ics_series.specs.declared.version.Version.{Version}
 use Rattle.ics_series.specs.Clocks.{Clock}
-use Rattle.ics_series.specs.Versions.{Label, seen, label_of, placed_in, subject_cmp, is_same, is_followed, lasts, AreChosen}
+use Rattle.ics_series.specs.Versions.{Label, seen, label_cmp, label_of, placed_in, subject_cmp, is_same, is_followed, lasts, AreChosen}
 use Rattle.ics_series.proofs.PlacedLemmas.{placed-in, in-placed}
-use Rattle.ics_series.proofs.SortLemmas.{Climbs, climbs-map, map-climbs, climbs-sorted, followed, in-permutation}
+use Rattle.ics_series.proofs.SortLemmas.{Climbs, climbs-map, map-climbs, followed, in-permutation}
 use Rattle.ics_series.proofs.VersionLemmas.{lasts-chosen, subject_total}
 
-abbrev pub label_cmp : Label → Label → Ordering
-label_cmp =
-    then_cmp (on (λ l. l.subject) subject_cmp)
-    (then_cmp (on (λ l. l.sequence) nat_cmp) (then_cmp (on (λ l. l.spot.file) nat_cmp) (on (λ l. l.spot.place) nat_cmp)))
-
-label_total : IsTotalOrder label_cmp
+pub label_total : IsTotalOrder label_cmp
 label_total =
     then_total (on_total (λ l. l.subject) subject_total)
     (then_total (on_total (λ l. l.sequence) nat_cmp_total)
@@ -64,14 +59,14 @@ module _ {A B : Type 0} (f : A → B) (same : B → B → Bool) where
       ∙ lasts-map-by x xs (is_followed (on f same) x xs) (lasts-map xs)
 
 pub found : (files : List FileSaid) (display : Clock) (vs ws last : List Version) → map seen vs ≡ map (label_of files display) (placed_in 0 files) →
-    IsPermutation vs ws → IsSorted (on seen label_cmp) ws
+    IsPermutation vs ws → Climbs (on seen label_cmp) ws
     → map seen last ≡ lasts is_same (map seen ws) → AreChosen files display last
 found files display vs ws last e p s l =
     let moved = followed (label_of files display) (placed_in 0 files) (map seen vs) (map seen ws) e (IsPermutation-map seen vs ws p) in
     let xs = moved.0 in
     let climbs : Climbs (on (label_of files display) label_cmp) xs =
     climbs-map (label_of files display) label_cmp xs
-    (subst (Climbs label_cmp) (sym moved.2) (map-climbs seen label_cmp ws (climbs-sorted (on seen label_cmp) (on_total seen label_total) ws s))) in
+    (subst (Climbs label_cmp) (sym moved.2) (map-climbs seen label_cmp ws s)) in
     record {
       chosen = lasts (on (label_of files display) is_same) xs;
       listing = lasts-chosen files display (on (label_of files display) is_same) (λ a b. same-ties (label_of files display a) (label_of files display b)) xs

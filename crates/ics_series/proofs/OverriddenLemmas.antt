@@ -1,6 +1,7 @@
 -- Behind a master stand its overrides, in the order of the instances that they override.
 use Rattle.std.specs.Prelude.{⊤, ◌||◌, ◌&&◌, slice_get, if◌then◌else◌}
-use Rattle.std.proofs.Common.{◌≡◌, ℕ, zero, suc, ◌<◌, ◌≤◌, ℤ, List, [], ◌∷◌, ◌++◌, map, length, get_or, drop, Option, Some, None, Bool, true, false, refl, sym}
+use Rattle.std.proofs.Common.{◌≡◌, ◌+◌, add-one, ℕ, zero, suc, ◌<◌, ◌≤◌, ℤ, List, [], ◌∷◌, ◌++◌, map, length, get_or, drop, Option, Some, None, Bool, true}
+use Rattle.std.proofs.Common.{false, refl, sym}
 use Rattle.std.proofs.Common.{◌∙◌, ap, subst}
 use Rattle.std.specs.Cmp.Lexicographic.{slice_cmp}
 use Rattle.std.specs.List.{cons_option, filter_map, list_any}
@@ -34,8 +35,8 @@ abbrev pub version_cmp : Version → Version → Ordering
 version_cmp = on (λ v. subject_seen v.subject) subject_cmp
 
 -- the versions that count stand in the order of their subjects
-pub chosen-order : (files : List FileSaid) (display : Clock) (vs : List Version) → AreChosen files display vs → Rises version_cmp vs
-chosen-order files display vs h = map-rises seen (on (λ l. l.subject) subject_cmp) vs (chosen-rises files display vs h)
+pub chosen-order : {files : List FileSaid} {display : Clock} {vs : List Version} → AreChosen files display vs → Rises version_cmp vs
+chosen-order {vs = vs} h = map-rises seen (on (λ l. l.subject) subject_cmp) vs (chosen-rises h)
 
 -- The end of a rising list.
 module _ {A : Type 0} (R : A → A → Ordering) where
@@ -172,12 +173,12 @@ module _ (uid : List ℕ) where
       (λ x z y v p q e f l. instances-rise x z y v e f l) vs (λ x m. tt) r)
 
 -- The loop over the versions behind a master.
-pub found-step : (uid : List ℕ) (behind : List Version) (i j : ℕ) (d : Version) (before after total : List ℤ) (t : ℤ) → j ≡ suc i → i < length behind →
+pub found-step : (uid : List ℕ) (behind : List Version) (i : ℕ) (d : Version) (before : List ℤ) {after total : List ℤ} {t : ℤ} → i < length behind →
     instance_of uid (subject_seen (get_or behind i d).subject) ≡ Some t → after ≡ before ++ t ∷ []
-    → before ++ found uid (drop i behind) ≡ total → after ++ found uid (drop j behind) ≡ total
-found-step uid behind i j d before after total t next l some more whole =
+    → before ++ found uid (drop i behind) ≡ total → after ++ found uid (drop (i + 1) behind) ≡ total
+found-step uid behind i d before {after = after} {t = t} l some more whole =
     let rest = found uid (drop (suc i) behind) in
-    ap (λ n. after ++ found uid (drop n behind)) next ∙ (ap (λ xs. xs ++ rest) more ∙ (append_assoc before (t ∷ []) rest
+    ap (λ n. after ++ found uid (drop n behind)) (add-one i) ∙ (ap (λ xs. xs ++ rest) more ∙ (append_assoc before (t ∷ []) rest
     ∙ (ap (λ o. before ++ cons_option o rest) (sym some) ∙ (ap (λ vs. before ++ found uid vs) (sym (drop-cons behind i d l)) ∙ whole))))
 
 module _ (uid : List ℕ) (versions behind : List Version) (place : ℕ) (order : Rises version_cmp versions)

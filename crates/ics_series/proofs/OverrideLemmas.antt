@@ -65,16 +65,17 @@ module _ {A B : Type 0} (f : A → B) (R : B → B → Ordering) where
 abbrev label_subject_cmp : Label → Label → Ordering
 label_subject_cmp = on (λ l. l.subject) subject_cmp
 
-pub chosen-rises : (files : List FileSaid) (display : Clock) (vs : List Version) → AreChosen files display vs → Rises label_subject_cmp (map seen vs)
-chosen-rises files display vs h = subst (Rises label_subject_cmp) (sym h.are) (rises-map (label_of files display) label_subject_cmp h.chosen h.listing.rises)
+pub chosen-rises : {files : List FileSaid} {display : Clock} {vs : List Version} → AreChosen files display vs → Rises label_subject_cmp (map seen vs)
+chosen-rises {files = files} {display = display} h =
+    subst (Rises label_subject_cmp) (sym h.are) (rises-map (label_of files display) label_subject_cmp h.chosen h.listing.rises)
 
 -- The overrides among them.
-pub overrides-sorted : (files : List FileSaid) (display : Clock) (vs os : List Version) → AreChosen files display vs →
+pub overrides-sorted : {files : List FileSaid} {display : Clock} {vs : List Version} (os : List Version) → AreChosen files display vs →
     map seen os ≡ filter is_override (map seen vs) → IsSorted (on (λ v. subject_seen v.subject) subject_cmp) os
-overrides-sorted files display vs os h e =
+overrides-sorted {vs = vs} os h e =
     rises-sorted (on (λ v. subject_seen v.subject) subject_cmp) (on_total (λ v. subject_seen v.subject) subject_total) os
     (map-rises seen label_subject_cmp os (subst (Rises label_subject_cmp) (sym e)
-    (rises-filter is_override label_subject_cmp (map seen vs) (chosen-rises files display vs h))))
+    (rises-filter is_override label_subject_cmp (map seen vs) (chosen-rises h))))
 
 -- an instance is named where an override names it
 module _ (uid : List ℕ) (t : ℤ) where

@@ -83,18 +83,18 @@ module _ (files : List FileSaid) (display : Clock) (w : Window) (after : Option 
         (one-key files display w after)
 
   -- so where they were pushed behind the single events
-  pub pushed-listing : (vs : List Version) (singles : List Entry) (lists : List (List Entry)) → AreChosen files display vs →
+  pub pushed-listing : {vs : List Version} (singles : List Entry) {lists : List (List Entry)} → AreChosen files display vs →
       IsListing entry_cmp (IsSingleToCome files display w after) singles → HasLists files display w after (map seen vs) (singles ∷ []) lists
       → IsListing entry_cmp (IsToCome files display w after) (merged entry_cmp lists)
-  pushed-listing vs singles lists chosen single h =
+  pushed-listing {vs = vs} singles chosen single h =
       subst (λ xss. IsListing entry_cmp (IsToCome files display w after) (merged entry_cmp xss)) (sym h.behind)
       (parts-listing vs chosen singles single h.more h.are)
 
 -- there is the whole listing
-pub whole-parts : (files : List FileSaid) (display : Clock) (w : Window) (vs : List Version) → AreChosen files display vs →
+pub whole-parts : {files : List FileSaid} {display : Clock} {vs : List Version} (w : Window) → AreChosen files display vs →
     (lists : List (List Entry)) × AreLists files display w None (map seen vs) lists
     → (list : List Entry) × IsListing entry_cmp (IsListed files display w) list
-whole-parts files display w vs chosen lists =
+whole-parts {files = files} {display = display} {vs = vs} w chosen lists =
     let singles = singles-whole files display w vs chosen in
     (merged entry_cmp (singles.0 ∷ lists.0), parts-listing files display w None vs chosen singles.0 singles.1 lists.0 lists.1)
 

@@ -65,9 +65,18 @@ of-late zones event o e h =
     let starts = h.lasts.starts in
     omega (arith, ints, near, starts)
 
-module _ (files : List FileSaid) (display : Clock) (w : Window) (after : Option Rank) (vs : List Version) (chosen : AreChosen files display vs) (label : Label)
-    (there : IsIn label (map seen vs))
-    (event : Event) (stands : event_at files label.spot ≡ Some event) (recurs : is_single event ≡ false) where
+-- the zones by which a version's times are read, and the instants that the overrides of its event name
+pub record IsRead (files : List FileSaid) (display : Clock) (vs : List Version) (label : Label) (event : Event) (zones : FileZones) (instants : List ℤ) : Type
+    0 where
+  pub clocks : clocks_in zones ≡ clocks_at files display label.spot.file
+  pub is_event : IsEvent event
+  pub overridden : AreOverridden event.uid (map seen vs) instants
+
+module _ {files : List FileSaid} {display : Clock} {vs : List Version} {label : Label} (chosen : AreChosen files display vs)
+    (there : IsIn label (map seen vs)) (r : Recurs files label) where
+  abbrev event : Event
+  event = r.event
+
   abbrev clocks : Clocks
   clocks = clocks_at files display label.spot.file
 
@@ -77,7 +86,7 @@ module _ (files : List FileSaid) (display : Clock) (w : Window) (after : Option 
 
   pub own-event : own.0.event ≡ event
   own-event = some-same own.0.event event (sym (placed-event files own.0 ((chosen.listing.exact own.0).0 own.1).placed)
-      ∙ (ap (λ (l : Label). event_at files l.spot) (sym own.2) ∙ stands))
+      ∙ (ap (λ (l : Label). event_at files l.spot) (sym own.2) ∙ r.stands))
 
   pub own-clocks : clocks_at files display own.0.file ≡ clocks
   own-clocks = ap (λ (l : Label). clocks_at files display l.spot.file) (sym own.2)
@@ -88,20 +97,20 @@ module _ (files : List FileSaid) (display : Clock) (w : Window) (after : Option 
       ap (λ (l : Label). l.subject) own.2
       ∙ ((λ i. record { uid = (own-event i).uid; recurrence = option_map (instant (clocks_at files display own.0.file)) (own-event i).recurrence })
       ∙ ap (λ (r : Option Time). record { uid = event.uid; recurrence = option_map (instant (clocks_at files display own.0.file)) r })
-      (recurring-master event recurs))
+      (recurring-master event r.recurs))
 
-  module _ (zones : FileZones) (read : clocks_in zones ≡ clocks) (is_event : IsEvent event) (since : ℤ) (from : IsSince after event.uid since)
-      (instants : List ℤ) (are : AreOverridden event.uid (map seen vs) instants) where
+  module _ {zones : FileZones} {instants : List ℤ} (read : IsRead files display vs label event zones instants) (w : Window) (after : Option Rank) (since : ℤ)
+      (from : IsSince after event.uid since) where
     named : (o : Entry) → o.event ≡ event → is_kept (map seen vs) o ≡ not (list_any (λ x. int_eq x o.recurrence) instants)
     named o e =
         ap (λ (v : Event). is_some v.recurrence || not (is_named (record { uid = v.uid; recurrence = Some o.recurrence }) (map seen vs))) e
         ∙ (ap (λ (r : Option Time). is_some r || not (is_named (record { uid = event.uid; recurrence = Some o.recurrence }) (map seen vs)))
-        (recurring-master event recurs)
-        ∙ ap not (sym (are o.recurrence)))
+        (recurring-master event r.recurs)
+        ∙ ap not (sym (read.overridden o.recurrence)))
 
     begun : (o : Entry) → IsOf clocks event o → o.start <ℤ w.to → is_after after o ≡ int_le since o.start
     begun o of b =
-        let low = of-late zones event o is_event (subst (λ k. IsOf k event o) (sym read) of) in
+        let low = of-late zones event o read.is_event (subst (λ k. IsOf k event o) (sym read.clocks) of) in
         from o (ap (λ (v : Event). v.uid) of.event) of.recurrence (omega (arith, ints, low)) (omega (arith, ints, b, w.not_late))
 
     met-come : (o : Entry) → IsSeriesMet clocks event w since instants o → IsOfVersion files display w after label o
@@ -112,21 +121,21 @@ module _ (files : List FileSaid) (display : Clock) (w : Window) (after : Option 
           chosen = (chosen.listing.exact own.0).0 own.1;
           is = (
             subst (λ r. IsGivenBy (clocks_at files display own.0.file) own.0.event (option_map (instant (clocks_at files display own.0.file)) r) o)
-                (sym (ap (λ (v : Event). v.recurrence) own-event ∙ recurring-master event recurs))
+                (sym (ap (λ (v : Event). v.recurrence) own-event ∙ recurring-master event r.recurs))
                 (subst (λ v. IsOf (clocks_at files display own.0.file) v o) (sym own-event) (subst (λ k. IsOf k event o) (sym own-clocks) of)),
             m.0.1,
           );
         } in
         let kept = named o of.event ∙ ap not (ap (λ t. list_any (λ x. int_eq x t) instants) of.recurrence ∙ not-among o.start instants m.1.1) in
         record {
-          by = record { event = event; stands = stands; recurs = recurs };
+          by = r;
           of = of;
           to_come = to-come files display w vs chosen after o given kept (begun o of m.0.1.begun ∙ true_int_le since o.start m.1.0);
         }
 
     come-met : (o : Entry) → IsOfVersion files display w after label o → IsSeriesMet clocks event w since instants o
     come-met o h =
-        let same : h.by.event ≡ event = some-same h.by.event event (sym h.by.stands ∙ stands) in
+        let same : h.by.event ≡ event = some-same h.by.event event (sym h.by.stands ∙ r.stands) in
         let of : IsOf clocks event o = subst (λ v. IsOf clocks v o) same h.of in
         let listed = listed-given files display w vs chosen o (come-listed files display w after o h.to_come) in
         let meets = listed.0.is.1 in
@@ -141,10 +150,10 @@ module _ (files : List FileSaid) (display : Clock) (w : Window) (after : Option 
         )
 
     -- what its series gives are its occurrences to come
-    pub series-listing : (list : List Entry) → IsListing entry_cmp (IsSeriesMet (clocks_in zones) event w since instants) list →
+    pub series-listing : {list : List Entry} → IsListing entry_cmp (IsSeriesMet (clocks_in zones) event w since instants) list →
         IsListing entry_cmp (IsOfVersion files display w after label) list
-    series-listing list l =
-        let k = subst (λ k. IsListing entry_cmp (IsSeriesMet k event w since instants) list) read l in record {
+    series-listing {list = list} l =
+        let k = subst (λ k. IsListing entry_cmp (IsSeriesMet k event w since instants) list) read.clocks l in record {
           rises = k.rises;
           exact = λ o. (λ m. met-come o ((k.exact o).0 m), λ h. (k.exact o).1 (come-met o h));
         }
@@ -159,9 +168,9 @@ pub version-there : {A : Type 0} (xs : List A) (k : ℕ) (d x : A) → k < lengt
 version-there xs k d x l e = some-same (get_or xs k d) x (sym (slice_get-get_or xs k d l) ∙ e)
 
 -- an event that starts once does not recur
-pub not-single : (files : List FileSaid) (vs : List Version) (k : ℕ) (d v : Version) → k < length vs → slice_get vs k ≡ Some v
-    → (event : Event) → event_at files (get_or vs k d).spot ≡ Some event → is_single event ≡ true → Recurs files (seen v) → ⊥
-not-single files vs k d v l e event there single r =
+pub not-single : {files : List FileSaid} {v : Version} {event : Event} (vs : List Version) (k : ℕ) (d : Version) → k < length vs → slice_get vs k ≡ Some v
+    → event_at files (get_or vs k d).spot ≡ Some event → is_single event ≡ true → Recurs files (seen v) → ⊥
+not-single {files = files} {v = v} {event = event} vs k d l e there single r =
     let same : r.event ≡ event = some-same r.event event (sym r.stands
     ∙ (ap (λ (v : Version). event_at files v.spot) (sym (version-there vs k d v l e)) ∙ there)) in
     let f : false ≡ true = sym r.recurs ∙ (ap is_single same ∙ single) in cc
@@ -175,28 +184,24 @@ abbrev least : ℤ
 least = neg_ℤ (pos 9_223_372_036_854_775_808)
 
 -- a version whose event recurs has a list of all its occurrences that meet the window
-pub whole-version : (files : List FileSaid) (display : Clock) (w : Window) (vs : List Version) (chosen : AreChosen files display vs) (label : Label)
-    (there : IsIn label (map seen vs))
-    (event : Event) (stands : event_at files label.spot ≡ Some event) (recurs : is_single event ≡ false) (zones : FileZones) (read : clocks_in zones
-    ≡ clocks_at files display label.spot.file) (is_event : IsEvent event)
-    → (instants : List ℤ) → AreOverridden event.uid (map seen vs) instants
-    → (list : List Entry) × IsListing entry_cmp (IsOfVersion files display w None label) list
-whole-version files display w vs chosen label there event stands recurs zones read is_event instants are =
-    let whole = whole-listing zones w event is_event in
-    let kept = listing-filter (λ o. not (list_any (λ x. int_eq x o.start) instants)) entry_cmp (IsEventMet (clocks_in zones) event w)
-    (IsSeriesMet (clocks_in zones) event w least instants) whole.0 whole.1 to from in (
+pub whole-version : {files : List FileSaid} {display : Clock} {vs : List Version} {label : Label} {zones : FileZones} {instants : List ℤ}
+    (chosen : AreChosen files display vs) → IsIn label (map seen vs) → (r : Recurs files label) → IsRead files display vs label r.event zones instants →
+    (w : Window) → (list : List Entry) × IsListing entry_cmp (IsOfVersion files display w None label) list
+whole-version {zones = zones} {instants = instants} chosen there r read w =
+    let whole = whole-listing zones w r.event read.is_event in
+    let kept = listing-filter (λ o. not (list_any (λ x. int_eq x o.start) instants)) entry_cmp (IsEventMet (clocks_in zones) r.event w)
+    (IsSeriesMet (clocks_in zones) r.event w least instants) whole.0 whole.1 to from in (
       filter (λ o. not (list_any (λ x. int_eq x o.start) instants)) whole.0,
-      series-listing files display w None vs chosen label there event stands recurs zones read is_event least (since-none None event.uid refl) instants are
-          (filter (λ o. not (list_any (λ x. int_eq x o.start) instants)) whole.0) kept,
+      series-listing chosen there r read w None least (since-none None r.event.uid refl) kept,
     )
   where
-    low : (o : Entry) → IsEventMet (clocks_in zones) event w o → least ≤ℤ o.start
-    low o m = let l = of-late zones event o is_event m.0 in omega (arith, ints, l)
+    low : (o : Entry) → IsEventMet (clocks_in zones) r.event w o → least ≤ℤ o.start
+    low o m = let l = of-late zones r.event o read.is_event m.0 in omega (arith, ints, l)
 
-    to : (o : Entry) → IsEventMet (clocks_in zones) event w o → not (list_any (λ x. int_eq x o.start) instants) ≡ true →
-        IsSeriesMet (clocks_in zones) event w least instants o
+    to : (o : Entry) → IsEventMet (clocks_in zones) r.event w o → not (list_any (λ x. int_eq x o.start) instants) ≡ true →
+        IsSeriesMet (clocks_in zones) r.event w least instants o
     to o m t = (m, (low o m, λ n. let f : true ≡ false = sym (in-among o.start instants n) ∙ not-true (list_any (λ x. int_eq x o.start) instants) t in cc))
 
-    from : (o : Entry) → IsSeriesMet (clocks_in zones) event w least instants o → IsEventMet (clocks_in zones) event w o
+    from : (o : Entry) → IsSeriesMet (clocks_in zones) r.event w least instants o → IsEventMet (clocks_in zones) r.event w o
         × (not (list_any (λ x. int_eq x o.start) instants) ≡ true)
     from o m = (m.0, ap not (not-among o.start instants m.1.1))

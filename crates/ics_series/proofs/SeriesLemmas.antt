@@ -29,6 +29,7 @@ use Rattle.ics_series.specs.declared.window.Window.{Window}
 use Rattle.ics_series.specs.declared.zones.FileZones.{FileZones}
 use Rattle.ics_series.specs.Clocks.{Clocks}
 use Rattle.ics_series.specs.Entry.{Entry, Rank, entry_cmp, rank_of}
+use Rattle.ics_series.specs.Exclusions.{is_among}
 use Rattle.ics_series.specs.Found.{is_shown, moment_cmp, AreStartsSince, IsStart}
 use Rattle.ics_series.specs.Listing.{IsIn, IsListing}
 use Rattle.ics_series.specs.Meeting.{entry_from}
@@ -36,7 +37,7 @@ use Rattle.ics_series.specs.Merged.{cut, union}
 use Rattle.ics_series.specs.Rising.{IsBefore, Rises}
 use Rattle.ics_series.specs.RuleFeed.{starts_left}
 use Rattle.ics_series.specs.RuleStarts.{gives, lets_until, moment_numbered}
-use Rattle.ics_series.specs.SeriesStarts.{given_of, is_among, has_moment, is_wanted, listed_left, rule_asked, rule_left, wanted_by, AreKnown, HasRuled}
+use Rattle.ics_series.specs.SeriesStarts.{given_of, has_moment, is_wanted, listed_left, rule_asked, rule_left, wanted_by, AreKnown, HasRuled}
 use Rattle.ics_series.specs.SeriesStarts.{HasSameRule, HaveRuled, IsAskedNear, IsGivenAt, IsGivenBy, IsKnown, IsSeriesMet}
 use Rattle.ics_series.specs.Starts.{given_by, local_of, recurrence_of, GivesStart, IsRuleStart}
 use Rattle.ics_series.specs.FileZones.{clocks_in}

@@ -1,19 +1,14 @@
 -- What the versions that count give whose events start once, sorted by key, is the listing of such occurrences to come.
 use Rattle.std.specs.Prelude.{◌==◌, ◌&&◌, ◌||◌, not, is_none, is_some, if◌then◌else◌}
 use Rattle.std.proofs.Common.{◌≡◌, ℤ, List, [], ◌∷◌, map, length, inl, inr, ⊎_elim, Option, Some, None, Bool, true, false, refl, sym, ◌∙◌, ap, subst, arith}
-use Rattle.std.specs.Fn.{Called}
 use Rattle.std.specs.List.{filter, filter_map, list_any}
-use Rattle.std.specs.List.Sorted.{IsPermutation, IsSortedByClosure}
+use Rattle.std.specs.List.Sorted.{IsPermutation}
 use Rattle.std.specs.Option.{option_and_then, option_map}
-use Rattle.std.specs.Ordering.{is_lt, on, ordering_then}
-use Rattle.std.specs.declared.cmp.Ordering.{Ordering}
+use Rattle.std.specs.Ordering.{on, ordering_then}
 use Rattle.std.specs.declared.cmp.Ordering.TheVariants.{Less}
-use Rattle.std.proofs.lemmas.Cmp.{on_total}
 use Rattle.std.proofs.lemmas.Int.{ints}
-use Rattle.std.proofs.lemmas.List.Sorted.{IsPermutation-map, answers_always, ranks_by}
+use Rattle.std.proofs.lemmas.List.Sorted.{IsPermutation-map}
 use Rattle.std.proofs.lemmas.Bool.{and_parts}
-use denote.Param.Members.{Mut}
-use denote.Ref.{Bor}
 use Rattle.ics_calendar.specs.Event.{FileSaid}
 use Rattle.ics_calendar.specs.declared.event.Event.{Event}
 use Rattle.ics_calendar.specs.declared.time.Rdate.{Rdate}
@@ -48,7 +43,7 @@ use Rattle.ics_series.proofs.OverrideLemmas.{named-overrides}
 use Rattle.ics_series.proofs.PickLemmas.{filter_map-map, listing-picked}
 use Rattle.ics_series.proofs.PutLemmas.{listing-ordered}
 use Rattle.ics_series.proofs.SingleLemmas.{first-gives}
-use Rattle.ics_series.proofs.SortLemmas.{climbs-sorted, listing-sorted, map-climbs}
+use Rattle.ics_series.proofs.SortLemmas.{listing-sorted, map-climbs, Climbs}
 use Rattle.ics_series.proofs.StartLaws.{one-start}
 use Rattle.ics_series.proofs.ToComeLemmas.{come-listed, is-after, listed-given, to-come}
 use Rattle.ics_series.proofs.VersionLemmas.{group-total}
@@ -185,13 +180,11 @@ module _ (files : List FileSaid) (display : Clock) (w : Window) (after : Option 
       (p, listed.0.chosen, is-given p listed.0.chosen single (ap (is_to_come w os after) (sym is) ∙ comes) ∙ ap Some (sym is))
 
 -- The versions that count give the listing.
-pub singles-listing : {F : Type 0} {g : Mut F (Bor Single × (Bor Single × Unit {0})) Ordering} {f : F} (files : List FileSaid) (display : Clock) (w : Window)
-    (after : Option Rank) (vs os : List Version) (given sorted : List Single) → AreChosen files display vs → map seen os ≡ filter is_override (map seen vs)
+pub singles-listing : {files : List FileSaid} {display : Clock} {vs : List Version} (w : Window) (after : Option Rank) (os : List Version)
+    (given sorted : List Single) → AreChosen files display vs → map seen os ≡ filter is_override (map seen vs)
     → map single_entry given ≡ filter_map (single_at files display w (map seen os) after) (map seen vs) → IsPermutation given sorted
-    → IsSortedByClosure g f sorted → ((f : F) (a : Bor Single × (Bor Single × Unit {0})) (r : Ordering) (f' : F) → Called g f a r f' →
-    r ≡ entry_cmp (single_entry a.0.now) (single_entry a.1.0.now))
-    → IsListing entry_cmp (IsSingleToCome files display w after) (map single_entry sorted)
-singles-listing {g = g} {f = f} files display w after vs os given sorted chosen overrides are p s h =
+    → Climbs (on single_entry entry_cmp) sorted → IsListing entry_cmp (IsSingleToCome files display w after) (map single_entry sorted)
+singles-listing {files = files} {display = display} {vs = vs} w after os given sorted chosen overrides are p climbs =
     let label = label_of files display in
     let one = single_at files display w (map seen os) after in
     let picked : filter_map (λ p. single_at files display w (map seen os) after (label_of files display p)) chosen.chosen ≡ map single_entry given =
@@ -201,11 +194,7 @@ singles-listing {g = g} {f = f} files display w after vs os given sorted chosen 
     (given-come files display w after vs (map seen os) chosen overrides) (come-given files display w after vs (map seen os) chosen overrides) in
     listing-sorted given_cmp given_total entry_cmp (IsSingleToCome files display w after) (λ x y a b e. tied-given files display w after x y a.0 b.0 e)
     (map single_entry given) (map single_entry sorted) (subst (IsListing given_cmp (IsSingleToCome files display w after)) picked found)
-    (IsPermutation-map single_entry given sorted p)
-    (map-climbs single_entry entry_cmp sorted
-    (climbs-sorted (on single_entry entry_cmp) (on_total single_entry entry_total) sorted
-    (s (λ x y. is_lt (on single_entry entry_cmp x y)) (ranks_by entry_total single_entry)
-    (answers_always g (λ a r. is_lt r ≡ is_lt (entry_cmp (single_entry a.0.now) (single_entry a.1.0.now))) f (λ k a r f' c. ap is_lt (h k a r f' c))))))
+    (IsPermutation-map single_entry given sorted p) (map-climbs single_entry entry_cmp sorted climbs)
 
 -- and all that meet the window have a list
 pub singles-whole : (files : List FileSaid) (display : Clock) (w : Window) (vs : List Version) → AreChosen files display vs →

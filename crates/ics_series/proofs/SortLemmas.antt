@@ -3,15 +3,18 @@ use Rattle.std.specs.Prelude.{⊤, zero, suc}
 use Rattle.std.proofs.Common.{◌≡◌, ℕ, ◌+◌, ◌<◌, ◌≤◌, List, [], ◌∷◌, map, length, get_or, set, inl, inr, ⊎_elim, false, refl, sym, ◌∙◌, ap, arith}
 use Rattle.std.specs.Cmp.{IsTotalOrder}
 use Rattle.std.specs.List.{Contains, swap, sum_by}
-use Rattle.std.specs.List.Sorted.{IsPermutation, IsSorted}
+use Rattle.std.specs.Fn.{Called}
+use Rattle.std.specs.List.Sorted.{IsPermutation, IsSorted, IsSortedByClosure}
 use Rattle.std.specs.Ordering.{is_gt, is_lt, on, ordering_reverse}
 use Rattle.std.specs.declared.cmp.Ordering.{Ordering}
 use Rattle.std.specs.declared.cmp.Ordering.TheVariants.{Less, Equal, Greater}
 use Rattle.std.proofs.lemmas.Cmp.{tied_itself}
 use Rattle.std.proofs.lemmas.List.Sorted.{Contains-permutation, IsPermutation-keeps, IsPermutation-refl, IsPermutation-swap, IsPermutation-sym}
-use Rattle.std.proofs.lemmas.List.Sorted.{IsPermutation-trans, ranks_by, sorted_far, sum_by-IsPermutation}
+use Rattle.std.proofs.lemmas.List.Sorted.{IsPermutation-trans, answers_always, ranks_by, sorted_far, sum_by-IsPermutation}
 use Rattle.std.proofs.lemmas.List.{get_or-map, length-map, map-set}
 use Rattle.std.proofs.lemmas.List.Sums.{sum_by-cons}
+use denote.Param.Members.{Mut}
+use denote.Ref.{Bor}
 use Rattle.ics_series.specs.Rising.{IsBefore, Rises}
 use Rattle.ics_series.specs.Listing.{IsIn, IsListing}
 
@@ -68,6 +71,14 @@ module _ {A : Type 0} (R : A → A → Ordering) (o : IsTotalOrder R) where
 
   pub climbs-sorted : (xs : List A) → IsSorted R xs → Climbs R xs
   climbs-sorted xs h = climbs xs (λ i j d a b. sorted_far (λ x y. is_lt (R x y)) (ranks_by o (λ x. x)) xs h i j d a b)
+
+  -- what a sort by a function leaves
+  pub climbs-by : {F : Type 0} {g : Mut F (Bor A × (Bor A × Unit {0})) Ordering} {f : F} (xs : List A) → IsSortedByClosure g f xs
+      → ((f : F) (a : Bor A × (Bor A × Unit {0})) (r : Ordering) (f' : F) → Called g f a r f' → r ≡ R a.0.now a.1.0.now) → Climbs R xs
+  climbs-by {g = g} {f = f} xs s h =
+      climbs-sorted xs
+      (s (λ x y. is_lt (R x y)) (ranks_by o (λ x. x))
+      (answers_always g (λ a r. is_lt r ≡ is_lt (R a.0.now a.1.0.now)) f (λ k a r f' c. ap is_lt (h k a r f' c))))
 
 -- A list that is mapped.
 module _ {A B : Type 0} (f : A → B) where

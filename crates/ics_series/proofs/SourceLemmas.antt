@@ -1,5 +1,5 @@
 -- The masters that recur among the versions that count, one after the other.
-use Rattle.std.specs.Prelude.{◌≤ℤ◌, count_by}
+use Rattle.std.specs.Prelude.{◌≤ℤ◌, count_by, slice_get}
 use Rattle.std.specs.List.{AllByRecursion}
 use Rattle.std.specs.Cmp.{IsTotalOrder}
 use Rattle.std.specs.Cmp.Lexicographic.{slice_cmp}
@@ -7,7 +7,7 @@ use Rattle.std.specs.Int.{saturate_signed, w64}
 use Rattle.std.specs.Ordering.{nat_cmp, on, ordering_then}
 use Rattle.std.specs.declared.cmp.Ordering.{Ordering}
 use Rattle.std.specs.declared.cmp.Ordering.TheVariants.{Less, Equal, Greater}
-use Rattle.std.proofs.Common.{◌≡◌, ℕ, zero, suc, ◌<◌, ◌≤◌, ℤ, pos, negsuc, ◌+ℤ◌, false, cond, List, [], ◌∷◌, ◌++◌, map, length, get_or, take, inl, inr, ⊎_elim}
+use Rattle.std.proofs.Common.{◌≡◌, ℕ, zero, suc, ◌+◌, ◌≤◌, ℤ, pos, negsuc, ◌+ℤ◌, false, cond, List, [], ◌∷◌, ◌++◌, map, length, take, inl, inr, ⊎_elim}
 use Rattle.std.proofs.Common.{Option, Some, None, refl, sym, ◌∙◌, ap, subst, arith}
 use Rattle.std.proofs.lemmas.Cmp.{on_total}
 use Rattle.std.proofs.lemmas.Int.{ints}
@@ -22,7 +22,7 @@ use Rattle.ics_series.specs.Chosen.{SubjectSeen}
 use Rattle.ics_series.specs.Clocks.{Clock}
 use Rattle.ics_series.specs.Entry.{Rank}
 use Rattle.ics_series.specs.Listing.{IsIn}
-use Rattle.ics_series.specs.Masters.{HasSources, IsSource, IsSourceOf}
+use Rattle.ics_series.specs.Masters.{HasSources, IsSource, IsSourceOf, Recurs}
 use Rattle.ics_series.specs.Rising.{IsBefore, Rises}
 use Rattle.ics_series.specs.Singles.{is_single}
 use Rattle.ics_series.specs.Sources.{is_once, recurring, uid_cmp, AreSources, IsFrom, IsMasterOf, Recurring, Source}
@@ -33,7 +33,7 @@ use Rattle.ics_series.proofs.ListingLemmas.{before-in}
 use Rattle.ics_series.proofs.OverrideLemmas.{chosen-rises}
 use Rattle.ics_series.proofs.PlacedLemmas.{in-append_left, in-append_right}
 use Rattle.ics_series.proofs.PushLemmas.{taken}
-use Rattle.ics_series.proofs.RecurringLemmas.{own-clocks, own-event, own-subject, recurring-master, own}
+use Rattle.ics_series.proofs.RecurringLemmas.{own-clocks, own-event, own-subject, recurring-master, own, there-in}
 use Rattle.ics_series.proofs.VersionLemmas.{subject_total}
 
 -- one more behind all of a rising list
@@ -51,19 +51,12 @@ all-as P Q [] f h = tt
 all-as P Q (x ∷ xs) f h = (f x h.0, all-as P Q xs f h.1)
 
 -- those that stand before a place come before what stands there
-at-in : {A B : Type 0} (f : A → B) (xs : List A) (i : ℕ) (d : A) → i < length xs → IsIn (f (get_or xs i d)) (map f xs)
-at-in f [] i d l = let no : ⊥ = omega (arith, l) in absurd no
-at-in f (x ∷ xs) zero d l = inl refl
-at-in f (x ∷ xs) (suc i) d l = inr (at-in f xs i d (omega (arith, l)))
-
-before-at : {A B : Type 0} (R : B → B → Ordering) (o : IsTotalOrder R) (f : A → B) (xs : List A) (i : ℕ) (d : A) (y : B) → i < length xs → Rises R (map f xs) →
-    IsIn y (map f (take i xs)) → R y (f (get_or xs i d)) ≡ Less
-before-at R o f [] i d y l r m = let no : ⊥ = omega (arith, l) in absurd no
-before-at R o f (x ∷ xs) zero d y l r m = absurd m
-before-at R o f (x ∷ xs) (suc i) d y l r m =
-    ⊎_elim
-    (λ e. ap (λ z. R z (f (get_or xs i d))) e ∙ before-in R o (f x) (f (get_or xs i d)) (map f xs) r.0 (at-in f xs i d (omega (arith, l))))
-    (λ n. before-at R o f xs i d y (omega (arith, l)) r.1 n) m
+module _ {A B : Type 0} (R : B → B → Ordering) (o : IsTotalOrder R) (f : A → B) where
+  before-at : (xs : List A) (i : ℕ) (v : A) (y : B) → slice_get xs i ≡ Some v → Rises R (map f xs) → IsIn y (map f (take i xs)) → R y (f v) ≡ Less
+  before-at [] i v y e r m = let n : None ≡ Some v = e in absurd cc
+  before-at (x ∷ xs) zero v y e r m = absurd m
+  before-at (x ∷ xs) (suc i) v y e r m =
+      ⊎_elim (λ s. ap (λ z. R z (f v)) s ∙ before-in R o (f x) (f v) (map f xs) r.0 (there-in f xs i v e)) (λ n. before-at xs i v y e r.1 n) m
 
 then-none : (c : Ordering) → ordering_then c Equal ≡ c
 then-none Less = refl
@@ -93,100 +86,96 @@ from-by after key t e l = subst (λ a. IsFrom a t) (sym e) l
 pub from-none : (after : Option Rank) (t : ℤ) → after ≡ None → IsFrom after t
 from-none after t e = subst (λ a. IsFrom a t) (sym e) tt
 
-module _ (files : List FileSaid) (display : Clock) (w : Window) (after : Option Rank) where
+in-taken : (vs : List Version) (i : ℕ) (l : Label) → IsIn l (map seen (take i vs)) → IsIn l (map seen vs)
+in-taken [] zero l m = absurd m
+in-taken [] (suc i) l m = absurd m
+in-taken (x ∷ xs) zero l m = absurd m
+in-taken (x ∷ xs) (suc i) l m = ⊎_elim inl (λ n. inr (in-taken xs i l n)) m
+
+recurring-of : (ms : List Recurring) → recurring (map Of ms) ≡ ms
+recurring-of [] = refl
+recurring-of (m ∷ ms) = ap (λ xs. m ∷ xs) (recurring-of ms)
+
+none-once : (ms : List Recurring) → count_by is_once (map Of ms) ≡ 0
+none-once [] = refl
+none-once (m ∷ ms) = none-once ms
+
+module _ {files : List FileSaid} {display : Clock} {w : Window} {after : Option Rank} where
   pub sources-none : (before : List Source) → HasSources files display w after [] before before
   sources-none before = record { more = []; each = tt; rises = tt; behind = sym (append-nil before) }
+
+  abbrev recurs-of : (label : Label) (m : Recurring) → IsSourceOf files display w after label m → Recurs files label
+  recurs-of label m h = record { event = m.event; stands = h.stands; recurs = h.recurs }
 
   wider : (labels : List Label) (l : Label) (m : Recurring) → IsSource files display w after labels m → IsSource files display w after (labels ++ l ∷ []) m
   wider labels l m h = record { label = h.label; stands = in-append_left h.label labels (l ∷ []) h.stands; is = h.is }
 
-  module _ (vs : List Version) (chosen : AreChosen files display vs) where
+  module _ {vs : List Version} (chosen : AreChosen files display vs) where
     subject-of : (label : Label) → IsIn label (map seen vs) → (m : Recurring) → IsSourceOf files display w after label m →
         label.subject ≡ record { uid = m.event.uid; recurrence = None }
-    subject-of label there m h = own-subject files display w after vs chosen label there m.event h.stands h.recurs
+    subject-of label there m h = own-subject chosen there (recurs-of label m h)
 
-    in-taken : (i : ℕ) (l : Label) → IsIn l (map seen (take i vs)) → IsIn l (map seen vs)
-    in-taken i l m = by vs i m
-      where
-        by : (xs : List Version) (i : ℕ) → IsIn l (map seen (take i xs)) → IsIn l (map seen xs)
-        by [] zero m = absurd m
-        by [] (suc i) m = absurd m
-        by (x ∷ xs) zero m = absurd m
-        by (x ∷ xs) (suc i) m = ⊎_elim inl (λ n. inr (by xs i n)) m
-
-    earlier : (i : ℕ) (d : Version) (m n : Recurring) → i < length vs → IsSource files display w after (map seen (take i vs)) m →
-        IsSourceOf files display w after (seen (get_or vs i d)) n → uid_cmp m n ≡ Less
-    earlier i d m n l h k =
-        let before = before-at (on (λ (x : Label). x.subject) subject_cmp) (on_total (λ (x : Label). x.subject) subject_total) seen vs i d h.label l
-        (chosen-rises files display vs chosen) h.stands in
+    earlier : (i : ℕ) {v : Version} (m n : Recurring) → slice_get vs i ≡ Some v → IsSource files display w after (map seen (take i vs)) m →
+        IsSourceOf files display w after (seen v) n → uid_cmp m n ≡ Less
+    earlier i {v = v} m n there h k =
+        let before = before-at (on (λ (x : Label). x.subject) subject_cmp) (on_total (λ (x : Label). x.subject) subject_total) seen vs i v h.label there
+        (chosen-rises chosen) h.stands in
         masters-less m.event.uid n.event.uid
-        (ap (λ s. subject_cmp s (record { uid = n.event.uid; recurrence = None })) (sym (subject-of h.label (in-taken i h.label h.stands) m h.is))
-        ∙ (ap (subject_cmp h.label.subject) (sym (subject-of (seen (get_or vs i d)) (at-in seen vs i d l) n k)) ∙ before))
+        (ap (λ s. subject_cmp s (record { uid = n.event.uid; recurrence = None })) (sym (subject-of h.label (in-taken vs i h.label h.stands) m h.is))
+        ∙ (ap (subject_cmp h.label.subject) (sym (subject-of (seen v) (there-in seen vs i v there) n k)) ∙ before))
 
-    pub sources-more : (i j : ℕ) (d : Version) (m : Recurring) (before now new : List Source) → j ≡ suc i → i < length vs →
-        HasSources files display w after (map seen (take i vs)) before now
-        → IsSourceOf files display w after (seen (get_or vs i d)) m → new ≡ now ++ Of m ∷ [] →
-        HasSources files display w after (map seen (take j vs)) before new
-    sources-more i j d m before now new next l h k e =
-        subst (λ ls. HasSources files display w after ls before new) (taken files display w after vs i j d next l)
+    pub sources-more : (i : ℕ) {v : Version} {m : Recurring} {before now new : List Source} → slice_get vs i ≡ Some v →
+        HasSources files display w after (map seen (take i vs)) before now → IsSourceOf files display w after (seen v) m
+        → new ≡ now ++ Of m ∷ [] → HasSources files display w after (map seen (take (i + 1) vs)) before new
+    sources-more i {v = v} {m = m} {before = before} {new = new} there h k e =
+        subst (λ ls. HasSources files display w after ls before new) (taken vs i there)
         (record {
           more = h.more ++ m ∷ [];
-          each = all-pushed (IsSource files display w after (map seen (take i vs) ++ seen (get_or vs i d) ∷ [])) h.more m
-              (all-as (IsSource files display w after (map seen (take i vs)))
-              (IsSource files display w after (map seen (take i vs) ++ seen (get_or vs i d) ∷ [])) h.more
-              (wider (map seen (take i vs)) (seen (get_or vs i d))) h.each)
+          each = all-pushed (IsSource files display w after (map seen (take i vs) ++ seen v ∷ [])) h.more m
+              (all-as (IsSource files display w after (map seen (take i vs))) (IsSource files display w after (map seen (take i vs) ++ seen v ∷ [])) h.more
+              (wider (map seen (take i vs)) (seen v)) h.each)
               (record {
-                label = seen (get_or vs i d);
-                stands =
-                    in-append_right (seen (get_or vs i d)) (map seen (take i vs)) (seen (get_or vs i d) ∷ []) (inl refl);
+                label = seen v;
+                stands = in-append_right (seen v) (map seen (take i vs)) (seen v ∷ []) (inl refl);
                 is = k;
               });
           rises = rises-more uid_cmp h.more m h.rises (all-as (IsSource files display w after (map seen (take i vs))) (λ x. uid_cmp x m ≡ Less) h.more
-              (λ x s. earlier i d x m l s k) h.each);
+              (λ x s. earlier i x m there s k) h.each);
           behind = e ∙ (ap (λ xs. xs ++ Of m ∷ []) h.behind
               ∙ (append_assoc before (map Of h.more) (Of m ∷ []) ∙ ap (λ xs. before ++ xs) (sym (map-append Of h.more (m ∷ [])))));
         })
 
-    pub sources-skip : (i j : ℕ) (d : Version) (before now : List Source) → j ≡ suc i → i < length vs →
-        HasSources files display w after (map seen (take i vs)) before now → HasSources files display w after (map seen (take j vs)) before now
-    sources-skip i j d before now next l h =
-        subst (λ ls. HasSources files display w after ls before now) (taken files display w after vs i j d next l)
+    pub sources-skip : (i : ℕ) {v : Version} {before now : List Source} → slice_get vs i ≡ Some v →
+        HasSources files display w after (map seen (take i vs)) before now → HasSources files display w after (map seen (take (i + 1) vs)) before now
+    sources-skip i {v = v} {before = before} {now = now} there h =
+        subst (λ ls. HasSources files display w after ls before now) (taken vs i there)
         (record {
           more = h.more;
-          each = all-as (IsSource files display w after (map seen (take i vs)))
-              (IsSource files display w after (map seen (take i vs) ++ seen (get_or vs i d) ∷ [])) h.more (wider (map seen (take i vs)) (seen (get_or vs i d)))
-              h.each;
+          each = all-as (IsSource files display w after (map seen (take i vs))) (IsSource files display w after (map seen (take i vs) ++ seen v ∷ [])) h.more
+              (wider (map seen (take i vs)) (seen v)) h.each;
           rises = h.rises;
           behind = h.behind;
         })
 
-    pub sources-all : (i : ℕ) (before now : List Source) → length vs ≤ i → HasSources files display w after (map seen (take i vs)) before now →
+    pub sources-all : (i : ℕ) {before now : List Source} → length vs ≤ i → HasSources files display w after (map seen (take i vs)) before now →
         HasSources files display w after (map seen vs) before now
-    sources-all i before now l h = subst (λ xs. HasSources files display w after (map seen xs) before now) (take_all i vs l) h
+    sources-all i {before = before} {now = now} l h = subst (λ xs. HasSources files display w after (map seen xs) before now) (take_all i vs l) h
 
     master-of : (m : Recurring) → IsSource files display w after (map seen vs) m → IsMasterOf files display w after m
     master-of m h =
-        let o = own files display w after vs chosen h.label h.stands m.event h.is.stands h.is.recurs in
-        let same = own-event files display w after vs chosen h.label h.stands m.event h.is.stands h.is.recurs in record {
+        let o = own chosen h.stands (recurs-of h.label m h.is) in
+        let same = own-event chosen h.stands (recurs-of h.label m h.is) in record {
           by = o.0;
           is = record { chosen = (chosen.listing.exact o.0).0 o.1; single = ap (λ (e : Event). e.recurrence) same ∙ recurring-master m.event h.is.recurs };
           event = sym same;
-          clocks = h.is.clocks ∙ sym (own-clocks files display w after vs chosen h.label h.stands m.event h.is.stands h.is.recurs);
+          clocks = h.is.clocks ∙ sym (own-clocks chosen h.stands (recurs-of h.label m h.is));
           window = h.is.window;
           since = h.is.since;
         }
 
-    recurring-of : (ms : List Recurring) → recurring (map Of ms) ≡ ms
-    recurring-of [] = refl
-    recurring-of (m ∷ ms) = ap (λ xs. m ∷ xs) (recurring-of ms)
-
-    none-once : (ms : List Recurring) → count_by is_once (map Of ms) ≡ 0
-    none-once [] = refl
-    none-once (m ∷ ms) = none-once ms
-
     -- behind the events that start once
-    pub sources-behind : (sources : List Source) → HasSources files display w after (map seen vs) (Once ∷ []) sources → AreSources files display w after sources
-    sources-behind sources h =
+    pub sources-behind : {sources : List Source} → HasSources files display w after (map seen vs) (Once ∷ []) sources → AreSources files display w after sources
+    sources-behind h =
         subst (AreSources files display w after) (sym h.behind)
         (record {
           apart = (

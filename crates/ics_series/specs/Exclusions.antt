@@ -41,9 +41,13 @@ is_excluded clocks event t = list_any (λ exdate. excludes clocks event.start ex
 abbrev pub is_day_in : Clock → List ℤ → ℤ → Bool
 is_day_in clock days t = list_any (λ day. int_eq day (shown_day clock t)) days
 
+-- one of these instants is this one
+abbrev pub is_among : List ℤ → ℤ → Bool
+is_among instants t = list_any (λ x. int_eq x t) instants
+
 -- these instants, or these days by a clock, remove a start at this instant
 abbrev pub takes_out : Clock → List ℤ → List ℤ → ℤ → Bool
-takes_out clock instants days t = list_any (λ x. int_eq x t) instants || is_day_in clock days t
+takes_out clock instants days t = is_among instants t || is_day_in clock days t
 
 -- of the starts before the window's end, they remove those that the EXDATEs remove
 abbrev pub AreExclusions : Clocks → Event → Window → List ℤ → List ℤ → Type 0

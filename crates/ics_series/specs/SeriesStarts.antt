@@ -22,6 +22,7 @@ use Rattle.ics_series.specs.declared.window.Window.{Window}
 use Rattle.ics_series.specs.declared.zones.FileZones.{FileZones}
 use Rattle.ics_series.specs.Clocks.{Clocks, instant}
 use Rattle.ics_series.specs.Entry.{Entry}
+use Rattle.ics_series.specs.Exclusions.{is_among}
 use Rattle.ics_series.specs.Found.{earliest, is_shown, listed_from, moment_cmp, start_at}
 use Rattle.ics_series.specs.Listing.{IsIn}
 use Rattle.ics_series.specs.Meeting.{entry_from}
@@ -95,10 +96,6 @@ HasOwnRule zones event w first (Some s) = IsOwnRule zones event w first s
 -- the instant from which on a series needs starts
 abbrev pub first_of : Clocks → Window → Event → ℤ → ℤ
 first_of clocks w event since = first_asked clocks w event since (listed_apart clocks w event event.rule)
-
--- one of these instants is this one
-abbrev pub is_among : List ℤ → ℤ → Bool
-is_among instants t = list_any (λ x. int_eq x t) instants
 
 -- the occurrence is shown, begins at this instant or later, and does not start at one of these
 abbrev pub is_wanted : Clocks → Window → Event → ℤ → List ℤ → Entry → Bool

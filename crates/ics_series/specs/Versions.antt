@@ -59,6 +59,12 @@ by_subject files display = on (subject_of files display) subject_cmp
 abbrev pub version_cmp : List FileSaid → Clock → Placed → Placed → Ordering
 version_cmp files display = then_cmp (by_subject files display) placed_cmp
 
+-- by subject, then by SEQUENCE, file and place
+abbrev pub label_cmp : Label → Label → Ordering
+label_cmp =
+    then_cmp (on (λ l. l.subject) subject_cmp)
+    (then_cmp (on (λ l. l.sequence) nat_cmp) (then_cmp (on (λ l. l.spot.file) nat_cmp) (on (λ l. l.spot.place) nat_cmp)))
+
 abbrev pub is_same : Label → Label → Bool
 is_same a b = bytes_eq a.subject.uid b.subject.uid && option_eq int_eq a.subject.recurrence b.subject.recurrence
 

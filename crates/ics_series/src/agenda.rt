@@ -21,10 +21,10 @@ ghost use Rattle.ics_series.specs.AgendaParts.{part_coming, part_sources};
 ghost use Rattle.ics_series.specs.Sources.{master_of, recurring, AreApart, AreApart-prop, AreSources, Recurring};
 ghost use Rattle.ics_series.specs.Steps.{HasStepBound};
 ghost use Rattle.ics_series.specs.Uids.{AreSortedFrom};
-ghost use Rattle.ics_series.specs.Versions.{seen, subject_cmp, subject_seen, AreChosen};
+ghost use Rattle.ics_series.specs.Versions.{seen, subject_cmp, subject_seen};
 ghost use Rattle.ics_series.specs.declared.window.Window.{Window};
 
-use crate::chosen::{chosen, is_named, overrides};
+use crate::chosen::{chosen, is_named};
 use crate::feed::{Coming, Feed};
 use crate::key::Key;
 use crate::masters::push_series;
@@ -68,8 +68,7 @@ impl<'a> Agenda<'a> {
         ensures whole { IfOk result (λ _. (w : Window) → (list : List Entry)
             × IsListing entry_cmp (IsListed (map said_by files.entry.now) (display_clock display.entry.now) w) list) }
     {
-        let chosen = chosen(alloc, files, display)?;
-        let parts = parts(alloc, files, display, &chosen, window, after)?;
+        let parts = parts(alloc, files, display, window, after)?;
         let merge = Merge::of_sorted(alloc, parts, 1)?;
         Ok(Agenda { merge })
     }
@@ -87,8 +86,7 @@ impl<'a> Agenda<'a> {
         ensures whole { IfOk result (λ _. (w : Window) → (list : List Entry)
             × IsListing entry_cmp (IsListed (map said_by files.entry.now) (display_clock display.entry.now) w) list) }
     {
-        let chosen = chosen(alloc, files, display)?;
-        let mut parts = parts(alloc, files, display, &chosen, window, None)?;
+        let mut parts = parts(alloc, files, display, window, None)?;
         parts.clear();
         let merge = Merge::new(alloc, parts)?;
         Ok(Agenda { merge })
@@ -125,11 +123,9 @@ fn parts<'a>(
     alloc: Global,
     files: &'a [FileEvents],
     display: &'a Display,
-    chosen: &[Version<'_>],
     window: Window,
     after: Option<&Key>,
 ) -> Result<Vec<Part<'a>>, AllocError>
-    requires chosen { AreChosen (map said_by files.now) (display_clock display.now) chosen.now }
     ensures listing { IfOk result (λ parts. IsListing entry_cmp
         (IsToCome (map said_by files.entry.now) (display_clock display.entry.now) window
         (option_map (λ key. key_rank key.now) after.entry))
@@ -140,11 +136,11 @@ fn parts<'a>(
         × IsListing entry_cmp (IsListed (map said_by files.entry.now) (display_clock display.entry.now) w) list) }
     ensures sorted { IfOk result (λ parts. AreSortedFrom 1 (map part_coming parts.items)) }
 {
-    let overrides = overrides(alloc, chosen)?;
-    let singles = Singles::new(alloc, files, display, chosen, &overrides, &window, after)?;
+    let chosen = chosen(alloc, files, display)?;
+    let singles = Singles::new(alloc, files, display, &chosen, &window, after)?;
     let mut parts = Vec::new(alloc);
     parts.push(Part::Singles(singles))?;
-    push_series(alloc, &mut parts, files, display, chosen, window, after)?;
+    push_series(alloc, &mut parts, files, display, &chosen, window, after)?;
     Ok(parts)
 }
 

@@ -21,7 +21,7 @@ pub(crate) fn chosen<'a>(
     ensures { IfOk result (λ chosen. AreChosen (map said_by files.entry.now) (display_clock display.now) chosen.items) }
 {
     let mut versions = versions(alloc, files, display)?;
-    versions.sort_unstable();
+    versions.sort_unstable_by(Version::compare);
     last_of_each(alloc, &versions)
 }
 

@@ -55,15 +55,7 @@ fn split(text: &str) -> Option<(i32, &str)>
     ensures { (day : ℤ) (rest : List ℕ) → FitsSigned w32 day → text.now ≡ codes "K2." ++ (signed_decimal day ++ (46 ∷ rest))
         → IsSomeAnd result (λ parts. (parts.0 ≡ day) × (parts.1.now ≡ rest)) }
 {
-    let (day, rest) = field(body(text)?)?;
+    let (day, rest) = field(text.strip_prefix("K2.")?)?;
     let day = i32::try_from(day).ok()?;
     Some((day, rest))
-}
-
-// The text after the prefix `K2.`.
-fn body(text: &str) -> Option<&str>
-    ensures { (rest : List ℕ) → text.now ≡ codes "K2." ++ rest → IsSomeAnd result (λ part. part.now ≡ rest) }
-{
-    let (form, rest) = text.split_once('.')?;
-    if form == "K2" { Some(rest) } else { None }
 }

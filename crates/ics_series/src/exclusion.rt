@@ -3,7 +3,7 @@ ghost use Rattle.std.specs.Prelude.{◌≡◌, ◌<ℤ◌, ◌≤ℤ◌, ◌+ℤ
 ghost use Rattle.std.specs.List.Sorted.{IsSorted};
 ghost use Rattle.std.specs.Ordering.{int_cmp};
 ghost use Rattle.ics_series.specs.Clocks.{clock_of, instant};
-ghost use Rattle.ics_series.specs.Exclusions.{excludes, is_day_in, shown_day, takes_out, with_instant};
+ghost use Rattle.ics_series.specs.Exclusions.{excludes, is_among, is_day_in, shown_day, takes_out, with_instant};
 ghost use Rattle.ics_series.specs.FileZones.{clocks_in, is_past, IsTimeOf};
 ghost use Rattle.ics_values.specs.Locals.{day_of_local};
 ghost use Rattle.ics_series.specs.WindowBounds.{window_last, occurrence_first};
@@ -67,7 +67,7 @@ impl Exclusions {
         ensures { result ≡ takes_out (clock_of (clocks_in zones.entry) first)
             self.now.instants.items self.now.days.items moment }
     {
-        self.instants.binary_search(&moment).is_ok() || self.has_day(zones, first, moment)
+        is_among(&self.instants, moment) || self.has_day(zones, first, moment)
     }
 
     // Whether the day that a time's clock shows at an instant is removed.
@@ -83,6 +83,14 @@ impl Exclusions {
         let day = shown_day(zones, first, moment);
         self.days.binary_search(&day).is_ok()
     }
+}
+
+/// Whether an instant is one of a list in order.
+pub(crate) fn is_among(instants: &[Moment], moment: Moment) -> bool
+    requires { IsSorted int_cmp instants.now }
+    ensures { result ≡ is_among instants.now moment }
+{
+    instants.binary_search(&moment).is_ok()
 }
 
 // Adds what an EXDATE removes from an event with this DTSTART. If the event has dates, a value of any

@@ -1,5 +1,5 @@
 //! A feed whose first occurrence is known.
-ghost use Rattle.std.specs.Prelude.{◌≡◌, ◌-◌, ◌^◌, length, min, IfOk, OnErr, OnOk};
+ghost use Rattle.std.specs.Prelude.{◌≡◌, ◌-◌, ◌^◌, length, min, OnErr, OnOk};
 ghost use Rattle.ics_series.specs.Leads.{listed, AreNear, IsAhead, IsAhead-prop};
 
 use crate::feed::{Coming, Feed};
@@ -14,17 +14,6 @@ pub(crate) struct Lead<'a, F: Coming> {
     // None if nothing is left.
     pub(crate) head: Option<Occurrence<'a>>,
     pub(crate) ghost ahead: { IsAhead head (F.coming feed) } by { IsAhead-prop head (F.coming feed) },
-}
-
-impl<'a, F: Feed<'a> + Drop> Lead<'a, F> {
-    pub(crate) fn new(mut feed: F) -> Result<Lead<'a, F>, AllocError>
-        ensures listed { IfOk result (λ lead. listed lead.head (F.coming lead.feed) ≡ F.coming feed) }
-        ensures sources { IfOk result (λ lead. F.sources lead.feed ≡ F.sources feed) }
-        ensures near { IfOk result (λ lead. AreNear (F.near lead.feed) (listed lead.head (F.coming lead.feed))) }
-    {
-        let head = feed.next()?;
-        Ok(Lead { feed, head })
-    }
 }
 
 impl<'a, F: Feed<'a>> Lead<'a, F> {

@@ -66,9 +66,10 @@ impl<'a, F: Feed<'a> + Drop> Merge<'a, F> {
         ensures coming { IfOk result (λ merge. ⟦<Merge<'a, F> as Coming>⟧.coming merge ≡ merged entry_cmp (map F.coming feeds.items)) }
         ensures sources { IfOk result (λ merge. ⟦<Merge<'a, F> as Coming>⟧.sources merge ≡ flat_map F.sources feeds.items) }
     {
-        let mut leads = Vec::with_capacity(alloc, feeds.len())?;
-        for feed in feeds {
-            leads.push(Lead::new(feed)?)?;
+        let mut leads = Vec::new(alloc);
+        for mut feed in feeds {
+            let head = feed.next()?;
+            leads.push(Lead { feed, head })?;
         }
         let winners = winners(alloc, &leads, sorted_from)?;
         Ok(Merge {

@@ -10,11 +10,11 @@ ghost use Rattle.ics_series.specs.Merged.{cut};
 ghost use Rattle.ics_series.specs.Rising.{Rises, Rises-prop};
 ghost use Rattle.ics_series.specs.RuleFeed.{starts_left};
 ghost use Rattle.ics_series.specs.SeriesLaws.{known-prop, own-rule-prop, ruled-prop, taken-out-prop};
-ghost use Rattle.ics_series.specs.SeriesStarts.{earlier_of, first_asked, first_of, given_of, is_among, left, listed_apart, rule_asked, rule_left, AreKnown};
+ghost use Rattle.ics_series.specs.SeriesStarts.{earlier_of, first_asked, first_of, given_of, left, listed_apart, rule_asked, rule_left, AreKnown};
 ghost use Rattle.ics_series.specs.SeriesStarts.{HasOwnRule, HasRuled, HasSameRule, IsReady, IsRuleFrom};
 ghost use Rattle.ics_series.specs.FileZones.{clocks_in, IsOwnEvent};
 
-use crate::exclusion::Exclusions;
+use crate::exclusion::{Exclusions, is_among};
 use crate::feed::{Coming, Feed};
 use crate::holding::Holding;
 use crate::listed::push_listed;
@@ -145,14 +145,6 @@ fn earlier_of(ruled: Option<Start>, listed: Option<Start>) -> Option<Start>
         (Some(a), None) => Some(a),
         (None, listed) => listed,
     }
-}
-
-// Whether an instant is one of a list in order.
-fn is_among(instants: &[Moment], moment: Moment) -> bool
-    requires { IsSorted int_cmp instants.now }
-    ensures { result ≡ is_among instants.now moment }
-{
-    instants.binary_search(&moment).is_ok()
 }
 
 impl<'a> Series<'a> {

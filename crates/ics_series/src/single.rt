@@ -34,7 +34,6 @@ impl<'a> Single<'a> {
     ghost use Rattle.ics_calendar.specs.Event.{IsEventOf};
     ghost use Rattle.ics_zone.specs.ZoneSaid.{zone_said};
     ghost use Rattle.ics_series.specs.Entry.{entry_cmp, entry_of};
-    ghost use Rattle.ics_series.specs.Found.{IsStart};
     ghost use Rattle.ics_series.specs.Singles.{begun_first, single_entry};
 
     // The occurrence of an event at its DTSTART, if that is before the window's end. Its recurrence is
@@ -64,25 +63,17 @@ impl<'a> Single<'a> {
     pub(crate) fn occurrence(&self) -> Occurrence<'a>
         ensures { entry_of result ≡ single_entry self.now }
     {
-        Occurrence {
-            start: self.start,
-            finish: finish(self.zones, self.event, self.first()),
-            recurrence: self.recurrence,
-            event: self.event,
-        }
-    }
-
-    // The start at DTSTART.
-    fn first(&self) -> Start
-        ensures start { IsStart (clocks_in self.now.zones) self.now.event.now result }
-        ensures moment { result.moment ≡ self.now.start }
-        ensures given { result.given ≡ Rdate.At self.now.event.now.start }
-    {
         let event = self.event;
-        Start {
+        let first = Start {
             moment: self.start,
             source: StartSource::Kept(local_of(event.start.stamp)),
             given: Rdate::At(event.start),
+        };
+        Occurrence {
+            start: self.start,
+            finish: finish(self.zones, event, first),
+            recurrence: self.recurrence,
+            event,
         }
     }
 

@@ -7,7 +7,7 @@ use ics_calendar::{Event, FileEvents};
 use ics_zone::Display;
 
 /// The number of an event's file, and the event's place in that file.
-#[derive(Clone, Copy, Debug, PartialEq, Eq, PartialOrd, Ord)]
+#[derive(Clone, Copy)]
 pub(crate) struct Spot {
     pub(crate) file: usize,
     pub(crate) place: usize,

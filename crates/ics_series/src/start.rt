@@ -9,14 +9,14 @@ use std::cmp::Ordering;
 
 /// What gives an event a start: a local, which is that of DTSTART or kept by the rule, or the value of
 /// an RDATE, by its place among them.
-#[derive(Clone, Copy, Debug, PartialEq, Eq)]
+#[derive(Clone, Copy)]
 pub(crate) enum StartSource {
     Kept(Local),
     Listed(usize),
 }
 
 /// A start of an event: its instant, what gives it, and the value that it gives.
-#[derive(Clone, Copy, Debug, PartialEq, Eq)]
+#[derive(Clone, Copy)]
 pub(crate) struct Start {
     pub(crate) moment: Moment,
     pub(crate) source: StartSource,

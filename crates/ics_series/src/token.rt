@@ -100,14 +100,6 @@ fn fault_of(fault: FromHexError) -> TokenFault
     }
 }
 
-// The text after the prefix `K1.`.
-fn body(text: &str) -> Option<&str>
-    ensures { (rest : List ℕ) → text.now ≡ codes "K1." ++ rest → IsSomeAnd result (λ part. part.now ≡ rest) }
-{
-    let (form, rest) = text.split_once('.')?;
-    if form == "K1" { Some(rest) } else { None }
-}
-
 // The number before the first `.`, and the text after that.
 pub(crate) fn field(text: &str) -> Option<(Moment, &str)>
     ensures { (number : ℤ) (rest : List ℕ) → FitsSigned w64 number → text.now ≡ signed_decimal number ++ (46 ∷ rest)
@@ -124,8 +116,7 @@ fn split(text: &str) -> Option<(Moment, Moment, &str)>
         → text.now ≡ codes "K1." ++ (signed_decimal start ++ (46 ∷ (signed_decimal recurrence ++ (46 ∷ uid))))
         → IsSomeAnd result (λ parts. (parts.0 ≡ start) × (parts.1 ≡ recurrence) × (parts.2.now ≡ uid)) }
 {
-    let rest = body(text)?;
-    let (start, rest) = field(rest)?;
+    let (start, rest) = field(text.strip_prefix("K1.")?)?;
     let (recurrence, uid) = field(rest)?;
     Some((start, recurrence, uid))
 }

@@ -14,21 +14,38 @@ use ics_calendar::{Event, FileEvents};
 use ics_values::Moment;
 use ics_zone::Display;
 use std::alloc::{AllocError, Global};
+use std::cmp::Ordering;
 
 /// What the versions of an event share: its UID, and the instant of the instance that they override.
 /// Those of a master override none (RFC 5545, section 3.8.4.4).
-#[derive(Clone, Copy, Debug, PartialEq, Eq, PartialOrd, Ord)]
+#[derive(Clone, Copy, PartialEq, Eq, PartialOrd, Ord)]
 pub(crate) struct Subject<'a> {
     pub(crate) uid: &'a [u8],
     pub(crate) recurrence: Option<Moment>,
 }
 
-/// An event as a version of its subject. Versions are ordered by subject, then SEQUENCE, file and place.
-#[derive(Clone, Copy, Debug, PartialEq, Eq, PartialOrd, Ord)]
+/// An event as a version of its subject.
+#[derive(Clone, Copy)]
 pub(crate) struct Version<'a> {
     pub(crate) subject: Subject<'a>,
     pub(crate) sequence: u32,
     pub(crate) spot: Spot,
+}
+
+impl<'a> Version<'a> {
+    ghost use Rattle.ics_series.specs.Versions.{label_cmp};
+
+    // By subject, then by SEQUENCE, file and place.
+    pub(crate) fn compare(a: &Version<'_>, b: &Version<'_>) -> Ordering
+        ensures { result ≡ label_cmp (seen a.now) (seen b.now) }
+    {
+        let sequence = a.sequence.cmp(&b.sequence);
+        let file = a.spot.file.cmp(&b.spot.file);
+        let place = a.spot.place.cmp(&b.spot.place);
+        a.subject
+            .cmp(&b.subject)
+            .then(sequence.then(file.then(place)))
+    }
 }
 
 // The versions of these files' events, in the order of the files and of the events in each.

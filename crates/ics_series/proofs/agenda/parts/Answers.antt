@@ -1,4 +1,4 @@
-use Rattle.std.proofs.Common.{◌≡◌, ◌∙◌, [], ◌∷◌, ◌++◌, map, ap, subst}
+use Rattle.std.proofs.Common.{◌≡◌, ◌∙◌, [], ◌∷◌, ◌++◌, map, ap, sym, subst}
 use Rattle.std.specs.List.{flat_map}
 use Rattle.std.specs.Option.{option_map}
 use Rattle.ics_calendar.specs.Event.{said_by}
@@ -8,7 +8,7 @@ use Rattle.ics_series.specs.Entry.{key_rank}
 use Rattle.ics_series.specs.Masters.{HasLists, HasSources}
 use Rattle.ics_series.specs.AgendaParts.{part_coming, part_sources}
 use Rattle.ics_series.specs.Sources.Source.{Once}
-use Rattle.ics_series.specs.Versions.{seen}
+use Rattle.ics_series.specs.Versions.{seen, AreChosen}
 use Rattle.ics_series.proofs.PartLemmas.{pushed-listing, whole-parts}
 use Rattle.ics_series.proofs.PartUidLemmas.{parts-sorted}
 use Rattle.ics_series.proofs.SourceLemmas.{sources-behind}
@@ -19,22 +19,22 @@ returns c =
     let files = map said_by c.args.files.now in
     let display = display_clock c.args.display.now in
     let after = option_map (λ key. key_rank key.now) c.args.after in
+    let chosen : AreChosen (map said_by c.args.files.now) (display_clock c.args.display.now) c.deref-2.result.now =
+    subst (AreChosen (map said_by c.args.files.now) (display_clock c.args.display.now)) (sym c.deref-2.ensures.value) c.in_ok-chosen.ensures in
     let singles = part_coming (part.Singles c.in_ok-singles.singles) in
     let first : map part_coming c.push.new.self.items ≡ part_coming (part.Singles c.in_ok-singles.singles) ∷ [] =
     ap (map part_coming) (c.in_ok-push.ensures.items ∙ ap (λ xs. xs ++ part.Singles c.in_ok-singles.singles ∷ []) c.new-parts.ensures.items) in
     let pushed = subst (λ lists. HasLists (map said_by c.args.files.now) (display_clock c.args.display.now) c.args.window
-    (option_map (λ key. key_rank key.now) c.args.after) (map seen c.args.chosen.now) lists (map part_coming c.push_series.new.parts.items)) first
+    (option_map (λ key. key_rank key.now) c.args.after) (map seen c.deref-2.result.now) lists (map part_coming c.push_series.new.parts.items)) first
     c.in_ok-push_series.ensures.lists in
     let once : flat_map part_sources c.push.new.self.items ≡ Once ∷ [] =
     ap (flat_map part_sources) (c.in_ok-push.ensures.items ∙ ap (λ xs. xs ++ part.Singles c.in_ok-singles.singles ∷ []) c.new-parts.ensures.items) in
     let sources = subst (λ before. HasSources (map said_by c.args.files.now) (display_clock c.args.display.now) c.args.window
-    (option_map (λ key. key_rank key.now) c.args.after) (map seen c.args.chosen.now) before (flat_map part_sources c.push_series.new.parts.items)) once
+    (option_map (λ key. key_rank key.now) c.args.after) (map seen c.deref-2.result.now) before (flat_map part_sources c.push_series.new.parts.items)) once
     c.in_ok-push_series.ensures.sources in
     record {
-      sources = sources-behind files display c.args.window after c.args.chosen.now c.requires.chosen (flat_map part_sources c.push_series.new.parts.items)
-          sources;
-      listing = pushed-listing files display c.args.window after c.args.chosen.now singles (map part_coming c.push_series.new.parts.items) c.requires.chosen
-          c.in_ok-singles.ensures pushed;
-      whole = λ w. whole-parts files display w c.args.chosen.now c.requires.chosen (c.in_ok-push_series.ensures.whole w);
+      sources = sources-behind chosen sources;
+      listing = pushed-listing files display c.args.window after singles chosen c.in_ok-singles.ensures pushed;
+      whole = λ w. whole-parts w chosen (c.in_ok-push_series.ensures.whole w);
       sorted = parts-sorted c.push_series.new.parts.items sources.more sources.behind sources.rises;
     }

@@ -1,9 +1,12 @@
-use Rattle.std.proofs.Common.{◌≡◌, map, subst}
+use Rattle.std.proofs.Common.{◌≡◌, map, rules, subst}
+use Rattle.std.specs.Ordering.{on}
+use Rattle.std.proofs.lemmas.Cmp.{on_total}
 use Rattle.std.proofs.lemmas.Result.{IfOk-weaker}
 use Rattle.ics_calendar.specs.Event.{said_by}
 use Rattle.ics_series.specs.Clocks.{display_clock}
-use Rattle.ics_series.specs.Versions.{AreChosen, is_same, lasts, seen}
-use Rattle.ics_series.proofs.FoundLemmas.{found}
+use Rattle.ics_series.specs.Versions.{AreChosen, is_same, label_cmp, lasts, seen}
+use Rattle.ics_series.proofs.FoundLemmas.{found, label_total}
+use Rattle.ics_series.proofs.SortLemmas.{climbs-by}
 use Rattle.ics_series.proofs.chosen.chosen.Goals as goal
 
 pub returns : goal.returns
@@ -11,7 +14,8 @@ returns c =
     let files = map said_by c.args.files.now in
     let display = display_clock c.args.display.now in
     IfOk-weaker c.last_of_each.result _ (λ last. AreChosen (map said_by c.args.files.now) (display_clock c.args.display.now) last.items)
-    (λ last h. found files display c.in_ok-versions.versions.items c.sort_unstable.new.self.items last.items c.in_ok-versions.ensures
-    c.sort_unstable.ensures.permutation c.sort_unstable.ensures.sorted
+    (λ last h. found files display c.in_ok-versions.versions.items c.sort_unstable_by.new.self.items last.items c.in_ok-versions.ensures
+    c.sort_unstable_by.ensures.permutation
+    (climbs-by (on seen label_cmp) (on_total seen label_total) c.sort_unstable_by.new.self.items c.sort_unstable_by.ensures.sorted (λ f a r f' k. search rules))
     (subst (λ vs. map seen last.items ≡ lasts is_same (map seen vs)) c.deref.ensures.value h))
     c.last_of_each.ensures

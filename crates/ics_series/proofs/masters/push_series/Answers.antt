@@ -1,4 +1,4 @@
-use Rattle.std.proofs.Common.{◌≡◌, ◌+◌, [], ◌∷◌, ◌++◌, None, Vec, Global, map, get_or, take, refl, ap, sym, subst, add-one, ◌∙◌}
+use Rattle.std.proofs.Common.{◌≡◌, ◌+◌, [], ◌∷◌, ◌++◌, None, Vec, Global, map, get_or, take, refl, ap, sym, subst, ◌∙◌}
 use Rattle.std.specs.Prelude.{MatchOption}
 use Rattle.std.specs.List.{flat_map}
 use Rattle.std.specs.Option.{option_map}
@@ -29,28 +29,22 @@ none = record { subject = record { uid = record { ref_ptr = (0, 0); now = [] }; 
 
 pub loop-place-init : goal.loop-place-init
 loop-place-init c = record {
-  lists = lists-none (map said_by c.args.files.now) (display_clock c.args.display.now) c.args.window (option_map (λ key. key_rank key.now) c.args.after)
-      (map part_coming c.args.parts.now.items);
-  sources = sources-none (map said_by c.args.files.now) (display_clock c.args.display.now) c.args.window (option_map (λ key. key_rank key.now) c.args.after)
-      (flat_map part_sources c.args.parts.now.items);
-  whole = λ w. ([], lists-none (map said_by c.args.files.now) (display_clock c.args.display.now) w None []);
+  lists = lists-none (map part_coming c.args.parts.now.items);
+  sources = sources-none (flat_map part_sources c.args.parts.now.items);
+  whole = λ w. ([], lists-none []);
 }
 
 pub loop-place-preserved : goal.loop-place-preserved
 loop-place-preserved c =
-    let files = map said_by c.args.files.now in
-    let display = display_clock c.args.display.now in
-    let after = option_map (λ key. key_rank key.now) c.args.after in
-    let v = get_or c.args.chosen.now c.loop-place.place none in
-    let there = slice_get-get_or c.args.chosen.now c.loop-place.place none c.loop-place-test.true in
-    let before = map part_coming c.args.parts.now.items in
-    let now = map part_coming c.loop-place.parts.items in
+    let vs = c.args.chosen.now in
+    let k = c.loop-place.place in
+    let there = slice_get-get_or vs k none c.loop-place-test.true in
     let given : MatchOption c.in_ok-series.field-0
     (Recurs (map said_by c.args.files.now) (seen (get_or c.args.chosen.now c.loop-place.place none)) → ⊥)
     (λ (series : Series). IsListing entry_cmp (IsOfVersion (map said_by c.args.files.now) (display_clock c.args.display.now) c.args.window
     (option_map (λ key. key_rank key.now) c.args.after) (seen (get_or c.args.chosen.now c.loop-place.place none)))
     (series_of series (series_left series))) =
-    c.in_ok-series.ensures.series v there in
+    c.in_ok-series.ensures.series (get_or c.args.chosen.now c.loop-place.place none) there in
     record {
       sources =
           elim c.match-branch-2.branch [
@@ -60,12 +54,9 @@ loop-place-preserved c =
                 × IsSourceOf (map said_by c.args.files.now) (display_clock c.args.display.now) c.args.window
                 (option_map (λ key. key_rank key.now) c.args.after) (seen (get_or c.args.chosen.now c.loop-place.place none)) m
                 × (series_sources series ≡ Of m ∷ [])) =
-                c.in_ok-series.ensures.sources v there in
+                c.in_ok-series.ensures.sources (get_or c.args.chosen.now c.loop-place.place none) there in
                 let m = matched _ _ c.in_ok-series.field-0 w.in-Some.series w.in-Some.is given in
-                sources-more files display c.args.window after c.args.chosen.now c.requires.chosen c.loop-place.place (c.loop-place.place + 1) none m.0
-                (flat_map part_sources c.args.parts.now.items) (flat_map part_sources c.loop-place.parts.items)
-                (flat_map part_sources c.match-branch-2.parts.items)
-                (add-one c.loop-place.place) c.loop-place-test.true c.loop-place.invariant.sources m.1
+                sources-more c.requires.chosen k there c.loop-place.invariant.sources m.1
                 (ap (λ (p : Vec Part Global). flat_map part_sources p.items) w.parts-is ∙ (ap (flat_map part_sources) (w.in_ok-push.ensures.items)
                 ∙ (flat_map-append part_sources c.loop-place.parts.items (part.Series w.in_ok-new.field-0 ∷ [])
                 ∙ ap (λ xs. flat_map part_sources c.loop-place.parts.items ++ xs) (append-nil (series_sources w.in_ok-new.field-0.value)
@@ -74,10 +65,7 @@ loop-place-preserved c =
                 subst (λ (p : Vec Part Global). HasSources (map said_by c.args.files.now) (display_clock c.args.display.now) c.args.window
                 (option_map (λ key. key_rank key.now) c.args.after) (map seen (take (c.loop-place.place + 1) c.args.chosen.now))
                 (flat_map part_sources c.args.parts.now.items) (flat_map part_sources p.items))
-                (sym w.parts-is)
-                (sources-skip files display c.args.window after c.args.chosen.now c.requires.chosen c.loop-place.place (c.loop-place.place + 1) none
-                (flat_map part_sources c.args.parts.now.items) (flat_map part_sources c.loop-place.parts.items) (add-one c.loop-place.place)
-                c.loop-place-test.true c.loop-place.invariant.sources)
+                (sym w.parts-is) (sources-skip c.requires.chosen k there c.loop-place.invariant.sources)
           ];
       lists =
           elim c.match-branch-2.branch [
@@ -88,10 +76,7 @@ loop-place-preserved c =
                 (option_map (λ key. key_rank key.now) c.args.after) (seen (get_or c.args.chosen.now c.loop-place.place none)))
                 (series_of s (series_left s)))
                 (sym value) (matched _ _ c.in_ok-series.field-0 w.in-Some.series w.in-Some.is given) in
-                versions-more files display c.args.window after c.args.chosen.now c.loop-place.place (c.loop-place.place + 1) none
-                (series_of w.in_ok-new.field-0.value (series_left w.in_ok-new.field-0.value))
-                before now (map part_coming c.match-branch-2.parts.items) (add-one c.loop-place.place) c.loop-place-test.true c.loop-place.invariant.lists
-                listing
+                versions-more vs k there c.loop-place.invariant.lists listing
                 (ap (λ (p : Vec Part Global). map part_coming p.items) w.parts-is
                 ∙ (ap (map part_coming) w.in_ok-push.ensures.items
                 ∙ map-append part_coming c.loop-place.parts.items (part.Series w.in_ok-new.field-0 ∷ [])))
@@ -100,35 +85,21 @@ loop-place-preserved c =
                 (option_map (λ key. key_rank key.now) c.args.after) (map seen (take (c.loop-place.place + 1) c.args.chosen.now))
                 (map part_coming c.args.parts.now.items) (map part_coming p.items))
                 (sym w.parts-is)
-                (versions-skip files display c.args.window after c.args.chosen.now c.loop-place.place (c.loop-place.place + 1) none before now
-                (add-one c.loop-place.place) c.loop-place-test.true c.loop-place.invariant.lists
-                (matched-none _ _ c.in_ok-series.field-0 w.in_default.is given))
+                (versions-skip vs k there c.loop-place.invariant.lists (matched-none _ _ c.in_ok-series.field-0 w.in_default.is given))
           ];
       whole = λ w.
           let whole : HasWhole (map said_by c.args.files.now) (display_clock c.args.display.now) w (seen (get_or c.args.chosen.now c.loop-place.place none)) =
-          c.in_ok-series.ensures.whole v there w in
-          let lists = c.loop-place.invariant.whole w in (
-            lists.0 ++ whole.0 ∷ [],
-            versions-more files display w None c.args.chosen.now c.loop-place.place (c.loop-place.place + 1) none whole.0 [] lists.0 (lists.0 ++ whole.0
-                ∷ []) (add-one c.loop-place.place) c.loop-place-test.true lists.1 whole.1 refl,
-          );
+          c.in_ok-series.ensures.whole (get_or c.args.chosen.now c.loop-place.place none) there w in
+          let lists = c.loop-place.invariant.whole w in (lists.0 ++ whole.0 ∷ [], versions-more vs k there lists.1 whole.1 refl);
     }
 
 pub returns : goal.returns
 returns c =
     record {
-      lists =
-          versions-all (map said_by c.args.files.now) (display_clock c.args.display.now) c.args.window (option_map (λ key. key_rank key.now) c.args.after)
-          c.args.chosen.now c.loop-place.place
-          (map part_coming c.args.parts.now.items) (map part_coming c.loop-place.parts.items) c.loop-place-test.false c.loop-place.invariant.lists;
-      sources =
-          sources-all (map said_by c.args.files.now) (display_clock c.args.display.now) c.args.window (option_map (λ key. key_rank key.now) c.args.after)
-          c.args.chosen.now c.requires.chosen c.loop-place.place
-          (flat_map part_sources c.args.parts.now.items) (flat_map part_sources c.loop-place.parts.items) c.loop-place-test.false
-          c.loop-place.invariant.sources;
+      lists = versions-all c.args.chosen.now c.loop-place.place c.loop-place-test.false c.loop-place.invariant.lists;
+      sources = sources-all c.requires.chosen c.loop-place.place c.loop-place-test.false c.loop-place.invariant.sources;
       whole = λ w.
           let lists = c.loop-place.invariant.whole w in
-          let whole = versions-all (map said_by c.args.files.now) (display_clock c.args.display.now) w None c.args.chosen.now c.loop-place.place [] lists.0
-          c.loop-place-test.false lists.1 in
+          let whole = versions-all c.args.chosen.now c.loop-place.place c.loop-place-test.false lists.1 in
           (whole.more, whole.are);
     }

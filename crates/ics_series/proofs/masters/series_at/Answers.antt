@@ -1,22 +1,21 @@
-use Rattle.std.proofs.Common.{◌≡◌, ◌∙◌, rules, [], get_or, map, Some, None, false, ℤ, w64, to_z, of_z, refl, sym, ap, subst}
+use Rattle.std.proofs.Common.{◌≡◌, ◌∙◌, rules, [], get_or, map, Some, None, ℤ, w64, to_z, of_z, refl, sym, ap, subst}
 use Rattle.std.specs.Option.{option_map}
 use Rattle.std.proofs.lemmas.Option.{slice_get-get_or}
-use Rattle.ics_calendar.specs.Event.{said_by, IsEvent, IsEventOf}
+use Rattle.ics_calendar.specs.Event.{said_by, IsEventOf}
 use Rattle.ics_calendar.specs.declared.event.Event.{Event}
 use Rattle.ics_series.specs.declared.version.Version.{Version}
 use Rattle.ics_series.specs.Clocks.{display_clock}
 use Rattle.ics_series.specs.Entry.{entry_cmp, key_rank}
 use Rattle.ics_series.specs.Listing.{IsListing}
-use Rattle.ics_series.specs.Masters.{HasWhole, IsOfVersion, IsSince, IsSourceOf}
+use Rattle.ics_series.specs.Masters.{HasWhole, IsOfVersion, IsSince, IsSourceOf, Recurs}
 use Rattle.ics_series.specs.Overridden.{AreOverridden}
 use Rattle.ics_series.specs.SeriesFeed.{series_left, series_of}
-use Rattle.ics_series.specs.Singles.{is_single}
 use Rattle.ics_series.specs.Sources.{IsFrom, Recurring}
 use Rattle.ics_series.specs.Versions.{seen, subject_seen}
 use Rattle.ics_series.specs.FileZones.{clocks_in}
 use Rattle.ics_series.proofs.GivenLemmas.{stands}
 use Rattle.ics_series.proofs.OverriddenLemmas.{chosen-order}
-use Rattle.ics_series.proofs.RecurringLemmas.{not-single, own-subject, series-listing, single-none, there-in, version-there, whole-version}
+use Rattle.ics_series.proofs.RecurringLemmas.{IsRead, not-single, own-subject, series-listing, single-none, there-in, version-there, whole-version}
 use Rattle.ics_series.proofs.ZoneLemmas.{own-event}
 use Rattle.ics_series.proofs.masters.series_at.Goals as goal
 
@@ -31,28 +30,24 @@ pub returns-then-is_single : goal.returns-then-is_single
 returns-then-is_single c = record {
   sources = λ version there. tt;
   series = λ version there.
-      not-single (map said_by c.args.files.now) c.args.chosen.now c.args.place none version c.requires.within there c.event-event.result.now
-      c.event-event.ensures.event (sym c.is_single.ensures ∙ c.if-is_single.true);
+      not-single c.args.chosen.now c.args.place none c.requires.within there c.event-event.ensures.event (sym c.is_single.ensures ∙ c.if-is_single.true);
   whole = λ version there w.
       single-none (map said_by c.args.files.now) (display_clock c.args.display.now) w (seen version)
-      (not-single (map said_by c.args.files.now) c.args.chosen.now c.args.place none version c.requires.within there c.event-event.result.now
-      c.event-event.ensures.event (sym c.is_single.ensures ∙ c.if-is_single.true));
+      (not-single c.args.chosen.now c.args.place none c.requires.within there c.event-event.ensures.event (sym c.is_single.ensures ∙ c.if-is_single.true));
 }
 
 pub overridden_instants-requires-clause-order : goal.overridden_instants-requires-clause-order
-overridden_instants-requires-clause-order c = chosen-order (map said_by c.args.files.now) (display_clock c.args.display.now) c.args.chosen.now c.requires.chosen
+overridden_instants-requires-clause-order c = chosen-order c.requires.chosen
 
 pub overridden_instants-requires-clause-master : goal.overridden_instants-requires-clause-master
 overridden_instants-requires-clause-master c =
-    let files = map said_by c.args.files.now in
-    let display = display_clock c.args.display.now in
     let v = get_or c.args.chosen.now c.args.place none in
     let there = slice_get-get_or c.args.chosen.now c.args.place none c.requires.within in
-    let recurs : is_single c.event-event.result.now ≡ false = sym c.is_single.ensures ∙ c.if-is_single.false in
+    let r : Recurs (map said_by c.args.files.now) (seen (get_or c.args.chosen.now c.args.place none)) =
+    record { event = c.event-event.result.now; stands = c.event-event.ensures.event; recurs = sym c.is_single.ensures ∙ c.if-is_single.false } in
     let uid : c.as_slice-2.result.now ≡ c.event-event.result.now.uid = c.as_slice-2.ensures ∙ ap (λ (e : Event). e.uid) c.event.view_is in
     ap (option_map (λ (v : Version). subject_seen v.subject)) there
-    ∙ ap Some (own-subject files display c.args.window (option_map (λ key. key_rank key.now) c.args.after) c.args.chosen.now c.requires.chosen (seen v)
-    (there-in seen c.args.chosen.now c.args.place v there) c.event-event.result.now c.event-event.ensures.event recurs
+    ∙ ap Some (own-subject c.requires.chosen (there-in seen c.args.chosen.now c.args.place v there) r
     ∙ ap (λ u. record { uid = u; recurrence = None }) (sym uid))
 
 pub new-requires-clause-own : goal.new-requires-clause-own
@@ -62,21 +57,24 @@ new-requires-clause-own c =
 
 pub returns : goal.returns
 returns c =
-    let files = map said_by c.args.files.now in
-    let display = display_clock c.args.display.now in
     let after = option_map (λ key. key_rank key.now) c.args.after in
-    let event = c.event-event.result.now in
     let v = get_or c.args.chosen.now c.args.place none in
     let stands = there-in seen c.args.chosen.now c.args.place v (slice_get-get_or c.args.chosen.now c.args.place none c.requires.within) in
-    let recurs : is_single c.event-event.result.now ≡ false = sym c.is_single.ensures ∙ c.if-is_single.false in
+    let r : Recurs (map said_by c.args.files.now) (seen (get_or c.args.chosen.now c.args.place none)) =
+    record { event = c.event-event.result.now; stands = c.event-event.ensures.event; recurs = sym c.is_single.ensures ∙ c.if-is_single.false } in
     let uid : c.as_slice.result.now ≡ c.event-event.result.now.uid = c.as_slice.ensures ∙ ap (λ (e : Event). e.uid) c.event.view_is in
     let uid-2 : c.as_slice-2.result.now ≡ c.event-event.result.now.uid = c.as_slice-2.ensures ∙ ap (λ (e : Event). e.uid) c.event.view_is in
     let fits : to_z w64 (of_z w64 c.since_of-since.result) ≡ c.since_of-since.result = search rules in
     let since : IsSince (option_map (λ key. key_rank key.now) c.args.after) c.event-event.result.now.uid (to_z w64 (of_z w64 c.since_of-since.result)) =
     subst (λ (t : ℤ). IsSince (option_map (λ key. key_rank key.now) c.args.after) c.event-event.result.now.uid t) (sym fits)
     (subst (λ u. IsSince (option_map (λ key. key_rank key.now) c.args.after) u c.since_of-since.result) uid c.since_of-since.ensures.since) in
-    let is_event : IsEvent c.event-event.result.now = search rules in
-    let are = subst (λ u. AreOverridden u (map seen c.args.chosen.now) c.in_ok-overridden.overridden.items) uid-2 c.in_ok-overridden.ensures.overridden in
+    let read : IsRead (map said_by c.args.files.now) (display_clock c.args.display.now) c.args.chosen.now (seen (get_or c.args.chosen.now c.args.place none))
+    c.event-event.result.now c.zones-zones.result c.in_ok-overridden.overridden.items = record {
+      clocks = c.zones-zones.ensures.clocks;
+      is_event = search rules;
+      overridden = subst (λ u. AreOverridden u (map seen c.args.chosen.now) c.in_ok-overridden.overridden.items) uid-2
+          c.in_ok-overridden.ensures.overridden;
+    } in
     let m : Recurring = record {
       clocks = clocks_in c.zones-zones.result;
       event = c.event-event.result.now;
@@ -92,7 +90,7 @@ returns c =
       since = to_z w64 (of_z w64 c.since_of-since.result);
     }) = record {
       stands = c.event-event.ensures.event;
-      recurs = recurs;
+      recurs = r.recurs;
       clocks = c.zones-zones.ensures.clocks;
       window = refl;
       since = subst (IsFrom (option_map (λ key. key_rank key.now) c.args.after)) (sym fits) c.since_of-since.ensures.from;
@@ -102,9 +100,8 @@ returns c =
           subst (λ (v : Version). IsListing entry_cmp (IsOfVersion (map said_by c.args.files.now) (display_clock c.args.display.now) c.args.window
           (option_map (λ key. key_rank key.now) c.args.after) (seen v)) (series_of c.in_ok-series.series (series_left c.in_ok-series.series)))
           (version-there c.args.chosen.now c.args.place none version c.requires.within there)
-          (series-listing files display c.args.window after c.args.chosen.now c.requires.chosen (seen v) stands event c.event-event.ensures.event recurs
-          c.zones-zones.result c.zones-zones.ensures.clocks is_event (to_z w64 (of_z w64 c.since_of-since.result)) since c.in_ok-overridden.overridden.items are
-          (series_of c.in_ok-series.series (series_left c.in_ok-series.series)) c.in_ok-series.ensures.listing);
+          (series-listing c.requires.chosen stands r read c.args.window after (to_z w64 (of_z w64 c.since_of-since.result)) since
+          c.in_ok-series.ensures.listing);
       sources = λ version there. (
         m,
         subst (λ (v : Version). IsSourceOf (map said_by c.args.files.now) (display_clock c.args.display.now) c.args.window
@@ -121,6 +118,5 @@ returns c =
       whole = λ version there w.
           subst (λ (v : Version). HasWhole (map said_by c.args.files.now) (display_clock c.args.display.now) w (seen v))
           (version-there c.args.chosen.now c.args.place none version c.requires.within there)
-          (whole-version files display w c.args.chosen.now c.requires.chosen (seen v) stands event c.event-event.ensures.event recurs
-          c.zones-zones.result c.zones-zones.ensures.clocks is_event c.in_ok-overridden.overridden.items are);
+          (whole-version c.requires.chosen stands r read w);
     }

@@ -32,9 +32,9 @@ returns-in_default c =
 pub loop-version-preserved : goal.loop-version-preserved
 loop-version-preserved c =
     let fits : to_z w64 (of_z w64 c.in-Some.instant) ≡ c.in-Some.instant = search rules in
-    found-step c.args.uid.now (behind c.args.versions.now c.args.place) c.loop-version.version-index (c.loop-version.version-index + 1) none
-    c.loop-version.instants.items c.push.new.self.items _ c.in-Some.instant (add-one c.loop-version.version-index) c.loop-version-test.true
-    (sym c.instance_of.ensures ∙ c.in-Some.is) (c.in_ok-push.ensures.items ∙ ap (λ t. c.loop-version.instants.items ++ t ∷ []) fits) c.loop-version.invariant
+    found-step c.args.uid.now (behind c.args.versions.now c.args.place) c.loop-version.version-index none c.loop-version.instants.items
+    c.loop-version-test.true (sym c.instance_of.ensures ∙ c.in-Some.is) (c.in_ok-push.ensures.items
+    ∙ ap (λ t. c.loop-version.instants.items ++ t ∷ []) fits) c.loop-version.invariant
 
 pub returns : goal.returns
 returns c =

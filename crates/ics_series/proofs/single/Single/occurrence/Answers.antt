@@ -9,14 +9,13 @@ invariant_of-result c =
     let from = late single.zones single.event.now.start single.own.start.is_time in
     record {
       not_early = omega (arith, ints, single.first, single.early, from);
-      forward = omega (arith, ints, c.finish.ensures.forward, c.finish.type_inv, c.first.ensures.moment, single.first, single.early, from);
+      forward = omega (arith, ints, c.finish.ensures.forward, c.finish.type_inv, single.first, single.early, from);
       not_late = omega (
         arith,
         ints,
         c.finish.ensures.early,
         c.finish.ensures.forward,
         c.finish.type_inv,
-        c.first.ensures.moment,
         single.first,
         single.early,
         from,

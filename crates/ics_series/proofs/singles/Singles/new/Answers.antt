@@ -1,4 +1,6 @@
-use Rattle.std.proofs.Common.{List, map, sym, subst, rules}
+use Rattle.std.proofs.Common.{List, map, ◌∙◌, ap, sym, subst, rules}
+use Rattle.std.specs.Ordering.{on}
+use Rattle.std.proofs.lemmas.Cmp.{on_total}
 use Rattle.std.specs.Option.{option_map}
 use Rattle.ics_calendar.specs.Event.{said_by}
 use Rattle.ics_series.specs.declared.single.Single.{Single}
@@ -7,22 +9,24 @@ use Rattle.ics_series.specs.Entry.{entry_cmp, key_rank}
 use Rattle.ics_series.specs.Listing.{IsListing}
 use Rattle.ics_series.specs.Rising.{Rises}
 use Rattle.ics_series.specs.Singles.{single_entry, AreSingle, IsSingleToCome}
+use Rattle.ics_series.specs.Versions.{seen}
+use Rattle.ics_series.specs.EntryLaws.{entry_total}
 use Rattle.ics_series.proofs.OverrideLemmas.{overrides-sorted}
 use Rattle.ics_series.proofs.SinglesLemmas.{are-single, singles-listing}
+use Rattle.ics_series.proofs.SortLemmas.{climbs-by}
 use Rattle.ics_series.proofs.singles.Singles.new.Goals as goal
 
 pub to_come-requires-clause-overrides : goal.to_come-requires-clause-overrides
 to_come-requires-clause-overrides c =
-    overrides-sorted (map said_by c.args.files.now) (display_clock c.args.display.now) c.args.chosen.now c.args.overrides.now c.requires.chosen
-    c.requires.overrides
+    overrides-sorted c.deref.result.now c.requires (ap (map seen) c.deref.ensures.value ∙ c.in_ok-overrides.ensures)
 
 pub invariant_of-result : goal.invariant_of-result
 invariant_of-result c =
-    let listing = singles-listing (map said_by c.args.files.now) (display_clock c.args.display.now) c.args.window.now
-    (option_map (λ key. key_rank key.now) c.args.after)
-    c.args.chosen.now c.args.overrides.now c.in_ok-singles.singles.items c.sort_unstable_by.new.self.items
-    c.requires.chosen c.requires.overrides c.in_ok-singles.ensures c.sort_unstable_by.ensures.permutation c.sort_unstable_by.ensures.sorted
-    (λ f a r f' k. search rules) in
+    let listing = singles-listing c.args.window.now (option_map (λ key. key_rank key.now) c.args.after) c.deref.result.now c.in_ok-singles.singles.items
+    c.sort_unstable_by.new.self.items c.requires
+    (ap (map seen) c.deref.ensures.value ∙ c.in_ok-overrides.ensures) c.in_ok-singles.ensures c.sort_unstable_by.ensures.permutation
+    (climbs-by (on single_entry entry_cmp) (on_total single_entry entry_total) c.sort_unstable_by.new.self.items c.sort_unstable_by.ensures.sorted
+    (λ f a r f' k. search rules)) in
     record {
       single = subst (λ (xs : List Single). AreSingle (map single_entry xs)) (sym c.into_iter.ensures.rest)
           (are-single (map single_entry c.sort_unstable_by.new.self.items) (λ o m. ((listing.exact o).0 m).1));
@@ -31,10 +35,10 @@ invariant_of-result c =
 
 pub returns : goal.returns
 returns c =
-    let listing = singles-listing (map said_by c.args.files.now) (display_clock c.args.display.now) c.args.window.now
-    (option_map (λ key. key_rank key.now) c.args.after)
-    c.args.chosen.now c.args.overrides.now c.in_ok-singles.singles.items c.sort_unstable_by.new.self.items
-    c.requires.chosen c.requires.overrides c.in_ok-singles.ensures c.sort_unstable_by.ensures.permutation c.sort_unstable_by.ensures.sorted
-    (λ f a r f' k. search rules) in
+    let listing = singles-listing c.args.window.now (option_map (λ key. key_rank key.now) c.args.after) c.deref.result.now c.in_ok-singles.singles.items
+    c.sort_unstable_by.new.self.items c.requires
+    (ap (map seen) c.deref.ensures.value ∙ c.in_ok-overrides.ensures) c.in_ok-singles.ensures c.sort_unstable_by.ensures.permutation
+    (climbs-by (on single_entry entry_cmp) (on_total single_entry entry_total) c.sort_unstable_by.new.self.items c.sort_unstable_by.ensures.sorted
+    (λ f a r f' k. search rules)) in
     subst (λ (xs : List Single). IsListing entry_cmp (IsSingleToCome (map said_by c.args.files.now) (display_clock c.args.display.now) c.args.window.now
     (option_map (λ key. key_rank key.now) c.args.after)) (map single_entry xs)) (sym c.into_iter.ensures.rest) listing

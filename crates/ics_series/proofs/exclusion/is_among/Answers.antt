@@ -4,7 +4,7 @@ use Rattle.std.specs.Ordering.{int_eq}
 use Rattle.std.proofs.lemmas.Int.{ints}
 use mir.Val.{SFits}
 use Rattle.ics_series.proofs.ExclusionLemmas.{found-in}
-use Rattle.ics_series.proofs.series.is_among.Goals as goal
+use Rattle.ics_series.proofs.exclusion.is_among.Goals as goal
 
 pub returns : goal.returns
 returns c =
