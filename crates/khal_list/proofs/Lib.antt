@@ -1,11 +1,13 @@
+pub mod AddedArgs
 pub mod AddedLemmas
 pub mod AnswerLemmas
 pub mod AskedLemmas
+pub mod CheckedRows
+pub mod FlagLemmas
 pub mod FormatLemmas
 pub mod Fronts
 pub mod LearnedLemmas
 pub mod LimitLemmas
-pub mod LimitRows
 pub mod NameLemmas
 pub mod OutcomeLemmas
 pub mod PageLemmas

@@ -1,17 +1,84 @@
--- The number that `parse` reads from a text, as the text is read here.
-use Rattle.std.proofs.Common.{◌≡◌, ◌∙◌, ◌<◌, ◌≤◌, ◌^◌, ℕ, pos, Bool, true, false, List, Option, Some, None, Ok, Err, Result, option_and_then, arith, refl, sym}
-use Rattle.std.proofs.Common.{ap, subst}
+-- What clap takes for `--limit`, and the number that `parse` reads from it.
+use Rattle.std.proofs.Common.{◌≡◌, ◌∙◌, ◌<◌, ◌≤◌, ◌^◌, ◌==◌, ◌&&◌, ℕ, suc, pos, negsuc, Bool}
+use Rattle.std.proofs.Common.{true, false, true≢false, List, [], ◌∷◌, length, Option, Some, None, Ok, Err, Result}
+use Rattle.std.proofs.Common.{option_and_then, arith, refl, sym, ap, subst}
+use Rattle.std.specs.List.{AllByRecursion}
 use Rattle.std.specs.Result.{OkIff, result_ok}
 use Rattle.std.specs.Str.Parse.{IsNumeral, ParsesUnsigned, digits_value, starts_with_minus, without_leading_plus}
-use Rattle.std.proofs.lemmas.Bool.{ltb-true, lt-ltb}
+use Rattle.std.proofs.lemmas.Bool.{eqb-true, ltb-true, lt-ltb}
 use Rattle.std.proofs.lemmas.Int.{ints}
 use Rattle.clap.proofs.ValueTestLemmas.{accepts-Accepts}
 use Rattle.clap.proofs.WalkLemmas.{both}
+use Rattle.clap.specs.Facts.{parser_of_value}
+use Rattle.clap.specs.ValueTests.{accepts, is_signed_in}
+use Rattle.clap.specs.Values.{reading_of}
+use Rattle.clap.specs.Walk.{Rule, Text, action_of, is_empty}
+use Rattle.clap.specs.declared.builder.action.ArgAction.{ArgAction}
+use Rattle.clap.specs.declared.builder.action.ArgAction.TheVariants.{Set}
+use Rattle.clap.specs.declared.builder.value_parser.Reading.TheVariants.{WithoutMinus}
+use Rattle.clap.specs.declared.builder.value_parser.ValueParser.{ValueParser}
+use Rattle.clap.specs.declared.builder.value_parser.ValueParser.TheVariants as vp
 use Rattle.clap.specs.Words.{IsSignedIn}
 use Rattle.clap.specs.declared.builder.value_parser.ValueParser.TheVariants.{Signed}
 use Rattle.khal_list.specs.Limits.{is_number, number_in, number_of, IsLimit, IsLimitOf}
-use Rattle.khal_list.proofs.LimitRows.{Passes}
+use Rattle.khal_list.proofs.CheckedRows.{AreTaken}
 use Rattle.khal_list.proofs.WindowTextLemmas.{own}
+
+-- the text passes the parser of `--limit`
+abbrev Passes : Text → Type 0
+Passes text = is_signed_in (pos 1) (pos 4_294_967_295) text ≡ true
+
+abbrev is_limit_parser : ValueParser → Bool
+is_limit_parser (vp.Signed (pos low) (pos high)) = (low == 1) && (high == 4_294_967_295)
+is_limit_parser _ = false
+
+abbrev is_set : ArgAction → Bool
+is_set Set = true
+is_set _ = false
+
+-- the argument takes numbers of entries, and has no default
+abbrev pub takes_limits : Rule → Bool
+takes_limits a = is_set (action_of a) && (is_empty a.defaults && is_limit_parser (parser_of_value a.parser))
+
+limit_parser : (p : ValueParser) → is_limit_parser p ≡ true → p ≡ vp.Signed (pos 1) (pos 4_294_967_295)
+limit_parser (vp.Signed (pos low) (pos high)) t =
+    let bounds = both (low == 1) (high == 4_294_967_295) t in
+    ap (λ (n : ℕ). vp.Signed (pos n) (pos high)) (eqb-true low 1 bounds.0)
+    ∙ ap (λ (n : ℕ). vp.Signed (pos 1) (pos n)) (eqb-true high 4_294_967_295 bounds.1)
+limit_parser (vp.Signed (pos low) (negsuc high)) t = cc
+limit_parser (vp.Signed (negsuc low) high) t = cc
+limit_parser (vp.Unsigned low high) t = cc
+limit_parser vp.String t = cc
+limit_parser vp.Falsey t = cc
+limit_parser vp.NonEmptyString t = cc
+limit_parser vp.Bool t = cc
+limit_parser vp.Boolish t = cc
+limit_parser vp.Float t = cc
+limit_parser vp.Char t = cc
+limit_parser (vp.Names names) t = cc
+limit_parser (vp.Values values) t = cc
+
+none_by_default : (texts : List Text) → is_empty texts ≡ true → AllByRecursion Passes texts
+none_by_default [] t = tt
+none_by_default (text ∷ rest) t = let none : suc (length rest) ≡ 0 = eqb-true _ 0 t in absurd (omega arith)
+
+module _ (a : Rule) (t : takes_limits a ≡ true) where
+  sets : is_set (action_of a) ≡ true
+  sets = (both (is_set (action_of a)) _ t).0
+
+  parses : parser_of_value a.parser ≡ vp.Signed (pos 1) (pos 4_294_967_295)
+  parses = limit_parser _ (both (is_empty a.defaults) _ (both (is_set (action_of a)) _ t).1).1
+
+  no_defaults : AllByRecursion Passes a.defaults
+  no_defaults = none_by_default a.defaults (both (is_empty a.defaults) _ (both (is_set (action_of a)) _ t).1).0
+
+pub limits_taken : AreTaken WithoutMinus Passes takes_limits
+limits_taken = record {
+  reads = λ a t. ap reading_of (parses a t);
+  passes = λ a text t e. subst (λ (p : ValueParser). accepts a.ignore_case p text ≡ true) (parses a t) e;
+  defaults = no_defaults;
+  not_counted = λ a t is. true≢false (sym (ap is_set (sym is) ∙ sets a t));
+}
 
 number-is : (digits : List ℕ) → is_number digits ≡ true → IsNumeral 10 digits × (digits_value 10 digits < 2 ^ 32)
 number-is digits t =

@@ -1,13 +1,14 @@
 -- What clap makes of the words: its model covers this command.
-use Rattle.std.proofs.Common.{◌≡◌, true, List, Ok, Err, Result, refl, sym, ap, ◌∙◌, subst}
-use Rattle.std.specs.Prelude.{IfOk}
+use Rattle.std.proofs.Common.{◌≡◌, true, List, Ok, Err, Result, refl, sym, subst}
+use Rattle.std.specs.Prelude.{IfOk, codes}
 use Rattle.clap.specs.Words.{App, Text, HasMatchesOf, FailsBy, fault_of, is_simple, is_simple_and_free, subcommand_of, subcommand_rows_of}
 use Rattle.clap.specs.declared.error.Error.{Error}
 use Rattle.clap.specs.declared.parser.matches.ArgMatches.{ArgMatches}
 use Rattle.khal_list.specs.Commands.{khal_app}
-use Rattle.khal_list.specs.Entries.{limit_text, HasLimit}
-use Rattle.khal_list.proofs.LimitLemmas.{limit_is}
-use Rattle.khal_list.proofs.LimitRows.{limit_passes}
+use Rattle.khal_list.specs.Entries.{AreTested}
+use Rattle.khal_list.proofs.CheckedRows.{rows_checked, text_passes}
+use Rattle.khal_list.proofs.FlagLemmas.{flag_of, flags_taken}
+use Rattle.khal_list.proofs.LimitLemmas.{limit_is, limits_taken}
 
 simple : is_simple khal_app ≡ true
 simple = refl
@@ -26,10 +27,15 @@ module _ (app : App) (words : List Text) (r : Result ArgMatches Error) (is : app
   pub faults : (is_simple_and_free app ≡ true → FailsBy (fault_of app words) r) → FailsBy (fault_of khal_app words) r
   faults h = subst (λ (a : App). is_simple_and_free a ≡ true → FailsBy (fault_of a words) r) is h free
 
-  pub limit : IfOk r (HasMatchesOf app words) → (is_simple_and_free app ≡ true → FailsBy (fault_of app words) r) → IfOk r (λ m. HasLimit (subcommand_rows_of m))
-  limit h k = go r (entries h) (faults k)
+  pub tested : IfOk r (HasMatchesOf app words) → (is_simple_and_free app ≡ true → FailsBy (fault_of app words) r)
+      → IfOk r (λ m. AreTested (subcommand_rows_of m))
+  tested h k = go r (entries h) (faults k)
     where
       go : (x : Result ArgMatches Error) → IfOk x (λ m. subcommand_rows_of m ≡ subcommand_of khal_app words) → FailsBy (fault_of khal_app words) x →
-          IfOk x (λ m. HasLimit (subcommand_rows_of m))
-      go (Ok m) same none = λ text e. limit_is text (limit_passes khal_app words text refl none (ap limit_text (sym same) ∙ e))
+          IfOk x (λ m. AreTested (subcommand_rows_of m))
+      go (Ok m) same none = subst AreTested (sym same) (record {
+        limit = λ text e. limit_is text (text_passes (codes "limit") _ _ _ limits_taken _ text (rows_checked _ _ _ _ limits_taken khal_app words refl none) e);
+        notstarted = flag_of (codes "notstarted") _ (rows_checked _ _ _ _ flags_taken khal_app words refl none);
+        every_day = flag_of (codes "every-day") _ (rows_checked _ _ _ _ flags_taken khal_app words refl none);
+      })
       go (Err e) same none = tt

@@ -1,8 +1,8 @@
 -- What the words of the command line give: clap's entries of the subcommand that they name, or clap's refusal.
-use Rattle.std.specs.Prelude.{◌≡◌, ◌↔◌, Bool, IsTrue, false, List, [], ◌∷◌, Option, Some, codes, option_and_then, unwrap_or, if◌then◌else◌}
+use Rattle.std.specs.Prelude.{◌≡◌, ◌↔◌, ◌||◌, Bool, IsTrue, true, false, List, [], ◌∷◌, Option, Some, codes, option_and_then, unwrap_or, if◌then◌else◌}
 use Rattle.std.specs.Option.{option_map_or}
 use Rattle.std.specs.Str.{bytes_eq}
-use Rattle.clap.specs.Walk.{first_of}
+use Rattle.clap.specs.Walk.{first_of, one_of}
 use Rattle.clap.specs.Words.{Text, Row, subcommand_of, IsAmong, fault_of}
 use Rattle.clap.specs.declared.error.kind.ErrorKind.{ErrorKind}
 use Rattle.clap.specs.declared.error.kind.ErrorKind.TheVariants.{DisplayHelp}
@@ -48,6 +48,21 @@ limit_text entries = entry (codes "limit") entries
 -- that text is a number of entries
 abbrev pub HasLimit : Entries → Type 0
 HasLimit entries = (text : Text) → limit_text entries ≡ Some text → IsLimit text
+
+-- the text of a flag
+abbrev pub is_flag_text : Text → Bool
+is_flag_text text = bytes_eq text (codes "true") || bytes_eq text (codes "false")
+
+-- the entry of this name is a flag, and is read as it is written
+pub record IsFlag (id : Text) (entries : Entries) : Type 0 where
+  pub read : option_and_then (λ found. one_of id found.1) entries ≡ entry id entries
+  pub text : (text : Text) → entry id entries ≡ Some text → is_flag_text text ≡ true
+
+-- clap has tested the entries
+pub record AreTested (entries : Entries) : Type 0 where
+  pub limit : HasLimit entries
+  pub notstarted : IsFlag (codes "notstarted") entries
+  pub every_day : IsFlag (codes "every-day") entries
 
 -- the window that the entries ask for: that of a moment, or one from START, if it is given, to END
 pub data Span : Type 0 where

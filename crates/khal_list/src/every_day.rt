@@ -1,13 +1,14 @@
 //! Requests that list occurrences under each of their days.
-ghost use Rattle.std.specs.Prelude.{◌≡◌, IfOk, IsErrOf, option_map};
+ghost use Rattle.std.specs.Prelude.{◌≡◌, IfOk, IsErrOf, codes, option_map};
 ghost use Rattle.clap.specs.Words.{subcommand_rows_of};
 ghost use Rattle.ics_series.specs.DayKeys.{day_key_rank};
 ghost use Rattle.ics_series.specs.DayTokens.{IsDayToken};
 ghost use Rattle.ics_series.specs.Tokens.{IsToken};
+ghost use Rattle.khal_list.specs.Entries.{IsFlag};
 ghost use Rattle.khal_list.specs.RequestOf as spec;
 
 use crate::display_day::display_day;
-use crate::words::{entry, text};
+use crate::words::{entry, is_given};
 use clap::ArgMatches;
 use ics_series::{DayKey, DayToken, Key, Token, TokenFault, Window};
 use ics_values::Moment;
@@ -36,11 +37,12 @@ impl After {
         zone: &Display,
         window: &Window,
     ) -> Result<After, TokenFault>
+        requires { IsFlag (codes "every-day") (subcommand_rows_of found.now) }
         ensures ok { IfOk result (λ after. spec.IsAfterBy (subcommand_rows_of found.now) zone.now window.now after.once after.every_day) }
         ensures bad { IsErrOf result TokenFault.BadToken → spec.IsNoToken (subcommand_rows_of found.now) }
     {
         let token = entry(found, "after");
-        if text(found, "every-day") == "true" {
+        if is_given(found, "every-day") {
             let every_day = EveryDay {
                 after: day_key_of(alloc, token, zone, window)?,
             };

@@ -3,7 +3,7 @@ ghost use Rattle.std.specs.Prelude.{◌≡◌, ◌∷◌, IfOk, map, codes};
 ghost use Rattle.std.specs.Option.{option_map};
 ghost use Rattle.std.specs.String.{string_bytes};
 ghost use Rattle.clap.specs.Words.{subcommand_rows_of};
-ghost use Rattle.khal_list.specs.Entries.{limit_text, with_name, zones_text, HasLimit};
+ghost use Rattle.khal_list.specs.Entries.{limit_text, with_name, zones_text, AreTested, HasLimit};
 ghost use Rattle.khal_list.specs.Limits.{IsLimitOf};
 
 use crate::RequestFault;
@@ -12,7 +12,7 @@ use crate::field::{DayField, EntryField};
 use crate::format::Format;
 use crate::span::Span;
 use crate::window::window_of;
-use crate::words::{entry, matches, text, text_or};
+use crate::words::{entry, is_given, matches, text, text_or};
 use clap::ArgMatches;
 use ics_series::{Key, Window};
 use ics_values::Moment;
@@ -77,13 +77,13 @@ impl Request {
         }
     }
 
-    // The request of clap's entries, in which clap has tested the limit.
+    // The request of clap's entries, which clap has tested.
     fn by<'a>(alloc: Global, found: &ArgMatches<'a>, now: Moment) -> Result<Request, RequestFault>
-        requires { HasLimit (subcommand_rows_of found.now) }
+        requires { AreTested (subcommand_rows_of found.now) }
         ensures { EntriesAnswer (subcommand_rows_of found.now) now result }
     {
         let zone = Display::parse(alloc, text(found, "zone"))?;
-        let notstarted = text(found, "notstarted") == "true";
+        let notstarted = is_given(found, "notstarted");
         let Some(window) = window_of(zone, now, Span::of(found), notstarted) else {
             return Err(RequestFault::BadWindow);
         };

@@ -1,5 +1,5 @@
 //! The words of the command line, as clap reads them.
-ghost use Rattle.std.specs.Prelude.{◌≡◌, IfOk, map, option_map, codes};
+ghost use Rattle.std.specs.Prelude.{◌≡◌, ◌↔◌, IfOk, IsTrue, map, option_map, codes};
 ghost use Rattle.std.specs.Str.{bytes_eq};
 ghost use Rattle.clap.specs.Words.{fault_of, subcommand_rows_of, FailsBy};
 ghost use Rattle.khal_list.specs.Commands.{khal_app};
@@ -13,7 +13,7 @@ use std::alloc::Global;
 pub(crate) fn matches<'a>(alloc: Global, words: &'a [&'a str]) -> Result<ArgMatches<'a>, Error>
     ensures entries { IfOk result (λ m. subcommand_rows_of m
         ≡ spec.entries_in (map (λ word. word.now) words.entry.now)) }
-    ensures limit { IfOk result (λ m. spec.HasLimit (subcommand_rows_of m)) }
+    ensures tested { IfOk result (λ m. spec.AreTested (subcommand_rows_of m)) }
     ensures faults { FailsBy (fault_of khal_app (map (λ word. word.now) words.entry.now)) result }
 {
     command(alloc)?.try_get_matches_from(words)
@@ -40,4 +40,15 @@ pub(crate) fn text_or<'a>(found: &ArgMatches<'a>, id: &str, default: &'a str) ->
     ensures { result.now ≡ spec.text_or id.now default.entry.now (subcommand_rows_of found.now) }
 {
     entry(found, id).unwrap_or(default)
+}
+
+/// Whether this flag is given.
+pub(crate) fn is_given(found: &ArgMatches<'_>, id: &str) -> bool
+    requires { spec.IsFlag id.now (subcommand_rows_of found.now) }
+    ensures { IsTrue result ↔ (spec.entries_text id.now (subcommand_rows_of found.now) ≡ codes "true") }
+{
+    match found.subcommand() {
+        Some((_, entries)) => entries.get_flag(id),
+        None => false,
+    }
 }
