@@ -66,7 +66,7 @@ impl<'a, F: Feed<'a> + Drop> Merge<'a, F> {
         ensures coming { IfOk result (λ merge. ⟦<Merge<'a, F> as Coming>⟧.coming merge ≡ merged entry_cmp (map F.coming feeds.items)) }
         ensures sources { IfOk result (λ merge. ⟦<Merge<'a, F> as Coming>⟧.sources merge ≡ flat_map F.sources feeds.items) }
     {
-        let mut leads = Vec::new(alloc);
+        let mut leads = Vec::with_capacity(alloc, feeds.len())?;
         for mut feed in feeds {
             let head = feed.next()?;
             leads.push(Lead { feed, head })?;
