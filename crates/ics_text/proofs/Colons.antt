@@ -1,22 +1,16 @@
 -- The walk to the colon of a content line.
-use Rattle.std.proofs.Common.{◌≡◌, ℕ, suc, ◌+◌, ◌<◌, Bool, true, false, List, [], ◌∷◌, length, drop, get_or, refl, ap, ◌∙◌, arith, cond, Option, Some, None}
-use Rattle.std.proofs.Common.{add-one, one-add}
-use Rattle.std.proofs.Common.{drop-cons}
+use Rattle.std.proofs.Common.{◌≡◌, ℕ, suc, ◌+◌, ◌<◌, Bool, true, false, List, [], ◌∷◌, drop, refl, ap, ◌∙◌, arith, cond, Option, Some, None}
+use Rattle.std.proofs.Common.{one-add}
 use Rattle.std.specs.Prelude.{option_map}
 use Rattle.std.specs.List.{prefix_len}
 use Rattle.ics_text.specs.Bytes.{is_name_byte}
-use Rattle.ics_text.specs.ScanSteps.{step, colon_from}
+use Rattle.ics_text.specs.ScanSteps.{colon_from}
 use Rattle.ics_text.specs.declared.scan_state.ScanState.{ScanState}
 use Rattle.ics_text.specs.declared.scan_state.ScanState.TheVariants.{Start, InName}
-use Rattle.ics_text.specs.declared.scan_state.Move.TheVariants.{On}
 
 -- a walk from a place that has come to byte i
 abbrev pub walked : List ℕ → ScanState → ℕ → ScanState → Type 0
 walked text from i state = colon_from text from ≡ option_map (λ n. n + i) (colon_from (drop i text) state)
-
-moved : (i : ℕ) (o : Option ℕ) → option_map (λ n. n + i) (option_map (λ n. n + 1) o) ≡ option_map (λ n. n + suc i) o
-moved i None = refl
-moved i (Some n) = let e : n + 1 + i ≡ n + suc i = omega arith in ap Some e
 
 moved_first : (i : ℕ) (o : Option ℕ) → option_map (λ n. n + 1) (option_map (λ n. n + i) o) ≡ option_map (λ n. n + suc i) o
 moved_first i None = refl
@@ -25,11 +19,6 @@ moved_first i (Some n) = let e : n + i + 1 ≡ n + suc i = omega arith in ap Som
 unmoved : (o : Option ℕ) → o ≡ option_map (λ n. n + 0) o
 unmoved None = refl
 unmoved (Some n) = let e : n ≡ n + 0 = omega arith in ap Some e
-
-pub walked-on : (text : List ℕ) (from : ScanState) (i : ℕ) (state next : ScanState) → i < length text → walked text from i state →
-    step state (get_or text i 0) ≡ On next → walked text from (i + 1) next
-walked-on text from i state next l w s =
-    w ∙ rw (drop-cons text i 0, s, add-one i) (moved i (colon_from (drop (suc i) text) next))
 
 -- a walk within a name comes to its end
 to_end : (bs : List ℕ) → walked bs InName (prefix_len is_name_byte bs) InName

@@ -31,19 +31,18 @@ at_end b (c ∷ cs) ne e h =
     let is_lf : c ≡ 10 = eqb-true c 10 e in
     rw is_lf (refl, behind-other 0 b (10 ∷ cs) (physical_lines cs) ne (rw is_lf at h).1)
 
--- a byte in front, by what it does: it ends the first line, or belongs to that end, or to the line
-in_front : (b : ℕ) (bs : List ℕ) (ends cr_lf : Bool) → (ends ≡ true → b ≡ 10) → (ends ≡ false → (b == 10) ≡ false) →
-    (cr_lf ≡ true → begins (λ c. c == lf) bs ≡ true) →
-    Behind 0 bs (physical_lines bs) → Behind 0 (b ∷ bs) (cond ends ([] ∷ physical_lines bs) (cond cr_lf (physical_lines bs) (onto_first b (physical_lines bs))))
-in_front b bs true cr_lf is_lf no_lf next_lf h = rw (is_lf refl) (refl, behind-lf 0 bs (physical_lines bs) h)
-in_front b bs false true is_lf no_lf next_lf h = at_end b bs (no_lf refl) (next_lf refl) h
-in_front b bs false false is_lf no_lf next_lf h = onto b bs (physical_lines bs) (no_lf refl) h
-
 behind-physical : (bs : List ℕ) → Behind 0 bs (physical_lines bs)
 behind-physical [] = (refl, tt)
 behind-physical (b ∷ bs) =
-    in_front b bs (b == lf) ((b == cr) && begins (λ c. c == lf) bs) (eqb-true b 10) (λ h. h) (λ h. (and_parts (b == cr) (begins (λ c. c == lf) bs) h).1)
+    in_front (b == lf) ((b == cr) && begins (λ c. c == lf) bs) (eqb-true b 10) (λ h. h) (λ h. (and_parts (b == cr) (begins (λ c. c == lf) bs) h).1)
     (behind-physical bs)
+  where
+    -- a byte in front, by what it does: it ends the first line, or belongs to that end, or to the line
+    in_front : (ends cr_lf : Bool) → (ends ≡ true → b ≡ 10) → (ends ≡ false → (b == 10) ≡ false) → (cr_lf ≡ true → begins (λ c. c == lf) bs ≡ true) →
+        Behind 0 bs (physical_lines bs) → Behind 0 (b ∷ bs) (cond ends ([] ∷ physical_lines bs) (cond cr_lf (physical_lines bs) (onto_first b (physical_lines bs))))
+    in_front true cr_lf is_lf no_lf next_lf h = rw (is_lf refl) (refl, behind-lf 0 bs (physical_lines bs) h)
+    in_front false true is_lf no_lf next_lf h = at_end b bs (no_lf refl) (next_lf refl) h
+    in_front false false is_lf no_lf next_lf h = onto b bs (physical_lines bs) (no_lf refl) h
 
 numbered-stand : (file : List ℕ) (k n : ℕ) (lines : List (List ℕ)) → n ≡ suc k → Behind k (without_mark file) lines →
     AllByRecursion (StandsIn file) (numbered n lines)

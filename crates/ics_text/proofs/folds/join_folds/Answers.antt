@@ -1,10 +1,9 @@
 use Rattle.std.proofs.Common.{◌≡◌, ℕ, ◌+◌, ◌*◌, ◌<◌, ◌++◌, true, length, drop, arith, sym, ap, ◌∙◌, add_assoc, length-drop, subst}
 use Rattle.std.specs.Prelude.{filter}
 use Rattle.std.specs.Option.{option_copied}
-use Rattle.ics_text.specs.Bytes.{begins, is_blank}
-use Rattle.ics_text.specs.Unfolded.{is_line, attach}
+use Rattle.ics_text.specs.Unfolded.{is_line, attach, physical_lines}
 use Rattle.ics_text.specs.Reading.{line_of, all_from, BeginsFolded, physical_behind}
-use Rattle.ics_text.proofs.Joins.{grown, grown-more, folded-some, on_err, grown-folded}
+use Rattle.ics_text.proofs.Joins.{grown, GoOn, grown-more, folded-some, on_err, grown-folded}
 use Rattle.ics_text.proofs.folds.join_folds.Goals as goal
 
 pub loop-line-preserved : goal.loop-line-preserved
@@ -13,15 +12,14 @@ loop-line-preserved c =
     let line = c.cut_line.result.0.now in
     let behind = c.in-Some.behind.now in
     let bytes = c.loop-line.bytes.items in
-    let blank : begins is_blank rest ≡ true = cc in
-    let cut = rw c.in-Some.is at c.cut_line.ensures.lines in
+    let on : GoOn rest line (physical_lines behind) = record { blank = cc; cut = rw c.in-Some.is at c.cut_line.ensures.lines } in
     let less = rw c.in-Some.is at c.cut_line.ensures.shorter in
     let items : c.extend_from_slice-in-loop-line.new.self.items ≡ bytes ++ drop 1 line = c.in_ok-extend_from_slice-2.ensures.items
     ∙ ap (λ t. bytes ++ t) c.without_first.ensures in
     record {
       grows = λ n.
           c.loop-line.invariant.grows n
-          ∙ ap (filter is_line) (grown-more n (n + c.loop-line.breaks) bytes rest line behind blank cut)
+          ∙ ap (filter is_line) (grown-more n (n + c.loop-line.breaks) bytes behind on)
           ∙ ap (λ k. filter is_line (grown n (bytes ++ drop 1 line) k behind)) (add_assoc n c.loop-line.breaks 1)
           ∙ ap (λ t. filter is_line (grown n t (n + (c.loop-line.breaks + 1)) behind)) (sym items);
       fewer = omega (arith, less);
@@ -45,10 +43,9 @@ returns-in_err-extend_from_slice-2-clause-err c =
     let full = c.in_err-extend_from_slice-2.ensures.full in
     let rest = c.loop-line.rest.now in
     let line = c.cut_line.result.0.now in
-    let blank : begins is_blank rest ≡ true = cc in
+    let on : GoOn rest line (physical_behind (option_copied c.cut_line.result.1)) = record { blank = cc; cut = c.cut_line.ensures.lines } in
     let some : 1 < length line = omega (arith, full, c.loop-line.bytes.ok.1, ap length c.without_first.ensures, length-drop 1 line) in
     let folded : (n : ℕ) → BeginsFolded (filter is_line (attach (line_of n c.args.first.now true) (all_from (n + 1) c.args.after.now))) =
     λ n. subst BeginsFolded (sym (c.loop-line.invariant.grows n))
-    (grown-folded n (n + c.loop-line.breaks) c.loop-line.bytes.items rest line (physical_behind (option_copied c.cut_line.result.1)) blank
-    c.cut_line.ensures.lines some) in
+    (grown-folded n (n + c.loop-line.breaks) c.loop-line.bytes.items on some) in
     on_err _ folded
