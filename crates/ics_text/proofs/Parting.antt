@@ -33,13 +33,15 @@ pub record Sliced (line name params value : List ℕ) (len k : ℕ) : Type 0 whe
   pub params_are : take (k - len) (drop len line) ≡ params
   pub value_is : drop (k + 1) line ≡ value
 
-slices : (line name params value : List ℕ) (len k : ℕ) → line ≡ (name ++ params) ++ 58 ∷ value → len ≡ length name → k ≡ length (name ++ params) →
-    Sliced line name params value len k
-slices line name params value len k e l c =
+slices : {line name params value : List ℕ} (c : IsContent line name params value) (k : ℕ) → k ≡ length (name ++ params) →
+    Sliced line name params value (prefix_len is_name_byte line) k
+slices {line} {name} {params} {value} c k at =
+    let e : line ≡ (name ++ params) ++ 58 ∷ value = c.spelled in
+    let l = ap (prefix_len is_name_byte) e ∙ (rw (← c.params_ok.spelled) at (name-length name c.ps value c.name_ok.bytes)) in
     let whole : (name ++ params) ++ 58 ∷ value ≡ name ++ (params ++ 58 ∷ value) = append_assoc name params (58 ∷ value) in
-    let size : k ≡ length name + length params = c ∙ length-append name params in
-    let rest : k - len ≡ length params = omega arith in
-    let after : k + 1 ≡ length ((name ++ params) ++ 58 ∷ []) = ap (λ n. n + 1) c ∙ sym (length-append (name ++ params) (58 ∷ [])) in
+    let size : k ≡ length name + length params = at ∙ length-append name params in
+    let rest : k - prefix_len is_name_byte line ≡ length params = omega arith in
+    let after : k + 1 ≡ length ((name ++ params) ++ 58 ∷ []) = ap (λ n. n + 1) at ∙ sym (length-append (name ++ params) (58 ∷ [])) in
     record {
       order = omega arith;
       within = omega (arith, ap length e, length-append (name ++ params) (58 ∷ value));
@@ -61,19 +63,14 @@ pub read : (line : List ℕ) (k : ℕ) → colon_from line Start ≡ Some k → 
 read line k e =
     let f = found line Start k e in
     let t = f.tail in
-    record {
-      name = t.bytes;
-      params = params_text t.ps;
-      value = f.behind;
-      content = record { ps = t.ps; name_ok = f.ok.0; params_ok = record { in_order = f.ok.1; spelled = refl }; spelled = f.text };
-      sliced = slices line t.bytes (params_text t.ps) f.behind (prefix_len is_name_byte line) k f.text
-          (ap (prefix_len is_name_byte) f.text ∙ name-length t.bytes t.ps f.behind f.ok.0.bytes) f.count;
-    }
+    let c : IsContent line t.bytes (params_text t.ps) f.behind =
+    record { ps = t.ps; name_ok = f.ok.0; params_ok = record { in_order = f.ok.1; spelled = refl }; spelled = f.text } in
+    record { name = t.bytes; params = params_text t.ps; value = f.behind; content = c; sliced = slices c k f.count }
 
 -- where a line is a content line, the walk comes to its colon
 walks : (line name params value : List ℕ) (c : IsContent line name params value) → colon_from line Start ≡ Some (length (name ++ params))
 walks line name params value c =
-    ap (λ l. colon_from l Start) c.spelled ∙ rw c.params_ok.spelled (comes name value c.ps c.name_ok c.params_ok.in_order)
+    ap (λ l. colon_from l Start) c.spelled ∙ rw c.params_ok.spelled (comes value name c.ps c.name_ok c.params_ok.in_order)
 
 pub is_content : (line : List ℕ) (k : ℕ) → colon_from line Start ≡ Some k → let p = cut_at line k in IsContent line p.name p.params p.value
 is_content line k e =
@@ -81,14 +78,12 @@ is_content line k e =
     let s = r.sliced in
     rw (s.name_is, s.params_are, s.value_is) r.content
 
-pub same_parts : (line : List ℕ) (k : ℕ) (name params value : List ℕ) → colon_from line Start ≡ Some k → IsContent line name params value →
+pub same_parts : {line name params value : List ℕ} (k : ℕ) → colon_from line Start ≡ Some k → IsContent line name params value →
     let p = cut_at line k in (name ≡ p.name) × (params ≡ p.params) × (value ≡ p.value)
-same_parts line k name params value e c =
+same_parts {line} {name} {params} {value} k e c =
     let w = walks line name params value c in
     let count : k ≡ length (name ++ params) = cc in
-    let name_first = rw (← c.params_ok.spelled) at (name-length name c.ps value c.name_ok.bytes) in
-    let len = ap (prefix_len is_name_byte) c.spelled ∙ name_first in
-    let s = slices line name params value (prefix_len is_name_byte line) k c.spelled len count in
+    let s = slices c k count in
     (sym s.name_is, sym s.params_are, sym s.value_is)
 
 pub refuses : (line : List ℕ) → None ≡ colon_from line Start → (name params value : List ℕ) → IsContent line name params value → ⊥

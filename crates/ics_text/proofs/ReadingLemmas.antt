@@ -16,7 +16,7 @@ computed line parts (Some k) e h =
 related : (line : List ℕ) (parts : Parts) (k : Option ℕ) → k ≡ colon_from line Start →
     IsContent line parts.name parts.params parts.value → option_map (cut_at line) k ≡ Some parts
 related line parts None e h = absurd (refuses line e parts.name parts.params parts.value h)
-related line parts (Some k) e h = let same = same_parts line k parts.name parts.params parts.value (sym e) h in
+related line parts (Some k) e h = let same = same_parts k (sym e) h in
     let p = cut_at line k in
     ap (λ (name : List ℕ). Some (record { name = name; params = p.params; value = p.value })) (sym same.0)
     ∙ ap (λ (params : List ℕ). Some (record { name = parts.name; params = params; value = p.value })) (sym same.1)

@@ -31,91 +31,96 @@ params-param p ps = simp append_assoc
 abbrev pub Comes : ScanState → List ℕ → List ℕ → Type 0
 Comes state rest text = colon_from (text ++ 58 ∷ rest) state ≡ Some (length text)
 
-next : (state q : ScanState) (b : ℕ) (rest text : List ℕ) → step state b ≡ On q → Comes q rest text → Comes state rest (b ∷ text)
-next state q b rest text s c = rw (s, c, add-one) refl
+-- a place stays as it is behind bytes of one kind
+record Stays (p : ℕ → Bool) (state : ScanState) : Type 0 where
+  stays : (b : ℕ) → p b ≡ true → step state b ≡ On state
 
-run : (p : ℕ → Bool) (state : ScanState) (stays : (b : ℕ) → p b ≡ true → step state b ≡ On state) (bs rest text : List ℕ) → list_all p bs ≡ true →
-    Comes state rest text → Comes state rest (bs ++ text)
-run p state stays [] rest text h c = c
-run p state stays (b ∷ bs) rest text h c =
-    let parts = and_parts (p b) (list_all p bs) h in
-    next state state b rest (bs ++ text) (stays b parts.0) (run p state stays bs rest text parts.1 c)
+stays-name : Stays is_name_byte InName
+stays-name = record { stays = λ b h. rw h refl }
 
-stays-name : (b : ℕ) → is_name_byte b ≡ true → step InName b ≡ On InName
-stays-name b h = rw h refl
+stays-param : Stays is_name_byte InParam
+stays-param = record { stays = λ b h. rw h refl }
 
-stays-param : (b : ℕ) → is_name_byte b ≡ true → step InParam b ≡ On InParam
-stays-param b h = rw h refl
+stays-plain : Stays is_plain_byte InPlain
+stays-plain = record { stays = λ b h. rw h refl }
 
-stays-plain : (b : ℕ) → is_plain_byte b ≡ true → step InPlain b ≡ On InPlain
-stays-plain b h = rw h refl
+stays-quotes : Stays is_quoted_byte InQuotes
+stays-quotes = record { stays = λ b h. rw (h, quoted-no_quote b h) refl }
 
-stays-quotes : (b : ℕ) → is_quoted_byte b ≡ true → step InQuotes b ≡ On InQuotes
-stays-quotes b h = rw (h, quoted-no_quote b h) refl
+-- the rest of the line is what stands behind the colon
+module _ (rest : List ℕ) where
+  next : (state : ScanState) (b : ℕ) {q : ScanState} (text : List ℕ) → step state b ≡ On q → Comes q rest text → Comes state rest (b ∷ text)
+  next state b text s c = rw (s, c, add-one) refl
 
--- behind a value without quotes all is as behind one with them
-plain-ends : (rest : List ℕ) (vs : List Parameter) (ps : List Param) → Comes AfterQuotes rest (more vs ps) → Comes InPlain rest (more vs ps)
-plain-ends rest [] [] c = c
-plain-ends rest [] (p ∷ ps) c = c
-plain-ends rest (v ∷ vs) ps c = c
+  run : {p : ℕ → Bool} {state : ScanState} → Stays p state → (bs text : List ℕ) → list_all p bs ≡ true → Comes state rest text → Comes state rest (bs ++ text)
+  run s [] text h c = c
+  run {p} {state} s (b ∷ bs) text h c =
+      let parts = and_parts (p b) (list_all p bs) h in
+      next state b (bs ++ text) (s.stays b parts.0) (run s bs text parts.1 c)
 
-empty-ends : (rest : List ℕ) (vs : List Parameter) (ps : List Param) → Comes AfterQuotes rest (more vs ps) → Comes BeforeValue rest (more vs ps)
-empty-ends rest [] [] c = c
-empty-ends rest [] (p ∷ ps) c = c
-empty-ends rest (v ∷ vs) ps c = c
+  -- behind a value without quotes all is as behind one with them
+  plain-ends : (vs : List Parameter) (ps : List Param) → Comes AfterQuotes rest (more vs ps) → Comes InPlain rest (more vs ps)
+  plain-ends [] [] c = c
+  plain-ends [] (p ∷ ps) c = c
+  plain-ends (v ∷ vs) ps c = c
 
-plain-comes : (bytes rest : List ℕ) (vs : List Parameter) (ps : List Param) → list_all is_plain_byte bytes ≡ true → Comes AfterQuotes rest (more vs ps) →
-    Comes BeforeValue rest (bytes ++ more vs ps)
-plain-comes [] rest vs ps h c = empty-ends rest vs ps c
-plain-comes (b ∷ bs) rest vs ps h c =
-    let parts = and_parts (is_plain_byte b) (list_all is_plain_byte bs) h in
-    let first : step BeforeValue b ≡ On InPlain = rw (parts.0, (plain-no_sign b parts.0).quote) refl in
-    next BeforeValue InPlain b rest (bs ++ more vs ps) first (run is_plain_byte InPlain stays-plain bs rest (more vs ps) parts.1 (plain-ends rest vs ps c))
+  empty-ends : (vs : List Parameter) (ps : List Param) → Comes AfterQuotes rest (more vs ps) → Comes BeforeValue rest (more vs ps)
+  empty-ends [] [] c = c
+  empty-ends [] (p ∷ ps) c = c
+  empty-ends (v ∷ vs) ps c = c
 
-value-comes : (quoted : Bool) (bytes rest : List ℕ) (vs : List Parameter) (ps : List Param) → IsValue (record { quoted = quoted; bytes = bytes }) →
-    Comes AfterQuotes rest (more vs ps) →
-    Comes BeforeValue rest (value_text (record { quoted = quoted; bytes = bytes }) ++ more vs ps)
-value-comes false bytes rest vs ps h c = plain-comes bytes rest vs ps h c
-value-comes true bytes rest vs ps h c =
-    rw (append_assoc bytes (34 ∷ []) (more vs ps))
-    (next BeforeValue InQuotes 34 rest (bytes ++ (34 ∷ more vs ps)) refl
-    (run is_quoted_byte InQuotes stays-quotes bytes rest (34 ∷ more vs ps) h (next InQuotes AfterQuotes 34 rest (more vs ps) refl c)))
+  plain-comes : (bytes : List ℕ) (vs : List Parameter) (ps : List Param) → list_all is_plain_byte bytes ≡ true → Comes AfterQuotes rest (more vs ps) →
+      Comes BeforeValue rest (bytes ++ more vs ps)
+  plain-comes [] vs ps h c = empty-ends vs ps c
+  plain-comes (b ∷ bs) vs ps h c =
+      let parts = and_parts (is_plain_byte b) (list_all is_plain_byte bs) h in
+      let first : step BeforeValue b ≡ On InPlain = rw (parts.0, (plain-no_sign b parts.0).quote) refl in
+      next BeforeValue b (bs ++ more vs ps) first (run stays-plain bs (more vs ps) parts.1 (plain-ends vs ps c))
 
-body-comes : (name rest : List ℕ) (v : Parameter) (vs : List Parameter) (ps : List Param) → IsName name → IsValue v → Comes AfterQuotes rest (more vs ps) →
-    Comes BeforeParam rest (body name v vs ps)
-body-comes [] rest v vs ps n h c = absurd (n.some refl)
-body-comes (b ∷ bs) rest v vs ps n h c =
-    let parts = and_parts (is_name_byte b) (list_all is_name_byte bs) n.bytes in
-    let first : step BeforeParam b ≡ On InParam = rw parts.0 refl in
-    next BeforeParam InParam b rest (bs ++ (61 ∷ (value_text v ++ more vs ps))) first
-    (run is_name_byte InParam stays-param bs rest (61 ∷ (value_text v ++ more vs ps)) parts.1
-    (next InParam BeforeValue 61 rest (value_text v ++ more vs ps) refl (value-comes v.quoted v.bytes rest vs ps h c)))
+  value-comes : (quoted : Bool) (bytes : List ℕ) (vs : List Parameter) (ps : List Param) → IsValue (record { quoted = quoted; bytes = bytes }) →
+      Comes AfterQuotes rest (more vs ps) →
+      Comes BeforeValue rest (value_text (record { quoted = quoted; bytes = bytes }) ++ more vs ps)
+  value-comes false bytes vs ps h c = plain-comes bytes vs ps h c
+  value-comes true bytes vs ps h c =
+      rw (append_assoc bytes (34 ∷ []) (more vs ps))
+      (next BeforeValue 34 (bytes ++ (34 ∷ more vs ps)) refl
+      (run stays-quotes bytes (34 ∷ more vs ps) h (next InQuotes 34 (more vs ps) refl c)))
 
-values-come : (rest : List ℕ) (vs : List Parameter) (ps : List Param) → AllByRecursion IsValue vs → Comes AfterQuotes rest (params_text ps) →
-    Comes AfterQuotes rest (more vs ps)
-values-come rest [] ps h c = c
-values-come rest (v ∷ vs) ps h c =
-    subst (Comes AfterQuotes rest) (sym (more-value v vs ps))
-    (next AfterQuotes BeforeValue 44 rest (value_text v ++ more vs ps) refl (value-comes v.quoted v.bytes rest vs ps h.0 (values-come rest vs ps h.1 c)))
+  body-comes : {name : List ℕ} (v : Parameter) (vs : List Parameter) (ps : List Param) → IsName name → IsValue v → Comes AfterQuotes rest (more vs ps) →
+      Comes BeforeParam rest (body name v vs ps)
+  body-comes {name = []} v vs ps n h c = absurd (n.some refl)
+  body-comes {name = b ∷ bs} v vs ps n h c =
+      let parts = and_parts (is_name_byte b) (list_all is_name_byte bs) n.bytes in
+      let first : step BeforeParam b ≡ On InParam = rw parts.0 refl in
+      next BeforeParam b (bs ++ (61 ∷ (value_text v ++ more vs ps))) first
+      (run stays-param bs (61 ∷ (value_text v ++ more vs ps)) parts.1
+      (next InParam 61 (value_text v ++ more vs ps) refl (value-comes v.quoted v.bytes vs ps h c)))
 
-params-come : (rest : List ℕ) (ps : List Param) → AllByRecursion IsParam ps → Comes AfterQuotes rest (params_text ps)
-params-come rest [] h = refl
-params-come rest (p ∷ ps) h =
-    subst (Comes AfterQuotes rest) (sym (params-param p ps)) (next AfterQuotes BeforeParam 59 rest (body p.name p.first p.others ps) refl
-    (body-comes p.name rest p.first p.others ps h.0.name h.0.first (values-come rest p.others ps h.0.others (params-come rest ps h.1))))
+  values-come : (vs : List Parameter) (ps : List Param) → AllByRecursion IsValue vs → Comes AfterQuotes rest (params_text ps) →
+      Comes AfterQuotes rest (more vs ps)
+  values-come [] ps h c = c
+  values-come (v ∷ vs) ps h c =
+      subst (Comes AfterQuotes rest) (sym (more-value v vs ps))
+      (next AfterQuotes 44 (value_text v ++ more vs ps) refl (value-comes v.quoted v.bytes vs ps h.0 (values-come vs ps h.1 c)))
 
-name-ends : (rest : List ℕ) (ps : List Param) → Comes AfterQuotes rest (params_text ps) → Comes InName rest (params_text ps)
-name-ends rest [] c = c
-name-ends rest (p ∷ ps) c = c
+  params-come : (ps : List Param) → AllByRecursion IsParam ps → Comes AfterQuotes rest (params_text ps)
+  params-come [] h = refl
+  params-come (p ∷ ps) h =
+      subst (Comes AfterQuotes rest) (sym (params-param p ps)) (next AfterQuotes 59 (body p.name p.first p.others ps) refl
+      (body-comes p.first p.others ps h.0.name h.0.first (values-come p.others ps h.0.others (params-come ps h.1))))
 
--- what is spelled as a content line leads to its colon
-pub comes : (name rest : List ℕ) (ps : List Param) → IsName name → AllByRecursion IsParam ps → Comes Start rest (name ++ params_text ps)
-comes [] rest ps n h = absurd (n.some refl)
-comes (b ∷ bs) rest ps n h =
-    let parts = and_parts (is_name_byte b) (list_all is_name_byte bs) n.bytes in
-    let first : step Start b ≡ On InName = rw parts.0 refl in
-    next Start InName b rest (bs ++ params_text ps) first
-    (run is_name_byte InName stays-name bs rest (params_text ps) parts.1 (name-ends rest ps (params-come rest ps h)))
+  name-ends : (ps : List Param) → Comes AfterQuotes rest (params_text ps) → Comes InName rest (params_text ps)
+  name-ends [] c = c
+  name-ends (p ∷ ps) c = c
+
+  -- what is spelled as a content line leads to its colon
+  pub comes : (name : List ℕ) (ps : List Param) → IsName name → AllByRecursion IsParam ps → Comes Start rest (name ++ params_text ps)
+  comes [] ps n h = absurd (n.some refl)
+  comes (b ∷ bs) ps n h =
+      let parts = and_parts (is_name_byte b) (list_all is_name_byte bs) n.bytes in
+      let first : step Start b ≡ On InName = rw parts.0 refl in
+      next Start b (bs ++ params_text ps) first
+      (run stays-name bs (params_text ps) parts.1 (name-ends ps (params-come ps h)))
 
 -- What the text from a place up to the colon is made of: bytes of what the place stands in, a value, values and parameters behind them.
 pub record Tail : Type 0 where
@@ -161,9 +166,9 @@ nonempty b bs h = cc
 all-cons : (p : ℕ → Bool) (b : ℕ) (bs : List ℕ) → p b ≡ true → list_all p bs ≡ true → list_all p (b ∷ bs) ≡ true
 all-cons p b bs h k = rw (h, k) refl
 
-by_test : {P : Type 0} (b : Bool) (x y : Move) (q : ScanState) → (if b then x else y) ≡ On q → (b ≡ true → x ≡ On q → P) → (b ≡ false → y ≡ On q → P) → P
-by_test true x y q e f g = f refl e
-by_test false x y q e f g = g refl e
+by_test : {P : Type 0} {q : ScanState} (b : Bool) (x y : Move) → (if b then x else y) ≡ On q → (b ≡ true → x ≡ On q → P) → (b ≡ false → y ≡ On q → P) → P
+by_test true x y e f g = f refl e
+by_test false x y e f g = g refl e
 
 for_value : {P : Type 0} (b : Bool) (x y : Move) → (if b then x else y) ≡ Value → (b ≡ true → x ≡ Value → P) → (b ≡ false → y ≡ Value → P) → P
 for_value true x y e f g = f refl e
@@ -179,7 +184,7 @@ no_value : (q : ScanState) → Value ≡ On q → ⊥
 no_value q e = cc
 
 back-Start : (b : ℕ) (q : ScanState) (t : Tail) → step Start b ≡ On q → Back Start b t q
-back-Start b q t s = by_test (is_name_byte b) (On InName) Refused q s
+back-Start b q t s = by_test (is_name_byte b) (On InName) Refused s
     (λ h e. subst (Back Start b t) (onto InName q e)
     (λ ok. (record t { bytes = b ∷ t.bytes }, (record { some = nonempty b t.bytes; bytes = all-cons is_name_byte b t.bytes h ok.0 }, ok.1), refl)))
     (λ h e. absurd (refused q e))
@@ -195,23 +200,23 @@ begun-text : (b : ℕ) (t : Tail) → b ≡ 59 → params_text (begun t ∷ t.ps
 begun-text b t e = params-param (begun t) t.ps ∙ ap (λ c. c ∷ tail_text BeforeParam t) (sym e)
 
 back-InName : (b : ℕ) (q : ScanState) (t : Tail) → step InName b ≡ On q → Back InName b t q
-back-InName b q t s = by_test (is_name_byte b) (On InName) _ q s
+back-InName b q t s = by_test (is_name_byte b) (On InName) _ s
     (λ h e. subst (Back InName b t) (onto InName q e) (λ ok. (record t { bytes = b ∷ t.bytes }, (all-cons is_name_byte b t.bytes h ok.0, ok.1), refl)))
-    (λ h e. by_test (b == 59) (On BeforeParam) (if b == 58 then Value else Refused) q e
+    (λ h e. by_test (b == 59) (On BeforeParam) (if b == 58 then Value else Refused) e
     (λ k e. subst (Back InName b t) (onto BeforeParam q e) (λ ok.
     (record { bytes = []; first = none; vs = []; ps = begun t ∷ t.ps }, (refl, begun-ok t ok), begun-text b t (eqb-true b 59 k))))
-    (λ k e. by_test (b == 58) Value Refused q e (λ m e. absurd (no_value q e)) (λ m e. absurd (refused q e))))
+    (λ k e. by_test (b == 58) Value Refused e (λ m e. absurd (no_value q e)) (λ m e. absurd (refused q e))))
 
 back-BeforeParam : (b : ℕ) (q : ScanState) (t : Tail) → step BeforeParam b ≡ On q → Back BeforeParam b t q
-back-BeforeParam b q t s = by_test (is_name_byte b) (On InParam) Refused q s
+back-BeforeParam b q t s = by_test (is_name_byte b) (On InParam) Refused s
     (λ h e. subst (Back BeforeParam b t) (onto InParam q e) (λ ok.
     (record t { bytes = b ∷ t.bytes }, (record { some = nonempty b t.bytes; bytes = all-cons is_name_byte b t.bytes h ok.0 }, ok.1, ok.2), refl)))
     (λ h e. absurd (refused q e))
 
 back-InParam : (b : ℕ) (q : ScanState) (t : Tail) → step InParam b ≡ On q → Back InParam b t q
-back-InParam b q t s = by_test (is_name_byte b) (On InParam) (if b == 61 then On BeforeValue else Refused) q s
+back-InParam b q t s = by_test (is_name_byte b) (On InParam) (if b == 61 then On BeforeValue else Refused) s
     (λ h e. subst (Back InParam b t) (onto InParam q e) (λ ok. (record t { bytes = b ∷ t.bytes }, (all-cons is_name_byte b t.bytes h ok.0, ok.1, ok.2), refl)))
-    (λ h e. by_test (b == 61) (On BeforeValue) Refused q e
+    (λ h e. by_test (b == 61) (On BeforeValue) Refused e
     (λ k e. subst (Back InParam b t) (onto BeforeValue q e) (λ ok.
     (record t { bytes = [] }, (refl, ok.0, ok.1), ap (λ c. c ∷ tail_text BeforeValue t) (sym (eqb-true b 61 k)))))
     (λ k e. absurd (refused q e)))
@@ -222,12 +227,12 @@ Ends b t q = TailOk q t → (vs : List Parameter) × (ps : List Param) × AllByR
 
 back-ends : (b : ℕ) (q : ScanState) (t : Tail) → ends_value b ≡ On q → Ends b t q
 unfolding Ends
-back-ends b q t s = by_test (b == 44) (On BeforeValue) _ q s
+back-ends b q t s = by_test (b == 44) (On BeforeValue) _ s
     (λ h e. subst (λ q. Ends b t q) (onto BeforeValue q e) (λ ok.
     (t.first ∷ t.vs, t.ps, (ok.0, ok.1.values), ok.1.params, more-value t.first t.vs t.ps ∙ ap (λ c. c ∷ tail_text BeforeValue t) (sym (eqb-true b 44 h)))))
-    (λ h e. by_test (b == 59) (On BeforeParam) _ q e
+    (λ h e. by_test (b == 59) (On BeforeParam) _ e
     (λ k e. subst (λ q. Ends b t q) (onto BeforeParam q e) (λ ok. ([], begun t ∷ t.ps, tt, begun-ok t ok, begun-text b t (eqb-true b 59 k))))
-    (λ k e. by_test (b == 58) Value Refused q e (λ m e. absurd (no_value q e)) (λ m e. absurd (refused q e))))
+    (λ k e. by_test (b == 58) Value Refused e (λ m e. absurd (no_value q e)) (λ m e. absurd (refused q e))))
 
 back-AfterQuotes : (b : ℕ) (q : ScanState) (t : Tail) → step AfterQuotes b ≡ On q → Back AfterQuotes b t q
 unfolding Ends
@@ -237,7 +242,7 @@ back-AfterQuotes b q t s = λ ok.
 
 back-InPlain : (b : ℕ) (q : ScanState) (t : Tail) → step InPlain b ≡ On q → Back InPlain b t q
 unfolding Ends
-back-InPlain b q t s = by_test (is_plain_byte b) (On InPlain) (ends_value b) q s
+back-InPlain b q t s = by_test (is_plain_byte b) (On InPlain) (ends_value b) s
     (λ h e. subst (Back InPlain b t) (onto InPlain q e) (λ ok. (record t { bytes = b ∷ t.bytes }, (all-cons is_plain_byte b t.bytes h ok.0, ok.1), refl)))
     (λ h e ok.
     let (vs, ps, hv, hp, same) = back-ends b q t e ok in
@@ -245,14 +250,14 @@ back-InPlain b q t s = by_test (is_plain_byte b) (On InPlain) (ends_value b) q s
 
 back-BeforeValue : (b : ℕ) (q : ScanState) (t : Tail) → step BeforeValue b ≡ On q → Back BeforeValue b t q
 unfolding Ends none
-back-BeforeValue b q t s = by_test (b == 34) (On InQuotes) (in_value b) q s
+back-BeforeValue b q t s = by_test (b == 34) (On InQuotes) (in_value b) s
     (λ h e. subst (Back BeforeValue b t) (onto InQuotes q e) (λ ok. (
       record t { first = record { quoted = true; bytes = t.bytes } },
       (ok.0, ok.1),
       ap (λ r. 34 ∷ r) (append_assoc t.bytes (34 ∷ []) (more t.vs t.ps))
           ∙ ap (λ c. c ∷ tail_text InQuotes t) (sym (eqb-true b 34 h)),
     )))
-    (λ h e. by_test (is_plain_byte b) (On InPlain) (ends_value b) q e
+    (λ h e. by_test (is_plain_byte b) (On InPlain) (ends_value b) e
     (λ k e. subst (Back BeforeValue b t) (onto InPlain q e) (λ ok.
     (record t { first = record { quoted = false; bytes = b ∷ t.bytes } }, (all-cons is_plain_byte b t.bytes k ok.0, ok.1), refl)))
     (λ k e ok.
@@ -260,10 +265,10 @@ back-BeforeValue b q t s = by_test (b == 34) (On InQuotes) (in_value b) q s
     (record { bytes = []; first = none; vs = vs; ps = ps }, (refl, record { values = hv; params = hp }), same)))
 
 back-InQuotes : (b : ℕ) (q : ScanState) (t : Tail) → step InQuotes b ≡ On q → Back InQuotes b t q
-back-InQuotes b q t s = by_test (b == 34) (On AfterQuotes) _ q s
+back-InQuotes b q t s = by_test (b == 34) (On AfterQuotes) _ s
     (λ h e. subst (Back InQuotes b t) (onto AfterQuotes q e)
     (λ ok. (record t { bytes = [] }, (refl, ok), ap (λ c. c ∷ tail_text AfterQuotes t) (sym (eqb-true b 34 h)))))
-    (λ h e. by_test (is_quoted_byte b) (On InQuotes) Refused q e
+    (λ h e. by_test (is_quoted_byte b) (On InQuotes) Refused e
     (λ k e. subst (Back InQuotes b t) (onto InQuotes q e) (λ ok. (record t { bytes = b ∷ t.bytes }, (all-cons is_quoted_byte b t.bytes k ok.0, ok.1), refl)))
     (λ k e. absurd (refused q e)))
 
@@ -278,7 +283,7 @@ back InQuotes = back-InQuotes
 back AfterQuotes = back-AfterQuotes
 
 -- where the byte is the colon before the value, nothing may be missing
-Stops : ScanState → ℕ → Type 0
+abbrev Stops : ScanState → ℕ → Type 0
 Stops state b = (b ≡ 58) × ((t : Tail) × TailOk state t × (tail_text state t ≡ []))
 
 on_no : (q : ScanState) → On q ≡ Value → ⊥
@@ -304,7 +309,7 @@ no_rest : Rest [] []
 no_rest = record { values = tt; params = tt }
 
 stop : (state : ScanState) (b : ℕ) → step state b ≡ Value → Stops state b
-unfolding Stops nothing none
+unfolding nothing none
 stop Start b s = for_value (is_name_byte b) (On InName) Refused s (λ h e. absurd (on_no InName e)) (λ h e. absurd (refused_no e))
 stop InName b s = for_value (is_name_byte b) (On InName) (if b == 59 then On BeforeParam else if b == 58 then Value else Refused) s
     (λ h e. absurd (on_no InName e))
@@ -330,33 +335,31 @@ pub record Found (state : ScanState) (bs : List ℕ) (k : ℕ) : Type 0 where
   pub text : bs ≡ tail_text state tail ++ 58 ∷ behind
   pub count : k ≡ length (tail_text state tail)
 
-came : (state : ScanState) (b : ℕ) (bs : List ℕ) (k : ℕ) (q : ScanState) (o : Option ℕ) → step state b ≡ On q → colon_from bs q ≡ o →
-    option_map (λ n. n + 1) o ≡ Some k →
-    ((j : ℕ) → colon_from bs q ≡ Some j → Found q bs j) → Found state (b ∷ bs) k
-came state b bs k q None s c e ih = cc
-came state b bs k q (Some j) s c e ih =
-    let f = ih j c in
-    let (u, ok, text) = back state b q f.tail s f.ok in
-    let count : j + 1 ≡ k = cc in
-    record {
-      tail = u;
-      behind = f.behind;
-      ok = ok;
-      text = ap (λ r. b ∷ r) f.text ∙ ap (λ r. r ++ 58 ∷ f.behind) (sym text);
-      count = sym count ∙ add-one j ∙ ap suc f.count ∙ ap length (sym text);
-    }
-
-went : (state : ScanState) (b : ℕ) (bs : List ℕ) (k : ℕ) (m : Move) → step state b ≡ m → counted m (colon_from bs) ≡ Some k →
-    ((q : ScanState) (j : ℕ) → colon_from bs q ≡ Some j → Found q bs j) → Found state (b ∷ bs) k
-unfolding Stops
-went state b bs k (On q) s e ih = came state b bs k q (colon_from bs q) s refl e (ih q)
-went state b bs k Value s e ih =
-    let (colon, (t, ok, text)) = stop state b s in
-    let zero_is : 0 ≡ k = cc in
-    record { tail = t; behind = bs; ok = ok; text = ap (λ c. c ∷ bs) colon ∙ ap (λ r. r ++ 58 ∷ bs) (sym text); count = sym zero_is ∙ ap length (sym text) }
-went state b bs k Refused s e ih = cc
-
 -- what leads to its colon is spelled so
 pub found : (bs : List ℕ) (state : ScanState) (k : ℕ) → colon_from bs state ≡ Some k → Found state bs k
 found [] state k e = cc
-found (b ∷ bs) state k e = went state b bs k (step state b) refl e (found bs)
+found (b ∷ bs) state k e = went (step state b) refl e (found bs)
+  where
+    came : (q : ScanState) (o : Option ℕ) → step state b ≡ On q → colon_from bs q ≡ o → option_map (λ n. n + 1) o ≡ Some k →
+        ((j : ℕ) → colon_from bs q ≡ Some j → Found q bs j) → Found state (b ∷ bs) k
+    came q None s c e ih = cc
+    came q (Some j) s c e ih =
+        let f = ih j c in
+        let (u, ok, text) = back state b q f.tail s f.ok in
+        let count : j + 1 ≡ k = cc in
+        record {
+          tail = u;
+          behind = f.behind;
+          ok = ok;
+          text = ap (λ r. b ∷ r) f.text ∙ ap (λ r. r ++ 58 ∷ f.behind) (sym text);
+          count = sym count ∙ add-one j ∙ ap suc f.count ∙ ap length (sym text);
+        }
+
+    went : (m : Move) → step state b ≡ m → counted m (colon_from bs) ≡ Some k → ((q : ScanState) (j : ℕ) → colon_from bs q ≡ Some j → Found q bs j) →
+        Found state (b ∷ bs) k
+    went (On q) s e ih = came q (colon_from bs q) s refl e (ih q)
+    went Value s e ih =
+        let (colon, (t, ok, text)) = stop state b s in
+        let zero_is : 0 ≡ k = cc in
+        record { tail = t; behind = bs; ok = ok; text = ap (λ c. c ∷ bs) colon ∙ ap (λ r. r ++ 58 ∷ bs) (sym text); count = sym zero_is ∙ ap length (sym text) }
+    went Refused s e ih = cc

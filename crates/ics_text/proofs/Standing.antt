@@ -39,7 +39,8 @@ behind-physical (b ∷ bs) =
   where
     -- a byte in front, by what it does: it ends the first line, or belongs to that end, or to the line
     in_front : (ends cr_lf : Bool) → (ends ≡ true → b ≡ 10) → (ends ≡ false → (b == 10) ≡ false) → (cr_lf ≡ true → begins (λ c. c == lf) bs ≡ true) →
-        Behind 0 bs (physical_lines bs) → Behind 0 (b ∷ bs) (cond ends ([] ∷ physical_lines bs) (cond cr_lf (physical_lines bs) (onto_first b (physical_lines bs))))
+        Behind 0 bs (physical_lines bs) →
+        Behind 0 (b ∷ bs) (cond ends ([] ∷ physical_lines bs) (cond cr_lf (physical_lines bs) (onto_first b (physical_lines bs))))
     in_front true cr_lf is_lf no_lf next_lf h = rw (is_lf refl) (refl, behind-lf 0 bs (physical_lines bs) h)
     in_front false true is_lf no_lf next_lf h = at_end b bs (no_lf refl) (next_lf refl) h
     in_front false false is_lf no_lf next_lf h = onto b bs (physical_lines bs) (no_lf refl) h

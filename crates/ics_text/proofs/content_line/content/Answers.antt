@@ -1,19 +1,9 @@
-use Rattle.std.proofs.Common.{◌≡◌, ◌<◌, List, ℕ, Option, Some, None, sym, ap, ◌∙◌, subst, arith, drop, take}
+use Rattle.std.proofs.Common.{◌≡◌, Some, None, sym, ap, ◌∙◌, subst, arith}
 use Rattle.std.specs.Prelude.{option_map}
-use Rattle.std.specs.List.{prefix_len}
-use Rattle.ics_text.specs.Bytes.{is_name_byte}
 use Rattle.ics_text.specs.ContentLines.{Parts, IsContent, cut_at}
-use Rattle.ics_text.specs.ScanSteps.{colon_from}
-use Rattle.ics_text.specs.declared.scan_state.ScanState.TheVariants.{InName}
 use Rattle.ics_text.proofs.Colons.{no_name}
 use Rattle.ics_text.proofs.Parting.{CutBehind, reached, not_reached, slices_behind, is_content, same_parts, refuses}
 use Rattle.ics_text.proofs.content_line.content.Goals as goal
-
--- the line cut behind its name, and what the search for the colon found
-cut : (line name behind : List ℕ) (len : ℕ) (found : Option ℕ) → len ≡ prefix_len is_name_byte line → 0 < len → name ≡ take len line → behind ≡ drop len line →
-    found ≡ colon_from behind InName →
-    CutBehind line name behind found
-cut line name behind len found e some n b f = record { some = rw (← e) some; name_is = rw (← e) n; behind_is = rw (← e) b; found_is = f }
 
 pub returns-then-len-eq0-clause-refused : goal.returns-then-len-eq0-clause-refused
 returns-then-len-eq0-clause-refused c = refuses c.args.line.now (sym (no_name c.args.line.now (sym c.name_len-len.ensures.value ∙ c.if-len-eq0.true)))
@@ -23,8 +13,13 @@ returns-in_default c =
     let line = c.args.line.now in
     let (name, behind) = c.split_at.result in
     let halves = c.split_at.ensures in
-    let parts = cut line name.now behind.now c.name_len-len.result None c.name_len-len.ensures.value (omega arith) halves.front halves.back
-    c.in_default.ensures.value in
+    let len = c.name_len-len.ensures.value in
+    let parts : CutBehind line name.now behind.now None = record {
+      some = rw (← len) (omega arith);
+      name_is = rw (← len) halves.front;
+      behind_is = rw (← len) halves.back;
+      found_is = c.in_default.ensures.value;
+    } in
     let none = not_reached line name.now behind.now parts in
     record { parts = tt; only = tt; refused = refuses line none; computes = ap (option_map (cut_at line)) none }
 
@@ -34,13 +29,18 @@ returns c =
     let (name, behind) = c.split_at.result in
     let halves = c.split_at.ensures in
     let colon = c.in-Some.colon in
-    let parts = cut line name.now behind.now c.name_len-len.result (Some colon) c.name_len-len.ensures.value (omega arith) halves.front halves.back
-    c.in-Some.ensures.value in
+    let len = c.name_len-len.ensures.value in
+    let parts : CutBehind line name.now behind.now (Some colon) = record {
+      some = rw (← len) (omega arith);
+      name_is = rw (← len) halves.front;
+      behind_is = rw (← len) halves.back;
+      found_is = c.in-Some.ensures.value;
+    } in
     let slices = slices_behind line name.now behind.now colon parts in
     let some = reached line name.now behind.now colon parts in
     record {
       parts = subst (λ (p : Parts). IsContent line p.name p.params p.value) (sym slices) (is_content line _ some);
-      only = λ n p v h. subst (λ (q : Parts). (n ≡ q.name) × (p ≡ q.params) × (v ≡ q.value)) (sym slices) (same_parts line _ n p v some h);
+      only = λ n p v h. subst (λ (q : Parts). (n ≡ q.name) × (p ≡ q.params) × (v ≡ q.value)) (sym slices) (same_parts _ some h);
       refused = tt;
       computes = ap Some slices ∙ ap (option_map (cut_at line)) (sym some);
     }
