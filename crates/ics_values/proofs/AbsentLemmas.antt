@@ -114,20 +114,20 @@ by_items list ps empty absent present = by_value (value_of (part.List list) ps) 
     by_value (Some v) k = by_split v (pieces 44 v) refl k
 
 -- what a part that is absent leaves
-left : {A : Type 0} (list : ListName) (read : RuleParts → A) (step : A → List ℕ → A) → Sets (part.List list) read (λ v x. fold step x (pieces 44 v)) →
+left : {A : Type 0} {list : ListName} {read : RuleParts → A} (step : A → List ℕ → A) → Sets (part.List list) read (λ v x. fold step x (pieces 44 v)) →
     (ps : List Part) → none_twice ps ≡ true
     → value_of (part.List list) ps ≡ None → read (rule_said ps) ≡ read (every Yearly)
-left list read step set ps once none =
-    part_said (part.List list) read (λ v x. fold step x (pieces 44 v)) set ps once (every Yearly)
+left {read = read} step set ps once none =
+    part_said set ps once (every Yearly)
     ∙ ap (λ o. option_map_or (λ v. fold step (read (every Yearly)) (pieces 44 v)) o (read (every Yearly))) none
 
 is_day-self : (day : Weekday) → is_day day (Some day) ≡ true
 is_day-self day = same (monday_zero day)
 
 -- an item of BYDAY is a weekday without a number, or with one
-day_listed : (ps : List Part) (rule : RuleParts) → Says ps rule → (i : List ℕ) (more : List (List ℕ)) → items_of ByDay ps ≡ i ∷ more → fits_list ByDay i ≡ true
+day_listed : {ps : List Part} {rule : RuleParts} → Says ps rule → (i : List ℕ) (more : List (List ℕ)) → items_of ByDay ps ≡ i ∷ more → fits_list ByDay i ≡ true
     → lists_no_weekday rule.weekdays ≡ false
-day_listed ps rule s i more e fit = by_day (weekday_of (day_text i)) refl (and_parts (is_some (weekday_of (day_text i))) _ fit).0
+day_listed {ps} {rule} s i more e fit = by_day (weekday_of (day_text i)) refl (and_parts (is_some (weekday_of (day_text i))) _ fit).0
   where
     by_length : (day : Weekday) (two : Bool) → weekday_of (day_text i) ≡ Some day → (length i == 2) ≡ two → lists_no_weekday rule.weekdays ≡ false
     by_length day true k l =
@@ -157,45 +157,45 @@ absent ps h list = by_list list
     s : Says ps (rule_said ps)
     s = says ps h
 
-    numbers : (l : ListName) (read : RuleParts → ℕ) (step : ℕ → List ℕ → ℕ) → Sets (part.List l) read (λ v x. fold step x (pieces 44 v)) →
+    numbers : {l : ListName} {read : RuleParts → ℕ} (step : ℕ → List ℕ → ℕ) → Sets (part.List l) read (λ v x. fold step x (pieces 44 v)) →
         read (every Yearly) ≡ 0 → (number : List ℕ → ℕ)
         → ((n : ℕ) → contains (read (rule_said ps)) n ≡ list_any (λ item. n == number item) (items_of l ps)) →
         sets.is_empty (read (rule_said ps)) ≡ not (has_part (part.List l) ps)
-    numbers l read step set zeros number listed =
-        by_items l ps (sets.is_empty (read (rule_said ps))) (λ none. ap sets.is_empty (left l read step set ps parts.1 none ∙ zeros))
+    numbers {l} {read} step set zeros number listed =
+        by_items l ps (sets.is_empty (read (rule_said ps))) (λ none. ap sets.is_empty (left step set ps parts.1 none ∙ zeros))
         (λ i more e. not_none (read (rule_said ps)) (number i) (listed (number i)
         ∙ first_passes (λ item. number i == number item) (items_of l ps) i more e (same (number i))))
 
-    places : (l : ListName) (read : RuleParts → Ordinals) (step : Ordinals → List ℕ → Ordinals) → Sets (part.List l) read (λ v x. fold step x (pieces 44 v)) →
+    places : {l : ListName} {read : RuleParts → Ordinals} (step : Ordinals → List ℕ → Ordinals) → Sets (part.List l) read (λ v x. fold step x (pieces 44 v)) →
         read (every Yearly) ≡ no_ordinals
         → ((side : Side) (n : ℕ) → has_place side n (read (rule_said ps)) ≡ list_any (is_place side n) (items_of l ps)) →
         lists_none (read (rule_said ps)) ≡ not (has_part (part.List l) ps)
-    places l read step set zeros listed =
-        by_items l ps (lists_none (read (rule_said ps))) (λ none. ap lists_none (left l read step set ps parts.1 none ∙ zeros))
+    places {l} {read} step set zeros listed =
+        by_items l ps (lists_none (read (rule_said ps))) (λ none. ap lists_none (left step set ps parts.1 none ∙ zeros))
         (λ i more e. not_none_place (own_side i) (own_number i) (read (rule_said ps))
         (listed (own_side i) (own_number i) ∙ first_passes (is_place (own_side i) (own_number i)) (items_of l ps) i more e (own_place i)))
 
-    wide_places : (l : ListName) (read : RuleParts → WideOrdinals) (step : WideOrdinals → List ℕ → WideOrdinals) →
+    wide_places : {l : ListName} {read : RuleParts → WideOrdinals} (step : WideOrdinals → List ℕ → WideOrdinals) →
         Sets (part.List l) read (λ v x. fold step x (pieces 44 v))
         → lists_none_wide (read (every Yearly)) ≡ true
         → ((side : Side) (n : ℕ) → has_wide_place side n (read (rule_said ps)) ≡ list_any (is_place side n) (items_of l ps)) →
         lists_none_wide (read (rule_said ps)) ≡ not (has_part (part.List l) ps)
-    wide_places l read step set zeros listed =
-        by_items l ps (lists_none_wide (read (rule_said ps))) (λ none. ap lists_none_wide (left l read step set ps parts.1 none) ∙ zeros)
+    wide_places {l} {read} step set zeros listed =
+        by_items l ps (lists_none_wide (read (rule_said ps))) (λ none. ap lists_none_wide (left step set ps parts.1 none) ∙ zeros)
         (λ i more e. not_none_wide_place (own_side i) (own_number i) (read (rule_said ps))
         (listed (own_side i) (own_number i) ∙ first_passes (is_place (own_side i) (own_number i)) (items_of l ps) i more e (own_place i)))
 
     by_list : (l : ListName) → lists_nothing l (rule_said ps) ≡ not (has_part (part.List l) ps)
-    by_list BySecond = numbers BySecond (λ r. r.seconds) _ sets_seconds refl (λ i. min (number_of i) 59) s.seconds
-    by_list ByMinute = numbers ByMinute (λ r. r.minutes) _ sets_minutes refl number_of s.minutes
-    by_list ByHour = numbers ByHour (λ r. r.hours) _ sets_hours refl number_of s.hours
-    by_list ByMonth = numbers ByMonth (λ r. r.months) _ sets_months refl number_of s.months
-    by_list ByMonthDay = places ByMonthDay (λ r. r.month_days) _ sets_month_days refl s.month_days
-    by_list ByWeekNo = places ByWeekNo (λ r. r.weeks) _ sets_weeks refl s.weeks
-    by_list ByYearDay = wide_places ByYearDay (λ r. r.year_days) _ sets_year_days refl s.year_days
-    by_list BySetPos = wide_places BySetPos (λ r. r.positions) _ sets_positions refl s.positions
+    by_list BySecond = numbers _ sets_seconds refl (λ i. min (number_of i) 59) s.seconds
+    by_list ByMinute = numbers _ sets_minutes refl number_of s.minutes
+    by_list ByHour = numbers _ sets_hours refl number_of s.hours
+    by_list ByMonth = numbers _ sets_months refl number_of s.months
+    by_list ByMonthDay = places _ sets_month_days refl s.month_days
+    by_list ByWeekNo = places _ sets_weeks refl s.weeks
+    by_list ByYearDay = wide_places _ sets_year_days refl s.year_days
+    by_list BySetPos = wide_places _ sets_positions refl s.positions
     by_list ByDay = by_items ByDay ps (lists_no_weekday (rule_said ps).weekdays)
-        (λ none. ap lists_no_weekday (left ByDay (λ r. r.weekdays) _ sets_weekdays ps parts.1 none))
-        (λ i more e. day_listed ps (rule_said ps) s i more e
+        (λ none. ap lists_no_weekday (left _ sets_weekdays ps parts.1 none))
+        (λ i more e. day_listed s i more e
         (and_parts (fits_list ByDay i) (list_all (fits_list ByDay) more) (sym (ap (list_all (fits_list ByDay)) e)
         ∙ items_fit ByDay passes_day ps parts.0)).0)

@@ -44,10 +44,11 @@ parts y m d h =
     by_tests one m twelve d last h = grind (arith, nat_tests)
 
 pub is_date-parts : (y m d : ℕ) → Parts y m d → is_date y m d ≡ true
-is_date-parts y m d p = by_tests 1 m 12 d (days_in_month (pos y) m) p.month_low p.month_high p.day_low p.day_high
+is_date-parts y m d p = by_tests 1 12 (days_in_month (pos y) m) (p.month_low, p.month_high, p.day_low, p.day_high)
   where
-    by_tests : (one m twelve d last : ℕ) → one ≤ m → m ≤ twelve → one ≤ d → d ≤ last → (nat_le one m && nat_le m twelve && nat_le one d && nat_le d last) ≡ true
-    by_tests one m twelve d last a b c e = grind (arith, nat_tests)
+    by_tests : (one twelve last : ℕ) → (one ≤ m) × (m ≤ twelve) × (one ≤ d) × (d ≤ last) →
+        (nat_le one m && nat_le m twelve && nat_le one d && nat_le d last) ≡ true
+    by_tests one twelve last h = let month_low = h.0 in let month_high = h.1 in let day_low = h.2 in let day_high = h.3 in grind (arith, nat_tests)
 
 pub day_number-days_from_civil : (y m d : ℕ) → is_date y m d ≡ true → day_number y m d ≡ days_from_civil (pos y) m d
 day_number-days_from_civil y m d h =

@@ -1,5 +1,5 @@
 -- The order of locals, the dates of the calendar, and times of a day.
-use Rattle.std.proofs.Common.{◌≡◌, ℕ, ◌+◌, ◌*◌, ◌<◌, ◌≤◌, true, ◌&&◌, nat_le, List, min, refl, arith, ℤ, pos, ◌+ℤ◌, ◌*ℤ◌, ◌<ℤ◌}
+use Rattle.std.proofs.Common.{◌≡◌, ℕ, ◌+◌, ◌*◌, ◌<◌, ◌≤◌, true, ◌&&◌, nat_le, List, min, refl, arith, pos, ◌<ℤ◌}
 use Rattle.std.specs.Ordering.{MatchOrdering, ordering_then, int_cmp, nat_cmp}
 use Rattle.std.specs.Cmp.{int_cmp_is, int_ranks, ranks}
 use Rattle.std.specs.declared.cmp.Ordering.{Ordering}
@@ -15,21 +15,18 @@ use Rattle.ics_values.specs.Stamps.{time_exists, second_of, local_of}
 use Rattle.ics_values.specs.declared.local.Local.{Local}
 use Rattle.ics_values.proofs.DateLemmas.{parts, is_date-parts, day_number-days_from_civil}
 
-abbrev at : ℤ → ℕ → ℤ
-at day second = day *ℤ pos 86_400 +ℤ pos second
-
-in_time : (o p : Ordering) (d e : ℤ) (s t : ℕ) → s < 86_400 → t < 86_400 → MatchOrdering o (d <ℤ e) (d ≡ e) (e <ℤ d) → MatchOrdering p (s < t) (s ≡ t) (t < s) →
-    MatchOrdering (ordering_then o p) (at d s <ℤ at e t) (at d s ≡ at e t) (at e t <ℤ at d s)
-in_time Less p d e s t low high day second = omega (arith, ints)
-in_time Greater p d e s t low high day second = omega (arith, ints)
-in_time Equal Less d e s t low high day second = omega (arith, ints)
-in_time Equal Equal d e s t low high day second = rw (day, second) refl
-in_time Equal Greater d e s t low high day second = omega (arith, ints)
-
 pub by_time : (a b : Local) → ordering_then (int_cmp a.day b.day) (nat_cmp a.second b.second) ≡ int_cmp (local_seconds a) (local_seconds b)
 by_time a b = int_cmp_is (local_seconds a) (local_seconds b) _
-    (in_time (int_cmp a.day b.day) (nat_cmp a.second b.second) a.day b.day a.second b.second a.second_in b.second_in (int_ranks a.day b.day)
-    (ranks a.second b.second))
+    (in_time (int_cmp a.day b.day) (nat_cmp a.second b.second) (int_ranks a.day b.day) (ranks a.second b.second))
+  where
+    in_time : (o p : Ordering) → MatchOrdering o (a.day <ℤ b.day) (a.day ≡ b.day) (b.day <ℤ a.day) →
+        MatchOrdering p (a.second < b.second) (a.second ≡ b.second) (b.second < a.second) →
+        MatchOrdering (ordering_then o p) (local_seconds a <ℤ local_seconds b) (local_seconds a ≡ local_seconds b) (local_seconds b <ℤ local_seconds a)
+    in_time Less p day second = omega (arith, ints)
+    in_time Greater p day second = omega (arith, ints)
+    in_time Equal Less day second = omega (arith, ints)
+    in_time Equal Equal day second = rw (day, second) refl
+    in_time Equal Greater day second = omega (arith, ints)
 
 pub is_jiffs : (y m d : ℕ) → y ≤ 9999 → IsJiffsDate y m d
 is_jiffs y m d year = record {

@@ -37,20 +37,20 @@ or_false : (t : Bool) → (t || false) ≡ t
 or_false true = refl
 or_false false = refl
 
-pub gathered : {S : Type 0} (step : S → List ℕ → S) (sees : S → Bool) (test fits : List ℕ → Bool) (Fine : S → Type 0) → Adds step sees test fits Fine
+gathered : {S : Type 0} {step : S → List ℕ → S} {sees : S → Bool} {test fits : List ℕ → Bool} {Fine : S → Type 0} → Adds step sees test fits Fine
     → (items : List (List ℕ)) → list_all fits items ≡ true → (s : S) → Fine s → sees (fold step s items) ≡ (list_any test items || sees s)
-gathered step sees test fits Fine a [] h s f = refl
-gathered step sees test fits Fine a (i ∷ items) h s f =
+gathered a [] h s f = refl
+gathered {step = step} {sees = sees} {test = test} {fits = fits} a (i ∷ items) h s f =
     let p = and_parts (fits i) (list_all fits items) h in
-    gathered step sees test fits Fine a items p.1 (step s i) (a.fine s i p.0 f)
+    gathered a items p.1 (step s i) (a.fine s i p.0 f)
     ∙ ap (λ t. list_any test items || t) (a.adds s i p.0 f)
     ∙ or_swap (list_any test items) (test i) (sees s)
 
 -- the same from a state that sees nothing
-pub gathered_all : {S : Type 0} (step : S → List ℕ → S) (sees : S → Bool) (test fits : List ℕ → Bool) (Fine : S → Type 0) → Adds step sees test fits Fine
+pub gathered_all : {S : Type 0} {step : S → List ℕ → S} {sees : S → Bool} {test fits : List ℕ → Bool} {Fine : S → Type 0} → Adds step sees test fits Fine
     → (items : List (List ℕ)) → list_all fits items ≡ true → (s : S) → Fine s → sees s ≡ false → sees (fold step s items) ≡ list_any test items
-gathered_all step sees test fits Fine a items h s f none =
-    gathered step sees test fits Fine a items h s f ∙ ap (λ t. list_any test items || t) none ∙ or_false (list_any test items)
+gathered_all {test = test} a items h s f none =
+    gathered a items h s f ∙ ap (λ t. list_any test items || t) none ∙ or_false (list_any test items)
 
 -- a number that is in order is not larger than the last
 pub number_high : (low high : ℕ) (text : List ℕ) → is_number low high text ≡ true → number_of text ≤ high
@@ -86,9 +86,9 @@ wide_kept : (b : Bool) (k : ℕ) (p : WideOrdinals) → IsWide p → IsWide (wit
 wide_kept true k p w = record { front = w.front; back = length-set p.back (k / 64) _ ∙ w.back }
 wide_kept false k p w = record { front = length-set p.front (k / 64) _ ∙ w.front; back = w.back }
 
-wide_added : (side : Side) (n k : ℕ) (item : List ℕ) (p : WideOrdinals) → k < 384 → IsWide p
+wide_added : (side : Side) (n k : ℕ) (item : List ℕ) {p : WideOrdinals} → k < 384 → IsWide p
     → has_wide_place side n (with_wide_ordinal (side_of item) k p) ≡ ((is_side side (begins is_minus item) && (n == k)) || has_wide_place side n p)
-wide_added side n k item p h w = by_test side (begins is_minus item)
+wide_added side n k item {p} h w = by_test side (begins is_minus item)
   where
     by_test : (s : Side) (b : Bool) → has_wide_place s n (with_wide_ordinal (cond b Back Front) k p) ≡ ((is_side s b && (n == k)) || has_wide_place s n p)
     by_test Front true = refl
@@ -100,7 +100,7 @@ pub adds_wide_place : (high : ℕ) → high < 384 → (side : Side) (n : ℕ)
     → Adds (λ p i. with_wide_ordinal (side_of i) (number_of (unsigned i)) p) (has_wide_place side n) (is_place side n) (is_signed high) IsWide
 adds_wide_place high small side n = record {
   fine = λ p i h w. wide_kept (begins is_minus i) (number_of (unsigned i)) p w;
-  adds = λ p i h w. let last = number_high 1 high (unsigned i) h in wide_added side n (number_of (unsigned i)) i p (omega arith) w;
+  adds = λ p i h w. let last = number_high 1 high (unsigned i) h in wide_added side n (number_of (unsigned i)) i (omega arith) w;
 }
 
 day_small : (d : Weekday) → monday_zero d < 64
@@ -148,17 +148,6 @@ seven_kept None t i w h = h
 seven_kept (Some e) true i w h = h
 seven_kept (Some e) false i w h = length-set w.numbered (monday_zero e) _ ∙ h
 
-numbered_added : (d e : Weekday) (side : Side) (n k : ℕ) (item : List ℕ) (w : Weekdays) → k < 64 → HasSeven w
-    → has_place side n (numbers_of (with_numbered_weekday e (side_of item) k w) (monday_zero d))
-    ≡ (((monday_zero d == monday_zero e) && (is_side side (begins is_minus item) && (n == k))) || has_place side n (numbers_of w (monday_zero d)))
-numbered_added d e side n k item w small seven = elim (cases_eq (monday_zero d) (monday_zero e)) [
-  | inl same ↦
-      let last = monday_zero_small e in
-      let inside : monday_zero e < length w.numbered = omega arith in
-      rw (same, get_or-set_same, eq-eqb (monday_zero e) (monday_zero e) refl) (place_added side n k item (numbers_of w (monday_zero e)) small)
-  | inr other ↦ rw (get_or-set_other, ne_eqb (monday_zero d) (monday_zero e) other) refl
-]
-
 pub adds_numbered : (d : Weekday) (side : Side) (n : ℕ)
     → Adds (λ w i. with_day (weekday_of (day_text i)) i w) (λ w. has_place side n (numbers_of w (monday_zero d))) (is_numbered d side n) is_day_item HasSeven
 adds_numbered d side n = record {
@@ -168,6 +157,17 @@ adds_numbered d side n = record {
       (and_parts (is_some (weekday_of (day_text i))) ((length i == 2) || is_signed 53 (number_before i)) h).1;
 }
   where
+    added : (e : Weekday) (k : ℕ) (item : List ℕ) (w : Weekdays) → k < 64 → HasSeven w
+        → has_place side n (numbers_of (with_numbered_weekday e (side_of item) k w) (monday_zero d))
+        ≡ (((monday_zero d == monday_zero e) && (is_side side (begins is_minus item) && (n == k))) || has_place side n (numbers_of w (monday_zero d)))
+    added e k item w small seven = elim (cases_eq (monday_zero d) (monday_zero e)) [
+      | inl same ↦
+          let last = monday_zero_small e in
+          let inside : monday_zero e < length w.numbered = omega arith in
+          rw (same, get_or-set_same, eq-eqb (monday_zero e) (monday_zero e) refl) (place_added side n k item (numbers_of w (monday_zero e)) small)
+      | inr other ↦ rw (get_or-set_other, ne_eqb (monday_zero d) (monday_zero e) other) refl
+    ]
+
     by_day : (w : Weekdays) (i : List ℕ) (o : Option Weekday) (t : Bool) → HasSeven w → (t || is_signed 53 (number_before i)) ≡ true
         → has_place side n (numbers_of (day_with o t i w) (monday_zero d))
         ≡ (((is_day d o && not t) && is_place side n (number_before i)) || has_place side n (numbers_of w (monday_zero d)))
@@ -176,6 +176,6 @@ adds_numbered d side n = record {
         (sym (and_false (monday_zero d == monday_zero e)))
     by_day w i (Some e) false u h =
         let last = number_high 1 53 (unsigned (number_before i)) h in
-        numbered_added d e side n (number_of (unsigned (number_before i))) (number_before i) w (omega arith) u
+        added e (number_of (unsigned (number_before i))) (number_before i) w (omega arith) u
         ∙ ap (λ t. (t && is_place side n (number_before i)) || has_place side n (numbers_of w (monday_zero d)))
         (sym (and_true (monday_zero d == monday_zero e)))

@@ -100,14 +100,14 @@ none_left true false c o = refl
 none_left false b c o = refl
 
 -- a part that is in order and fresh, and those behind it
-in_order : (all once fresh named other : Bool) (a b : Option Draft) → fresh ≡ (not named && other) → a ≡ b →
+in_order : (all once named other : Bool) {fresh : Bool} {a b : Option Draft} → fresh ≡ (not named && other) → a ≡ b →
     cond (all && once && fresh) a None ≡ cond (all && (not named && once) && other) b None
-in_order true true fresh true other a b h e = ap (λ t. cond t a None) h
-in_order true true fresh false true a b h e = ap (λ t. cond t a None) h ∙ e
-in_order true true fresh false false a b h e = ap (λ t. cond t a None) h
-in_order true false fresh true other a b h e = refl
-in_order true false fresh false other a b h e = refl
-in_order false once fresh named other a b h e = refl
+in_order true true true other {a = a} h e = ap (λ t. cond t a None) h
+in_order true true false true {a = a} h e = ap (λ t. cond t a None) h ∙ e
+in_order true true false false {a = a} h e = ap (λ t. cond t a None) h
+in_order true false true other h e = refl
+in_order true false false other h e = refl
+in_order false once named other h e = refl
 
 or_true : (t : Bool) → (t || true) ≡ true
 or_true true = refl
@@ -141,13 +141,11 @@ whole_more d (Some name) value ps rest h = by_tests (contains d.seen (row name))
     by_tests true f l = sym (none_left (f && list_all is_part ps) (not (list_any (λ q. is_name name q.name) ps) && none_twice ps) (are_fresh d.seen ps) _)
     by_tests false false l = refl
     by_tests false true true =
-        h (marked d name) ∙ in_order (list_all is_part ps) (none_twice ps) (are_fresh (with_number (row name) d.seen) ps)
-        (list_any (λ q. is_name name q.name) ps) (are_fresh d.seen ps) _ _
+        h (marked d name) ∙ in_order (list_all is_part ps) (none_twice ps) (list_any (λ q. is_name name q.name) ps) (are_fresh d.seen ps)
         (are_fresh-with_number d.seen name ps)
         (ap (λ t. Some (record { parts = fold kept d.parts ps; seen = rows_of (with_number (row name) d.seen) ps; too_large = t })) (sym (or_true d.too_large)))
     by_tests false true false =
-        h (filled d name value) ∙ in_order (list_all is_part ps) (none_twice ps) (are_fresh (with_number (row name) d.seen) ps)
-        (list_any (λ q. is_name name q.name) ps) (are_fresh d.seen ps) _ _
+        h (filled d name value) ∙ in_order (list_all is_part ps) (none_twice ps) (list_any (λ q. is_name name q.name) ps) (are_fresh d.seen ps)
         (are_fresh-with_number d.seen name ps) refl
 
 -- parts that are read one after another
@@ -209,8 +207,9 @@ fold-kept (p ∷ ps) rule h = by_test (is_large p.name p.value) h (fold-kept ps 
 answer-whole : (ps : List Part) →
     (if not (are_parts ps) then Err BadRule else if has_large_number ps then Err NumberTooLarge else Ok (rule_said ps)) ≡ answer_of (whole no_parts ps)
 answer-whole ps =
-    by_tests (list_all is_part ps) (none_twice ps) (are_fresh 0 ps) (all_fresh ps)
-    (has_part part.Freq ps) (not (has_part part.Until ps && has_part part.Count ps)) whole_is (has_large_number ps) (fold-kept ps (every Yearly))
+    by_tests (list_all is_part ps && none_twice ps) (has_part part.Freq ps) (not (has_part part.Until ps && has_part part.Count ps)) (has_large_number ps)
+    whole_is (fold-kept ps (every Yearly))
+    ∙ ap (λ t. answer_of (cond (list_all is_part ps && none_twice ps && t) (Some (draft_with no_parts ps)) None)) (sym (all_fresh ps))
   where
     whole_is : is_whole (draft_with no_parts ps) ≡ has_part part.Freq ps && not (has_part part.Until ps && has_part part.Count ps)
     whole_is =
@@ -218,15 +217,12 @@ answer-whole ps =
         ∙ ap (λ t. has_part part.Freq ps && not (t && contains (rows_of 0 ps) (row part.Count))) (seen-has_part ps part.Until)
         ∙ ap (λ t. has_part part.Freq ps && not (has_part part.Until ps && t)) (seen-has_part ps part.Count)
 
-    by_tests : (a n f : Bool) → f ≡ true → (q r : Bool) → is_whole (draft_with no_parts ps) ≡ (q && r) → (l : Bool) →
-        (l ≡ false → fold kept (every Yearly) ps ≡ rule_said ps)
-        → cond (not (a && n && q && r)) (Err BadRule) (cond l (Err NumberTooLarge) (Ok (rule_said ps)))
-        ≡ answer_of (cond (a && n && f) (Some (record { parts = fold kept (every Yearly) ps; seen = rows_of 0 ps; too_large = l })) None)
-    by_tests false n f fresh q r w l k = refl
-    by_tests true false f fresh q r w l k = refl
-    by_tests true true false fresh q r w l k = cc
-    by_tests true true true fresh q r w true k = ap (λ t. cond (not t) (Err BadRule) (Err NumberTooLarge)) (sym w)
-    by_tests true true true fresh q r w false k =
+    by_tests : (all q r l : Bool) → is_whole (draft_with no_parts ps) ≡ (q && r) → (l ≡ false → fold kept (every Yearly) ps ≡ rule_said ps)
+        → cond (not (all && q && r)) (Err BadRule) (cond l (Err NumberTooLarge) (Ok (rule_said ps)))
+        ≡ answer_of (cond (all && true) (Some (record { parts = fold kept (every Yearly) ps; seen = rows_of 0 ps; too_large = l })) None)
+    by_tests false q r l w k = refl
+    by_tests true q r true w k = ap (λ t. cond (not t) (Err BadRule) (Err NumberTooLarge)) (sym w)
+    by_tests true q r false w k =
         ap (λ t. cond (not t) (Err BadRule) (Ok (rule_said ps))) (sym w)
         ∙ ap (λ (s : RuleParts). cond (not (is_whole (draft_with no_parts ps))) (Err BadRule) (Ok s)) (sym (k refl))
 

@@ -17,7 +17,6 @@ use Rattle.ics_values.specs.declared.part_name.ListName.TheVariants.{BySecond, B
 use Rattle.ics_values.specs.declared.part_name.PartName.{PartName}
 use Rattle.ics_values.specs.declared.part_name.PartName.TheVariants as part
 use Rattle.ics_values.specs.Digits.{number_of}
-use Rattle.ics_values.specs.Sets.{contains}
 use Rattle.ics_values.specs.Ordinals.{no_ordinals, no_wide_ordinals, no_weekdays, numbers_of}
 use Rattle.ics_values.specs.RuleParts.{RuleParts, every}
 use Rattle.ics_values.specs.RuleTexts.{Part, pieces, row, fits, fits_list, fits_name, is_part, is_name, has_part, none_twice, are_parts, parts_of}
@@ -27,8 +26,7 @@ use Rattle.ics_values.specs.RuleLaws.{value_of, items_of, has_place, has_wide_pl
 use Rattle.ics_values.proofs.SetLemmas.{has_none, none_wide_has}
 use Rattle.ics_values.proofs.SaysLemmas.{Sets, part_said, sets_frequency, sets_until, sets_count, sets_interval, sets_week_start, sets_seconds, sets_minutes}
 use Rattle.ics_values.proofs.SaysLemmas.{sets_hours, sets_months, sets_weekdays, sets_month_days, sets_weeks, sets_year_days, sets_positions}
-use Rattle.ics_values.proofs.ListedLemmas.{Adds, gathered_all, number_high, adds_number, adds_place, adds_wide_place, adds_weekday, adds_numbered, HasSeven}
-use Rattle.ics_values.proofs.ListedLemmas.{IsWide}
+use Rattle.ics_values.proofs.ListedLemmas.{Adds, gathered_all, number_high, adds_number, adds_place, adds_wide_place, adds_weekday, adds_numbered}
 
 -- where the part of a name is there, its value passes what all values of the name pass
 value_passes : (name : PartName) (passes : List ℕ → Bool) → ((m : PartName) → (row m == row name) ≡ true → (v : List ℕ) → fits m v ≡ true → passes v ≡ true)
@@ -181,57 +179,53 @@ none_numbered Friday side n = none_here side n
 none_numbered Saturday side n = none_here side n
 none_numbered Sunday side n = none_here side n
 
--- a list of the rule sees what its items test for
-list_said : {A : Type 0} (list : ListName) (read : RuleParts → A) (step : A → List ℕ → A) → Sets (part.List list) read (λ v x. fold step x (pieces 44 v))
-    → ((m : PartName) → (row m == row (part.List list)) ≡ true → (v : List ℕ) → fits m v ≡ true → list_all (fits_list list) (pieces 44 v) ≡ true)
-    → (sees : A → Bool) (test : List ℕ → Bool) (Fine : A → Type 0) → Adds step sees test (fits_list list) Fine
-    → (ps : List Part) → list_all is_part ps ≡ true → none_twice ps ≡ true → Fine (read (every Yearly)) → sees (read (every Yearly)) ≡ false
-    → sees (read (rule_said ps)) ≡ list_any test (items_of list ps)
-list_said list read step sets passes sees test Fine adds ps a once fine none =
-    ap sees (part_said (part.List list) read (λ v x. fold step x (pieces 44 v)) sets ps once (every Yearly)
-    ∙ made step (read (every Yearly)) (value_of (part.List list) ps))
-    ∙ gathered_all step sees test (fits_list list) Fine adds (items_of list ps) (items_fit list passes ps a) (read (every Yearly)) fine none
-
 pub says : (ps : List Part) → are_parts ps ≡ true → Says ps (rule_said ps)
-says ps h =
-    let both = and_parts (list_all is_part ps && none_twice ps && has_part part.Freq ps) (not (has_part part.Until ps && has_part part.Count ps)) h in
-    let front = and_parts (list_all is_part ps && none_twice ps) (has_part part.Freq ps) both.0 in
-    let parts = and_parts (list_all is_part ps) (none_twice ps) front.0 in
-    let a = parts.0 in
-    let once = parts.1 in
-    record {
-      frequency = frequency_is (value_of part.Freq ps) (rule_said ps).frequency (value_there part.Freq ps
-          ∙ front.1) (value_passes part.Freq (λ v. is_some (frequency_of v)) passes_freq ps a)
-          (part_said part.Freq (λ r. r.frequency) (λ v f. unwrap_or (frequency_of v) f) sets_frequency ps once (every Yearly));
-      until = part_said part.Until (λ r. r.until) (λ v u. until_of v) sets_until ps once (every Yearly) ∙ until_is (value_of part.Until ps);
-      count = part_said part.Count (λ r. r.count) (λ v c. Some (number_of v)) sets_count ps once (every Yearly) ∙ count_is (value_of part.Count ps);
-      interval = part_said part.Interval (λ r. r.interval) (λ v n. number_of v) sets_interval ps once (every Yearly);
-      week_start = week_start_is (value_of part.Wkst ps) (rule_said ps).week_start (value_passes part.Wkst (λ v. is_some (weekday_of v)) passes_wkst ps a)
-          (part_said part.Wkst (λ r. r.week_start) (λ v d. unwrap_or (weekday_of v) d) sets_week_start ps once (every Yearly));
-      seconds = λ n. list_said BySecond (λ r. r.seconds) _ sets_seconds passes_second (λ s. contains s n) _ (λ s. Unit {0})
-          (adds_number (λ i. min (number_of i) 59) (fits_list BySecond) (λ i fit. let last = number_high 0 60 i fit in omega arith) n) ps a once tt
-          (has_none n);
-      minutes = λ n. list_said ByMinute (λ r. r.minutes) _ sets_minutes passes_minute (λ s. contains s n) _ (λ s. Unit {0})
-          (adds_number (λ i. number_of i) (fits_list ByMinute) (λ i fit. let last = number_high 0 59 i fit in omega arith) n) ps a once tt (has_none n);
-      hours = λ n. list_said ByHour (λ r. r.hours) _ sets_hours passes_hour (λ s. contains s n) _ (λ s. Unit {0})
-          (adds_number (λ i. number_of i) (fits_list ByHour) (λ i fit. let last = number_high 0 23 i fit in omega arith) n) ps a once tt (has_none n);
-      months = λ n. list_said ByMonth (λ r. r.months) _ sets_months passes_month (λ s. contains s n) _ (λ s. Unit {0})
-          (adds_number (λ i. number_of i) (fits_list ByMonth) (λ i fit. let last = number_high 1 12 i fit in omega arith) n) ps a once tt (has_none n);
-      month_days = λ side n. list_said ByMonthDay (λ r. r.month_days) _ sets_month_days passes_month_day (has_place side n) _ (λ p. Unit {0})
-          (adds_place 31 (lit< tt) side n) ps a once tt (none_here side n);
-      weeks = λ side n. list_said ByWeekNo (λ r. r.weeks) _ sets_weeks passes_week_no (has_place side n) _ (λ p. Unit {0}) (adds_place 53 (lit< tt) side n) ps a
-          once tt (none_here side n);
-      year_days = λ side n. list_said ByYearDay (λ r. r.year_days) _ sets_year_days passes_year_day (has_wide_place side n) _ IsWide
-          (adds_wide_place 366 (lit< tt) side n) ps a once
-          (record { front = refl; back = refl }) (none_wide_here side n);
-      positions = λ side n. list_said BySetPos (λ r. r.positions) _ sets_positions passes_set_pos (has_wide_place side n) _ IsWide
-          (adds_wide_place 366 (lit< tt) side n) ps a once
-          (record { front = refl; back = refl }) (none_wide_here side n);
-      weekdays = λ day. list_said ByDay (λ r. r.weekdays) _ sets_weekdays passes_day (λ w. contains w.plain (monday_zero day)) _ (λ w. Unit {0})
-          (adds_weekday day) ps a once tt (has_none (monday_zero day));
-      numbered = λ day side n. list_said ByDay (λ r. r.weekdays) _ sets_weekdays passes_day (λ w. has_place side n (numbers_of w (monday_zero day))) _ HasSeven
-          (adds_numbered day side n) ps a once refl (none_numbered day side n);
-    }
+says ps h = record {
+  frequency = frequency_is (value_of part.Freq ps) (rule_said ps).frequency (value_there part.Freq ps
+      ∙ front.1) (value_passes part.Freq (λ v. is_some (frequency_of v)) passes_freq ps parts.0)
+      (part_said sets_frequency ps parts.1 (every Yearly));
+  until = part_said sets_until ps parts.1 (every Yearly) ∙ until_is (value_of part.Until ps);
+  count = part_said sets_count ps parts.1 (every Yearly) ∙ count_is (value_of part.Count ps);
+  interval = part_said sets_interval ps parts.1 (every Yearly);
+  week_start = week_start_is (value_of part.Wkst ps) (rule_said ps).week_start (value_passes part.Wkst (λ v. is_some (weekday_of v)) passes_wkst ps parts.0)
+      (part_said sets_week_start ps parts.1 (every Yearly));
+  seconds = λ n. list_said
+      (adds_number (λ i. min (number_of i) 59) (fits_list BySecond) (λ i fit. let last = number_high 0 60 i fit in omega arith) n)
+      sets_seconds passes_second tt (has_none n);
+  minutes = λ n. list_said (adds_number (λ i. number_of i) (fits_list ByMinute) (λ i fit. let last = number_high 0 59 i fit in omega arith) n)
+      sets_minutes passes_minute tt (has_none n);
+  hours = λ n. list_said (adds_number (λ i. number_of i) (fits_list ByHour) (λ i fit. let last = number_high 0 23 i fit in omega arith) n)
+      sets_hours passes_hour tt (has_none n);
+  months = λ n. list_said (adds_number (λ i. number_of i) (fits_list ByMonth) (λ i fit. let last = number_high 1 12 i fit in omega arith) n)
+      sets_months passes_month tt (has_none n);
+  month_days = λ side n. list_said (adds_place 31 (lit< tt) side n) sets_month_days passes_month_day tt (none_here side n);
+  weeks = λ side n. list_said (adds_place 53 (lit< tt) side n) sets_weeks passes_week_no tt (none_here side n);
+  year_days = λ side n. list_said (adds_wide_place 366 (lit< tt) side n) sets_year_days passes_year_day
+      (record { front = refl; back = refl }) (none_wide_here side n);
+  positions = λ side n. list_said (adds_wide_place 366 (lit< tt) side n) sets_positions passes_set_pos
+      (record { front = refl; back = refl }) (none_wide_here side n);
+  weekdays = λ day. list_said (adds_weekday day) sets_weekdays passes_day tt (has_none (monday_zero day));
+  numbered = λ day side n. list_said (adds_numbered day side n) sets_weekdays passes_day refl (none_numbered day side n);
+}
+  where
+    both : ((list_all is_part ps && none_twice ps && has_part part.Freq ps) ≡ true) × (not (has_part part.Until ps && has_part part.Count ps) ≡ true)
+    both = and_parts (list_all is_part ps && none_twice ps && has_part part.Freq ps) (not (has_part part.Until ps && has_part part.Count ps)) h
+
+    front : ((list_all is_part ps && none_twice ps) ≡ true) × (has_part part.Freq ps ≡ true)
+    front = and_parts (list_all is_part ps && none_twice ps) (has_part part.Freq ps) both.0
+
+    parts : (list_all is_part ps ≡ true) × (none_twice ps ≡ true)
+    parts = and_parts (list_all is_part ps) (none_twice ps) front.0
+
+    -- a list of the rule sees what its items test for
+    list_said : {A : Type 0} {list : ListName} {read : RuleParts → A} {step : A → List ℕ → A} {sees : A → Bool} {test : List ℕ → Bool} {Fine : A → Type 0}
+        → Adds step sees test (fits_list list) Fine
+        → Sets (part.List list) read (λ v x. fold step x (pieces 44 v))
+        → ((m : PartName) → (row m == row (part.List list)) ≡ true → (v : List ℕ) → fits m v ≡ true → list_all (fits_list list) (pieces 44 v) ≡ true)
+        → Fine (read (every Yearly)) → sees (read (every Yearly)) ≡ false → sees (read (rule_said ps)) ≡ list_any test (items_of list ps)
+    list_said {list = list} {read = read} {step = step} {sees = sees} adds sets passes fine none =
+        ap sees (part_said sets ps parts.1 (every Yearly) ∙ made step (read (every Yearly)) (value_of (part.List list) ps))
+        ∙ gathered_all adds (items_of list ps) (items_fit list passes ps parts.0) (read (every Yearly)) fine none
 
 pub of_rule : (text : List ℕ) (rule : RuleParts) → rule_of text ≡ Ok rule → (are_parts (parts_of text) ≡ true) × (rule_said (parts_of text) ≡ rule)
 unfolding rule_of

@@ -22,10 +22,10 @@ pub record Sets {A : Type 0} (name : PartName) (read : RuleParts → A) (said : 
   pub other : (m : PartName) → (row m == row name) ≡ false → (value : List ℕ) (rule : RuleParts) → read (with_value m value rule) ≡ read rule
 
 -- parts without the name leave what it sets
-kept_without : {A : Type 0} (name : PartName) (read : RuleParts → A) (said : List ℕ → A → A) → Sets name read said → (ps : List Part) (rule : RuleParts) →
+kept_without : {A : Type 0} {name : PartName} {read : RuleParts → A} {said : List ℕ → A → A} → Sets name read said → (ps : List Part) (rule : RuleParts) →
     has_part name ps ≡ false → read (fold with_part rule ps) ≡ read rule
-kept_without name read said s [] rule h = refl
-kept_without name read said s (p ∷ ps) rule h = by_name p.name h (λ r e. kept_without name read said s ps r e)
+kept_without s [] rule h = refl
+kept_without {name = name} {read = read} s (p ∷ ps) rule h = by_name p.name h (λ r e. kept_without s ps r e)
   where
     by_name : (o : Option PartName) → (is_name name o || has_part name ps) ≡ false →
         ((r : RuleParts) → has_part name ps ≡ false → read (fold with_part r ps) ≡ read r)
@@ -43,18 +43,18 @@ has_part-row m n (p ∷ ps) e = ap (λ t. t || has_part m ps) (by_name p.name) �
     by_name (Some k) = ap (λ x. row k == x) e
 
 -- what the part of the name says
-pub part_said : {A : Type 0} (name : PartName) (read : RuleParts → A) (said : List ℕ → A → A) → Sets name read said → (ps : List Part) → none_twice ps ≡ true →
+pub part_said : {A : Type 0} {name : PartName} {read : RuleParts → A} {said : List ℕ → A → A} → Sets name read said → (ps : List Part) → none_twice ps ≡ true →
     (rule : RuleParts)
     → read (fold with_part rule ps) ≡ option_map_or (λ v. said v (read rule)) (value_of name ps) (read rule)
-part_said name read said s [] h rule = refl
-part_said name read said s (p ∷ ps) h rule = by_name p.name h (λ e r. part_said name read said s ps e r)
+part_said s [] h rule = refl
+part_said {name = name} {read = read} {said = said} s (p ∷ ps) h rule = by_name p.name h (λ e r. part_said s ps e r)
   where
     by_test : (m : PartName) (t : Bool) → (row m == row name) ≡ t → has_part m ps ≡ false
         → ((r : RuleParts) → read (fold with_part r ps) ≡ option_map_or (λ v. said v (read r)) (value_of name ps) (read r))
         → read (fold with_part (with_value m p.value rule) ps)
         ≡ option_map_or (λ v. said v (read rule)) (option_map (λ q. q.value) (cond t (Some p) (find (λ q. is_name name q.name) ps))) (read rule)
     by_test m true e gone k =
-        kept_without name read said s ps (with_value m p.value rule) (sym (has_part-row m name ps (eqb-true (row m) (row name) e)) ∙ gone)
+        kept_without s ps (with_value m p.value rule) (sym (has_part-row m name ps (eqb-true (row m) (row name) e)) ∙ gone)
         ∙ s.own m e p.value rule
     by_test m false e gone k =
         k (with_value m p.value rule) ∙ ap (λ x. option_map_or (λ v. said v x) (value_of name ps) x) (s.other m e p.value rule)

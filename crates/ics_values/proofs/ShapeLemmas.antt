@@ -158,10 +158,11 @@ shape-some (b ∷ bs) h = by_test (is_digit b) refl
     by_test true h = rw (shape-digits (b ∷ bs) h) refl
     by_test false h = rw (shape-no b bs h) refl
 
--- what is behind a front and a number has none of the shapes
-pub no_shape-behind : (front text rest : List ℕ) (shapes : List (List ℕ)) → shape text ≡ front ++ shape rest → (length rest == 0) ≡ false →
-    has_shape shapes rest ≡ false → has_shape (behind front ([] ∷ shapes)) text ≡ false
-no_shape-behind front text rest shapes h some none = has_shape-behind front text rest ([] ∷ shapes) h ∙ rw (shape-some rest some, none) refl
+-- what is behind a number and its unit has none of the shapes
+pub no_shape-behind : {unit n : ℕ} {text rest : List ℕ} (shapes : List (List ℕ)) → IsAmount unit text n rest → (length rest == 0) ≡ false →
+    has_shape shapes rest ≡ false → has_shape (behind (48 ∷ unit ∷ []) ([] ∷ shapes)) text ≡ false
+no_shape-behind {unit = unit} {text = text} {rest = rest} shapes a some none =
+    has_shape-behind (48 ∷ unit ∷ []) text rest ([] ∷ shapes) a.shape ∙ rw (shape-some rest some, none) refl
 
 -- the number before a unit
 pub is_amount : (unit : ℕ) (text rest : List ℕ) → 57 < unit → begins is_digit text ≡ true → IsLetter unit (drop (digit_count text) text) rest →

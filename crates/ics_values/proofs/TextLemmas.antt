@@ -47,9 +47,9 @@ text_of-plain bs n few none =
     ∙ take-append-drop n bs
 
 -- the first backslash and the byte behind it, and what stands before and behind them
-pub text_of-parts : (bs : List ℕ) (n b : ℕ) (behind : List ℕ) → n < length bs → (get_or bs n 0 == 92) ≡ true → drop (n + 1) bs ≡ b ∷ behind →
+pub text_of-parts : (bs : List ℕ) (n : ℕ) {b : ℕ} {behind : List ℕ} → n < length bs → (get_or bs n 0 == 92) ≡ true → drop (n + 1) bs ≡ b ∷ behind →
     ((k : ℕ) → 0 ≤ k → k < n → (get_or bs k 0 == 92) ≡ true → ⊥) → text_of bs ≡ take n bs ++ (text_of (92 ∷ b ∷ []) ++ text_of behind)
-text_of-parts bs n b behind within here rest none =
+text_of-parts bs n {b} {behind} within here rest none =
     let pair : drop n bs ≡ 92 ∷ b ∷ behind = drop-cons bs n 0 within ∙ rw (← add-one, rest, eqb-true (get_or bs n 0) 92 here) refl in
     text_of-run bs n none ∙ ap (λ t. take n bs ++ text_of t) pair ∙ ap (λ t. take n bs ++ t) (text_of-escape b behind)
 

@@ -1,4 +1,4 @@
-use Rattle.std.proofs.Common.{◌≡◌, ◌==◌, false, [], ◌∷◌, length, rules, subst, sym}
+use Rattle.std.proofs.Common.{◌≡◌, ◌==◌, false, length, rules, subst, sym}
 use Rattle.ics_values.specs.Durations.{minute_shapes, hour_shapes}
 use Rattle.ics_values.specs.Amounts.{Reads}
 use Rattle.ics_values.proofs.ShapeLemmas.{no_shape-behind}
@@ -9,4 +9,4 @@ returns-in_err-behind c =
     let rest = c.in_ok-hours.hours.rest.now in
     let some : (length rest == 0) ≡ false = search rules in
     subst (Reads hour_shapes c.args.text.now) (sym c.from_residual-in_err-behind.ensures)
-    (no_shape-behind (48 ∷ 72 ∷ []) c.args.text.now rest minute_shapes c.in_ok-hours.ensures.shape some c.in_err-behind.ensures)
+    (no_shape-behind minute_shapes c.in_ok-hours.ensures some c.in_err-behind.ensures)

@@ -1,4 +1,4 @@
-use Rattle.std.proofs.Common.{◌≡◌, ◌==◌, false, [], ◌∷◌, length, rules, subst, sym}
+use Rattle.std.proofs.Common.{◌≡◌, ◌==◌, false, length, rules, subst, sym}
 use Rattle.ics_values.specs.Durations.{second_shapes, minute_shapes}
 use Rattle.ics_values.specs.Amounts.{Reads}
 use Rattle.ics_values.proofs.ShapeLemmas.{no_shape-behind}
@@ -9,4 +9,4 @@ returns-in_err-behind c =
     let rest = c.in_ok-minutes.minutes.rest.now in
     let some : (length rest == 0) ≡ false = search rules in
     subst (Reads minute_shapes c.args.text.now) (sym c.from_residual-in_err-behind.ensures)
-    (no_shape-behind (48 ∷ 77 ∷ []) c.args.text.now rest second_shapes c.in_ok-minutes.ensures.shape some c.in_err-behind.ensures)
+    (no_shape-behind second_shapes c.in_ok-minutes.ensures some c.in_err-behind.ensures)

@@ -1,4 +1,4 @@
-use Rattle.std.proofs.Common.{◌≡◌, ◌==◌, false, [], ◌∷◌, length, refl, rules}
+use Rattle.std.proofs.Common.{◌≡◌, ◌==◌, false, [], length, refl, rules}
 use Rattle.ics_values.proofs.ShapeLemmas.{no_shape-behind}
 use Rattle.ics_values.proofs.amounts.second_part.Goals as goal
 
@@ -6,4 +6,4 @@ pub returns-then-not-is_empty : goal.returns-then-not-is_empty
 returns-then-not-is_empty c =
     let rest = c.in_ok-seconds.seconds.rest.now in
     let some : (length rest == 0) ≡ false = search rules in
-    no_shape-behind (48 ∷ 83 ∷ []) c.args.text.now rest [] c.in_ok-seconds.ensures.shape some refl
+    no_shape-behind [] c.in_ok-seconds.ensures some refl

@@ -17,5 +17,5 @@ pub returns-clause-parts : goal.returns-clause-parts
 returns-clause-parts c =
     let found = c.in_ok-at.ensures in
     let at = c.in_ok-at.at in
-    text_of-parts c.args.text.now at c.in_ok-byte.byte.now c.in_ok-byte.behind.now found.0.high found.1
+    text_of-parts c.args.text.now at found.0.high found.1
     (sym (take_rest c.args.text.now (at + 1)) ∙ c.in_ok-byte.ensures.cases.0) found.0.before
