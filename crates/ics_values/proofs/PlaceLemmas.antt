@@ -16,33 +16,28 @@ use Rattle.ics_values.specs.Sets.{contains, contains_wide, none_wide, with_numbe
 use Rattle.ics_values.specs.Ordinals.{no_ordinals, no_wide_ordinals, no_weekdays, numbers_of}
 use Rattle.ics_values.specs.Ordinals.{with_ordinal, with_wide_ordinal, with_weekday, with_numbered_weekday}
 use Rattle.ics_values.specs.RuleParts.{every, ArePlaces, AreWidePlaces, IsRuleParts}
-use Rattle.ics_values.proofs.SetLemmas.{within_more, contains-with_number, contains_wide-with_number, has_none, none_wide_has}
+use Rattle.ics_values.proofs.SetLemmas.{IsFrom, within_more, contains-with_number, contains_wide-with_number, has_none, none_wide_has}
 
-pub ordinals_more : (side : Side) (n high : ℕ) (p : Ordinals) → n < 64 → 1 ≤ n → n ≤ high → ArePlaces p high → ArePlaces (with_ordinal side n p) high
-ordinals_more Front n high p s l h own =
-    record {
-      front = within_more 1 high n (contains p.front) (contains (with_number n p.front)) (λ m. contains-with_number p.front n m s) own.front l h;
-      back = own.back;
-    }
-ordinals_more Back n high p s l h own = record {
+pub ordinals_more : (side : Side) {n high : ℕ} {p : Ordinals} → n < 64 → IsFrom 1 high n → ArePlaces p high → ArePlaces (with_ordinal side n p) high
+ordinals_more Front {n} {high} {p} s is own = record {
+  front = within_more (contains p.front) (contains (with_number n p.front)) (λ m. contains-with_number p.front n m s) own.front is;
+  back = own.back;
+}
+ordinals_more Back {n} {high} {p} s is own = record {
   front = own.front;
-  back = within_more 1 high n (contains p.back) (contains (with_number n p.back)) (λ m. contains-with_number p.back n m s) own.back l h;
+  back = within_more (contains p.back) (contains (with_number n p.back)) (λ m. contains-with_number p.back n m s) own.back is;
 }
 
-pub wide_ordinals_more : (side : Side) (n high : ℕ) (p : WideOrdinals) → n < 384 → n / 64 < length p.front → n / 64 < length p.back → 1 ≤ n → n ≤ high →
+pub wide_ordinals_more : (side : Side) {n high : ℕ} {p : WideOrdinals} → n < 384 → n / 64 < length p.front → n / 64 < length p.back → IsFrom 1 high n →
     AreWidePlaces p high → AreWidePlaces (with_wide_ordinal side n p) high
-wide_ordinals_more Front n high p s f b l h own =
-    record {
-      front = within_more 1 high n (contains_wide p.front) (contains_wide (with_wide_number n p.front)) (λ m. contains_wide-with_number p.front n m f s)
-          own.front l h;
-      back = own.back;
-    }
-wide_ordinals_more Back n high p s f b l h own =
-    record {
-      front = own.front;
-      back = within_more 1 high n (contains_wide p.back) (contains_wide (with_wide_number n p.back))
-          (λ m. contains_wide-with_number p.back n m b s) own.back l h;
-    }
+wide_ordinals_more Front {n} {high} {p} s f b is own = record {
+  front = within_more (contains_wide p.front) (contains_wide (with_wide_number n p.front)) (λ m. contains_wide-with_number p.front n m f s) own.front is;
+  back = own.back;
+}
+wide_ordinals_more Back {n} {high} {p} s f b is own = record {
+  front = own.front;
+  back = within_more (contains_wide p.back) (contains_wide (with_wide_number n p.back)) (λ m. contains_wide-with_number p.back n m b s) own.back is;
+}
 
 -- a weekday is one of seven
 pub monday_zero_small : (d : Weekday) → monday_zero d ≤ 6
@@ -57,15 +52,15 @@ monday_zero_small Sunday = omega arith
 pub weekdays_more : (d : Weekday) (w : Weekdays) → IsWithin 0 6 (contains w.plain) → IsWithin 0 6 (contains (with_weekday d w).plain)
 weekdays_more d w own =
     let small = monday_zero_small d in
-    within_more 0 6 (monday_zero d) (contains w.plain) (contains (with_number (monday_zero d) w.plain))
-    (λ m. contains-with_number w.plain (monday_zero d) m (omega (arith, small))) own (omega arith) small
+    within_more (contains w.plain) (contains (with_number (monday_zero d) w.plain))
+    (λ m. contains-with_number w.plain (monday_zero d) m (omega (arith, small))) own (record { first = omega arith; last = small })
 
 -- the numbers of one weekday, and those of the others
-pub numbered_more : (d : Weekday) (side : Side) (n : ℕ) (w : Weekdays) → n < 64 → 1 ≤ n → n ≤ 53 → ((k : ℕ) → ArePlaces (numbers_of w k) 53)
+pub numbered_more : (d : Weekday) (side : Side) {n : ℕ} (w : Weekdays) → IsFrom 1 53 n → ((k : ℕ) → ArePlaces (numbers_of w k) 53)
     → (k : ℕ) → ArePlaces (numbers_of (with_numbered_weekday d side n w) k) 53
-numbered_more d side n w s l h own k = elim (by_place (monday_zero d) (length w.numbered)) [
+numbered_more d side {n} w is own k = elim (by_place (monday_zero d) (length w.numbered)) [
   | inl inside ↦ elim (same_or_not k (monday_zero d)) [
-    | inl same ↦ rw (same, get_or-set_same) (ordinals_more side n 53 (numbers_of w (monday_zero d)) s l h (own (monday_zero d)))
+    | inl same ↦ rw (same, get_or-set_same) (ordinals_more side (omega arith) is (own (monday_zero d)))
     | inr other ↦ rw (get_or-set_other) (own k)
   ]
   | inr past ↦ rw (set_past w.numbered (monday_zero d) (with_ordinal side n (numbers_of w (monday_zero d))) past) (own k)

@@ -69,10 +69,15 @@ pub contains_wide-with_number : (ws : List ℕ) (n m : ℕ) → n / 64 < length 
     contains_wide (with_wide_number n ws) m ≡ (m == n) || contains_wide ws m
 contains_wide-with_number ws n m h low = ap (λ x. contains_wide x m) (sym (with_wide_number-is ws n)) ∙ contains_wide-set ws n m h low
 
+-- a number from low to high
+pub record IsFrom (low high n : ℕ) : Type 0 where
+  pub first : low ≤ n
+  pub last : n ≤ high
+
 -- a number in its range keeps a set in it
-pub within_more : (low high n : ℕ) (test more : ℕ → Bool) → ((m : ℕ) → more m ≡ (m == n) || test m) → IsWithin low high test → low ≤ n → n ≤ high →
+pub within_more : {low high n : ℕ} (test more : ℕ → Bool) → ((m : ℕ) → more m ≡ (m == n) || test m) → IsWithin low high test → IsFrom low high n →
     IsWithin low high more
-within_more low high n test more each own l h m e = cases m (test m) refl (sym (each m) ∙ e)
+within_more {low} {high} {n} test more each own is m e = cases m (test m) refl (sym (each m) ∙ e)
   where
     cases : (m : ℕ) (b : Bool) → test m ≡ b → ((m == n) || test m) ≡ true → (low ≤ m) × (m ≤ high)
     cases m true e t = own m e

@@ -10,8 +10,8 @@ invariant_of-self c = record {
   until = c.self.invariant.until;
   seconds = c.self.invariant.seconds;
   minutes = c.self.invariant.minutes;
-  hours = within_more 0 23 c.args.hour (contains c.self.inside.hours) (contains c.insert.new.self) c.insert.ensures.members c.self.invariant.hours (omega arith)
-      c.requires;
+  hours = within_more (contains c.self.inside.hours) (contains c.insert.new.self) c.insert.ensures.members c.self.invariant.hours
+      (record { first = omega arith; last = c.requires });
   weekdays = c.self.invariant.weekdays;
   numbered = c.self.invariant.numbered;
   month_days = c.self.invariant.month_days;

@@ -9,8 +9,8 @@ invariant_of-self c = record {
   count = c.self.invariant.count;
   until = c.self.invariant.until;
   seconds = c.self.invariant.seconds;
-  minutes = within_more 0 59 c.args.minute (contains c.self.inside.minutes) (contains c.insert.new.self) c.insert.ensures.members c.self.invariant.minutes
-      (omega arith) c.requires;
+  minutes = within_more (contains c.self.inside.minutes) (contains c.insert.new.self) c.insert.ensures.members c.self.invariant.minutes
+      (record { first = omega arith; last = c.requires });
   hours = c.self.invariant.hours;
   weekdays = c.self.invariant.weekdays;
   numbered = c.self.invariant.numbered;

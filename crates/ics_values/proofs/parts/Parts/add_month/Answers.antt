@@ -15,7 +15,7 @@ invariant_of-self c = record {
   month_days = c.self.invariant.month_days;
   year_days = c.self.invariant.year_days;
   weeks = c.self.invariant.weeks;
-  months = within_more 1 12 c.args.month (contains c.self.inside.months) (contains c.insert.new.self) c.insert.ensures.members c.self.invariant.months
-      c.requires.first c.requires.last;
+  months = within_more (contains c.self.inside.months) (contains c.insert.new.self) c.insert.ensures.members c.self.invariant.months
+      (record { first = c.requires.first; last = c.requires.last });
   positions = c.self.invariant.positions;
 }

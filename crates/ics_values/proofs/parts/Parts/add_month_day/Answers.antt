@@ -12,7 +12,7 @@ invariant_of-self c = record {
   hours = c.self.invariant.hours;
   weekdays = c.self.invariant.weekdays;
   numbered = c.self.invariant.numbered;
-  month_days = rw c.insert.ensures (ordinals_more c.args.side c.args.n 31 c.self.inside.month_days (omega arith) c.requires.first c.requires.last
+  month_days = rw c.insert.ensures (ordinals_more c.args.side (omega arith) (record { first = c.requires.first; last = c.requires.last })
       c.self.invariant.month_days);
   year_days = c.self.invariant.year_days;
   weeks = c.self.invariant.weeks;

@@ -1,4 +1,3 @@
-use Rattle.std.proofs.Common.{arith}
 use Rattle.ics_values.proofs.PlaceLemmas.{numbered_more}
 use Rattle.ics_values.proofs.parts.Parts.add_numbered_weekday.Goals as goal
 
@@ -11,8 +10,8 @@ invariant_of-self c = record {
   minutes = c.self.invariant.minutes;
   hours = c.self.invariant.hours;
   weekdays = rw c.add_numbered.ensures c.self.invariant.weekdays;
-  numbered = rw c.add_numbered.ensures (numbered_more c.args.weekday c.args.side c.args.n c.self.inside.weekdays (omega arith) c.requires.first c.requires.last
-      c.self.invariant.numbered);
+  numbered = rw c.add_numbered.ensures (numbered_more c.args.weekday c.args.side c.self.inside.weekdays
+      (record { first = c.requires.first; last = c.requires.last }) c.self.invariant.numbered);
   month_days = c.self.invariant.month_days;
   year_days = c.self.invariant.year_days;
   weeks = c.self.invariant.weeks;

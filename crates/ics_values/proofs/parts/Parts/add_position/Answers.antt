@@ -16,6 +16,6 @@ invariant_of-self c = record {
   year_days = c.self.invariant.year_days;
   weeks = c.self.invariant.weeks;
   months = c.self.invariant.months;
-  positions = rw c.insert.ensures (wide_ordinals_more c.args.side c.args.n 366 c.self.inside.positions (omega arith) (omega arith) (omega arith)
-      c.requires.first c.requires.last c.self.invariant.positions);
+  positions = rw c.insert.ensures (wide_ordinals_more c.args.side (omega arith) (omega arith) (omega arith)
+      (record { first = c.requires.first; last = c.requires.last }) c.self.invariant.positions);
 }

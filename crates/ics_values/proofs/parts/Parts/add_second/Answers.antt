@@ -8,8 +8,8 @@ invariant_of-self c = record {
   interval = c.self.invariant.interval;
   count = c.self.invariant.count;
   until = c.self.invariant.until;
-  seconds = within_more 0 59 c.args.second (contains c.self.inside.seconds) (contains c.insert.new.self) c.insert.ensures.members c.self.invariant.seconds
-      (omega arith) c.requires;
+  seconds = within_more (contains c.self.inside.seconds) (contains c.insert.new.self) c.insert.ensures.members c.self.invariant.seconds
+      (record { first = omega arith; last = c.requires });
   minutes = c.self.invariant.minutes;
   hours = c.self.invariant.hours;
   weekdays = c.self.invariant.weekdays;

@@ -14,7 +14,8 @@ invariant_of-self c = record {
   numbered = c.self.invariant.numbered;
   month_days = c.self.invariant.month_days;
   year_days = c.self.invariant.year_days;
-  weeks = rw c.insert.ensures (ordinals_more c.args.side c.args.n 53 c.self.inside.weeks (omega arith) c.requires.first c.requires.last c.self.invariant.weeks);
+  weeks = rw c.insert.ensures (ordinals_more c.args.side (omega arith) (record { first = c.requires.first; last = c.requires.last })
+      c.self.invariant.weeks);
   months = c.self.invariant.months;
   positions = c.self.invariant.positions;
 }

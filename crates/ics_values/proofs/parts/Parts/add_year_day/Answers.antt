@@ -13,8 +13,8 @@ invariant_of-self c = record {
   weekdays = c.self.invariant.weekdays;
   numbered = c.self.invariant.numbered;
   month_days = c.self.invariant.month_days;
-  year_days = rw c.insert.ensures (wide_ordinals_more c.args.side c.args.n 366 c.self.inside.year_days (omega arith) (omega arith) (omega arith)
-      c.requires.first c.requires.last c.self.invariant.year_days);
+  year_days = rw c.insert.ensures (wide_ordinals_more c.args.side (omega arith) (omega arith) (omega arith)
+      (record { first = c.requires.first; last = c.requires.last }) c.self.invariant.year_days);
   weeks = c.self.invariant.weeks;
   months = c.self.invariant.months;
   positions = c.self.invariant.positions;
