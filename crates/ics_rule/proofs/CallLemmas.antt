@@ -16,16 +16,18 @@ known_within : (r : Recurrence) (bound : ℕ) (answer : Option Local) (before no
 known_within r bound None before now is = omega arith
 known_within r bound (Some local) before now is = omega (arith, is.0.in_bound)
 
-calls_looked : (r : Recurrence) (a b : ℕ) (calls : List Call) (before now : Cursor) → AreCalls r b calls before now →
-    IsCursorOf r before × HasLooked r before a b → IsCursorOf r now × HasLooked r now a b
-calls_looked r a b [] before now are contains = subst (λ c. IsCursorOf r c × HasLooked r c a b) (sym are) contains
-calls_looked r a b (call ∷ calls) before now are contains =
-    let within = known_within r (number call.bound) call.answer before call.now are.0.next in
-    calls_looked r a b calls call.now now are.1 (are.0.own, are.0.looked a b (omega (arith, within, are.0.bound)) contains.1)
+-- a list of calls, and what they looked at
+module _ (r : Recurrence) (a b : ℕ) where
+  calls_looked : (calls : List Call) (before now : Cursor) → AreCalls r b calls before now →
+      IsCursorOf r before × HasLooked r before a b → IsCursorOf r now × HasLooked r now a b
+  calls_looked [] before now are contains = subst (λ c. IsCursorOf r c × HasLooked r c a b) (sym are) contains
+  calls_looked (call ∷ calls) before now are contains =
+      let within = known_within r (number call.bound) call.answer before call.now are.0.next in
+      calls_looked calls call.now now are.1 (are.0.own, are.0.looked a b (omega (arith, within, are.0.bound)) contains.1)
 
-few : (r : Recurrence) (a b : ℕ) (c : Cursor) → IsCursorOf r c → HasLooked r c a b → steps_of c ≤ period_count r a b
-unfolding period_count IsCursorOf HasLooked
-few r a b c own looked = few_steps (effective r) (number r.start) r.parts.count c a b own looked
+  few : (c : Cursor) → IsCursorOf r c → HasLooked r c a b → steps_of c ≤ period_count r a b
+  unfolding period_count IsCursorOf HasLooked
+  few c own looked = few_steps (effective r) (number r.start) r.parts.count c a b own looked
 
 pub few_looks : FewSteps
 few_looks r from b first now calls set are =

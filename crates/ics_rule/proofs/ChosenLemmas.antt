@@ -97,8 +97,8 @@ module _ (q : EffectiveRule) (start : ℕ) (p : RecurrencePeriod) (own : IsPerio
           ∙ sym (ap (λ x. x && is_chosen q start n) (ne_eqb (period_in q n) p.number other))
 
 -- the same of a period by its number
-pub taken_within : (q : EffectiveRule) (start : ℕ) (p : RecurrencePeriod) (number : ℕ) → IsPeriodOf q p → p.number ≡ number →
+pub taken_within : {q : EffectiveRule} (start : ℕ) {p : RecurrencePeriod} {number : ℕ} → IsPeriodOf q p → p.number ≡ number →
     is_stepped (period_in q start) q.interval number ≡ true
     → (n : ℕ) → is_taken q.positions (lists_none_wide q.positions) p n ≡ is_chosen_within q start number n
-taken_within q start p number own e step n =
+taken_within {q = q} start {p = p} own e step n =
     taken_is q start p own (ap (is_stepped (period_in q start) q.interval) e ∙ step) n ∙ ap (λ x. is_chosen_within q start x n) e

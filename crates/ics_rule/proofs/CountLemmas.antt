@@ -95,103 +95,110 @@ module _ (q : EffectiveRule) (start : ℕ) (p : RecurrencePeriod) (own : IsPerio
       omega (arith, late, e, some))) in
       omega (arith, own, flat)
 
--- and the periods passed over after it
-chosen_passed : (q : EffectiveRule) (start number end : ℕ) (o : RecurrencePeriod) → IsPeriodOf q o → is_stepped (period_in q start) q.interval o.number ≡ true →
-    1 ≤ q.interval → IsPassed q start (o.number + q.interval) number
-    → first_local q.frequency (monday_zero q.week_start) number ≤ end
-    → count (first_local q.frequency (monday_zero q.week_start) number) (is_chosen q start)
-    ≡ count (first_local q.frequency (monday_zero q.week_start) o.number) (is_chosen q start) + count end (is_taken q.positions (lists_none_wide q.positions) o)
-chosen_passed q start number end o own step some passed h =
-    let low = step_low q start o.number step in
-    let up = first_mono q (o.number + q.interval) number (omega (arith, low, passed.up)) passed.up in
-    let all = chosen_all q start o own step some end (omega (arith, up, h)) in
+-- the last local of the calendar
+abbrev pub last_local : ℕ
+last_local = 315_569_519_999
+
+-- The period held is o, and before the next to be looked at nothing more is chosen: `before` locals of o are taken.
+pub record IsLeft (q : EffectiveRule) (start c number before total limit : ℕ) (o : RecurrencePeriod) : Type 0 where
+  pub some : 1 ≤ q.interval
+  pub own : IsPeriodOf q o
+  pub counted : IsCounted q start c total limit o
+  pub passed : IsPassed q start (o.number + q.interval) number
+  pub reach : first_local q.frequency (monday_zero q.week_start) number ≤ last_local
+  pub taken : before ≡ count last_local (is_taken q.positions (lists_none_wide q.positions) o)
+
+chosen_passed : {q : EffectiveRule} {start c number before counted limit : ℕ} {o : RecurrencePeriod} → IsLeft q start c number before counted limit o →
+    count (first_local q.frequency (monday_zero q.week_start) number) (is_chosen q start) ≡ counted + before
+chosen_passed {q = q} {start = start} {number = number} {o = o} left =
+    let low = step_low q start o.number left.counted.step in
+    let up = first_mono q (o.number + q.interval) number (omega (arith, low, left.passed.up)) left.passed.up in
+    let all = chosen_all q start o left.own left.counted.step left.some last_local (omega (arith, up, left.reach)) in
     let flat = count_flat (first_local q.frequency (monday_zero q.week_start) (o.number + q.interval))
     (first_local q.frequency (monday_zero q.week_start) number) (is_chosen q start) up
-    (λ m l u. passed.none m (begins q.frequency (monday_zero q.week_start) (o.number + q.interval) m l) (elim (cases_lt (period_in q m) number) [
+    (λ m l u. left.passed.none m (begins q.frequency (monday_zero q.week_start) (o.number + q.interval) m l) (elim (cases_lt (period_in q m) number) [
       | inl less ↦ less
       | inr more ↦ absurd (let late = begun q.frequency (monday_zero q.week_start) number m more in omega (arith, late, u))
     ])) in
-    omega (arith, all, flat)
+    omega (arith, all, flat, left.counted.total, left.taken)
 
 -- a count past the limit keeps nothing more
-pub not_few : (q : EffectiveRule) (start c limit n m : ℕ) → limit + 1 ≡ c + count (suc start) (is_chosen q start) → limit ≤ count n (is_chosen q start) →
-    n ≤ m → is_few q start c m ≡ false
-not_few q start c limit n m most h l =
-    let more = count_mono n m (is_chosen q start) l in
-    none (count m (is_chosen q start)) (c + count (suc start) (is_chosen q start)) (omega (arith, more, h, most))
-  where
-    none : (a b : ℕ) → b ≤ a + 1 → nat_lt (a + 1) b ≡ false
-    none a b h = grind (arith, nat_tests)
+module _ (q : EffectiveRule) (start c limit : ℕ) (most : limit + 1 ≡ c + count (suc start) (is_chosen q start)) where
+  pub not_few : (n m : ℕ) → limit ≤ count n (is_chosen q start) → n ≤ m → is_few q start c m ≡ false
+  not_few n m h l =
+      let more = count_mono n m (is_chosen q start) l in
+      none (count m (is_chosen q start)) (c + count (suc start) (is_chosen q start)) (omega (arith, more, h, most))
+    where
+      none : (a b : ℕ) → b ≤ a + 1 → nat_lt (a + 1) b ≡ false
+      none a b h = grind (arith, nat_tests)
 
-pub are_few : (q : EffectiveRule) (start c limit n : ℕ) → limit + 1 ≡ c + count (suc start) (is_chosen q start) → count n (is_chosen q start) < limit →
-    is_few q start c n ≡ true
-are_few q start c limit n most h = some (count n (is_chosen q start)) (c + count (suc start) (is_chosen q start)) (omega (arith, h, most))
-  where
-    some : (a b : ℕ) → a + 1 < b → nat_lt (a + 1) b ≡ true
-    some a b h = grind (arith, nat_tests)
+  pub are_few : (n : ℕ) → count n (is_chosen q start) < limit → is_few q start c n ≡ true
+  are_few n h = some (count n (is_chosen q start)) (c + count (suc start) (is_chosen q start)) (omega (arith, h, most))
+    where
+      some : (a b : ℕ) → a + 1 < b → nat_lt (a + 1) b ≡ true
+      some a b h = grind (arith, nat_tests)
+
+-- the period with a number is held, and nothing is counted yet
+pub record IsFirstLook (q : EffectiveRule) (first : ℕ) (cursor : Cursor) (p : RecurrencePeriod) : Type 0 where
+  pub held : cursor.held ≡ Some p
+  pub product : IsPeriodOf q p
+  pub number : p.number ≡ first
+  pub none : cursor.counted ≡ 0
 
 -- the first look, at the start's period
-pub turned_first : (q : EffectiveRule) (start c number limit before : ℕ) (cursor : Cursor) (p : RecurrencePeriod) → 1 ≤ q.interval → 1 ≤ c →
-    number ≡ period_in q start → is_stepped (period_in q start) q.interval number ≡ true
-    → IsPeriodOf q p → p.number ≡ number → cursor.held ≡ Some p → cursor.counted ≡ 0 → cursor.limit ≡ limit → limit ≡ c - 1 + before →
-    before ≡ count (start + 1) (is_taken q.positions (lists_none_wide q.positions) p)
-    → IsTurned q start c number cursor p
-turned_first q start c number limit before cursor p some positive e step own same held zero most el eb = record {
-  held = held;
-  product = own;
-  number = same;
+pub turned_first : {q : EffectiveRule} {start c number : ℕ} {cursor : Cursor} {p : RecurrencePeriod} → 1 ≤ q.interval → 1 ≤ c →
+    number ≡ period_in q start → is_stepped (period_in q start) q.interval number ≡ true → IsFirstLook q number cursor p
+    → cursor.limit ≡ c - 1 + count (start + 1) (is_taken q.positions (lists_none_wide q.positions) p) → IsTurned q start c number cursor p
+turned_first {q = q} {start = start} {p = p} some positive e step look limit = record {
+  held = look.held;
+  product = look.product;
+  number = look.number;
   counted = record {
     step = here;
-    total = zero ∙ sym (none_before_first q start)
-        ∙ ap (λ x. count (first_local q.frequency (monday_zero q.week_start) x) (is_chosen q start)) (sym (same ∙ e));
+    total = look.none ∙ sym (none_before_first q start)
+        ∙ ap (λ x. count (first_local q.frequency (monday_zero q.week_start) x) (is_chosen q start)) (sym (look.number ∙ e));
     most =
-        let low = begun q.frequency (monday_zero q.week_start) p.number start (omega (arith, same, e)) in
+        let low = begun q.frequency (monday_zero q.week_start) p.number start (omega (arith, look.number, e)) in
         let high : start + 1 ≤ first_local q.frequency (monday_zero q.week_start) (p.number + q.interval) =
         (elim (cases_lt start (first_local q.frequency (monday_zero q.week_start) (p.number + q.interval))) [
           | inl less ↦ omega (arith, less)
           | inr more ↦ absurd (let late = begins q.frequency (monday_zero q.week_start) (p.number + q.interval) start more in
-              omega (arith, late, same, e, some))
+              omega (arith, late, look.number, e, some))
         ]) in
-        let chosen = chosen_before q start p own here some (start + 1) (omega (arith, low)) high in
+        let chosen = chosen_before q start p look.product here some (start + 1) (omega (arith, low)) high in
         let none = none_before_first q start in
-        let back = ap (λ x. count (first_local q.frequency (monday_zero q.week_start) x) (is_chosen q start)) (same ∙ e) in
+        let back = ap (λ x. count (first_local q.frequency (monday_zero q.week_start) x) (is_chosen q start)) (look.number ∙ e) in
         let one : start + 1 ≡ suc start = omega arith in
         let same_one = ap (λ x. count x (is_chosen q start)) one in
-        omega (arith, chosen, none, back, same_one, most, el, eb, positive);
+        omega (arith, chosen, none, back, same_one, limit, positive);
   };
 }
   where
     here : is_stepped (period_in q start) q.interval p.number ≡ true
-    here = ap (is_stepped (period_in q start) q.interval) same ∙ step
+    here = ap (is_stepped (period_in q start) q.interval) look.number ∙ step
 
 -- each further look
-pub turned_on : (q : EffectiveRule) (start c number total before end : ℕ) (was cursor : Cursor) (o p : RecurrencePeriod) → 1 ≤ q.interval → IsPeriodOf q o →
-    IsCounted q start c was.counted was.limit o → IsPassed q start (o.number + q.interval) number
-    → first_local q.frequency (monday_zero q.week_start) number ≤ end → total ≡ was.counted + before →
-    before ≡ count end (is_taken q.positions (lists_none_wide q.positions) o)
-    → is_stepped (period_in q start) q.interval number ≡ true → IsPeriodOf q p → p.number ≡ number → cursor ≡ after_look was p total →
+pub turned_on : {q : EffectiveRule} {start c number before : ℕ} {cursor : Cursor} {o p : RecurrencePeriod} (was : Cursor) →
+    IsLeft q start c number before was.counted was.limit o
+    → is_stepped (period_in q start) q.interval number ≡ true → IsPeriodOf q p → p.number ≡ number → cursor ≡ after_look was p (was.counted + before) →
     IsTurned q start c number cursor p
-turned_on q start c number total before end was cursor o p some own counted e h et eb here product same look =
+turned_on {q = q} {start = start} {c = c} {number = number} {p = p} was left step product same look =
     subst (λ (x : Cursor). IsTurned q start c number x p) (sym look) (record {
       held = refl;
       product = product;
       number = same;
       counted = record {
-        step = ap (is_stepped (period_in q start) q.interval) same ∙ here;
-        total = et ∙ (let all = chosen_passed q start number end o own counted.step some e h in
-            let back = ap (λ x. count (first_local q.frequency (monday_zero q.week_start) x) (is_chosen q start)) same in
-            omega (arith, all, back, eb, counted.total));
-        most = counted.most;
+        step = ap (is_stepped (period_in q start) q.interval) same ∙ step;
+        total = sym (chosen_passed left) ∙ ap (λ x. count (first_local q.frequency (monday_zero q.week_start) x) (is_chosen q start)) (sym same);
+        most = left.counted.most;
       };
     })
 
-pub counted_out : (q : EffectiveRule) (start c number before end counted limit : ℕ) (o : RecurrencePeriod) → 1 ≤ q.interval → IsPeriodOf q o →
-    IsCounted q start c counted limit o → IsPassed q start (o.number + q.interval) number
-    → first_local q.frequency (monday_zero q.week_start) number ≤ end → before ≡ count end (is_taken q.positions (lists_none_wide q.positions) o) →
-    limit ≤ counted + before → AllCounted q start c number
-counted_out q start c number before end counted limit o some own known e h eb out n l =
-    not_few q start c limit (first_local q.frequency (monday_zero q.week_start) number) n known.most
-    (let all = chosen_passed q start number end o own known.step some e h in omega (arith, all, eb, known.total, out)) l
+pub counted_out : {q : EffectiveRule} {start c number before counted limit : ℕ} {o : RecurrencePeriod} →
+    IsLeft q start c number before counted limit o → limit ≤ counted + before → AllCounted q start c number
+counted_out {q = q} {start = start} {c = c} {number = number} {limit = limit} left out n l =
+    not_few q start c limit left.counted.most (first_local q.frequency (monday_zero q.week_start) number) n
+    (let all = chosen_passed left in omega (arith, all, out)) l
 
 -- a later step than one, up to the period of a place, before which so many locals are chosen
 pub record IsCountedStep (q : EffectiveRule) (start number target place chosen : ℕ) : Type 0 where

@@ -36,10 +36,11 @@ pub record IsCounting (q : EffectiveRule) (start c stop number : ℕ) (before no
 pub step_first : (f i : ℕ) → 1 ≤ i → is_stepped f i f ≡ true
 step_first f i some = stepped_shown f i f (omega arith) (let none : f - f ≡ 0 * i + 0 = omega arith in ap (λ x. x % i) none ∙ mod-mul-add 0 i 0 some)
 
-pub counting_begins : {q : EffectiveRule} {start c : ℕ} {before cursor : Cursor} (first number stop : ℕ) → IsPassedTo q start c before cursor →
+pub counting_begins : {q : EffectiveRule} {start c : ℕ} {before cursor : Cursor} {first number stop : ℕ} → IsPassedTo q start c before cursor →
     first ≡ period_in q start → MatchOption cursor.held (number ≡ first) (λ p. number ≡ p.number)
     → 1 ≤ q.interval → start < before.place → before.place < stop → IsCounting q start c stop number before cursor
-counting_begins {q = q} {start = start} {c = c} {before = before} {cursor = cursor} first number stop passed ef is some late early = by_held cursor.held refl is
+counting_begins {q = q} {start = start} {c = c} {before = before} {cursor = cursor} {first = first} {number = number} {stop = stop} passed ef is some late
+    early = by_held cursor.held refl is
   where
     moved : HasMoved q start (Some c) stop before cursor
     moved = let m = passed.moved in
@@ -96,10 +97,10 @@ module _ {q : EffectiveRule} {start c stop number : ℕ} {before now : Cursor} (
     same_place = at.place ∙ walk.moved.place
 
     taken_here : (n : ℕ) → taken n ≡ true → (period_in q n ≡ number) × (is_chosen q start n ≡ true)
-    taken_here n e = within_facts q start number n (sym (taken_within q start p number turned.product turned.number walk.step n) ∙ e)
+    taken_here n e = within_facts q start number n (sym (taken_within start turned.product turned.number walk.step n) ∙ e)
 
     chosen_here : (n : ℕ) → period_in q n ≡ number → taken n ≡ is_chosen q start n
-    chosen_here n e = taken_within q start p number turned.product turned.number walk.step n ∙ within_here q start number n e
+    chosen_here n e = taken_within start turned.product turned.number walk.step n ∙ within_here q start number n e
 
     moved : HasMoved q start (Some c) stop before after
     moved = moved_on walk.moved at (λ a b s few. meets q start a b start stop number few.low (omega (arith, walk.late, walk.early)) s walk.step
@@ -137,7 +138,7 @@ module _ {q : EffectiveRule} {start c stop number : ℕ} {before now : Cursor} (
         IsLeastFrom (is_wanted q start (Some c)) before.place n
     counting_finds {n = n} next e h = let here = taken_here n next.passes in record {
       passes = and_from (is_chosen q start n) (is_few q start c n) here.1
-          (are_few q start c after.limit n turned.counted.most (let all = count_here n here.0 in omega (arith, all, e, h)));
+          (are_few q start c after.limit turned.counted.most n (let all = count_here n here.0 in omega (arith, all, e, h)));
       low = omega (arith, next.low, same_place);
       least = none_until n next;
     }
@@ -163,7 +164,7 @@ module _ {q : EffectiveRule} {start c stop number : ℕ} {before now : Cursor} (
     counting_stops {n = n} next e h m l u = elim (cases_lt m n) [
       | inl less ↦ none_until n next m l less
       | inr more ↦ and_right (is_chosen q start m) (is_few q start c m)
-          (not_few q start c after.limit n m turned.counted.most (let here = taken_here n next.passes in let all = count_here n here.0 in
+          (not_few q start c after.limit turned.counted.most n m (let here = taken_here n next.passes in let all = count_here n here.0 in
           omega (arith, all, e, h)) more)
     ]
 

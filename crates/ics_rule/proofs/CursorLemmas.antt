@@ -20,30 +20,31 @@ use Rattle.ics_rule.proofs.ChosenLemmas.{no_step, not_let_in}
 use Rattle.ics_values.specs.Locals.{calendar_end}
 
 -- a period that lies a multiple of the interval from the start's is met by a local of it
-met_by : (q : EffectiveRule) (start a b p n : ℕ) → a ≤ n → n < b → period_in q n ≡ p → is_stepped (period_in q start) q.interval p ≡ true →
-    is_met q start a b p ≡ true
-met_by q start a b p n l u e step = and_from _ _ step (positive _ (count_some b n (λ m. nat_le a m && period_in q m == p) u (both a n (period_in q n) p l e)))
-  where
-    both : (x n y z : ℕ) → x ≤ n → y ≡ z → (nat_le x n && (y == z)) ≡ true
-    both x n y z h e = grind (arith, nat_tests)
+module _ (q : EffectiveRule) (start a b : ℕ) where
+  met_by : (p n : ℕ) → a ≤ n → n < b → period_in q n ≡ p → is_stepped (period_in q start) q.interval p ≡ true →
+      is_met q start a b p ≡ true
+  met_by p n l u e step = and_from _ _ step (positive _ (count_some b n (λ m. nat_le a m && period_in q m == p) u (both a n (period_in q n) p l e)))
+    where
+      both : (x n y z : ℕ) → x ≤ n → y ≡ z → (nat_le x n && (y == z)) ≡ true
+      both x n y z h e = grind (arith, nat_tests)
 
-    positive : (n : ℕ) → 0 < n → nat_lt 0 n ≡ true
-    positive n h = grind (arith, nat_tests)
+      positive : (n : ℕ) → 0 < n → nat_lt 0 n ≡ true
+      positive n h = grind (arith, nat_tests)
 
--- so is one from that of a place to that of a bound
-pub meets : (q : EffectiveRule) (start a b place stop p : ℕ) → a ≤ place → place < stop → stop ≤ b
-    → is_stepped (period_in q start) q.interval p ≡ true → period_in q place ≤ p → p ≤ period_in q (stop - 1) → is_met q start a b p ≡ true
-meets q start a b place stop p la lp lb step low high = elim (cases_lt (period_in q place) p) [
-  | inl later ↦
-      let none : period_in q 0 ≤ p = (let m = period_mono q.frequency (monday_zero q.week_start) 0 place (omega arith) in omega (arith, m)) in
-      let end = begun q.frequency (monday_zero q.week_start) p (stop - 1) high in
-      met_by q start a b p (first_local q.frequency (monday_zero q.week_start) p)
-      (elim (cases_lt place (first_local q.frequency (monday_zero q.week_start) p)) [
-        | inl after ↦ omega arith
-        | inr before ↦ absurd (let g = begins q.frequency (monday_zero q.week_start) p place before in omega (arith, g, later))
-      ]) (omega (arith, end)) (first_in q.frequency (monday_zero q.week_start) p (week_small q.week_start) none) step
-  | inr same ↦ met_by q start a b p place la (omega arith) (omega (arith, same, low)) step
-]
+  -- so is one from that of a place to that of a bound
+  pub meets : (place stop p : ℕ) → a ≤ place → place < stop → stop ≤ b
+      → is_stepped (period_in q start) q.interval p ≡ true → period_in q place ≤ p → p ≤ period_in q (stop - 1) → is_met q start a b p ≡ true
+  meets place stop p la lp lb step low high = elim (cases_lt (period_in q place) p) [
+    | inl later ↦
+        let none : period_in q 0 ≤ p = (let m = period_mono q.frequency (monday_zero q.week_start) 0 place (omega arith) in omega (arith, m)) in
+        let end = begun q.frequency (monday_zero q.week_start) p (stop - 1) high in
+        met_by p (first_local q.frequency (monday_zero q.week_start) p)
+        (elim (cases_lt place (first_local q.frequency (monday_zero q.week_start) p)) [
+          | inl after ↦ omega arith
+          | inr before ↦ absurd (let g = begins q.frequency (monday_zero q.week_start) p place before in omega (arith, g, later))
+        ]) (omega (arith, end)) (first_in q.frequency (monday_zero q.week_start) p (week_small q.week_start) none) step
+    | inr same ↦ met_by p place la (omega arith) (omega (arith, same, low)) step
+  ]
 
 -- the next number that passes one of two tests that agree
 pub next_same : (f g : ℕ → Bool) (place : ℕ) (o : Option ℕ) → ((n : ℕ) → f n ≡ g n) → IsNextIn f place o → IsNextIn g place o
@@ -65,25 +66,21 @@ fresh_some number held p e h other = subst (λ o. fresh o ≤ number) (sym e) (f
 pub fresh_none : (number : ℕ) (held : Option RecurrencePeriod) → held ≡ None → fresh held ≤ number
 fresh_none number held e = subst (λ o. fresh o ≤ number) (sym e) (omega arith)
 
--- a period that no earlier look has reached
-pub looked_at : (number steps after k : ℕ) (held : Option RecurrencePeriod) (met : ℕ → Bool) → fresh held ≤ number → met number ≡ true
-    → steps ≤ count (fresh held) met → after ≡ steps + 1 → k ≡ number → after ≤ count (suc k) met
-looked_at number steps after k held met h here few e same =
-    let more = count_one_more (fresh held) number met h here in
-    let back = ap (λ x. count (suc x) met) same in
-    omega (arith, few, more, e, back)
-
 -- no look, and one that no earlier look has reached
 pub looks_none : (number : ℕ) (c : Cursor) → LooksAt number c c
 looks_none number c = record { place = refl; looks = inl (refl, refl); begun = λ some. some; steps = λ met here few. few }
 
-pub looks_once : (number counted : ℕ) (before now : Cursor) (p : RecurrencePeriod) → fresh before.held ≤ number → now ≡ after_look before p counted →
+pub looks_once : {number : ℕ} (counted : ℕ) (before : Cursor) {now : Cursor} (p : RecurrencePeriod) → fresh before.held ≤ number
+    → now ≡ after_look before p counted →
     p.number ≡ number → LooksAt number before now
-looks_once number counted before now p h e same = subst (LooksAt number before) (sym e) (record {
+looks_once {number = number} counted before p h e same = subst (LooksAt number before) (sym e) (record {
   place = refl;
   looks = inr (omega arith);
   begun = λ some. omega arith;
-  steps = λ met here few. looked_at number before.steps (before.steps + 1) p.number before.held met h here few refl same;
+  steps = λ met here few.
+      let more = count_one_more (fresh before.held) number met h here in
+      let back = ap (λ x. count (suc x) met) same in
+      omega (arith, few, more, back);
 })
 
 pub never_fewer : (before now : Cursor) → LooksOrStays before now → before.steps ≤ now.steps
@@ -127,9 +124,9 @@ counted_at : (q : EffectiveRule) (start : ℕ) (o : Option ℕ) (c : Cursor) (pl
 counted_at q start None c place h = tt
 counted_at q start (Some k) c place h = h
 
-pub own_at : (q : EffectiveRule) (start : ℕ) (o : Option ℕ) (c : Cursor) (place : ℕ) → IsCursorIn q start o c → c.place ≤ place → place < calendar_end →
+pub own_at : {q : EffectiveRule} {start : ℕ} {o : Option ℕ} {c : Cursor} (place : ℕ) → IsCursorIn q start o c → c.place ≤ place → place < calendar_end →
     IsCursorIn q start o (record c { place = place })
-own_at q start o c place own l h = record {
+own_at {q = q} {start = start} {o = o} {c = c} place own l h = record {
   inside = h;
   held = held_mono q c.held c.place place own.held l;
   begun = own.begun;
@@ -211,34 +208,35 @@ count_within (suc n) f g h =
     cond_within true b h = let e : ◌≡◌ {A = ℕ} (cond b 1 0) 1 = ap (λ z. cond z 1 0) (h refl) in omega (arith, e)
 
 -- what is met before some bound and is not past the period of n is met before each bound past n
-met_soon : (q : EffectiveRule) (start a b c n p : ℕ) → a ≤ n → n < b → p ≤ period_in q n → is_met q start a c p ≡ true → is_met q start a b p ≡ true
-met_soon q start a b c n p low high here met =
-    let parts = and_parts (is_stepped (period_in q start) q.interval p) (nat_lt 0 (count c (λ m. nat_le a m && period_in q m == p))) met in
-    let one = counted_one c (λ m. nat_le a m && period_in q m == p) (positive_fact (count c (λ m. nat_le a m && period_in q m == p)) parts.1) in
-    let facts = both_facts a one.0 (period_in q one.0) p one.1.1 in
-    elim (cases_lt n one.0) [
-      | inl later ↦
-          let up = period_mono q.frequency (monday_zero q.week_start) n one.0 (omega arith) in
-          met_by q start a b p n low high (omega (arith, up, facts.1, here)) parts.0
-      | inr before ↦ met_by q start a b p one.0 facts.0 (omega arith) facts.1 parts.0
-    ]
-  where
-    positive_fact : (n : ℕ) → nat_lt 0 n ≡ true → 0 < n
-    positive_fact n h = grind (arith, nat_tests)
+module _ (q : EffectiveRule) (start a b : ℕ) where
+  met_soon : (c : ℕ) {n : ℕ} (p : ℕ) → a ≤ n → n < b → p ≤ period_in q n → is_met q start a c p ≡ true → is_met q start a b p ≡ true
+  met_soon c {n = n} p low high here met =
+      let parts = and_parts (is_stepped (period_in q start) q.interval p) (nat_lt 0 (count c (λ m. nat_le a m && period_in q m == p))) met in
+      let one = counted_one c (λ m. nat_le a m && period_in q m == p) (positive_fact (count c (λ m. nat_le a m && period_in q m == p)) parts.1) in
+      let facts = both_facts a one.0 (period_in q one.0) p one.1.1 in
+      elim (cases_lt n one.0) [
+        | inl later ↦
+            let up = period_mono q.frequency (monday_zero q.week_start) n one.0 (omega arith) in
+            met_by q start a b p n low high (omega (arith, up, facts.1, here)) parts.0
+        | inr before ↦ met_by q start a b p one.0 facts.0 (omega arith) facts.1 parts.0
+      ]
+    where
+      positive_fact : (n : ℕ) → nat_lt 0 n ≡ true → 0 < n
+      positive_fact n h = grind (arith, nat_tests)
 
-    both_facts : (x n y z : ℕ) → (nat_le x n && (y == z)) ≡ true → (x ≤ n) × (y ≡ z)
-    both_facts x n y z h = let parts = and_parts (nat_le x n) (y == z) h in (leb-true x n parts.0, eqb-true y z parts.1)
+      both_facts : (x n y z : ℕ) → (nat_le x n && (y == z)) ≡ true → (x ≤ n) × (y ≡ z)
+      both_facts x n y z h = let parts = and_parts (nat_le x n) (y == z) h in (leb-true x n parts.0, eqb-true y z parts.1)
 
--- and what is met before a bound is met before a later one
-met_later : (q : EffectiveRule) (start a b c p : ℕ) → b ≤ c → is_met q start a b p ≡ true → is_met q start a c p ≡ true
-met_later q start a b c p h met =
-    let parts = and_parts (is_stepped (period_in q start) q.interval p) (nat_lt 0 (count b (λ m. nat_le a m && period_in q m == p))) met in
-    let more = count_mono b c (λ m. nat_le a m && period_in q m == p) h in
-    more_positive (is_stepped (period_in q start) q.interval p) (count b (λ m. nat_le a m && period_in q m == p))
-    (count c (λ m. nat_le a m && period_in q m == p)) parts.0 parts.1 more
-  where
-    more_positive : (x : Bool) (m n : ℕ) → x ≡ true → nat_lt 0 m ≡ true → m ≤ n → (x && nat_lt 0 n) ≡ true
-    more_positive x m n e h l = grind (arith, nat_tests)
+  -- and what is met before a bound is met before a later one
+  met_later : (c p : ℕ) → b ≤ c → is_met q start a b p ≡ true → is_met q start a c p ≡ true
+  met_later c p h met =
+      let parts = and_parts (is_stepped (period_in q start) q.interval p) (nat_lt 0 (count b (λ m. nat_le a m && period_in q m == p))) met in
+      let more = count_mono b c (λ m. nat_le a m && period_in q m == p) h in
+      more_positive (is_stepped (period_in q start) q.interval p) (count b (λ m. nat_le a m && period_in q m == p))
+      (count c (λ m. nat_le a m && period_in q m == p)) parts.0 parts.1 more
+    where
+      more_positive : (x : Bool) (m n : ℕ) → x ≡ true → nat_lt 0 m ≡ true → m ≤ n → (x && nat_lt 0 n) ≡ true
+      more_positive x m n e h l = grind (arith, nat_tests)
 
 -- An answer past the start is known from periods that hold a local not past it.
 pub looked_found : {q : EffectiveRule} {start : ℕ} {o : Option ℕ} {stop n : ℕ} {before now : Cursor} {a b : ℕ} → IsWalked q start o stop (Some n) before now
@@ -250,7 +248,7 @@ looked_found {q = q} {start = start} {o = o} {stop = stop} {n = n} {before = bef
         let wide = count_within (fresh before.held) (is_met q start a b) (is_met q start a stop) (λ p l met. met_wide p met early) in
         let most = walked.moved.looked a stop (omega arith) (record { low = few.low; few = omega (arith, few.few, wide) }) in
         let near = count_within (fresh now.held) (is_met q start a stop) (is_met q start a b)
-        (λ p l met. met_soon q start a b stop n p begins (omega (arith, soon)) (below now.held walked.found.0 p l) met) in
+        (λ p l met. met_soon q start a b stop p begins (omega (arith, soon)) (below now.held walked.found.0 p l) met) in
         omega (arith, most, near)
     | inr late ↦ walked.moved.looked a b late few
   ];
@@ -308,12 +306,6 @@ pub record IsWalk (q : EffectiveRule) (start stop number : ℕ) (before now : Cu
   pub held : MatchOption now.held (Unit {0}) (λ p. IsPeriodOf q p × ((p.number ≤ number) × (p.number ≤ period_in q stop)))
   pub moved : HasMoved q start None stop before now
 
-cases_held : (q : EffectiveRule) (held : Option RecurrencePeriod) (n number stop : ℕ) → HeldBy q held n → period_in q n ≤ number → n ≤ stop
-    → MatchOption held (Unit {0}) (λ p. IsPeriodOf q p × ((p.number ≤ number) × (p.number ≤ period_in q stop)))
-cases_held q None n number stop h l u = tt
-cases_held q (Some p) n number stop h l u =
-    (h.0, (omega (arith, h.1, l), (let m = period_mono q.frequency (monday_zero q.week_start) n stop u in omega (arith, h.1, m))))
-
 -- it begins at the first step from the place on
 pub walk_begins : {q : EffectiveRule} {start stop first own number : ℕ} {c : Cursor} → 1 ≤ q.interval → first ≡ period_in q start → own ≡ period_in q c.place →
     IsLeastFrom (is_stepped first q.interval) own number → c.place < stop → IsCursorIn q start None c → IsWalk q start stop number c c
@@ -325,9 +317,20 @@ walk_begins {q = q} {start = start} {stop = stop} {first = first} {number = numb
       step = next.passes;
       low = next.low;
       none = λ n l u. no_step q start n (next.least (period_in q n) (period_mono q.frequency (monday_zero q.week_start) c.place n l) u);
-      held = cases_held q c.held c.place number stop own.held next.low (omega arith);
+      held = held_in c.held own.held;
       moved = moved_none stop own;
     }
+  where
+    held_in : (o : Option RecurrencePeriod) → HeldBy q o c.place
+        → MatchOption o (Unit {0}) (λ p. IsPeriodOf q p × ((p.number ≤ number) × (p.number ≤ period_in q stop)))
+    held_in None g = tt
+    held_in (Some p) g = (
+      g.0,
+      (
+        omega (arith, g.1, is.low, eo),
+        (let m = period_mono q.frequency (monday_zero q.week_start) c.place stop (omega (arith, h)) in omega (arith, g.1, m)),
+      ),
+    )
 
 module _ {q : EffectiveRule} {start stop number : ℕ} {before now : Cursor} (walk : IsWalk q start stop number before now) where
   -- past the bound's period nothing is left
@@ -414,7 +417,7 @@ pub cursor_begins : (q : EffectiveRule) (start : ℕ) (o : Option ℕ) (place : 
 cursor_begins q start None place h = record { inside = h; held = tt; begun = tt; steps = omega arith; counted = tt }
 cursor_begins q start (Some c) place h = record { inside = h; held = tt; begun = tt; steps = omega arith; counted = tt }
 
-pub looked_none : (q : EffectiveRule) (start : ℕ) (o : Option ℕ) (place from b : ℕ) → place ≡ from →
+pub looked_none : (q : EffectiveRule) (start : ℕ) (o : Option ℕ) {place from : ℕ} (b : ℕ) → place ≡ from →
     HasLookedIn q start o (record { place = place; steps = 0; held = None; counted = 0; limit = 0 }) (looks_from o start from) b
-looked_none q start None place from b e = record { low = omega (arith, e); few = omega arith }
-looked_none q start (Some c) place from b e = record { low = omega arith; few = omega arith }
+looked_none q start None b e = record { low = omega (arith, e); few = omega arith }
+looked_none q start (Some c) b e = record { low = omega arith; few = omega arith }

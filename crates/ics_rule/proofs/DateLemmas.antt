@@ -110,9 +110,10 @@ named_in q e weekly alone some =
     ∙ ap (λ x. x || contains q.weekdays.plain (weekday_of e) || lets_numbered q.frequency q (numbers_of q.weekdays (weekday_of e)) e) some
     ∙ ap (λ f. contains q.weekdays.plain (weekday_of e) || lets_numbered f q (numbers_of q.weekdays (weekday_of e)) e) weekly)
 
-pub day_of_week : (q : EffectiveRule) (e d set : ℕ) (found : Bool) → q.frequency ≡ Weekly → names_weekdays_alone q ≡ true → lists_no_weekday q.weekdays ≡ false
+pub day_of_week : (q : EffectiveRule) (e : ℕ) {d : ℕ} (set : ℕ) {found : Bool} → q.frequency ≡ Weekly → names_weekdays_alone q ≡ true
+    → lists_no_weekday q.weekdays ≡ false
     → d ≡ weekday_of e → d < 7 → ((n : ℕ) → contains set n ≡ (nat_lt n 7 && names_weekday q.weekdays n)) → found ≡ (nat_lt d 64 && contains set d) →
     found ≡ lets_date q e
-day_of_week q e d set found weekly alone some day small named h =
+day_of_week q e {d = d} set weekly alone some day small named h =
     h ∙ in_word d (contains set d) (omega (arith, small)) ∙ named d ∙ in_week d (names_weekday q.weekdays d) small
     ∙ ap (names_weekday q.weekdays) day ∙ named_in q e weekly alone some

@@ -24,9 +24,10 @@ place_of c e own =
     omega (arith, own.year_day, own.place, u.0, same)
 
 -- the days left of a month are in it, and fall with it
-pub month_out : (q : EffectiveRule) (c : Civil) (e j : ℕ) → IsCivilOf c e → j < days_in_month (pos c.year) c.month + 1 - c.day → lets q.months c.month ≡ false →
+pub month_out : (q : EffectiveRule) {c : Civil} {e : ℕ} (j : ℕ) → IsCivilOf c e → j < days_in_month (pos c.year) c.month + 1 - c.day
+    → lets q.months c.month ≡ false →
     lets_date q (e + j) ≡ false
-month_out q c e j own h none =
+month_out q {c = c} {e = e} j own h none =
     let p = place_of c e own in
     let f = fields_at (e + j) c.year c.month (c.day + j) (own.date.0, own.date.1, (omega (arith, own.date.2.0), omega (arith, h))) (omega (arith, p)) in
     out_1 (lets q.months (month_of (e + j))) _ _ (lets_week q (e + j)) (lets_weekday q (e + j)) (ap (lets q.months) f.month ∙ none)

@@ -7,10 +7,10 @@ use Rattle.ics_rule.specs.EffectiveRules.{effective}
 use Rattle.ics_rule.specs.Candidates.{is_candidate, is_candidate_in, in_step, lets_date, lets_clock}
 
 -- the three tests together
-pub candidate_by_parts : (r : Recurrence) (q : EffectiveRule) (n s m : ℕ) (a b k : Bool) → q ≡ effective r → n ≡ m → s ≡ number r.start
+pub candidate_by_parts : (r : Recurrence) {q : EffectiveRule} {n s m : ℕ} {a b k : Bool} → q ≡ effective r → n ≡ m → s ≡ number r.start
     → a ≡ in_step q s n → b ≡ lets_date q (n / 86_400) → k ≡ lets_clock q (n / 86_400 * 86_400 + n % 86_400) → (a && b && k) ≡ is_candidate r m
 unfolding is_candidate
-candidate_by_parts r q n s m a b k eq en es ea eb ek =
+candidate_by_parts r {q = q} {n = n} {s = s} {b = b} {k = k} eq en es ea eb ek =
     let whole : n / 86_400 * 86_400 + n % 86_400 ≡ n = omega arith in
     ap (λ x. x && b && k) ea
     ∙ ap (λ x. in_step q s n && x && k) eb

@@ -87,20 +87,6 @@ module _ (q : EffectiveRule) (start : ℕ) where
       (ap (is_stepped (period_in q start) q.interval) same ∙ step) (ap (lets_date q) d ∙ date)) clock)
       (ap (λ b. is_placed q start b n) free)
 
--- between two kept locals of an hour, each that the parts of the clock let in is kept
-pub kept_between : (r : Recurrence) (a n b : ℕ) → number r.start < a → b < rules_end → is_finer (effective r).frequency ≡ false
-    → lists_none_wide (effective r).positions ≡ true → is_kept r a ≡ true → is_kept r b ≡ true → a ≤ n → n ≤ b → day_of n ≡ day_of a
-    → lets_clock (effective r) n ≡ true → is_kept r n ≡ true
-kept_between r a n b after early coarse free kept_a kept_b low high d clock =
-    let first = and_true (sym (kept_later r a after (let small : a < rules_end = omega (arith, low, high, early) in small)) ∙ kept_a) in
-    let last = and_true (sym (kept_later r b (omega (arith, after, low, high)) early) ∙ kept_b) in
-    let chosen = wanted_chosen (effective r) (number r.start) r.parts.count a first.0 in
-    kept_later r n (omega (arith, after, low)) (omega (arith, high, early))
-    ∙ and_from (is_wanted (effective r) (number r.start) r.parts.count n) (is_by_until r.kind r.parts.until n)
-    (wanted_up (effective r) (number r.start) r.parts.count n b high last.0
-    (chosen_beside (effective r) (number r.start) coarse free n a d chosen clock))
-    (until_up r.kind r.parts.until n b high last.1)
-
 -- the parts of the clock let a kept local in
 pub kept_clock : (r : Recurrence) (n : ℕ) → number r.start < n → n < rules_end → is_kept r n ≡ true → lets_clock (effective r) n ≡ true
 kept_clock r n after early kept =
@@ -145,6 +131,19 @@ module _ (r : Recurrence) (hour first last : ℕ) (bounds : KeepsBounds r (effec
       let e : kept / 3_600 ≡ n / 3_600 = omega (arith, at, high) in
       ap (λ h. h % 24) e
 
+  -- between the two bounds each that the parts of the clock let in is kept
+  kept_between : (n : ℕ) → n / 3_600 ≡ hour → kept ≤ n → n ≤ hour * 3_600 + last → lets_clock (effective r) n ≡ true → is_kept r n ≡ true
+  kept_between n at low high clock =
+      let early : hour * 3_600 + last < rules_end = omega (arith, bounds.early, bounds.inside) in
+      let from = and_true (sym (kept_later r kept bounds.after (omega (arith, low, high, early))) ∙ bounds.next.kept) in
+      let to = and_true (sym (kept_later r (hour * 3_600 + last) (omega (arith, bounds.after, low, high)) early) ∙ bounds.kept_last) in
+      let chosen = wanted_chosen (effective r) (number r.start) r.parts.count kept from.0 in
+      kept_later r n (omega (arith, bounds.after, low)) (omega (arith, high, early))
+      ∙ and_from (is_wanted (effective r) (number r.start) r.parts.count n) (is_by_until r.kind r.parts.until n)
+      (wanted_up (effective r) (number r.start) r.parts.count n (hour * 3_600 + last) high to.0
+      (chosen_beside (effective r) (number r.start) bounds.coarse bounds.free n kept (same_day n at) chosen clock))
+      (until_up r.kind r.parts.until n (hour * 3_600 + last) high to.1)
+
   product_kept : (n : ℕ) → n / 3_600 ≡ hour → contains (effective r).minutes (minute_of n) ≡ true → contains (effective r).seconds (second_of n) ≡ true →
       is_kept r n ≡ true
   product_kept n at minute second =
@@ -154,8 +153,7 @@ module _ (r : Recurrence) (hour first last : ℕ) (bounds : KeepsBounds r (effec
       let clock = and_true {a = lets (effective r).hours (hour_of kept) && lets (effective r).minutes (minute_of kept)}
       (kept_clock r kept bounds.after (let high = bounds.next.in_bound in omega (arith, bounds.early, high)) bounds.next.kept) in
       let of_hour = (and_true {a = lets (effective r).hours (hour_of kept)} clock.0).0 in
-      kept_between r kept n (hour * 3_600 + last) bounds.after (omega (arith, bounds.early, bounds.inside)) bounds.coarse bounds.free bounds.next.kept
-      bounds.kept_last (omega (arith, whole, low)) (omega (arith, whole, high)) (same_day n at)
+      kept_between n at (omega (arith, whole, low)) (omega (arith, whole, high))
       (and_from (lets (effective r).hours (hour_of n) && lets (effective r).minutes (minute_of n)) (lets (effective r).seconds (second_of n))
       (and_from (lets (effective r).hours (hour_of n)) (lets (effective r).minutes (minute_of n))
       (subst (λ h. lets (effective r).hours h ≡ true) (same_hour n at) of_hour)
@@ -186,9 +184,9 @@ module _ (r : Recurrence) (hour first last : ℕ) (bounds : KeepsBounds r (effec
       same false false b to from = refl
 
 -- of an hour after the start that BYHOUR leaves out, no local is kept
-pub left_out : (r : Recurrence) (q : EffectiveRule) → q ≡ effective r → (hour : ℕ) → hour < 85_913_808 → number r.start < hour * 3_600
+pub left_out : (r : Recurrence) {q : EffectiveRule} → q ≡ effective r → (hour : ℕ) → hour < 85_913_808 → number r.start < hour * 3_600
     → lets q.hours (hour % 24) ≡ false → NoneKept r (hour * 3_600) (hour * 3_600 + 3_600)
-left_out r q whole hour early after out n from to = elim (false_or_true (is_kept r n)) [
+left_out r {q = q} whole hour early after out n from to = elim (false_or_true (is_kept r n)) [
   | inl none ↦ none
   | inr kept ↦ absurd (
       let clock = and_true {a = lets (effective r).hours (hour_of n) && lets (effective r).minutes (minute_of n)}
@@ -208,9 +206,9 @@ kept_here r from n next =
     subst (λ m. is_kept r m ≡ true) e next.kept
 
 -- the same, said of the parts that a rule holds
-pub held_times : (r : Recurrence) (q : EffectiveRule) (hour first last : ℕ) → q ≡ effective r → KeepsBounds r q hour first last →
+pub held_times : {r : Recurrence} {q : EffectiveRule} {hour first last : ℕ} → q ≡ effective r → KeepsBounds r q hour first last →
     KeepsTimes r hour (times_of q)
-held_times r q hour first last whole bounds = subst (λ (x : EffectiveRule). KeepsTimes r hour (times_of x)) (sym whole)
+held_times {r = r} {hour = hour} {first = first} {last = last} whole bounds = subst (λ (x : EffectiveRule). KeepsTimes r hour (times_of x)) (sym whole)
     (keeps_times r hour first last (subst (λ (x : EffectiveRule). KeepsBounds r x hour first last) whole bounds))
 
 -- some hour, minute or second is listed

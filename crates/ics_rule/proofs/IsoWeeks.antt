@@ -46,30 +46,31 @@ record IsThursday (a b s t n f : ℕ) : Type 0 where
   pub place : (f - a) / 7 + 1 ≡ n
   pub weeks : s + 7 * ((b - a - 1 - (f - a) % 7) / 7 + 1) ≡ t
 
-thursday : (a b s t n f : ℕ) → s ≡ a + 3 - (a + 1) % 7 → t ≡ b + 3 - (b + 1) % 7 → a + 365 ≤ b → 1 ≤ n → s + 7 * n ≤ t → f ≡ s + 3 + 7 * (n - 1) →
+thursday : {a b s t n f : ℕ} → s ≡ a + 3 - (a + 1) % 7 → t ≡ b + 3 - (b + 1) % 7 → a + 365 ≤ b → 1 ≤ n → s + 7 * n ≤ t → f ≡ s + 3 + 7 * (n - 1) →
     IsThursday a b s t n f
-thursday a b s t n f first next long one most at =
+thursday first next long one most at =
     record { low = omega arith; high = omega arith; place = omega arith; weeks = omega arith }
 
 -- the day w of week n in a year from 0 on
-later_week : (y n w e : ℕ) → y ≤ 9999 → 1 ≤ n → n ≤ weeks_in_year (pos y) → w < 7 → iso_year_start (pos y) +ℤ pos ((n - 1) * 7 + w) ≡ pos e -ℤ pos 719_528
+later_week : (y : ℕ) {n w : ℕ} (e : ℕ) → y ≤ 9999 → (1 ≤ n) × (n ≤ weeks_in_year (pos y)) → w < 7
+    → iso_year_start (pos y) +ℤ pos ((n - 1) * 7 + w) ≡ pos e -ℤ pos 719_528
     → (2 ≤ e) × IsWeek y n (weeks_in_year (pos y)) w e
-later_week y n w e range one most week day =
+later_week y {n = n} {w = w} e range within week day =
     let year : IsYear (pos y) = omega (arith, signed_arith) in
     let weeks = weeks_in_year-next (pos y) (pos (suc y)) year (omega (arith, signed_arith)) in
     let start = start_is y (omega arith) in
     let next = start_is (suc y) (omega arith) in
     let end : start_of y + 7 * weeks_in_year (pos y) ≡ start_of (suc y) = omega (arith, signed_arith, start, next, ap up weeks.0, ap down weeks.0) in
     let place : e ≡ start_of y + (n - 1) * 7 + w = omega (arith, signed_arith, start, ap up day, ap down day) in
-    of_place y n w e (weeks_in_year (pos y)) one most week place end
+    of_place y within.0 within.1 week place end
   where
-    of_place : (y n w e weeks : ℕ) → 1 ≤ n → n ≤ weeks → w < 7 → e ≡ start_of y + (n - 1) * 7 + w → start_of y + 7 * weeks ≡ start_of (suc y)
+    of_place : (y : ℕ) {n w e weeks : ℕ} → 1 ≤ n → n ≤ weeks → w < 7 → e ≡ start_of y + (n - 1) * 7 + w → start_of y + 7 * weeks ≡ start_of (suc y)
         → (2 ≤ e) × IsWeek y n weeks w e
-    of_place y n w e weeks one most week place end =
+    of_place y {n = n} {e = e} one most week place end =
         let length = days_before_year-next y in
         let late : 2 ≤ e = omega arith in
         let fourth = fourth_later e late in
-        let own = thursday (days_before_year y) (days_before_year (suc y)) (start_of y) (start_of (suc y)) n (fourth_day 0 e) refl refl (omega (arith, length))
+        let own = thursday refl refl (omega (arith, length))
         one (omega arith) (omega (arith, fourth, place)) in
         let year = year_of_is (fourth_day 0 e) y own.low own.high in
         let day = year_day_is (fourth_day 0 e) in
@@ -85,9 +86,9 @@ later_week y n w e range one most week day =
         )
 
 -- week 52 of the year -1 is named one cycle of the calendar later
-early_week : (n w e : ℕ) → 1 ≤ n → n ≤ weeks_in_year (negsuc 0) → w < 7 → iso_year_start (negsuc 0) +ℤ pos ((n - 1) * 7 + w) ≡ pos e -ℤ pos 719_528
+early_week : {n w : ℕ} (e : ℕ) → 1 ≤ n → n ≤ weeks_in_year (negsuc 0) → w < 7 → iso_year_start (negsuc 0) +ℤ pos ((n - 1) * 7 + w) ≡ pos e -ℤ pos 719_528
     → (e < 2) × IsWeek 399 n (weeks_in_year (negsuc 0)) w e
-early_week n w e one most week day =
+early_week {n = n} {w = w} e one most week day =
     let year : IsYear (negsuc 0) = omega (arith, signed_arith) in
     let here : IsBetween (neg_ℤ (pos 9999)) (pos 10000) (negsuc 0) = omega (arith, signed_arith) in
     let weeks = weeks_in_year-next (negsuc 0) (pos 0) year refl in
@@ -99,14 +100,14 @@ early_week n w e one most week day =
     let monday : up (iso_year_start (negsuc 0)) + 719_890 ≡ down (iso_year_start (negsuc 0)) = omega (arith, fourth.0, start, zero_day, before) in
     let all : weeks_in_year (negsuc 0) ≡ 52 = omega (arith, signed_arith, monday, next, ap up weeks.0, ap down weeks.0) in
     let place : e + 362 ≡ (n - 1) * 7 + w = omega (arith, signed_arith, monday, ap up day, ap down day) in
-    of_place n w e (weeks_in_year (negsuc 0)) one most all week place
+    of_place e one most all week place
   where
     fourth_early : (e : ℕ) → e < 2 → fourth_day 0 e ≡ 146_095
     fourth_early e early = ap (λ b. cond b (7 * week_of 0 e + 0 + 146_088) (7 * week_of 0 e + 0 - 9)) (lt-ltb (7 * week_of 0 e + 0) 9 (omega arith))
         ∙ omega arith
 
-    of_place : (n w e weeks : ℕ) → 1 ≤ n → n ≤ weeks → weeks ≡ 52 → w < 7 → e + 362 ≡ (n - 1) * 7 + w → (e < 2) × IsWeek 399 n weeks w e
-    of_place n w e weeks one most all week place =
+    of_place : {n w weeks : ℕ} (e : ℕ) → 1 ≤ n → n ≤ weeks → weeks ≡ 52 → w < 7 → e + 362 ≡ (n - 1) * 7 + w → (e < 2) × IsWeek 399 n weeks w e
+    of_place e one most all week place =
         let early : e < 2 = omega arith in
         let fourth = fourth_early e early in
         let year = ap year_of fourth ∙ year_of_is 146_095 399 (omega arith) (omega arith) in
@@ -123,9 +124,9 @@ early_week n w e one most week day =
         )
 
 -- no day from 0000-01-01 on is in a week of an earlier year
-no_earlier : (k n w e : ℕ) → k < 9998 → n ≤ weeks_in_year (negsuc (suc k)) → 1 ≤ n → w < 7 →
+no_earlier : (k : ℕ) {n w : ℕ} (e : ℕ) → k < 9998 → (1 ≤ n) × (n ≤ weeks_in_year (negsuc (suc k))) → w < 7 →
     iso_year_start (negsuc (suc k)) +ℤ pos ((n - 1) * 7 + w) ≡ pos e -ℤ pos 719_528 → ⊥
-no_earlier k n w e range most one week day =
+no_earlier k e range within week day =
     let year : IsYear (negsuc (suc k)) = omega (arith, signed_arith) in
     let weeks = weeks_in_year-next (negsuc (suc k)) (negsuc k) year (omega (arith, signed_arith)) in
     let near = iso_year_start_near (negsuc k) (omega (arith, signed_arith)) in
@@ -150,7 +151,7 @@ iso_week d e day = by_year d.year refl
     by_year : (y : ℤ) → d.year ≡ y → IsIsoWeek d e
     by_year (pos y) is =
         let range = rw is at d.year_in in
-        let r = later_week y d.week (monday_zero d.weekday) e (omega (arith, signed_arith, range)) d.week_in.0 (rw is at d.week_in.1) (week_small d.weekday)
+        let r = later_week y e (omega (arith, signed_arith, range)) (rw is at d.week_in) (week_small d.weekday)
         (rw is at day) in
         record {
           year = λ late. is ∙ ap pos (sym r.1.year);
@@ -160,7 +161,7 @@ iso_week d e day = by_year d.year refl
           weekday = sym r.1.weekday;
         }
     by_year (negsuc zero) is =
-        let r = early_week d.week (monday_zero d.weekday) e d.week_in.0 (rw is at d.week_in.1) (week_small d.weekday) (rw is at day) in
+        let r = early_week e d.week_in.0 (rw is at d.week_in.1) (week_small d.weekday) (rw is at day) in
         record {
           year = λ late. absurd (omega (arith, r.0, late));
           cycle = λ early. ap (λ y. y +ℤ pos 400) is ∙ ap pos (sym r.1.year);
@@ -170,5 +171,5 @@ iso_week d e day = by_year d.year refl
         }
     by_year (negsuc (suc k)) is =
         let range = rw is at d.year_in in
-        absurd (no_earlier k d.week (monday_zero d.weekday) e (omega (arith, signed_arith, range)) (rw is at d.week_in.1) d.week_in.0 (week_small d.weekday)
+        absurd (no_earlier k e (omega (arith, signed_arith, range)) (rw is at d.week_in) (week_small d.weekday)
         (rw is at day))

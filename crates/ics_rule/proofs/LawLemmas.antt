@@ -33,17 +33,17 @@ kept_few r c n e some h = elim (or_true h) [
   | inr rest ↦ ltb-true (count n (is_in_rule r)) c (subst (λ o. is_counted r o n ≡ true) e (and_true rest).1)
 ]
 
-count_cases : (n x y c : ℕ) (k m : Bool) → (k ≡ true → m ≡ true) → (k ≡ true → y < c) → (x ≤ c) × (x ≤ y) →
+count_cases : {x y c : ℕ} (k m : Bool) → (k ≡ true → m ≡ true) → (k ≡ true → y < c) → (x ≤ c) × (x ≤ y) →
     (x + cond k 1 0 ≤ c) × (x + cond k 1 0 ≤ y + cond m 1 0)
-count_cases n x y c true true in_rule few h = (let f = few refl in omega (arith, f, h.1), omega (arith, h.1))
-count_cases n x y c true false in_rule few h = absurd (let no = in_rule refl in cc)
-count_cases n x y c false true in_rule few h = (omega (arith, h.0), omega (arith, h.1))
-count_cases n x y c false false in_rule few h = (omega (arith, h.0), omega (arith, h.1))
+count_cases true true in_rule few h = (let f = few refl in omega (arith, f, h.1), omega (arith, h.1))
+count_cases true false in_rule few h = absurd (let no = in_rule refl in cc)
+count_cases false true in_rule few h = (omega (arith, h.0), omega (arith, h.1))
+count_cases false false in_rule few h = (omega (arith, h.0), omega (arith, h.1))
 
 kept_both : (r : Recurrence) (c : ℕ) → r.parts.count ≡ Some c → 1 ≤ c → (n : ℕ) → (count n (is_kept r) ≤ c) × (count n (is_kept r) ≤ count n (is_in_rule r))
 unfolding count
 kept_both r c e some zero = (omega arith, omega arith)
-kept_both r c e some (suc n) = count_cases n (count n (is_kept r)) (count n (is_in_rule r)) c (is_kept r n) (is_in_rule r n) (kept_in_rule r n)
+kept_both r c e some (suc n) = count_cases (is_kept r n) (is_in_rule r n) (kept_in_rule r n)
     (kept_few r c n e some) (kept_both r c e some n)
 
 -- under COUNT n at most n are kept

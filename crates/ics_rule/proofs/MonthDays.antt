@@ -68,30 +68,32 @@ abbrev pub seen_months : EffectiveRule → (ℕ → Bool) → ℕ → ℕ → Bo
 seen_months q months from e =
     nat_lt (month_of e) from && (months (month_of e) && lists_in_month q (weekday_of e) (month_day_of e) (days_in_month (pos (year_of e)) (month_of e)))
 
-pub month_step : (q : EffectiveRule) (r : Run) (months : ℕ → Bool) (first y m from k : ℕ) (b new : Bool) → IsMonth r first y m → first ≡ days_before_year y →
+pub month_step : (q : EffectiveRule) {r : Run} {months : ℕ → Bool} {first y m from : ℕ} (k : ℕ) {b new : Bool} → IsMonth r first y m
+    → first ≡ days_before_year y →
     r.start + r.len ≤ days_in_year (pos y) → IsLeastFrom months from m
     → b ≡ (nat_lt k (days_in_year (pos y)) && seen_months q months from (first + k))
     → new ≡ (b || (has_run r k && lists_in_month q (weekday_in r (k - r.start)) (k - r.start + 1) r.len))
     → new ≡ (nat_lt k (days_in_year (pos y)) && seen_months q months (m + 1) (first + k))
-month_step q r months first y m from k b new own start most next e more = elim (cases_lt k (days_in_year (pos y))) [
-  | inl inside ↦
-      let M = month_of (first + k) in
-      let L = lists_in_month q (weekday_of (first + k)) (month_day_of (first + k)) (days_in_month (pos (year_of (first + k))) (month_of (first + k))) in
-      let old : b ≡ (nat_lt M from && (months M && L)) = e ∙ ap (λ x. x && (nat_lt M from && (months M && L))) (lt-ltb k (days_in_year (pos y)) inside) in
-      let added : (has_run r k && lists_in_month q (weekday_in r (k - r.start)) (k - r.start + 1) r.len) ≡ ((M == m) && L) =
-      guard (has_run r k) _ L (run_lists r first y m k own q) ∙ ap (λ x. x && L) (run_is_month r first y m k own start inside) in
-      more ∙ ap (λ x. x || (has_run r k && lists_in_month q (weekday_in r (k - r.start)) (k - r.start + 1) r.len)) old
-      ∙ ap (λ x. (nat_lt M from && (months M && L)) || x) added
-      ∙ gather (nat_lt M from) (months M) (M == m) L ∙ ap (λ x. x && L) (next_found months from m M next) ∙ spread (nat_lt M (m + 1)) (months M) L
-      ∙ ap (λ x. x && (nat_lt M (m + 1) && (months M && L))) (sym (lt-ltb k (days_in_year (pos y)) inside))
-  | inr past ↦
-      let out : has_run r k ≡ false = and_right (nat_le r.start k) (nat_lt (k - r.start) r.len) (le-ltb (k - r.start) r.len (omega (arith, past, most))) in
-      let none = le-ltb k (days_in_year (pos y)) past in
-      more ∙ ap (λ x. x || (has_run r k && lists_in_month q (weekday_in r (k - r.start)) (k - r.start + 1) r.len)) (e
-      ∙ ap (λ x. x && seen_months q months from (first + k)) none)
-      ∙ ap (λ x. x && lists_in_month q (weekday_in r (k - r.start)) (k - r.start + 1) r.len) out
-      ∙ sym (ap (λ x. x && seen_months q months (m + 1) (first + k)) none)
-]
+month_step q {r = r} {months = months} {first = first} {y = y} {m = m} {from = from} k {b = b} own start most next e more =
+    elim (cases_lt k (days_in_year (pos y))) [
+      | inl inside ↦
+          let M = month_of (first + k) in
+          let L = lists_in_month q (weekday_of (first + k)) (month_day_of (first + k)) (days_in_month (pos (year_of (first + k))) (month_of (first + k))) in
+          let old : b ≡ (nat_lt M from && (months M && L)) = e ∙ ap (λ x. x && (nat_lt M from && (months M && L))) (lt-ltb k (days_in_year (pos y)) inside) in
+          let added : (has_run r k && lists_in_month q (weekday_in r (k - r.start)) (k - r.start + 1) r.len) ≡ ((M == m) && L) =
+          guard (has_run r k) _ L (run_lists r first y m k own q) ∙ ap (λ x. x && L) (run_is_month r first y m k own start inside) in
+          more ∙ ap (λ x. x || (has_run r k && lists_in_month q (weekday_in r (k - r.start)) (k - r.start + 1) r.len)) old
+          ∙ ap (λ x. (nat_lt M from && (months M && L)) || x) added
+          ∙ gather (nat_lt M from) (months M) (M == m) L ∙ ap (λ x. x && L) (next_found months from m M next) ∙ spread (nat_lt M (m + 1)) (months M) L
+          ∙ ap (λ x. x && (nat_lt M (m + 1) && (months M && L))) (sym (lt-ltb k (days_in_year (pos y)) inside))
+      | inr past ↦
+          let out : has_run r k ≡ false = and_right (nat_le r.start k) (nat_lt (k - r.start) r.len) (le-ltb (k - r.start) r.len (omega (arith, past, most))) in
+          let none = le-ltb k (days_in_year (pos y)) past in
+          more ∙ ap (λ x. x || (has_run r k && lists_in_month q (weekday_in r (k - r.start)) (k - r.start + 1) r.len)) (e
+          ∙ ap (λ x. x && seen_months q months from (first + k)) none)
+          ∙ ap (λ x. x && lists_in_month q (weekday_in r (k - r.start)) (k - r.start + 1) r.len) out
+          ∙ sym (ap (λ x. x && seen_months q months (m + 1) (first + k)) none)
+    ]
   where
     gather : (a b s t : Bool) → ((a && (b && t)) || (s && t)) ≡ ((s || (a && b)) && t)
     gather true true true true = refl
@@ -117,10 +119,10 @@ month_small : (e : ℕ) → month_of e < 13
 month_small e = let top = month_of_low e 12 (let all = days_of_months_all (pos (year_of e)) in let next = days_before_year-next (year_of e) in
     let u = year_under_way e in omega (arith, all, next, u.1)) (omega arith) in omega (arith, top)
 
-pub months_done : (q : EffectiveRule) (months : ℕ → Bool) (from e : ℕ) (a : Bool) → ((n : ℕ) → from ≤ n → months n ≡ false) →
+pub months_done : (q : EffectiveRule) (months : ℕ → Bool) {from : ℕ} (e : ℕ) (a : Bool) → ((n : ℕ) → from ≤ n → months n ≡ false) →
     ((n : ℕ) → n < 13 → months n ≡ lets q.months n)
     → (a && seen_months q months from e) ≡ (a && is_in_month q e)
-months_done q months from e a none is =
+months_done q months {from = from} e a none is =
     let L = lists_in_month q (weekday_of e) (month_day_of e) (days_in_month (pos (year_of e)) (month_of e)) in
     ap (λ x. a && x) (sym (spread (nat_lt (month_of e) from) (months (month_of e)) L)
     ∙ ap (λ x. x && L) (all_found months from (month_of e) (none (month_of e)) ∙ is (month_of e) (month_small e)))
@@ -130,12 +132,12 @@ months_done q months from e a none is =
     spread false b t = refl
 
 -- one month alone
-pub one_month : (q : EffectiveRule) (first len y m w k : ℕ) (a b : Bool) → IsMonth (record { start = 0; len = len; weekday = w }) first y m →
+pub one_month : (q : EffectiveRule) {first len y m w : ℕ} (k : ℕ) {a b : Bool} → IsMonth (record { start = 0; len = len; weekday = w }) first y m →
     lets q.months m ≡ true → a ≡ false
     → b ≡ (a || (has_run (record { start = 0; len = len; weekday = w }) k
     && lists_in_month q (weekday_in (record { start = 0; len = len; weekday = w }) (k - 0)) (k - 0 + 1) len))
     → b ≡ (nat_lt k len && is_in_month q (first + k))
-one_month q first len y m w k a b own among none e =
+one_month q {first = first} {len = len} {y = y} {m = m} {w = w} k own among none e =
     let r : Run = record { start = 0; len = len; weekday = w } in
     let test : has_run r k ≡ nat_lt k len = run_start k len in
     e ∙ ap (λ x. x || (has_run r k && lists_in_month q (weekday_in r (k - 0)) (k - 0 + 1) len)) none ∙ guard (has_run r k) _ (is_in_month q (first + k)) (λ h.
@@ -149,9 +151,10 @@ one_month q first len y m w k a b own among none e =
     run_start : (k len : ℕ) → (nat_le 0 k && nat_lt (k - 0) len) ≡ nat_lt k len
     run_start k len = let low : nat_le 0 k ≡ true = grind (arith, nat_tests) in let back : k - 0 ≡ k = omega arith in rw (low, back) refl
 
-pub closed_month : (q : EffectiveRule) (first len y m w k : ℕ) → IsMonth (record { start = 0; len = len; weekday = w }) first y m → lets q.months m ≡ false
+pub closed_month : (q : EffectiveRule) {first len y m w : ℕ} (k : ℕ) → IsMonth (record { start = 0; len = len; weekday = w }) first y m
+    → lets q.months m ≡ false
     → false ≡ (nat_lt k len && is_in_month q (first + k))
-closed_month q first len y m w k own closed = elim (cases_lt k len) [
+closed_month q {first = first} {len = len} {y = y} {m = m} {w = w} k own closed = elim (cases_lt k len) [
   | inl inside ↦
       let r : Run = record { start = 0; len = len; weekday = w } in
       let f = day_of_run r first y m k own (let low : 0 ≤ k = omega arith in low) (let low : k - 0 < len = omega (arith, inside) in low) in
@@ -239,10 +242,11 @@ month_candidate q e h some d =
     cases false false l w x s h = absurd (cc)
 
 -- and a year without BYMONTH goes by BYDAY, which counts in the year
-pub year_exact : (q : EffectiveRule) (e n size : ℕ) → goes_by_months q ≡ true → q.frequency ≡ Yearly → (is_empty q.months && lists_none q.month_days) ≡ true →
+pub year_exact : (q : EffectiveRule) (e : ℕ) {n size : ℕ} → goes_by_months q ≡ true → q.frequency ≡ Yearly
+    → (is_empty q.months && lists_none q.month_days) ≡ true →
     year_day_of e ≡ n → days_in_year (pos (year_of e)) ≡ size
     → lists_weekday q.weekdays (weekday_of e) n size ≡ lets_date q e
-year_exact q e n size h yearly none day len =
+year_exact q e {n = n} {size = size} h yearly none day len =
     let g = goes q h in
     let parts = and_parts (is_empty q.months) (lists_none q.month_days) none in
     let numbered : lets_numbered q.frequency q (numbers_of q.weekdays (weekday_of e)) e ≡ lists_nth (numbers_of q.weekdays (weekday_of e)) n size =
@@ -286,9 +290,9 @@ module _ (some f : ℕ → Bool) (from n k : ℕ) (b : Bool) where
 pub asked_none : (some f : ℕ → Bool) (k : ℕ) → false ≡ (some k && (nat_lt k 0 && f k))
 asked_none some f k = sym (and_right (some k) (nat_lt k 0 && f k) (ap (λ x. x && f k) (le-ltb k 0 (omega arith))))
 
-pub asked_all : (some f : ℕ → Bool) (from k : ℕ) (b : Bool) → ((m : ℕ) → from ≤ m → some m ≡ false) → b ≡ (some k && (nat_lt k from && f k)) →
+pub asked_all : (some f : ℕ → Bool) (from k : ℕ) {b : Bool} → ((m : ℕ) → from ≤ m → some m ≡ false) → b ≡ (some k && (nat_lt k from && f k)) →
     b ≡ (some k && f k)
-asked_all some f from k b none e = e ∙ elim (cases_lt k from) [
+asked_all some f from k none e = e ∙ elim (cases_lt k from) [
   | inl seen ↦ ap (λ x. some k && (x && f k)) (lt-ltb k from seen)
   | inr past ↦ ap (λ x. x && (nat_lt k from && f k)) (none k past) ∙ sym (ap (λ x. x && f k) (none k past))
 ]
@@ -344,22 +348,22 @@ pub year_starts : (first y : ℕ) → first ≡ days_before_year y → year_of f
 year_starts first y start = year_of_is first y (omega (arith, start)) (let next = days_before_year-next y in let some = days_in_year_bounds (pos y) in
     omega (arith, next, start, some.1))
 
-pub number_listed : (q : EffectiveRule) (first y len k : ℕ) → first ≡ days_before_year y → len ≡ days_in_year (pos y) → nat_lt k len ≡ true →
+pub number_listed : (q : EffectiveRule) {first : ℕ} (y : ℕ) {len : ℕ} (k : ℕ) → first ≡ days_before_year y → len ≡ days_in_year (pos y) → nat_lt k len ≡ true →
     lets_date q (first + k) ≡ true → lets_wide_place q.year_days (k + 1) len ≡ true
-number_listed q first y len k start size inside h =
+number_listed q {first = first} y {len = len} k start size inside h =
     let within : k < len = grind (arith, nat_tests) in
     let place = year_place first y k start (omega (arith, within, size)) in
     ap (lets_wide_place q.year_days (k + 1)) (size ∙ sym (ap (λ x. days_in_year (pos x)) place.0))
     ∙ ap (λ n. lets_wide_place q.year_days n (days_in_year (pos (year_of (first + k))))) (sym place.1)
     ∙ number_let_in q (first + k) h
 
-pub whole_year : (q : EffectiveRule) (first len y w k : ℕ) (a b : Bool) → goes_by_months q ≡ true → q.frequency ≡ Yearly →
+pub whole_year : (q : EffectiveRule) {first len : ℕ} (y : ℕ) {w : ℕ} (k : ℕ) {a b : Bool} → goes_by_months q ≡ true → q.frequency ≡ Yearly →
     (is_empty q.months && lists_none q.month_days) ≡ true
     → first ≡ days_before_year y → len ≡ days_in_year (pos y) → w ≡ weekday_of first → a ≡ false
     → b ≡ (a || (has_run (record { start = 0; len = len; weekday = w }) k
     && lists_weekday q.weekdays (weekday_in (record { start = 0; len = len; weekday = w }) (k - 0)) (k - 0 + 1) len))
     → b ≡ (nat_lt k len && lets_date q (first + k))
-whole_year q first len y w k a b goes yearly none start size weekday new e =
+whole_year q {first = first} {len = len} y {w = w} k goes yearly none start size weekday new e =
     let r : Run = record { start = 0; len = len; weekday = w } in
     e ∙ ap (λ x. x || (has_run r k && lists_weekday q.weekdays (weekday_in r (k - 0)) (k - 0 + 1) len)) new
     ∙ guard (has_run r k) _ (lets_date q (first + k)) (λ h.
@@ -369,7 +373,7 @@ whole_year q first len y w k a b goes yearly none start size weekday new e =
     let number : k - 0 + 1 ≡ k + 1 = omega arith in
     ap (λ d. lists_weekday q.weekdays d (k - 0 + 1) len) own
     ∙ ap (λ n. lists_weekday q.weekdays (weekday_of (first + k)) n len) number
-    ∙ year_exact q (first + k) (k + 1) len goes yearly none place.1 (ap (λ x. days_in_year (pos x)) place.0 ∙ sym size))
+    ∙ year_exact q (first + k) goes yearly none place.1 (ap (λ x. days_in_year (pos x)) place.0 ∙ sym size))
     ∙ ap (λ x. x && lets_date q (first + k)) (run_start k len)
   where
     run_start : (k len : ℕ) → (nat_le 0 k && nat_lt (k - 0) len) ≡ nat_lt k len
@@ -389,15 +393,15 @@ span_month p first len w span weekday = record {
 }
 
 -- and the period that a rule's code looks at
-pub period_span : (f : Frequency) (w p b e : ℕ) → period f w 0 ≤ p → b ≡ first_local f w p → e ≡ first_local f w (p + 1) → b ≤ rules_end →
+pub period_span : (f : Frequency) (w p : ℕ) {b e : ℕ} → period f w 0 ≤ p → b ≡ first_local f w p → e ≡ first_local f w (p + 1) → b ≤ rules_end →
     IsSpan f p (b / 86_400) ((e + 86_399) / 86_400 - b / 86_400)
-period_span Yearly w p b e low eb ee reach =
+period_span Yearly w p low eb ee reach =
     let next = days_before_year-next p in
     let one = ap days_before_year (let same : p + 1 ≡ suc p = omega arith in same) in
     let long = days_before_year_low p in
     (omega (arith, eb, reach, long), (omega (arith, eb), omega (arith, eb, ee, next, one)))
-period_span Monthly w zero b e low eb ee reach = absurd (let some = month_positive (0 / 86_400) in omega (arith, some, low))
-period_span Monthly w (suc p) b e low eb ee reach =
+period_span Monthly w zero low eb ee reach = absurd (let some = month_positive (0 / 86_400) in omega (arith, some, low))
+period_span Monthly w (suc p) {b = b} {e = e} low eb ee reach =
     let back : suc p - 1 ≡ p = omega arith in
     let size = month_size p in
     let one = ap month_start (let same : suc p + 1 ≡ suc (suc p) = omega arith in same) in
@@ -406,8 +410,8 @@ period_span Monthly w (suc p) b e low eb ee reach =
     let ended : e ≡ month_start (suc (suc p)) * 86_400 = ee ∙ ap (λ x. x * 86_400) one in
     let year : p / 12 ≤ 9_999 = omega (arith, rw back at begun, reach, long) in
     (omega arith, (rw back year, (omega (arith, begun), rw back (omega (arith, begun, ended, size)))))
-period_span Weekly w p b e low eb ee reach = tt
-period_span Daily w p b e low eb ee reach = tt
-period_span Hourly w p b e low eb ee reach = tt
-period_span Minutely w p b e low eb ee reach = tt
-period_span Secondly w p b e low eb ee reach = tt
+period_span Weekly w p low eb ee reach = tt
+period_span Daily w p low eb ee reach = tt
+period_span Hourly w p low eb ee reach = tt
+period_span Minutely w p low eb ee reach = tt
+period_span Secondly w p low eb ee reach = tt

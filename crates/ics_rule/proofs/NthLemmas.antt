@@ -121,11 +121,15 @@ month_high e =
     let u = year_under_way e in
     month_of_low e 12 (omega (arith, all, next, u.1)) (omega arith)
 
-in_month_same : (y m z k : ℕ) → 0 < m → 0 < k → m ≤ 12 → k ≤ 12 → y * 12 + m ≡ z * 12 + k → (y == z && m == k) ≡ true
-in_month_same y m z k a b c d h =
-    let year : y ≡ z = omega arith in
-    let month : m ≡ k = omega arith in
-    ap (λ x. x && m == k) (eq-eqb y z year) ∙ eq-eqb m k month
+in_month_same : (f e : ℕ) → year_of f * 12 + month_of f ≡ year_of e * 12 + month_of e → (year_of f == year_of e && month_of f == month_of e) ≡ true
+in_month_same f e h =
+    let some = month_positive f in
+    let some_own = month_positive e in
+    let most = month_high f in
+    let most_own = month_high e in
+    let year : year_of f ≡ year_of e = omega (arith, some, some_own, most, most_own, h) in
+    let month : month_of f ≡ month_of e = omega (arith, year, h) in
+    ap (λ x. x && month_of f == month_of e) (eq-eqb (year_of f) (year_of e) year) ∙ eq-eqb (month_of f) (month_of e) month
 
 in_month_apart : (y m z k : ℕ) → y * 12 + m ≢ z * 12 + k → (y == z && m == k) ≡ false
 in_month_apart y m z k h = grind (arith, nat_tests)
@@ -134,7 +138,7 @@ month_stretch : (e : ℕ) → IsStretch (in_month e) (month_start (month_number 
 month_stretch e = record {
   before = λ f l. in_month_apart (year_of f) (month_of f) (year_of e) (month_of e)
       (λ same. let b = month_begun (month_number e) f (omega (arith, same)) in omega (arith, b, l));
-  inside = λ f l h. in_month_same (year_of f) (month_of f) (year_of e) (month_of e) (month_positive f) (month_positive e) (month_high f) (month_high e)
+  inside = λ f l h. in_month_same f e
       (let low = month_begins (month_number e) f l in elim (cases_lt (month_number e) (month_number f)) [
         | inl past ↦ absurd (let b = month_begun (suc (month_number e)) f past in omega (arith, b, h))
         | inr same ↦ omega (arith, low, same)
@@ -231,27 +235,27 @@ year_weekday_last e end past =
 
 -- ---- what the parts list
 
-nth_is : (plus minus test : ℕ → Bool) (e x y : ℕ) → count (suc e) test ≡ x → count calendar_end test - count e test ≡ y
+nth_is : (plus minus test : ℕ → Bool) (e : ℕ) {x y : ℕ} → count (suc e) test ≡ x → count calendar_end test - count e test ≡ y
     → is_nth plus minus test e ≡ (plus x || minus y)
-nth_is plus minus test e x y front back = ap (λ z. plus z || minus (count calendar_end test - count e test)) front ∙ ap (λ z. plus x || minus z) back
+nth_is plus minus test e {x = x} front back = ap (λ z. plus z || minus (count calendar_end test - count e test)) front ∙ ap (λ z. plus x || minus z) back
 
 pub month_days_listed : (p : Ordinals) (e : ℕ) → e < 4_000_000
     → is_place p (in_month e) e ≡ lists p (month_day_of e) (days_in_month (pos (year_of e)) (month_of e))
-month_days_listed p e small = nth_is (contains p.front) (contains p.back) (in_month e) e _ _ (month_nth e) (month_last e calendar_end (omega arith))
+month_days_listed p e small = nth_is (contains p.front) (contains p.back) (in_month e) e (month_nth e) (month_last e calendar_end (omega arith))
 
 pub year_days_listed : (p : WideOrdinals) (e : ℕ) → e < 4_000_000 →
     is_wide_place p (in_year e) e ≡ lists_wide p (year_day_of e) (days_in_year (pos (year_of e)))
-year_days_listed p e small = nth_is (contains_wide p.front) (contains_wide p.back) (in_year e) e _ _ (year_nth e) (year_last e calendar_end (omega arith))
+year_days_listed p e small = nth_is (contains_wide p.front) (contains_wide p.back) (in_year e) e (year_nth e) (year_last e calendar_end (omega arith))
 
 pub month_weekday_listed : (p : Ordinals) (e : ℕ) → e < 4_000_000
     → is_place p (with_weekday in_month e) e ≡ lists_nth p (month_day_of e) (days_in_month (pos (year_of e)) (month_of e))
 month_weekday_listed p e small =
-    nth_is (contains p.front) (contains p.back) (with_weekday in_month e) e _ _ (month_weekday_nth e) (month_weekday_last e calendar_end (omega arith))
+    nth_is (contains p.front) (contains p.back) (with_weekday in_month e) e (month_weekday_nth e) (month_weekday_last e calendar_end (omega arith))
 
 pub year_weekday_listed : (p : Ordinals) (e : ℕ) → e < 4_000_000
     → is_place p (with_weekday in_year e) e ≡ lists_nth p (year_day_of e) (days_in_year (pos (year_of e)))
 year_weekday_listed p e small =
-    nth_is (contains p.front) (contains p.back) (with_weekday in_year e) e _ _ (year_weekday_nth e) (year_weekday_last e calendar_end (omega arith))
+    nth_is (contains p.front) (contains p.back) (with_weekday in_year e) e (year_weekday_nth e) (year_weekday_last e calendar_end (omega arith))
 
 -- ---- weeks
 

@@ -30,9 +30,9 @@ count-sum zero f g h same = refl
 count-sum (suc n) f g h same = let before = count-sum n f g h same in let one = same n in omega (arith, before, one)
 
 -- what agrees from one number on counts alike from there
-pub count_between : (from before total : ℕ) (f g : ℕ → Bool) → from ≤ before → ((m : ℕ) → from ≤ m → m < before → f m ≡ g m) → total + count from f
+pub count_between : {from before : ℕ} (total : ℕ) (f g : ℕ → Bool) → from ≤ before → ((m : ℕ) → from ≤ m → m < before → f m ≡ g m) → total + count from f
     ≡ count before f → total + count from g ≡ count before g
-count_between from before total f g h same e =
+count_between {from = from} {before = before} total f g h same e =
     let whole : from + (before - from) ≡ before = omega (arith, h) in
     let one = count-add from (before - from) f in
     let other = count-add from (before - from) g in
@@ -167,26 +167,26 @@ module _ (i : ℕ) (some : 1 ≤ i) (from j : ℕ) (less : j < i) where
   place_more : (e : ℕ) (b : Bool) → cond ((nat_le from e && nat_lt ((e - from) % i) (j + 1)) && b) 1 0
       ≡ cond ((nat_le from e && nat_lt ((e - from) % i) j) && b) 1 0 + cond (is_stepped (from + j) i e && b) 1 0
   place_more e b = elim (cases_lt e from) [
-    | inl early ↦ ends false false false (early_test early) (early_test_2 early)
+    | inl early ↦ ends (early_test early) (early_test_2 early)
         (false_from_ne_true (is_stepped (from + j) i e) (λ yes. let p = stepped_place e yes in omega (arith, p.0, early))) (omega arith)
     | inr late ↦ elim (cases_lt ((e - from) % i) j) [
-      | inl below ↦ ends true true false (late_test (j + 1) late (omega (arith, below))) (late_test j late below)
+      | inl below ↦ ends (late_test (j + 1) late (omega (arith, below))) (late_test j late below)
           (false_from_ne_true (is_stepped (from + j) i e) (λ yes. let p = stepped_place e yes in omega (arith, p.1, below))) (by_bool_1 b)
       | inr above ↦ elim (cases_lt j ((e - from) % i)) [
-        | inl past ↦ ends false false false (past_test (j + 1) (omega (arith, past))) (past_test j (omega (arith, past)))
+        | inl past ↦ ends (past_test (j + 1) (omega (arith, past))) (past_test j (omega (arith, past)))
             (false_from_ne_true (is_stepped (from + j) i e) (λ yes. let p = stepped_place e yes in omega (arith, p.1, past))) (omega arith)
-        | inr same ↦ ends true false true (late_test (j + 1) late (omega (arith, above, same))) (past_test j (omega (arith, above)))
+        | inr same ↦ ends (late_test (j + 1) late (omega (arith, above, same))) (past_test j (omega (arith, above)))
             (place_stepped e late (omega (arith, above, same))) (by_bool_2 b)
       ]
     ]
   ]
     where
-      ends : (x y z : Bool) → (nat_le from e && nat_lt ((e - from) % i) (j + 1)) ≡ x → (nat_le from e && nat_lt ((e - from) % i) j) ≡ y
+      ends : {x y z : Bool} → (nat_le from e && nat_lt ((e - from) % i) (j + 1)) ≡ x → (nat_le from e && nat_lt ((e - from) % i) j) ≡ y
           → is_stepped (from + j) i e ≡ z
           → cond (x && b) 1 0 ≡ cond (y && b) 1 0 + cond (z && b) 1 0
           → cond ((nat_le from e && nat_lt ((e - from) % i) (j + 1)) && b) 1 0
           ≡ cond ((nat_le from e && nat_lt ((e - from) % i) j) && b) 1 0 + cond (is_stepped (from + j) i e && b) 1 0
-      ends x y z ex ey ez same = rw (ex, ey, ez) same
+      ends ex ey ez same = rw (ex, ey, ez) same
 
       early_test : e < from → (nat_le from e && nat_lt ((e - from) % i) (j + 1)) ≡ false
       early_test l = and_left (nat_le from e) (nat_lt ((e - from) % i) (j + 1)) (grind (arith, nat_tests))
@@ -373,7 +373,7 @@ module _ (q : EffectiveRule) (first : ℕ) (fine : 0 < seconds_of q.frequency) (
     pub day_in : lets_date q (from / d) ≡ true → total + count from (λ p. is_stepped first q.interval p && own p)
         ≡ count before (λ p. is_stepped first q.interval p && own p)
         → total + count from (is_open_period q first) ≡ count before (is_open_period q first)
-    day_in is = count_between from before total (λ p. is_stepped first q.interval p && own p) (is_open_period q first) order
+    day_in is = count_between total (λ p. is_stepped first q.interval p && own p) (is_open_period q first) order
         (λ m l h. ap (λ x. is_stepped first q.interval m && x) (sym (and_true (lets_date q (m / d)) (own m) (ap (lets_date q) (same_day m l h) ∙ is))))
 
     pub day_out : lets_date q (from / d) ≡ false → 0 + count from (is_open_period q first) ≡ count before (is_open_period q first)

@@ -13,9 +13,9 @@ pub named_none : (w : Weekdays) → 0 ≡ named_below w 0
 unfolding named_below
 named_none w = refl
 
-pub named_more : (w : Weekdays) (d s new : ℕ) → s ≡ named_below w d → names_weekday w d ≡ true → new ≡ with_number d s → new ≡ named_below w (d + 1)
+pub named_more : (w : Weekdays) (d : ℕ) {s new : ℕ} → s ≡ named_below w d → names_weekday w d ≡ true → new ≡ with_number d s → new ≡ named_below w (d + 1)
 unfolding named_below
-named_more w d s new h there e =
+named_more w d h there e =
     e ∙ ap (with_number d) h ∙ ap (λ b. if b then with_number d (named_below w d) else named_below w d) (sym there) ∙ ap (named_below w) (next d)
   where
     next : (d : ℕ) → suc d ≡ d + 1

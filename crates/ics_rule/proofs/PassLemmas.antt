@@ -10,10 +10,10 @@ use Rattle.ics_rule.specs.Searches.{NoneLetIn, IsNextOpen}
 use Rattle.ics_rule.proofs.PeriodLemmas.{begun, begins, period_mono}
 
 -- the step of a local before which the rule lets nothing in
-pub step_open : (q : EffectiveRule) (first number begin place next : ℕ) → begin ≡ first_local q.frequency (monday_zero q.week_start) number → begin ≤ place →
+pub step_open : {q : EffectiveRule} {first number begin place next : ℕ} → begin ≡ first_local q.frequency (monday_zero q.week_start) number → begin ≤ place →
     NoneLetIn q begin place
     → IsLeastFrom (is_stepped first q.interval) (period_in q place) next → IsNextOpen q first number next
-step_open q first number begin place next e up none least = record {
+step_open {q = q} {number = number} {place = place} e up none least = record {
   step = least.passes;
   low = let l = begins q.frequency (monday_zero q.week_start) number place (omega (arith, e, up)) in omega (arith, l, least.low);
   none = λ n l u stepped. elim (cases_lt n place) [
@@ -24,16 +24,16 @@ step_open q first number begin place next e up none least = record {
 }
 
 -- one more number is left out
-pub one_out : (f : ℕ → Bool) (e k : ℕ) → f e ≡ false → ((j : ℕ) → j < k → f (e + j) ≡ false) → (j : ℕ) → j < max k 1 → f (e + j) ≡ false
-one_out f e k here none j h = elim (cases_lt j k) [
+pub one_out : (f : ℕ → Bool) (e : ℕ) {k : ℕ} → f e ≡ false → ((j : ℕ) → j < k → f (e + j) ≡ false) → (j : ℕ) → j < max k 1 → f (e + j) ≡ false
+one_out f e {k = k} here none j h = elim (cases_lt j k) [
   | inl less ↦ none j less
   | inr more ↦ ap f (let same : e + j ≡ e = omega (arith, h, more) in same) ∙ here
 ]
 
 -- and a walk over them goes on
-pub out_on : (f : ℕ → Bool) (from e k : ℕ) → ((m : ℕ) → from ≤ m → m < e → f m ≡ false) → ((j : ℕ) → j < k → f (e + j) ≡ false) → (m : ℕ) → from ≤ m →
+pub out_on : (f : ℕ → Bool) {from e k : ℕ} → ((m : ℕ) → from ≤ m → m < e → f m ≡ false) → ((j : ℕ) → j < k → f (e + j) ≡ false) → (m : ℕ) → from ≤ m →
     m < e + k → f m ≡ false
-out_on f from e k before none m l h = elim (cases_lt m e) [
+out_on f {e = e} before none m l h = elim (cases_lt m e) [
   | inl less ↦ before m l less
   | inr more ↦ subst (λ x. f x ≡ false) (let same : e + (m - e) ≡ m = omega (arith, more) in same) (none (m - e) (omega (arith, h, more)))
 ]
@@ -60,9 +60,9 @@ module _ (q : EffectiveRule) (hours minutes seconds : ℕ)
       grouped true b c = refl
       grouped false b c = refl
 
-  pub second_next : (n t : ℕ) → t < 86_400 → IsLeastFrom (has_time hours minutes seconds) (n % 86_400) t → (m : ℕ) → n ≤ m → m < n / 86_400 * 86_400 + t →
+  pub second_next : (n : ℕ) {t : ℕ} → t < 86_400 → IsLeastFrom (has_time hours minutes seconds) (n % 86_400) t → (m : ℕ) → n ≤ m → m < n / 86_400 * 86_400 + t →
       lets_clock q m ≡ false
-  second_next n t small next m l u = sym (clock_is m) ∙ next.least (m % 86_400) (omega (arith, l, u, small)) (omega (arith, l, u, small))
+  second_next n small next m l u = sym (clock_is m) ∙ next.least (m % 86_400) (omega (arith, l, u, small)) (omega (arith, l, u, small))
 
   pub second_none : (n : ℕ) → ((t : ℕ) → n % 86_400 ≤ t → has_time hours minutes seconds t ≡ false) → (m : ℕ) → n ≤ m → m < (n / 86_400 + 1) * 86_400 →
       lets_clock q m ≡ false

@@ -69,7 +69,7 @@ pub none_taken : {q : EffectiveRule} {start c number : ℕ} {cursor : Cursor} {p
 none_taken {q = q} {start = start} {number = number} {p = p} place turned h m l =
     false_from_ne_true (is_taken q.positions (lists_none_wide q.positions) p m) (λ yes.
     let step = ap (is_stepped (period_in q start) q.interval) (sym turned.number) ∙ turned.counted.step in
-    let here = within_facts q start number m (sym (taken_within q start p number turned.product turned.number step m) ∙ yes) in
+    let here = within_facts q start number m (sym (taken_within start turned.product turned.number step m) ∙ yes) in
     let up = period_mono q.frequency (monday_zero q.week_start) place m l in
     omega (arith, here.0, up, h))
 
@@ -111,7 +111,7 @@ pub passed_on : {q : EffectiveRule} {start c number target total : ℕ} {before 
     → before.place < calendar_end → now ≡ after_look after p total → IsPeriodOf q p × (p.number ≡ target) → IsPassedTo q start c before now
 passed_on {q = q} {start = start} {c = c} {target = target} {total = total} {before = before} {after = after} {now = now} {p = p} to is late inside e own =
     let same = own.1 in
-    let moved = moved_on to.walked.moved (looks_once target total after now p first_fresh e same) (λ a b l few.
+    let moved = moved_on to.walked.moved (looks_once total after p first_fresh e same) (λ a b l few.
     meets q start a b start (before.place + 1) target few.low (omega (arith, late)) l is.step (stepped_parts (period_in q start) q.interval target is.step).0
     (top_of q before.place target is.top)) in
     record {
@@ -213,11 +213,11 @@ total_small {q = q} {start = start} {target = target} is =
     let low = counted_reach is in
     omega (arith, most, low, is.total)
 
-pub end_in : (own begin ahead round : ℕ) → ahead ≡ own - begin → 2 ≤ ahead → 2 ≤ ahead / round → begin + round ≤ own
-end_in own begin ahead round e some h = let small = round_small ahead round h in omega (arith, small, e, some)
+pub end_in : (own begin : ℕ) {ahead : ℕ} (round : ℕ) → ahead ≡ own - begin → 2 ≤ ahead → 2 ≤ ahead / round → begin + round ≤ own
+end_in own begin {ahead = ahead} round e some h = let small = round_small ahead round h in omega (arith, small, e, some)
 
-pub target_in : (own begin ahead round : ℕ) → ahead ≡ own - begin → 2 ≤ ahead → begin + ahead / round * round ≤ own
-target_in own begin ahead round e some = let whole = div-add-mod' ahead round in omega (arith, whole, e, some)
+pub target_in : (own begin : ℕ) {ahead : ℕ} (round : ℕ) → ahead ≡ own - begin → 2 ≤ ahead → begin + ahead / round * round ≤ own
+target_in own begin {ahead = ahead} round e some = let whole = div-add-mod' ahead round in omega (arith, whole, e, some)
 
 -- a walk that finds nothing in a round finds nothing later
 pub walk_rounds_end : {q : EffectiveRule} {start stop number : ℕ} {before now : Cursor} (begin end : ℕ) → IsWalk q start stop number before now →

@@ -11,7 +11,8 @@ use Rattle.ics_values.proofs.DayLemmas.{year_under_way, days_before_year_low, da
 use Rattle.ics_values.specs.declared.frequency.Frequency.{Frequency}
 use Rattle.ics_values.specs.declared.frequency.Frequency.TheVariants.{Secondly, Minutely, Hourly, Daily, Weekly, Monthly, Yearly}
 use Rattle.ics_rule.specs.PeriodNumbers.{period, month_number, week_of, rules_end}
-use Rattle.ics_rule.specs.Candidates.{fourth_day}
+use Rattle.ics_rule.specs.declared.effective_rule.EffectiveRule.{EffectiveRule}
+use Rattle.ics_rule.specs.Candidates.{fourth_day, period_in}
 use Rattle.ics_rule.specs.EffectiveRules.{skips_hours, skips_minutes, skips_seconds}
 use Rattle.ics_rule.specs.RecurrencePeriods.{month_start, first_local}
 use Rattle.ics_rule.proofs.Months.{earlier_month, later_month, month_of_high}
@@ -158,13 +159,13 @@ first_in f w p h l = let low = begins f w p (first_local f w p) (omega arith) in
 ]
 
 -- a period and the next, as code counts them
-pub next_first : (f : Frequency) (w p b e : ℕ) → w < 7 → period f w 0 ≤ p → b ≡ first_local f w p → e ≡ first_local f w (p + 1) →
-    (b < e) × (e ≤ b + 366 * 86_400)
-next_first f w p b e h l eb ee =
+pub next_first : (f : Frequency) (w p : ℕ) → w < 7 → period f w 0 ≤ p →
+    (first_local f w p < first_local f w (p + 1)) × (first_local f w (p + 1) ≤ first_local f w p + 366 * 86_400)
+next_first f w p h l =
     let same = ap (first_local f w) (one_more p) in
     let longer = lasts f w p h l in
     let short = is_short f w p in
-    (omega (arith, eb, ee, same, longer), omega (arith, eb, ee, same, short))
+    (omega (arith, same, longer), omega (arith, same, short))
   where
     one_more : (p : ℕ) → suc p ≡ p + 1
     one_more p = omega arith
@@ -182,15 +183,16 @@ period_small Yearly w n h = let b = year_begun (year_of (n / 86_400)) (n / 86_40
     omega (arith, b, l)
 
 -- how many days a period touches
-pub span_fits : (f : Frequency) (w p first len : ℕ) → w < 7 → period f w 0 ≤ p → first_local f w p ≤ rules_end
-    → first ≡ first_local f w p / 86_400 → len ≡ (first_local f w (p + 1) + 86_399) / 86_400 - first_local f w p / 86_400 →
+pub span_fits : (q : EffectiveRule) (p : ℕ) {first len : ℕ} → period_in q 0 ≤ p → first_local q.frequency (monday_zero q.week_start) p ≤ rules_end
+    → first ≡ first_local q.frequency (monday_zero q.week_start) p / 86_400
+    → len ≡ (first_local q.frequency (monday_zero q.week_start) (p + 1) + 86_399) / 86_400 - first_local q.frequency (monday_zero q.week_start) p / 86_400 →
     (len ≤ 384) × (first + 384 ≤ 3_652_059)
-span_fits f w p first len small low reach ef el =
-    let s = next_first f w p _ _ small low refl refl in fits (first_local f w p) (first_local f w (p + 1)) first len s.0 s.1 reach ef el
+span_fits q p low reach ef el =
+    let s = next_first q.frequency (monday_zero q.week_start) p (week_small q.week_start) low in fits s.0 s.1 reach ef el
   where
-    fits : (b e first len : ℕ) → b < e → e ≤ b + 366 * 86_400 → b ≤ rules_end → first ≡ b / 86_400 → len ≡ (e + 86_399) / 86_400 - b / 86_400
+    fits : {b e first len : ℕ} → b < e → e ≤ b + 366 * 86_400 → b ≤ rules_end → first ≡ b / 86_400 → len ≡ (e + 86_399) / 86_400 - b / 86_400
         → (len ≤ 384) × (first + 384 ≤ 3_652_059)
-    fits b e first len more most reach ef el = (omega (arith, more, most, el), omega (arith, reach, ef))
+    fits more most reach ef el = (omega (arith, more, most, el), omega (arith, reach, ef))
 
 -- a frequency coarser than the hour is coarser than the minute and the second
 pub no_minutes : (f : Frequency) → skips_hours f ≡ true → skips_minutes f ≡ true

@@ -99,7 +99,7 @@ module _ (r : Recurrence) (c : ℕ) (counted : r.parts.count ≡ Some c) (some :
       let earlier = kept_number n (omega (arith, inside)) in
       let kept = count-suc n (is_kept r) in
       let members = count-suc n (is_in_rule r) in
-      step (is_kept r n) (is_in_rule r n) (count n (is_kept r)) (count n (is_in_rule r)) _ _ kept members earlier (kept_first n (omega (arith, inside)))
+      step (is_in_rule r n) (count n (is_in_rule r)) kept members earlier (kept_first n (omega (arith, inside)))
     where
       test : (a b : ℕ) → ((nat_lt a b ≡ true) × (a < b)) ⊎ ((nat_lt a b ≡ false) × (b ≤ a))
       test a b = grind (arith, nat_tests)
@@ -111,5 +111,5 @@ module _ (r : Recurrence) (c : ℕ) (counted : r.parts.count ≡ Some c) (some :
       ]
       one_more k false x y e h = let none = count_none_at k e in omega (arith, none, h)
 
-      step : (k m : Bool) (x y x' y' : ℕ) → x' ≡ x + cond k 1 0 → y' ≡ y + cond m 1 0 → x ≡ min y c → k ≡ (m && nat_lt y c) → x' ≡ min y' c
-      step k m x y x' y' ex ey h e = ex ∙ one_more k m x y e h ∙ ap (λ z. min z c) (sym ey)
+      step : {k : Bool} (m : Bool) {x : ℕ} (y : ℕ) {x' y' : ℕ} → x' ≡ x + cond k 1 0 → y' ≡ y + cond m 1 0 → x ≡ min y c → k ≡ (m && nat_lt y c) → x' ≡ min y' c
+      step {k = k} m {x = x} y ex ey h e = ex ∙ one_more k m x y e h ∙ ap (λ z. min z c) (sym ey)

@@ -164,12 +164,12 @@ none_numbered Secondly q e = refl
 
 -- ---- the clock
 
-clock : (kind : Kind) (takes from : Bool) (set own n : ℕ) → takes ≡ from → (kind ≡ Date → (takes ≡ true) × (own ≡ 0))
+clock : (kind : Kind) {takes from : Bool} (set own n : ℕ) → takes ≡ from → (kind ≡ Date → (takes ≡ true) × (own ≡ 0))
     → lets (clock_part kind takes set own) n ≡ (if (is_clockless kind || is_empty set) then (if from then (n == own) else true) else contains set n)
-clock Date takes from set own n same date =
+clock Date {from = from} set own n same date =
     let midnight = date refl in
     ap (λ z. lets (only z) n) (sym midnight.1) ∙ only_number true 0 own n ∙ ap (λ b. if b then (n == own) else true) (sym midnight.0 ∙ same)
-clock DateTime takes from set own n same date =
+clock DateTime {takes = takes} {from = from} set own n same date =
     only_number (takes && is_empty set) set own n
     ∙ by_absence (is_empty set) from (takes && is_empty set) (contains set n) (contains set n) (n == own) (ap (λ x. x && is_empty set) same) (λ e. refl)
 
@@ -275,21 +275,21 @@ module _ (r : Recurrence) (plain : HasPlainReading r) where
   hour : (n : ℕ) → lets (effective r).hours (hour_of n) ≡ hour_applies r n
   unfolding effective
   hour n =
-      clock r.kind (skips_hours r.parts.frequency) (is_extracted r r.parts.frequency ByHour) r.parts.hours (hour_of start) (hour_of n)
+      clock r.kind r.parts.hours (hour_of start) (hour_of n)
       (hour_taken r.parts.frequency r) (λ date. ((plain.dates date).0, (midnight (day_index r.start.day) r.start.second (plain.dates date).1).0))
 
   minute : (n : ℕ) → lets (effective r).minutes (minute_of n) ≡ minute_applies r n
   unfolding effective
   minute n =
       let taken = minute_taken r.parts.frequency r in
-      clock r.kind (skips_minutes r.parts.frequency) (is_extracted r r.parts.frequency ByMinute) r.parts.minutes (minute_of start) (minute_of n)
+      clock r.kind r.parts.minutes (minute_of start) (minute_of n)
       taken.0 (λ date. (taken.1 (plain.dates date).0, (midnight (day_index r.start.day) r.start.second (plain.dates date).1).1.0))
 
   second : (n : ℕ) → lets (effective r).seconds (second_of n) ≡ second_applies r n
   unfolding effective
   second n =
       let taken = second_taken r.parts.frequency r in
-      clock r.kind (skips_seconds r.parts.frequency) (is_extracted r r.parts.frequency BySecond) r.parts.seconds (second_of start) (second_of n)
+      clock r.kind r.parts.seconds (second_of start) (second_of n)
       taken.0 (λ date. (taken.1 (plain.dates date).0, (midnight (day_index r.start.day) r.start.second (plain.dates date).1).1.1))
 
   parts_apply : (n : ℕ) → n < calendar_end → (lets_date (effective r) (day_of n) && lets_clock (effective r) n) ≡ all_apply r n

@@ -28,24 +28,28 @@ count-place d b t p q h =
     count-held true n q = omega arith
     count-held false n q = count-none n (λ k. false) (λ m l. refl) ∙ omega arith
 
-pub count-at : (n b : ℕ) (p q : ℕ → Bool) → 0 < b → count n (λ m. p (m / b) && q (m % b)) ≡ count (n / b) p * count b q + cond (p (n / b)) 1 0 * count (n % b) q
-count-at n b p q h = let whole = div-add-mod' n b in
-    sym (ap (λ x. count x (λ m. p (m / b) && q (m % b))) whole) ∙ count-place (n / b) b (n % b) p q (let l : n % b < b = mod-lt n h in omega (arith, l))
+module _ (n b : ℕ) (p q : ℕ → Bool) (some : 0 < b) where
+  count-at : count n (λ m. p (m / b) && q (m % b)) ≡ count (n / b) p * count b q + cond (p (n / b)) 1 0 * count (n % b) q
+  count-at = let whole = div-add-mod' n b in
+      sym (ap (λ x. count x (λ m. p (m / b) && q (m % b))) whole)
+      ∙ count-place (n / b) b (n % b) p q (let l : n % b < b = mod-lt n some in omega (arith, l))
 
--- where the block of n passes, and where it does not
-pub count_taken : (n b total blocks size rest : ℕ) (p q : ℕ → Bool) → 0 < b → p (n / b) ≡ true → total ≡ blocks * size + rest → blocks ≡ count (n / b) p →
-    size ≡ count b q → rest ≡ count (n % b) q
-    → total ≡ count n (λ m. p (m / b) && q (m % b))
-count_taken n b total blocks size rest p q h e et eb es er = let at = count-at n b p q h in let one = count_one (p (n / b)) e in
-    let product = ap (λ x. x * count (n % b) q) one in
-    let here : blocks * size ≡ count (n / b) p * count b q = ap (λ x. x * size) eb ∙ ap (λ x. count (n / b) p * x) es in
-    omega (arith, at, product, here, et, er)
+  -- where the block of n passes, and where it does not
+  pub count_taken : {blocks size rest : ℕ} → p (n / b) ≡ true → blocks ≡ count (n / b) p → size ≡ count b q → rest ≡ count (n % b) q
+      → blocks * size + rest ≡ count n (λ m. p (m / b) && q (m % b))
+  count_taken {blocks = blocks} {size = size} {rest = rest} e eb es er =
+      let one = count_one (p (n / b)) e in
+      let product = ap (λ x. x * count (n % b) q) one in
+      let here : blocks * size ≡ count (n / b) p * count b q = ap (λ x. x * size) eb ∙ ap (λ x. count (n / b) p * x) es in
+      omega (arith, count-at, product, here, er)
 
-pub count_left : (n b total blocks size : ℕ) (p q : ℕ → Bool) → 0 < b → p (n / b) ≡ false → total ≡ blocks * size → blocks ≡ count (n / b) p → size ≡ count b q
-    → total ≡ count n (λ m. p (m / b) && q (m % b))
-count_left n b total blocks size p q h e et eb es = let at = count-at n b p q h in let none = count_none_at (p (n / b)) e in
-    let product = ap (λ x. x * count (n % b) q) none in
-    let here : blocks * size ≡ count (n / b) p * count b q = ap (λ x. x * size) eb ∙ ap (λ x. count (n / b) p * x) es in omega (arith, at, product, here, et)
+  pub count_left : {blocks size : ℕ} → p (n / b) ≡ false → blocks ≡ count (n / b) p → size ≡ count b q
+      → blocks * size ≡ count n (λ m. p (m / b) && q (m % b))
+  count_left {blocks = blocks} {size = size} e eb es =
+      let none = count_none_at (p (n / b)) e in
+      let product = ap (λ x. x * count (n % b) q) none in
+      let here : blocks * size ≡ count (n / b) p * count b q = ap (λ x. x * size) eb ∙ ap (λ x. count (n / b) p * x) es in
+      omega (arith, count-at, product, here)
 
 pub count_zero : (p : ℕ → Bool) → 0 ≡ count 0 p
 unfolding count
@@ -100,9 +104,9 @@ days_before p day skipped e = elim (cases_lt day p.first_day) [
 ]
 
 -- the k-th number of a product, by dividing by the size of a block
-pub nth-product : (b s k hi lo : ℕ) (p q : ℕ → Bool) → s ≡ count b q → lo < b → IsNth p (k / s) hi → IsNth q (k % s) lo
+pub nth-product : (b : ℕ) {s : ℕ} (k : ℕ) {hi lo : ℕ} {p q : ℕ → Bool} → s ≡ count b q → lo < b → IsNth p (k / s) hi → IsNth q (k % s) lo
     → IsNth (λ n. p (n / b) && q (n % b)) k (hi * b + lo)
-nth-product b s k hi lo p q es l high low = record {
+nth-product b {s = s} k {hi = hi} {lo = lo} {p = p} {q = q} es l high low = record {
   passes = ap (λ z. p z && q ((hi * b + lo) % b)) (div-mul-add hi b lo l) ∙ ap (λ z. p hi && q z) (mod-mul-add hi b lo l) ∙ ap (λ z. z && q lo) high.passes
       ∙ low.passes;
   before =

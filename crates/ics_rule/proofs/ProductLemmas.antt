@@ -101,24 +101,24 @@ span_low Yearly w p n h = whole_days (days_before_year p) (days_before_year (p +
 free : (d : Bool) → d ≡ true → (d && (true && true && true)) ≡ true
 free d h = ap (λ x. x && (true && true && true)) h
 
-fixed : (d a b c : Bool) → d ≡ true → a ≡ true → b ≡ true → c ≡ true → (d && (a && b && c)) ≡ true
-fixed d a b c p q r s = ap (λ x. x && (a && b && c)) p ∙ ap (λ x. x && b && c) q ∙ ap (λ x. x && c) r ∙ s
+fixed : {d a b c : Bool} → d ≡ true → a ≡ true → b ≡ true → c ≡ true → (d && (a && b && c)) ≡ true
+fixed {a = a} {b = b} {c = c} p q r s = ap (λ x. x && (a && b && c)) p ∙ ap (λ x. x && b && c) q ∙ ap (λ x. x && c) r ∙ s
 
 span_high : (f : Frequency) (w p n : ℕ) → first_local f w p ≤ n → n < first_local f w (p + 1) →
     span_test f (first_local f w p) (first_local f w (p + 1)) n ≡ true
 span_high Secondly w p n l h =
     let same : n ≡ p = omega arith in
-    fixed (day_test p (p + 1) n) (n / 3_600 % 24 == p / 3_600 % 24) (n / 60 % 60 == p / 60 % 60) (n % 60 == p % 60)
+    fixed
     (day_one p (p + 1) n (omega arith) (omega arith)) (eq-eqb _ _ (ap (λ x. x / 3_600 % 24) same)) (eq-eqb _ _ (ap (λ x. x / 60 % 60) same))
     (eq-eqb _ _ (ap (λ x. x % 60) same))
 span_high Minutely w p n l h =
     let same : n / 60 ≡ p = omega arith in
-    fixed (day_test (p * 60) ((p + 1) * 60) n) (n / 3_600 % 24 == p * 60 / 3_600 % 24) (n / 60 % 60 == p * 60 / 60 % 60) true
+    fixed
     (day_one (p * 60) ((p + 1) * 60) n (omega arith) (omega arith)) (eq-eqb (n / 3_600 % 24) (p * 60 / 3_600 % 24) (omega arith))
     (eq-eqb (n / 60 % 60) (p * 60 / 60 % 60) (omega arith)) refl
 span_high Hourly w p n l h =
     let same : n / 3_600 ≡ p = omega arith in
-    fixed (day_test (p * 3_600) ((p + 1) * 3_600) n) (n / 3_600 % 24 == p * 3_600 / 3_600 % 24) true true
+    fixed
     (day_one (p * 3_600) ((p + 1) * 3_600) n (omega arith) (omega arith)) (eq-eqb (n / 3_600 % 24) (p * 3_600 / 3_600 % 24) (omega arith)) refl refl
 span_high Daily w p n l h = free (day_test (p * 86_400) ((p + 1) * 86_400) n) (days_whole p (p + 1) n l h)
 span_high Weekly w p n l h = free (day_test ((7 * p - (12 - w)) * 86_400) ((7 * (p + 1) - (12 - w)) * 86_400) n)
@@ -166,7 +166,7 @@ day_back a e x f = elim (by_order a e) [
     by_order a b = grind arith
 
 -- the product of the days that the rule lets in, and of the readings that it lets in, holds what it lets in within the period
-pub product_is : (q : EffectiveRule) (number b e : ℕ) (p : RecurrencePeriod) → b ≡ first_local q.frequency (monday_zero q.week_start) number →
+pub product_is : (q : EffectiveRule) (number : ℕ) {b e : ℕ} (p : RecurrencePeriod) → b ≡ first_local q.frequency (monday_zero q.week_start) number →
     e ≡ first_local q.frequency (monday_zero q.week_start) (number + 1)
     → p.first_day ≡ b / 86_400
     → ((k : ℕ) → contains_wide p.days k ≡ (nat_lt k ((e + 86_399) / 86_400 - b / 86_400) && lets_date q (b / 86_400 + k)))
@@ -174,7 +174,7 @@ pub product_is : (q : EffectiveRule) (number b e : ℕ) (p : RecurrencePeriod) �
     → ((m : ℕ) → m < 60 → contains p.minutes m ≡ ((skips_minutes q.frequency || (m == b / 60 % 60)) && lets q.minutes m))
     → ((m : ℕ) → m < 60 → contains p.seconds m ≡ ((skips_seconds q.frequency || (m == b % 60)) && lets q.seconds m))
     → (n : ℕ) → holds p n ≡ is_let_in q number n
-product_is q number b e p eb ee first days hours minutes seconds n =
+product_is q number {b = b} {e = e} p eb ee first days hours minutes seconds n =
     let hour : n % 86_400 / 60 / 60 ≡ n / 3_600 % 24 = omega arith in
     let minute : n % 86_400 / 60 % 60 ≡ n / 60 % 60 = omega arith in
     let second : n % 86_400 % 60 ≡ n % 60 = omega arith in
@@ -187,7 +187,7 @@ product_is q number b e p eb ee first days hours minutes seconds n =
     let span = ap (λ z. span_test q.frequency z e n) eb ∙ ap (λ z. span_test q.frequency (first_local q.frequency (monday_zero q.week_start) number) z n) ee
     ∙ span_is q.frequency (monday_zero q.week_start) number n in
     ap (λ z. z && ((contains p.hours (n % 86_400 / 60 / 60) && contains p.minutes (n % 86_400 / 60 % 60)) && contains p.seconds (n % 86_400 % 60))) d
-    ∙ four (nat_le (b / 86_400) (n / 86_400) && (nat_lt (n / 86_400 - b / 86_400) ((e + 86_399) / 86_400 - b / 86_400) && lets_date q (n / 86_400))) _ _ _ _ _ _
+    ∙ four (nat_le (b / 86_400) (n / 86_400) && (nat_lt (n / 86_400 - b / 86_400) ((e + 86_399) / 86_400 - b / 86_400) && lets_date q (n / 86_400)))
     h m s
     ∙ rearranged (nat_le (b / 86_400) (n / 86_400)) (nat_lt (n / 86_400 - b / 86_400) ((e + 86_399) / 86_400 - b / 86_400)) (lets_date q (n / 86_400))
     (skips_hours q.frequency || (n / 3_600 % 24 == b / 3_600 % 24)) (lets q.hours (n / 3_600 % 24))
@@ -195,5 +195,6 @@ product_is q number b e p eb ee first days hours minutes seconds n =
     (skips_seconds q.frequency || (n % 60 == b % 60)) (lets q.seconds (n % 60))
     ∙ ap (λ z. z && (lets_date q (n / 86_400) && lets_clock q n)) span
   where
-    four : (d h m s h' m' s' : Bool) → h ≡ h' → m ≡ m' → s ≡ s' → (d && ((h && m) && s)) ≡ (d && ((h' && m') && s'))
-    four d h m s h' m' s' p q r = ap (λ z. d && ((z && m) && s)) p ∙ ap (λ z. d && ((h' && z) && s)) q ∙ ap (λ z. d && ((h' && m') && z)) r
+    four : (d : Bool) {h m s h' m' s' : Bool} → h ≡ h' → m ≡ m' → s ≡ s' → (d && ((h && m) && s)) ≡ (d && ((h' && m') && s'))
+    four d {h = h} {m = m} {s = s} {h' = h'} {m' = m'} {s' = s'} p q r = ap (λ z. d && ((z && m) && s)) p ∙ ap (λ z. d && ((h' && z) && s)) q ∙ ap
+        (λ z. d && ((h' && m') && z)) r

@@ -84,9 +84,9 @@ module _ (p listed : ℕ → Bool) (n : ℕ) where
           let low = count_mono n o p l in
           next.least (count o p) low (omega (arith, more, up, nth.before)))
 
-  pub none_ranked : (size bound : ℕ) → size ≡ count bound p → ((m : ℕ) → bound ≤ m → p m ≡ false)
+  pub none_ranked : {size : ℕ} (bound : ℕ) → size ≡ count bound p → ((m : ℕ) → bound ≤ m → p m ≡ false)
       → ((k : ℕ) → count n p ≤ k → k < size → listed k ≡ false) → (m : ℕ) → n ≤ m → test m ≡ false
-  none_ranked size bound all past none m low = one (p m) refl
+  none_ranked bound all past none m low = one (p m) refl
     where
       one : (b : Bool) → p m ≡ b → (p m && listed (count m p)) ≡ false
       one false e = ap (λ x. x && listed (count m p)) e

@@ -139,10 +139,10 @@ step_repeats i d first p l =
     ap (λ x. x && ((p + i * d - first) % i == 0)) some ∙ ap (λ x. nat_le first p && (x % i == 0)) rest
     ∙ ap (λ x. nat_le first p && (x == 0)) (add-mul-mod_self_right (p - first) d i)
 
-pub round_is : (q : EffectiveRule) (seconds unit : ℕ) → unit ≡ seconds_of q.frequency → 0 < unit → seconds % unit ≡ 0 → 1 ≤ seconds → 1 ≤ q.interval
+pub round_is : {q : EffectiveRule} {seconds unit : ℕ} → unit ≡ seconds_of q.frequency → 0 < unit → seconds % unit ≡ 0 → 1 ≤ seconds → 1 ≤ q.interval
     → ((n : ℕ) → (lets_date q (day_of (n + seconds)) && lets_clock q (n + seconds)) ≡ (lets_date q (day_of n) && lets_clock q n))
     → IsRound q (q.interval * (seconds / unit)) (q.interval * (seconds / unit) * unit)
-round_is q seconds unit e fine whole some steps on = record {
+round_is {q = q} {seconds = seconds} {unit = unit} e fine whole some steps on = record {
   some = positive q.interval (seconds / unit) steps (let parts = div-add-mod' seconds unit in
       above (seconds / unit) unit seconds (omega (arith, parts, whole)) some);
   step = step_repeats q.interval (seconds / unit);
@@ -160,26 +160,25 @@ round_is q seconds unit e fine whole some steps on = record {
     above (suc d) u s h l = omega arith
 
 -- the same below a bound
-repeats_below : (f : ℕ → Bool) (low a top : ℕ) → ((n : ℕ) → low ≤ n → n + a < top → f (n + a) ≡ f n) → (j n : ℕ) → low ≤ n → n + j * a < top →
-    f (n + j * a) ≡ f n
-repeats_below f low a top on zero n l h = ap f (let same : n + 0 * a ≡ n = omega arith in same)
-repeats_below f low a top on (suc j) n l h =
-    let next : n + suc j * a ≡ n + j * a + a = omega arith in
-    ap f next ∙ on (n + j * a) (omega (arith, l)) (omega (arith, h, next)) ∙ repeats_below f low a top on j n l (omega (arith, h, next))
+module _ (f : ℕ → Bool) (a s top : ℕ) (on : (n : ℕ) → a ≤ n → n + s < top → f (n + s) ≡ f n) where
+  repeats_below : (j n : ℕ) → a ≤ n → n + j * s < top → f (n + j * s) ≡ f n
+  repeats_below zero n l h = ap f (let same : n + 0 * s ≡ n = omega arith in same)
+  repeats_below (suc j) n l h =
+      let next : n + suc j * s ≡ n + j * s + s = omega arith in
+      ap f next ∙ on (n + j * s) (omega (arith, l)) (omega (arith, h, next)) ∙ repeats_below j n l (omega (arith, h, next))
 
--- the members of whole rounds
-pub count_rounds : (f : ℕ → Bool) (a s top : ℕ) → ((n : ℕ) → a ≤ n → n + s < top → f (n + s) ≡ f n) → (j : ℕ) → a + j * s ≤ top →
-    count (a + j * s) f ≡ count a f + j * count s (λ k. f (a + k))
-count_rounds f a s top on zero h = ap (λ x. count x f) (let same : a + 0 * s ≡ a = omega arith in same) ∙ omega arith
-count_rounds f a s top on (suc j) h =
-    let last = count-add (a + j * s) s f in
-    let all : a + suc j * s ≡ a + j * s + s = omega arith in
-    let whole = ap (λ x. count x f) all in
-    let same = count-same s (λ k. f (a + j * s + k)) (λ k. f (a + k)) (λ k l.
-    let order : a + j * s + k ≡ a + k + j * s = omega arith in ap f order ∙ repeats_below f a s top on j (a + k) (omega arith) (omega (arith, h, all, l))) in
-    let before = count_rounds f a s top on j (omega (arith, h, all)) in
-    let more : suc j * count s (λ k. f (a + k)) ≡ j * count s (λ k. f (a + k)) + count s (λ k. f (a + k)) = omega arith in
-    omega (arith, last, whole, same, before, more)
+  -- the members of whole rounds
+  pub count_rounds : (j : ℕ) → a + j * s ≤ top → count (a + j * s) f ≡ count a f + j * count s (λ k. f (a + k))
+  count_rounds zero h = ap (λ x. count x f) (let same : a + 0 * s ≡ a = omega arith in same) ∙ omega arith
+  count_rounds (suc j) h =
+      let last = count-add (a + j * s) s f in
+      let all : a + suc j * s ≡ a + j * s + s = omega arith in
+      let whole = ap (λ x. count x f) all in
+      let same = count-same s (λ k. f (a + j * s + k)) (λ k. f (a + k)) (λ k l.
+      let order : a + j * s + k ≡ a + k + j * s = omega arith in ap f order ∙ repeats_below j (a + k) (omega arith) (omega (arith, h, all, l))) in
+      let before = count_rounds j (omega (arith, h, all)) in
+      let more : suc j * count s (λ k. f (a + k)) ≡ j * count s (λ k. f (a + k)) + count s (λ k. f (a + k)) = omega arith in
+      omega (arith, last, whole, same, before, more)
 
 shift_test : (a b k : ℕ) → (a + k == b + k) ≡ (a == b)
 shift_test a b k = grind (arith, nat_tests)

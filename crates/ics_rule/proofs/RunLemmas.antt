@@ -41,34 +41,35 @@ all_found f from x none = elim (cases_lt x from) [
 ]
 
 -- at first those from the front alone
-pub listed_first : (s : ℕ) (back : ℕ → Bool) (size n k : ℕ) → 1 ≤ n → ((m : ℕ) → m < size + 1 → contains k m ≡ contains s m) → k < 2 ^ (size + 1)
+pub listed_first : (s : ℕ) (back : ℕ → Bool) (size : ℕ) {n k : ℕ} → 1 ≤ n → ((m : ℕ) → m < size + 1 → contains k m ≡ contains s m) → k < 2 ^ (size + 1)
     → contains k n ≡ (nat_le n size && (contains s n || (nat_lt (size + 1 - n) 1 && back (size + 1 - n))))
-listed_first s back size n k one members bound = elim (cases_lt size n) [
+listed_first s back size {n = n} {k = k} one members bound = elim (cases_lt size n) [
   | inl past ↦ let out : nat_le n size ≡ false = grind (arith, nat_tests) in rw out (has_above k (size + 1) n bound (omega (arith, past)))
   | inr inside ↦ let in_size : nat_le n size ≡ true = grind (arith, nat_tests) in
       rw (in_size, le-ltb (size + 1 - n) 1 (omega (arith, inside))) (members n (omega (arith, inside)) ∙ sym (or_false (contains s n)))
 ]
 
 -- the numbers that are listed from the end
-pub listed_more : (front back : ℕ → Bool) (size from k n : ℕ) (b : Bool) → 1 ≤ n → 1 ≤ k → k ≤ size → IsLeastFrom back from k
-    → b ≡ (nat_le n size && (front n || (nat_lt (size + 1 - n) from && back (size + 1 - n))))
-    → ((n == size + 1 - k) || b) ≡ (nat_le n size && (front n || (nat_lt (size + 1 - n) (k + 1) && back (size + 1 - n))))
-listed_more front back size from k n b one some most next e = elim (cases_lt size n) [
-  | inl past ↦
-      let out : nat_le n size ≡ false = grind (arith, nat_tests) in
-      rw (e, out, above n (size + 1 - k) (omega (arith, past, some))) refl
-  | inr inside ↦
-      let in_size : nat_le n size ≡ true = grind (arith, nat_tests) in
-      let apart : (n == size + 1 - k) ≡ (size + 1 - n == k) = grind (arith, nat_tests) in
-      rw (e, in_size, apart) (or_swap (front n) (size + 1 - n == k) (nat_lt (size + 1 - n) from && back (size + 1 - n))
-      ∙ ap (λ x. front n || x) (next_found back from k (size + 1 - n) next))
-]
+module _ (front back : ℕ → Bool) (size : ℕ) where
+  pub listed_more : {from k n : ℕ} {b : Bool} → 1 ≤ n → 1 ≤ k → k ≤ size → IsLeastFrom back from k
+      → b ≡ (nat_le n size && (front n || (nat_lt (size + 1 - n) from && back (size + 1 - n))))
+      → ((n == size + 1 - k) || b) ≡ (nat_le n size && (front n || (nat_lt (size + 1 - n) (k + 1) && back (size + 1 - n))))
+  listed_more {from = from} {k = k} {n = n} one some most next e = elim (cases_lt size n) [
+    | inl past ↦
+        let out : nat_le n size ≡ false = grind (arith, nat_tests) in
+        rw (e, out, above n (size + 1 - k) (omega (arith, past, some))) refl
+    | inr inside ↦
+        let in_size : nat_le n size ≡ true = grind (arith, nat_tests) in
+        let apart : (n == size + 1 - k) ≡ (size + 1 - n == k) = grind (arith, nat_tests) in
+        rw (e, in_size, apart) (or_swap (front n) (size + 1 - n == k) (nat_lt (size + 1 - n) from && back (size + 1 - n))
+        ∙ ap (λ x. front n || x) (next_found back from k (size + 1 - n) next))
+  ]
 
-pub listed_done : (front back : ℕ → Bool) (size from n : ℕ) (b : Bool) → 1 ≤ n → ((x : ℕ) → from ≤ x → x ≤ size → back x ≡ false)
-    → b ≡ (nat_le n size && (front n || (nat_lt (size + 1 - n) from && back (size + 1 - n))))
-    → b ≡ (nat_le n size && (front n || back (size + 1 - n)))
-listed_done front back size from n b one none e =
-    e ∙ ap (λ x. nat_le n size && (front n || x)) (all_found back from (size + 1 - n) (λ h. none (size + 1 - n) h (omega (arith, one))))
+  pub listed_done : (from : ℕ) {n : ℕ} {b : Bool} → 1 ≤ n → ((x : ℕ) → from ≤ x → x ≤ size → back x ≡ false)
+      → b ≡ (nat_le n size && (front n || (nat_lt (size + 1 - n) from && back (size + 1 - n))))
+      → b ≡ (nat_le n size && (front n || back (size + 1 - n)))
+  listed_done from {n = n} one none e =
+      e ∙ ap (λ x. nat_le n size && (front n || x)) (all_found back from (size + 1 - n) (λ h. none (size + 1 - n) h (omega (arith, one))))
 
 -- the days of a run on a weekday, seven by seven
 module _ (r : Run) (d p m : ℕ) (a b : Bool) (own : weekday_in r p ≡ d) where
@@ -191,10 +192,10 @@ module _ (r : Run) (listed : ℕ → Bool) (d p from m : ℕ) (a b : Bool) (own 
       (and_right (weekday_in r (m - r.start) == d) _ (ap (λ y. y && listed ((m - r.start) / 7 + 1)) (le-ltb ((m - r.start) / 7 + 1) 1 (omega arith)))))
       ∙ or_false a)
 
-  pub number_done : (q : Ordinals) (count : ℕ) → count ≡ (r.len - 1 - p) / 7 + 1 → p < r.len → ((n : ℕ) → from ≤ n → listed n ≡ false) →
+  pub number_done : (q : Ordinals) {count : ℕ} → count ≡ (r.len - 1 - p) / 7 + 1 → p < r.len → ((n : ℕ) → from ≤ n → listed n ≡ false) →
       ((n : ℕ) → 1 ≤ n → listed n ≡ (nat_le n count && lists q n count))
       → b ≡ number_found from → b ≡ (a || (has_run r m && ((weekday_in r (m - r.start) == d) && lists_nth q (m - r.start + 1) r.len)))
-  number_done q count size some none is e = e ∙ ap (λ y. a || y) (guard (has_run r m) _ _ (λ h. guard (weekday_in r (m - r.start) == d) _ _ (λ g.
+  number_done q {count = count} size some none is e = e ∙ ap (λ y. a || y) (guard (has_run r m) _ _ (λ h. guard (weekday_in r (m - r.start) == d) _ _ (λ g.
       let there = run_facts r m h in
       let weekday = eqb-true (weekday_in r (m - r.start)) d g in
       let in_count : nat_le ((m - r.start) / 7 + 1) count ≡ true = le-leb ((m - r.start) / 7 + 1) count (omega (arith, size, there.1, weekday, own, early)) in
@@ -206,57 +207,59 @@ module _ (r : Run) (listed : ℕ → Bool) (d p from m : ℕ) (a b : Bool) (own 
       ∙ ap (λ n. contains q.front ((m - r.start + 1 - 1) / 7 + 1) || contains q.back n) back)))
 
 -- a weekday without a number has any
-pub each_listed : (a x w plain n new : Bool) → plain ≡ true → new ≡ (a || (x && w)) → new ≡ (a || (x && (w && (plain || n))))
-each_listed a x w plain n new h e = e ∙ rw h (ap (λ y. a || (x && y)) (and_true w))
+pub each_listed : (a x w : Bool) {plain : Bool} (n : Bool) {new : Bool} → plain ≡ true → new ≡ (a || (x && w)) → new ≡ (a || (x && (w && (plain || n))))
+each_listed a x w n h e = e ∙ rw h (ap (λ y. a || (x && y)) (and_true w))
   where
     and_true : (w : Bool) → w ≡ (w && true)
     and_true true = refl
     and_true false = refl
 
-pub numbered_listed : (a x w plain n new : Bool) → plain ≡ false → new ≡ (a || (x && (w && n))) → new ≡ (a || (x && (w && (plain || n))))
-numbered_listed a x w plain n new h e = rw h e
+pub numbered_listed : (a x w : Bool) {plain : Bool} (n : Bool) {new : Bool} → plain ≡ false → new ≡ (a || (x && (w && n)))
+    → new ≡ (a || (x && (w && (plain || n))))
+numbered_listed a x w n h e = rw h e
 
 -- the days of a run, weekday by weekday
-pub weekdays_more : (listed : ℕ → Bool) (w d : ℕ) (a x b new : Bool) → new ≡ (b || (x && ((w == d) && listed d)))
-    → b ≡ (a || (x && (nat_lt w d && listed w))) → new ≡ (a || (x && (nat_lt w (d + 1) && listed w)))
-weekdays_more listed w d a x b new e h = elim (three w d) [
-  | inl low ↦ e ∙ rw (h, below w d low, lt-ltb w d low, lt-ltb w (d + 1) (omega (arith, low))) (again a x (listed w))
-  | inr (inl here) ↦ e ∙ rw (h, here, eq-eqb d d refl, lt-ltb d (d + 1) (omega arith), le-ltb d d (omega arith)) (once a x (listed d))
-  | inr (inr high) ↦ e ∙ rw (h, above w d high, le-ltb w d (omega (arith, high)), le-ltb w (d + 1) (omega (arith, high))) (never a x)
-]
-  where
-    again : (a x y : Bool) → ((a || (x && y)) || (x && false)) ≡ (a || (x && y))
-    again true x y = refl
-    again false true y = or_false y
-    again false false y = refl
-
-    once : (a x y : Bool) → ((a || (x && false)) || (x && y)) ≡ (a || (x && y))
-    once true x y = refl
-    once false true y = refl
-    once false false y = refl
-
-    never : (a x : Bool) → ((a || (x && false)) || (x && false)) ≡ (a || (x && false))
-    never true x = refl
-    never false true = refl
-    never false false = refl
-
-pub weekdays_jump : (listed : ℕ → Bool) (w from d : ℕ) (a x b : Bool) → from ≤ d → (from ≤ w → w < d → listed w ≡ false)
-    → b ≡ (a || (x && (nat_lt w from && listed w))) → b ≡ (a || (x && (nat_lt w d && listed w)))
-weekdays_jump listed w from d a x b up none e = e ∙ ap (λ y. a || (x && y)) (elim (cases_lt w from) [
-  | inl low ↦ rw (lt-ltb w from low, lt-ltb w d (omega (arith, low, up))) refl
-  | inr high ↦ elim (cases_lt w d) [
-    | inl inside ↦ rw (le-ltb w from high, lt-ltb w d inside, none high inside) refl
-    | inr past ↦ rw (le-ltb w from high, le-ltb w d past) refl
+module _ (listed : ℕ → Bool) (w : ℕ) (a x : Bool) where
+  pub weekdays_more : (d : ℕ) {b new : Bool} → new ≡ (b || (x && ((w == d) && listed d)))
+      → b ≡ (a || (x && (nat_lt w d && listed w))) → new ≡ (a || (x && (nat_lt w (d + 1) && listed w)))
+  weekdays_more d e h = elim (three w d) [
+    | inl low ↦ e ∙ rw (h, below w d low, lt-ltb w d low, lt-ltb w (d + 1) (omega (arith, low))) (again a x (listed w))
+    | inr (inl here) ↦ e ∙ rw (h, here, eq-eqb d d refl, lt-ltb d (d + 1) (omega arith), le-ltb d d (omega arith)) (once a x (listed d))
+    | inr (inr high) ↦ e ∙ rw (h, above w d high, le-ltb w d (omega (arith, high)), le-ltb w (d + 1) (omega (arith, high))) (never a x)
   ]
-])
+    where
+      again : (a x y : Bool) → ((a || (x && y)) || (x && false)) ≡ (a || (x && y))
+      again true x y = refl
+      again false true y = or_false y
+      again false false y = refl
 
-pub weekdays_none : (listed : ℕ → Bool) (w : ℕ) (a x : Bool) → a ≡ (a || (x && (nat_lt w 0 && listed w)))
-weekdays_none listed w a x = rw (le-ltb w 0 (omega arith)) (nothing a x)
-  where
-    nothing : (a x : Bool) → a ≡ (a || (x && false))
-    nothing true x = refl
-    nothing false true = refl
-    nothing false false = refl
+      once : (a x y : Bool) → ((a || (x && false)) || (x && y)) ≡ (a || (x && y))
+      once true x y = refl
+      once false true y = refl
+      once false false y = refl
+
+      never : (a x : Bool) → ((a || (x && false)) || (x && false)) ≡ (a || (x && false))
+      never true x = refl
+      never false true = refl
+      never false false = refl
+
+  pub weekdays_jump : {from d : ℕ} {b : Bool} → from ≤ d → (from ≤ w → w < d → listed w ≡ false)
+      → b ≡ (a || (x && (nat_lt w from && listed w))) → b ≡ (a || (x && (nat_lt w d && listed w)))
+  weekdays_jump {from = from} {d = d} up none e = e ∙ ap (λ y. a || (x && y)) (elim (cases_lt w from) [
+    | inl low ↦ rw (lt-ltb w from low, lt-ltb w d (omega (arith, low, up))) refl
+    | inr high ↦ elim (cases_lt w d) [
+      | inl inside ↦ rw (le-ltb w from high, lt-ltb w d inside, none high inside) refl
+      | inr past ↦ rw (le-ltb w from high, le-ltb w d past) refl
+    ]
+  ])
+
+  pub weekdays_none : a ≡ (a || (x && (nat_lt w 0 && listed w)))
+  weekdays_none = rw (le-ltb w 0 (omega arith)) (nothing a x)
+    where
+      nothing : (a x : Bool) → a ≡ (a || (x && false))
+      nothing true x = refl
+      nothing false true = refl
+      nothing false false = refl
 
 -- a weekday that BYDAY does not list has no day
 pub unnamed : (w : Weekdays) (d n size : ℕ) → (contains w.plain d || not (lists_none (numbers_of w d))) ≡ false → lists_weekday w d n size ≡ false

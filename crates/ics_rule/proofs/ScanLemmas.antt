@@ -1,7 +1,7 @@
 -- The next number that passes a test of its part / k and a test of its part % k.
 use Rattle.std.proofs.Common.{◌≡◌, ℕ, zero, suc, ◌+◌, ◌-◌, ◌*◌, ◌/◌, ◌%◌, ◌^◌, ◌<◌, ◌≤◌, ◌⊎◌, inl, inr, ◌≢◌, Bool, true, false, ◌==◌, ◌||◌, ◌&&◌, nat_lt}
-use Rattle.std.proofs.Common.{nat_le, min, get_or, pos, refl, sym, subst, ap, ◌∙◌, arith}
-use Rattle.std.proofs.lemmas.Bool.{and_from, and_left, and_parts, and_right, cases_eq, cases_lt, ne_eqb}
+use Rattle.std.proofs.Common.{nat_le, get_or, pos, refl, sym, subst, ap, ◌∙◌, arith}
+use Rattle.std.proofs.lemmas.Bool.{and_from, and_left, and_parts, and_right, cases_eq, ne_eqb}
 use Rattle.std.proofs.lemmas.Bool.Decides.{nat_tests}
 use Rattle.std.proofs.lemmas.List.{get_or_past}
 use Rattle.std.proofs.lemmas.Nat.{div-mul-add, mod-mul-add, div-add-mod', le-div}
@@ -126,7 +126,7 @@ pub one_more : (f : ℕ → Bool) (k m : ℕ) (b : Bool) → f k ≡ true → b 
 one_more f k m b h e = elim (cases_eq m k) [
   | inl same ↦ ap (λ x. (m == k) || x) e
       ∙ subst (λ x. ((x == k) || (nat_lt x k && f x)) ≡ (nat_lt x (k + 1) && f x)) (sym same)
-      (here (k == k) (nat_lt k k) (nat_lt k (k + 1)) (f k) (self_test k) (next_test k) h)
+      (here (nat_lt k k) (self_test k) (next_test k) h)
   | inr other ↦ ap (λ x. (m == k) || x) e ∙ (there (m == k) (nat_lt m k) (nat_lt m (k + 1)) (f m) (ne_eqb m k other) (grow m k other))
 ]
   where
@@ -136,8 +136,8 @@ one_more f k m b h e = elim (cases_eq m k) [
     grow : (m k : ℕ) → m ≢ k → nat_lt m k ≡ nat_lt m (k + 1)
     grow m k o = grind (arith, nat_tests)
 
-    here : (a b c d : Bool) → a ≡ true → c ≡ true → d ≡ true → (a || (b && d)) ≡ (c && d)
-    here a b c d p q r = rw (p, q, r) refl
+    here : {a c d : Bool} (b : Bool) → a ≡ true → c ≡ true → d ≡ true → (a || (b && d)) ≡ (c && d)
+    here b p q r = rw (p, q, r) refl
 
     there : (a b c d : Bool) → a ≡ false → b ≡ c → (a || (b && d)) ≡ (c && d)
     there a b c d p q = rw (p, q) refl
@@ -173,31 +173,12 @@ pub months_more : (y n : ℕ) → days_of_months (pos y) n + days_in_month (pos 
 months_more y n = let more = days_of_months_more (pos y) (n + 1) (omega arith) in let back : n + 1 - 1 ≡ n = omega arith in let more' = rw back at more in
     sym more'
 
--- the days of a product from a day on, by the set's places from what is skipped of it
+-- a product has no day before its first
 pub day_before : (p : RecurrencePeriod) (m : ℕ) → m < p.first_day → has_day p m ≡ false
 day_before p m h = let none : nat_le p.first_day m ≡ false = grind (arith, nat_tests) in ap (λ x. x && contains_wide p.days (m - p.first_day)) none
 
-pub next_day : (p : RecurrencePeriod) (day skipped k : ℕ) → skipped ≡ min (day - p.first_day) 384 → IsLeastFrom (contains_wide p.days) skipped k → k < 384 →
-    IsLeastFrom (has_day p) day (p.first_day + k)
-next_day p day skipped k e next small = record {
-  passes = let low : nat_le p.first_day (p.first_day + k) ≡ true = grind (arith, nat_tests) in let back : p.first_day + k - p.first_day ≡ k = omega arith in
-      ap (λ x. x && contains_wide p.days (p.first_day + k - p.first_day)) low ∙ ap (contains_wide p.days) back ∙ next.passes;
-  low = omega (arith, e, next.low, small);
-  least = λ m low high. elim (cases_lt m p.first_day) [
-    | inl less ↦ day_before p m less
-    | inr more ↦ and_right (nat_le p.first_day m) (contains_wide p.days (m - p.first_day)) (next.least (m - p.first_day) (omega (arith, e)) (omega arith))
-  ];
-}
-
-pub no_day : (p : RecurrencePeriod) (day skipped : ℕ) → skipped ≡ min (day - p.first_day) 384 → ((m : ℕ) → skipped ≤ m → contains_wide p.days m ≡ false) →
-    (m : ℕ) → day ≤ m → has_day p m ≡ false
-no_day p day skipped e none m low = elim (cases_lt m p.first_day) [
-  | inl less ↦ day_before p m less
-  | inr more ↦ and_right (nat_le p.first_day m) (contains_wide p.days (m - p.first_day)) (none (m - p.first_day) (omega (arith, e)))
-]
-
-pub minute_true : (hours minutes m : ℕ) (a b : Bool) → m ≤ 1440 → a ≡ (nat_lt (m / 60) 64 && contains hours (m / 60)) →
+pub minute_true : (hours minutes m : ℕ) {a b : Bool} → m ≤ 1440 → a ≡ (nat_lt (m / 60) 64 && contains hours (m / 60)) →
     b ≡ (nat_lt (m % 60) 64 && contains minutes (m % 60)) → has_minute hours minutes m ≡ (a && b)
-minute_true hours minutes m a b h ea eb =
+minute_true hours minutes m {b = b} h ea eb =
     sym (ap (λ x. x && b) (ea ∙ in_word (m / 60) (contains hours (m / 60)) (omega arith))
     ∙ ap (λ x. contains hours (m / 60) && x) (eb ∙ in_word (m % 60) (contains minutes (m % 60)) (omega arith)))

@@ -27,13 +27,14 @@ between_none low m a = nothing a (nat_le low m && nat_lt m low) (let none : (nat
     nothing true x h = refl
     nothing false x h = sym h
 
-pub between_more : (low k m : ℕ) (a b : Bool) → low ≤ k → b ≡ (a || (nat_le low m && nat_lt m k)) → ((m == k) || b) ≡ (a || (nat_le low m && nat_lt m (k + 1)))
-between_more low k m a b l e = ap (λ x. (m == k) || x) e ∙ or_swap a (m == k) (nat_le low m && nat_lt m k)
+pub between_more : (low k m : ℕ) (a : Bool) {b : Bool} → low ≤ k → b ≡ (a || (nat_le low m && nat_lt m k))
+    → ((m == k) || b) ≡ (a || (nat_le low m && nat_lt m (k + 1)))
+between_more low k m a l e = ap (λ x. (m == k) || x) e ∙ or_swap a (m == k) (nat_le low m && nat_lt m k)
     ∙ ap (λ x. a || x) (let one : ((m == k) || (nat_le low m && nat_lt m k)) ≡ (nat_le low m && nat_lt m (k + 1)) = grind (arith, nat_tests) in one)
 
-pub between_done : (low end k m : ℕ) (a b : Bool) → low ≤ k → end ≤ k → k ≤ max low end → b ≡ (a || (nat_le low m && nat_lt m k)) →
+pub between_done : {low end k : ℕ} (m : ℕ) (a : Bool) {b : Bool} → low ≤ k → end ≤ k → k ≤ max low end → b ≡ (a || (nat_le low m && nat_lt m k)) →
     b ≡ (a || (nat_le low m && nat_lt m end))
-between_done low end k m a b l h most e = e ∙ ap (λ x. a || x) (elim (cases_lt end low) [
+between_done {low = low} {end = end} {k = k} m a l h most e = e ∙ ap (λ x. a || x) (elim (cases_lt end low) [
   | inl none ↦ let all : k ≡ low = omega (arith, none, most, l) in
       rw all (let out : (nat_le low m && nat_lt m low) ≡ (nat_le low m && nat_lt m end) = grind (arith, nat_tests) in out)
   | inr some ↦ let all : k ≡ end = omega (arith, some, most, h) in rw all refl
@@ -150,10 +151,10 @@ pub record IsCover (weeks : Ordinals) (fourth len n : ℕ) (days : List ℕ) : T
   pub last : (m : ℕ) → len ≤ m + 3 → m < len → contains_wide days m ≡ true
   pub near : (k j : ℕ) → j < n → IsNear weeks fourth k j → k < len → contains_wide days k ≡ true
 
-pub cover_starts : (weeks : Ordinals) (fourth len : ℕ) (none front both : List ℕ) → 3 ≤ len → ((m : ℕ) → contains_wide none m ≡ false)
+pub cover_starts : {weeks : Ordinals} {fourth len : ℕ} (none front : List ℕ) {both : List ℕ} → 3 ≤ len → ((m : ℕ) → contains_wide none m ≡ false)
     → ((m : ℕ) → contains_wide front m ≡ (contains_wide none m || (nat_le 0 m && nat_lt m 3)))
     → ((m : ℕ) → contains_wide both m ≡ (contains_wide front m || (nat_le (len - 3) m && nat_lt m len))) → IsCover weeks fourth len 1 both
-cover_starts weeks fourth len none front both long empty f b = record {
+cover_starts {len = len} none front {both = both} long empty f b = record {
   within = λ m h. elim (either (contains_wide front m) (contains_wide both m) _ (b m) h) [
     | inl low ↦ elim (either (contains_wide none m) (contains_wide front m) _ (f m) low) [
       | inl never ↦ absurd (let out = empty m in cc)
@@ -167,10 +168,10 @@ cover_starts weeks fourth len none front both long empty f b = record {
   near = λ k j l here h. absurd (omega (arith, l, here.low));
 }
 
-pub cover_adds : (weeks : Ordinals) (fourth len n low end : ℕ) (days more : List ℕ) → low ≡ 7 * n + fourth - 3 - 7 → end ≡ min (7 * n + fourth - 3) len
+pub cover_adds : {weeks : Ordinals} {fourth len n low end : ℕ} {days more : List ℕ} → low ≡ 7 * n + fourth - 3 - 7 → end ≡ min (7 * n + fourth - 3) len
     → ((m : ℕ) → contains_wide more m ≡ (contains_wide days m || (nat_le low m && nat_lt m end))) → IsCover weeks fourth len n days →
     IsCover weeks fourth len (n + 1) more
-cover_adds weeks fourth len n low end days more el ee added cover = record {
+cover_adds {n = n} {low = low} {end = end} {days = days} {more = more} el ee added cover = record {
   within = λ m h. elim (either (contains_wide days m) (contains_wide more m) _ (added m) h) [
     | inl old ↦ cover.within m old
     | inr new ↦ let facts = between_facts low end m new in omega (arith, facts.1, ee)
@@ -185,9 +186,9 @@ cover_adds weeks fourth len n low end days more el ee added cover = record {
   ];
 }
 
-pub cover_jumps : (weeks : Ordinals) (fourth len from n : ℕ) (days : List ℕ) → ((j : ℕ) → from ≤ j → j < n → may_list_week weeks j ≡ false)
+pub cover_jumps : {weeks : Ordinals} {fourth len from n : ℕ} {days : List ℕ} → ((j : ℕ) → from ≤ j → j < n → may_list_week weeks j ≡ false)
     → IsCover weeks fourth len from days → IsCover weeks fourth len n days
-cover_jumps weeks fourth len from n days none cover = record {
+cover_jumps {from = from} none cover = record {
   within = cover.within;
   first = cover.first;
   last = cover.last;
@@ -197,9 +198,9 @@ cover_jumps weeks fourth len from n days none cover = record {
   ];
 }
 
-pub covered : (weeks : Ordinals) (fourth len n k : ℕ) (days : List ℕ) → 54 ≤ n → k < len → IsCover weeks fourth len n days → IsFound weeks fourth len k →
+pub covered : {weeks : Ordinals} {fourth len : ℕ} (n k : ℕ) {days : List ℕ} → 54 ≤ n → k < len → IsCover weeks fourth len n days → IsFound weeks fourth len k →
     contains_wide days k ≡ true
-covered weeks fourth len n k days all inside cover found = elim found [
+covered n k all inside cover found = elim found [
   | inl early ↦ cover.first k early
   | inr (inl late) ↦ cover.last k late inside
   | inr (inr week) ↦ cover.near k week.0 (omega (arith, week.1.high, all)) week.1 inside
@@ -209,36 +210,38 @@ covered weeks fourth len n k days all inside cover found = elim found [
 abbrev pub seen_weeks : (ℕ → Bool) → (ℕ → Bool) → ℕ → ℕ → Bool
 seen_weeks front back from n = front n || (nat_lt (53 - n) from && back (53 - n)) || (nat_lt (54 - n) from && back (54 - n))
 
-pub weeks_first : (front back : ℕ → Bool) (n : ℕ) → front n ≡ seen_weeks front back 0 n
-weeks_first front back n = rw (none_yet (53 - n), none_yet (54 - n)) (nothing (front n))
-  where
-    nothing : (a : Bool) → a ≡ (a || (false && back (53 - n)) || (false && back (54 - n)))
-    nothing true = refl
-    nothing false = refl
+-- the same for the weeks of a year, by the places that are listed from the front and from the end
+module _ (front back : ℕ → Bool) where
+  pub weeks_first : (n : ℕ) → front n ≡ seen_weeks front back 0 n
+  weeks_first n = rw (none_yet (53 - n), none_yet (54 - n)) (nothing (front n))
+    where
+      nothing : (a : Bool) → a ≡ (a || (false && back (53 - n)) || (false && back (54 - n)))
+      nothing true = refl
+      nothing false = refl
 
-pub weeks_more : (front back : ℕ → Bool) (from k n : ℕ) (b : Bool) → 1 ≤ n → n ≤ 53 → k ≤ 53 → IsLeastFrom back from k
-    → b ≡ seen_weeks front back from n → ((n == 54 - k) || ((n == 53 - k) || b)) ≡ seen_weeks front back (k + 1) n
-weeks_more front back from k n b one most some next e =
-    let s : (n == 53 - k) ≡ (53 - n == k) = grind (arith, nat_tests) in
-    let t : (n == 54 - k) ≡ (54 - n == k) = grind (arith, nat_tests) in
-    rw (e, s, t) (swap (front n) (53 - n == k) (nat_lt (53 - n) from && back (53 - n)) (54 - n == k) (nat_lt (54 - n) from && back (54 - n))
-    ∙ ap (λ x. front n || x || ((54 - n == k) || (nat_lt (54 - n) from && back (54 - n)))) (next_found back from k (53 - n) next)
-    ∙ ap (λ x. front n || (nat_lt (53 - n) (k + 1) && back (53 - n)) || x) (next_found back from k (54 - n) next))
-  where
-    swap : (f p a q b : Bool) → (q || (p || (f || a || b))) ≡ (f || (p || a) || (q || b))
-    swap true true a true b = refl
-    swap true true a false b = refl
-    swap true false a true b = refl
-    swap true false a false b = refl
-    swap false true a true b = refl
-    swap false true a false b = refl
-    swap false false true true b = refl
-    swap false false true false b = refl
-    swap false false false true b = refl
-    swap false false false false b = refl
+  pub weeks_more : {from k : ℕ} (n : ℕ) {b : Bool} → 1 ≤ n → n ≤ 53 → k ≤ 53 → IsLeastFrom back from k
+      → b ≡ seen_weeks front back from n → ((n == 54 - k) || ((n == 53 - k) || b)) ≡ seen_weeks front back (k + 1) n
+  weeks_more {from = from} {k = k} n {b = b} one most some next e =
+      let s : (n == 53 - k) ≡ (53 - n == k) = grind (arith, nat_tests) in
+      let t : (n == 54 - k) ≡ (54 - n == k) = grind (arith, nat_tests) in
+      rw (e, s, t) (swap (front n) (53 - n == k) (nat_lt (53 - n) from && back (53 - n)) (54 - n == k) (nat_lt (54 - n) from && back (54 - n))
+      ∙ ap (λ x. front n || x || ((54 - n == k) || (nat_lt (54 - n) from && back (54 - n)))) (next_found back from k (53 - n) next)
+      ∙ ap (λ x. front n || (nat_lt (53 - n) (k + 1) && back (53 - n)) || x) (next_found back from k (54 - n) next))
+    where
+      swap : (f p a q b : Bool) → (q || (p || (f || a || b))) ≡ (f || (p || a) || (q || b))
+      swap true true a true b = refl
+      swap true true a false b = refl
+      swap true false a true b = refl
+      swap true false a false b = refl
+      swap false true a true b = refl
+      swap false true a false b = refl
+      swap false false true true b = refl
+      swap false false true false b = refl
+      swap false false false true b = refl
+      swap false false false false b = refl
 
-pub weeks_done : (front back : ℕ → Bool) (from n : ℕ) (b : Bool) → 1 ≤ n → n ≤ 53 → ((x : ℕ) → from ≤ x → x ≤ 53 → back x ≡ false)
-    → b ≡ seen_weeks front back from n → b ≡ (front n || back (53 - n) || back (54 - n))
-weeks_done front back from n b one most none e =
-    e ∙ ap (λ x. front n || x || (nat_lt (54 - n) from && back (54 - n))) (all_found back from (53 - n) (λ h. none (53 - n) h (omega arith)))
-    ∙ ap (λ x. front n || back (53 - n) || x) (all_found back from (54 - n) (λ h. none (54 - n) h (omega (arith, one))))
+  pub weeks_done : (from n : ℕ) {b : Bool} → 1 ≤ n → n ≤ 53 → ((x : ℕ) → from ≤ x → x ≤ 53 → back x ≡ false)
+      → b ≡ seen_weeks front back from n → b ≡ (front n || back (53 - n) || back (54 - n))
+  weeks_done from n one most none e =
+      e ∙ ap (λ x. front n || x || (nat_lt (54 - n) from && back (54 - n))) (all_found back from (53 - n) (λ h. none (53 - n) h (omega arith)))
+      ∙ ap (λ x. front n || back (53 - n) || x) (all_found back from (54 - n) (λ h. none (54 - n) h (omega (arith, one))))

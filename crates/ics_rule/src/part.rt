@@ -111,21 +111,13 @@ pub(crate) fn has_no_number(weekdays: &Weekdays, weekday: u8) -> bool
     weekdays.numbered[weekday as usize].is_empty()
 }
 
-/// Whether BYDAY names a weekday, with a number or without.
-fn names_weekday(weekdays: &Weekdays, weekday: u8) -> bool
-    requires { weekday < 7 }
-    ensures { result ≡ names_weekday weekdays.now weekday }
-{
-    weekdays.plain.contains(weekday) || !has_no_number(weekdays, weekday)
-}
-
 /// The weekdays that BYDAY names.
 fn named_weekdays(weekdays: &Weekdays) -> BitSet
     ensures { result ≡ named_below weekdays.now 7 }
 {
     let mut named = BitSet::new();
     for weekday in 0..7 {
-        if names_weekday(weekdays, weekday) {
+        if weekdays.plain.contains(weekday) || !has_no_number(weekdays, weekday) {
             named.insert(weekday);
         }
     }

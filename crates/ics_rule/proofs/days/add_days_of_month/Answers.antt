@@ -33,11 +33,10 @@ leave_let_in-requires-clause-numbers c = ap (counts_in_month c.args.parts.now) c
 pub leave_let_in-requires-clause-listed : goal.leave_let_in-requires-clause-listed
 leave_let_in-requires-clause-listed c = λ k. elim c.if-lets.branch [
   | then-lets w ↦ ap (λ ws. contains_wide ws k) w.days-is
-      ∙ one_month c.args.parts.now c.args.first c.args.len ((c.args.number - 1) / 12) ((c.args.number - 1) % 12 + 1) w.weekday_at.result k
-      (contains_wide c.args.days.now k) _
+      ∙ one_month c.args.parts.now k
       (span_month c.args.number c.args.first c.args.len w.weekday_at.result c.requires.span w.weekday_at.ensures.value) (sym c.lets.ensures ∙ w.if-lets.true)
       (ap (λ ws. contains_wide ws k) c.requires.empty ∙ none_has k) (w.add_month.ensures k)
   | else-lets w ↦ ap (λ ws. contains_wide ws k) w.days-is ∙ ap (λ ws. contains_wide ws k) c.requires.empty ∙ none_has k
-      ∙ closed_month c.args.parts.now c.args.first c.args.len ((c.args.number - 1) / 12) ((c.args.number - 1) % 12 + 1) ((c.args.first + 5) % 7) k
+      ∙ closed_month c.args.parts.now k
       (span_month c.args.number c.args.first c.args.len ((c.args.first + 5) % 7) c.requires.span refl) (sym c.lets.ensures ∙ w.if-lets.false)
 ]

@@ -13,7 +13,7 @@ loop-k-init c = λ m. ap (λ ws. contains_wide ws m) c.requires.empty ∙ none_h
 
 pub loop-k-preserved : goal.loop-k-preserved
 loop-k-preserved c = λ m.
-    let test = day_of_week c.args.parts.now (c.args.first + c.loop-k.k) c.weekday_at.result c.named-named.result c.contains.result c.requires.frequency
+    let test = day_of_week c.args.parts.now (c.args.first + c.loop-k.k) c.named-named.result c.requires.frequency
     (sym c.names_weekdays_alone.ensures ∙ c.if-not-names_weekdays_alone.false) (sym c.is_empty.ensures ∙ c.if-is_empty.false)
     c.weekday_at.ensures.value c.weekday_at.ensures.small c.named-named.ensures c.contains.ensures in
     elim c.if-contains.branch [

@@ -8,8 +8,7 @@ use Rattle.ics_rule.proofs.MonthDays.{whole_year}
 use Rattle.ics_rule.proofs.days.add_days_of_year.Goals as goal
 
 pub returns-then-is_empty-2 : goal.returns-then-is_empty-2
-returns-then-is_empty-2 c = λ k. whole_year c.args.parts.now c.args.first c.args.len (year_of c.args.first) c.weekday_at.result k
-    (contains_wide c.args.days.now k) _
+returns-then-is_empty-2 c = λ k. whole_year c.args.parts.now (year_of c.args.first) k
     (sym c.goes_by_months.ensures ∙ c.if-not-goes_by_months.false) c.requires.frequency
     (and_from (is_empty c.args.parts.now.months) (lists_none c.args.parts.now.month_days) (sym c.is_empty.ensures ∙ c.if-is_empty.true)
     (sym c.is_empty-then-is_empty.ensures ∙ c.if-is_empty-2.true))

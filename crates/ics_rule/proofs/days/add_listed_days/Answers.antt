@@ -40,8 +40,7 @@ pub loop-month-preserved : goal.loop-month-preserved
 loop-month-preserved c =
     let y = year_of c.args.first in
     let seen : ℕ → ℕ → Bool = λ k from. seen_months c.args.parts.now (contains c.open_months-months.result) from (c.args.first + k) in (
-      λ k. month_step c.args.parts.now c.month_run.result (contains c.open_months-months.result) c.args.first y c.in-Some.month c.loop-month.from k
-          (contains_wide c.loop-month.days k) _
+      λ k. month_step c.args.parts.now k
           (c.month_run.ensures.month y c.requires.span) c.requires.span.1.0
           (subst (λ n. c.month_run.result.start + c.month_run.result.len ≤ n) c.requires.span.1.1 (c.month_run.ensures.within y c.requires.span))
           c.in-Some.ensures.next
@@ -52,5 +51,5 @@ loop-month-preserved c =
 
 pub returns : goal.returns
 returns c = λ k. c.loop-month.invariant.0 k
-    ∙ months_done c.args.parts.now (contains c.open_months-months.result) c.loop-month.from (c.args.first + k) (nat_lt k c.args.len) c.in_default.ensures.next
+    ∙ months_done c.args.parts.now (contains c.open_months-months.result) (c.args.first + k) (nat_lt k c.args.len) c.in_default.ensures.next
     c.open_months-months.ensures.members

@@ -15,4 +15,4 @@ returns-else-is_empty c = λ k. c.those_let_in-else-is_empty.ensures k
 pub returns-then-is_empty : goal.returns-then-is_empty
 returns-then-is_empty c = λ k. c.those_let_in.ensures k ∙ ap (λ x. x && lets_date c.args.parts.now (c.args.first + k)) (c.days_by_number.ensures k)
     ∙ narrowed (nat_lt k c.args.len) (lets_wide_place c.args.parts.now.year_days (k + 1) c.args.len) (lets_date c.args.parts.now (c.args.first + k))
-    (λ l h. number_listed c.args.parts.now c.args.first (year_of c.args.first) c.args.len k c.requires.span.1.0 c.requires.span.1.1 l h)
+    (λ l h. number_listed c.args.parts.now (year_of c.args.first) k c.requires.span.1.0 c.requires.span.1.1 l h)

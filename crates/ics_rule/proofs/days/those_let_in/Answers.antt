@@ -27,5 +27,5 @@ loop-k-preserved c = (
 )
 
 pub returns : goal.returns
-returns c = λ k. asked_all (contains_wide c.args.some.now) (λ m. lets_date c.args.parts.now (c.args.first + m)) c.loop-k.from k (contains_wide c.loop-k.days k)
+returns c = λ k. asked_all (contains_wide c.args.some.now) (λ m. lets_date c.args.parts.now (c.args.first + m)) c.loop-k.from k
     c.in_default.ensures.next (c.loop-k.invariant.0 k)

@@ -24,7 +24,7 @@ loop-day-preserved-then-lets_date c = walk_in c.args.from c.args.parts.now.inter
 pub loop-day-preserved-then-leaves_months : goal.loop-day-preserved-then-leaves_months
 loop-day-preserved-then-leaves_months c = walk_past c.args.from c.args.parts.now.interval c.requires.interval
     (lets_date c.args.parts.now) c.args.from c.args.before c.loop-day.day c.loop-day.total c.loop-day.invariant c.max-closed.result c.next_step-day.result
-    (λ j h. one_out (lets_date c.args.parts.now) c.loop-day.day c.days_of_closed_month.result (sym c.lets_date.ensures ∙ c.if-lets_date.false)
+    (λ j h. one_out (lets_date c.args.parts.now) c.loop-day.day (sym c.lets_date.ensures ∙ c.if-lets_date.false)
     c.days_of_closed_month.ensures.none j (subst (λ x. j < x) c.max-closed.ensures h))
     c.next_step-day.ensures c.loop-day-test.true
 

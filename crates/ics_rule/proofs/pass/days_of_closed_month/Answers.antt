@@ -3,5 +3,5 @@ use Rattle.ics_rule.proofs.DayWalkLemmas.{month_out}
 use Rattle.ics_rule.proofs.pass.days_of_closed_month.Goals as goal
 
 pub returns-else-lets-clause-none : goal.returns-else-lets-clause-none
-returns-else-lets-clause-none c = λ j h. month_out c.args.parts.now c.civil_at-fields.result c.args.day j c.civil_at-fields.ensures
+returns-else-lets-clause-none c = λ j h. month_out c.args.parts.now j c.civil_at-fields.ensures
     (omega (arith, h, c.from.ensures, c.month_length.ensures)) (sym c.lets.ensures ∙ c.if-lets.false)

@@ -7,5 +7,5 @@ pub loop-day-preserved : goal.loop-day-preserved
 loop-day-preserved c = record {
   low = omega (arith, c.loop-day.invariant.low);
   high = omega (arith, c.loop-day-test.true, c.days_out-out.ensures.most);
-  none = out_on (lets_date c.args.parts.now) c.args.day c.loop-day.day c.days_out-out.result c.loop-day.invariant.none c.days_out-out.ensures.none;
+  none = out_on (lets_date c.args.parts.now) c.loop-day.invariant.none c.days_out-out.ensures.none;
 }

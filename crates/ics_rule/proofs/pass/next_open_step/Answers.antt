@@ -19,6 +19,6 @@ next_open-place-requires-clause-local c =
     omega (arith, b, c.requires.some, c.first_local-begin.ensures)
 
 pub returns : goal.returns
-returns c = step_open c.args.parts.now c.args.first c.args.number c.first_local-begin.result c.next_open-place.result c.next_step.result
+returns c = step_open
     c.first_local-begin.ensures c.next_open-place.ensures.low c.next_open-place.ensures.none
     (subst (λ x. IsLeastFrom (is_stepped c.args.first c.args.parts.now.interval) x c.next_step.result) c.period_of.ensures.value c.next_step.ensures)

@@ -22,7 +22,6 @@ nth_member-requires-2 c = let i = index (goal.at.nth_member-requires-2 c).After-
     let more = count_mono 60 64 (contains c.args.minutes) (omega arith) in omega (arith, i.1, more, c.members_below-size.ensures.value)
 
 pub returns-clause-nth : goal.returns-clause-nth
-returns-clause-nth c = nth-product 60 c.members_below-size.result c.args.k c.nth_member.result c.nth_member-2.result (contains c.args.hours)
-    (contains c.args.minutes) c.members_below-size.ensures.value
+returns-clause-nth c = nth-product 60 c.args.k c.members_below-size.ensures.value
     (member_below c.args.minutes 60 c.nth_member-2.result c.requires.set (IsNth.passes c.nth_member-2.ensures.nth)) c.nth_member.ensures.nth
     c.nth_member-2.ensures.nth

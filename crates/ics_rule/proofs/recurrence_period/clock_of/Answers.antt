@@ -1,4 +1,4 @@
-use Rattle.std.proofs.Common.{◌∙◌, ◌/◌, ◌%◌, ◌==◌, ◌||◌, ◌&&◌, ap, sym}
+use Rattle.std.proofs.Common.{◌∙◌, ◌/◌, ◌%◌, ◌==◌, ◌||◌, ◌&&◌, ap, sym, refl}
 use Rattle.jiff_core.specs.Weekday.{monday_zero}
 use Rattle.ics_rule.specs.Candidates.{lets}
 use Rattle.ics_rule.specs.RecurrencePeriods.{first_local}
@@ -16,3 +16,17 @@ returns-then-skips_hours-clause-seconds c = λ m h. c.clock_set-then-skips_hours
     ∙ ap (λ z. (z || (m == first_local c.args.parts.now.frequency (monday_zero c.args.parts.now.week_start) c.args.number % 60))
     && lets c.args.parts.now.seconds m)
     (sym (no_seconds c.args.parts.now.frequency (sym c.skips_hours.ensures ∙ c.if-skips_hours.true)))
+
+pub returns-then-skips_hours-clause-hours : goal.returns-then-skips_hours-clause-hours
+returns-then-skips_hours-clause-hours c = λ m h. c.clock_set.ensures.members m h
+    ∙ ap (λ z. (z || (m == first_local c.args.parts.now.frequency (monday_zero c.args.parts.now.week_start) c.args.number / 3_600 % 24))
+    && lets c.args.parts.now.hours m) (sym (sym c.skips_hours.ensures ∙ c.if-skips_hours.true))
+
+pub returns-clause-hours : goal.returns-clause-hours
+returns-clause-hours c = λ m h. rw (c.clock_set-2.ensures.members m h, c.skips_hours-2.ensures, c.first_local-begin.ensures) refl
+
+pub returns-clause-minutes : goal.returns-clause-minutes
+returns-clause-minutes c = λ m h. rw (c.clock_set-3.ensures.members m h, c.skips_minutes.ensures, c.first_local-begin.ensures) refl
+
+pub returns-clause-seconds : goal.returns-clause-seconds
+returns-clause-seconds c = λ m h. rw (c.clock_set-4.ensures.members m h, c.skips_seconds.ensures, c.first_local-begin.ensures) refl

@@ -10,7 +10,7 @@ use Rattle.ics_rule.proofs.recurrence_period.next_second.Goals.{In-Some, In_ok-s
 found : (c : In-Some) → IsLeastFrom (has_time c.args.hours c.args.minutes c.args.seconds) c.args.at (c.args.at / 60 * 60 + c.in-Some.second)
 found c = next_here 60 (omega arith) (has_minute c.args.hours c.args.minutes) (contains c.args.seconds)
     (λ m. member_below c.args.seconds 60 m c.requires.seconds) c.args.at c.in-Some.second
-    (minute_true c.args.hours c.args.minutes (c.args.at / 60) c.contains.result c.contains-2.result (omega arith) c.contains.ensures c.contains-2.ensures
+    (minute_true c.args.hours c.args.minutes (c.args.at / 60) (omega arith) c.contains.ensures c.contains-2.ensures
     ∙ c.if-contains.true) c.in-Some.ensures.next
 
 pub returns-in-Some-clause-next : goal.returns-in-Some-clause-next
@@ -26,7 +26,7 @@ none_here c = elim c.if-contains.branch [
       (λ m. member_below c.args.seconds 60 m c.requires.seconds) c.args.at w.in_default.ensures.next
   | else-contains w ↦ block_out 60 (omega arith) (has_minute c.args.hours c.args.minutes) (contains c.args.seconds)
       (λ m. member_below c.args.seconds 60 m c.requires.seconds) c.args.at
-      (minute_true c.args.hours c.args.minutes (c.args.at / 60) c.contains.result c.contains-2.result (omega arith) c.contains.ensures c.contains-2.ensures
+      (minute_true c.args.hours c.args.minutes (c.args.at / 60) (omega arith) c.contains.ensures c.contains-2.ensures
       ∙ w.if-contains.false)
 ]
 
@@ -50,4 +50,5 @@ returns-in_err-minute-clause-next c = subst (IsNextIn (has_time c.args.hours c.a
 pub returns-in_err-second-clause-next : goal.returns-in_err-second-clause-next
 returns-in_err-second-clause-next c = subst (IsNextIn (has_time c.args.hours c.args.minutes c.args.seconds) c.args.at)
     (sym c.from_residual-in_err-second.ensures)
-    (λ m l. and_right (has_minute c.args.hours c.args.minutes (m / 60)) (contains c.args.seconds (m % 60)) (c.in_err-second.ensures.next (m % 60) (omega arith)))
+    (λ m l. and_right (has_minute c.args.hours c.args.minutes (m / 60)) (contains c.args.seconds (m % 60))
+    (c.in_err-second.ensures.next (m % 60) (omega arith)))

@@ -9,11 +9,11 @@ loop-k-init c = (λ m. between_none c.args.low m (contains_wide c.args.days.now 
 pub loop-k-preserved : goal.loop-k-preserved
 loop-k-preserved c = (
   λ m. c.insert.ensures.members m
-      ∙ between_more c.args.low c.loop-k.k m (contains_wide c.args.days.now m) (contains_wide c.loop-k.days m) c.loop-k.auto.k (c.loop-k.invariant.0 m),
+      ∙ between_more c.args.low c.loop-k.k m (contains_wide c.args.days.now m) c.loop-k.auto.k (c.loop-k.invariant.0 m),
   omega
       (arith, c.loop-k-test.true),
 )
 
 pub returns : goal.returns
-returns c = λ m. between_done c.args.low c.args.end c.loop-k.k m (contains_wide c.args.days.now m) (contains_wide c.loop-k.days m) c.loop-k.auto.k
+returns c = λ m. between_done m (contains_wide c.args.days.now m) c.loop-k.auto.k
     c.loop-k-test.false c.loop-k.invariant.1 (c.loop-k.invariant.0 m)

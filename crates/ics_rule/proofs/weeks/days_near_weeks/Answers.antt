@@ -9,7 +9,7 @@ use Rattle.ics_rule.proofs.weeks.days_near_weeks.Goals as goal
 
 pub loop-n-init : goal.loop-n-init
 loop-n-init c = let b = days_in_year_bounds (pos (year_of c.args.first)) in (
-  cover_starts c.args.parts.now.weeks _ c.args.len c.new-days.result c.add_between.new.days c.add_between-2.new.days (omega (arith, b.1, c.requires.size))
+  cover_starts c.new-days.result c.add_between.new.days (omega (arith, b.1, c.requires.size))
       (λ m. ap (λ ws. contains_wide ws m) c.new-days.ensures ∙ none_has m)
       c.add_between.ensures c.add_between-2.ensures,
   (omega arith, omega arith),
@@ -17,17 +17,17 @@ loop-n-init c = let b = days_in_year_bounds (pos (year_of c.args.first)) in (
 
 pub loop-n-preserved : goal.loop-n-preserved
 loop-n-preserved c = (
-  cover_adds c.args.parts.now.weeks _ c.args.len c.in-Some.n c.saturating_sub-low.result c.min-high.result c.loop-n.days _ c.saturating_sub-low.ensures
+  cover_adds c.saturating_sub-low.ensures
       c.min-high.ensures c.add_between-in-Some.ensures
-      (cover_jumps c.args.parts.now.weeks _ c.args.len c.loop-n.from c.in-Some.n c.loop-n.days
+      (cover_jumps
       (λ j low less. sym (c.listed_weeks-listed.ensures j (omega (arith, low, c.loop-n.invariant.1.0)) (omega (arith, less, c.if-n-gt53.false)))
       ∙ c.in-Some.ensures.next.least j low less) c.loop-n.invariant.0),
   (omega arith, omega (arith, c.in-Some.ensures.small)),
 )
 
 pub returns-then-n-gt53-clause-all : goal.returns-then-n-gt53-clause-all
-returns-then-n-gt53-clause-all c = λ k h l. covered c.args.parts.now.weeks _ c.args.len 54 k c.loop-n.days (omega arith) h
-    (cover_jumps c.args.parts.now.weeks _ c.args.len c.loop-n.from 54 c.loop-n.days
+returns-then-n-gt53-clause-all c = λ k h l. covered 54 k (omega arith) h
+    (cover_jumps
     (λ j low less. sym (c.listed_weeks-listed.ensures j (omega (arith, low, c.loop-n.invariant.1.0)) (omega (arith, less)))
     ∙ c.in-Some.ensures.next.least j low (omega (arith, less, c.if-n-gt53.true))) c.loop-n.invariant.0)
     (week_near c.args.parts.now c.args.first c.args.len k _ c.requires.first c.requires.size h c.requires.some
@@ -35,8 +35,8 @@ returns-then-n-gt53-clause-all c = λ k h l. covered c.args.parts.now.weeks _ c.
     ∙ ap (λ x. (monday_zero c.args.parts.now.week_start + 10 - x) % 7) c.weekday_at.ensures.value) l)
 
 pub returns-clause-all : goal.returns-clause-all
-returns-clause-all c = λ k h l. covered c.args.parts.now.weeks _ c.args.len 54 k c.loop-n.days (omega arith) h
-    (cover_jumps c.args.parts.now.weeks _ c.args.len c.loop-n.from 54 c.loop-n.days
+returns-clause-all c = λ k h l. covered 54 k (omega arith) h
+    (cover_jumps
     (λ j low less. sym (c.listed_weeks-listed.ensures j (omega (arith, low, c.loop-n.invariant.1.0)) (omega (arith, less)))
     ∙ c.in_default.ensures.next j low) c.loop-n.invariant.0)
     (week_near c.args.parts.now c.args.first c.args.len k _ c.requires.first c.requires.size h c.requires.some

@@ -11,5 +11,4 @@ returns-clause-own c = cursor_begins (effective c.args._rule.now) (number c.args
 
 pub returns-clause-looked : goal.returns-clause-looked
 unfolding HasLooked
-returns-clause-looked c = λ b. looked_none (effective c.args._rule.now) (number c.args._rule.now.start) c.args._rule.now.parts.count c.number.result
-    (number c.args.from) b c.number.ensures.value
+returns-clause-looked c = λ b. looked_none (effective c.args._rule.now) (number c.args._rule.now.start) c.args._rule.now.parts.count b c.number.ensures.value

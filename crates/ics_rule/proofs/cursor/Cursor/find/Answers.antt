@@ -13,24 +13,24 @@ returns-then-period-number-clause-next c =
     let own = rw c.in-Some.is at c.requires.held in
     next_same (is_taken c.args.parts.now.positions (lists_none_wide c.args.parts.now.positions) c.in-Some.period)
     (is_chosen_within c.args.parts.now c.args.start c.args.number) c.args.self.now.place c.next_taken.result
-    (taken_within c.args.parts.now c.args.start c.in-Some.period c.args.number own.0 c.if-period-number.true c.requires.step) c.next_taken.ensures.next
+    (taken_within c.args.start own.0 c.if-period-number.true c.requires.step) c.next_taken.ensures.next
 
 pub returns-clause-next : goal.returns-clause-next
 returns-clause-next c =
     next_same (is_taken c.args.parts.now.positions (lists_none_wide c.args.parts.now.positions) c.look_at.result)
     (is_chosen_within c.args.parts.now c.args.start c.args.number) c.args.self.now.place c.next_taken-2.result
-    (taken_within c.args.parts.now c.args.start c.look_at.result c.args.number c.look_at.ensures.product c.look_at.ensures.number c.requires.step)
+    (taken_within c.args.start c.look_at.ensures.product c.look_at.ensures.number c.requires.step)
     c.next_taken-2.ensures.next
 
 pub returns-clause-looks : goal.returns-clause-looks
 returns-clause-looks c = elim c.match-self.branch [
   | in-Some+else-period-number w ↦
       let own = rw w.in-Some.is at c.requires.held in
-      looks_once c.args.number 0 c.args.self.now c.look_at.new.self c.look_at.result
+      looks_once 0 c.args.self.now c.look_at.result
       (fresh_some c.args.number c.args.self.now.held w.in-Some.period w.in-Some.is own.1 w.if-period-number.false)
       (c.look_at.ensures.cursor ∙ ap (λ (s : Cursor). after_look s c.look_at.result 0) w.self-is) c.look_at.ensures.number
   | in_default w ↦
-      looks_once c.args.number 0 c.args.self.now c.look_at.new.self c.look_at.result
+      looks_once 0 c.args.self.now c.look_at.result
       (fresh_none c.args.number c.args.self.now.held w.in_default.is)
       (c.look_at.ensures.cursor ∙ ap (λ (s : Cursor). after_look s c.look_at.result 0) w.self-is) c.look_at.ensures.number
 ]

@@ -22,7 +22,7 @@ returns-then-start-end-clause-next c = (
 )
 
 pub returns-then-start-end-clause-own : goal.returns-then-start-end-clause-own
-returns-then-start-end-clause-own c = own_at (effective c.args.rule.now) c.args.start c.args.rule.now.parts.count c.args.self.now (c.args.start + 1)
+returns-then-start-end-clause-own c = own_at (c.args.start + 1)
     c.requires.own (omega (arith, c.if-place-start.true)) (omega (arith, c.if-start-end.true, c.requires.end))
 
 pub returns-then-place-start-clause-next : goal.returns-then-place-start-clause-next
@@ -30,7 +30,7 @@ returns-then-place-start-clause-next c =
     (none_early c.args.rule.now c.args.self.now.place c.args.end (omega (arith, c.requires.start, c.if-start-end.false)), c.max-self.ensures)
 
 pub returns-then-place-start-clause-own : goal.returns-then-place-start-clause-own
-returns-then-place-start-clause-own c = own_at (effective c.args.rule.now) c.args.start c.args.rule.now.parts.count c.args.self.now c.max-self.result
+returns-then-place-start-clause-own c = own_at c.max-self.result
     c.requires.own (omega (arith, c.max-self.ensures)) (omega (arith, c.max-self.ensures, c.requires.own.inside, c.requires.end))
 
 pub returns-clause-next : goal.returns-clause-next

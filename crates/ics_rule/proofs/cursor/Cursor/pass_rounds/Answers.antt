@@ -9,13 +9,13 @@ use Rattle.ics_rule.proofs.cursor.Cursor.pass_rounds.Goals.{Else-not-turn_throug
 
 pub overflow_add-end : goal.overflow_add-end
 overflow_add-end c =
-    let e = end_in c.period_of.result c.counted_from-begin.result.0 c.saturating_sub-ahead.result c.in-Some.round c.saturating_sub-ahead.ensures
+    let e = end_in c.period_of.result c.counted_from-begin.result.0 c.in-Some.round c.saturating_sub-ahead.ensures
     c.if-ahead-lt2.false c.if-rounds-lt2.false in
     omega (arith, e, c.period_of.ensures.small)
 
 pub turn_through-requires-clause-end : goal.turn_through-requires-clause-end
 turn_through-requires-clause-end c =
-    let e = end_in c.period_of.result c.counted_from-begin.result.0 c.saturating_sub-ahead.result c.in-Some.round c.saturating_sub-ahead.ensures
+    let e = end_in c.period_of.result c.counted_from-begin.result.0 c.in-Some.round c.saturating_sub-ahead.ensures
     c.if-ahead-lt2.false c.if-rounds-lt2.false in
     omega (arith, e, c.period_of.ensures.value)
 
@@ -30,7 +30,7 @@ ends : (c : Else-not-turn_through) → (c.counted_from-begin.result.1 ≤ c.turn
     (c.counted_from-begin.result.1 + c.saturating_sub-ahead.result / c.in-Some.round * (c.turn_through.new.self.counted - c.counted_from-begin.result.1))
 ends c =
     let turned = (c.turn_through.ensures.counted c.if-not-turn_through.false).turned in
-    let top = target_in c.period_of.result c.counted_from-begin.result.0 c.saturating_sub-ahead.result c.in-Some.round c.saturating_sub-ahead.ensures
+    let top = target_in c.period_of.result c.counted_from-begin.result.0 c.in-Some.round c.saturating_sub-ahead.ensures
     c.if-ahead-lt2.false in
     rounds_end (c.in-Some.ensures c.args.start) (counts_from c.requires.interval c.requires.own c.requires.first c.counted_from-begin.ensures)
     c.if-begin-lt2.false c.if-rounds-lt2.false (omega (arith, top, c.period_of.ensures.value)) c.requires.place

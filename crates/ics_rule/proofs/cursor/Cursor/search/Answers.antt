@@ -1,10 +1,9 @@
 use Rattle.std.proofs.Common.{arith}
-use Rattle.ics_rule.specs.EffectiveRules.{effective}
 use Rattle.ics_rule.proofs.CursorLemmas.{own_at, own_walked, own_found, looked_found, looked_walked, counts_look, never_fewer}
 use Rattle.ics_rule.proofs.cursor.Cursor.search.Goals as goal
 
 pub returns-then-stop-place-clause-own : goal.returns-then-stop-place-clause-own
-returns-then-stop-place-clause-own c = own_at (effective c.args.rule.now) c.args.start c.args.rule.now.parts.count c.args.self.now c.max-self.result
+returns-then-stop-place-clause-own c = own_at c.max-self.result
     c.requires.own (omega (arith, c.max-self.ensures)) (omega (arith, c.max-self.ensures, c.requires.own.inside, c.requires.end))
 
 pub returns-then-n-stop-clause-own : goal.returns-then-n-stop-clause-own

@@ -11,7 +11,7 @@ use Rattle.ics_rule.proofs.cursor.Cursor.turn_through.Goals as goal
 
 pub loop-number-init : goal.loop-number-init
 loop-number-init c = record {
-  walk = counting_begins c.args.first c.args.begin (c.args.self.now.place + 1) (passed_none c.requires.own) c.requires.first c.requires.begin
+  walk = counting_begins (passed_none c.requires.own) c.requires.first c.requires.begin
       c.requires.interval c.requires.after (omega arith);
   high = c.requires.order;
 }

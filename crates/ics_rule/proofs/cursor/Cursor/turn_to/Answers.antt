@@ -1,9 +1,9 @@
-use Rattle.std.proofs.Common.{◌≡◌, ◌+◌, ℕ, ◌⊎◌, inl, inr, ap, refl, arith}
+use Rattle.std.proofs.Common.{◌≡◌, ◌+◌, ◌-◌, ℕ, ◌⊎◌, inl, inr, ap, refl, arith}
 use Rattle.ics_rule.specs.declared.effective_rule.EffectiveRule.{EffectiveRule}
 use Rattle.ics_rule.specs.declared.cursor.Cursor.{Cursor}
 use Rattle.ics_rule.specs.Searches.{IsPassed}
 use Rattle.ics_rule.proofs.CursorLemmas.{looks_none, looks_once, fresh_some, fresh_none}
-use Rattle.ics_rule.proofs.CountLemmas.{step_low, turned_first, turned_on, counted_out, counted_small}
+use Rattle.ics_rule.proofs.CountLemmas.{IsLeft, step_low, turned_first, turned_on, counted_out, counted_small}
 use Rattle.ics_rule.proofs.cursor.Cursor.turn_to.Goals as goal
 use Rattle.ics_rule.proofs.cursor.Cursor.turn_to.Goals.{After-taken_before-before}
 
@@ -25,45 +25,48 @@ overflow_add-self-in-Some c =
     let small = counted_small c.args.number turn.1.0 (omega (arith, on.up)) c.requires.step c.requires.reach in
     omega (arith, small, c.taken_before-before.ensures.bound)
 
+-- and left for a later one
+left : (c : After-taken_before-before) → IsLeft c.args.parts.now c.args.start c.args.count c.args.number c.taken_before-before.result
+    c.args.self.now.counted c.args.self.now.limit c.in-Some.period
+left c =
+    let turn = rw c.in-Some.is at c.requires.turn in record {
+      some = c.requires.interval;
+      own = turn.0;
+      counted = turn.1.0;
+      passed = step_before c.args.parts.now c.args.start c.in-Some.period.number c.args.number turn.1.1 c.if-period-number.false;
+      reach = omega (arith, c.requires.reach);
+      taken = c.taken_before-before.ensures.value;
+    }
+
 pub returns-then-self-before-clause-turned : goal.returns-then-self-before-clause-turned
 returns-then-self-before-clause-turned c =
-    let turn = rw c.in-Some.is at c.requires.turn in
-    let on = step_before c.args.parts.now c.args.start c.in-Some.period.number c.args.number turn.1.1 c.if-period-number.false in (
-      counted_out c.args.parts.now c.args.start c.args.count c.args.number c.taken_before-before.result 315_569_519_999 c.args.self.now.counted
-          c.args.self.now.limit c.in-Some.period c.requires.interval turn.0 turn.1.0 on
-          (omega (arith, c.requires.reach)) c.taken_before-before.ensures.value c.if-self-before.true,
-      refl,
-    )
+    (counted_out (left (goal.at.returns-then-self-before-clause-turned c).After-taken_before-before) c.if-self-before.true, refl)
 
 pub returns-in-None-clause-turned : goal.returns-in-None-clause-turned
 returns-in-None-clause-turned c =
     let turn = rw c.in-None.is at c.requires.turn in
-    turned_first c.args.parts.now c.args.start c.args.count c.args.number _ c.taken_before.result _ c.look_at-period.result c.requires.interval c.requires.count
-    turn c.requires.step
-    c.look_at-period.ensures.product c.look_at-period.ensures.number
-    (ap (λ (s : Cursor). s.held) c.look_at-period.ensures.cursor) (ap (λ (s : Cursor). s.counted) c.look_at-period.ensures.cursor) refl refl
-    c.taken_before.ensures.value
+    turned_first c.requires.interval c.requires.count turn c.requires.step (record {
+      held = ap (λ (s : Cursor). s.held) c.look_at-period.ensures.cursor;
+      product = c.look_at-period.ensures.product;
+      number = c.look_at-period.ensures.number;
+      none = ap (λ (s : Cursor). s.counted) c.look_at-period.ensures.cursor;
+    }) (ap (λ x. c.args.count - 1 + x) c.taken_before.ensures.value)
 
 pub returns-in-None-clause-looks : goal.returns-in-None-clause-looks
 returns-in-None-clause-looks c =
-    let at = looks_once c.args.number 0 c.args.self.now c.look_at-period.new.self c.look_at-period.result
+    let at = looks_once 0 c.args.self.now c.look_at-period.result
     (fresh_none c.args.number c.args.self.now.held c.in-None.is) c.look_at-period.ensures.cursor c.look_at-period.ensures.number in
     record { place = at.place; looks = at.looks; begun = at.begun; steps = at.steps }
 
 pub returns-else-self-before-clause-turned : goal.returns-else-self-before-clause-turned
-returns-else-self-before-clause-turned c =
-    let turn = rw c.in-Some.is at c.requires.turn in
-    let on = step_before c.args.parts.now c.args.start c.in-Some.period.number c.args.number turn.1.1 c.if-period-number.false in
-    turned_on c.args.parts.now c.args.start c.args.count c.args.number _ c.taken_before-before.result 315_569_519_999 c.args.self.now c.look_at.new.self
-    c.in-Some.period c.look_at.result c.requires.interval turn.0 turn.1.0 on
-    (omega (arith, c.requires.reach)) refl c.taken_before-before.ensures.value c.requires.step c.look_at.ensures.product c.look_at.ensures.number
-    c.look_at.ensures.cursor
+returns-else-self-before-clause-turned c = turned_on c.args.self.now (left (goal.at.returns-else-self-before-clause-turned c).After-taken_before-before)
+    c.requires.step c.look_at.ensures.product c.look_at.ensures.number c.look_at.ensures.cursor
 
 pub returns-else-self-before-clause-looks : goal.returns-else-self-before-clause-looks
 returns-else-self-before-clause-looks c =
     let turn = rw c.in-Some.is at c.requires.turn in
     let on = step_before c.args.parts.now c.args.start c.in-Some.period.number c.args.number turn.1.1 c.if-period-number.false in
-    looks_once c.args.number (c.args.self.now.counted + c.taken_before-before.result) c.args.self.now c.look_at.new.self c.look_at.result
+    looks_once (c.args.self.now.counted + c.taken_before-before.result) c.args.self.now c.look_at.result
     (fresh_some c.args.number c.args.self.now.held c.in-Some.period c.in-Some.is (omega (arith, on.up)) c.if-period-number.false) c.look_at.ensures.cursor
     c.look_at.ensures.number
 

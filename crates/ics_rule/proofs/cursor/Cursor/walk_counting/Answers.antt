@@ -9,7 +9,7 @@ use Rattle.ics_rule.proofs.NeverLemmas.{none_wanted, none_walked}
 use Rattle.ics_rule.proofs.cursor.Cursor.walk_counting.Goals as goal
 
 pub loop-number-init : goal.loop-number-init
-loop-number-init c = counting_begins c.period_of-first.result c.counted_from-number.result.0 c.args.stop c.pass_periods.ensures c.period_of-first.ensures.value
+loop-number-init c = counting_begins c.pass_periods.ensures c.period_of-first.ensures.value
     c.counted_from-number.ensures.number c.requires.interval c.requires.after c.requires.place
 
 pub turn_to-requires-clause-reach : goal.turn_to-requires-clause-reach

@@ -27,7 +27,7 @@ pub returns-in-None-clause-next : goal.returns-in-None-clause-next
 returns-in-None-clause-next c =
     let some : lists_none_wide c.args.positions.now ≡ false = sym c.is_empty.ensures ∙ c.if-is_empty.false in
     subst (λ b. (m : ℕ) → c.args.n ≤ m → is_taken c.args.positions.now b c.args.self.now m ≡ false) (sym some)
-    (none_ranked (holds c.args.self.now) (is_listed c.args.positions.now (count calendar_end (holds c.args.self.now))) c.args.n c.size.result calendar_end
+    (none_ranked (holds c.args.self.now) (is_listed c.args.positions.now (count calendar_end (holds c.args.self.now))) c.args.n calendar_end
     c.size.ensures.value
     (holds_past c.args.self.now c.requires.own.1.first)
     (λ k low high. ap (λ x. is_listed c.args.positions.now x k) (sym c.size.ensures.value)

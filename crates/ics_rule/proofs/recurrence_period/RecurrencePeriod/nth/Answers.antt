@@ -1,7 +1,7 @@
-use Rattle.std.proofs.Common.{◌<◌, ◌*◌, ◌/◌, ◌%◌, ◌+◌, ◌∙◌, subst, sym, ap, arith}
+use Rattle.std.proofs.Common.{◌<◌, ◌*◌, ◌/◌, ◌%◌, ◌∙◌, subst, sym, ap, arith}
 use Rattle.ics_values.specs.Sets.{contains_wide}
 use Rattle.ics_rule.specs.Kept.{count}
-use Rattle.ics_rule.specs.RecurrencePeriods.{has_day, has_second, IsNth}
+use Rattle.ics_rule.specs.RecurrencePeriods.{IsNth}
 use Rattle.ics_rule.proofs.ScanLemmas.{second_below}
 use Rattle.ics_rule.proofs.RankLemmas.{block_index}
 use Rattle.ics_rule.proofs.ProductCounts.{nth-product, nth_of_days, clock_size, product_size}
@@ -28,7 +28,6 @@ nth_second-requires-clause-index c = let i = index (goal.at.nth_second-requires-
     subst (λ x. c.args.k % c.seconds_below-size.result < x) (c.seconds_below-size.ensures.value ∙ clock_size c.args.self.now) i.1
 
 pub returns-clause-nth : goal.returns-clause-nth
-returns-clause-nth c = nth-product 86_400 c.seconds_below-size.result c.args.k (c.args.self.now.first_day + c.nth_day.result) c.nth_second.result
-    (has_day c.args.self.now) (has_second c.args.self.now) c.seconds_below-size.ensures.value
+returns-clause-nth c = nth-product 86_400 c.args.k c.seconds_below-size.ensures.value
     (second_below c.args.self.now.hours c.args.self.now.minutes c.args.self.now.seconds c.nth_second.result c.requires.own.1.hours
     (IsNth.passes c.nth_second.ensures.nth)) (nth_of_days c.args.self.now _ c.nth_day.result c.nth_day.ensures.nth) c.nth_second.ensures.nth

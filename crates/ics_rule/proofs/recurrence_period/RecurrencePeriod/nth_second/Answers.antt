@@ -2,7 +2,7 @@ use Rattle.std.proofs.Common.{◌<◌, ◌*◌, subst, sym, arith}
 use Rattle.ics_values.specs.Sets.{contains}
 use Rattle.ics_values.proofs.SetLemmas.{member_below}
 use Rattle.ics_rule.specs.Kept.{count}
-use Rattle.ics_rule.specs.RecurrencePeriods.{has_minute, IsNth}
+use Rattle.ics_rule.specs.RecurrencePeriods.{IsNth}
 use Rattle.ics_rule.proofs.Counts.{count_mono}
 use Rattle.ics_rule.proofs.RankLemmas.{block_index}
 use Rattle.ics_rule.proofs.ProductCounts.{nth-product}
@@ -17,7 +17,6 @@ nth_member-requires c =
     omega (arith, i.1, more, c.members_below-size.ensures.value)
 
 pub returns-clause-nth : goal.returns-clause-nth
-returns-clause-nth c = nth-product 60 c.members_below-size.result c.args.k c.nth_minute.result c.nth_member.result
-    (has_minute c.args.self.now.hours c.args.self.now.minutes) (contains c.args.self.now.seconds) c.members_below-size.ensures.value
+returns-clause-nth c = nth-product 60 c.args.k c.members_below-size.ensures.value
     (member_below c.args.self.now.seconds 60 c.nth_member.result c.requires.seconds (IsNth.passes c.nth_member.ensures.nth)) c.nth_minute.ensures.nth
     c.nth_member.ensures.nth

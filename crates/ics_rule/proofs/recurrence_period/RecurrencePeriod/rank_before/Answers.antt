@@ -1,4 +1,4 @@
-use Rattle.std.proofs.Common.{◌∙◌, ◌/◌, min, refl, sym, ap, arith}
+use Rattle.std.proofs.Common.{◌∙◌, ◌/◌, min, sym, ap, arith}
 use Rattle.ics_rule.specs.RecurrencePeriods.{has_day, has_second}
 use Rattle.ics_rule.specs.RecurrencePeriods.{holds}
 use Rattle.ics_rule.proofs.Counts.{count_most}
@@ -6,17 +6,15 @@ use Rattle.ics_rule.proofs.ProductCounts.{count_taken, count_left, days_before}
 use Rattle.ics_rule.proofs.recurrence_period.RecurrencePeriod.rank_before.Goals as goal
 
 pub returns-then-has_day-clause-value : goal.returns-then-has_day-clause-value
-returns-then-has_day-clause-value c = count_taken c.args.n 86_400 _ c.days_below.result c.seconds_below.result c.seconds_below-then-has_day.result
-    (has_day c.args.self.now) (has_second c.args.self.now) (omega arith)
-    (sym c.has_day.ensures ∙ c.if-has_day.true) refl
+returns-then-has_day-clause-value c = count_taken c.args.n 86_400 (has_day c.args.self.now) (has_second c.args.self.now) (omega arith)
+    (sym c.has_day.ensures ∙ c.if-has_day.true)
     (c.days_below.ensures.value ∙ days_before c.args.self.now (c.args.n / 86_400) c.min-skipped.result (c.min-skipped.ensures
     ∙ ap (λ x. min x 384) c.saturating_sub.ensures))
     c.seconds_below.ensures.value c.seconds_below-then-has_day.ensures.value
 
 pub returns-else-has_day-clause-value : goal.returns-else-has_day-clause-value
-returns-else-has_day-clause-value c = count_left c.args.n 86_400 _ c.days_below.result c.seconds_below.result (has_day c.args.self.now)
-    (has_second c.args.self.now) (omega arith)
-    (sym c.has_day.ensures ∙ c.if-has_day.false) refl
+returns-else-has_day-clause-value c = count_left c.args.n 86_400 (has_day c.args.self.now) (has_second c.args.self.now) (omega arith)
+    (sym c.has_day.ensures ∙ c.if-has_day.false)
     (c.days_below.ensures.value ∙ days_before c.args.self.now (c.args.n / 86_400) c.min-skipped.result (c.min-skipped.ensures
     ∙ ap (λ x. min x 384) c.saturating_sub.ensures))
     c.seconds_below.ensures.value

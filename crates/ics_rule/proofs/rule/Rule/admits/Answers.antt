@@ -7,8 +7,7 @@ use Rattle.ics_rule.proofs.rule.Rule.admits.Goals as goal
 
 pub returns : goal.returns
 returns c =
-    candidate_by_parts c.args.self.now c.self.inside.whole c.number-n.result c.number.result (number c.args.local) c.in_step-in_step.result
-    c.lets_date-date.result c.lets_clock-clock.result
+    candidate_by_parts c.args.self.now
     (c.self.invariant.0 ∙ ap effective c.self.view_is) c.number-n.ensures.value (c.number.ensures.value
     ∙ ap (λ (r : Recurrence). number r.start) c.self.view_is)
     c.in_step-in_step.ensures c.lets_date-date.ensures (c.lets_clock-clock.ensures (c.number-n.result / 86_400))

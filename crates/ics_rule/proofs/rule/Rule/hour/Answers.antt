@@ -9,7 +9,7 @@ use Rattle.ics_rule.proofs.rule.Rule.hour.Goals as goal
 pub returns : goal.returns
 returns c =
     let start = c.number-start.ensures.value ∙ ap (λ (r : Recurrence). number r.start) c.self.view_is in
-    held_times c.args.self.now c.self.inside.whole c.args.hour c.in_ok-first.field-0 c.last.result (c.self.invariant.0 ∙ ap effective c.self.view_is) record {
+    held_times (c.self.invariant.0 ∙ ap effective c.self.view_is) record {
       early = c.requires;
       coarse = sym c.is_finer.ensures ∙ c.if-is_finer.false;
       free = sym c.is_empty.ensures ∙ c.if-not-is_empty.false;

@@ -26,13 +26,12 @@ loop-weekday-preserved c = (
       let listed : ℕ → Bool = λ d. lists_weekday c.args.weekdays.now d (m - c.args.self.start + 1) c.args.self.len in
       let w = weekday_in c.args.self (m - c.args.self.start) in
       let small : w < 7 = mod-lt (c.args.self.weekday + (m - c.args.self.start)) (omega arith) in
-      weekdays_more listed w c.in-Some.weekday (contains_wide c.args.days.now m) (has_run c.args.self m) (contains_wide c.loop-weekday.days m) _
+      weekdays_more listed w (contains_wide c.args.days.now m) (has_run c.args.self m) c.in-Some.weekday
       (c.add_weekday.ensures m
       ∙ ap (λ (list : Weekdays). contains_wide c.loop-weekday.days m
       || (has_run c.args.self m && ((w == c.in-Some.weekday) && lists_weekday list c.in-Some.weekday (m - c.args.self.start + 1) c.args.self.len)))
       c.weekdays.view_is)
-      (weekdays_jump listed w c.loop-weekday.from c.in-Some.weekday (contains_wide c.args.days.now m) (has_run c.args.self m)
-      (contains_wide c.loop-weekday.days m) c.in-Some.ensures.next.low
+      (weekdays_jump listed w (contains_wide c.args.days.now m) (has_run c.args.self m) c.in-Some.ensures.next.low
       (λ low high. unnamed c.args.weekdays.now w (m - c.args.self.start + 1) c.args.self.len
       (sym (in_week w (names_weekday c.args.weekdays.now w) small) ∙ sym (c.named-named.ensures w) ∙ c.in-Some.ensures.next.least w low high))
       (c.loop-weekday.invariant.0 m)),

@@ -1,0 +1,53 @@
+use Rattle.std.proofs.Common.{◌≡◌, ℕ, ◌+◌, ◌-◌, inl, inr, false, ◌||◌, ◌∙◌, ap, sym, arith}
+use Rattle.std.proofs.lemmas.Bool.{cases_lt, or_left, or_right}
+use Rattle.ics_values.specs.declared.ordinals.WideOrdinals.{WideOrdinals}
+use Rattle.ics_values.specs.Sets.{contains_wide}
+use Rattle.ics_values.proofs.SetLemmas.{wide_past}
+use Rattle.ics_rule.specs.RecurrencePeriods.{is_listed}
+use Rattle.ics_rule.proofs.ranks.next_listed.Goals as goal
+
+-- a place is listed as little as its number from the start and that from the end
+unlisted : (positions : WideOrdinals) (size j : ℕ) → contains_wide positions.front (j + 1) ≡ false → contains_wide positions.back (size - j) ≡ false →
+    is_listed positions size j ≡ false
+unlisted positions size j front back =
+    let same : size + 1 - (j + 1) ≡ size - j = omega arith in
+    ap (λ x. x || contains_wide positions.back (size + 1 - (j + 1))) front ∙ ap (contains_wide positions.back) same ∙ back
+
+pub loop-k-init : goal.loop-k-init
+loop-k-init c = λ j low early before.
+    unlisted c.args.positions.now c.args.size j (c.next_front-end.ensures.none j low before)
+    (wide_past c.args.positions.now.back (c.args.size - j) (omega (arith, early, low)))
+
+pub returns-then-contains : goal.returns-then-contains
+returns-then-contains c = (
+  record {
+    passes =
+        let same : c.args.size + 1 - (c.loop-k.k + 1) ≡ c.args.size - c.loop-k.k = omega arith in
+        or_right _ _ (ap (contains_wide c.args.positions.now.back) same ∙ sym c.contains.ensures ∙ c.if-contains.true);
+    low = omega arith;
+    least = λ m low high. c.loop-k.invariant m low high (omega (arith, high));
+  },
+  omega (arith, c.next_front-end.ensures.high),
+)
+
+pub loop-k-preserved : goal.loop-k-preserved
+loop-k-preserved c = λ j low early before. elim (cases_lt j c.loop-k.k) [
+  | inl less ↦ c.loop-k.invariant j low less before
+  | inr more ↦
+      let same : j ≡ c.loop-k.k = omega (arith, more, early) in
+      unlisted c.args.positions.now c.args.size j (c.next_front-end.ensures.none j low before)
+      (ap (λ k. contains_wide c.args.positions.now.back (c.args.size - k)) same ∙ sym c.contains.ensures ∙ c.if-contains.false)
+]
+
+pub returns-then-end-size : goal.returns-then-end-size
+returns-then-end-size c = let found = c.next_front-end.ensures.found c.if-end-size.true in (
+  record {
+    passes = or_left _ _ found.1;
+    low = found.0;
+    least = λ m low high. c.loop-k.invariant m low (omega (arith, high)) high;
+  },
+  c.if-end-size.true,
+)
+
+pub returns-else-end-size : goal.returns-else-end-size
+returns-else-end-size c = λ k low high. c.loop-k.invariant k low (omega (arith, high)) (omega (arith, high))
