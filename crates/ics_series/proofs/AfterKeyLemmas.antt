@@ -60,8 +60,8 @@ since-none after uid e = λ o u r low high.
     ap (λ a. is_after a o) e ∙ grind (arith, ints)
 
 -- where those come that begin at the key's start
-pub since-start : (after : Option Rank) (key : Rank) (uid : List ℕ) (t : ℤ) → after ≡ Some key → turned key uid ≡ Greater → t ≡ key.start → IsSince after uid t
-since-start after key uid t k g e = λ o u r low high.
+pub since-start : {after : Option Rank} {key : Rank} (uid : List ℕ) {t : ℤ} → after ≡ Some key → turned key uid ≡ Greater → t ≡ key.start → IsSince after uid t
+since-start {key = key} uid k g e = λ o u r low high.
     ap (λ a. is_after a o) k
     ∙ (by-start key.start o.start (int_cmp key.start o.start) (rest key o) (int_ranks key.start o.start) (λ s. rest-turned key uid o u r s
     ∙ ap ordering_reverse g)
@@ -74,9 +74,9 @@ saturated (negsuc zero) t x e f h = (λ l. grind (arith, ints), λ l. grind (ari
 saturated (negsuc (suc n)) t x e f h = (λ l. grind (arith, ints), λ l. grind (arith, ints))
 
 -- where they do not
-pub since-next : (after : Option Rank) (key : Rank) (uid : List ℕ) (t : ℤ) → after ≡ Some key → (turned key uid ≡ Greater → ⊥) →
+pub since-next : {after : Option Rank} {key : Rank} (uid : List ℕ) {t : ℤ} → after ≡ Some key → (turned key uid ≡ Greater → ⊥) →
     t ≡ saturate_signed w64 (key.start +ℤ pos 1) → SFits w64 key.start → IsSince after uid t
-since-next after key uid t a n e f = λ o u r low high.
+since-next {key = key} uid {t = t} a n e f = λ o u r low high.
     let k = saturated key.start t o.start e f (omega (arith, ints, high)) in
     ap (λ a. is_after a o) a
     ∙ by-next key.start o.start t (int_cmp key.start o.start) (rest key o) (int_ranks key.start o.start) (λ s. ap is_lt (rest-turned key uid o u r s)

@@ -47,7 +47,7 @@ module _ (files : List FileSaid) (display : Clock) (near : (t : ℤ) → IsNear 
   of-day : (day : ℤ) (n : Window) → IsNearDay w day n → (xs : List Entry) → IsListing entry_cmp (IsListed files display n) xs
       → IsListing on_day_cmp (IsUnder files display w day) (today display w day xs)
   of-day day n h xs l =
-      today-listing files display near w day (IsListed files display n) (IsUnder files display w day) xs l
+      today-listing files display near w day (IsUnder files display w day) l
       (λ o p t. (today-shown files display near w day o p.0 t, refl))
       (λ p q. (
         q.1,
@@ -56,11 +56,11 @@ module _ (files : List FileSaid) (display : Clock) (near : (t : ℤ) → IsNear 
       ))
 
   -- those of later days begin with those of the next
-  next-day : (day next : ℤ) → next ≡ day +ℤ pos 1 → (today-list later-list : List OnDay) → IsListing on_day_cmp (IsUnder files display w next) today-list →
+  next-day : {day next : ℤ} {today-list later-list : List OnDay} → next ≡ day +ℤ pos 1 → IsListing on_day_cmp (IsUnder files display w next) today-list →
       IsListing on_day_cmp (IsLater files display w next) later-list
       → IsListing on_day_cmp (IsLater files display w day) (today-list ++ later-list)
-  next-day day next e xs ys h k =
-      joined on_day_cmp (IsUnder files display w next) (IsLater files display w next) (IsLater files display w day) xs ys h k
+  next-day {day = day} {next = next} e h k =
+      joined on_day_cmp (IsLater files display w day) h k
       (λ p q a b. let d = a.1 in let l = b.later in day-first p q (omega (arith, ints, d, l)))
       (λ p m. ⊎_elim (λ a. let d = a.1 in record { shown = a.0; later = omega (arith, ints, d, e) }) (λ b. let l = b.later in
       record { shown = b.shown; later = omega (arith, ints, l, e) }) m)
@@ -82,13 +82,13 @@ module _ (files : List FileSaid) (display : Clock) (near : (t : ℤ) → IsNear 
       (λ p s. let m = s.later in (record { shown = s.shown; later = omega (arith, ints, m, e) }, true_int_lt next p.day m))
 
   -- The next day: where nothing is to come under the day, that day's come next.
-  pub ahead-turned : (day next : ℤ) → next ≡ day +ℤ pos 1 → (n : Window) → IsNearDay w next n → (none coming : List Entry) → none ≡ [] →
+  pub ahead-turned : {day next : ℤ} {n : Window} {none coming : List Entry} {list : List OnDay} → next ≡ day +ℤ pos 1 → IsNearDay w next n → none ≡ [] →
       IsListing entry_cmp (IsListed files display n) coming
-      → (list : List OnDay) → IsAheadOf files display w day none list → IsAheadOf files display w next coming list
-  ahead-turned day next e n h none coming empty l list a =
+      → IsAheadOf files display w day none list → IsAheadOf files display w next coming list
+  ahead-turned {day = day} {next = next} {n = n} {coming = coming} e h empty l a =
       let later = filter (λ p. int_lt next p.day) a.later in
       let behind = later-behind day next e a.later a.listing in
-      let whole = next-day day next e (today display w next coming) later (of-day next n h coming l) behind in
+      let whole = next-day e (of-day next n h coming l) behind in
       let same : a.later ≡ today display w next coming ++ later =
       one-listing on_day_cmp on_day_total (IsLater files display w day) a.later (today display w next coming ++ later) a.listing whole in
       record {
@@ -113,7 +113,7 @@ module _ (files : List FileSaid) (display : Clock) (near : (t : ℤ) → IsNear 
   own-day : (day : ℤ) → (xs : List Entry) → IsListing entry_cmp (IsListed files display w) xs →
       IsListing on_day_cmp (IsUnder files display w day) (today display w day xs)
   own-day day xs l =
-      today-listing files display near w day (IsListed files display w) (IsUnder files display w day) xs l
+      today-listing files display near w day (IsUnder files display w day) l
       (λ o p t. (today-shown files display near w day o p.0 t, refl))
       (λ p q. (q.1, q.0.listed, subst (λ d. is_today display w d p.entry ≡ true) q.1 (shown-today files display near w p q.0)))
 
@@ -123,8 +123,7 @@ module _ (files : List FileSaid) (display : Clock) (near : (t : ℤ) → IsNear 
   some-later xs l (suc n) day h =
       let rest = some-later xs l n (day +ℤ pos 1) (omega (arith, ints, h)) in (
         today display w (day +ℤ pos 1) xs ++ rest.0,
-        next-day day (day +ℤ pos 1) refl (today display w (day +ℤ pos 1) xs) rest.0 (own-day (day +ℤ pos 1) xs l)
-            rest.1,
+        next-day refl (own-day (day +ℤ pos 1) xs l) rest.1,
       )
 
   -- as many days on as there are
@@ -156,7 +155,7 @@ module _ (files : List FileSaid) (display : Clock) (near : (t : ℤ) → IsNear 
     begun-listing : (n : Window) → IsNearDay w day n → (coming : List Entry) → IsListing entry_cmp (IsToCome files display n key) coming
         → IsListing on_day_cmp IsBegun (today display w day coming)
     begun-listing n near-day coming l =
-        today-listing files display near w day (IsToCome files display n key) IsBegun coming l
+        today-listing files display near w day IsBegun l
         (λ o p t. ((today-shown files display near w day o (come-listed files display n key o p).0 t, refl), after-come n key o p))
         (λ p q. (
           q.0.1,
@@ -218,7 +217,7 @@ module _ (files : List FileSaid) (display : Clock) (near : (t : ℤ) → IsNear 
         let all = all-shown xs l in
         let later = later-than xs l day in
         let after-key = listing-filter (λ p. is_day_after after p) on_day_cmp (IsOnDay files display w) IsCome all.0 all.1 (λ p s t. (s, t)) (λ p c. c) in
-        let begun = joined on_day_cmp IsBegun (IsLater files display w day) IsCome (today display w day coming) later.0 come later.1
+        let begun = joined on_day_cmp IsCome come later.1
         (λ p q a b. let d = a.0.1 in let m = b.later in day-first p q (omega (arith, ints, d, m))) begun-come come-begun in (
           all.0,
           all.1,

@@ -30,18 +30,18 @@ module _ {A : Type 0} (R : A → A → Ordering) (o : IsTotalOrder R) where
   cut-before x (y ∷ ys) h = ap (λ c. by_order c (y ∷ ys) ys (y ∷ ys)) h.0
 
   -- x, of e's key, goes to the front where e would
-  put-by_order : (e x y : A) (ys : List A) (c : Ordering) → R e y ≡ c → R x y ≡ c → IsBefore R e (by_order c (y ∷ ys) ys (y ∷ ys))
-      → by_order c (x ∷ y ∷ ys) (x ∷ ys) (y ∷ put R x ys) ≡ x ∷ by_order c (y ∷ ys) ys (y ∷ ys)
-  put-by_order e x y ys Less p q h = refl
-  put-by_order e x y ys Equal p q h = refl
-  put-by_order e x y ys Greater p q h = let l = h.0 in cc
-
   pub put-front : (e x : A) (ys : List A) → R e x ≡ Equal → IsBefore R e (cut R e ys) → put R x ys ≡ x ∷ cut R e ys
   put-front e x [] t h = refl
   put-front e x (y ∷ ys) t h =
       let same : R x y ≡ R e y = sym (o.congr e x y t) in
       ap (λ c. by_order c (x ∷ y ∷ ys) (x ∷ ys) (y ∷ put R x ys)) same
-      ∙ put-by_order e x y ys (R e y) refl same h
+      ∙ by (R e y) refl same h
+    where
+      by : (c : Ordering) → R e y ≡ c → R x y ≡ c → IsBefore R e (by_order c (y ∷ ys) ys (y ∷ ys))
+          → by_order c (x ∷ y ∷ ys) (x ∷ ys) (y ∷ put R x ys) ≡ x ∷ by_order c (y ∷ ys) ys (y ∷ ys)
+      by Less p q h = refl
+      by Equal p q h = refl
+      by Greater p q h = let l = h.0 in cc
 
   -- what comes before both lists stands at the front of their union
   pub union-front : (e : A) (xs ys : List A) → IsBefore R e xs → union R xs (e ∷ ys) ≡ e ∷ union R xs ys
@@ -50,36 +50,34 @@ module _ {A : Type 0} (R : A → A → Ordering) (o : IsTotalOrder R) where
       ap (put R x) (union-front e xs ys h.1)
       ∙ ap (λ c. by_order c (x ∷ e ∷ union R xs ys) (x ∷ union R xs ys) (e ∷ put R x (union R xs ys))) (over e x h.0)
 
-  cut-union-by : (e : A) (xs : List A) (y : A) (ys : List A) (c : Ordering) → R e y ≡ c → IsBefore R e xs → IsBefore R e (by_order c (y ∷ ys) ys (y ∷ ys))
-      → cut R e (union R xs (y ∷ ys)) ≡ union R xs (by_order c (y ∷ ys) ys (y ∷ ys))
-  cut-union-by e xs y ys Less p h k = cut-before e (union R xs (y ∷ ys)) (before-union e xs (y ∷ ys) h k)
-  cut-union-by e xs y ys Equal p h k =
-      ap (cut R e) (union-front y xs ys (before-tied R o y e xs (o.antisymm y e ∙ ap ordering_reverse p) h))
-      ∙ ap (λ c. by_order c (y ∷ union R xs ys) (union R xs ys) (y ∷ union R xs ys)) p
-  cut-union-by e xs y ys Greater p h k = let l = k.0 in cc
-
   pub cut-union : (e : A) (xs ys : List A) → IsBefore R e xs → IsBefore R e (cut R e ys) → cut R e (union R xs ys) ≡ union R xs (cut R e ys)
   cut-union e xs [] h k = cut-before e (union R xs []) (before-union e xs [] h tt)
-  cut-union e xs (y ∷ ys) h k = cut-union-by e xs y ys (R e y) refl h k
+  cut-union e xs (y ∷ ys) h k = by (R e y) refl k
+    where
+      by : (c : Ordering) → R e y ≡ c → IsBefore R e (by_order c (y ∷ ys) ys (y ∷ ys)) → cut R e (union R xs (y ∷ ys)) ≡ union R xs (by_order c (y ∷ ys) ys (y ∷ ys))
+      by Less p k = cut-before e (union R xs (y ∷ ys)) (before-union e xs (y ∷ ys) h k)
+      by Equal p k =
+          ap (cut R e) (union-front y xs ys (before-tied R o y e xs (o.antisymm y e ∙ ap ordering_reverse p) h))
+          ∙ ap (λ c. by_order c (y ∷ union R xs ys) (union R xs ys) (y ∷ union R xs ys)) p
+      by Greater p k = let l = k.0 in cc
 
   pub front-union : (e : A) (xs ys : List A) → IsBefore R e xs → IsBefore R e (cut R e ys) → IsBefore R e (cut R e (union R xs ys))
   front-union e xs ys h k = subst (IsBefore R e) (sym (cut-union e xs ys h k)) (before-union e xs (cut R e ys) h k)
 
   -- the same, where e's key may stand at the front of the first list too
-  union-both-by : (e x : A) (xs ys : List A) (c : Ordering) → R e x ≡ c → IsBefore R e (by_order c (x ∷ xs) xs (x ∷ xs)) → Rises R (x ∷ xs) →
-      IsBefore R e (cut R e ys)
-      → cut R e (put R x (union R xs ys)) ≡ union R (by_order c (x ∷ xs) xs (x ∷ xs)) (cut R e ys)
-  union-both-by e x xs ys Less p h r k = cut-union e (x ∷ xs) ys h k
-  union-both-by e x xs ys Equal p h r k =
-      ap (cut R e) (put-front e x (union R xs ys) p (front-union e xs ys h k))
-      ∙ (ap (λ c. by_order c (x ∷ cut R e (union R xs ys)) (cut R e (union R xs ys)) (x ∷ cut R e (union R xs ys))) p
-      ∙ cut-union e xs ys h k)
-  union-both-by e x xs ys Greater p h r k = let l = h.0 in cc
-
   pub cut-union-both : (e : A) (xs ys : List A) → IsBefore R e (cut R e xs) → Rises R xs → IsBefore R e (cut R e ys)
       → cut R e (union R xs ys) ≡ union R (cut R e xs) (cut R e ys)
   cut-union-both e [] ys h r k = refl
-  cut-union-both e (x ∷ xs) ys h r k = union-both-by e x xs ys (R e x) refl h r k
+  cut-union-both e (x ∷ xs) ys h r k = by (R e x) refl h
+    where
+      by : (c : Ordering) → R e x ≡ c → IsBefore R e (by_order c (x ∷ xs) xs (x ∷ xs))
+          → cut R e (put R x (union R xs ys)) ≡ union R (by_order c (x ∷ xs) xs (x ∷ xs)) (cut R e ys)
+      by Less p h = cut-union e (x ∷ xs) ys h k
+      by Equal p h =
+          ap (cut R e) (put-front e x (union R xs ys) p (front-union e xs ys h k))
+          ∙ (ap (λ c. by_order c (x ∷ cut R e (union R xs ys)) (cut R e (union R xs ys)) (x ∷ cut R e (union R xs ys))) p
+          ∙ cut-union e xs ys h k)
+      by Greater p h = let l = h.0 in cc
 
   pub front-merged : (e : A) (xss : List (List A)) → AllFront R e xss → AllRise R xss → IsBefore R e (cut R e (merged R xss))
   front-merged e [] h r = tt
@@ -93,18 +91,18 @@ module _ {A : Type 0} (R : A → A → Ordering) (o : IsTotalOrder R) where
       cut-union-both e xs (merged R xss) h.0 r.0 (front-merged e xss h.1 r.1) ∙ ap (union R (cut R e xs)) (cut-merged e xss h.1 r.1)
 
   -- from y to x, where x does not come after y
-  front-lower-by : (x y z : A) (zs : List A) (c : Ordering) → R y z ≡ c → R x y ≡ Less → IsBefore R y (by_order c (z ∷ zs) zs (z ∷ zs)) → IsBefore R x (z ∷ zs)
-  front-lower-by x y z zs Less p l h = before-trans R o x y (z ∷ zs) l h
-  front-lower-by x y z zs Equal p l h =
-      let tied : R z y ≡ Equal = o.antisymm z y ∙ ap ordering_reverse p in
-      let turned : R z x ≡ R y x = o.congr z y x tied in
-      let later : R z x ≡ Greater = turned ∙ over x y l in
-      (back R o z x later, before-trans R o x y zs l h)
-  front-lower-by x y z zs Greater p l h = let q = h.0 in cc
-
   before-front : (x y : A) (zs : List A) → R x y ≡ Less → IsBefore R y (cut R y zs) → IsBefore R x zs
   before-front x y [] l h = tt
-  before-front x y (z ∷ zs) l h = front-lower-by x y z zs (R y z) refl l h
+  before-front x y (z ∷ zs) l h = by (R y z) refl h
+    where
+      by : (c : Ordering) → R y z ≡ c → IsBefore R y (by_order c (z ∷ zs) zs (z ∷ zs)) → IsBefore R x (z ∷ zs)
+      by Less p h = before-trans R o x y (z ∷ zs) l h
+      by Equal p h =
+          let tied : R z y ≡ Equal = o.antisymm z y ∙ ap ordering_reverse p in
+          let turned : R z x ≡ R y x = o.congr z y x tied in
+          let later : R z x ≡ Greater = turned ∙ over x y l in
+          (back R o z x later, before-trans R o x y zs l h)
+      by Greater p h = let q = h.0 in cc
 
   -- what the merge begins with, and what it leaves
   pub record Begins (e : A) (xss : List (List A)) : Type 0 where
@@ -141,16 +139,16 @@ module _ {A : Type 0} (R : A → A → Ordering) (o : IsTotalOrder R) where
   all_front e (xs ∷ xss) h = (h 0, all_front e xss (λ i. h (suc i)))
 
   -- e stands at the front of a list, before all of each list in front of that one, and after nothing of those behind it
-  pub begins-at : (e : A) (xss : List (List A)) (place : ℕ) (xs : List A) → AllRise R xss → get_or xss place [] ≡ e ∷ xs
+  pub begins-at : {e : A} {xs : List A} (xss : List (List A)) (place : ℕ) → AllRise R xss → get_or xss place [] ≡ e ∷ xs
       → ((i : ℕ) → i < place → IsBefore R e (get_or xss i []))
       → ((i : ℕ) → place < i → IsBefore R e (cut R e (get_or xss i []))) → Begins e xss
-  begins-at e [] place xs r is before after = cc
-  begins-at e (ys ∷ yss) zero xs r is before after =
+  begins-at [] place r is before after = cc
+  begins-at {e = e} {xs = xs} (ys ∷ yss) zero r is before after =
       subst (λ (zs : List A). Begins e (zs ∷ yss)) (sym is)
       (begins-here e xs yss (subst (Rises R) is r.0) (all_front e yss (λ i. after (suc i) (omega arith))) r.1)
-  begins-at e (ys ∷ yss) (suc place) xs r is before after =
+  begins-at {e = e} (ys ∷ yss) (suc place) r is before after =
       begins-later e ys yss (before 0 (omega arith))
-      (begins-at e yss place xs r.1 is (λ i l. before (suc i) (omega arith)) (λ i l. after (suc i) (omega arith)))
+      (begins-at yss place r.1 is (λ i l. before (suc i) (omega arith)) (λ i l. after (suc i) (omega arith)))
 
   pub front-at : (x : A) (xss : List (List A)) (i : ℕ) → AllFront R x xss → IsBefore R x (cut R x (get_or xss i []))
   front-at x [] i h = tt

@@ -135,12 +135,12 @@ module _ (s : Scope) (day : ℤ) (looked : ℕ) (before : IsLookedBefore s day l
       (sides day (last_near s.window))
 
 -- The first of what is to come stands under the day or a later one.
-pub first-day : (w : Window) (day : ℤ) (xs : List Entry) (later list : List OnDay) → list ≡ map (on_day day) xs ++ later
+pub first-day : (w : Window) {day : ℤ} (xs : List Entry) (later : List OnDay) {list : List OnDay} → list ≡ map (on_day day) xs ++ later
     → ((p : OnDay) → IsIn p later → day <ℤ p.day)
     → day ≤ℤ last_near w → day ≤ℤ first_under w list
-first-day w day (x ∷ xs) later list e h l = subst (λ (ps : List OnDay). day ≤ℤ first_under w ps) (sym e) (omega (arith, ints))
-first-day w day [] [] list e h l = subst (λ (ps : List OnDay). day ≤ℤ first_under w ps) (sym e) l
-first-day w day [] (p ∷ later) list e h l =
+first-day w {day = day} (x ∷ xs) later e h l = subst (λ (ps : List OnDay). day ≤ℤ first_under w ps) (sym e) (omega (arith, ints))
+first-day w {day = day} [] [] e h l = subst (λ (ps : List OnDay). day ≤ℤ first_under w ps) (sym e) l
+first-day w {day = day} [] (p ∷ later) e h l =
     let less = h p (inl refl) in
     subst (λ (ps : List OnDay). day ≤ℤ first_under w ps) (sym e) (omega (arith, ints, less))
 
@@ -150,10 +150,10 @@ pub from-start : (after : Option DayRank) (day : ℤ) (key : Option Rank) → Is
 from-start None day key h since f = tt
 from-start (Some a) day key h since f = λ e. subst (λ k. IsFrom k since) (h.1 e) f
 
-pub from-later : (w : Window) (after : Option (ℤ × ℤ)) (day next : ℤ) → begin_day w after ≤ℤ day → next ≡ day +ℤ pos 1 → (since : ℤ)
+pub from-later : (w : Window) (after : Option (ℤ × ℤ)) {day next : ℤ} → begin_day w after ≤ℤ day → next ≡ day +ℤ pos 1 → (since : ℤ)
     → IsFromStart after next since
-from-later w None day next low e since = tt
-from-later w (Some a) day next low e since = λ same. absurd (omega (arith, ints, low, e, same))
+from-later w None low e since = tt
+from-later w (Some a) low e since = λ same. absurd (omega (arith, ints, low, e, same))
 
 pub begun-by : (w : Window) (after : Option DayRank) (day : ℤ) (key : Option Rank) → IsBehindKey after day key → first_near w ≤ℤ day
     → begin_day w (option_map day_and_start after) ≤ℤ day
@@ -161,8 +161,8 @@ begun-by w None day key h low = low
 begun-by w (Some a) day key h low = h.0
 
 -- the masters of the first day's agenda
-pub first-masters : (s : Scope) (day : ℤ) (key : Option Rank) (coming : List Entry) (sources : List Source)
+pub first-masters : (s : Scope) {day : ℤ} {key : Option Rank} {coming : List Entry} {sources : List Source}
     → ((since : ℤ) → IsFrom key since → IsFromStart s.after day since)
     → IsNearAgenda s.files s.display s.window day key coming sources ⊎ IsPastAgenda s.window day coming sources → AreDayMasters s day sources
-first-masters s day key coming sources from (inl a) = searched-masters s day a.window key a.near from (recurring sources) a.are.each
-first-masters s day key coming sources from (inr a) = subst (λ (xs : List Source). AreDayMasters s day xs) (sym a.no_source) tt
+first-masters s {key = key} {sources = sources} from (inl a) = searched-masters s key a.near from (recurring sources) a.are.each
+first-masters s {day = day} from (inr a) = subst (λ (xs : List Source). AreDayMasters s day xs) (sym a.no_source) tt

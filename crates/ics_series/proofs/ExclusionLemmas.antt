@@ -72,10 +72,10 @@ later-false zones w time t early past =
     unequal a b l = grind (arith, ints)
 
 -- the instant of a time takes out the start there, or lies past the window
-pub pushed-instant : (zones : FileZones) (w : Window) (clock : Clock) (instants new days : List ℤ) (time : Time) (t : ℤ) → t <ℤ w.to →
+pub pushed-instant : (zones : FileZones) (w : Window) (clock : Clock) (instants days : List ℤ) {new : List ℤ} (time : Time) {t : ℤ} → t <ℤ w.to →
     new ≡ with_instant (not (is_past w time)) instants (instant (clocks_in zones) time)
     → takes_out clock new days t ≡ (takes_out clock instants days t || int_eq (instant (clocks_in zones) time) t)
-pushed-instant zones w clock instants new days time t early e =
+pushed-instant zones w clock instants days time {t = t} early e =
     ap (λ xs. takes_out clock xs days t) e
     ∙ pushed-by clock instants days (instant (clocks_in zones) time) t (is_past w time) (later-false zones w time t early)
 
@@ -95,8 +95,8 @@ excludes-instant clocks first exdate (Utc local) t h k = excludes-time clocks fi
 excludes-instant clocks first exdate (Zoned local) t h k = excludes-time clocks first exdate exdate.stamp t k
 
 -- a sort takes nothing out and adds nothing
-pub sorted-takes_out : (clock : Clock) (instants days sorted rising : List ℤ) (t : ℤ) → IsPermutation instants sorted → IsPermutation days rising →
+pub sorted-takes_out : (clock : Clock) {instants days sorted rising : List ℤ} (t : ℤ) → IsPermutation instants sorted → IsPermutation days rising →
     takes_out clock sorted rising t ≡ takes_out clock instants days t
-sorted-takes_out clock instants days sorted rising t p q =
+sorted-takes_out clock {instants = instants} {days = days} {sorted = sorted} {rising = rising} t p q =
     ap (λ b. b || is_day_in clock rising t) (sym (list_any-IsPermutation (λ x. int_eq x t) instants sorted p))
     ∙ ap (λ b. list_any (λ x. int_eq x t) instants || b) (sym (list_any-IsPermutation _ days rising q))

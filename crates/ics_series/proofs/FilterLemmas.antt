@@ -7,23 +7,22 @@ use Rattle.ics_series.specs.Listing.{IsIn, IsListing}
 use Rattle.ics_series.specs.Rising.{IsBefore, Rises}
 
 module _ {A : Type 0} (test : A → Bool) where
-  filter-in-by : (x y : A) (ys : List A) (b : Bool) → test y ≡ b → (IsIn x (filter test ys) → IsIn x ys × (test x ≡ true)) →
-      IsIn x (cond b (y ∷ filter test ys) (filter test ys)) → IsIn x (y ∷ ys) × (test x ≡ true)
-  filter-in-by x y ys true e ih m = ⊎_elim (λ s. (inl s, ap test s ∙ e)) (λ n. let k = ih n in (inr k.0, k.1)) m
-  filter-in-by x y ys false e ih m = let k = ih m in (inr k.0, k.1)
-
   filter-in : (x : A) (xs : List A) → IsIn x (filter test xs) → IsIn x xs × (test x ≡ true)
   filter-in x [] m = absurd m
-  filter-in x (y ∷ ys) m = filter-in-by x y ys (test y) refl (filter-in x ys) m
-
-  in-filter-by : (x y : A) (ys : List A) (b : Bool) → test y ≡ b → test x ≡ true → (IsIn x ys → IsIn x (filter test ys)) → IsIn x (y ∷ ys) →
-      IsIn x (cond b (y ∷ filter test ys) (filter test ys))
-  in-filter-by x y ys true e t ih m = ⊎_elim inl (λ n. inr (ih n)) m
-  in-filter-by x y ys false e t ih m = ⊎_elim (λ s. let f : false ≡ true = sym e ∙ (ap test (sym s) ∙ t) in absurd cc) ih m
+  filter-in x (y ∷ ys) m = by (test y) refl (filter-in x ys) m
+    where
+      by : (b : Bool) → test y ≡ b → (IsIn x (filter test ys) → IsIn x ys × (test x ≡ true)) → IsIn x (cond b (y ∷ filter test ys) (filter test ys)) →
+          IsIn x (y ∷ ys) × (test x ≡ true)
+      by true e ih m = ⊎_elim (λ s. (inl s, ap test s ∙ e)) (λ n. let k = ih n in (inr k.0, k.1)) m
+      by false e ih m = let k = ih m in (inr k.0, k.1)
 
   in-filter : (x : A) (xs : List A) → test x ≡ true → IsIn x xs → IsIn x (filter test xs)
   in-filter x [] t m = absurd m
-  in-filter x (y ∷ ys) t m = in-filter-by x y ys (test y) refl t (in-filter x ys t) m
+  in-filter x (y ∷ ys) t m = by (test y) refl (in-filter x ys t) m
+    where
+      by : (b : Bool) → test y ≡ b → (IsIn x ys → IsIn x (filter test ys)) → IsIn x (y ∷ ys) → IsIn x (cond b (y ∷ filter test ys) (filter test ys))
+      by true e ih m = ⊎_elim inl (λ n. inr (ih n)) m
+      by false e ih m = ⊎_elim (λ s. let f : false ≡ true = sym e ∙ (ap test (sym s) ∙ t) in absurd cc) ih m
 
   module _ (R : A → A → Ordering) where
     before-cond : (x y : A) (zs : List A) (b : Bool) → R x y ≡ Less → IsBefore R x zs → IsBefore R x (cond b (y ∷ zs) zs)

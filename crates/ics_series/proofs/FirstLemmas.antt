@@ -83,33 +83,34 @@ before-by x y (z ∷ zs) f h = (f z h.0, before-by x y zs f h.1)
 abbrev RisesAfter : Start → List Start → Type 0
 RisesAfter x zs = IsBefore moment_cmp x zs × Rises moment_cmp zs
 
-rises-step : (x y : Start) (zs : List Start) (b : Bool) → int_eq x.moment y.moment ≡ b → is_gt (moment_cmp x y) ≡ false → RisesAfter y zs →
-    RisesAfter x (cond b zs (y ∷ zs))
-rises-step x y zs true e g h =
-    let same = equal-true x.moment y.moment e in
-    (before-by x y zs (λ z l. ap (λ t. int_cmp t z.moment) same ∙ l) h.0, h.1)
-rises-step x y zs false e g h =
-    let less : moment_cmp x y ≡ Less = ⊎_elim (λ same. let t = true-equal x.moment y.moment same in
-    absurd cc) (λ l. l) (int-up-to x.moment y.moment (moment_cmp x y) refl g) in
-    ((less, before-by x y zs (λ z l. moment_total.trans x y z less l) h.0), h)
-
 rises-after : (x : Start) (xs : List Start) → IsUpTo moment_cmp x xs → Climbs moment_cmp xs → RisesAfter x (firsts_after (Some x.moment) xs)
 rises-after x [] u h = (tt, tt)
 rises-after x (y ∷ ys) u h =
-    rises-step x y (firsts_after (Some y.moment) ys) (int_eq x.moment y.moment) refl u.0 (rises-after y ys h.0 h.1)
+    by (int_eq x.moment y.moment) refl (rises-after y ys h.0 h.1)
+  where
+    by : (b : Bool) → int_eq x.moment y.moment ≡ b → RisesAfter y (firsts_after (Some y.moment) ys)
+        → RisesAfter x (cond b (firsts_after (Some y.moment) ys) (y ∷ firsts_after (Some y.moment) ys))
+    by true e h =
+        let same = equal-true x.moment y.moment e in
+        (before-by x y (firsts_after (Some y.moment) ys) (λ z l. ap (λ t. int_cmp t z.moment) same ∙ l) h.0, h.1)
+    by false e h =
+        let less : moment_cmp x y ≡ Less = ⊎_elim (λ same. let t = true-equal x.moment y.moment same in
+        absurd cc) (λ l. l) (int-up-to x.moment y.moment (moment_cmp x y) refl u.0) in
+        ((less, before-by x y (firsts_after (Some y.moment) ys) (λ z l. moment_total.trans x y z less l) h.0), h)
 
 rises-firsts : (xs : List Start) → Climbs moment_cmp xs → Rises moment_cmp (firsts_after None xs)
 rises-firsts [] h = tt
 rises-firsts (x ∷ xs) h = rises-after x xs h.0 h.1
 
 -- The members.
-firsts-in-by : (b : Bool) (s x : Start) (zs xs : List Start) → (IsIn s zs → IsIn s xs) → IsIn s (cond b zs (x ∷ zs)) → IsIn s (x ∷ xs)
-firsts-in-by true s x zs xs ih m = inr (ih m)
-firsts-in-by false s x zs xs ih m = ⊎_elim inl (λ n. inr (ih n)) m
-
 firsts-in : (last : Option ℤ) (s : Start) (xs : List Start) → IsIn s (firsts_after last xs) → IsIn s xs
 firsts-in last s [] m = m
-firsts-in last s (x ∷ xs) m = firsts-in-by (option_eq int_eq last (Some x.moment)) s x (firsts_after (Some x.moment) xs) xs (firsts-in (Some x.moment) s xs) m
+firsts-in last s (x ∷ xs) m = by (option_eq int_eq last (Some x.moment)) (firsts-in (Some x.moment) s xs) m
+  where
+    by : (b : Bool) → (IsIn s (firsts_after (Some x.moment) xs) → IsIn s xs)
+        → IsIn s (cond b (firsts_after (Some x.moment) xs) (x ∷ firsts_after (Some x.moment) xs)) → IsIn s (x ∷ xs)
+    by true ih m = inr (ih m)
+    by false ih m = ⊎_elim inl (λ n. inr (ih n)) m
 
 -- the list has a start at the same instant whose local is not later
 record HasFirst (zs : List Start) (x : Start) : Type 0 where
@@ -122,31 +123,31 @@ at-true : (last : Option ℤ) (t : ℤ) → option_eq int_eq last (Some t) ≡ t
 at-true None t e = let f : false ≡ true = e in absurd cc
 at-true (Some u) t e = ap Some (equal-true u t e)
 
-in-firsts-by : (last : Option ℤ) (x s : Start) (xs : List Start) (b : Bool) → option_eq int_eq last (Some x.moment) ≡ b → IsUpTo start_cmp x xs
-    → (IsIn s xs → (Some x.moment ≡ Some s.moment) ⊎ HasFirst (firsts_after (Some x.moment) xs) s)
-    → IsIn s (x ∷ xs) → (last ≡ Some s.moment) ⊎ HasFirst (cond b (firsts_after (Some x.moment) xs) (x ∷ firsts_after (Some x.moment) xs)) s
-in-firsts-by last x s xs true e u ih m =
-    let at = at-true last x.moment e in
-    ⊎_elim (λ same. inl (at ∙ ap (λ t. Some t.moment) (sym same)))
-    (λ n. ⊎_elim (λ f. inl (at ∙ f)) inr (ih n)) m
-in-firsts-by last x s xs false e u ih m =
-    ⊎_elim
-    (λ is. inr (record {
-      first = x;
-      stands = inl refl;
-      same = ap (λ t. t.moment) (sym is);
-      earlier = ap (λ t. is_gt (start_cmp x t)) is
-          ∙ ap is_gt (tied_itself start_total x);
-    }))
-    (λ n. ⊎_elim
-    (λ f. inr (record { first = x; stands = inl refl; same = some-same x.moment s.moment f; earlier = up-to-in start_cmp x s xs u n }))
-    (λ h. inr (record { first = h.first; stands = inr h.stands; same = h.same; earlier = h.earlier }))
-    (ih n))
-    m
-
 in-firsts : (last : Option ℤ) (s : Start) (xs : List Start) → Climbs start_cmp xs → IsIn s xs → (last ≡ Some s.moment) ⊎ HasFirst (firsts_after last xs) s
 in-firsts last s [] h m = absurd m
-in-firsts last s (x ∷ xs) h m = in-firsts-by last x s xs (option_eq int_eq last (Some x.moment)) refl h.0 (in-firsts (Some x.moment) s xs h.1) m
+in-firsts last s (x ∷ xs) h m = by (option_eq int_eq last (Some x.moment)) refl (in-firsts (Some x.moment) s xs h.1) m
+  where
+    by : (b : Bool) → option_eq int_eq last (Some x.moment) ≡ b
+        → (IsIn s xs → (Some x.moment ≡ Some s.moment) ⊎ HasFirst (firsts_after (Some x.moment) xs) s)
+        → IsIn s (x ∷ xs) → (last ≡ Some s.moment) ⊎ HasFirst (cond b (firsts_after (Some x.moment) xs) (x ∷ firsts_after (Some x.moment) xs)) s
+    by true e ih m =
+        let at = at-true last x.moment e in
+        ⊎_elim (λ same. inl (at ∙ ap (λ t. Some t.moment) (sym same)))
+        (λ n. ⊎_elim (λ f. inl (at ∙ f)) inr (ih n)) m
+    by false e ih m =
+        ⊎_elim
+        (λ is. inr (record {
+          first = x;
+          stands = inl refl;
+          same = ap (λ t. t.moment) (sym is);
+          earlier = ap (λ t. is_gt (start_cmp x t)) is
+              ∙ ap is_gt (tied_itself start_total x);
+        }))
+        (λ n. ⊎_elim
+        (λ f. inr (record { first = x; stands = inl refl; same = some-same x.moment s.moment f; earlier = up-to-in start_cmp x s xs h.0 n }))
+        (λ f. inr (record { first = f.first; stands = inr f.stands; same = f.same; earlier = f.earlier }))
+        (ih n))
+        m
 
 in-all-firsts : (s : Start) (xs : List Start) → Climbs start_cmp xs → IsIn s xs → HasFirst (firsts_after None xs) s
 in-all-firsts s xs h m = ⊎_elim (λ f. let g : None ≡ Some s.moment = f in absurd cc) (λ k. k) (in-firsts None s xs h m)

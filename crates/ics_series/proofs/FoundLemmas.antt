@@ -58,10 +58,10 @@ module _ {A B : Type 0} (f : A → B) (same : B → B → Bool) where
       ap (λ b. cond b (lasts same (map f xs)) (f x ∷ lasts same (map f xs))) (is_followed-map x xs)
       ∙ lasts-map-by x xs (is_followed (on f same) x xs) (lasts-map xs)
 
-pub found : (files : List FileSaid) (display : Clock) (vs ws last : List Version) → map seen vs ≡ map (label_of files display) (placed_in 0 files) →
+pub found : {files : List FileSaid} {display : Clock} {vs ws last : List Version} → map seen vs ≡ map (label_of files display) (placed_in 0 files) →
     IsPermutation vs ws → Climbs (on seen label_cmp) ws
     → map seen last ≡ lasts is_same (map seen ws) → AreChosen files display last
-found files display vs ws last e p s l =
+found {files = files} {display = display} {vs = vs} {ws = ws} e p s l =
     let moved = followed (label_of files display) (placed_in 0 files) (map seen vs) (map seen ws) e (IsPermutation-map seen vs ws p) in
     let xs = moved.0 in
     let climbs : Climbs (on (label_of files display) label_cmp) xs =

@@ -57,9 +57,9 @@ module _ {A B : Type 0} (f : A → B) where
   map-in x [] m = absurd m
   map-in x (y ∷ ys) m = ⊎_elim (λ e. inl (ap f e)) (λ n. inr (map-in x ys n)) m
 
-pub stands : (files : List FileSaid) (display : Clock) (versions : List Version) (i : ℕ) (d : Version) → AreChosen files display versions →
+pub stands : {files : List FileSaid} {display : Clock} {versions : List Version} (i : ℕ) (d : Version) → AreChosen files display versions →
     i < length versions → IsSome (event_at files (get_or versions i d).spot)
-stands files display versions i d h l =
+stands {files = files} {display = display} {versions = versions} i d h l =
     let there : IsIn (get_or versions i d) versions = in-contains (get_or versions i d) versions (Contains-get_or versions i d l) in
     let p = in-map (label_of files display) (seen (get_or versions i d)) h.chosen
     (subst (IsIn (seen (get_or versions i d))) h.are (map-in seen (get_or versions i d) versions there)) in

@@ -109,7 +109,7 @@ module _ (zones : FileZones) (day : ℤ) (far : IsFar day) where
             let kept = and_true {a = is_kept rule n} e in
             let within = and_true {a = lets_until rule n t} kept.1 in
             let in_calendar : IsDayNumber (local_numbered n).day = (omega (arith, ints), omega (arith, ints, l)) in
-            let time = kept-time event rule (local_numbered n) first has in_calendar (ap (is_kept rule) (number-numbered n) ∙ kept.0) in
+            let time = kept-time event (local_numbered n) first has in_calendar (ap (is_kept rule) (number-numbered n) ∙ kept.0) in
             let none = far-time (time_at event.start (local_numbered n)) time in
             let no : true ≡ false = sym within.1 ∙ none in absurd cc
 

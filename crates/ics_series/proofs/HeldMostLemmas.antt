@@ -139,9 +139,9 @@ module _ (zones : FileZones) (event : Event) (rule : Recurrence) (w : Window) wh
       few-starts (clocks_in zones) event calendar_end (is_raw (clocks_in zones) event rule (asked -ℤ pos 3)) starts r (λ s m. held-by asked s (are s m))
 
   -- and so no more than the event has in any five
-  pub held-in-days : (asked : ℤ) (starts : List Start) → recurrence_of event ≡ Some rule → neg_ℤ (pos 719_531) ≤ℤ asked → asked <ℤ pos 2_932_902
+  pub held-in-days : {asked : ℤ} (starts : List Start) → recurrence_of event ≡ Some rule → neg_ℤ (pos 719_531) ≤ℤ asked → asked <ℤ pos 2_932_902
       → Rises moment_cmp starts → AreHeld (clocks_in zones) event rule w asked starts → length starts ≤ most_in_days (clocks_in zones) event
-  held-in-days asked starts has low high r are =
+  held-in-days {asked = asked} starts has low high r are =
       let by = held-by-rule asked starts r are in
       let in_these = rule-most (clocks_in zones) event rule (asked -ℤ pos 3) has in
       let in_any = days-most (clocks_in zones) event (asked -ℤ pos 3) (omega (arith, ints, low)) (omega (arith, ints, high)) in

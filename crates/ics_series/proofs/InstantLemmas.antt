@@ -72,8 +72,8 @@ near-moved f near r l e = subst (λ m. IsNear (m -ℤ l)) (sym e) (near l)
 pub result_near : (display : Display) (r l : ℤ) → r ≡ moment_of (zone_of display) l → IsNear (r -ℤ l)
 result_near display = near-moved (moment_of (zone_of display)) (moment_near (zone_of display))
 
-pub moved : (f : ℤ → ℤ) (s r l m : ℤ) → s ≡ r → r ≡ f l → l ≡ m → s ≡ f m
-moved f s r l m a e h = a ∙ (e ∙ ap f h)
+pub moved : (f : ℤ → ℤ) {s r l m : ℤ} → s ≡ r → r ≡ f l → l ≡ m → s ≡ f m
+moved f a e h = a ∙ (e ∙ ap f h)
 
 late-written : (s : Stamp) → IsStampDay (stamp_day s) → neg_ℤ (pos 62_135_596_800) ≤ℤ stamp_seconds s
 late-written (Date day) h = omega (arith, ints, h.0)

@@ -28,11 +28,11 @@ module _ (files : List FileEvents) (display : Clock) where
       ap (clocks_of display) (sym (ap zones_of (slice_get-map said_by files number ∙ ap (option_map said_by) there)))
 
   -- the versions of one file more
-  pub labels-step : (number : ℕ) (file : FileEvents) (before after total : List Label) → slice_get files number ≡ Some file
+  pub labels-step : (number : ℕ) (file : FileEvents) (before : List Label) {after total : List Label} → slice_get files number ≡ Some file
       → after ≡ before ++ map (label_by (clocks_of display (map zone_said file.zones))) (placed_from number 0 file.events)
       → before ++ map (label_of said display) (placed_in number (map said_by (drop number files))) ≡ total
       → after ++ map (label_of said display) (placed_in (number + 1) (map said_by (drop (number + 1) files))) ≡ total
-  labels-step number file before after total there more whole =
+  labels-step number file before there more whole =
       let here = map (label_of said display) (placed_from number 0 file.events) in
       let rest = map (label_of said display) (placed_in (number + 1) (map said_by (drop (number + 1) files))) in
       let next : drop number files ≡ file ∷ drop (number + 1) files =

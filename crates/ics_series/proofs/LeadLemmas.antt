@@ -41,17 +41,16 @@ before-headed : (e : Entry) (k : Option Entry) (list : List Entry) → IsHeaded 
 before-headed e None list h l = subst (IsBefore entry_cmp e) (sym h) tt
 before-headed e (Some f) list h l = subst (IsBefore entry_cmp e) (sym h.1.0) (l, before-trans entry_cmp entry_total e f h.0 l h.1.1)
 
-behind-by : (e f : Entry) (rest : List Entry) (c : Ordering) → entry_cmp e f ≡ c → IsBefore entry_cmp f rest → is_gt c ≡ false
-    → IsBefore entry_cmp e (by_order c (f ∷ rest) rest (f ∷ rest))
-behind-by e f rest Less p h n = (p, before-trans entry_cmp entry_total e f rest p h)
-behind-by e f rest Equal p h n = before-tied entry_cmp entry_total e f rest p h
-behind-by e f rest Greater p h n = cc
-
 behind-headed : (e : Entry) (k : Option Entry) (list : List Entry) → IsHeaded k list → is_gt (head_cmp (Some e) k) ≡ false →
     IsBefore entry_cmp e (cut entry_cmp e list)
 behind-headed e None list h n = subst (λ l. IsBefore entry_cmp e (cut entry_cmp e l)) (sym h) tt
 behind-headed e (Some f) list h n =
-    subst (λ l. IsBefore entry_cmp e (cut entry_cmp e l)) (sym h.1.0) (behind-by e f h.0 (entry_cmp e f) refl h.1.1 n)
+    subst (λ l. IsBefore entry_cmp e (cut entry_cmp e l)) (sym h.1.0) (by (entry_cmp e f) refl n)
+  where
+    by : (c : Ordering) → entry_cmp e f ≡ c → is_gt c ≡ false → IsBefore entry_cmp e (by_order c (f ∷ h.0) h.0 (f ∷ h.0))
+    by Less p n = (p, before-trans entry_cmp entry_total e f h.0 p h.1.1)
+    by Equal p n = before-tied entry_cmp entry_total e f h.0 p h.1.1
+    by Greater p n = cc
 
 strictly : (c d : Ordering) → d ≡ Greater → is_gt (ordering_then c d) ≡ false → c ≡ Less
 strictly Less d e h = refl
@@ -135,7 +134,7 @@ module _ {X : Type 0} (head : X → Option Occurrence) (rest : X → List Entry)
         let heads : List (Option Entry) = map (λ x. option_map entry_of (head x)) xs in
         let lists : List (List Entry) = map (λ x. listed (head x) (rest x)) xs in
         let found : IsHeaded (Some e) (get_or lists first []) = subst (λ h. IsHeaded h (get_or lists first [])) is (headed xs first) in
-        begins-at entry_cmp entry_total e lists first found.0 (all_rise rises xs) found.1.0
+        begins-at entry_cmp entry_total lists first (all_rise rises xs) found.1.0
         (λ i l. at_lead i (IsBefore entry_cmp e) tt (λ within.
         before-headed e (get_or heads i None) (get_or lists i []) (headed xs i)
         (subst (λ h. head_cmp h (get_or heads i None) ≡ Less) is

@@ -27,11 +27,11 @@ all-pushed P [] x h p = (p, tt)
 all-pushed P (y ∷ ys) x h p = (h.0, all-pushed P ys x h.1 p)
 
 -- what each of a list gives, where one is set that gives the same as the old one
-pub flat-set : {X Y : Type 0} (f : X → List Y) (xs : List X) (i : ℕ) (old new : X) → old ≡ get_or xs i old → f new ≡ f old →
+pub flat-set : {X Y : Type 0} (f : X → List Y) (xs : List X) (i : ℕ) {old : X} (new : X) → old ≡ get_or xs i old → f new ≡ f old →
     flat_map f (set xs i new) ≡ flat_map f xs
-flat-set f [] i old new read e = refl
-flat-set f (x ∷ xs) zero old new read e = ap (λ ys. ys ++ flat_map f xs) (e ∙ ap f read)
-flat-set f (x ∷ xs) (suc i) old new read e = ap (λ ys. f x ++ ys) (flat-set f xs i old new read e)
+flat-set f [] i new read e = refl
+flat-set f (x ∷ xs) zero new read e = ap (λ ys. ys ++ flat_map f xs) (e ∙ ap f read)
+flat-set f (x ∷ xs) (suc i) new read e = ap (λ ys. f x ++ ys) (flat-set f xs i new read e)
 
 cut-in : (p o : Entry) (list : List Entry) → IsIn o (cut entry_cmp p list) → IsIn o list
 cut-in p o [] m = m

@@ -36,8 +36,8 @@ same-places p q h =
     let both = second-equal (nat_cmp p.file q.file) (nat_cmp p.place q.place) rest in
     (exact_unsigned p.file q.file both.0, exact_unsigned p.place q.place both.1)
 
-same-event : (files : List FileSaid) (p q : Placed) → IsPlaced files p → IsPlaced files q → p.file ≡ q.file → p.place ≡ q.place → p.event ≡ q.event
-same-event files p q h k e f =
+same-event : {files : List FileSaid} {p q : Placed} → IsPlaced files p → IsPlaced files q → p.file ≡ q.file → p.place ≡ q.place → p.event ≡ q.event
+same-event {files = files} {p = p} h k e f =
     let file : h.within.0 ≡ k.within.0 = some-same _ _ (sym h.within.1 ∙ (ap (slice_get files) e ∙ k.within.1)) in
     some-same _ _ (sym h.within.2 ∙ (ap (λ x. slice_get x.events p.place) file ∙ (ap (slice_get k.within.0.events) f ∙ k.within.2)))
 
@@ -48,13 +48,13 @@ make file place event = record { file = file; place = place; event = event }
 pub same-placed : (files : List FileSaid) (p q : Placed) → IsPlaced files p → IsPlaced files q → placed_cmp p q ≡ Equal → p ≡ q
 same-placed files p q h k e =
     let places = same-places p q e in
-    let event = same-event files p q h k places.0 places.1 in
+    let event = same-event h k places.0 places.1 in
     ap (λ f. make f p.place p.event) places.0 ∙ (ap (λ n. make q.file n p.event) places.1 ∙ ap (make q.file q.place) event)
 
 -- of a subject one version counts
-pub one-chosen : (files : List FileSaid) (display : Clock) (p q : Placed) → IsChosen files display p → IsChosen files display q →
+pub one-chosen : {files : List FileSaid} {display : Clock} {p q : Placed} → IsChosen files display p → IsChosen files display q →
     subject_of files display p ≡ subject_of files display q → p ≡ q
-one-chosen files display p q h k u =
+one-chosen {files = files} {p = p} {q = q} h k u =
     same-placed files p q h.placed k.placed
     (tied-by p q (placed_cmp p q) refl (h.greatest q k.placed (sym u)) (k.greatest p h.placed u))
 

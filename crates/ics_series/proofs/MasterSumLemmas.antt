@@ -127,11 +127,11 @@ day-masters s day [] h = tt
 day-masters s day (m ∷ ms) h = (record { by = h.0.by; is = h.0.is; same = h.0.searched.same }, day-masters s day ms h.1)
 
 -- those of a listing are searched in its window, from an instant on
-pub searched-masters : (s : Scope) (day : ℤ) (n : Window) (after : Option Rank) → IsNearDay s.window day n
+pub searched-masters : (s : Scope) {day : ℤ} {n : Window} (after : Option Rank) → IsNearDay s.window day n
     → ((since : ℤ) → IsFrom after since → IsFromStart s.after day since)
     → (ms : List Recurring) → AllByRecursion (IsMasterOf s.files s.display n after) ms → AllByRecursion (IsDayMaster s day) ms
-searched-masters s day n after near from [] h = tt
-searched-masters s day n after near from (m ∷ ms) h = (
+searched-masters s after near from [] h = tt
+searched-masters s {day = day} after near from (m ∷ ms) h = (
   record {
     by = h.0.by;
     is = h.0.is;
@@ -141,7 +141,7 @@ searched-masters s day n after near from (m ∷ ms) h = (
       from = from m.since h.0.since;
     };
   },
-  searched-masters s day n after near from ms h.1,
+  searched-masters s after near from ms h.1,
 )
 
 pub most-of-masters : (files : List FileSaid) (display : Clock) (w : Window) (after : Option Rank) (sources : List Source) (masters : List Placed) →

@@ -14,14 +14,14 @@ use Rattle.ics_series.proofs.MasterLemmas.{one-chosen, same-entry}
 abbrev sub : List ℕ → Option ℤ → SubjectSeen
 sub uid recurrence = record { uid = uid; recurrence = recurrence }
 
-one-of : (clocks : Clocks) (e : Event) (o q : Entry) → IsOf clocks e o → IsOf clocks e q → o.recurrence ≡ q.recurrence → o ≡ q
-one-of clocks e o q h k r =
+one-of : {clocks : Clocks} {e : Event} {o q : Entry} → IsOf clocks e o → IsOf clocks e q → o.recurrence ≡ q.recurrence → o ≡ q
+one-of {clocks = clocks} {e = e} {o = o} {q = q} h k r =
     let start : o.start ≡ q.start = sym h.recurrence ∙ (r ∙ k.recurrence) in
     let instance : IsInstance clocks e q.start o.finish = subst (λ t. IsInstance clocks e t o.finish) start h.lasts in
-    same-entry o q start (one-instance clocks e q.start o.finish q.finish instance k.lasts) r (h.event ∙ sym k.event)
+    same-entry o q start (one-instance instance k.lasts) r (h.event ∙ sym k.event)
 
-one-moved : (clocks : Clocks) (e : Event) (o q : Entry) → IsMoved clocks e o → IsMoved clocks e q → o.recurrence ≡ q.recurrence → o ≡ q
-one-moved clocks e o q h k r = same-entry o q (h.starts ∙ sym k.starts) (h.ends ∙ sym k.ends) r (h.event ∙ sym k.event)
+one-moved : {clocks : Clocks} {e : Event} {o q : Entry} → IsMoved clocks e o → IsMoved clocks e q → o.recurrence ≡ q.recurrence → o ≡ q
+one-moved {o = o} {q = q} h k r = same-entry o q (h.starts ∙ sym k.starts) (h.ends ∙ sym k.ends) r (h.event ∙ sym k.event)
 
 module _ (files : List FileSaid) (display : Clock) where
   -- the subject of a master, and of an override
@@ -31,25 +31,23 @@ module _ (files : List FileSaid) (display : Clock) where
   pub override-subject : (p : Placed) (t : ℤ) → IsOverride files display p t → subject_of files display p ≡ sub p.event.uid (Some t)
   override-subject p t h = ap (sub p.event.uid) h.of
 
-  same-uid : (o q : Entry) (d e : Event) → o.event ≡ d → q.event ≡ e → o.event.uid ≡ q.event.uid → d.uid ≡ e.uid
-  same-uid o q d e a b u = sym (ap (λ v. v.uid) a) ∙ (u ∙ ap (λ v. v.uid) b)
+  same-uid : (o q : Entry) {d e : Event} → o.event ≡ d → q.event ≡ e → o.event.uid ≡ q.event.uid → d.uid ≡ e.uid
+  same-uid o q a b u = sym (ap (λ v. v.uid) a) ∙ (u ∙ ap (λ v. v.uid) b)
 
   module _ (o q : Entry) (u : o.event.uid ≡ q.event.uid) (r : o.recurrence ≡ q.recurrence) where
     both-masters : IsOfMaster files display o → IsOfMaster files display q → o ≡ q
     both-masters h k =
-        let uid = same-uid o q h.master.event k.master.event h.of.event k.of.event u in
-        let one : h.master ≡ k.master = one-chosen files display h.master k.master h.is.chosen k.is.chosen
+        let uid = same-uid o q h.of.event k.of.event u in
+        let one : h.master ≡ k.master = one-chosen h.is.chosen k.is.chosen
         (master-subject h.master h.is ∙ (ap (λ x. sub x None) uid ∙ sym (master-subject k.master k.is))) in
-        one-of (clocks_at files display k.master.file) k.master.event o q (subst (λ (p : Placed). IsOf (clocks_at files display p.file) p.event o) one h.of)
-        k.of r
+        one-of (subst (λ (p : Placed). IsOf (clocks_at files display p.file) p.event o) one h.of) k.of r
 
     both-overrides : IsOfOverride files display o → IsOfOverride files display q → o ≡ q
     both-overrides h k =
-        let uid = same-uid o q h.override.event k.override.event h.of.event k.of.event u in
-        let one : h.override ≡ k.override = one-chosen files display h.override k.override h.is.chosen k.is.chosen
+        let uid = same-uid o q h.of.event k.of.event u in
+        let one : h.override ≡ k.override = one-chosen h.is.chosen k.is.chosen
         (override-subject h.override o.recurrence h.is ∙ ((λ i. sub (uid i) (Some (r i))) ∙ sym (override-subject k.override q.recurrence k.is))) in
-        one-moved (clocks_at files display k.override.file) k.override.event o q
-        (subst (λ (p : Placed). IsMoved (clocks_at files display p.file) p.event o) one h.of) k.of r
+        one-moved (subst (λ (p : Placed). IsMoved (clocks_at files display p.file) p.event o) one h.of) k.of r
 
     not-both : IsOfMaster files display o → IsOfOverride files display q → ⊥
     not-both h k = h.kept (record {

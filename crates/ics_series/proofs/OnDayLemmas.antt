@@ -41,9 +41,9 @@ module _ {A : Type 0} (R : A → A → Ordering) where
   rises-append [] ys h k f = k
   rises-append (x ∷ xs) ys h k f = (before-append x xs ys h.0 (λ y m. f x y (inl refl) m), rises-append xs ys h.1 k (λ z y m n. f z y (inr m) n))
 
-  pub joined : (P Q S : A → Type 0) (xs ys : List A) → IsListing R P xs → IsListing R Q ys → ((x y : A) → P x → Q y → R x y ≡ Less)
+  pub joined : {P Q : A → Type 0} (S : A → Type 0) {xs ys : List A} → IsListing R P xs → IsListing R Q ys → ((x y : A) → P x → Q y → R x y ≡ Less)
       → ((x : A) → P x ⊎ Q x → S x) → ((x : A) → S x → P x ⊎ Q x) → IsListing R S (xs ++ ys)
-  joined P Q S xs ys h k f to from = record {
+  joined S {xs = xs} {ys = ys} h k f to from = record {
     rises = rises-append xs ys h.rises k.rises (λ x y m n. f x y ((h.exact x).0 m) ((k.exact y).0 n));
     exact = λ x. (
       λ m. to x (⊎_elim (λ n. inl ((h.exact x).0 n)) (λ n. inr ((k.exact x).0 n)) (in-append x xs ys m)),
@@ -80,10 +80,10 @@ module _ (files : List FileSaid) (display : Clock) (near : (t : ℤ) → IsNear 
       let parts = and_parts (is_met w o) (is_on display w o day) t in
       record { listed = (occurs, is_met-meets w o parts.0); on = parts.1 }
 
-  pub today-listing : (day : ℤ) (P : Entry → Type 0) (Q : OnDay → Type 0) (xs : List Entry) → IsListing entry_cmp P xs
+  pub today-listing : (day : ℤ) {P : Entry → Type 0} (Q : OnDay → Type 0) {xs : List Entry} → IsListing entry_cmp P xs
       → ((o : Entry) → P o → is_today display w day o ≡ true → Q (on_day day o))
       → ((p : OnDay) → Q p → (p.day ≡ day) × P p.entry × (is_today display w day p.entry ≡ true)) → IsListing on_day_cmp Q (today display w day xs)
-  today-listing day P Q xs l f g =
+  today-listing day {P = P} Q {xs = xs} l f g =
       let kept = listing-filter (λ o. is_today display w day o) entry_cmp P (λ o. P o × (is_today display w day o ≡ true)) xs l (λ o p t. (p, t)) (λ o h. h) in
       record {
         rises = rises-under day (filter (λ o. is_today display w day o) xs) kept.rises;

@@ -94,17 +94,17 @@ module _ (uid : List ℕ) where
   master-less : (t : ℤ) → subject_cmp master (instance t) ≡ Less
   master-less t = ap (λ c. ordering_then c Less) (tied_itself nat_list_cmp_total uid)
 
-  named-behind : (t : ℤ) (vs : List Version) (i : ℕ) (x : Version) → Rises version_cmp vs → slice_get vs i ≡ Some x → subject_seen x.subject ≡ master →
+  named-behind : (t : ℤ) (vs : List Version) (i : ℕ) {x : Version} → Rises version_cmp vs → slice_get vs i ≡ Some x → subject_seen x.subject ≡ master →
       is_named (instance t) (map seen vs) ≡ is_named (instance t) (map seen (drop (suc i) vs))
-  named-behind t [] i x r e m = let f : None ≡ Some x = e in absurd cc
-  named-behind t (v ∷ vs) zero x r e m =
+  named-behind t [] i {x = x} r e m = let f : None ≡ Some x = e in absurd cc
+  named-behind t (v ∷ vs) zero {x = x} r e m =
       less-named t v (is_named (instance t) (map seen vs)) (ap (λ s. subject_cmp s (instance t)) (ap (λ (y : Version). subject_seen y.subject) (some-same v x e)
       ∙ m) ∙ master-less t)
-  named-behind t (v ∷ vs) (suc i) x r e m =
+  named-behind t (v ∷ vs) (suc i) {x = x} r e m =
       let less = before-there version_cmp v vs i x r.0 e in
       let above : subject_cmp (subject_seen x.subject) (instance t) ≡ Less = ap (λ s. subject_cmp s (instance t)) m ∙ master-less t in
       less-named t v (is_named (instance t) (map seen vs)) (subject_total.trans (subject_seen v.subject) (subject_seen x.subject) (instance t) less above)
-      ∙ named-behind t vs i x r.1 e m
+      ∙ named-behind t vs i r.1 e m
 
   -- Where they end.
   abbrev IsLater : SubjectSeen → Type 0
@@ -158,9 +158,9 @@ module _ (uid : List ℕ) where
           equal Greater e = let f : false ≡ true = e in cc
       by false e h = let f : None ≡ Some t = h in absurd cc
 
-  instances-rise : (v w : Version) (t u : ℤ) → instance_of uid (subject_seen v.subject) ≡ Some t → instance_of uid (subject_seen w.subject) ≡ Some u →
+  instances-rise : (v w : Version) {t u : ℤ} → instance_of uid (subject_seen v.subject) ≡ Some t → instance_of uid (subject_seen w.subject) ≡ Some u →
       version_cmp v w ≡ Less → int_cmp t u ≡ Less
-  instances-rise v w t u e f l =
+  instances-rise v w {t = t} {u = u} e f l =
       let a = own-uid (subject_seen v.subject) t e in
       let b = own-uid (subject_seen w.subject) u f in
       sym ((λ i. ordering_then (slice_cmp nat_cmp (a.0 i) (b.0 i)) (option_cmp int_cmp (a.1 i) (b.1 i)))
@@ -170,7 +170,7 @@ module _ (uid : List ℕ) where
   found-sorted vs r =
       rises-sorted int_cmp int_cmp_total (found vs)
       (rises-picked (λ v. instance_of uid (subject_seen v.subject)) version_cmp (on_total (λ v. subject_seen v.subject) subject_total) int_cmp (λ v. ⊤)
-      (λ x z y v p q e f l. instances-rise x z y v e f l) vs (λ x m. tt) r)
+      (λ x z y v p q e f l. instances-rise x z e f l) vs (λ x m. tt) r)
 
 -- The loop over the versions behind a master.
 pub found-step : (uid : List ℕ) (behind : List Version) (i : ℕ) (d : Version) (before : List ℤ) {after total : List ℤ} {t : ℤ} → i < length behind →
@@ -202,7 +202,7 @@ module _ (uid : List ℕ) (versions behind : List Version) (place : ℕ) (order 
   pub overridden-all : (instants : List ℤ) → instants ≡ found uid behind → AreOverridden uid (map seen versions) instants
   overridden-all instants e = λ t.
       ap (list_any (λ x. int_eq x t)) e ∙ (named-found uid t behind
-      ∙ (ap (λ vs. is_named (instance uid t) (map seen vs)) rest ∙ sym (named-behind uid t versions place own.0 order own.1 own.2)))
+      ∙ (ap (λ vs. is_named (instance uid t) (map seen vs)) rest ∙ sym (named-behind uid t versions place order own.1 own.2)))
 
   -- from the first of another UID on nothing is found
   pub found-stops : (i : ℕ) (d : Version) (instants : List ℤ) → i < length behind → instants ++ found uid (drop i behind) ≡ found uid behind →

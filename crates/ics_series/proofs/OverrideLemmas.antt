@@ -130,15 +130,14 @@ module _ (files : List FileSaid) (display : Clock) where
   abbrev HasNamed : SubjectSeen → List Placed → Type 0
   HasNamed s ps = (p : Placed) × IsIn p ps × (subject_of files display p ≡ s)
 
-  named-in-by : (s : SubjectSeen) (p : Placed) (ps : List Placed) (b : Bool) → is_eq (subject_cmp (subject_of files display p) s) ≡ b →
-      (is_named s (map (label_of files display) ps) ≡ true → HasNamed s ps)
-      → (b || is_named s (map (label_of files display) ps)) ≡ true → HasNamed s (p ∷ ps)
-  named-in-by s p ps true same ih h = (p, inl refl, exact-subject (subject_of files display p) s (eq-Equal (subject_cmp (subject_of files display p) s) same))
-  named-in-by s p ps false same ih h = let k = ih h in (k.0, inr k.1, k.2)
-
   named-in : (s : SubjectSeen) (ps : List Placed) → is_named s (map (label_of files display) ps) ≡ true → HasNamed s ps
   named-in s [] e = let f : false ≡ true = e in absurd cc
-  named-in s (p ∷ ps) e = named-in-by s p ps (is_eq (subject_cmp (subject_of files display p) s)) refl (named-in s ps) e
+  named-in s (p ∷ ps) e = by (is_eq (subject_cmp (subject_of files display p) s)) refl (named-in s ps) e
+    where
+      by : (b : Bool) → is_eq (subject_cmp (subject_of files display p) s) ≡ b → (is_named s (map (label_of files display) ps) ≡ true → HasNamed s ps)
+          → (b || is_named s (map (label_of files display) ps)) ≡ true → HasNamed s (p ∷ ps)
+      by true same ih h = (p, inl refl, exact-subject (subject_of files display p) s (eq-Equal (subject_cmp (subject_of files display p) s) same))
+      by false same ih h = let k = ih h in (k.0, inr k.1, k.2)
 
   in-named : (s : SubjectSeen) (ps : List Placed) (p : Placed) → IsIn p ps → subject_of files display p ≡ s →
       is_named s (map (label_of files display) ps) ≡ true

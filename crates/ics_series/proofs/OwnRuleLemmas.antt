@@ -30,9 +30,9 @@ module _ (zones : FileZones) (event : Event) (w : Window) where
   own-rule-same first (Some a) None same h = absurd same
 
   -- the instant and the starts as they are kept
-  pub own-rule-as : (kept since : ℤ) (listed all : List Start) (o : Option RuleStarts) → kept ≡ since → listed ≡ all
+  pub own-rule-as : {kept since : ℤ} {listed all : List Start} (o : Option RuleStarts) → kept ≡ since → listed ≡ all
       → HasOwnRule zones event w (first_asked (clocks_in zones) w event since listed) o →
       HasOwnRule zones event w (first_asked (clocks_in zones) w event kept all) o
-  own-rule-as kept since listed all o e f h =
+  own-rule-as {since = since} {all = all} o e f h =
       subst (λ t. HasOwnRule zones event w (first_asked (clocks_in zones) w event t all) o) (sym e)
       (subst (λ xs. HasOwnRule zones event w (first_asked (clocks_in zones) w event since xs) o) f h)

@@ -99,7 +99,7 @@ whole-parts {files = files} {display = display} {vs = vs} w chosen lists =
     (merged entry_cmp (singles.0 ∷ lists.0), parts-listing files display w None vs chosen singles.0 singles.1 lists.0 lists.1)
 
 -- and what comes is what of it stands after the key
-pub behind-key : (files : List FileSaid) (display : Clock) (w : Window) (after : Option Rank) (come : List Entry) →
+pub behind-key : (files : List FileSaid) (display : Clock) (w : Window) (after : Option Rank) {come : List Entry} →
     (list : List Entry) × IsListing entry_cmp (IsListed files display w) list → IsListing entry_cmp (IsToCome files display w after) come
     → (list : List Entry) × IsListing entry_cmp (IsListed files display w) list × (come ≡ after_key after list)
-behind-key files display w after come whole h = (whole.0, whole.1, listing-after_key files display w after whole.0 come whole.1 h)
+behind-key files display w after {come = come} whole h = (whole.0, whole.1, listing-after_key files display w after whole.0 come whole.1 h)

@@ -44,9 +44,9 @@ module _ (clocks : Clocks) (event : Event) (w : Window) (since : ℤ) (xs : List
   own-some e = let no : Of own ∷ xs ≡ [] = e in absurd cc
 
 -- what a feed gives is of its one master
-own-uid : (p : Part) (a : Entry) (m : Recurring) (xs ys : List Source) → part_sources p ++ xs ≡ Of m ∷ ys → IsIn a (part_coming p) → a.event ≡ m.event
-own-uid (Singles s) a m xs ys e n = let no : Once ∷ xs ≡ Of m ∷ ys = e in absurd cc
-own-uid (Series s) a m xs ys e n =
+own-uid : (p : Part) (a : Entry) {m : Recurring} (xs : List Source) {ys : List Source} → part_sources p ++ xs ≡ Of m ∷ ys → IsIn a (part_coming p) → a.event ≡ m.event
+own-uid (Singles s) a {m = m} xs {ys = ys} e n = let no : Once ∷ xs ≡ Of m ∷ ys = e in absurd cc
+own-uid (Series s) a {m = m} xs {ys = ys} e n =
     given-own (clocks_in s.value.zones) s.value.window s.value.event.now s.value.since s.value.overridden.items (series_left s.value) a n
     ∙ own-master (clocks_in s.value.zones) s.value.event.now s.value.window s.value.since xs m ys e
 
@@ -64,7 +64,7 @@ master-in : (ps : List Part) (ms : List Recurring) (i : ℕ) (a : Entry) → fla
     (m : Recurring) × (IsIn m ms × (a.event ≡ m.event))
 master-in [] ms i a e n = absurd n
 master-in (p ∷ ps) [] i a e n = absurd (no-source p (flat_map part_sources ps) e)
-master-in (p ∷ ps) (m ∷ ms) zero a e n = (m, (inl refl, (own-uid p a m (flat_map part_sources ps) (map Of ms) e n)))
+master-in (p ∷ ps) (m ∷ ms) zero a e n = (m, (inl refl, (own-uid p a (flat_map part_sources ps) e n)))
 master-in (p ∷ ps) (m ∷ ms) (suc i) a e n =
     let found = master-in ps ms i a (rest-sources p (Of m) (flat_map part_sources ps) (map Of ms) e) n in
     (found.0, (inr found.1.0, found.1.1))
@@ -96,16 +96,16 @@ by-place : (ps : List Part) (ms : List Recurring) (i j : ℕ) (a b : Entry) → 
 by-place [] ms i j a b e r n k = absurd n
 by-place (p ∷ ps) [] i j a b e r n k = absurd (no-source p (flat_map part_sources ps) e)
 by-place (p ∷ ps) (m ∷ ms) zero zero a b e r n k =
-    alike a b m (own-uid p a m (flat_map part_sources ps) (map Of ms) e n) (own-uid p b m (flat_map part_sources ps) (map Of ms) e k) ∙ sym (cmp-same 0)
+    alike a b m (own-uid p a (flat_map part_sources ps) e n) (own-uid p b (flat_map part_sources ps) e k) ∙ sym (cmp-same 0)
 by-place (p ∷ ps) (m ∷ ms) zero (suc j) a b e r n k =
     let later = master-in ps ms j b (rest-sources p (Of m) (flat_map part_sources ps) (map Of ms) e) k in
-    apart a b m later.0 (own-uid p a m (flat_map part_sources ps) (map Of ms) e n) later.1.1
+    apart a b m later.0 (own-uid p a (flat_map part_sources ps) e n) later.1.1
     (before-in uid_cmp (on_total (λ (r : Recurring). r.event.uid) nat_list_cmp_total) m later.0 ms r.0 later.1.0)
     ∙ sym (cmp-first j)
 by-place (p ∷ ps) (m ∷ ms) (suc i) zero a b e r n k =
     let later = master-in ps ms i a (rest-sources p (Of m) (flat_map part_sources ps) (map Of ms) e) n in
     nat_list_cmp_total.antisymm a.event.uid b.event.uid
-    ∙ (ap ordering_reverse (apart b a m later.0 (own-uid p b m (flat_map part_sources ps) (map Of ms) e k) later.1.1
+    ∙ (ap ordering_reverse (apart b a m later.0 (own-uid p b (flat_map part_sources ps) e k) later.1.1
     (before-in uid_cmp (on_total (λ (r : Recurring). r.event.uid) nat_list_cmp_total) m later.0 ms r.0 later.1.0))
     ∙ sym (cmp-behind i))
 by-place (p ∷ ps) (m ∷ ms) (suc i) (suc j) a b e r n k = by-place ps ms i j a b (rest-sources p (Of m) (flat_map part_sources ps) (map Of ms) e) r.1 n k

@@ -9,7 +9,6 @@ use Rattle.ics_rule.specs.EffectiveRules.{effective}
 use Rattle.ics_rule.specs.Kept.{count}
 use Rattle.ics_values.specs.Locals.{number, calendar_end}
 use Rattle.ics_rule.specs.Recurrence.{Recurrence}
-use Rattle.ics_rule.specs.declared.effective_rule.EffectiveRule.{EffectiveRule}
 use Rattle.ics_rule.proofs.Counts.{count-suc, count_mono}
 use Rattle.ics_rule.proofs.KeptLemmas.{and_true}
 
@@ -30,19 +29,20 @@ count-implied (suc n) p q f =
 le-down : (a b m : ℕ) → b ≤ a → nat_le a m ≡ true → nat_le b m ≡ true
 le-down a b m l e = grind (arith, nat_tests)
 
-met-within : (q : EffectiveRule) (start a b c d p : ℕ) → c ≤ a → b ≤ d → is_met q start a b p ≡ true → is_met q start c d p ≡ true
-met-within q start a b c d p low high met =
-    let parts = and_true {a = is_stepped (period_in q start) q.interval p} met in
-    let some = ltb-true 0 (count b (λ n. nat_le a n && period_in q n == p)) parts.1 in
-    let more = count_mono b d (λ n. nat_le a n && period_in q n == p) high in
-    let wide = count-implied d (λ n. nat_le a n && period_in q n == p) (λ n. nat_le c n && period_in q n == p)
-    (λ n e. let k = and_true {a = nat_le a n} e in and_from (nat_le c n) (period_in q n == p) (le-down a c n low k.0) k.1) in
-    and_from (is_stepped (period_in q start) q.interval p) (nat_lt 0 (count d (λ n. nat_le c n && period_in q n == p))) parts.0
-    (lt-ltb 0 (count d (λ n. nat_le c n && period_in q n == p)) (omega (arith, some, more, wide)))
-
 -- the periods that hold one of these locals are no more than those that hold one of more
 pub periods-within : (r : Recurrence) (a b c d : ℕ) → c ≤ a → b ≤ d → period_count r a b ≤ period_count r c d
 unfolding period_count
 periods-within r a b c d low high =
     count-implied calendar_end (is_met (effective r) (number r.start) a b) (is_met (effective r) (number r.start) c d)
-    (λ p. met-within (effective r) (number r.start) a b c d p low high)
+    met-within
+  where
+    met-within : (p : ℕ) → is_met (effective r) (number r.start) a b p ≡ true → is_met (effective r) (number r.start) c d p ≡ true
+    met-within p met =
+        let parts = and_true {a = is_stepped (period_in (effective r) (number r.start)) (effective r).interval p} met in
+        let some = ltb-true 0 (count b (λ n. nat_le a n && period_in (effective r) n == p)) parts.1 in
+        let more = count_mono b d (λ n. nat_le a n && period_in (effective r) n == p) high in
+        let wide = count-implied d (λ n. nat_le a n && period_in (effective r) n == p) (λ n. nat_le c n && period_in (effective r) n == p)
+        (λ n e. let k = and_true {a = nat_le a n} e in and_from (nat_le c n) (period_in (effective r) n == p) (le-down a c n low k.0) k.1) in
+        and_from (is_stepped (period_in (effective r) (number r.start)) (effective r).interval p)
+        (nat_lt 0 (count d (λ n. nat_le c n && period_in (effective r) n == p))) parts.0
+        (lt-ltb 0 (count d (λ n. nat_le c n && period_in (effective r) n == p)) (omega (arith, some, more, wide)))

@@ -14,24 +14,23 @@ filter_map-map f h [] = refl
 filter_map-map f h (x ∷ xs) = ap (cons_option (h (f x))) (filter_map-map f h xs)
 
 module _ {A B : Type 0} (h : A → Option B) where
-  picked-by : (y : B) (x : A) (xs : List A) (o : Option B) → h x ≡ o → (IsIn y (filter_map h xs) → (z : A) × IsIn z xs × (h z ≡ Some y)) →
-      IsIn y (cons_option o (filter_map h xs)) → (z : A) × IsIn z (x ∷ xs) × (h z ≡ Some y)
-  picked-by y x xs (Some v) e ih m = ⊎_elim (λ s. (x, inl refl, e ∙ ap Some (sym s))) (λ n. let k = ih n in (k.0, inr k.1, k.2)) m
-  picked-by y x xs None e ih m = let k = ih m in (k.0, inr k.1, k.2)
-
   -- what is picked is picked from one of the list
   picked : (y : B) (xs : List A) → IsIn y (filter_map h xs) → (x : A) × IsIn x xs × (h x ≡ Some y)
   picked y [] m = absurd m
-  picked y (x ∷ xs) m = picked-by y x xs (h x) refl (picked y xs) m
-
-  in-picked-by : (x z : A) (y : B) (xs : List A) (o : Option B) → h z ≡ o → h x ≡ Some y → (IsIn x xs → IsIn y (filter_map h xs)) → IsIn x (z ∷ xs) →
-      IsIn y (cons_option o (filter_map h xs))
-  in-picked-by x z y xs (Some v) e t ih m = ⊎_elim (λ s. inl (some-same y v (sym t ∙ (ap h s ∙ e)))) (λ n. inr (ih n)) m
-  in-picked-by x z y xs None e t ih m = ⊎_elim (λ s. let f : Some y ≡ None = sym t ∙ (ap h s ∙ e) in absurd cc) ih m
+  picked y (x ∷ xs) m = by (h x) refl (picked y xs) m
+    where
+      by : (o : Option B) → h x ≡ o → (IsIn y (filter_map h xs) → (z : A) × IsIn z xs × (h z ≡ Some y)) → IsIn y (cons_option o (filter_map h xs)) →
+          (z : A) × IsIn z (x ∷ xs) × (h z ≡ Some y)
+      by (Some v) e ih m = ⊎_elim (λ s. (x, inl refl, e ∙ ap Some (sym s))) (λ n. let k = ih n in (k.0, inr k.1, k.2)) m
+      by None e ih m = let k = ih m in (k.0, inr k.1, k.2)
 
   in-picked : (x : A) (y : B) (xs : List A) → h x ≡ Some y → IsIn x xs → IsIn y (filter_map h xs)
   in-picked x y [] t m = absurd m
-  in-picked x y (z ∷ xs) t m = in-picked-by x z y xs (h z) refl t (in-picked x y xs t) m
+  in-picked x y (z ∷ xs) t m = by (h z) refl (in-picked x y xs t) m
+    where
+      by : (o : Option B) → h z ≡ o → (IsIn x xs → IsIn y (filter_map h xs)) → IsIn x (z ∷ xs) → IsIn y (cons_option o (filter_map h xs))
+      by (Some v) e ih m = ⊎_elim (λ s. inl (some-same y v (sym t ∙ (ap h s ∙ e)))) (λ n. inr (ih n)) m
+      by None e ih m = ⊎_elim (λ s. let f : Some y ≡ None = sym t ∙ (ap h s ∙ e) in absurd cc) ih m
 
   -- R orders the list, and S so what is picked of it
   module _ (R : A → A → Ordering) (o : IsTotalOrder R) (S : B → B → Ordering) (P : A → Type 0) (keeps : (x z : A) (y v : B) → P x → P z → h x ≡ Some y →
@@ -40,15 +39,14 @@ module _ {A B : Type 0} (h : A → Option B) where
     before-all y [] f = tt
     before-all y (v ∷ vs) f = (f v (inl refl), before-all y vs (λ u m. f u (inr m)))
 
-    rises-by : (x : A) (xs : List A) (option : Option B) → h x ≡ option → P x → ((z : A) → IsIn z xs → P z) → IsBefore R x xs → Rises S (filter_map h xs) →
-        Rises S (cons_option option (filter_map h xs))
-    rises-by x xs (Some y) e p all b ih =
-        (before-all y (filter_map h xs) (λ v m. let k = picked v xs m in keeps x k.0 y v p (all k.0 k.1) e k.2 (before-in R o x k.0 xs b k.1)), ih)
-    rises-by x xs None e p all b ih = ih
-
     pub rises-picked : (xs : List A) → ((x : A) → IsIn x xs → P x) → Rises R xs → Rises S (filter_map h xs)
     rises-picked [] all r = tt
-    rises-picked (x ∷ xs) all r = rises-by x xs (h x) refl (all x (inl refl)) (λ z m. all z (inr m)) r.0 (rises-picked xs (λ z m. all z (inr m)) r.1)
+    rises-picked (x ∷ xs) all r = by (h x) refl (rises-picked xs (λ z m. all z (inr m)) r.1)
+      where
+        by : (option : Option B) → h x ≡ option → Rises S (filter_map h xs) → Rises S (cons_option option (filter_map h xs))
+        by (Some y) e ih =
+            (before-all y (filter_map h xs) (λ v m. let k = picked v xs m in keeps x k.0 y v (all x (inl refl)) (all k.0 (inr k.1)) e k.2 (before-in R o x k.0 xs r.0 k.1)), ih)
+        by None e ih = ih
 
     -- of a listing of what P holds of, what is picked is the listing of what Q holds of
     pub listing-picked : (Q : B → Type 0) (xs : List A) → IsListing R P xs → ((x : A) (y : B) → P x → h x ≡ Some y → Q y) →

@@ -62,24 +62,24 @@ placed_in-among file (f ∷ fs) p m =
     record { from = suc h.from; in_file = omega (arith, h.in_file); of = h.of; is_file = h.is_file; is = h.is })
     (in-append p (placed_from file 0 f.events) (placed_in (file + 1) fs) m)
 
-among-placed_in : (file : ℕ) (files : List FileSaid) (of : FileSaid) (k place : ℕ) (event : Event) → slice_get files k ≡ Some of →
+among-placed_in : (file : ℕ) (files : List FileSaid) (k place : ℕ) {of : FileSaid} {event : Event} → slice_get files k ≡ Some of →
     slice_get of.events place ≡ Some event
     → IsIn (make (file + k) place event) (placed_in file files)
-among-placed_in file [] of k place event h e = let f : None ≡ Some of = h in cc
-among-placed_in file (f ∷ fs) of zero place event h e =
+among-placed_in file [] k place {of = of} h e = let f : None ≡ Some of = h in cc
+among-placed_in file (f ∷ fs) zero place {of = of} {event = event} h e =
     let same : f ≡ of = some-same f of h in
     in-append_left (make (file + 0) place event) (placed_from file 0 f.events) (placed_in (file + 1) fs)
     (subst (λ n. IsIn (make n place event) (placed_from file 0 f.events)) (omega arith)
     (subst (λ n. IsIn (make file n event) (placed_from file 0 f.events)) (omega arith)
     (among-placed_from file 0 f.events event place (ap (λ x. slice_get x.events place) same ∙ e))))
-among-placed_in file (f ∷ fs) of (suc k) place event h e =
+among-placed_in file (f ∷ fs) (suc k) place {event = event} h e =
     in-append_right (make (file + suc k) place event) (placed_from file 0 f.events) (placed_in (file + 1) fs)
-    (subst (λ n. IsIn (make n place event) (placed_in (file + 1) fs)) (omega arith) (among-placed_in (file + 1) fs of k place event h e))
+    (subst (λ n. IsIn (make n place event) (placed_in (file + 1) fs)) (omega arith) (among-placed_in (file + 1) fs k place h e))
 
 pub placed-in : (files : List FileSaid) (p : Placed) → IsPlaced files p → IsIn p (placed_in 0 files)
 placed-in files p h =
     subst (λ n. IsIn (make n p.place p.event) (placed_in 0 files)) (omega arith)
-    (among-placed_in 0 files h.within.0 p.file p.place p.event h.within.1 h.within.2)
+    (among-placed_in 0 files p.file p.place h.within.1 h.within.2)
 
 pub in-placed : (files : List FileSaid) (p : Placed) → IsIn p (placed_in 0 files) → IsPlaced files p
 in-placed files p m =

@@ -16,55 +16,51 @@ module _ {A : Type 0} (R : A → A → Ordering) (o : IsTotalOrder R) where
   put x [] = x ∷ []
   put x (y ∷ ys) = cond (is_lt (R x y)) (x ∷ y ∷ ys) (y ∷ put x ys)
 
-  put-in-by : (e x y : A) (ys : List A) (b : Bool) → (IsIn e (put x ys) → (e ≡ x) ⊎ IsIn e ys) → IsIn e (cond b (x ∷ y ∷ ys) (y ∷ put x ys)) →
-      (e ≡ x) ⊎ IsIn e (y ∷ ys)
-  put-in-by e x y ys true ih m = m
-  put-in-by e x y ys false ih m = ⊎_elim (λ s. inr (inl s)) (λ n. ⊎_elim inl (λ k. inr (inr k)) (ih n)) m
-
   put-in : (e x : A) (ys : List A) → IsIn e (put x ys) → (e ≡ x) ⊎ IsIn e ys
   put-in e x [] m = m
-  put-in e x (y ∷ ys) m = put-in-by e x y ys (is_lt (R x y)) (put-in e x ys) m
-
-  in-put-by : (e x y : A) (ys : List A) (b : Bool) → ((e ≡ x) ⊎ IsIn e ys → IsIn e (put x ys)) → (e ≡ x) ⊎ IsIn e (y ∷ ys) →
-      IsIn e (cond b (x ∷ y ∷ ys) (y ∷ put x ys))
-  in-put-by e x y ys true ih m = m
-  in-put-by e x y ys false ih m = ⊎_elim (λ s. inr (ih (inl s))) (λ n. ⊎_elim inl (λ k. inr (ih (inr k))) n) m
+  put-in e x (y ∷ ys) m = by (is_lt (R x y)) (put-in e x ys) m
+    where
+      by : (b : Bool) → (IsIn e (put x ys) → (e ≡ x) ⊎ IsIn e ys) → IsIn e (cond b (x ∷ y ∷ ys) (y ∷ put x ys)) → (e ≡ x) ⊎ IsIn e (y ∷ ys)
+      by true ih m = m
+      by false ih m = ⊎_elim (λ s. inr (inl s)) (λ n. ⊎_elim inl (λ k. inr (inr k)) (ih n)) m
 
   in-put : (e x : A) (ys : List A) → (e ≡ x) ⊎ IsIn e ys → IsIn e (put x ys)
   in-put e x [] m = m
-  in-put e x (y ∷ ys) m = in-put-by e x y ys (is_lt (R x y)) (in-put e x ys) m
-
-  before-put-by : (z x y : A) (ys : List A) (b : Bool) → R z x ≡ Less → R z y ≡ Less → IsBefore R z ys → IsBefore R z (put x ys) →
-      IsBefore R z (cond b (x ∷ y ∷ ys) (y ∷ put x ys))
-  before-put-by z x y ys true l k h ih = (l, (k, h))
-  before-put-by z x y ys false l k h ih = (k, ih)
+  in-put e x (y ∷ ys) m = by (is_lt (R x y)) (in-put e x ys) m
+    where
+      by : (b : Bool) → ((e ≡ x) ⊎ IsIn e ys → IsIn e (put x ys)) → (e ≡ x) ⊎ IsIn e (y ∷ ys) → IsIn e (cond b (x ∷ y ∷ ys) (y ∷ put x ys))
+      by true ih m = m
+      by false ih m = ⊎_elim (λ s. inr (ih (inl s))) (λ n. ⊎_elim inl (λ k. inr (ih (inr k))) n) m
 
   before-put : (z x : A) (ys : List A) → R z x ≡ Less → IsBefore R z ys → IsBefore R z (put x ys)
   before-put z x [] l h = (l, tt)
-  before-put z x (y ∷ ys) l h = before-put-by z x y ys (is_lt (R x y)) l h.0 h.1 (before-put z x ys l h.1)
-
-  rises-put-by : (x y : A) (ys : List A) (c : Ordering) → R x y ≡ c → (R x y ≡ Equal → ⊥) → IsBefore R y ys → Rises R ys → Rises R (put x ys) →
-      Rises R (cond (is_lt c) (x ∷ y ∷ ys) (y ∷ put x ys))
-  rises-put-by x y ys Less e n h r ih = ((e, before-trans R o x y ys e h), (h, r))
-  rises-put-by x y ys Equal e n h r ih = absurd (n e)
-  rises-put-by x y ys Greater e n h r ih = (before-put y x ys (o.antisymm y x ∙ ap ordering_reverse e) h, ih)
+  before-put z x (y ∷ ys) l h = by (is_lt (R x y)) (before-put z x ys l h.1)
+    where
+      by : (b : Bool) → IsBefore R z (put x ys) → IsBefore R z (cond b (x ∷ y ∷ ys) (y ∷ put x ys))
+      by true ih = (l, h)
+      by false ih = (h.0, ih)
 
   rises-put : (x : A) (ys : List A) → ((y : A) → IsIn y ys → R x y ≡ Equal → ⊥) → Rises R ys → Rises R (put x ys)
   rises-put x [] n r = (tt, tt)
-  rises-put x (y ∷ ys) n r = rises-put-by x y ys (R x y) refl (n y (inl refl)) r.0 r.1 (rises-put x ys (λ z m. n z (inr m)) r.1)
+  rises-put x (y ∷ ys) n r = by (R x y) refl (rises-put x ys (λ z m. n z (inr m)) r.1)
+    where
+      by : (c : Ordering) → R x y ≡ c → Rises R (put x ys) → Rises R (cond (is_lt c) (x ∷ y ∷ ys) (y ∷ put x ys))
+      by Less e ih = ((e, before-trans R o x y ys e r.0), r)
+      by Equal e ih = absurd (n y (inl refl) e)
+      by Greater e ih = (before-put y x ys (o.antisymm y x ∙ ap ordering_reverse e) r.0, ih)
 
   -- what R ties S ties too, so that a listing by S is one by R in another order
   module _ (S : A → A → Ordering) (s : IsTotalOrder S) (P : A → Type 0) (finer : (x y : A) → P x → P y → R x y ≡ Equal → S x y ≡ Equal) where
-    untied : (x y : A) (xs : List A) → P x → P y → IsBefore S x xs → IsIn y xs → R x y ≡ Equal → ⊥
-    untied x y xs p q h m e = let l = before-in S s x y xs h m in let t = finer x y p q e in cc
-
     ordered : (xs : List A) → Rises S xs → ((x : A) → IsIn x xs → P x) → (ys : List A) × (Rises R ys × ((x : A) → IsIn x ys ↔ IsIn x xs))
     ordered [] r p = ([], (tt, λ x. (λ m. m, λ m. m)))
     ordered (x ∷ xs) r p =
         let rest = ordered xs r.1 (λ y m. p y (inr m)) in (
           put x rest.0,
           (
-            rises-put x rest.0 (λ y m e. let n = (rest.1.1 y).0 m in untied x y xs (p x (inl refl)) (p y (inr n)) r.0 n e) rest.1.0,
+            rises-put x rest.0 (λ y m e. let n = (rest.1.1 y).0 m in
+                let l = before-in S s x y xs r.0 n in
+                let t = finer x y (p x (inl refl)) (p y (inr n)) e in
+                cc) rest.1.0,
             λ y. (
               λ m. ⊎_elim inl (λ n. inr ((rest.1.1 y).0 n)) (put-in y x rest.0 m),
               λ m. in-put y x rest.0 (⊎_elim inl (λ n. inr ((rest.1.1 y).1 n)) m),

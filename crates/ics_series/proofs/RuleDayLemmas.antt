@@ -99,19 +99,18 @@ module _ (zones : FileZones) (event : Event) where
     later : (from : ℕ) (s : Start) → IsFound (from + 1) s → IsFound from s
     later from s f = record { by = f.by; from_place = omega (arith, f.from_place); given = f.given; is = f.is }
 
-    found-by : (from : ℕ) (rest : List Start) (s : Start) (b : Bool) → Rises moment_cmp rest → gives (clocks_in zones) event rule w from ≡ b →
-        (IsIn s rest → IsFound (from + 1) s)
-        → IsIn s (with_put b (start_at (clocks_in zones) event (local_numbered from)) rest) → IsFound from s
-    found-by from rest s true r e ih m =
-        ⊎_elim (λ n. ⊎_elim (λ same. record { by = from; from_place = omega arith; given = e; is = same }) (λ f. absurd f) n) (λ n. later from s (ih n.1))
-        (union-in moment_cmp moment_total s (start_at (clocks_in zones) event (local_numbered from) ∷ []) rest r m)
-    found-by from rest s false r e ih m = later from s (ih m)
-
     found_in-is : (from n : ℕ) (s : Start) → IsIn s (found_in (clocks_in zones) event rule w from n) → IsFound from s
     found_in-is from zero s m = absurd m
     found_in-is from (suc n) s m =
-        found-by from (found_in (clocks_in zones) event rule w (from + 1) n) s (gives (clocks_in zones) event rule w from)
-        (rises-found_in (clocks_in zones) event rule w (from + 1) n) refl (found_in-is (from + 1) n s) m
+        by (gives (clocks_in zones) event rule w from) refl (found_in-is (from + 1) n s) m
+      where
+        by : (b : Bool) → gives (clocks_in zones) event rule w from ≡ b → (IsIn s (found_in (clocks_in zones) event rule w (from + 1) n) → IsFound (from + 1) s)
+            → IsIn s (with_put b (start_at (clocks_in zones) event (local_numbered from)) (found_in (clocks_in zones) event rule w (from + 1) n)) → IsFound from s
+        by true e ih m =
+            ⊎_elim (λ k. ⊎_elim (λ same. record { by = from; from_place = omega arith; given = e; is = same }) (λ f. absurd f) k) (λ k. later from s (ih k.1))
+            (union-in moment_cmp moment_total s (start_at (clocks_in zones) event (local_numbered from) ∷ [])
+            (found_in (clocks_in zones) event rule w (from + 1) n) (rises-found_in (clocks_in zones) event rule w (from + 1) n) m)
+        by false e ih m = later from s (ih m)
 
     pub found-is : (from : ℕ) (s : Start) → IsIn s (found (clocks_in zones) event rule w from) → IsFound from s
     unfolding found
@@ -128,35 +127,12 @@ module _ (zones : FileZones) (event : Event) where
         let is = ap (λ (x : Start). x.moment) f.is in
         less-start s t (omega (arith, ints, late, is, l)))
 
-    -- Where no day more has to be read the first that is held is the first still to come.
-    pub past-end : (day end : ℤ) (place : ℕ) → IsDayNumber day → IsDayNumber end → (w.to +ℤ whole_days 2) ≤ℤ midnight end → end ≤ℤ day →
-        midnight_number day ≤ place
-        → found (clocks_in zones) event rule w place ≡ []
-    past-end day end place d e after l read =
-        found-none (clocks_in zones) event rule w place
-        (λ n low. none-past end n e after (omega (arith, ints, number-day day d, number-day end e, read, low, l)))
-
     abbrev Settled : List Start → ℕ → Type 0
     Settled [] place = found (clocks_in zones) event rule w place ≡ []
     Settled (s ∷ held) place = IsBefore moment_cmp s (found (clocks_in zones) event rule w place)
 
     not-less : (a b : ℤ) → int_lt a b ≡ false → b ≤ℤ a
     not-less a b e = grind (arith, ints)
-
-    settled : (day end : ℤ) (held : List Start) (place : ℕ) → IsDayNumber day → IsDayNumber end → (w.to +ℤ whole_days 2) ≤ℤ midnight end →
-        midnight_number day ≤ place
-        → is_behind day end held ≡ false → Settled held place
-    settled day end held place d e after read b = by (int_lt day end) refl held b
-      where
-        by : (early : Bool) → int_lt day end ≡ early → (xs : List Start) → (early && not (is_ready day xs)) ≡ false → Settled xs place
-        by false p [] q = past-end day end place d e after (not-less day end p) read
-        by false p (x ∷ xs) q = subst (IsBefore moment_cmp x) (sym (past-end day end place d e after (not-less day end p) read)) tt
-        by true p [] q = let f : true ≡ false = q in absurd cc
-        by true p (x ∷ xs) q = ready-before day place x d read (int_le_true x.moment (midnight day -ℤ whole_days 2) (not-not (is_ready day (x ∷ xs)) q))
-          where
-            not-not : (c : Bool) → not c ≡ false → c ≡ true
-            not-not true k = refl
-            not-not false k = let f : true ≡ false = k in absurd cc
 
     come-first : (s : Start) (held : List Start) (place : ℕ) → Rises moment_cmp (s ∷ held) → IsBefore moment_cmp s (found (clocks_in zones) event rule w place)
         → to_come (clocks_in zones) event rule w (s ∷ held) place ≡ s ∷ to_come (clocks_in zones) event rule w held place
@@ -169,26 +145,45 @@ module _ (zones : FileZones) (event : Event) where
     unfolding to_come
     come-nothing place e = e
 
+    -- Where no day more has to be read the first that is held is the first still to come.
     module _ (day end : ℤ) (place : ℕ) (d : IsDayNumber day) (e : IsDayNumber end) (after : (w.to +ℤ whole_days 2) ≤ℤ midnight end)
         (read : midnight_number day ≤ place) where
+      past-end : end ≤ℤ day → found (clocks_in zones) event rule w place ≡ []
+      past-end l =
+          found-none (clocks_in zones) event rule w place
+          (λ n low. none-past end n e after (omega (arith, ints, number-day day d, number-day end e, read, low, l)))
+
+      settled : (held : List Start) → is_behind day end held ≡ false → Settled held place
+      settled held b = by (int_lt day end) refl held b
+        where
+          by : (early : Bool) → int_lt day end ≡ early → (xs : List Start) → (early && not (is_ready day xs)) ≡ false → Settled xs place
+          by false p [] q = past-end (not-less day end p)
+          by false p (x ∷ xs) q = subst (IsBefore moment_cmp x) (sym (past-end (not-less day end p))) tt
+          by true p [] q = let f : true ≡ false = q in absurd cc
+          by true p (x ∷ xs) q = ready-before day place x d read (int_le_true x.moment (midnight day -ℤ whole_days 2) (not-not (is_ready day (x ∷ xs)) q))
+            where
+              not-not : (c : Bool) → not c ≡ false → c ≡ true
+              not-not true k = refl
+              not-not false k = let f : true ≡ false = k in absurd cc
+
       pub first-held : (held : List Start) → Rises moment_cmp held → is_behind day end held ≡ false
           → slice_get held 0 ≡ slice_get (to_come (clocks_in zones) event rule w held place) 0
-      first-held [] r b = sym (ap (λ (xs : List Start). slice_get xs 0) (come-nothing place (settled day end [] place d e after read b)))
-      first-held (s ∷ held) r b = sym (ap (λ (xs : List Start). slice_get xs 0) (come-first s held place r (settled day end (s ∷ held) place d e after read b)))
+      first-held [] r b = sym (ap (λ (xs : List Start). slice_get xs 0) (come-nothing place (settled [] b)))
+      first-held (s ∷ held) r b = sym (ap (λ (xs : List Start). slice_get xs 0) (come-first s held place r (settled (s ∷ held) b)))
 
       -- the first goes where it is tied with another
       pub passed : (t s : Start) (held : List Start) → Rises moment_cmp (s ∷ held) → is_behind day end (s ∷ held) ≡ false → moment_cmp t s ≡ Equal
           → to_come (clocks_in zones) event rule w held place ≡ cut moment_cmp t (to_come (clocks_in zones) event rule w (s ∷ held) place)
       passed t s held r b tied =
           let rest = to_come (clocks_in zones) event rule w held place in
-          sym (ap (cut moment_cmp t) (come-first s held place r (settled day end (s ∷ held) place d e after read b))
+          sym (ap (cut moment_cmp t) (come-first s held place r (settled (s ∷ held) b))
           ∙ ap (λ c. by_order c (s ∷ rest) rest (s ∷ rest)) tied)
 
       pub not-passed : (t s : Start) (held : List Start) → Rises moment_cmp (s ∷ held) → is_behind day end (s ∷ held) ≡ false → (moment_cmp t s ≡ Equal → ⊥)
           → to_come (clocks_in zones) event rule w (s ∷ held) place ≡ cut moment_cmp t (to_come (clocks_in zones) event rule w (s ∷ held) place)
       not-passed t s held r b untied =
           let rest = to_come (clocks_in zones) event rule w held place in
-          let is = come-first s held place r (settled day end (s ∷ held) place d e after read b) in
+          let is = come-first s held place r (settled (s ∷ held) b) in
           is ∙ sym (ap (cut moment_cmp t) is ∙ stays rest (moment_cmp t s) refl)
         where
           stays : (rest : List Start) (c : _) → moment_cmp t s ≡ c → by_order c (s ∷ rest) rest (s ∷ rest) ≡ s ∷ rest
@@ -199,22 +194,22 @@ module _ (zones : FileZones) (event : Event) where
       pub nothing-passed : (t : Start) → is_behind day end [] ≡ false
           → to_come (clocks_in zones) event rule w [] place ≡ cut moment_cmp t (to_come (clocks_in zones) event rule w [] place)
       nothing-passed t b =
-          let is = come-nothing place (settled day end [] place d e after read b) in
+          let is = come-nothing place (settled [] b) in
           is ∙ sym (ap (cut moment_cmp t) is)
 
       -- the same of a list whose first is known
-      pub passed-at : (t d : Start) (held new : List Start) → 0 < length held → d ≡ get_or held 0 d → new ≡ drop 1 held → Rises moment_cmp held →
+      pub passed-at : (t : Start) (held : List Start) {d : Start} {new : List Start} → 0 < length held → d ≡ get_or held 0 d → new ≡ drop 1 held → Rises moment_cmp held →
           is_behind day end held ≡ false
           → moment_cmp t d ≡ Equal → to_come (clocks_in zones) event rule w new place ≡ cut moment_cmp t (to_come (clocks_in zones) event rule w held place)
-      passed-at t d [] new l is n r b tied = absurd (omega arith)
-      passed-at t d (s ∷ held) new l is n r b tied =
+      passed-at t [] l is n r b tied = absurd (omega arith)
+      passed-at t (s ∷ held) l is n r b tied =
           ap (λ xs. to_come (clocks_in zones) event rule w xs place) n ∙ passed t s held r b (subst (λ x. moment_cmp t x ≡ Equal) is tied)
 
-      pub not-passed-at : (t d : Start) (held : List Start) → 0 < length held → d ≡ get_or held 0 d → Rises moment_cmp held → is_behind day end held ≡ false
+      pub not-passed-at : (t : Start) (held : List Start) {d : Start} → 0 < length held → d ≡ get_or held 0 d → Rises moment_cmp held → is_behind day end held ≡ false
           → (moment_cmp t d ≡ Equal → ⊥) → to_come (clocks_in zones) event rule w held place
           ≡ cut moment_cmp t (to_come (clocks_in zones) event rule w held place)
-      not-passed-at t d [] l is r b untied = absurd (omega arith)
-      not-passed-at t d (s ∷ held) l is r b untied = not-passed t s held r b (λ tied. untied (subst (λ x. moment_cmp t x ≡ Equal) (sym is) tied))
+      not-passed-at t [] l is r b untied = absurd (omega arith)
+      not-passed-at t (s ∷ held) l is r b untied = not-passed t s held r b (λ tied. untied (subst (λ x. moment_cmp t x ≡ Equal) (sym is) tied))
 
       pub nothing-passed-at : (t : Start) (held : List Start) → length held ≡ 0 → is_behind day end held ≡ false
           → to_come (clocks_in zones) event rule w held place ≡ cut moment_cmp t (to_come (clocks_in zones) event rule w held place)
@@ -222,11 +217,11 @@ module _ (zones : FileZones) (event : Event) where
       nothing-passed-at t (s ∷ held) l b = absurd (omega (arith, l))
 
     -- each start still to come begins no more than three days before the day that is not asked for yet
-    pub near-left : (day asked : ℤ) (held : List Start) (place : ℕ) → IsDayNumber day → asked ≤ℤ (day +ℤ pos 1) → midnight_number day ≤ place
+    pub near-left : (day : ℤ) {asked : ℤ} (held : List Start) (place : ℕ) → IsDayNumber day → asked ≤ℤ (day +ℤ pos 1) → midnight_number day ≤ place
         → AreHeld (clocks_in zones) event rule w asked held → (s : Start) → IsIn s (to_come (clocks_in zones) event rule w held place) →
         (midnight asked -ℤ whole_days 3) ≤ℤ s.moment
     unfolding to_come
-    near-left day asked held place d soon read are s m =
+    near-left day {asked = asked} held place d soon read are s m =
         ⊎_elim (λ n. (are s n).late)
         (λ n.
         let f = found-is place s n.1 in

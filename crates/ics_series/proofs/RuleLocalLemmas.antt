@@ -59,10 +59,10 @@ gives-kept clocks event rule w a h k =
     ∙ ap (λ l. lets_until rule (number a) (instant clocks (time_at event.start l)) && int_lt (instant clocks (time_at event.start l)) w.to)
     (numbered-number a h)
 
-pub gives-by : (clocks : Clocks) (event : Event) (rule : Recurrence) (w : Window) (a : Local) (t : ℤ) (b : Bool) → IsDayNumber a.day →
+pub gives-by : (clocks : Clocks) (event : Event) (rule : Recurrence) (w : Window) (a : Local) {t : ℤ} {b : Bool} → IsDayNumber a.day →
     is_kept rule (number a) ≡ true
     → t ≡ instant clocks (time_at event.start a) → b ≡ (lets_until rule (number a) t && int_lt t w.to) → b ≡ gives clocks event rule w (number a)
-gives-by clocks event rule w a t b h k e test =
+gives-by clocks event rule w a h k e test =
     test ∙ (ap (λ x. lets_until rule (number a) x && int_lt x w.to) e ∙ sym (gives-kept clocks event rule w a h k))
 
 pub rule-first : (event : Event) (rule : Recurrence) → recurrence_of event ≡ Some rule → rule.start ≡ local_of event.start.stamp

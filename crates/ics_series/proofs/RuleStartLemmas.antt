@@ -92,11 +92,11 @@ module _ (clocks : Clocks) (event : Event) (rule : Recurrence) (w : Window) wher
       sides a b = grind arith
 
   -- the next kept local is read
-  pub come-one : (held : List Start) (place bound l : ℕ) → Rises moment_cmp held → bound ≤ rules_end → IsNextKept rule place bound l
+  pub come-one : (held : List Start) {place bound l : ℕ} → Rises moment_cmp held → bound ≤ rules_end → IsNextKept rule place bound l
       → to_come clocks event rule w (with_held (gives clocks event rule w l) (start_at clocks event (local_numbered l)) held) (l + 1)
       ≡ to_come clocks event rule w held place
   unfolding to_come
-  come-one held place bound l r h next =
+  come-one held {place = place} {bound = bound} {l = l} r h next =
       one (gives clocks event rule w l)
       ∙ ap (union moment_cmp held) (sym (found-skipped place l next.from_place (omega (arith, next.in_bound, h)) (λ n a b. unkept n (next.least n a b))
       ∙ found-first l (omega (arith, next.in_bound, h))))

@@ -35,7 +35,7 @@ module _ (s : RuleStarts) where
   -- what is held is no more than the event has in five UTC days
   pub few-held : length s.held.items ≤ most_in_days (clocks_in s.zones) s.event.now
   few-held =
-      held-in-days s.zones s.event.now s.rule s.window s.asked s.held.items s.of (omega (arith, ints, s.low, s.asked_on))
+      held-in-days s.zones s.event.now s.rule s.window s.held.items s.of (omega (arith, ints, s.low, s.asked_on))
       (omega (arith, ints, s.asked_end, end-days.1)) s.rises s.are
 
   -- where no day more has to be read the first that is held is the first still to come
@@ -47,7 +47,7 @@ module _ (s : RuleStarts) where
   asked-number = number-day s.asked (omega (arith, ints, s.low, s.asked_on), omega (arith, ints, s.asked_end, end-days.1))
 
   pub left-near : (t : Start) → IsIn t (starts_left s) → (midnight s.asked -ℤ whole_days 3) ≤ℤ t.moment
-  left-near = near-left s.zones s.event.now s.rule s.window s.day s.asked s.held.items (place_of s.cursor) day-days s.asked_soon s.read s.are
+  left-near = near-left s.zones s.event.now s.rule s.window s.day s.held.items (place_of s.cursor) day-days s.asked_soon s.read s.are
 
   module _ (behind : is_behind s.day s.end s.held.items ≡ true) (bound : ℤ) (bound-is : bound ≡ bound_of s.day s.end s.held.items) where
     pub within : (s.day <ℤ bound) × (bound ≤ℤ s.end)
@@ -91,7 +91,7 @@ module _ (s : RuleStarts) where
       )
 
       pub one-time : IsTimeOf s.zones.zones.now (time_at s.event.now.start a)
-      one-time = record { is_time = kept-time s.event.now s.rule a s.time.is_time s.of h next-kept.kept; within = s.time.within }
+      one-time = record { is_time = kept-time s.event.now a s.time.is_time s.of h next-kept.kept; within = s.time.within }
 
       module _ (held new : List Start) (e : held ≡ s.held.items) (is : new
           ≡ with_held (gives (clocks_in s.zones) s.event.now s.rule s.window (number a)) (start_at (clocks_in s.zones) s.event.now a) held) where
@@ -120,7 +120,7 @@ module _ (s : RuleStarts) where
             ap (λ xs. to_come clocks event s.rule s.window xs next) (is ∙ (ap (with_held given (start_at clocks event a)) e
             ∙ ap (λ l. with_held given (start_at clocks event l) s.held.items) (sym (numbered-number a h))))
             ∙ (ap (to_come clocks event s.rule s.window (with_held given (start_at clocks event (local_numbered (number a))) s.held.items)) n
-            ∙ come-one clocks event s.rule s.window s.held.items (place_of s.cursor) (midnight_number bound) (number a) s.rises bound-early next-kept)
+            ∙ come-one clocks event s.rule s.window s.held.items s.rises bound-early next-kept)
 
       pub one-asked : (next : ℤ) → next ≡ a.day +ℤ pos 1 → (midnight_number s.asked ≤ midnight_number next) × (number a + 1 ≤ midnight_number next)
       one-asked next n = (omega (arith, ints, s.low, s.asked_on, s.asked_soon, one-on.0, h.0, n), omega (arith, ints, h.0, n, a.second_in))

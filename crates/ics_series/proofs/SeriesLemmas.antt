@@ -75,18 +75,18 @@ module _ (clocks : Clocks) (w : Window) (event : Event) where
   rises-behind None es r = r
   rises-behind (Some e) es r = r.1
 
-  pub rises-rest : (since : ℤ) (overridden : List ℤ) (s : Start) (all rest : List Start) → all ≡ s ∷ rest
+  pub rises-rest : (since : ℤ) (overridden : List ℤ) {s : Start} {all rest : List Start} → all ≡ s ∷ rest
       → Rises entry_cmp (given_of clocks w event since overridden all) → Rises entry_cmp (given_of clocks w event since overridden rest)
-  rises-rest since overridden s all rest e r =
+  rises-rest since overridden {s = s} {rest = rest} e r =
       rises-behind (wanted_by clocks w event since overridden s) (given_of clocks w event since overridden rest)
       (subst (λ xs. Rises entry_cmp (given_of clocks w event since overridden xs)) e r)
 
 -- The first of both kinds goes.
-pub both-passed : (rule rule' listed listed' rule'' : List Start) (t : Start) → rule' ≡ rule → rule'' ≡ cut moment_cmp t rule' →
+pub both-passed : {rule rule' rule'' listed' : List Start} {t : Start} (listed : List Start) → rule' ≡ rule → rule'' ≡ cut moment_cmp t rule' →
     listed' ≡ cut moment_cmp t listed
     → union moment_cmp rule' listed ≡ t ∷ union moment_cmp (cut moment_cmp t rule') (cut moment_cmp t listed)
     → union moment_cmp rule listed ≡ t ∷ union moment_cmp rule'' listed'
-both-passed rule rule' listed listed' rule'' t a b c h =
+both-passed {rule'' = rule''} {t = t} listed a b c h =
     ap (λ xs. union moment_cmp xs listed) (sym a)
     ∙ (h ∙ ap (λ xs. t ∷ xs) (ap (λ xs. union moment_cmp xs (cut moment_cmp t listed)) (sym b) ∙ ap (union moment_cmp rule'') (sym c)))
 
@@ -122,21 +122,21 @@ module _ (zones : FileZones) (w : Window) (event : Event) where
       record { gives = gives; value = gives-value (clocks_in zones) event s.source s.given sound.start sound.rdates gives; moment = k.moment }
 
 -- An instant is one of some.
-among-in-by : (b : Bool) (x t : ℤ) (xs : List ℤ) → int_eq x t ≡ b → (is_among xs t ≡ true → IsIn t xs) → (b || is_among xs t) ≡ true → IsIn t (x ∷ xs)
-among-in-by true x t xs e ih h = inl (sym (equal-true x t e))
-among-in-by false x t xs e ih h = inr (ih h)
-
 among-in : (t : ℤ) (xs : List ℤ) → is_among xs t ≡ true → IsIn t xs
 among-in t [] e = let f : false ≡ true = e in absurd cc
-among-in t (x ∷ xs) e = among-in-by (int_eq x t) x t xs refl (among-in t xs) e
-
-in-among-by : (b : Bool) (x t : ℤ) (xs : List ℤ) → int_eq x t ≡ b → (IsIn t xs → is_among xs t ≡ true) → IsIn t (x ∷ xs) → (b || is_among xs t) ≡ true
-in-among-by true x t xs e ih m = refl
-in-among-by false x t xs e ih m = ⊎_elim (λ s. let f : true ≡ false = sym (true-equal x t (sym s)) ∙ e in absurd cc) ih m
+among-in t (x ∷ xs) e = by (int_eq x t) refl (among-in t xs) e
+  where
+    by : (b : Bool) → int_eq x t ≡ b → (is_among xs t ≡ true → IsIn t xs) → (b || is_among xs t) ≡ true → IsIn t (x ∷ xs)
+    by true e ih h = inl (sym (equal-true x t e))
+    by false e ih h = inr (ih h)
 
 pub in-among : (t : ℤ) (xs : List ℤ) → IsIn t xs → is_among xs t ≡ true
 in-among t [] m = absurd m
-in-among t (x ∷ xs) m = in-among-by (int_eq x t) x t xs refl (in-among t xs) m
+in-among t (x ∷ xs) m = by (int_eq x t) refl (in-among t xs) m
+  where
+    by : (b : Bool) → int_eq x t ≡ b → (IsIn t xs → is_among xs t ≡ true) → IsIn t (x ∷ xs) → (b || is_among xs t) ≡ true
+    by true e ih m = refl
+    by false e ih m = ⊎_elim (λ s. let f : true ≡ false = sym (true-equal x t (sym s)) ∙ e in absurd cc) ih m
 
 -- Wanted is what is shown from an instant on, but for the instants of overrides.
 module _ (clocks : Clocks) (w : Window) (event : Event) (since : ℤ) (overridden : List ℤ) where
@@ -191,24 +191,23 @@ module _ (clocks : Clocks) (w : Window) (event : Event) (since : ℤ) (overridde
       record { rises = rises-later (given_of clocks w event since overridden starts) listing.rises; exact = listing.exact }
 
 -- Starts at an instant.
-moment-in-by : (b : Bool) (s : Start) (t : ℤ) (xs : List Start) → int_eq s.moment t ≡ b → (has_moment xs t ≡ true → (x : Start) × IsIn x xs × (x.moment ≡ t)) →
-    (b || has_moment xs t) ≡ true → (x : Start) × IsIn x (s ∷ xs) × (x.moment ≡ t)
-moment-in-by true s t xs e ih h = (s, inl refl, equal-true s.moment t e)
-moment-in-by false s t xs e ih h = let k = ih h in (k.0, inr k.1, k.2)
-
 pub moment-in : (xs : List Start) (t : ℤ) → has_moment xs t ≡ true → (x : Start) × IsIn x xs × (x.moment ≡ t)
 moment-in [] t e = let f : false ≡ true = e in absurd cc
-moment-in (s ∷ xs) t e = moment-in-by (int_eq s.moment t) s t xs refl (moment-in xs t) e
-
-in-moment-by : (b : Bool) (s x : Start) (t : ℤ) (xs : List Start) → int_eq s.moment t ≡ b → x.moment ≡ t → (IsIn x xs → has_moment xs t ≡ true) →
-    IsIn x (s ∷ xs) → (b || has_moment xs t) ≡ true
-in-moment-by true s x t xs e is ih m = refl
-in-moment-by false s x t xs e is ih m =
-    ⊎_elim (λ same. let f : true ≡ false = sym (true-equal s.moment t (ap (λ (y : Start). y.moment) (sym same) ∙ is)) ∙ e in absurd cc) ih m
+moment-in (s ∷ xs) t e = by (int_eq s.moment t) refl (moment-in xs t) e
+  where
+    by : (b : Bool) → int_eq s.moment t ≡ b → (has_moment xs t ≡ true → (x : Start) × IsIn x xs × (x.moment ≡ t)) → (b || has_moment xs t) ≡ true →
+        (x : Start) × IsIn x (s ∷ xs) × (x.moment ≡ t)
+    by true e ih h = (s, inl refl, equal-true s.moment t e)
+    by false e ih h = let k = ih h in (k.0, inr k.1, k.2)
 
 pub in-moment : (x : Start) (t : ℤ) (xs : List Start) → x.moment ≡ t → IsIn x xs → has_moment xs t ≡ true
 in-moment x t [] is m = absurd m
-in-moment x t (s ∷ xs) is m = in-moment-by (int_eq s.moment t) s x t xs refl is (in-moment x t xs is) m
+in-moment x t (s ∷ xs) is m = by (int_eq s.moment t) refl (in-moment x t xs is) m
+  where
+    by : (b : Bool) → int_eq s.moment t ≡ b → (IsIn x xs → has_moment xs t ≡ true) → IsIn x (s ∷ xs) → (b || has_moment xs t) ≡ true
+    by true e ih m = refl
+    by false e ih m =
+        ⊎_elim (λ same. let f : true ≡ false = sym (true-equal s.moment t (ap (λ (y : Start). y.moment) (sym same) ∙ is)) ∙ e in absurd cc) ih m
 
 -- What goes before all that is left is not tied with what is still to come.
 module _ (clocks : Clocks) (w : Window) (event : Event) (since : ℤ) (overridden : List ℤ) where
@@ -223,10 +222,10 @@ module _ (clocks : Clocks) (w : Window) (event : Event) (since : ℤ) (overridde
   in-behind None e es m = m
   in-behind (Some x) e es m = inr m
 
-  ruled-behind : (t : Start) (rules all rest : List Start) → all ≡ t ∷ rest → Rises moment_cmp all → AreKnown clocks event w all
+  ruled-behind : (rules : List Start) {t : Start} {all rest : List Start} → all ≡ t ∷ rest → Rises moment_cmp all → AreKnown clocks event w all
       → HaveRuled clocks event rules (given_of clocks w event since overridden all) →
       HaveRuled clocks event (cut moment_cmp t rules) (given_of clocks w event since overridden rest)
-  ruled-behind t rules all rest e r known h o m local k =
+  ruled-behind rules {t = t} {all = all} {rest = rest} e r known h o m local k =
       let rises : Rises moment_cmp (t ∷ rest) = subst (Rises moment_cmp) e r in
       let after = begins-after t rest o rises.0 (known-rest clocks w event t all rest e known) m in
       let there = subst (λ xs. IsIn o (given_of clocks w event since overridden xs)) (sym e)
@@ -236,22 +235,22 @@ module _ (clocks : Clocks) (w : Window) (event : Event) (since : ℤ) (overridde
       (member-cut moment_cmp moment_total t x.0 rules (λ tied. let same = tied-moment t x.0 tied in let is = x.2 in omega (arith, ints, after, same, is)) x.1)
 
   -- the same of the rule's starts, where there is one
-  pub ruled-same : (a b : Option RuleStarts) (coming coming' : List Entry) → HasSameRule a b → rule_left b ≡ rule_left a → coming' ≡ coming →
+  pub ruled-same : (a b : Option RuleStarts) {coming coming' : List Entry} → HasSameRule a b → rule_left b ≡ rule_left a → coming' ≡ coming →
       HasRuled clocks event a coming → HasRuled clocks event b coming'
-  ruled-same None None coming coming' same e f h = tt
-  ruled-same (Some a) (Some b) coming coming' same e f h =
+  ruled-same None None same e f h = tt
+  ruled-same (Some a) (Some b) {coming = coming} same e f h =
       subst (HaveRuled clocks event (starts_left b)) (sym f) (subst (λ xs. HaveRuled clocks event xs coming) (sym e) h)
-  ruled-same None (Some b) coming coming' same e f h = absurd same
-  ruled-same (Some a) None coming coming' same e f h = absurd same
+  ruled-same None (Some b) same e f h = absurd same
+  ruled-same (Some a) None same e f h = absurd same
 
-  pub ruled-rest : (a b : Option RuleStarts) (t : Start) (all rest : List Start) → HasSameRule a b → rule_left b ≡ cut moment_cmp t (rule_left a) →
+  pub ruled-rest : (a b : Option RuleStarts) {t : Start} {all rest : List Start} → HasSameRule a b → rule_left b ≡ cut moment_cmp t (rule_left a) →
       all ≡ t ∷ rest → Rises moment_cmp all → AreKnown clocks event w all
       → HasRuled clocks event a (given_of clocks w event since overridden all) → HasRuled clocks event b (given_of clocks w event since overridden rest)
-  ruled-rest None None t all rest same c e r known h = tt
-  ruled-rest (Some a) (Some b) t all rest same c e r known h =
-      subst (λ xs. HaveRuled clocks event xs (given_of clocks w event since overridden rest)) (sym c) (ruled-behind t (starts_left a) all rest e r known h)
-  ruled-rest None (Some b) t all rest same c e r known h = absurd same
-  ruled-rest (Some a) None t all rest same c e r known h = absurd same
+  ruled-rest None None same c e r known h = tt
+  ruled-rest (Some a) (Some b) {rest = rest} same c e r known h =
+      subst (λ xs. HaveRuled clocks event xs (given_of clocks w event since overridden rest)) (sym c) (ruled-behind (starts_left a) e r known h)
+  ruled-rest None (Some b) same c e r known h = absurd same
+  ruled-rest (Some a) None same c e r known h = absurd same
 
 -- A rule has been read no further than three days past an occurrence that it gives and that is still to come.
 pub rule-near : (clocks : Clocks) (event : Event) (o : Option RuleStarts) (coming : List Entry) → HasRuled clocks event o coming → (e : Entry) → IsIn e coming →

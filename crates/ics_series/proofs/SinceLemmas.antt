@@ -148,9 +148,9 @@ module _ (zones : FileZones) (w : Window) (event : Event) where
         (int_lt (instant (clocks_in zones) (time_at event.start local)) w.to)
         parts.1 (true_int_lt (instant (clocks_in zones) (time_at event.start local)) w.to early)
 
-low-by : (from first earliest since to t local : ℤ) → from ≤ℤ int_max first (int_max earliest (int_min since to) -ℤ whole_days 6) →
+low-by : {from first since t local : ℤ} (earliest to : ℤ) → from ≤ℤ int_max first (int_max earliest (int_min since to) -ℤ whole_days 6) →
     (earliest -ℤ whole_days 4) ≤ℤ t → since ≤ℤ t → first ≤ℤ local → (t -ℤ whole_days 2) <ℤ local → from ≤ℤ local
-low-by from first earliest since to t local low late own above near =
+low-by {from = from} {first = first} {since = since} {t = t} {local = local} earliest to low late own above near =
     omega (
       arith,
       ints,
@@ -179,9 +179,7 @@ module _ (zones : FileZones) (w : Window) (event : Event) (sound : IsEvent event
       sought-late zones w event (instant (clocks_in zones) (time_of given)) s in
       let near = instant-near zones time in
       let at = written-at event.start.stamp local in
-      low-by (local_seconds from) (local_seconds (local_of event.start.stamp))
-      (earliest (clocks_in zones) w event (listed_from (clocks_in zones) w event.start 0 event.rdates)) since (w.to +ℤ whole_days 14)
-      (instant (clocks_in zones) (time_of given)) (local_seconds local) low sought late (kept-first (clocks_in zones) event sound.start local g.0)
+      low-by (earliest (clocks_in zones) w event (listed_from (clocks_in zones) w event.start 0 event.rdates)) (w.to +ℤ whole_days 14) low sought late (kept-first (clocks_in zones) event sound.start local g.0)
       (omega (arith, ints, same, near.1, at.0))
 
   own-day-of : (local : Local) → (local ≡ local_of event.start.stamp) ⊎ IsRuleStart (clocks_in zones) event local → IsDayNumber local.day
@@ -273,18 +271,17 @@ module _ (zones : FileZones) (w : Window) (event : Event) (sound : IsEvent event
       (subst (λ t. since ≤ℤ t) (sym k.1) met.1.0) in
       in-moment has.start o.start starts (has.same ∙ k.1) has.stands
 
-  has-ruled-by : (o : Option RuleStarts) (parts : Option RuleParts) (overridden : List ℤ) (coming : List Entry) → event.rule ≡ parts
-      → MatchOption o (event.rule ≡ None) (λ s. IsRuleFrom (clocks_in zones) event w since (listed_apart (clocks_in zones) w event parts) (starts_left s))
-      → ((e : Entry) → IsIn e coming → IsSeriesMet (clocks_in zones) event w since overridden e) → HasRuled (clocks_in zones) event o coming
-  has-ruled-by None parts overridden coming e r f = tt
-  has-ruled-by (Some starts) None overridden coming e r f = let g : None ≡ Some r.rule = ap (option_map (recurrence_by event.start.stamp)) (sym e) ∙ r.has in
-      absurd cc
-  has-ruled-by (Some starts) (Some parts) overridden coming e r f = ruled-coming overridden (starts_left starts) coming r f
-
   pub has-ruled : (o : Option RuleStarts) (overridden : List ℤ) (coming : List Entry)
       → MatchOption o (event.rule ≡ None) (λ s. IsRuleFrom (clocks_in zones) event w since (listed_apart (clocks_in zones) w event event.rule) (starts_left s))
       → IsListing entry_cmp (IsSeriesMet (clocks_in zones) event w since overridden) coming → HasRuled (clocks_in zones) event o coming
-  has-ruled o overridden coming r l = has-ruled-by o event.rule overridden coming refl r (λ e m. (l.exact e).0 m)
+  has-ruled o overridden coming r l = by o event.rule refl r
+    where
+      by : (o : Option RuleStarts) (parts : Option RuleParts) → event.rule ≡ parts
+          → MatchOption o (event.rule ≡ None) (λ s. IsRuleFrom (clocks_in zones) event w since (listed_apart (clocks_in zones) w event parts) (starts_left s))
+          → HasRuled (clocks_in zones) event o coming
+      by None parts e r = tt
+      by (Some starts) None e r = let g : None ≡ Some r.rule = ap (option_map (recurrence_by event.start.stamp)) (sym e) ∙ r.has in absurd cc
+      by (Some starts) (Some parts) e r = ruled-coming overridden (starts_left starts) coming r (λ o m. (l.exact o).0 m)
 
   pub starts-since : (o : Option RuleStarts) (listed : List Start) → AreFirsts (listed_apart (clocks_in zones) w event event.rule) listed
       → MatchOption o (event.rule ≡ None) (λ s. IsRuleFrom (clocks_in zones) event w since (listed_apart (clocks_in zones) w event event.rule) (starts_left s))
@@ -296,9 +293,9 @@ module _ (zones : FileZones) (w : Window) (event : Event) (sound : IsEvent event
   }
 
 -- the rule's starts by what the starts that are known from the first and the instant are
-pub ruled-as : (clocks : Clocks) (event : Event) (w : Window) (t since : ℤ) (given listed : List Start) (o : Option RuleStarts) → t ≡ since → given ≡ listed
+pub ruled-as : (clocks : Clocks) (event : Event) (w : Window) {t since : ℤ} {given listed : List Start} (o : Option RuleStarts) → t ≡ since → given ≡ listed
     → MatchOption o (event.rule ≡ None) (λ s. IsRuleFrom clocks event w t given (starts_left s)) →
     MatchOption o (event.rule ≡ None) (λ s. IsRuleFrom clocks event w since listed (starts_left s))
-ruled-as clocks event w t since given listed o e f h =
+ruled-as clocks event w {t = t} {listed = listed} o e f h =
     subst (λ x. MatchOption o (event.rule ≡ None) (λ s. IsRuleFrom clocks event w x listed (starts_left s))) e
     (subst (λ xs. MatchOption o (event.rule ≡ None) (λ s. IsRuleFrom clocks event w t xs (starts_left s))) f h)

@@ -181,10 +181,10 @@ module _ (files : List FileSaid) (display : Clock) (w : Window) (after : Option 
 
 -- The versions that count give the listing.
 pub singles-listing : {files : List FileSaid} {display : Clock} {vs : List Version} (w : Window) (after : Option Rank) (os : List Version)
-    (given sorted : List Single) → AreChosen files display vs → map seen os ≡ filter is_override (map seen vs)
+    {given sorted : List Single} → AreChosen files display vs → map seen os ≡ filter is_override (map seen vs)
     → map single_entry given ≡ filter_map (single_at files display w (map seen os) after) (map seen vs) → IsPermutation given sorted
     → Climbs (on single_entry entry_cmp) sorted → IsListing entry_cmp (IsSingleToCome files display w after) (map single_entry sorted)
-singles-listing {files = files} {display = display} {vs = vs} w after os given sorted chosen overrides are p climbs =
+singles-listing {files = files} {display = display} {vs = vs} w after os {given = given} {sorted = sorted} chosen overrides are p climbs =
     let label = label_of files display in
     let one = single_at files display w (map seen os) after in
     let picked : filter_map (λ p. single_at files display w (map seen os) after (label_of files display p)) chosen.chosen ≡ map single_entry given =

@@ -148,16 +148,16 @@ module _ {A : Type 0} (R : A → A → Ordering) (o : IsTotalOrder R) where
   none-tied x y [] f h = ties_of-nil x
   none-tied x y (z ∷ zs) f h = omega (arith, ties_of-cons x z zs, ap tie (f z h.0), none-tied x y zs f h.1)
 
-  one-tie-by : (x y : A) (ys : List A) (c : Ordering) → R x y ≡ c → IsBefore R y ys → ties_of x ys ≤ 1 → ties_of x (y ∷ ys) ≤ 1
-  one-tie-by x y ys Less e h ih = omega (arith, ties_of-cons x y ys, ap tie e)
-  one-tie-by x y ys Equal e h ih =
-      omega (arith, ties_of-cons x y ys, ap tie e, none-tied x y ys (λ z l. o.congr x y z e ∙ l) h)
-  one-tie-by x y ys Greater e h ih = omega (arith, ties_of-cons x y ys, ap tie e)
-
   -- of a rising list at most one ties with x
   one-tie : (x : A) (xs : List A) → Rises R xs → ties_of x xs ≤ 1
   one-tie x [] h = omega (arith, ties_of-nil x)
-  one-tie x (y ∷ ys) h = one-tie-by x y ys (R x y) refl h.0 (one-tie x ys h.1)
+  one-tie x (y ∷ ys) h = by (R x y) refl (one-tie x ys h.1)
+    where
+      by : (c : Ordering) → R x y ≡ c → ties_of x ys ≤ 1 → ties_of x (y ∷ ys) ≤ 1
+      by Less e ih = omega (arith, ties_of-cons x y ys, ap tie e)
+      by Equal e ih =
+          omega (arith, ties_of-cons x y ys, ap tie e, none-tied x y ys (λ z l. o.congr x y z e ∙ l) h.0)
+      by Greater e ih = omega (arith, ties_of-cons x y ys, ap tie e)
 
   some-tie : (x y : A) (ys : List A) → R x y ≡ Equal → IsIn y ys → 1 ≤ ties_of x ys
   some-tie x y [] e m = absurd m
@@ -167,17 +167,17 @@ module _ {A : Type 0} (R : A → A → Ordering) (o : IsTotalOrder R) where
 
   -- S orders what P holds of, and ties no more there than R does
   module _ (S : A → A → Ordering) (P : A → Type 0) (finer : (x y : A) → P x → P y → S x y ≡ Equal → R x y ≡ Equal) where
-    less-by : (x y : A) (ys : List A) (c : Ordering) → P x → P y → S x y ≡ c → is_gt (S x y) ≡ false → IsIn y ys → ties_of x (x ∷ ys) ≤ 1 → S x y ≡ Less
-    less-by x y ys Less p q e g m t = e
-    less-by x y ys Equal p q e g m t =
-        absurd (omega (arith, ties_of-cons x x ys, ap tie (tied_itself o x), some-tie x y ys (finer x y p q e) m))
-    less-by x y ys Greater p q e g m t = let f : is_gt Greater ≡ false = ap is_gt (sym e) ∙ g in cc
-
     before-all : (x : A) (ys zs : List A) → P x → ((y : A) → IsIn y ys → P y) → ((y : A) → IsIn y zs → IsIn y ys) → IsUpTo S x zs → ties_of x (x ∷ ys) ≤ 1 →
         IsBefore S x zs
     before-all x ys [] p all f h t = tt
     before-all x ys (z ∷ zs) p all f h t =
-        (less-by x z ys (S x z) p (all z (f z (inl refl))) refl h.0 (f z (inl refl)) t, before-all x ys zs p all (λ y m. f y (inr m)) h.1 t)
+        (by (S x z) refl, before-all x ys zs p all (λ y m. f y (inr m)) h.1 t)
+      where
+        by : (c : Ordering) → S x z ≡ c → S x z ≡ Less
+        by Less e = e
+        by Equal e =
+            absurd (omega (arith, ties_of-cons x x ys, ap tie (tied_itself o x), some-tie x z ys (finer x z p (all z (f z (inl refl))) e) (f z (inl refl)), t))
+        by Greater e = let no : is_gt Greater ≡ false = ap is_gt (sym e) ∙ h.0 in cc
 
     rises-climbing : (xs : List A) → ((x : A) → IsIn x xs → P x) → Climbs S xs → ((x : A) → ties_of x xs ≤ 1) → Rises S xs
     rises-climbing [] all h t = tt

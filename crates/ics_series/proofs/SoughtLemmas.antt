@@ -55,10 +55,10 @@ module _ (clocks : Clocks) (w : Window) (event : Event) where
       (λ n. earliest-each (earlier (is_span_met clocks w event x x.given) least x.moment) s xs n e) m
 
   -- one start further on
-  pub earliest-step : (least next : ℤ) (xs : List Start) (k : ℕ) (s : Start) → k < length xs → s ≡ get_or xs k s →
+  pub earliest-step : (least : ℤ) {next : ℤ} (xs : List Start) (k : ℕ) {s : Start} → k < length xs → s ≡ get_or xs k s →
       next ≡ earlier (is_span_met clocks w event s s.given) least s.moment
       → earliest_from clocks w event next (drop (k + 1) xs) ≡ earliest_from clocks w event least (drop k xs)
-  earliest-step least next xs k s l e n =
+  earliest-step least xs k {s = s} l e n =
       let front : drop k xs ≡ s ∷ drop (suc k) xs = drop-cons xs k s l ∙ ap (λ x. x ∷ drop (suc k) xs) (sym e) in
       ap (λ t. earliest_from clocks w event t (drop (k + 1) xs)) n
       ∙ (ap (λ i. earliest_from clocks w event (earlier (is_span_met clocks w event s s.given) least s.moment) (drop i xs)) (add-one k)

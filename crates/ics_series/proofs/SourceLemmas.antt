@@ -52,11 +52,11 @@ all-as P Q (x ∷ xs) f h = (f x h.0, all-as P Q xs f h.1)
 
 -- those that stand before a place come before what stands there
 module _ {A B : Type 0} (R : B → B → Ordering) (o : IsTotalOrder R) (f : A → B) where
-  before-at : (xs : List A) (i : ℕ) (v : A) (y : B) → slice_get xs i ≡ Some v → Rises R (map f xs) → IsIn y (map f (take i xs)) → R y (f v) ≡ Less
-  before-at [] i v y e r m = let n : None ≡ Some v = e in absurd cc
-  before-at (x ∷ xs) zero v y e r m = absurd m
-  before-at (x ∷ xs) (suc i) v y e r m =
-      ⊎_elim (λ s. ap (λ z. R z (f v)) s ∙ before-in R o (f x) (f v) (map f xs) r.0 (there-in f xs i v e)) (λ n. before-at xs i v y e r.1 n) m
+  before-at : (xs : List A) (i : ℕ) {v : A} (y : B) → slice_get xs i ≡ Some v → Rises R (map f xs) → IsIn y (map f (take i xs)) → R y (f v) ≡ Less
+  before-at [] i {v = v} y e r m = let n : None ≡ Some v = e in absurd cc
+  before-at (x ∷ xs) zero y e r m = absurd m
+  before-at (x ∷ xs) (suc i) {v = v} y e r m =
+      ⊎_elim (λ s. ap (λ z. R z (f v)) s ∙ before-in R o (f x) (f v) (map f xs) r.0 (there-in f xs i v e)) (λ n. before-at xs i y e r.1 n) m
 
 then-none : (c : Ordering) → ordering_then c Equal ≡ c
 then-none Less = refl
@@ -118,7 +118,7 @@ module _ {files : List FileSaid} {display : Clock} {w : Window} {after : Option 
     earlier : (i : ℕ) {v : Version} (m n : Recurring) → slice_get vs i ≡ Some v → IsSource files display w after (map seen (take i vs)) m →
         IsSourceOf files display w after (seen v) n → uid_cmp m n ≡ Less
     earlier i {v = v} m n there h k =
-        let before = before-at (on (λ (x : Label). x.subject) subject_cmp) (on_total (λ (x : Label). x.subject) subject_total) seen vs i v h.label there
+        let before = before-at (on (λ (x : Label). x.subject) subject_cmp) (on_total (λ (x : Label). x.subject) subject_total) seen vs i h.label there
         (chosen-rises chosen) h.stands in
         masters-less m.event.uid n.event.uid
         (ap (λ s. subject_cmp s (record { uid = n.event.uid; recurrence = None })) (sym (subject-of h.label (in-taken vs i h.label h.stands) m h.is))

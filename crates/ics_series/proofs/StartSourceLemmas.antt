@@ -143,9 +143,9 @@ rule-is first None rule e = let f : None ≡ Some rule = e in absurd cc
 
 -- What gives starts.
 -- what the rule keeps is a time of the years of stamps
-pub kept-time : (event : Event) (rule : Recurrence) (a : Local) → IsTime event.start → recurrence_of event ≡ Some rule → IsDayNumber a.day →
+pub kept-time : (event : Event) {rule : Recurrence} (a : Local) → IsTime event.start → recurrence_of event ≡ Some rule → IsDayNumber a.day →
     is_kept rule (number a) ≡ true → IsTime (time_at event.start a)
-kept-time event rule a h e d k =
+kept-time event {rule = rule} a h e d k =
     let by = rule-is event.start.stamp event.rule rule e in
     time-at event.start a h (kept-day event.start by.0 a h d (subst (λ r. is_kept r (number a) ≡ true) by.1 k))
 
@@ -167,9 +167,9 @@ same-first clocks event g k x y gives other h l =
     same-given clocks event k x y (subst (λ i. GivesStart clocks event i x) (same-source g k h l) gives) other
 
 -- an event has one occurrence at most with a start
-pub one-instance : (clocks : Clocks) (event : Event) (start end other : ℤ) → IsInstance clocks event start end → IsInstance clocks event start other →
+pub one-instance : {clocks : Clocks} {event : Event} {start end other : ℤ} → IsInstance clocks event start end → IsInstance clocks event start other →
     end ≡ other
-one-instance clocks event start end other h k =
+one-instance {clocks = clocks} {event = event} h k =
     let below = h.earliest k.source k.given k.gives (sym k.starts) in
     let above = k.earliest h.source h.given h.gives (sym h.starts) in
     h.ends ∙ (ap (finish clocks event) (same-first clocks event h.source k.source h.given k.given h.gives k.gives below above) ∙ sym k.ends)
@@ -235,7 +235,7 @@ pub gives-value : (clocks : Clocks) (event : Event) (g : StartSource) (given : R
 gives-value clocks event (Kept local) given h all g =
     subst IsRdate (sym g.1)
     (⊎_elim (λ e. subst (λ l. IsTime (time_at event.start l)) (sym e) (subst IsTime (sym (own-time event.start)) h))
-    (λ r. kept-time event r.rule local h r.has r.calendar r.kept) g.0)
+    (λ r. kept-time event local h r.has r.calendar r.kept) g.0)
 gives-value clocks event (Listed place) given h all g =
     subst IsRdate (sym g.2) (given-value event.start event.start.stamp g.0 h (all-at IsRdate event.rdates place g.0 all g.1))
 

@@ -85,13 +85,13 @@ module _ (zones : FileZones) (event : Event) (w : Window) (since : ℤ) (coming 
       (λ o. let close = near o.occurrence o.stands o.of o.local o.kept in omega (arith, ints, asked-number s, close, o.past))
       to
 
-  rule-steps : (o : Option RuleStarts) (rule : Recurrence) → recurrence_of event ≡ Some rule →
+  rule-steps : (o : Option RuleStarts) {rule : Recurrence} → recurrence_of event ≡ Some rule →
       HasOwnRule zones event w (first_of (clocks_in zones) w event since) o
       → AreAskedNear (rule_asked o) → IsLookedFrom (record { clocks = clocks_in zones; event = event; window = w; since = since }) a →
       IsLookedTo (record { clocks = clocks_in zones; event = event; window = w; since = since }) coming b
       → rule_looked o ≤ period_count rule (looks_from rule.parts.count (number rule.start) a) b
-  rule-steps None rule has own near from to = omega arith
-  rule-steps (Some s) rule has own near from to =
+  rule-steps None has own near from to = omega arith
+  rule-steps (Some s) {rule = rule} has own near from to =
       let same : s.rule ≡ rule = some-same s.rule rule (sym s.of ∙ (ap recurrence_of own.event_is ∙ has)) in
       let low : a ≤ number s.from = omega (arith, ints, from, own.late, number-seconds s.from own.day) in
       let high = asked-by s own near to in
@@ -115,7 +115,7 @@ series-most s coming (Some rule) most has near bound =
     let p = bound rule has in
     omega (
       arith,
-      rule-steps s.zones s.event.now s.window s.since coming p.a p.b s.rule_starts rule has s.own_rule (λ e m of. (near e m of).1) p.from p.to,
+      rule-steps s.zones s.event.now s.window s.since coming p.a p.b s.rule_starts has s.own_rule (λ e m of. (near e m of).1) p.from p.to,
       p.count,
     )
 

@@ -15,10 +15,10 @@ pub none-sorted : (from : ℕ) (lists : List (List Entry)) → length lists ≤ 
 none-sorted from lists l i a m j b low high n = absurd (subst (IsIn a) (get_or_past lists i [] (omega arith)) m)
 
 -- what the places of two heads tell is the order of their UIDs
-pub head-order : (from i j : ℕ) (heads : List (Option Entry)) (a b : Entry) (order : Option Ordering) → AreHeadsSorted from heads
+pub head-order : (from i j : ℕ) (heads : List (Option Entry)) {a b : Entry} (order : Option Ordering) → AreHeadsSorted from heads
     → slice_index_or heads i None ≡ Some a → slice_index_or heads j None ≡ Some b → IsPlaceOrder from i j order → IsUidOrder order a b
-head-order from i j heads a b None h p q k = tt
-head-order from i j heads a b (Some order) h p q k = k.1.1 ∙ sym (h i j a b k.0 k.1.0 p q)
+head-order from i j heads None h p q k = tt
+head-order from i j heads {a = a} {b = b} (Some order) h p q k = k.1.1 ∙ sym (h i j a b k.0 k.1.0 p q)
 
 -- where no list has more than it had
 module _ (from : ℕ) (old new : List (List Entry)) (fewer : (i : ℕ) (a : Entry) → IsIn a (get_or new i []) → IsIn a (get_or old i [])) where
@@ -45,9 +45,9 @@ module _ {X : Type 0} (head : X → Option Occurrence) (rest : X → List Entry)
   head-in (x ∷ xs) (suc i) a e = head-in xs i a e
 
   -- what is held at a place
-  pub held-at : (xs : List X) (i : ℕ) (x : X) (o : Occurrence) → i < length xs → x ≡ get_or xs i x → head x ≡ Some o →
+  pub held-at : (xs : List X) (i : ℕ) {x : X} {o : Occurrence} → i < length xs → x ≡ get_or xs i x → head x ≡ Some o →
       get_or (map (λ y. option_map entry_of (head y)) xs) i None ≡ Some (entry_of o)
-  held-at xs i x o l read e =
+  held-at xs i {x = x} l read e =
       get_or-map (λ y. option_map entry_of (head y)) xs i x None l ∙ (sym (ap (λ y. option_map entry_of (head y)) read) ∙ ap (option_map entry_of) e)
 
   pub heads-sorted : (from : ℕ) (xs : List X) → AreSortedFrom from (map (λ x. listed (head x) (rest x)) xs) →
@@ -60,11 +60,11 @@ module _ {X : Type 0} (head : X → Option Occurrence) (rest : X → List Entry)
   given-sorted from i xs o e h = h i (entry_of o) (head-in xs i (entry_of o) e)
 
   -- what the places of the last source and of a lead tell
-  pub last-order : (from i j : ℕ) (xs : List X) (last : Occurrence) (b : Entry) (order : Option Ordering) →
+  pub last-order : (from i j : ℕ) (xs : List X) (last : Occurrence) {b : Entry} (order : Option Ordering) →
       IsLastSorted from i (Some last) (map (λ x. listed (head x) (rest x)) xs)
       → get_or (map (λ x. option_map entry_of (head x)) xs) j None ≡ Some b → IsPlaceOrder from i j order → IsUidOrder order (entry_of last) b
-  last-order from i j xs last b None h e k = tt
-  last-order from i j xs last b (Some order) h e k = k.1.1 ∙ sym (h j b k.0 k.1.0 (head-in xs j b e))
+  last-order from i j xs last None h e k = tt
+  last-order from i j xs last {b = b} (Some order) h e k = k.1.1 ∙ sym (h j b k.0 k.1.0 (head-in xs j b e))
 
   -- where one lead has drawn, or could not
   module _ (old new : X) where

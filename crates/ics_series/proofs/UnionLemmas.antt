@@ -8,40 +8,40 @@ use Rattle.std.specs.declared.cmp.Ordering.TheVariants.{Less, Equal, Greater}
 use Rattle.ics_series.specs.Listing.{IsIn, IsListing}
 use Rattle.ics_series.specs.Merged.{by_order, put, union, merged, HasNoKey, IsFromFirst}
 use Rattle.ics_series.specs.MergedLaws.{rises-merged, rises-union}
-use Rattle.ics_series.specs.Rising.{IsBefore, Rises}
+use Rattle.ics_series.specs.Rising.{Rises}
 use Rattle.ics_series.proofs.ListingLemmas.{before-in, one-rising}
 
 module _ {A : Type 0} (R : A → A → Ordering) (o : IsTotalOrder R) where
   -- x takes the place of an entry of its key
-  put-in-by : (e x y : A) (ys : List A) (c : Ordering) → R x y ≡ c → IsBefore R y ys → (IsIn e (put R x ys) → (e ≡ x) ⊎ (IsIn e ys × (R x e ≢ Equal)))
-      → IsIn e (by_order c (x ∷ y ∷ ys) (x ∷ ys) (y ∷ put R x ys)) → (e ≡ x) ⊎ (IsIn e (y ∷ ys) × (R x e ≢ Equal))
-  put-in-by e x y ys Less p h ih m =
-      ⊎_elim inl
-      (λ k. inr (
-        k,
-        ⊎_elim (λ s t. let q : R x y ≡ Equal = sym (ap (R x) s) ∙ t in cc) (λ n t. let q : R x e ≡ Less =
-            o.trans x y e p (before-in R o y e ys h n) in cc) k,
-      )) m
-  put-in-by e x y ys Equal p h ih m =
-      ⊎_elim inl
-      (λ n. inr (inr n, λ t. let q : R y e ≡ Less = before-in R o y e ys h n in let s : R x e ≡ R y e = o.congr x y e p in cc)) m
-  put-in-by e x y ys Greater p h ih m =
-      ⊎_elim (λ s. inr (inl s, λ t. let q : R x y ≡ Equal = sym (ap (R x) s) ∙ t in cc))
-      (λ n. ⊎_elim inl (λ k. inr (inr k.0, k.1)) (ih n)) m
-
   put-in : (e x : A) (ys : List A) → Rises R ys → IsIn e (put R x ys) → (e ≡ x) ⊎ (IsIn e ys × (R x e ≢ Equal))
   put-in e x [] h m = ⊎_elim inl (λ k. absurd k) m
-  put-in e x (y ∷ ys) h m = put-in-by e x y ys (R x y) refl h.0 (put-in e x ys h.1) m
-
-  in-put-by : (e x y : A) (ys : List A) (c : Ordering) → R x y ≡ c → ((e ≡ x) ⊎ (IsIn e ys × (R x e ≢ Equal)) → IsIn e (put R x ys))
-      → (e ≡ x) ⊎ (IsIn e (y ∷ ys) × (R x e ≢ Equal)) → IsIn e (by_order c (x ∷ y ∷ ys) (x ∷ ys) (y ∷ put R x ys))
-  in-put-by e x y ys Less p ih m = ⊎_elim inl (λ k. inr k.0) m
-  in-put-by e x y ys Equal p ih m = ⊎_elim inl (λ k. inr (⊎_elim (λ s. absurd (k.1 (ap (R x) s ∙ p))) (λ n. n) k.0)) m
-  in-put-by e x y ys Greater p ih m = ⊎_elim (λ s. inr (ih (inl s))) (λ k. ⊎_elim inl (λ n. inr (ih (inr (n, k.1)))) k.0) m
+  put-in e x (y ∷ ys) h m = by (R x y) refl (put-in e x ys h.1) m
+    where
+      by : (c : Ordering) → R x y ≡ c → (IsIn e (put R x ys) → (e ≡ x) ⊎ (IsIn e ys × (R x e ≢ Equal))) → IsIn e (by_order c (x ∷ y ∷ ys) (x ∷ ys) (y ∷ put R x ys))
+          → (e ≡ x) ⊎ (IsIn e (y ∷ ys) × (R x e ≢ Equal))
+      by Less p ih m =
+          ⊎_elim inl
+          (λ k. inr (
+            k,
+            ⊎_elim (λ s t. let q : R x y ≡ Equal = sym (ap (R x) s) ∙ t in cc) (λ n t. let q : R x e ≡ Less =
+                o.trans x y e p (before-in R o y e ys h.0 n) in cc) k,
+          )) m
+      by Equal p ih m =
+          ⊎_elim inl
+          (λ n. inr (inr n, λ t. let q : R y e ≡ Less = before-in R o y e ys h.0 n in let s : R x e ≡ R y e = o.congr x y e p in cc)) m
+      by Greater p ih m =
+          ⊎_elim (λ s. inr (inl s, λ t. let q : R x y ≡ Equal = sym (ap (R x) s) ∙ t in cc))
+          (λ n. ⊎_elim inl (λ k. inr (inr k.0, k.1)) (ih n)) m
 
   in-put : (e x : A) (ys : List A) → (e ≡ x) ⊎ (IsIn e ys × (R x e ≢ Equal)) → IsIn e (put R x ys)
   in-put e x [] m = ⊎_elim inl (λ k. absurd k.0) m
-  in-put e x (y ∷ ys) m = in-put-by e x y ys (R x y) refl (in-put e x ys) m
+  in-put e x (y ∷ ys) m = by (R x y) refl (in-put e x ys) m
+    where
+      by : (c : Ordering) → R x y ≡ c → ((e ≡ x) ⊎ (IsIn e ys × (R x e ≢ Equal)) → IsIn e (put R x ys)) → (e ≡ x) ⊎ (IsIn e (y ∷ ys) × (R x e ≢ Equal))
+          → IsIn e (by_order c (x ∷ y ∷ ys) (x ∷ ys) (y ∷ put R x ys))
+      by Less p ih m = ⊎_elim inl (λ k. inr k.0) m
+      by Equal p ih m = ⊎_elim inl (λ k. inr (⊎_elim (λ s. absurd (k.1 (ap (R x) s ∙ p))) (λ n. n) k.0)) m
+      by Greater p ih m = ⊎_elim (λ s. inr (ih (inl s))) (λ k. ⊎_elim inl (λ n. inr (ih (inr (n, k.1)))) k.0) m
 
   pub itself-put : (x : A) (ys : List A) → IsIn x (put R x ys)
   itself-put x ys = in-put x x ys (inl refl)
@@ -88,25 +88,24 @@ module _ {A : Type 0} (R : A → A → Ordering) (o : IsTotalOrder R) where
   merged-is xss h = record { rises = rises-merged R o xss; exact = λ e. (merged-in e xss, in-merged e xss h) }
 
   -- a key that is not x's is that of something in the list where it is in the list with x
-  no_key-put-by : (e x y : A) (ys : List A) (c : Ordering) → R x y ≡ c → (HasNoKey R e (put R x ys) → (R e x ≢ Equal) × HasNoKey R e ys)
-      → HasNoKey R e (by_order c (x ∷ y ∷ ys) (x ∷ ys) (y ∷ put R x ys)) → (R e x ≢ Equal) × HasNoKey R e (y ∷ ys)
-  no_key-put-by e x y ys Less p ih h = h
-  no_key-put-by e x y ys Equal p ih h = (h.0, (λ t. h.0 (alike_right o x y e p ∙ t), h.1))
-  no_key-put-by e x y ys Greater p ih h = let k = ih h.1 in (k.0, (h.0, k.1))
-
   no_key-put : (e x : A) (ys : List A) → HasNoKey R e (put R x ys) → (R e x ≢ Equal) × HasNoKey R e ys
   no_key-put e x [] h = h
-  no_key-put e x (y ∷ ys) h = no_key-put-by e x y ys (R x y) refl (no_key-put e x ys) h
-
-  put-no_key-by : (e x y : A) (ys : List A) (c : Ordering) → (R e x ≢ Equal) → HasNoKey R e (y ∷ ys) → HasNoKey R e (put R x ys)
-      → HasNoKey R e (by_order c (x ∷ y ∷ ys) (x ∷ ys) (y ∷ put R x ys))
-  put-no_key-by e x y ys Less n h k = (n, h)
-  put-no_key-by e x y ys Equal n h k = (n, h.1)
-  put-no_key-by e x y ys Greater n h k = (h.0, k)
+  no_key-put e x (y ∷ ys) h = by (R x y) refl (no_key-put e x ys) h
+    where
+      by : (c : Ordering) → R x y ≡ c → (HasNoKey R e (put R x ys) → (R e x ≢ Equal) × HasNoKey R e ys)
+          → HasNoKey R e (by_order c (x ∷ y ∷ ys) (x ∷ ys) (y ∷ put R x ys)) → (R e x ≢ Equal) × HasNoKey R e (y ∷ ys)
+      by Less p ih h = h
+      by Equal p ih h = (h.0, (λ t. h.0 (alike_right o x y e p ∙ t), h.1))
+      by Greater p ih h = let k = ih h.1 in (k.0, (h.0, k.1))
 
   put-no_key : (e x : A) (ys : List A) → (R e x ≢ Equal) → HasNoKey R e ys → HasNoKey R e (put R x ys)
   put-no_key e x [] n h = (n, tt)
-  put-no_key e x (y ∷ ys) n h = put-no_key-by e x y ys (R x y) n h (put-no_key e x ys n h.1)
+  put-no_key e x (y ∷ ys) n h = by (R x y) (put-no_key e x ys n h.1)
+    where
+      by : (c : Ordering) → HasNoKey R e (put R x ys) → HasNoKey R e (by_order c (x ∷ y ∷ ys) (x ∷ ys) (y ∷ put R x ys))
+      by Less k = (n, h)
+      by Equal k = (n, h.1)
+      by Greater k = (h.0, k)
 
   no_key-union : (e : A) (xs ys : List A) → HasNoKey R e (union R xs ys) → HasNoKey R e xs × HasNoKey R e ys
   no_key-union e [] ys h = (tt, h)

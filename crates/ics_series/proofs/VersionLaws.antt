@@ -94,7 +94,7 @@ module _ (files : List FileSaid) (display : Clock) (s : SubjectSeen) where
         version = t.best;
         counts = chosen;
         same = t.same ∙ sym e;
-        one = λ q k u. one-chosen files display q t.best k chosen (u ∙ e ∙ sym t.same);
+        one = λ q k u. one-chosen k chosen (u ∙ e ∙ sym t.same);
       }
 
 -- an event of the folder has exactly one version that counts

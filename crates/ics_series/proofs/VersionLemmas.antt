@@ -105,57 +105,55 @@ module _ (files : List FileSaid) (display : Clock) where
         (untied (group x y) (sym (ties x y) ∙ e) (group-up-to x y (group x y) refl h.0.0)) h.1.0 m
 
     -- The members.
-    in-lasts-by : (x e : Placed) (xs : List Placed) (b : Bool) → IsFollowed b x xs → Climbs order (x ∷ xs)
-        → (IsIn e (lasts same xs) → IsIn e xs × IsTop xs e) → IsIn e (cond b (lasts same xs) (x ∷ lasts same xs)) → IsIn e (x ∷ xs) × IsTop (x ∷ xs) e
-    in-lasts-by x e xs true f h ih m =
-        let k = ih m in (
-          inr k.0,
-          λ q n u. ⊎_elim (λ s. subst (λ w. placed_cmp e w ≢ Less) (sym s)
-              (not-greater x e (same-group x e (subst (λ w. subject_of files display w ≡ subject_of files display e) s u)) (up-to-in order x e xs h.0 k.0)))
-              (λ r. k.1 q r u) n,
-        )
-    in-lasts-by x e xs false f h ih m =
-        ⊎_elim
-        (λ s. (
-          inl s,
-          λ q n u. ⊎_elim (λ t l. let t2 : placed_cmp e q ≡ Equal = ap (placed_cmp e) (t ∙ sym s) ∙ tied_itself placed_total e in cc)
-              (λ r l. let a : group x q ≡ Less = f q r in let b : group x q ≡ Equal = same-group x q (ap (subject_of files display) (sym s) ∙ sym u) in cc) n,
-        ))
-        (λ n. let k = ih n in (
-          inr k.0,
-          λ q w u. ⊎_elim (λ t l. let a : group x e ≡ Less = f e k.0 in
-              let b : group x e ≡ Equal = same-group x e (ap (subject_of files display) (sym t) ∙ u) in cc)
-              (λ r. k.1 q r u) w,
-        ))
-        m
-
     in-lasts : (e : Placed) (xs : List Placed) → Climbs order xs → IsIn e (lasts same xs) → IsIn e xs × IsTop xs e
     in-lasts e [] h m = absurd m
-    in-lasts e (x ∷ xs) h m = in-lasts-by x e xs (is_followed same x xs) (followed-by x xs (is_followed same x xs) refl h) h (in-lasts e xs h.1) m
+    in-lasts e (x ∷ xs) h m = by (is_followed same x xs) (followed-by x xs (is_followed same x xs) refl h) (in-lasts e xs h.1) m
+      where
+        by : (b : Bool) → IsFollowed b x xs → (IsIn e (lasts same xs) → IsIn e xs × IsTop xs e) → IsIn e (cond b (lasts same xs) (x ∷ lasts same xs)) →
+            IsIn e (x ∷ xs) × IsTop (x ∷ xs) e
+        by true f ih m =
+            let k = ih m in (
+              inr k.0,
+              λ q n u. ⊎_elim (λ s. subst (λ w. placed_cmp e w ≢ Less) (sym s)
+                  (not-greater x e (same-group x e (subst (λ w. subject_of files display w ≡ subject_of files display e) s u)) (up-to-in order x e xs h.0 k.0)))
+                  (λ r. k.1 q r u) n,
+            )
+        by false f ih m =
+            ⊎_elim
+            (λ s. (
+              inl s,
+              λ q n u. ⊎_elim (λ t l. let t2 : placed_cmp e q ≡ Equal = ap (placed_cmp e) (t ∙ sym s) ∙ tied_itself placed_total e in cc)
+                  (λ r l. let a : group x q ≡ Less = f q r in let b : group x q ≡ Equal = same-group x q (ap (subject_of files display) (sym s) ∙ sym u) in cc) n,
+            ))
+            (λ n. let k = ih n in (
+              inr k.0,
+              λ q w u. ⊎_elim (λ t l. let a : group x e ≡ Less = f e k.0 in
+                  let b : group x e ≡ Equal = same-group x e (ap (subject_of files display) (sym t) ∙ u) in cc)
+                  (λ r. k.1 q r u) w,
+            ))
+            m
 
     abbrev AreApart : List Placed → Type 0
     AreApart xs = (p q : Placed) → IsIn p xs → IsIn q xs → placed_cmp p q ≡ Equal → p ≡ q
 
-    lasts-in-by : (x e : Placed) (xs : List Placed) (b : Bool) → IsFollowed b x xs → Climbs order (x ∷ xs) → AreApart (x ∷ xs)
-        → (IsIn e xs → IsTop xs e → IsIn e (lasts same xs)) → IsIn e (x ∷ xs) → IsTop (x ∷ xs) e → IsIn e (cond b (lasts same xs) (x ∷ lasts same xs))
-    lasts-in-by x e xs true f h a ih m t =
-        let y = f.0 in
-        ⊎_elim
-        (λ s.
-        let uid : subject_of files display x ≡ subject_of files display y = exact-subject (subject_of files display x) (subject_of files display y) f.2 in
-        let up : placed_cmp x y ≢ Less = subst (λ w. placed_cmp w y ≢ Less) s (t y (inr f.1) (sym uid ∙ ap (subject_of files display) (sym s))) in
-        let down : placed_cmp y x ≢ Less = not-greater x y f.2 (up-to-in order x y xs h.0 f.1) in
-        let one : x ≡ y = a x y (inl refl) (inr f.1) (tied-by x y (placed_cmp x y) refl up down) in
-        ih (subst (λ w. IsIn w xs) (sym (s ∙ one)) f.1) (λ q n u. t q (inr n) u))
-        (λ n. ih n (λ q r u. t q (inr r) u))
-        m
-    lasts-in-by x e xs false f h a ih m t = ⊎_elim inl (λ n. inr (ih n (λ q r u. t q (inr r) u))) m
-
     lasts-in : (e : Placed) (xs : List Placed) → Climbs order xs → AreApart xs → IsIn e xs → IsTop xs e → IsIn e (lasts same xs)
     lasts-in e [] h a m t = absurd m
     lasts-in e (x ∷ xs) h a m t =
-        lasts-in-by x e xs (is_followed same x xs) (followed-by x xs (is_followed same x xs) refl h) h a
-        (lasts-in e xs h.1 (λ p q m n. a p q (inr m) (inr n))) m t
+        by (is_followed same x xs) (followed-by x xs (is_followed same x xs) refl h) (lasts-in e xs h.1 (λ p q m n. a p q (inr m) (inr n)))
+      where
+        by : (b : Bool) → IsFollowed b x xs → (IsIn e xs → IsTop xs e → IsIn e (lasts same xs)) → IsIn e (cond b (lasts same xs) (x ∷ lasts same xs))
+        by true f ih =
+            let y = f.0 in
+            ⊎_elim
+            (λ s.
+            let uid : subject_of files display x ≡ subject_of files display y = exact-subject (subject_of files display x) (subject_of files display y) f.2 in
+            let up : placed_cmp x y ≢ Less = subst (λ w. placed_cmp w y ≢ Less) s (t y (inr f.1) (sym uid ∙ ap (subject_of files display) (sym s))) in
+            let down : placed_cmp y x ≢ Less = not-greater x y f.2 (up-to-in order x y xs h.0 f.1) in
+            let one : x ≡ y = a x y (inl refl) (inr f.1) (tied-by x y (placed_cmp x y) refl up down) in
+            ih (subst (λ w. IsIn w xs) (sym (s ∙ one)) f.1) (λ q n u. t q (inr n) u))
+            (λ n. ih n (λ q r u. t q (inr r) u))
+            m
+        by false f ih = ⊎_elim inl (λ n. inr (ih n (λ q r u. t q (inr r) u))) m
 
     -- The order.
     before-lasts : (x : Placed) (xs : List Placed) → ((y : Placed) → IsIn y xs → group x y ≡ Less) → IsBefore group x xs

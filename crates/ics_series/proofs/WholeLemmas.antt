@@ -61,20 +61,18 @@ firsts-by-union starts h = record {
 }
 
 module _ (clocks : Clocks) (w : Window) (first : Time) where
-  climb-by : (b : Bool) (place : ℕ) (s : Start) (starts : List Start) → s.source ≡ Listed place →
-      ((t : Start) → IsIn t starts → IsNotAfter (Listed place) t.source) → SourcesClimb starts → SourcesClimb (with_front b s starts)
-  climb-by true place s starts e f h = (λ t m. subst (λ g. IsNotAfter g t.source) (sym e) (f t m), h)
-  climb-by false place s starts e f h = h
-
   listed-climb : (place : ℕ) (rdates : List Rdate) → SourcesClimb (listed_from clocks w first place rdates)
   listed-climb place [] = tt
-  listed-climb place (r ∷ rdates) =
-      climb-by (not (is_past w (time_of (given_by first r)))) place (start_by clocks (Listed place) (given_by first r))
-      (listed_from clocks w first (place + 1) rdates) refl
-      (λ t m.
-      let k = listed-in clocks w first (place + 1) rdates t m in
-      subst (λ (s : Start). IsNotAfter (Listed place) s.source) (sym k.is) (omega arith))
-      (listed-climb (place + 1) rdates)
+  listed-climb place (r ∷ rdates) = by (not (is_past w (time_of (given_by first r)))) (listed-climb (place + 1) rdates)
+    where
+      by : (b : Bool) → SourcesClimb (listed_from clocks w first (place + 1) rdates)
+          → SourcesClimb (with_front b (start_by clocks (Listed place) (given_by first r)) (listed_from clocks w first (place + 1) rdates))
+      by true h = (
+        λ t m. let k = listed-in clocks w first (place + 1) rdates t m in
+            subst (λ (s : Start). IsNotAfter (Listed place) s.source) (sym k.is) (omega arith),
+        h,
+      )
+      by false h = h
 
 apart-climb : (clocks : Clocks) (w : Window) (event : Event) (parts : Option RuleParts) → SourcesClimb (listed_apart clocks w event parts)
 apart-climb clocks w event None = (

@@ -36,9 +36,11 @@ impl DayToken {
         let Some((day, rest)) = split(text) else {
             return Err(TokenFault::BadToken);
         };
-        // the rest has the form of a key's own token
-        let token = format!(in alloc; "K1.{rest}")?;
-        let key = Token::read(alloc, token.as_str())?;
+        let key = {
+            // the rest has the form of a key's own token
+            let token = format!(in alloc; "K1.{rest}")?;
+            Token::read(alloc, token.as_str())?
+        };
         let key = DayKey { day, key };
         // a key may be read from several spellings, but only its own is a token
         let spelled = DayToken::write(alloc, &key)?;

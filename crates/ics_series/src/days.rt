@@ -1,6 +1,6 @@
 //! The listing of a window under each day.
 ghost use Rattle.std.specs.Prelude.{◌≡◌, ◌⊎◌, ◌≤◌, ◌+◌, ◌-◌, ◌^◌, ◌≤ℤ◌, ◌<ℤ◌, ◌+ℤ◌, ℕ, pos, length, min};
-ghost use Rattle.std.specs.Prelude.{IsTrue, List, [], map, IfOk, IfSome, OnErr, OnOk, None};
+ghost use Rattle.std.specs.Prelude.{List, [], map, IfOk, IfSome, OnErr, OnOk, None};
 ghost use Rattle.std.specs.Option.{option_map};
 ghost use Rattle.ics_values.specs.Days.{IsDayNumber};
 ghost use Rattle.ics_calendar.specs.Event.{said_by};
@@ -9,7 +9,7 @@ ghost use Rattle.ics_series.specs.DayKeys.{day_key_rank};
 ghost use Rattle.ics_series.specs.DayMasters.{agenda_holds, agenda_looked, agenda_sources, day_and_start, masters_in, scope_by, scope_in};
 ghost use Rattle.ics_series.specs.DayMasters.{AreDayMasters, AreMasters, IsNearAgenda, IsPastAgenda};
 ghost use Rattle.ics_series.specs.DaySteps.{begin_day, HasDaysBound, IsLookedBefore};
-ghost use Rattle.ics_series.specs.Entry.{entry_cmp, entry_of, key_rank, Entry};
+ghost use Rattle.ics_series.specs.Entry.{entry_cmp, key_rank, Entry};
 ghost use Rattle.ics_series.specs.HeldMost.{held_most};
 ghost use Rattle.ics_series.specs.Listing.{IsListing};
 ghost use Rattle.ics_series.specs.Meets.{IsListed};
@@ -55,7 +55,7 @@ pub struct Days<'a> {
 }
 
 impl<'a> Days<'a> {
-    ghost use Rattle.ics_series.specs.Ahead.{agenda_coming, is_today, scope_of, GivesToday, IsAhead};
+    ghost use Rattle.ics_series.specs.Ahead.{agenda_coming, scope_of, GivesToday, IsAhead};
 
     // The occurrences to come of the events of these files, under their days.
     pub(crate) fn new(
@@ -168,7 +168,9 @@ impl<'a> Days<'a> {
         ensures err { (list : List OnDay) → IsAhead self.old list → OnErr result (IsAhead self.new list) }
     {
         while let Some(occurrence) = self.agenda.next()? {
-            if self.is_today(&occurrence) {
+            let met = self.window.is_met(&occurrence);
+            let on = is_on(self.display, &self.window, &occurrence, self.day);
+            if met & on {
                 return Ok(Some(occurrence));
             }
         }
@@ -201,16 +203,6 @@ impl<'a> Days<'a> {
             looked,
         };
         Ok(())
-    }
-
-    // Whether an occurrence meets the window and has this day there.
-    fn is_today(&self, occurrence: &Occurrence<'_>) -> bool
-        ensures today { result ≡ is_today (display_clock self.now.display.now) self.now.window self.now.day (entry_of occurrence.now) }
-        ensures within { IsTrue result → IsDayNumber self.now.day }
-    {
-        let met = self.window.is_met(occurrence);
-        let on = is_on(self.display, &self.window, occurrence, self.day);
-        met & on
     }
 }
 

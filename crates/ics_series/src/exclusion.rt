@@ -3,7 +3,7 @@ ghost use Rattle.std.specs.Prelude.{◌≡◌, ◌<ℤ◌, ◌≤ℤ◌, ◌+ℤ
 ghost use Rattle.std.specs.List.Sorted.{IsSorted};
 ghost use Rattle.std.specs.Ordering.{int_cmp};
 ghost use Rattle.ics_series.specs.Clocks.{clock_of, instant};
-ghost use Rattle.ics_series.specs.Exclusions.{excludes, is_among, is_day_in, shown_day, takes_out, with_instant};
+ghost use Rattle.ics_series.specs.Exclusions.{excludes, is_among, shown_day, takes_out, with_instant};
 ghost use Rattle.ics_series.specs.FileZones.{clocks_in, is_past, IsTimeOf};
 ghost use Rattle.ics_values.specs.Locals.{day_of_local};
 ghost use Rattle.ics_series.specs.WindowBounds.{window_last, occurrence_first};
@@ -67,16 +67,9 @@ impl Exclusions {
         ensures { result ≡ takes_out (clock_of (clocks_in zones.entry) first)
             self.now.instants.items self.now.days.items moment }
     {
-        is_among(&self.instants, moment) || self.has_day(zones, first, moment)
-    }
-
-    // Whether the day that a time's clock shows at an instant is removed.
-    fn has_day(&self, zones: FileZones<'_>, first: Time, moment: Moment) -> bool
-        requires first { IsTimeOf zones.zones.now first }
-        requires late { occurrence_first ≤ℤ moment }
-        requires early { moment <ℤ window_last }
-        ensures { result ≡ is_day_in (clock_of (clocks_in zones.entry) first) self.now.days.items moment }
-    {
+        if is_among(&self.instants, moment) {
+            return true;
+        }
         if self.days.is_empty() {
             return false;
         }

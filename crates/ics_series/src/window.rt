@@ -20,7 +20,7 @@ pub struct Window {
 }
 
 impl Window {
-    ghost use Rattle.ics_series.specs.Meeting.{is_met, is_under_way};
+    ghost use Rattle.ics_series.specs.Meeting.{is_met};
     ghost use Rattle.ics_series.specs.Entry.{entry_of};
 
     // Whether an occurrence meets the window.
@@ -28,17 +28,10 @@ impl Window {
         ensures { result ≡ is_met self.now (entry_of occurrence.now) }
     {
         let begun = occurrence.start < self.to;
-        let lasting = self.is_under_way(occurrence.start, occurrence.finish);
+        let under_way = self.from < occurrence.finish;
+        let at_once = occurrence.finish == occurrence.start;
+        let started = self.from <= occurrence.start;
+        let lasting = (under_way | (at_once & started)) & (!self.notstarted | started);
         begun & lasting
-    }
-
-    // Whether an occurrence that begins at `start`, before the window's end, is to be listed by its finish.
-    fn is_under_way(&self, start: Moment, finish: Moment) -> bool
-        ensures { result ≡ is_under_way self.now start finish }
-    {
-        let under_way = self.from < finish;
-        let at_once = finish == start;
-        let started = self.from <= start;
-        (under_way | (at_once & started)) & (!self.notstarted | started)
     }
 }

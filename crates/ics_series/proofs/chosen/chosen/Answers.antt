@@ -11,10 +11,8 @@ use Rattle.ics_series.proofs.chosen.chosen.Goals as goal
 
 pub returns : goal.returns
 returns c =
-    let files = map said_by c.args.files.now in
-    let display = display_clock c.args.display.now in
     IfOk-weaker c.last_of_each.result _ (λ last. AreChosen (map said_by c.args.files.now) (display_clock c.args.display.now) last.items)
-    (λ last h. found files display c.in_ok-versions.versions.items c.sort_unstable_by.new.self.items last.items c.in_ok-versions.ensures
+    (λ last h. found c.in_ok-versions.ensures
     c.sort_unstable_by.ensures.permutation
     (climbs-by (on seen label_cmp) (on_total seen label_total) c.sort_unstable_by.new.self.items c.sort_unstable_by.ensures.sorted (λ f a r f' k. search rules))
     (subst (λ vs. map seen last.items ≡ lasts is_same (map seen vs)) c.deref.ensures.value h))

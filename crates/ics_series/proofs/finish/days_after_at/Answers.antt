@@ -27,7 +27,7 @@ returns g c =
     let same : to_z w64 (of_z w64 c.moment.result) ≡ c.moment.result = omega (arith, ints, c.moment.type_inv) in
     let far = near-moved (g.P.Place.moment_at c.args.place.now) (g.met.P.Place.moment_near c.args.place.now) _ _ c.moment.ensures in
     record {
-      value = moved (g.P.Place.moment_at c.args.place.now) _ _ _ _ same c.moment.ensures (omega (arith, ints, shown, near));
+      value = moved (g.P.Place.moment_at c.args.place.now) same c.moment.ensures (omega (arith, ints, shown, near));
       late = omega (arith, ints, shown, near, far);
       early = omega (arith, ints, shown, near, far);
     }

@@ -12,5 +12,5 @@ returns-clause-value c =
     let shown = simp to_z-of_z at c.days_after.ensures.value in
     let clock : Clock = clock_of (clocks_in c.args.zones) c.args.time in
     let value : c.days_after.result ≡ clock.moment (local_at clock c.args.start +ℤ pos (c.args.duration.days * 86_400)) =
-    moved clock.moment _ _ _ _ refl shown (omega (arith, ints)) in
+    moved clock.moment refl shown (omega (arith, ints)) in
     omega (arith, ints, value)

@@ -11,7 +11,7 @@ returns-clause-value c =
     let day : SFits w32 c.args.day = c.ranges.day in
     let days : SFits w32 c.args.days = c.ranges.days in
     let same : to_z w64 (of_z w64 c.moment.result) ≡ c.moment.result = omega (arith, ints, c.moment.type_inv) in
-    moved (moment_of (zone_of c.args.display.now)) _ _ _ _ same c.moment.ensures.value (omega (arith, ints))
+    moved (moment_of (zone_of c.args.display.now)) same c.moment.ensures.value (omega (arith, ints))
 
 pub returns-clause-early : goal.returns-clause-early
 returns-clause-early c =

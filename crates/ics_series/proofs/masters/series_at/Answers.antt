@@ -23,7 +23,7 @@ abbrev none : Version
 none = record { subject = record { uid = record { ref_ptr = (0, 0); now = [] }; recurrence = None }; sequence = 0; spot = record { file = 0; place = 0 } }
 
 pub event-event-requires : goal.event-event-requires
-event-event-requires c = stands (map said_by c.args.files.now) (display_clock c.args.display.now) c.args.chosen.now c.args.place none c.requires.chosen
+event-event-requires c = stands c.args.place none c.requires.chosen
     c.requires.within
 
 pub returns-then-is_single : goal.returns-then-is_single

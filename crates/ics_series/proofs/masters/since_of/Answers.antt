@@ -23,7 +23,7 @@ returns-in-Greater c =
     let order : c.then.result ≡ turned (key_rank c.in-Some.key.now) c.args.uid.now =
     c.then.ensures ∙ (λ i. ordering_then ((c.cmp.ensures ∙ ap (slice_cmp nat_cmp c.args.uid.now) c.as_slice.ensures.value) i) (c.cmp-2.ensures i)) in
     record {
-      since = since-start _ key c.args.uid.now _ is (sym order ∙ c.in-Greater.is) fits;
+      since = since-start c.args.uid.now is (sym order ∙ c.in-Greater.is) fits;
       from = from-by _ key _ is (omega (arith, ints, fits));
     }
 
@@ -39,6 +39,6 @@ returns-in_default-then c =
     let order : c.then.result ≡ turned (key_rank c.in-Some.key.now) c.args.uid.now =
     c.then.ensures ∙ (λ i. ordering_then ((c.cmp.ensures ∙ ap (slice_cmp nat_cmp c.args.uid.now) c.as_slice.ensures.value) i) (c.cmp-2.ensures i)) in
     record {
-      since = since-next _ key c.args.uid.now _ is (λ g. c.in_default-then.not-Greater (order ∙ g)) next fits;
+      since = since-next c.args.uid.now is (λ g. c.in_default-then.not-Greater (order ∙ g)) next fits;
       from = from-by _ key _ is (from-next key _ next fits);
     }

@@ -24,7 +24,7 @@ returns-then-is_let_through c =
     let fits : SFits w64 c.start_at-start.result.moment = search rules in
     let cast : to_z w64 (of_z w64 c.start_at-start.result.moment) ≡ c.start_at-start.result.moment = omega (arith, ints) in
     let given : true ≡ gives (clocks_in c.args.zones) c.args.event.now c.args.rule.now c.args.window (number c.args.local) =
-    gives-by clocks event c.args.rule.now c.args.window a (to_z w64 (of_z w64 c.start_at-start.result.moment)) true c.requires.day c.requires.kept
+    gives-by clocks event c.args.rule.now c.args.window a c.requires.day c.requires.kept
     (cast ∙ ap (λ (s : Start). s.moment) c.start_at-start.ensures) (sym c.if-is_let_through.true ∙ c.is_let_through.ensures) in
     c.put_in.ensures ∙ (ap (λ s. with_held true s c.args.held.now.items) c.start_at-start.ensures
     ∙ ap (λ b. with_held b (start_at clocks event a) c.args.held.now.items) given)
@@ -37,6 +37,6 @@ returns-else-is_let_through c =
     let fits : SFits w64 c.start_at-start.result.moment = search rules in
     let cast : to_z w64 (of_z w64 c.start_at-start.result.moment) ≡ c.start_at-start.result.moment = omega (arith, ints) in
     let given : false ≡ gives (clocks_in c.args.zones) c.args.event.now c.args.rule.now c.args.window (number c.args.local) =
-    gives-by clocks event c.args.rule.now c.args.window a (to_z w64 (of_z w64 c.start_at-start.result.moment)) false c.requires.day c.requires.kept
+    gives-by clocks event c.args.rule.now c.args.window a c.requires.day c.requires.kept
     (cast ∙ ap (λ (s : Start). s.moment) c.start_at-start.ensures) (sym c.if-is_let_through.false ∙ c.is_let_through.ensures) in
     ap (λ b. with_held b (start_at clocks event a) c.args.held.now.items) given

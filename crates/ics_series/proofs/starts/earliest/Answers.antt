@@ -71,13 +71,13 @@ loop-start-preserved c =
           let new : to_z w64 c.if-is_span_met.earliest-bits ≡ int_min (to_z w64 c.loop-start.earliest-bits) c.start-item.result.moment =
           omega (arith, ints, b.earliest-is, b.min-earliest.type_inv, b.min-earliest.ensures.value, fits, int_min_is) in
           record {
-            rest = earliest-step clocks w event least (to_z w64 c.if-is_span_met.earliest-bits) starts k s c.loop-start-test.true c.start-item.is
+            rest = earliest-step clocks w event least starts k c.loop-start-test.true c.start-item.is
                 (new ∙ ap (λ x. earlier x least s.moment) (sym b.if-is_span_met.true ∙ c.is_span_met.ensures)) ∙ c.loop-start.invariant.rest;
             late = omega (arith, ints, new, fits, start.moment, late c.args.zones (time_of s.given) time, c.loop-start.invariant.late, int_min_is);
             early = omega (arith, ints, new, fits, c.loop-start.invariant.early, int_min_is);
           }
       | else-is_span_met b ↦ record {
-        rest = earliest-step clocks w event least (to_z w64 c.if-is_span_met.earliest-bits) starts k s c.loop-start-test.true c.start-item.is
+        rest = earliest-step clocks w event least starts k c.loop-start-test.true c.start-item.is
             (b.earliest-is ∙ ap (λ x. earlier x least s.moment) (sym b.if-is_span_met.false ∙ c.is_span_met.ensures)) ∙ c.loop-start.invariant.rest;
         late = omega (arith, ints, b.earliest-is, c.loop-start.invariant.late);
         early = omega (arith, ints, b.earliest-is, c.loop-start.invariant.early);

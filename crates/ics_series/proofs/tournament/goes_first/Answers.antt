@@ -8,10 +8,9 @@ pub compare-requires : goal.compare-requires
 compare-requires g c =
     let leads = c.args.leads.now in
     let arm = c.in-Some-Some in
-    head-order c.args.sorted_from c.args.one c.args.other (map (λ x. option_map entry_of x.head) leads) (entry_of arm.a) (entry_of arm.b)
-    c.order_by_place-uids.result c.requires.sorted
-    (held-at (λ x. x.head) (λ x. g.F.Coming.coming x.feed) leads c.args.one c.index-leads-one.result arm.a c.requires.one c.index-leads-one.is
+    head-order c.args.sorted_from c.args.one c.args.other (map (λ x. option_map entry_of x.head) leads) c.order_by_place-uids.result c.requires.sorted
+    (held-at (λ x. x.head) (λ x. g.F.Coming.coming x.feed) leads c.args.one c.requires.one c.index-leads-one.is
     (ap (λ x. x.head) c.index-leads-one.is ∙ arm.is-0))
-    (held-at (λ x. x.head) (λ x. g.F.Coming.coming x.feed) leads c.args.other c.index-leads-other.result arm.b c.requires.other c.index-leads-other.is
+    (held-at (λ x. x.head) (λ x. g.F.Coming.coming x.feed) leads c.args.other c.requires.other c.index-leads-other.is
     (ap (λ x. x.head) c.index-leads-other.is ∙ arm.is-1))
     c.order_by_place-uids.ensures

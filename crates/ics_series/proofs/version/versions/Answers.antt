@@ -16,5 +16,5 @@ loop-number-preserved c =
     sym c.file.view_is ∙ (λ i. record { zones = sym c.deref.ensures.value i; events = sym c.deref-in-loop-number.ensures.value i }) in
     let there : slice_get c.args.files.now c.loop-number.number ≡ Some (record { zones = c.deref.result.now; events = c.deref-in-loop-number.result.now }) =
     slice_get_read c.args.files.now _ c.loop-number.number c.index-files-number.result refl c.loop-number-test.true c.index-files-number.is ∙ ap Some same in
-    labels-step files display c.loop-number.number file (map seen c.loop-number.versions.items) (map seen c.push_versions.new.versions.items) _ there
+    labels-step files display c.loop-number.number file (map seen c.loop-number.versions.items) there
     c.in_ok-push_versions.ensures c.loop-number.invariant

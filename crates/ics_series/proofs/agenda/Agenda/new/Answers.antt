@@ -18,7 +18,7 @@ returns c =
       sources = subst (AreSources (map said_by c.args.files.now) (display_clock c.args.display.now) c.args.window
           (option_map (λ key. key_rank key.now) c.args.after)) (sym c.in_ok-merge.ensures.sources) c.in_ok-parts.ensures.sources;
       listing = listing;
-      behind = behind-key (map said_by c.args.files.now) (display_clock c.args.display.now) c.args.window (option_map (λ key. key_rank key.now) c.args.after) _
+      behind = behind-key (map said_by c.args.files.now) (display_clock c.args.display.now) c.args.window (option_map (λ key. key_rank key.now) c.args.after)
           (c.in_ok-parts.ensures.whole c.args.window) listing;
       whole = c.in_ok-parts.ensures.whole;
     }

@@ -49,8 +49,7 @@ invariant_of-result c =
       not_before = first;
       begun = subst (λ (a : Option (ℤ × ℤ)). begin_day c.args.window a ≤ℤ to_z w32 (of_z w32 c.begin-day.result.0)) given
           (begun-by c.args.window after (to_z w32 (of_z w32 c.begin-day.result.0)) key behind first);
-      masters = ∣ first-masters scope (to_z w32 (of_z w32 c.begin-day.result.0)) key (agenda_coming c.in_ok-agenda.agenda)
-          (agenda_sources c.in_ok-agenda.agenda) from c.in_ok-agenda.ensures.agenda ∣₁;
+      masters = ∣ first-masters scope from c.in_ok-agenda.ensures.agenda ∣₁;
       before = λ masters most n all bounds is. omega arith;
       past = λ l. refl;
     }

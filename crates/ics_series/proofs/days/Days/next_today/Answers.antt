@@ -1,18 +1,25 @@
-use Rattle.std.proofs.Common.{map, sym, ◌∙◌}
+use Rattle.std.proofs.Common.{◌≡◌, ◌&&◌, map, rules, sym, ◌∙◌, ap, subst, to_z, of_z, w32}
+use Rattle.std.proofs.lemmas.Bool.{and_parts}
+use Rattle.ics_values.specs.Days.{IsDayNumber}
 use Rattle.ics_calendar.specs.Event.{said_by}
-use Rattle.ics_series.specs.Ahead.{agenda_coming}
+use Rattle.ics_series.specs.Ahead.{agenda_coming, is_today}
 use Rattle.ics_series.specs.Clocks.{display_clock}
 use Rattle.ics_series.specs.Entry.{entry_of}
 use Rattle.ics_series.proofs.AheadLemmas.{ahead-given, ahead-skipped}
 use Rattle.ics_series.proofs.days.Days.next_today.Goals as goal
 
-pub returns-then-is_today-clause-ok : goal.returns-then-is_today-clause-ok
-returns-then-is_today-clause-ok c = λ list a.
+pub returns-then-met-on-clause-ok : goal.returns-then-met-on-clause-ok
+returns-then-met-on-clause-ok c = λ list a.
     let self = c.loop-occurrence.self in
     let gives = rw c.in-Some.is at c.in_ok-occurrence.ensures.ok in
+    let fits : to_z w32 (of_z w32 c.loop-occurrence.self.day) ≡ c.loop-occurrence.self.day = search rules in
+    let today : (c.is_met-met.result && c.is_on-on.result)
+    ≡ is_today (display_clock c.loop-occurrence.self.display.now) c.loop-occurrence.self.window c.loop-occurrence.self.day
+    (entry_of c.in-Some.occurrence) = (λ i. c.is_met-met.ensures i && c.is_on-on.ensures.on i)
+    ∙ ap (λ day. is_today (display_clock c.loop-occurrence.self.display.now) c.loop-occurrence.self.window day (entry_of c.in-Some.occurrence)) fits in
     ahead-given (map said_by self.files.now) (display_clock self.display.now) self.window self.day (entry_of c.in-Some.occurrence) (agenda_coming self.agenda)
     (agenda_coming c.next.new.self) gives
-    (sym c.is_today.ensures.today ∙ c.if-is_today.true) list (c.loop-occurrence.invariant.ahead list a)
+    (sym today ∙ c.if-met-on.true) list (c.loop-occurrence.invariant.ahead list a)
 
 pub loop-occurrence-preserved : goal.loop-occurrence-preserved
 loop-occurrence-preserved c = record {
@@ -23,7 +30,17 @@ loop-occurrence-preserved c = record {
   ahead = λ list a.
       let self = c.loop-occurrence.self in
       let gives = rw c.in-Some.is at c.in_ok-occurrence.ensures.ok in
+      let fits : to_z w32 (of_z w32 c.loop-occurrence.self.day) ≡ c.loop-occurrence.self.day = search rules in
+      let today : (c.is_met-met.result && c.is_on-on.result)
+      ≡ is_today (display_clock c.loop-occurrence.self.display.now) c.loop-occurrence.self.window c.loop-occurrence.self.day
+      (entry_of c.in-Some.occurrence) = (λ i. c.is_met-met.ensures i && c.is_on-on.ensures.on i)
+      ∙ ap (λ day. is_today (display_clock c.loop-occurrence.self.display.now) c.loop-occurrence.self.window day (entry_of c.in-Some.occurrence)) fits in
       ahead-skipped (map said_by self.files.now) (display_clock self.display.now) self.window self.day (entry_of c.in-Some.occurrence)
       (agenda_coming self.agenda) (agenda_coming c.next.new.self) gives
-      (sym c.is_today.ensures.today ∙ c.if-is_today.false) list (c.loop-occurrence.invariant.ahead list a);
+      (sym today ∙ c.if-met-on.false) list (c.loop-occurrence.invariant.ahead list a);
 }
+
+pub returns-then-met-on-clause-within : goal.returns-then-met-on-clause-within
+returns-then-met-on-clause-within c =
+    let fits : to_z w32 (of_z w32 c.loop-occurrence.self.day) ≡ c.loop-occurrence.self.day = search rules in
+    subst IsDayNumber fits (c.is_on-on.ensures.within (and_parts c.is_met-met.result c.is_on-on.result c.if-met-on.true).1)

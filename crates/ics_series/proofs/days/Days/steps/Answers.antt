@@ -14,9 +14,9 @@ returns-clause-most c = λ list bound ahead h.
     let self = c.args.self.now in
     let scope = scope_in (map said_by self.files.now) (display_clock self.display.now) self.window self.after in
     ∥∥₁_elim c.args.self.now.masters le_prop (λ are.
-    let reach = first-day self.window self.day
+    let reach = first-day self.window {day = self.day}
     (filter (λ o. is_today (display_clock c.args.self.now.display.now) c.args.self.now.window c.args.self.now.day o) (agenda_coming self.agenda)) ahead.later
-    list ahead.is
+    ahead.is
     (λ p m. ((ahead.listing.exact p).0 m).later) in
     let few = steps-most scope self.day self.looked self.before self.begun (agenda_sources self.agenda) are self.agenda.apart.1.1 (agenda_coming self.agenda)
     c.steps.result c.steps.ensures.most self.past list reach h.masters h.most h.days h.are h.each h.reach in

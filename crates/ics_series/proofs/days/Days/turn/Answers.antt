@@ -29,9 +29,8 @@ invariant_of-drop c =
       not_before = omega (arith, ints, next, self.not_before);
       begun = omega (arith, ints, next, begun);
       masters =
-          ∣ searched-masters scope (to_z w32 (of_z w32 (to_z w32 (of_z w32 c.args.self.now.day) +ℤ pos 1)))
-          c.near_day-near.result None c.near_day-near.ensures
-          (λ since f. from-later self.window self.after self.day (to_z w32 (of_z w32 (to_z w32 (of_z w32 c.args.self.now.day) +ℤ pos 1))) self.begun next since)
+          ∣ searched-masters scope None c.near_day-near.ensures
+          (λ since f. from-later self.window self.after self.begun next since)
           (recurring (agenda_sources c.in_ok-agenda.agenda)) c.in_ok-agenda.ensures.sources.each ∣₁;
       before = λ masters most n all bounds is. ∥∥₁_elim c.args.self.now.masters le_prop (λ are.
           looked-next scope self.day self.looked self.before self.begun (agenda_sources self.agenda) are self.agenda.apart.1.1 (agenda_coming self.agenda)
@@ -57,6 +56,5 @@ returns-clause-ahead c = λ list a.
     let within = day-within w self.day self.not_before (omega (arith, ints, more)) in
     let next : to_z w32 (of_z w32 (to_z w32 (of_z w32 c.args.self.now.day) +ℤ pos 1)) ≡ c.args.self.now.day +ℤ pos 1 =
     omega (arith, ints, within.0, within.1, w.not_early, w.not_late) in
-    ahead-turned (map said_by self.files.now) (display_clock self.display.now) (offset_near (zone_of self.display.now)) self.window
-    self.day _ next c.near_day-near.result c.near_day-near.ensures (agenda_coming self.agenda) (agenda_coming c.in_ok-agenda.agenda) c.requires.none
-    c.in_ok-agenda.ensures.listing list a
+    ahead-turned (map said_by self.files.now) (display_clock self.display.now) (offset_near (zone_of self.display.now)) self.window next
+    c.near_day-near.ensures c.requires.none c.in_ok-agenda.ensures.listing a

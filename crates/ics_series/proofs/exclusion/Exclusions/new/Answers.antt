@@ -37,6 +37,5 @@ returns c = λ t early.
     let k = c.loop-exdate.exdate-index in
     let items : c.deref-exdate-items.result.now ≡ event.exdates = c.deref-exdate-items.ensures.value ∙ ap (λ (v : Event). v.exdates) c.event.view_is in
     let over : length event.exdates ≤ k = subst (λ (xs : List Time). length xs ≤ k) items c.loop-exdate-test.false in
-    sorted-takes_out (clock_of clocks event.start) c.loop-exdate.instants.items c.loop-exdate.days.items c.sort_unstable.new.self.items
-    c.sort_unstable-2.new.self.items t c.sort_unstable.ensures.permutation c.sort_unstable-2.ensures.permutation
+    sorted-takes_out (clock_of clocks event.start) t c.sort_unstable.ensures.permutation c.sort_unstable-2.ensures.permutation
     ∙ (c.loop-exdate.invariant t early ∙ ap (λ (xs : List Time). list_any (λ e. excludes clocks event.start e t) xs) (take_all k event.exdates over))

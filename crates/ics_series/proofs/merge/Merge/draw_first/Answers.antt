@@ -52,12 +52,12 @@ returns-in_err-draw-clause-same g c =
 
 pub returns-in_err-draw-clause-sources : goal.returns-in_err-draw-clause-sources
 returns-in_err-draw-clause-sources g c =
-    flat-set (λ x. g.F.Coming.sources x.feed) c.args.self.now.leads.items c.winner-lead.result c.index_mut.result.now c.draw.new.self c.index_mut.ensures.value
+    flat-set (λ x. g.F.Coming.sources x.feed) c.args.self.now.leads.items c.winner-lead.result c.draw.new.self c.index_mut.ensures.value
     c.draw.ensures.sources
 
 pub returns-clause-sources : goal.returns-clause-sources
 returns-clause-sources g c =
-    flat-set (λ x. g.F.Coming.sources x.feed) c.args.self.now.leads.items c.winner-lead.result c.index_mut.result.now c.draw.new.self c.index_mut.ensures.value
+    flat-set (λ x. g.F.Coming.sources x.feed) c.args.self.now.leads.items c.winner-lead.result c.draw.new.self c.index_mut.ensures.value
     c.draw.ensures.sources
 
 pub replay-requires-clause-sorted : goal.replay-requires-clause-sorted

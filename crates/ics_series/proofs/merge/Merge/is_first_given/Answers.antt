@@ -11,7 +11,7 @@ pub compare-requires : goal.compare-requires
 compare-requires g c =
     let self = c.args.self.now in
     last-order (λ x. x.head) (λ x. g.F.Coming.coming x.feed) self.sorted_from self.source c.winner-lead.result self.leads.items c.in-Some-Some.last
-    (entry_of c.in-Some-Some.first) c.order_by_place-uids.result
+    c.order_by_place-uids.result
     (subst (λ o. IsLastSorted self.sorted_from self.source o (map (λ x. listed x.head (g.F.Coming.coming x.feed)) self.leads.items)) c.in-Some-Some.is-0
     self.last_sorted)
     (ap (λ i. get_or (map (λ x. option_map entry_of x.head) self.leads.items) i None) (c.winner-lead.ensures ∙ ap (λ ws. winner ws 1) c.deref.ensures.value)

@@ -35,7 +35,7 @@ invariant_of-result c =
     let sound = c.requires.own.is_event in
     let firsts : AreFirsts (listed_apart (clocks_in c.args.zones) c.args.window c.args.event.now c.args.event.now.rule) (listed_left c.in_ok-new.field-0) =
     subst (λ xs. AreFirsts xs (listed_left c.in_ok-new.field-0)) c.in_ok-listed.ensures c.in_ok-new.ensures in
-    let ruled = ruled-as clocks event w _ c.args.since c.deref.result.now (listed_apart clocks w event event.rule) c.starts_by_rule-rule_starts.result since
+    let ruled = ruled-as clocks event w c.starts_by_rule-rule_starts.result since
     (c.deref.ensures.value ∙ c.in_ok-listed.ensures) c.starts_by_rule-rule_starts.ensures.from in
     let starts : AreStartsSince (clocks_in c.args.zones) c.args.event.now c.args.window c.args.since
     (left c.starts_by_rule-rule_starts.result c.in_ok-new.field-0) =
@@ -51,7 +51,7 @@ invariant_of-result c =
           (has-ruled c.args.zones w event sound c.args.since c.starts_by_rule-rule_starts.result c.args.overridden.items
           (given_of clocks w event c.args.since c.args.overridden.items (left c.starts_by_rule-rule_starts.result c.in_ok-new.field-0)) ruled
           (series-listing clocks w event c.args.since c.args.overridden.items (left c.starts_by_rule-rule_starts.result c.in_ok-new.field-0) starts));
-      own_rule = own-rule-as c.args.zones event w _ _ c.deref.result.now (listed_apart clocks w event event.rule) c.starts_by_rule-rule_starts.result refl
+      own_rule = own-rule-as c.args.zones event w c.starts_by_rule-rule_starts.result refl
           (c.deref.ensures.value ∙ c.in_ok-listed.ensures) c.starts_by_rule-rule_starts.ensures.own;
       rising = subst (λ t. Rises entry_cmp (given_of (clocks_in c.args.zones) c.args.window c.args.event.now t c.args.overridden.items
           (left c.starts_by_rule-rule_starts.result c.in_ok-new.field-0))) (sym since)
@@ -68,7 +68,7 @@ returns-clause-listing c =
     let sound = c.requires.own.is_event in
     let firsts : AreFirsts (listed_apart (clocks_in c.args.zones) c.args.window c.args.event.now c.args.event.now.rule) (listed_left c.in_ok-new.field-0) =
     subst (λ xs. AreFirsts xs (listed_left c.in_ok-new.field-0)) c.in_ok-listed.ensures c.in_ok-new.ensures in
-    let ruled = ruled-as clocks event w _ c.args.since c.deref.result.now (listed_apart clocks w event event.rule) c.starts_by_rule-rule_starts.result since
+    let ruled = ruled-as clocks event w c.starts_by_rule-rule_starts.result since
     (c.deref.ensures.value ∙ c.in_ok-listed.ensures) c.starts_by_rule-rule_starts.ensures.from in
     let starts : AreStartsSince (clocks_in c.args.zones) c.args.event.now c.args.window c.args.since
     (left c.starts_by_rule-rule_starts.result c.in_ok-new.field-0) =

@@ -25,9 +25,7 @@ invariant_of-self c =
       taken_out = s.taken_out;
       known = subst (AreKnown (clocks_in s.zones) s.event.now s.window) (sym same) s.known;
       ruled = ruled-same (clocks_in s.zones) s.window s.event.now s.since s.overridden.items s.rule_starts c.peek_rule.new.rule
-          (given_of (clocks_in s.zones) s.window s.event.now s.since s.overridden.items (left s.rule_starts s.listed))
-          (given_of (clocks_in s.zones) s.window s.event.now s.since s.overridden.items (left c.peek_rule.new.rule s.listed)) c.peek_rule.ensures.rule
-          c.peek_rule.ensures.same
+          c.peek_rule.ensures.rule c.peek_rule.ensures.same
           (ap (given_of (clocks_in s.zones) s.window s.event.now s.since s.overridden.items) same) s.ruled;
       own_rule = own-rule-same s.zones s.event.now s.window (first_of (clocks_in s.zones) s.window s.event.now s.since) s.rule_starts c.peek_rule.new.rule
           c.peek_rule.ensures.rule s.own_rule;
@@ -41,9 +39,7 @@ invariant_of-self-in-Some c =
     ap (λ o. earlier_of o (slice_get (listed_left c.args.self.now.listed) 0)) (sym c.in_ok-ruled.ensures.first)
     ∙ (ap (earlier_of c.in_ok-ruled.ruled) (sym c.peek.ensures) ∙ (sym c.earlier_of-first.ensures ∙ c.in-Some.is)) in
     let taken : left s.rule_starts s.listed ≡ c.in-Some.start ∷ left c.pass_rule.new.rule c.pass.new.self =
-    both-passed (rule_left s.rule_starts) (rule_left c.peek_rule.new.rule) (listed_left s.listed) (listed_left c.pass.new.self) (rule_left c.pass_rule.new.rule)
-    c.in-Some.start
-    c.peek_rule.ensures.same c.pass_rule.ensures.left c.pass.ensures
+    both-passed (listed_left s.listed) c.peek_rule.ensures.same c.pass_rule.ensures.left c.pass.ensures
     (first-taken (rule_left c.peek_rule.new.rule) (listed_left s.listed) c.in-Some.start (rises-rule c.peek_rule.new.rule) (rises-listed s.listed) first) in
     record {
       in_order = s.in_order;
@@ -51,18 +47,16 @@ invariant_of-self-in-Some c =
       taken_out = s.taken_out;
       known = known-rest (clocks_in s.zones) s.window s.event.now c.in-Some.start (left s.rule_starts s.listed) (left c.pass_rule.new.rule c.pass.new.self)
           taken s.known;
-      ruled = ruled-rest (clocks_in s.zones) s.window s.event.now s.since s.overridden.items c.peek_rule.new.rule c.pass_rule.new.rule c.in-Some.start
-          (left s.rule_starts s.listed) (left c.pass_rule.new.rule c.pass.new.self) c.pass_rule.ensures.rule c.pass_rule.ensures.left taken
+      ruled = ruled-rest (clocks_in s.zones) s.window s.event.now s.since s.overridden.items c.peek_rule.new.rule c.pass_rule.new.rule
+          c.pass_rule.ensures.rule c.pass_rule.ensures.left taken
           (rises-union moment_cmp moment_total (rule_left s.rule_starts) (listed_left s.listed) (rises-listed s.listed)) s.known
           (ruled-same (clocks_in s.zones) s.window s.event.now s.since s.overridden.items s.rule_starts c.peek_rule.new.rule
-          (given_of (clocks_in s.zones) s.window s.event.now s.since s.overridden.items (left s.rule_starts s.listed))
-          (given_of (clocks_in s.zones) s.window s.event.now s.since s.overridden.items (left s.rule_starts s.listed)) c.peek_rule.ensures.rule
-          c.peek_rule.ensures.same refl s.ruled);
+          {coming = given_of (clocks_in s.zones) s.window s.event.now s.since s.overridden.items (left s.rule_starts s.listed)}
+          c.peek_rule.ensures.rule c.peek_rule.ensures.same refl s.ruled);
       own_rule = own-rule-same s.zones s.event.now s.window (first_of (clocks_in s.zones) s.window s.event.now s.since) c.peek_rule.new.rule
           c.pass_rule.new.rule c.pass_rule.ensures.rule (own-rule-same s.zones s.event.now s.window (first_of (clocks_in s.zones) s.window s.event.now s.since)
           s.rule_starts c.peek_rule.new.rule c.peek_rule.ensures.rule s.own_rule);
-      rising = rises-rest (clocks_in s.zones) s.window s.event.now s.since s.overridden.items c.in-Some.start (left s.rule_starts s.listed)
-          (left c.pass_rule.new.rule c.pass.new.self) taken s.rising;
+      rising = rises-rest (clocks_in s.zones) s.window s.event.now s.since s.overridden.items taken s.rising;
     }
 
 pub invariant_of-self-in_default : goal.invariant_of-self-in_default
@@ -76,9 +70,7 @@ invariant_of-self-in_default c =
       taken_out = s.taken_out;
       known = subst (AreKnown (clocks_in s.zones) s.event.now s.window) (sym same) s.known;
       ruled = ruled-same (clocks_in s.zones) s.window s.event.now s.since s.overridden.items s.rule_starts c.peek_rule.new.rule
-          (given_of (clocks_in s.zones) s.window s.event.now s.since s.overridden.items (left s.rule_starts s.listed))
-          (given_of (clocks_in s.zones) s.window s.event.now s.since s.overridden.items (left c.peek_rule.new.rule s.listed)) c.peek_rule.ensures.rule
-          c.peek_rule.ensures.same
+          c.peek_rule.ensures.rule c.peek_rule.ensures.same
           (ap (given_of (clocks_in s.zones) s.window s.event.now s.since s.overridden.items) same) s.ruled;
       own_rule = own-rule-same s.zones s.event.now s.window (first_of (clocks_in s.zones) s.window s.event.now s.since) s.rule_starts c.peek_rule.new.rule
           c.peek_rule.ensures.rule s.own_rule;
@@ -91,9 +83,7 @@ returns-in-Some-clause-taken c =
     let first : earlier_of (slice_get (rule_left c.peek_rule.new.rule) 0) (slice_get (listed_left c.args.self.now.listed) 0) ≡ Some c.in-Some.start =
     ap (λ o. earlier_of o (slice_get (listed_left c.args.self.now.listed) 0)) (sym c.in_ok-ruled.ensures.first)
     ∙ (ap (earlier_of c.in_ok-ruled.ruled) (sym c.peek.ensures) ∙ (sym c.earlier_of-first.ensures ∙ c.in-Some.is)) in
-    both-passed (rule_left s.rule_starts) (rule_left c.peek_rule.new.rule) (listed_left s.listed) (listed_left c.pass.new.self) (rule_left c.pass_rule.new.rule)
-    c.in-Some.start
-    c.peek_rule.ensures.same c.pass_rule.ensures.left c.pass.ensures
+    both-passed (listed_left s.listed) c.peek_rule.ensures.same c.pass_rule.ensures.left c.pass.ensures
     (first-taken (rule_left c.peek_rule.new.rule) (listed_left s.listed) c.in-Some.start (rises-rule c.peek_rule.new.rule) (rises-listed s.listed) first)
 
 pub returns-in_default-clause-taken : goal.returns-in_default-clause-taken

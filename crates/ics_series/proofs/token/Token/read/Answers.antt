@@ -24,9 +24,9 @@ returns-in-Err-clause-bad c bad token =
     ⊎_elim other (λ d. let q = sym text ∙ d in cc) c.in-Err.ensures.err
 
 -- a key of these parts
-spelled-of : (start recurrence : ℤ) (uid : List ℕ) (key : Rank) → start ≡ key.start → recurrence ≡ key.recurrence → uid ≡ key.uid
+spelled-of : {start recurrence : ℤ} {uid : List ℕ} (key : Rank) → start ≡ key.start → recurrence ≡ key.recurrence → uid ≡ key.uid
     → spelling (record { start = start; uid = uid; recurrence = recurrence }) ≡ spelling key
-spelled-of start recurrence uid key p q r =
+spelled-of {recurrence = recurrence} {uid = uid} key p q r =
     ap (λ z. spelling (record { start = z; uid = uid; recurrence = recurrence })) p
     ∙ (ap (λ z. spelling (record { start = key.start; uid = uid; recurrence = z })) q
     ∙ ap (λ u. spelling (record { start = key.start; uid = u; recurrence = key.recurrence })) r)
@@ -43,7 +43,7 @@ returns-else-eq-clause-bad c bad token =
     let text : decode_of c.as_bytes.result.now ≡ Ok key.uid = ap decode_of (c.as_bytes.ensures.value ∙ parts.2) ∙ decode_of-encode_lower key.uid k.uid in
     let uid : c.in-Ok.uid.items ≡ key.uid = let q = sym c.in-Ok.ensures.ok ∙ text in cc in
     let spelled = c.in_ok-spelled.ensures
-    ∙ spelled-of _ _ c.in-Ok.uid.items key (back c.in-Some.start key.start parts.0 k.start) (back c.in-Some.recurrence key.recurrence parts.1 k.recurrence)
+    ∙ spelled-of key (back c.in-Some.start key.start parts.0 k.start) (back c.in-Some.recurrence key.recurrence parts.1 k.recurrence)
     uid in
     let same : c.as_str.result.now ≡ c.args.text.now = c.as_str.ensures.value ∙ (spelled ∙ sym e) in
     let yes : c.eq.result ≡ true = c.eq.ensures ∙ (ap (λ t. pointwise nat_eq t c.args.text.now) same ∙ nat_list_eq_equiv.refl c.args.text.now) in
