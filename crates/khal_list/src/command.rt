@@ -82,6 +82,7 @@ pub(crate) fn command<'a>(alloc: Global) -> Result<Command<'a>, AllocError>
     add_at(alloc, command)
 }
 
+/// Adds the subcommand `at`.
 fn add_at<'a>(alloc: Global, command: Command<'a>) -> Result<Command<'a>, AllocError>
     requires local { (out-Command command).has_globals ≡ false }
     ensures shape { IfOk result (λ c. app_of c ≡ with_subcommand (app_of command.entry) spec.at_app.top) }

@@ -2,10 +2,11 @@
 ghost use Rattle.std.specs.Prelude.{◌≡◌, IfOk};
 
 use crate::fault::SourceFault;
+use crate::file_bytes::read_front;
 use crate::source::{MOST_BYTES, Source};
 use std::alloc::Global;
-use std::fs::{self, File};
-use std::io::{self, ErrorKind, Read};
+use std::fs;
+use std::io::{self, ErrorKind};
 use std::rt::Files;
 
 /// The files of a folder whose names end in `.ics` and do not begin with `.`, sorted by bytes, and
@@ -27,16 +28,23 @@ fn is_calendar(name: &str) -> bool {
     name.ends_with(".ics") && !name.starts_with('.')
 }
 
+/// Adds a name.
+fn add_name(alloc: Global, names: &mut Vec<String>, name: &str) -> io::Result<()> {
+    names.push(String::from_str(alloc, name)?)?;
+    Ok(())
+}
+
 /// The names of a folder's calendar files, sorted, and how many names are not UTF-8.
 fn list<R: Files + AllocGlobal + Clone>(rt: &R, path: &str) -> io::Result<(Vec<String>, u64)> {
+    let entries = fs::read_dir(rt, path)?;
     let mut names = Vec::new(rt.alloc());
     let mut unnamed = 0u64;
-    for entry in fs::read_dir(rt, path)? {
+    for entry in entries {
         match entry {
             Ok(entry) => {
                 let name = entry.file_name();
                 if is_calendar(name) {
-                    names.push(String::from_str(rt.alloc(), name)?)?;
+                    add_name(rt.alloc(), &mut names, name)?;
                 }
             }
             Err(error) => {
@@ -59,7 +67,7 @@ impl<R: Files + AllocGlobal + Clone + Drop> FolderSource<R> {
         let (mut names, unnamed) = list(&rt, path.as_str())?;
         let named = names.len();
         for _ in 0..unnamed {
-            names.push(String::from_str(rt.alloc(), "?")?)?;
+            add_name(rt.alloc(), &mut names, "?")?;
         }
         Ok(FolderSource {
             rt,
@@ -69,33 +77,6 @@ impl<R: Files + AllocGlobal + Clone + Drop> FolderSource<R> {
             failures: 0,
         })
     }
-}
-
-/// A file's bytes, at most one more than it may have.
-fn read_some<R: Files>(
-    rt: &R,
-    alloc: Global,
-    folder: &str,
-    name: &str,
-) -> Result<Vec<u8>, SourceFault> {
-    let path = format!(in alloc; "{folder}/{name}").map_err(|_| SourceFault::Memory)?;
-    // a pipe or a terminal would have to be waited for
-    let kind = fs::metadata(rt, path.as_str()).map_err(fault_of)?;
-    if !kind.is_file() {
-        return Err(SourceFault::Device);
-    }
-    let file = File::open(rt, path.as_str()).map_err(fault_of)?;
-    let mut bytes = Vec::new(alloc);
-    let mut front = file.take(MOST_BYTES as u64 + 1);
-    front.read_to_end(&mut bytes).map_err(fault_of)?;
-    Ok(bytes)
-}
-
-fn fault_of(error: io::Error) -> SourceFault {
-    if error.kind() == ErrorKind::OutOfMemory {
-        return SourceFault::Memory;
-    }
-    SourceFault::Device
 }
 
 impl<R: Files + AllocGlobal + Clone + Drop> Source for FolderSource<R> {
@@ -121,14 +102,15 @@ impl<R: Files + AllocGlobal + Clone + Drop> Source for FolderSource<R> {
             return Err(SourceFault::Device);
         }
         let name = self.names[index].as_str();
-        match read_some(&self.rt, alloc, self.path.as_str(), name) {
-            Ok(bytes) => {
+        let most = MOST_BYTES as u64 + 1;
+        match read_front(&self.rt, alloc, self.path.as_str(), name, most) {
+            Ok(Some(bytes)) => {
                 if bytes.len() > MOST_BYTES {
                     return Err(SourceFault::TooLarge);
                 }
                 Ok(bytes)
             }
-            Err(SourceFault::Device) => {
+            Ok(None) | Err(SourceFault::Device) => {
                 self.failures = self.failures.saturating_add(1);
                 Err(SourceFault::Device)
             }

@@ -2,10 +2,9 @@
 ghost use Rattle.std.specs.Prelude.{◌≡◌};
 
 use crate::fault::SourceFault;
+use crate::file_bytes::read_front;
 use crate::zone_source::{MOST_ZONE_BYTES, ZoneSource};
 use std::alloc::Global;
-use std::fs::{self, File};
-use std::io::{self, ErrorKind, Read};
 use std::rt::Files;
 
 /// The most bytes of a name that has a file.
@@ -49,55 +48,6 @@ fn is_path(name: &str) -> bool {
         && name.split('/').all(|part| !part.is_empty())
 }
 
-/// Whether a fault of the system says that there is no such file.
-fn is_absence(error: &io::Error) -> bool {
-    matches!(error.kind(), ErrorKind::NotFound | ErrorKind::NotADirectory)
-}
-
-fn fault_of(error: io::Error) -> SourceFault {
-    if error.kind() == ErrorKind::OutOfMemory {
-        return SourceFault::Memory;
-    }
-    SourceFault::Device
-}
-
-/// Whether there is a file with this path. Anything else there is a fault: a pipe or a terminal would have
-/// to be waited for.
-fn is_there<R: Files>(rt: &R, path: &str) -> Result<bool, SourceFault> {
-    match fs::metadata(rt, path) {
-        Ok(kind) if kind.is_file() => Ok(true),
-        Ok(_) => Err(SourceFault::Device),
-        Err(error) if is_absence(&error) => Ok(false),
-        Err(error) => Err(fault_of(error)),
-    }
-}
-
-/// A file's bytes, at most one more than it may have.
-fn read_some<R: Files>(rt: &R, alloc: Global, path: &str) -> Result<Vec<u8>, SourceFault> {
-    let file = File::open(rt, path).map_err(fault_of)?;
-    let mut bytes = Vec::new(alloc);
-    let mut front = file.take(MOST_ZONE_BYTES as u64 + 1);
-    front.read_to_end(&mut bytes).map_err(fault_of)?;
-    Ok(bytes)
-}
-
-/// The bytes of the file of a name below a folder, if there is one, at most one more than it may have.
-fn read_below<R: Files>(
-    rt: &R,
-    alloc: Global,
-    folder: &str,
-    name: &str,
-) -> Result<Option<Vec<u8>>, SourceFault> {
-    if !is_path(name) {
-        return Ok(None);
-    }
-    let path = format!(in alloc; "{folder}/{name}").map_err(|_| SourceFault::Memory)?;
-    if !is_there(rt, path.as_str())? {
-        return Ok(None);
-    }
-    Ok(Some(read_some(rt, alloc, path.as_str())?))
-}
-
 impl<R: Files + Clone + Drop> ZoneSource for FolderZones<R> {
     ghost finds = { λ before name answer after. Unit {0} };
 
@@ -107,7 +57,11 @@ impl<R: Files + Clone + Drop> ZoneSource for FolderZones<R> {
         let (Some(folder), Ok(name)) = (&self.path, str::from_utf8(name)) else {
             return Ok(None);
         };
-        match read_below(&self.rt, alloc, folder.as_str(), name) {
+        if !is_path(name) {
+            return Ok(None);
+        }
+        let most = MOST_ZONE_BYTES as u64 + 1;
+        match read_front(&self.rt, alloc, folder.as_str(), name, most) {
             Ok(Some(bytes)) if bytes.len() > MOST_ZONE_BYTES => Err(SourceFault::TooLarge),
             Err(SourceFault::Device) => {
                 self.failures = self.failures.saturating_add(1);

@@ -11,6 +11,7 @@ mod entry_text;
 mod every_day;
 mod fault;
 mod field;
+mod file_bytes;
 mod finding;
 mod folder_source;
 mod folder_zones;

@@ -1,15 +1,17 @@
 //! Requests for a listing.
-ghost use Rattle.std.specs.Prelude.{◌≡◌, ◌∷◌, IfOk, map, codes};
+ghost use Rattle.std.specs.Prelude.{◌≡◌, ◌⊎◌, ◌∷◌, IfOk, IsErrOf, map, codes};
 ghost use Rattle.std.specs.Option.{option_map};
 ghost use Rattle.std.specs.String.{string_bytes};
 ghost use Rattle.clap.specs.Words.{subcommand_rows_of};
 ghost use Rattle.khal_list.specs.Entries.{limit_text, with_name, zones_text, AreTested, HasLimit};
+ghost use Rattle.khal_list.specs.Formats.{day_name, entry_name, written, IsFormat};
 ghost use Rattle.khal_list.specs.Limits.{IsLimitOf};
+ghost use Rattle.khal_list.specs.RequestOf.{day_format_text, format_text};
 
 use crate::RequestFault;
 use crate::every_day::{After, EveryDay};
 use crate::field::{DayField, EntryField};
-use crate::format::Format;
+use crate::format::{Format, FormatFault};
 use crate::span::Span;
 use crate::window::window_of;
 use crate::words::{entry, is_given, matches, text, text_or};
@@ -87,20 +89,20 @@ impl Request {
         let Some(window) = window_of(zone, now, Span::of(found), notstarted) else {
             return Err(RequestFault::BadWindow);
         };
-        let after = After::of(alloc, found, &zone, &window)?;
-        let format = Format::parse(alloc, text_or(found, "format", "{cell} {title}"))?;
-        let day_format = Format::parse(alloc, text_or(found, "day-format", "{name}, {date}"))?;
         let folder = String::from_str(alloc, text(found, "folder"))?;
+        let zones = zones_of(alloc, found)?;
+        let after = After::of(alloc, found, &zone, &window)?;
+        let formats = formats_of(alloc, found)?;
         Ok(Request {
             folder,
             zone,
-            zones: zones_of(alloc, found)?,
+            zones,
             window,
             limit: limit_of(found),
             after: after.once,
             every_day: after.every_day,
-            format,
-            day_format,
+            format: formats.0,
+            day_format: formats.1,
         })
     }
 
@@ -131,6 +133,23 @@ fn named<'a>(alloc: Global, words: &[&'a str]) -> Result<Vec<&'a str>, AllocErro
     named.push("khal-list")?;
     named.extend_from_slice(words)?;
     Ok(named)
+}
+
+// The formats of entries and of days.
+fn formats_of<'a>(
+    alloc: Global,
+    found: &ArgMatches<'a>,
+) -> Result<(Format<EntryField>, Format<DayField>), FormatFault>
+    ensures entries { IfOk result (λ formats. format_text (subcommand_rows_of found.now)
+        ≡ written entry_name formats.0.pieces.items) }
+    ensures days { IfOk result (λ formats. day_format_text (subcommand_rows_of found.now)
+        ≡ written day_name formats.1.pieces.items) }
+    ensures bad { IsErrOf result FormatFault.BadFormat → (¬ IsFormat entry_name (format_text (subcommand_rows_of found.now)))
+        ⊎ (¬ IsFormat day_name (day_format_text (subcommand_rows_of found.now))) }
+{
+    let entries = Format::parse(alloc, text_or(found, "format", "{cell} {title}"))?;
+    let days = Format::parse(alloc, text_or(found, "day-format", "{name}, {date}"))?;
+    Ok((entries, days))
 }
 
 // The text of `--zones`, if it is given.

@@ -1,8 +1,7 @@
-use Rattle.std.proofs.Common.{◌≡◌, ℕ, List, None, inl, inr, rules, sym, ◌∙◌, ap, subst, FitsSigned, w64}
+use Rattle.std.proofs.Common.{◌≡◌, None, rules, sym, ◌∙◌, ap, FitsSigned, w64}
 use Rattle.std.proofs.lemmas.Int.{to_z-of_z}
 use Rattle.clap.specs.Words.{subcommand_rows_of}
 use Rattle.khal_list.proofs.RequestLemmas.{good_token, has_window, no_format, no_token}
-use Rattle.khal_list.specs.Formats.{day_name, entry_name, IsFormat}
 use Rattle.khal_list.specs.SpanTexts.{span_by}
 use Rattle.khal_list.specs.WindowEnds.{ends_by}
 use Rattle.khal_list.specs.Windows.{ends_of}
@@ -25,18 +24,10 @@ returns-in_err-after c =
     no_token (subcommand_rows_of c.args.found.now) c.args.now c.from_residual-in_err-after.result c.in_err-after.field-0.0 gives.0 gives.1
     (has_window _ _ c.in_ok-zone.zone c.in-Some.window (search rules) (search rules)) c.in_err-after.ensures.bad
 
-pub returns-in_err-format : goal.returns-in_err-format
-returns-in_err-format c =
-    let gives = c.from_residual-in_err-format.ensures in
-    no_format (subcommand_rows_of c.args.found.now) c.args.now c.from_residual-in_err-format.result c.in_err-format.field-0.0 gives.0 gives.1
+pub returns-in_err-formats : goal.returns-in_err-formats
+returns-in_err-formats c =
+    let gives = c.from_residual-in_err-formats.ensures in
+    no_format (subcommand_rows_of c.args.found.now) c.args.now c.from_residual-in_err-formats.result c.in_err-formats.field-0.0 gives.0 gives.1
     (has_window _ _ c.in_ok-zone.zone c.in-Some.window (search rules) (search rules))
     (good_token _ c.in_ok-zone.zone c.in-Some.window c.in_ok-after.after.once c.in_ok-after.after.every_day c.in_ok-after.ensures.ok)
-    (λ is. inl (subst (λ (text : List ℕ). ¬ IsFormat entry_name text) c.text_or.ensures (c.in_err-format.ensures.bad is)))
-
-pub returns-in_err-day_format : goal.returns-in_err-day_format
-returns-in_err-day_format c =
-    let gives = c.from_residual-in_err-day_format.ensures in
-    no_format (subcommand_rows_of c.args.found.now) c.args.now c.from_residual-in_err-day_format.result c.in_err-day_format.field-0.0 gives.0 gives.1
-    (has_window _ _ c.in_ok-zone.zone c.in-Some.window (search rules) (search rules))
-    (good_token _ c.in_ok-zone.zone c.in-Some.window c.in_ok-after.after.once c.in_ok-after.after.every_day c.in_ok-after.ensures.ok)
-    (λ is. inr (subst (λ (text : List ℕ). ¬ IsFormat day_name text) c.text_or-2.ensures (c.in_err-day_format.ensures.bad is)))
+    c.in_err-formats.ensures.bad
